@@ -1,0 +1,5 @@
+pub mod Paths
+pub mod Bisimulations
+pub mod StrongLaws
+pub mod BranchingLaws
+pub mod RefinementLaws

@@ -1,0 +1,82 @@
+-- The laws of refinement, for each relation.
+use Rattle.std.proofs.Common.{◌≡◌, ◌↔◌, ℕ, refl, sym, ap, inl, inr, ◌∙◌}
+use Rattle.theory.specs.System.{System, IsSystem}
+use Rattle.theory.specs.Bisimulation.{Relation, Answers, IsBisimulation}
+use Rattle.theory.specs.Bisimulation.Relation.{strong, branching}
+use Rattle.theory.specs.Blocks.{SameSignature, Split, Kept, Stable, Share, OneBlock}
+use Rattle.theory.proofs.Bisimulations.{answers_weaker, OrSame, bisimulation_or_same}
+use Rattle.theory.proofs.StrongLaws.{strong_same, strong_answers}
+use Rattle.theory.proofs.BranchingLaws.{branching_one_block, branching_split, branching_same, branching_answers}
+
+-- one block of all states is kept
+pub one_block_kept : (rel : Relation) (A : System) (blocks : ℕ → ℕ) → IsSystem A → OneBlock A blocks → Kept rel A blocks
+one_block_kept strong A blocks system one = tt
+one_block_kept branching A blocks system one = branching_one_block A blocks system one
+
+-- the Split of kept blocks is kept
+pub split_kept :
+    (rel : Relation) (A : System) (old new : ℕ → ℕ) → IsSystem A → Kept rel A old → Split rel A old new → Kept rel A new
+split_kept strong A old new system kept split = tt
+split_kept branching A old new system kept split = branching_split A old new system kept split
+
+-- states of A that are related to one state of B have equal signatures, if all such states share kept blocks
+pub across_same :
+    (rel : Relation) (A B : System) (blocks : ℕ → ℕ) (R : ℕ → ℕ → Type 0) →
+    IsSystem A → Kept rel A blocks → IsBisimulation rel A B R →
+    ((s t x : ℕ) → R s x → R t x → blocks s ≡ blocks t) →
+    (s t x : ℕ) → R s x → R t x → SameSignature rel A blocks s t
+across_same strong A B blocks R system kept bisimulation shared = strong_same A B blocks R bisimulation shared
+across_same branching A B blocks R system kept bisimulation shared =
+    branching_same A B blocks R system kept bisimulation shared
+
+-- if states of A that are related to one state of B share kept blocks, they share the blocks of their Split
+pub across_survives :
+    (rel : Relation) (A B : System) (old new : ℕ → ℕ) (R : ℕ → ℕ → Type 0) →
+    IsSystem A → Kept rel A old → Split rel A old new → IsBisimulation rel A B R →
+    ((s t x : ℕ) → R s x → R t x → old s ≡ old t) →
+    (s t x : ℕ) → R s x → R t x → new s ≡ new t
+across_survives rel A B old new R system kept split bisimulation shared s t x sx tx =
+    (split s t (bisimulation.states s x sx).0 (bisimulation.states t x tx).0).1
+    (shared s t x sx tx, across_same rel A B old R system kept bisimulation shared s t x sx tx)
+
+-- a bisimulation whose pairs share kept blocks has its pairs in the blocks of their Split
+pub bisimulation_survives :
+    (rel : Relation) (A : System) (old new : ℕ → ℕ) (R : ℕ → ℕ → Type 0) →
+    IsSystem A → Kept rel A old → Split rel A old new → IsBisimulation rel A A R →
+    ((s t : ℕ) → R s t → Share A old s t) →
+    (s t : ℕ) → R s t → Share A new s t
+bisimulation_survives rel A old new R system kept split bisimulation inside s t related =
+    let below = bisimulation.states s t related in (
+      below.0,
+      below.1,
+      across_survives rel A A old new (OrSame A R) system kept split (bisimulation_or_same rel A R system bisimulation)
+          (λ x y z xz yz. shared x z xz ∙ sym (shared y z yz)) s t t (inl related) (inr (below.1, refl)),
+    )
+  where
+    shared : (x y : ℕ) → OrSame A R x y → old x ≡ old y
+    shared x y (inl r) = (inside x y r).2
+    shared x y (inr same) = ap old same.1
+
+-- states that share a stable block answer each other
+pub stable_answers :
+    (rel : Relation) (A : System) (blocks : ℕ → ℕ) → IsSystem A → Stable rel A blocks →
+    (s t : ℕ) → Share A blocks s t → Answers rel A A (Share A blocks) s t
+stable_answers strong A blocks system stable = strong_answers A blocks system stable
+stable_answers branching A blocks system stable = branching_answers A blocks system stable
+
+-- stable blocks are a bisimulation: the relation that holds where two states share one
+pub stable_bisimulation :
+    (rel : Relation) (A : System) (blocks : ℕ → ℕ) (R : ℕ → ℕ → Type 0) →
+    IsSystem A → Stable rel A blocks → ((s t : ℕ) → R s t ↔ Share A blocks s t) → IsBisimulation rel A A R
+stable_bisimulation rel A blocks R system stable exact = record {
+  states = λ s t related. let share = (exact s t).0 related in (share.0, share.1);
+  forth = λ s t related.
+      answers_weaker rel A A (Share A blocks) R (λ x y h. (exact x y).1 h) s t
+      (stable_answers rel A blocks system stable s t ((exact s t).0 related));
+  back = λ s t related.
+      answers_weaker rel A A (Share A blocks) (λ y x. R x y) (λ y x h. (exact x y).1 (turned y x h)) t s
+      (stable_answers rel A blocks system stable t s (turned s t ((exact s t).0 related)));
+}
+  where
+    turned : (x y : ℕ) → Share A blocks x y → Share A blocks y x
+    turned x y h = (h.1, h.0, sym h.2)

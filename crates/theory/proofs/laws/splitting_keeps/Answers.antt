@@ -1,0 +1,6 @@
+-- The law is the lemma.
+use Rattle.theory.proofs.RefinementLaws.{split_kept}
+use Rattle.theory.proofs.laws.splitting_keeps.Goals as goal
+
+pub returns : goal.returns
+returns c = split_kept

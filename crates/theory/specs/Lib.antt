@@ -1,0 +1,4 @@
+pub mod System
+pub mod Bisimulation
+pub mod Blocks
+pub mod Quotient
