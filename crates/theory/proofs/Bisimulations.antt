@@ -1,9 +1,12 @@
--- Relations that answer, in both senses.
-use Rattle.std.proofs.Common.{◌≡◌, ◌⊎◌, ℕ, ◌<◌, refl, subst, inl, inr}
+-- Relations that answer, for both bisimulations: a larger one answers too, two together are one, and a decided one makes
+-- states bisimilar.
+use Rattle.std.proofs.Common.{◌≡◌, ◌⊎◌, ◌↔◌, ℕ, ◌+◌, ◌<◌, List, refl, subst, inl, inr, arith}
 use Rattle.theory.specs.System.{System, IsSystem, Internal}
-use Rattle.theory.specs.Bisimulation.{Relation, Answers, IsBisimulation}
+use Rattle.theory.specs.Bisimulation.{Relation, Answers, IsBisimulation, Pairs, Bisimilar}
 use Rattle.theory.specs.Bisimulation.Relation.{strong, branching}
 use Rattle.theory.proofs.Paths.{leads_here, step_below}
+use Rattle.theory.proofs.Deciding.{same_number, both, decided_like, some_in}
+use Rattle.theory.proofs.Listing.{pairs_listed}
 
 -- what answers into R answers into each relation that holds where R does
 pub answers_weaker :
@@ -50,3 +53,63 @@ bisimulation_or_same rel A R system bisimulation = record {
         (answers_itself rel A (λ y x. OrSame A R x y) system (λ x h. inr (h, refl)) s same.0)
   ];
 }
+
+-- a relation that holds where a bisimulation does is one
+pub bisimulation_like : (rel : Relation) (A B : System) (R Q : ℕ → ℕ → Type 0) → ((s t : ℕ) → R s t ↔ Q s t)
+    → IsBisimulation rel A B R → IsBisimulation rel A B Q
+bisimulation_like rel A B R Q like bis = record {
+  states = λ s t q. bis.states s t ((like s t).1 q);
+  forth = λ s t q. answers_weaker rel A B R Q (λ x y. (like x y).0) s t (bis.forth s t ((like s t).1 q));
+  back = λ s t q. answers_weaker rel B A (λ y x. R x y) (λ y x. Q x y) (λ y x. (like x y).0) t s (bis.back s t ((like s t).1 q));
+}
+
+-- two bisimulations together are one
+pub bisimulations_joined : (rel : Relation) (A B : System) (R Q : ℕ → ℕ → Type 0) → IsBisimulation rel A B R
+    → IsBisimulation rel A B Q → IsBisimulation rel A B (λ s t. R s t ⊎ Q s t)
+bisimulations_joined rel A B R Q r q = record {
+  states = λ s t h. elim h [ inl x ↦ r.states s t x | inr y ↦ q.states s t y ];
+  forth = λ s t h. elim h [
+    | inl x ↦ answers_weaker rel A B R (λ s t. R s t ⊎ Q s t) (λ x y. inl) s t (r.forth s t x)
+    | inr y ↦ answers_weaker rel A B Q (λ s t. R s t ⊎ Q s t) (λ x y. inr) s t (q.forth s t y)
+  ];
+  back = λ s t h. elim h [
+    | inl x ↦ answers_weaker rel B A (λ y x. R x y) (λ t s. R s t ⊎ Q s t) (λ x y. inl) t s (r.back s t x)
+    | inr y ↦ answers_weaker rel B A (λ y x. Q x y) (λ t s. R s t ⊎ Q s t) (λ x y. inr) t s (q.back s t y)
+  ];
+}
+
+pub pairs_decided : (pairs : List (ℕ × ℕ)) (s t : ℕ) → Dec (Pairs pairs s t)
+pairs_decided pairs s t =
+    decided_like
+    (λ h. subst (Pairs pairs s) h.2.1 (subst (λ x. Pairs pairs x h.0.1) h.2.0 h.1))
+    (λ c. ((s, t), c, (refl, refl)))
+    (some_in (λ x. (x.0 ≡ s) × (x.1 ≡ t)) (λ x. both (same_number x.0 s) (same_number x.1 t)) pairs)
+
+-- states that a decided bisimulation relates are bisimilar
+pub bisimilar_by : (rel : Relation) (A B : System) (R : ℕ → ℕ → Type 0) → ((s t : ℕ) → Dec (R s t)) → IsBisimulation rel A B R
+    → (s t : ℕ) → R s t → Bisimilar rel A s B t
+bisimilar_by rel A B R d bis s t r =
+    let n : ℕ = A.states + B.states in
+    let all : (pairs : List (ℕ × ℕ)) × ((s t : ℕ) → Pairs pairs s t ↔ ((s < n) × (t < n) × R s t)) = pairs_listed n R d in (
+      all.0,
+      bisimulation_like rel A B R (Pairs all.0) (λ x y. (λ q. (all.1 x y).1 (within x y q), λ c. ((all.1 x y).0 c).2)) bis,
+      (all.1 s t).1 (within s t r),
+    )
+  where
+    within : (x y : ℕ) → R x y → (x < A.states + B.states) × (y < A.states + B.states) × R x y
+    within x y q =
+        let at : (x < A.states) × (y < B.states) = bis.states x y q in
+        (omega (arith, at.0), omega (arith, at.1), q)
+
+pub bisimulation_flipped : (rel : Relation) (A B : System) (R : ℕ → ℕ → Type 0) → IsBisimulation rel A B R
+    → IsBisimulation rel B A (λ y x. R x y)
+bisimulation_flipped rel A B R bis = record {
+  states = λ y x r. ((bis.states x y r).1, (bis.states x y r).0);
+  forth = λ y x r. bis.back x y r;
+  back = λ y x r. bis.forth x y r;
+}
+
+pub bisimilar_flipped : (rel : Relation) (A B : System) (s t : ℕ) → Bisimilar rel A s B t → Bisimilar rel B t A s
+bisimilar_flipped rel A B s t (pairs, bis, r) =
+    bisimilar_by rel B A (λ y x. Pairs pairs x y) (λ y x. pairs_decided pairs x y)
+    (bisimulation_flipped rel A B (Pairs pairs) bis) t s r

@@ -1,5 +1,12 @@
 pub mod Paths
+pub mod Deciding
+pub mod Listing
+pub mod Closure
 pub mod Bisimulations
 pub mod StrongLaws
 pub mod BranchingLaws
 pub mod RefinementLaws
+pub mod Signatures
+pub mod Refinement
+pub mod Counting
+pub mod Turning

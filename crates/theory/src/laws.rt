@@ -24,10 +24,10 @@ pub fn bisimulations_survive()
         (s t : ℕ) → Pairs pairs s t → Share A new s t }
 {}
 
-/// Kept and stable blocks are a bisimulation, as the list of all pairs of states that share one.
+/// Stable blocks are a bisimulation, as the list of all pairs of states that share one.
 pub fn stable_is_bisimulation()
     ensures { (rel : Relation) (A : System) (blocks : ℕ → ℕ) (pairs : List (ℕ × ℕ)) →
-        IsSystem A → Kept rel A blocks → Stable rel A blocks →
+        IsSystem A → Stable rel A blocks →
         ((s t : ℕ) → Pairs pairs s t ↔ Share A blocks s t) →
         IsBisimulation rel A A (Pairs pairs) }
 {}

@@ -4,6 +4,11 @@
 //! definitions alone, proved for every system and every partition of its states into blocks.
 #![tactic(auto)]
 
+mod fixpoint;
 mod laws;
 
+pub use fixpoint::{
+    bisimilarity_is_an_equivalence, final_blocks_are_bisimilarity, related_to_one_state_share,
+    split_exists, turns_exist,
+};
 pub use laws::{bisimulations_survive, one_block_is_kept, splitting_keeps, stable_is_bisimulation};

@@ -1,7 +1,7 @@
--- The law is the lemma at a list of pairs. Stable blocks alone are enough.
+-- The law is the lemma at a list of pairs.
 use Rattle.theory.specs.Bisimulation.{Pairs}
 use Rattle.theory.proofs.RefinementLaws.{stable_bisimulation}
 use Rattle.theory.proofs.laws.stable_is_bisimulation.Goals as goal
 
 pub returns : goal.returns
-returns c = λ rel A blocks pairs system kept. stable_bisimulation rel A blocks (Pairs pairs) system
+returns c = λ rel A blocks pairs system. stable_bisimulation rel A blocks (Pairs pairs) system

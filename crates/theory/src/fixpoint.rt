@@ -1,0 +1,41 @@
+//! Where refinement ends: Split after Split leads from one block to bisimilarity.
+
+ghost use Rattle.std.specs.Prelude.{◌≡◌, ◌↔◌, ℕ, ◌≤◌, ◌<◌};
+ghost use Rattle.theory.specs.System.{System, IsSystem};
+ghost use Rattle.theory.specs.Bisimulation.{Relation, Bisimilar};
+ghost use Rattle.theory.specs.Blocks.{Split, After, Turns, EachTwo};
+
+/// All blocks have a Split.
+pub fn split_exists()
+    ensures { (rel : Relation) (A : System) (old : ℕ → ℕ) → IsSystem A → (new : ℕ → ℕ) × Split rel A old new }
+{}
+
+/// Some Split changes nothing, at most the n-th for n states; so the number of Splits made is one number.
+pub fn turns_exist()
+    ensures found { (rel : Relation) (A : System) → IsSystem A → (k : ℕ) × Turns rel A k × (k ≤ A.states) }
+    ensures unique { (rel : Relation) (A : System) (j k : ℕ) → Turns rel A j → Turns rel A k → j ≡ k }
+{}
+
+/// After the first Split that changes nothing, two states share a block exactly where they are bisimilar.
+pub fn final_blocks_are_bisimilarity()
+    ensures { (rel : Relation) (A : System) (k : ℕ) (blocks : ℕ → ℕ) →
+        IsSystem A → Turns rel A k → After rel A k blocks →
+        EachTwo A (λ s t. (blocks s ≡ blocks t) ↔ Bisimilar rel A s A t) }
+{}
+
+/// Bisimilarity of either relation is an equivalence on a system's states.
+pub fn bisimilarity_is_an_equivalence()
+    ensures reflexive { (rel : Relation) (A : System) (s : ℕ) → IsSystem A → s < A.states → Bisimilar rel A s A s }
+    ensures symmetric { (rel : Relation) (A : System) (s t : ℕ) → IsSystem A → Bisimilar rel A s A t → Bisimilar rel A t A s }
+    ensures transitive { (rel : Relation) (A : System) (s t u : ℕ) → IsSystem A →
+        Bisimilar rel A s A t → Bisimilar rel A t A u → Bisimilar rel A s A u }
+{}
+
+/// States of one system that are bisimilar to one state of another share a final block, and are bisimilar.
+pub fn related_to_one_state_share()
+    ensures share { (rel : Relation) (A B : System) (k : ℕ) (blocks : ℕ → ℕ) (s t x : ℕ) →
+        IsSystem A → Turns rel A k → After rel A k blocks →
+        Bisimilar rel A s B x → Bisimilar rel A t B x → blocks s ≡ blocks t }
+    ensures bisimilar { (rel : Relation) (A B : System) (s t x : ℕ) → IsSystem A →
+        Bisimilar rel A s B x → Bisimilar rel A t B x → Bisimilar rel A s A t }
+{}
