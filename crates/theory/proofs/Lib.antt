@@ -10,3 +10,6 @@ pub mod Signatures
 pub mod Refinement
 pub mod Counting
 pub mod Turning
+pub mod Testing
+pub mod Determined
+pub mod BothRelations

@@ -30,11 +30,15 @@ Answers branching A B R s t = BranchingAnswers A B R s t
 abbrev pub Pairs : List (ℕ × ℕ) → ℕ → ℕ → Type 0
 Pairs pairs s t = Contains pairs (s, t)
 
--- related are states of A and of B, and each answers the other's steps
+-- a relation, read from its right side
+abbrev pub Converse : (ℕ → ℕ → Type 0) → ℕ → ℕ → Type 0
+Converse R t s = R s t
+
+-- R relates states of A to states of B, and of two related states each answers the other's steps
 pub record IsBisimulation (rel : Relation) (A B : System) (R : ℕ → ℕ → Type 0) : Type 0 where
   pub states : (s t : ℕ) → R s t → (s < A.states) × (t < B.states)
   pub forth : (s t : ℕ) → R s t → Answers rel A B R s t
-  pub back : (s t : ℕ) → R s t → Answers rel B A (λ y x. R x y) t s
+  pub back : (s t : ℕ) → R s t → Answers rel B A (Converse R) t s
 
 -- a strong bisimulation, as a list of pairs (Milner 1989)
 abbrev pub Strong : System → System → List (ℕ × ℕ) → Type 0

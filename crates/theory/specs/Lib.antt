@@ -2,3 +2,4 @@ pub mod System
 pub mod Bisimulation
 pub mod Blocks
 pub mod Quotient
+pub mod Examples

@@ -36,7 +36,7 @@ Number rel A s n =
     × (((l ≡ A.first) × (n ≡ 0))
     ⊎ ((l ≢ A.first) × (k : ℕ) × HowMany (λ m. IsLeader rel A m × (m < l) × (m ≢ A.first)) k × (n ≡ 1 + k)))
 
--- an internal step of relation branching that stays in its class
+-- what branching bisimulation leaves out: an internal transition from a class to itself
 abbrev pub IsDropped : Relation → Transition → Type 0
 IsDropped strong e = ⊥
 IsDropped branching e = (e.label ≡ internal) × (e.source ≡ e.target)
@@ -46,7 +46,8 @@ abbrev pub Stands : Relation → System → Transition → Type 0
 Stands rel A e =
     (s t : ℕ) × Reachable A s × Step A s e.label t × Number rel A s e.source × Number rel A t e.target
 
--- the quotient of A: a state for each leader, the first numbered 0, and each transition that stands for a step, once
+-- the quotient of A: a state for each leader, the first numbered 0, and each transition that stands for a step and is not
+-- dropped, once
 pub record Quotient (rel : Relation) (A Q : System) : Type 0 where
   pub states : HowMany (IsLeader rel A) Q.states
   pub first : Q.first ≡ 0

@@ -4,7 +4,7 @@ use Rattle.std.specs.Prelude.{◌≡◌, ℕ, ◌<◌, ◌≤◌, List, [], ◌�
 use Rattle.std.specs.List.{All, Contains, list_any}
 use Rattle.std.specs.Str.{bytes_eq}
 
--- a label: 1 to 8000 printable bytes, blank and quotation mark among them
+-- a label: 1 to 8000 printable bytes, the space and the quotation mark among them
 pub record IsLabel (a : List ℕ) : Type 0 where
   pub not_empty : 1 ≤ length a
   pub short : length a ≤ 8000
@@ -32,7 +32,8 @@ pub record IsAmong (n : ℕ) (e : Transition) : Type 0 where
   pub label : IsLabel e.label
   pub target : e.target < n
 
--- a system: its states are the numbers below the count, the first state and every transition stay among them
+-- a system: its states are the numbers below the count, and the first state, so there is one, and every transition stay
+-- among them
 pub record IsSystem (A : System) : Type 0 where
   pub first : A.first < A.states
   pub transitions : All (IsAmong A.states) A.transitions

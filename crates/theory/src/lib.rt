@@ -4,11 +4,32 @@
 //! definitions alone, proved for every system and every partition of its states into blocks.
 #![tactic(auto)]
 
+mod examples;
 mod fixpoint;
 mod laws;
+mod quotients;
+mod rounds;
 
+pub use examples::{
+    a_lost_option, a_silent_choice, a_silent_cycle, a_silent_loop, a_silent_step_in_the_middle,
+    an_unreachable_twin, another_first_state, committed_or_not, different_labels,
+    hidden_on_both_sides, moment_of_choice, reordered_lines, strong_and_branching,
+};
 pub use fixpoint::{
     bisimilarity_is_an_equivalence, final_blocks_are_bisimilarity, related_to_one_state_share,
     split_exists, turns_exist,
 };
 pub use laws::{bisimulations_survive, one_block_is_kept, splitting_keeps, stable_is_bisimulation};
+pub use quotients::{
+    hidden_step, not_the_quotient, quotient_of_chain_of_three, quotient_of_first_in_cycle,
+    quotient_of_first_is_two, quotient_of_first_leads, quotient_of_silent_beside,
+    quotient_of_silent_chain, quotient_of_silent_choice, quotient_of_silent_cycle,
+    quotient_of_silent_detour, quotient_of_silent_loop, quotient_of_silent_middle,
+    quotient_of_two_equal_targets, quotient_of_unreachable_pair, quotient_of_unreachable_twin,
+    quotient_of_written_twice, the_quotient_is_one,
+};
+pub use rounds::{
+    old_blocks_count, rounds_of_chain_of_three, rounds_of_lone_state, rounds_of_not_committed,
+    rounds_of_option_behind, rounds_of_silent_beside, rounds_of_silent_chain,
+    rounds_of_silent_cycle, rounds_of_silent_detour, rounds_of_two_equal_targets,
+};

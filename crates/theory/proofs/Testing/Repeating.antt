@@ -1,0 +1,136 @@
+-- How many Splits are made of a written-out system, by a test that computes.
+use Rattle.std.proofs.Common.{◌≡◌, ◌≢◌, ℕ, zero, suc, ◌<◌, ◌≤◌, Bool, true, not, eqb, ltb, ltb-true, List, arith}
+use Rattle.std.proofs.lemmas.Bool.{eqb-true, eq-eqb}
+use Rattle.theory.specs.System.{System, IsSystem}
+use Rattle.theory.specs.Bisimulation.{Relation}
+use Rattle.theory.specs.Blocks.{Split, SameBlocks, OneBlock, After, ChangesNothing, Turns}
+use Rattle.theory.proofs.Testing.{and_then, and_then_parts, not_passes, each_below, each_below_passes, same_answer, same_answer_there, same_answer_back}
+use Rattle.theory.proofs.Testing.Systems.{is_system, system_passes}
+use Rattle.theory.proofs.Refinement.{same_split, after_is_unique}
+use Rattle.theory.proofs.Testing.Signing.{Entry}
+use Rattle.theory.proofs.Testing.Splitting.{is_split, split_passes}
+
+-- the blocks before and after each Split, their signatures, and two states that each Split but the last parts
+pub record Course : Type 0 where
+  pub block : ℕ → ℕ → ℕ
+  pub signs : ℕ → ℕ → List Entry
+  pub parts : ℕ → ℕ × ℕ
+
+-- s and t share a block of f, and none of g
+abbrev pub parts_two : System → (ℕ → ℕ) → (ℕ → ℕ) → ℕ × ℕ → Bool
+parts_two A f g p =
+    and_then (ltb p.0 A.states) (λ _. and_then (ltb p.1 A.states) (λ _.
+    and_then (eqb (f p.0) (f p.1)) (λ _. not (eqb (g p.0) (g p.1)))))
+
+parts_two_passes :
+    (A : System) (f g : ℕ → ℕ) (p : ℕ × ℕ) → parts_two A f g p ≡ true →
+    (p.0 < A.states) × (p.1 < A.states) × (f p.0 ≡ f p.1) × (g p.0 ≢ g p.1)
+parts_two_passes A f g p h =
+    let one = and_then_parts (ltb p.0 A.states) (λ _. and_then (ltb p.1 A.states) (λ _.
+    and_then (eqb (f p.0) (f p.1)) (λ _. not (eqb (g p.0) (g p.1))))) h in
+    let two = and_then_parts (ltb p.1 A.states) (λ _.
+    and_then (eqb (f p.0) (f p.1)) (λ _. not (eqb (g p.0) (g p.1)))) one.1 in
+    let three = and_then_parts (eqb (f p.0) (f p.1)) (λ _. not (eqb (g p.0) (g p.1))) two.1 in (
+      ltb-true p.0 A.states one.0,
+      ltb-true p.1 A.states two.0,
+      eqb-true (f p.0) (f p.1) three.0,
+      λ e. not_passes (eqb (g p.0) (g p.1)) three.1 (eq-eqb (g p.0) (g p.1) e),
+    )
+
+-- the two have the same blocks
+abbrev pub are_same : System → (ℕ → ℕ) → (ℕ → ℕ) → Bool
+are_same A f g = each_below A.states (λ s. each_below A.states (λ t. same_answer (eqb (g s) (g t)) (eqb (f s) (f t))))
+
+are_same_passes : (A : System) (f g : ℕ → ℕ) → are_same A f g ≡ true → SameBlocks A f g
+are_same_passes A f g h s t ls lt =
+    let test = each_below_passes A.states (λ v. same_answer (eqb (g s) (g v)) (eqb (f s) (f v)))
+    (each_below_passes A.states (λ u. each_below A.states (λ v. same_answer (eqb (g u) (g v)) (eqb (f u) (f v)))) h s ls)
+    t lt in (
+      λ e. eqb-true (f s) (f t) (same_answer_there (eqb (g s) (g t)) (eqb (f s) (f t)) test (eq-eqb (g s) (g t) e)),
+      λ e. eqb-true (g s) (g t) (same_answer_back (eqb (g s) (g t)) (eqb (f s) (f t)) test (eq-eqb (f s) (f t) e)),
+    )
+
+-- all states share a block
+abbrev pub is_one : System → (ℕ → ℕ) → Bool
+is_one A f = each_below A.states (λ s. each_below A.states (λ t. eqb (f s) (f t)))
+
+is_one_passes : (A : System) (f : ℕ → ℕ) → is_one A f ≡ true → OneBlock A f
+is_one_passes A f h s t ls lt =
+    eqb-true (f s) (f t) (each_below_passes A.states (λ v. eqb (f s) (f v))
+    (each_below_passes A.states (λ u. each_below A.states (λ v. eqb (f u) (f v))) h s ls) t lt)
+
+-- the first k blocks of the course are those after as many Splits
+abbrev pub runs : Relation → System → Course → ℕ → Bool
+runs rel A course k =
+    and_then (is_one A (course.block 0)) (λ _.
+    each_below k (λ j. is_split rel A (course.block j) (course.block (suc j)) (course.signs j)))
+
+runs_split :
+    (rel : Relation) (A : System) (course : Course) (k : ℕ) → runs rel A course k ≡ true →
+    (j : ℕ) → j < k → Split rel A (course.block j) (course.block (suc j))
+runs_split rel A course k h j l = split_passes rel A (course.block j) (course.block (suc j)) (course.signs j)
+    (each_below_passes k (λ j. is_split rel A (course.block j) (course.block (suc j)) (course.signs j))
+    (and_then_parts (is_one A (course.block 0)) (λ _.
+    each_below k (λ j. is_split rel A (course.block j) (course.block (suc j)) (course.signs j))) h).1 j l)
+
+pub runs_after :
+    (rel : Relation) (A : System) (course : Course) (k : ℕ) → runs rel A course k ≡ true →
+    (j : ℕ) → j ≤ k → After rel A j (course.block j)
+runs_after rel A course k h zero l = is_one_passes A (course.block 0)
+    (and_then_parts (is_one A (course.block 0)) (λ _.
+    each_below k (λ j. is_split rel A (course.block j) (course.block (suc j)) (course.signs j))) h).0
+runs_after rel A course k h (suc j) l =
+    (course.block j, runs_after rel A course k h j (omega (arith, l)), runs_split rel A course k h j l)
+
+-- k + 1 Splits are made
+abbrev pub ends_after : Relation → System → Course → ℕ → Bool
+ends_after rel A course k =
+    and_then (is_system A) (λ _. and_then (runs rel A course (suc k)) (λ _.
+    and_then (each_below k (λ j. parts_two A (course.block j) (course.block (suc j)) (course.parts j))) (λ _.
+    are_same A (course.block k) (course.block (suc k)))))
+
+pub turns_pass :
+    (rel : Relation) (A : System) (course : Course) (k : ℕ) → ends_after rel A course k ≡ true → Turns rel A (suc k)
+turns_pass rel A course k h = record {
+  last = (
+    course.block k,
+    course.block (suc k),
+    runs_after rel A course (suc k) two.0 k (omega arith),
+    runs_split rel A course (suc k) two.0 k (omega arith),
+    are_same_passes A (course.block k) (course.block (suc k)) three.1,
+  );
+  least = least;
+}
+  where
+    parted : Bool
+    parted = each_below k (λ j. parts_two A (course.block j) (course.block (suc j)) (course.parts j))
+
+    one : (is_system A ≡ true) × (and_then (runs rel A course (suc k)) (λ _.
+        and_then parted (λ _. are_same A (course.block k) (course.block (suc k)))) ≡ true)
+    one = and_then_parts (is_system A) (λ _. and_then (runs rel A course (suc k)) (λ _.
+        and_then parted (λ _. are_same A (course.block k) (course.block (suc k))))) h
+
+    two : (runs rel A course (suc k) ≡ true) × (and_then parted (λ _. are_same A (course.block k) (course.block (suc k))) ≡ true)
+    two = and_then_parts (runs rel A course (suc k)) (λ _.
+        and_then parted (λ _. are_same A (course.block k) (course.block (suc k)))) one.1
+
+    three : (parted ≡ true) × (are_same A (course.block k) (course.block (suc k)) ≡ true)
+    three = and_then_parts parted (λ _. are_same A (course.block k) (course.block (suc k))) two.1
+
+    system : IsSystem A
+    system = system_passes A one.0
+
+    least : (j : ℕ) → j < suc k → ¬ ChangesNothing rel A j
+    least zero l nothing = nothing
+    least (suc j) l (old, new, after, split, same) =
+        let low : j < k = omega (arith, l) in
+        let p = course.parts j in
+        let two_states = parts_two_passes A (course.block j) (course.block (suc j)) p
+        (each_below_passes k (λ i. parts_two A (course.block i) (course.block (suc i)) (course.parts i)) three.0 j low) in
+        let before = after_is_unique rel A system j (course.block j) old
+        (runs_after rel A course (suc k) two.0 j (omega (arith, l))) after in
+        let behind = same_split rel A system (course.block j) (course.block (suc j)) old new
+        (runs_split rel A course (suc k) two.0 j (omega (arith, l))) split before in
+        let share = (before p.0 p.1 two_states.0 two_states.1).1 two_states.2 in
+        let still = (same p.0 p.1 two_states.0 two_states.1).1 share in
+        two_states.3 ((behind p.0 p.1 two_states.0 two_states.1).0 still)

@@ -1,0 +1,29 @@
+-- The quotient is known, and what differs from it is not the quotient.
+use Rattle.std.proofs.Common.{refl, lit<}
+use Rattle.theory.specs.Bisimulation.Relation.{strong, branching}
+use Rattle.theory.specs.System.{internal}
+use Rattle.theory.specs.Examples.{a, edge, silent_cycle, silent_cycle_branching_quotient, silent_cycle_strong_quotient, silent_loop, silent_loop_branching_quotient, silent_loop_strong_quotient, first_leads, first_leads_quotient, first_leads_by_size}
+use Rattle.theory.proofs.Testing.Census.{is_quotient}
+use Rattle.theory.proofs.Determined.{not_by_states, not_by_transition}
+use Rattle.theory.proofs.Testing.Told.{silent_cycle_branching, silent_loop_branching, first_leads_strong}
+use Rattle.theory.proofs.quotients.not_the_quotient.Goals as goal
+
+pub returns-clause-a_state_too_many : goal.returns-clause-a_state_too_many
+returns-clause-a_state_too_many _ =
+    not_by_states branching silent_cycle silent_cycle_branching_quotient silent_cycle_strong_quotient
+    (is_quotient branching silent_cycle silent_cycle_branching_quotient silent_cycle_branching refl refl) refl
+
+pub returns-clause-a_silent_step : goal.returns-clause-a_silent_step
+returns-clause-a_silent_step _ =
+    not_by_transition branching silent_loop silent_loop_branching_quotient silent_loop_strong_quotient (edge 0 internal 0)
+    (is_quotient branching silent_loop silent_loop_branching_quotient silent_loop_branching refl refl)
+    (0, lit< tt, refl) refl
+
+pub returns-clause-written_twice : goal.returns-clause-written_twice
+returns-clause-written_twice _ = λ q. q.once 0 1 (edge 0 a 1) (lit< tt) (lit< tt) refl
+
+pub returns-clause-by_size : goal.returns-clause-by_size
+returns-clause-by_size _ =
+    not_by_transition strong first_leads first_leads_quotient first_leads_by_size (edge 1 a 2)
+    (is_quotient strong first_leads first_leads_quotient first_leads_strong refl refl)
+    (0, lit< tt, refl) refl

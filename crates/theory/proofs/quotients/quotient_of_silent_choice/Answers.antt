@@ -1,0 +1,10 @@
+-- Each fact is a test that computes.
+use Rattle.std.proofs.Common.{refl}
+use Rattle.theory.specs.Bisimulation.Relation.{branching}
+use Rattle.theory.specs.Examples.{silent_choice, silent_choice_quotient}
+use Rattle.theory.proofs.Testing.Census.{is_quotient}
+use Rattle.theory.proofs.Testing.Told.{silent_choice_branching}
+use Rattle.theory.proofs.quotients.quotient_of_silent_choice.Goals as goal
+
+pub returns : goal.returns
+returns _ = is_quotient branching silent_choice silent_choice_quotient silent_choice_branching refl refl
