@@ -1,0 +1,7 @@
+pub mod Table
+pub mod Filters
+pub mod Rows
+pub mod Grouped
+pub mod Placing
+pub mod Kept
+pub mod Joining

@@ -1,0 +1,78 @@
+use Rattle.std.proofs.Common.{◌≡◌, ◌∙◌, ◌+◌, ◌<◌, ◌≤◌, length, map, take, ap, subst, sym, refl, arith}
+use Rattle.std.proofs.lemmas.List.{take_all}
+use Rattle.std.proofs.lemmas.List.Elements.{All-weaker}
+use Rattle.std.proofs.lemmas.Result.{on_err_weaker}
+use Rattle.lts.specs.Lts.{source_of, row_of, before, transition_of, IsTriple}
+use Rattle.lts.specs.Union.{Adds}
+use Rattle.lts.proofs.Rows.{before-next, before-zero, before-all, before-le}
+use Rattle.lts.proofs.Joining.{Gathers-weaker, Adds-nil, Adds-row, length-Adds, length-taken, row-fits, OnErr-from}
+use Rattle.lts.proofs.disjoint.append.Given.{Over}
+use Rattle.lts.proofs.disjoint.append.Goals as goal
+
+pub loop-state-init : goal.loop-state-init
+loop-state-init g c =
+    let none = before-zero c.args.s.now.places in
+    record {
+      gathered = Gathers-weaker c.args.labels.now c.args.shift (c.args.shift + c.args.s.now.states) c.args.e.now.items (omega arith) c.requires.gathered;
+      added =
+          subst (λ n. Adds c.args.shift (map (transition_of c.args.s.now.labels) (take n c.args.s.now.places)) c.args.labels.now c.args.e.now.items c.args.labels.now c.args.e.now.items)
+          (sym none) (Adds-nil c.args.shift c.args.labels.now c.args.e.now.items);
+      rounds = refl;
+      visits = omega arith;
+    }
+
+pub append_row-requires-clause-few : goal.append_row-requires-clause-few
+append_row-requires-clause-few g c =
+    let places = c.args.s.now.places in
+    let fits = row-fits c.loop-state.state places in
+    let taken = length-taken c.args.s.now.labels (before c.loop-state.state places) places (before-le c.loop-state.state places) in
+    let size = length-Adds c.args.shift (map (transition_of c.args.s.now.labels) (take (before c.loop-state.state places) places))
+    c.args.labels.now c.loop-state.labels c.args.e.now.items c.loop-state.e.items c.loop-state.invariant.added in
+    let few : length c.loop-state.e.items + length (row_of c.loop-state.state places) ≤ 20000000 = omega (arith, c.requires.few) in
+    few
+
+pub append_row-requires-clause-room : goal.append_row-requires-clause-room
+append_row-requires-clause-room g c =
+    let fits = row-fits c.loop-state.state c.args.s.now.places in
+    record {
+      for_rounds = omega (arith, c.loop-state.invariant.rounds, c.requires.room.for_rounds);
+      for_visits = omega (arith, c.loop-state.invariant.visits, c.requires.room.for_visits);
+    }
+
+pub returns-in_err-append_row-clause-err : goal.returns-in_err-append_row-clause-err
+returns-in_err-append_row-clause-err g c =
+    let fits = row-fits c.loop-state.state c.args.s.now.places in
+    let most : g.M.Meter.visits_made c.append_row.new.m ≤ g.M.Meter.visits_made c.args.m.now + length c.args.s.now.places =
+    omega (arith, c.loop-state.invariant.visits, c.in_err-append_row.ensures.err) in
+    OnErr-from c.from_residual.result most
+
+pub loop-state-preserved : goal.loop-state-preserved
+loop-state-preserved g c =
+    let next = before-next c.loop-state.state c.args.s.now.places in
+    record {
+      gathered = c.in_ok-append_row.ensures.gathered;
+      added =
+          Adds-row c.args.shift c.args.s.now.labels c.args.s.now.places c.loop-state.state
+          c.args.labels.now c.loop-state.labels c.append_row.new.labels c.args.e.now.items c.loop-state.e.items c.append_row.new.e.items
+          c.states-state-end.ensures.lts.rising c.loop-state.invariant.added c.in_ok-append_row.ensures.added;
+      rounds = c.append_row.ensures.rounds ∙ c.loop-state.invariant.rounds;
+      visits = omega (arith, c.in_ok-append_row.ensures.visits, c.loop-state.invariant.visits);
+    }
+
+-- at the last state, all places are before it
+all : (g : Over) (c : goal.After-loop-state g) → before c.loop-state.state c.args.s.now.places ≡ length c.args.s.now.places
+all g c =
+    let s = c.args.s.now in
+    let at : c.loop-state.state ≡ s.states = omega (arith, c.states-state-end.ensures.value) in
+    ap (λ n. before n s.places) at
+    ∙ before-all s.states s.places
+    (All-weaker (IsTriple (length s.labels) s.states) (λ e. source_of e < s.states) (λ e h. h.source) s.places c.states-state-end.ensures.lts.in_range.each)
+
+pub returns-clause-added : goal.returns-clause-added
+returns-clause-added g c =
+    let s = c.args.s.now in
+    subst (λ l. Adds c.args.shift (map (transition_of s.labels) l) c.args.labels.now c.args.e.now.items c.loop-state.labels c.loop-state.e.items)
+    (ap (λ n. take n s.places) (all g c) ∙ take_all (length s.places) s.places (omega arith)) c.loop-state.invariant.added
+
+pub returns-clause-visits : goal.returns-clause-visits
+returns-clause-visits g c = let e = all g c in omega (arith, c.loop-state.invariant.visits)

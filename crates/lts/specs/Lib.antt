@@ -1,0 +1,5 @@
+pub mod Labels
+pub mod Meter
+pub mod Lts
+pub mod Rows
+pub mod Union

@@ -1,0 +1,106 @@
+-- A system in memory: its transitions by number, grouped by source, over a label table.
+use Rattle.std.specs.Prelude.{◌≡◌, ◌↔◌, ℕ, ◌+◌, ◌<◌, ◌≤◌, ◌==◌, nat_lt, List, length, map}
+use Rattle.std.specs.List.{All, Contains, slice_index_or, slice_range, filter, flat_map, range_with_len}
+use Rattle.std.specs.List.Sorted.{IsNonDecreasingBy, IsPermutation}
+use Rattle.theory.specs.System.{System, Transition, IsSystem}
+use Rattle.lts.specs.Labels.{IsTable, text_of}
+
+-- a transition by number: its source, the number of its label, its target
+abbrev pub Triple : Type 0
+Triple = ℕ × ℕ × ℕ
+
+abbrev pub source_of : Triple → ℕ
+source_of e = e.0
+
+abbrev pub label_of : Triple → ℕ
+label_of e = e.1
+
+abbrev pub target_of : Triple → ℕ
+target_of e = e.2
+
+-- what an `Lts` is seen as: the first state, how many states, the texts of the labels, the transitions in their places
+pub record Grouped : Type 0 where
+  pub first : ℕ
+  pub states : ℕ
+  pub labels : List (List ℕ)
+  pub places : List Triple
+
+-- the transition in place k
+abbrev pub place_at : List Triple → ℕ → Triple
+place_at places k = slice_index_or places k (0, 0, 0)
+
+-- the transition that a triple stands for
+abbrev pub transition_of : List (List ℕ) → Triple → Transition
+transition_of labels e = record { source = source_of e; label = text_of labels (label_of e); target = target_of e }
+
+-- the system of a list of triples over a label table
+abbrev pub system_from : ℕ → ℕ → List (List ℕ) → List Triple → System
+system_from first states labels es =
+    record { first = first; states = states; transitions = map (transition_of labels) es }
+
+-- the system that an `Lts` stands for
+abbrev pub system_of : Grouped → System
+system_of g = system_from g.first g.states g.labels g.places
+
+-- the transitions of the source s, in their order
+abbrev pub row_of : ℕ → List Triple → List Triple
+row_of s es = filter (λ e. source_of e == s) es
+
+-- how many transitions have a source before s
+abbrev pub before : ℕ → List Triple → ℕ
+before s es = length (filter (λ e. nat_lt (source_of e) s) es)
+
+-- the list grouped by source: the transitions of each state in turn
+abbrev pub grouped : ℕ → List Triple → List Triple
+grouped states es = flat_map (λ s. row_of s es) (range_with_len 0 states)
+
+-- places has the transitions of es by rising source, those of each source in the order of es
+pub record IsGrouping (es places : List Triple) : Type 0 where
+  pub rising : IsNonDecreasingBy source_of places
+  pub rows : (s : ℕ) → row_of s places ≡ row_of s es
+  pub same : IsPermutation es places
+
+-- the transitions of A that start at s, in their order
+abbrev pub leaving : System → ℕ → List Transition
+leaving A s = filter (λ e. e.source == s) A.transitions
+
+-- B is A with its transitions by rising source, those of each source in the order that they have in A
+pub record Groups (A B : System) : Type 0 where
+  pub first : B.first ≡ A.first
+  pub states : B.states ≡ A.states
+  pub rising : IsNonDecreasingBy (λ e. e.source) B.transitions
+  pub rows : (s : ℕ) → leaving B s ≡ leaving A s
+  pub same : IsPermutation A.transitions B.transitions
+
+-- a transition among the states below the second count, with a label number below the first
+pub record IsTriple (labels states : ℕ) (e : Triple) : Type 0 where
+  pub source : source_of e < states
+  pub label : label_of e < labels
+  pub target : target_of e < states
+
+-- a system of these parts has a place in memory: 1 to 2,000,000 states, up to 20,000,000 transitions, no number too large
+pub record InRange (labels first states : ℕ) (es : List Triple) : Type 0 where
+  pub first_below : first < states
+  pub few_states : states ≤ 2000000
+  pub few_transitions : length es ≤ 20000000
+  pub each : All (IsTriple labels states) es
+
+-- what holds of every `Lts`
+pub record IsLts (g : Grouped) : Type 0 where
+  pub table : IsTable g.labels
+  pub in_range : InRange (length g.labels) g.first g.states g.places
+  pub rising : IsNonDecreasingBy source_of g.places
+  pub system : IsSystem (system_of g)
+
+-- some transition carries the label number k
+abbrev pub IsCarried : Grouped → ℕ → Type 0
+IsCarried g k = (e : Triple) × Contains g.places e × (label_of e ≡ k)
+
+-- the places of the source s are those from start up to end
+pub record IsRow (places : List Triple) (s start end : ℕ) : Type 0 where
+  pub begins : start ≡ before s places
+  pub ends : end ≡ before (s + 1) places
+  pub within : end ≤ length places
+  pub count : end ≡ start + length (row_of s places)
+  pub row : slice_range places start end ≡ row_of s places
+  pub exactly : (k : ℕ) → k < length places → (source_of (place_at places k) ≡ s) ↔ ((start ≤ k) × (k < end))

@@ -1,0 +1,121 @@
+//! The disjoint union of two systems.
+ghost use Rattle.std.specs.Prelude.{◌≡◌, ◌↔◌, ℕ, ◌+◌, ◌<◌, ◌≤◌, [], ◌∷◌, length, map, IsTrue, IfOk, OnOk, OnErr};
+ghost use Rattle.lts.specs.Meter.{HasRoom};
+ghost use Rattle.lts.specs.Lts.{source_of, place_at, row_of, transition_of, system_of, IsCarried};
+ghost use Rattle.lts.specs.Union.{union_of, FitTogether, Gathers, Adds};
+
+use crate::labels::Labels;
+use crate::lts::Lts;
+use crate::memory::Memory;
+use crate::meter::Meter;
+use std::alloc::Global;
+
+/// Whether the two systems together stay within the limits of a system in memory.
+pub fn fits_together<M: Meter>(a: &Lts<M>, b: &Lts<M>) -> bool
+    ensures { IsTrue result ↔ FitTogether a.now b.now }
+{
+    a.states() + b.states() <= 2_000_000 && a.edges() + b.edges() <= 20_000_000
+}
+
+/// The system of `a` followed by `b`, whose states are shifted by those of `a`. Labels are joined by their bytes, and the
+/// table has only labels that transitions carry. Each transition of both is visited once.
+///
+/// Fails where there is no memory for it.
+pub fn union<M: Meter>(alloc: Global, a: &Lts<M>, b: &Lts<M>, m: &mut M) -> Result<Lts<M>, Memory>
+    requires fit { FitTogether a.now b.now }
+    requires room { HasRoom (M.rounds_made m.old) (M.visits_made m.old) 0 (length a.now.places + length b.now.places) }
+    ensures system { IfOk result (λ u. system_of u ≡ union_of (system_of a.now) (system_of b.now)) }
+    ensures labels { IfOk result (λ u. (k : ℕ) → k < length u.labels → IsCarried u k) }
+    ensures rounds { M.rounds_made m.new ≡ M.rounds_made m.old }
+    ensures visits { OnOk result (M.visits_made m.new ≡ M.visits_made m.old + (length a.now.places + length b.now.places)) }
+    ensures err { OnErr result (M.visits_made m.new ≤ M.visits_made m.old + (length a.now.places + length b.now.places)) }
+    ensures never_fewer { M.visits_made m.old ≤ M.visits_made m.new }
+{
+    let mut labels = Labels::new(alloc);
+    let mut e = Vec::with_capacity(alloc, (a.edges() + b.edges()) as usize)?;
+    append(a, 0, &mut labels, &mut e, m)?;
+    append(b, a.states(), &mut labels, &mut e, m)?;
+    Lts::build(alloc, labels, a.first(), a.states() + b.states(), e)
+}
+
+/// Puts all transitions of `s` at the end of the triples, their states shifted and their labels in the table.
+fn append<M: Meter>(
+    s: &Lts<M>,
+    shift: u32,
+    labels: &mut Labels,
+    e: &mut Vec<(u32, u32, u32)>,
+    m: &mut M,
+) -> Result<(), Memory>
+    requires few_states { shift + s.now.states ≤ 2000000 }
+    requires few { length e.old.items + length s.now.places ≤ 20000000 }
+    requires gathered { Gathers labels.old shift e.old.items }
+    requires room { HasRoom (M.rounds_made m.old) (M.visits_made m.old) 0 (length s.now.places) }
+    ensures gathered { OnOk result (Gathers labels.new (shift + s.now.states) e.new.items) }
+    ensures added { OnOk result (Adds shift (system_of s.now).transitions labels.old e.old.items labels.new e.new.items) }
+    ensures rounds { M.rounds_made m.new ≡ M.rounds_made m.old }
+    ensures visits { OnOk result (M.visits_made m.new ≡ M.visits_made m.old + length s.now.places) }
+    ensures err { OnErr result (M.visits_made m.new ≤ M.visits_made m.old + length s.now.places) }
+    ensures never_fewer { M.visits_made m.old ≤ M.visits_made m.new }
+{
+    for state in 0..s.states() {
+        append_row(s, state, shift, labels, e, m)?;
+    }
+    Ok(())
+}
+
+/// Puts the transitions of one state of `s` at the end of the triples.
+fn append_row<M: Meter>(
+    s: &Lts<M>,
+    state: u32,
+    shift: u32,
+    labels: &mut Labels,
+    e: &mut Vec<(u32, u32, u32)>,
+    m: &mut M,
+) -> Result<(), Memory>
+    requires state { state < s.now.states }
+    requires few_states { shift + s.now.states ≤ 2000000 }
+    requires few { length e.old.items + length (row_of state s.now.places) ≤ 20000000 }
+    requires gathered { Gathers labels.old (shift + s.now.states) e.old.items }
+    requires room { HasRoom (M.rounds_made m.old) (M.visits_made m.old) 0 (length (row_of state s.now.places)) }
+    ensures gathered { OnOk result (Gathers labels.new (shift + s.now.states) e.new.items) }
+    ensures added { OnOk result (Adds shift (map (transition_of s.now.labels) (row_of state s.now.places)) labels.old e.old.items labels.new e.new.items) }
+    ensures rounds { M.rounds_made m.new ≡ M.rounds_made m.old }
+    ensures visits { OnOk result (M.visits_made m.new ≡ M.visits_made m.old + length (row_of state s.now.places)) }
+    ensures err { OnErr result (M.visits_made m.new ≤ M.visits_made m.old + length (row_of state s.now.places)) }
+    ensures never_fewer { M.visits_made m.old ≤ M.visits_made m.new }
+{
+    let (start, end) = s.row(state);
+    for k in start..end {
+        append_place(s, state, k, shift, labels, e, m)?;
+    }
+    Ok(())
+}
+
+/// Puts the transition in place `k` of `s`, which starts at `state`, at the end of the triples.
+fn append_place<M: Meter>(
+    s: &Lts<M>,
+    state: u32,
+    k: u32,
+    shift: u32,
+    labels: &mut Labels,
+    e: &mut Vec<(u32, u32, u32)>,
+    m: &mut M,
+) -> Result<(), Memory>
+    requires place { k < length s.now.places }
+    requires state { state ≡ source_of (place_at s.now.places k) }
+    requires few_states { shift + s.now.states ≤ 2000000 }
+    requires few { length e.old.items < 20000000 }
+    requires gathered { Gathers labels.old (shift + s.now.states) e.old.items }
+    requires room { HasRoom (M.rounds_made m.old) (M.visits_made m.old) 0 1 }
+    ensures gathered { OnOk result (Gathers labels.new (shift + s.now.states) e.new.items) }
+    ensures added { OnOk result (Adds shift (transition_of s.now.labels (place_at s.now.places k) ∷ []) labels.old e.old.items labels.new e.new.items) }
+    ensures rounds { M.rounds_made m.new ≡ M.rounds_made m.old }
+    ensures visits { M.visits_made m.new ≡ M.visits_made m.old + 1 }
+{
+    // Its contract tells what holds of every system.
+    let _ = s.edges();
+    let (label, target) = s.edge(k, m);
+    let number = labels.intern(s.labels().text(label))?;
+    e.push((shift + state, number, shift + target))?;
+    Ok(())
+}

@@ -1,0 +1,99 @@
+//! The label table: labels are numbered in the order in which they came, and each one's bytes are held once.
+ghost use Rattle.std.specs.Prelude.{◌≡◌, ◌↔◌, ℕ, ◌<◌, List, [], length, IsTrue, MatchOption, IfOk, OnOk, OnErr, Contains};
+ghost use Rattle.theory.specs.System.{IsLabel, internal};
+ghost use Rattle.lts.specs.Labels.{text_of, IsNumber, IsTable, Keeps, Interns};
+
+use crate::memory::Memory;
+use indexmap::IndexSet;
+use std::alloc::Global;
+use std::marker::Model;
+
+/// Whether the bytes are a label: 1 to 8000 bytes, each from 0x20 to 0x7E.
+pub fn is_label(b: &[u8]) -> bool
+    ensures { IsTrue result ↔ IsLabel b.now }
+{
+    !b.is_empty() && b.len() <= 8000 && b.iter().all(|c| *c >= 0x20 && *c <= 0x7E)
+}
+
+/// A list of different labels. The number of a label is its place in the list.
+#[derive(Drop)]
+pub struct Labels {
+    alloc: Global,
+    texts: IndexSet<Vec<u8>>,
+}
+
+impl Model for Labels {
+    ghost use Rattle.std.specs.Prelude.{ℕ, List, map};
+
+    ghost Value = { List (List ℕ) };
+
+    ghost use Rattle.lts.specs.Labels.{IsTable};
+
+    ghost view = { λ t. map (λ v. v.items) t.texts.keys };
+
+    ghost invariant = { λ t. IsTable (map (λ v. v.items) t.texts.keys) };
+}
+
+impl Labels {
+    /// A table with no label.
+    pub fn new(alloc: Global) -> Labels
+        ensures { result ≡ [] }
+    {
+        Labels {
+            alloc,
+            texts: IndexSet::new(alloc),
+        }
+    }
+
+    /// The number of the label with these bytes, which goes last where the table lacks it.
+    ///
+    /// Fails where there is no memory to put it in; the table is then as it was.
+    pub fn intern(&mut self, b: &[u8]) -> Result<u32, Memory>
+        requires label { IsLabel b.now }
+        requires room { length self.old < 20000000 }
+        ensures number { IfOk result (λ k. IsNumber self.new k b.now) }
+        ensures table { OnOk result (Interns self.old b.now self.new) }
+        ensures keeps { Keeps self.old self.new }
+        ensures is_table { IsTable self.new }
+        ensures err { OnErr result (self.new ≡ self.old) }
+    {
+        if let Some(k) = self.texts.get_index_of(b) {
+            return Ok(k as u32);
+        }
+        let text = Vec::from_slice(self.alloc, b)?;
+        let (k, _) = self.texts.insert_full(text)?;
+        Ok(k as u32)
+    }
+
+    /// The number of the label with these bytes, or `None` where there is none.
+    pub fn find(&self, b: &[u8]) -> Option<u32>
+        ensures { MatchOption result (¬ Contains self.now b.now) (λ k. IsNumber self.now k b.now) }
+    {
+        let k = self.texts.get_index_of(b)?;
+        Some(k as u32)
+    }
+
+    /// The bytes of the label number `k`.
+    pub fn text(&self, k: u32) -> &[u8]
+        requires { k < length self.now }
+        ensures text { result.now ≡ text_of self.now k }
+        ensures label { IsLabel result.now }
+    {
+        &self.texts[k as usize]
+    }
+
+    /// How many labels there are.
+    pub fn len(&self) -> u32
+        ensures value { result ≡ length self.now }
+        ensures table { IsTable self.now }
+    {
+        self.texts.len() as u32
+    }
+
+    /// The number of the label of the internal action, `i`, if the table has it.
+    pub fn internal(&self) -> Option<u32>
+        ensures { MatchOption result (¬ Contains self.now internal) (λ k. IsNumber self.now k internal) }
+    {
+        self.find(b"i")
+    }
+}

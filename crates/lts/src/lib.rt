@@ -1,0 +1,16 @@
+//! Labelled transition systems in memory: the table of their labels, the systems themselves with their transitions
+//! grouped by source, the meter that counts visits of transitions, and the disjoint union of two systems.
+#![tactic(auto)]
+
+mod disjoint;
+mod grouping;
+mod labels;
+mod lts;
+mod memory;
+mod meter;
+
+pub use disjoint::{fits_together, union};
+pub use labels::{Labels, is_label};
+pub use lts::{Lts, in_range};
+pub use memory::Memory;
+pub use meter::{Counter, Meter};

@@ -1,0 +1,132 @@
+//! A system in memory. Its transitions stand in places, grouped by source; each one that is read is counted by a meter.
+ghost use Rattle.std.specs.Prelude.{◌≡◌, ◌↔◌, ℕ, ◌+◌, ◌<◌, length, IsTrue, IfOk};
+ghost use Rattle.lts.specs.Meter.{HasRoom};
+ghost use Rattle.lts.specs.Lts.{label_of, target_of, place_at, system_from, system_of, grouped, IsGrouping, Groups, InRange, IsLts, IsRow};
+
+use crate::grouping::group;
+use crate::labels::Labels;
+use crate::memory::Memory;
+use crate::meter::Meter;
+use std::alloc::Global;
+use std::marker::{Model, PhantomData};
+
+/// Whether a system of these parts has a place in memory: at most 2,000,000 states and 20,000,000 transitions; first,
+/// sources and targets below `states`; label numbers below the table's length.
+pub fn in_range(l: &Labels, first: u32, states: u32, e: &[(u32, u32, u32)]) -> bool
+    ensures { IsTrue result ↔ InRange (length l.now) first states e.now }
+{
+    let labels = l.len();
+    first < states
+        && states <= 2_000_000
+        && e.len() <= 20_000_000
+        && e.iter()
+            .all(|x| x.0 < states && x.1 < labels && x.2 < states)
+}
+
+/// A system whose transitions are read with a meter of type `M`.
+#[derive(Drop)]
+pub struct Lts<M: Meter> {
+    labels: Labels,
+    first: u32,
+    states: u32,
+    ends: Vec<u32>,
+    pairs: Vec<(u32, u32)>,
+    meter: PhantomData<M>,
+}
+
+impl<M: Meter> Model for Lts<M> {
+    ghost use Rattle.lts.specs.Lts.{Grouped};
+
+    ghost Value = { Grouped };
+
+    ghost use Rattle.lts.specs.Rows.{kept, IsKept};
+
+    ghost view = { λ s. kept s.first s.states s.labels s.ends.items s.pairs.items };
+
+    ghost invariant = { λ s. IsKept (kept s.first s.states s.labels s.ends.items s.pairs.items) s.ends.items s.pairs.items };
+}
+
+impl<M: Meter> Lts<M> {
+    /// The system of these parts, its triples (source, label number, target) grouped by source.
+    ///
+    /// Fails where there is no memory for it.
+    pub fn build(
+        alloc: Global,
+        l: Labels,
+        first: u32,
+        states: u32,
+        e: Vec<(u32, u32, u32)>,
+    ) -> Result<Lts<M>, Memory>
+        requires { InRange (length l) first states e.items }
+        ensures first { IfOk result (λ s. s.first ≡ first) }
+        ensures states { IfOk result (λ s. s.states ≡ states) }
+        ensures labels { IfOk result (λ s. s.labels ≡ l) }
+        ensures places { IfOk result (λ s. s.places ≡ grouped states e.items) }
+        ensures grouping { IfOk result (λ s. IsGrouping e.items s.places) }
+        ensures system { IfOk result (λ s. Groups (system_from first states l e.items) (system_of s)) }
+    {
+        // Its contract tells what holds of every table.
+        let _ = l.len();
+        let (ends, pairs) = group(alloc, states, &e)?;
+        Ok(Lts {
+            labels: l,
+            first,
+            states,
+            ends,
+            pairs,
+            meter: PhantomData,
+        })
+    }
+
+    /// How many states there are: 1 to 2,000,000.
+    pub fn states(&self) -> u32
+        ensures value { result ≡ self.now.states }
+        ensures lts { IsLts self.now }
+    {
+        self.states
+    }
+
+    /// How many transitions there are: at most 20,000,000. Each one counts, also where the same stands twice.
+    pub fn edges(&self) -> u32
+        ensures value { result ≡ length self.now.places }
+        ensures lts { IsLts self.now }
+    {
+        self.pairs.len() as u32
+    }
+
+    /// The first state.
+    pub fn first(&self) -> u32
+        ensures { result ≡ self.now.first }
+    {
+        self.first
+    }
+
+    /// The table of the labels.
+    pub fn labels(&self) -> &Labels
+        ensures { result.now ≡ self.now.labels }
+    {
+        &self.labels
+    }
+
+    /// The places of the transitions with the source `s`: from the first number up to the second.
+    pub fn row(&self, s: u32) -> (u32, u32)
+        requires { s < self.now.states }
+        ensures { IsRow self.now.places s result.0 result.1 }
+    {
+        let start = if s == 0 { 0 } else { self.ends[s as usize - 1] };
+        (start, self.ends[s as usize])
+    }
+
+    /// The label number and the target of the transition in place `k`. It counts one visit.
+    pub fn edge(&self, k: u32, m: &mut M) -> (u32, u32)
+        requires place { k < length self.now.places }
+        requires room { HasRoom (M.rounds_made m.old) (M.visits_made m.old) 0 1 }
+        ensures label { result.0 ≡ label_of (place_at self.now.places k) }
+        ensures target { result.1 ≡ target_of (place_at self.now.places k) }
+        ensures visits { M.visits_made m.new ≡ M.visits_made m.old + 1 }
+        ensures rounds { M.rounds_made m.new ≡ M.rounds_made m.old }
+    {
+        m.visit();
+        self.pairs[k as usize]
+    }
+}
