@@ -1,0 +1,89 @@
+-- Blanks before a token, and what may stand behind one.
+use Rattle.std.proofs.Common.{◌≡◌, ℕ, Bool, true, false, List, [], ◌∷◌, ◌++◌, refl, sym, ap, ◌∙◌, inl, inr, append_assoc}
+use Rattle.std.proofs.lemmas.Bool.{cond_both, eqb-true, or_cases, and_from, and_parts}
+use Rattle.std.proofs.lemmas.List.Elements.{All-nil, All-cons, All-head, All-tail}
+use Rattle.std.specs.Prelude.{◌||◌, ◌==◌}
+use Rattle.autfmt.specs.Grammar.{IsBlank, Blanks, Spaced}
+use Rattle.autfmt.specs.Reading.{is_blank, are_blanks, after_blanks}
+
+pub IsBlank-from_test : (b : ℕ) → is_blank b ≡ true → IsBlank b
+IsBlank-from_test b e =
+    elim (or_cases ((b == 0x20) || (b == 0x09)) (b == 0x0D) e) [
+      | inl h ↦ elim (or_cases (b == 0x20) (b == 0x09) h) [ inl i ↦ inl (eqb-true b 0x20 i) | inr i ↦ inr (inl (eqb-true b 0x09 i)) ]
+      | inr h ↦ inr (inr (eqb-true b 0x0D h))
+    ]
+
+pub test-IsBlank : (b : ℕ) → IsBlank b → is_blank b ≡ true
+test-IsBlank b (inl e) = rw e refl
+test-IsBlank b (inr (inl e)) = rw e refl
+test-IsBlank b (inr (inr e)) = rw e refl
+
+pub after_blanks-skips : (before rest : List ℕ) → Blanks before → after_blanks (before ++ rest) ≡ after_blanks rest
+unfolding after_blanks
+after_blanks-skips [] rest blanks = refl
+after_blanks-skips (b ∷ before) rest blanks =
+    rw (test-IsBlank b (All-head IsBlank b before blanks)) (after_blanks-skips before rest (All-tail IsBlank b before blanks))
+
+pub after_blanks-cuts : (line : List ℕ) → (before : List ℕ) × Blanks before × (line ≡ before ++ after_blanks line)
+unfolding after_blanks
+after_blanks-cuts [] = ([], All-nil IsBlank, refl)
+after_blanks-cuts (b ∷ bs) =
+    cond_both (is_blank b) (after_blanks bs) (b ∷ bs) (λ r. (before : List ℕ) × Blanks before × (b ∷ bs ≡ before ++ r))
+    (λ e. let h = after_blanks-cuts bs in (b ∷ h.0, All-cons IsBlank b h.0 (IsBlank-from_test b e) h.1, ap (λ (t : List ℕ). b ∷ t) h.2))
+    (λ _. ([], All-nil IsBlank, refl))
+
+-- ---- a token behind blanks
+
+-- the first byte is there, and is no blank
+abbrev pub IsToken : List ℕ → Type 0
+IsToken [] = ⊥
+IsToken (b ∷ bs) = is_blank b ≡ false
+
+at_token-itself : (token rest : List ℕ) → IsToken token → after_blanks (token ++ rest) ≡ token ++ rest
+unfolding after_blanks
+at_token-itself [] rest h = absurd h
+at_token-itself (b ∷ bs) rest h = rw h refl
+
+pub at_token : (token : List ℕ) (tokens : List (List ℕ)) (line : List ℕ) → IsToken token → (s : Spaced (token ∷ tokens) line) → after_blanks line ≡ token ++ s.1
+at_token token tokens line h s =
+    ap after_blanks (s.3 ∙ append_assoc s.0 token s.1) ∙ after_blanks-skips s.0 (token ++ s.1) s.2 ∙ at_token-itself token s.1 h
+
+pub Spaced-from : (token : List ℕ) (tokens : List (List ℕ)) (line rest : List ℕ) → after_blanks line ≡ token ++ rest → Spaced tokens rest → Spaced (token ∷ tokens) line
+Spaced-from token tokens line rest e s =
+    let h = after_blanks-cuts line in
+    (h.0, rest, h.1, h.2 ∙ ap (λ (t : List ℕ). h.0 ++ t) e ∙ sym (append_assoc h.0 token rest), s)
+
+-- ---- what stands behind a token
+
+-- the first byte, where there is one, fails the test
+abbrev pub Stops : (ℕ → Bool) → List ℕ → Type 0
+Stops p [] = Unit {0}
+Stops p (b ∷ bs) = p b ≡ false
+
+-- blanks fail the test
+abbrev pub FailsBlanks : (ℕ → Bool) → Type 0
+FailsBlanks p = (b : ℕ) → IsBlank b → p b ≡ false
+
+pub Stops-blanks : (p : ℕ → Bool) (bs : List ℕ) → FailsBlanks p → Blanks bs → Stops p bs
+Stops-blanks p [] fails blanks = tt
+Stops-blanks p (b ∷ bs) fails blanks = fails b (All-head IsBlank b bs blanks)
+
+Stops-before_mark : (p : ℕ → Bool) (before : List ℕ) (c : ℕ) (rest : List ℕ) → FailsBlanks p → p c ≡ false → Blanks before → Stops p (before ++ c ∷ rest)
+Stops-before_mark p [] c rest fails e blanks = e
+Stops-before_mark p (b ∷ bs) c rest fails e blanks = fails b (All-head IsBlank b bs blanks)
+
+pub Stops-mark : (p : ℕ → Bool) (c : ℕ) (tokens : List (List ℕ)) (line : List ℕ) → FailsBlanks p → p c ≡ false → Spaced ((c ∷ []) ∷ tokens) line → Stops p line
+Stops-mark p c tokens line fails e s =
+    let whole : line ≡ s.0 ++ c ∷ s.1 = s.3 ∙ append_assoc s.0 (c ∷ []) s.1 in
+    rw whole (Stops-before_mark p s.0 c s.1 fails e s.2)
+
+-- the test of a line's end
+pub are_blanks-from : (bs : List ℕ) → Blanks bs → are_blanks bs ≡ true
+are_blanks-from [] blanks = refl
+are_blanks-from (b ∷ bs) blanks = and_from (is_blank b) (are_blanks bs) (test-IsBlank b (All-head IsBlank b bs blanks)) (are_blanks-from bs (All-tail IsBlank b bs blanks))
+
+pub Blanks-from_test : (bs : List ℕ) → are_blanks bs ≡ true → Blanks bs
+Blanks-from_test [] e = All-nil IsBlank
+Blanks-from_test (b ∷ bs) e =
+    let h = and_parts (is_blank b) (are_blanks bs) e in
+    All-cons IsBlank b bs (IsBlank-from_test b h.0) (Blanks-from_test bs h.1)

@@ -1,0 +1,76 @@
+-- Each line is a header or not, a transition or not, a line of a hide list or not, and in at most one way.
+use Rattle.std.proofs.Common.{◌≡◌, ◌⊎◌, ℕ, List, [], ◌∷◌, ◌++◌, Option, Some, None, refl, sym, ap, ◌∙◌, inl, inr}
+use Rattle.std.specs.Prelude.{codes, IfSome, IfNone}
+use Rattle.std.proofs.lemmas.Option.{same_Some, none-some}
+use Rattle.autfmt.specs.Grammar.{Header, TransitionLine, HideLine}
+use Rattle.autfmt.specs.Reading.{Gives, after_blanks, header_at, transition_at, hide_line_at}
+use Rattle.autfmt.proofs.Blanks.{at_token}
+use Rattle.autfmt.proofs.Lines.{header_at-takes, header_at-again, transition_at-takes, transition_at-again, hide_line_at-takes, hide_line_at-again}
+
+-- ---- where nothing is read, nothing is spelled
+
+pub no_header : (line : List ℕ) → header_at line ≡ None → (f m n : ℕ) → ¬ Header line f m n
+no_header line e f m n h = none-some (f, m, n) (sym e ∙ header_at-again line f m n h)
+
+pub no_transition : (line : List ℕ) → transition_at line ≡ None → (s t : ℕ) (a : List ℕ) → ¬ TransitionLine line s a t
+no_transition line e s t a h = none-some (s, a, t) (sym e ∙ transition_at-again line s a t h)
+
+pub no_hide_line : (line : List ℕ) → hide_line_at line ≡ None → (a : List ℕ) → ¬ HideLine line a
+no_hide_line line e a h = none-some a (sym e ∙ hide_line_at-again line a h)
+
+-- ---- what a function that gives what is read answers
+
+pub found_from : {X Y : Type 0} (view : X → Y) (r : Option X) (read : Option Y) (P : Y → Type 0) → Gives view r read → ((y : Y) → read ≡ Some y → P y) → IfSome r (λ x. P (view x))
+found_from view (Some x) read P e h = h (view x) e
+found_from view None read P e h = tt
+
+pub none_from : {X Y : Type 0} (view : X → Y) (r : Option X) (read : Option Y) (P : Type 0) → Gives view r read → (read ≡ None → P) → IfNone r P
+none_from view (Some x) read P e h = tt
+none_from view None read P e h = h e
+
+-- ---- decisions
+
+header-read : (line : List ℕ) (o : Option (ℕ × ℕ × ℕ)) → header_at line ≡ o → ((f m n : ℕ) × Header line f m n) ⊎ ((f m n : ℕ) → ¬ Header line f m n)
+header-read line (Some x) e = inl (x.0, x.1, x.2, header_at-takes line x e)
+header-read line None e = inr (no_header line e)
+
+pub decide_header : (line : List ℕ) → ((f m n : ℕ) × Header line f m n) ⊎ ((f m n : ℕ) → ¬ Header line f m n)
+decide_header line = header-read line (header_at line) refl
+
+transition-read : (line : List ℕ) (o : Option (ℕ × List ℕ × ℕ)) → transition_at line ≡ o → ((s t : ℕ) × (a : List ℕ) × TransitionLine line s a t) ⊎ ((s t : ℕ) (a : List ℕ) → ¬ TransitionLine line s a t)
+transition-read line (Some x) e = inl (x.0, x.2, x.1, transition_at-takes line x e)
+transition-read line None e = inr (no_transition line e)
+
+pub decide_transition : (line : List ℕ) → ((s t : ℕ) × (a : List ℕ) × TransitionLine line s a t) ⊎ ((s t : ℕ) (a : List ℕ) → ¬ TransitionLine line s a t)
+decide_transition line = transition-read line (transition_at line) refl
+
+hide_line-read : (line : List ℕ) (o : Option (List ℕ)) → hide_line_at line ≡ o → ((a : List ℕ) × HideLine line a) ⊎ ((a : List ℕ) → ¬ HideLine line a)
+hide_line-read line (Some a) e = inl (a, hide_line_at-takes line a e)
+hide_line-read line None e = inr (no_hide_line line e)
+
+pub decide_hide_line : (line : List ℕ) → ((a : List ℕ) × HideLine line a) ⊎ ((a : List ℕ) → ¬ HideLine line a)
+decide_hide_line line = hide_line-read line (hide_line_at line) refl
+
+-- ---- one reading
+
+pub one_header : (line : List ℕ) (f m n f' m' n' : ℕ) → Header line f m n → Header line f' m' n' → (f ≡ f') × (m ≡ m') × (n ≡ n')
+one_header line f m n f' m' n' h k =
+    let e = same_Some (f, m, n) (f', m', n') (sym (header_at-again line f m n h) ∙ header_at-again line f' m' n' k) in
+    (ap (λ (x : ℕ × ℕ × ℕ). x.0) e, ap (λ (x : ℕ × ℕ × ℕ). x.1) e, ap (λ (x : ℕ × ℕ × ℕ). x.2) e)
+
+pub one_transition : (line : List ℕ) (s t s' t' : ℕ) (a a' : List ℕ) → TransitionLine line s a t → TransitionLine line s' a' t' → (s ≡ s') × (a ≡ a') × (t ≡ t')
+one_transition line s t s' t' a a' h k =
+    let e = same_Some (s, a, t) (s', a', t') (sym (transition_at-again line s a t h) ∙ transition_at-again line s' a' t' k) in
+    (ap (λ (x : ℕ × List ℕ × ℕ). x.0) e, ap (λ (x : ℕ × List ℕ × ℕ). x.1) e, ap (λ (x : ℕ × List ℕ × ℕ). x.2) e)
+
+pub one_hide_line : (line a a' : List ℕ) → HideLine line a → HideLine line a' → a ≡ a'
+one_hide_line line a a' h k = same_Some a a' (sym (hide_line_at-again line a h) ∙ hide_line_at-again line a' k)
+
+-- a header begins with `d`, a transition with a bracket
+pub not_both : (line : List ℕ) (f m n s t : ℕ) (a : List ℕ) → Header line f m n → ¬ TransitionLine line s a t
+not_both line f m n s t a h k =
+    let d : after_blanks line ≡ codes "des" ++ h.6.1 =
+    at_token (codes "des") (codes "(" ∷ h.0 ∷ codes "," ∷ h.1 ∷ codes "," ∷ h.2 ∷ codes ")" ∷ []) line refl h.6 in
+    let b : after_blanks line ≡ codes "(" ++ k.6.1 =
+    at_token (codes "(") (k.0 ∷ codes "," ∷ k.1 ∷ codes "," ∷ k.2 ∷ codes ")" ∷ []) line refl k.6 in
+    cc

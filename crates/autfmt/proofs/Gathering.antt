@@ -1,0 +1,107 @@
+-- Pieces that are put together to a line.
+use Rattle.std.proofs.Common.{◌≡◌, ◌⊎◌, ℕ, ◌+◌, ◌-◌, ◌<◌, ◌≤◌, Bool, true, false, List, [], ◌∷◌, ◌++◌, length, take, drop, Option, None, Some, refl, sym, ◌∙◌, ap, subst, inl, inr, arith, All}
+use Rattle.std.specs.List.{slice_range}
+use Rattle.std.specs.Io.KnownBytes.{Consumes}
+use Rattle.std.proofs.KnownBytes.{Consumes-trans}
+use Rattle.std.proofs.lemmas.List.{append_assoc, append-nil, length-append, length-take, length-take-le, take-append-drop, take-take, drop-take, drop-drop}
+use Rattle.std.proofs.lemmas.List.Elements.{All-append}
+use Rattle.std.proofs.lemmas.Slice.{between_is}
+use Rattle.autfmt.specs.declared.cutter.Found.TheVariants.{Feed}
+use Rattle.autfmt.specs.Texts.{IsOneLine, IsShort}
+use Rattle.autfmt.specs.Cutter.{BeginsTooLong, CutsLine, IsPart}
+use Rattle.autfmt.specs.Gathering.{FoundIn}
+use Rattle.autfmt.proofs.Cutting.{IsNoFeed}
+
+-- more of a line
+pub IsPart-append : (kept bytes : List ℕ) → IsPart kept → IsOneLine bytes → length kept + length bytes ≤ 8192 → IsPart (kept ++ bytes)
+IsPart-append kept bytes part one fits =
+    (All-append IsNoFeed kept bytes part.0 one, omega (arith, length-append kept bytes))
+
+-- bytes got behind those got before
+pub got_more :
+    (a b c : Option (List ℕ)) (old bs kept bytes : List ℕ) → Consumes a b bs → kept ≡ old ++ bs → Consumes b c bytes →
+    (x : List ℕ) × Consumes a c x × (old ++ x ≡ kept ++ bytes)
+got_more a b c old bs kept bytes first e second = (
+  bs ++ bytes,
+  Consumes-trans a b c bs bytes first second,
+  sym (append_assoc old bs bytes) ∙ ap (λ (t : List ℕ). t ++ bytes) (sym e),
+)
+
+-- a line feed was found in the piece
+pub feed_found :
+    (a b c : Option (List ℕ)) (old bs kept buf bytes front kept' : List ℕ) (n at : ℕ) →
+    Consumes a b bs → kept ≡ old ++ bs → IsPart kept → Consumes b c (take n buf) → n ≤ length buf → bytes ≡ take n buf →
+    at < length bytes → IsOneLine (take at bytes) → drop at bytes ≡ 10 ∷ drop (at + 1) bytes → front ≡ take at bytes →
+    length kept + length front ≤ 8192 → kept' ≡ kept ++ front →
+    (x : List ℕ) × Consumes a c x × FoundIn (old ++ x) (Feed at n) kept' buf
+feed_found a b c old bs kept buf bytes front kept' n at first e part second within same below one feed cut fits now =
+    let more = got_more a b c old bs kept (take n buf) first e second in
+    let size : length bytes ≡ n = ap length same ∙ length-take-le n buf within in
+    let behind : drop (at + 1) bytes ≡ slice_range buf (at + 1) n =
+    ap (λ (t : List ℕ). drop (at + 1) t) same ∙ sym (between_is buf (at + 1) n) in
+    let split : take n buf ≡ front ++ 10 ∷ slice_range buf (at + 1) n =
+    sym same ∙ sym (take-append-drop at bytes)
+    ∙ ap (λ (t : List ℕ). take at bytes ++ t) (feed ∙ ap (λ (t : List ℕ). 10 ∷ t) behind)
+    ∙ ap (λ (t : List ℕ). t ++ 10 ∷ slice_range buf (at + 1) n) (sym cut) in
+    let whole : old ++ more.0 ≡ kept' ++ 10 ∷ slice_range buf (at + 1) n =
+    more.2 ∙ ap (λ (t : List ℕ). kept ++ t) split ∙ sym (append_assoc kept front (10 ∷ slice_range buf (at + 1) n))
+    ∙ ap (λ (t : List ℕ). t ++ 10 ∷ slice_range buf (at + 1) n) (sym now) in
+    let all : IsPart (kept ++ front) =
+    IsPart-append kept front part (subst (λ (t : List ℕ). IsOneLine t) (sym cut) one) fits in
+    (more.0, more.1, (subst (λ (t : List ℕ). IsPart t) (sym now) all, omega arith, within, whole))
+
+-- the line is too long
+pub too_long :
+    (a b c : Option (List ℕ)) (old bs kept bytes front tail : List ℕ) →
+    Consumes a b bs → kept ≡ old ++ bs → IsPart kept → Consumes b c bytes → bytes ≡ front ++ tail → IsOneLine front →
+    (length kept + length front ≤ 8192 → ⊥) → (x : List ℕ) × Consumes a c x × BeginsTooLong (old ++ x)
+too_long a b c old bs kept bytes front tail first e part second split one big =
+    let more = got_more a b c old bs kept bytes first e second in (
+      more.0,
+      more.1,
+      (
+        kept ++ front,
+        tail,
+        All-append IsNoFeed kept front part.0 one,
+        omega (arith, length-append kept front, big),
+        more.2 ∙ ap (λ (t : List ℕ). kept ++ t) split ∙ sym (append_assoc kept front tail),
+      ),
+    )
+
+-- the line goes on
+pub line_goes_on :
+    (a b c : Option (List ℕ)) (old bs kept bytes kept' : List ℕ) →
+    Consumes a b bs → kept ≡ old ++ bs → Consumes b c bytes → kept' ≡ kept ++ bytes →
+    (x : List ℕ) × Consumes a c x × (kept' ≡ old ++ x)
+line_goes_on a b c old bs kept bytes kept' first e second now =
+    let more = got_more a b c old bs kept bytes first e second in (more.0, more.1, now ∙ sym more.2)
+
+-- a line lies in the piece, behind a line feed what is ahead
+pub line_in_piece :
+    (piece : List ℕ) (from to at : ℕ) (over : Bool) → over ≡ false → at < length (slice_range piece from to) → from ≤ to → to ≤ 4096 →
+    IsOneLine (take at (slice_range piece from to)) →
+    drop at (slice_range piece from to) ≡ 10 ∷ drop (at + 1) (slice_range piece from to) →
+    CutsLine (slice_range piece from to)
+    (record { line = slice_range piece from (from + at); ahead = slice_range piece (from + (at + 1)) to; over = over })
+line_in_piece piece from to at over goes_on below ordered within one feed =
+    let bytes = slice_range piece from to in
+    let size : length bytes ≤ to - from = simp length-take (omega arith) in
+    let line : slice_range piece from (from + at) ≡ take at bytes =
+    ap (λ (m : ℕ). take m (drop from piece)) (let e : from + at - from ≡ at = omega arith in e)
+    ∙ sym (take-take at (to - from) (drop from piece) (omega arith)) in
+    let behind : drop (at + 1) bytes ≡ slice_range piece (from + (at + 1)) to =
+    let e : to - from ≡ at + 1 + (to - (from + (at + 1))) = omega arith in
+    ap (λ (m : ℕ). drop (at + 1) (take m (drop from piece))) e
+    ∙ drop-take (at + 1) (to - (from + (at + 1))) (drop from piece)
+    ∙ ap (λ (t : List ℕ). take (to - (from + (at + 1))) t) (drop-drop (at + 1) from piece) in
+    record {
+      one = subst (λ (t : List ℕ). IsOneLine t) (sym line) one;
+      short = rw line (simp length-take (omega arith));
+      behind =
+          inl (
+            goes_on,
+            sym (take-append-drop at bytes)
+                ∙ ap (λ (t : List ℕ). take at bytes ++ t) (feed ∙ ap (λ (t : List ℕ). 10 ∷ t) behind)
+                ∙ ap (λ (t : List ℕ). t ++ 10 ∷ slice_range piece (from + (at + 1)) to) (sym line),
+          );
+    }

@@ -1,0 +1,68 @@
+-- Hiding: which labels are hidden, and that nothing else of the list counts.
+use Rattle.std.proofs.Common.{◌≡◌, ◌↔◌, ℕ, zero, suc, ◌<◌, Bool, true, false, cond, List, [], ◌∷◌, length, map, get_or, Contains, refl, sym, ◌∙◌, ap, inl, inr, arith, ◌⊎◌, subst}
+use Rattle.std.specs.List.{list_any}
+use Rattle.std.specs.Str.{bytes_eq}
+use Rattle.std.proofs.lemmas.Bool.{both_ways, or_left, or_right, cases_Bool, cond-true, cond-false}
+use Rattle.std.proofs.lemmas.Slice.Eq.{bytes_eq-Decides}
+use Rattle.std.proofs.lemmas.Map.Views.{Contains-from_any}
+use Rattle.std.proofs.lemmas.List.Elements.{Contains-get_or}
+use Rattle.lts.specs.Labels.{IsNumber}
+use Rattle.theory.specs.System.{System, Transition, internal, hidden_label, hidden_transition, Hide}
+
+-- a label of the list is found in it
+pub found_in : (H : List (List ℕ)) (a : List ℕ) (k : ℕ) → k < length H → get_or H k a ≡ a → list_any (bytes_eq a) H ≡ true
+found_in [] a k h e = absurd (omega arith)
+found_in (x ∷ xs) a zero h e = or_left (bytes_eq a x) (list_any (bytes_eq a) xs) ((bytes_eq-Decides a x).1 (sym e))
+found_in (x ∷ xs) a (suc k) h e = or_right (bytes_eq a x) (list_any (bytes_eq a) xs) (found_in xs a k (omega arith) e)
+
+pub found_from : (H : List (List ℕ)) (a : List ℕ) → Contains H a → list_any (bytes_eq a) H ≡ true
+found_from H a c = found_in H a c.0 c.1 c.2
+
+pub contains_from : (H : List (List ℕ)) (a : List ℕ) → list_any (bytes_eq a) H ≡ true → Contains H a
+contains_from H a e = Contains-from_any {eq = bytes_eq} (λ x y. (bytes_eq-Decides x y).0) a H e
+
+-- a label of the list is hidden
+pub hidden_label-hidden : (H : List (List ℕ)) (a : List ℕ) → Contains H a → hidden_label H a ≡ internal
+hidden_label-hidden H a c = cond-true (list_any (bytes_eq a) H) internal a (found_from H a c)
+
+-- no other label is
+pub hidden_label-shown : (H : List (List ℕ)) (a : List ℕ) → ¬ Contains H a → hidden_label H a ≡ a
+hidden_label-shown H a none = step (cases_Bool (list_any (bytes_eq a) H))
+  where
+    step : (list_any (bytes_eq a) H ≡ true) ⊎ (list_any (bytes_eq a) H ≡ false) → hidden_label H a ≡ a
+    step (inl e) = absurd (none (contains_from H a e))
+    step (inr e) = cond-false (list_any (bytes_eq a) H) internal a e
+
+-- lists of the same labels hide each label alike
+pub hidden_label-same :
+    (H K : List (List ℕ)) → ((a : List ℕ) → Contains H a ↔ Contains K a) → (a : List ℕ) → hidden_label H a ≡ hidden_label K a
+hidden_label-same H K same a = step (cases_Bool (list_any (bytes_eq a) H))
+  where
+    step : (list_any (bytes_eq a) H ≡ true) ⊎ (list_any (bytes_eq a) H ≡ false) → hidden_label H a ≡ hidden_label K a
+    step (inl e) =
+        let c = contains_from H a e in
+        hidden_label-hidden H a c ∙ sym (hidden_label-hidden K a ((same a).0 c))
+    step (inr e) =
+        let none : ¬ Contains H a = λ c. both_ways _ e (found_from H a c) in
+        hidden_label-shown H a none ∙ sym (hidden_label-shown K a (λ c. none ((same a).1 c)))
+
+-- lists of the same labels hide the same
+pub Hide-same : (H K : List (List ℕ)) (A : System) → ((a : List ℕ) → Contains H a ↔ Contains K a) → Hide H A ≡ Hide K A
+Hide-same H K A same = ap made (all A.transitions)
+  where
+    made : List Transition → System
+    made es = record { first = A.first; states = A.states; transitions = es }
+
+    one : (e : Transition) → hidden_transition H e ≡ hidden_transition K e
+    one e =
+        let f : List ℕ → Transition = λ a. record { source = e.source; label = a; target = e.target } in
+        ap f (hidden_label-same H K same e.label)
+
+    all : (es : List Transition) → map (hidden_transition H) es ≡ map (hidden_transition K) es
+    all [] = refl
+    all (e ∷ es) = let p = one e in let q = all es in cc
+
+-- a label that has a number in the table stands in it
+pub contains_numbered : (labels : List (List ℕ)) (k : ℕ) (a : List ℕ) → IsNumber labels k a → Contains labels a
+contains_numbered labels k a n =
+    subst (λ (t : List ℕ). Contains labels t) n.text (Contains-get_or labels k [] n.below)

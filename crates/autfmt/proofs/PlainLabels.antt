@@ -1,0 +1,140 @@
+-- Labels and their test; reading a plain label.
+use Rattle.std.proofs.Common.{◌≡◌, ℕ, suc, ◌+◌, ◌≤◌, true, false, cond, List, [], ◌∷◌, ◌++◌, length, take, drop, All, Option, Some, None, refl, sym, ap, subst, ◌∙◌, inl, inr, arith}
+use Rattle.std.specs.Prelude.{nat_le, ◌&&◌, ◌==◌}
+use Rattle.std.specs.Char.{is_ascii_digit}
+use Rattle.std.specs.List.{list_all}
+use Rattle.std.proofs.lemmas.Bool.{cond_both, and_parts, and_from, or_left, leb-true, le-leb}
+use Rattle.std.proofs.lemmas.Bool.Decides.{nat_tests, Decides-by_and}
+use Rattle.std.proofs.lemmas.Option.{cond_some}
+use Rattle.std.proofs.lemmas.List.{length-take, take_at, drop_at, take-append-drop}
+use Rattle.std.proofs.lemmas.List.Elements.{All-nil, All-cons}
+use Rattle.theory.specs.System.{IsLabel}
+use Rattle.autfmt.specs.Grammar.{is_letter, is_plain}
+use Rattle.autfmt.specs.Reading.{◌>>=◌, is_blank, is_word, word_len, plain_at, is_label}
+use Rattle.autfmt.proofs.Blanks.{Stops, FailsBlanks}
+
+-- the value of a step that did not fail
+pub bind_some : {A B : Type 0} (r : Option A) (f : A → Option B) (y : B) → (r >>= f) ≡ Some y → (x : A) × (r ≡ Some x) × (f x ≡ Some y)
+bind_some (Some x) f y e = (x, refl, e)
+bind_some None f y e = absurd cc
+
+-- ---- labels and their test
+
+is_printable-decides : (a : List ℕ) → (list_all (λ b. nat_le 0x20 b && nat_le b 0x7E) a ≡ true → All (λ b. (0x20 ≤ b) × (b ≤ 0x7E)) a) × (All (λ b. (0x20 ≤ b) × (b ≤ 0x7E)) a → list_all (λ b. nat_le 0x20 b && nat_le b 0x7E) a ≡ true)
+is_printable-decides a =
+    Decides-by_and (λ b. nat_le 0x20 b && nat_le b 0x7E) (λ b. (0x20 ≤ b) × (b ≤ 0x7E)) (list_all (λ b. nat_le 0x20 b && nat_le b 0x7E))
+    (λ b. (
+      λ e. let h = and_parts (nat_le 0x20 b) (nat_le b 0x7E) e in (leb-true 0x20 b h.0, leb-true b 0x7E h.1),
+      λ h. and_from (nat_le 0x20 b) (nat_le b 0x7E) (le-leb 0x20 b h.0) (le-leb b 0x7E h.1),
+    ))
+    refl (λ _ _. refl) a
+
+pub IsLabel-from_test : (a : List ℕ) → is_label a ≡ true → IsLabel a
+IsLabel-from_test a e =
+    let h = and_parts (nat_le 1 (length a) && nat_le (length a) 8000) (list_all (λ b. nat_le 0x20 b && nat_le b 0x7E) a) e in
+    let k = and_parts (nat_le 1 (length a)) (nat_le (length a) 8000) h.0 in
+    record { not_empty = leb-true 1 (length a) k.0; short = leb-true (length a) 8000 k.1; printable = (is_printable-decides a).0 h.1 }
+
+pub test-IsLabel : (a : List ℕ) → IsLabel a → is_label a ≡ true
+test-IsLabel a h =
+    and_from (nat_le 1 (length a) && nat_le (length a) 8000) (list_all (λ b. nat_le 0x20 b && nat_le b 0x7E) a)
+    (and_from (nat_le 1 (length a)) (nat_le (length a) 8000) (le-leb 1 (length a) h.not_empty) (le-leb (length a) 8000 h.short))
+    ((is_printable-decides a).1 h.printable)
+
+-- ---- plain labels
+
+word-range : (b : ℕ) → is_word b ≡ true → (0x20 ≤ b) × (b ≤ 0x7E)
+word-range b e = (grind (arith, nat_tests), grind (arith, nat_tests))
+
+pub letter-word : (b : ℕ) → is_letter b ≡ true → is_word b ≡ true
+letter-word b e = or_left (is_letter b) (is_ascii_digit b) e
+
+pub letter-no_quote : (b : ℕ) → is_letter b ≡ true → (b == 34) ≡ false
+letter-no_quote b e = grind (arith, nat_tests)
+
+pub letter-no_blank : (b : ℕ) → is_letter b ≡ true → is_blank b ≡ false
+letter-no_blank b e = grind (arith, nat_tests)
+
+pub blanks_no_words : FailsBlanks is_word
+blanks_no_words b (inl e) = rw e refl
+blanks_no_words b (inr (inl e)) = rw e refl
+blanks_no_words b (inr (inr e)) = rw e refl
+
+words_printable : (bs : List ℕ) → list_all is_word bs ≡ true → All (λ b. (0x20 ≤ b) × (b ≤ 0x7E)) bs
+words_printable [] e = All-nil (λ b. (0x20 ≤ b) × (b ≤ 0x7E))
+words_printable (b ∷ bs) e =
+    let h = and_parts (is_word b) (list_all is_word bs) e in
+    All-cons (λ b. (0x20 ≤ b) × (b ≤ 0x7E)) b bs (word-range b h.0) (words_printable bs h.1)
+
+-- what a plain label is made of
+pub record Plain (b : ℕ) (bs : List ℕ) : Type 0 where
+  pub letter : is_letter b ≡ true
+  pub words : list_all is_word bs ≡ true
+  pub short : length (b ∷ bs) ≤ 8000
+
+pub Plain-from : (b : ℕ) (bs : List ℕ) → is_plain (b ∷ bs) ≡ true → Plain b bs
+Plain-from b bs e =
+    let h = and_parts (is_letter b && list_all is_word bs) (nat_le (length (b ∷ bs)) 8000) e in
+    let k = and_parts (is_letter b) (list_all is_word bs) h.0 in
+    record { letter = k.0; words = k.1; short = leb-true (length (b ∷ bs)) 8000 h.1 }
+
+plain-test : (b : ℕ) (bs : List ℕ) → Plain b bs → is_plain (b ∷ bs) ≡ true
+plain-test b bs p =
+    and_from (is_letter b && list_all is_word bs) (nat_le (length (b ∷ bs)) 8000)
+    (and_from (is_letter b) (list_all is_word bs) p.letter p.words) (le-leb (length (b ∷ bs)) 8000 p.short)
+
+pub IsLabel-plain : (a : List ℕ) → is_plain a ≡ true → IsLabel a
+IsLabel-plain [] e = absurd cc
+IsLabel-plain (b ∷ bs) e =
+    let p = Plain-from b bs e in
+    record {
+      not_empty = omega arith;
+      short = p.short;
+      printable = All-cons (λ b. (0x20 ≤ b) × (b ≤ 0x7E)) b bs (word-range b (letter-word b p.letter)) (words_printable bs p.words);
+    }
+
+words_in_front : (bs : List ℕ) → list_all is_word (take (word_len bs) bs) ≡ true
+words_in_front [] = refl
+words_in_front (b ∷ bs) =
+    cond_both (is_word b) (1 + word_len bs) 0 (λ n. list_all is_word (take n (b ∷ bs)) ≡ true)
+    (λ e. let one : 1 + word_len bs ≡ suc (word_len bs) = omega arith in rw one (and_from (is_word b) (list_all is_word (take (word_len bs) bs)) e (words_in_front bs)))
+    (λ _. refl)
+
+word_len-words : (bs rest : List ℕ) → list_all is_word bs ≡ true → Stops is_word rest → word_len (bs ++ rest) ≡ length bs
+word_len-words [] [] words stops = refl
+word_len-words [] (c ∷ rest) words stops = rw stops refl
+word_len-words (b ∷ bs) rest words stops =
+    let h = and_parts (is_word b) (list_all is_word bs) words in
+    let more = word_len-words bs rest h.1 stops in
+    let one : 1 + word_len (bs ++ rest) ≡ suc (length bs) = omega (arith, more) in
+    rw h.0 one
+
+pub plain_at-takes : (bytes a rest : List ℕ) → plain_at bytes ≡ Some (a, rest) → (is_plain a ≡ true) × (bytes ≡ a ++ rest)
+unfolding plain_at
+plain_at-takes [] a rest e = absurd cc
+plain_at-takes (b ∷ bs) a rest e =
+    let n = word_len (b ∷ bs) in
+    let h = cond_some (is_letter b && nat_le n 8000) (take n (b ∷ bs), drop n (b ∷ bs)) (a, rest) e in
+    let k = and_parts (is_letter b) (nat_le n 8000) h.0 in
+    let front : take n (b ∷ bs) ≡ a = ap (λ (p : List ℕ × List ℕ). p.0) h.1 in
+    let behind : drop n (b ∷ bs) ≡ rest = ap (λ (p : List ℕ × List ℕ). p.1) h.1 in
+    let one : 1 + word_len bs ≡ suc (word_len bs) = omega arith in
+    let len : n ≡ suc (word_len bs) = rw (letter-word b k.0) one in
+    let label : b ∷ take (word_len bs) bs ≡ a = ap (λ (m : ℕ). take m (b ∷ bs)) (sym len) ∙ front in
+    let small : n ≤ 8000 = leb-true n 8000 k.1 in
+    let short : length (b ∷ take (word_len bs) bs) ≤ 8000 = omega (arith, length-take (word_len bs) bs) in (
+      ap is_plain (sym label) ∙ plain-test b (take (word_len bs) bs) (record { letter = k.0; words = words_in_front bs; short = short }),
+      rw (← front, ← behind) (sym (take-append-drop n (b ∷ bs))),
+    )
+
+pub plain_at-again : (a rest : List ℕ) → is_plain a ≡ true → Stops is_word rest → plain_at (a ++ rest) ≡ Some (a, rest)
+unfolding plain_at
+plain_at-again [] rest e stops = absurd cc
+plain_at-again (b ∷ bs) rest e stops =
+    let p = Plain-from b bs e in
+    let words : list_all is_word (b ∷ bs) ≡ true = and_from (is_word b) (list_all is_word bs) (letter-word b p.letter) p.words in
+    let len : word_len (b ∷ bs ++ rest) ≡ length (b ∷ bs) = word_len-words (b ∷ bs) rest words stops in
+    let P : ℕ → Type 0 = λ n. cond {A = Option (List ℕ × List ℕ)} (is_letter b && nat_le n 8000) (Some (take n (b ∷ bs ++ rest), drop n (b ∷ bs ++ rest))) None ≡ Some (b ∷ bs, rest) in
+    let test : (is_letter b && nat_le (length (b ∷ bs)) 8000) ≡ true = and_from (is_letter b) (nat_le (length (b ∷ bs)) 8000) p.letter (le-leb (length (b ∷ bs)) 8000 p.short) in
+    let whole : P (length (b ∷ bs)) = rw (test, take_at (b ∷ bs) rest (length (b ∷ bs)) refl, drop_at (b ∷ bs) rest (length (b ∷ bs)) refl) refl in
+    subst P (sym len) whole

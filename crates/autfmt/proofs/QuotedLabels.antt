@@ -1,0 +1,127 @@
+-- Reading a quoted label: it ends at the last quotation mark.
+use Rattle.std.proofs.Common.{◌≡◌, ◌≢◌, ℕ, zero, suc, ◌+◌, ◌<◌, false, cond, List, [], ◌∷◌, ◌++◌, length, get_or, take, drop, Option, Some, None, refl, sym, ap, subst, ◌∙◌, append_assoc, add-one, arith}
+use Rattle.std.specs.Prelude.{◌==◌}
+use Rattle.std.specs.List.{AllByRecursion}
+use Rattle.std.proofs.lemmas.Bool.{eqb-true, eq-eqb, ne_eqb}
+use Rattle.std.proofs.lemmas.Option.{cond_some, same_Some}
+use Rattle.std.proofs.lemmas.List.{take_at, drop_at, length_push}
+use Rattle.std.proofs.lemmas.List.Elements.{All-head, All-tail}
+use Rattle.theory.specs.System.{IsLabel}
+use Rattle.autfmt.specs.Grammar.{IsBlank, Blanks, Spaced}
+use Rattle.autfmt.specs.Reading.{last_quote, is_label, quoted_at}
+use Rattle.autfmt.proofs.PlainLabels.{bind_some, IsLabel-from_test, test-IsLabel}
+
+-- no quotation mark stands in the bytes
+abbrev pub HasNoQuote : List ℕ → Type 0
+HasNoQuote bytes = AllByRecursion (λ b. (b == 34) ≡ false) bytes
+
+pub HasNoQuote-append : (xs ys : List ℕ) → HasNoQuote xs → HasNoQuote ys → HasNoQuote (xs ++ ys)
+HasNoQuote-append [] ys h k = k
+HasNoQuote-append (x ∷ xs) ys h k = (h.0, HasNoQuote-append xs ys h.1 k)
+
+blank-no_quote : (b : ℕ) → IsBlank b → (b == 34) ≡ false
+blank-no_quote b h = ne_eqb b 34 (λ e. grind arith)
+
+pub HasNoQuote-blanks : (bs : List ℕ) → Blanks bs → HasNoQuote bs
+HasNoQuote-blanks [] h = tt
+HasNoQuote-blanks (b ∷ bs) h = (blank-no_quote b (All-head IsBlank b bs h), HasNoQuote-blanks bs (All-tail IsBlank b bs h))
+
+-- tokens without one make a line without one
+pub HasNoQuote-spaced : (tokens : List (List ℕ)) (line : List ℕ) → AllByRecursion HasNoQuote tokens → Spaced tokens line → HasNoQuote line
+HasNoQuote-spaced [] line none s = HasNoQuote-blanks line s
+HasNoQuote-spaced (token ∷ tokens) line none s =
+    rw s.3 (HasNoQuote-append (s.0 ++ token) s.1 (HasNoQuote-append s.0 token (HasNoQuote-blanks s.0 s.2) none.0) (HasNoQuote-spaced tokens s.1 none.1 s.4))
+
+-- ---- the last quotation mark
+
+-- what `last_quote` answers at b before bytes where it answers o
+abbrev before : ℕ → Option ℕ → Option ℕ
+before b (Some i) = Some (i + 1)
+before b None = cond (b == 34) (Some 0) None
+
+last_quote-step : (b : ℕ) (bs : List ℕ) (o : Option ℕ) → last_quote bs ≡ o → last_quote (b ∷ bs) ≡ before b o
+unfolding last_quote
+last_quote-step b bs (Some i) e = rw e refl
+last_quote-step b bs None e = rw e refl
+
+last_quote-none : (bs : List ℕ) → HasNoQuote bs → last_quote bs ≡ None
+unfolding last_quote
+last_quote-none [] h = refl
+last_quote-none (b ∷ bs) h = last_quote-step b bs None (last_quote-none bs h.1) ∙ rw h.0 refl
+
+pub last_quote-at : (a rest : List ℕ) → HasNoQuote rest → last_quote (a ++ 34 ∷ rest) ≡ Some (length a)
+last_quote-at [] rest h = last_quote-step 34 rest None (last_quote-none rest h)
+last_quote-at (b ∷ a) rest h =
+    let one : length a + 1 ≡ suc (length a) = add-one (length a) in
+    last_quote-step b (a ++ 34 ∷ rest) (Some (length a)) (last_quote-at a rest h) ∙ ap (λ (n : ℕ). Some n) one
+
+-- bytes before the mark at i, and bytes after it
+abbrev Cuts : List ℕ → ℕ → Type 0
+Cuts bytes i = bytes ≡ take i bytes ++ 34 ∷ drop (i + 1) bytes
+
+Cuts-here : (b : ℕ) (bs : List ℕ) (i : ℕ) → before b None ≡ Some i → Cuts (b ∷ bs) i
+Cuts-here b bs i e =
+    let h = cond_some (b == 34) 0 i e in
+    subst (λ (n : ℕ). Cuts (b ∷ bs) n) h.1 (ap (λ (c : ℕ). c ∷ bs) (eqb-true b 34 h.0))
+
+Cuts-later : (b : ℕ) (bs : List ℕ) (j i : ℕ) → before b (Some j) ≡ Some i → Cuts bs j → Cuts (b ∷ bs) i
+Cuts-later b bs j i e h =
+    let is : suc j ≡ i = sym (add-one j) ∙ same_Some (j + 1) i e in
+    let one : suc j + 1 ≡ suc (j + 1) = omega arith in
+    let whole : Cuts (b ∷ bs) (suc j) = rw one (ap (λ (t : List ℕ). b ∷ t) h) in
+    subst (λ (n : ℕ). Cuts (b ∷ bs) n) is whole
+
+Cuts-by : (b : ℕ) (bs : List ℕ) (o : Option ℕ) (i : ℕ) → ((j : ℕ) → o ≡ Some j → Cuts bs j) → before b o ≡ Some i → Cuts (b ∷ bs) i
+Cuts-by b bs (Some j) i below e = Cuts-later b bs j i e (below j refl)
+Cuts-by b bs None i below e = Cuts-here b bs i e
+
+last_quote-cuts : (bs : List ℕ) (i : ℕ) → last_quote bs ≡ Some i → Cuts bs i
+unfolding last_quote
+last_quote-cuts [] i e = absurd cc
+last_quote-cuts (b ∷ bs) i e =
+    Cuts-by b bs (last_quote bs) i (λ j f. last_quote-cuts bs j f) (sym (last_quote-step b bs (last_quote bs) refl) ∙ e)
+
+-- ---- the last quotation mark by places, as a search from the back finds it
+
+pub last_quote-none_at : (bs : List ℕ) → ((k : ℕ) → k < length bs → get_or bs k 0 ≢ 34) → last_quote bs ≡ None
+unfolding last_quote
+last_quote-none_at [] h = refl
+last_quote-none_at (b ∷ bs) h =
+    let here : (b == 34) ≡ false = ne_eqb b 34 (h 0 (omega arith)) in
+    last_quote-step b bs None (last_quote-none_at bs (λ k lt. h (suc k) (omega arith))) ∙ rw here refl
+
+pub last_quote-is : (bs : List ℕ) (i : ℕ) → i < length bs → get_or bs i 0 ≡ 34 → ((k : ℕ) → i < k → k < length bs → get_or bs k 0 ≢ 34) → last_quote bs ≡ Some i
+last_quote-is [] i lt here after = absurd (omega arith)
+last_quote-is (b ∷ bs) zero lt here after =
+    let none = last_quote-none_at bs (λ k lt. after (suc k) (omega arith) (omega arith)) in
+    last_quote-step b bs None none ∙ rw (eq-eqb b 34 here) refl
+last_quote-is (b ∷ bs) (suc i) lt here after =
+    let more = last_quote-is bs i (omega arith) here (λ k l m. after (suc k) (omega arith) (omega arith)) in
+    last_quote-step b bs (Some i) more ∙ ap (λ (n : ℕ). Some n) (add-one i)
+
+-- ---- the label
+
+pub quoted_at-takes : (bytes a rest : List ℕ) → quoted_at bytes ≡ Some (a, rest) → IsLabel a × (bytes ≡ a ++ 34 ∷ rest)
+unfolding quoted_at
+quoted_at-takes bytes a rest e =
+    let h = bind_some (last_quote bytes) (λ i. cond {A = Option (List ℕ × List ℕ)} (is_label (take i bytes)) (Some (take i bytes, drop (i + 1) bytes)) None) (a, rest) e in
+    let k = cond_some (is_label (take h.0 bytes)) (take h.0 bytes, drop (h.0 + 1) bytes) (a, rest) h.2 in
+    let front : take h.0 bytes ≡ a = ap (λ (p : List ℕ × List ℕ). p.0) k.1 in
+    let behind : drop (h.0 + 1) bytes ≡ rest = ap (λ (p : List ℕ × List ℕ). p.1) k.1 in
+    (subst IsLabel front (IsLabel-from_test (take h.0 bytes) k.0), last_quote-cuts bytes h.0 h.1 ∙ rw (front, behind) refl)
+
+pub quoted_at-again : (a rest : List ℕ) → IsLabel a → HasNoQuote rest → quoted_at (a ++ 34 ∷ rest) ≡ Some (a, rest)
+unfolding quoted_at
+quoted_at-again a rest h none =
+    let behind : drop (length a + 1) (a ++ 34 ∷ rest) ≡ rest = ap (λ (t : List ℕ). drop (length a + 1) t) (sym (append_assoc a (34 ∷ []) rest)) ∙ drop_at (a ++ 34 ∷ []) rest (length a + 1) (length_push a 34) in
+    rw (last_quote-at a rest none, take_at a (34 ∷ rest) (length a) refl, test-IsLabel a h, behind) refl
+
+pub quoted_at-none : (bytes : List ℕ) → ((k : ℕ) → k < length bytes → get_or bytes k 0 ≢ 34) → quoted_at bytes ≡ None
+unfolding quoted_at
+quoted_at-none bytes none = rw (last_quote-none_at bytes none) refl
+
+-- what is answered where the last mark is at i
+pub quoted_at-found : (bytes : List ℕ) (i : ℕ) → i < length bytes → get_or bytes i 0 ≡ 34 → ((k : ℕ) → i < k → k < length bytes → get_or bytes k 0 ≢ 34)
+    → quoted_at bytes ≡ cond {A = Option (List ℕ × List ℕ)} (is_label (take i bytes)) (Some (take i bytes, drop (i + 1) bytes)) None
+unfolding quoted_at
+quoted_at-found bytes i lt here after = rw (last_quote-is bytes i lt here after) refl

@@ -1,0 +1,186 @@
+-- What is written is read again.
+use Rattle.std.proofs.Common.{◌≡◌, ◌≢◌, ℕ, leb, tests, rules, ◌+◌, ◌%◌, ◌<◌, ◌≤◌, ◌^◌, Bool, true, false, cond, List, [], ◌∷◌, ◌++◌, length, map, codes, decimal, refl, sym, ap, ◌∙◌, subst, inl, inr, arith, append_assoc, length-append}
+use Rattle.std.specs.List.{All, AllZip, AllByRecursion, flat_map, list_all}
+use Rattle.std.proofs.lemmas.Fmt.{decimal_by_steps, length-decimal-le}
+use Rattle.std.proofs.lemmas.List.{append-nil}
+use Rattle.std.proofs.lemmas.List.Elements.{All-nil, All-cons, All-append, All-push, All-weaker, All-from_recursion, recursion_from_All}
+use Rattle.std.proofs.lemmas.List.Sums.{AllPass-from_list_all}
+use Rattle.std.proofs.lemmas.List.Sorted.{All-permutation, IsPermutation-sym, length_permutation}
+use Rattle.theory.specs.System.{System, Transition, IsSystem, IsAmong, IsLabel}
+use Rattle.autfmt.specs.Bounds.{Bounds, IsWithinFile}
+use Rattle.autfmt.specs.Grammar.{IsBlank, Blanks, Spaced, Label, Header, is_plain, quoted}
+use Rattle.autfmt.specs.Texts.{IsOneLine, IsShort, SpellsTransition, Reads, with_line_feeds}
+use Rattle.autfmt.specs.Written.{written_label, written_header, written_transition, Text, IsInWrittenOrder}
+
+-- none of these bytes is a line feed
+record Visible (bs : List ℕ) : Type 0 where
+  each : All (λ b. 32 ≤ b) bs
+
+abbrev header_line : System → List ℕ
+header_line A =
+    codes "des (" ++ decimal A.first ++ codes ", " ++ decimal (length A.transitions) ++ codes ", " ++ decimal A.states ++ codes ")"
+
+abbrev transition_line : Transition → List ℕ
+transition_line e =
+    codes "(" ++ decimal e.source ++ codes ", " ++ written_label e.label ++ codes ", " ++ decimal e.target ++ codes ")"
+
+one_line : (bs : List ℕ) → Visible bs → IsOneLine bs
+one_line bs seen = All-weaker (λ b. 32 ≤ b) (λ b. b ≢ 10) (λ b h e. absurd (omega arith)) bs seen.each
+
+visible_append : {xs ys : List ℕ} → Visible xs → Visible ys → Visible (xs ++ ys)
+visible_append a b = record { each = All-append (λ b. 32 ≤ b) _ _ a.each b.each }
+
+-- a literal of the grammar
+literal : (bs : List ℕ) → list_all (λ b. leb 32 b) bs ≡ true → Visible bs
+literal bs h = record { each = All-weaker (λ b. leb 32 b ≡ true) (λ b. 32 ≤ b) (λ b k. search (rules, tests)) bs (AllPass-from_list_all (λ b. leb 32 b) bs h) }
+
+visible_decimal : (n : ℕ) → n < 2 ^ 64 → Visible (decimal n)
+visible_decimal n small =
+    decimal_by_steps (λ n ds. Visible ds)
+    (λ n h. record { each = All-cons (λ b. 32 ≤ b) (48 + n) [] (omega arith) (All-nil (λ b. 32 ≤ b)) })
+    (λ n ds h seen. record { each = All-push (λ b. 32 ≤ b) ds (48 + n % 10) seen.each (omega arith) }) n small
+
+-- how a label is written
+record IsSpelling (a spelling : List ℕ) : Type 0 where
+  label : Label spelling a
+  visible : Visible spelling
+  short : length spelling ≤ 8002
+
+spelled : (a : List ℕ) → IsLabel a → IsSpelling a (written_label a)
+spelled a is = go (is_plain a) refl
+  where
+    seen : Visible a
+    seen = record { each = All-weaker (λ b. (32 ≤ b) × (b ≤ 126)) (λ b. 32 ≤ b) (λ b h. h.0) a is.printable }
+
+    go : (b : Bool) → is_plain a ≡ b → IsSpelling a (cond b a (quoted a))
+    go true e = record { label = inl (e, refl); visible = seen; short = omega (arith, is.short) }
+    go false e = record {
+      label = inr (is, refl);
+      visible = visible_append (visible_append (literal (codes "\"") refl) seen) (literal (codes "\"") refl);
+      short = omega (arith, is.short, length-append a (codes "\""));
+    }
+
+-- the line is the tokens, with blanks between them
+record IsSpaced (tokens : List (List ℕ)) (line : List ℕ) : Type 0 where
+  spaced : Spaced tokens line
+
+next : {rest : List ℕ} {tokens : List (List ℕ)} (before token : List ℕ) → Blanks before → IsSpaced tokens rest → IsSpaced (token ∷ tokens) (before ++ token ++ rest)
+next {rest} before token blank s = record { spaced = (before, rest, blank, refl, s.spaced) }
+
+none : Blanks []
+none = All-nil IsBlank
+
+a_space : Blanks (32 ∷ [])
+a_space = All-from_recursion IsBlank (32 ∷ []) (inl refl, tt)
+
+closed : IsSpaced (codes ")" ∷ []) (codes ")")
+closed = next [] (codes ")") none (record { spaced = none })
+
+-- a comma, a space and a token, and then what follows
+after_comma : {rest : List ℕ} {tokens : List (List ℕ)} (token : List ℕ) → IsSpaced tokens rest → IsSpaced (codes "," ∷ token ∷ tokens) (codes "," ++ (codes " " ++ token ++ rest))
+after_comma token s = next [] (codes ",") none (next (codes " ") token a_space s)
+
+spaced_transition : (s l t : List ℕ)
+    → Spaced (codes "(" ∷ s ∷ codes "," ∷ l ∷ codes "," ∷ t ∷ codes ")" ∷ []) (codes "(" ++ s ++ codes ", " ++ l ++ codes ", " ++ t ++ codes ")")
+spaced_transition s l t =
+    let nested = next [] (codes "(") none (next [] s none (after_comma l (after_comma t closed))) in
+    subst (Spaced (codes "(" ∷ s ∷ codes "," ∷ l ∷ codes "," ∷ t ∷ codes ")" ∷ [])) (simp append_assoc) nested.spaced
+
+spaced_header : (f m n : List ℕ)
+    → Spaced (codes "des" ∷ codes "(" ∷ f ∷ codes "," ∷ m ∷ codes "," ∷ n ∷ codes ")" ∷ []) (codes "des (" ++ f ++ codes ", " ++ m ++ codes ", " ++ n ++ codes ")")
+spaced_header f m n =
+    let nested = next [] (codes "des") none (next (codes " ") (codes "(") a_space (next [] f none (after_comma m (after_comma n closed)))) in
+    subst (Spaced (codes "des" ∷ codes "(" ∷ f ∷ codes "," ∷ m ∷ codes "," ∷ n ∷ codes ")" ∷ [])) (simp append_assoc) nested.spaced
+
+-- a written line, as a reader sees it
+record IsLine (line : List ℕ) : Type 0 where
+  one : IsOneLine line
+  short : IsShort line
+
+transition_is_line : (n : ℕ) → n < 10 ^ 10 → (e : Transition) → IsAmong n e → IsLine (transition_line e)
+transition_is_line n small e among =
+    let spelling = spelled e.label among.label in
+    let source : e.source < 10 ^ 10 = omega (arith, among.source) in
+    let target : e.target < 10 ^ 10 = omega (arith, among.target) in
+    let comma = literal (codes ", ") refl in
+    record {
+      one = one_line _ (visible_append (visible_append (visible_append (visible_append (visible_append (visible_append
+          (literal (codes "(") refl) (visible_decimal e.source (omega arith))) comma) spelling.visible) comma) (visible_decimal e.target (omega arith))) (literal (codes ")") refl));
+      short = simp length-append (omega (arith, length-decimal-le 10 e.source (omega arith) source (omega arith), length-decimal-le 10 e.target (omega arith) target (omega arith), spelling.short));
+    }
+
+header_is_line : (A : System) → A.first < 10 ^ 10 → length A.transitions < 10 ^ 10 → A.states < 10 ^ 10 → IsLine (header_line A)
+header_is_line A first transitions states =
+    let comma = literal (codes ", ") refl in
+    record {
+      one = one_line _ (visible_append (visible_append (visible_append (visible_append (visible_append (visible_append
+          (literal (codes "des (") refl) (visible_decimal A.first (omega arith))) comma) (visible_decimal (length A.transitions) (omega arith))) comma) (visible_decimal A.states (omega arith))) (literal (codes ")") refl));
+      short = simp length-append (omega (arith, length-decimal-le 10 A.first (omega arith) first (omega arith), length-decimal-le 10 (length A.transitions) (omega arith) transitions (omega arith), length-decimal-le 10 A.states (omega arith) states (omega arith)));
+    }
+
+spells_transition : (n : ℕ) → n < 10 ^ 10 → (e : Transition) → IsAmong n e → SpellsTransition (transition_line e) e
+spells_transition n small e among = (
+  (transition_is_line n small e among).short,
+  (decimal e.source, written_label e.label, decimal e.target, (omega (arith, among.source), refl), (spelled e.label among.label).label, (omega (arith, among.target), refl), spaced_transition _ _ _),
+)
+
+module _ (n : ℕ) (small : n < 10 ^ 10) where
+  spells_transitions : (es : List Transition) → AllByRecursion (IsAmong n) es → AllZip SpellsTransition (map transition_line es) es
+  spells_transitions [] among = tt
+  spells_transitions (e ∷ es) among = (spells_transition n small e among.0, spells_transitions es among.1)
+
+  one_lines : (es : List Transition) → AllByRecursion (IsAmong n) es → All IsOneLine (map transition_line es)
+  one_lines [] among = All-nil IsOneLine
+  one_lines (e ∷ es) among = All-cons IsOneLine _ _ (transition_is_line n small e among.0).one (one_lines es among.1)
+
+-- a written line is the line and its line feed
+line_and_feed : (e : Transition) → written_transition e ≡ transition_line e ++ 10 ∷ []
+line_and_feed e =
+    sym (append_assoc (codes "(" ++ decimal e.source ++ codes ", " ++ written_label e.label ++ codes ", " ++ decimal e.target) (codes ")") (10 ∷ []))
+
+header_and_feed : (A : System) → written_header A ≡ header_line A ++ 10 ∷ []
+header_and_feed A =
+    sym (append_assoc (codes "des (" ++ decimal A.first ++ codes ", " ++ decimal (length A.transitions) ++ codes ", " ++ decimal A.states) (codes ")") (10 ∷ []))
+
+fed : (es : List Transition) → flat_map written_transition es ≡ with_line_feeds (map transition_line es)
+fed [] = refl
+fed (e ∷ es) =
+    ap (λ bs. bs ++ flat_map written_transition es) (line_and_feed e) ∙ ap (λ bs. (transition_line e ++ 10 ∷ []) ++ bs) (fed es)
+
+pub text_is_read_again : (bounds : Bounds) (A : System) (t : List ℕ) → IsWithinFile bounds → IsSystem A → A.states ≤ bounds.states → length A.transitions ≤ bounds.transitions
+    → Text A t → (B : System) × IsInWrittenOrder A B × Reads bounds t B
+text_is_read_again bounds A t within system states transitions (es, (same, up), is) =
+    let small : A.states < 10 ^ 10 = omega (arith, within.states) in
+    let few : length A.transitions < 10 ^ 10 = omega (arith, within.transitions) in
+    let low : A.first < 10 ^ 10 = omega (arith, system.first) in
+    let among = All-permutation (IsAmong A.states) A.transitions es (IsPermutation-sym _ _ same) system.transitions in
+    let each = recursion_from_All (IsAmong A.states) es among in
+    let as_many : length A.transitions ≡ length es = length_permutation es A.transitions same in
+    let B : System = record { first = A.first; states = A.states; transitions = es } in
+    let head = header_is_line A low few small in
+    let spells_header : Header (header_line A) A.first (length A.transitions) A.states =
+    (decimal A.first, decimal (length A.transitions), decimal A.states, (low, refl), (few, refl), (small, refl), spaced_header _ _ _) in
+    let whole : t ≡ with_line_feeds (header_line A ∷ map transition_line es) ++ [] =
+    is ∙ ap (λ bs. bs ++ flat_map written_transition es) (header_and_feed A) ∙ ap (λ bs. (header_line A ++ 10 ∷ []) ++ bs) (fed es) ∙ sym (append-nil _) in (
+      B,
+      record { first = refl; states = refl; order = (same, up) },
+      record {
+        spelled = (
+          header_line A ∷ map transition_line es,
+          (
+            header_line A ∷ map transition_line es,
+            [],
+            record {
+              whole = whole;
+              lines = All-cons IsOneLine _ _ head.one (one_lines A.states small es each);
+              one = All-nil (λ b. b ≢ 10);
+            },
+            sym (append-nil _),
+          ),
+          (head.short, subst (λ m. Header (header_line A) A.first m A.states) as_many spells_header, spells_transitions A.states small es each),
+        );
+        system = record { first = system.first; transitions = among };
+        states = states;
+        transitions = omega arith;
+      },
+    )

@@ -1,0 +1,294 @@
+-- The steps of the reader of a system: what each one leaves, and why it may refuse.
+use Rattle.std.proofs.Common.{◌≡◌, ◌⊎◌, ℕ, ◌+◌, ◌-◌, ◌<◌, ◌≤◌, Bool, true, false, List, [], ◌∷◌, ◌++◌, length, vec_len, Option, None, Some, IfSome, Result, Ok, Err, refl, sym, ◌∙◌, ap, subst, inl, inr, arith, All}
+use Rattle.std.proofs.lemmas.List.{append_assoc, append-nil, length-append}
+use Rattle.std.proofs.lemmas.List.Elements.{All-nil}
+use Rattle.std.specs.Io.KnownBytes.{IsAtEnd}
+use Rattle.theory.specs.System.{Transition, IsAmong, IsLabel}
+use Rattle.autfmt.specs.declared.fault.Fault.{Fault}
+use Rattle.autfmt.specs.declared.fault.Fault.TheVariants.{BadHeader, LineTooLong, MissingEdges, ExtraText, Device, Memory}
+use Rattle.autfmt.specs.declared.cutter.Step.{Step}
+use Rattle.autfmt.specs.declared.cutter.Step.TheVariants.{Line, TooLong, End}
+use Rattle.autfmt.specs.declared.held.Held.{Held}
+use Rattle.autfmt.specs.declared.judge.Promise.{Promise}
+use Rattle.autfmt.specs.Bounds.{Bounds}
+use Rattle.autfmt.specs.Grammar.{TransitionLine}
+use Rattle.autfmt.specs.Texts.{Cuts, Lines, IsOneLine, IsShort, Reads}
+use Rattle.autfmt.specs.Faults.{HeaderFault, GoodHeader, EdgeFault, FaultFrom, Missing, FirstFault}
+use Rattle.autfmt.specs.Cutter.{Cutting, Stands, CutsLine, CutsEnd, BeginsTooLong, IsPart}
+use Rattle.autfmt.specs.Held.{Holds}
+use Rattle.autfmt.specs.Readers.{IsTextFault, HasGoodHeader, Refuses, ReadSoFar}
+use Rattle.autfmt.specs.Readers.Refuses.{want_of_memory, failed_device, faulty_text}
+use Rattle.autfmt.proofs.Cutting.{IsNoFeed}
+use Rattle.autfmt.proofs.FaultLaws.{GoodLines, GoodLines-length, GoodLines-push, Reads-from_lines}
+use Rattle.autfmt.proofs.JudgedLaws.{no_judged_header, no_judged_fault, FirstFault-behind}
+use Rattle.autfmt.proofs.Holding.{Holds-length}
+use Rattle.autfmt.proofs.Standing.{Stands-new, Stands-line, Stands-lines, Stands-too_long, Stands-end, Stands-more, Stands-cut}
+
+-- a cutter that has taken nothing
+abbrev pub fresh : Cutting
+fresh = record { line = []; ahead = []; over = false }
+
+pub Stands-fresh : (old : Cutting) → old ≡ fresh → Stands [] [] old
+Stands-fresh old e = subst (λ (c : Cutting). Stands [] [] c) (sym e) Stands-new
+
+pub fresh_goes_on : (old : Cutting) → old ≡ fresh → old.over ≡ true → ⊥
+fresh_goes_on old e over = let f = ap (λ (c : Cutting). c.over) e in cc
+
+-- what holds of the bytes to come, where they are told
+pub if_told : (rest : Option (List ℕ)) (P : List ℕ → Type 0) → ((more : List ℕ) → rest ≡ Some more → P more) → IfSome rest P
+if_told None P holds = tt
+if_told (Some more) P holds = holds more refl
+
+-- at the end no bytes are to come
+pub none_to_come : (rest : Option (List ℕ)) (more : List ℕ) → rest ≡ Some more → IsAtEnd rest → more ≡ []
+none_to_come rest more e end = subst (λ (o : Option (List ℕ)). IsAtEnd o) e end
+
+-- line 1 is too long
+pub header_too_long :
+    (bounds : Bounds) (old : Cutting) (got : List ℕ) (rest : Option (List ℕ)) (failures : ℕ) → old ≡ fresh → failures ≡ 0 →
+    BeginsTooLong (old.ahead ++ got) → Refuses bounds got rest failures (LineTooLong 1)
+header_too_long bounds old got rest failures e sound long =
+    faulty_text sound tt
+    (if_told rest (λ more. FirstFault bounds (got ++ more) (LineTooLong 1))
+    (λ more told.
+    let (line, others, big, l) = Stands-too_long [] got more [] old (Stands-fresh old e) (fresh_goes_on old e) long in
+    (line ∷ others, l, inl (refl, big))))
+
+-- there is no line 1
+pub header_missing :
+    (bounds : Bounds) (old now : Cutting) (got : List ℕ) (rest : Option (List ℕ)) (failures : ℕ) → old ≡ fresh → failures ≡ 0 →
+    (now.over ≡ true → IsAtEnd rest) → CutsEnd (old.ahead ++ got) now → Refuses bounds got rest failures BadHeader
+header_missing bounds old now got rest failures e sound end cuts =
+    faulty_text sound tt
+    (if_told rest (λ more. FirstFault bounds (got ++ more) BadHeader)
+    (λ more told.
+    let none = none_to_come rest more told (end cuts.over) in
+    let l = Stands-end [] got [] old (Stands-fresh old e) cuts.none in
+    let l' = subst (λ (t : List ℕ). Lines t []) (sym (append-nil got) ∙ ap (λ (t : List ℕ). got ++ t) (sym none)) l in
+    ([], l', refl)))
+
+-- the source failed before line 1 had ended
+pub header_failed :
+    (bounds : Bounds) (old : Cutting) (got : List ℕ) (rest : Option (List ℕ)) (failures : ℕ) → old ≡ fresh → failures ≡ 1 →
+    IsPart (old.ahead ++ got) → Refuses bounds got rest failures Device
+header_failed bounds old got rest failures e failed part =
+    let a : old.ahead ++ got ≡ got = ap (λ (c : Cutting). c.ahead ++ got) e in
+    let p = subst (λ (t : List ℕ). IsPart t) a part in
+    failed_device failed refl (λ f. no_judged_header bounds got f p.0 p.1)
+
+-- line 1 is good
+pub header_good :
+    (bounds : Bounds) (old now : Cutting) (got : List ℕ) (p : Promise) → old ≡ fresh → CutsLine (old.ahead ++ got) now →
+    GoodHeader bounds now.line p.first p.transitions p.states → ReadSoFar bounds got now p []
+header_good bounds old now got p e cuts good = record {
+  header = now.line;
+  lines = [];
+  stands = Stands-line [] got [] old now (Stands-fresh old e) (fresh_goes_on old e) cuts;
+  good = good;
+  spelled = tt;
+  among = All-nil (IsAmong p.states);
+}
+
+-- line 1 is faulty
+pub header_faulty :
+    (bounds : Bounds) (old now : Cutting) (got : List ℕ) (rest : Option (List ℕ)) (failures : ℕ) (fault : Fault) →
+    old ≡ fresh → failures ≡ 0 → (now.over ≡ true → IsAtEnd rest) → CutsLine (old.ahead ++ got) now →
+    HeaderFault bounds now.line fault → IsTextFault fault → Refuses bounds got rest failures fault
+header_faulty bounds old now got rest failures fault e sound end cuts bad kind =
+    faulty_text sound kind
+    (if_told rest (λ more. FirstFault bounds (got ++ more) fault)
+    (λ more told.
+    let s = Stands-line [] got [] old now (Stands-fresh old e) (fresh_goes_on old e) cuts in
+    let (others, l) = Stands-lines got more (now.line ∷ []) now s (λ over. none_to_come rest more told (end over)) in
+    (now.line ∷ others, l, inl bad)))
+
+-- the lines read so far are good
+pub good_lines :
+    (bounds : Bounds) (given : List ℕ) (at : Cutting) (p : Promise) (es : List Transition) →
+    (so_far : ReadSoFar bounds given at p es) → GoodLines p.states so_far.lines es
+good_lines bounds given at p es so_far = record { spelled = so_far.spelled; among = so_far.among }
+
+-- the lines of a text behind those read so far
+pub fault_behind :
+    (bounds : Bounds) (given : List ℕ) (at : Cutting) (p : Promise) (es : List Transition) (whole : List ℕ)
+    (others : List (List ℕ)) (fault : Fault) →
+    (so_far : ReadSoFar bounds given at p es) → length es ≤ p.transitions →
+    Lines whole (so_far.header ∷ so_far.lines ++ others) →
+    FaultFrom p.transitions p.states (Missing p.transitions) (2 + length es) others fault → FirstFault bounds whole fault
+fault_behind bounds given at p es whole others fault so_far few l h =
+    let edges = good_lines bounds given at p es so_far in
+    let e = GoodLines-length p.states so_far.lines es edges in
+    FirstFault-behind bounds whole so_far.header so_far.lines others p.first p.transitions p.states es fault l so_far.good edges
+    (omega arith)
+    (subst (λ (k : ℕ). FaultFrom p.transitions p.states (Missing p.transitions) (2 + k) others fault) (sym e) h)
+
+-- the next line is too long
+pub transition_too_long :
+    (bounds : Bounds) (given : List ℕ) (old : Cutting) (p : Promise) (es : List Transition) (got : List ℕ)
+    (rest : Option (List ℕ)) (failures found : ℕ) →
+    ReadSoFar bounds given old p es → length es ≡ found → found < p.transitions → failures ≡ 0 → (old.over ≡ true → ⊥) →
+    BeginsTooLong (old.ahead ++ got) → Refuses bounds (given ++ got) rest failures (LineTooLong (found + 2))
+transition_too_long bounds given old p es got rest failures found so_far count promised sound goes_on long =
+    faulty_text sound tt
+    (if_told rest (λ more. FirstFault bounds (given ++ got ++ more) (LineTooLong (found + 2)))
+    (λ more told.
+    let (line, others, big, l) =
+    Stands-too_long given got more (so_far.header ∷ so_far.lines) old so_far.stands goes_on long in
+    fault_behind bounds given old p es (given ++ got ++ more) (line ∷ others) (LineTooLong (found + 2)) so_far (omega arith) l
+    (inl (omega arith, omega arith, big))))
+
+-- transitions are missing
+pub transition_missing :
+    (bounds : Bounds) (given : List ℕ) (old now : Cutting) (p : Promise) (es : List Transition) (got : List ℕ)
+    (rest : Option (List ℕ)) (failures found : ℕ) →
+    ReadSoFar bounds given old p es → length es ≡ found → found < p.transitions → failures ≡ 0 →
+    (now.over ≡ true → IsAtEnd rest) → CutsEnd (old.ahead ++ got) now →
+    Refuses bounds (given ++ got) rest failures (MissingEdges found)
+transition_missing bounds given old now p es got rest failures found so_far count promised sound end cuts =
+    faulty_text sound tt
+    (if_told rest (λ more. FirstFault bounds (given ++ got ++ more) (MissingEdges found))
+    (λ more told.
+    let none = none_to_come rest more told (end cuts.over) in
+    let l = Stands-end given got (so_far.header ∷ so_far.lines) old so_far.stands cuts.none in
+    let same : given ++ got ≡ given ++ got ++ more =
+    sym (append-nil (given ++ got)) ∙ ap (λ (t : List ℕ). given ++ got ++ t) (sym none) in
+    let l' =
+    subst (λ (t : List ℕ). Lines t (so_far.header ∷ so_far.lines ++ [])) same
+    (subst (λ (ls : List (List ℕ)). Lines (given ++ got) (so_far.header ∷ ls)) (sym (append-nil so_far.lines)) l) in
+    let k : found ≡ 2 + length es - 2 = omega arith in
+    fault_behind bounds given old p es (given ++ got ++ more) [] (MissingEdges found) so_far (omega arith) l'
+    (omega arith, ap MissingEdges k)))
+
+-- the source failed where a line has not ended
+pub transition_failed :
+    (bounds : Bounds) (given : List ℕ) (old : Cutting) (p : Promise) (es : List Transition) (got : List ℕ)
+    (rest : Option (List ℕ)) (failures : ℕ) →
+    ReadSoFar bounds given old p es → length es ≤ p.transitions → (length es < p.transitions) ⊎ (length (old.ahead ++ got) ≡ 0) →
+    failures ≡ 1 → (old.over ≡ true → ⊥) → IsPart (old.ahead ++ got) → Refuses bounds (given ++ got) rest failures Device
+transition_failed bounds given old p es got rest failures so_far few unjudged failed goes_on part =
+    let edges = good_lines bounds given old p es so_far in
+    let e = GoodLines-length p.states so_far.lines es edges in
+    let c = Stands-cut given got (so_far.header ∷ so_far.lines) old so_far.stands goes_on part.0 in
+    failed_device failed refl
+    (λ f. no_judged_fault bounds (given ++ got) so_far.header so_far.lines (old.ahead ++ got) p.first p.transitions p.states es f
+    c so_far.good edges (omega arith) part.1
+    (subst (λ (k : ℕ). (k < p.transitions) ⊎ (length (old.ahead ++ got) ≡ 0)) (sym e) unjudged))
+
+-- the next line is a good transition
+pub transition_good :
+    (bounds : Bounds) (given : List ℕ) (old now : Cutting) (p : Promise) (es : List Transition) (got : List ℕ) (e : Transition) →
+    ReadSoFar bounds given old p es → (old.over ≡ true → ⊥) → CutsLine (old.ahead ++ got) now →
+    TransitionLine now.line e.source e.label e.target → IsAmong p.states e →
+    ReadSoFar bounds (given ++ got) now p (es ++ e ∷ [])
+transition_good bounds given old now p es got e so_far goes_on cuts spelled among =
+    let edges =
+    GoodLines-push p.states so_far.lines es now.line e (good_lines bounds given old p es so_far) (cuts.short, spelled) among in
+    record {
+      header = so_far.header;
+      lines = so_far.lines ++ now.line ∷ [];
+      stands = Stands-line given got (so_far.header ∷ so_far.lines) old now so_far.stands goes_on cuts;
+      good = so_far.good;
+      spelled = edges.spelled;
+      among = edges.among;
+    }
+
+-- the next line is a faulty transition
+pub transition_faulty :
+    (bounds : Bounds) (given : List ℕ) (old now : Cutting) (p : Promise) (es : List Transition) (got : List ℕ)
+    (rest : Option (List ℕ)) (failures found : ℕ) (fault : Fault) →
+    ReadSoFar bounds given old p es → length es ≡ found → found < p.transitions → failures ≡ 0 → (old.over ≡ true → ⊥) →
+    (now.over ≡ true → IsAtEnd rest) → CutsLine (old.ahead ++ got) now →
+    EdgeFault p.transitions p.states (found + 2) now.line fault → IsTextFault fault →
+    Refuses bounds (given ++ got) rest failures fault
+transition_faulty bounds given old now p es got rest failures found fault so_far count promised sound goes_on end cuts bad kind =
+    faulty_text sound kind
+    (if_told rest (λ more. FirstFault bounds (given ++ got ++ more) fault)
+    (λ more told.
+    let s = Stands-line given got (so_far.header ∷ so_far.lines) old now so_far.stands goes_on cuts in
+    let (others, l) =
+    Stands-lines (given ++ got) more ((so_far.header ∷ so_far.lines) ++ now.line ∷ []) now s
+    (λ over. none_to_come rest more told (end over)) in
+    let l' =
+    subst (λ (ls : List (List ℕ)). Lines (given ++ got ++ more) (so_far.header ∷ ls))
+    (append_assoc so_far.lines (now.line ∷ []) others) l in
+    let k : found + 2 ≡ 2 + length es = omega arith in
+    fault_behind bounds given old p es (given ++ got ++ more) (now.line ∷ others) fault so_far (omega arith) l'
+    (inl (subst (λ (j : ℕ). EdgeFault p.transitions p.states j now.line fault) k bad))))
+
+-- there was no memory for the transition of the next line
+pub transition_refused :
+    (bounds : Bounds) (given : List ℕ) (old now : Cutting) (p : Promise) (es : List Transition) (got : List ℕ)
+    (rest : Option (List ℕ)) (failures : ℕ) →
+    ReadSoFar bounds given old p es → failures ≡ 0 → (old.over ≡ true → ⊥) → (now.over ≡ true → IsAtEnd rest) →
+    CutsLine (old.ahead ++ got) now → Refuses bounds (given ++ got) rest failures Memory
+transition_refused bounds given old now p es got rest failures so_far sound goes_on end cuts =
+    want_of_memory sound refl
+    (if_told rest (λ more. HasGoodHeader bounds (given ++ got ++ more))
+    (λ more told.
+    let s = Stands-line given got (so_far.header ∷ so_far.lines) old now so_far.stands goes_on cuts in
+    let (others, l) =
+    Stands-lines (given ++ got) more ((so_far.header ∷ so_far.lines) ++ now.line ∷ []) now s
+    (λ over. none_to_come rest more told (end over)) in
+    (so_far.header, so_far.lines ++ now.line ∷ [] ++ others, p.first, p.transitions, p.states, l, so_far.good)))
+
+-- more stands behind the promised transitions
+pub text_behind :
+    (bounds : Bounds) (given : List ℕ) (old : Cutting) (p : Promise) (es : List Transition) (got : List ℕ)
+    (rest : Option (List ℕ)) (failures : ℕ) →
+    ReadSoFar bounds given old p es → length es ≡ p.transitions → failures ≡ 0 → (old.over ≡ true → ⊥) →
+    1 ≤ length (old.ahead ++ got) → Refuses bounds (given ++ got) rest failures (ExtraText (p.transitions + 2))
+text_behind bounds given old p es got rest failures so_far count sound goes_on some =
+    faulty_text sound tt
+    (if_told rest (λ more. FirstFault bounds (given ++ got ++ more) (ExtraText (p.transitions + 2)))
+    (λ more told.
+    let (line, others, l) = Stands-more given got more (so_far.header ∷ so_far.lines) old so_far.stands goes_on some in
+    fault_behind bounds given old p es (given ++ got ++ more) (line ∷ others) (ExtraText (p.transitions + 2)) so_far (omega arith)
+    l (inl (omega arith, omega arith))))
+
+-- all promised transitions were read, and the text ends
+pub text_ends :
+    (bounds : Bounds) (given : List ℕ) (old : Cutting) (p : Promise) (es : List Transition) (got : List ℕ) →
+    ReadSoFar bounds given old p es → length es ≡ p.transitions → old.ahead ++ got ≡ [] →
+    Reads bounds (given ++ got) (record { first = p.first; states = p.states; transitions = es })
+text_ends bounds given old p es got so_far count none =
+    let edges = good_lines bounds given old p es so_far in
+    let e = GoodLines-length p.states so_far.lines es edges in
+    let l = Stands-end given got (so_far.header ∷ so_far.lines) old so_far.stands none in
+    Reads-from_lines bounds (given ++ got) so_far.header so_far.lines p.first p.transitions p.states es l so_far.good edges
+    (e ∙ count)
+
+-- a step that is not the end was made before the end of the source
+pub goes_on-step :
+    {E : Type 0} (over : Bool) (result : Result Step E) (step other : Step) → (over ≡ true → result ≡ Ok End) → result ≡ Ok step →
+    step ≡ other → (End ≡ other → ⊥) → over ≡ true → ⊥
+goes_on-step over result step other after is same differs o =
+    let a = after o in
+    let b = sym a ∙ is in
+    let d : End ≡ step = cc in
+    differs (d ∙ same)
+
+-- a failure came before the end of the source
+pub goes_on-failure :
+    {E : Type 0} (over : Bool) (result : Result Step E) (broken : E) → (over ≡ true → result ≡ Ok End) → result ≡ Err broken →
+    over ≡ true → ⊥
+goes_on-failure over result broken after is o =
+    let a = after o in
+    let b = sym a ∙ is in
+    cc
+
+-- as many transitions were read as triples are held
+pub count_held :
+    (H : List (List ℕ)) (n : ℕ) (held : Held) (es : List Transition) (found : ℕ) → Holds H n held es →
+    found ≡ vec_len held.triples → length es ≡ found
+count_held H n held es found holds count = sym (Holds-length H n held es holds) ∙ sym (held.triples.ok.0) ∙ sym count
+
+-- the source failed behind the promised transitions
+pub end_failed :
+    (bounds : Bounds) (given : List ℕ) (old : Cutting) (p : Promise) (es : List Transition) (got : List ℕ)
+    (rest : Option (List ℕ)) (failures : ℕ) →
+    ReadSoFar bounds given old p es → length es ≡ p.transitions → failures ≡ 1 → (old.over ≡ true → ⊥) →
+    old.ahead ++ got ≡ [] → Refuses bounds (given ++ got) rest failures Device
+end_failed bounds given old p es got rest failures so_far count failed goes_on none =
+    let part : IsPart (old.ahead ++ got) =
+    subst (λ (t : List ℕ). IsPart t) (sym none) (All-nil IsNoFeed, omega arith) in
+    transition_failed bounds given old p es got rest failures so_far (omega arith) (inr (ap length none)) failed goes_on part

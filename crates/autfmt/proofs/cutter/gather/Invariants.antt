@@ -1,0 +1,15 @@
+use Rattle.std.proofs.Common.{◌≡◌, ℕ, ◌+◌, ◌-◌, ◌≤◌, List, ◌++◌, length}
+use Rattle.std.specs.Io.KnownBytes.{Consumes}
+use Rattle.autfmt.specs.Cutter.{IsPart}
+use Rattle.autfmt.proofs.cutter.gather.Given as goal
+
+abbrev pub invariant-loop-n : goal.invariant-loop-n
+invariant-loop-n g l = record {
+  got : (bs : List ℕ) × Consumes (g.R.Source.rest l.initial.r) (g.R.Source.rest l.r) bs × (l.kept ≡ l.initial.kept ++ bs);
+  part : IsPart l.kept;
+  sound : g.R.Source.failures l.r ≡ 0;
+  room : length l.piece ≡ 4096;
+}
+
+abbrev pub decreases-loop-n : goal.decreases-loop-n
+decreases-loop-n g l = 8192 - length l.kept

@@ -1,0 +1,14 @@
+use Rattle.std.proofs.Common.{◌∙◌, ap, List, ℕ, ◌++◌, ◌∷◌, []}
+use Rattle.lts.specs.Lts.{Triple}
+use Rattle.autfmt.proofs.Holding.{Interns-length}
+use Rattle.autfmt.proofs.held.Held.add.Goals as goal
+
+pub returns-clause-added : goal.returns-clause-added
+returns-clause-added c =
+    let k = c.in_ok-number.number in (
+      k,
+      c.in_ok-number.ensures.number,
+      c.in_ok-number.ensures.keeps,
+      Interns-length c.args.self.now.labels c.args.label.now c.intern.new.self c.in_ok-number.ensures.table,
+      c.in_ok-push.ensures.items ∙ ap (λ (es : List Triple). es ++ (c.args.source, k, c.args.target) ∷ []) c.in_ok-make_room.ensures.items,
+    )

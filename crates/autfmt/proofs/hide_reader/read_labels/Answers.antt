@@ -1,0 +1,100 @@
+use Rattle.std.proofs.Common.{◌≡◌, ◌+◌, ◌≤◌, ℕ, true, false, List, [], ◌∷◌, ◌++◌, length, ◌∙◌, sym, ap, subst, refl, arith}
+use Rattle.std.proofs.lemmas.List.{length_push}
+use Rattle.std.proofs.KnownBytes.{Consumes-nil, Consumes-trans}
+use Rattle.autfmt.specs.Cutter.{Cutting}
+use Rattle.autfmt.proofs.HideSteps.{HideReadSoFar-new, hide_ends, hide_behind, hide_end_failed}
+use Rattle.autfmt.proofs.ReaderSteps.{fresh_goes_on}
+use Rattle.autfmt.proofs.hide_reader.read_labels.Goals as goal
+
+pub loop-found-init : goal.loop-found-init
+loop-found-init g c = record {
+  got = (
+    [],
+    Consumes-nil (g.R.Source.rest c.args.r.now),
+    [],
+    HideReadSoFar-new c.new-cutter.result c.none-hidden.result c.new-cutter.ensures c.none-hidden.ensures,
+    refl,
+  );
+  few = let e = ap length c.none-hidden.ensures in omega arith;
+  sound = c.requires;
+  end = λ over. absurd (fresh_goes_on c.new-cutter.result c.new-cutter.ensures over);
+}
+
+pub returns-in-Ok-false-clause-answer : goal.returns-in-Ok-false-clause-answer
+returns-in-Ok-false-clause-answer g c =
+    let so_far = c.loop-found.invariant.got in
+    let step = rw c.in-Ok-false.field-0-test at c.in-Ok-false.ensures.line in (
+      so_far.0 ++ step.0,
+      Consumes-trans (g.R.Source.rest c.args.r.now) (g.R.Source.rest c.loop-found.r) (g.R.Source.rest c.read_hide_line.new.r)
+          so_far.0 step.0 so_far.1 step.1,
+      step.2 so_far.0 so_far.2 so_far.3 so_far.4,
+    )
+
+pub returns-in-Err-clause-answer : goal.returns-in-Err-clause-answer
+returns-in-Err-clause-answer g c =
+    let so_far = c.loop-found.invariant.got in
+    let step = c.in-Err.ensures.line in (
+      so_far.0 ++ step.0,
+      Consumes-trans (g.R.Source.rest c.args.r.now) (g.R.Source.rest c.loop-found.r) (g.R.Source.rest c.read_hide_line.new.r)
+          so_far.0 step.0 so_far.1 step.1,
+      step.2 so_far.0 so_far.2 so_far.3 so_far.4,
+    )
+
+pub loop-found-preserved : goal.loop-found-preserved
+loop-found-preserved g c =
+    let so_far = c.loop-found.invariant.got in
+    let step = rw c.in-Ok-true.field-0-test at c.in-Ok-true.ensures.line in
+    let next = step.2 so_far.0 so_far.2 so_far.3 so_far.4 in
+    let count = so_far.4 in
+    record {
+      got = (
+        so_far.0 ++ step.0,
+        Consumes-trans (g.R.Source.rest c.args.r.now) (g.R.Source.rest c.loop-found.r) (g.R.Source.rest c.read_hide_line.new.r)
+            so_far.0 step.0 so_far.1 step.1,
+        so_far.2 ++ next.0 ∷ [],
+        next.1,
+        length_push so_far.2 next.0 ∙ ap (λ (n : ℕ). n + 1) count,
+      );
+      few = c.in-Ok-true.ensures.few;
+      sound = c.in-Ok-true.ensures.sound;
+      end = c.in-Ok-true.ensures.end;
+    }
+
+pub returns-in-Ok-true-is_at_end-clause-answer : goal.returns-in-Ok-true-is_at_end-clause-answer
+returns-in-Ok-true-is_at_end-clause-answer g c =
+    let so_far = c.loop-found.invariant.got in
+    let last = rw c.in-Ok-true-is_at_end.field-0-test at c.in-Ok-true-is_at_end.ensures.look in
+    let count = so_far.4 in (
+      so_far.0 ++ last.0,
+      Consumes-trans (g.R.Source.rest c.args.r.now) (g.R.Source.rest c.loop-found.r) (g.R.Source.rest c.is_at_end.new.r)
+          so_far.0 last.0 so_far.1 last.1,
+      hide_ends so_far.0 c.loop-found.cutter so_far.2 c.loop-found.hidden last.0 so_far.3 (omega arith) (last.2.2 refl),
+    )
+
+pub returns-in-Ok-false-is_at_end-clause-answer : goal.returns-in-Ok-false-is_at_end-clause-answer
+returns-in-Ok-false-is_at_end-clause-answer g c =
+    let so_far = c.loop-found.invariant.got in
+    let last = rw c.in-Ok-false-is_at_end.field-0-test at c.in-Ok-false-is_at_end.ensures.look in
+    let count = so_far.4 in (
+      so_far.0 ++ last.0,
+      Consumes-trans (g.R.Source.rest c.args.r.now) (g.R.Source.rest c.loop-found.r) (g.R.Source.rest c.is_at_end.new.r)
+          so_far.0 last.0 so_far.1 last.1,
+      hide_behind so_far.0 c.loop-found.cutter so_far.2 c.loop-found.hidden last.0 (g.R.Source.rest c.is_at_end.new.r)
+          (g.R.Source.failures c.is_at_end.new.r) so_far.3 (omega arith) c.in-Ok-false-is_at_end.ensures.failures
+          (λ over. let a = c.is_at_end.ensures.over over in let b = c.in-Ok-false-is_at_end.is in
+          let d = c.in-Ok-false-is_at_end.field-0-test in cc)
+          (last.2.3 refl),
+    )
+
+pub returns-in-Err-is_at_end-clause-answer : goal.returns-in-Err-is_at_end-clause-answer
+returns-in-Err-is_at_end-clause-answer g c =
+    let so_far = c.loop-found.invariant.got in
+    let last = c.in-Err-is_at_end.ensures.look in
+    let count = so_far.4 in (
+      so_far.0 ++ last.0,
+      Consumes-trans (g.R.Source.rest c.args.r.now) (g.R.Source.rest c.loop-found.r) (g.R.Source.rest c.is_at_end.new.r)
+          so_far.0 last.0 so_far.1 last.1,
+      hide_end_failed so_far.0 c.loop-found.cutter so_far.2 c.loop-found.hidden last.0 (g.R.Source.rest c.is_at_end.new.r)
+          (g.R.Source.failures c.is_at_end.new.r) so_far.3 (omega arith) c.in-Err-is_at_end.ensures.failures
+          (λ over. let a = c.is_at_end.ensures.over over in let b = c.in-Err-is_at_end.is in cc) last.2,
+    )

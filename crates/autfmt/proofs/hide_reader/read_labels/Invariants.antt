@@ -1,0 +1,14 @@
+use Rattle.std.proofs.Common.{◌≡◌, ℕ, ◌≤◌, true, List, length}
+use Rattle.std.specs.Io.KnownBytes.{Consumes, IsAtEnd}
+use Rattle.autfmt.specs.HideReaders.{HideReadSoFar}
+use Rattle.autfmt.proofs.hide_reader.read_labels.Given as goal
+
+abbrev pub invariant-loop-found : goal.invariant-loop-found
+invariant-loop-found g l = record {
+  got :
+      (bs : List ℕ) × Consumes (g.R.Source.rest l.initial.r) (g.R.Source.rest l.r) bs ×
+      (H : List (List ℕ)) × HideReadSoFar bs l.cutter H l.hidden × (length H ≡ l.found);
+  few : length l.hidden ≤ l.found;
+  sound : g.R.Source.failures l.r ≡ 0;
+  end : l.cutter.over ≡ true → IsAtEnd (g.R.Source.rest l.r);
+}

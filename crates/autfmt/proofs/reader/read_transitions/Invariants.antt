@@ -1,0 +1,19 @@
+use Rattle.std.proofs.Common.{◌≡◌, ℕ, ◌≤◌, true, List, [], ◌++◌, length, vec_len}
+use Rattle.std.specs.Io.KnownBytes.{Consumes, IsAtEnd}
+use Rattle.theory.specs.System.{Transition}
+use Rattle.autfmt.specs.Bounds.{Bounds}
+use Rattle.autfmt.specs.Readers.{Standing}
+use Rattle.autfmt.proofs.reader.read_transitions.Given as goal
+
+abbrev pub invariant-loop-found : goal.invariant-loop-found
+invariant-loop-found g l = record {
+  got :
+      (bs : List ℕ) × Consumes (g.R.Source.rest l.initial.r) (g.R.Source.rest l.r) bs ×
+      ((bounds : Bounds) (given : List ℕ) →
+      Standing bounds l.h given l.initial.cutter l.promise l.initial.held [] →
+      (es : List Transition) × Standing bounds l.h (given ++ bs) l.cutter l.promise l.held es);
+  len : vec_len l.held.triples ≡ l._found;
+  few : length l.held.labels ≤ vec_len l.held.triples;
+  sound : g.R.Source.failures l.r ≡ 0;
+  end : l.cutter.over ≡ true → IsAtEnd (g.R.Source.rest l.r);
+}

@@ -1,0 +1,11 @@
+use Rattle.std.proofs.Common.{◌++◌, take}
+use Rattle.std.proofs.KnownBytes.{Appends-trans}
+use Rattle.autfmt.proofs.Lists.{front_more}
+use Rattle.autfmt.proofs.sink.put_all.Goals as goal
+
+pub loop-rest-preserved : goal.loop-rest-preserved
+loop-rest-preserved g c =
+    let ((front, is, put), _) = c.loop-rest.invariant in
+    let rest = c.loop-rest.rest.now in
+    let n = c.in_ok-n.n in
+    ((front ++ take n rest, front_more front rest _ n is, Appends-trans _ _ _ _ _ put c.in_ok-n.ensures.bytes), c.in_ok-n.ensures.failures)

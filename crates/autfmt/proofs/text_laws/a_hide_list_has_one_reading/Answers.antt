@@ -1,0 +1,9 @@
+-- The laws are the lemmas.
+use Rattle.autfmt.proofs.HideLaws.{HideReads-unique, FirstHideFault-unique}
+use Rattle.autfmt.proofs.text_laws.a_hide_list_has_one_reading.Goals as goal
+
+pub returns-clause-labels : goal.returns-clause-labels
+returns-clause-labels c = HideReads-unique
+
+pub returns-clause-fault : goal.returns-clause-fault
+returns-clause-fault c = FirstHideFault-unique

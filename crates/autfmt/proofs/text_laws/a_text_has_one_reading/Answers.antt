@@ -1,0 +1,9 @@
+-- The laws are the lemmas.
+use Rattle.autfmt.proofs.FaultLaws.{Reads-unique, FirstFault-unique}
+use Rattle.autfmt.proofs.text_laws.a_text_has_one_reading.Goals as goal
+
+pub returns-clause-system : goal.returns-clause-system
+returns-clause-system c = Reads-unique
+
+pub returns-clause-fault : goal.returns-clause-fault
+returns-clause-fault c = FirstFault-unique

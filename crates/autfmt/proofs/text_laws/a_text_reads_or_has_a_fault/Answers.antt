@@ -1,0 +1,12 @@
+-- The laws are the lemmas.
+use Rattle.autfmt.proofs.FaultLaws.{text_judged, Reads-no_fault, text_without_fault}
+use Rattle.autfmt.proofs.text_laws.a_text_reads_or_has_a_fault.Goals as goal
+
+pub returns-clause-one : goal.returns-clause-one
+returns-clause-one c = text_judged
+
+pub returns-clause-not_both : goal.returns-clause-not_both
+returns-clause-not_both c = Reads-no_fault
+
+pub returns-clause-none : goal.returns-clause-none
+returns-clause-none c = text_without_fault

@@ -1,0 +1,51 @@
+-- The cutter of lines: where it stands among the bytes that a source gives.
+use Rattle.std.specs.Prelude.{◌≡◌, ◌⊎◌, ℕ, ◌+◌, ◌<◌, ◌≤◌, Bool, true, false, IsTrue, List, [], ◌∷◌, ◌++◌, length, Option, None, Some, IfSome, Result, Ok, Err, MatchResult}
+use Rattle.std.specs.List.{All, slice_range}
+use Rattle.autfmt.specs.Texts.{Cuts, Lines, IsOneLine, IsShort, with_line_feeds}
+
+-- the line that was cut last, the bytes that were taken behind it, and whether the source came to its end
+pub record Cutting : Type 0 where
+  pub line : List ℕ
+  pub ahead : List ℕ
+  pub over : Bool
+
+-- the line that was cut last: a part of the piece, or what was kept
+abbrev pub cut_line : Option (ℕ × ℕ) → List ℕ → List ℕ → List ℕ
+cut_line None piece kept = kept
+cut_line (Some place) piece kept = slice_range piece place.0 place.1
+
+-- the next line begins in the piece, the last one lies in it, and at the end of the source the piece is used up
+pub record IsCutter (from to : ℕ) (place : Option (ℕ × ℕ)) (over : Bool) : Type 0 where
+  pub ordered : from ≤ to
+  pub within : to ≤ 4096
+  pub last : IfSome place (λ p. (p.0 ≤ p.1) × (p.1 ≤ 4096))
+  pub used_up : IsTrue over → from ≡ to
+
+-- the bytes begin with a line of more than 8192 bytes
+abbrev pub BeginsTooLong : List ℕ → Type 0
+BeginsTooLong bytes =
+    (front : List ℕ) × (tail : List ℕ) × IsOneLine front × (8192 < length front) × (bytes ≡ front ++ tail)
+
+-- the first line of the bytes was cut: behind it stands a line feed and what is ahead, or the end of the text
+pub record CutsLine (bytes : List ℕ) (now : Cutting) : Type 0 where
+  pub one : IsOneLine now.line
+  pub short : IsShort now.line
+  pub behind :
+      ((now.over ≡ false) × (bytes ≡ now.line ++ 10 ∷ now.ahead))
+      ⊎ ((now.over ≡ true) × (now.ahead ≡ []) × (1 ≤ length now.line) × (bytes ≡ now.line))
+
+-- the text ended with these bytes, which are none
+pub record CutsEnd (bytes : List ℕ) (now : Cutting) : Type 0 where
+  pub none : bytes ≡ []
+  pub ahead : now.ahead ≡ []
+  pub over : now.over ≡ true
+
+-- the bytes are a part of a line of at most 8192 bytes
+abbrev pub IsPart : List ℕ → Type 0
+IsPart bytes = IsOneLine bytes × IsShort bytes
+
+-- the bytes given have these lines, and behind them what is ahead, or they are the whole text
+abbrev pub Stands : List ℕ → List (List ℕ) → Cutting → Type 0
+Stands given lines at =
+    ((at.over ≡ false) × (given ≡ with_line_feeds lines ++ at.ahead) × All IsOneLine lines)
+    ⊎ ((at.over ≡ true) × (at.ahead ≡ []) × Lines given lines)

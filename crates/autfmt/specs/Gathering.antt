@@ -1,0 +1,36 @@
+-- What the cutter of lines makes of the bytes that it takes.
+use Rattle.std.specs.Prelude.{◌≡◌, ℕ, ◌+◌, ◌<◌, ◌≤◌, Bool, true, false, IsTrue, List, [], ◌∷◌, ◌++◌, length, Result, MatchResult}
+use Rattle.std.specs.List.{slice_range}
+use Rattle.autfmt.specs.declared.cutter.Step.{Step}
+use Rattle.autfmt.specs.declared.cutter.Step.TheVariants.{Line, TooLong, End}
+use Rattle.autfmt.specs.declared.cutter.Found.{Found}
+use Rattle.autfmt.specs.declared.cutter.Found.TheVariants.{Feed, TooLong as Long, End as AtEnd}
+use Rattle.autfmt.specs.Cutter.{Cutting, BeginsTooLong, CutsLine, CutsEnd, IsPart}
+
+-- the bytes of the line and of the piece behind it were found, or the line is too long, or it ends with the source
+abbrev pub FoundIn : List ℕ → Found → List ℕ → List ℕ → Type 0
+FoundIn bytes (Feed at to) kept piece =
+    IsPart kept × (at < to) × (to ≤ length piece) × (bytes ≡ kept ++ 10 ∷ slice_range piece (at + 1) to)
+FoundIn bytes Long kept piece = BeginsTooLong bytes
+FoundIn bytes AtEnd kept piece = IsPart kept × (bytes ≡ kept)
+
+-- what became of the bytes kept and got
+abbrev pub Gathers : {E : Type 0} → List ℕ → Result Found E → List ℕ → List ℕ → Type 0
+Gathers bytes result kept piece = MatchResult result (λ found. FoundIn bytes found kept piece) (λ _. IsPart bytes)
+
+-- what a step made of the bytes ahead
+abbrev pub Makes : List ℕ → Step → Cutting → Type 0
+Makes bytes Line now = CutsLine bytes now
+Makes bytes TooLong now = BeginsTooLong bytes
+Makes bytes End now = CutsEnd bytes now
+
+-- what an advance made of the bytes ahead and got; after a failure they are a part of a line
+abbrev pub Advances : {E : Type 0} → List ℕ → Result Step E → Cutting → Type 0
+Advances bytes result now = MatchResult result (λ step. Makes bytes step now) (λ _. IsPart bytes)
+
+-- whether the bytes ahead and got are none; after a failure they are
+abbrev pub Looks : {E : Type 0} → List ℕ → Result Bool E → Cutting → Type 0
+Looks bytes result now =
+    MatchResult result
+    (λ at_end. (bytes ≡ now.ahead) × (now.over ≡ at_end) × (IsTrue at_end → bytes ≡ []) × ((at_end ≡ false) → 1 ≤ length bytes))
+    (λ _. bytes ≡ [])

@@ -1,0 +1,67 @@
+-- The one text of a system.
+use Rattle.std.specs.Prelude.{◌≡◌, ℕ, List, ◌++◌, length, codes, decimal, if◌then◌else◌, Option, Result, Err}
+use Rattle.std.specs.Io.KnownBytes.{Appends}
+use Rattle.std.specs.List.{flat_map}
+use Rattle.std.specs.List.Sorted.{IsPermutation, IsSorted}
+use Rattle.std.specs.Ordering.{nat_cmp, ordering_then}
+use Rattle.std.specs.declared.cmp.Ordering.{Ordering}
+use Rattle.std.specs.Cmp.Lexicographic.{slice_cmp}
+use Rattle.theory.specs.System.{System, Transition}
+use Rattle.autfmt.specs.declared.fault.Fault.{Fault}
+use Rattle.autfmt.specs.declared.fault.Fault.TheVariants.{Device}
+use Rattle.autfmt.specs.Grammar.{is_plain, quoted}
+use Rattle.autfmt.specs.Stream.{AppendsBeginning}
+
+-- a label stands plain where it can
+abbrev pub written_label : List ℕ → List ℕ
+written_label a = if is_plain a then a else quoted a
+
+-- the header of a first state, a count of transitions and a count of states, and its line feed
+abbrev pub header_of : ℕ → ℕ → ℕ → List ℕ
+header_of first transitions states =
+    codes "des (" ++ decimal first ++ codes ", " ++ decimal transitions ++ codes ", " ++ decimal states ++ codes ")\n"
+
+-- the header of a system
+abbrev pub written_header : System → List ℕ
+written_header A = header_of A.first (length A.transitions) A.states
+
+-- a transition and its line feed
+abbrev pub written_transition : Transition → List ℕ
+written_transition e =
+    codes "(" ++ decimal e.source ++ codes ", " ++ written_label e.label ++ codes ", " ++ decimal e.target ++ codes ")\n"
+
+-- by source, then by the bytes of the label, then by target
+abbrev pub transition_cmp : Transition → Transition → Ordering
+transition_cmp d e =
+    ordering_then (nat_cmp d.source e.source) (ordering_then (slice_cmp nat_cmp d.label e.label) (nat_cmp d.target e.target))
+
+-- the system's transitions, in the order in which they are written
+abbrev pub WrittenOrder : System → List Transition → Type 0
+WrittenOrder A es = IsPermutation es A.transitions × IsSorted transition_cmp es
+
+-- the header and the transitions in the order in which they stand
+abbrev pub listed : System → List ℕ
+listed A = written_header A ++ flat_map written_transition A.transitions
+
+-- B is A, its transitions listed in the order in which they are written
+pub record IsInWrittenOrder (A B : System) : Type 0 where
+  pub first : B.first ≡ A.first
+  pub states : B.states ≡ A.states
+  pub order : WrittenOrder A B.transitions
+
+-- the text of the system A
+abbrev pub Text : System → List ℕ → Type 0
+Text A text = (es : List Transition) × WrittenOrder A es × (text ≡ written_header A ++ flat_map written_transition es)
+
+-- a sink has gained the text of A
+abbrev pub GainsText : System → Option (List ℕ) → Option (List ℕ) → Type 0
+GainsText A old new = (text : List ℕ) × Text A text × Appends old new text
+
+-- a sink has gained a beginning of the text of A
+abbrev pub GainsBeginning : System → Option (List ℕ) → Option (List ℕ) → Type 0
+GainsBeginning A old new = (text : List ℕ) × Text A text × AppendsBeginning old new text
+
+-- how often a sink that had not failed has failed after a write with this answer
+abbrev pub failures_after : {T : Type 0} → Result T Fault → ℕ
+failures_after (Err Device) = 1
+failures_after _ = 0

@@ -1,0 +1,194 @@
+//! What a source gives, cut into lines: each line is looked at where its piece lies, or put together from pieces.
+ghost use Rattle.std.specs.Prelude.{◌≡◌, ℕ, ◌+◌, ◌<◌, ◌≤◌, ◌↔◌, List, [], ◌∷◌, ◌++◌, length, take, drop, true, false, IsTrue, Some, None, Ok, IfSome, IfNone, OnOk, MatchOption, MatchResult};
+ghost use Rattle.std.specs.List.{slice_range};
+ghost use Rattle.std.specs.Io.KnownBytes.{Consumes, IsAtEnd};
+ghost use Rattle.autfmt.specs.Stream.{CountsFailure};
+ghost use Rattle.autfmt.specs.Texts.{IsOneLine, IsShort};
+ghost use Rattle.autfmt.specs.Cutter.{Cutting, BeginsTooLong, CutsLine, CutsEnd, IsPart};
+ghost use Rattle.autfmt.specs.Gathering.{Gathers, Advances, Looks};
+
+use crate::line::LineBuffer;
+use crate::source::{Broken, Source};
+use memchr::memchr;
+use std::marker::Model;
+
+/// The most bytes that are taken from a source at a time.
+const PIECE: usize = 4096;
+
+/// What an advance of a cutter came to.
+#[derive(Clone, Copy)]
+pub(crate) enum Step {
+    /// A line of at most 8192 bytes.
+    Line,
+    /// A line of more than 8192 bytes, which may not have ended yet.
+    TooLong,
+    /// The end of the text.
+    End,
+}
+
+/// What the pieces taken came to.
+#[derive(Clone, Copy)]
+pub(crate) enum Found {
+    /// A line feed at the first place of the piece, which holds as many bytes as the second number says.
+    Feed(usize, usize),
+    /// A line of more than 8192 bytes.
+    TooLong,
+    /// The end of the source.
+    End,
+}
+
+/// The last piece that was taken from a source, and where in it the next line begins.
+#[derive(Drop)]
+pub(crate) struct Cutter {
+    piece: [u8; PIECE],
+    from: usize,
+    to: usize,
+    kept: LineBuffer,
+    place: Option<(usize, usize)>,
+    over: bool,
+}
+
+impl Model for Cutter {
+    ghost use Rattle.std.specs.Prelude.{ℕ, ◌≡◌, ◌≤◌, IsTrue, IfSome};
+    ghost use Rattle.std.specs.List.{slice_range};
+    ghost use Rattle.autfmt.specs.Cutter.{Cutting, cut_line, IsCutter};
+
+    ghost Value = { Cutting };
+
+    ghost view = { λ c. record { line = cut_line c.place c.piece c.kept; ahead = slice_range c.piece c.from c.to; over = c.over } };
+
+    ghost invariant = { λ c. IsCutter c.from c.to c.place c.over };
+}
+
+impl Cutter {
+    /// A cutter that has taken nothing.
+    pub(crate) fn new() -> Cutter
+        ensures { result ≡ record { line = []; ahead = []; over = false } }
+    {
+        Cutter {
+            piece: [0; PIECE],
+            from: 0,
+            to: 0,
+            kept: LineBuffer::new(),
+            place: None,
+            over: false,
+        }
+    }
+
+    /// The line that was cut last.
+    pub(crate) fn line(&self) -> &[u8]
+        ensures { result.now ≡ self.now.line }
+    {
+        match self.place {
+            Some((start, end)) => &self.piece[start..end],
+            None => self.kept.line(),
+        }
+    }
+
+    /// Goes on to the next line.
+    pub(crate) fn advance<R: Source>(&mut self, r: &mut R) -> Result<Step, Broken>
+        requires { R.failures r.old ≡ 0 }
+        ensures step { (got : List ℕ) × Consumes (R.rest r.old) (R.rest r.new) got × Advances (self.old.ahead ++ got) result self.new }
+        ensures over { IsTrue self.old.over → result ≡ Ok Step.End }
+        ensures end { (IsTrue self.old.over → IsAtEnd (R.rest r.old)) → IsTrue self.new.over → IsAtEnd (R.rest r.new) }
+        ensures failures { CountsFailure result (R.failures r.new) }
+    {
+        if self.over {
+            return Ok(Step::End);
+        }
+        let ahead = &self.piece[self.from..self.to];
+        if let Some(at) = line_feed_in(ahead) {
+            self.place = Some((self.from, self.from + at));
+            self.from += at + 1;
+            return Ok(Step::Line);
+        }
+        let Cutter {
+            piece,
+            from,
+            to,
+            kept,
+            place,
+            over,
+        } = self;
+        kept.clear();
+        let _fits = kept.extend(&piece[*from..*to]);
+        *place = None;
+        *from = *to;
+        match gather(piece, kept, r)? {
+            Found::Feed(at, end) => {
+                *from = at + 1;
+                *to = end;
+                return Ok(Step::Line);
+            }
+            Found::TooLong => return Ok(Step::TooLong),
+            Found::End => {}
+        }
+        *over = true;
+        if kept.line().is_empty() {
+            return Ok(Step::End);
+        }
+        Ok(Step::Line)
+    }
+
+    /// Whether no byte stands behind the line that was cut last.
+    pub(crate) fn is_at_end<R: Source>(&mut self, r: &mut R) -> Result<bool, Broken>
+        requires { R.failures r.old ≡ 0 }
+        ensures look { (got : List ℕ) × Consumes (R.rest r.old) (R.rest r.new) got × Looks (self.old.ahead ++ got) result self.new }
+        ensures over { IsTrue self.old.over → result ≡ Ok true }
+        ensures end { (IsTrue self.old.over → IsAtEnd (R.rest r.old)) → IsTrue self.new.over → IsAtEnd (R.rest r.new) }
+        ensures failures { CountsFailure result (R.failures r.new) }
+    {
+        if self.from < self.to {
+            return Ok(false);
+        }
+        if self.over {
+            return Ok(true);
+        }
+        let n = r.take(&mut self.piece)?;
+        self.from = 0;
+        self.to = n;
+        self.over = n == 0;
+        Ok(n == 0)
+    }
+}
+
+/// The place of the first line feed.
+fn line_feed_in(bytes: &[u8]) -> Option<usize>
+    ensures within { IfSome result (λ at. at < length bytes.now) }
+    ensures line { IfSome result (λ at. IsOneLine (take at bytes.now)) }
+    ensures feed { IfSome result (λ at. drop at bytes.now ≡ 10 ∷ drop (at + 1) bytes.now) }
+    ensures none { IfNone result (IsOneLine bytes.now) }
+{
+    memchr(b'\n', bytes)
+}
+
+/// Takes pieces up to the end of the line whose beginning is kept.
+fn gather<R: Source>(piece: &mut [u8], kept: &mut LineBuffer, r: &mut R) -> Result<Found, Broken>
+    requires room { length piece.old ≡ PIECE }
+    requires part { IsPart kept.old }
+    requires sound { R.failures r.old ≡ 0 }
+    ensures got { (got : List ℕ) × Consumes (R.rest r.old) (R.rest r.new) got × Gathers (kept.old ++ got) result kept.new piece.new }
+    ensures end { result ≡ Ok Found.End → IsAtEnd (R.rest r.new) }
+    ensures failures { CountsFailure result (R.failures r.new) }
+{
+    loop {
+        let n = r.take(piece)?;
+        if n == 0 {
+            return Ok(Found::End);
+        }
+        let bytes = &piece[..n];
+        match line_feed_in(bytes) {
+            Some(at) => {
+                if kept.extend(&bytes[..at]) {
+                    return Ok(Found::Feed(at, n));
+                }
+                return Ok(Found::TooLong);
+            }
+            None => {
+                if !kept.extend(bytes) {
+                    return Ok(Found::TooLong);
+                }
+            }
+        }
+    }
+}

@@ -1,0 +1,103 @@
+//! The reader of a hide list: a label on each line.
+ghost use Rattle.std.specs.Prelude.{◌≡◌, ℕ, ◌+◌, ◌<◌, ◌≤◌, List, [], ◌∷◌, ◌++◌, length, true, false, IsTrue, Some, IfSome, Ok, Err, IfOk, IfErr, OnOk, MatchResult, MatchBool};
+ghost use Rattle.std.specs.Io.KnownBytes.{Consumes, IsAtEnd};
+ghost use Rattle.autfmt.specs.HideLists.{HideReads, FirstHideFault, JudgedHideFault};
+ghost use Rattle.autfmt.specs.Readers.{IsMemoryOr, AnswersFailure};
+ghost use Rattle.autfmt.specs.HideReaders.{IsHideReadFault, HidesAs, HideRefuses, HideReadSoFar};
+
+use crate::cutter::{Cutter, Step};
+use crate::fault::Fault;
+use crate::hidden::Hidden;
+use crate::judge::judge_hide_line;
+use crate::source::{Broken, Source};
+use std::alloc::Global;
+
+/// The most lines of a hide list.
+const MOST_LINES: u32 = 100_000;
+
+/// Reads a hide list: at most 100,000 lines, each of one label. The source is taken to its end.
+///
+/// # Errors
+/// Where the source did not fail, the first fault of the list, `LineTooLong`, `BadHide` or `TooManyHidden`; or `Memory` where
+/// a growth was refused. Where the source failed, the fault that is known from the bytes it gave, or else `Device`. How far
+/// the source was taken beyond a fault is open.
+pub fn read_hidden<R: Source>(alloc: Global, r: &mut R) -> Result<Hidden, Fault>
+    requires { R.failures r.old ≡ 0 }
+    ensures labels { IfSome (R.rest r.old) (λ text. IfOk result (HidesAs text)) }
+    ensures whole { IfSome (R.rest r.old) (λ _. OnOk result (R.rest r.new ≡ Some [])) }
+    ensures fault { R.failures r.new ≡ 0 → IfSome (R.rest r.old) (λ text. IfErr result (IsMemoryOr (FirstHideFault text))) }
+    ensures failed { R.failures r.new ≡ 1 → (given rest : List ℕ) →
+        R.rest r.old ≡ Some (given ++ rest) → R.rest r.new ≡ Some rest →
+        IfErr result (AnswersFailure (JudgedHideFault given)) }
+    ensures device { result ≡ Err Fault.Device → R.failures r.new ≡ 1 }
+    ensures sound { OnOk result (R.failures r.new ≡ 0) }
+    ensures failures { R.failures r.new ≤ 1 }
+    ensures kind { IfErr result IsHideReadFault }
+{
+    read_labels(alloc, r)
+}
+
+/// Reads the lines of a hide list, and that nothing stands behind the last one that may.
+fn read_labels<R: Source>(alloc: Global, r: &mut R) -> Result<Hidden, Fault>
+    requires { R.failures r.old ≡ 0 }
+    ensures answer { (got : List ℕ) × Consumes (R.rest r.old) (R.rest r.new) got ×
+        MatchResult result (HidesAs got) (HideRefuses got (R.rest r.new) (R.failures r.new)) }
+    ensures end { OnOk result (IsAtEnd (R.rest r.new)) }
+    ensures sound { OnOk result (R.failures r.new ≡ 0) }
+{
+    let mut cutter = Cutter::new();
+    let mut hidden = Hidden::none(alloc);
+    for found in 0..MOST_LINES {
+        match read_hide_line(&mut cutter, r, found, &mut hidden) {
+            Ok(true) => {}
+            Ok(false) => return Ok(hidden),
+            Err(fault) => return Err(fault),
+        }
+    }
+    match cutter.is_at_end(r) {
+        Ok(true) => Ok(hidden),
+        Ok(false) => Err(Fault::TooManyHidden),
+        Err(Broken) => Err(Fault::Device),
+    }
+}
+
+/// Reads one line more behind those found, and adds its label; false where there is none.
+fn read_hide_line<R: Source>(
+    cutter: &mut Cutter,
+    r: &mut R,
+    found: u32,
+    hidden: &mut Hidden,
+) -> Result<bool, Fault>
+    requires more { found < 100000 }
+    requires few { length hidden.old ≤ found }
+    requires sound { R.failures r.old ≡ 0 }
+    requires end { IsTrue cutter.old.over → IsAtEnd (R.rest r.old) }
+    ensures line { (got : List ℕ) × Consumes (R.rest r.old) (R.rest r.new) got ×
+        ((given : List ℕ) (H : List (List ℕ)) →
+        HideReadSoFar given cutter.old H hidden.old → length H ≡ found →
+        MatchResult result
+        (λ some. MatchBool some
+        ((a : List ℕ) × HideReadSoFar (given ++ got) cutter.new (H ++ a ∷ []) hidden.new)
+        (HidesAs (given ++ got) hidden.new))
+        (HideRefuses (given ++ got) (R.rest r.new) (R.failures r.new))) }
+    ensures few { OnOk result (length hidden.new ≤ found + 1) }
+    ensures end { OnOk result (IsTrue cutter.new.over → IsAtEnd (R.rest r.new)) }
+    ensures last { result ≡ Ok false → IsAtEnd (R.rest r.new) }
+    ensures sound { OnOk result (R.failures r.new ≡ 0) }
+{
+    match cutter.advance(r) {
+        Ok(Step::Line) => {}
+        Ok(Step::TooLong) => return Err(Fault::LineTooLong(found + 1)),
+        Ok(Step::End) => return Ok(false),
+        Err(Broken) => return Err(Fault::Device),
+    }
+    match judge_hide_line(cutter.line(), found + 1) {
+        Ok(label) => {
+            match hidden.add(label) {
+                Ok(()) => Ok(true),
+                Err(_) => Err(Fault::Memory),
+            }
+        }
+        Err(fault) => Err(fault),
+    }
+}

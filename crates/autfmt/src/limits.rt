@@ -1,0 +1,70 @@
+//! How many states and transitions a text may promise.
+ghost use Rattle.std.specs.Prelude.{◌≡◌, ◌↔◌, IsSome, IfSome};
+ghost use Rattle.autfmt.specs.Bounds.{Bounds, bounds, IsWithinFile};
+
+use std::marker::Model;
+
+/// The most states of a file.
+const FILE_STATES: u32 = 1_000_000;
+
+/// The most transitions of a file.
+const FILE_TRANSITIONS: u32 = 10_000_000;
+
+/// The most states and the most transitions that a text may promise.
+#[derive(Clone, Copy, Debug)]
+pub struct Limits {
+    states: u32,
+    transitions: u32,
+}
+
+impl Model for Limits {
+    ghost Value = { Bounds };
+
+    ghost view = { λ l. bounds l.states l.transitions };
+
+    ghost inverse = { λ b. record { states = b.states; transitions = b.transitions } };
+
+    ghost invariant = { λ l. IsWithinFile (bounds l.states l.transitions) };
+}
+
+impl Limits {
+    /// Limits of 1 to 1,000,000 states and 0 to 10,000,000 transitions; None for any others.
+    pub fn new(states: u32, transitions: u32) -> Option<Limits>
+        ensures fits { IsSome result ↔ IsWithinFile (bounds states transitions) }
+        ensures limits { IfSome result (λ l. l ≡ bounds states transitions) }
+    {
+        if states == 0 || states > FILE_STATES || transitions > FILE_TRANSITIONS {
+            return None;
+        }
+        Some(Limits {
+            states,
+            transitions,
+        })
+    }
+
+    /// The limits of a file: 1,000,000 states and 10,000,000 transitions.
+    pub fn file() -> Limits
+        ensures { result ≡ bounds 1000000 10000000 }
+    {
+        Limits {
+            states: FILE_STATES,
+            transitions: FILE_TRANSITIONS,
+        }
+    }
+
+    /// The most states, 1 to 1,000,000.
+    pub fn states(&self) -> u32
+        ensures states { result ≡ self.now.states }
+        ensures within { IsWithinFile self.now }
+    {
+        self.states
+    }
+
+    /// The most transitions, 0 to 10,000,000.
+    pub fn transitions(&self) -> u32
+        ensures transitions { result ≡ self.now.transitions }
+        ensures within { IsWithinFile self.now }
+    {
+        self.transitions
+    }
+}

@@ -1,0 +1,77 @@
+//! The bytes of one line, as they come in.
+ghost use Rattle.std.specs.Prelude.{◌≡◌, ℕ, ◌<◌, ◌≤◌, ◌↔◌, List, [], ◌∷◌, ◌++◌, length, take, IsTrue, if◌then◌else◌};
+ghost use Rattle.autfmt.specs.Line.{longest_line, Fits};
+
+use std::marker::Model;
+
+/// The most bytes of a line, without its line feed.
+const LONGEST_LINE: usize = 8192;
+
+/// A line of at most 8192 bytes. It never takes memory.
+#[derive(Drop)]
+pub struct LineBuffer {
+    bytes: [u8; LONGEST_LINE],
+    len: usize,
+}
+
+impl Model for LineBuffer {
+    ghost Value = { List ℕ };
+
+    ghost view = { λ l. take l.len l.bytes };
+
+    ghost invariant = { λ l. l.len ≤ longest_line };
+}
+
+impl LineBuffer {
+    /// An empty line.
+    pub fn new() -> LineBuffer
+        ensures { result ≡ [] }
+    {
+        LineBuffer {
+            bytes: [0; LONGEST_LINE],
+            len: 0,
+        }
+    }
+
+    /// Appends `b` and answers true, or answers false where 8192 bytes stand.
+    pub fn push(&mut self, b: u8) -> bool
+        ensures fits { IsTrue result ↔ (length self.old < longest_line) }
+        ensures line { self.new ≡ (if result then self.old ++ b ∷ [] else self.old) }
+    {
+        if self.len == LONGEST_LINE {
+            return false;
+        }
+        self.bytes[self.len] = b;
+        self.len += 1;
+        true
+    }
+
+    /// Appends all of `b` and answers true, or answers false where they do not all fit.
+    pub(crate) fn extend(&mut self, b: &[u8]) -> bool
+        ensures fits { IsTrue result ↔ Fits self.old b.now }
+        ensures line { self.new ≡ (if result then self.old ++ b.now else self.old) }
+    {
+        if LONGEST_LINE - self.len < b.len() {
+            return false;
+        }
+        let end = self.len + b.len();
+        self.bytes[self.len..end].copy_from_slice(b);
+        self.len = end;
+        true
+    }
+
+    /// The bytes of the line.
+    pub fn line(&self) -> &[u8]
+        ensures bytes { result.now ≡ self.now }
+        ensures short { length self.now ≤ longest_line }
+    {
+        &self.bytes[..self.len]
+    }
+
+    /// Empties the line.
+    pub fn clear(&mut self)
+        ensures { self.new ≡ [] }
+    {
+        self.len = 0;
+    }
+}

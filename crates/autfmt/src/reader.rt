@@ -1,0 +1,219 @@
+//! The reader of a system's text: a header, then as many transitions as it promises, then the end.
+ghost use Rattle.std.specs.Prelude.{◌≡◌, ◌≢◌, ℕ, ◌+◌, ◌<◌, ◌≤◌, List, [], ◌∷◌, ◌++◌, length, vec_len, true, false, IsTrue, Some, IfSome, Ok, Err, IfOk, IfErr, OnOk, OnErr, MatchResult};
+ghost use Rattle.std.specs.Io.KnownBytes.{Consumes, IsAtEnd};
+ghost use Rattle.theory.specs.System.{System, Transition};
+ghost use Rattle.lts.specs.Lts.{InRange};
+ghost use Rattle.autfmt.specs.Bounds.{Bounds};
+ghost use Rattle.autfmt.specs.Cutter.{Cutting};
+ghost use Rattle.autfmt.specs.Faults.{FirstFault, JudgedFault};
+ghost use Rattle.autfmt.specs.Readers.{IsReadFault, IsMemoryOr, HasGoodHeader, ReadsAs, ReadsSystem, AnswersFailure, Refuses, ReadSoFar, Standing, HoldsText};
+
+use crate::cutter::{Cutter, Step};
+use crate::fault::Fault;
+use crate::held::Held;
+use crate::hidden::Hidden;
+use crate::judge::{Promise, judge_header, judge_transition};
+use crate::limits::Limits;
+use crate::source::{Broken, Source};
+use lts::{Lts, Meter};
+use std::alloc::Global;
+
+/// Reads a whole text as a system: a header of three numbers, then as many transitions as it promises, then the end.
+/// `lim` bounds what the header may promise. The source is taken to its end.
+///
+/// # Errors
+/// Where the source did not fail, the first fault of the text, `BadHeader` to `MissingEdges`; or `Memory` where a growth
+/// was refused, which comes only behind a good line 1. Where the source failed, the fault that is known from the bytes it
+/// gave, or else `Device`. How far the source was taken beyond a fault is open.
+pub fn read<M: Meter, R: Source>(alloc: Global, r: &mut R, lim: &Limits) -> Result<Lts<M>, Fault>
+    requires { R.failures r.old ≡ 0 }
+    ensures system { IfSome (R.rest r.old) (λ text. IfOk result (ReadsSystem lim.now text)) }
+    ensures whole { IfSome (R.rest r.old) (λ _. OnOk result (R.rest r.new ≡ Some [])) }
+    ensures fault { R.failures r.new ≡ 0 → IfSome (R.rest r.old) (λ text. IfErr result (IsMemoryOr (FirstFault lim.now text))) }
+    ensures memory { IfSome (R.rest r.old) (λ text. result ≡ Err Fault.Memory → HasGoodHeader lim.now text) }
+    ensures failed { R.failures r.new ≡ 1 → (given rest : List ℕ) →
+        R.rest r.old ≡ Some (given ++ rest) → R.rest r.new ≡ Some rest →
+        IfErr result (AnswersFailure (JudgedFault lim.now given)) }
+    ensures device { result ≡ Err Fault.Device → R.failures r.new ≡ 1 }
+    ensures sound { OnOk result (R.failures r.new ≡ 0) }
+    ensures failures { R.failures r.new ≤ 1 }
+    ensures kind { IfErr result IsReadFault }
+{
+    read_system(alloc, r, lim, &Hidden::none(alloc))
+}
+
+/// Reads a whole text as `read` does, with each label that `h` names read as `i`.
+///
+/// # Errors
+/// As of `read`.
+pub fn read_hiding<M: Meter, R: Source>(
+    alloc: Global,
+    r: &mut R,
+    lim: &Limits,
+    h: &Hidden,
+) -> Result<Lts<M>, Fault>
+    requires { R.failures r.old ≡ 0 }
+    ensures system { IfSome (R.rest r.old) (λ text. IfOk result (ReadsAs lim.now text h.now)) }
+    ensures whole { IfSome (R.rest r.old) (λ _. OnOk result (R.rest r.new ≡ Some [])) }
+    ensures fault { R.failures r.new ≡ 0 → IfSome (R.rest r.old) (λ text. IfErr result (IsMemoryOr (FirstFault lim.now text))) }
+    ensures memory { IfSome (R.rest r.old) (λ text. result ≡ Err Fault.Memory → HasGoodHeader lim.now text) }
+    ensures failed { R.failures r.new ≡ 1 → (given rest : List ℕ) →
+        R.rest r.old ≡ Some (given ++ rest) → R.rest r.new ≡ Some rest →
+        IfErr result (AnswersFailure (JudgedFault lim.now given)) }
+    ensures device { result ≡ Err Fault.Device → R.failures r.new ≡ 1 }
+    ensures sound { OnOk result (R.failures r.new ≡ 0) }
+    ensures failures { R.failures r.new ≤ 1 }
+    ensures kind { IfErr result IsReadFault }
+{
+    read_system(alloc, r, lim, h)
+}
+
+/// Reads a whole text, and builds the system.
+fn read_system<M: Meter, R: Source>(
+    alloc: Global,
+    r: &mut R,
+    lim: &Limits,
+    h: &Hidden,
+) -> Result<Lts<M>, Fault>
+    requires { R.failures r.old ≡ 0 }
+    ensures answer { (got : List ℕ) × Consumes (R.rest r.old) (R.rest r.new) got ×
+        MatchResult result (ReadsAs lim.now got h.now) (Refuses lim.now got (R.rest r.new) (R.failures r.new)) }
+    ensures end { OnOk result (IsAtEnd (R.rest r.new)) }
+    ensures sound { OnOk result (R.failures r.new ≡ 0) }
+{
+    let (promise, held) = match read_text(alloc, r, lim, h) {
+        Ok(found) => found,
+        Err(fault) => return Err(fault),
+    };
+    let Held { labels, triples } = held;
+    match Lts::build(alloc, labels, promise.first, promise.states, triples) {
+        Ok(system) => Ok(system),
+        Err(_) => Err(Fault::Memory),
+    }
+}
+
+/// Reads line 1.
+fn read_header<R: Source>(cutter: &mut Cutter, r: &mut R, lim: &Limits) -> Result<Promise, Fault>
+    requires fresh { cutter.old ≡ record { line = []; ahead = []; over = false } }
+    requires sound { R.failures r.old ≡ 0 }
+    ensures header { (got : List ℕ) × Consumes (R.rest r.old) (R.rest r.new) got × MatchResult result (λ p. ReadSoFar lim.now got cutter.new p []) (Refuses lim.now got (R.rest r.new) (R.failures r.new)) }
+    ensures file { IfOk result (λ p. (p.states ≤ 1000000) × (p.transitions ≤ 10000000)) }
+    ensures end { OnOk result (IsTrue cutter.new.over → IsAtEnd (R.rest r.new)) }
+    ensures sound { OnOk result (R.failures r.new ≡ 0) }
+{
+    match cutter.advance(r) {
+        Ok(Step::Line) => {}
+        Ok(Step::TooLong) => return Err(Fault::LineTooLong(1)),
+        Ok(Step::End) => return Err(Fault::BadHeader),
+        Err(Broken) => return Err(Fault::Device),
+    }
+    match judge_header(cutter.line(), lim) {
+        Ok(promise) => Ok(promise),
+        Err(fault) => Err(fault),
+    }
+}
+
+/// Reads one line more, a transition of those that were promised, and holds it.
+fn read_transition<R: Source>(
+    cutter: &mut Cutter,
+    r: &mut R,
+    promise: Promise,
+    h: &Hidden,
+    held: &mut Held,
+) -> Result<(), Fault>
+    requires file { promise.transitions ≤ 10000000 }
+    requires promised { vec_len held.old.triples < promise.transitions }
+    requires few { length held.old.labels ≤ vec_len held.old.triples }
+    requires sound { R.failures r.old ≡ 0 }
+    requires end { IsTrue cutter.old.over → IsAtEnd (R.rest r.old) }
+    ensures transition { (got : List ℕ) × Consumes (R.rest r.old) (R.rest r.new) got ×
+        ((bounds : Bounds) (given : List ℕ) (es : List Transition) →
+        Standing bounds h.now given cutter.old promise held.old es →
+        MatchResult result
+        (λ _. (e : Transition) × Standing bounds h.now (given ++ got) cutter.new promise held.new (es ++ e ∷ []))
+        (Refuses bounds (given ++ got) (R.rest r.new) (R.failures r.new))) }
+    ensures end { OnOk result (IsTrue cutter.new.over → IsAtEnd (R.rest r.new)) }
+    ensures sound { OnOk result (R.failures r.new ≡ 0) }
+    ensures len { OnOk result (vec_len held.new.triples ≡ vec_len held.old.triples + 1) }
+    ensures few { OnOk result (length held.new.labels ≤ vec_len held.new.triples) }
+{
+    let found = held.triples.len() as u32;
+    match cutter.advance(r) {
+        Ok(Step::Line) => {}
+        Ok(Step::TooLong) => return Err(Fault::LineTooLong(found + 2)),
+        Ok(Step::End) => return Err(Fault::MissingEdges(found)),
+        Err(Broken) => return Err(Fault::Device),
+    }
+    match judge_transition(cutter.line(), found + 2, promise) {
+        Ok((source, label, target)) => {
+            match held.add(source, h.shown(label), target, promise.transitions) {
+                Ok(()) => Ok(()),
+                Err(_) => Err(Fault::Memory),
+            }
+        }
+        Err(fault) => Err(fault),
+    }
+}
+
+/// Reads the promised transitions, and holds them.
+fn read_transitions<R: Source>(
+    cutter: &mut Cutter,
+    r: &mut R,
+    promise: Promise,
+    h: &Hidden,
+    held: &mut Held,
+) -> Result<(), Fault>
+    requires file { promise.transitions ≤ 10000000 }
+    requires none { vec_len held.old.triples ≡ 0 }
+    requires few { length held.old.labels ≡ 0 }
+    requires sound { R.failures r.old ≡ 0 }
+    requires end { IsTrue cutter.old.over → IsAtEnd (R.rest r.old) }
+    ensures transitions { (got : List ℕ) × Consumes (R.rest r.old) (R.rest r.new) got ×
+        ((bounds : Bounds) (given : List ℕ) →
+        Standing bounds h.now given cutter.old promise held.old [] →
+        MatchResult result
+        (λ _. (es : List Transition) × Standing bounds h.now (given ++ got) cutter.new promise held.new es)
+        (Refuses bounds (given ++ got) (R.rest r.new) (R.failures r.new))) }
+    ensures end { OnOk result (IsTrue cutter.new.over → IsAtEnd (R.rest r.new)) }
+    ensures sound { OnOk result (R.failures r.new ≡ 0) }
+    ensures len { OnOk result (vec_len held.new.triples ≡ promise.transitions) }
+{
+    for _found in 0..promise.transitions {
+        match read_transition(cutter, r, promise, h, held) {
+            Ok(()) => {}
+            Err(fault) => return Err(fault),
+        }
+    }
+    Ok(())
+}
+
+/// Reads a whole text: what its header promises, and its transitions.
+fn read_text<R: Source>(
+    alloc: Global,
+    r: &mut R,
+    lim: &Limits,
+    h: &Hidden,
+) -> Result<(Promise, Held), Fault>
+    requires { R.failures r.old ≡ 0 }
+    ensures whole { (got : List ℕ) × Consumes (R.rest r.old) (R.rest r.new) got ×
+        MatchResult result (λ x. HoldsText lim.now h.now got x.0 x.1) (Refuses lim.now got (R.rest r.new) (R.failures r.new)) }
+    ensures range { IfOk result (λ x. InRange (length x.1.labels) x.0.first x.0.states x.1.triples.items) }
+    ensures end { OnOk result (IsAtEnd (R.rest r.new)) }
+    ensures sound { OnOk result (R.failures r.new ≡ 0) }
+{
+    let mut cutter = Cutter::new();
+    let promise = match read_header(&mut cutter, r, lim) {
+        Ok(promise) => promise,
+        Err(fault) => return Err(fault),
+    };
+    let mut held = Held::new(alloc);
+    match read_transitions(&mut cutter, r, promise, h, &mut held) {
+        Ok(()) => {}
+        Err(fault) => return Err(fault),
+    }
+    match cutter.is_at_end(r) {
+        Ok(true) => Ok((promise, held)),
+        Ok(false) => Err(Fault::ExtraText(promise.transitions + 2)),
+        Err(Broken) => Err(Fault::Device),
+    }
+}

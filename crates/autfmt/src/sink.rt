@@ -1,0 +1,233 @@
+//! Where bytes go: a trait, memory, and any writer of the standard library.
+ghost use Rattle.std.specs.Prelude.{◌≡◌, ℕ, ◌+◌, ◌<◌, ◌≤◌, ◌↔◌, List, [], ◌++◌, length, take, None, Some, IfSome, IsErr, IfOk, OnOk, OnErr, if◌then◌else◌, Option};
+ghost use Rattle.std.specs.Io.{WritesAtMost};
+ghost use Rattle.std.specs.Io.KnownBytes.{Appends, Keeps, WriteAppends};
+ghost use Rattle.autfmt.specs.Stream.{AppendsBeginning, CountsFailure, Wrapped};
+ghost use Rattle.autfmt.specs.Store.{Store, taken_count, after_put};
+
+use crate::source::{Broken, at_most};
+use std::alloc::Global;
+use std::io::Write;
+use std::marker::Model;
+
+/// What bytes are put to. One failure ends it.
+pub trait Sink {
+    // The bytes written, where the sink tells them.
+    ghost written: { Self → Option (List ℕ) };
+
+    // How often it failed.
+    ghost failures: { Self → ℕ };
+
+    /// Puts the first bytes of `b`, and answers how many, at least 1.
+    ///
+    /// # Errors
+    /// `Broken` where the sink fails. Nothing was put, and `failures` is 1 from then on.
+    fn put(&mut self, b: &[u8]) -> Result<usize, Broken>
+        requires bytes { 0 < length b.now }
+        requires sound { failures self.old ≡ 0 }
+        ensures progress { IfOk result (λ n. 1 ≤ n) }
+        ensures bound { WritesAtMost result b.now }
+        ensures bytes { WriteAppends (written self.old) (written self.new) result b.now }
+        ensures failures { CountsFailure result (failures self.new) };
+
+    /// Sends on what the sink holds back. It puts nothing.
+    ///
+    /// # Errors
+    /// `Broken` where the sink fails, and `failures` is 1 from then on.
+    fn finish(&mut self) -> Result<(), Broken>
+        requires { failures self.old ≡ 0 }
+        ensures bytes { Keeps (written self.old) (written self.new) }
+        ensures failures { CountsFailure result (failures self.new) };
+
+    /// How often the sink failed: 0 or 1.
+    fn failures(&self) -> u32
+        ensures failures { result ≡ failures self.now }
+        ensures range { result ≤ 1 };
+}
+
+/// Bytes kept in memory by a sink that may fail at a count of them.
+#[derive(Drop)]
+pub struct VecSink {
+    bytes: Vec<u8>,
+    count: Option<usize>,
+    most: Option<usize>,
+    failed: bool,
+}
+
+impl Model for VecSink {
+    ghost Value = { Store };
+
+    ghost view = { λ s. record {
+      bytes = s.bytes.items;
+      count = s.count;
+      most = s.most;
+      failures = (if s.failed then 1 else 0);
+    } };
+
+    ghost invariant = { λ s. IfSome s.most (λ k. 1 ≤ k)
+        × IfSome s.count (λ c. length s.bytes.items ≤ c) };
+}
+
+impl VecSink {
+    /// An empty sink that takes bytes up to `count`; where that many stand, the next call fails.
+    pub fn new(alloc: Global, count: Option<usize>) -> VecSink
+        ensures { result ≡ record { bytes = []; count = count; most = None; failures = 0 } }
+    {
+        VecSink {
+            bytes: Vec::new(alloc),
+            count,
+            most: None,
+            failed: false,
+        }
+    }
+
+    /// The bytes written.
+    pub fn bytes(&self) -> &[u8]
+        ensures { result.now ≡ self.now.bytes }
+    {
+        self.bytes.as_slice()
+    }
+
+    /// The same sink, of which no `put` takes more than `k` bytes.
+    pub fn pieces(self, k: usize) -> VecSink
+        requires { 1 ≤ k }
+        ensures { result ≡ record self { most = Some k } }
+    {
+        let VecSink {
+            bytes,
+            count,
+            most: _,
+            failed,
+        } = self;
+        VecSink {
+            bytes,
+            count,
+            most: Some(k),
+            failed,
+        }
+    }
+}
+
+impl Sink for VecSink {
+    ghost written = { λ s. Some s.bytes };
+
+    ghost failures = { λ s. s.failures };
+
+    fn put(&mut self, b: &[u8]) -> Result<usize, Broken>
+        requires bytes { 0 < length b.now }
+        requires sound { self.old.failures ≡ 0 }
+        ensures progress { IfOk result (λ n. 1 ≤ n) }
+        ensures bound { WritesAtMost result b.now }
+        ensures bytes { WriteAppends (Some self.old.bytes) (Some self.new.bytes) result b.now }
+        ensures failures { CountsFailure result self.new.failures }
+        ensures full { self.old.count ≡ Some (length self.old.bytes) → IsErr result }
+        ensures count { IfOk result (λ n. n ≡ taken_count self.old (length b.now)) }
+        ensures after { IfOk result (λ n. self.new ≡ after_put self.old (take n b.now)) }
+        ensures err { OnErr result (self.new ≡ record self.old { failures = 1 }) }
+    {
+        let len = self.bytes.len();
+        let room = match self.count {
+            Some(count) => Some(count - len),
+            None => None,
+        };
+        let n = at_most(self.most, at_most(room, b.len()));
+        if n == 0 || self.bytes.extend_from_slice(&b[..n]).is_err() {
+            self.failed = true;
+            return Err(Broken);
+        }
+        Ok(n)
+    }
+
+    fn finish(&mut self) -> Result<(), Broken>
+        requires { self.old.failures ≡ 0 }
+        ensures bytes { Keeps (Some self.old.bytes) (Some self.new.bytes) }
+        ensures failures { CountsFailure result self.new.failures }
+        ensures full { IsErr result ↔ (self.old.count ≡ Some (length self.old.bytes)) }
+        ensures ok { OnOk result (self.new ≡ self.old) }
+        ensures err { OnErr result (self.new ≡ record self.old { failures = 1 }) }
+    {
+        if self.count == Some(self.bytes.len()) {
+            self.failed = true;
+            return Err(Broken);
+        }
+        Ok(())
+    }
+
+    fn failures(&self) -> u32 {
+        u32::from(self.failed)
+    }
+}
+
+/// Any writer of the standard library. Each of its errors is a failure, and so is a write of 0 bytes.
+#[derive(Drop)]
+pub struct ToWrite<W> {
+    writer: W,
+    failed: bool,
+}
+
+impl<W> Model for ToWrite<W> {
+    ghost Value = { Wrapped W };
+
+    ghost view = { λ s. record { inner = s.writer; failures = (if s.failed then 1 else 0) } };
+}
+
+impl<W: Write> ToWrite<W> {
+    /// A sink into `writer`, which tells its bytes where the writer does.
+    pub fn new(writer: W) -> ToWrite<W>
+        ensures { result ≡ record { inner = writer; failures = 0 } }
+    {
+        ToWrite {
+            writer,
+            failed: false,
+        }
+    }
+}
+
+impl<W: Write> Sink for ToWrite<W> {
+    ghost written = { λ s. W.contents s.inner };
+
+    ghost failures = { λ s. s.failures };
+
+    fn put(&mut self, b: &[u8]) -> Result<usize, Broken> {
+        match self.writer.write(b) {
+            Ok(n) if n > 0 => Ok(n),
+            _ => {
+                self.failed = true;
+                Err(Broken)
+            }
+        }
+    }
+
+    /// Flushes the writer.
+    fn finish(&mut self) -> Result<(), Broken> {
+        match self.writer.flush() {
+            Ok(()) => Ok(()),
+            Err(_) => {
+                self.failed = true;
+                Err(Broken)
+            }
+        }
+    }
+
+    fn failures(&self) -> u32 {
+        self.failed.into()
+    }
+}
+
+/// Puts all of `b`.
+///
+/// # Errors
+/// `Broken` where the sink fails. A beginning of `b` was put.
+pub(crate) fn put_all<W: Sink>(w: &mut W, b: &[u8]) -> Result<(), Broken>
+    requires { W.failures w.old ≡ 0 }
+    ensures ok { OnOk result (Appends (W.written w.old) (W.written w.new) b.now) }
+    ensures err { OnErr result (AppendsBeginning (W.written w.old) (W.written w.new) b.now) }
+    ensures failures { CountsFailure result (W.failures w.new) }
+{
+    let mut rest = b;
+    while !rest.is_empty() {
+        let n = w.put(rest)?;
+        rest = &rest[n..];
+    }
+    Ok(())
+}

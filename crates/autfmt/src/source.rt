@@ -1,0 +1,177 @@
+//! Where bytes come from: a trait, bytes in memory, and any reader of the standard library.
+ghost use Rattle.std.specs.Prelude.{◌≡◌, ℕ, ◌<◌, ◌≤◌, ◌↔◌, List, length, None, Some, IfSome, IsErr, IfOk, OnErr, if◌then◌else◌, Option};
+ghost use Rattle.std.specs.Io.{ReadsAtMost};
+ghost use Rattle.std.specs.Io.KnownBytes.{ReadConsumes};
+ghost use Rattle.autfmt.specs.Stream.{CountsFailure, Wrapped, capped};
+ghost use Rattle.autfmt.specs.Supply.{Supply, next_count, after_take};
+
+use std::io::Read;
+use std::marker::Model;
+
+/// A source or sink failed, and is not to be used again.
+#[derive(Clone, Copy, Debug, PartialEq, Eq)]
+pub struct Broken;
+
+/// What bytes are taken from. One failure ends it.
+pub trait Source {
+    // The bytes to come, where the source tells them.
+    ghost rest: { Self → Option (List ℕ) };
+
+    // How often it failed.
+    ghost failures: { Self → ℕ };
+
+    /// Takes the next bytes into the front of `buf` and answers their count, 0 only at the end.
+    ///
+    /// # Errors
+    /// `Broken` where the source fails. No byte is lost, and `failures` is 1 from then on.
+    fn take(&mut self, buf: &mut [u8]) -> Result<usize, Broken>
+        requires room { 0 < length buf.old }
+        requires sound { failures self.old ≡ 0 }
+        ensures bound { ReadsAtMost result buf.new }
+        ensures bytes { ReadConsumes (rest self.old) (rest self.new) result buf.new }
+        ensures failures { CountsFailure result (failures self.new) };
+
+    /// How often the source failed: 0 or 1.
+    fn failures(&self) -> u32
+        ensures failures { result ≡ failures self.now }
+        ensures range { result ≤ 1 };
+}
+
+/// Bytes in memory that may fail at a place, for tests and for texts that are at hand.
+#[derive(Drop)]
+pub struct SliceSource<'a> {
+    rest: &'a [u8],
+    place: Option<usize>,
+    most: Option<usize>,
+    failed: bool,
+}
+
+impl<'a> Model for SliceSource<'a> {
+    ghost Value = { Supply };
+
+    ghost view = { λ s. record {
+      rest = s.rest.now;
+      place = s.place;
+      most = s.most;
+      failures = (if s.failed then 1 else 0);
+    } };
+
+    ghost invariant = { λ s. IfSome s.most (λ k. 1 ≤ k) };
+}
+
+impl<'a> SliceSource<'a> {
+    /// Gives `b` up to `place`, where the next `take` fails. A place past the end is never met.
+    pub fn new(b: &'a [u8], place: Option<usize>) -> SliceSource<'a>
+        ensures { result ≡ record { rest = b.now; place = place; most = None; failures = 0 } }
+    {
+        SliceSource {
+            rest: b,
+            place,
+            most: None,
+            failed: false,
+        }
+    }
+
+    /// The same source, of which no `take` gives more than `k` bytes.
+    pub fn pieces(self, k: usize) -> SliceSource<'a>
+        requires { 1 ≤ k }
+        ensures { result ≡ record self.entry { most = Some k } }
+    {
+        SliceSource {
+            most: Some(k),
+            rest: self.rest,
+            place: self.place,
+            failed: self.failed,
+        }
+    }
+}
+
+impl<'a> Source for SliceSource<'a> {
+    ghost rest = { λ s. Some s.rest };
+
+    ghost failures = { λ s. s.failures };
+
+    fn take(&mut self, buf: &mut [u8]) -> Result<usize, Broken>
+        requires room { 0 < length buf.old }
+        requires sound { self.old.failures ≡ 0 }
+        ensures bound { ReadsAtMost result buf.new }
+        ensures bytes { ReadConsumes (Some self.old.rest) (Some self.new.rest) result buf.new }
+        ensures failures { CountsFailure result self.new.failures }
+        ensures fails { IsErr result ↔ (self.old.place ≡ Some 0) }
+        ensures count { IfOk result (λ n. n ≡ next_count self.old (length buf.old)) }
+        ensures after { IfOk result (λ n. self.new ≡ after_take self.old n) }
+        ensures err { OnErr result (self.new ≡ record self.old { failures = 1 }) }
+    {
+        if self.place == Some(0) {
+            self.failed = true;
+            return Err(Broken);
+        }
+        let all = self.rest;
+        let n = at_most(self.most, at_most(self.place, buf.len().min(all.len())));
+        buf[..n].copy_from_slice(&all[..n]);
+        self.rest = &all[n..];
+        if let Some(p) = self.place {
+            self.place = Some(p - n);
+        }
+        Ok(n)
+    }
+
+    fn failures(&self) -> u32 {
+        u32::from(self.failed)
+    }
+}
+
+/// `n`, or `most` where that is smaller.
+pub(crate) fn at_most(most: Option<usize>, n: usize) -> usize
+    ensures { result ≡ capped most n }
+{
+    match most {
+        Some(k) => k.min(n),
+        None => n,
+    }
+}
+
+/// Any reader of the standard library. Each of its errors is a failure: there is no second try.
+#[derive(Drop)]
+pub struct FromRead<R> {
+    reader: R,
+    failed: bool,
+}
+
+impl<R> Model for FromRead<R> {
+    ghost Value = { Wrapped R };
+
+    ghost view = { λ s. record { inner = s.reader; failures = (if s.failed then 1 else 0) } };
+}
+
+impl<R: Read> FromRead<R> {
+    /// A source of what `reader` gives, which tells its bytes where the reader does.
+    pub fn new(reader: R) -> FromRead<R>
+        ensures { result ≡ record { inner = reader; failures = 0 } }
+    {
+        FromRead {
+            reader,
+            failed: false,
+        }
+    }
+}
+
+impl<R: Read> Source for FromRead<R> {
+    ghost rest = { λ s. R.remaining s.inner };
+
+    ghost failures = { λ s. s.failures };
+
+    fn take(&mut self, buf: &mut [u8]) -> Result<usize, Broken> {
+        match self.reader.read(buf) {
+            Ok(n) => Ok(n),
+            Err(_) => {
+                self.failed = true;
+                Err(Broken)
+            }
+        }
+    }
+
+    fn failures(&self) -> u32 {
+        self.failed.into()
+    }
+}

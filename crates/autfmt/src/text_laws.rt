@@ -1,0 +1,72 @@
+//! Laws of whole texts: a text has one cut into lines, and so one reading or one first fault.
+ghost use Rattle.std.specs.Prelude.{◌≡◌, ◌⊎◌, ◌↔◌, ℕ, List, ◌++◌};
+ghost use Rattle.theory.specs.System.{System, Hide};
+ghost use Rattle.autfmt.specs.declared.fault.Fault.{Fault};
+ghost use Rattle.autfmt.specs.Bounds.{Bounds};
+ghost use Rattle.autfmt.specs.Texts.{Cuts, Lines, Reads};
+ghost use Rattle.autfmt.specs.Faults.{FirstFault, JudgedFault};
+ghost use Rattle.autfmt.specs.HideLists.{HideReads, FirstHideFault, JudgedHideFault};
+ghost use Rattle.autfmt.specs.HideReaders.{SameLabels};
+
+/// A text has exactly one cut at its line feeds.
+pub fn a_text_has_one_cut()
+    ensures some { (text : List ℕ) → (ended : List (List ℕ)) × (rest : List ℕ) × Cuts text ended rest }
+    ensures one { (text : List ℕ) (e e' : List (List ℕ)) (r r' : List ℕ) →
+        Cuts text e r → Cuts text e' r' → (e ≡ e') × (r ≡ r') }
+{}
+
+/// A text has exactly one list of lines.
+pub fn a_text_has_its_lines()
+    ensures some { (text : List ℕ) → (lines : List (List ℕ)) × Lines text lines }
+    ensures one { (text : List ℕ) (k l : List (List ℕ)) → Lines text k → Lines text l → k ≡ l }
+{}
+
+/// A text reads as one system at most, and has one first fault at most.
+pub fn a_text_has_one_reading()
+    ensures system { (bounds : Bounds) (text : List ℕ) (A B : System) →
+        Reads bounds text A → Reads bounds text B → A ≡ B }
+    ensures fault { (bounds : Bounds) (text : List ℕ) (f g : Fault) →
+        FirstFault bounds text f → FirstFault bounds text g → f ≡ g }
+{}
+
+/// A text has no first fault exactly where it reads as some system.
+pub fn a_text_reads_or_has_a_fault()
+    ensures one { (bounds : Bounds) (text : List ℕ) →
+        ((A : System) × Reads bounds text A) ⊎ ((f : Fault) × FirstFault bounds text f) }
+    ensures not_both { (bounds : Bounds) (text : List ℕ) (A : System) (f : Fault) →
+        Reads bounds text A → ¬ FirstFault bounds text f }
+    ensures none { (bounds : Bounds) (text : List ℕ) →
+        ((f : Fault) → ¬ FirstFault bounds text f) ↔ ((A : System) × Reads bounds text A) }
+{}
+
+/// The fault that is known from the first bytes of a text is its first fault, whatever follows them.
+pub fn a_judged_fault_is_the_first()
+    ensures { (bounds : Bounds) (given more : List ℕ) (f : Fault) →
+        JudgedFault bounds given f → FirstFault bounds (given ++ more) f }
+{}
+
+/// A hide list has one list of labels at most, and one first fault at most.
+pub fn a_hide_list_has_one_reading()
+    ensures labels { (text : List ℕ) (H K : List (List ℕ)) → HideReads text H → HideReads text K → H ≡ K }
+    ensures fault { (text : List ℕ) (f g : Fault) → FirstHideFault text f → FirstHideFault text g → f ≡ g }
+{}
+
+/// A hide list has no first fault exactly where it has some list of labels.
+pub fn a_hide_list_reads_or_has_a_fault()
+    ensures one { (text : List ℕ) →
+        ((H : List (List ℕ)) × HideReads text H) ⊎ ((f : Fault) × FirstHideFault text f) }
+    ensures not_both { (text : List ℕ) (H : List (List ℕ)) (f : Fault) →
+        HideReads text H → ¬ FirstHideFault text f }
+    ensures none { (text : List ℕ) →
+        ((f : Fault) → ¬ FirstHideFault text f) ↔ ((H : List (List ℕ)) × HideReads text H) }
+{}
+
+/// The fault that is known from the first bytes of a hide list is its first fault, whatever follows them.
+pub fn a_judged_hide_fault_is_the_first()
+    ensures { (given more : List ℕ) (f : Fault) → JudgedHideFault given f → FirstHideFault (given ++ more) f }
+{}
+
+/// Hiding depends on which labels stand in the list alone, not on their order or their repeats.
+pub fn hiding_depends_on_the_labels()
+    ensures { (H K : List (List ℕ)) (A : System) → SameLabels H K → Hide H A ≡ Hide K A }
+{}

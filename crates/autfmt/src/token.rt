@@ -1,0 +1,236 @@
+//! The tokens of one line: of a header, of a transition, of a line of a hide list.
+
+ghost use Rattle.std.specs.Prelude.{◌≡◌, ◌≢◌, ℕ, ◌<◌, ◌≤◌, ◌^◌, List, length, slice_index, IfSome, IfNone};
+ghost use Rattle.theory.specs.System.{IsLabel};
+ghost use Rattle.autfmt.specs.Grammar.{Header, TransitionLine, HideLine, is_letter};
+ghost use Rattle.autfmt.specs.Reading.{Gives, is_blank, is_word, after_blanks, past, number_at, word_len, more_digits, plain_at, last_quote, quoted_at, label_at, are_blanks, past_des, number_then, header_at, transition_at, hide_line_at};
+
+use lts::is_label;
+
+/// The first state, the number of transitions and the number of states that a header line gives;
+/// None where the line is not a header.
+pub(crate) fn header_of(line: &[u8]) -> Option<(u64, u64, u64)>
+    ensures found { IfSome result (λ x. Header line.now x.0 x.1 x.2) }
+    ensures none { IfNone result ((f m n : ℕ) → ¬ Header line.now f m n) }
+{
+    read_header(line)
+}
+
+/// The source, the label and the target that a transition line gives; None where the line is not
+/// one.
+pub(crate) fn transition_of(line: &[u8]) -> Option<(u64, &[u8], u64)>
+    ensures found { IfSome result (λ x. TransitionLine line.now x.0 x.1.now x.2) }
+    ensures label { IfSome result (λ x. IsLabel x.1.now) }
+    ensures numbers { IfSome result (λ x. (x.0 < 10 ^ 10) × (x.2 < 10 ^ 10)) }
+    ensures none { IfNone result ((s t : ℕ) (a : List ℕ) → ¬ TransitionLine line.now s a t) }
+{
+    read_transition(line)
+}
+
+/// The label that a line of a hide list gives; None where the line is not one label.
+pub(crate) fn hide_line_of(line: &[u8]) -> Option<&[u8]>
+    ensures found { IfSome result (λ a. HideLine line.now a.now) }
+    ensures label { IfSome result (λ a. IsLabel a.now) }
+    ensures none { IfNone result ((a : List ℕ) → ¬ HideLine line.now a) }
+{
+    read_hide_line(line)
+}
+
+#[tactic(auto, unfolding(crate::specs::Reading::header_at))]
+fn read_header(line: &[u8]) -> Option<(u64, u64, u64)>
+    ensures { Gives (λ x. (x.0, x.1, x.2)) result (header_at line.now) }
+{
+    let rest = past_des(after_blanks(line))?;
+    let rest = past(b'(', after_blanks(rest))?;
+    let (first, rest) = number_then(b',', rest)?;
+    let (transitions, rest) = number_then(b',', rest)?;
+    let (states, rest) = number_then(b')', rest)?;
+    if are_blanks(rest) {
+        Some((first, transitions, states))
+    } else {
+        None
+    }
+}
+
+#[tactic(auto, unfolding(crate::specs::Reading::transition_at))]
+fn read_transition(line: &[u8]) -> Option<(u64, &[u8], u64)>
+    ensures { Gives (λ x. (x.0, x.1.now, x.2)) result (transition_at line.now) }
+{
+    let rest = past(b'(', after_blanks(line))?;
+    let (source, rest) = number_then(b',', rest)?;
+    let (label, rest) = label_at(after_blanks(rest))?;
+    let rest = past(b',', after_blanks(rest))?;
+    let (target, rest) = number_then(b')', rest)?;
+    if are_blanks(rest) {
+        Some((source, label, target))
+    } else {
+        None
+    }
+}
+
+#[tactic(auto, unfolding(crate::specs::Reading::hide_line_at))]
+fn read_hide_line(line: &[u8]) -> Option<&[u8]>
+    ensures { Gives (λ a. a.now) result (hide_line_at line.now) }
+{
+    let (label, rest) = label_at(after_blanks(line))?;
+    if are_blanks(rest) { Some(label) } else { None }
+}
+
+// A number and the mark behind it, each behind blanks.
+#[tactic(auto, unfolding(crate::specs::Reading::number_then))]
+fn number_then(mark: u8, line: &[u8]) -> Option<(u64, &[u8])>
+    ensures { Gives (λ x. (x.0, x.1.now)) result (number_then mark line.now) }
+{
+    let (number, rest) = number_at(after_blanks(line))?;
+    let rest = past(mark, after_blanks(rest))?;
+    Some((number, rest))
+}
+
+#[tactic(auto, unfolding(crate::specs::Reading::past_des))]
+fn past_des(line: &[u8]) -> Option<&[u8]>
+    ensures { Gives (λ r. r.now) result (past_des line.now) }
+{
+    let rest = past(b'd', line)?;
+    let rest = past(b'e', rest)?;
+    past(b's', rest)
+}
+
+// What is left behind the mark, where it is the first byte.
+#[tactic(auto, unfolding(crate::specs::Reading::past))]
+fn past(mark: u8, line: &[u8]) -> Option<&[u8]>
+    ensures { Gives (λ r. r.now) result (past mark line.now) }
+{
+    match line {
+        [first, rest @ ..] if *first == mark => Some(rest),
+        _ => None,
+    }
+}
+
+#[tactic(auto, unfolding(crate::specs::Reading::after_blanks))]
+fn after_blanks(line: &[u8]) -> &[u8]
+    ensures { result.now ≡ after_blanks line.now }
+{
+    let mut rest = line;
+    while let [first, after @ ..] = rest {
+        if !is_blank(*first) {
+            return rest;
+        }
+        rest = after;
+    }
+    rest
+}
+
+fn are_blanks(line: &[u8]) -> bool
+    ensures { result ≡ are_blanks line.now }
+{
+    line.iter().all(|b| is_blank(*b))
+}
+
+fn is_blank(b: u8) -> bool
+    ensures { result ≡ is_blank b }
+{
+    b == b' ' || b == b'\t' || b == b'\r'
+}
+
+#[tactic(auto, unfolding(crate::specs::Reading::number_at))]
+fn number_at(line: &[u8]) -> Option<(u64, &[u8])>
+    ensures { Gives (λ x. (x.0, x.1.now)) result (number_at line.now) }
+{
+    let [first @ b'0'..=b'9', rest @ ..] = line else {
+        return None;
+    };
+    more_digits(u64::from(*first - b'0'), rest)
+}
+
+// Goes on behind the digits of `value`: none follows a leading zero, and none follows ten of them.
+#[tactic(auto, unfolding(crate::specs::Reading::more_digits))]
+fn more_digits(value: u64, line: &[u8]) -> Option<(u64, &[u8])>
+    requires { value < 10 ^ 10 }
+    ensures { Gives (λ x. (x.0, x.1.now)) result (more_digits value line.now) }
+{
+    let mut value = value;
+    let mut rest = line;
+    while let [digit @ b'0'..=b'9', after @ ..] = rest {
+        if value == 0 || value >= 1_000_000_000 {
+            return None;
+        }
+        value = 10 * value + u64::from(*digit - b'0');
+        rest = after;
+    }
+    Some((value, rest))
+}
+
+#[tactic(auto, unfolding(crate::specs::Reading::label_at))]
+fn label_at(line: &[u8]) -> Option<(&[u8], &[u8])>
+    ensures { Gives (λ x. (x.0.now, x.1.now)) result (label_at line.now) }
+{
+    match line {
+        [] => None,
+        [b'"', rest @ ..] => quoted_at(rest),
+        [_, ..] => plain_at(line),
+    }
+}
+
+// A label behind its opening mark: nothing behind a label holds a mark, so the last one ends it.
+fn quoted_at(line: &[u8]) -> Option<(&[u8], &[u8])>
+    ensures { Gives (λ x. (x.0.now, x.1.now)) result (quoted_at line.now) }
+{
+    let end = last_quote(line)?;
+    let label = &line[..end];
+    if is_label(label) {
+        Some((label, &line[end + 1..]))
+    } else {
+        None
+    }
+}
+
+fn last_quote(line: &[u8]) -> Option<usize>
+    ensures within { IfSome result (λ i. i < length line.now) }
+    ensures quote { IfSome result (λ i. slice_index line.now i ≡ 34) }
+    ensures last { IfSome result (λ i. (k : ℕ) → i < k → k < length line.now
+        → slice_index line.now k ≢ 34) }
+    ensures none { IfNone result ((k : ℕ) → k < length line.now → slice_index line.now k ≢ 34) }
+{
+    line.iter().rposition(|b| *b == b'"')
+}
+
+#[tactic(auto, unfolding(crate::specs::Reading::plain_at))]
+fn plain_at(line: &[u8]) -> Option<(&[u8], &[u8])>
+    ensures { Gives (λ x. (x.0.now, x.1.now)) result (plain_at line.now) }
+{
+    let [first, ..] = line else {
+        return None;
+    };
+    let end = word_len(line);
+    if is_letter(*first) && end <= 8000 {
+        Some(line.split_at(end))
+    } else {
+        None
+    }
+}
+
+// How many letters and digits stand in front.
+fn word_len(line: &[u8]) -> usize
+    ensures value { result ≡ word_len line.now }
+    ensures within { result ≤ length line.now }
+{
+    for (i, b) in line.iter().enumerate() {
+        if !is_word(*b) {
+            return i;
+        }
+    }
+    line.len()
+}
+
+/// A letter A to Z, a to z, or the low line.
+pub(crate) fn is_letter(b: u8) -> bool
+    ensures { result ≡ is_letter b }
+{
+    b.is_ascii_alphabetic() || b == b'_'
+}
+
+fn is_word(b: u8) -> bool
+    ensures { result ≡ is_word b }
+{
+    is_letter(b) || b.is_ascii_digit()
+}
