@@ -1,17 +1,16 @@
 -- A text reads as one system or has one first fault.
-use Rattle.std.proofs.Common.{◌≡◌, ◌⊎◌, ◌↔◌, ⊎_elim, ℕ, ◌+◌, ◌-◌, ◌<◌, ◌≤◌, List, [], ◌∷◌, ◌++◌, length, refl, sym, ◌∙◌, ap, subst, inl, inr, arith, All}
+use Rattle.std.proofs.Common.{◌≡◌, ◌⊎◌, ◌↔◌, ⊎_elim, ℕ, ◌+◌, ◌-◌, ◌<◌, ◌≤◌, List, [], ◌∷◌, ◌++◌, length, refl, sym, ◌∙◌, subst, inl, inr, arith, All}
 use Rattle.std.specs.List.{AllZip}
 use Rattle.std.proofs.lemmas.Bool.{cases_lt}
-use Rattle.std.proofs.lemmas.List.{append_assoc, append-nil, length-append}
 use Rattle.std.proofs.lemmas.List.Elements.{All-nil, All-cons, All-head, All-tail}
 use Rattle.theory.specs.System.{System, Transition, IsSystem, IsAmong}
 use Rattle.autfmt.specs.declared.fault.Fault.{Fault}
-use Rattle.autfmt.specs.declared.fault.Fault.TheVariants.{BadHeader, FirstState, NoStates, TooManyStates, TooManyTransitions, LineTooLong, BadEdge, SourceRange, TargetRange, ExtraText, MissingEdges, Device, Memory, BadHide, TooManyHidden}
+use Rattle.autfmt.specs.declared.fault.Fault.TheVariants.{BadHeader, MissingEdges}
 use Rattle.autfmt.specs.Bounds.{Bounds}
-use Rattle.autfmt.specs.Grammar.{Header, TransitionLine}
-use Rattle.autfmt.specs.Texts.{Cuts, Lines, IsShort, IsOneLine, SpellsTransition, SpellsSystem, Reads, with_line_feeds}
-use Rattle.autfmt.specs.Faults.{HeaderFault, GoodHeader, EdgeFault, GoodEdge, FaultFrom, Missing, FaultOfLines, FirstFault, JudgedRest, JudgedOfLines, JudgedFault}
-use Rattle.autfmt.proofs.Cutting.{Cuts-unique, Lines-unique, Lines-behind, lines_of, first_begins}
+use Rattle.autfmt.specs.Grammar.{Header}
+use Rattle.autfmt.specs.Texts.{Lines, SpellsTransition, SpellsSystem, Reads}
+use Rattle.autfmt.specs.Faults.{HeaderFault, GoodHeader, EdgeFault, GoodEdge, FaultFrom, Missing, FaultOfLines, FirstFault}
+use Rattle.autfmt.proofs.Cutting.{Lines-unique, lines_of}
 use Rattle.autfmt.proofs.Decisions.{one_transition, one_header}
 use Rattle.autfmt.proofs.Lines.{transition-label}
 use Rattle.autfmt.proofs.LineFaults.{HeaderFault-unique, GoodHeader-no_fault, GoodHeader-unique, header_judged, EdgeFault-unique, GoodEdge-no_fault, edge_judged}

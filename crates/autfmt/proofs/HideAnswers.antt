@@ -1,5 +1,5 @@
 -- What the answers of the reader of a hide list say of a whole text.
-use Rattle.std.proofs.Common.{◌≡◌, ◌⊎◌, ℕ, List, [], ◌++◌, Option, None, Some, Result, Ok, Err, MatchResult, IfErr, sym, subst, inr, arith}
+use Rattle.std.proofs.Common.{◌≡◌, ℕ, List, ◌++◌, Option, Some, Result, Ok, Err, MatchResult, IfErr, sym, subst, inr, arith}
 use Rattle.std.specs.Io.KnownBytes.{Consumes}
 use Rattle.autfmt.specs.declared.fault.Fault.{Fault}
 use Rattle.autfmt.specs.HideLists.{JudgedHideFault}

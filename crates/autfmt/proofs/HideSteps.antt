@@ -1,20 +1,20 @@
 -- The steps of the reader of a hide list: what each one leaves, and why it may refuse.
-use Rattle.std.proofs.Common.{◌≡◌, ◌↔◌, ◌⊎◌, ⊎_elim, ℕ, ◌+◌, ◌<◌, ◌≤◌, Bool, true, false, List, [], ◌∷◌, ◌++◌, length, Option, None, Some, IfSome, Contains, refl, sym, ◌∙◌, ap, subst, inl, inr, arith, All}
+use Rattle.std.proofs.Common.{◌≡◌, ◌⊎◌, ⊎_elim, ℕ, ◌+◌, ◌<◌, ◌≤◌, true, List, [], ◌∷◌, ◌++◌, length, Option, Contains, refl, sym, ◌∙◌, ap, subst, inl, inr, arith}
 use Rattle.std.specs.List.{AllZip}
-use Rattle.std.proofs.lemmas.List.{append_assoc, append-nil, length-append, length_push}
+use Rattle.std.proofs.lemmas.List.{append_assoc, length_push}
 use Rattle.std.proofs.lemmas.List.Elements.{All-nil, Contains-append_left, Contains-push, Contains-push_cases}
 use Rattle.std.specs.Io.KnownBytes.{IsAtEnd}
 use Rattle.lts.specs.Labels.{Interns}
 use Rattle.autfmt.specs.declared.fault.Fault.{Fault}
-use Rattle.autfmt.specs.declared.fault.Fault.TheVariants.{LineTooLong, TooManyHidden, Device, Memory}
-use Rattle.autfmt.specs.Texts.{Cuts, Lines, IsOneLine, IsShort}
-use Rattle.autfmt.specs.HideLists.{Hides, HideReads, HideFault, HideFaultFrom, FirstHideFault}
-use Rattle.autfmt.specs.Cutter.{Cutting, Stands, CutsLine, CutsEnd, BeginsTooLong, IsPart}
+use Rattle.autfmt.specs.declared.fault.Fault.TheVariants.{LineTooLong, TooManyHidden, Device}
+use Rattle.autfmt.specs.Texts.{Lines}
+use Rattle.autfmt.specs.HideLists.{Hides, HideFault, HideFaultFrom, FirstHideFault}
+use Rattle.autfmt.specs.Cutter.{Cutting, CutsLine, BeginsTooLong, IsPart}
 use Rattle.autfmt.specs.HideReaders.{IsHideFault, SameLabels, HidesAs, AddsLabel, HideRefuses, HideReadSoFar}
-use Rattle.autfmt.specs.HideReaders.HideRefuses.{want_of_memory, failed_device, faulty_text}
+use Rattle.autfmt.specs.HideReaders.HideRefuses.{failed_device, faulty_text}
 use Rattle.autfmt.proofs.Cutting.{IsNoFeed}
 use Rattle.autfmt.proofs.HideLaws.{no_fault, hides_push, no_judged_hide_fault, FirstHideFault-behind}
-use Rattle.autfmt.proofs.Standing.{Stands-new, Stands-line, Stands-lines, Stands-too_long, Stands-end, Stands-more, Stands-cut}
+use Rattle.autfmt.proofs.Standing.{Stands-line, Stands-lines, Stands-too_long, Stands-end, Stands-more, Stands-cut}
 use Rattle.autfmt.proofs.ReaderSteps.{if_told, none_to_come, fresh, Stands-fresh}
 
 -- a label put into the table was added

@@ -1,5 +1,5 @@
 -- Hiding: which labels are hidden, and that nothing else of the list counts.
-use Rattle.std.proofs.Common.{◌≡◌, ◌↔◌, ℕ, zero, suc, ◌<◌, Bool, true, false, cond, List, [], ◌∷◌, length, map, get_or, Contains, refl, sym, ◌∙◌, ap, inl, inr, arith, ◌⊎◌, subst}
+use Rattle.std.proofs.Common.{◌≡◌, ◌↔◌, ℕ, zero, suc, ◌<◌, true, false, List, [], ◌∷◌, length, map, get_or, Contains, refl, sym, ◌∙◌, ap, inl, inr, arith, ◌⊎◌, subst}
 use Rattle.std.specs.List.{list_any}
 use Rattle.std.specs.Str.{bytes_eq}
 use Rattle.std.proofs.lemmas.Bool.{both_ways, or_left, or_right, cases_Bool, cond-true, cond-false}

@@ -1,9 +1,9 @@
 -- Triples over a label table, and the transitions that they stand for.
-use Rattle.std.proofs.Common.{◌≡◌, ◌⊎◌, ℕ, ◌+◌, ◌<◌, ◌≤◌, List, [], ◌∷◌, ◌++◌, length, map, Contains, refl, sym, ◌∙◌, ap, subst, inl, inr, arith, All}
-use Rattle.std.proofs.lemmas.List.{length-append, length_push, length-map, map_push, same_lists, get_or-map}
-use Rattle.std.proofs.lemmas.List.Elements.{All-nil, All-cons, All-head, All-tail, All-push, All-weaker}
-use Rattle.theory.specs.System.{System, Transition, IsSystem, IsAmong, Hide, hidden_label, hidden_transition}
-use Rattle.lts.specs.Labels.{IsNumber, Keeps, Interns, text_of}
+use Rattle.std.proofs.Common.{◌≡◌, ℕ, ◌+◌, ◌≤◌, List, [], ◌∷◌, ◌++◌, length, map, refl, sym, ◌∙◌, ap, subst, inl, inr, arith, All}
+use Rattle.std.proofs.lemmas.List.{length_push, length-map, map_push}
+use Rattle.std.proofs.lemmas.List.Elements.{All-nil, All-head, All-tail, All-push, All-weaker}
+use Rattle.theory.specs.System.{System, Transition, IsAmong, Hide, hidden_label, hidden_transition}
+use Rattle.lts.specs.Labels.{Keeps, Interns}
 use Rattle.lts.specs.Lts.{Triple, IsTriple, transition_of, system_from, label_of}
 use Rattle.autfmt.specs.declared.held.Held.{Held}
 use Rattle.autfmt.specs.Held.{Adds, Holds}

@@ -1,10 +1,10 @@
 -- What is known of a text from its first bytes.
-use Rattle.std.proofs.Common.{◌≡◌, ◌⊎◌, ℕ, ◌+◌, ◌-◌, ◌<◌, ◌≤◌, List, [], ◌∷◌, ◌++◌, length, refl, sym, ◌∙◌, ap, subst, inl, inr, arith, All}
-use Rattle.std.proofs.lemmas.List.{append_assoc, append-nil, length-append}
+use Rattle.std.proofs.Common.{◌≡◌, ◌⊎◌, ℕ, ◌+◌, ◌<◌, ◌≤◌, List, [], ◌∷◌, ◌++◌, length, refl, sym, ◌∙◌, ap, subst, inl, inr, arith}
+use Rattle.std.proofs.lemmas.List.{append_assoc, length-append}
 use Rattle.std.proofs.lemmas.List.Elements.{All-nil}
 use Rattle.theory.specs.System.{Transition}
 use Rattle.autfmt.specs.declared.fault.Fault.{Fault}
-use Rattle.autfmt.specs.declared.fault.Fault.TheVariants.{BadHeader, LineTooLong, ExtraText, MissingEdges}
+use Rattle.autfmt.specs.declared.fault.Fault.TheVariants.{LineTooLong, ExtraText}
 use Rattle.autfmt.specs.Bounds.{Bounds}
 use Rattle.autfmt.specs.Texts.{Cuts, Lines, IsOneLine, with_line_feeds}
 use Rattle.autfmt.specs.Faults.{HeaderFault, GoodHeader, EdgeFault, FaultFrom, Missing, FaultOfLines, FirstFault, JudgedRest, JudgedOfLines, JudgedFault}

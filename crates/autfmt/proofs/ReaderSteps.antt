@@ -1,18 +1,18 @@
 -- The steps of the reader of a system: what each one leaves, and why it may refuse.
-use Rattle.std.proofs.Common.{◌≡◌, ◌⊎◌, ℕ, ◌+◌, ◌-◌, ◌<◌, ◌≤◌, Bool, true, false, List, [], ◌∷◌, ◌++◌, length, vec_len, Option, None, Some, IfSome, Result, Ok, Err, refl, sym, ◌∙◌, ap, subst, inl, inr, arith, All}
-use Rattle.std.proofs.lemmas.List.{append_assoc, append-nil, length-append}
+use Rattle.std.proofs.Common.{◌≡◌, ◌⊎◌, ℕ, ◌+◌, ◌-◌, ◌<◌, ◌≤◌, Bool, true, false, List, [], ◌∷◌, ◌++◌, length, vec_len, Option, None, Some, IfSome, Result, Ok, Err, IfOk, IfErr, MatchResult, refl, sym, ◌∙◌, ap, subst, inl, inr, arith}
+use Rattle.std.proofs.lemmas.List.{append_assoc, append-nil}
 use Rattle.std.proofs.lemmas.List.Elements.{All-nil}
 use Rattle.std.specs.Io.KnownBytes.{IsAtEnd}
-use Rattle.theory.specs.System.{Transition, IsAmong, IsLabel}
+use Rattle.theory.specs.System.{Transition, IsAmong}
 use Rattle.autfmt.specs.declared.fault.Fault.{Fault}
 use Rattle.autfmt.specs.declared.fault.Fault.TheVariants.{BadHeader, LineTooLong, MissingEdges, ExtraText, Device, Memory}
 use Rattle.autfmt.specs.declared.cutter.Step.{Step}
-use Rattle.autfmt.specs.declared.cutter.Step.TheVariants.{Line, TooLong, End}
+use Rattle.autfmt.specs.declared.cutter.Step.TheVariants.{End}
 use Rattle.autfmt.specs.declared.held.Held.{Held}
 use Rattle.autfmt.specs.declared.judge.Promise.{Promise}
 use Rattle.autfmt.specs.Bounds.{Bounds}
 use Rattle.autfmt.specs.Grammar.{TransitionLine}
-use Rattle.autfmt.specs.Texts.{Cuts, Lines, IsOneLine, IsShort, Reads}
+use Rattle.autfmt.specs.Texts.{Lines, Reads}
 use Rattle.autfmt.specs.Faults.{HeaderFault, GoodHeader, EdgeFault, FaultFrom, Missing, FirstFault}
 use Rattle.autfmt.specs.Cutter.{Cutting, Stands, CutsLine, CutsEnd, BeginsTooLong, IsPart}
 use Rattle.autfmt.specs.Held.{Holds}
@@ -292,3 +292,14 @@ end_failed bounds given old p es got rest failures so_far count failed goes_on n
     let part : IsPart (old.ahead ++ got) =
     subst (λ (t : List ℕ). IsPart t) (sym none) (All-nil IsNoFeed, omega arith) in
     transition_failed bounds given old p es got rest failures so_far (omega arith) (inr (ap length none)) failed goes_on part
+
+-- what the judge answers of line 1
+pub header_answer :
+    (bounds : Bounds) (old now : Cutting) (got : List ℕ) (rest : Option (List ℕ)) (failures : ℕ) (result : Result Promise Fault) →
+    old ≡ fresh → failures ≡ 0 → (now.over ≡ true → IsAtEnd rest) → CutsLine (old.ahead ++ got) now →
+    IfOk result (λ p. GoodHeader bounds now.line p.first p.transitions p.states) →
+    IfErr result (λ f. HeaderFault bounds now.line f) → IfErr result IsTextFault →
+    MatchResult result (λ p. ReadSoFar bounds got now p []) (Refuses bounds got rest failures)
+header_answer bounds old now got rest failures (Ok p) e sound end cuts good bad kind = header_good bounds old now got p e cuts good
+header_answer bounds old now got rest failures (Err f) e sound end cuts good bad kind =
+    header_faulty bounds old now got rest failures f e sound end cuts bad kind

@@ -1,10 +1,9 @@
 -- Where the cutter of lines stands, step by step.
-use Rattle.std.proofs.Common.{◌≡◌, ◌⊎◌, ℕ, ◌+◌, ◌<◌, ◌≤◌, Bool, true, false, IsTrue, List, [], ◌∷◌, ◌++◌, length, Option, None, Some, IfSome, refl, sym, ◌∙◌, ap, subst, inl, inr, arith, All}
+use Rattle.std.proofs.Common.{◌≡◌, ◌⊎◌, ℕ, ◌<◌, ◌≤◌, true, false, List, [], ◌∷◌, ◌++◌, length, refl, sym, ◌∙◌, ap, subst, inl, inr, arith}
 use Rattle.std.proofs.lemmas.List.{append_assoc, append-nil, length-append}
-use Rattle.std.proofs.lemmas.List.Elements.{All-nil, All-cons, All-push}
-use Rattle.std.specs.Io.KnownBytes.{IsAtEnd}
-use Rattle.autfmt.specs.Texts.{Cuts, Lines, IsOneLine, IsShort, with_line_feeds}
-use Rattle.autfmt.specs.Cutter.{Cutting, Stands, CutsLine, CutsEnd, BeginsTooLong, IsPart}
+use Rattle.std.proofs.lemmas.List.Elements.{All-nil, All-push}
+use Rattle.autfmt.specs.Texts.{Cuts, Lines, IsOneLine, with_line_feeds}
+use Rattle.autfmt.specs.Cutter.{Cutting, Stands, CutsLine, BeginsTooLong}
 use Rattle.autfmt.proofs.Cutting.{with_line_feeds-append, with_line_feeds-cons, Lines-behind, Lines-nil, Lines-one, lines_of, first_begins, some_line}
 
 -- nothing was given

@@ -1,7 +1,7 @@
 -- The cutter of lines: where it stands among the bytes that a source gives.
-use Rattle.std.specs.Prelude.{◌≡◌, ◌⊎◌, ℕ, ◌+◌, ◌<◌, ◌≤◌, Bool, true, false, IsTrue, List, [], ◌∷◌, ◌++◌, length, Option, None, Some, IfSome, Result, Ok, Err, MatchResult}
+use Rattle.std.specs.Prelude.{◌≡◌, ◌⊎◌, ℕ, ◌<◌, ◌≤◌, Bool, true, false, IsTrue, List, [], ◌∷◌, ◌++◌, length, Option, None, Some, IfSome}
 use Rattle.std.specs.List.{All, slice_range}
-use Rattle.autfmt.specs.Texts.{Cuts, Lines, IsOneLine, IsShort, with_line_feeds}
+use Rattle.autfmt.specs.Texts.{Lines, IsOneLine, IsShort, with_line_feeds}
 
 -- the line that was cut last, the bytes that were taken behind it, and whether the source came to its end
 pub record Cutting : Type 0 where

@@ -1,5 +1,5 @@
 -- What the cutter of lines makes of the bytes that it takes.
-use Rattle.std.specs.Prelude.{◌≡◌, ℕ, ◌+◌, ◌<◌, ◌≤◌, Bool, true, false, IsTrue, List, [], ◌∷◌, ◌++◌, length, Result, MatchResult}
+use Rattle.std.specs.Prelude.{◌≡◌, ℕ, ◌+◌, ◌<◌, ◌≤◌, Bool, false, IsTrue, List, [], ◌∷◌, ◌++◌, length, Result, MatchResult}
 use Rattle.std.specs.List.{slice_range}
 use Rattle.autfmt.specs.declared.cutter.Step.{Step}
 use Rattle.autfmt.specs.declared.cutter.Step.TheVariants.{Line, TooLong, End}

@@ -3,7 +3,7 @@ use Rattle.std.specs.Prelude.{◌≡◌, ℕ, ◌+◌, ◌≤◌, List, [], ◌�
 use Rattle.std.specs.List.{All}
 use Rattle.theory.specs.System.{Transition, hidden_transition}
 use Rattle.lts.specs.Labels.{IsNumber, Keeps}
-use Rattle.lts.specs.Lts.{Triple, IsTriple, transition_of}
+use Rattle.lts.specs.Lts.{IsTriple, transition_of}
 use Rattle.autfmt.specs.declared.held.Held.{Held}
 
 -- a triple was added, whose label has a number in the table; labels known before kept theirs, and one at most is new

@@ -1,10 +1,10 @@
 -- What a reader answers: the system of a text, or why there is none.
-use Rattle.std.specs.Prelude.{◌≡◌, ◌⊎◌, ℕ, ◌+◌, ◌≤◌, List, [], ◌∷◌, ◌++◌, length, map, Option, IfSome, ⊤}
+use Rattle.std.specs.Prelude.{◌≡◌, ◌⊎◌, ℕ, List, ◌∷◌, ◌++◌, Option, IfSome, ⊤}
 use Rattle.std.specs.List.{All, AllZip}
 use Rattle.theory.specs.System.{System, Transition, IsAmong, Hide}
 use Rattle.lts.specs.Lts.{Grouped, system_of, Groups}
 use Rattle.autfmt.specs.declared.fault.Fault.{Fault}
-use Rattle.autfmt.specs.declared.fault.Fault.TheVariants.{BadHeader, FirstState, NoStates, TooManyStates, TooManyTransitions, LineTooLong, BadEdge, SourceRange, TargetRange, ExtraText, MissingEdges, Device, Memory, BadHide, TooManyHidden}
+use Rattle.autfmt.specs.declared.fault.Fault.TheVariants.{Device, Memory, BadHide, TooManyHidden}
 use Rattle.autfmt.specs.Bounds.{Bounds}
 use Rattle.autfmt.specs.Texts.{Lines, SpellsTransition, Reads}
 use Rattle.autfmt.specs.Faults.{GoodHeader, FirstFault, JudgedFault}

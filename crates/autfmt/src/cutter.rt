@@ -88,9 +88,11 @@ impl Cutter {
     /// Goes on to the next line.
     pub(crate) fn advance<R: Source>(&mut self, r: &mut R) -> Result<Step, Broken>
         requires { R.failures r.old ≡ 0 }
-        ensures step { (got : List ℕ) × Consumes (R.rest r.old) (R.rest r.new) got × Advances (self.old.ahead ++ got) result self.new }
+        ensures step { (got : List ℕ) × Consumes (R.rest r.old) (R.rest r.new) got ×
+            Advances (self.old.ahead ++ got) result self.new }
         ensures over { IsTrue self.old.over → result ≡ Ok Step.End }
-        ensures end { (IsTrue self.old.over → IsAtEnd (R.rest r.old)) → IsTrue self.new.over → IsAtEnd (R.rest r.new) }
+        ensures end { (IsTrue self.old.over → IsAtEnd (R.rest r.old)) →
+            IsTrue self.new.over → IsAtEnd (R.rest r.new) }
         ensures failures { CountsFailure result (R.failures r.new) }
     {
         if self.over {
@@ -133,9 +135,11 @@ impl Cutter {
     /// Whether no byte stands behind the line that was cut last.
     pub(crate) fn is_at_end<R: Source>(&mut self, r: &mut R) -> Result<bool, Broken>
         requires { R.failures r.old ≡ 0 }
-        ensures look { (got : List ℕ) × Consumes (R.rest r.old) (R.rest r.new) got × Looks (self.old.ahead ++ got) result self.new }
+        ensures look { (got : List ℕ) × Consumes (R.rest r.old) (R.rest r.new) got ×
+            Looks (self.old.ahead ++ got) result self.new }
         ensures over { IsTrue self.old.over → result ≡ Ok true }
-        ensures end { (IsTrue self.old.over → IsAtEnd (R.rest r.old)) → IsTrue self.new.over → IsAtEnd (R.rest r.new) }
+        ensures end { (IsTrue self.old.over → IsAtEnd (R.rest r.old)) →
+            IsTrue self.new.over → IsAtEnd (R.rest r.new) }
         ensures failures { CountsFailure result (R.failures r.new) }
     {
         if self.from < self.to {
@@ -167,7 +171,8 @@ fn gather<R: Source>(piece: &mut [u8], kept: &mut LineBuffer, r: &mut R) -> Resu
     requires room { length piece.old ≡ PIECE }
     requires part { IsPart kept.old }
     requires sound { R.failures r.old ≡ 0 }
-    ensures got { (got : List ℕ) × Consumes (R.rest r.old) (R.rest r.new) got × Gathers (kept.old ++ got) result kept.new piece.new }
+    ensures got { (got : List ℕ) × Consumes (R.rest r.old) (R.rest r.new) got ×
+        Gathers (kept.old ++ got) result kept.new piece.new }
     ensures end { result ≡ Ok Found.End → IsAtEnd (R.rest r.new) }
     ensures failures { CountsFailure result (R.failures r.new) }
 {

@@ -3,6 +3,7 @@ ghost use Rattle.std.specs.Prelude.{◌≡◌};
 ghost use Rattle.autfmt.specs.declared.fault.Fault.TheVariants.{Device, Memory};
 
 use crate::source::Broken;
+use lts::Memory;
 use std::alloc::{AllocError, AllocFailed};
 use thiserror::Error;
 
@@ -61,6 +62,14 @@ impl From<Broken> for Fault {
 
     fn from(_broken: Broken) -> Fault {
         Fault::Device
+    }
+}
+
+impl From<Memory> for Fault {
+    ghost from_gives = { λ _ fault. fault ≡ Memory };
+
+    fn from(_refused: Memory) -> Fault {
+        Fault::Memory
     }
 }
 

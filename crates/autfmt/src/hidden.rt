@@ -48,6 +48,9 @@ impl Hidden {
     pub(crate) fn shown<'a>(&self, label: &'a [u8]) -> &'a [u8]
         ensures { result.now ≡ hidden_label self.now label.now }
     {
+        if self.labels.len() == 0 {
+            return label;
+        }
         match self.labels.find(label) {
             Some(_) => b"i",
             None => label,

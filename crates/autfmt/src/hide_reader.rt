@@ -9,7 +9,7 @@ use crate::cutter::{Cutter, Step};
 use crate::fault::Fault;
 use crate::hidden::Hidden;
 use crate::judge::judge_hide_line;
-use crate::source::{Broken, Source};
+use crate::source::Source;
 use std::alloc::Global;
 
 /// The most lines of a hide list.
@@ -18,14 +18,16 @@ const MOST_LINES: u32 = 100_000;
 /// Reads a hide list: at most 100,000 lines, each of one label. The source is taken to its end.
 ///
 /// # Errors
-/// Where the source did not fail, the first fault of the list, `LineTooLong`, `BadHide` or `TooManyHidden`; or `Memory` where
-/// a growth was refused. Where the source failed, the fault that is known from the bytes it gave, or else `Device`. How far
-/// the source was taken beyond a fault is open.
+/// Where the source did not fail, the first fault of the list, `LineTooLong`, `BadHide` or
+/// `TooManyHidden`; or `Memory` where a growth was refused. Where the source failed, the fault that
+/// is known from the bytes it gave, or else `Device`. How far the source was taken beyond a fault is
+/// open.
 pub fn read_hidden<R: Source>(alloc: Global, r: &mut R) -> Result<Hidden, Fault>
     requires { R.failures r.old ≡ 0 }
     ensures labels { IfSome (R.rest r.old) (λ text. IfOk result (HidesAs text)) }
     ensures whole { IfSome (R.rest r.old) (λ _. OnOk result (R.rest r.new ≡ Some [])) }
-    ensures fault { R.failures r.new ≡ 0 → IfSome (R.rest r.old) (λ text. IfErr result (IsMemoryOr (FirstHideFault text))) }
+    ensures fault { R.failures r.new ≡ 0 →
+        IfSome (R.rest r.old) (λ text. IfErr result (IsMemoryOr (FirstHideFault text))) }
     ensures failed { R.failures r.new ≡ 1 → (given rest : List ℕ) →
         R.rest r.old ≡ Some (given ++ rest) → R.rest r.new ≡ Some rest →
         IfErr result (AnswersFailure (JudgedHideFault given)) }
@@ -48,17 +50,16 @@ fn read_labels<R: Source>(alloc: Global, r: &mut R) -> Result<Hidden, Fault>
     let mut cutter = Cutter::new();
     let mut hidden = Hidden::none(alloc);
     for found in 0..MOST_LINES {
-        match read_hide_line(&mut cutter, r, found, &mut hidden) {
-            Ok(true) => {}
-            Ok(false) => return Ok(hidden),
-            Err(fault) => return Err(fault),
+        let some = read_hide_line(&mut cutter, r, found, &mut hidden)?;
+        if !some {
+            return Ok(hidden);
         }
     }
-    match cutter.is_at_end(r) {
-        Ok(true) => Ok(hidden),
-        Ok(false) => Err(Fault::TooManyHidden),
-        Err(Broken) => Err(Fault::Device),
+    let at_end = cutter.is_at_end(r)?;
+    if !at_end {
+        return Err(Fault::TooManyHidden);
     }
+    Ok(hidden)
 }
 
 /// Reads one line more behind those found, and adds its label; false where there is none.
@@ -85,19 +86,12 @@ fn read_hide_line<R: Source>(
     ensures last { result ≡ Ok false → IsAtEnd (R.rest r.new) }
     ensures sound { OnOk result (R.failures r.new ≡ 0) }
 {
-    match cutter.advance(r) {
-        Ok(Step::Line) => {}
-        Ok(Step::TooLong) => return Err(Fault::LineTooLong(found + 1)),
-        Ok(Step::End) => return Ok(false),
-        Err(Broken) => return Err(Fault::Device),
+    match cutter.advance(r)? {
+        Step::Line => {}
+        Step::TooLong => return Err(Fault::LineTooLong(found + 1)),
+        Step::End => return Ok(false),
     }
-    match judge_hide_line(cutter.line(), found + 1) {
-        Ok(label) => {
-            match hidden.add(label) {
-                Ok(()) => Ok(true),
-                Err(_) => Err(Fault::Memory),
-            }
-        }
-        Err(fault) => Err(fault),
-    }
+    let label = judge_hide_line(cutter.line(), found + 1)?;
+    hidden.add(label)?;
+    Ok(true)
 }

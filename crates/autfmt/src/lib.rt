@@ -11,11 +11,17 @@ mod limits;
 mod line;
 mod line_laws;
 mod reader;
+#[cfg(test)]
+mod reader_tests;
 mod sink;
 mod source;
+#[cfg(test)]
+mod tests;
 mod text_laws;
 mod token;
 mod write_laws;
+#[cfg(test)]
+mod write_tests;
 mod writer;
 
 pub use fault::Fault;

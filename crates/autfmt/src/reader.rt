@@ -14,22 +14,24 @@ use crate::held::Held;
 use crate::hidden::Hidden;
 use crate::judge::{Promise, judge_header, judge_transition};
 use crate::limits::Limits;
-use crate::source::{Broken, Source};
+use crate::source::Source;
 use lts::{Lts, Meter};
 use std::alloc::Global;
 
-/// Reads a whole text as a system: a header of three numbers, then as many transitions as it promises, then the end.
-/// `lim` bounds what the header may promise. The source is taken to its end.
+/// Reads a whole text as a system: a header of three numbers, then as many transitions as it
+/// promises, then the end. `lim` bounds what the header may promise. The source is taken to its end.
 ///
 /// # Errors
-/// Where the source did not fail, the first fault of the text, `BadHeader` to `MissingEdges`; or `Memory` where a growth
-/// was refused, which comes only behind a good line 1. Where the source failed, the fault that is known from the bytes it
-/// gave, or else `Device`. How far the source was taken beyond a fault is open.
+/// Where the source did not fail, the first fault of the text, `BadHeader` to `MissingEdges`; or
+/// `Memory` where a growth was refused, which comes only behind a good line 1. Where the source
+/// failed, the fault that is known from the bytes it gave, or else `Device`. How far the source was
+/// taken beyond a fault is open.
 pub fn read<M: Meter, R: Source>(alloc: Global, r: &mut R, lim: &Limits) -> Result<Lts<M>, Fault>
     requires { R.failures r.old ≡ 0 }
     ensures system { IfSome (R.rest r.old) (λ text. IfOk result (ReadsSystem lim.now text)) }
     ensures whole { IfSome (R.rest r.old) (λ _. OnOk result (R.rest r.new ≡ Some [])) }
-    ensures fault { R.failures r.new ≡ 0 → IfSome (R.rest r.old) (λ text. IfErr result (IsMemoryOr (FirstFault lim.now text))) }
+    ensures fault { R.failures r.new ≡ 0 →
+        IfSome (R.rest r.old) (λ text. IfErr result (IsMemoryOr (FirstFault lim.now text))) }
     ensures memory { IfSome (R.rest r.old) (λ text. result ≡ Err Fault.Memory → HasGoodHeader lim.now text) }
     ensures failed { R.failures r.new ≡ 1 → (given rest : List ℕ) →
         R.rest r.old ≡ Some (given ++ rest) → R.rest r.new ≡ Some rest →
@@ -55,7 +57,8 @@ pub fn read_hiding<M: Meter, R: Source>(
     requires { R.failures r.old ≡ 0 }
     ensures system { IfSome (R.rest r.old) (λ text. IfOk result (ReadsAs lim.now text h.now)) }
     ensures whole { IfSome (R.rest r.old) (λ _. OnOk result (R.rest r.new ≡ Some [])) }
-    ensures fault { R.failures r.new ≡ 0 → IfSome (R.rest r.old) (λ text. IfErr result (IsMemoryOr (FirstFault lim.now text))) }
+    ensures fault { R.failures r.new ≡ 0 →
+        IfSome (R.rest r.old) (λ text. IfErr result (IsMemoryOr (FirstFault lim.now text))) }
     ensures memory { IfSome (R.rest r.old) (λ text. result ≡ Err Fault.Memory → HasGoodHeader lim.now text) }
     ensures failed { R.failures r.new ≡ 1 → (given rest : List ℕ) →
         R.rest r.old ≡ Some (given ++ rest) → R.rest r.new ≡ Some rest →
@@ -77,40 +80,36 @@ fn read_system<M: Meter, R: Source>(
 ) -> Result<Lts<M>, Fault>
     requires { R.failures r.old ≡ 0 }
     ensures answer { (got : List ℕ) × Consumes (R.rest r.old) (R.rest r.new) got ×
-        MatchResult result (ReadsAs lim.now got h.now) (Refuses lim.now got (R.rest r.new) (R.failures r.new)) }
+        MatchResult result
+        (ReadsAs lim.now got h.now)
+        (Refuses lim.now got (R.rest r.new) (R.failures r.new)) }
     ensures end { OnOk result (IsAtEnd (R.rest r.new)) }
     ensures sound { OnOk result (R.failures r.new ≡ 0) }
 {
-    let (promise, held) = match read_text(alloc, r, lim, h) {
-        Ok(found) => found,
-        Err(fault) => return Err(fault),
-    };
+    let (promise, held) = read_text(alloc, r, lim, h)?;
     let Held { labels, triples } = held;
-    match Lts::build(alloc, labels, promise.first, promise.states, triples) {
-        Ok(system) => Ok(system),
-        Err(_) => Err(Fault::Memory),
-    }
+    let system = Lts::build(alloc, labels, promise.first, promise.states, triples)?;
+    Ok(system)
 }
 
 /// Reads line 1.
 fn read_header<R: Source>(cutter: &mut Cutter, r: &mut R, lim: &Limits) -> Result<Promise, Fault>
     requires fresh { cutter.old ≡ record { line = []; ahead = []; over = false } }
     requires sound { R.failures r.old ≡ 0 }
-    ensures header { (got : List ℕ) × Consumes (R.rest r.old) (R.rest r.new) got × MatchResult result (λ p. ReadSoFar lim.now got cutter.new p []) (Refuses lim.now got (R.rest r.new) (R.failures r.new)) }
+    ensures header { (got : List ℕ) × Consumes (R.rest r.old) (R.rest r.new) got ×
+        MatchResult result
+        (λ p. ReadSoFar lim.now got cutter.new p [])
+        (Refuses lim.now got (R.rest r.new) (R.failures r.new)) }
     ensures file { IfOk result (λ p. (p.states ≤ 1000000) × (p.transitions ≤ 10000000)) }
     ensures end { OnOk result (IsTrue cutter.new.over → IsAtEnd (R.rest r.new)) }
     ensures sound { OnOk result (R.failures r.new ≡ 0) }
 {
-    match cutter.advance(r) {
-        Ok(Step::Line) => {}
-        Ok(Step::TooLong) => return Err(Fault::LineTooLong(1)),
-        Ok(Step::End) => return Err(Fault::BadHeader),
-        Err(Broken) => return Err(Fault::Device),
+    match cutter.advance(r)? {
+        Step::Line => {}
+        Step::TooLong => return Err(Fault::LineTooLong(1)),
+        Step::End => return Err(Fault::BadHeader),
     }
-    match judge_header(cutter.line(), lim) {
-        Ok(promise) => Ok(promise),
-        Err(fault) => Err(fault),
-    }
+    judge_header(cutter.line(), lim)
 }
 
 /// Reads one line more, a transition of those that were promised, and holds it.
@@ -138,21 +137,14 @@ fn read_transition<R: Source>(
     ensures few { OnOk result (length held.new.labels ≤ vec_len held.new.triples) }
 {
     let found = held.triples.len() as u32;
-    match cutter.advance(r) {
-        Ok(Step::Line) => {}
-        Ok(Step::TooLong) => return Err(Fault::LineTooLong(found + 2)),
-        Ok(Step::End) => return Err(Fault::MissingEdges(found)),
-        Err(Broken) => return Err(Fault::Device),
+    match cutter.advance(r)? {
+        Step::Line => {}
+        Step::TooLong => return Err(Fault::LineTooLong(found + 2)),
+        Step::End => return Err(Fault::MissingEdges(found)),
     }
-    match judge_transition(cutter.line(), found + 2, promise) {
-        Ok((source, label, target)) => {
-            match held.add(source, h.shown(label), target, promise.transitions) {
-                Ok(()) => Ok(()),
-                Err(_) => Err(Fault::Memory),
-            }
-        }
-        Err(fault) => Err(fault),
-    }
+    let (source, label, target) = judge_transition(cutter.line(), found + 2, promise)?;
+    held.add(source, h.shown(label), target, promise.transitions)?;
+    Ok(())
 }
 
 /// Reads the promised transitions, and holds them.
@@ -179,10 +171,7 @@ fn read_transitions<R: Source>(
     ensures len { OnOk result (vec_len held.new.triples ≡ promise.transitions) }
 {
     for _found in 0..promise.transitions {
-        match read_transition(cutter, r, promise, h, held) {
-            Ok(()) => {}
-            Err(fault) => return Err(fault),
-        }
+        read_transition(cutter, r, promise, h, held)?;
     }
     Ok(())
 }
@@ -196,24 +185,20 @@ fn read_text<R: Source>(
 ) -> Result<(Promise, Held), Fault>
     requires { R.failures r.old ≡ 0 }
     ensures whole { (got : List ℕ) × Consumes (R.rest r.old) (R.rest r.new) got ×
-        MatchResult result (λ x. HoldsText lim.now h.now got x.0 x.1) (Refuses lim.now got (R.rest r.new) (R.failures r.new)) }
+        MatchResult result
+        (λ x. HoldsText lim.now h.now got x.0 x.1)
+        (Refuses lim.now got (R.rest r.new) (R.failures r.new)) }
     ensures range { IfOk result (λ x. InRange (length x.1.labels) x.0.first x.0.states x.1.triples.items) }
     ensures end { OnOk result (IsAtEnd (R.rest r.new)) }
     ensures sound { OnOk result (R.failures r.new ≡ 0) }
 {
     let mut cutter = Cutter::new();
-    let promise = match read_header(&mut cutter, r, lim) {
-        Ok(promise) => promise,
-        Err(fault) => return Err(fault),
-    };
+    let promise = read_header(&mut cutter, r, lim)?;
     let mut held = Held::new(alloc);
-    match read_transitions(&mut cutter, r, promise, h, &mut held) {
-        Ok(()) => {}
-        Err(fault) => return Err(fault),
+    read_transitions(&mut cutter, r, promise, h, &mut held)?;
+    let at_end = cutter.is_at_end(r)?;
+    if !at_end {
+        return Err(Fault::ExtraText(promise.transitions + 2));
     }
-    match cutter.is_at_end(r) {
-        Ok(true) => Ok((promise, held)),
-        Ok(false) => Err(Fault::ExtraText(promise.transitions + 2)),
-        Err(Broken) => Err(Fault::Device),
-    }
+    Ok((promise, held))
 }

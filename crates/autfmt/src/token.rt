@@ -234,3 +234,6 @@ fn is_word(b: u8) -> bool
 {
     is_letter(b) || b.is_ascii_digit()
 }
+
+#[cfg(test)]
+mod tests;

@@ -8,6 +8,8 @@ mod labels;
 mod lts;
 mod memory;
 mod meter;
+#[cfg(test)]
+mod tests;
 
 pub use disjoint::{fits_together, union};
 pub use labels::{Labels, is_label};

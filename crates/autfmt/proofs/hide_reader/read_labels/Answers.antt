@@ -1,7 +1,7 @@
-use Rattle.std.proofs.Common.{◌≡◌, ◌+◌, ◌≤◌, ℕ, true, false, List, [], ◌∷◌, ◌++◌, length, ◌∙◌, sym, ap, subst, refl, arith}
+use Rattle.std.proofs.Common.{◌+◌, ℕ, [], ◌∷◌, ◌++◌, length, ◌∙◌, ap, refl, arith}
 use Rattle.std.proofs.lemmas.List.{length_push}
+use Rattle.std.proofs.lemmas.Result.{err_from_is_err_and}
 use Rattle.std.proofs.KnownBytes.{Consumes-nil, Consumes-trans}
-use Rattle.autfmt.specs.Cutter.{Cutting}
 use Rattle.autfmt.proofs.HideSteps.{HideReadSoFar-new, hide_ends, hide_behind, hide_end_failed}
 use Rattle.autfmt.proofs.ReaderSteps.{fresh_goes_on}
 use Rattle.autfmt.proofs.hide_reader.read_labels.Goals as goal
@@ -20,20 +20,21 @@ loop-found-init g c = record {
   end = λ over. absurd (fresh_goes_on c.new-cutter.result c.new-cutter.ensures over);
 }
 
-pub returns-in-Ok-false-clause-answer : goal.returns-in-Ok-false-clause-answer
-returns-in-Ok-false-clause-answer g c =
+pub returns-in_err-some-clause-answer : goal.returns-in_err-some-clause-answer
+returns-in_err-some-clause-answer g c =
     let so_far = c.loop-found.invariant.got in
-    let step = rw c.in-Ok-false.field-0-test at c.in-Ok-false.ensures.line in (
+    let step = c.in_err-some.ensures.line in
+    let exit = err_from_is_err_and c.from_residual.result c.from_residual.ensures.1 in (
       so_far.0 ++ step.0,
       Consumes-trans (g.R.Source.rest c.args.r.now) (g.R.Source.rest c.loop-found.r) (g.R.Source.rest c.read_hide_line.new.r)
           so_far.0 step.0 so_far.1 step.1,
-      step.2 so_far.0 so_far.2 so_far.3 so_far.4,
+      rw (exit.1, exit.2) (step.2 so_far.0 so_far.2 so_far.3 so_far.4),
     )
 
-pub returns-in-Err-clause-answer : goal.returns-in-Err-clause-answer
-returns-in-Err-clause-answer g c =
+pub returns-then-not-some-clause-answer : goal.returns-then-not-some-clause-answer
+returns-then-not-some-clause-answer g c =
     let so_far = c.loop-found.invariant.got in
-    let step = c.in-Err.ensures.line in (
+    let step = rw c.if-not-some.true at c.in_ok-some.ensures.line in (
       so_far.0 ++ step.0,
       Consumes-trans (g.R.Source.rest c.args.r.now) (g.R.Source.rest c.loop-found.r) (g.R.Source.rest c.read_hide_line.new.r)
           so_far.0 step.0 so_far.1 step.1,
@@ -43,7 +44,7 @@ returns-in-Err-clause-answer g c =
 pub loop-found-preserved : goal.loop-found-preserved
 loop-found-preserved g c =
     let so_far = c.loop-found.invariant.got in
-    let step = rw c.in-Ok-true.field-0-test at c.in-Ok-true.ensures.line in
+    let step = rw c.if-not-some.false at c.in_ok-some.ensures.line in
     let next = step.2 so_far.0 so_far.2 so_far.3 so_far.4 in
     let count = so_far.4 in
     record {
@@ -55,46 +56,47 @@ loop-found-preserved g c =
         next.1,
         length_push so_far.2 next.0 ∙ ap (λ (n : ℕ). n + 1) count,
       );
-      few = c.in-Ok-true.ensures.few;
-      sound = c.in-Ok-true.ensures.sound;
-      end = c.in-Ok-true.ensures.end;
+      few = c.in_ok-some.ensures.few;
+      sound = c.in_ok-some.ensures.sound;
+      end = c.in_ok-some.ensures.end;
     }
 
-pub returns-in-Ok-true-is_at_end-clause-answer : goal.returns-in-Ok-true-is_at_end-clause-answer
-returns-in-Ok-true-is_at_end-clause-answer g c =
+pub returns-in_err-at_end-clause-answer : goal.returns-in_err-at_end-clause-answer
+returns-in_err-at_end-clause-answer g c =
     let so_far = c.loop-found.invariant.got in
-    let last = rw c.in-Ok-true-is_at_end.field-0-test at c.in-Ok-true-is_at_end.ensures.look in
-    let count = so_far.4 in (
+    let last = c.in_err-at_end.ensures.look in
+    let count = so_far.4 in
+    let exit = err_from_is_err_and c.from_residual-in_err-at_end.result c.from_residual-in_err-at_end.ensures.1 in (
       so_far.0 ++ last.0,
       Consumes-trans (g.R.Source.rest c.args.r.now) (g.R.Source.rest c.loop-found.r) (g.R.Source.rest c.is_at_end.new.r)
           so_far.0 last.0 so_far.1 last.1,
-      hide_ends so_far.0 c.loop-found.cutter so_far.2 c.loop-found.hidden last.0 so_far.3 (omega arith) (last.2.2 refl),
+      rw (exit.1, exit.2)
+          (hide_end_failed so_far.0 c.loop-found.cutter so_far.2 c.loop-found.hidden last.0 (g.R.Source.rest c.is_at_end.new.r)
+          (g.R.Source.failures c.is_at_end.new.r) so_far.3 (omega arith) c.in_err-at_end.ensures.failures
+          (λ over. let a = c.is_at_end.ensures.over over in let b = c.in_err-at_end.was in cc) last.2),
     )
 
-pub returns-in-Ok-false-is_at_end-clause-answer : goal.returns-in-Ok-false-is_at_end-clause-answer
-returns-in-Ok-false-is_at_end-clause-answer g c =
+pub returns-then-not-at_end-clause-answer : goal.returns-then-not-at_end-clause-answer
+returns-then-not-at_end-clause-answer g c =
     let so_far = c.loop-found.invariant.got in
-    let last = rw c.in-Ok-false-is_at_end.field-0-test at c.in-Ok-false-is_at_end.ensures.look in
+    let last = rw c.if-not-at_end.true at c.in_ok-at_end.ensures.look in
     let count = so_far.4 in (
       so_far.0 ++ last.0,
       Consumes-trans (g.R.Source.rest c.args.r.now) (g.R.Source.rest c.loop-found.r) (g.R.Source.rest c.is_at_end.new.r)
           so_far.0 last.0 so_far.1 last.1,
       hide_behind so_far.0 c.loop-found.cutter so_far.2 c.loop-found.hidden last.0 (g.R.Source.rest c.is_at_end.new.r)
-          (g.R.Source.failures c.is_at_end.new.r) so_far.3 (omega arith) c.in-Ok-false-is_at_end.ensures.failures
-          (λ over. let a = c.is_at_end.ensures.over over in let b = c.in-Ok-false-is_at_end.is in
-          let d = c.in-Ok-false-is_at_end.field-0-test in cc)
+          (g.R.Source.failures c.is_at_end.new.r) so_far.3 (omega arith) c.in_ok-at_end.ensures.failures
+          (λ over. let a = c.is_at_end.ensures.over over in let b = c.in_ok-at_end.was in let d = c.if-not-at_end.true in cc)
           (last.2.3 refl),
     )
 
-pub returns-in-Err-is_at_end-clause-answer : goal.returns-in-Err-is_at_end-clause-answer
-returns-in-Err-is_at_end-clause-answer g c =
+pub returns-clause-answer : goal.returns-clause-answer
+returns-clause-answer g c =
     let so_far = c.loop-found.invariant.got in
-    let last = c.in-Err-is_at_end.ensures.look in
+    let last = rw c.if-not-at_end.false at c.in_ok-at_end.ensures.look in
     let count = so_far.4 in (
       so_far.0 ++ last.0,
       Consumes-trans (g.R.Source.rest c.args.r.now) (g.R.Source.rest c.loop-found.r) (g.R.Source.rest c.is_at_end.new.r)
           so_far.0 last.0 so_far.1 last.1,
-      hide_end_failed so_far.0 c.loop-found.cutter so_far.2 c.loop-found.hidden last.0 (g.R.Source.rest c.is_at_end.new.r)
-          (g.R.Source.failures c.is_at_end.new.r) so_far.3 (omega arith) c.in-Err-is_at_end.ensures.failures
-          (λ over. let a = c.is_at_end.ensures.over over in let b = c.in-Err-is_at_end.is in cc) last.2,
+      hide_ends so_far.0 c.loop-found.cutter so_far.2 c.loop-found.hidden last.0 so_far.3 (omega arith) (last.2.2 refl),
     )

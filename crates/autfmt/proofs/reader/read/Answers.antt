@@ -1,4 +1,3 @@
-use Rattle.std.proofs.Common.{[]}
 use Rattle.autfmt.specs.Readers.{ReadsAs}
 use Rattle.autfmt.proofs.ReaderAnswers.{memory_answer, failed_answer, system_answer}
 use Rattle.autfmt.proofs.reader.read.Goals as goal

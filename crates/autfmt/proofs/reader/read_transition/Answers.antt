@@ -1,94 +1,105 @@
-use Rattle.std.proofs.Common.{◌≡◌, ◌+◌, ◌<◌, ℕ, List, ◌++◌, ◌∷◌, [], true, ◌∙◌, sym, refl, ap, inl, arith, length}
+use Rattle.std.proofs.Common.{inl, arith}
+use Rattle.std.proofs.lemmas.Result.{err_from_is_err_and}
 use Rattle.theory.specs.System.{Transition, IsAmong}
-use Rattle.autfmt.specs.declared.cutter.Step.TheVariants.{Line, TooLong, End}
+use Rattle.autfmt.specs.declared.cutter.Step.TheVariants.{Line, TooLong}
 use Rattle.autfmt.proofs.Holding.{Holds-add}
 use Rattle.autfmt.proofs.ReaderSteps.{transition_too_long, transition_missing, transition_failed, transition_good, transition_faulty, transition_refused, goes_on-step, goes_on-failure, count_held}
 use Rattle.autfmt.proofs.reader.read_transition.Goals as goal
 
-pub returns-in-Ok-TooLong-clause-transition : goal.returns-in-Ok-TooLong-clause-transition
-returns-in-Ok-TooLong-clause-transition g c =
-    let s = rw c.in-Ok-TooLong.field-0-is at c.in-Ok-TooLong.ensures.step in (
+pub returns-in_err-advance-clause-transition : goal.returns-in_err-advance-clause-transition
+returns-in_err-advance-clause-transition g c =
+    let s = c.in_err-advance.ensures.step in
+    let p = err_from_is_err_and c.from_residual.result c.from_residual.ensures.1 in (
+      s.0,
+      s.1,
+      λ bounds given es standing.
+          let count = count_held c.args.h.now c.args.promise.states c.args.held.now es c.len-found.result standing.1 c.len-found.ensures in
+          rw (p.1, p.2)
+          (transition_failed bounds given c.args.cutter.now c.args.promise es s.0 (g.R.Source.rest c.advance.new.r)
+          (g.R.Source.failures c.advance.new.r) standing.0 (omega arith) (inl (omega arith)) c.in_err-advance.ensures.failures
+          (goes_on-failure c.args.cutter.now.over c.advance.result _ c.advance.ensures.over c.in_err-advance.was) s.2),
+    )
+
+pub returns-in-TooLong-clause-transition : goal.returns-in-TooLong-clause-transition
+returns-in-TooLong-clause-transition g c =
+    let s = rw c.in-TooLong.is at c.in_ok-advance.ensures.step in (
       s.0,
       s.1,
       λ bounds given es standing.
           transition_too_long bounds given c.args.cutter.now c.args.promise es s.0 (g.R.Source.rest c.advance.new.r)
           (g.R.Source.failures c.advance.new.r) c.len-found.result standing.0
           (count_held c.args.h.now c.args.promise.states c.args.held.now es c.len-found.result standing.1 c.len-found.ensures)
-          (omega arith) c.in-Ok-TooLong.ensures.failures
-          (goes_on-step c.args.cutter.now.over c.advance.result c.in-Ok-TooLong.field-0 TooLong c.advance.ensures.over
-          c.in-Ok-TooLong.is c.in-Ok-TooLong.field-0-is (λ e. cc))
+          (omega arith) c.in_ok-advance.ensures.failures
+          (goes_on-step c.args.cutter.now.over c.advance.result c.in_ok-advance.field-0 TooLong c.advance.ensures.over
+          c.in_ok-advance.was c.in-TooLong.is (λ e. cc))
           s.2,
     )
 
-pub returns-in-Ok-End-clause-transition : goal.returns-in-Ok-End-clause-transition
-returns-in-Ok-End-clause-transition g c =
-    let s = rw c.in-Ok-End.field-0-is at c.in-Ok-End.ensures.step in (
+pub returns-in-End-clause-transition : goal.returns-in-End-clause-transition
+returns-in-End-clause-transition g c =
+    let s = rw c.in-End.is at c.in_ok-advance.ensures.step in (
       s.0,
       s.1,
       λ bounds given es standing.
           transition_missing bounds given c.args.cutter.now c.advance.new.self c.args.promise es s.0 (g.R.Source.rest c.advance.new.r)
           (g.R.Source.failures c.advance.new.r) c.len-found.result standing.0
           (count_held c.args.h.now c.args.promise.states c.args.held.now es c.len-found.result standing.1 c.len-found.ensures)
-          (omega arith) c.in-Ok-End.ensures.failures (c.advance.ensures.end c.requires.end) s.2,
+          (omega arith) c.in_ok-advance.ensures.failures (c.advance.ensures.end c.requires.end) s.2,
     )
 
-pub returns-in-Err-clause-transition : goal.returns-in-Err-clause-transition
-returns-in-Err-clause-transition g c =
-    let s = c.in-Err.ensures.step in (
+pub returns-in_err-source-clause-transition : goal.returns-in_err-source-clause-transition
+returns-in_err-source-clause-transition g c =
+    let s = rw c.in-Line.is at c.in_ok-advance.ensures.step in
+    let p = err_from_is_err_and c.from_residual-in_err-source.result c.from_residual-in_err-source.ensures.1 in (
       s.0,
       s.1,
       λ bounds given es standing.
-          let count = count_held c.args.h.now c.args.promise.states c.args.held.now es c.len-found.result standing.1 c.len-found.ensures in
-          transition_failed bounds given c.args.cutter.now c.args.promise es s.0 (g.R.Source.rest c.advance.new.r)
-          (g.R.Source.failures c.advance.new.r) standing.0 (omega arith) (inl (omega arith)) c.in-Err.ensures.failures
-          (goes_on-failure c.args.cutter.now.over c.advance.result c.in-Err.field-0 c.advance.ensures.over c.in-Err.is) s.2,
+          rw (p.1, p.2)
+          (transition_faulty bounds given c.args.cutter.now c.advance.new.self c.args.promise es s.0 (g.R.Source.rest c.advance.new.r)
+          (g.R.Source.failures c.advance.new.r) c.len-found.result _ standing.0
+          (count_held c.args.h.now c.args.promise.states c.args.held.now es c.len-found.result standing.1 c.len-found.ensures)
+          (omega arith) c.in_ok-advance.ensures.failures
+          (goes_on-step c.args.cutter.now.over c.advance.result c.in_ok-advance.field-0 Line c.advance.ensures.over c.in_ok-advance.was
+          c.in-Line.is (λ e. cc))
+          (c.advance.ensures.end c.requires.end) s.2
+          (rw c.line.ensures at c.in_err-source.ensures.fault) c.in_err-source.ensures.kind),
     )
 
-pub returns-in-Ok-add-clause-transition : goal.returns-in-Ok-add-clause-transition
-returns-in-Ok-add-clause-transition g c =
-    let s = rw c.in-Ok-Line.field-0-is at c.in-Ok-Line.ensures.step in (
+pub returns-in_err-add-clause-transition : goal.returns-in_err-add-clause-transition
+returns-in_err-add-clause-transition g c =
+    let s = rw c.in-Line.is at c.in_ok-advance.ensures.step in
+    let p = err_from_is_err_and c.from_residual-in_err-add.result c.from_residual-in_err-add.ensures.1 in (
       s.0,
       s.1,
       λ bounds given es standing.
-          let e : Transition = record { source = c.in-Ok.source; label = c.in-Ok.label.now; target = c.in-Ok.target } in
-          let among : IsAmong c.args.promise.states e = record { source = c.in-Ok.ensures.among.0; label = c.in-Ok.ensures.label; target = c.in-Ok.ensures.among.1 } in (
+          rw (p.1, p.2)
+          (transition_refused bounds given c.args.cutter.now c.advance.new.self c.args.promise es s.0 (g.R.Source.rest c.advance.new.r)
+          (g.R.Source.failures c.advance.new.r) standing.0 c.in_ok-advance.ensures.failures
+          (goes_on-step c.args.cutter.now.over c.advance.result c.in_ok-advance.field-0 Line c.advance.ensures.over c.in_ok-advance.was
+          c.in-Line.is (λ e. cc))
+          (c.advance.ensures.end c.requires.end) s.2),
+    )
+
+pub returns-clause-transition : goal.returns-clause-transition
+returns-clause-transition g c =
+    let s = rw c.in-Line.is at c.in_ok-advance.ensures.step in (
+      s.0,
+      s.1,
+      λ bounds given es standing.
+          let e : Transition = record { source = c.in_ok-source.source; label = c.in_ok-source.label.now; target = c.in_ok-source.target } in
+          let among : IsAmong c.args.promise.states e = record {
+            source = c.in_ok-source.ensures.among.0;
+            label = c.in_ok-source.ensures.label;
+            target = c.in_ok-source.ensures.among.1;
+          } in (
             e,
             (
               transition_good bounds given c.args.cutter.now c.advance.new.self c.args.promise es s.0 e standing.0
-                  (goes_on-step c.args.cutter.now.over c.advance.result c.in-Ok-Line.field-0 Line c.advance.ensures.over c.in-Ok-Line.is
-                  c.in-Ok-Line.field-0-is (λ x. cc))
-                  s.2 (rw c.line.ensures at c.in-Ok.ensures.good) among,
+                  (goes_on-step c.args.cutter.now.over c.advance.result c.in_ok-advance.field-0 Line c.advance.ensures.over c.in_ok-advance.was
+                  c.in-Line.is (λ x. cc))
+                  s.2 (rw c.line.ensures at c.in_ok-source.ensures.good) among,
               Holds-add c.args.h.now c.args.promise.states c.args.held.now c.add.new.self es e standing.1 among
-                  (rw c.shown.ensures at c.in-Ok-add.ensures.added),
+                  (rw c.shown.ensures at c.in_ok-add.ensures.added),
             ),
           ),
-    )
-
-pub returns-in-Err-add-clause-transition : goal.returns-in-Err-add-clause-transition
-returns-in-Err-add-clause-transition g c =
-    let s = rw c.in-Ok-Line.field-0-is at c.in-Ok-Line.ensures.step in (
-      s.0,
-      s.1,
-      λ bounds given es standing.
-          transition_refused bounds given c.args.cutter.now c.advance.new.self c.args.promise es s.0 (g.R.Source.rest c.advance.new.r)
-          (g.R.Source.failures c.advance.new.r) standing.0 c.in-Ok-Line.ensures.failures
-          (goes_on-step c.args.cutter.now.over c.advance.result c.in-Ok-Line.field-0 Line c.advance.ensures.over c.in-Ok-Line.is
-          c.in-Ok-Line.field-0-is (λ x. cc))
-          (c.advance.ensures.end c.requires.end) s.2,
-    )
-
-pub returns-in-Err-judge_transition-clause-transition : goal.returns-in-Err-judge_transition-clause-transition
-returns-in-Err-judge_transition-clause-transition g c =
-    let s = rw c.in-Ok-Line.field-0-is at c.in-Ok-Line.ensures.step in (
-      s.0,
-      s.1,
-      λ bounds given es standing.
-          transition_faulty bounds given c.args.cutter.now c.advance.new.self c.args.promise es s.0 (g.R.Source.rest c.advance.new.r)
-          (g.R.Source.failures c.advance.new.r) c.len-found.result c.in-Err-judge_transition.fault standing.0
-          (count_held c.args.h.now c.args.promise.states c.args.held.now es c.len-found.result standing.1 c.len-found.ensures)
-          (omega arith) c.in-Ok-Line.ensures.failures
-          (goes_on-step c.args.cutter.now.over c.advance.result c.in-Ok-Line.field-0 Line c.advance.ensures.over c.in-Ok-Line.is
-          c.in-Ok-Line.field-0-is (λ x. cc))
-          (c.advance.ensures.end c.requires.end) s.2
-          (rw c.line.ensures at c.in-Err-judge_transition.ensures.fault) c.in-Err-judge_transition.ensures.kind,
     )

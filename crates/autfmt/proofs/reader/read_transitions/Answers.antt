@@ -1,5 +1,6 @@
-use Rattle.std.proofs.Common.{◌≡◌, ◌+◌, ◌≤◌, ℕ, true, List, [], ◌∷◌, ◌++◌, ◌∙◌, sym, subst, arith}
+use Rattle.std.proofs.Common.{ℕ, List, [], ◌∷◌, ◌++◌, sym, subst, arith}
 use Rattle.std.proofs.lemmas.List.{append_assoc, append-nil}
+use Rattle.std.proofs.lemmas.Result.{err_from_is_err_and}
 use Rattle.std.proofs.KnownBytes.{Consumes-nil, Consumes-trans}
 use Rattle.autfmt.specs.Readers.{Refuses, ReadSoFar}
 use Rattle.autfmt.proofs.reader.read_transitions.Goals as goal
@@ -23,24 +24,26 @@ loop-found-init g c = record {
   end = c.requires.end;
 }
 
-pub returns-in-Err-clause-transitions : goal.returns-in-Err-clause-transitions
-returns-in-Err-clause-transitions g c =
+pub returns-in_err-read_transition-clause-transitions : goal.returns-in_err-read_transition-clause-transitions
+returns-in_err-read_transition-clause-transitions g c =
     let so_far = c.loop-found.invariant.got in
-    let step = c.in-Err.ensures.transition in (
+    let step = c.in_err-read_transition.ensures.transition in
+    let p = err_from_is_err_and c.from_residual.result c.from_residual.ensures.1 in (
       so_far.0 ++ step.0,
       Consumes-trans (g.R.Source.rest c.args.r.now) (g.R.Source.rest c.loop-found.r) (g.R.Source.rest c.read_transition.new.r)
           so_far.0 step.0 so_far.1 step.1,
       λ bounds given standing.
           let now = so_far.2 bounds given standing in
-          subst
-          (λ (t : List ℕ). Refuses bounds t (g.R.Source.rest c.read_transition.new.r) (g.R.Source.failures c.read_transition.new.r) c.in-Err.fault)
-          (append_assoc given so_far.0 step.0) (step.2 bounds (given ++ so_far.0) now.0 now.1),
+          rw (p.1, p.2)
+          (subst
+          (λ (t : List ℕ). Refuses bounds t (g.R.Source.rest c.read_transition.new.r) (g.R.Source.failures c.read_transition.new.r) c.in_err-read_transition.field-0.0)
+          (append_assoc given so_far.0 step.0) (step.2 bounds (given ++ so_far.0) now.0 now.1)),
     )
 
 pub loop-found-preserved : goal.loop-found-preserved
 loop-found-preserved g c =
     let so_far = c.loop-found.invariant.got in
-    let step = c.in-Ok.ensures.transition in
+    let step = c.in_ok-read_transition.ensures.transition in
     record {
       got = (
         so_far.0 ++ step.0,
@@ -57,8 +60,8 @@ loop-found-preserved g c =
               ),
             ),
       );
-      len = let e = c.in-Ok.ensures.len in let i = c.loop-found.invariant.len in omega arith;
-      few = c.in-Ok.ensures.few;
-      sound = c.in-Ok.ensures.sound;
-      end = c.in-Ok.ensures.end;
+      len = let e = c.in_ok-read_transition.ensures.len in let i = c.loop-found.invariant.len in omega arith;
+      few = c.in_ok-read_transition.ensures.few;
+      sound = c.in_ok-read_transition.ensures.sound;
+      end = c.in_ok-read_transition.ensures.end;
     }

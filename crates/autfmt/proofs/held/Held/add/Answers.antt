@@ -1,4 +1,4 @@
-use Rattle.std.proofs.Common.{◌∙◌, ap, List, ℕ, ◌++◌, ◌∷◌, []}
+use Rattle.std.proofs.Common.{◌∙◌, ap, List, ◌++◌, ◌∷◌, []}
 use Rattle.lts.specs.Lts.{Triple}
 use Rattle.autfmt.proofs.Holding.{Interns-length}
 use Rattle.autfmt.proofs.held.Held.add.Goals as goal
