@@ -29,7 +29,9 @@ pub struct Lts<M: Meter> {
     labels: Labels,
     first: u32,
     states: u32,
+    /// Where the row of each state ends. It begins where the one before it ends.
     ends: Vec<u32>,
+    /// The label number and the target of each place.
     pairs: Vec<(u32, u32)>,
     meter: PhantomData<M>,
 }
