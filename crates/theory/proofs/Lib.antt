@@ -13,3 +13,12 @@ pub mod Turning
 pub mod Testing
 pub mod Determined
 pub mod BothRelations
+pub mod Tally
+pub mod Leaders
+pub mod Numbers
+pub mod QuotientLaws
+pub mod QuotientSteps
+pub mod QuotientStates
+pub mod Smallest
+pub mod AlikeSystems
+pub mod AlikeQuotients

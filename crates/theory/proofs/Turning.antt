@@ -1,22 +1,21 @@
 -- Some Split changes nothing, for each that changes something adds a block; so bisimilarity is shared blocks.
 use Rattle.std.proofs.Common.{◌≡◌, ◌↔◌, ℕ, zero, suc, ◌+◌, ◌<◌, ◌≤◌, refl, sym, subst, ◌∙◌, inl, inr, arith}
-use Rattle.std.proofs.lemmas.Bool.{cases_eq, cases_order}
+use Rattle.std.proofs.lemmas.Bool.{cases_eq, cases_lt, cases_order}
 use Rattle.theory.specs.System.{System, IsSystem}
 use Rattle.theory.specs.Bisimulation.{Relation, Bisimilar}
-use Rattle.theory.specs.Blocks.{OneBlock, Split, SameBlocks, Share, After, ChangesNothing, Turns}
+use Rattle.theory.specs.Blocks.{OneBlock, Split, SameBlocks, Share, After, ChangesNothing, Turns, Underway}
 use Rattle.theory.proofs.Deciding.{decided_like}
 use Rattle.theory.proofs.Refinement.{split_of_blocks, blocks_after, no_change, share_decided, final_share, bisimilar_to_one_share}
 use Rattle.theory.proofs.Counting.{block_count, block_count_at_most, block_count_some, split_cases, same_blocks_decided, parting_adds}
 
--- k Splits of one block were made, each of which changed something, and left these blocks
-pub record Underway (rel : Relation) (A : System) (k : ℕ) (blocks : ℕ → ℕ) : Type 0 where
-  pub after : After rel A k blocks
-  pub changed : (j : ℕ) → j ≤ k → ¬ ChangesNothing rel A j
+-- of blocks that are underway there are more than Splits were made
+record Grown (rel : Relation) (A : System) (k : ℕ) (blocks : ℕ → ℕ) : Type 0 where
+  pub underway : Underway rel A k blocks
   pub many : k < block_count A blocks
 
 -- fewer Splits than states
-pub underway_below : (rel : Relation) (A : System) (k : ℕ) (blocks : ℕ → ℕ) → Underway rel A k blocks → k < A.states
-underway_below rel A k blocks h = omega (arith, h.many, block_count_at_most A blocks)
+grown_below : (rel : Relation) (A : System) (k : ℕ) (blocks : ℕ → ℕ) → Grown rel A k blocks → k < A.states
+grown_below rel A k blocks h = omega (arith, h.many, block_count_at_most A blocks)
 
 module _ (rel : Relation) (A : System) (sys : IsSystem A) where
   -- no Split yet
@@ -27,8 +26,11 @@ module _ (rel : Relation) (A : System) (sys : IsSystem A) where
       | inl e ↦ λ c. subst (ChangesNothing rel A) e c
       | inr d ↦ absurd (omega (arith, l, d))
     ];
-    many = block_count_some A blocks (omega (arith, sys.first));
   }
+
+  grown_begun : (blocks : ℕ → ℕ) → OneBlock A blocks → Grown rel A 0 blocks
+  grown_begun blocks one =
+      record { underway = underway_begun blocks one; many = block_count_some A blocks (omega (arith, sys.first)) }
 
   -- a further Split that changes something
   pub underway_more : (k : ℕ) (old new : ℕ → ℕ) → Underway rel A k old → Split rel A old new → ¬ SameBlocks A old new
@@ -39,6 +41,11 @@ module _ (rel : Relation) (A : System) (sys : IsSystem A) where
       | inl e ↦ apart (no_change rel A sys k old new (subst (ChangesNothing rel A) e c) h.after split)
       | inr d ↦ h.changed j (omega (arith, l, d)) c
     ];
+  }
+
+  grown_more : (k : ℕ) (old new : ℕ → ℕ) → Grown rel A k old → Split rel A old new → ¬ SameBlocks A old new → Grown rel A (suc k) new
+  grown_more k old new h split apart = record {
+    underway = underway_more k old new h.underway split apart;
     many = elim (split_cases rel A old new split) [
       | inl same ↦ absurd (apart same)
       | inr p ↦ omega (arith, h.many, parting_adds rel A old new split p.0 p.2.0 p.1 p.2.1 p.2.2.0 p.2.2.1)
@@ -52,19 +59,27 @@ module _ (rel : Relation) (A : System) (sys : IsSystem A) where
       record { last = (old, new, h.after, split, same); least = λ j l. h.changed j (omega (arith, l)) }
 
   -- from blocks that are underway
-  turns_from : (left k : ℕ) (blocks : ℕ → ℕ) → Underway rel A k blocks → A.states ≤ k + left
+  turns_from : (left k : ℕ) (blocks : ℕ → ℕ) → Grown rel A k blocks → A.states ≤ k + left
       → (m : ℕ) × Turns rel A m × (m ≤ A.states)
-  turns_from zero k old h room = absurd (omega (arith, room, underway_below rel A k old h))
+  turns_from zero k old h room = absurd (omega (arith, room, grown_below rel A k old h))
   turns_from (suc left) k old h room =
       let new : (new : ℕ → ℕ) × Split rel A old new = split_of_blocks rel A sys old in
       elim (same_blocks_decided rel A old new.0 new.1) [
-        | yes same ↦ (suc k, underway_done k old new.0 h new.1 same, underway_below rel A k old h)
-        | no apart ↦ turns_from left (suc k) new.0 (underway_more k old new.0 h new.1 apart) (omega (arith, room))
+        | yes same ↦ (suc k, underway_done k old new.0 h.underway new.1 same, grown_below rel A k old h)
+        | no apart ↦ turns_from left (suc k) new.0 (grown_more k old new.0 h new.1 apart) (omega (arith, room))
       ]
 
   -- some Split, at most the n-th for n states, is the first that changes nothing
   pub turns_found : (m : ℕ) × Turns rel A m × (m ≤ A.states)
-  turns_found = turns_from A.states 0 (λ s. 0) (underway_begun (λ s. 0) (λ s t ls lt. refl)) (omega arith)
+  turns_found = turns_from A.states 0 (λ s. 0) (grown_begun (λ s. 0) (λ s t ls lt. refl)) (omega arith)
+
+  -- refinement that is underway made fewer Splits than there are states
+  pub underway_below : (k : ℕ) (blocks : ℕ → ℕ) → Underway rel A k blocks → k < A.states
+  underway_below k blocks h =
+      elim (cases_lt k turns_found.0) [
+        | inl l ↦ omega (arith, l, turns_found.2)
+        | inr o ↦ absurd (h.changed turns_found.0 o turns_found.1.last)
+      ]
 
 -- one number is that of Turns
 pub turns_unique : (rel : Relation) (A : System) (j k : ℕ) → Turns rel A j → Turns rel A k → j ≡ k

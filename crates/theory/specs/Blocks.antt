@@ -1,7 +1,7 @@
 -- Refinement: blocks of states, what their states can do, and what a Split makes of them. Blocks are a function from a
 -- state to the number of its block. (Signatures: Blom and Orzan 2005; the inert steps of the branching one: van Glabbeek and
 -- Weijland 1996.)
-use Rattle.std.specs.Prelude.{◌≡◌, ◌↔◌, ℕ, zero, suc, ◌<◌, List}
+use Rattle.std.specs.Prelude.{◌≡◌, ◌↔◌, ℕ, zero, suc, ◌<◌, ◌≤◌, List}
 use Rattle.theory.specs.System.{System, Step, Internal, Silent, Leads, internal}
 use Rattle.theory.specs.Bisimulation.{Relation}
 use Rattle.theory.specs.Bisimulation.Relation.{strong, branching}
@@ -64,3 +64,8 @@ ChangesNothing rel A (suc k) = (old new : ℕ → ℕ) × After rel A k old × S
 pub record Turns (rel : Relation) (A : System) (k : ℕ) : Type 0 where
   pub last : ChangesNothing rel A k
   pub least : (j : ℕ) → j < k → ¬ ChangesNothing rel A j
+
+-- k Splits of one block were made, each of which changed something, and left these blocks
+pub record Underway (rel : Relation) (A : System) (k : ℕ) (blocks : ℕ → ℕ) : Type 0 where
+  pub after : After rel A k blocks
+  pub changed : (j : ℕ) → j ≤ k → ¬ ChangesNothing rel A j

@@ -3,3 +3,4 @@ pub mod Bisimulation
 pub mod Blocks
 pub mod Quotient
 pub mod Examples
+pub mod Alike

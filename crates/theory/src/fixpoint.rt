@@ -1,9 +1,9 @@
 //! Where refinement ends: Split after Split leads from one block to bisimilarity.
 
-ghost use Rattle.std.specs.Prelude.{◌≡◌, ◌↔◌, ℕ, ◌≤◌, ◌<◌};
+ghost use Rattle.std.specs.Prelude.{◌≡◌, ◌↔◌, ℕ, suc, ◌≤◌, ◌<◌};
 ghost use Rattle.theory.specs.System.{System, IsSystem};
 ghost use Rattle.theory.specs.Bisimulation.{Relation, Bisimilar};
-ghost use Rattle.theory.specs.Blocks.{Split, After, Turns, EachTwo};
+ghost use Rattle.theory.specs.Blocks.{OneBlock, Split, SameBlocks, After, Turns, Underway, EachTwo};
 
 /// All blocks have a Split.
 pub fn split_exists()
@@ -14,6 +14,17 @@ pub fn split_exists()
 pub fn turns_exist()
     ensures found { (rel : Relation) (A : System) → IsSystem A → (k : ℕ) × Turns rel A k × (k ≤ A.states) }
     ensures unique { (rel : Relation) (A : System) (j k : ℕ) → Turns rel A j → Turns rel A k → j ≡ k }
+{}
+
+/// How refinement goes on: it begins with one block, has made fewer Splits than there are states as long as each changed
+/// something, and the first that changes nothing is the last.
+pub fn refinement_goes_on()
+    ensures begun { (rel : Relation) (A : System) (blocks : ℕ → ℕ) → IsSystem A → OneBlock A blocks → Underway rel A 0 blocks }
+    ensures below { (rel : Relation) (A : System) (k : ℕ) (blocks : ℕ → ℕ) → IsSystem A → Underway rel A k blocks → k < A.states }
+    ensures more { (rel : Relation) (A : System) (k : ℕ) (old new : ℕ → ℕ) →
+        IsSystem A → Underway rel A k old → Split rel A old new → ¬ SameBlocks A old new → Underway rel A (suc k) new }
+    ensures done { (rel : Relation) (A : System) (k : ℕ) (old new : ℕ → ℕ) →
+        IsSystem A → Underway rel A k old → Split rel A old new → SameBlocks A old new → Turns rel A (suc k) }
 {}
 
 /// After the first Split that changes nothing, two states share a block exactly where they are bisimilar.

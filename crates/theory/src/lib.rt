@@ -4,22 +4,30 @@
 //! definitions alone, proved for every system and every partition of its states into blocks.
 #![tactic(auto)]
 
+mod alike;
 mod examples;
 mod fixpoint;
 mod laws;
+mod minimal;
 mod quotients;
 mod rounds;
 
+pub use alike::the_order_does_not_matter;
 pub use examples::{
     a_lost_option, a_silent_choice, a_silent_cycle, a_silent_loop, a_silent_step_in_the_middle,
     an_unreachable_twin, another_first_state, committed_or_not, different_labels,
     hidden_on_both_sides, moment_of_choice, reordered_lines, strong_and_branching,
 };
 pub use fixpoint::{
-    bisimilarity_is_an_equivalence, final_blocks_are_bisimilarity, related_to_one_state_share,
-    split_exists, turns_exist,
+    bisimilarity_is_an_equivalence, final_blocks_are_bisimilarity, refinement_goes_on,
+    related_to_one_state_share, split_exists, turns_exist,
 };
 pub use laws::{bisimulations_survive, one_block_is_kept, splitting_keeps, stable_is_bisimulation};
+pub use minimal::{
+    each_state_has_a_number, leaders_are_counted, leaders_differ, no_smaller_system,
+    numbers_are_classes, numbers_are_states, quotient_is_a_system, quotient_is_equivalent,
+    quotient_states_differ, states_are_bisimilar_to_their_numbers, steps_keep_reachable,
+};
 pub use quotients::{
     hidden_step, not_the_quotient, quotient_of_chain_of_three, quotient_of_first_in_cycle,
     quotient_of_first_is_two, quotient_of_first_leads, quotient_of_silent_beside,

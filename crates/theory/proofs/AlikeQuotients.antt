@@ -1,0 +1,77 @@
+-- Systems that have the same steps have the same leaders, numbers and quotients.
+use Rattle.std.proofs.Common.{◌≢◌, ◌↔◌, ℕ, ◌<◌, sym, ◌∙◌, subst, inl, inr}
+use Rattle.theory.specs.System.{System, Transition}
+use Rattle.theory.specs.Bisimulation.{Relation, Bisimilar}
+use Rattle.theory.specs.Quotient.{Least, Fellow, Leader, IsLeader, Number, Stands, Quotient}
+use Rattle.theory.specs.Alike.{SameSteps}
+use Rattle.theory.proofs.Tally.{how_many_like}
+use Rattle.theory.proofs.AlikeSystems.{same_steps_sym, reachable_alike, bisimilar_alike}
+
+-- the least number is one where the same numbers are meant
+least_like : (P Q : ℕ → Type 0) (n : ℕ) → ((k : ℕ) → P k ↔ Q k) → Least P n → Least Q n
+least_like P Q n like (held, least) = ((like n).0 held, λ k q. least k ((like k).1 q))
+
+first_alike : (rel : Relation) (A B : System) → SameSteps A B → (s : ℕ) → Bisimilar rel A s A A.first → Bisimilar rel B s B B.first
+first_alike rel A B same s b =
+    subst (λ x. Bisimilar rel B s B x) same.first (bisimilar_alike rel A B A B s A.first same same b)
+
+fellow_alike : (rel : Relation) (A B : System) → SameSteps A B → (s t : ℕ) → Fellow rel A s t → Fellow rel B s t
+fellow_alike rel A B same s t (path, b) = (reachable_alike A B same t path, bisimilar_alike rel A B A B s t same same b)
+
+leader_alike : (rel : Relation) (A B : System) → SameSteps A B → (s l : ℕ) → Leader rel A s l → Leader rel B s l
+leader_alike rel A B same s l (inl (b, is)) = inl (first_alike rel A B same s b, is ∙ same.first)
+leader_alike rel A B same s l (inr (apart, least)) =
+    let back : SameSteps B A = same_steps_sym A B same in
+    inr (
+      λ b. apart (first_alike rel B A back s b),
+      least_like (Fellow rel A s) (Fellow rel B s) l (λ t. (fellow_alike rel A B same s t, fellow_alike rel B A back s t)) least,
+    )
+
+is_leader_alike : (rel : Relation) (A B : System) → SameSteps A B → (l : ℕ) → IsLeader rel A l → IsLeader rel B l
+is_leader_alike rel A B same l (s, path, leader) = (s, reachable_alike A B same s path, leader_alike rel A B same s l leader)
+
+-- a leader other than the first state that is smaller than l
+abbrev Earlier : Relation → System → ℕ → ℕ → Type 0
+Earlier rel A l m = IsLeader rel A m × (m < l) × (m ≢ A.first)
+
+earlier_alike : (rel : Relation) (A B : System) → SameSteps A B → (l m : ℕ) → Earlier rel A l m → Earlier rel B l m
+earlier_alike rel A B same l m (leads, low, other) = (is_leader_alike rel A B same m leads, low, λ e. other (e ∙ sym same.first))
+
+number_alike : (rel : Relation) (A B : System) → SameSteps A B → (s n : ℕ) → Number rel A s n → Number rel B s n
+number_alike rel A B same s n (l, leader, inl p) = (l, leader_alike rel A B same s l leader, inl (p.0 ∙ same.first, p.1))
+number_alike rel A B same s n (l, leader, inr (other, k, many, is)) =
+    let back : SameSteps B A = same_steps_sym A B same in (
+      l,
+      leader_alike rel A B same s l leader,
+      inr (
+        λ e. other (e ∙ sym same.first),
+        k,
+        how_many_like (Earlier rel A l) (Earlier rel B l) k
+            (λ m. (earlier_alike rel A B same l m, earlier_alike rel B A back l m)) many,
+        is,
+      ),
+    )
+
+stands_alike : (rel : Relation) (A B : System) → SameSteps A B → (e : Transition) → Stands rel A e → Stands rel B e
+stands_alike rel A B same e (s, t, path, step, source, target) = (
+  s,
+  t,
+  reachable_alike A B same s path,
+  (same.steps s e.label t).0 step,
+  number_alike rel A B same s e.source source,
+  number_alike rel A B same t e.target target,
+)
+
+pub quotient_alike : (rel : Relation) (A B Q : System) → SameSteps A B → Quotient rel A Q → Quotient rel B Q
+quotient_alike rel A B Q same quotient =
+    let back : SameSteps B A = same_steps_sym A B same in
+    record {
+      states = how_many_like (IsLeader rel A) (IsLeader rel B) Q.states
+          (λ l. (is_leader_alike rel A B same l, is_leader_alike rel B A back l)) quotient.states;
+      first = quotient.first;
+      transitions = λ e. (
+        λ c. let h = (quotient.transitions e).0 c in (stands_alike rel A B same e h.0, h.1),
+        λ h. (quotient.transitions e).1 (stands_alike rel B A back e h.0, h.1),
+      );
+      once = quotient.once;
+    }

@@ -1,0 +1,143 @@
+-- What is said of a system is said of each that has the same steps: what is reached, bisimilarity and the Splits.
+use Rattle.std.proofs.Common.{◌≡◌, ◌↔◌, ℕ, zero, suc, ◌<◌, List, refl, sym, subst, inl, inr}
+use Rattle.std.specs.List.Sorted.{IsPermutation}
+use Rattle.std.proofs.lemmas.List.Sorted.{IsPermutation-sym, Contains-permutation}
+use Rattle.theory.specs.System.{System, Transition, Internal, AnyStep, Leads, Silent, Reachable, internal}
+use Rattle.theory.specs.Bisimulation.{Relation, Answers, IsBisimulation, Pairs, Bisimilar, Equivalent}
+use Rattle.theory.specs.Bisimulation.Relation.{strong, branching}
+use Rattle.theory.specs.Blocks.{Inert, Signature, SameSignature, EachTwo, Split, After, ChangesNothing, Turns}
+use Rattle.theory.specs.Alike.{SameSteps}
+use Rattle.theory.proofs.Paths.{leads_map}
+
+-- a system has its own steps
+pub same_steps_refl : (A : System) → SameSteps A A
+same_steps_refl A = record { first = refl; states = refl; steps = λ s a t. (λ h. h, λ h. h) }
+
+pub same_steps_sym : (A B : System) → SameSteps A B → SameSteps B A
+same_steps_sym A B same = record {
+  first = sym same.first;
+  states = sym same.states;
+  steps = λ s a t. ((same.steps s a t).1, (same.steps s a t).0);
+}
+
+-- a list in another order has the same steps
+pub same_steps_permuted : (A B : System) → A.first ≡ B.first → A.states ≡ B.states → IsPermutation A.transitions B.transitions
+    → SameSteps A B
+same_steps_permuted A B first states moved = record {
+  first = first;
+  states = states;
+  steps = λ s a t.
+      let e : Transition = record { source = s; label = a; target = t } in (
+        Contains-permutation A.transitions B.transitions e moved,
+        Contains-permutation B.transitions A.transitions e (IsPermutation-sym A.transitions B.transitions moved),
+      );
+}
+
+-- the same paths
+pub silent_alike : (A B : System) → SameSteps A B → (s t : ℕ) → Silent A s t → Silent B s t
+silent_alike A B same = leads_map (Internal A) (Internal B) (λ x y. (same.steps x internal y).0)
+
+pub reachable_alike : (A B : System) → SameSteps A B → (s : ℕ) → Reachable A s → Reachable B s
+reachable_alike A B same s path =
+    leads_map (AnyStep A) (AnyStep B) (λ x y r. (r.0, (same.steps x r.0 y).0 r.1)) B.first s
+    (subst (λ x. Leads (AnyStep A) x s) same.first path)
+
+-- the same answers
+answers_alike : (rel : Relation) (A B C D : System) → SameSteps A B → SameSteps C D → (R : ℕ → ℕ → Type 0) (s t : ℕ)
+    → Answers rel A C R s t → Answers rel B D R s t
+answers_alike strong A B C D one other R s t answers = λ a s' step.
+    let found = answers a s' ((one.steps s a s').1 step) in
+    (found.0, (other.steps t a found.0).0 found.1, found.2)
+answers_alike branching A B C D one other R s t answers = λ a s' step.
+    elim (answers a s' ((one.steps s a s').1 step)) [
+      | inl rests ↦ inl rests
+      | inr goes ↦ inr (
+        goes.0,
+        goes.1,
+        silent_alike C D other t goes.0 goes.2,
+        (other.steps goes.0 a goes.1).0 goes.3,
+        goes.4,
+        goes.5,
+      )
+    ]
+
+-- the same bisimulations
+bisimulation_alike : (rel : Relation) (A B C D : System) → SameSteps A B → SameSteps C D → (R : ℕ → ℕ → Type 0)
+    → IsBisimulation rel A C R → IsBisimulation rel B D R
+bisimulation_alike rel A B C D one other R meets = record {
+  states = λ s t r.
+      let at = meets.states s t r in
+      (subst (λ n. s < n) one.states at.0, subst (λ n. t < n) other.states at.1);
+  forth = λ s t r. answers_alike rel A B C D one other R s t (meets.forth s t r);
+  back = λ s t r. answers_alike rel C D A B other one (λ y x. R x y) t s (meets.back s t r);
+}
+
+pub bisimilar_alike : (rel : Relation) (A B C D : System) (s t : ℕ) → SameSteps A B → SameSteps C D
+    → Bisimilar rel A s C t → Bisimilar rel B s D t
+bisimilar_alike rel A B C D s t one other (pairs, meets, related) =
+    (pairs, bisimulation_alike rel A B C D one other (Pairs pairs) meets, related)
+
+pub equivalent_alike : (rel : Relation) (A B C : System) → SameSteps A B → Equivalent rel A C → Equivalent rel B C
+equivalent_alike rel A B C same b =
+    subst (λ x. Bisimilar rel B x C C.first) same.first
+    (bisimilar_alike rel A B C C A.first C.first same (same_steps_refl C) b)
+
+-- the same signatures
+signature_alike : (rel : Relation) (A B : System) → SameSteps A B → (blocks : ℕ → ℕ) (s : ℕ) (a : List ℕ) (b : ℕ)
+    → Signature rel A blocks s a b → Signature rel B blocks s a b
+signature_alike strong A B same blocks s a b (t, step, at) = (t, (same.steps s a t).0 step, at)
+signature_alike branching A B same blocks s a b (u, t, path, step, at, shown) = (
+  u,
+  t,
+  leads_map (Inert A blocks) (Inert B blocks) (λ x y r. ((same.steps x internal y).0 r.0, r.1)) s u path,
+  (same.steps u a t).0 step,
+  at,
+  shown,
+)
+
+same_signature_alike : (rel : Relation) (A B : System) → SameSteps A B → (blocks : ℕ → ℕ) (s t : ℕ)
+    → SameSignature rel A blocks s t → SameSignature rel B blocks s t
+same_signature_alike rel A B same blocks s t h = λ a b. (
+  λ x. there t a b ((h a b).0 (back s a b x)),
+  λ x. there s a b ((h a b).1 (back t a b x)),
+)
+  where
+    there : (u : ℕ) (a : List ℕ) (b : ℕ) → Signature rel A blocks u a b → Signature rel B blocks u a b
+    there = signature_alike rel A B same blocks
+
+    back : (u : ℕ) (a : List ℕ) (b : ℕ) → Signature rel B blocks u a b → Signature rel A blocks u a b
+    back = signature_alike rel B A (same_steps_sym A B same) blocks
+
+-- the same states
+each_two_alike : (A B : System) → SameSteps A B → (P : ℕ → ℕ → Type 0) → EachTwo A P → EachTwo B P
+each_two_alike A B same P h s t ls lt =
+    h s t (subst (λ n. s < n) (sym same.states) ls) (subst (λ n. t < n) (sym same.states) lt)
+
+-- the same Splits
+split_alike : (rel : Relation) (A B : System) → SameSteps A B → (old new : ℕ → ℕ) → Split rel A old new → Split rel B old new
+split_alike rel A B same old new split s t ls lt =
+    let h = each_two_alike A B same (λ s t. (new s ≡ new t) ↔ ((old s ≡ old t) × SameSignature rel A old s t)) split s t ls lt in (
+      λ e. ((h.0 e).0, same_signature_alike rel A B same old s t (h.0 e).1),
+      λ g. h.1 (g.0, same_signature_alike rel B A (same_steps_sym A B same) old s t g.1),
+    )
+
+after_alike : (rel : Relation) (A B : System) → SameSteps A B → (k : ℕ) (blocks : ℕ → ℕ) → After rel A k blocks → After rel B k blocks
+after_alike rel A B same zero blocks one = each_two_alike A B same (λ s t. blocks s ≡ blocks t) one
+after_alike rel A B same (suc k) blocks (old, after, split) =
+    (old, after_alike rel A B same k old after, split_alike rel A B same old blocks split)
+
+changes_nothing_alike : (rel : Relation) (A B : System) → SameSteps A B → (k : ℕ) → ChangesNothing rel A k → ChangesNothing rel B k
+changes_nothing_alike rel A B same zero none = none
+changes_nothing_alike rel A B same (suc k) (old, new, after, split, kept) = (
+  old,
+  new,
+  after_alike rel A B same k old after,
+  split_alike rel A B same old new split,
+  each_two_alike A B same (λ s t. (new s ≡ new t) ↔ (old s ≡ old t)) kept,
+)
+
+pub turns_alike : (rel : Relation) (A B : System) → SameSteps A B → (k : ℕ) → Turns rel A k → Turns rel B k
+turns_alike rel A B same k turns = record {
+  last = changes_nothing_alike rel A B same k turns.last;
+  least = λ j low none. turns.least j low (changes_nothing_alike rel B A (same_steps_sym A B same) j none);
+}

@@ -1,0 +1,183 @@
+-- The number of each reachable state: there is one, it tells the classes apart, and the numbers are those below the count of
+-- leaders.
+use Rattle.std.proofs.Common.{◌≡◌, ◌≢◌, ◌⊎◌, ◌↔◌, ℕ, zero, suc, ◌+◌, ◌<◌, refl, sym, ◌∙◌, ap, subst, inl, inr, arith}
+use Rattle.std.proofs.lemmas.Bool.{cases_eq, cases_order}
+use Rattle.theory.specs.System.{System, IsSystem, Reachable}
+use Rattle.theory.specs.Bisimulation.{Relation, Bisimilar}
+use Rattle.theory.specs.Quotient.{HowMany, Leader, IsLeader, Number}
+use Rattle.theory.proofs.Deciding.{same_number, not_so, both, decided_like}
+use Rattle.theory.proofs.Testing.Leading.{leader_unique}
+use Rattle.theory.proofs.Testing.Numbering.{how_many_unique}
+use Rattle.theory.proofs.Tally.{how_many_like, one, tally, tally_next, tallied, tally_is, tally_less, tally_reached, tally_without}
+use Rattle.theory.proofs.Leaders.{first_reachable, reachable_decided, first_leads, leader_fellow, leader_carried, same_leader_bisimilar, leads_itself, leader_of, is_leader_itself, is_leader_below, is_leader_decided}
+
+-- a leader other than the first state
+abbrev IsOther : Relation → System → ℕ → Type 0
+IsOther rel A l = IsLeader rel A l × (l ≢ A.first)
+
+module _ (rel : Relation) (A : System) (sys : IsSystem A) where
+  is_other_decided : (l : ℕ) → Dec (IsOther rel A l)
+  is_other_decided l = both (is_leader_decided rel A sys l) (not_so (same_number l A.first))
+
+  -- how many other leaders are smaller
+  place : ℕ → ℕ
+  place l = tally (IsOther rel A) is_other_decided l
+
+  place_counts : (l : ℕ) → HowMany (λ m. IsLeader rel A m × (m < l) × (m ≢ A.first)) (place l)
+  unfolding place
+  place_counts l =
+      how_many_like (λ m. IsOther rel A m × (m < l)) (λ m. IsLeader rel A m × (m < l) × (m ≢ A.first)) (place l)
+      (λ m. (λ h. (h.0.0, h.1, h.0.1), λ h. ((h.0, h.2), h.1))) (tallied (IsOther rel A) is_other_decided l)
+
+  -- what the leader l leads has the number n
+  abbrev Placed : ℕ → ℕ → Type 0
+  Placed l n = ((l ≡ A.first) × (n ≡ 0)) ⊎ ((l ≢ A.first) × (n ≡ suc (place l)))
+
+  number_placed : (s n : ℕ) → Number rel A s n → (l : ℕ) × Leader rel A s l × Placed l n
+  number_placed s n (l, leader, inl p) = (l, leader, inl p)
+  number_placed s n (l, leader, inr (other, k, many, is)) =
+      let e : k ≡ place l = how_many_unique (λ m. IsLeader rel A m × (m < l) × (m ≢ A.first)) k (place l) many (place_counts l) in
+      (l, leader, inr (other, omega (arith, is, e)))
+
+  placed_number : (s l n : ℕ) → Leader rel A s l → Placed l n → Number rel A s n
+  placed_number s l n leader (inl p) = (l, leader, inl p)
+  placed_number s l n leader (inr p) = (l, leader, inr (p.0, place l, place_counts l, omega (arith, p.1)))
+
+  place_of : (l : ℕ) → (n : ℕ) × Placed l n
+  place_of l = elim (cases_eq l A.first) [ inl e ↦ (0, inl (e, refl)) | inr d ↦ (suc (place l), inr (d, refl)) ]
+
+  placed_once : (l m n : ℕ) → Placed l m → Placed l n → m ≡ n
+  placed_once l m n (inl p) (inl q) = p.1 ∙ sym q.1
+  placed_once l m n (inl p) (inr q) = absurd (q.0 p.0)
+  placed_once l m n (inr p) (inl q) = absurd (p.0 q.0)
+  placed_once l m n (inr p) (inr q) = p.1 ∙ sym q.1
+
+  place_less : (k l : ℕ) → IsLeader rel A k → k ≢ A.first → k < l → place k < place l
+  unfolding place
+  place_less k l leads other low = tally_less (IsOther rel A) is_other_decided k l (leads, other) low
+
+  -- leaders with one number are one
+  placed_apart : (k l n : ℕ) → IsLeader rel A k → IsLeader rel A l → Placed k n → Placed l n → k ≡ l
+  placed_apart k l n hk hl (inl p) (inl q) = p.0 ∙ sym q.0
+  placed_apart k l n hk hl (inl p) (inr q) = absurd (omega (arith, p.1, q.1))
+  placed_apart k l n hk hl (inr p) (inl q) = absurd (omega (arith, p.1, q.1))
+  placed_apart k l n hk hl (inr p) (inr q) = elim (cases_order k l) [
+    | inl e ↦ e
+    | inr o ↦ elim o [
+      | inl low ↦ absurd (omega (arith, p.1, q.1, place_less k l hk p.0 low))
+      | inr low ↦ absurd (omega (arith, p.1, q.1, place_less l k hl q.0 low))
+    ]
+  ]
+
+  led : (s l : ℕ) → Leader rel A s l → IsLeader rel A l
+  led s l h = (l, (leader_fellow rel A sys s l h).0, leads_itself rel A sys s l h)
+
+  -- a reachable state has a number
+  pub number_of : (s : ℕ) → Reachable A s → (n : ℕ) × Number rel A s n
+  number_of s path =
+      let found : (l : ℕ) × Leader rel A s l = leader_of rel A sys s path in
+      let at : (n : ℕ) × Placed found.0 n = place_of found.0 in
+      (at.0, placed_number s found.0 at.0 found.1 at.1)
+
+  -- a state has one number
+  pub number_once : (s m n : ℕ) → Number rel A s m → Number rel A s n → m ≡ n
+  number_once s m n h g =
+      let p : (l : ℕ) × Leader rel A s l × Placed l m = number_placed s m h in
+      let q : (l : ℕ) × Leader rel A s l × Placed l n = number_placed s n g in
+      placed_once q.0 m n (subst (λ l. Placed l m) (leader_unique rel A s p.0 q.0 p.1 q.1) p.2) q.2
+
+  -- bisimilar states have the same number
+  pub number_carried : (s t n : ℕ) → Bisimilar rel A s A t → Number rel A s n → Number rel A t n
+  number_carried s t n b (l, leader, at) = (l, leader_carried rel A sys s t l b leader, at)
+
+  -- states with the same number are bisimilar
+  pub same_number_bisimilar : (s t n : ℕ) → Number rel A s n → Number rel A t n → Bisimilar rel A s A t
+  same_number_bisimilar s t n h g =
+      let p : (l : ℕ) × Leader rel A s l × Placed l n = number_placed s n h in
+      let q : (l : ℕ) × Leader rel A t l × Placed l n = number_placed t n g in
+      let same : p.0 ≡ q.0 = placed_apart p.0 q.0 n (led s p.0 p.1) (led t q.0 q.1) p.2 q.2 in
+      same_leader_bisimilar rel A sys s t q.0 (subst (Leader rel A s) same p.1) q.1
+
+  -- the numbers of reachable states are equal exactly where these are bisimilar
+  pub numbers_classes : (s t m n : ℕ) → Number rel A s m → Number rel A t n → (m ≡ n) ↔ Bisimilar rel A s A t
+  numbers_classes s t m n h g = (
+    λ e. same_number_bisimilar s t n (subst (Number rel A s) e h) g,
+    λ b. number_once t m n (number_carried s t m b h) g,
+  )
+
+  -- whether n is the number of a reachable state is decided
+  pub number_decided : (s n : ℕ) → Dec (Reachable A s × Number rel A s n)
+  number_decided s n = go (reachable_decided rel A sys s)
+    where
+      go : Dec (Reachable A s) → Dec (Reachable A s × Number rel A s n)
+      go (yes path) =
+          decided_like (λ e. (path, subst (Number rel A s) e (number_of s path).1))
+          (λ h. number_once s (number_of s path).0 n (number_of s path).1 h.1) (same_number (number_of s path).0 n)
+      go (no f) = no (λ h. f h.0)
+
+  -- the first state has the number 0
+  pub first_number : Number rel A A.first 0
+  first_number = (A.first, first_leads rel A sys, inl (refl, refl))
+
+  module _ (c : ℕ) (many : HowMany (IsLeader rel A) c) where
+    -- there is one leader more than others
+    others_counted : c ≡ suc (place A.states)
+    unfolding place
+    others_counted =
+        tally_is (IsLeader rel A) (is_leader_decided rel A sys) A.states c
+        (how_many_like (IsLeader rel A) (λ l. IsLeader rel A l × (l < A.states)) c
+        (λ l. (λ h. (h, is_leader_below rel A sys l h), λ h. h.0)) many)
+        ∙ tally_without (IsLeader rel A) (IsOther rel A) (is_leader_decided rel A sys) is_other_decided A.first A.states
+        (λ k. (λ h. h, λ h. h)) (A.first, first_reachable A, first_leads rel A sys) sys.first
+
+    placed_below : (l n : ℕ) → IsLeader rel A l → Placed l n → n < c
+    placed_below l n leads (inl p) = omega (arith, p.1, others_counted)
+    placed_below l n leads (inr p) =
+        omega (arith, p.1, others_counted, place_less l A.states leads p.0 (is_leader_below rel A sys l leads))
+
+    -- a number is below the count of leaders
+    pub number_below : (s n : ℕ) → Number rel A s n → n < c
+    number_below s n h =
+        let p : (l : ℕ) × Leader rel A s l × Placed l n = number_placed s n h in
+        placed_below p.0 n (led s p.0 p.1) p.2
+
+    -- each number below the count of leaders is one of a reachable state
+    pub number_taken : (n : ℕ) → n < c → (s : ℕ) × Reachable A s × Number rel A s n
+    unfolding place
+    number_taken zero low = (A.first, first_reachable A, first_number)
+    number_taken (suc n) low =
+        let found : (k : ℕ) × (k < A.states) × IsOther rel A k × (place k ≡ n) =
+        tally_reached (IsOther rel A) is_other_decided A.states n (omega (arith, low, others_counted)) in
+        let own : Reachable A found.0 × Leader rel A found.0 found.0 = is_leader_itself rel A sys found.0 found.2.0 in
+        (found.0, own.0, placed_number found.0 found.0 (suc n) own.1 (inr (found.2.1, ap suc (sym found.3))))
+
+  others_next : (l c : ℕ) (p : Dec (IsOther rel A l)) → HowMany (λ m. IsLeader rel A m × (m < l) × (m ≢ A.first)) c
+      → HowMany (λ m. IsLeader rel A m × (m < l + 1) × (m ≢ A.first)) (c + one p)
+  others_next l c p many =
+      how_many_like (λ m. IsOther rel A m × (m < suc l)) (λ m. IsLeader rel A m × (m < l + 1) × (m ≢ A.first)) (c + one p)
+      (λ m. (λ h. (h.0.0, omega (arith, h.1), h.0.1), λ h. ((h.0, h.2), omega (arith, h.1))))
+      (tally_next (IsOther rel A) is_other_decided l c p
+      (how_many_like (λ m. IsLeader rel A m × (m < l) × (m ≢ A.first)) (λ m. IsOther rel A m × (m < l)) c
+      (λ m. (λ h. ((h.0, h.2), h.1), λ h. (h.0.0, h.1, h.0.1))) many))
+
+  -- one more leader other than the first state
+  pub others_one : (l c : ℕ) → IsLeader rel A l → l ≢ A.first → HowMany (λ m. IsLeader rel A m × (m < l) × (m ≢ A.first)) c
+      → HowMany (λ m. IsLeader rel A m × (m < l + 1) × (m ≢ A.first)) (c + 1)
+  others_one l c leads other many = others_next l c (yes (leads, other)) many
+
+  -- no more leaders other than the first state
+  pub others_same : (l c : ℕ) → ¬ IsOther rel A l → HowMany (λ m. IsLeader rel A m × (m < l) × (m ≢ A.first)) c
+      → HowMany (λ m. IsLeader rel A m × (m < l + 1) × (m ≢ A.first)) c
+  others_same l c not many =
+      subst (HowMany (λ m. IsLeader rel A m × (m < l + 1) × (m ≢ A.first))) (omega arith) (others_next l c (no not) many)
+
+  -- the other leaders and the first state are all leaders
+  pub leaders_counted : (c : ℕ) → HowMany (λ m. IsLeader rel A m × (m < A.states) × (m ≢ A.first)) c → HowMany (IsLeader rel A) (1 + c)
+  leaders_counted c many =
+      let all : HowMany (IsLeader rel A) (tally (IsLeader rel A) (is_leader_decided rel A sys) A.states) =
+      how_many_like (λ l. IsLeader rel A l × (l < A.states)) (IsLeader rel A)
+      (tally (IsLeader rel A) (is_leader_decided rel A sys) A.states)
+      (λ l. (λ h. h.0, λ h. (h, is_leader_below rel A sys l h))) (tallied (IsLeader rel A) (is_leader_decided rel A sys) A.states) in
+      let same : c ≡ place A.states =
+      how_many_unique (λ m. IsLeader rel A m × (m < A.states) × (m ≢ A.first)) c (place A.states) many (place_counts A.states) in
+      subst (HowMany (IsLeader rel A)) (omega (arith, others_counted (tally (IsLeader rel A) (is_leader_decided rel A sys) A.states) all, same)) all

@@ -1,0 +1,114 @@
+-- Steps of the quotient are answered by the states of their numbers, and these are bisimilar to their numbers.
+use Rattle.std.proofs.Common.{ℕ, List, sym, subst, inl, inr}
+use Rattle.theory.specs.System.{System, IsSystem, Transition, Step, Internal, Silent, internal}
+use Rattle.theory.specs.Bisimulation.{Relation, Answers, IsBisimulation, Bisimilar, Equivalent, Converse}
+use Rattle.theory.specs.Bisimulation.Relation.{strong, branching}
+use Rattle.theory.specs.Quotient.{Number, Stands, Quotient}
+use Rattle.theory.proofs.Paths.{leads_here, leads_on, leads_answered, reachable_below, reachable_on}
+use Rattle.theory.proofs.Bisimulations.{bisimilar_by}
+use Rattle.theory.proofs.Leaders.{first_reachable}
+use Rattle.theory.proofs.Numbers.{number_once, number_carried, same_number_bisimilar, number_decided, first_number}
+use Rattle.theory.proofs.QuotientLaws.{Numbered, reachable_silent, number_state, step_numbered}
+
+-- a state of the number n, bisimilar to s, makes a step by a to one of the number m
+abbrev Fellows : Relation → System → ℕ → ℕ → List ℕ → ℕ → Type 0
+Fellows rel A s n a m = (x y : ℕ) × Bisimilar rel A x A s × Step A x a y × Number rel A x n × Number rel A y m
+
+-- a step of the quotient is one of a fellow of each state of its number
+step_stands : (rel : Relation) (A Q : System) → IsSystem A → Quotient rel A Q →
+    (s n : ℕ) (a : List ℕ) (m : ℕ) → Number rel A s n → Step Q n a m → Fellows rel A s n a m
+step_stands rel A Q sys quotient s n a m number step =
+    let e : Transition = record { source = n; label = a; target = m } in
+    let stands : Stands rel A e = ((quotient.transitions e).0 step).0 in
+    (stands.0, stands.1, same_number_bisimilar rel A sys stands.0 s n stands.4 number, stands.3, stands.4, stands.5)
+
+module _ (A Q : System) (sys : IsSystem A) (quotient : Quotient strong A Q) where
+  -- a step of a state is one of the quotient
+  strong_forth : (s n : ℕ) → Numbered strong A s n → Answers strong A Q (Numbered strong A) s n
+  strong_forth s n h = λ a t step.
+      let on = step_numbered strong A Q sys quotient s n a t h step in
+      elim on.2 [ inl there ↦ (on.0, there, on.1) | inr drop ↦ absurd drop ]
+
+  -- a step of the quotient is one of each state of its number
+  pub strong_back : (s n : ℕ) → Numbered strong A s n → Answers strong Q A (Converse (Numbered strong A)) n s
+  strong_back s n h = λ a m step.
+      let (x, y, (pairs, bisimulation, related), there, before, after) : Fellows strong A s n a m =
+      step_stands strong A Q sys quotient s n a m h.1 step in
+      let found = bisimulation.forth x s related a y there in
+      (found.0, found.1, (reachable_on A s a found.0 h.0 found.1, number_carried strong A sys y found.0 m (pairs, bisimulation, found.2) after))
+
+module _ (A Q : System) (sys : IsSystem A) (quotient : Quotient branching A Q) where
+  -- a step of a state is one of the quotient, or stays at its number
+  branching_forth : (s n : ℕ) → Numbered branching A s n → Answers branching A Q (Numbered branching A) s n
+  branching_forth s n h = λ a t step.
+      let on = step_numbered branching A Q sys quotient s n a t h step in
+      elim on.2 [
+        | inl there ↦ inr (n, on.0, leads_here (Internal Q) n, there, h, on.1)
+        | inr drop ↦ inl (drop.0, subst (Numbered branching A t) (sym drop.1) on.1)
+      ]
+
+  -- s goes silently to a state of its number, and by a to one of the number m
+  abbrev Goes : ℕ → ℕ → List ℕ → ℕ → Type 0
+  Goes s n a m =
+      (u t : ℕ) × Silent A s u × Step A u a t × Numbered branching A u n × Numbered branching A t m
+
+  -- a step of the quotient is answered by each state of its number
+  pub branching_goes : (s n : ℕ) (a : List ℕ) (m : ℕ) → Numbered branching A s n → Step Q n a m → Goes s n a m
+  branching_goes s n a m h step =
+      let (x, y, (pairs, bisimulation, related), there, before, after) : Fellows branching A s n a m =
+      step_stands branching A Q sys quotient s n a m h.1 step in
+      elim (bisimulation.forth x s related a y there) [
+        | inl rests ↦ (
+            let own : Number branching A s m = number_carried branching A sys y s m (pairs, bisimulation, rests.1) after in
+            let e : Transition = record { source = n; label = a; target = m } in
+            absurd (((quotient.transitions e).0 step).1 (rests.0, number_once branching A sys s n m h.1 own)))
+        | inr goes ↦ (
+            let reached = reachable_silent A s goes.0 h.0 goes.2 in (
+              goes.0,
+              goes.1,
+              goes.2,
+              goes.3,
+              (reached, number_carried branching A sys x goes.0 n (pairs, bisimulation, goes.4) before),
+              (reachable_on A goes.0 a goes.1 reached goes.3, number_carried branching A sys y goes.1 m (pairs, bisimulation, goes.5) after),
+            ))
+      ]
+
+  branching_back : (s n : ℕ) → Numbered branching A s n → Answers branching Q A (Converse (Numbered branching A)) n s
+  branching_back s n h = λ a m step. inr (branching_goes s n a m h step)
+
+  -- a silent path of the quotient is followed by each state of the number where it begins
+  pub silent_goes : (n m s : ℕ) → Silent Q n m → Numbered branching A s n → (t : ℕ) × Silent A s t × Numbered branching A t m
+  silent_goes = leads_answered (Internal Q) (Internal A) (λ q s. Numbered branching A s q) (λ n m s step h.
+      let goes = branching_goes s n internal m h step in
+      (goes.1, leads_on (Internal A) s goes.0 goes.1 goes.2 goes.3, goes.5))
+
+module _ (rel : Relation) (A Q : System) (sys : IsSystem A) (quotient : Quotient rel A Q) where
+  numbered_forth : (s n : ℕ) → Numbered rel A s n → Answers rel A Q (Numbered rel A) s n
+  numbered_forth = elim rel as (λ r. Quotient r A Q → (s n : ℕ) → Numbered r A s n → Answers r A Q (Numbered r A) s n) [
+    | strong ↦ strong_forth A Q sys
+    | branching ↦ branching_forth A Q sys
+  ] quotient
+
+  numbered_back : (s n : ℕ) → Numbered rel A s n → Answers rel Q A (Converse (Numbered rel A)) n s
+  numbered_back = elim rel as (λ r. Quotient r A Q → (s n : ℕ) → Numbered r A s n → Answers r Q A (Converse (Numbered r A)) n s) [
+    | strong ↦ strong_back A Q sys
+    | branching ↦ branching_back A Q sys
+  ] quotient
+
+  -- what relates each reachable state to its number is a bisimulation
+  pub numbered_bisimulation : IsBisimulation rel A Q (Numbered rel A)
+  numbered_bisimulation = record {
+    states = λ s n h. (reachable_below A sys s h.0, number_state rel A Q sys quotient s n h.1);
+    forth = numbered_forth;
+    back = numbered_back;
+  }
+
+  -- a reachable state is bisimilar to its number
+  pub numbered_bisimilar : (s n : ℕ) → Numbered rel A s n → Bisimilar rel A s Q n
+  numbered_bisimilar = bisimilar_by rel A Q (Numbered rel A) (number_decided rel A sys) numbered_bisimulation
+
+  -- the quotient is equivalent to the system
+  pub quotient_equivalent : Equivalent rel A Q
+  quotient_equivalent =
+      numbered_bisimilar A.first Q.first
+      (first_reachable A, subst (Number rel A A.first) (sym quotient.first) (first_number rel A sys))

@@ -1,0 +1,9 @@
+-- Systems that are alike: they differ at most in the order and the repeats of their lists of transitions.
+use Rattle.std.specs.Prelude.{◌≡◌, ◌↔◌, ℕ, List}
+use Rattle.theory.specs.System.{System, Step}
+
+-- the same first state, as many states, and the same steps
+pub record SameSteps (A B : System) : Type 0 where
+  pub first : A.first ≡ B.first
+  pub states : A.states ≡ B.states
+  pub steps : (s : ℕ) (a : List ℕ) (t : ℕ) → Step A s a t ↔ Step B s a t

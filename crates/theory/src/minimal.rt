@@ -1,0 +1,81 @@
+//! What holds of each quotient: it is a system equivalent to its own, no two of its states are bisimilar, and no equivalent
+//! system has fewer.
+
+ghost use Rattle.std.specs.Prelude.{◌≡◌, ◌≢◌, ◌↔◌, ℕ, ◌+◌, ◌<◌, ◌≤◌, List};
+ghost use Rattle.theory.specs.System.{System, IsSystem, Step, Reachable};
+ghost use Rattle.theory.specs.Bisimulation.{Relation, Bisimilar, Equivalent};
+ghost use Rattle.theory.specs.Quotient.{HowMany, Leader, IsLeader, Number, Quotient};
+
+/// The first state is reachable, and so is what a step leads to from a reachable state; each is a state.
+pub fn steps_keep_reachable()
+    ensures first { (A : System) → Reachable A A.first }
+    ensures step { (A : System) (s : ℕ) (a : List ℕ) (t : ℕ) → Reachable A s → Step A s a t → Reachable A t }
+    ensures below { (A : System) (s : ℕ) → IsSystem A → Reachable A s → s < A.states }
+{}
+
+/// Two bisimilar leaders are one.
+pub fn leaders_differ()
+    ensures { (rel : Relation) (A : System) (l m : ℕ) → IsSystem A → IsLeader rel A l → IsLeader rel A m →
+        Bisimilar rel A l A m → l ≡ m }
+{}
+
+/// How the leaders other than the first state are counted, state by state; with the first state they are all leaders.
+pub fn leaders_are_counted()
+    ensures none { (rel : Relation) (A : System) → HowMany (λ m. IsLeader rel A m × (m < 0) × (m ≢ A.first)) 0 }
+    ensures one { (rel : Relation) (A : System) (l c : ℕ) → IsSystem A → IsLeader rel A l → l ≢ A.first →
+        HowMany (λ m. IsLeader rel A m × (m < l) × (m ≢ A.first)) c →
+        HowMany (λ m. IsLeader rel A m × (m < l + 1) × (m ≢ A.first)) (c + 1) }
+    ensures same { (rel : Relation) (A : System) (l c : ℕ) → IsSystem A → ¬ (IsLeader rel A l × (l ≢ A.first)) →
+        HowMany (λ m. IsLeader rel A m × (m < l) × (m ≢ A.first)) c →
+        HowMany (λ m. IsLeader rel A m × (m < l + 1) × (m ≢ A.first)) c }
+    ensures all { (rel : Relation) (A : System) (c : ℕ) → IsSystem A →
+        HowMany (λ m. IsLeader rel A m × (m < A.states) × (m ≢ A.first)) c → HowMany (IsLeader rel A) (1 + c) }
+{}
+
+/// Each reachable state has a leader and a number, one of each.
+pub fn each_state_has_a_number()
+    ensures leader { (rel : Relation) (A : System) (s : ℕ) → IsSystem A → Reachable A s → (l : ℕ) × Leader rel A s l }
+    ensures one_leader { (rel : Relation) (A : System) (s l m : ℕ) → Leader rel A s l → Leader rel A s m → l ≡ m }
+    ensures number { (rel : Relation) (A : System) (s : ℕ) → IsSystem A → Reachable A s → (n : ℕ) × Number rel A s n }
+    ensures one_number { (rel : Relation) (A : System) (s m n : ℕ) → IsSystem A → Number rel A s m → Number rel A s n → m ≡ n }
+{}
+
+/// Two reachable states have one number exactly where they are bisimilar.
+pub fn numbers_are_classes()
+    ensures { (rel : Relation) (A : System) (s t m n : ℕ) → IsSystem A → Reachable A s → Reachable A t →
+        Number rel A s m → Number rel A t n → (m ≡ n) ↔ Bisimilar rel A s A t }
+{}
+
+/// The numbers of the reachable states are the states of the quotient.
+pub fn numbers_are_states()
+    ensures below { (rel : Relation) (A Q : System) (s n : ℕ) → IsSystem A → Quotient rel A Q → Number rel A s n → n < Q.states }
+    ensures taken { (rel : Relation) (A Q : System) (n : ℕ) → IsSystem A → Quotient rel A Q → n < Q.states →
+        (s : ℕ) × Reachable A s × Number rel A s n }
+{}
+
+/// The quotient of a system is a system.
+pub fn quotient_is_a_system()
+    ensures { (rel : Relation) (A Q : System) → IsSystem A → Quotient rel A Q → IsSystem Q }
+{}
+
+/// The quotient is equivalent to the system.
+pub fn quotient_is_equivalent()
+    ensures { (rel : Relation) (A Q : System) → IsSystem A → Quotient rel A Q → Equivalent rel A Q }
+{}
+
+/// Each reachable state is bisimilar to its number in the quotient.
+pub fn states_are_bisimilar_to_their_numbers()
+    ensures { (rel : Relation) (A Q : System) (s n : ℕ) → IsSystem A → Quotient rel A Q → Reachable A s → Number rel A s n →
+        Bisimilar rel A s Q n }
+{}
+
+/// No two states of the quotient are bisimilar.
+pub fn quotient_states_differ()
+    ensures { (rel : Relation) (A Q : System) (s t : ℕ) → IsSystem A → Quotient rel A Q → Bisimilar rel Q s Q t → s ≡ t }
+{}
+
+/// No equivalent system has fewer states than the quotient.
+pub fn no_smaller_system()
+    ensures { (rel : Relation) (A Q B : System) → IsSystem A → IsSystem B → Quotient rel A Q → Equivalent rel A B →
+        Q.states ≤ B.states }
+{}
