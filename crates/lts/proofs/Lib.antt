@@ -5,3 +5,4 @@ pub mod Grouped
 pub mod Placing
 pub mod Kept
 pub mod Joining
+pub mod Contained

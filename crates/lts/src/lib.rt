@@ -8,6 +8,7 @@ mod labels;
 mod lts;
 mod memory;
 mod meter;
+mod row_laws;
 #[cfg(test)]
 mod tests;
 
@@ -16,3 +17,4 @@ pub use labels::{Labels, is_label};
 pub use lts::{Lts, in_range};
 pub use memory::Memory;
 pub use meter::{Counter, Meter};
+pub use row_laws::{rows_are_steps, rows_follow};
