@@ -1,5 +1,5 @@
 -- Lines on their way to a sink through a buffer.
-use Rattle.std.proofs.Common.{Result, Ok, Err, IfErr, OnErr, ◌≡◌, ℕ, ◌+◌, ◌<◌, List, [], ◌++◌, length, map, get_or, take, drop, refl, sym, ap, ◌∙◌, subst, Option, ◌∷◌, arith, append_assoc}
+use Rattle.std.proofs.Common.{Bool, false, Result, Ok, Err, IfErr, OnErr, ◌≡◌, ℕ, ◌+◌, ◌<◌, List, [], ◌++◌, length, map, get_or, take, drop, refl, sym, ap, ◌∙◌, subst, Option, ◌∷◌, arith, append_assoc}
 use Rattle.std.specs.Io.KnownBytes.{Appends}
 use Rattle.std.specs.List.{All, flat_map}
 use Rattle.std.proofs.KnownBytes.{Appends-trans}
@@ -10,6 +10,7 @@ use Rattle.lts.specs.Labels.{text_of}
 use Rattle.lts.specs.Lts.{Triple, source_of, label_of, target_of, transition_of, system_from}
 use Rattle.autfmt.specs.declared.fault.Fault.{Fault}
 use Rattle.autfmt.specs.declared.fault.Fault.TheVariants.{Device}
+use Rattle.autfmt.specs.Grammar.{is_plain}
 use Rattle.autfmt.specs.Progress.{Progress}
 use Rattle.autfmt.specs.Ranks.{Entry, texts}
 use Rattle.autfmt.specs.Stream.{AppendsBeginning}
@@ -88,6 +89,13 @@ pub label_of_entry : (entries : List Entry) (r : ℕ) (d : Entry) → r < length
 label_of_entry entries r d h all =
     let within : r < length (texts entries) = omega (arith, length-map entries (λ e. e.0.now)) in
     subst IsLabel (sym (label_at entries r d h)) (all r [] within)
+
+-- the flag at a rank tells of the label at that rank
+pub plain_of_entry : (entries : List Entry) (flags : List Bool) (r : ℕ) (d : Entry) → r < length entries → flags ≡ map is_plain (texts entries)
+    → get_or flags r false ≡ is_plain (get_or entries r d).0.now
+plain_of_entry entries flags r d h is =
+    let within : r < length (texts entries) = omega (arith, length-map entries (λ e. e.0.now)) in
+    ap (λ l. get_or l r false) is ∙ get_or-map is_plain (texts entries) r [] false within ∙ ap is_plain (sym (label_at entries r d h))
 
 -- after one more line
 pub line_waits : {old mid new : Option (List ℕ)} {waiting kept : List ℕ} (first states : ℕ) (entries : List Entry) (order : List Triple) (i : ℕ) (d : Triple) (none : Entry) → i < length order → label_of (get_or order i d) < length entries

@@ -1,5 +1,5 @@
 -- The one text of a system.
-use Rattle.std.specs.Prelude.{◌≡◌, ℕ, List, ◌++◌, length, codes, decimal, if◌then◌else◌, Option, Result, Err}
+use Rattle.std.specs.Prelude.{◌≡◌, ℕ, ◌≤◌, List, ◌++◌, length, take, codes, decimal, if◌then◌else◌, Option, Result, Err}
 use Rattle.std.specs.Io.KnownBytes.{Appends}
 use Rattle.std.specs.List.{flat_map}
 use Rattle.std.specs.List.Sorted.{IsPermutation, IsSorted}
@@ -24,6 +24,15 @@ header_of first transitions states =
 -- the header of a system
 abbrev pub written_header : System → List ℕ
 written_header A = header_of A.first (length A.transitions) A.states
+
+-- the front of a line, up to the label
+abbrev pub written_front : ℕ → List ℕ
+written_front source = codes "(" ++ decimal source ++ codes ", "
+
+-- the first bytes are the front of a line
+pub record IsFront (source len : ℕ) (bytes : List ℕ) : Type 0 where
+  pub short : len ≤ 13
+  pub front : take len bytes ≡ written_front source
 
 -- a transition and its line feed
 abbrev pub written_transition : Transition → List ℕ

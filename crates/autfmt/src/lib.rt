@@ -13,12 +13,16 @@ mod line_laws;
 mod reader;
 #[cfg(test)]
 mod reader_tests;
+#[cfg(test)]
+mod refusal_tests;
 mod sink;
 mod source;
 #[cfg(test)]
 mod tests;
 mod text_laws;
 mod token;
+#[cfg(test)]
+mod whole_tests;
 mod write_laws;
 #[cfg(test)]
 mod write_tests;

@@ -87,7 +87,11 @@ fn read_system<M: Meter, R: Source>(
     ensures sound { OnOk result (R.failures r.new ≡ 0) }
 {
     let (promise, held) = read_text(alloc, r, lim, h)?;
-    let Held { labels, triples } = held;
+    let Held {
+        labels,
+        triples,
+        ..
+    } = held;
     let system = Lts::build(alloc, labels, promise.first, promise.states, triples)?;
     Ok(system)
 }

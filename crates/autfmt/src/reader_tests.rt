@@ -498,12 +498,37 @@ fn failing_after_each_byte(rt: HostRuntime) {
     check_failing(&rt, rt.alloc(), TWO_EQUAL_TARGETS, Fault::Device);
 }
 
+#[test]
+fn failing_ends(rt: HostRuntime) {
+    check_failing(
+        &rt,
+        rt.alloc(),
+        b"des (0, 2, 3)\n(0, a, 1)\n",
+        Fault::Device,
+    );
+}
+
 /// The hidden labels, or the fault of the hide list.
-fn hidden_of(alloc: Global, list: &[u8], place: Option<usize>, k: usize) -> Result<Hidden, Fault>
-    requires { 1 ≤ k }
-{
-    let mut source = SliceSource::new(list, place).pieces(k);
+fn hidden_of(alloc: Global, list: &[u8], place: Option<usize>, k: usize) -> Result<Hidden, Fault> {
+    let mut source = SliceSource::new(list, place).pieces(k.max(1));
     read_hidden(alloc, &mut source)
+}
+
+/// The fault of the hide list is `wanted`, however it is cut into pieces.
+fn check_list(
+    rt: &impl Abort,
+    alloc: Global,
+    list: &[u8],
+    place: Option<usize>,
+    wanted: Option<Fault>,
+) {
+    for k in [1, 2, 3, 7, 4095, 4096, 4097] {
+        assert_eq!(rt;
+            hidden_of(alloc, list, place, k).err(),
+            wanted,
+            "in pieces of {k}"
+        );
+    }
 }
 
 /// How many labels the text has where the labels of the list are hidden, and whether one is `i`.
@@ -542,18 +567,12 @@ fn empty_hide_list(rt: HostRuntime) {
 
 #[test]
 fn two_labels_a_line(rt: HostRuntime) {
-    assert_eq!(rt;
-        hidden_of(rt.alloc(), b"a b\n", None, 1).err(),
-        Some(Fault::BadHide(1))
-    );
+    check_list(&rt, rt.alloc(), b"a b\n", None, Some(Fault::BadHide(1)));
 }
 
 #[test]
 fn empty_hide_line(rt: HostRuntime) {
-    assert_eq!(rt;
-        hidden_of(rt.alloc(), b"a\n\n", None, 2).err(),
-        Some(Fault::BadHide(2))
-    );
+    check_list(&rt, rt.alloc(), b"a\n\n", None, Some(Fault::BadHide(2)));
 }
 
 #[test]
@@ -581,12 +600,12 @@ fn longest_hide_list(rt: HostRuntime) -> Result<(), Fail> {
 
 #[test]
 fn failing_hide_list(rt: HostRuntime) {
-    assert_eq!(rt;
-        hidden_of(rt.alloc(), b"a\nb b", Some(5), 1).err(),
-        Some(Fault::Device)
-    );
-    assert_eq!(rt;
-        hidden_of(rt.alloc(), b"a\nb b\n", Some(6), 1).err(),
-        Some(Fault::BadHide(2))
+    check_list(&rt, rt.alloc(), b"a\nb b", Some(5), Some(Fault::Device));
+    check_list(
+        &rt,
+        rt.alloc(),
+        b"a\nb b\n",
+        Some(6),
+        Some(Fault::BadHide(2)),
     );
 }

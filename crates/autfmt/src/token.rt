@@ -77,6 +77,7 @@ fn read_hide_line(line: &[u8]) -> Option<&[u8]>
 }
 
 // A number and the mark behind it, each behind blanks.
+#[inline(always)]
 #[tactic(auto, unfolding(crate::specs::Reading::number_then))]
 fn number_then(mark: u8, line: &[u8]) -> Option<(u64, &[u8])>
     ensures { Gives (λ x. (x.0, x.1.now)) result (number_then mark line.now) }

@@ -1,5 +1,5 @@
 use Rattle.std.proofs.Common.{◌≡◌, [], length, arith}
-use Rattle.autfmt.proofs.Progress.{line_waits, text_begun, text_put, label_of_entry, on_err}
+use Rattle.autfmt.proofs.Progress.{line_waits, text_begun, text_put, label_of_entry, plain_of_entry, on_err}
 use Rattle.std.proofs.lemmas.Result.{on_ok_weaker, on_err_weaker}
 use Rattle.autfmt.proofs.writer.put_system.Goals as goal
 
@@ -7,10 +7,14 @@ pub append_transition-waiting-requires-clause-label : goal.append_transition-wai
 append_transition-waiting-requires-clause-label g c =
     label_of_entry c.args.entries.now _ _ (c.requires.ranks c.loop-source.source-index (0, 0, 0) (omega arith)) c.requires.labels
 
+pub append_transition-waiting-requires-clause-plain : goal.append_transition-waiting-requires-clause-plain
+append_transition-waiting-requires-clause-plain g c =
+    plain_of_entry c.args.entries.now c.args.plain.now _ _ (c.requires.ranks c.loop-source.source-index (0, 0, 0) (omega arith)) c.requires.plain
+
 pub loop-source-preserved : goal.loop-source-preserved
 loop-source-preserved g c = (
   line_waits c.args.first c.args.states c.args.entries.now c.args.order.now c.loop-source.source-index (0, 0, 0) (record { ref_ptr = (0, 0); now = [] }, 0) (omega arith)
-      (c.requires.ranks c.loop-source.source-index (0, 0, 0) (omega arith)) c.loop-source.invariant.0 c.in_ok-end.ensures.ok _ c.append_transition-waiting.ensures.text,
+      (c.requires.ranks c.loop-source.source-index (0, 0, 0) (omega arith)) c.loop-source.invariant.0 c.in_ok-end.ensures.ok _ (rw c.set.ensures at c.append_transition-waiting.ensures.text),
   omega (arith, c.in_ok-end.ensures.room, c.loop-source.invariant.2, c.append_transition-waiting.ensures.end),
   omega arith,
   c.in_ok-end.ensures.failures,

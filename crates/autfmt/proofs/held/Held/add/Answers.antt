@@ -9,6 +9,6 @@ returns-clause-added c =
       k,
       c.in_ok-number.ensures.number,
       c.in_ok-number.ensures.keeps,
-      Interns-length c.args.self.now.labels c.args.label.now c.intern.new.self c.in_ok-number.ensures.table,
+      Interns-length c.args.self.now.labels c.args.label.now c.number_of.new.labels c.in_ok-number.ensures.table,
       c.in_ok-push.ensures.items ∙ ap (λ (es : List Triple). es ++ (c.args.source, k, c.args.target) ∷ []) c.in_ok-make_room.ensures.items,
     )
