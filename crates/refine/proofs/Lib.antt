@@ -1,0 +1,16 @@
+pub mod Contained
+pub mod Rising
+pub mod Signing
+pub mod Spending
+pub mod SameLists
+pub mod StrongRow
+pub mod Chains
+pub mod Spans
+pub mod Searching
+pub mod Keeping
+pub mod Listing
+pub mod Numbering
+pub mod Leading
+pub mod Indexing
+pub mod Firsts
+pub mod Leaders

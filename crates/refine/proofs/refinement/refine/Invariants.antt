@@ -1,0 +1,18 @@
+use Rattle.std.proofs.Common.{◌≡◌, ℕ, ◌-◌, length, slice_index}
+use Rattle.theory.specs.Blocks.{Underway}
+use Rattle.lts.specs.Lts.{system_of}
+use Rattle.refine.specs.Rounds.{counts, Spends}
+use Rattle.refine.proofs.refinement.refine.Given as goal
+
+abbrev pub invariant-loop-blocks : goal.invariant-loop-blocks
+invariant-loop-blocks g l = record {
+  states : length l.blocks ≡ l.l.states;
+  marks : l.marks ≡ l.l.states;
+  signatures : length l.signatures ≡ l.l.states;
+  made : (k : ℕ) × Underway g.S.Sense.relation (system_of l.l) k (slice_index l.blocks)
+      × Spends g.S.Sense.relation l.l k (counts (g.M.Meter.rounds_made l.initial.m) (g.M.Meter.visits_made l.initial.m))
+      (counts (g.M.Meter.rounds_made l.m) (g.M.Meter.visits_made l.m));
+}
+
+abbrev pub decreases-loop-blocks : goal.decreases-loop-blocks
+decreases-loop-blocks g l = l.l.states - (g.M.Meter.rounds_made l.m - g.M.Meter.rounds_made l.initial.m)

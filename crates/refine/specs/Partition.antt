@@ -1,0 +1,15 @@
+-- A partition of the states 0, 1, .. into blocks: the list has the number of each state's block.
+use Rattle.std.specs.Prelude.{◌≡◌, ℕ, ◌<◌, ◌≤◌, List, length, slice_index}
+
+-- blocks are numbered from 0 in the order of their least members, and there are so many: each state's block is below the
+-- count, each number below it is used, and before a state stand states of every block with a smaller number
+pub record IsPartition (blocks : List ℕ) (count : ℕ) : Type 0 where
+  pub some : 1 ≤ length blocks
+  pub few : length blocks ≤ 2000000
+  pub below : (s : ℕ) → s < length blocks → slice_index blocks s < count
+  pub used : (b : ℕ) → b < count → (s : ℕ) × (s < length blocks) × (slice_index blocks s ≡ b)
+  pub in_order : (s b : ℕ) → s < length blocks → b < slice_index blocks s → (t : ℕ) × (t < s) × (slice_index blocks t ≡ b)
+
+-- blocks that are numbered so, however many
+abbrev pub IsNumbered : List ℕ → Type 0
+IsNumbered blocks = (count : ℕ) × IsPartition blocks count

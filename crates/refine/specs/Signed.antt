@@ -1,0 +1,46 @@
+-- Signatures in memory: each state's pairs of a label number and a block, in rising order.
+use Rattle.std.specs.Prelude.{◌≡◌, ◌↔◌, ℕ, ◌*◌, ◌<◌, List, [], ◌++◌, length, slice_index}
+use Rattle.std.specs.List.{Contains, slice_index_or}
+use Rattle.std.specs.List.Sorted.{IsStrictlySortedBy}
+use Rattle.std.specs.declared.cmp.Ordering.{Ordering}
+use Rattle.std.specs.Ordering.{nat_cmp, ordering_then}
+use Rattle.theory.specs.Bisimulation.{Relation}
+use Rattle.theory.specs.Bisimulation.Relation.{strong, branching}
+use Rattle.theory.specs.Blocks.{Signature}
+use Rattle.lts.specs.Labels.{text_of}
+use Rattle.lts.specs.Lts.{Grouped, Triple, label_of, target_of, system_of, row_of}
+
+-- pairs in the order of their first numbers, and of their second ones where these are equal
+abbrev pub pair_cmp : ℕ × ℕ → ℕ × ℕ → Ordering
+pair_cmp p q = ordering_then (nat_cmp p.0 q.0) (nat_cmp p.1 q.1)
+
+-- the pair of the label number k and the block b is in the signature of s
+abbrev pub HasPair : Relation → Grouped → List ℕ → ℕ → ℕ → ℕ → Type 0
+HasPair rel l blocks s k b = (k < length l.labels) × Signature rel (system_of l) (slice_index blocks) s (text_of l.labels k) b
+
+-- the list is the signature of s: each of its pairs once, in rising order
+pub record IsSignature (rel : Relation) (l : Grouped) (blocks : List ℕ) (s : ℕ) (pairs : List (ℕ × ℕ)) : Type 0 where
+  pub exactly : (k b : ℕ) → Contains pairs (k, b) ↔ HasPair rel l blocks s k b
+  pub rising : IsStrictlySortedBy pair_cmp pairs
+
+-- the signature of s was put behind what stood before
+abbrev pub Appends : Relation → Grouped → List ℕ → ℕ → List (ℕ × ℕ) → List (ℕ × ℕ) → Type 0
+Appends rel l blocks s before after = (pairs : List (ℕ × ℕ)) × IsSignature rel l blocks s pairs × (after ≡ before ++ pairs)
+
+-- the pair that a transition puts into a strong signature
+abbrev pub pair_under : List ℕ → Triple → ℕ × ℕ
+pair_under blocks e = (label_of e, slice_index blocks (target_of e))
+
+-- of a list of signatures, that of the state s
+abbrev pub signature_at : List (List (ℕ × ℕ)) → ℕ → List (ℕ × ℕ)
+signature_at signatures s = slice_index_or signatures s []
+
+-- the most visits of one signature: of the state's transitions for strong, of all for branching
+abbrev pub most_visits : Relation → Grouped → ℕ → ℕ
+most_visits strong l s = length (row_of s l.places)
+most_visits branching l s = length l.places
+
+-- the cost of a round: the most visits for each state
+abbrev pub cost : Relation → Grouped → ℕ
+cost strong l = length l.places
+cost branching l = l.states * length l.places

@@ -1,0 +1,227 @@
+//! Refinement of systems that are known, by name.
+ghost use Rattle.std.specs.Prelude.{◌≡◌, length, IfOk};
+
+use crate::{Marks, Partition, Sense, Signatures, Strong, refine, round};
+use lts::{Counter, Labels, Lts, Memory, Meter, in_range, is_label};
+use std::alloc::Global;
+use std::test::Fail;
+
+/// A system small enough to read: its states, its labels, and its transitions by number.
+struct Known {
+    states: u32,
+    labels: [&'static [u8]; 3],
+    transitions: &'static [(u32, u32, u32)],
+}
+
+const CHAIN_OF_THREE: Known = Known {
+    states: 4,
+    labels: [b"a", b"b", b"c"],
+    transitions: &[(0, 0, 1), (1, 0, 2), (2, 0, 3)],
+};
+
+const LABEL_ORDER: Known = Known {
+    states: 2,
+    labels: [b"a", b"B", b"!x"],
+    transitions: &[(0, 0, 1), (0, 1, 1), (0, 2, 1)],
+};
+
+const TWO_SPELLINGS: Known = Known {
+    states: 2,
+    labels: [b"a", b"b", b"c"],
+    transitions: &[(0, 0, 1), (0, 0, 1), (0, 0, 1)],
+};
+
+const LONE_STATE: Known = Known {
+    states: 1,
+    labels: [b"a", b"b", b"c"],
+    transitions: &[],
+};
+
+const OLD_BLOCKS: Known = Known {
+    states: 2,
+    labels: [b"i", b"b", b"c"],
+    transitions: &[(0, 0, 0)],
+};
+
+/// The system, or none where its parts do not fit.
+fn build(alloc: Global, known: &Known) -> Result<Option<Lts<Counter>>, Memory> {
+    let mut labels = Labels::new(alloc);
+    for text in &known.labels {
+        if is_label(text) && labels.len() < 20_000_000 {
+            labels.intern(text)?;
+        }
+    }
+    let transitions = Vec::from_slice(alloc, known.transitions)?;
+    if !in_range(&labels, 0, known.states, &transitions) {
+        return Ok(None);
+    }
+    Ok(Some(Lts::build(alloc, labels, 0, known.states, transitions)?))
+}
+
+/// The blocks of the states, behind how many there are.
+fn blocks(alloc: Global, p: &Partition) -> Result<String, Memory> {
+    let mut text = format!(in alloc; "{}:", p.count())?;
+    for s in 0..p.states() {
+        text.push_str(&format!(in alloc; " {}", p.block(s))?)?;
+    }
+    Ok(text)
+}
+
+/// The pairs, each as its label number and its block.
+fn pairs(alloc: Global, list: &[(u32, u32)]) -> Result<String, Memory> {
+    let mut text = String::new(alloc);
+    for (label, block) in list {
+        text.push_str(&format!(in alloc; "({label}, {block})")?)?;
+    }
+    Ok(text)
+}
+
+/// One block of the system's states.
+fn one_block(alloc: Global, l: &Lts<Counter>) -> Result<Partition, Memory>
+    ensures { IfOk result (λ p. length p ≡ l.now.states) }
+{
+    Partition::one(alloc, l.states())
+}
+
+/// What so many rounds make of one block, a line each, and the rounds and visits that they counted.
+fn rounds(alloc: Global, known: &Known, many: u32) -> Result<String, Memory> {
+    let mut text = String::new(alloc);
+    let Some(l) = build(alloc, known)? else {
+        return Ok(text);
+    };
+    let mut m = Counter::new();
+    let mut p = one_block(alloc, &l)?;
+    for _ in 0..many {
+        if !m.has_room(1, u128::from(l.edges())) || p.states() != l.states() {
+            return Ok(text);
+        }
+        p = round::<Strong, Counter>(alloc, &l, &p, &mut m)?;
+        text.push_str(&format!(in alloc; "{}\n", &blocks(alloc, &p)?)?)?;
+    }
+    text.push_str(&format!(in alloc; "{} rounds, {} visits", m.rounds(), m.visits())?)?;
+    Ok(text)
+}
+
+/// The final blocks, and the rounds and visits that they took.
+fn refined(alloc: Global, known: &Known) -> Result<String, Memory> {
+    let Some(l) = build(alloc, known)? else {
+        return Ok(String::new(alloc));
+    };
+    let mut m = Counter::new();
+    let p = refine::<Strong, Counter>(alloc, &l, &mut m)?;
+    let text = format!(in alloc;
+        "{}; {} rounds, {} visits",
+        &blocks(alloc, &p)?,
+        m.rounds(),
+        m.visits()
+    )?;
+    Ok(text)
+}
+
+/// The signature of state 0 under one block, behind what stood, and the visits.
+fn signed(alloc: Global, known: &Known, stood: &[(u32, u32)]) -> Result<String, Memory> {
+    let Some(l) = build(alloc, known)? else {
+        return Ok(String::new(alloc));
+    };
+    let mut m = Counter::new();
+    let p = one_block(alloc, &l)?;
+    let mut marks = Marks::new(alloc, l.states())?;
+    let mut out = Vec::from_slice(alloc, stood)?;
+    let (start, end) = l.row(0);
+    if !m.has_room(0, u128::from(end - start)) {
+        return Ok(String::new(alloc));
+    }
+    Strong::signature(alloc, &l, &p, 0, &mut marks, &mut out, &mut m)?;
+    let text = format!(in alloc; "{}; {} visits", &pairs(alloc, &out)?, m.visits())?;
+    Ok(text)
+}
+
+/// The signatures of all states, and the blocks that they leave.
+fn table_row(alloc: Global, l: &Lts<Counter>, p: &Partition) -> Result<(Partition, String), Memory>
+    requires { length p.now ≡ l.now.states }
+    ensures { IfOk result (λ r. length r.0 ≡ l.now.states) }
+{
+    let mut m = Counter::new();
+    let mut marks = Marks::new(alloc, l.states())?;
+    let mut signatures = Signatures::new(alloc, l.states())?;
+    signatures.fill::<Strong, Counter>(l, p, &mut marks, &mut m)?;
+    let mut text = String::new(alloc);
+    for s in 0..signatures.states() {
+        text.push_str(&format!(in alloc; "{{{}}}", &pairs(alloc, signatures.of(s))?)?)?;
+    }
+    let split = signatures.split(p)?;
+    text.push_str(&blocks(alloc, &split)?)?;
+    Ok((split, text))
+}
+
+/// The signatures of all states in each of so many rounds, and the blocks after it, a line each.
+fn table(alloc: Global, known: &Known, many: u32) -> Result<String, Memory> {
+    let mut text = String::new(alloc);
+    let Some(l) = build(alloc, known)? else {
+        return Ok(text);
+    };
+    let mut p = one_block(alloc, &l)?;
+    for _ in 0..many {
+        if p.states() != l.states() {
+            return Ok(text);
+        }
+        let (split, row) = table_row(alloc, &l, &p)?;
+        p = split;
+        text.push_str(&format!(in alloc; "{row}\n")?)?;
+    }
+    Ok(text)
+}
+
+#[test]
+fn chain_rounds(rt: HostRuntime) -> Result<(), Fail> {
+    let text = rounds(rt.alloc(), &CHAIN_OF_THREE, 4)?;
+    let want = "2: 0 0 0 1\n3: 0 0 1 2\n4: 0 1 2 3\n4: 0 1 2 3\n4 rounds, 12 visits";
+    assert_eq!(rt; text.as_str(), want);
+    Ok(())
+}
+
+#[test]
+fn chain_of_three(rt: HostRuntime) -> Result<(), Fail> {
+    let text = table(rt.alloc(), &CHAIN_OF_THREE, 4)?;
+    let want = "{(0, 0)}{(0, 0)}{(0, 0)}{}2: 0 0 0 1\n\
+        {(0, 0)}{(0, 0)}{(0, 1)}{}3: 0 0 1 2\n\
+        {(0, 0)}{(0, 1)}{(0, 2)}{}4: 0 1 2 3\n\
+        {(0, 1)}{(0, 2)}{(0, 3)}{}4: 0 1 2 3\n";
+    assert_eq!(rt; text.as_str(), want);
+    Ok(())
+}
+
+#[test]
+fn chain_refined(rt: HostRuntime) -> Result<(), Fail> {
+    let text = refined(rt.alloc(), &CHAIN_OF_THREE)?;
+    assert_eq!(rt; text.as_str(), "4: 0 1 2 3; 4 rounds, 12 visits");
+    Ok(())
+}
+
+#[test]
+fn after_what_stood(rt: HostRuntime) -> Result<(), Fail> {
+    let text = signed(rt.alloc(), &LABEL_ORDER, &[(7, 7)])?;
+    assert_eq!(rt; text.as_str(), "(7, 7)(0, 0)(1, 0)(2, 0); 3 visits");
+    Ok(())
+}
+
+#[test]
+fn repeated_once(rt: HostRuntime) -> Result<(), Fail> {
+    let text = signed(rt.alloc(), &TWO_SPELLINGS, &[])?;
+    assert_eq!(rt; text.as_str(), "(0, 0); 3 visits");
+    Ok(())
+}
+
+#[test]
+fn lone_state_refined(rt: HostRuntime) -> Result<(), Fail> {
+    let text = refined(rt.alloc(), &LONE_STATE)?;
+    assert_eq!(rt; text.as_str(), "1: 0; 1 rounds, 0 visits");
+    Ok(())
+}
+
+#[test]
+fn old_blocks_count(rt: HostRuntime) -> Result<(), Fail> {
+    let text = rounds(rt.alloc(), &OLD_BLOCKS, 1)?;
+    assert_eq!(rt; text.as_str(), "2: 0 1\n1 rounds, 1 visits");
+    Ok(())
+}
