@@ -1,0 +1,284 @@
+-- What a state more does to the numbers: their invariant, its start, its step and its end.
+use Rattle.std.proofs.Common.{◌≡◌, ◌≢◌, ◌∙◌, ◌⊎◌, ◌↔◌, ℕ, ◌+◌, ◌<◌, ◌≤◌, Bool, true, false, IsTrue, [], ◌∷◌, ◌++◌, length, get_or, slice_index, replicate, set, refl, sym, ap, subst, inl, inr, arith}
+use Rattle.std.proofs.lemmas.Bool.{cases_eq, cases_lt}
+use Rattle.std.proofs.lemmas.List.{get_or_push, get_or_append_left, get_or-set_same, get_or-set_other, get_or-replicate, length-set, length-replicate, length_push}
+use Rattle.theory.specs.System.{System, Reachable}
+use Rattle.theory.specs.Bisimulation.{Relation, Bisimilar}
+use Rattle.theory.specs.Blocks.{EachTwo}
+use Rattle.theory.specs.Quotient.{HowMany, Leader, IsLeader, Number}
+use Rattle.quotient.specs.Search.{IsMarked}
+use Rattle.quotient.specs.Numbers.{IsNumbering, Opens, Follows, Adds, none}
+use Rattle.quotient.specs.declared.numbering.Numbering.{Numbering}
+
+-- the leaders below s, but for the first state
+abbrev pub Other : Relation → System → ℕ → ℕ → Type 0
+Other rel A s m = IsLeader rel A m × (m < s) × (m ≢ A.first)
+
+-- what holds of a system whose blocks are the classes of bisimilar states
+pub record Laws (rel : Relation) (A : System) (block : ℕ → ℕ) : Type 0 where
+  pub same : EachTwo A (λ s t. (block s ≡ block t) ↔ Bisimilar rel A s A t)
+  pub first : A.first < A.states
+  pub first_reached : Reachable A A.first
+  pub below : (s : ℕ) → Reachable A s → s < A.states
+  pub number : (s : ℕ) → Reachable A s → (n : ℕ) × Number rel A s n
+  pub classes : (s t m n : ℕ) → Reachable A s → Reachable A t → Number rel A s m → Number rel A t n → (m ≡ n) ↔ Bisimilar rel A s A t
+  pub none : HowMany (Other rel A 0) 0
+  pub one : (l c : ℕ) → IsLeader rel A l → l ≢ A.first → HowMany (Other rel A l) c → HowMany (Other rel A (l + 1)) (c + 1)
+  pub kept : (l c : ℕ) → ¬ (IsLeader rel A l × (l ≢ A.first)) → HowMany (Other rel A l) c → HowMany (Other rel A (l + 1)) c
+  pub all : (c : ℕ) → HowMany (Other rel A A.states) c → HowMany (IsLeader rel A) (1 + c)
+
+-- a reachable state of the block of t below s, or the first state, has the number k
+pub record Earlier (rel : Relation) (A : System) (block : ℕ → ℕ) (s t k : ℕ) : Type 0 where
+  pub member : ℕ
+  pub reached : Reachable A member
+  pub early : (member < s) ⊎ (member ≡ A.first)
+  pub fellow : block member ≡ block t
+  pub number : Number rel A member k
+
+-- the states below s have their numbers, and the blocks of those that are reachable
+pub record Taken (rel : Relation) (A : System) (block : ℕ → ℕ) (s : ℕ) (n : Numbering) : Type 0 where
+  pub numbers_long : length n.numbers.items ≡ s
+  pub leads_long : length n.leads.items ≡ s
+  pub within : (t : ℕ) → t < A.states → block t < length n.by_block.items
+  pub first : slice_index n.by_block.items (block A.first) ≢ none
+  pub seen : (t : ℕ) → t < s → Reachable A t → slice_index n.by_block.items (block t) ≢ none
+  pub known : (t : ℕ) → t < A.states → slice_index n.by_block.items (block t) ≢ none →
+      Earlier rel A block s t (slice_index n.by_block.items (block t))
+  pub numbers : (t : ℕ) → t < s → Reachable A t → Number rel A t (slice_index n.numbers.items t)
+  pub leaders : (t : ℕ) → t < s → IsMarked n.leads.items t ↔ IsLeader rel A t
+  pub counted : (c : ℕ) × HowMany (Other rel A s) c × (n.count ≡ 1 + c)
+  pub few : n.count ≤ s + 1
+  pub fewer : A.first < s → n.count ≤ s
+
+module _ (rel : Relation) (A : System) (block : ℕ → ℕ) (laws : Laws rel A block) where
+  bisimilar : (s t : ℕ) → s < A.states → t < A.states → block s ≡ block t → Bisimilar rel A s A t
+  bisimilar s t ls lt e = (laws.same s t ls lt).0 e
+
+  share : (s t : ℕ) → s < A.states → t < A.states → Bisimilar rel A s A t → block s ≡ block t
+  share s t ls lt b = (laws.same s t ls lt).1 b
+
+  -- reachable states of one block have one number
+  number_shared : (u t n : ℕ) → Reachable A u → Reachable A t → block u ≡ block t → Number rel A u n → Number rel A t n
+  number_shared u t n reached way e h =
+      let own : (m : ℕ) × Number rel A t m = laws.number t way in
+      let same : n ≡ own.0 =
+      (laws.classes u t n own.0 reached way h own.1).1 (bisimilar u t (laws.below u reached) (laws.below t way) e) in
+      subst (Number rel A t) (sym same) own.1
+
+  first_leads : Leader rel A A.first A.first
+  first_leads = inl (bisimilar A.first A.first laws.first laws.first refl, refl)
+
+  first_leader : IsLeader rel A A.first
+  first_leader = (A.first, laws.first_reached, first_leads)
+
+  -- the first state reached in its block leads it
+  own_leader : (s : ℕ) → Reachable A s → block A.first ≢ block s → ((u : ℕ) → u < s → Reachable A u → block u ≢ block s) → Leader rel A s s
+  own_leader s way apart new = inr (
+    λ b. apart (sym (share s A.first (laws.below s way) laws.first b)),
+    (
+      (way, bisimilar s s (laws.below s way) (laws.below s way) refl),
+      λ k fellow. elim (cases_lt k s) [
+        | inl l ↦ absurd (new k l fellow.0 (sym (share s k (laws.below s way) (laws.below k fellow.0) fellow.1)))
+        | inr l ↦ l
+      ],
+    ),
+  )
+
+  -- a leader other than the first state is reachable
+  other_reached : (s : ℕ) → IsLeader rel A s → s ≢ A.first → Reachable A s
+  other_reached s (t, way, inl (b, e)) other = absurd (other e)
+  other_reached s (t, way, inr (apart, least)) other = least.0.0
+
+  -- a state with an earlier one in its block is no leader, unless it is the first state
+  not_other : (s k : ℕ) → s < A.states → Earlier rel A block s s k → ¬ (IsLeader rel A s × (s ≢ A.first))
+  not_other s k ls e ((t, way, inl (b, f)), other) = other f
+  not_other s k ls e ((t, way, inr (apart, (fellow, least))), other) =
+      let lt : t < A.states = laws.below t way in
+      let lu : e.member < A.states = laws.below e.member e.reached in
+      let to : block t ≡ block e.member = share t s lt ls fellow.1 ∙ sym e.fellow in
+      elim e.early [
+        | inl low ↦ absurd (omega (arith, low, least e.member (e.reached, bisimilar t e.member lt lu to)))
+        | inr f ↦ apart (bisimilar t A.first lt laws.first (to ∙ ap block f))
+      ]
+
+  earlier_on : (s t k : ℕ) → Earlier rel A block s t k → Earlier rel A block (s + 1) t k
+  earlier_on s t k e = record {
+    member = e.member;
+    reached = e.reached;
+    early = elim e.early [ inl l ↦ inl (omega (arith, l)) | inr f ↦ inr f ];
+    fellow = e.fellow;
+    number = e.number;
+  }
+
+  -- the state s has an earlier one in its block
+  module _ (s : ℕ) (old new : Numbering) (reached first : Bool) (is_first : IsTrue first ↔ (s ≡ A.first)) (is_reached : IsTrue reached ↔ Reachable A s)
+      (ls : s < A.states) (h : Taken rel A block s old) (f : Follows (block s) reached first old new) where
+    follows_not_other : ¬ (IsLeader rel A s × (s ≢ A.first))
+    follows_not_other (lead, other) =
+        let way : Reachable A s = other_reached s lead other in
+        not_other s (slice_index old.by_block.items (block s)) ls (h.known s ls (f.known (is_reached.1 way))) (lead, other)
+
+    follows_leader : IsTrue first ↔ IsLeader rel A s
+    follows_leader = (
+      λ e. subst (IsLeader rel A) (sym (is_first.0 e)) first_leader,
+      λ lead. elim (cases_eq s A.first) [ inl e ↦ is_first.1 e | inr d ↦ absurd (follows_not_other (lead, d)) ],
+    )
+
+    follows_number : Reachable A s → Number rel A s (slice_index old.by_block.items (block s))
+    follows_number way =
+        let e : Earlier rel A block s s (slice_index old.by_block.items (block s)) = h.known s ls (f.known (is_reached.1 way)) in
+        number_shared e.member s (slice_index old.by_block.items (block s)) e.reached way e.fellow e.number
+
+    pub Taken-follows : Taken rel A block (s + 1) new
+    Taken-follows = record {
+      numbers_long = rw f.numbers (omega (arith, length_push {X = ℕ}, h.numbers_long));
+      leads_long = rw f.leads (omega (arith, length_push {X = Bool}, h.leads_long));
+      within = rw f.by_block h.within;
+      first = rw f.by_block h.first;
+      seen = rw f.by_block (λ t l way. elim (cases_eq t s) [
+        | inl e ↦ subst (λ x. slice_index old.by_block.items (block x) ≢ none) (sym e) (f.known (is_reached.1 (subst (Reachable A) e way)))
+        | inr d ↦ h.seen t (omega (arith, l, d)) way
+      ]);
+      known = rw f.by_block (λ t l some. earlier_on s t (slice_index old.by_block.items (block t)) (h.known t l some));
+      numbers = rw f.numbers (λ t l way. elim (cases_eq t s) [
+        | inl e ↦ subst (λ x. Number rel A x (get_or (old.numbers.items ++ slice_index old.by_block.items (block s) ∷ []) x 0)) (sym e)
+            (subst (Number rel A s) (sym (get_or_push old.numbers.items (slice_index old.by_block.items (block s)) 0 s h.numbers_long)) (follows_number (subst (Reachable A) e way)))
+        | inr d ↦ subst (Number rel A t) (sym (get_or_append_left old.numbers.items (slice_index old.by_block.items (block s) ∷ []) 0 t (omega (arith, l, d, h.numbers_long))))
+            (h.numbers t (omega (arith, l, d)) way)
+      ]);
+      leaders = rw f.leads (λ t l. elim (cases_eq t s) [
+        | inl e ↦ subst (λ x. IsMarked (old.leads.items ++ first ∷ []) x ↔ IsLeader rel A x) (sym e)
+            (subst (λ b. IsTrue b ↔ IsLeader rel A s) (sym (get_or_push old.leads.items first false s h.leads_long)) follows_leader)
+        | inr d ↦ subst (λ b. IsTrue b ↔ IsLeader rel A t) (sym (get_or_append_left old.leads.items (first ∷ []) false t (omega (arith, l, d, h.leads_long))))
+            (h.leaders t (omega (arith, l, d)))
+      ]);
+      counted = (h.counted.0, laws.kept s h.counted.0 follows_not_other h.counted.1, f.count ∙ h.counted.2);
+      few = omega (arith, f.count, h.few);
+      fewer = λ l. omega (arith, f.count, h.few);
+    }
+
+  -- the state s is the first one reached in its block
+  module _ (s : ℕ) (old new : Numbering) (reached : Bool) (is_reached : IsTrue reached ↔ Reachable A s)
+      (ls : s < A.states) (low : s + 1 < none) (h : Taken rel A block s old) (o : Opens (block s) reached old new) where
+    opens_way : Reachable A s
+    opens_way = is_reached.0 o.way
+
+    opens_apart : block A.first ≢ block s
+    opens_apart e = h.first (ap (slice_index old.by_block.items) e ∙ o.fresh)
+
+    opens_other : s ≢ A.first
+    opens_other e = opens_apart (ap block (sym e))
+
+    opens_leader : Leader rel A s s
+    opens_leader =
+        own_leader s opens_way opens_apart (λ u l way e. h.seen u l way (ap (slice_index old.by_block.items) e ∙ o.fresh))
+
+    opens_is_leader : IsLeader rel A s
+    opens_is_leader = (s, opens_way, opens_leader)
+
+    opens_number : Number rel A s old.count
+    opens_number = (s, opens_leader, inr (opens_other, h.counted.0, h.counted.1, h.counted.2))
+
+    opens_some : old.count ≢ none
+    opens_some e = absurd (omega (arith, e, h.few, h.fewer, low))
+
+    opens_at : slice_index new.by_block.items (block s) ≡ old.count
+    opens_at = rw o.by_block (get_or-set_same old.by_block.items (block s) old.count 0 (h.within s ls))
+
+    opens_elsewhere : (t : ℕ) → block t ≢ block s → slice_index new.by_block.items (block t) ≡ slice_index old.by_block.items (block t)
+    opens_elsewhere t d = rw o.by_block (get_or-set_other old.by_block.items (block s) (block t) old.count 0 d)
+
+    opens_here : (t : ℕ) → block t ≡ block s → slice_index new.by_block.items (block t) ≡ old.count
+    opens_here t e = ap (slice_index new.by_block.items) e ∙ opens_at
+
+    opens_known : (t : ℕ) → t < A.states → slice_index new.by_block.items (block t) ≢ none →
+        Earlier rel A block (s + 1) t (slice_index new.by_block.items (block t))
+    opens_known t l some = elim (cases_eq (block t) (block s)) [
+      | inl e ↦ subst (Earlier rel A block (s + 1) t) (sym (opens_here t e))
+          (record { member = s; reached = opens_way; early = inl (omega arith); fellow = sym e; number = opens_number })
+      | inr d ↦ subst (Earlier rel A block (s + 1) t) (sym (opens_elsewhere t d))
+          (earlier_on s t (slice_index old.by_block.items (block t))
+          (h.known t l (λ e. some (opens_elsewhere t d ∙ e))))
+    ]
+
+    opens_seen : (t : ℕ) → t < s + 1 → Reachable A t → slice_index new.by_block.items (block t) ≢ none
+    opens_seen t l way e = elim (cases_eq (block t) (block s)) [
+      | inl f ↦ opens_some (sym (opens_here t f) ∙ e)
+      | inr d ↦ h.seen t (opens_below t l (λ f. d (ap block f))) way (sym (opens_elsewhere t d) ∙ e)
+    ]
+      where
+        opens_below : (t : ℕ) → t < s + 1 → t ≢ s → t < s
+        opens_below t l d = omega (arith, l, d)
+
+    pub Taken-opens : Taken rel A block (s + 1) new
+    Taken-opens = record {
+      numbers_long = rw o.numbers (omega (arith, length_push {X = ℕ}, h.numbers_long));
+      leads_long = rw o.leads (omega (arith, length_push {X = Bool}, h.leads_long));
+      within = rw o.by_block (λ t l. omega (arith, length-set {A = ℕ}, h.within t l));
+      first = λ e. h.first (sym (opens_elsewhere A.first opens_apart) ∙ e);
+      seen = opens_seen;
+      known = opens_known;
+      numbers = rw o.numbers (λ t l way. elim (cases_eq t s) [
+        | inl e ↦ subst (λ x. Number rel A x (get_or (old.numbers.items ++ old.count ∷ []) x 0)) (sym e)
+            (subst (Number rel A s) (sym (get_or_push old.numbers.items old.count 0 s h.numbers_long)) opens_number)
+        | inr d ↦ subst (Number rel A t) (sym (get_or_append_left old.numbers.items (old.count ∷ []) 0 t (omega (arith, l, d, h.numbers_long))))
+            (h.numbers t (omega (arith, l, d)) way)
+      ]);
+      leaders = rw o.leads (λ t l. elim (cases_eq t s) [
+        | inl e ↦ subst (λ x. IsMarked (old.leads.items ++ true ∷ []) x ↔ IsLeader rel A x) (sym e)
+            (subst (λ b. IsTrue b ↔ IsLeader rel A s) (sym (get_or_push old.leads.items true false s h.leads_long)) (λ x. opens_is_leader, λ x. refl))
+        | inr d ↦ subst (λ b. IsTrue b ↔ IsLeader rel A t) (sym (get_or_append_left old.leads.items (true ∷ []) false t (omega (arith, l, d, h.leads_long))))
+            (h.leaders t (omega (arith, l, d)))
+      ]);
+      counted = (h.counted.0 + 1, laws.one s h.counted.0 opens_is_leader opens_other h.counted.1, omega (arith, o.count, h.counted.2));
+      few = omega (arith, o.count, h.few);
+      fewer = λ l. omega (arith, o.count, h.fewer (let d = opens_other in omega (arith, l, d)));
+    }
+
+  -- before the first state was taken, only its block has a number
+  pub Taken-start : (count : ℕ) (n : Numbering) → ((t : ℕ) → t < A.states → block t < count) → n.by_block.items ≡ set (replicate count none) (block A.first) 0 →
+      n.numbers.items ≡ [] → n.leads.items ≡ [] → n.count ≡ 1 → Taken rel A block 0 n
+  Taken-start count n within by_block numbers leads one = record {
+    numbers_long = ap length numbers;
+    leads_long = ap length leads;
+    within = rw by_block (λ t l. omega (arith, length-set {A = ℕ}, length-replicate {A = ℕ}, within t l));
+    first = rw by_block (λ e. absurd (omega (arith, e, at)));
+    seen = λ t l. absurd (omega (arith, l));
+    known = λ t l some. elim (cases_eq (block t) (block A.first)) [
+      | inl e ↦
+          let value : slice_index n.by_block.items (block t) ≡ 0 = ap (slice_index n.by_block.items) e ∙ rw by_block at in
+          subst (Earlier rel A block 0 t) (sym value)
+          (record { member = A.first; reached = laws.first_reached; early = inr refl; fellow = sym e; number = (A.first, first_leads, inl (refl, refl)) })
+      | inr d ↦ absurd (some (rw by_block (get_or-set_other (replicate count none) (block A.first) (block t) 0 0 d ∙ get_or-replicate count (block t) none 0 (within t l))))
+    ];
+    numbers = λ t l. absurd (omega (arith, l));
+    leaders = λ t l. absurd (omega (arith, l));
+    counted = (0, laws.none, one);
+    few = omega (arith, one);
+    fewer = λ l. absurd (omega (arith, l));
+  }
+    where
+      at : get_or (set (replicate count none) (block A.first) 0) (block A.first) 0 ≡ 0
+      at = get_or-set_same (replicate count none) (block A.first) 0 0 (omega (arith, length-replicate {A = ℕ}, within A.first laws.first))
+
+  -- when all states were taken, they have their numbers
+  pub Taken-end : (n : Numbering) → Taken rel A block A.states n → IsNumbering rel A n
+  Taken-end n h = record {
+    numbers_long = h.numbers_long;
+    leads_long = h.leads_long;
+    number = λ s way. h.numbers s (laws.below s way) way;
+    leader = h.leaders;
+    counted = subst (HowMany (IsLeader rel A)) (sym h.counted.2) (laws.all h.counted.0 h.counted.1);
+    few = h.fewer laws.first;
+  }
+
+  taken_either : (s : ℕ) (old new : Numbering) (reached first : Bool) → (IsTrue first ↔ (s ≡ A.first)) → (IsTrue reached ↔ Reachable A s) →
+      s < A.states → s + 1 < none → Taken rel A block s old → Adds (block s) reached first old new → Taken rel A block (s + 1) new
+  taken_either s old new reached first is_first is_reached ls low h (inl o) = Taken-opens s old new reached is_reached ls low h o
+  taken_either s old new reached first is_first is_reached ls low h (inr f) = Taken-follows s old new reached first is_first is_reached ls h f
+
+  -- one state more
+  pub Taken-adds : (s b : ℕ) (old new : Numbering) (reached first : Bool) → b ≡ block s → (IsTrue first ↔ (s ≡ A.first)) → (IsTrue reached ↔ Reachable A s) →
+      s < A.states → s + 1 < none → Taken rel A block s old → Adds b reached first old new → Taken rel A block (s + 1) new
+  Taken-adds s b old new reached first at is_first is_reached ls low h adds =
+      taken_either s old new reached first is_first is_reached ls low h (subst (λ x. Adds x reached first old new) at adds)

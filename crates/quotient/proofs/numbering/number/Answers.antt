@@ -1,0 +1,63 @@
+use Rattle.std.proofs.Common.{◌≡◌, ◌∙◌, ◌<◌, slice_index, set, replicate, ap, sym, subst, refl, arith}
+use Rattle.std.proofs.lemmas.Bool.{eqb-true, eq-eqb}
+use Rattle.lts.specs.Lts.{system_of}
+use Rattle.quotient.specs.Numbers.{none}
+use Rattle.quotient.proofs.Classes.{Laws, Taken, Taken-start, Taken-adds, Taken-end}
+use Rattle.quotient.proofs.numbering.number.Given.{Over}
+use Rattle.quotient.proofs.numbering.number.Goals as goal
+
+-- the laws of the theory, at this system and these blocks
+laws : (g : Over) (c : goal.In_ok-with_capacity-2 g) → Laws g.S.Sense.relation (system_of c.args.l.now) (slice_index c.args.blocks.now)
+laws g c =
+    let rel = g.S.Sense.relation in
+    let A = system_of c.args.l.now in
+    let lts = c.states-states.ensures.lts in
+    record {
+      same = c.requires.classes;
+      first = lts.in_range.first_below;
+      first_reached = c.steps_keep_reachable.ensures.first A;
+      below = λ s way. c.steps_keep_reachable.ensures.below A s lts.system way;
+      number = λ s way. c.each_state_has_a_number.ensures.number rel A s lts.system way;
+      classes = λ s t m n way path h k. c.numbers_are_classes.ensures rel A s t m n lts.system way path h k;
+      none = c.leaders_are_counted.ensures.none rel A;
+      one = λ l n leads other many. c.leaders_are_counted.ensures.one rel A l n lts.system leads other many;
+      kept = λ l n no many. c.leaders_are_counted.ensures.same rel A l n lts.system no many;
+      all = λ n many. c.leaders_are_counted.ensures.all rel A n lts.system many;
+    }
+
+pub loop-s-init : goal.loop-s-init
+loop-s-init g c =
+    let blocks = c.args.blocks.now in
+    let set_first : set c.in_ok-by_block.by_block.items c.block.result 0 ≡ set (replicate c.count.result none) (slice_index blocks c.args.l.now.first) 0 =
+    ap (λ xs. set xs c.block.result 0) (c.in_ok-by_block.ensures.items_if_clones_equal (λ y e. e))
+    ∙ ap (λ b. set (replicate c.count.result none) b 0) (c.block.ensures ∙ ap (slice_index blocks) c.first-first.ensures) in
+    record {
+      laws = laws g c;
+      taken =
+          Taken-start g.S.Sense.relation (system_of c.args.l.now) (slice_index blocks) (laws g c) c.count.result _
+          (λ t l. c.count.ensures.below t (omega (arith, l, c.requires.blocks_long)))
+          set_first c.in_ok-with_capacity.ensures.items c.in_ok-with_capacity-2.ensures.items refl;
+    }
+
+pub loop-s-preserved : goal.loop-s-preserved
+loop-s-preserved g c =
+    let s = c.loop-s.s in
+    let l = c.args.l.now in
+    let below : s < l.states = omega (arith, c.states-states.ensures.value) in
+    record {
+      laws = c.loop-s.invariant.laws;
+      taken =
+          Taken-adds g.S.Sense.relation (system_of l) (slice_index c.args.blocks.now) c.loop-s.invariant.laws s c.block-in-loop-s.result
+          c.loop-s.numbering c.add.new.self _ _ c.block-in-loop-s.ensures
+          (λ e. eqb-true s c.first-first.result e ∙ c.first-first.ensures, λ e. eq-eqb s c.first-first.result (e ∙ sym c.first-first.ensures))
+          (c.requires.reached s below) below (omega (arith, below, c.states-states.ensures.lts.in_range.few_states))
+          c.loop-s.invariant.taken c.in_ok-add.ensures;
+    }
+
+pub returns : goal.returns
+returns g c =
+    let rel = g.S.Sense.relation in
+    let A = system_of c.args.l.now in
+    let end : c.loop-s.s ≡ A.states = omega (arith, c.states-states.ensures.value) in
+    Taken-end rel A (slice_index c.args.blocks.now) c.loop-s.invariant.laws c.loop-s.numbering
+    (subst (λ n. Taken rel A (slice_index c.args.blocks.now) n c.loop-s.numbering) end c.loop-s.invariant.taken)

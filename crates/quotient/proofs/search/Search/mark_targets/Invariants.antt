@@ -1,0 +1,14 @@
+use Rattle.std.proofs.Common.{◌≡◌, ◌+◌, ◌-◌, ◌∷◌}
+use Rattle.quotient.specs.Search.{Searches, states_ahead, places_ahead}
+use Rattle.quotient.proofs.Reaching.{TargetsMarked}
+use Rattle.quotient.proofs.search.Search.mark_targets.Given as goal
+
+abbrev pub invariant-loop-k : goal.invariant-loop-k
+invariant-loop-k g l = record {
+  search : Searches l.l l.self.marked.items (l.s ∷ l.self.stack.items);
+  read : TargetsMarked l.l.places l.self.marked.items l.start l.k;
+  states : states_ahead l.self.marked.items l.self.stack.items ≡ states_ahead l.initial.self.marked.items l.initial.self.stack.items;
+  places : places_ahead l.l.places l.self.marked.items l.self.stack.items ≡ places_ahead l.l.places l.initial.self.marked.items l.initial.self.stack.items;
+  rounds : g.M.Meter.rounds_made l.m ≡ g.M.Meter.rounds_made l.initial.m;
+  visits : g.M.Meter.visits_made l.m ≡ g.M.Meter.visits_made l.initial.m + (l.k - l.start);
+}

@@ -1,0 +1,5 @@
+pub mod Search
+pub mod Relations
+pub mod Numbers
+pub mod Triples
+pub mod Known

@@ -1,0 +1,41 @@
+-- The numbers of the reachable states, given in one pass over the states in their order.
+use Rattle.std.specs.Prelude.{◌≡◌, ◌≢◌, ◌⊎◌, ◌↔◌, ℕ, ◌+◌, ◌<◌, ◌≤◌, Bool, true, IsTrue, [], ◌∷◌, ◌++◌, length, slice_index, slice_set}
+use Rattle.theory.specs.System.{System, Reachable}
+use Rattle.theory.specs.Bisimulation.{Relation}
+use Rattle.theory.specs.Quotient.{HowMany, IsLeader, Number}
+use Rattle.quotient.specs.Search.{IsMarked}
+use Rattle.quotient.specs.declared.numbering.Numbering.{Numbering}
+
+-- each reachable state has its number, the leaders are marked, and there are so many
+pub record IsNumbering (rel : Relation) (A : System) (n : Numbering) : Type 0 where
+  pub numbers_long : length n.numbers.items ≡ A.states
+  pub leads_long : length n.leads.items ≡ A.states
+  pub number : (s : ℕ) → Reachable A s → Number rel A s (slice_index n.numbers.items s)
+  pub leader : (s : ℕ) → s < A.states → IsMarked n.leads.items s ↔ IsLeader rel A s
+  pub counted : HowMany (IsLeader rel A) n.count
+  pub few : n.count ≤ A.states
+
+-- what stands for the number of a block that has none
+abbrev pub none : ℕ
+none = 4294967295
+
+-- the next state is the first one reached in its block b, which gets the next number
+pub record Opens (b : ℕ) (reached : Bool) (old new : Numbering) : Type 0 where
+  pub way : IsTrue reached
+  pub fresh : slice_index old.by_block.items b ≡ none
+  pub by_block : new.by_block.items ≡ slice_set old.by_block.items b old.count
+  pub numbers : new.numbers.items ≡ old.numbers.items ++ old.count ∷ []
+  pub leads : new.leads.items ≡ old.leads.items ++ true ∷ []
+  pub count : new.count ≡ old.count + 1
+
+-- the next state has the number of its block b, if that has one, and leads where it is the first state
+pub record Follows (b : ℕ) (reached first : Bool) (old new : Numbering) : Type 0 where
+  pub known : IsTrue reached → slice_index old.by_block.items b ≢ none
+  pub by_block : new.by_block.items ≡ old.by_block.items
+  pub numbers : new.numbers.items ≡ old.numbers.items ++ slice_index old.by_block.items b ∷ []
+  pub leads : new.leads.items ≡ old.leads.items ++ first ∷ []
+  pub count : new.count ≡ old.count
+
+-- the next state is taken
+abbrev pub Adds : ℕ → Bool → Bool → Numbering → Numbering → Type 0
+Adds b reached first old new = Opens b reached old new ⊎ Follows b reached first old new

@@ -1,0 +1,9 @@
+-- The theory's relation that a caller means.
+use Rattle.theory.specs.Bisimulation as theory
+use Rattle.theory.specs.Bisimulation.Relation.{strong}
+use Rattle.quotient.specs.declared.relation.Relation.{Relation}
+use Rattle.quotient.specs.declared.relation.Relation.TheVariants.{Strong}
+
+-- the relation that is meant
+abbrev pub meant : Relation → theory.Relation
+meant Strong = strong

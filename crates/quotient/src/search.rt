@@ -1,0 +1,73 @@
+//! Which states are reachable, by a search with a stack of the states whose rows are still to be read.
+ghost use Rattle.std.specs.Prelude.{◌≡◌, ◌↔◌, ℕ, ◌+◌, ◌<◌, ◌≤◌, ◌∷◌, length, IfOk, OnOk};
+ghost use Rattle.theory.specs.System.{Reachable};
+ghost use Rattle.lts.specs.Meter.{HasRoom};
+ghost use Rattle.lts.specs.Lts.{row_of, system_of};
+ghost use Rattle.quotient.specs.Search.{IsMarked, Marks, Searches, states_ahead, places_ahead};
+
+use lts::{Lts, Memory, Meter};
+use std::alloc::Global;
+
+/// Which states steps lead to from the first state, that one included. Each transition is visited once at most.
+///
+/// Fails where there is no memory for it.
+pub fn reachable<M: Meter>(alloc: Global, l: &Lts<M>, m: &mut M) -> Result<Vec<bool>, Memory>
+    requires room { HasRoom (M.rounds_made m.old) (M.visits_made m.old) 0 (length l.now.places) }
+    ensures states { IfOk result (λ r. length r.items ≡ l.now.states) }
+    ensures exactly { IfOk result (λ r. (s : ℕ) → s < l.now.states → IsMarked r.items s ↔ Reachable (system_of l.now) s) }
+    ensures rounds { M.rounds_made m.new ≡ M.rounds_made m.old }
+    ensures at_most { M.visits_made m.new ≤ M.visits_made m.old + length l.now.places }
+    ensures never_fewer { M.visits_made m.old ≤ M.visits_made m.new }
+{
+    let mut search = Search {
+        marked: vec![in alloc; false; l.states() as usize]?,
+        stack: Vec::new(alloc),
+    };
+    search.mark(l.first())?;
+    while let Some(s) = search.stack.pop() {
+        search.mark_targets(l, s, m)?;
+    }
+    Ok(search.marked)
+}
+
+/// Which states are marked, and those of them whose rows are still to be read.
+#[derive(Drop)]
+struct Search {
+    marked: Vec<bool>,
+    stack: Vec<u32>,
+}
+
+impl Search {
+    /// Marks the state `s` and puts it on the stack, unless it was marked before.
+    fn mark(&mut self, s: u32) -> Result<(), Memory>
+        requires { s < length self.old.marked.items }
+        ensures { OnOk result (Marks s self.old.marked.items self.old.stack.items self.new.marked.items self.new.stack.items) }
+    {
+        if !self.marked[s as usize] {
+            self.marked[s as usize] = true;
+            self.stack.push(s)?;
+        }
+        Ok(())
+    }
+
+    /// Marks the states that the steps of `s` lead to.
+    fn mark_targets<M: Meter>(&mut self, l: &Lts<M>, s: u32, m: &mut M) -> Result<(), Memory>
+        requires search { Searches l.now self.old.marked.items (s ∷ self.old.stack.items) }
+        requires room { HasRoom (M.rounds_made m.old) (M.visits_made m.old) 0 (length (row_of s l.now.places)) }
+        ensures search { OnOk result (Searches l.now self.new.marked.items self.new.stack.items) }
+        ensures states { OnOk result (states_ahead self.new.marked.items self.new.stack.items ≡ states_ahead self.old.marked.items self.old.stack.items) }
+        ensures places { OnOk result (places_ahead l.now.places self.new.marked.items self.new.stack.items ≡ places_ahead l.now.places self.old.marked.items self.old.stack.items) }
+        ensures rounds { M.rounds_made m.new ≡ M.rounds_made m.old }
+        ensures at_most { M.visits_made m.new ≤ M.visits_made m.old + length (row_of s l.now.places) }
+        ensures never_fewer { M.visits_made m.old ≤ M.visits_made m.new }
+    {
+        // Its contract tells what holds of every system.
+        let _ = l.edges();
+        let (start, end) = l.row(s);
+        for k in start..end {
+            let (_, target) = l.edge(k, m);
+            self.mark(target)?;
+        }
+        Ok(())
+    }
+}
