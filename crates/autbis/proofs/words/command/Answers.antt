@@ -1,0 +1,20 @@
+use Rattle.std.proofs.Common.{rules, ap, ap₂, map, refl, subst, ◌≡◌, ◌∙◌, true}
+use Rattle.std.specs.Prelude.{string_bytes}
+use Rattle.std.proofs.lemmas.Result.{IfErr-weaker, IfOk-weaker}
+use Rattle.clap.specs.Words.{is_simple, subcommand_of}
+use Rattle.autbis.specs.Words.{IsFaultIn, IsJobIn, program_app}
+use Rattle.autbis.proofs.words.command.Goals as goal
+
+pub returns-in-Ok : goal.returns-in-Ok
+returns-in-Ok c =
+    let simple : is_simple program_app ≡ true = refl in
+    let words_are : c.as_slice.result.now ≡ c.args.words.items = search rules in
+    let found = c.in-Ok.ensures.matches (ap is_simple c.in_ok-described.ensures ∙ simple) in
+    let subcommand = found.1 ∙ ap₂ subcommand_of c.in_ok-described.ensures (ap (map string_bytes) words_are) in
+    record {
+      job = IfOk-weaker c.job_of.result _ _ (λ job. subst (λ s. IsJobIn s job) subcommand) c.job_of.ensures.job;
+      fault = IfErr-weaker c.job_of.result _ _ (λ fault. subst (λ s. IsFaultIn s fault) subcommand) c.job_of.ensures.fault;
+    }
+
+pub returns-clause-fault : goal.returns-clause-fault
+returns-clause-fault c = c.fault_of.ensures (map string_bytes c.args.words.items)

@@ -1,0 +1,23 @@
+-- The exit statuses.
+use Rattle.std.specs.Prelude.{◌≡◌, ◌⊎◌, ℕ}
+use Rattle.autfmt.specs.declared.fault.Fault.{Fault}
+use Rattle.autfmt.specs.declared.fault.Fault.TheVariants.{Device, Memory}
+use Rattle.autbis.specs.declared.words.WordFault.{WordFault}
+use Rattle.autbis.specs.declared.words.WordFault.TheVariants as word
+
+-- the exit status of a run that ended in a fault: 5 for the device, 4 for memory, 2 for a fault of a text
+abbrev pub status_of : Fault → ℕ
+status_of Device = 5
+status_of Memory = 4
+status_of _ = 2
+
+-- the exit status of some fault
+abbrev pub IsFaultStatus : ℕ → Type 0
+IsFaultStatus status = (status ≡ 2) ⊎ ((status ≡ 4) ⊎ (status ≡ 5))
+
+-- the exit status of words that ask for no job: help that cannot be written ends in 5
+abbrev pub IsWordStatus : WordFault → ℕ → Type 0
+IsWordStatus (word.Usage _) status = status ≡ 3
+IsWordStatus (word.Relation _) status = status ≡ 3
+IsWordStatus (word.Help _) status = (status ≡ 0) ⊎ (status ≡ 5)
+IsWordStatus word.Memory status = status ≡ 4

@@ -1,0 +1,60 @@
+//! What is said of a fault, and the exit status that stands for it.
+ghost use Rattle.std.specs.Prelude.{◌≡◌};
+ghost use Rattle.autbis.specs.Reports.{IsWordStatus, status_of};
+
+use crate::words::WordFault;
+use autfmt::Fault;
+use std::io::Write;
+
+/// Says the fault on `e`, and answers its exit status: 5 for `Device`, 4 for `Memory`, else 2. The
+/// line names `name`, the file or hide list, where the fault is of its text.
+pub fn report<E: Write>(f: &Fault, name: &str, e: &mut E) -> u8
+    ensures status { result ≡ status_of f.now }
+{
+    let _ = match f {
+        Fault::Device | Fault::Memory => writeln!(e, "autbis: {f}"),
+        _ => writeln!(e, "autbis: {name}: {f}"),
+    };
+    exit_status(f)
+}
+
+/// The exit status of a run that ended in this fault.
+fn exit_status(f: &Fault) -> u8
+    ensures { result ≡ status_of f.now }
+{
+    match f {
+        Fault::Device => 5,
+        Fault::Memory => 4,
+        _ => 2,
+    }
+}
+
+/// Says on `e` that the file `name` cannot be opened, and answers the exit status, 5.
+pub fn cannot_open<E: Write>(name: &str, e: &mut E) -> u8
+    ensures status { result ≡ 5 }
+{
+    let _ = writeln!(e, "autbis: {name}: cannot open");
+    5
+}
+
+/// Says why the words ask for no job, on `e`, and answers the exit status: 3 for a usage fault or an
+/// unknown relation, 4 for want of memory. Help goes to `o`, with 0, or 5 where it cannot be written.
+pub fn report_words<O: Write, E: Write>(f: &WordFault, o: &mut O, e: &mut E) -> u8
+    ensures status { IsWordStatus f.now result }
+{
+    match f {
+        WordFault::Usage(text) => {
+            let _ = e.write_all(text.as_bytes());
+            3
+        }
+        WordFault::Relation(word) => {
+            let _ = writeln!(e, "autbis: unknown relation: {word}");
+            3
+        }
+        WordFault::Help(text) => match o.write_all(text.as_bytes()) {
+            Ok(()) => 0,
+            Err(_) => report(&Fault::Device, "", e),
+        },
+        WordFault::Memory => report(&Fault::Memory, "", e),
+    }
+}

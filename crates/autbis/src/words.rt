@@ -1,0 +1,201 @@
+//! The words of the command line, read by `clap`: which job they ask for, or why they ask for none.
+ghost use Rattle.std.specs.Prelude.{◌≡◌, ℕ, List, map, option_map, string_bytes, codes, IfOk, IfErr, Some, false};
+ghost use Rattle.clap.specs.Words.{app_of, found_of, rows_of, rule_of, subcommand_rows_of, Row};
+ghost use Rattle.clap.specs.declared.builder.command.Command.TheViews.{out-Command};
+ghost use Rattle.autbis.specs.Words.{HasMatches, IsFaultIn, IsFaultOf, IsJobIn, IsJobOf, NamesNoRelation, file_rule, hide_rule, min_app, program_app, relation_in, relation_rule, stats_rule, word_of};
+ghost use Rattle.autbis.specs.declared.words.WordFault.TheVariants.{Memory};
+
+use clap::error::ErrorKind;
+use clap::{Arg, ArgAction, ArgMatches, Command, Error};
+use quotient::Relation;
+use std::alloc::{AllocError, AllocFailed, Global};
+
+/// What the words ask for.
+#[derive(Debug, Drop, PartialEq, Eq)]
+pub enum Job {
+    /// Minimise `file`, or standard input where there is none.
+    Min {
+        /// The relation that is meant.
+        relation: Relation,
+        /// Whether the counts of the run are to be shown.
+        stats: bool,
+        /// The name of the hide list.
+        hide: Option<String>,
+        /// The name of the file.
+        file: Option<String>,
+    },
+}
+
+/// Why the words ask for no job.
+#[derive(Debug, Drop, PartialEq, Eq)]
+pub enum WordFault {
+    /// The words are not those of a job. The text of `clap` says why.
+    Usage(String),
+    /// This word is not the name of a relation.
+    Relation(String),
+    /// Help was asked for. This is its text.
+    Help(String),
+    /// A growth was refused.
+    Memory,
+}
+
+impl From<AllocError> for WordFault {
+    ghost from_gives = { λ _ fault. fault ≡ Memory };
+
+    fn from(_refused: AllocError) -> WordFault {
+        WordFault::Memory
+    }
+}
+
+impl<T: Drop> From<AllocFailed<T>> for WordFault {
+    ghost from_gives = { λ _ fault. fault ≡ Memory };
+
+    fn from(_refused: AllocFailed<T>) -> WordFault {
+        WordFault::Memory
+    }
+}
+
+/// The job that the words ask for. The first word is the program's name.
+///
+/// # Errors
+/// `Usage` where the words are not those of a job, `Relation` where they are but name an unknown
+/// relation, `Help` where they ask for help, `Memory` where a growth was refused.
+pub fn command(alloc: Global, words: Vec<String>) -> Result<Job, WordFault>
+    ensures job { IfOk result (IsJobOf (map string_bytes words.items)) }
+    ensures fault { IfErr result (IsFaultOf (map string_bytes words.items)) }
+{
+    let described = described(alloc)?;
+    match described.try_get_matches_from(words.as_slice()) {
+        Ok(matches) => job_of(alloc, &matches),
+        Err(error) => Err(fault_of(alloc, &error)),
+    }
+}
+
+/// What `clap` is told of the words.
+fn described<'a>(alloc: Global) -> Result<Command<'a>, AllocError>
+    ensures { IfOk result (λ c. app_of c ≡ program_app) }
+{
+    Command::new(alloc, "autbis")
+        .about("Minimises labelled transition systems in the Aldebaran (.aut) format")
+        .subcommand_required(true)
+        .subcommand(described_min(alloc)?)
+}
+
+/// What `clap` is told of the words of `min`.
+fn described_min<'a>(alloc: Global) -> Result<Command<'a>, AllocError>
+    ensures words { IfOk result (λ c. app_of c ≡ min_app) }
+    ensures local { IfOk result (λ c. (out-Command c).has_globals ≡ false) }
+{
+    Command::new(alloc, "min")
+        .about("Writes the equivalent system with the fewest states")
+        .arg(relation_option(alloc))?
+        .arg(hide_option(alloc))?
+        .arg(stats_flag(alloc))?
+        .arg(file_argument(alloc))
+}
+
+/// What `clap` is told of `--relation WORD`. The word is checked later, by `relation_of`.
+fn relation_option<'a>(alloc: Global) -> Arg<'a>
+    ensures rule { rule_of result ≡ relation_rule }
+    ensures local { result.global ≡ false }
+{
+    Arg::new(alloc, "relation")
+        .long("relation")
+        .value_name("WORD")
+        .default_value("strong")
+        .help("The relation that is meant: strong")
+}
+
+/// What `clap` is told of `--hide FILE`.
+fn hide_option<'a>(alloc: Global) -> Arg<'a>
+    ensures rule { rule_of result ≡ hide_rule }
+    ensures local { result.global ≡ false }
+{
+    Arg::new(alloc, "hide").long("hide").value_name("FILE").help(
+        "A list of labels, one a line, that are made internal first",
+    )
+}
+
+/// What `clap` is told of `--stats`.
+fn stats_flag<'a>(alloc: Global) -> Arg<'a>
+    ensures rule { rule_of result ≡ stats_rule }
+    ensures local { result.global ≡ false }
+{
+    Arg::new(alloc, "stats")
+        .long("stats")
+        .action(ArgAction::SetTrue)
+        .help("Say on standard error how many rounds and visits were made")
+}
+
+/// What `clap` is told of the file.
+fn file_argument<'a>(alloc: Global) -> Arg<'a>
+    ensures rule { rule_of result ≡ file_rule }
+    ensures local { result.global ≡ false }
+{
+    Arg::new(alloc, "file")
+        .value_name("FILE")
+        .help("The system; standard input where there is none")
+}
+
+/// The job of the matches.
+fn job_of(alloc: Global, matches: &ArgMatches<'_>) -> Result<Job, WordFault>
+    ensures job { IfOk result (IsJobIn (subcommand_rows_of matches.now)) }
+    ensures fault { IfErr result (IsFaultIn (subcommand_rows_of matches.now)) }
+{
+    match matches.subcommand_matches("min") {
+        Some(min) => min_of(alloc, min),
+        None => Err(WordFault::Usage(String::new(alloc))),
+    }
+}
+
+/// The job of the matches of `min`.
+fn min_of(alloc: Global, matches: &ArgMatches<'_>) -> Result<Job, WordFault>
+    ensures job { IfOk result (HasMatches (rows_of (found_of matches.now))) }
+    ensures fault { IfErr result (NamesNoRelation (relation_in (rows_of (found_of matches.now)))) }
+{
+    let relation = relation_of(alloc, matches.get_str("relation").unwrap_or("strong"))?;
+    let stats = matches.get_flag("stats");
+    let hide = owned(alloc, matches.get_str("hide"))?;
+    let file = owned(alloc, matches.get_str("file"))?;
+    Ok(Job::Min {
+        relation,
+        stats,
+        hide,
+        file,
+    })
+}
+
+/// The relation of this name.
+fn relation_of(alloc: Global, word: &str) -> Result<Relation, WordFault>
+    ensures ok { IfOk result (λ relation. word.now ≡ word_of relation) }
+    ensures err { IfErr result (NamesNoRelation word.now) }
+{
+    if word == "strong" {
+        return Ok(Relation::Strong);
+    }
+    Err(WordFault::Relation(String::from_str(alloc, word)?))
+}
+
+/// A copy of the text, where there is one.
+fn owned(alloc: Global, text: Option<&str>) -> Result<Option<String>, AllocError>
+    ensures { IfOk result (λ owned. option_map (λ t. t.now) text.entry ≡ option_map string_bytes owned) }
+{
+    match text {
+        Some(text) => Ok(Some(String::from_str(alloc, text)?)),
+        None => Ok(None),
+    }
+}
+
+/// The fault of words that `clap` gave no matches for.
+fn fault_of(alloc: Global, error: &Error) -> WordFault
+    ensures { (words : List (List ℕ)) → IsFaultOf words result }
+{
+    if error.kind() == ErrorKind::OutOfMemory {
+        return WordFault::Memory;
+    }
+    match error.to_string(alloc) {
+        Ok(text) if error.use_stderr() => WordFault::Usage(text),
+        Ok(text) => WordFault::Help(text),
+        Err(_) => WordFault::Memory,
+    }
+}
