@@ -6,11 +6,8 @@ pub mod SameLists
 pub mod StrongRow
 pub mod Chains
 pub mod Spans
-pub mod Searching
-pub mod Keeping
-pub mod Listing
 pub mod Numbering
+pub mod Searching
 pub mod Leading
-pub mod Indexing
-pub mod Firsts
-pub mod Leaders
+pub mod Alone
+pub mod Listing

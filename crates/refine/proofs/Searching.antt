@@ -1,43 +1,42 @@
--- A search for a list: from the last number of its bucket down, no number above has this list.
-use Rattle.std.proofs.Common.{◌≡◌, ◌≢◌, ◌∙◌, ℕ, ◌-◌, ◌<◌, List, [], length, get_or, take, drop, ap, sym, inl, inr, arith}
+-- A search for the leader of a state: from the last number of its bucket down, no leader above is alike.
+use Rattle.std.proofs.Common.{◌≡◌, ◌∙◌, ℕ, ◌<◌, List, length, get_or, slice_index, ap, sym, subst, inl, inr, arith}
 use Rattle.std.proofs.lemmas.Bool.{cases_order}
-use Rattle.refine.specs.declared.shared.Record.{Record}
-use Rattle.refine.specs.Shared.{record_at, list_at, fingerprint_of, bucket_of, bucket_at, before_at, IsShared}
+use Rattle.refine.specs.declared.splitter.Leader.{Leader}
+use Rattle.refine.specs.Signed.{signature_at}
+use Rattle.refine.specs.Spans.{mixed, fingerprint_of}
+use Rattle.refine.specs.Splitting.{Alike, print_of, bucket_of, bucket_at, before_at, leader_at, IsLeading, IsChain}
 
-module _ (pairs : List (ℕ × ℕ)) (records : List Record) (heads : List ℕ) (list : List (ℕ × ℕ)) where
-  -- no number above r has this list
+-- states that are alike have one fingerprint
+pub one_print : (old : List ℕ) (signatures : List (List (ℕ × ℕ))) (s t : ℕ) → Alike old signatures s t → print_of old signatures s ≡ print_of old signatures t
+one_print old signatures s t a =
+    ap (λ l. mixed (fingerprint_of l) (slice_index old s, 0)) a.1 ∙ ap (λ b. mixed (fingerprint_of (signature_at signatures t)) (b, 0)) a.0
+
+module _ (old : List ℕ) (signatures : List (List (ℕ × ℕ))) (s : ℕ) (chain : List Leader) where
+  -- no leader with a number above r is alike
   abbrev pub NoneAbove : ℕ → Type 0
-  NoneAbove r = (q : ℕ) → r < q → q < length records → list_at pairs records q ≢ list
+  NoneAbove r = (q : ℕ) → r < q → q < length chain → Alike old signatures (leader_at chain q).state s → ⊥
 
-module _ (pairs : List (ℕ × ℕ)) (records : List Record) (heads : List ℕ) (list : List (ℕ × ℕ)) (fingerprint : ℕ)
-    (shared : IsShared pairs records heads) (same : fingerprint ≡ fingerprint_of list) where
-  -- the list is in the bucket of its fingerprint
-  fits : (q : ℕ) → q < length records → list_at pairs records q ≡ list → bucket_at records heads q ≡ bucket_of (length heads) fingerprint
-  fits q h e = ap (bucket_of (length heads)) ((shared.spans q _ h).fingerprint ∙ ap fingerprint_of e ∙ sym same)
+  pub none-at-all : NoneAbove 0 → (t : ℕ) → IsLeading chain t → Alike old signatures t s → ⊥
+  none-at-all none t leads a = none leads.0 leads.1 leads.2 (subst (λ x. Alike old signatures x s) (sym leads.3) a)
 
-  pub none-above-head : NoneAbove pairs records heads list (get_or heads (bucket_of (length heads) fingerprint) 0)
-  none-above-head q h l e =
-      let last = shared.chained.heads_last q (omega arith) l in
-      let at = ap (λ b. get_or heads b 0) (fits q l e) in
+module _ (old : List ℕ) (signatures : List (List (ℕ × ℕ))) (s : ℕ) (heads : List ℕ) (chain : List Leader) (fingerprint : ℕ)
+    (is : IsChain old signatures s heads chain) (same : fingerprint ≡ print_of old signatures s) where
+  -- a leader that is alike is in the bucket of the fingerprint
+  fits : (q : ℕ) → 0 < q → q < length chain → Alike old signatures (leader_at chain q).state s → bucket_at chain heads q ≡ bucket_of (length heads) fingerprint
+  fits q p h a = ap (bucket_of (length heads)) (is.prints q p h ∙ one_print old signatures (leader_at chain q).state s a ∙ sym same)
+
+  pub none-above-head : NoneAbove old signatures s chain (get_or heads (bucket_of (length heads) fingerprint) 0)
+  none-above-head q h l a =
+      let last = is.chained.heads_last q (omega arith) l in
+      let at = ap (λ b. get_or heads b 0) (fits q (omega arith) l a) in
       omega arith
 
-  pub none-above-before : (r : ℕ) → 0 < r → r < length records → bucket_at records heads r ≡ bucket_of (length heads) fingerprint →
-      list_at pairs records r ≢ list → NoneAbove pairs records heads list r → NoneAbove pairs records heads list (before_at records r)
-  none-above-before r p l b other_list none q h k e = elim (cases_order q r) [
-    | inl at ↦ other_list (ap (list_at pairs records) (sym at) ∙ e)
-    | inr other ↦ elim other [
-      | inl low ↦ let last = shared.chained.before_last q r (omega arith) low l (fits q k e ∙ sym b) in omega arith
-      | inr high ↦ none q high k e
+  pub none-above-before : (r : ℕ) → 0 < r → r < length chain → bucket_at chain heads r ≡ bucket_of (length heads) fingerprint →
+      (Alike old signatures (leader_at chain r).state s → ⊥) → NoneAbove old signatures s chain r → NoneAbove old signatures s chain (before_at chain r)
+  none-above-before r p l b other none q h k a = elim (cases_order q r) [
+    | inl at ↦ other (subst (λ x. Alike old signatures (leader_at chain x).state s) at a)
+    | inr order ↦ elim order [
+      | inl low ↦ let last = is.chained.before_last q r (omega arith) low l (fits q (omega arith) k a ∙ sym b) in omega arith
+      | inr high ↦ none q high k a
     ]
-  ]
-
-  pub none-at-all : 0 < length list → NoneAbove pairs records heads list 0 → (q : ℕ) → q < length records → list_at pairs records q ≢ list
-  none-at-all some none q k e = elim (cases_order q 0) [
-    | inl at ↦
-        let last = ap (λ x. x.end) shared.first in
-        let short : (record_at records 0).end - (record_at records 0).start ≡ 0 = omega arith in
-        let empty : list_at pairs records 0 ≡ [] = ap (λ n. take n (drop (record_at records 0).start pairs)) short in
-        let none : length list ≡ 0 = ap length (sym e ∙ ap (list_at pairs records) at ∙ empty) in
-        omega arith
-    | inr other ↦ none q (omega arith) k e
   ]

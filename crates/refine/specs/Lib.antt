@@ -1,5 +1,5 @@
 pub mod Partition
 pub mod Signed
 pub mod Rounds
-pub mod Shared
+pub mod Spans
 pub mod Splitting

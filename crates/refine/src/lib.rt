@@ -6,10 +6,10 @@ mod marks;
 mod partition;
 mod refinement;
 mod sense;
-mod shared;
 #[cfg(test)]
 mod signature_tests;
 mod signatures;
+mod span;
 mod splitter;
 #[cfg(test)]
 mod splitter_tests;

@@ -1,34 +1,27 @@
-//! The signatures of the states, each different one kept once.
+//! The signatures of the states, one behind the other.
 ghost use Rattle.std.specs.Prelude.{◌≡◌, ◌≢◌, ◌↔◌, ℕ, ◌+◌, ◌<◌, ◌≤◌, [], length, slice_index, IfOk, OnOk, OnErr};
-ghost use Rattle.std.specs.List.{All};
 ghost use Rattle.lts.specs.Meter.{HasRoom};
 ghost use Rattle.refine.specs.Partition.{IsNumbered};
 ghost use Rattle.refine.specs.Signed.{IsSignature, signature_at, cost};
+ghost use Rattle.refine.specs.Spans.{fingerprint_of};
 
 use crate::marks::Marks;
 use crate::partition::Partition;
 use crate::sense::Sense;
-use crate::shared::{Record, keep, list_of, new_record};
+use crate::span::{Span, empty_span, fingerprint, list_of};
 use crate::splitter::split;
 use lts::{Lts, Memory, Meter};
 use std::alloc::Global;
 use std::marker::Model;
 
-/// The most buckets that a table of lists has.
-const MOST_BUCKETS: u32 = 1 << 20;
-
 /// A list of pairs for each state, its signature: the number of a label and the number of a block.
 #[derive(Drop)]
 pub struct Signatures {
     alloc: Global,
-    /// All lists one behind the other; a few pairs may be of no list.
+    /// All lists one behind the other; some pairs may be of none.
     pairs: Vec<(u32, u32)>,
-    /// Where each list stands. Different ones are different lists, and the first is empty.
-    records: Vec<Record>,
-    /// The number of the last list in each bucket, or 0.
-    heads: Vec<u32>,
-    /// The number of the list of each state.
-    numbers: Vec<u32>,
+    /// Where the list of each state stands.
+    spans: Vec<Span>,
 }
 
 impl Model for Signatures {
@@ -36,11 +29,11 @@ impl Model for Signatures {
 
     ghost Value = { List (List (ℕ × ℕ)) };
 
-    ghost use Rattle.refine.specs.Shared.{lists_of, AreShared};
+    ghost use Rattle.refine.specs.Spans.{lists_of, AreSpans};
 
-    ghost view = { λ s. lists_of s.pairs.items s.records.items s.numbers.items };
+    ghost view = { λ s. lists_of s.pairs.items s.spans.items };
 
-    ghost invariant = { λ s. AreShared s.pairs.items s.records.items s.heads.items s.numbers.items };
+    ghost invariant = { λ s. AreSpans s.pairs.items s.spans.items };
 }
 
 impl Signatures {
@@ -53,14 +46,10 @@ impl Signatures {
         ensures states { IfOk result (λ g. length g ≡ states) }
         ensures empty { IfOk result (λ g. (s : ℕ) → s < states → signature_at g s ≡ []) }
     {
-        let mut records = Vec::new(alloc);
-        records.push(new_record())?;
         Ok(Signatures {
             alloc,
             pairs: Vec::new(alloc),
-            records,
-            heads: vec![in alloc; 0; states.min(MOST_BUCKETS) as usize]?,
-            numbers: vec![in alloc; 0; states as usize]?,
+            spans: vec![in alloc; empty_span(); states as usize]?,
         })
     }
 
@@ -68,7 +57,7 @@ impl Signatures {
     pub fn states(&self) -> u32
         ensures { result ≡ length self.now }
     {
-        self.numbers.len() as u32
+        self.spans.len() as u32
     }
 
     /// The signature of the state `s`.
@@ -76,18 +65,15 @@ impl Signatures {
         requires { s < length self.now }
         ensures { result.now ≡ signature_at self.now s }
     {
-        list_of(&self.pairs, &self.records, self.numbers[s as usize])
+        list_of(&self.pairs, self.spans[s as usize])
     }
 
-    /// The number of each state's signature, which two states share exactly where they have the same signature; and how
-    /// many numbers there are.
-    pub(crate) fn numbers(&self) -> (&[u32], u32)
-        ensures states { length result.0.now ≡ length self.now }
-        ensures below { All (λ r. r < result.1) result.0.now }
-        ensures same { (s t : ℕ) → s < length self.now → t < length self.now →
-            (slice_index result.0.now s ≡ slice_index result.0.now t) ↔ (signature_at self.now s ≡ signature_at self.now t) }
+    /// The fingerprint of the signature of the state `s`.
+    pub(crate) fn fingerprint(&self, s: u32) -> u64
+        requires { s < length self.now }
+        ensures { result ≡ fingerprint_of (signature_at self.now s) }
     {
-        (&self.numbers, self.records.len() as u32)
+        self.spans[s as usize].fingerprint
     }
 
     /// Makes all signatures empty, and keeps the memory.
@@ -96,14 +82,12 @@ impl Signatures {
         ensures empty { (s : ℕ) → signature_at self.new s ≡ [] }
     {
         self.pairs.clear();
-        self.records.truncate(1);
-        self.heads.fill(0);
-        self.numbers.fill(0);
+        self.spans.fill(empty_span());
     }
 
     /// Makes the list the signature of the state `s`.
     ///
-    /// Fails where there is no memory for it, or past 2^32 - 1 different lists or pairs in all. Nothing has changed then.
+    /// Fails where there is no memory for it. Nothing has changed then.
     pub(crate) fn put(&mut self, s: u32, pairs: &[(u32, u32)]) -> Result<(), Memory>
         requires { s < length self.old }
         ensures states { length self.new ≡ length self.old }
@@ -111,8 +95,13 @@ impl Signatures {
         ensures others { (t : ℕ) → t ≢ s → signature_at self.new t ≡ signature_at self.old t }
         ensures err { OnErr result (self.new ≡ self.old) }
     {
-        let number = keep(&mut self.pairs, &mut self.records, &mut self.heads, pairs)?;
-        self.numbers[s as usize] = number;
+        let start = self.pairs.len();
+        self.pairs.extend_from_slice(pairs)?;
+        self.spans[s as usize] = Span {
+            start,
+            end: self.pairs.len(),
+            fingerprint: fingerprint(pairs),
+        };
         Ok(())
     }
 
@@ -152,7 +141,6 @@ impl Signatures {
             (slice_index q s ≡ slice_index q t) ↔ ((slice_index p.now s ≡ slice_index p.now t) × (signature_at self.now s ≡ signature_at self.now t))) }
         ensures numbered { IfOk result IsNumbered }
     {
-        let (numbers, _) = self.numbers();
-        split(self.alloc, p, numbers)
+        split(self.alloc, p, self)
     }
 }

@@ -1,7 +1,5 @@
-use Rattle.std.proofs.Common.{◌≡◌, ◌<◌, IfOk, subst, sym}
+use Rattle.std.proofs.Common.{◌<◌, subst, sym}
 use Rattle.std.proofs.lemmas.Result.{IfOk-weaker}
-use Rattle.theory.specs.Blocks.{Split}
-use Rattle.lts.specs.Lts.{system_of}
 use Rattle.refine.proofs.Signing.{parted_is_split}
 use Rattle.refine.proofs.refinement.next_round.Goals as goal
 

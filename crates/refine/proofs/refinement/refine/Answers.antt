@@ -1,10 +1,9 @@
-use Rattle.std.proofs.Common.{◌≡◌, ◌↔◌, ℕ, suc, ◌+◌, ◌-◌, ◌*◌, ◌<◌, ◌≤◌, length, slice_index, refl, sym, ◌∙◌, ap, subst, arith}
+use Rattle.std.proofs.Common.{suc, slice_index, sym, ◌∙◌, subst, arith}
 use Rattle.std.proofs.lemmas.Bool.{both_ways}
-use Rattle.theory.specs.Blocks.{Split, SameBlocks, Underway, Turns}
+use Rattle.theory.specs.Blocks.{SameBlocks, Turns}
 use Rattle.lts.specs.Lts.{system_of}
-use Rattle.lts.specs.Meter.{Counts}
 use Rattle.refine.specs.Partition.{IsPartition, IsNumbered}
-use Rattle.refine.specs.Rounds.{counts, Spends, SpendsUpTo}
+use Rattle.refine.specs.Rounds.{counts}
 use Rattle.refine.proofs.Spending.{nothing_spent, spends_more, spends_up_to_more, room_for_more, refused_with}
 use Rattle.refine.proofs.SameLists.{same_list_same_blocks, apart_lists}
 use Rattle.refine.proofs.refinement.refine.Given.{Over}

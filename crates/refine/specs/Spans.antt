@@ -1,0 +1,37 @@
+-- Lists of pairs as spans of one buffer.
+use Rattle.std.specs.Prelude.{◌≡◌, ℕ, ◌+◌, ◌*◌, ◌%◌, ◌^◌, ◌≤◌, List, length, map, fold}
+use Rattle.std.specs.List.{All, slice_range}
+use Rattle.refine.specs.declared.span.Span.{Span}
+use Rattle.refine.specs.declared.span.TheConstants.{SEED, FIRST_FACTOR, SUM_FACTOR}
+
+-- a fingerprint with one pair more
+abbrev pub mixed : ℕ → ℕ × ℕ → ℕ
+mixed sum p = ((sum + p.0 * FIRST_FACTOR % 2 ^ 64) % 2 ^ 64 + p.1) % 2 ^ 64 * SUM_FACTOR % 2 ^ 64
+
+-- the fingerprint of a list
+abbrev pub fingerprint_of : List (ℕ × ℕ) → ℕ
+fingerprint_of list = fold mixed SEED list
+
+-- the span of no pairs
+abbrev pub no_pairs : Span
+no_pairs = record { start = 0; end = 0; fingerprint = SEED }
+
+-- the list that the span has
+abbrev pub list_in : List (ℕ × ℕ) → Span → List (ℕ × ℕ)
+list_in pairs x = slice_range pairs x.start x.end
+
+-- it is a span of the pairs, and has the fingerprint of its list
+pub record IsSpan (pairs : List (ℕ × ℕ)) (x : Span) : Type 0 where
+  pub forward : x.start ≤ x.end
+  pub within : x.end ≤ length pairs
+  pub fingerprint : x.fingerprint ≡ fingerprint_of (list_in pairs x)
+
+-- the list of each of the spans
+abbrev pub lists_of : List (ℕ × ℕ) → List Span → List (List (ℕ × ℕ))
+lists_of pairs spans = map (list_in pairs) spans
+
+-- spans of 1 to 2,000,000 lists
+pub record AreSpans (pairs : List (ℕ × ℕ)) (spans : List Span) : Type 0 where
+  pub each : All (IsSpan pairs) spans
+  pub some : 1 ≤ length spans
+  pub few : length spans ≤ 2000000

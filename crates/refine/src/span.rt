@@ -1,0 +1,65 @@
+//! Lists of pairs as spans of one buffer, each with a fingerprint.
+ghost use Rattle.std.specs.Prelude.{◌≡◌, ◌↔◌, ◌≤◌, length, IsTrue};
+ghost use Rattle.refine.specs.Spans.{list_in, no_pairs, mixed, fingerprint_of};
+
+/// The fingerprint of the empty list.
+const SEED: u64 = 0x2545_F491_4F6C_DD1D;
+
+const FIRST_FACTOR: u64 = 0x9E37_79B9_7F4A_7C15;
+
+const SUM_FACTOR: u64 = 0xD6E8_FEB8_6659_FD93;
+
+/// The list of the pairs from `start` up to `end`, and its fingerprint.
+#[derive(Clone, Copy)]
+pub(crate) struct Span {
+    pub start: usize,
+    pub end: usize,
+    pub fingerprint: u64,
+}
+
+/// The span of no pairs.
+pub(crate) fn empty_span() -> Span
+    ensures { result ≡ no_pairs }
+{
+    Span {
+        start: 0,
+        end: 0,
+        fingerprint: SEED,
+    }
+}
+
+/// The list that the span has.
+pub(crate) fn list_of(pairs: &[(u32, u32)], span: Span) -> &[(u32, u32)]
+    requires forward { span.start ≤ span.end }
+    requires within { span.end ≤ length pairs.now }
+    ensures { result.now ≡ list_in pairs.now span }
+{
+    &pairs[span.start..span.end]
+}
+
+/// A fingerprint with one pair more.
+pub(crate) fn mix(sum: u64, first: u32, second: u32) -> u64
+    ensures { result ≡ mixed sum (first, second) }
+{
+    sum.wrapping_add(u64::from(first).wrapping_mul(FIRST_FACTOR))
+        .wrapping_add(u64::from(second))
+        .wrapping_mul(SUM_FACTOR)
+}
+
+/// A number that equal lists share, and different lists seldom.
+pub(crate) fn fingerprint(list: &[(u32, u32)]) -> u64
+    ensures { result ≡ fingerprint_of list.now }
+{
+    let mut sum = SEED;
+    for (first, second) in list {
+        sum = mix(sum, *first, *second);
+    }
+    sum
+}
+
+/// Whether the two lists are the same.
+pub(crate) fn are_same(a: &[(u32, u32)], b: &[(u32, u32)]) -> bool
+    ensures { IsTrue result ↔ (a.now ≡ b.now) }
+{
+    a == b
+}
