@@ -1,15 +1,15 @@
 -- The union: triples of two systems are put into one list, over one table.
-use Rattle.std.proofs.Common.{◌≡◌, ◌≢◌, ◌∙◌, ◌⊎◌, ℕ, zero, suc, ◌+◌, ◌-◌, ◌<◌, ◌≤◌, List, [], ◌∷◌, ◌++◌, length, map, get_or, take, drop, Contains, Result, Ok, Err, IfOk, OnErr, sym, ap, subst, refl, inl, inr, arith}
-use Rattle.std.specs.List.{All, slice_range}
+use Rattle.std.proofs.Common.{◌≡◌, ◌∙◌, ℕ, ◌+◌, ◌-◌, ◌<◌, ◌≤◌, List, [], ◌∷◌, ◌++◌, length, map, take, drop, Contains, Result, Ok, Err, IfOk, OnErr, sym, ap, subst, refl, inl, inr, arith}
+use Rattle.std.specs.List.{All}
 use Rattle.std.specs.List.Sorted.{IsNonDecreasingBy}
 use Rattle.std.proofs.lemmas.Bool.{cases_lt}
-use Rattle.std.proofs.lemmas.List.{length-append, length-map, length_push, append-nil, append_assoc, map-append, map_push, get_or-map, get_or-take, get_or-drop, get_or_push, take-append-drop, take-take, drop-take, take_more, length-take, length-drop}
+use Rattle.std.proofs.lemmas.List.{length-append, length-map, length_push, append-nil, append_assoc, map-append, map_push, get_or-map, get_or_push, take-append-drop, take-take, drop-take, length-take}
 use Rattle.std.proofs.lemmas.List.Elements.{All-nil, All-map, All-head, All-tail, All-push, All-weaker, Contains-push, Contains-append_left}
 use Rattle.theory.specs.System.{System, Transition, IsAmong}
 use Rattle.lts.specs.Labels.{text_of, IsNumber, IsTable, Keeps, Interns}
 use Rattle.lts.specs.Lts.{Triple, source_of, label_of, target_of, row_of, before, place_at, transition_of, system_of, grouped, IsTriple, IsRow, IsLts, IsCarried, Grouped}
 use Rattle.lts.specs.Union.{shifted, union_of, Gathers, Adds}
-use Rattle.lts.proofs.Rows.{before-next, before-le, row-slice}
+use Rattle.lts.proofs.Rows.{before-next, before-le, row-slice, row-more}
 use Rattle.lts.proofs.Grouped.{rising-append, rising-map, grouped-same}
 
 pub Gathers-nil : Gathers [] 0 []
@@ -105,15 +105,6 @@ length-Adds shift ts l0 l1 e0 e1 a =
     let n = length-map ts (shifted shift) in
     omega arith
 
--- the transition in place k of a row
-pub row-place : (places : List Triple) (s start end k : ℕ) → IsRow places s start end → start ≤ k → k < end →
-    get_or (row_of s places) (k - start) (0, 0, 0) ≡ place_at places k
-row-place places s start end k r low high =
-    ap (λ l. get_or l (k - start) (0, 0, 0)) (sym r.row)
-    ∙ get_or-take (end - start) (drop start places) (k - start) (0, 0, 0) (omega arith)
-    ∙ get_or-drop start places (k - start) (0, 0, 0)
-    ∙ ap (place_at places) (let e : start + (k - start) ≡ k = omega arith in e)
-
 -- one place more of a row
 pub Adds-place : (shift : ℕ) (labels : List (List ℕ)) (places : List Triple) (s start end k : ℕ) (l0 l1 l2 : List (List ℕ)) (e0 e1 e2 : List Triple) →
     IsRow places s start end → start ≤ k → k < end →
@@ -122,16 +113,10 @@ pub Adds-place : (shift : ℕ) (labels : List (List ℕ)) (places : List Triple)
     Adds shift (map (transition_of labels) (take ((k + 1) - start) (row_of s places))) l0 e0 l2 e2
 Adds-place shift labels places s start end k l0 l1 l2 e0 e1 e2 r low high a b =
     let f = transition_of labels in
-    let row : List Triple = row_of s places in
-    let count = r.count in
-    let within : k - start < length row = omega arith in
-    let next : (k + 1) - start ≡ (k - start) + 1 = omega arith in
-    let grown : take ((k + 1) - start) row ≡ take (k - start) row ++ place_at places k ∷ [] =
-    ap (λ n. take n row) next ∙ take_more row (k - start) (0, 0, 0) within
-    ∙ ap (λ x. take (k - start) row ++ x ∷ []) (row-place places s start end k r low high) in
+    let part = take (k - start) (row_of s places) in
     subst (λ ts. Adds shift ts l0 e0 l2 e2)
-    (sym (ap (map (transition_of labels)) grown ∙ map_push (transition_of labels) (take (k - start) row) (place_at places k)))
-    (Adds-more shift (map (transition_of labels) (take (k - start) row)) (transition_of labels (place_at places k) ∷ []) l0 l1 l2 e0 e1 e2 a b)
+    (sym (ap (map f) (row-more places s start end k r low high) ∙ map_push f part (place_at places k)))
+    (Adds-more shift (map f part) (f (place_at places k) ∷ []) l0 l1 l2 e0 e1 e2 a b)
 
 take-split : (i j : ℕ) (xs : List Triple) → i ≤ j → take j xs ≡ take i xs ++ take (j - i) (drop i xs)
 take-split i j xs h =

@@ -1,8 +1,8 @@
 pub mod Table
+pub mod Contained
 pub mod Filters
 pub mod Rows
 pub mod Grouped
 pub mod Placing
 pub mod Kept
 pub mod Joining
-pub mod Contained

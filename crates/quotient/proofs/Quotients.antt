@@ -1,9 +1,8 @@
 -- What the leaders show between numbers is the strong quotient.
-use Rattle.std.proofs.Common.{◌≡◌, ◌≢◌, ◌∙◌, ◌↔◌, ℕ, zero, suc, ◌+◌, ◌<◌, ◌≤◌, ◌==◌, Bool, true, false, cond, List, [], ◌∷◌, length, map, get_or, slice_index, Contains, Result, Ok, Err, IfOk, refl, sym, ap, subst, inl, inr, arith}
-use Rattle.std.specs.List.{AllPairs, filter, flat_map, range_with_len}
-use Rattle.std.proofs.lemmas.Bool.{eqb-true}
+use Rattle.std.proofs.Common.{◌≡◌, ◌≢◌, ◌∙◌, ◌↔◌, ℕ, zero, suc, ◌+◌, ◌<◌, ◌≤◌, ◌==◌, List, length, map, get_or, slice_index, Contains, Result, Ok, Err, IfOk, refl, sym, ap, subst, inl, inr, arith}
+use Rattle.std.specs.List.{AllPairs, flat_map, range_with_len}
 use Rattle.std.proofs.lemmas.List.{length-map, get_or-map}
-use Rattle.std.proofs.lemmas.List.Elements.{All-contains, Contains-get_or, Contains-push_cases, Contains-append_left, Contains-append_right, Contains-append_cases}
+use Rattle.std.proofs.lemmas.List.Elements.{All-contains, Contains-get_or, Contains-append_cases}
 use Rattle.std.proofs.lemmas.List.Kept.{AllPairs-filter}
 use Rattle.std.proofs.lemmas.List.Sorted.{Contains-permutation, IsPermutation-sym}
 use Rattle.theory.specs.System.{System, Transition, Step, Reachable}
@@ -34,38 +33,21 @@ transitions_differ labels es table within once i j d low high same =
     table.different (label_of x) (label_of y) (within x (Contains-get_or es i (0, 0, 0) li)) (within y (Contains-get_or es j (0, 0, 0) lj)) (ap (λ t. t.label) e) in
     once i j (0, 0, 0) low lj (λ k. (ap (λ t. t.source) e k, label k, ap (λ t. t.target) e k))
 
--- what a filter has passes, and stood before
-filtered : {X : Type 0} (p : X → Bool) (xs : List X) (x : X) → Contains (filter p xs) x → Contains xs x × (p x ≡ true)
-filtered p [] x c = absurd (omega (arith, c.1))
-filtered p (y ∷ xs) x c = go (filtered p xs x) (p y) refl c
-  where
-    go : (Contains (filter p xs) x → Contains xs x × (p x ≡ true)) → (v : Bool) → p y ≡ v →
-        Contains (cond v (y ∷ filter p xs) (filter p xs)) x → Contains (y ∷ xs) x × (p x ≡ true)
-    go rest true e d = elim (Contains-append_cases (y ∷ []) (filter p xs) x d) [
-      | inl one ↦ elim (Contains-push_cases [] y x one) [
-        | inl none ↦ absurd (omega (arith, none.1))
-        | inr f ↦ (Contains-append_left (y ∷ []) xs x one, subst (λ z. p z ≡ true) f e)
-      ]
-      | inr r ↦ (Contains-append_right (y ∷ []) xs x (rest r).0, (rest r).1)
-    ]
-    go rest false e d = (Contains-append_right (y ∷ []) xs x (rest d).0, (rest d).1)
+-- rows one behind the other, where a row has the transitions that start at its state
+module _ (es : List Triple) (sources : (s : ℕ) (x : Triple) → Contains (row_of s es) x ↔ (Contains es x × (source_of x ≡ s))) where
+  rows_from : (a k : ℕ) (x : Triple) → Contains (flat_map (λ s. row_of s es) (range_with_len a k)) x → a ≤ source_of x
+  rows_from a zero x c = absurd (omega (arith, c.1))
+  rows_from a (suc k) x c = elim (Contains-append_cases (row_of a es) (flat_map (λ s. row_of s es) (range_with_len (a + 1) k)) x c) [
+    | inl d ↦ omega (arith, ((sources a x).0 d).1)
+    | inr d ↦ omega (arith, rows_from (a + 1) k x d)
+  ]
 
-row_source : (s : ℕ) (es : List Triple) (x : Triple) → Contains (row_of s es) x → source_of x ≡ s
-row_source s es x c = eqb-true (source_of x) s (filtered (λ e. source_of e == s) es x c).1
-
-rows_from : (es : List Triple) (a k : ℕ) (x : Triple) → Contains (flat_map (λ s. row_of s es) (range_with_len a k)) x → a ≤ source_of x
-rows_from es a zero x c = absurd (omega (arith, c.1))
-rows_from es a (suc k) x c = elim (Contains-append_cases (row_of a es) (flat_map (λ s. row_of s es) (range_with_len (a + 1) k)) x c) [
-  | inl d ↦ omega (arith, row_source a es x d)
-  | inr d ↦ omega (arith, rows_from es (a + 1) k x d)
-]
-
-rows_differ : (es : List Triple) → AllPairs (λ x y. x ≢ y) es → (a k : ℕ) → AllPairs (λ x y. x ≢ y) (flat_map (λ s. row_of s es) (range_with_len a k))
-rows_differ es once a zero = λ i j d low high. absurd (omega (arith, high))
-rows_differ es once a (suc k) =
-    apart_append (row_of a es) (flat_map (λ s. row_of s es) (range_with_len (a + 1) k))
-    (AllPairs-filter (λ x y. x ≢ y) (λ e. source_of e == a) es once) (rows_differ es once (a + 1) k)
-    (λ x c d. omega (arith, row_source a es x c, rows_from es (a + 1) k x d))
+  rows_differ : AllPairs (λ x y. x ≢ y) es → (a k : ℕ) → AllPairs (λ x y. x ≢ y) (flat_map (λ s. row_of s es) (range_with_len a k))
+  rows_differ once a zero = λ i j d low high. absurd (omega (arith, high))
+  rows_differ once a (suc k) =
+      apart_append (row_of a es) (flat_map (λ s. row_of s es) (range_with_len (a + 1) k))
+      (AllPairs-filter (λ x y. x ≢ y) (λ e. source_of e == a) es once) (rows_differ once (a + 1) k)
+      (λ x c d. omega (arith, ((sources a x).0 c).1, rows_from (a + 1) k x d))
 
 module _ (rel : Relation) (g : Grouped) (n : Numbering) (laws : Known rel g) (num : IsNumbering rel (system_of g) n) where
   -- a leader is reachable
@@ -139,12 +121,9 @@ module _ (g : Grouped) (n : Numbering) (laws : Known strong g) (num : IsNumberin
   shown_label : (x : Triple) → Contains es x → label_of x < length g.labels
   shown_label x c =
       let h = (exactly x).0 c in
-      subst (λ y. label_of y < length g.labels) h.2.is
-      (in_labels h.0 h.2.place h.2.in_row)
-    where
-      in_labels : (s : ℕ) (e : Triple) → Contains (row_of s g.places) e → label_of e < length g.labels
-      in_labels s e c = (All-contains (IsTriple (length g.labels) g.states) g.places e laws.lts.in_range.each
-          (filtered (λ x. source_of x == s) g.places e c).0).label
+      let from = (laws.sources h.0 g.places h.2.place).0 h.2.in_row in
+      let triple = All-contains (IsTriple (length g.labels) g.states) g.places h.2.place laws.lts.in_range.each from.0 in
+      subst (λ y. label_of y < length g.labels) h.2.is triple.label
 
   pub quotient_of : Quotient strong (system_of g) (system_from 0 n.count g.labels es)
   quotient_of = record {
@@ -195,7 +174,7 @@ module _ (g : Grouped) (n : Numbering) (laws : Known strong g) (num : IsNumberin
   built : (q : Grouped) → q.first ≡ 0 → q.states ≡ n.count → q.labels ≡ labels → q.places ≡ grouped n.count es → IsGrouping es q.places →
       Quotient strong (system_of g) (system_of q)
   built q first states table places grouping =
-      let differ : AllPairs (λ x y. x ≢ y) q.places = subst (AllPairs (λ x y. x ≢ y)) (sym places) (rows_differ es once 0 n.count) in
+      let differ : AllPairs (λ x y. x ≢ y) q.places = subst (AllPairs (λ x y. x ≢ y)) (sym places) (rows_differ es (λ s. laws.sources s es) once 0 n.count) in
       let is : (x : Triple) → Contains q.places x ↔ IsShownBelow g n g.states x = λ x. (
         λ c. (exactly x).0 (Contains-permutation q.places es x (IsPermutation-sym es q.places grouping.same) c),
         λ h. Contains-permutation es q.places x grouping.same ((exactly x).1 h),

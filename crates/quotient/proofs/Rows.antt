@@ -1,41 +1,12 @@
 -- The rows of the leaders: what one shows, and what stands in all so far.
-use Rattle.std.proofs.Common.{◌≡◌, ◌≢◌, ◌∙◌, ◌↔◌, ℕ, ◌+◌, ◌-◌, ◌<◌, ◌≤◌, List, [], ◌∷◌, ◌++◌, length, map, take, drop, get_or, Contains, refl, sym, ap, subst, inl, inr, arith}
+use Rattle.std.proofs.Common.{◌≡◌, ◌≢◌, ◌∙◌, ◌↔◌, ℕ, ◌+◌, ◌-◌, ◌<◌, List, ◌++◌, length, get_or, Contains, refl, sym, ap, subst, inl, inr, arith}
 use Rattle.std.specs.List.{AllPairs}
 use Rattle.std.proofs.lemmas.Bool.{cases_eq, cases_lt}
-use Rattle.std.proofs.lemmas.List.{append_assoc, map_push, take_more, get_or-take, get_or-drop, length-append, get_or_append_left, get_or-append_right, get_or_default}
+use Rattle.std.proofs.lemmas.List.{length-append, get_or_append_left, get_or-append_right, get_or_default}
 use Rattle.std.proofs.lemmas.List.Elements.{Contains-append_left, Contains-append_right, Contains-append_cases}
-use Rattle.lts.specs.Lts.{Triple, row_of, place_at, Grouped, IsRow}
+use Rattle.lts.specs.Lts.{Triple, Grouped}
 use Rattle.quotient.specs.Triples.{IsShownBy, IsShownBelow, IsRowOfLeader, HasApart}
 use Rattle.quotient.specs.declared.numbering.Numbering.{Numbering}
-
--- one place more of a row
-row_more : (places : List Triple) (s start end k : ℕ) → IsRow places s start end → start ≤ k → k < end →
-    take ((k + 1) - start) (row_of s places) ≡ take (k - start) (row_of s places) ++ place_at places k ∷ []
-row_more places s start end k r low high =
-    let row : List Triple = row_of s places in
-    let count = r.count in
-    let within : k - start < length row = omega arith in
-    let next : (k + 1) - start ≡ (k - start) + 1 = omega arith in
-    let place : get_or row (k - start) (0, 0, 0) ≡ place_at places k =
-    ap (λ l. get_or l (k - start) (0, 0, 0)) (sym r.row)
-    ∙ get_or-take (end - start) (drop start places) (k - start) (0, 0, 0) (omega arith)
-    ∙ get_or-drop start places (k - start) (0, 0, 0)
-    ∙ ap (place_at places) (let e : start + (k - start) ≡ k = omega arith in e) in
-    ap (λ n. take n row) next ∙ take_more row (k - start) (0, 0, 0) within ∙ ap (λ x. take (k - start) row ++ x ∷ []) place
-
--- one more transition was put at the end
-pub collected_more : (f : Triple → Triple) (places : List Triple) (s start end k : ℕ) (before old new : List Triple) (x : Triple) →
-    IsRow places s start end → start ≤ k → k < end → x ≡ f (place_at places k) →
-    old ≡ before ++ map f (take (k - start) (row_of s places)) → new ≡ old ++ x ∷ [] →
-    new ≡ before ++ map f (take ((k + 1) - start) (row_of s places))
-collected_more f places s start end k before old new x r low high at e put =
-    let row : List Triple = row_of s places in
-    put
-    ∙ ap (λ y. old ++ y ∷ []) at
-    ∙ ap (λ xs. xs ++ f (place_at places k) ∷ []) e
-    ∙ append_assoc before (map f (take (k - start) row)) (f (place_at places k) ∷ [])
-    ∙ ap (λ xs. before ++ xs)
-    (sym (ap (map f) (row_more places s start end k r low high) ∙ map_push f (take (k - start) row) (place_at places k)))
 
 -- lists that have no element in common, one behind the other
 pub apart_append : {X : Type 0} (xs ys : List X) → AllPairs (λ x y. x ≢ y) xs → AllPairs (λ x y. x ≢ y) ys →

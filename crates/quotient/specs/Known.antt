@@ -5,7 +5,7 @@ use Rattle.theory.specs.System.{System, Step, Reachable}
 use Rattle.theory.specs.Bisimulation.{Relation, Bisimilar}
 use Rattle.theory.specs.Quotient.{Leader, IsLeader, Number, Quotient}
 use Rattle.lts.specs.Labels.{text_of}
-use Rattle.lts.specs.Lts.{Triple, label_of, target_of, row_of, system_of, IsLts, Grouped}
+use Rattle.lts.specs.Lts.{Triple, source_of, label_of, target_of, row_of, system_of, IsLts, Grouped}
 
 -- the laws of the theory and of rows, at this system
 pub record Known (rel : Relation) (g : Grouped) : Type 0 where
@@ -19,5 +19,6 @@ pub record Known (rel : Relation) (g : Grouped) : Type 0 where
   pub apart : (l m : ℕ) → IsLeader rel (system_of g) l → IsLeader rel (system_of g) m →
       Bisimilar rel (system_of g) l (system_of g) m → l ≡ m
   pub number_below : (Q : System) (s n : ℕ) → Quotient rel (system_of g) Q → Number rel (system_of g) s n → n < Q.states
+  pub sources : (s : ℕ) (es : List Triple) (e : Triple) → Contains (row_of s es) e ↔ (Contains es e × (source_of e ≡ s))
   pub steps : (s : ℕ) (a : List ℕ) (t : ℕ) → Step (system_of g) s a t ↔
       ((e : Triple) × Contains (row_of s g.places) e × (text_of g.labels (label_of e) ≡ a) × (target_of e ≡ t))

@@ -1,4 +1,3 @@
-pub mod Contained
 pub mod Rising
 pub mod Signing
 pub mod Spending

@@ -1,6 +1,6 @@
 use Rattle.std.proofs.lemmas.List.Elements.{All-weaker}
 use Rattle.lts.specs.Lts.{source_of, IsTriple}
-use Rattle.lts.proofs.Rows.{before-zero, before-next, before-mono, before-all}
+use Rattle.lts.proofs.Rows.{before-zero, before-next, before-mono, before-all, row-more}
 use Rattle.std.proofs.Common.{◌<◌, length}
 use Rattle.lts.proofs.row_laws.rows_follow.Goals as goal
 
@@ -17,3 +17,6 @@ pub returns-clause-all : goal.returns-clause-all
 returns-clause-all c = λ l h.
     before-all l.states l.places
     (All-weaker (IsTriple (length l.labels) l.states) (λ e. source_of e < l.states) (λ e x. x.source) l.places h.in_range.each)
+
+pub returns-clause-inside : goal.returns-clause-inside
+returns-clause-inside c = row-more

@@ -15,5 +15,6 @@ returns g c = λ rel.
       classes = λ s t m n ws wt h k. c.numbers_are_classes.ensures rel A s t m n lts.system ws wt h k;
       apart = λ k m h j b. c.leaders_differ.ensures rel A k m lts.system h j b;
       number_below = λ Q s n quotient h. c.numbers_are_states.ensures.below rel A Q s n lts.system quotient h;
+      sources = c.rows_are_steps.ensures.sources;
       steps = λ s a t. c.rows_are_steps.ensures.steps l s a t;
     }
