@@ -1,7 +1,7 @@
 //! A job done: the files opened, the run, and what is said of it.
 ghost use Rattle.std.specs.Prelude.{◌≡◌, ◌≤◌, ◌⊎◌, [], None, IfOk, IfErr};
 ghost use Rattle.autbis.specs.Reports.{IsFaultStatus};
-ghost use Rattle.theory.specs.Bisimulation.Relation.{strong};
+ghost use Rattle.quotient.specs.Relations.{meant};
 ghost use Rattle.theory.specs.Quotient.{allowance};
 
 use crate::report::{cannot_open, report};
@@ -94,7 +94,7 @@ fn show_stats<M: Meter, E: Write>(counts: Counts, rel: Relation, m: &M, e: &mut 
 /// The most visits that a run of so many rounds may make.
 fn most_visits(counts: Counts, rel: Relation, rounds: u128) -> u128
     requires { rounds ≤ counts.states }
-    ensures { result ≡ allowance strong counts.states counts.transitions rounds }
+    ensures { result ≡ allowance (meant rel) counts.states counts.transitions rounds }
 {
     match rel {
         Relation::Strong => (rounds + 2) * u128::from(counts.transitions),
