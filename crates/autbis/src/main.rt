@@ -4,6 +4,8 @@
 ghost use Rattle.std.specs.Prelude.{◌≡◌};
 
 mod program;
+#[cfg(test)]
+mod refusal_tests;
 mod report;
 mod run;
 #[cfg(test)]
