@@ -6,8 +6,7 @@ use Rattle.std.proofs.lemmas.Bool.{cases_eq, cases_lt, both_ways, eq-eqb, ne_eqb
 use Rattle.std.proofs.lemmas.List.{get_or-set_same, get_or-set_other, length-replicate, get_or-map, get_or_past, length_push, length-map, length-set}
 use Rattle.std.proofs.lemmas.List.Elements.{Contains-push, Contains-push_cases, Contains-append_left, Contains-append_right, Contains-append_cases}
 use Rattle.std.proofs.lemmas.List.Sums.{sum_by_push, sum_by-set, length-filter, count_by-le-length}
-use Rattle.theory.specs.System.{Step, AnyStep, Reachable}
-use Rattle.theory.proofs.Paths.{leads_here, leads_keeps, reachable_on}
+use Rattle.theory.specs.System.{Step, Reachable}
 use Rattle.lts.specs.Labels.{text_of}
 use Rattle.lts.specs.Lts.{Triple, source_of, label_of, target_of, place_at, transition_of, row_of, Grouped, system_of, IsRow}
 use Rattle.quotient.specs.Search.{IsMarked, Marks, Searches, states_ahead, places_ahead}
@@ -127,9 +126,9 @@ Searches-below g marked s stack search = elim (cases_lt s (length marked)) [
 ]
 
 -- the first state alone is marked, and waits
-pub Searches-start : (g : Grouped) (marked : List Bool) (waiting : List ℕ) → g.first < g.states →
+pub Searches-start : (g : Grouped) (marked : List Bool) (waiting : List ℕ) → g.first < g.states → Reachable (system_of g) g.first →
     Marks g.first (replicate g.states false) [] marked waiting → Searches g marked waiting
-Searches-start g marked waiting l marks =
+Searches-start g marked waiting l reached marks =
     let size = length-replicate g.states false in
     let below : g.first < length (replicate g.states false) = omega arith in
     let new = Marks-new g.first (replicate g.states false) [] marked waiting marks in
@@ -139,7 +138,7 @@ Searches-start g marked waiting l marks =
       first = self;
       only_reachable = λ s m. elim (new s m) [
         | inl h ↦ absurd (both_ways _ (none_marked g.states s) h)
-        | inr h ↦ subst (Reachable (system_of g)) (sym h.0) (leads_here (AnyStep (system_of g)) g.first)
+        | inr h ↦ subst (Reachable (system_of g)) (sym h.0) reached
       ];
       each_waiting = λ s c. elim (Marks-waiting g.first (replicate g.states false) [] marked waiting marks s c) [
         | inl e ↦ subst (IsMarked marked) e self
@@ -172,9 +171,10 @@ Searches-taken g marked waiting stack s e search = record {
 }
 
 -- a step of s leads to t, which is marked
-Searches-mark : (g : Grouped) (s t : ℕ) (a : List ℕ) (old : List Bool) (stack : List ℕ) (new : List Bool) (pushed : List ℕ) →
-    t < g.states → Step (system_of g) s a t → Searches g old (s ∷ stack) → Marks t old stack new pushed → Searches g new (s ∷ pushed)
-Searches-mark g s t a old stack new pushed l step search marks =
+Searches-mark : (g : Grouped) (s t : ℕ) (old : List Bool) (stack : List ℕ) (new : List Bool) (pushed : List ℕ) →
+    t < g.states → (Reachable (system_of g) s → Reachable (system_of g) t) →
+    Searches g old (s ∷ stack) → Marks t old stack new pushed → Searches g new (s ∷ pushed)
+Searches-mark g s t old stack new pushed l reached_on search marks =
     let below : t < length old = omega (arith, search.size) in
     let keeps = Marks-keeps t old stack new pushed marks below in
     record {
@@ -183,8 +183,7 @@ Searches-mark g s t a old stack new pushed l step search marks =
       only_reachable = λ u m. elim (Marks-new t old stack new pushed marks u m) [
         | inl h ↦ search.only_reachable u h
         | inr h ↦
-            subst (Reachable (system_of g)) (sym h.0)
-            (reachable_on (system_of g) s a t (search.only_reachable s (search.each_waiting s (at_head s stack))) step)
+            subst (Reachable (system_of g)) (sym h.0) (reached_on (search.only_reachable s (search.each_waiting s (at_head s stack))))
       ];
       each_waiting = λ u c. elim (head_or_tail s pushed u c) [
         | inl e ↦ keeps u (search.each_waiting u (subst (Contains (s ∷ stack)) e (at_head s stack)))
@@ -207,14 +206,15 @@ Searches-mark g s t a old stack new pushed l step search marks =
 
 -- place k of the row of s was read, and what it leads to is marked
 pub Searches-place : (g : Grouped) (s start end k t : ℕ) (old : List Bool) (stack : List ℕ) (new : List Bool) (pushed : List ℕ) →
+    ((a : List ℕ) → Reachable (system_of g) s → Step (system_of g) s a t → Reachable (system_of g) t) →
     IsRow g.places s start end → start ≤ k → k < end → t ≡ target_of (place_at g.places k) → t < g.states →
     Searches g old (s ∷ stack) → Marks t old stack new pushed → Searches g new (s ∷ pushed)
-Searches-place g s start end k t old stack new pushed row low high target l search marks =
+Searches-place g s start end k t old stack new pushed reached_on row low high target l search marks =
     let below : k < length g.places = omega (arith, row.within) in
     let a = text_of g.labels (label_of (place_at g.places k)) in
     let from : Step (system_of g) s a (target_of (place_at g.places k)) =
     subst (λ x. Step (system_of g) x a (target_of (place_at g.places k))) ((row.exactly k below).1 (low, high)) (place_step g k below) in
-    Searches-mark g s t a old stack new pushed l (subst (Step (system_of g) s a) (sym target) from) search marks
+    Searches-mark g s t old stack new pushed l (λ way. reached_on a way (subst (Step (system_of g) s a) (sym target) from)) search marks
 
 -- the whole row of s was read
 pub Searches-read : (g : Grouped) (s start end : ℕ) (marked : List Bool) (stack : List ℕ) → IsRow g.places s start end →
@@ -237,14 +237,13 @@ Searches-read g s start end marked stack row read search = record {
 }
 
 -- where nothing waits, what is marked is what is reachable
-pub Searches-end : (g : Grouped) (marked : List Bool) (waiting : List ℕ) → length waiting ≡ 0 → Searches g marked waiting →
-    (s : ℕ) → IsMarked marked s ↔ Reachable (system_of g) s
-Searches-end g marked waiting none search s = (
+pub Searches-end : (g : Grouped) (marked : List Bool) (waiting : List ℕ) → length waiting ≡ 0 →
+    (IsMarked marked g.first → ((s : ℕ) (a : List ℕ) (t : ℕ) → IsMarked marked s → Step (system_of g) s a t → IsMarked marked t) →
+    (s : ℕ) → Reachable (system_of g) s → IsMarked marked s) →
+    Searches g marked waiting → (s : ℕ) → IsMarked marked s ↔ Reachable (system_of g) s
+Searches-end g marked waiting none kept search s = (
   search.only_reachable s,
-  λ path.
-      leads_keeps (AnyStep (system_of g)) (IsMarked marked)
-      (λ u v step m. elim (search.followed u v step.0 m step.1) [ inl c ↦ absurd (omega (arith, none, c.1)) | inr h ↦ h ])
-      g.first s path search.first,
+  kept search.first (λ u a v m step. elim (search.followed u v a m step) [ inl c ↦ absurd (omega (arith, none, c.1)) | inr h ↦ h ]) s,
 )
 
 -- what is still to be read

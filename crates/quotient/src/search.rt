@@ -19,6 +19,7 @@ pub fn reachable<M: Meter>(alloc: Global, l: &Lts<M>, m: &mut M) -> Result<Vec<b
     ensures at_most { M.visits_made m.new ≤ M.visits_made m.old + length l.now.places }
     ensures never_fewer { M.visits_made m.old ≤ M.visits_made m.new }
 {
+    theory::steps_keep_reachable();
     let mut search = Search {
         marked: vec![in alloc; false; l.states() as usize]?,
         stack: Vec::new(alloc),
@@ -61,6 +62,7 @@ impl Search {
         ensures at_most { M.visits_made m.new ≤ M.visits_made m.old + length (row_of s l.now.places) }
         ensures never_fewer { M.visits_made m.old ≤ M.visits_made m.new }
     {
+        theory::steps_keep_reachable();
         // Its contract tells what holds of every system.
         let _ = l.edges();
         let (start, end) = l.row(s);

@@ -1,16 +1,20 @@
 //! What holds of each quotient: it is a system equivalent to its own, no two of its states are bisimilar, and no equivalent
 //! system has fewer.
 
-ghost use Rattle.std.specs.Prelude.{◌≡◌, ◌≢◌, ◌↔◌, ℕ, ◌+◌, ◌<◌, ◌≤◌, List};
+ghost use Rattle.std.specs.Prelude.{◌≡◌, ◌≢◌, ◌↔◌, ℕ, ◌+◌, ◌<◌, ◌≤◌, Bool, IsTrue, List};
 ghost use Rattle.theory.specs.System.{System, IsSystem, Step, Reachable};
 ghost use Rattle.theory.specs.Bisimulation.{Relation, Bisimilar, Equivalent};
 ghost use Rattle.theory.specs.Quotient.{HowMany, Leader, IsLeader, Number, Quotient};
 
-/// The first state is reachable, and so is what a step leads to from a reachable state; each is a state.
+/// The first state is reachable, and so is what a step leads to from a reachable state; each is a state. What the first
+/// state has, and steps keep, each of them has.
 pub fn steps_keep_reachable()
     ensures first { (A : System) → Reachable A A.first }
     ensures step { (A : System) (s : ℕ) (a : List ℕ) (t : ℕ) → Reachable A s → Step A s a t → Reachable A t }
     ensures below { (A : System) (s : ℕ) → IsSystem A → Reachable A s → s < A.states }
+    ensures kept { (A : System) (has : ℕ → Bool) → IsTrue (has A.first) →
+        ((s : ℕ) (a : List ℕ) (t : ℕ) → IsTrue (has s) → Step A s a t → IsTrue (has t)) →
+        (s : ℕ) → Reachable A s → IsTrue (has s) }
 {}
 
 /// Two bisimilar leaders are one.

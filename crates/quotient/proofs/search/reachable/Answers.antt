@@ -1,5 +1,7 @@
 use Rattle.std.proofs.Common.{◌≡◌, ◌∙◌, false, [], replicate, ap, refl, arith}
+use Rattle.std.specs.List.{slice_index_or}
 use Rattle.std.proofs.lemmas.List.{length-replicate}
+use Rattle.lts.specs.Lts.{system_of}
 use Rattle.quotient.specs.Search.{Marks}
 use Rattle.quotient.proofs.Reaching.{Searches-start, Searches-taken, Searches-end, places_ahead-marks, places_ahead-first}
 use Rattle.quotient.proofs.search.reachable.Goals as goal
@@ -17,7 +19,7 @@ loop-s-init g c =
     let kept = places_ahead-marks s.places s.first (replicate s.states false) [] new.marked.items new.stack.items (omega arith) marks in
     let most = places_ahead-first s.places (replicate s.states false) in
     record {
-      search = Searches-start s new.marked.items new.stack.items first marks;
+      search = Searches-start s new.marked.items new.stack.items first (c.steps_keep_reachable.ensures.first (system_of s)) marks;
       rounds = refl;
       at_most = omega arith;
       never_fewer = omega arith;
@@ -30,5 +32,8 @@ mark_targets-requires-clause-search g c =
 
 pub returns-clause-exactly : goal.returns-clause-exactly
 returns-clause-exactly g c s below =
+    let l = c.args.l.now in
+    let marked = c.loop-s.search.marked.items in
     let stack = c.loop-s.search.stack in
-    Searches-end c.args.l.now c.loop-s.search.marked.items stack.items (omega (arith, stack.ok.0, c.in_default.ensures.cases.0)) c.loop-s.invariant.search s
+    Searches-end l marked stack.items (omega (arith, stack.ok.0, c.in_default.ensures.cases.0))
+    (c.steps_keep_reachable.ensures.kept (system_of l) (λ x. slice_index_or marked x false)) c.loop-s.invariant.search s

@@ -1,4 +1,5 @@
 use Rattle.std.proofs.Common.{◌∙◌, ◌<◌, length, arith}
+use Rattle.lts.specs.Lts.{system_of}
 use Rattle.quotient.proofs.Reaching.{TargetsMarked-more, Searches-below, Searches-place, Searches-read, places_ahead-marks, states_ahead-marks}
 use Rattle.quotient.proofs.search.Search.mark_targets.Goals as goal
 
@@ -23,6 +24,7 @@ loop-k-preserved g c =
       search =
           Searches-place c.args.l.now c.args.s c.row-start.result.0 c.row-start.result.1 c.loop-k.k t
           old.marked.items old.stack.items new.marked.items new.stack.items
+          (λ a. c.steps_keep_reachable.ensures.step (system_of c.args.l.now) c.args.s a t)
           row (omega (arith, c.loop-k.auto.k)) (omega arith) target state c.loop-k.invariant.search c.in_ok-mark.ensures;
       read =
           TargetsMarked-more places c.row-start.result.0 c.loop-k.k t old.marked.items old.stack.items new.marked.items new.stack.items
