@@ -65,6 +65,10 @@ pub fn run_min<M: Meter, R: Source, W: Sink>(
     ensures failures { (R.failures r.new ≤ 1) × (W.failures w.new ≤ 1) }
     ensures kind { IfErr result IsReadFault }
 {
+    theory::the_order_does_not_matter();
+    theory::quotient_is_a_system();
+    autfmt::a_text_reads_or_has_a_fault();
+    autfmt::text_is_read_again();
     // Its contract tells what holds of all limits.
     let _ = lim.transitions();
     let system: Lts<M> = read_hiding(alloc, r, lim, h)?;

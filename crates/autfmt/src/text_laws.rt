@@ -7,6 +7,7 @@ ghost use Rattle.autfmt.specs.Texts.{Cuts, Lines, Reads};
 ghost use Rattle.autfmt.specs.Faults.{FirstFault, JudgedFault};
 ghost use Rattle.autfmt.specs.HideLists.{HideReads, FirstHideFault, JudgedHideFault};
 ghost use Rattle.autfmt.specs.HideReaders.{SameLabels};
+ghost use Rattle.autfmt.specs.Readers.{HasGoodHeader};
 
 /// A text has exactly one cut at its line feeds.
 pub fn a_text_has_one_cut()
@@ -29,7 +30,7 @@ pub fn a_text_has_one_reading()
         FirstFault bounds text f → FirstFault bounds text g → f ≡ g }
 {}
 
-/// A text has no first fault exactly where it reads as some system.
+/// A text has no first fault exactly where it reads as some system, and then its line 1 is a good header.
 pub fn a_text_reads_or_has_a_fault()
     ensures one { (bounds : Bounds) (text : List ℕ) →
         ((A : System) × Reads bounds text A) ⊎ ((f : Fault) × FirstFault bounds text f) }
@@ -37,6 +38,7 @@ pub fn a_text_reads_or_has_a_fault()
         Reads bounds text A → ¬ FirstFault bounds text f }
     ensures none { (bounds : Bounds) (text : List ℕ) →
         ((f : Fault) → ¬ FirstFault bounds text f) ↔ ((A : System) × Reads bounds text A) }
+    ensures header { (bounds : Bounds) (text : List ℕ) (A : System) → Reads bounds text A → HasGoodHeader bounds text }
 {}
 
 /// The fault that is known from the first bytes of a text is its first fault, whatever follows them.

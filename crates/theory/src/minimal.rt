@@ -7,7 +7,7 @@ ghost use Rattle.theory.specs.Bisimulation.{Relation, Bisimilar, Equivalent};
 ghost use Rattle.theory.specs.Quotient.{HowMany, Leader, IsLeader, Number, Quotient};
 
 /// The first state is reachable, and so is what a step leads to from a reachable state; each is a state. What the first
-/// state has, and steps keep, each of them has.
+/// state has and steps keep, every reachable state has.
 pub fn steps_keep_reachable()
     ensures first { (A : System) → Reachable A A.first }
     ensures step { (A : System) (s : ℕ) (a : List ℕ) (t : ℕ) → Reachable A s → Step A s a t → Reachable A t }

@@ -1,5 +1,6 @@
 -- The laws are the lemmas.
 use Rattle.autfmt.proofs.FaultLaws.{text_judged, Reads-no_fault, text_without_fault}
+use Rattle.autfmt.proofs.ReaderAnswers.{Reads-header}
 use Rattle.autfmt.proofs.text_laws.a_text_reads_or_has_a_fault.Goals as goal
 
 pub returns-clause-one : goal.returns-clause-one
@@ -10,3 +11,6 @@ returns-clause-not_both c = Reads-no_fault
 
 pub returns-clause-none : goal.returns-clause-none
 returns-clause-none c = text_without_fault
+
+pub returns-clause-header : goal.returns-clause-header
+returns-clause-header c = Reads-header
