@@ -93,6 +93,34 @@ fn failing_sinks(rt: HostRuntime) {
     }
 }
 
+/// That a first growth is refused is for `refused_growths`.
+#[test]
+fn failing_ends(rt: HostRuntime) {
+    let out = (Some(Fault::Device), b"des (0," as &[u8]);
+    check_at(
+        &rt,
+        rt.alloc(),
+        TWO_EQUAL_TARGETS,
+        b"",
+        None,
+        Some(7),
+        4096,
+        out,
+    );
+    // The first two lines have 24 bytes.
+    let out = (Some(Fault::Device), b"" as &[u8]);
+    check_at(
+        &rt,
+        rt.alloc(),
+        TWO_EQUAL_TARGETS,
+        b"",
+        Some(24),
+        None,
+        4096,
+        out,
+    );
+}
+
 /// Whether a run on a small text, at which a growth may be refused, answers by the table of outcomes: all is written; or
 /// there was no memory and nothing is; or the sink's own growth was refused, and a beginning is.
 fn is_right_or_refused(rt: &impl Abort, alloc: Global, text: &[u8], out: &[u8]) -> bool {

@@ -3,6 +3,7 @@ ghost use Rattle.std.specs.Prelude.{◌≡◌};
 
 use crate::program::{hidden_of, min_program, open};
 use crate::report::{cannot_open, report, report_words};
+use crate::run_tests::{SILENT_DETOUR, TWO_EQUAL_TARGETS};
 use crate::words::{Job, WordFault, command};
 use autfmt::{Fault, Hidden, Limits, Sink, SliceSource, Source, VecSink};
 use quotient::Relation;
@@ -229,8 +230,6 @@ fn ran<R: Abort, S: Source>(
     (status, written, said)
 }
 
-const TWO_EQUAL_TARGETS: &[u8] = b"des (0, 2, 3)\n(0, a, 1)\n(0, a, 2)\n";
-
 #[test]
 fn faulty_texts(rt: HostRuntime) {
     let cases: [(&[u8], Option<usize>, u8, &[u8]); 3] = [
@@ -253,6 +252,21 @@ fn faulty_texts(rt: HostRuntime) {
         let (ended, written, said) = ran(&rt, rt.alloc(), &mut source, "standard input", true);
         assert!(rt; ended == status && written.is_empty() && said.as_slice() == message);
     }
+}
+
+/// The visits may be fewer than are allowed.
+#[test]
+fn silent_detour_stats(rt: HostRuntime) {
+    let mut source = SliceSource::new(SILENT_DETOUR, None);
+    let (status, written, said) = ran(&rt, rt.alloc(), &mut source, "a.aut", true);
+    assert!(rt; status == 0 && !written.is_empty());
+    let mut agrees = false;
+    for visits in 0..25 {
+        let line = "stats: states 6 transitions 6 rounds 2 visits";
+        let wanted = format!(in rt.alloc(); "{line} {visits} allowance 24\n").expect(&rt, "memory");
+        agrees = agrees || said.as_slice() == wanted.as_bytes();
+    }
+    assert!(rt; agrees);
 }
 
 #[test]
