@@ -6,6 +6,9 @@ use Rattle.theory.specs.Blocks.{Turns}
 use Rattle.theory.specs.Quotient.{Quotient, allowance}
 use Rattle.autfmt.specs.Bounds.{Bounds}
 use Rattle.autfmt.specs.Texts.{Reads}
+use Rattle.autfmt.specs.declared.fault.Fault.{Fault}
+use Rattle.autfmt.specs.Faults.{FirstFault}
+use Rattle.autfmt.specs.Readers.{IsTextFault}
 use Rattle.autfmt.specs.Written.{Text, IsInWrittenOrder, GainsText, GainsBeginning}
 use Rattle.autbis.specs.declared.run.Counts.{Counts}
 
@@ -46,6 +49,14 @@ pub record MinimisesText
   pub minimises : Minimises rel (Hide H input) output rounds visits
   pub written : GainsText output old new
   pub read_again : IsReadAgain bounds output
+
+-- the text reads as a system, and with the labels of H hidden, a sink has gained the text of what minimises it
+abbrev pub IsMinimised : Relation → Bounds → List (List ℕ) → List ℕ → Option (List ℕ) → Option (List ℕ) → Type 0
+IsMinimised rel bounds H text old new = (rounds visits : ℕ) × (counts : Counts) × MinimisesText rel bounds H text old new rounds visits counts
+
+-- the text does not read as a system: it has a first fault
+abbrev pub IsFaulty : Bounds → List ℕ → Type 0
+IsFaulty bounds text = (f : Fault) × IsTextFault f × FirstFault bounds text f
 
 -- the text reads as a system; with the labels of H hidden, a sink has gained a beginning of the text of its quotient
 abbrev pub BeginsQuotient : Relation → Bounds → List (List ℕ) → List ℕ → Option (List ℕ) → Option (List ℕ) → Type 0

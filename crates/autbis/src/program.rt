@@ -1,6 +1,7 @@
 //! A job done: the files opened, the run, and what is said of it.
-ghost use Rattle.std.specs.Prelude.{◌≡◌, ◌≤◌, ◌⊎◌, [], None, IfOk, IfErr};
+ghost use Rattle.std.specs.Prelude.{◌≡◌, ◌≤◌, ◌⊎◌, [], None, IfSome, IfOk, IfErr};
 ghost use Rattle.autbis.specs.Reports.{IsFaultStatus};
+ghost use Rattle.autbis.specs.Runs.{IsMinimised, IsFaulty, BeginsQuotient};
 ghost use Rattle.quotient.specs.Relations.{meant};
 ghost use Rattle.theory.specs.Quotient.{allowance};
 
@@ -47,7 +48,8 @@ pub fn hidden_of<R: Files, E: Write>(
     }
 }
 
-/// Minimises the text of `r` to `w`, once, and answers the exit status. A fault goes to `report` with
+/// Minimises the text of `r` to `w`, once, and answers the exit status: 0 where it is done, 2 where the text is faulty, 4 for
+/// want of memory, 5 where the source or the sink failed. With 2 and 4 nothing was written. A fault goes to `report` with
 /// the source's name. With `stats`, a line on `e` says the counts of a run that succeeded.
 pub fn min_program<R: Source, W: Sink, E: Write>(
     alloc: Global,
@@ -63,6 +65,12 @@ pub fn min_program<R: Source, W: Sink, E: Write>(
     requires source { R.failures r.old ≡ 0 }
     requires sink { W.failures w.old ≡ 0 }
     ensures status { (result ≡ 0) ⊎ IsFaultStatus result }
+    ensures minimised { result ≡ 0 → IfSome (R.rest r.old) (λ text. IsMinimised (meant rel) lim.now h.now text (W.written w.old) (W.written w.new)) }
+    ensures sound { result ≡ 0 → (R.failures r.new ≡ 0) × (W.failures w.new ≡ 0) }
+    ensures faulty { result ≡ 2 → R.failures r.new ≡ 0 → IfSome (R.rest r.old) (IsFaulty lim.now) }
+    ensures untouched { (result ≡ 2) ⊎ (result ≡ 4) → w.new ≡ w.old }
+    ensures device { result ≡ 5 → ((R.failures r.new ≡ 1) × (w.new ≡ w.old)) ⊎ ((R.failures r.new ≡ 0) × (W.failures w.new ≡ 1)) }
+    ensures begun { result ≡ 5 → R.failures r.new ≡ 0 → IfSome (R.rest r.old) (λ text. BeginsQuotient (meant rel) lim.now h.now text (W.written w.old) (W.written w.new)) }
 {
     let mut meter = Counter::new();
     match run_min(alloc, r, w, rel, lim, h, &mut meter) {
