@@ -1,5 +1,6 @@
 -- The words of the command line: what `clap` is told of them, and the job of what it found in them.
 use Rattle.std.specs.Prelude.{◌≡◌, ◌≢◌, ⊤, List, [], ◌∷◌, Some, None, codes, true, false, option_map, unwrap_or, string_bytes, Bool, Option}
+use Rattle.clap.specs.Takes.{takes}
 use Rattle.clap.specs.Words.{App, Row, Rule, Text, first_of, new_app, new_rule, one_of, subcommand_of, with_rule, with_subcommand}
 use Rattle.clap.specs.declared.builder.ArgAction.TheVariants.{SetTrue}
 use Rattle.quotient.specs.declared.relation.Relation.{Relation}
@@ -75,6 +76,16 @@ abbrev pub IsFaultIn : Option (Text × List Row) → WordFault → Type 0
 IsFaultIn subcommand (fault.Relation named) = (rows : List Row) × (subcommand ≡ Some (codes "min", rows))
     × NamesNoRelation (relation_in rows) (fault.Relation named)
 IsFaultIn subcommand _ = ⊤
+
+-- the words are taken as those of `min`
+abbrev pub AsksForMin : List Text → Type 0
+AsksForMin words = (takes program_app words ≡ true) × (rows : List Row) × (subcommand_of program_app words ≡ Some (codes "min", rows))
+
+-- a fault where the words are those of a job: an unknown relation, or want of memory
+abbrev pub IsFaultOfAJob : WordFault → Type 0
+IsFaultOfAJob (fault.Relation _) = ⊤
+IsFaultOfAJob fault.Memory = ⊤
+IsFaultOfAJob _ = ⊥
 
 -- the words are those of `min`, and the job is that of what `clap` finds in them
 abbrev pub IsJobOf : List Text → Job → Type 0

@@ -1,8 +1,10 @@
 //! The words of the command line, read by `clap`: which job they ask for, or why they ask for none.
 ghost use Rattle.std.specs.Prelude.{◌≡◌, ℕ, List, map, option_map, string_bytes, codes, IfOk, IfErr, Some, false};
 ghost use Rattle.clap.specs.Words.{app_of, found_of, rows_of, rule_of, subcommand_rows_of, Row};
+ghost use Rattle.clap.specs.Values.{kind_of};
+ghost use Rattle.clap.specs.declared.error.kind.ErrorKind.TheVariants.{OutOfMemory};
 ghost use Rattle.clap.specs.declared.builder.command.Command.TheViews.{out-Command};
-ghost use Rattle.autbis.specs.Words.{HasMatches, IsFaultIn, IsFaultOf, IsJobIn, IsJobOf, NamesNoRelation, file_rule, hide_rule, min_app, program_app, relation_in, relation_rule, stats_rule, word_of};
+ghost use Rattle.autbis.specs.Words.{AsksForMin, HasMatches, IsFaultIn, IsFaultOf, IsFaultOfAJob, IsJobIn, IsJobOf, NamesNoRelation, file_rule, hide_rule, min_app, program_app, relation_in, relation_rule, stats_rule, word_of};
 ghost use Rattle.autbis.specs.declared.words.WordFault.TheVariants.{Memory};
 
 use clap::error::ErrorKind;
@@ -59,10 +61,12 @@ impl<T: Drop> From<AllocFailed<T>> for WordFault {
 ///
 /// # Errors
 /// `Usage` where the words are not those of a job, `Relation` where they are but name an unknown
-/// relation, `Help` where they ask for help, `Memory` where a growth was refused.
+/// relation, `Help` where they ask for help, `Memory` where a growth was refused. Words that `clap` takes as those of `min`
+/// are never answered by `Usage` or `Help`.
 pub fn command(alloc: Global, words: Vec<String>) -> Result<Job, WordFault>
     ensures job { IfOk result (IsJobOf (map string_bytes words.items)) }
     ensures fault { IfErr result (IsFaultOf (map string_bytes words.items)) }
+    ensures asked { AsksForMin (map string_bytes words.items) → IfErr result IsFaultOfAJob }
 {
     let described = described(alloc)?;
     match described.try_get_matches_from(words.as_slice()) {
@@ -141,6 +145,7 @@ fn file_argument<'a>(alloc: Global) -> Arg<'a>
 fn job_of(alloc: Global, matches: &ArgMatches<'_>) -> Result<Job, WordFault>
     ensures job { IfOk result (IsJobIn (subcommand_rows_of matches.now)) }
     ensures fault { IfErr result (IsFaultIn (subcommand_rows_of matches.now)) }
+    ensures asked { (rows : List Row) → subcommand_rows_of matches.now ≡ Some (codes "min", rows) → IfErr result IsFaultOfAJob }
 {
     match matches.subcommand_matches("min") {
         Some(min) => min_of(alloc, min),
@@ -188,7 +193,8 @@ fn owned(alloc: Global, text: Option<&str>) -> Result<Option<String>, AllocError
 
 /// The fault of words that `clap` gave no matches for.
 fn fault_of(alloc: Global, error: &Error) -> WordFault
-    ensures { (words : List (List ℕ)) → IsFaultOf words result }
+    ensures fault { (words : List (List ℕ)) → IsFaultOf words result }
+    ensures memory { kind_of error.now ≡ OutOfMemory → result ≡ Memory }
 {
     if error.kind() == ErrorKind::OutOfMemory {
         return WordFault::Memory;

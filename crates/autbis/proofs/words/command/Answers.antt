@@ -1,8 +1,9 @@
-use Rattle.std.proofs.Common.{rules, ap, ap₂, map, refl, subst, ◌≡◌, ◌∙◌, true}
+use Rattle.std.proofs.Common.{rules, ap, ap₂, map, refl, subst, sym, ◌≡◌, ◌∙◌, true}
+use Rattle.clap.specs.Takes.{takes}
 use Rattle.std.specs.Prelude.{string_bytes}
 use Rattle.std.proofs.lemmas.Result.{IfErr-weaker, IfOk-weaker}
 use Rattle.clap.specs.Words.{is_simple, subcommand_of}
-use Rattle.autbis.specs.Words.{IsFaultIn, IsJobIn, program_app}
+use Rattle.autbis.specs.Words.{IsFaultIn, IsFaultOfAJob, IsJobIn, program_app}
 use Rattle.autbis.proofs.words.command.Goals as goal
 
 pub returns-in-Ok : goal.returns-in-Ok
@@ -14,7 +15,14 @@ returns-in-Ok c =
     record {
       job = IfOk-weaker c.job_of.result _ _ (λ job. subst (λ s. IsJobIn s job) subcommand) c.job_of.ensures.job;
       fault = IfErr-weaker c.job_of.result _ _ (λ fault. subst (λ s. IsFaultIn s fault) subcommand) c.job_of.ensures.fault;
+      asked = λ a. c.job_of.ensures.asked a.1 (subcommand ∙ a.2);
     }
 
 pub returns-clause-fault : goal.returns-clause-fault
-returns-clause-fault c = c.fault_of.ensures (map string_bytes c.args.words.items)
+returns-clause-fault c = c.fault_of.ensures.fault (map string_bytes c.args.words.items)
+
+pub returns-clause-asked : goal.returns-clause-asked
+returns-clause-asked c a =
+    let words_are : c.as_slice.result.now ≡ c.args.words.items = search rules in
+    let taken = ap₂ takes c.in_ok-described.ensures (ap (map string_bytes) words_are) ∙ a.0 in
+    subst IsFaultOfAJob (sym (c.fault_of.ensures.memory (c.in-Err.ensures.passes taken))) (search rules)
