@@ -5,6 +5,7 @@ pub mod Closure
 pub mod Bisimulations
 pub mod StrongLaws
 pub mod BranchingLaws
+pub mod InertSteps
 pub mod RefinementLaws
 pub mod Signatures
 pub mod Refinement

@@ -7,6 +7,7 @@
 mod alike;
 mod examples;
 mod fixpoint;
+mod inert;
 mod laws;
 mod minimal;
 mod quotients;
@@ -22,6 +23,7 @@ pub use fixpoint::{
     bisimilarity_is_an_equivalence, final_blocks_are_bisimilarity, refinement_goes_on,
     related_to_one_state_share, split_exists, turns_exist,
 };
+pub use inert::{inert_steps_lead_on, inert_steps_pass_signatures_back};
 pub use laws::{bisimulations_survive, one_block_is_kept, splitting_keeps, stable_is_bisimulation};
 pub use minimal::{
     each_state_has_a_number, leaders_are_counted, leaders_differ, no_smaller_system,

@@ -1,0 +1,45 @@
+//! Inert steps: where they lead, and what they say of signatures.
+
+ghost use Rattle.std.specs.Prelude.{◌≡◌, ◌⊎◌, ℕ, ◌<◌, Bool, IsTrue, List};
+ghost use Rattle.theory.specs.System.{System, IsSystem, Step, Leads, internal};
+ghost use Rattle.theory.specs.Bisimulation.Relation.{branching};
+ghost use Rattle.theory.specs.Blocks.{Inert, Signature, SameSignature};
+
+/// Inert steps lead from each state to itself, and on by a further step at either end; they stay in one block, and among the
+/// states. What each inert step keeps, every state has that inert steps lead to.
+pub fn inert_steps_lead_on()
+    ensures here { (A : System) (blocks : ℕ → ℕ) (s : ℕ) → Leads (Inert A blocks) s s }
+    ensures step { (A : System) (blocks : ℕ → ℕ) (s t : ℕ) → Inert A blocks s t → Leads (Inert A blocks) s t }
+    ensures before { (A : System) (blocks : ℕ → ℕ) (s t u : ℕ) →
+        Inert A blocks s t → Leads (Inert A blocks) t u → Leads (Inert A blocks) s u }
+    ensures after { (A : System) (blocks : ℕ → ℕ) (s t u : ℕ) →
+        Leads (Inert A blocks) s t → Inert A blocks t u → Leads (Inert A blocks) s u }
+    ensures joined { (A : System) (blocks : ℕ → ℕ) (s t u : ℕ) →
+        Leads (Inert A blocks) s t → Leads (Inert A blocks) t u → Leads (Inert A blocks) s u }
+    ensures begins { (A : System) (blocks : ℕ → ℕ) (s u : ℕ) → Leads (Inert A blocks) s u →
+        (s ≡ u) ⊎ ((t : ℕ) × Inert A blocks s t × Leads (Inert A blocks) t u) }
+
+    // What stays as it is on the way.
+    ensures block { (A : System) (blocks : ℕ → ℕ) (s t : ℕ) → Leads (Inert A blocks) s t → blocks t ≡ blocks s }
+    ensures below { (A : System) (blocks : ℕ → ℕ) (s t : ℕ) → IsSystem A →
+        Leads (Inert A blocks) s t → s < A.states → t < A.states }
+    ensures kept { (A : System) (blocks : ℕ → ℕ) (has : ℕ → Bool) →
+        ((s t : ℕ) → Inert A blocks s t → IsTrue (has s) → IsTrue (has t)) →
+        (s t : ℕ) → Leads (Inert A blocks) s t → IsTrue (has s) → IsTrue (has t) }
+{}
+
+/// The branching signature of a state has the pair of each own step that is not inert and all pairs of each state that an inert
+/// step leads to, and no other pair. States that inert steps lead to from each other have equal signatures.
+pub fn inert_steps_pass_signatures_back()
+    ensures own { (A : System) (blocks : ℕ → ℕ) (s : ℕ) (a : List ℕ) (t : ℕ) → Step A s a t →
+        ¬ ((a ≡ internal) × (blocks t ≡ blocks s)) → Signature branching A blocks s a (blocks t) }
+    ensures step { (A : System) (blocks : ℕ → ℕ) (s t : ℕ) (a : List ℕ) (b : ℕ) → Inert A blocks s t →
+        Signature branching A blocks t a b → Signature branching A blocks s a b }
+    ensures path { (A : System) (blocks : ℕ → ℕ) (s t : ℕ) (a : List ℕ) (b : ℕ) → Leads (Inert A blocks) s t →
+        Signature branching A blocks t a b → Signature branching A blocks s a b }
+    ensures only { (A : System) (blocks : ℕ → ℕ) (s : ℕ) (a : List ℕ) (b : ℕ) → Signature branching A blocks s a b →
+        ((t : ℕ) × Step A s a t × (blocks t ≡ b) × ¬ ((a ≡ internal) × (b ≡ blocks s)))
+        ⊎ ((t : ℕ) × Inert A blocks s t × Signature branching A blocks t a b) }
+    ensures same { (A : System) (blocks : ℕ → ℕ) (s t : ℕ) → Leads (Inert A blocks) s t → Leads (Inert A blocks) t s →
+        SameSignature branching A blocks s t }
+{}
