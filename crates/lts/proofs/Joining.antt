@@ -1,5 +1,5 @@
 -- The union: triples of two systems are put into one list, over one table.
-use Rattle.std.proofs.Common.{◌≡◌, ◌∙◌, ℕ, ◌+◌, ◌-◌, ◌<◌, ◌≤◌, List, [], ◌∷◌, ◌++◌, length, map, take, drop, Contains, Result, Ok, Err, IfOk, OnErr, sym, ap, subst, refl, inl, inr, arith}
+use Rattle.std.proofs.Common.{◌≡◌, ◌∙◌, ℕ, ◌+◌, ◌-◌, ◌<◌, ◌≤◌, List, [], ◌∷◌, ◌++◌, length, map, take, drop, Contains, Result, Ok, Err, IfOk, sym, ap, subst, refl, inl, inr, arith}
 use Rattle.std.specs.List.{All}
 use Rattle.std.specs.List.Sorted.{IsNonDecreasingBy}
 use Rattle.std.proofs.lemmas.Bool.{cases_lt}
@@ -215,10 +215,6 @@ module _ (a b : Grouped) (labels : List (List ℕ)) (es : List Triple) (la : IsL
       IfOk r (λ u. (k : ℕ) → k < length u.labels → IsCarried u k)
   IfOk-union-carried (Ok u) l p = union-carried u l p
   IfOk-union-carried (Err e) l p = tt
-
-pub OnErr-from : {T E P : Type 0} (r : Result T E) → P → OnErr r P
-OnErr-from (Ok x) p = tt
-OnErr-from (Err e) p = p
 
 shifted-zero : (ts : List Transition) → map (shifted 0) ts ≡ ts
 shifted-zero [] = refl

@@ -1,6 +1,6 @@
 -- The label table, as a list of texts: what a look-up says, and what a new label leaves.
-use Rattle.std.proofs.Common.{◌≡◌, ◌≢◌, ◌∙◌, ◌⊎◌, ℕ, zero, suc, ◌+◌, ◌<◌, ◌≤◌, Bool, true, false, cond, not, ltb, List, [], ◌∷◌, ◌++◌, length, map, get_or, Option, Some, None, Contains, sym, ap, subst, refl, inl, inr, arith}
-use Rattle.std.specs.List.{list_any, slice_get, position, position_or_len, prefix_len, All}
+use Rattle.std.proofs.Common.{◌≡◌, ◌≢◌, ◌∙◌, ℕ, zero, suc, ◌+◌, ◌<◌, ◌≤◌, Bool, true, false, cond, not, ltb, List, [], ◌∷◌, ◌++◌, length, map, get_or, Option, Some, None, Contains, sym, ap, subst, refl, inl, inr, arith}
+use Rattle.std.specs.List.{list_any, slice_get, position, position_or_len, prefix_len}
 use Rattle.std.specs.Str.{bytes_eq}
 use Rattle.std.proofs.lemmas.Bool.{both_ways, or_left, or_right, cases_lt}
 use Rattle.std.proofs.lemmas.Slice.Eq.{bytes_eq-Decides}
@@ -8,7 +8,7 @@ use Rattle.std.proofs.lemmas.List.{length-map, length_push, map_push, get_or_pus
 use Rattle.std.proofs.lemmas.List.Elements.{All-push, All-get_or, Contains-get_or}
 use Rattle.std.proofs.lemmas.List.Quantifiers.{position-Some}
 use Rattle.theory.specs.System.{IsLabel}
-use Rattle.lts.specs.Labels.{text_of, IsNumber, IsTable, Interns}
+use Rattle.lts.specs.Labels.{text_of, IsNumber, IsTable}
 
 -- a search in a mapped list is a search by the mapped test
 prefix_len-map : {X Y : Type 0} (p : Y → Bool) (f : X → Y) (xs : List X) → prefix_len p (map f xs) ≡ prefix_len (λ x. p (f x)) xs

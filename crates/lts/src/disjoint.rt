@@ -1,6 +1,6 @@
 //! The disjoint union of two systems.
-ghost use Rattle.std.specs.Prelude.{◌≡◌, ◌↔◌, ℕ, ◌+◌, ◌<◌, ◌≤◌, [], ◌∷◌, length, map, IsTrue, IfOk, OnOk, OnErr};
-ghost use Rattle.lts.specs.Meter.{HasRoom};
+ghost use Rattle.std.specs.Prelude.{◌≡◌, ◌↔◌, ℕ, ◌+◌, ◌<◌, ◌≤◌, [], ◌∷◌, length, map, IsTrue, IfOk, OnOk};
+ghost use Rattle.lts.specs.Meter.{HasRoomFor, Costs, Visits};
 ghost use Rattle.lts.specs.Lts.{source_of, place_at, row_of, transition_of, system_of, IsCarried};
 ghost use Rattle.lts.specs.Union.{union_of, FitTogether, Gathers, Adds};
 
@@ -23,13 +23,10 @@ pub fn fits_together<M: Meter>(a: &Lts<M>, b: &Lts<M>) -> bool
 /// Fails where there is no memory for it.
 pub fn union<M: Meter>(alloc: Global, a: &Lts<M>, b: &Lts<M>, m: &mut M) -> Result<Lts<M>, Memory>
     requires fit { FitTogether a.now b.now }
-    requires room { HasRoom (M.rounds_made m.old) (M.visits_made m.old) 0 (length a.now.places + length b.now.places) }
+    requires room { HasRoomFor (M.counted m.old) 0 (length a.now.places + length b.now.places) }
     ensures system { IfOk result (λ u. system_of u ≡ union_of (system_of a.now) (system_of b.now)) }
     ensures labels { IfOk result (λ u. (k : ℕ) → k < length u.labels → IsCarried u k) }
-    ensures rounds { M.rounds_made m.new ≡ M.rounds_made m.old }
-    ensures visits { OnOk result (M.visits_made m.new ≡ M.visits_made m.old + (length a.now.places + length b.now.places)) }
-    ensures err { OnErr result (M.visits_made m.new ≤ M.visits_made m.old + (length a.now.places + length b.now.places)) }
-    ensures never_fewer { M.visits_made m.old ≤ M.visits_made m.new }
+    ensures visits { let n = length a.now.places + length b.now.places in Visits M.counted m.old m.new result n n }
 {
     let mut labels = Labels::new(alloc);
     let mut e = Vec::with_capacity(alloc, (a.edges() + b.edges()) as usize)?;
@@ -49,13 +46,10 @@ fn append<M: Meter>(
     requires few_states { shift + s.now.states ≤ 2000000 }
     requires few { length e.old.items + length s.now.places ≤ 20000000 }
     requires gathered { Gathers labels.old shift e.old.items }
-    requires room { HasRoom (M.rounds_made m.old) (M.visits_made m.old) 0 (length s.now.places) }
+    requires room { HasRoomFor (M.counted m.old) 0 (length s.now.places) }
     ensures gathered { OnOk result (Gathers labels.new (shift + s.now.states) e.new.items) }
     ensures added { OnOk result (Adds shift (system_of s.now).transitions labels.old e.old.items labels.new e.new.items) }
-    ensures rounds { M.rounds_made m.new ≡ M.rounds_made m.old }
-    ensures visits { OnOk result (M.visits_made m.new ≡ M.visits_made m.old + length s.now.places) }
-    ensures err { OnErr result (M.visits_made m.new ≤ M.visits_made m.old + length s.now.places) }
-    ensures never_fewer { M.visits_made m.old ≤ M.visits_made m.new }
+    ensures visits { let n = length s.now.places in Visits M.counted m.old m.new result n n }
 {
     for state in 0..s.states() {
         append_row(s, state, shift, labels, e, m)?;
@@ -76,13 +70,10 @@ fn append_row<M: Meter>(
     requires few_states { shift + s.now.states ≤ 2000000 }
     requires few { length e.old.items + length (row_of state s.now.places) ≤ 20000000 }
     requires gathered { Gathers labels.old (shift + s.now.states) e.old.items }
-    requires room { HasRoom (M.rounds_made m.old) (M.visits_made m.old) 0 (length (row_of state s.now.places)) }
+    requires room { HasRoomFor (M.counted m.old) 0 (length (row_of state s.now.places)) }
     ensures gathered { OnOk result (Gathers labels.new (shift + s.now.states) e.new.items) }
     ensures added { OnOk result (Adds shift (map (transition_of s.now.labels) (row_of state s.now.places)) labels.old e.old.items labels.new e.new.items) }
-    ensures rounds { M.rounds_made m.new ≡ M.rounds_made m.old }
-    ensures visits { OnOk result (M.visits_made m.new ≡ M.visits_made m.old + length (row_of state s.now.places)) }
-    ensures err { OnErr result (M.visits_made m.new ≤ M.visits_made m.old + length (row_of state s.now.places)) }
-    ensures never_fewer { M.visits_made m.old ≤ M.visits_made m.new }
+    ensures visits { let n = length (row_of state s.now.places) in Visits M.counted m.old m.new result n n }
 {
     let (start, end) = s.row(state);
     for k in start..end {
@@ -106,11 +97,10 @@ fn append_place<M: Meter>(
     requires few_states { shift + s.now.states ≤ 2000000 }
     requires few { length e.old.items < 20000000 }
     requires gathered { Gathers labels.old (shift + s.now.states) e.old.items }
-    requires room { HasRoom (M.rounds_made m.old) (M.visits_made m.old) 0 1 }
+    requires room { HasRoomFor (M.counted m.old) 0 1 }
     ensures gathered { OnOk result (Gathers labels.new (shift + s.now.states) e.new.items) }
     ensures added { OnOk result (Adds shift (transition_of s.now.labels (place_at s.now.places k) ∷ []) labels.old e.old.items labels.new e.new.items) }
-    ensures rounds { M.rounds_made m.new ≡ M.rounds_made m.old }
-    ensures visits { M.visits_made m.new ≡ M.visits_made m.old + 1 }
+    ensures visit { Costs (M.counted m.old) (M.counted m.new) 0 1 1 }
 {
     // Its contract tells what holds of every system.
     let _ = s.edges();

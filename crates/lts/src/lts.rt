@@ -1,6 +1,6 @@
 //! A system in memory. Its transitions stand in places, grouped by source; each one that is read is counted by a meter.
 ghost use Rattle.std.specs.Prelude.{◌≡◌, ◌↔◌, ℕ, ◌+◌, ◌<◌, length, IsTrue, IfOk};
-ghost use Rattle.lts.specs.Meter.{HasRoom};
+ghost use Rattle.lts.specs.Meter.{HasRoomFor, Costs};
 ghost use Rattle.lts.specs.Lts.{label_of, target_of, place_at, system_from, system_of, grouped, IsGrouping, Groups, InRange, IsLts, IsRow};
 
 use crate::grouping::group;
@@ -122,11 +122,10 @@ impl<M: Meter> Lts<M> {
     /// The label number and the target of the transition in place `k`. It counts one visit.
     pub fn edge(&self, k: u32, m: &mut M) -> (u32, u32)
         requires place { k < length self.now.places }
-        requires room { HasRoom (M.rounds_made m.old) (M.visits_made m.old) 0 1 }
+        requires room { HasRoomFor (M.counted m.old) 0 1 }
         ensures label { result.0 ≡ label_of (place_at self.now.places k) }
         ensures target { result.1 ≡ target_of (place_at self.now.places k) }
-        ensures visits { M.visits_made m.new ≡ M.visits_made m.old + 1 }
-        ensures rounds { M.rounds_made m.new ≡ M.rounds_made m.old }
+        ensures visit { Costs (M.counted m.old) (M.counted m.new) 0 1 1 }
     {
         m.visit();
         self.pairs[k as usize]

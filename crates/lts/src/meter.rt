@@ -1,43 +1,39 @@
 //! The meter: it counts the rounds of a refinement and the visits of transitions.
-ghost use Rattle.std.specs.Prelude.{◌≡◌, ◌↔◌, ℕ, ◌+◌, IsTrue};
-ghost use Rattle.lts.specs.Meter.{Counts, HasRoom};
+ghost use Rattle.std.specs.Prelude.{◌≡◌, ◌↔◌, IsTrue};
+ghost use Rattle.lts.specs.Meter.{Counts, IsFresh, HasRoomFor, Costs};
 
 use std::marker::Model;
 
 /// Two counts, of rounds and of visits. No call makes a meter, and none lowers a count, so code that is generic in its
 /// meter can neither count on another one nor set this one back.
 pub trait Meter: Drop {
-    ghost rounds_made: { Self → ℕ };
-
-    ghost visits_made: { Self → ℕ };
+    ghost counted: { Self → Counts };
 
     /// How many rounds were made.
     fn rounds(&self) -> u128
-        ensures { result ≡ rounds_made self.now };
+        ensures { result ≡ (counted self.now).rounds };
 
     /// How many transitions were visited.
     fn visits(&self) -> u128
-        ensures { result ≡ visits_made self.now };
+        ensures { result ≡ (counted self.now).visits };
 
     /// Counts one round more.
     fn start_round(&mut self)
-        requires { HasRoom (rounds_made self.old) (visits_made self.old) 1 0 }
-        ensures rounds { rounds_made self.new ≡ rounds_made self.old + 1 }
-        ensures visits { visits_made self.new ≡ visits_made self.old };
+        requires { HasRoomFor (counted self.old) 1 0 }
+        ensures { Costs (counted self.old) (counted self.new) 1 0 0 };
 
     /// Counts one visit more. `Lts::edge` calls it, for each transition that it gives.
     fn visit(&mut self)
-        requires { HasRoom (rounds_made self.old) (visits_made self.old) 0 1 }
-        ensures rounds { rounds_made self.new ≡ rounds_made self.old }
-        ensures visits { visits_made self.new ≡ visits_made self.old + 1 };
+        requires { HasRoomFor (counted self.old) 0 1 }
+        ensures { Costs (counted self.old) (counted self.new) 0 1 1 };
 
     /// Whether nothing was counted yet.
     fn is_fresh(&self) -> bool
-        ensures { IsTrue result ↔ ((rounds_made self.now ≡ 0) × (visits_made self.now ≡ 0)) };
+        ensures { IsTrue result ↔ IsFresh (counted self.now) };
 
     /// Whether so many more rounds and visits can be counted.
     fn has_room(&self, rounds: u128, visits: u128) -> bool
-        ensures { IsTrue result ↔ HasRoom (rounds_made self.now) (visits_made self.now) rounds visits };
+        ensures { IsTrue result ↔ HasRoomFor (counted self.now) rounds visits };
 }
 
 /// The meter of this crate.
@@ -56,7 +52,7 @@ impl Model for Counter {
 impl Counter {
     /// A fresh meter: nothing was counted yet.
     pub fn new() -> Counter
-        ensures { result ≡ record { rounds = 0; visits = 0 } }
+        ensures { IsFresh result }
     {
         Counter {
             rounds: 0,
@@ -66,9 +62,7 @@ impl Counter {
 }
 
 impl Meter for Counter {
-    ghost rounds_made = { λ c. c.rounds };
-
-    ghost visits_made = { λ c. c.visits };
+    ghost counted = { λ c. c };
 
     fn rounds(&self) -> u128 {
         self.rounds

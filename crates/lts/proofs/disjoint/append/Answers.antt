@@ -1,11 +1,10 @@
-use Rattle.std.proofs.Common.{◌≡◌, ◌∙◌, ◌+◌, ◌<◌, ◌≤◌, length, map, take, ap, subst, sym, refl, arith}
+use Rattle.std.proofs.Common.{◌≡◌, ◌∙◌, ◌+◌, ◌<◌, ◌≤◌, length, map, take, ap, subst, sym, arith, rules}
 use Rattle.std.proofs.lemmas.List.{take_all}
 use Rattle.std.proofs.lemmas.List.Elements.{All-weaker}
-use Rattle.std.proofs.lemmas.Result.{on_err_weaker}
 use Rattle.lts.specs.Lts.{source_of, row_of, before, transition_of, IsTriple}
 use Rattle.lts.specs.Union.{Adds}
 use Rattle.lts.proofs.Rows.{before-next, before-zero, before-all, before-le}
-use Rattle.lts.proofs.Joining.{Gathers-weaker, Adds-nil, Adds-row, length-Adds, length-taken, row-fits, OnErr-from}
+use Rattle.lts.proofs.Joining.{Gathers-weaker, Adds-nil, Adds-row, length-Adds, length-taken, row-fits}
 use Rattle.lts.proofs.disjoint.append.Given.{Over}
 use Rattle.lts.proofs.disjoint.append.Goals as goal
 
@@ -17,8 +16,7 @@ loop-state-init g c =
       added =
           subst (λ n. Adds c.args.shift (map (transition_of c.args.s.now.labels) (take n c.args.s.now.places)) c.args.labels.now c.args.e.now.items c.args.labels.now c.args.e.now.items)
           (sym none) (Adds-nil c.args.shift c.args.labels.now c.args.e.now.items);
-      rounds = refl;
-      visits = omega arith;
+      visits = search rules;
     }
 
 pub append_row-requires-clause-few : goal.append_row-requires-clause-few
@@ -32,19 +30,10 @@ append_row-requires-clause-few g c =
     few
 
 pub append_row-requires-clause-room : goal.append_row-requires-clause-room
-append_row-requires-clause-room g c =
-    let fits = row-fits c.loop-state.state c.args.s.now.places in
-    record {
-      for_rounds = omega (arith, c.loop-state.invariant.rounds, c.requires.room.for_rounds);
-      for_visits = omega (arith, c.loop-state.invariant.visits, c.requires.room.for_visits);
-    }
+append_row-requires-clause-room g c = let fits = row-fits c.loop-state.state c.args.s.now.places in search rules
 
-pub returns-in_err-append_row-clause-err : goal.returns-in_err-append_row-clause-err
-returns-in_err-append_row-clause-err g c =
-    let fits = row-fits c.loop-state.state c.args.s.now.places in
-    let most : g.M.Meter.visits_made c.append_row.new.m ≤ g.M.Meter.visits_made c.args.m.now + length c.args.s.now.places =
-    omega (arith, c.loop-state.invariant.visits, c.in_err-append_row.ensures.err) in
-    OnErr-from c.from_residual.result most
+pub returns-in_err-append_row-clause-visits : goal.returns-in_err-append_row-clause-visits
+returns-in_err-append_row-clause-visits g c = let fits = row-fits c.loop-state.state c.args.s.now.places in search rules
 
 pub loop-state-preserved : goal.loop-state-preserved
 loop-state-preserved g c =
@@ -55,8 +44,7 @@ loop-state-preserved g c =
           Adds-row c.args.shift c.args.s.now.labels c.args.s.now.places c.loop-state.state
           c.args.labels.now c.loop-state.labels c.append_row.new.labels c.args.e.now.items c.loop-state.e.items c.append_row.new.e.items
           c.states-state-end.ensures.lts.rising c.loop-state.invariant.added c.in_ok-append_row.ensures.added;
-      rounds = c.append_row.ensures.rounds ∙ c.loop-state.invariant.rounds;
-      visits = omega (arith, c.in_ok-append_row.ensures.visits, c.loop-state.invariant.visits);
+      visits = search rules;
     }
 
 -- at the last state, all places are before it
@@ -75,4 +63,4 @@ returns-clause-added g c =
     (ap (λ n. take n s.places) (all g c) ∙ take_all (length s.places) s.places (omega arith)) c.loop-state.invariant.added
 
 pub returns-clause-visits : goal.returns-clause-visits
-returns-clause-visits g c = let e = all g c in omega (arith, c.loop-state.invariant.visits)
+returns-clause-visits g c = let e = all g c in search rules

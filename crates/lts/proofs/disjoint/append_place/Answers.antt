@@ -1,7 +1,6 @@
-use Rattle.std.proofs.Common.{◌≡◌, ◌∙◌, ◌+◌, ◌++◌, [], ◌∷◌, ap, subst, sym, arith}
+use Rattle.std.proofs.Common.{◌∙◌, ◌+◌, ap, arith}
 use Rattle.lts.specs.Labels.{text_of}
 use Rattle.lts.specs.Lts.{transition_of, place_at}
-use Rattle.lts.specs.Union.{shifted, Gathers, Adds}
 use Rattle.lts.proofs.Joining.{Gathers-push, Adds-push, transition-same}
 use Rattle.lts.proofs.disjoint.append_place.Goals as goal
 

@@ -1,4 +1,4 @@
-use Rattle.std.proofs.Common.{◌≡◌, ◌∙◌, ◌+◌, ◌-◌, arith}
+use Rattle.std.proofs.Common.{arith, rules}
 use Rattle.lts.proofs.Joining.{Adds-place}
 use Rattle.lts.proofs.disjoint.append_row.Goals as goal
 
@@ -11,6 +11,5 @@ loop-k-preserved g c =
           Adds-place c.args.shift c.args.s.now.labels c.args.s.now.places c.args.state c.row-start.result.0 c.row-start.result.1 c.loop-k.k
           c.args.labels.now c.loop-k.labels c.append_place.new.labels c.args.e.now.items c.loop-k.e.items c.append_place.new.e.items
           c.row-start.ensures (omega arith) (omega arith) c.loop-k.invariant.added c.in_ok-append_place.ensures.added;
-      rounds = c.append_place.ensures.rounds ∙ c.loop-k.invariant.rounds;
-      visits = omega (arith, c.append_place.ensures.visits, c.loop-k.invariant.visits);
+      visits = search rules;
     }

@@ -1,4 +1,4 @@
-use Rattle.std.proofs.Common.{map, sym, ◌∙◌}
+use Rattle.std.proofs.Common.{sym, ◌∙◌}
 use Rattle.std.specs.Str.{bytes_eq}
 use Rattle.lts.proofs.Table.{position-map, list_any-map, absent, IsNumber-position}
 use Rattle.lts.proofs.labels.Labels.find.Goals as goal

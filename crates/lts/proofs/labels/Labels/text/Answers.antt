@@ -1,5 +1,3 @@
-use Rattle.std.proofs.Common.{subst, sym}
-use Rattle.theory.specs.System.{IsLabel}
 use Rattle.lts.proofs.Table.{IsLabel-slice_get}
 use Rattle.lts.proofs.labels.Labels.text.Goals as goal
 

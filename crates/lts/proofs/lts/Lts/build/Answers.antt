@@ -1,5 +1,5 @@
-use Rattle.std.proofs.Common.{◌≡◌, ◌∙◌, map, ap, subst, sym}
-use Rattle.lts.specs.Lts.{grouped, IsGrouping, InRange}
+use Rattle.std.proofs.Common.{◌∙◌, map, ap, subst, sym}
+use Rattle.lts.specs.Lts.{grouped, IsGrouping}
 use Rattle.lts.specs.Rows.{pair_of, row_ends}
 use Rattle.lts.proofs.Kept.{kept-places, kept-grouping, kept-groups, IsKept-grouped}
 use Rattle.lts.proofs.lts.Lts.build.Goals as goal
