@@ -102,8 +102,7 @@ fn append_place<M: Meter>(
     ensures added { OnOk result (Adds shift (transition_of s.now.labels (place_at s.now.places k) ∷ []) labels.old e.old.items labels.new e.new.items) }
     ensures visit { Costs (M.counted m.old) (M.counted m.new) 0 1 1 }
 {
-    // Its contract tells what holds of every system.
-    let _ = s.edges();
+    s.known();
     let (label, target) = s.edge(k, m);
     let number = labels.intern(s.labels().text(label))?;
     e.push((shift + state, number, shift + target))?;

@@ -67,8 +67,7 @@ impl<M: Meter> Lts<M> {
         ensures grouping { IfOk result (λ s. IsGrouping e.items s.places) }
         ensures system { IfOk result (λ s. Groups (system_from first states l e.items) (system_of s)) }
     {
-        // Its contract tells what holds of every table.
-        let _ = l.len();
+        l.known();
         let (ends, pairs) = group(alloc, states, &e)?;
         Ok(Lts {
             labels: l,
@@ -78,6 +77,13 @@ impl<M: Meter> Lts<M> {
             pairs,
             meter: PhantomData,
         })
+    }
+
+    /// Does nothing when it runs: its contract says what holds of every system.
+    pub fn known(&self)
+        ensures { IsLts self.now }
+    {
+        let _ = &self.ends;
     }
 
     /// How many states there are: 1 to 2,000,000.

@@ -6,7 +6,7 @@ use Rattle.lts.proofs.disjoint.append_place.Goals as goal
 
 pub returns-clause-gathered : goal.returns-clause-gathered
 returns-clause-gathered g c =
-    let is = c.edges.ensures.lts.in_range.each c.args.k (0, 0, 0) c.requires.place in
+    let is = c.known.ensures.in_range.each c.args.k (0, 0, 0) c.requires.place in
     let low = is.source in
     let high = is.target in
     rw c.in_ok-push.ensures.items (Gathers-push c.args.labels.now c.intern.new.self (c.args.shift + c.args.s.now.states) c.args.e.now.items

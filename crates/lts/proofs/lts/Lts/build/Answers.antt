@@ -9,7 +9,7 @@ invariant_of-result g c =
     IsKept-grouped c.args.l c.args.first c.args.states c.args.e.items c.in_ok-ends.ends.items c.in_ok-ends.pairs.items c.requires
     (c.in_ok-ends.ensures.ends ∙ ap (row_ends c.args.states) c.deref.ensures.value)
     (c.in_ok-ends.ensures.pairs ∙ ap (λ es. map pair_of (grouped c.args.states es)) c.deref.ensures.value)
-    c.len.ensures.table
+    c.known.ensures
 
 pub returns-clause-places : goal.returns-clause-places
 returns-clause-places g c =
