@@ -23,3 +23,7 @@ pub mod QuotientStates
 pub mod Smallest
 pub mod AlikeSystems
 pub mod AlikeQuotients
+pub mod Embeddings
+pub mod UnionSteps
+pub mod AlikeUnions
+pub mod Comparing

@@ -4,3 +4,4 @@ pub mod Blocks
 pub mod Quotient
 pub mod Examples
 pub mod Alike
+pub mod Union

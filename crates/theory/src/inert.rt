@@ -5,8 +5,8 @@ ghost use Rattle.theory.specs.System.{System, IsSystem, Step, Leads, internal};
 ghost use Rattle.theory.specs.Bisimulation.Relation.{branching};
 ghost use Rattle.theory.specs.Blocks.{Inert, Signature, SameSignature};
 
-/// Inert steps lead from each state to itself, and on by a further step at either end; they stay in one block, and among the
-/// states. What each inert step keeps, every state has that inert steps lead to.
+/// A path of inert steps may be empty, and may be extended at either end. It stays in one block and among the states. A
+/// property that each inert step keeps holds at the end of each path that begins with it.
 pub fn inert_steps_lead_on()
     ensures here { (A : System) (blocks : ℕ → ℕ) (s : ℕ) → Leads (Inert A blocks) s s }
     ensures step { (A : System) (blocks : ℕ → ℕ) (s t : ℕ) → Inert A blocks s t → Leads (Inert A blocks) s t }
@@ -28,8 +28,8 @@ pub fn inert_steps_lead_on()
         (s t : ℕ) → Leads (Inert A blocks) s t → IsTrue (has s) → IsTrue (has t) }
 {}
 
-/// The branching signature of a state has the pair of each own step that is not inert and all pairs of each state that an inert
-/// step leads to, and no other pair. States that inert steps lead to from each other have equal signatures.
+/// The branching signature of a state has the pair of each own step that is not inert, all pairs of each state that an
+/// inert step leads to, and no other pair. States that reach each other by inert steps have equal signatures.
 pub fn inert_steps_pass_signatures_back()
     ensures own { (A : System) (blocks : ℕ → ℕ) (s : ℕ) (a : List ℕ) (t : ℕ) → Step A s a t →
         ¬ ((a ≡ internal) × (blocks t ≡ blocks s)) → Signature branching A blocks s a (blocks t) }

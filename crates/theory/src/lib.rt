@@ -4,6 +4,7 @@
 //! definitions alone, proved for every system and every partition of its states into blocks.
 #![tactic(auto)]
 
+mod across;
 mod alike;
 mod examples;
 mod fixpoint;
@@ -12,7 +13,9 @@ mod laws;
 mod minimal;
 mod quotients;
 mod rounds;
+mod unions;
 
+pub use across::{bisimilarity_goes_across, systems_are_compared};
 pub use alike::the_order_does_not_matter;
 pub use examples::{
     a_lost_option, a_silent_choice, a_silent_cycle, a_silent_loop, a_silent_step_in_the_middle,
@@ -42,4 +45,8 @@ pub use rounds::{
     old_blocks_count, rounds_of_chain_of_three, rounds_of_lone_state, rounds_of_not_committed,
     rounds_of_option_behind, rounds_of_silent_beside, rounds_of_silent_chain,
     rounds_of_silent_cycle, rounds_of_silent_detour, rounds_of_two_equal_targets,
+};
+pub use unions::{
+    the_order_does_not_matter_side_by_side, the_union_decides_equivalence, the_union_is_a_system,
+    the_union_keeps_bisimilarity,
 };

@@ -1,0 +1,22 @@
+//! Bisimilarity of states of different systems: two comparisons that hold give a third.
+
+ghost use Rattle.std.specs.Prelude.{ℕ, ◌<◌};
+ghost use Rattle.theory.specs.System.{System, IsSystem};
+ghost use Rattle.theory.specs.Bisimulation.{Relation, Bisimilar, Equivalent};
+
+/// Bisimilarity of either relation is symmetric and transitive across systems. It relates states only.
+pub fn bisimilarity_goes_across()
+    ensures states { (rel : Relation) (A B : System) (s t : ℕ) → Bisimilar rel A s B t →
+        (s < A.states) × (t < B.states) }
+    ensures symmetric { (rel : Relation) (A B : System) (s t : ℕ) → Bisimilar rel A s B t → Bisimilar rel B t A s }
+    ensures transitive { (rel : Relation) (A B C : System) (s t u : ℕ) → IsSystem A → IsSystem C →
+        Bisimilar rel A s B t → Bisimilar rel B t C u → Bisimilar rel A s C u }
+{}
+
+/// Equivalence of systems, by either relation, is reflexive, symmetric and transitive.
+pub fn systems_are_compared()
+    ensures reflexive { (rel : Relation) (A : System) → IsSystem A → Equivalent rel A A }
+    ensures symmetric { (rel : Relation) (A B : System) → Equivalent rel A B → Equivalent rel B A }
+    ensures transitive { (rel : Relation) (A B C : System) → IsSystem A → IsSystem C →
+        Equivalent rel A B → Equivalent rel B C → Equivalent rel A C }
+{}
