@@ -1,15 +1,9 @@
 -- Which states lead to which by a decidable relation: decided by the greatest state passed on the way (Warshall 1962).
-use Rattle.std.proofs.Common.{◌≡◌, ◌⊎◌, ℕ, zero, suc, ◌<◌, List, [], ◌∷◌, ◌++◌, refl, sym, subst, inl, inr, arith}
+use Rattle.std.proofs.Common.{◌≡◌, ◌⊎◌, ℕ, zero, suc, ◌<◌, List, [], ◌∷◌, refl, subst, inl, inr, arith}
 use Rattle.std.proofs.lemmas.Bool.{cases_eq}
 use Rattle.theory.specs.System.{Along, Leads}
 use Rattle.theory.proofs.Deciding.{same_number, both, one_of, decided_like}
-
-pub along_joined : (R : ℕ → ℕ → Type 0) (us vs : List ℕ) (s t u : ℕ) → Along R s us t → Along R t vs u → Along R s (us ++ vs) u
-along_joined R [] vs s t u h g = subst (λ x. Along R x vs u) (sym h) g
-along_joined R (v ∷ us) vs s t u h g = (h.0, along_joined R us vs v t u h.1 g)
-
-pub leads_joined : (R : ℕ → ℕ → Type 0) (s t u : ℕ) → Leads R s t → Leads R t u → Leads R s u
-leads_joined R s t u h g = (h.0 ++ g.0, along_joined R h.0 g.0 s t u h.1 g.1)
+use Rattle.theory.proofs.Paths.{leads_append}
 
 -- R leads from s to t, and each state between them is below k
 abbrev Via : (ℕ → ℕ → Type 0) → ℕ → ℕ → ℕ → Type 0
@@ -24,7 +18,7 @@ via_leads : (R : ℕ → ℕ → Type 0) (k s t : ℕ) → Via R k s t → Leads
 via_leads R zero s t (inl e) = ([], e)
 via_leads R zero s t (inr r) = (t ∷ [], (r, refl))
 via_leads R (suc k) s t (inl h) = via_leads R k s t h
-via_leads R (suc k) s t (inr h) = leads_joined R s k t (via_leads R k s k h.0) (via_leads R k k t h.1)
+via_leads R (suc k) s t (inr h) = leads_append R s k t (via_leads R k s k h.0) (via_leads R k k t h.1)
 
 via_from : (R : ℕ → ℕ → Type 0) (k s t : ℕ) → (s ≡ t) ⊎ R s t → Via R k s t
 via_from R zero s t h = h

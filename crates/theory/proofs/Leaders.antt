@@ -1,5 +1,5 @@
 -- The leader of each reachable state: there is one, it is decided, and it tells the classes apart.
-use Rattle.std.proofs.Common.{◌≡◌, ℕ, ◌<◌, ◌≤◌, refl, sym, subst, inl, inr}
+use Rattle.std.proofs.Common.{◌≡◌, ℕ, ◌<◌, ◌≤◌, refl, sym, ◌∙◌, subst, inl, inr, le_antisymm}
 use Rattle.std.proofs.lemmas.Bool.{cases_lt}
 use Rattle.theory.specs.System.{System, IsSystem, Step, AnyStep, Reachable}
 use Rattle.theory.specs.Bisimulation.{Relation, Bisimilar}
@@ -8,7 +8,6 @@ use Rattle.theory.proofs.Deciding.{same_number, both, decided_like, some_in, lea
 use Rattle.theory.proofs.Paths.{leads_here, step_below, reachable_below}
 use Rattle.theory.proofs.Closure.{leads_decided}
 use Rattle.theory.proofs.Turning.{bisimilar_refl, bisimilar_sym, bisimilar_trans, bisimilar_decided}
-use Rattle.theory.proofs.Testing.Leading.{leader_unique}
 
 -- whether a step leads from s to t is decided
 any_step_decided : (A : System) (s t : ℕ) → Dec (AnyStep A s t)
@@ -17,6 +16,13 @@ any_step_decided A s t =
     (λ h. (h.0.label, subst (λ x. Step A s h.0.label x) h.2.1 (subst (λ x. Step A x h.0.label h.0.target) h.2.0 h.1)))
     (λ h. (record { source = s; label = h.0; target = t }, h.1, (refl, refl)))
     (some_in (λ e. (e.source ≡ s) × (e.target ≡ t)) (λ e. both (same_number e.source s) (same_number e.target t)) A.transitions)
+
+-- a state has one leader
+pub leader_unique : (rel : Relation) (A : System) (s l m : ℕ) → Leader rel A s l → Leader rel A s m → l ≡ m
+leader_unique rel A s l m (inl p) (inl q) = p.1 ∙ sym q.1
+leader_unique rel A s l m (inl p) (inr q) = absurd (q.0 p.0)
+leader_unique rel A s l m (inr p) (inl q) = absurd (p.0 q.0)
+leader_unique rel A s l m (inr p) (inr q) = le_antisymm (p.1.1 m q.1.0) (q.1.1 l p.1.0)
 
 -- the first state is reachable
 pub first_reachable : (A : System) → Reachable A A.first

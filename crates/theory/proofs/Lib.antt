@@ -9,12 +9,13 @@ pub mod InertSteps
 pub mod RefinementLaws
 pub mod Signatures
 pub mod Refinement
+pub mod RisingLists
+pub mod Tally
 pub mod Counting
 pub mod Turning
 pub mod Testing
 pub mod Determined
 pub mod BothRelations
-pub mod Tally
 pub mod Leaders
 pub mod Numbers
 pub mod QuotientLaws

@@ -6,10 +6,8 @@ use Rattle.theory.specs.System.{System, IsSystem, Reachable}
 use Rattle.theory.specs.Bisimulation.{Relation, Bisimilar}
 use Rattle.theory.specs.Quotient.{HowMany, Leader, IsLeader, Number}
 use Rattle.theory.proofs.Deciding.{same_number, not_so, both, decided_like}
-use Rattle.theory.proofs.Testing.Leading.{leader_unique}
-use Rattle.theory.proofs.Testing.Numbering.{how_many_unique}
-use Rattle.theory.proofs.Tally.{how_many_like, one, tally, tally_next, tallied, tally_is, tally_less, tally_reached, tally_without}
-use Rattle.theory.proofs.Leaders.{first_reachable, reachable_decided, first_leads, leader_fellow, leader_carried, same_leader_bisimilar, leads_itself, leader_of, is_leader_itself, is_leader_below, is_leader_decided}
+use Rattle.theory.proofs.Tally.{how_many_like, how_many_unique, one, tally, tally_next, tallied, tally_is, tally_less, tally_reached, tally_one_more}
+use Rattle.theory.proofs.Leaders.{leader_unique, first_reachable, reachable_decided, first_leads, leader_fellow, leader_carried, same_leader_bisimilar, leads_itself, leader_of, is_leader_itself, is_leader_below, is_leader_decided}
 
 -- a leader other than the first state
 abbrev IsOther : Relation → System → ℕ → Type 0
@@ -127,8 +125,8 @@ module _ (rel : Relation) (A : System) (sys : IsSystem A) where
         tally_is (IsLeader rel A) (is_leader_decided rel A sys) A.states c
         (how_many_like (IsLeader rel A) (λ l. IsLeader rel A l × (l < A.states)) c
         (λ l. (λ h. (h, is_leader_below rel A sys l h), λ h. h.0)) many)
-        ∙ tally_without (IsLeader rel A) (IsOther rel A) (is_leader_decided rel A sys) is_other_decided A.first A.states
-        (λ k. (λ h. h, λ h. h)) (A.first, first_reachable A, first_leads rel A sys) sys.first
+        ∙ tally_one_more (IsOther rel A) (IsLeader rel A) is_other_decided (is_leader_decided rel A sys) A.states A.first sys.first
+        (λ h. h.1 refl) (A.first, first_reachable A, first_leads rel A sys) (λ k l other. (λ h. h.0, λ h. (h, other)))
 
     placed_below : (l n : ℕ) → IsLeader rel A l → Placed l n → n < c
     placed_below l n leads (inl p) = omega (arith, p.1, others_counted)

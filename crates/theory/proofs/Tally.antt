@@ -1,42 +1,68 @@
 -- How many numbers a decidable property holds of, and the place of each among them.
-use Rattle.std.proofs.Common.{◌≡◌, ◌≢◌, ◌↔◌, ℕ, zero, suc, ◌+◌, ◌<◌, ◌≤◌, List, [], ◌∷◌, ◌++◌, length, slice_index, Contains, refl, sym, ◌∙◌, ap, subst, subst₂, inl, inr, arith, length-append}
-use Rattle.std.specs.List.Sorted.{IsStrictlyIncreasing}
+use Rattle.std.proofs.Common.{◌≡◌, ◌↔◌, ℕ, zero, suc, ◌+◌, ◌<◌, ◌≤◌, [], ◌∷◌, ◌++◌, Contains, refl, sym, ◌∙◌, ap, subst, inl, inr, arith, length-append}
 use Rattle.std.proofs.lemmas.Bool.{cases_eq}
-use Rattle.std.proofs.lemmas.List.{get_or_append_left}
-use Rattle.std.proofs.Math.Seq.{get_or-append_seam}
-use Rattle.std.proofs.lemmas.List.Elements.{Contains-append_left, Contains-append_right, Contains-append_cases, Contains-get_or}
+use Rattle.std.proofs.lemmas.List.Elements.{Contains-append_left, Contains-append_right, Contains-append_cases}
 use Rattle.theory.specs.Quotient.{HowMany}
 use Rattle.theory.proofs.Deciding.{contains_here, contains_cases, contains_none}
-use Rattle.theory.proofs.Testing.Numbering.{how_many_unique}
-
--- a rising list still rises with a greater number at its end
-rising_on : (xs : List ℕ) (n : ℕ) → IsStrictlyIncreasing xs → ((k : ℕ) → Contains xs k → k < n) → IsStrictlyIncreasing (xs ++ n ∷ [])
-rising_on xs n up low k l = elim (cases_eq (k + 1) (length xs)) [
-  | inl e ↦
-      let before : slice_index xs k < n = low (slice_index xs k) (Contains-get_or xs k 0 (omega (arith, e))) in
-      subst₂ (λ x y. x < y) (sym (get_or_append_left xs (n ∷ []) 0 k (omega (arith, e))))
-      (sym (ap (λ j. slice_index (xs ++ n ∷ []) j) e ∙ get_or-append_seam xs n [] 0)) before
-  | inr d ↦
-      let within : k + 1 < length xs = omega (arith, l, d, length-append xs (n ∷ [])) in
-      subst₂ (λ x y. x < y) (sym (get_or_append_left xs (n ∷ []) 0 k (omega (arith, within))))
-      (sym (get_or_append_left xs (n ∷ []) 0 (k + 1) within)) (up k within)
-]
+use Rattle.theory.proofs.RisingLists.{rising_on, same_length}
 
 -- 1 where P holds
 abbrev pub one : {P : Type 0} → Dec P → ℕ
 one (yes p) = 1
 one (no f) = 0
 
+one_le : {P Q : Type 0} → (P → Q) → (p : Dec P) (q : Dec Q) → one p ≤ one q
+one_le f (yes p) (yes q) = omega arith
+one_le f (yes p) (no g) = absurd (g (f p))
+one_le f (no h) q = omega arith
+
+pub one_yes : {P : Type 0} → P → (p : Dec P) → one p ≡ 1
+one_yes x (yes p) = refl
+one_yes x (no f) = absurd (f x)
+
+pub one_no : {P : Type 0} → ¬ P → (p : Dec P) → one p ≡ 0
+one_no f (yes p) = absurd (f p)
+one_no f (no g) = refl
+
+one_same : {P Q : Type 0} → P ↔ Q → (p : Dec P) (q : Dec Q) → one p ≡ one q
+one_same f (yes p) (yes q) = refl
+one_same f (yes p) (no g) = absurd (g (f.0 p))
+one_same f (no h) (yes q) = absurd (h (f.1 q))
+one_same f (no h) (no g) = refl
+
+one_at_most : {P : Type 0} (p : Dec P) → one p ≤ 1
+one_at_most (yes p) = omega arith
+one_at_most (no f) = omega arith
+
+one_more : {P Q : Type 0} → ¬ P → Q → (p : Dec P) (q : Dec Q) → one p < one q
+one_more f x (yes p) q = absurd (f p)
+one_more f x (no h) (yes q) = omega arith
+one_more f x (no h) (no g) = absurd (g x)
+
 -- what holds of the same numbers holds of as many
 pub how_many_like : (P Q : ℕ → Type 0) (n : ℕ) → ((k : ℕ) → P k ↔ Q k) → HowMany P n → HowMany Q n
 how_many_like P Q n like (xs, up, has, long) =
     (xs, up, λ k. (λ c. (like k).0 ((has k).0 c), λ q. (has k).1 ((like k).1 q)), long)
+
+-- what holds at as many numbers, holds at one count of them
+pub how_many_unique : (P : ℕ → Type 0) (m n : ℕ) → HowMany P m → HowMany P n → m ≡ n
+how_many_unique P m n (xs, up, has_xs, long) (ys, vp, has_ys, tall) =
+    sym long ∙ same_length xs ys up vp
+    (λ k. (λ c. (has_ys k).1 ((has_xs k).0 c), λ c. (has_xs k).1 ((has_ys k).0 c))) ∙ tall
 
 module _ (P : ℕ → Type 0) (d : (k : ℕ) → Dec (P k)) where
   -- how many numbers below n have P
   pub tally : ℕ → ℕ
   tally zero = 0
   tally (suc n) = tally n + one (d n)
+
+  pub tally_zero : tally 0 ≡ 0
+  unfolding tally
+  tally_zero = refl
+
+  pub tally_suc : (n : ℕ) → tally (suc n) ≡ tally n + one (d n)
+  unfolding tally
+  tally_suc n = refl
 
   -- the count up to the next number
   pub tally_next : (n c : ℕ) (p : Dec (P n)) → HowMany (λ k. P k × (k < n)) c → HowMany (λ k. P k × (k < suc n)) (c + one p)
@@ -83,11 +109,7 @@ module _ (P : ℕ → Type 0) (d : (k : ℕ) → Dec (P k)) where
 
   tally_up : (n : ℕ) → P n → tally (suc n) ≡ suc (tally n)
   unfolding tally
-  tally_up n p = go (d n)
-    where
-      go : (x : Dec (P n)) → tally n + one x ≡ suc (tally n)
-      go (yes q) = omega arith
-      go (no f) = absurd (f p)
+  tally_up n p = (let up : one (d n) ≡ 1 = one_yes p (d n) in omega (arith, up))
 
   tally_more : (m n : ℕ) → m ≤ n → tally m ≤ tally n
   unfolding tally
@@ -120,33 +142,67 @@ module _ (P : ℕ → Type 0) (d : (k : ℕ) → Dec (P k)) where
       ]
       go rest (no f) low = further (rest (omega (arith, low)))
 
--- without one number that has P the tally is one less
-pub tally_without : (P Q : ℕ → Type 0) (p : (k : ℕ) → Dec (P k)) (q : (k : ℕ) → Dec (Q k)) (x n : ℕ)
-    → ((k : ℕ) → Q k ↔ (P k × (k ≢ x))) → P x → x < n → tally P p n ≡ suc (tally Q q n)
+pub tally_at_most : (P : ℕ → Type 0) (d : (k : ℕ) → Dec (P k)) (n : ℕ) → tally P d n ≤ n
 unfolding tally
-tally_without P Q p q x zero without h l = absurd (omega (arith, l))
-tally_without P Q p q x (suc n) without h l = elim (cases_eq x n) [
-  | inl e ↦ (
-      let same : tally P p n ≡ tally Q q n = same_to n (λ k m. omega (arith, m, e)) in
-      omega (arith, same, up e (p n) (q n)))
-  | inr e ↦ (
-      let rest : tally P p n ≡ suc (tally Q q n) = tally_without P Q p q x n without h (omega (arith, l, e)) in
-      omega (arith, rest, level (λ f. e (sym f)) (p n) (q n)))
-]
-  where
-    level : {k : ℕ} → k ≢ x → (a : Dec (P k)) (b : Dec (Q k)) → one a ≡ one b
-    level apart (yes a) (yes b) = refl
-    level {k} apart (yes a) (no f) = absurd (f ((without k).1 (a, apart)))
-    level {k} apart (no f) (yes b) = absurd (f ((without k).0 b).0)
-    level apart (no f) (no g) = refl
+tally_at_most P d zero = omega arith
+tally_at_most P d (suc n) = omega (arith, tally_at_most P d n, one_at_most (d n))
 
-    up : x ≡ n → (a : Dec (P n)) (b : Dec (Q n)) → one a ≡ suc (one b)
-    up e a (yes b) = absurd (((without n).0 b).1 (sym e))
-    up e (yes a) (no g) = refl
-    up e (no f) (no g) = absurd (f (subst P e h))
+pub tally_all : (P : ℕ → Type 0) (p : (k : ℕ) → Dec (P k)) (n : ℕ) → ((k : ℕ) → k < n → P k) → tally P p n ≡ n
+unfolding tally
+tally_all P p zero f = refl
+tally_all P p (suc n) f =
+    omega (arith, tally_all P p n (λ k l. f k (omega (arith, l))), one_yes (f n (omega arith)) (p n))
 
-    same_to : (m : ℕ) → ((k : ℕ) → k < m → k ≢ x) → tally P p m ≡ tally Q q m
-    same_to zero apart = refl
-    same_to (suc m) apart =
-        let rest : tally P p m ≡ tally Q q m = same_to m (λ k l. apart k (omega (arith, l))) in
-        omega (arith, rest, level (apart m (omega arith)) (p m) (q m))
+pub tally_none : (P : ℕ → Type 0) (p : (k : ℕ) → Dec (P k)) (n : ℕ) → ((k : ℕ) → k < n → ¬ P k) → tally P p n ≡ 0
+unfolding tally
+tally_none P p zero f = refl
+tally_none P p (suc n) f =
+    omega (arith, tally_none P p n (λ k l. f k (omega (arith, l))), one_no (f n (omega arith)) (p n))
+
+module _ (P Q : ℕ → Type 0) (p : (k : ℕ) → Dec (P k)) (q : (k : ℕ) → Dec (Q k)) where
+  -- what holds where P does holds of as many at least
+  pub tally_le : (n : ℕ) → ((k : ℕ) → k < n → P k → Q k) → tally P p n ≤ tally Q q n
+  unfolding tally
+  tally_le zero f = omega arith
+  tally_le (suc n) f =
+      omega (arith, tally_le n (λ k l. f k (omega (arith, l))), one_le (f n (omega arith)) (p n) (q n))
+
+  -- and of more, if it holds of one more
+  pub tally_greater : (n : ℕ) → ((k : ℕ) → k < n → P k → Q k) → (k : ℕ) → k < n → ¬ P k → Q k → tally P p n < tally Q q n
+  unfolding tally
+  tally_greater zero f k l no_p h = absurd (omega (arith, l))
+  tally_greater (suc n) f k l no_p h = elim (cases_eq k n) [
+    | inl e ↦ omega (arith, tally_le n (λ j m. f j (omega (arith, m))), one_more (subst (λ x. ¬ P x) e no_p) (subst Q e h) (p n) (q n))
+    | inr e ↦ omega (
+      arith,
+      tally_greater n (λ j m. f j (omega (arith, m))) k (omega (arith, l, e)) no_p h,
+      one_le (f n (omega arith)) (p n) (q n),
+    )
+  ]
+
+  -- what holds of the same numbers
+  pub tally_same : (n : ℕ) → ((k : ℕ) → k < n → P k ↔ Q k) → tally P p n ≡ tally Q q n
+  unfolding tally
+  tally_same zero f = refl
+  tally_same (suc n) f =
+      let rest : tally P p n ≡ tally Q q n = tally_same n (λ k l. f k (omega (arith, l))) in
+      let top : one (p n) ≡ one (q n) = one_same (f n (omega arith)) (p n) (q n) in
+      omega (arith, rest, top)
+
+  -- Q holds where P does, and of x besides
+  pub tally_one_more : (n x : ℕ) → x < n → ¬ P x → Q x → ((k : ℕ) → k < n → ¬ (k ≡ x) → P k ↔ Q k)
+      → tally Q q n ≡ suc (tally P p n)
+  unfolding tally
+  tally_one_more zero x l no_p h f = absurd (omega (arith, l))
+  tally_one_more (suc n) x l no_p h f = elim (cases_eq x n) [
+    | inl e ↦
+        let rest : tally P p n ≡ tally Q q n = tally_same n (λ k m. f k (omega (arith, m)) (omega (arith, m, e))) in
+        let without : one (p n) ≡ 0 = one_no (subst (λ y. ¬ P y) e no_p) (p n) in
+        let with : one (q n) ≡ 1 = one_yes (subst Q e h) (q n) in
+        omega (arith, rest, without, with)
+    | inr e ↦
+        let rest : tally Q q n ≡ suc (tally P p n) =
+        tally_one_more n x (omega (arith, l, e)) no_p h (λ k m. f k (omega (arith, m))) in
+        let top : one (p n) ≡ one (q n) = one_same (f n (omega arith) (omega (arith, e))) (p n) (q n) in
+        omega (arith, rest, top)
+  ]

@@ -16,6 +16,7 @@ pub mod Dividing
 pub mod Census
 pub mod Repeating
 pub mod Told
+pub mod Refusing
 pub mod Courses
 
 -- the second test runs only where the first passes

@@ -1,10 +1,11 @@
 -- Classes and leaders of written-out systems, by tests that compute.
-use Rattle.std.proofs.Common.{◌≡◌, ◌≢◌, ◌⊎◌, ◌↔◌, ℕ, ◌<◌, ◌≤◌, Bool, true, not, eqb, ltb, leb, ltb-true, leb-true, List, [], Contains, refl, sym, ◌∙◌, subst, inl, inr, le_antisymm}
+use Rattle.std.proofs.Common.{◌≡◌, ◌≢◌, ◌⊎◌, ◌↔◌, ℕ, ◌<◌, ◌≤◌, Bool, true, not, eqb, ltb, leb, ltb-true, leb-true, List, [], Contains, refl, subst, inl, inr}
 use Rattle.std.proofs.lemmas.Bool.{eqb-true, eq-eqb}
 use Rattle.theory.specs.System.{System, Reachable}
 use Rattle.theory.specs.Bisimulation.{Relation, Bisimilar}
 use Rattle.theory.specs.Blocks.{Share}
 use Rattle.theory.specs.Quotient.{Fellow, Leader, IsLeader}
+use Rattle.theory.proofs.Leaders.{leader_unique}
 use Rattle.theory.proofs.Testing.{and_then, and_then_parts, or_else, or_else_cases, not_passes, every, every_passes, has, has_contains, each_below, each_below_passes}
 use Rattle.theory.proofs.Testing.Reaching.{covers, reachable, reachable_found, reachable_only}
 use Rattle.theory.proofs.Testing.Matching.{is_bisimulation, bisimulation_passes, has_pair, has_pair_contains, differ, not_bisimilar}
@@ -60,13 +61,6 @@ classes_pass rel A block pairs k h s t = (there, back)
 
     back : Share A block s t → Bisimilar rel A s A t
     back (ls, lt, e) = elim (cases ls lt) [ inl p ↦ p.1 | inr p ↦ absurd (p.0 e) ]
-
--- a state has one leader
-pub leader_unique : (rel : Relation) (A : System) (s l m : ℕ) → Leader rel A s l → Leader rel A s m → l ≡ m
-leader_unique rel A s l m (inl p) (inl q) = p.1 ∙ sym q.1
-leader_unique rel A s l m (inl p) (inr q) = absurd (q.0 p.0)
-leader_unique rel A s l m (inr p) (inl q) = absurd (p.0 q.0)
-leader_unique rel A s l m (inr p) (inr q) = le_antisymm (p.1.1 m q.1.0) (q.1.1 l p.1.0)
 
 -- l leads s, by the blocks
 abbrev pub leads : System → (ℕ → ℕ) → ℕ → ℕ → Bool

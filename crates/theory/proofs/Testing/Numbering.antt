@@ -7,14 +7,10 @@ use Rattle.theory.specs.Bisimulation.{Relation, Bisimilar}
 use Rattle.theory.specs.Blocks.{Share}
 use Rattle.theory.specs.Quotient.{HowMany, IsLeader, Number}
 use Rattle.theory.proofs.Testing.{and_then, and_then_parts, and_then_from, not_passes}
-use Rattle.theory.proofs.Testing.Rising.{rises, rises_passes, same_length, filter_has, filter_keeps}
-use Rattle.theory.proofs.Testing.Leading.{are_leaders, leader_unique, leader_is, leader_listed, listed_leads}
-
--- what holds at as many numbers, holds at one count of them
-pub how_many_unique : (P : ℕ → Type 0) (m n : ℕ) → HowMany P m → HowMany P n → m ≡ n
-how_many_unique P m n (xs, up, has_xs, long) (ys, vp, has_ys, tall) =
-    sym long ∙ same_length xs ys up vp
-    (λ k. (λ c. (has_ys k).1 ((has_xs k).0 c), λ c. (has_xs k).1 ((has_ys k).0 c))) ∙ tall
+use Rattle.theory.proofs.Tally.{how_many_unique}
+use Rattle.theory.proofs.Leaders.{leader_unique}
+use Rattle.theory.proofs.Testing.Rising.{rises, rises_passes, filter_has, filter_keeps}
+use Rattle.theory.proofs.Testing.Leading.{are_leaders, leader_is, leader_listed, listed_leads}
 
 -- the leaders below l other than the first state
 abbrev pub is_before : System → ℕ → ℕ → Bool

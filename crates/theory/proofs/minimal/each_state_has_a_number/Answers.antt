@@ -1,6 +1,5 @@
-use Rattle.theory.proofs.Leaders.{leader_of}
+use Rattle.theory.proofs.Leaders.{leader_of, leader_unique}
 use Rattle.theory.proofs.Numbers.{number_of, number_once}
-use Rattle.theory.proofs.Testing.Leading.{leader_unique}
 use Rattle.theory.proofs.minimal.each_state_has_a_number.Goals as goal
 
 pub returns-clause-leader : goal.returns-clause-leader

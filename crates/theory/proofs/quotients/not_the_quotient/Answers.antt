@@ -4,7 +4,7 @@ use Rattle.theory.specs.Bisimulation.Relation.{strong, branching}
 use Rattle.theory.specs.System.{internal}
 use Rattle.theory.specs.Examples.{a, edge, silent_cycle, silent_cycle_branching_quotient, silent_cycle_strong_quotient, silent_loop, silent_loop_branching_quotient, silent_loop_strong_quotient, first_leads, first_leads_quotient, first_leads_by_size}
 use Rattle.theory.proofs.Testing.Census.{is_quotient}
-use Rattle.theory.proofs.Determined.{not_by_states, not_by_transition}
+use Rattle.theory.proofs.Testing.Refusing.{not_by_states, not_by_transition}
 use Rattle.theory.proofs.Testing.Told.{silent_cycle_branching, silent_loop_branching, first_leads_strong}
 use Rattle.theory.proofs.quotients.not_the_quotient.Goals as goal
 
