@@ -1,5 +1,5 @@
 #!/usr/bin/env python3
-"""Writes the example systems of this folder, each as NAME.aut. Run it where they are to stand.
+"""Writes the example systems of this folder, each as NAME.aut, and hide lists as NAME.hide. Run it where they are to stand.
 
 A system is its first state and a function from a state to its steps: pairs of a label and a state. The label i is the
 internal action.
@@ -19,24 +19,37 @@ def alternating_bit(data=(1, 2, 3)):
             for d in data:
                 yield f"send !{d}", (d, bit, message, awaited, delivering, answer)
         elif message is None:
-            yield "i", (sending, bit, (sending, bit), awaited, delivering, answer)
+            yield f"put !{sending} !{bit}", (sending, bit, (sending, bit), awaited, delivering, answer)
         if message is not None:
-            yield "i", (sending, bit, None, awaited, delivering, answer)  # lost
+            yield "lose_message", (sending, bit, None, awaited, delivering, answer)
             if delivering is None:
                 if message[1] == awaited:
-                    yield "i", (sending, bit, None, 1 - awaited, message[0], answer)
+                    yield f"get !{message[0]} !{message[1]}", (sending, bit, None, 1 - awaited, message[0], answer)
                 elif answer is None:  # seen before: say so again
-                    yield "i", (sending, bit, None, awaited, None, message[1])
+                    yield f"answer_again !{message[1]}", (sending, bit, None, awaited, None, message[1])
         if delivering is not None and answer is None:
             yield f"receive !{delivering}", (sending, bit, message, awaited, None, 1 - awaited)
         if answer is not None:
-            yield "i", (sending, bit, message, awaited, delivering, None)  # lost
+            yield "lose_answer", (sending, bit, message, awaited, delivering, None)
             if sending is not None and answer == bit:
-                yield "i", (None, 1 - bit, message, awaited, delivering, None)
+                yield f"answered !{answer}", (None, 1 - bit, message, awaited, delivering, None)
             else:  # of an earlier message
-                yield "i", (sending, bit, message, awaited, delivering, None)
+                yield f"pass_over !{answer}", (sending, bit, message, awaited, delivering, None)
 
     return (None, 0, None, 0, None, None), steps
+
+
+def one_place_buffer(data=(1, 2, 3)):
+    """A buffer of one place, which is what a user of the alternating-bit protocol sees. A state: what the buffer holds or None."""
+
+    def steps(held):
+        if held is None:
+            for d in data:
+                yield f"send !{d}", d
+        else:
+            yield f"receive !{held}", None
+
+    return None, steps
 
 
 def mutual_exclusion():
@@ -129,17 +142,33 @@ def car_park(places=11):
     return 0, steps
 
 
-def text_of(first, steps):
-    """The text of the states that steps reach, numbered as they are met."""
-    numbers, pending, lines = {first: 0}, [first], []
+def spelled(label):
+    """A label as a file has it: between quotation marks where it is no plain word."""
+    return label if label.replace("_", "").isalnum() else f'"{label}"'
+
+
+def explored(first, steps):
+    """The transitions between the states that steps reach, numbered as they are met, and how many these are."""
+    numbers, pending, transitions = {first: 0}, [first], []
     for state in pending:
         for label, target in steps(state):
             if target not in numbers:
                 numbers[target] = len(numbers)
                 pending.append(target)
-            shown = label if label.replace("_", "").isalnum() else f'"{label}"'
-            lines.append(f"({numbers[state]}, {shown}, {numbers[target]})\n")
-    return f"des (0, {len(lines)}, {len(numbers)})\n" + "".join(lines)
+            transitions.append((numbers[state], label, numbers[target]))
+    return transitions, len(numbers)
+
+
+def text_of(transitions, states):
+    """The text of the system that begins in state 0."""
+    lines = [f"({source}, {spelled(label)}, {target})\n" for source, label, target in transitions]
+    return f"des (0, {len(lines)}, {states})\n" + "".join(lines)
+
+
+def hide_list(transitions, seen):
+    """The hide list of each label whose first word is not one of those that are seen."""
+    labels = {label for _, label, _ in transitions if label.split()[0] not in seen}
+    return "".join(f"{spelled(label)}\n" for label in sorted(labels))
 
 
 SYSTEMS = {
@@ -150,9 +179,21 @@ SYSTEMS = {
     "coffee-machine": coffee_machine(chooses=True),
     "dining-philosophers": dining_philosophers(),
     "mutual-exclusion": mutual_exclusion(),
+    "one-place-buffer": one_place_buffer(),
 }
+
+# what is still seen once the hide list of a system is used
+SEEN = {"alternating-bit": ("send", "receive")}
+
+
+def write(name, text):
+    with open(name, "w", newline="\n") as out:
+        out.write(text)
+
 
 if __name__ == "__main__":
     for name, (first, steps) in SYSTEMS.items():
-        with open(f"{name}.aut", "w", newline="\n") as out:
-            out.write(text_of(first, steps))
+        transitions, states = explored(first, steps)
+        write(f"{name}.aut", text_of(transitions, states))
+        if name in SEEN:
+            write(f"{name}.hide", hide_list(transitions, SEEN[name]))
