@@ -6,14 +6,15 @@ use Rattle.std.proofs.lemmas.Bool.{cases_lt}
 use Rattle.std.proofs.lemmas.List.{length-append, length-map, length_push, append-nil, append_assoc, map-append, map_push, get_or-map, get_or_push, take-append-drop, take-take, drop-take, length-take}
 use Rattle.std.proofs.lemmas.List.Elements.{All-nil, All-map, All-head, All-tail, All-push, All-weaker, Contains-push, Contains-append_left}
 use Rattle.theory.specs.System.{System, Transition, IsAmong}
+use Rattle.theory.specs.Union.{shifted, union_of}
 use Rattle.lts.specs.Labels.{text_of, IsNumber, IsTable, Keeps, Interns}
 use Rattle.lts.specs.Lts.{Triple, source_of, label_of, target_of, row_of, before, place_at, transition_of, system_of, grouped, IsTriple, IsRow, IsLts, IsCarried, Grouped}
-use Rattle.lts.specs.Union.{shifted, union_of, Gathers, Adds}
+use Rattle.lts.specs.Joining.{IsJoined, AddsShifted}
 use Rattle.lts.proofs.Rows.{before-next, before-le, row-slice, row-more}
 use Rattle.lts.proofs.Grouped.{rising-append, rising-map, grouped-same}
 
-pub Gathers-nil : Gathers [] 0 []
-Gathers-nil = record { each = All-nil (IsTriple 0 0); carried = λ k h. absurd (omega arith); few = omega arith }
+pub IsJoined-nil : IsJoined [] 0 []
+IsJoined-nil = record { each = All-nil (IsTriple 0 0); carried = λ k h. absurd (omega arith); few = omega arith }
 
 IsTriple-weaker : (labels labels' states states' : ℕ) → labels ≤ labels' → states ≤ states' → (e : Triple) → IsTriple labels states e → IsTriple labels' states' e
 IsTriple-weaker labels labels' states states' l s e h =
@@ -22,8 +23,8 @@ IsTriple-weaker labels labels' states states' l s e h =
     let c = h.target in
     record { source = omega arith; label = omega arith; target = omega arith }
 
-pub Gathers-weaker : (labels : List (List ℕ)) (states states' : ℕ) (es : List Triple) → states ≤ states' → Gathers labels states es → Gathers labels states' es
-Gathers-weaker labels states states' es h g = record {
+pub IsJoined-weaker : (labels : List (List ℕ)) (states states' : ℕ) (es : List Triple) → states ≤ states' → IsJoined labels states es → IsJoined labels states' es
+IsJoined-weaker labels states states' es h g = record {
   each =
       All-weaker (IsTriple (length labels) states) (IsTriple (length labels) states')
       (IsTriple-weaker (length labels) (length labels) states states' (omega arith) h) es g.each;
@@ -33,7 +34,7 @@ Gathers-weaker labels states states' es h g = record {
 
 -- a triple that carries the label a, put in
 module _ (old new : List (List ℕ)) (states : ℕ) (es : List Triple) (e : Triple) (a : List ℕ)
-    (g : Gathers old states es) (table : IsTable new) (put : Interns old a new) (keeps : Keeps old new) (number : IsNumber new (label_of e) a) where
+    (g : IsJoined old states es) (table : IsTable new) (put : Interns old a new) (keeps : Keeps old new) (number : IsNumber new (label_of e) a) where
   carried_old : (k : ℕ) → k < length old → (x : Triple) × Contains (es ++ e ∷ []) x × (label_of x ≡ k)
   carried_old k h = let c = g.carried k h in (c.0, Contains-append_left es (e ∷ []) c.0 c.1, c.2)
 
@@ -60,8 +61,8 @@ module _ (old new : List (List ℕ)) (states : ℕ) (es : List Triple) (e : Trip
     | inr grown ↦ let longer = ap length grown.1 ∙ length_push old a in let few = g.few in let more = length_push es e in omega arith
   ]
 
-  pub Gathers-push : source_of e < states → target_of e < states → Gathers new states (es ++ e ∷ [])
-  Gathers-push source target = record {
+  pub IsJoined-push : source_of e < states → target_of e < states → IsJoined new states (es ++ e ∷ [])
+  IsJoined-push source target = record {
     each =
         All-push (IsTriple (length new) states) es e
         (All-weaker (IsTriple (length old) states) (IsTriple (length new) states)
@@ -81,23 +82,23 @@ transitions-kept old new states (e ∷ es) keeps h =
     ap (λ t. record { source = source_of e; label = t; target = target_of e } ∷ map (transition_of new) es) text
     ∙ ap (λ l. transition_of old e ∷ l) (transitions-kept old new states es keeps (All-tail (IsTriple (length old) states) e es h))
 
-pub Adds-push : (shift : ℕ) (t : Transition) (old new : List (List ℕ)) (states : ℕ) (es : List Triple) (e : Triple) → Keeps old new →
-    All (IsTriple (length old) states) es → transition_of new e ≡ shifted shift t → Adds shift (t ∷ []) old es new (es ++ e ∷ [])
-Adds-push shift t old new states es e keeps h same =
+pub AddsShifted-push : (shift : ℕ) (t : Transition) (old new : List (List ℕ)) (states : ℕ) (es : List Triple) (e : Triple) → Keeps old new →
+    All (IsTriple (length old) states) es → transition_of new e ≡ shifted shift t → AddsShifted shift (t ∷ []) old es new (es ++ e ∷ [])
+AddsShifted-push shift t old new states es e keeps h same =
     map_push (transition_of new) es e ∙ ap (λ l. l ++ transition_of new e ∷ []) (transitions-kept old new states es keeps h)
     ∙ ap (λ x. map (transition_of old) es ++ x ∷ []) same
 
-pub Adds-nil : (shift : ℕ) (labels : List (List ℕ)) (es : List Triple) → Adds shift [] labels es labels es
-Adds-nil shift labels es = sym (append-nil (map (transition_of labels) es))
+pub AddsShifted-nil : (shift : ℕ) (labels : List (List ℕ)) (es : List Triple) → AddsShifted shift [] labels es labels es
+AddsShifted-nil shift labels es = sym (append-nil (map (transition_of labels) es))
 
-pub Adds-more : (shift : ℕ) (ts us : List Transition) (l0 l1 l2 : List (List ℕ)) (e0 e1 e2 : List Triple) →
-    Adds shift ts l0 e0 l1 e1 → Adds shift us l1 e1 l2 e2 → Adds shift (ts ++ us) l0 e0 l2 e2
-Adds-more shift ts us l0 l1 l2 e0 e1 e2 a b =
+pub AddsShifted-more : (shift : ℕ) (ts us : List Transition) (l0 l1 l2 : List (List ℕ)) (e0 e1 e2 : List Triple) →
+    AddsShifted shift ts l0 e0 l1 e1 → AddsShifted shift us l1 e1 l2 e2 → AddsShifted shift (ts ++ us) l0 e0 l2 e2
+AddsShifted-more shift ts us l0 l1 l2 e0 e1 e2 a b =
     b ∙ ap (λ l. l ++ map (shifted shift) us) a ∙ append_assoc (map (transition_of l0) e0) (map (shifted shift) ts) (map (shifted shift) us)
     ∙ ap (λ l. map (transition_of l0) e0 ++ l) (sym (map-append (shifted shift) ts us))
 
-pub length-Adds : (shift : ℕ) (ts : List Transition) (l0 l1 : List (List ℕ)) (e0 e1 : List Triple) → Adds shift ts l0 e0 l1 e1 → length e1 ≡ length e0 + length ts
-length-Adds shift ts l0 l1 e0 e1 a =
+pub length-AddsShifted : (shift : ℕ) (ts : List Transition) (l0 l1 : List (List ℕ)) (e0 e1 : List Triple) → AddsShifted shift ts l0 e0 l1 e1 → length e1 ≡ length e0 + length ts
+length-AddsShifted shift ts l0 l1 e0 e1 a =
     let whole = ap length a in
     let sum = length-append (map (transition_of l0) e0) (map (shifted shift) ts) in
     let n1 = length-map e1 (transition_of l1) in
@@ -106,17 +107,17 @@ length-Adds shift ts l0 l1 e0 e1 a =
     omega arith
 
 -- one place more of a row
-pub Adds-place : (shift : ℕ) (labels : List (List ℕ)) (places : List Triple) (s start end k : ℕ) (l0 l1 l2 : List (List ℕ)) (e0 e1 e2 : List Triple) →
+pub AddsShifted-place : (shift : ℕ) (labels : List (List ℕ)) (places : List Triple) (s start end k : ℕ) (l0 l1 l2 : List (List ℕ)) (e0 e1 e2 : List Triple) →
     IsRow places s start end → start ≤ k → k < end →
-    Adds shift (map (transition_of labels) (take (k - start) (row_of s places))) l0 e0 l1 e1 →
-    Adds shift (transition_of labels (place_at places k) ∷ []) l1 e1 l2 e2 →
-    Adds shift (map (transition_of labels) (take ((k + 1) - start) (row_of s places))) l0 e0 l2 e2
-Adds-place shift labels places s start end k l0 l1 l2 e0 e1 e2 r low high a b =
+    AddsShifted shift (map (transition_of labels) (take (k - start) (row_of s places))) l0 e0 l1 e1 →
+    AddsShifted shift (transition_of labels (place_at places k) ∷ []) l1 e1 l2 e2 →
+    AddsShifted shift (map (transition_of labels) (take ((k + 1) - start) (row_of s places))) l0 e0 l2 e2
+AddsShifted-place shift labels places s start end k l0 l1 l2 e0 e1 e2 r low high a b =
     let f = transition_of labels in
     let part = take (k - start) (row_of s places) in
-    subst (λ ts. Adds shift ts l0 e0 l2 e2)
+    subst (λ ts. AddsShifted shift ts l0 e0 l2 e2)
     (sym (ap (map f) (row-more places s start end k r low high) ∙ map_push f part (place_at places k)))
-    (Adds-more shift (map f part) (f (place_at places k) ∷ []) l0 l1 l2 e0 e1 e2 a b)
+    (AddsShifted-more shift (map f part) (f (place_at places k) ∷ []) l0 l1 l2 e0 e1 e2 a b)
 
 take-split : (i j : ℕ) (xs : List Triple) → i ≤ j → take j xs ≡ take i xs ++ take (j - i) (drop i xs)
 take-split i j xs h =
@@ -125,19 +126,19 @@ take-split i j xs h =
     ∙ ap (λ n. take i xs ++ drop i (take n xs)) (sym e) ∙ ap (λ l. take i xs ++ l) (drop-take i (j - i) xs)
 
 -- one row more of a system
-pub Adds-row : (shift : ℕ) (labels : List (List ℕ)) (places : List Triple) (s : ℕ) (l0 l1 l2 : List (List ℕ)) (e0 e1 e2 : List Triple) →
+pub AddsShifted-row : (shift : ℕ) (labels : List (List ℕ)) (places : List Triple) (s : ℕ) (l0 l1 l2 : List (List ℕ)) (e0 e1 e2 : List Triple) →
     IsNonDecreasingBy source_of places →
-    Adds shift (map (transition_of labels) (take (before s places) places)) l0 e0 l1 e1 →
-    Adds shift (map (transition_of labels) (row_of s places)) l1 e1 l2 e2 →
-    Adds shift (map (transition_of labels) (take (before (s + 1) places) places)) l0 e0 l2 e2
-Adds-row shift labels places s l0 l1 l2 e0 e1 e2 rising a b =
+    AddsShifted shift (map (transition_of labels) (take (before s places) places)) l0 e0 l1 e1 →
+    AddsShifted shift (map (transition_of labels) (row_of s places)) l1 e1 l2 e2 →
+    AddsShifted shift (map (transition_of labels) (take (before (s + 1) places) places)) l0 e0 l2 e2
+AddsShifted-row shift labels places s l0 l1 l2 e0 e1 e2 rising a b =
     let next = before-next s places in
     let grown : take (before (s + 1) places) places ≡ take (before s places) places ++ row_of s places =
     take-split (before s places) (before (s + 1) places) places (omega arith)
     ∙ ap (λ l. take (before s places) places ++ l) (row-slice s places rising) in
-    subst (λ ts. Adds shift ts l0 e0 l2 e2)
+    subst (λ ts. AddsShifted shift ts l0 e0 l2 e2)
     (sym (ap (map (transition_of labels)) grown ∙ map-append (transition_of labels) (take (before s places) places) (row_of s places)))
-    (Adds-more shift (map (transition_of labels) (take (before s places) places)) (map (transition_of labels) (row_of s places)) l0 l1 l2 e0 e1 e2 a b)
+    (AddsShifted-more shift (map (transition_of labels) (take (before s places) places)) (map (transition_of labels) (row_of s places)) l0 l1 l2 e0 e1 e2 a b)
 
 -- equal parts make equal transitions
 pub transition-same : (s s' t t' : ℕ) (a a' : List ℕ) → s ≡ s' → a ≡ a' → t ≡ t' →
@@ -184,7 +185,7 @@ rising-union a b la lb =
 
 -- what the triples of both systems make of the two systems
 module _ (a b : Grouped) (labels : List (List ℕ)) (es : List Triple) (la : IsLts a) (lb : IsLts b)
-    (g : Gathers labels (a.states + b.states) es) (both : map (transition_of labels) es ≡ (union_of (system_of a) (system_of b)).transitions) where
+    (g : IsJoined labels (a.states + b.states) es) (both : map (transition_of labels) es ≡ (union_of (system_of a) (system_of b)).transitions) where
   union-places : grouped (a.states + b.states) es ≡ es
   union-places =
       grouped-same (a.states + b.states) es
@@ -223,7 +224,7 @@ shifted-zero (t ∷ ts) =
     ∙ ap (λ l. t ∷ l) (shifted-zero ts)
 
 -- both systems put in, one after the other
-pub Adds-both : (n : ℕ) (ts us : List Transition) (l0 l1 l2 : List (List ℕ)) (e0 e1 e2 : List Triple) → e0 ≡ [] →
-    Adds 0 ts l0 e0 l1 e1 → Adds n us l1 e1 l2 e2 → map (transition_of l2) e2 ≡ ts ++ map (shifted n) us
-Adds-both n ts us l0 l1 l2 e0 e1 e2 none a b =
+pub AddsShifted-both : (n : ℕ) (ts us : List Transition) (l0 l1 l2 : List (List ℕ)) (e0 e1 e2 : List Triple) → e0 ≡ [] →
+    AddsShifted 0 ts l0 e0 l1 e1 → AddsShifted n us l1 e1 l2 e2 → map (transition_of l2) e2 ≡ ts ++ map (shifted n) us
+AddsShifted-both n ts us l0 l1 l2 e0 e1 e2 none a b =
     b ∙ ap (λ l. l ++ map (shifted n) us) (a ∙ ap (λ e. map (transition_of l0) e ++ map (shifted 0) ts) none ∙ shifted-zero ts)

@@ -8,6 +8,7 @@ use Rattle.std.proofs.lemmas.List.{length-map, length_push, map_push, get_or_pus
 use Rattle.std.proofs.lemmas.List.Elements.{All-push, All-get_or, Contains-get_or}
 use Rattle.std.proofs.lemmas.List.Quantifiers.{position-Some}
 use Rattle.theory.specs.System.{IsLabel}
+use Rattle.lts.specs.declared.limits.TheConstants.{MOST_LABELS}
 use Rattle.lts.specs.Labels.{text_of, IsNumber, IsTable}
 
 -- a search in a mapped list is a search by the mapped test
@@ -66,7 +67,7 @@ module _ (labels : List (List ℕ)) (a : List ℕ) (new : ¬ Contains labels a) 
     ]
   ]
 
-pub IsTable-push : (labels : List (List ℕ)) (a : List ℕ) → IsTable labels → ¬ Contains labels a → IsLabel a → length labels < 20000000 → IsTable (labels ++ a ∷ [])
+pub IsTable-push : (labels : List (List ℕ)) (a : List ℕ) → IsTable labels → ¬ Contains labels a → IsLabel a → length labels < MOST_LABELS → IsTable (labels ++ a ∷ [])
 IsTable-push labels a t new is room = record {
   each_label = All-push IsLabel labels a t.each_label is;
   different = different_push labels a new t;

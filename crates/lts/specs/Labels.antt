@@ -1,6 +1,7 @@
 -- The label table: a list of texts. A label's number is its place in the list.
 use Rattle.std.specs.Prelude.{◌≡◌, ◌⊎◌, ℕ, ◌<◌, ◌≤◌, List, [], ◌∷◌, ◌++◌, length}
 use Rattle.std.specs.List.{All, Contains, slice_index_or}
+use Rattle.lts.specs.declared.limits.TheConstants.{MOST_LABELS}
 use Rattle.theory.specs.System.{IsLabel}
 
 -- the text of the label number k
@@ -12,11 +13,11 @@ pub record IsNumber (labels : List (List ℕ)) (k : ℕ) (a : List ℕ) : Type 0
   pub below : k < length labels
   pub text : text_of labels k ≡ a
 
--- what holds of every table: its texts are labels, different numbers have different texts, and it has at most 20,000,000
+-- what holds of every table: its texts are labels, different numbers have different texts, and it is not too long
 pub record IsTable (labels : List (List ℕ)) : Type 0 where
   pub each_label : All IsLabel labels
   pub different : (j k : ℕ) → j < length labels → k < length labels → text_of labels j ≡ text_of labels k → j ≡ k
-  pub short : length labels ≤ 20000000
+  pub short : length labels ≤ MOST_LABELS
 
 -- each label of old keeps its number in new
 pub record Keeps (old new : List (List ℕ)) : Type 0 where

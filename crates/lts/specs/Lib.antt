@@ -3,3 +3,4 @@ pub mod Meter
 pub mod Lts
 pub mod Rows
 pub mod Union
+pub mod Joining

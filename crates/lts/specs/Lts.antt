@@ -3,6 +3,7 @@ use Rattle.std.specs.Prelude.{◌≡◌, ◌↔◌, ℕ, ◌+◌, ◌<◌, ◌�
 use Rattle.std.specs.List.{All, Contains, slice_index_or, slice_range, filter, flat_map, range_with_len}
 use Rattle.std.specs.List.Sorted.{IsNonDecreasingBy, IsPermutation}
 use Rattle.theory.specs.System.{System, Transition, IsSystem}
+use Rattle.lts.specs.declared.limits.TheConstants.{MOST_STATES, MOST_TRANSITIONS}
 use Rattle.lts.specs.Labels.{IsTable, text_of}
 
 -- a transition by number: its source, the number of its label, its target
@@ -78,11 +79,11 @@ pub record IsTriple (labels states : ℕ) (e : Triple) : Type 0 where
   pub label : label_of e < labels
   pub target : target_of e < states
 
--- a system of these parts has a place in memory: 1 to 2,000,000 states, up to 20,000,000 transitions, no number too large
+-- a system of these parts has a place in memory: 1 state or more, none of its counts and numbers too large
 pub record InRange (labels first states : ℕ) (es : List Triple) : Type 0 where
   pub first_below : first < states
-  pub few_states : states ≤ 2000000
-  pub few_transitions : length es ≤ 20000000
+  pub few_states : states ≤ MOST_STATES
+  pub few_transitions : length es ≤ MOST_TRANSITIONS
   pub each : All (IsTriple labels states) es
 
 -- what holds of every `Lts`

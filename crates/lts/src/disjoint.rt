@@ -1,10 +1,13 @@
 //! The disjoint union of two systems.
 ghost use Rattle.std.specs.Prelude.{◌≡◌, ◌↔◌, ℕ, ◌+◌, ◌<◌, ◌≤◌, [], ◌∷◌, length, map, IsTrue, IfOk, OnOk};
+ghost use Rattle.theory.specs.Union.{union_of};
 ghost use Rattle.lts.specs.Meter.{HasRoomFor, Costs, Visits};
 ghost use Rattle.lts.specs.Lts.{source_of, place_at, row_of, transition_of, system_of, IsCarried};
-ghost use Rattle.lts.specs.Union.{union_of, FitTogether, Gathers, Adds};
+ghost use Rattle.lts.specs.Union.{FitTogether};
+ghost use Rattle.lts.specs.Joining.{IsJoined, AddsShifted};
 
 use crate::labels::Labels;
+use crate::limits::{MOST_STATES, MOST_TRANSITIONS};
 use crate::lts::Lts;
 use crate::memory::Memory;
 use crate::meter::Meter;
@@ -14,18 +17,22 @@ use std::alloc::Global;
 pub fn fits_together<M: Meter>(a: &Lts<M>, b: &Lts<M>) -> bool
     ensures { IsTrue result ↔ FitTogether a.now b.now }
 {
-    a.states() + b.states() <= 2_000_000 && a.edges() + b.edges() <= 20_000_000
+    a.states() + b.states() <= MOST_STATES && a.edges() + b.edges() <= MOST_TRANSITIONS
 }
 
-/// The system of `a` followed by `b`, whose states are shifted by those of `a`. Labels are joined by their bytes, and the
-/// table has only labels that transitions carry. Each transition of both is visited once.
+/// The system of `a` followed by `b`, whose states are shifted by those of `a`. Labels are joined by their bytes, and
+/// the table has only labels that transitions carry. Each transition of both is visited once.
 ///
-/// Fails where there is no memory for it.
+/// Fails when there is no memory for it.
 pub fn union<M: Meter>(alloc: Global, a: &Lts<M>, b: &Lts<M>, m: &mut M) -> Result<Lts<M>, Memory>
     requires fit { FitTogether a.now b.now }
     requires room { HasRoomFor (M.counted m.old) 0 (length a.now.places + length b.now.places) }
+
+    // Ok: the union, and its table.
     ensures system { IfOk result (λ u. system_of u ≡ union_of (system_of a.now) (system_of b.now)) }
     ensures labels { IfOk result (λ u. (k : ℕ) → k < length u.labels → IsCarried u k) }
+
+    // Ok: as many visits as transitions. Err: no more than these.
     ensures visits { let n = length a.now.places + length b.now.places in Visits M.counted m.old m.new result n n }
 {
     let mut labels = Labels::new(alloc);
@@ -43,12 +50,17 @@ fn append<M: Meter>(
     e: &mut Vec<(u32, u32, u32)>,
     m: &mut M,
 ) -> Result<(), Memory>
-    requires few_states { shift + s.now.states ≤ 2000000 }
-    requires few { length e.old.items + length s.now.places ≤ 20000000 }
-    requires gathered { Gathers labels.old shift e.old.items }
+    requires few_states { shift + s.now.states ≤ MOST_STATES }
+    requires few { length e.old.items + length s.now.places ≤ MOST_TRANSITIONS }
+    requires joined { IsJoined labels.old shift e.old.items }
     requires room { HasRoomFor (M.counted m.old) 0 (length s.now.places) }
-    ensures gathered { OnOk result (Gathers labels.new (shift + s.now.states) e.new.items) }
-    ensures added { OnOk result (Adds shift (system_of s.now).transitions labels.old e.old.items labels.new e.new.items) }
+
+    // Ok: the triples are joined, and stand for the transitions of `s` too.
+    ensures joined { OnOk result (IsJoined labels.new (shift + s.now.states) e.new.items) }
+    ensures added { OnOk result (
+        AddsShifted shift (system_of s.now).transitions labels.old e.old.items labels.new e.new.items) }
+
+    // Ok: as many visits as transitions of `s`. Err: no more than these.
     ensures visits { let n = length s.now.places in Visits M.counted m.old m.new result n n }
 {
     for state in 0..s.states() {
@@ -67,12 +79,17 @@ fn append_row<M: Meter>(
     m: &mut M,
 ) -> Result<(), Memory>
     requires state { state < s.now.states }
-    requires few_states { shift + s.now.states ≤ 2000000 }
-    requires few { length e.old.items + length (row_of state s.now.places) ≤ 20000000 }
-    requires gathered { Gathers labels.old (shift + s.now.states) e.old.items }
+    requires few_states { shift + s.now.states ≤ MOST_STATES }
+    requires few { length e.old.items + length (row_of state s.now.places) ≤ MOST_TRANSITIONS }
+    requires joined { IsJoined labels.old (shift + s.now.states) e.old.items }
     requires room { HasRoomFor (M.counted m.old) 0 (length (row_of state s.now.places)) }
-    ensures gathered { OnOk result (Gathers labels.new (shift + s.now.states) e.new.items) }
-    ensures added { OnOk result (Adds shift (map (transition_of s.now.labels) (row_of state s.now.places)) labels.old e.old.items labels.new e.new.items) }
+
+    // Ok: the triples are joined, and stand for the row too.
+    ensures joined { OnOk result (IsJoined labels.new (shift + s.now.states) e.new.items) }
+    ensures added { let row = map (transition_of s.now.labels) (row_of state s.now.places) in
+        OnOk result (AddsShifted shift row labels.old e.old.items labels.new e.new.items) }
+
+    // Ok: as many visits as transitions of the row. Err: no more than these.
     ensures visits { let n = length (row_of state s.now.places) in Visits M.counted m.old m.new result n n }
 {
     let (start, end) = s.row(state);
@@ -94,12 +111,17 @@ fn append_place<M: Meter>(
 ) -> Result<(), Memory>
     requires place { k < length s.now.places }
     requires state { state ≡ source_of (place_at s.now.places k) }
-    requires few_states { shift + s.now.states ≤ 2000000 }
-    requires few { length e.old.items < 20000000 }
-    requires gathered { Gathers labels.old (shift + s.now.states) e.old.items }
+    requires few_states { shift + s.now.states ≤ MOST_STATES }
+    requires few { length e.old.items < MOST_TRANSITIONS }
+    requires joined { IsJoined labels.old (shift + s.now.states) e.old.items }
     requires room { HasRoomFor (M.counted m.old) 0 1 }
-    ensures gathered { OnOk result (Gathers labels.new (shift + s.now.states) e.new.items) }
-    ensures added { OnOk result (Adds shift (transition_of s.now.labels (place_at s.now.places k) ∷ []) labels.old e.old.items labels.new e.new.items) }
+
+    // Ok: the triples are joined, and stand for this transition too.
+    ensures joined { OnOk result (IsJoined labels.new (shift + s.now.states) e.new.items) }
+    ensures added { let one = transition_of s.now.labels (place_at s.now.places k) ∷ [] in
+        OnOk result (AddsShifted shift one labels.old e.old.items labels.new e.new.items) }
+
+    // Whatever the outcome: one visit.
     ensures visit { Costs (M.counted m.old) (M.counted m.new) 0 1 1 }
 {
     s.known();

@@ -1,6 +1,7 @@
 //! The label table: labels are numbered in the order in which they came, and each one's bytes are held once.
 ghost use Rattle.std.specs.Prelude.{◌≡◌, ◌↔◌, ℕ, ◌<◌, List, [], length, IsTrue, MatchOption, IfOk, OnOk, OnErr, Contains};
 ghost use Rattle.theory.specs.System.{IsLabel, internal};
+ghost use Rattle.lts.specs.declared.limits.TheConstants.{MOST_LABELS};
 ghost use Rattle.lts.specs.Labels.{text_of, IsNumber, IsTable, Keeps, Interns};
 
 use crate::memory::Memory;
@@ -52,17 +53,23 @@ impl Labels {
         let _ = &self.texts;
     }
 
-    /// The number of the label with these bytes, which goes last where the table lacks it.
+    /// The number of the label with these bytes, which goes last if the table lacks it.
     ///
-    /// Fails where there is no memory to put it in; the table is then as it was.
+    /// Fails when there is no memory to put it in; the table is then as it was.
     pub fn intern(&mut self, b: &[u8]) -> Result<u32, Memory>
         requires label { IsLabel b.now }
-        requires room { length self.old < 20000000 }
+        requires room { length self.old < MOST_LABELS }
+
+        // Ok: the number, in a table that has grown by this label at most.
         ensures number { IfOk result (λ k. IsNumber self.new k b.now) }
         ensures table { OnOk result (Interns self.old b.now self.new) }
+
+        // Err: the table is as it was.
+        ensures err { OnErr result (self.new ≡ self.old) }
+
+        // Whatever the outcome.
         ensures keeps { Keeps self.old self.new }
         ensures is_table { IsTable self.new }
-        ensures err { OnErr result (self.new ≡ self.old) }
     {
         if let Some(k) = self.texts.get_index_of(b) {
             return Ok(k as u32);
@@ -72,7 +79,7 @@ impl Labels {
         Ok(k as u32)
     }
 
-    /// The number of the label with these bytes, or `None` where there is none.
+    /// The number of the label with these bytes, or `None` if there is none.
     pub fn find(&self, b: &[u8]) -> Option<u32>
         ensures { MatchOption result (¬ Contains self.now b.now) (λ k. IsNumber self.now k b.now) }
     {

@@ -5,6 +5,7 @@
 mod disjoint;
 mod grouping;
 mod labels;
+mod limits;
 mod lts;
 mod memory;
 mod meter;
@@ -14,6 +15,7 @@ mod tests;
 
 pub use disjoint::{fits_together, union};
 pub use labels::{Labels, is_label};
+pub use limits::{MOST_LABELS, MOST_STATES, MOST_TRANSITIONS};
 pub use lts::{Lts, in_range};
 pub use memory::Memory;
 pub use meter::{Counter, Meter};

@@ -5,20 +5,21 @@ ghost use Rattle.lts.specs.Lts.{label_of, target_of, place_at, system_from, syst
 
 use crate::grouping::group;
 use crate::labels::Labels;
+use crate::limits::{MOST_STATES, MOST_TRANSITIONS};
 use crate::memory::Memory;
 use crate::meter::Meter;
 use std::alloc::Global;
 use std::marker::{Model, PhantomData};
 
-/// Whether a system of these parts has a place in memory: at most 2,000,000 states and 20,000,000 transitions; first,
-/// sources and targets below `states`; label numbers below the table's length.
+/// Whether these parts make a system in memory: at most `MOST_STATES` states and `MOST_TRANSITIONS` transitions;
+/// first, sources and targets below `states`; label numbers below the table's length.
 pub fn in_range(l: &Labels, first: u32, states: u32, e: &[(u32, u32, u32)]) -> bool
     ensures { IsTrue result ↔ InRange (length l.now) first states e.now }
 {
     let labels = l.len();
     first < states
-        && states <= 2_000_000
-        && e.len() <= 20_000_000
+        && states <= MOST_STATES
+        && e.len() <= MOST_TRANSITIONS as usize
         && e.iter()
             .all(|x| x.0 < states && x.1 < labels && x.2 < states)
 }
@@ -45,13 +46,14 @@ impl<M: Meter> Model for Lts<M> {
 
     ghost view = { λ s. kept s.first s.states s.labels s.ends.items s.pairs.items };
 
-    ghost invariant = { λ s. IsKept (kept s.first s.states s.labels s.ends.items s.pairs.items) s.ends.items s.pairs.items };
+    ghost invariant = { λ s. let ends = s.ends.items in let pairs = s.pairs.items in
+        IsKept (kept s.first s.states s.labels ends pairs) ends pairs };
 }
 
 impl<M: Meter> Lts<M> {
     /// The system of these parts, its triples (source, label number, target) grouped by source.
     ///
-    /// Fails where there is no memory for it.
+    /// Fails when there is no memory for it.
     pub fn build(
         alloc: Global,
         l: Labels,
@@ -60,10 +62,14 @@ impl<M: Meter> Lts<M> {
         e: Vec<(u32, u32, u32)>,
     ) -> Result<Lts<M>, Memory>
         requires { InRange (length l) first states e.items }
+
+        // Ok: the parts, with the transitions in their places.
         ensures first { IfOk result (λ s. s.first ≡ first) }
         ensures states { IfOk result (λ s. s.states ≡ states) }
         ensures labels { IfOk result (λ s. s.labels ≡ l) }
         ensures places { IfOk result (λ s. s.places ≡ grouped states e.items) }
+
+        // Ok: what follows of the order of the places, and of the system.
         ensures grouping { IfOk result (λ s. IsGrouping e.items s.places) }
         ensures system { IfOk result (λ s. Groups (system_from first states l e.items) (system_of s)) }
     {
@@ -86,7 +92,7 @@ impl<M: Meter> Lts<M> {
         let _ = &self.ends;
     }
 
-    /// How many states there are: 1 to 2,000,000.
+    /// How many states there are: 1 to `MOST_STATES`.
     pub fn states(&self) -> u32
         ensures value { result ≡ self.now.states }
         ensures lts { IsLts self.now }
@@ -94,7 +100,7 @@ impl<M: Meter> Lts<M> {
         self.states
     }
 
-    /// How many transitions there are: at most 20,000,000. Each one counts, also where the same stands twice.
+    /// How many transitions there are: at most `MOST_TRANSITIONS`. Each one counts, also where the same stands twice.
     pub fn edges(&self) -> u32
         ensures value { result ≡ length self.now.places }
         ensures lts { IsLts self.now }
@@ -129,8 +135,10 @@ impl<M: Meter> Lts<M> {
     pub fn edge(&self, k: u32, m: &mut M) -> (u32, u32)
         requires place { k < length self.now.places }
         requires room { HasRoomFor (M.counted m.old) 0 1 }
+
         ensures label { result.0 ≡ label_of (place_at self.now.places k) }
         ensures target { result.1 ≡ target_of (place_at self.now.places k) }
+
         ensures visit { Costs (M.counted m.old) (M.counted m.new) 0 1 1 }
     {
         m.visit();

@@ -4,8 +4,8 @@ ghost use Rattle.theory.specs.System.{Step};
 ghost use Rattle.lts.specs.Lts.{Triple, source_of, label_of, target_of, row_of, before, place_at, system_of, Grouped, IsLts, IsRow};
 ghost use Rattle.lts.specs.Labels.{text_of, IsNumber};
 
-/// The rows stand one behind the other: before the first state stands no place, and all places are before the state that
-/// would be next to the last. Inside a row, each place adds its transition to those before it.
+/// The rows follow each other: no place is before the first state, and all places are before the state that would be
+/// next to the last. Inside a row, each place adds its transition to those before it.
 pub fn rows_follow()
     ensures none { (places : List Triple) → before 0 places ≡ 0 }
     ensures next { (s : ℕ) (places : List Triple) → before (s + 1) places ≡ before s places + length (row_of s places) }
@@ -15,11 +15,14 @@ pub fn rows_follow()
         take ((k + 1) - start) (row_of s places) ≡ take (k - start) (row_of s places) ++ place_at places k ∷ [] }
 {}
 
-/// A row has the transitions that start at its state. They are the steps from that state, and the label of each has a number.
+/// A row has the transitions that start at its state. They are the steps from that state, and the label of each has a
+/// number.
 pub fn rows_are_steps()
     ensures sources { (s : ℕ) (places : List Triple) (e : Triple) →
         Contains (row_of s places) e ↔ (Contains places e × (source_of e ≡ s)) }
-    ensures numbered { (l : Grouped) (s : ℕ) (a : List ℕ) (t : ℕ) → IsLts l → Step (system_of l) s a t → (k : ℕ) × IsNumber l.labels k a }
+    ensures numbered { (l : Grouped) (s : ℕ) (a : List ℕ) (t : ℕ) →
+        IsLts l → Step (system_of l) s a t → (k : ℕ) × IsNumber l.labels k a }
     ensures steps { (l : Grouped) (s : ℕ) (a : List ℕ) (t : ℕ) →
-        Step (system_of l) s a t ↔ ((e : Triple) × Contains (row_of s l.places) e × (text_of l.labels (label_of e) ≡ a) × (target_of e ≡ t)) }
+        Step (system_of l) s a t ↔
+        ((e : Triple) × Contains (row_of s l.places) e × (text_of l.labels (label_of e) ≡ a) × (target_of e ≡ t)) }
 {}

@@ -1,5 +1,7 @@
 //! Each public call once, on systems small enough to read.
-use crate::{Counter, Labels, Lts, Memory, Meter, fits_together, in_range, is_label, union};
+use crate::{
+    Counter, Labels, Lts, MOST_LABELS, Memory, Meter, fits_together, in_range, is_label, union,
+};
 use std::alloc::Global;
 use std::test::Fail;
 
@@ -29,7 +31,7 @@ fn knows_labels(rt: HostRuntime) -> Result<(), Fail> {
 fn table(alloc: Global, texts: &[&[u8]]) -> Result<Labels, Memory> {
     let mut labels = Labels::new(alloc);
     for text in texts {
-        if is_label(text) && labels.len() < 20_000_000 {
+        if is_label(text) && labels.len() < MOST_LABELS {
             labels.intern(text)?;
         }
     }
@@ -111,8 +113,8 @@ fn system(
     }
 }
 
-/// What `s` answers: first state, states, transitions and labels; then for each state the places of its row, and of each
-/// transition the label and the target; at the end the visits that were made with `m`.
+/// What `s` answers: first state, states, transitions and labels; then for each state the places of its row, and of
+/// each transition the label and the target; at the end the visits that were made with `m`.
 fn shown(alloc: Global, s: &Lts<Counter>, m: &mut Counter) -> Result<String, Memory> {
     let mut text = format!(in alloc;
         "{} {} {} {}",

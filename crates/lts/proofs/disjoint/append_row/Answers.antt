@@ -1,14 +1,14 @@
 use Rattle.std.proofs.Common.{arith, rules}
-use Rattle.lts.proofs.Joining.{Adds-place}
+use Rattle.lts.proofs.Joining.{AddsShifted-place}
 use Rattle.lts.proofs.disjoint.append_row.Goals as goal
 
 pub loop-k-preserved : goal.loop-k-preserved
 loop-k-preserved g c =
     let low = c.loop-k.auto.k in
     record {
-      gathered = c.in_ok-append_place.ensures.gathered;
+      joined = c.in_ok-append_place.ensures.joined;
       added =
-          Adds-place c.args.shift c.args.s.now.labels c.args.s.now.places c.args.state c.row-start.result.0 c.row-start.result.1 c.loop-k.k
+          AddsShifted-place c.args.shift c.args.s.now.labels c.args.s.now.places c.args.state c.row-start.result.0 c.row-start.result.1 c.loop-k.k
           c.args.labels.now c.loop-k.labels c.append_place.new.labels c.args.e.now.items c.loop-k.e.items c.append_place.new.e.items
           c.row-start.ensures (omega arith) (omega arith) c.loop-k.invariant.added c.in_ok-append_place.ensures.added;
       visits = search rules;

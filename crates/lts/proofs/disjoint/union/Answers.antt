@@ -1,17 +1,18 @@
 use Rattle.std.proofs.Common.{◌≡◌, ◌∙◌, ◌+◌, ◌++◌, map, IfOk, ap, subst, arith}
+use Rattle.theory.specs.Union.{union_of, shifted}
 use Rattle.lts.specs.Lts.{transition_of, system_of, grouped}
-use Rattle.lts.specs.Union.{union_of, shifted, Gathers}
-use Rattle.lts.proofs.Joining.{Adds-both, IfOk-union-system, IfOk-union-carried}
+use Rattle.lts.specs.Joining.{IsJoined}
+use Rattle.lts.proofs.Joining.{AddsShifted-both, IfOk-union-system, IfOk-union-carried}
 use Rattle.lts.proofs.disjoint.union.Given.{Over}
 use Rattle.lts.proofs.disjoint.union.Goals as goal
 
-gathered : (g : Over) (c : goal.After-build g) → Gathers c.append-2.new.labels (c.args.a.now.states + c.args.b.now.states) c.append-2.new.e.items
-gathered g c = subst (λ n. Gathers c.append-2.new.labels (n + c.args.b.now.states) c.append-2.new.e.items) c.states.ensures.value c.in_ok-append-2.ensures.gathered
+joined : (g : Over) (c : goal.After-build g) → IsJoined c.append-2.new.labels (c.args.a.now.states + c.args.b.now.states) c.append-2.new.e.items
+joined g c = subst (λ n. IsJoined c.append-2.new.labels (n + c.args.b.now.states) c.append-2.new.e.items) c.states.ensures.value c.in_ok-append-2.ensures.joined
 
 both : (g : Over) (c : goal.After-build g) →
     map (transition_of c.append-2.new.labels) c.append-2.new.e.items ≡ (union_of (system_of c.args.a.now) (system_of c.args.b.now)).transitions
 both g c =
-    Adds-both c.states.result (system_of c.args.a.now).transitions (system_of c.args.b.now).transitions c.new-labels.result c.append.new.labels c.append-2.new.labels
+    AddsShifted-both c.states.result (system_of c.args.a.now).transitions (system_of c.args.b.now).transitions c.new-labels.result c.append.new.labels c.append-2.new.labels
     c.in_ok-e.e.items c.append.new.e.items c.append-2.new.e.items c.in_ok-e.ensures.items c.in_ok-append.ensures.added c.in_ok-append-2.ensures.added
     ∙ ap (λ n. (system_of c.args.a.now).transitions ++ map (shifted n) (system_of c.args.b.now).transitions) c.states.ensures.value
 
@@ -23,12 +24,12 @@ places g c = subst (λ n. IfOk c.build.result (λ s. s.places ≡ grouped n c.ap
 
 pub returns-clause-system : goal.returns-clause-system
 returns-clause-system g c =
-    IfOk-union-system c.args.a.now c.args.b.now c.append-2.new.labels c.append-2.new.e.items c.edges.ensures.lts c.edges-2.ensures.lts (gathered g c) (both g c)
+    IfOk-union-system c.args.a.now c.args.b.now c.append-2.new.labels c.append-2.new.e.items c.edges.ensures.lts c.edges-2.ensures.lts (joined g c) (both g c)
     c.build.result (subst (λ x. IfOk c.build.result (λ s. s.first ≡ x)) c.first.ensures c.build.ensures.first)
     (subst (λ n. IfOk c.build.result (λ s. s.states ≡ n)) (sum_of_states g c) c.build.ensures.states)
     c.build.ensures.labels (places g c)
 
 pub returns-clause-labels : goal.returns-clause-labels
 returns-clause-labels g c =
-    IfOk-union-carried c.args.a.now c.args.b.now c.append-2.new.labels c.append-2.new.e.items c.edges.ensures.lts c.edges-2.ensures.lts (gathered g c) (both g c)
+    IfOk-union-carried c.args.a.now c.args.b.now c.append-2.new.labels c.append-2.new.e.items c.edges.ensures.lts c.edges-2.ensures.lts (joined g c) (both g c)
     c.build.result c.build.ensures.labels (places g c)

@@ -1,6 +1,7 @@
 use Rattle.std.proofs.Common.{◌≡◌, ◌∙◌, ◌<◌, length, Contains, [], ◌∷◌, ◌++◌, map, false, sym, ap, refl, inl, inr}
 use Rattle.std.specs.List.{list_any}
 use Rattle.std.specs.Str.{bytes_eq}
+use Rattle.lts.specs.declared.limits.TheConstants.{MOST_LABELS}
 use Rattle.lts.proofs.Table.{position-map, list_any-map, absent, IsNumber-position, Contains-IsNumber, IsTable-push, map-insert_key}
 use Rattle.lts.proofs.labels.Labels.intern.Goals as goal
 
@@ -24,7 +25,7 @@ new c = absent _ _ (list_any-map (bytes_eq c.args.b.now) (λ v. v.items) c.self.
 
 pub invariant_of-self-2 : goal.invariant_of-self-2
 invariant_of-self-2 c =
-    let room : length (map (λ v. v.items) c.self.inside.texts.keys) < 20000000 = rw c.self.view_is c.requires.room in
+    let room : length (map (λ v. v.items) c.self.inside.texts.keys) < MOST_LABELS = rw c.self.view_is c.requires.room in
     rw (grown c) (IsTable-push _ c.args.b.now c.self.invariant (new c) c.requires.label room)
 
 pub returns-clause-table : goal.returns-clause-table
