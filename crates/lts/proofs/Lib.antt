@@ -4,5 +4,5 @@ pub mod Filters
 pub mod Rows
 pub mod Grouped
 pub mod Placing
-pub mod Kept
+pub mod Fields
 pub mod Joining

@@ -42,12 +42,12 @@ impl<M: Meter> Model for Lts<M> {
 
     ghost Value = { Grouped };
 
-    ghost use Rattle.lts.specs.Rows.{kept, IsKept};
+    ghost use Rattle.lts.specs.Rows.{laid_out, IsLaidOut};
 
-    ghost view = { λ s. kept s.first s.states s.labels s.ends.items s.pairs.items };
+    ghost view = { λ s. laid_out s.first s.states s.labels s.ends.items s.pairs.items };
 
     ghost invariant = { λ s. let ends = s.ends.items in let pairs = s.pairs.items in
-        IsKept (kept s.first s.states s.labels ends pairs) ends pairs };
+        IsLaidOut (laid_out s.first s.states s.labels ends pairs) ends pairs };
 }
 
 impl<M: Meter> Lts<M> {

@@ -96,7 +96,7 @@ fn knows_what_is_in_range(rt: HostRuntime) -> Result<(), Fail> {
     Ok(())
 }
 
-/// The system of these parts, or the systems of one state where they are out of range.
+/// The system of these parts, or the system of one state if they are out of range.
 fn system(
     alloc: Global,
     texts: &[&[u8]],
@@ -176,7 +176,7 @@ fn groups_by_source(rt: HostRuntime) -> Result<(), Fail> {
     Ok(())
 }
 
-/// The union, or a system of one state where the two are too large.
+/// The union, or a system of one state if the two are too large.
 fn joined(
     alloc: Global,
     a: &Lts<Counter>,
