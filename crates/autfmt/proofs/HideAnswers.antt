@@ -4,17 +4,17 @@ use Rattle.std.specs.Io.KnownBytes.{Consumes}
 use Rattle.autfmt.specs.declared.fault.Fault.{Fault}
 use Rattle.autfmt.specs.HideLists.{JudgedHideFault}
 use Rattle.autfmt.specs.Readers.{AnswersFailure}
-use Rattle.autfmt.specs.HideReaders.{HideRefuses}
-use Rattle.autfmt.specs.HideReaders.HideRefuses.{want_of_memory, failed_device, faulty_text}
+use Rattle.autfmt.specs.HideOutcomes.{HideRefuses}
+use Rattle.autfmt.specs.HideOutcomes.HideRefuses.{no_memory, failed_source, faulty_text}
 use Rattle.autfmt.proofs.ReaderAnswers.{same_given}
 
 pub hide_refuses_failed :
     (old new : Option (List ℕ)) (got : List ℕ) (failures : ℕ) (fault : Fault) → Consumes old new got →
     HideRefuses got new failures fault → failures ≡ 1 → (given rest : List ℕ) → old ≡ Some (given ++ rest) → new ≡ Some rest →
     AnswersFailure (JudgedHideFault given) fault
-hide_refuses_failed old new got failures fault c (want_of_memory z e) failed given rest d d' = absurd (omega arith)
+hide_refuses_failed old new got failures fault c (no_memory z e) failed given rest d d' = absurd (omega arith)
 hide_refuses_failed old new got failures fault c (faulty_text z k h) failed given rest d d' = absurd (omega arith)
-hide_refuses_failed old new got failures fault c (failed_device z e h) failed given rest d d' =
+hide_refuses_failed old new got failures fault c (failed_source z e h) failed given rest d d' =
     let same = same_given old new got given rest c d d' in
     inr (e, λ f j. h f (subst (λ (t : List ℕ). JudgedHideFault t f) (sym same) j))
 

@@ -10,8 +10,10 @@ use Rattle.autfmt.specs.declared.fault.Fault.TheVariants.{LineTooLong, TooManyHi
 use Rattle.autfmt.specs.Texts.{Lines}
 use Rattle.autfmt.specs.HideLists.{Hides, HideFault, HideFaultFrom, FirstHideFault}
 use Rattle.autfmt.specs.Cutter.{Cutting, CutsLine, BeginsTooLong, IsPart}
-use Rattle.autfmt.specs.HideReaders.{IsHideFault, SameLabels, HidesAs, AddsLabel, HideRefuses, HideReadSoFar}
-use Rattle.autfmt.specs.HideReaders.HideRefuses.{failed_device, faulty_text}
+use Rattle.autfmt.specs.HideReaders.{IsHideFault, SameLabels, HidesAs}
+use Rattle.autfmt.specs.HideReadSoFar.{AddsLabel, HideReadSoFar}
+use Rattle.autfmt.specs.HideOutcomes.{HideRefuses}
+use Rattle.autfmt.specs.HideOutcomes.HideRefuses.{failed_source, faulty_text}
 use Rattle.autfmt.proofs.Cutting.{IsNoFeed}
 use Rattle.autfmt.proofs.HideLaws.{no_fault, hides_push, no_judged_hide_fault, FirstHideFault-behind}
 use Rattle.autfmt.proofs.Standing.{Stands-line, Stands-lines, Stands-too_long, Stands-end, Stands-more, Stands-cut}
@@ -104,7 +106,7 @@ pub hide_failed :
 hide_failed given old H hidden got rest failures so_far few unjudged failed goes_on part =
     let e = named_length so_far.lines H so_far.named in
     let c = Stands-cut given got so_far.lines old so_far.stands goes_on part.0 in
-    failed_device failed refl
+    failed_source failed refl
     (λ f. no_judged_hide_fault (given ++ got) so_far.lines (old.ahead ++ got) H f c so_far.named (omega arith) part.1
     (subst (λ (k : ℕ). (k < 100000) ⊎ (length (old.ahead ++ got) ≡ 0)) (sym e) unjudged))
 

@@ -1,17 +1,30 @@
 -- Triples over a label table, and the transitions that they stand for.
-use Rattle.std.proofs.Common.{◌≡◌, ℕ, ◌+◌, ◌≤◌, List, [], ◌∷◌, ◌++◌, length, map, refl, sym, ◌∙◌, ap, subst, inl, inr, arith, All}
+use Rattle.std.proofs.Common.{◌≡◌, ◌⊎◌, ℕ, ◌+◌, ◌<◌, ◌≤◌, Contains, List, [], ◌∷◌, ◌++◌, length, map, refl, sym, ◌∙◌, ap, subst, inl, inr, arith, All}
 use Rattle.std.proofs.lemmas.List.{length_push, length-map, map_push}
-use Rattle.std.proofs.lemmas.List.Elements.{All-nil, All-head, All-tail, All-push, All-weaker}
+use Rattle.std.proofs.lemmas.Bool.{cases_lt}
+use Rattle.std.proofs.lemmas.List.Elements.{All-nil, All-head, All-tail, All-push, All-weaker, Contains-append_left, Contains-get_or, Contains-push}
 use Rattle.theory.specs.System.{System, Transition, IsAmong, Hide, hidden_label, hidden_transition}
-use Rattle.lts.specs.Labels.{Keeps, Interns}
+use Rattle.lts.specs.Labels.{Keeps, Interns, IsNumber}
 use Rattle.lts.specs.Lts.{Triple, IsTriple, transition_of, system_from, label_of}
 use Rattle.autfmt.specs.declared.held.Held.{Held}
-use Rattle.autfmt.specs.Held.{Adds, Holds}
+use Rattle.autfmt.specs.Held.{AddsTriple, Holds}
 
--- a label put in makes the table longer by one at most
-pub Interns-length : (old : List (List ℕ)) (a : List ℕ) (now : List (List ℕ)) → Interns old a now → length now ≤ length old + 1
-Interns-length old a now (inl same) = let e = ap length same.1 in omega arith
-Interns-length old a now (inr new) = let e = ap length new.1 ∙ length_push old a in omega arith
+-- where a label is put in, each number is an old one or its own
+pub Interns-known :
+    (old : List (List ℕ)) (a : List ℕ) (now : List (List ℕ)) (number : ℕ) → Interns old a now → Keeps old now → IsNumber now number a →
+    (k : ℕ) → k < length now → (k < length old) ⊎ (k ≡ number)
+Interns-known old a now number (inl same) keeps is k below = let e = ap length same.1 in inl (omega arith)
+Interns-known old a now number (inr new) keeps is k below =
+    let e = ap length new.1 ∙ length_push old a in
+    let last = is.below in
+    elim (cases_lt k (length old)) [
+      | inl known ↦ inl known
+      | inr high ↦ elim (cases_lt number (length old)) [
+        | inl low ↦
+            absurd (new.0 (subst (λ (x : List ℕ). Contains old x) (sym (keeps.texts number low) ∙ is.text) (Contains-get_or old number [] low)))
+        | inr same ↦ inr (omega arith)
+      ]
+    ]
 
 -- triples over a table stand for the same transitions over a longer one
 pub kept_transitions :
@@ -35,29 +48,57 @@ kept_triples n old now es keeps all =
     All-weaker (IsTriple (length old) n) (IsTriple (length now) n)
     (λ e t. let below = t.label in record { source = t.source; label = omega arith; target = t.target }) es all
 
+-- each label of the table is carried, also behind one triple more
+carried_more :
+    (old now : Held) (s : ℕ) (a : List ℕ) (t : ℕ) → (added : AddsTriple old now s a t) →
+    ((k : ℕ) → k < length old.labels → (x : Triple) × Contains old.triples.items x × (label_of x ≡ k)) →
+    (k : ℕ) → k < length now.labels → (x : Triple) × Contains now.triples.items x × (label_of x ≡ k)
+carried_more old now s a t added before k below =
+    let triple : Triple = (s, added.number, t) in
+    let into : (x : Triple) → Contains (old.triples.items ++ triple ∷ []) x → Contains now.triples.items x =
+    λ x h. subst (λ (es : List Triple). Contains es x) (sym added.items) h in
+    elim (added.known k below) [
+      | inl known ↦
+          let (x, among, number) = before k known in (x, into x (Contains-append_left old.triples.items (triple ∷ []) x among), number)
+      | inr new ↦ (triple, into triple (Contains-push old.triples.items triple), sym new)
+    ]
+
+-- the table grows by one label at most
+one_label_more :
+    (old now : Held) (s : ℕ) (a : List ℕ) (t : ℕ) → AddsTriple old now s a t → length now.labels ≤ length old.labels + 1
+one_label_more old now s a t added = elim (cases_lt (length old.labels + 1) (length now.labels)) [
+  | inl many ↦ absurd (elim (added.known (length old.labels) (omega arith)) [
+    | inl below ↦ omega arith
+    | inr is ↦ elim (added.known (length old.labels + 1) many) [ inl below ↦ omega arith | inr is' ↦ omega arith ]
+  ])
+  | inr few ↦ few
+]
+
 -- one transition more is held
 pub Holds-add :
     (H : List (List ℕ)) (n : ℕ) (old now : Held) (es : List Transition) (e : Transition) →
-    Holds H n old es → IsAmong n e → Adds old now e.source (hidden_label H e.label) e.target → Holds H n now (es ++ e ∷ [])
-Holds-add H n old now es e held among (k, number, keeps, longer, items) =
-    let triple : Triple = (e.source, k, e.target) in
+    Holds H n old es → IsAmong n e → AddsTriple old now e.source (hidden_label H e.label) e.target → Holds H n now (es ++ e ∷ [])
+Holds-add H n old now es e held among added =
+    let triple : Triple = (e.source, added.number, e.target) in
     let made : List ℕ → Transition = λ a. record { source = e.source; label = a; target = e.target } in
     let kept =
-    kept_transitions n old.labels now.labels old.triples.items keeps held.among in
-    let all = kept_triples n old.labels now.labels old.triples.items keeps held.among in
+    kept_transitions n old.labels now.labels old.triples.items added.keeps held.among in
+    let all = kept_triples n old.labels now.labels old.triples.items added.keeps held.among in
     let few = held.few_labels in
+    let longer = one_label_more old now e.source (hidden_label H e.label) e.target added in
     record {
       hidden =
-          ap (map (transition_of now.labels)) items
+          ap (map (transition_of now.labels)) added.items
           ∙ map_push (transition_of now.labels) old.triples.items triple
           ∙ ap (λ (t : List Transition). t ++ transition_of now.labels triple ∷ []) (kept ∙ held.hidden)
-          ∙ ap (λ (a : List ℕ). map (hidden_transition H) es ++ made a ∷ []) number.text
+          ∙ ap (λ (a : List ℕ). map (hidden_transition H) es ++ made a ∷ []) added.numbered.text
           ∙ sym (map_push (hidden_transition H) es e);
       among =
-          subst (λ (t : List Triple). All (IsTriple (length now.labels) n) t) (sym items)
+          subst (λ (t : List Triple). All (IsTriple (length now.labels) n) t) (sym added.items)
           (All-push (IsTriple (length now.labels) n) old.triples.items triple all
-          (record { source = among.source; label = number.below; target = among.target }));
-      few_labels = omega (arith, ap length items, length_push old.triples.items triple);
+          (record { source = among.source; label = added.numbered.below; target = among.target }));
+      carried = carried_more old now e.source (hidden_label H e.label) e.target added held.carried;
+      few_labels = omega (arith, ap length added.items, length_push old.triples.items triple);
     }
 
 -- nothing is held
@@ -66,6 +107,7 @@ Holds-new H n held labels triples =
     record {
       hidden = ap (map (transition_of held.labels)) triples;
       among = subst (λ (t : List Triple). All (IsTriple (length held.labels) n) t) (sym triples) (All-nil (IsTriple (length held.labels) n));
+      carried = λ k below. absurd (omega (arith, ap length labels));
       few_labels = omega (arith, ap length labels);
     }
 

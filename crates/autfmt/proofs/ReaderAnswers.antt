@@ -1,17 +1,23 @@
 -- What the answers of a reader of a system say of a whole text.
 use Rattle.std.proofs.Common.{◌≡◌, ℕ, ◌≤◌, List, [], ◌∷◌, ◌++◌, length, map, Option, None, Some, IfSome, Result, Ok, Err, MatchResult, IfOk, IfErr, OnOk, refl, sym, ◌∙◌, ap, subst, inl, inr, arith}
 use Rattle.std.proofs.lemmas.List.{append_cancel_right, append-nil}
+use Rattle.std.proofs.lemmas.List.Sorted.{length_permutation, Contains-permutation}
 use Rattle.std.specs.Io.KnownBytes.{Consumes, IsAtEnd}
 use Rattle.std.proofs.KnownBytes.{Consumes-whole}
-use Rattle.lts.specs.Lts.{Grouped, system_of, Groups}
+use Rattle.lts.specs.Lts.{Grouped, IsGrouping, system_from, system_of, Groups}
 use Rattle.theory.specs.System.{System, Transition, Hide, hidden_transition}
 use Rattle.autfmt.specs.declared.fault.Fault.{Fault}
 use Rattle.autfmt.specs.declared.fault.Fault.TheVariants.{BadHeader, FirstState, NoStates, TooManyStates, TooManyTransitions, LineTooLong, BadEdge, SourceRange, TargetRange, ExtraText, MissingEdges, Device, Memory, BadHide, TooManyHidden}
+use Rattle.autfmt.specs.declared.judge.Promise.{Promise}
+use Rattle.autfmt.specs.declared.held.Held.{Held}
 use Rattle.autfmt.specs.Bounds.{Bounds}
 use Rattle.autfmt.specs.Texts.{Reads, Lines, SpellsSystem}
 use Rattle.autfmt.specs.Faults.{FirstFault, JudgedFault}
-use Rattle.autfmt.specs.Readers.{IsTextFault, IsReadFault, IsMemoryOr, HasGoodHeader, ReadsAs, ReadsSystem, AnswersFailure, Refuses}
-use Rattle.autfmt.specs.Readers.Refuses.{want_of_memory, failed_device, faulty_text}
+use Rattle.autfmt.specs.Readers.{IsTextFault, IsReadFault, IsMemoryOr, HasGoodHeader, ReadsAs, ReadsSystem, AnswersFailure}
+use Rattle.autfmt.specs.Outcomes.{Refuses, ReadsTo, Answers}
+use Rattle.autfmt.specs.ReadSoFar.{HoldsText}
+use Rattle.autfmt.proofs.Holding.{Holds-system, Holds-length}
+use Rattle.autfmt.specs.Outcomes.Refuses.{no_memory, failed_source, faulty_text}
 
 -- what is told of the text, where the bytes got and those to come are
 pub told_whole :
@@ -41,12 +47,12 @@ same_given (Some whole) (Some more) got given rest c e d =
 pub refuses_fault :
     (bounds : Bounds) (old new : Option (List ℕ)) (got : List ℕ) (failures : ℕ) (fault : Fault) → Consumes old new got →
     Refuses bounds got new failures fault → failures ≡ 0 → IfSome old (λ whole. IsMemoryOr (FirstFault bounds whole) fault)
-refuses_fault bounds old new got failures fault c (want_of_memory z e h) sound = all old
+refuses_fault bounds old new got failures fault c (no_memory z e h) sound = all old
   where
     all : (o : Option (List ℕ)) → IfSome o (λ whole. IsMemoryOr (FirstFault bounds whole) fault)
     all None = tt
     all (Some whole) = inl e
-refuses_fault bounds old new got failures fault c (failed_device z e h) sound = absurd (omega arith)
+refuses_fault bounds old new got failures fault c (failed_source z e h) sound = absurd (omega arith)
 refuses_fault bounds old new got failures fault c (faulty_text z k h) sound =
     told_whole old new got (λ whole. IsMemoryOr (FirstFault bounds whole) fault) c (right new h)
   where
@@ -59,8 +65,8 @@ refuses_fault bounds old new got failures fault c (faulty_text z k h) sound =
 pub refuses_memory :
     (bounds : Bounds) (old new : Option (List ℕ)) (got : List ℕ) (failures : ℕ) (fault : Fault) → Consumes old new got →
     Refuses bounds got new failures fault → fault ≡ Memory → IfSome old (HasGoodHeader bounds)
-refuses_memory bounds old new got failures fault c (want_of_memory z e h) is = told_whole old new got (HasGoodHeader bounds) c h
-refuses_memory bounds old new got failures fault c (failed_device z e h) is =
+refuses_memory bounds old new got failures fault c (no_memory z e h) is = told_whole old new got (HasGoodHeader bounds) c h
+refuses_memory bounds old new got failures fault c (failed_source z e h) is =
     absurd (let d : Device ≡ Memory = sym e ∙ is in cc)
 refuses_memory bounds old new got failures fault c (faulty_text z k h) is = absurd (subst (λ (f : Fault). IsTextFault f) is k)
 
@@ -68,24 +74,24 @@ pub refuses_failed :
     (bounds : Bounds) (old new : Option (List ℕ)) (got : List ℕ) (failures : ℕ) (fault : Fault) → Consumes old new got →
     Refuses bounds got new failures fault → failures ≡ 1 → (given rest : List ℕ) → old ≡ Some (given ++ rest) → new ≡ Some rest →
     AnswersFailure (JudgedFault bounds given) fault
-refuses_failed bounds old new got failures fault c (want_of_memory z e h) failed given rest d d' = absurd (omega arith)
+refuses_failed bounds old new got failures fault c (no_memory z e h) failed given rest d d' = absurd (omega arith)
 refuses_failed bounds old new got failures fault c (faulty_text z k h) failed given rest d d' = absurd (omega arith)
-refuses_failed bounds old new got failures fault c (failed_device z e h) failed given rest d d' =
+refuses_failed bounds old new got failures fault c (failed_source z e h) failed given rest d d' =
     let same = same_given old new got given rest c d d' in
     inr (e, λ f j. h f (subst (λ (t : List ℕ). JudgedFault bounds t f) (sym same) j))
 
 pub refuses_device :
     (bounds : Bounds) (new : Option (List ℕ)) (got : List ℕ) (failures : ℕ) (fault : Fault) →
     Refuses bounds got new failures fault → fault ≡ Device → failures ≡ 1
-refuses_device bounds new got failures fault (want_of_memory z e h) is = absurd (let d : Memory ≡ Device = sym e ∙ is in cc)
-refuses_device bounds new got failures fault (failed_device z e h) is = z
+refuses_device bounds new got failures fault (no_memory z e h) is = absurd (let d : Memory ≡ Device = sym e ∙ is in cc)
+refuses_device bounds new got failures fault (failed_source z e h) is = z
 refuses_device bounds new got failures fault (faulty_text z k h) is = absurd (subst (λ (f : Fault). IsTextFault f) is k)
 
 pub refuses_failures :
     (bounds : Bounds) (new : Option (List ℕ)) (got : List ℕ) (failures : ℕ) (fault : Fault) →
     Refuses bounds got new failures fault → failures ≤ 1
-refuses_failures bounds new got failures fault (want_of_memory z e h) = omega arith
-refuses_failures bounds new got failures fault (failed_device z e h) = omega arith
+refuses_failures bounds new got failures fault (no_memory z e h) = omega arith
+refuses_failures bounds new got failures fault (failed_source z e h) = omega arith
 refuses_failures bounds new got failures fault (faulty_text z k h) = omega arith
 
 -- a fault of a text is one that a reader of a system may answer
@@ -109,8 +115,8 @@ text_fault_read Memory h = tt
 pub refuses_kind :
     (bounds : Bounds) (new : Option (List ℕ)) (got : List ℕ) (failures : ℕ) (fault : Fault) →
     Refuses bounds got new failures fault → IsReadFault fault
-refuses_kind bounds new got failures fault (want_of_memory z e h) = subst (λ (f : Fault). IsReadFault f) (sym e) tt
-refuses_kind bounds new got failures fault (failed_device z e h) = subst (λ (f : Fault). IsReadFault f) (sym e) tt
+refuses_kind bounds new got failures fault (no_memory z e h) = subst (λ (f : Fault). IsReadFault f) (sym e) tt
+refuses_kind bounds new got failures fault (failed_source z e h) = subst (λ (f : Fault). IsReadFault f) (sym e) tt
 refuses_kind bounds new got failures fault (faulty_text z k h) = text_fault_read fault k
 
 -- a text that reads as a system has a good header
@@ -163,28 +169,58 @@ failed_answer Good (Err f) bounds old new got failures c h failed given rest d e
 
 -- the system that is answered where no label is hidden
 pub system_answer :
-    (result : Result Grouped Fault) (bounds : Bounds) (H : List (List ℕ)) (old new : Option (List ℕ)) (got : List ℕ)
-    (failures : ℕ) → H ≡ [] → Consumes old new got → OnOk result (IsAtEnd new) →
-    MatchResult result (ReadsAs bounds got H) (Refuses bounds got new failures) →
-    IfSome old (λ whole. IfOk result (ReadsSystem bounds whole))
-system_answer (Ok s) bounds H old new got failures none c end (A, r, groups) =
-    Consumes-whole old new got (λ whole. ReadsSystem bounds whole s) c end (
-      A,
-      r,
-      subst (λ (B : System). Groups B (system_of s)) (Hide-none A)
-          (subst (λ (K : List (List ℕ)). Groups (Hide K A) (system_of s)) none groups),
-    )
-system_answer (Err f) bounds H None new got failures none c end h = tt
-system_answer (Err f) bounds H (Some whole) new got failures none c end h = tt
+    (result : Result Grouped Fault) (bounds : Bounds) (H : List (List ℕ)) (old new : Option (List ℕ)) (failures : ℕ) → H ≡ [] →
+    Answers bounds H old new failures result → IfSome old (λ whole. IfOk result (ReadsSystem bounds whole))
+system_answer result bounds H old new failures none t = answer result t.outcome
+  where
+    answer :
+        (r : Result Grouped Fault) → MatchResult r (ReadsTo bounds H t.given new failures) (Refuses bounds t.given new failures) →
+        IfSome old (λ whole. IfOk r (ReadsSystem bounds whole))
+    answer (Ok s) to =
+        let (A, r, groups) = to.read in
+        Consumes-whole old new t.given (λ whole. ReadsSystem bounds whole s) t.took to.at_end (
+          A,
+          r,
+          subst (λ (B : System). Groups B (system_of s)) (Hide-none A)
+              (subst (λ (K : List (List ℕ)). Groups (Hide K A) (system_of s)) none groups),
+        )
+    answer (Err f) h = none_told old
+      where
+        none_told : (o : Option (List ℕ)) → IfSome o (λ whole. IfOk (Err f) (ReadsSystem bounds whole))
+        none_told None = tt
+        none_told (Some whole) = tt
 
 -- there was no memory to build the system of a text that was read
 pub refuses_built :
     (bounds : Bounds) (A : System) (new : Option (List ℕ)) (got : List ℕ) (failures : ℕ) → failures ≡ 0 → IsAtEnd new →
     Reads bounds got A → Refuses bounds got new failures Memory
-refuses_built bounds A new got failures sound end r = want_of_memory sound refl (told new end)
+refuses_built bounds A new got failures sound end r = no_memory sound refl (told new end)
   where
     told : (o : Option (List ℕ)) → IsAtEnd o → IfSome o (λ more. HasGoodHeader bounds (got ++ more))
     told None e = tt
     told (Some more) e =
         subst (λ (t : List ℕ). HasGoodHeader bounds t) (sym (append-nil got) ∙ ap (λ (t : List ℕ). got ++ t) (sym e))
         (Reads-header bounds got A r)
+
+-- the system that was built of what was read
+pub reads_built :
+    (bounds : Bounds) (H : List (List ℕ)) (got : List ℕ) (p : Promise) (held : Held) (rest : Option (List ℕ)) (failures : ℕ)
+    (s : Grouped) →
+    HoldsText bounds H got p held → s.labels ≡ held.labels → IsGrouping held.triples.items s.places →
+    Groups (system_from p.first p.states held.labels held.triples.items) (system_of s) → IsAtEnd rest → failures ≡ 0 →
+    ReadsTo bounds H got rest failures s
+reads_built bounds H got p held rest failures s (es, read, holds) labels grouping groups end sound =
+    let A : System = record { first = p.first; states = p.states; transitions = es } in
+    let hides = Holds-system H p.first p.states held es holds in
+    let states = groups.states in
+    let count = length_permutation held.triples.items s.places grouping.same ∙ Holds-length H p.states held es holds in
+    record {
+      read = (A, read, subst (λ (B : System). Groups B (system_of s)) hides groups);
+      as_many = count;
+      within = record { states = omega (arith, read.states); transitions = omega (arith, read.transitions) };
+      carried = λ k below.
+          let (e, among, number) = holds.carried k (omega (arith, ap length labels)) in
+          (e, Contains-permutation held.triples.items s.places e grouping.same among, number);
+      at_end = end;
+      sound = sound;
+    }

@@ -16,8 +16,10 @@ use Rattle.autfmt.specs.Texts.{Lines, Reads}
 use Rattle.autfmt.specs.Faults.{HeaderFault, GoodHeader, EdgeFault, FaultFrom, Missing, FirstFault}
 use Rattle.autfmt.specs.Cutter.{Cutting, Stands, CutsLine, CutsEnd, BeginsTooLong, IsPart}
 use Rattle.autfmt.specs.Held.{Holds}
-use Rattle.autfmt.specs.Readers.{IsTextFault, HasGoodHeader, Refuses, ReadSoFar}
-use Rattle.autfmt.specs.Readers.Refuses.{want_of_memory, failed_device, faulty_text}
+use Rattle.autfmt.specs.Readers.{IsTextFault, HasGoodHeader}
+use Rattle.autfmt.specs.Outcomes.{Refuses}
+use Rattle.autfmt.specs.ReadSoFar.{ReadSoFar}
+use Rattle.autfmt.specs.Outcomes.Refuses.{no_memory, failed_source, faulty_text}
 use Rattle.autfmt.proofs.Cutting.{IsNoFeed}
 use Rattle.autfmt.proofs.FaultLaws.{GoodLines, GoodLines-length, GoodLines-push, Reads-from_lines}
 use Rattle.autfmt.proofs.JudgedLaws.{no_judged_header, no_judged_fault, FirstFault-behind}
@@ -74,7 +76,7 @@ pub header_failed :
 header_failed bounds old got rest failures e failed part =
     let a : old.ahead ++ got ≡ got = ap (λ (c : Cutting). c.ahead ++ got) e in
     let p = subst (λ (t : List ℕ). IsPart t) a part in
-    failed_device failed refl (λ f. no_judged_header bounds got f p.0 p.1)
+    failed_source failed refl (λ f. no_judged_header bounds got f p.0 p.1)
 
 -- line 1 is good
 pub header_good :
@@ -169,7 +171,7 @@ transition_failed bounds given old p es got rest failures so_far few unjudged fa
     let edges = good_lines bounds given old p es so_far in
     let e = GoodLines-length p.states so_far.lines es edges in
     let c = Stands-cut given got (so_far.header ∷ so_far.lines) old so_far.stands goes_on part.0 in
-    failed_device failed refl
+    failed_source failed refl
     (λ f. no_judged_fault bounds (given ++ got) so_far.header so_far.lines (old.ahead ++ got) p.first p.transitions p.states es f
     c so_far.good edges (omega arith) part.1
     (subst (λ (k : ℕ). (k < p.transitions) ⊎ (length (old.ahead ++ got) ≡ 0)) (sym e) unjudged))
@@ -222,7 +224,7 @@ pub transition_refused :
     ReadSoFar bounds given old p es → failures ≡ 0 → (old.over ≡ true → ⊥) → (now.over ≡ true → IsAtEnd rest) →
     CutsLine (old.ahead ++ got) now → Refuses bounds (given ++ got) rest failures Memory
 transition_refused bounds given old now p es got rest failures so_far sound goes_on end cuts =
-    want_of_memory sound refl
+    no_memory sound refl
     (if_told rest (λ more. HasGoodHeader bounds (given ++ got ++ more))
     (λ more told.
     let s = Stands-line given got (so_far.header ∷ so_far.lines) old now so_far.stands goes_on cuts in

@@ -12,7 +12,11 @@ pub mod Gathering
 pub mod HideLists
 pub mod Held
 pub mod HideReaders
+pub mod HideReadSoFar
+pub mod HideOutcomes
 pub mod Readers
+pub mod ReadSoFar
+pub mod Outcomes
 pub mod Written
 pub mod Ranks
 pub mod Progress

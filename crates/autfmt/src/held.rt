@@ -2,7 +2,7 @@
 ghost use Rattle.std.specs.Prelude.{◌≡◌, ℕ, ◌+◌, ◌<◌, ◌≤◌, List, [], ◌∷◌, ◌++◌, length, vec_len, IfOk, OnOk, OnErr};
 ghost use Rattle.theory.specs.System.{Transition, IsLabel, IsAmong};
 ghost use Rattle.lts.specs.Labels.{IsNumber, Interns, Keeps};
-ghost use Rattle.autfmt.specs.Held.{Adds};
+ghost use Rattle.autfmt.specs.Held.{AddsTriple};
 
 use lts::{Labels, Memory};
 use std::alloc::{AllocError, Global};
@@ -48,7 +48,7 @@ impl Held {
         requires few { length self.old.labels ≤ vec_len self.old.triples }
         requires promised { vec_len self.old.triples < promised }
         requires file { promised ≤ 10000000 }
-        ensures added { OnOk result (Adds self.old self.new source label.now target) }
+        ensures added { OnOk result (AddsTriple self.old self.new source label.now target) }
         ensures len { OnOk result (vec_len self.new.triples ≡ vec_len self.old.triples + 1) }
         ensures few { OnOk result (length self.new.labels ≤ vec_len self.new.triples) }
     {

@@ -3,7 +3,9 @@ ghost use Rattle.std.specs.Prelude.{◌≡◌, ℕ, ◌+◌, ◌<◌, ◌≤◌,
 ghost use Rattle.std.specs.Io.KnownBytes.{Consumes, IsAtEnd};
 ghost use Rattle.autfmt.specs.HideLists.{HideReads, FirstHideFault, JudgedHideFault};
 ghost use Rattle.autfmt.specs.Readers.{IsMemoryOr, AnswersFailure};
-ghost use Rattle.autfmt.specs.HideReaders.{IsHideReadFault, HidesAs, HideRefuses, HideReadSoFar};
+ghost use Rattle.autfmt.specs.HideReaders.{IsHideReadFault, HidesAs};
+ghost use Rattle.autfmt.specs.HideReadSoFar.{HideReadSoFar};
+ghost use Rattle.autfmt.specs.HideOutcomes.{HideRefuses, HideAnswers};
 
 use crate::cutter::{Cutter, Step};
 use crate::fault::Fault;
@@ -24,6 +26,7 @@ const MOST_LINES: u32 = 100_000;
 /// open.
 pub fn read_hidden<R: Source>(alloc: Global, r: &mut R) -> Result<Hidden, Fault>
     requires { R.failures r.old ≡ 0 }
+    ensures outcome { HideAnswers (R.rest r.old) (R.rest r.new) (R.failures r.new) result }
     ensures labels { IfSome (R.rest r.old) (λ text. IfOk result (HidesAs text)) }
     ensures whole { IfSome (R.rest r.old) (λ _. OnOk result (R.rest r.new ≡ Some [])) }
     ensures fault { R.failures r.new ≡ 0 →
@@ -42,10 +45,7 @@ pub fn read_hidden<R: Source>(alloc: Global, r: &mut R) -> Result<Hidden, Fault>
 /// Reads the lines of a hide list, and that nothing stands behind the last one that may.
 fn read_labels<R: Source>(alloc: Global, r: &mut R) -> Result<Hidden, Fault>
     requires { R.failures r.old ≡ 0 }
-    ensures answer { (got : List ℕ) × Consumes (R.rest r.old) (R.rest r.new) got ×
-        MatchResult result (HidesAs got) (HideRefuses got (R.rest r.new) (R.failures r.new)) }
-    ensures end { OnOk result (IsAtEnd (R.rest r.new)) }
-    ensures sound { OnOk result (R.failures r.new ≡ 0) }
+    ensures { HideAnswers (R.rest r.old) (R.rest r.new) (R.failures r.new) result }
 {
     let mut cutter = Cutter::new();
     let mut hidden = Hidden::none(alloc);

@@ -6,7 +6,9 @@ ghost use Rattle.lts.specs.Lts.{InRange};
 ghost use Rattle.autfmt.specs.Bounds.{Bounds};
 ghost use Rattle.autfmt.specs.Cutter.{Cutting};
 ghost use Rattle.autfmt.specs.Faults.{FirstFault, JudgedFault};
-ghost use Rattle.autfmt.specs.Readers.{IsReadFault, IsMemoryOr, HasGoodHeader, ReadsAs, ReadsSystem, AnswersFailure, Refuses, ReadSoFar, Standing, HoldsText};
+ghost use Rattle.autfmt.specs.Readers.{IsReadFault, IsMemoryOr, HasGoodHeader, ReadsAs, ReadsSystem, AnswersFailure};
+ghost use Rattle.autfmt.specs.ReadSoFar.{ReadSoFar, Standing, HoldsText};
+ghost use Rattle.autfmt.specs.Outcomes.{Refuses, Answers};
 
 use crate::cutter::{Cutter, Step};
 use crate::fault::Fault;
@@ -28,6 +30,7 @@ use std::alloc::Global;
 /// taken beyond a fault is open.
 pub fn read<M: Meter, R: Source>(alloc: Global, r: &mut R, lim: &Limits) -> Result<Lts<M>, Fault>
     requires { R.failures r.old ≡ 0 }
+    ensures outcome { Answers lim.now [] (R.rest r.old) (R.rest r.new) (R.failures r.new) result }
     ensures system { IfSome (R.rest r.old) (λ text. IfOk result (ReadsSystem lim.now text)) }
     ensures whole { IfSome (R.rest r.old) (λ _. OnOk result (R.rest r.new ≡ Some [])) }
     ensures fault { R.failures r.new ≡ 0 →
@@ -55,6 +58,7 @@ pub fn read_hiding<M: Meter, R: Source>(
     h: &Hidden,
 ) -> Result<Lts<M>, Fault>
     requires { R.failures r.old ≡ 0 }
+    ensures outcome { Answers lim.now h.now (R.rest r.old) (R.rest r.new) (R.failures r.new) result }
     ensures system { IfSome (R.rest r.old) (λ text. IfOk result (ReadsAs lim.now text h.now)) }
     ensures whole { IfSome (R.rest r.old) (λ _. OnOk result (R.rest r.new ≡ Some [])) }
     ensures fault { R.failures r.new ≡ 0 →
@@ -79,12 +83,7 @@ fn read_system<M: Meter, R: Source>(
     h: &Hidden,
 ) -> Result<Lts<M>, Fault>
     requires { R.failures r.old ≡ 0 }
-    ensures answer { (got : List ℕ) × Consumes (R.rest r.old) (R.rest r.new) got ×
-        MatchResult result
-        (ReadsAs lim.now got h.now)
-        (Refuses lim.now got (R.rest r.new) (R.failures r.new)) }
-    ensures end { OnOk result (IsAtEnd (R.rest r.new)) }
-    ensures sound { OnOk result (R.failures r.new ≡ 0) }
+    ensures { Answers lim.now h.now (R.rest r.old) (R.rest r.new) (R.failures r.new) result }
 {
     let (promise, held) = read_text(alloc, r, lim, h)?;
     let Held {

@@ -1,4 +1,4 @@
-use Rattle.std.proofs.Common.{◌+◌, ℕ, [], ◌∷◌, ◌++◌, length, ◌∙◌, ap, refl, arith}
+use Rattle.std.proofs.Common.{◌+◌, ℕ, [], ◌∷◌, ◌++◌, length, Ok, ◌∙◌, ap, refl, arith}
 use Rattle.std.proofs.lemmas.List.{length_push}
 use Rattle.std.proofs.lemmas.Result.{err_from_is_err_and}
 use Rattle.std.proofs.KnownBytes.{Consumes-nil, Consumes-trans}
@@ -20,26 +20,34 @@ loop-found-init g c = record {
   end = λ over. absurd (fresh_goes_on c.new-cutter.result c.new-cutter.ensures over);
 }
 
-pub returns-in_err-some-clause-answer : goal.returns-in_err-some-clause-answer
-returns-in_err-some-clause-answer g c =
+pub returns-in_err-some : goal.returns-in_err-some
+returns-in_err-some g c =
     let so_far = c.loop-found.invariant.got in
     let step = c.in_err-some.ensures.line in
-    let exit = err_from_is_err_and c.from_residual.result c.from_residual.ensures.1 in (
-      so_far.0 ++ step.0,
-      Consumes-trans (g.R.Source.rest c.args.r.now) (g.R.Source.rest c.loop-found.r) (g.R.Source.rest c.read_hide_line.new.r)
-          so_far.0 step.0 so_far.1 step.1,
-      rw (exit.1, exit.2) (step.2 so_far.0 so_far.2 so_far.3 so_far.4),
-    )
+    let exit = err_from_is_err_and c.from_residual.result c.from_residual.ensures.1 in
+    record {
+      given = so_far.0 ++ step.0;
+      took =
+          Consumes-trans (g.R.Source.rest c.args.r.now) (g.R.Source.rest c.loop-found.r) (g.R.Source.rest c.read_hide_line.new.r)
+          so_far.0 step.0 so_far.1 step.1;
+      outcome = rw (exit.1, exit.2) (step.2 so_far.0 so_far.2 so_far.3 so_far.4);
+    }
 
-pub returns-then-not-some-clause-answer : goal.returns-then-not-some-clause-answer
-returns-then-not-some-clause-answer g c =
+pub returns-then-not-some : goal.returns-then-not-some
+returns-then-not-some g c =
     let so_far = c.loop-found.invariant.got in
-    let step = rw c.if-not-some.true at c.in_ok-some.ensures.line in (
-      so_far.0 ++ step.0,
-      Consumes-trans (g.R.Source.rest c.args.r.now) (g.R.Source.rest c.loop-found.r) (g.R.Source.rest c.read_hide_line.new.r)
-          so_far.0 step.0 so_far.1 step.1,
-      step.2 so_far.0 so_far.2 so_far.3 so_far.4,
-    )
+    let step = rw c.if-not-some.true at c.in_ok-some.ensures.line in
+    record {
+      given = so_far.0 ++ step.0;
+      took =
+          Consumes-trans (g.R.Source.rest c.args.r.now) (g.R.Source.rest c.loop-found.r) (g.R.Source.rest c.read_hide_line.new.r)
+          so_far.0 step.0 so_far.1 step.1;
+      outcome = record {
+        read = step.2 so_far.0 so_far.2 so_far.3 so_far.4;
+        at_end = c.in_ok-some.ensures.last (ap Ok c.if-not-some.true);
+        sound = c.in_ok-some.ensures.sound;
+      };
+    }
 
 pub loop-found-preserved : goal.loop-found-preserved
 loop-found-preserved g c =
@@ -61,42 +69,54 @@ loop-found-preserved g c =
       end = c.in_ok-some.ensures.end;
     }
 
-pub returns-in_err-at_end-clause-answer : goal.returns-in_err-at_end-clause-answer
-returns-in_err-at_end-clause-answer g c =
+pub returns-in_err-at_end : goal.returns-in_err-at_end
+returns-in_err-at_end g c =
     let so_far = c.loop-found.invariant.got in
     let last = c.in_err-at_end.ensures.look in
     let count = so_far.4 in
-    let exit = err_from_is_err_and c.from_residual-in_err-at_end.result c.from_residual-in_err-at_end.ensures.1 in (
-      so_far.0 ++ last.0,
-      Consumes-trans (g.R.Source.rest c.args.r.now) (g.R.Source.rest c.loop-found.r) (g.R.Source.rest c.is_at_end.new.r)
-          so_far.0 last.0 so_far.1 last.1,
-      rw (exit.1, exit.2)
+    let exit = err_from_is_err_and c.from_residual-in_err-at_end.result c.from_residual-in_err-at_end.ensures.1 in
+    record {
+      given = so_far.0 ++ last.0;
+      took =
+          Consumes-trans (g.R.Source.rest c.args.r.now) (g.R.Source.rest c.loop-found.r) (g.R.Source.rest c.is_at_end.new.r)
+          so_far.0 last.0 so_far.1 last.1;
+      outcome =
+          rw (exit.1, exit.2)
           (hide_end_failed so_far.0 c.loop-found.cutter so_far.2 c.loop-found.hidden last.0 (g.R.Source.rest c.is_at_end.new.r)
           (g.R.Source.failures c.is_at_end.new.r) so_far.3 (omega arith) c.in_err-at_end.ensures.failures
-          (λ over. let a = c.is_at_end.ensures.over over in let b = c.in_err-at_end.was in cc) last.2),
-    )
+          (λ over. let a = c.is_at_end.ensures.over over in let b = c.in_err-at_end.was in cc) last.2);
+    }
 
-pub returns-then-not-at_end-clause-answer : goal.returns-then-not-at_end-clause-answer
-returns-then-not-at_end-clause-answer g c =
+pub returns-then-not-at_end : goal.returns-then-not-at_end
+returns-then-not-at_end g c =
     let so_far = c.loop-found.invariant.got in
     let last = rw c.if-not-at_end.true at c.in_ok-at_end.ensures.look in
-    let count = so_far.4 in (
-      so_far.0 ++ last.0,
-      Consumes-trans (g.R.Source.rest c.args.r.now) (g.R.Source.rest c.loop-found.r) (g.R.Source.rest c.is_at_end.new.r)
-          so_far.0 last.0 so_far.1 last.1,
-      hide_behind so_far.0 c.loop-found.cutter so_far.2 c.loop-found.hidden last.0 (g.R.Source.rest c.is_at_end.new.r)
+    let count = so_far.4 in
+    record {
+      given = so_far.0 ++ last.0;
+      took =
+          Consumes-trans (g.R.Source.rest c.args.r.now) (g.R.Source.rest c.loop-found.r) (g.R.Source.rest c.is_at_end.new.r)
+          so_far.0 last.0 so_far.1 last.1;
+      outcome =
+          hide_behind so_far.0 c.loop-found.cutter so_far.2 c.loop-found.hidden last.0 (g.R.Source.rest c.is_at_end.new.r)
           (g.R.Source.failures c.is_at_end.new.r) so_far.3 (omega arith) c.in_ok-at_end.ensures.failures
           (λ over. let a = c.is_at_end.ensures.over over in let b = c.in_ok-at_end.was in let d = c.if-not-at_end.true in cc)
-          (last.2.3 refl),
-    )
+          (last.2.3 refl);
+    }
 
-pub returns-clause-answer : goal.returns-clause-answer
-returns-clause-answer g c =
+pub returns : goal.returns
+returns g c =
     let so_far = c.loop-found.invariant.got in
     let last = rw c.if-not-at_end.false at c.in_ok-at_end.ensures.look in
-    let count = so_far.4 in (
-      so_far.0 ++ last.0,
-      Consumes-trans (g.R.Source.rest c.args.r.now) (g.R.Source.rest c.loop-found.r) (g.R.Source.rest c.is_at_end.new.r)
-          so_far.0 last.0 so_far.1 last.1,
-      hide_ends so_far.0 c.loop-found.cutter so_far.2 c.loop-found.hidden last.0 so_far.3 (omega arith) (last.2.2 refl),
-    )
+    let count = so_far.4 in
+    record {
+      given = so_far.0 ++ last.0;
+      took =
+          Consumes-trans (g.R.Source.rest c.args.r.now) (g.R.Source.rest c.loop-found.r) (g.R.Source.rest c.is_at_end.new.r)
+          so_far.0 last.0 so_far.1 last.1;
+      outcome = record {
+        read = hide_ends so_far.0 c.loop-found.cutter so_far.2 c.loop-found.hidden last.0 so_far.3 (omega arith) (last.2.2 refl);
+        at_end = c.is_at_end.ensures.end c.loop-found.invariant.end last.2.1;
+        sound = c.in_ok-at_end.ensures.failures;
+      };
+    }

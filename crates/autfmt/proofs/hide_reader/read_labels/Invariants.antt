@@ -1,6 +1,6 @@
 use Rattle.std.proofs.Common.{◌≡◌, ℕ, ◌≤◌, true, List, length}
 use Rattle.std.specs.Io.KnownBytes.{Consumes, IsAtEnd}
-use Rattle.autfmt.specs.HideReaders.{HideReadSoFar}
+use Rattle.autfmt.specs.HideReadSoFar.{HideReadSoFar}
 use Rattle.autfmt.proofs.hide_reader.read_labels.Given as goal
 
 abbrev pub invariant-loop-found : goal.invariant-loop-found

@@ -1,14 +1,35 @@
 use Rattle.std.proofs.lemmas.Result.{err_from_is_err_and}
-use Rattle.autfmt.proofs.ReaderAnswers.{refuses_built}
+use Rattle.autfmt.proofs.ReaderAnswers.{refuses_built, reads_built}
 use Rattle.autfmt.proofs.reader.read_system.Goals as goal
 
-pub returns-in_err-system-clause-answer : goal.returns-in_err-system-clause-answer
-returns-in_err-system-clause-answer g c =
+pub returns-in_err-promise : goal.returns-in_err-promise
+returns-in_err-promise g c =
+    let a = c.in_err-promise.ensures.whole in
+    let exit = err_from_is_err_and c.from_residual.result c.from_residual.ensures.1 in
+    record { given = a.0; took = a.1; outcome = rw (exit.1, exit.2) a.2 }
+
+pub returns-in_err-system : goal.returns-in_err-system
+returns-in_err-system g c =
     let a = c.in_ok-promise.ensures.whole in
-    let exit = err_from_is_err_and c.from_residual-in_err-system.result c.from_residual-in_err-system.ensures.1 in (
-      a.0,
-      a.1,
-      rw (exit.1, exit.2)
+    let exit = err_from_is_err_and c.from_residual-in_err-system.result c.from_residual-in_err-system.ensures.1 in
+    record {
+      given = a.0;
+      took = a.1;
+      outcome =
+          rw (exit.1, exit.2)
           (refuses_built c.args.lim.now _ (g.R.Source.rest c.read_text.new.r) a.0 (g.R.Source.failures c.read_text.new.r)
-          c.in_ok-promise.ensures.sound c.in_ok-promise.ensures.end a.2.1),
-    )
+          c.in_ok-promise.ensures.sound c.in_ok-promise.ensures.end a.2.1);
+    }
+
+pub returns : goal.returns
+returns g c =
+    let a = c.in_ok-promise.ensures.whole in
+    let b = c.in_ok-system.ensures in
+    record {
+      given = a.0;
+      took = a.1;
+      outcome =
+          reads_built c.args.lim.now c.args.h.now a.0 c.in_ok-promise.promise c.in_ok-promise.held
+          (g.R.Source.rest c.read_text.new.r) (g.R.Source.failures c.read_text.new.r) c.in_ok-system.system a.2 b.labels b.grouping
+          b.system c.in_ok-promise.ensures.end c.in_ok-promise.ensures.sound;
+    }

@@ -2,7 +2,8 @@ use Rattle.std.proofs.Common.{ℕ, List, [], ◌∷◌, ◌++◌, sym, subst, ar
 use Rattle.std.proofs.lemmas.List.{append_assoc, append-nil}
 use Rattle.std.proofs.lemmas.Result.{err_from_is_err_and}
 use Rattle.std.proofs.KnownBytes.{Consumes-nil, Consumes-trans}
-use Rattle.autfmt.specs.Readers.{Refuses, ReadSoFar}
+use Rattle.autfmt.specs.Outcomes.{Refuses}
+use Rattle.autfmt.specs.ReadSoFar.{ReadSoFar}
 use Rattle.autfmt.proofs.reader.read_transitions.Goals as goal
 
 pub loop-found-init : goal.loop-found-init

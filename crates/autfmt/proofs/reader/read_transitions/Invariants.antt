@@ -2,7 +2,7 @@ use Rattle.std.proofs.Common.{◌≡◌, ℕ, ◌≤◌, true, List, [], ◌++�
 use Rattle.std.specs.Io.KnownBytes.{Consumes, IsAtEnd}
 use Rattle.theory.specs.System.{Transition}
 use Rattle.autfmt.specs.Bounds.{Bounds}
-use Rattle.autfmt.specs.Readers.{Standing}
+use Rattle.autfmt.specs.ReadSoFar.{Standing}
 use Rattle.autfmt.proofs.reader.read_transitions.Given as goal
 
 abbrev pub invariant-loop-found : goal.invariant-loop-found
