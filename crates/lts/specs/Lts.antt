@@ -10,12 +10,15 @@ use Rattle.lts.specs.Labels.{IsTable, text_of}
 abbrev pub Triple : Type 0
 Triple = ℕ × ℕ × ℕ
 
+-- where it starts
 abbrev pub source_of : Triple → ℕ
 source_of e = e.0
 
+-- the number of its label
 abbrev pub label_of : Triple → ℕ
 label_of e = e.1
 
+-- where it ends
 abbrev pub target_of : Triple → ℕ
 target_of e = e.2
 

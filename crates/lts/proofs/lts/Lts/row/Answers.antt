@@ -1,9 +1,8 @@
-use Rattle.std.proofs.Common.{◌≡◌, ◌∙◌, ◌<◌, ◌-◌, ◌+◌, ap, sym, arith}
+use Rattle.std.proofs.Common.{◌≡◌, ◌∙◌, ◌<◌, ◌-◌, ap, arith}
 use Rattle.std.proofs.lemmas.List.{get_or_read}
 use Rattle.lts.specs.Lts.{before}
 use Rattle.lts.specs.Rows.{laid_out}
-use Rattle.lts.proofs.Rows.{before-zero}
-use Rattle.lts.proofs.Fields.{laid_out-states, laid_out-end, laid_out-row}
+use Rattle.lts.proofs.Fields.{laid_out-states, laid_out-first, laid_out-next, laid_out-row}
 use Rattle.lts.proofs.lts.Lts.row.Goals as goal
 use Rattle.lts.proofs.lts.Lts.row.Goals.{then-s-eq0, else-s-eq0}
 
@@ -28,11 +27,10 @@ returns g c =
     let states = ap (λ l. l.states) c.self.view_is in
     let below : c.args.s < view.states = omega (arith, c.requires) in
     let begin : c.if-s-eq0.start ≡ before c.args.s view.places = elim c.if-s-eq0.branch [
-      | then-s-eq0 w ↦ w.start-is ∙ sym (ap (λ s. before s view.places) w.if-s-eq0.true ∙ before-zero view.places)
+      | then-s-eq0 w ↦ laid_out-first view ends pairs c.self.invariant c.args.s _ w.if-s-eq0.true w.start-is
       | else-s-eq0 w ↦
           let last = get_or_read ends (c.args.s - 1) w.index.result.now (omega arith) w.index.ensures 0 in
-          let same : (c.args.s - 1) + 1 ≡ c.args.s = let h = w.if-s-eq0.false in omega arith in
-          w.start-is ∙ last ∙ laid_out-end view ends pairs c.self.invariant (c.args.s - 1) (omega arith) ∙ ap (λ s. before s view.places) same
+          laid_out-next view ends pairs c.self.invariant c.args.s _ w.if-s-eq0.false below (w.start-is ∙ last)
     ] in
     let end = get_or_read ends c.args.s c.index-2.result.now (omega arith) c.index-2.ensures 0 in
     rw (← c.self.view_is) (laid_out-row view ends pairs c.self.invariant c.args.s c.if-s-eq0.start c.index-2.result.now below begin end)
