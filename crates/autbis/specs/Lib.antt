@@ -1,3 +1,6 @@
+pub mod Files
 pub mod Reports
 pub mod Words
 pub mod Runs
+pub mod Jobs
+pub mod Programs

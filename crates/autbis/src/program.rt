@@ -1,48 +1,57 @@
 //! A job done: the files opened, the run, and what is said of it.
-ghost use Rattle.std.specs.Prelude.{◌≡◌, ◌≤◌, ◌⊎◌, [], None, IfSome, IfOk, IfErr};
+ghost use Rattle.std.specs.Prelude.{◌≡◌, ◌≤◌, ◌⊎◌, [], ◌∷◌, Some, IfSome, IfOk, IfErr, option_map, string_bytes};
+ghost use Rattle.autbis.specs.Files.{Name, Opens};
+ghost use Rattle.autbis.specs.Jobs.{HidesNamed, given};
 ghost use Rattle.autbis.specs.Reports.{IsFaultStatus};
 ghost use Rattle.autbis.specs.Runs.{IsMinimised, IsFaulty, BeginsQuotient};
 ghost use Rattle.quotient.specs.Relations.{meant};
 ghost use Rattle.theory.specs.Quotient.{allowance};
 
-use crate::report::{cannot_open, report};
+use crate::opener::Opener;
+use crate::reports::{cannot_open, report};
 use crate::run::{Counts, run_min};
-use autfmt::{FromRead, Hidden, Limits, Sink, Source, read_hidden};
+use autfmt::{Hidden, Limits, Sink, Source, read_hidden};
 use lts::{Counter, Meter};
 use quotient::Relation;
 use std::alloc::Global;
-use std::fs;
 use std::io::Write;
-use std::rt::Files;
 
-/// The file `name` as a source. Where it cannot be opened, that is said on `e`, and the answer is the exit
-/// status, 5.
-pub fn open<R: Files, E: Write>(rt: &R, name: &str, e: &mut E) -> Result<FromRead<R::File>, u8>
-    ensures source { IfOk result (λ s. s.failures ≡ 0) }
+/// Opens the file `name`.
+///
+/// # Errors
+/// The exit status, 5, if it cannot be opened. That is said on `e`.
+pub fn open<F: Opener, E: Write>(files: &mut F, name: &str, e: &mut E) -> Result<F::File, u8>
+    ensures sound { IfOk result (λ file. F.File.failures file ≡ 0) }
+    ensures bytes { IfSome (F.holds files.old name.now) (λ text. IfOk result (λ file. F.File.rest file ≡ Some text)) }
     ensures status { IfErr result (λ status. status ≡ 5) }
+    ensures opened { Opens (F.opened files.old) (F.opened files.new) (name.now ∷ []) }
+    ensures kept { (other : Name) → F.holds files.new other ≡ F.holds files.old other }
 {
-    match fs::open(rt, name) {
-        Ok(file) => Ok(FromRead::new(file)),
+    match files.open(name) {
+        Ok(file) => Ok(file),
         Err(_) => Err(cannot_open(name, e)),
     }
 }
 
-/// The labels of the hide list, none where there is no list. Where it cannot be opened or read, that is
-/// said on `e`, and the answer is the exit status, 2, 4 or 5.
-pub fn hidden_of<R: Files, E: Write>(
+/// Opens and reads the hide list, and returns its labels; none if there is no list.
+///
+/// # Errors
+/// The exit status, 2, 4 or 5, if the list cannot be opened or read. That is said on `e`.
+pub fn hidden_of<F: Opener, E: Write>(
     alloc: Global,
-    rt: &R,
+    files: &mut F,
     hide: &Option<String>,
     e: &mut E,
 ) -> Result<Hidden, u8>
-    ensures none { hide.now ≡ None → IfOk result (λ h. h ≡ []) }
+    ensures labels { IfOk result (HidesNamed (F.holds files.old) (option_map string_bytes hide.now)) }
     ensures status { IfErr result IsFaultStatus }
+    ensures opened { Opens (F.opened files.old) (F.opened files.new) (given (option_map string_bytes hide.now)) }
 {
     let Some(name) = hide else {
         return Ok(Hidden::none(alloc));
     };
-    let mut source = open(rt, name.as_str(), e)?;
-    match read_hidden(alloc, &mut source) {
+    let mut list = open(files, name.as_str(), e)?;
+    match read_hidden(alloc, &mut list) {
         Ok(hidden) => Ok(hidden),
         Err(fault) => Err(report(&fault, name.as_str(), e)),
     }

@@ -1,8 +1,9 @@
 //! The worked examples of command words, messages and exit statuses.
 ghost use Rattle.std.specs.Prelude.{◌≡◌};
 
+use crate::opener::Disk;
 use crate::program::{hidden_of, min_program, open};
-use crate::report::{cannot_open, report, report_words};
+use crate::reports::{cannot_open, report, report_words};
 use crate::run_tests::{SILENT_DETOUR, TWO_EQUAL_TARGETS};
 use crate::words::{Job, WordFault, command};
 use autfmt::{Fault, Hidden, Limits, Sink, SliceSource, Source, VecSink};
@@ -271,13 +272,14 @@ fn silent_detour_stats(rt: HostRuntime) {
 
 #[test]
 fn no_file(rt: HostRuntime) {
+    let files = &mut Disk::new(&rt);
     let mut said = Vec::new(rt.alloc());
-    let answer = open(&rt, "no such file.aut", &mut said);
+    let answer = open(files, "no such file.aut", &mut said);
     assert!(rt; matches!(&answer, Err(5)));
     assert!(rt; said.as_slice() == "autbis: no such file.aut: cannot open\n".as_bytes());
     let name = String::from_str(rt.alloc(), "no such list").expect(&rt, "memory");
     let mut said = Vec::new(rt.alloc());
-    let answer = hidden_of(rt.alloc(), &rt, &Some(name), &mut said);
+    let answer = hidden_of(rt.alloc(), files, &Some(name), &mut said);
     assert!(rt; matches!(&answer, Err(5)));
     assert!(rt; said.as_slice() == "autbis: no such list: cannot open\n".as_bytes());
 }
@@ -285,7 +287,7 @@ fn no_file(rt: HostRuntime) {
 #[test]
 fn folder(rt: HostRuntime) {
     let mut said = Vec::new(rt.alloc());
-    match open(&rt, ".", &mut said) {
+    match open(&mut Disk::new(&rt), ".", &mut said) {
         Ok(mut source) => {
             let (status, written, said) = ran(&rt, rt.alloc(), &mut source, ".", false);
             assert!(rt; status == 5 && written.is_empty());

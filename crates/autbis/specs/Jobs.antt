@@ -1,0 +1,48 @@
+-- A job: which files it opens, and what it does with what they hold.
+use Rattle.std.specs.Prelude.{◌≡◌, ℕ, List, [], ◌∷◌, ◌++◌, Option, None, Some, IfSome, option_map, string_bytes}
+use Rattle.autfmt.specs.Bounds.{Bounds}
+use Rattle.autfmt.specs.HideReaders.{HidesAs}
+use Rattle.quotient.specs.Relations.{meant}
+use Rattle.quotient.specs.declared.relation.Relation.{Relation}
+use Rattle.autbis.specs.Files.{Name, Opens}
+use Rattle.autbis.specs.Runs.{IsMinimised}
+use Rattle.autbis.specs.declared.words.Job.{Job}
+use Rattle.autbis.specs.declared.words.Job.TheVariants.{Min}
+
+-- the name that is given, if there is one
+abbrev pub given : Option Name → List Name
+given None = []
+given (Some name) = name ∷ []
+
+-- the files of a job, in the order in which they are opened: its text, and then its hide list
+abbrev pub files_of : Job → List Name
+files_of (Min relation stats hide file) = given (option_map string_bytes file) ++ given (option_map string_bytes hide)
+
+-- files are asked for in this order: all of them, or none behind the first that cannot be had
+abbrev pub OpensInOrder : List Name → Option (List Name) → Option (List Name) → Type 0
+OpensInOrder files old new = (names later : List Name) × (files ≡ names ++ later) × Opens old new names
+
+-- what a file holds, or standard input if none is named
+abbrev pub text_of : (Name → Option (List ℕ)) → Option (List ℕ) → Option Name → Option (List ℕ)
+text_of holds input None = input
+text_of holds input (Some name) = holds name
+
+-- the labels to hide are exactly those of the hide list, and none without a list
+abbrev pub HidesNamed : (Name → Option (List ℕ)) → Option Name → List (List ℕ) → Type 0
+HidesNamed holds None H = H ≡ []
+HidesNamed holds (Some name) H = IfSome (holds name) (λ list. HidesAs list H)
+
+-- the bounds of a file
+abbrev pub file_bounds : Bounds
+file_bounds = record { states = 1000000; transitions = 10000000 }
+
+-- a text is minimised with the labels of the hide list hidden, and a sink has gained the text of what it is minimised to
+abbrev pub MinimisesNamed :
+    (Name → Option (List ℕ)) → Relation → Option Name → Option (List ℕ) → Option (List ℕ) → Option (List ℕ) → Type 0
+MinimisesNamed holds rel hide text old new = (H : List (List ℕ)) × HidesNamed holds hide H
+    × IfSome text (λ bytes. IsMinimised (meant rel) file_bounds H bytes old new)
+
+-- the job is done: of what its files and standard input hold, the sink has gained what it asks for
+abbrev pub IsDone : (Name → Option (List ℕ)) → Option (List ℕ) → Job → Option (List ℕ) → Option (List ℕ) → Type 0
+IsDone holds input (Min relation stats hide file) old new =
+    MinimisesNamed holds relation (option_map string_bytes hide) (text_of holds input (option_map string_bytes file)) old new

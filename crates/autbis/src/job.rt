@@ -1,0 +1,164 @@
+//! A job from its words to its exit status, over any files and streams.
+ghost use Rattle.std.specs.Prelude.{◌≡◌, ◌⊎◌, ◌++◌, IfOk, IfErr, IsErrAnd, map, option_map, string_bytes};
+ghost use Rattle.autbis.specs.Files.{Opens};
+ghost use Rattle.autbis.specs.Jobs.{IsDone, MinimisesNamed, OpensInOrder, files_of, given, text_of};
+ghost use Rattle.autbis.specs.Programs.{AnswersWords, IsUnread, IsUnreadStatus};
+ghost use Rattle.autbis.specs.Reports.{IsFaultStatus};
+ghost use Rattle.autbis.specs.Words.{IsFaultOf, IsJobOf};
+
+use crate::opener::Opener;
+use crate::program::{hidden_of, min_program, open};
+use crate::reports::report_words;
+use crate::words::{Job, WordFault, command};
+use autfmt::{Limits, Sink, Source};
+use quotient::Relation;
+use std::alloc::Global;
+use std::io::{self, ErrorKind, Write};
+
+/// What is said of words that are not UTF-8.
+const NOT_UTF8: &str = "autbis: command words are not UTF-8\n";
+
+/// What the program does with its words, the first of which is its name: the job that they ask for, over these files and streams,
+/// or what is said of words that ask for none. Returns the exit status: that of the job, or of the words' fault. Help goes to `o`.
+pub fn main_program<F: Opener, R: Source, W: Sink, O: Write, E: Write>(
+    alloc: Global,
+    words: io::Result<Vec<String>>,
+    files: &mut F,
+    input: &mut R,
+    output: &mut W,
+    o: &mut O,
+    e: &mut E,
+) -> u8
+    requires input { R.failures input.old ≡ 0 }
+    requires output { W.failures output.old ≡ 0 }
+    ensures answer { IfOk words (λ words. AnswersWords (F.holds files.old) (R.rest input.old) (map string_bytes words.items)
+        (F.opened files.old) (F.opened files.new) (W.written output.old) (W.written output.new) result) }
+    ensures unread { IfErr words (λ error. IsUnreadStatus error result) }
+{
+    match asked(alloc, words) {
+        Ok(job) => do_job(alloc, &job, files, input, output, e),
+        Err(fault) => report_words(&fault, o, e),
+    }
+}
+
+/// The job that the words ask for.
+fn asked(alloc: Global, words: io::Result<Vec<String>>) -> Result<Job, WordFault>
+    ensures job { IfOk words (λ words. IfOk result (IsJobOf (map string_bytes words.items))) }
+    ensures fault { IfOk words (λ words. IfErr result (IsFaultOf (map string_bytes words.items))) }
+    ensures unread { IfErr words (λ error. IsErrAnd result (IsUnread error)) }
+{
+    match words {
+        Ok(words) => command(alloc, words),
+        Err(error) if error.kind() == ErrorKind::OutOfMemory => Err(WordFault::Memory),
+        Err(_) => Err(WordFault::Usage(String::from_str(alloc, NOT_UTF8)?)),
+    }
+}
+
+/// Does the job, and returns the exit status: 0 if it is done, 2 if a text or the hide list is faulty, 4 for want of memory, 5 if
+/// a file cannot be opened or a read or write failed. The text is that of the job's file, or of `input` if it names none. The
+/// text is opened first and then the hide list, which is read before the text.
+pub fn do_job<F: Opener, R: Source, W: Sink, E: Write>(
+    alloc: Global,
+    job: &Job,
+    files: &mut F,
+    input: &mut R,
+    output: &mut W,
+    e: &mut E,
+) -> u8
+    requires input { R.failures input.old ≡ 0 }
+    requires output { W.failures output.old ≡ 0 }
+    ensures status { (result ≡ 0) ⊎ IsFaultStatus result }
+    ensures done { result ≡ 0 → IsDone (F.holds files.old) (R.rest input.old) job.now (W.written output.old) (W.written output.new) }
+    ensures order { OpensInOrder (files_of job.now) (F.opened files.old) (F.opened files.new) }
+    ensures opened { (result ≡ 5) ⊎ Opens (F.opened files.old) (F.opened files.new) (files_of job.now) }
+    ensures untouched { (result ≡ 2) ⊎ (result ≡ 4) → output.new ≡ output.old }
+{
+    match job {
+        Job::Min {
+            relation,
+            stats,
+            hide,
+            file,
+        } => min_job(
+            alloc, files, input, output, e, *relation, *stats, hide, file,
+        ),
+    }
+}
+
+/// Opens the file, or takes `input` if there is none, and minimises its text.
+fn min_job<F: Opener, R: Source, W: Sink, E: Write>(
+    alloc: Global,
+    files: &mut F,
+    input: &mut R,
+    output: &mut W,
+    e: &mut E,
+    rel: Relation,
+    stats: bool,
+    hide: &Option<String>,
+    file: &Option<String>,
+) -> u8
+    requires input { R.failures input.old ≡ 0 }
+    requires output { W.failures output.old ≡ 0 }
+    ensures status { (result ≡ 0) ⊎ IsFaultStatus result }
+    ensures done { result ≡ 0 → MinimisesNamed (F.holds files.old) rel (option_map string_bytes hide.now)
+        (text_of (F.holds files.old) (R.rest input.old) (option_map string_bytes file.now)) (W.written output.old) (W.written output.new) }
+    ensures order { OpensInOrder (given (option_map string_bytes file.now) ++ given (option_map string_bytes hide.now))
+        (F.opened files.old) (F.opened files.new) }
+    ensures opened { (result ≡ 5) ⊎ Opens (F.opened files.old) (F.opened files.new)
+        (given (option_map string_bytes file.now) ++ given (option_map string_bytes hide.now)) }
+    ensures untouched { (result ≡ 2) ⊎ (result ≡ 4) → output.new ≡ output.old }
+{
+    let Some(name) = file else {
+        return min_text(
+            alloc,
+            files,
+            input,
+            "standard input",
+            output,
+            e,
+            rel,
+            stats,
+            hide,
+        );
+    };
+    match open(files, name.as_str(), e) {
+        Ok(mut text) => min_text(
+            alloc,
+            files,
+            &mut text,
+            name.as_str(),
+            output,
+            e,
+            rel,
+            stats,
+            hide,
+        ),
+        Err(status) => status,
+    }
+}
+
+/// Opens and reads the hide list, and minimises the text of `r`, which is called `name`.
+fn min_text<F: Opener, R: Source, W: Sink, E: Write>(
+    alloc: Global,
+    files: &mut F,
+    r: &mut R,
+    name: &str,
+    w: &mut W,
+    e: &mut E,
+    rel: Relation,
+    stats: bool,
+    hide: &Option<String>,
+) -> u8
+    requires source { R.failures r.old ≡ 0 }
+    requires sink { W.failures w.old ≡ 0 }
+    ensures status { (result ≡ 0) ⊎ IsFaultStatus result }
+    ensures done { result ≡ 0 →
+        MinimisesNamed (F.holds files.old) rel (option_map string_bytes hide.now) (R.rest r.old) (W.written w.old) (W.written w.new) }
+    ensures opened { Opens (F.opened files.old) (F.opened files.new) (given (option_map string_bytes hide.now)) }
+    ensures untouched { (result ≡ 2) ⊎ (result ≡ 4) → w.new ≡ w.old }
+{
+    match hidden_of(alloc, files, hide, e) {
+        Ok(hidden) => min_program(alloc, r, name, w, e, rel, stats, &Limits::file(), &hidden),
+        Err(status) => status,
+    }
+}

@@ -1,0 +1,24 @@
+//! The runs of `autbis`, the words of its command line, what it says of a fault, and the jobs: all of the program but its `main`.
+#![tactic(auto)]
+
+mod job;
+mod opener;
+mod program;
+#[cfg(test)]
+mod refusal_tests;
+mod reports;
+mod run;
+#[cfg(test)]
+mod run_tests;
+#[cfg(test)]
+mod tests;
+mod words;
+
+pub use crate::job::{do_job, main_program};
+pub use crate::opener::{Disk, Opener};
+pub use crate::program::min_program;
+pub use crate::reports::{cannot_open, report, report_words};
+pub use crate::run::{Counts, run_min};
+pub use crate::words::{Job, WordFault, command};
+pub use autfmt::{Fault, Hidden, Limits};
+pub use quotient::Relation;

@@ -1,0 +1,57 @@
+//! Where files are opened by their names: a trait, and the file system.
+ghost use Rattle.std.specs.Prelude.{◌≡◌, ℕ, List, [], ◌∷◌, None, Some, Option, IfSome, IfOk};
+ghost use Rattle.autbis.specs.Files.{Name, Opens};
+
+use autfmt::{Broken, FromRead, Source};
+use std::fs;
+use std::rt::Files;
+
+/// Opens files by their names, each to be read from its beginning.
+pub trait Opener {
+    /// A file that was opened.
+    type File: Source + Drop;
+
+    // The names that were asked for so far, where the opener tells them.
+    ghost opened: { Self → Option (List Name) };
+
+    // What the file of a name holds, where the opener tells it.
+    ghost holds: { Self → Name → Option (List ℕ) };
+
+    /// Opens the file of this name.
+    ///
+    /// # Errors
+    /// `Broken` if it cannot be opened.
+    fn open(&mut self, name: &str) -> Result<Self::File, Broken>
+        ensures sound { IfOk result (λ file. Self.File.failures file ≡ 0) }
+        ensures bytes { IfSome (holds self.old name.now) (λ text. IfOk result (λ file. Self.File.rest file ≡ Some text)) }
+        ensures opened { Opens (opened self.old) (opened self.new) (name.now ∷ []) }
+        ensures kept { (other : Name) → holds self.new other ≡ holds self.old other };
+}
+
+/// The files of a runtime. They tell neither names nor bytes.
+#[derive(Drop)]
+pub struct Disk<'a, R> {
+    files: &'a R,
+}
+
+impl<'a, R: Files> Disk<'a, R> {
+    /// The files that `files` opens.
+    pub fn new(files: &'a R) -> Disk<'a, R> {
+        Disk { files }
+    }
+}
+
+impl<'a, R: Files> Opener for Disk<'a, R> {
+    type File = FromRead<R::File>;
+
+    ghost opened = { λ _. None };
+
+    ghost holds = { λ _ _. None };
+
+    fn open(&mut self, name: &str) -> Result<FromRead<R::File>, Broken> {
+        match fs::open(self.files, name) {
+            Ok(file) => Ok(FromRead::new(file)),
+            Err(_) => Err(Broken),
+        }
+    }
+}
