@@ -7,6 +7,7 @@ pub mod Chains
 pub mod Spans
 pub mod Numbering
 pub mod Searching
-pub mod Leading
+pub mod Elders
 pub mod Alone
 pub mod Listing
+pub mod EachList

@@ -1,21 +1,35 @@
--- The lists of spans: none where there are no pairs, and one list more at the end of the buffer.
-use Rattle.std.proofs.Common.{◌≡◌, ◌≢◌, ◌∙◌, ℕ, zero, suc, ◌+◌, ◌-◌, ◌<◌, List, [], ◌∷◌, ◌++◌, length, set, take, ap, refl, sym, arith}
+-- The lists of spans: the empty one alone, and one list more at the end of the buffer.
+use Rattle.std.proofs.Common.{◌≡◌, ◌∙◌, ℕ, zero, suc, ◌+◌, ◌-◌, ◌<◌, ◌≤◌, List, [], ◌∷◌, ◌++◌, length, take, ap, refl, sym, subst, arith}
 use Rattle.std.specs.List.{All, slice_range}
-use Rattle.std.proofs.lemmas.List.{length-set, length-append, map-set, get_or-set_same, get_or-set_other, take_all, drop_all}
-use Rattle.std.proofs.lemmas.List.Elements.{All-head, All-tail, All-set, All-weaker}
+use Rattle.std.proofs.lemmas.List.{length-append, map-append, get_or_append_left, take_all, drop_all}
+use Rattle.std.proofs.lemmas.List.Elements.{All-head, All-tail, All-append, All-weaker}
 use Rattle.refine.specs.declared.span.Span.{Span}
-use Rattle.refine.specs.Signed.{signature_at}
-use Rattle.refine.specs.Spans.{list_in, fingerprint_of, IsSpan, lists_of, AreSpans}
+use Rattle.refine.specs.declared.lists.TheConstants.{MOST_LISTS}
+use Rattle.refine.specs.Spans.{no_pairs, list_in, fingerprint_of, IsSpan, lists_of, AreSpans}
 use Rattle.refine.proofs.Spans.{slice_range-append, slice_range-last}
+
+All-only : {X : Type 0} (P : X → Type 0) (x : X) → P x → All P (x ∷ [])
+All-only P x p zero d h = p
+All-only P x p (suc k) d h = absurd (omega arith)
 
 list_in-nil : (x : Span) → list_in [] x ≡ []
 list_in-nil x = ap (take (x.end - x.start)) (drop_all {X = ℕ × ℕ} x.start [] (omega arith)) ∙ take_all {A = ℕ × ℕ} (x.end - x.start) [] (omega arith)
 
-pub signature_at-nil : (spans : List Span) (s : ℕ) → signature_at (lists_of [] spans) s ≡ []
-signature_at-nil [] s = refl
-signature_at-nil (x ∷ xs) zero = list_in-nil x
-signature_at-nil (x ∷ xs) (suc s) = signature_at-nil xs s
+-- of no pairs, the first span alone has the empty list alone
+pub lists_of-cleared : (spans : List Span) → 1 ≤ length spans → lists_of [] (take 1 spans) ≡ [] ∷ []
+lists_of-cleared [] some = absurd (omega arith)
+lists_of-cleared (x ∷ xs) some = ap (λ l. l ∷ []) (list_in-nil x)
 
+pub AreSpans-cleared : (pairs : List (ℕ × ℕ)) (spans : List Span) → AreSpans pairs spans → AreSpans [] (take 1 spans)
+AreSpans-cleared pairs [] are = absurd (let some = are.some in omega arith)
+AreSpans-cleared pairs (x ∷ xs) are = record {
+  each = All-only (IsSpan []) x (subst (IsSpan []) (sym are.first) (record { forward = omega arith; within = omega arith; fingerprint = refl }));
+  some = omega arith;
+  few = omega arith;
+  first = are.first;
+}
+
+-- more pairs at the end of the buffer change no list
 module _ (pairs more : List (ℕ × ℕ)) where
   list_in-more : (x : Span) → IsSpan pairs x → list_in (pairs ++ more) x ≡ list_in pairs x
   list_in-more x is = slice_range-append pairs more x.start x.end is.forward is.within
@@ -27,14 +41,25 @@ module _ (pairs more : List (ℕ × ℕ)) where
     fingerprint = is.fingerprint ∙ ap fingerprint_of (sym (list_in-more x is));
   }
 
-  lists_of-more : (spans : List Span) → All (IsSpan pairs) spans → lists_of (pairs ++ more) spans ≡ lists_of pairs spans
-  lists_of-more [] h = refl
-  lists_of-more (x ∷ xs) h =
+  lists_of-each : (spans : List Span) → All (IsSpan pairs) spans → lists_of (pairs ++ more) spans ≡ lists_of pairs spans
+  lists_of-each [] h = refl
+  lists_of-each (x ∷ xs) h =
       ap (λ l. l ∷ lists_of (pairs ++ more) xs) (list_in-more x (All-head (IsSpan pairs) x xs h))
-      ∙ ap (λ l. list_in pairs x ∷ l) (lists_of-more xs (All-tail (IsSpan pairs) x xs h))
+      ∙ ap (λ l. list_in pairs x ∷ l) (lists_of-each xs (All-tail (IsSpan pairs) x xs h))
 
--- the span of a list that goes last becomes that of a state
-module _ (pairs list : List (ℕ × ℕ)) (spans : List Span) (s : ℕ) (new : Span) (are : AreSpans pairs spans)
+  pub lists_of-more : (spans : List Span) → AreSpans pairs spans → lists_of (pairs ++ more) spans ≡ lists_of pairs spans
+  lists_of-more spans are = lists_of-each spans are.each
+
+  pub AreSpans-more : (spans : List Span) → AreSpans pairs spans → AreSpans (pairs ++ more) spans
+  AreSpans-more spans are = record {
+    each = All-weaker (IsSpan pairs) (IsSpan (pairs ++ more)) IsSpan-more spans are.each;
+    some = are.some;
+    few = are.few;
+    first = are.first;
+  }
+
+-- the span of a list that goes last in the buffer goes last among the spans
+module _ (pairs list : List (ℕ × ℕ)) (spans : List Span) (new : Span) (are : AreSpans pairs spans)
     (start : new.start ≡ length pairs) (end : new.end ≡ length pairs + length list) (print : new.fingerprint ≡ fingerprint_of list) where
   list-new : list_in (pairs ++ list) new ≡ list
   list-new = ap (λ i. slice_range (pairs ++ list) i new.end) start ∙ slice_range-last pairs list new.end end
@@ -46,24 +71,19 @@ module _ (pairs list : List (ℕ × ℕ)) (spans : List Span) (s : ℕ) (new : S
     fingerprint = print ∙ ap fingerprint_of (sym list-new);
   }
 
-  pub AreSpans-put : AreSpans (pairs ++ list) (set spans s new)
-  AreSpans-put =
-      let size = length-set spans s new in
+  pub lists_of-push : lists_of (pairs ++ list) (spans ++ new ∷ []) ≡ lists_of pairs spans ++ list ∷ []
+  lists_of-push =
+      map-append (list_in (pairs ++ list)) spans (new ∷ [])
+      ∙ ap (λ l. l ++ list_in (pairs ++ list) new ∷ []) (lists_of-more pairs list spans are)
+      ∙ ap (λ l. lists_of pairs spans ++ l ∷ []) list-new
+
+  pub AreSpans-push : length spans < MOST_LISTS → AreSpans (pairs ++ list) (spans ++ new ∷ [])
+  AreSpans-push few =
+      let size = length-append spans (new ∷ []) in
+      let more = AreSpans-more pairs list spans are in
       record {
-        each =
-            All-set (IsSpan (pairs ++ list)) spans s new IsSpan-new
-            (All-weaker (IsSpan pairs) (IsSpan (pairs ++ list)) (IsSpan-more pairs list) spans are.each);
+        each = All-append (IsSpan (pairs ++ list)) spans (new ∷ []) more.each (All-only (IsSpan (pairs ++ list)) new IsSpan-new);
         some = let old = are.some in omega arith;
-        few = let old = are.few in omega arith;
+        few = omega arith;
+        first = get_or_append_left spans (new ∷ []) no_pairs 0 are.some ∙ are.first;
       }
-
-  lists_of-put : lists_of (pairs ++ list) (set spans s new) ≡ set (lists_of pairs spans) s list
-  lists_of-put =
-      map-set (list_in (pairs ++ list)) spans s new ∙ ap (set (lists_of (pairs ++ list) spans) s) list-new
-      ∙ ap (λ l. set l s list) (lists_of-more pairs list spans are.each)
-
-  pub signature_at-put : s < length (lists_of pairs spans) → signature_at (lists_of (pairs ++ list) (set spans s new)) s ≡ list
-  signature_at-put h = ap (λ l. signature_at l s) lists_of-put ∙ get_or-set_same (lists_of pairs spans) s list [] h
-
-  pub signature_at-others : (t : ℕ) → t ≢ s → signature_at (lists_of (pairs ++ list) (set spans s new)) t ≡ signature_at (lists_of pairs spans) t
-  signature_at-others t h = ap (λ l. signature_at l t) lists_of-put ∙ get_or-set_other (lists_of pairs spans) s t list [] h

@@ -1,12 +1,12 @@
 -- Two states have equal lists as their signatures exactly where they have the same signature.
-use Rattle.std.proofs.Common.{◌≡◌, ◌↔◌, ℕ, ◌<◌, List, length, slice_index, Contains, refl, sym, ◌∙◌, ap, subst}
+use Rattle.std.proofs.Common.{◌≡◌, ◌↔◌, ℕ, ◌<◌, List, slice_index, Contains, sym, subst}
 use Rattle.theory.specs.System.{Step}
 use Rattle.theory.specs.Bisimulation.{Relation}
 use Rattle.theory.specs.Bisimulation.Relation.{strong, branching}
 use Rattle.theory.specs.Blocks.{Signature, SameSignature, Split}
 use Rattle.lts.specs.Labels.{text_of, IsNumber}
-use Rattle.lts.specs.Lts.{Grouped, Triple, label_of, target_of, row_of, system_of, IsTriple, IsLts}
-use Rattle.refine.specs.Signed.{pair_cmp, HasPair, IsSignature, signature_at}
+use Rattle.lts.specs.Lts.{Grouped, system_of}
+use Rattle.refine.specs.Signed.{HasPair, IsSignature, signature_at}
 use Rattle.refine.proofs.Rising.{rising_unique, pair_total}
 
 -- each label that a step shows is in the table

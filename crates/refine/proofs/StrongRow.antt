@@ -16,7 +16,8 @@ use Rattle.theory.specs.System.{Step}
 use Rattle.theory.specs.Bisimulation.Relation.{strong}
 use Rattle.lts.specs.Labels.{text_of}
 use Rattle.lts.specs.Lts.{Grouped, Triple, source_of, label_of, target_of, row_of, system_of, IsTriple, IsLts}
-use Rattle.refine.specs.Signed.{pair_cmp, pair_under, HasPair, IsSignature}
+use Rattle.refine.specs.Signed.{pair_cmp, HasPair, IsSignature}
+use Rattle.refine.specs.StrongPairs.{pair_under}
 use Rattle.refine.proofs.Rising.{pair_total}
 
 -- two pairs are equal, as the test that `dedup` makes

@@ -1,5 +1,6 @@
 pub mod Partition
 pub mod Signed
-pub mod Rounds
+pub mod Lists
 pub mod Spans
+pub mod StrongPairs
 pub mod Splitting

@@ -1,5 +1,5 @@
 -- Signatures in memory: each state's pairs of a label number and a block, in rising order.
-use Rattle.std.specs.Prelude.{◌≡◌, ◌↔◌, ℕ, ◌*◌, ◌<◌, List, [], ◌++◌, length, slice_index}
+use Rattle.std.specs.Prelude.{◌≡◌, ◌↔◌, ℕ, ◌<◌, List, [], ◌++◌, length, slice_index}
 use Rattle.std.specs.List.{Contains, slice_index_or}
 use Rattle.std.specs.List.Sorted.{IsStrictlySortedBy}
 use Rattle.std.specs.declared.cmp.Ordering.{Ordering}
@@ -8,7 +8,7 @@ use Rattle.theory.specs.Bisimulation.{Relation}
 use Rattle.theory.specs.Bisimulation.Relation.{strong, branching}
 use Rattle.theory.specs.Blocks.{Signature}
 use Rattle.lts.specs.Labels.{text_of}
-use Rattle.lts.specs.Lts.{Grouped, Triple, label_of, target_of, system_of, row_of}
+use Rattle.lts.specs.Lts.{Grouped, system_of, row_of}
 
 -- pairs in the order of their first numbers, and of their second ones where these are equal
 abbrev pub pair_cmp : ℕ × ℕ → ℕ × ℕ → Ordering
@@ -23,13 +23,13 @@ pub record IsSignature (rel : Relation) (l : Grouped) (blocks : List ℕ) (s : �
   pub exactly : (k b : ℕ) → Contains pairs (k, b) ↔ HasPair rel l blocks s k b
   pub rising : IsStrictlySortedBy pair_cmp pairs
 
--- the signature of s was put behind what stood before
+-- what was in the list before is still there, with more behind it
+abbrev pub Extends : List (ℕ × ℕ) → List (ℕ × ℕ) → Type 0
+Extends before after = (more : List (ℕ × ℕ)) × (after ≡ before ++ more)
+
+-- the signature of s was put behind what was there before
 abbrev pub Appends : Relation → Grouped → List ℕ → ℕ → List (ℕ × ℕ) → List (ℕ × ℕ) → Type 0
 Appends rel l blocks s before after = (pairs : List (ℕ × ℕ)) × IsSignature rel l blocks s pairs × (after ≡ before ++ pairs)
-
--- the pair that a transition puts into a strong signature
-abbrev pub pair_under : List ℕ → Triple → ℕ × ℕ
-pair_under blocks e = (label_of e, slice_index blocks (target_of e))
 
 -- of a list of signatures, that of the state s
 abbrev pub signature_at : List (List (ℕ × ℕ)) → ℕ → List (ℕ × ℕ)
@@ -39,8 +39,3 @@ signature_at signatures s = slice_index_or signatures s []
 abbrev pub most_visits : Relation → Grouped → ℕ → ℕ
 most_visits strong l s = length (row_of s l.places)
 most_visits branching l s = length l.places
-
--- the cost of a round: the most visits for each state
-abbrev pub cost : Relation → Grouped → ℕ
-cost strong l = length l.places
-cost branching l = l.states * length l.places

@@ -1,8 +1,9 @@
--- Lists of pairs as spans of one buffer.
+-- How `Lists` keeps its lists: as spans of one buffer, each with a fingerprint.
 use Rattle.std.specs.Prelude.{◌≡◌, ℕ, ◌+◌, ◌*◌, ◌%◌, ◌^◌, ◌≤◌, List, length, map, fold}
-use Rattle.std.specs.List.{All, slice_range}
+use Rattle.std.specs.List.{All, slice_range, slice_index_or}
 use Rattle.refine.specs.declared.span.Span.{Span}
 use Rattle.refine.specs.declared.span.TheConstants.{SEED, FIRST_FACTOR, SUM_FACTOR}
+use Rattle.refine.specs.declared.lists.TheConstants.{MOST_LISTS}
 
 -- a fingerprint with one pair more
 abbrev pub mixed : ℕ → ℕ × ℕ → ℕ
@@ -30,8 +31,9 @@ pub record IsSpan (pairs : List (ℕ × ℕ)) (x : Span) : Type 0 where
 abbrev pub lists_of : List (ℕ × ℕ) → List Span → List (List (ℕ × ℕ))
 lists_of pairs spans = map (list_in pairs) spans
 
--- spans of 1 to 2,000,000 lists
+-- spans of the empty list, as number 0, and of others, not too many for their numbers
 pub record AreSpans (pairs : List (ℕ × ℕ)) (spans : List Span) : Type 0 where
   pub each : All (IsSpan pairs) spans
   pub some : 1 ≤ length spans
-  pub few : length spans ≤ 2000000
+  pub few : length spans ≤ MOST_LISTS
+  pub first : slice_index_or spans 0 no_pairs ≡ no_pairs

@@ -1,18 +1,15 @@
 //! Refinement: blocks of states are split by what their states can do, round after round, until two states share a block
-//! exactly where they are bisimilar.
+//! exactly if they are bisimilar.
 #![tactic(auto)]
 
+mod lists;
 mod marks;
 mod partition;
 mod refinement;
 mod sense;
-#[cfg(test)]
-mod signature_tests;
 mod signatures;
 mod span;
 mod splitter;
-#[cfg(test)]
-mod splitter_tests;
 mod strong;
 #[cfg(test)]
 mod tests;

@@ -1,14 +1,13 @@
-//! The signatures of the states, one behind the other.
-ghost use Rattle.std.specs.Prelude.{◌≡◌, ◌≢◌, ◌↔◌, ℕ, ◌+◌, ◌<◌, ◌≤◌, [], length, slice_index, IfOk, OnOk, OnErr};
-ghost use Rattle.lts.specs.Meter.{HasRoom};
+//! The signatures of the states in memory.
+ghost use Rattle.std.specs.Prelude.{◌≡◌, ◌↔◌, ℕ, ◌<◌, ◌≤◌, [], length, slice_index, IfOk, OnOk};
+ghost use Rattle.lts.specs.Meter.{HasRoomFor, Visits};
 ghost use Rattle.refine.specs.Partition.{IsNumbered};
-ghost use Rattle.refine.specs.Signed.{IsSignature, signature_at, cost};
-ghost use Rattle.refine.specs.Spans.{fingerprint_of};
+ghost use Rattle.refine.specs.Signed.{IsSignature, signature_at};
 
+use crate::lists::Lists;
 use crate::marks::Marks;
 use crate::partition::Partition;
 use crate::sense::Sense;
-use crate::span::{Span, empty_span, fingerprint, list_of};
 use crate::splitter::split;
 use lts::{Lts, Memory, Meter};
 use std::alloc::Global;
@@ -18,10 +17,9 @@ use std::marker::Model;
 #[derive(Drop)]
 pub struct Signatures {
     alloc: Global,
-    /// All lists one behind the other; some pairs may be of none.
-    pairs: Vec<(u32, u32)>,
-    /// Where the list of each state stands.
-    spans: Vec<Span>,
+    lists: Lists,
+    /// The number of each state's list.
+    numbers: Vec<u32>,
 }
 
 impl Model for Signatures {
@@ -29,17 +27,17 @@ impl Model for Signatures {
 
     ghost Value = { List (List (ℕ × ℕ)) };
 
-    ghost use Rattle.refine.specs.Spans.{lists_of, AreSpans};
+    ghost use Rattle.refine.specs.Lists.{each_list, AreNumbered};
 
-    ghost view = { λ s. lists_of s.pairs.items s.spans.items };
+    ghost view = { λ g. each_list g.lists g.numbers.items };
 
-    ghost invariant = { λ s. AreSpans s.pairs.items s.spans.items };
+    ghost invariant = { λ g. AreNumbered g.lists g.numbers.items };
 }
 
 impl Signatures {
     /// Empty signatures of so many states, 1 to 2,000,000.
     ///
-    /// Fails where there is no memory for them.
+    /// Fails if there is no memory for them.
     pub fn new(alloc: Global, states: u32) -> Result<Signatures, Memory>
         requires some { 1 ≤ states }
         requires few { states ≤ 2000000 }
@@ -48,8 +46,8 @@ impl Signatures {
     {
         Ok(Signatures {
             alloc,
-            pairs: Vec::new(alloc),
-            spans: vec![in alloc; empty_span(); states as usize]?,
+            lists: Lists::new(alloc)?,
+            numbers: vec![in alloc; 0u32; states as usize]?,
         })
     }
 
@@ -57,7 +55,7 @@ impl Signatures {
     pub fn states(&self) -> u32
         ensures { result ≡ length self.now }
     {
-        self.spans.len() as u32
+        self.numbers.len() as u32
     }
 
     /// The signature of the state `s`.
@@ -65,49 +63,12 @@ impl Signatures {
         requires { s < length self.now }
         ensures { result.now ≡ signature_at self.now s }
     {
-        list_of(&self.pairs, self.spans[s as usize])
+        self.lists.of(self.numbers[s as usize])
     }
 
-    /// The fingerprint of the signature of the state `s`.
-    pub(crate) fn fingerprint(&self, s: u32) -> u64
-        requires { s < length self.now }
-        ensures { result ≡ fingerprint_of (signature_at self.now s) }
-    {
-        self.spans[s as usize].fingerprint
-    }
-
-    /// Makes all signatures empty, and keeps the memory.
-    pub(crate) fn clear(&mut self)
-        ensures states { length self.new ≡ length self.old }
-        ensures empty { (s : ℕ) → signature_at self.new s ≡ [] }
-    {
-        self.pairs.clear();
-        self.spans.fill(empty_span());
-    }
-
-    /// Makes the list the signature of the state `s`.
+    /// Takes the signature of each state under the blocks of `p`. Each transition is visited once.
     ///
-    /// Fails where there is no memory for it. Nothing has changed then.
-    pub(crate) fn put(&mut self, s: u32, pairs: &[(u32, u32)]) -> Result<(), Memory>
-        requires { s < length self.old }
-        ensures states { length self.new ≡ length self.old }
-        ensures put { OnOk result (signature_at self.new s ≡ pairs.now) }
-        ensures others { (t : ℕ) → t ≢ s → signature_at self.new t ≡ signature_at self.old t }
-        ensures err { OnErr result (self.new ≡ self.old) }
-    {
-        let start = self.pairs.len();
-        self.pairs.extend_from_slice(pairs)?;
-        self.spans[s as usize] = Span {
-            start,
-            end: self.pairs.len(),
-            fingerprint: fingerprint(pairs),
-        };
-        Ok(())
-    }
-
-    /// Takes the signature of each state under the blocks of `p`.
-    ///
-    /// Fails where there is no memory for it. What `of` gives then is open.
+    /// Fails if there is no memory for it. It is open then what `of` gives.
     pub fn fill<S: Sense, M: Meter>(
         &mut self,
         l: &Lts<M>,
@@ -118,29 +79,41 @@ impl Signatures {
         requires states { length p.now ≡ l.now.states }
         requires marks { marks.old ≡ l.now.states }
         requires signatures { length self.old ≡ l.now.states }
-        requires room { HasRoom (M.rounds_made m.old) (M.visits_made m.old) 0 (cost S.relation l.now) }
-        ensures signed { OnOk result ((s : ℕ) → s < l.now.states → IsSignature S.relation l.now p.now s (signature_at self.new s)) }
-        ensures signatures { length self.new ≡ length self.old }
+        requires room { HasRoomFor (M.counted m.old) 0 (length l.now.places) }
+
+        // Once it is done
+        ensures signed { OnOk result ((s : ℕ) → s < l.now.states →
+            IsSignature S.relation l.now p.now s (signature_at self.new s)) }
+
+        // In either case
+        ensures visits { let n = length l.now.places in Visits M.counted m.old m.new result n n }
         ensures marks { marks.new ≡ marks.old }
-        ensures rounds { M.rounds_made m.new ≡ M.rounds_made m.old }
-        ensures at_least { OnOk result (M.visits_made m.old + length l.now.places ≤ M.visits_made m.new) }
-        ensures at_most { M.visits_made m.new ≤ M.visits_made m.old + cost S.relation l.now }
-        ensures never_fewer { M.visits_made m.old ≤ M.visits_made m.new }
+        ensures signatures { length self.new ≡ length self.old }
     {
-        self.clear();
-        S::sign_each(self.alloc, l, p, marks, self, m)
+        self.lists.clear();
+        self.numbers.fill(0);
+        S::sign_each(
+            self.alloc,
+            l,
+            p,
+            marks,
+            &mut self.lists,
+            &mut self.numbers,
+            m,
+        )
     }
 
-    /// Splits the blocks of `p`: two states stay together where their signatures are equal.
+    /// Splits the blocks of `p`: two states stay together if their signatures are equal.
     ///
-    /// Fails where there is no memory for it.
+    /// Fails if there is no memory for it.
     pub fn split(&self, p: &Partition) -> Result<Partition, Memory>
         requires states { length p.now ≡ length self.now }
         ensures states { IfOk result (λ q. length q ≡ length p.now) }
         ensures blocks { IfOk result (λ q. (s t : ℕ) → s < length p.now → t < length p.now →
-            (slice_index q s ≡ slice_index q t) ↔ ((slice_index p.now s ≡ slice_index p.now t) × (signature_at self.now s ≡ signature_at self.now t))) }
+            (slice_index q s ≡ slice_index q t)
+            ↔ ((slice_index p.now s ≡ slice_index p.now t) × (signature_at self.now s ≡ signature_at self.now t))) }
         ensures numbered { IfOk result IsNumbered }
     {
-        split(self.alloc, p, self)
+        split(self.alloc, p, &self.lists, &self.numbers)
     }
 }

@@ -1,9 +1,12 @@
 //! Strong bisimulation: a state's signature has what its transitions show, and the blocks that they lead to.
-ghost use Rattle.std.specs.Prelude.{◌≡◌, ◌+◌, ◌++◌, ◌<◌, ◌≤◌, length, map, OnOk};
-ghost use Rattle.lts.specs.Meter.{HasRoom};
+ghost use Rattle.std.specs.Prelude.{◌≡◌, ◌++◌, ◌<◌, length, map, OnOk};
+ghost use Rattle.theory.specs.Bisimulation.Relation.{strong};
+ghost use Rattle.lts.specs.Meter.{HasRoomFor, Visits};
 ghost use Rattle.lts.specs.Lts.{row_of};
-ghost use Rattle.refine.specs.Signed.{pair_under};
+ghost use Rattle.refine.specs.Signed.{IsSignature};
+ghost use Rattle.refine.specs.StrongPairs.{pair_under};
 
+use crate::lists::Lists;
 use crate::marks::Marks;
 use crate::partition::Partition;
 use crate::sense::Sense;
@@ -14,8 +17,6 @@ use std::alloc::Global;
 pub struct Strong;
 
 impl Sense for Strong {
-    ghost use Rattle.theory.specs.Bisimulation.Relation.{strong};
-
     ghost relation = { strong };
 
     fn signature<M: Meter>(
@@ -27,20 +28,53 @@ impl Sense for Strong {
         out: &mut Vec<(u32, u32)>,
         m: &mut M,
     ) -> Result<(), Memory> {
-        lts::rows_are_steps();
-        // Its contract tells what holds of every system.
-        let _ = l.states();
-        let pairs = &mut marks.pairs;
-        pairs.clear();
-        collect_row(l, p, s, pairs, m)?;
-        pairs.sort_unstable();
-        pairs.dedup();
-        out.extend_from_slice(pairs)?;
+        sign(l, p, s, &mut marks.pairs, m)?;
+        out.extend_from_slice(&marks.pairs)?;
+        Ok(())
+    }
+
+    fn sign_each<M: Meter>(
+        alloc: Global,
+        l: &Lts<M>,
+        p: &Partition,
+        marks: &mut Marks,
+        lists: &mut Lists,
+        numbers: &mut [u32],
+        m: &mut M,
+    ) -> Result<(), Memory> {
+        lts::rows_follow();
+        for s in 0..l.states() {
+            sign(l, p, s, &mut marks.pairs, m)?;
+            numbers[s as usize] = lists.push(&marks.pairs)?;
+        }
         Ok(())
     }
 }
 
-/// Puts the pair of each transition of `s` at the end, repeats included.
+/// Makes `pairs` the strong signature of `s`.
+fn sign<M: Meter>(
+    l: &Lts<M>,
+    p: &Partition,
+    s: u32,
+    pairs: &mut Vec<(u32, u32)>,
+    m: &mut M,
+) -> Result<(), Memory>
+    requires states { length p.now ≡ l.now.states }
+    requires state { s < l.now.states }
+    requires room { HasRoomFor (M.counted m.old) 0 (length (row_of s l.now.places)) }
+    ensures signature { OnOk result (IsSignature strong l.now p.now s pairs.new.items) }
+    ensures visits { let n = length (row_of s l.now.places) in Visits M.counted m.old m.new result n n }
+{
+    lts::rows_are_steps();
+    l.known();
+    pairs.clear();
+    collect_row(l, p, s, pairs, m)?;
+    pairs.sort_unstable();
+    pairs.dedup();
+    Ok(())
+}
+
+/// Appends the pair of each transition of `s`, repeats included.
 fn collect_row<M: Meter>(
     l: &Lts<M>,
     p: &Partition,
@@ -50,16 +84,12 @@ fn collect_row<M: Meter>(
 ) -> Result<(), Memory>
     requires states { length p.now ≡ l.now.states }
     requires state { s < l.now.states }
-    requires room { HasRoom (M.rounds_made m.old) (M.visits_made m.old) 0 (length (row_of s l.now.places)) }
+    requires room { HasRoomFor (M.counted m.old) 0 (length (row_of s l.now.places)) }
     ensures pairs { OnOk result (pairs.new.items ≡ pairs.old.items ++ map (pair_under p.now) (row_of s l.now.places)) }
-    ensures rounds { M.rounds_made m.new ≡ M.rounds_made m.old }
-    ensures visits { OnOk result (M.visits_made m.new ≡ M.visits_made m.old + length (row_of s l.now.places)) }
-    ensures at_most { M.visits_made m.new ≤ M.visits_made m.old + length (row_of s l.now.places) }
-    ensures never_fewer { M.visits_made m.old ≤ M.visits_made m.new }
+    ensures visits { let n = length (row_of s l.now.places) in Visits M.counted m.old m.new result n n }
 {
     lts::rows_follow();
-    // Its contract tells what holds of every system.
-    let _ = l.states();
+    l.known();
     let (start, end) = l.row(s);
     for k in start..end {
         let (label, target) = l.edge(k, m);

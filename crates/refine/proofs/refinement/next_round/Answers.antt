@@ -8,7 +8,7 @@ returns-clause-split g c =
     let l = c.args.l.now in
     IfOk-weaker c.split.result _ _
     (λ q parted.
-    parted_is_split g.S.Sense.relation l (λ s a t. c.rows_are_steps.ensures.numbered l s a t c.states.ensures.lts)
+    parted_is_split g.S.Sense.relation l (λ s a t. c.rows_are_steps.ensures.numbered l s a t c.known.ensures)
     c.args.p.now q c.fill.new.self c.in_ok-fill.ensures.signed
     (λ s t ls lt. parted s t (subst (λ n. s < n) (sym c.requires.states) ls) (subst (λ n. t < n) (sym c.requires.states) lt)))
     c.split.ensures.blocks

@@ -1,7 +1,7 @@
-use Rattle.std.proofs.Common.{◌≡◌, ℕ, ◌-◌, length, slice_index}
+use Rattle.std.proofs.Common.{◌≡◌, ℕ, ◌-◌, ◌*◌, length, slice_index}
 use Rattle.theory.specs.Blocks.{Underway}
+use Rattle.lts.specs.Meter.{Costs}
 use Rattle.lts.specs.Lts.{system_of}
-use Rattle.refine.specs.Rounds.{counts, Spends}
 use Rattle.refine.proofs.refinement.refine.Given as goal
 
 abbrev pub invariant-loop-blocks : goal.invariant-loop-blocks
@@ -10,9 +10,8 @@ invariant-loop-blocks g l = record {
   marks : l.marks ≡ l.l.states;
   signatures : length l.signatures ≡ l.l.states;
   made : (k : ℕ) × Underway g.S.Sense.relation (system_of l.l) k (slice_index l.blocks)
-      × Spends g.S.Sense.relation l.l k (counts (g.M.Meter.rounds_made l.initial.m) (g.M.Meter.visits_made l.initial.m))
-      (counts (g.M.Meter.rounds_made l.m) (g.M.Meter.visits_made l.m));
+      × Costs (g.M.Meter.counted l.initial.m) (g.M.Meter.counted l.m) k (k * length l.l.places) (k * length l.l.places);
 }
 
 abbrev pub decreases-loop-blocks : goal.decreases-loop-blocks
-decreases-loop-blocks g l = l.l.states - (g.M.Meter.rounds_made l.m - g.M.Meter.rounds_made l.initial.m)
+decreases-loop-blocks g l = l.l.states - ((g.M.Meter.counted l.m).rounds - (g.M.Meter.counted l.initial.m).rounds)

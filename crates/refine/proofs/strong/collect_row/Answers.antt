@@ -1,7 +1,7 @@
-use Rattle.std.proofs.Common.{◌≡◌, ◌∙◌, slice_index, ap, arith}
+use Rattle.std.proofs.Common.{◌≡◌, ◌∙◌, slice_index, ap, arith, rules}
 use Rattle.std.proofs.lemmas.Grind.{common_steps}
 use Rattle.lts.specs.Lts.{place_at}
-use Rattle.refine.specs.Signed.{pair_under}
+use Rattle.refine.specs.StrongPairs.{pair_under}
 use Rattle.refine.proofs.strong.collect_row.Goals as goal
 
 pub loop-k-preserved : goal.loop-k-preserved
@@ -13,6 +13,5 @@ loop-k-preserved g c =
     let more = c.rows_follow.ensures.inside places c.args.s c.row-start.result.0 c.row-start.result.1 c.loop-k.k c.row-start.ensures (omega arith) (omega arith) in
     record {
       pairs = grind (arith, common_steps, shown, more, c.in_ok-push.ensures.items, c.loop-k.invariant.pairs);
-      rounds = c.edge-label.ensures.rounds ∙ c.loop-k.invariant.rounds;
-      visits = omega (arith, c.edge-label.ensures.visits, c.loop-k.invariant.visits);
+      visits = search rules;
     }

@@ -1,0 +1,16 @@
+use Rattle.std.proofs.Common.{◌≡◌, ℕ, ◌+◌, ◌<◌, length}
+use Rattle.theory.specs.Bisimulation.Relation.{strong}
+use Rattle.lts.specs.Meter.{Costs}
+use Rattle.lts.specs.Lts.{before}
+use Rattle.refine.specs.Lists.{AreNumbers, list_of}
+use Rattle.refine.specs.Signed.{IsSignature}
+use Rattle.refine.proofs.strong.StrongSense.sign_each.Given as goal
+
+abbrev pub invariant-loop-s : goal.invariant-loop-s
+invariant-loop-s g l = record {
+  signed : (t : ℕ) → t < l.s → IsSignature strong l.l l.p t (list_of l.lists l.numbers t);
+  lists : length l.lists ≡ l.s + 1;
+  numbers : AreNumbers l.lists l.numbers;
+  marks : l.marks-inside.reached ≡ l.initial.marks-inside.reached;
+  visits : Costs (g.M.Meter.counted l.initial.m) (g.M.Meter.counted l.m) 0 (before l.s l.l.places) (before l.s l.l.places);
+}

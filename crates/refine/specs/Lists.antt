@@ -1,0 +1,25 @@
+-- Lists of pairs that are looked up by their numbers, and the number of each state's list.
+use Rattle.std.specs.Prelude.{ℕ, ◌<◌, ◌≤◌, List, [], length, map, slice_index}
+use Rattle.std.specs.List.{All, slice_index_or}
+
+-- the list number k
+abbrev pub list_at : List (List (ℕ × ℕ)) → ℕ → List (ℕ × ℕ)
+list_at lists k = slice_index_or lists k []
+
+-- each number is that of one of the lists
+abbrev pub AreNumbers : List (List (ℕ × ℕ)) → List ℕ → Type 0
+AreNumbers lists numbers = All (λ k. k < length lists) numbers
+
+-- the list of the state s, if the states have these numbers
+abbrev pub list_of : List (List (ℕ × ℕ)) → List ℕ → ℕ → List (ℕ × ℕ)
+list_of lists numbers s = list_at lists (slice_index numbers s)
+
+-- the list of each state
+abbrev pub each_list : List (List (ℕ × ℕ)) → List ℕ → List (List (ℕ × ℕ))
+each_list lists numbers = map (list_at lists) numbers
+
+-- lists and their numbers for 1 to 2,000,000 states
+pub record AreNumbered (lists : List (List (ℕ × ℕ))) (numbers : List ℕ) : Type 0 where
+  pub each : AreNumbers lists numbers
+  pub some : 1 ≤ length numbers
+  pub few : length numbers ≤ 2000000
