@@ -1,7 +1,6 @@
 -- The words of the command line: what `clap` is told of them, and the job of what it found in them.
 use Rattle.std.specs.Prelude.{◌≡◌, ◌≢◌, ⊤, List, [], ◌∷◌, Some, None, codes, true, false, option_map, unwrap_or, string_bytes, Bool, Option}
-use Rattle.clap.specs.Takes.{takes}
-use Rattle.clap.specs.Words.{App, Row, Rule, Text, first_of, new_app, new_rule, one_of, subcommand_of, with_rule, with_subcommand}
+use Rattle.clap.specs.Words.{App, Row, Rule, Text, fault_of, first_of, new_app, new_rule, one_of, subcommand_of, with_rule, with_subcommand}
 use Rattle.clap.specs.declared.builder.ArgAction.TheVariants.{SetTrue}
 use Rattle.quotient.specs.declared.relation.Relation.{Relation}
 use Rattle.quotient.specs.declared.relation.Relation.TheVariants.{Strong}
@@ -34,11 +33,15 @@ file_rule = record (new_rule (codes "file")) { value_names = 1 }
 abbrev pub min_app : App
 min_app = with_rule (with_rule (with_rule (with_rule (new_app (codes "min")) relation_rule) hide_rule) stats_rule) file_rule
 
--- the words of the program, which has to be given a subcommand
+-- the words of the program, which has a version and has to be given a subcommand
 abbrev pub program_app : App
 program_app = with_subcommand (record (new_app (codes "autbis")) {
-  top = record (new_app (codes "autbis")).top { subcommand_required = true };
+  top = record (new_app (codes "autbis")).top { has_version = true; subcommand_required = true };
 }) min_app.top
+
+-- `clap` finds no fault in the words
+abbrev pub AreTaken : List Text → Type 0
+AreTaken words = fault_of program_app words ≡ []
 
 -- the word for a relation
 abbrev pub word_of : Relation → Text
@@ -54,12 +57,17 @@ pub record IsFlag (rows : List Row) (id : Text) (flag : Bool) : Type 0 where
 abbrev pub relation_in : List Row → Text
 relation_in rows = unwrap_or (first_of (codes "relation") rows) (codes "strong")
 
--- the job of what `clap` found in the words of `min`
-abbrev pub HasMatches : List Row → Job → Type 0
-HasMatches rows (Min relation stats hide file) = (relation_in rows ≡ word_of relation)
+-- the job of what `clap` found in the words of this subcommand
+abbrev pub HasMatches : Text → List Row → Job → Type 0
+HasMatches name rows (Min relation stats hide file) = (name ≡ codes "min")
+    × (relation_in rows ≡ word_of relation)
     × IsFlag rows (codes "stats") stats
     × (first_of (codes "hide") rows ≡ option_map string_bytes hide)
     × (first_of (codes "file") rows ≡ option_map string_bytes file)
+
+-- what was found is enough for a job of this subcommand
+abbrev pub IsWhole : Text → List Row → Type 0
+IsWhole name rows = name ≡ codes "min"
 
 -- the word is not that of a relation, and the fault names it; or memory was refused
 abbrev pub NamesNoRelation : Text → WordFault → Type 0
@@ -67,19 +75,23 @@ NamesNoRelation word (fault.Relation named) = (string_bytes named ≡ word) × (
 NamesNoRelation word fault.Memory = ⊤
 NamesNoRelation word _ = ⊥
 
--- the subcommand that was found is `min`, and the job is that of what was found for it
+-- the job is that of the subcommand that was found, and of what was found for it
 abbrev pub IsJobIn : Option (Text × List Row) → Job → Type 0
-IsJobIn subcommand job = (rows : List Row) × (subcommand ≡ Some (codes "min", rows)) × HasMatches rows job
+IsJobIn subcommand job = (name : Text) × (rows : List Row) × (subcommand ≡ Some (name, rows)) × HasMatches name rows job
 
--- where a relation is named as unknown, the subcommand that was found is `min`, and the relation was found for it
+-- where a relation is named as unknown, it was found for the subcommand that was found
 abbrev pub IsFaultIn : Option (Text × List Row) → WordFault → Type 0
-IsFaultIn subcommand (fault.Relation named) = (rows : List Row) × (subcommand ≡ Some (codes "min", rows))
+IsFaultIn subcommand (fault.Relation named) = (name : Text) × (rows : List Row) × (subcommand ≡ Some (name, rows))
     × NamesNoRelation (relation_in rows) (fault.Relation named)
 IsFaultIn subcommand _ = ⊤
 
--- the words are taken as those of `min`
-abbrev pub AsksForMin : List Text → Type 0
-AsksForMin words = (takes program_app words ≡ true) × (rows : List Row) × (subcommand_of program_app words ≡ Some (codes "min", rows))
+-- what was found is enough for a job
+abbrev pub IsWholeIn : Option (Text × List Row) → Type 0
+IsWholeIn subcommand = (name : Text) × (rows : List Row) × (subcommand ≡ Some (name, rows)) × IsWhole name rows
+
+-- the words are taken, and what is found in them is enough for a job
+abbrev pub AskForAJob : List Text → Type 0
+AskForAJob words = AreTaken words × IsWholeIn (subcommand_of program_app words)
 
 -- a fault where the words are those of a job: an unknown relation, or want of memory
 abbrev pub IsFaultOfAJob : WordFault → Type 0
@@ -87,10 +99,10 @@ IsFaultOfAJob (fault.Relation _) = ⊤
 IsFaultOfAJob fault.Memory = ⊤
 IsFaultOfAJob _ = ⊥
 
--- the words are those of `min`, and the job is that of what `clap` finds in them
+-- the words are taken, and the job is that of what is found in them
 abbrev pub IsJobOf : List Text → Job → Type 0
-IsJobOf words = IsJobIn (subcommand_of program_app words)
+IsJobOf words job = AreTaken words × IsJobIn (subcommand_of program_app words) job
 
--- a relation is named as unknown only where `clap` finds it in the words of `min`, and it is unknown
+-- a relation is named as unknown only where the words are taken, it is found in them, and it is unknown
 abbrev pub IsFaultOf : List Text → WordFault → Type 0
 IsFaultOf words = IsFaultIn (subcommand_of program_app words)

@@ -19,6 +19,6 @@ pub use crate::opener::{Disk, Opener};
 pub use crate::program::min_program;
 pub use crate::reports::{cannot_open, report, report_words};
 pub use crate::run::{Counts, run_min};
-pub use crate::words::{Job, WordFault, command};
+pub use crate::words::{Job, VERSION, WordFault, command};
 pub use autfmt::{Fault, Hidden, Limits};
 pub use quotient::Relation;

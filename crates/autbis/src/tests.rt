@@ -5,7 +5,7 @@ use crate::opener::Disk;
 use crate::program::{hidden_of, min_program, open};
 use crate::reports::{cannot_open, report, report_words};
 use crate::run_tests::{SILENT_DETOUR, TWO_EQUAL_TARGETS};
-use crate::words::{Job, WordFault, command};
+use crate::words::{Job, VERSION, WordFault, command};
 use autfmt::{Fault, Hidden, Limits, Sink, SliceSource, Source, VecSink};
 use quotient::Relation;
 use std::alloc::Global;
@@ -139,6 +139,21 @@ fn help(rt: HostRuntime) {
         assert!(rt; report_words(&fault, &mut Closed, &mut said) == 5, "{line}");
         assert!(rt;
             said.as_slice() == "autbis: read or write failed\n".as_bytes(),
+            "{line}"
+        );
+    }
+}
+
+#[test]
+fn version(rt: HostRuntime) {
+    for line in ["autbis --version", "autbis -V"] {
+        let fault = asked(&rt, rt.alloc(), line).expect_err(&rt, "a fault");
+        let mut said = Vec::new(rt.alloc());
+        let mut shown = Vec::new(rt.alloc());
+        assert!(rt; report_words(&fault, &mut shown, &mut said) == 0, "{line}");
+        let wanted = format!(in rt.alloc(); "autbis {VERSION}\n").expect(&rt, "memory");
+        assert!(rt;
+            said.is_empty() && shown.as_slice() == wanted.as_bytes(),
             "{line}"
         );
     }

@@ -1,16 +1,19 @@
 //! The words of the command line, read by `clap`: which job they ask for, or why they ask for none.
-ghost use Rattle.std.specs.Prelude.{◌≡◌, ℕ, List, map, option_map, string_bytes, codes, IfOk, IfErr, Some, false};
-ghost use Rattle.clap.specs.Words.{app_of, found_of, rows_of, rule_of, subcommand_rows_of, Row};
+ghost use Rattle.std.specs.Prelude.{◌≡◌, ℕ, List, map, option_map, string_bytes, codes, IfOk, IfErr, false};
+ghost use Rattle.clap.specs.Words.{app_of, first_of, found_of, rows_of, rule_of, subcommand_rows_of};
 ghost use Rattle.clap.specs.Values.{kind_of};
 ghost use Rattle.clap.specs.declared.error.kind.ErrorKind.TheVariants.{OutOfMemory};
 ghost use Rattle.clap.specs.declared.builder.command.Command.TheViews.{out-Command};
-ghost use Rattle.autbis.specs.Words.{AsksForMin, HasMatches, IsFaultIn, IsFaultOf, IsFaultOfAJob, IsJobIn, IsJobOf, NamesNoRelation, file_rule, hide_rule, min_app, program_app, relation_in, relation_rule, stats_rule, word_of};
+ghost use Rattle.autbis.specs.Words.{AskForAJob, HasMatches, IsFaultIn, IsFaultOf, IsFaultOfAJob, IsJobIn, IsJobOf, IsWholeIn, NamesNoRelation, file_rule, hide_rule, min_app, program_app, relation_in, relation_rule, stats_rule, word_of};
 ghost use Rattle.autbis.specs.declared.words.WordFault.TheVariants.{Memory};
 
 use clap::error::ErrorKind;
 use clap::{Arg, ArgAction, ArgMatches, Command, Error};
 use quotient::Relation;
 use std::alloc::{AllocError, AllocFailed, Global};
+
+/// The version of the program, which `--version` shows.
+pub const VERSION: &str = "0.1.0";
 
 /// What the words ask for.
 #[derive(Debug, Drop, PartialEq, Eq)]
@@ -35,7 +38,7 @@ pub enum WordFault {
     Usage(String),
     /// This word is not the name of a relation.
     Relation(String),
-    /// Help was asked for. This is its text.
+    /// Help, or the version, was asked for. This is its text.
     Help(String),
     /// A growth was refused.
     Memory,
@@ -61,12 +64,12 @@ impl<T: Drop> From<AllocFailed<T>> for WordFault {
 ///
 /// # Errors
 /// `Usage` where the words are not those of a job, `Relation` where they are but name an unknown
-/// relation, `Help` where they ask for help, `Memory` where a growth was refused. Words that `clap` takes as those of `min`
-/// are never answered by `Usage` or `Help`.
+/// relation, `Help` where they ask for help or for the version, `Memory` where a growth was refused. Words in which `clap` finds
+/// no fault are never answered by `Usage` or `Help`.
 pub fn command(alloc: Global, words: Vec<String>) -> Result<Job, WordFault>
     ensures job { IfOk result (IsJobOf (map string_bytes words.items)) }
     ensures fault { IfErr result (IsFaultOf (map string_bytes words.items)) }
-    ensures asked { AsksForMin (map string_bytes words.items) → IfErr result IsFaultOfAJob }
+    ensures asked { AskForAJob (map string_bytes words.items) → IfErr result IsFaultOfAJob }
 {
     let described = described(alloc)?;
     match described.try_get_matches_from(words.as_slice()) {
@@ -81,6 +84,7 @@ fn described<'a>(alloc: Global) -> Result<Command<'a>, AllocError>
 {
     Command::new(alloc, "autbis")
         .about("Minimises labelled transition systems in the Aldebaran (.aut) format")
+        .version(VERSION)
         .subcommand_required(true)
         .subcommand(described_min(alloc)?)
 }
@@ -145,7 +149,7 @@ fn file_argument<'a>(alloc: Global) -> Arg<'a>
 fn job_of(alloc: Global, matches: &ArgMatches<'_>) -> Result<Job, WordFault>
     ensures job { IfOk result (IsJobIn (subcommand_rows_of matches.now)) }
     ensures fault { IfErr result (IsFaultIn (subcommand_rows_of matches.now)) }
-    ensures asked { (rows : List Row) → subcommand_rows_of matches.now ≡ Some (codes "min", rows) → IfErr result IsFaultOfAJob }
+    ensures asked { IsWholeIn (subcommand_rows_of matches.now) → IfErr result IsFaultOfAJob }
 {
     match matches.subcommand_matches("min") {
         Some(min) => min_of(alloc, min),
@@ -155,19 +159,37 @@ fn job_of(alloc: Global, matches: &ArgMatches<'_>) -> Result<Job, WordFault>
 
 /// The job of the matches of `min`.
 fn min_of(alloc: Global, matches: &ArgMatches<'_>) -> Result<Job, WordFault>
-    ensures job { IfOk result (HasMatches (rows_of (found_of matches.now))) }
+    ensures job { IfOk result (HasMatches (codes "min") (rows_of (found_of matches.now))) }
     ensures fault { IfErr result (NamesNoRelation (relation_in (rows_of (found_of matches.now)))) }
 {
-    let relation = relation_of(alloc, matches.get_str("relation").unwrap_or("strong"))?;
+    let relation = relation_found(alloc, matches)?;
     let stats = matches.get_flag("stats");
-    let hide = owned(alloc, matches.get_str("hide"))?;
-    let file = owned(alloc, matches.get_str("file"))?;
+    let hide = found(alloc, matches, "hide")?;
+    let file = found(alloc, matches, "file")?;
     Ok(Job::Min {
         relation,
         stats,
         hide,
         file,
     })
+}
+
+/// The relation of the word that was found; `strong` if there is none.
+fn relation_found(alloc: Global, matches: &ArgMatches<'_>) -> Result<Relation, WordFault>
+    ensures ok { IfOk result (λ relation. relation_in (rows_of (found_of matches.now)) ≡ word_of relation) }
+    ensures err { IfErr result (NamesNoRelation (relation_in (rows_of (found_of matches.now)))) }
+{
+    relation_of(alloc, matches.get_str("relation").unwrap_or("strong"))
+}
+
+/// A copy of the text that was found for `id`, if there is one.
+fn found(alloc: Global, matches: &ArgMatches<'_>, id: &str) -> Result<Option<String>, AllocError>
+    ensures { IfOk result (λ text. first_of id.now (rows_of (found_of matches.now)) ≡ option_map string_bytes text) }
+{
+    match matches.get_str(id) {
+        Some(text) => Ok(Some(String::from_str(alloc, text)?)),
+        None => Ok(None),
+    }
 }
 
 /// The relation of this name.
@@ -179,16 +201,6 @@ fn relation_of(alloc: Global, word: &str) -> Result<Relation, WordFault>
         return Ok(Relation::Strong);
     }
     Err(WordFault::Relation(String::from_str(alloc, word)?))
-}
-
-/// A copy of the text, where there is one.
-fn owned(alloc: Global, text: Option<&str>) -> Result<Option<String>, AllocError>
-    ensures { IfOk result (λ owned. option_map (λ t. t.now) text.entry ≡ option_map string_bytes owned) }
-{
-    match text {
-        Some(text) => Ok(Some(String::from_str(alloc, text)?)),
-        None => Ok(None),
-    }
 }
 
 /// The fault of words that `clap` gave no matches for.

@@ -1,39 +1,18 @@
-use Rattle.std.proofs.Common.{List, Option, Bor, ℕ, Some, None, IfErr, ◌≡◌, ◌∙◌, rules, ap, codes, refl, subst, sym}
-use Rattle.std.specs.Prelude.{option_map, unwrap_or}
-use Rattle.clap.specs.Words.{first_value, found_of, rows_of}
-use Rattle.clap.specs.declared.parser.matches.Found.{Found}
-use Rattle.clap.proofs.WalkLemmas.{first_value-rows, one_text-rows}
-use Rattle.autbis.specs.Words.{NamesNoRelation, relation_in}
+use Rattle.std.proofs.Common.{◌∙◌, codes, refl, sym}
+use Rattle.clap.specs.Words.{found_of}
+use Rattle.clap.proofs.WalkLemmas.{one_text-rows}
 use Rattle.autbis.proofs.words.min_of.Goals as goal
-
-now-unwrap_or : (o : Option (Bor (List ℕ))) (d : Bor (List ℕ)) → unwrap_or (option_map (λ (t : Bor (List ℕ)). t.now) o) d.now ≡ (unwrap_or o d).now
-now-unwrap_or (Some t) d = refl
-now-unwrap_or None d = refl
-
--- the word that the code judges is the one that was found for the relation
-judged : (found : Found) (got : Option (Bor (List ℕ))) (strong word : Bor (List ℕ)) → option_map (λ (t : Bor (List ℕ)). t.now) got ≡ first_value found (codes "relation")
-    → strong.now ≡ codes "strong" → word ≡ unwrap_or got strong → relation_in (rows_of found) ≡ word.now
-judged found got strong word got_is strong_is word_is = ap (λ o. unwrap_or o (codes "strong")) (sym (got_is ∙ first_value-rows found (codes "relation")))
-    ∙ ap (unwrap_or (option_map (λ t. t.now) got)) (sym strong_is)
-    ∙ now-unwrap_or got strong
-    ∙ ap (λ t. t.now) (sym word_is)
 
 pub returns-clause-job : goal.returns-clause-job
 returns-clause-job c =
-    let found = found_of c.args.matches.now in
-    let flag = one_text-rows found (codes "stats") in (
-      judged found c.get_str.result _ c.unwrap_or.result c.get_str.ensures refl c.unwrap_or.ensures ∙ c.in_ok-relation.ensures.ok,
+    let flag = one_text-rows (found_of c.args.matches.now) (codes "stats") in (
+      refl,
+      c.in_ok-relation.ensures.ok,
       record {
         given = λ e. c.get_flag-stats.ensures.value (flag ∙ e);
         left_out = λ e. c.get_flag-stats.ensures.other (flag ∙ e);
         unknown = λ e. c.get_flag-stats.ensures.none (flag ∙ e);
       },
-      sym (first_value-rows found (codes "hide")) ∙ sym c.get_str-2.ensures ∙ c.in_ok-hide.ensures,
-      sym (first_value-rows found (codes "file")) ∙ sym c.get_str-3.ensures ∙ c.in_ok-file.ensures,
+      c.in_ok-hide.ensures,
+      c.in_ok-file.ensures,
     )
-
-pub returns-in_err-relation-clause-fault : goal.returns-in_err-relation-clause-fault
-returns-in_err-relation-clause-fault c =
-    let found = found_of c.args.matches.now in
-    let word = judged found c.get_str.result _ c.unwrap_or.result c.get_str.ensures refl c.unwrap_or.ensures in
-    subst (λ w. IfErr c.from_residual.result (NamesNoRelation w)) (sym word) (search rules)
