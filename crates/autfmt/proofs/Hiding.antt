@@ -66,3 +66,14 @@ Hide-same H K A same = ap made (all A.transitions)
 pub contains_numbered : (labels : List (List ℕ)) (k : ℕ) (a : List ℕ) → IsNumber labels k a → Contains labels a
 contains_numbered labels k a n =
     subst (λ (t : List ℕ). Contains labels t) n.text (Contains-get_or labels k [] n.below)
+
+-- with no hidden label a system is itself
+pub Hide-none : (A : System) → Hide [] A ≡ A
+Hide-none A = ap made (all A.transitions)
+  where
+    made : List Transition → System
+    made es = record { first = A.first; states = A.states; transitions = es }
+
+    all : (es : List Transition) → map (hidden_transition []) es ≡ es
+    all [] = refl
+    all (e ∷ es) = ap (λ (t : List Transition). e ∷ t) (all es)

@@ -18,7 +18,6 @@ pub mod Holding
 pub mod ReaderSteps
 pub mod ReaderAnswers
 pub mod HideSteps
-pub mod HideAnswers
 pub mod Order
 pub mod Progress
 pub mod Ranks

@@ -1,7 +1,7 @@
 -- What the reader of a hide list answers: the labels, or why there are none.
 use Rattle.std.specs.Prelude.{◌↔◌, ℕ, List, Contains, ⊤}
 use Rattle.autfmt.specs.declared.fault.Fault.{Fault}
-use Rattle.autfmt.specs.declared.fault.Fault.TheVariants.{LineTooLong, Device, Memory, BadHide, TooManyHidden}
+use Rattle.autfmt.specs.declared.fault.Fault.TheVariants.{LineTooLong, BadHide, TooManyHidden}
 use Rattle.autfmt.specs.HideLists.{HideReads}
 
 -- a fault of a hide list
@@ -10,15 +10,6 @@ IsHideFault (LineTooLong k) = ⊤
 IsHideFault (BadHide k) = ⊤
 IsHideFault TooManyHidden = ⊤
 IsHideFault _ = ⊥
-
--- a fault that the reader of a hide list may answer
-abbrev pub IsHideReadFault : Fault → Type 0
-IsHideReadFault (LineTooLong k) = ⊤
-IsHideReadFault (BadHide k) = ⊤
-IsHideReadFault TooManyHidden = ⊤
-IsHideReadFault Device = ⊤
-IsHideReadFault Memory = ⊤
-IsHideReadFault _ = ⊥
 
 -- the same labels stand in both lists
 abbrev pub SameLabels : List (List ℕ) → List (List ℕ) → Type 0

@@ -1,9 +1,8 @@
 //! The reader of a hide list: a label on each line.
-ghost use Rattle.std.specs.Prelude.{◌≡◌, ℕ, ◌+◌, ◌<◌, ◌≤◌, List, [], ◌∷◌, ◌++◌, length, true, false, IsTrue, Some, IfSome, Ok, Err, IfOk, IfErr, OnOk, MatchResult, MatchBool};
+ghost use Rattle.std.specs.Prelude.{◌≡◌, ◌↔◌, ℕ, ◌+◌, ◌<◌, ◌≤◌, List, [], ◌∷◌, ◌++◌, length, false, IsTrue, IfSome, Ok, Err, IfOk, IfErr, OnOk, MatchResult, MatchBool};
 ghost use Rattle.std.specs.Io.KnownBytes.{Consumes, IsAtEnd};
-ghost use Rattle.autfmt.specs.HideLists.{HideReads, FirstHideFault, JudgedHideFault};
-ghost use Rattle.autfmt.specs.Readers.{IsMemoryOr, AnswersFailure};
-ghost use Rattle.autfmt.specs.HideReaders.{IsHideReadFault, HidesAs};
+ghost use Rattle.autfmt.specs.HideLists.{FirstHideFault};
+ghost use Rattle.autfmt.specs.HideReaders.{IsHideFault, HidesAs};
 ghost use Rattle.autfmt.specs.HideReadSoFar.{HideReadSoFar};
 ghost use Rattle.autfmt.specs.HideOutcomes.{HideRefuses, HideAnswers};
 
@@ -20,24 +19,22 @@ const MOST_LINES: u32 = 100_000;
 /// Reads a hide list: at most 100,000 lines, each of one label. The source is taken to its end.
 ///
 /// # Errors
-/// Where the source did not fail, the first fault of the list, `LineTooLong`, `BadHide` or
-/// `TooManyHidden`; or `Memory` where a growth was refused. Where the source failed, the fault that
-/// is known from the bytes it gave, or else `Device`. How far the source was taken beyond a fault is
-/// open.
+/// The first fault of the list, `LineTooLong`, `BadHide` or `TooManyHidden`, is returned as soon as
+/// it is known; how far the source is taken beyond it is open. `Device` is returned if the source
+/// fails before a fault is known, and `Memory` if a growth is refused.
 pub fn read_hidden<R: Source>(alloc: Global, r: &mut R) -> Result<Hidden, Fault>
     requires { R.failures r.old ≡ 0 }
+
+    // What Ok means, and which error when: of the bytes that were taken.
     ensures outcome { HideAnswers (R.rest r.old) (R.rest r.new) (R.failures r.new) result }
+
+    // The same of the whole list, where the source tells it.
     ensures labels { IfSome (R.rest r.old) (λ text. IfOk result (HidesAs text)) }
-    ensures whole { IfSome (R.rest r.old) (λ _. OnOk result (R.rest r.new ≡ Some [])) }
-    ensures fault { R.failures r.new ≡ 0 →
-        IfSome (R.rest r.old) (λ text. IfErr result (IsMemoryOr (FirstHideFault text))) }
-    ensures failed { R.failures r.new ≡ 1 → (given rest : List ℕ) →
-        R.rest r.old ≡ Some (given ++ rest) → R.rest r.new ≡ Some rest →
-        IfErr result (AnswersFailure (JudgedHideFault given)) }
-    ensures device { result ≡ Err Fault.Device → R.failures r.new ≡ 1 }
-    ensures sound { OnOk result (R.failures r.new ≡ 0) }
+    ensures fault { IfSome (R.rest r.old) (λ text. IfErr result (λ f. IsHideFault f → FirstHideFault text f)) }
+
+    // What is left: a source that has failed exactly if that is the error.
+    ensures device { (result ≡ Err Fault.Device) ↔ (R.failures r.new ≡ 1) }
     ensures failures { R.failures r.new ≤ 1 }
-    ensures kind { IfErr result IsHideReadFault }
 {
     read_labels(alloc, r)
 }

@@ -1,14 +1,14 @@
 //! The reader of a system's text: a header, then as many transitions as it promises, then the end.
-ghost use Rattle.std.specs.Prelude.{◌≡◌, ◌≢◌, ℕ, ◌+◌, ◌<◌, ◌≤◌, List, [], ◌∷◌, ◌++◌, length, vec_len, true, false, IsTrue, Some, IfSome, Ok, Err, IfOk, IfErr, OnOk, OnErr, MatchResult};
+ghost use Rattle.std.specs.Prelude.{◌≡◌, ◌↔◌, ℕ, ◌+◌, ◌<◌, ◌≤◌, List, [], ◌∷◌, ◌++◌, length, vec_len, false, IsTrue, IfSome, Err, IfOk, IfErr, OnOk, MatchResult};
 ghost use Rattle.std.specs.Io.KnownBytes.{Consumes, IsAtEnd};
 ghost use Rattle.theory.specs.System.{System, Transition};
 ghost use Rattle.lts.specs.Lts.{InRange};
 ghost use Rattle.autfmt.specs.Bounds.{Bounds};
 ghost use Rattle.autfmt.specs.Cutter.{Cutting};
-ghost use Rattle.autfmt.specs.Faults.{FirstFault, JudgedFault};
-ghost use Rattle.autfmt.specs.Readers.{IsReadFault, IsMemoryOr, HasGoodHeader, ReadsAs, ReadsSystem, AnswersFailure};
+ghost use Rattle.autfmt.specs.Faults.{FirstFault};
+ghost use Rattle.autfmt.specs.Readers.{IsTextFault, ReadsAs};
 ghost use Rattle.autfmt.specs.ReadSoFar.{ReadSoFar, Standing, HoldsText};
-ghost use Rattle.autfmt.specs.Outcomes.{Refuses, Answers};
+ghost use Rattle.autfmt.specs.Outcomes.{Takes, Refuses, Answers};
 
 use crate::cutter::{Cutter, Step};
 use crate::fault::Fault;
@@ -21,28 +21,27 @@ use lts::{Lts, Meter};
 use std::alloc::Global;
 
 /// Reads a whole text as a system: a header of three numbers, then as many transitions as it
-/// promises, then the end. `lim` bounds what the header may promise. The source is taken to its end.
+/// promises, then the end. `lim` bounds what the header may promise. The source is taken to its end,
+/// and the label table has the labels that transitions carry and no others.
 ///
 /// # Errors
-/// Where the source did not fail, the first fault of the text, `BadHeader` to `MissingEdges`; or
-/// `Memory` where a growth was refused, which comes only behind a good line 1. Where the source
-/// failed, the fault that is known from the bytes it gave, or else `Device`. How far the source was
-/// taken beyond a fault is open.
+/// The first fault of the text, `BadHeader` to `MissingEdges`, is returned as soon as it is known;
+/// how far the source is taken beyond it is open. `Device` is returned if the source fails before
+/// a fault is known. `Memory` is returned if a growth is refused, which happens only after a good
+/// line 1.
 pub fn read<M: Meter, R: Source>(alloc: Global, r: &mut R, lim: &Limits) -> Result<Lts<M>, Fault>
     requires { R.failures r.old ≡ 0 }
+
+    // What Ok means, and which error when: of the bytes that were taken.
     ensures outcome { Answers lim.now [] (R.rest r.old) (R.rest r.new) (R.failures r.new) result }
-    ensures system { IfSome (R.rest r.old) (λ text. IfOk result (ReadsSystem lim.now text)) }
-    ensures whole { IfSome (R.rest r.old) (λ _. OnOk result (R.rest r.new ≡ Some [])) }
-    ensures fault { R.failures r.new ≡ 0 →
-        IfSome (R.rest r.old) (λ text. IfErr result (IsMemoryOr (FirstFault lim.now text))) }
-    ensures memory { IfSome (R.rest r.old) (λ text. result ≡ Err Fault.Memory → HasGoodHeader lim.now text) }
-    ensures failed { R.failures r.new ≡ 1 → (given rest : List ℕ) →
-        R.rest r.old ≡ Some (given ++ rest) → R.rest r.new ≡ Some rest →
-        IfErr result (AnswersFailure (JudgedFault lim.now given)) }
-    ensures device { result ≡ Err Fault.Device → R.failures r.new ≡ 1 }
-    ensures sound { OnOk result (R.failures r.new ≡ 0) }
+
+    // The same of the whole text, where the source tells it.
+    ensures system { IfSome (R.rest r.old) (λ text. IfOk result (ReadsAs lim.now text [])) }
+    ensures fault { IfSome (R.rest r.old) (λ text. IfErr result (λ f. IsTextFault f → FirstFault lim.now text f)) }
+
+    // What is left: a source that has failed exactly if that is the error.
+    ensures device { (result ≡ Err Fault.Device) ↔ (R.failures r.new ≡ 1) }
     ensures failures { R.failures r.new ≤ 1 }
-    ensures kind { IfErr result IsReadFault }
 {
     read_system(alloc, r, lim, &Hidden::none(alloc))
 }
@@ -58,19 +57,17 @@ pub fn read_hiding<M: Meter, R: Source>(
     h: &Hidden,
 ) -> Result<Lts<M>, Fault>
     requires { R.failures r.old ≡ 0 }
+
+    // What Ok means, and which error when: of the bytes that were taken.
     ensures outcome { Answers lim.now h.now (R.rest r.old) (R.rest r.new) (R.failures r.new) result }
+
+    // The same of the whole text, where the source tells it.
     ensures system { IfSome (R.rest r.old) (λ text. IfOk result (ReadsAs lim.now text h.now)) }
-    ensures whole { IfSome (R.rest r.old) (λ _. OnOk result (R.rest r.new ≡ Some [])) }
-    ensures fault { R.failures r.new ≡ 0 →
-        IfSome (R.rest r.old) (λ text. IfErr result (IsMemoryOr (FirstFault lim.now text))) }
-    ensures memory { IfSome (R.rest r.old) (λ text. result ≡ Err Fault.Memory → HasGoodHeader lim.now text) }
-    ensures failed { R.failures r.new ≡ 1 → (given rest : List ℕ) →
-        R.rest r.old ≡ Some (given ++ rest) → R.rest r.new ≡ Some rest →
-        IfErr result (AnswersFailure (JudgedFault lim.now given)) }
-    ensures device { result ≡ Err Fault.Device → R.failures r.new ≡ 1 }
-    ensures sound { OnOk result (R.failures r.new ≡ 0) }
+    ensures fault { IfSome (R.rest r.old) (λ text. IfErr result (λ f. IsTextFault f → FirstFault lim.now text f)) }
+
+    // What is left: a source that has failed exactly if that is the error.
+    ensures device { (result ≡ Err Fault.Device) ↔ (R.failures r.new ≡ 1) }
     ensures failures { R.failures r.new ≤ 1 }
-    ensures kind { IfErr result IsReadFault }
 {
     read_system(alloc, r, lim, h)
 }
@@ -99,10 +96,9 @@ fn read_system<M: Meter, R: Source>(
 fn read_header<R: Source>(cutter: &mut Cutter, r: &mut R, lim: &Limits) -> Result<Promise, Fault>
     requires fresh { cutter.old ≡ record { line = []; ahead = []; over = false } }
     requires sound { R.failures r.old ≡ 0 }
-    ensures header { (got : List ℕ) × Consumes (R.rest r.old) (R.rest r.new) got ×
-        MatchResult result
-        (λ p. ReadSoFar lim.now got cutter.new p [])
-        (Refuses lim.now got (R.rest r.new) (R.failures r.new)) }
+    ensures header { Takes (R.rest r.old) (R.rest r.new)
+        (λ given p. ReadSoFar lim.now given cutter.new p [])
+        (λ given. Refuses lim.now given (R.rest r.new) (R.failures r.new)) result }
     ensures file { IfOk result (λ p. (p.states ≤ 1000000) × (p.transitions ≤ 10000000)) }
     ensures end { OnOk result (IsTrue cutter.new.over → IsAtEnd (R.rest r.new)) }
     ensures sound { OnOk result (R.failures r.new ≡ 0) }
@@ -187,10 +183,9 @@ fn read_text<R: Source>(
     h: &Hidden,
 ) -> Result<(Promise, Held), Fault>
     requires { R.failures r.old ≡ 0 }
-    ensures whole { (got : List ℕ) × Consumes (R.rest r.old) (R.rest r.new) got ×
-        MatchResult result
-        (λ x. HoldsText lim.now h.now got x.0 x.1)
-        (Refuses lim.now got (R.rest r.new) (R.failures r.new)) }
+    ensures whole { Takes (R.rest r.old) (R.rest r.new)
+        (λ given x. HoldsText lim.now h.now given x.0 x.1)
+        (λ given. Refuses lim.now given (R.rest r.new) (R.failures r.new)) result }
     ensures range { IfOk result (λ x. InRange (length x.1.labels) x.0.first x.0.states x.1.triples.items) }
     ensures end { OnOk result (IsAtEnd (R.rest r.new)) }
     ensures sound { OnOk result (R.failures r.new ≡ 0) }

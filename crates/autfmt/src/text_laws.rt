@@ -1,5 +1,5 @@
 //! Laws of whole texts: a text has one cut into lines, and so one reading or one first fault.
-ghost use Rattle.std.specs.Prelude.{◌≡◌, ◌⊎◌, ◌↔◌, ℕ, List, ◌++◌};
+ghost use Rattle.std.specs.Prelude.{◌≡◌, ◌⊎◌, ◌↔◌, ℕ, List, [], ◌++◌};
 ghost use Rattle.theory.specs.System.{System, Hide};
 ghost use Rattle.autfmt.specs.declared.fault.Fault.{Fault};
 ghost use Rattle.autfmt.specs.Bounds.{Bounds};
@@ -68,7 +68,8 @@ pub fn a_judged_hide_fault_is_the_first()
     ensures { (given more : List ℕ) (f : Fault) → JudgedHideFault given f → FirstHideFault (given ++ more) f }
 {}
 
-/// Hiding depends on which labels stand in the list alone, not on their order or their repeats.
+/// Hiding depends on which labels are in the list alone, not on their order or their repeats; an empty list hides nothing.
 pub fn hiding_depends_on_the_labels()
-    ensures { (H K : List (List ℕ)) (A : System) → SameLabels H K → Hide H A ≡ Hide K A }
+    ensures same { (H K : List (List ℕ)) (A : System) → SameLabels H K → Hide H A ≡ Hide K A }
+    ensures none { (A : System) → Hide [] A ≡ A }
 {}

@@ -3,21 +3,25 @@ use Rattle.autfmt.proofs.reader.read_header.Goals as goal
 
 pub returns-in-TooLong-clause-header : goal.returns-in-TooLong-clause-header
 returns-in-TooLong-clause-header g c =
-    let s = rw c.in-TooLong.is at c.in_ok-advance.ensures.step in (
-      s.0,
-      s.1,
-      header_too_long c.args.lim.now c.args.cutter.now s.0 (g.R.Source.rest c.advance.new.r) (g.R.Source.failures c.advance.new.r)
-          c.requires.fresh c.in_ok-advance.ensures.failures s.2,
-    )
+    let s = rw c.in-TooLong.is at c.in_ok-advance.ensures.step in
+    record {
+      given = s.0;
+      took = s.1;
+      outcome =
+          header_too_long c.args.lim.now c.args.cutter.now s.0 (g.R.Source.rest c.advance.new.r) (g.R.Source.failures c.advance.new.r)
+          c.requires.fresh c.in_ok-advance.ensures.failures s.2;
+    }
 
 pub returns-clause-header : goal.returns-clause-header
 returns-clause-header g c =
-    let s = rw c.in-Line.is at c.in_ok-advance.ensures.step in (
-      s.0,
-      s.1,
-      header_answer c.args.lim.now c.args.cutter.now c.advance.new.self s.0 (g.R.Source.rest c.advance.new.r)
+    let s = rw c.in-Line.is at c.in_ok-advance.ensures.step in
+    record {
+      given = s.0;
+      took = s.1;
+      outcome =
+          header_answer c.args.lim.now c.args.cutter.now c.advance.new.self s.0 (g.R.Source.rest c.advance.new.r)
           (g.R.Source.failures c.advance.new.r) c.judge_header.result c.requires.fresh c.in_ok-advance.ensures.failures
           (c.advance.ensures.end (λ over. absurd (fresh_goes_on c.args.cutter.now c.requires.fresh over))) s.2
           (rw c.line.ensures at c.judge_header.ensures.good) (rw c.line.ensures at c.judge_header.ensures.fault)
-          c.judge_header.ensures.kind,
-    )
+          c.judge_header.ensures.kind;
+    }

@@ -1,6 +1,9 @@
--- The law is the lemma.
-use Rattle.autfmt.proofs.Hiding.{Hide-same}
+-- The laws are the lemmas.
+use Rattle.autfmt.proofs.Hiding.{Hide-same, Hide-none}
 use Rattle.autfmt.proofs.text_laws.hiding_depends_on_the_labels.Goals as goal
 
-pub returns : goal.returns
-returns c = Hide-same
+pub returns-clause-same : goal.returns-clause-same
+returns-clause-same c = Hide-same
+
+pub returns-clause-none : goal.returns-clause-none
+returns-clause-none c = Hide-none
