@@ -1,10 +1,14 @@
 -- Blanks before a token, and what may stand behind one.
-use Rattle.std.proofs.Common.{◌≡◌, ℕ, Bool, true, false, List, [], ◌∷◌, ◌++◌, refl, sym, ap, ◌∙◌, inl, inr, append_assoc}
+use Rattle.std.proofs.Common.{◌≡◌, ◌⊎◌, ℕ, Bool, true, false, List, [], ◌∷◌, ◌++◌, refl, sym, ap, ◌∙◌, inl, inr, append_assoc}
 use Rattle.std.proofs.lemmas.Bool.{cond_both, eqb-true, or_cases, and_from, and_parts}
 use Rattle.std.proofs.lemmas.List.Elements.{All-nil, All-cons, All-head, All-tail}
 use Rattle.std.specs.Prelude.{◌||◌, ◌==◌}
-use Rattle.autfmt.specs.Grammar.{IsBlank, Blanks, Spaced}
+use Rattle.autfmt.specs.Grammar.{Blanks, Spaced}
 use Rattle.autfmt.specs.Reading.{is_blank, are_blanks, after_blanks}
+
+-- a blank: space, tab or carriage return
+abbrev pub IsBlank : ℕ → Type 0
+IsBlank b = (b ≡ 0x20) ⊎ (b ≡ 0x09) ⊎ (b ≡ 0x0D)
 
 pub IsBlank-from_test : (b : ℕ) → is_blank b ≡ true → IsBlank b
 IsBlank-from_test b e =

@@ -38,7 +38,7 @@ GoodLines-tail n line lines e es g = record { spelled = g.spelled.1; among = All
 -- a line that spells a transition among the states is good
 pub GoodEdge-from_spelled :
     (m n k : ℕ) (line : List ℕ) (e : Transition) → k ≤ m + 1 → SpellsTransition line e → IsAmong n e → GoodEdge m n k line
-GoodEdge-from_spelled m n k line e x s a = (x, s.0, e.source, e.target, e.label, s.1, a.source, a.target)
+GoodEdge-from_spelled m n k line e x s a = (x, e, s, a.source, a.target)
 
 -- one more good line
 pub GoodLines-push :
@@ -245,7 +245,7 @@ lines_judged m n k (line ∷ lines) few = step (λ x. lines_judged m n (k + 1) l
     step others (inl good) = then (others (let x = good.0 in omega arith))
       where
         e : Transition
-        e = record { source = good.2; label = good.4; target = good.3 }
+        e = good.1
 
         then :
             ((es : List Transition) × GoodLines n lines es × (k + 1 + length lines ≡ m + 2))
@@ -257,8 +257,8 @@ lines_judged m n k (line ∷ lines) few = step (λ x. lines_judged m n (k + 1) l
             let count = rest.2 in
             inl (
               e ∷ rest.0,
-              GoodLines-cons n line lines e rest.0 (good.1, good.5)
-                  (record { source = good.6; label = transition-label line good.2 good.4 good.3 good.5; target = good.7 }) rest.1,
+              GoodLines-cons n line lines e rest.0 good.2
+                  (record { source = good.3; label = transition-label line e.source e.label e.target good.2.1; target = good.4 }) rest.1,
               omega arith,
             )
 

@@ -4,6 +4,7 @@ use Rattle.std.proofs.lemmas.Bool.{cases_lt, cases_eq}
 use Rattle.std.proofs.lemmas.Bool.Decides.{nat_tests}
 use Rattle.autfmt.specs.declared.fault.Fault.{Fault}
 use Rattle.autfmt.specs.declared.fault.Fault.TheVariants.{BadHeader, FirstState, NoStates, TooManyStates, TooManyTransitions, LineTooLong, BadEdge, SourceRange, TargetRange, ExtraText, MissingEdges, Device, Memory, BadHide, TooManyHidden}
+use Rattle.theory.specs.System.{Transition}
 use Rattle.autfmt.specs.Bounds.{Bounds}
 use Rattle.autfmt.specs.Grammar.{Header, TransitionLine}
 use Rattle.autfmt.specs.Texts.{IsShort}
@@ -130,11 +131,12 @@ pub data EdgeKind (m n k : ℕ) (line : List ℕ) (fault : Fault) : Type 0 where
 pub edge_kind : (m n k : ℕ) (line : List ℕ) (fault : Fault) → EdgeFault m n k line fault → EdgeKind m n k line fault
 edge_kind m n k line (ExtraText j) h = extra (ap ExtraText h.0) h.1
 edge_kind m n k line (LineTooLong j) h = long (ap LineTooLong h.0) h.1 h.2
-edge_kind m n k line (BadEdge j) h = unread (ap BadEdge h.0) h.1 h.2 h.3
+edge_kind m n k line (BadEdge j) h =
+    unread (ap BadEdge h.0) h.1 h.2 (λ s t a l. h.3 (record { source = s; label = a; target = t }) (h.2, l))
 edge_kind m n k line (SourceRange j) h =
-    let e = h.0 in let high = h.7 in wrong h.3 h.4 h.5 h.1 h.2 h.6 (rw e (grind (arith, nat_tests)))
+    let e = h.0 in let high = h.4 in wrong h.2.source h.2.target h.2.label h.1 h.3.0 h.3.1 (rw e (grind (arith, nat_tests)))
 edge_kind m n k line (TargetRange j) h =
-    let e = h.0 in let low = h.7 in let high = h.8 in wrong h.3 h.4 h.5 h.1 h.2 h.6 (rw e (grind (arith, nat_tests)))
+    let e = h.0 in let low = h.4 in let high = h.5 in wrong h.2.source h.2.target h.2.label h.1 h.3.0 h.3.1 (rw e (grind (arith, nat_tests)))
 edge_kind m n k line BadHeader h = absurd h
 edge_kind m n k line FirstState h = absurd h
 edge_kind m n k line NoStates h = absurd h
@@ -178,14 +180,15 @@ GoodEdge-no_fault m n k line fault good h = against (edge_kind m n k line fault 
   where
     against : EdgeKind m n k line fault → ⊥
     against (extra e x) = let y = good.0 in omega arith
-    against (long e x l) = let s = good.1 in omega arith
-    against (unread e x s none) = none good.2 good.3 good.4 good.5
+    against (long e x l) = let s = good.2.0 in omega arith
+    against (unread e x s none) = none good.1.source good.1.target good.1.label good.2.1
     against (wrong s t a x l h' w) =
-        let u = one_transition line s t good.2 good.3 a good.4 h' good.5 in
+        let d = good.1 in
+        let u = one_transition line s t d.source d.target a d.label h' good.2.1 in
         let p = u.0 in let q = u.2 in
-        let low = good.6 in let low' = good.7 in
-        let right : wrong_ends n k good.2 good.3 ≡ None = grind (arith, nat_tests) in
-        let e : wrong_ends n k s t ≡ wrong_ends n k good.2 good.3 = rw (p, q) refl in
+        let low = good.3 in let low' = good.4 in
+        let right : wrong_ends n k d.source d.target ≡ None = grind (arith, nat_tests) in
+        let e : wrong_ends n k s t ≡ wrong_ends n k d.source d.target = rw (p, q) refl in
         let e' : Some fault ≡ None = sym w ∙ e ∙ right in
         cc
 
@@ -194,16 +197,19 @@ pub edge_judged :
     (m n k : ℕ) (line : List ℕ) → GoodEdge m n k line ⊎ ((fault : Fault) × EdgeFault m n k line fault)
 edge_judged m n k line = step (cases_lt (m + 1) k) (cases_lt 8192 (length line)) (decide_transition line)
   where
+    e : ℕ → ℕ → List ℕ → Transition
+    e s t a = record { source = s; label = a; target = t }
+
     ends : k ≤ m + 1 → IsShort line → (s t : ℕ) (a : List ℕ) → TransitionLine line s a t → (s < n) ⊎ (n ≤ s) → (t < n) ⊎ (n ≤ t) →
         GoodEdge m n k line ⊎ ((fault : Fault) × EdgeFault m n k line fault)
-    ends x short s t a h (inr high) q = inr (SourceRange k, (refl, x, short, s, t, a, h, high))
-    ends x short s t a h (inl low) (inr high) = inr (TargetRange k, (refl, x, short, s, t, a, h, low, high))
-    ends x short s t a h (inl low) (inl low') = inl (x, short, s, t, a, h, low, low')
+    ends x short s t a h (inr high) q = inr (SourceRange k, (refl, x, e s t a, (short, h), high))
+    ends x short s t a h (inl low) (inr high) = inr (TargetRange k, (refl, x, e s t a, (short, h), low, high))
+    ends x short s t a h (inl low) (inl low') = inl (x, e s t a, (short, h), low, low')
 
     step : (m + 1 < k) ⊎ (k ≤ m + 1) → (8192 < length line) ⊎ (length line ≤ 8192) →
         ((s t : ℕ) × (a : List ℕ) × TransitionLine line s a t) ⊎ ((s t : ℕ) (a : List ℕ) → ¬ TransitionLine line s a t) →
         GoodEdge m n k line ⊎ ((fault : Fault) × EdgeFault m n k line fault)
     step (inl x) l r = inr (ExtraText k, (refl, x))
     step (inr x) (inl l) r = inr (LineTooLong k, (refl, x, l))
-    step (inr x) (inr s) (inr none) = inr (BadEdge k, (refl, x, s, none))
+    step (inr x) (inr s) (inr none) = inr (BadEdge k, (refl, x, s, λ d spelled. none d.source d.target d.label spelled.1))
     step (inr x) (inr s) (inl h) = ends x s h.0 h.1 h.2 h.3 (cases_lt h.0 n) (cases_lt h.1 n)

@@ -7,7 +7,8 @@ use Rattle.std.proofs.lemmas.Option.{cond_some, same_Some}
 use Rattle.std.proofs.lemmas.List.{take_at, drop_at, length_push}
 use Rattle.std.proofs.lemmas.List.Elements.{All-head, All-tail}
 use Rattle.theory.specs.System.{IsLabel}
-use Rattle.autfmt.specs.Grammar.{IsBlank, Blanks, Spaced}
+use Rattle.autfmt.proofs.Blanks.{IsBlank}
+use Rattle.autfmt.specs.Grammar.{Blanks, Spaced}
 use Rattle.autfmt.specs.Reading.{last_quote, is_label, quoted_at}
 use Rattle.autfmt.proofs.PlainLabels.{bind_some, IsLabel-from_test, test-IsLabel}
 

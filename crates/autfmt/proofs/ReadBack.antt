@@ -8,9 +8,10 @@ use Rattle.std.proofs.lemmas.List.Sums.{AllPass-from_list_all}
 use Rattle.std.proofs.lemmas.List.Sorted.{All-permutation, IsPermutation-sym, length_permutation}
 use Rattle.theory.specs.System.{System, Transition, IsSystem, IsAmong, IsLabel}
 use Rattle.autfmt.specs.Bounds.{Bounds, IsWithinFile}
-use Rattle.autfmt.specs.Grammar.{IsBlank, Blanks, Spaced, Label, Header, is_plain, quoted}
+use Rattle.autfmt.proofs.Blanks.{IsBlank}
+use Rattle.autfmt.specs.Grammar.{Blanks, Spaced, Label, Header, is_plain, quoted}
 use Rattle.autfmt.specs.Texts.{IsOneLine, IsShort, SpellsTransition, Reads, with_line_feeds}
-use Rattle.autfmt.specs.Written.{written_label, written_header, written_transition, Text, IsInWrittenOrder}
+use Rattle.autfmt.specs.Written.{written_label, header_of, written_transition, Text, IsInWrittenOrder}
 
 -- none of these bytes is a line feed
 record Visible (bs : List ℕ) : Type 0 where
@@ -138,7 +139,7 @@ line_and_feed : (e : Transition) → written_transition e ≡ transition_line e 
 line_and_feed e =
     sym (append_assoc (codes "(" ++ decimal e.source ++ codes ", " ++ written_label e.label ++ codes ", " ++ decimal e.target) (codes ")") (10 ∷ []))
 
-header_and_feed : (A : System) → written_header A ≡ header_line A ++ 10 ∷ []
+header_and_feed : (A : System) → header_of A.first (length A.transitions) A.states ≡ header_line A ++ 10 ∷ []
 header_and_feed A =
     sym (append_assoc (codes "des (" ++ decimal A.first ++ codes ", " ++ decimal (length A.transitions) ++ codes ", " ++ decimal A.states) (codes ")") (10 ∷ []))
 
@@ -149,38 +150,42 @@ fed (e ∷ es) =
 
 pub text_is_read_again : (bounds : Bounds) (A : System) (t : List ℕ) → IsWithinFile bounds → IsSystem A → A.states ≤ bounds.states → length A.transitions ≤ bounds.transitions
     → Text A t → (B : System) × IsInWrittenOrder A B × Reads bounds t B
-text_is_read_again bounds A t within system states transitions (es, (same, up), is) =
-    let small : A.states < 10 ^ 10 = omega (arith, within.states) in
-    let few : length A.transitions < 10 ^ 10 = omega (arith, within.transitions) in
-    let low : A.first < 10 ^ 10 = omega (arith, system.first) in
-    let among = All-permutation (IsAmong A.states) A.transitions es (IsPermutation-sym _ _ same) system.transitions in
-    let each = recursion_from_All (IsAmong A.states) es among in
-    let as_many : length A.transitions ≡ length es = length_permutation es A.transitions same in
-    let B : System = record { first = A.first; states = A.states; transitions = es } in
-    let head = header_is_line A low few small in
-    let spells_header : Header (header_line A) A.first (length A.transitions) A.states =
-    (decimal A.first, decimal (length A.transitions), decimal A.states, (low, refl), (few, refl), (small, refl), spaced_header _ _ _) in
-    let whole : t ≡ with_line_feeds (header_line A ∷ map transition_line es) ++ [] =
-    is ∙ ap (λ bs. bs ++ flat_map written_transition es) (header_and_feed A) ∙ ap (λ bs. (header_line A ++ 10 ∷ []) ++ bs) (fed es) ∙ sym (append-nil _) in (
+text_is_read_again bounds A t within system states transitions (B, order, is) =
+    let es = B.transitions in
+    let first = order.first in
+    let count = order.states in
+    let as_many : length A.transitions ≡ length es = length_permutation es A.transitions order.same in
+    let small : B.states < 10 ^ 10 = omega (arith, within.states) in
+    let few : length es < 10 ^ 10 = omega (arith, within.transitions) in
+    let low : B.first < 10 ^ 10 = omega (arith, system.first) in
+    let among =
+    subst (λ n. All (IsAmong n) es) (sym count)
+    (All-permutation (IsAmong A.states) A.transitions es (IsPermutation-sym _ _ order.same) system.transitions) in
+    let each = recursion_from_All (IsAmong B.states) es among in
+    let head = header_is_line B low few small in
+    let spells_header : Header (header_line B) B.first (length es) B.states =
+    (decimal B.first, decimal (length es), decimal B.states, (low, refl), (few, refl), (small, refl), spaced_header _ _ _) in
+    let whole : t ≡ with_line_feeds (header_line B ∷ map transition_line es) ++ [] =
+    is ∙ ap (λ bs. bs ++ flat_map written_transition es) (header_and_feed B) ∙ ap (λ bs. (header_line B ++ 10 ∷ []) ++ bs) (fed es) ∙ sym (append-nil _) in (
       B,
-      record { first = refl; states = refl; order = (same, up) },
+      order,
       record {
         spelled = (
-          header_line A ∷ map transition_line es,
+          header_line B ∷ map transition_line es,
           (
-            header_line A ∷ map transition_line es,
+            header_line B ∷ map transition_line es,
             [],
             record {
               whole = whole;
-              lines = All-cons IsOneLine _ _ head.one (one_lines A.states small es each);
+              lines = All-cons IsOneLine _ _ head.one (one_lines B.states small es each);
               one = All-nil (λ b. b ≢ 10);
             },
             sym (append-nil _),
           ),
-          (head.short, subst (λ m. Header (header_line A) A.first m A.states) as_many spells_header, spells_transitions A.states small es each),
+          (head.short, spells_header, spells_transitions B.states small es each),
         );
-        system = record { first = system.first; transitions = among };
-        states = states;
+        system = record { first = omega (arith, system.first); transitions = among };
+        states = omega arith;
         transitions = omega arith;
       },
     )

@@ -3,19 +3,19 @@ use Rattle.std.specs.Prelude.{◌≡◌, ◌⊎◌, ℕ, ◌+◌, ◌-◌, ◌<�
 use Rattle.autfmt.specs.declared.fault.Fault.{Fault}
 use Rattle.autfmt.specs.declared.fault.Fault.TheVariants.{BadHeader, FirstState, NoStates, TooManyStates, TooManyTransitions, LineTooLong, BadEdge, SourceRange, TargetRange, ExtraText, MissingEdges}
 use Rattle.autfmt.specs.Bounds.{Bounds}
-use Rattle.autfmt.specs.Grammar.{Header, TransitionLine}
-use Rattle.autfmt.specs.Texts.{Lines, Cuts, IsShort}
+use Rattle.theory.specs.System.{Transition}
+use Rattle.autfmt.specs.Grammar.{Header}
+use Rattle.autfmt.specs.Texts.{Lines, Cuts, IsShort, SpellsTransition}
 
 -- the fault of line 1, in this order
 abbrev pub HeaderFault : Bounds → List ℕ → Fault → Type 0
-HeaderFault bounds line (LineTooLong k) = (k ≡ 1) × (8192 < length line)
-HeaderFault bounds line BadHeader = IsShort line × ((f m n : ℕ) → ¬ Header line f m n)
-HeaderFault bounds line FirstState = (f m n : ℕ) × IsShort line × Header line f m n × (1 ≤ n) × (n ≤ f)
-HeaderFault bounds line NoStates = (f m n : ℕ) × IsShort line × Header line f m n × (n ≡ 0)
-HeaderFault bounds line TooManyStates = (f m n : ℕ) × IsShort line × Header line f m n × (f < n) × (bounds.states < n)
-HeaderFault bounds line TooManyTransitions =
-    (f m n : ℕ) × IsShort line × Header line f m n × (f < n) × (n ≤ bounds.states) × (bounds.transitions < m)
-HeaderFault bounds line _ = ⊥
+HeaderFault b line (LineTooLong k) = (k ≡ 1) × (8192 < length line)
+HeaderFault b line BadHeader = IsShort line × ((f m n : ℕ) → ¬ Header line f m n)
+HeaderFault b line FirstState = (f m n : ℕ) × IsShort line × Header line f m n × (1 ≤ n) × (n ≤ f)
+HeaderFault b line NoStates = (f m n : ℕ) × IsShort line × Header line f m n × (n ≡ 0)
+HeaderFault b line TooManyStates = (f m n : ℕ) × IsShort line × Header line f m n × (f < n) × (b.states < n)
+HeaderFault b line TooManyTransitions = (f m n : ℕ) × IsShort line × Header line f m n × (f < n) × (n ≤ b.states) × (b.transitions < m)
+HeaderFault b line _ = ⊥
 
 -- line 1 is a good header
 pub record GoodHeader (bounds : Bounds) (line : List ℕ) (f m n : ℕ) : Type 0 where
@@ -29,18 +29,15 @@ pub record GoodHeader (bounds : Bounds) (line : List ℕ) (f m n : ℕ) : Type 0
 abbrev pub EdgeFault : ℕ → ℕ → ℕ → List ℕ → Fault → Type 0
 EdgeFault m n k line (ExtraText j) = (j ≡ k) × (m + 1 < k)
 EdgeFault m n k line (LineTooLong j) = (j ≡ k) × (k ≤ m + 1) × (8192 < length line)
-EdgeFault m n k line (BadEdge j) =
-    (j ≡ k) × (k ≤ m + 1) × IsShort line × ((s t : ℕ) (a : List ℕ) → ¬ TransitionLine line s a t)
-EdgeFault m n k line (SourceRange j) =
-    (j ≡ k) × (k ≤ m + 1) × IsShort line × (s t : ℕ) × (a : List ℕ) × TransitionLine line s a t × (n ≤ s)
+EdgeFault m n k line (BadEdge j) = (j ≡ k) × (k ≤ m + 1) × IsShort line × ((e : Transition) → ¬ SpellsTransition line e)
+EdgeFault m n k line (SourceRange j) = (j ≡ k) × (k ≤ m + 1) × (e : Transition) × SpellsTransition line e × (n ≤ e.source)
 EdgeFault m n k line (TargetRange j) =
-    (j ≡ k) × (k ≤ m + 1) × IsShort line × (s t : ℕ) × (a : List ℕ) × TransitionLine line s a t × (s < n) × (n ≤ t)
+    (j ≡ k) × (k ≤ m + 1) × (e : Transition) × SpellsTransition line e × (e.source < n) × (n ≤ e.target)
 EdgeFault m n k line _ = ⊥
 
 -- line k is a good transition
 abbrev pub GoodEdge : ℕ → ℕ → ℕ → List ℕ → Type 0
-GoodEdge m n k line =
-    (k ≤ m + 1) × IsShort line × (s t : ℕ) × (a : List ℕ) × TransitionLine line s a t × (s < n) × (t < n)
+GoodEdge m n k line = (k ≤ m + 1) × (e : Transition) × SpellsTransition line e × (e.source < n) × (e.target < n)
 
 -- the fault of the least faulty one of the lines from line k on; where none is, what the end has
 abbrev pub FaultFrom : ℕ → ℕ → (ℕ → Fault → Type 0) → ℕ → List (List ℕ) → Fault → Type 0

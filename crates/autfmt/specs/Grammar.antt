@@ -5,13 +5,9 @@ use Rattle.std.specs.Char.{is_ascii_alphabetic, is_ascii_digit}
 use Rattle.std.specs.List.{All, list_all}
 use Rattle.theory.specs.System.{IsLabel}
 
--- a blank: space, tab or carriage return
-abbrev pub IsBlank : ℕ → Type 0
-IsBlank b = (b ≡ 0x20) ⊎ (b ≡ 0x09) ⊎ (b ≡ 0x0D)
-
--- any number of blanks, none included
+-- any number of blanks, none included: spaces, tabs and carriage returns
 abbrev pub Blanks : List ℕ → Type 0
-Blanks bs = All IsBlank bs
+Blanks bs = All (λ b. (b ≡ 0x20) ⊎ (b ≡ 0x09) ⊎ (b ≡ 0x0D)) bs
 
 -- the tokens in their order, with any number of blanks before, between and after them
 abbrev pub Spaced : List (List ℕ) → List ℕ → Type 0

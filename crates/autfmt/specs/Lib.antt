@@ -1,5 +1,6 @@
 pub mod Bounds
 pub mod Stream
+pub mod Pieces
 pub mod Supply
 pub mod Store
 pub mod Line
@@ -18,5 +19,6 @@ pub mod Readers
 pub mod ReadSoFar
 pub mod Outcomes
 pub mod Written
+pub mod Fronts
 pub mod Ranks
 pub mod Progress

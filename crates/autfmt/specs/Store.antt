@@ -1,6 +1,6 @@
 -- A sink that keeps its bytes in memory.
 use Rattle.std.specs.Prelude.{ℕ, ◌-◌, List, ◌++◌, length, Option, option_map}
-use Rattle.autfmt.specs.Stream.{capped}
+use Rattle.autfmt.specs.Pieces.{capped}
 
 -- the bytes written, the count of them at which the next call fails, the most that one put takes, and the failures
 pub record Store : Type 0 where

@@ -1,6 +1,6 @@
 -- A source over bytes in memory.
 use Rattle.std.specs.Prelude.{ℕ, ◌-◌, min, List, length, drop, Option, option_map}
-use Rattle.autfmt.specs.Stream.{capped}
+use Rattle.autfmt.specs.Pieces.{capped}
 
 -- the bytes to come, the place among them where a take fails, the most that one take gives, and the failures
 pub record Supply : Type 0 where

@@ -1,5 +1,5 @@
 -- The one text of a system.
-use Rattle.std.specs.Prelude.{◌≡◌, ℕ, ◌≤◌, List, ◌++◌, length, take, codes, decimal, if◌then◌else◌, Option, Result, Err}
+use Rattle.std.specs.Prelude.{◌≡◌, ℕ, List, ◌++◌, length, codes, decimal, if◌then◌else◌, Option, Result, Err}
 use Rattle.std.specs.Io.KnownBytes.{Appends}
 use Rattle.std.specs.List.{flat_map}
 use Rattle.std.specs.List.Sorted.{IsPermutation, IsSorted}
@@ -21,19 +21,6 @@ abbrev pub header_of : ℕ → ℕ → ℕ → List ℕ
 header_of first transitions states =
     codes "des (" ++ decimal first ++ codes ", " ++ decimal transitions ++ codes ", " ++ decimal states ++ codes ")\n"
 
--- the header of a system
-abbrev pub written_header : System → List ℕ
-written_header A = header_of A.first (length A.transitions) A.states
-
--- the front of a line, up to the label
-abbrev pub written_front : ℕ → List ℕ
-written_front source = codes "(" ++ decimal source ++ codes ", "
-
--- the first bytes are the front of a line
-pub record IsFront (source len : ℕ) (bytes : List ℕ) : Type 0 where
-  pub short : len ≤ 13
-  pub front : take len bytes ≡ written_front source
-
 -- a transition and its line feed
 abbrev pub written_transition : Transition → List ℕ
 written_transition e =
@@ -44,23 +31,20 @@ abbrev pub transition_cmp : Transition → Transition → Ordering
 transition_cmp d e =
     ordering_then (nat_cmp d.source e.source) (ordering_then (slice_cmp nat_cmp d.label e.label) (nat_cmp d.target e.target))
 
--- the system's transitions, in the order in which they are written
-abbrev pub WrittenOrder : System → List Transition → Type 0
-WrittenOrder A es = IsPermutation es A.transitions × IsSorted transition_cmp es
-
--- the header and the transitions in the order in which they stand
+-- the header and the transitions in the order in which they are listed
 abbrev pub listed : System → List ℕ
-listed A = written_header A ++ flat_map written_transition A.transitions
+listed A = header_of A.first (length A.transitions) A.states ++ flat_map written_transition A.transitions
 
--- B is A, its transitions listed in the order in which they are written
+-- B is A with its transitions in the order in which they are written
 pub record IsInWrittenOrder (A B : System) : Type 0 where
   pub first : B.first ≡ A.first
   pub states : B.states ≡ A.states
-  pub order : WrittenOrder A B.transitions
+  pub same : IsPermutation B.transitions A.transitions
+  pub sorted : IsSorted transition_cmp B.transitions
 
 -- the text of the system A
 abbrev pub Text : System → List ℕ → Type 0
-Text A text = (es : List Transition) × WrittenOrder A es × (text ≡ written_header A ++ flat_map written_transition es)
+Text A text = (B : System) × IsInWrittenOrder A B × (text ≡ listed B)
 
 -- a sink has gained the text of A
 abbrev pub GainsText : System → Option (List ℕ) → Option (List ℕ) → Type 0

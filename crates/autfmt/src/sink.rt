@@ -2,7 +2,8 @@
 ghost use Rattle.std.specs.Prelude.{◌≡◌, ℕ, ◌+◌, ◌<◌, ◌≤◌, ◌↔◌, List, [], ◌++◌, length, take, None, Some, IfSome, IsErr, IfOk, OnOk, OnErr, if◌then◌else◌, Option};
 ghost use Rattle.std.specs.Io.{WritesAtMost};
 ghost use Rattle.std.specs.Io.KnownBytes.{Appends, Keeps, WriteAppends};
-ghost use Rattle.autfmt.specs.Stream.{AppendsBeginning, CountsFailure, Wrapped};
+ghost use Rattle.autfmt.specs.Stream.{AppendsBeginning, CountsFailure};
+ghost use Rattle.autfmt.specs.Pieces.{Wrapped};
 ghost use Rattle.autfmt.specs.Store.{Store, taken_count, after_put};
 
 use crate::source::{Broken, at_most};

@@ -2,7 +2,8 @@
 ghost use Rattle.std.specs.Prelude.{◌≡◌, ℕ, ◌<◌, ◌≤◌, ◌↔◌, List, length, None, Some, IfSome, IsErr, IfOk, OnErr, if◌then◌else◌, Option};
 ghost use Rattle.std.specs.Io.{ReadsAtMost};
 ghost use Rattle.std.specs.Io.KnownBytes.{ReadConsumes};
-ghost use Rattle.autfmt.specs.Stream.{CountsFailure, Wrapped, capped};
+ghost use Rattle.autfmt.specs.Stream.{CountsFailure};
+ghost use Rattle.autfmt.specs.Pieces.{Wrapped, capped};
 ghost use Rattle.autfmt.specs.Supply.{Supply, next_count, after_take};
 
 use std::io::Read;

@@ -5,11 +5,8 @@ pub returns-then-source-from-clause-fault : goal.returns-then-source-from-clause
 returns-then-source-from-clause-fault c = (
   refl,
   c.requires.promised,
-  c.requires.short,
-  c.in-Some.source,
-  c.in-Some.target,
-  c.in-Some.label.now,
-  c.in-Some.ensures.found,
+  record { source = c.in-Some.source; label = c.in-Some.label.now; target = c.in-Some.target },
+  (c.requires.short, c.in-Some.ensures.found),
   omega arith,
 )
 
@@ -17,11 +14,16 @@ pub returns-then-target-from-clause-fault : goal.returns-then-target-from-clause
 returns-then-target-from-clause-fault c = (
   refl,
   c.requires.promised,
+  record { source = c.in-Some.source; label = c.in-Some.label.now; target = c.in-Some.target },
+  (c.requires.short, c.in-Some.ensures.found),
+  omega arith,
+  omega arith,
+)
+
+pub returns-in_default-clause-fault : goal.returns-in_default-clause-fault
+returns-in_default-clause-fault c = (
+  refl,
+  c.requires.promised,
   c.requires.short,
-  c.in-Some.source,
-  c.in-Some.target,
-  c.in-Some.label.now,
-  c.in-Some.ensures.found,
-  omega arith,
-  omega arith,
+  λ e spelled. c.in_default.ensures.none e.source e.target e.label spelled.1,
 )
