@@ -1,5 +1,5 @@
-//! Refinement: blocks of states are split by what their states can do, round after round, until two states share a block
-//! exactly if they are bisimilar.
+//! Refinement: blocks of states are split by what their states can do, round after round, until two states share a
+//! block exactly if they are bisimilar.
 #![tactic(auto)]
 
 mod lists;

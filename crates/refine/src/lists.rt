@@ -71,7 +71,8 @@ impl Lists {
         self.spans[k as usize].fingerprint
     }
 
-    /// Whether the lists number `j` and `k` are the same. Lists are compared only if their numbers differ: many states share one.
+    /// Whether the lists number `j` and `k` are equal. They are read only if the numbers differ, since many states share
+    /// a list.
     pub(crate) fn are_same(&self, j: u32, k: u32) -> bool
         requires first { j < length self.now }
         requires second { k < length self.now }

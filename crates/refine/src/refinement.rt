@@ -13,7 +13,8 @@ use crate::signatures::Signatures;
 use lts::{Lts, Memory, Meter};
 use std::alloc::Global;
 
-/// One round: the Split of the blocks by the signatures that the states have under them. Each transition is visited once.
+/// One round: the Split of the blocks by the signatures that the states have under them. Each transition is visited
+/// once.
 ///
 /// Fails if there is no memory for it. At most one round was begun then, with at most its visits.
 pub fn round<S: Sense, M: Meter>(
@@ -39,10 +40,11 @@ pub fn round<S: Sense, M: Meter>(
     next_round::<S, M>(l, p, &mut marks, &mut signatures, m)
 }
 
-/// Blocks that two states share exactly if they are bisimilar, made from one block by round after round. The last round,
-/// which is counted too, is the first that splits nothing. Each round visits each transition once.
+/// Blocks that two states share exactly if they are bisimilar, made from one block by round after round. The last
+/// round, which is counted too, is the first that splits nothing. Each round visits each transition once.
 ///
-/// Fails if there is no memory for it. At most as many rounds as there are states were begun then, with at most their visits.
+/// Fails if there is no memory for it. At most as many rounds as there are states were begun then, with at most their
+/// visits.
 pub fn refine<S: Sense, M: Meter>(alloc: Global, l: &Lts<M>, m: &mut M) -> Result<Partition, Memory>
     requires room { HasRoomFor (M.counted m.old) l.now.states (l.now.states * length l.now.places) }
 

@@ -12,13 +12,13 @@ use crate::partition::Partition;
 use lts::{Lts, Memory, Meter};
 use std::alloc::Global;
 
-/// A relation whose signatures can be computed. Its definitions, the bisimulations, the signature, and what blocks keep, are
-/// those of its `relation`, and so are the four laws that refinement rests on.
+/// A relation whose signatures can be computed. Its definitions (the bisimulations, the signature, and what blocks keep)
+/// are those of its `relation`, and so are the four laws that refinement rests on.
 pub trait Sense {
     ghost relation: { Relation };
 
-    /// Appends the signature of the state `s` under the blocks of `p` to `out`: its pairs of a label number and a block, in
-    /// rising order, each once.
+    /// Appends the signature of the state `s` under the blocks of `p` to `out`: its pairs of a label number and a block,
+    /// in rising order, each once.
     ///
     /// Fails if there is no memory for it. It is open then what was appended.
     fn signature<M: Meter>(
@@ -42,11 +42,12 @@ pub trait Sense {
         ensures extends { OnErr result (Extends out.old.items out.new.items) }
 
         // In either case
-        ensures visits { Visits M.counted m.old m.new result (length (row_of s l.now.places)) (most_visits relation l.now s) }
+        ensures visits { let row = length (row_of s l.now.places) in
+            Visits M.counted m.old m.new result row (most_visits relation l.now s) }
         ensures marks { marks.new ≡ marks.old };
 
-    /// Puts the signature of each state under the blocks of `p` into `lists`, and its number there into `numbers`. States
-    /// with equal signatures may share a list. Each transition is visited once.
+    /// Puts the signature of each state under the blocks of `p` into `lists`, and its number there into `numbers`.
+    /// States with equal signatures may share a list. Each transition is visited once.
     ///
     /// Fails if there is no memory for it. It is open then which lists there are.
     fn sign_each<M: Meter>(

@@ -136,22 +136,55 @@ fn signed(alloc: Global, known: &Known, stood: &[(u32, u32)]) -> Result<String, 
     Ok(text)
 }
 
+/// The signatures of all states under the blocks, filled into signatures that may be used again.
+fn filled(
+    alloc: Global,
+    l: &Lts<Counter>,
+    p: &Partition,
+    marks: &mut Marks,
+    signatures: &mut Signatures,
+) -> Result<String, Memory>
+    requires states { length p.now ≡ l.now.states }
+    requires marks { marks.old ≡ l.now.states }
+    requires signatures { length signatures.old ≡ l.now.states }
+    ensures marks { marks.new ≡ marks.old }
+    ensures signatures { length signatures.new ≡ length signatures.old }
+{
+    l.known();
+    let mut m = Counter::new();
+    signatures.fill::<Strong, Counter>(l, p, marks, &mut m)?;
+    let mut text = String::new(alloc);
+    for s in 0..signatures.states() {
+        text.push_str(&format!(in alloc; "{{{}}}", &pairs(alloc, signatures.of(s))?)?)?;
+    }
+    Ok(text)
+}
+
 /// The signatures of all states, and the blocks that they leave.
 fn table_row(alloc: Global, l: &Lts<Counter>, p: &Partition) -> Result<(Partition, String), Memory>
     requires { length p.now ≡ l.now.states }
     ensures { IfOk result (λ r. length r.0 ≡ l.now.states) }
 {
-    let mut m = Counter::new();
     let mut marks = Marks::new(alloc, l.states())?;
     let mut signatures = Signatures::new(alloc, l.states())?;
-    signatures.fill::<Strong, Counter>(l, p, &mut marks, &mut m)?;
-    let mut text = String::new(alloc);
-    for s in 0..signatures.states() {
-        text.push_str(&format!(in alloc; "{{{}}}", &pairs(alloc, signatures.of(s))?)?)?;
-    }
+    let text = filled(alloc, l, p, &mut marks, &mut signatures)?;
     let split = signatures.split(p)?;
-    text.push_str(&blocks(alloc, &split)?)?;
-    Ok((split, text))
+    let row = format!(in alloc; "{text}{}", &blocks(alloc, &split)?)?;
+    Ok((split, row))
+}
+
+/// The signatures under the blocks after one round, and then, in the same marks and signatures, under one block.
+fn filled_after_a_round(alloc: Global, known: &Known) -> Result<String, Memory> {
+    let Some(l) = build(alloc, known)? else {
+        return Ok(String::new(alloc));
+    };
+    let one = one_block(alloc, &l)?;
+    let (split, _) = table_row(alloc, &l, &one)?;
+    let mut marks = Marks::new(alloc, l.states())?;
+    let mut signatures = Signatures::new(alloc, l.states())?;
+    let first = filled(alloc, &l, &split, &mut marks, &mut signatures)?;
+    let second = filled(alloc, &l, &one, &mut marks, &mut signatures)?;
+    Ok(format!(in alloc; "{first}, {second}")?)
 }
 
 /// The signatures of all states in each of so many rounds, and the blocks after it, a line each.
@@ -188,6 +221,17 @@ fn chain_of_three(rt: HostRuntime) -> Result<(), Fail> {
         {(0, 0)}{(0, 1)}{(0, 2)}{}4: 0 1 2 3\n\
         {(0, 1)}{(0, 2)}{(0, 3)}{}4: 0 1 2 3\n";
     assert_eq!(rt; text.as_str(), want);
+    Ok(())
+}
+
+/// A second fill leaves nothing of the first.
+#[test]
+fn chain_filled_twice(rt: HostRuntime) -> Result<(), Fail> {
+    let text = filled_after_a_round(rt.alloc(), &CHAIN_OF_THREE)?;
+    assert_eq!(rt;
+        text.as_str(),
+        "{(0, 0)}{(0, 0)}{(0, 1)}{}, {(0, 0)}{(0, 0)}{(0, 0)}{}"
+    );
     Ok(())
 }
 
