@@ -1,13 +1,20 @@
 //! Texts, hide lists and limits by example, however the bytes come in pieces.
 ghost use Rattle.std.specs.Prelude.{◌≡◌, ◌≤◌};
 
+use crate::Fault::{
+    BadEdge, BadHeader, BadHide, Device, ExtraText, FirstState, LineTooLong, MissingEdges,
+    NoStates, SourceRange, TargetRange, TooManyHidden, TooManyStates, TooManyTransitions,
+};
 use crate::{Fault, Hidden, Limits, SliceSource, read, read_hidden, read_hiding};
 use lts::{Counter, Lts};
 use std::alloc::{AllocError, Global};
 use std::process::Abort;
 use std::test::Fail;
 
-/// The fault of the text, where it has one.
+/// A name, a text, and its fault.
+type Case<'a> = (&'a str, &'a [u8], Fault);
+
+/// The fault of the text, if it has one.
 fn fault_of(alloc: Global, mut source: SliceSource, lim: &Limits) -> Option<Fault>
     requires { source.failures ≡ 0 }
 {
@@ -17,57 +24,44 @@ fn fault_of(alloc: Global, mut source: SliceSource, lim: &Limits) -> Option<Faul
     }
 }
 
-/// The fault is `wanted` in pieces of at most `k` bytes.
-fn check_pieces(
+/// The fault of the text is `wanted`, however the text is cut into pieces, from a source that fails at the place.
+fn check(
     rt: &impl Abort,
     alloc: Global,
-    text: &[u8],
-    place: Option<usize>,
-    lim: &Limits,
-    wanted: Option<Fault>,
-    k: usize,
-)
-    requires { 1 ≤ k }
-{
-    let found = fault_of(alloc, SliceSource::new(text, place).pieces(k), lim);
-    assert_eq!(rt; found, wanted, "in pieces of {k}");
-}
-
-/// The fault is `wanted`, however the text is cut into pieces.
-fn check_at(
-    rt: &impl Abort,
-    alloc: Global,
+    name: &str,
     text: &[u8],
     place: Option<usize>,
     lim: &Limits,
     wanted: Option<Fault>,
 ) {
     let found = fault_of(alloc, SliceSource::new(text, place), lim);
-    assert_eq!(rt; found, wanted);
-    check_pieces(rt, alloc, text, place, lim, wanted, 1);
-    check_pieces(rt, alloc, text, place, lim, wanted, 2);
-    check_pieces(rt, alloc, text, place, lim, wanted, 3);
-    check_pieces(rt, alloc, text, place, lim, wanted, 7);
-    check_pieces(rt, alloc, text, place, lim, wanted, 4095);
-    check_pieces(rt, alloc, text, place, lim, wanted, 4096);
-    check_pieces(rt, alloc, text, place, lim, wanted, 4097);
+    assert_eq!(rt; found, wanted, "{name}");
+    for k in [1usize, 2, 3, 7, 4095, 4096, 4097] {
+        let found = fault_of(alloc, SliceSource::new(text, place).pieces(k.max(1)), lim);
+        assert_eq!(rt; found, wanted, "{name}, in pieces of {k}");
+    }
 }
 
-/// The fault is `wanted` within the limits of a file.
-fn check(rt: &impl Abort, alloc: Global, text: &[u8], wanted: Option<Fault>) {
-    check_at(rt, alloc, text, None, &Limits::file(), wanted);
+/// Each text is read within the limits of a file.
+fn check_good(rt: &impl Abort, alloc: Global, table: &[(&str, &[u8])]) {
+    for (name, text) in table {
+        check(rt, alloc, name, text, None, &Limits::file(), None);
+    }
 }
 
-/// The fault is `wanted` where the source fails at the end of the text.
-fn check_failing(rt: &impl Abort, alloc: Global, text: &[u8], wanted: Fault) {
-    check_at(
-        rt,
-        alloc,
-        text,
-        Some(text.len()),
-        &Limits::file(),
-        Some(wanted),
-    );
+/// Each text has its fault within these limits.
+fn check_faults(rt: &impl Abort, alloc: Global, lim: &Limits, table: &[Case]) {
+    for (name, text, fault) in table {
+        check(rt, alloc, name, text, None, lim, Some(*fault));
+    }
+}
+
+/// Each text has its fault if the source fails at its end.
+fn check_failing(rt: &impl Abort, alloc: Global, table: &[Case]) {
+    for (name, text, fault) in table {
+        let end = Some(text.len());
+        check(rt, alloc, name, text, end, &Limits::file(), Some(*fault));
+    }
 }
 
 /// The text, and then as many bytes `b` as make `len`.
@@ -79,7 +73,7 @@ fn padded(alloc: Global, text: &[u8], b: u8, len: usize) -> Result<Vec<u8>, Allo
     Ok(bytes)
 }
 
-/// The parts, one behind the other.
+/// The parts, one after the other.
 fn joined(alloc: Global, parts: &[&[u8]]) -> Result<Vec<u8>, AllocError> {
     let mut bytes = Vec::new(alloc);
     for part in parts {
@@ -100,7 +94,6 @@ fn two_equal_targets(rt: HostRuntime) -> Result<(), Fail> {
     assert_eq!(rt; system.edges(), 2);
     assert_eq!(rt; system.first(), 0);
     assert_eq!(rt; system.labels().len(), 1);
-    check(&rt, rt.alloc(), TWO_EQUAL_TARGETS, None);
     Ok(())
 }
 
@@ -117,395 +110,191 @@ fn two_spellings(rt: HostRuntime) -> Result<(), Fail> {
 }
 
 #[test]
-fn accepted(rt: HostRuntime) {
-    check(&rt, rt.alloc(), b"des (0,0,1)\n", None);
-    check(
-        &rt,
-        rt.alloc(),
-        b"des(0,1,2)\n( 0 ,\"SEND !1\", 1 )\n",
-        None,
-    );
-    check(&rt, rt.alloc(), b"des (1,0,2)\n", None);
-    check(&rt, rt.alloc(), b"des (2,2,3)\n(2,a,0)\n(0,b,1)\n", None);
-    check(&rt, rt.alloc(), b"des (0,1,2)\n(0,\"a\\\",1)", None);
-    check(
-        &rt,
-        rt.alloc(),
-        b"des (0,1,2)\n(0,\"SEND !\"x\"\",1)\n",
-        None,
-    );
+fn good_headers(rt: HostRuntime) {
+    let table: [(&str, &[u8]); 5] = [
+        ("no blanks", b"des (0,0,1)\n"),
+        ("first is the last state", b"des (1,0,2)\n"),
+        ("carriage return", b"des (0,0,1)\r\n"),
+        ("half of the states", b"des (0,0,500001)\n"),
+        ("the most states", b"des (0,0,1000000)\n"),
+    ];
+    check_good(&rt, rt.alloc(), &table);
 }
 
 #[test]
-fn empty_text(rt: HostRuntime) {
-    check(&rt, rt.alloc(), b"", Some(Fault::BadHeader));
+fn faulty_headers(rt: HostRuntime) {
+    let table: [Case; 9] = [
+        ("empty text", b"", BadHeader),
+        ("one line feed", b"\n", BadHeader),
+        ("first", b"des (2,0,2)\n", FirstState),
+        ("ten digits", b"des (9999999999,0,1)\n", FirstState),
+        ("none", b"des (1,0,0)\n", NoStates),
+        ("none first", b"des (0,9999999999,0)\n", NoStates),
+        ("ten digits", b"des (0,0,9999999999)\n", TooManyStates),
+        ("one more", b"des (0,0,1000001)\n", TooManyStates),
+        ("one more", b"des (0,10000001,1)\n", TooManyTransitions),
+    ];
+    check_faults(&rt, rt.alloc(), &Limits::file(), &table);
 }
 
 #[test]
-fn promised_and_found(rt: HostRuntime) {
-    check(
-        &rt,
-        rt.alloc(),
-        b"des (0,2,2)\n(0,a,1)\n",
-        Some(Fault::MissingEdges(1)),
-    );
-    check(
-        &rt,
-        rt.alloc(),
-        b"des (0,1,2)\n(0,a,1)\n(1,a,0)\n",
-        Some(Fault::ExtraText(3)),
-    );
-    check(
-        &rt,
-        rt.alloc(),
-        b"des (0,1,2)\n(0,a,2)\n",
-        Some(Fault::TargetRange(2)),
-    );
-    check(
-        &rt,
-        rt.alloc(),
-        b"des (0,1,2)\n(2,a,2)\n",
-        Some(Fault::SourceRange(2)),
-    );
-}
-
-#[test]
-fn longest_line(rt: HostRuntime) -> Result<(), Fail> {
-    let short = padded(rt.alloc(), b"(0,a,1)", b' ', 8192)?;
-    let long = padded(rt.alloc(), b"(0,a,1)", b' ', 8193)?;
-    let far = padded(rt.alloc(), b"(9,a,1)", b' ', 8193)?;
-    let text = joined(rt.alloc(), &[b"des (0,1,2)\n", &short, b"\n"])?;
-    check(&rt, rt.alloc(), &text, None);
-    let text = joined(rt.alloc(), &[b"des (0,1,2)\n", &long, b"\n"])?;
-    check(&rt, rt.alloc(), &text, Some(Fault::LineTooLong(2)));
-    let text = joined(rt.alloc(), &[b"des (0,1,2)\n", &far, b"\n"])?;
-    check(&rt, rt.alloc(), &text, Some(Fault::LineTooLong(2)));
-    Ok(())
-}
-
-#[test]
-fn largest_header(rt: HostRuntime) {
-    check(&rt, rt.alloc(), b"des (0,0,1000000)\n", None);
-    check(
-        &rt,
-        rt.alloc(),
-        b"des (0,0,1000001)\n",
-        Some(Fault::TooManyStates),
-    );
-    check(
-        &rt,
-        rt.alloc(),
-        b"des (0,10000001,1)\n",
-        Some(Fault::TooManyTransitions),
-    );
-    check(&rt, rt.alloc(), b"des (0,0,500001)\n", None);
-}
-
-#[test]
-fn bad_transitions(rt: HostRuntime) {
-    check(
-        &rt,
-        rt.alloc(),
-        b"des (0,1,2)\n(0,a,1\n",
-        Some(Fault::BadEdge(2)),
-    );
-    check(
-        &rt,
-        rt.alloc(),
-        b"des (0,1,2)\n(00,a,1)\n",
-        Some(Fault::BadEdge(2)),
-    );
-    check(
-        &rt,
-        rt.alloc(),
-        b"des (0,1,2)\n(0,a b,1)\n",
-        Some(Fault::BadEdge(2)),
-    );
-    check(
-        &rt,
-        rt.alloc(),
-        b"des (0,1,2)\n(0,\"\",1)\n",
-        Some(Fault::BadEdge(2)),
-    );
-    check(&rt, rt.alloc(), b"des (0,1,2)\n\n", Some(Fault::BadEdge(2)));
-}
-
-#[test]
-fn longest_label(rt: HostRuntime) -> Result<(), Fail> {
-    let most = padded(rt.alloc(), b"", b'a', 8000)?;
-    let more = padded(rt.alloc(), b"", b'a', 8001)?;
-    let text = joined(rt.alloc(), &[b"des (0,1,2)\n(0,", &most, b",1)\n"])?;
-    check(&rt, rt.alloc(), &text, None);
-    let text = joined(rt.alloc(), &[b"des (0,1,2)\n(0,", &more, b",1)\n"])?;
-    check(&rt, rt.alloc(), &text, Some(Fault::BadEdge(2)));
-    let text = joined(rt.alloc(), &[b"des (0,1,2)\n(0,\"", &most, b"\",1)\n"])?;
-    check(&rt, rt.alloc(), &text, None);
-    let text = joined(rt.alloc(), &[b"des (0,1,2)\n(0,\"", &more, b"\",1)\n"])?;
-    check(&rt, rt.alloc(), &text, Some(Fault::BadEdge(2)));
-    Ok(())
-}
-
-#[test]
-fn judged_before_failure(rt: HostRuntime) {
-    check_failing(
-        &rt,
-        rt.alloc(),
-        b"des (0,1,2)\n(5,a,1)\n",
-        Fault::SourceRange(2),
-    );
-}
-
-#[test]
-fn blank_line_after_end(rt: HostRuntime) {
-    check(
-        &rt,
-        rt.alloc(),
-        b"des (0,0,1)\n \n",
-        Some(Fault::ExtraText(2)),
-    );
-}
-
-#[test]
-fn first_out_of_range(rt: HostRuntime) {
-    check(&rt, rt.alloc(), b"des (2,0,2)\n", Some(Fault::FirstState));
-    check(&rt, rt.alloc(), b"des (1,0,0)\n", Some(Fault::NoStates));
-}
-
-#[test]
-fn states_before_transitions(rt: HostRuntime) -> Result<(), Fail> {
+fn headers_within_limits(rt: HostRuntime) -> Result<(), Fail> {
     let lim = Limits::new(3, 2).ok_or("limits")?;
-    check_at(
-        &rt,
-        rt.alloc(),
-        b"des (0,3,4)\n",
-        None,
-        &lim,
-        Some(Fault::TooManyStates),
-    );
+    let table: [Case; 2] = [
+        ("states first", b"des (0,3,4)\n", TooManyStates),
+        ("transitions", b"des (0,3,3)\n", TooManyTransitions),
+    ];
+    check_faults(&rt, rt.alloc(), &lim, &table);
     Ok(())
 }
 
-#[test]
-fn too_many_transitions(rt: HostRuntime) -> Result<(), Fail> {
-    let lim = Limits::new(3, 2).ok_or("limits")?;
-    check_at(
-        &rt,
-        rt.alloc(),
-        b"des (0,3,3)\n",
-        None,
-        &lim,
-        Some(Fault::TooManyTransitions),
-    );
-    Ok(())
-}
-
-#[test]
-fn states_none_many_transitions(rt: HostRuntime) {
-    check(
-        &rt,
-        rt.alloc(),
-        b"des (0,9999999999,0)\n",
-        Some(Fault::NoStates),
-    );
-}
-
-#[test]
-fn one_line_feed(rt: HostRuntime) {
-    check(&rt, rt.alloc(), b"\n", Some(Fault::BadHeader));
-}
-
-#[test]
-fn source_past_32_bits(rt: HostRuntime) {
-    check(
-        &rt,
-        rt.alloc(),
-        b"des (0,1,2)\n(4294967296,a,0)\n",
-        Some(Fault::SourceRange(2)),
-    );
-}
-
-#[test]
-fn least_line_decides(rt: HostRuntime) {
-    check(
-        &rt,
-        rt.alloc(),
-        b"des (0,1,2)\n(0,a,9)\nx\n",
-        Some(Fault::TargetRange(2)),
-    );
-}
-
-#[test]
-fn empty_line_after_end(rt: HostRuntime) {
-    check(
-        &rt,
-        rt.alloc(),
-        b"des (0,1,2)\n(0,a,1)\n\n",
-        Some(Fault::ExtraText(3)),
-    );
-}
-
-#[test]
-fn empty_line_inside(rt: HostRuntime) {
-    check(
-        &rt,
-        rt.alloc(),
-        b"des (0,2,2)\n(0,a,1)\n\n",
-        Some(Fault::BadEdge(3)),
-    );
-}
-
-#[test]
-fn long_line_after_end(rt: HostRuntime) -> Result<(), Fail> {
-    let line = padded(rt.alloc(), b"", b'x', 9000)?;
-    let text = joined(rt.alloc(), &[b"des (0,0,1)\n", &line, b"\n"])?;
-    check(&rt, rt.alloc(), &text, Some(Fault::ExtraText(2)));
-    Ok(())
-}
-
-#[test]
-fn long_header(rt: HostRuntime) -> Result<(), Fail> {
-    let text = padded(rt.alloc(), b"des (0,0,1)", b' ', 8193)?;
-    check(&rt, rt.alloc(), &text, Some(Fault::LineTooLong(1)));
-    Ok(())
-}
-
-#[test]
-fn carriage_returns(rt: HostRuntime) {
-    check(&rt, rt.alloc(), b"des (0,0,1)\r\n", None);
-    check(&rt, rt.alloc(), b"des (0,1,2)\r\n(0,a,1)\r\n", None);
-}
-
-#[test]
-fn unjudged_last_line(rt: HostRuntime) {
-    check_failing(&rt, rt.alloc(), b"des (0,1,2)\n(0,a,9)", Fault::Device);
-}
-
-#[test]
-fn judged_last_line(rt: HostRuntime) {
-    check_failing(
-        &rt,
-        rt.alloc(),
-        b"des (0,1,2)\n(0,a,9)\n",
-        Fault::TargetRange(2),
-    );
-}
-
-#[test]
-fn judged_extra_byte(rt: HostRuntime) {
-    check_failing(&rt, rt.alloc(), b"des (0,0,1)\nx", Fault::ExtraText(2));
-}
-
-#[test]
-fn judged_long_line(rt: HostRuntime) -> Result<(), Fail> {
-    let text = padded(rt.alloc(), b"", b'x', 8193)?;
-    check_failing(&rt, rt.alloc(), &text, Fault::LineTooLong(1));
-    Ok(())
-}
-
-// Also where every growth is refused: the reader grows nothing before line 1 is good.
+// Also if every growth is refused: the reader grows nothing before line 1 is good.
 #[test]
 fn header_fault_needs_no_memory(rt: HostRuntime) {
-    check(
-        &rt,
-        rt.alloc(),
-        &[b'x'; 10_000],
-        Some(Fault::LineTooLong(1)),
-    );
-    check(&rt, rt.alloc(), b"des (0,0,0)\n", Some(Fault::NoStates));
+    let table: [Case; 2] = [
+        ("long", &[b'x'; 10_000], LineTooLong(1)),
+        ("no states", b"des (0,0,0)\n", NoStates),
+    ];
+    check_faults(&rt, rt.alloc(), &Limits::file(), &table);
 }
 
 #[test]
-fn bytes_outside_labels(rt: HostRuntime) {
-    check(
-        &rt,
-        rt.alloc(),
-        b"des (0,1,2)\n(0,\"a\x00\",1)\n",
-        Some(Fault::BadEdge(2)),
-    );
-    check(
-        &rt,
-        rt.alloc(),
-        b"des (0,1,2)\n(0,\"a\r\",1)\n",
-        Some(Fault::BadEdge(2)),
-    );
-    check(
-        &rt,
-        rt.alloc(),
-        b"des (0,1,2)\n(0,\"a\x7F\",1)\n",
-        Some(Fault::BadEdge(2)),
-    );
-    check(
-        &rt,
-        rt.alloc(),
-        b"des (0,1,2)\n(0,\"a\x80\",1)\n",
-        Some(Fault::BadEdge(2)),
-    );
+fn good_transitions(rt: HostRuntime) {
+    let table: [(&str, &[u8]); 6] = [
+        ("equal targets", TWO_EQUAL_TARGETS),
+        ("blanks", b"des(0,1,2)\n( 0 ,\"SEND !1\", 1 )\n"),
+        ("any order", b"des (2,2,3)\n(2,a,0)\n(0,b,1)\n"),
+        ("no line feed", b"des (0,1,2)\n(0,\"a\\\",1)"),
+        ("mark", b"des (0,1,2)\n(0,\"SEND !\"x\"\",1)\n"),
+        ("returns", b"des (0,1,2)\r\n(0,a,1)\r\n"),
+    ];
+    check_good(&rt, rt.alloc(), &table);
 }
 
 #[test]
-fn ten_digit_numbers(rt: HostRuntime) {
-    check(
-        &rt,
-        rt.alloc(),
-        b"des (9999999999,0,1)\n",
-        Some(Fault::FirstState),
-    );
-    check(
-        &rt,
-        rt.alloc(),
-        b"des (0,0,9999999999)\n",
-        Some(Fault::TooManyStates),
-    );
+fn faulty_transitions(rt: HostRuntime) {
+    let table: [Case; 14] = [
+        ("no bracket", b"des (0,1,2)\n(0,a,1\n", BadEdge(2)),
+        ("zeros", b"des (0,1,2)\n(00,a,1)\n", BadEdge(2)),
+        ("blank", b"des (0,1,2)\n(0,a b,1)\n", BadEdge(2)),
+        ("empty", b"des (0,1,2)\n(0,\"\",1)\n", BadEdge(2)),
+        ("empty line", b"des (0,1,2)\n\n", BadEdge(2)),
+        ("0x00", b"des (0,1,2)\n(0,\"a\x00\",1)\n", BadEdge(2)),
+        ("0x0D", b"des (0,1,2)\n(0,\"a\r\",1)\n", BadEdge(2)),
+        ("0x7F", b"des (0,1,2)\n(0,\"a\x7F\",1)\n", BadEdge(2)),
+        ("0x80", b"des (0,1,2)\n(0,\"a\x80\",1)\n", BadEdge(2)),
+        ("x", b"des (0,2,2)\n(0,a,1)\n(0,a,1)x\n", BadEdge(3)),
+        ("source", b"des (0,1,2)\n(2,a,2)\n", SourceRange(2)),
+        (
+            "32 bits",
+            b"des (0,1,2)\n(4294967296,a,0)\n",
+            SourceRange(2),
+        ),
+        ("target", b"des (0,1,2)\n(0,a,2)\n", TargetRange(2)),
+        ("two", b"des (0,1,2)\n(0,a,9)\nx\n", TargetRange(2)),
+    ];
+    check_faults(&rt, rt.alloc(), &Limits::file(), &table);
 }
 
 #[test]
-fn text_after_bracket(rt: HostRuntime) {
-    check(
-        &rt,
-        rt.alloc(),
-        b"des (0,2,2)\n(0,a,1)\n(0,a,1)x\n",
-        Some(Fault::BadEdge(3)),
-    );
+fn faulty_ends(rt: HostRuntime) {
+    let table: [Case; 5] = [
+        ("too few", b"des (0,2,2)\n(0,a,1)\n", MissingEdges(1)),
+        ("more", b"des (0,1,2)\n(0,a,1)\n(1,a,0)\n", ExtraText(3)),
+        ("blank line", b"des (0,0,1)\n \n", ExtraText(2)),
+        ("empty line", b"des (0,1,2)\n(0,a,1)\n\n", ExtraText(3)),
+        ("early", b"des (0,2,2)\n(0,a,1)\n\n", BadEdge(3)),
+    ];
+    check_faults(&rt, rt.alloc(), &Limits::file(), &table);
+}
+
+#[test]
+fn long_lines(rt: HostRuntime) -> Result<(), Fail> {
+    let header = padded(rt.alloc(), b"des (0,0,1)", b' ', 8193)?;
+    let most = padded(rt.alloc(), b"(0,a,1)", b' ', 8192)?;
+    let more = padded(rt.alloc(), b"(0,a,1)", b' ', 8193)?;
+    let far = padded(rt.alloc(), b"(9,a,1)", b' ', 8193)?;
+    let extra = padded(rt.alloc(), b"", b'x', 9000)?;
+    let most = joined(rt.alloc(), &[b"des (0,1,2)\n", &most, b"\n"])?;
+    let more = joined(rt.alloc(), &[b"des (0,1,2)\n", &more, b"\n"])?;
+    let far = joined(rt.alloc(), &[b"des (0,1,2)\n", &far, b"\n"])?;
+    let extra = joined(rt.alloc(), &[b"des (0,0,1)\n", &extra, b"\n"])?;
+    let table: [Case; 4] = [
+        ("header", &header, LineTooLong(1)),
+        ("a byte more", &more, LineTooLong(2)),
+        ("a byte more, out of range", &far, LineTooLong(2)),
+        ("after the end", &extra, ExtraText(2)),
+    ];
+    check_good(&rt, rt.alloc(), &[("longest line", &most)]);
+    check_faults(&rt, rt.alloc(), &Limits::file(), &table);
+    Ok(())
+}
+
+#[test]
+fn long_labels(rt: HostRuntime) -> Result<(), Fail> {
+    let most = padded(rt.alloc(), b"", b'a', 8000)?;
+    let more = padded(rt.alloc(), b"", b'a', 8001)?;
+    let plain = joined(rt.alloc(), &[b"des (0,1,2)\n(0,", &most, b",1)\n"])?;
+    let quoted = joined(rt.alloc(), &[b"des (0,1,2)\n(0,\"", &most, b"\",1)\n"])?;
+    let good: [(&str, &[u8]); 2] = [("plain", &plain), ("quoted", &quoted)];
+    check_good(&rt, rt.alloc(), &good);
+    let plain = joined(rt.alloc(), &[b"des (0,1,2)\n(0,", &more, b",1)\n"])?;
+    let quoted = joined(rt.alloc(), &[b"des (0,1,2)\n(0,\"", &more, b"\",1)\n"])?;
+    let faulty: [Case; 2] = [
+        ("plain, a byte more", &plain, BadEdge(2)),
+        ("quoted, a byte more", &quoted, BadEdge(2)),
+    ];
+    check_faults(&rt, rt.alloc(), &Limits::file(), &faulty);
+    Ok(())
+}
+
+#[test]
+fn failing_sources(rt: HostRuntime) -> Result<(), Fail> {
+    let long = padded(rt.alloc(), b"", b'x', 8193)?;
+    let table: [Case; 7] = [
+        ("whole", TWO_EQUAL_TARGETS, Device),
+        ("beginning", b"des (0, 2, 3)\n(0, a, 1)\n", Device),
+        ("not judged", b"des (0,1,2)\n(0,a,9)", Device),
+        ("target", b"des (0,1,2)\n(0,a,9)\n", TargetRange(2)),
+        ("source", b"des (0,1,2)\n(5,a,1)\n", SourceRange(2)),
+        ("byte after the end", b"des (0,0,1)\nx", ExtraText(2)),
+        ("long line", &long, LineTooLong(1)),
+    ];
+    check_failing(&rt, rt.alloc(), &table);
+    Ok(())
 }
 
 #[test]
 fn cut_after_each_byte(rt: HostRuntime) {
     for (k, _) in TWO_EQUAL_TARGETS.iter().enumerate() {
         let wanted = match k {
-            0..=12 => Fault::BadHeader,
-            13 | 14 => Fault::MissingEdges(0),
-            15..=22 => Fault::BadEdge(2),
-            23 | 24 => Fault::MissingEdges(1),
-            25..=32 => Fault::BadEdge(3),
-            _ => return check(&rt, rt.alloc(), &TWO_EQUAL_TARGETS[..k], None),
+            0..=12 => Some(BadHeader),
+            13 | 14 => Some(MissingEdges(0)),
+            15..=22 => Some(BadEdge(2)),
+            23 | 24 => Some(MissingEdges(1)),
+            25..=32 => Some(BadEdge(3)),
+            _ => None,
         };
-        check(&rt, rt.alloc(), &TWO_EQUAL_TARGETS[..k], Some(wanted));
+        let text = &TWO_EQUAL_TARGETS[..k];
+        check(&rt, rt.alloc(), "cut", text, None, &Limits::file(), wanted);
     }
 }
 
 #[test]
 fn failing_after_each_byte(rt: HostRuntime) {
-    for (k, _) in TWO_EQUAL_TARGETS.iter().enumerate() {
-        check_at(
+    let text = TWO_EQUAL_TARGETS;
+    let lim = Limits::file();
+    for (k, _) in text.iter().enumerate() {
+        check(
             &rt,
             rt.alloc(),
-            TWO_EQUAL_TARGETS,
+            "failing",
+            text,
             Some(k),
-            &Limits::file(),
-            Some(Fault::Device),
+            &lim,
+            Some(Device),
         );
     }
-    check_failing(&rt, rt.alloc(), TWO_EQUAL_TARGETS, Fault::Device);
-}
-
-#[test]
-fn failing_ends(rt: HostRuntime) {
-    check_failing(
-        &rt,
-        rt.alloc(),
-        b"des (0, 2, 3)\n(0, a, 1)\n",
-        Fault::Device,
-    );
 }
 
 /// The hidden labels, or the fault of the hide list.
@@ -514,24 +303,7 @@ fn hidden_of(alloc: Global, list: &[u8], place: Option<usize>, k: usize) -> Resu
     read_hidden(alloc, &mut source)
 }
 
-/// The fault of the hide list is `wanted`, however it is cut into pieces.
-fn check_list(
-    rt: &impl Abort,
-    alloc: Global,
-    list: &[u8],
-    place: Option<usize>,
-    wanted: Option<Fault>,
-) {
-    for k in [1, 2, 3, 7, 4095, 4096, 4097] {
-        assert_eq!(rt;
-            hidden_of(alloc, list, place, k).err(),
-            wanted,
-            "in pieces of {k}"
-        );
-    }
-}
-
-/// How many labels the text has where the labels of the list are hidden, and whether one is `i`.
+/// How many labels the text has if the labels of the list are hidden, and whether one is `i`.
 fn labels_of(alloc: Global, text: &[u8], list: &[u8]) -> Result<(u32, bool), Fault> {
     let hidden = hidden_of(alloc, list, None, 3)?;
     let mut source = SliceSource::new(text, None).pieces(5);
@@ -540,39 +312,36 @@ fn labels_of(alloc: Global, text: &[u8], list: &[u8]) -> Result<(u32, bool), Fau
 }
 
 #[test]
-fn hidden_quoted(rt: HostRuntime) {
-    let text = b"des (0,2,2)\n(0,a,1)\n(0,b,1)\n";
-    assert_eq!(rt; labels_of(rt.alloc(), text, b"\"a\"\nb\n"), Ok((1, true)));
-    assert_eq!(rt; labels_of(rt.alloc(), text, b"a\na\n"), Ok((2, true)));
-    assert_eq!(rt; labels_of(rt.alloc(), text, b"c"), Ok((2, false)));
-    assert_eq!(rt; labels_of(rt.alloc(), text, b"i"), Ok((2, false)));
+fn hidden_labels(rt: HostRuntime) {
+    let two: &[u8] = b"des (0,2,2)\n(0,a,1)\n(0,b,1)\n";
+    let spaced: &[u8] = b"des(0,1,2)\n( 0 ,\"SEND !1\", 1 )\n";
+    let table: [(&str, &[u8], &[u8], (u32, bool)); 6] = [
+        ("quoted and plain", two, b"\"a\"\nb\n", (1, true)),
+        ("twice", two, b"a\na\n", (2, true)),
+        ("not there", two, b"c", (2, false)),
+        ("internal", two, b"i", (2, false)),
+        ("with a blank", spaced, b"\"SEND !1\"\n", (1, true)),
+        ("none", TWO_EQUAL_TARGETS, b"", (1, false)),
+    ];
+    for (name, text, list, wanted) in &table {
+        assert_eq!(rt; labels_of(rt.alloc(), text, list), Ok(*wanted), "{name}");
+    }
 }
 
 #[test]
-fn hidden_spaced_label(rt: HostRuntime) {
-    let text = b"des(0,1,2)\n( 0 ,\"SEND !1\", 1 )\n";
-    assert_eq!(rt;
-        labels_of(rt.alloc(), text, b"\"SEND !1\"\n"),
-        Ok((1, true))
-    );
-}
-
-#[test]
-fn empty_hide_list(rt: HostRuntime) {
-    assert_eq!(rt;
-        labels_of(rt.alloc(), TWO_EQUAL_TARGETS, b""),
-        Ok((1, false))
-    );
-}
-
-#[test]
-fn two_labels_a_line(rt: HostRuntime) {
-    check_list(&rt, rt.alloc(), b"a b\n", None, Some(Fault::BadHide(1)));
-}
-
-#[test]
-fn empty_hide_line(rt: HostRuntime) {
-    check_list(&rt, rt.alloc(), b"a\n\n", None, Some(Fault::BadHide(2)));
+fn hide_lists(rt: HostRuntime) {
+    let table: [(&str, &[u8], Option<usize>, Fault); 4] = [
+        ("two labels a line", b"a b\n", None, BadHide(1)),
+        ("empty line", b"a\n\n", None, BadHide(2)),
+        ("unjudged last line", b"a\nb b", Some(5), Device),
+        ("judged last line", b"a\nb b\n", Some(6), BadHide(2)),
+    ];
+    for (name, list, place, wanted) in &table {
+        for k in [1, 2, 3, 7, 4095, 4096, 4097] {
+            let found = hidden_of(rt.alloc(), list, *place, k).err();
+            assert_eq!(rt; found, Some(*wanted), "{name}, in pieces of {k}");
+        }
+    }
 }
 
 #[test]
@@ -588,24 +357,12 @@ fn longest_hide_list(rt: HostRuntime) -> Result<(), Fail> {
     list.extend_from_slice(b"a\n")?;
     assert_eq!(rt;
         hidden_of(rt.alloc(), &list, None, 4097).err(),
-        Some(Fault::TooManyHidden)
+        Some(TooManyHidden)
     );
     let len = list.len();
     assert_eq!(rt;
         hidden_of(rt.alloc(), &list, Some(len), 7).err(),
-        Some(Fault::TooManyHidden)
+        Some(TooManyHidden)
     );
     Ok(())
-}
-
-#[test]
-fn failing_hide_list(rt: HostRuntime) {
-    check_list(&rt, rt.alloc(), b"a\nb b", Some(5), Some(Fault::Device));
-    check_list(
-        &rt,
-        rt.alloc(),
-        b"a\nb b\n",
-        Some(6),
-        Some(Fault::BadHide(2)),
-    );
 }
