@@ -6,9 +6,19 @@ use Rattle.theory.specs.System.{System, Reachable}
 use Rattle.theory.specs.Bisimulation.{Relation, Bisimilar}
 use Rattle.theory.specs.Blocks.{EachTwo}
 use Rattle.theory.specs.Quotient.{HowMany, Leader, IsLeader, Number}
-use Rattle.quotient.specs.Search.{IsMarked}
+use Rattle.quotient.specs.Marked.{IsMarked}
 use Rattle.quotient.specs.Numbers.{IsNumbering, Opens, Follows, Adds, none}
 use Rattle.quotient.specs.declared.numbering.Numbering.{Numbering}
+
+-- what the next state leaves, whatever the relation: numbers for as many blocks, and at most one number more
+pub Adds-within : (b : ℕ) (reached first : Bool) (old new : Numbering) → Adds b reached first old new → (states : ℕ) (block : ℕ → ℕ) →
+    ((t : ℕ) → t < states → block t < length old.by_block.items) → (t : ℕ) → t < states → block t < length new.by_block.items
+Adds-within b reached first old new (inl o) states block within t l = rw o.by_block (omega (arith, length-set {A = ℕ}, within t l))
+Adds-within b reached first old new (inr f) states block within t l = rw f.by_block (within t l)
+
+pub Adds-few : (b : ℕ) (reached first : Bool) (old new : Numbering) → Adds b reached first old new → new.count ≤ old.count + 1
+Adds-few b reached first old new (inl o) = omega (arith, o.count)
+Adds-few b reached first old new (inr f) = omega (arith, f.count)
 
 -- the leaders below s, but for the first state
 abbrev pub Other : Relation → System → ℕ → ℕ → Type 0

@@ -1,7 +1,14 @@
-pub mod Reaching
-pub mod Classes
-pub mod Rows
+-- lists
+pub mod Lists
 pub mod Repeats
+-- reachability
+pub mod Reaching
+-- numbers
+pub mod Classes
+-- the quotient
+pub mod Rows
 pub mod Copying
 pub mod Quotients
 pub mod Visits
+-- the comparison
+pub mod Unions

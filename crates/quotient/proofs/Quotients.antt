@@ -1,23 +1,24 @@
--- What the leaders show between numbers is the strong quotient.
-use Rattle.std.proofs.Common.{◌≡◌, ◌≢◌, ◌∙◌, ◌↔◌, ℕ, zero, suc, ◌+◌, ◌<◌, ◌≤◌, ◌==◌, List, length, map, get_or, slice_index, Contains, Result, Ok, Err, IfOk, refl, sym, ap, subst, inl, inr, arith}
+-- What enough rows show between numbers is the quotient.
+use Rattle.std.proofs.Common.{◌≡◌, ◌≢◌, ◌∙◌, ◌↔◌, ℕ, zero, suc, ◌+◌, ◌<◌, ◌≤◌, ◌==◌, Bool, true, false, not, Option, None, Some, List, [], length, map, get_or, slice_index, Contains, Result, Ok, Err, IfOk, refl, sym, ap, subst, inl, inr, arith}
 use Rattle.std.specs.List.{AllPairs, flat_map, range_with_len}
-use Rattle.std.proofs.lemmas.List.{length-map, get_or-map}
+use Rattle.std.proofs.lemmas.Bool.{and_parts, eqb-true, eq-eqb, both_ways}
+use Rattle.std.proofs.lemmas.List.{length-map, get_or-map, get_or_default}
 use Rattle.std.proofs.lemmas.List.Elements.{All-contains, Contains-get_or, Contains-append_cases}
 use Rattle.std.proofs.lemmas.List.Kept.{AllPairs-filter}
 use Rattle.std.proofs.lemmas.List.Sorted.{Contains-permutation, IsPermutation-sym}
-use Rattle.theory.specs.System.{System, Transition, Step, Reachable}
+use Rattle.theory.specs.System.{System, Transition, Step, Reachable, internal}
 use Rattle.theory.specs.Bisimulation.{Relation, Bisimilar}
-use Rattle.theory.specs.Bisimulation.Relation.{strong}
-use Rattle.theory.specs.Quotient.{Fellow, Leader, IsLeader, Number, Stands, Quotient}
+use Rattle.theory.specs.Bisimulation.Relation.{strong, branching}
+use Rattle.theory.specs.Quotient.{Fellow, Leader, IsLeader, Number, Stands, IsDropped, Quotient}
 use Rattle.lts.specs.Labels.{text_of, IsTable}
-use Rattle.lts.specs.Lts.{Triple, source_of, label_of, target_of, row_of, transition_of, system_from, system_of, grouped, IsGrouping, IsTriple, InRange, Grouped}
-use Rattle.quotient.specs.Search.{IsMarked}
-use Rattle.quotient.specs.Known.{Known}
+use Rattle.lts.specs.Lts.{Triple, source_of, label_of, target_of, row_of, transition_of, system_from, system_of, grouped, IsGrouping, IsTriple, InRange, IsLts, Grouped}
+use Rattle.quotient.specs.Marked.{IsMarked}
+use Rattle.quotient.specs.Reading.{rows_of, IsDroppedLabel}
 use Rattle.quotient.specs.Numbers.{IsNumbering}
-use Rattle.quotient.specs.Triples.{between_numbers, IsShownBy, IsShownBelow, HasApart}
+use Rattle.quotient.specs.Triples.{between_numbers, is_left_out, shown_by, IsShownBelow}
 use Rattle.quotient.specs.declared.numbering.Numbering.{Numbering}
-use Rattle.quotient.proofs.Repeats.{has_mapped, mapped_has}
-use Rattle.quotient.proofs.Rows.{apart_append}
+use Rattle.quotient.proofs.Lists.{has_mapped, mapped_has, apart_append}
+use Rattle.quotient.proofs.Rows.{ShownPlace, place_of, shown_place}
 
 -- transitions of different triples differ, where their labels are in the table
 transitions_differ : (labels : List (List ℕ)) (es : List Triple) → IsTable labels → ((x : Triple) → Contains es x → label_of x < length labels) →
@@ -49,111 +50,207 @@ module _ (es : List Triple) (sources : (s : ℕ) (x : Triple) → Contains (row_
       (AllPairs-filter (λ x y. x ≢ y) (λ e. source_of e == a) es once) (rows_differ once (a + 1) k)
       (λ x c d. omega (arith, ((sources a x).0 c).1, rows_from (a + 1) k x d))
 
-module _ (rel : Relation) (g : Grouped) (n : Numbering) (laws : Known rel g) (num : IsNumbering rel (system_of g) n) where
+-- the laws of the theory and of rows, at this system
+pub record Laws (rel : Relation) (g : Grouped) : Type 0 where
+  pub lts : IsLts g
+  pub reached_first : Reachable (system_of g) g.first
+  pub reached_on : (s : ℕ) (a : List ℕ) (t : ℕ) → Reachable (system_of g) s → Step (system_of g) s a t → Reachable (system_of g) t
+  pub below : (s : ℕ) → Reachable (system_of g) s → s < g.states
+  pub leader : (s : ℕ) → Reachable (system_of g) s → (l : ℕ) × Leader rel (system_of g) s l
+  pub one_number : (s m n : ℕ) → Number rel (system_of g) s m → Number rel (system_of g) s n → m ≡ n
+  pub classes : (s t m n : ℕ) → Reachable (system_of g) s → Reachable (system_of g) t → Number rel (system_of g) s m →
+      Number rel (system_of g) t n → (m ≡ n) ↔ Bisimilar rel (system_of g) s (system_of g) t
+  pub number_below : (Q : System) (s n : ℕ) → Quotient rel (system_of g) Q → Number rel (system_of g) s n → n < Q.states
+  pub sources : (s : ℕ) (es : List Triple) (e : Triple) → Contains (row_of s es) e ↔ (Contains es e × (source_of e ≡ s))
+  pub steps : (s : ℕ) (a : List ℕ) (t : ℕ) → Step (system_of g) s a t ↔
+      ((e : Triple) × Contains (row_of s g.places) e × (text_of g.labels (label_of e) ≡ a) × (target_of e ≡ t))
+
+-- a step of a marked state by a, between states of the numbers of s and t
+pub record Twin (g : Grouped) (numbers : List ℕ) (rows : List Bool) (s : ℕ) (a : List ℕ) (t : ℕ) : Type 0 where
+  pub source : ℕ
+  pub target : ℕ
+  pub low : source < g.states
+  pub marked : IsMarked rows source
+  pub step : Step (system_of g) source a target
+  pub from : slice_index numbers source ≡ slice_index numbers s
+  pub to : slice_index numbers target ≡ slice_index numbers t
+
+-- the marked states are reachable, and each step of a reachable state has a twin among theirs
+pub record AreEnough (g : Grouped) (numbers : List ℕ) (rows : List Bool) : Type 0 where
+  pub only : (s : ℕ) → s < g.states → IsMarked rows s → Reachable (system_of g) s
+  pub each : (s : ℕ) (a : List ℕ) (t : ℕ) → Reachable (system_of g) s → Step (system_of g) s a t → Twin g numbers rows s a t
+
+module _ (rel : Relation) (g : Grouped) (n : Numbering) (laws : Laws rel g) (num : IsNumbering rel (system_of g) n) where
   -- a leader is reachable
   leader_reached : (s : ℕ) → IsLeader rel (system_of g) s → Reachable (system_of g) s
   leader_reached s (t, way, inl (b, e)) = subst (Reachable (system_of g)) (sym e) laws.reached_first
   leader_reached s (t, way, inr (apart, least)) = least.0.0
-
-  marked_reached : (s : ℕ) → s < g.states → IsMarked n.leads.items s → Reachable (system_of g) s
-  marked_reached s l marked = leader_reached s ((num.leader s l).0 marked)
 
   -- what leads s is reachable and bisimilar to s
   leader_fellow : (s l : ℕ) → Leader rel (system_of g) s l → Fellow rel (system_of g) s l
   leader_fellow s l (inl (b, e)) = subst (Fellow rel (system_of g) s) (sym e) (laws.reached_first, b)
   leader_fellow s l (inr (apart, least)) = least.0
 
-  -- different leaders have different numbers
-  pub has_apart : HasApart g.states n
-  has_apart = record {
-    numbers_long = num.numbers_long;
-    leads_long = num.leads_long;
-    apart = λ s t ls lt ms mt e.
-        let ws : Reachable (system_of g) s = marked_reached s ls ms in
-        let wt : Reachable (system_of g) t = marked_reached t lt mt in
-        laws.apart s t ((num.leader s ls).0 ms) ((num.leader t lt).0 mt)
-        ((laws.classes s t (slice_index n.numbers.items s) (slice_index n.numbers.items t) ws wt (num.number s ws) (num.number t wt)).0 e);
-  }
-
   -- bisimilar states have one number
-  same_number : (s t k : ℕ) → Reachable (system_of g) s → Reachable (system_of g) t → Bisimilar rel (system_of g) s (system_of g) t →
-      Number rel (system_of g) s k → slice_index n.numbers.items t ≡ k
-  same_number s t k ws wt b h = sym ((laws.classes s t k (slice_index n.numbers.items t) ws wt h (num.number t wt)).1 b)
+  same_number : (s t : ℕ) → Reachable (system_of g) s → Reachable (system_of g) t → Bisimilar rel (system_of g) s (system_of g) t →
+      slice_index n.numbers.items t ≡ slice_index n.numbers.items s
+  same_number s t ws wt b =
+      sym ((laws.classes s t (slice_index n.numbers.items s) (slice_index n.numbers.items t) ws wt (num.number s ws) (num.number t wt)).1 b)
 
-  -- a place in a row is among the states and labels
+  -- a place in a row is a step
   in_place : (s : ℕ) (e : Triple) → Contains (row_of s g.places) e → Step (system_of g) s (text_of g.labels (label_of e)) (target_of e)
   in_place s e c = (laws.steps s (text_of g.labels (label_of e)) (target_of e)).1 (e, c, refl, refl)
 
--- triples that are those which the leaders show, each once
-module _ (g : Grouped) (n : Numbering) (laws : Known strong g) (num : IsNumbering strong (system_of g) n)
-    (es : List Triple) (exactly : (x : Triple) → Contains es x ↔ IsShownBelow g n g.states x) (once : AllPairs (λ x y. x ≢ y) es) where
-  -- a triple stands for a step of a reachable state
-  triple_stands : (s : ℕ) (x : Triple) → s < g.states → IsShownBy g n s x → Stands strong (system_of g) (transition_of g.labels x)
-  triple_stands s x l h =
-      let way : Reachable (system_of g) s = marked_reached strong g n laws num s l h.leads in
-      let step = in_place strong g n laws num s h.place h.in_row in
-      let on : Reachable (system_of g) (target_of h.place) =
-      laws.reached_on s (text_of g.labels (label_of h.place)) (target_of h.place) way step in
-      subst (λ y. Stands strong (system_of g) (transition_of g.labels y)) h.is
-      (s, target_of h.place, way, step, num.number s way, num.number (target_of h.place) on)
+  -- the reachable states are enough
+  reached_enough : (reached : List Bool) → ((s : ℕ) → s < g.states → IsMarked reached s ↔ Reachable (system_of g) s) → AreEnough g n.numbers.items reached
+  reached_enough reached is = record {
+    only = λ s l. (is s l).0;
+    each = λ s a t way step. record {
+      source = s;
+      target = t;
+      low = laws.below s way;
+      marked = (is s (laws.below s way)).1 way;
+      step = step;
+      from = refl;
+      to = refl;
+    };
+  }
 
-  -- a step of a reachable state is shown by its leader
-  stands_shown : (e : Transition) → Stands strong (system_of g) e → (x : Triple) × IsShownBelow g n g.states x × (transition_of g.labels x ≡ e)
-  stands_shown e (s, t, way, step, hs, ht) =
+-- the leaders are enough for strong bisimulation: a leader answers each step of its class
+leaders_enough : (g : Grouped) (n : Numbering) → Laws strong g → IsNumbering strong (system_of g) n → AreEnough g n.numbers.items n.leads.items
+leaders_enough g n laws num = record {
+  only = λ s l marked. leader_reached strong g n laws num s ((num.leader s l).0 marked);
+  each = λ s a t way step.
       let found : (l : ℕ) × Leader strong (system_of g) s l = laws.leader s way in
-      let l : ℕ = found.0 in
-      let fellow : Fellow strong (system_of g) s l = leader_fellow strong g n laws num s l found.1 in
-      let low : l < g.states = laws.below l fellow.0 in
-      let answer = fellow.1.1.forth s l fellow.1.2 e.label t step in
-      let t' : ℕ = answer.0 in
-      let bisimilar : Bisimilar strong (system_of g) t (system_of g) t' = (fellow.1.0, fellow.1.1, answer.2) in
-      let on : Reachable (system_of g) t = laws.reached_on s e.label t way step in
-      let on' : Reachable (system_of g) t' = laws.reached_on l e.label t' fellow.0 answer.1 in
-      let place = (laws.steps l e.label t').0 answer.1 in
-      let source : slice_index n.numbers.items l ≡ e.source = same_number strong g n laws num s l e.source way fellow.0 fellow.1 hs in
-      let target : slice_index n.numbers.items (target_of place.0) ≡ e.target =
-      ap (slice_index n.numbers.items) place.3 ∙ same_number strong g n laws num t t' e.target on on' bisimilar ht in (
-        between_numbers n.numbers.items l place.0,
-        (l, low, record { leads = (num.leader l low).1 (s, way, found.1); place = place.0; in_row = place.1; is = refl }),
-        λ i. record { source = source i; label = place.2 i; target = target i },
-      )
+      let fellow : Fellow strong (system_of g) s found.0 = leader_fellow strong g n laws num s found.0 found.1 in
+      let low : found.0 < g.states = laws.below found.0 fellow.0 in
+      let answer = fellow.1.1.forth s found.0 fellow.1.2 a t step in
+      record {
+        source = found.0;
+        target = answer.0;
+        low = low;
+        marked = (num.leader found.0 low).1 (s, way, found.1);
+        step = answer.1;
+        from = same_number strong g n laws num s found.0 way fellow.0 fellow.1;
+        to =
+            same_number strong g n laws num t answer.0 (laws.reached_on s a t way step)
+            (laws.reached_on found.0 a answer.0 fellow.0 answer.1) (fellow.1.0, fellow.1.1, answer.2);
+      };
+}
 
+-- the rows that are read are enough
+pub rows_enough : (rel : Relation) (g : Grouped) (n : Numbering) (reached : List Bool) → Laws rel g → IsNumbering rel (system_of g) n →
+    ((s : ℕ) → s < g.states → IsMarked reached s ↔ Reachable (system_of g) s) → AreEnough g n.numbers.items (rows_of rel n.leads.items reached)
+rows_enough strong g n reached laws num is = leaders_enough g n laws num
+rows_enough branching g n reached laws num is = reached_enough branching g n laws num reached is
+
+-- what is left out is what the relation drops
+left_out_is : (rel : Relation) (labels : List (List ℕ)) (dropped : Option ℕ) → IsTable labels → IsDroppedLabel rel labels dropped →
+    (x : Triple) → label_of x < length labels → (is_left_out dropped x ≡ true) ↔ IsDropped rel (transition_of labels x)
+left_out_is strong labels dropped table none x low = (
+  λ out. both_ways (is_left_out dropped x) (ap (λ d. is_left_out d x) none) out,
+  λ never. absurd never,
+)
+left_out_is branching labels None table without x low = (
+  λ out. absurd (both_ways false refl out),
+  λ h. absurd (without (label_of x, low, get_or_default labels (label_of x) internal [] low ∙ h.0)),
+)
+left_out_is branching labels (Some k) table number x low = (
+  λ out.
+      let parts = and_parts (label_of x == k) (source_of x == target_of x) out in
+      (ap (text_of labels) (eqb-true (label_of x) k parts.0) ∙ number.text, eqb-true (source_of x) (target_of x) parts.1),
+  λ h.
+      let label : (label_of x == k) ≡ true = eq-eqb (label_of x) k (table.different (label_of x) k low number.below (h.0 ∙ sym number.text)) in
+      let loop : (source_of x == target_of x) ≡ true = eq-eqb (source_of x) (target_of x) h.1 in
+      rw (label, loop) refl,
+)
+
+-- not true is false
+stays_if : (b : Bool) → ¬ (b ≡ true) → not b ≡ true
+stays_if true never = absurd (never refl)
+stays_if false never = refl
+
+goes_if : (b : Bool) → not b ≡ true → ¬ (b ≡ true)
+goes_if true stays out = absurd (both_ways false refl stays)
+goes_if false stays out = absurd (both_ways false refl out)
+
+-- triples that are those which enough rows show, each once
+module _ (rel : Relation) (g : Grouped) (n : Numbering) (laws : Laws rel g) (num : IsNumbering rel (system_of g) n)
+    (rows : List Bool) (enough : AreEnough g n.numbers.items rows) (dropped : Option ℕ) (drops : IsDroppedLabel rel g.labels dropped)
+    (es : List Triple) (exactly : (x : Triple) → Contains es x ↔ IsShownBelow n.numbers.items rows dropped g.places g.states x)
+    (once : AllPairs (λ x y. x ≢ y) es) where
+  -- a triple has a label of the table
   shown_label : (x : Triple) → Contains es x → label_of x < length g.labels
   shown_label x c =
       let h = (exactly x).0 c in
-      let from = (laws.sources h.0 g.places h.2.place).0 h.2.in_row in
-      let triple = All-contains (IsTriple (length g.labels) g.states) g.places h.2.place laws.lts.in_range.each from.0 in
-      subst (λ y. label_of y < length g.labels) h.2.is triple.label
+      let from : ShownPlace n.numbers.items dropped g.places h.0 x = place_of n.numbers.items dropped g.places h.0 x h.3 in
+      let triple = All-contains (IsTriple (length g.labels) g.states) g.places from.place laws.lts.in_range.each ((laws.sources h.0 g.places from.place).0 from.in_row).0 in
+      subst (λ y. label_of y < length g.labels) from.is triple.label
 
-  pub quotient_of : Quotient strong (system_of g) (system_from 0 n.count g.labels es)
+  -- it stands for a step of a reachable state
+  triple_stands : (x : Triple) → Contains es x → Stands rel (system_of g) (transition_of g.labels x)
+  triple_stands x c =
+      let h = (exactly x).0 c in
+      let from : ShownPlace n.numbers.items dropped g.places h.0 x = place_of n.numbers.items dropped g.places h.0 x h.3 in
+      let way : Reachable (system_of g) h.0 = enough.only h.0 h.1 h.2 in
+      let step = in_place rel g n laws num h.0 from.place from.in_row in
+      let on : Reachable (system_of g) (target_of from.place) =
+      laws.reached_on h.0 (text_of g.labels (label_of from.place)) (target_of from.place) way step in
+      subst (λ y. Stands rel (system_of g) (transition_of g.labels y)) from.is
+      (h.0, target_of from.place, way, step, num.number h.0 way, num.number (target_of from.place) on)
+
+  -- and is not dropped
+  triple_stays : (x : Triple) → Contains es x → ¬ IsDropped rel (transition_of g.labels x)
+  triple_stays x c gone =
+      let h = (exactly x).0 c in
+      let from : ShownPlace n.numbers.items dropped g.places h.0 x = place_of n.numbers.items dropped g.places h.0 x h.3 in
+      goes_if (is_left_out dropped x) from.stays ((left_out_is rel g.labels dropped laws.lts.table drops x (shown_label x c)).1 gone)
+
+  -- what stands for a step of a reachable state and is not dropped is shown
+  stands_shown : (e : Transition) → Stands rel (system_of g) e → ¬ IsDropped rel e → (x : Triple) × Contains es x × (transition_of g.labels x ≡ e)
+  stands_shown e (s, t, way, step, hs, ht) stays =
+      let twin : Twin g n.numbers.items rows s e.label t = enough.each s e.label t way step in
+      let place = (laws.steps twin.source e.label twin.target).0 twin.step in
+      let x : Triple = between_numbers n.numbers.items twin.source place.0 in
+      let on : Reachable (system_of g) t = laws.reached_on s e.label t way step in
+      let source : source_of x ≡ e.source = twin.from ∙ laws.one_number s (slice_index n.numbers.items s) e.source (num.number s way) hs in
+      let target : target_of x ≡ e.target =
+      ap (slice_index n.numbers.items) place.3 ∙ twin.to ∙ laws.one_number t (slice_index n.numbers.items t) e.target (num.number t on) ht in
+      let is : transition_of g.labels x ≡ e = λ i. record { source = source i; label = place.2 i; target = target i } in
+      let triple = All-contains (IsTriple (length g.labels) g.states) g.places place.0 laws.lts.in_range.each ((laws.sources twin.source g.places place.0).0 place.1).0 in
+      let out : ¬ (is_left_out dropped x ≡ true) =
+      λ gone. stays (subst (IsDropped rel) is ((left_out_is rel g.labels dropped laws.lts.table drops x triple.label).0 gone)) in
+      let shown = shown_place n.numbers.items dropped g.places twin.source place.0 place.1 (stays_if (is_left_out dropped x) out) in
+      (x, (exactly x).1 (twin.source, twin.low, twin.marked, shown), is)
+
+  pub quotient_of : Quotient rel (system_of g) (system_from 0 n.count g.labels es)
   quotient_of = record {
     states = num.counted;
     first = refl;
     transitions = λ e. (
       λ c.
-          let x = mapped_has (transition_of g.labels) es e c in
-          let h = (exactly x.0).0 x.1 in
-          (subst (Stands strong (system_of g)) x.2 (triple_stands h.0 x.0 h.1 h.2), λ none. none),
+          let x = mapped_has (transition_of g.labels) es (0, 0, 0) e c in (
+            subst (Stands rel (system_of g)) x.2 (triple_stands x.0 x.1),
+            subst (λ f. ¬ IsDropped rel f) x.2 (triple_stays x.0 x.1),
+          ),
       λ h.
-          let x = stands_shown e h.0 in
-          subst (Contains (map (transition_of g.labels) es)) x.2 (has_mapped (transition_of g.labels) es x.0 ((exactly x.0).1 x.1)),
+          let x = stands_shown e h.0 h.1 in
+          subst (Contains (map (transition_of g.labels) es)) x.2 (has_mapped (transition_of g.labels) es x.0 x.1),
     );
     once = transitions_differ g.labels es laws.lts.table shown_label once;
   }
 
+  -- the numbers of a triple are below the count
+  numbers_below : (x : Triple) → Stands rel (system_of g) (transition_of g.labels x) → (source_of x < n.count) × (target_of x < n.count)
+  numbers_below x (s, t, way, step, hs, ht) = (
+    laws.number_below (system_from 0 n.count g.labels es) s (source_of x) quotient_of hs,
+    laws.number_below (system_from 0 n.count g.labels es) t (target_of x) quotient_of ht,
+  )
+
   shown_triple : (x : Triple) → Contains es x → IsTriple (length g.labels) n.count x
   shown_triple x c =
-      let h = (exactly x).0 c in
-      let way : Reachable (system_of g) h.0 = marked_reached strong g n laws num h.0 h.1 h.2.leads in
-      let t : ℕ = target_of h.2.place in
-      let on : Reachable (system_of g) t =
-      laws.reached_on h.0 (text_of g.labels (label_of h.2.place)) t way (in_place strong g n laws num h.0 h.2.place h.2.in_row) in
-      let Q : System = system_from 0 n.count g.labels es in
-      record {
-        source = subst (λ y. source_of y < n.count) h.2.is (laws.number_below Q h.0 (slice_index n.numbers.items h.0) quotient_of (num.number h.0 way));
-        label = shown_label x c;
-        target = subst (λ y. target_of y < n.count) h.2.is (laws.number_below Q t (slice_index n.numbers.items t) quotient_of (num.number t on));
-      }
+      let low = numbers_below x (triple_stands x c) in
+      record { source = low.0; label = shown_label x c; target = low.1 }
 
   -- its parts have a place in memory
   pub quotient_in_range : length es ≤ length g.places → InRange (length g.labels) 0 n.count es
@@ -168,24 +265,25 @@ module _ (g : Grouped) (n : Numbering) (laws : Known strong g) (num : IsNumberin
       }
 
 -- the system that is built of them
-module _ (g : Grouped) (n : Numbering) (laws : Known strong g) (num : IsNumbering strong (system_of g) n)
-    (es : List Triple) (exactly : (x : Triple) → Contains es x ↔ IsShownBelow g n g.states x) (once : AllPairs (λ x y. x ≢ y) es)
-    (labels : List (List ℕ)) (same : labels ≡ g.labels) where
+module _ (rel : Relation) (g : Grouped) (n : Numbering) (laws : Laws rel g) (num : IsNumbering rel (system_of g) n)
+    (rows : List Bool) (enough : AreEnough g n.numbers.items rows) (dropped : Option ℕ) (drops : IsDroppedLabel rel g.labels dropped)
+    (es : List Triple) (exactly : (x : Triple) → Contains es x ↔ IsShownBelow n.numbers.items rows dropped g.places g.states x)
+    (once : AllPairs (λ x y. x ≢ y) es) (labels : List (List ℕ)) (same : labels ≡ g.labels) where
   built : (q : Grouped) → q.first ≡ 0 → q.states ≡ n.count → q.labels ≡ labels → q.places ≡ grouped n.count es → IsGrouping es q.places →
-      Quotient strong (system_of g) (system_of q)
+      Quotient rel (system_of g) (system_of q)
   built q first states table places grouping =
       let differ : AllPairs (λ x y. x ≢ y) q.places = subst (AllPairs (λ x y. x ≢ y)) (sym places) (rows_differ es (λ s. laws.sources s es) once 0 n.count) in
-      let is : (x : Triple) → Contains q.places x ↔ IsShownBelow g n g.states x = λ x. (
+      let is : (x : Triple) → Contains q.places x ↔ IsShownBelow n.numbers.items rows dropped g.places g.states x = λ x. (
         λ c. (exactly x).0 (Contains-permutation q.places es x (IsPermutation-sym es q.places grouping.same) c),
         λ h. Contains-permutation es q.places x grouping.same ((exactly x).1 h),
       ) in
-      subst (λ f. Quotient strong (system_of g) (system_from f q.states q.labels q.places)) (sym first)
-      (subst (λ k. Quotient strong (system_of g) (system_from 0 k q.labels q.places)) (sym states)
-      (subst (λ t. Quotient strong (system_of g) (system_from 0 n.count t q.places)) (sym (table ∙ same))
-      (quotient_of g n laws num q.places is differ)))
+      subst (λ f. Quotient rel (system_of g) (system_from f q.states q.labels q.places)) (sym first)
+      (subst (λ k. Quotient rel (system_of g) (system_from 0 k q.labels q.places)) (sym states)
+      (subst (λ t. Quotient rel (system_of g) (system_from 0 n.count t q.places)) (sym (table ∙ same))
+      (quotient_of rel g n laws num rows enough dropped drops q.places is differ)))
 
   pub IfOk-quotient : {E : Type 0} (r : Result Grouped E) → IfOk r (λ q. q.first ≡ 0) → IfOk r (λ q. q.states ≡ n.count) →
       IfOk r (λ q. q.labels ≡ labels) → IfOk r (λ q. q.places ≡ grouped n.count es) → IfOk r (λ q. IsGrouping es q.places) →
-      IfOk r (λ q. Quotient strong (system_of g) (system_of q))
+      IfOk r (λ q. Quotient rel (system_of g) (system_of q))
   IfOk-quotient (Ok q) first states table places grouping = built q first states table places grouping
   IfOk-quotient (Err e) first states table places grouping = tt

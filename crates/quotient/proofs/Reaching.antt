@@ -9,7 +9,9 @@ use Rattle.std.proofs.lemmas.List.Sums.{sum_by_push, sum_by-set, length-filter, 
 use Rattle.theory.specs.System.{Step, Reachable}
 use Rattle.lts.specs.Labels.{text_of}
 use Rattle.lts.specs.Lts.{Triple, source_of, label_of, target_of, place_at, transition_of, row_of, Grouped, system_of, IsRow}
-use Rattle.quotient.specs.Search.{IsMarked, Marks, Searches, states_ahead, places_ahead}
+use Rattle.quotient.specs.Marked.{IsMarked}
+use Rattle.quotient.proofs.Lists.{no_element, head_or_tail, at_head, in_tail}
+use Rattle.quotient.specs.Search.{Marks, Searches, states_ahead, places_ahead}
 
 -- marks
 
@@ -69,23 +71,6 @@ module _ (s : ℕ) (old : List Bool) (old_waiting : List ℕ) (new : List Bool) 
     | inl h ↦ inr (subst (λ ws. Contains ws t) h.2 c)
     | inr h ↦ elim (Contains-push_cases old_waiting s t (subst (λ ws. Contains ws t) h.2 c)) [ inl d ↦ inr d | inr e ↦ inl e ]
   ]
-
--- what waits
-
-no_element : (x : ℕ) → ¬ Contains [] x
-no_element x c = absurd (omega (arith, c.1))
-
-head_or_tail : (s : ℕ) (stack : List ℕ) (x : ℕ) → Contains (s ∷ stack) x → (s ≡ x) ⊎ Contains stack x
-head_or_tail s stack x c = elim (Contains-append_cases (s ∷ []) stack x c) [
-  | inl d ↦ elim (Contains-push_cases [] s x d) [ inl f ↦ absurd (no_element x f) | inr e ↦ inl e ]
-  | inr d ↦ inr d
-]
-
-at_head : (s : ℕ) (stack : List ℕ) → Contains (s ∷ stack) s
-at_head s stack = Contains-append_left (s ∷ []) stack s (Contains-push [] s)
-
-in_tail : (s : ℕ) (stack : List ℕ) (x : ℕ) → Contains stack x → Contains (s ∷ stack) x
-in_tail s stack x c = Contains-append_right (s ∷ []) stack x c
 
 -- steps and places
 

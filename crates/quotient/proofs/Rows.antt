@@ -1,57 +1,92 @@
--- The rows of the leaders: what one shows, and what stands in all so far.
-use Rattle.std.proofs.Common.{◌≡◌, ◌≢◌, ◌∙◌, ◌↔◌, ℕ, ◌+◌, ◌-◌, ◌<◌, List, ◌++◌, length, get_or, Contains, refl, sym, ap, subst, inl, inr, arith}
-use Rattle.std.specs.List.{AllPairs}
-use Rattle.std.proofs.lemmas.Bool.{cases_eq, cases_lt}
-use Rattle.std.proofs.lemmas.List.{length-append, get_or_append_left, get_or-append_right, get_or_default}
-use Rattle.std.proofs.lemmas.List.Elements.{Contains-append_left, Contains-append_right, Contains-append_cases}
-use Rattle.lts.specs.Lts.{Triple, Grouped}
-use Rattle.quotient.specs.Triples.{IsShownBy, IsShownBelow, IsRowOfLeader, HasApart}
-use Rattle.quotient.specs.declared.numbering.Numbering.{Numbering}
+-- What rows show between numbers: one row more, and what a triple that is shown stands for.
+use Rattle.std.proofs.Common.{◌≡◌, ◌∙◌, ◌↔◌, ℕ, ◌+◌, ◌<◌, ◌≤◌, Bool, true, false, cond, not, Option, List, [], ◌∷◌, ◌++◌, length, map, Contains, sym, ap, subst, inl, inr, arith}
+use Rattle.std.specs.List.{filter}
+use Rattle.std.proofs.lemmas.Bool.{cases_eq}
+use Rattle.std.proofs.lemmas.List.Elements.{Contains-append_left, Contains-append_right, Contains-append_cases, filter-append}
+use Rattle.std.proofs.lemmas.List.{length-map, map-append, append-nil, append_assoc}
+use Rattle.std.proofs.lemmas.List.Sums.{length-filter, count_by-le-length}
+use Rattle.lts.specs.Lts.{Triple, row_of}
+use Rattle.quotient.specs.Marked.{IsMarked}
+use Rattle.quotient.specs.Triples.{between_numbers, is_left_out, shown_by, IsShownBelow, HasShown}
+use Rattle.quotient.proofs.Lists.{has_mapped, mapped_has, has_filtered, filtered_has, filtered_passes}
 
--- lists that have no element in common, one behind the other
-pub apart_append : {X : Type 0} (xs ys : List X) → AllPairs (λ x y. x ≢ y) xs → AllPairs (λ x y. x ≢ y) ys →
-    ((x : X) → Contains xs x → ¬ Contains ys x) → AllPairs (λ x y. x ≢ y) (xs ++ ys)
-apart_append {X} xs ys h g apart i j d low high e = elim (cases_lt j (length xs)) [
-  | inl lj ↦ h i j d low lj (sym (get_or_append_left xs ys d i (omega (arith, low, lj))) ∙ (e ∙ get_or_append_left xs ys d j lj))
-  | inr gj ↦ elim (cases_lt i (length xs)) [
-    | inl li ↦
-        let same : get_or xs i d ≡ get_or ys (j - length xs) d =
-        sym (get_or_append_left xs ys d i li) ∙ (e ∙ get_or-append_right xs ys (length xs) j d refl gj) in
-        apart (get_or xs i d) (i, li, get_or_same xs i d li)
-        (j - length xs, omega (arith, high, gj, length-append xs ys), at_value ys (j - length xs) d (get_or xs i d) (omega (arith, high, gj, length-append xs ys)) (sym same))
-    | inr gi ↦
-        g (i - length xs) (j - length xs) d (omega (arith, low, gi)) (omega (arith, high, gj, length-append xs ys))
-        (sym (get_or-append_right xs ys (length xs) i d refl gi) ∙ (e ∙ get_or-append_right xs ys (length xs) j d refl gj))
-  ]
-]
-  where
-    get_or_same : (zs : List X) (k : ℕ) (d : X) → k < length zs → get_or zs k (get_or zs k d) ≡ get_or zs k d
-    get_or_same zs k d l = get_or_default zs k (get_or zs k d) d l
-
-    at_value : (zs : List X) (k : ℕ) (d z : X) → k < length zs → get_or zs k d ≡ z → get_or zs k z ≡ z
-    at_value zs k d z l e = get_or_default zs k z d l ∙ e
-
--- all rows below s, with that of s behind them
-module _ (g : Grouped) (n : Numbering) (h : HasApart g.states n) (s : ℕ) (ls : s < g.states) (old row : List Triple)
-    (is : (x : Triple) → Contains old x ↔ IsShownBelow g n s x) (r : IsRowOfLeader g n s row) where
-  pub shown_more : (x : Triple) → Contains (old ++ row) x ↔ IsShownBelow g n (s + 1) x
-  shown_more x = (
-    λ c. elim (Contains-append_cases old row x c) [
-      | inl d ↦ let f = (is x).0 d in (f.0, omega (arith, f.1), f.2)
-      | inr d ↦ (s, omega arith, (r.exactly x).0 d)
-    ],
+module _ (numbers : List ℕ) (rows : List Bool) (dropped : Option ℕ) (places : List Triple) where
+  -- a state whose row is not read shows nothing
+  pub shown_without : (s : ℕ) → ¬ IsMarked rows s → (x : Triple) → IsShownBelow numbers rows dropped places s x ↔ IsShownBelow numbers rows dropped places (s + 1) x
+  shown_without s apart x = (
+    λ f. (f.0, omega (arith, f.1), f.2, f.3),
     λ f. elim (cases_eq f.0 s) [
-      | inl e ↦ Contains-append_right old row x ((r.exactly x).1 (subst (λ t. IsShownBy g n t x) e f.2))
-      | inr d ↦ Contains-append_left old row x ((is x).1 (f.0, omega (arith, f.1, d), f.2))
+      | inl e ↦ absurd (apart (subst (IsMarked rows) e f.2))
+      | inr d ↦ (f.0, omega (arith, f.1, d), f.2, f.3)
     ],
   )
 
-  pub once_more : AllPairs (λ x y. x ≢ y) old → AllPairs (λ x y. x ≢ y) (old ++ row)
-  once_more once =
-      apart_append old row once r.once
-      (λ x c d.
-      let f : IsShownBelow g n s x = (is x).0 c in
-      let own : IsShownBy g n s x = (r.exactly x).0 d in
-      let same : f.0 ≡ s =
-      h.apart f.0 s (omega (arith, f.1, ls)) ls f.2.leads own.leads (ap (λ y. y.0) f.2.is ∙ sym (ap (λ y. y.0) own.is)) in
-      omega (arith, f.1, same))
+  -- the row of s, behind those below s
+  pub shown_with : (s : ℕ) (old row : List Triple) → IsMarked rows s → HasShown numbers dropped places s row →
+      ((x : Triple) → Contains old x ↔ IsShownBelow numbers rows dropped places s x) →
+      (x : Triple) → Contains (old ++ row) x ↔ IsShownBelow numbers rows dropped places (s + 1) x
+  shown_with s old row marked shown is x = (
+    λ c. elim (Contains-append_cases old row x c) [
+      | inl d ↦ let f = (is x).0 d in (f.0, omega (arith, f.1), f.2, f.3)
+      | inr d ↦ (s, omega arith, marked, (shown.exactly x).0 d)
+    ],
+    λ f. elim (cases_eq f.0 s) [
+      | inl e ↦ Contains-append_right old row x ((shown.exactly x).1 (subst (λ t. Contains (shown_by numbers dropped places t) x) e f.3))
+      | inr d ↦ Contains-append_left old row x ((is x).1 (f.0, omega (arith, f.1, d), f.2, f.3))
+    ],
+  )
+
+-- what is shown stands in a place of the row, and is not left out
+pub record ShownPlace (numbers : List ℕ) (dropped : Option ℕ) (places : List Triple) (s : ℕ) (x : Triple) : Type 0 where
+  pub place : Triple
+  pub in_row : Contains (row_of s places) place
+  pub is : between_numbers numbers s place ≡ x
+  pub stays : not (is_left_out dropped x) ≡ true
+
+module _ (numbers : List ℕ) (dropped : Option ℕ) (places : List Triple) (s : ℕ) where
+  pub place_of : (x : Triple) → Contains (shown_by numbers dropped places s) x → ShownPlace numbers dropped places s x
+  place_of x c =
+      let kept = λ (y : Triple). not (is_left_out dropped y) in
+      let triples = map (between_numbers numbers s) (row_of s places) in
+      let from = mapped_has (between_numbers numbers s) (row_of s places) (0, 0, 0) x (filtered_has kept triples x c) in
+      record { place = from.0; in_row = from.1; is = from.2; stays = filtered_passes kept triples x c }
+
+  pub shown_place : (e : Triple) → Contains (row_of s places) e → not (is_left_out dropped (between_numbers numbers s e)) ≡ true →
+      Contains (shown_by numbers dropped places s) (between_numbers numbers s e)
+  shown_place e c stays =
+      has_filtered (λ y. not (is_left_out dropped y)) (map (between_numbers numbers s) (row_of s places)) (between_numbers numbers s e)
+      (has_mapped (between_numbers numbers s) (row_of s places) e c) stays
+
+  -- it is no more than the row
+  pub shown_few : length (shown_by numbers dropped places s) ≤ length (row_of s places)
+  shown_few =
+      let triples : List Triple = map (between_numbers numbers s) (row_of s places) in
+      let counted = length-filter (λ (y : Triple). not (is_left_out dropped y)) triples in
+      let few = count_by-le-length (λ (y : Triple). not (is_left_out dropped y)) triples in
+      let long = length-map (row_of s places) (between_numbers numbers s) in
+      omega arith
+
+-- what a part of a row shows, with one place more
+module _ (numbers : List ℕ) (dropped : Option ℕ) (s : ℕ) (old new : List Triple) (e x : Triple) (more : new ≡ old ++ e ∷ [])
+    (is : x ≡ between_numbers numbers s e) where
+  shown_more : filter (λ y. not (is_left_out dropped y)) (map (between_numbers numbers s) new)
+      ≡ filter (λ y. not (is_left_out dropped y)) (map (between_numbers numbers s) old) ++ cond (not (is_left_out dropped x)) (x ∷ []) []
+  shown_more =
+      ap (λ es. filter (λ y. not (is_left_out dropped y)) (map (between_numbers numbers s) es)) more
+      ∙ ap (filter (λ y. not (is_left_out dropped y))) (map-append (between_numbers numbers s) old (e ∷ []))
+      ∙ filter-append (λ y. not (is_left_out dropped y)) (map (between_numbers numbers s) old) (between_numbers numbers s e ∷ [])
+      ∙ ap (λ z. filter (λ y. not (is_left_out dropped y)) (map (between_numbers numbers s) old) ++ cond (not (is_left_out dropped z)) (z ∷ []) []) (sym is)
+
+  pub shown_left_out : (base row : List Triple) → row ≡ base ++ filter (λ y. not (is_left_out dropped y)) (map (between_numbers numbers s) old) →
+      is_left_out dropped x ≡ true → row ≡ base ++ filter (λ y. not (is_left_out dropped y)) (map (between_numbers numbers s) new)
+  shown_left_out base row h out =
+      let none = append-nil (filter (λ y. not (is_left_out dropped y)) (map (between_numbers numbers s) old)) in
+      let same = ap (λ b. filter (λ y. not (is_left_out dropped y)) (map (between_numbers numbers s) old) ++ cond (not b) (x ∷ []) []) out in
+      h ∙ ap (λ xs. base ++ xs) (sym (shown_more ∙ same ∙ none))
+
+  pub shown_stays : (base row pushed : List Triple) → row ≡ base ++ filter (λ y. not (is_left_out dropped y)) (map (between_numbers numbers s) old) →
+      pushed ≡ row ++ x ∷ [] → is_left_out dropped x ≡ false → pushed ≡ base ++ filter (λ y. not (is_left_out dropped y)) (map (between_numbers numbers s) new)
+  shown_stays base row pushed h e stays =
+      let shown : List Triple = filter (λ y. not (is_left_out dropped y)) (map (between_numbers numbers s) old) in
+      let same = ap (λ b. filter (λ y. not (is_left_out dropped y)) (map (between_numbers numbers s) old) ++ cond (not b) (x ∷ []) []) stays in
+      e ∙ ap (λ r. r ++ x ∷ []) h ∙ append_assoc base shown (x ∷ []) ∙ ap (λ xs. base ++ xs) (sym (shown_more ∙ same))

@@ -1,5 +1,9 @@
-pub mod Search
+-- public words
 pub mod Relations
+pub mod Marked
+pub mod Bounds
+-- private ones
+pub mod Search
+pub mod Reading
 pub mod Numbers
 pub mod Triples
-pub mod Known

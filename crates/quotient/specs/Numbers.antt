@@ -1,9 +1,9 @@
--- The numbers of the reachable states, given in one pass over the states in their order.
+-- Private. The numbers of the reachable states, given in one pass over the states in their order.
 use Rattle.std.specs.Prelude.{◌≡◌, ◌≢◌, ◌⊎◌, ◌↔◌, ℕ, ◌+◌, ◌<◌, ◌≤◌, Bool, true, IsTrue, [], ◌∷◌, ◌++◌, length, slice_index, slice_set}
 use Rattle.theory.specs.System.{System, Reachable}
 use Rattle.theory.specs.Bisimulation.{Relation}
 use Rattle.theory.specs.Quotient.{HowMany, IsLeader, Number}
-use Rattle.quotient.specs.Search.{IsMarked}
+use Rattle.quotient.specs.Marked.{IsMarked}
 use Rattle.quotient.specs.declared.numbering.Numbering.{Numbering}
 
 -- each reachable state has its number, the leaders are marked, and there are so many

@@ -1,4 +1,4 @@
--- The theory's relation that a caller means.
+-- Public. The theory's relation that a caller means.
 use Rattle.theory.specs.Bisimulation as theory
 use Rattle.theory.specs.Bisimulation.Relation.{strong}
 use Rattle.quotient.specs.declared.relation.Relation.{Relation}

@@ -1,12 +1,9 @@
--- The search for the reachable states: which states are marked, and those of them whose rows are still to be read.
+-- Private. The search for the reachable states: which states are marked, and those of them whose rows are still to be read.
 use Rattle.std.specs.Prelude.{◌≡◌, ◌⊎◌, ℕ, ◌+◌, Bool, true, false, not, IsTrue, List, [], ◌∷◌, ◌++◌, length, slice_set}
 use Rattle.std.specs.List.{Contains, slice_index_or, filter, sum_by, count_by}
 use Rattle.theory.specs.System.{Step, Reachable}
 use Rattle.lts.specs.Lts.{Triple, source_of, row_of, Grouped, system_of}
-
--- the state s is marked
-abbrev pub IsMarked : List Bool → ℕ → Type 0
-IsMarked marked s = IsTrue (slice_index_or marked s false)
+use Rattle.quotient.specs.Marked.{IsMarked}
 
 -- the state s stays as it was where it was marked, and else is marked and waits at the end
 abbrev pub Marks : ℕ → List Bool → List ℕ → List Bool → List ℕ → Type 0

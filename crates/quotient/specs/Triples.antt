@@ -1,38 +1,34 @@
--- The transitions of the quotient, by number: what the rows of the leaders show.
-use Rattle.std.specs.Prelude.{◌≡◌, ◌≢◌, ◌↔◌, ℕ, ◌<◌, ◌≤◌, List, ◌++◌, length, slice_index}
-use Rattle.std.specs.List.{Contains, AllPairs}
-use Rattle.lts.specs.Lts.{Triple, label_of, target_of, row_of, Grouped}
-use Rattle.quotient.specs.Search.{IsMarked}
-use Rattle.quotient.specs.declared.numbering.Numbering.{Numbering}
+-- Private. The transitions of the quotient, by number: what the rows of some states show.
+use Rattle.std.specs.Prelude.{◌≡◌, ◌≢◌, ◌↔◌, ℕ, ◌+◌, ◌<◌, ◌≤◌, ◌==◌, ◌&&◌, Bool, false, not, Option, None, Some, List, ◌++◌, length, map, slice_index}
+use Rattle.std.specs.List.{Contains, filter}
+use Rattle.lts.specs.Lts.{Triple, source_of, label_of, target_of, row_of}
+use Rattle.quotient.specs.Marked.{IsMarked}
 
 -- what the transition e of the state s is between numbers
 abbrev pub between_numbers : List ℕ → ℕ → Triple → Triple
 between_numbers numbers s e = (slice_index numbers s, label_of e, slice_index numbers (target_of e))
 
--- x is a transition of the leader s, between numbers
-pub record IsShownBy (g : Grouped) (n : Numbering) (s : ℕ) (x : Triple) : Type 0 where
-  pub leads : IsMarked n.leads.items s
-  pub place : Triple
-  pub in_row : Contains (row_of s g.places) place
-  pub is : between_numbers n.numbers.items s place ≡ x
+-- the triple is left out: it has the label number that is dropped, and leads from a number to itself
+abbrev pub is_left_out : Option ℕ → Triple → Bool
+is_left_out None x = false
+is_left_out (Some k) x = (label_of x == k) && (source_of x == target_of x)
 
--- x is a transition of a leader below s, between numbers
-abbrev pub IsShownBelow : Grouped → Numbering → ℕ → Triple → Type 0
-IsShownBelow g n s x = (t : ℕ) × (t < s) × IsShownBy g n t x
+-- what the row of the state s shows between numbers
+abbrev pub shown_by : List ℕ → Option ℕ → List Triple → ℕ → List Triple
+shown_by numbers dropped places s =
+    filter (λ x. not (is_left_out dropped x)) (map (between_numbers numbers s) (row_of s places))
 
--- the row has what the transitions of s show, if s is a leader, each once
-pub record IsRowOfLeader (g : Grouped) (n : Numbering) (s : ℕ) (row : List Triple) : Type 0 where
-  pub exactly : (x : Triple) → Contains row x ↔ IsShownBy g n s x
-  pub once : AllPairs (λ x y. x ≢ y) row
-  pub few : length row ≤ length (row_of s g.places)
+-- the row of a marked state below s shows x
+abbrev pub IsShownBelow : List ℕ → List Bool → Option ℕ → List Triple → ℕ → Triple → Type 0
+IsShownBelow numbers rows dropped places s x =
+    (t : ℕ) × (t < s) × IsMarked rows t × Contains (shown_by numbers dropped places t) x
 
--- the row of s was put behind what stood before
-abbrev pub AppendsRow : Grouped → Numbering → ℕ → List Triple → List Triple → Type 0
-AppendsRow g n s before after = (row : List Triple) × IsRowOfLeader g n s row × (after ≡ before ++ row)
+-- the list has what the row of s shows, and is no longer than the row
+pub record HasShown (numbers : List ℕ) (dropped : Option ℕ) (places : List Triple) (s : ℕ) (row : List Triple) : Type 0 where
+  pub exactly : (x : Triple) → Contains row x ↔ Contains (shown_by numbers dropped places s) x
+  pub few : length row ≤ length (row_of s places)
 
--- there is a number and a mark for each state, and different leaders have different numbers
-pub record HasApart (states : ℕ) (n : Numbering) : Type 0 where
-  pub numbers_long : length n.numbers.items ≡ states
-  pub leads_long : length n.leads.items ≡ states
-  pub apart : (s t : ℕ) → s < states → t < states → IsMarked n.leads.items s → IsMarked n.leads.items t →
-      slice_index n.numbers.items s ≡ slice_index n.numbers.items t → s ≡ t
+-- what the row of s shows was put behind what stood before
+abbrev pub AppendsShown : List ℕ → Option ℕ → List Triple → ℕ → List Triple → List Triple → Type 0
+AppendsShown numbers dropped places s before after =
+    (row : List Triple) × HasShown numbers dropped places s row × (after ≡ before ++ row)

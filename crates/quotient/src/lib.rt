@@ -1,18 +1,22 @@
-//! The smallest system: which states are reachable, and the quotient, with a state for each class of bisimilar ones.
+//! The smallest system: which states are reachable, and the quotient, with a state for each class of bisimilar ones; and
+//! whether two systems are equivalent.
 #![tactic(auto)]
 
-mod minimal;
+mod allowance;
+mod comparison;
+mod minimisation;
 #[cfg(test)]
-mod minimal_tests;
+mod minimisation_tests;
 mod numbering;
 mod relation;
 mod search;
-mod strong;
 mod table;
 #[cfg(test)]
 mod tests;
 mod triples;
 
-pub use minimal::minimise;
+pub use allowance::the_bounds_are_within_the_allowance;
+pub use comparison::equivalent;
+pub use minimisation::minimise;
 pub use relation::Relation;
 pub use search::reachable;

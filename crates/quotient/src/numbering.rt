@@ -1,15 +1,15 @@
 //! The numbers of the reachable states: 0 for those of the first state's class, then one for each other class in the order of
 //! the least reachable members.
-ghost use Rattle.std.specs.Prelude.{◌≡◌, ◌↔◌, ℕ, ◌<◌, [], ◌∷◌, ◌++◌, length, slice_index, IfOk, OnOk};
+ghost use Rattle.std.specs.Prelude.{◌≡◌, ◌↔◌, ℕ, ◌<◌, [], ◌∷◌, ◌++◌, length, IfOk, OnOk};
 ghost use Rattle.theory.specs.System.{Reachable};
-ghost use Rattle.theory.specs.Bisimulation.{Bisimilar};
-ghost use Rattle.theory.specs.Blocks.{EachTwo};
+ghost use Rattle.theory.specs.Bisimulation.{Relation};
 ghost use Rattle.lts.specs.Lts.{system_of};
-ghost use Rattle.quotient.specs.Search.{IsMarked};
+ghost use Rattle.quotient.specs.Marked.{IsMarked};
+ghost use Rattle.quotient.specs.Reading.{AreClasses};
 ghost use Rattle.quotient.specs.Numbers.{IsNumbering, Adds};
 
 use lts::{Lts, Memory, Meter};
-use refine::{Partition, Sense};
+use refine::Partition;
 use std::alloc::Global;
 
 /// Stands for the number of a block that has none.
@@ -28,8 +28,10 @@ pub(crate) struct Numbering {
     pub(crate) count: u32,
 }
 
-/// Numbers the reachable states, whose blocks are the classes of bisimilar ones.
-pub(crate) fn number<S: Sense, M: Meter>(
+/// Numbers the reachable states: for the relation whose classes the blocks are.
+///
+/// Fails if there is no memory for it.
+pub(crate) fn number<M: Meter>(
     alloc: Global,
     l: &Lts<M>,
     blocks: &Partition,
@@ -37,9 +39,8 @@ pub(crate) fn number<S: Sense, M: Meter>(
 ) -> Result<Numbering, Memory>
     requires blocks_long { length blocks.now ≡ l.now.states }
     requires reached_long { length reached.now ≡ l.now.states }
-    requires classes { EachTwo (system_of l.now) (λ s t. (slice_index blocks.now s ≡ slice_index blocks.now t) ↔ Bisimilar S.relation (system_of l.now) s (system_of l.now) t) }
     requires reached { (s : ℕ) → s < l.now.states → IsMarked reached.now s ↔ Reachable (system_of l.now) s }
-    ensures { IfOk result (IsNumbering S.relation (system_of l.now)) }
+    ensures { (rel : Relation) → AreClasses rel l.now blocks.now → IfOk result (IsNumbering rel (system_of l.now)) }
 {
     theory::steps_keep_reachable();
     theory::each_state_has_a_number();

@@ -1,9 +1,10 @@
 //! Which states are reachable, by a search with a stack of the states whose rows are still to be read.
 ghost use Rattle.std.specs.Prelude.{◌≡◌, ◌↔◌, ℕ, ◌+◌, ◌<◌, ◌≤◌, ◌∷◌, length, IfOk, OnOk};
 ghost use Rattle.theory.specs.System.{Reachable};
-ghost use Rattle.lts.specs.Meter.{HasRoom};
+ghost use Rattle.lts.specs.Meter.{HasRoomFor, Costs};
 ghost use Rattle.lts.specs.Lts.{row_of, system_of};
-ghost use Rattle.quotient.specs.Search.{IsMarked, Marks, Searches, states_ahead, places_ahead};
+ghost use Rattle.quotient.specs.Marked.{IsMarked};
+ghost use Rattle.quotient.specs.Search.{Marks, Searches, states_ahead, places_ahead};
 
 use lts::{Lts, Memory, Meter};
 use std::alloc::Global;
@@ -12,12 +13,10 @@ use std::alloc::Global;
 ///
 /// Fails where there is no memory for it.
 pub fn reachable<M: Meter>(alloc: Global, l: &Lts<M>, m: &mut M) -> Result<Vec<bool>, Memory>
-    requires room { HasRoom (M.rounds_made m.old) (M.visits_made m.old) 0 (length l.now.places) }
+    requires room { HasRoomFor (M.counted m.old) 0 (length l.now.places) }
     ensures states { IfOk result (λ r. length r.items ≡ l.now.states) }
     ensures exactly { IfOk result (λ r. (s : ℕ) → s < l.now.states → IsMarked r.items s ↔ Reachable (system_of l.now) s) }
-    ensures rounds { M.rounds_made m.new ≡ M.rounds_made m.old }
-    ensures at_most { M.visits_made m.new ≤ M.visits_made m.old + length l.now.places }
-    ensures never_fewer { M.visits_made m.old ≤ M.visits_made m.new }
+    ensures visits { Costs (M.counted m.old) (M.counted m.new) 0 0 (length l.now.places) }
 {
     theory::steps_keep_reachable();
     let mut search = Search {
@@ -54,17 +53,14 @@ impl Search {
     /// Marks the states that the steps of `s` lead to.
     fn mark_targets<M: Meter>(&mut self, l: &Lts<M>, s: u32, m: &mut M) -> Result<(), Memory>
         requires search { Searches l.now self.old.marked.items (s ∷ self.old.stack.items) }
-        requires room { HasRoom (M.rounds_made m.old) (M.visits_made m.old) 0 (length (row_of s l.now.places)) }
+        requires room { HasRoomFor (M.counted m.old) 0 (length (row_of s l.now.places)) }
         ensures search { OnOk result (Searches l.now self.new.marked.items self.new.stack.items) }
         ensures states { OnOk result (states_ahead self.new.marked.items self.new.stack.items ≡ states_ahead self.old.marked.items self.old.stack.items) }
         ensures places { OnOk result (places_ahead l.now.places self.new.marked.items self.new.stack.items ≡ places_ahead l.now.places self.old.marked.items self.old.stack.items) }
-        ensures rounds { M.rounds_made m.new ≡ M.rounds_made m.old }
-        ensures at_most { M.visits_made m.new ≤ M.visits_made m.old + length (row_of s l.now.places) }
-        ensures never_fewer { M.visits_made m.old ≤ M.visits_made m.new }
+        ensures visits { Costs (M.counted m.old) (M.counted m.new) 0 0 (length (row_of s l.now.places)) }
     {
         theory::steps_keep_reachable();
-        // Its contract tells what holds of every system.
-        let _ = l.edges();
+        l.known();
         let (start, end) = l.row(s);
         for k in start..end {
             let (_, target) = l.edge(k, m);

@@ -1,19 +1,22 @@
-use Rattle.std.proofs.Common.{◌≡◌, ◌∙◌, ◌<◌, slice_index, set, replicate, ap, sym, subst, refl, arith}
+use Rattle.std.proofs.Common.{◌≡◌, ◌∙◌, ℕ, ◌<◌, slice_index, set, replicate, ap, sym, subst, refl, arith}
 use Rattle.std.proofs.lemmas.Bool.{eqb-true, eq-eqb}
+use Rattle.std.proofs.lemmas.List.{length-set, length-replicate}
+use Rattle.theory.specs.Bisimulation.{Relation}
 use Rattle.lts.specs.Lts.{system_of}
+use Rattle.quotient.specs.Reading.{AreClasses}
 use Rattle.quotient.specs.Numbers.{none}
-use Rattle.quotient.proofs.Classes.{Laws, Taken, Taken-start, Taken-adds, Taken-end}
+use Rattle.quotient.proofs.Classes.{Laws, Taken, Taken-start, Taken-adds, Taken-end, Adds-within, Adds-few}
 use Rattle.quotient.proofs.numbering.number.Given.{Over}
 use Rattle.quotient.proofs.numbering.number.Goals as goal
 
 -- the laws of the theory, at this system and these blocks
-laws : (g : Over) (c : goal.In_ok-with_capacity-2 g) → Laws g.S.Sense.relation (system_of c.args.l.now) (slice_index c.args.blocks.now)
-laws g c =
-    let rel = g.S.Sense.relation in
+laws : (g : Over) (c : goal.In_ok-with_capacity-2 g) (rel : Relation) → AreClasses rel c.args.l.now c.args.blocks.now →
+    Laws rel (system_of c.args.l.now) (slice_index c.args.blocks.now)
+laws g c rel classes =
     let A = system_of c.args.l.now in
     let lts = c.states-states.ensures.lts in
     record {
-      same = c.requires.classes;
+      same = classes;
       first = lts.in_range.first_below;
       first_reached = c.steps_keep_reachable.ensures.first A;
       below = λ s way. c.steps_keep_reachable.ensures.below A s lts.system way;
@@ -32,9 +35,13 @@ loop-s-init g c =
     ap (λ xs. set xs c.block.result 0) (c.in_ok-by_block.ensures.items_if_clones_equal (λ y e. e))
     ∙ ap (λ b. set (replicate c.count.result none) b 0) (c.block.ensures ∙ ap (slice_index blocks) c.first-first.ensures) in
     record {
+      within = λ t l.
+          let below = c.count.ensures.below t (omega (arith, l, c.requires.blocks_long)) in
+          rw set_first (omega (arith, length-set {A = ℕ}, length-replicate {A = ℕ}, below));
+      few = omega arith;
       laws = laws g c;
-      taken =
-          Taken-start g.S.Sense.relation (system_of c.args.l.now) (slice_index blocks) (laws g c) c.count.result _
+      taken = λ rel classes.
+          Taken-start rel (system_of c.args.l.now) (slice_index blocks) (laws g c rel classes) c.count.result _
           (λ t l. c.count.ensures.below t (omega (arith, l, c.requires.blocks_long)))
           set_first c.in_ok-with_capacity.ensures.items c.in_ok-with_capacity-2.ensures.items refl;
     }
@@ -45,19 +52,20 @@ loop-s-preserved g c =
     let l = c.args.l.now in
     let below : s < l.states = omega (arith, c.states-states.ensures.value) in
     record {
+      within = Adds-within c.block-in-loop-s.result _ _ c.loop-s.numbering c.add.new.self c.in_ok-add.ensures l.states (slice_index c.args.blocks.now) c.loop-s.invariant.within;
+      few = omega (arith, Adds-few c.block-in-loop-s.result _ _ c.loop-s.numbering c.add.new.self c.in_ok-add.ensures, c.loop-s.invariant.few);
       laws = c.loop-s.invariant.laws;
-      taken =
-          Taken-adds g.S.Sense.relation (system_of l) (slice_index c.args.blocks.now) c.loop-s.invariant.laws s c.block-in-loop-s.result
+      taken = λ rel classes.
+          Taken-adds rel (system_of l) (slice_index c.args.blocks.now) (c.loop-s.invariant.laws rel classes) s c.block-in-loop-s.result
           c.loop-s.numbering c.add.new.self _ _ c.block-in-loop-s.ensures
           (λ e. eqb-true s c.first-first.result e ∙ c.first-first.ensures, λ e. eq-eqb s c.first-first.result (e ∙ sym c.first-first.ensures))
           (c.requires.reached s below) below (omega (arith, below, c.states-states.ensures.lts.in_range.few_states))
-          c.loop-s.invariant.taken c.in_ok-add.ensures;
+          (c.loop-s.invariant.taken rel classes) c.in_ok-add.ensures;
     }
 
 pub returns : goal.returns
-returns g c =
-    let rel = g.S.Sense.relation in
+returns g c = λ rel classes.
     let A = system_of c.args.l.now in
     let end : c.loop-s.s ≡ A.states = omega (arith, c.states-states.ensures.value) in
-    Taken-end rel A (slice_index c.args.blocks.now) c.loop-s.invariant.laws c.loop-s.numbering
-    (subst (λ n. Taken rel A (slice_index c.args.blocks.now) n c.loop-s.numbering) end c.loop-s.invariant.taken)
+    Taken-end rel A (slice_index c.args.blocks.now) (c.loop-s.invariant.laws rel classes) c.loop-s.numbering
+    (subst (λ n. Taken rel A (slice_index c.args.blocks.now) n c.loop-s.numbering) end (c.loop-s.invariant.taken rel classes))

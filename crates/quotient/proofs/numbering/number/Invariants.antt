@@ -1,10 +1,14 @@
-use Rattle.std.proofs.Common.{slice_index}
+use Rattle.std.proofs.Common.{ℕ, ◌+◌, ◌<◌, ◌≤◌, length, slice_index}
+use Rattle.theory.specs.Bisimulation.{Relation}
 use Rattle.lts.specs.Lts.{system_of}
+use Rattle.quotient.specs.Reading.{AreClasses}
 use Rattle.quotient.proofs.Classes.{Laws, Taken}
 use Rattle.quotient.proofs.numbering.number.Given as goal
 
 abbrev pub invariant-loop-s : goal.invariant-loop-s
 invariant-loop-s g l = record {
-  laws : Laws g.S.Sense.relation (system_of l.l) (slice_index l.blocks);
-  taken : Taken g.S.Sense.relation (system_of l.l) (slice_index l.blocks) l.s l.numbering;
+  within : (t : ℕ) → t < l.l.states → slice_index l.blocks t < length l.numbering.by_block.items;
+  few : l.numbering.count ≤ l.s + 1;
+  laws : (rel : Relation) → AreClasses rel l.l l.blocks → Laws rel (system_of l.l) (slice_index l.blocks);
+  taken : (rel : Relation) → AreClasses rel l.l l.blocks → Taken rel (system_of l.l) (slice_index l.blocks) l.s l.numbering;
 }

@@ -1,4 +1,4 @@
-use Rattle.std.proofs.Common.{◌≡◌, ◌∙◌, false, [], replicate, ap, refl, arith}
+use Rattle.std.proofs.Common.{◌≡◌, ◌∙◌, false, [], replicate, ap, arith, rules}
 use Rattle.std.specs.List.{slice_index_or}
 use Rattle.std.proofs.lemmas.List.{length-replicate}
 use Rattle.lts.specs.Lts.{system_of}
@@ -20,9 +20,8 @@ loop-s-init g c =
     let most = places_ahead-first s.places (replicate s.states false) in
     record {
       search = Searches-start s new.marked.items new.stack.items first (c.steps_keep_reachable.ensures.first (system_of s)) marks;
-      rounds = refl;
-      at_most = omega arith;
-      never_fewer = omega arith;
+      few = omega arith;
+      visits = search rules;
     }
 
 pub mark_targets-requires-clause-search : goal.mark_targets-requires-clause-search

@@ -1,4 +1,4 @@
-use Rattle.std.proofs.Common.{◌∙◌, ◌<◌, length, arith}
+use Rattle.std.proofs.Common.{◌<◌, length, arith, rules}
 use Rattle.lts.specs.Lts.{system_of}
 use Rattle.quotient.proofs.Reaching.{TargetsMarked-more, Searches-below, Searches-place, Searches-read, places_ahead-marks, states_ahead-marks}
 use Rattle.quotient.proofs.search.Search.mark_targets.Goals as goal
@@ -14,7 +14,7 @@ loop-k-preserved g c =
     let t = c.edge-target.result.1 in
     let row = c.row-start.ensures in
     let at : c.loop-k.k < length places = omega (arith, row.within) in
-    let low = c.edges.ensures.lts.in_range.each c.loop-k.k (0, 0, 0) at in
+    let low = c.known.ensures.in_range.each c.loop-k.k (0, 0, 0) at in
     let target = c.edge-target.ensures.target in
     let state : t < c.args.l.now.states = omega (arith, low.target) in
     let below : t < length old.marked.items = omega (arith, c.loop-k.invariant.search.size) in
@@ -31,8 +31,7 @@ loop-k-preserved g c =
           below target c.in_ok-mark.ensures c.loop-k.invariant.read;
       states = omega (arith, same_states, c.loop-k.invariant.states);
       places = omega (arith, same_places, c.loop-k.invariant.places);
-      rounds = c.edge-target.ensures.rounds ∙ c.loop-k.invariant.rounds;
-      visits = omega (arith, c.loop-k.auto.k, c.edge-target.ensures.visits, c.loop-k.invariant.visits);
+      visits = let range = c.loop-k.auto.k in search rules;
     }
 
 pub returns-clause-search : goal.returns-clause-search

@@ -1,4 +1,5 @@
-use Rattle.std.proofs.Common.{◌≡◌, ◌+◌, ◌-◌, ◌∷◌}
+use Rattle.std.proofs.Common.{◌≡◌, ◌-◌, ◌∷◌}
+use Rattle.lts.specs.Meter.{Costs}
 use Rattle.quotient.specs.Search.{Searches, states_ahead, places_ahead}
 use Rattle.quotient.proofs.Reaching.{TargetsMarked}
 use Rattle.quotient.proofs.search.Search.mark_targets.Given as goal
@@ -9,6 +10,5 @@ invariant-loop-k g l = record {
   read : TargetsMarked l.l.places l.self.marked.items l.start l.k;
   states : states_ahead l.self.marked.items l.self.stack.items ≡ states_ahead l.initial.self.marked.items l.initial.self.stack.items;
   places : places_ahead l.l.places l.self.marked.items l.self.stack.items ≡ places_ahead l.l.places l.initial.self.marked.items l.initial.self.stack.items;
-  rounds : g.M.Meter.rounds_made l.m ≡ g.M.Meter.rounds_made l.initial.m;
-  visits : g.M.Meter.visits_made l.m ≡ g.M.Meter.visits_made l.initial.m + (l.k - l.start);
+  visits : Costs (g.M.Meter.counted l.initial.m) (g.M.Meter.counted l.m) 0 (l.k - l.start) (l.k - l.start);
 }

@@ -1,0 +1,79 @@
+-- What holds of any lists: what they contain, also mapped, filtered and one behind the other.
+use Rattle.std.proofs.Common.{◌≡◌, ◌≢◌, ◌∙◌, ◌⊎◌, ◌↔◌, ℕ, ◌-◌, ◌<◌, Bool, true, false, cond, List, [], ◌∷◌, ◌++◌, length, map, get_or, Contains, refl, sym, ap, subst, inl, inr, arith}
+use Rattle.std.specs.List.{AllPairs, filter}
+use Rattle.std.proofs.lemmas.Bool.{cases_lt, both_ways}
+use Rattle.std.proofs.lemmas.List.{length-append, length-map, get_or-map, get_or_append_left, get_or-append_right, get_or_default}
+use Rattle.std.proofs.lemmas.List.Elements.{All-contains, Contains-push, Contains-push_cases, Contains-append_left, Contains-append_right, Contains-append_cases, filter_passes}
+
+pub no_element : {X : Type 0} (x : X) → ¬ Contains [] x
+no_element x c = absurd (omega (arith, c.1))
+
+pub head_or_tail : {X : Type 0} (y : X) (ys : List X) (x : X) → Contains (y ∷ ys) x → (y ≡ x) ⊎ Contains ys x
+head_or_tail y ys x c = elim (Contains-append_cases (y ∷ []) ys x c) [
+  | inl d ↦ elim (Contains-push_cases [] y x d) [ inl f ↦ absurd (no_element x f) | inr e ↦ inl e ]
+  | inr d ↦ inr d
+]
+
+pub at_head : {X : Type 0} (y : X) (ys : List X) → Contains (y ∷ ys) y
+at_head y ys = Contains-append_left (y ∷ []) ys y (Contains-push [] y)
+
+pub in_tail : {X : Type 0} (y : X) (ys : List X) (x : X) → Contains ys x → Contains (y ∷ ys) x
+in_tail y ys x c = Contains-append_right (y ∷ []) ys x c
+
+-- a map has the images and nothing else
+pub has_mapped : {X Y : Type 0} (f : X → Y) (xs : List X) (x : X) → Contains xs x → Contains (map f xs) (f x)
+has_mapped f xs x c = (c.0, omega (arith, c.1, length-map xs f), get_or-map f xs c.0 x (f x) c.1 ∙ ap f c.2)
+
+pub mapped_has : {X Y : Type 0} (f : X → Y) (xs : List X) (d : X) (y : Y) → Contains (map f xs) y → (x : X) × Contains xs x × (f x ≡ y)
+mapped_has f xs d y c =
+    let within : c.0 < length xs = omega (arith, c.1, length-map xs f) in (
+      get_or xs c.0 d,
+      (c.0, within, get_or_default xs c.0 (get_or xs c.0 d) d within),
+      sym (get_or-map f xs c.0 d y within) ∙ c.2,
+    )
+
+-- a filter has what passes it and nothing else
+pub has_filtered : {X : Type 0} (p : X → Bool) (xs : List X) (x : X) → Contains xs x → p x ≡ true → Contains (filter p xs) x
+has_filtered p [] x c e = absurd (no_element x c)
+has_filtered {X} p (y ∷ ys) x c e = go (p y) refl (λ d. has_filtered p ys x d e)
+  where
+    go : (b : Bool) → p y ≡ b → (Contains ys x → Contains (filter p ys) x) → Contains (cond b (y ∷ filter p ys) (filter p ys)) x
+    go true f rest = elim (head_or_tail y ys x c) [
+      | inl h ↦ subst (Contains (y ∷ filter p ys)) h (at_head y (filter p ys))
+      | inr d ↦ in_tail y (filter p ys) x (rest d)
+    ]
+    go false f rest = elim (head_or_tail y ys x c) [ inl h ↦ absurd (both_ways (p y) f (ap p h ∙ e)) | inr d ↦ rest d ]
+
+pub filtered_has : {X : Type 0} (p : X → Bool) (xs : List X) (x : X) → Contains (filter p xs) x → Contains xs x
+filtered_has p [] x c = c
+filtered_has {X} p (y ∷ ys) x c = go (p y) (λ d. in_tail y ys x (filtered_has p ys x d)) c
+  where
+    go : (b : Bool) → (Contains (filter p ys) x → Contains (y ∷ ys) x) → Contains (cond b (y ∷ filter p ys) (filter p ys)) x → Contains (y ∷ ys) x
+    go true rest d = elim (head_or_tail y (filter p ys) x d) [ inl h ↦ subst (Contains (y ∷ ys)) h (at_head y ys) | inr e ↦ rest e ]
+    go false rest d = rest d
+
+pub filtered_passes : {X : Type 0} (p : X → Bool) (xs : List X) (x : X) → Contains (filter p xs) x → p x ≡ true
+filtered_passes p xs x c = All-contains (λ y. p y ≡ true) (filter p xs) x (filter_passes p xs) c
+
+-- lists of different elements that have none in common, one behind the other
+pub apart_append : {X : Type 0} (xs ys : List X) → AllPairs (λ x y. x ≢ y) xs → AllPairs (λ x y. x ≢ y) ys →
+    ((x : X) → Contains xs x → ¬ Contains ys x) → AllPairs (λ x y. x ≢ y) (xs ++ ys)
+apart_append {X} xs ys h g apart i j d low high e = elim (cases_lt j (length xs)) [
+  | inl lj ↦ h i j d low lj (sym (get_or_append_left xs ys d i (omega (arith, low, lj))) ∙ (e ∙ get_or_append_left xs ys d j lj))
+  | inr gj ↦ elim (cases_lt i (length xs)) [
+    | inl li ↦
+        let same : get_or xs i d ≡ get_or ys (j - length xs) d =
+        sym (get_or_append_left xs ys d i li) ∙ (e ∙ get_or-append_right xs ys (length xs) j d refl gj) in
+        apart (get_or xs i d) (i, li, get_or_same xs i d li)
+        (j - length xs, omega (arith, high, gj, length-append xs ys), at_value ys (j - length xs) d (get_or xs i d) (omega (arith, high, gj, length-append xs ys)) (sym same))
+    | inr gi ↦
+        g (i - length xs) (j - length xs) d (omega (arith, low, gi)) (omega (arith, high, gj, length-append xs ys))
+        (sym (get_or-append_right xs ys (length xs) i d refl gi) ∙ (e ∙ get_or-append_right xs ys (length xs) j d refl gj))
+  ]
+]
+  where
+    get_or_same : (zs : List X) (k : ℕ) (d : X) → k < length zs → get_or zs k (get_or zs k d) ≡ get_or zs k d
+    get_or_same zs k d l = get_or_default zs k (get_or zs k d) d l
+
+    at_value : (zs : List X) (k : ℕ) (d z : X) → k < length zs → get_or zs k d ≡ z → get_or zs k z ≡ z
+    at_value zs k d z l e = get_or_default zs k z d l ∙ e

@@ -1,0 +1,78 @@
+use Rattle.std.proofs.Common.{◌≡◌, ℕ, ◌≤◌, length, arith}
+use Rattle.std.proofs.lemmas.Result.{IfOk-weaker}
+use Rattle.theory.specs.System.{System, IsSystem}
+use Rattle.theory.specs.Bisimulation.{Bisimilar, Equivalent}
+use Rattle.theory.specs.Quotient.{Quotient}
+use Rattle.lts.specs.Lts.{system_of}
+use Rattle.quotient.specs.Relations.{meant}
+use Rattle.quotient.proofs.Visits.{IfOk-both, room_at_first, room_after, keeps_to}
+use Rattle.quotient.proofs.minimisation.minimise.Goals as goal
+
+pub returns-clause-equivalent : goal.returns-clause-equivalent
+returns-clause-equivalent g c =
+    let A = system_of c.args.l.now in
+    IfOk-weaker c.quotient_of.result (λ q. Quotient (meant c.args.r) A (system_of q)) (λ q. Equivalent (meant c.args.r) A (system_of q))
+    (λ q h. c.quotient_is_equivalent.ensures (meant c.args.r) A (system_of q) c.known.ensures.system h) c.quotient_of.ensures.quotient
+
+pub returns-clause-no_two_bisimilar : goal.returns-clause-no_two_bisimilar
+returns-clause-no_two_bisimilar g c =
+    let A = system_of c.args.l.now in
+    IfOk-weaker c.quotient_of.result (λ q. Quotient (meant c.args.r) A (system_of q))
+    (λ q. (s t : ℕ) → Bisimilar (meant c.args.r) (system_of q) s (system_of q) t → s ≡ t)
+    (λ q h s t b. c.quotient_states_differ.ensures (meant c.args.r) A (system_of q) s t c.known.ensures.system h b) c.quotient_of.ensures.quotient
+
+pub returns-clause-smallest : goal.returns-clause-smallest
+returns-clause-smallest g c =
+    let A = system_of c.args.l.now in
+    IfOk-weaker c.quotient_of.result (λ q. Quotient (meant c.args.r) A (system_of q))
+    (λ q. (B : System) → IsSystem B → Equivalent (meant c.args.r) A B → q.states ≤ B.states)
+    (λ q h B sys same. c.no_smaller_system.ensures (meant c.args.r) A (system_of q) B c.known.ensures.system sys h same) c.quotient_of.ensures.quotient
+
+pub returns-clause-no_larger : goal.returns-clause-no_larger
+returns-clause-no_larger g c =
+    let A = system_of c.args.l.now in
+    let sys = c.known.ensures.system in
+    IfOk-both c.quotient_of.result (λ q. q.states ≤ A.states) (λ q. length q.places ≤ length c.args.l.now.places)
+    (IfOk-weaker c.quotient_of.result (λ q. Quotient (meant c.args.r) A (system_of q)) (λ q. q.states ≤ A.states)
+    (λ q h. c.no_smaller_system.ensures (meant c.args.r) A (system_of q) A sys sys h
+    (c.bisimilarity_is_an_equivalence.ensures.reflexive (meant c.args.r) A A.first sys sys.first)) c.quotient_of.ensures.quotient)
+    c.quotient_of.ensures.fewer_transitions
+
+pub blocks-requires : goal.blocks-requires
+blocks-requires g c = record { room = room_at_first c.args.l.now c.known.ensures _ c.requires.fresh }
+
+pub reachable-requires : goal.reachable-requires
+reachable-requires g c =
+    let turns = c.in_ok-blocks.ensures.turns in
+    record { room = room_after c.args.l.now c.known.ensures turns.0 _ turns.1 (omega (arith, turns.3.rounds, c.requires.fresh.no_rounds)) (omega (arith, turns.3.at_most, c.requires.fresh.no_visits)) }
+
+pub quotient_of-requires-clause-room : goal.quotient_of-requires-clause-room
+quotient_of-requires-clause-room g c =
+    let turns = c.in_ok-blocks.ensures.turns in
+    room_after c.args.l.now c.known.ensures turns.0 _ turns.1
+    (omega (arith, turns.3.rounds, c.requires.fresh.no_rounds, c.reachable.ensures.visits.rounds))
+    (omega (arith, turns.3.at_most, c.requires.fresh.no_visits, c.reachable.ensures.visits.at_most))
+
+pub returns-in_err-reached-clause-keeps : goal.returns-in_err-reached-clause-keeps
+returns-in_err-reached-clause-keeps g c =
+    let turns = c.in_ok-blocks.ensures.turns in
+    keeps_to c.from_residual-in_err-reached.result c.args.l.now.states (length c.args.l.now.places) 2 turns.0 _ turns.1
+    (omega (arith, turns.3.rounds, c.requires.fresh.no_rounds, c.reachable.ensures.visits.rounds))
+    (omega (arith, turns.3.at_least, c.requires.fresh.no_visits, c.reachable.ensures.visits.at_least))
+    (omega (arith, turns.3.at_most, c.requires.fresh.no_visits, c.reachable.ensures.visits.at_most))
+
+pub returns-in_err-numbering-clause-keeps : goal.returns-in_err-numbering-clause-keeps
+returns-in_err-numbering-clause-keeps g c =
+    let turns = c.in_ok-blocks.ensures.turns in
+    keeps_to c.from_residual-in_err-numbering.result c.args.l.now.states (length c.args.l.now.places) 2 turns.0 _ turns.1
+    (omega (arith, turns.3.rounds, c.requires.fresh.no_rounds, c.reachable.ensures.visits.rounds))
+    (omega (arith, turns.3.at_least, c.requires.fresh.no_visits, c.reachable.ensures.visits.at_least))
+    (omega (arith, turns.3.at_most, c.requires.fresh.no_visits, c.reachable.ensures.visits.at_most))
+
+pub returns-clause-keeps : goal.returns-clause-keeps
+returns-clause-keeps g c =
+    let turns = c.in_ok-blocks.ensures.turns in
+    keeps_to c.quotient_of.result c.args.l.now.states (length c.args.l.now.places) 2 turns.0 _ turns.1
+    (omega (arith, turns.3.rounds, c.requires.fresh.no_rounds, c.reachable.ensures.visits.rounds, c.quotient_of.ensures.visits.rounds))
+    (omega (arith, turns.3.at_least, c.requires.fresh.no_visits, c.reachable.ensures.visits.at_least, c.quotient_of.ensures.visits.at_least))
+    (omega (arith, turns.3.at_most, c.requires.fresh.no_visits, c.reachable.ensures.visits.at_most, c.quotient_of.ensures.visits.at_most))

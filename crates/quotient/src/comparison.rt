@@ -1,0 +1,48 @@
+//! Whether two systems are equivalent, by one refinement of their union.
+ghost use Rattle.std.specs.Prelude.{◌↔◌, ◌+◌, ◌*◌, length, IsTrue, IfOk, OnOk};
+ghost use Rattle.theory.specs.Bisimulation.{Equivalent};
+ghost use Rattle.theory.specs.Blocks.{Turns};
+ghost use Rattle.theory.specs.Union.{union_of};
+ghost use Rattle.lts.specs.Meter.{IsFresh, on_ok};
+ghost use Rattle.lts.specs.Lts.{system_of};
+ghost use Rattle.lts.specs.Union.{FitTogether};
+ghost use Rattle.quotient.specs.Relations.{meant};
+ghost use Rattle.quotient.specs.Bounds.{KeepsTo};
+
+use crate::relation::Relation;
+use lts::{Lts, Memory, Meter, union};
+use std::alloc::Global;
+
+/// Whether the first states of two systems are bisimilar. The systems have to fit together, and the meter has to be fresh.
+///
+/// It takes the rounds of one refinement of the union, at most as many as both have states. Each transition is visited once
+/// for the union, and once a round.
+///
+/// Fails if there is no memory for it. There is no verdict then, and the meter keeps to the same upper bounds.
+pub fn equivalent<M: Meter>(
+    alloc: Global,
+    a: &Lts<M>,
+    b: &Lts<M>,
+    r: Relation,
+    m: &mut M,
+) -> Result<bool, Memory>
+    requires fresh { IsFresh (M.counted m.old) }
+    requires fit { FitTogether a.now b.now }
+
+    // Ok: the verdict, and the rounds that one refinement of the union takes.
+    ensures verdict { IfOk result (λ same. IsTrue same ↔ Equivalent (meant r) (system_of a.now) (system_of b.now)) }
+    ensures turns { let both = union_of (system_of a.now) (system_of b.now) in
+        OnOk result (Turns (meant r) both (M.counted m.new).rounds) }
+
+    // Ok: one visit of each transition for the union and for each round. Err: no more than these.
+    ensures keeps { let at = M.counted m.new in let k = length a.now.places + length b.now.places in
+        KeepsTo (a.now.states + b.now.states) k 1 at (on_ok result ((at.rounds + 1) * k)) }
+{
+    a.known();
+    b.known();
+    theory::the_union_decides_equivalence();
+    let both = union(alloc, a, b, m)?;
+    both.known();
+    let blocks = r.blocks(alloc, &both, m)?;
+    Ok(blocks.block(a.first()) == blocks.block(a.states() + b.first()))
+}

@@ -1,0 +1,90 @@
+//! The smallest system: one state for each class of bisimilar reachable states.
+ghost use Rattle.std.specs.Prelude.{◌≡◌, ◌↔◌, ℕ, ◌*◌, ◌<◌, ◌≤◌, length, IfOk, OnOk};
+ghost use Rattle.theory.specs.System.{System, IsSystem, Reachable};
+ghost use Rattle.theory.specs.Bisimulation.{Bisimilar, Equivalent};
+ghost use Rattle.theory.specs.Blocks.{Turns};
+ghost use Rattle.theory.specs.Quotient.{Quotient};
+ghost use Rattle.lts.specs.Meter.{IsFresh, HasRoomFor, Costs, on_ok};
+ghost use Rattle.lts.specs.Lts.{system_of};
+ghost use Rattle.quotient.specs.Relations.{meant};
+ghost use Rattle.quotient.specs.Bounds.{KeepsTo};
+ghost use Rattle.quotient.specs.Marked.{IsMarked};
+ghost use Rattle.quotient.specs.Numbers.{IsNumbering};
+
+use crate::numbering::{Numbering, number};
+use crate::relation::Relation;
+use crate::search::reachable;
+use crate::table::copied;
+use crate::triples::shown_triples;
+use lts::{Counter, Lts, Memory, Meter};
+use std::alloc::Global;
+
+/// The quotient of a system: the smallest that is equivalent to it, with a state for each class of bisimilar reachable
+/// states, the first one numbered 0 and the others in the order of their least reachable members. It takes the rounds of one
+/// refinement, and visits within the relation's allowance; the meter has to be fresh.
+///
+/// Fails where there is no memory for it. There is no system then, and the meter keeps to the same bounds.
+pub fn minimise<M: Meter>(
+    alloc: Global,
+    l: &Lts<M>,
+    r: Relation,
+    m: &mut M,
+) -> Result<Lts<Counter>, Memory>
+    requires fresh { IsFresh (M.counted m.old) }
+
+    // Ok: the quotient, and what makes it the smallest system.
+    ensures quotient { IfOk result (λ q. Quotient (meant r) (system_of l.now) (system_of q)) }
+    ensures equivalent { IfOk result (λ q. Equivalent (meant r) (system_of l.now) (system_of q)) }
+    ensures no_two_bisimilar { IfOk result (λ q. (s t : ℕ) →
+        Bisimilar (meant r) (system_of q) s (system_of q) t → s ≡ t) }
+    ensures smallest { IfOk result (λ q. (B : System) →
+        IsSystem B → Equivalent (meant r) (system_of l.now) B → q.states ≤ B.states) }
+    ensures no_larger { IfOk result (λ q. (q.states ≤ l.now.states) × (length q.places ≤ length l.now.places)) }
+
+    // Ok: the rounds of one refinement. Ok and Err: at most one for each state, and the visits that they allow.
+    ensures turns { OnOk result (Turns (meant r) (system_of l.now) (M.counted m.new).rounds) }
+    ensures keeps { let at = M.counted m.new in let k = length l.now.places in
+        KeepsTo l.now.states k 2 at (on_ok result (at.rounds * k)) }
+{
+    l.known();
+    theory::quotient_is_equivalent();
+    theory::quotient_states_differ();
+    theory::no_smaller_system();
+    theory::bisimilarity_is_an_equivalence();
+    let blocks = r.blocks(alloc, l, m)?;
+    let reached = reachable(alloc, l, m)?;
+    let numbering = number(alloc, l, &blocks, &reached)?;
+    quotient_of(alloc, l, r, &numbering, &reached, m)
+}
+
+/// The quotient, once the reachable states have their numbers.
+///
+/// Fails if there is no memory for it.
+fn quotient_of<M: Meter>(
+    alloc: Global,
+    l: &Lts<M>,
+    r: Relation,
+    numbering: &Numbering,
+    reached: &[bool],
+    m: &mut M,
+) -> Result<Lts<Counter>, Memory>
+    requires numbering { IsNumbering (meant r) (system_of l.now) numbering.now }
+    requires reached_long { length reached.now ≡ l.now.states }
+    requires reached { (s : ℕ) → s < l.now.states → IsMarked reached.now s ↔ Reachable (system_of l.now) s }
+    requires room { HasRoomFor (M.counted m.old) 0 (length l.now.places) }
+    ensures quotient { IfOk result (λ q. Quotient (meant r) (system_of l.now) (system_of q)) }
+    ensures fewer_transitions { IfOk result (λ q. length q.places ≤ length l.now.places) }
+    ensures visits { Costs (M.counted m.old) (M.counted m.new) 0 0 (length l.now.places) }
+{
+    l.known();
+    lts::rows_are_steps();
+    theory::steps_keep_reachable();
+    theory::each_state_has_a_number();
+    theory::numbers_are_classes();
+    theory::numbers_are_states();
+    let rows = r.rows(&numbering.leads, reached);
+    let dropped = r.dropped(l.labels());
+    let triples = shown_triples(alloc, l, &numbering.numbers, rows, dropped, m)?;
+    let labels = copied(alloc, l.labels())?;
+    Lts::build(alloc, labels, 0, numbering.count, triples)
+}
