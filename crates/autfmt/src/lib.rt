@@ -35,7 +35,7 @@ pub use limits::Limits;
 pub use line::LineBuffer;
 pub use line_laws::a_line_has_one_reading;
 pub use reader::{read, read_hiding};
-pub use sink::{Sink, ToWrite, VecSink};
+pub use sink::{Sink, ToWrite, VecSink, put_all};
 pub use source::{Broken, FromRead, SliceSource, Source};
 pub use text_laws::{
     a_hide_list_has_one_reading, a_hide_list_reads_or_has_a_fault, a_judged_fault_is_the_first,

@@ -215,11 +215,11 @@ impl<W: Write> Sink for ToWrite<W> {
     }
 }
 
-/// Puts all of `b`.
+/// Puts all of `b`, piece by piece.
 ///
 /// # Errors
-/// `Broken` where the sink fails. A beginning of `b` was put.
-pub(crate) fn put_all<W: Sink>(w: &mut W, b: &[u8]) -> Result<(), Broken>
+/// `Broken` if the sink fails; a beginning of `b` was put.
+pub fn put_all<W: Sink>(w: &mut W, b: &[u8]) -> Result<(), Broken>
     requires { W.failures w.old ≡ 0 }
     ensures ok { OnOk result (Appends (W.written w.old) (W.written w.new) b.now) }
     ensures err { OnErr result (AppendsBeginning (W.written w.old) (W.written w.new) b.now) }
