@@ -1,13 +1,29 @@
 -- Small systems whose bisimulations, signatures and quotients are known: what the definitions must say of them.
-use Rattle.std.specs.Prelude.{ℕ, List, [], ◌∷◌, ◌↔◌}
-use Rattle.std.specs.List.{Contains}
+use Rattle.std.specs.Prelude.{◌≡◌, ℕ, ◌<◌, List, [], ◌∷◌, ◌↔◌, length, slice_index}
+use Rattle.std.specs.List.{Contains, slice_index_or}
 use Rattle.theory.specs.System.{System, Transition, internal}
 use Rattle.theory.specs.Bisimulation.{Relation}
-use Rattle.theory.specs.Blocks.{Signature}
+use Rattle.theory.specs.Blocks.{Signature, Split}
+use Rattle.theory.specs.Quotient.{Leader, Number}
 
 -- the signature of s has exactly the pairs in the list
 abbrev pub SignatureIs : Relation → System → (ℕ → ℕ) → ℕ → List (List ℕ × ℕ) → Type 0
 SignatureIs rel A blocks s pairs = (x : List ℕ) (n : ℕ) → Signature rel A blocks s x n ↔ Contains pairs (x, n)
+
+-- the signature of each state s has exactly the pairs in the list at s, and the Split makes the blocks `new` of `old`
+pub record SplitsBy (rel : Relation) (A : System) (old : List ℕ) (pairs : List (List (List ℕ × ℕ))) (new : List ℕ) : Type 0 where
+  pub signatures : (s : ℕ) → s < A.states → SignatureIs rel A (slice_index old) s (slice_index_or pairs s [])
+  pub split : Split rel A (slice_index old) (slice_index new)
+
+-- every state s has the number at s in the list
+pub record NumbersAre (rel : Relation) (A : System) (numbers : List ℕ) : Type 0 where
+  pub all : length numbers ≡ A.states
+  pub each : (s : ℕ) → s < A.states → Number rel A s (slice_index numbers s)
+
+-- every state s is led by the state at s in the list
+pub record LeadersAre (rel : Relation) (A : System) (leaders : List ℕ) : Type 0 where
+  pub all : length leaders ≡ A.states
+  pub each : (s : ℕ) → s < A.states → Leader rel A s (slice_index leaders s)
 
 -- a transition, and three labels
 abbrev pub edge : ℕ → List ℕ → ℕ → Transition

@@ -5,7 +5,7 @@ ghost use Rattle.std.specs.List.{Contains};
 ghost use Rattle.theory.specs.System.{System, Transition, Hide, Reachable};
 ghost use Rattle.theory.specs.Bisimulation.{Relation};
 ghost use Rattle.theory.specs.Bisimulation.Relation.{strong, branching};
-ghost use Rattle.theory.specs.Quotient.{Leader, IsLeader, Number, Quotient};
+ghost use Rattle.theory.specs.Quotient.{IsLeader, Number, Quotient};
 ghost use Rattle.theory.specs.Examples.{
   a,
   unreachable_twin,
@@ -45,6 +45,8 @@ ghost use Rattle.theory.specs.Examples.{
   only_b,
   hidden_middle_strong_quotient,
   first_leads_by_size,
+  NumbersAre,
+  LeadersAre,
 };
 
 /// `unreachable-twin`: state 1 is unreachable, bisimilar to 3 and no leader, so it adds no state.
@@ -60,14 +62,8 @@ pub fn quotient_of_unreachable_twin()
 /// `first-leads-numbering`: the first state 2 leads 0, though 0 is less, and its number 0 comes before those of 1 and 3.
 pub fn quotient_of_first_leads()
     ensures quotient { Quotient strong first_leads first_leads_quotient }
-    ensures number_of_0 { Number strong first_leads 0 0 }
-    ensures number_of_1 { Number strong first_leads 1 1 }
-    ensures number_of_2 { Number strong first_leads 2 0 }
-    ensures number_of_3 { Number strong first_leads 3 2 }
-    ensures leader_of_0 { Leader strong first_leads 0 2 }
-    ensures leader_of_1 { Leader strong first_leads 1 1 }
-    ensures leader_of_2 { Leader strong first_leads 2 2 }
-    ensures leader_of_3 { Leader strong first_leads 3 3 }
+    ensures numbers { NumbersAre strong first_leads (0 ∷ 1 ∷ 0 ∷ 2 ∷ []) }
+    ensures leaders { LeadersAre strong first_leads (2 ∷ 1 ∷ 2 ∷ 3 ∷ []) }
     ensures no_leader { ¬ IsLeader strong first_leads 0 }
 {}
 
@@ -104,11 +100,9 @@ pub fn quotient_of_chain_of_three()
 /// `silent-cycle`: one state in branching bisimulation, and the system itself in strong.
 pub fn quotient_of_silent_cycle()
     ensures quotient_branching { Quotient branching silent_cycle silent_cycle_branching_quotient }
-    ensures number_branching_of_0 { Number branching silent_cycle 0 0 }
-    ensures number_branching_of_1 { Number branching silent_cycle 1 0 }
+    ensures numbers_branching { NumbersAre branching silent_cycle (0 ∷ 0 ∷ []) }
     ensures quotient_strong { Quotient strong silent_cycle silent_cycle_strong_quotient }
-    ensures number_strong_of_0 { Number strong silent_cycle 0 0 }
-    ensures number_strong_of_1 { Number strong silent_cycle 1 1 }
+    ensures numbers_strong { NumbersAre strong silent_cycle (0 ∷ 1 ∷ []) }
 {}
 
 /// `silent-loop`: the silent step within a class is left out in branching bisimulation, and kept in strong.
@@ -140,19 +134,9 @@ pub fn quotient_of_silent_middle()
 /// `silent-detour`: the detour goes in branching bisimulation, and stays in strong; the states 3 and 4 are one in both.
 pub fn quotient_of_silent_detour()
     ensures quotient_branching { Quotient branching silent_detour silent_detour_branching_quotient }
-    ensures number_branching_of_0 { Number branching silent_detour 0 0 }
-    ensures number_branching_of_1 { Number branching silent_detour 1 0 }
-    ensures number_branching_of_2 { Number branching silent_detour 2 1 }
-    ensures number_branching_of_3 { Number branching silent_detour 3 1 }
-    ensures number_branching_of_4 { Number branching silent_detour 4 1 }
-    ensures number_branching_of_5 { Number branching silent_detour 5 2 }
+    ensures numbers_branching { NumbersAre branching silent_detour (0 ∷ 0 ∷ 1 ∷ 1 ∷ 1 ∷ 2 ∷ []) }
     ensures quotient_strong { Quotient strong silent_detour silent_detour_strong_quotient }
-    ensures number_strong_of_0 { Number strong silent_detour 0 0 }
-    ensures number_strong_of_1 { Number strong silent_detour 1 1 }
-    ensures number_strong_of_2 { Number strong silent_detour 2 2 }
-    ensures number_strong_of_3 { Number strong silent_detour 3 3 }
-    ensures number_strong_of_4 { Number strong silent_detour 4 3 }
-    ensures number_strong_of_5 { Number strong silent_detour 5 4 }
+    ensures numbers_strong { NumbersAre strong silent_detour (0 ∷ 1 ∷ 2 ∷ 3 ∷ 3 ∷ 4 ∷ []) }
 {}
 
 /// `hidden-step-goes` and `hidden-step-stays`: a hidden step goes in branching bisimulation and stays in strong.

@@ -1,10 +1,11 @@
 -- Leaders, numbers and quotients of written-out systems, from what is told of each.
-use Rattle.std.proofs.Common.{◌≡◌, ℕ, Bool, true, not, eqb, List, subst}
+use Rattle.std.proofs.Common.{◌≡◌, ℕ, Bool, true, not, eqb, List, length, slice_index, subst}
 use Rattle.std.proofs.lemmas.Bool.{eqb-true}
 use Rattle.theory.specs.System.{System, Reachable}
 use Rattle.theory.specs.Bisimulation.{Relation}
 use Rattle.theory.specs.Quotient.{Leader, IsLeader, Number, Quotient}
-use Rattle.theory.proofs.Testing.{and_then, and_then_parts, not_passes, has, has_contains, contains_has}
+use Rattle.theory.specs.Examples.{NumbersAre, LeadersAre}
+use Rattle.theory.proofs.Testing.{and_then, and_then_parts, not_passes, has, has_contains, contains_has, each_below, each_below_passes}
 use Rattle.theory.proofs.Testing.Reaching.{reachable, reachable_found}
 use Rattle.theory.proofs.Testing.Rising.{rises}
 use Rattle.theory.proofs.Testing.Leading.{are_reachable, are_classes, classes_pass, are_leaders, reachable_has, leader_is, leader_listed}
@@ -65,6 +66,40 @@ is_led rel A s l told h d =
     (leader_is rel A told.block told.lead told.leaders
     (classes_pass rel A told.block told.pairs told.turns parts.0) parts.1
     s (reachable_found A s (has_contains (reachable A) s both.0)))
+
+-- a written-out list has the number of each state, all of which are reachable
+abbrev pub lists_numbers : System → List ℕ → Census → Bool
+lists_numbers A numbers told =
+    and_then (eqb (length numbers) A.states) (λ _.
+    each_below A.states (λ s. and_then (has (reachable A) s) (λ _. eqb (number_at A told.leaders (told.lead s)) (slice_index numbers s))))
+
+pub numbers_are :
+    (rel : Relation) (A : System) (numbers : List ℕ) (told : Census) → is_census rel A told ≡ true →
+    lists_numbers A numbers told ≡ true → NumbersAre rel A numbers
+numbers_are rel A numbers told h d =
+    let test = λ (s : ℕ). and_then (has (reachable A) s) (λ _. eqb (number_at A told.leaders (told.lead s)) (slice_index numbers s)) in
+    let parts = and_then_parts (eqb (length numbers) A.states) (λ _. each_below A.states test) d in
+    record {
+      all = eqb-true (length numbers) A.states parts.0;
+      each = λ s l. is_number rel A s (slice_index numbers s) told h (each_below_passes A.states test parts.1 s l);
+    }
+
+-- a written-out list has the leader of each state, all of which are reachable
+abbrev pub lists_leaders : System → List ℕ → Census → Bool
+lists_leaders A leaders told =
+    and_then (eqb (length leaders) A.states) (λ _.
+    each_below A.states (λ s. and_then (has (reachable A) s) (λ _. eqb (told.lead s) (slice_index leaders s))))
+
+pub leaders_are :
+    (rel : Relation) (A : System) (leaders : List ℕ) (told : Census) → is_census rel A told ≡ true →
+    lists_leaders A leaders told ≡ true → LeadersAre rel A leaders
+leaders_are rel A leaders told h d =
+    let test = λ (s : ℕ). and_then (has (reachable A) s) (λ _. eqb (told.lead s) (slice_index leaders s)) in
+    let parts = and_then_parts (eqb (length leaders) A.states) (λ _. each_below A.states test) d in
+    record {
+      all = eqb-true (length leaders) A.states parts.0;
+      each = λ s l. is_led rel A s (slice_index leaders s) told h (each_below_passes A.states test parts.1 s l);
+    }
 
 -- what a right census does not list is no leader
 pub is_no_leader :

@@ -1,5 +1,6 @@
 -- How many Splits are made of a written-out system, by a test that computes.
-use Rattle.std.proofs.Common.{◌≡◌, ◌≢◌, ℕ, zero, suc, ◌<◌, ◌≤◌, Bool, true, not, eqb, ltb, ltb-true, List, arith}
+use Rattle.std.proofs.Common.{◌≡◌, ◌≢◌, ℕ, zero, suc, ◌<◌, ◌≤◌, Bool, true, not, eqb, ltb, ltb-true, List, [], slice_index, arith}
+use Rattle.std.specs.List.{slice_index_or}
 use Rattle.std.proofs.lemmas.Bool.{eqb-true, eq-eqb}
 use Rattle.theory.specs.System.{System, IsSystem}
 use Rattle.theory.specs.Bisimulation.{Relation}
@@ -8,13 +9,24 @@ use Rattle.theory.proofs.Testing.{and_then, and_then_parts, not_passes, each_bel
 use Rattle.theory.proofs.Testing.Systems.{is_system, system_passes}
 use Rattle.theory.proofs.Refinement.{same_split, after_is_unique}
 use Rattle.theory.proofs.Testing.Signing.{Entry}
-use Rattle.theory.proofs.Testing.Splitting.{is_split, split_passes}
+use Rattle.theory.specs.Examples.{SplitsBy}
+use Rattle.theory.proofs.Testing.Splitting.{is_split, split_passes, splits_by}
 
 -- the blocks before and after each Split, their signatures, and two states that each Split but the last parts
 pub record Course : Type 0 where
-  pub block : ℕ → ℕ → ℕ
-  pub signs : ℕ → ℕ → List Entry
-  pub parts : ℕ → ℕ × ℕ
+  pub blocks : List (List ℕ)
+  pub signs : List (List (List Entry))
+  pub parts : List (ℕ × ℕ)
+
+-- the blocks before the Split j, the signature of s at the Split j, and the states that it parts
+abbrev pub block_at : Course → ℕ → ℕ → ℕ
+block_at course j = slice_index (slice_index_or course.blocks j [])
+
+abbrev pub signs_at : Course → ℕ → ℕ → List Entry
+signs_at course j s = slice_index_or (slice_index_or course.signs j []) s []
+
+abbrev pub parts_at : Course → ℕ → ℕ × ℕ
+parts_at course j = slice_index_or course.parts j (0, 0)
 
 -- s and t share a block of f, and none of g
 abbrev pub parts_two : System → (ℕ → ℕ) → (ℕ → ℕ) → ℕ × ℕ → Bool
@@ -62,60 +74,66 @@ is_one_passes A f h s t ls lt =
 -- the first k blocks of the course are those after as many Splits
 abbrev pub runs : Relation → System → Course → ℕ → Bool
 runs rel A course k =
-    and_then (is_one A (course.block 0)) (λ _.
-    each_below k (λ j. is_split rel A (course.block j) (course.block (suc j)) (course.signs j)))
+    and_then (is_one A (block_at course 0)) (λ _.
+    each_below k (λ j. is_split rel A (block_at course j) (block_at course (suc j)) (signs_at course j)))
+
+runs_is_split :
+    (rel : Relation) (A : System) (course : Course) (k : ℕ) → runs rel A course k ≡ true →
+    (j : ℕ) → j < k → is_split rel A (block_at course j) (block_at course (suc j)) (signs_at course j) ≡ true
+runs_is_split rel A course k h j l =
+    each_below_passes k (λ j. is_split rel A (block_at course j) (block_at course (suc j)) (signs_at course j))
+    (and_then_parts (is_one A (block_at course 0)) (λ _.
+    each_below k (λ j. is_split rel A (block_at course j) (block_at course (suc j)) (signs_at course j))) h).1 j l
 
 runs_split :
     (rel : Relation) (A : System) (course : Course) (k : ℕ) → runs rel A course k ≡ true →
-    (j : ℕ) → j < k → Split rel A (course.block j) (course.block (suc j))
-runs_split rel A course k h j l = split_passes rel A (course.block j) (course.block (suc j)) (course.signs j)
-    (each_below_passes k (λ j. is_split rel A (course.block j) (course.block (suc j)) (course.signs j))
-    (and_then_parts (is_one A (course.block 0)) (λ _.
-    each_below k (λ j. is_split rel A (course.block j) (course.block (suc j)) (course.signs j))) h).1 j l)
+    (j : ℕ) → j < k → Split rel A (block_at course j) (block_at course (suc j))
+runs_split rel A course k h j l = split_passes rel A (block_at course j) (block_at course (suc j)) (signs_at course j)
+    (runs_is_split rel A course k h j l)
 
 pub runs_after :
     (rel : Relation) (A : System) (course : Course) (k : ℕ) → runs rel A course k ≡ true →
-    (j : ℕ) → j ≤ k → After rel A j (course.block j)
-runs_after rel A course k h zero l = is_one_passes A (course.block 0)
-    (and_then_parts (is_one A (course.block 0)) (λ _.
-    each_below k (λ j. is_split rel A (course.block j) (course.block (suc j)) (course.signs j))) h).0
+    (j : ℕ) → j ≤ k → After rel A j (block_at course j)
+runs_after rel A course k h zero l = is_one_passes A (block_at course 0)
+    (and_then_parts (is_one A (block_at course 0)) (λ _.
+    each_below k (λ j. is_split rel A (block_at course j) (block_at course (suc j)) (signs_at course j))) h).0
 runs_after rel A course k h (suc j) l =
-    (course.block j, runs_after rel A course k h j (omega (arith, l)), runs_split rel A course k h j l)
+    (block_at course j, runs_after rel A course k h j (omega (arith, l)), runs_split rel A course k h j l)
 
 -- k + 1 Splits are made
 abbrev pub ends_after : Relation → System → Course → ℕ → Bool
 ends_after rel A course k =
     and_then (is_system A) (λ _. and_then (runs rel A course (suc k)) (λ _.
-    and_then (each_below k (λ j. parts_two A (course.block j) (course.block (suc j)) (course.parts j))) (λ _.
-    are_same A (course.block k) (course.block (suc k)))))
+    and_then (each_below k (λ j. parts_two A (block_at course j) (block_at course (suc j)) (parts_at course j))) (λ _.
+    are_same A (block_at course k) (block_at course (suc k)))))
 
 pub turns_pass :
     (rel : Relation) (A : System) (course : Course) (k : ℕ) → ends_after rel A course k ≡ true → Turns rel A (suc k)
 turns_pass rel A course k h = record {
   last = (
-    course.block k,
-    course.block (suc k),
+    block_at course k,
+    block_at course (suc k),
     runs_after rel A course (suc k) two.0 k (omega arith),
     runs_split rel A course (suc k) two.0 k (omega arith),
-    are_same_passes A (course.block k) (course.block (suc k)) three.1,
+    are_same_passes A (block_at course k) (block_at course (suc k)) three.1,
   );
   least = least;
 }
   where
     parted : Bool
-    parted = each_below k (λ j. parts_two A (course.block j) (course.block (suc j)) (course.parts j))
+    parted = each_below k (λ j. parts_two A (block_at course j) (block_at course (suc j)) (parts_at course j))
 
     one : (is_system A ≡ true) × (and_then (runs rel A course (suc k)) (λ _.
-        and_then parted (λ _. are_same A (course.block k) (course.block (suc k)))) ≡ true)
+        and_then parted (λ _. are_same A (block_at course k) (block_at course (suc k)))) ≡ true)
     one = and_then_parts (is_system A) (λ _. and_then (runs rel A course (suc k)) (λ _.
-        and_then parted (λ _. are_same A (course.block k) (course.block (suc k))))) h
+        and_then parted (λ _. are_same A (block_at course k) (block_at course (suc k))))) h
 
-    two : (runs rel A course (suc k) ≡ true) × (and_then parted (λ _. are_same A (course.block k) (course.block (suc k))) ≡ true)
+    two : (runs rel A course (suc k) ≡ true) × (and_then parted (λ _. are_same A (block_at course k) (block_at course (suc k))) ≡ true)
     two = and_then_parts (runs rel A course (suc k)) (λ _.
-        and_then parted (λ _. are_same A (course.block k) (course.block (suc k)))) one.1
+        and_then parted (λ _. are_same A (block_at course k) (block_at course (suc k)))) one.1
 
-    three : (parted ≡ true) × (are_same A (course.block k) (course.block (suc k)) ≡ true)
-    three = and_then_parts parted (λ _. are_same A (course.block k) (course.block (suc k))) two.1
+    three : (parted ≡ true) × (are_same A (block_at course k) (block_at course (suc k)) ≡ true)
+    three = and_then_parts parted (λ _. are_same A (block_at course k) (block_at course (suc k))) two.1
 
     system : IsSystem A
     system = system_passes A one.0
@@ -124,13 +142,26 @@ turns_pass rel A course k h = record {
     least zero l nothing = nothing
     least (suc j) l (old, new, after, split, same) =
         let low : j < k = omega (arith, l) in
-        let p = course.parts j in
-        let two_states = parts_two_passes A (course.block j) (course.block (suc j)) p
-        (each_below_passes k (λ i. parts_two A (course.block i) (course.block (suc i)) (course.parts i)) three.0 j low) in
-        let before = after_is_unique rel A system j (course.block j) old
+        let p = parts_at course j in
+        let two_states = parts_two_passes A (block_at course j) (block_at course (suc j)) p
+        (each_below_passes k (λ i. parts_two A (block_at course i) (block_at course (suc i)) (parts_at course i)) three.0 j low) in
+        let before = after_is_unique rel A system j (block_at course j) old
         (runs_after rel A course (suc k) two.0 j (omega (arith, l))) after in
-        let behind = same_split rel A system (course.block j) (course.block (suc j)) old new
+        let behind = same_split rel A system (block_at course j) (block_at course (suc j)) old new
         (runs_split rel A course (suc k) two.0 j (omega (arith, l))) split before in
         let share = (before p.0 p.1 two_states.0 two_states.1).1 two_states.2 in
         let still = (same p.0 p.1 two_states.0 two_states.1).1 share in
         two_states.3 ((behind p.0 p.1 two_states.0 two_states.1).0 still)
+
+-- and each of them is as the course says
+pub course_splits :
+    (rel : Relation) (A : System) (course : Course) (k : ℕ) → ends_after rel A course k ≡ true → (j : ℕ) → j ≤ k →
+    SplitsBy rel A (slice_index_or course.blocks j []) (slice_index_or course.signs j []) (slice_index_or course.blocks (suc j) [])
+course_splits rel A course k h j l =
+    let ended : Bool =
+    and_then (each_below k (λ j. parts_two A (block_at course j) (block_at course (suc j)) (parts_at course j))) (λ _.
+    are_same A (block_at course k) (block_at course (suc k))) in
+    let runs_on = (and_then_parts (runs rel A course (suc k)) (λ _. ended)
+    (and_then_parts (is_system A) (λ _. and_then (runs rel A course (suc k)) (λ _. ended)) h).1).0 in
+    splits_by rel A (slice_index_or course.blocks j []) (slice_index_or course.signs j []) (slice_index_or course.blocks (suc j) [])
+    (runs_is_split rel A course (suc k) runs_on j (omega (arith, l)))

@@ -1,9 +1,11 @@
 -- Splits of written-out systems, by tests that compute.
-use Rattle.std.proofs.Common.{◌≡◌, ◌↔◌, ℕ, ◌<◌, Bool, true, eqb, List, Contains}
+use Rattle.std.proofs.Common.{◌≡◌, ◌↔◌, ℕ, ◌<◌, Bool, true, eqb, List, [], Contains, slice_index}
+use Rattle.std.specs.List.{slice_index_or}
 use Rattle.std.proofs.lemmas.Bool.{eqb-true, eq-eqb}
 use Rattle.theory.specs.System.{System}
 use Rattle.theory.specs.Bisimulation.{Relation}
 use Rattle.theory.specs.Blocks.{Signature, SameSignature, Split}
+use Rattle.theory.specs.Examples.{SplitsBy}
 use Rattle.theory.proofs.Testing.{and_then, and_then_parts, and_then_from, each_below, each_below_passes, same_answer, same_answer_there, same_answer_back}
 use Rattle.theory.proofs.Testing.Signing.{Entry, lists_signature, signature_passes, same_entries, same_entries_there, same_entries_back}
 
@@ -17,6 +19,15 @@ is_split rel A old new signs =
     and_then (each_below A.states (λ s. lists_signature rel A old s (signs s))) (λ _.
     each_below A.states (λ s. each_below A.states (λ t. same_answer (eqb (new s) (new t)) (stays old signs s t))))
 
+-- the listed signatures are those of `old`
+listed_signatures :
+    (rel : Relation) (A : System) (old new : ℕ → ℕ) (signs : ℕ → List Entry) → is_split rel A old new signs ≡ true →
+    (s : ℕ) → s < A.states → (x : List ℕ) (n : ℕ) → Signature rel A old s x n ↔ Contains (signs s) (x, n)
+listed_signatures rel A old new signs h s l = signature_passes rel A old s (signs s)
+    (each_below_passes A.states (λ s. lists_signature rel A old s (signs s))
+    (and_then_parts (each_below A.states (λ s. lists_signature rel A old s (signs s))) (λ _.
+    each_below A.states (λ s. each_below A.states (λ t. same_answer (eqb (new s) (new t)) (stays old signs s t)))) h).0 s l)
+
 pub split_passes :
     (rel : Relation) (A : System) (old new : ℕ → ℕ) (signs : ℕ → List Entry) → is_split rel A old new signs ≡ true →
     Split rel A old new
@@ -28,8 +39,7 @@ split_passes rel A old new signs h s t ls lt = (there, back)
         each_below A.states (λ s. each_below A.states (λ t. same_answer (eqb (new s) (new t)) (stays old signs s t)))) h
 
     listed : (u : ℕ) → u < A.states → (x : List ℕ) (n : ℕ) → Signature rel A old u x n ↔ Contains (signs u) (x, n)
-    listed u l = signature_passes rel A old u (signs u)
-        (each_below_passes A.states (λ s. lists_signature rel A old s (signs s)) parts.0 u l)
+    listed = listed_signatures rel A old new signs h
 
     test : same_answer (eqb (new s) (new t)) (stays old signs s t) ≡ true
     test = each_below_passes A.states (λ v. same_answer (eqb (new s) (new v)) (stays old signs s v))
@@ -57,3 +67,12 @@ split_passes rel A old new signs h s t ls lt = (there, back)
           λ c. (listed t lt x n).0 ((k.1 x n).0 ((listed s ls x n).1 c)),
           λ c. (listed s ls x n).0 ((k.1 x n).1 ((listed t lt x n).1 c)),
         )))))
+
+-- written-out blocks are split by the listed signatures
+pub splits_by :
+    (rel : Relation) (A : System) (old : List ℕ) (pairs : List (List Entry)) (new : List ℕ) →
+    is_split rel A (slice_index old) (slice_index new) (λ s. slice_index_or pairs s []) ≡ true → SplitsBy rel A old pairs new
+splits_by rel A old pairs new h = record {
+  signatures = listed_signatures rel A (slice_index old) (slice_index new) (λ s. slice_index_or pairs s []) h;
+  split = split_passes rel A (slice_index old) (slice_index new) (λ s. slice_index_or pairs s []) h;
+}

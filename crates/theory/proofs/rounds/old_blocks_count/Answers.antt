@@ -3,8 +3,7 @@ use Rattle.std.proofs.Common.{[], ◌∷◌, get_or, slice_index, refl}
 use Rattle.theory.specs.System.{internal}
 use Rattle.theory.specs.Bisimulation.Relation.{strong, branching}
 use Rattle.theory.specs.Examples.{loop_and_rest}
-use Rattle.theory.proofs.Testing.Signing.{signature_passes}
-use Rattle.theory.proofs.Testing.Splitting.{split_passes}
+use Rattle.theory.proofs.Testing.Splitting.{split_passes, splits_by}
 use Rattle.theory.proofs.Testing.Repeating.{turns_pass}
 use Rattle.theory.proofs.Testing.Courses.{loop_and_rest_branching_course}
 use Rattle.theory.proofs.rounds.old_blocks_count.Goals as goal
@@ -14,14 +13,7 @@ returns-clause-strongly _ = split_passes strong loop_and_rest (λ _. 0) (slice_i
     (λ s. get_or (((internal, 0) ∷ []) ∷ [] ∷ []) s []) refl
 
 pub returns-clause-branching : goal.returns-clause-branching
-returns-clause-branching _ = split_passes branching loop_and_rest (slice_index (0 ∷ 1 ∷ [])) (slice_index (0 ∷ 1 ∷ []))
-    (λ s. []) refl
-
-pub returns-clause-empty_signature_of_0 : goal.returns-clause-empty_signature_of_0
-returns-clause-empty_signature_of_0 _ = signature_passes branching loop_and_rest (slice_index (0 ∷ 1 ∷ [])) 0 [] refl
-
-pub returns-clause-empty_signature_of_1 : goal.returns-clause-empty_signature_of_1
-returns-clause-empty_signature_of_1 _ = signature_passes branching loop_and_rest (slice_index (0 ∷ 1 ∷ [])) 1 [] refl
+returns-clause-branching _ = splits_by branching loop_and_rest _ _ _ refl
 
 pub returns-clause-turns : goal.returns-clause-turns
 returns-clause-turns _ = turns_pass branching loop_and_rest loop_and_rest_branching_course 0 refl
