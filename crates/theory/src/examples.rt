@@ -62,7 +62,8 @@ pub fn a_silent_choice()
     ensures signature_of_0 { SignatureIs branching silent_choice (λ _. 0) 0 ((a, 0) ∷ []) }
     ensures signature_of_1 { SignatureIs branching silent_choice (λ _. 0) 1 [] }
     ensures split { Split branching silent_choice (λ _. 0) (slice_index (0 ∷ 1 ∷ [])) }
-    ensures signature_after { SignatureIs branching silent_choice (slice_index (0 ∷ 1 ∷ [])) 0 ((a, 1) ∷ (internal, 1) ∷ []) }
+    ensures signature_after { SignatureIs branching silent_choice (slice_index (0 ∷ 1 ∷ [])) 0
+        ((a, 1) ∷ (internal, 1) ∷ []) }
     ensures split_again { Split branching silent_choice (slice_index (0 ∷ 1 ∷ [])) (slice_index (0 ∷ 1 ∷ [])) }
 {}
 

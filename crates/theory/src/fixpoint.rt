@@ -19,8 +19,10 @@ pub fn turns_exist()
 /// How refinement goes on: it begins with one block, has made fewer Splits than there are states as long as each changed
 /// something, and the first that changes nothing is the last.
 pub fn refinement_goes_on()
-    ensures begun { (rel : Relation) (A : System) (blocks : ℕ → ℕ) → IsSystem A → OneBlock A blocks → Underway rel A 0 blocks }
-    ensures below { (rel : Relation) (A : System) (k : ℕ) (blocks : ℕ → ℕ) → IsSystem A → Underway rel A k blocks → k < A.states }
+    ensures begun { (rel : Relation) (A : System) (blocks : ℕ → ℕ) →
+        IsSystem A → OneBlock A blocks → Underway rel A 0 blocks }
+    ensures below { (rel : Relation) (A : System) (k : ℕ) (blocks : ℕ → ℕ) →
+        IsSystem A → Underway rel A k blocks → k < A.states }
     ensures more { (rel : Relation) (A : System) (k : ℕ) (old new : ℕ → ℕ) →
         IsSystem A → Underway rel A k old → Split rel A old new → ¬ SameBlocks A old new → Underway rel A (suc k) new }
     ensures done { (rel : Relation) (A : System) (k : ℕ) (old new : ℕ → ℕ) →
@@ -37,7 +39,8 @@ pub fn final_blocks_are_bisimilarity()
 /// Bisimilarity of either relation is an equivalence on a system's states.
 pub fn bisimilarity_is_an_equivalence()
     ensures reflexive { (rel : Relation) (A : System) (s : ℕ) → IsSystem A → s < A.states → Bisimilar rel A s A s }
-    ensures symmetric { (rel : Relation) (A : System) (s t : ℕ) → IsSystem A → Bisimilar rel A s A t → Bisimilar rel A t A s }
+    ensures symmetric { (rel : Relation) (A : System) (s t : ℕ) → IsSystem A →
+        Bisimilar rel A s A t → Bisimilar rel A t A s }
     ensures transitive { (rel : Relation) (A : System) (s t u : ℕ) → IsSystem A →
         Bisimilar rel A s A t → Bisimilar rel A t A u → Bisimilar rel A s A u }
 {}

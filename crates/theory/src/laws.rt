@@ -12,7 +12,8 @@ pub fn one_block_is_kept()
 
 /// The Split of kept blocks is kept.
 pub fn splitting_keeps()
-    ensures { (rel : Relation) (A : System) (old new : ℕ → ℕ) → IsSystem A → Kept rel A old → Split rel A old new → Kept rel A new }
+    ensures { (rel : Relation) (A : System) (old new : ℕ → ℕ) →
+        IsSystem A → Kept rel A old → Split rel A old new → Kept rel A new }
 {}
 
 /// A bisimulation whose pairs share kept blocks has its pairs in the blocks of their Split.

@@ -41,7 +41,8 @@ pub fn each_state_has_a_number()
     ensures leader { (rel : Relation) (A : System) (s : ℕ) → IsSystem A → Reachable A s → (l : ℕ) × Leader rel A s l }
     ensures one_leader { (rel : Relation) (A : System) (s l m : ℕ) → Leader rel A s l → Leader rel A s m → l ≡ m }
     ensures number { (rel : Relation) (A : System) (s : ℕ) → IsSystem A → Reachable A s → (n : ℕ) × Number rel A s n }
-    ensures one_number { (rel : Relation) (A : System) (s m n : ℕ) → IsSystem A → Number rel A s m → Number rel A s n → m ≡ n }
+    ensures one_number { (rel : Relation) (A : System) (s m n : ℕ) → IsSystem A →
+        Number rel A s m → Number rel A s n → m ≡ n }
 {}
 
 /// Two reachable states have one number exactly where they are bisimilar.
@@ -52,7 +53,8 @@ pub fn numbers_are_classes()
 
 /// The numbers of the reachable states are the states of the quotient.
 pub fn numbers_are_states()
-    ensures below { (rel : Relation) (A Q : System) (s n : ℕ) → IsSystem A → Quotient rel A Q → Number rel A s n → n < Q.states }
+    ensures below { (rel : Relation) (A Q : System) (s n : ℕ) → IsSystem A → Quotient rel A Q →
+        Number rel A s n → n < Q.states }
     ensures taken { (rel : Relation) (A Q : System) (n : ℕ) → IsSystem A → Quotient rel A Q → n < Q.states →
         (s : ℕ) × Reachable A s × Number rel A s n }
 {}
@@ -69,13 +71,14 @@ pub fn quotient_is_equivalent()
 
 /// Each reachable state is bisimilar to its number in the quotient.
 pub fn states_are_bisimilar_to_their_numbers()
-    ensures { (rel : Relation) (A Q : System) (s n : ℕ) → IsSystem A → Quotient rel A Q → Reachable A s → Number rel A s n →
-        Bisimilar rel A s Q n }
+    ensures { (rel : Relation) (A Q : System) (s n : ℕ) → IsSystem A → Quotient rel A Q →
+        Reachable A s → Number rel A s n → Bisimilar rel A s Q n }
 {}
 
 /// No two states of the quotient are bisimilar.
 pub fn quotient_states_differ()
-    ensures { (rel : Relation) (A Q : System) (s t : ℕ) → IsSystem A → Quotient rel A Q → Bisimilar rel Q s Q t → s ≡ t }
+    ensures { (rel : Relation) (A Q : System) (s t : ℕ) → IsSystem A → Quotient rel A Q →
+        Bisimilar rel Q s Q t → s ≡ t }
 {}
 
 /// No equivalent system has fewer states than the quotient.
