@@ -1,10 +1,11 @@
-//! Refinement of systems that are known, by name.
+//! Refinement of systems that are known by name: what the tests of each relation share.
 ghost use Rattle.std.specs.Prelude.{◌≡◌, length, IfOk};
 
-use crate::{Marks, Partition, Sense, Signatures, Strong, refine, round};
+mod strong;
+
+use crate::{Marks, Partition, Sense, Signatures, refine, round};
 use lts::{Counter, Labels, Lts, Memory, Meter, in_range, is_label};
 use std::alloc::Global;
-use std::test::Fail;
 
 /// A system small enough to read: its states, its labels, and its transitions by number.
 struct Known {
@@ -12,36 +13,6 @@ struct Known {
     labels: [&'static [u8]; 3],
     transitions: &'static [(u32, u32, u32)],
 }
-
-const CHAIN_OF_THREE: Known = Known {
-    states: 4,
-    labels: [b"a", b"b", b"c"],
-    transitions: &[(0, 0, 1), (1, 0, 2), (2, 0, 3)],
-};
-
-const LABEL_ORDER: Known = Known {
-    states: 2,
-    labels: [b"a", b"B", b"!x"],
-    transitions: &[(0, 0, 1), (0, 1, 1), (0, 2, 1)],
-};
-
-const TWO_SPELLINGS: Known = Known {
-    states: 2,
-    labels: [b"a", b"b", b"c"],
-    transitions: &[(0, 0, 1), (0, 0, 1), (0, 0, 1)],
-};
-
-const LONE_STATE: Known = Known {
-    states: 1,
-    labels: [b"a", b"b", b"c"],
-    transitions: &[],
-};
-
-const OLD_BLOCKS: Known = Known {
-    states: 2,
-    labels: [b"i", b"b", b"c"],
-    transitions: &[(0, 0, 0)],
-};
 
 /// The system, or none where its parts do not fit.
 fn build(alloc: Global, known: &Known) -> Result<Option<Lts<Counter>>, Memory> {
@@ -84,7 +55,7 @@ fn one_block(alloc: Global, l: &Lts<Counter>) -> Result<Partition, Memory>
 }
 
 /// What so many rounds make of one block, a line each, and the rounds and visits that they counted.
-fn rounds(alloc: Global, known: &Known, many: u32) -> Result<String, Memory> {
+fn rounds<S: Sense>(alloc: Global, known: &Known, many: u32) -> Result<String, Memory> {
     let mut text = String::new(alloc);
     let Some(l) = build(alloc, known)? else {
         return Ok(text);
@@ -95,7 +66,7 @@ fn rounds(alloc: Global, known: &Known, many: u32) -> Result<String, Memory> {
         if !m.has_room(1, u128::from(l.edges())) || p.states() != l.states() {
             return Ok(text);
         }
-        p = round::<Strong, Counter>(alloc, &l, &p, &mut m)?;
+        p = round::<S, Counter>(alloc, &l, &p, &mut m)?;
         text.push_str(&format!(in alloc; "{}\n", &blocks(alloc, &p)?)?)?;
     }
     text.push_str(&format!(in alloc; "{} rounds, {} visits", m.rounds(), m.visits())?)?;
@@ -103,12 +74,12 @@ fn rounds(alloc: Global, known: &Known, many: u32) -> Result<String, Memory> {
 }
 
 /// The final blocks, and the rounds and visits that they took.
-fn refined(alloc: Global, known: &Known) -> Result<String, Memory> {
+fn refined<S: Sense>(alloc: Global, known: &Known) -> Result<String, Memory> {
     let Some(l) = build(alloc, known)? else {
         return Ok(String::new(alloc));
     };
     let mut m = Counter::new();
-    let p = refine::<Strong, Counter>(alloc, &l, &mut m)?;
+    let p = refine::<S, Counter>(alloc, &l, &mut m)?;
     let text = format!(in alloc;
         "{}; {} rounds, {} visits",
         &blocks(alloc, &p)?,
@@ -118,26 +89,8 @@ fn refined(alloc: Global, known: &Known) -> Result<String, Memory> {
     Ok(text)
 }
 
-/// The signature of state 0 under one block, behind what stood, and the visits.
-fn signed(alloc: Global, known: &Known, stood: &[(u32, u32)]) -> Result<String, Memory> {
-    let Some(l) = build(alloc, known)? else {
-        return Ok(String::new(alloc));
-    };
-    let mut m = Counter::new();
-    let p = one_block(alloc, &l)?;
-    let mut marks = Marks::new(alloc, l.states())?;
-    let mut out = Vec::from_slice(alloc, stood)?;
-    let (start, end) = l.row(0);
-    if !m.has_room(0, u128::from(end - start)) {
-        return Ok(String::new(alloc));
-    }
-    Strong::signature(alloc, &l, &p, 0, &mut marks, &mut out, &mut m)?;
-    let text = format!(in alloc; "{}; {} visits", &pairs(alloc, &out)?, m.visits())?;
-    Ok(text)
-}
-
 /// The signatures of all states under the blocks, filled into signatures that may be used again.
-fn filled(
+fn filled<S: Sense>(
     alloc: Global,
     l: &Lts<Counter>,
     p: &Partition,
@@ -152,7 +105,7 @@ fn filled(
 {
     l.known();
     let mut m = Counter::new();
-    signatures.fill::<Strong, Counter>(l, p, marks, &mut m)?;
+    signatures.fill::<S, Counter>(l, p, marks, &mut m)?;
     let mut text = String::new(alloc);
     for s in 0..signatures.states() {
         text.push_str(&format!(in alloc; "{{{}}}", &pairs(alloc, signatures.of(s))?)?)?;
@@ -161,34 +114,38 @@ fn filled(
 }
 
 /// The signatures of all states, and the blocks that they leave.
-fn table_row(alloc: Global, l: &Lts<Counter>, p: &Partition) -> Result<(Partition, String), Memory>
+fn table_row<S: Sense>(
+    alloc: Global,
+    l: &Lts<Counter>,
+    p: &Partition,
+) -> Result<(Partition, String), Memory>
     requires { length p.now ≡ l.now.states }
     ensures { IfOk result (λ r. length r.0 ≡ l.now.states) }
 {
     let mut marks = Marks::new(alloc, l.states())?;
     let mut signatures = Signatures::new(alloc, l.states())?;
-    let text = filled(alloc, l, p, &mut marks, &mut signatures)?;
+    let text = filled::<S>(alloc, l, p, &mut marks, &mut signatures)?;
     let split = signatures.split(p)?;
     let row = format!(in alloc; "{text}{}", &blocks(alloc, &split)?)?;
     Ok((split, row))
 }
 
 /// The signatures under the blocks after one round, and then, in the same marks and signatures, under one block.
-fn filled_after_a_round(alloc: Global, known: &Known) -> Result<String, Memory> {
+fn filled_after_a_round<S: Sense>(alloc: Global, known: &Known) -> Result<String, Memory> {
     let Some(l) = build(alloc, known)? else {
         return Ok(String::new(alloc));
     };
     let one = one_block(alloc, &l)?;
-    let (split, _) = table_row(alloc, &l, &one)?;
+    let (split, _) = table_row::<S>(alloc, &l, &one)?;
     let mut marks = Marks::new(alloc, l.states())?;
     let mut signatures = Signatures::new(alloc, l.states())?;
-    let first = filled(alloc, &l, &split, &mut marks, &mut signatures)?;
-    let second = filled(alloc, &l, &one, &mut marks, &mut signatures)?;
+    let first = filled::<S>(alloc, &l, &split, &mut marks, &mut signatures)?;
+    let second = filled::<S>(alloc, &l, &one, &mut marks, &mut signatures)?;
     Ok(format!(in alloc; "{first}, {second}")?)
 }
 
 /// The signatures of all states in each of so many rounds, and the blocks after it, a line each.
-fn table(alloc: Global, known: &Known, many: u32) -> Result<String, Memory> {
+fn table<S: Sense>(alloc: Global, known: &Known, many: u32) -> Result<String, Memory> {
     let mut text = String::new(alloc);
     let Some(l) = build(alloc, known)? else {
         return Ok(text);
@@ -198,74 +155,9 @@ fn table(alloc: Global, known: &Known, many: u32) -> Result<String, Memory> {
         if p.states() != l.states() {
             return Ok(text);
         }
-        let (split, row) = table_row(alloc, &l, &p)?;
+        let (split, row) = table_row::<S>(alloc, &l, &p)?;
         p = split;
         text.push_str(&format!(in alloc; "{row}\n")?)?;
     }
     Ok(text)
-}
-
-#[test]
-fn chain_rounds(rt: HostRuntime) -> Result<(), Fail> {
-    let text = rounds(rt.alloc(), &CHAIN_OF_THREE, 4)?;
-    let want = "2: 0 0 0 1\n3: 0 0 1 2\n4: 0 1 2 3\n4: 0 1 2 3\n4 rounds, 12 visits";
-    assert_eq!(rt; text.as_str(), want);
-    Ok(())
-}
-
-#[test]
-fn chain_of_three(rt: HostRuntime) -> Result<(), Fail> {
-    let text = table(rt.alloc(), &CHAIN_OF_THREE, 4)?;
-    let want = "{(0, 0)}{(0, 0)}{(0, 0)}{}2: 0 0 0 1\n\
-        {(0, 0)}{(0, 0)}{(0, 1)}{}3: 0 0 1 2\n\
-        {(0, 0)}{(0, 1)}{(0, 2)}{}4: 0 1 2 3\n\
-        {(0, 1)}{(0, 2)}{(0, 3)}{}4: 0 1 2 3\n";
-    assert_eq!(rt; text.as_str(), want);
-    Ok(())
-}
-
-/// A second fill leaves nothing of the first.
-#[test]
-fn chain_filled_twice(rt: HostRuntime) -> Result<(), Fail> {
-    let text = filled_after_a_round(rt.alloc(), &CHAIN_OF_THREE)?;
-    assert_eq!(rt;
-        text.as_str(),
-        "{(0, 0)}{(0, 0)}{(0, 1)}{}, {(0, 0)}{(0, 0)}{(0, 0)}{}"
-    );
-    Ok(())
-}
-
-#[test]
-fn chain_refined(rt: HostRuntime) -> Result<(), Fail> {
-    let text = refined(rt.alloc(), &CHAIN_OF_THREE)?;
-    assert_eq!(rt; text.as_str(), "4: 0 1 2 3; 4 rounds, 12 visits");
-    Ok(())
-}
-
-#[test]
-fn after_what_stood(rt: HostRuntime) -> Result<(), Fail> {
-    let text = signed(rt.alloc(), &LABEL_ORDER, &[(7, 7)])?;
-    assert_eq!(rt; text.as_str(), "(7, 7)(0, 0)(1, 0)(2, 0); 3 visits");
-    Ok(())
-}
-
-#[test]
-fn repeated_once(rt: HostRuntime) -> Result<(), Fail> {
-    let text = signed(rt.alloc(), &TWO_SPELLINGS, &[])?;
-    assert_eq!(rt; text.as_str(), "(0, 0); 3 visits");
-    Ok(())
-}
-
-#[test]
-fn lone_state_refined(rt: HostRuntime) -> Result<(), Fail> {
-    let text = refined(rt.alloc(), &LONE_STATE)?;
-    assert_eq!(rt; text.as_str(), "1: 0; 1 rounds, 0 visits");
-    Ok(())
-}
-
-#[test]
-fn old_blocks_count(rt: HostRuntime) -> Result<(), Fail> {
-    let text = rounds(rt.alloc(), &OLD_BLOCKS, 1)?;
-    assert_eq!(rt; text.as_str(), "2: 0 1\n1 rounds, 1 visits");
-    Ok(())
 }
