@@ -7,18 +7,18 @@ use Rattle.theory.specs.Bisimulation.{Relation, Bisimilar}
 use Rattle.theory.specs.Blocks.{EachTwo}
 use Rattle.theory.specs.Quotient.{HowMany, Leader, IsLeader, Number}
 use Rattle.quotient.specs.Marked.{IsMarked}
-use Rattle.quotient.specs.Numbers.{IsNumbering, Opens, Follows, Adds, none}
+use Rattle.quotient.specs.Numbers.{IsNumbering, Opens, Follows, TakesState, none}
 use Rattle.quotient.specs.declared.numbering.Numbering.{Numbering}
 
 -- what the next state leaves, whatever the relation: numbers for as many blocks, and at most one number more
-pub Adds-within : (b : ℕ) (reached first : Bool) (old new : Numbering) → Adds b reached first old new → (states : ℕ) (block : ℕ → ℕ) →
+pub TakesState-within : (b : ℕ) (reached first : Bool) (old new : Numbering) → TakesState b reached first old new → (states : ℕ) (block : ℕ → ℕ) →
     ((t : ℕ) → t < states → block t < length old.by_block.items) → (t : ℕ) → t < states → block t < length new.by_block.items
-Adds-within b reached first old new (inl o) states block within t l = rw o.by_block (omega (arith, length-set {A = ℕ}, within t l))
-Adds-within b reached first old new (inr f) states block within t l = rw f.by_block (within t l)
+TakesState-within b reached first old new (inl o) states block within t l = rw o.by_block (omega (arith, length-set {A = ℕ}, within t l))
+TakesState-within b reached first old new (inr f) states block within t l = rw f.by_block (within t l)
 
-pub Adds-few : (b : ℕ) (reached first : Bool) (old new : Numbering) → Adds b reached first old new → new.count ≤ old.count + 1
-Adds-few b reached first old new (inl o) = omega (arith, o.count)
-Adds-few b reached first old new (inr f) = omega (arith, f.count)
+pub TakesState-few : (b : ℕ) (reached first : Bool) (old new : Numbering) → TakesState b reached first old new → new.count ≤ old.count + 1
+TakesState-few b reached first old new (inl o) = omega (arith, o.count)
+TakesState-few b reached first old new (inr f) = omega (arith, f.count)
 
 -- the leaders below s, but for the first state
 abbrev pub Other : Relation → System → ℕ → ℕ → Type 0
@@ -283,12 +283,12 @@ module _ (rel : Relation) (A : System) (block : ℕ → ℕ) (laws : Laws rel A 
   }
 
   taken_either : (s : ℕ) (old new : Numbering) (reached first : Bool) → (IsTrue first ↔ (s ≡ A.first)) → (IsTrue reached ↔ Reachable A s) →
-      s < A.states → s + 1 < none → Taken rel A block s old → Adds (block s) reached first old new → Taken rel A block (s + 1) new
+      s < A.states → s + 1 < none → Taken rel A block s old → TakesState (block s) reached first old new → Taken rel A block (s + 1) new
   taken_either s old new reached first is_first is_reached ls low h (inl o) = Taken-opens s old new reached is_reached ls low h o
   taken_either s old new reached first is_first is_reached ls low h (inr f) = Taken-follows s old new reached first is_first is_reached ls h f
 
   -- one state more
   pub Taken-adds : (s b : ℕ) (old new : Numbering) (reached first : Bool) → b ≡ block s → (IsTrue first ↔ (s ≡ A.first)) → (IsTrue reached ↔ Reachable A s) →
-      s < A.states → s + 1 < none → Taken rel A block s old → Adds b reached first old new → Taken rel A block (s + 1) new
+      s < A.states → s + 1 < none → Taken rel A block s old → TakesState b reached first old new → Taken rel A block (s + 1) new
   Taken-adds s b old new reached first at is_first is_reached ls low h adds =
-      taken_either s old new reached first is_first is_reached ls low h (subst (λ x. Adds x reached first old new) at adds)
+      taken_either s old new reached first is_first is_reached ls low h (subst (λ x. TakesState x reached first old new) at adds)

@@ -15,7 +15,7 @@ use Rattle.lts.specs.Lts.{Triple, source_of, label_of, target_of, row_of, transi
 use Rattle.quotient.specs.Marked.{IsMarked}
 use Rattle.quotient.specs.Reading.{rows_of, IsDroppedLabel}
 use Rattle.quotient.specs.Numbers.{IsNumbering}
-use Rattle.quotient.specs.Triples.{between_numbers, is_left_out, shown_by, IsShownBelow}
+use Rattle.quotient.specs.Triples.{between_numbers, is_left_out, IsShownBelow}
 use Rattle.quotient.specs.declared.numbering.Numbering.{Numbering}
 use Rattle.quotient.proofs.Lists.{has_mapped, mapped_has, apart_append}
 use Rattle.quotient.proofs.Rows.{ShownPlace, place_of, shown_place}

@@ -4,14 +4,14 @@ use Rattle.std.specs.List.{filter}
 use Rattle.std.proofs.lemmas.Grind.{get_or-set_at}
 use Rattle.std.proofs.lemmas.Bool.{cases_eq, cases_lt, both_ways, eq-eqb, ne_eqb}
 use Rattle.std.proofs.lemmas.List.{get_or-set_same, get_or-set_other, length-replicate, get_or-map, get_or_past, length_push, length-map, length-set}
-use Rattle.std.proofs.lemmas.List.Elements.{Contains-push, Contains-push_cases, Contains-append_left, Contains-append_right, Contains-append_cases}
+use Rattle.std.proofs.lemmas.List.Elements.{Contains-push, Contains-push_cases, Contains-append_left}
 use Rattle.std.proofs.lemmas.List.Sums.{sum_by_push, sum_by-set, length-filter, count_by-le-length}
 use Rattle.theory.specs.System.{Step, Reachable}
 use Rattle.lts.specs.Labels.{text_of}
 use Rattle.lts.specs.Lts.{Triple, source_of, label_of, target_of, place_at, transition_of, row_of, Grouped, system_of, IsRow}
 use Rattle.quotient.specs.Marked.{IsMarked}
 use Rattle.quotient.proofs.Lists.{no_element, head_or_tail, at_head, in_tail}
-use Rattle.quotient.specs.Search.{Marks, Searches, states_ahead, places_ahead}
+use Rattle.quotient.specs.Search.{MarksState, Searches, states_ahead, places_ahead}
 
 -- marks
 
@@ -31,18 +31,18 @@ none_marked zero s = refl
 none_marked (suc n) zero = refl
 none_marked (suc n) (suc s) = none_marked n s
 
-module _ (s : ℕ) (old : List Bool) (old_waiting : List ℕ) (new : List Bool) (new_waiting : List ℕ) (marks : Marks s old old_waiting new new_waiting) where
-  Marks-size : length new ≡ length old
-  Marks-size = elim marks [ inl h ↦ ap length h.1 | inr h ↦ ap length h.1 ∙ length-set old s true ]
+module _ (s : ℕ) (old : List Bool) (old_waiting : List ℕ) (new : List Bool) (new_waiting : List ℕ) (marks : MarksState s old old_waiting new new_waiting) where
+  MarksState-size : length new ≡ length old
+  MarksState-size = elim marks [ inl h ↦ ap length h.1 | inr h ↦ ap length h.1 ∙ length-set old s true ]
 
-  Marks-self : s < length old → IsMarked new s
-  Marks-self l = elim marks [
+  MarksState-self : s < length old → IsMarked new s
+  MarksState-self l = elim marks [
     | inl h ↦ subst (λ x. IsMarked x s) (sym h.1) h.0
     | inr h ↦ subst (λ x. IsMarked x s) (sym h.1) (get_or-set_same old s true false l)
   ]
 
-  Marks-keeps : s < length old → (t : ℕ) → IsMarked old t → IsMarked new t
-  Marks-keeps l t m = elim marks [
+  MarksState-keeps : s < length old → (t : ℕ) → IsMarked old t → IsMarked new t
+  MarksState-keeps l t m = elim marks [
     | inl h ↦ subst (λ x. IsMarked x t) (sym h.1) m
     | inr h ↦ subst (λ x. IsMarked x t) (sym h.1) (elim (cases_eq t s) [
       | inl e ↦ get_or-set_at old s t true false e l
@@ -51,8 +51,8 @@ module _ (s : ℕ) (old : List Bool) (old_waiting : List ℕ) (new : List Bool) 
   ]
 
   -- what is marked now was marked before, or is s and waits
-  Marks-new : (t : ℕ) → IsMarked new t → IsMarked old t ⊎ ((t ≡ s) × Contains new_waiting t)
-  Marks-new t m = elim marks [
+  MarksState-new : (t : ℕ) → IsMarked new t → IsMarked old t ⊎ ((t ≡ s) × Contains new_waiting t)
+  MarksState-new t m = elim marks [
     | inl h ↦ inl (subst (λ x. IsMarked x t) h.1 m)
     | inr h ↦ elim (cases_eq t s) [
       | inl e ↦ inr (e, subst (λ ws. Contains ws t) (sym h.2) (subst (λ x. Contains (old_waiting ++ s ∷ []) x) (sym e) (Contains-push old_waiting s)))
@@ -60,14 +60,14 @@ module _ (s : ℕ) (old : List Bool) (old_waiting : List ℕ) (new : List Bool) 
     ]
   ]
 
-  Marks-waits : (t : ℕ) → Contains old_waiting t → Contains new_waiting t
-  Marks-waits t c = elim marks [
+  MarksState-waits : (t : ℕ) → Contains old_waiting t → Contains new_waiting t
+  MarksState-waits t c = elim marks [
     | inl h ↦ subst (λ ws. Contains ws t) (sym h.2) c
     | inr h ↦ subst (λ ws. Contains ws t) (sym h.2) (Contains-append_left old_waiting (s ∷ []) t c)
   ]
 
-  Marks-waiting : (t : ℕ) → Contains new_waiting t → (s ≡ t) ⊎ Contains old_waiting t
-  Marks-waiting t c = elim marks [
+  MarksState-waiting : (t : ℕ) → Contains new_waiting t → (s ≡ t) ⊎ Contains old_waiting t
+  MarksState-waiting t c = elim marks [
     | inl h ↦ inr (subst (λ ws. Contains ws t) h.2 c)
     | inr h ↦ elim (Contains-push_cases old_waiting s t (subst (λ ws. Contains ws t) h.2 c)) [ inl d ↦ inr d | inr e ↦ inl e ]
   ]
@@ -95,10 +95,10 @@ abbrev pub TargetsMarked : List Triple → List Bool → ℕ → ℕ → Type 0
 TargetsMarked places marked start k = (j : ℕ) → start ≤ j → j < k → IsMarked marked (target_of (place_at places j))
 
 pub TargetsMarked-more : (places : List Triple) (start k t : ℕ) (old : List Bool) (waiting : List ℕ) (new : List Bool) (pushed : List ℕ) → t < length old →
-    t ≡ target_of (place_at places k) → Marks t old waiting new pushed → TargetsMarked places old start k → TargetsMarked places new start (k + 1)
+    t ≡ target_of (place_at places k) → MarksState t old waiting new pushed → TargetsMarked places old start k → TargetsMarked places new start (k + 1)
 TargetsMarked-more places start k t old waiting new pushed l target marks read j low high = elim (cases_eq j k) [
-  | inl e ↦ subst (IsMarked new) (target ∙ ap (λ x. target_of (place_at places x)) (sym e)) (Marks-self t old waiting new pushed marks l)
-  | inr d ↦ Marks-keeps t old waiting new pushed marks l (target_of (place_at places j)) (read j low (omega (arith, high, d)))
+  | inl e ↦ subst (IsMarked new) (target ∙ ap (λ x. target_of (place_at places x)) (sym e)) (MarksState-self t old waiting new pushed marks l)
+  | inr d ↦ MarksState-keeps t old waiting new pushed marks l (target_of (place_at places j)) (read j low (omega (arith, high, d)))
 ]
 
 -- the search
@@ -112,20 +112,20 @@ Searches-below g marked s stack search = elim (cases_lt s (length marked)) [
 
 -- the first state alone is marked, and waits
 pub Searches-start : (g : Grouped) (marked : List Bool) (waiting : List ℕ) → g.first < g.states → Reachable (system_of g) g.first →
-    Marks g.first (replicate g.states false) [] marked waiting → Searches g marked waiting
+    MarksState g.first (replicate g.states false) [] marked waiting → Searches g marked waiting
 Searches-start g marked waiting l reached marks =
     let size = length-replicate g.states false in
     let below : g.first < length (replicate g.states false) = omega arith in
-    let new = Marks-new g.first (replicate g.states false) [] marked waiting marks in
-    let self = Marks-self g.first (replicate g.states false) [] marked waiting marks below in
+    let new = MarksState-new g.first (replicate g.states false) [] marked waiting marks in
+    let self = MarksState-self g.first (replicate g.states false) [] marked waiting marks below in
     record {
-      size = Marks-size g.first (replicate g.states false) [] marked waiting marks ∙ size;
+      size = MarksState-size g.first (replicate g.states false) [] marked waiting marks ∙ size;
       first = self;
       only_reachable = λ s m. elim (new s m) [
         | inl h ↦ absurd (both_ways _ (none_marked g.states s) h)
         | inr h ↦ subst (Reachable (system_of g)) (sym h.0) reached
       ];
-      each_waiting = λ s c. elim (Marks-waiting g.first (replicate g.states false) [] marked waiting marks s c) [
+      each_waiting = λ s c. elim (MarksState-waiting g.first (replicate g.states false) [] marked waiting marks s c) [
         | inl e ↦ subst (IsMarked marked) e self
         | inr d ↦ absurd (no_element s d)
       ];
@@ -158,30 +158,30 @@ Searches-taken g marked waiting stack s e search = record {
 -- a step of s leads to t, which is marked
 Searches-mark : (g : Grouped) (s t : ℕ) (old : List Bool) (stack : List ℕ) (new : List Bool) (pushed : List ℕ) →
     t < g.states → (Reachable (system_of g) s → Reachable (system_of g) t) →
-    Searches g old (s ∷ stack) → Marks t old stack new pushed → Searches g new (s ∷ pushed)
+    Searches g old (s ∷ stack) → MarksState t old stack new pushed → Searches g new (s ∷ pushed)
 Searches-mark g s t old stack new pushed l reached_on search marks =
     let below : t < length old = omega (arith, search.size) in
-    let keeps = Marks-keeps t old stack new pushed marks below in
+    let keeps = MarksState-keeps t old stack new pushed marks below in
     record {
-      size = Marks-size t old stack new pushed marks ∙ search.size;
+      size = MarksState-size t old stack new pushed marks ∙ search.size;
       first = keeps g.first search.first;
-      only_reachable = λ u m. elim (Marks-new t old stack new pushed marks u m) [
+      only_reachable = λ u m. elim (MarksState-new t old stack new pushed marks u m) [
         | inl h ↦ search.only_reachable u h
         | inr h ↦
             subst (Reachable (system_of g)) (sym h.0) (reached_on (search.only_reachable s (search.each_waiting s (at_head s stack))))
       ];
       each_waiting = λ u c. elim (head_or_tail s pushed u c) [
         | inl e ↦ keeps u (search.each_waiting u (subst (Contains (s ∷ stack)) e (at_head s stack)))
-        | inr d ↦ elim (Marks-waiting t old stack new pushed marks u d) [
-          | inl e ↦ subst (IsMarked new) e (Marks-self t old stack new pushed marks below)
+        | inr d ↦ elim (MarksState-waiting t old stack new pushed marks u d) [
+          | inl e ↦ subst (IsMarked new) e (MarksState-self t old stack new pushed marks below)
           | inr f ↦ keeps u (search.each_waiting u (in_tail s stack u f))
         ]
       ];
-      followed = λ u v b m next. elim (Marks-new t old stack new pushed marks u m) [
+      followed = λ u v b m next. elim (MarksState-new t old stack new pushed marks u m) [
         | inl h ↦ elim (search.followed u v b h next) [
           | inl c ↦ inl (elim (head_or_tail s stack u c) [
             | inl e ↦ subst (Contains (s ∷ pushed)) e (at_head s pushed)
-            | inr d ↦ in_tail s pushed u (Marks-waits t old stack new pushed marks u d)
+            | inr d ↦ in_tail s pushed u (MarksState-waits t old stack new pushed marks u d)
           ])
           | inr d ↦ inr (keeps v d)
         ]
@@ -193,7 +193,7 @@ Searches-mark g s t old stack new pushed l reached_on search marks =
 pub Searches-place : (g : Grouped) (s start end k t : ℕ) (old : List Bool) (stack : List ℕ) (new : List Bool) (pushed : List ℕ) →
     ((a : List ℕ) → Reachable (system_of g) s → Step (system_of g) s a t → Reachable (system_of g) t) →
     IsRow g.places s start end → start ≤ k → k < end → t ≡ target_of (place_at g.places k) → t < g.states →
-    Searches g old (s ∷ stack) → Marks t old stack new pushed → Searches g new (s ∷ pushed)
+    Searches g old (s ∷ stack) → MarksState t old stack new pushed → Searches g new (s ∷ pushed)
 Searches-place g s start end k t old stack new pushed reached_on row low high target l search marks =
     let below : k < length g.places = omega (arith, row.within) in
     let a = text_of g.labels (label_of (place_at g.places k)) in
@@ -266,7 +266,7 @@ module _ (marked : List Bool) (t : ℕ) (unmarked : get_or marked t false ≡ fa
       omega arith
 
 pub places_ahead-marks : (places : List Triple) (t : ℕ) (old : List Bool) (waiting : List ℕ) (new : List Bool) (pushed : List ℕ) → t < length old →
-    Marks t old waiting new pushed → places_ahead places new pushed ≡ places_ahead places old waiting
+    MarksState t old waiting new pushed → places_ahead places new pushed ≡ places_ahead places old waiting
 places_ahead-marks places t old waiting new pushed l marks = elim marks [
   | inl h ↦ ap (λ x. places_ahead places x pushed) h.1 ∙ ap (places_ahead places old) h.2
   | inr h ↦
@@ -276,7 +276,7 @@ places_ahead-marks places t old waiting new pushed l marks = elim marks [
 ]
 
 pub states_ahead-marks : (t : ℕ) (old : List Bool) (waiting : List ℕ) (new : List Bool) (pushed : List ℕ) → t < length old →
-    Marks t old waiting new pushed → states_ahead new pushed ≡ states_ahead old waiting
+    MarksState t old waiting new pushed → states_ahead new pushed ≡ states_ahead old waiting
 states_ahead-marks t old waiting new pushed l marks = elim marks [
   | inl h ↦ ap (λ x. states_ahead x pushed) h.1 ∙ ap (states_ahead old) h.2
   | inr h ↦

@@ -1,7 +1,6 @@
 -- The union of two systems in memory: its sizes.
-use Rattle.std.proofs.Common.{◌≡◌, ℕ, ◌+◌, length, map, ap, arith}
+use Rattle.std.proofs.Common.{◌≡◌, ◌+◌, length, map, ap, arith}
 use Rattle.std.proofs.lemmas.List.{length-append, length-map}
-use Rattle.theory.specs.System.{System}
 use Rattle.theory.specs.Union.{union_of, shifted}
 use Rattle.lts.specs.Lts.{Grouped, transition_of, system_of}
 

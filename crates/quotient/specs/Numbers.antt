@@ -37,5 +37,5 @@ pub record Follows (b : ℕ) (reached first : Bool) (old new : Numbering) : Type
   pub count : new.count ≡ old.count
 
 -- the next state is taken
-abbrev pub Adds : ℕ → Bool → Bool → Numbering → Numbering → Type 0
-Adds b reached first old new = Opens b reached old new ⊎ Follows b reached first old new
+abbrev pub TakesState : ℕ → Bool → Bool → Numbering → Numbering → Type 0
+TakesState b reached first old new = Opens b reached old new ⊎ Follows b reached first old new

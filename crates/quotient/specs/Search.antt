@@ -1,13 +1,13 @@
 -- Private. The search for the reachable states: which states are marked, and those of them whose rows are still to be read.
-use Rattle.std.specs.Prelude.{◌≡◌, ◌⊎◌, ℕ, ◌+◌, Bool, true, false, not, IsTrue, List, [], ◌∷◌, ◌++◌, length, slice_set}
+use Rattle.std.specs.Prelude.{◌≡◌, ◌⊎◌, ℕ, ◌+◌, Bool, true, false, not, List, [], ◌∷◌, ◌++◌, length, slice_set}
 use Rattle.std.specs.List.{Contains, slice_index_or, filter, sum_by, count_by}
 use Rattle.theory.specs.System.{Step, Reachable}
 use Rattle.lts.specs.Lts.{Triple, source_of, row_of, Grouped, system_of}
 use Rattle.quotient.specs.Marked.{IsMarked}
 
 -- the state s stays as it was where it was marked, and else is marked and waits at the end
-abbrev pub Marks : ℕ → List Bool → List ℕ → List Bool → List ℕ → Type 0
-Marks s old old_waiting new new_waiting =
+abbrev pub MarksState : ℕ → List Bool → List ℕ → List Bool → List ℕ → Type 0
+MarksState s old old_waiting new new_waiting =
     (IsMarked old s × (new ≡ old) × (new_waiting ≡ old_waiting))
     ⊎ (¬ IsMarked old s × (new ≡ slice_set old s true) × (new_waiting ≡ old_waiting ++ s ∷ []))
 

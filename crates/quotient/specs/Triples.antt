@@ -1,5 +1,5 @@
 -- Private. The transitions of the quotient, by number: what the rows of some states show.
-use Rattle.std.specs.Prelude.{◌≡◌, ◌≢◌, ◌↔◌, ℕ, ◌+◌, ◌<◌, ◌≤◌, ◌==◌, ◌&&◌, Bool, false, not, Option, None, Some, List, ◌++◌, length, map, slice_index}
+use Rattle.std.specs.Prelude.{◌≡◌, ◌↔◌, ℕ, ◌<◌, ◌≤◌, ◌==◌, ◌&&◌, Bool, false, not, Option, None, Some, List, ◌++◌, length, map, slice_index}
 use Rattle.std.specs.List.{Contains, filter}
 use Rattle.lts.specs.Lts.{Triple, source_of, label_of, target_of, row_of}
 use Rattle.quotient.specs.Marked.{IsMarked}

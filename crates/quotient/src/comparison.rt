@@ -13,10 +13,11 @@ use crate::relation::Relation;
 use lts::{Lts, Memory, Meter, union};
 use std::alloc::Global;
 
-/// Whether the first states of two systems are bisimilar. The systems have to fit together, and the meter has to be fresh.
+/// Whether the first states of two systems are bisimilar. The systems have to fit together, and the meter has to be
+/// fresh.
 ///
-/// It takes the rounds of one refinement of the union, at most as many as both have states. Each transition is visited once
-/// for the union, and once a round.
+/// It takes the rounds of one refinement of the union, at most as many as both have states. Each transition is visited
+/// once for the union, and once a round.
 ///
 /// Fails if there is no memory for it. There is no verdict then, and the meter keeps to the same upper bounds.
 pub fn equivalent<M: Meter>(

@@ -19,11 +19,13 @@ use crate::triples::shown_triples;
 use lts::{Counter, Lts, Memory, Meter};
 use std::alloc::Global;
 
-/// The quotient of a system: the smallest that is equivalent to it, with a state for each class of bisimilar reachable
-/// states, the first one numbered 0 and the others in the order of their least reachable members. It takes the rounds of one
-/// refinement, and visits within the relation's allowance; the meter has to be fresh.
+/// The quotient of a system: the smallest system that is equivalent to it.
 ///
-/// Fails where there is no memory for it. There is no system then, and the meter keeps to the same bounds.
+/// It has a state for each class of bisimilar reachable states. The class of the first state is numbered 0, and the
+/// others follow in the order of their least reachable members. The meter has to be fresh. It takes the rounds of one
+/// refinement; for `r` rounds and `m` transitions there are at least `r * m` visits and at most `(r + 2) * m`.
+///
+/// Fails if there is no memory for it. There is no system then, and the meter keeps to the same upper bounds.
 pub fn minimise<M: Meter>(
     alloc: Global,
     l: &Lts<M>,

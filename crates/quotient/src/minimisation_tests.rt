@@ -1,61 +1,26 @@
 //! The quotients of systems small enough to read.
+use crate::test_systems::{Step, show_row, system};
 use crate::{Relation, minimise};
-use lts::{Counter, Labels, Lts, Memory, Meter, in_range, is_label};
+use lts::{Counter, Lts, Memory, Meter};
 use std::alloc::Global;
 use std::test::Fail;
 
-/// The system of these steps; of a single state where they are out of range.
-fn system(
+/// The quotient behind the name of the example: how many rounds were made to find it, its first state, how many states
+/// there are and its steps.
+fn shown(
     alloc: Global,
-    first: u32,
-    states: u32,
-    steps: &[(u32, &[u8], u32)],
-) -> Result<Lts<Counter>, Memory> {
-    let mut labels = Labels::new(alloc);
-    let mut e = Vec::new(alloc);
-    for (source, label, target) in steps {
-        if is_label(label) && labels.len() < 20_000_000 {
-            e.push((*source, labels.intern(label)?, *target))?;
-        }
-    }
-    if in_range(&labels, first, states, &e) {
-        Lts::build(alloc, labels, first, states, e)
-    } else {
-        Lts::build(alloc, Labels::new(alloc), 0, 1, Vec::new(alloc))
-    }
-}
-
-/// The steps of a state.
-fn show_row(alloc: Global, l: &Lts<Counter>, s: u32, text: &mut String) -> Result<(), Memory> {
+    name: &str,
+    l: &Lts<Counter>,
+    relation: Relation,
+) -> Result<String, Memory> {
     let mut m = Counter::new();
-    if s < l.states() {
-        let (start, end) = l.row(s);
-        for k in start..end {
-            if k < l.edges() && m.has_room(0, 1) {
-                let (label, target) = l.edge(k, &mut m);
-                text.push_str(&format!(in alloc; "; {s} ")?)?;
-                show_label(l, label, text)?;
-                text.push_str(&format!(in alloc; " {target}")?)?;
-            }
-        }
-    }
-    Ok(())
-}
-
-fn show_label(l: &Lts<Counter>, label: u32, text: &mut String) -> Result<(), Memory> {
-    if label < l.labels().len() {
-        for b in l.labels().text(label) {
-            text.push(*b as char)?;
-        }
-    }
-    Ok(())
-}
-
-/// The first state, how many there are and the steps of the quotient, and how many rounds were made to find it.
-fn shown(alloc: Global, l: &Lts<Counter>) -> Result<String, Memory> {
-    let mut m = Counter::new();
-    let q = minimise(alloc, l, Relation::Strong, &mut m)?;
-    let mut text = format!(in alloc; "{} rounds: {} of {}", m.rounds(), q.first(), q.states())?;
+    let q = minimise(alloc, l, relation, &mut m)?;
+    let mut text = format!(in alloc;
+        "{name}: {} rounds: {} of {}",
+        m.rounds(),
+        q.first(),
+        q.states()
+    )?;
     for s in 0..q.states() {
         show_row(alloc, &q, s, &mut text)?;
     }
@@ -63,157 +28,96 @@ fn shown(alloc: Global, l: &Lts<Counter>) -> Result<String, Memory> {
 }
 
 #[test]
-fn two_equal_targets(rt: HostRuntime) -> Result<(), Fail> {
-    let text = shown(
-        rt.alloc(),
-        &system(rt.alloc(), 0, 3, &[(0, b"a", 1), (0, b"a", 2)])?,
-    )?;
-    assert_eq!(rt; text.as_str(), "2 rounds: 0 of 2; 0 a 1");
-    Ok(())
-}
-
-#[test]
-fn lone_state(rt: HostRuntime) -> Result<(), Fail> {
-    let text = shown(rt.alloc(), &system(rt.alloc(), 0, 1, &[])?)?;
-    assert_eq!(rt; text.as_str(), "1 rounds: 0 of 1");
-    Ok(())
-}
-
-#[test]
-fn unreachable_pair(rt: HostRuntime) -> Result<(), Fail> {
-    let text = shown(rt.alloc(), &system(rt.alloc(), 0, 3, &[(1, b"a", 2)])?)?;
-    assert_eq!(rt; text.as_str(), "2 rounds: 0 of 1");
-    Ok(())
-}
-
-#[test]
-fn chain_of_three(rt: HostRuntime) -> Result<(), Fail> {
-    let text = shown(
-        rt.alloc(),
-        &system(
-            rt.alloc(),
+fn quotients_by_strong_bisimulation(rt: HostRuntime) -> Result<(), Fail> {
+    let table: [(&str, u32, u32, &[Step], &str); 15] = [
+        ("lone-state", 0, 1, &[], "lone-state: 1 rounds: 0 of 1"),
+        (
+            "two-equal-targets",
+            0,
+            3,
+            &[(0, b"a", 1), (0, b"a", 2)],
+            "two-equal-targets: 2 rounds: 0 of 2; 0 a 1",
+        ),
+        (
+            "unreachable-pair",
+            0,
+            3,
+            &[(1, b"a", 2)],
+            "unreachable-pair: 2 rounds: 0 of 1",
+        ),
+        (
+            "chain-of-three",
             0,
             4,
             &[(0, b"a", 1), (1, b"a", 2), (2, b"a", 3)],
-        )?,
-    )?;
-    assert_eq!(rt; text.as_str(), "4 rounds: 0 of 4; 0 a 1; 1 a 2; 2 a 3");
-    Ok(())
-}
-
-#[test]
-fn two_spellings(rt: HostRuntime) -> Result<(), Fail> {
-    let text = shown(
-        rt.alloc(),
-        &system(
-            rt.alloc(),
+            "chain-of-three: 4 rounds: 0 of 4; 0 a 1; 1 a 2; 2 a 3",
+        ),
+        (
+            "two-spellings",
             0,
             2,
             &[(0, b"a", 1), (0, b"a", 1), (0, b"a", 1)],
-        )?,
-    )?;
-    assert_eq!(rt; text.as_str(), "2 rounds: 0 of 2; 0 a 1");
-    Ok(())
-}
-
-#[test]
-fn blanks_and_quotes(rt: HostRuntime) -> Result<(), Fail> {
-    let text = shown(
-        rt.alloc(),
-        &system(rt.alloc(), 0, 2, &[(0, b"SEND !1", 1)])?,
-    )?;
-    assert_eq!(rt; text.as_str(), "2 rounds: 0 of 2; 0 SEND !1 1");
-    Ok(())
-}
-
-#[test]
-fn first_is_one(rt: HostRuntime) -> Result<(), Fail> {
-    let text = shown(rt.alloc(), &system(rt.alloc(), 1, 2, &[])?)?;
-    assert_eq!(rt; text.as_str(), "1 rounds: 0 of 1");
-    Ok(())
-}
-
-#[test]
-fn label_order(rt: HostRuntime) -> Result<(), Fail> {
-    let text = shown(
-        rt.alloc(),
-        &system(
-            rt.alloc(),
+            "two-spellings: 2 rounds: 0 of 2; 0 a 1",
+        ),
+        (
+            "blanks-and-quotes",
+            0,
+            2,
+            &[(0, b"SEND !1", 1)],
+            "blanks-and-quotes: 2 rounds: 0 of 2; 0 SEND !1 1",
+        ),
+        ("first-is-one", 1, 2, &[], "first-is-one: 1 rounds: 0 of 1"),
+        (
+            "label-order",
             0,
             2,
             &[(0, b"a", 1), (0, b"B", 1), (0, b"!x", 1)],
-        )?,
-    )?;
-    assert_eq!(rt; text.as_str(), "2 rounds: 0 of 2; 0 a 1; 0 B 1; 0 !x 1");
-    Ok(())
-}
-
-#[test]
-fn unreachable_twin(rt: HostRuntime) -> Result<(), Fail> {
-    let text = shown(
-        rt.alloc(),
-        &system(rt.alloc(), 0, 4, &[(0, b"a", 2), (2, b"b", 3)])?,
-    )?;
-    assert_eq!(rt; text.as_str(), "2 rounds: 0 of 3; 0 a 1; 1 b 2");
-    Ok(())
-}
-
-#[test]
-fn first_is_two(rt: HostRuntime) -> Result<(), Fail> {
-    let text = shown(
-        rt.alloc(),
-        &system(rt.alloc(), 2, 3, &[(2, b"a", 0), (0, b"b", 1)])?,
-    )?;
-    assert_eq!(rt; text.as_str(), "2 rounds: 0 of 3; 0 a 1; 1 b 2");
-    Ok(())
-}
-
-#[test]
-fn first_in_cycle(rt: HostRuntime) -> Result<(), Fail> {
-    let text = shown(
-        rt.alloc(),
-        &system(rt.alloc(), 1, 2, &[(1, b"a", 0), (0, b"a", 1)])?,
-    )?;
-    assert_eq!(rt; text.as_str(), "1 rounds: 0 of 1; 0 a 0");
-    Ok(())
-}
-
-#[test]
-fn first_leads_numbering(rt: HostRuntime) -> Result<(), Fail> {
-    let text = shown(
-        rt.alloc(),
-        &system(
-            rt.alloc(),
+            "label-order: 2 rounds: 0 of 2; 0 a 1; 0 B 1; 0 !x 1",
+        ),
+        (
+            "unreachable-twin",
+            0,
+            4,
+            &[(0, b"a", 2), (2, b"b", 3)],
+            "unreachable-twin: 2 rounds: 0 of 3; 0 a 1; 1 b 2",
+        ),
+        (
+            "first-is-two",
+            2,
+            3,
+            &[(2, b"a", 0), (0, b"b", 1)],
+            "first-is-two: 2 rounds: 0 of 3; 0 a 1; 1 b 2",
+        ),
+        (
+            "first-in-cycle",
+            1,
+            2,
+            &[(1, b"a", 0), (0, b"a", 1)],
+            "first-in-cycle: 1 rounds: 0 of 1; 0 a 0",
+        ),
+        (
+            "first-leads-numbering",
             2,
             4,
             &[(2, b"a", 3), (3, b"b", 0), (0, b"a", 3), (3, b"c", 1)],
-        )?,
-    )?;
-    assert_eq!(rt; text.as_str(), "2 rounds: 0 of 3; 0 a 2; 2 b 0; 2 c 1");
-    Ok(())
-}
-
-#[test]
-fn silent_cycle(rt: HostRuntime) -> Result<(), Fail> {
-    let text = shown(
-        rt.alloc(),
-        &system(
-            rt.alloc(),
+            "first-leads-numbering: 2 rounds: 0 of 3; 0 a 2; 2 b 0; 2 c 1",
+        ),
+        (
+            "silent-cycle",
             0,
             2,
             &[(0, b"i", 1), (1, b"i", 0), (1, b"a", 1)],
-        )?,
-    )?;
-    assert_eq!(rt; text.as_str(), "2 rounds: 0 of 2; 0 i 1; 1 i 0; 1 a 1");
-    Ok(())
-}
-
-#[test]
-fn silent_detour(rt: HostRuntime) -> Result<(), Fail> {
-    let text = shown(
-        rt.alloc(),
-        &system(
-            rt.alloc(),
+            "silent-cycle: 2 rounds: 0 of 2; 0 i 1; 1 i 0; 1 a 1",
+        ),
+        (
+            "quoted-internal",
+            0,
+            2,
+            &[(0, b"i", 1)],
+            "quoted-internal: 2 rounds: 0 of 2; 0 i 1",
+        ),
+        (
+            "silent-detour",
             0,
             6,
             &[
@@ -224,11 +128,13 @@ fn silent_detour(rt: HostRuntime) -> Result<(), Fail> {
                 (3, b"b", 5),
                 (4, b"b", 5),
             ],
-        )?,
-    )?;
-    assert_eq!(rt;
-        text.as_str(),
-        "2 rounds: 0 of 5; 0 i 1; 0 a 3; 1 a 2; 2 i 3; 3 b 4"
-    );
+            "silent-detour: 2 rounds: 0 of 5; 0 i 1; 0 a 3; 1 a 2; 2 i 3; 3 b 4",
+        ),
+    ];
+    for (name, first, states, steps, want) in &table {
+        let l = system(rt.alloc(), *first, *states, steps)?;
+        let text = shown(rt.alloc(), name, &l, Relation::Strong)?;
+        assert_eq!(rt; text.as_str(), *want);
+    }
     Ok(())
 }

@@ -1,18 +1,18 @@
-//! The numbers of the reachable states: 0 for those of the first state's class, then one for each other class in the order of
-//! the least reachable members.
+//! The numbers of the reachable states: 0 for those of the first state's class, then one for each other class in the
+//! order of the least reachable members.
 ghost use Rattle.std.specs.Prelude.{◌≡◌, ◌↔◌, ℕ, ◌<◌, [], ◌∷◌, ◌++◌, length, IfOk, OnOk};
 ghost use Rattle.theory.specs.System.{Reachable};
 ghost use Rattle.theory.specs.Bisimulation.{Relation};
 ghost use Rattle.lts.specs.Lts.{system_of};
 ghost use Rattle.quotient.specs.Marked.{IsMarked};
 ghost use Rattle.quotient.specs.Reading.{AreClasses};
-ghost use Rattle.quotient.specs.Numbers.{IsNumbering, Adds};
+ghost use Rattle.quotient.specs.Numbers.{IsNumbering, TakesState};
 
 use lts::{Lts, Memory, Meter};
 use refine::Partition;
 use std::alloc::Global;
 
-/// Stands for the number of a block that has none.
+/// In place of the number of a block that has none.
 const NONE: u32 = u32::MAX;
 
 /// The numbers of the states that were taken so far, in their order.
@@ -66,7 +66,7 @@ impl Numbering {
     fn add(&mut self, b: u32, is_reached: bool, is_first: bool) -> Result<(), Memory>
         requires block { b < length self.old.by_block.items }
         requires room { self.old.count < NONE }
-        ensures { OnOk result (Adds b is_reached is_first self.old self.new) }
+        ensures { OnOk result (TakesState b is_reached is_first self.old self.new) }
     {
         let number = self.by_block[b as usize];
         if !is_reached || number != NONE {

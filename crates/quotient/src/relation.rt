@@ -1,5 +1,5 @@
-//! Which bisimulation a call is about, and what differs between the two: the refinement, the rows that the quotient is read
-//! from, and the label that it leaves out.
+//! Which bisimulation a call is about, and what differs between the two: the refinement, the rows that the quotient is
+//! read from, and the label that it leaves out.
 ghost use Rattle.std.specs.Prelude.{◌≡◌, ◌*◌, length, IfOk, OnOk, OnErr};
 ghost use Rattle.lts.specs.Meter.{HasRoomFor, CostsUpTo};
 ghost use Rattle.quotient.specs.Relations.{meant};

@@ -4,18 +4,21 @@ ghost use Rattle.theory.specs.System.{Reachable};
 ghost use Rattle.lts.specs.Meter.{HasRoomFor, Costs};
 ghost use Rattle.lts.specs.Lts.{row_of, system_of};
 ghost use Rattle.quotient.specs.Marked.{IsMarked};
-ghost use Rattle.quotient.specs.Search.{Marks, Searches, states_ahead, places_ahead};
+ghost use Rattle.quotient.specs.Search.{MarksState, Searches, states_ahead, places_ahead};
 
 use lts::{Lts, Memory, Meter};
 use std::alloc::Global;
 
-/// Which states steps lead to from the first state, that one included. Each transition is visited once at most.
+/// Which states are reachable from the first state, that one included. Each transition is visited once at most.
 ///
-/// Fails where there is no memory for it.
+/// Fails if there is no memory for it.
 pub fn reachable<M: Meter>(alloc: Global, l: &Lts<M>, m: &mut M) -> Result<Vec<bool>, Memory>
     requires room { HasRoomFor (M.counted m.old) 0 (length l.now.places) }
     ensures states { IfOk result (λ r. length r.items ≡ l.now.states) }
-    ensures exactly { IfOk result (λ r. (s : ℕ) → s < l.now.states → IsMarked r.items s ↔ Reachable (system_of l.now) s) }
+    ensures exactly { IfOk result (λ r. (s : ℕ) →
+        s < l.now.states → IsMarked r.items s ↔ Reachable (system_of l.now) s) }
+
+    // Ok and Err
     ensures visits { Costs (M.counted m.old) (M.counted m.new) 0 0 (length l.now.places) }
 {
     theory::steps_keep_reachable();
@@ -38,10 +41,10 @@ struct Search {
 }
 
 impl Search {
-    /// Marks the state `s` and puts it on the stack, unless it was marked before.
+    /// MarksState the state `s` and puts it on the stack, unless it was marked before.
     fn mark(&mut self, s: u32) -> Result<(), Memory>
         requires { s < length self.old.marked.items }
-        ensures { OnOk result (Marks s self.old.marked.items self.old.stack.items self.new.marked.items self.new.stack.items) }
+        ensures { OnOk result (MarksState s self.old.marked.items self.old.stack.items self.new.marked.items self.new.stack.items) }
     {
         if !self.marked[s as usize] {
             self.marked[s as usize] = true;
@@ -50,13 +53,15 @@ impl Search {
         Ok(())
     }
 
-    /// Marks the states that the steps of `s` lead to.
+    /// MarksState the states that the steps of `s` lead to.
     fn mark_targets<M: Meter>(&mut self, l: &Lts<M>, s: u32, m: &mut M) -> Result<(), Memory>
         requires search { Searches l.now self.old.marked.items (s ∷ self.old.stack.items) }
         requires room { HasRoomFor (M.counted m.old) 0 (length (row_of s l.now.places)) }
         ensures search { OnOk result (Searches l.now self.new.marked.items self.new.stack.items) }
-        ensures states { OnOk result (states_ahead self.new.marked.items self.new.stack.items ≡ states_ahead self.old.marked.items self.old.stack.items) }
-        ensures places { OnOk result (places_ahead l.now.places self.new.marked.items self.new.stack.items ≡ places_ahead l.now.places self.old.marked.items self.old.stack.items) }
+        ensures states { let ahead = λ (s : Search). states_ahead s.marked.items s.stack.items in
+            OnOk result (ahead self.new ≡ ahead self.old) }
+        ensures places { let ahead = λ (s : Search). places_ahead l.now.places s.marked.items s.stack.items in
+            OnOk result (ahead self.new ≡ ahead self.old) }
         ensures visits { Costs (M.counted m.old) (M.counted m.new) 0 0 (length (row_of s l.now.places)) }
     {
         theory::steps_keep_reachable();

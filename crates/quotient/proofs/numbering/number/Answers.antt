@@ -5,7 +5,7 @@ use Rattle.theory.specs.Bisimulation.{Relation}
 use Rattle.lts.specs.Lts.{system_of}
 use Rattle.quotient.specs.Reading.{AreClasses}
 use Rattle.quotient.specs.Numbers.{none}
-use Rattle.quotient.proofs.Classes.{Laws, Taken, Taken-start, Taken-adds, Taken-end, Adds-within, Adds-few}
+use Rattle.quotient.proofs.Classes.{Laws, Taken, Taken-start, Taken-adds, Taken-end, TakesState-within, TakesState-few}
 use Rattle.quotient.proofs.numbering.number.Given.{Over}
 use Rattle.quotient.proofs.numbering.number.Goals as goal
 
@@ -52,8 +52,8 @@ loop-s-preserved g c =
     let l = c.args.l.now in
     let below : s < l.states = omega (arith, c.states-states.ensures.value) in
     record {
-      within = Adds-within c.block-in-loop-s.result _ _ c.loop-s.numbering c.add.new.self c.in_ok-add.ensures l.states (slice_index c.args.blocks.now) c.loop-s.invariant.within;
-      few = omega (arith, Adds-few c.block-in-loop-s.result _ _ c.loop-s.numbering c.add.new.self c.in_ok-add.ensures, c.loop-s.invariant.few);
+      within = TakesState-within c.block-in-loop-s.result _ _ c.loop-s.numbering c.add.new.self c.in_ok-add.ensures l.states (slice_index c.args.blocks.now) c.loop-s.invariant.within;
+      few = omega (arith, TakesState-few c.block-in-loop-s.result _ _ c.loop-s.numbering c.add.new.self c.in_ok-add.ensures, c.loop-s.invariant.few);
       laws = c.loop-s.invariant.laws;
       taken = λ rel classes.
           Taken-adds rel (system_of l) (slice_index c.args.blocks.now) (c.loop-s.invariant.laws rel classes) s c.block-in-loop-s.result

@@ -2,7 +2,7 @@ use Rattle.std.proofs.Common.{◌≡◌, ◌∙◌, false, [], replicate, ap, ar
 use Rattle.std.specs.List.{slice_index_or}
 use Rattle.std.proofs.lemmas.List.{length-replicate}
 use Rattle.lts.specs.Lts.{system_of}
-use Rattle.quotient.specs.Search.{Marks}
+use Rattle.quotient.specs.Search.{MarksState}
 use Rattle.quotient.proofs.Reaching.{Searches-start, Searches-taken, Searches-end, places_ahead-marks, places_ahead-first}
 use Rattle.quotient.proofs.search.reachable.Goals as goal
 
@@ -12,7 +12,7 @@ loop-s-init g c =
     let new = c.mark.new.self in
     let none : c.in_ok-vec.field-0.items ≡ replicate s.states false =
     c.in_ok-vec.ensures.items_if_clones_equal (λ y e. e) ∙ ap (λ n. replicate n false) c.states.ensures.value in
-    let marks : Marks s.first (replicate s.states false) [] new.marked.items new.stack.items =
+    let marks : MarksState s.first (replicate s.states false) [] new.marked.items new.stack.items =
     rw (c.first.ensures, none, c.new.ensures.items) at c.in_ok-mark.ensures in
     let first = c.states.ensures.lts.in_range.first_below in
     let size = length-replicate s.states false in

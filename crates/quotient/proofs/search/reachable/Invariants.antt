@@ -1,4 +1,4 @@
-use Rattle.std.proofs.Common.{◌≡◌, ◌-◌, ◌≤◌, length}
+use Rattle.std.proofs.Common.{◌-◌, ◌≤◌, length}
 use Rattle.lts.specs.Meter.{Costs}
 use Rattle.quotient.specs.Search.{Searches, states_ahead, places_ahead}
 use Rattle.quotient.proofs.search.reachable.Given as goal
