@@ -8,7 +8,8 @@ ghost use Rattle.autfmt.specs.Cutter.{Cutting, BeginsTooLong, CutsLine, CutsEnd,
 ghost use Rattle.autfmt.specs.Gathering.{Gathers, Advances, Looks};
 
 use crate::line::LineBuffer;
-use crate::source::{Broken, Source};
+use crate::source::Source;
+use crate::stream::Broken;
 use memchr::memchr;
 use std::marker::Model;
 

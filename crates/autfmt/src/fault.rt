@@ -2,7 +2,7 @@
 ghost use Rattle.std.specs.Prelude.{◌≡◌};
 ghost use Rattle.autfmt.specs.declared.fault.Fault.TheVariants.{Device, Memory};
 
-use crate::source::Broken;
+use crate::stream::Broken;
 use lts::Memory;
 use std::alloc::{AllocError, AllocFailed};
 use thiserror::Error;

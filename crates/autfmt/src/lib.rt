@@ -17,6 +17,7 @@ mod reader_tests;
 mod refusal_tests;
 mod sink;
 mod source;
+mod stream;
 #[cfg(test)]
 mod tests;
 mod text_laws;
@@ -36,7 +37,8 @@ pub use line::LineBuffer;
 pub use line_laws::a_line_has_one_reading;
 pub use reader::{read, read_hiding};
 pub use sink::{Sink, ToWrite, VecSink, put_all};
-pub use source::{Broken, FromRead, SliceSource, Source};
+pub use source::{FromRead, SliceSource, Source};
+pub use stream::Broken;
 pub use text_laws::{
     a_hide_list_has_one_reading, a_hide_list_reads_or_has_a_fault, a_judged_fault_is_the_first,
     a_judged_hide_fault_is_the_first, a_text_has_its_lines, a_text_has_one_cut,

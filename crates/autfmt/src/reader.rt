@@ -92,6 +92,32 @@ fn read_system<M: Meter, R: Source>(
     Ok(system)
 }
 
+/// Reads a whole text: what its header promises, and its transitions.
+fn read_text<R: Source>(
+    alloc: Global,
+    r: &mut R,
+    lim: &Limits,
+    h: &Hidden,
+) -> Result<(Promise, Held), Fault>
+    requires { R.failures r.old ≡ 0 }
+    ensures whole { Takes (R.rest r.old) (R.rest r.new)
+        (λ given x. HoldsText lim.now h.now given x.0 x.1)
+        (λ given. Refuses lim.now given (R.rest r.new) (R.failures r.new)) result }
+    ensures range { IfOk result (λ x. InRange (length x.1.labels) x.0.first x.0.states x.1.triples.items) }
+    ensures end { OnOk result (IsAtEnd (R.rest r.new)) }
+    ensures sound { OnOk result (R.failures r.new ≡ 0) }
+{
+    let mut cutter = Cutter::new();
+    let promise = read_header(&mut cutter, r, lim)?;
+    let mut held = Held::new(alloc);
+    read_transitions(&mut cutter, r, promise, h, &mut held)?;
+    let at_end = cutter.is_at_end(r)?;
+    if !at_end {
+        return Err(Fault::ExtraText(promise.transitions + 2));
+    }
+    Ok((promise, held))
+}
+
 /// Reads line 1.
 fn read_header<R: Source>(cutter: &mut Cutter, r: &mut R, lim: &Limits) -> Result<Promise, Fault>
     requires fresh { cutter.old ≡ record { line = []; ahead = []; over = false } }
@@ -109,6 +135,35 @@ fn read_header<R: Source>(cutter: &mut Cutter, r: &mut R, lim: &Limits) -> Resul
         Step::End => return Err(Fault::BadHeader),
     }
     judge_header(cutter.line(), lim)
+}
+
+/// Reads the promised transitions, and holds them.
+fn read_transitions<R: Source>(
+    cutter: &mut Cutter,
+    r: &mut R,
+    promise: Promise,
+    h: &Hidden,
+    held: &mut Held,
+) -> Result<(), Fault>
+    requires file { promise.transitions ≤ 10000000 }
+    requires none { vec_len held.old.triples ≡ 0 }
+    requires few { length held.old.labels ≡ 0 }
+    requires sound { R.failures r.old ≡ 0 }
+    requires end { IsTrue cutter.old.over → IsAtEnd (R.rest r.old) }
+    ensures transitions { (got : List ℕ) × Consumes (R.rest r.old) (R.rest r.new) got ×
+        ((bounds : Bounds) (given : List ℕ) →
+        Standing bounds h.now given cutter.old promise held.old [] →
+        MatchResult result
+        (λ _. (es : List Transition) × Standing bounds h.now (given ++ got) cutter.new promise held.new es)
+        (Refuses bounds (given ++ got) (R.rest r.new) (R.failures r.new))) }
+    ensures end { OnOk result (IsTrue cutter.new.over → IsAtEnd (R.rest r.new)) }
+    ensures sound { OnOk result (R.failures r.new ≡ 0) }
+    ensures len { OnOk result (vec_len held.new.triples ≡ promise.transitions) }
+{
+    for _found in 0..promise.transitions {
+        read_transition(cutter, r, promise, h, held)?;
+    }
+    Ok(())
 }
 
 /// Reads one line more, a transition of those that were promised, and holds it.
@@ -144,59 +199,4 @@ fn read_transition<R: Source>(
     let (source, label, target) = judge_transition(cutter.line(), found + 2, promise)?;
     held.add(source, h.shown(label), target, promise.transitions)?;
     Ok(())
-}
-
-/// Reads the promised transitions, and holds them.
-fn read_transitions<R: Source>(
-    cutter: &mut Cutter,
-    r: &mut R,
-    promise: Promise,
-    h: &Hidden,
-    held: &mut Held,
-) -> Result<(), Fault>
-    requires file { promise.transitions ≤ 10000000 }
-    requires none { vec_len held.old.triples ≡ 0 }
-    requires few { length held.old.labels ≡ 0 }
-    requires sound { R.failures r.old ≡ 0 }
-    requires end { IsTrue cutter.old.over → IsAtEnd (R.rest r.old) }
-    ensures transitions { (got : List ℕ) × Consumes (R.rest r.old) (R.rest r.new) got ×
-        ((bounds : Bounds) (given : List ℕ) →
-        Standing bounds h.now given cutter.old promise held.old [] →
-        MatchResult result
-        (λ _. (es : List Transition) × Standing bounds h.now (given ++ got) cutter.new promise held.new es)
-        (Refuses bounds (given ++ got) (R.rest r.new) (R.failures r.new))) }
-    ensures end { OnOk result (IsTrue cutter.new.over → IsAtEnd (R.rest r.new)) }
-    ensures sound { OnOk result (R.failures r.new ≡ 0) }
-    ensures len { OnOk result (vec_len held.new.triples ≡ promise.transitions) }
-{
-    for _found in 0..promise.transitions {
-        read_transition(cutter, r, promise, h, held)?;
-    }
-    Ok(())
-}
-
-/// Reads a whole text: what its header promises, and its transitions.
-fn read_text<R: Source>(
-    alloc: Global,
-    r: &mut R,
-    lim: &Limits,
-    h: &Hidden,
-) -> Result<(Promise, Held), Fault>
-    requires { R.failures r.old ≡ 0 }
-    ensures whole { Takes (R.rest r.old) (R.rest r.new)
-        (λ given x. HoldsText lim.now h.now given x.0 x.1)
-        (λ given. Refuses lim.now given (R.rest r.new) (R.failures r.new)) result }
-    ensures range { IfOk result (λ x. InRange (length x.1.labels) x.0.first x.0.states x.1.triples.items) }
-    ensures end { OnOk result (IsAtEnd (R.rest r.new)) }
-    ensures sound { OnOk result (R.failures r.new ≡ 0) }
-{
-    let mut cutter = Cutter::new();
-    let promise = read_header(&mut cutter, r, lim)?;
-    let mut held = Held::new(alloc);
-    read_transitions(&mut cutter, r, promise, h, &mut held)?;
-    let at_end = cutter.is_at_end(r)?;
-    if !at_end {
-        return Err(Fault::ExtraText(promise.transitions + 2));
-    }
-    Ok((promise, held))
 }

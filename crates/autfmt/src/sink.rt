@@ -6,7 +6,7 @@ ghost use Rattle.autfmt.specs.Stream.{AppendsBeginning, CountsFailure};
 ghost use Rattle.autfmt.specs.Pieces.{Wrapped};
 ghost use Rattle.autfmt.specs.Store.{Store, taken_count, after_put};
 
-use crate::source::{Broken, at_most};
+use crate::stream::{Broken, at_most};
 use std::alloc::Global;
 use std::io::Write;
 use std::marker::Model;

@@ -3,15 +3,12 @@ ghost use Rattle.std.specs.Prelude.{◌≡◌, ℕ, ◌<◌, ◌≤◌, ◌↔�
 ghost use Rattle.std.specs.Io.{ReadsAtMost};
 ghost use Rattle.std.specs.Io.KnownBytes.{ReadConsumes};
 ghost use Rattle.autfmt.specs.Stream.{CountsFailure};
-ghost use Rattle.autfmt.specs.Pieces.{Wrapped, capped};
+ghost use Rattle.autfmt.specs.Pieces.{Wrapped};
 ghost use Rattle.autfmt.specs.Supply.{Supply, next_count, after_take};
 
+use crate::stream::{Broken, at_most};
 use std::io::Read;
 use std::marker::Model;
-
-/// A source or sink failed, and is not to be used again.
-#[derive(Clone, Copy, Debug, PartialEq, Eq)]
-pub struct Broken;
 
 /// What bytes are taken from. One failure ends it.
 pub trait Source {
@@ -119,16 +116,6 @@ impl<'a> Source for SliceSource<'a> {
 
     fn failures(&self) -> u32 {
         u32::from(self.failed)
-    }
-}
-
-/// `n`, or `most` where that is smaller.
-pub(crate) fn at_most(most: Option<usize>, n: usize) -> usize
-    ensures { result ≡ capped most n }
-{
-    match most {
-        Some(k) => k.min(n),
-        None => n,
     }
 }
 

@@ -1,6 +1,6 @@
 //! Examples of messages, limits, the line buffer, sources and sinks.
 use crate::sink::put_all;
-use crate::source::Broken;
+use crate::stream::Broken;
 use crate::{Fault, FromRead, Limits, LineBuffer, Sink, SliceSource, Source, ToWrite, VecSink};
 use std::alloc::Global;
 use std::io;

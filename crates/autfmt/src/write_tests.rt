@@ -1,7 +1,7 @@
 //! Examples of written texts, and of sinks that fail.
 ghost use Rattle.std.specs.Prelude.{None};
 
-use crate::source::Broken;
+use crate::stream::Broken;
 use crate::{Fault, Sink, VecSink, write};
 use lts::{Counter, Labels, Lts, Meter, in_range, is_label};
 use std::alloc::Global;
