@@ -1,53 +1,57 @@
--- What a run carries on: the error of a call, what follows from the reading of its text, and the counts of what was read.
-use Rattle.std.proofs.Common.{◌≡◌, ◌⊎◌, ℕ, List, length, Option, IfSome, Result, Ok, Err, IfErr, OnErr, inl, inr, sym, ◌∙◌, subst}
-use Rattle.std.proofs.lemmas.Option.{IfSome_then}
-use Rattle.std.proofs.lemmas.List.{length-map}
-use Rattle.std.proofs.lemmas.List.Sorted.{length_permutation}
-use Rattle.theory.specs.System.{Hide, hidden_transition}
-use Rattle.lts.specs.Lts.{Grouped, transition_of}
+-- What a run carries on: the error of a call, and what follows from the reading of its text.
+use Rattle.std.proofs.Common.{◌≡◌, ◌⊎◌, ℕ, ◌*◌, ◌≤◌, List, length, Option, Some, None, IfSome, Result, Ok, Err, IfOk, IfErr, inl, inr, sym, ◌∙◌, subst, append-nil, arith}
+use Rattle.std.specs.Io.KnownBytes.{Consumes, IsAtEnd}
+use Rattle.lts.specs.Meter.{Counts}
+use Rattle.quotient.specs.Bounds.{KeepsTo}
 use Rattle.autfmt.specs.declared.fault.Fault.{Fault}
 use Rattle.autfmt.specs.declared.fault.Fault.TheVariants.{Device, Memory}
-use Rattle.autfmt.specs.Bounds.{Bounds}
-use Rattle.autfmt.specs.Readers.{IsTextFault, ReadsAs}
-use Rattle.autbis.specs.Runs.{IsSizeOf}
+use Rattle.autfmt.specs.Outcomes.{Takes}
+use Rattle.autfmt.specs.Readers.{IsTextFault}
 
 -- the answer is the error e
 abbrev pub IsError : {T E : Type 0} → Result T E → E → Type 0
 IsError {T} {E} r e = (y : E) × (r ≡ Err y) × (y ≡ e)
 
--- an answer has one error
-pub one_error : {T E : Type 0} (r : Result T E) (e d : E) → IsError r e → r ≡ Err d → e ≡ d
-one_error r e d (y, is, same) was = cc
+-- an answer that is the error e takes what its call took, if what is bad of that error is so
+pub takes_error : {T E : Type 0} (old new : Option (List ℕ)) (Good : List ℕ → T → Type 0) (Bad : List ℕ → E → Type 0) (r : Result T E) (e : E) (given : List ℕ) →
+    IsError r e → Consumes old new given → Bad given e → Takes old new Good Bad r
+takes_error old new Good Bad r e given (y, is, same) took bad = record {
+  given = given;
+  took = took;
+  outcome = rw (is, same) bad;
+}
 
--- what holds of the error holds of the answer
-pub at_error : {T E : Type 0} (r : Result T E) (e : E) (P : E → Type 0) → IsError r e → P e → IfErr r P
-at_error r e P (y, is, same) h = rw (is, same) h
+-- an error is no success, whatever text was told
+pub no_success : {T E : Type 0} (told : Option (List ℕ)) (Good : List ℕ → T → Type 0) (r : Result T E) (e : E) → IsError r e → IfSome told (λ text. IfOk r (Good text))
+no_success None Good r e exit = tt
+no_success (Some text) Good r e (y, is, same) = rw is tt
 
--- what holds at all holds on an error
-pub on_error : {T E P : Type 0} (r : Result T E) → P → OnErr r P
-on_error (Ok x) h = tt
-on_error (Err e) h = h
+-- what is bad of an error for every text is bad of it for the text that was told
+pub bad_of : {T E : Type 0} (told : Option (List ℕ)) (Bad : List ℕ → E → Type 0) (r : Result T E) (e : E) → IsError r e → ((text : List ℕ) → Bad text e) →
+    IfSome told (λ text. IfErr r (Bad text))
+bad_of None Bad r e exit h = tt
+bad_of (Some text) Bad r e (y, is, same) h = rw (is, same) (h text)
 
 -- a want of memory or a failure is no fault of the text
 pub not_of_text : (fault : Fault) → (fault ≡ Memory) ⊎ (fault ≡ Device) → ¬ IsTextFault fault
 not_of_text fault (inl e) h = subst (λ (f : Fault). IsTextFault f) e h
 not_of_text fault (inr e) h = subst (λ (f : Fault). IsTextFault f) e h
 
--- what follows, for each text that is told, from its reading
-pub read_then :
-    (bounds : Bounds) (H : List (List ℕ)) (s : Grouped) (told : Option (List ℕ)) (Q : List ℕ → Type 0) →
-    IfSome told (λ text. ReadsAs bounds text H s) → ((text : List ℕ) → ReadsAs bounds text H s → Q text) → IfSome told Q
-read_then bounds H s told Q read h = IfSome_then told {P = λ text. ReadsAs bounds text H s} read h
+-- a source that is at its end gave all that it told
+pub all_taken : (old new : Option (List ℕ)) (given : List ℕ) (P : List ℕ → Type 0) → Consumes old new given → IsAtEnd new → P given → IfSome old P
+all_taken None new given P took at_end h = tt
+all_taken (Some text) None given P took at_end h = elim took [ ]
+all_taken (Some text) (Some rest) given P took at_end h = rw (took, at_end, append-nil given) h
 
-module _ (bounds : Bounds) (H : List (List ℕ)) (s : Grouped) (text : List ℕ) (read : ReadsAs bounds text H s) where
-  -- the system in memory has as many transitions as the one that the text reads as, its labels hidden
-  pub as_many : length s.places ≡ length (Hide H read.0).transitions
-  as_many = sym (length-map s.places (transition_of s.labels)) ∙ length_permutation _ _ read.2.same
+module _ (n k m j : ℕ) (at : Counts) (states : n ≡ k) (transitions : m ≡ j) where
+  -- a success keeps to the size of another system of this size
+  pub keeps_whole : KeepsTo n m 2 at (at.rounds * m) → KeepsTo k j 2 at (at.rounds * j)
+  keeps_whole keeps = rw (← states, ← transitions) keeps
 
-  -- no fewer were read
-  pub all_read : length s.places ≡ length read.0.transitions
-  all_read = as_many ∙ length-map read.0.transitions (hidden_transition H)
-
-  -- the counts are those of the header
-  pub size_read : IsSizeOf bounds s.states (length s.places) text
-  size_read = (read.0, read.1, read.2.states, all_read)
+  -- and so does an error, whatever was visited
+  pub keeps_part : (least : ℕ) → KeepsTo n m 2 at least → KeepsTo k j 2 at 0
+  keeps_part least keeps = record {
+    few_rounds = rw (← states) keeps.few_rounds;
+    at_least = omega arith;
+    at_most = rw (← transitions) keeps.at_most;
+  }

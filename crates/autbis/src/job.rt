@@ -18,8 +18,9 @@ use std::io::{self, ErrorKind, Write};
 /// What is said of words that are not UTF-8.
 const NOT_UTF8: &str = "autbis: command words are not UTF-8\n";
 
-/// What the program does with its words, the first of which is its name: the job that they ask for, over these files and streams,
-/// or what is said of words that ask for none. Returns the exit status: that of the job, or of the words' fault. Help goes to `o`.
+/// What the program does with its words, the first of which is its name: the job that they ask for, over these files and
+/// streams, or what is said of words that ask for none. Returns the exit status: that of the job, or of the words' fault. Help
+/// goes to `o`.
 pub fn main_program<F: Opener, R: Source, W: Sink, O: Write, E: Write>(
     alloc: Global,
     words: io::Result<Vec<String>>,
@@ -31,7 +32,8 @@ pub fn main_program<F: Opener, R: Source, W: Sink, O: Write, E: Write>(
 ) -> u8
     requires input { R.failures input.old ≡ 0 }
     requires output { W.failures output.old ≡ 0 }
-    ensures answer { IfOk words (λ words. AnswersWords (F.holds files.old) (R.rest input.old) (map string_bytes words.items)
+    ensures answer { IfOk words (λ words. AnswersWords
+        (F.holds files.old) (R.rest input.old) (map string_bytes words.items)
         (F.opened files.old) (F.opened files.new) (W.written output.old) (W.written output.new) result) }
     ensures unread { IfErr words (λ error. IsUnreadStatus error result) }
 {
@@ -54,9 +56,9 @@ fn asked(alloc: Global, words: io::Result<Vec<String>>) -> Result<Job, WordFault
     }
 }
 
-/// Does the job, and returns the exit status: 0 if it is done, 2 if a text or the hide list is faulty, 4 for want of memory, 5 if
-/// a file cannot be opened or a read or write failed. The text is that of the job's file, or of `input` if it names none. The
-/// text is opened first and then the hide list, which is read before the text.
+/// Does the job, and returns the exit status: 0 if it is done, 2 if a text or the hide list is faulty, 4 for want of memory,
+/// 5 if a file cannot be opened or a read or write failed. The text is that of the job's file, or of `input` if it names none.
+/// The text is opened first and then the hide list, which is read before the text.
 pub fn do_job<F: Opener, R: Source, W: Sink, E: Write>(
     alloc: Global,
     job: &Job,
@@ -68,7 +70,8 @@ pub fn do_job<F: Opener, R: Source, W: Sink, E: Write>(
     requires input { R.failures input.old ≡ 0 }
     requires output { W.failures output.old ≡ 0 }
     ensures status { (result ≡ 0) ⊎ IsFaultStatus result }
-    ensures done { result ≡ 0 → IsDone (F.holds files.old) (R.rest input.old) job.now (W.written output.old) (W.written output.new) }
+    ensures done { result ≡ 0 →
+        IsDone (F.holds files.old) (R.rest input.old) job.now (W.written output.old) (W.written output.new) }
     ensures order { OpensInOrder (files_of job.now) (F.opened files.old) (F.opened files.new) }
     ensures opened { (result ≡ 5) ⊎ Opens (F.opened files.old) (F.opened files.new) (files_of job.now) }
     ensures untouched { (result ≡ 2) ⊎ (result ≡ 4) → output.new ≡ output.old }
@@ -101,7 +104,8 @@ fn min_job<F: Opener, R: Source, W: Sink, E: Write>(
     requires output { W.failures output.old ≡ 0 }
     ensures status { (result ≡ 0) ⊎ IsFaultStatus result }
     ensures done { result ≡ 0 → MinimisesNamed (F.holds files.old) rel (option_map string_bytes hide.now)
-        (text_of (F.holds files.old) (R.rest input.old) (option_map string_bytes file.now)) (W.written output.old) (W.written output.new) }
+        (text_of (F.holds files.old) (R.rest input.old) (option_map string_bytes file.now))
+        (W.written output.old) (W.written output.new) }
     ensures order { OpensInOrder (given (option_map string_bytes file.now) ++ given (option_map string_bytes hide.now))
         (F.opened files.old) (F.opened files.new) }
     ensures opened { (result ≡ 5) ⊎ Opens (F.opened files.old) (F.opened files.new)
@@ -153,7 +157,8 @@ fn min_text<F: Opener, R: Source, W: Sink, E: Write>(
     requires sink { W.failures w.old ≡ 0 }
     ensures status { (result ≡ 0) ⊎ IsFaultStatus result }
     ensures done { result ≡ 0 →
-        MinimisesNamed (F.holds files.old) rel (option_map string_bytes hide.now) (R.rest r.old) (W.written w.old) (W.written w.new) }
+        MinimisesNamed (F.holds files.old) rel (option_map string_bytes hide.now) (R.rest r.old)
+        (W.written w.old) (W.written w.new) }
     ensures opened { Opens (F.opened files.old) (F.opened files.new) (given (option_map string_bytes hide.now)) }
     ensures untouched { (result ≡ 2) ⊎ (result ≡ 4) → w.new ≡ w.old }
 {

@@ -23,7 +23,8 @@ pub trait Opener {
     /// `Broken` if it cannot be opened.
     fn open(&mut self, name: &str) -> Result<Self::File, Broken>
         ensures sound { IfOk result (λ file. Self.File.failures file ≡ 0) }
-        ensures bytes { IfSome (holds self.old name.now) (λ text. IfOk result (λ file. Self.File.rest file ≡ Some text)) }
+        ensures bytes { IfSome (holds self.old name.now) (λ text.
+            IfOk result (λ file. Self.File.rest file ≡ Some text)) }
         ensures opened { Opens (opened self.old) (opened self.new) (name.now ∷ []) }
         ensures kept { (other : Name) → holds self.new other ≡ holds self.old other };
 }

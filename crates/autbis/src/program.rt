@@ -3,7 +3,7 @@ ghost use Rattle.std.specs.Prelude.{◌≡◌, ◌≤◌, ◌⊎◌, [], ◌∷�
 ghost use Rattle.autbis.specs.Files.{Name, Opens};
 ghost use Rattle.autbis.specs.Jobs.{HidesNamed, given};
 ghost use Rattle.autbis.specs.Reports.{IsFaultStatus};
-ghost use Rattle.autbis.specs.Runs.{IsMinimised, IsFaulty, BeginsQuotient};
+ghost use Rattle.autbis.specs.Runs.{IsMinimised, IsFaulty};
 ghost use Rattle.quotient.specs.Relations.{meant};
 ghost use Rattle.theory.specs.Quotient.{allowance};
 
@@ -22,7 +22,8 @@ use std::io::Write;
 /// The exit status, 5, if it cannot be opened. That is said on `e`.
 pub fn open<F: Opener, E: Write>(files: &mut F, name: &str, e: &mut E) -> Result<F::File, u8>
     ensures sound { IfOk result (λ file. F.File.failures file ≡ 0) }
-    ensures bytes { IfSome (F.holds files.old name.now) (λ text. IfOk result (λ file. F.File.rest file ≡ Some text)) }
+    ensures bytes { IfSome (F.holds files.old name.now) (λ text.
+        IfOk result (λ file. F.File.rest file ≡ Some text)) }
     ensures status { IfErr result (λ status. status ≡ 5) }
     ensures opened { Opens (F.opened files.old) (F.opened files.new) (name.now ∷ []) }
     ensures kept { (other : Name) → F.holds files.new other ≡ F.holds files.old other }
@@ -57,9 +58,9 @@ pub fn hidden_of<F: Opener, E: Write>(
     }
 }
 
-/// Minimises the text of `r` to `w`, once, and answers the exit status: 0 where it is done, 2 where the text is faulty, 4 for
-/// want of memory, 5 where the source or the sink failed. With 2 and 4 nothing was written. A fault goes to `report` with
-/// the source's name. With `stats`, a line on `e` says the counts of a run that succeeded.
+/// Minimises the text of `r` to `w`, once, and returns the exit status: 0 if it is done, 2 if the text is faulty, 4 for want of
+/// memory, 5 if the source or the sink failed. With 2 and 4 nothing failed and nothing was written. A fault goes to `report`
+/// with the source's name. With `stats`, a line on `e` shows the counts of a run that succeeded.
 pub fn min_program<R: Source, W: Sink, E: Write>(
     alloc: Global,
     r: &mut R,
@@ -73,13 +74,18 @@ pub fn min_program<R: Source, W: Sink, E: Write>(
 ) -> u8
     requires source { R.failures r.old ≡ 0 }
     requires sink { W.failures w.old ≡ 0 }
+
+    // What each status means.
     ensures status { (result ≡ 0) ⊎ IsFaultStatus result }
-    ensures minimised { result ≡ 0 → IfSome (R.rest r.old) (λ text. IsMinimised (meant rel) lim.now h.now text (W.written w.old) (W.written w.new)) }
+    ensures minimised { result ≡ 0 → IfSome (R.rest r.old) (λ text.
+        IsMinimised (meant rel) lim.now h.now text (W.written w.old) (W.written w.new)) }
+    ensures faulty { result ≡ 2 → (R.failures r.new ≡ 0) × IfSome (R.rest r.old) (IsFaulty lim.now) }
+    ensures device { result ≡ 5 →
+        ((R.failures r.new ≡ 1) × (w.new ≡ w.old)) ⊎ ((R.failures r.new ≡ 0) × (W.failures w.new ≡ 1)) }
+
+    // What is left.
     ensures sound { result ≡ 0 → (R.failures r.new ≡ 0) × (W.failures w.new ≡ 0) }
-    ensures faulty { result ≡ 2 → R.failures r.new ≡ 0 → IfSome (R.rest r.old) (IsFaulty lim.now) }
-    ensures untouched { (result ≡ 2) ⊎ (result ≡ 4) → w.new ≡ w.old }
-    ensures device { result ≡ 5 → ((R.failures r.new ≡ 1) × (w.new ≡ w.old)) ⊎ ((R.failures r.new ≡ 0) × (W.failures w.new ≡ 1)) }
-    ensures begun { result ≡ 5 → R.failures r.new ≡ 0 → IfSome (R.rest r.old) (λ text. BeginsQuotient (meant rel) lim.now h.now text (W.written w.old) (W.written w.new)) }
+    ensures untouched { (result ≡ 2) ⊎ (result ≡ 4) → (R.failures r.new ≡ 0) × (w.new ≡ w.old) }
 {
     let mut meter = Counter::new();
     match run_min(alloc, r, w, rel, lim, h, &mut meter) {
@@ -95,7 +101,7 @@ pub fn min_program<R: Source, W: Sink, E: Write>(
 
 /// Says the counts of a run on `e`. A failure to write is passed over.
 fn show_stats<M: Meter, E: Write>(counts: Counts, rel: Relation, m: &M, e: &mut E)
-    requires { M.rounds_made m.now ≤ counts.states }
+    requires { (M.counted m.now).rounds ≤ counts.states }
 {
     let states = counts.states;
     let transitions = counts.transitions;

@@ -1,9 +1,12 @@
 //! One run, from bytes to bytes.
-ghost use Rattle.std.specs.Prelude.{◌≡◌, ◌⊎◌, ℕ, ◌≤◌, List, [], ◌++◌, Some, Err, IfSome, IfOk, IfErr, OnOk, OnErr};
-ghost use Rattle.autfmt.specs.Faults.{FirstFault, JudgedFault};
-ghost use Rattle.autfmt.specs.Readers.{IsTextFault, IsReadFault, HasGoodHeader, AnswersFailure};
+ghost use Rattle.std.specs.Prelude.{◌≡◌, ◌⊎◌, ◌≤◌, Err, IfSome, IfOk, IfErr, OnOk};
+ghost use Rattle.lts.specs.Meter.{IsFresh};
 ghost use Rattle.quotient.specs.Relations.{meant};
-ghost use Rattle.autbis.specs.Runs.{IsFresh, MinimisesText, BeginsQuotient, KeepsWithin, IsSizeOf};
+ghost use Rattle.autfmt.specs.declared.fault.Fault.TheVariants.{Memory};
+ghost use Rattle.autfmt.specs.Faults.{FirstFault};
+ghost use Rattle.autfmt.specs.Outcomes.{Takes};
+ghost use Rattle.autfmt.specs.Readers.{IsTextFault};
+ghost use Rattle.autbis.specs.Runs.{MinimisesText, RunFails, RunsTo};
 
 use autfmt::{Fault, Hidden, Limits, Sink, Source, read_hiding, write};
 use lts::{Counter, Lts, Meter};
@@ -19,15 +22,15 @@ pub struct Counts {
     pub transitions: u32,
 }
 
-/// Reads the text of `r` as a system, each label that `h` names read as `i`; minimises it by `rel`; and writes the text of
-/// its quotient to `w`. It answers the counts of the system that was read. `lim` bounds what the header may promise.
-/// `m` has to be fresh, and counts the rounds and the visits of the input's transitions.
+/// Reads the text of `r` as a system, with each label that `h` names read as `i`; minimises it by `rel`; and writes the text of
+/// its quotient to `w`. Returns the counts of the system that was read. `lim` bounds what the header may promise. `m` has to be
+/// fresh, and counts the rounds and the visits of the input's transitions: with n states and m transitions, at most n rounds
+/// and (rounds + 2) * m visits.
 ///
 /// # Errors
-/// A fault of the text, `BadHeader` to `MissingEdges`: its first one, or where the source failed the one that is known from
-/// the bytes given. Nothing was written or counted. `Device` where the source failed, and nothing was written; or where the
-/// sink failed, and a beginning of the text was written. `Memory` where a growth was refused, which comes only behind a good
-/// line 1; nothing was written.
+/// A fault of the text, `BadHeader` to `MissingEdges`: its first one. Nothing failed, and nothing was written or counted.
+/// `Device` if the source failed, and nothing was written or counted; or if the sink failed, and a beginning of the text was
+/// written. `Memory` if a growth was refused, which comes only behind a good line 1; nothing failed, and nothing was written.
 pub fn run_min<M: Meter, R: Source, W: Sink>(
     alloc: Global,
     r: &mut R,
@@ -37,33 +40,29 @@ pub fn run_min<M: Meter, R: Source, W: Sink>(
     h: &Hidden,
     m: &mut M,
 ) -> Result<Counts, Fault>
-    requires fresh { IsFresh (M.rounds_made m.old) (M.visits_made m.old) }
+    requires fresh { IsFresh (M.counted m.old) }
     requires source { R.failures r.old ≡ 0 }
     requires sink { W.failures w.old ≡ 0 }
-    ensures minimised { IfSome (R.rest r.old) (λ text. IfOk result (MinimisesText (meant rel) lim.now h.now text
-        (W.written w.old) (W.written w.new) (M.rounds_made m.new) (M.visits_made m.new))) }
-    ensures whole { IfSome (R.rest r.old) (λ _. OnOk result (R.rest r.new ≡ Some [])) }
-    ensures counted { IfOk result (λ c. KeepsWithin (meant rel) c.states c.transitions (M.rounds_made m.new) (M.visits_made m.new)) }
+
+    // What a success means, and which error comes when, over the bytes that were taken.
+    ensures outcome { Takes (R.rest r.old) (R.rest r.new)
+        (λ given. RunsTo (meant rel) lim.now h.now given (R.rest r.new)
+        (W.written w.old) (W.written w.new) (M.counted m.new))
+        (λ given. RunFails (meant rel) lim.now h.now given (R.rest r.new) (R.failures r.new) (W.failures w.new)
+        (w.new ≡ w.old) (W.written w.old) (W.written w.new) (M.counted m.new))
+        result }
+
+    // The same of a whole text that the source tells.
+    ensures minimised { IfSome (R.rest r.old) (λ text.
+        IfOk result (MinimisesText (meant rel) lim.now h.now text (W.written w.old) (W.written w.new))) }
+    ensures fault { IfSome (R.rest r.old) (λ text. IfErr result (λ f. IsTextFault f → FirstFault lim.now text f)) }
+
+    // What is left.
     ensures sound { OnOk result ((R.failures r.new ≡ 0) × (W.failures w.new ≡ 0)) }
-    ensures fault { R.failures r.new ≡ 0 →
-        IfSome (R.rest r.old) (λ text. IfErr result (λ f. IsTextFault f → FirstFault lim.now text f)) }
-    ensures failed { R.failures r.new ≡ 1 → (given rest : List ℕ) →
-        R.rest r.old ≡ Some (given ++ rest) → R.rest r.new ≡ Some rest →
-        IfErr result (AnswersFailure (JudgedFault lim.now given)) }
-    ensures untouched { IfErr result (λ f. IsTextFault f →
-        (w.new ≡ w.old) × IsFresh (M.rounds_made m.new) (M.visits_made m.new)) }
-    ensures unread { R.failures r.new ≡ 1 → (w.new ≡ w.old) × IsFresh (M.rounds_made m.new) (M.visits_made m.new) }
-    ensures memory { result ≡ Err Fault.Memory → w.new ≡ w.old }
-    ensures memory_header { IfSome (R.rest r.old) (λ text. result ≡ Err Fault.Memory → HasGoodHeader lim.now text) }
+    ensures untouched { IfErr result (λ f. IsTextFault f ⊎ (f ≡ Memory) → (R.failures r.new ≡ 0) × (w.new ≡ w.old)) }
     ensures device { result ≡ Err Fault.Device →
         ((R.failures r.new ≡ 1) × (w.new ≡ w.old)) ⊎ ((R.failures r.new ≡ 0) × (W.failures w.new ≡ 1)) }
-    ensures begun { result ≡ Err Fault.Device → R.failures r.new ≡ 0 →
-        IfSome (R.rest r.old) (λ text. BeginsQuotient (meant rel) lim.now h.now text (W.written w.old) (W.written w.new)) }
-    ensures meter { OnErr result (IsFresh (M.rounds_made m.new) (M.visits_made m.new)
-        ⊎ ((states transitions : ℕ) × KeepsWithin (meant rel) states transitions (M.rounds_made m.new) (M.visits_made m.new)
-        × IfSome (R.rest r.old) (IsSizeOf lim.now states transitions))) }
     ensures failures { (R.failures r.new ≤ 1) × (W.failures w.new ≤ 1) }
-    ensures kind { IfErr result IsReadFault }
 {
     theory::the_order_does_not_matter();
     theory::quotient_is_a_system();

@@ -1,142 +1,151 @@
-use Rattle.std.proofs.Common.{◌∙◌, ℕ, ◌*◌, ◌≤◌, List, length, inr, ap, sym, subst, Err, arith}
+use Rattle.std.proofs.Common.{◌≡◌, ◌∙◌, ℕ, List, length, Option, Err, ap, refl, inl, inr, sym, arith}
 use Rattle.std.proofs.lemmas.List.{length-map}
 use Rattle.std.proofs.lemmas.List.Sorted.{IsPermutation-sym}
-use Rattle.std.proofs.lemmas.Option.{IfSome_then}
 use Rattle.std.proofs.lemmas.Result.{err_from_is_err_and}
-use Rattle.autfmt.specs.declared.fault.Fault.TheVariants.{Device, Memory}
-use Rattle.autfmt.specs.Faults.{FirstFault}
-use Rattle.autfmt.specs.Readers.{IsTextFault, ReadsAs}
 use Rattle.theory.specs.System.{System, Hide}
 use Rattle.theory.specs.Bisimulation.{Relation}
-use Rattle.theory.specs.Quotient.{Quotient, allowance}
+use Rattle.theory.specs.Quotient.{Quotient}
 use Rattle.theory.specs.Alike.{SameSteps}
 use Rattle.quotient.specs.Relations.{meant}
 use Rattle.lts.specs.Lts.{transition_of, system_of}
-use Rattle.autbis.specs.Runs.{Minimises, IsReadAgain}
-use Rattle.autbis.proofs.Carried.{one_error, at_error, on_error, not_of_text, read_then, as_many, all_read, size_read}
+use Rattle.autfmt.specs.declared.fault.Fault.TheVariants.{Memory}
+use Rattle.autfmt.specs.Written.{GainsText, failures_after}
+use Rattle.autbis.specs.Runs.{Minimises, MinimisesText, IsReadAgain, CountsPart}
+use Rattle.autbis.specs.Runs.RunFails.{not_read, no_memory, failed_sink}
+use Rattle.autbis.proofs.Carried.{all_taken, bad_of, keeps_part, keeps_whole, no_success, not_of_text, takes_error}
 use Rattle.autbis.proofs.run.run_min.Given.{Over}
 use Rattle.autbis.proofs.run.run_min.Goals as goal
 use Rattle.autbis.proofs.run.run_min.Goals.{After-write}
 
-pub returns-in_err-system-clause-memory_header : goal.returns-in_err-system-clause-memory_header
-returns-in_err-system-clause-memory_header g c =
+pub returns-in_err-system-clause-outcome : goal.returns-in_err-system-clause-outcome
+returns-in_err-system-clause-outcome g c =
+    let got = c.in_err-system.ensures.outcome in
     let exit = err_from_is_err_and c.from_residual.result c.from_residual.ensures.1 in
-    IfSome_then (g.R.Source.rest c.args.r.now) c.in_err-system.ensures.memory
-    (λ text good e. good (ap Err (one_error c.from_residual.result c.in_err-system.field-0.0 Memory exit e)))
+    takes_error _ _ _ _ c.from_residual.result c.in_err-system.field-0.0 got.given exit got.took (not_read got.outcome refl c.requires.fresh)
 
-pub returns-in_err-quotient-clause-memory_header : goal.returns-in_err-quotient-clause-memory_header
-returns-in_err-quotient-clause-memory_header g c =
-    read_then c.args.lim.now c.args.h.now c.in_ok-system.system (g.R.Source.rest c.args.r.now) _ c.in_ok-system.ensures.system
-    (λ text read e. c.a_text_reads_or_has_a_fault.ensures.header c.args.lim.now text read.0 read.1)
-
-pub returns-in_err-quotient-clause-meter : goal.returns-in_err-quotient-clause-meter
-returns-in_err-quotient-clause-meter g c =
-    let s = c.in_ok-system.system in
-    on_error _ (inr (
-      s.states,
-      length s.places,
-      c.in_err-quotient.ensures.err,
-      read_then c.args.lim.now c.args.h.now c.in_ok-system.system (g.R.Source.rest c.args.r.now) _ c.in_ok-system.ensures.system (λ text read. size_read c.args.lim.now c.args.h.now s text read),
-    ))
-
-pub returns-in_err-write-clause-fault : goal.returns-in_err-write-clause-fault
-returns-in_err-write-clause-fault g c =
-    let exit = err_from_is_err_and c.from_residual-in_err-write.result c.from_residual-in_err-write.ensures.1 in
-    λ sound. read_then c.args.lim.now c.args.h.now c.in_ok-system.system (g.R.Source.rest c.args.r.now) _ c.in_ok-system.ensures.system
-    (λ text read. at_error c.from_residual-in_err-write.result c.in_err-write.field-0.0 (λ f. IsTextFault f → FirstFault c.args.lim.now text f) exit
-    (λ h. absurd (not_of_text c.in_err-write.field-0.0 c.in_err-write.ensures.faults h)))
-
-pub returns-in_err-write-clause-memory_header : goal.returns-in_err-write-clause-memory_header
-returns-in_err-write-clause-memory_header g c =
-    read_then c.args.lim.now c.args.h.now c.in_ok-system.system (g.R.Source.rest c.args.r.now) _ c.in_ok-system.ensures.system
-    (λ text read e. c.a_text_reads_or_has_a_fault.ensures.header c.args.lim.now text read.0 read.1)
+pub returns-in_err-quotient-clause-outcome : goal.returns-in_err-quotient-clause-outcome
+returns-in_err-quotient-clause-outcome g c =
+    let got = c.in_ok-system.ensures.outcome in
+    let read = got.outcome.read in
+    let exit = err_from_is_err_and c.from_residual-in_err-quotient.result c.from_residual-in_err-quotient.ensures.1 in
+    let part = keeps_part _ read.0.states _ (length read.0.transitions) _ read.2.states got.outcome.as_many 0 c.in_err-quotient.ensures.keeps in
+    takes_error _ _ _ _ c.from_residual-in_err-quotient.result Memory got.given exit got.took
+    (no_memory refl got.outcome.sound got.outcome.at_end refl (read.0, read.1, part))
 
 -- what is proved of the system in memory holds of the one that the text reads as: the order of the list alone differs
-module _ (g : Over) (c : After-write g) (text : List ℕ) (read : ReadsAs c.args.lim.now text c.args.h.now c.in_ok-system.system) where
+module _ (g : Over) (c : After-write g) where
   abbrev rel : Relation
   rel = meant c.args.rel
 
   abbrev A : System
   A = system_of c.in_ok-system.system
 
+  abbrev input : System
+  input = c.in_ok-system.ensures.outcome.outcome.read.0
+
   abbrev B : System
-  B = Hide c.args.h.now read.0
+  B = Hide c.args.h.now input
 
   abbrev Q : System
   Q = system_of c.in_ok-quotient.quotient
 
   same : SameSteps A B
-  same = c.the_order_does_not_matter.ensures.permuted A B read.2.first read.2.states (IsPermutation-sym B.transitions A.transitions read.2.same)
+  same =
+      let groups = c.in_ok-system.ensures.outcome.outcome.read.2 in
+      c.the_order_does_not_matter.ensures.permuted A B groups.first groups.states (IsPermutation-sym B.transitions A.transitions groups.same)
 
   back : SameSteps B A
-  back = c.the_order_does_not_matter.ensures.permuted B A (sym read.2.first) (sym read.2.states) read.2.same
+  back =
+      let groups = c.in_ok-system.ensures.outcome.outcome.read.2 in
+      c.the_order_does_not_matter.ensures.permuted B A (sym groups.first) (sym groups.states) groups.same
 
-  quotient : Quotient rel B Q
-  quotient = c.the_order_does_not_matter.ensures.quotient rel A B Q same c.in_ok-quotient.ensures.quotient
-
-  minimised : Minimises rel B Q (g.M.Meter.rounds_made c.minimise.new.m) (g.M.Meter.visits_made c.minimise.new.m)
+  minimised : Minimises rel B Q
   minimised =
       let law = c.the_order_does_not_matter.ensures in
       let is = c.in_ok-quotient.ensures in
-      let n = read.2.states in
-      let m = as_many c.args.lim.now c.args.h.now c.in_ok-system.system text read in
-      let rounds = g.M.Meter.rounds_made c.minimise.new.m in
-      let visits = g.M.Meter.visits_made c.minimise.new.m in
       record {
-        quotient = quotient;
+        quotient = law.quotient rel A B Q same is.quotient;
         equivalent = law.equivalent rel A B Q same is.equivalent;
         no_two_bisimilar = is.no_two_bisimilar;
         smallest = λ C sys other. is.smallest C sys (law.equivalent rel B A C back other);
-        turns = law.turns rel A B rounds same is.turns;
-        few_rounds = omega (arith, n, is.rounds);
-        at_least = subst (λ k. rounds * k ≤ visits) m is.at_least;
-        at_most = subst (λ k. visits ≤ allowance rel k (length B.transitions) rounds) n (subst (λ k. visits ≤ allowance rel A.states k rounds) m is.at_most);
       }
 
   read_again : IsReadAgain c.args.lim.now Q
   read_again t written =
-      let s = c.in_ok-system.system in
+      let got = c.in_ok-system.ensures.outcome.outcome in
       let q = c.in_ok-quotient.quotient in
       let is = c.in_ok-quotient.ensures in
       let count = length-map q.places (transition_of q.labels) in
-      let all = all_read c.args.lim.now c.args.h.now s text read in
       c.text_is_read_again.ensures c.args.lim.now Q t c.transitions.ensures.within
       (c.quotient_is_a_system.ensures rel A Q c.states.ensures.lts.system is.quotient)
-      (omega (arith, read.1.states, read.2.states, is.fewer_states)) (omega (arith, read.1.transitions, all, count, is.fewer_transitions)) written
+      (omega (arith, got.within.states, is.no_larger.0)) (omega (arith, got.within.transitions, count, is.no_larger.1)) written
 
-pub returns-in_err-write-clause-begun : goal.returns-in_err-write-clause-begun
-returns-in_err-write-clause-begun g c =
+module _ (g : Over) (c : After-write g) where
+  -- the sink has gained the text of what minimises the system that was read
+  done : (old new : Option (List ℕ)) → GainsText (Q g c) old new →
+      MinimisesText (rel g c) c.args.lim.now c.args.h.now c.in_ok-system.ensures.outcome.given old new
+      (record { states = c.states.result; transitions = c.edges.result })
+  done old new gained =
+      let got = c.in_ok-system.ensures.outcome.outcome in
+      record {
+        input = input g c;
+        output = Q g c;
+        read = got.read.1;
+        states = c.states.ensures.value ∙ got.read.2.states;
+        transitions = c.edges.ensures.value ∙ got.as_many;
+        minimises = minimised g c;
+        written = gained;
+        read_again = read_again g c;
+      }
+
+  -- the meter stands within what a run over the system that was read may take
+  part : CountsPart c.args.lim.now c.in_ok-system.ensures.outcome.given (g.M.Meter.counted c.minimise.new.m)
+  part =
+      let got = c.in_ok-system.ensures.outcome.outcome in
+      let read = got.read in
+      (read.0, read.1, keeps_part _ read.0.states _ (length read.0.transitions) _ read.2.states got.as_many _ c.in_ok-quotient.ensures.keeps)
+
+pub returns-in_err-write-clause-outcome : goal.returns-in_err-write-clause-outcome
+returns-in_err-write-clause-outcome g c =
+    let at = (goal.at.returns-in_err-write-clause-outcome g c).After-write in
+    let got = c.in_ok-system.ensures.outcome in
+    let e = c.in_err-write.field-0.0 in
+    let is = c.in_err-write.ensures in
     let exit = err_from_is_err_and c.from_residual-in_err-write.result c.from_residual-in_err-write.ensures.1 in
-    λ device sound. read_then c.args.lim.now c.args.h.now c.in_ok-system.system (g.R.Source.rest c.args.r.now) _ c.in_ok-system.ensures.system
-    (λ text read. (
-      read.0,
-      system_of c.in_ok-quotient.quotient,
-      read.1,
-      quotient g (goal.at.returns-in_err-write-clause-begun g c).After-write text read,
-      c.in_err-write.ensures.device (one_error c.from_residual-in_err-write.result c.in_err-write.field-0.0 Device exit device),
-    ))
+    takes_error _ _ _ _ c.from_residual-in_err-write.result e got.given exit got.took (elim is.faults [
+      | inl memory ↦ no_memory memory got.outcome.sound got.outcome.at_end (is.memory memory) (part g at)
+      | inr device ↦ failed_sink device got.outcome.sound got.outcome.at_end (is.failures ∙ ap (λ f. failures_after {T = Unit {0}} (Err f)) device)
+          (input g at, Q g at, got.outcome.read.1, (minimised g at).quotient, is.device device) (part g at)
+    ])
 
-pub returns-in_err-write-clause-meter : goal.returns-in_err-write-clause-meter
-returns-in_err-write-clause-meter g c =
-    let s = c.in_ok-system.system in
-    on_error _ (inr (
-      s.states,
-      length s.places,
-      (c.in_ok-quotient.ensures.rounds, c.in_ok-quotient.ensures.at_most),
-      read_then c.args.lim.now c.args.h.now c.in_ok-system.system (g.R.Source.rest c.args.r.now) _ c.in_ok-system.ensures.system (λ text read. size_read c.args.lim.now c.args.h.now s text read),
-    ))
+pub returns-in_err-write-clause-minimised : goal.returns-in_err-write-clause-minimised
+returns-in_err-write-clause-minimised g c =
+    no_success _ _ c.from_residual-in_err-write.result c.in_err-write.field-0.0 (err_from_is_err_and c.from_residual-in_err-write.result c.from_residual-in_err-write.ensures.1)
+
+pub returns-in_err-write-clause-fault : goal.returns-in_err-write-clause-fault
+returns-in_err-write-clause-fault g c =
+    bad_of _ _ c.from_residual-in_err-write.result c.in_err-write.field-0.0 (err_from_is_err_and c.from_residual-in_err-write.result c.from_residual-in_err-write.ensures.1)
+    (λ text of_text. absurd (not_of_text c.in_err-write.field-0.0 c.in_err-write.ensures.faults of_text))
+
+pub returns-clause-outcome : goal.returns-clause-outcome
+unfolding done
+returns-clause-outcome g c =
+    let at = (goal.at.returns-clause-outcome g c).After-write in
+    let got = c.in_ok-system.ensures.outcome in
+    let is = c.in_ok-quotient.ensures in
+    record {
+      given = got.given;
+      took = got.took;
+      outcome = record {
+        minimised = done g at _ _ c.in_ok-write.ensures.text;
+        turns = c.the_order_does_not_matter.ensures.turns (rel g at) (A g at) (B g at) _ (same g at) is.turns;
+        keeps = keeps_whole _ _ _ _ _ (sym c.states.ensures.value) (sym c.edges.ensures.value) is.keeps;
+        at_end = got.outcome.at_end;
+      };
+    }
 
 pub returns-clause-minimised : goal.returns-clause-minimised
 returns-clause-minimised g c =
-    let s = c.in_ok-system.system in
-    read_then c.args.lim.now c.args.h.now s (g.R.Source.rest c.args.r.now) _ c.in_ok-system.ensures.system
-    (λ text read. record {
-      input = read.0;
-      output = system_of c.in_ok-quotient.quotient;
-      read = read.1;
-      states = c.states.ensures.value ∙ read.2.states;
-      transitions = c.edges.ensures.value ∙ all_read c.args.lim.now c.args.h.now s text read;
-      minimises = minimised g (goal.at.returns-clause-minimised g c).After-write text read;
-      written = c.in_ok-write.ensures.text;
-      read_again = read_again g (goal.at.returns-clause-minimised g c).After-write text read;
-    })
+    let at = (goal.at.returns-clause-minimised g c).After-write in
+    let got = c.in_ok-system.ensures.outcome in
+    all_taken _ _ got.given _ got.took got.outcome.at_end (done g at _ _ c.in_ok-write.ensures.text)
