@@ -133,7 +133,7 @@ impl Cutter {
         Ok(Step::Line)
     }
 
-    /// Whether no byte stands behind the line that was cut last.
+    /// Whether no byte follows the line that was cut last.
     pub(crate) fn is_at_end<R: Source>(&mut self, r: &mut R) -> Result<bool, Broken>
         requires { R.failures r.old ≡ 0 }
         ensures look { (got : List ℕ) × Consumes (R.rest r.old) (R.rest r.new) got ×

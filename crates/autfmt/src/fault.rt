@@ -37,7 +37,7 @@ pub enum Fault {
     /// The target on this line is not below the count of states.
     #[error("line {0}: target out of range")]
     TargetRange(u32),
-    /// This line stands after the promised transitions.
+    /// This line comes after the promised transitions.
     #[error("line {0}: text after the last transition")]
     ExtraText(u32),
     /// The text ends after this many transitions, fewer than promised.

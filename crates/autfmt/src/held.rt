@@ -36,7 +36,7 @@ impl Held {
     /// One transition more, of as many as were promised.
     ///
     /// # Errors
-    /// `Memory` where a growth is refused.
+    /// `Memory` if a growth is refused.
     pub(crate) fn add(
         &mut self,
         source: u32,
@@ -59,11 +59,11 @@ impl Held {
     }
 }
 
-/// The number of a label, which goes last in the table where it is new. Where the guess is right there is no search,
+/// The number of a label, which is added at the end of the table if it is new. If the guess is right there is no search,
 /// which saves a sixth of the time of reading.
 ///
 /// # Errors
-/// `Memory` where a growth is refused.
+/// `Memory` if a growth is refused.
 fn number_of(labels: &mut Labels, guesses: &mut [u32; GUESSES], label: &[u8]) -> Result<u32, Memory>
     requires label { IsLabel label.now }
     requires room { length labels.old < 20000000 }

@@ -31,10 +31,10 @@ impl Hidden {
         }
     }
 
-    /// One label more, which stands once also where it comes again.
+    /// Adds a label; one that is already there is kept once.
     ///
     /// # Errors
-    /// `Memory` where a growth is refused.
+    /// `Memory` if a growth is refused.
     pub(crate) fn add(&mut self, label: &[u8]) -> Result<(), Memory>
         requires label { IsLabel label.now }
         requires room { length self.old < 20000000 }
@@ -44,7 +44,7 @@ impl Hidden {
         Ok(())
     }
 
-    /// The label itself, or `i` where it is hidden.
+    /// The label itself, or `i` if it is hidden.
     pub(crate) fn shown<'a>(&self, label: &'a [u8]) -> &'a [u8]
         ensures { result.now ≡ hidden_label self.now label.now }
     {

@@ -39,7 +39,7 @@ pub fn read_hidden<R: Source>(alloc: Global, r: &mut R) -> Result<Hidden, Fault>
     read_labels(alloc, r)
 }
 
-/// Reads the lines of a hide list, and that nothing stands behind the last one that may.
+/// Reads the lines of a hide list, and checks that nothing follows line 100,000.
 fn read_labels<R: Source>(alloc: Global, r: &mut R) -> Result<Hidden, Fault>
     requires { R.failures r.old ≡ 0 }
     ensures { HideAnswers (R.rest r.old) (R.rest r.new) (R.failures r.new) result }
@@ -59,7 +59,7 @@ fn read_labels<R: Source>(alloc: Global, r: &mut R) -> Result<Hidden, Fault>
     Ok(hidden)
 }
 
-/// Reads one line more behind those found, and adds its label; false where there is none.
+/// Reads the line after those found and adds its label; returns false if there is none.
 fn read_hide_line<R: Source>(
     cutter: &mut Cutter,
     r: &mut R,

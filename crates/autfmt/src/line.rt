@@ -33,7 +33,7 @@ impl LineBuffer {
         }
     }
 
-    /// Appends `b` and answers true, or answers false where 8192 bytes stand.
+    /// Appends `b` and returns true, or returns false if the line already has 8192 bytes.
     pub fn push(&mut self, b: u8) -> bool
         ensures fits { IsTrue result ↔ (length self.old < longest_line) }
         ensures line { self.new ≡ (if result then self.old ++ b ∷ [] else self.old) }
@@ -46,7 +46,7 @@ impl LineBuffer {
         true
     }
 
-    /// Appends all of `b` and answers true, or answers false where they do not all fit.
+    /// Appends all of `b` and returns true, or returns false if they do not all fit.
     pub(crate) fn extend(&mut self, b: &[u8]) -> bool
         ensures fits { IsTrue result ↔ Fits self.old b.now }
         ensures line { self.new ≡ (if result then self.old ++ b.now else self.old) }

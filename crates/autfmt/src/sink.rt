@@ -19,10 +19,10 @@ pub trait Sink {
     // How often it failed.
     ghost failures: { Self → ℕ };
 
-    /// Puts the first bytes of `b`, and answers how many, at least 1.
+    /// Puts the first bytes of `b`, and returns how many, at least 1.
     ///
     /// # Errors
-    /// `Broken` where the sink fails. Nothing was put, and `failures` is 1 from then on.
+    /// `Broken` if the sink fails. Nothing was put, and `failures` is 1 from then on.
     fn put(&mut self, b: &[u8]) -> Result<usize, Broken>
         requires bytes { 0 < length b.now }
         requires sound { failures self.old ≡ 0 }
@@ -34,7 +34,7 @@ pub trait Sink {
     /// Sends on what the sink holds back. It puts nothing.
     ///
     /// # Errors
-    /// `Broken` where the sink fails, and `failures` is 1 from then on.
+    /// `Broken` if the sink fails, and `failures` is 1 from then on.
     fn finish(&mut self) -> Result<(), Broken>
         requires { failures self.old ≡ 0 }
         ensures bytes { Keeps (written self.old) (written self.new) }
@@ -70,7 +70,7 @@ impl Model for VecSink {
 }
 
 impl VecSink {
-    /// An empty sink that takes bytes up to `count`; where that many stand, the next call fails.
+    /// An empty sink that takes bytes up to `count`; when it has that many, the next call fails.
     pub fn new(alloc: Global, count: Option<usize>) -> VecSink
         ensures { result ≡ record { bytes = []; count = count; most = None; failures = 0 } }
     {
@@ -173,7 +173,7 @@ impl<W> Model for ToWrite<W> {
 }
 
 impl<W: Write> ToWrite<W> {
-    /// A sink into `writer`, which tells its bytes where the writer does.
+    /// A sink into `writer`, which tells its bytes if the writer does.
     pub fn new(writer: W) -> ToWrite<W>
         ensures { result ≡ record { inner = writer; failures = 0 } }
     {

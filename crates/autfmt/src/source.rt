@@ -18,10 +18,10 @@ pub trait Source {
     // How often it failed.
     ghost failures: { Self → ℕ };
 
-    /// Takes the next bytes into the front of `buf` and answers their count, 0 only at the end.
+    /// Takes the next bytes into the front of `buf` and returns their count, 0 only at the end.
     ///
     /// # Errors
-    /// `Broken` where the source fails. No byte is lost, and `failures` is 1 from then on.
+    /// `Broken` if the source fails. No byte is lost, and `failures` is 1 from then on.
     fn take(&mut self, buf: &mut [u8]) -> Result<usize, Broken>
         requires room { 0 < length buf.old }
         requires sound { failures self.old ≡ 0 }
@@ -133,7 +133,7 @@ impl<R> Model for FromRead<R> {
 }
 
 impl<R: Read> FromRead<R> {
-    /// A source of what `reader` gives, which tells its bytes where the reader does.
+    /// A source of what `reader` gives, which tells its bytes if the reader does.
     pub fn new(reader: R) -> FromRead<R>
         ensures { result ≡ record { inner = reader; failures = 0 } }
     {

@@ -30,7 +30,7 @@ pub fn a_text_has_one_reading()
         FirstFault bounds text f → FirstFault bounds text g → f ≡ g }
 {}
 
-/// A text has no first fault exactly where it reads as some system, and then its line 1 is a good header.
+/// A text has no first fault exactly if it reads as some system, and then its line 1 is a good header.
 pub fn a_text_reads_or_has_a_fault()
     ensures one { (bounds : Bounds) (text : List ℕ) →
         ((A : System) × Reads bounds text A) ⊎ ((f : Fault) × FirstFault bounds text f) }
@@ -53,7 +53,7 @@ pub fn a_hide_list_has_one_reading()
     ensures fault { (text : List ℕ) (f g : Fault) → FirstHideFault text f → FirstHideFault text g → f ≡ g }
 {}
 
-/// A hide list has no first fault exactly where it has some list of labels.
+/// A hide list has no first fault exactly if it has some list of labels.
 pub fn a_hide_list_reads_or_has_a_fault()
     ensures one { (text : List ℕ) →
         ((H : List (List ℕ)) × HideReads text H) ⊎ ((f : Fault) × FirstHideFault text f) }

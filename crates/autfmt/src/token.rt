@@ -8,7 +8,7 @@ ghost use Rattle.autfmt.specs.Reading.{Gives, is_blank, is_word, after_blanks, p
 use lts::is_label;
 
 /// The first state, the number of transitions and the number of states that a header line gives;
-/// None where the line is not a header.
+/// None if the line is not a header.
 pub(crate) fn header_of(line: &[u8]) -> Option<(u64, u64, u64)>
     ensures found { IfSome result (λ x. Header line.now x.0 x.1 x.2) }
     ensures none { IfNone result ((f m n : ℕ) → ¬ Header line.now f m n) }
@@ -16,7 +16,7 @@ pub(crate) fn header_of(line: &[u8]) -> Option<(u64, u64, u64)>
     read_header(line)
 }
 
-/// The source, the label and the target that a transition line gives; None where the line is not
+/// The source, the label and the target that a transition line gives; None if the line is not
 /// one.
 pub(crate) fn transition_of(line: &[u8]) -> Option<(u64, &[u8], u64)>
     ensures found { IfSome result (λ x. TransitionLine line.now x.0 x.1.now x.2) }
@@ -27,7 +27,7 @@ pub(crate) fn transition_of(line: &[u8]) -> Option<(u64, &[u8], u64)>
     read_transition(line)
 }
 
-/// The label that a line of a hide list gives; None where the line is not one label.
+/// The label that a line of a hide list gives; None if the line is not one label.
 pub(crate) fn hide_line_of(line: &[u8]) -> Option<&[u8]>
     ensures found { IfSome result (λ a. HideLine line.now a.now) }
     ensures label { IfSome result (λ a. IsLabel a.now) }
