@@ -10,6 +10,7 @@ mod judge;
 mod limits;
 mod line;
 mod line_laws;
+mod ordering;
 mod reader;
 #[cfg(test)]
 mod reader_tests;
@@ -17,6 +18,7 @@ mod reader_tests;
 mod refusal_tests;
 mod sink;
 mod source;
+mod spelling;
 mod stream;
 #[cfg(test)]
 mod tests;

@@ -1,6 +1,6 @@
 use Rattle.std.proofs.Common.{◌++◌, take, sym, ap, ◌∙◌, arith}
 use Rattle.autfmt.proofs.Lists.{begins_with}
-use Rattle.autfmt.proofs.writer.Front.put.Goals as goal
+use Rattle.autfmt.proofs.spelling.Front.put.Goals as goal
 
 pub returns-clause-text : goal.returns-clause-text
 returns-clause-text c =

@@ -1,0 +1,154 @@
+//! How lines are spelled into a buffer: the header, and the line of a transition.
+ghost use Rattle.std.specs.Prelude.{◌≡◌, ◌+◌, ◌≤◌, length, take, ◌++◌, ◌||◌};
+ghost use Rattle.std.specs.Char.{is_ascii_digit};
+ghost use Rattle.std.specs.List.{list_all};
+ghost use Rattle.theory.specs.System.{IsLabel};
+ghost use Rattle.autfmt.specs.Grammar.{is_letter, is_plain};
+ghost use Rattle.autfmt.specs.Written.{written_label, header_of, written_transition};
+ghost use Rattle.autfmt.specs.Fronts.{written_front};
+
+use crate::token::is_letter;
+use itoa::Buffer;
+use std::marker::Model;
+
+/// Room for the front of a line: a bracket, a number of ten digits, a comma and a space.
+const FRONT: usize = 13;
+
+/// No line is longer: 8000 bytes of label, two quotes, two numbers of ten digits, six further bytes and a line feed.
+pub(crate) const LONGEST: usize = 8_029;
+
+/// Puts the header at the front of the buffer, and returns where it ends.
+pub(crate) fn append_header(buffer: &mut [u8], first: u32, transitions: usize, states: u32) -> usize
+    requires { LONGEST ≤ length buffer.old }
+    ensures text { take result buffer.new ≡ header_of first transitions states }
+    ensures end { result ≤ LONGEST }
+{
+    let mut digits = Buffer::new();
+    let end = append(buffer, 0, b"des (");
+    let end = append(buffer, end, digits.format(first).as_bytes());
+    let end = append(buffer, end, b", ");
+    let end = append(buffer, end, digits.format(transitions).as_bytes());
+    let end = append(buffer, end, b", ");
+    let end = append(buffer, end, digits.format(states).as_bytes());
+    append(buffer, end, b")\n")
+}
+
+/// The front of a line, up to the label. It is made once for all transitions of a source.
+#[derive(Drop)]
+pub(crate) struct Front {
+    source: u32,
+    bytes: [u8; FRONT],
+    len: usize,
+}
+
+impl Model for Front {
+    ghost use Rattle.std.specs.Prelude.{ℕ};
+    ghost use Rattle.autfmt.specs.Fronts.{IsFront};
+
+    ghost Value = { ℕ };
+
+    ghost view = { λ f. f.source };
+
+    ghost invariant = { λ f. IsFront f.source f.len f.bytes };
+}
+
+impl Front {
+    /// The front for the transitions of a source.
+    pub fn new(source: u32) -> Front
+        ensures { result ≡ source }
+    {
+        let mut bytes = [0; FRONT];
+        let mut digits = Buffer::new();
+        let end = append(&mut bytes, 0, b"(");
+        let end = append(&mut bytes, end, digits.format(source).as_bytes());
+        let len = append(&mut bytes, end, b", ");
+        Front { source, bytes, len }
+    }
+
+    /// Goes on to the transitions of a source, which may be the same.
+    pub fn set(&mut self, source: u32)
+        ensures { self.new ≡ source }
+    {
+        if self.source != source {
+            *self = Front::new(source);
+        }
+    }
+
+    /// Puts the front at `end`, and returns where it ends. All its room is copied, which takes no call.
+    fn put(&self, buffer: &mut [u8], end: usize) -> usize
+        requires { end + FRONT ≤ length buffer.old }
+        ensures text { take result buffer.new ≡ take end buffer.old ++ written_front self.now }
+        ensures end { result ≤ end + FRONT }
+    {
+        append(buffer, end, &self.bytes);
+        end + self.len
+    }
+}
+
+/// Puts the line of a transition at `end`, and returns where it ends. `plain` says whether the label may stand without
+/// quotation marks.
+pub(crate) fn append_transition(
+    buffer: &mut [u8],
+    end: usize,
+    front: &Front,
+    label: &[u8],
+    plain: bool,
+    target: u32,
+) -> usize
+    requires room { end + LONGEST ≤ length buffer.old }
+    requires label { IsLabel label.now }
+    requires plain { plain ≡ is_plain label.now }
+    ensures text { take result buffer.new ≡ take end buffer.old
+        ++ written_transition (record { source = front.now; label = label.now; target = target }) }
+    ensures end { result ≤ end + LONGEST }
+{
+    let mut digits = Buffer::new();
+    let end = front.put(buffer, end);
+    let end = append_label(buffer, end, label, plain);
+    let end = append(buffer, end, b", ");
+    let end = append(buffer, end, digits.format(target).as_bytes());
+    append(buffer, end, b")\n")
+}
+
+/// Puts the spelling of a label at `end`, and returns where it ends: plain if it can stand so, else quoted.
+fn append_label(buffer: &mut [u8], end: usize, label: &[u8], plain: bool) -> usize
+    requires room { end + 2 + length label.now ≤ length buffer.old }
+    requires plain { plain ≡ is_plain label.now }
+    ensures text { take result buffer.new ≡ take end buffer.old ++ written_label label.now }
+    ensures end { result ≤ end + 2 + length label.now }
+{
+    if plain {
+        return append(buffer, end, label);
+    }
+    let end = append(buffer, end, b"\"");
+    let end = append(buffer, end, label);
+    append(buffer, end, b"\"")
+}
+
+/// Whether a label may stand without quotation marks.
+pub(crate) fn is_plain(label: &[u8]) -> bool
+    ensures { result ≡ is_plain label.now }
+{
+    let [first, rest @ ..] = label else {
+        return false;
+    };
+    is_letter(*first) && are_letters_or_digits(rest) && label.len() <= 8000
+}
+
+/// Whether each byte is a letter or a digit.
+fn are_letters_or_digits(bytes: &[u8]) -> bool
+    ensures { result ≡ list_all (λ c. is_letter c || is_ascii_digit c) bytes.now }
+{
+    bytes.iter().all(|b| is_letter(*b) || b.is_ascii_digit())
+}
+
+/// Puts bytes at `end`, and returns where they end.
+fn append(buffer: &mut [u8], end: usize, bytes: &[u8]) -> usize
+    requires { end + length bytes.now ≤ length buffer.old }
+    ensures text { take result buffer.new ≡ take end buffer.old ++ bytes.now }
+    ensures end { result ≡ end + length bytes.now }
+{
+    let new_end = end + bytes.len();
+    buffer[end..new_end].copy_from_slice(bytes);
+    new_end
+}
