@@ -45,5 +45,7 @@ pub fn equivalent<M: Meter>(
     let both = union(alloc, a, b, m)?;
     both.known();
     let blocks = r.blocks(alloc, &both, m)?;
-    Ok(blocks.block(a.first()) == blocks.block(a.states() + b.first()))
+    let first = blocks.block(a.first());
+    let second = blocks.block(a.states() + b.first());
+    Ok(first == second)
 }

@@ -44,7 +44,8 @@ impl Search {
     /// MarksState the state `s` and puts it on the stack, unless it was marked before.
     fn mark(&mut self, s: u32) -> Result<(), Memory>
         requires { s < length self.old.marked.items }
-        ensures { OnOk result (MarksState s self.old.marked.items self.old.stack.items self.new.marked.items self.new.stack.items) }
+        ensures { let marks = MarksState s self.old.marked.items self.old.stack.items in
+            OnOk result (marks self.new.marked.items self.new.stack.items) }
     {
         if !self.marked[s as usize] {
             self.marked[s as usize] = true;

@@ -18,11 +18,11 @@ returns-clause-verdict g c =
     let law =
     decides.blocks (meant c.args.r) (system_of a) (system_of b) (system_of both) (slice_index blocks) c.known.ensures.system c.known-2.ensures.system same
     c.in_ok-blocks.ensures.classes in
-    let first : c.block.result ≡ slice_index blocks a.first = c.block.ensures ∙ ap (slice_index blocks) c.first.ensures in
+    let first : c.block-first.result ≡ slice_index blocks a.first = c.block-first.ensures ∙ ap (slice_index blocks) c.first.ensures in
     let at : c.states.result + c.first-2.result ≡ a.states + b.first = omega (arith, c.states.ensures.value, c.first-2.ensures) in
-    let second : c.block-2.result ≡ slice_index blocks (a.states + b.first) = c.block-2.ensures ∙ ap (slice_index blocks) at in (
-      λ e. law.1 (sym first ∙ (eqb-true c.block.result c.block-2.result e ∙ second)),
-      λ h. eq-eqb c.block.result c.block-2.result (first ∙ (law.0 h ∙ sym second)),
+    let second : c.block-second.result ≡ slice_index blocks (a.states + b.first) = c.block-second.ensures ∙ ap (slice_index blocks) at in (
+      λ e. law.1 (sym first ∙ (eqb-true c.block-first.result c.block-second.result e ∙ second)),
+      λ h. eq-eqb c.block-first.result c.block-second.result (first ∙ (law.0 h ∙ sym second)),
     )
 
 pub returns-in_err-blocks-clause-keeps : goal.returns-in_err-blocks-clause-keeps
