@@ -13,7 +13,7 @@ pub(crate) fn header_of(line: &[u8]) -> Option<(u64, u64, u64)>
     ensures found { IfSome result (λ x. Header line.now x.0 x.1 x.2) }
     ensures none { IfNone result ((f m n : ℕ) → ¬ Header line.now f m n) }
 {
-    read_header(line)
+    header_in(line)
 }
 
 /// The source, the label and the target that a transition line gives; None if the line is not
@@ -24,7 +24,7 @@ pub(crate) fn transition_of(line: &[u8]) -> Option<(u64, &[u8], u64)>
     ensures numbers { IfSome result (λ x. (x.0 < 10 ^ 10) × (x.2 < 10 ^ 10)) }
     ensures none { IfNone result ((s t : ℕ) (a : List ℕ) → ¬ TransitionLine line.now s a t) }
 {
-    read_transition(line)
+    transition_in(line)
 }
 
 /// The label that a line of a hide list gives; None if the line is not one label.
@@ -33,11 +33,12 @@ pub(crate) fn hide_line_of(line: &[u8]) -> Option<&[u8]>
     ensures label { IfSome result (λ a. IsLabel a.now) }
     ensures none { IfNone result ((a : List ℕ) → ¬ HideLine line.now a) }
 {
-    read_hide_line(line)
+    hide_line_in(line)
 }
 
+/// The three numbers of a header, read from the left.
 #[tactic(auto, unfolding(crate::specs::Reading::header_at))]
-fn read_header(line: &[u8]) -> Option<(u64, u64, u64)>
+fn header_in(line: &[u8]) -> Option<(u64, u64, u64)>
     ensures { Gives (λ x. (x.0, x.1, x.2)) result (header_at line.now) }
 {
     let rest = past_des(after_blanks(line))?;
@@ -52,8 +53,9 @@ fn read_header(line: &[u8]) -> Option<(u64, u64, u64)>
     }
 }
 
+/// The source, the label and the target, read from the left.
 #[tactic(auto, unfolding(crate::specs::Reading::transition_at))]
-fn read_transition(line: &[u8]) -> Option<(u64, &[u8], u64)>
+fn transition_in(line: &[u8]) -> Option<(u64, &[u8], u64)>
     ensures { Gives (λ x. (x.0, x.1.now, x.2)) result (transition_at line.now) }
 {
     let rest = past(b'(', after_blanks(line))?;
@@ -68,15 +70,16 @@ fn read_transition(line: &[u8]) -> Option<(u64, &[u8], u64)>
     }
 }
 
+/// The label of a hide line, read from the left.
 #[tactic(auto, unfolding(crate::specs::Reading::hide_line_at))]
-fn read_hide_line(line: &[u8]) -> Option<&[u8]>
+fn hide_line_in(line: &[u8]) -> Option<&[u8]>
     ensures { Gives (λ a. a.now) result (hide_line_at line.now) }
 {
     let (label, rest) = label_at(after_blanks(line))?;
     if are_blanks(rest) { Some(label) } else { None }
 }
 
-// A number and the mark behind it, each behind blanks.
+/// A number and the mark after it, with blanks before each.
 #[inline(always)]
 #[tactic(auto, unfolding(crate::specs::Reading::number_then))]
 fn number_then(mark: u8, line: &[u8]) -> Option<(u64, &[u8])>
@@ -87,6 +90,7 @@ fn number_then(mark: u8, line: &[u8]) -> Option<(u64, &[u8])>
     Some((number, rest))
 }
 
+/// What follows `des`, if that is in front.
 #[tactic(auto, unfolding(crate::specs::Reading::past_des))]
 fn past_des(line: &[u8]) -> Option<&[u8]>
     ensures { Gives (λ r. r.now) result (past_des line.now) }
@@ -96,7 +100,7 @@ fn past_des(line: &[u8]) -> Option<&[u8]>
     past(b's', rest)
 }
 
-// What is left behind the mark, where it is the first byte.
+/// What follows the mark, if it is the first byte.
 #[tactic(auto, unfolding(crate::specs::Reading::past))]
 fn past(mark: u8, line: &[u8]) -> Option<&[u8]>
     ensures { Gives (λ r. r.now) result (past mark line.now) }
@@ -107,6 +111,7 @@ fn past(mark: u8, line: &[u8]) -> Option<&[u8]>
     }
 }
 
+/// The line from its first byte that is no blank.
 #[tactic(auto, unfolding(crate::specs::Reading::after_blanks))]
 fn after_blanks(line: &[u8]) -> &[u8]
     ensures { result.now ≡ after_blanks line.now }
@@ -121,18 +126,21 @@ fn after_blanks(line: &[u8]) -> &[u8]
     rest
 }
 
+/// Whether nothing but blanks is left.
 fn are_blanks(line: &[u8]) -> bool
     ensures { result ≡ are_blanks line.now }
 {
     line.iter().all(|b| is_blank(*b))
 }
 
+/// A space, a tab or a carriage return.
 fn is_blank(b: u8) -> bool
     ensures { result ≡ is_blank b }
 {
     b == b' ' || b == b'\t' || b == b'\r'
 }
 
+/// The number in front, and what follows it.
 #[tactic(auto, unfolding(crate::specs::Reading::number_at))]
 fn number_at(line: &[u8]) -> Option<(u64, &[u8])>
     ensures { Gives (λ x. (x.0, x.1.now)) result (number_at line.now) }
@@ -143,7 +151,7 @@ fn number_at(line: &[u8]) -> Option<(u64, &[u8])>
     more_digits(u64::from(*first - b'0'), rest)
 }
 
-// Goes on behind the digits of `value`: none follows a leading zero, and none follows ten of them.
+/// Goes on after the digits of `value`: none follows a leading zero, and none follows ten of them.
 #[tactic(auto, unfolding(crate::specs::Reading::more_digits))]
 fn more_digits(value: u64, line: &[u8]) -> Option<(u64, &[u8])>
     requires { value < 10 ^ 10 }
@@ -161,6 +169,7 @@ fn more_digits(value: u64, line: &[u8]) -> Option<(u64, &[u8])>
     Some((value, rest))
 }
 
+/// The label in front, plain or quoted, and what follows it.
 #[tactic(auto, unfolding(crate::specs::Reading::label_at))]
 fn label_at(line: &[u8]) -> Option<(&[u8], &[u8])>
     ensures { Gives (λ x. (x.0.now, x.1.now)) result (label_at line.now) }
@@ -172,7 +181,7 @@ fn label_at(line: &[u8]) -> Option<(&[u8], &[u8])>
     }
 }
 
-// A label behind its opening mark: nothing behind a label holds a mark, so the last one ends it.
+/// A label after its opening mark: nothing after a label has a mark, so the last one ends it.
 fn quoted_at(line: &[u8]) -> Option<(&[u8], &[u8])>
     ensures { Gives (λ x. (x.0.now, x.1.now)) result (quoted_at line.now) }
 {
@@ -185,6 +194,7 @@ fn quoted_at(line: &[u8]) -> Option<(&[u8], &[u8])>
     }
 }
 
+/// The place of the last quotation mark.
 fn last_quote(line: &[u8]) -> Option<usize>
     ensures within { IfSome result (λ i. i < length line.now) }
     ensures quote { IfSome result (λ i. slice_index line.now i ≡ 34) }
@@ -195,6 +205,7 @@ fn last_quote(line: &[u8]) -> Option<usize>
     line.iter().rposition(|b| *b == b'"')
 }
 
+/// A plain label in front, and what follows it.
 #[tactic(auto, unfolding(crate::specs::Reading::plain_at))]
 fn plain_at(line: &[u8]) -> Option<(&[u8], &[u8])>
     ensures { Gives (λ x. (x.0.now, x.1.now)) result (plain_at line.now) }
@@ -210,7 +221,7 @@ fn plain_at(line: &[u8]) -> Option<(&[u8], &[u8])>
     }
 }
 
-// How many letters and digits stand in front.
+/// How many letters and digits there are in front.
 fn word_len(line: &[u8]) -> usize
     ensures value { result ≡ word_len line.now }
     ensures within { result ≤ length line.now }
@@ -230,6 +241,7 @@ pub(crate) fn is_letter(b: u8) -> bool
     b.is_ascii_alphabetic() || b == b'_'
 }
 
+/// A letter or a digit.
 fn is_word(b: u8) -> bool
     ensures { result ≡ is_word b }
 {

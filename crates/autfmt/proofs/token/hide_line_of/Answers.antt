@@ -9,15 +9,15 @@ use Rattle.autfmt.proofs.token.hide_line_of.Goals as goal
 pub returns-clause-found : goal.returns-clause-found
 returns-clause-found c =
     let line = c.args.line.now in
-    found_from _ c.read_hide_line.result (hide_line_at line) (λ a. HideLine line a) c.read_hide_line.ensures (hide_line_at-takes line)
+    found_from _ c.hide_line_in.result (hide_line_at line) (λ a. HideLine line a) c.hide_line_in.ensures (hide_line_at-takes line)
 
 pub returns-clause-label : goal.returns-clause-label
 returns-clause-label c =
     let line = c.args.line.now in
-    found_from _ c.read_hide_line.result (hide_line_at line) (λ a. IsLabel a) c.read_hide_line.ensures
+    found_from _ c.hide_line_in.result (hide_line_at line) (λ a. IsLabel a) c.hide_line_in.ensures
     (λ a e. hide_line-label line a (hide_line_at-takes line a e))
 
 pub returns-clause-none : goal.returns-clause-none
 returns-clause-none c =
     let line = c.args.line.now in
-    none_from _ c.read_hide_line.result (hide_line_at line) ((a : List ℕ) → ¬ HideLine line a) c.read_hide_line.ensures (no_hide_line line)
+    none_from _ c.hide_line_in.result (hide_line_at line) ((a : List ℕ) → ¬ HideLine line a) c.hide_line_in.ensures (no_hide_line line)
