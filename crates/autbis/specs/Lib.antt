@@ -2,5 +2,6 @@ pub mod Files
 pub mod Reports
 pub mod Words
 pub mod Runs
+pub mod Comparisons
 pub mod Jobs
 pub mod Programs

@@ -1,6 +1,9 @@
 //! The runs of `autbis`, the words of its command line, what it says of a fault, and the jobs: all of the program but its `main`.
 #![tactic(auto)]
 
+mod compare;
+#[cfg(test)]
+mod compare_tests;
 mod job;
 mod opener;
 mod program;
@@ -14,6 +17,7 @@ mod run_tests;
 mod tests;
 mod words;
 
+pub use crate::compare::{CmpFault, Side, run_cmp};
 pub use crate::job::{do_job, main_program};
 pub use crate::opener::{Disk, Opener};
 pub use crate::program::min_program;

@@ -1,0 +1,100 @@
+-- What is said of two systems that were read holds of those that the texts read as: the order of their lists alone differs.
+use Rattle.std.proofs.Common.{◌≡◌, ◌↔◌, ℕ, ◌+◌, ◌*◌, ◌≤◌, Bool, IsTrue, List, length, ap₂, sym, arith}
+use Rattle.std.specs.List.Sorted.{IsPermutation}
+use Rattle.std.proofs.lemmas.List.Sorted.{IsPermutation-sym}
+use Rattle.theory.specs.System.{System, Hide}
+use Rattle.theory.specs.Bisimulation.{Relation, Equivalent}
+use Rattle.theory.specs.Blocks.{Turns}
+use Rattle.theory.specs.Alike.{SameSteps}
+use Rattle.theory.specs.Union.{union_of}
+use Rattle.lts.specs.Lts.{Grouped, system_of}
+use Rattle.lts.specs.Meter.{Counts}
+use Rattle.lts.specs.Union.{FitTogether}
+use Rattle.quotient.specs.Bounds.{KeepsTo}
+use Rattle.autfmt.specs.Bounds.{Bounds, IsWithinFile}
+use Rattle.autfmt.specs.Outcomes.{IsWithin}
+use Rattle.autfmt.specs.Readers.{ReadsAs}
+use Rattle.autbis.specs.Comparisons.{CountsComparison, IsVerdict, ReadBoth, states_of, transitions_of}
+
+-- two systems that were read from a file have a place in memory together
+pub fit_together :
+    (bounds : Bounds) (s t : Grouped) → IsWithinFile bounds → IsWithin bounds s → IsWithin bounds t → FitTogether s t
+fit_together bounds s t file one other = record {
+  states = omega (arith, file.states, one.states, other.states);
+  transitions = omega (arith, file.transitions, one.transitions, other.transitions);
+}
+
+-- the laws that the comparison rests on
+pub record OrderLaws : Type 0 where
+  pub permuted : (A B : System) → A.first ≡ B.first → A.states ≡ B.states →
+      IsPermutation A.transitions B.transitions → SameSteps A B
+  pub equivalent : (rel : Relation) (A B C D : System) → SameSteps A B → SameSteps C D →
+      Equivalent rel A C → Equivalent rel B D
+  pub turns : (rel : Relation) (A B C D : System) (k : ℕ) → SameSteps A B → SameSteps C D →
+      Turns rel (union_of A C) k → Turns rel (union_of B D) k
+
+module _ (law : OrderLaws) (bounds : Bounds) (H : List (List ℕ)) where
+  -- the system in memory has the steps of the one that its text reads as
+  pub steps_of_text : (given : List ℕ) (s : Grouped) (read : ReadsAs bounds given H s) → SameSteps (system_of s) (Hide H read.0)
+  steps_of_text given s read =
+      let A : System = Hide H read.0 in
+      let B : System = system_of s in
+      law.permuted B A read.2.first read.2.states (IsPermutation-sym A.transitions B.transitions read.2.same)
+
+  pub steps_in_memory : (given : List ℕ) (s : Grouped) (read : ReadsAs bounds given H s) → SameSteps (Hide H read.0) (system_of s)
+  steps_in_memory given s read =
+      law.permuted (Hide H read.0) (system_of s) (sym read.2.first) (sym read.2.states) read.2.same
+
+  module _ (rel : Relation) (given given' : List ℕ) (s t : Grouped)
+      (one : ReadsAs bounds given H s) (other : ReadsAs bounds given' H t) where
+    -- the systems in memory are equivalent exactly when those of the texts are
+    pub compared : Equivalent rel (system_of s) (system_of t) ↔ Equivalent rel (Hide H one.0) (Hide H other.0)
+    compared =
+        let A : System = Hide H one.0 in
+        let B : System = Hide H other.0 in (
+          law.equivalent rel (system_of s) A (system_of t) B (steps_of_text given s one) (steps_of_text given' t other),
+          law.equivalent rel A (system_of s) B (system_of t) (steps_in_memory given s one) (steps_in_memory given' t other),
+        )
+
+    -- their union takes as many Splits
+    pub compared_turns : (k : ℕ) → Turns rel (union_of (system_of s) (system_of t)) k
+        → Turns rel (union_of (Hide H one.0) (Hide H other.0)) k
+    compared_turns k =
+        law.turns rel (system_of s) (Hide H one.0) (system_of t) (Hide H other.0) k
+        (steps_of_text given s one) (steps_of_text given' t other)
+
+module _ (bounds : Bounds) (H : List (List ℕ)) (first second : List ℕ) (s t : Grouped)
+    (one : ReadsAs bounds first H s) (other : ReadsAs bounds second H t) where
+  -- both texts read as the systems that were read
+  abbrev pub both_read : ReadBoth bounds first second
+  both_read = record {
+    one = one.0;
+    other = other.0;
+    reads_first = one.1;
+    reads_second = other.1;
+  }
+
+  -- the verdict on the systems in memory is that on the texts
+  pub verdict_of : (law : OrderLaws) (rel : Relation) (same : Bool) → (IsTrue same ↔ Equivalent rel (system_of s) (system_of t)) →
+      IsVerdict rel bounds H both_read same
+  verdict_of law rel same is =
+      let texts = compared law bounds H rel first second s t one other in (λ yes. texts.0 (is.0 yes), λ equivalent. is.1 (texts.1 equivalent))
+
+  module _ (at : Counts) (few : length s.places ≡ length one.0.transitions) (few' : length t.places ≡ length other.0.transitions) where
+    states_are : s.states + t.states ≡ states_of both_read
+    states_are = ap₂ ◌+◌ one.2.states other.2.states
+
+    transitions_are : length s.places + length t.places ≡ transitions_of both_read
+    transitions_are = ap₂ ◌+◌ few few'
+
+    -- what was counted keeps to the size of both systems
+    pub counted_whole : (let k = length s.places + length t.places in KeepsTo (s.states + t.states) k 1 at ((at.rounds + 1) * k)) →
+        KeepsTo (states_of both_read) (transitions_of both_read) 1 at ((at.rounds + 1) * transitions_of both_read)
+    counted_whole keeps = rw (← states_are, ← transitions_are) keeps
+
+    pub counted_part : (least : ℕ) → KeepsTo (s.states + t.states) (length s.places + length t.places) 1 at least → CountsComparison both_read at
+    counted_part least keeps = record {
+      few_rounds = rw (← states_are) keeps.few_rounds;
+      at_least = omega arith;
+      at_most = rw (← transitions_are) keeps.at_most;
+    }

@@ -1,0 +1,154 @@
+//! One comparison, from the bytes of two texts to a verdict.
+ghost use Rattle.std.specs.Prelude.{◌≡◌, ◌↔◌, ℕ, ◌+◌, ◌*◌, List, length, IsTrue, IfOk, IfErr, OnOk, OnErr};
+ghost use Rattle.std.specs.Io.KnownBytes.{Appends, Consumes};
+ghost use Rattle.theory.specs.Bisimulation.{Equivalent};
+ghost use Rattle.theory.specs.Blocks.{Turns};
+ghost use Rattle.theory.specs.Union.{union_of};
+ghost use Rattle.lts.specs.Lts.{system_of};
+ghost use Rattle.lts.specs.Meter.{IsFresh, on_ok};
+ghost use Rattle.lts.specs.Union.{FitTogether};
+ghost use Rattle.quotient.specs.Bounds.{KeepsTo};
+ghost use Rattle.quotient.specs.Relations.{meant};
+ghost use Rattle.autfmt.specs.Outcomes.{ReadsTo, Refuses, Takes};
+ghost use Rattle.autfmt.specs.Stream.{AppendsBeginning, CountsFailure};
+ghost use Rattle.autfmt.specs.declared.fault.Fault.TheVariants.{Device, Memory};
+ghost use Rattle.autbis.specs.Comparisons.{CmpFails, ComparesTo, line_of};
+ghost use Rattle.autbis.specs.declared.compare.Side.TheVariants.{First, Run};
+
+use autfmt::{Fault, Hidden, Limits, Sink, Source, put_all, read_hiding};
+use lts::{Lts, Meter};
+use quotient::{Relation, equivalent};
+use std::alloc::Global;
+
+/// Which part of a comparison a fault belongs to.
+#[derive(Clone, Copy, Debug, PartialEq, Eq)]
+pub enum Side {
+    /// Reading the first text.
+    First,
+    /// Reading the second text.
+    Second,
+    /// What comes after both are read.
+    Run,
+}
+
+/// Why a comparison was given up.
+#[derive(Clone, Copy, Debug, PartialEq, Eq)]
+pub struct CmpFault {
+    /// The part in which the fault was met.
+    pub side: Side,
+    /// The fault.
+    pub fault: Fault,
+}
+
+/// Reads the first text to its end, and then the second, with each label that `h` names read as `i`; compares the two systems by
+/// `rel`; and puts `TRUE` or `FALSE` and a line feed to `w`, which is finished once. Returns the verdict. `m` has to be fresh, and
+/// counts the rounds and the visits of both inputs' transitions: with n states and m transitions in sum, at most n rounds, and
+/// (rounds + 1) * m visits.
+///
+/// # Errors
+/// With `Side::First` or `Side::Second` why that text was not read, as in `run_min`: nothing was written or counted, and after
+/// a fault in the first text the second source is untouched. With `Side::Run`, `Memory` if a growth was refused, and nothing
+/// was written; `Device` if the sink failed, and a beginning of the line was written.
+pub fn run_cmp<M: Meter, R1: Source, R2: Source, W: Sink>(
+    alloc: Global,
+    a: &mut R1,
+    b: &mut R2,
+    w: &mut W,
+    rel: Relation,
+    lim: &Limits,
+    h: &Hidden,
+    m: &mut M,
+) -> Result<bool, CmpFault>
+    requires fresh { IsFresh (M.counted m.old) }
+    requires first { R1.failures a.old ≡ 0 }
+    requires second { R2.failures b.old ≡ 0 }
+    requires sink { W.failures w.old ≡ 0 }
+
+    // What a verdict means, and which error comes when, over the bytes that were taken.
+    ensures outcome { Takes (R1.rest a.old) (R1.rest a.new)
+        (λ first same. (second : List ℕ) × Consumes (R2.rest b.old) (R2.rest b.new) second
+        × ComparesTo (meant rel) lim.now h.now first second (R1.rest a.new) (R2.rest b.new)
+        (W.written w.old) (W.written w.new) (M.counted m.new) same)
+        (λ first. CmpFails (meant rel) lim.now h.now first (R1.rest a.new) (R2.rest b.old) (R2.rest b.new)
+        (R1.failures a.new) (R2.failures b.new) (W.failures w.new) (b.new ≡ b.old) (w.new ≡ w.old)
+        (W.written w.old) (W.written w.new) (M.counted m.new))
+        result }
+
+    // What is left.
+    ensures untouched { IfErr result (λ f. f.side ≡ First → (b.new ≡ b.old) × (w.new ≡ w.old)) }
+    ensures sound { OnOk result ((R1.failures a.new ≡ 0) × (R2.failures b.new ≡ 0) × (W.failures w.new ≡ 0)) }
+{
+    theory::the_order_does_not_matter();
+    theory::the_order_does_not_matter_side_by_side();
+    // Its contract tells what holds of all limits.
+    let _ = lim.transitions();
+    let first: Lts<M> = read_side(alloc, a, lim, h, Side::First)?;
+    let second: Lts<M> = read_side(alloc, b, lim, h, Side::Second)?;
+    let same = decide(alloc, &first, &second, rel, m)?;
+    say(same, w)?;
+    Ok(same)
+}
+
+/// Reads the text of this side as a system.
+fn read_side<M: Meter, R: Source>(
+    alloc: Global,
+    r: &mut R,
+    lim: &Limits,
+    h: &Hidden,
+    side: Side,
+) -> Result<Lts<M>, CmpFault>
+    requires { R.failures r.old ≡ 0 }
+    ensures outcome { Takes (R.rest r.old) (R.rest r.new) (λ given. ReadsTo lim.now h.now given (R.rest r.new) (R.failures r.new))
+        (λ given f. (f.side ≡ side) × Refuses lim.now given (R.rest r.new) (R.failures r.new) f.fault) result }
+{
+    match read_hiding(alloc, r, lim, h) {
+        Ok(system) => Ok(system),
+        Err(fault) => Err(CmpFault { side, fault }),
+    }
+}
+
+/// Whether the two systems are equivalent.
+fn decide<M: Meter>(
+    alloc: Global,
+    first: &Lts<M>,
+    second: &Lts<M>,
+    rel: Relation,
+    m: &mut M,
+) -> Result<bool, CmpFault>
+    requires fresh { IsFresh (M.counted m.old) }
+    requires fit { FitTogether first.now second.now }
+    ensures verdict { IfOk result (λ same.
+        IsTrue same ↔ Equivalent (meant rel) (system_of first.now) (system_of second.now)) }
+    ensures turns { OnOk result
+        (Turns (meant rel) (union_of (system_of first.now) (system_of second.now)) (M.counted m.new).rounds) }
+    ensures keeps { let at = M.counted m.new in let k = length first.now.places + length second.now.places in
+        KeepsTo (first.now.states + second.now.states) k 1 at (on_ok result ((at.rounds + 1) * k)) }
+    ensures fault { IfErr result (λ f. (f.side ≡ Run) × (f.fault ≡ Memory)) }
+{
+    match equivalent(alloc, first, second, rel, m) {
+        Ok(same) => Ok(same),
+        Err(_) => Err(CmpFault {
+            side: Side::Run,
+            fault: Fault::Memory,
+        }),
+    }
+}
+
+/// Puts the line of the verdict, and finishes the sink once.
+fn say<W: Sink>(same: bool, w: &mut W) -> Result<(), CmpFault>
+    requires { W.failures w.old ≡ 0 }
+    ensures ok { OnOk result (Appends (W.written w.old) (W.written w.new) (line_of same)) }
+    ensures err { OnErr result (AppendsBeginning (W.written w.old) (W.written w.new) (line_of same)) }
+    ensures fault { IfErr result (λ f. (f.side ≡ Run) × (f.fault ≡ Device)) }
+    ensures failures { CountsFailure result (W.failures w.new) }
+{
+    let line = if same { "TRUE\n" } else { "FALSE\n" };
+    let put = put_all(w, line.as_bytes());
+    if put.is_ok() && w.finish().is_ok() {
+        return Ok(());
+    }
+    Err(CmpFault {
+        side: Side::Run,
+        fault: Fault::Device,
+    })
+}
