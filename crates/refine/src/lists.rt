@@ -36,15 +36,17 @@ impl Model for Lists {
 }
 
 impl Lists {
-    /// The empty list alone.
+    /// The empty list alone, with room for so many other ones: growth by doubling would take up to a third more memory.
     ///
     /// Fails if there is no memory for it.
-    pub(crate) fn new(alloc: Global) -> Result<Lists, Memory>
+    pub(crate) fn new(alloc: Global, room: u32) -> Result<Lists, Memory>
         ensures { IfOk result (λ x. x ≡ [] ∷ []) }
     {
+        let mut spans = Vec::with_capacity(alloc, room as usize + 1)?;
+        spans.push(empty_span())?;
         Ok(Lists {
             pairs: Vec::new(alloc),
-            spans: vec![in alloc; empty_span(); 1]?,
+            spans,
         })
     }
 

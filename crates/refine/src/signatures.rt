@@ -46,7 +46,7 @@ impl Signatures {
     {
         Ok(Signatures {
             alloc,
-            lists: Lists::new(alloc)?,
+            lists: Lists::new(alloc, states)?,
             numbers: vec![in alloc; 0u32; states as usize]?,
         })
     }

@@ -18,7 +18,7 @@ fn shown(alloc: Global, lists: &Lists) -> Result<String, Memory> {
 
 #[test]
 fn keeps_each_list(rt: HostRuntime) -> Result<(), Fail> {
-    let mut lists = Lists::new(rt.alloc())?;
+    let mut lists = Lists::new(rt.alloc(), 2)?;
     lists.push(&[(9, 9)])?;
     lists.push(&[(1, 2), (3, 4)])?;
     lists.push(&[])?;
@@ -37,7 +37,7 @@ fn keeps_each_list(rt: HostRuntime) -> Result<(), Fail> {
 /// Lists are the same by what they hold, also if they are pushed twice.
 #[test]
 fn compares_lists(rt: HostRuntime) -> Result<(), Fail> {
-    let mut lists = Lists::new(rt.alloc())?;
+    let mut lists = Lists::new(rt.alloc(), 2)?;
     lists.push(&[(1, 2), (3, 4)])?;
     lists.push(&[(1, 2)])?;
     lists.push(&[(1, 2), (3, 4)])?;

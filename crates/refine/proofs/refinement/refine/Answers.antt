@@ -5,7 +5,6 @@ use Rattle.lts.specs.Lts.{system_of}
 use Rattle.refine.specs.Partition.{IsPartition, IsNumbered}
 use Rattle.refine.proofs.Spending.{costs_more, costs_up_to_more, room_for_more}
 use Rattle.refine.proofs.SameLists.{same_list_same_blocks, apart_lists}
-use Rattle.refine.proofs.refinement.refine.Given.{Over}
 use Rattle.refine.proofs.refinement.refine.Goals as goal
 
 pub loop-blocks-init : goal.loop-blocks-init
@@ -40,29 +39,29 @@ returns-in_err-next-clause-err g c =
     let most = costs_up_to_more (length l.places) l.states k _ _ costs (g.M.Meter.counted c.next_round.new.m) below c.in_err-next.ensures.err in
     search rules
 
--- the last round changed nothing, so it is the last
-ended : (g : Over) (c : goal.After-drop-marks-inside-then-is_same-2 g)
-    → Turns g.S.Sense.relation (system_of c.args.l.now) (suc c.loop-blocks.invariant.made.0)
-ended g c =
-    let A = system_of c.args.l.now in
-    let (k, underway, costs) = c.loop-blocks.invariant.made in
-    c.refinement_goes_on.ensures.done g.S.Sense.relation A k (slice_index c.loop-blocks.blocks) (slice_index c.in_ok-next.next)
-    c.states.ensures.lts.system underway c.in_ok-next.ensures.split
-    (same_list_same_blocks A c.loop-blocks.blocks c.in_ok-next.next (c.is_same.ensures.0 c.if-is_same.true))
-
 pub returns-then-is_same-clause-bisimilar : goal.returns-then-is_same-clause-bisimilar
 returns-then-is_same-clause-bisimilar g c =
+    let A = system_of c.args.l.now in
+    let old = slice_index c.loop-blocks.blocks in
+    let next = slice_index c.in_ok-next.next in
     let (k, underway, costs) = c.loop-blocks.invariant.made in
-    c.final_blocks_are_bisimilarity.ensures g.S.Sense.relation (system_of c.args.l.now) (suc k) (slice_index c.in_ok-next.next)
-    c.states.ensures.lts.system (ended g c) (slice_index c.loop-blocks.blocks, underway.after, c.in_ok-next.ensures.split)
+    let same : SameBlocks A old next = same_list_same_blocks A c.loop-blocks.blocks c.in_ok-next.next (c.is_same.ensures.0 c.if-is_same.true) in
+    let turns : Turns g.S.Sense.relation A (suc k) =
+    c.refinement_goes_on.ensures.done g.S.Sense.relation A k old next c.states.ensures.lts.system underway c.in_ok-next.ensures.split same in
+    c.final_blocks_are_bisimilarity.ensures g.S.Sense.relation A (suc k) next c.states.ensures.lts.system turns
+    (old, underway.after, c.in_ok-next.ensures.split)
 
 pub returns-then-is_same-clause-turns : goal.returns-then-is_same-clause-turns
 returns-then-is_same-clause-turns g c =
     let l = c.args.l.now in
-    let (k, underway, costs) = c.loop-blocks.invariant.made in (
+    let A = system_of l in
+    let old = slice_index c.loop-blocks.blocks in
+    let next = slice_index c.in_ok-next.next in
+    let (k, underway, costs) = c.loop-blocks.invariant.made in
+    let same : SameBlocks A old next = same_list_same_blocks A c.loop-blocks.blocks c.in_ok-next.next (c.is_same.ensures.0 c.if-is_same.true) in (
       suc k,
-      c.refinement_goes_on.ensures.below g.S.Sense.relation (system_of l) k (slice_index c.loop-blocks.blocks) c.states.ensures.lts.system underway,
-      ended g c,
+      c.refinement_goes_on.ensures.below g.S.Sense.relation A k old c.states.ensures.lts.system underway,
+      c.refinement_goes_on.ensures.done g.S.Sense.relation A k old next c.states.ensures.lts.system underway c.in_ok-next.ensures.split same,
       costs_more (length l.places) l.states k _ _ costs (g.M.Meter.counted c.next_round.new.m) c.in_ok-next.ensures.costs,
     )
 
@@ -72,20 +71,16 @@ loop-blocks-smaller g c =
     let below = c.refinement_goes_on.ensures.below g.S.Sense.relation (system_of c.args.l.now) k (slice_index c.loop-blocks.blocks) c.states.ensures.lts.system underway in
     omega (arith, below, costs.rounds, c.in_ok-next.ensures.costs.rounds)
 
--- what holds of every partition holds of the blocks
-numbered : (g : Over) (c : goal.After-drop-blocks-inside-in-loop-blocks g) → IsNumbered c.loop-blocks.blocks
-numbered g c =
-    let inside = c.blocks-in-loop-blocks.inside in
-    (inside.count, subst (λ x. IsPartition x inside.count) c.blocks-in-loop-blocks.view_is c.blocks-in-loop-blocks.invariant)
-
 pub loop-blocks-preserved : goal.loop-blocks-preserved
 loop-blocks-preserved g c =
     let l = c.args.l.now in
     let old = c.loop-blocks.blocks in
     let next = c.in_ok-next.next in
     let (k, underway, costs) = c.loop-blocks.invariant.made in
+    let inside = c.blocks-in-loop-blocks.inside in
+    let numbered : IsNumbered old = (inside.count, subst (λ x. IsPartition x inside.count) c.blocks-in-loop-blocks.view_is c.blocks-in-loop-blocks.invariant) in
     let changed : ¬ SameBlocks (system_of l) (slice_index old) (slice_index next) =
-    apart_lists l.states old next (numbered g c) c.in_ok-next.ensures.numbered c.loop-blocks.invariant.states c.in_ok-next.ensures.states
+    apart_lists l.states old next numbered c.in_ok-next.ensures.numbered c.loop-blocks.invariant.states c.in_ok-next.ensures.states
     (λ e. both_ways c.is_same.result c.if-is_same.false (c.is_same.ensures.1 e)) in
     record {
       states = c.in_ok-next.ensures.states;

@@ -11,6 +11,6 @@ invariant-loop-s g l = record {
   signed : (t : ℕ) → t < l.s → IsSignature strong l.l l.p t (list_of l.lists l.numbers t);
   lists : length l.lists ≡ l.s + 1;
   numbers : AreNumbers l.lists l.numbers;
-  marks : l.marks-inside.reached ≡ l.initial.marks-inside.reached;
+  marks : l.marks-inside.states ≡ l.initial.marks-inside.states;
   visits : Costs (g.M.Meter.counted l.initial.m) (g.M.Meter.counted l.m) 0 (before l.s l.l.places) (before l.s l.l.places);
 }
