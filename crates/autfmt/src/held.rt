@@ -59,8 +59,8 @@ impl Held {
     }
 }
 
-/// The number of a label, which is added at the end of the table if it is new. If the guess is right there is no search,
-/// which saves a sixth of the time of reading.
+/// The number of a label, which is added at the end of the table if it is new. If the guess is right there is no
+/// search, which saves a sixth of the time of reading.
 ///
 /// # Errors
 /// `Memory` if a growth is refused.
@@ -81,7 +81,8 @@ fn number_of(labels: &mut Labels, guesses: &mut [u32; GUESSES], label: &[u8]) ->
     Ok(number)
 }
 
-/// Where the number of a label may be guessed: labels that differ in their last two bytes mostly have places of their own.
+/// Where the number of a label may be guessed: labels that differ in their last two bytes mostly have places of their
+/// own.
 fn guess_place(label: &[u8]) -> usize
     ensures { result < GUESSES }
 {

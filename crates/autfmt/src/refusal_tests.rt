@@ -3,8 +3,8 @@ use crate::{Fault, Limits, Sink, SliceSource, VecSink, read_hidden, read_hiding,
 use lts::{Counter, Lts, Meter};
 use std::alloc::Global;
 
-/// Whether the text is read with the labels of the list hidden and written as `wanted`, or a refused growth is answered:
-/// with nothing written, or with a beginning of the text where the sink's own growth was refused.
+/// Whether the text is read with the labels of the list hidden and written as `wanted`, or a refused growth is
+/// returned: with nothing written, or with a beginning of the text if the sink's own growth was refused.
 fn is_safe(alloc: Global, text: &[u8], list: &[u8], wanted: &[u8]) -> bool {
     let mut source = SliceSource::new(list, None).pieces(3);
     let hidden = match read_hidden(alloc, &mut source) {

@@ -68,7 +68,8 @@ pub fn a_judged_hide_fault_is_the_first()
     ensures { (given more : List ℕ) (f : Fault) → JudgedHideFault given f → FirstHideFault (given ++ more) f }
 {}
 
-/// Hiding depends on which labels are in the list alone, not on their order or their repeats; an empty list hides nothing.
+/// Hiding depends on which labels are in the list alone, not on their order or their repeats; an empty list hides
+/// nothing.
 pub fn hiding_depends_on_the_labels()
     ensures same { (H K : List (List ℕ)) (A : System) → SameLabels H K → Hide H A ≡ Hide K A }
     ensures none { (A : System) → Hide [] A ≡ A }
