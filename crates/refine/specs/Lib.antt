@@ -4,3 +4,6 @@ pub mod Lists
 pub mod Spans
 pub mod StrongPairs
 pub mod Splitting
+pub mod Walks
+pub mod Ahead
+pub mod Steps

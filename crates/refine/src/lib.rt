@@ -2,6 +2,9 @@
 //! block exactly if they are bisimilar.
 #![tactic(auto)]
 
+mod branching;
+#[cfg(test)]
+mod branching_tests;
 mod lists;
 mod marks;
 mod partition;
@@ -13,7 +16,12 @@ mod splitter;
 mod strong;
 #[cfg(test)]
 mod tests;
+#[cfg(test)]
+mod told;
+mod walk;
+mod walking;
 
+pub use branching::Branching;
 pub use marks::Marks;
 pub use partition::Partition;
 pub use refinement::{refine, round};

@@ -29,5 +29,6 @@ loop-s-preserved g c =
       lists = omega (arith, length_push lists pairs, c.loop-s.invariant.lists);
       numbers = AreNumbers-push lists numbers s pairs c.loop-s.invariant.numbers;
       marks = c.loop-s.invariant.marks;
+      walk = c.loop-s.invariant.walk;
       visits = search rules;
     })

@@ -12,5 +12,6 @@ invariant-loop-s g l = record {
   lists : length l.lists ≡ l.s + 1;
   numbers : AreNumbers l.lists l.numbers;
   marks : l.marks-inside.states ≡ l.initial.marks-inside.states;
+  walk : l.marks-inside.walk ≡ l.initial.marks-inside.walk;
   visits : Costs (g.M.Meter.counted l.initial.m) (g.M.Meter.counted l.m) 0 (before l.s l.l.places) (before l.s l.l.places);
 }

@@ -1,0 +1,63 @@
+-- What is said of the path does not depend on what stands behind its end.
+use Rattle.std.proofs.Common.{◌≡◌, ◌⊎◌, ℕ, ◌+◌, ◌<◌, ◌≤◌, List, length, refl, sym, ◌∙◌, ap, subst, subst₂, inl, inr, arith}
+use Rattle.theory.specs.Bisimulation.Relation.{branching}
+use Rattle.lts.specs.Lts.{Grouped, source_of, place_at, IsRow}
+use Rattle.refine.specs.Signed.{HasPair}
+use Rattle.refine.specs.Walks.{AreOnPath, AreBounds, Connects, AreRows, LeadsUp, HoldsAll, Holds, AccountsAll}
+use Rattle.refine.specs.declared.walk.Mark.{Mark}
+use Rattle.refine.specs.declared.walk.Visit.{Visit}
+use Rattle.refine.specs.declared.walk.Item.{Item}
+use Rattle.refine.proofs.WalkConnects.{Ties}
+use Rattle.refine.proofs.WalkHolds.{Accounts-change}
+use Rattle.refine.proofs.WalkRows.{Rows}
+
+module _ (n : ℕ) (visit visit' : ℕ → Visit) (same : (p : ℕ) → p < n → visit' p ≡ visit p) where
+  state_same : (p : ℕ) → p < n → (visit' p).state ≡ (visit p).state
+  state_same p h = ap (λ v. v.state) (same p h)
+
+  pub AreOnPath-below : (mark : ℕ → Mark) → AreOnPath n (λ p. (visit p).state) mark → AreOnPath n (λ p. (visit' p).state) mark
+  AreOnPath-below mark old = record {
+    marked = λ p h. ap mark (state_same p h) ∙ old.marked p h;
+    only = λ s p is. let was = old.only s p is in (was.0, state_same p was.0 ∙ was.1);
+  }
+
+  pub AreBounds-below : (at count : ℕ) (B : ℕ → ℕ → Type 0) → AreBounds n at count (λ p. (visit p).back) B → AreBounds n at count (λ p. (visit' p).back) B
+  AreBounds-below at count B old = record {
+    first = old.first;
+    below = old.below;
+    reached = old.reached;
+    items = old.items;
+    in_order = old.in_order;
+    inside = λ f c p b h h'. subst (λ v. f ≤ v.back) (sym (same p h')) (old.inside f c p b h h');
+  }
+
+  pub Connects-below : (l : Grouped) (blocks : List ℕ) (B : ℕ → ℕ → Type 0) (count : ℕ) (item : ℕ → Item) (lists : List (List (ℕ × ℕ)))
+      → Connects l blocks n (λ p. (visit p).state) B count item lists → Connects l blocks n (λ p. (visit' p).state) B count item lists
+  Connects-below l blocks B count item lists old = record {
+    leads = λ p q lp lq h. subst₂ (Ties l blocks) (sym (state_same p lp)) (sym (state_same q lq)) (old.leads p q lp lq h);
+    sound = λ p j z lp lj h g. subst (λ x. HasPair branching l blocks x z.0 z.1) (sym (state_same p lp)) (old.sound p j z lp lj h g);
+    listed = old.listed;
+  }
+
+  pub Rows-below : (l : Grouped) (at : ℕ) → Rows l n at visit → Rows l n at visit'
+  Rows-below l at old = record {
+    here = old.here;
+    below = λ p h. subst (λ v. v.state < l.states) (sym (same p h)) (old.below p h);
+    row = λ p h. subst (λ v. (start : ℕ) × IsRow l.places v.state start v.end × (start ≤ v.next) × (v.next ≤ v.end)) (sym (same p h)) (old.row p h);
+    earlier = λ p some h. subst (λ v. v.back < p) (sym (same p h)) (old.earlier p some h);
+    above = λ p h h'. subst (λ v. v.next ≡ v.end) (sym (same p h')) (old.above p h h');
+    between = λ p q h h' h''.
+        subst (λ v. v.next ≡ v.end) (sym (same p (omega (arith, h', h''))))
+        (old.between p q (subst (λ v. v.back < p) (same q h'') h) h' h'');
+  }
+
+  pub AccountsAll-below : (l : Grouped) (blocks : List ℕ) (B : ℕ → ℕ → Type 0) (count : ℕ) (item : ℕ → Item) (lists : List (List (ℕ × ℕ))) (mark : ℕ → Mark)
+      → ((f c : ℕ) → B f c → f < n)
+      → AccountsAll l blocks n (λ p. (visit p).state) (λ p. (visit p).next) B (λ p. (visit p).back) count item lists mark
+      → AccountsAll l blocks n (λ p. (visit' p).state) (λ p. (visit' p).next) B (λ p. (visit' p).back) count item lists mark
+  AccountsAll-below l blocks B count item lists mark below old p k lp lk source read =
+      Accounts-change l blocks B B (λ q. (visit q).back) (λ q. (visit' q).back) count count item item lists lists mark mark
+      (visit p).state (visit' p).state p (place_at l.places k) (state_same p lp) (λ z h. h)
+      (λ t up. inl (up.0, up.1, λ f c b. ((up.2 f c b).0, λ lt le. (up.2 f c b).1 lt le ∙ sym (ap (λ v. v.back) (same f (below f c b))))))
+      (λ t all. all)
+      (old p k lp lk (source ∙ state_same p lp) (subst (λ v. k < v.next) (same p lp) read))

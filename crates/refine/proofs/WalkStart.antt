@@ -1,0 +1,129 @@
+-- How a walk begins, and how it ends.
+use Rattle.std.proofs.Common.{◌≡◌, ◌≢◌, ◌⊎◌, ◌↔◌, ℕ, ◌+◌, ◌-◌, ◌<◌, ◌≤◌, List, [], ◌∷◌, ◌++◌, length, set, slice_index, refl, sym, ◌∙◌, ap, subst, inl, inr, arith}
+use Rattle.std.specs.List.{All}
+use Rattle.std.proofs.lemmas.Bool.{cases_eq, cases_lt}
+use Rattle.std.proofs.lemmas.List.{length-set, get_or_default}
+use Rattle.std.proofs.lemmas.List.Sums.{count_by-le-length}
+use Rattle.theory.specs.Bisimulation.Relation.{branching}
+use Rattle.lts.specs.Lts.{Grouped, source_of, place_at, row_of, IsLts, IsRow}
+use Rattle.refine.specs.Lists.{list_at, list_of, AreNumbers}
+use Rattle.refine.specs.Signed.{IsSignature}
+use Rattle.refine.specs.Walks.{mark_at, AreOnPath, Walks, Rests}
+use Rattle.refine.specs.Steps.{Enters}
+use Rattle.refine.specs.Ahead.{is_unseen, unseen, unread, rest, ahead, IsTrail, KeepsSeen, HasNumbers, AreIdle}
+use Rattle.refine.specs.declared.walk.Mark.{Mark}
+use Rattle.refine.specs.declared.walk.Mark.TheVariants.{Unseen, OnPath, Finished}
+use Rattle.refine.specs.declared.walk.Visit.{Visit}
+use Rattle.refine.specs.declared.walk.Bound.{Bound}
+use Rattle.refine.specs.declared.walk.Item.{Item}
+use Rattle.refine.specs.declared.walk.Walk.{Walk}
+use Rattle.refine.proofs.WalkMarks.{not_unseen, not_finished}
+use Rattle.refine.proofs.WalkConnects.{Laws}
+use Rattle.refine.proofs.WalkLists.{mark_set, mark_other}
+use Rattle.refine.proofs.WalkAhead.{unseen-entered, unread-entered, unread-all, unread-none, rest-push}
+use Rattle.refine.proofs.WalkSteps.{Walks-enter}
+use Rattle.refine.proofs.WalkLeave.{Walks-none}
+use Rattle.refine.proofs.WalkAdvance.{walks_same, seen_more}
+
+-- the first state of a walk was entered
+module _ (laws : Laws) (l : Grouped) (blocks : List ℕ) (lists : List (List (ℕ × ℕ))) (old new : Walk) (s start end : ℕ)
+    (no_path : old.path.items ≡ []) (no_bounds : old.bounds.items ≡ []) (no_items : old.items.items ≡ [])
+    (rests : Rests l blocks lists old.marks.items) (numbers : HasNumbers l.states (length lists) 0 old.marks.items)
+    (inside : s < l.states) (none : mark_at old.marks.items s ≡ Unseen) (row : IsRow l.places s start end) (enters : Enters s start end 0 old new) where
+  abbrev First : Visit
+  First = record { state = s; next = start; end = end; back = 0 }
+
+  within : s < length old.marks.items
+  within = omega (arith, inside, numbers.size)
+
+  marks_are : new.marks.items ≡ set old.marks.items s (OnPath 0)
+  marks_are = enters.marks ∙ ap (λ p. set old.marks.items s (OnPath (length p))) no_path
+
+  path_is : new.path.items ≡ First ∷ []
+  path_is = enters.path ∙ ap (λ p. p ++ First ∷ []) no_path
+
+  bounds_are : new.bounds.items ≡ record { place = 0; items = 0 } ∷ []
+  bounds_are = enters.bounds ∙ (λ i. no_bounds i ++ record { place = length (no_path i); items = length (no_items i) } ∷ [])
+
+  pub started_walks : Walks l blocks lists new.marks.items new.path.items new.at new.bounds.items new.items.items
+  started_walks =
+      walks_same l blocks lists (set old.marks.items s (OnPath 0)) new.marks.items (First ∷ []) new.path.items 0 new.at
+      (record { place = 0; items = 0 } ∷ []) new.bounds.items [] new.items.items marks_are path_is (enters.at ∙ ap length no_path) bounds_are
+      (enters.items ∙ no_items)
+      (Walks-enter laws l blocks lists old.marks.items [] 0 [] [] (Walks-none l blocks lists old.marks.items 0 rests) s start end within none inside row
+      (λ h. absurd (omega (arith, h))) (λ e. refl))
+
+  pub started_numbers : HasNumbers l.states (length lists) (length new.path.items) new.marks.items
+  started_numbers =
+      let size : length new.path.items ≡ 1 = ap length path_is in
+      let fewer = unseen-entered old.marks.items s 0 within none in
+      let same : unseen new.marks.items ≡ unseen (set old.marks.items s (OnPath 0)) = ap unseen marks_are in
+      let room = numbers.numbers in
+      record {
+        size = ap length marks_are ∙ length-set old.marks.items s (OnPath 0) ∙ numbers.size;
+        some = numbers.some;
+        numbers = omega (arith, size, fewer, same, room);
+      }
+
+  pub started_ahead : ahead l.places new.marks.items new.path.items ≡ unread l.places old.marks.items
+  started_ahead =
+      let fewer = unread-entered l.places old.marks.items s 0 within none in
+      let same : unread l.places new.marks.items ≡ unread l.places (set old.marks.items s (OnPath 0)) = ap (unread l.places) marks_are in
+      let left : rest new.path.items ≡ rest ([] ++ First ∷ []) = ap rest path_is in
+      let first : rest ([] ++ First ∷ []) ≡ 0 + (end - start) = rest-push [] First in
+      let count = row.count in
+      omega (arith, fewer, same, left, first, count)
+
+  pub started_seen : KeepsSeen old.marks.items new.marks.items
+  started_seen t is = seen_more old.marks.items s 0 within t (subst (λ ms. mark_at ms t ≡ Unseen) marks_are is)
+
+  pub started_found : mark_at new.marks.items s ≢ Unseen
+  started_found is =
+      not_unseen 0 (sym (mark_set old.marks.items s (OnPath 0) within) ∙ ap (λ ms. mark_at ms s) (sym marks_are) ∙ is)
+
+-- nothing was seen yet
+module _ (l : Grouped) (blocks : List ℕ) (lists : List (List (ℕ × ℕ))) (marks : List Mark) (trail : List ℕ) (idle : AreIdle l.states marks trail) where
+  pub idle_rests : Rests l blocks lists marks
+  idle_rests = record {
+    none = λ s p is. not_unseen p (sym is ∙ idle.none s);
+    signed = λ s k is. absurd (not_finished k (sym is ∙ idle.none s));
+  }
+
+  pub idle_trail : IsTrail marks trail
+  idle_trail = record {
+    each = subst (All (λ s. s < length marks)) (sym idle.empty) (λ k d h. absurd (omega (arith, h)));
+    seen = λ s. inl (idle.none s);
+  }
+
+  pub idle_numbers : length lists ≡ 1 → HasNumbers l.states (length lists) 0 marks
+  idle_numbers one =
+      let few : unseen marks ≤ length marks = count_by-le-length is_unseen marks in
+      record { size = idle.size; some = omega (arith, one); numbers = omega (arith, few, idle.size, one) }
+
+  pub idle_unread : unread l.places marks ≡ length l.places
+  idle_unread = unread-all l.places marks idle.none
+
+-- all states were seen
+pub none_unread : (l : Grouped) → IsLts l → (marks : List Mark) → length marks ≡ l.states → ((s : ℕ) → s < l.states → mark_at marks s ≢ Unseen) → unread l.places marks ≡ 0
+none_unread l lts marks size all =
+    unread-none l.places marks (λ s h. all s (omega (arith, h, size)))
+    (λ k d h. let e = (lts.in_range.each k d h).source in omega (arith, e, size))
+
+seen_finished : (m : Mark) → ((p : ℕ) → ¬ (m ≡ OnPath p)) → ¬ (m ≡ Unseen) → (k : ℕ) × (m ≡ Finished k)
+seen_finished Unseen on seen = absurd (seen refl)
+seen_finished (OnPath p) on seen = absurd (on p refl)
+seen_finished (Finished k) on seen = (k, refl)
+
+-- a state that was seen is finished when the walk is over
+pub finished : (l : Grouped) (blocks : List ℕ) (lists : List (List (ℕ × ℕ))) (marks : List Mark) → Rests l blocks lists marks
+    → (s : ℕ) → mark_at marks s ≢ Unseen → (k : ℕ) × (mark_at marks s ≡ Finished k)
+finished l blocks lists marks rests s seen = seen_finished (mark_at marks s) (rests.none s) seen
+
+-- the numbers of the lists of finished states
+module _ (l : Grouped) (blocks : List ℕ) (lists : List (List (ℕ × ℕ))) (marks : List Mark) (numbers : List ℕ) (rests : Rests l blocks lists marks)
+    (are : (s : ℕ) → s < length numbers → mark_at marks s ≡ Finished (slice_index numbers s)) where
+  pub numbered : AreNumbers lists numbers
+  numbered k d h = subst (λ x. x < length lists) (get_or_default numbers k 0 d h) (rests.signed k (slice_index numbers k) (are k h)).0
+
+  pub numbered_signed : (s : ℕ) → s < length numbers → IsSignature branching l blocks s (list_of lists numbers s)
+  numbered_signed s h = (rests.signed s (slice_index numbers s) (are s h)).1

@@ -1,0 +1,36 @@
+use Rattle.std.proofs.Common.{◌≡◌, length, refl, arith, rules}
+use Rattle.std.proofs.lemmas.Bool.Decides.{nat_tests}
+use Rattle.refine.specs.declared.walk.Walk.{Walk}
+use Rattle.refine.proofs.WalkConnects.{Laws}
+use Rattle.refine.proofs.WalkLeave.{Rests-end}
+use Rattle.refine.proofs.WalkStart.{started_walks, started_numbers, started_ahead, started_seen, started_found}
+use Rattle.refine.proofs.walk.Walk.finish.Goals as goal
+
+pub loop-internal-init : goal.loop-internal-init
+loop-internal-init g c =
+    let l = c.args.l.now in
+    let p = c.args.p.now in
+    let lists = c.args.lists.now in
+    let w : Walk = record c.args.self.now { path = c.clear.new.self; bounds = c.clear-2.new.self; items = c.clear-3.new.self } in
+    let new = c.enter.new.self in
+    let laws : Laws = record { here = c.inert_steps_lead_on.ensures.here; after = c.inert_steps_lead_on.ensures.after; joined = c.inert_steps_lead_on.ensures.joined; path = c.inert_steps_pass_signatures_back.ensures.path } in
+    let start = c.row-start.result.0 in
+    let end = c.row-start.result.1 in
+    let same = started_ahead laws l p lists w new c.args.s start end c.clear.ensures.items c.clear-2.ensures.items c.clear-3.ensures.items c.requires.rests c.requires.numbers c.requires.state c.requires.unseen c.row-start.ensures c.in_ok-enter.ensures.enters in
+    record {
+      walks = started_walks laws l p lists w new c.args.s start end c.clear.ensures.items c.clear-2.ensures.items c.clear-3.ensures.items c.requires.rests c.requires.numbers c.requires.state c.requires.unseen c.row-start.ensures c.in_ok-enter.ensures.enters;
+      numbers = started_numbers laws l p lists w new c.args.s start end c.clear.ensures.items c.clear-2.ensures.items c.clear-3.ensures.items c.requires.rests c.requires.numbers c.requires.state c.requires.unseen c.row-start.ensures c.in_ok-enter.ensures.enters;
+      trail = c.enter.ensures.trail;
+      seen = started_seen laws l p lists w new c.args.s start end c.clear.ensures.items c.clear-2.ensures.items c.clear-3.ensures.items c.requires.rests c.requires.numbers c.requires.state c.requires.unseen c.row-start.ensures c.in_ok-enter.ensures.enters;
+      found = started_found laws l p lists w new c.args.s start end c.clear.ensures.items c.clear-2.ensures.items c.clear-3.ensures.items c.requires.rests c.requires.numbers c.requires.state c.requires.unseen c.row-start.ensures c.in_ok-enter.ensures.enters;
+      visits = omega (arith, same);
+      cost = record { rounds = omega arith; at_least = omega arith; at_most = omega arith };
+      size = c.enter.ensures.size;
+      lists = omega arith;
+    }
+
+pub returns-clause-rests : goal.returns-clause-rests
+returns-clause-rests g c =
+    let w = c.loop-internal.self in
+    let none : length w.path.items ≡ 0 = first_of (search rules, grind (arith, nat_tests), omega arith) in
+    Rests-end c.args.l.now c.args.p.now c.loop-internal.lists w.marks.items w.path.items w.at w.bounds.items w.items.items none c.loop-internal.invariant.walks
