@@ -1,5 +1,5 @@
 -- A whole comparison: its verdict on two texts, and why there is none.
-use Rattle.std.specs.Prelude.{◌≡◌, ◌↔◌, ℕ, ◌+◌, ◌*◌, Bool, true, false, IsTrue, List, [], ◌∷◌, ◌++◌, length, codes, Option}
+use Rattle.std.specs.Prelude.{◌≡◌, ◌↔◌, ℕ, ◌+◌, ◌*◌, Bool, true, false, IsTrue, List, [], ◌∷◌, ◌++◌, length, codes, Option, IfSome}
 use Rattle.std.specs.Io.KnownBytes.{Appends, Consumes, IsAtEnd}
 use Rattle.theory.specs.System.{System, Hide}
 use Rattle.theory.specs.Bisimulation.{Relation, Equivalent}
@@ -49,6 +49,11 @@ pub record ComparesTo (rel : Relation) (bounds : Bounds) (H : List (List ℕ)) (
   pub turns : Turns rel (union_of (Hide H both.one) (Hide H both.other)) at.rounds
   pub keeps : KeepsTo (states_of both) (transitions_of both) 1 at ((at.rounds + 1) * transitions_of both)
   pub at_ends : IsAtEnd first_rest × IsAtEnd second_rest
+
+-- of two texts, if both are known: they read as systems, the verdict on these is so, and a sink has gained its line
+abbrev pub ComparesNamed : (rel : Relation) (bounds : Bounds) (H : List (List ℕ)) (first second old new : Option (List ℕ)) → Bool → Type 0
+ComparesNamed rel bounds H first second old new same = IfSome first (λ one. IfSome second (λ other.
+    (both : ReadBoth bounds one other) × IsVerdict rel bounds H both same × Appends old new (line_of same)))
 
 -- a fresh meter counted no more than a comparison of the texts may take
 abbrev pub CountsComparison : {bounds : Bounds} {first second : List ℕ} → ReadBoth bounds first second → Counts → Type 0

@@ -98,7 +98,8 @@ fn read_side<M: Meter, R: Source>(
     side: Side,
 ) -> Result<Lts<M>, CmpFault>
     requires { R.failures r.old ≡ 0 }
-    ensures outcome { Takes (R.rest r.old) (R.rest r.new) (λ given. ReadsTo lim.now h.now given (R.rest r.new) (R.failures r.new))
+    ensures outcome { Takes (R.rest r.old) (R.rest r.new)
+        (λ given. ReadsTo lim.now h.now given (R.rest r.new) (R.failures r.new))
         (λ given f. (f.side ≡ side) × Refuses lim.now given (R.rest r.new) (R.failures r.new) f.fault) result }
 {
     match read_hiding(alloc, r, lim, h) {

@@ -20,7 +20,7 @@ mod words;
 pub use crate::compare::{CmpFault, Side, run_cmp};
 pub use crate::job::{do_job, main_program};
 pub use crate::opener::{Disk, Opener};
-pub use crate::program::min_program;
+pub use crate::program::{cmp_program, min_program};
 pub use crate::reports::{cannot_open, report, report_words};
 pub use crate::run::{Counts, run_min};
 pub use crate::words::{Job, VERSION, WordFault, command};

@@ -1,5 +1,6 @@
 //! A job done: the files opened, the run, and what is said of it.
-ghost use Rattle.std.specs.Prelude.{◌≡◌, ◌≤◌, ◌⊎◌, [], ◌∷◌, Some, IfSome, IfOk, IfErr, option_map, string_bytes};
+ghost use Rattle.std.specs.Prelude.{◌≡◌, ◌≤◌, ◌⊎◌, [], ◌∷◌, true, false, Some, IfSome, IfOk, IfErr, option_map, string_bytes};
+ghost use Rattle.autbis.specs.Comparisons.{ComparesNamed};
 ghost use Rattle.autbis.specs.Files.{Name, Opens};
 ghost use Rattle.autbis.specs.Jobs.{HidesNamed, given};
 ghost use Rattle.autbis.specs.Reports.{IsFaultStatus};
@@ -7,6 +8,7 @@ ghost use Rattle.autbis.specs.Runs.{IsMinimised, IsFaulty};
 ghost use Rattle.quotient.specs.Relations.{meant};
 ghost use Rattle.theory.specs.Quotient.{allowance};
 
+use crate::compare::{CmpFault, Side, run_cmp};
 use crate::opener::Opener;
 use crate::reports::{cannot_open, report};
 use crate::run::{Counts, run_min};
@@ -96,6 +98,49 @@ pub fn min_program<R: Source, W: Sink, E: Write>(
             0
         }
         Err(fault) => report(&fault, name, e),
+    }
+}
+
+/// Compares the texts of `a` and `b`, writes the line of the verdict to `w`, and returns the exit status: 0 if they are
+/// equivalent, 1 if not, 2 if a text is faulty, 4 for want of memory, 5 if a source or the sink failed. A fault goes to `report`
+/// with the name of the text that it is in. After a fault in the first text the second source is untouched.
+pub fn cmp_program<R1: Source, R2: Source, W: Sink, E: Write>(
+    alloc: Global,
+    a: &mut R1,
+    a_name: &str,
+    b: &mut R2,
+    b_name: &str,
+    w: &mut W,
+    e: &mut E,
+    rel: Relation,
+    lim: &Limits,
+    h: &Hidden,
+) -> u8
+    requires first { R1.failures a.old ≡ 0 }
+    requires second { R2.failures b.old ≡ 0 }
+    requires sink { W.failures w.old ≡ 0 }
+
+    // What each status means.
+    ensures status { (result ≡ 0) ⊎ ((result ≡ 1) ⊎ IsFaultStatus result) }
+    ensures same { result ≡ 0 → ComparesNamed (meant rel) lim.now h.now (R1.rest a.old) (R2.rest b.old)
+        (W.written w.old) (W.written w.new) true }
+    ensures different { result ≡ 1 → ComparesNamed (meant rel) lim.now h.now (R1.rest a.old) (R2.rest b.old)
+        (W.written w.old) (W.written w.new) false }
+
+    // What is left.
+    ensures sound { (result ≡ 0) ⊎ (result ≡ 1) →
+        (R1.failures a.new ≡ 0) × (R2.failures b.new ≡ 0) × (W.failures w.new ≡ 0) }
+{
+    match run_cmp(alloc, a, b, w, rel, lim, h, &mut Counter::new()) {
+        Ok(true) => 0,
+        Ok(false) => 1,
+        Err(
+            CmpFault {
+                side: Side::Second,
+                fault,
+            },
+        ) => report(&fault, b_name, e),
+        Err(CmpFault { side: _, fault }) => report(&fault, a_name, e),
     }
 }
 
