@@ -1,5 +1,6 @@
 //! The worked examples of comparisons by strong bisimulation, by their names.
 use crate::compare::{CmpFault, Side, run_cmp};
+use crate::program::cmp_program;
 use autfmt::{Fault, Hidden, Limits, SliceSource, VecSink, read_hidden};
 use lts::{Counter, Meter};
 use quotient::Relation;
@@ -220,4 +221,56 @@ fn rounds_and_visits(rt: HostRuntime) {
     );
     assert!(rt; answer == Ok(false));
     assert!(rt; meter.rounds() == 3 && meter.visits() <= 35);
+}
+
+/// `second-file-empty` and `reordered-lines`, as the program compares them: the status, what is written, and what is said.
+#[test]
+fn statuses(rt: HostRuntime) {
+    let text: &[u8] = b"des (0,2,3)\n(0,a,1)\n(1,b,2)\n";
+    let lone: &[u8] = b"des (0,0,1)\n";
+    let cases: [(&str, &[u8], &[u8], u8, &[u8], &[u8]); 4] = [
+        (
+            "reordered-lines",
+            text,
+            b"des (0,2,3)\n(1,b,2)\n(0,a,1)\n",
+            0,
+            TRUE,
+            b"",
+        ),
+        ("a text beside lone-state", text, lone, 1, FALSE, b""),
+        (
+            "second-file-empty",
+            lone,
+            b"",
+            2,
+            b"",
+            b"autbis: b.aut: bad header\n",
+        ),
+        (
+            "first-side-faulty",
+            b"",
+            lone,
+            2,
+            b"",
+            b"autbis: a.aut: bad header\n",
+        ),
+    ];
+    for (name, one, other, status, out, message) in cases {
+        let mut sink = VecSink::new(rt.alloc(), None);
+        let mut said = Vec::new(rt.alloc());
+        let ended = cmp_program(
+            rt.alloc(),
+            &mut SliceSource::new(one, None),
+            "a.aut",
+            &mut SliceSource::new(other, None),
+            "b.aut",
+            &mut sink,
+            &mut said,
+            Relation::Strong,
+            &Limits::file(),
+            &Hidden::none(rt.alloc()),
+        );
+        assert!(rt; ended == status && sink.bytes() == out, "{name}");
+        assert!(rt; said.as_slice() == message, "{name}");
+    }
 }
