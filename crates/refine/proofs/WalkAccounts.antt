@@ -1,15 +1,14 @@
 -- What was taken into account, when the walk goes on.
-use Rattle.std.proofs.Common.{◌≡◌, ◌≢◌, ◌⊎◌, ◌↔◌, ℕ, ◌+◌, ◌<◌, ◌≤◌, List, length, Contains, refl, sym, ◌∙◌, ap, subst, subst₂, inl, inr, arith}
+use Rattle.std.proofs.Common.{◌≡◌, ◌≢◌, ◌⊎◌, ℕ, ◌+◌, ◌<◌, ◌≤◌, List, length, refl, sym, ◌∙◌, ap, subst, inl, inr, arith}
 use Rattle.std.proofs.lemmas.Bool.{cases_eq, cases_lt}
-use Rattle.lts.specs.Lts.{Grouped, source_of, target_of, place_at, IsRow}
-use Rattle.refine.specs.Lists.{list_at}
-use Rattle.refine.specs.Walks.{Gives, AreOnPath, AreSigned, Holds, LeadsUp, HoldsAll, Accounts, AccountsAll}
+use Rattle.lts.specs.Lts.{Grouped, place_at, IsRow}
+use Rattle.refine.specs.Walks.{Gives, AreOnPath, Holds, LeadsUp, HoldsAll, Accounts, AccountsAll}
 use Rattle.refine.specs.declared.walk.Mark.{Mark}
 use Rattle.refine.specs.declared.walk.Mark.TheVariants.{Unseen, OnPath, Finished}
 use Rattle.refine.specs.declared.walk.Item.{Item}
-use Rattle.refine.specs.declared.walk.Item.TheVariants.{Pair, Listed}
+use Rattle.refine.specs.declared.walk.Item.TheVariants.{Listed}
 use Rattle.refine.proofs.WalkHolds.{Grow, Gives-more, Holds-change, HoldsAll-change, Holds-last, Accounts-change}
-use Rattle.refine.proofs.WalkMarks.{not_both, not_unseen, not_finished, seen_apart, stays_below, stays_finished}
+use Rattle.refine.proofs.WalkMarks.{not_unseen, not_finished, stays_below, stays_finished}
 
 module _ (l : Grouped) (blocks : List ℕ) where
   -- an item more

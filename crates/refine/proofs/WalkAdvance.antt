@@ -1,17 +1,17 @@
 -- What a transition that is taken leaves of the walk, and what going back leaves.
-use Rattle.std.proofs.Common.{true, false, ◌≡◌, ◌≢◌, ◌⊎◌, ◌↔◌, ℕ, ◌+◌, ◌-◌, ◌<◌, ◌≤◌, List, [], ◌∷◌, ◌++◌, length, set, take, slice_index, Contains, refl, sym, ◌∙◌, ap, subst, inl, inr, arith}
-use Rattle.std.proofs.lemmas.Bool.{cases_eq, cases_lt, false≢true}
+use Rattle.std.proofs.Common.{true, ◌≡◌, ℕ, ◌-◌, ◌<◌, ◌≤◌, List, [], ◌∷◌, ◌++◌, length, set, take, slice_index, refl, sym, ◌∙◌, ap, subst, inl, inr, arith}
+use Rattle.std.proofs.lemmas.Bool.{cases_eq, false≢true}
 use Rattle.std.proofs.lemmas.List.{length-take-le, length_push, length-set}
-use Rattle.theory.specs.System.{Step, internal}
+use Rattle.theory.specs.System.{Step}
 use Rattle.theory.specs.Bisimulation.Relation.{branching}
 use Rattle.theory.specs.Blocks.{Inert, Signature}
 use Rattle.lts.specs.Labels.{text_of}
-use Rattle.lts.specs.Lts.{Grouped, Triple, source_of, label_of, target_of, place_at, row_of, system_of, IsTriple, IsLts, IsRow}
+use Rattle.lts.specs.Lts.{Grouped, Triple, place_at, system_of, IsTriple, IsLts, IsRow}
 use Rattle.refine.specs.Signed.{HasPair}
 use Rattle.refine.specs.StrongPairs.{pair_under}
-use Rattle.refine.specs.Walks.{mark_at, visit_at, state_at, next_at, end_at, back_at, bound_at, item_at, IsBound, Gives, IsInert, Accounts, Walks}
-use Rattle.refine.specs.Steps.{IsCollected, Enters, Cuts, Joins, Adds, Follows, Takes, Leaves}
-use Rattle.refine.specs.Ahead.{is_unseen, unseen, unread, rest, ahead, KeepsSeen, HasNumbers}
+use Rattle.refine.specs.Walks.{mark_at, visit_at, state_at, next_at, end_at, back_at, bound_at, item_at, IsBound, IsInert, Accounts, Walks}
+use Rattle.refine.specs.Steps.{IsCollected, Enters, Joins, Adds, Takes, Leaves}
+use Rattle.refine.specs.Ahead.{is_unseen, rest, ahead, KeepsSeen, HasNumbers}
 use Rattle.refine.specs.declared.walk.Mark.{Mark}
 use Rattle.refine.specs.declared.walk.Mark.TheVariants.{Unseen, OnPath, Finished}
 use Rattle.refine.specs.declared.walk.Visit.{Visit}
@@ -19,7 +19,7 @@ use Rattle.refine.specs.declared.walk.Bound.{Bound}
 use Rattle.refine.specs.declared.walk.Item.{Item}
 use Rattle.refine.specs.declared.walk.Item.TheVariants.{Pair, Listed}
 use Rattle.refine.specs.declared.walk.Walk.{Walk}
-use Rattle.refine.proofs.WalkMarks.{seen_apart, not_unseen, not_finished}
+use Rattle.refine.proofs.WalkMarks.{not_unseen}
 use Rattle.refine.proofs.WalkConnects.{Laws, pair_before}
 use Rattle.refine.proofs.WalkExact.{place_step}
 use Rattle.refine.proofs.WalkLists.{mark_set, mark_other}

@@ -1,9 +1,9 @@
 -- What is said of the path does not depend on what stands behind its end.
-use Rattle.std.proofs.Common.{◌≡◌, ◌⊎◌, ℕ, ◌+◌, ◌<◌, ◌≤◌, List, length, refl, sym, ◌∙◌, ap, subst, subst₂, inl, inr, arith}
+use Rattle.std.proofs.Common.{◌≡◌, ℕ, ◌<◌, ◌≤◌, List, sym, ◌∙◌, ap, subst, subst₂, inl, arith}
 use Rattle.theory.specs.Bisimulation.Relation.{branching}
-use Rattle.lts.specs.Lts.{Grouped, source_of, place_at, IsRow}
+use Rattle.lts.specs.Lts.{Grouped, place_at, IsRow}
 use Rattle.refine.specs.Signed.{HasPair}
-use Rattle.refine.specs.Walks.{AreOnPath, AreBounds, Connects, AreRows, LeadsUp, HoldsAll, Holds, AccountsAll}
+use Rattle.refine.specs.Walks.{AreOnPath, AreBounds, Connects, AccountsAll}
 use Rattle.refine.specs.declared.walk.Mark.{Mark}
 use Rattle.refine.specs.declared.walk.Visit.{Visit}
 use Rattle.refine.specs.declared.walk.Item.{Item}

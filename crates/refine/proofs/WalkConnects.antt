@@ -1,6 +1,6 @@
 -- What inert steps connect on the path, when the walk goes on.
-use Rattle.std.proofs.Common.{◌≡◌, ◌≢◌, ◌⊎◌, ◌↔◌, ℕ, ◌+◌, ◌<◌, ◌≤◌, List, length, refl, sym, ◌∙◌, ap, subst, subst₂, inl, inr, arith}
-use Rattle.std.proofs.lemmas.Bool.{cases_eq, cases_lt}
+use Rattle.std.proofs.Common.{◌≡◌, ℕ, ◌+◌, ◌<◌, ◌≤◌, List, length, sym, ◌∙◌, ap, subst, subst₂, inl, inr, arith}
+use Rattle.std.proofs.lemmas.Bool.{cases_lt}
 use Rattle.theory.specs.System.{System, Leads}
 use Rattle.theory.specs.Bisimulation.Relation.{branching}
 use Rattle.theory.specs.Blocks.{Inert, Signature}
@@ -9,7 +9,7 @@ use Rattle.std.specs.Prelude.{slice_index}
 use Rattle.refine.specs.Signed.{HasPair}
 use Rattle.refine.specs.Walks.{Gives, Connects}
 use Rattle.refine.specs.declared.walk.Item.{Item}
-use Rattle.refine.specs.declared.walk.Item.TheVariants.{Pair, Listed}
+use Rattle.refine.specs.declared.walk.Item.TheVariants.{Listed}
 use Rattle.refine.proofs.WalkHolds.{Grow, Gives-fewer}
 
 -- inert steps lead from s to t

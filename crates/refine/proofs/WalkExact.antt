@@ -1,16 +1,15 @@
 -- Where the rows of a component are read, its items give exactly the signature of each of its states.
-use Rattle.std.proofs.Common.{◌≡◌, ◌≢◌, ◌⊎◌, ◌↔◌, ℕ, ◌+◌, ◌<◌, ◌≤◌, List, [], ◌∷◌, length, Contains, slice_index, refl, sym, ◌∙◌, ap, subst, inl, inr, arith}
+use Rattle.std.proofs.Common.{◌≡◌, ◌↔◌, ℕ, ◌<◌, ◌≤◌, List, [], ◌∷◌, length, Contains, slice_index, sym, ◌∙◌, ap, subst, inl, inr, arith}
 use Rattle.std.proofs.lemmas.List.{length-map, get_or-map}
 use Rattle.std.specs.List.Sorted.{IsStrictlySortedBy}
 use Rattle.theory.specs.System.{Step, Along, internal}
 use Rattle.theory.specs.Bisimulation.Relation.{branching}
 use Rattle.theory.specs.Blocks.{Inert}
 use Rattle.lts.specs.Labels.{text_of}
-use Rattle.lts.specs.Lts.{Grouped, Triple, source_of, label_of, target_of, place_at, transition_of, system_of, IsTriple, IsLts, IsRow}
-use Rattle.refine.specs.Lists.{list_at}
+use Rattle.lts.specs.Lts.{Grouped, source_of, label_of, target_of, place_at, transition_of, system_of, IsLts}
 use Rattle.refine.specs.Signed.{pair_cmp, HasPair, IsSignature}
 use Rattle.refine.specs.StrongPairs.{pair_under}
-use Rattle.refine.specs.Walks.{Gives, IsInert, AreOnPath, AreSigned, Connects, Holds, AccountsAll, AreRows}
+use Rattle.refine.specs.Walks.{Gives, AreOnPath, AreSigned, Connects, Holds, AccountsAll, AreRows}
 use Rattle.refine.specs.declared.walk.Mark.{Mark}
 use Rattle.refine.specs.declared.walk.Item.{Item}
 

@@ -1,11 +1,11 @@
 -- What places hold and what was taken into account, when bounds, items and lists change.
-use Rattle.std.proofs.Common.{◌≡◌, ◌⊎◌, ℕ, ◌+◌, ◌<◌, ◌≤◌, List, length, Contains, refl, sym, ◌∙◌, ap, subst, inl, inr, arith}
+use Rattle.std.proofs.Common.{◌≡◌, ◌⊎◌, ℕ, ◌+◌, ◌<◌, ◌≤◌, List, length, Contains, refl, sym, subst, inl, inr, arith}
 use Rattle.lts.specs.Lts.{Grouped, Triple, target_of}
 use Rattle.refine.specs.Lists.{list_at}
 use Rattle.refine.specs.StrongPairs.{pair_under}
 use Rattle.refine.specs.Walks.{Gives, IsInert, Holds, LeadsUp, HoldsAll, Accounts}
 use Rattle.refine.specs.declared.walk.Mark.{Mark}
-use Rattle.refine.specs.declared.walk.Mark.TheVariants.{Unseen, OnPath, Finished}
+use Rattle.refine.specs.declared.walk.Mark.TheVariants.{Finished}
 use Rattle.refine.specs.declared.walk.Item.{Item}
 use Rattle.refine.specs.declared.walk.Item.TheVariants.{Pair, Listed}
 

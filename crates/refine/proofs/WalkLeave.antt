@@ -1,19 +1,18 @@
 -- What holds of the walk holds after a component is finished, and before the first state is entered.
-use Rattle.std.proofs.Common.{◌≡◌, ◌≢◌, ◌⊎◌, ◌↔◌, ℕ, ◌+◌, ◌-◌, ◌<◌, ◌≤◌, List, [], ◌∷◌, ◌++◌, length, set, take, slice_index, Contains, refl, sym, ◌∙◌, ap, subst, inl, inr, arith}
-use Rattle.std.proofs.lemmas.Bool.{cases_eq, cases_lt}
+use Rattle.std.proofs.Common.{◌≡◌, ℕ, ◌+◌, ◌-◌, ◌<◌, ◌≤◌, List, [], ◌∷◌, ◌++◌, length, take, refl, sym, ◌∙◌, ap, subst, inl, inr, arith}
+use Rattle.std.proofs.lemmas.Bool.{cases_eq}
 use Rattle.std.proofs.lemmas.List.{get_or-take, length-take-le, get_or_append_left, get_or_push, length_push}
 use Rattle.theory.specs.Bisimulation.Relation.{branching}
 use Rattle.lts.specs.Lts.{Grouped, IsLts}
 use Rattle.refine.specs.Lists.{list_at}
-use Rattle.refine.specs.Signed.{HasPair, IsSignature}
+use Rattle.refine.specs.Signed.{IsSignature}
 use Rattle.refine.specs.Walks.{mark_at, visit_at, state_at, next_at, end_at, back_at, bound_at, item_at, IsBound, Gives, AreOnPath, AreBounds, Connects, AreRows, AccountsAll, Walks, Rests}
 use Rattle.refine.specs.Steps.{IsCollected, Finishes}
 use Rattle.refine.specs.declared.walk.Mark.{Mark}
-use Rattle.refine.specs.declared.walk.Mark.TheVariants.{Unseen, OnPath, Finished}
 use Rattle.refine.specs.declared.walk.Visit.{Visit}
 use Rattle.refine.specs.declared.walk.Bound.{Bound}
 use Rattle.refine.specs.declared.walk.Item.{Item}
-use Rattle.refine.specs.declared.walk.Item.TheVariants.{Pair, Listed}
+use Rattle.refine.specs.declared.walk.Item.TheVariants.{Listed}
 use Rattle.refine.proofs.WalkHolds.{Grow}
 use Rattle.refine.proofs.WalkMarks.{AreOnPath-leave, AreSigned-leave}
 use Rattle.refine.proofs.WalkBounds.{AreBounds-item, AreBounds-leave}

@@ -1,21 +1,19 @@
 -- What the small steps of the walk do with their lists.
-use Rattle.std.proofs.Common.{◌≡◌, ◌≢◌, ◌⊎◌, ◌↔◌, ℕ, ◌+◌, ◌<◌, ◌≤◌, List, [], ◌∷◌, ◌++◌, length, get_or, set, Contains, refl, sym, ◌∙◌, ap, subst, inl, inr, arith}
+use Rattle.std.proofs.Common.{◌≡◌, ◌≢◌, ◌⊎◌, ◌↔◌, ℕ, ◌+◌, ◌<◌, ◌≤◌, List, [], ◌++◌, length, get_or, set, Contains, sym, ◌∙◌, ap, subst, inl, inr, arith}
 use Rattle.std.specs.List.{dedup}
 use Rattle.std.specs.List.Retain.{IsFiltered, DiffersFromLast}
 use Rattle.std.specs.List.Sorted.{IsSorted, IsPermutation, IsStrictlySortedBy}
-use Rattle.std.proofs.lemmas.Bool.{cases_eq, cases_lt}
-use Rattle.std.proofs.lemmas.Grind.{get_or-set_at}
+use Rattle.std.proofs.lemmas.Bool.{cases_eq}
 use Rattle.std.proofs.lemmas.List.{get_or-set_same, get_or-set_other, get_or_default}
 use Rattle.std.proofs.lemmas.List.Elements.{Contains-append_left, Contains-append_right, Contains-append_cases}
 use Rattle.std.proofs.lemmas.List.Filters.{dedup_is}
 use Rattle.std.proofs.lemmas.List.Kept.{IsStrictlySortedBy-dedup, Contains-dedup, Contains-from_dedup}
 use Rattle.std.proofs.lemmas.List.Sorted.{Contains-permutation, IsPermutation-sym}
-use Rattle.refine.specs.Lists.{list_at}
 use Rattle.refine.specs.Signed.{pair_cmp}
-use Rattle.refine.specs.Walks.{mark_at, visit_at, state_at, item_at, Gives}
+use Rattle.refine.specs.Walks.{mark_at, item_at, Gives}
 use Rattle.refine.specs.Steps.{IsCollected}
 use Rattle.refine.specs.declared.walk.Mark.{Mark}
-use Rattle.refine.specs.declared.walk.Mark.TheVariants.{Unseen, OnPath, Finished}
+use Rattle.refine.specs.declared.walk.Mark.TheVariants.{Unseen, Finished}
 use Rattle.refine.specs.declared.walk.Item.{Item}
 use Rattle.refine.proofs.Rising.{pair_total}
 use Rattle.refine.proofs.StrongRow.{pair_eq, pair_eq_equiv, pair_ties, pair_equal}

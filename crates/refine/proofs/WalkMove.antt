@@ -1,10 +1,10 @@
 -- The walk after one transition more was read.
-use Rattle.std.proofs.Common.{◌≡◌, ◌≢◌, ◌⊎◌, ◌↔◌, ℕ, ◌+◌, ◌-◌, ◌<◌, ◌≤◌, List, length, get_or, set, refl, sym, ◌∙◌, ap, subst, inl, inr, arith}
+use Rattle.std.proofs.Common.{◌≡◌, ◌≢◌, ℕ, ◌+◌, ◌-◌, ◌<◌, ◌≤◌, List, length, get_or, set, sym, ◌∙◌, ap, subst, arith}
 use Rattle.std.proofs.lemmas.List.{get_or_read, length-set}
 use Rattle.lts.specs.Lts.{Grouped, Triple, source_of, label_of, target_of, place_at, IsLts, IsRow}
 use Rattle.refine.specs.Walks.{visit_at, state_at, next_at, end_at, back_at, bound_at, item_at, mark_at, IsBound, Accounts, Walks}
 use Rattle.refine.specs.Steps.{Takes}
-use Rattle.refine.specs.Ahead.{rest, ahead, unread, KeepsSeen, HasNumbers, steps_ahead}
+use Rattle.refine.specs.Ahead.{ahead, KeepsSeen, HasNumbers, steps_ahead}
 use Rattle.refine.specs.declared.walk.Visit.{Visit}
 use Rattle.refine.specs.declared.walk.Bound.{Bound}
 use Rattle.refine.specs.declared.walk.Walk.{Walk}

@@ -1,25 +1,22 @@
 -- How a walk begins, and how it ends.
-use Rattle.std.proofs.Common.{◌≡◌, ◌≢◌, ◌⊎◌, ◌↔◌, ℕ, ◌+◌, ◌-◌, ◌<◌, ◌≤◌, List, [], ◌∷◌, ◌++◌, length, set, slice_index, refl, sym, ◌∙◌, ap, subst, inl, inr, arith}
+use Rattle.std.proofs.Common.{◌≡◌, ◌≢◌, ℕ, ◌+◌, ◌-◌, ◌<◌, ◌≤◌, List, [], ◌∷◌, ◌++◌, length, set, slice_index, refl, sym, ◌∙◌, ap, subst, inl, arith}
 use Rattle.std.specs.List.{All}
-use Rattle.std.proofs.lemmas.Bool.{cases_eq, cases_lt}
 use Rattle.std.proofs.lemmas.List.{length-set, get_or_default}
 use Rattle.std.proofs.lemmas.List.Sums.{count_by-le-length}
 use Rattle.theory.specs.Bisimulation.Relation.{branching}
-use Rattle.lts.specs.Lts.{Grouped, source_of, place_at, row_of, IsLts, IsRow}
-use Rattle.refine.specs.Lists.{list_at, list_of, AreNumbers}
+use Rattle.lts.specs.Lts.{Grouped, IsLts, IsRow}
+use Rattle.refine.specs.Lists.{list_of, AreNumbers}
 use Rattle.refine.specs.Signed.{IsSignature}
-use Rattle.refine.specs.Walks.{mark_at, AreOnPath, Walks, Rests}
+use Rattle.refine.specs.Walks.{mark_at, Walks, Rests}
 use Rattle.refine.specs.Steps.{Enters}
 use Rattle.refine.specs.Ahead.{is_unseen, unseen, unread, rest, ahead, IsTrail, KeepsSeen, HasNumbers, AreIdle}
 use Rattle.refine.specs.declared.walk.Mark.{Mark}
 use Rattle.refine.specs.declared.walk.Mark.TheVariants.{Unseen, OnPath, Finished}
 use Rattle.refine.specs.declared.walk.Visit.{Visit}
-use Rattle.refine.specs.declared.walk.Bound.{Bound}
-use Rattle.refine.specs.declared.walk.Item.{Item}
 use Rattle.refine.specs.declared.walk.Walk.{Walk}
 use Rattle.refine.proofs.WalkMarks.{not_unseen, not_finished}
 use Rattle.refine.proofs.WalkConnects.{Laws}
-use Rattle.refine.proofs.WalkLists.{mark_set, mark_other}
+use Rattle.refine.proofs.WalkLists.{mark_set}
 use Rattle.refine.proofs.WalkAhead.{unseen-entered, unread-entered, unread-all, unread-none, rest-push}
 use Rattle.refine.proofs.WalkSteps.{Walks-enter}
 use Rattle.refine.proofs.WalkLeave.{Walks-none}

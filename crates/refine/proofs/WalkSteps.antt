@@ -1,25 +1,24 @@
 -- What holds of the walk holds after each of its steps.
-use Rattle.std.proofs.Common.{◌≡◌, ◌≢◌, ◌⊎◌, ◌↔◌, ℕ, ◌+◌, ◌-◌, ◌<◌, ◌≤◌, List, [], ◌∷◌, ◌++◌, length, set, take, slice_index, Contains, refl, sym, ◌∙◌, ap, subst, inl, inr, arith}
-use Rattle.std.proofs.lemmas.Bool.{cases_eq, cases_lt}
-use Rattle.std.proofs.lemmas.List.{get_or_default, get_or-take, length-take-le, get_or_append_left, get_or_push, length_push, length-set, get_or-set_same, get_or-set_other}
+use Rattle.std.proofs.Common.{◌≡◌, ◌≢◌, ℕ, ◌+◌, ◌-◌, ◌<◌, ◌≤◌, List, [], ◌∷◌, ◌++◌, length, set, slice_index, refl, sym, ◌∙◌, ap, subst, inl, inr, arith}
+use Rattle.std.proofs.lemmas.Bool.{cases_eq}
+use Rattle.std.proofs.lemmas.List.{get_or_append_left, get_or_push, length_push, length-set, get_or-set_same, get_or-set_other}
 use Rattle.theory.specs.Bisimulation.Relation.{branching}
 use Rattle.theory.specs.Blocks.{Inert}
-use Rattle.lts.specs.Lts.{Grouped, Triple, target_of, place_at, system_of, IsLts, IsRow}
-use Rattle.refine.specs.Lists.{list_at}
-use Rattle.refine.specs.Signed.{HasPair, IsSignature}
+use Rattle.lts.specs.Lts.{Grouped, Triple, target_of, place_at, system_of, IsRow}
+use Rattle.refine.specs.Signed.{HasPair}
 use Rattle.refine.specs.StrongPairs.{pair_under}
-use Rattle.refine.specs.Walks.{mark_at, visit_at, state_at, next_at, end_at, back_at, bound_at, item_at, IsBound, Gives, IsInert, AreOnPath, AreBounds, AreRising, Connects, AreRows, Accounts, AccountsAll, Holds, Walks, Rests}
-use Rattle.refine.specs.Steps.{Cuts, IsCollected, Finishes}
+use Rattle.refine.specs.Walks.{mark_at, visit_at, state_at, next_at, end_at, back_at, bound_at, item_at, IsBound, Gives, IsInert, AreOnPath, AreBounds, Connects, AreRows, Accounts, AccountsAll, Holds, Walks}
+use Rattle.refine.specs.Steps.{Cuts}
 use Rattle.refine.specs.declared.walk.Mark.{Mark}
 use Rattle.refine.specs.declared.walk.Mark.TheVariants.{Unseen, OnPath, Finished}
 use Rattle.refine.specs.declared.walk.Visit.{Visit}
 use Rattle.refine.specs.declared.walk.Bound.{Bound}
 use Rattle.refine.specs.declared.walk.Item.{Item}
 use Rattle.refine.specs.declared.walk.Item.TheVariants.{Pair, Listed}
-use Rattle.refine.proofs.WalkHolds.{Grow, Holds-last}
+use Rattle.refine.proofs.WalkHolds.{Holds-last}
 use Rattle.refine.proofs.WalkMarks.{AreOnPath-enter, AreSigned-enter}
 use Rattle.refine.proofs.WalkBounds.{AreBounds-item, AreBounds-join, AreBounds-enter, AreBounds-back}
-use Rattle.refine.proofs.WalkConnects.{Laws, Ties, Connects-item, Connects-join, Connects-enter}
+use Rattle.refine.proofs.WalkConnects.{Laws, Connects-item, Connects-join, Connects-enter}
 use Rattle.refine.proofs.WalkRows.{Rows-enter, Rows-back, AreRows-next}
 use Rattle.refine.proofs.WalkAccounts.{AccountsAll-item, AccountsAll-join, AccountsAll-enter, AccountsAll-next}
 use Rattle.refine.proofs.WalkCuts.{bound_old_or_new, bound_up, bound_new, AreRising-push, cut_old, cut_keep, cut_below, cut_rising, last_bound, last_greatest}

@@ -6,7 +6,8 @@ use Rattle.lts.specs.Lts.{Grouped, Triple, IsRow}
 use Rattle.theory.specs.System.{internal}
 use Rattle.lts.specs.Labels.{IsNumber}
 use Rattle.refine.specs.Signed.{pair_cmp}
-use Rattle.refine.specs.Walks.{mark_at, state_at, bound_at, item_at, Gives, IsInert}
+use Rattle.refine.specs.Walks.{mark_at, state_at, bound_at, item_at, Gives, IsInert, Walks}
+use Rattle.refine.specs.Ahead.{ahead, steps_ahead}
 use Rattle.refine.specs.declared.walk.Mark.{Mark}
 use Rattle.refine.specs.declared.walk.Mark.TheVariants.{Unseen, OnPath, Finished}
 use Rattle.refine.specs.declared.walk.Visit.{Visit}
@@ -14,6 +15,17 @@ use Rattle.refine.specs.declared.walk.Bound.{Bound}
 use Rattle.refine.specs.declared.walk.Item.{Item}
 use Rattle.refine.specs.declared.walk.Item.TheVariants.{Pair, Listed}
 use Rattle.refine.specs.declared.walk.Walk.{Walk}
+
+-- the walk is at its place on the path, with all that it knows and has collected
+abbrev pub Stands : Grouped → List ℕ → List (List (ℕ × ℕ)) → Walk → Type 0
+Stands l blocks lists w = Walks l blocks lists w.marks.items w.path.items w.at w.bounds.items w.items.items
+
+-- what it has still to read, and how many steps it makes at most
+abbrev pub ahead_of : Grouped → Walk → ℕ
+ahead_of l w = ahead l.places w.marks.items w.path.items
+
+abbrev pub steps_of : Grouped → Walk → ℕ
+steps_of l w = steps_ahead l.states (ahead_of l w) w.path.items w.at
 
 -- the state s goes to the end of the path, as a component of its own, and the walk is there
 pub record Enters (s start end back : ℕ) (old new : Walk) : Type 0 where

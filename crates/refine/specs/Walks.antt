@@ -1,5 +1,5 @@
 -- The walk over inert steps: what is known of each state, the path, the components on it, and what they have collected.
-use Rattle.std.specs.Prelude.{◌≡◌, ◌⊎◌, ◌↔◌, ℕ, ◌+◌, ◌<◌, ◌≤◌, List, length, slice_index, slice_index_or}
+use Rattle.std.specs.Prelude.{◌≡◌, ◌⊎◌, ℕ, ◌<◌, ◌≤◌, List, length, slice_index, slice_index_or}
 use Rattle.std.specs.List.{Contains}
 use Rattle.theory.specs.System.{Leads, internal}
 use Rattle.theory.specs.Bisimulation.Relation.{branching}
@@ -15,7 +15,6 @@ use Rattle.refine.specs.declared.walk.Visit.{Visit}
 use Rattle.refine.specs.declared.walk.Bound.{Bound}
 use Rattle.refine.specs.declared.walk.Item.{Item}
 use Rattle.refine.specs.declared.walk.Item.TheVariants.{Pair, Listed}
-use Rattle.refine.specs.declared.walk.Walk.{Walk}
 
 -- what is known of the state s
 abbrev pub mark_at : List Mark → ℕ → Mark

@@ -148,7 +148,8 @@ fn walk_all<M: Meter>(
 /// Puts the number of the list of each state, all of which are finished, in its place.
 fn number(walk: &Walk, numbers: &mut [u32])
     requires size { length numbers.old ≡ length walk.now.marks.items }
-    requires finished { (s : ℕ) → s < length walk.now.marks.items → (k : ℕ) × (mark_at walk.now.marks.items s ≡ Finished k) }
+    requires finished { (s : ℕ) → s < length walk.now.marks.items →
+        (k : ℕ) × (mark_at walk.now.marks.items s ≡ Finished k) }
     ensures { (s : ℕ) → s < length numbers.new → mark_at walk.now.marks.items s ≡ Finished (slice_index numbers.new s) }
 {
     for s in 0..numbers.len() {

@@ -199,7 +199,8 @@ impl Walk {
         requires states { All (λ v. v.state < length self.old.marks.items) self.old.path.items }
         requires place { place ≤ length self.old.path.items }
         requires from { from ≤ length self.old.items.items }
-        requires listed { (j k : ℕ) → j < length self.old.items.items → item_at self.old.items.items j ≡ Listed k → k < length lists.old }
+        requires listed { (j k : ℕ) → j < length self.old.items.items → item_at self.old.items.items j ≡ Listed k →
+            k < length lists.old }
         requires lists { length lists.old < MOST_LISTS }
         ensures leaves { OnOk result (Leaves place from self.old self.new lists.old lists.new) }
         ensures marks { OnErr result (self.new.marks.items ≡ self.old.marks.items) }
@@ -274,7 +275,8 @@ pub(crate) fn collect(
 /// Puts the pairs of the item at the end.
 fn gather(item: Item, lists: &Lists, pairs: &mut Vec<(u32, u32)>) -> Result<(), Memory>
     requires { (k : ℕ) → item ≡ Listed k → k < length lists.now }
-    ensures { OnOk result ((z : ℕ × ℕ) → Contains pairs.new.items z ↔ (Contains pairs.old.items z ⊎ Gives lists.now item z)) }
+    ensures { OnOk result ((z : ℕ × ℕ) →
+        Contains pairs.new.items z ↔ (Contains pairs.old.items z ⊎ Gives lists.now item z)) }
 {
     match item {
         Item::Pair(label, block) => {

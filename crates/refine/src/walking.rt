@@ -2,9 +2,9 @@
 ghost use Rattle.std.specs.Prelude.{◌≡◌, ◌≢◌, ◌⊎◌, ◌↔◌, ℕ, ◌+◌, ◌-◌, ◌<◌, ◌≤◌, length, slice_index, IsTrue, OnOk};
 ghost use Rattle.lts.specs.Meter.{HasRoomFor, Costs};
 ghost use Rattle.lts.specs.Lts.{IsRow};
-ghost use Rattle.refine.specs.Walks.{mark_at, next_at, end_at, back_at, IsInert, Walks, Rests};
-ghost use Rattle.refine.specs.Steps.{IsInternal, Takes};
-ghost use Rattle.refine.specs.Ahead.{unread, ahead, IsTrail, KeepsSeen, HasNumbers, steps_ahead};
+ghost use Rattle.refine.specs.Walks.{mark_at, next_at, end_at, back_at, IsInert, Rests};
+ghost use Rattle.refine.specs.Steps.{IsInternal, Takes, Stands, ahead_of, steps_of};
+ghost use Rattle.refine.specs.Ahead.{unread, IsTrail, KeepsSeen, HasNumbers};
 ghost use Rattle.refine.specs.declared.walk.Mark.TheVariants.{Unseen};
 
 use crate::lists::Lists;
@@ -75,23 +75,22 @@ impl Walk {
         requires blocks { length p.now ≡ l.now.states }
         requires internal { IsInternal l.now internal }
         requires some { 0 < length self.old.path.items }
-        requires walks { Walks l.now p.now lists.old self.old.marks.items self.old.path.items self.old.at self.old.bounds.items self.old.items.items }
+        requires walks { Stands l.now p.now lists.old self.old }
         requires numbers { HasNumbers l.now.states (length lists.old) (length self.old.path.items) self.old.marks.items }
         requires trail { IsTrail self.old.marks.items self.old.trail.items }
-        requires room { HasRoomFor (M.counted m.old) 0 (ahead l.now.places self.old.marks.items self.old.path.items) }
+        requires room { HasRoomFor (M.counted m.old) 0 (ahead_of l.now self.old) }
 
         // Once it is done
-        ensures walks { OnOk result (Walks l.now p.now lists.new self.new.marks.items self.new.path.items self.new.at self.new.bounds.items self.new.items.items) }
-        ensures numbers { OnOk result (HasNumbers l.now.states (length lists.new) (length self.new.path.items) self.new.marks.items) }
+        ensures walks { OnOk result (Stands l.now p.now lists.new self.new) }
+        ensures numbers { OnOk result (
+            HasNumbers l.now.states (length lists.new) (length self.new.path.items) self.new.marks.items) }
         ensures seen { OnOk result (KeepsSeen self.old.marks.items self.new.marks.items) }
-        ensures visits { OnOk result ((M.counted m.new).visits + ahead l.now.places self.new.marks.items self.new.path.items
-            ≡ (M.counted m.old).visits + ahead l.now.places self.old.marks.items self.old.path.items) }
-        ensures fewer { OnOk result (
-            steps_ahead l.now.states (ahead l.now.places self.new.marks.items self.new.path.items) self.new.path.items self.new.at
-            < steps_ahead l.now.states (ahead l.now.places self.old.marks.items self.old.path.items) self.old.path.items self.old.at) }
+        ensures visits { OnOk result (
+            (M.counted m.new).visits + ahead_of l.now self.new ≡ (M.counted m.old).visits + ahead_of l.now self.old) }
+        ensures fewer { OnOk result (steps_of l.now self.new < steps_of l.now self.old) }
 
         // In either case
-        ensures cost { Costs (M.counted m.old) (M.counted m.new) 0 0 (ahead l.now.places self.old.marks.items self.old.path.items) }
+        ensures cost { Costs (M.counted m.old) (M.counted m.new) 0 0 (ahead_of l.now self.old) }
         ensures size { length self.new.marks.items ≡ length self.old.marks.items }
         ensures trail { IsTrail self.new.marks.items self.new.trail.items }
         ensures lists { length lists.old ≤ length lists.new }
@@ -159,16 +158,17 @@ impl Walk {
     ) -> Result<(), Memory>
         requires blocks { length p.now ≡ l.now.states }
         requires some { 0 < length self.old.path.items }
-        requires walks { Walks l.now p.now lists.old self.old.marks.items self.old.path.items self.old.at self.old.bounds.items self.old.items.items }
+        requires walks { Stands l.now p.now lists.old self.old }
         requires read { next_at self.old.path.items self.old.at ≡ end_at self.old.path.items self.old.at }
         requires numbers { HasNumbers l.now.states (length lists.old) (length self.old.path.items) self.old.marks.items }
         requires trail { IsTrail self.old.marks.items self.old.trail.items }
 
         // Once it is done
-        ensures walks { OnOk result (Walks l.now p.now lists.new self.new.marks.items self.new.path.items self.new.at self.new.bounds.items self.new.items.items) }
-        ensures numbers { OnOk result (HasNumbers l.now.states (length lists.new) (length self.new.path.items) self.new.marks.items) }
+        ensures walks { OnOk result (Stands l.now p.now lists.new self.new) }
+        ensures numbers { OnOk result (
+            HasNumbers l.now.states (length lists.new) (length self.new.path.items) self.new.marks.items) }
         ensures seen { OnOk result (KeepsSeen self.old.marks.items self.new.marks.items) }
-        ensures ahead { OnOk result (ahead l.now.places self.new.marks.items self.new.path.items ≡ ahead l.now.places self.old.marks.items self.old.path.items) }
+        ensures ahead { OnOk result (ahead_of l.now self.new ≡ ahead_of l.now self.old) }
         ensures back { OnOk result ((length self.new.path.items ≡ 0) ⊎ (self.new.at < self.old.at)) }
         ensures shorter { OnOk result (length self.new.path.items ≤ length self.old.path.items) }
 

@@ -1,4 +1,4 @@
-use Rattle.std.proofs.Common.{length, arith}
+use Rattle.std.proofs.Common.{arith}
 use Rattle.refine.proofs.WalkStart.{finished, numbered, numbered_signed}
 use Rattle.refine.proofs.branching.sign_all.Goals as goal
 

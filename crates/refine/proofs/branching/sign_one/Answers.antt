@@ -1,7 +1,5 @@
-use Rattle.std.proofs.Common.{◌≡◌, ◌<◌, length, arith}
+use Rattle.std.proofs.Common.{arith}
 use Rattle.std.proofs.lemmas.Result.{err_from_is_err_and}
-use Rattle.lts.specs.Meter.{Costs, on_ok}
-use Rattle.lts.specs.Lts.{row_of}
 use Rattle.refine.proofs.WalkSeen.{unread-seen}
 use Rattle.refine.proofs.WalkStart.{idle_unread}
 use Rattle.refine.proofs.branching.sign_one.Goals as goal

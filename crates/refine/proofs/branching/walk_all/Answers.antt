@@ -1,4 +1,4 @@
-use Rattle.std.proofs.Common.{◌≡◌, length, ap, arith}
+use Rattle.std.proofs.Common.{length, ap, arith}
 use Rattle.refine.proofs.WalkStart.{idle_rests, idle_trail, idle_numbers, idle_unread, none_unread}
 use Rattle.refine.proofs.branching.walk_all.Goals as goal
 

@@ -1,4 +1,4 @@
-use Rattle.std.proofs.Common.{◌≡◌, ◌↔◌, ℕ, ◌<◌, ◌≤◌, length, Contains}
+use Rattle.std.proofs.Common.{◌↔◌, ℕ, ◌<◌, ◌≤◌, Contains}
 use Rattle.refine.specs.Walks.{item_at, Gives}
 use Rattle.refine.proofs.walk.collect.Given as goal
 

@@ -1,4 +1,4 @@
-use Rattle.std.proofs.Common.{◌≡◌, ◌+◌, arith}
+use Rattle.std.proofs.Common.{arith}
 use Rattle.refine.proofs.WalkConnects.{Laws}
 use Rattle.refine.proofs.WalkMove.{read_visit, place_low, small, ahead_some, few, label_low, moved_longer, moved_walks, moved_numbers, moved_ahead, moved_fewer}
 use Rattle.refine.proofs.walk.Walk.advance.Goals as goal

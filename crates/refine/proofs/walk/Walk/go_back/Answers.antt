@@ -1,7 +1,7 @@
 use Rattle.std.specs.Prelude.{slice_index_or}
-use Rattle.std.proofs.Common.{◌≡◌, ◌∙◌, ◌-◌, ◌<◌, length, ap, sym, subst, inl, inr, arith}
+use Rattle.std.proofs.Common.{◌≡◌, ◌∙◌, ◌-◌, ap, sym, subst, inr, arith}
 use Rattle.std.proofs.lemmas.List.{get_or_default}
-use Rattle.refine.specs.Walks.{visit_at, bound_at, back_at, Walks}
+use Rattle.refine.specs.Walks.{visit_at, Walks}
 use Rattle.refine.specs.Steps.{Leaves}
 use Rattle.refine.proofs.WalkConnects.{Laws}
 use Rattle.refine.proofs.WalkCuts.{last_bound}
