@@ -1,5 +1,5 @@
 -- What a run carries on: the error of a call, and what follows from the reading of its text.
-use Rattle.std.proofs.Common.{◌≡◌, ◌⊎◌, ℕ, ◌*◌, ◌≤◌, List, length, Option, Some, None, IfSome, Result, Ok, Err, IfOk, IfErr, inl, inr, sym, ◌∙◌, subst, append-nil, arith}
+use Rattle.std.proofs.Common.{◌≡◌, ◌⊎◌, ℕ, ◌*◌, List, Option, Some, None, IfSome, Result, Err, IfOk, IfErr, inl, inr, subst, append-nil, arith}
 use Rattle.std.specs.Io.KnownBytes.{Consumes, IsAtEnd}
 use Rattle.lts.specs.Meter.{Counts}
 use Rattle.quotient.specs.Bounds.{KeepsTo}

@@ -1,10 +1,9 @@
-use Rattle.std.proofs.Common.{◌≡◌, ◌∙◌, ℕ, List, length, Option, Err, ap, refl, inl, inr, sym, arith}
+use Rattle.std.proofs.Common.{◌∙◌, ℕ, List, length, Option, Err, ap, refl, inl, inr, sym, arith}
 use Rattle.std.proofs.lemmas.List.{length-map}
 use Rattle.std.proofs.lemmas.List.Sorted.{IsPermutation-sym}
 use Rattle.std.proofs.lemmas.Result.{err_from_is_err_and}
 use Rattle.theory.specs.System.{System, Hide}
 use Rattle.theory.specs.Bisimulation.{Relation}
-use Rattle.theory.specs.Quotient.{Quotient}
 use Rattle.theory.specs.Alike.{SameSteps}
 use Rattle.quotient.specs.Relations.{meant}
 use Rattle.lts.specs.Lts.{transition_of, system_of}

@@ -1,4 +1,4 @@
-use Rattle.std.proofs.Common.{◌∙◌, codes, refl, sym}
+use Rattle.std.proofs.Common.{◌∙◌, codes, refl}
 use Rattle.clap.specs.Words.{found_of}
 use Rattle.clap.proofs.WalkLemmas.{one_text-rows}
 use Rattle.autbis.proofs.words.min_of.Goals as goal
