@@ -1,9 +1,10 @@
 -- Public. The theory's relation that a caller means.
 use Rattle.theory.specs.Bisimulation as theory
-use Rattle.theory.specs.Bisimulation.Relation.{strong}
+use Rattle.theory.specs.Bisimulation.Relation.{strong, branching}
 use Rattle.quotient.specs.declared.relation.Relation.{Relation}
-use Rattle.quotient.specs.declared.relation.Relation.TheVariants.{Strong}
+use Rattle.quotient.specs.declared.relation.Relation.TheVariants.{Strong, Branching}
 
 -- the relation that is meant
 abbrev pub meant : Relation → theory.Relation
 meant Strong = strong
+meant Branching = branching

@@ -7,7 +7,7 @@ ghost use Rattle.quotient.specs.Bounds.{TakesTurns};
 ghost use Rattle.quotient.specs.Reading.{AreClasses, rows_of, IsDroppedLabel};
 
 use lts::{Labels, Lts, Memory, Meter};
-use refine::{Partition, Strong, refine};
+use refine::{Branching, Partition, Strong, refine};
 use std::alloc::Global;
 
 /// The relation that is meant.
@@ -15,6 +15,8 @@ use std::alloc::Global;
 pub enum Relation {
     /// Strong bisimulation (Milner 1989).
     Strong,
+    /// Branching bisimulation (van Glabbeek and Weijland 1996).
+    Branching,
 }
 
 impl Relation {
@@ -39,6 +41,7 @@ impl Relation {
     {
         match self {
             Relation::Strong => refine::<Strong, M>(alloc, l, m),
+            Relation::Branching => refine::<Branching, M>(alloc, l, m),
         }
     }
 
@@ -49,6 +52,7 @@ impl Relation {
     {
         match self {
             Relation::Strong => leads,
+            Relation::Branching => reached,
         }
     }
 
@@ -58,6 +62,7 @@ impl Relation {
     {
         match self {
             Relation::Strong => None,
+            Relation::Branching => labels.internal(),
         }
     }
 }
