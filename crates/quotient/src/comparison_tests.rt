@@ -136,6 +136,61 @@ fn comparisons_by_strong_bisimulation(rt: HostRuntime) -> Result<(), Fail> {
     Ok(())
 }
 
+#[test]
+fn comparisons_by_branching_bisimulation(rt: HostRuntime) -> Result<(), Fail> {
+    let table: [(&str, Parts, Parts, &str); 8] = [
+        (
+            "silent-middle",
+            SILENT_MIDDLE,
+            NO_MIDDLE,
+            "silent-middle: TRUE",
+        ),
+        ("silent-loop", SILENT_LOOP, LONE_STATE, "silent-loop: TRUE"),
+        (
+            "different-labels",
+            ONLY_A,
+            ONLY_B,
+            "different-labels: FALSE",
+        ),
+        (
+            "reordered-lines",
+            NO_MIDDLE,
+            REORDERED,
+            "reordered-lines: TRUE",
+        ),
+        (
+            "committed-or-not",
+            NOT_COMMITTED,
+            COMMITTED,
+            "committed-or-not: FALSE",
+        ),
+        (
+            "lost-option",
+            OPTION_BEHIND,
+            OPTION_BEFORE,
+            "lost-option: FALSE",
+        ),
+        (
+            "hidden-both-sides",
+            HIDDEN_STEP,
+            ONLY_B,
+            "hidden-both-sides: TRUE",
+        ),
+        (
+            "hidden-both-sides, not hidden",
+            NO_MIDDLE,
+            ONLY_B,
+            "hidden-both-sides, not hidden: FALSE",
+        ),
+    ];
+    for (name, a, b, want) in table {
+        let (a, b) = (built(rt.alloc(), a)?, built(rt.alloc(), b)?);
+        let text = verdict(rt.alloc(), name, &a, &b, Relation::Branching)?;
+        assert_eq!(rt; text.as_str(), want);
+    }
+    Ok(())
+}
+
 /// `moment-of-choice` takes 3 rounds: 7 visits for the union and 7 in each round.
 #[test]
 fn what_a_comparison_counts(rt: HostRuntime) -> Result<(), Fail> {
@@ -152,10 +207,18 @@ fn what_a_comparison_counts(rt: HostRuntime) -> Result<(), Fail> {
 /// Two equivalent systems have quotients of one size.
 #[test]
 fn equivalent_systems_have_quotients_of_one_size(rt: HostRuntime) -> Result<(), Fail> {
-    for (a, b) in [(NO_MIDDLE, REORDERED), (FIRST_IS_ONE, ONLY_A)] {
+    let table = [
+        (NO_MIDDLE, REORDERED, Relation::Strong),
+        (FIRST_IS_ONE, ONLY_A, Relation::Strong),
+        (SILENT_MIDDLE, NO_MIDDLE, Relation::Branching),
+        (SILENT_LOOP, LONE_STATE, Relation::Branching),
+        (NO_MIDDLE, REORDERED, Relation::Branching),
+        (HIDDEN_STEP, ONLY_B, Relation::Branching),
+    ];
+    for (a, b, relation) in table {
         let (a, b) = (built(rt.alloc(), a)?, built(rt.alloc(), b)?);
-        let first = minimise(rt.alloc(), &a, Relation::Strong, &mut Counter::new())?;
-        let second = minimise(rt.alloc(), &b, Relation::Strong, &mut Counter::new())?;
+        let first = minimise(rt.alloc(), &a, relation, &mut Counter::new())?;
+        let second = minimise(rt.alloc(), &b, relation, &mut Counter::new())?;
         assert_eq!(rt; first.states(), second.states());
     }
     Ok(())

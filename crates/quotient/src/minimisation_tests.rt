@@ -138,3 +138,92 @@ fn quotients_by_strong_bisimulation(rt: HostRuntime) -> Result<(), Fail> {
     }
     Ok(())
 }
+
+#[test]
+fn quotients_by_branching_bisimulation(rt: HostRuntime) -> Result<(), Fail> {
+    let table: [(&str, u32, u32, &[Step], &str); 10] = [
+        (
+            "two-equal-targets",
+            0,
+            3,
+            &[(0, b"a", 1), (0, b"a", 2)],
+            "two-equal-targets: 2 rounds: 0 of 2; 0 a 1",
+        ),
+        (
+            "silent-choice",
+            0,
+            2,
+            &[(0, b"i", 1), (0, b"a", 1)],
+            "silent-choice: 2 rounds: 0 of 2; 0 i 1; 0 a 1",
+        ),
+        (
+            "silent-cycle",
+            0,
+            2,
+            &[(0, b"i", 1), (1, b"i", 0), (1, b"a", 1)],
+            "silent-cycle: 1 rounds: 0 of 1; 0 a 0",
+        ),
+        (
+            "silent-loop",
+            0,
+            1,
+            &[(0, b"i", 0)],
+            "silent-loop: 1 rounds: 0 of 1",
+        ),
+        (
+            "silent-chain",
+            0,
+            4,
+            &[(0, b"i", 1), (1, b"i", 2), (2, b"a", 3)],
+            "silent-chain: 2 rounds: 0 of 2; 0 a 1",
+        ),
+        (
+            "silent-beside-visible",
+            0,
+            4,
+            &[(0, b"i", 1), (0, b"a", 2), (1, b"b", 3)],
+            "silent-beside-visible: 2 rounds: 0 of 3; 0 i 1; 0 a 2; 1 b 2",
+        ),
+        (
+            "quoted-internal",
+            0,
+            2,
+            &[(0, b"i", 1)],
+            "quoted-internal: 1 rounds: 0 of 1",
+        ),
+        (
+            "quoted-internal, tau",
+            0,
+            2,
+            &[(0, b"tau", 1)],
+            "quoted-internal, tau: 2 rounds: 0 of 2; 0 tau 1",
+        ),
+        (
+            "silent-detour",
+            0,
+            6,
+            &[
+                (0, b"i", 1),
+                (1, b"a", 2),
+                (0, b"a", 3),
+                (2, b"i", 4),
+                (3, b"b", 5),
+                (4, b"b", 5),
+            ],
+            "silent-detour: 2 rounds: 0 of 3; 0 a 1; 1 b 2",
+        ),
+        (
+            "hidden-step-goes, hidden",
+            0,
+            3,
+            &[(0, b"i", 1), (1, b"b", 2)],
+            "hidden-step-goes, hidden: 2 rounds: 0 of 2; 0 b 1",
+        ),
+    ];
+    for (name, first, states, steps, want) in &table {
+        let l = system(rt.alloc(), *first, *states, steps)?;
+        let text = shown(rt.alloc(), name, &l, Relation::Branching)?;
+        assert_eq!(rt; text.as_str(), *want);
+    }
+    Ok(())
+}
