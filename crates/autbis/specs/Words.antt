@@ -3,7 +3,7 @@ use Rattle.std.specs.Prelude.{◌≡◌, ◌≢◌, ⊤, List, [], ◌∷◌, So
 use Rattle.clap.specs.Words.{App, Row, Rule, Text, fault_of, first_of, new_app, new_rule, one_of, subcommand_of, with_rule, with_subcommand}
 use Rattle.clap.specs.declared.builder.ArgAction.TheVariants.{SetTrue}
 use Rattle.quotient.specs.declared.relation.Relation.{Relation}
-use Rattle.quotient.specs.declared.relation.Relation.TheVariants.{Strong}
+use Rattle.quotient.specs.declared.relation.Relation.TheVariants.{Strong, Branching}
 use Rattle.autbis.specs.declared.words.Job.{Job}
 use Rattle.autbis.specs.declared.words.Job.TheVariants.{Min}
 use Rattle.autbis.specs.declared.words.WordFault.{WordFault}
@@ -46,6 +46,7 @@ AreTaken words = fault_of program_app words ≡ []
 -- the word for a relation
 abbrev pub word_of : Relation → Text
 word_of Strong = codes "strong"
+word_of Branching = codes "branching"
 
 -- whether a flag was found
 pub record IsFlag (rows : List Row) (id : Text) (flag : Bool) : Type 0 where

@@ -166,5 +166,8 @@ fn most_visits(counts: Counts, rel: Relation, rounds: u128) -> u128
 {
     match rel {
         Relation::Strong => (rounds + 2) * u128::from(counts.transitions),
+        Relation::Branching => {
+            (rounds * u128::from(counts.states) + 2) * u128::from(counts.transitions)
+        }
     }
 }

@@ -32,22 +32,30 @@ fn is_text(text: &Option<String>, wanted: Option<&str>) -> bool {
 #[test]
 fn command_words(rt: HostRuntime) {
     let cases = [
-        ("autbis min", false, None, None),
+        ("autbis min", Relation::Strong, false, None, None),
         (
-            "autbis min --stats a.aut --relation=strong",
+            "autbis min --stats a.aut --relation=branching",
+            Relation::Branching,
             true,
             None,
             Some("a.aut"),
         ),
-        ("autbis min -- --stats", false, None, Some("--stats")),
+        (
+            "autbis min -- --stats",
+            Relation::Strong,
+            false,
+            None,
+            Some("--stats"),
+        ),
         (
             "autbis min --relation strong a.aut --hide a.hide",
+            Relation::Strong,
             false,
             Some("a.hide"),
             Some("a.aut"),
         ),
     ];
-    for (line, wants_stats, wants_hide, wants_file) in cases {
+    for (line, wants_relation, wants_stats, wants_hide, wants_file) in cases {
         let Ok(
             Job::Min {
                 relation,
@@ -60,7 +68,7 @@ fn command_words(rt: HostRuntime) {
             panic!(rt; "{line}");
         };
         assert!(rt;
-            relation == Relation::Strong && stats == wants_stats,
+            relation == wants_relation && stats == wants_stats,
             "{line}"
         );
         assert!(rt;
@@ -72,7 +80,7 @@ fn command_words(rt: HostRuntime) {
 
 #[test]
 fn unknown_relation(rt: HostRuntime) {
-    for word in ["weak", "Strong", "branching", ""] {
+    for word in ["weak", "Strong", "Branching", ""] {
         let line = format!(in rt.alloc(); "autbis min a.aut --relation={word}").expect(
             &rt, "memory",
         );

@@ -111,7 +111,7 @@ fn relation_option<'a>(alloc: Global) -> Arg<'a>
         .long("relation")
         .value_name("WORD")
         .default_value("strong")
-        .help("The relation that is meant: strong")
+        .help("The relation that is meant: strong or branching")
 }
 
 /// What `clap` is told of `--hide FILE`.
@@ -199,6 +199,9 @@ fn relation_of(alloc: Global, word: &str) -> Result<Relation, WordFault>
 {
     if word == "strong" {
         return Ok(Relation::Strong);
+    }
+    if word == "branching" {
+        return Ok(Relation::Branching);
     }
     Err(WordFault::Relation(String::from_str(alloc, word)?))
 }
