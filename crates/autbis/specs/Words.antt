@@ -1,11 +1,11 @@
 -- The words of the command line: what `clap` is told of them, and the job of what it found in them.
-use Rattle.std.specs.Prelude.{◌≡◌, ◌≢◌, ⊤, List, [], ◌∷◌, Some, None, codes, true, false, option_map, unwrap_or, string_bytes, Bool, Option}
+use Rattle.std.specs.Prelude.{◌≡◌, ◌≢◌, ◌⊎◌, ⊤, IsSome, List, [], ◌∷◌, Some, None, codes, true, false, option_map, unwrap_or, string_bytes, Bool, Option}
 use Rattle.clap.specs.Words.{App, Row, Rule, Text, fault_of, first_of, new_app, new_rule, one_of, subcommand_of, with_rule, with_subcommand}
 use Rattle.clap.specs.declared.builder.ArgAction.TheVariants.{SetTrue}
 use Rattle.quotient.specs.declared.relation.Relation.{Relation}
 use Rattle.quotient.specs.declared.relation.Relation.TheVariants.{Strong, Branching}
 use Rattle.autbis.specs.declared.words.Job.{Job}
-use Rattle.autbis.specs.declared.words.Job.TheVariants.{Min}
+use Rattle.autbis.specs.declared.words.Job.TheVariants.{Min, Cmp}
 use Rattle.autbis.specs.declared.words.WordFault.{WordFault}
 use Rattle.autbis.specs.declared.words.WordFault.TheVariants as fault
 
@@ -33,11 +33,20 @@ file_rule = record (new_rule (codes "file")) { value_names = 1 }
 abbrev pub min_app : App
 min_app = with_rule (with_rule (with_rule (with_rule (new_app (codes "min")) relation_rule) hide_rule) stats_rule) file_rule
 
+-- a file that has to be named
+abbrev pub needed_file_rule : Text → Rule
+needed_file_rule id = record (new_rule id) { value_names = 1; required = true }
+
+-- the words of `cmp`
+abbrev pub cmp_app : App
+cmp_app = with_rule (with_rule (with_rule (with_rule (new_app (codes "cmp")) relation_rule) hide_rule)
+    (needed_file_rule (codes "first"))) (needed_file_rule (codes "second"))
+
 -- the words of the program, which has a version and has to be given a subcommand
 abbrev pub program_app : App
-program_app = with_subcommand (record (new_app (codes "autbis")) {
+program_app = with_subcommand (with_subcommand (record (new_app (codes "autbis")) {
   top = record (new_app (codes "autbis")).top { has_version = true; subcommand_required = true };
-}) min_app.top
+}) min_app.top) cmp_app.top
 
 -- `clap` finds no fault in the words
 abbrev pub AreTaken : List Text → Type 0
@@ -65,10 +74,16 @@ HasMatches name rows (Min relation stats hide file) = (name ≡ codes "min")
     × IsFlag rows (codes "stats") stats
     × (first_of (codes "hide") rows ≡ option_map string_bytes hide)
     × (first_of (codes "file") rows ≡ option_map string_bytes file)
+HasMatches name rows (Cmp relation hide first second) = (name ≡ codes "cmp")
+    × (relation_in rows ≡ word_of relation)
+    × (first_of (codes "hide") rows ≡ option_map string_bytes hide)
+    × (first_of (codes "first") rows ≡ Some (string_bytes first))
+    × (first_of (codes "second") rows ≡ Some (string_bytes second))
 
 -- what was found is enough for a job of this subcommand
 abbrev pub IsWhole : Text → List Row → Type 0
-IsWhole name rows = name ≡ codes "min"
+IsWhole name rows = (name ≡ codes "min")
+    ⊎ ((name ≡ codes "cmp") × IsSome (first_of (codes "first") rows) × IsSome (first_of (codes "second") rows))
 
 -- the word is not that of a relation, and the fault names it; or memory was refused
 abbrev pub NamesNoRelation : Text → WordFault → Type 0

@@ -79,6 +79,46 @@ fn command_words(rt: HostRuntime) {
 }
 
 #[test]
+fn command_words_of_cmp(rt: HostRuntime) {
+    let cases = [
+        ("autbis cmp a.aut b.aut", None, "a.aut", "b.aut"),
+        (
+            "autbis cmp a.aut --relation strong b.aut",
+            None,
+            "a.aut",
+            "b.aut",
+        ),
+        (
+            "autbis cmp --hide a.hide b.aut -- --stats",
+            Some("a.hide"),
+            "b.aut",
+            "--stats",
+        ),
+    ];
+    for (line, wants_hide, wants_first, wants_second) in cases {
+        let Ok(
+            Job::Cmp {
+                relation,
+                hide,
+                first,
+                second,
+            },
+        ) = asked(&rt, rt.alloc(), line)
+        else {
+            panic!(rt; "{line}");
+        };
+        assert!(rt;
+            relation == Relation::Strong && is_text(&hide, wants_hide),
+            "{line}"
+        );
+        assert!(rt;
+            first.as_str() == wants_first && second.as_str() == wants_second,
+            "{line}"
+        );
+    }
+}
+
+#[test]
 fn unknown_relation(rt: HostRuntime) {
     for word in ["weak", "Strong", "Branching", ""] {
         let line = format!(in rt.alloc(); "autbis min a.aut --relation={word}").expect(
@@ -103,6 +143,8 @@ fn usage_faults(rt: HostRuntime) {
         "autbis maximise a",
         "autbis cmp a",
         "autbis min a b",
+        "autbis cmp",
+        "autbis cmp a b c",
         "autbis cmp --stats a b",
         "autbis min --relation strong --relation strong",
         "autbis min --stats --stats",
@@ -130,6 +172,8 @@ fn usage_faults(rt: HostRuntime) {
 fn help(rt: HostRuntime) {
     for (line, wanted) in [
         ("autbis --help", "min"),
+        ("autbis --help", "cmp"),
+        ("autbis cmp --help", "--hide <FILE>"),
         ("autbis min --help", "--relation <WORD>"),
     ] {
         let fault = asked(&rt, rt.alloc(), line).expect_err(&rt, "a fault");

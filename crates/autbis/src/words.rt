@@ -1,10 +1,10 @@
 //! The words of the command line, read by `clap`: which job they ask for, or why they ask for none.
-ghost use Rattle.std.specs.Prelude.{◌≡◌, ℕ, List, map, option_map, string_bytes, codes, IfOk, IfErr, false};
+ghost use Rattle.std.specs.Prelude.{◌≡◌, ℕ, List, map, option_map, string_bytes, codes, IfOk, IfErr, Some, false};
 ghost use Rattle.clap.specs.Words.{app_of, first_of, found_of, rows_of, rule_of, subcommand_rows_of};
 ghost use Rattle.clap.specs.Values.{kind_of};
 ghost use Rattle.clap.specs.declared.error.kind.ErrorKind.TheVariants.{OutOfMemory};
 ghost use Rattle.clap.specs.declared.builder.command.Command.TheViews.{out-Command};
-ghost use Rattle.autbis.specs.Words.{AskForAJob, HasMatches, IsFaultIn, IsFaultOf, IsFaultOfAJob, IsJobIn, IsJobOf, IsWholeIn, NamesNoRelation, file_rule, hide_rule, min_app, program_app, relation_in, relation_rule, stats_rule, word_of};
+ghost use Rattle.autbis.specs.Words.{AskForAJob, HasMatches, IsFaultIn, IsFaultOf, IsFaultOfAJob, IsJobIn, IsJobOf, IsWhole, IsWholeIn, NamesNoRelation, cmp_app, file_rule, hide_rule, min_app, needed_file_rule, program_app, relation_in, relation_rule, stats_rule, word_of};
 ghost use Rattle.autbis.specs.declared.words.WordFault.TheVariants.{Memory};
 
 use clap::error::ErrorKind;
@@ -28,6 +28,17 @@ pub enum Job {
         hide: Option<String>,
         /// The name of the file.
         file: Option<String>,
+    },
+    /// Say whether the systems of two files are equivalent.
+    Cmp {
+        /// The relation that is meant.
+        relation: Relation,
+        /// The name of the hide list.
+        hide: Option<String>,
+        /// The name of the first file.
+        first: String,
+        /// The name of the second file.
+        second: String,
     },
 }
 
@@ -83,10 +94,11 @@ fn described<'a>(alloc: Global) -> Result<Command<'a>, AllocError>
     ensures { IfOk result (λ c. app_of c ≡ program_app) }
 {
     Command::new(alloc, "autbis")
-        .about("Minimises labelled transition systems in the Aldebaran (.aut) format")
+        .about("Minimises and compares labelled transition systems in the Aldebaran (.aut) format")
         .version(VERSION)
         .subcommand_required(true)
-        .subcommand(described_min(alloc)?)
+        .subcommand(described_min(alloc)?)?
+        .subcommand(described_cmp(alloc)?)
 }
 
 /// What `clap` is told of the words of `min`.
@@ -100,6 +112,19 @@ fn described_min<'a>(alloc: Global) -> Result<Command<'a>, AllocError>
         .arg(hide_option(alloc))?
         .arg(stats_flag(alloc))?
         .arg(file_argument(alloc))
+}
+
+/// What `clap` is told of the words of `cmp`.
+fn described_cmp<'a>(alloc: Global) -> Result<Command<'a>, AllocError>
+    ensures words { IfOk result (λ c. app_of c ≡ cmp_app) }
+    ensures local { IfOk result (λ c. (out-Command c).has_globals ≡ false) }
+{
+    Command::new(alloc, "cmp")
+        .about("Says whether two systems are equivalent: TRUE or FALSE")
+        .arg(relation_option(alloc))?
+        .arg(hide_option(alloc))?
+        .arg(needed_file(alloc, "first", "The first system"))?
+        .arg(needed_file(alloc, "second", "The second system"))
 }
 
 /// What `clap` is told of `--relation WORD`. The word is checked later, by `relation_of`.
@@ -145,14 +170,28 @@ fn file_argument<'a>(alloc: Global) -> Arg<'a>
         .help("The system; standard input where there is none")
 }
 
+/// What `clap` is told of a file that has to be named.
+fn needed_file<'a>(alloc: Global, id: &'a str, help: &'a str) -> Arg<'a>
+    ensures rule { rule_of result ≡ needed_file_rule id.now }
+    ensures local { result.global ≡ false }
+{
+    Arg::new(alloc, id)
+        .value_name("FILE")
+        .required(true)
+        .help(help)
+}
+
 /// The job of the matches.
 fn job_of(alloc: Global, matches: &ArgMatches<'_>) -> Result<Job, WordFault>
     ensures job { IfOk result (IsJobIn (subcommand_rows_of matches.now)) }
     ensures fault { IfErr result (IsFaultIn (subcommand_rows_of matches.now)) }
     ensures asked { IsWholeIn (subcommand_rows_of matches.now) → IfErr result IsFaultOfAJob }
 {
-    match matches.subcommand_matches("min") {
-        Some(min) => min_of(alloc, min),
+    if let Some(min) = matches.subcommand_matches("min") {
+        return min_of(alloc, min);
+    }
+    match matches.subcommand_matches("cmp") {
+        Some(cmp) => cmp_of(alloc, cmp),
         None => Err(WordFault::Usage(String::new(alloc))),
     }
 }
@@ -171,6 +210,27 @@ fn min_of(alloc: Global, matches: &ArgMatches<'_>) -> Result<Job, WordFault>
         stats,
         hide,
         file,
+    })
+}
+
+/// The job of the matches of `cmp`.
+fn cmp_of(alloc: Global, matches: &ArgMatches<'_>) -> Result<Job, WordFault>
+    ensures job { IfOk result (HasMatches (codes "cmp") (rows_of (found_of matches.now))) }
+    ensures fault { let rows = rows_of (found_of matches.now) in IfErr result (IsFaultIn (Some (codes "cmp", rows))) }
+    ensures asked { IsWhole (codes "cmp") (rows_of (found_of matches.now)) → IfErr result IsFaultOfAJob }
+{
+    let relation = relation_found(alloc, matches)?;
+    let Some(first) = found(alloc, matches, "first")? else {
+        return Err(WordFault::Usage(String::new(alloc)));
+    };
+    let Some(second) = found(alloc, matches, "second")? else {
+        return Err(WordFault::Usage(String::new(alloc)));
+    };
+    Ok(Job::Cmp {
+        relation,
+        hide: found(alloc, matches, "hide")?,
+        first,
+        second,
     })
 }
 
