@@ -15,6 +15,10 @@ status_of _ = 2
 abbrev pub IsFaultStatus : ℕ → Type 0
 IsFaultStatus status = (status ≡ 2) ⊎ ((status ≡ 4) ⊎ (status ≡ 5))
 
+-- the exit status of a job: 1 only if it compared two systems that are not equivalent
+abbrev pub IsJobStatus : ℕ → Type 0
+IsJobStatus status = (status ≡ 0) ⊎ ((status ≡ 1) ⊎ IsFaultStatus status)
+
 -- the exit status of words that ask for no job: help that cannot be written ends in 5
 abbrev pub IsWordStatus : WordFault → ℕ → Type 0
 IsWordStatus (word.Usage _) status = status ≡ 3

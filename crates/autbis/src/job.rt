@@ -1,13 +1,13 @@
 //! A job from its words to its exit status, over any files and streams.
-ghost use Rattle.std.specs.Prelude.{◌≡◌, ◌⊎◌, ◌++◌, IfOk, IfErr, IsErrAnd, map, option_map, string_bytes};
+ghost use Rattle.std.specs.Prelude.{◌≡◌, ◌⊎◌, ◌++◌, ◌∷◌, true, false, IfOk, IfErr, IsErrAnd, map, option_map, string_bytes};
 ghost use Rattle.autbis.specs.Files.{Opens};
-ghost use Rattle.autbis.specs.Jobs.{IsDone, MinimisesNamed, OpensInOrder, files_of, given, text_of};
+ghost use Rattle.autbis.specs.Jobs.{ComparesFiles, FindsDifferent, IsDone, MinimisesNamed, OpensInOrder, files_of, given, text_of};
 ghost use Rattle.autbis.specs.Programs.{AnswersWords, IsUnread, IsUnreadStatus};
-ghost use Rattle.autbis.specs.Reports.{IsFaultStatus};
+ghost use Rattle.autbis.specs.Reports.{IsFaultStatus, IsJobStatus};
 ghost use Rattle.autbis.specs.Words.{IsFaultOf, IsJobOf};
 
 use crate::opener::Opener;
-use crate::program::{hidden_of, min_program, open};
+use crate::program::{cmp_program, hidden_of, min_program, open};
 use crate::reports::report_words;
 use crate::words::{Job, WordFault, command};
 use autfmt::{Limits, Sink, Source};
@@ -56,9 +56,10 @@ fn asked(alloc: Global, words: io::Result<Vec<String>>) -> Result<Job, WordFault
     }
 }
 
-/// Does the job, and returns the exit status: 0 if it is done, 2 if a text or the hide list is faulty, 4 for want of memory,
-/// 5 if a file cannot be opened or a read or write failed. The text is that of the job's file, or of `input` if it names none.
-/// The text is opened first and then the hide list, which is read before the text.
+/// Does the job, and returns the exit status: 0 if it is done, 1 if it compared two systems that are not equivalent, 2 if a
+/// text or the hide list is faulty, 4 for want of memory, 5 if a file cannot be opened or a read or write failed. The text to
+/// minimise is that of the job's file, or of `input` if it names none. Texts are opened first and then the hide list, which is
+/// read before them.
 pub fn do_job<F: Opener, R: Source, W: Sink, E: Write>(
     alloc: Global,
     job: &Job,
@@ -69,9 +70,11 @@ pub fn do_job<F: Opener, R: Source, W: Sink, E: Write>(
 ) -> u8
     requires input { R.failures input.old ≡ 0 }
     requires output { W.failures output.old ≡ 0 }
-    ensures status { (result ≡ 0) ⊎ IsFaultStatus result }
+    ensures status { IsJobStatus result }
     ensures done { result ≡ 0 →
         IsDone (F.holds files.old) (R.rest input.old) job.now (W.written output.old) (W.written output.new) }
+    ensures different { result ≡ 1 →
+        FindsDifferent (F.holds files.old) job.now (W.written output.old) (W.written output.new) }
     ensures order { OpensInOrder (files_of job.now) (F.opened files.old) (F.opened files.new) }
     ensures opened { (result ≡ 5) ⊎ Opens (F.opened files.old) (F.opened files.new) (files_of job.now) }
     ensures untouched { (result ≡ 2) ⊎ (result ≡ 4) → output.new ≡ output.old }
@@ -84,6 +87,14 @@ pub fn do_job<F: Opener, R: Source, W: Sink, E: Write>(
             file,
         } => min_job(
             alloc, files, input, output, e, *relation, *stats, hide, file,
+        ),
+        Job::Cmp {
+            relation,
+            hide,
+            first,
+            second,
+        } => cmp_job(
+            alloc, files, output, e, *relation, hide, first, second,
         ),
     }
 }
@@ -164,6 +175,55 @@ fn min_text<F: Opener, R: Source, W: Sink, E: Write>(
 {
     match hidden_of(alloc, files, hide, e) {
         Ok(hidden) => min_program(alloc, r, name, w, e, rel, stats, &Limits::file(), &hidden),
+        Err(status) => status,
+    }
+}
+
+/// Opens both files and the hide list, and compares their texts.
+fn cmp_job<F: Opener, W: Sink, E: Write>(
+    alloc: Global,
+    files: &mut F,
+    output: &mut W,
+    e: &mut E,
+    rel: Relation,
+    hide: &Option<String>,
+    first: &String,
+    second: &String,
+) -> u8
+    requires output { W.failures output.old ≡ 0 }
+    ensures status { IsJobStatus result }
+    ensures same { result ≡ 0 → ComparesFiles (F.holds files.old) rel (option_map string_bytes hide.now)
+        (string_bytes first.now) (string_bytes second.now) (W.written output.old) (W.written output.new) true }
+    ensures different { result ≡ 1 → ComparesFiles (F.holds files.old) rel (option_map string_bytes hide.now)
+        (string_bytes first.now) (string_bytes second.now) (W.written output.old) (W.written output.new) false }
+    ensures order { OpensInOrder
+        (string_bytes first.now ∷ string_bytes second.now ∷ given (option_map string_bytes hide.now))
+        (F.opened files.old) (F.opened files.new) }
+    ensures opened { (result ≡ 5) ⊎ Opens (F.opened files.old) (F.opened files.new)
+        (string_bytes first.now ∷ string_bytes second.now ∷ given (option_map string_bytes hide.now)) }
+    ensures untouched { (result ≡ 2) ⊎ (result ≡ 4) → output.new ≡ output.old }
+{
+    let mut a = match open(files, first.as_str(), e) {
+        Ok(file) => file,
+        Err(status) => return status,
+    };
+    let mut b = match open(files, second.as_str(), e) {
+        Ok(file) => file,
+        Err(status) => return status,
+    };
+    match hidden_of(alloc, files, hide, e) {
+        Ok(hidden) => cmp_program(
+            alloc,
+            &mut a,
+            first.as_str(),
+            &mut b,
+            second.as_str(),
+            output,
+            e,
+            rel,
+            &Limits::file(),
+            &hidden,
+        ),
         Err(status) => status,
     }
 }

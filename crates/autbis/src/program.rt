@@ -130,6 +130,7 @@ pub fn cmp_program<R1: Source, R2: Source, W: Sink, E: Write>(
     // What is left.
     ensures sound { (result ≡ 0) ⊎ (result ≡ 1) →
         (R1.failures a.new ≡ 0) × (R2.failures b.new ≡ 0) × (W.failures w.new ≡ 0) }
+    ensures untouched { (result ≡ 2) ⊎ (result ≡ 4) → w.new ≡ w.old }
 {
     match run_cmp(alloc, a, b, w, rel, lim, h, &mut Counter::new()) {
         Ok(true) => 0,
