@@ -1,3 +1,4 @@
 pub mod Carried
 pub mod Opening
 pub mod Comparing
+pub mod Naming

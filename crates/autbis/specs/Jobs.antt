@@ -1,5 +1,5 @@
 -- A job: which files it opens, and what it does with what they hold.
-use Rattle.std.specs.Prelude.{◌≡◌, ℕ, Bool, true, false, List, [], ◌∷◌, ◌++◌, Option, None, Some, IfSome, option_map, string_bytes, ⊥}
+use Rattle.std.specs.Prelude.{◌≡◌, ℕ, Bool, true, false, List, [], ◌∷◌, ◌++◌, Option, None, Some, IfSome, option_map, string_bytes}
 use Rattle.autfmt.specs.Bounds.{Bounds}
 use Rattle.autfmt.specs.HideReaders.{HidesAs}
 use Rattle.quotient.specs.Relations.{meant}

@@ -1,0 +1,46 @@
+use Rattle.std.proofs.Common.{[], ◌∷◌, true, false, inr, append-nil, option_map, string_bytes, refl, sym}
+use Rattle.autbis.specs.Jobs.{given}
+use Rattle.autbis.proofs.Naming.{opened_two, opened_three, compares_files}
+use Rattle.autbis.proofs.job.cmp_job.Goals as goal
+
+pub returns-in-Err-open-clause-order : goal.returns-in-Err-open-clause-order
+returns-in-Err-open-clause-order g c = (
+  string_bytes c.args.first.now ∷ string_bytes c.args.second.now ∷ [],
+  given (option_map string_bytes c.args.hide.now),
+  refl,
+  opened_two (g.F.Opener.opened c.args.files.now) (g.F.Opener.opened c.open.new.files) (g.F.Opener.opened c.open-2.new.files)
+      _ _ _ _ c.as_str.ensures.value c.as_str-2.ensures.value c.open.ensures.opened c.open-2.ensures.opened,
+)
+
+pub returns-in-Ok-hidden_of-clause-different : goal.returns-in-Ok-hidden_of-clause-different
+returns-in-Ok-hidden_of-clause-different g c e =
+    compares_files (g.F.Opener.holds c.args.files.now) (g.F.Opener.holds c.open.new.files) (g.F.Opener.holds c.open-2.new.files)
+    c.args.rel (option_map string_bytes c.args.hide.now) _ _ _ _ _ c.in-Ok-hidden_of.hidden _ _ _ _ false
+    c.as_str.ensures.value c.as_str-2.ensures.value c.file.ensures c.open.ensures.kept c.open-2.ensures.kept
+    c.in-Ok.ensures.bytes c.in-Ok-open.ensures.bytes c.in-Ok-hidden_of.ensures.labels (c.cmp_program.ensures.different e)
+
+pub returns-in-Ok-hidden_of-clause-order : goal.returns-in-Ok-hidden_of-clause-order
+returns-in-Ok-hidden_of-clause-order g c = (
+  _,
+  [],
+  sym (append-nil _),
+  opened_three (g.F.Opener.opened c.args.files.now) (g.F.Opener.opened c.open.new.files) (g.F.Opener.opened c.open-2.new.files)
+      (g.F.Opener.opened c.hidden_of.new.files) _ _ _ _ _ c.as_str.ensures.value c.as_str-2.ensures.value
+      c.open.ensures.opened c.open-2.ensures.opened c.hidden_of.ensures.opened,
+)
+
+pub returns-in-Ok-hidden_of-clause-opened : goal.returns-in-Ok-hidden_of-clause-opened
+returns-in-Ok-hidden_of-clause-opened g c = inr
+    (opened_three (g.F.Opener.opened c.args.files.now) (g.F.Opener.opened c.open.new.files) (g.F.Opener.opened c.open-2.new.files)
+    (g.F.Opener.opened c.hidden_of.new.files) _ _ _ _ _ c.as_str.ensures.value c.as_str-2.ensures.value
+    c.open.ensures.opened c.open-2.ensures.opened c.hidden_of.ensures.opened)
+
+pub returns-clause-order : goal.returns-clause-order
+returns-clause-order g c = (
+  _,
+  [],
+  sym (append-nil _),
+  opened_three (g.F.Opener.opened c.args.files.now) (g.F.Opener.opened c.open.new.files) (g.F.Opener.opened c.open-2.new.files)
+      (g.F.Opener.opened c.hidden_of.new.files) _ _ _ _ _ c.as_str.ensures.value c.as_str-2.ensures.value
+      c.open.ensures.opened c.open-2.ensures.opened c.hidden_of.ensures.opened,
+)
