@@ -81,21 +81,29 @@ fn command_words(rt: HostRuntime) {
 #[test]
 fn command_words_of_cmp(rt: HostRuntime) {
     let cases = [
-        ("autbis cmp a.aut b.aut", None, "a.aut", "b.aut"),
         (
-            "autbis cmp a.aut --relation strong b.aut",
+            "autbis cmp a.aut b.aut",
+            Relation::Strong,
+            None,
+            "a.aut",
+            "b.aut",
+        ),
+        (
+            "autbis cmp a.aut --relation branching b.aut",
+            Relation::Branching,
             None,
             "a.aut",
             "b.aut",
         ),
         (
             "autbis cmp --hide a.hide b.aut -- --stats",
+            Relation::Strong,
             Some("a.hide"),
             "b.aut",
             "--stats",
         ),
     ];
-    for (line, wants_hide, wants_first, wants_second) in cases {
+    for (line, wants_relation, wants_hide, wants_first, wants_second) in cases {
         let Ok(
             Job::Cmp {
                 relation,
@@ -108,7 +116,7 @@ fn command_words_of_cmp(rt: HostRuntime) {
             panic!(rt; "{line}");
         };
         assert!(rt;
-            relation == Relation::Strong && is_text(&hide, wants_hide),
+            relation == wants_relation && is_text(&hide, wants_hide),
             "{line}"
         );
         assert!(rt;
