@@ -1,5 +1,6 @@
 -- What a run carries on: the error of a call, and what follows from the reading of its text.
 use Rattle.std.proofs.Common.{◌≡◌, ◌⊎◌, ℕ, ◌*◌, List, Option, Some, None, IfSome, Result, Err, IfOk, IfErr, inl, inr, subst, append-nil, arith}
+use Rattle.std.proofs.lemmas.Result.{IfErr-at_err}
 use Rattle.std.specs.Io.KnownBytes.{Consumes, IsAtEnd}
 use Rattle.lts.specs.Meter.{Counts}
 use Rattle.quotient.specs.Bounds.{KeepsTo}
@@ -11,6 +12,10 @@ use Rattle.autfmt.specs.Readers.{IsTextFault}
 -- the answer is the error e
 abbrev pub IsError : {T E : Type 0} → Result T E → E → Type 0
 IsError {T} {E} r e = (y : E) × (r ≡ Err y) × (y ≡ e)
+
+-- an answer that is the error e is no other error
+pub same_error : {T E : Type 0} (r : Result T E) (e x : E) → IsError r e → r ≡ Err x → x ≡ e
+same_error r e x (y, is, same) said = IfErr-at_err (λ z. z ≡ e) said (rw is same)
 
 -- an answer that is the error e takes what its call took, if what is bad of that error is so
 pub takes_error : {T E : Type 0} (old new : Option (List ℕ)) (Good : List ℕ → T → Type 0) (Bad : List ℕ → E → Type 0) (r : Result T E) (e : E) (given : List ℕ) →

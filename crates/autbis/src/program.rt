@@ -4,7 +4,7 @@ ghost use Rattle.autbis.specs.Comparisons.{ComparesNamed};
 ghost use Rattle.autbis.specs.Files.{Name, Opens};
 ghost use Rattle.autbis.specs.Jobs.{HidesNamed, given};
 ghost use Rattle.autbis.specs.Reports.{IsFaultStatus};
-ghost use Rattle.autbis.specs.Runs.{IsMinimised, IsFaulty};
+ghost use Rattle.autbis.specs.Runs.{BeginsQuotient, IsMinimised, IsFaulty};
 ghost use Rattle.quotient.specs.Relations.{meant};
 ghost use Rattle.theory.specs.Quotient.{allowance};
 
@@ -84,6 +84,8 @@ pub fn min_program<R: Source, W: Sink, E: Write>(
     ensures faulty { result ≡ 2 → (R.failures r.new ≡ 0) × IfSome (R.rest r.old) (IsFaulty lim.now) }
     ensures device { result ≡ 5 →
         ((R.failures r.new ≡ 1) × (w.new ≡ w.old)) ⊎ ((R.failures r.new ≡ 0) × (W.failures w.new ≡ 1)) }
+    ensures begun { result ≡ 5 → R.failures r.new ≡ 0 → IfSome (R.rest r.old) (λ text.
+        BeginsQuotient (meant rel) lim.now h.now text (W.written w.old) (W.written w.new)) }
 
     // What is left.
     ensures sound { result ≡ 0 → (R.failures r.new ≡ 0) × (W.failures w.new ≡ 0) }

@@ -6,7 +6,7 @@ ghost use Rattle.autfmt.specs.declared.fault.Fault.TheVariants.{Memory};
 ghost use Rattle.autfmt.specs.Faults.{FirstFault};
 ghost use Rattle.autfmt.specs.Outcomes.{Takes};
 ghost use Rattle.autfmt.specs.Readers.{IsTextFault};
-ghost use Rattle.autbis.specs.Runs.{MinimisesText, RunFails, RunsTo};
+ghost use Rattle.autbis.specs.Runs.{BeginsQuotient, MinimisesText, RunFails, RunsTo};
 
 use autfmt::{Fault, Hidden, Limits, Sink, Source, read_hiding, write};
 use lts::{Counter, Lts, Meter};
@@ -62,6 +62,8 @@ pub fn run_min<M: Meter, R: Source, W: Sink>(
     ensures untouched { IfErr result (λ f. IsTextFault f ⊎ (f ≡ Memory) → (R.failures r.new ≡ 0) × (w.new ≡ w.old)) }
     ensures device { result ≡ Err Fault.Device →
         ((R.failures r.new ≡ 1) × (w.new ≡ w.old)) ⊎ ((R.failures r.new ≡ 0) × (W.failures w.new ≡ 1)) }
+    ensures begun { result ≡ Err Fault.Device → R.failures r.new ≡ 0 → IfSome (R.rest r.old) (λ text.
+        BeginsQuotient (meant rel) lim.now h.now text (W.written w.old) (W.written w.new)) }
     ensures failures { (R.failures r.new ≤ 1) × (W.failures w.new ≤ 1) }
 {
     theory::the_order_does_not_matter();

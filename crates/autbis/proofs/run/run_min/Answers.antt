@@ -11,7 +11,7 @@ use Rattle.autfmt.specs.declared.fault.Fault.TheVariants.{Memory}
 use Rattle.autfmt.specs.Written.{GainsText, failures_after}
 use Rattle.autbis.specs.Runs.{Minimises, MinimisesText, IsReadAgain, CountsPart}
 use Rattle.autbis.specs.Runs.RunFails.{not_read, no_memory, failed_sink}
-use Rattle.autbis.proofs.Carried.{all_taken, bad_of, keeps_part, keeps_whole, no_success, not_of_text, takes_error}
+use Rattle.autbis.proofs.Carried.{all_taken, bad_of, keeps_part, keeps_whole, no_success, not_of_text, same_error, takes_error}
 use Rattle.autbis.proofs.run.run_min.Given.{Over}
 use Rattle.autbis.proofs.run.run_min.Goals as goal
 use Rattle.autbis.proofs.run.run_min.Goals.{After-write}
@@ -116,6 +116,15 @@ returns-in_err-write-clause-outcome g c =
       | inr device ↦ failed_sink device got.outcome.sound got.outcome.at_end (is.failures ∙ ap (λ f. failures_after {T = Unit {0}} (Err f)) device)
           (input g at, Q g at, got.outcome.read.1, (minimised g at).quotient, is.device device) (part g at)
     ])
+
+pub returns-in_err-write-clause-begun : goal.returns-in_err-write-clause-begun
+returns-in_err-write-clause-begun g c said sound =
+    let at = (goal.at.returns-in_err-write-clause-begun g c).After-write in
+    let got = c.in_ok-system.ensures.outcome in
+    let exit = err_from_is_err_and c.from_residual-in_err-write.result c.from_residual-in_err-write.ensures.1 in
+    let device = sym (same_error _ _ _ exit said) in
+    all_taken _ _ got.given _ got.took got.outcome.at_end
+    (input g at, Q g at, got.outcome.read.1, (minimised g at).quotient, c.in_err-write.ensures.device device)
 
 pub returns-in_err-write-clause-minimised : goal.returns-in_err-write-clause-minimised
 returns-in_err-write-clause-minimised g c =
