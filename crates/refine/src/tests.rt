@@ -1,6 +1,7 @@
 //! Refinement of systems that are known by name: what the tests of each relation share.
 ghost use Rattle.std.specs.Prelude.{◌≡◌, length, IfOk};
 
+mod branching;
 mod strong;
 
 use crate::{Marks, Partition, Sense, Signatures, refine, round};
