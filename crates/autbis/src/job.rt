@@ -93,9 +93,7 @@ pub fn do_job<F: Opener, R: Source, W: Sink, E: Write>(
             hide,
             first,
             second,
-        } => cmp_job(
-            alloc, files, output, e, *relation, hide, first, second,
-        ),
+        } => cmp_job(alloc, files, output, e, *relation, hide, first, second),
     }
 }
 
