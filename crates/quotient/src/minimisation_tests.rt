@@ -5,6 +5,8 @@ use lts::{Counter, Lts, Memory, Meter};
 use std::alloc::Global;
 use std::test::Fail;
 
+const NO_STEPS: &[Step] = &[];
+
 /// The quotient behind the name of the example: how many rounds were made to find it, its first state, how many states
 /// there are and its steps.
 fn shown(
@@ -30,7 +32,7 @@ fn shown(
 #[test]
 fn quotients_by_strong_bisimulation(rt: HostRuntime) -> Result<(), Fail> {
     let table: [(&str, u32, u32, &[Step], &str); 15] = [
-        ("lone-state", 0, 1, &[], "lone-state: 1 rounds: 0 of 1"),
+        ("lone-state", 0, 1, NO_STEPS, "lone-state: 1 rounds: 0 of 1"),
         (
             "two-equal-targets",
             0,
@@ -66,7 +68,13 @@ fn quotients_by_strong_bisimulation(rt: HostRuntime) -> Result<(), Fail> {
             &[(0, b"SEND !1", 1)],
             "blanks-and-quotes: 2 rounds: 0 of 2; 0 SEND !1 1",
         ),
-        ("first-is-one", 1, 2, &[], "first-is-one: 1 rounds: 0 of 1"),
+        (
+            "first-is-one",
+            1,
+            2,
+            NO_STEPS,
+            "first-is-one: 1 rounds: 0 of 1",
+        ),
         (
             "label-order",
             0,

@@ -3,8 +3,6 @@
 #![tactic(auto)]
 
 mod branching;
-#[cfg(test)]
-mod branching_tests;
 mod lists;
 mod marks;
 mod partition;
@@ -16,8 +14,6 @@ mod splitter;
 mod strong;
 #[cfg(test)]
 mod tests;
-#[cfg(test)]
-mod told;
 mod walk;
 mod walking;
 
