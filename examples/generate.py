@@ -6,8 +6,9 @@ internal action.
 """
 
 
-def alternating_bit(data=(1, 2, 3)):
-    """The alternating-bit protocol over two channels of one place, each of which may lose what it holds.
+def alternating_bit(data=(1, 2, 3), bits=2):
+    """The alternating-bit protocol over two channels of one place, each of which may lose what it holds. With one bit
+    in place of two, 0, neither side ever turns its bit.
 
     A state: what the sender is sending or None, its bit, the message channel, the bit that the receiver awaits, the
     message that it is about to deliver or None, the channel of acknowledgements.
@@ -24,15 +25,16 @@ def alternating_bit(data=(1, 2, 3)):
             yield "lose_message", (sending, bit, None, awaited, delivering, answer)
             if delivering is None:
                 if message[1] == awaited:
-                    yield f"get !{message[0]} !{message[1]}", (sending, bit, None, 1 - awaited, message[0], answer)
+                    turned = (awaited + 1) % bits
+                    yield f"get !{message[0]} !{message[1]}", (sending, bit, None, turned, message[0], answer)
                 elif answer is None:  # seen before: say so again
                     yield f"answer_again !{message[1]}", (sending, bit, None, awaited, None, message[1])
         if delivering is not None and answer is None:
-            yield f"receive !{delivering}", (sending, bit, message, awaited, None, 1 - awaited)
+            yield f"receive !{delivering}", (sending, bit, message, awaited, None, (awaited - 1) % bits)
         if answer is not None:
             yield "lose_answer", (sending, bit, message, awaited, delivering, None)
             if sending is not None and answer == bit:
-                yield f"answered !{answer}", (None, 1 - bit, message, awaited, delivering, None)
+                yield f"answered !{answer}", (None, (bit + 1) % bits, message, awaited, delivering, None)
             else:  # of an earlier message
                 yield f"pass_over !{answer}", (sending, bit, message, awaited, delivering, None)
 
@@ -166,8 +168,8 @@ def text_of(transitions, states):
 
 
 def hide_list(transitions, seen):
-    """The hide list of each label whose first word is not one of those that are seen."""
-    labels = {label for _, label, _ in transitions if label.split()[0] not in seen}
+    """The hide list of each label that is not one of those that are seen."""
+    labels = {label for _, label, _ in transitions if label not in seen}
     return "".join(f"{spelled(label)}\n" for label in sorted(labels))
 
 
@@ -180,10 +182,14 @@ SYSTEMS = {
     "dining-philosophers": dining_philosophers(),
     "mutual-exclusion": mutual_exclusion(),
     "one-place-buffer": one_place_buffer(),
+    "unturned-bit": alternating_bit(bits=1),
 }
 
-# what is still seen once the hide list of a system is used
-SEEN = {"alternating-bit": ("send", "receive")}
+# hide lists: their names, the system whose labels they hide, and what is still seen
+HIDE_LISTS = {
+    "alternating-bit": ("alternating-bit", ("send !1", "send !2", "send !3", "receive !1", "receive !2", "receive !3")),
+    "value-1": ("alternating-bit", ("send !1", "receive !1")),
+}
 
 
 def write(name, text):
@@ -195,5 +201,5 @@ if __name__ == "__main__":
     for name, (first, steps) in SYSTEMS.items():
         transitions, states = explored(first, steps)
         write(f"{name}.aut", text_of(transitions, states))
-        if name in SEEN:
-            write(f"{name}.hide", hide_list(transitions, SEEN[name]))
+    for name, (system, seen) in HIDE_LISTS.items():
+        write(f"{name}.hide", hide_list(explored(*SYSTEMS[system])[0], seen))
