@@ -1,0 +1,15 @@
+# Completions of autbis for fish. manual/try compares them with what --help lists.
+complete -c autbis -n __fish_use_subcommand -f
+complete -c autbis -n __fish_use_subcommand -a min -d 'write the equivalent system with the fewest states'
+complete -c autbis -n __fish_use_subcommand -a cmp -d 'say whether two systems are equivalent'
+complete -c autbis -n __fish_use_subcommand -a help -d 'show the words of a command'
+complete -c autbis -n __fish_use_subcommand -s h -l help -d 'show the words'
+complete -c autbis -n __fish_use_subcommand -s V -l version -d 'show the version'
+complete -c autbis -n '__fish_seen_subcommand_from min' -l relation -x -a 'strong branching' -d 'the bisimulation that is meant'
+complete -c autbis -n '__fish_seen_subcommand_from min' -l hide -r -F -d 'make the labels of this list internal first'
+complete -c autbis -n '__fish_seen_subcommand_from min' -l stats -d 'say on standard error how much work it took'
+complete -c autbis -n '__fish_seen_subcommand_from min' -s h -l help -d 'show the words of min'
+complete -c autbis -n '__fish_seen_subcommand_from cmp' -l relation -x -a 'strong branching' -d 'the bisimulation that is meant'
+complete -c autbis -n '__fish_seen_subcommand_from cmp' -l hide -r -F -d 'make the labels of this list internal first'
+complete -c autbis -n '__fish_seen_subcommand_from cmp' -s h -l help -d 'show the words of cmp'
+complete -c autbis -n '__fish_seen_subcommand_from help' -f -a 'min cmp help'
