@@ -1,6 +1,7 @@
 //! A job done: the files opened, the run, and what is said of it.
 ghost use Rattle.std.specs.Prelude.{◌≡◌, ◌≤◌, ◌⊎◌, [], ◌∷◌, true, false, Some, IfSome, IfOk, IfErr, option_map, string_bytes};
-ghost use Rattle.autbis.specs.Comparisons.{ComparesNamed};
+ghost use Rattle.autbis.specs.Comparisons.{BeginsVerdict, ComparesNamed, HasFaultySide};
+ghost use Rattle.autbis.specs.declared.compare.Side.TheVariants.{First, Second};
 ghost use Rattle.autbis.specs.Files.{Name, Opens};
 ghost use Rattle.autbis.specs.Jobs.{HidesNamed, given};
 ghost use Rattle.autbis.specs.Reports.{IsFaultStatus};
@@ -104,8 +105,9 @@ pub fn min_program<R: Source, W: Sink, E: Write>(
 }
 
 /// Compares the texts of `a` and `b`, writes the line of the verdict to `w`, and returns the exit status: 0 if they are
-/// equivalent, 1 if not, 2 if a text is faulty, 4 for want of memory, 5 if a source or the sink failed. A fault goes to `report`
-/// with the name of the text that it is in. After a fault in the first text the second source is untouched.
+/// equivalent, 1 if not, 2 if a text is faulty, 4 for want of memory, 5 if a source or the sink failed. With 2 and 4 nothing
+/// failed and nothing was written. A fault goes to `report` with the name of the text that it is in. After a fault in the first
+/// text the second source is untouched.
 pub fn cmp_program<R1: Source, R2: Source, W: Sink, E: Write>(
     alloc: Global,
     a: &mut R1,
@@ -128,22 +130,35 @@ pub fn cmp_program<R1: Source, R2: Source, W: Sink, E: Write>(
         (W.written w.old) (W.written w.new) true }
     ensures different { result ≡ 1 → ComparesNamed (meant rel) lim.now h.now (R1.rest a.old) (R2.rest b.old)
         (W.written w.old) (W.written w.new) false }
+    ensures faulty { result ≡ 2 → HasFaultySide lim.now (R1.rest a.old) (R2.rest b.old) }
+    ensures device { result ≡ 5 →
+        ((R1.failures a.new ≡ 1) × (b.new ≡ b.old) × (w.new ≡ w.old))
+        ⊎ (((R1.failures a.new ≡ 0) × (R2.failures b.new ≡ 1) × (w.new ≡ w.old))
+        ⊎ ((R1.failures a.new ≡ 0) × (R2.failures b.new ≡ 0) × (W.failures w.new ≡ 1))) }
+    ensures begun { result ≡ 5 → R1.failures a.new ≡ 0 → R2.failures b.new ≡ 0 →
+        BeginsVerdict (meant rel) lim.now h.now (R1.rest a.old) (R2.rest b.old) (W.written w.old) (W.written w.new) }
 
     // What is left.
     ensures sound { (result ≡ 0) ⊎ (result ≡ 1) →
         (R1.failures a.new ≡ 0) × (R2.failures b.new ≡ 0) × (W.failures w.new ≡ 0) }
-    ensures untouched { (result ≡ 2) ⊎ (result ≡ 4) → w.new ≡ w.old }
+    ensures untouched { (result ≡ 2) ⊎ (result ≡ 4) →
+        (R1.failures a.new ≡ 0) × (R2.failures b.new ≡ 0) × (w.new ≡ w.old) }
 {
     match run_cmp(alloc, a, b, w, rel, lim, h, &mut Counter::new()) {
         Ok(true) => 0,
         Ok(false) => 1,
-        Err(
-            CmpFault {
-                side: Side::Second,
-                fault,
-            },
-        ) => report(&fault, b_name, e),
-        Err(CmpFault { side: _, fault }) => report(&fault, a_name, e),
+        Err(CmpFault { side, fault }) => report(&fault, named(side, a_name, b_name), e),
+    }
+}
+
+/// The name of the text that a fault of this side is in. No line on a fault of the run itself has a name.
+fn named<'a>(side: Side, a_name: &'a str, b_name: &'a str) -> &'a str
+    ensures first { side ≡ First → result.now ≡ a_name.now }
+    ensures second { side ≡ Second → result.now ≡ b_name.now }
+{
+    match side {
+        Side::First | Side::Run => a_name,
+        Side::Second => b_name,
     }
 }
 

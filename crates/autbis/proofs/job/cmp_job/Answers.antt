@@ -1,4 +1,4 @@
-use Rattle.std.proofs.Common.{[], ◌∷◌, true, false, inr, append-nil, option_map, string_bytes, refl, sym}
+use Rattle.std.proofs.Common.{[], ◌∷◌, false, inr, append-nil, option_map, string_bytes, refl, sym}
 use Rattle.autbis.specs.Jobs.{given}
 use Rattle.autbis.proofs.Naming.{opened_two, opened_three, compares_files}
 use Rattle.autbis.proofs.job.cmp_job.Goals as goal

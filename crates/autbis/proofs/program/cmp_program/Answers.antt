@@ -1,7 +1,8 @@
-use Rattle.std.proofs.Common.{subst, true, false, ◌≡◌}
+use Rattle.std.proofs.Common.{rules, subst, true, false, inl, inr, sym, ◌≡◌, ◌∙◌}
 use Rattle.quotient.specs.Relations.{meant}
 use Rattle.autbis.specs.Comparisons.{ComparesNamed}
 use Rattle.autbis.proofs.Comparing.{named}
+use Rattle.autbis.proofs.Failing.{faulty_side, one_failed, begun_line, nothing_failed}
 use Rattle.autbis.proofs.program.cmp_program.Goals as goal
 
 pub returns-in-Ok-true-clause-same : goal.returns-in-Ok-true-clause-same
@@ -17,3 +18,21 @@ returns-in-Ok-false-clause-different g c e =
     let is : c.in-Ok-false.field-0 ≡ false = c.in-Ok-false.field-0-test in
     subst (ComparesNamed (meant c.args.rel) c.args.lim.now c.args.h.now _ _ _ _) is
     (named (meant c.args.rel) c.args.lim.now c.args.h.now _ _ _ _ _ _ _ got.given got.outcome.0 _ got.took got.outcome.1 got.outcome.2)
+
+pub returns-in-Err-clause-faulty : goal.returns-in-Err-clause-faulty
+returns-in-Err-clause-faulty g c two =
+    let got = c.in-Err.ensures.outcome in
+    faulty_side _ got.took got.outcome (sym c.report.ensures.status ∙ two)
+
+pub returns-in-Err-clause-device : goal.returns-in-Err-clause-device
+returns-in-Err-clause-device g c five = one_failed c.in-Err.ensures.outcome.outcome (sym c.report.ensures.status ∙ five)
+
+pub returns-in-Err-clause-begun : goal.returns-in-Err-clause-begun
+returns-in-Err-clause-begun g c five sound sound' =
+    let got = c.in-Err.ensures.outcome in
+    begun_line _ got.took got.outcome (sym c.report.ensures.status ∙ five) sound sound'
+
+pub returns-in-Err-clause-untouched : goal.returns-in-Err-clause-untouched
+returns-in-Err-clause-untouched g c status =
+    nothing_failed (λ same. search rules) c.in-Err.ensures.outcome.outcome
+    (elim status [ inl two ↦ inl (sym c.report.ensures.status ∙ two) | inr four ↦ inr (sym c.report.ensures.status ∙ four) ])

@@ -1,0 +1,112 @@
+-- What the exit status of a comparison that failed tells: which text is faulty, or what failed.
+use Rattle.std.proofs.Common.{◌≡◌, ◌⊎◌, ℕ, List, ◌++◌, Option, Some, None, IfSome, inl, inr, ap, refl, sym, subst, arith}
+use Rattle.std.specs.Io.KnownBytes.{Consumes}
+use Rattle.theory.specs.Bisimulation.{Relation}
+use Rattle.lts.specs.Meter.{Counts}
+use Rattle.autfmt.specs.Bounds.{Bounds}
+use Rattle.autfmt.specs.declared.fault.Fault.{Fault}
+use Rattle.autfmt.specs.declared.fault.Fault.TheVariants.{Device, Memory}
+use Rattle.autfmt.specs.Outcomes.{Refuses}
+use Rattle.autfmt.specs.Outcomes.Refuses.{faulty_text, failed_source, no_memory}
+use Rattle.autbis.specs.declared.compare.CmpFault.{CmpFault}
+use Rattle.autbis.specs.Comparisons.{BeginsVerdict, CmpFails, HasFaultySide, IsReadable}
+use Rattle.autbis.specs.Comparisons.CmpFails.{first_side, behind_first}
+use Rattle.autbis.specs.Comparisons.FailsBehindFirst.{second_side, run_side}
+use Rattle.autbis.specs.Comparisons.NoLine.{no_memory as no_room, failed_sink}
+use Rattle.autbis.specs.Reports.{status_of}
+use Rattle.autbis.specs.Runs.{IsFaulty}
+use Rattle.autbis.proofs.Carried.{all_taken}
+use Rattle.autfmt.specs.Faults.{FirstFault}
+use Rattle.autfmt.specs.Readers.{IsTextFault}
+
+-- the first fault of the bytes that were taken and of those that are left is one of the text that was told
+told_faulty : (bounds : Bounds) (given : List ℕ) (fault : Fault) (told rest : Option (List ℕ)) → Consumes told rest given → IsTextFault fault →
+    IfSome rest (λ more. FirstFault bounds (given ++ more) fault) → IfSome told (IsFaulty bounds)
+told_faulty bounds given fault None rest took of_text first = tt
+told_faulty bounds given fault (Some text) None took of_text first = absurd took
+told_faulty bounds given fault (Some text) (Some more) took of_text first =
+    (fault, of_text, subst (λ t. FirstFault bounds t fault) (sym took) first)
+
+-- a fault of a text has the status 2
+text_status : (fault : Fault) → IsTextFault fault → status_of fault ≡ 2
+text_status Device h = absurd h
+text_status Memory h = absurd h
+text_status _ h = refl
+
+module _ (bounds : Bounds) (given : List ℕ) (rest : Option (List ℕ)) (failures : ℕ) (fault : Fault) where
+  -- with the status 2 the text that was told has a fault
+  pub faulty_told : (told : Option (List ℕ)) → Consumes told rest given → Refuses bounds given rest failures fault →
+      status_of fault ≡ 2 → IfSome told (IsFaulty bounds)
+  faulty_told told took (faulty_text sound of_text first) two = told_faulty bounds given fault told rest took of_text first
+  faulty_told told took (failed_source failed device unknown) two = absurd (omega (arith, ap status_of device, two))
+  faulty_told told took (no_memory sound memory header) two = absurd (omega (arith, ap status_of memory, two))
+
+  -- with the status 5 the source failed
+  pub failed_with_5 : Refuses bounds given rest failures fault → status_of fault ≡ 5 → failures ≡ 1
+  failed_with_5 (faulty_text sound of_text first) five = absurd (omega (arith, text_status fault of_text, five))
+  failed_with_5 (failed_source failed device unknown) five = failed
+  failed_with_5 (no_memory sound memory header) five = absurd (omega (arith, ap status_of memory, five))
+
+  -- with 2 and 4 it did not
+  pub sound_with_2_or_4 : Refuses bounds given rest failures fault → (status_of fault ≡ 2) ⊎ (status_of fault ≡ 4) → failures ≡ 0
+  sound_with_2_or_4 (faulty_text sound of_text first) status = sound
+  sound_with_2_or_4 (failed_source failed device unknown) (inl two) = absurd (omega (arith, ap status_of device, two))
+  sound_with_2_or_4 (failed_source failed device unknown) (inr four) = absurd (omega (arith, ap status_of device, four))
+  sound_with_2_or_4 (no_memory sound memory header) status = sound
+
+module _ {rel : Relation} {bounds : Bounds} {H : List (List ℕ)} {a' b b' old new : Option (List ℕ)} {of_first of_second of_sink : ℕ}
+    {unread unchanged : Type 0} {at : Counts} {fault : CmpFault} {first : List ℕ} where
+  -- with the status 2 one of the texts is faulty
+  pub faulty_side : (a : Option (List ℕ)) → Consumes a a' first →
+      CmpFails rel bounds H first a' b b' of_first of_second of_sink unread unchanged old new at fault → status_of fault.fault ≡ 2 → HasFaultySide bounds a b
+  faulty_side a took (first_side side refused unread' unchanged' fresh) two =
+      inl (faulty_told bounds first a' of_first fault.fault a took refused two)
+  faulty_side a took (behind_first sound at_end second took' (second_side side readable refused unchanged' fresh)) two = inr (
+    all_taken a a' first (IsReadable bounds) took at_end readable,
+    faulty_told bounds second b' of_second fault.fault b took' refused two,
+  )
+  faulty_side a took (behind_first sound at_end second took' (run_side side sound' at_end' both counts (no_room memory unchanged'))) two =
+      absurd (omega (arith, ap status_of memory, two))
+  faulty_side a took (behind_first sound at_end second took' (run_side side sound' at_end' both counts (failed_sink device failed same verdict begun))) two =
+      absurd (omega (arith, ap status_of device, two))
+
+  -- with 5 the first source failed, or the second one, or the sink
+  pub one_failed : CmpFails rel bounds H first a' b b' of_first of_second of_sink unread unchanged old new at fault →
+      status_of fault.fault ≡ 5 → ((of_first ≡ 1) × unread × unchanged)
+      ⊎ (((of_first ≡ 0) × (of_second ≡ 1) × unchanged) ⊎ ((of_first ≡ 0) × (of_second ≡ 0) × (of_sink ≡ 1)))
+  one_failed (first_side side refused unread' unchanged' fresh) five =
+      inl (failed_with_5 bounds first a' of_first fault.fault refused five, unread', unchanged')
+  one_failed (behind_first sound at_end second took' (second_side side readable refused unchanged' fresh)) five =
+      inr (inl (sound, failed_with_5 bounds second b' of_second fault.fault refused five, unchanged'))
+  one_failed (behind_first sound at_end second took' (run_side side sound' at_end' both counts (no_room memory unchanged'))) five =
+      absurd (omega (arith, ap status_of memory, five))
+  one_failed (behind_first sound at_end second took' (run_side side sound' at_end' both counts (failed_sink device failed same verdict begun))) five =
+      inr (inr (sound, sound', failed))
+
+  -- and if it was the sink, a beginning of the line was written
+  pub begun_line : (a : Option (List ℕ)) → Consumes a a' first →
+      CmpFails rel bounds H first a' b b' of_first of_second of_sink unread unchanged old new at fault → status_of fault.fault ≡ 5 → of_first ≡ 0 → of_second ≡ 0 → BeginsVerdict rel bounds H a b old new
+  begun_line a took (first_side side refused unread' unchanged' fresh) five zero zero' =
+      absurd (omega (arith, failed_with_5 bounds first a' of_first fault.fault refused five, zero))
+  begun_line a took (behind_first sound at_end second took' (second_side side readable refused unchanged' fresh)) five zero zero' =
+      absurd (omega (arith, failed_with_5 bounds second b' of_second fault.fault refused five, zero'))
+  begun_line a took (behind_first sound at_end second took' (run_side side sound' at_end' both counts (no_room memory unchanged'))) five zero zero' =
+      absurd (omega (arith, ap status_of memory, five))
+  begun_line a took (behind_first sound at_end second took' (run_side side sound' at_end' both counts (failed_sink device failed same verdict begun))) five zero zero' =
+      all_taken a a' first _ took at_end (all_taken b b' second _ took' at_end' (both, same, verdict, begun))
+
+  -- with 2 and 4 nothing failed, and nothing was written
+  pub nothing_failed : (unread → of_second ≡ 0) →
+      CmpFails rel bounds H first a' b b' of_first of_second of_sink unread unchanged old new at fault →
+      (status_of fault.fault ≡ 2) ⊎ (status_of fault.fault ≡ 4) →
+      (of_first ≡ 0) × (of_second ≡ 0) × unchanged
+  nothing_failed fine (first_side side refused unread' unchanged' fresh) status =
+      (sound_with_2_or_4 bounds first a' of_first fault.fault refused status, fine unread', unchanged')
+  nothing_failed fine (behind_first sound at_end second took' (second_side side readable refused unchanged' fresh)) status =
+      (sound, sound_with_2_or_4 bounds second b' of_second fault.fault refused status, unchanged')
+  nothing_failed fine (behind_first sound at_end second took' (run_side side sound' at_end' both counts (no_room memory unchanged'))) status =
+      (sound, sound', unchanged')
+  nothing_failed fine (behind_first sound at_end second took' (run_side side sound' at_end' both counts (failed_sink device failed same verdict begun))) (inl two) =
+      absurd (omega (arith, ap status_of device, two))
+  nothing_failed fine (behind_first sound at_end second took' (run_side side sound' at_end' both counts (failed_sink device failed same verdict begun))) (inr four) =
+      absurd (omega (arith, ap status_of device, four))
