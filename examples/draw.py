@@ -11,6 +11,7 @@ import shlex
 import subprocess
 import sys
 import tempfile
+from html import escape
 
 # the system, its relation, its hide list or None, and the program of graphviz that places its states; `neato` serves
 # large ones, which get no labels
@@ -124,7 +125,7 @@ def pair(place):
 
 
 def text(place, words):
-    return f'<text x="{place[0]:.1f}" y="{place[1] + 3:.1f}">{words}</text>'
+    return f'<text x="{place[0]:.1f}" y="{place[1] + 3:.1f}">{escape(str(words))}</text>'
 
 
 def content(path):
