@@ -134,47 +134,48 @@ Hit blocks j b = (s : ℕ) × (s < j) × (blocks s ≡ b)
 hit_decided : (blocks : ℕ → ℕ) (j b : ℕ) → Dec (Hit blocks j b)
 hit_decided blocks j b = some_below (λ s. blocks s ≡ b) (λ s. same_number (blocks s) b) j
 
+module _ (blocks : ℕ → ℕ) (j : ℕ) where
+  -- the state j adds its block to those that are hit, and no other
+  hit_other : (b : ℕ) → ¬ (b ≡ blocks j) → Hit blocks j b ↔ Hit blocks (suc j) b
+  hit_other b d = (
+    λ h. (h.0, omega (arith, h.1), h.2),
+    λ h. elim (cases_eq h.0 j) [
+      | inl e ↦ absurd (d (sym h.2 ∙ ap blocks e))
+      | inr e ↦ (h.0, omega (arith, h.1, e), h.2)
+    ],
+  )
+
+  hit_again : Hit blocks j (blocks j) → (b : ℕ) → Hit blocks j b ↔ Hit blocks (suc j) b
+  hit_again g b = elim (cases_eq b (blocks j)) [
+    | inl e ↦ (λ h. (h.0, omega (arith, h.1), h.2), λ h. subst (Hit blocks j) (sym e) g)
+    | inr d ↦ hit_other b d
+  ]
+
+  -- the state j opens a block exactly if one more is hit
+  hits_next : (m : ℕ) → blocks j < m → one (opens_decided blocks j) + tally (Hit blocks j) (hit_decided blocks j) m
+      ≡ tally (Hit blocks (suc j)) (hit_decided blocks (suc j)) m
+  hits_next m low = elim (hit_decided blocks j (blocks j)) [
+    | yes g ↦
+        let same = tally_same (Hit blocks j) (Hit blocks (suc j)) (hit_decided blocks j) (hit_decided blocks (suc j)) m
+        (λ b l. hit_again g b) in
+        let shut : one (opens_decided blocks j) ≡ 0 = one_no (λ f. f g.0 g.1 g.2) (opens_decided blocks j) in
+        omega (arith, same, shut)
+    | no g ↦
+        let more = tally_one_more (Hit blocks j) (Hit blocks (suc j)) (hit_decided blocks j) (hit_decided blocks (suc j)) m
+        (blocks j) low g (j, omega arith, refl) (λ b l d. hit_other b d) in
+        let opens : one (opens_decided blocks j) ≡ 1 = one_yes (λ t l e'. g (t, l, e')) (opens_decided blocks j) in
+        omega (arith, more, opens)
+  ]
+
 hits_counted : (blocks : ℕ → ℕ) (m j : ℕ) → ((s : ℕ) → s < j → blocks s < m)
     → tally (Opens blocks) (opens_decided blocks) j ≡ tally (Hit blocks j) (hit_decided blocks j) m
 hits_counted blocks m zero within =
-    tally_zero (Opens blocks) (opens_decided blocks) ∙ sym (tally_none (Hit blocks 0) (hit_decided blocks 0) m (λ b l h. absurd (omega (arith, h.1))))
-hits_counted blocks m (suc j) within = tally_suc (Opens blocks) (opens_decided blocks) j ∙ step (hits_counted blocks m j (λ s l. within s (omega (arith, l))))
-  where
-    fewer : ℕ
-    fewer = tally (Hit blocks j) (hit_decided blocks j) m
-
-    later : (b : ℕ) → ¬ (b ≡ blocks j) → Hit blocks j b ↔ Hit blocks (suc j) b
-    later b d = (
-      λ h. (h.0, omega (arith, h.1), h.2),
-      λ h. elim (cases_eq h.0 j) [
-        | inl e ↦ absurd (d (sym h.2 ∙ ap blocks e))
-        | inr e ↦ (h.0, omega (arith, h.1, e), h.2)
-      ],
-    )
-
-    again : Hit blocks j (blocks j) → (b : ℕ) → Hit blocks j b ↔ Hit blocks (suc j) b
-    again g b = elim (cases_eq b (blocks j)) [
-      | inl e ↦ (λ h. (h.0, omega (arith, h.1), h.2), λ h. subst (Hit blocks j) (sym e) g)
-      | inr d ↦ later b d
-    ]
-
-    step : tally (Opens blocks) (opens_decided blocks) j ≡ fewer
-        → tally (Opens blocks) (opens_decided blocks) j + one (opens_decided blocks j)
-        ≡ tally (Hit blocks (suc j)) (hit_decided blocks (suc j)) m
-    step e = elim (hit_decided blocks j (blocks j)) [
-      | yes g ↦
-          let same : fewer ≡ tally (Hit blocks (suc j)) (hit_decided blocks (suc j)) m =
-          tally_same (Hit blocks j) (Hit blocks (suc j)) (hit_decided blocks j) (hit_decided blocks (suc j)) m
-          (λ b l. again g b) in
-          let shut : one (opens_decided blocks j) ≡ 0 = one_no (λ f. f g.0 g.1 g.2) (opens_decided blocks j) in
-          omega (arith, e, same, shut)
-      | no g ↦
-          let more : tally (Hit blocks (suc j)) (hit_decided blocks (suc j)) m ≡ suc fewer =
-          tally_one_more (Hit blocks j) (Hit blocks (suc j)) (hit_decided blocks j) (hit_decided blocks (suc j)) m
-          (blocks j) (within j (omega arith)) g (j, omega arith, refl) (λ b l d. later b d) in
-          let opens : one (opens_decided blocks j) ≡ 1 = one_yes (λ t l e'. g (t, l, e')) (opens_decided blocks j) in
-          omega (arith, e, more, opens)
-    ]
+    tally_zero (Opens blocks) (opens_decided blocks)
+    ∙ sym (tally_none (Hit blocks 0) (hit_decided blocks 0) m (λ b l h. absurd (omega (arith, h.1))))
+hits_counted blocks m (suc j) within =
+    let before = hits_counted blocks m j (λ s l. within s (omega (arith, l))) in
+    let next = hits_next blocks j m (within j (omega arith)) in
+    omega (arith, tally_suc (Opens blocks) (opens_decided blocks) j, before, next)
 
 -- blocks numbered below m without a gap are m
 pub numbered_count : (A : System) (blocks : ℕ → ℕ) (m : ℕ) → ((s : ℕ) → s < A.states → blocks s < m)

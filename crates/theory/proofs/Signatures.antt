@@ -27,14 +27,17 @@ inert_carried A sys one two same (u ∷ us) s t ls h =
     ((h.0.0, (same u s lu ls).0 h.0.1), inert_carried A sys one two same us u t lu h.1)
 
 module _ (A : System) (sys : IsSystem A) (one two : ℕ → ℕ) (same : SameBlocks A one two) where
-  signature_carried : (rel : Relation) (s t : ℕ) → s < A.states → t < A.states → SameSignature rel A one s t
-      → (a : List ℕ) (b : ℕ) → Signature rel A two s a b → Signature rel A two t a b
-  signature_carried strong s t ls lt sig a b h =
+  strong_carried : (s t : ℕ) → s < A.states → t < A.states → SameSignature strong A one s t
+      → (a : List ℕ) (b : ℕ) → Signature strong A two s a b → Signature strong A two t a b
+  strong_carried s t ls lt sig a b h =
       let g : Signature strong A one t a (one h.0) = (sig a (one h.0)).0 (h.0, h.1, refl) in
       let le : h.0 < A.states = (step_below A sys s a h.0 h.1).1 in
       let lg : g.0 < A.states = (step_below A sys t a g.0 g.1).1 in
       (g.0, g.1, (same g.0 h.0 lg le).1 g.2 ∙ h.2)
-  signature_carried branching s t ls lt sig a b h =
+
+  branching_carried : (s t : ℕ) → s < A.states → t < A.states → SameSignature branching A one s t
+      → (a : List ℕ) (b : ℕ) → Signature branching A two s a b → Signature branching A two t a b
+  branching_carried s t ls lt sig a b h =
       let le : h.1 < A.states = (step_below A sys h.0 a h.1 h.3).1 in
       let p : Signature branching A one s a (one h.1) = (
         h.0,
@@ -54,7 +57,12 @@ module _ (A : System) (sys : IsSystem A) (one two : ℕ → ℕ) (same : SameBlo
         λ x. g.5 (x.0, (same h.1 t le lt).0 (h.4 ∙ x.1)),
       )
 
-  -- equal signatures stay equal where the same states share a block
+  signature_carried : (rel : Relation) (s t : ℕ) → s < A.states → t < A.states → SameSignature rel A one s t
+      → (a : List ℕ) (b : ℕ) → Signature rel A two s a b → Signature rel A two t a b
+  signature_carried strong = strong_carried
+  signature_carried branching = branching_carried
+
+  -- equal signatures stay equal if the same states share a block
   pub same_signature_carried : (rel : Relation) (s t : ℕ) → s < A.states → t < A.states
       → SameSignature rel A one s t → SameSignature rel A two s t
   same_signature_carried rel s t ls lt sig a b = (

@@ -1,5 +1,5 @@
 -- How many numbers a decidable property holds of, and the place of each among them.
-use Rattle.std.proofs.Common.{◌≡◌, ◌↔◌, ℕ, zero, suc, ◌+◌, ◌<◌, ◌≤◌, [], ◌∷◌, ◌++◌, Contains, refl, sym, ◌∙◌, ap, subst, inl, inr, arith, length-append}
+use Rattle.std.proofs.Common.{◌≡◌, ◌↔◌, ℕ, List, zero, suc, ◌+◌, ◌<◌, ◌≤◌, [], ◌∷◌, ◌++◌, Contains, refl, sym, ◌∙◌, ap, subst, inl, inr, arith, length-append}
 use Rattle.std.proofs.lemmas.Bool.{cases_eq}
 use Rattle.std.proofs.lemmas.List.Elements.{Contains-append_left, Contains-append_right, Contains-append_cases}
 use Rattle.theory.specs.Quotient.{HowMany}
@@ -64,24 +64,29 @@ module _ (P : ℕ → Type 0) (d : (k : ℕ) → Dec (P k)) where
   unfolding tally
   tally_suc n = refl
 
+  -- a list with the numbers below n that have P, and then n, which has it too
+  list_on : (n : ℕ) (xs : List ℕ) → P n → ((k : ℕ) → Contains xs k ↔ (P k × (k < n)))
+      → (k : ℕ) → Contains (xs ++ n ∷ []) k ↔ (P k × (k < suc n))
+  list_on n xs p has k = (
+    λ h. elim (Contains-append_cases xs (n ∷ []) k h) [
+      | inl l ↦ (((has k).0 l).0, omega (arith, ((has k).0 l).1))
+      | inr r ↦ elim (contains_cases n [] k r) [
+        | inl e ↦ (subst P e p, omega (arith, e))
+        | inr f ↦ absurd (contains_none k f)
+      ]
+    ],
+    λ h. elim (cases_eq n k) [
+      | inl e ↦ Contains-append_right xs (n ∷ []) k (subst (Contains (n ∷ [])) e (contains_here n []))
+      | inr e ↦ Contains-append_left xs (n ∷ []) k ((has k).1 (h.0, omega (arith, h.1, e)))
+    ],
+  )
+
   -- the count up to the next number
   pub tally_next : (n c : ℕ) (p : Dec (P n)) → HowMany (λ k. P k × (k < n)) c → HowMany (λ k. P k × (k < suc n)) (c + one p)
   tally_next n c (yes p) (xs, up, has, long) = (
     xs ++ n ∷ [],
     rising_on xs n up (λ k h. ((has k).0 h).1),
-    λ k. (
-      λ h. elim (Contains-append_cases xs (n ∷ []) k h) [
-        | inl l ↦ (((has k).0 l).0, omega (arith, ((has k).0 l).1))
-        | inr r ↦ elim (contains_cases n [] k r) [
-          | inl e ↦ (subst P e p, omega (arith, e))
-          | inr f ↦ absurd (contains_none k f)
-        ]
-      ],
-      λ h. elim (cases_eq n k) [
-        | inl e ↦ Contains-append_right xs (n ∷ []) k (subst (Contains (n ∷ [])) e (contains_here n []))
-        | inr e ↦ Contains-append_left xs (n ∷ []) k ((has k).1 (h.0, omega (arith, h.1, e)))
-      ],
-    ),
+    list_on n xs p has,
     length-append xs (n ∷ []) ∙ ap (λ z. z + 1) long,
   )
   tally_next n c (no f) (xs, up, has, long) = (

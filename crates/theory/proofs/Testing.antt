@@ -17,7 +17,6 @@ pub mod Census
 pub mod Repeating
 pub mod Told
 pub mod Refusing
-pub mod Courses
 
 -- the second test runs only where the first passes
 abbrev pub and_then : Bool → (Unit {0} → Bool) → Bool

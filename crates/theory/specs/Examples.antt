@@ -1,19 +1,45 @@
 -- Small systems whose bisimulations, signatures and quotients are known: what the definitions must say of them.
-use Rattle.std.specs.Prelude.{◌≡◌, ℕ, ◌<◌, List, [], ◌∷◌, ◌↔◌, length, slice_index}
+use Rattle.std.specs.Prelude.{◌≡◌, ℕ, suc, ◌<◌, List, [], ◌∷◌, ◌↔◌, length, map, slice_index}
 use Rattle.std.specs.List.{Contains, slice_index_or}
-use Rattle.theory.specs.System.{System, Transition, internal}
-use Rattle.theory.specs.Bisimulation.{Relation}
-use Rattle.theory.specs.Blocks.{Signature, Split}
-use Rattle.theory.specs.Quotient.{Leader, Number}
+use Rattle.theory.specs.System.{System, Transition, IsSystem, internal}
+use Rattle.theory.specs.Bisimulation.{Relation, Equivalent}
+use Rattle.theory.specs.Bisimulation.Relation.{strong, branching}
+use Rattle.theory.specs.Blocks.{Signature, Split, OneBlock, Turns}
+use Rattle.theory.specs.Quotient.{Leader, Number, Quotient}
+
+-- two systems that neither relation makes equivalent
+pub record AreApart (A B : System) : Type 0 where
+  pub systems : IsSystem A × IsSystem B
+  pub strongly : ¬ Equivalent strong A B
+  pub branching : ¬ Equivalent branching A B
 
 -- the signature of s has exactly the pairs in the list
 abbrev pub SignatureIs : Relation → System → (ℕ → ℕ) → ℕ → List (List ℕ × ℕ) → Type 0
 SignatureIs rel A blocks s pairs = (x : List ℕ) (n : ℕ) → Signature rel A blocks s x n ↔ Contains pairs (x, n)
 
 -- the signature of each state s has exactly the pairs in the list at s, and the Split makes the blocks `new` of `old`
-pub record SplitsBy (rel : Relation) (A : System) (old : List ℕ) (pairs : List (List (List ℕ × ℕ))) (new : List ℕ) : Type 0 where
+pub record SplitsBy
+    (rel : Relation) (A : System) (old : List ℕ) (pairs : List (List (List ℕ × ℕ))) (new : List ℕ) : Type 0 where
   pub signatures : (s : ℕ) → s < A.states → SignatureIs rel A (slice_index old) s (slice_index_or pairs s [])
   pub split : Split rel A (slice_index old) (slice_index new)
+
+-- a Split, written out: the signature of each state under the blocks before it, and the blocks after it
+abbrev pub Round : Type 0
+Round = List (List (List ℕ × ℕ)) × List ℕ
+
+-- the blocks before the written-out Split number j, counted from 0, and the signatures under them
+abbrev pub blocks_before : List ℕ → List Round → ℕ → List ℕ
+blocks_before first rounds j = slice_index_or (first ∷ map (λ r. r.1) rounds) j []
+
+abbrev pub signatures_at : List Round → ℕ → List (List (List ℕ × ℕ))
+signatures_at rounds j = slice_index_or (map (λ r. r.0) rounds) j []
+
+-- the Splits from one block on go as they are written out, and the last is the first that changes nothing
+pub record RefinesBy (rel : Relation) (A : System) (first : List ℕ) (rounds : List Round) : Type 0 where
+  pub one : OneBlock A (slice_index first)
+  pub splits : (j : ℕ) → j < length rounds →
+      SplitsBy rel A (blocks_before first rounds j) (signatures_at rounds j) (blocks_before first rounds (suc j))
+  pub turns : Turns rel A (length rounds)
 
 -- every state s has the number at s in the list
 pub record NumbersAre (rel : Relation) (A : System) (numbers : List ℕ) : Type 0 where
@@ -24,6 +50,15 @@ pub record NumbersAre (rel : Relation) (A : System) (numbers : List ℕ) : Type 
 pub record LeadersAre (rel : Relation) (A : System) (leaders : List ℕ) : Type 0 where
   pub all : length leaders ≡ A.states
   pub each : (s : ℕ) → s < A.states → Leader rel A s (slice_index leaders s)
+
+-- Q is the quotient, and every state s has the number at s in the list
+pub record QuotientIs (rel : Relation) (A Q : System) (list : List ℕ) : Type 0 where
+  pub quotient : Quotient rel A Q
+  pub numbers : NumbersAre rel A list
+
+-- a system by its first state, how many states it has, and its transitions
+abbrev pub system : ℕ → ℕ → List Transition → System
+system first states transitions = record { first = first; states = states; transitions = transitions }
 
 -- a transition, and three labels
 abbrev pub edge : ℕ → List ℕ → ℕ → Transition
@@ -40,227 +75,196 @@ c = 99 ∷ []
 
 -- after a, both b and c are open
 abbrev pub choice_after : System
-choice_after = record { first = 0; states = 4; transitions = edge 0 a 1 ∷ edge 1 b 2 ∷ edge 1 c 3 ∷ [] }
+choice_after = system 0 4 (edge 0 a 1 ∷ edge 1 b 2 ∷ edge 1 c 3 ∷ [])
 
 -- a itself chooses between b and c
 abbrev pub choice_before : System
-choice_before = record { first = 0; states = 5; transitions = edge 0 a 1 ∷ edge 0 a 2 ∷ edge 1 b 3 ∷ edge 2 c 4 ∷ [] }
+choice_before = system 0 5 (edge 0 a 1 ∷ edge 0 a 2 ∷ edge 1 b 3 ∷ edge 2 c 4 ∷ [])
 
 -- a silent step between a and b
 abbrev pub silent_middle : System
-silent_middle = record { first = 0; states = 4; transitions = edge 0 a 1 ∷ edge 1 internal 2 ∷ edge 2 b 3 ∷ [] }
+silent_middle = system 0 4 (edge 0 a 1 ∷ edge 1 internal 2 ∷ edge 2 b 3 ∷ [])
 
 -- the same with no silent step
 abbrev pub no_middle : System
-no_middle = record { first = 0; states = 3; transitions = edge 0 a 1 ∷ edge 1 b 2 ∷ [] }
+no_middle = system 0 3 (edge 0 a 1 ∷ edge 1 b 2 ∷ [])
 
 -- a silent step that gives a up
 abbrev pub silent_choice : System
-silent_choice = record { first = 0; states = 2; transitions = edge 0 internal 1 ∷ edge 0 a 1 ∷ [] }
+silent_choice = system 0 2 (edge 0 internal 1 ∷ edge 0 a 1 ∷ [])
 
 -- a cycle of silent steps
 abbrev pub silent_cycle : System
-silent_cycle = record { first = 0; states = 2; transitions = edge 0 internal 1 ∷ edge 1 internal 0 ∷ edge 1 a 1 ∷ [] }
+silent_cycle = system 0 2 (edge 0 internal 1 ∷ edge 1 internal 0 ∷ edge 1 a 1 ∷ [])
 
 -- a silent step loses a, and b is open behind it alone
 abbrev pub option_behind : System
-option_behind = record { first = 0; states = 3; transitions = edge 0 a 2 ∷ edge 0 internal 1 ∷ edge 1 b 2 ∷ [] }
+option_behind = system 0 3 (edge 0 a 2 ∷ edge 0 internal 1 ∷ edge 1 b 2 ∷ [])
 
 -- the same with b open before it too
 abbrev pub option_before : System
-option_before =
-    record { first = 0; states = 3; transitions = edge 0 a 2 ∷ edge 0 b 2 ∷ edge 0 internal 1 ∷ edge 1 b 2 ∷ [] }
+option_before = system 0 3 (edge 0 a 2 ∷ edge 0 b 2 ∷ edge 0 internal 1 ∷ edge 1 b 2 ∷ [])
 
 -- after a, b is open until a silent step gives it up
 abbrev pub not_committed : System
-not_committed = record { first = 0; states = 4; transitions = edge 0 a 1 ∷ edge 1 internal 2 ∷ edge 1 b 3 ∷ [] }
+not_committed = system 0 4 (edge 0 a 1 ∷ edge 1 internal 2 ∷ edge 1 b 3 ∷ [])
 
 -- a may also lead at once to where b was given up
 abbrev pub committed : System
-committed =
-    record { first = 0; states = 4; transitions = edge 0 a 1 ∷ edge 0 a 2 ∷ edge 1 internal 2 ∷ edge 1 b 3 ∷ [] }
+committed = system 0 4 (edge 0 a 1 ∷ edge 0 a 2 ∷ edge 1 internal 2 ∷ edge 1 b 3 ∷ [])
 
 -- state 1 is unreachable, and bisimilar to the reachable 3
 abbrev pub unreachable_twin : System
-unreachable_twin = record { first = 0; states = 4; transitions = edge 0 a 2 ∷ edge 2 b 3 ∷ [] }
+unreachable_twin = system 0 4 (edge 0 a 2 ∷ edge 2 b 3 ∷ [])
 
 -- the first state 2 leads 0, and its number comes before all others
 abbrev pub first_leads : System
-first_leads =
-    record { first = 2; states = 4; transitions = edge 2 a 3 ∷ edge 3 b 0 ∷ edge 0 a 3 ∷ edge 3 c 1 ∷ [] }
+first_leads = system 2 4 (edge 2 a 3 ∷ edge 3 b 0 ∷ edge 0 a 3 ∷ edge 3 c 1 ∷ [])
 
 -- b alone
 abbrev pub only_b : System
-only_b = record { first = 0; states = 2; transitions = edge 0 b 1 ∷ [] }
+only_b = system 0 2 (edge 0 b 1 ∷ [])
 
 -- further systems, and the quotients that are meant
 
 -- the strong quotient of unreachable_twin
 abbrev pub unreachable_twin_quotient : System
-unreachable_twin_quotient =
-    record { first = 0; states = 3; transitions = edge 0 a 1 ∷ edge 1 b 2 ∷ [] }
+unreachable_twin_quotient = system 0 3 (edge 0 a 1 ∷ edge 1 b 2 ∷ [])
 
 -- the strong quotient of first_leads
 abbrev pub first_leads_quotient : System
-first_leads_quotient =
-    record { first = 0; states = 3; transitions = edge 0 a 2 ∷ edge 2 b 0 ∷ edge 2 c 1 ∷ [] }
+first_leads_quotient = system 0 3 (edge 0 a 2 ∷ edge 2 b 0 ∷ edge 2 c 1 ∷ [])
 
 -- two states that take turns
 abbrev pub first_in_cycle : System
-first_in_cycle =
-    record { first = 1; states = 2; transitions = edge 1 a 0 ∷ edge 0 a 1 ∷ [] }
+first_in_cycle = system 1 2 (edge 1 a 0 ∷ edge 0 a 1 ∷ [])
 
 -- its strong quotient
 abbrev pub first_in_cycle_quotient : System
-first_in_cycle_quotient =
-    record { first = 0; states = 1; transitions = edge 0 a 0 ∷ [] }
+first_in_cycle_quotient = system 0 1 (edge 0 a 0 ∷ [])
 
 -- the greatest state is the first
 abbrev pub first_is_two : System
-first_is_two =
-    record { first = 2; states = 3; transitions = edge 2 a 0 ∷ edge 0 b 1 ∷ [] }
+first_is_two = system 2 3 (edge 2 a 0 ∷ edge 0 b 1 ∷ [])
 
 -- its strong quotient
 abbrev pub first_is_two_quotient : System
-first_is_two_quotient =
-    record { first = 0; states = 3; transitions = edge 0 a 1 ∷ edge 1 b 2 ∷ [] }
+first_is_two_quotient = system 0 3 (edge 0 a 1 ∷ edge 1 b 2 ∷ [])
 
 -- a leads to two states that can do nothing
 abbrev pub two_equal_targets : System
-two_equal_targets =
-    record { first = 0; states = 3; transitions = edge 0 a 1 ∷ edge 0 a 2 ∷ [] }
+two_equal_targets = system 0 3 (edge 0 a 1 ∷ edge 0 a 2 ∷ [])
 
 -- its strong quotient
 abbrev pub two_equal_targets_quotient : System
-two_equal_targets_quotient =
-    record { first = 0; states = 2; transitions = edge 0 a 1 ∷ [] }
+two_equal_targets_quotient = system 0 2 (edge 0 a 1 ∷ [])
 
 -- one transition, written three times
 abbrev pub written_twice : System
-written_twice =
-    record { first = 0; states = 2; transitions = edge 0 a 1 ∷ edge 0 a 1 ∷ edge 0 a 1 ∷ [] }
+written_twice = system 0 2 (edge 0 a 1 ∷ edge 0 a 1 ∷ edge 0 a 1 ∷ [])
 
 -- its strong quotient
 abbrev pub written_twice_quotient : System
-written_twice_quotient =
-    record { first = 0; states = 2; transitions = edge 0 a 1 ∷ [] }
+written_twice_quotient = system 0 2 (edge 0 a 1 ∷ [])
 
 -- nothing is reachable but the first state
 abbrev pub unreachable_pair : System
-unreachable_pair =
-    record { first = 0; states = 3; transitions = edge 1 a 2 ∷ [] }
+unreachable_pair = system 0 3 (edge 1 a 2 ∷ [])
 
 -- its strong quotient
 abbrev pub unreachable_pair_quotient : System
-unreachable_pair_quotient =
-    record { first = 0; states = 1; transitions = [] }
+unreachable_pair_quotient = system 0 1 []
 
 -- three steps by one label
 abbrev pub chain_of_three : System
-chain_of_three =
-    record { first = 0; states = 4; transitions = edge 0 a 1 ∷ edge 1 a 2 ∷ edge 2 a 3 ∷ [] }
+chain_of_three = system 0 4 (edge 0 a 1 ∷ edge 1 a 2 ∷ edge 2 a 3 ∷ [])
 
 -- its strong quotient
 abbrev pub chain_of_three_quotient : System
-chain_of_three_quotient =
-    record { first = 0; states = 4; transitions = edge 0 a 1 ∷ edge 1 a 2 ∷ edge 2 a 3 ∷ [] }
+chain_of_three_quotient = system 0 4 (edge 0 a 1 ∷ edge 1 a 2 ∷ edge 2 a 3 ∷ [])
 
 -- the branching quotient of silent_cycle
 abbrev pub silent_cycle_branching_quotient : System
-silent_cycle_branching_quotient =
-    record { first = 0; states = 1; transitions = edge 0 a 0 ∷ [] }
+silent_cycle_branching_quotient = system 0 1 (edge 0 a 0 ∷ [])
 
 -- the strong quotient of silent_cycle
 abbrev pub silent_cycle_strong_quotient : System
-silent_cycle_strong_quotient =
-    record { first = 0; states = 2; transitions = edge 0 internal 1 ∷ edge 1 a 1 ∷ edge 1 internal 0 ∷ [] }
+silent_cycle_strong_quotient = system 0 2 (edge 0 internal 1 ∷ edge 1 a 1 ∷ edge 1 internal 0 ∷ [])
 
 -- a silent step from a state to itself
 abbrev pub silent_loop : System
-silent_loop =
-    record { first = 0; states = 1; transitions = edge 0 internal 0 ∷ [] }
+silent_loop = system 0 1 (edge 0 internal 0 ∷ [])
 
 -- its branching quotient
 abbrev pub silent_loop_branching_quotient : System
-silent_loop_branching_quotient =
-    record { first = 0; states = 1; transitions = [] }
+silent_loop_branching_quotient = system 0 1 []
 
 -- its strong quotient
 abbrev pub silent_loop_strong_quotient : System
-silent_loop_strong_quotient =
-    record { first = 0; states = 1; transitions = edge 0 internal 0 ∷ [] }
+silent_loop_strong_quotient = system 0 1 (edge 0 internal 0 ∷ [])
 
 -- the branching quotient of silent_choice
 abbrev pub silent_choice_quotient : System
-silent_choice_quotient =
-    record { first = 0; states = 2; transitions = edge 0 a 1 ∷ edge 0 internal 1 ∷ [] }
+silent_choice_quotient = system 0 2 (edge 0 a 1 ∷ edge 0 internal 1 ∷ [])
 
 -- two silent steps before a
 abbrev pub silent_chain : System
-silent_chain =
-    record { first = 0; states = 4; transitions = edge 0 internal 1 ∷ edge 1 internal 2 ∷ edge 2 a 3 ∷ [] }
+silent_chain = system 0 4 (edge 0 internal 1 ∷ edge 1 internal 2 ∷ edge 2 a 3 ∷ [])
 
 -- its branching quotient
 abbrev pub silent_chain_quotient : System
-silent_chain_quotient =
-    record { first = 0; states = 2; transitions = edge 0 a 1 ∷ [] }
+silent_chain_quotient = system 0 2 (edge 0 a 1 ∷ [])
 
 -- a silent step beside a, with b behind it alone
 abbrev pub silent_beside : System
-silent_beside =
-    record { first = 0; states = 4; transitions = edge 0 internal 1 ∷ edge 0 a 2 ∷ edge 1 b 3 ∷ [] }
+silent_beside = system 0 4 (edge 0 internal 1 ∷ edge 0 a 2 ∷ edge 1 b 3 ∷ [])
 
 -- its branching quotient
 abbrev pub silent_beside_quotient : System
-silent_beside_quotient =
-    record { first = 0; states = 3; transitions = edge 0 a 2 ∷ edge 0 internal 1 ∷ edge 1 b 2 ∷ [] }
+silent_beside_quotient = system 0 3 (edge 0 a 2 ∷ edge 0 internal 1 ∷ edge 1 b 2 ∷ [])
 
 -- the branching quotient of silent_middle
 abbrev pub silent_middle_quotient : System
-silent_middle_quotient =
-    record { first = 0; states = 3; transitions = edge 0 a 1 ∷ edge 1 b 2 ∷ [] }
+silent_middle_quotient = system 0 3 (edge 0 a 1 ∷ edge 1 b 2 ∷ [])
 
 -- a directly, or behind a silent step, and then b
 abbrev pub silent_detour : System
 silent_detour =
-    record { first = 0; states = 6; transitions = edge 0 internal 1 ∷ edge 1 a 2 ∷ edge 0 a 3 ∷ edge 2 internal 4 ∷ edge 3 b 5 ∷ edge 4 b 5 ∷ [] }
+    system 0 6 (edge 0 internal 1 ∷ edge 1 a 2 ∷ edge 0 a 3 ∷ edge 2 internal 4 ∷ edge 3 b 5 ∷ edge 4 b 5 ∷ [])
 
 -- its branching quotient
 abbrev pub silent_detour_branching_quotient : System
-silent_detour_branching_quotient =
-    record { first = 0; states = 3; transitions = edge 0 a 1 ∷ edge 1 b 2 ∷ [] }
+silent_detour_branching_quotient = system 0 3 (edge 0 a 1 ∷ edge 1 b 2 ∷ [])
 
 -- its strong quotient
 abbrev pub silent_detour_strong_quotient : System
 silent_detour_strong_quotient =
-    record { first = 0; states = 5; transitions = edge 0 a 3 ∷ edge 0 internal 1 ∷ edge 1 a 2 ∷ edge 2 internal 3 ∷ edge 3 b 4 ∷ [] }
+    system 0 5 (edge 0 a 3 ∷ edge 0 internal 1 ∷ edge 1 a 2 ∷ edge 2 internal 3 ∷ edge 3 b 4 ∷ [])
 
 -- the strong quotient of no_middle with a hidden
 abbrev pub hidden_middle_strong_quotient : System
-hidden_middle_strong_quotient =
-    record { first = 0; states = 3; transitions = edge 0 internal 1 ∷ edge 1 b 2 ∷ [] }
+hidden_middle_strong_quotient = system 0 3 (edge 0 internal 1 ∷ edge 1 b 2 ∷ [])
 
 -- first_leads divided, with its leaders numbered by size alone
 abbrev pub first_leads_by_size : System
-first_leads_by_size =
-    record { first = 1; states = 3; transitions = edge 1 a 2 ∷ edge 2 b 1 ∷ edge 2 c 0 ∷ [] }
+first_leads_by_size = system 1 3 (edge 1 a 2 ∷ edge 2 b 1 ∷ edge 2 c 0 ∷ [])
 
 -- a alone
 abbrev pub only_a : System
-only_a = record { first = 0; states = 2; transitions = edge 0 a 1 ∷ [] }
+only_a = system 0 2 (edge 0 a 1 ∷ [])
 
 -- a alone, from the greater state
 abbrev pub only_a_from_1 : System
-only_a_from_1 = record { first = 1; states = 2; transitions = edge 1 a 0 ∷ [] }
+only_a_from_1 = system 1 2 (edge 1 a 0 ∷ [])
 
 -- no_middle, its transitions in another order
 abbrev pub no_middle_reordered : System
-no_middle_reordered = record { first = 0; states = 3; transitions = edge 1 b 2 ∷ edge 0 a 1 ∷ [] }
+no_middle_reordered = system 0 3 (edge 1 b 2 ∷ edge 0 a 1 ∷ [])
 
 -- one state and no transition
 abbrev pub lone_state : System
-lone_state = record { first = 0; states = 1; transitions = [] }
+lone_state = system 0 1 []
 
 -- a silent step from a state to itself, beside a state with no step
 abbrev pub loop_and_rest : System
-loop_and_rest = record { first = 0; states = 2; transitions = edge 0 internal 0 ∷ [] }
+loop_and_rest = system 0 2 (edge 0 internal 0 ∷ [])

@@ -1,6 +1,6 @@
 //! What the definitions say of small systems whose bisimulations, signatures and quotients are known.
 
-ghost use Rattle.std.specs.Prelude.{ℕ, List, [], ◌∷◌, slice_index};
+ghost use Rattle.std.specs.Prelude.{ℕ, List, [], ◌∷◌};
 ghost use Rattle.theory.specs.System.{System, IsSystem, Internal, Hide, internal};
 ghost use Rattle.theory.specs.Bisimulation.{
   Relation,
@@ -12,36 +12,16 @@ ghost use Rattle.theory.specs.Bisimulation.{
   Equivalent,
 };
 ghost use Rattle.theory.specs.Bisimulation.Relation.{strong, branching};
-ghost use Rattle.theory.specs.Blocks.{Split};
-ghost use Rattle.theory.specs.Examples.{
-  a,
-  b,
-  choice_after,
-  choice_before,
-  silent_middle,
-  no_middle,
-  silent_choice,
-  silent_cycle,
-  option_behind,
-  option_before,
-  not_committed,
-  committed,
-  unreachable_twin,
-  only_b,
-  SignatureIs,
-  silent_loop,
-  lone_state,
-  only_a,
-  only_a_from_1,
-  no_middle_reordered,
-};
+ghost use Rattle.theory.specs.Examples.{AreApart, SplitsBy, RefinesBy};
+ghost use Rattle.theory.specs.Examples.{a, b, choice_after, choice_before, silent_middle, no_middle};
+ghost use Rattle.theory.specs.Examples.{no_middle_reordered, silent_choice, silent_cycle, silent_loop};
+ghost use Rattle.theory.specs.Examples.{lone_state, option_behind, option_before, not_committed, committed};
+ghost use Rattle.theory.specs.Examples.{unreachable_twin, only_a, only_a_from_1, only_b};
 
 /// `moment-of-choice`: a choice after a step and one before it are told apart, though the states at both ends are
 /// bisimilar.
 pub fn moment_of_choice()
-    ensures systems { IsSystem choice_after × IsSystem choice_before }
-    ensures strongly { ¬ Equivalent strong choice_after choice_before }
-    ensures branching { ¬ Equivalent branching choice_after choice_before }
+    ensures apart { AreApart choice_after choice_before }
     ensures after_b { ¬ Bisimilar strong choice_after 1 choice_before 1 }
     ensures ends { Strong choice_after choice_before ((2, 3) ∷ (3, 3) ∷ (3, 4) ∷ []) }
 {}
@@ -59,12 +39,8 @@ pub fn a_silent_step_in_the_middle()
 pub fn a_silent_choice()
     ensures system { IsSystem silent_choice }
     ensures apart { ¬ Bisimilar branching silent_choice 0 silent_choice 1 }
-    ensures signature_of_0 { SignatureIs branching silent_choice (λ _. 0) 0 ((a, 0) ∷ []) }
-    ensures signature_of_1 { SignatureIs branching silent_choice (λ _. 0) 1 [] }
-    ensures split { Split branching silent_choice (λ _. 0) (slice_index (0 ∷ 1 ∷ [])) }
-    ensures signature_after { SignatureIs branching silent_choice (slice_index (0 ∷ 1 ∷ [])) 0
-        ((a, 1) ∷ (internal, 1) ∷ []) }
-    ensures split_again { Split branching silent_choice (slice_index (0 ∷ 1 ∷ [])) (slice_index (0 ∷ 1 ∷ [])) }
+    ensures rounds { RefinesBy branching silent_choice (0 ∷ 0 ∷ [])
+        ((((a, 0) ∷ []) ∷ [] ∷ [], 0 ∷ 1 ∷ []) ∷ (((a, 1) ∷ (internal, 1) ∷ []) ∷ [] ∷ [], 0 ∷ 1 ∷ []) ∷ []) }
 {}
 
 /// `silent-cycle`: the states of a cycle of silent steps are one state to branching bisimulation.
@@ -72,26 +48,20 @@ pub fn a_silent_cycle()
     ensures system { IsSystem silent_cycle }
     ensures branching { Branching silent_cycle silent_cycle ((0, 0) ∷ (0, 1) ∷ (1, 0) ∷ (1, 1) ∷ []) }
     ensures strongly { ¬ Bisimilar strong silent_cycle 0 silent_cycle 1 }
-    ensures signature_of_0 { SignatureIs branching silent_cycle (λ _. 0) 0 ((a, 0) ∷ []) }
-    ensures signature_of_1 { SignatureIs branching silent_cycle (λ _. 0) 1 ((a, 0) ∷ []) }
-    ensures split { Split branching silent_cycle (λ _. 0) (λ _. 0) }
-    ensures strong_signature_of_0 { SignatureIs strong silent_cycle (λ _. 0) 0 ((internal, 0) ∷ []) }
-    ensures strong_split { Split strong silent_cycle (λ _. 0) (slice_index (0 ∷ 1 ∷ [])) }
+    ensures split { SplitsBy branching silent_cycle (0 ∷ 0 ∷ []) (((a, 0) ∷ []) ∷ ((a, 0) ∷ []) ∷ []) (0 ∷ 0 ∷ []) }
+    ensures strong_split { SplitsBy strong silent_cycle (0 ∷ 0 ∷ [])
+        (((internal, 0) ∷ []) ∷ ((internal, 0) ∷ (a, 0) ∷ []) ∷ []) (0 ∷ 1 ∷ []) }
 {}
 
 /// `lost-option`: an option that is open behind a silent step alone is not open before it.
 pub fn a_lost_option()
-    ensures systems { IsSystem option_behind × IsSystem option_before }
-    ensures branching { ¬ Equivalent branching option_behind option_before }
-    ensures strongly { ¬ Equivalent strong option_behind option_before }
+    ensures apart { AreApart option_behind option_before }
     ensures behind { Bisimilar branching option_behind 1 option_before 1 }
 {}
 
 /// `committed-or-not`: a step that gives an option up at once is not one that may give it up later.
 pub fn committed_or_not()
-    ensures systems { IsSystem not_committed × IsSystem committed }
-    ensures branching { ¬ Equivalent branching not_committed committed }
-    ensures strongly { ¬ Equivalent strong not_committed committed }
+    ensures apart { AreApart not_committed committed }
     ensures after_a { Bisimilar branching not_committed 1 committed 1 }
 {}
 
@@ -103,17 +73,15 @@ pub fn an_unreachable_twin()
     ensures twins { Bisimilar strong unreachable_twin 1 unreachable_twin 3 }
     ensures apart { ¬ Bisimilar strong unreachable_twin 0 unreachable_twin 2 }
     ensures not_first { ¬ Bisimilar strong unreachable_twin 0 unreachable_twin 1 }
-    ensures signature_of_0 { SignatureIs strong unreachable_twin (λ _. 0) 0 ((a, 0) ∷ []) }
-    ensures signature_of_2 { SignatureIs strong unreachable_twin (λ _. 0) 2 ((b, 0) ∷ []) }
-    ensures split { Split strong unreachable_twin (λ _. 0) (slice_index (0 ∷ 1 ∷ 2 ∷ 1 ∷ [])) }
+    ensures split { SplitsBy strong unreachable_twin (0 ∷ 0 ∷ 0 ∷ 0 ∷ [])
+        (((a, 0) ∷ []) ∷ [] ∷ ((b, 0) ∷ []) ∷ [] ∷ []) (0 ∷ 1 ∷ 2 ∷ 1 ∷ []) }
 {}
 
 /// `hidden-both-sides`: hiding a step makes it silent, which shows in strong bisimulation alone.
 pub fn hidden_on_both_sides()
     ensures hidden { Equivalent branching (Hide (a ∷ []) no_middle) (Hide (a ∷ []) only_b) }
     ensures strongly { ¬ Equivalent strong (Hide (a ∷ []) no_middle) (Hide (a ∷ []) only_b) }
-    ensures shown { ¬ Equivalent branching no_middle only_b }
-    ensures shown_strongly { ¬ Equivalent strong no_middle only_b }
+    ensures shown { AreApart no_middle only_b }
 {}
 
 /// `silent-loop` and `lone-state`: a silent step from a state to itself shows in strong bisimulation alone.
@@ -124,8 +92,7 @@ pub fn a_silent_loop()
 
 /// `different-labels`: steps by different labels are told apart.
 pub fn different_labels()
-    ensures branching { ¬ Equivalent branching only_a only_b }
-    ensures strongly { ¬ Equivalent strong only_a only_b }
+    ensures { AreApart only_a only_b }
 {}
 
 /// `reordered-lines`: the order of the transitions does not matter.

@@ -6,48 +6,26 @@ ghost use Rattle.theory.specs.System.{System, Transition, Hide, Reachable};
 ghost use Rattle.theory.specs.Bisimulation.{Relation};
 ghost use Rattle.theory.specs.Bisimulation.Relation.{strong, branching};
 ghost use Rattle.theory.specs.Quotient.{IsLeader, Number, Quotient};
-ghost use Rattle.theory.specs.Examples.{
-  a,
-  unreachable_twin,
-  unreachable_twin_quotient,
-  first_leads,
-  first_leads_quotient,
-  first_in_cycle,
-  first_in_cycle_quotient,
-  first_is_two,
-  first_is_two_quotient,
-  two_equal_targets,
-  two_equal_targets_quotient,
-  written_twice,
-  written_twice_quotient,
-  unreachable_pair,
-  unreachable_pair_quotient,
-  chain_of_three,
-  chain_of_three_quotient,
-  silent_cycle,
-  silent_cycle_branching_quotient,
-  silent_cycle_strong_quotient,
-  silent_loop,
-  silent_loop_branching_quotient,
-  silent_loop_strong_quotient,
-  silent_choice,
-  silent_choice_quotient,
-  silent_chain,
-  silent_chain_quotient,
-  silent_beside,
-  silent_beside_quotient,
-  silent_middle,
-  silent_middle_quotient,
-  silent_detour,
-  silent_detour_branching_quotient,
-  silent_detour_strong_quotient,
-  no_middle,
-  only_b,
-  hidden_middle_strong_quotient,
-  first_leads_by_size,
-  NumbersAre,
-  LeadersAre,
-};
+ghost use Rattle.theory.specs.Examples.{LeadersAre, QuotientIs};
+ghost use Rattle.theory.specs.Examples.{a, unreachable_twin, unreachable_twin_quotient};
+ghost use Rattle.theory.specs.Examples.{first_leads, first_leads_quotient, first_in_cycle};
+ghost use Rattle.theory.specs.Examples.{first_in_cycle_quotient, first_is_two};
+ghost use Rattle.theory.specs.Examples.{first_is_two_quotient, two_equal_targets};
+ghost use Rattle.theory.specs.Examples.{two_equal_targets_quotient, written_twice};
+ghost use Rattle.theory.specs.Examples.{written_twice_quotient, unreachable_pair};
+ghost use Rattle.theory.specs.Examples.{unreachable_pair_quotient, chain_of_three};
+ghost use Rattle.theory.specs.Examples.{chain_of_three_quotient, silent_cycle};
+ghost use Rattle.theory.specs.Examples.{silent_cycle_branching_quotient};
+ghost use Rattle.theory.specs.Examples.{silent_cycle_strong_quotient, silent_loop};
+ghost use Rattle.theory.specs.Examples.{silent_loop_branching_quotient};
+ghost use Rattle.theory.specs.Examples.{silent_loop_strong_quotient, silent_choice};
+ghost use Rattle.theory.specs.Examples.{silent_choice_quotient, silent_chain};
+ghost use Rattle.theory.specs.Examples.{silent_chain_quotient, silent_beside};
+ghost use Rattle.theory.specs.Examples.{silent_beside_quotient, silent_middle};
+ghost use Rattle.theory.specs.Examples.{silent_middle_quotient, silent_detour};
+ghost use Rattle.theory.specs.Examples.{silent_detour_branching_quotient};
+ghost use Rattle.theory.specs.Examples.{silent_detour_strong_quotient, no_middle, only_b};
+ghost use Rattle.theory.specs.Examples.{hidden_middle_strong_quotient, first_leads_by_size};
 
 /// `unreachable-twin`: state 1 is unreachable, bisimilar to 3 and no leader, so it adds no state.
 pub fn quotient_of_unreachable_twin()
@@ -61,8 +39,7 @@ pub fn quotient_of_unreachable_twin()
 
 /// `first-leads-numbering`: the first state 2 leads 0, though 0 is less, and its number 0 comes before those of 1 and 3.
 pub fn quotient_of_first_leads()
-    ensures quotient { Quotient strong first_leads first_leads_quotient }
-    ensures numbers { NumbersAre strong first_leads (0 ∷ 1 ∷ 0 ∷ 2 ∷ []) }
+    ensures quotient { QuotientIs strong first_leads first_leads_quotient (0 ∷ 1 ∷ 0 ∷ 2 ∷ []) }
     ensures leaders { LeadersAre strong first_leads (2 ∷ 1 ∷ 2 ∷ 3 ∷ []) }
     ensures no_leader { ¬ IsLeader strong first_leads 0 }
 {}
@@ -99,10 +76,8 @@ pub fn quotient_of_chain_of_three()
 
 /// `silent-cycle`: one state in branching bisimulation, and the system itself in strong.
 pub fn quotient_of_silent_cycle()
-    ensures quotient_branching { Quotient branching silent_cycle silent_cycle_branching_quotient }
-    ensures numbers_branching { NumbersAre branching silent_cycle (0 ∷ 0 ∷ []) }
-    ensures quotient_strong { Quotient strong silent_cycle silent_cycle_strong_quotient }
-    ensures numbers_strong { NumbersAre strong silent_cycle (0 ∷ 1 ∷ []) }
+    ensures branching { QuotientIs branching silent_cycle silent_cycle_branching_quotient (0 ∷ 0 ∷ []) }
+    ensures strong { QuotientIs strong silent_cycle silent_cycle_strong_quotient (0 ∷ 1 ∷ []) }
 {}
 
 /// `silent-loop`: the silent step within a class is left out in branching bisimulation, and kept in strong.
@@ -133,10 +108,9 @@ pub fn quotient_of_silent_middle()
 
 /// `silent-detour`: the detour goes in branching bisimulation, and stays in strong; the states 3 and 4 are one in both.
 pub fn quotient_of_silent_detour()
-    ensures quotient_branching { Quotient branching silent_detour silent_detour_branching_quotient }
-    ensures numbers_branching { NumbersAre branching silent_detour (0 ∷ 0 ∷ 1 ∷ 1 ∷ 1 ∷ 2 ∷ []) }
-    ensures quotient_strong { Quotient strong silent_detour silent_detour_strong_quotient }
-    ensures numbers_strong { NumbersAre strong silent_detour (0 ∷ 1 ∷ 2 ∷ 3 ∷ 3 ∷ 4 ∷ []) }
+    ensures branching { QuotientIs branching silent_detour silent_detour_branching_quotient
+        (0 ∷ 0 ∷ 1 ∷ 1 ∷ 1 ∷ 2 ∷ []) }
+    ensures strong { QuotientIs strong silent_detour silent_detour_strong_quotient (0 ∷ 1 ∷ 2 ∷ 3 ∷ 3 ∷ 4 ∷ []) }
 {}
 
 /// `hidden-step-goes` and `hidden-step-stays`: a hidden step goes in branching bisimulation and stays in strong.

@@ -4,7 +4,7 @@ use Rattle.std.proofs.lemmas.Bool.{eqb-true}
 use Rattle.theory.specs.System.{System, Reachable}
 use Rattle.theory.specs.Bisimulation.{Relation}
 use Rattle.theory.specs.Quotient.{Leader, IsLeader, Number, Quotient}
-use Rattle.theory.specs.Examples.{NumbersAre, LeadersAre}
+use Rattle.theory.specs.Examples.{NumbersAre, LeadersAre, QuotientIs}
 use Rattle.theory.proofs.Testing.{and_then, and_then_parts, not_passes, has, has_contains, contains_has, each_below, each_below_passes}
 use Rattle.theory.proofs.Testing.Reaching.{reachable, reachable_found}
 use Rattle.theory.proofs.Testing.Rising.{rises}
@@ -73,7 +73,7 @@ lists_numbers A numbers told =
     and_then (eqb (length numbers) A.states) (λ _.
     each_below A.states (λ s. and_then (has (reachable A) s) (λ _. eqb (number_at A told.leaders (told.lead s)) (slice_index numbers s))))
 
-pub numbers_are :
+numbers_are :
     (rel : Relation) (A : System) (numbers : List ℕ) (told : Census) → is_census rel A told ≡ true →
     lists_numbers A numbers told ≡ true → NumbersAre rel A numbers
 numbers_are rel A numbers told h d =
@@ -83,6 +83,15 @@ numbers_are rel A numbers told h d =
       all = eqb-true (length numbers) A.states parts.0;
       each = λ s l. is_number rel A s (slice_index numbers s) told h (each_below_passes A.states test parts.1 s l);
     }
+
+-- a system that a right census divides is the quotient, and the written-out list has the numbers
+pub quotient_is :
+    (rel : Relation) (A Q : System) (numbers : List ℕ) (told : Census) → is_census rel A told ≡ true →
+    divides rel A told.lead told.leaders Q ≡ true → lists_numbers A numbers told ≡ true → QuotientIs rel A Q numbers
+quotient_is rel A Q numbers told h d l = record {
+  quotient = is_quotient rel A Q told h d;
+  numbers = numbers_are rel A numbers told h l;
+}
 
 -- a written-out list has the leader of each state, all of which are reachable
 abbrev pub lists_leaders : System → List ℕ → Census → Bool

@@ -96,94 +96,95 @@ divides rel A lead leaders Q =
     and_then (every A.transitions (λ f. has_image rel A lead leaders Q.transitions f)) (λ _.
     all_differ Q.transitions))))
 
-pub quotient_passes :
-    (rel : Relation) (A Q : System) (block : ℕ → ℕ) (pairs : List (ℕ × ℕ)) (k : ℕ) (lead : ℕ → ℕ) (leaders : List ℕ) →
-    are_classes rel A block pairs k ≡ true → are_leaders A block lead leaders ≡ true → rises leaders ≡ true →
-    divides rel A lead leaders Q ≡ true → Quotient rel A Q
-quotient_passes rel A Q block pairs k lead leaders classes led up h = record {
-  states = subst (HowMany (IsLeader rel A)) (eqb-true (length leaders) Q.states one.0)
-      (leader_count rel A block lead leaders same led up);
-  first = eqb-true Q.first 0 two.0;
-  transitions = λ e. (there e, back e);
-  once = all_differ_passes Q.transitions four.1;
-}
-  where
-    images : Bool
-    images = every Q.transitions (λ e. is_image rel A lead leaders e)
+module _ (rel : Relation) (A Q : System) (block : ℕ → ℕ) (pairs : List (ℕ × ℕ)) (k : ℕ) (lead : ℕ → ℕ) (leaders : List ℕ)
+    (classes : are_classes rel A block pairs k ≡ true) (led : are_leaders A block lead leaders ≡ true)
+    (up : rises leaders ≡ true) (h : divides rel A lead leaders Q ≡ true) where
+  abbrev images : Bool
+  images = every Q.transitions (λ e. is_image rel A lead leaders e)
 
-    covered : Bool
-    covered = every A.transitions (λ f. has_image rel A lead leaders Q.transitions f)
+  abbrev covered : Bool
+  covered = every A.transitions (λ f. has_image rel A lead leaders Q.transitions f)
 
-    one : (eqb (length leaders) Q.states ≡ true) × (and_then (eqb Q.first 0) (λ _. and_then images (λ _. and_then covered (λ _. all_differ Q.transitions))) ≡ true)
-    one = and_then_parts (eqb (length leaders) Q.states) (λ _. and_then (eqb Q.first 0) (λ _. and_then images (λ _. and_then covered (λ _. all_differ Q.transitions)))) h
+  one : (eqb (length leaders) Q.states ≡ true) × (and_then (eqb Q.first 0) (λ _. and_then images (λ _. and_then covered (λ _. all_differ Q.transitions))) ≡ true)
+  one = and_then_parts (eqb (length leaders) Q.states) (λ _. and_then (eqb Q.first 0) (λ _. and_then images (λ _. and_then covered (λ _. all_differ Q.transitions)))) h
 
-    two : (eqb Q.first 0 ≡ true) × (and_then images (λ _. and_then covered (λ _. all_differ Q.transitions)) ≡ true)
-    two = and_then_parts (eqb Q.first 0) (λ _. and_then images (λ _. and_then covered (λ _. all_differ Q.transitions))) one.1
+  two : (eqb Q.first 0 ≡ true) × (and_then images (λ _. and_then covered (λ _. all_differ Q.transitions)) ≡ true)
+  two = and_then_parts (eqb Q.first 0) (λ _. and_then images (λ _. and_then covered (λ _. all_differ Q.transitions))) one.1
 
-    three : (images ≡ true) × (and_then covered (λ _. all_differ Q.transitions) ≡ true)
-    three = and_then_parts images (λ _. and_then covered (λ _. all_differ Q.transitions)) two.1
+  three : (images ≡ true) × (and_then covered (λ _. all_differ Q.transitions) ≡ true)
+  three = and_then_parts images (λ _. and_then covered (λ _. all_differ Q.transitions)) two.1
 
-    four : (covered ≡ true) × (all_differ Q.transitions ≡ true)
-    four = and_then_parts covered (λ _. all_differ Q.transitions) three.1
+  four : (covered ≡ true) × (all_differ Q.transitions ≡ true)
+  four = and_then_parts covered (λ _. all_differ Q.transitions) three.1
 
-    same : (s t : ℕ) → Bisimilar rel A s A t ↔ Share A block s t
-    same = classes_pass rel A block pairs k classes
+  same : (s t : ℕ) → Bisimilar rel A s A t ↔ Share A block s t
+  same = classes_pass rel A block pairs k classes
 
-    found : are_reachable A ≡ true
-    found = leaders_reachable A block lead leaders led
+  found : are_reachable A ≡ true
+  found = leaders_reachable A block lead leaders led
 
-    number : (s : ℕ) → Reachable A s → Number rel A s (number_at A leaders (lead s))
-    number = number_is rel A block lead leaders same led up
+  number : (s : ℕ) → Reachable A s → Number rel A s (number_at A leaders (lead s))
+  number = number_is rel A block lead leaders same led up
 
-    stands : (f : Transition) → Contains A.transitions f → Contains (reachable A) f.source → Stands rel A (image A lead leaders f)
-    stands f c r =
-        let path = reachable_found A f.source r in (
-          f.source,
-          f.target,
-          path,
-          c,
-          number f.source path,
-          number f.target (leads_on (AnyStep A) A.first f.source f.target path (f.label, c)),
-        )
+  stands : (f : Transition) → Contains A.transitions f → Contains (reachable A) f.source → Stands rel A (image A lead leaders f)
+  stands f c r =
+      let path = reachable_found A f.source r in (
+        f.source,
+        f.target,
+        path,
+        c,
+        number f.source path,
+        number f.target (leads_on (AnyStep A) A.first f.source f.target path (f.label, c)),
+      )
 
-    there : (e : Transition) → Contains Q.transitions e → Stands rel A e × ¬ IsDropped rel e
-    there e c =
-        let parts = and_then_parts (not (dropped rel e)) (λ _.
-        some A.transitions (λ f. and_then (has (reachable A) f.source) (λ _. same_transition (image A lead leaders f) e)))
-        (every_passes Q.transitions (λ e. is_image rel A lead leaders e) three.0 e c) in
-        let from = some_passes A.transitions
-        (λ f. and_then (has (reachable A) f.source) (λ _. same_transition (image A lead leaders f) e)) parts.1 in
-        let f = from.0 in
-        let both = and_then_parts (has (reachable A) f.source) (λ _. same_transition (image A lead leaders f) e) from.2 in (
-          same_transition_moves (Stands rel A) (image A lead leaders f) e both.1
-              (stands f from.1 (has_contains (reachable A) f.source both.0)),
-          λ drop. not_passes (dropped rel e) parts.0 (dropped_back rel e drop),
-        )
+  there : (e : Transition) → Contains Q.transitions e → Stands rel A e × ¬ IsDropped rel e
+  there e c =
+      let parts = and_then_parts (not (dropped rel e)) (λ _.
+      some A.transitions (λ f. and_then (has (reachable A) f.source) (λ _. same_transition (image A lead leaders f) e)))
+      (every_passes Q.transitions (λ e. is_image rel A lead leaders e) three.0 e c) in
+      let from = some_passes A.transitions
+      (λ f. and_then (has (reachable A) f.source) (λ _. same_transition (image A lead leaders f) e)) parts.1 in
+      let f = from.0 in
+      let both = and_then_parts (has (reachable A) f.source) (λ _. same_transition (image A lead leaders f) e) from.2 in (
+        same_transition_moves (Stands rel A) (image A lead leaders f) e both.1
+            (stands f from.1 (has_contains (reachable A) f.source both.0)),
+        λ drop. not_passes (dropped rel e) parts.0 (dropped_back rel e drop),
+      )
 
-    listed : (f : Transition) → Contains A.transitions f → Contains (reachable A) f.source →
-        ¬ IsDropped rel (image A lead leaders f) → Contains Q.transitions (image A lead leaders f)
-    listed f c r kept =
-        elim (or_else_cases (not (has (reachable A) f.source)) (λ _.
-        or_else (dropped rel (image A lead leaders f)) (λ _.
-        some Q.transitions (λ e. same_transition e (image A lead leaders f))))
-        (every_passes A.transitions (λ f. has_image rel A lead leaders Q.transitions f) four.0 f c)) [
-          | inl n ↦ absurd (not_passes (has (reachable A) f.source) n (contains_has (reachable A) f.source r))
-          | inr q ↦ elim (or_else_cases (dropped rel (image A lead leaders f)) (λ _.
-              some Q.transitions (λ e. same_transition e (image A lead leaders f))) q) [
-                | inl drop ↦ absurd (kept (dropped_there rel (image A lead leaders f) drop))
-                | inr p ↦ (
-                    let at = some_passes Q.transitions (λ e. same_transition e (image A lead leaders f)) p in
-                    same_transition_moves (Contains Q.transitions) at.0 (image A lead leaders f) at.2 at.1)
-              ]
-        ]
+  listed : (f : Transition) → Contains A.transitions f → Contains (reachable A) f.source →
+      ¬ IsDropped rel (image A lead leaders f) → Contains Q.transitions (image A lead leaders f)
+  listed f c r kept =
+      elim (or_else_cases (not (has (reachable A) f.source)) (λ _.
+      or_else (dropped rel (image A lead leaders f)) (λ _.
+      some Q.transitions (λ e. same_transition e (image A lead leaders f))))
+      (every_passes A.transitions (λ f. has_image rel A lead leaders Q.transitions f) four.0 f c)) [
+        | inl n ↦ absurd (not_passes (has (reachable A) f.source) n (contains_has (reachable A) f.source r))
+        | inr q ↦ elim (or_else_cases (dropped rel (image A lead leaders f)) (λ _.
+            some Q.transitions (λ e. same_transition e (image A lead leaders f))) q) [
+              | inl drop ↦ absurd (kept (dropped_there rel (image A lead leaders f) drop))
+              | inr p ↦ (
+                  let at = some_passes Q.transitions (λ e. same_transition e (image A lead leaders f)) p in
+                  same_transition_moves (Contains Q.transitions) at.0 (image A lead leaders f) at.2 at.1)
+            ]
+      ]
 
-    back : (e : Transition) → Stands rel A e × ¬ IsDropped rel e → Contains Q.transitions e
-    back e ((s, t, path, step, first, last), kept) =
-        let f : Transition = record { source = s; label = e.label; target = t } in
-        let on = leads_on (AnyStep A) A.first s t path (e.label, step) in
-        let p = number_unique rel A block lead leaders same led up s e.source path first in
-        let q = number_unique rel A block lead leaders same led up t e.target on last in
-        let P : Transition → Type 0 = λ g. ¬ IsDropped rel g → Contains Q.transitions g in
-        subst (λ z. P (record { source = e.source; label = e.label; target = z })) q
-        (subst (λ z. P (record { source = z; label = e.label; target = number_at A leaders (lead t) })) p
-        (listed f step (reachable_has A found s path))) kept
+  back : (e : Transition) → Stands rel A e × ¬ IsDropped rel e → Contains Q.transitions e
+  back e ((s, t, path, step, first, last), kept) =
+      let f : Transition = record { source = s; label = e.label; target = t } in
+      let on = leads_on (AnyStep A) A.first s t path (e.label, step) in
+      let p = number_unique rel A block lead leaders same led up s e.source path first in
+      let q = number_unique rel A block lead leaders same led up t e.target on last in
+      let P : Transition → Type 0 = λ g. ¬ IsDropped rel g → Contains Q.transitions g in
+      subst (λ z. P (record { source = e.source; label = e.label; target = z })) q
+      (subst (λ z. P (record { source = z; label = e.label; target = number_at A leaders (lead t) })) p
+      (listed f step (reachable_has A found s path))) kept
+
+  -- a system that passes the test is the quotient
+  pub quotient_passes : Quotient rel A Q
+  quotient_passes = record {
+    states = subst (HowMany (IsLeader rel A)) (eqb-true (length leaders) Q.states one.0)
+        (leader_count rel A block lead leaders same led up);
+    first = eqb-true Q.first 0 two.0;
+    transitions = λ e. (there e, back e);
+    once = all_differ_passes Q.transitions four.1;
+  }

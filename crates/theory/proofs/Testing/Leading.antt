@@ -4,7 +4,7 @@ use Rattle.std.proofs.lemmas.Bool.{eqb-true, eq-eqb}
 use Rattle.theory.specs.System.{System, Reachable}
 use Rattle.theory.specs.Bisimulation.{Relation, Bisimilar}
 use Rattle.theory.specs.Blocks.{Share}
-use Rattle.theory.specs.Quotient.{Fellow, Leader, IsLeader}
+use Rattle.theory.specs.Quotient.{Least, Fellow, Leader, IsLeader}
 use Rattle.theory.proofs.Leaders.{leader_unique}
 use Rattle.theory.proofs.Testing.{and_then, and_then_parts, or_else, or_else_cases, not_passes, every, every_passes, has, has_contains, each_below, each_below_passes}
 use Rattle.theory.proofs.Testing.Reaching.{covers, reachable, reachable_found, reachable_only}
@@ -18,57 +18,63 @@ are_classes rel A block pairs k =
     or_else (and_then (eqb (block s) (block t)) (λ _. has_pair pairs s t)) (λ _.
     and_then (not (eqb (block s) (block t))) (λ _. differ rel A A k s t)))))
 
--- blocks that pass the test are the classes of bisimilarity
-pub classes_pass :
-    (rel : Relation) (A : System) (block : ℕ → ℕ) (pairs : List (ℕ × ℕ)) (k : ℕ) → are_classes rel A block pairs k ≡ true →
-    (s t : ℕ) → Bisimilar rel A s A t ↔ Share A block s t
-classes_pass rel A block pairs k h s t = (there, back)
-  where
-    test : ℕ → ℕ → Bool
-    test u v = or_else (and_then (eqb (block u) (block v)) (λ _. has_pair pairs u v)) (λ _.
-        and_then (not (eqb (block u) (block v))) (λ _. differ rel A A k u v))
+module _ (rel : Relation) (A : System) (block : ℕ → ℕ) (pairs : List (ℕ × ℕ)) (k : ℕ)
+    (h : are_classes rel A block pairs k ≡ true) where
+  -- the pair stands in the list if the two share a block, and else they are told apart
+  abbrev class_test : ℕ → ℕ → Bool
+  class_test s t = or_else (and_then (eqb (block s) (block t)) (λ _. has_pair pairs s t)) (λ _.
+      and_then (not (eqb (block s) (block t))) (λ _. differ rel A A k s t))
 
-    parts : (is_bisimulation rel A A pairs ≡ true) × (each_below A.states (λ u. each_below A.states (λ v. test u v)) ≡ true)
-    parts = and_then_parts (is_bisimulation rel A A pairs) (λ _. each_below A.states (λ u. each_below A.states (λ v. test u v))) h
+  class_parts : (is_bisimulation rel A A pairs ≡ true) × (each_below A.states (λ s. each_below A.states (class_test s)) ≡ true)
+  class_parts = and_then_parts (is_bisimulation rel A A pairs) (λ _. each_below A.states (λ s. each_below A.states (class_test s))) h
 
-    at : s < A.states → t < A.states → test s t ≡ true
-    at ls lt = each_below_passes A.states (λ v. test s v)
-        (each_below_passes A.states (λ u. each_below A.states (λ v. test u v)) parts.1 s ls) t lt
+  class_cases : (s t : ℕ) → s < A.states → t < A.states →
+      ((block s ≡ block t) × Bisimilar rel A s A t) ⊎ ((block s ≢ block t) × ¬ Bisimilar rel A s A t)
+  class_cases s t ls lt =
+      elim (or_else_cases (and_then (eqb (block s) (block t)) (λ _. has_pair pairs s t)) (λ _.
+      and_then (not (eqb (block s) (block t))) (λ _. differ rel A A k s t))
+      (each_below_passes A.states (class_test s)
+      (each_below_passes A.states (λ u. each_below A.states (class_test u)) class_parts.1 s ls) t lt)) [
+        | inl p ↦ (
+            let both = and_then_parts (eqb (block s) (block t)) (λ _. has_pair pairs s t) p in
+            inl (
+              eqb-true (block s) (block t) both.0,
+              (pairs, bisimulation_passes rel A A pairs class_parts.0, has_pair_contains pairs s t both.1),
+            ))
+        | inr p ↦ (
+            let both = and_then_parts (not (eqb (block s) (block t))) (λ _. differ rel A A k s t) p in
+            inr (
+              λ e. not_passes (eqb (block s) (block t)) both.0 (eq-eqb (block s) (block t) e),
+              not_bisimilar rel A A k s t both.1,
+            ))
+      ]
 
-    cases : s < A.states → t < A.states →
-        ((block s ≡ block t) × Bisimilar rel A s A t) ⊎ ((block s ≢ block t) × ¬ Bisimilar rel A s A t)
-    cases ls lt =
-        elim (or_else_cases (and_then (eqb (block s) (block t)) (λ _. has_pair pairs s t)) (λ _.
-        and_then (not (eqb (block s) (block t))) (λ _. differ rel A A k s t)) (at ls lt)) [
-          | inl p ↦ (
-              let both = and_then_parts (eqb (block s) (block t)) (λ _. has_pair pairs s t) p in
-              inl (
-                eqb-true (block s) (block t) both.0,
-                (pairs, bisimulation_passes rel A A pairs parts.0, has_pair_contains pairs s t both.1),
-              ))
-          | inr p ↦ (
-              let both = and_then_parts (not (eqb (block s) (block t))) (λ _. differ rel A A k s t) p in
-              inr (
-                λ e. not_passes (eqb (block s) (block t)) both.0 (eq-eqb (block s) (block t) e),
-                not_bisimilar rel A A k s t both.1,
-              ))
-        ]
+  class_there : (s t : ℕ) → Bisimilar rel A s A t → Share A block s t
+  class_there s t b =
+      let low = b.1.states s t b.2 in
+      (low.0, low.1, elim (class_cases s t low.0 low.1) [ inl p ↦ p.0 | inr p ↦ absurd (p.1 b) ])
 
-    there : Bisimilar rel A s A t → Share A block s t
-    there b =
-        let low = b.1.states s t b.2 in
-        (low.0, low.1, elim (cases low.0 low.1) [ inl p ↦ p.0 | inr p ↦ absurd (p.1 b) ])
+  class_back : (s t : ℕ) → Share A block s t → Bisimilar rel A s A t
+  class_back s t (ls, lt, e) = elim (class_cases s t ls lt) [ inl p ↦ p.1 | inr p ↦ absurd (p.0 e) ]
 
-    back : Share A block s t → Bisimilar rel A s A t
-    back (ls, lt, e) = elim (cases ls lt) [ inl p ↦ p.1 | inr p ↦ absurd (p.0 e) ]
+  -- blocks that pass the test are the classes of bisimilarity
+  pub classes_pass : (s t : ℕ) → Bisimilar rel A s A t ↔ Share A block s t
+  classes_pass s t = (class_there s t, class_back s t)
+
+-- l is at most each reachable state of the block of s
+abbrev pub is_least : System → (ℕ → ℕ) → ℕ → ℕ → Bool
+is_least A block s l = every (reachable A) (λ u. or_else (not (eqb (block s) (block u))) (λ _. leb l u))
+
+-- l leads s, whose block is not that of the first state
+abbrev pub leads_other : System → (ℕ → ℕ) → ℕ → ℕ → Bool
+leads_other A block s l =
+    and_then (not (eqb (block s) (block A.first))) (λ _. and_then (has (reachable A) l) (λ _.
+    and_then (eqb (block s) (block l)) (λ _. is_least A block s l)))
 
 -- l leads s, by the blocks
 abbrev pub leads : System → (ℕ → ℕ) → ℕ → ℕ → Bool
 leads A block s l =
-    or_else (and_then (eqb (block s) (block A.first)) (λ _. eqb l A.first)) (λ _.
-    and_then (not (eqb (block s) (block A.first))) (λ _. and_then (has (reachable A) l) (λ _.
-    and_then (eqb (block s) (block l)) (λ _.
-    every (reachable A) (λ u. or_else (not (eqb (block s) (block u))) (λ _. leb l u))))))
+    or_else (and_then (eqb (block s) (block A.first)) (λ _. eqb l A.first)) (λ _. leads_other A block s l)
 
 -- the reachable states are found, and are states
 abbrev pub are_reachable : System → Bool
@@ -100,47 +106,44 @@ reachable_state A h s path =
     (and_then_parts (covers A.transitions (λ e. true) (reachable A) A.first) (λ _. every (reachable A) (λ s. ltb s A.states)) h).1
     s (reachable_has A h s path))
 
-pub leads_passes :
-    (rel : Relation) (A : System) (block : ℕ → ℕ) → ((s t : ℕ) → Bisimilar rel A s A t ↔ Share A block s t) →
-    are_reachable A ≡ true → (s l : ℕ) → s < A.states → leads A block s l ≡ true → Leader rel A s l
-leads_passes rel A block same found s l below h =
-    elim (or_else_cases (and_then (eqb (block s) (block A.first)) (λ _. eqb l A.first)) (λ _. others) h) [
-      | inl p ↦ (
-          let both = and_then_parts (eqb (block s) (block A.first)) (λ _. eqb l A.first) p in
-          inl (
-            (same s A.first).1 (below, reachable_state A found A.first ([], refl), eqb-true (block s) (block A.first) both.0),
-            eqb-true l A.first both.1,
-          ))
-      | inr p ↦ (
-          let first = and_then_parts (not (eqb (block s) (block A.first))) (λ _. and_then (has (reachable A) l) (λ _.
-          and_then (eqb (block s) (block l)) (λ _. least))) p in
-          let second = and_then_parts (has (reachable A) l) (λ _. and_then (eqb (block s) (block l)) (λ _. least)) first.1 in
-          let third = and_then_parts (eqb (block s) (block l)) (λ _. least) second.1 in
-          let reached = reachable_found A l (has_contains (reachable A) l second.0) in
-          inr (
-            λ b. not_passes (eqb (block s) (block A.first)) first.0 (eq-eqb (block s) (block A.first) ((same s A.first).0 b).2),
-            (
-              (reached, (same s l).1 (below, reachable_state A found l reached, eqb-true (block s) (block l) third.0)),
-              λ u fellow. low third.1 u fellow,
-            ),
-          ))
-    ]
-  where
-    least : Bool
-    least = every (reachable A) (λ u. or_else (not (eqb (block s) (block u))) (λ _. leb l u))
+module _ (rel : Relation) (A : System) (block : ℕ → ℕ) (same : (s t : ℕ) → Bisimilar rel A s A t ↔ Share A block s t)
+    (found : are_reachable A ≡ true) where
+  least_passes : (s l : ℕ) → is_least A block s l ≡ true → (u : ℕ) → Fellow rel A s u → l ≤ u
+  least_passes s l h u fellow =
+      elim (or_else_cases (not (eqb (block s) (block u))) (λ _. leb l u)
+      (every_passes (reachable A) (λ u. or_else (not (eqb (block s) (block u))) (λ _. leb l u)) h u
+      (reachable_has A found u fellow.0))) [
+        | inl n ↦ absurd (not_passes (eqb (block s) (block u)) n (eq-eqb (block s) (block u) ((same s u).0 fellow.1).2))
+        | inr q ↦ leb-true l u q
+      ]
 
-    others : Bool
-    others = and_then (not (eqb (block s) (block A.first))) (λ _. and_then (has (reachable A) l) (λ _.
-        and_then (eqb (block s) (block l)) (λ _. least)))
+  other_passes : (s l : ℕ) → s < A.states → leads_other A block s l ≡ true →
+      ¬ Bisimilar rel A s A A.first × Least (Fellow rel A s) l
+  other_passes s l below h =
+      let first = and_then_parts (not (eqb (block s) (block A.first))) (λ _. and_then (has (reachable A) l) (λ _.
+      and_then (eqb (block s) (block l)) (λ _. is_least A block s l))) h in
+      let second = and_then_parts (has (reachable A) l) (λ _.
+      and_then (eqb (block s) (block l)) (λ _. is_least A block s l)) first.1 in
+      let third = and_then_parts (eqb (block s) (block l)) (λ _. is_least A block s l) second.1 in
+      let reached = reachable_found A l (has_contains (reachable A) l second.0) in (
+        λ b. not_passes (eqb (block s) (block A.first)) first.0 (eq-eqb (block s) (block A.first) ((same s A.first).0 b).2),
+        (
+          (reached, (same s l).1 (below, reachable_state A found l reached, eqb-true (block s) (block l) third.0)),
+          λ u fellow. least_passes s l third.1 u fellow,
+        ),
+      )
 
-    low : least ≡ true → (u : ℕ) → Fellow rel A s u → l ≤ u
-    low g u fellow =
-        elim (or_else_cases (not (eqb (block s) (block u))) (λ _. leb l u)
-        (every_passes (reachable A) (λ u. or_else (not (eqb (block s) (block u))) (λ _. leb l u)) g u
-        (reachable_has A found u fellow.0))) [
-          | inl n ↦ absurd (not_passes (eqb (block s) (block u)) n (eq-eqb (block s) (block u) ((same s u).0 fellow.1).2))
-          | inr q ↦ leb-true l u q
-        ]
+  leads_passes : (s l : ℕ) → s < A.states → leads A block s l ≡ true → Leader rel A s l
+  leads_passes s l below h =
+      elim (or_else_cases (and_then (eqb (block s) (block A.first)) (λ _. eqb l A.first)) (λ _. leads_other A block s l) h) [
+        | inl p ↦ (
+            let both = and_then_parts (eqb (block s) (block A.first)) (λ _. eqb l A.first) p in
+            inl (
+              (same s A.first).1 (below, reachable_state A found A.first ([], refl), eqb-true (block s) (block A.first) both.0),
+              eqb-true l A.first both.1,
+            ))
+        | inr p ↦ inr (other_passes s l below p)
+      ]
 
 module _ (rel : Relation) (A : System) (block lead : ℕ → ℕ) (leaders : List ℕ)
     (same : (s t : ℕ) → Bisimilar rel A s A t ↔ Share A block s t) (h : are_leaders A block lead leaders ≡ true) where

@@ -1,10 +1,12 @@
 -- Bisimulations and differences of written-out systems, by tests that compute.
-use Rattle.std.proofs.Common.{◌≡◌, ℕ, zero, suc, Bool, true, false, not, eqb, ltb, ltb-true, List, bytes_eq, refl, sym, subst, inl, inr}
+use Rattle.std.proofs.Common.{◌≡◌, ℕ, zero, suc, Bool, true, false, not, eqb, ltb, ltb-true, List, Contains, bytes_eq, refl, sym, subst, inl, inr}
 use Rattle.std.proofs.lemmas.Bool.{eqb-true}
 use Rattle.theory.specs.System.{System, Step, internal}
 use Rattle.theory.specs.Bisimulation.{Relation, Answers, IsBisimulation, Pairs, Bisimilar}
 use Rattle.theory.specs.Bisimulation.Relation.{strong, branching}
+use Rattle.theory.specs.Examples.{AreApart}
 use Rattle.theory.proofs.Testing.{and_then, and_then_parts, or_else, or_else_cases, not_passes, every, every_passes, some, some_passes, each_step, each_step_passes, some_step, some_step_passes, bytes_same, bytes_pass}
+use Rattle.theory.proofs.Testing.Systems.{is_system, system_passes}
 use Rattle.theory.proofs.Testing.Reaching.{covers, is_internal, silent_from, silent_found, silent_only}
 
 -- the pair stands in the list
@@ -18,51 +20,45 @@ has_pair_contains pairs s t h =
     subst (λ z. Pairs pairs z t) (eqb-true found.0.0 s parts.0)
     (subst (λ z. Pairs pairs found.0.0 z) (eqb-true found.0.1 t parts.1) found.1)
 
+-- t has a step by x to a state that r relates to s'
+abbrev pub replies : System → (ℕ → ℕ → Bool) → ℕ → List ℕ → ℕ → Bool
+replies B r t x s' = some_step B.transitions t (λ y t'. and_then (bytes_eq x y) (λ _. r s' t'))
+
+replies_hold :
+    (B : System) (r : ℕ → ℕ → Bool) (R : ℕ → ℕ → Type 0) → ((s t : ℕ) → r s t ≡ true → R s t) →
+    (t : ℕ) (x : List ℕ) (s' : ℕ) → replies B r t x s' ≡ true → (t' : ℕ) × Step B t x t' × R s' t'
+replies_hold B r R sound t x s' h =
+    let found = some_step_passes B.transitions t (λ y t'. and_then (bytes_eq x y) (λ _. r s' t')) h in
+    let parts = and_then_parts (bytes_eq x found.0) (λ _. r s' found.1) found.3 in
+    (found.1, subst (λ z. Step B t z found.1) (sym (bytes_same x found.0 parts.0)) found.2, sound s' found.1 parts.1)
+
+-- t goes silently to a state that r relates to s and that replies
+abbrev pub replies_later : System → (ℕ → ℕ → Bool) → ℕ → ℕ → List ℕ → ℕ → Bool
+replies_later B r s t x s' = some (silent_from B t) (λ t1. and_then (r s t1) (λ _. replies B r t1 x s'))
+
 -- the test of an answer, for related states that r tests
 abbrev pub answers : Relation → System → System → (ℕ → ℕ → Bool) → ℕ → ℕ → Bool
-answers strong A B r s t =
-    each_step A.transitions s (λ x s'. some_step B.transitions t (λ y t'. and_then (bytes_eq x y) (λ _. r s' t')))
-answers branching A B r s t =
-    each_step A.transitions s (λ x s'.
-    or_else (and_then (bytes_eq x internal) (λ _. r s' t)) (λ _.
-    some (silent_from B t) (λ t1. and_then (r s t1) (λ _.
-    some_step B.transitions t1 (λ y t'. and_then (bytes_eq x y) (λ _. r s' t'))))))
+answers strong A B r s t = each_step A.transitions s (λ x s'. replies B r t x s')
+answers branching A B r s t = each_step A.transitions s (λ x s'.
+    or_else (and_then (bytes_eq x internal) (λ _. r s' t)) (λ _. replies_later B r s t x s'))
 
 pub answers_hold :
     (rel : Relation) (A B : System) (r : ℕ → ℕ → Bool) (R : ℕ → ℕ → Type 0) → ((s t : ℕ) → r s t ≡ true → R s t) →
     (s t : ℕ) → answers rel A B r s t ≡ true → Answers rel A B R s t
 answers_hold strong A B r R sound s t h = λ x s' step.
-    let test : ℕ → List ℕ → ℕ → Bool = λ s' y t'. and_then (bytes_eq x y) (λ _. r s' t') in
-    let found = some_step_passes B.transitions t (test s')
-    (each_step_passes A.transitions s (λ x s'. some_step B.transitions t (λ y t'. and_then (bytes_eq x y) (λ _. r s' t'))) h x s' step) in
-    let parts = and_then_parts (bytes_eq x found.0) (λ _. r s' found.1) found.3 in
-    (found.1, subst (λ z. Step B t z found.1) (sym (bytes_same x found.0 parts.0)) found.2, sound s' found.1 parts.1)
+    replies_hold B r R sound t x s' (each_step_passes A.transitions s (λ x s'. replies B r t x s') h x s' step)
 answers_hold branching A B r R sound s t h = λ x s' step.
-    let rest : Bool = some (silent_from B t) (λ t1. and_then (r s t1) (λ _.
-    some_step B.transitions t1 (λ y t'. and_then (bytes_eq x y) (λ _. r s' t')))) in
     let passed = each_step_passes A.transitions s (λ x s'.
-    or_else (and_then (bytes_eq x internal) (λ _. r s' t)) (λ _.
-    some (silent_from B t) (λ t1. and_then (r s t1) (λ _.
-    some_step B.transitions t1 (λ y t'. and_then (bytes_eq x y) (λ _. r s' t')))))) h x s' step in
-    elim (or_else_cases (and_then (bytes_eq x internal) (λ _. r s' t)) (λ _. rest) passed) [
+    or_else (and_then (bytes_eq x internal) (λ _. r s' t)) (λ _. replies_later B r s t x s')) h x s' step in
+    elim (or_else_cases (and_then (bytes_eq x internal) (λ _. r s' t)) (λ _. replies_later B r s t x s') passed) [
       | inl q ↦ (
           let parts = and_then_parts (bytes_eq x internal) (λ _. r s' t) q in
           inl (bytes_same x internal parts.0, sound s' t parts.1))
       | inr q ↦ (
-          let found = some_passes (silent_from B t) (λ t1. and_then (r s t1) (λ _.
-          some_step B.transitions t1 (λ y t'. and_then (bytes_eq x y) (λ _. r s' t')))) q in
-          let t1 = found.0 in
-          let parts = and_then_parts (r s t1) (λ _. some_step B.transitions t1 (λ y t'. and_then (bytes_eq x y) (λ _. r s' t'))) found.2 in
-          let last = some_step_passes B.transitions t1 (λ y t'. and_then (bytes_eq x y) (λ _. r s' t')) parts.1 in
-          let both = and_then_parts (bytes_eq x last.0) (λ _. r s' last.1) last.3 in
-          inr (
-            t1,
-            last.1,
-            silent_found B t t1 found.1,
-            subst (λ z. Step B t1 z last.1) (sym (bytes_same x last.0 both.0)) last.2,
-            sound s t1 parts.0,
-            sound s' last.1 both.1,
-          ))
+          let found = some_passes (silent_from B t) (λ t1. and_then (r s t1) (λ _. replies B r t1 x s')) q in
+          let parts = and_then_parts (r s found.0) (λ _. replies B r found.0 x s') found.2 in
+          let last = replies_hold B r R sound found.0 x s' parts.1 in
+          inr (found.0, last.0, silent_found B t found.0 found.1, last.1, sound s found.0 parts.0, last.2))
     ]
 
 -- the list is a bisimulation
@@ -109,69 +105,72 @@ pub bisimilar_passes :
     is_bisimulation rel A B pairs ≡ true → has_pair pairs s t ≡ true → Bisimilar rel A s B t
 bisimilar_passes rel A B pairs s t h k = (pairs, bisimulation_passes rel A B pairs h, has_pair_contains pairs s t k)
 
--- a step from s that t does not answer, where d tests what cannot be related
+-- no step of t by x leads to a state that can be related to s', where d tests what cannot
+abbrev pub avoids : System → (ℕ → ℕ → Bool) → ℕ → List ℕ → ℕ → Bool
+avoids B d t x s' = each_step B.transitions t (λ y t'. or_else (not (bytes_eq x y)) (λ _. d s' t'))
+
+avoids_holds :
+    (B : System) (d : ℕ → ℕ → Bool) (R : ℕ → ℕ → Type 0) → ((s t : ℕ) → d s t ≡ true → R s t → ⊥) →
+    (t : ℕ) (x : List ℕ) (s' : ℕ) → avoids B d t x s' ≡ true → (t' : ℕ) → Step B t x t' → R s' t' → ⊥
+avoids_holds B d R apart t x s' h t' step related =
+    let test = each_step_passes B.transitions t (λ y t'. or_else (not (bytes_eq x y)) (λ _. d s' t')) h x t' step in
+    elim (or_else_cases (not (bytes_eq x x)) (λ _. d s' t') test) [
+      | inl n ↦ not_passes (bytes_eq x x) n (bytes_pass x x refl)
+      | inr q ↦ apart s' t' q related
+    ]
+
+-- wherever t goes silently, it is not related to s or avoids s'
+abbrev pub avoids_later : System → (ℕ → ℕ → Bool) → ℕ → ℕ → List ℕ → ℕ → Bool
+avoids_later B d s t x s' = every (silent_from B t) (λ t1. or_else (d s t1) (λ _. avoids B d t1 x s'))
+
+-- t cannot answer a step from s by x to s', neither by rest nor after silent steps
+abbrev pub no_answer : System → (ℕ → ℕ → Bool) → ℕ → ℕ → List ℕ → ℕ → Bool
+no_answer B d s t x s' =
+    and_then (or_else (not (bytes_eq x internal)) (λ _. d s' t)) (λ _. avoids_later B d s t x s')
+
+-- a step from s that t does not answer
 abbrev pub unanswered : Relation → System → System → (ℕ → ℕ → Bool) → ℕ → ℕ → Bool
-unanswered strong A B d s t =
-    some_step A.transitions s (λ x s'.
-    each_step B.transitions t (λ y t'. or_else (not (bytes_eq x y)) (λ _. d s' t')))
+unanswered strong A B d s t = some_step A.transitions s (λ x s'. avoids B d t x s')
 unanswered branching A B d s t =
-    and_then (covers B.transitions is_internal (silent_from B t) t) (λ _.
-    some_step A.transitions s (λ x s'.
-    and_then (or_else (not (bytes_eq x internal)) (λ _. d s' t)) (λ _.
-    every (silent_from B t) (λ t1. or_else (d s t1) (λ _.
-    each_step B.transitions t1 (λ y t'. or_else (not (bytes_eq x y)) (λ _. d s' t')))))))
+    and_then (covers B.transitions is_internal (silent_from B t) t) (λ _. some_step A.transitions s (no_answer B d s t))
+
+rest_fails :
+    (B : System) (d : ℕ → ℕ → Bool) (R : ℕ → ℕ → Type 0) → ((s t : ℕ) → d s t ≡ true → R s t → ⊥) →
+    (t : ℕ) (x : List ℕ) (s' : ℕ) → or_else (not (bytes_eq x internal)) (λ _. d s' t) ≡ true → x ≡ internal → R s' t → ⊥
+rest_fails B d R apart t x s' h e related = elim (or_else_cases (not (bytes_eq x internal)) (λ _. d s' t) h) [
+  | inl n ↦ not_passes (bytes_eq x internal) n (bytes_pass x internal e)
+  | inr q ↦ apart s' t q related
+]
+
+move_fails :
+    (B : System) (d : ℕ → ℕ → Bool) (R : ℕ → ℕ → Type 0) → ((s t : ℕ) → d s t ≡ true → R s t → ⊥) →
+    (s t : ℕ) (x : List ℕ) (s' : ℕ) → avoids_later B d s t x s' ≡ true →
+    (t1 t' : ℕ) → Contains (silent_from B t) t1 → Step B t1 x t' → R s t1 → R s' t' → ⊥
+move_fails B d R apart s t x s' h t1 t' c step related reached =
+    let here = every_passes (silent_from B t) (λ t1. or_else (d s t1) (λ _. avoids B d t1 x s')) h t1 c in
+    elim (or_else_cases (d s t1) (λ _. avoids B d t1 x s') here) [
+      | inl q ↦ apart s t1 q related
+      | inr each ↦ avoids_holds B d R apart t1 x s' each t' step reached
+    ]
 
 pub unanswered_fails :
     (rel : Relation) (A B : System) (d : ℕ → ℕ → Bool) (R : ℕ → ℕ → Type 0) → ((s t : ℕ) → d s t ≡ true → R s t → ⊥) →
     (s t : ℕ) → unanswered rel A B d s t ≡ true → Answers rel A B R s t → ⊥
 unanswered_fails strong A B d R apart s t h answer =
-    let found = some_step_passes A.transitions s (λ x s'.
-    each_step B.transitions t (λ y t'. or_else (not (bytes_eq x y)) (λ _. d s' t'))) h in
-    let x = found.0 in
-    let s' = found.1 in
-    let reply = answer x s' found.2 in
-    let t' = reply.0 in
-    let test = each_step_passes B.transitions t (λ y t'. or_else (not (bytes_eq x y)) (λ _. d s' t')) found.3 x t' reply.1 in
-    elim (or_else_cases (not (bytes_eq x x)) (λ _. d s' t') test) [
-      | inl n ↦ not_passes (bytes_eq x x) n (bytes_pass x x refl)
-      | inr q ↦ apart s' t' q reply.2
-    ]
+    let found = some_step_passes A.transitions s (λ x s'. avoids B d t x s') h in
+    let reply = answer found.0 found.1 found.2 in
+    avoids_holds B d R apart t found.0 found.1 found.3 reply.0 reply.1 reply.2
 unanswered_fails branching A B d R apart s t h answer =
     let whole = and_then_parts (covers B.transitions is_internal (silent_from B t) t) (λ _.
-    some_step A.transitions s (λ x s'.
-    and_then (or_else (not (bytes_eq x internal)) (λ _. d s' t)) (λ _.
-    every (silent_from B t) (λ t1. or_else (d s t1) (λ _.
-    each_step B.transitions t1 (λ y t'. or_else (not (bytes_eq x y)) (λ _. d s' t'))))))) h in
-    let found = some_step_passes A.transitions s (λ x s'.
-    and_then (or_else (not (bytes_eq x internal)) (λ _. d s' t)) (λ _.
-    every (silent_from B t) (λ t1. or_else (d s t1) (λ _.
-    each_step B.transitions t1 (λ y t'. or_else (not (bytes_eq x y)) (λ _. d s' t')))))) whole.1 in
+    some_step A.transitions s (no_answer B d s t)) h in
+    let found = some_step_passes A.transitions s (no_answer B d s t) whole.1 in
     let x = found.0 in
     let s' = found.1 in
-    let parts = and_then_parts (or_else (not (bytes_eq x internal)) (λ _. d s' t)) (λ _.
-    every (silent_from B t) (λ t1. or_else (d s t1) (λ _.
-    each_step B.transitions t1 (λ y t'. or_else (not (bytes_eq x y)) (λ _. d s' t'))))) found.3 in
+    let parts = and_then_parts (or_else (not (bytes_eq x internal)) (λ _. d s' t)) (λ _. avoids_later B d s t x s') found.3 in
     elim (answer x s' found.2) [
-      | inl rests ↦ elim (or_else_cases (not (bytes_eq x internal)) (λ _. d s' t) parts.0) [
-        | inl n ↦ not_passes (bytes_eq x internal) n (bytes_pass x internal rests.0)
-        | inr q ↦ apart s' t q rests.1
-      ]
-      | inr moves ↦ (
-          let t1 = moves.0 in
-          let t' = moves.1 in
-          let here = every_passes (silent_from B t) (λ t1. or_else (d s t1) (λ _.
-          each_step B.transitions t1 (λ y t'. or_else (not (bytes_eq x y)) (λ _. d s' t')))) parts.1
-          t1 (silent_only B t t1 whole.0 moves.2) in
-          elim (or_else_cases (d s t1) (λ _.
-          each_step B.transitions t1 (λ y t'. or_else (not (bytes_eq x y)) (λ _. d s' t'))) here) [
-            | inl q ↦ apart s t1 q moves.4
-            | inr each ↦ (
-                let test = each_step_passes B.transitions t1 (λ y t'. or_else (not (bytes_eq x y)) (λ _. d s' t')) each x t' moves.3 in
-                elim (or_else_cases (not (bytes_eq x x)) (λ _. d s' t') test) [
-                  | inl n ↦ not_passes (bytes_eq x x) n (bytes_pass x x refl)
-                  | inr q ↦ apart s' t' q moves.5
-                ])
-          ])
+      | inl rests ↦ rest_fails B d R apart t x s' parts.0 rests.0 rests.1
+      | inr moves ↦ move_fails B d R apart s t x s' parts.1 moves.0 moves.1
+          (silent_only B t moves.0 whole.0 moves.2) moves.3 moves.4 moves.5
     ]
 
 -- told apart in k turns: one has a step that the other does not answer, up to what is told apart in fewer
@@ -198,3 +197,13 @@ differing rel A B R meets (suc k) s t h r =
 pub not_bisimilar :
     (rel : Relation) (A B : System) (k s t : ℕ) → differ rel A B k s t ≡ true → ¬ Bisimilar rel A s B t
 not_bisimilar rel A B k s t h found = differing rel A B (Pairs found.0) found.1 k s t h found.2
+
+-- neither relation makes the two systems equivalent: their first states are told apart in j and in k turns
+pub are_apart :
+    (A B : System) (j k : ℕ) → is_system A ≡ true → is_system B ≡ true →
+    differ strong A B j A.first B.first ≡ true → differ branching A B k A.first B.first ≡ true → AreApart A B
+are_apart A B j k a b strongly branching_too = record {
+  systems = (system_passes A a, system_passes B b);
+  strongly = not_bisimilar strong A B j A.first B.first strongly;
+  branching = not_bisimilar branching A B k A.first B.first branching_too;
+}

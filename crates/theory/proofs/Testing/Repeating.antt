@@ -1,5 +1,5 @@
 -- How many Splits are made of a written-out system, by a test that computes.
-use Rattle.std.proofs.Common.{◌≡◌, ◌≢◌, ℕ, zero, suc, ◌<◌, ◌≤◌, Bool, true, not, eqb, ltb, ltb-true, List, [], slice_index, arith}
+use Rattle.std.proofs.Common.{◌≡◌, ◌≢◌, ℕ, zero, suc, ◌<◌, ◌≤◌, Bool, true, not, eqb, ltb, ltb-true, List, [], ◌∷◌, length, map, slice_index, sym, subst, arith}
 use Rattle.std.specs.List.{slice_index_or}
 use Rattle.std.proofs.lemmas.Bool.{eqb-true, eq-eqb}
 use Rattle.theory.specs.System.{System, IsSystem}
@@ -9,7 +9,7 @@ use Rattle.theory.proofs.Testing.{and_then, and_then_parts, not_passes, each_bel
 use Rattle.theory.proofs.Testing.Systems.{is_system, system_passes}
 use Rattle.theory.proofs.Refinement.{same_split, after_is_unique}
 use Rattle.theory.proofs.Testing.Signing.{Entry}
-use Rattle.theory.specs.Examples.{SplitsBy}
+use Rattle.theory.specs.Examples.{SplitsBy, RefinesBy, Round}
 use Rattle.theory.proofs.Testing.Splitting.{is_split, split_passes, splits_by}
 
 -- the blocks before and after each Split, their signatures, and two states that each Split but the last parts
@@ -107,61 +107,74 @@ ends_after rel A course k =
     and_then (each_below k (λ j. parts_two A (block_at course j) (block_at course (suc j)) (parts_at course j))) (λ _.
     are_same A (block_at course k) (block_at course (suc k)))))
 
-pub turns_pass :
-    (rel : Relation) (A : System) (course : Course) (k : ℕ) → ends_after rel A course k ≡ true → Turns rel A (suc k)
-turns_pass rel A course k h = record {
-  last = (
-    block_at course k,
-    block_at course (suc k),
-    runs_after rel A course (suc k) two.0 k (omega arith),
-    runs_split rel A course (suc k) two.0 k (omega arith),
-    are_same_passes A (block_at course k) (block_at course (suc k)) three.1,
-  );
-  least = least;
+module _ (rel : Relation) (A : System) (course : Course) (k : ℕ) (h : ends_after rel A course k ≡ true) where
+  abbrev parted : Bool
+  parted = each_below k (λ j. parts_two A (block_at course j) (block_at course (suc j)) (parts_at course j))
+
+  abbrev ended : Bool
+  ended = and_then parted (λ _. are_same A (block_at course k) (block_at course (suc k)))
+
+  system_and_rest : (is_system A ≡ true) × (and_then (runs rel A course (suc k)) (λ _. ended) ≡ true)
+  system_and_rest = and_then_parts (is_system A) (λ _. and_then (runs rel A course (suc k)) (λ _. ended)) h
+
+  runs_and_rest : (runs rel A course (suc k) ≡ true) × (ended ≡ true)
+  runs_and_rest = and_then_parts (runs rel A course (suc k)) (λ _. ended) system_and_rest.1
+
+  parted_and_same : (parted ≡ true) × (are_same A (block_at course k) (block_at course (suc k)) ≡ true)
+  parted_and_same = and_then_parts parted (λ _. are_same A (block_at course k) (block_at course (suc k))) runs_and_rest.1
+
+  system : IsSystem A
+  system = system_passes A system_and_rest.0
+
+  -- no Split before the last changes nothing, since two states that it parts are known
+  each_parts : (j : ℕ) → j < suc k → ¬ ChangesNothing rel A j
+  each_parts zero l nothing = nothing
+  each_parts (suc j) l (old, new, after, split, same) =
+      let low : j < k = omega (arith, l) in
+      let p = parts_at course j in
+      let two_states = parts_two_passes A (block_at course j) (block_at course (suc j)) p
+      (each_below_passes k (λ i. parts_two A (block_at course i) (block_at course (suc i)) (parts_at course i))
+      parted_and_same.0 j low) in
+      let before = after_is_unique rel A system j (block_at course j) old
+      (runs_after rel A course (suc k) runs_and_rest.0 j (omega (arith, l))) after in
+      let behind = same_split rel A system (block_at course j) (block_at course (suc j)) old new
+      (runs_split rel A course (suc k) runs_and_rest.0 j (omega (arith, l))) split before in
+      let share = (before p.0 p.1 two_states.0 two_states.1).1 two_states.2 in
+      let still = (same p.0 p.1 two_states.0 two_states.1).1 share in
+      two_states.3 ((behind p.0 p.1 two_states.0 two_states.1).0 still)
+
+  turns_pass : Turns rel A (suc k)
+  turns_pass = record {
+    last = (
+      block_at course k,
+      block_at course (suc k),
+      runs_after rel A course (suc k) runs_and_rest.0 k (omega arith),
+      runs_split rel A course (suc k) runs_and_rest.0 k (omega arith),
+      are_same_passes A (block_at course k) (block_at course (suc k)) parted_and_same.1,
+    );
+    least = each_parts;
+  }
+
+  -- and each Split is as the course says
+  course_splits : (j : ℕ) → j < suc k → SplitsBy rel A
+      (slice_index_or course.blocks j []) (slice_index_or course.signs j []) (slice_index_or course.blocks (suc j) [])
+  course_splits j l = splits_by rel A
+      (slice_index_or course.blocks j []) (slice_index_or course.signs j []) (slice_index_or course.blocks (suc j) [])
+      (runs_is_split rel A course (suc k) runs_and_rest.0 j l)
+
+-- the course of written-out Splits, with two states that each but the last parts
+abbrev pub course_of : List ℕ → List Round → List (ℕ × ℕ) → Course
+course_of first rounds parts = record { blocks = first ∷ map (λ r. r.1) rounds; signs = map (λ r. r.0) rounds; parts = parts }
+
+-- written-out Splits that pass the test are those that refinement makes
+pub refines_by :
+    (rel : Relation) (A : System) (first : List ℕ) (rounds : List Round) (parts : List (ℕ × ℕ)) (k : ℕ) →
+    length rounds ≡ suc k → ends_after rel A (course_of first rounds parts) k ≡ true → RefinesBy rel A first rounds
+refines_by rel A first rounds parts k long h = record {
+  one = runs_after rel A course (suc k) (runs_and_rest rel A course k h).0 0 (omega arith);
+  splits = λ j l. course_splits rel A course k h j (subst (λ n. j < n) long l);
+  turns = subst (Turns rel A) (sym long) (turns_pass rel A course k h);
 }
   where
-    parted : Bool
-    parted = each_below k (λ j. parts_two A (block_at course j) (block_at course (suc j)) (parts_at course j))
-
-    one : (is_system A ≡ true) × (and_then (runs rel A course (suc k)) (λ _.
-        and_then parted (λ _. are_same A (block_at course k) (block_at course (suc k)))) ≡ true)
-    one = and_then_parts (is_system A) (λ _. and_then (runs rel A course (suc k)) (λ _.
-        and_then parted (λ _. are_same A (block_at course k) (block_at course (suc k))))) h
-
-    two : (runs rel A course (suc k) ≡ true) × (and_then parted (λ _. are_same A (block_at course k) (block_at course (suc k))) ≡ true)
-    two = and_then_parts (runs rel A course (suc k)) (λ _.
-        and_then parted (λ _. are_same A (block_at course k) (block_at course (suc k)))) one.1
-
-    three : (parted ≡ true) × (are_same A (block_at course k) (block_at course (suc k)) ≡ true)
-    three = and_then_parts parted (λ _. are_same A (block_at course k) (block_at course (suc k))) two.1
-
-    system : IsSystem A
-    system = system_passes A one.0
-
-    least : (j : ℕ) → j < suc k → ¬ ChangesNothing rel A j
-    least zero l nothing = nothing
-    least (suc j) l (old, new, after, split, same) =
-        let low : j < k = omega (arith, l) in
-        let p = parts_at course j in
-        let two_states = parts_two_passes A (block_at course j) (block_at course (suc j)) p
-        (each_below_passes k (λ i. parts_two A (block_at course i) (block_at course (suc i)) (parts_at course i)) three.0 j low) in
-        let before = after_is_unique rel A system j (block_at course j) old
-        (runs_after rel A course (suc k) two.0 j (omega (arith, l))) after in
-        let behind = same_split rel A system (block_at course j) (block_at course (suc j)) old new
-        (runs_split rel A course (suc k) two.0 j (omega (arith, l))) split before in
-        let share = (before p.0 p.1 two_states.0 two_states.1).1 two_states.2 in
-        let still = (same p.0 p.1 two_states.0 two_states.1).1 share in
-        two_states.3 ((behind p.0 p.1 two_states.0 two_states.1).0 still)
-
--- and each of them is as the course says
-pub course_splits :
-    (rel : Relation) (A : System) (course : Course) (k : ℕ) → ends_after rel A course k ≡ true → (j : ℕ) → j ≤ k →
-    SplitsBy rel A (slice_index_or course.blocks j []) (slice_index_or course.signs j []) (slice_index_or course.blocks (suc j) [])
-course_splits rel A course k h j l =
-    let ended : Bool =
-    and_then (each_below k (λ j. parts_two A (block_at course j) (block_at course (suc j)) (parts_at course j))) (λ _.
-    are_same A (block_at course k) (block_at course (suc k))) in
-    let runs_on = (and_then_parts (runs rel A course (suc k)) (λ _. ended)
-    (and_then_parts (is_system A) (λ _. and_then (runs rel A course (suc k)) (λ _. ended)) h).1).0 in
-    splits_by rel A (slice_index_or course.blocks j []) (slice_index_or course.signs j []) (slice_index_or course.blocks (suc j) [])
-    (runs_is_split rel A course (suc k) runs_on j (omega (arith, l)))
+    course : Course
+    course = course_of first rounds parts

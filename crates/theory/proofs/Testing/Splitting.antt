@@ -28,45 +28,44 @@ listed_signatures rel A old new signs h s l = signature_passes rel A old s (sign
     (and_then_parts (each_below A.states (λ s. lists_signature rel A old s (signs s))) (λ _.
     each_below A.states (λ s. each_below A.states (λ t. same_answer (eqb (new s) (new t)) (stays old signs s t)))) h).0 s l)
 
-pub split_passes :
-    (rel : Relation) (A : System) (old new : ℕ → ℕ) (signs : ℕ → List Entry) → is_split rel A old new signs ≡ true →
-    Split rel A old new
-split_passes rel A old new signs h s t ls lt = (there, back)
-  where
-    parts : (each_below A.states (λ s. lists_signature rel A old s (signs s)) ≡ true)
-        × (each_below A.states (λ s. each_below A.states (λ t. same_answer (eqb (new s) (new t)) (stays old signs s t))) ≡ true)
-    parts = and_then_parts (each_below A.states (λ s. lists_signature rel A old s (signs s))) (λ _.
-        each_below A.states (λ s. each_below A.states (λ t. same_answer (eqb (new s) (new t)) (stays old signs s t)))) h
+module _ (rel : Relation) (A : System) (old new : ℕ → ℕ) (signs : ℕ → List Entry)
+    (h : is_split rel A old new signs ≡ true) where
+  listed : (u : ℕ) → u < A.states → (x : List ℕ) (n : ℕ) → Signature rel A old u x n ↔ Contains (signs u) (x, n)
+  listed = listed_signatures rel A old new signs h
 
-    listed : (u : ℕ) → u < A.states → (x : List ℕ) (n : ℕ) → Signature rel A old u x n ↔ Contains (signs u) (x, n)
-    listed = listed_signatures rel A old new signs h
+  split_test : (s t : ℕ) → s < A.states → t < A.states → same_answer (eqb (new s) (new t)) (stays old signs s t) ≡ true
+  split_test s t ls lt = each_below_passes A.states (λ v. same_answer (eqb (new s) (new v)) (stays old signs s v))
+      (each_below_passes A.states
+      (λ u. each_below A.states (λ v. same_answer (eqb (new u) (new v)) (stays old signs u v)))
+      (and_then_parts (each_below A.states (λ s. lists_signature rel A old s (signs s))) (λ _.
+      each_below A.states (λ s. each_below A.states (λ t. same_answer (eqb (new s) (new t)) (stays old signs s t)))) h).1
+      s ls) t lt
 
-    test : same_answer (eqb (new s) (new t)) (stays old signs s t) ≡ true
-    test = each_below_passes A.states (λ v. same_answer (eqb (new s) (new v)) (stays old signs s v))
-        (each_below_passes A.states
-        (λ u. each_below A.states (λ v. same_answer (eqb (new u) (new v)) (stays old signs u v))) parts.1 s ls) t lt
+  split_there : (s t : ℕ) → s < A.states → t < A.states → new s ≡ new t → (old s ≡ old t) × SameSignature rel A old s t
+  split_there s t ls lt e =
+      let both = and_then_parts (eqb (old s) (old t)) (λ _. same_entries (signs s) (signs t))
+      (same_answer_there (eqb (new s) (new t)) (stays old signs s t) (split_test s t ls lt) (eq-eqb (new s) (new t) e)) in
+      let lists = same_entries_there (signs s) (signs t) both.1 in (
+        eqb-true (old s) (old t) both.0,
+        λ x n. (
+          λ g. (listed t lt x n).1 ((lists x n).0 ((listed s ls x n).0 g)),
+          λ g. (listed s ls x n).1 ((lists x n).1 ((listed t lt x n).0 g)),
+        ),
+      )
 
-    there : new s ≡ new t → (old s ≡ old t) × SameSignature rel A old s t
-    there e =
-        let both = and_then_parts (eqb (old s) (old t)) (λ _. same_entries (signs s) (signs t))
-        (same_answer_there (eqb (new s) (new t)) (stays old signs s t) test (eq-eqb (new s) (new t) e)) in
-        let lists = same_entries_there (signs s) (signs t) both.1 in (
-          eqb-true (old s) (old t) both.0,
-          λ x n. (
-            λ g. (listed t lt x n).1 ((lists x n).0 ((listed s ls x n).0 g)),
-            λ g. (listed s ls x n).1 ((lists x n).1 ((listed t lt x n).0 g)),
-          ),
-        )
+  split_back : (s t : ℕ) → s < A.states → t < A.states → (old s ≡ old t) × SameSignature rel A old s t → new s ≡ new t
+  split_back s t ls lt k = eqb-true (new s) (new t)
+      (same_answer_back (eqb (new s) (new t)) (stays old signs s t) (split_test s t ls lt)
+      (and_then_from (eqb (old s) (old t)) (λ _. same_entries (signs s) (signs t)) (eq-eqb (old s) (old t) k.0)
+      (same_entries_back (signs s) (signs t)
+      (λ x n. (
+        λ c. (listed t lt x n).0 ((k.1 x n).0 ((listed s ls x n).1 c)),
+        λ c. (listed s ls x n).0 ((k.1 x n).1 ((listed t lt x n).1 c)),
+      )))))
 
-    back : (old s ≡ old t) × SameSignature rel A old s t → new s ≡ new t
-    back k = eqb-true (new s) (new t)
-        (same_answer_back (eqb (new s) (new t)) (stays old signs s t) test
-        (and_then_from (eqb (old s) (old t)) (λ _. same_entries (signs s) (signs t)) (eq-eqb (old s) (old t) k.0)
-        (same_entries_back (signs s) (signs t)
-        (λ x n. (
-          λ c. (listed t lt x n).0 ((k.1 x n).0 ((listed s ls x n).1 c)),
-          λ c. (listed s ls x n).0 ((k.1 x n).1 ((listed t lt x n).1 c)),
-        )))))
+  -- blocks that pass the test are the Split
+  pub split_passes : Split rel A old new
+  split_passes s t ls lt = (split_there s t ls lt, split_back s t ls lt)
 
 -- written-out blocks are split by the listed signatures
 pub splits_by :

@@ -1,11 +1,10 @@
 -- Each fact is a test that computes.
-use Rattle.std.proofs.Common.{[], ◌∷◌, slice_index, get_or, refl}
+use Rattle.std.proofs.Common.{[], ◌∷◌, refl}
 use Rattle.theory.specs.Bisimulation.Relation.{strong}
-use Rattle.theory.specs.Examples.{a, b, unreachable_twin}
+use Rattle.theory.specs.Examples.{unreachable_twin}
 use Rattle.theory.proofs.Testing.Matching.{bisimulation_passes, bisimilar_passes, not_bisimilar}
 use Rattle.theory.proofs.Testing.Systems.{system_passes}
-use Rattle.theory.proofs.Testing.Signing.{signature_passes}
-use Rattle.theory.proofs.Testing.Splitting.{split_passes}
+use Rattle.theory.proofs.Testing.Splitting.{splits_by}
 use Rattle.theory.proofs.examples.an_unreachable_twin.Goals as goal
 
 pub returns-clause-system : goal.returns-clause-system
@@ -23,12 +22,5 @@ returns-clause-apart _ = not_bisimilar strong unreachable_twin unreachable_twin 
 pub returns-clause-not_first : goal.returns-clause-not_first
 returns-clause-not_first _ = not_bisimilar strong unreachable_twin unreachable_twin 1 0 1 refl
 
-pub returns-clause-signature_of_0 : goal.returns-clause-signature_of_0
-returns-clause-signature_of_0 _ = signature_passes strong unreachable_twin (λ _. 0) 0 ((a, 0) ∷ []) refl
-
-pub returns-clause-signature_of_2 : goal.returns-clause-signature_of_2
-returns-clause-signature_of_2 _ = signature_passes strong unreachable_twin (λ _. 0) 2 ((b, 0) ∷ []) refl
-
 pub returns-clause-split : goal.returns-clause-split
-returns-clause-split _ = split_passes strong unreachable_twin (λ _. 0) (slice_index (0 ∷ 1 ∷ 2 ∷ 1 ∷ []))
-    (λ s. get_or (((a, 0) ∷ []) ∷ [] ∷ ((b, 0) ∷ []) ∷ [] ∷ []) s []) refl
+returns-clause-split _ = splits_by strong unreachable_twin _ _ _ refl

@@ -3,7 +3,7 @@ use Rattle.std.proofs.Common.{[], ◌∷◌, refl}
 use Rattle.theory.specs.System.{Hide}
 use Rattle.theory.specs.Bisimulation.Relation.{strong, branching}
 use Rattle.theory.specs.Examples.{a, no_middle, only_b}
-use Rattle.theory.proofs.Testing.Matching.{bisimilar_passes, not_bisimilar}
+use Rattle.theory.proofs.Testing.Matching.{bisimilar_passes, not_bisimilar, are_apart}
 use Rattle.theory.proofs.examples.hidden_on_both_sides.Goals as goal
 
 pub returns-clause-hidden : goal.returns-clause-hidden
@@ -13,7 +13,4 @@ pub returns-clause-strongly : goal.returns-clause-strongly
 returns-clause-strongly _ = not_bisimilar strong (Hide (a ∷ []) no_middle) (Hide (a ∷ []) only_b) 2 0 0 refl
 
 pub returns-clause-shown : goal.returns-clause-shown
-returns-clause-shown _ = not_bisimilar branching no_middle only_b 1 0 0 refl
-
-pub returns-clause-shown_strongly : goal.returns-clause-shown_strongly
-returns-clause-shown_strongly _ = not_bisimilar strong no_middle only_b 1 0 0 refl
+returns-clause-shown _ = are_apart no_middle only_b 1 1 refl refl refl refl

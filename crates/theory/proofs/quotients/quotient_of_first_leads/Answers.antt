@@ -1,8 +1,8 @@
 -- Each fact is a test that computes.
 use Rattle.std.proofs.Common.{◌≡◌, true, refl}
 use Rattle.theory.specs.Bisimulation.Relation.{strong}
-use Rattle.theory.specs.Examples.{first_leads, first_leads_quotient}
-use Rattle.theory.proofs.Testing.Census.{is_census, is_quotient, numbers_are, leaders_are, is_no_leader}
+use Rattle.theory.specs.Examples.{first_leads}
+use Rattle.theory.proofs.Testing.Census.{is_census, quotient_is, leaders_are, is_no_leader}
 use Rattle.theory.proofs.Testing.Told.{first_leads_strong}
 use Rattle.theory.proofs.quotients.quotient_of_first_leads.Goals as goal
 
@@ -11,13 +11,10 @@ told : is_census strong first_leads first_leads_strong ≡ true
 told = refl
 
 pub returns-clause-quotient : goal.returns-clause-quotient
-returns-clause-quotient _ = is_quotient strong first_leads first_leads_quotient first_leads_strong told refl
+returns-clause-quotient _ = quotient_is strong first_leads _ _ first_leads_strong told refl refl
 
 pub returns-clause-no_leader : goal.returns-clause-no_leader
 returns-clause-no_leader _ = is_no_leader strong first_leads 0 first_leads_strong told refl
-
-pub returns-clause-numbers : goal.returns-clause-numbers
-returns-clause-numbers _ = numbers_are strong first_leads _ first_leads_strong told refl
 
 pub returns-clause-leaders : goal.returns-clause-leaders
 returns-clause-leaders _ = leaders_are strong first_leads _ first_leads_strong told refl

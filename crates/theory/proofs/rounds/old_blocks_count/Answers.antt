@@ -4,8 +4,7 @@ use Rattle.theory.specs.System.{internal}
 use Rattle.theory.specs.Bisimulation.Relation.{strong, branching}
 use Rattle.theory.specs.Examples.{loop_and_rest}
 use Rattle.theory.proofs.Testing.Splitting.{split_passes, splits_by}
-use Rattle.theory.proofs.Testing.Repeating.{turns_pass}
-use Rattle.theory.proofs.Testing.Courses.{loop_and_rest_branching_course}
+use Rattle.theory.proofs.Testing.Repeating.{refines_by}
 use Rattle.theory.proofs.rounds.old_blocks_count.Goals as goal
 
 pub returns-clause-strongly : goal.returns-clause-strongly
@@ -15,5 +14,5 @@ returns-clause-strongly _ = split_passes strong loop_and_rest (λ _. 0) (slice_i
 pub returns-clause-branching : goal.returns-clause-branching
 returns-clause-branching _ = splits_by branching loop_and_rest _ _ _ refl
 
-pub returns-clause-turns : goal.returns-clause-turns
-returns-clause-turns _ = turns_pass branching loop_and_rest loop_and_rest_branching_course 0 refl
+pub returns-clause-rounds : goal.returns-clause-rounds
+returns-clause-rounds _ = refines_by branching loop_and_rest _ _ [] 0 refl refl

@@ -1,20 +1,9 @@
--- Each fact is told by a test that computes.
-use Rattle.std.proofs.Common.{◌≡◌, true, refl, arith}
+-- Each fact is a test that computes.
+use Rattle.std.proofs.Common.{[], ◌∷◌, refl}
 use Rattle.theory.specs.Bisimulation.Relation.{branching}
 use Rattle.theory.specs.Examples.{option_behind}
-use Rattle.theory.proofs.Testing.Repeating.{ends_after, turns_pass, course_splits}
-use Rattle.theory.proofs.Testing.Courses.{option_behind_branching_course}
+use Rattle.theory.proofs.Testing.Repeating.{refines_by}
 use Rattle.theory.proofs.rounds.rounds_of_option_behind.Goals as goal
 
--- the test of the whole course, which computes once
-passes : ends_after branching option_behind option_behind_branching_course 1 ≡ true
-passes = refl
-
-pub returns-clause-turns : goal.returns-clause-turns
-returns-clause-turns _ = turns_pass branching option_behind option_behind_branching_course 1 passes
-
-pub returns-clause-split_1 : goal.returns-clause-split_1
-returns-clause-split_1 _ = course_splits branching option_behind option_behind_branching_course 1 passes 0 (omega arith)
-
-pub returns-clause-split_2 : goal.returns-clause-split_2
-returns-clause-split_2 _ = course_splits branching option_behind option_behind_branching_course 1 passes 1 (omega arith)
+pub returns : goal.returns
+returns _ = refines_by branching option_behind _ _ ((0, 1) ∷ []) 1 refl refl

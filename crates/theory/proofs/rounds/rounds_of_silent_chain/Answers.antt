@@ -1,23 +1,9 @@
--- Each fact is told by a test that computes.
-use Rattle.std.proofs.Common.{◌≡◌, true, refl, arith}
+-- Each fact is a test that computes.
+use Rattle.std.proofs.Common.{[], ◌∷◌, refl}
 use Rattle.theory.specs.Bisimulation.Relation.{branching}
 use Rattle.theory.specs.Examples.{silent_chain}
-use Rattle.theory.proofs.Testing.Repeating.{ends_after, turns_pass, course_splits}
-use Rattle.theory.proofs.Testing.Courses.{silent_chain_branching_course}
+use Rattle.theory.proofs.Testing.Repeating.{refines_by}
 use Rattle.theory.proofs.rounds.rounds_of_silent_chain.Goals as goal
 
--- the test of the whole course, which computes once
-passes : ends_after branching silent_chain silent_chain_branching_course 1 ≡ true
-passes = refl
-
-pub returns-clause-turns : goal.returns-clause-turns
-returns-clause-turns _ = turns_pass branching silent_chain silent_chain_branching_course 1 passes
-
-pub returns-clause-split_1 : goal.returns-clause-split_1
-returns-clause-split_1 _ = course_splits branching silent_chain silent_chain_branching_course 1 passes 0 (omega arith)
-
-pub returns-clause-split_2 : goal.returns-clause-split_2
-returns-clause-split_2 _ = course_splits branching silent_chain silent_chain_branching_course 1 passes 1 (omega arith)
-
-pub returns-clause-allowance : goal.returns-clause-allowance
-returns-clause-allowance _ = refl
+pub returns-clause-rounds : goal.returns-clause-rounds
+returns-clause-rounds _ = refines_by branching silent_chain _ _ ((0, 3) ∷ []) 1 refl refl
