@@ -7,7 +7,7 @@ use Rattle.theory.specs.Alike.{SameSteps}
 use Rattle.theory.proofs.Tally.{how_many_like}
 use Rattle.theory.proofs.AlikeSystems.{same_steps_sym, reachable_alike, bisimilar_alike}
 
--- the least number is one where the same numbers are meant
+-- properties of the same numbers have the same least one
 least_like : (P Q : ℕ → Type 0) (n : ℕ) → ((k : ℕ) → P k ↔ Q k) → Least P n → Least Q n
 least_like P Q n like (held, least) = ((like n).0 held, λ k q. least k ((like k).1 q))
 

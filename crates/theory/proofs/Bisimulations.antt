@@ -8,7 +8,7 @@ use Rattle.theory.proofs.Paths.{leads_here, step_below}
 use Rattle.theory.proofs.Deciding.{same_number, both, decided_like, some_in}
 use Rattle.theory.proofs.Listing.{pairs_listed}
 
--- what answers into R answers into each relation that holds where R does
+-- what answers into R answers into each larger relation
 pub answers_weaker :
     (rel : Relation) (A B : System) (R S : ℕ → ℕ → Type 0) → ((s t : ℕ) → R s t → S s t) →
     (s t : ℕ) → Answers rel A B R s t → Answers rel A B S s t
@@ -54,7 +54,7 @@ bisimulation_or_same rel A R system bisimulation = record {
   ];
 }
 
--- a relation that holds where a bisimulation does is one
+-- a relation of the same pairs as a bisimulation is one
 pub bisimulation_like : (rel : Relation) (A B : System) (R Q : ℕ → ℕ → Type 0) → ((s t : ℕ) → R s t ↔ Q s t)
     → IsBisimulation rel A B R → IsBisimulation rel A B Q
 bisimulation_like rel A B R Q like bis = record {

@@ -85,7 +85,7 @@ module _ (A B : System) (blocks : ℕ → ℕ) (R : ℕ → ℕ → Type 0) (sys
         | inr goes ↦ (goes.1, leads_on (Internal A) s goes.0 goes.1 goes.2 goes.3, goes.5)
       ])
 
-  -- the same, inside the block, where another state of A is related to both ends
+  -- the same, inside the block, if another state of A is related to both ends
   inert_followed :
       (x y r s : ℕ) → Silent B x y → R r x → R r y → R s x → (t : ℕ) × Leads (Inert A blocks) s t × R t y
   inert_followed x y r s path rx ry sx =

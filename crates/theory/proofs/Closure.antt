@@ -55,7 +55,7 @@ leads_via : (R : ℕ → ℕ → Type 0) (n : ℕ) → ((s t : ℕ) → R s t �
 leads_via R n b [] s t h = via_from R n s t (inl h)
 leads_via R n b (u ∷ us) s t h = via_joined R n s u t (b s u h.0) (via_from R n s u (inr h.0)) (leads_via R n b us u t h.1)
 
--- whether R leads from s to t is decided, where R is and leads to numbers below n alone
+-- whether R leads from s to t is decided, if R is decided and leads to numbers below n only
 pub leads_decided : (R : ℕ → ℕ → Type 0) (n : ℕ) → ((s t : ℕ) → Dec (R s t)) → ((s t : ℕ) → R s t → t < n)
     → (s t : ℕ) → Dec (Leads R s t)
 leads_decided R n d b s t =

@@ -7,7 +7,7 @@ use Rattle.theory.proofs.Paths.{leads_step, leads_append, leads_answered, step_b
 use Rattle.theory.proofs.Deciding.{same_number, below, both, some_in}
 use Rattle.theory.proofs.Bisimulations.{pairs_decided, bisimilar_by}
 
--- f takes each state of A to one of U with the same steps, to where f takes their ends
+-- f takes each state of A to one of U with the same steps, whose ends f takes to each other
 pub record Embeds (A U : System) (f : ℕ → ℕ) : Type 0 where
   pub below : (s : ℕ) → s < A.states → f s < U.states
   pub there : (s : ℕ) (a : List ℕ) (t : ℕ) → Step A s a t → Step U (f s) a (f t)
@@ -22,7 +22,7 @@ embeds_itself A = record {
 }
 
 module _ (B V : System) (g : ℕ → ℕ) (embeds : Embeds B V g) where
-  -- a silent path stands in the larger system
+  -- a silent path is one in the larger system too
   silent_there : (s t : ℕ) → Silent B s t → Silent V (g s) (g t)
   silent_there s t path = go s path.0 path.1
     where
@@ -32,7 +32,7 @@ module _ (B V : System) (g : ℕ → ℕ) (embeds : Embeds B V g) where
           leads_append (Internal V) (g s) (g u) (g t)
           (leads_step (Internal V) (g s) (g u) (embeds.there s internal u way.0)) (go u us way.1)
 
-  -- a silent path from an embedded state stands in the smaller system
+  -- a silent path from an embedded state is one of the smaller system
   silent_back : IsSystem B → (s y : ℕ) → s < B.states → Silent V (g s) y
       → (t : ℕ) × Silent B s t × ((t < B.states) × (y ≡ g t))
   silent_back system s y low path =
@@ -135,7 +135,7 @@ module _ (rel : Relation) (A U B V : System) (f g : ℕ → ℕ) (one : Embeds A
   }
 
 module _ (rel : Relation) (A U B V : System) (f g : ℕ → ℕ) (one : Embeds A U f) (other : Embeds B V g) (s t : ℕ) where
-  -- states that are bisimilar are so where they are embedded
+  -- states that are bisimilar are so in the system that they are embedded in
   pub bisimilar_there : Bisimilar rel A s B t → Bisimilar rel U (f s) V (g t)
   bisimilar_there (pairs, meets, c) =
       bisimilar_by rel U V (Image rel A U B V f g one other pairs) (image_decided rel A U B V f g one other pairs)

@@ -6,7 +6,7 @@ use Rattle.theory.specs.Blocks.{Inert, Signature, SameSignature}
 use Rattle.theory.proofs.Paths.{leads_here}
 use Rattle.theory.proofs.BranchingLaws.{signature_before}
 
--- a way ends where it begins, or begins with a step
+-- a path is empty, or begins with a step
 pub leads_begins : (R : ℕ → ℕ → Type 0) (s u : ℕ) → Leads R s u → (s ≡ u) ⊎ ((t : ℕ) × R s t × Leads R t u)
 leads_begins R s u ([], here) = inl here
 leads_begins R s u (t ∷ ts, way) = inr (t, way.0, (ts, way.1))

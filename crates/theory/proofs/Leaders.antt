@@ -1,4 +1,4 @@
--- The leader of each reachable state: there is one, it is decided, and it tells the classes apart.
+-- The leader of each reachable state: there is one, it is decided, and different classes have different leaders.
 use Rattle.std.proofs.Common.{◌≡◌, ℕ, ◌<◌, ◌≤◌, refl, sym, ◌∙◌, subst, inl, inr, le_antisymm}
 use Rattle.std.proofs.lemmas.Bool.{cases_lt}
 use Rattle.theory.specs.System.{System, IsSystem, Step, AnyStep, Reachable}

@@ -26,7 +26,7 @@ gathered {X} f (suc n) = go (gathered f n)
       ),
     )
 
--- y alone where P holds, else nothing
+-- y alone if P holds, else nothing
 alone : {X : Type 0} {P : Type 0} (y : X) → Dec P → (xs : List X) × ((x : X) → Contains xs x ↔ ((y ≡ x) × P))
 alone {X} {P} y (yes p) = (y ∷ [], λ x. (to x, λ h. subst (Contains (y ∷ [])) h.0 (contains_here y [])))
   where

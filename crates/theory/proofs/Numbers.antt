@@ -96,7 +96,7 @@ module _ (rel : Relation) (A : System) (sys : IsSystem A) where
       let same : p.0 ≡ q.0 = placed_apart p.0 q.0 n (led s p.0 p.1) (led t q.0 q.1) p.2 q.2 in
       same_leader_bisimilar rel A sys s t q.0 (subst (Leader rel A s) same p.1) q.1
 
-  -- the numbers of reachable states are equal exactly where these are bisimilar
+  -- the numbers of reachable states are equal exactly when these are bisimilar
   pub numbers_classes : (s t m n : ℕ) → Number rel A s m → Number rel A t n → (m ≡ n) ↔ Bisimilar rel A s A t
   numbers_classes s t m n h g = (
     λ e. same_number_bisimilar s t n (subst (Number rel A s) e h) g,

@@ -26,7 +26,7 @@ leads_append R s t u p q = (p.0 ++ q.0, along_append R s t u p.0 q.0 p.1 q.1)
 pub leads_on : (R : ℕ → ℕ → Type 0) (s t u : ℕ) → Leads R s t → R t u → Leads R s u
 leads_on R s t u p r = leads_append R s t u p (leads_step R t u r)
 
--- where each step of R is answered by a path of S, from what Q ties to its start to what Q ties to its end, so is each path
+-- if each step of R is answered by a path of S, from what Q ties to its start to what Q ties to its end, so is each path
 pub leads_answered :
     (R S Q : ℕ → ℕ → Type 0) →
     ((s t p : ℕ) → R s t → Q s p → (q : ℕ) × Leads S p q × Q t q) →
@@ -47,7 +47,7 @@ pub leads_keeps :
 leads_keeps R P step s t path held =
     (leads_answered R R (λ x p. P x) (λ x y p r h. (p, leads_here R p, step x y r h)) s t s path held).2
 
--- a path of R is one of S, where each step is
+-- a path of R is one of S, if each step is
 pub leads_map : (R S : ℕ → ℕ → Type 0) → ((s t : ℕ) → R s t → S s t) → (s t : ℕ) → Leads R s t → Leads S s t
 leads_map R S step s t path = go s path.0 path.1
   where

@@ -97,7 +97,7 @@ module _ (rel : Relation) (A : System) (sys : IsSystem A) where
   pub bisimilar_share : (k : ℕ) (blocks : ℕ → ℕ) → After rel A k blocks → (s t : ℕ) → Bisimilar rel A s A t → Share A blocks s t
   bisimilar_share k blocks after s t (pairs, bis, r) = related_share (Pairs pairs) bis k blocks after s t r
 
-  -- after the first Split that changes nothing two states share a block exactly where they are bisimilar
+  -- after the first Split that changes nothing two states share a block exactly when they are bisimilar
   pub final_share : (k : ℕ) (blocks : ℕ → ℕ) → Turns rel A k → After rel A k blocks
       → (s t : ℕ) → Share A blocks s t ↔ Bisimilar rel A s A t
   final_share k blocks turns after s t = (

@@ -64,7 +64,7 @@ pub stable_answers :
 stable_answers strong A blocks system stable = strong_answers A blocks system stable
 stable_answers branching A blocks system stable = branching_answers A blocks system stable
 
--- stable blocks are a bisimulation: the relation that holds where two states share one
+-- stable blocks are a bisimulation: the relation of states that share one
 pub stable_bisimulation :
     (rel : Relation) (A : System) (blocks : ℕ → ℕ) (R : ℕ → ℕ → Type 0) →
     IsSystem A → Stable rel A blocks → ((s t : ℕ) → R s t ↔ Share A blocks s t) → IsBisimulation rel A A R

@@ -12,7 +12,7 @@ use Rattle.theory.proofs.Counting.{block_count, block_count_at_most, numbered_co
 use Rattle.theory.proofs.Leaders.{reachable_decided}
 use Rattle.theory.proofs.Numbers.{number_of, number_once, number_carried, first_number, number_below, number_taken}
 
--- where a step is answered, its end is related to some state
+-- if a step is answered, its end is related to some state
 answered : (rel : Relation) (A B : System) (R : ℕ → ℕ → Type 0) (s t : ℕ) → Answers rel A B R s t →
     (s' : ℕ) → AnyStep A s s' → (t' : ℕ) × R s' t'
 answered strong A B R s t answers s' step = (let found = answers step.0 s' step.1 in (found.0, found.2))

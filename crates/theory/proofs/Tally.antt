@@ -6,7 +6,7 @@ use Rattle.theory.specs.Quotient.{HowMany}
 use Rattle.theory.proofs.Deciding.{contains_here, contains_cases, contains_none}
 use Rattle.theory.proofs.RisingLists.{rising_on, same_length}
 
--- 1 where P holds
+-- 1 if P holds, else 0
 abbrev pub one : {P : Type 0} → Dec P → ℕ
 one (yes p) = 1
 one (no f) = 0
@@ -165,7 +165,7 @@ tally_none P p (suc n) f =
     omega (arith, tally_none P p n (λ k l. f k (omega (arith, l))), one_no (f n (omega arith)) (p n))
 
 module _ (P Q : ℕ → Type 0) (p : (k : ℕ) → Dec (P k)) (q : (k : ℕ) → Dec (Q k)) where
-  -- what holds where P does holds of as many at least
+  -- what P implies holds of at least as many
   pub tally_le : (n : ℕ) → ((k : ℕ) → k < n → P k → Q k) → tally P p n ≤ tally Q q n
   unfolding tally
   tally_le zero f = omega arith
@@ -194,7 +194,7 @@ module _ (P Q : ℕ → Type 0) (p : (k : ℕ) → Dec (P k)) (q : (k : ℕ) →
       let top : one (p n) ≡ one (q n) = one_same (f n (omega arith)) (p n) (q n) in
       omega (arith, rest, top)
 
-  -- Q holds where P does, and of x besides
+  -- Q holds of what P does, and of x besides
   pub tally_one_more : (n x : ℕ) → x < n → ¬ P x → Q x → ((k : ℕ) → k < n → ¬ (k ≡ x) → P k ↔ Q k)
       → tally Q q n ≡ suc (tally P p n)
   unfolding tally

@@ -1,4 +1,4 @@
--- Tests that compute on written-out lists, and what each tells where it passes.
+-- Tests that compute on written-out lists, and what each shows if it passes.
 use Rattle.std.proofs.Common.{◌≡◌, ◌≢◌, ◌⊎◌, ℕ, zero, suc, ◌<◌, Bool, true, false, not, eqb, List, [], ◌∷◌, Contains, bytes_eq, refl, sym, subst, inl, inr, arith}
 use Rattle.std.proofs.lemmas.Bool.{eqb-true, eq-eqb, both_ways, not-true, cases_eq}
 use Rattle.std.proofs.lemmas.Slice.Eq.{bytes_eq-Decides}
@@ -18,12 +18,12 @@ pub mod Repeating
 pub mod Told
 pub mod Refusing
 
--- the second test runs only where the first passes
+-- the second test runs only if the first passes
 abbrev pub and_then : Bool → (Unit {0} → Bool) → Bool
 and_then true f = f tt
 and_then false f = false
 
--- the second test runs only where the first fails
+-- the second test runs only if the first fails
 abbrev pub or_else : Bool → (Unit {0} → Bool) → Bool
 or_else true f = true
 or_else false f = f tt
@@ -81,7 +81,7 @@ some_from (y ∷ xs) p x c h = elim (contains_cases y xs x c) [
   | inr d ↦ or_else_right (p y) (λ _. some xs p) (some_from xs p x d h)
 ]
 
--- a number stands in the list
+-- a number is in the list
 abbrev pub has : List ℕ → ℕ → Bool
 has xs x = some xs (λ y. eqb y x)
 

@@ -1,5 +1,5 @@
--- The two equivalences: strong bisimulation (Milner 1989) and branching bisimulation in its symmetric form (van Glabbeek
--- and Weijland 1996).
+-- The two equivalences: strong bisimulation (Milner 1989) and branching bisimulation in its symmetric form (van
+-- Glabbeek and Weijland 1996).
 use Rattle.std.specs.Prelude.{◌≡◌, ◌⊎◌, ℕ, ◌<◌, List}
 use Rattle.std.specs.List.{Contains}
 use Rattle.theory.specs.System.{System, Step, Silent, internal}

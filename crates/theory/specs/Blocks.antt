@@ -1,6 +1,6 @@
 -- Refinement: blocks of states, what their states can do, and what a Split makes of them. Blocks are a function from a
--- state to the number of its block. (Signatures: Blom and Orzan 2005; the inert steps of the branching one: van Glabbeek and
--- Weijland 1996.)
+-- state to the number of its block. (Signatures: Blom and Orzan 2005; the inert steps of the branching one: van
+-- Glabbeek and Weijland 1996.)
 use Rattle.std.specs.Prelude.{◌≡◌, ◌↔◌, ℕ, zero, suc, ◌<◌, ◌≤◌, List}
 use Rattle.theory.specs.System.{System, Step, Internal, Silent, Leads, internal}
 use Rattle.theory.specs.Bisimulation.{Relation}
@@ -21,11 +21,11 @@ Signature branching A blocks s a b =
 abbrev pub SameSignature : Relation → System → (ℕ → ℕ) → ℕ → ℕ → Type 0
 SameSignature rel A blocks s t = (a : List ℕ) (b : ℕ) → Signature rel A blocks s a b ↔ Signature rel A blocks t a b
 
--- what holds of each two states of A
+-- P holds of each two states of A
 abbrev pub EachTwo : System → (ℕ → ℕ → Type 0) → Type 0
 EachTwo A P = (s t : ℕ) → s < A.states → t < A.states → P s t
 
--- after the Split, two states share a block where they shared one and their signatures are equal
+-- after the Split, two states share a block if they shared one before and their signatures are equal
 abbrev pub Split : Relation → System → (ℕ → ℕ) → (ℕ → ℕ) → Type 0
 Split rel A old new = EachTwo A (λ s t. (new s ≡ new t) ↔ ((old s ≡ old t) × SameSignature rel A old s t))
 

@@ -28,8 +28,8 @@ Leader rel A s l =
 abbrev pub IsLeader : Relation → System → ℕ → Type 0
 IsLeader rel A l = (s : ℕ) × Reachable A s × Leader rel A s l
 
--- the number of the reachable state s: 0 where the first state leads it, else 1 plus the count of leaders that are
--- smaller than its own and not the first state
+-- the number of the reachable state s: 0 if the first state leads it, else 1 plus the count of leaders that are smaller
+-- than its own and not the first state
 abbrev pub Number : Relation → System → ℕ → ℕ → Type 0
 Number rel A s n =
     (l : ℕ) × Leader rel A s l
@@ -46,8 +46,8 @@ abbrev pub Stands : Relation → System → Transition → Type 0
 Stands rel A e =
     (s t : ℕ) × Reachable A s × Step A s e.label t × Number rel A s e.source × Number rel A t e.target
 
--- the quotient of A: a state for each leader, the first numbered 0, and each transition that stands for a step and is not
--- dropped, once
+-- the quotient of A: a state for each leader, the first numbered 0, and each transition that stands for a step and is
+-- not dropped, once
 pub record Quotient (rel : Relation) (A Q : System) : Type 0 where
   pub states : HowMany (IsLeader rel A) Q.states
   pub first : Q.first ≡ 0

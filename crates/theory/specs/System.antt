@@ -14,7 +14,7 @@ pub record IsLabel (a : List ℕ) : Type 0 where
 abbrev pub internal : List ℕ
 internal = 105 ∷ []
 
--- a transition: where it starts, what it shows, where it ends
+-- a transition: the state where it starts, its label, and the state where it ends
 pub record Transition : Type 0 where
   pub source : ℕ
   pub label : List ℕ
@@ -67,7 +67,7 @@ Silent A s t = Leads (Internal A) s t
 abbrev pub Reachable : System → ℕ → Type 0
 Reachable A s = Leads (AnyStep A) A.first s
 
--- a label that stands in the list H becomes the internal one
+-- a label that is in the list H becomes the internal one
 abbrev pub hidden_label : List (List ℕ) → List ℕ → List ℕ
 hidden_label H a = if list_any (bytes_eq a) H then internal else a
 
@@ -75,6 +75,6 @@ hidden_label H a = if list_any (bytes_eq a) H then internal else a
 abbrev pub hidden_transition : List (List ℕ) → Transition → Transition
 hidden_transition H e = record { source = e.source; label = hidden_label H e.label; target = e.target }
 
--- the system A with each label that stands in the list H made internal
+-- the system A with each label that is in the list H made internal
 abbrev pub Hide : List (List ℕ) → System → System
 Hide H A = record { first = A.first; states = A.states; transitions = map (hidden_transition H) A.transitions }

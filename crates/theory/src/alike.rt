@@ -1,4 +1,4 @@
-//! What is said of a system rests on its first state, its count of states and its steps alone.
+//! Every property of a system here depends only on its first state, its count of states and its steps.
 
 ghost use Rattle.std.specs.Prelude.{◌≡◌, ◌↔◌, ℕ};
 ghost use Rattle.std.specs.List.{Contains};
@@ -9,7 +9,7 @@ ghost use Rattle.theory.specs.Blocks.{Turns};
 ghost use Rattle.theory.specs.Quotient.{Quotient};
 ghost use Rattle.theory.specs.Alike.{SameSteps};
 
-/// What is said of a system does not depend on the order of its list of transitions, nor on repeats in it.
+/// No property of a system here depends on the order of its list of transitions, nor on repeats in it.
 pub fn the_order_does_not_matter()
     ensures permuted { (A B : System) → A.first ≡ B.first → A.states ≡ B.states →
         IsPermutation A.transitions B.transitions → SameSteps A B }

@@ -1,4 +1,4 @@
-//! What the definitions say of small systems whose bisimulations, signatures and quotients are known.
+//! The definitions applied to small systems whose bisimulations, signatures and quotients are known.
 
 ghost use Rattle.std.specs.Prelude.{ℕ, List, [], ◌∷◌};
 ghost use Rattle.theory.specs.System.{System, IsSystem, Internal, Hide, internal};
@@ -106,7 +106,7 @@ pub fn another_first_state()
     ensures { Equivalent strong only_a_from_1 only_a }
 {}
 
-/// A strong bisimulation is a branching one, and the other way round where no step is internal.
+/// A strong bisimulation is a branching one, and the other way round if no step is internal.
 pub fn strong_and_branching()
     ensures strong_is_branching { (A B : System) (pairs : List (ℕ × ℕ)) →
         Strong A B pairs → Branching A B pairs }

@@ -16,8 +16,8 @@ pub fn turns_exist()
     ensures unique { (rel : Relation) (A : System) (j k : ℕ) → Turns rel A j → Turns rel A k → j ≡ k }
 {}
 
-/// How refinement goes on: it begins with one block, has made fewer Splits than there are states as long as each changed
-/// something, and the first that changes nothing is the last.
+/// How refinement goes on: it begins with one block, has made fewer Splits than there are states as long as each
+/// changed something, and the first that changes nothing is the last.
 pub fn refinement_goes_on()
     ensures begun { (rel : Relation) (A : System) (blocks : ℕ → ℕ) →
         IsSystem A → OneBlock A blocks → Underway rel A 0 blocks }
@@ -29,7 +29,7 @@ pub fn refinement_goes_on()
         IsSystem A → Underway rel A k old → Split rel A old new → SameBlocks A old new → Turns rel A (suc k) }
 {}
 
-/// After the first Split that changes nothing, two states share a block exactly where they are bisimilar.
+/// After the first Split that changes nothing, two states share a block exactly when they are bisimilar.
 pub fn final_blocks_are_bisimilarity()
     ensures { (rel : Relation) (A : System) (k : ℕ) (blocks : ℕ → ℕ) →
         IsSystem A → Turns rel A k → After rel A k blocks →

@@ -1,4 +1,4 @@
-//! Inert steps: where they lead, and what they say of signatures.
+//! Inert steps: where they lead, and how they pass signatures back.
 
 ghost use Rattle.std.specs.Prelude.{◌≡◌, ◌⊎◌, ℕ, ◌<◌, Bool, IsTrue, List};
 ghost use Rattle.theory.specs.System.{System, IsSystem, Step, Leads, internal};

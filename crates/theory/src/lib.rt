@@ -1,6 +1,6 @@
-//! What is meant: systems, bisimulations, signatures and the quotient, and the laws that hold of them.
+//! Systems, bisimulations, signatures and the quotient: their definitions, and the laws that hold of them.
 //!
-//! The definitions stand in `specs/`. The functions here do nothing when they run: the contract of each is a law over the
+//! The definitions are in `specs/`. The functions here do nothing when they run: the contract of each is a law over the
 //! definitions alone, proved for every system and every partition of its states into blocks.
 #![tactic(auto)]
 

@@ -1,4 +1,4 @@
-//! What holds of each quotient: it is a system equivalent to its own, no two of its states are bisimilar, and no equivalent
+//! What holds of each quotient: it is equivalent to its system, no two of its states are bisimilar, and no equivalent
 //! system has fewer.
 
 ghost use Rattle.std.specs.Prelude.{◌≡◌, ◌≢◌, ◌↔◌, ℕ, ◌+◌, ◌<◌, ◌≤◌, Bool, IsTrue, List};
@@ -6,8 +6,8 @@ ghost use Rattle.theory.specs.System.{System, IsSystem, Step, Reachable};
 ghost use Rattle.theory.specs.Bisimulation.{Relation, Bisimilar, Equivalent};
 ghost use Rattle.theory.specs.Quotient.{HowMany, Leader, IsLeader, Number, Quotient};
 
-/// The first state is reachable, and so is what a step leads to from a reachable state; each is a state. What the first
-/// state has and steps keep, every reachable state has.
+/// The first state is reachable, and so is what a step leads to from a reachable state; each is a state. A property of
+/// the first state that every step keeps holds of every reachable state.
 pub fn steps_keep_reachable()
     ensures first { (A : System) → Reachable A A.first }
     ensures step { (A : System) (s : ℕ) (a : List ℕ) (t : ℕ) → Reachable A s → Step A s a t → Reachable A t }
@@ -45,7 +45,7 @@ pub fn each_state_has_a_number()
         Number rel A s m → Number rel A s n → m ≡ n }
 {}
 
-/// Two reachable states have one number exactly where they are bisimilar.
+/// Two reachable states have one number exactly when they are bisimilar.
 pub fn numbers_are_classes()
     ensures { (rel : Relation) (A : System) (s t m n : ℕ) → IsSystem A → Reachable A s → Reachable A t →
         Number rel A s m → Number rel A t n → (m ≡ n) ↔ Bisimilar rel A s A t }

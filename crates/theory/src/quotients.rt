@@ -1,4 +1,4 @@
-//! What the definitions of leaders, numbers and quotients say of small systems.
+//! The definitions of leaders, numbers and quotients, applied to small systems.
 
 ghost use Rattle.std.specs.Prelude.{◌≡◌, ◌↔◌, List, [], ◌∷◌};
 ghost use Rattle.std.specs.List.{Contains};
@@ -37,7 +37,8 @@ pub fn quotient_of_unreachable_twin()
     ensures no_leader { ¬ IsLeader strong unreachable_twin 1 }
 {}
 
-/// `first-leads-numbering`: the first state 2 leads 0, though 0 is less, and its number 0 comes before those of 1 and 3.
+/// `first-leads-numbering`: the first state 2 leads 0, though 0 is less, and its number 0 comes before those of 1 and
+/// 3.
 pub fn quotient_of_first_leads()
     ensures quotient { QuotientIs strong first_leads first_leads_quotient (0 ∷ 1 ∷ 0 ∷ 2 ∷ []) }
     ensures leaders { LeadersAre strong first_leads (2 ∷ 1 ∷ 2 ∷ 3 ∷ []) }
@@ -59,7 +60,7 @@ pub fn quotient_of_two_equal_targets()
     ensures { Quotient strong two_equal_targets two_equal_targets_quotient }
 {}
 
-/// `two-spellings`: a transition that stands three times in the list stands once in the quotient.
+/// `two-spellings`: a transition that is listed three times is in the quotient once.
 pub fn quotient_of_written_twice()
     ensures { Quotient strong written_twice written_twice_quotient }
 {}

@@ -1,4 +1,4 @@
-//! What the definitions of signatures, Splits and their count say of small systems: refinement, round by round. Each
+//! The definitions of signatures, Splits and their count, applied to small systems: refinement, round by round. Each
 //! round is written out as the signature of each state and the blocks that it leaves.
 
 ghost use Rattle.std.specs.Prelude.{◌≡◌, List, [], ◌∷◌, slice_index};

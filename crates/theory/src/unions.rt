@@ -29,8 +29,8 @@ pub fn the_union_keeps_bisimilarity()
 
 /// Two systems are equivalent exactly when their first states are bisimilar in their union.
 ///
-/// `U` is any system with the steps of the union. If two states of `U` share a block exactly when they are bisimilar, the
-/// systems are equivalent exactly when their first states share one. `U` takes as many Splits as the union.
+/// `U` is any system with the steps of the union. If two states of `U` share a block exactly when they are bisimilar,
+/// the systems are equivalent exactly when their first states share one. `U` takes as many Splits as the union.
 pub fn the_union_decides_equivalence()
     ensures states { (A B U : System) → IsSystem A → IsSystem B → SameSteps U (union_of A B) →
         (A.first < U.states) × (A.states + B.first < U.states) }
@@ -45,7 +45,7 @@ pub fn the_union_decides_equivalence()
     ensures same { (A B : System) → A ≡ B → SameSteps A B }
 {}
 
-/// What is said of two systems and their union does not depend on the order of either list of transitions.
+/// No property of two systems and their union here depends on the order of either list of transitions.
 pub fn the_order_does_not_matter_side_by_side()
     ensures steps { (A B C D : System) → SameSteps A B → SameSteps C D → SameSteps (union_of A C) (union_of B D) }
     ensures turns { (rel : Relation) (A B C D : System) (k : ℕ) → SameSteps A B → SameSteps C D →

@@ -35,7 +35,7 @@ same_transition_at e f is = subst (λ z. same_transition e z ≡ true) is
     (and_then_from (bytes_eq e.label e.label) (λ _. eqb e.target e.target) (bytes_pass e.label e.label refl)
     (eq-eqb e.target e.target refl)))
 
--- no transition stands in the list twice
+-- no transition is in the list twice
 abbrev pub all_differ : List Transition → Bool
 all_differ [] = true
 all_differ (e ∷ es) = and_then (every es (λ f. not (same_transition e f))) (λ _. all_differ es)

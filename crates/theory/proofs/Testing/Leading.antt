@@ -20,7 +20,7 @@ are_classes rel A block pairs k =
 
 module _ (rel : Relation) (A : System) (block : ℕ → ℕ) (pairs : List (ℕ × ℕ)) (k : ℕ)
     (h : are_classes rel A block pairs k ≡ true) where
-  -- the pair stands in the list if the two share a block, and else they are told apart
+  -- the pair is in the list if the two share a block, and else they are told apart
   abbrev class_test : ℕ → ℕ → Bool
   class_test s t = or_else (and_then (eqb (block s) (block t)) (λ _. has_pair pairs s t)) (λ _.
       and_then (not (eqb (block s) (block t))) (λ _. differ rel A A k s t))

@@ -9,7 +9,7 @@ use Rattle.theory.proofs.Testing.{and_then, and_then_parts, or_else, or_else_cas
 use Rattle.theory.proofs.Testing.Systems.{is_system, system_passes}
 use Rattle.theory.proofs.Testing.Reaching.{covers, is_internal, silent_from, silent_found, silent_only}
 
--- the pair stands in the list
+-- the pair is in the list
 abbrev pub has_pair : List (ℕ × ℕ) → ℕ → ℕ → Bool
 has_pair pairs s t = some pairs (λ p. and_then (eqb p.0 s) (λ _. eqb p.1 t))
 

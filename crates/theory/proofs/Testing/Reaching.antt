@@ -97,11 +97,11 @@ is_internal e = bytes_eq e.label internal
 abbrev pub is_inert : (ℕ → ℕ) → Transition → Bool
 is_inert blocks e = and_then (bytes_eq e.label internal) (λ _. eqb (blocks e.target) (blocks e.source))
 
--- where silent steps lead from s
+-- the states that silent steps lead to from s
 abbrev pub silent_from : System → ℕ → List ℕ
 silent_from A s = reached A.transitions is_internal A.states s
 
--- where inert steps lead from s
+-- the states that inert steps lead to from s
 abbrev pub inert_from : System → (ℕ → ℕ) → ℕ → List ℕ
 inert_from A blocks s = reached A.transitions (is_inert blocks) A.states s
 

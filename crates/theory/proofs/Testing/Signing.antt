@@ -12,7 +12,7 @@ use Rattle.theory.proofs.Testing.Reaching.{covers, is_inert, inert_from, inert_f
 abbrev pub Entry : Type 0
 Entry = List ℕ × ℕ
 
--- the entry stands in the list
+-- the entry is in the list
 abbrev pub has_entry : List Entry → List ℕ → ℕ → Bool
 has_entry xs x n = some xs (λ p. and_then (bytes_eq p.0 x) (λ _. eqb p.1 n))
 
