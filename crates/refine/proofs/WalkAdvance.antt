@@ -9,7 +9,7 @@ use Rattle.lts.specs.Labels.{text_of}
 use Rattle.lts.specs.Lts.{Grouped, Triple, place_at, system_of, IsTriple, IsLts, IsRow}
 use Rattle.refine.specs.Signed.{HasPair}
 use Rattle.refine.specs.StrongPairs.{pair_under}
-use Rattle.refine.specs.Walks.{mark_at, visit_at, state_at, next_at, end_at, back_at, bound_at, item_at, IsBound, IsInert, Accounts, Walks}
+use Rattle.refine.specs.Walks.{Laws, mark_at, visit_at, state_at, next_at, end_at, back_at, bound_at, item_at, IsBound, IsInert, Accounts, Walks}
 use Rattle.refine.specs.Steps.{IsCollected, Enters, Joins, Adds, Takes, Leaves}
 use Rattle.refine.specs.Ahead.{is_unseen, rest, ahead, KeepsSeen, HasNumbers}
 use Rattle.refine.specs.declared.walk.Mark.{Mark}
@@ -20,7 +20,7 @@ use Rattle.refine.specs.declared.walk.Item.{Item}
 use Rattle.refine.specs.declared.walk.Item.TheVariants.{Pair, Listed}
 use Rattle.refine.specs.declared.walk.Walk.{Walk}
 use Rattle.refine.proofs.WalkMarks.{not_unseen}
-use Rattle.refine.proofs.WalkConnects.{Laws, pair_before}
+use Rattle.refine.proofs.WalkConnects.{pair_before}
 use Rattle.refine.proofs.WalkExact.{place_step}
 use Rattle.refine.proofs.WalkLists.{mark_set, mark_other}
 use Rattle.refine.proofs.WalkAhead.{unseen-entered, unread-entered, unseen-same, unread-same, rest-push, rest-cut}

@@ -1,13 +1,13 @@
 -- What inert steps connect on the path, when the walk goes on.
 use Rattle.std.proofs.Common.{◌≡◌, ℕ, ◌+◌, ◌<◌, ◌≤◌, List, length, sym, ◌∙◌, ap, subst, subst₂, inl, inr, arith}
 use Rattle.std.proofs.lemmas.Bool.{cases_lt}
-use Rattle.theory.specs.System.{System, Leads}
+use Rattle.theory.specs.System.{Leads}
 use Rattle.theory.specs.Bisimulation.Relation.{branching}
-use Rattle.theory.specs.Blocks.{Inert, Signature}
+use Rattle.theory.specs.Blocks.{Inert}
 use Rattle.lts.specs.Lts.{Grouped, system_of}
 use Rattle.std.specs.Prelude.{slice_index}
 use Rattle.refine.specs.Signed.{HasPair}
-use Rattle.refine.specs.Walks.{Gives, Connects}
+use Rattle.refine.specs.Walks.{Laws, Gives, Connects}
 use Rattle.refine.specs.declared.walk.Item.{Item}
 use Rattle.refine.specs.declared.walk.Item.TheVariants.{Listed}
 use Rattle.refine.proofs.WalkHolds.{Grow, Gives-fewer}
@@ -15,14 +15,6 @@ use Rattle.refine.proofs.WalkHolds.{Grow, Gives-fewer}
 -- inert steps lead from s to t
 abbrev pub Ties : Grouped → List ℕ → ℕ → ℕ → Type 0
 Ties l blocks s t = Leads (Inert (system_of l) (slice_index blocks)) s t
-
--- what inert steps lead to, and what they pass back
-pub record Laws : Type 0 where
-  pub here : (A : System) (blocks : ℕ → ℕ) (s : ℕ) → Leads (Inert A blocks) s s
-  pub after : (A : System) (blocks : ℕ → ℕ) (s t u : ℕ) → Leads (Inert A blocks) s t → Inert A blocks t u → Leads (Inert A blocks) s u
-  pub joined : (A : System) (blocks : ℕ → ℕ) (s t u : ℕ) → Leads (Inert A blocks) s t → Leads (Inert A blocks) t u → Leads (Inert A blocks) s u
-  pub path : (A : System) (blocks : ℕ → ℕ) (s t : ℕ) (a : List ℕ) (b : ℕ) → Leads (Inert A blocks) s t →
-      Signature branching A blocks t a b → Signature branching A blocks s a b
 
 module _ (laws : Laws) (l : Grouped) (blocks : List ℕ) where
   -- the pairs of a state are those of each state that leads to it

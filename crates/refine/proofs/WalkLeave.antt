@@ -6,7 +6,7 @@ use Rattle.theory.specs.Bisimulation.Relation.{branching}
 use Rattle.lts.specs.Lts.{Grouped, IsLts}
 use Rattle.refine.specs.Lists.{list_at}
 use Rattle.refine.specs.Signed.{IsSignature}
-use Rattle.refine.specs.Walks.{mark_at, visit_at, state_at, next_at, end_at, back_at, bound_at, item_at, IsBound, Gives, AreOnPath, AreBounds, Connects, AreRows, AccountsAll, Walks, Rests}
+use Rattle.refine.specs.Walks.{Laws, mark_at, visit_at, state_at, next_at, end_at, back_at, bound_at, item_at, IsBound, Gives, AreOnPath, AreBounds, Connects, AreRows, AccountsAll, Walks, Rests}
 use Rattle.refine.specs.Steps.{IsCollected, Finishes}
 use Rattle.refine.specs.declared.walk.Mark.{Mark}
 use Rattle.refine.specs.declared.walk.Visit.{Visit}
@@ -16,7 +16,7 @@ use Rattle.refine.specs.declared.walk.Item.TheVariants.{Listed}
 use Rattle.refine.proofs.WalkHolds.{Grow}
 use Rattle.refine.proofs.WalkMarks.{AreOnPath-leave, AreSigned-leave}
 use Rattle.refine.proofs.WalkBounds.{AreBounds-item, AreBounds-leave}
-use Rattle.refine.proofs.WalkConnects.{Laws, pair_before, Connects-item, Connects-leave}
+use Rattle.refine.proofs.WalkConnects.{pair_before, Connects-item, Connects-leave}
 use Rattle.refine.proofs.WalkRows.{Rows-leave}
 use Rattle.refine.proofs.WalkAccounts.{AccountsAll-leave}
 use Rattle.refine.proofs.WalkExact.{collected_is_signature}

@@ -1,14 +1,13 @@
 -- The walk after one transition more was read.
 use Rattle.std.proofs.Common.{◌≡◌, ◌≢◌, ℕ, ◌+◌, ◌-◌, ◌<◌, ◌≤◌, List, length, get_or, set, sym, ◌∙◌, ap, subst, arith}
-use Rattle.std.proofs.lemmas.List.{get_or_read, length-set}
+use Rattle.std.proofs.lemmas.List.{get_or_read, get_or-set_same, length-set}
 use Rattle.lts.specs.Lts.{Grouped, Triple, source_of, label_of, target_of, place_at, IsLts, IsRow}
-use Rattle.refine.specs.Walks.{visit_at, state_at, next_at, end_at, back_at, bound_at, item_at, mark_at, IsBound, Accounts, Walks}
+use Rattle.refine.specs.Walks.{Laws, visit_at, state_at, next_at, end_at, back_at, bound_at, item_at, mark_at, IsBound, Accounts, Walks}
 use Rattle.refine.specs.Steps.{Takes}
 use Rattle.refine.specs.Ahead.{ahead, KeepsSeen, HasNumbers, steps_ahead}
 use Rattle.refine.specs.declared.walk.Visit.{Visit}
 use Rattle.refine.specs.declared.walk.Bound.{Bound}
 use Rattle.refine.specs.declared.walk.Walk.{Walk}
-use Rattle.refine.proofs.WalkConnects.{Laws}
 use Rattle.refine.proofs.WalkAhead.{rest-next}
 use Rattle.refine.proofs.WalkSeen.{steps-read}
 use Rattle.refine.proofs.WalkSteps.{Walks-next}
@@ -23,6 +22,18 @@ pub read_bound : (bounds : List Bound) (n : ℕ) (x : Bound) → n ≡ length bo
 read_bound bounds n x e some is =
     let here : n < length bounds = omega (arith, e, some) in
     get_or_read bounds n x here is _ ∙ ap (bound_at bounds) e
+
+-- what reading one transition of the state at the place of the walk leaves, if the visit there is then x
+pub record Reads (l : Grouped) (blocks : List ℕ) (lists : List (List (ℕ × ℕ))) (old new : Walk) (x : Visit) (path : List Visit) : Type 0 where
+  pub walks : Walks l blocks lists new.marks.items path new.at new.bounds.items new.items.items
+  pub numbers : HasNumbers l.states (length lists) (length path) new.marks.items
+  pub some : 0 < length path
+  pub longer : old.at < length new.path.items
+  pub seen : KeepsSeen old.marks.items new.marks.items
+  pub visit : visit_at path old.at ≡ x
+  pub one_less : ahead l.places new.marks.items path + 1 ≡ ahead l.places old.marks.items old.path.items
+  pub fewer : steps_ahead l.states (ahead l.places new.marks.items path) path new.at
+      < steps_ahead l.states (ahead l.places old.marks.items old.path.items) old.path.items old.at
 
 module _ (laws : Laws) (l : Grouped) (lts : IsLts l) (blocks : List ℕ) (lists : List (List (ℕ × ℕ))) (old : Walk)
     (walks : Walks l blocks lists old.marks.items old.path.items old.at old.bounds.items old.items.items)
@@ -46,7 +57,7 @@ module _ (laws : Laws) (l : Grouped) (lts : IsLts l) (blocks : List ℕ) (lists 
   source : source_of (place_at l.places x.next) ≡ x.state
   source = let r = row in (r.1.exactly x.next place_low).1 (r.2, next_low)
 
-  abbrev Moved : Visit
+  abbrev pub Moved : Visit
   Moved = record { state = x.state; next = x.next + 1; end = x.end; back = x.back }
 
   pub ahead_some : 1 ≤ ahead l.places old.marks.items old.path.items
@@ -84,10 +95,7 @@ module _ (laws : Laws) (l : Grouped) (lts : IsLts l) (blocks : List ℕ) (lists 
     mid_low : next_at mid.path.items old.at < end_at mid.path.items old.at
     mid_low = subst (λ v. v.next < v.end) mid_visit next_low
 
-    pub moved_longer : old.at < length mid.path.items
-    moved_longer = after.longer
-
-    pub moved_walks : Walks l blocks lists mid.marks.items Path mid.at mid.bounds.items mid.items.items
+    moved_walks : Walks l blocks lists mid.marks.items Path mid.at mid.bounds.items mid.items.items
     moved_walks =
         Walks-next laws l blocks lists mid.marks.items mid.path.items mid.at mid.bounds.items mid.items.items after.walks old.at after.later Moved after.longer
         (ap (λ v. v.state) mid_visit) (ap (λ v. v.next + 1) mid_visit) (ap (λ v. v.end) mid_visit) (ap (λ v. v.back) mid_visit) mid_low
@@ -98,20 +106,17 @@ module _ (laws : Laws) (l : Grouped) (lts : IsLts l) (blocks : List ℕ) (lists 
         (subst (λ (t : Triple). Accounts l blocks (IsBound mid.bounds.items) (back_at mid.path.items) (length mid.items.items) (item_at mid.items.items) lists
         (mark_at mid.marks.items) x.state old.at t) same after.accounts)))
 
-    pub moved_seen : KeepsSeen old.marks.items mid.marks.items
-    moved_seen = after.seen
-
-    pub moved_numbers : HasNumbers l.states (length lists) (length Path) mid.marks.items
+    moved_numbers : HasNumbers l.states (length lists) (length Path) mid.marks.items
     moved_numbers =
         subst (λ n. HasNumbers l.states (length lists) n mid.marks.items) (sym (length-set mid.path.items old.at Moved)) after.numbers
 
-    pub moved_ahead : ahead l.places mid.marks.items Path + 1 ≡ ahead l.places old.marks.items old.path.items
+    moved_ahead : ahead l.places mid.marks.items Path + 1 ≡ ahead l.places old.marks.items old.path.items
     moved_ahead =
         let e = rest-next mid.path.items old.at Moved after.longer (ap (λ v. v.end) mid_visit) (ap (λ v. v.next + 1) mid_visit) mid_low in
         let same = after.same_ahead in
         omega (arith, e, same)
 
-    pub moved_fewer : steps_ahead l.states (ahead l.places mid.marks.items Path) Path mid.at
+    moved_fewer : steps_ahead l.states (ahead l.places mid.marks.items Path) Path mid.at
         < steps_ahead l.states (ahead l.places old.marks.items old.path.items) old.path.items old.at
     moved_fewer =
         let n = moved_numbers in
@@ -119,3 +124,15 @@ module _ (laws : Laws) (l : Grouped) (lts : IsLts l) (blocks : List ℕ) (lists 
         let one = n.some in
         steps-read l.states (ahead l.places old.marks.items old.path.items) (ahead l.places mid.marks.items Path) old.path.items Path old.at mid.at moved_ahead
         (omega (arith, room, one))
+
+    pub reads : Reads l blocks lists old mid Moved Path
+    reads = record {
+      walks = moved_walks;
+      numbers = moved_numbers;
+      some = let size = length-set mid.path.items old.at Moved in let low = after.longer in omega (arith, size, low);
+      longer = after.longer;
+      seen = after.seen;
+      visit = get_or-set_same mid.path.items old.at Moved _ after.longer;
+      one_less = moved_ahead;
+      fewer = moved_fewer;
+    }

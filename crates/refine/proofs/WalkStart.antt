@@ -7,7 +7,7 @@ use Rattle.theory.specs.Bisimulation.Relation.{branching}
 use Rattle.lts.specs.Lts.{Grouped, IsLts, IsRow}
 use Rattle.refine.specs.Lists.{list_of, AreNumbers}
 use Rattle.refine.specs.Signed.{IsSignature}
-use Rattle.refine.specs.Walks.{mark_at, Walks, Rests}
+use Rattle.refine.specs.Walks.{Laws, mark_at, Walks, Rests}
 use Rattle.refine.specs.Steps.{Enters}
 use Rattle.refine.specs.Ahead.{is_unseen, unseen, unread, rest, ahead, IsTrail, KeepsSeen, HasNumbers, AreIdle}
 use Rattle.refine.specs.declared.walk.Mark.{Mark}
@@ -15,7 +15,6 @@ use Rattle.refine.specs.declared.walk.Mark.TheVariants.{Unseen, OnPath, Finished
 use Rattle.refine.specs.declared.walk.Visit.{Visit}
 use Rattle.refine.specs.declared.walk.Walk.{Walk}
 use Rattle.refine.proofs.WalkMarks.{not_unseen, not_finished}
-use Rattle.refine.proofs.WalkConnects.{Laws}
 use Rattle.refine.proofs.WalkLists.{mark_set}
 use Rattle.refine.proofs.WalkAhead.{unseen-entered, unread-entered, unread-all, unread-none, rest-push}
 use Rattle.refine.proofs.WalkSteps.{Walks-enter}

@@ -7,7 +7,7 @@ use Rattle.theory.specs.Blocks.{Inert}
 use Rattle.lts.specs.Lts.{Grouped, Triple, target_of, place_at, system_of, IsRow}
 use Rattle.refine.specs.Signed.{HasPair}
 use Rattle.refine.specs.StrongPairs.{pair_under}
-use Rattle.refine.specs.Walks.{mark_at, visit_at, state_at, next_at, end_at, back_at, bound_at, item_at, IsBound, Gives, IsInert, AreOnPath, AreBounds, Connects, AreRows, Accounts, AccountsAll, Holds, Walks}
+use Rattle.refine.specs.Walks.{Laws, mark_at, visit_at, state_at, next_at, end_at, back_at, bound_at, item_at, IsBound, Gives, IsInert, AreOnPath, AreBounds, Connects, AreRows, Accounts, AccountsAll, Holds, Walks}
 use Rattle.refine.specs.Steps.{Cuts}
 use Rattle.refine.specs.declared.walk.Mark.{Mark}
 use Rattle.refine.specs.declared.walk.Mark.TheVariants.{Unseen, OnPath, Finished}
@@ -18,7 +18,7 @@ use Rattle.refine.specs.declared.walk.Item.TheVariants.{Pair, Listed}
 use Rattle.refine.proofs.WalkHolds.{Holds-last}
 use Rattle.refine.proofs.WalkMarks.{AreOnPath-enter, AreSigned-enter}
 use Rattle.refine.proofs.WalkBounds.{AreBounds-item, AreBounds-join, AreBounds-enter, AreBounds-back}
-use Rattle.refine.proofs.WalkConnects.{Laws, Connects-item, Connects-join, Connects-enter}
+use Rattle.refine.proofs.WalkConnects.{Connects-item, Connects-join, Connects-enter}
 use Rattle.refine.proofs.WalkRows.{Rows-enter, Rows-back, AreRows-next}
 use Rattle.refine.proofs.WalkAccounts.{AccountsAll-item, AccountsAll-join, AccountsAll-enter, AccountsAll-next}
 use Rattle.refine.proofs.WalkCuts.{bound_old_or_new, bound_up, bound_new, AreRising-push, cut_old, cut_keep, cut_below, cut_rising, last_bound, last_greatest}

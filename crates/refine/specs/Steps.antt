@@ -7,7 +7,7 @@ use Rattle.theory.specs.System.{internal}
 use Rattle.lts.specs.Labels.{IsNumber}
 use Rattle.refine.specs.Signed.{pair_cmp}
 use Rattle.refine.specs.Walks.{mark_at, state_at, bound_at, item_at, Gives, IsInert, Walks}
-use Rattle.refine.specs.Ahead.{ahead, steps_ahead}
+use Rattle.refine.specs.Ahead.{ahead, HasNumbers, steps_ahead}
 use Rattle.refine.specs.declared.walk.Mark.{Mark}
 use Rattle.refine.specs.declared.walk.Mark.TheVariants.{Unseen, OnPath, Finished}
 use Rattle.refine.specs.declared.walk.Visit.{Visit}
@@ -19,6 +19,10 @@ use Rattle.refine.specs.declared.walk.Walk.{Walk}
 -- the walk is at its place on the path, with all that it knows and has collected
 abbrev pub Stands : Grouped → List ℕ → List (List (ℕ × ℕ)) → Walk → Type 0
 Stands l blocks lists w = Walks l blocks lists w.marks.items w.path.items w.at w.bounds.items w.items.items
+
+-- there is a number for the list of each state that is not finished
+abbrev pub HasNumbersLeft : Grouped → List (List (ℕ × ℕ)) → Walk → Type 0
+HasNumbersLeft l lists w = HasNumbers l.states (length lists) (length w.path.items) w.marks.items
 
 -- what it has still to read, and how many steps it makes at most
 abbrev pub ahead_of : Grouped → Walk → ℕ

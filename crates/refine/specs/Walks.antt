@@ -1,9 +1,9 @@
 -- The walk over inert steps: what is known of each state, the path, the components on it, and what they have collected.
 use Rattle.std.specs.Prelude.{◌≡◌, ◌⊎◌, ℕ, ◌<◌, ◌≤◌, List, length, slice_index, slice_index_or}
 use Rattle.std.specs.List.{Contains}
-use Rattle.theory.specs.System.{Leads, internal}
+use Rattle.theory.specs.System.{System, Leads, internal}
 use Rattle.theory.specs.Bisimulation.Relation.{branching}
-use Rattle.theory.specs.Blocks.{Inert}
+use Rattle.theory.specs.Blocks.{Inert, Signature}
 use Rattle.lts.specs.Labels.{text_of}
 use Rattle.lts.specs.Lts.{Grouped, Triple, source_of, label_of, target_of, place_at, system_of, IsRow}
 use Rattle.refine.specs.Lists.{list_at}
@@ -15,6 +15,14 @@ use Rattle.refine.specs.declared.walk.Visit.{Visit}
 use Rattle.refine.specs.declared.walk.Bound.{Bound}
 use Rattle.refine.specs.declared.walk.Item.{Item}
 use Rattle.refine.specs.declared.walk.Item.TheVariants.{Pair, Listed}
+
+-- what inert steps lead to, and what they pass back
+pub record Laws : Type 0 where
+  pub here : (A : System) (blocks : ℕ → ℕ) (s : ℕ) → Leads (Inert A blocks) s s
+  pub after : (A : System) (blocks : ℕ → ℕ) (s t u : ℕ) → Leads (Inert A blocks) s t → Inert A blocks t u → Leads (Inert A blocks) s u
+  pub joined : (A : System) (blocks : ℕ → ℕ) (s t u : ℕ) → Leads (Inert A blocks) s t → Leads (Inert A blocks) t u → Leads (Inert A blocks) s u
+  pub path : (A : System) (blocks : ℕ → ℕ) (s t : ℕ) (a : List ℕ) (b : ℕ) → Leads (Inert A blocks) s t →
+      Signature branching A blocks t a b → Signature branching A blocks s a b
 
 -- what is known of the state s
 abbrev pub mark_at : List Mark → ℕ → Mark
@@ -36,6 +44,10 @@ end_at path p = (visit_at path p).end
 
 abbrev pub back_at : List Visit → ℕ → ℕ
 back_at path p = (visit_at path p).back
+
+-- the row of the state at place p was read
+abbrev pub HasRead : List Visit → ℕ → Type 0
+HasRead path p = next_at path p ≡ end_at path p
 
 -- the bound number i
 abbrev pub bound_at : List Bound → ℕ → Bound

@@ -2,8 +2,8 @@
 ghost use Rattle.std.specs.Prelude.{◌≡◌, ◌≢◌, ◌⊎◌, ◌↔◌, ℕ, ◌+◌, ◌-◌, ◌<◌, ◌≤◌, length, slice_index, IsTrue, OnOk};
 ghost use Rattle.lts.specs.Meter.{HasRoomFor, Costs};
 ghost use Rattle.lts.specs.Lts.{IsRow};
-ghost use Rattle.refine.specs.Walks.{mark_at, next_at, end_at, back_at, IsInert, Rests};
-ghost use Rattle.refine.specs.Steps.{IsInternal, Takes, Stands, ahead_of, steps_of};
+ghost use Rattle.refine.specs.Walks.{mark_at, back_at, HasRead, IsInert, Laws, Rests};
+ghost use Rattle.refine.specs.Steps.{IsInternal, Takes, Stands, HasNumbersLeft, ahead_of, steps_of};
 ghost use Rattle.refine.specs.Ahead.{unread, IsTrail, KeepsSeen, HasNumbers};
 ghost use Rattle.refine.specs.declared.walk.Mark.TheVariants.{Unseen};
 
@@ -48,8 +48,7 @@ impl Walk {
         ensures trail { IsTrail self.new.marks.items self.new.trail.items }
         ensures lists { length lists.old ≤ length lists.new }
     {
-        theory::inert_steps_lead_on();
-        theory::inert_steps_pass_signatures_back();
+        laws();
         self.path.clear();
         self.bounds.clear();
         self.items.clear();
@@ -61,7 +60,8 @@ impl Walk {
         Ok(())
     }
 
-    /// Reads the next transition of the state where the walk is, or goes back where its row was read.
+    /// Reads the row of the state where the walk is up to its end, and goes back; or up to an inert step to a state that
+    /// was not seen, and goes there.
     ///
     /// Fails if there is no memory for it.
     fn advance<M: Meter>(
@@ -76,14 +76,13 @@ impl Walk {
         requires internal { IsInternal l.now internal }
         requires some { 0 < length self.old.path.items }
         requires walks { Stands l.now p.now lists.old self.old }
-        requires numbers { HasNumbers l.now.states (length lists.old) (length self.old.path.items) self.old.marks.items }
+        requires numbers { HasNumbersLeft l.now lists.old self.old }
         requires trail { IsTrail self.old.marks.items self.old.trail.items }
         requires room { HasRoomFor (M.counted m.old) 0 (ahead_of l.now self.old) }
 
         // Once it is done
         ensures walks { OnOk result (Stands l.now p.now lists.new self.new) }
-        ensures numbers { OnOk result (
-            HasNumbers l.now.states (length lists.new) (length self.new.path.items) self.new.marks.items) }
+        ensures numbers { OnOk result (HasNumbersLeft l.now lists.new self.new) }
         ensures seen { OnOk result (KeepsSeen self.old.marks.items self.new.marks.items) }
         ensures visits { OnOk result (
             (M.counted m.new).visits + ahead_of l.now self.new ≡ (M.counted m.old).visits + ahead_of l.now self.old) }
@@ -95,23 +94,67 @@ impl Walk {
         ensures trail { IsTrail self.new.marks.items self.new.trail.items }
         ensures lists { length lists.old ≤ length lists.new }
     {
-        theory::inert_steps_lead_on();
-        theory::inert_steps_pass_signatures_back();
-        l.known();
-        let at = self.at as usize;
-        let visit = self.path[at];
-        if visit.next == visit.end {
+        let at = self.at;
+        self.read(l, p, internal, lists, m)?;
+        if self.at == at {
             self.go_back(l, p, lists)?;
-            return Ok(());
         }
-        let (label, target) = l.edge(visit.next, m);
-        self.take(l, p, internal, visit.state, label, target)?;
-        self.path[at] = Visit {
-            state: visit.state,
-            next: visit.next + 1,
-            end: visit.end,
-            back: visit.back,
-        };
+        Ok(())
+    }
+
+    /// Reads the row of the state where the walk is up to its end, or up to an inert step to a state that was not seen,
+    /// and goes there.
+    ///
+    /// Fails if there is no memory for it.
+    fn read<M: Meter>(
+        &mut self,
+        l: &Lts<M>,
+        p: &Partition,
+        internal: Option<u32>,
+        lists: &Lists,
+        m: &mut M,
+    ) -> Result<(), Memory>
+        requires blocks { length p.now ≡ l.now.states }
+        requires internal { IsInternal l.now internal }
+        requires some { 0 < length self.old.path.items }
+        requires walks { Stands l.now p.now lists.now self.old }
+        requires numbers { HasNumbersLeft l.now lists.now self.old }
+        requires trail { IsTrail self.old.marks.items self.old.trail.items }
+        requires room { HasRoomFor (M.counted m.old) 0 (ahead_of l.now self.old) }
+
+        // Once it is done
+        ensures walks { OnOk result (Stands l.now p.now lists.now self.new) }
+        ensures numbers { OnOk result (HasNumbersLeft l.now lists.now self.new) }
+        ensures seen { OnOk result (KeepsSeen self.old.marks.items self.new.marks.items) }
+        ensures visits { OnOk result (
+            (M.counted m.new).visits + ahead_of l.now self.new ≡ (M.counted m.old).visits + ahead_of l.now self.old) }
+        ensures some { OnOk result (0 < length self.new.path.items) }
+        ensures here { OnOk result (self.new.at ≡ self.old.at →
+            HasRead self.new.path.items self.new.at × (steps_of l.now self.new ≤ steps_of l.now self.old)) }
+        ensures there { OnOk result (self.new.at ≢ self.old.at → steps_of l.now self.new < steps_of l.now self.old) }
+
+        // In either case
+        ensures cost { Costs (M.counted m.old) (M.counted m.new) 0 0 (ahead_of l.now self.old) }
+        ensures size { length self.new.marks.items ≡ length self.old.marks.items }
+        ensures trail { IsTrail self.new.marks.items self.new.trail.items }
+    {
+        laws();
+        l.known();
+        let at = self.at;
+        let visit = self.path[at as usize];
+        for next in visit.next..visit.end {
+            let (label, target) = l.edge(next, m);
+            self.take(l, p, internal, visit.state, label, target)?;
+            self.path[at as usize] = Visit {
+                state: visit.state,
+                next: next + 1,
+                end: visit.end,
+                back: visit.back,
+            };
+            if self.at != at {
+                return Ok(());
+            }
+        }
         Ok(())
     }
 
@@ -159,14 +202,13 @@ impl Walk {
         requires blocks { length p.now ≡ l.now.states }
         requires some { 0 < length self.old.path.items }
         requires walks { Stands l.now p.now lists.old self.old }
-        requires read { next_at self.old.path.items self.old.at ≡ end_at self.old.path.items self.old.at }
-        requires numbers { HasNumbers l.now.states (length lists.old) (length self.old.path.items) self.old.marks.items }
+        requires read { HasRead self.old.path.items self.old.at }
+        requires numbers { HasNumbersLeft l.now lists.old self.old }
         requires trail { IsTrail self.old.marks.items self.old.trail.items }
 
         // Once it is done
         ensures walks { OnOk result (Stands l.now p.now lists.new self.new) }
-        ensures numbers { OnOk result (
-            HasNumbers l.now.states (length lists.new) (length self.new.path.items) self.new.marks.items) }
+        ensures numbers { OnOk result (HasNumbersLeft l.now lists.new self.new) }
         ensures seen { OnOk result (KeepsSeen self.old.marks.items self.new.marks.items) }
         ensures ahead { OnOk result (ahead_of l.now self.new ≡ ahead_of l.now self.old) }
         ensures back { OnOk result ((length self.new.path.items ≡ 0) ⊎ (self.new.at < self.old.at)) }
@@ -177,8 +219,7 @@ impl Walk {
         ensures trail { IsTrail self.new.marks.items self.new.trail.items }
         ensures lists { length lists.old ≤ length lists.new }
     {
-        theory::inert_steps_lead_on();
-        theory::inert_steps_pass_signatures_back();
+        laws();
         l.known();
         let back = self.path[self.at as usize].back;
         let bound = self.bounds[self.bounds.len() - 1];
@@ -190,6 +231,14 @@ impl Walk {
         self.at = back;
         Ok(())
     }
+}
+
+/// Does nothing when it runs: its contract says what inert steps lead to, and what they pass back.
+fn laws()
+    ensures { Laws }
+{
+    theory::inert_steps_lead_on();
+    theory::inert_steps_pass_signatures_back();
 }
 
 /// Whether a transition of the state `s` is inert, if the internal label has this number.

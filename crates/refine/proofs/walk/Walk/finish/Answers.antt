@@ -1,7 +1,6 @@
 use Rattle.std.proofs.Common.{◌≡◌, length, arith, rules}
 use Rattle.std.proofs.lemmas.Bool.Decides.{nat_tests}
 use Rattle.refine.specs.declared.walk.Walk.{Walk}
-use Rattle.refine.proofs.WalkConnects.{Laws}
 use Rattle.refine.proofs.WalkLeave.{Rests-end}
 use Rattle.refine.proofs.WalkStart.{started_walks, started_numbers, started_ahead, started_seen, started_found}
 use Rattle.refine.proofs.walk.Walk.finish.Goals as goal
@@ -13,7 +12,7 @@ loop-internal-init g c =
     let lists = c.args.lists.now in
     let w : Walk = record c.args.self.now { path = c.clear.new.self; bounds = c.clear-2.new.self; items = c.clear-3.new.self } in
     let new = c.enter.new.self in
-    let laws : Laws = record { here = c.inert_steps_lead_on.ensures.here; after = c.inert_steps_lead_on.ensures.after; joined = c.inert_steps_lead_on.ensures.joined; path = c.inert_steps_pass_signatures_back.ensures.path } in
+    let laws = c.laws.ensures in
     let start = c.row-start.result.0 in
     let end = c.row-start.result.1 in
     let same = started_ahead laws l p lists w new c.args.s start end c.clear.ensures.items c.clear-2.ensures.items c.clear-3.ensures.items c.requires.rests c.requires.numbers c.requires.state c.requires.unseen c.row-start.ensures c.in_ok-enter.ensures.enters in

@@ -3,7 +3,6 @@ use Rattle.std.proofs.Common.{◌≡◌, ◌∙◌, ◌-◌, ap, sym, subst, inr
 use Rattle.std.proofs.lemmas.List.{get_or_default}
 use Rattle.refine.specs.Walks.{visit_at, Walks}
 use Rattle.refine.specs.Steps.{Leaves}
-use Rattle.refine.proofs.WalkConnects.{Laws}
 use Rattle.refine.proofs.WalkCuts.{last_bound}
 use Rattle.refine.proofs.WalkSteps.{Walks-back}
 use Rattle.refine.proofs.WalkAdvance.{bounds_some, left_walks, left_numbers, left_ahead}
@@ -16,7 +15,7 @@ returns-then-bound-self-clause-walks g c =
     let lists = c.args.lists.now in
     let walks = c.requires.walks in
     let here = walks.rows.here c.requires.some in
-    let laws : Laws = record { here = c.inert_steps_lead_on.ensures.here; after = c.inert_steps_lead_on.ensures.after; joined = c.inert_steps_lead_on.ensures.joined; path = c.inert_steps_pass_signatures_back.ensures.path } in
+    let laws = c.laws.ensures in
     let visit : c.index.result.now ≡ visit_at w.path.items w.at = read_visit w.path.items w.at c.index.result.now here c.index.ensures in
     let some = bounds_some laws c.args.l.now c.known.ensures c.args.p.now lists lists w w walks c.requires.numbers c.requires.some c.requires.read in
     let bound = read_bound w.bounds.items (c.len.result - 1) c.index-bound.result.now (omega (arith, c.len.ensures, w.bounds.ok.0)) some c.index-bound.ensures in
@@ -30,7 +29,7 @@ returns-then-bound-self-clause-back g c =
     let lists = c.args.lists.now in
     let walks = c.requires.walks in
     let here = walks.rows.here c.requires.some in
-    let laws : Laws = record { here = c.inert_steps_lead_on.ensures.here; after = c.inert_steps_lead_on.ensures.after; joined = c.inert_steps_lead_on.ensures.joined; path = c.inert_steps_pass_signatures_back.ensures.path } in
+    let laws = c.laws.ensures in
     let visit : c.index.result.now ≡ visit_at w.path.items w.at = read_visit w.path.items w.at c.index.result.now here c.index.ensures in
     let some = bounds_some laws c.args.l.now c.known.ensures c.args.p.now lists lists w w walks c.requires.numbers c.requires.some c.requires.read in
     let bound = read_bound w.bounds.items (c.len.result - 1) c.index-bound.result.now (omega (arith, c.len.ensures, w.bounds.ok.0)) some c.index-bound.ensures in
@@ -55,7 +54,7 @@ leave-requires-clause-from g c =
     let w = c.args.self.now in
     let lists = c.args.lists.now in
     let walks = c.requires.walks in
-    let laws : Laws = record { here = c.inert_steps_lead_on.ensures.here; after = c.inert_steps_lead_on.ensures.after; joined = c.inert_steps_lead_on.ensures.joined; path = c.inert_steps_pass_signatures_back.ensures.path } in
+    let laws = c.laws.ensures in
     let some = bounds_some laws c.args.l.now c.known.ensures c.args.p.now lists lists w w walks c.requires.numbers c.requires.some c.requires.read in
     let bound = read_bound w.bounds.items (c.len.result - 1) c.index-bound.result.now (omega (arith, c.len.ensures, w.bounds.ok.0)) some c.index-bound.ensures in
     let items = ap (λ b. b.items) bound in
@@ -68,7 +67,7 @@ returns-clause-walks g c =
     let lists = c.args.lists.now in
     let walks = c.requires.walks in
     let here = walks.rows.here c.requires.some in
-    let laws : Laws = record { here = c.inert_steps_lead_on.ensures.here; after = c.inert_steps_lead_on.ensures.after; joined = c.inert_steps_lead_on.ensures.joined; path = c.inert_steps_pass_signatures_back.ensures.path } in
+    let laws = c.laws.ensures in
     let visit : c.index.result.now ≡ visit_at w.path.items w.at = read_visit w.path.items w.at c.index.result.now here c.index.ensures in
     let some = bounds_some laws c.args.l.now c.known.ensures c.args.p.now lists lists w w walks c.requires.numbers c.requires.some c.requires.read in
     let bound = read_bound w.bounds.items (c.len.result - 1) c.index-bound.result.now (omega (arith, c.len.ensures, w.bounds.ok.0)) some c.index-bound.ensures in
@@ -82,7 +81,7 @@ returns-clause-numbers g c =
     let w = c.args.self.now in
     let lists = c.args.lists.now in
     let walks = c.requires.walks in
-    let laws : Laws = record { here = c.inert_steps_lead_on.ensures.here; after = c.inert_steps_lead_on.ensures.after; joined = c.inert_steps_lead_on.ensures.joined; path = c.inert_steps_pass_signatures_back.ensures.path } in
+    let laws = c.laws.ensures in
     let some = bounds_some laws c.args.l.now c.known.ensures c.args.p.now lists lists w w walks c.requires.numbers c.requires.some c.requires.read in
     let bound = read_bound w.bounds.items (c.len.result - 1) c.index-bound.result.now (omega (arith, c.len.ensures, w.bounds.ok.0)) some c.index-bound.ensures in
     left_numbers laws c.args.l.now c.known.ensures c.args.p.now lists c.leave.new.lists w c.leave.new.self walks c.requires.numbers c.requires.some c.requires.read
@@ -94,7 +93,7 @@ returns-clause-ahead g c =
     let w = c.args.self.now in
     let lists = c.args.lists.now in
     let walks = c.requires.walks in
-    let laws : Laws = record { here = c.inert_steps_lead_on.ensures.here; after = c.inert_steps_lead_on.ensures.after; joined = c.inert_steps_lead_on.ensures.joined; path = c.inert_steps_pass_signatures_back.ensures.path } in
+    let laws = c.laws.ensures in
     let some = bounds_some laws c.args.l.now c.known.ensures c.args.p.now lists lists w w walks c.requires.numbers c.requires.some c.requires.read in
     let bound = read_bound w.bounds.items (c.len.result - 1) c.index-bound.result.now (omega (arith, c.len.ensures, w.bounds.ok.0)) some c.index-bound.ensures in
     left_ahead laws c.args.l.now c.known.ensures c.args.p.now lists c.leave.new.lists w c.leave.new.self walks c.requires.numbers c.requires.some c.requires.read
