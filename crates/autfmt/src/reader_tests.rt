@@ -5,9 +5,10 @@ use crate::Fault::{
     BadEdge, BadHeader, BadHide, Device, ExtraText, FirstState, LineTooLong, MissingEdges,
     NoStates, SourceRange, TargetRange, TooManyHidden, TooManyStates, TooManyTransitions,
 };
+use crate::tests::repeated;
 use crate::{Fault, Hidden, Limits, SliceSource, read, read_hidden, read_hiding};
 use lts::{Counter, Lts};
-use std::alloc::{AllocError, Global};
+use std::alloc::Global;
 use std::process::Abort;
 use std::test::Fail;
 
@@ -64,48 +65,20 @@ fn check_failing(rt: &impl Abort, alloc: Global, table: &[Case]) {
     }
 }
 
-/// The text, and then as many bytes `b` as make `len`.
-fn padded(alloc: Global, text: &[u8], b: u8, len: usize) -> Result<Vec<u8>, AllocError> {
-    let mut bytes = Vec::from_slice(alloc, text)?;
-    for _ in text.len()..len {
-        bytes.push(b)?;
-    }
-    Ok(bytes)
-}
-
-/// The parts, one after the other.
-fn joined(alloc: Global, parts: &[&[u8]]) -> Result<Vec<u8>, AllocError> {
-    let mut bytes = Vec::new(alloc);
-    for part in parts {
-        bytes.extend_from_slice(part)?;
-    }
-    Ok(bytes)
-}
-
 const TWO_EQUAL_TARGETS: &[u8] = b"des (0, 2, 3)\n(0, a, 1)\n(0, a, 2)\n";
 
+// The first state, the states, the transitions and the labels of a text.
 #[test]
-fn two_equal_targets(rt: HostRuntime) -> Result<(), Fail> {
-    let mut source = SliceSource::new(TWO_EQUAL_TARGETS, None);
-    let system: Lts<Counter> = read(rt.alloc(), &mut source, &Limits::file())
-        .ok()
-        .ok_or("refused")?;
-    assert_eq!(rt; system.states(), 3);
-    assert_eq!(rt; system.edges(), 2);
-    assert_eq!(rt; system.first(), 0);
-    assert_eq!(rt; system.labels().len(), 1);
-    Ok(())
-}
-
-#[test]
-fn two_spellings(rt: HostRuntime) -> Result<(), Fail> {
-    let text = b"des (0, 3, 2)\n(0, a, 1)\n(0, \"a\", 1)\n(0, a, 1)\n";
-    let mut source = SliceSource::new(text, None);
-    let system: Lts<Counter> = read(rt.alloc(), &mut source, &Limits::file())
-        .ok()
-        .ok_or("refused")?;
-    assert_eq!(rt; system.edges(), 3);
-    assert_eq!(rt; system.labels().len(), 1);
+fn sizes(rt: HostRuntime) -> Result<(), Fail> {
+    let spellings: &[u8] = b"des (0, 3, 2)\n(0, a, 1)\n(0, \"a\", 1)\n(0, a, 1)\n";
+    for (text, wanted) in [(TWO_EQUAL_TARGETS, (0, 3, 2, 1)), (spellings, (0, 2, 3, 1))] {
+        let mut source = SliceSource::new(text, None);
+        let s: Lts<Counter> = read(rt.alloc(), &mut source, &Limits::file())
+            .ok()
+            .ok_or("refused")?;
+        let found = (s.first(), s.states(), s.edges(), s.labels().len());
+        assert_eq!(rt; found, wanted);
+    }
     Ok(())
 }
 
@@ -210,15 +183,16 @@ fn faulty_ends(rt: HostRuntime) {
 
 #[test]
 fn long_lines(rt: HostRuntime) -> Result<(), Fail> {
-    let header = padded(rt.alloc(), b"des (0,0,1)", b' ', 8193)?;
-    let most = padded(rt.alloc(), b"(0,a,1)", b' ', 8192)?;
-    let more = padded(rt.alloc(), b"(0,a,1)", b' ', 8193)?;
-    let far = padded(rt.alloc(), b"(9,a,1)", b' ', 8193)?;
-    let extra = padded(rt.alloc(), b"", b'x', 9000)?;
-    let most = joined(rt.alloc(), &[b"des (0,1,2)\n", &most, b"\n"])?;
-    let more = joined(rt.alloc(), &[b"des (0,1,2)\n", &more, b"\n"])?;
-    let far = joined(rt.alloc(), &[b"des (0,1,2)\n", &far, b"\n"])?;
-    let extra = joined(rt.alloc(), &[b"des (0,0,1)\n", &extra, b"\n"])?;
+    let header = repeated(rt.alloc(), &[(b"des (0,0,1)", 1), (b" ", 8182)])?;
+    let step: (&[u8], usize) = (b"des (0,1,2)\n(0,a,1)", 1);
+    let most = repeated(rt.alloc(), &[step, (b" ", 8185), (b"\n", 1)])?;
+    let more = repeated(rt.alloc(), &[step, (b" ", 8186), (b"\n", 1)])?;
+    let far: (&[u8], usize) = (b"des (0,1,2)\n(9,a,1)", 1);
+    let far = repeated(rt.alloc(), &[far, (b" ", 8186), (b"\n", 1)])?;
+    let extra = repeated(
+        rt.alloc(),
+        &[(b"des (0,0,1)\n", 1), (b"x", 9000), (b"\n", 1)],
+    )?;
     let table: [Case; 4] = [
         ("header", &header, LineTooLong(1)),
         ("a byte more", &more, LineTooLong(2)),
@@ -232,25 +206,22 @@ fn long_lines(rt: HostRuntime) -> Result<(), Fail> {
 
 #[test]
 fn long_labels(rt: HostRuntime) -> Result<(), Fail> {
-    let most = padded(rt.alloc(), b"", b'a', 8000)?;
-    let more = padded(rt.alloc(), b"", b'a', 8001)?;
-    let plain = joined(rt.alloc(), &[b"des (0,1,2)\n(0,", &most, b",1)\n"])?;
-    let quoted = joined(rt.alloc(), &[b"des (0,1,2)\n(0,\"", &most, b"\",1)\n"])?;
-    let good: [(&str, &[u8]); 2] = [("plain", &plain), ("quoted", &quoted)];
-    check_good(&rt, rt.alloc(), &good);
-    let plain = joined(rt.alloc(), &[b"des (0,1,2)\n(0,", &more, b",1)\n"])?;
-    let quoted = joined(rt.alloc(), &[b"des (0,1,2)\n(0,\"", &more, b"\",1)\n"])?;
-    let faulty: [Case; 2] = [
-        ("plain, a byte more", &plain, BadEdge(2)),
-        ("quoted, a byte more", &quoted, BadEdge(2)),
-    ];
-    check_faults(&rt, rt.alloc(), &Limits::file(), &faulty);
+    for (before, after) in [
+        (b"des (0,1,2)\n(0,".as_slice(), b",1)\n".as_slice()),
+        (b"des (0,1,2)\n(0,\"", b"\",1)\n"),
+    ] {
+        let most = repeated(rt.alloc(), &[(before, 1), (b"a", 8000), (after, 1)])?;
+        let more = repeated(rt.alloc(), &[(before, 1), (b"a", 8001), (after, 1)])?;
+        let faulty: [Case; 1] = [("a byte more", &more, BadEdge(2))];
+        check_good(&rt, rt.alloc(), &[("longest", &most)]);
+        check_faults(&rt, rt.alloc(), &Limits::file(), &faulty);
+    }
     Ok(())
 }
 
 #[test]
 fn failing_sources(rt: HostRuntime) -> Result<(), Fail> {
-    let long = padded(rt.alloc(), b"", b'x', 8193)?;
+    let long = repeated(rt.alloc(), &[(b"x", 8193)])?;
     let table: [Case; 7] = [
         ("whole", TWO_EQUAL_TARGETS, Device),
         ("beginning", b"des (0, 2, 3)\n(0, a, 1)\n", Device),

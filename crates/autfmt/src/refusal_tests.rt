@@ -31,25 +31,15 @@ fn is_safe(alloc: Global, text: &[u8], list: &[u8], wanted: &[u8]) -> bool {
 
 #[test]
 fn refusals(rt: HostRuntime) {
-    assert!(rt;
-        is_safe(
-            rt.alloc(),
-            b"des (0,2,3)\n(0,a,1)\n(0,a,2)\n",
-            b"",
-            b"des (0, 2, 3)\n(0, a, 1)\n(0, a, 2)\n"
-        )
-    );
+    let text: &[u8] = b"des (0, 2, 3)\n(0, a, 1)\n(0, a, 2)\n";
+    assert!(rt; is_safe(rt.alloc(), text, b"", text));
 }
 
+// One label is hidden and one quoted.
 #[test]
 fn refusals_hiding(rt: HostRuntime) {
-    // The labels c and b b are one hidden and one quoted.
-    assert!(rt;
-        is_safe(
-            rt.alloc(),
-            b"des (0,6,6)\n(0,i,1)\n(1,a,2)\n(0,a,3)\n(2,c,4)\n(3,\"b b\",5)\n(4,b,5)\n",
-            b"c\nd\n",
-            b"des (0, 6, 6)\n(0, a, 3)\n(0, i, 1)\n(1, a, 2)\n(2, i, 4)\n(3, \"b b\", 5)\n(4, b, 5)\n"
-        )
-    );
+    let text = b"des (0,6,6)\n(0,i,1)\n(1,a,2)\n(0,a,3)\n(2,c,4)\n(3,\"b b\",5)\n(4,b,5)\n";
+    let wanted =
+        b"des (0, 6, 6)\n(0, a, 3)\n(0, i, 1)\n(1, a, 2)\n(2, i, 4)\n(3, \"b b\", 5)\n(4, b, 5)\n";
+    assert!(rt; is_safe(rt.alloc(), text, b"c\nd\n", wanted));
 }

@@ -2,12 +2,23 @@
 use crate::sink::put_all;
 use crate::stream::Broken;
 use crate::{Fault, FromRead, Limits, LineBuffer, Sink, SliceSource, Source, ToWrite, VecSink};
-use std::alloc::Global;
+use std::alloc::{AllocError, Global};
 use std::io;
 use std::io::{Error, ErrorKind, Read, Write};
 use std::process::Abort;
 
 const TEXT: &[u8] = b"des (0,2,3)\n(0,a,1)\n(0,a,2)\n";
+
+/// The parts one after the other, each so many times.
+pub(crate) fn repeated(alloc: Global, parts: &[(&[u8], usize)]) -> Result<Vec<u8>, AllocError> {
+    let mut bytes = Vec::new(alloc);
+    for (part, times) in parts {
+        for _ in 0..*times {
+            bytes.extend_from_slice(part)?;
+        }
+    }
+    Ok(bytes)
+}
 
 #[test]
 fn faults_have_their_texts(rt: HostRuntime) {
@@ -237,14 +248,19 @@ impl Write for Tight {
     }
 }
 
+// Room for five bytes, and no flush yet.
+fn with_room(fails: bool) -> Tight {
+    Tight {
+        room: 5,
+        fails,
+        flushes: 0,
+    }
+}
+
 #[test]
 fn a_write_of_no_bytes_or_an_error_is_a_failure(rt: HostRuntime) {
     for fails in [false, true] {
-        let mut tight = Tight {
-            room: 5,
-            fails,
-            flushes: 0,
-        };
+        let mut tight = with_room(fails);
         let mut sink = ToWrite::new(&mut tight);
         assert!(rt; put_all(&mut sink, b"abcde") == Ok(()));
         assert!(rt; sink.failures() == 0 && sink.put(b"f") == Err(Broken));
@@ -256,11 +272,7 @@ fn a_write_of_no_bytes_or_an_error_is_a_failure(rt: HostRuntime) {
 #[test]
 fn finish_flushes_the_writer(rt: HostRuntime) {
     for fails in [false, true] {
-        let mut tight = Tight {
-            room: 5,
-            fails,
-            flushes: 0,
-        };
+        let mut tight = with_room(fails);
         let mut sink = ToWrite::new(&mut tight);
         assert!(rt; sink.finish().is_err() == fails);
         assert!(rt; (sink.failures() == 1) == fails);

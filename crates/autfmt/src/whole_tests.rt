@@ -1,7 +1,8 @@
 //! Texts that are read, however they come in pieces, and written again.
+use crate::tests::repeated;
 use crate::{Fault, Limits, Sink, SliceSource, VecSink, read, read_hidden, read_hiding, write};
 use lts::{Counter, Lts, Meter};
-use std::alloc::{AllocError, Global};
+use std::alloc::Global;
 use std::process::Abort;
 use std::test::Fail;
 
@@ -32,40 +33,127 @@ fn is_rewritten(alloc: Global, text: &[u8], list: &[u8], k: usize, wanted: &[u8]
     }
 }
 
-/// The text is read and written as `wanted`, however it and the hide list are cut into pieces.
-fn check_hiding(rt: &impl Abort, alloc: Global, text: &[u8], list: &[u8], wanted: &[u8]) {
-    for k in SIZES {
-        assert!(rt;
-            is_rewritten(alloc, text, list, k, wanted),
-            "in pieces of {k}"
-        );
+/// A name, a text, a hide list, and what is written.
+type Case<'a> = (&'a str, &'a [u8], &'a [u8], &'a [u8]);
+
+/// Each text is read and written as wanted, however it and the hide list are cut into pieces.
+fn check(rt: &impl Abort, alloc: Global, table: &[Case]) {
+    for (name, text, list, wanted) in table {
+        for k in SIZES {
+            assert!(rt;
+                is_rewritten(alloc, text, list, k, wanted),
+                "{name}, in pieces of {k}"
+            );
+        }
     }
-}
-
-/// The text is read and written as `wanted`, however it is cut into pieces.
-fn check(rt: &impl Abort, alloc: Global, text: &[u8], wanted: &[u8]) {
-    check_hiding(rt, alloc, text, b"", wanted);
-}
-
-/// The parts, one behind the other.
-fn joined(alloc: Global, parts: &[&[u8]]) -> Result<Vec<u8>, AllocError> {
-    let mut bytes = Vec::new(alloc);
-    for part in parts {
-        bytes.extend_from_slice(part)?;
-    }
-    Ok(bytes)
-}
-
-#[test]
-fn lone_state(rt: HostRuntime) {
-    check(&rt, rt.alloc(), b"des (0,0,1)\n", b"des (0, 0, 1)\n");
 }
 
 const TWO_EQUAL_TARGETS: &[u8] = b"des (0, 2, 3)\n(0, a, 1)\n(0, a, 2)\n";
 
 #[test]
-fn two_equal_targets(rt: HostRuntime) {
-    check(&rt, rt.alloc(), TWO_EQUAL_TARGETS, TWO_EQUAL_TARGETS);
+fn rewritten_texts(rt: HostRuntime) {
+    let lone: &[u8] = b"des (0, 0, 1)\n";
+    let step: &[u8] = b"des (0, 1, 2)\n(0, a, 1)\n";
+    let chain: &[u8] = b"des (0, 2, 3)\n(0, a, 1)\n(1, b, 2)\n";
+    let table: [Case; 13] = [
+        ("lone-state", b"des (0,0,1)\n", b"", lone),
+        (
+            "two-equal-targets",
+            TWO_EQUAL_TARGETS,
+            b"",
+            TWO_EQUAL_TARGETS,
+        ),
+        (
+            "two-spellings",
+            b"des (0, 3, 2)\n(0, a, 1)\n(0, \"a\", 1)\n(0, a, 1)\n",
+            b"",
+            b"des (0, 3, 2)\n(0, a, 1)\n(0, a, 1)\n(0, a, 1)\n",
+        ),
+        (
+            "label-order",
+            b"des (0,3,2)\n(0,a,1)\n(0,B,1)\n(0,\"!x\",1)\n",
+            b"",
+            b"des (0, 3, 2)\n(0, \"!x\", 1)\n(0, B, 1)\n(0, a, 1)\n",
+        ),
+        (
+            "quoted-internal",
+            b"des (0,1,2)\n(0,\"i\",1)\n",
+            b"",
+            b"des (0, 1, 2)\n(0, i, 1)\n",
+        ),
+        (
+            "tau",
+            b"des (0,1,2)\n(0,tau,1)\n",
+            b"",
+            b"des (0, 1, 2)\n(0, tau, 1)\n",
+        ),
+        (
+            "odd-quoted-labels",
+            b"des (0,1,2)\n(0,\"a\\\",1)",
+            b"",
+            b"des (0, 1, 2)\n(0, \"a\\\", 1)\n",
+        ),
+        (
+            "odd-quoted-labels",
+            b"des (0,1,2)\n(0,\"SEND !\"x\"\",1)\n",
+            b"",
+            b"des (0, 1, 2)\n(0, \"SEND !\"x\"\", 1)\n",
+        ),
+        ("first-is-one", b"des (1,0,2)\n", b"", b"des (1, 0, 2)\n"),
+        (
+            "first-is-two",
+            b"des (2,2,3)\n(2,a,0)\n(0,b,1)\n",
+            b"",
+            b"des (2, 2, 3)\n(0, b, 1)\n(2, a, 0)\n",
+        ),
+        ("carriage-returns", b"des (0,1,2)\r\n(0,a,1)\r\n", b"", step),
+        ("in order", b"des (0,2,3)\n(0,a,1)\n(1,b,2)\n", b"", chain),
+        (
+            "reordered-lines",
+            b"des (0,2,3)\n(1,b,2)\n(0,a,1)\n",
+            b"",
+            chain,
+        ),
+    ];
+    check(&rt, rt.alloc(), &table);
+}
+
+#[test]
+fn hidden_labels(rt: HostRuntime) {
+    let two: &[u8] = b"des (0,2,2)\n(0,a,1)\n(0,b,1)\n";
+    let chain: &[u8] = b"des (0,2,3)\n(0,a,1)\n(1,b,2)\n";
+    let spaced: &[u8] = b"des(0,1,2)\n( 0 ,\"SEND !1\", 1 )\n";
+    let silent: &[u8] = b"des (0,2,2)\n(0,i,1)\n(0,a,1)\n";
+    let choice: &[u8] = b"des (0, 2, 2)\n(0, a, 1)\n(0, i, 1)\n";
+    let table: [Case; 6] = [
+        (
+            "hidden-step-stays",
+            chain,
+            b"a",
+            b"des (0, 2, 3)\n(0, i, 1)\n(1, b, 2)\n",
+        ),
+        (
+            "hidden-quoted",
+            two,
+            b"\"a\"\nb\n",
+            b"des (0, 2, 2)\n(0, i, 1)\n(0, i, 1)\n",
+        ),
+        (
+            "blanks-and-quotes",
+            spaced,
+            b"",
+            b"des (0, 1, 2)\n(0, \"SEND !1\", 1)\n",
+        ),
+        (
+            "blanks-and-quotes, hidden",
+            spaced,
+            b"\"SEND !1\"\n",
+            b"des (0, 1, 2)\n(0, i, 1)\n",
+        ),
+        ("silent-choice", silent, b"", choice),
+        ("silent-choice, i hidden", silent, b"i\n", choice),
+    ];
+    check(&rt, rt.alloc(), &table);
 }
 
 // Memory is ample here, so nothing may answer that it was refused.
@@ -86,137 +174,47 @@ fn always_memory(rt: HostRuntime) -> Result<(), Fail> {
 // The end of a piece falls before, inside and behind each token and each carriage return.
 #[test]
 fn any_pieces(rt: HostRuntime) -> Result<(), Fail> {
-    let blanks = [b'\r'; 4100];
     for pad in 4070..4100 {
-        let text = joined(
+        let text = repeated(
             rt.alloc(),
-            &[b"des (0,1,2)", &blanks[..pad], b"\n(0,a,1)\r\n"],
+            &[(b"des (0,1,2)", 1), (b"\r", pad), (b"\n(0,a,1)\r\n", 1)],
         )?;
-        check(&rt, rt.alloc(), &text, b"des (0, 1, 2)\n(0, a, 1)\n");
+        let wanted = b"des (0, 1, 2)\n(0, a, 1)\n";
+        check(&rt, rt.alloc(), &[("any-pieces", &text, b"", wanted)]);
     }
     Ok(())
 }
 
 #[test]
-fn two_spellings(rt: HostRuntime) {
-    check(
-        &rt,
-        rt.alloc(),
-        b"des (0, 3, 2)\n(0, a, 1)\n(0, \"a\", 1)\n(0, a, 1)\n",
-        b"des (0, 3, 2)\n(0, a, 1)\n(0, a, 1)\n(0, a, 1)\n",
-    );
-}
-
-const BLANKS_AND_QUOTES: &[u8] = b"des(0,1,2)\n( 0 ,\"SEND !1\", 1 )\n";
-
-#[test]
-fn blanks_and_quotes(rt: HostRuntime) {
-    check(
-        &rt,
-        rt.alloc(),
-        BLANKS_AND_QUOTES,
-        b"des (0, 1, 2)\n(0, \"SEND !1\", 1)\n",
-    );
-}
-
-#[test]
-fn label_order(rt: HostRuntime) {
-    check(
-        &rt,
-        rt.alloc(),
-        b"des (0,3,2)\n(0,a,1)\n(0,B,1)\n(0,\"!x\",1)\n",
-        b"des (0, 3, 2)\n(0, \"!x\", 1)\n(0, B, 1)\n(0, a, 1)\n",
-    );
-}
-
-const SILENT_CHOICE: &[u8] = b"des (0,2,2)\n(0,i,1)\n(0,a,1)\n";
-
-#[test]
-fn silent_choice(rt: HostRuntime) {
-    let wanted = b"des (0, 2, 2)\n(0, a, 1)\n(0, i, 1)\n";
-    check(&rt, rt.alloc(), SILENT_CHOICE, wanted);
-}
-
-#[test]
-fn quoted_internal(rt: HostRuntime) {
-    check(
-        &rt,
-        rt.alloc(),
-        b"des (0,1,2)\n(0,\"i\",1)\n",
-        b"des (0, 1, 2)\n(0, i, 1)\n",
-    );
-    check(
-        &rt,
-        rt.alloc(),
-        b"des (0,1,2)\n(0,tau,1)\n",
-        b"des (0, 1, 2)\n(0, tau, 1)\n",
-    );
-}
-
-#[test]
-fn odd_quoted_labels(rt: HostRuntime) {
-    check(
-        &rt,
-        rt.alloc(),
-        b"des (0,1,2)\n(0,\"a\\\",1)",
-        b"des (0, 1, 2)\n(0, \"a\\\", 1)\n",
-    );
-    check(
-        &rt,
-        rt.alloc(),
-        b"des (0,1,2)\n(0,\"SEND !\"x\"\",1)\n",
-        b"des (0, 1, 2)\n(0, \"SEND !\"x\"\", 1)\n",
-    );
-}
-
-#[test]
-fn first_is_one(rt: HostRuntime) {
-    check(&rt, rt.alloc(), b"des (1,0,2)\n", b"des (1, 0, 2)\n");
-}
-
-#[test]
-fn first_is_two(rt: HostRuntime) {
-    check(
-        &rt,
-        rt.alloc(),
-        b"des (2,2,3)\n(2,a,0)\n(0,b,1)\n",
-        b"des (2, 2, 3)\n(0, b, 1)\n(2, a, 0)\n",
-    );
-}
-
-#[test]
-fn carriage_returns(rt: HostRuntime) {
-    check(
-        &rt,
-        rt.alloc(),
-        b"des (0,1,2)\r\n(0,a,1)\r\n",
-        b"des (0, 1, 2)\n(0, a, 1)\n",
-    );
-}
-
-#[test]
-fn reordered_lines(rt: HostRuntime) {
-    let wanted = b"des (0, 2, 3)\n(0, a, 1)\n(1, b, 2)\n";
-    check(&rt, rt.alloc(), b"des (0,2,3)\n(0,a,1)\n(1,b,2)\n", wanted);
-    check(&rt, rt.alloc(), b"des (0,2,3)\n(1,b,2)\n(0,a,1)\n", wanted);
-}
-
-#[test]
 fn longest_line(rt: HostRuntime) -> Result<(), Fail> {
-    let blanks = [b' '; 8185];
-    let text = joined(rt.alloc(), &[b"des (0,1,2)\n(0,a,1)", &blanks, b"\n"])?;
-    check(&rt, rt.alloc(), &text, b"des (0, 1, 2)\n(0, a, 1)\n");
+    let text = repeated(
+        rt.alloc(),
+        &[(b"des (0,1,2)\n(0,a,1)", 1), (b" ", 8185), (b"\n", 1)],
+    )?;
+    let wanted = b"des (0, 1, 2)\n(0, a, 1)\n";
+    check(&rt, rt.alloc(), &[("longest-line", &text, b"", wanted)]);
     Ok(())
 }
 
 #[test]
 fn longest_label(rt: HostRuntime) -> Result<(), Fail> {
-    let label = [b'a'; 8000];
-    let wanted = joined(rt.alloc(), &[b"des (0, 1, 2)\n(0, ", &label, b", 1)\n"])?;
-    let plain = joined(rt.alloc(), &[b"des (0,1,2)\n(0,", &label, b",1)\n"])?;
-    check(&rt, rt.alloc(), &plain, &wanted);
-    let quoted = joined(rt.alloc(), &[b"des (0,1,2)\n(0,\"", &label, b"\",1)\n"])?;
-    check(&rt, rt.alloc(), &quoted, &wanted);
+    let label = (b"a".as_slice(), 8000);
+    let plain = [(b"des (0,1,2)\n(0,".as_slice(), 1), label, (b",1)\n", 1)];
+    let quoted = [
+        (b"des (0,1,2)\n(0,\"".as_slice(), 1),
+        label,
+        (b"\",1)\n", 1),
+    ];
+    let wanted = [
+        (b"des (0, 1, 2)\n(0, ".as_slice(), 1),
+        label,
+        (b", 1)\n", 1),
+    ];
+    let wanted = repeated(rt.alloc(), &wanted)?;
+    for text in [&plain, &quoted] {
+        let text = repeated(rt.alloc(), text)?;
+        check(&rt, rt.alloc(), &[("longest-label", &text, b"", &wanted)]);
+    }
     Ok(())
 }
 
@@ -235,45 +233,12 @@ fn many_labels(rt: HostRuntime) -> Result<(), Fail> {
             }
         }
     }
-    check(&rt, rt.alloc(), text.as_bytes(), wanted.as_bytes());
+    let case = (
+        "many labels",
+        text.as_bytes(),
+        b"".as_slice(),
+        wanted.as_bytes(),
+    );
+    check(&rt, rt.alloc(), &[case]);
     Ok(())
-}
-
-#[test]
-fn hidden_step_stays(rt: HostRuntime) {
-    check_hiding(
-        &rt,
-        rt.alloc(),
-        b"des (0,2,3)\n(0,a,1)\n(1,b,2)\n",
-        b"a",
-        b"des (0, 2, 3)\n(0, i, 1)\n(1, b, 2)\n",
-    );
-}
-
-#[test]
-fn hidden_quoted(rt: HostRuntime) {
-    check_hiding(
-        &rt,
-        rt.alloc(),
-        b"des (0,2,2)\n(0,a,1)\n(0,b,1)\n",
-        b"\"a\"\nb\n",
-        b"des (0, 2, 2)\n(0, i, 1)\n(0, i, 1)\n",
-    );
-}
-
-#[test]
-fn hidden_spaced_label(rt: HostRuntime) {
-    check_hiding(
-        &rt,
-        rt.alloc(),
-        BLANKS_AND_QUOTES,
-        b"\"SEND !1\"\n",
-        b"des (0, 1, 2)\n(0, i, 1)\n",
-    );
-}
-
-#[test]
-fn hidden_internal(rt: HostRuntime) {
-    let wanted = b"des (0, 2, 2)\n(0, a, 1)\n(0, i, 1)\n";
-    check_hiding(&rt, rt.alloc(), SILENT_CHOICE, b"i\n", wanted);
 }

@@ -2,6 +2,7 @@
 ghost use Rattle.std.specs.Prelude.{None};
 
 use crate::stream::Broken;
+use crate::tests::repeated;
 use crate::{Fault, Sink, VecSink, write};
 use lts::{Counter, Labels, Lts, Meter, in_range, is_label};
 use std::alloc::Global;
@@ -47,77 +48,72 @@ fn text_of<R: Abort>(
     Vec::from_slice(alloc, sink.bytes()).expect(rt, "memory")
 }
 
+// The text of a system of one transition, its label between these bytes.
+fn one_line<'x, R: Abort>(rt: &R, alloc: Global, label: &'x [u8], quote: &'x [u8]) -> Vec<u8> {
+    let parts: [(&[u8], usize); 5] = [
+        (b"des (0, 1, 2)\n(0, ", 1),
+        (quote, 1),
+        (label, 1),
+        (quote, 1),
+        (b", 1)\n", 1),
+    ];
+    repeated(alloc, &parts).expect(rt, "memory")
+}
+
+// Labels, and the mark on both sides of each.
 #[test]
-fn written_texts(rt: HostRuntime) {
-    let cases: [(&str, u32, u32, &[(u32, &[u8], u32)], &[u8]); 10] = [
-        ("lone-state", 0, 1, &[], b"des (0, 0, 1)\n"),
-        (
-            "two-spellings",
-            0,
-            2,
-            &[(0, b"a", 1)],
-            b"des (0, 1, 2)\n(0, a, 1)\n",
-        ),
+fn written_labels(rt: HostRuntime) {
+    let table: [(&[u8], &[u8]); 10] = [
+        (b"a", b""),
+        (b"i", b""),
+        (b"tau", b""),
+        (b"_9", b""),
+        (b"9x", b"\""),
+        (b"SEND !1", b"\""),
+        (b"a\\", b"\""),
+        (b"SEND !\"x\"", b"\""),
+        (&[b'a'; 8000], b""),
+        (&[b' '; 8000], b"\""),
+    ];
+    for (label, quote) in &table {
+        let text = text_of(&rt, rt.alloc(), 0, 2, &[(0, *label, 1)], 4096);
+        assert!(rt; text.as_slice() == one_line(&rt, rt.alloc(), label, quote).as_slice());
+    }
+}
+
+#[test]
+fn written_orders(rt: HostRuntime) {
+    let none: &[(u32, &[u8], u32)] = &[];
+    let labels: &[(u32, &[u8], u32)] = &[(0, b"a", 1), (0, b"B", 1), (0, b"!x", 1)];
+    let silent: &[(u32, &[u8], u32)] = &[(0, b"i", 1), (0, b"a", 1)];
+    let all: &[(u32, &[u8], u32)] = &[
+        (10, b"ab", 3),
+        (9, b"a", 11),
+        (9, b"ab", 2),
+        (9, b"a", 2),
+        (9, b"a", 2),
+    ];
+    let cases: [(&str, u32, u32, &[(u32, &[u8], u32)], &[u8]); 4] = [
+        ("lone-state", 0, 1, none, b"des (0, 0, 1)\n"),
         (
             "label-order",
             0,
             2,
-            &[(0, b"a", 1), (0, b"B", 1), (0, b"!x", 1)],
+            labels,
             b"des (0, 3, 2)\n(0, \"!x\", 1)\n(0, B, 1)\n(0, a, 1)\n",
         ),
         (
             "silent-choice",
             0,
             2,
-            &[(0, b"i", 1), (0, b"a", 1)],
+            silent,
             b"des (0, 2, 2)\n(0, a, 1)\n(0, i, 1)\n",
-        ),
-        (
-            "blanks-and-quotes",
-            0,
-            2,
-            &[(0, b"SEND !1", 1)],
-            b"des (0, 1, 2)\n(0, \"SEND !1\", 1)\n",
-        ),
-        (
-            "odd-quoted-labels",
-            0,
-            2,
-            &[(0, b"a\\", 1)],
-            b"des (0, 1, 2)\n(0, \"a\\\", 1)\n",
-        ),
-        (
-            "odd-quoted-labels",
-            0,
-            2,
-            &[(0, b"SEND !\"x\"", 1)],
-            b"des (0, 1, 2)\n(0, \"SEND !\"x\"\", 1)\n",
-        ),
-        (
-            "quoted-internal",
-            0,
-            2,
-            &[(0, b"tau", 1)],
-            b"des (0, 1, 2)\n(0, tau, 1)\n",
-        ),
-        (
-            "a digit first",
-            0,
-            2,
-            &[(0, b"9x", 1), (0, b"_9", 1)],
-            b"des (0, 2, 2)\n(0, \"9x\", 1)\n(0, _9, 1)\n",
         ),
         (
             "repeats, targets and sources",
             2,
             12,
-            &[
-                (10, b"ab", 3),
-                (9, b"a", 11),
-                (9, b"ab", 2),
-                (9, b"a", 2),
-                (9, b"a", 2),
-            ],
+            all,
             b"des (2, 5, 12)\n(9, a, 2)\n(9, a, 2)\n(9, a, 11)\n(9, ab, 2)\n(10, ab, 3)\n",
         ),
     ];
@@ -129,26 +125,6 @@ fn written_texts(rt: HostRuntime) {
             );
         }
     }
-}
-
-// The text of a system of one transition, its label between these bytes.
-fn one_line<R: Abort>(rt: &R, alloc: Global, label: &[u8], quote: &[u8]) -> Vec<u8> {
-    let mut text = Vec::from_slice(alloc, b"des (0, 1, 2)\n(0, ").expect(rt, "memory");
-    text.extend_from_slice(quote).expect(rt, "memory");
-    text.extend_from_slice(label).expect(rt, "memory");
-    text.extend_from_slice(quote).expect(rt, "memory");
-    text.extend_from_slice(b", 1)\n").expect(rt, "memory");
-    text
-}
-
-#[test]
-fn longest_label(rt: HostRuntime) {
-    let plain = [b'a'; 8000];
-    let text = text_of(&rt, rt.alloc(), 0, 2, &[(0, &plain, 1)], 4096);
-    assert!(rt; text.as_slice() == one_line(&rt, rt.alloc(), &plain, b"").as_slice());
-    let quoted = [b' '; 8000];
-    let text = text_of(&rt, rt.alloc(), 0, 2, &[(0, &quoted, 1)], 4096);
-    assert!(rt; text.as_slice() == one_line(&rt, rt.alloc(), &quoted, b"\"").as_slice());
 }
 
 #[test]

@@ -1,139 +1,101 @@
+//! Lines by example: what each one says, or that it says nothing.
 use super::*;
 use std::alloc::{AllocError, Global};
+use std::process::Abort;
 use std::test::*;
+
+/// Each line is a transition from 0 to 1 with this label, or no transition.
+fn check_transitions(rt: &impl Abort, table: &[(&[u8], Option<&[u8]>)]) {
+    for (line, label) in table {
+        let wanted = label.map(|label| (0, label, 1));
+        assert_eq!(rt; transition_of(line), wanted, "{line:?}");
+    }
+}
 
 #[test]
 fn header_lines(rt: HostRuntime) {
-    for line in [
-        b"des (0, 3, 4)".as_slice(),
-        b"des(0,3,4)",
-        b"  des ( 0 , 3 , 4 )  ",
-        b"\tdes (0,3,4)\r",
-    ] {
-        assert_eq!(rt; header_of(line), Some((0, 3, 4)), "{line:?}");
+    let table: [(&[u8], Option<(u64, u64, u64)>); 16] = [
+        (b"des (0, 3, 4)", Some((0, 3, 4))),
+        (b"des(0,3,4)", Some((0, 3, 4))),
+        (b"  des ( 0 , 3 , 4 )  ", Some((0, 3, 4))),
+        (b"\tdes (0,3,4)\r", Some((0, 3, 4))),
+        (b"des (9999999999,0,1)", Some((9_999_999_999, 0, 1))),
+        (b"des (0,0,9999999999)", Some((0, 0, 9_999_999_999))),
+        (b"des (0,0,10000000000)", None),
+        (b"des (0,12345678901,4)", None),
+        (b"des 0,3,4", None),
+        (b"DES (0,3,4)", None),
+        (b"d es (0,3,4)", None),
+        (b"des (0,3)", None),
+        (b"des (0,03,4)", None),
+        (b"des (0,3,4) x", None),
+        (b"des (0,-3,4)", None),
+        (b"", None),
+    ];
+    for (line, wanted) in &table {
+        assert_eq!(rt; header_of(line), *wanted, "{line:?}");
     }
-}
-
-#[test]
-fn not_header_lines(rt: HostRuntime) {
-    for line in [
-        b"des 0,3,4".as_slice(),
-        b"DES (0,3,4)",
-        b"d es (0,3,4)",
-        b"des (0,3)",
-        b"des (0,03,4)",
-        b"des (0,3,4) x",
-        b"des (0,-3,4)",
-        b"des (0,12345678901,4)",
-        b"",
-    ] {
-        assert_eq!(rt; header_of(line), None, "{line:?}");
-    }
-}
-
-#[test]
-fn ten_digit_numbers(rt: HostRuntime) {
-    assert_eq!(rt;
-        header_of(b"des (9999999999,0,1)"),
-        Some((9_999_999_999, 0, 1))
-    );
-    assert_eq!(rt;
-        header_of(b"des (0,0,9999999999)"),
-        Some((0, 0, 9_999_999_999))
-    );
-    assert_eq!(rt; header_of(b"des (0,0,10000000000)"), None);
 }
 
 #[test]
 fn transition_lines(rt: HostRuntime) {
-    for (line, label) in [
-        (b"(0,a,1)".as_slice(), b"a".as_slice()),
-        (b"(0, \"a\", 1)", b"a"),
-        (b"(0,\"a, b)\",1)", b"a, b)"),
-        (b"(0,\" \",1)", b" "),
-        (b"(0,_x9,1)", b"_x9"),
-        (b"(0,\"a\"b\",1)", b"a\"b"),
-        (b"(0,\"a\",\"b\",1)", b"a\",\"b"),
-        (b" ( 0\t,\ta , 1 ) \r", b"a"),
-    ] {
-        assert_eq!(rt; transition_of(line), Some((0, label, 1)), "{line:?}");
-    }
-}
-
-#[test]
-fn odd_quoted_labels(rt: HostRuntime) {
-    assert_eq!(rt;
-        transition_of(b"(0,\"a\\\",1)"),
-        Some((0, b"a\\".as_slice(), 1))
-    );
-    assert_eq!(rt;
-        transition_of(b"(0,\"SEND !\"x\"\",1)"),
-        Some((0, b"SEND !\"x\"".as_slice(), 1))
-    );
+    let table: [(&[u8], Option<&[u8]>); 10] = [
+        (b"(0,a,1)", Some(b"a")),
+        (b"(0, \"a\", 1)", Some(b"a")),
+        (b"(0,\"a, b)\",1)", Some(b"a, b)")),
+        (b"(0,\" \",1)", Some(b" ")),
+        (b"(0,_x9,1)", Some(b"_x9")),
+        (b"(0,\"a\"b\",1)", Some(b"a\"b")),
+        (b"(0,\"a\",\"b\",1)", Some(b"a\",\"b")),
+        (b" ( 0\t,\ta , 1 ) \r", Some(b"a")),
+        (b"(0,\"a\\\",1)", Some(b"a\\")),
+        (b"(0,\"SEND !\"x\"\",1)", Some(b"SEND !\"x\"")),
+    ];
+    check_transitions(&rt, &table);
 }
 
 #[test]
 fn not_transition_lines(rt: HostRuntime) {
-    for line in [
-        b"(0,9x,1)".as_slice(),
-        b"(0,a!1,1)",
-        b"(0,,1)",
-        b"(0,\"\",1)",
-        b"(0,\"a\"b,1)",
-        b"(0,a,1),",
-        b"0,a,1",
-        b"(0,\"a\tb\",1)",
-    ] {
-        assert_eq!(rt; transition_of(line), None, "{line:?}");
-    }
-}
-
-#[test]
-fn bad_transitions(rt: HostRuntime) {
-    for line in [
-        b"(0,a,1".as_slice(),
-        b"(00,a,1)",
-        b"(0,a b,1)",
-        b"(0,\"\",1)",
-        b"",
-    ] {
-        assert_eq!(rt; transition_of(line), None, "{line:?}");
-    }
-}
-
-#[test]
-fn bytes_outside_labels(rt: HostRuntime) {
-    for line in [
-        b"(0,\"a\x00\",1)".as_slice(),
-        b"(0,\"a\x0D\",1)",
-        b"(0,\"a\x7F\",1)",
-        b"(0,\"a\x80\",1)",
-    ] {
-        assert_eq!(rt; transition_of(line), None, "{line:?}");
-    }
-}
-
-#[test]
-fn text_after_bracket(rt: HostRuntime) {
-    assert_eq!(rt; transition_of(b"(0,a,1)x"), None);
+    let table: [(&[u8], Option<&[u8]>); 17] = [
+        (b"", None),
+        (b"0,a,1", None),
+        (b"(0,a,1", None),
+        (b"(0,a,1),", None),
+        (b"(0,a,1)x", None),
+        (b"(00,a,1)", None),
+        (b"(0,9x,1)", None),
+        (b"(0,a!1,1)", None),
+        (b"(0,a b,1)", None),
+        (b"(0,,1)", None),
+        (b"(0,\"\",1)", None),
+        (b"(0,\"a\"b,1)", None),
+        (b"(0,\"a\tb\",1)", None),
+        (b"(0,\"a\x00\",1)", None),
+        (b"(0,\"a\x0D\",1)", None),
+        (b"(0,\"a\x7F\",1)", None),
+        (b"(0,\"a\x80\",1)", None),
+    ];
+    check_transitions(&rt, &table);
 }
 
 #[test]
 fn hide_lines(rt: HostRuntime) {
-    for line in [b"a".as_slice(), b"\"a\"", b"  a\t", b"\t\"a\" \r"] {
-        assert_eq!(rt; hide_line_of(line), Some(b"a".as_slice()), "{line:?}");
-    }
-    for line in [
-        b"".as_slice(),
-        b" ",
-        b"a b",
-        b"9",
-        b"\"\"",
-        b"\"a",
-        b"a\"",
-        b"\"a\" b",
-    ] {
-        assert_eq!(rt; hide_line_of(line), None, "{line:?}");
+    let table: [(&[u8], Option<&[u8]>); 12] = [
+        (b"a", Some(b"a")),
+        (b"\"a\"", Some(b"a")),
+        (b"  a\t", Some(b"a")),
+        (b"\t\"a\" \r", Some(b"a")),
+        (b"", None),
+        (b" ", None),
+        (b"a b", None),
+        (b"9", None),
+        (b"\"\"", None),
+        (b"\"a", None),
+        (b"a\"", None),
+        (b"\"a\" b", None),
+    ];
+    for (line, wanted) in &table {
+        assert_eq!(rt; hide_line_of(line), *wanted, "{line:?}");
     }
 }
 
