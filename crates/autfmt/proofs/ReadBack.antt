@@ -9,9 +9,10 @@ use Rattle.std.proofs.lemmas.List.Sorted.{All-permutation, IsPermutation-sym, le
 use Rattle.theory.specs.System.{System, Transition, IsSystem, IsAmong, IsLabel}
 use Rattle.autfmt.specs.Bounds.{Bounds, IsWithinFile}
 use Rattle.autfmt.proofs.Blanks.{IsBlank}
-use Rattle.autfmt.specs.Grammar.{Blanks, Spaced, Label, Header, is_plain, quoted}
-use Rattle.autfmt.specs.Texts.{IsOneLine, IsShort, SpellsTransition, Reads, with_line_feeds}
-use Rattle.autfmt.specs.Written.{written_label, header_of, written_transition, Text, IsInWrittenOrder}
+use Rattle.autfmt.specs.Grammar.{Blanks, Spaced, Label, is_plain, quoted}
+use Rattle.autfmt.specs.Texts.{IsOneLine, IsShort, SpellsTransition, Reads}
+use Rattle.autfmt.specs.Cutter.{with_line_feeds}
+use Rattle.autfmt.specs.Written.{written_label, header_of, written_transition, listed, IsInWrittenOrder}
 
 -- none of these bytes is a line feed
 record Visible (bs : List ℕ) : Type 0 where
@@ -148,44 +149,53 @@ fed [] = refl
 fed (e ∷ es) =
     ap (λ bs. bs ++ flat_map written_transition es) (line_and_feed e) ∙ ap (λ bs. (transition_line e ++ 10 ∷ []) ++ bs) (fed es)
 
-pub text_is_read_again : (bounds : Bounds) (A : System) (t : List ℕ) → IsWithinFile bounds → IsSystem A → A.states ≤ bounds.states → length A.transitions ≤ bounds.transitions
-    → Text A t → (B : System) × IsInWrittenOrder A B × Reads bounds t B
-text_is_read_again bounds A t within system states transitions (B, order, is) =
+-- what is listed is the lines of a text
+listed_lines : (B : System) → listed B ≡ with_line_feeds (header_line B ∷ map transition_line B.transitions) ++ []
+listed_lines B =
     let es = B.transitions in
-    let first = order.first in
-    let count = order.states in
-    let as_many : length A.transitions ≡ length es = length_permutation es A.transitions order.same in
+    ap (λ bs. bs ++ flat_map written_transition es) (header_and_feed B) ∙ ap (λ bs. (header_line B ++ 10 ∷ []) ++ bs) (fed es) ∙ sym (append-nil _)
+
+-- a system within the limits of a file is read again from what is listed
+listed_reads : (bounds : Bounds) (B : System) → IsWithinFile bounds → IsSystem B → B.states ≤ bounds.states → length B.transitions ≤ bounds.transitions
+    → Reads bounds (listed B) B
+listed_reads bounds B within system states transitions =
+    let es = B.transitions in
     let small : B.states < 10 ^ 10 = omega (arith, within.states) in
     let few : length es < 10 ^ 10 = omega (arith, within.transitions) in
     let low : B.first < 10 ^ 10 = omega (arith, system.first) in
-    let among =
-    subst (λ n. All (IsAmong n) es) (sym count)
-    (All-permutation (IsAmong A.states) A.transitions es (IsPermutation-sym _ _ order.same) system.transitions) in
-    let each = recursion_from_All (IsAmong B.states) es among in
+    let each = recursion_from_All (IsAmong B.states) es system.transitions in
     let head = header_is_line B low few small in
-    let spells_header : Header (header_line B) B.first (length es) B.states =
-    (decimal B.first, decimal (length es), decimal B.states, (low, refl), (few, refl), (small, refl), spaced_header _ _ _) in
-    let whole : t ≡ with_line_feeds (header_line B ∷ map transition_line es) ++ [] =
-    is ∙ ap (λ bs. bs ++ flat_map written_transition es) (header_and_feed B) ∙ ap (λ bs. (header_line B ++ 10 ∷ []) ++ bs) (fed es) ∙ sym (append-nil _) in (
-      B,
-      order,
-      record {
-        spelled = (
-          header_line B ∷ map transition_line es,
-          (
-            header_line B ∷ map transition_line es,
-            [],
-            record {
-              whole = whole;
-              lines = All-cons IsOneLine _ _ head.one (one_lines B.states small es each);
-              one = All-nil (λ b. b ≢ 10);
-            },
-            sym (append-nil _),
-          ),
-          (head.short, spells_header, spells_transitions B.states small es each),
-        );
-        system = record { first = omega (arith, system.first); transitions = among };
-        states = omega arith;
-        transitions = omega arith;
-      },
-    )
+    record {
+      header = header_line B;
+      lines = map transition_line es;
+      whole = (
+        header_line B ∷ map transition_line es,
+        [],
+        record {
+          whole = listed_lines B;
+          lines = All-cons IsOneLine _ _ head.one (one_lines B.states small es each);
+          one = All-nil (λ b. b ≢ 10);
+        },
+        sym (append-nil _),
+      );
+      good = record {
+        short = head.short;
+        header = (decimal B.first, decimal (length es), decimal B.states, (low, refl), (few, refl), (small, refl), spaced_header _ _ _);
+        first = system.first;
+        states = states;
+        transitions = transitions;
+      };
+      spelled = spells_transitions B.states small es each;
+      system = system;
+    }
+
+pub text_is_read_again : (bounds : Bounds) (A B : System) → IsWithinFile bounds → IsSystem A → A.states ≤ bounds.states → length A.transitions ≤ bounds.transitions
+    → IsInWrittenOrder A B → Reads bounds (listed B) B
+text_is_read_again bounds A B within system states transitions order =
+    let first = order.first in
+    let count = order.states in
+    let as_many : length A.transitions ≡ length B.transitions = length_permutation B.transitions A.transitions order.same in
+    let among =
+    subst (λ n. All (IsAmong n) B.transitions) (sym count)
+    (All-permutation (IsAmong A.states) A.transitions B.transitions (IsPermutation-sym _ _ order.same) system.transitions) in
+    listed_reads bounds B within (record { first = omega (arith, system.first); transitions = among }) (omega arith) (omega arith)

@@ -1,4 +1,4 @@
-use Rattle.std.proofs.Common.{◌∙◌, ℕ, List, length, Option, Err, ap, refl, inl, inr, sym, arith}
+use Rattle.std.proofs.Common.{◌∙◌, ℕ, List, length, Option, Err, ap, refl, inl, inr, sym, subst, arith}
 use Rattle.std.proofs.lemmas.List.{length-map}
 use Rattle.std.proofs.lemmas.List.Sorted.{IsPermutation-sym}
 use Rattle.std.proofs.lemmas.Result.{err_from_is_err_and}
@@ -8,6 +8,7 @@ use Rattle.theory.specs.Alike.{SameSteps}
 use Rattle.quotient.specs.Relations.{meant}
 use Rattle.lts.specs.Lts.{transition_of, system_of}
 use Rattle.autfmt.specs.declared.fault.Fault.TheVariants.{Memory}
+use Rattle.autfmt.specs.Texts.{Reads}
 use Rattle.autfmt.specs.Written.{GainsText, failures_after}
 use Rattle.autbis.specs.Runs.{Minimises, MinimisesText, IsReadAgain, CountsPart}
 use Rattle.autbis.specs.Runs.RunFails.{not_read, no_memory, failed_sink}
@@ -70,14 +71,16 @@ module _ (g : Over) (c : After-write g) where
       }
 
   read_again : IsReadAgain c.args.lim.now Q
-  read_again t written =
+  read_again t (listing, order, text_is) =
       let got = c.in_ok-system.ensures.outcome.outcome in
       let q = c.in_ok-quotient.quotient in
       let is = c.in_ok-quotient.ensures in
       let count = length-map q.places (transition_of q.labels) in
-      c.text_is_read_again.ensures c.args.lim.now Q t c.transitions.ensures.within
+      let reads =
+      c.text_is_read_again.ensures c.args.lim.now Q listing c.transitions.ensures.within
       (c.quotient_is_a_system.ensures rel A Q c.states.ensures.lts.system is.quotient)
-      (omega (arith, got.within.states, is.no_larger.0)) (omega (arith, got.within.transitions, count, is.no_larger.1)) written
+      (omega (arith, got.within.states, is.no_larger.0)) (omega (arith, got.within.transitions, count, is.no_larger.1)) order in
+      (listing, order, subst (λ (text : List ℕ). Reads c.args.lim.now text listing) (sym text_is) reads)
 
 module _ (g : Over) (c : After-write g) where
   -- the sink has gained the text of what minimises the system that was read
