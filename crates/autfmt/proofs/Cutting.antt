@@ -3,7 +3,8 @@ use Rattle.std.proofs.Common.{◌≡◌, ◌≢◌, ◌⊎◌, ℕ, ◌≤◌, L
 use Rattle.std.proofs.lemmas.Bool.{cases_eq}
 use Rattle.std.proofs.lemmas.List.{append_assoc}
 use Rattle.std.proofs.lemmas.List.Elements.{All-nil, All-cons, All-head, All-tail, All-append}
-use Rattle.autfmt.specs.Texts.{Cuts, Lines, IsOneLine, with_line_feeds, last_line}
+use Rattle.autfmt.specs.Texts.{Cuts, Lines, IsOneLine, last_line}
+use Rattle.autfmt.specs.Cutter.{with_line_feeds}
 
 -- a byte that is no line feed
 abbrev pub IsNoFeed : ℕ → Type 0

@@ -4,11 +4,14 @@ use Rattle.std.specs.List.{AllZip}
 use Rattle.std.proofs.lemmas.Bool.{cases_lt}
 use Rattle.std.proofs.lemmas.List.{append_assoc, length-append}
 use Rattle.autfmt.specs.declared.fault.Fault.{Fault}
-use Rattle.autfmt.specs.declared.fault.Fault.TheVariants.{BadHeader, FirstState, NoStates, TooManyStates, TooManyTransitions, LineTooLong, BadEdge, SourceRange, TargetRange, ExtraText, MissingEdges, Device, Memory, BadHide, TooManyHidden}
+use Rattle.autfmt.specs.declared.fault.Fault.TheVariants.{LineTooLong, BadHide, TooManyHidden}
 use Rattle.autfmt.specs.Grammar.{HideLine}
-use Rattle.autfmt.specs.Texts.{Cuts, Lines, IsShort, IsOneLine, with_line_feeds}
-use Rattle.autfmt.specs.HideLists.{Hides, HideReads, HideFault, HideFaultFrom, FirstHideFault, JudgedHideRest, JudgedHideFault}
-use Rattle.autfmt.proofs.Cutting.{Cuts-unique, Lines-unique, Lines-behind, lines_of, first_begins}
+use Rattle.autfmt.specs.Texts.{Cuts, Lines, IsShort}
+use Rattle.autfmt.specs.Cutter.{with_line_feeds}
+use Rattle.autfmt.specs.Faults.{FaultFrom, JudgedRest}
+use Rattle.autfmt.specs.HideLists.{Hides, HideReads, HideFault, FirstHideFault, JudgedHideFault}
+use Rattle.autfmt.proofs.FirstFaults.{NoneFaulty, Stays, FaultFrom-behind, FaultFrom-end, FaultFrom-extends, FaultFrom-unique, judged_first, no_judged}
+use Rattle.autfmt.proofs.Cutting.{Cuts-unique, Lines-unique, Lines-behind, lines_of}
 use Rattle.autfmt.proofs.Decisions.{one_hide_line, decide_hide_line}
 
 -- what the end of a whole hide list has: no fault
@@ -29,18 +32,7 @@ pub hide_kind : (k : ℕ) (line : List ℕ) (fault : Fault) → HideFault k line
 hide_kind k line TooManyHidden h = extra refl h
 hide_kind k line (LineTooLong j) h = long (ap LineTooLong h.0) h.1 h.2
 hide_kind k line (BadHide j) h = unread (ap BadHide h.0) h.1 h.2 h.3
-hide_kind k line BadHeader h = absurd h
-hide_kind k line FirstState h = absurd h
-hide_kind k line NoStates h = absurd h
-hide_kind k line TooManyStates h = absurd h
-hide_kind k line TooManyTransitions h = absurd h
-hide_kind k line (BadEdge j) h = absurd h
-hide_kind k line (SourceRange j) h = absurd h
-hide_kind k line (TargetRange j) h = absurd h
-hide_kind k line (ExtraText j) h = absurd h
-hide_kind k line (MissingEdges j) h = absurd h
-hide_kind k line Device h = absurd h
-hide_kind k line Memory h = absurd h
+hide_kind k line _ h = absurd h
 
 pub HideFault-unique : (k : ℕ) (line : List ℕ) (f g : Fault) → HideFault k line f → HideFault k line g → f ≡ g
 HideFault-unique k line f g a b = same (hide_kind k line f a) (hide_kind k line g b)
@@ -85,66 +77,20 @@ hides_push [] (b ∷ H) line a g h = absurd g
 hides_push (l ∷ lines) [] line a g h = absurd g
 hides_push (l ∷ lines) (b ∷ H) line a g h = (g.0, hides_push lines H line a g.1 h)
 
--- a fault behind good lines
-pub HideFaultFrom-behind :
-    (end : ℕ → Fault → Type 0) (k : ℕ) (lines others H : List (List ℕ)) (fault : Fault) →
-    AllZip Hides lines H → k + length lines ≤ 100001 → HideFaultFrom end (k + length lines) others fault →
-    HideFaultFrom end k (lines ++ others) fault
-HideFaultFrom-behind end k [] others H fault g few h =
-    let e : k + 0 ≡ k = omega arith in subst (λ (j : ℕ). HideFaultFrom end j others fault) e h
-HideFaultFrom-behind end k (line ∷ lines) others [] fault g few h = absurd g
-HideFaultFrom-behind end k (line ∷ lines) others (a ∷ H) fault g few h =
-    let e : k + length (line ∷ lines) ≡ k + 1 + length lines = omega arith in
-    inr (
-      omega arith,
-      a,
-      g.0,
-      HideFaultFrom-behind end (k + 1) lines others H fault g.1 (omega arith)
-          (subst (λ (j : ℕ). HideFaultFrom end j others fault) e h),
-    )
-
--- where all lines are good, only the end may have a fault
-pub HideFaultFrom-end :
-    (end : ℕ → Fault → Type 0) (k : ℕ) (lines H : List (List ℕ)) (fault : Fault) →
-    AllZip Hides lines H → k + length lines ≤ 100001 → HideFaultFrom end k lines fault → end (k + length lines) fault
-HideFaultFrom-end end k [] H fault g few h =
-    let e : k ≡ k + 0 = omega arith in subst (λ (j : ℕ). end j fault) e h
-HideFaultFrom-end end k (line ∷ lines) [] fault g few h = absurd g
-HideFaultFrom-end end k (line ∷ lines) (a ∷ H) fault g few (inl bad) =
-    absurd (GoodHide-no_fault k line fault (omega arith, a, g.0) bad)
-HideFaultFrom-end end k (line ∷ lines) (a ∷ H) fault g few (inr rest) =
-    let e : k + 1 + length lines ≡ k + length (line ∷ lines) = omega arith in
-    subst (λ (j : ℕ). end j fault) e (HideFaultFrom-end end (k + 1) lines H fault g.1 (omega arith) rest.3)
-
--- more lines behind: the fault stays, where the end's is one of the lines behind
-pub HideFaultFrom-extends :
-    (end end' : ℕ → Fault → Type 0) (k : ℕ) (lines others : List (List ℕ)) (fault : Fault) →
-    ((j : ℕ) → end j fault → HideFaultFrom end' j others fault) →
-    HideFaultFrom end k lines fault → HideFaultFrom end' k (lines ++ others) fault
-HideFaultFrom-extends end end' k [] others fault at_end h = at_end k h
-HideFaultFrom-extends end end' k (line ∷ lines) others fault at_end (inl bad) = inl bad
-HideFaultFrom-extends end end' k (line ∷ lines) others fault at_end (inr rest) =
-    inr (rest.0, rest.1, rest.2, HideFaultFrom-extends end end' (k + 1) lines others fault at_end rest.3)
-
--- no two faults
-pub HideFaultFrom-unique :
-    (end : ℕ → Fault → Type 0) (k : ℕ) (lines : List (List ℕ)) (f g : Fault) →
-    ((j : ℕ) → end j f → end j g → f ≡ g) → HideFaultFrom end k lines f → HideFaultFrom end k lines g → f ≡ g
-HideFaultFrom-unique end k [] f g at_end a b = at_end k a b
-HideFaultFrom-unique end k (line ∷ lines) f g at_end (inl a) (inl b) = HideFault-unique k line f g a b
-HideFaultFrom-unique end k (line ∷ lines) f g at_end (inl a) (inr b) =
-    absurd (GoodHide-no_fault k line f (b.0, b.1, b.2) a)
-HideFaultFrom-unique end k (line ∷ lines) f g at_end (inr a) (inl b) =
-    absurd (GoodHide-no_fault k line g (a.0, a.1, a.2) b)
-HideFaultFrom-unique end k (line ∷ lines) f g at_end (inr a) (inr b) =
-    HideFaultFrom-unique end (k + 1) lines f g at_end a.3 b.3
+-- none of the lines that name labels is faulty
+pub hides_none_faulty :
+    (k : ℕ) (lines H : List (List ℕ)) → AllZip Hides lines H → k + length lines ≤ 100001 → NoneFaulty HideFault k lines
+hides_none_faulty k [] H g few = tt
+hides_none_faulty k (line ∷ lines) [] g few = absurd g
+hides_none_faulty k (line ∷ lines) (a ∷ H) g few =
+    (λ fault. GoodHide-no_fault k line fault (omega arith, a, g.0), hides_none_faulty (k + 1) lines H g.1 (omega arith))
 
 -- a hide list has no two first faults
 pub FirstHideFault-unique : (text : List ℕ) (f g : Fault) → FirstHideFault text f → FirstHideFault text g → f ≡ g
 FirstHideFault-unique text f g a b =
     let same = Lines-unique text b.0 a.0 b.1 a.1 in
-    HideFaultFrom-unique no_fault 1 a.0 f g (λ j p q. absurd p) a.2
-    (subst (λ (lines : List (List ℕ)). HideFaultFrom no_fault 1 lines g) same b.2)
+    FaultFrom-unique HideFault HideFault-unique no_fault 1 a.0 f g (λ j p q. absurd p) a.2
+    (subst (λ (lines : List (List ℕ)). FaultFrom HideFault no_fault 1 lines g) same b.2)
 
 -- lines name one list of labels
 pub hidden_unique : (lines H H' : List (List ℕ)) → AllZip Hides lines H → AllZip Hides lines H' → H ≡ H'
@@ -172,33 +118,33 @@ pub HideReads-no_fault : (text : List ℕ) (H : List (List ℕ)) (fault : Fault)
 HideReads-no_fault text H fault r f =
     let same = Lines-unique text f.0 r.0 f.1 r.1 in
     let few = r.2 in
-    HideFaultFrom-end no_fault 1 r.0 H fault r.3 (omega arith)
-    (subst (λ (lines : List (List ℕ)). HideFaultFrom no_fault 1 lines fault) same f.2)
+    FaultFrom-end HideFault no_fault 1 r.0 fault (hides_none_faulty 1 r.0 H r.3 (omega arith))
+    (subst (λ (lines : List (List ℕ)). FaultFrom HideFault no_fault 1 lines fault) same f.2)
 
 -- the lines from line k on name labels, or have a fault
 pub hides_judged :
     (k : ℕ) (lines : List (List ℕ)) → k ≤ 100001 →
     ((H : List (List ℕ)) × AllZip Hides lines H × (k + length lines ≤ 100001))
-    ⊎ ((fault : Fault) × HideFaultFrom no_fault k lines fault)
+    ⊎ ((fault : Fault) × FaultFrom HideFault no_fault k lines fault)
 hides_judged k [] few = inl ([], tt, omega arith)
 hides_judged k (line ∷ lines) few = step (λ x. hides_judged (k + 1) lines x) (hide_judged k line)
   where
     step :
         (k + 1 ≤ 100001 →
         ((H : List (List ℕ)) × AllZip Hides lines H × (k + 1 + length lines ≤ 100001))
-        ⊎ ((fault : Fault) × HideFaultFrom no_fault (k + 1) lines fault)) →
+        ⊎ ((fault : Fault) × FaultFrom HideFault no_fault (k + 1) lines fault)) →
         GoodHide k line ⊎ ((fault : Fault) × HideFault k line fault) →
         ((H : List (List ℕ)) × AllZip Hides (line ∷ lines) H × (k + length (line ∷ lines) ≤ 100001))
-        ⊎ ((fault : Fault) × HideFaultFrom no_fault k (line ∷ lines) fault)
+        ⊎ ((fault : Fault) × FaultFrom HideFault no_fault k (line ∷ lines) fault)
     step others (inr bad) = inr (bad.0, inl bad.1)
     step others (inl good) = then (others (let x = good.0 in omega arith))
       where
         then :
             ((H : List (List ℕ)) × AllZip Hides lines H × (k + 1 + length lines ≤ 100001))
-            ⊎ ((fault : Fault) × HideFaultFrom no_fault (k + 1) lines fault) →
+            ⊎ ((fault : Fault) × FaultFrom HideFault no_fault (k + 1) lines fault) →
             ((H : List (List ℕ)) × AllZip Hides (line ∷ lines) H × (k + length (line ∷ lines) ≤ 100001))
-            ⊎ ((fault : Fault) × HideFaultFrom no_fault k (line ∷ lines) fault)
-        then (inr bad) = inr (bad.0, inr (good.0, good.1, good.2, bad.1))
+            ⊎ ((fault : Fault) × FaultFrom HideFault no_fault k (line ∷ lines) fault)
+        then (inr bad) = inr (bad.0, inr (λ fault. GoodHide-no_fault k line fault good, bad.1))
         then (inl rest) = let count = rest.2 in inl (good.1 ∷ rest.0, (good.2, rest.1), omega arith)
 
 -- each text is a hide list or has a fault
@@ -207,48 +153,25 @@ hide_text_judged text = step (hides_judged 1 (lines_of text).0 (omega arith))
   where
     step :
         ((H : List (List ℕ)) × AllZip Hides (lines_of text).0 H × (1 + length (lines_of text).0 ≤ 100001))
-        ⊎ ((fault : Fault) × HideFaultFrom no_fault 1 (lines_of text).0 fault) →
+        ⊎ ((fault : Fault) × FaultFrom HideFault no_fault 1 (lines_of text).0 fault) →
         ((H : List (List ℕ)) × HideReads text H) ⊎ ((fault : Fault) × FirstHideFault text fault)
     step (inl rest) =
         let count = rest.2 in inl (rest.0, ((lines_of text).0, (lines_of text).1, omega arith, rest.1))
     step (inr bad) = inr (bad.0, ((lines_of text).0, (lines_of text).1, bad.1))
 
--- the fault of a judged unended line stays, whatever follows in the line
-pub judged_hide_line :
-    (front tail : List ℕ) (k : ℕ) (fault : Fault) → JudgedHideRest front k fault → HideFault k (front ++ tail) fault
-judged_hide_line front tail k fault (inl big, h) = step (hide_kind k front fault h)
+-- the fault of a line that is too long, or behind the last that may stand, stays whatever follows in the line
+pub hide_stays : Stays HideFault 100000
+hide_stays front tail k fault judged h = step judged (hide_kind k front fault h)
   where
-    longer : 8192 < length (front ++ tail)
-    longer = omega (arith, length-append front tail)
-
-    step : HideKind k front fault → HideFault k (front ++ tail) fault
-    step (extra e x) =
+    step : (8192 < length front) ⊎ (100000 < k) → HideKind k front fault → HideFault k (front ++ tail) fault
+    step judged (extra e x) =
         let right : HideFault k (front ++ tail) TooManyHidden = x in
         subst (λ (f : Fault). HideFault k (front ++ tail) f) (sym e) right
-    step (long e x l) =
-        let right : HideFault k (front ++ tail) (LineTooLong k) = (refl, x, longer) in
+    step judged (long e x l) =
+        let right : HideFault k (front ++ tail) (LineTooLong k) = (refl, x, omega (arith, length-append front tail)) in
         subst (λ (f : Fault). HideFault k (front ++ tail) f) (sym e) right
-    step (unread e x s none) = absurd (omega arith)
-judged_hide_line front tail k fault (inr more, h) = step (hide_kind k front fault h)
-  where
-    step : HideKind k front fault → HideFault k (front ++ tail) fault
-    step (extra e x) =
-        let right : HideFault k (front ++ tail) TooManyHidden = x in
-        subst (λ (f : Fault). HideFault k (front ++ tail) f) (sym e) right
-    step (long e x l) = let y = more.0 in absurd (omega arith)
-    step (unread e x s none) = let y = more.0 in absurd (omega arith)
-
-pub judged_hide_some : (front : List ℕ) (k : ℕ) (fault : Fault) → JudgedHideRest front k fault → 1 ≤ length front
-judged_hide_some front k fault (inl big, h) = omega arith
-judged_hide_some front k fault (inr more, h) = more.1
-
-pub judged_hide_first :
-    (front more : List ℕ) (others : List (List ℕ)) (k : ℕ) (fault : Fault) →
-    IsOneLine front → Lines (front ++ more) others → JudgedHideRest front k fault → HideFaultFrom no_fault k others fault
-judged_hide_first front more others k fault one l j =
-    let b = first_begins front more one (judged_hide_some front k fault j) in
-    let same = Lines-unique (front ++ more) ((front ++ b.0) ∷ b.1) others b.2 l in
-    subst (λ (ls : List (List ℕ)). HideFaultFrom no_fault k ls fault) same (inl (judged_hide_line front b.0 k fault j))
+    step (inl big) (unread e x s none) = absurd (omega arith)
+    step (inr behind) (unread e x s none) = absurd (omega arith)
 
 -- a fault that is known from the first bytes is the hide list's
 pub JudgedHideFault-first :
@@ -257,8 +180,9 @@ JudgedHideFault-first given more fault (ended, rest, c, h) = (
   ended ++ (lines_of (rest ++ more)).0,
   subst (λ (t : List ℕ). Lines t (ended ++ (lines_of (rest ++ more)).0)) whole
       (Lines-behind ended (rest ++ more) (lines_of (rest ++ more)).0 c.lines (lines_of (rest ++ more)).1),
-  HideFaultFrom-extends (JudgedHideRest rest) no_fault 1 ended (lines_of (rest ++ more)).0 fault
-      (λ k r. judged_hide_first rest more (lines_of (rest ++ more)).0 k fault c.one (lines_of (rest ++ more)).1 r) h,
+  FaultFrom-extends HideFault (JudgedRest HideFault 100000 rest) no_fault 1 ended (lines_of (rest ++ more)).0 fault
+      (λ k r. judged_first HideFault 100000 hide_stays no_fault rest more (lines_of (rest ++ more)).0 k fault c.one
+      (lines_of (rest ++ more)).1 r) h,
 )
   where
     whole : with_line_feeds ended ++ (rest ++ more) ≡ given ++ more
@@ -272,22 +196,18 @@ pub no_judged_hide_fault :
 no_judged_hide_fault given lines rest H fault c good few short unjudged j =
     let same = Cuts-unique given j.0 lines j.1 rest j.2 c in
     let h =
-    subst (λ (e : List (List ℕ)). HideFaultFrom (JudgedHideRest rest) 1 e fault) same.0
-    (subst (λ (r : List ℕ). HideFaultFrom (JudgedHideRest r) 1 j.0 fault) same.1 j.3) in
-    at_rest (HideFaultFrom-end (JudgedHideRest rest) 1 lines H fault good (omega arith) h) unjudged
-  where
-    at_rest : JudgedHideRest rest (1 + length lines) fault → (length lines < 100000) ⊎ (length rest ≡ 0) → ⊥
-    at_rest (inl big, h) u = omega arith
-    at_rest (inr more, h) (inl less) = let x = more.0 in omega arith
-    at_rest (inr more, h) (inr none) = let x = more.1 in omega arith
+    subst (λ (e : List (List ℕ)). FaultFrom HideFault (JudgedRest HideFault 100000 rest) 1 e fault) same.0
+    (subst (λ (r : List ℕ). FaultFrom HideFault (JudgedRest HideFault 100000 r) 1 j.0 fault) same.1 j.3) in
+    no_judged HideFault 100000 1 lines rest fault (hides_none_faulty 1 lines H good (omega arith)) short
+    (⊎_elim (λ less. inl (omega arith)) (λ none. inr none) unjudged) h
 
 -- the first fault of a hide list whose first lines are good
 pub FirstHideFault-behind :
     (text : List ℕ) (lines others H : List (List ℕ)) (fault : Fault) →
     Lines text (lines ++ others) → AllZip Hides lines H → length lines ≤ 100000 →
-    HideFaultFrom no_fault (1 + length lines) others fault → FirstHideFault text fault
+    FaultFrom HideFault no_fault (1 + length lines) others fault → FirstHideFault text fault
 FirstHideFault-behind text lines others H fault l good few h =
-    (lines ++ others, l, HideFaultFrom-behind no_fault 1 lines others H fault good (omega arith) h)
+    (lines ++ others, l, FaultFrom-behind HideFault no_fault 1 lines others fault (hides_none_faulty 1 lines H good (omega arith)) h)
 
 -- a hide list without a fault has its labels, and no other does
 pub hide_text_without_fault :

@@ -8,7 +8,8 @@ use Rattle.lts.specs.Labels.{Interns}
 use Rattle.autfmt.specs.declared.fault.Fault.{Fault}
 use Rattle.autfmt.specs.declared.fault.Fault.TheVariants.{LineTooLong, TooManyHidden, Device}
 use Rattle.autfmt.specs.Texts.{Lines}
-use Rattle.autfmt.specs.HideLists.{Hides, HideFault, HideFaultFrom, FirstHideFault}
+use Rattle.autfmt.specs.Faults.{FaultFrom}
+use Rattle.autfmt.specs.HideLists.{Hides, HideFault, FirstHideFault}
 use Rattle.autfmt.specs.Cutter.{Cutting, CutsLine, BeginsTooLong, IsPart}
 use Rattle.autfmt.specs.HideReaders.{IsHideFault, SameLabels, HidesAs}
 use Rattle.autfmt.specs.HideReadSoFar.{AddsLabel, HideReadSoFar}
@@ -71,11 +72,11 @@ HideReadSoFar-new old hidden e none = record {
 pub hide_fault_behind :
     (given : List ℕ) (at : Cutting) (H hidden : List (List ℕ)) (whole : List ℕ) (others : List (List ℕ)) (fault : Fault) →
     (so_far : HideReadSoFar given at H hidden) → length H ≤ 100000 → Lines whole (so_far.lines ++ others) →
-    HideFaultFrom no_fault (1 + length H) others fault → FirstHideFault whole fault
+    FaultFrom HideFault no_fault (1 + length H) others fault → FirstHideFault whole fault
 hide_fault_behind given at H hidden whole others fault so_far few l h =
     let e = named_length so_far.lines H so_far.named in
     FirstHideFault-behind whole so_far.lines others H fault l so_far.named (omega arith)
-    (subst (λ (k : ℕ). HideFaultFrom no_fault (1 + k) others fault) (sym e) h)
+    (subst (λ (k : ℕ). FaultFrom HideFault no_fault (1 + k) others fault) (sym e) h)
 
 -- the next line is too long
 pub hide_too_long :

@@ -7,6 +7,7 @@ pub mod Labels
 pub mod Lines
 pub mod Decisions
 pub mod Cutting
+pub mod FirstFaults
 pub mod LineFaults
 pub mod FaultLaws
 pub mod JudgedLaws

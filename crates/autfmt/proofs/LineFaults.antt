@@ -1,14 +1,14 @@
 -- A line of a system's text is good or has one fault.
-use Rattle.std.proofs.Common.{◌≡◌, ◌⊎◌, ℕ, ◌+◌, ◌<◌, ◌≤◌, cond, eqb, ltb, leb, List, length, Option, None, Some, refl, sym, ◌∙◌, ap, inl, inr, arith}
+use Rattle.std.proofs.Common.{◌≡◌, ◌⊎◌, ℕ, ◌+◌, ◌<◌, ◌≤◌, cond, eqb, ltb, leb, List, length, Option, None, Some, refl, sym, ◌∙◌, ap, subst, inl, inr, arith}
 use Rattle.std.proofs.lemmas.Bool.{cases_lt, cases_eq}
 use Rattle.std.proofs.lemmas.Bool.Decides.{nat_tests}
 use Rattle.autfmt.specs.declared.fault.Fault.{Fault}
-use Rattle.autfmt.specs.declared.fault.Fault.TheVariants.{BadHeader, FirstState, NoStates, TooManyStates, TooManyTransitions, LineTooLong, BadEdge, SourceRange, TargetRange, ExtraText, MissingEdges, Device, Memory, BadHide, TooManyHidden}
+use Rattle.autfmt.specs.declared.fault.Fault.TheVariants.{BadHeader, FirstState, NoStates, TooManyStates, TooManyTransitions, LineTooLong, BadEdge, SourceRange, TargetRange, ExtraText}
 use Rattle.theory.specs.System.{Transition}
 use Rattle.autfmt.specs.Bounds.{Bounds}
 use Rattle.autfmt.specs.Grammar.{Header, TransitionLine}
-use Rattle.autfmt.specs.Texts.{IsShort}
-use Rattle.autfmt.specs.Faults.{HeaderFault, GoodHeader, EdgeFault, GoodEdge}
+use Rattle.autfmt.specs.Texts.{IsShort, GoodHeader, SpellsTransition}
+use Rattle.autfmt.specs.Faults.{HeaderFault, EdgeFault}
 use Rattle.autfmt.proofs.Decisions.{one_header, one_transition, decide_header, decide_transition}
 
 -- the fault of a header's numbers
@@ -34,15 +34,7 @@ header_kind bounds line TooManyStates h =
     let low = h.5 in let high = h.6 in wrong h.0 h.1 h.2 h.3 h.4 (grind (arith, nat_tests))
 header_kind bounds line TooManyTransitions h =
     let low = h.5 in let few = h.6 in let high = h.7 in wrong h.0 h.1 h.2 h.3 h.4 (grind (arith, nat_tests))
-header_kind bounds line (BadEdge k) h = absurd h
-header_kind bounds line (SourceRange k) h = absurd h
-header_kind bounds line (TargetRange k) h = absurd h
-header_kind bounds line (ExtraText k) h = absurd h
-header_kind bounds line (MissingEdges k) h = absurd h
-header_kind bounds line Device h = absurd h
-header_kind bounds line Memory h = absurd h
-header_kind bounds line (BadHide k) h = absurd h
-header_kind bounds line TooManyHidden h = absurd h
+header_kind bounds line _ h = absurd h
 
 -- the numbers of a good header are not wrong
 pub good_numbers : (bounds : Bounds) (line : List ℕ) (f m n : ℕ) → GoodHeader bounds line f m n → wrong_numbers bounds f m n ≡ None
@@ -88,6 +80,14 @@ pub GoodHeader-unique :
     (f ≡ f') × (m ≡ m') × (n ≡ n')
 GoodHeader-unique bounds line f m n f' m' n' g g' = one_header line f m n f' m' n' g.header g'.header
 
+-- what holds of the counts that a good header promises holds of those that it promises by another reading
+pub same_header :
+    (bounds : Bounds) (line : List ℕ) (f m n f' m' n' : ℕ) (P : ℕ → ℕ → Type 0) → GoodHeader bounds line f m n →
+    GoodHeader bounds line f' m' n' → P m n → P m' n'
+same_header bounds line f m n f' m' n' P g g' h =
+    let u = GoodHeader-unique bounds line f m n f' m' n' g g' in
+    subst (λ (y : ℕ). P m' y) u.2 (subst (λ (x : ℕ). P x n) u.1 h)
+
 -- line 1 is good or has a fault
 pub header_judged :
     (bounds : Bounds) (line : List ℕ) →
@@ -113,6 +113,10 @@ header_judged bounds line = step (cases_lt 8192 (length line)) (decide_header li
     step (inr s) (inl h) =
         numbers h.0 h.1 h.2 s h.3 (cases_eq h.2 0) (cases_lt h.0 h.2) (cases_lt bounds.states h.2) (cases_lt bounds.transitions h.1)
 
+-- line k is a good transition
+abbrev pub GoodEdge : ℕ → ℕ → ℕ → List ℕ → Type 0
+GoodEdge m n k line = (k ≤ m + 1) × (e : Transition) × SpellsTransition line e × (e.source < n) × (e.target < n)
+
 -- the fault of a transition's numbers
 abbrev pub wrong_ends : ℕ → ℕ → ℕ → ℕ → Option Fault
 wrong_ends n k s t = cond (leb n s) (Some (SourceRange k)) (cond (leb n t) (Some (TargetRange k)) None)
@@ -137,16 +141,7 @@ edge_kind m n k line (SourceRange j) h =
     let e = h.0 in let high = h.4 in wrong h.2.source h.2.target h.2.label h.1 h.3.0 h.3.1 (rw e (grind (arith, nat_tests)))
 edge_kind m n k line (TargetRange j) h =
     let e = h.0 in let low = h.4 in let high = h.5 in wrong h.2.source h.2.target h.2.label h.1 h.3.0 h.3.1 (rw e (grind (arith, nat_tests)))
-edge_kind m n k line BadHeader h = absurd h
-edge_kind m n k line FirstState h = absurd h
-edge_kind m n k line NoStates h = absurd h
-edge_kind m n k line TooManyStates h = absurd h
-edge_kind m n k line TooManyTransitions h = absurd h
-edge_kind m n k line (MissingEdges j) h = absurd h
-edge_kind m n k line Device h = absurd h
-edge_kind m n k line Memory h = absurd h
-edge_kind m n k line (BadHide j) h = absurd h
-edge_kind m n k line TooManyHidden h = absurd h
+edge_kind m n k line _ h = absurd h
 
 pub EdgeFault-unique : (m n k : ℕ) (line : List ℕ) (f g : Fault) → EdgeFault m n k line f → EdgeFault m n k line g → f ≡ g
 EdgeFault-unique m n k line f g a b = same (edge_kind m n k line f a) (edge_kind m n k line g b)

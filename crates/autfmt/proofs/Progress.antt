@@ -5,7 +5,7 @@ use Rattle.std.specs.List.{All, flat_map}
 use Rattle.std.proofs.KnownBytes.{Appends-trans}
 use Rattle.std.proofs.lemmas.List.{append-nil, map_more, map-append, take-append-drop, get_or-map, take_all, length-map}
 use Rattle.std.proofs.lemmas.List.Concat.{flat_map-append}
-use Rattle.theory.specs.System.{IsLabel}
+use Rattle.theory.specs.System.{System, IsLabel}
 use Rattle.lts.specs.Labels.{text_of}
 use Rattle.lts.specs.Lts.{Triple, source_of, label_of, target_of, transition_of, system_from}
 use Rattle.autfmt.specs.declared.fault.Fault.{Fault}
@@ -14,7 +14,7 @@ use Rattle.autfmt.specs.Grammar.{is_plain}
 use Rattle.autfmt.specs.Progress.{Progress}
 use Rattle.autfmt.specs.Ranks.{Entry, texts}
 use Rattle.autfmt.specs.Stream.{AppendsBeginning}
-use Rattle.autfmt.specs.Written.{header_of, written_transition, listed}
+use Rattle.autfmt.specs.Written.{header_of, written_transition, listed, Text, GainsBeginning}
 
 pub nothing_put : {known : Option (List ℕ)} {bytes : List ℕ} → Appends known known [] → Progress known known bytes bytes
 nothing_put kept = record { front = []; gained = kept; whole = refl }
@@ -109,6 +109,10 @@ line_waits {old} {mid} {new} {waiting} {kept} first states entries order i d non
     subst (Progress old new now) (sym lines)
     (subst (λ l. Progress old new l (lines_to first states entries order i ++ written_transition (transition_of (texts entries) e))) (sym (is ∙ ap (λ l. kept ++ l) line))
     (waits_too (written_transition (transition_of (texts entries) e)) (goes_on p q)))
+
+-- a beginning of the text of A was appended
+pub text_gains_beginning : {A : System} {text : List ℕ} (old new : Option (List ℕ)) → Text A text → AppendsBeginning old new text → GainsBeginning A old new
+text_gains_beginning {A} old new is (front, back, split, gained) = (front, back, subst (Text A) split is, gained)
 
 -- what a failure leaves, and what a success does
 pub text_begun : {old mid : Option (List ℕ)} {waiting : List ℕ} (new : Option (List ℕ)) (first states : ℕ) (entries : List Entry) (order : List Triple) (i : ℕ)

@@ -1,5 +1,5 @@
 -- What the reader of a system answers of what was read.
-use Rattle.std.proofs.Common.{◌≡◌, ℕ, List, [], ◌∷◌, ◌++◌, length, Option, None, Some, IfSome, refl, sym, ◌∙◌, ap, subst, arith}
+use Rattle.std.proofs.Common.{◌≡◌, ℕ, List, ◌++◌, length, Option, None, Some, IfSome, refl, sym, ◌∙◌, ap, subst, arith}
 use Rattle.std.proofs.lemmas.List.{append-nil}
 use Rattle.std.proofs.lemmas.List.Sorted.{length_permutation, Contains-permutation}
 use Rattle.std.specs.Io.KnownBytes.{IsAtEnd}
@@ -9,7 +9,7 @@ use Rattle.autfmt.specs.declared.fault.Fault.TheVariants.{Memory}
 use Rattle.autfmt.specs.declared.judge.Promise.{Promise}
 use Rattle.autfmt.specs.declared.held.Held.{Held}
 use Rattle.autfmt.specs.Bounds.{Bounds}
-use Rattle.autfmt.specs.Texts.{Reads, Lines, SpellsSystem}
+use Rattle.autfmt.specs.Texts.{Reads}
 use Rattle.autfmt.specs.Readers.{HasGoodHeader}
 use Rattle.autfmt.specs.Outcomes.{Refuses, ReadsTo}
 use Rattle.autfmt.specs.Outcomes.Refuses.{no_memory}
@@ -18,19 +18,7 @@ use Rattle.autfmt.proofs.Holding.{Holds-system, Holds-length}
 
 -- a text that reads as a system has a good header
 pub Reads-header : (bounds : Bounds) (whole : List ℕ) (A : System) → Reads bounds whole A → HasGoodHeader bounds whole
-Reads-header bounds whole A r = step r.spelled.0 r.spelled.1 r.spelled.2
-  where
-    step : (lines : List (List ℕ)) → Lines whole lines → SpellsSystem lines A → HasGoodHeader bounds whole
-    step [] l s = absurd s
-    step (line ∷ lines) l s = (
-      line,
-      lines,
-      A.first,
-      length A.transitions,
-      A.states,
-      l,
-      record { short = s.0; header = s.1; first = r.system.first; states = r.states; transitions = r.transitions },
-    )
+Reads-header bounds whole A r = (r.header, r.lines, A.first, length A.transitions, A.states, r.whole, r.good)
 
 -- there was no memory to build the system of a text that was read
 pub refuses_built :
@@ -59,7 +47,7 @@ reads_built bounds H got p held rest failures s (es, read, holds) labels groupin
     record {
       read = (A, read, subst (λ (B : System). Groups B (system_of s)) hides groups);
       as_many = count;
-      within = record { states = omega (arith, read.states); transitions = omega (arith, read.transitions) };
+      within = record { states = omega (arith, read.good.states); transitions = omega (arith, read.good.transitions) };
       carried = λ k below.
           let (e, among, number) = holds.carried k (omega (arith, ap length labels)) in
           (e, Contains-permutation held.triples.items s.places e grouping.same among, number);

@@ -6,14 +6,12 @@ use Rattle.std.specs.Io.KnownBytes.{IsAtEnd}
 use Rattle.theory.specs.System.{Transition, IsAmong}
 use Rattle.autfmt.specs.declared.fault.Fault.{Fault}
 use Rattle.autfmt.specs.declared.fault.Fault.TheVariants.{BadHeader, LineTooLong, MissingEdges, ExtraText, Device, Memory}
-use Rattle.autfmt.specs.declared.cutter.Step.{Step}
-use Rattle.autfmt.specs.declared.cutter.Step.TheVariants.{End}
 use Rattle.autfmt.specs.declared.held.Held.{Held}
 use Rattle.autfmt.specs.declared.judge.Promise.{Promise}
 use Rattle.autfmt.specs.Bounds.{Bounds}
 use Rattle.autfmt.specs.Grammar.{TransitionLine}
-use Rattle.autfmt.specs.Texts.{Lines, Reads}
-use Rattle.autfmt.specs.Faults.{HeaderFault, GoodHeader, EdgeFault, FaultFrom, Missing, FirstFault}
+use Rattle.autfmt.specs.Texts.{Lines, GoodHeader, Reads}
+use Rattle.autfmt.specs.Faults.{HeaderFault, EdgeFault, FaultFrom, Missing, FirstFault}
 use Rattle.autfmt.specs.Cutter.{Cutting, Stands, CutsLine, CutsEnd, BeginsTooLong, IsPart}
 use Rattle.autfmt.specs.Held.{Holds}
 use Rattle.autfmt.specs.Readers.{IsTextFault, HasGoodHeader}
@@ -116,13 +114,13 @@ pub fault_behind :
     (others : List (List ℕ)) (fault : Fault) →
     (so_far : ReadSoFar bounds given at p es) → length es ≤ p.transitions →
     Lines whole (so_far.header ∷ so_far.lines ++ others) →
-    FaultFrom p.transitions p.states (Missing p.transitions) (2 + length es) others fault → FirstFault bounds whole fault
+    FaultFrom (EdgeFault p.transitions p.states) (Missing p.transitions p.states) (2 + length es) others fault → FirstFault bounds whole fault
 fault_behind bounds given at p es whole others fault so_far few l h =
     let edges = good_lines bounds given at p es so_far in
     let e = GoodLines-length p.states so_far.lines es edges in
     FirstFault-behind bounds whole so_far.header so_far.lines others p.first p.transitions p.states es fault l so_far.good edges
     (omega arith)
-    (subst (λ (k : ℕ). FaultFrom p.transitions p.states (Missing p.transitions) (2 + k) others fault) (sym e) h)
+    (subst (λ (k : ℕ). FaultFrom (EdgeFault p.transitions p.states) (Missing p.transitions p.states) (2 + k) others fault) (sym e) h)
 
 -- the next line is too long
 pub transition_too_long :
@@ -259,24 +257,9 @@ text_ends bounds given old p es got so_far count none =
     Reads-from_lines bounds (given ++ got) so_far.header so_far.lines p.first p.transitions p.states es l so_far.good edges
     (e ∙ count)
 
--- a step that is not the end was made before the end of the source
-pub goes_on-step :
-    {E : Type 0} (over : Bool) (result : Result Step E) (step other : Step) → (over ≡ true → result ≡ Ok End) → result ≡ Ok step →
-    step ≡ other → (End ≡ other → ⊥) → over ≡ true → ⊥
-goes_on-step over result step other after is same differs o =
-    let a = after o in
-    let b = sym a ∙ is in
-    let d : End ≡ step = cc in
-    differs (d ∙ same)
-
--- a failure came before the end of the source
-pub goes_on-failure :
-    {E : Type 0} (over : Bool) (result : Result Step E) (broken : E) → (over ≡ true → result ≡ Ok End) → result ≡ Err broken →
-    over ≡ true → ⊥
-goes_on-failure over result broken after is o =
-    let a = after o in
-    let b = sym a ∙ is in
-    cc
+-- a source that goes on has not come to its end
+pub goes_on : {over : Bool} → over ≡ false → over ≡ true → ⊥
+goes_on open_at over = cc
 
 -- as many transitions were read as triples are held
 pub count_held :

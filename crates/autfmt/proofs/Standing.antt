@@ -2,8 +2,8 @@
 use Rattle.std.proofs.Common.{◌≡◌, ◌⊎◌, ℕ, ◌<◌, ◌≤◌, true, false, List, [], ◌∷◌, ◌++◌, length, refl, sym, ◌∙◌, ap, subst, inl, inr, arith}
 use Rattle.std.proofs.lemmas.List.{append_assoc, append-nil, length-append}
 use Rattle.std.proofs.lemmas.List.Elements.{All-nil, All-push}
-use Rattle.autfmt.specs.Texts.{Cuts, Lines, IsOneLine, with_line_feeds}
-use Rattle.autfmt.specs.Cutter.{Cutting, Stands, CutsLine, BeginsTooLong}
+use Rattle.autfmt.specs.Texts.{Cuts, Lines, IsOneLine}
+use Rattle.autfmt.specs.Cutter.{Cutting, Stands, CutsLine, BeginsTooLong, with_line_feeds}
 use Rattle.autfmt.proofs.Cutting.{with_line_feeds-append, with_line_feeds-cons, Lines-behind, Lines-nil, Lines-one, lines_of, first_begins, some_line}
 
 -- nothing was given

@@ -1,7 +1,7 @@
 -- The cutter of lines: where it stands among the bytes that a source gives.
 use Rattle.std.specs.Prelude.{◌≡◌, ◌⊎◌, ℕ, ◌<◌, ◌≤◌, Bool, true, false, IsTrue, List, [], ◌∷◌, ◌++◌, length, Option, None, Some, IfSome}
-use Rattle.std.specs.List.{All, slice_range}
-use Rattle.autfmt.specs.Texts.{Lines, IsOneLine, IsShort, with_line_feeds}
+use Rattle.std.specs.List.{All, flat_map, slice_range}
+use Rattle.autfmt.specs.Texts.{Lines, IsOneLine, IsShort}
 
 -- the line that was cut last, the bytes that were taken behind it, and whether the source came to its end
 pub record Cutting : Type 0 where
@@ -43,6 +43,10 @@ pub record CutsEnd (bytes : List ℕ) (now : Cutting) : Type 0 where
 -- the bytes are a part of a line of at most 8192 bytes
 abbrev pub IsPart : List ℕ → Type 0
 IsPart bytes = IsOneLine bytes × IsShort bytes
+
+-- each line with its line feed
+abbrev pub with_line_feeds : List (List ℕ) → List ℕ
+with_line_feeds lines = flat_map (λ line. line ++ 10 ∷ []) lines
 
 -- the bytes given have these lines, and behind them what is ahead, or they are the whole text
 abbrev pub Stands : List ℕ → List (List ℕ) → Cutting → Type 0

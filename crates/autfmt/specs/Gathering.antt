@@ -18,15 +18,15 @@ FoundIn bytes AtEnd kept piece = IsPart kept × (bytes ≡ kept)
 abbrev pub Gathers : {E : Type 0} → List ℕ → Result Found E → List ℕ → List ℕ → Type 0
 Gathers bytes result kept piece = MatchResult result (λ found. FoundIn bytes found kept piece) (λ _. IsPart bytes)
 
--- what a step made of the bytes ahead
-abbrev pub Makes : List ℕ → Step → Cutting → Type 0
-Makes bytes Line now = CutsLine bytes now
-Makes bytes TooLong now = BeginsTooLong bytes
-Makes bytes End now = CutsEnd bytes now
+-- what a step made of the bytes ahead; over says whether the source had come to its end before
+abbrev pub Makes : Bool → List ℕ → Step → Cutting → Type 0
+Makes over bytes Line now = (over ≡ false) × CutsLine bytes now
+Makes over bytes TooLong now = (over ≡ false) × BeginsTooLong bytes
+Makes over bytes End now = CutsEnd bytes now
 
 -- what an advance made of the bytes ahead and got; after a failure they are a part of a line
-abbrev pub Advances : {E : Type 0} → List ℕ → Result Step E → Cutting → Type 0
-Advances bytes result now = MatchResult result (λ step. Makes bytes step now) (λ _. IsPart bytes)
+abbrev pub Advances : {E : Type 0} → Bool → List ℕ → Result Step E → Cutting → Type 0
+Advances over bytes result now = MatchResult result (λ step. Makes over bytes step now) (λ _. (over ≡ false) × IsPart bytes)
 
 -- whether the bytes ahead and got are none; after a failure they are
 abbrev pub Looks : {E : Type 0} → List ℕ → Result Bool E → Cutting → Type 0

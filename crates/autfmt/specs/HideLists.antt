@@ -1,10 +1,11 @@
 -- Hide lists: the labels that they name, and their first fault.
-use Rattle.std.specs.Prelude.{◌≡◌, ◌⊎◌, ℕ, ◌+◌, ◌<◌, ◌≤◌, List, [], ◌∷◌, length}
+use Rattle.std.specs.Prelude.{◌≡◌, ℕ, ◌<◌, ◌≤◌, List, length}
 use Rattle.std.specs.List.{AllZip}
 use Rattle.autfmt.specs.declared.fault.Fault.{Fault}
 use Rattle.autfmt.specs.declared.fault.Fault.TheVariants.{LineTooLong, BadHide, TooManyHidden}
 use Rattle.autfmt.specs.Grammar.{HideLine}
 use Rattle.autfmt.specs.Texts.{Lines, Cuts, IsShort}
+use Rattle.autfmt.specs.Faults.{FaultFrom, JudgedRest}
 
 -- the line names the label
 abbrev pub Hides : List ℕ → List ℕ → Type 0
@@ -21,21 +22,12 @@ HideFault k line (LineTooLong j) = (j ≡ k) × (k ≤ 100000) × (8192 < length
 HideFault k line (BadHide j) = (j ≡ k) × (k ≤ 100000) × IsShort line × ((a : List ℕ) → ¬ HideLine line a)
 HideFault k line _ = ⊥
 
--- the fault of the least faulty one of the lines from line k on; where none is, what the end has
-abbrev pub HideFaultFrom : (ℕ → Fault → Type 0) → ℕ → List (List ℕ) → Fault → Type 0
-HideFaultFrom end k [] fault = end k fault
-HideFaultFrom end k (line ∷ lines) fault =
-    HideFault k line fault ⊎ ((k ≤ 100000) × (a : List ℕ) × Hides line a × HideFaultFrom end (k + 1) lines fault)
-
--- the first fault of a hide list
+-- the first fault of a hide list: the end has none
 abbrev pub FirstHideFault : List ℕ → Fault → Type 0
-FirstHideFault text fault = (lines : List (List ℕ)) × Lines text lines × HideFaultFrom (λ _ _. ⊥) 1 lines fault
+FirstHideFault text fault = (lines : List (List ℕ)) × Lines text lines × FaultFrom HideFault (λ _ _. ⊥) 1 lines fault
 
--- an unended line k is judged once it is too long, or once it has a byte after the last line that may stand
-abbrev pub JudgedHideRest : List ℕ → ℕ → Fault → Type 0
-JudgedHideRest rest k fault = ((8192 < length rest) ⊎ ((100000 < k) × (1 ≤ length rest))) × HideFault k rest fault
-
--- the fault that is known from the bytes that a source gave before it failed
+-- the fault that is known from the bytes that a source gave before it failed: of an ended line, or of a judged one
 abbrev pub JudgedHideFault : List ℕ → Fault → Type 0
 JudgedHideFault given fault =
-    (ended : List (List ℕ)) × (rest : List ℕ) × Cuts given ended rest × HideFaultFrom (JudgedHideRest rest) 1 ended fault
+    (ended : List (List ℕ)) × (rest : List ℕ) × Cuts given ended rest
+    × FaultFrom HideFault (JudgedRest HideFault 100000 rest) 1 ended fault

@@ -5,8 +5,7 @@ use Rattle.theory.specs.System.{Transition, IsAmong}
 use Rattle.autfmt.specs.declared.judge.Promise.{Promise}
 use Rattle.autfmt.specs.declared.held.Held.{Held}
 use Rattle.autfmt.specs.Bounds.{Bounds}
-use Rattle.autfmt.specs.Texts.{SpellsTransition, Reads}
-use Rattle.autfmt.specs.Faults.{GoodHeader}
+use Rattle.autfmt.specs.Texts.{GoodHeader, SpellsTransition, Reads}
 use Rattle.autfmt.specs.Cutter.{Cutting, Stands}
 use Rattle.autfmt.specs.Held.{Holds}
 

@@ -5,8 +5,7 @@ use Rattle.lts.specs.Lts.{Grouped, system_of, Groups}
 use Rattle.autfmt.specs.declared.fault.Fault.{Fault}
 use Rattle.autfmt.specs.declared.fault.Fault.TheVariants.{Device, Memory, BadHide, TooManyHidden}
 use Rattle.autfmt.specs.Bounds.{Bounds}
-use Rattle.autfmt.specs.Texts.{Lines, Reads}
-use Rattle.autfmt.specs.Faults.{GoodHeader}
+use Rattle.autfmt.specs.Texts.{Lines, GoodHeader, Reads}
 
 -- a fault of a system's text
 abbrev pub IsTextFault : Fault → Type 0

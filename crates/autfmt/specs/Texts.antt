@@ -1,5 +1,5 @@
 -- Whole texts: their lines, and the system that they spell.
-use Rattle.std.specs.Prelude.{◌≡◌, ◌≢◌, ℕ, ◌≤◌, List, [], ◌∷◌, ◌++◌, length}
+use Rattle.std.specs.Prelude.{◌≡◌, ◌≢◌, ℕ, ◌<◌, ◌≤◌, List, [], ◌∷◌, ◌++◌, length}
 use Rattle.std.specs.List.{All, AllZip, flat_map}
 use Rattle.theory.specs.System.{System, Transition, IsSystem}
 use Rattle.autfmt.specs.Bounds.{Bounds}
@@ -9,13 +9,9 @@ use Rattle.autfmt.specs.Grammar.{Header, TransitionLine}
 abbrev pub IsOneLine : List ℕ → Type 0
 IsOneLine line = All (λ b. b ≢ 10) line
 
--- each line with its line feed
-abbrev pub with_line_feeds : List (List ℕ) → List ℕ
-with_line_feeds lines = flat_map (λ line. line ++ 10 ∷ []) lines
-
 -- the text is these lines, each ended by its line feed, and then a rest without one
 pub record Cuts (text : List ℕ) (ended : List (List ℕ)) (rest : List ℕ) : Type 0 where
-  pub whole : text ≡ with_line_feeds ended ++ rest
+  pub whole : text ≡ flat_map (λ line. line ++ 10 ∷ []) ended ++ rest
   pub lines : All IsOneLine ended
   pub one : IsOneLine rest
 
@@ -32,19 +28,23 @@ Lines text lines = (ended : List (List ℕ)) × (rest : List ℕ) × Cuts text e
 abbrev pub IsShort : List ℕ → Type 0
 IsShort line = length line ≤ 8192
 
+-- line 1 is a good header: it promises m transitions and n states, within the bounds, and starts at f
+pub record GoodHeader (bounds : Bounds) (line : List ℕ) (f m n : ℕ) : Type 0 where
+  pub short : IsShort line
+  pub header : Header line f m n
+  pub first : f < n
+  pub states : n ≤ bounds.states
+  pub transitions : m ≤ bounds.transitions
+
 -- the line spells the transition
 abbrev pub SpellsTransition : List ℕ → Transition → Type 0
 SpellsTransition line e = IsShort line × TransitionLine line e.source e.label e.target
 
--- the lines spell the system: a header, then its transitions in their order
-abbrev pub SpellsSystem : List (List ℕ) → System → Type 0
-SpellsSystem [] A = ⊥
-SpellsSystem (header ∷ lines) A =
-    IsShort header × Header header A.first (length A.transitions) A.states × AllZip SpellsTransition lines A.transitions
-
--- the text reads as the system A, which is within the bounds
+-- the text reads as the system A, which is within the bounds: a good header, then the transitions in their order
 pub record Reads (bounds : Bounds) (text : List ℕ) (A : System) : Type 0 where
-  pub spelled : (lines : List (List ℕ)) × Lines text lines × SpellsSystem lines A
+  pub header : List ℕ
+  pub lines : List (List ℕ)
+  pub whole : Lines text (header ∷ lines)
+  pub good : GoodHeader bounds header A.first (length A.transitions) A.states
+  pub spelled : AllZip SpellsTransition lines A.transitions
   pub system : IsSystem A
-  pub states : A.states ≤ bounds.states
-  pub transitions : length A.transitions ≤ bounds.transitions

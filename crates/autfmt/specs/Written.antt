@@ -10,7 +10,6 @@ use Rattle.theory.specs.System.{System, Transition}
 use Rattle.autfmt.specs.declared.fault.Fault.{Fault}
 use Rattle.autfmt.specs.declared.fault.Fault.TheVariants.{Device}
 use Rattle.autfmt.specs.Grammar.{is_plain, quoted}
-use Rattle.autfmt.specs.Stream.{AppendsBeginning}
 
 -- a label stands plain where it can
 abbrev pub written_label : List ℕ → List ℕ
@@ -52,7 +51,7 @@ GainsText A old new = (text : List ℕ) × Text A text × Appends old new text
 
 -- a sink has gained a beginning of the text of A
 abbrev pub GainsBeginning : System → Option (List ℕ) → Option (List ℕ) → Type 0
-GainsBeginning A old new = (text : List ℕ) × Text A text × AppendsBeginning old new text
+GainsBeginning A old new = (front back : List ℕ) × Text A (front ++ back) × Appends old new front
 
 -- how often a sink that had not failed has failed after a write with this answer
 abbrev pub failures_after : {T : Type 0} → Result T Fault → ℕ

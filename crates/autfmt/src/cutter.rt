@@ -90,8 +90,7 @@ impl Cutter {
     pub(crate) fn advance<R: Source>(&mut self, r: &mut R) -> Result<Step, Broken>
         requires { R.failures r.old ≡ 0 }
         ensures step { (got : List ℕ) × Consumes (R.rest r.old) (R.rest r.new) got ×
-            Advances (self.old.ahead ++ got) result self.new }
-        ensures over { IsTrue self.old.over → result ≡ Ok Step.End }
+            Advances self.old.over (self.old.ahead ++ got) result self.new }
         ensures end { (IsTrue self.old.over → IsAtEnd (R.rest r.old)) →
             IsTrue self.new.over → IsAtEnd (R.rest r.new) }
         ensures failures { CountsFailure result (R.failures r.new) }

@@ -2,8 +2,8 @@
 ghost use Rattle.std.specs.Prelude.{◌≡◌, ℕ, ◌+◌, ◌<◌, ◌≤◌, length, IfOk, IfErr};
 ghost use Rattle.theory.specs.System.{IsLabel};
 ghost use Rattle.autfmt.specs.Grammar.{TransitionLine};
-ghost use Rattle.autfmt.specs.Texts.{IsShort};
-ghost use Rattle.autfmt.specs.Faults.{HeaderFault, GoodHeader, EdgeFault};
+ghost use Rattle.autfmt.specs.Texts.{IsShort, GoodHeader};
+ghost use Rattle.autfmt.specs.Faults.{HeaderFault, EdgeFault};
 ghost use Rattle.autfmt.specs.HideLists.{Hides, HideFault};
 ghost use Rattle.autfmt.specs.Readers.{IsTextFault};
 ghost use Rattle.autfmt.specs.HideReaders.{IsHideFault};

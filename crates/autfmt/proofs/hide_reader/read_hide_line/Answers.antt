@@ -1,7 +1,6 @@
 use Rattle.std.proofs.Common.{inl, arith}
 use Rattle.std.proofs.lemmas.Result.{err_from_is_err_and}
-use Rattle.autfmt.specs.declared.cutter.Step.TheVariants.{Line, TooLong}
-use Rattle.autfmt.proofs.ReaderSteps.{goes_on-step, goes_on-failure}
+use Rattle.autfmt.proofs.ReaderSteps.{goes_on}
 use Rattle.autfmt.proofs.HideSteps.{hide_too_long, hide_ends, hide_failed, hide_good, hide_faulty}
 use Rattle.autfmt.proofs.hide_reader.read_hide_line.Goals as goal
 
@@ -16,7 +15,7 @@ returns-in_err-advance-clause-line g c =
           rw (exit.1, exit.2)
           (hide_failed given c.args.cutter.now H c.args.hidden.now s.0 (g.R.Source.rest c.advance.new.r)
           (g.R.Source.failures c.advance.new.r) so_far (omega arith) (inl (omega arith)) c.in_err-advance.ensures.failures
-          (goes_on-failure c.args.cutter.now.over c.advance.result _ c.advance.ensures.over c.in_err-advance.was) s.2),
+          (goes_on s.2.0) s.2.1),
     )
 
 pub returns-in-TooLong-clause-line : goal.returns-in-TooLong-clause-line
@@ -27,9 +26,7 @@ returns-in-TooLong-clause-line g c =
       λ given H so_far count.
           hide_too_long given c.args.cutter.now H c.args.hidden.now s.0 (g.R.Source.rest c.advance.new.r)
           (g.R.Source.failures c.advance.new.r) c.args.found so_far count c.requires.more c.in_ok-advance.ensures.failures
-          (goes_on-step c.args.cutter.now.over c.advance.result c.in_ok-advance.field-0 TooLong c.advance.ensures.over
-          c.in_ok-advance.was c.in-TooLong.is (λ e. cc))
-          s.2,
+          (goes_on s.2.0) s.2.1,
     )
 
 pub returns-in-End-clause-line : goal.returns-in-End-clause-line
@@ -45,29 +42,27 @@ returns-in-End-clause-line g c =
 pub returns-in_err-label-clause-line : goal.returns-in_err-label-clause-line
 returns-in_err-label-clause-line g c =
     let s = rw c.in-Line.is at c.in_ok-advance.ensures.step in
-    let exit = err_from_is_err_and c.from_residual-in_err-label.result c.from_residual-in_err-label.ensures.1 in (
+    let exit = err_from_is_err_and c.from_residual-in_err-label.result c.from_residual-in_err-label.ensures.1 in
+    let bad = rw c.line.ensures at c.in_err-label.ensures.fault in (
       s.0,
       s.1,
       λ given H so_far count.
           rw (exit.1, exit.2)
           (hide_faulty given c.args.cutter.now c.advance.new.self H c.args.hidden.now s.0 (g.R.Source.rest c.advance.new.r)
           (g.R.Source.failures c.advance.new.r) c.args.found _ so_far count c.requires.more c.in_ok-advance.ensures.failures
-          (goes_on-step c.args.cutter.now.over c.advance.result c.in_ok-advance.field-0 Line c.advance.ensures.over
-          c.in_ok-advance.was c.in-Line.is (λ e. cc))
-          (c.advance.ensures.end c.requires.end) s.2
-          (rw c.line.ensures at c.in_err-label.ensures.fault) c.in_err-label.ensures.kind),
+          (goes_on s.2.0) (c.advance.ensures.end c.requires.end) s.2.1 bad c.in_err-label.ensures.kind),
     )
 
 pub returns-clause-line : goal.returns-clause-line
 returns-clause-line g c =
-    let s = rw c.in-Line.is at c.in_ok-advance.ensures.step in (
+    let s = rw c.in-Line.is at c.in_ok-advance.ensures.step in
+    let a = c.in_ok-label.label.now in
+    let good = rw c.line.ensures at c.in_ok-label.ensures.good in (
       s.0,
       s.1,
       λ given H so_far count. (
-        c.in_ok-label.label.now,
-        hide_good given c.args.cutter.now c.advance.new.self H c.args.hidden.now s.0 c.in_ok-label.label.now c.add.new.self so_far
-            (goes_on-step c.args.cutter.now.over c.advance.result c.in_ok-advance.field-0 Line c.advance.ensures.over
-            c.in_ok-advance.was c.in-Line.is (λ e. cc))
-            s.2 (rw c.line.ensures at c.in_ok-label.ensures.good) c.in_ok-add.ensures.added,
+        a,
+        hide_good given c.args.cutter.now c.advance.new.self H c.args.hidden.now s.0 a c.add.new.self so_far (goes_on s.2.0) s.2.1 good
+            c.in_ok-add.ensures.added,
       ),
     )

@@ -1,10 +1,13 @@
-use Rattle.std.proofs.Common.{◌+◌, ℕ, [], ◌∷◌, ◌++◌, length, Ok, ◌∙◌, ap, refl, arith}
+use Rattle.std.proofs.Common.{◌+◌, ℕ, List, [], ◌∷◌, ◌++◌, length, Ok, ◌∙◌, ap, refl, arith}
 use Rattle.std.proofs.lemmas.List.{length_push}
 use Rattle.std.proofs.lemmas.Result.{err_from_is_err_and}
+use Rattle.std.specs.Io.KnownBytes.{Consumes}
 use Rattle.std.proofs.KnownBytes.{Consumes-nil, Consumes-trans}
 use Rattle.autfmt.proofs.HideSteps.{HideReadSoFar-new, hide_ends, hide_behind, hide_end_failed}
 use Rattle.autfmt.proofs.ReaderSteps.{fresh_goes_on}
+use Rattle.autfmt.proofs.hide_reader.read_labels.Given.{Over}
 use Rattle.autfmt.proofs.hide_reader.read_labels.Goals as goal
+use Rattle.autfmt.proofs.hide_reader.read_labels.Goals.{After-read_hide_line, After-is_at_end}
 
 pub loop-found-init : goal.loop-found-init
 loop-found-init g c = record {
@@ -20,6 +23,14 @@ loop-found-init g c = record {
   end = λ over. absurd (fresh_goes_on c.new-cutter.result c.new-cutter.ensures over);
 }
 
+-- the bytes of the lines before, and of one line more
+took_line : (g : Over) (c : After-read_hide_line g) (line : List ℕ) →
+    Consumes (g.R.Source.rest c.loop-found.r) (g.R.Source.rest c.read_hide_line.new.r) line →
+    Consumes (g.R.Source.rest c.args.r.now) (g.R.Source.rest c.read_hide_line.new.r) (c.loop-found.invariant.got.0 ++ line)
+took_line g c line taken =
+    Consumes-trans (g.R.Source.rest c.args.r.now) (g.R.Source.rest c.loop-found.r) (g.R.Source.rest c.read_hide_line.new.r)
+    c.loop-found.invariant.got.0 line c.loop-found.invariant.got.1 taken
+
 pub returns-in_err-some : goal.returns-in_err-some
 returns-in_err-some g c =
     let so_far = c.loop-found.invariant.got in
@@ -27,9 +38,7 @@ returns-in_err-some g c =
     let exit = err_from_is_err_and c.from_residual.result c.from_residual.ensures.1 in
     record {
       given = so_far.0 ++ step.0;
-      took =
-          Consumes-trans (g.R.Source.rest c.args.r.now) (g.R.Source.rest c.loop-found.r) (g.R.Source.rest c.read_hide_line.new.r)
-          so_far.0 step.0 so_far.1 step.1;
+      took = took_line g (goal.at.returns-in_err-some g c).After-read_hide_line step.0 step.1;
       outcome = rw (exit.1, exit.2) (step.2 so_far.0 so_far.2 so_far.3 so_far.4);
     }
 
@@ -39,9 +48,7 @@ returns-then-not-some g c =
     let step = rw c.if-not-some.true at c.in_ok-some.ensures.line in
     record {
       given = so_far.0 ++ step.0;
-      took =
-          Consumes-trans (g.R.Source.rest c.args.r.now) (g.R.Source.rest c.loop-found.r) (g.R.Source.rest c.read_hide_line.new.r)
-          so_far.0 step.0 so_far.1 step.1;
+      took = took_line g (goal.at.returns-then-not-some g c).After-read_hide_line step.0 step.1;
       outcome = record {
         read = step.2 so_far.0 so_far.2 so_far.3 so_far.4;
         at_end = c.in_ok-some.ensures.last (ap Ok c.if-not-some.true);
@@ -58,8 +65,7 @@ loop-found-preserved g c =
     record {
       got = (
         so_far.0 ++ step.0,
-        Consumes-trans (g.R.Source.rest c.args.r.now) (g.R.Source.rest c.loop-found.r) (g.R.Source.rest c.read_hide_line.new.r)
-            so_far.0 step.0 so_far.1 step.1,
+        took_line g (goal.at.loop-found-preserved g c).After-read_hide_line step.0 step.1,
         so_far.2 ++ next.0 ∷ [],
         next.1,
         length_push so_far.2 next.0 ∙ ap (λ (n : ℕ). n + 1) count,
@@ -69,6 +75,14 @@ loop-found-preserved g c =
       end = c.in_ok-some.ensures.end;
     }
 
+-- the bytes of all lines, and those that the look behind them took
+took_end : (g : Over) (c : After-is_at_end g) (last : List ℕ) →
+    Consumes (g.R.Source.rest c.loop-found.r) (g.R.Source.rest c.is_at_end.new.r) last →
+    Consumes (g.R.Source.rest c.args.r.now) (g.R.Source.rest c.is_at_end.new.r) (c.loop-found.invariant.got.0 ++ last)
+took_end g c last taken =
+    Consumes-trans (g.R.Source.rest c.args.r.now) (g.R.Source.rest c.loop-found.r) (g.R.Source.rest c.is_at_end.new.r)
+    c.loop-found.invariant.got.0 last c.loop-found.invariant.got.1 taken
+
 pub returns-in_err-at_end : goal.returns-in_err-at_end
 returns-in_err-at_end g c =
     let so_far = c.loop-found.invariant.got in
@@ -77,9 +91,7 @@ returns-in_err-at_end g c =
     let exit = err_from_is_err_and c.from_residual-in_err-at_end.result c.from_residual-in_err-at_end.ensures.1 in
     record {
       given = so_far.0 ++ last.0;
-      took =
-          Consumes-trans (g.R.Source.rest c.args.r.now) (g.R.Source.rest c.loop-found.r) (g.R.Source.rest c.is_at_end.new.r)
-          so_far.0 last.0 so_far.1 last.1;
+      took = took_end g (goal.at.returns-in_err-at_end g c).After-is_at_end last.0 last.1;
       outcome =
           rw (exit.1, exit.2)
           (hide_end_failed so_far.0 c.loop-found.cutter so_far.2 c.loop-found.hidden last.0 (g.R.Source.rest c.is_at_end.new.r)
@@ -94,9 +106,7 @@ returns-then-not-at_end g c =
     let count = so_far.4 in
     record {
       given = so_far.0 ++ last.0;
-      took =
-          Consumes-trans (g.R.Source.rest c.args.r.now) (g.R.Source.rest c.loop-found.r) (g.R.Source.rest c.is_at_end.new.r)
-          so_far.0 last.0 so_far.1 last.1;
+      took = took_end g (goal.at.returns-then-not-at_end g c).After-is_at_end last.0 last.1;
       outcome =
           hide_behind so_far.0 c.loop-found.cutter so_far.2 c.loop-found.hidden last.0 (g.R.Source.rest c.is_at_end.new.r)
           (g.R.Source.failures c.is_at_end.new.r) so_far.3 (omega arith) c.in_ok-at_end.ensures.failures
@@ -111,9 +121,7 @@ returns g c =
     let count = so_far.4 in
     record {
       given = so_far.0 ++ last.0;
-      took =
-          Consumes-trans (g.R.Source.rest c.args.r.now) (g.R.Source.rest c.loop-found.r) (g.R.Source.rest c.is_at_end.new.r)
-          so_far.0 last.0 so_far.1 last.1;
+      took = took_end g (goal.at.returns g c).After-is_at_end last.0 last.1;
       outcome = record {
         read = hide_ends so_far.0 c.loop-found.cutter so_far.2 c.loop-found.hidden last.0 so_far.3 (omega arith) (last.2.2 refl);
         at_end = c.is_at_end.ensures.end c.loop-found.invariant.end last.2.1;

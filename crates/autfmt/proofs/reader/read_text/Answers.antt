@@ -1,9 +1,15 @@
-use Rattle.std.proofs.Common.{◌++◌, sym, refl}
+use Rattle.std.proofs.Common.{◌≡◌, List, ℕ, ◌++◌, length, sym, refl}
+use Rattle.std.specs.Io.KnownBytes.{Consumes}
 use Rattle.std.proofs.lemmas.Result.{err_from_is_err_and}
 use Rattle.std.proofs.KnownBytes.{Consumes-trans}
+use Rattle.theory.specs.System.{Transition}
+use Rattle.autfmt.specs.declared.judge.Promise.{Promise}
+use Rattle.autfmt.specs.ReadSoFar.{Standing}
 use Rattle.autfmt.proofs.Holding.{Holds-new}
 use Rattle.autfmt.proofs.ReaderSteps.{end_failed, text_behind, text_ends, count_held}
+use Rattle.autfmt.proofs.reader.read_text.Given.{Over}
 use Rattle.autfmt.proofs.reader.read_text.Goals as goal
+use Rattle.autfmt.proofs.reader.read_text.Goals.{After-is_at_end}
 
 pub returns-in_err-read_transitions-clause-whole : goal.returns-in_err-read_transitions-clause-whole
 returns-in_err-read_transitions-clause-whole g c =
@@ -22,78 +28,77 @@ returns-in_err-read_transitions-clause-whole g c =
           rw (exit.1, exit.2) (then.2 c.args.lim.now first.given (first.outcome, held));
     }
 
+-- what was read before the look behind the transitions
+module _ (g : Over) (c : After-is_at_end g) where
+  abbrev p : Promise
+  p = c.in_ok-promise.promise
+
+  abbrev front : List ℕ
+  front = c.in_ok-promise.ensures.header.given ++ c.in_ok-read_transitions.ensures.transitions.0
+
+  transitions : (es : List Transition) × Standing c.args.lim.now c.args.h.now front c.read_transitions.new.cutter p c.read_transitions.new.held es
+  transitions =
+      let first = c.in_ok-promise.ensures.header in
+      let held = Holds-new c.args.h.now p.states c.new-held.result c.new-held.ensures.labels c.new-held.ensures.triples in
+      c.in_ok-read_transitions.ensures.transitions.2 c.args.lim.now first.given (first.outcome, held)
+
+  count : length transitions.0 ≡ p.transitions
+  count =
+      count_held c.args.h.now p.states c.read_transitions.new.held transitions.0 p.transitions transitions.1.1
+      (sym c.in_ok-read_transitions.ensures.len)
+
+  took : (last : List ℕ) → Consumes (g.R.Source.rest c.read_transitions.new.r) (g.R.Source.rest c.is_at_end.new.r) last →
+      Consumes (g.R.Source.rest c.args.r.now) (g.R.Source.rest c.is_at_end.new.r) (front ++ last)
+  took last taken =
+      let first = c.in_ok-promise.ensures.header in
+      let then = c.in_ok-read_transitions.ensures.transitions in
+      Consumes-trans (g.R.Source.rest c.args.r.now) (g.R.Source.rest c.read_transitions.new.r) (g.R.Source.rest c.is_at_end.new.r)
+      front last
+      (Consumes-trans (g.R.Source.rest c.args.r.now) (g.R.Source.rest c.read_header.new.r) (g.R.Source.rest c.read_transitions.new.r)
+      first.given then.0 first.took then.1) taken
+
 pub returns-in_err-at_end-clause-whole : goal.returns-in_err-at_end-clause-whole
 returns-in_err-at_end-clause-whole g c =
-    let first = c.in_ok-promise.ensures.header in
-    let then = c.in_ok-read_transitions.ensures.transitions in
+    let at = (goal.at.returns-in_err-at_end-clause-whole g c).After-is_at_end in
     let last = c.in_err-at_end.ensures.look in
     let exit = err_from_is_err_and c.from_residual-in_err-at_end.result c.from_residual-in_err-at_end.ensures.1 in
-    let p = c.in_ok-promise.promise in
-    let held = Holds-new c.args.h.now p.states c.new-held.result c.new-held.ensures.labels c.new-held.ensures.triples in
-    let all = then.2 c.args.lim.now first.given (first.outcome, held) in
-    let count =
-    count_held c.args.h.now p.states c.read_transitions.new.held all.0 p.transitions all.1.1
-    (sym c.in_ok-read_transitions.ensures.len) in
     record {
-      given = first.given ++ then.0 ++ last.0;
-      took =
-          Consumes-trans (g.R.Source.rest c.args.r.now) (g.R.Source.rest c.read_transitions.new.r) (g.R.Source.rest c.is_at_end.new.r)
-          (first.given ++ then.0) last.0
-          (Consumes-trans (g.R.Source.rest c.args.r.now) (g.R.Source.rest c.read_header.new.r) (g.R.Source.rest c.read_transitions.new.r)
-          first.given then.0 first.took then.1) last.1;
+      given = front g at ++ last.0;
+      took = took g at last.0 last.1;
       outcome =
           rw (exit.1, exit.2)
-          (end_failed c.args.lim.now (first.given ++ then.0) c.read_transitions.new.cutter p all.0 last.0
-          (g.R.Source.rest c.is_at_end.new.r) (g.R.Source.failures c.is_at_end.new.r) all.1.0 count c.in_err-at_end.ensures.failures
+          (end_failed c.args.lim.now (front g at) c.read_transitions.new.cutter (p g at) (transitions g at).0 last.0
+          (g.R.Source.rest c.is_at_end.new.r) (g.R.Source.failures c.is_at_end.new.r) (transitions g at).1.0 (count g at)
+          c.in_err-at_end.ensures.failures
           (λ over. let a = c.is_at_end.ensures.over over in let b = c.in_err-at_end.was in cc) last.2);
     }
 
 pub returns-then-not-at_end-clause-whole : goal.returns-then-not-at_end-clause-whole
 returns-then-not-at_end-clause-whole g c =
-    let first = c.in_ok-promise.ensures.header in
-    let then = c.in_ok-read_transitions.ensures.transitions in
+    let at = (goal.at.returns-then-not-at_end-clause-whole g c).After-is_at_end in
     let last = rw c.if-not-at_end.true at c.in_ok-at_end.ensures.look in
-    let p = c.in_ok-promise.promise in
-    let held = Holds-new c.args.h.now p.states c.new-held.result c.new-held.ensures.labels c.new-held.ensures.triples in
-    let all = then.2 c.args.lim.now first.given (first.outcome, held) in
-    let count =
-    count_held c.args.h.now p.states c.read_transitions.new.held all.0 p.transitions all.1.1
-    (sym c.in_ok-read_transitions.ensures.len) in
     record {
-      given = first.given ++ then.0 ++ last.0;
-      took =
-          Consumes-trans (g.R.Source.rest c.args.r.now) (g.R.Source.rest c.read_transitions.new.r) (g.R.Source.rest c.is_at_end.new.r)
-          (first.given ++ then.0) last.0
-          (Consumes-trans (g.R.Source.rest c.args.r.now) (g.R.Source.rest c.read_header.new.r) (g.R.Source.rest c.read_transitions.new.r)
-          first.given then.0 first.took then.1) last.1;
+      given = front g at ++ last.0;
+      took = took g at last.0 last.1;
       outcome =
-          text_behind c.args.lim.now (first.given ++ then.0) c.read_transitions.new.cutter p all.0 last.0
-          (g.R.Source.rest c.is_at_end.new.r) (g.R.Source.failures c.is_at_end.new.r) all.1.0 count c.in_ok-at_end.ensures.failures
+          text_behind c.args.lim.now (front g at) c.read_transitions.new.cutter (p g at) (transitions g at).0 last.0
+          (g.R.Source.rest c.is_at_end.new.r) (g.R.Source.failures c.is_at_end.new.r) (transitions g at).1.0 (count g at)
+          c.in_ok-at_end.ensures.failures
           (λ over. let a = c.is_at_end.ensures.over over in let b = c.in_ok-at_end.was in let d = c.if-not-at_end.true in cc)
           (last.2.3 refl);
     }
 
 pub returns-clause-whole : goal.returns-clause-whole
 returns-clause-whole g c =
-    let first = c.in_ok-promise.ensures.header in
-    let then = c.in_ok-read_transitions.ensures.transitions in
+    let at = (goal.at.returns-clause-whole g c).After-is_at_end in
     let last = rw c.if-not-at_end.false at c.in_ok-at_end.ensures.look in
-    let p = c.in_ok-promise.promise in
-    let held = Holds-new c.args.h.now p.states c.new-held.result c.new-held.ensures.labels c.new-held.ensures.triples in
-    let all = then.2 c.args.lim.now first.given (first.outcome, held) in
-    let count =
-    count_held c.args.h.now p.states c.read_transitions.new.held all.0 p.transitions all.1.1
-    (sym c.in_ok-read_transitions.ensures.len) in
     record {
-      given = first.given ++ then.0 ++ last.0;
-      took =
-          Consumes-trans (g.R.Source.rest c.args.r.now) (g.R.Source.rest c.read_transitions.new.r) (g.R.Source.rest c.is_at_end.new.r)
-          (first.given ++ then.0) last.0
-          (Consumes-trans (g.R.Source.rest c.args.r.now) (g.R.Source.rest c.read_header.new.r) (g.R.Source.rest c.read_transitions.new.r)
-          first.given then.0 first.took then.1) last.1;
+      given = front g at ++ last.0;
+      took = took g at last.0 last.1;
       outcome = (
-        all.0,
-        text_ends c.args.lim.now (first.given ++ then.0) c.read_transitions.new.cutter p all.0 last.0 all.1.0 count (last.2.2 refl),
-        all.1.1,
+        (transitions g at).0,
+        text_ends c.args.lim.now (front g at) c.read_transitions.new.cutter (p g at) (transitions g at).0 last.0
+            (transitions g at).1.0 (count g at) (last.2.2 refl),
+        (transitions g at).1.1,
       );
     }

@@ -6,7 +6,7 @@ use Rattle.theory.specs.System.{IsLabel}
 use Rattle.autfmt.specs.Grammar.{is_plain}
 use Rattle.autfmt.specs.Ranks.{numbers, texts}
 use Rattle.autfmt.proofs.ByRank.{numbers_below, texts_are_labels, ranks_from_calls, text_from_calls}
-use Rattle.autfmt.proofs.Progress.{on_device}
+use Rattle.autfmt.proofs.Progress.{on_device, text_gains_beginning}
 use Rattle.autfmt.proofs.writer.write.Goals as goal
 
 pub ranks-requires-clause-numbers : goal.ranks-requires-clause-numbers
@@ -34,13 +34,14 @@ pub returns-in_err-put_system-clause-device : goal.returns-in_err-put_system-cla
 returns-in_err-put_system-clause-device g c =
     let text = text_from_calls c.args.s.now c.labels.result.now _ _ _ _ _ _ _ c.first.result c.states.result c.labels.ensures c.deref.ensures.value c.deref-4.ensures.value c.deref-2.ensures.value c.deref-6.ensures.value c.first.ensures c.states.ensures.value
     c.states.ensures.lts c.in_ok-entries.ensures.ok c.in_ok-ranks.ensures.ok c.in_ok-order.ensures.same c.in_ok-order.ensures.sorted in
-    on_device c.from_residual-in_err-put_system.result (_, text, c.in_err-put_system.ensures.err)
+    on_device c.from_residual-in_err-put_system.result (text_gains_beginning _ _ text c.in_err-put_system.ensures.err)
 
 pub returns-in_err-finish-clause-device : goal.returns-in_err-finish-clause-device
 returns-in_err-finish-clause-device g c =
     let text = text_from_calls c.args.s.now c.labels.result.now _ _ _ _ _ _ _ c.first.result c.states.result c.labels.ensures c.deref.ensures.value c.deref-4.ensures.value c.deref-2.ensures.value c.deref-6.ensures.value c.first.ensures c.states.ensures.value
     c.states.ensures.lts c.in_ok-entries.ensures.ok c.in_ok-ranks.ensures.ok c.in_ok-order.ensures.same c.in_ok-order.ensures.sorted in
-    on_device c.from_residual-in_err-finish.result (_, text, (_, [], sym (append-nil _), Appends-kept _ _ _ _ c.in_ok-put_system.ensures.ok c.in_err-finish.ensures.bytes))
+    on_device c.from_residual-in_err-finish.result
+    (text_gains_beginning _ _ text (_, [], sym (append-nil _), Appends-kept _ _ _ _ c.in_ok-put_system.ensures.ok c.in_err-finish.ensures.bytes))
 
 pub returns-clause-text : goal.returns-clause-text
 returns-clause-text g c =

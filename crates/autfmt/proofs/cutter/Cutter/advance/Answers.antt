@@ -20,4 +20,4 @@ returns-in-Some-clause-step g c =
       ahead = slice_range i.piece (i.from + (at + 1)) i.to;
       over = i.over;
     }) in
-    ([], Consumes-nil (g.R.Source.rest c.args.r.now), subst at_bytes e cut)
+    ([], Consumes-nil (g.R.Source.rest c.args.r.now), (ap (λ (v : Cutting). v.over) (sym c.self.view_is) ∙ c.if-self.false, subst at_bytes e cut))
