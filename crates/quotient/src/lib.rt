@@ -4,19 +4,11 @@
 
 mod allowance;
 mod comparison;
-#[cfg(test)]
-mod comparison_tests;
 mod minimisation;
-#[cfg(test)]
-mod minimisation_tests;
 mod numbering;
 mod relation;
 mod search;
-#[cfg(test)]
-mod search_tests;
 mod table;
-#[cfg(test)]
-mod test_systems;
 mod triples;
 
 pub use allowance::the_bounds_are_within_the_allowance;

@@ -41,7 +41,7 @@ struct Search {
 }
 
 impl Search {
-    /// MarksState the state `s` and puts it on the stack, unless it was marked before.
+    /// Marks the state `s` and puts it on the stack, unless it was marked before.
     fn mark(&mut self, s: u32) -> Result<(), Memory>
         requires { s < length self.old.marked.items }
         ensures { let marks = MarksState s self.old.marked.items self.old.stack.items in
@@ -54,7 +54,7 @@ impl Search {
         Ok(())
     }
 
-    /// MarksState the states that the steps of `s` lead to.
+    /// Marks the states that the steps of `s` lead to.
     fn mark_targets<M: Meter>(&mut self, l: &Lts<M>, s: u32, m: &mut M) -> Result<(), Memory>
         requires search { Searches l.now self.old.marked.items (s ∷ self.old.stack.items) }
         requires room { HasRoomFor (M.counted m.old) 0 (length (row_of s l.now.places)) }

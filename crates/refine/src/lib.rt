@@ -12,8 +12,6 @@ mod signatures;
 mod span;
 mod splitter;
 mod strong;
-#[cfg(test)]
-mod tests;
 mod walk;
 mod walking;
 

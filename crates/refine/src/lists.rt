@@ -3,9 +3,6 @@ ghost use Rattle.std.specs.Prelude.{◌≡◌, ◌↔◌, ◌+◌, ◌++◌, ◌
 ghost use Rattle.refine.specs.Lists.{list_at};
 ghost use Rattle.refine.specs.Spans.{fingerprint_of};
 
-#[cfg(test)]
-mod tests;
-
 use crate::span::{Span, are_same, empty_span, fingerprint, list_of};
 use lts::Memory;
 use std::alloc::Global;

@@ -1,0 +1,22 @@
+//! The worked examples: small systems that are known by name, and what each call of the crates below makes of them.
+//! Tests alone.
+#![tactic(auto)]
+
+#[cfg(test)]
+mod branching;
+#[cfg(test)]
+mod comparisons;
+#[cfg(test)]
+mod named;
+#[cfg(test)]
+mod quotients;
+#[cfg(test)]
+mod reached;
+#[cfg(test)]
+mod refining;
+#[cfg(test)]
+mod splits;
+#[cfg(test)]
+mod strong;
+#[cfg(test)]
+mod texts;

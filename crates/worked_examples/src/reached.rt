@@ -1,0 +1,67 @@
+//! Which states are reachable.
+use crate::texts::system;
+use lts::{Counter, Lts, Memory, Meter};
+use quotient::reachable;
+use std::alloc::Global;
+use std::test::Fail;
+
+/// An example: its system, and what is wanted of it.
+type Row = (&'static str, &'static str);
+
+const REACHED: [Row; 8] = [
+    // A lone state, and one that leads to itself.
+    ("0 of 1", "0 by 0 visits, 0 rounds"),
+    ("0 of 1; 0 a 0", "0 by 1 visits, 0 rounds"),
+    // A chain, from its start and from its middle.
+    (
+        "0 of 4; 2 a 3; 0 a 1; 1 a 2",
+        "0 1 2 3 by 3 visits, 0 rounds",
+    ),
+    ("2 of 4; 2 a 3; 0 a 1; 1 a 2", "2 3 by 1 visits, 0 rounds"),
+    // Two states that nothing leads to.
+    ("0 of 3; 1 a 2", "0 by 0 visits, 0 rounds"),
+    // A cycle, with a state before it.
+    (
+        "1 of 4; 0 a 1; 1 a 2; 2 a 3; 3 a 1",
+        "1 2 3 by 3 visits, 0 rounds",
+    ),
+    // Several transitions to one state.
+    (
+        "0 of 3; 0 a 1; 0 a 1; 0 a 2; 1 a 2; 2 a 1",
+        "0 1 2 by 5 visits, 0 rounds",
+    ),
+    // A branch whose later half leads back to its earlier one.
+    (
+        "3 of 5; 3 a 0; 3 a 4; 4 a 0; 0 a 3; 1 a 0; 2 a 1",
+        "0 3 4 by 4 visits, 0 rounds",
+    ),
+];
+
+/// The reachable states in their order, and how many visits and rounds were made to find them.
+fn shown(alloc: Global, l: &Lts<Counter>) -> Result<String, Memory> {
+    let mut m = Counter::new();
+    let mut text = String::new(alloc);
+    if m.has_room(0, u128::from(l.edges())) {
+        append_marked(alloc, &reachable(alloc, l, &mut m)?, &mut text)?;
+    }
+    text.push_str(&format!(in alloc; "by {} visits, {} rounds", m.visits(), m.rounds())?)?;
+    Ok(text)
+}
+
+fn append_marked(alloc: Global, marks: &[bool], text: &mut String) -> Result<(), Memory> {
+    for (s, is_marked) in marks.iter().enumerate() {
+        if *is_marked {
+            text.push_str(&format!(in alloc; "{s} ")?)?;
+        }
+    }
+    Ok(())
+}
+
+#[test]
+fn finds_what_is_reachable(rt: HostRuntime) -> Result<(), Fail> {
+    for (text, want) in REACHED {
+        let l = system(rt.alloc(), text)?;
+        assert_eq!(rt; shown(rt.alloc(), &l)?.as_str(), want, "{text}");
+    }
+    Ok(())
+}

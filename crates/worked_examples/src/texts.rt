@@ -1,0 +1,86 @@
+//! Systems as texts: `1 of 3; 1 a 0; 0 SEND !1 2` has the first state 1, 3 states, and two steps.
+use lts::{Counter, Labels, Lts, MOST_LABELS, Memory, Meter, in_range, is_label};
+use std::alloc::Global;
+use std::test::Fail;
+
+/// The system that the text spells. Its labels are numbered in the order of the text.
+///
+/// Fails if the text spells none.
+pub(crate) fn system(alloc: Global, text: &str) -> Result<Lts<Counter>, Fail> {
+    match read(alloc, text)? {
+        Some(l) => Ok(l),
+        None => Err(Fail::new("the text spells no system")),
+    }
+}
+
+/// The system, or none if the text spells none.
+fn read(alloc: Global, text: &str) -> Result<Option<Lts<Counter>>, Memory> {
+    let mut labels = Labels::new(alloc);
+    let mut steps = Vec::new(alloc);
+    let mut parts = text.split("; ");
+    let Some((first, states)) = parts.next().and_then(sizes) else {
+        return Ok(None);
+    };
+    for part in parts {
+        let Some((source, label, target)) = step(part) else {
+            return Ok(None);
+        };
+        if !is_label(label.as_bytes()) || labels.len() >= MOST_LABELS {
+            return Ok(None);
+        }
+        steps.push((source, labels.intern(label.as_bytes())?, target))?;
+    }
+    if !in_range(&labels, first, states, &steps) {
+        return Ok(None);
+    }
+    Ok(Some(Lts::build(alloc, labels, first, states, steps)?))
+}
+
+/// The first state, and how many there are.
+fn sizes(part: &str) -> Option<(u32, u32)> {
+    let (first, states) = part.split_once(" of ")?;
+    Some((first.parse().ok()?, states.parse().ok()?))
+}
+
+/// A source, a label and a target. The label may have blanks.
+fn step(part: &str) -> Option<(u32, &str, u32)> {
+    let (source, rest) = part.split_once(' ')?;
+    let (label, target) = rest.rsplit_once(' ')?;
+    Some((source.parse().ok()?, label, target.parse().ok()?))
+}
+
+/// The text that spells the system, with its steps in the order of their sources.
+pub(crate) fn spelled(alloc: Global, l: &Lts<Counter>) -> Result<String, Memory> {
+    let mut text = format!(in alloc; "{} of {}", l.first(), l.states())?;
+    for s in 0..l.states() {
+        append_row(alloc, l, s, &mut text)?;
+    }
+    Ok(text)
+}
+
+/// Appends the steps of a state.
+fn append_row(alloc: Global, l: &Lts<Counter>, s: u32, text: &mut String) -> Result<(), Memory> {
+    let mut m = Counter::new();
+    if s >= l.states() {
+        return Ok(());
+    }
+    let (start, end) = l.row(s);
+    for k in start..end {
+        if k < l.edges() && m.has_room(0, 1) {
+            let (label, target) = l.edge(k, &mut m);
+            text.push_str(&format!(in alloc; "; {s} ")?)?;
+            append_label(l, label, text)?;
+            text.push_str(&format!(in alloc; " {target}")?)?;
+        }
+    }
+    Ok(())
+}
+
+fn append_label(l: &Lts<Counter>, label: u32, text: &mut String) -> Result<(), Memory> {
+    if label < l.labels().len() {
+        for b in l.labels().text(label) {
+            text.push(*b as char)?;
+        }
+    }
+    Ok(())
+}
