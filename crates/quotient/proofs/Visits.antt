@@ -1,9 +1,12 @@
 -- Rounds and visits: they stay far below what a meter can count, and within their bounds.
 use Rattle.std.proofs.Common.{◌≡◌, ℕ, ◌+◌, ◌*◌, ◌≤◌, Result, Ok, Err, IfOk, length, ap, arith}
 use Rattle.std.proofs.lemmas.Nat.{mul-le}
+use Rattle.theory.specs.Union.{union_of}
+use Rattle.theory.specs.Bisimulation.{Relation}
 use Rattle.lts.specs.Meter.{Counts, IsFresh, HasRoomFor, Costs, on_ok}
-use Rattle.lts.specs.Lts.{Grouped, IsLts}
-use Rattle.quotient.specs.Bounds.{KeepsTo}
+use Rattle.lts.specs.Lts.{Grouped, IsLts, system_of}
+use Rattle.quotient.specs.Bounds.{TakesTurns, KeepsTo}
+use Rattle.quotient.proofs.Unions.{union_states, union_places}
 
 -- as many rounds as states visit so many transitions at most
 product_small : (l : Grouped) → IsLts l → (r : ℕ) → r ≤ l.states → r * length l.places ≤ 40000000000000
@@ -35,34 +38,53 @@ on_ok_le : {T E : Type 0} (result : Result T E) (n : ℕ) → on_ok result n ≤
 on_ok_le (Ok x) n = omega arith
 on_ok_le (Err e) n = omega arith
 
--- the rounds of one refinement and at most so many times over the transitions keep to the bounds
-pub keeps_to : {T E : Type 0} (result : Result T E) (states m extra r : ℕ) (at : Counts) → r ≤ states → at.rounds ≡ r →
-    r * m ≤ at.visits → at.visits ≤ (r + extra) * m → KeepsTo states m extra at (on_ok result (at.rounds * m))
-keeps_to result states m extra r at few made least most = rw made (record {
-  few_rounds = few;
-  at_least = omega (arith, on_ok_le result (r * m), least);
-  at_most = most;
-})
+-- visits without a round, and others after them
+pub visits_then : (old mid new : Counts) (first second : ℕ) → Costs old mid 0 0 first → Costs mid new 0 0 second → Costs old new 0 0 (first + second)
+visits_then old mid new first second before after = record {
+  rounds = omega (arith, before.rounds, after.rounds);
+  at_least = omega (arith, before.at_least, after.at_least);
+  at_most = omega (arith, before.at_most, after.at_most);
+}
 
--- a union's visits of its n transitions, and then the rounds of one refinement of the union
-module _ (states k n r : ℕ) (all : n ≡ k) (old mid at : Counts) (fresh : IsFresh old) (few : r ≤ states) (union : Costs old mid 0 k k) where
-  pub compared_keeps : Costs mid at r (r * n) (r * n) → KeepsTo states k 1 at ((at.rounds + 1) * k)
+-- the rounds of one refinement, and then the transitions at most twice, keep to the bounds
+pub turns_keep : {T E : Type 0} (result : Result T E) (rel : Relation) (l : Grouped) (old mid at : Counts) (more : ℕ) → more ≤ 2 * length l.places →
+    IsFresh old → TakesTurns rel l old mid → Costs mid at 0 0 more → KeepsTo l.states (length l.places) 2 at (on_ok result (at.rounds * length l.places))
+turns_keep result rel l old mid at more twice fresh turns after =
+    let made : at.rounds ≡ turns.0 = omega (arith, fresh.no_rounds, turns.3.rounds, after.rounds) in
+    rw made (record {
+      few_rounds = turns.1;
+      at_least = omega (arith, on_ok_le result (turns.0 * length l.places), fresh.no_visits, turns.3.at_least, after.at_least);
+      at_most = omega (arith, twice, fresh.no_visits, turns.3.at_most, after.at_most);
+    })
+
+-- the union's visits of all transitions of both, and then rounds of refinement of it
+module _ (a b u : Grouped) (same : system_of u ≡ union_of (system_of a) (system_of b)) (old mid at : Counts) (fresh : IsFresh old)
+    (union : Costs old mid 0 (length a.places + length b.places) (length a.places + length b.places)) (r : ℕ) (low : r ≤ u.states) where
+  -- how many transitions both have
+  abbrev pub both : ℕ
+  both = length a.places + length b.places
+
+  few : r ≤ a.states + b.states
+  few = omega (arith, low, union_states a b u same)
+
+  all : r * length u.places ≡ r * both
+  all = ap (λ m. r * m) (union_places a b u same)
+
+  pub compared_keeps : Costs mid at r (r * length u.places) (r * length u.places) → KeepsTo (a.states + b.states) both 1 at ((at.rounds + 1) * both)
   compared_keeps turns =
       let rounds : at.rounds ≡ r = omega (arith, fresh.no_rounds, union.rounds, turns.rounds) in
-      let visits : r * n ≡ r * k = ap (λ m. r * m) all in
       rw rounds (record {
         few_rounds = few;
-        at_least = omega (arith, fresh.no_visits, union.at_least, turns.at_least);
-        at_most = omega (arith, fresh.no_visits, union.at_most, turns.at_most);
+        at_least = omega (arith, all, fresh.no_visits, union.at_least, turns.at_least);
+        at_most = omega (arith, all, fresh.no_visits, union.at_most, turns.at_most);
       })
 
   -- or a beginning of these rounds, and a refusal
-  pub refused_keeps : Costs mid at r 0 (r * n) → KeepsTo states k 1 at 0
+  pub refused_keeps : Costs mid at r 0 (r * length u.places) → KeepsTo (a.states + b.states) both 1 at 0
   refused_keeps turns =
       let rounds : at.rounds ≡ r = omega (arith, fresh.no_rounds, union.rounds, turns.rounds) in
-      let visits : r * n ≡ r * k = ap (λ m. r * m) all in
       rw rounds (record {
         few_rounds = few;
         at_least = omega arith;
-        at_most = omega (arith, fresh.no_visits, union.at_most, turns.at_most);
+        at_most = omega (arith, all, fresh.no_visits, union.at_most, turns.at_most);
       })

@@ -5,7 +5,7 @@ use Rattle.theory.specs.Bisimulation.{Bisimilar, Equivalent}
 use Rattle.theory.specs.Quotient.{Quotient}
 use Rattle.lts.specs.Lts.{system_of}
 use Rattle.quotient.specs.Relations.{meant}
-use Rattle.quotient.proofs.Visits.{IfOk-both, room_at_first, room_after, keeps_to}
+use Rattle.quotient.proofs.Visits.{IfOk-both, room_at_first, room_after, visits_then, turns_keep}
 use Rattle.quotient.proofs.minimisation.minimise.Goals as goal
 
 pub returns-clause-equivalent : goal.returns-clause-equivalent
@@ -55,24 +55,15 @@ quotient_of-requires-clause-room g c =
 
 pub returns-in_err-reached-clause-keeps : goal.returns-in_err-reached-clause-keeps
 returns-in_err-reached-clause-keeps g c =
-    let turns = c.in_ok-blocks.ensures.turns in
-    keeps_to c.from_residual-in_err-reached.result c.args.l.now.states (length c.args.l.now.places) 2 turns.0 _ turns.1
-    (omega (arith, turns.3.rounds, c.requires.fresh.no_rounds, c.reachable.ensures.visits.rounds))
-    (omega (arith, turns.3.at_least, c.requires.fresh.no_visits, c.reachable.ensures.visits.at_least))
-    (omega (arith, turns.3.at_most, c.requires.fresh.no_visits, c.reachable.ensures.visits.at_most))
+    turns_keep c.from_residual-in_err-reached.result (meant c.args.r) c.args.l.now _ _ _ _ (omega arith)
+    c.requires.fresh c.in_ok-blocks.ensures.turns c.reachable.ensures.visits
 
 pub returns-in_err-numbering-clause-keeps : goal.returns-in_err-numbering-clause-keeps
 returns-in_err-numbering-clause-keeps g c =
-    let turns = c.in_ok-blocks.ensures.turns in
-    keeps_to c.from_residual-in_err-numbering.result c.args.l.now.states (length c.args.l.now.places) 2 turns.0 _ turns.1
-    (omega (arith, turns.3.rounds, c.requires.fresh.no_rounds, c.reachable.ensures.visits.rounds))
-    (omega (arith, turns.3.at_least, c.requires.fresh.no_visits, c.reachable.ensures.visits.at_least))
-    (omega (arith, turns.3.at_most, c.requires.fresh.no_visits, c.reachable.ensures.visits.at_most))
+    turns_keep c.from_residual-in_err-numbering.result (meant c.args.r) c.args.l.now _ _ _ _ (omega arith)
+    c.requires.fresh c.in_ok-blocks.ensures.turns c.reachable.ensures.visits
 
 pub returns-clause-keeps : goal.returns-clause-keeps
 returns-clause-keeps g c =
-    let turns = c.in_ok-blocks.ensures.turns in
-    keeps_to c.quotient_of.result c.args.l.now.states (length c.args.l.now.places) 2 turns.0 _ turns.1
-    (omega (arith, turns.3.rounds, c.requires.fresh.no_rounds, c.reachable.ensures.visits.rounds, c.quotient_of.ensures.visits.rounds))
-    (omega (arith, turns.3.at_least, c.requires.fresh.no_visits, c.reachable.ensures.visits.at_least, c.quotient_of.ensures.visits.at_least))
-    (omega (arith, turns.3.at_most, c.requires.fresh.no_visits, c.reachable.ensures.visits.at_most, c.quotient_of.ensures.visits.at_most))
+    turns_keep c.quotient_of.result (meant c.args.r) c.args.l.now _ _ _ _ (omega arith)
+    c.requires.fresh c.in_ok-blocks.ensures.turns (visits_then _ _ _ _ _ c.reachable.ensures.visits c.quotient_of.ensures.visits)
