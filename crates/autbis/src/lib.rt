@@ -2,19 +2,11 @@
 #![tactic(auto)]
 
 mod compare;
-#[cfg(test)]
-mod compare_tests;
 mod job;
 mod opener;
 mod program;
-#[cfg(test)]
-mod refusal_tests;
 mod reports;
 mod run;
-#[cfg(test)]
-mod run_tests;
-#[cfg(test)]
-mod tests;
 mod words;
 
 pub use crate::compare::{CmpFault, Side, run_cmp};

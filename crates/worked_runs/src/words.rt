@@ -1,16 +1,17 @@
 //! The worked examples of command words, messages and exit statuses.
 ghost use Rattle.std.specs.Prelude.{◌≡◌};
 
-use crate::opener::Disk;
-use crate::program::{hidden_of, min_program, open};
-use crate::reports::{cannot_open, report, report_words};
-use crate::run_tests::{SILENT_DETOUR, TWO_EQUAL_TARGETS};
-use crate::words::{Job, VERSION, WordFault, command};
+use crate::runs::{SILENT_DETOUR, TWO_EQUAL_TARGETS};
+use autbis::{
+    Disk, Job, VERSION, WordFault, cannot_open, command, main_program, min_program, report,
+    report_words,
+};
 use autfmt::{Fault, Hidden, Limits, Sink, SliceSource, Source, VecSink};
 use quotient::Relation;
 use std::alloc::Global;
 use std::io::{self, Write};
 use std::process::Abort;
+use std::rt::Files;
 
 // What `command` answers for a line of words that are divided by blanks.
 fn asked<R: Abort>(rt: &R, alloc: Global, line: &str) -> Result<Job, WordFault> {
@@ -345,29 +346,54 @@ fn silent_detour_stats(rt: HostRuntime) {
     assert!(rt; agrees);
 }
 
-#[test]
-fn no_file(rt: HostRuntime) {
-    let files = &mut Disk::new(&rt);
-    let mut said = Vec::new(rt.alloc());
-    let answer = open(files, "no such file.aut", &mut said);
-    assert!(rt; matches!(&answer, Err(5)));
-    assert!(rt; said.as_slice() == "autbis: no such file.aut: cannot open\n".as_bytes());
-    let name = String::from_str(rt.alloc(), "no such list").expect(&rt, "memory");
-    let mut said = Vec::new(rt.alloc());
-    let answer = hidden_of(rt.alloc(), files, &Some(name), &mut said);
-    assert!(rt; matches!(&answer, Err(5)));
-    assert!(rt; said.as_slice() == "autbis: no such list: cannot open\n".as_bytes());
+// What the program answers for a line of words, over the files of the test: the exit status, and what it said. It writes nothing.
+fn ended(rt: &(impl Abort + Files), alloc: Global, line: &str) -> (u8, Vec<u8>) {
+    let mut words = Vec::new(alloc);
+    for word in line.split('/') {
+        let word = String::from_str(alloc, word).expect(rt, "memory");
+        words.push(word).expect(rt, "memory");
+    }
+    let mut output = VecSink::new(alloc, None);
+    let mut said = Vec::new(alloc);
+    let status = main_program(
+        alloc,
+        Ok(words),
+        &mut Disk::new(rt),
+        &mut SliceSource::new(b"", None),
+        &mut output,
+        &mut Closed,
+        &mut said,
+    );
+    assert!(rt; output.bytes().is_empty());
+    (status, said)
 }
 
 #[test]
-fn folder(rt: HostRuntime) {
-    let mut said = Vec::new(rt.alloc());
-    match open(&mut Disk::new(&rt), ".", &mut said) {
-        Ok(mut source) => {
-            let (status, written, said) = ran(&rt, rt.alloc(), &mut source, ".", false);
-            assert!(rt; status == 5 && written.is_empty());
-            assert!(rt; said.as_slice() == "autbis: read or write failed\n".as_bytes());
-        }
-        Err(status) => assert!(rt; status == 5),
+fn no_file(rt: HostRuntime) {
+    for (line, message) in [
+        (
+            "autbis/min/no such file.aut",
+            "autbis: no such file.aut: cannot open\n",
+        ),
+        (
+            "autbis/min/--hide/no such list",
+            "autbis: no such list: cannot open\n",
+        ),
+        (
+            "autbis/cmp/no such file.aut/b.aut",
+            "autbis: no such file.aut: cannot open\n",
+        ),
+    ] {
+        let (status, said) = ended(&rt, rt.alloc(), line);
+        assert!(rt; status == 5 && said.as_slice() == message.as_bytes());
     }
+}
+
+/// A folder may be opened, and is then not read; or it cannot be opened.
+#[test]
+fn folder(rt: HostRuntime) {
+    let (status, said) = ended(&rt, rt.alloc(), "autbis/min/.");
+    let failed = said.as_slice() == "autbis: read or write failed\n".as_bytes();
+    assert!(rt; status == 5);
+    assert!(rt; failed || said.as_slice() == "autbis: .: cannot open\n".as_bytes());
 }

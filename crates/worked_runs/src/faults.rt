@@ -1,8 +1,8 @@
 //! Runs by strong bisimulation that end in a fault: of the text, of a source or a sink, or for want of memory.
-use crate::run::run_min;
-use crate::run_tests::{
+use crate::runs::{
     CHAIN_OF_THREE, ITS_QUOTIENT, SILENT_DETOUR, TWO_EQUAL_TARGETS, check, check_at, check_fault,
 };
+use autbis::run_min;
 use autfmt::{Fault, Hidden, Limits, SliceSource, VecSink};
 use lts::{Counter, Meter};
 use quotient::Relation;

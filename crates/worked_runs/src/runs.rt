@@ -1,7 +1,7 @@
 //! The worked examples of whole runs by strong bisimulation, and the largest texts, lines, labels and hide lists.
 ghost use Rattle.std.specs.Prelude.{◌≤◌};
 
-use crate::run::{Counts, run_min};
+use autbis::{Counts, run_min};
 use autfmt::{Fault, Hidden, Limits, SliceSource, VecSink, read_hidden};
 use lts::{Counter, Meter};
 use quotient::Relation;
