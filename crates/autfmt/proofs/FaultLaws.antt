@@ -165,46 +165,35 @@ Reads-no_fault bounds text A fault r f =
         omega arith
 
 -- the lines from line k on are all of the promised ones and good, or have a fault
-pub lines_judged :
-    (m n k : ℕ) (lines : List (List ℕ)) → k ≤ m + 2 →
+abbrev pub AreJudged : ℕ → ℕ → ℕ → List (List ℕ) → Type 0
+AreJudged m n k lines =
     ((es : List Transition) × GoodLines n lines es × (k + length lines ≡ m + 2))
     ⊎ ((fault : Fault) × FaultFrom (EdgeFault m n) (Missing m n) k lines fault)
+
+-- a good line before the others
+judged_behind :
+    (m n k : ℕ) (line : List ℕ) (lines : List (List ℕ)) → GoodEdge m n k line → AreJudged m n (k + 1) lines →
+    AreJudged m n k (line ∷ lines)
+judged_behind m n k line lines good (inr bad) = inr (bad.0, inr (λ fault. GoodEdge-no_fault m n k line fault good, bad.1))
+judged_behind m n k line lines (x, e, spelled, source, target) (inl rest) =
+    let count = rest.2 in
+    let label = transition-label line e.source e.label e.target spelled.1 in
+    let among : IsAmong n e = record { source = source; label = label; target = target } in
+    inl (e ∷ rest.0, GoodLines-cons n line lines e rest.0 spelled among rest.1, omega arith)
+
+pub lines_judged : (m n k : ℕ) (lines : List (List ℕ)) → k ≤ m + 2 → AreJudged m n k lines
 lines_judged m n k [] few = step (cases_lt k (m + 2))
   where
-    step : (k < m + 2) ⊎ (m + 2 ≤ k) →
-        ((es : List Transition) × GoodLines n [] es × (k + length {A = List ℕ} [] ≡ m + 2))
-        ⊎ ((fault : Fault) × FaultFrom (EdgeFault m n) (Missing m n) k [] fault)
+    step : (k < m + 2) ⊎ (m + 2 ≤ k) → AreJudged m n k []
     step (inl less) = inr (MissingEdges (k - 2), (less, refl))
     step (inr all) = inl ([], GoodLines-nil n, omega arith)
 lines_judged m n k (line ∷ lines) few = step (λ x. lines_judged m n (k + 1) lines x) (edge_judged m n k line)
   where
     step :
-        (k + 1 ≤ m + 2 →
-        ((es : List Transition) × GoodLines n lines es × (k + 1 + length lines ≡ m + 2))
-        ⊎ ((fault : Fault) × FaultFrom (EdgeFault m n) (Missing m n) (k + 1) lines fault)) →
-        GoodEdge m n k line ⊎ ((fault : Fault) × EdgeFault m n k line fault) →
-        ((es : List Transition) × GoodLines n (line ∷ lines) es × (k + length (line ∷ lines) ≡ m + 2))
-        ⊎ ((fault : Fault) × FaultFrom (EdgeFault m n) (Missing m n) k (line ∷ lines) fault)
+        (k + 1 ≤ m + 2 → AreJudged m n (k + 1) lines) → GoodEdge m n k line ⊎ ((fault : Fault) × EdgeFault m n k line fault) →
+        AreJudged m n k (line ∷ lines)
     step others (inr bad) = inr (bad.0, inl bad.1)
-    step others (inl good) = then (others (let x = good.0 in omega arith))
-      where
-        e : Transition
-        e = good.1
-
-        then :
-            ((es : List Transition) × GoodLines n lines es × (k + 1 + length lines ≡ m + 2))
-            ⊎ ((fault : Fault) × FaultFrom (EdgeFault m n) (Missing m n) (k + 1) lines fault) →
-            ((es : List Transition) × GoodLines n (line ∷ lines) es × (k + length (line ∷ lines) ≡ m + 2))
-            ⊎ ((fault : Fault) × FaultFrom (EdgeFault m n) (Missing m n) k (line ∷ lines) fault)
-        then (inr bad) = inr (bad.0, inr (λ fault. GoodEdge-no_fault m n k line fault good, bad.1))
-        then (inl rest) =
-            let count = rest.2 in
-            inl (
-              e ∷ rest.0,
-              GoodLines-cons n line lines e rest.0 good.2
-                  (record { source = good.3; label = transition-label line e.source e.label e.target good.2.1; target = good.4 }) rest.1,
-              omega arith,
-            )
+    step others (inl good) = judged_behind m n k line lines good (others (let x = good.0 in omega arith))
 
 -- good lines are a system
 pub Reads-from_lines :
@@ -237,10 +226,7 @@ text_judged bounds text = step (lines_of text).0 (lines_of text).1
         first (inr bad) = inr (bad.0, (line ∷ lines, l, inl bad.1))
         first (inl good) = others (lines_judged good.1 good.2 2 lines (omega arith))
           where
-            others :
-                ((es : List Transition) × GoodLines good.2 lines es × (2 + length lines ≡ good.1 + 2))
-                ⊎ ((fault : Fault) × FaultFrom (EdgeFault good.1 good.2) (Missing good.1 good.2) 2 lines fault) →
-                ((A : System) × Reads bounds text A) ⊎ ((fault : Fault) × FirstFault bounds text fault)
+            others : AreJudged good.1 good.2 2 lines → ((A : System) × Reads bounds text A) ⊎ ((fault : Fault) × FirstFault bounds text fault)
             others (inr bad) = inr (bad.0, (line ∷ lines, l, inr (good.0, good.1, good.2, good.3, bad.1)))
             others (inl rest) =
                 let count = rest.2 in

@@ -54,47 +54,37 @@ JudgedFirst bounds rest fault = (8192 < length rest) × HeaderFault bounds rest 
 abbrev pub JudgedLater : List ℕ → ℕ → ℕ → ℕ → Fault → Type 0
 JudgedLater rest m n = JudgedRest (EdgeFault m n) (m + 1) rest
 
+-- a fault that is known from the first lines, the first of them ended, is that of all
+judged_lines_first :
+    (bounds : Bounds) (line : List ℕ) (lines : List (List ℕ)) (rest more : List ℕ) (others : List (List ℕ)) (fault : Fault) →
+    IsOneLine rest → Lines (rest ++ more) others → FaultOfLines bounds (JudgedFirst bounds rest) (JudgedLater rest) (line ∷ lines) fault →
+    FaultOfLines bounds (λ f. f ≡ BadHeader) Missing ((line ∷ lines) ++ others) fault
+judged_lines_first bounds line lines rest more others fault one l (inl bad) = inl bad
+judged_lines_first bounds line lines rest more others fault one l (inr (f, m, n, good, from)) =
+    let first =
+    λ (k : ℕ) (r : JudgedLater rest m n k fault).
+    judged_first (EdgeFault m n) (m + 1) (edge_stays m n) (Missing m n) rest more others k fault one l r in
+    inr (f, m, n, good, FaultFrom-extends (EdgeFault m n) (JudgedLater rest m n) (Missing m n) 2 lines others fault first from)
+
 -- a fault that is known from the first bytes is the text's
 pub JudgedFault-first :
     (bounds : Bounds) (given more : List ℕ) (fault : Fault) → JudgedFault bounds given fault → FirstFault bounds (given ++ more) fault
-JudgedFault-first bounds given more fault j = step j.0 j.1 j.2 j.3
-  where
-    whole :
-        (ended : List (List ℕ)) (rest : List ℕ) → Cuts given ended rest →
-        with_line_feeds ended ++ (rest ++ more) ≡ given ++ more
-    whole ended rest c =
-        sym (append_assoc (with_line_feeds ended) rest more) ∙ ap (λ (t : List ℕ). t ++ more) (sym c.whole)
-
-    faulty :
-        (line : List ℕ) (lines : List (List ℕ)) (rest : List ℕ) (others : List (List ℕ)) → IsOneLine rest →
-        Lines (rest ++ more) others → FaultOfLines bounds (JudgedFirst bounds rest) (JudgedLater rest) (line ∷ lines) fault →
-        FaultOfLines bounds (λ f. f ≡ BadHeader) Missing ((line ∷ lines) ++ others) fault
-    faulty line lines rest others one l (inl bad) = inl bad
-    faulty line lines rest others one l (inr (f, m, n, good, from)) =
-        inr (
-          f,
-          m,
-          n,
-          good,
-          FaultFrom-extends (EdgeFault m n) (JudgedLater rest m n) (Missing m n) 2 lines others fault
-              (λ k r. judged_first (EdgeFault m n) (m + 1) (edge_stays m n) (Missing m n) rest more others k fault one l r) from,
-        )
-
-    step : (ended : List (List ℕ)) (rest : List ℕ) → Cuts given ended rest →
-        FaultOfLines bounds (JudgedFirst bounds rest) (JudgedLater rest) ended fault → FirstFault bounds (given ++ more) fault
-    step [] rest c h =
-        let b = first_begins rest more c.one (let big = h.0 in omega arith) in (
-          (rest ++ b.0) ∷ b.1,
-          subst (λ (t : List ℕ). Lines t ((rest ++ b.0) ∷ b.1)) (whole [] rest c) b.2,
-          inl (long_header bounds rest b.0 fault h.0 h.1),
-        )
-    step (line ∷ lines) rest c h =
-        let others = lines_of (rest ++ more) in (
-          line ∷ lines ++ others.0,
-          subst (λ (t : List ℕ). Lines t ((line ∷ lines) ++ others.0)) (whole (line ∷ lines) rest c)
-              (Lines-behind (line ∷ lines) (rest ++ more) others.0 c.lines others.1),
-          faulty line lines rest others.0 c.one others.1 h,
-        )
+JudgedFault-first bounds given more fault ([], rest, c, h) =
+    let whole : rest ++ more ≡ given ++ more = ap (λ (t : List ℕ). t ++ more) (sym c.whole) in
+    let b = first_begins rest more c.one (let big = h.0 in omega arith) in (
+      (rest ++ b.0) ∷ b.1,
+      subst (λ (t : List ℕ). Lines t ((rest ++ b.0) ∷ b.1)) whole b.2,
+      inl (long_header bounds rest b.0 fault h.0 h.1),
+    )
+JudgedFault-first bounds given more fault (line ∷ lines, rest, c, h) =
+    let ended = line ∷ lines in
+    let others = lines_of (rest ++ more) in
+    let whole : with_line_feeds ended ++ (rest ++ more) ≡ given ++ more =
+    sym (append_assoc (with_line_feeds ended) rest more) ∙ ap (λ (t : List ℕ). t ++ more) (sym c.whole) in (
+      ended ++ others.0,
+      subst (λ (t : List ℕ). Lines t (ended ++ others.0)) whole (Lines-behind ended (rest ++ more) others.0 c.lines others.1),
+      judged_lines_first bounds line lines rest more others.0 fault c.one others.1 h,
+    )
 
 -- what is judged of the bytes given, by their one cut
 judged_of :

@@ -16,7 +16,7 @@ use Rattle.autfmt.specs.Cutter.{Cutting, Stands, CutsLine, CutsEnd, BeginsTooLon
 use Rattle.autfmt.specs.Held.{Holds}
 use Rattle.autfmt.specs.Readers.{IsTextFault, HasGoodHeader}
 use Rattle.autfmt.specs.Outcomes.{Refuses}
-use Rattle.autfmt.specs.ReadSoFar.{ReadSoFar}
+use Rattle.autfmt.specs.ReadSoFar.{ReadSoFar, Standing}
 use Rattle.autfmt.specs.Outcomes.Refuses.{no_memory, failed_source, faulty_text}
 use Rattle.autfmt.proofs.Cutting.{IsNoFeed}
 use Rattle.autfmt.proofs.FaultLaws.{GoodLines, GoodLines-length, GoodLines-push, Reads-from_lines}
@@ -260,6 +260,19 @@ text_ends bounds given old p es got so_far count none =
 -- a source that goes on has not come to its end
 pub goes_on : {over : Bool} → over ≡ false → over ≡ true → ⊥
 goes_on open_at over = cc
+
+-- the same bytes by another spelling
+pub Standing-same :
+    (bounds : Bounds) (H : List (List ℕ)) (given given' : List ℕ) (at : Cutting) (p : Promise) (held : Held) (es : List Transition) →
+    given ≡ given' → Standing bounds H given at p held es → Standing bounds H given' at p held es
+Standing-same bounds H given given' at p held es e standing =
+    (subst (λ (t : List ℕ). ReadSoFar bounds t at p es) e standing.0, standing.1)
+
+pub Refuses-same :
+    (bounds : Bounds) (given given' : List ℕ) (rest : Option (List ℕ)) (failures : ℕ) (fault : Fault) →
+    given ≡ given' → Refuses bounds given rest failures fault → Refuses bounds given' rest failures fault
+Refuses-same bounds given given' rest failures fault e refused =
+    subst (λ (t : List ℕ). Refuses bounds t rest failures fault) e refused
 
 -- as many transitions were read as triples are held
 pub count_held :

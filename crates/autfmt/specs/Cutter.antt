@@ -1,4 +1,4 @@
--- The cutter of lines: where it stands among the bytes that a source gives.
+-- The cutter of lines: how far it is in the bytes that a source gives.
 use Rattle.std.specs.Prelude.{◌≡◌, ◌⊎◌, ℕ, ◌<◌, ◌≤◌, Bool, true, false, IsTrue, List, [], ◌∷◌, ◌++◌, length, Option, None, Some, IfSome}
 use Rattle.std.specs.List.{All, flat_map, slice_range}
 use Rattle.autfmt.specs.Texts.{Lines, IsOneLine, IsShort}
@@ -26,7 +26,7 @@ abbrev pub BeginsTooLong : List ℕ → Type 0
 BeginsTooLong bytes =
     (front : List ℕ) × (tail : List ℕ) × IsOneLine front × (8192 < length front) × (bytes ≡ front ++ tail)
 
--- the first line of the bytes was cut: behind it stands a line feed and what is ahead, or the end of the text
+-- the first line of the bytes was cut: after it comes a line feed and what is ahead, or the end of the text
 pub record CutsLine (bytes : List ℕ) (now : Cutting) : Type 0 where
   pub one : IsOneLine now.line
   pub short : IsShort now.line

@@ -31,7 +31,7 @@ is_plain (b ∷ bs) = is_letter b && list_all (λ c. is_letter c || is_ascii_dig
 abbrev pub quoted : List ℕ → List ℕ
 quoted a = codes "\"" ++ a ++ codes "\""
 
--- the spelling of the label a: itself where it is plain, or between quotation marks
+-- the spelling of the label a: itself if it is plain, or between quotation marks
 abbrev pub Label : List ℕ → List ℕ → Type 0
 Label spelling a = (IsTrue (is_plain a) × (spelling ≡ a)) ⊎ (IsLabel a × (spelling ≡ quoted a))
 

@@ -1,7 +1,7 @@
 -- How many bytes go at once, and what is around a reader or writer of the standard library.
 use Rattle.std.specs.Prelude.{ℕ, min, Option, None, Some}
 
--- n, or the most where that is smaller
+-- n, or the most if that is smaller
 abbrev pub capped : Option ℕ → ℕ → ℕ
 capped None n = n
 capped (Some most) n = min most n

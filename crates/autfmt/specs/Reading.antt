@@ -4,7 +4,7 @@ use Rattle.std.specs.Char.{is_ascii_digit}
 use Rattle.std.specs.List.{list_all, prefix_len}
 use Rattle.autfmt.specs.Grammar.{is_letter}
 
--- the next step, where this one did not fail
+-- the next step, if this one did not fail
 infixl 10 ◌>>=◌
 abbrev pub ◌>>=◌ : {A B : Type 0} → Option A → (A → Option B) → Option B
 (Some x) >>= f = f x
@@ -24,7 +24,7 @@ unfoldable pub after_blanks : List ℕ → List ℕ
 after_blanks [] = []
 after_blanks (b ∷ bs) = if is_blank b then after_blanks bs else b ∷ bs
 
--- the bytes after c, where it is the first byte
+-- the bytes after c, if it is the first byte
 unfoldable pub past : ℕ → List ℕ → Option (List ℕ)
 past c [] = None
 past c (b ∷ bs) = if b == c then Some bs else None
@@ -48,7 +48,7 @@ number_at (b ∷ bs) = if is_ascii_digit b then more_digits (b - 48) bs else Non
 abbrev pub is_word : ℕ → Bool
 is_word b = is_letter b || is_ascii_digit b
 
--- how many letters and digits stand in front
+-- how many letters and digits are in front
 abbrev pub word_len : List ℕ → ℕ
 word_len bytes = prefix_len is_word bytes
 
@@ -59,7 +59,7 @@ plain_at (b ∷ bs) =
     let n = word_len (b ∷ bs) in
     if is_letter b && nat_le n 8000 then Some (take n (b ∷ bs), drop n (b ∷ bs)) else None
 
--- where a quotation mark stands with none after it
+-- the place of a quotation mark with none after it
 unfoldable pub last_quote : List ℕ → Option ℕ
 last_quote [] = None
 last_quote (b ∷ bs) =
@@ -69,7 +69,7 @@ last_quote (b ∷ bs) =
 abbrev pub is_label : List ℕ → Bool
 is_label a = nat_le 1 (length a) && nat_le (length a) 8000 && list_all (λ b. nat_le 0x20 b && nat_le b 0x7E) a
 
--- what stands before the last quotation mark and after it, where the first is a label
+-- what is before the last quotation mark and after it, if the first is a label
 unfoldable pub quoted_at : List ℕ → Option (List ℕ × List ℕ)
 quoted_at bytes = do
   i ← last_quote bytes
@@ -84,7 +84,7 @@ label_at (b ∷ bs) = if b == 34 then quoted_at bs else plain_at (b ∷ bs)
 abbrev pub are_blanks : List ℕ → Bool
 are_blanks rest = list_all is_blank rest
 
--- the bytes after `des`, where it stands in front
+-- the bytes after `des`, if it is in front
 unfoldable pub past_des : List ℕ → Option (List ℕ)
 past_des line = do
   rest ← past 100 line

@@ -5,7 +5,7 @@ use Rattle.theory.specs.System.{System, Transition, IsSystem}
 use Rattle.autfmt.specs.Bounds.{Bounds}
 use Rattle.autfmt.specs.Grammar.{Header, TransitionLine}
 
--- no line feed stands in the bytes
+-- the bytes have no line feed
 abbrev pub IsOneLine : List ℕ → Type 0
 IsOneLine line = All (λ b. b ≢ 10) line
 
@@ -15,7 +15,7 @@ pub record Cuts (text : List ℕ) (ended : List (List ℕ)) (rest : List ℕ) : 
   pub lines : All IsOneLine ended
   pub one : IsOneLine rest
 
--- a last line without its line feed, where it has a byte
+-- a last line without its line feed, if it has a byte
 abbrev pub last_line : List ℕ → List (List ℕ)
 last_line [] = []
 last_line (b ∷ bs) = (b ∷ bs) ∷ []

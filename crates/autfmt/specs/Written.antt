@@ -11,7 +11,7 @@ use Rattle.autfmt.specs.declared.fault.Fault.{Fault}
 use Rattle.autfmt.specs.declared.fault.Fault.TheVariants.{Device}
 use Rattle.autfmt.specs.Grammar.{is_plain, quoted}
 
--- a label stands plain where it can
+-- a label is written plain if it can be
 abbrev pub written_label : List ℕ → List ℕ
 written_label a = if is_plain a then a else quoted a
 

@@ -25,14 +25,14 @@ const MOST_LINES: u32 = 100_000;
 pub fn read_hidden<R: Source>(alloc: Global, r: &mut R) -> Result<Hidden, Fault>
     requires { R.failures r.old ≡ 0 }
 
-    // What Ok means, and which error when: of the bytes that were taken.
+    // What Ok means, and when each error comes, over the bytes that were taken.
     ensures outcome { HideAnswers (R.rest r.old) (R.rest r.new) (R.failures r.new) result }
 
-    // The same of the whole list, where the source tells it.
+    // The same for the whole list, if the source tells it.
     ensures labels { IfSome (R.rest r.old) (λ text. IfOk result (HidesAs text)) }
     ensures fault { IfSome (R.rest r.old) (λ text. IfErr result (λ f. IsHideFault f → FirstHideFault text f)) }
 
-    // What is left: a source that has failed exactly if that is the error.
+    // What is left: a source that has failed exactly if the error is `Device`.
     ensures device { (result ≡ Err Fault.Device) ↔ (R.failures r.new ≡ 1) }
     ensures failures { R.failures r.new ≤ 1 }
 {

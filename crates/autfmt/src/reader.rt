@@ -32,14 +32,14 @@ use std::alloc::Global;
 pub fn read<M: Meter, R: Source>(alloc: Global, r: &mut R, lim: &Limits) -> Result<Lts<M>, Fault>
     requires { R.failures r.old ≡ 0 }
 
-    // What Ok means, and which error when: of the bytes that were taken.
+    // What Ok means, and when each error comes, over the bytes that were taken.
     ensures outcome { Answers lim.now [] (R.rest r.old) (R.rest r.new) (R.failures r.new) result }
 
-    // The same of the whole text, where the source tells it.
+    // The same for the whole text, if the source tells it.
     ensures system { IfSome (R.rest r.old) (λ text. IfOk result (ReadsAs lim.now text [])) }
     ensures fault { IfSome (R.rest r.old) (λ text. IfErr result (λ f. IsTextFault f → FirstFault lim.now text f)) }
 
-    // What is left: a source that has failed exactly if that is the error.
+    // What is left: a source that has failed exactly if the error is `Device`.
     ensures device { (result ≡ Err Fault.Device) ↔ (R.failures r.new ≡ 1) }
     ensures failures { R.failures r.new ≤ 1 }
 {
@@ -58,14 +58,14 @@ pub fn read_hiding<M: Meter, R: Source>(
 ) -> Result<Lts<M>, Fault>
     requires { R.failures r.old ≡ 0 }
 
-    // What Ok means, and which error when: of the bytes that were taken.
+    // What Ok means, and when each error comes, over the bytes that were taken.
     ensures outcome { Answers lim.now h.now (R.rest r.old) (R.rest r.new) (R.failures r.new) result }
 
-    // The same of the whole text, where the source tells it.
+    // The same for the whole text, if the source tells it.
     ensures system { IfSome (R.rest r.old) (λ text. IfOk result (ReadsAs lim.now text h.now)) }
     ensures fault { IfSome (R.rest r.old) (λ text. IfErr result (λ f. IsTextFault f → FirstFault lim.now text f)) }
 
-    // What is left: a source that has failed exactly if that is the error.
+    // What is left: a source that has failed exactly if the error is `Device`.
     ensures device { (result ≡ Err Fault.Device) ↔ (R.failures r.new ≡ 1) }
     ensures failures { R.failures r.new ≤ 1 }
 {

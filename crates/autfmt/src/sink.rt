@@ -13,7 +13,7 @@ use std::marker::Model;
 
 /// What bytes are put to. One failure ends it.
 pub trait Sink {
-    // The bytes written, where the sink tells them.
+    // The bytes written, if the sink tells them.
     ghost written: { Self → Option (List ℕ) };
 
     // How often it failed.

@@ -12,7 +12,7 @@ use std::marker::Model;
 
 /// What bytes are taken from. One failure ends it.
 pub trait Source {
-    // The bytes to come, where the source tells them.
+    // The bytes to come, if the source tells them.
     ghost rest: { Self → Option (List ℕ) };
 
     // How often it failed.

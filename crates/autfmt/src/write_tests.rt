@@ -4,7 +4,7 @@ ghost use Rattle.std.specs.Prelude.{None};
 use crate::stream::Broken;
 use crate::tests::repeated;
 use crate::{Fault, Sink, VecSink, write};
-use lts::{Counter, Labels, Lts, Meter, in_range, is_label};
+use lts::{Counter, Labels, Lts, MOST_LABELS, Meter, in_range, is_label};
 use std::alloc::Global;
 use std::process::Abort;
 
@@ -19,7 +19,7 @@ fn system<R: Abort>(
     let mut labels = Labels::new(alloc);
     let mut triples = Vec::new(alloc);
     for (source, label, target) in edges {
-        assert!(rt; is_label(label) && labels.len() < 20_000_000);
+        assert!(rt; is_label(label) && labels.len() < MOST_LABELS);
         let number = labels.intern(label).expect(rt, "memory");
         triples
             .push((*source, number, *target))

@@ -7,37 +7,26 @@ use Rattle.autfmt.proofs.hide_reader.read_hide_line.Goals as goal
 pub returns-in_err-advance-clause-line : goal.returns-in_err-advance-clause-line
 returns-in_err-advance-clause-line g c =
     let s = c.in_err-advance.ensures.step in
-    let exit = err_from_is_err_and c.from_residual.result c.from_residual.ensures.1 in (
+    let exit = err_from_is_err_and c.from_residual.result c.from_residual.ensures.1 in
+    let failed = c.in_err-advance.ensures.failures in
+    let few = c.requires.more in (
       s.0,
       s.1,
       λ given H so_far count.
-          let few = c.requires.more in
-          rw (exit.1, exit.2)
-          (hide_failed given c.args.cutter.now H c.args.hidden.now s.0 (g.R.Source.rest c.advance.new.r)
-          (g.R.Source.failures c.advance.new.r) so_far (omega arith) (inl (omega arith)) c.in_err-advance.ensures.failures
-          (goes_on s.2.0) s.2.1),
+          rw (exit.1, exit.2) (hide_failed given _ H _ s.0 _ _ so_far (omega arith) (inl (omega arith)) failed (goes_on s.2.0) s.2.1),
     )
 
 pub returns-in-TooLong-clause-line : goal.returns-in-TooLong-clause-line
 returns-in-TooLong-clause-line g c =
-    let s = rw c.in-TooLong.is at c.in_ok-advance.ensures.step in (
-      s.0,
-      s.1,
-      λ given H so_far count.
-          hide_too_long given c.args.cutter.now H c.args.hidden.now s.0 (g.R.Source.rest c.advance.new.r)
-          (g.R.Source.failures c.advance.new.r) c.args.found so_far count c.requires.more c.in_ok-advance.ensures.failures
-          (goes_on s.2.0) s.2.1,
-    )
+    let s = rw c.in-TooLong.is at c.in_ok-advance.ensures.step in
+    let sound = c.in_ok-advance.ensures.failures in
+    (s.0, s.1, λ given H so_far count. hide_too_long given _ H _ s.0 _ _ _ so_far count c.requires.more sound (goes_on s.2.0) s.2.1)
 
 pub returns-in-End-clause-line : goal.returns-in-End-clause-line
 returns-in-End-clause-line g c =
-    let s = rw c.in-End.is at c.in_ok-advance.ensures.step in (
-      s.0,
-      s.1,
-      λ given H so_far count.
-          let few = c.requires.more in
-          hide_ends given c.args.cutter.now H c.args.hidden.now s.0 so_far (omega arith) s.2.none,
-    )
+    let s = rw c.in-End.is at c.in_ok-advance.ensures.step in
+    let few = c.requires.more in
+    (s.0, s.1, λ given H so_far count. hide_ends given _ H _ s.0 so_far (omega arith) s.2.none)
 
 pub returns-in_err-label-clause-line : goal.returns-in_err-label-clause-line
 returns-in_err-label-clause-line g c =
@@ -46,23 +35,14 @@ returns-in_err-label-clause-line g c =
     let bad = rw c.line.ensures at c.in_err-label.ensures.fault in (
       s.0,
       s.1,
-      λ given H so_far count.
-          rw (exit.1, exit.2)
-          (hide_faulty given c.args.cutter.now c.advance.new.self H c.args.hidden.now s.0 (g.R.Source.rest c.advance.new.r)
-          (g.R.Source.failures c.advance.new.r) c.args.found _ so_far count c.requires.more c.in_ok-advance.ensures.failures
-          (goes_on s.2.0) (c.advance.ensures.end c.requires.end) s.2.1 bad c.in_err-label.ensures.kind),
+      λ given H so_far count. rw (exit.1, exit.2)
+          (hide_faulty given _ _ H _ s.0 _ _ _ _ so_far count c.requires.more c.in_ok-advance.ensures.failures (goes_on s.2.0)
+          (c.advance.ensures.end c.requires.end) s.2.1 bad c.in_err-label.ensures.kind),
     )
 
 pub returns-clause-line : goal.returns-clause-line
 returns-clause-line g c =
     let s = rw c.in-Line.is at c.in_ok-advance.ensures.step in
     let a = c.in_ok-label.label.now in
-    let good = rw c.line.ensures at c.in_ok-label.ensures.good in (
-      s.0,
-      s.1,
-      λ given H so_far count. (
-        a,
-        hide_good given c.args.cutter.now c.advance.new.self H c.args.hidden.now s.0 a c.add.new.self so_far (goes_on s.2.0) s.2.1 good
-            c.in_ok-add.ensures.added,
-      ),
-    )
+    let good = rw c.line.ensures at c.in_ok-label.ensures.good in
+    (s.0, s.1, λ given H so_far count. (a, hide_good given _ _ H _ s.0 a _ so_far (goes_on s.2.0) s.2.1 good c.in_ok-add.ensures.added))

@@ -1,4 +1,4 @@
-use Rattle.std.proofs.Common.{◌+◌, ℕ, List, [], ◌∷◌, ◌++◌, length, Ok, ◌∙◌, ap, refl, arith}
+use Rattle.std.proofs.Common.{◌≡◌, ◌+◌, ℕ, List, [], ◌∷◌, ◌++◌, length, Ok, ◌∙◌, ap, refl, arith}
 use Rattle.std.proofs.lemmas.List.{length_push}
 use Rattle.std.proofs.lemmas.Result.{err_from_is_err_and}
 use Rattle.std.specs.Io.KnownBytes.{Consumes}
@@ -22,6 +22,10 @@ loop-found-init g c = record {
   sound = c.requires;
   end = λ over. absurd (fresh_goes_on c.new-cutter.result c.new-cutter.ensures over);
 }
+
+-- one label more
+one_more : (H : List (List ℕ)) (a : List ℕ) (found : ℕ) → length H ≡ found → length (H ++ a ∷ []) ≡ found + 1
+one_more H a found count = length_push H a ∙ ap (λ (n : ℕ). n + 1) count
 
 -- the bytes of the lines before, and of one line more
 took_line : (g : Over) (c : After-read_hide_line g) (line : List ℕ) →
@@ -61,14 +65,13 @@ loop-found-preserved g c =
     let so_far = c.loop-found.invariant.got in
     let step = rw c.if-not-some.false at c.in_ok-some.ensures.line in
     let next = step.2 so_far.0 so_far.2 so_far.3 so_far.4 in
-    let count = so_far.4 in
     record {
       got = (
         so_far.0 ++ step.0,
         took_line g (goal.at.loop-found-preserved g c).After-read_hide_line step.0 step.1,
         so_far.2 ++ next.0 ∷ [],
         next.1,
-        length_push so_far.2 next.0 ∙ ap (λ (n : ℕ). n + 1) count,
+        one_more so_far.2 next.0 c.loop-found.found so_far.4,
       );
       few = c.in_ok-some.ensures.few;
       sound = c.in_ok-some.ensures.sound;
@@ -94,8 +97,7 @@ returns-in_err-at_end g c =
       took = took_end g (goal.at.returns-in_err-at_end g c).After-is_at_end last.0 last.1;
       outcome =
           rw (exit.1, exit.2)
-          (hide_end_failed so_far.0 c.loop-found.cutter so_far.2 c.loop-found.hidden last.0 (g.R.Source.rest c.is_at_end.new.r)
-          (g.R.Source.failures c.is_at_end.new.r) so_far.3 (omega arith) c.in_err-at_end.ensures.failures
+          (hide_end_failed so_far.0 _ so_far.2 _ last.0 _ _ so_far.3 (omega arith) c.in_err-at_end.ensures.failures
           (λ over. let a = c.is_at_end.ensures.over over in let b = c.in_err-at_end.was in cc) last.2);
     }
 
@@ -108,8 +110,7 @@ returns-then-not-at_end g c =
       given = so_far.0 ++ last.0;
       took = took_end g (goal.at.returns-then-not-at_end g c).After-is_at_end last.0 last.1;
       outcome =
-          hide_behind so_far.0 c.loop-found.cutter so_far.2 c.loop-found.hidden last.0 (g.R.Source.rest c.is_at_end.new.r)
-          (g.R.Source.failures c.is_at_end.new.r) so_far.3 (omega arith) c.in_ok-at_end.ensures.failures
+          hide_behind so_far.0 _ so_far.2 _ last.0 _ _ so_far.3 (omega arith) c.in_ok-at_end.ensures.failures
           (λ over. let a = c.is_at_end.ensures.over over in let b = c.in_ok-at_end.was in let d = c.if-not-at_end.true in cc)
           (last.2.3 refl);
     }
@@ -123,7 +124,7 @@ returns g c =
       given = so_far.0 ++ last.0;
       took = took_end g (goal.at.returns g c).After-is_at_end last.0 last.1;
       outcome = record {
-        read = hide_ends so_far.0 c.loop-found.cutter so_far.2 c.loop-found.hidden last.0 so_far.3 (omega arith) (last.2.2 refl);
+        read = hide_ends so_far.0 _ so_far.2 _ last.0 so_far.3 (omega arith) (last.2.2 refl);
         at_end = c.is_at_end.ensures.end c.loop-found.invariant.end last.2.1;
         sound = c.in_ok-at_end.ensures.failures;
       };

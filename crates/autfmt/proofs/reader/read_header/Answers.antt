@@ -8,8 +8,7 @@ returns-in-TooLong-clause-header g c =
       given = s.0;
       took = s.1;
       outcome =
-          header_too_long c.args.lim.now c.args.cutter.now s.0 (g.R.Source.rest c.advance.new.r) (g.R.Source.failures c.advance.new.r)
-          c.requires.fresh c.in_ok-advance.ensures.failures s.2.1;
+          header_too_long c.args.lim.now c.args.cutter.now s.0 _ _ c.requires.fresh c.in_ok-advance.ensures.failures s.2.1;
     }
 
 pub returns-clause-header : goal.returns-clause-header
@@ -19,8 +18,8 @@ returns-clause-header g c =
       given = s.0;
       took = s.1;
       outcome =
-          header_answer c.args.lim.now c.args.cutter.now c.advance.new.self s.0 (g.R.Source.rest c.advance.new.r)
-          (g.R.Source.failures c.advance.new.r) c.judge_header.result c.requires.fresh c.in_ok-advance.ensures.failures
+          header_answer c.args.lim.now c.args.cutter.now c.advance.new.self s.0 _ _ c.judge_header.result c.requires.fresh
+          c.in_ok-advance.ensures.failures
           (c.advance.ensures.end (λ over. absurd (fresh_goes_on c.args.cutter.now c.requires.fresh over))) s.2.1
           (rw c.line.ensures at c.judge_header.ensures.good) (rw c.line.ensures at c.judge_header.ensures.fault)
           c.judge_header.ensures.kind;

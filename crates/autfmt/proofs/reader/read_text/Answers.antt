@@ -67,9 +67,7 @@ returns-in_err-at_end-clause-whole g c =
       took = took g at last.0 last.1;
       outcome =
           rw (exit.1, exit.2)
-          (end_failed c.args.lim.now (front g at) c.read_transitions.new.cutter (p g at) (transitions g at).0 last.0
-          (g.R.Source.rest c.is_at_end.new.r) (g.R.Source.failures c.is_at_end.new.r) (transitions g at).1.0 (count g at)
-          c.in_err-at_end.ensures.failures
+          (end_failed c.args.lim.now (front g at) _ _ _ last.0 _ _ (transitions g at).1.0 (count g at) c.in_err-at_end.ensures.failures
           (λ over. let a = c.is_at_end.ensures.over over in let b = c.in_err-at_end.was in cc) last.2);
     }
 
@@ -81,9 +79,7 @@ returns-then-not-at_end-clause-whole g c =
       given = front g at ++ last.0;
       took = took g at last.0 last.1;
       outcome =
-          text_behind c.args.lim.now (front g at) c.read_transitions.new.cutter (p g at) (transitions g at).0 last.0
-          (g.R.Source.rest c.is_at_end.new.r) (g.R.Source.failures c.is_at_end.new.r) (transitions g at).1.0 (count g at)
-          c.in_ok-at_end.ensures.failures
+          text_behind c.args.lim.now (front g at) _ _ _ last.0 _ _ (transitions g at).1.0 (count g at) c.in_ok-at_end.ensures.failures
           (λ over. let a = c.is_at_end.ensures.over over in let b = c.in_ok-at_end.was in let d = c.if-not-at_end.true in cc)
           (last.2.3 refl);
     }
@@ -97,8 +93,7 @@ returns-clause-whole g c =
       took = took g at last.0 last.1;
       outcome = (
         (transitions g at).0,
-        text_ends c.args.lim.now (front g at) c.read_transitions.new.cutter (p g at) (transitions g at).0 last.0
-            (transitions g at).1.0 (count g at) (last.2.2 refl),
+        text_ends c.args.lim.now (front g at) _ _ _ last.0 (transitions g at).1.0 (count g at) (last.2.2 refl),
         (transitions g at).1.1,
       );
     }

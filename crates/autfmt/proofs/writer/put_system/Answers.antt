@@ -27,8 +27,8 @@ returns-in_err-end-clause-err g c =
 pub returns-clause-ok : goal.returns-clause-ok
 returns-clause-ok g c =
     let all : c.loop-source.source-index ≡ length c.args.order.now = omega arith in
-    on_ok_weaker c.put_all.result (text_put _ c.args.first c.args.states c.args.entries.now c.args.order.now c.loop-source.source-index all c.loop-source.invariant.0) c.put_all.ensures.ok
+    on_ok_weaker c.put_last.result (text_put _ c.args.first c.args.states c.args.entries.now c.args.order.now c.loop-source.source-index all c.loop-source.invariant.0) c.put_last.ensures.ok
 
 pub returns-clause-err : goal.returns-clause-err
 returns-clause-err g c =
-    on_err_weaker c.put_all.result (text_begun _ c.args.first c.args.states c.args.entries.now c.args.order.now c.loop-source.source-index c.loop-source.invariant.0) c.put_all.ensures.err
+    on_err_weaker c.put_last.result (text_begun _ c.args.first c.args.states c.args.entries.now c.args.order.now c.loop-source.source-index c.loop-source.invariant.0) c.put_last.ensures.err

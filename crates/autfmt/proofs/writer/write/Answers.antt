@@ -1,6 +1,4 @@
-use Rattle.std.proofs.Common.{◌<◌, [], length, map, sym, ap, ◌∙◌, subst, arith}
-use Rattle.std.proofs.KnownBytes.{Appends-kept}
-use Rattle.std.proofs.lemmas.List.{append-nil}
+use Rattle.std.proofs.Common.{◌<◌, length, map, sym, ap, ◌∙◌, subst, arith}
 use Rattle.std.specs.List.{All}
 use Rattle.theory.specs.System.{IsLabel}
 use Rattle.autfmt.specs.Grammar.{is_plain}
@@ -36,15 +34,8 @@ returns-in_err-put_system-clause-device g c =
     c.states.ensures.lts c.in_ok-entries.ensures.ok c.in_ok-ranks.ensures.ok c.in_ok-order.ensures.same c.in_ok-order.ensures.sorted in
     on_device c.from_residual-in_err-put_system.result (text_gains_beginning _ _ text c.in_err-put_system.ensures.err)
 
-pub returns-in_err-finish-clause-device : goal.returns-in_err-finish-clause-device
-returns-in_err-finish-clause-device g c =
-    let text = text_from_calls c.args.s.now c.labels.result.now _ _ _ _ _ _ _ c.first.result c.states.result c.labels.ensures c.deref.ensures.value c.deref-4.ensures.value c.deref-2.ensures.value c.deref-6.ensures.value c.first.ensures c.states.ensures.value
-    c.states.ensures.lts c.in_ok-entries.ensures.ok c.in_ok-ranks.ensures.ok c.in_ok-order.ensures.same c.in_ok-order.ensures.sorted in
-    on_device c.from_residual-in_err-finish.result
-    (text_gains_beginning _ _ text (_, [], sym (append-nil _), Appends-kept _ _ _ _ c.in_ok-put_system.ensures.ok c.in_err-finish.ensures.bytes))
-
 pub returns-clause-text : goal.returns-clause-text
 returns-clause-text g c =
     let text = text_from_calls c.args.s.now c.labels.result.now _ _ _ _ _ _ _ c.first.result c.states.result c.labels.ensures c.deref.ensures.value c.deref-4.ensures.value c.deref-2.ensures.value c.deref-6.ensures.value c.first.ensures c.states.ensures.value
     c.states.ensures.lts c.in_ok-entries.ensures.ok c.in_ok-ranks.ensures.ok c.in_ok-order.ensures.same c.in_ok-order.ensures.sorted in
-    (_, text, Appends-kept _ _ _ _ c.in_ok-put_system.ensures.ok c.in_ok-finish.ensures.bytes)
+    (_, text, c.in_ok-put_system.ensures.ok)
