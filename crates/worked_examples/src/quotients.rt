@@ -123,15 +123,17 @@ fn counted(alloc: Global, q: &Lts<Counter>, rounds: u128) -> Result<String, Memo
     Ok(format!(in alloc; "{rounds} rounds: {text}")?)
 }
 
+/// The same of the system that the text spells.
+fn of_text(alloc: Global, text: &str, relation: Relation) -> Result<String, Fail> {
+    let l = system(alloc, text)?;
+    Ok(shown(alloc, &l, relation)?)
+}
+
 #[test]
 fn by_strong_bisimulation(rt: HostRuntime) -> Result<(), Fail> {
     for (name, text, want) in STRONG {
-        let l = system(rt.alloc(), text)?;
-        assert_eq!(rt;
-            shown(rt.alloc(), &l, Relation::Strong)?.as_str(),
-            want,
-            "{name}"
-        );
+        let found = of_text(rt.alloc(), text, Relation::Strong)?;
+        assert_eq!(rt; found.as_str(), want, "{name}");
     }
     Ok(())
 }
@@ -139,12 +141,8 @@ fn by_strong_bisimulation(rt: HostRuntime) -> Result<(), Fail> {
 #[test]
 fn by_branching_bisimulation(rt: HostRuntime) -> Result<(), Fail> {
     for (name, text, want) in BRANCHING {
-        let l = system(rt.alloc(), text)?;
-        assert_eq!(rt;
-            shown(rt.alloc(), &l, Relation::Branching)?.as_str(),
-            want,
-            "{name}"
-        );
+        let found = of_text(rt.alloc(), text, Relation::Branching)?;
+        assert_eq!(rt; found.as_str(), want, "{name}");
     }
     Ok(())
 }

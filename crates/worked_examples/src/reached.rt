@@ -57,11 +57,17 @@ fn append_marked(alloc: Global, marks: &[bool], text: &mut String) -> Result<(),
     Ok(())
 }
 
+/// The same of the system that the text spells.
+fn of_text(alloc: Global, text: &str) -> Result<String, Fail> {
+    let l = system(alloc, text)?;
+    Ok(shown(alloc, &l)?)
+}
+
 #[test]
 fn finds_what_is_reachable(rt: HostRuntime) -> Result<(), Fail> {
     for (text, want) in REACHED {
-        let l = system(rt.alloc(), text)?;
-        assert_eq!(rt; shown(rt.alloc(), &l)?.as_str(), want, "{text}");
+        let found = of_text(rt.alloc(), text)?;
+        assert_eq!(rt; found.as_str(), want, "{text}");
     }
     Ok(())
 }
