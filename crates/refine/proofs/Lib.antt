@@ -1,4 +1,5 @@
 pub mod Rising
+pub mod Merging
 pub mod Signing
 pub mod Spending
 pub mod SameLists

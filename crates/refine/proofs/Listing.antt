@@ -1,11 +1,15 @@
 -- The lists of spans: the empty one alone, and one list more at the end of the buffer.
-use Rattle.std.proofs.Common.{◌≡◌, ◌∙◌, ℕ, zero, suc, ◌+◌, ◌-◌, ◌<◌, ◌≤◌, List, [], ◌∷◌, ◌++◌, length, take, ap, refl, sym, subst, arith}
+use Rattle.std.proofs.Common.{◌≡◌, ◌∙◌, ℕ, zero, suc, ◌+◌, ◌-◌, ◌<◌, ◌≤◌, List, [], ◌∷◌, ◌++◌, length, take, get_or, ap, refl, sym, subst, arith}
 use Rattle.std.specs.List.{All, slice_range}
-use Rattle.std.proofs.lemmas.List.{length-append, map-append, get_or_append_left, take_all, drop_all}
-use Rattle.std.proofs.lemmas.List.Elements.{All-head, All-tail, All-append, All-weaker}
+use Rattle.std.specs.List.Sorted.{IsStrictlySortedBy}
+use Rattle.std.proofs.lemmas.List.{length-append, length-map, map-append, get_or-map, get_or_append_left, take_all, drop_all}
+use Rattle.std.proofs.lemmas.List.Elements.{All-head, All-tail, All-append, All-map, All-weaker}
 use Rattle.refine.specs.declared.span.Span.{Span}
 use Rattle.refine.specs.declared.lists.TheConstants.{MOST_LISTS}
 use Rattle.refine.specs.Spans.{no_pairs, list_in, fingerprint_of, IsSpan, lists_of, AreSpans}
+use Rattle.refine.specs.Signed.{pair_cmp}
+use Rattle.refine.specs.Lists.{AreLists}
+use Rattle.refine.proofs.Rising.{rising_none}
 use Rattle.refine.proofs.Spans.{slice_range-append, slice_range-last}
 
 All-only : {X : Type 0} (P : X → Type 0) (x : X) → P x → All P (x ∷ [])
@@ -15,6 +19,28 @@ All-only P x p (suc k) d h = absurd (omega arith)
 list_in-nil : (x : Span) → list_in [] x ≡ []
 list_in-nil x = ap (take (x.end - x.start)) (drop_all {X = ℕ × ℕ} x.start [] (omega arith)) ∙ take_all {A = ℕ × ℕ} (x.end - x.start) [] (omega arith)
 
+-- the lists of spans rise, and the first is empty
+pub AreLists-of : (pairs : List (ℕ × ℕ)) (spans : List Span) → AreSpans pairs spans → AreLists (lists_of pairs spans)
+AreLists-of pairs spans are = record {
+  rise = All-map (IsStrictlySortedBy pair_cmp) (list_in pairs) spans (All-weaker (IsSpan pairs) (λ x. IsStrictlySortedBy pair_cmp (list_in pairs x)) (λ x is. is.rising) spans are.each);
+  some = let size = length-map spans (list_in pairs) in let old = are.some in omega (arith, size, old);
+  first = get_or-map (list_in pairs) spans 0 no_pairs [] are.some ∙ ap (list_in pairs) are.first;
+}
+
+pub rising_at : (pairs pairs' : List (ℕ × ℕ)) (spans : List Span) → AreSpans pairs spans → pairs' ≡ pairs → (k : ℕ) (x : Span) → k < length spans
+    → x ≡ get_or spans k x → IsStrictlySortedBy pair_cmp (list_in pairs' x)
+rising_at pairs pairs' spans are same k x low is =
+    subst (λ l. IsStrictlySortedBy pair_cmp (list_in l x)) (sym same) (subst (λ y. IsStrictlySortedBy pair_cmp (list_in pairs y)) (sym is) (are.each k x low).rising)
+
+-- the span of no pairs alone
+pub AreSpans-first : AreSpans [] (no_pairs ∷ [])
+AreSpans-first = record {
+  each = All-only (IsSpan []) no_pairs (record { forward = omega arith; within = omega arith; rising = rising_none pair_cmp; fingerprint = refl });
+  some = omega arith;
+  few = omega arith;
+  first = refl;
+}
+
 -- of no pairs, the first span alone has the empty list alone
 pub lists_of-cleared : (spans : List Span) → 1 ≤ length spans → lists_of [] (take 1 spans) ≡ [] ∷ []
 lists_of-cleared [] some = absurd (omega arith)
@@ -23,7 +49,7 @@ lists_of-cleared (x ∷ xs) some = ap (λ l. l ∷ []) (list_in-nil x)
 pub AreSpans-cleared : (pairs : List (ℕ × ℕ)) (spans : List Span) → AreSpans pairs spans → AreSpans [] (take 1 spans)
 AreSpans-cleared pairs [] are = absurd (let some = are.some in omega arith)
 AreSpans-cleared pairs (x ∷ xs) are = record {
-  each = All-only (IsSpan []) x (subst (IsSpan []) (sym are.first) (record { forward = omega arith; within = omega arith; fingerprint = refl }));
+  each = All-only (IsSpan []) x (subst (IsSpan []) (sym are.first) (record { forward = omega arith; within = omega arith; rising = rising_none pair_cmp; fingerprint = refl }));
   some = omega arith;
   few = omega arith;
   first = are.first;
@@ -38,6 +64,7 @@ module _ (pairs more : List (ℕ × ℕ)) where
   IsSpan-more x is = record {
     forward = is.forward;
     within = let old = is.within in omega (arith, length-append pairs more);
+    rising = subst (IsStrictlySortedBy pair_cmp) (sym (list_in-more x is)) is.rising;
     fingerprint = is.fingerprint ∙ ap fingerprint_of (sym (list_in-more x is));
   }
 
@@ -60,7 +87,7 @@ module _ (pairs more : List (ℕ × ℕ)) where
 
 -- the span of a list that goes last in the buffer goes last among the spans
 module _ (pairs list : List (ℕ × ℕ)) (spans : List Span) (new : Span) (are : AreSpans pairs spans)
-    (start : new.start ≡ length pairs) (end : new.end ≡ length pairs + length list) (print : new.fingerprint ≡ fingerprint_of list) where
+    (start : new.start ≡ length pairs) (end : new.end ≡ length pairs + length list) (rising : IsStrictlySortedBy pair_cmp list) (print : new.fingerprint ≡ fingerprint_of list) where
   list-new : list_in (pairs ++ list) new ≡ list
   list-new = ap (λ i. slice_range (pairs ++ list) i new.end) start ∙ slice_range-last pairs list new.end end
 
@@ -68,6 +95,7 @@ module _ (pairs list : List (ℕ × ℕ)) (spans : List Span) (new : Span) (are 
   IsSpan-new = record {
     forward = omega arith;
     within = omega (arith, length-append pairs list);
+    rising = subst (IsStrictlySortedBy pair_cmp) (sym list-new) rising;
     fingerprint = print ∙ ap fingerprint_of (sym list-new);
   }
 

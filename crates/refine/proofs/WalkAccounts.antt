@@ -2,12 +2,13 @@
 use Rattle.std.proofs.Common.{◌≡◌, ◌≢◌, ◌⊎◌, ℕ, ◌+◌, ◌<◌, ◌≤◌, List, length, refl, sym, ◌∙◌, ap, subst, inl, inr, arith}
 use Rattle.std.proofs.lemmas.Bool.{cases_eq, cases_lt}
 use Rattle.lts.specs.Lts.{Grouped, place_at, IsRow}
+use Rattle.refine.specs.Lists.{Grow}
 use Rattle.refine.specs.Walks.{Gives, AreOnPath, Holds, LeadsUp, HoldsAll, Accounts, AccountsAll}
 use Rattle.refine.specs.declared.walk.Mark.{Mark}
 use Rattle.refine.specs.declared.walk.Mark.TheVariants.{Unseen, OnPath, Finished}
 use Rattle.refine.specs.declared.walk.Item.{Item}
 use Rattle.refine.specs.declared.walk.Item.TheVariants.{Listed}
-use Rattle.refine.proofs.WalkHolds.{Grow, Gives-more, Holds-change, HoldsAll-change, Holds-last, Accounts-change}
+use Rattle.refine.proofs.WalkHolds.{Gives-more, Holds-change, HoldsAll-change, Holds-last, Accounts-change}
 use Rattle.refine.proofs.WalkMarks.{not_unseen, not_finished, stays_below, stays_finished}
 
 module _ (l : Grouped) (blocks : List ℕ) where

@@ -7,6 +7,7 @@ use Rattle.theory.specs.Bisimulation.Relation.{branching}
 use Rattle.theory.specs.Blocks.{Inert, Signature}
 use Rattle.lts.specs.Labels.{text_of}
 use Rattle.lts.specs.Lts.{Grouped, Triple, place_at, system_of, IsTriple, IsLts, IsRow}
+use Rattle.refine.specs.Lists.{list_at}
 use Rattle.refine.specs.Signed.{HasPair}
 use Rattle.refine.specs.StrongPairs.{pair_under}
 use Rattle.refine.specs.Walks.{Laws, mark_at, visit_at, state_at, next_at, end_at, back_at, bound_at, item_at, IsBound, IsInert, Accounts, Walks}
@@ -223,15 +224,14 @@ module _ (laws : Laws) (l : Grouped) (lts : IsLts l) (blocks : List ℕ) (lists 
         → Walks l blocks lists' new.marks.items new.path.items back new.bounds.items new.items.items
     left_walks back is =
         let c' = (bound_at old.bounds.items (length old.bounds.items - 1)).items in
-        subst (λ xs. Walks l blocks xs new.marks.items new.path.items back new.bounds.items new.items.items) (sym leaves.lists)
-        (walks_same l blocks (lists ++ leaves.list ∷ []) new.marks.items new.marks.items (take old.at old.path.items) new.path.items (back_at old.path.items old.at) back
-        (take (length old.bounds.items - 1) old.bounds.items) new.bounds.items (take c' old.items.items ++ Listed (length lists) ∷ []) new.items.items
-        refl leaves.path is leaves.bounds (leaves.items ∙ ap (λ x. take x old.items.items ++ Listed (length lists) ∷ []) (sym items))
-        (Walks-leave laws l lts blocks lists old.marks.items new.marks.items old.path.items old.at old.bounds.items old.items.items leaves.list walks bounds_some place read
-        (subst (λ x. IsCollected lists old.items.items x leaves.list) (sym items) leaves.collected) leaves.marks))
+        walks_same l blocks lists' new.marks.items new.marks.items (take old.at old.path.items) new.path.items (back_at old.path.items old.at) back
+        (take (length old.bounds.items - 1) old.bounds.items) new.bounds.items (take c' old.items.items ++ Listed leaves.number ∷ []) new.items.items
+        refl leaves.path is leaves.bounds (leaves.items ∙ ap (λ x. take x old.items.items ++ Listed leaves.number ∷ []) (sym items))
+        (Walks-leave laws l lts blocks lists lists' old.marks.items new.marks.items old.path.items old.at old.bounds.items old.items.items leaves.number walks bounds_some
+        place read leaves.within leaves.grow (subst (λ x. IsCollected lists old.items.items x (list_at lists' leaves.number)) (sym items) leaves.collected) leaves.marks)
 
     same_unseen : (s : ℕ) → is_unseen (mark_at new.marks.items s) ≡ is_unseen (mark_at old.marks.items s)
-    same_unseen = finishes-unseen old.path.items old.at (length lists) old.marks.items new.marks.items walks.on_path leaves.marks
+    same_unseen = finishes-unseen old.path.items old.at leaves.number old.marks.items new.marks.items walks.on_path leaves.marks
 
     pub left_seen : KeepsSeen old.marks.items new.marks.items
     left_seen s is = unseen_is (mark_at old.marks.items s) (sym (same_unseen s) ∙ ap is_unseen is)
@@ -249,9 +249,11 @@ module _ (laws : Laws) (l : Grouped) (lts : IsLts l) (blocks : List ℕ) (lists 
         let here = walks.rows.here some in
         let size = left_size in
         let same = unseen-same old.marks.items new.marks.items leaves.marks.size same_unseen in
-        let longer = ap length leaves.lists ∙ length_push lists leaves.list in
+        let longer = leaves.grow.longer in
+        let few = leaves.few in
+        let some = numbers.some in
         let room = numbers.numbers in
-        record { size = leaves.marks.size ∙ numbers.size; some = omega (arith, longer); numbers = omega (arith, size, same, longer, room, here) }
+        record { size = leaves.marks.size ∙ numbers.size; some = omega (arith, longer, some); numbers = omega (arith, size, same, few, room, here) }
 
     pub left_ahead : ahead l.places new.marks.items new.path.items ≡ ahead l.places old.marks.items old.path.items
     left_ahead =

@@ -6,11 +6,12 @@ use Rattle.theory.specs.Bisimulation.Relation.{branching}
 use Rattle.theory.specs.Blocks.{Inert}
 use Rattle.lts.specs.Lts.{Grouped, system_of}
 use Rattle.std.specs.Prelude.{slice_index}
+use Rattle.refine.specs.Lists.{Grow}
 use Rattle.refine.specs.Signed.{HasPair}
 use Rattle.refine.specs.Walks.{Laws, Gives, Connects}
 use Rattle.refine.specs.declared.walk.Item.{Item}
 use Rattle.refine.specs.declared.walk.Item.TheVariants.{Listed}
-use Rattle.refine.proofs.WalkHolds.{Grow, Gives-fewer}
+use Rattle.refine.proofs.WalkHolds.{Gives-fewer}
 
 -- inert steps lead from s to t
 abbrev pub Ties : Grouped → List ℕ → ℕ → ℕ → Type 0

@@ -1,18 +1,13 @@
 -- What places hold and what was taken into account, when bounds, items and lists change.
 use Rattle.std.proofs.Common.{◌≡◌, ◌⊎◌, ℕ, ◌+◌, ◌<◌, ◌≤◌, List, length, Contains, refl, sym, subst, inl, inr, arith}
 use Rattle.lts.specs.Lts.{Grouped, Triple, target_of}
-use Rattle.refine.specs.Lists.{list_at}
+use Rattle.refine.specs.Lists.{list_at, Grow}
 use Rattle.refine.specs.StrongPairs.{pair_under}
 use Rattle.refine.specs.Walks.{Gives, IsInert, Holds, LeadsUp, HoldsAll, Accounts}
 use Rattle.refine.specs.declared.walk.Mark.{Mark}
 use Rattle.refine.specs.declared.walk.Mark.TheVariants.{Finished}
 use Rattle.refine.specs.declared.walk.Item.{Item}
 use Rattle.refine.specs.declared.walk.Item.TheVariants.{Pair, Listed}
-
--- each list stays as it is, and there may be more
-pub record Grow (old new : List (List (ℕ × ℕ))) : Type 0 where
-  pub longer : length old ≤ length new
-  pub same : (k : ℕ) → k < length old → list_at new k ≡ list_at old k
 
 pub Grow-none : (lists : List (List (ℕ × ℕ))) → Grow lists lists
 Grow-none lists = record { longer = omega arith; same = λ k h. refl }

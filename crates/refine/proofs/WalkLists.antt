@@ -1,22 +1,18 @@
 -- What the small steps of the walk do with their lists.
-use Rattle.std.proofs.Common.{◌≡◌, ◌≢◌, ◌⊎◌, ◌↔◌, ℕ, ◌+◌, ◌<◌, ◌≤◌, List, [], ◌++◌, length, get_or, set, Contains, sym, ◌∙◌, ap, subst, inl, inr, arith}
-use Rattle.std.specs.List.{dedup}
-use Rattle.std.specs.List.Retain.{IsFiltered, DiffersFromLast}
-use Rattle.std.specs.List.Sorted.{IsSorted, IsPermutation, IsStrictlySortedBy}
+use Rattle.std.proofs.Common.{◌≡◌, ◌≢◌, ◌⊎◌, ◌↔◌, ℕ, ◌+◌, ◌<◌, ◌≤◌, List, [], ◌∷◌, ◌++◌, length, get_or, set, Contains, sym, ◌∙◌, ap, subst, inl, inr, arith}
+use Rattle.std.specs.List.Sorted.{IsStrictlySortedBy}
 use Rattle.std.proofs.lemmas.Bool.{cases_eq}
-use Rattle.std.proofs.lemmas.List.{get_or-set_same, get_or-set_other, get_or_default}
-use Rattle.std.proofs.lemmas.List.Elements.{Contains-append_left, Contains-append_right, Contains-append_cases}
-use Rattle.std.proofs.lemmas.List.Filters.{dedup_is}
-use Rattle.std.proofs.lemmas.List.Kept.{IsStrictlySortedBy-dedup, Contains-dedup, Contains-from_dedup}
-use Rattle.std.proofs.lemmas.List.Sorted.{Contains-permutation, IsPermutation-sym}
+use Rattle.std.proofs.lemmas.List.{get_or-set_same, get_or-set_other, get_or_default, get_or_append_left, get_or_push, length_push}
+use Rattle.refine.specs.Lists.{list_at, merged, Grow}
 use Rattle.refine.specs.Signed.{pair_cmp}
 use Rattle.refine.specs.Walks.{mark_at, item_at, Gives}
-use Rattle.refine.specs.Steps.{IsCollected}
+use Rattle.refine.specs.Steps.{IsGiven, IsCollected, IsLacking}
 use Rattle.refine.specs.declared.walk.Mark.{Mark}
 use Rattle.refine.specs.declared.walk.Mark.TheVariants.{Unseen, Finished}
 use Rattle.refine.specs.declared.walk.Item.{Item}
-use Rattle.refine.proofs.Rising.{pair_total}
-use Rattle.refine.proofs.StrongRow.{pair_eq, pair_eq_equiv, pair_ties, pair_equal}
+use Rattle.refine.specs.declared.walk.Item.TheVariants.{Listed}
+use Rattle.refine.proofs.Merging.{has_or_lacks, merged_has, merged_rises}
+use Rattle.refine.proofs.WalkHolds.{Gives-more}
 
 -- a mark that is set
 pub mark_set : (marks : List Mark) (t : ℕ) (m : Mark) → t < length marks → mark_at (set marks t m) t ≡ m
@@ -66,44 +62,71 @@ finish_others old marks f p number x state fp is others s = elim (cases_eq s x) 
   ]
 ]
 
--- the pairs of one item more
-pub collect_more : (lists : List (List (ℕ × ℕ))) (items : List Item) (f i : ℕ) (x : Item) (old new : List (ℕ × ℕ)) → f ≤ i → x ≡ item_at items i
-    → ((z : ℕ × ℕ) → Contains new z ↔ (Contains old z ⊎ Gives lists x z))
-    → ((z : ℕ × ℕ) → Contains old z ↔ ((j : ℕ) × (f ≤ j) × (j < i) × Gives lists (item_at items j) z))
-    → (z : ℕ × ℕ) → Contains new z ↔ ((j : ℕ) × (f ≤ j) × (j < i + 1) × Gives lists (item_at items j) z)
-collect_more lists items f i x old new fi is gathered before z = (
+-- the pairs of one item more that a list lacks
+pub collect_more : (lists : List (List (ℕ × ℕ))) (items : List Item) (f i : ℕ) (x : Item) (known old new : List (ℕ × ℕ)) → f ≤ i → x ≡ item_at items i
+    → ((z : ℕ × ℕ) → Contains new z ↔ (Contains old z ⊎ (Gives lists x z × ¬ Contains known z)))
+    → ((z : ℕ × ℕ) → Contains old z ↔ (((j : ℕ) × (f ≤ j) × (j < i) × Gives lists (item_at items j) z) × ¬ Contains known z))
+    → (z : ℕ × ℕ) → Contains new z ↔ (((j : ℕ) × (f ≤ j) × (j < i + 1) × Gives lists (item_at items j) z) × ¬ Contains known z)
+collect_more lists items f i x known old new fi is gathered before z = (
   λ c. elim ((gathered z).0 c) [
-    | inl o ↦ (let b = (before z).0 o in (b.0, b.1, omega (arith, b.2), b.3))
-    | inr g ↦ (i, fi, omega arith, subst (λ y. Gives lists y z) is g)
+    | inl o ↦ (let b = (before z).0 o in ((b.0.0, b.0.1, omega (arith, b.0.2), b.0.3), b.1))
+    | inr g ↦ ((i, fi, omega arith, subst (λ y. Gives lists y z) is g.0), g.1)
   ],
-  λ j. elim (cases_eq j.0 i) [
-    | inl e ↦ (gathered z).1 (inr (subst (λ y. Gives lists y z) (ap (item_at items) e ∙ sym is) j.3))
-    | inr d ↦ (gathered z).1 (inl ((before z).1 (j.0, j.1, omega (arith, j.2, d), j.3)))
+  λ (j, lacks). elim (cases_eq j.0 i) [
+    | inl e ↦ (gathered z).1 (inr (subst (λ y. Gives lists y z) (ap (item_at items) e ∙ sym is) j.3, lacks))
+    | inr d ↦ (gathered z).1 (inl ((before z).1 ((j.0, j.1, omega (arith, j.2, d), j.3), lacks)))
   ],
 )
 
--- pairs that are sorted and freed of repeats
-pub collected : (lists : List (List (ℕ × ℕ))) (items : List Item) (f i : ℕ) (xs ys zs : List (ℕ × ℕ))
-    → ((z : ℕ × ℕ) → Contains xs z ↔ ((j : ℕ) × (f ≤ j) × (j < i) × Gives lists (item_at items j) z))
-    → ((j : ℕ) → f ≤ j → (j < i) ↔ (j < length items))
-    → IsPermutation xs ys → IsSorted pair_cmp ys → IsFiltered (DiffersFromLast pair_eq) [] ys zs → IsCollected lists items f zs
-collected lists items f i xs ys zs has ends same sorted filtered =
-    let e : zs ≡ dedup pair_eq ys = dedup_is pair_eq ys zs filtered in
-    record {
-      exactly = λ z. (
-        λ c.
-            let was = (has z).0 (Contains-permutation ys xs z (IsPermutation-sym xs ys same) (Contains-from_dedup pair_eq ys z (subst (λ l. Contains l z) e c))) in
-            (was.0, was.1, (ends was.0 was.1).0 was.2, was.3),
-        λ j.
-            subst (λ l. Contains l z) (sym e)
-            (Contains-dedup pair_eq_equiv pair_equal ys z (Contains-permutation xs ys z same ((has z).1 (j.0, j.1, (ends j.0 j.1).1 j.2, j.3)))),
-      );
-      rising = subst (IsStrictlySortedBy pair_cmp) (sym e) (IsStrictlySortedBy-dedup pair_total pair_ties ys sorted);
-    }
+-- pairs in order are those that the items give and a list lacks
+pub lacking : (lists : List (List (ℕ × ℕ))) (items : List Item) (f i : ℕ) (known xs zs : List (ℕ × ℕ)) → i ≡ length items → IsStrictlySortedBy pair_cmp zs
+    → ((z : ℕ × ℕ) → Contains zs z ↔ Contains xs z)
+    → ((z : ℕ × ℕ) → Contains xs z ↔ (((j : ℕ) × (f ≤ j) × (j < i) × Gives lists (item_at items j) z) × ¬ Contains known z))
+    → IsLacking lists items f known zs
+lacking lists items f i known xs zs end rising same has = record {
+  exactly = λ z. (
+    λ c. (let was = (has z).0 ((same z).0 c) in ((was.0.0, was.0.1, omega (arith, was.0.2, end), was.0.3), was.1)),
+    λ (j, lacks). (same z).1 ((has z).1 ((j.0, j.1, omega (arith, j.2, end), j.3), lacks)),
+  );
+  rising = rising;
+}
 
--- the pairs of a list at the end
-pub gathered : (old new list : List (ℕ × ℕ)) → new ≡ old ++ list → (z : ℕ × ℕ) → Contains new z ↔ (Contains old z ⊎ Contains list z)
-gathered old new list e z = (
-  λ c. Contains-append_cases old list z (subst (λ l. Contains l z) e c),
-  λ h. subst (λ l. Contains l z) (sym e) (elim h [ inl c ↦ Contains-append_left old list z c | inr c ↦ Contains-append_right old list z c ]),
-)
+-- an item that gives a pair gives it still, where there are more lists
+pub given_before : (old new : List (List (ℕ × ℕ))) → Grow old new → (items : List Item) (f : ℕ)
+    → ((j k : ℕ) → j < length items → item_at items j ≡ Listed k → k < length old)
+    → (z : ℕ × ℕ) → IsGiven old items f z → IsGiven new items f z
+given_before old new grow items f listed z (j, low, high, g) = (j, low, high, Gives-more old new grow (item_at items j) (λ k. listed j k high) z g)
+
+-- what items give, where one of the lists that they refer to and the pairs that it lacks are known
+module _ (lists : List (List (ℕ × ℕ))) (items : List Item) (f : ℕ) (known lacks : List (ℕ × ℕ))
+    (rise : IsStrictlySortedBy pair_cmp known) (given : (z : ℕ × ℕ) → Contains known z → IsGiven lists items f z) (lacking : IsLacking lists items f known lacks) where
+  pub collected_known : lacks ≡ [] → IsCollected lists items f known
+  collected_known none = record {
+    exactly = λ z. (
+      given z,
+      λ g. elim (has_or_lacks known z) [
+        | inl c ↦ c
+        | inr d ↦ (let (k, low, e) : Contains {X = ℕ × ℕ} [] z = subst (λ l. Contains l z) none ((lacking.exactly z).1 (g, d)) in absurd (omega (arith, low)))
+      ],
+    );
+    rising = rise;
+  }
+
+  pub collected_merged : IsCollected lists items f (merged known lacks)
+  collected_merged = record {
+    exactly = λ z. (
+      λ c. elim ((merged_has z known lacks).0 c) [ inl a ↦ given z a | inr b ↦ ((lacking.exactly z).0 b).0 ],
+      λ g. (merged_has z known lacks).1 (elim (has_or_lacks known z) [ inl c ↦ inl c | inr d ↦ inr ((lacking.exactly z).1 (g, d)) ]),
+    );
+    rising = merged_rises known lacks rise lacking.rising;
+  }
+
+-- a list at the end of lists
+pub Grow-push : (lists : List (List (ℕ × ℕ))) (list : List (ℕ × ℕ)) → Grow lists (lists ++ list ∷ [])
+Grow-push lists list = record {
+  longer = let e = length_push lists list in omega (arith, e);
+  same = λ k h. get_or_append_left lists _ _ k h;
+}
+
+pub pushed_at : (lists : List (List (ℕ × ℕ))) (list : List (ℕ × ℕ)) (k : ℕ) → k ≡ length lists → list_at (lists ++ list ∷ []) k ≡ list
+pushed_at lists list k e = get_or_push lists list _ k (sym e)

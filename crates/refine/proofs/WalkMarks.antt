@@ -3,12 +3,11 @@ use Rattle.std.proofs.Common.{◌≡◌, ◌≢◌, ◌⊎◌, ℕ, ◌+◌, ◌
 use Rattle.std.proofs.lemmas.Bool.{cases_eq, cases_lt}
 use Rattle.theory.specs.Bisimulation.Relation.{branching}
 use Rattle.lts.specs.Lts.{Grouped}
-use Rattle.refine.specs.Lists.{list_at}
+use Rattle.refine.specs.Lists.{list_at, Grow}
 use Rattle.refine.specs.Signed.{IsSignature}
 use Rattle.refine.specs.Walks.{AreOnPath, AreSigned}
 use Rattle.refine.specs.declared.walk.Mark.{Mark}
 use Rattle.refine.specs.declared.walk.Mark.TheVariants.{Unseen, OnPath, Finished}
-use Rattle.refine.proofs.WalkHolds.{Grow}
 
 pub place_same : (p q : ℕ) → OnPath p ≡ OnPath q → p ≡ q
 place_same p q e = cc

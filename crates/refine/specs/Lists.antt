@@ -1,10 +1,28 @@
 -- Lists of pairs that are looked up by their numbers, and the number of each state's list.
-use Rattle.std.specs.Prelude.{ℕ, ◌<◌, ◌≤◌, List, [], length, map, slice_index}
+use Rattle.std.specs.Prelude.{◌≡◌, ℕ, ◌<◌, ◌≤◌, true, List, [], length, map, slice_index}
 use Rattle.std.specs.List.{All, slice_index_or}
+use Rattle.std.specs.List.Sorted.{IsStrictlySortedBy}
+use Rattle.std.specs.Set.{sorted_merge}
+use Rattle.refine.specs.Signed.{pair_cmp}
 
 -- the list number k
 abbrev pub list_at : List (List (ℕ × ℕ)) → ℕ → List (ℕ × ℕ)
 list_at lists k = slice_index_or lists k []
+
+-- the pairs of both lists in rising order, if the lists are
+abbrev pub merged : List (ℕ × ℕ) → List (ℕ × ℕ) → List (ℕ × ℕ)
+merged = sorted_merge pair_cmp true
+
+-- lists in strictly rising order, the first of which is empty
+pub record AreLists (lists : List (List (ℕ × ℕ))) : Type 0 where
+  pub rise : All (IsStrictlySortedBy pair_cmp) lists
+  pub some : 1 ≤ length lists
+  pub first : list_at lists 0 ≡ []
+
+-- each list stays as it is, and there may be more
+pub record Grow (old new : List (List (ℕ × ℕ))) : Type 0 where
+  pub longer : length old ≤ length new
+  pub same : (k : ℕ) → k < length old → list_at new k ≡ list_at old k
 
 -- each number is that of one of the lists
 abbrev pub AreNumbers : List (List (ℕ × ℕ)) → List ℕ → Type 0

@@ -1,6 +1,8 @@
 -- How `Lists` keeps its lists: as spans of one buffer, each with a fingerprint.
 use Rattle.std.specs.Prelude.{◌≡◌, ℕ, ◌+◌, ◌*◌, ◌%◌, ◌^◌, ◌≤◌, List, length, map, fold}
 use Rattle.std.specs.List.{All, slice_range, slice_index_or}
+use Rattle.std.specs.List.Sorted.{IsStrictlySortedBy}
+use Rattle.refine.specs.Signed.{pair_cmp}
 use Rattle.refine.specs.declared.span.Span.{Span}
 use Rattle.refine.specs.declared.span.TheConstants.{SEED, FIRST_FACTOR, SUM_FACTOR}
 use Rattle.refine.specs.declared.lists.TheConstants.{MOST_LISTS}
@@ -21,10 +23,11 @@ no_pairs = record { start = 0; end = 0; fingerprint = SEED }
 abbrev pub list_in : List (ℕ × ℕ) → Span → List (ℕ × ℕ)
 list_in pairs x = slice_range pairs x.start x.end
 
--- it is a span of the pairs, and has the fingerprint of its list
+-- it is a span of the pairs, its list is in rising order, and it has the fingerprint of its list
 pub record IsSpan (pairs : List (ℕ × ℕ)) (x : Span) : Type 0 where
   pub forward : x.start ≤ x.end
   pub within : x.end ≤ length pairs
+  pub rising : IsStrictlySortedBy pair_cmp (list_in pairs x)
   pub fingerprint : x.fingerprint ≡ fingerprint_of (list_in pairs x)
 
 -- the list of each of the spans

@@ -1,10 +1,11 @@
 -- The steps of the walk over inert steps.
-use Rattle.std.specs.Prelude.{◌≡◌, ◌⊎◌, ◌↔◌, ℕ, ◌-◌, ◌<◌, ◌≤◌, List, [], ◌∷◌, ◌++◌, length, take, slice_index, slice_set, Option, MatchOption}
+use Rattle.std.specs.Prelude.{◌≡◌, ◌⊎◌, ◌↔◌, ℕ, ◌+◌, ◌-◌, ◌<◌, ◌≤◌, List, [], ◌∷◌, ◌++◌, length, take, slice_index, slice_set, Option, MatchOption}
 use Rattle.std.specs.List.{Contains}
 use Rattle.std.specs.List.Sorted.{IsStrictlySortedBy}
 use Rattle.lts.specs.Lts.{Grouped, Triple, IsRow}
 use Rattle.theory.specs.System.{internal}
 use Rattle.lts.specs.Labels.{IsNumber}
+use Rattle.refine.specs.Lists.{list_at, Grow}
 use Rattle.refine.specs.Signed.{pair_cmp}
 use Rattle.refine.specs.Walks.{mark_at, state_at, bound_at, item_at, Gives, IsInert, Walks}
 use Rattle.refine.specs.Ahead.{ahead, HasNumbers, steps_ahead}
@@ -73,9 +74,18 @@ Follows t start end old new =
     ⊎ ((q : ℕ) × (mark_at old.marks.items t ≡ OnPath q) × Joins q old new)
     ⊎ ((k : ℕ) × (mark_at old.marks.items t ≡ Finished k) × Adds (Listed k) old new)
 
--- the list has the pairs of the items from number c on, in rising order, each once
+-- an item from number c on gives the pair z
+abbrev pub IsGiven : List (List (ℕ × ℕ)) → List Item → ℕ → ℕ × ℕ → Type 0
+IsGiven lists items c z = (j : ℕ) × (c ≤ j) × (j < length items) × Gives lists (item_at items j) z
+
+-- the list has the pairs that the items from number c on give, in rising order, each once
 pub record IsCollected (lists : List (List (ℕ × ℕ))) (items : List Item) (c : ℕ) (list : List (ℕ × ℕ)) : Type 0 where
-  pub exactly : (z : ℕ × ℕ) → Contains list z ↔ ((j : ℕ) × (c ≤ j) × (j < length items) × Gives lists (item_at items j) z)
+  pub exactly : (z : ℕ × ℕ) → Contains list z ↔ IsGiven lists items c z
+  pub rising : IsStrictlySortedBy pair_cmp list
+
+-- of these pairs, the list has those that another one lacks
+pub record IsLacking (lists : List (List (ℕ × ℕ))) (items : List Item) (c : ℕ) (known list : List (ℕ × ℕ)) : Type 0 where
+  pub exactly : (z : ℕ × ℕ) → Contains list z ↔ (IsGiven lists items c z × ¬ Contains known z)
   pub rising : IsStrictlySortedBy pair_cmp list
 
 -- the states on the path from place f on are finished, and no other mark changes
@@ -94,13 +104,15 @@ Takes l blocks e old new =
     (IsInert l blocks e.0 e × (start end : ℕ) × IsRow l.places e.2 start end × Follows e.2 start end old new)
     ⊎ (¬ IsInert l blocks e.0 e × Adds (Pair e.1 (slice_index blocks e.2)) old new)
 
--- the component that begins at place f, with its items at number c, is finished: its list is put at the end
+-- the component that begins at place f, with its items at number c, is finished: one of the lists is its list, an old one or a new one
 pub record Leaves (f c : ℕ) (old new : Walk) (before after : List (List (ℕ × ℕ))) : Type 0 where
-  pub list : List (ℕ × ℕ)
-  pub lists : after ≡ before ++ list ∷ []
-  pub collected : IsCollected before old.items.items c list
-  pub marks : Finishes old.path.items f (length before) old.marks.items new.marks.items
+  pub number : ℕ
+  pub within : number < length after
+  pub grow : Grow before after
+  pub few : length after ≤ length before + 1
+  pub collected : IsCollected before old.items.items c (list_at after number)
+  pub marks : Finishes old.path.items f number old.marks.items new.marks.items
   pub path : new.path.items ≡ take f old.path.items
   pub bounds : new.bounds.items ≡ take (length old.bounds.items - 1) old.bounds.items
-  pub items : new.items.items ≡ take c old.items.items ++ Listed (length before) ∷ []
+  pub items : new.items.items ≡ take c old.items.items ++ Listed number ∷ []
   pub trail : new.trail.items ≡ old.trail.items

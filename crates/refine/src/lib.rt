@@ -5,6 +5,7 @@
 mod branching;
 mod lists;
 mod marks;
+mod ordered;
 mod partition;
 mod refinement;
 mod sense;

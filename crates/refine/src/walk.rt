@@ -4,13 +4,15 @@ ghost use Rattle.std.specs.Prelude.{◌≡◌, ◌⊎◌, ◌↔◌, ℕ, ◌+�
 ghost use Rattle.std.specs.List.{All, Contains};
 ghost use Rattle.lts.specs.Lts.{IsRow};
 ghost use Rattle.refine.specs.Walks.{mark_at, visit_at, state_at, item_at, Gives};
-ghost use Rattle.refine.specs.Steps.{Enters, Cuts, Joins, Adds, Follows, IsCollected, Finishes, Leaves};
+ghost use Rattle.refine.specs.Lists.{list_at, Grow};
+ghost use Rattle.refine.specs.Steps.{Enters, Cuts, Joins, Adds, Follows, IsGiven, IsCollected, IsLacking, Finishes, Leaves};
 ghost use Rattle.refine.specs.Ahead.{IsTrail};
 ghost use Rattle.refine.specs.declared.lists.TheConstants.{MOST_LISTS};
 ghost use Rattle.refine.specs.declared.walk.Mark.TheVariants.{Unseen, OnPath, Finished};
 ghost use Rattle.refine.specs.declared.walk.Item.TheVariants.{Pair, Listed};
 
-use crate::lists::Lists;
+use crate::lists::{EMPTY, Lists};
+use crate::ordered::order;
 use lts::Memory;
 use std::alloc::Global;
 
@@ -207,8 +209,7 @@ impl Walk {
         ensures trail { self.new.trail.items ≡ self.old.trail.items }
         ensures lists { length lists.old ≤ length lists.new }
     {
-        collect(&self.items, from, lists, &mut self.pairs)?;
-        let list = lists.push(&self.pairs)?;
+        let list = list_from(&self.items, from, lists, &mut self.pairs)?;
         self.bounds.pop();
         self.items.truncate(from);
         self.items.push(Item::Listed(list))?;
@@ -250,41 +251,96 @@ pub(crate) fn mark_members(marks: &mut [Mark], path: &[Visit], from: usize, list
     }
 }
 
-/// Collects the pairs of the items from the number `from` on, in rising order, each once.
+/// The number of the list of the pairs that the items from the number `from` on give. It is the longest list that they refer
+/// to if that has all the pairs, and else a new one.
 ///
 /// Fails if there is no memory for it.
-pub(crate) fn collect(
+fn list_from(
+    items: &[Item],
+    from: usize,
+    lists: &mut Lists,
+    pairs: &mut Vec<(u32, u32)>,
+) -> Result<u32, Memory>
+    requires listed { (j k : ℕ) → j < length items.now → item_at items.now j ≡ Listed k → k < length lists.old }
+    requires within { from ≤ length items.now }
+    requires lists { length lists.old < MOST_LISTS }
+    ensures within { IfOk result (λ k. k < length lists.new) }
+    ensures collected { IfOk result (λ k. IsCollected lists.old items.now from (list_at lists.new k)) }
+    ensures grow { Grow lists.old lists.new }
+    ensures few { length lists.new ≤ length lists.old + 1 }
+{
+    lists.known();
+    let longest = longest(items, from, lists);
+    collect(items, from, lists, longest, pairs)?;
+    if pairs.is_empty() {
+        return Ok(longest);
+    }
+    let list = lists.extend(longest, pairs)?;
+    Ok(list)
+}
+
+/// The number of the longest list that the items from the number `from` on refer to; of the empty one if there is none.
+fn longest(items: &[Item], from: usize, lists: &Lists) -> u32
+    requires listed { (j k : ℕ) → j < length items.now → item_at items.now j ≡ Listed k → k < length lists.now }
+    requires within { from ≤ length items.now }
+    ensures within { result < length lists.now }
+    ensures given { (z : ℕ × ℕ) → Contains (list_at lists.now result) z → IsGiven lists.now items.now from z }
+{
+    lists.known();
+    let mut longest = EMPTY;
+    for j in from..items.len() {
+        if let Item::Listed(list) = items[j] {
+            if lists.of(longest).len() < lists.of(list).len() {
+                longest = list;
+            }
+        }
+    }
+    longest
+}
+
+/// Collects the pairs that the items from the number `from` on give and the list `known` lacks, in rising order, each once.
+///
+/// Fails if there is no memory for it.
+fn collect(
     items: &[Item],
     from: usize,
     lists: &Lists,
+    known: u32,
     pairs: &mut Vec<(u32, u32)>,
 ) -> Result<(), Memory>
     requires listed { (j k : ℕ) → j < length items.now → item_at items.now j ≡ Listed k → k < length lists.now }
     requires within { from ≤ length items.now }
-    ensures { OnOk result (IsCollected lists.now items.now from pairs.new.items) }
+    requires known { known < length lists.now }
+    ensures { OnOk result (IsLacking lists.now items.now from (list_at lists.now known) pairs.new.items) }
 {
     pairs.clear();
     for j in from..items.len() {
-        gather(items[j], lists, pairs)?;
+        gather(items[j], lists, known, pairs)?;
     }
-    pairs.sort_unstable();
-    pairs.dedup();
+    order(pairs);
     Ok(())
 }
 
-/// Puts the pairs of the item at the end.
-fn gather(item: Item, lists: &Lists, pairs: &mut Vec<(u32, u32)>) -> Result<(), Memory>
-    requires { (k : ℕ) → item ≡ Listed k → k < length lists.now }
-    ensures { OnOk result ((z : ℕ × ℕ) →
-        Contains pairs.new.items z ↔ (Contains pairs.old.items z ⊎ Gives lists.now item z)) }
+/// Appends the pairs that the item gives and the list `known` lacks.
+///
+/// Fails if there is no memory for them.
+fn gather(item: Item, lists: &Lists, known: u32, pairs: &mut Vec<(u32, u32)>) -> Result<(), Memory>
+    requires listed { (k : ℕ) → item ≡ Listed k → k < length lists.now }
+    requires known { known < length lists.now }
+    ensures { OnOk result ((z : ℕ × ℕ) → Contains pairs.new.items z
+        ↔ (Contains pairs.old.items z ⊎ (Gives lists.now item z × ¬ Contains (list_at lists.now known) z))) }
 {
     match item {
         Item::Pair(label, block) => {
-            pairs.push((label, block))?;
+            if !lists.has(known, (label, block)) {
+                pairs.push((label, block))?;
+            }
             return Ok(());
         }
         Item::Listed(list) => {
-            pairs.extend_from_slice(lists.of(list))?;
+            if list != known {
+                lists.append_missing(list, known, pairs)?;
+            }
             return Ok(());
         }
     }
