@@ -2,12 +2,16 @@
 use Rattle.std.proofs.Common.{◌≡◌, ◌⊎◌, ℕ, ◌*◌, List, Option, Some, None, IfSome, Result, Err, IfOk, IfErr, inl, inr, subst, append-nil, arith}
 use Rattle.std.proofs.lemmas.Result.{IfErr-at_err}
 use Rattle.std.specs.Io.KnownBytes.{Consumes, IsAtEnd}
+use Rattle.theory.specs.Bisimulation.{Relation}
 use Rattle.lts.specs.Meter.{Counts}
 use Rattle.quotient.specs.Bounds.{KeepsTo}
+use Rattle.autfmt.specs.Bounds.{Bounds}
 use Rattle.autfmt.specs.declared.fault.Fault.{Fault}
 use Rattle.autfmt.specs.declared.fault.Fault.TheVariants.{Device, Memory}
 use Rattle.autfmt.specs.Outcomes.{Takes}
 use Rattle.autfmt.specs.Readers.{IsTextFault}
+use Rattle.autbis.specs.declared.run.Counts.{Counts as Sizes}
+use Rattle.autbis.specs.Runs.{IsMinimised, RunsTo}
 
 -- the answer is the error e
 abbrev pub IsError : {T E : Type 0} → Result T E → E → Type 0
@@ -60,3 +64,15 @@ module _ (n k m j : ℕ) (at : Counts) (states : n ≡ k) (transitions : m ≡ j
     at_least = omega arith;
     at_most = rw (← transitions) keeps.at_most;
   }
+
+-- what a run does with a text that was told
+pub is_minimised : (rel : Relation) (bounds : Bounds) (H : List (List ℕ)) (rest old new : Option (List ℕ)) (at : Counts) (sizes : Sizes)
+    (told : Option (List ℕ)) → IfSome told (λ text. RunsTo rel bounds H text rest old new at sizes) →
+    IfSome told (λ text. IsMinimised rel bounds H text old new)
+is_minimised rel bounds H rest old new at sizes None runs = tt
+is_minimised rel bounds H rest old new at sizes (Some text) runs = (runs.to, runs.written)
+
+-- and the same within equal bounds
+pub at_bounds : (rel : Relation) (bounds other : Bounds) (H : List (List ℕ)) (told old new : Option (List ℕ)) → bounds ≡ other →
+    IfSome told (λ text. IsMinimised rel bounds H text old new) → IfSome told (λ text. IsMinimised rel other H text old new)
+at_bounds rel bounds other H told old new same is = subst (λ b. IfSome told (λ text. IsMinimised rel b H text old new)) same is

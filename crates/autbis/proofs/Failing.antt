@@ -1,4 +1,4 @@
--- What the exit status of a comparison that failed tells: which text is faulty, or what failed.
+-- What the exit status of a run or comparison that failed tells: which text is faulty, or what failed.
 use Rattle.std.proofs.Common.{◌≡◌, ◌⊎◌, ℕ, List, ◌++◌, Option, Some, None, IfSome, inl, inr, ap, refl, sym, subst, arith}
 use Rattle.std.specs.Io.KnownBytes.{Consumes}
 use Rattle.theory.specs.Bisimulation.{Relation}
@@ -14,7 +14,8 @@ use Rattle.autbis.specs.Comparisons.CmpFails.{first_side, behind_first}
 use Rattle.autbis.specs.Comparisons.FailsBehindFirst.{second_side, run_side}
 use Rattle.autbis.specs.Comparisons.NoLine.{no_memory as no_room, failed_sink}
 use Rattle.autbis.specs.Reports.{status_of}
-use Rattle.autbis.specs.Runs.{IsFaulty}
+use Rattle.autbis.specs.Runs.{IsFaulty, RunFails}
+use Rattle.autbis.specs.Runs.RunFails.{not_read, no_memory as run_no_memory, failed_sink as run_failed_sink}
 use Rattle.autbis.proofs.Carried.{all_taken}
 use Rattle.autfmt.specs.Faults.{FirstFault}
 use Rattle.autfmt.specs.Readers.{IsTextFault}
@@ -110,3 +111,12 @@ module _ {rel : Relation} {bounds : Bounds} {H : List (List ℕ)} {a' b b' old n
       absurd (omega (arith, ap status_of device, two))
   nothing_failed fine (behind_first sound at_end second took' (run_side side sound' at_end' both counts (failed_sink device failed same verdict begun))) (inr four) =
       absurd (omega (arith, ap status_of device, four))
+
+-- with the status 2 a run's text is faulty, and its source did not fail
+pub faulty_run : {rel : Relation} {bounds : Bounds} {H : List (List ℕ)} {given : List ℕ} {rest old new : Option (List ℕ)} {source sink : ℕ}
+    {unchanged : Type 0} {at : Counts} {fault : Fault} (told : Option (List ℕ)) → Consumes told rest given →
+    RunFails rel bounds H given rest source sink unchanged old new at fault → status_of fault ≡ 2 → (source ≡ 0) × IfSome told (IsFaulty bounds)
+faulty_run {bounds = bounds} {given = given} {rest = rest} {source = source} {fault = fault} told took (not_read refused same fresh) two =
+    (sound_with_2_or_4 bounds given rest source fault refused (inl two), faulty_told bounds given rest source fault told took refused two)
+faulty_run told took (run_no_memory memory sound at_end same counts) two = absurd (omega (arith, ap status_of memory, two))
+faulty_run told took (run_failed_sink device sound at_end failed begun counts) two = absurd (omega (arith, ap status_of device, two))

@@ -1,6 +1,6 @@
 -- A whole run: what it does with the system that a text reads as, and why it does not.
 use Rattle.std.specs.Prelude.{◌≡◌, ℕ, ◌*◌, ◌≤◌, List, length, Option}
-use Rattle.std.specs.Io.KnownBytes.{IsAtEnd}
+use Rattle.std.specs.Io.KnownBytes.{Appends, IsAtEnd}
 use Rattle.theory.specs.System.{System, IsSystem, Hide}
 use Rattle.theory.specs.Bisimulation.{Relation, Bisimilar, Equivalent}
 use Rattle.theory.specs.Blocks.{Turns}
@@ -15,7 +15,8 @@ use Rattle.autfmt.specs.declared.fault.Fault.TheVariants.{Device, Memory}
 use Rattle.autfmt.specs.Faults.{FirstFault}
 use Rattle.autfmt.specs.Outcomes.{Refuses}
 use Rattle.autfmt.specs.Readers.{IsTextFault}
-use Rattle.autfmt.specs.Written.{Text, IsInWrittenOrder, GainsText, GainsBeginning}
+use Rattle.autfmt.specs.Stream.{AppendsBeginning}
+use Rattle.autfmt.specs.Written.{IsInWrittenOrder, listed}
 use Rattle.autbis.specs.declared.run.Counts.{Counts}
 
 -- Q is the quotient of A, equivalent to A, with no two bisimilar states and the fewest of all that are equivalent
@@ -25,41 +26,37 @@ pub record Minimises (rel : Relation) (A Q : System) : Type 0 where
   pub no_two_bisimilar : (s t : ℕ) → Bisimilar rel Q s Q t → s ≡ t
   pub smallest : (B : System) → IsSystem B → Equivalent rel A B → Q.states ≤ B.states
 
--- the text of Q reads, within the bounds, as Q with its transitions in the order in which they are written
-abbrev pub IsReadAgain : Bounds → System → Type 0
-IsReadAgain bounds Q = (t : List ℕ) → Text Q t → (B : System) × IsInWrittenOrder Q B × Reads bounds t B
-
--- a text reads as a system of these counts; with the labels of H hidden, a sink has gained the text of what minimises it
-pub record MinimisesText
-    (rel : Relation) (bounds : Bounds) (H : List (List ℕ)) (text : List ℕ) (old new : Option (List ℕ)) (counts : Counts) : Type 0 where
+-- what a text is minimised to: it reads as the input, and the output minimises that, its labels of H hidden; the listing is the
+-- output with its transitions in the order in which they are written, and reads again
+pub record MinimisedText (rel : Relation) (bounds : Bounds) (H : List (List ℕ)) (text : List ℕ) : Type 0 where
   pub input : System
   pub output : System
+  pub listing : System
   pub read : Reads bounds text input
-  pub states : counts.states ≡ input.states
-  pub transitions : counts.transitions ≡ length input.transitions
   pub minimises : Minimises rel (Hide H input) output
-  pub written : GainsText output old new
-  pub read_again : IsReadAgain bounds output
+  pub order : IsInWrittenOrder output listing
+  pub read_again : Reads bounds (listed listing) listing
 
--- the text reads as a system, and with the labels of H hidden, a sink has gained the text of what minimises it
+-- a sink has gained the text of what the text is minimised to
 abbrev pub IsMinimised : Relation → Bounds → List (List ℕ) → List ℕ → Option (List ℕ) → Option (List ℕ) → Type 0
-IsMinimised rel bounds H text old new = (counts : Counts) × MinimisesText rel bounds H text old new counts
+IsMinimised rel bounds H text old new = (to : MinimisedText rel bounds H text) × Appends old new (listed to.listing)
 
--- the text reads as a system; with the labels of H hidden, a sink has gained a beginning of the text of its quotient
+-- a sink has gained a beginning of the text of what the text is minimised to
 abbrev pub BeginsQuotient : Relation → Bounds → List (List ℕ) → List ℕ → Option (List ℕ) → Option (List ℕ) → Type 0
-BeginsQuotient rel bounds H text old new =
-    (A Q : System) × Reads bounds text A × Quotient rel (Hide H A) Q × GainsBeginning Q old new
+BeginsQuotient rel bounds H text old new = (to : MinimisedText rel bounds H text) × AppendsBeginning old new (listed to.listing)
 
 -- the text does not read as a system: it has a first fault
 abbrev pub IsFaulty : Bounds → List ℕ → Type 0
 IsFaulty bounds text = (f : Fault) × IsTextFault f × FirstFault bounds text f
 
--- a run read a text to its end, minimised its system, wrote the text of that, and made the rounds that the system takes, each
--- with a visit of every transition, and at most two visits more of each
+-- a run read a text to its end, wrote the text of what it is minimised to, and made the rounds that its system takes, each with
+-- a visit of every transition, and at most two visits more of each
 pub record RunsTo (rel : Relation) (bounds : Bounds) (H : List (List ℕ)) (text : List ℕ) (rest : Option (List ℕ))
     (old new : Option (List ℕ)) (at : meter.Counts) (counts : Counts) : Type 0 where
-  pub minimised : MinimisesText rel bounds H text old new counts
-  pub turns : Turns rel (Hide H minimised.input) at.rounds
+  pub to : MinimisedText rel bounds H text
+  pub sizes : counts ≡ record { states = to.input.states; transitions = length to.input.transitions }
+  pub written : Appends old new (listed to.listing)
+  pub turns : Turns rel (Hide H to.input) at.rounds
   pub keeps : KeepsTo counts.states counts.transitions 2 at (at.rounds * counts.transitions)
   pub at_end : IsAtEnd rest
 

@@ -6,7 +6,7 @@ ghost use Rattle.autfmt.specs.declared.fault.Fault.TheVariants.{Memory};
 ghost use Rattle.autfmt.specs.Faults.{FirstFault};
 ghost use Rattle.autfmt.specs.Outcomes.{Takes};
 ghost use Rattle.autfmt.specs.Readers.{IsTextFault};
-ghost use Rattle.autbis.specs.Runs.{BeginsQuotient, MinimisesText, RunFails, RunsTo};
+ghost use Rattle.autbis.specs.Runs.{BeginsQuotient, RunFails, RunsTo};
 
 use autfmt::{Fault, Hidden, Limits, Sink, Source, read_hiding, write};
 use lts::{Counter, Lts, Meter};
@@ -54,7 +54,8 @@ pub fn run_min<M: Meter, R: Source, W: Sink>(
 
     // The same of a whole text that the source tells.
     ensures minimised { IfSome (R.rest r.old) (λ text.
-        IfOk result (MinimisesText (meant rel) lim.now h.now text (W.written w.old) (W.written w.new))) }
+        IfOk result (RunsTo (meant rel) lim.now h.now text (R.rest r.new)
+        (W.written w.old) (W.written w.new) (M.counted m.new))) }
     ensures fault { IfSome (R.rest r.old) (λ text. IfErr result (λ f. IsTextFault f → FirstFault lim.now text f)) }
 
     // What is left.

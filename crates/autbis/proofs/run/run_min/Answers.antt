@@ -1,4 +1,5 @@
-use Rattle.std.proofs.Common.{◌∙◌, ℕ, List, length, Option, Err, ap, refl, inl, inr, sym, subst, arith}
+use Rattle.std.proofs.Common.{◌∙◌, ℕ, List, length, Option, Err, ap, ap₂, refl, inl, inr, sym, subst, arith}
+use Rattle.std.specs.Io.KnownBytes.{Appends, IsAtEnd}
 use Rattle.std.proofs.lemmas.List.{length-map}
 use Rattle.std.proofs.lemmas.List.Sorted.{IsPermutation-sym}
 use Rattle.std.proofs.lemmas.Result.{err_from_is_err_and}
@@ -9,8 +10,9 @@ use Rattle.quotient.specs.Relations.{meant}
 use Rattle.lts.specs.Lts.{transition_of, system_of}
 use Rattle.autfmt.specs.declared.fault.Fault.TheVariants.{Memory}
 use Rattle.autfmt.specs.Texts.{Reads}
-use Rattle.autfmt.specs.Written.{GainsText, failures_after}
-use Rattle.autbis.specs.Runs.{Minimises, MinimisesText, IsReadAgain, CountsPart}
+use Rattle.autfmt.specs.Written.{GainsText, GainsBeginning, IsInWrittenOrder, failures_after, listed}
+use Rattle.autbis.specs.declared.run.Counts.{Counts}
+use Rattle.autbis.specs.Runs.{BeginsQuotient, CountsPart, MinimisedText, Minimises, RunsTo}
 use Rattle.autbis.specs.Runs.RunFails.{not_read, no_memory, failed_sink}
 use Rattle.autbis.proofs.Carried.{all_taken, bad_of, keeps_part, keeps_whole, no_success, not_of_text, same_error, takes_error}
 use Rattle.autbis.proofs.run.run_min.Given.{Over}
@@ -31,6 +33,10 @@ returns-in_err-quotient-clause-outcome g c =
     let part = keeps_part _ read.0.states _ (length read.0.transitions) _ read.2.states got.outcome.as_many 0 c.in_err-quotient.ensures.keeps in
     takes_error _ _ _ _ c.from_residual-in_err-quotient.result Memory got.given exit got.took
     (no_memory refl got.outcome.sound got.outcome.at_end refl (read.0, read.1, part))
+
+-- the sizes that are answered
+abbrev sizes_of : ℕ → ℕ → Counts
+sizes_of s t = record { states = s; transitions = t }
 
 -- what is proved of the system in memory holds of the one that the text reads as: the order of the list alone differs
 module _ (g : Over) (c : After-write g) where
@@ -70,35 +76,49 @@ module _ (g : Over) (c : After-write g) where
         smallest = λ C sys other. is.smallest C sys (law.equivalent rel B A C back other);
       }
 
-  read_again : IsReadAgain c.args.lim.now Q
-  read_again t (listing, order, text_is) =
+  read_again : (listing : System) → IsInWrittenOrder Q listing → Reads c.args.lim.now (listed listing) listing
+  read_again listing order =
       let got = c.in_ok-system.ensures.outcome.outcome in
       let q = c.in_ok-quotient.quotient in
       let is = c.in_ok-quotient.ensures in
       let count = length-map q.places (transition_of q.labels) in
-      let reads =
       c.text_is_read_again.ensures c.args.lim.now Q listing c.transitions.ensures.within
       (c.quotient_is_a_system.ensures rel A Q c.states.ensures.lts.system is.quotient)
-      (omega (arith, got.within.states, is.no_larger.0)) (omega (arith, got.within.transitions, count, is.no_larger.1)) order in
-      (listing, order, subst (λ (text : List ℕ). Reads c.args.lim.now text listing) (sym text_is) reads)
+      (omega (arith, got.within.states, is.no_larger.0)) (omega (arith, got.within.transitions, count, is.no_larger.1)) order
 
 module _ (g : Over) (c : After-write g) where
-  -- the sink has gained the text of what minimises the system that was read
-  done : (old new : Option (List ℕ)) → GainsText (Q g c) old new →
-      MinimisesText (rel g c) c.args.lim.now c.args.h.now c.in_ok-system.ensures.outcome.given old new
+  -- what the text that was read is minimised to
+  abbrev to : (listing : System) → IsInWrittenOrder (Q g c) listing →
+      MinimisedText (rel g c) c.args.lim.now c.args.h.now c.in_ok-system.ensures.outcome.given
+  to listing order = record {
+    input = input g c;
+    output = Q g c;
+    listing = listing;
+    read = c.in_ok-system.ensures.outcome.outcome.read.1;
+    minimises = minimised g c;
+    order = order;
+    read_again = read_again g c listing order;
+  }
+
+  -- the sink has gained its text
+  done : (rest old new : Option (List ℕ)) → IsAtEnd rest → GainsText (Q g c) old new →
+      RunsTo (rel g c) c.args.lim.now c.args.h.now c.in_ok-system.ensures.outcome.given rest old new (g.M.Meter.counted c.minimise.new.m)
       (record { states = c.states.result; transitions = c.edges.result })
-  done old new gained =
+  done rest old new at_end (text, (listing, order, is), gained) =
       let got = c.in_ok-system.ensures.outcome.outcome in
       record {
-        input = input g c;
-        output = Q g c;
-        read = got.read.1;
-        states = c.states.ensures.value ∙ got.read.2.states;
-        transitions = c.edges.ensures.value ∙ got.as_many;
-        minimises = minimised g c;
-        written = gained;
-        read_again = read_again g c;
+        to = to listing order;
+        sizes = ap₂ sizes_of (c.states.ensures.value ∙ got.read.2.states) (c.edges.ensures.value ∙ got.as_many);
+        written = subst (λ bytes. Appends old new bytes) is gained;
+        turns = c.the_order_does_not_matter.ensures.turns (rel g c) (A g c) (B g c) _ (same g c) c.in_ok-quotient.ensures.turns;
+        keeps = keeps_whole _ _ _ _ _ (sym c.states.ensures.value) (sym c.edges.ensures.value) c.in_ok-quotient.ensures.keeps;
+        at_end = at_end;
       }
+
+  -- or a beginning of it
+  begun : (old new : Option (List ℕ)) → GainsBeginning (Q g c) old new →
+      BeginsQuotient (rel g c) c.args.lim.now c.args.h.now c.in_ok-system.ensures.outcome.given old new
+  begun old new (front, later, (listing, order, is), gained) = (to listing order, (front, later, sym is, gained))
 
   -- the meter stands within what a run over the system that was read may take
   part : CountsPart c.args.lim.now c.in_ok-system.ensures.outcome.given (g.M.Meter.counted c.minimise.new.m)
@@ -117,7 +137,7 @@ returns-in_err-write-clause-outcome g c =
     takes_error _ _ _ _ c.from_residual-in_err-write.result e got.given exit got.took (elim is.faults [
       | inl memory ↦ no_memory memory got.outcome.sound got.outcome.at_end (is.memory memory) (part g at)
       | inr device ↦ failed_sink device got.outcome.sound got.outcome.at_end (is.failures ∙ ap (λ f. failures_after {T = Unit {0}} (Err f)) device)
-          (input g at, Q g at, got.outcome.read.1, (minimised g at).quotient, is.device device) (part g at)
+          (begun g at _ _ (is.device device)) (part g at)
     ])
 
 pub returns-in_err-write-clause-begun : goal.returns-in_err-write-clause-begun
@@ -127,7 +147,7 @@ returns-in_err-write-clause-begun g c said sound =
     let exit = err_from_is_err_and c.from_residual-in_err-write.result c.from_residual-in_err-write.ensures.1 in
     let device = sym (same_error _ _ _ exit said) in
     all_taken _ _ got.given _ got.took got.outcome.at_end
-    (input g at, Q g at, got.outcome.read.1, (minimised g at).quotient, c.in_err-write.ensures.device device)
+    (begun g at _ _ (c.in_err-write.ensures.device device))
 
 pub returns-in_err-write-clause-minimised : goal.returns-in_err-write-clause-minimised
 returns-in_err-write-clause-minimised g c =
@@ -143,20 +163,14 @@ unfolding done
 returns-clause-outcome g c =
     let at = (goal.at.returns-clause-outcome g c).After-write in
     let got = c.in_ok-system.ensures.outcome in
-    let is = c.in_ok-quotient.ensures in
     record {
       given = got.given;
       took = got.took;
-      outcome = record {
-        minimised = done g at _ _ c.in_ok-write.ensures.text;
-        turns = c.the_order_does_not_matter.ensures.turns (rel g at) (A g at) (B g at) _ (same g at) is.turns;
-        keeps = keeps_whole _ _ _ _ _ (sym c.states.ensures.value) (sym c.edges.ensures.value) is.keeps;
-        at_end = got.outcome.at_end;
-      };
+      outcome = done g at _ _ _ got.outcome.at_end c.in_ok-write.ensures.text;
     }
 
 pub returns-clause-minimised : goal.returns-clause-minimised
 returns-clause-minimised g c =
     let at = (goal.at.returns-clause-minimised g c).After-write in
     let got = c.in_ok-system.ensures.outcome in
-    all_taken _ _ got.given _ got.took got.outcome.at_end (done g at _ _ c.in_ok-write.ensures.text)
+    all_taken _ _ got.given _ got.took got.outcome.at_end (done g at _ _ _ got.outcome.at_end c.in_ok-write.ensures.text)
