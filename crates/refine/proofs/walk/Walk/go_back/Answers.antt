@@ -1,43 +1,54 @@
 use Rattle.std.specs.Prelude.{slice_index_or}
-use Rattle.std.proofs.Common.{◌≡◌, ◌∙◌, ◌-◌, ap, sym, subst, inr, arith}
+use Rattle.std.proofs.Common.{◌≡◌, ◌∙◌, ◌-◌, ◌<◌, length, ap, sym, subst, inr, arith}
 use Rattle.std.proofs.lemmas.List.{get_or_default}
-use Rattle.refine.specs.Walks.{visit_at, Walks}
+use Rattle.refine.specs.Walks.{visit_at, bound_at, Walks}
 use Rattle.refine.specs.Steps.{Leaves}
+use Rattle.refine.specs.declared.walk.Walk.{Walk}
 use Rattle.refine.proofs.WalkCuts.{last_bound}
 use Rattle.refine.proofs.WalkSteps.{Walks-back}
 use Rattle.refine.proofs.WalkAdvance.{bounds_some, left_walks, left_numbers, left_ahead}
 use Rattle.refine.proofs.WalkMove.{read_visit, read_bound}
+use Rattle.refine.proofs.walk.Walk.go_back.Given.{Over}
 use Rattle.refine.proofs.walk.Walk.go_back.Goals as goal
+use Rattle.refine.proofs.walk.Walk.go_back.Goals.{After-index-bound, In_ok-leave}
+
+-- the visit where the walk is, and the last bound
+module _ (g : Over) (c : After-index-bound g) where
+  abbrev w : Walk
+  w = c.args.self.now
+
+  here : w.at < length w.path.items
+  here = c.requires.walks.rows.here c.requires.some
+
+  visit : c.index.result.now ≡ visit_at w.path.items w.at
+  visit = read_visit w.path.items w.at c.index.result.now here c.index.ensures
+
+  some : 0 < length w.bounds.items
+  some =
+      let lists = c.args.lists.now in
+      bounds_some c.laws.ensures c.args.l.now c.known.ensures c.args.p.now lists lists w w c.requires.walks c.requires.numbers c.requires.some c.requires.read
+
+  bound : c.index-bound.result.now ≡ bound_at w.bounds.items (length w.bounds.items - 1)
+  bound = read_bound w.bounds.items (c.len.result - 1) c.index-bound.result.now (omega (arith, c.len.ensures, w.bounds.ok.0)) some c.index-bound.ensures
 
 pub returns-then-bound-self-clause-walks : goal.returns-then-bound-self-clause-walks
 returns-then-bound-self-clause-walks g c =
+    let d = (goal.at.returns-then-bound-self-clause-walks g c).After-index-bound in
     let w = c.args.self.now in
-    let lists = c.args.lists.now in
-    let walks = c.requires.walks in
-    let here = walks.rows.here c.requires.some in
-    let laws = c.laws.ensures in
-    let visit : c.index.result.now ≡ visit_at w.path.items w.at = read_visit w.path.items w.at c.index.result.now here c.index.ensures in
-    let some = bounds_some laws c.args.l.now c.known.ensures c.args.p.now lists lists w w walks c.requires.numbers c.requires.some c.requires.read in
-    let bound = read_bound w.bounds.items (c.len.result - 1) c.index-bound.result.now (omega (arith, c.len.ensures, w.bounds.ok.0)) some c.index-bound.ensures in
-    subst (λ x. Walks c.args.l.now c.args.p.now lists w.marks.items w.path.items x w.bounds.items w.items.items) (sym (ap (λ v. v.back) visit))
-    (Walks-back laws c.args.l.now c.args.p.now lists w.marks.items w.path.items w.at w.bounds.items w.items.items walks some
-    (λ e. c.if-bound-self.true (ap (λ b. b.place) bound ∙ e)) here c.requires.read)
+    subst (λ x. Walks c.args.l.now c.args.p.now c.args.lists.now w.marks.items w.path.items x w.bounds.items w.items.items) (sym (ap (λ v. v.back) (visit g d)))
+    (Walks-back c.laws.ensures c.args.l.now c.args.p.now c.args.lists.now w.marks.items w.path.items w.at w.bounds.items w.items.items c.requires.walks (some g d)
+    (λ e. c.if-bound-self.true (ap (λ b. b.place) (bound g d) ∙ e)) (here g d) c.requires.read)
 
 pub returns-then-bound-self-clause-back : goal.returns-then-bound-self-clause-back
 returns-then-bound-self-clause-back g c =
+    let d = (goal.at.returns-then-bound-self-clause-back g c).After-index-bound in
     let w = c.args.self.now in
-    let lists = c.args.lists.now in
     let walks = c.requires.walks in
-    let here = walks.rows.here c.requires.some in
-    let laws = c.laws.ensures in
-    let visit : c.index.result.now ≡ visit_at w.path.items w.at = read_visit w.path.items w.at c.index.result.now here c.index.ensures in
-    let some = bounds_some laws c.args.l.now c.known.ensures c.args.p.now lists lists w w walks c.requires.numbers c.requires.some c.requires.read in
-    let bound = read_bound w.bounds.items (c.len.result - 1) c.index-bound.result.now (omega (arith, c.len.ensures, w.bounds.ok.0)) some c.index-bound.ensures in
-    let place = ap (λ b. b.place) bound in
-    let back = ap (λ v. v.back) visit in
-    let reached = walks.bounded.reached _ _ (last_bound w.bounds.items walks.rising some) in
+    let place = ap (λ b. b.place) (bound g d) in
+    let back = ap (λ v. v.back) (visit g d) in
+    let reached = walks.bounded.reached _ _ (last_bound w.bounds.items walks.rising (some g d)) in
     let apart = c.if-bound-self.true in
-    let earlier = walks.rows.earlier w.at (omega (arith, reached, place, apart)) here in
+    let earlier = walks.rows.earlier w.at (omega (arith, reached, place, apart)) (here g d) in
     inr (omega (arith, earlier, back))
 
 pub leave-requires-clause-states : goal.leave-requires-clause-states
@@ -51,51 +62,38 @@ leave-requires-clause-states g c k d h =
 
 pub leave-requires-clause-from : goal.leave-requires-clause-from
 leave-requires-clause-from g c =
-    let w = c.args.self.now in
-    let lists = c.args.lists.now in
+    let d = (goal.at.leave-requires-clause-from g c).After-index-bound in
     let walks = c.requires.walks in
-    let laws = c.laws.ensures in
-    let some = bounds_some laws c.args.l.now c.known.ensures c.args.p.now lists lists w w walks c.requires.numbers c.requires.some c.requires.read in
-    let bound = read_bound w.bounds.items (c.len.result - 1) c.index-bound.result.now (omega (arith, c.len.ensures, w.bounds.ok.0)) some c.index-bound.ensures in
-    let items = ap (λ b. b.items) bound in
-    let few = walks.bounded.items _ _ (last_bound w.bounds.items walks.rising some) in
+    let items = ap (λ b. b.items) (bound g d) in
+    let few = walks.bounded.items _ _ (last_bound c.args.self.now.bounds.items walks.rising (some g d)) in
     omega (arith, items, few)
+
+-- the component that begins where the walk is was finished
+module _ (g : Over) (c : In_ok-leave g) (is : c.index-bound.result.now ≡ bound_at c.args.self.now.bounds.items (length c.args.self.now.bounds.items - 1)) where
+  place : (bound_at c.args.self.now.bounds.items (length c.args.self.now.bounds.items - 1)).place ≡ c.args.self.now.at
+  place = sym (ap (λ b. b.place) is) ∙ c.if-bound-self.false
+
+  leaves : Leaves c.args.self.now.at c.index-bound.result.now.items c.args.self.now c.leave.new.self c.args.lists.now c.leave.new.lists
+  leaves =
+      subst (λ f. Leaves f c.index-bound.result.now.items c.args.self.now c.leave.new.self c.args.lists.now c.leave.new.lists) c.if-bound-self.false c.in_ok-leave.ensures.leaves
 
 pub returns-clause-walks : goal.returns-clause-walks
 returns-clause-walks g c =
-    let w = c.args.self.now in
-    let lists = c.args.lists.now in
-    let walks = c.requires.walks in
-    let here = walks.rows.here c.requires.some in
-    let laws = c.laws.ensures in
-    let visit : c.index.result.now ≡ visit_at w.path.items w.at = read_visit w.path.items w.at c.index.result.now here c.index.ensures in
-    let some = bounds_some laws c.args.l.now c.known.ensures c.args.p.now lists lists w w walks c.requires.numbers c.requires.some c.requires.read in
-    let bound = read_bound w.bounds.items (c.len.result - 1) c.index-bound.result.now (omega (arith, c.len.ensures, w.bounds.ok.0)) some c.index-bound.ensures in
-    left_walks laws c.args.l.now c.known.ensures c.args.p.now lists c.leave.new.lists w c.leave.new.self walks c.requires.numbers c.requires.some c.requires.read
-    c.index-bound.result.now.items (sym (ap (λ b. b.place) bound) ∙ c.if-bound-self.false) (sym (ap (λ b. b.items) bound))
-    (subst (λ f. Leaves f c.index-bound.result.now.items w c.leave.new.self lists c.leave.new.lists) c.if-bound-self.false c.in_ok-leave.ensures.leaves)
-    c.index.result.now.back (ap (λ v. v.back) visit)
+    let d = goal.at.returns-clause-walks g c in
+    let is = bound g d.After-index-bound in
+    left_walks c.laws.ensures c.args.l.now c.known.ensures c.args.p.now c.args.lists.now c.leave.new.lists c.args.self.now c.leave.new.self c.requires.walks c.requires.numbers c.requires.some
+    c.requires.read c.index-bound.result.now.items (place g d.In_ok-leave is) (sym (ap (λ b. b.items) is)) (leaves g d.In_ok-leave is) c.index.result.now.back (ap (λ v. v.back) (visit g d.After-index-bound))
 
 pub returns-clause-numbers : goal.returns-clause-numbers
 returns-clause-numbers g c =
-    let w = c.args.self.now in
-    let lists = c.args.lists.now in
-    let walks = c.requires.walks in
-    let laws = c.laws.ensures in
-    let some = bounds_some laws c.args.l.now c.known.ensures c.args.p.now lists lists w w walks c.requires.numbers c.requires.some c.requires.read in
-    let bound = read_bound w.bounds.items (c.len.result - 1) c.index-bound.result.now (omega (arith, c.len.ensures, w.bounds.ok.0)) some c.index-bound.ensures in
-    left_numbers laws c.args.l.now c.known.ensures c.args.p.now lists c.leave.new.lists w c.leave.new.self walks c.requires.numbers c.requires.some c.requires.read
-    c.index-bound.result.now.items (sym (ap (λ b. b.place) bound) ∙ c.if-bound-self.false) (sym (ap (λ b. b.items) bound))
-    (subst (λ f. Leaves f c.index-bound.result.now.items w c.leave.new.self lists c.leave.new.lists) c.if-bound-self.false c.in_ok-leave.ensures.leaves)
+    let d = goal.at.returns-clause-numbers g c in
+    let is = bound g d.After-index-bound in
+    left_numbers c.laws.ensures c.args.l.now c.known.ensures c.args.p.now c.args.lists.now c.leave.new.lists c.args.self.now c.leave.new.self c.requires.walks c.requires.numbers c.requires.some
+    c.requires.read c.index-bound.result.now.items (place g d.In_ok-leave is) (sym (ap (λ b. b.items) is)) (leaves g d.In_ok-leave is)
 
 pub returns-clause-ahead : goal.returns-clause-ahead
 returns-clause-ahead g c =
-    let w = c.args.self.now in
-    let lists = c.args.lists.now in
-    let walks = c.requires.walks in
-    let laws = c.laws.ensures in
-    let some = bounds_some laws c.args.l.now c.known.ensures c.args.p.now lists lists w w walks c.requires.numbers c.requires.some c.requires.read in
-    let bound = read_bound w.bounds.items (c.len.result - 1) c.index-bound.result.now (omega (arith, c.len.ensures, w.bounds.ok.0)) some c.index-bound.ensures in
-    left_ahead laws c.args.l.now c.known.ensures c.args.p.now lists c.leave.new.lists w c.leave.new.self walks c.requires.numbers c.requires.some c.requires.read
-    c.index-bound.result.now.items (sym (ap (λ b. b.place) bound) ∙ c.if-bound-self.false) (sym (ap (λ b. b.items) bound))
-    (subst (λ f. Leaves f c.index-bound.result.now.items w c.leave.new.self lists c.leave.new.lists) c.if-bound-self.false c.in_ok-leave.ensures.leaves)
+    let d = goal.at.returns-clause-ahead g c in
+    let is = bound g d.After-index-bound in
+    left_ahead c.laws.ensures c.args.l.now c.known.ensures c.args.p.now c.args.lists.now c.leave.new.lists c.args.self.now c.leave.new.self c.requires.walks c.requires.numbers c.requires.some
+    c.requires.read c.index-bound.result.now.items (place g d.In_ok-leave is) (sym (ap (λ b. b.items) is)) (leaves g d.In_ok-leave is)
