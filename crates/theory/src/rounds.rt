@@ -69,11 +69,13 @@ pub fn rounds_of_silent_detour()
         ) ∷ []) }
     ensures rounds_strong { RefinesBy strong silent_detour (0 ∷ 0 ∷ 0 ∷ 0 ∷ 0 ∷ 0 ∷ [])
         ((
-          ((a, 0) ∷ (internal, 0) ∷ []) ∷ ((a, 0) ∷ []) ∷ ((internal, 0) ∷ []) ∷ ((b, 0) ∷ []) ∷ ((b, 0) ∷ []) ∷ [] ∷ [],
+          ((a, 0) ∷ (internal, 0) ∷ []) ∷ ((a, 0) ∷ []) ∷ ((internal, 0) ∷ [])
+              ∷ ((b, 0) ∷ []) ∷ ((b, 0) ∷ []) ∷ [] ∷ [],
           0 ∷ 1 ∷ 2 ∷ 3 ∷ 3 ∷ 4 ∷ [],
         )
         ∷ (
-          ((a, 3) ∷ (internal, 1) ∷ []) ∷ ((a, 2) ∷ []) ∷ ((internal, 3) ∷ []) ∷ ((b, 4) ∷ []) ∷ ((b, 4) ∷ []) ∷ [] ∷ [],
+          ((a, 3) ∷ (internal, 1) ∷ []) ∷ ((a, 2) ∷ []) ∷ ((internal, 3) ∷ [])
+              ∷ ((b, 4) ∷ []) ∷ ((b, 4) ∷ []) ∷ [] ∷ [],
           0 ∷ 1 ∷ 2 ∷ 3 ∷ 3 ∷ 4 ∷ [],
         ) ∷ []) }
     ensures allowance_branching { allowance branching 6 6 2 ≡ 84 }
