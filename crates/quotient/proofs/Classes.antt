@@ -1,7 +1,7 @@
 -- What a state more does to the numbers: their invariant, its start, its step and its end.
-use Rattle.std.proofs.Common.{◌≡◌, ◌≢◌, ◌∙◌, ◌⊎◌, ◌↔◌, ℕ, ◌+◌, ◌<◌, ◌≤◌, Bool, true, false, IsTrue, [], ◌∷◌, ◌++◌, length, get_or, slice_index, replicate, set, refl, sym, ap, subst, inl, inr, arith}
+use Rattle.std.proofs.Common.{◌≡◌, ◌≢◌, ◌∙◌, ◌⊎◌, ◌↔◌, ℕ, ◌+◌, ◌<◌, ◌≤◌, Bool, true, false, IsTrue, [], length, get_or, slice_index, replicate, set, refl, sym, ap, subst, inl, inr, arith}
 use Rattle.std.proofs.lemmas.Bool.{cases_eq, cases_lt}
-use Rattle.std.proofs.lemmas.List.{get_or_push, get_or_append_left, get_or-set_same, get_or-set_other, get_or-replicate, length-set, length-replicate, length_push}
+use Rattle.std.proofs.lemmas.List.{get_or-set_same, get_or-set_other, get_or-replicate, length-set, length-replicate, length_push}
 use Rattle.theory.specs.System.{System, Reachable}
 use Rattle.theory.specs.Bisimulation.{Relation, Bisimilar}
 use Rattle.theory.specs.Blocks.{EachTwo}
@@ -9,6 +9,7 @@ use Rattle.theory.specs.Quotient.{HowMany, Leader, IsLeader, Number}
 use Rattle.quotient.specs.Marked.{IsMarked}
 use Rattle.quotient.specs.Numbers.{IsNumbering, Opens, Follows, TakesState, none}
 use Rattle.quotient.specs.declared.numbering.Numbering.{Numbering}
+use Rattle.quotient.proofs.Lists.{each_pushed}
 
 -- what the next state leaves, whatever the relation: numbers for as many blocks, and at most one number more
 pub TakesState-within : (b : ℕ) (reached first : Bool) (old new : Numbering) → TakesState b reached first old new → (states : ℕ) (block : ℕ → ℕ) →
@@ -150,18 +151,9 @@ module _ (rel : Relation) (A : System) (block : ℕ → ℕ) (laws : Laws rel A 
         | inr d ↦ h.seen t (omega (arith, l, d)) way
       ]);
       known = rw f.by_block (λ t l some. earlier_on s t (slice_index old.by_block.items (block t)) (h.known t l some));
-      numbers = rw f.numbers (λ t l way. elim (cases_eq t s) [
-        | inl e ↦ subst (λ x. Number rel A x (get_or (old.numbers.items ++ slice_index old.by_block.items (block s) ∷ []) x 0)) (sym e)
-            (subst (Number rel A s) (sym (get_or_push old.numbers.items (slice_index old.by_block.items (block s)) 0 s h.numbers_long)) (follows_number (subst (Reachable A) e way)))
-        | inr d ↦ subst (Number rel A t) (sym (get_or_append_left old.numbers.items (slice_index old.by_block.items (block s) ∷ []) 0 t (omega (arith, l, d, h.numbers_long))))
-            (h.numbers t (omega (arith, l, d)) way)
-      ]);
-      leaders = rw f.leads (λ t l. elim (cases_eq t s) [
-        | inl e ↦ subst (λ x. IsMarked (old.leads.items ++ first ∷ []) x ↔ IsLeader rel A x) (sym e)
-            (subst (λ b. IsTrue b ↔ IsLeader rel A s) (sym (get_or_push old.leads.items first false s h.leads_long)) follows_leader)
-        | inr d ↦ subst (λ b. IsTrue b ↔ IsLeader rel A t) (sym (get_or_append_left old.leads.items (first ∷ []) false t (omega (arith, l, d, h.leads_long))))
-            (h.leaders t (omega (arith, l, d)))
-      ]);
+      numbers = rw f.numbers (each_pushed (λ t n. Reachable A t → Number rel A t n) old.numbers.items (slice_index old.by_block.items (block s)) 0 s
+          h.numbers_long h.numbers follows_number);
+      leaders = rw f.leads (each_pushed (λ t b. IsTrue b ↔ IsLeader rel A t) old.leads.items first false s h.leads_long h.leaders follows_leader);
       counted = (h.counted.0, laws.kept s h.counted.0 follows_not_other h.counted.1, f.count ∙ h.counted.2);
       few = omega (arith, f.count, h.few);
       fewer = λ l. omega (arith, f.count, h.few);
@@ -228,18 +220,9 @@ module _ (rel : Relation) (A : System) (block : ℕ → ℕ) (laws : Laws rel A 
       first = λ e. h.first (sym (opens_elsewhere A.first opens_apart) ∙ e);
       seen = opens_seen;
       known = opens_known;
-      numbers = rw o.numbers (λ t l way. elim (cases_eq t s) [
-        | inl e ↦ subst (λ x. Number rel A x (get_or (old.numbers.items ++ old.count ∷ []) x 0)) (sym e)
-            (subst (Number rel A s) (sym (get_or_push old.numbers.items old.count 0 s h.numbers_long)) opens_number)
-        | inr d ↦ subst (Number rel A t) (sym (get_or_append_left old.numbers.items (old.count ∷ []) 0 t (omega (arith, l, d, h.numbers_long))))
-            (h.numbers t (omega (arith, l, d)) way)
-      ]);
-      leaders = rw o.leads (λ t l. elim (cases_eq t s) [
-        | inl e ↦ subst (λ x. IsMarked (old.leads.items ++ true ∷ []) x ↔ IsLeader rel A x) (sym e)
-            (subst (λ b. IsTrue b ↔ IsLeader rel A s) (sym (get_or_push old.leads.items true false s h.leads_long)) (λ x. opens_is_leader, λ x. refl))
-        | inr d ↦ subst (λ b. IsTrue b ↔ IsLeader rel A t) (sym (get_or_append_left old.leads.items (true ∷ []) false t (omega (arith, l, d, h.leads_long))))
-            (h.leaders t (omega (arith, l, d)))
-      ]);
+      numbers = rw o.numbers (each_pushed (λ t n. Reachable A t → Number rel A t n) old.numbers.items old.count 0 s h.numbers_long h.numbers (λ way. opens_number));
+      leaders = rw o.leads (each_pushed (λ t b. IsTrue b ↔ IsLeader rel A t) old.leads.items true false s h.leads_long h.leaders
+          (λ x. opens_is_leader, λ x. refl));
       counted = (h.counted.0 + 1, laws.one s h.counted.0 opens_is_leader opens_other h.counted.1, omega (arith, o.count, h.counted.2));
       few = omega (arith, o.count, h.few);
       fewer = λ l. omega (arith, o.count, h.fewer (let d = opens_other in omega (arith, l, d)));

@@ -1,8 +1,8 @@
 -- What holds of any lists: what they contain, also mapped, filtered and one behind the other.
-use Rattle.std.proofs.Common.{◌≡◌, ◌≢◌, ◌∙◌, ◌⊎◌, ℕ, ◌-◌, ◌<◌, Bool, true, false, cond, List, [], ◌∷◌, ◌++◌, length, map, get_or, Contains, refl, sym, ap, subst, inl, inr, arith}
+use Rattle.std.proofs.Common.{◌≡◌, ◌≢◌, ◌∙◌, ◌⊎◌, ℕ, ◌+◌, ◌-◌, ◌<◌, Bool, true, false, cond, List, [], ◌∷◌, ◌++◌, length, map, get_or, Contains, refl, sym, ap, subst, inl, inr, arith}
 use Rattle.std.specs.List.{AllPairs, filter}
-use Rattle.std.proofs.lemmas.Bool.{cases_lt, both_ways}
-use Rattle.std.proofs.lemmas.List.{length-append, length-map, get_or-map, get_or_append_left, get_or-append_right, get_or_default}
+use Rattle.std.proofs.lemmas.Bool.{cases_eq, cases_lt, both_ways}
+use Rattle.std.proofs.lemmas.List.{length-append, length-map, get_or-map, get_or_push, get_or_append_left, get_or-append_right, get_or_default}
 use Rattle.std.proofs.lemmas.List.Elements.{All-contains, Contains-push, Contains-push_cases, Contains-append_left, Contains-append_right, Contains-append_cases, filter_passes}
 
 pub no_element : {X : Type 0} (x : X) → ¬ Contains [] x
@@ -77,3 +77,11 @@ apart_append {X} xs ys h g apart i j d low high e = elim (cases_lt j (length xs)
 
     at_value : (zs : List X) (k : ℕ) (d z : X) → k < length zs → get_or zs k d ≡ z → get_or zs k z ≡ z
     at_value zs k d z l e = get_or_default zs k z d l ∙ e
+
+-- what holds of each element holds of each with one more
+pub each_pushed : {T : Type 0} (P : ℕ → T → Type 0) (xs : List T) (x d : T) (s : ℕ) → length xs ≡ s → ((t : ℕ) → t < s → P t (get_or xs t d)) → P s x →
+    (t : ℕ) → t < s + 1 → P t (get_or (xs ++ x ∷ []) t d)
+each_pushed P xs x d s long each here t l = elim (cases_eq t s) [
+  | inl e ↦ subst (λ u. P u (get_or (xs ++ x ∷ []) u d)) (sym e) (subst (P s) (sym (get_or_push xs x d s long)) here)
+  | inr n ↦ subst (P t) (sym (get_or_append_left xs (x ∷ []) d t (omega (arith, l, n, long)))) (each t (omega (arith, l, n)))
+]

@@ -156,38 +156,43 @@ Searches-taken g marked waiting stack s e search = record {
 }
 
 -- a step of s leads to t, which is marked
-Searches-mark : (g : Grouped) (s t : ℕ) (old : List Bool) (stack : List ℕ) (new : List Bool) (pushed : List ℕ) →
-    t < g.states → (Reachable (system_of g) s → Reachable (system_of g) t) →
-    Searches g old (s ∷ stack) → MarksState t old stack new pushed → Searches g new (s ∷ pushed)
-Searches-mark g s t old stack new pushed l reached_on search marks =
-    let below : t < length old = omega (arith, search.size) in
-    let keeps = MarksState-keeps t old stack new pushed marks below in
-    record {
-      size = MarksState-size t old stack new pushed marks ∙ search.size;
-      first = keeps g.first search.first;
-      only_reachable = λ u m. elim (MarksState-new t old stack new pushed marks u m) [
-        | inl h ↦ search.only_reachable u h
-        | inr h ↦
-            subst (Reachable (system_of g)) (sym h.0) (reached_on (search.only_reachable s (search.each_waiting s (at_head s stack))))
-      ];
-      each_waiting = λ u c. elim (head_or_tail s pushed u c) [
-        | inl e ↦ keeps u (search.each_waiting u (subst (Contains (s ∷ stack)) e (at_head s stack)))
-        | inr d ↦ elim (MarksState-waiting t old stack new pushed marks u d) [
-          | inl e ↦ subst (IsMarked new) e (MarksState-self t old stack new pushed marks below)
-          | inr f ↦ keeps u (search.each_waiting u (in_tail s stack u f))
-        ]
-      ];
-      followed = λ u v b m next. elim (MarksState-new t old stack new pushed marks u m) [
-        | inl h ↦ elim (search.followed u v b h next) [
-          | inl c ↦ inl (elim (head_or_tail s stack u c) [
-            | inl e ↦ subst (Contains (s ∷ pushed)) e (at_head s pushed)
-            | inr d ↦ in_tail s pushed u (MarksState-waits t old stack new pushed marks u d)
-          ])
-          | inr d ↦ inr (keeps v d)
-        ]
-        | inr h ↦ inl (in_tail s pushed u h.1)
-      ];
-    }
+module _ (g : Grouped) (s t : ℕ) (old : List Bool) (stack : List ℕ) (new : List Bool) (pushed : List ℕ) (below : t < length old)
+    (search : Searches g old (s ∷ stack)) (marks : MarksState t old stack new pushed) where
+  mark_keeps : (u : ℕ) → IsMarked old u → IsMarked new u
+  mark_keeps = MarksState-keeps t old stack new pushed marks below
+
+  mark_waiting : (u : ℕ) → Contains (s ∷ pushed) u → IsMarked new u
+  mark_waiting u c = elim (head_or_tail s pushed u c) [
+    | inl e ↦ mark_keeps u (search.each_waiting u (subst (Contains (s ∷ stack)) e (at_head s stack)))
+    | inr d ↦ elim (MarksState-waiting t old stack new pushed marks u d) [
+      | inl e ↦ subst (IsMarked new) e (MarksState-self t old stack new pushed marks below)
+      | inr f ↦ mark_keeps u (search.each_waiting u (in_tail s stack u f))
+    ]
+  ]
+
+  mark_followed : (u v : ℕ) (a : List ℕ) → IsMarked new u → Step (system_of g) u a v → Contains (s ∷ pushed) u ⊎ IsMarked new v
+  mark_followed u v a m next = elim (MarksState-new t old stack new pushed marks u m) [
+    | inl h ↦ elim (search.followed u v a h next) [
+      | inl c ↦ inl (elim (head_or_tail s stack u c) [
+        | inl e ↦ subst (Contains (s ∷ pushed)) e (at_head s pushed)
+        | inr d ↦ in_tail s pushed u (MarksState-waits t old stack new pushed marks u d)
+      ])
+      | inr d ↦ inr (mark_keeps v d)
+    ]
+    | inr h ↦ inl (in_tail s pushed u h.1)
+  ]
+
+  Searches-mark : (Reachable (system_of g) s → Reachable (system_of g) t) → Searches g new (s ∷ pushed)
+  Searches-mark reached_on = record {
+    size = MarksState-size t old stack new pushed marks ∙ search.size;
+    first = mark_keeps g.first search.first;
+    only_reachable = λ u m. elim (MarksState-new t old stack new pushed marks u m) [
+      | inl h ↦ search.only_reachable u h
+      | inr h ↦ subst (Reachable (system_of g)) (sym h.0) (reached_on (search.only_reachable s (search.each_waiting s (at_head s stack))))
+    ];
+    each_waiting = mark_waiting;
+    followed = mark_followed;
+  }
 
 -- place k of the row of s was read, and what it leads to is marked
 pub Searches-place : (g : Grouped) (s start end k t : ℕ) (old : List Bool) (stack : List ℕ) (new : List Bool) (pushed : List ℕ) →
@@ -199,7 +204,7 @@ Searches-place g s start end k t old stack new pushed reached_on row low high ta
     let a = text_of g.labels (label_of (place_at g.places k)) in
     let from : Step (system_of g) s a (target_of (place_at g.places k)) =
     subst (λ x. Step (system_of g) x a (target_of (place_at g.places k))) ((row.exactly k below).1 (low, high)) (place_step g k below) in
-    Searches-mark g s t old stack new pushed l (λ way. reached_on a way (subst (Step (system_of g) s a) (sym target) from)) search marks
+    Searches-mark g s t old stack new pushed (omega (arith, l, search.size)) search marks (λ way. reached_on a way (subst (Step (system_of g) s a) (sym target) from))
 
 -- the whole row of s was read
 pub Searches-read : (g : Grouped) (s start end : ℕ) (marked : List Bool) (stack : List ℕ) → IsRow g.places s start end →

@@ -3,11 +3,11 @@ use Rattle.std.proofs.Common.{◌≡◌, ◌∙◌, ◌↔◌, ℕ, ◌+◌, ◌
 use Rattle.std.specs.List.{filter}
 use Rattle.std.proofs.lemmas.Bool.{cases_eq}
 use Rattle.std.proofs.lemmas.List.Elements.{Contains-append_left, Contains-append_right, Contains-append_cases, filter-append}
-use Rattle.std.proofs.lemmas.List.{length-map, map-append, append-nil, append_assoc}
+use Rattle.std.proofs.lemmas.List.{length-map, map-append, append-nil}
 use Rattle.std.proofs.lemmas.List.Sums.{length-filter, count_by-le-length}
 use Rattle.lts.specs.Lts.{Triple, row_of}
 use Rattle.quotient.specs.Marked.{IsMarked}
-use Rattle.quotient.specs.Triples.{between_numbers, is_left_out, shown_by, IsShownBelow, HasShown}
+use Rattle.quotient.specs.Triples.{between_numbers, is_left_out, shown_in, shown_by, IsShownBelow, HasShown}
 use Rattle.quotient.proofs.Lists.{has_mapped, mapped_has, has_filtered, filtered_has, filtered_passes}
 
 module _ (numbers : List ℕ) (rows : List Bool) (dropped : Option ℕ) (places : List Triple) where
@@ -22,18 +22,18 @@ module _ (numbers : List ℕ) (rows : List Bool) (dropped : Option ℕ) (places 
   )
 
   -- the row of s, behind those below s
-  pub shown_with : (s : ℕ) (old row : List Triple) → IsMarked rows s → HasShown numbers dropped places s row →
+  pub shown_with : (s : ℕ) (old row new : List Triple) → IsMarked rows s → HasShown numbers dropped places s row → new ≡ old ++ row →
       ((x : Triple) → Contains old x ↔ IsShownBelow numbers rows dropped places s x) →
-      (x : Triple) → Contains (old ++ row) x ↔ IsShownBelow numbers rows dropped places (s + 1) x
-  shown_with s old row marked shown is x = (
-    λ c. elim (Contains-append_cases old row x c) [
+      (x : Triple) → Contains new x ↔ IsShownBelow numbers rows dropped places (s + 1) x
+  shown_with s old row new marked shown put is x = (
+    λ c. elim (Contains-append_cases old row x (subst (λ xs. Contains xs x) put c)) [
       | inl d ↦ let f = (is x).0 d in (f.0, omega (arith, f.1), f.2, f.3)
       | inr d ↦ (s, omega arith, marked, (shown.exactly x).0 d)
     ],
-    λ f. elim (cases_eq f.0 s) [
+    λ f. subst (λ xs. Contains xs x) (sym put) (elim (cases_eq f.0 s) [
       | inl e ↦ Contains-append_right old row x ((shown.exactly x).1 (subst (λ t. Contains (shown_by numbers dropped places t) x) e f.3))
       | inr d ↦ Contains-append_left old row x ((is x).1 (f.0, omega (arith, f.1, d), f.2, f.3))
-    ],
+    ]),
   )
 
 -- what is shown stands in a place of the row, and is not left out
@@ -69,24 +69,20 @@ module _ (numbers : List ℕ) (dropped : Option ℕ) (places : List Triple) (s :
 -- what a part of a row shows, with one place more
 module _ (numbers : List ℕ) (dropped : Option ℕ) (s : ℕ) (old new : List Triple) (e x : Triple) (more : new ≡ old ++ e ∷ [])
     (is : x ≡ between_numbers numbers s e) where
-  shown_more : filter (λ y. not (is_left_out dropped y)) (map (between_numbers numbers s) new)
-      ≡ filter (λ y. not (is_left_out dropped y)) (map (between_numbers numbers s) old) ++ cond (not (is_left_out dropped x)) (x ∷ []) []
+  shown_more : shown_in numbers dropped s new ≡ shown_in numbers dropped s old ++ cond (not (is_left_out dropped x)) (x ∷ []) []
   shown_more =
-      ap (λ es. filter (λ y. not (is_left_out dropped y)) (map (between_numbers numbers s) es)) more
+      ap (shown_in numbers dropped s) more
       ∙ ap (filter (λ y. not (is_left_out dropped y))) (map-append (between_numbers numbers s) old (e ∷ []))
       ∙ filter-append (λ y. not (is_left_out dropped y)) (map (between_numbers numbers s) old) (between_numbers numbers s e ∷ [])
-      ∙ ap (λ z. filter (λ y. not (is_left_out dropped y)) (map (between_numbers numbers s) old) ++ cond (not (is_left_out dropped z)) (z ∷ []) []) (sym is)
+      ∙ ap (λ z. shown_in numbers dropped s old ++ cond (not (is_left_out dropped z)) (z ∷ []) []) (sym is)
 
-  pub shown_left_out : (base row : List Triple) → row ≡ base ++ filter (λ y. not (is_left_out dropped y)) (map (between_numbers numbers s) old) →
-      is_left_out dropped x ≡ true → row ≡ base ++ filter (λ y. not (is_left_out dropped y)) (map (between_numbers numbers s) new)
-  shown_left_out base row h out =
-      let none = append-nil (filter (λ y. not (is_left_out dropped y)) (map (between_numbers numbers s) old)) in
-      let same = ap (λ b. filter (λ y. not (is_left_out dropped y)) (map (between_numbers numbers s) old) ++ cond (not b) (x ∷ []) []) out in
-      h ∙ ap (λ xs. base ++ xs) (sym (shown_more ∙ same ∙ none))
+  pub shown_left_out : (row : List Triple) → row ≡ shown_in numbers dropped s old → is_left_out dropped x ≡ true → row ≡ shown_in numbers dropped s new
+  shown_left_out row h out =
+      let same = ap (λ b. shown_in numbers dropped s old ++ cond (not b) (x ∷ []) []) out in
+      h ∙ sym (shown_more ∙ same ∙ append-nil (shown_in numbers dropped s old))
 
-  pub shown_stays : (base row pushed : List Triple) → row ≡ base ++ filter (λ y. not (is_left_out dropped y)) (map (between_numbers numbers s) old) →
-      pushed ≡ row ++ x ∷ [] → is_left_out dropped x ≡ false → pushed ≡ base ++ filter (λ y. not (is_left_out dropped y)) (map (between_numbers numbers s) new)
-  shown_stays base row pushed h e stays =
-      let shown : List Triple = filter (λ y. not (is_left_out dropped y)) (map (between_numbers numbers s) old) in
-      let same = ap (λ b. filter (λ y. not (is_left_out dropped y)) (map (between_numbers numbers s) old) ++ cond (not b) (x ∷ []) []) stays in
-      e ∙ ap (λ r. r ++ x ∷ []) h ∙ append_assoc base shown (x ∷ []) ∙ ap (λ xs. base ++ xs) (sym (shown_more ∙ same))
+  pub shown_stays : (row pushed : List Triple) → row ≡ shown_in numbers dropped s old → pushed ≡ row ++ x ∷ [] → is_left_out dropped x ≡ false →
+      pushed ≡ shown_in numbers dropped s new
+  shown_stays row pushed h e stays =
+      let same = ap (λ b. shown_in numbers dropped s old ++ cond (not b) (x ∷ []) []) stays in
+      e ∙ ap (λ r. r ++ x ∷ []) h ∙ sym (shown_more ∙ same)

@@ -1,5 +1,5 @@
 -- Private. The transitions of the quotient, by number: what the rows of some states show.
-use Rattle.std.specs.Prelude.{◌≡◌, ◌↔◌, ℕ, ◌<◌, ◌≤◌, ◌==◌, ◌&&◌, Bool, false, not, Option, None, Some, List, ◌++◌, length, map, slice_index}
+use Rattle.std.specs.Prelude.{◌↔◌, ℕ, ◌<◌, ◌≤◌, ◌==◌, ◌&&◌, Bool, false, not, Option, None, Some, List, length, map, slice_index}
 use Rattle.std.specs.List.{Contains, filter}
 use Rattle.lts.specs.Lts.{Triple, source_of, label_of, target_of, row_of}
 use Rattle.quotient.specs.Marked.{IsMarked}
@@ -13,10 +13,13 @@ abbrev pub is_left_out : Option ℕ → Triple → Bool
 is_left_out None x = false
 is_left_out (Some k) x = (label_of x == k) && (source_of x == target_of x)
 
+-- what transitions of the state s show between numbers
+abbrev pub shown_in : List ℕ → Option ℕ → ℕ → List Triple → List Triple
+shown_in numbers dropped s row = filter (λ x. not (is_left_out dropped x)) (map (between_numbers numbers s) row)
+
 -- what the row of the state s shows between numbers
 abbrev pub shown_by : List ℕ → Option ℕ → List Triple → ℕ → List Triple
-shown_by numbers dropped places s =
-    filter (λ x. not (is_left_out dropped x)) (map (between_numbers numbers s) (row_of s places))
+shown_by numbers dropped places s = shown_in numbers dropped s (row_of s places)
 
 -- the row of a marked state below s shows x
 abbrev pub IsShownBelow : List ℕ → List Bool → Option ℕ → List Triple → ℕ → Triple → Type 0
@@ -27,8 +30,3 @@ IsShownBelow numbers rows dropped places s x =
 pub record HasShown (numbers : List ℕ) (dropped : Option ℕ) (places : List Triple) (s : ℕ) (row : List Triple) : Type 0 where
   pub exactly : (x : Triple) → Contains row x ↔ Contains (shown_by numbers dropped places s) x
   pub few : length row ≤ length (row_of s places)
-
--- what the row of s shows was put behind what stood before
-abbrev pub AppendsShown : List ℕ → Option ℕ → List Triple → ℕ → List Triple → List Triple → Type 0
-AppendsShown numbers dropped places s before after =
-    (row : List Triple) × HasShown numbers dropped places s row × (after ≡ before ++ row)

@@ -1,4 +1,4 @@
-use Rattle.std.proofs.Common.{◌≡◌, ◌∙◌, ℕ, ◌<◌, slice_index, set, replicate, ap, sym, subst, refl, arith}
+use Rattle.std.proofs.Common.{◌≡◌, ◌∙◌, ◌↔◌, ℕ, ◌<◌, IsTrue, eqb, slice_index, set, replicate, ap, sym, subst, refl, arith}
 use Rattle.std.proofs.lemmas.Bool.{eqb-true, eq-eqb}
 use Rattle.std.proofs.lemmas.List.{length-set, length-replicate}
 use Rattle.theory.specs.Bisimulation.{Relation}
@@ -28,39 +28,42 @@ laws g c rel classes =
       all = λ n many. c.leaders_are_counted.ensures.all rel A n lts.system many;
     }
 
+-- at first the first state's block alone has a number
+set_first : (g : Over) (c : goal.In_ok-with_capacity-2 g) → set c.in_ok-by_block.by_block.items c.block.result 0
+    ≡ set (replicate c.count.result none) (slice_index c.args.blocks.now c.args.l.now.first) 0
+set_first g c =
+    ap (λ xs. set xs c.block.result 0) (c.in_ok-by_block.ensures.items_if_clones_equal (λ y e. e))
+    ∙ ap (λ b. set (replicate c.count.result none) b 0) (c.block.ensures ∙ ap (slice_index c.args.blocks.now) c.first-first.ensures)
+
 pub loop-s-init : goal.loop-s-init
 loop-s-init g c =
-    let blocks = c.args.blocks.now in
-    let set_first : set c.in_ok-by_block.by_block.items c.block.result 0 ≡ set (replicate c.count.result none) (slice_index blocks c.args.l.now.first) 0 =
-    ap (λ xs. set xs c.block.result 0) (c.in_ok-by_block.ensures.items_if_clones_equal (λ y e. e))
-    ∙ ap (λ b. set (replicate c.count.result none) b 0) (c.block.ensures ∙ ap (slice_index blocks) c.first-first.ensures) in
+    let within : (t : ℕ) → t < c.args.l.now.states → slice_index c.args.blocks.now t < c.count.result =
+    λ t l. c.count.ensures.below t (omega (arith, l, c.requires.blocks_long)) in
     record {
-      within = λ t l.
-          let below = c.count.ensures.below t (omega (arith, l, c.requires.blocks_long)) in
-          rw set_first (omega (arith, length-set {A = ℕ}, length-replicate {A = ℕ}, below));
+      within = λ t l. let below = within t l in rw (set_first g c) (omega (arith, length-set {A = ℕ}, length-replicate {A = ℕ}, below));
       few = omega arith;
       laws = laws g c;
       taken = λ rel classes.
-          Taken-start rel (system_of c.args.l.now) (slice_index blocks) (laws g c rel classes) c.count.result _
-          (λ t l. c.count.ensures.below t (omega (arith, l, c.requires.blocks_long)))
-          set_first c.in_ok-with_capacity.ensures.items c.in_ok-with_capacity-2.ensures.items refl;
+          Taken-start rel (system_of c.args.l.now) (slice_index c.args.blocks.now) (laws g c rel classes) c.count.result _ within
+          (set_first g c) c.in_ok-with_capacity.ensures.items c.in_ok-with_capacity-2.ensures.items refl;
     }
+
+-- whether a state is the first one
+is_first : (s t first : ℕ) → t ≡ first → IsTrue (eqb s t) ↔ (s ≡ first)
+is_first s t first e = (λ same. eqb-true s t same ∙ e, λ same. eq-eqb s t (same ∙ sym e))
 
 pub loop-s-preserved : goal.loop-s-preserved
 loop-s-preserved g c =
-    let s = c.loop-s.s in
     let l = c.args.l.now in
-    let below : s < l.states = omega (arith, c.states-states.ensures.value) in
+    let b = c.block-in-loop-s.result in
+    let below : c.loop-s.s < l.states = omega (arith, c.states-states.ensures.value) in
     record {
-      within = TakesState-within c.block-in-loop-s.result _ _ c.loop-s.numbering c.add.new.self c.in_ok-add.ensures l.states (slice_index c.args.blocks.now) c.loop-s.invariant.within;
-      few = omega (arith, TakesState-few c.block-in-loop-s.result _ _ c.loop-s.numbering c.add.new.self c.in_ok-add.ensures, c.loop-s.invariant.few);
+      within = TakesState-within b _ _ c.loop-s.numbering c.add.new.self c.in_ok-add.ensures l.states (slice_index c.args.blocks.now) c.loop-s.invariant.within;
+      few = omega (arith, TakesState-few b _ _ c.loop-s.numbering c.add.new.self c.in_ok-add.ensures, c.loop-s.invariant.few);
       laws = c.loop-s.invariant.laws;
-      taken = λ rel classes.
-          Taken-adds rel (system_of l) (slice_index c.args.blocks.now) (c.loop-s.invariant.laws rel classes) s c.block-in-loop-s.result
-          c.loop-s.numbering c.add.new.self _ _ c.block-in-loop-s.ensures
-          (λ e. eqb-true s c.first-first.result e ∙ c.first-first.ensures, λ e. eq-eqb s c.first-first.result (e ∙ sym c.first-first.ensures))
-          (c.requires.reached s below) below (omega (arith, below, c.states-states.ensures.lts.in_range.few_states))
-          (c.loop-s.invariant.taken rel classes) c.in_ok-add.ensures;
+      taken = λ rel classes. Taken-adds rel (system_of l) (slice_index c.args.blocks.now) (c.loop-s.invariant.laws rel classes) c.loop-s.s b
+          c.loop-s.numbering c.add.new.self _ _ c.block-in-loop-s.ensures (is_first c.loop-s.s c.first-first.result l.first c.first-first.ensures)
+          (c.requires.reached c.loop-s.s below) below (omega (arith, below, c.states-states.ensures.lts.in_range.few_states)) (c.loop-s.invariant.taken rel classes) c.in_ok-add.ensures;
     }
 
 pub returns : goal.returns

@@ -4,23 +4,28 @@ use Rattle.std.proofs.lemmas.List.{length-replicate}
 use Rattle.lts.specs.Lts.{system_of}
 use Rattle.quotient.specs.Search.{MarksState}
 use Rattle.quotient.proofs.Reaching.{Searches-start, Searches-taken, Searches-end, places_ahead-marks, places_ahead-first}
+use Rattle.quotient.proofs.search.reachable.Given.{Over}
 use Rattle.quotient.proofs.search.reachable.Goals as goal
+use Rattle.quotient.proofs.search.reachable.Goals.{In_ok-mark}
+
+-- the first state alone is marked
+first_marked : (g : Over) (c : In_ok-mark g) →
+    MarksState c.args.l.now.first (replicate c.args.l.now.states false) [] c.mark.new.self.marked.items c.mark.new.self.stack.items
+first_marked g c =
+    let none : c.in_ok-vec.field-0.items ≡ replicate c.args.l.now.states false =
+    c.in_ok-vec.ensures.items_if_clones_equal (λ y e. e) ∙ ap (λ n. replicate n false) c.states.ensures.value in
+    rw (c.first.ensures, none, c.new.ensures.items) at c.in_ok-mark.ensures
 
 pub loop-s-init : goal.loop-s-init
 loop-s-init g c =
     let s = c.args.l.now in
-    let new = c.mark.new.self in
-    let none : c.in_ok-vec.field-0.items ≡ replicate s.states false =
-    c.in_ok-vec.ensures.items_if_clones_equal (λ y e. e) ∙ ap (λ n. replicate n false) c.states.ensures.value in
-    let marks : MarksState s.first (replicate s.states false) [] new.marked.items new.stack.items =
-    rw (c.first.ensures, none, c.new.ensures.items) at c.in_ok-mark.ensures in
+    let none = replicate s.states false in
+    let marks = first_marked g (goal.at.loop-s-init g c).In_ok-mark in
     let first = c.states.ensures.lts.in_range.first_below in
-    let size = length-replicate s.states false in
-    let kept = places_ahead-marks s.places s.first (replicate s.states false) [] new.marked.items new.stack.items (omega arith) marks in
-    let most = places_ahead-first s.places (replicate s.states false) in
+    let kept = places_ahead-marks s.places s.first none [] _ _ (omega (arith, length-replicate s.states false, first)) marks in
     record {
-      search = Searches-start s new.marked.items new.stack.items first (c.steps_keep_reachable.ensures.first (system_of s)) marks;
-      few = omega arith;
+      search = Searches-start s _ _ first (c.steps_keep_reachable.ensures.first (system_of s)) marks;
+      few = omega (arith, kept, places_ahead-first s.places none);
       visits = search rules;
     }
 
