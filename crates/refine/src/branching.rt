@@ -113,7 +113,8 @@ fn sign_all<M: Meter>(
     Ok(())
 }
 
-/// Finishes all states.
+/// Finishes all states, from the last one on: where states were numbered as they were found, most steps then lead to
+/// finished ones, and rows are read in the order in which they stand in memory.
 ///
 /// Fails if there is no memory for it.
 fn walk_all<M: Meter>(
@@ -136,7 +137,7 @@ fn walk_all<M: Meter>(
 {
     l.known();
     let internal = l.labels().internal();
-    for s in 0..l.states() {
+    for s in (0..l.states()).rev() {
         if !walk.is_unseen(s) {
             continue;
         }
