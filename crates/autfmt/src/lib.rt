@@ -12,23 +12,13 @@ mod line;
 mod line_laws;
 mod ordering;
 mod reader;
-#[cfg(test)]
-mod reader_tests;
-#[cfg(test)]
-mod refusal_tests;
 mod sink;
 mod source;
 mod spelling;
 mod stream;
-#[cfg(test)]
-mod tests;
 mod text_laws;
 mod token;
-#[cfg(test)]
-mod whole_tests;
 mod write_laws;
-#[cfg(test)]
-mod write_tests;
 mod writer;
 
 pub use fault::Fault;

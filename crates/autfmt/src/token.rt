@@ -247,6 +247,3 @@ fn is_word(b: u8) -> bool
 {
     is_letter(b) || b.is_ascii_digit()
 }
-
-#[cfg(test)]
-mod tests;

@@ -10,8 +10,6 @@ mod lts;
 mod memory;
 mod meter;
 mod row_laws;
-#[cfg(test)]
-mod tests;
 
 pub use disjoint::{fits_together, union};
 pub use labels::{Labels, is_label};

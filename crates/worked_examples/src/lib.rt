@@ -19,4 +19,6 @@ mod splits;
 #[cfg(test)]
 mod strong;
 #[cfg(test)]
+mod systems;
+#[cfg(test)]
 mod texts;

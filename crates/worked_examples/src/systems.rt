@@ -1,0 +1,163 @@
+//! Labels and their table, systems in memory, the union of two, and the meter.
+use crate::texts::{spelled, system};
+use lts::{
+    Counter, Labels, Lts, MOST_LABELS, Memory, Meter, fits_together, in_range, is_label, union,
+};
+use std::alloc::Global;
+use std::test::Fail;
+
+/// Fails with the name of an example that does not come out as wanted.
+fn check(name: &str, is_as_wanted: bool) -> Result<(), Fail> {
+    if is_as_wanted {
+        Ok(())
+    } else {
+        Err(Fail::new(name))
+    }
+}
+
+/// Bytes, and whether they are a label.
+const LABELS: [(&[u8], bool); 8] = [
+    (b"", false),
+    (b"i", true),
+    (b"SEND !\"1\"", true),
+    (b" ", true),
+    (b"~", true),
+    (b"a\x1F", false),
+    (b"a\x7F", false),
+    (b"\xC3\xA9", false),
+];
+
+#[test]
+fn knows_labels(rt: HostRuntime) -> Result<(), Fail> {
+    for (bytes, wanted) in &LABELS {
+        check("label", is_label(bytes) == *wanted)?;
+    }
+    for (len, wanted) in [(8000, true), (8001, false)] {
+        let label = vec![in rt.alloc(); b'x'; len]?;
+        check("long label", is_label(&label) == wanted)?;
+    }
+    Ok(())
+}
+
+/// The table with these labels put in one after the other.
+fn table(alloc: Global, texts: &[&[u8]]) -> Result<Labels, Memory> {
+    let mut labels = Labels::new(alloc);
+    for text in texts {
+        if is_label(text) && labels.len() < MOST_LABELS {
+            labels.intern(text)?;
+        }
+    }
+    Ok(labels)
+}
+
+/// Labels, one of them twice.
+const PUT_IN: [&[u8]; 4] = [b"send", b"i", b"send", b"receive"];
+
+/// Labels, and their numbers in the table of these.
+const NUMBERS: [(&[u8], Option<u32>); 4] = [
+    (b"send", Some(0)),
+    (b"i", Some(1)),
+    (b"receive", Some(2)),
+    (b"sen", None),
+];
+
+#[test]
+fn numbers_labels(rt: HostRuntime) -> Result<(), Fail> {
+    let labels = table(rt.alloc(), &PUT_IN)?;
+    for (label, wanted) in &NUMBERS {
+        check("number", labels.find(label) == *wanted)?;
+    }
+    check(
+        "internal",
+        labels.internal() == Some(1) && labels.len() == 3,
+    )
+}
+
+/// Two rounds and a visit, if they can be counted.
+fn count<M: Meter>(m: &mut M) {
+    if m.has_room(2, 1) {
+        m.start_round();
+        m.visit();
+        m.start_round();
+    }
+}
+
+#[test]
+fn counts(_rt: HostRuntime) -> Result<(), Fail> {
+    let mut m = Counter::new();
+    check("fresh", m.is_fresh())?;
+    count(&mut m);
+    check(
+        "counted",
+        !m.is_fresh() && m.rounds() == 2 && m.visits() == 1,
+    )?;
+    check("room", m.has_room(u128::MAX - 2, u128::MAX - 1))?;
+    check("rounds", !m.has_room(u128::MAX - 1, 0))?;
+    check("visits", !m.has_room(0, u128::MAX))
+}
+
+/// A first state, how many states there are, triples, and whether they are in range beside two labels.
+type Range = (u32, u32, &'static [(u32, u32, u32)], bool);
+
+const RANGES: [Range; 8] = [
+    (0, 1, &[], true),
+    (0, 0, &[], false),
+    (1, 1, &[], false),
+    (1, 2, &[(0, 0, 1), (1, 1, 0)], true),
+    (0, 2, &[(2, 0, 0)], false),
+    (0, 2, &[(0, 2, 0)], false),
+    (0, 2, &[(0, 0, 2)], false),
+    (0, 2_000_001, &[], false),
+];
+
+#[test]
+fn knows_what_is_in_range(rt: HostRuntime) -> Result<(), Fail> {
+    let labels = table(rt.alloc(), &[b"a", b"b"])?;
+    for (first, states, e, wanted) in &RANGES {
+        check("range", in_range(&labels, *first, *states, e) == *wanted)?;
+    }
+    Ok(())
+}
+
+/// Whether the system has so many transitions and labels, and is spelled as `wanted`.
+fn is_shown(
+    alloc: Global,
+    l: &Lts<Counter>,
+    edges: u32,
+    labels: u32,
+    wanted: &str,
+) -> Result<bool, Memory> {
+    let text = spelled(alloc, l)?;
+    Ok(l.edges() == edges && l.labels().len() == labels && text.as_str() == wanted)
+}
+
+#[test]
+fn groups_by_source(rt: HostRuntime) -> Result<(), Fail> {
+    let l = system(rt.alloc(), "2 of 3; 2 a 1; 0 i 2; 2 i 0; 0 a 1; 2 a 1")?;
+    let wanted = "2 of 3; 0 i 2; 0 a 1; 2 a 1; 2 i 0; 2 a 1";
+    check("grouped", is_shown(rt.alloc(), &l, 5, 2, wanted)?)
+}
+
+/// Whether the union is as wanted, by a visit of each of the four transitions of both.
+fn is_joined(
+    alloc: Global,
+    a: &Lts<Counter>,
+    b: &Lts<Counter>,
+    wanted: &str,
+) -> Result<bool, Memory> {
+    let mut m = Counter::new();
+    if !fits_together(a, b) || !m.has_room(0, 40_000_000) {
+        return Ok(false);
+    }
+    let l = union(alloc, a, b, &mut m)?;
+    Ok(m.visits() == 4 && is_shown(alloc, &l, 4, 3, wanted)?)
+}
+
+/// Two systems that number their labels in different orders.
+#[test]
+fn joins_by_bytes(rt: HostRuntime) -> Result<(), Fail> {
+    let a = system(rt.alloc(), "1 of 2; 0 a 1; 1 i 0")?;
+    let b = system(rt.alloc(), "0 of 2; 1 i 1; 0 b 1")?;
+    let wanted = "1 of 4; 0 a 1; 1 i 0; 2 b 3; 3 i 3";
+    check("joined", is_joined(rt.alloc(), &a, &b, wanted)?)
+}

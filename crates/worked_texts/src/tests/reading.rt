@@ -1,0 +1,125 @@
+//! How the texts of a table are read: from sources in pieces, to a fault, or to a system that is written again.
+use autfmt::{Fault, Hidden, Limits, SliceSource, VecSink, read, read_hidden, read_hiding, write};
+use lts::{Counter, Lts, Meter};
+use std::alloc::Global;
+use std::test::Fail;
+
+/// A name, a text, and its fault.
+pub(crate) type Faulty = (&'static str, &'static [u8], Fault);
+
+/// A name, a text, a hide list, and what is written of the text.
+pub(crate) type Written = (&'static str, &'static [u8], &'static [u8], &'static [u8]);
+
+/// The sizes of the pieces in which each text comes.
+pub(crate) const SIZES: [usize; 7] = [1, 2, 3, 7, 4095, 4096, 4097];
+
+pub(crate) const TWO_EQUAL_TARGETS: &[u8] = b"des (0, 2, 3)\n(0, a, 1)\n(0, a, 2)\n";
+
+pub(crate) const STEP: &[u8] = b"des (0, 1, 2)\n(0, a, 1)\n";
+
+/// Fails with the name of an example that does not come out as wanted.
+pub(crate) fn check(name: &str, is_as_wanted: bool) -> Result<(), Fail> {
+    if is_as_wanted {
+        Ok(())
+    } else {
+        Err(Fail::new(name))
+    }
+}
+
+/// The system of the text, which comes in pieces of `k` bytes and fails at the place.
+fn system_of(
+    alloc: Global,
+    text: &[u8],
+    place: Option<usize>,
+    lim: &Limits,
+    k: usize,
+) -> Result<Lts<Counter>, Fault> {
+    let mut source = SliceSource::new(text, place).pieces(k.max(1));
+    read(alloc, &mut source, lim)
+}
+
+/// The fault of the text is `wanted`, however it is cut into pieces.
+pub(crate) fn check_fault(
+    alloc: Global,
+    name: &str,
+    text: &[u8],
+    place: Option<usize>,
+    lim: &Limits,
+    wanted: Option<Fault>,
+) -> Result<(), Fail> {
+    for k in SIZES {
+        let found = system_of(alloc, text, place, lim, k).err();
+        check(name, found == wanted)?;
+    }
+    Ok(())
+}
+
+/// Each text has its fault within these limits.
+pub(crate) fn check_faults(alloc: Global, lim: &Limits, table: &[Faulty]) -> Result<(), Fail> {
+    for (name, text, fault) in table {
+        check_fault(alloc, name, text, None, lim, Some(*fault))?;
+    }
+    Ok(())
+}
+
+/// The labels of the list, which comes in pieces of `k` bytes and fails at the place.
+pub(crate) fn hidden_by(
+    alloc: Global,
+    list: &[u8],
+    place: Option<usize>,
+    k: usize,
+) -> Result<Hidden, Fault> {
+    let mut source = SliceSource::new(list, place).pieces(k.max(1));
+    read_hidden(alloc, &mut source)
+}
+
+/// The system of the text, its labels of the list hidden, with both in pieces of `k` bytes.
+pub(crate) fn hiding(
+    alloc: Global,
+    text: &[u8],
+    list: &[u8],
+    k: usize,
+) -> Result<Lts<Counter>, Fault> {
+    let hidden = hidden_by(alloc, list, None, k)?;
+    let mut source = SliceSource::new(text, None).pieces(k.max(1));
+    read_hiding(alloc, &mut source, &Limits::file(), &hidden)
+}
+
+/// Whether the system is written as `wanted`, to a sink that takes `k` bytes at once.
+fn is_written(alloc: Global, system: &Lts<Counter>, k: usize, wanted: &[u8]) -> bool {
+    let mut sink = VecSink::new(alloc, None).pieces(k.max(1));
+    let mut meter = Counter::new();
+    meter.has_room(0, u128::from(system.edges()))
+        && write(alloc, system, &mut meter, &mut sink).is_ok()
+        && sink.bytes() == wanted
+}
+
+/// Whether the text, its labels of the list hidden, is read and then written as `wanted`.
+fn is_rewritten(alloc: Global, text: &[u8], list: &[u8], k: usize, wanted: &[u8]) -> bool {
+    match hiding(alloc, text, list, k) {
+        Ok(system) => is_written(alloc, &system, k, wanted),
+        Err(_) => false,
+    }
+}
+
+/// The text is written as `wanted`, however it and the hide list are cut into pieces.
+pub(crate) fn check_written(
+    alloc: Global,
+    name: &str,
+    text: &[u8],
+    list: &[u8],
+    wanted: &[u8],
+) -> Result<(), Fail> {
+    for k in SIZES {
+        check(name, is_rewritten(alloc, text, list, k, wanted))?;
+    }
+    Ok(())
+}
+
+/// Each text is written as wanted.
+pub(crate) fn check_all_written(alloc: Global, table: &[Written]) -> Result<(), Fail> {
+    for (name, text, list, wanted) in table {
+        check_written(alloc, name, text, list, wanted)?;
+    }
+    Ok(())
+}

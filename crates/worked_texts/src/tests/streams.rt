@@ -1,0 +1,245 @@
+//! The line buffer, sources and sinks: of memory, and of the readers and writers of the standard library.
+use super::reading::check;
+use autfmt::{FromRead, LineBuffer, Sink, SliceSource, Source, ToWrite, VecSink, put_all};
+use std::alloc::{AllocError, Global};
+use std::io;
+use std::io::{Error, ErrorKind, Read, Write};
+use std::test::Fail;
+
+const TEXT: &[u8] = b"des (0,2,3)\n(0,a,1)\n(0,a,2)\n";
+
+/// Whether the line takes so many bytes.
+fn takes_bytes(line: &mut LineBuffer, count: usize) -> bool {
+    for _ in 0..count {
+        if !line.push(b'a') {
+            return false;
+        }
+    }
+    true
+}
+
+#[test]
+fn full_line_buffer(_rt: HostRuntime) -> Result<(), Fail> {
+    let mut line = LineBuffer::new();
+    check("full-line-buffer", takes_bytes(&mut line, 8192))?;
+    check("a byte more", !line.push(b'b') && line.line().len() == 8192)?;
+    line.clear();
+    check(
+        "cleared",
+        takes_bytes(&mut line, 2) && line.line() == b"aa".as_slice(),
+    )
+}
+
+/// The bytes that a source gives until it ends or fails, taken five at a time, and how often it failed.
+fn drained<R: Source>(alloc: Global, r: &mut R) -> Result<(Vec<u8>, u32), AllocError> {
+    let mut all = Vec::new(alloc);
+    let mut piece = [0u8; 5];
+    for _ in 0..1000 {
+        if r.failures() != 0 {
+            return Ok((all, r.failures()));
+        }
+        let n = r.take(&mut piece).unwrap_or(0);
+        all.extend_from_slice(&piece[..n])?;
+    }
+    Ok((all, r.failures()))
+}
+
+/// Whether a source of the text that fails at the place gives `wanted`, and fails so often.
+fn gives(
+    alloc: Global,
+    place: Option<usize>,
+    most: usize,
+    wanted: &[u8],
+    failures: u32,
+) -> Result<bool, AllocError> {
+    let mut source = SliceSource::new(TEXT, place).pieces(most.max(1));
+    let (all, failed) = drained(alloc, &mut source)?;
+    Ok(all.as_slice() == wanted && failed == failures)
+}
+
+const SIZES: [usize; 5] = [1, 2, 3, 7, 4096];
+
+#[test]
+fn a_slice_gives_its_bytes_up_to_the_place(rt: HostRuntime) -> Result<(), Fail> {
+    for most in SIZES {
+        for (place, _) in TEXT.iter().enumerate() {
+            let wanted = &TEXT[..place];
+            check("a slice", gives(rt.alloc(), Some(place), most, wanted, 1)?)?;
+        }
+    }
+    Ok(())
+}
+
+#[test]
+fn a_slice_gives_all_its_bytes(rt: HostRuntime) -> Result<(), Fail> {
+    for most in SIZES {
+        check("a slice", gives(rt.alloc(), None, most, TEXT, 0)?)?;
+        check("a slice", gives(rt.alloc(), Some(28), most, TEXT, 1)?)?;
+        check("a slice", gives(rt.alloc(), Some(29), most, TEXT, 0)?)?;
+    }
+    Ok(())
+}
+
+/// What the first call gives.
+fn first_taken(most: usize) -> usize {
+    let mut source = SliceSource::new(TEXT, None).pieces(most.max(1));
+    source.take(&mut [0u8; 64]).unwrap_or(0)
+}
+
+#[test]
+fn a_slice_gives_pieces(_rt: HostRuntime) -> Result<(), Fail> {
+    for most in SIZES {
+        check("a piece", first_taken(most) == most.min(28))?;
+    }
+    Ok(())
+}
+
+/// Whether a sink that fails at the count takes `wanted` of the text, and fails so often; finishing counts.
+fn takes(alloc: Global, count: Option<usize>, most: usize, wanted: &[u8], failures: u32) -> bool {
+    let mut sink = VecSink::new(alloc, count).pieces(most.max(1));
+    let done = put_all(&mut sink, TEXT).is_ok() && sink.failures() == 0 && sink.finish().is_ok();
+    done == (failures == 0) && sink.bytes() == wanted && sink.failures() == failures
+}
+
+#[test]
+fn a_vec_sink_takes_bytes_up_to_the_count(rt: HostRuntime) -> Result<(), Fail> {
+    for most in SIZES {
+        for (count, _) in TEXT.iter().enumerate() {
+            let wanted = &TEXT[..count];
+            check("a sink", takes(rt.alloc(), Some(count), most, wanted, 1))?;
+        }
+    }
+    Ok(())
+}
+
+/// It fails to finish at the count, and not before.
+#[test]
+fn a_vec_sink_takes_all_bytes(rt: HostRuntime) -> Result<(), Fail> {
+    for most in SIZES {
+        check("a sink", takes(rt.alloc(), None, most, TEXT, 0))?;
+        check("a sink", takes(rt.alloc(), Some(28), most, TEXT, 1))?;
+        check("a sink", takes(rt.alloc(), Some(29), most, TEXT, 0))?;
+    }
+    Ok(())
+}
+
+#[test]
+fn a_reader_gives_its_bytes(rt: HostRuntime) -> Result<(), Fail> {
+    let (all, failures) = drained(rt.alloc(), &mut FromRead::new(TEXT))?;
+    check("a reader", all.as_slice() == TEXT && failures == 0)
+}
+
+/// Whether all of these bytes are put, and how often the sink failed.
+fn put<W: Write>(writer: &mut W, bytes: &[u8]) -> (bool, u32) {
+    let mut sink = ToWrite::new(writer);
+    let put = put_all(&mut sink, bytes);
+    (put.is_ok(), sink.failures())
+}
+
+#[test]
+fn a_writer_takes_its_bytes(rt: HostRuntime) -> Result<(), Fail> {
+    let mut out = Vec::new(rt.alloc());
+    let (done, failures) = put(&mut out, TEXT);
+    check("a writer", done && failures == 0 && out.as_slice() == TEXT)
+}
+
+/// A reader that gives one byte a read, and is interrupted once `left` are given.
+#[derive(Drop)]
+struct Faltering {
+    left: u32,
+}
+
+impl Read for Faltering {
+    fn read(&mut self, buf: &mut [u8]) -> io::Result<usize> {
+        if self.left == 0 {
+            return Err(Error::from(ErrorKind::Interrupted));
+        }
+        self.left -= 1;
+        match buf.first_mut() {
+            Some(first) => {
+                *first = b'a';
+                Ok(1)
+            }
+            None => Ok(0),
+        }
+    }
+}
+
+#[test]
+fn a_failed_read_is_not_tried_again(rt: HostRuntime) -> Result<(), Fail> {
+    let (all, failures) = drained(rt.alloc(), &mut FromRead::new(Faltering { left: 3 }))?;
+    check(
+        "a failed read",
+        all.as_slice() == b"aaa".as_slice() && failures == 1,
+    )
+}
+
+/// A writer that takes two bytes a write until it has `room` for none, and counts its flushes.
+#[derive(Drop)]
+struct Tight {
+    room: usize,
+    fails: bool,
+    flushes: u32,
+}
+
+impl Write for Tight {
+    fn write(&mut self, buf: &[u8]) -> io::Result<usize> {
+        if self.room == 0 && self.fails {
+            return Err(Error::from(ErrorKind::Interrupted));
+        }
+        let n = buf.len().min(self.room).min(2);
+        self.room -= n;
+        Ok(n)
+    }
+
+    fn flush(&mut self) -> io::Result<()> {
+        self.flushes = self.flushes.saturating_add(1);
+        if self.fails {
+            Err(Error::from(ErrorKind::BrokenPipe))
+        } else {
+            Ok(())
+        }
+    }
+}
+
+/// Room for five bytes, and no flush yet.
+fn with_room(fails: bool) -> Tight {
+    Tight {
+        room: 5,
+        fails,
+        flushes: 0,
+    }
+}
+
+/// Five bytes are put and no more, and nothing is flushed.
+fn check_tight(fails: bool) -> Result<(), Fail> {
+    let mut tight = with_room(fails);
+    check("five bytes", put(&mut tight, b"abcde") == (true, 0))?;
+    check("a byte more", put(&mut tight, b"f") == (false, 1))?;
+    check("no flush", tight.flushes == 0)
+}
+
+#[test]
+fn a_write_of_no_bytes_is_a_failure(_rt: HostRuntime) -> Result<(), Fail> {
+    check_tight(false)
+}
+
+#[test]
+fn a_write_error_is_a_failure(_rt: HostRuntime) -> Result<(), Fail> {
+    check_tight(true)
+}
+
+/// Whether the writer is finished, how often the sink failed, and how often the writer was flushed.
+fn finished(fails: bool) -> (bool, u32, u32) {
+    let mut tight = with_room(fails);
+    let mut sink = ToWrite::new(&mut tight);
+    let done = sink.finish().is_ok();
+    let failures = sink.failures();
+    (done, failures, tight.flushes)
+}
+
+#[test]
+fn finish_flushes_the_writer(_rt: HostRuntime) -> Result<(), Fail> {
+    check("flushed", finished(false) == (true, 0, 1))?;
+    check("a failed flush", finished(true) == (false, 1, 1))
+}

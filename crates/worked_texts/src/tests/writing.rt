@@ -1,0 +1,80 @@
+//! Sinks that fail while a system is written, and how often they are finished.
+ghost use Rattle.std.specs.Prelude.{None};
+
+use super::reading::{STEP, check, hiding};
+use autfmt::{Broken, Fault, Sink, VecSink, write};
+use lts::{Counter, Lts, Meter};
+use std::alloc::Global;
+use std::test::Fail;
+
+/// What `write` answers, and the visits that it made.
+fn answer<W: Sink>(alloc: Global, s: &Lts<Counter>, sink: &mut W) -> (Result<(), Fault>, u128) {
+    let mut m = Counter::new();
+    if !m.has_room(0, u128::from(s.edges())) || sink.failures() != 0 {
+        return (Err(Fault::Memory), 0);
+    }
+    let answer = write(alloc, s, &mut m, sink);
+    (answer, m.visits())
+}
+
+/// Whether a sink that fails at the count, in pieces, gets the beginning of the text and the fault `Device`.
+fn fails_at(alloc: Global, s: &Lts<Counter>, count: usize, most: usize) -> bool {
+    let mut sink = VecSink::new(alloc, Some(count)).pieces(most.max(1));
+    let (answer, visits) = answer(alloc, s, &mut sink);
+    answer == Err(Fault::Device)
+        && visits == 1
+        && sink.failures() == 1
+        && sink.bytes() == &STEP[..count.min(24)]
+}
+
+/// Each sink that fails within the text, and then at its end, does so.
+fn check_ends(alloc: Global, s: &Lts<Counter>, most: usize) -> Result<(), Fail> {
+    for count in 0..25 {
+        check("failing-ends", fails_at(alloc, s, count, most))?;
+    }
+    Ok(())
+}
+
+#[test]
+fn failing_ends(rt: HostRuntime) -> Result<(), Fail> {
+    let s = hiding(rt.alloc(), STEP, b"", 4096)?;
+    check_ends(rt.alloc(), &s, 1)?;
+    check_ends(rt.alloc(), &s, 5)?;
+    check_ends(rt.alloc(), &s, 100)
+}
+
+/// A sink that takes all and counts its ends.
+#[derive(Drop)]
+struct Counted {
+    finished: u32,
+}
+
+impl Sink for Counted {
+    ghost written = { λ _. None };
+
+    ghost failures = { λ _. 0 };
+
+    fn put(&mut self, b: &[u8]) -> Result<usize, Broken> {
+        Ok(b.len())
+    }
+
+    fn finish(&mut self) -> Result<(), Broken> {
+        self.finished = self.finished.saturating_add(1);
+        Ok(())
+    }
+
+    fn failures(&self) -> u32 {
+        0
+    }
+}
+
+#[test]
+fn never_finishes(rt: HostRuntime) -> Result<(), Fail> {
+    let s = hiding(rt.alloc(), STEP, b"", 4096)?;
+    let mut sink = Counted { finished: 0 };
+    let (answer, visits) = answer(rt.alloc(), &s, &mut sink);
+    check(
+        "finished",
+        answer.is_ok() && visits == 1 && sink.finished == 1,
+    )
+}
