@@ -15,7 +15,7 @@ use Rattle.autbis.specs.Comparisons.FailsBehindFirst.{second_side, run_side}
 use Rattle.autbis.specs.Comparisons.NoLine.{no_memory as no_room, failed_sink}
 use Rattle.autbis.specs.Reports.{status_of}
 use Rattle.autbis.specs.Runs.{IsFaulty, RunFails}
-use Rattle.autbis.specs.Runs.RunFails.{not_read, no_memory as run_no_memory, failed_sink as run_failed_sink}
+use Rattle.autbis.specs.Runs.RunFails.{not_read, not_written}
 use Rattle.autbis.proofs.Carried.{all_taken}
 use Rattle.autfmt.specs.Faults.{FirstFault}
 use Rattle.autfmt.specs.Readers.{IsTextFault}
@@ -118,5 +118,5 @@ pub faulty_run : {rel : Relation} {bounds : Bounds} {H : List (List ℕ)} {given
     RunFails rel bounds H given rest source sink unchanged old new at fault → status_of fault ≡ 2 → (source ≡ 0) × IfSome told (IsFaulty bounds)
 faulty_run {bounds = bounds} {given = given} {rest = rest} {source = source} {fault = fault} told took (not_read refused same fresh) two =
     (sound_with_2_or_4 bounds given rest source fault refused (inl two), faulty_told bounds given rest source fault told took refused two)
-faulty_run told took (run_no_memory memory sound at_end same counts) two = absurd (omega (arith, ap status_of memory, two))
-faulty_run told took (run_failed_sink device sound at_end failed begun counts) two = absurd (omega (arith, ap status_of device, two))
+faulty_run told took (not_written sound at_end A reads keeps (inl refused)) two = absurd (omega (arith, ap status_of refused.0, two))
+faulty_run told took (not_written sound at_end A reads keeps (inr failed)) two = absurd (omega (arith, ap status_of failed.0, two))

@@ -1,5 +1,5 @@
 -- A whole run: what it does with the system that a text reads as, and why it does not.
-use Rattle.std.specs.Prelude.{◌≡◌, ℕ, ◌*◌, ◌≤◌, List, length, Option}
+use Rattle.std.specs.Prelude.{◌≡◌, ◌⊎◌, ℕ, ◌*◌, ◌≤◌, List, length, Option}
 use Rattle.std.specs.Io.KnownBytes.{Appends, IsAtEnd}
 use Rattle.theory.specs.System.{System, IsSystem, Hide}
 use Rattle.theory.specs.Bisimulation.{Relation, Bisimilar, Equivalent}
@@ -60,16 +60,12 @@ pub record RunsTo (rel : Relation) (bounds : Bounds) (H : List (List ℕ)) (text
   pub keeps : KeepsTo counts.states counts.transitions 2 at (at.rounds * counts.transitions)
   pub at_end : IsAtEnd rest
 
--- a fresh meter counted no more than a run over the system of the text may take
-abbrev pub CountsPart : Bounds → List ℕ → meter.Counts → Type 0
-CountsPart bounds text at = (A : System) × Reads bounds text A × KeepsTo A.states (length A.transitions) 2 at 0
-
--- why a run wrote no text: none was read from the bytes given, a growth was refused, or the sink failed
+-- why a run wrote no text: none was read from the bytes given; or a growth was refused or the sink failed, and a fresh meter then
+-- shows no more than a run over the system of the text may take
 pub data RunFails (rel : Relation) (bounds : Bounds) (H : List (List ℕ)) (given : List ℕ) (rest : Option (List ℕ))
     (source sink : ℕ) (unchanged : Type 0) (old new : Option (List ℕ)) (at : meter.Counts) (fault : Fault) : Type 0 where
   not_read : Refuses bounds given rest source fault → unchanged → IsFresh at →
       RunFails rel bounds H given rest source sink unchanged old new at fault
-  no_memory : fault ≡ Memory → source ≡ 0 → IsAtEnd rest → unchanged → CountsPart bounds given at →
+  not_written : source ≡ 0 → IsAtEnd rest → (A : System) → Reads bounds given A → KeepsTo A.states (length A.transitions) 2 at 0 →
+      ((fault ≡ Memory) × unchanged) ⊎ ((fault ≡ Device) × (sink ≡ 1) × BeginsQuotient rel bounds H given old new) →
       RunFails rel bounds H given rest source sink unchanged old new at fault
-  failed_sink : fault ≡ Device → source ≡ 0 → IsAtEnd rest → sink ≡ 1 → BeginsQuotient rel bounds H given old new →
-      CountsPart bounds given at → RunFails rel bounds H given rest source sink unchanged old new at fault

@@ -29,9 +29,13 @@ stats_rule = record (new_rule (codes "stats")) { long = Some (codes "stats"); ac
 abbrev pub file_rule : Rule
 file_rule = record (new_rule (codes "file")) { value_names = 1 }
 
+-- the words of the job of this name that both jobs have
+abbrev pub job_app : Text → App
+job_app name = with_rule (with_rule (new_app name) relation_rule) hide_rule
+
 -- the words of `min`
 abbrev pub min_app : App
-min_app = with_rule (with_rule (with_rule (with_rule (new_app (codes "min")) relation_rule) hide_rule) stats_rule) file_rule
+min_app = with_rule (with_rule (job_app (codes "min")) stats_rule) file_rule
 
 -- a file that has to be named
 abbrev pub needed_file_rule : Text → Rule
@@ -39,8 +43,7 @@ needed_file_rule id = record (new_rule id) { value_names = 1; required = true }
 
 -- the words of `cmp`
 abbrev pub cmp_app : App
-cmp_app = with_rule (with_rule (with_rule (with_rule (new_app (codes "cmp")) relation_rule) hide_rule)
-    (needed_file_rule (codes "first"))) (needed_file_rule (codes "second"))
+cmp_app = with_rule (with_rule (job_app (codes "cmp")) (needed_file_rule (codes "first"))) (needed_file_rule (codes "second"))
 
 -- the words of the program, which has a version and has to be given a subcommand
 abbrev pub program_app : App

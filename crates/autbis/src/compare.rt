@@ -1,13 +1,7 @@
 //! One comparison, from the bytes of two texts to a verdict.
-ghost use Rattle.std.specs.Prelude.{◌≡◌, ◌↔◌, ℕ, ◌+◌, ◌*◌, List, length, IsTrue, IfOk, IfErr, OnOk, OnErr};
+ghost use Rattle.std.specs.Prelude.{◌≡◌, ℕ, List, IfErr, OnOk, OnErr};
 ghost use Rattle.std.specs.Io.KnownBytes.{Appends, Consumes};
-ghost use Rattle.theory.specs.Bisimulation.{Equivalent};
-ghost use Rattle.theory.specs.Blocks.{Turns};
-ghost use Rattle.theory.specs.Union.{union_of};
-ghost use Rattle.lts.specs.Lts.{system_of};
-ghost use Rattle.lts.specs.Meter.{IsFresh, on_ok};
-ghost use Rattle.lts.specs.Union.{FitTogether};
-ghost use Rattle.quotient.specs.Bounds.{KeepsTo};
+ghost use Rattle.lts.specs.Meter.{IsFresh};
 ghost use Rattle.quotient.specs.Relations.{meant};
 ghost use Rattle.autfmt.specs.Outcomes.{ReadsTo, Refuses, Takes};
 ghost use Rattle.autfmt.specs.Stream.{AppendsBeginning, CountsFailure};
@@ -16,7 +10,7 @@ ghost use Rattle.autbis.specs.Comparisons.{CmpFails, ComparesTo, line_of};
 ghost use Rattle.autbis.specs.declared.compare.Side.TheVariants.{First, Run};
 
 use autfmt::{Fault, Hidden, Limits, Sink, Source, put_all, read_hiding};
-use lts::{Lts, Meter};
+use lts::{Lts, Memory, Meter};
 use quotient::{Relation, equivalent};
 use std::alloc::Global;
 
@@ -38,6 +32,17 @@ pub struct CmpFault {
     pub side: Side,
     /// The fault.
     pub fault: Fault,
+}
+
+impl From<Memory> for CmpFault {
+    ghost from_gives = { λ _ fault. fault ≡ record { side = Run; fault = Memory } };
+
+    fn from(_refused: Memory) -> CmpFault {
+        CmpFault {
+            side: Side::Run,
+            fault: Fault::Memory,
+        }
+    }
 }
 
 /// Reads the first text to its end, and then the second, with each label that `h` names read as `i`; compares the two systems by
@@ -80,11 +85,11 @@ pub fn run_cmp<M: Meter, R1: Source, R2: Source, W: Sink>(
 {
     theory::the_order_does_not_matter();
     theory::the_order_does_not_matter_side_by_side();
-    // Its contract tells what holds of all limits.
+    // Called for its contract alone: limits are within those of a file.
     let _ = lim.transitions();
     let first: Lts<M> = read_side(alloc, a, lim, h, Side::First)?;
     let second: Lts<M> = read_side(alloc, b, lim, h, Side::Second)?;
-    let same = decide(alloc, &first, &second, rel, m)?;
+    let same = equivalent(alloc, &first, &second, rel, m)?;
     say(same, w)?;
     Ok(same)
 }
@@ -105,33 +110,6 @@ fn read_side<M: Meter, R: Source>(
     match read_hiding(alloc, r, lim, h) {
         Ok(system) => Ok(system),
         Err(fault) => Err(CmpFault { side, fault }),
-    }
-}
-
-/// Whether the two systems are equivalent.
-fn decide<M: Meter>(
-    alloc: Global,
-    first: &Lts<M>,
-    second: &Lts<M>,
-    rel: Relation,
-    m: &mut M,
-) -> Result<bool, CmpFault>
-    requires fresh { IsFresh (M.counted m.old) }
-    requires fit { FitTogether first.now second.now }
-    ensures verdict { IfOk result (λ same.
-        IsTrue same ↔ Equivalent (meant rel) (system_of first.now) (system_of second.now)) }
-    ensures turns { OnOk result
-        (Turns (meant rel) (union_of (system_of first.now) (system_of second.now)) (M.counted m.new).rounds) }
-    ensures keeps { let at = M.counted m.new in let k = length first.now.places + length second.now.places in
-        KeepsTo (first.now.states + second.now.states) k 1 at (on_ok result ((at.rounds + 1) * k)) }
-    ensures fault { IfErr result (λ f. (f.side ≡ Run) × (f.fault ≡ Memory)) }
-{
-    match equivalent(alloc, first, second, rel, m) {
-        Ok(same) => Ok(same),
-        Err(_) => Err(CmpFault {
-            side: Side::Run,
-            fault: Fault::Memory,
-        }),
     }
 }
 

@@ -170,7 +170,7 @@ fn show_stats<M: Meter, E: Write>(counts: Counts, rel: Relation, m: &M, e: &mut 
     let transitions = counts.transitions;
     let rounds = m.rounds();
     let visits = m.visits();
-    let allowance = most_visits(counts, rel, rounds);
+    let allowance = allowed_visits(counts, rel, rounds);
     let _ = writeln!(
         e,
         "stats: states {states} transitions {transitions} rounds {rounds} visits {visits} allowance {allowance}"
@@ -178,7 +178,7 @@ fn show_stats<M: Meter, E: Write>(counts: Counts, rel: Relation, m: &M, e: &mut 
 }
 
 /// The most visits that a run of so many rounds may make.
-fn most_visits(counts: Counts, rel: Relation, rounds: u128) -> u128
+fn allowed_visits(counts: Counts, rel: Relation, rounds: u128) -> u128
     requires { rounds ≤ counts.states }
     ensures { result ≡ allowance (meant rel) counts.states counts.transitions rounds }
 {

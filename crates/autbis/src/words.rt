@@ -4,13 +4,13 @@ ghost use Rattle.clap.specs.Words.{app_of, first_of, found_of, rows_of, rule_of,
 ghost use Rattle.clap.specs.Values.{kind_of};
 ghost use Rattle.clap.specs.declared.error.kind.ErrorKind.TheVariants.{OutOfMemory};
 ghost use Rattle.clap.specs.declared.builder.command.Command.TheViews.{out-Command};
-ghost use Rattle.autbis.specs.Words.{AskForAJob, HasMatches, IsFaultIn, IsFaultOf, IsFaultOfAJob, IsJobIn, IsJobOf, IsWhole, IsWholeIn, NamesNoRelation, cmp_app, file_rule, hide_rule, min_app, needed_file_rule, program_app, relation_in, relation_rule, stats_rule, word_of};
+ghost use Rattle.autbis.specs.Words.{AskForAJob, HasMatches, IsFaultIn, IsFaultOf, IsFaultOfAJob, IsJobIn, IsJobOf, IsWhole, IsWholeIn, NamesNoRelation, cmp_app, file_rule, hide_rule, job_app, min_app, needed_file_rule, program_app, relation_in, relation_rule, stats_rule, word_of};
 ghost use Rattle.autbis.specs.declared.words.WordFault.TheVariants.{Memory};
 
 use clap::error::ErrorKind;
 use clap::{Arg, ArgAction, ArgMatches, Command, Error};
 use quotient::Relation;
-use std::alloc::{AllocError, AllocFailed, Global};
+use std::alloc::{AllocError, Global};
 
 /// The version of the program, which `--version` shows.
 pub const VERSION: &str = "0.1.0";
@@ -63,14 +63,6 @@ impl From<AllocError> for WordFault {
     }
 }
 
-impl<T: Drop> From<AllocFailed<T>> for WordFault {
-    ghost from_gives = { λ _ fault. fault ≡ Memory };
-
-    fn from(_refused: AllocFailed<T>) -> WordFault {
-        WordFault::Memory
-    }
-}
-
 /// The job that the words ask for. The first word is the program's name.
 ///
 /// # Errors
@@ -106,12 +98,13 @@ fn described_min<'a>(alloc: Global) -> Result<Command<'a>, AllocError>
     ensures words { IfOk result (λ c. app_of c ≡ min_app) }
     ensures local { IfOk result (λ c. (out-Command c).has_globals ≡ false) }
 {
-    Command::new(alloc, "min")
-        .about("Writes the equivalent system with the fewest states")
-        .arg(relation_option(alloc))?
-        .arg(hide_option(alloc))?
-        .arg(stats_flag(alloc))?
-        .arg(file_argument(alloc))
+    described_job(
+        alloc,
+        "min",
+        "Writes the equivalent system with the fewest states",
+    )?
+    .arg(stats_flag(alloc))?
+    .arg(file_argument(alloc))
 }
 
 /// What `clap` is told of the words of `cmp`.
@@ -119,12 +112,28 @@ fn described_cmp<'a>(alloc: Global) -> Result<Command<'a>, AllocError>
     ensures words { IfOk result (λ c. app_of c ≡ cmp_app) }
     ensures local { IfOk result (λ c. (out-Command c).has_globals ≡ false) }
 {
-    Command::new(alloc, "cmp")
-        .about("Says whether two systems are equivalent: TRUE or FALSE")
+    described_job(
+        alloc,
+        "cmp",
+        "Says whether two systems are equivalent: TRUE or FALSE",
+    )?
+    .arg(needed_file(alloc, "first", "The first system"))?
+    .arg(needed_file(alloc, "second", "The second system"))
+}
+
+/// What `clap` is told of the words of either job: its name, and the options that both have.
+fn described_job<'a>(
+    alloc: Global,
+    name: &'a str,
+    about: &'a str,
+) -> Result<Command<'a>, AllocError>
+    ensures words { IfOk result (λ c. app_of c ≡ job_app name.now) }
+    ensures local { IfOk result (λ c. (out-Command c).has_globals ≡ false) }
+{
+    Command::new(alloc, name)
+        .about(about)
         .arg(relation_option(alloc))?
-        .arg(hide_option(alloc))?
-        .arg(needed_file(alloc, "first", "The first system"))?
-        .arg(needed_file(alloc, "second", "The second system"))
+        .arg(hide_option(alloc))
 }
 
 /// What `clap` is told of `--relation WORD`. The word is checked later, by `relation_of`.

@@ -7,7 +7,7 @@ use Rattle.theory.specs.Bisimulation.{Relation, Bisimilar}
 use Rattle.theory.specs.Blocks.{EachTwo}
 use Rattle.theory.specs.Quotient.{HowMany, Leader, IsLeader, Number}
 use Rattle.quotient.specs.Marked.{IsMarked}
-use Rattle.quotient.specs.Numbers.{IsNumbering, Opens, Follows, TakesState, none}
+use Rattle.quotient.specs.Numbers.{IsNumbering, BeginsClass, JoinsClass, TakesState, none}
 use Rattle.quotient.specs.declared.numbering.Numbering.{Numbering}
 use Rattle.quotient.proofs.Lists.{each_pushed}
 
@@ -123,7 +123,7 @@ module _ (rel : Relation) (A : System) (block : ℕ → ℕ) (laws : Laws rel A 
 
   -- the state s has an earlier one in its block
   module _ (s : ℕ) (old new : Numbering) (reached first : Bool) (is_first : IsTrue first ↔ (s ≡ A.first)) (is_reached : IsTrue reached ↔ Reachable A s)
-      (ls : s < A.states) (h : Taken rel A block s old) (f : Follows (block s) reached first old new) where
+      (ls : s < A.states) (h : Taken rel A block s old) (f : JoinsClass (block s) reached first old new) where
     follows_not_other : ¬ (IsLeader rel A s × (s ≢ A.first))
     follows_not_other (lead, other) =
         let way : Reachable A s = other_reached s lead other in
@@ -161,7 +161,7 @@ module _ (rel : Relation) (A : System) (block : ℕ → ℕ) (laws : Laws rel A 
 
   -- the state s is the first one reached in its block
   module _ (s : ℕ) (old new : Numbering) (reached : Bool) (is_reached : IsTrue reached ↔ Reachable A s)
-      (ls : s < A.states) (low : s + 1 < none) (h : Taken rel A block s old) (o : Opens (block s) reached old new) where
+      (ls : s < A.states) (low : s + 1 < none) (h : Taken rel A block s old) (o : BeginsClass (block s) reached old new) where
     opens_way : Reachable A s
     opens_way = is_reached.0 o.way
 

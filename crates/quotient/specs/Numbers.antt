@@ -20,7 +20,7 @@ abbrev pub none : ℕ
 none = 4294967295
 
 -- the next state is the first one reached in its block b, which gets the next number
-pub record Opens (b : ℕ) (reached : Bool) (old new : Numbering) : Type 0 where
+pub record BeginsClass (b : ℕ) (reached : Bool) (old new : Numbering) : Type 0 where
   pub way : IsTrue reached
   pub fresh : slice_index old.by_block.items b ≡ none
   pub by_block : new.by_block.items ≡ slice_set old.by_block.items b old.count
@@ -29,7 +29,7 @@ pub record Opens (b : ℕ) (reached : Bool) (old new : Numbering) : Type 0 where
   pub count : new.count ≡ old.count + 1
 
 -- the next state has the number of its block b, if that has one, and leads where it is the first state
-pub record Follows (b : ℕ) (reached first : Bool) (old new : Numbering) : Type 0 where
+pub record JoinsClass (b : ℕ) (reached first : Bool) (old new : Numbering) : Type 0 where
   pub known : IsTrue reached → slice_index old.by_block.items b ≢ none
   pub by_block : new.by_block.items ≡ old.by_block.items
   pub numbers : new.numbers.items ≡ old.numbers.items ++ slice_index old.by_block.items b ∷ []
@@ -38,4 +38,4 @@ pub record Follows (b : ℕ) (reached first : Bool) (old new : Numbering) : Type
 
 -- the next state is taken
 abbrev pub TakesState : ℕ → Bool → Bool → Numbering → Numbering → Type 0
-TakesState b reached first old new = Opens b reached old new ⊎ Follows b reached first old new
+TakesState b reached first old new = BeginsClass b reached old new ⊎ JoinsClass b reached first old new

@@ -1,11 +1,10 @@
 //! Runs by strong bisimulation that end in a fault: of the text, of a source or a sink, or for want of memory.
 use crate::runs::{
     CHAIN_OF_THREE, ITS_QUOTIENT, SILENT_DETOUR, TWO_EQUAL_TARGETS, check, check_at, check_fault,
+    run,
 };
-use autbis::run_min;
-use autfmt::{Fault, Hidden, Limits, SliceSource, VecSink};
-use lts::{Counter, Meter};
-use quotient::Relation;
+use autfmt::Fault;
+use lts::Meter;
 use std::alloc::Global;
 use std::process::Abort;
 
@@ -55,19 +54,31 @@ fn cut_texts(rt: HostRuntime) {
     check(&rt, rt.alloc(), &TWO_EQUAL_TARGETS[..33], ITS_QUOTIENT);
 }
 
+/// A run on `two-equal-targets`, of which the source or the sink fails at a place.
+fn check_failing(
+    rt: &impl Abort,
+    alloc: Global,
+    place: Option<usize>,
+    count: Option<usize>,
+    out: &[u8],
+) {
+    let wanted = (Some(Fault::Device), out);
+    check_at(
+        rt,
+        alloc,
+        TWO_EQUAL_TARGETS,
+        b"",
+        place,
+        count,
+        4096,
+        wanted,
+    );
+}
+
 #[test]
 fn failing_sources(rt: HostRuntime) {
     for place in 0..35 {
-        check_at(
-            &rt,
-            rt.alloc(),
-            TWO_EQUAL_TARGETS,
-            b"",
-            Some(place),
-            None,
-            4096,
-            (Some(Fault::Device), b""),
-        );
+        check_failing(&rt, rt.alloc(), Some(place), None, b"");
     }
     // judged-before-failure
     let judged = b"des (0,1,2)\n(5,a,1)\n";
@@ -79,62 +90,22 @@ fn failing_sources(rt: HostRuntime) {
 fn failing_sinks(rt: HostRuntime) {
     assert!(rt; ITS_QUOTIENT.len() == 24);
     for count in 0..25 {
-        let out = &ITS_QUOTIENT[..count];
-        check_at(
-            &rt,
-            rt.alloc(),
-            TWO_EQUAL_TARGETS,
-            b"",
-            None,
-            Some(count),
-            4096,
-            (Some(Fault::Device), out),
-        );
+        check_failing(&rt, rt.alloc(), None, Some(count), &ITS_QUOTIENT[..count]);
     }
 }
 
 /// That a first growth is refused is for `refused_growths`.
 #[test]
 fn failing_ends(rt: HostRuntime) {
-    let out = (Some(Fault::Device), b"des (0," as &[u8]);
-    check_at(
-        &rt,
-        rt.alloc(),
-        TWO_EQUAL_TARGETS,
-        b"",
-        None,
-        Some(7),
-        4096,
-        out,
-    );
+    check_failing(&rt, rt.alloc(), None, Some(7), b"des (0,");
     // The first two lines have 24 bytes.
-    let out = (Some(Fault::Device), b"" as &[u8]);
-    check_at(
-        &rt,
-        rt.alloc(),
-        TWO_EQUAL_TARGETS,
-        b"",
-        Some(24),
-        None,
-        4096,
-        out,
-    );
+    check_failing(&rt, rt.alloc(), Some(24), None, b"");
 }
 
 /// Whether a run on a small text, at which a growth may be refused, answers by the table of outcomes: all is written; or
 /// there was no memory and nothing is; or the sink's own growth was refused, and a beginning is.
 fn is_right_or_refused(rt: &impl Abort, alloc: Global, text: &[u8], out: &[u8]) -> bool {
-    let mut sink = VecSink::new(alloc, None);
-    let mut meter = Counter::new();
-    let answer = run_min(
-        alloc,
-        &mut SliceSource::new(text, None),
-        &mut sink,
-        Relation::Strong,
-        &Limits::file(),
-        &Hidden::none(alloc),
-        &mut meter,
-    );
+    let (answer, sink, meter) = run(alloc, text);
     assert!(rt; meter.rounds() <= 6 && meter.visits() <= (meter.rounds() + 2) * 6);
     match answer {
         Ok(_) => sink.bytes() == out,

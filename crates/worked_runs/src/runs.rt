@@ -69,16 +69,8 @@ pub(crate) fn check_fault(rt: &impl Abort, alloc: Global, text: &[u8], fault: Fa
     check_hiding(rt, alloc, text, b"", Some(fault), b"");
 }
 
-/// A run that writes `out`, answers the counts, and makes so many rounds and at most so many visits.
-fn check_counts(
-    rt: &impl Abort,
-    alloc: Global,
-    text: &[u8],
-    out: &[u8],
-    counts: Counts,
-    rounds: u128,
-    most: u128,
-) {
+/// A run on the text, with no label hidden, from a source and into a sink that do not fail: what it answers, writes and counts.
+pub(crate) fn run(alloc: Global, text: &[u8]) -> (Result<Counts, Fault>, VecSink, Counter) {
     let mut sink = VecSink::new(alloc, None);
     let mut meter = Counter::new();
     let answer = run_min(
@@ -90,6 +82,20 @@ fn check_counts(
         &Hidden::none(alloc),
         &mut meter,
     );
+    (answer, sink, meter)
+}
+
+/// A run that writes `out`, answers the counts, and makes so many rounds and at most so many visits.
+fn check_counts(
+    rt: &impl Abort,
+    alloc: Global,
+    text: &[u8],
+    out: &[u8],
+    counts: Counts,
+    rounds: u128,
+    most: u128,
+) {
+    let (answer, sink, meter) = run(alloc, text);
     assert_eq!(rt; answer, Ok(counts));
     assert!(rt; sink.bytes() == out);
     assert!(rt; meter.rounds() == rounds && meter.visits() <= most);

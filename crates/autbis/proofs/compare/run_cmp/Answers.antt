@@ -1,12 +1,23 @@
-use Rattle.std.proofs.Common.{refl}
+use Rattle.std.proofs.Common.{◌↔◌, ℕ, ◌+◌, ◌*◌, Bool, IsTrue, List, Option, refl}
+use Rattle.std.specs.Io.KnownBytes.{Appends, IsAtEnd}
 use Rattle.std.proofs.lemmas.Result.{err_from_is_err_and}
+use Rattle.theory.specs.Bisimulation.{Equivalent}
+use Rattle.theory.specs.Blocks.{Turns}
+use Rattle.theory.specs.Union.{union_of}
+use Rattle.lts.specs.Lts.{system_of}
+use Rattle.quotient.specs.Bounds.{KeepsTo}
 use Rattle.quotient.specs.Relations.{meant}
+use Rattle.autfmt.specs.declared.fault.Fault.TheVariants.{Memory}
+use Rattle.autbis.specs.Comparisons.{ComparesTo, CountsComparison, IsVerdict, ReadBoth, line_of, states_of, transitions_of}
 use Rattle.autbis.specs.Comparisons.CmpFails.{behind_first}
 use Rattle.autbis.specs.Comparisons.FailsBehindFirst.{second_side, run_side}
 use Rattle.autbis.specs.Comparisons.NoLine.{no_memory, failed_sink}
+use Rattle.autbis.specs.declared.compare.Side.TheVariants.{Run}
 use Rattle.autbis.proofs.Carried.{takes_error}
 use Rattle.autbis.proofs.Comparing.{OrderLaws, both_read, compared_turns, counted_part, counted_whole, verdict_of}
+use Rattle.autbis.proofs.compare.run_cmp.Given.{Over}
 use Rattle.autbis.proofs.compare.run_cmp.Goals as goal
+use Rattle.autbis.proofs.compare.run_cmp.Goals.{After-equivalent}
 
 pub returns-in_err-second-clause-outcome : goal.returns-in_err-second-clause-outcome
 returns-in_err-second-clause-outcome g c =
@@ -17,65 +28,83 @@ returns-in_err-second-clause-outcome g c =
     (behind_first one.outcome.sound one.outcome.at_end got.given got.took
     (second_side got.outcome.0 (one.outcome.read.0, one.outcome.read.1) got.outcome.1 refl c.requires.fresh))
 
+-- both texts were read, and their systems compared
+module _ (g : Over) (c : After-equivalent g) where
+  abbrev first : List ℕ
+  first = c.in_ok-first.ensures.outcome.given
+
+  abbrev second : List ℕ
+  second = c.in_ok-second.ensures.outcome.given
+
+  abbrev both : ReadBoth c.args.lim.now first second
+  both = both_read c.args.lim.now c.args.h.now first second c.in_ok-first.first c.in_ok-second.second
+      c.in_ok-first.ensures.outcome.outcome.read c.in_ok-second.ensures.outcome.outcome.read
+
+  law : OrderLaws
+  law = record {
+    permuted = c.the_order_does_not_matter.ensures.permuted;
+    equivalent = c.the_order_does_not_matter_side_by_side.ensures.equivalent;
+    turns = c.the_order_does_not_matter_side_by_side.ensures.turns;
+  }
+
+  -- a verdict on the systems in memory is one on the texts
+  verdict : (same : Bool) → (IsTrue same ↔ Equivalent (meant c.args.rel) (system_of c.in_ok-first.first) (system_of c.in_ok-second.second)) →
+      IsVerdict (meant c.args.rel) c.args.lim.now c.args.h.now both same
+  verdict = verdict_of c.args.lim.now c.args.h.now first second c.in_ok-first.first c.in_ok-second.second
+      c.in_ok-first.ensures.outcome.outcome.read c.in_ok-second.ensures.outcome.outcome.read law (meant c.args.rel)
+
+  -- the line of this verdict is that of a comparison of the texts
+  compares : (same : Bool) (rest rest' old new : Option (List ℕ)) → IsAtEnd rest → IsAtEnd rest' →
+      IsVerdict (meant c.args.rel) c.args.lim.now c.args.h.now both same → (let at = g.M.Meter.counted c.equivalent.new.m in
+      Turns (meant c.args.rel) (union_of (system_of c.in_ok-first.first) (system_of c.in_ok-second.second)) at.rounds →
+      KeepsTo (states_of both) (transitions_of both) 1 at ((at.rounds + 1) * transitions_of both) → Appends old new (line_of same) →
+      ComparesTo (meant c.args.rel) c.args.lim.now c.args.h.now first second rest rest' old new at same)
+  compares same rest rest' old new at_end at_end' is turned keeps written = record {
+    both = both;
+    verdict = is;
+    written = written;
+    turns = compared_turns law c.args.lim.now c.args.h.now (meant c.args.rel) first second c.in_ok-first.first c.in_ok-second.second
+        c.in_ok-first.ensures.outcome.outcome.read c.in_ok-second.ensures.outcome.outcome.read _ turned;
+    keeps = keeps;
+    at_ends = (at_end, at_end');
+  }
+
+  -- the meter keeps to what a comparison of the texts may take
+  part : CountsComparison both (g.M.Meter.counted c.equivalent.new.m)
+  part = counted_part c.args.lim.now c.args.h.now first second c.in_ok-first.first c.in_ok-second.second
+      c.in_ok-first.ensures.outcome.outcome.read c.in_ok-second.ensures.outcome.outcome.read (g.M.Meter.counted c.equivalent.new.m)
+      c.in_ok-first.ensures.outcome.outcome.as_many c.in_ok-second.ensures.outcome.outcome.as_many _ c.equivalent.ensures.keeps
+
 pub returns-in_err-same-clause-outcome : goal.returns-in_err-same-clause-outcome
 returns-in_err-same-clause-outcome g c =
+    let at = (goal.at.returns-in_err-same-clause-outcome g c).After-equivalent in
     let one = c.in_ok-first.ensures.outcome in
     let other = c.in_ok-second.ensures.outcome in
-    let is = c.in_err-same.ensures in
     let exit = err_from_is_err_and c.from_residual-in_err-same.result c.from_residual-in_err-same.ensures.1 in
-    let both = both_read c.args.lim.now c.args.h.now one.given other.given c.in_ok-first.first c.in_ok-second.second one.outcome.read other.outcome.read in
-    let part = counted_part c.args.lim.now c.args.h.now one.given other.given c.in_ok-first.first c.in_ok-second.second one.outcome.read other.outcome.read
-    (g.M.Meter.counted c.decide.new.m) one.outcome.as_many other.outcome.as_many _ is.keeps in
-    takes_error _ _ _ _ c.from_residual-in_err-same.result c.in_err-same.field-0.0 one.given exit one.took
+    takes_error _ _ _ _ c.from_residual-in_err-same.result (record { side = Run; fault = Memory }) one.given exit one.took
     (behind_first one.outcome.sound one.outcome.at_end other.given other.took
-    (run_side is.fault.0 other.outcome.sound other.outcome.at_end both part (no_memory is.fault.1 refl)))
+    (run_side refl other.outcome.sound other.outcome.at_end (both g at) (part g at) (no_memory refl refl)))
 
 pub returns-in_err-say-clause-outcome : goal.returns-in_err-say-clause-outcome
 returns-in_err-say-clause-outcome g c =
+    let at = (goal.at.returns-in_err-say-clause-outcome g c).After-equivalent in
     let one = c.in_ok-first.ensures.outcome in
     let other = c.in_ok-second.ensures.outcome in
     let is = c.in_err-say.ensures in
     let exit = err_from_is_err_and c.from_residual-in_err-say.result c.from_residual-in_err-say.ensures.1 in
-    let law : OrderLaws = record {
-      permuted = c.the_order_does_not_matter.ensures.permuted;
-      equivalent = c.the_order_does_not_matter_side_by_side.ensures.equivalent;
-      turns = c.the_order_does_not_matter_side_by_side.ensures.turns;
-    } in
-    let both = both_read c.args.lim.now c.args.h.now one.given other.given c.in_ok-first.first c.in_ok-second.second one.outcome.read other.outcome.read in
-    let part = counted_part c.args.lim.now c.args.h.now one.given other.given c.in_ok-first.first c.in_ok-second.second one.outcome.read other.outcome.read
-    (g.M.Meter.counted c.decide.new.m) one.outcome.as_many other.outcome.as_many _ c.in_ok-same.ensures.keeps in
-    let verdict = verdict_of c.args.lim.now c.args.h.now one.given other.given c.in_ok-first.first c.in_ok-second.second one.outcome.read other.outcome.read
-    law (meant c.args.rel) c.in_ok-same.same c.in_ok-same.ensures.verdict in
+    let compared = rw c.in_ok-same.was at c.equivalent.ensures in
+    let no_line = failed_sink is.fault.1 is.failures c.in_ok-same.same (verdict g at _ compared.verdict) is.err in
     takes_error _ _ _ _ c.from_residual-in_err-say.result c.in_err-say.field-0.0 one.given exit one.took
     (behind_first one.outcome.sound one.outcome.at_end other.given other.took
-    (run_side is.fault.0 other.outcome.sound other.outcome.at_end both part (failed_sink is.fault.1 is.failures c.in_ok-same.same verdict is.err)))
+    (run_side is.fault.0 other.outcome.sound other.outcome.at_end (both g at) (part g at) no_line))
 
 pub returns-clause-outcome : goal.returns-clause-outcome
 returns-clause-outcome g c =
+    let at = (goal.at.returns-clause-outcome g c).After-equivalent in
     let one = c.in_ok-first.ensures.outcome in
     let other = c.in_ok-second.ensures.outcome in
-    let is = c.in_ok-same.ensures in
-    let law : OrderLaws = record {
-      permuted = c.the_order_does_not_matter.ensures.permuted;
-      equivalent = c.the_order_does_not_matter_side_by_side.ensures.equivalent;
-      turns = c.the_order_does_not_matter_side_by_side.ensures.turns;
-    } in
-    record {
-      given = one.given;
-      took = one.took;
-      outcome = (
-        other.given,
-        other.took,
-        record {
-          both = both_read c.args.lim.now c.args.h.now one.given other.given c.in_ok-first.first c.in_ok-second.second one.outcome.read other.outcome.read;
-          verdict = verdict_of c.args.lim.now c.args.h.now one.given other.given c.in_ok-first.first c.in_ok-second.second one.outcome.read other.outcome.read
-              law (meant c.args.rel) c.in_ok-same.same is.verdict;
-          written = c.in_ok-say.ensures.ok;
-          turns = compared_turns law c.args.lim.now c.args.h.now (meant c.args.rel) one.given other.given c.in_ok-first.first c.in_ok-second.second one.outcome.read
-              other.outcome.read _ is.turns;
-          keeps = counted_whole c.args.lim.now c.args.h.now one.given other.given c.in_ok-first.first c.in_ok-second.second one.outcome.read other.outcome.read
-              (g.M.Meter.counted c.decide.new.m) one.outcome.as_many other.outcome.as_many is.keeps;
-          at_ends = (one.outcome.at_end, other.outcome.at_end);
-        },
-      );
-    }
+    let is = rw c.in_ok-same.was at c.equivalent.ensures in
+    let keeps = counted_whole c.args.lim.now c.args.h.now one.given other.given c.in_ok-first.first c.in_ok-second.second one.outcome.read other.outcome.read
+    (g.M.Meter.counted c.equivalent.new.m) one.outcome.as_many other.outcome.as_many is.keeps in
+    let does = compares g at _ _ _ _ _ one.outcome.at_end other.outcome.at_end (verdict g at _ is.verdict) is.turns keeps c.in_ok-say.ensures.ok in
+    record { given = one.given; took = one.took; outcome = (other.given, other.took, does) }

@@ -1,7 +1,18 @@
 use Rattle.std.proofs.Common.{[], ◌∷◌, false, inr, append-nil, option_map, string_bytes, refl, sym}
+use Rattle.autbis.specs.Files.{Opens}
 use Rattle.autbis.specs.Jobs.{given}
 use Rattle.autbis.proofs.Naming.{opened_two, opened_three, compares_files}
+use Rattle.autbis.proofs.job.cmp_job.Given.{Over}
 use Rattle.autbis.proofs.job.cmp_job.Goals as goal
+use Rattle.autbis.proofs.job.cmp_job.Goals.{After-hidden_of}
+
+-- both files are opened, and then the hide list
+all_opened : (g : Over) (c : After-hidden_of g) →
+    Opens (g.F.Opener.opened c.args.files.now) (g.F.Opener.opened c.hidden_of.new.files)
+    (string_bytes c.args.first.now ∷ string_bytes c.args.second.now ∷ given (option_map string_bytes c.args.hide.now))
+all_opened g c = opened_three (g.F.Opener.opened c.args.files.now) (g.F.Opener.opened c.open.new.files) (g.F.Opener.opened c.open-2.new.files)
+    (g.F.Opener.opened c.hidden_of.new.files) _ _ _ _ _ c.as_str.ensures.value c.as_str-2.ensures.value
+    c.open.ensures.opened c.open-2.ensures.opened c.hidden_of.ensures.opened
 
 pub returns-in-Err-open-clause-order : goal.returns-in-Err-open-clause-order
 returns-in-Err-open-clause-order g c = (
@@ -20,27 +31,11 @@ returns-in-Ok-hidden_of-clause-different g c e =
     c.in-Ok.ensures.bytes c.in-Ok-open.ensures.bytes c.in-Ok-hidden_of.ensures.labels (c.cmp_program.ensures.different e)
 
 pub returns-in-Ok-hidden_of-clause-order : goal.returns-in-Ok-hidden_of-clause-order
-returns-in-Ok-hidden_of-clause-order g c = (
-  _,
-  [],
-  sym (append-nil _),
-  opened_three (g.F.Opener.opened c.args.files.now) (g.F.Opener.opened c.open.new.files) (g.F.Opener.opened c.open-2.new.files)
-      (g.F.Opener.opened c.hidden_of.new.files) _ _ _ _ _ c.as_str.ensures.value c.as_str-2.ensures.value
-      c.open.ensures.opened c.open-2.ensures.opened c.hidden_of.ensures.opened,
-)
+returns-in-Ok-hidden_of-clause-order g c =
+    (_, [], sym (append-nil _), all_opened g (goal.at.returns-in-Ok-hidden_of-clause-order g c).After-hidden_of)
 
 pub returns-in-Ok-hidden_of-clause-opened : goal.returns-in-Ok-hidden_of-clause-opened
-returns-in-Ok-hidden_of-clause-opened g c = inr
-    (opened_three (g.F.Opener.opened c.args.files.now) (g.F.Opener.opened c.open.new.files) (g.F.Opener.opened c.open-2.new.files)
-    (g.F.Opener.opened c.hidden_of.new.files) _ _ _ _ _ c.as_str.ensures.value c.as_str-2.ensures.value
-    c.open.ensures.opened c.open-2.ensures.opened c.hidden_of.ensures.opened)
+returns-in-Ok-hidden_of-clause-opened g c = inr (all_opened g (goal.at.returns-in-Ok-hidden_of-clause-opened g c).After-hidden_of)
 
 pub returns-clause-order : goal.returns-clause-order
-returns-clause-order g c = (
-  _,
-  [],
-  sym (append-nil _),
-  opened_three (g.F.Opener.opened c.args.files.now) (g.F.Opener.opened c.open.new.files) (g.F.Opener.opened c.open-2.new.files)
-      (g.F.Opener.opened c.hidden_of.new.files) _ _ _ _ _ c.as_str.ensures.value c.as_str-2.ensures.value
-      c.open.ensures.opened c.open-2.ensures.opened c.hidden_of.ensures.opened,
-)
+returns-clause-order g c = (_, [], sym (append-nil _), all_opened g (goal.at.returns-clause-order g c).After-hidden_of)

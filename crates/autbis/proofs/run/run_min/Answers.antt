@@ -6,14 +6,15 @@ use Rattle.std.proofs.lemmas.Result.{err_from_is_err_and}
 use Rattle.theory.specs.System.{System, Hide}
 use Rattle.theory.specs.Bisimulation.{Relation}
 use Rattle.theory.specs.Alike.{SameSteps}
+use Rattle.quotient.specs.Bounds.{KeepsTo}
 use Rattle.quotient.specs.Relations.{meant}
 use Rattle.lts.specs.Lts.{transition_of, system_of}
 use Rattle.autfmt.specs.declared.fault.Fault.TheVariants.{Memory}
 use Rattle.autfmt.specs.Texts.{Reads}
 use Rattle.autfmt.specs.Written.{GainsText, GainsBeginning, IsInWrittenOrder, failures_after, listed}
 use Rattle.autbis.specs.declared.run.Counts.{Counts}
-use Rattle.autbis.specs.Runs.{BeginsQuotient, CountsPart, MinimisedText, Minimises, RunsTo}
-use Rattle.autbis.specs.Runs.RunFails.{not_read, no_memory, failed_sink}
+use Rattle.autbis.specs.Runs.{BeginsQuotient, MinimisedText, Minimises, RunsTo}
+use Rattle.autbis.specs.Runs.RunFails.{not_read, not_written}
 use Rattle.autbis.proofs.Carried.{all_taken, bad_of, keeps_part, keeps_whole, no_success, not_of_text, same_error, takes_error}
 use Rattle.autbis.proofs.run.run_min.Given.{Over}
 use Rattle.autbis.proofs.run.run_min.Goals as goal
@@ -32,7 +33,7 @@ returns-in_err-quotient-clause-outcome g c =
     let exit = err_from_is_err_and c.from_residual-in_err-quotient.result c.from_residual-in_err-quotient.ensures.1 in
     let part = keeps_part _ read.0.states _ (length read.0.transitions) _ read.2.states got.outcome.as_many 0 c.in_err-quotient.ensures.keeps in
     takes_error _ _ _ _ c.from_residual-in_err-quotient.result Memory got.given exit got.took
-    (no_memory refl got.outcome.sound got.outcome.at_end refl (read.0, read.1, part))
+    (not_written got.outcome.sound got.outcome.at_end read.0 read.1 part (inl (refl, refl)))
 
 -- the sizes that are answered
 abbrev sizes_of : ℕ → ℕ → Counts
@@ -121,11 +122,10 @@ module _ (g : Over) (c : After-write g) where
   begun old new (front, later, (listing, order, is), gained) = (to listing order, (front, later, sym is, gained))
 
   -- the meter stands within what a run over the system that was read may take
-  part : CountsPart c.args.lim.now c.in_ok-system.ensures.outcome.given (g.M.Meter.counted c.minimise.new.m)
+  part : KeepsTo (input g c).states (length (input g c).transitions) 2 (g.M.Meter.counted c.minimise.new.m) 0
   part =
       let got = c.in_ok-system.ensures.outcome.outcome in
-      let read = got.read in
-      (read.0, read.1, keeps_part _ read.0.states _ (length read.0.transitions) _ read.2.states got.as_many _ c.in_ok-quotient.ensures.keeps)
+      keeps_part _ _ _ _ _ got.read.2.states got.as_many _ c.in_ok-quotient.ensures.keeps
 
 pub returns-in_err-write-clause-outcome : goal.returns-in_err-write-clause-outcome
 returns-in_err-write-clause-outcome g c =
@@ -134,11 +134,11 @@ returns-in_err-write-clause-outcome g c =
     let e = c.in_err-write.field-0.0 in
     let is = c.in_err-write.ensures in
     let exit = err_from_is_err_and c.from_residual-in_err-write.result c.from_residual-in_err-write.ensures.1 in
-    takes_error _ _ _ _ c.from_residual-in_err-write.result e got.given exit got.took (elim is.faults [
-      | inl memory ↦ no_memory memory got.outcome.sound got.outcome.at_end (is.memory memory) (part g at)
-      | inr device ↦ failed_sink device got.outcome.sound got.outcome.at_end (is.failures ∙ ap (λ f. failures_after {T = Unit {0}} (Err f)) device)
-          (begun g at _ _ (is.device device)) (part g at)
-    ])
+    takes_error _ _ _ _ c.from_residual-in_err-write.result e got.given exit got.took
+    (not_written got.outcome.sound got.outcome.at_end (input g at) got.outcome.read.1 (part g at) (elim is.faults [
+      | inl memory ↦ inl (memory, is.memory memory)
+      | inr device ↦ inr (device, is.failures ∙ ap (λ f. failures_after {T = Unit {0}} (Err f)) device, begun g at _ _ (is.device device))
+    ]))
 
 pub returns-in_err-write-clause-begun : goal.returns-in_err-write-clause-begun
 returns-in_err-write-clause-begun g c said sound =

@@ -5,10 +5,15 @@ use Rattle.clap.specs.Words.{HasKind, fault_of, is_simple, is_simple_and_free, s
 use Rattle.autbis.specs.Words.{IsFaultIn, IsFaultOfAJob, IsJobIn, program_app}
 use Rattle.autbis.proofs.words.command.Goals as goal
 
+-- the program's words are such that all that `clap` promises holds of them
+simple : is_simple program_app ≡ true
+simple = refl
+
+free : is_simple_and_free program_app ≡ true
+free = refl
+
 pub returns-in-Ok : goal.returns-in-Ok
 returns-in-Ok c =
-    let simple : is_simple program_app ≡ true = refl in
-    let free : is_simple_and_free program_app ≡ true = refl in
     let words_are : c.as_slice.result.now ≡ c.args.words.items = search rules in
     let found = c.in-Ok.ensures.matches (ap is_simple c.in_ok-described.ensures ∙ simple) in
     let subcommand = found.1 ∙ ap₂ subcommand_of c.in_ok-described.ensures (ap (map string_bytes) words_are) in
@@ -25,7 +30,6 @@ returns-clause-fault c = c.fault_of.ensures.fault (map string_bytes c.args.words
 
 pub returns-clause-asked : goal.returns-clause-asked
 returns-clause-asked c a =
-    let free : is_simple_and_free program_app ≡ true = refl in
     let words_are : c.as_slice.result.now ≡ c.args.words.items = search rules in
     let none = ap₂ fault_of c.in_ok-described.ensures (ap (map string_bytes) words_are) ∙ a.0 in
     let kind = subst (λ kinds. HasKind kinds c.in-Err.error) none (c.in-Err.ensures.kinds (ap is_simple_and_free c.in_ok-described.ensures ∙ free)) in

@@ -1,22 +1,14 @@
-use Rattle.std.proofs.Common.{ap, ap₂, codes, ◌≡◌, ◌∙◌, false, ◌||◌}
+use Rattle.std.proofs.Common.{ap₂, ◌∙◌, ◌||◌}
 use Rattle.std.proofs.lemmas.Result.{IfOk-weaker}
-use Rattle.clap.specs.Simple.{app_of_fields}
-use Rattle.clap.specs.Words.{app_of, new_app, with_rule}
-use Rattle.clap.specs.declared.builder.command.Command.TheViews.{out-Command}
+use Rattle.clap.specs.Words.{with_rule}
 use Rattle.autbis.proofs.words.described_min.Goals as goal
 
 pub returns-clause-words : goal.returns-clause-words
 returns-clause-words c =
-    let new_is : app_of c.about.result ≡ new_app (codes "min") = ap app_of_fields c.about.ensures ∙ c.new.ensures.app in
-    let with_relation = c.in_ok-arg.ensures.shape c.relation_option.ensures.local ∙ ap₂ with_rule new_is c.relation_option.ensures.rule in
-    let with_hide = c.in_ok-arg-2.ensures.shape c.hide_option.ensures.local ∙ ap₂ with_rule with_relation c.hide_option.ensures.rule in
-    let with_stats = c.in_ok-arg-3.ensures.shape c.stats_flag.ensures.local ∙ ap₂ with_rule with_hide c.stats_flag.ensures.rule in
-    IfOk-weaker c.arg-4.result _ _ (λ _ adds. adds.shape c.file_argument.ensures.local ∙ ap₂ with_rule with_stats c.file_argument.ensures.rule) c.arg-4.ensures
+    let with_one = c.in_ok-arg.ensures.shape c.stats_flag.ensures.local ∙ ap₂ with_rule c.in_ok-described_job.ensures.words c.stats_flag.ensures.rule in
+    IfOk-weaker c.arg-2.result _ _ (λ _ adds. adds.shape c.file_argument.ensures.local ∙ ap₂ with_rule with_one c.file_argument.ensures.rule) c.arg-2.ensures
 
 pub returns-clause-local : goal.returns-clause-local
 returns-clause-local c =
-    let none : (out-Command c.about.result).has_globals ≡ false = ap (λ fields. fields.has_globals) c.about.ensures ∙ c.new.ensures.local in
-    let in_relation = c.in_ok-arg.ensures.globals ∙ ap₂ ◌||◌ none c.relation_option.ensures.local in
-    let in_hide = c.in_ok-arg-2.ensures.globals ∙ ap₂ ◌||◌ in_relation c.hide_option.ensures.local in
-    let in_stats = c.in_ok-arg-3.ensures.globals ∙ ap₂ ◌||◌ in_hide c.stats_flag.ensures.local in
-    IfOk-weaker c.arg-4.result _ _ (λ _ adds. adds.globals ∙ ap₂ ◌||◌ in_stats c.file_argument.ensures.local) c.arg-4.ensures
+    let in_one = c.in_ok-arg.ensures.globals ∙ ap₂ ◌||◌ c.in_ok-described_job.ensures.local c.stats_flag.ensures.local in
+    IfOk-weaker c.arg-2.result _ _ (λ _ adds. adds.globals ∙ ap₂ ◌||◌ in_one c.file_argument.ensures.local) c.arg-2.ensures
