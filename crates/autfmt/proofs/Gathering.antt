@@ -8,7 +8,7 @@ use Rattle.std.proofs.lemmas.List.Elements.{All-append}
 use Rattle.std.proofs.lemmas.Slice.{between_is}
 use Rattle.autfmt.specs.declared.cutter.Found.TheVariants.{Feed}
 use Rattle.autfmt.specs.Texts.{IsOneLine}
-use Rattle.autfmt.specs.Cutter.{BeginsTooLong, CutsLine, IsPart}
+use Rattle.autfmt.specs.Cutter.{Cutting, BeginsTooLong, CutsLine, IsPart}
 use Rattle.autfmt.specs.Gathering.{FoundIn}
 use Rattle.autfmt.proofs.Cutting.{IsNoFeed}
 
@@ -76,24 +76,40 @@ pub line_goes_on :
 line_goes_on a b c old bs kept bytes kept' first e second now =
     let more = got_more a b c old bs kept bytes first e second in (more.0, more.1, now ∙ sym more.2)
 
--- a line lies in the piece, behind a line feed what is ahead
-pub line_in_piece :
-    (piece : List ℕ) (from to at : ℕ) (over : Bool) → over ≡ false → at < length (slice_range piece from to) → from ≤ to → to ≤ 4096 →
-    IsOneLine (take at (slice_range piece from to)) →
-    drop at (slice_range piece from to) ≡ 10 ∷ drop (at + 1) (slice_range piece from to) →
-    CutsLine (slice_range piece from to)
-    (record { line = slice_range piece from (from + at); ahead = slice_range piece (from + (at + 1)) to; over = over })
-line_in_piece piece from to at over goes_on below ordered within one feed =
-    let bytes = slice_range piece from to in
-    let size : length bytes ≤ to - from = simp length-take (omega arith) in
-    let line : slice_range piece from (from + at) ≡ take at bytes =
+-- the bytes of a slice up to a place in it
+slice_to :
+    (piece : List ℕ) (from to at : ℕ) → at ≤ to - from →
+    slice_range piece from (from + at) ≡ take at (slice_range piece from to)
+slice_to piece from to at below =
     ap (λ (m : ℕ). take m (drop from piece)) (let e : from + at - from ≡ at = omega arith in e)
-    ∙ sym (take-take at (to - from) (drop from piece) (omega arith)) in
-    let behind : drop (at + 1) bytes ≡ slice_range piece (from + (at + 1)) to =
+    ∙ sym (take-take at (to - from) (drop from piece) below)
+
+-- the bytes of a slice behind a place in it
+slice_behind :
+    (piece : List ℕ) (from to at : ℕ) → at < to - from → from ≤ to →
+    drop (at + 1) (slice_range piece from to) ≡ slice_range piece (from + (at + 1)) to
+slice_behind piece from to at below ordered =
     let e : to - from ≡ at + 1 + (to - (from + (at + 1))) = omega arith in
     ap (λ (m : ℕ). drop (at + 1) (take m (drop from piece))) e
     ∙ drop-take (at + 1) (to - (from + (at + 1))) (drop from piece)
-    ∙ ap (λ (t : List ℕ). take (to - (from + (at + 1))) t) (drop-drop (at + 1) from piece) in
+    ∙ ap (λ (t : List ℕ). take (to - (from + (at + 1))) t) (drop-drop (at + 1) from piece)
+
+-- what is cut off by a line feed at a place of what is ahead in the piece
+abbrev pub cut_at : List ℕ → ℕ → ℕ → ℕ → Bool → Cutting
+cut_at piece from to at over =
+    record { line = slice_range piece from (from + at); ahead = slice_range piece (from + (at + 1)) to; over = over }
+
+-- a line lies in the piece, behind a line feed what is ahead
+pub line_in_piece :
+    (piece : List ℕ) (from to at : ℕ) (over : Bool) → over ≡ false → at < length (slice_range piece from to) → from ≤ to →
+    to ≤ 4096 → IsOneLine (take at (slice_range piece from to)) →
+    drop at (slice_range piece from to) ≡ 10 ∷ drop (at + 1) (slice_range piece from to) →
+    CutsLine (slice_range piece from to) (cut_at piece from to at over)
+line_in_piece piece from to at over goes_on below ordered within one feed =
+    let bytes = slice_range piece from to in
+    let size : length bytes ≤ to - from = simp length-take (omega arith) in
+    let line = slice_to piece from to at (omega arith) in
+    let behind = slice_behind piece from to at (omega arith) ordered in
     record {
       one = subst (λ (t : List ℕ). IsOneLine t) (sym line) one;
       short = rw line (simp length-take (omega arith));

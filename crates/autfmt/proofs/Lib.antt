@@ -14,6 +14,7 @@ pub mod JudgedLaws
 pub mod HideLaws
 pub mod Gathering
 pub mod Standing
+pub mod Taking
 pub mod Hiding
 pub mod Holding
 pub mod ReaderSteps

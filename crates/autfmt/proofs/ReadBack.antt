@@ -10,7 +10,7 @@ use Rattle.theory.specs.System.{System, Transition, IsSystem, IsAmong, IsLabel}
 use Rattle.autfmt.specs.Bounds.{Bounds, IsWithinFile}
 use Rattle.autfmt.proofs.Blanks.{IsBlank}
 use Rattle.autfmt.specs.Grammar.{Blanks, Spaced, Label, is_plain, quoted}
-use Rattle.autfmt.specs.Texts.{IsOneLine, IsShort, SpellsTransition, Reads}
+use Rattle.autfmt.specs.Texts.{Lines, IsOneLine, IsShort, SpellsTransition, Reads}
 use Rattle.autfmt.specs.Cutter.{with_line_feeds}
 use Rattle.autfmt.specs.Written.{written_label, header_of, written_transition, listed, IsInWrittenOrder}
 
@@ -155,37 +155,49 @@ listed_lines B =
     let es = B.transitions in
     ap (λ bs. bs ++ flat_map written_transition es) (header_and_feed B) ∙ ap (λ bs. (header_line B ++ 10 ∷ []) ++ bs) (fed es) ∙ sym (append-nil _)
 
+-- the first state and the counts of a system within the limits of a file have ten digits at most
+pub record IsSmall (B : System) : Type 0 where
+  pub first : B.first < 10 ^ 10
+  pub transitions : length B.transitions < 10 ^ 10
+  pub states : B.states < 10 ^ 10
+
+small_in_file : (bounds : Bounds) (B : System) → IsWithinFile bounds → IsSystem B → B.states ≤ bounds.states → length B.transitions ≤ bounds.transitions → IsSmall B
+small_in_file bounds B within system states transitions = record {
+  first = omega (arith, within.states, system.first);
+  transitions = omega (arith, within.transitions);
+  states = omega (arith, within.states);
+}
+
+-- what is listed has these lines
+listed_whole : (B : System) → IsSystem B → IsSmall B → Lines (listed B) (header_line B ∷ map transition_line B.transitions)
+listed_whole B system small =
+    let es = B.transitions in
+    let each = recursion_from_All (IsAmong B.states) es system.transitions in
+    let head = header_is_line B small.first small.transitions small.states in
+    let lines = All-cons IsOneLine _ _ head.one (one_lines B.states small.states es each) in (
+      header_line B ∷ map transition_line es,
+      [],
+      record { whole = listed_lines B; lines = lines; one = All-nil (λ b. b ≢ 10) },
+      sym (append-nil _),
+    )
+
 -- a system within the limits of a file is read again from what is listed
 listed_reads : (bounds : Bounds) (B : System) → IsWithinFile bounds → IsSystem B → B.states ≤ bounds.states → length B.transitions ≤ bounds.transitions
     → Reads bounds (listed B) B
 listed_reads bounds B within system states transitions =
-    let es = B.transitions in
-    let small : B.states < 10 ^ 10 = omega (arith, within.states) in
-    let few : length es < 10 ^ 10 = omega (arith, within.transitions) in
-    let low : B.first < 10 ^ 10 = omega (arith, system.first) in
-    let each = recursion_from_All (IsAmong B.states) es system.transitions in
-    let head = header_is_line B low few small in
+    let small = small_in_file bounds B within system states transitions in
     record {
       header = header_line B;
-      lines = map transition_line es;
-      whole = (
-        header_line B ∷ map transition_line es,
-        [],
-        record {
-          whole = listed_lines B;
-          lines = All-cons IsOneLine _ _ head.one (one_lines B.states small es each);
-          one = All-nil (λ b. b ≢ 10);
-        },
-        sym (append-nil _),
-      );
+      lines = map transition_line B.transitions;
+      whole = listed_whole B system small;
       good = record {
-        short = head.short;
-        header = (decimal B.first, decimal (length es), decimal B.states, (low, refl), (few, refl), (small, refl), spaced_header _ _ _);
+        short = (header_is_line B small.first small.transitions small.states).short;
+        header = (decimal B.first, decimal (length B.transitions), decimal B.states, (small.first, refl), (small.transitions, refl), (small.states, refl), spaced_header _ _ _);
         first = system.first;
         states = states;
         transitions = transitions;
       };
-      spelled = spells_transitions B.states small es each;
+      spelled = spells_transitions B.states small.states B.transitions (recursion_from_All (IsAmong B.states) B.transitions system.transitions);
       system = system;
     }
 

@@ -268,6 +268,20 @@ pub Standing-same :
 Standing-same bounds H given given' at p held es e standing =
     (subst (λ (t : List ℕ). ReadSoFar bounds t at p es) e standing.0, standing.1)
 
+-- one transition more was read, behind those of the bytes before
+pub Standing-push :
+    (H : List (List ℕ)) (p : Promise) (old at now : Cutting) (held_old held_at held : Held) (before line : List ℕ) →
+    ((bounds : Bounds) (given : List ℕ) → Standing bounds H given old p held_old [] →
+    (es : List Transition) × Standing bounds H (given ++ before) at p held_at es) →
+    ((bounds : Bounds) (given : List ℕ) (es : List Transition) → Standing bounds H given at p held_at es →
+    (e : Transition) × Standing bounds H (given ++ line) now p held (es ++ e ∷ [])) →
+    (bounds : Bounds) (given : List ℕ) → Standing bounds H given old p held_old [] →
+    (es : List Transition) × Standing bounds H (given ++ (before ++ line)) now p held es
+Standing-push H p old at now held_old held_at held before line so_far step bounds given standing =
+    let (es, then) = so_far bounds given standing in
+    let (e, next) = step bounds (given ++ before) es then in
+    (es ++ e ∷ [], Standing-same bounds H _ _ now p held _ (append_assoc given before line) next)
+
 pub Refuses-same :
     (bounds : Bounds) (given given' : List ℕ) (rest : Option (List ℕ)) (failures : ℕ) (fault : Fault) →
     given ≡ given' → Refuses bounds given rest failures fault → Refuses bounds given' rest failures fault

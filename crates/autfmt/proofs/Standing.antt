@@ -1,5 +1,5 @@
 -- Where the cutter of lines stands, step by step.
-use Rattle.std.proofs.Common.{◌≡◌, ◌⊎◌, ℕ, ◌<◌, ◌≤◌, true, false, List, [], ◌∷◌, ◌++◌, length, refl, sym, ◌∙◌, ap, subst, inl, inr, arith}
+use Rattle.std.proofs.Common.{◌≡◌, ⊎_elim, ℕ, ◌<◌, ◌≤◌, true, false, List, [], ◌∷◌, ◌++◌, length, All, refl, sym, ◌∙◌, ap, subst, inl, inr, arith}
 use Rattle.std.proofs.lemmas.List.{append_assoc, append-nil, length-append}
 use Rattle.std.proofs.lemmas.List.Elements.{All-nil, All-push}
 use Rattle.autfmt.specs.Texts.{Cuts, Lines, IsOneLine}
@@ -17,36 +17,39 @@ pub behind_whole :
 behind_whole given ahead more lines e =
     sym (append_assoc (with_line_feeds lines) ahead more) ∙ ap (λ (t : List ℕ). t ++ more) (sym e)
 
+-- one line more was cut, at its line feed
+Stands-feed :
+    (given got : List ℕ) (lines : List (List ℕ)) (old now : Cutting) → given ≡ with_line_feeds lines ++ old.ahead →
+    All IsOneLine lines → IsOneLine now.line → now.over ≡ false → old.ahead ++ got ≡ now.line ++ 10 ∷ now.ahead →
+    Stands (given ++ got) (lines ++ now.line ∷ []) now
+Stands-feed given got lines old now e one line goes_on behind =
+    inl (
+      goes_on,
+      sym (behind_whole given old.ahead got lines e)
+          ∙ ap (λ (t : List ℕ). with_line_feeds lines ++ t) (behind ∙ sym (with_line_feeds-cons now.line [] now.ahead))
+          ∙ sym (append_assoc (with_line_feeds lines) (with_line_feeds (now.line ∷ [])) now.ahead)
+          ∙ ap (λ (t : List ℕ). t ++ now.ahead) (sym (with_line_feeds-append lines (now.line ∷ []))),
+      All-push IsOneLine lines now.line one line,
+    )
+
+-- one line more was cut, at the end of the text
+Stands-last :
+    (given got : List ℕ) (lines : List (List ℕ)) (old now : Cutting) → given ≡ with_line_feeds lines ++ old.ahead →
+    All IsOneLine lines → IsOneLine now.line → 1 ≤ length now.line → old.ahead ++ got ≡ now.line →
+    Lines (given ++ got) (lines ++ now.line ∷ [])
+Stands-last given got lines old now e one line some behind =
+    subst (λ (t : List ℕ). Lines t (lines ++ now.line ∷ []))
+    (ap (λ (t : List ℕ). with_line_feeds lines ++ t) (sym behind) ∙ behind_whole given old.ahead got lines e)
+    (Lines-behind lines now.line (now.line ∷ []) one (Lines-one now.line line some))
+
 -- one line more was cut
 pub Stands-line :
     (given got : List ℕ) (lines : List (List ℕ)) (old now : Cutting) → Stands given lines old → (old.over ≡ true → ⊥) →
     CutsLine (old.ahead ++ got) now → Stands (given ++ got) (lines ++ now.line ∷ []) now
 Stands-line given got lines old now (inr over) goes_on cuts = absurd (goes_on over.0)
-Stands-line given got lines old now (inl (open_at, e, one)) goes_on cuts = step cuts.behind
-  where
-    whole : with_line_feeds lines ++ (old.ahead ++ got) ≡ given ++ got
-    whole = behind_whole given old.ahead got lines e
-
-    step :
-        ((now.over ≡ false) × (old.ahead ++ got ≡ now.line ++ 10 ∷ now.ahead))
-        ⊎ ((now.over ≡ true) × (now.ahead ≡ []) × (1 ≤ length now.line) × (old.ahead ++ got ≡ now.line)) →
-        Stands (given ++ got) (lines ++ now.line ∷ []) now
-    step (inl (open_now, b)) =
-        inl (
-          open_now,
-          sym whole ∙ ap (λ (t : List ℕ). with_line_feeds lines ++ t) (b ∙ sym (with_line_feeds-cons now.line [] now.ahead))
-              ∙ sym (append_assoc (with_line_feeds lines) (with_line_feeds (now.line ∷ [])) now.ahead)
-              ∙ ap (λ (t : List ℕ). t ++ now.ahead) (sym (with_line_feeds-append lines (now.line ∷ []))),
-          All-push IsOneLine lines now.line one cuts.one,
-        )
-    step (inr (over, none, some, b)) =
-        inr (
-          over,
-          none,
-          subst (λ (t : List ℕ). Lines t (lines ++ now.line ∷ []))
-              (ap (λ (t : List ℕ). with_line_feeds lines ++ t) (sym b) ∙ whole)
-              (Lines-behind lines now.line (now.line ∷ []) one (Lines-one now.line cuts.one some)),
-        )
+Stands-line given got lines old now (inl (open_at, e, one)) goes_on cuts =
+    ⊎_elim (λ feed. Stands-feed given got lines old now e one cuts.one feed.0 feed.1)
+    (λ end. inr (end.0, end.1, Stands-last given got lines old now e one cuts.one end.2 end.3)) cuts.behind
 
 -- the lines of a text whose first bytes are given
 pub Stands-lines :

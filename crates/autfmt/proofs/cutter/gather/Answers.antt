@@ -1,4 +1,4 @@
-use Rattle.std.proofs.Common.{ℕ, List, [], take, drop, refl, sym, ◌∙◌, subst}
+use Rattle.std.proofs.Common.{[], take, drop, refl, sym, ◌∙◌, subst}
 use Rattle.std.proofs.lemmas.Bool.{iff_false}
 use Rattle.std.proofs.lemmas.List.{take-append-drop, append-nil}
 use Rattle.autfmt.specs.Cutter.{IsPart}
@@ -37,12 +37,10 @@ loop-n-preserved g c =
     let i = c.loop-n.invariant in
     let bytes = take c.in_ok-n.n c.take.new.buf in
     let now = c.if-not-extend.ensures.line in
+    let fits = c.extend-in-None.ensures.fits.0 c.if-not-extend.false in
     record {
-      got = line_goes_on _ _ _ c.args.kept.now i.got.0 c.loop-n.kept bytes c.extend-in-None.new.self i.got.1 i.got.2
-          c.in_ok-n.ensures.bytes.0 now;
-      part = subst (λ (t : List ℕ). IsPart t) (sym now)
-          (IsPart-append c.loop-n.kept bytes i.part c.in-None.ensures.none
-          (c.extend-in-None.ensures.fits.0 c.if-not-extend.false));
+      got = line_goes_on _ _ _ c.args.kept.now i.got.0 c.loop-n.kept bytes _ i.got.1 i.got.2 c.in_ok-n.ensures.bytes.0 now;
+      part = subst IsPart (sym now) (IsPart-append c.loop-n.kept bytes i.part c.in-None.ensures.none fits);
       sound = c.in_ok-n.ensures.failures;
       room = c.take.auto.buf ∙ i.room;
     }

@@ -14,13 +14,12 @@ returns-in-TooLong-clause-header g c =
 pub returns-clause-header : goal.returns-clause-header
 returns-clause-header g c =
     let s = rw c.in-Line.is at c.in_ok-advance.ensures.step in
+    let end = c.advance.ensures.end (λ over. absurd (fresh_goes_on c.args.cutter.now c.requires.fresh over)) in
     record {
       given = s.0;
       took = s.1;
       outcome =
           header_answer c.args.lim.now c.args.cutter.now c.advance.new.self s.0 _ _ c.judge_header.result c.requires.fresh
-          c.in_ok-advance.ensures.failures
-          (c.advance.ensures.end (λ over. absurd (fresh_goes_on c.args.cutter.now c.requires.fresh over))) s.2.1
-          (rw c.line.ensures at c.judge_header.ensures.good) (rw c.line.ensures at c.judge_header.ensures.fault)
-          c.judge_header.ensures.kind;
+          c.in_ok-advance.ensures.failures end s.2.1 (rw c.line.ensures at c.judge_header.ensures.good)
+          (rw c.line.ensures at c.judge_header.ensures.fault) c.judge_header.ensures.kind;
     }

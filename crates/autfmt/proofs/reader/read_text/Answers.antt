@@ -7,6 +7,7 @@ use Rattle.autfmt.specs.declared.judge.Promise.{Promise}
 use Rattle.autfmt.specs.ReadSoFar.{Standing}
 use Rattle.autfmt.proofs.Holding.{Holds-new}
 use Rattle.autfmt.proofs.ReaderSteps.{end_failed, text_behind, text_ends, count_held}
+use Rattle.autfmt.proofs.Taking.{refuses_behind}
 use Rattle.autfmt.proofs.reader.read_text.Given.{Over}
 use Rattle.autfmt.proofs.reader.read_text.Goals as goal
 use Rattle.autfmt.proofs.reader.read_text.Goals.{After-is_at_end}
@@ -14,19 +15,12 @@ use Rattle.autfmt.proofs.reader.read_text.Goals.{After-is_at_end}
 pub returns-in_err-read_transitions-clause-whole : goal.returns-in_err-read_transitions-clause-whole
 returns-in_err-read_transitions-clause-whole g c =
     let first = c.in_ok-promise.ensures.header in
-    let then = c.in_err-read_transitions.ensures.transitions in
-    let p = c.in_ok-promise.promise in
-    let held = Holds-new c.args.h.now p.states c.new-held.result c.new-held.ensures.labels c.new-held.ensures.triples in
+    let (bytes, took, step) = c.in_err-read_transitions.ensures.transitions in
+    let held = Holds-new c.args.h.now _ c.new-held.result c.new-held.ensures.labels c.new-held.ensures.triples in
     let exit =
     err_from_is_err_and c.from_residual-in_err-read_transitions.result c.from_residual-in_err-read_transitions.ensures.1 in
-    record {
-      given = first.given ++ then.0;
-      took =
-          Consumes-trans (g.R.Source.rest c.args.r.now) (g.R.Source.rest c.read_header.new.r) (g.R.Source.rest c.read_transitions.new.r)
-          first.given then.0 first.took then.1;
-      outcome =
-          rw (exit.1, exit.2) (then.2 c.args.lim.now first.given (first.outcome, held));
-    }
+    rw (exit.1, exit.2)
+    (refuses_behind _ _ _ _ _ first.given bytes _ _ first.took took (step c.args.lim.now first.given (first.outcome, held)))
 
 -- what was read before the look behind the transitions
 module _ (g : Over) (c : After-is_at_end g) where
@@ -52,10 +46,7 @@ module _ (g : Over) (c : After-is_at_end g) where
   took last taken =
       let first = c.in_ok-promise.ensures.header in
       let then = c.in_ok-read_transitions.ensures.transitions in
-      Consumes-trans (g.R.Source.rest c.args.r.now) (g.R.Source.rest c.read_transitions.new.r) (g.R.Source.rest c.is_at_end.new.r)
-      front last
-      (Consumes-trans (g.R.Source.rest c.args.r.now) (g.R.Source.rest c.read_header.new.r) (g.R.Source.rest c.read_transitions.new.r)
-      first.given then.0 first.took then.1) taken
+      Consumes-trans _ _ _ front last (Consumes-trans _ _ _ first.given then.0 first.took then.1) taken
 
 pub returns-in_err-at_end-clause-whole : goal.returns-in_err-at_end-clause-whole
 returns-in_err-at_end-clause-whole g c =
@@ -65,8 +56,7 @@ returns-in_err-at_end-clause-whole g c =
     record {
       given = front g at ++ last.0;
       took = took g at last.0 last.1;
-      outcome =
-          rw (exit.1, exit.2)
+      outcome = rw (exit.1, exit.2)
           (end_failed c.args.lim.now (front g at) _ _ _ last.0 _ _ (transitions g at).1.0 (count g at) c.in_err-at_end.ensures.failures
           (λ over. let a = c.is_at_end.ensures.over over in let b = c.in_err-at_end.was in cc) last.2);
     }
@@ -88,12 +78,6 @@ pub returns-clause-whole : goal.returns-clause-whole
 returns-clause-whole g c =
     let at = (goal.at.returns-clause-whole g c).After-is_at_end in
     let last = rw c.if-not-at_end.false at c.in_ok-at_end.ensures.look in
-    record {
-      given = front g at ++ last.0;
-      took = took g at last.0 last.1;
-      outcome = (
-        (transitions g at).0,
-        text_ends c.args.lim.now (front g at) _ _ _ last.0 (transitions g at).1.0 (count g at) (last.2.2 refl),
-        (transitions g at).1.1,
-      );
-    }
+    let (es, (so_far, held)) = transitions g at in
+    let read = text_ends c.args.lim.now (front g at) _ _ es last.0 so_far (count g at) (last.2.2 refl) in
+    record { given = front g at ++ last.0; took = took g at last.0 last.1; outcome = (es, read, held) }

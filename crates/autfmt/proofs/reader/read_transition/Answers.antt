@@ -88,11 +88,10 @@ unfolding read
 returns-clause-transition g c =
     let s = rw c.in-Line.is at c.in_ok-advance.ensures.step in
     let (e, among) = read g (goal.at.returns-clause-transition g c).After-shown in
-    let good = rw c.line.ensures at c.in_ok-source.ensures.good in
-    let added = rw c.shown.ensures at c.in_ok-add.ensures.added in (
+    let good = rw c.line.ensures at c.in_ok-source.ensures.good in (
       s.0,
       s.1,
       λ bounds given es standing.
           let so_far = transition_good bounds given _ _ _ es s.0 e standing.0 (goes_on s.2.0) s.2.1 good among in
-          (e, (so_far, Holds-add _ _ _ _ es e standing.1 among added)),
+          (e, (so_far, Holds-add _ _ _ _ es e standing.1 among (rw c.shown.ensures at c.in_ok-add.ensures.added))),
     )

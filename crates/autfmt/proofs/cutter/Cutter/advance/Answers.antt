@@ -3,7 +3,7 @@ use Rattle.std.proofs.lemmas.List.{append-nil}
 use Rattle.std.proofs.KnownBytes.{Consumes-nil}
 use Rattle.std.specs.List.{slice_range}
 use Rattle.autfmt.specs.Cutter.{Cutting, CutsLine}
-use Rattle.autfmt.proofs.Gathering.{line_in_piece}
+use Rattle.autfmt.proofs.Gathering.{cut_at, line_in_piece}
 use Rattle.autfmt.proofs.cutter.Cutter.advance.Goals as goal
 
 pub returns-in-Some-clause-step : goal.returns-in-Some-clause-step
@@ -15,9 +15,6 @@ returns-in-Some-clause-step g c =
     let cut =
     line_in_piece i.piece i.from i.to at i.over c.if-self.false c.in-Some.ensures.within c.self.invariant.ordered
     c.self.invariant.within c.in-Some.ensures.line c.in-Some.ensures.feed in
-    let at_bytes : List ℕ → Type 0 = λ bytes. CutsLine bytes (record {
-      line = slice_range i.piece i.from (i.from + at);
-      ahead = slice_range i.piece (i.from + (at + 1)) i.to;
-      over = i.over;
-    }) in
-    ([], Consumes-nil (g.R.Source.rest c.args.r.now), (ap (λ (v : Cutting). v.over) (sym c.self.view_is) ∙ c.if-self.false, subst at_bytes e cut))
+    let over = ap (λ (v : Cutting). v.over) (sym c.self.view_is) ∙ c.if-self.false in
+    let cuts = subst (λ (bytes : List ℕ). CutsLine bytes (cut_at i.piece i.from i.to at i.over)) e cut in
+    ([], Consumes-nil (g.R.Source.rest c.args.r.now), (over, cuts))

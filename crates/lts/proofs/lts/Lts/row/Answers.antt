@@ -20,17 +20,13 @@ index-requires-2 g c =
 
 pub returns : goal.returns
 returns g c =
-    let view = laid_out c.self.inside.first c.self.inside.states c.self.inside.labels c.self.inside.ends.items c.self.inside.pairs.items in
-    let ends = c.self.inside.ends.items in
-    let pairs = c.self.inside.pairs.items in
-    let size = laid_out-states view ends pairs c.self.invariant in
-    let states = ap (λ l. l.states) c.self.view_is in
-    let below : c.args.s < view.states = omega (arith, c.requires) in
+    let i = c.self.inside in
+    let view = laid_out i.first i.states i.labels i.ends.items i.pairs.items in
+    let size = laid_out-states view i.ends.items i.pairs.items c.self.invariant in
+    let below : c.args.s < view.states = omega (arith, c.requires, ap (λ l. l.states) c.self.view_is) in
     let begin : c.if-s-eq0.start ≡ before c.args.s view.places = elim c.if-s-eq0.branch [
-      | then-s-eq0 w ↦ laid_out-first view ends pairs c.self.invariant c.args.s _ w.if-s-eq0.true w.start-is
-      | else-s-eq0 w ↦
-          let last = get_or_read ends (c.args.s - 1) w.index.result.now (omega arith) w.index.ensures 0 in
-          laid_out-next view ends pairs c.self.invariant c.args.s _ w.if-s-eq0.false below (w.start-is ∙ last)
+      | then-s-eq0 w ↦ laid_out-first view _ _ c.self.invariant c.args.s _ w.if-s-eq0.true w.start-is
+      | else-s-eq0 w ↦ laid_out-next view _ _ c.self.invariant c.args.s _ w.if-s-eq0.false below (w.start-is ∙ get_or_read i.ends.items (c.args.s - 1) w.index.result.now (omega arith) w.index.ensures 0)
     ] in
-    let end = get_or_read ends c.args.s c.index-2.result.now (omega arith) c.index-2.ensures 0 in
-    rw (← c.self.view_is) (laid_out-row view ends pairs c.self.invariant c.args.s c.if-s-eq0.start c.index-2.result.now below begin end)
+    let end = get_or_read i.ends.items c.args.s c.index-2.result.now (omega arith) c.index-2.ensures 0 in
+    rw (← c.self.view_is) (laid_out-row view _ _ c.self.invariant c.args.s c.if-s-eq0.start c.index-2.result.now below begin end)
