@@ -1,5 +1,5 @@
 -- What a transition that is taken leaves of the walk, and what going back leaves.
-use Rattle.std.proofs.Common.{true, ◌≡◌, ℕ, ◌-◌, ◌<◌, ◌≤◌, List, [], ◌∷◌, ◌++◌, length, set, take, slice_index, refl, sym, ◌∙◌, ap, subst, inl, inr, arith}
+use Rattle.std.proofs.Common.{true, ◌≡◌, ℕ, ◌-◌, ◌<◌, ◌≤◌, List, [], ◌∷◌, ◌++◌, length, set, take, drop, slice_index, refl, sym, ◌∙◌, ap, subst, inl, inr, arith}
 use Rattle.std.proofs.lemmas.Bool.{cases_eq, false≢true}
 use Rattle.std.proofs.lemmas.List.{length-take-le, length_push, length-set}
 use Rattle.theory.specs.System.{Step}
@@ -10,59 +10,61 @@ use Rattle.lts.specs.Lts.{Grouped, Triple, place_at, system_of, IsTriple, IsLts,
 use Rattle.refine.specs.Lists.{list_at}
 use Rattle.refine.specs.Signed.{HasPair}
 use Rattle.refine.specs.StrongPairs.{pair_under}
-use Rattle.refine.specs.Walks.{Laws, mark_at, visit_at, state_at, next_at, end_at, back_at, bound_at, item_at, IsBound, IsInert, Accounts, Walks}
-use Rattle.refine.specs.Steps.{IsCollected, Enters, Joins, Adds, Takes, Leaves}
+use Rattle.refine.specs.Walks.{Laws, mark_at, visit_at, state_at, back_at, HasRead, bound_at, BeginsPairs, IsInert, Accounts, Parts, Held, Walks}
+use Rattle.refine.specs.Steps.{IsCollected, Enters, Cuts, Stays, Takes, Finishes, Leaves}
 use Rattle.refine.specs.Ahead.{is_unseen, rest, ahead, KeepsSeen, HasNumbers}
 use Rattle.refine.specs.declared.walk.Mark.{Mark}
 use Rattle.refine.specs.declared.walk.Mark.TheVariants.{Unseen, OnPath, Finished}
 use Rattle.refine.specs.declared.walk.Visit.{Visit}
 use Rattle.refine.specs.declared.walk.Bound.{Bound}
-use Rattle.refine.specs.declared.walk.Item.{Item}
-use Rattle.refine.specs.declared.walk.Item.TheVariants.{Pair, Listed}
-use Rattle.refine.specs.declared.walk.Walk.{Walk}
 use Rattle.refine.proofs.WalkMarks.{not_unseen}
 use Rattle.refine.proofs.WalkConnects.{pair_before}
 use Rattle.refine.proofs.WalkExact.{place_step}
 use Rattle.refine.proofs.WalkLists.{mark_set, mark_other}
 use Rattle.refine.proofs.WalkAhead.{unseen-entered, unread-entered, unseen-same, unread-same, rest-push, rest-cut}
 use Rattle.refine.proofs.WalkSeen.{finishes-unseen}
-use Rattle.refine.proofs.WalkSteps.{visit_before, Walks-item, accounts_pair, accounts_finished, Walks-join, accounts_joined, Walks-enter, accounts_entered}
-use Rattle.refine.proofs.WalkLeave.{Walks-leave}
+use Rattle.refine.proofs.WalkSteps.{WithPair, WithList, Joined, Entered, visit_before, Walks-pair, accounts_pair, Walks-listed, accounts_finished, Walks-join, accounts_joined, Walks-enter, accounts_entered}
+use Rattle.refine.proofs.WalkLeave.{Left, Walks-leave}
 
 -- the walk after a transition of the state at its place was taken
-pub record TakenOn (l : Grouped) (blocks : List ℕ) (lists : List (List (ℕ × ℕ))) (old : Walk) (e : Triple)
-    (marks : List Mark) (path : List Visit) (at : ℕ) (bounds : List Bound) (items : List Item) : Type 0 where
-  pub walks : Walks l blocks lists marks path at bounds items
-  pub accounts : Accounts l blocks (IsBound bounds) (back_at path) (length items) (item_at items) lists (mark_at marks) e.0 old.at e
-  pub numbers : HasNumbers l.states (length lists) (length path) marks
-  pub same_ahead : ahead l.places marks path ≡ ahead l.places old.marks.items old.path.items
-  pub seen : KeepsSeen old.marks.items marks
-  pub same_visit : visit_at path old.at ≡ visit_at old.path.items old.at
-  pub longer : old.at < length path
-  pub later : old.at ≤ at
+pub record Taken (l : Grouped) (blocks : List ℕ) (lists : List (List (ℕ × ℕ))) (old : Parts) (e : Triple) (new : Parts) : Type 0 where
+  pub walks : Walks l blocks lists new
+  pub accounts : Accounts l blocks (BeginsPairs new.bounds) (back_at new.path) (Held lists new old.at) lists (mark_at new.marks) e.0 old.at e
+  pub numbers : HasNumbers l.states (length lists) (length new.path) new.marks
+  pub same_ahead : ahead l.places new.marks new.path ≡ ahead l.places old.marks old.path
+  pub seen : KeepsSeen old.marks new.marks
+  pub same_visit : visit_at new.path old.at ≡ visit_at old.path old.at
+  pub longer : old.at < length new.path
+  pub later : old.at ≤ new.at
 
-abbrev pub Taken : Grouped → List ℕ → List (List (ℕ × ℕ)) → Walk → Triple → Walk → Type 0
-Taken l blocks lists old e new = TakenOn l blocks lists old e new.marks.items new.path.items new.at new.bounds.items new.items.items
+-- the parts after a step
+stays_is : (bs : List Bound) (ps : List (ℕ × ℕ)) (ks : List ℕ) (old new : Parts) → Stays bs ps ks old new → record old { bounds = bs; pairs = ps; listed = ks } ≡ new
+stays_is bs ps ks old new s = λ i. record {
+  marks = sym s.marks i;
+  trail = sym s.trail i;
+  path = sym s.path i;
+  at = sym s.at i;
+  bounds = sym s.bounds i;
+  pairs = sym s.pairs i;
+  listed = sym s.listed i;
+}
 
--- what a walk has
-abbrev Shape : Type 0
-Shape = List Mark × List Visit × ℕ × List Bound × List Item
-
-module _ (l : Grouped) (blocks : List ℕ) (lists : List (List (ℕ × ℕ))) (old : Walk) (e : Triple) (new : Walk)
-    (marks : List Mark) (path : List Visit) (at : ℕ) (bounds : List Bound) (items : List Item) where
-  pub taken_same : new.marks.items ≡ marks → new.path.items ≡ path → new.at ≡ at → new.bounds.items ≡ bounds → new.items.items ≡ items
-      → TakenOn l blocks lists old e marks path at bounds items → Taken l blocks lists old e new
-  taken_same m p a b i taken =
-      let same : ◌≡◌ {A = Shape} (marks, path, at, bounds, items) (new.marks.items, new.path.items, new.at, new.bounds.items, new.items.items) =
-      λ j. (sym m j, sym p j, sym a j, sym b j, sym i j) in
-      subst (λ (x : Shape). TakenOn l blocks lists old e x.0 x.1 x.2 x.3 x.4) same taken
-
--- the walk with these parts
-pub walks_same : (l : Grouped) (blocks : List ℕ) (lists : List (List (ℕ × ℕ))) (m m' : List Mark) (p p' : List Visit) (a a' : ℕ) (b b' : List Bound) (i i' : List Item)
-    → m' ≡ m → p' ≡ p → a' ≡ a → b' ≡ b → i' ≡ i → Walks l blocks lists m p a b i → Walks l blocks lists m' p' a' b' i'
-walks_same l blocks lists m m' p p' a a' b b' i i' em ep ea eb ei walks =
-    let same : ◌≡◌ {A = Shape} (m, p, a, b, i) (m', p', a', b', i') = λ j. (sym em j, sym ep j, sym ea j, sym eb j, sym ei j) in
-    subst (λ (x : Shape). Walks l blocks lists x.0 x.1 x.2 x.3 x.4) same walks
+pub enters_is : (s start end back : ℕ) (old new : Parts) → Enters s start end back old new → record old {
+  marks = set old.marks s (OnPath (length old.path));
+  trail = old.trail ++ s ∷ [];
+  path = old.path ++ record { state = s; next = start; end = end; back = back } ∷ [];
+  at = length old.path;
+  bounds = old.bounds ++ record { place = length old.path; pairs = length old.pairs; listed = length old.listed } ∷ [];
+} ≡ new
+enters_is s start end back old new e = λ i. record {
+  marks = sym e.marks i;
+  trail = sym e.trail i;
+  path = sym e.path i;
+  at = sym e.at i;
+  bounds = sym e.bounds i;
+  pairs = sym e.pairs i;
+  listed = sym e.listed i;
+}
 
 -- the state t is seen, and no other is forgotten
 pub seen_more : (marks : List Mark) (t p : ℕ) → t < length marks → KeepsSeen marks (set marks t (OnPath p))
@@ -71,26 +73,25 @@ seen_more marks t p low s is = elim (cases_eq s t) [
   | inr d ↦ sym (mark_other marks t (OnPath p) s d) ∙ is
 ]
 
-module _ (laws : Laws) (l : Grouped) (lts : IsLts l) (blocks : List ℕ) (lists : List (List (ℕ × ℕ))) (old : Walk)
-    (walks : Walks l blocks lists old.marks.items old.path.items old.at old.bounds.items old.items.items)
-    (numbers : HasNumbers l.states (length lists) (length old.path.items) old.marks.items) (some : 0 < length old.path.items)
-    (e : Triple) (k : ℕ) (low : k < length l.places) (is : e ≡ place_at l.places k) (source : e.0 ≡ state_at old.path.items old.at) where
-  here : old.at < length old.path.items
+module _ (laws : Laws) (l : Grouped) (lts : IsLts l) (blocks : List ℕ) (lists : List (List (ℕ × ℕ))) (old : Parts)
+    (walks : Walks l blocks lists old) (numbers : HasNumbers l.states (length lists) (length old.path) old.marks) (some : 0 < length old.path)
+    (e : Triple) (k : ℕ) (low : k < length l.places) (is : e ≡ place_at l.places k) (source : e.0 ≡ state_at old.path old.at) where
+  here : old.at < length old.path
   here = walks.rows.here some
 
+  -- the transition is a step
+  step : Step (system_of l) e.0 (text_of l.labels e.1) e.2
+  step = subst (λ (x : Triple). Step (system_of l) x.0 (text_of l.labels x.1) x.2) (sym is) (place_step l k low)
+
   -- an inert transition is an inert step
-  inert_step : IsInert l blocks e.0 e → Inert (system_of l) (slice_index blocks) (state_at old.path.items old.at) e.2
+  inert_step : IsInert l blocks e.0 e → Inert (system_of l) (slice_index blocks) (state_at old.path old.at) e.2
   inert_step inert =
-      let step : Step (system_of l) e.0 (text_of l.labels e.1) e.2 =
-      subst (λ (x : Triple). Step (system_of l) x.0 (text_of l.labels x.1) x.2) (sym is) (place_step l k low) in
       subst (λ s. Inert (system_of l) (slice_index blocks) s e.2) source (subst (λ a. Step (system_of l) e.0 a e.2) inert.0 step, inert.1)
 
   -- a step of the state at the place of the walk that is not inert gives a pair of its signature
-  own_pair : ¬ IsInert l blocks e.0 e → HasPair branching l blocks (state_at old.path.items old.at) (pair_under blocks e).0 (pair_under blocks e).1
+  own_pair : ¬ IsInert l blocks e.0 e → HasPair branching l blocks (state_at old.path old.at) (pair_under blocks e).0 (pair_under blocks e).1
   own_pair other =
-      let same : IsTriple (length l.labels) l.states e = subst (IsTriple (length l.labels) l.states) (sym is) (lts.in_range.each k (0, 0, 0) low) in
-      let step : Step (system_of l) e.0 (text_of l.labels e.1) e.2 =
-      subst (λ (x : Triple). Step (system_of l) x.0 (text_of l.labels x.1) x.2) (sym is) (place_step l k low) in (
+      let same : IsTriple (length l.labels) l.states e = subst (IsTriple (length l.labels) l.states) (sym is) (lts.in_range.each k (0, 0, 0) low) in (
         same.label,
         subst (λ s. Signature branching (system_of l) (slice_index blocks) s (text_of l.labels e.1) (slice_index blocks e.2)) source (
           e.0,
@@ -102,107 +103,87 @@ module _ (laws : Laws) (l : Grouped) (lts : IsLts l) (blocks : List ℕ) (lists 
         ),
       )
 
-  pub taken_pair : (new : Walk) → ¬ IsInert l blocks e.0 e → Adds (Pair e.1 (slice_index blocks e.2)) old new → Taken l blocks lists old e new
-  taken_pair new other adds =
-      let x : Item = Pair e.1 (slice_index blocks e.2) in
-      taken_same l blocks lists old e new old.marks.items old.path.items old.at old.bounds.items (old.items.items ++ x ∷ [])
-      adds.marks adds.path adds.at adds.bounds adds.items (record {
-        walks =
-            Walks-item laws l blocks lists old.marks.items old.path.items old.at old.bounds.items old.items.items walks x
-            (λ _ z g. subst (λ (y : ℕ × ℕ). HasPair branching l blocks (state_at old.path.items old.at) y.0 y.1) g (own_pair other))
-            (λ j h. absurd (no_list j h));
-        accounts = accounts_pair laws l blocks lists old.marks.items old.path.items old.at old.bounds.items old.items.items walks e.0 e x refl other;
-        numbers = numbers;
-        same_ahead = refl;
-        seen = λ s h. h;
-        same_visit = refl;
-        longer = here;
-        later = omega arith;
-      })
-    where
-      no_list : (j : ℕ) → ¬ (Pair e.1 (slice_index blocks e.2) ≡ Listed j)
-      no_list j h = cc
+  -- a step that leaves marks and path as they are
+  stayed : (new : Parts) → Walks l blocks lists (record old { bounds = new.bounds; pairs = new.pairs; listed = new.listed })
+      → Accounts l blocks (BeginsPairs new.bounds) (back_at old.path) (Held lists (record old { bounds = new.bounds; pairs = new.pairs; listed = new.listed }) old.at)
+      lists (mark_at old.marks) e.0 old.at e
+      → Taken l blocks lists old e (record old { bounds = new.bounds; pairs = new.pairs; listed = new.listed })
+  stayed new walks' accounts' = record {
+    walks = walks';
+    accounts = accounts';
+    numbers = numbers;
+    same_ahead = refl;
+    seen = λ s h. h;
+    same_visit = refl;
+    longer = here;
+    later = omega arith;
+  }
 
-  pub taken_finished : (new : Walk) (number : ℕ) → IsInert l blocks e.0 e → mark_at old.marks.items e.2 ≡ Finished number
-      → Adds (Listed number) old new → Taken l blocks lists old e new
-  taken_finished new number inert mark adds =
+  taken_pair : (new : Parts) → ¬ IsInert l blocks e.0 e → Stays old.bounds (old.pairs ++ pair_under blocks e ∷ []) old.listed old new
+      → Taken l blocks lists old e new
+  taken_pair new other stays =
+      let z = pair_under blocks e in
+      subst (Taken l blocks lists old e) (stays_is old.bounds (old.pairs ++ z ∷ []) old.listed old new stays)
+      (stayed (WithPair laws l blocks lists old walks z) (Walks-pair laws l blocks lists old walks z (λ _. own_pair other))
+      (accounts_pair laws l blocks lists old walks z e.0 e refl other))
+
+  taken_finished : (new : Parts) (number : ℕ) → IsInert l blocks e.0 e → mark_at old.marks e.2 ≡ Finished number
+      → Stays old.bounds old.pairs (old.listed ++ number ∷ []) old new → Taken l blocks lists old e new
+  taken_finished new number inert mark stays =
       let signed = walks.signed e.2 number mark in
-      let step = inert_step inert in
-      let tie =
-      laws.after (system_of l) (slice_index blocks) (state_at old.path.items old.at) (state_at old.path.items old.at) e.2
-      (laws.here (system_of l) (slice_index blocks) (state_at old.path.items old.at)) step in
-      taken_same l blocks lists old e new old.marks.items old.path.items old.at old.bounds.items (old.items.items ++ Listed number ∷ [])
-      adds.marks adds.path adds.at adds.bounds adds.items (record {
-        walks =
-            Walks-item laws l blocks lists old.marks.items old.path.items old.at old.bounds.items old.items.items walks (Listed number)
-            (λ _ z g. pair_before laws l blocks (state_at old.path.items old.at) e.2 z tie ((signed.1.exactly z.0 z.1).0 g))
-            (λ j h. subst (λ x. x < length lists) (number_same j h) signed.0);
-        accounts = accounts_finished laws l blocks lists old.marks.items old.path.items old.at old.bounds.items old.items.items walks e.0 number e inert mark;
-        numbers = numbers;
-        same_ahead = refl;
-        seen = λ s h. h;
-        same_visit = refl;
-        longer = here;
-        later = omega arith;
-      })
-    where
-      number_same : (j : ℕ) → Listed number ≡ Listed j → number ≡ j
-      number_same j h = cc
+      let s = state_at old.path old.at in
+      let tie = laws.after (system_of l) (slice_index blocks) s s e.2 (laws.here (system_of l) (slice_index blocks) s) (inert_step inert) in
+      subst (Taken l blocks lists old e) (stays_is old.bounds old.pairs (old.listed ++ number ∷ []) old new stays)
+      (stayed (WithList laws l blocks lists old walks number)
+      (Walks-listed laws l blocks lists old walks number signed.0 (λ _ z c. pair_before laws l blocks s e.2 z tie ((signed.1.exactly z.0 z.1).0 c)))
+      (accounts_finished laws l blocks lists old walks number e.0 e inert mark))
 
-  pub taken_joined : (new : Walk) (q : ℕ) → IsInert l blocks e.0 e → mark_at old.marks.items e.2 ≡ OnPath q
-      → Joins q old new → Taken l blocks lists old e new
-  taken_joined new q inert mark joins =
+  taken_joined : (new : Parts) (q : ℕ) → IsInert l blocks e.0 e → mark_at old.marks e.2 ≡ OnPath q → Cuts q old.bounds new.bounds
+      → Stays new.bounds old.pairs old.listed old new → Taken l blocks lists old e new
+  taken_joined new q inert mark cuts stays =
       let was = walks.on_path.only e.2 q mark in
-      taken_same l blocks lists old e new old.marks.items old.path.items old.at new.bounds.items old.items.items
-      joins.marks joins.path joins.at refl joins.items (record {
-        walks =
-            Walks-join laws l blocks lists old.marks.items old.path.items old.at old.bounds.items old.items.items walks q new.bounds.items joins.bounds was.0
-            (subst (Inert (system_of l) (slice_index blocks) (state_at old.path.items old.at)) (sym was.1) (inert_step inert));
-        accounts = accounts_joined laws l blocks lists old.marks.items old.path.items old.at old.bounds.items old.items.items walks q new.bounds.items joins.bounds e.0 e inert mark;
-        numbers = numbers;
-        same_ahead = refl;
-        seen = λ s h. h;
-        same_visit = refl;
-        longer = here;
-        later = omega arith;
-      })
+      subst (Taken l blocks lists old e) (stays_is new.bounds old.pairs old.listed old new stays)
+      (stayed (Joined laws l blocks lists old walks q new.bounds cuts)
+      (Walks-join laws l blocks lists old walks q new.bounds cuts was.0
+      (subst (Inert (system_of l) (slice_index blocks) (state_at old.path old.at)) (sym was.1) (inert_step inert)))
+      (accounts_joined laws l blocks lists old walks q new.bounds cuts e.0 e inert mark))
 
-  pub taken_entered : (new : Walk) (start end : ℕ) → IsInert l blocks e.0 e → e.2 < l.states → IsRow l.places e.2 start end
-      → mark_at old.marks.items e.2 ≡ Unseen → Enters e.2 start end old.at old new → Taken l blocks lists old e new
-  taken_entered new start end inert inside row unseen_mark enters =
-      let within : e.2 < length old.marks.items = omega (arith, inside, numbers.size) in
-      let v : Visit = record { state = e.2; next = start; end = end; back = old.at } in
-      let size = length_push old.path.items v in
-      let fewer = unseen-entered old.marks.items e.2 (length old.path.items) within unseen_mark in
-      let unread' = unread-entered l.places old.marks.items e.2 (length old.path.items) within unseen_mark in
-      let rest' = rest-push old.path.items v in
-      let count = row.count in
-      let room = numbers.numbers in
-      taken_same l blocks lists old e new (set old.marks.items e.2 (OnPath (length old.path.items))) (old.path.items ++ v ∷ []) (length old.path.items)
-      (old.bounds.items ++ record { place = length old.path.items; items = length old.items.items } ∷ []) old.items.items
-      enters.marks enters.path enters.at enters.bounds enters.items (record {
-        walks =
-            Walks-enter laws l blocks lists old.marks.items old.path.items old.at old.bounds.items old.items.items walks e.2 start end within unseen_mark inside row
-            (λ _. inert_step inert) (λ none. absurd (omega (arith, none, some)));
-        accounts =
-            accounts_entered laws l blocks lists old.marks.items old.path.items old.at old.bounds.items old.items.items walks e.2 start end within unseen_mark e.0 e inert refl;
-        numbers = record {
-          size = length-set old.marks.items e.2 (OnPath (length old.path.items)) ∙ numbers.size;
-          some = numbers.some;
-          numbers = omega (arith, size, fewer, room);
-        };
-        same_ahead = omega (arith, unread', rest', count);
-        seen = seen_more old.marks.items e.2 (length old.path.items) within;
-        same_visit = visit_before old.path.items v old.at here;
-        longer = omega (arith, size, here);
-        later = omega (arith, here);
-      })
+  module _ (start end : ℕ) (inside : e.2 < l.states) (row : IsRow l.places e.2 start end) (unseen_mark : mark_at old.marks e.2 ≡ Unseen) where
+    within : e.2 < length old.marks
+    within = omega (arith, inside, numbers.size)
+
+    entered : IsInert l blocks e.0 e → Taken l blocks lists old e (Entered laws l blocks lists old walks e.2 start end within unseen_mark)
+    entered inert =
+        let v : Visit = record { state = e.2; next = start; end = end; back = old.at } in
+        let size = length_push old.path v in
+        let fewer = unseen-entered old.marks e.2 (length old.path) within unseen_mark in
+        let unread' = unread-entered l.places old.marks e.2 (length old.path) within unseen_mark in
+        let rest' = rest-push old.path v in
+        let count = row.count in
+        let room = numbers.numbers in
+        record {
+          walks = Walks-enter laws l blocks lists old walks e.2 start end within unseen_mark inside row (λ _. inert_step inert) (λ none. absurd (omega (arith, none, some)));
+          accounts = accounts_entered laws l blocks lists old walks e.2 start end within unseen_mark e.0 e inert refl;
+          numbers = record {
+            size = length-set old.marks e.2 (OnPath (length old.path)) ∙ numbers.size;
+            some = numbers.some;
+            numbers = omega (arith, size, fewer, room);
+          };
+          same_ahead = omega (arith, unread', rest', count);
+          seen = seen_more old.marks e.2 (length old.path) within;
+          same_visit = visit_before old.path v old.at here;
+          longer = omega (arith, size, here);
+          later = omega (arith, here);
+        }
+
+    taken_entered : (new : Parts) → IsInert l blocks e.0 e → Enters e.2 start end old.at old new → Taken l blocks lists old e new
+    taken_entered new inert enters = subst (Taken l blocks lists old e) (enters_is e.2 start end old.at old new enters) (entered inert)
 
   -- whichever it is
-  pub taken : (new : Walk) → e.2 < l.states → Takes l blocks e old new → Taken l blocks lists old e new
+  pub taken : (new : Parts) → e.2 < l.states → Takes l blocks (slice_index blocks e.0) e.1 e.2 old new → Taken l blocks lists old e new
   taken new inside (inr other) = taken_pair new other.0 other.1
-  taken new inside (inl (inert, start, end, row, inl entered)) = taken_entered new start end inert inside row entered.0 entered.1
-  taken new inside (inl (inert, start, end, row, inr (inl joined))) = taken_joined new joined.0 inert joined.1 joined.2
+  taken new inside (inl (inert, start, end, row, inl entered)) = taken_entered start end inside row entered.0 new inert entered.1
+  taken new inside (inl (inert, start, end, row, inr (inl joined))) = taken_joined new joined.0 inert joined.1 joined.2 joined.3
   taken new inside (inl (inert, start, end, row, inr (inr finished))) = taken_finished new finished.0 inert finished.1 finished.2
 
 unseen_is : (m : Mark) → is_unseen m ≡ true → m ≡ Unseen
@@ -211,57 +192,72 @@ unseen_is (OnPath p) e = absurd (false≢true e)
 unseen_is (Finished k) e = absurd (false≢true e)
 
 -- the component that begins where the walk is was finished
-module _ (laws : Laws) (l : Grouped) (lts : IsLts l) (blocks : List ℕ) (lists lists' : List (List (ℕ × ℕ))) (old new : Walk)
-    (walks : Walks l blocks lists old.marks.items old.path.items old.at old.bounds.items old.items.items)
-    (numbers : HasNumbers l.states (length lists) (length old.path.items) old.marks.items) (some : 0 < length old.path.items)
-    (read : next_at old.path.items old.at ≡ end_at old.path.items old.at) where
-  pub bounds_some : 0 < length old.bounds.items
-  bounds_some = let first = walks.bounded.first some in omega (arith, first.1)
+module _ (laws : Laws) (l : Grouped) (lts : IsLts l) (blocks : List ℕ) (lists lists' : List (List (ℕ × ℕ))) (old new : Parts)
+    (walks : Walks l blocks lists old) (numbers : HasNumbers l.states (length lists) (length old.path) old.marks) (some : 0 < length old.path)
+    (read : HasRead old.path old.at) where
+  pub bounds_some : 0 < length old.bounds
+  bounds_some = let first = walks.of_pairs.first some in omega (arith, first.1)
 
-  module _ (c : ℕ) (place : (bound_at old.bounds.items (length old.bounds.items - 1)).place ≡ old.at)
-      (items : (bound_at old.bounds.items (length old.bounds.items - 1)).items ≡ c) (leaves : Leaves old.at c old new lists lists') where
-    pub left_walks : (back : ℕ) → back ≡ back_at old.path.items old.at
-        → Walks l blocks lists' new.marks.items new.path.items back new.bounds.items new.items.items
-    left_walks back is =
-        let c' = (bound_at old.bounds.items (length old.bounds.items - 1)).items in
-        walks_same l blocks lists' new.marks.items new.marks.items (take old.at old.path.items) new.path.items (back_at old.path.items old.at) back
-        (take (length old.bounds.items - 1) old.bounds.items) new.bounds.items (take c' old.items.items ++ Listed leaves.number ∷ []) new.items.items
-        refl leaves.path is leaves.bounds (leaves.items ∙ ap (λ x. take x old.items.items ++ Listed leaves.number ∷ []) (sym items))
-        (Walks-leave laws l lts blocks lists lists' old.marks.items new.marks.items old.path.items old.at old.bounds.items old.items.items leaves.number walks bounds_some
-        place read leaves.within leaves.grow (subst (λ x. IsCollected lists old.items.items x (list_at lists' leaves.number)) (sym items) leaves.collected) leaves.marks)
+  module _ (b : Bound) (is : b ≡ bound_at old.bounds (length old.bounds - 1)) (place : b.place ≡ old.at) (leaves : Leaves b old new lists lists') where
+    finishes : Finishes old.path old.at leaves.number old.marks new.marks
+    finishes = subst (λ f. Finishes old.path f leaves.number old.marks new.marks) place leaves.marks
 
-    same_unseen : (s : ℕ) → is_unseen (mark_at new.marks.items s) ≡ is_unseen (mark_at old.marks.items s)
-    same_unseen = finishes-unseen old.path.items old.at leaves.number old.marks.items new.marks.items walks.on_path leaves.marks
+    last_place : (bound_at old.bounds (length old.bounds - 1)).place ≡ old.at
+    last_place = sym (ap (λ x. x.place) is) ∙ place
 
-    pub left_seen : KeepsSeen old.marks.items new.marks.items
-    left_seen s is = unseen_is (mark_at old.marks.items s) (sym (same_unseen s) ∙ ap is_unseen is)
+    collected : IsCollected lists (drop (bound_at old.bounds (length old.bounds - 1)).pairs old.pairs)
+        (drop (bound_at old.bounds (length old.bounds - 1)).listed old.listed) (list_at lists' leaves.number)
+    collected = subst (λ x. IsCollected lists (drop x.pairs old.pairs) (drop x.listed old.listed) (list_at lists' leaves.number)) is leaves.collected
 
-    left_size : length new.path.items ≡ old.at
+    left_is : (back : ℕ) → back ≡ back_at old.path old.at
+        → Left laws l lts blocks lists lists' old new.marks leaves.number walks bounds_some last_place read leaves.within leaves.grow collected finishes ≡ record new { at = back }
+    left_is back e = λ i. record {
+      marks = new.marks;
+      trail = sym leaves.trail i;
+      path = sym (leaves.path ∙ ap (λ f. take f old.path) place) i;
+      at = sym e i;
+      bounds = sym leaves.bounds i;
+      pairs = sym (leaves.pairs ∙ ap (λ x. take x.pairs old.pairs) is) i;
+      listed = sym (leaves.listed ∙ ap (λ x. take x.listed old.listed ++ leaves.number ∷ []) is) i;
+    }
+
+    pub left_walks : (back : ℕ) → back ≡ back_at old.path old.at → Walks l blocks lists' (record new { at = back })
+    left_walks back e =
+        subst (Walks l blocks lists') (left_is back e)
+        (Walks-leave laws l lts blocks lists lists' old new.marks leaves.number walks bounds_some last_place read leaves.within leaves.grow collected finishes)
+
+    same_unseen : (s : ℕ) → is_unseen (mark_at new.marks s) ≡ is_unseen (mark_at old.marks s)
+    same_unseen = finishes-unseen old.path old.at leaves.number old.marks new.marks walks.on_path finishes
+
+    pub left_seen : KeepsSeen old.marks new.marks
+    left_seen s is = unseen_is (mark_at old.marks s) (sym (same_unseen s) ∙ ap is_unseen is)
+
+    left_size : length new.path ≡ old.at
     left_size =
         let here = walks.rows.here some in
-        ap length leaves.path ∙ length-take-le old.at old.path.items (omega (arith, here))
+        ap length leaves.path ∙ ap (λ f. length (take f old.path)) place ∙ length-take-le old.at old.path (omega (arith, here))
 
-    pub left_shorter : length new.path.items ≤ length old.path.items
+    pub left_shorter : length new.path ≤ length old.path
     left_shorter = let here = walks.rows.here some in let size = left_size in omega (arith, size, here)
 
-    pub left_numbers : HasNumbers l.states (length lists') (length new.path.items) new.marks.items
+    pub left_numbers : HasNumbers l.states (length lists') (length new.path) new.marks
     left_numbers =
         let here = walks.rows.here some in
         let size = left_size in
-        let same = unseen-same old.marks.items new.marks.items leaves.marks.size same_unseen in
+        let same = unseen-same old.marks new.marks finishes.size same_unseen in
         let longer = leaves.grow.longer in
         let few = leaves.few in
         let some = numbers.some in
         let room = numbers.numbers in
-        record { size = leaves.marks.size ∙ numbers.size; some = omega (arith, longer, some); numbers = omega (arith, size, same, few, room, here) }
+        record { size = finishes.size ∙ numbers.size; some = omega (arith, longer, some); numbers = omega (arith, size, same, few, room, here) }
 
-    pub left_ahead : ahead l.places new.marks.items new.path.items ≡ ahead l.places old.marks.items old.path.items
+    pub left_ahead : ahead l.places new.marks new.path ≡ ahead l.places old.marks old.path
     left_ahead =
-        let same = unread-same l.places old.marks.items new.marks.items same_unseen in
-        let cut : rest (take old.at old.path.items) ≡ rest old.path.items =
-        rest-cut old.path.items old.at (λ p low high. elim (cases_eq p old.at) [
-          | inl e ↦ subst (λ x. next_at old.path.items x ≡ end_at old.path.items x) (sym e) read
+        let same = unread-same l.places old.marks new.marks same_unseen in
+        let cut : rest (take old.at old.path) ≡ rest old.path =
+        rest-cut old.path old.at (λ p low high. elim (cases_eq p old.at) [
+          | inl e ↦ subst (HasRead old.path) (sym e) read
           | inr d ↦ walks.rows.above p (omega (arith, low, d)) high
         ]) in
-        let rest' : rest new.path.items ≡ rest old.path.items = ap rest leaves.path ∙ cut in
+        let rest' : rest new.path ≡ rest old.path = ap rest (leaves.path ∙ ap (λ f. take f old.path) place) ∙ cut in
         omega (arith, same, rest')

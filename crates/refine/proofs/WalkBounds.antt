@@ -3,13 +3,13 @@ use Rattle.std.proofs.Common.{◌≡◌, ◌≢◌, ◌⊎◌, ℕ, ◌+◌, ◌
 use Rattle.std.proofs.lemmas.Bool.{cases_eq, cases_lt}
 use Rattle.refine.specs.Walks.{AreBounds}
 
--- an item more
+-- one more is collected
 pub AreBounds-item : (n at count : ℕ) (back : ℕ → ℕ) (B : ℕ → ℕ → Type 0) → AreBounds n at count back B → AreBounds n at (count + 1) back B
 AreBounds-item n at count back B old = record {
   first = old.first;
   below = old.below;
   reached = old.reached;
-  items = λ f c b. let h = old.items f c b in omega (arith, h);
+  within = λ f c b. let h = old.within f c b in omega (arith, h);
   in_order = old.in_order;
   inside = old.inside;
 }
@@ -22,7 +22,7 @@ AreBounds-join n at count q back B B' old_one keep old = record {
   first = λ h. keep 0 0 (old.first h) (omega arith);
   below = λ f c b. old.below f c (old_one f c b);
   reached = λ f c b. old.reached f c (old_one f c b);
-  items = λ f c b. old.items f c (old_one f c b);
+  within = λ f c b. old.within f c (old_one f c b);
   in_order = λ f c g d b b'. old.in_order f c g d (old_one f c b) (old_one g d b');
   inside = λ f c p b. old.inside f c p (old_one f c b);
 }
@@ -39,11 +39,11 @@ AreBounds-enter n at count back back' B B' old_or_new up new same last start old
   ];
   below = λ f c b. elim (old_or_new f c b) [ inl o ↦ (let h = old.below f c o in omega (arith, h)) | inr e ↦ omega (arith, e.0) ];
   reached = λ f c b. elim (old_or_new f c b) [ inl o ↦ (let h = old.below f c o in omega (arith, h)) | inr e ↦ omega (arith, e.0) ];
-  items = λ f c b. elim (old_or_new f c b) [ inl o ↦ old.items f c o | inr e ↦ omega (arith, e.1) ];
+  within = λ f c b. elim (old_or_new f c b) [ inl o ↦ old.within f c o | inr e ↦ omega (arith, e.1) ];
   in_order = λ f c g d b b' h. elim (old_or_new f c b) [
     | inl o ↦ elim (old_or_new g d b') [
       | inl o' ↦ old.in_order f c g d o o' h
-      | inr e' ↦ (let i = old.items f c o in omega (arith, i, e'.1))
+      | inr e' ↦ (let i = old.within f c o in omega (arith, i, e'.1))
     ]
     | inr e ↦ elim (old_or_new g d b') [
       | inl o' ↦ (let i = old.below g d o' in absurd (omega (arith, i, e.0, h)))
@@ -66,14 +66,14 @@ pub AreBounds-leave : (n at count f0 c0 : ℕ) (back : ℕ → ℕ) (B B' : ℕ 
     → ((f c : ℕ) → B' f c → B f c × (f < f0)) → ((f c : ℕ) → B f c → f < f0 → B' f c)
     → AreBounds n at count back B → AreBounds f0 (back f0) c0 back B'
 AreBounds-leave n at count f0 c0 back B B' this old_one keep old =
-    let within = old.below f0 c0 this in
+    let on_path = old.below f0 c0 this in
     record {
-      first = λ h. keep 0 0 (old.first (omega (arith, h, within))) h;
+      first = λ h. keep 0 0 (old.first (omega (arith, h, on_path))) h;
       below = λ f c b. (old_one f c b).1;
-      reached = λ f c b. old.inside f c f0 (old_one f c b).0 (old_one f c b).1 within;
-      items = λ f c b. let o = old_one f c b in old.in_order f c f0 c0 o.0 this (omega (arith, o.1));
+      reached = λ f c b. old.inside f c f0 (old_one f c b).0 (old_one f c b).1 on_path;
+      within = λ f c b. let o = old_one f c b in old.in_order f c f0 c0 o.0 this (omega (arith, o.1));
       in_order = λ f c g d b b'. old.in_order f c g d (old_one f c b).0 (old_one g d b').0;
-      inside = λ f c p b above low. old.inside f c p (old_one f c b).0 above (omega (arith, low, within));
+      inside = λ f c p b above low. old.inside f c p (old_one f c b).0 above (omega (arith, low, on_path));
     }
 
 -- the walk goes back from a place where no component begins
@@ -86,7 +86,7 @@ AreBounds-back n at count f0 c0 back B this last apart here old = record {
       let low = last f c b in
       let reached = old.reached f0 c0 this in
       old.inside f c at b (omega (arith, low, reached, apart)) here;
-  items = old.items;
+  within = old.within;
   in_order = old.in_order;
   inside = old.inside;
 }

@@ -1,4 +1,4 @@
--- Where the rows of a component are read, its items give exactly the signature of each of its states.
+-- Where the rows of a component are read, what it has collected is exactly the signature of each of its states.
 use Rattle.std.proofs.Common.{◌≡◌, ◌↔◌, ℕ, ◌<◌, ◌≤◌, List, [], ◌∷◌, length, Contains, slice_index, sym, ◌∙◌, ap, subst, inl, inr, arith}
 use Rattle.std.proofs.lemmas.List.{length-map, get_or-map}
 use Rattle.std.specs.List.Sorted.{IsStrictlySortedBy}
@@ -9,9 +9,8 @@ use Rattle.lts.specs.Labels.{text_of}
 use Rattle.lts.specs.Lts.{Grouped, source_of, label_of, target_of, place_at, transition_of, system_of, IsLts}
 use Rattle.refine.specs.Signed.{pair_cmp, HasPair, IsSignature}
 use Rattle.refine.specs.StrongPairs.{pair_under}
-use Rattle.refine.specs.Walks.{Gives, AreOnPath, AreSigned, Connects, Holds, AccountsAll, AreRows}
+use Rattle.refine.specs.Walks.{AreOnPath, AreSigned, AccountsAll, AreRows}
 use Rattle.refine.specs.declared.walk.Mark.{Mark}
-use Rattle.refine.specs.declared.walk.Item.{Item}
 
 -- a step stands in some place
 pub step_place : (l : Grouped) (s t : ℕ) (a : List ℕ) → Step (system_of l) s a t →
@@ -29,18 +28,11 @@ place_step l k h =
     let e = transition_of l.labels (place_at l.places k) in
     (k, omega (arith, h, length-map l.places (transition_of l.labels)), get_or-map (transition_of l.labels) l.places k (0, 0, 0) e h)
 
-module _ (l : Grouped) (blocks : List ℕ) (lts : IsLts l) (n at f0 c0 : ℕ) (state next end back : ℕ → ℕ) (B : ℕ → ℕ → Type 0) (count : ℕ)
-    (item : ℕ → Item) (lists : List (List (ℕ × ℕ))) (mark : ℕ → Mark)
-    (this : B f0 c0) (on : AreOnPath n state mark) (signed : AreSigned l blocks mark lists) (rows : AreRows l n at state next end back)
-    (read : (p : ℕ) → f0 ≤ p → p < n → next p ≡ end p)
-    (accounts : AccountsAll l blocks n state next B back count item lists mark) where
-  -- the component has collected the pair
-  abbrev pub Collected : ℕ × ℕ → Type 0
-  Collected z = (j : ℕ) × (c0 ≤ j) × (j < count) × Gives lists (item j) z
-
-  from_held : (p : ℕ) → f0 ≤ p → (z : ℕ × ℕ) → Holds B count item lists p z → Collected z
-  from_held p h z (j, lj, g, bounds) = (j, (bounds f0 c0 this).0 h, lj, g)
-
+module _ (l : Grouped) (blocks : List ℕ) (lts : IsLts l) (n at f0 : ℕ) (state next end back : ℕ → ℕ) (B : ℕ → ℕ → Type 0)
+    (holds : ℕ → ℕ × ℕ → Type 0) (lists : List (List (ℕ × ℕ))) (mark : ℕ → Mark) (Collected : ℕ × ℕ → Type 0)
+    (this : (c : ℕ) × B f0 c) (on : AreOnPath n state mark) (signed : AreSigned l blocks mark lists) (rows : AreRows l n at state next end back)
+    (read : (p : ℕ) → f0 ≤ p → p < n → next p ≡ end p) (from_held : (p : ℕ) → f0 ≤ p → (z : ℕ × ℕ) → holds p z → Collected z)
+    (accounts : AccountsAll l blocks n state next B back holds lists mark) where
   -- each transition of the component was read
   was_read : (p k : ℕ) → f0 ≤ p → p < n → k < length l.places → source_of (place_at l.places k) ≡ state p → k < next p
   was_read p k h lp lk source =
@@ -57,23 +49,23 @@ module _ (l : Grouped) (blocks : List ℕ) (lts : IsLts l) (n at f0 c0 : ℕ) (s
       let place = step_place l u t (text_of l.labels z.0) step in
       let k : ℕ = place.0 in
       let source : source_of (place_at l.places k) ≡ state p = place.2 ∙ sym e in
-      let this = accounts p k lp place.1 source (was_read p k h lp place.1 source) in
+      let account = accounts p k lp place.1 source (was_read p k h lp place.1 source) in
       let in_range = lts.in_range.each k (0, 0, 0) place.1 in
       let number : label_of (place_at l.places k) ≡ z.0 = lts.table.different (label_of (place_at l.places k)) z.0 in_range.label low place.3 in
       let block : slice_index blocks (target_of (place_at l.places k)) ≡ z.1 = ap (slice_index blocks) place.4 ∙ is in
       let same : pair_under blocks (place_at l.places k) ≡ z = λ i. (number i, block i) in
       from_held p h z
-      (subst (Holds B count item lists p) same (this.shown (λ inert. other (sym place.3 ∙ inert.0, sym block ∙ inert.1))))
+      (subst (holds p) same (account.shown (λ inert. other (sym place.3 ∙ inert.0, sym block ∙ inert.1))))
   collects z (x ∷ us) p h lp u t (first, rest) step is other low =
       let place = step_place l (state p) x internal first.0 in
       let k : ℕ = place.0 in
-      let this = accounts p k lp place.1 place.2 (was_read p k h lp place.1 place.2) in
+      let account = accounts p k lp place.1 place.2 (was_read p k h lp place.1 place.2) in
       let same : slice_index blocks (target_of (place_at l.places k)) ≡ slice_index blocks (state p) = ap (slice_index blocks) place.4 ∙ first.1 in
-      elim (this.followed (place.3, same)) [
+      elim (account.followed (place.3, same)) [
         | inl up ↦
             let was = on.only (target_of (place_at l.places k)) up.0 up.1 in
             let there : x ≡ state up.0 = sym (was.1 ∙ place.4) in
-            collects z us up.0 ((up.2 f0 c0 this_bound).0 h) was.0 u t
+            collects z us up.0 ((up.2 f0 this.0 this.1).0 h) was.0 u t
             (subst (λ y. Along (Inert (system_of l) (slice_index blocks)) y us u) there rest) step is
             (λ inert. other (inert.0, inert.1 ∙ ap (slice_index blocks) was.1 ∙ same)) low
         | inr done ↦
@@ -91,19 +83,14 @@ module _ (l : Grouped) (blocks : List ℕ) (lts : IsLts l) (n at f0 c0 : ℕ) (s
             ) in
             from_held p h z (done.2 z ((signature.exactly z.0 z.1).1 has))
       ]
-    where
-      this_bound : B f0 c0
-      this_bound = this
 
   -- a list of what was collected is the signature of each state of the component
-  pub collected_is_signature : (bounds : (f c : ℕ) → B f c → f ≤ f0) → (in_order : (f c g d : ℕ) → B f c → B g d → f ≤ g → c ≤ d)
-      → Connects l blocks n state B count item lists → (list : List (ℕ × ℕ)) → IsStrictlySortedBy pair_cmp list
+  pub collected_is_signature : ((p : ℕ) → f0 ≤ p → p < n → (z : ℕ × ℕ) → Collected z → HasPair branching l blocks (state p) z.0 z.1)
+      → (list : List (ℕ × ℕ)) → IsStrictlySortedBy pair_cmp list
       → ((z : ℕ × ℕ) → Contains list z ↔ Collected z) → (p : ℕ) → f0 ≤ p → p < n → IsSignature branching l blocks (state p) list
-  collected_is_signature bounds in_order connects list rising collected p h lp = record {
+  collected_is_signature sound list rising collected p h lp = record {
     exactly = λ k b. (
-      λ c.
-          let g = (collected (k, b)).0 c in
-          connects.sound p g.0 (k, b) lp g.2 (λ f d bound le. let lower = in_order f d f0 c0 bound this (bounds f d bound) in omega (arith, lower, g.1)) g.3,
+      λ c. sound p h lp (k, b) ((collected (k, b)).0 c),
       λ has. (collected (k, b)).1 (collects (k, b) has.1.2.0 p h lp has.1.0 has.1.1 has.1.2.1 has.1.3 has.1.4 has.1.5 has.0),
     );
     rising = rising;

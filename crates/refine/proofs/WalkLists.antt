@@ -1,18 +1,18 @@
 -- What the small steps of the walk do with their lists.
-use Rattle.std.proofs.Common.{◌≡◌, ◌≢◌, ◌⊎◌, ◌↔◌, ℕ, ◌+◌, ◌<◌, ◌≤◌, List, [], ◌∷◌, ◌++◌, length, get_or, set, Contains, sym, ◌∙◌, ap, subst, inl, inr, arith}
+use Rattle.std.proofs.Common.{◌≡◌, ◌≢◌, ◌⊎◌, ◌↔◌, ℕ, ◌+◌, ◌-◌, ◌<◌, ◌≤◌, List, [], ◌∷◌, ◌++◌, length, get_or, set, drop, slice_index, Contains, sym, ◌∙◌, ap, subst, inl, inr, arith}
 use Rattle.std.specs.List.Sorted.{IsStrictlySortedBy}
 use Rattle.std.proofs.lemmas.Bool.{cases_eq}
-use Rattle.std.proofs.lemmas.List.{get_or-set_same, get_or-set_other, get_or_default, get_or_append_left, get_or_push, length_push}
-use Rattle.refine.specs.Lists.{list_at, merged, Grow}
+use Rattle.std.proofs.lemmas.List.{get_or-set_same, get_or-set_other, get_or_default, get_or_append_left, get_or_push, get_or-drop, length-drop, length_push}
+use Rattle.std.proofs.lemmas.List.Elements.{Contains-get_or}
+use Rattle.theory.proofs.Deciding.{contains_none}
+use Rattle.refine.specs.Lists.{list_at, merged, AreLists, Grow}
 use Rattle.refine.specs.Signed.{pair_cmp}
-use Rattle.refine.specs.Walks.{mark_at, item_at, Gives}
-use Rattle.refine.specs.Steps.{IsGiven, IsCollected, IsLacking}
+use Rattle.refine.specs.Walks.{mark_at}
+use Rattle.refine.specs.Steps.{IsListed, IsGiven, IsCollected, IsLacking}
+use Rattle.refine.specs.declared.lists.TheConstants.{EMPTY}
 use Rattle.refine.specs.declared.walk.Mark.{Mark}
 use Rattle.refine.specs.declared.walk.Mark.TheVariants.{Unseen, Finished}
-use Rattle.refine.specs.declared.walk.Item.{Item}
-use Rattle.refine.specs.declared.walk.Item.TheVariants.{Listed}
 use Rattle.refine.proofs.Merging.{has_or_lacks, merged_has, merged_rises}
-use Rattle.refine.proofs.WalkHolds.{Gives-more}
 
 -- a mark that is set
 pub mark_set : (marks : List Mark) (t : ℕ) (m : Mark) → t < length marks → mark_at (set marks t m) t ≡ m
@@ -62,64 +62,135 @@ finish_others old marks f p number x state fp is others s = elim (cases_eq s x) 
   ]
 ]
 
--- the pairs of one item more that a list lacks
-pub collect_more : (lists : List (List (ℕ × ℕ))) (items : List Item) (f i : ℕ) (x : Item) (known old new : List (ℕ × ℕ)) → f ≤ i → x ≡ item_at items i
-    → ((z : ℕ × ℕ) → Contains new z ↔ (Contains old z ⊎ (Gives lists x z × ¬ Contains known z)))
-    → ((z : ℕ × ℕ) → Contains old z ↔ (((j : ℕ) × (f ≤ j) × (j < i) × Gives lists (item_at items j) z) × ¬ Contains known z))
-    → (z : ℕ × ℕ) → Contains new z ↔ (((j : ℕ) × (f ≤ j) × (j < i + 1) × Gives lists (item_at items j) z) × ¬ Contains known z)
-collect_more lists items f i x known old new fi is gathered before z = (
-  λ c. elim ((gathered z).0 c) [
-    | inl o ↦ (let b = (before z).0 o in ((b.0.0, b.0.1, omega (arith, b.0.2), b.0.3), b.1))
-    | inr g ↦ ((i, fi, omega arith, subst (λ y. Gives lists y z) is g.0), g.1)
+-- the first i of the lists of these numbers give the pair
+abbrev pub IsAmong : List (List (ℕ × ℕ)) → List ℕ → ℕ → ℕ × ℕ → Type 0
+IsAmong lists listed i z = (j : ℕ) × (j < i) × Contains (list_at lists (slice_index listed j)) z
+
+-- what one list more has and another lacks
+pub among_more : (lists : List (List (ℕ × ℕ))) (listed : List ℕ) (i x : ℕ) (known start old new : List (ℕ × ℕ)) → x ≡ slice_index listed i
+    → ((z : ℕ × ℕ) → Contains new z ↔ (Contains old z ⊎ (Contains (list_at lists x) z × ¬ Contains known z)))
+    → ((z : ℕ × ℕ) → Contains old z ↔ (Contains start z ⊎ (IsAmong lists listed i z × ¬ Contains known z)))
+    → (z : ℕ × ℕ) → Contains new z ↔ (Contains start z ⊎ (IsAmong lists listed (i + 1) z × ¬ Contains known z))
+among_more lists listed i x known start old new is step before z = (
+  λ c. elim ((step z).0 c) [
+    | inl o ↦ elim ((before z).0 o) [ inl s ↦ inl s | inr ((j, low, h), lacks) ↦ inr ((j, omega (arith, low), h), lacks) ]
+    | inr (h, lacks) ↦ inr ((i, omega arith, subst (λ y. Contains (list_at lists y) z) is h), lacks)
   ],
-  λ (j, lacks). elim (cases_eq j.0 i) [
-    | inl e ↦ (gathered z).1 (inr (subst (λ y. Gives lists y z) (ap (item_at items) e ∙ sym is) j.3, lacks))
-    | inr d ↦ (gathered z).1 (inl ((before z).1 ((j.0, j.1, omega (arith, j.2, d), j.3), lacks)))
+  λ o. elim o [
+    | inl s ↦ (step z).1 (inl ((before z).1 (inl s)))
+    | inr ((j, low, h), lacks) ↦ elim (cases_eq j i) [
+      | inl e ↦ (step z).1 (inr (subst (λ y. Contains (list_at lists y) z) (ap (slice_index listed) e ∙ sym is) h, lacks))
+      | inr d ↦ (step z).1 (inl ((before z).1 (inr ((j, omega (arith, low, d), h), lacks))))
+    ]
   ],
 )
 
--- pairs in order are those that the items give and a list lacks
-pub lacking : (lists : List (List (ℕ × ℕ))) (items : List Item) (f i : ℕ) (known xs zs : List (ℕ × ℕ)) → i ≡ length items → IsStrictlySortedBy pair_cmp zs
-    → ((z : ℕ × ℕ) → Contains zs z ↔ Contains xs z)
-    → ((z : ℕ × ℕ) → Contains xs z ↔ (((j : ℕ) × (f ≤ j) × (j < i) × Gives lists (item_at items j) z) × ¬ Contains known z))
-    → IsLacking lists items f known zs
-lacking lists items f i known xs zs end rising same has = record {
+-- the list is the known one, which lacks nothing that it has
+pub among_known : (lists : List (List (ℕ × ℕ))) (k x : ℕ) (old : List (ℕ × ℕ)) → x ≡ k
+    → (z : ℕ × ℕ) → Contains old z ↔ (Contains old z ⊎ (Contains (list_at lists x) z × ¬ Contains (list_at lists k) z))
+among_known lists k x old is z = (
+  inl,
+  λ o. elim o [ inl c ↦ c | inr (h, lacks) ↦ absurd (lacks (subst (λ y. Contains (list_at lists y) z) is h)) ],
+)
+
+-- all of them were looked at
+pub among_all : (lists : List (List (ℕ × ℕ))) (listed : List ℕ) (i : ℕ) (known start new : List (ℕ × ℕ)) → i ≡ length listed
+    → ((z : ℕ × ℕ) → Contains new z ↔ (Contains start z ⊎ (IsAmong lists listed i z × ¬ Contains known z)))
+    → (z : ℕ × ℕ) → Contains new z ↔ (Contains start z ⊎ (IsListed lists listed z × ¬ Contains known z))
+among_all lists listed i known start new end has z = (
+  λ c. elim ((has z).0 c) [
+    | inl s ↦ inl s
+    | inr ((j, low, h), lacks) ↦
+        let high : j < length listed = omega (arith, low, end) in
+        inr ((slice_index listed j, Contains-get_or listed j 0 high, h), lacks)
+  ],
+  λ o. (has z).1 (elim o [
+    | inl s ↦ inl s
+    | inr ((k, (j, low, e), h), lacks) ↦
+        let is : slice_index listed j ≡ k = get_or_default listed j 0 k low ∙ e in
+        inr ((j, omega (arith, low, end), subst (λ y. Contains (list_at lists y) z) (sym is) h), lacks)
+  ]),
+)
+
+-- the pairs and then the lists were looked at, and what was found was put in order
+pub lacking : (lists : List (List (ℕ × ℕ))) (pairs : List (ℕ × ℕ)) (listed : List ℕ) (known start one two zs : List (ℕ × ℕ)) → start ≡ []
+    → ((z : ℕ × ℕ) → Contains one z ↔ (Contains start z ⊎ (Contains pairs z × ¬ Contains known z)))
+    → ((z : ℕ × ℕ) → Contains two z ↔ (Contains one z ⊎ (IsListed lists listed z × ¬ Contains known z)))
+    → IsStrictlySortedBy pair_cmp zs → ((z : ℕ × ℕ) → Contains zs z ↔ Contains two z) → IsLacking lists pairs listed known zs
+lacking lists pairs listed known start one two zs none first second rising same = record {
   exactly = λ z. (
-    λ c. (let was = (has z).0 ((same z).0 c) in ((was.0.0, was.0.1, omega (arith, was.0.2, end), was.0.3), was.1)),
-    λ (j, lacks). (same z).1 ((has z).1 ((j.0, j.1, omega (arith, j.2, end), j.3), lacks)),
+    λ c. elim ((second z).0 ((same z).0 c)) [
+      | inl o ↦ elim ((first z).0 o) [
+        | inl s ↦ absurd (contains_none z (subst (λ xs. Contains xs z) none s))
+        | inr (h, lacks) ↦ (inl h, lacks)
+      ]
+      | inr (h, lacks) ↦ (inr h, lacks)
+    ],
+    λ (g, lacks). (same z).1 ((second z).1 (elim g [ inl h ↦ inl ((first z).1 (inr (h, lacks))) | inr h ↦ inr (h, lacks) ])),
   );
   rising = rising;
 }
 
--- an item that gives a pair gives it still, where there are more lists
-pub given_before : (old new : List (List (ℕ × ℕ))) → Grow old new → (items : List Item) (f : ℕ)
-    → ((j k : ℕ) → j < length items → item_at items j ≡ Listed k → k < length old)
-    → (z : ℕ × ℕ) → IsGiven old items f z → IsGiven new items f z
-given_before old new grow items f listed z (j, low, high, g) = (j, low, high, Gives-more old new grow (item_at items j) (λ k. listed j k high) z g)
+-- the pairs alone, put in order
+pub collected_pairs : (lists : List (List (ℕ × ℕ))) (pairs xs zs : List (ℕ × ℕ)) → xs ≡ pairs → IsStrictlySortedBy pair_cmp zs
+    → ((z : ℕ × ℕ) → Contains zs z ↔ Contains xs z) → IsCollected lists pairs [] zs
+collected_pairs lists pairs xs zs is rising same = record {
+  exactly = λ z. (
+    λ c. inl (subst (λ ys. Contains ys z) is ((same z).0 c)),
+    λ g. elim g [ inl h ↦ (same z).1 (subst (λ ys. Contains ys z) (sym is) h) | inr (k, c, h) ↦ absurd (contains_none k c) ],
+  );
+  rising = rising;
+}
 
--- what items give, where one of the lists that they refer to and the pairs that it lacks are known
-module _ (lists : List (List (ℕ × ℕ))) (items : List Item) (f : ℕ) (known lacks : List (ℕ × ℕ))
-    (rise : IsStrictlySortedBy pair_cmp known) (given : (z : ℕ × ℕ) → Contains known z → IsGiven lists items f z) (lacking : IsLacking lists items f known lacks) where
-  pub collected_known : lacks ≡ [] → IsCollected lists items f known
+-- nothing at all
+pub collected_none : (lists : List (List (ℕ × ℕ))) (pairs : List (ℕ × ℕ)) → AreLists lists → pairs ≡ [] → IsCollected lists pairs [] (list_at lists EMPTY)
+collected_none lists pairs are none =
+    collected_pairs lists pairs (list_at lists EMPTY) (list_at lists EMPTY) (are.first ∙ sym none) (are.rise EMPTY [] are.some) (λ z. (λ c. c, λ c. c))
+
+-- what is given, where one of the lists and the pairs that it lacks are known
+module _ (lists : List (List (ℕ × ℕ))) (pairs : List (ℕ × ℕ)) (listed : List ℕ) (k : ℕ) (lacks : List (ℕ × ℕ))
+    (are : AreLists lists) (within : k < length lists) (one : (k ≡ EMPTY) ⊎ Contains listed k)
+    (lacking : IsLacking lists pairs listed (list_at lists k) lacks) where
+  rise : IsStrictlySortedBy pair_cmp (list_at lists k)
+  rise = are.rise k [] within
+
+  given : (z : ℕ × ℕ) → Contains (list_at lists k) z → IsGiven lists pairs listed z
+  given z c = elim one [
+    | inl e ↦ absurd (contains_none z (subst (λ xs. Contains xs z) (ap (list_at lists) e ∙ are.first) c))
+    | inr h ↦ inr (k, h, c)
+  ]
+
+  pub collected_known : lacks ≡ [] → IsCollected lists pairs listed (list_at lists k)
   collected_known none = record {
     exactly = λ z. (
       given z,
-      λ g. elim (has_or_lacks known z) [
+      λ g. elim (has_or_lacks (list_at lists k) z) [
         | inl c ↦ c
-        | inr d ↦ (let (k, low, e) : Contains {X = ℕ × ℕ} [] z = subst (λ l. Contains l z) none ((lacking.exactly z).1 (g, d)) in absurd (omega (arith, low)))
+        | inr d ↦ absurd (contains_none z (subst (λ xs. Contains xs z) none ((lacking.exactly z).1 (g, d))))
       ],
     );
     rising = rise;
   }
 
-  pub collected_merged : IsCollected lists items f (merged known lacks)
+  pub collected_merged : IsCollected lists pairs listed (merged (list_at lists k) lacks)
   collected_merged = record {
     exactly = λ z. (
-      λ c. elim ((merged_has z known lacks).0 c) [ inl a ↦ given z a | inr b ↦ ((lacking.exactly z).0 b).0 ],
-      λ g. (merged_has z known lacks).1 (elim (has_or_lacks known z) [ inl c ↦ inl c | inr d ↦ inr ((lacking.exactly z).1 (g, d)) ]),
+      λ c. elim ((merged_has z (list_at lists k) lacks).0 c) [ inl a ↦ given z a | inr b ↦ ((lacking.exactly z).0 b).0 ],
+      λ g. (merged_has z (list_at lists k) lacks).1
+          (elim (has_or_lacks (list_at lists k) z) [ inl c ↦ inl c | inr d ↦ inr ((lacking.exactly z).1 (g, d)) ]),
     );
-    rising = merged_rises known lacks rise lacking.rising;
+    rising = merged_rises (list_at lists k) lacks rise lacking.rising;
   }
+
+-- what a list has from number c on
+pub in_drop : {X : Type 0} (xs : List X) (c j : ℕ) (d z : X) → c ≤ j → j < length xs → get_or xs j d ≡ z → Contains (drop c xs) z
+in_drop xs c j d z low high e =
+    let size = length-drop c xs in
+    let is : c + (j - c) ≡ j = omega (arith, low) in
+    (j - c, omega (arith, size, low, high), get_or-drop c xs (j - c) z ∙ ap (λ k. get_or xs k z) is ∙ get_or_default xs j z d high ∙ e)
+
+pub from_drop : {X : Type 0} (xs : List X) (c : ℕ) (z : X) → Contains (drop c xs) z → (j : ℕ) × (c ≤ j) × (j < length xs) × (get_or xs j z ≡ z)
+from_drop xs c z (i, h, e) = let size = length-drop c xs in (c + i, omega arith, omega (arith, size, h), sym (get_or-drop c xs i z) ∙ e)
 
 -- a list at the end of lists
 pub Grow-push : (lists : List (List (ℕ × ℕ))) (list : List (ℕ × ℕ)) → Grow lists (lists ++ list ∷ [])

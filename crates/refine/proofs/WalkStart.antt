@@ -7,75 +7,76 @@ use Rattle.theory.specs.Bisimulation.Relation.{branching}
 use Rattle.lts.specs.Lts.{Grouped, IsLts, IsRow}
 use Rattle.refine.specs.Lists.{list_of, AreNumbers}
 use Rattle.refine.specs.Signed.{IsSignature}
-use Rattle.refine.specs.Walks.{Laws, mark_at, Walks, Rests}
+use Rattle.refine.specs.Walks.{Laws, mark_at, Parts, Walks, Rests}
 use Rattle.refine.specs.Steps.{Enters}
 use Rattle.refine.specs.Ahead.{is_unseen, unseen, unread, rest, ahead, IsTrail, KeepsSeen, HasNumbers, AreIdle}
 use Rattle.refine.specs.declared.walk.Mark.{Mark}
 use Rattle.refine.specs.declared.walk.Mark.TheVariants.{Unseen, OnPath, Finished}
 use Rattle.refine.specs.declared.walk.Visit.{Visit}
-use Rattle.refine.specs.declared.walk.Walk.{Walk}
 use Rattle.refine.proofs.WalkMarks.{not_unseen, not_finished}
 use Rattle.refine.proofs.WalkLists.{mark_set}
 use Rattle.refine.proofs.WalkAhead.{unseen-entered, unread-entered, unread-all, unread-none, rest-push}
 use Rattle.refine.proofs.WalkSteps.{Walks-enter}
 use Rattle.refine.proofs.WalkLeave.{Walks-none}
-use Rattle.refine.proofs.WalkAdvance.{walks_same, seen_more}
+use Rattle.refine.proofs.WalkAdvance.{enters_is, seen_more}
 
 -- the first state of a walk was entered
-module _ (laws : Laws) (l : Grouped) (blocks : List ℕ) (lists : List (List (ℕ × ℕ))) (old new : Walk) (s start end : ℕ)
-    (no_path : old.path.items ≡ []) (no_bounds : old.bounds.items ≡ []) (no_items : old.items.items ≡ [])
-    (rests : Rests l blocks lists old.marks.items) (numbers : HasNumbers l.states (length lists) 0 old.marks.items)
-    (inside : s < l.states) (none : mark_at old.marks.items s ≡ Unseen) (row : IsRow l.places s start end) (enters : Enters s start end 0 old new) where
+module _ (laws : Laws) (l : Grouped) (blocks : List ℕ) (lists : List (List (ℕ × ℕ))) (marks : List Mark) (trail : List ℕ) (at : ℕ) (old new : Parts) (s start end : ℕ)
+    (empty : old ≡ record { marks = marks; trail = trail; path = []; at = at; bounds = []; pairs = []; listed = [] })
+    (rests : Rests l blocks lists marks) (numbers : HasNumbers l.states (length lists) 0 marks)
+    (inside : s < l.states) (none : mark_at marks s ≡ Unseen) (row : IsRow l.places s start end) (enters : Enters s start end 0 old new) where
   abbrev First : Visit
   First = record { state = s; next = start; end = end; back = 0 }
 
-  within : s < length old.marks.items
+  abbrev Begun : Parts
+  Begun = record {
+    marks = set marks s (OnPath 0);
+    trail = trail ++ s ∷ [];
+    path = First ∷ [];
+    at = 0;
+    bounds = record { place = 0; pairs = 0; listed = 0 } ∷ [];
+    pairs = [];
+    listed = [];
+  }
+
+  within : s < length marks
   within = omega (arith, inside, numbers.size)
 
-  marks_are : new.marks.items ≡ set old.marks.items s (OnPath 0)
-  marks_are = enters.marks ∙ ap (λ p. set old.marks.items s (OnPath (length p))) no_path
+  begun : Begun ≡ new
+  begun =
+      enters_is s start end 0 (record { marks = marks; trail = trail; path = []; at = at; bounds = []; pairs = []; listed = [] }) new
+      (subst (λ w. Enters s start end 0 w new) empty enters)
 
-  path_is : new.path.items ≡ First ∷ []
-  path_is = enters.path ∙ ap (λ p. p ++ First ∷ []) no_path
-
-  bounds_are : new.bounds.items ≡ record { place = 0; items = 0 } ∷ []
-  bounds_are = enters.bounds ∙ (λ i. no_bounds i ++ record { place = length (no_path i); items = length (no_items i) } ∷ [])
-
-  pub started_walks : Walks l blocks lists new.marks.items new.path.items new.at new.bounds.items new.items.items
+  pub started_walks : Walks l blocks lists new
   started_walks =
-      walks_same l blocks lists (set old.marks.items s (OnPath 0)) new.marks.items (First ∷ []) new.path.items 0 new.at
-      (record { place = 0; items = 0 } ∷ []) new.bounds.items [] new.items.items marks_are path_is (enters.at ∙ ap length no_path) bounds_are
-      (enters.items ∙ no_items)
-      (Walks-enter laws l blocks lists old.marks.items [] 0 [] [] (Walks-none l blocks lists old.marks.items 0 rests) s start end within none inside row
-      (λ h. absurd (omega (arith, h))) (λ e. refl))
+      subst (Walks l blocks lists) begun
+      (Walks-enter laws l blocks lists _ (Walks-none l blocks lists marks trail 0 rests) s start end within none inside row
+      (λ h. absurd (omega (arith, h))) (λ e. (refl, refl)))
 
-  pub started_numbers : HasNumbers l.states (length lists) (length new.path.items) new.marks.items
+  pub started_numbers : HasNumbers l.states (length lists) (length new.path) new.marks
   started_numbers =
-      let size : length new.path.items ≡ 1 = ap length path_is in
-      let fewer = unseen-entered old.marks.items s 0 within none in
-      let same : unseen new.marks.items ≡ unseen (set old.marks.items s (OnPath 0)) = ap unseen marks_are in
+      let fewer = unseen-entered marks s 0 within none in
       let room = numbers.numbers in
-      record {
-        size = ap length marks_are ∙ length-set old.marks.items s (OnPath 0) ∙ numbers.size;
+      subst (λ w. HasNumbers l.states (length lists) (length w.path) w.marks) begun (record {
+        size = length-set marks s (OnPath 0) ∙ numbers.size;
         some = numbers.some;
-        numbers = omega (arith, size, fewer, same, room);
-      }
+        numbers = omega (arith, fewer, room);
+      })
 
-  pub started_ahead : ahead l.places new.marks.items new.path.items ≡ unread l.places old.marks.items
+  pub started_ahead : ahead l.places new.marks new.path ≡ unread l.places marks
   started_ahead =
-      let fewer = unread-entered l.places old.marks.items s 0 within none in
-      let same : unread l.places new.marks.items ≡ unread l.places (set old.marks.items s (OnPath 0)) = ap (unread l.places) marks_are in
-      let left : rest new.path.items ≡ rest ([] ++ First ∷ []) = ap rest path_is in
+      let fewer = unread-entered l.places marks s 0 within none in
       let first : rest ([] ++ First ∷ []) ≡ 0 + (end - start) = rest-push [] First in
       let count = row.count in
-      omega (arith, fewer, same, left, first, count)
+      let all : ahead l.places Begun.marks Begun.path ≡ unread l.places marks = omega (arith, fewer, first, count) in
+      subst (λ w. ahead l.places w.marks w.path ≡ unread l.places marks) begun all
 
-  pub started_seen : KeepsSeen old.marks.items new.marks.items
-  started_seen t is = seen_more old.marks.items s 0 within t (subst (λ ms. mark_at ms t ≡ Unseen) marks_are is)
+  pub started_seen : KeepsSeen marks new.marks
+  started_seen = subst (λ w. KeepsSeen marks w.marks) begun (seen_more marks s 0 within)
 
-  pub started_found : mark_at new.marks.items s ≢ Unseen
+  pub started_found : mark_at new.marks s ≢ Unseen
   started_found is =
-      not_unseen 0 (sym (mark_set old.marks.items s (OnPath 0) within) ∙ ap (λ ms. mark_at ms s) (sym marks_are) ∙ is)
+      not_unseen 0 (sym (mark_set marks s (OnPath 0) within) ∙ ap (λ w. mark_at w.marks s) begun ∙ is)
 
 -- nothing was seen yet
 module _ (l : Grouped) (blocks : List ℕ) (lists : List (List (ℕ × ℕ))) (marks : List Mark) (trail : List ℕ) (idle : AreIdle l.states marks trail) where

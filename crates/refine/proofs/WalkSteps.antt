@@ -1,36 +1,28 @@
 -- What holds of the walk holds after each of its steps.
-use Rattle.std.proofs.Common.{◌≡◌, ◌≢◌, ℕ, ◌+◌, ◌-◌, ◌<◌, ◌≤◌, List, [], ◌∷◌, ◌++◌, length, set, slice_index, refl, sym, ◌∙◌, ap, subst, inl, inr, arith}
+use Rattle.std.proofs.Common.{◌≡◌, ◌≢◌, ◌⊎◌, ℕ, ◌+◌, ◌-◌, ◌<◌, ◌≤◌, List, [], ◌∷◌, ◌++◌, length, set, slice_index, Contains, refl, sym, ◌∙◌, ap, subst, inl, inr, arith}
+use Rattle.std.specs.Prelude.{slice_index_or}
 use Rattle.std.proofs.lemmas.Bool.{cases_eq}
 use Rattle.std.proofs.lemmas.List.{get_or_append_left, get_or_push, length_push, length-set, get_or-set_same, get_or-set_other}
+use Rattle.std.proofs.lemmas.List.Elements.{All-push}
 use Rattle.theory.specs.Bisimulation.Relation.{branching}
 use Rattle.theory.specs.Blocks.{Inert}
 use Rattle.lts.specs.Lts.{Grouped, Triple, target_of, place_at, system_of, IsRow}
+use Rattle.refine.specs.Lists.{list_at}
 use Rattle.refine.specs.Signed.{HasPair}
 use Rattle.refine.specs.StrongPairs.{pair_under}
-use Rattle.refine.specs.Walks.{Laws, mark_at, visit_at, state_at, next_at, end_at, back_at, bound_at, item_at, IsBound, Gives, IsInert, AreOnPath, AreBounds, Connects, AreRows, Accounts, AccountsAll, Holds, Walks}
+use Rattle.refine.specs.Walks.{Laws, mark_at, visit_at, state_at, next_at, end_at, back_at, HasRead, bound_at, Begins, BeginsPairs, BeginsListed, GivesPair, GivesListed, IsInert, AreOnPath, AreBounds, Connects, IsSound, AreRows, Accounts, AccountsAll, Holds, Parts, Held, Walks}
 use Rattle.refine.specs.Steps.{Cuts}
-use Rattle.refine.specs.declared.walk.Mark.{Mark}
 use Rattle.refine.specs.declared.walk.Mark.TheVariants.{Unseen, OnPath, Finished}
 use Rattle.refine.specs.declared.walk.Visit.{Visit}
 use Rattle.refine.specs.declared.walk.Bound.{Bound}
-use Rattle.refine.specs.declared.walk.Item.{Item}
-use Rattle.refine.specs.declared.walk.Item.TheVariants.{Pair, Listed}
-use Rattle.refine.proofs.WalkHolds.{Holds-last}
+use Rattle.refine.proofs.WalkHolds.{Holds-bounds, Holds-more, Holds-last}
 use Rattle.refine.proofs.WalkMarks.{AreOnPath-enter, AreSigned-enter}
 use Rattle.refine.proofs.WalkBounds.{AreBounds-item, AreBounds-join, AreBounds-enter, AreBounds-back}
-use Rattle.refine.proofs.WalkConnects.{Connects-item, Connects-join, Connects-enter}
+use Rattle.refine.proofs.WalkConnects.{Ties, IsSound-more, Connects-join, IsSound-join, Connects-enter, IsSound-enter}
 use Rattle.refine.proofs.WalkRows.{Rows-enter, Rows-back, AreRows-next}
-use Rattle.refine.proofs.WalkAccounts.{AccountsAll-item, AccountsAll-join, AccountsAll-enter, AccountsAll-next}
-use Rattle.refine.proofs.WalkCuts.{bound_old_or_new, bound_up, bound_new, AreRising-push, cut_old, cut_keep, cut_below, cut_rising, last_bound, last_greatest}
+use Rattle.refine.proofs.WalkAccounts.{AccountsAll-keep, AccountsAll-enter, AccountsAll-next}
+use Rattle.refine.proofs.WalkCuts.{bound_old_or_new, bound_up, bound_new, bound_here, AreRising-push, cut_old, cut_keep, cut_below, cut_rising, last_bound, last_greatest}
 use Rattle.refine.proofs.WalkLists.{mark_set, mark_other}
-
--- an item at the end of items
-module _ (items : List Item) (x : Item) where
-  pub item_before : (j : ℕ) → j < length items → item_at (items ++ x ∷ []) j ≡ item_at items j
-  item_before j h = get_or_append_left items _ _ j h
-
-  pub item_last : item_at (items ++ x ∷ []) (length items) ≡ x
-  item_last = get_or_push items x _ (length items) refl
 
 -- a visit at the end of the path
 module _ (path : List Visit) (v : Visit) where
@@ -40,228 +32,379 @@ module _ (path : List Visit) (v : Visit) where
   pub visit_last : visit_at (path ++ v ∷ []) (length path) ≡ v
   visit_last = get_or_push path v _ (length path) refl
 
-module _ (laws : Laws) (l : Grouped) (blocks : List ℕ) (lists : List (List (ℕ × ℕ))) (marks : List Mark) (path : List Visit) (at : ℕ)
-    (bounds : List Bound) (items : List Item) (walks : Walks l blocks lists marks path at bounds items) where
-  -- an item more
-  module _ (x : Item) where
-    abbrev More : List Item
-    More = items ++ x ∷ []
+module _ (laws : Laws) (l : Grouped) (blocks : List ℕ) (lists : List (List (ℕ × ℕ))) (w : Parts) (walks : Walks l blocks lists w) where
+  -- inert steps lead from each state on the path to the state where the walk is
+  pub ties : (p : ℕ) → p < length w.path → 0 < length w.path → Ties l blocks (state_at w.path p) (state_at w.path w.at)
+  ties p low some = walks.connects p w.at low (walks.rows.here some) (λ f c b le. walks.of_pairs.reached f c b)
 
-    pub Walks-item : (0 < length path → (z : ℕ × ℕ) → Gives lists x z → HasPair branching l blocks (state_at path at) z.0 z.1)
-        → ((k : ℕ) → x ≡ Listed k → k < length lists) → Walks l blocks lists marks path at bounds More
-    Walks-item new listed =
-        let size : length items + 1 ≡ length More = sym (length_push items x) in
-        let same = item_before items x in
-        record {
-          on_path = walks.on_path;
-          signed = walks.signed;
-          bounded =
-              subst (λ k. AreBounds (length path) at k (back_at path) (IsBound bounds)) size
-              (AreBounds-item (length path) at (length items) (back_at path) (IsBound bounds) walks.bounded);
-          rising = walks.rising;
-          connects =
-              subst (λ k. Connects l blocks (length path) (state_at path) (IsBound bounds) k (item_at More) lists) size
-              (Connects-item laws l blocks (length path) at (state_at path) (IsBound bounds) (length items) (item_at items) (item_at More) lists
-              walks.rows.here walks.bounded.reached same (λ some z g. new some z (subst (λ y. Gives lists y z) (item_last items x) g))
-              (λ k is. listed k (sym (item_last items x) ∙ is)) walks.connects);
-          rows = walks.rows;
-          accounts =
-              subst (λ k. AccountsAll l blocks (length path) (state_at path) (next_at path) (IsBound bounds) (back_at path) k (item_at More) lists (mark_at marks)) size
-              (AccountsAll-item l blocks (IsBound bounds) (back_at path) (length items) (item_at items) (item_at More) lists (mark_at marks) same
-              (length path) (state_at path) (next_at path) walks.accounts);
-        }
+  -- a pair more
+  module _ (z : ℕ × ℕ) where
+    abbrev pub WithPair : Parts
+    WithPair = record w { pairs = w.pairs ++ z ∷ [] }
 
-    -- the place where the walk is holds what it gives
-    pub holds_item : (z : ℕ × ℕ) → Gives lists x z → Holds (IsBound bounds) (length More) (item_at More) lists at z
-    holds_item z g =
-        subst (λ k. Holds (IsBound bounds) k (item_at More) lists at z) (sym (length_push items x))
-        (Holds-last (IsBound bounds) (length items) (item_at More) lists at walks.bounded.reached walks.bounded.items z
-        (subst (λ y. Gives lists y z) (sym (item_last items x)) g))
+    pairs_size : length w.pairs + 1 ≡ length WithPair.pairs
+    pairs_size = sym (length_push w.pairs z)
 
-  -- a step that is not inert is accounted for by its pair
-  pub accounts_pair : (s : ℕ) (e : Triple) (x : Item) → x ≡ Pair (pair_under blocks e).0 (pair_under blocks e).1 → ¬ IsInert l blocks s e
-      → Accounts l blocks (IsBound bounds) (back_at path) (length (items ++ x ∷ [])) (item_at (items ++ x ∷ [])) lists (mark_at marks) s at e
-  accounts_pair s e x is other = record {
-    shown = λ _. holds_item x (pair_under blocks e) (subst (λ y. Gives lists y (pair_under blocks e)) (sym is) refl);
-    followed = λ inert. absurd (other inert);
-  }
+    pair_same : (j : ℕ) → j < length w.pairs → slice_index_or WithPair.pairs j (0, 0) ≡ slice_index_or w.pairs j (0, 0)
+    pair_same j h = get_or_append_left w.pairs _ _ j h
 
-  -- an inert step to a finished state is accounted for by its list
-  pub accounts_finished : (s k : ℕ) (e : Triple) → IsInert l blocks s e → mark_at marks (target_of e) ≡ Finished k
-      → Accounts l blocks (IsBound bounds) (back_at path) (length (items ++ Listed k ∷ [])) (item_at (items ++ Listed k ∷ [])) lists (mark_at marks) s at e
-  accounts_finished s k e inert is = record {
-    shown = λ other. absurd (other inert);
-    followed = λ _. inr (k, is, λ z c. holds_item (Listed k) z c);
-  }
+    pair_last : slice_index_or WithPair.pairs (length w.pairs) (0, 0) ≡ z
+    pair_last = get_or_push w.pairs z _ (length w.pairs) refl
+
+    held_still : (p : ℕ) (y : ℕ × ℕ) → Held lists w p y → Held lists WithPair p y
+    held_still p y (inl h) =
+        inl
+        (subst (λ k. Holds (BeginsPairs w.bounds) k (GivesPair WithPair.pairs) p y) pairs_size
+        (Holds-more (BeginsPairs w.bounds) (length w.pairs) (GivesPair w.pairs) (GivesPair WithPair.pairs) p (λ j low x g. pair_same j low ∙ g) y h))
+    held_still p y (inr h) = inr h
+
+    -- the place where the walk is holds it
+    pub holds_pair : Held lists WithPair w.at z
+    holds_pair =
+        inl
+        (subst (λ k. Holds (BeginsPairs w.bounds) k (GivesPair WithPair.pairs) w.at z) pairs_size
+        (Holds-last (BeginsPairs w.bounds) (length w.pairs) (GivesPair WithPair.pairs) w.at walks.of_pairs.reached walks.of_pairs.within z pair_last))
+
+    pub Walks-pair : (0 < length w.path → HasPair branching l blocks (state_at w.path w.at) z.0 z.1) → Walks l blocks lists WithPair
+    Walks-pair new = record {
+      on_path = walks.on_path;
+      signed = walks.signed;
+      of_pairs =
+          subst (λ k. AreBounds (length w.path) w.at k (back_at w.path) (BeginsPairs w.bounds)) pairs_size
+          (AreBounds-item (length w.path) w.at (length w.pairs) (back_at w.path) (BeginsPairs w.bounds) walks.of_pairs);
+      of_listed = walks.of_listed;
+      rising = walks.rising;
+      connects = walks.connects;
+      sound_pairs =
+          subst (λ k. IsSound l blocks (length w.path) (state_at w.path) (BeginsPairs w.bounds) k (GivesPair WithPair.pairs)) pairs_size
+          (IsSound-more laws l blocks (length w.path) w.at (state_at w.path) (BeginsPairs w.bounds) (length w.pairs) (GivesPair w.pairs) (GivesPair WithPair.pairs)
+          walks.rows.here ties (λ j low y g. sym (pair_same j low) ∙ g)
+          (λ some y g. subst (λ (x : ℕ × ℕ). HasPair branching l blocks (state_at w.path w.at) x.0 x.1) (sym pair_last ∙ g) (new some)) walks.sound_pairs);
+      sound_listed = walks.sound_listed;
+      listed = walks.listed;
+      rows = walks.rows;
+      accounts =
+          AccountsAll-keep l blocks (BeginsPairs w.bounds) (BeginsPairs w.bounds) (back_at w.path) (Held lists w) (Held lists WithPair) lists (mark_at w.marks)
+          (λ f c b. b) held_still (length w.path) (state_at w.path) (next_at w.path) walks.accounts;
+    }
+
+    -- a step that is not inert is accounted for by its pair
+    pub accounts_pair : (s : ℕ) (e : Triple) → z ≡ pair_under blocks e → ¬ IsInert l blocks s e
+        → Accounts l blocks (BeginsPairs w.bounds) (back_at w.path) (Held lists WithPair w.at) lists (mark_at w.marks) s w.at e
+    accounts_pair s e is other = record { shown = λ _. subst (Held lists WithPair w.at) is holds_pair; followed = λ inert. absurd (other inert) }
+
+  -- a list more
+  module _ (k : ℕ) where
+    abbrev pub WithList : Parts
+    WithList = record w { listed = w.listed ++ k ∷ [] }
+
+    listed_size : length w.listed + 1 ≡ length WithList.listed
+    listed_size = sym (length_push w.listed k)
+
+    listed_same : (j : ℕ) → j < length w.listed → slice_index WithList.listed j ≡ slice_index w.listed j
+    listed_same j h = get_or_append_left w.listed _ _ j h
+
+    listed_last : slice_index WithList.listed (length w.listed) ≡ k
+    listed_last = get_or_push w.listed k _ (length w.listed) refl
+
+    has_same : (y : ℕ × ℕ) (i j : ℕ) → i ≡ j → Contains (list_at lists i) y → Contains (list_at lists j) y
+    has_same y i j e = subst (λ x. Contains (list_at lists x) y) e
+
+    listed_still : (p : ℕ) (y : ℕ × ℕ) → Held lists w p y → Held lists WithList p y
+    listed_still p y (inl h) = inl h
+    listed_still p y (inr h) =
+        inr
+        (subst (λ n. Holds (BeginsListed w.bounds) n (GivesListed lists WithList.listed) p y) listed_size
+        (Holds-more (BeginsListed w.bounds) (length w.listed) (GivesListed lists w.listed) (GivesListed lists WithList.listed) p
+        (λ j low x g. has_same x (slice_index w.listed j) (slice_index WithList.listed j) (sym (listed_same j low)) g) y h))
+
+    -- the place where the walk is holds all its pairs
+    pub holds_listed : (y : ℕ × ℕ) → Contains (list_at lists k) y → Held lists WithList w.at y
+    holds_listed y c =
+        inr
+        (subst (λ n. Holds (BeginsListed w.bounds) n (GivesListed lists WithList.listed) w.at y) listed_size
+        (Holds-last (BeginsListed w.bounds) (length w.listed) (GivesListed lists WithList.listed) w.at walks.of_listed.reached walks.of_listed.within y
+        (has_same y k (slice_index WithList.listed (length w.listed)) (sym listed_last) c)))
+
+    pub Walks-listed : k < length lists → (0 < length w.path → (y : ℕ × ℕ) → Contains (list_at lists k) y → HasPair branching l blocks (state_at w.path w.at) y.0 y.1)
+        → Walks l blocks lists WithList
+    Walks-listed within new = record {
+      on_path = walks.on_path;
+      signed = walks.signed;
+      of_pairs = walks.of_pairs;
+      of_listed =
+          subst (λ n. AreBounds (length w.path) w.at n (back_at w.path) (BeginsListed w.bounds)) listed_size
+          (AreBounds-item (length w.path) w.at (length w.listed) (back_at w.path) (BeginsListed w.bounds) walks.of_listed);
+      rising = walks.rising;
+      connects = walks.connects;
+      sound_pairs = walks.sound_pairs;
+      sound_listed =
+          subst (λ n. IsSound l blocks (length w.path) (state_at w.path) (BeginsListed w.bounds) n (GivesListed lists WithList.listed)) listed_size
+          (IsSound-more laws l blocks (length w.path) w.at (state_at w.path) (BeginsListed w.bounds) (length w.listed) (GivesListed lists w.listed)
+          (GivesListed lists WithList.listed) walks.rows.here ties
+          (λ j low y g. has_same y (slice_index WithList.listed j) (slice_index w.listed j) (listed_same j low) g)
+          (λ some y g. new some y (has_same y (slice_index WithList.listed (length w.listed)) k listed_last g)) walks.sound_listed);
+      listed = All-push (λ n. n < length lists) w.listed k walks.listed within;
+      rows = walks.rows;
+      accounts =
+          AccountsAll-keep l blocks (BeginsPairs w.bounds) (BeginsPairs w.bounds) (back_at w.path) (Held lists w) (Held lists WithList) lists (mark_at w.marks)
+          (λ f c b. b) listed_still (length w.path) (state_at w.path) (next_at w.path) walks.accounts;
+    }
+
+    -- an inert step to a finished state is accounted for by its list
+    pub accounts_finished : (s : ℕ) (e : Triple) → IsInert l blocks s e → mark_at w.marks (target_of e) ≡ Finished k
+        → Accounts l blocks (BeginsPairs w.bounds) (back_at w.path) (Held lists WithList w.at) lists (mark_at w.marks) s w.at e
+    accounts_finished s e inert is = record { shown = λ other. absurd (other inert); followed = λ _. inr (k, is, λ z c. holds_listed z c) }
 
   -- bounds are cut back to place q, where an inert step leads
-  module _ (q : ℕ) (bounds' : List Bound) (cuts : Cuts q bounds bounds') where
-    pub Walks-join : q < length path → Inert (system_of l) (slice_index blocks) (state_at path at) (state_at path q)
-        → Walks l blocks lists marks path at bounds' items
+  module _ (q : ℕ) (bounds' : List Bound) (cuts : Cuts q w.bounds bounds') where
+    abbrev pub Joined : Parts
+    Joined = record w { bounds = bounds' }
+
+    held_joined : (p : ℕ) (y : ℕ × ℕ) → Held lists w p y → Held lists Joined p y
+    held_joined p y (inl h) =
+        inl
+        (Holds-bounds (BeginsPairs w.bounds) (BeginsPairs bounds') (length w.pairs) (GivesPair w.pairs) p
+        (λ f c b. inl (cut_old q w.bounds bounds' cuts walks.rising (λ x. x.pairs) f c b)) y h)
+    held_joined p y (inr h) =
+        inr
+        (Holds-bounds (BeginsListed w.bounds) (BeginsListed bounds') (length w.listed) (GivesListed lists w.listed) p
+        (λ f c b. inl (cut_old q w.bounds bounds' cuts walks.rising (λ x. x.listed) f c b)) y h)
+
+    joined_bounds : (start : Bound → ℕ) (count : ℕ) → AreBounds (length w.path) w.at count (back_at w.path) (Begins start w.bounds)
+        → AreBounds (length w.path) w.at count (back_at w.path) (Begins start bounds')
+    joined_bounds start count =
+        AreBounds-join (length w.path) w.at count q (back_at w.path) (Begins start w.bounds) (Begins start bounds')
+        (cut_old q w.bounds bounds' cuts walks.rising start) (cut_keep q w.bounds bounds' cuts walks.rising start)
+
+    pub Walks-join : q < length w.path → Inert (system_of l) (slice_index blocks) (state_at w.path w.at) (state_at w.path q) → Walks l blocks lists Joined
     Walks-join low step =
-        let old_one = cut_old q bounds bounds' cuts walks.rising in
-        let keep = cut_keep q bounds bounds' cuts walks.rising in
+        let some : 0 < length w.path = omega (arith, low) in
+        let tie = λ (p : ℕ) (lp : p < length w.path). ties p lp some in
+        let keep_pairs = cut_keep q w.bounds bounds' cuts walks.rising (λ x. x.pairs) in
+        let keep_listed = cut_keep q w.bounds bounds' cuts walks.rising (λ x. x.listed) in
         record {
           on_path = walks.on_path;
           signed = walks.signed;
-          bounded = AreBounds-join (length path) at (length items) q (back_at path) (IsBound bounds) (IsBound bounds') old_one keep walks.bounded;
-          rising = cut_rising q bounds bounds' cuts walks.rising;
+          of_pairs = joined_bounds (λ x. x.pairs) (length w.pairs) walks.of_pairs;
+          of_listed = joined_bounds (λ x. x.listed) (length w.listed) walks.of_listed;
+          rising = cut_rising q w.bounds bounds' cuts walks.rising;
           connects =
-              Connects-join laws l blocks (length path) at q (state_at path) (IsBound bounds) (IsBound bounds') (length items) (item_at items) lists
-              (walks.rows.here (omega (arith, low))) low walks.bounded.reached (cut_below q bounds bounds' cuts walks.rising) keep step walks.connects;
+              Connects-join laws l blocks (length w.path) w.at q (state_at w.path) (walks.rows.here some) low step tie (BeginsPairs w.bounds) (BeginsPairs bounds')
+              keep_pairs walks.connects;
+          sound_pairs =
+              IsSound-join laws l blocks (length w.path) w.at q (state_at w.path) (walks.rows.here some) low step tie (BeginsPairs w.bounds) (BeginsPairs bounds')
+              (length w.pairs) (GivesPair w.pairs) keep_pairs walks.sound_pairs;
+          sound_listed =
+              IsSound-join laws l blocks (length w.path) w.at q (state_at w.path) (walks.rows.here some) low step tie (BeginsListed w.bounds)
+              (BeginsListed bounds') (length w.listed) (GivesListed lists w.listed) keep_listed walks.sound_listed;
+          listed = walks.listed;
           rows = walks.rows;
           accounts =
-              AccountsAll-join l blocks (IsBound bounds) (IsBound bounds') (back_at path) (length items) (item_at items) lists (mark_at marks) old_one
-              (length path) (state_at path) (next_at path) walks.accounts;
+              AccountsAll-keep l blocks (BeginsPairs w.bounds) (BeginsPairs bounds') (back_at w.path) (Held lists w) (Held lists Joined) lists (mark_at w.marks)
+              (cut_old q w.bounds bounds' cuts walks.rising (λ x. x.pairs)) held_joined (length w.path) (state_at w.path) (next_at w.path) walks.accounts;
         }
 
-    pub accounts_joined : (s : ℕ) (e : Triple) → IsInert l blocks s e → mark_at marks (target_of e) ≡ OnPath q
-        → Accounts l blocks (IsBound bounds') (back_at path) (length items) (item_at items) lists (mark_at marks) s at e
+    pub accounts_joined : (s : ℕ) (e : Triple) → IsInert l blocks s e → mark_at w.marks (target_of e) ≡ OnPath q
+        → Accounts l blocks (BeginsPairs bounds') (back_at w.path) (Held lists Joined w.at) lists (mark_at w.marks) s w.at e
     accounts_joined s e inert is = record {
       shown = λ other. absurd (other inert);
       followed = λ _. inl (
         q,
         is,
         λ f c b.
-            let reached = walks.bounded.reached f c (cut_old q bounds bounds' cuts walks.rising f c b) in
-            (λ le. cut_below q bounds bounds' cuts walks.rising f c b, λ lt le. absurd (omega (arith, lt, reached))),
+            let reached = walks.of_pairs.reached f c (cut_old q w.bounds bounds' cuts walks.rising (λ x. x.pairs) f c b) in
+            (λ le. cut_below q w.bounds bounds' cuts walks.rising (λ x. x.pairs) f c b, λ lt le. absurd (omega (arith, lt, reached))),
       );
     }
 
   -- the state t goes to the end of the path
-  module _ (t start end : ℕ) (within : t < length marks) (unseen : mark_at marks t ≡ Unseen) where
+  module _ (t start end : ℕ) (within : t < length w.marks) (unseen : mark_at w.marks t ≡ Unseen) where
     abbrev New : Visit
-    New = record { state = t; next = start; end = end; back = at }
+    New = record { state = t; next = start; end = end; back = w.at }
 
-    abbrev Path : List Visit
-    Path = path ++ New ∷ []
+    abbrev NewBound : Bound
+    NewBound = record { place = length w.path; pairs = length w.pairs; listed = length w.listed }
 
-    abbrev Marks : List Mark
-    Marks = set marks t (OnPath (length path))
+    abbrev pub Entered : Parts
+    Entered = record w {
+      marks = set w.marks t (OnPath (length w.path));
+      trail = w.trail ++ t ∷ [];
+      path = w.path ++ New ∷ [];
+      at = length w.path;
+      bounds = w.bounds ++ NewBound ∷ [];
+    }
 
-    abbrev Bounds : List Bound
-    Bounds = bounds ++ record { place = length path; items = length items } ∷ []
+    path_size : length w.path + 1 ≡ length Entered.path
+    path_size = sym (length_push w.path New)
 
-    pub Walks-enter : t < l.states → IsRow l.places t start end → (0 < length path → Inert (system_of l) (slice_index blocks) (state_at path at) t)
-        → (length path ≡ 0 → length items ≡ 0) → Walks l blocks lists Marks Path (length path) Bounds items
+    same : (p : ℕ) → p < length w.path → visit_at Entered.path p ≡ visit_at w.path p
+    same = visit_before w.path New
+
+    last : visit_at Entered.path (length w.path) ≡ New
+    last = visit_last w.path New
+
+    self : mark_at Entered.marks t ≡ OnPath (length w.path)
+    self = mark_set w.marks t (OnPath (length w.path)) within
+
+    others : (s : ℕ) → s ≢ t → mark_at Entered.marks s ≡ mark_at w.marks s
+    others = mark_other w.marks t (OnPath (length w.path))
+
+    old_or_above : (from : Bound → ℕ) (p : ℕ) → p < length w.path → (f c : ℕ) → Begins from Entered.bounds f c → Begins from w.bounds f c ⊎ ((p < f) × (from NewBound ≤ c))
+    old_or_above from p lp f c b = elim (bound_old_or_new w.bounds NewBound from f c b) [ inl o ↦ inl o | inr e ↦ inr (omega (arith, lp, e.0), omega (arith, e.1)) ]
+
+    held_entered : (p : ℕ) → p < length w.path → (y : ℕ × ℕ) → Held lists w p y → Held lists Entered p y
+    held_entered p lp y (inl h) =
+        inl
+        (Holds-bounds (BeginsPairs w.bounds) (BeginsPairs Entered.bounds) (length w.pairs) (GivesPair w.pairs) p (old_or_above (λ x. x.pairs) p lp) y h)
+    held_entered p lp y (inr h) =
+        inr
+        (Holds-bounds (BeginsListed w.bounds) (BeginsListed Entered.bounds) (length w.listed) (GivesListed lists w.listed) p (old_or_above (λ x. x.listed) p lp) y h)
+
+    entered_bounds : (from : Bound → ℕ) → (length w.path ≡ 0 → from NewBound ≡ 0) → AreBounds (length w.path) w.at (from NewBound) (back_at w.path) (Begins from w.bounds)
+        → AreBounds (length Entered.path) (length w.path) (from NewBound) (back_at Entered.path) (Begins from Entered.bounds)
+    entered_bounds from none old =
+        subst (λ n. AreBounds n (length w.path) (from NewBound) (back_at Entered.path) (Begins from Entered.bounds)) path_size
+        (AreBounds-enter (length w.path) w.at (from NewBound) (back_at w.path) (back_at Entered.path) (Begins from w.bounds) (Begins from Entered.bounds)
+        (bound_old_or_new w.bounds NewBound from) (bound_up w.bounds NewBound from) (bound_new w.bounds NewBound from)
+        (λ p h. ap (λ v. v.back) (same p h)) (ap (λ v. v.back) last) none old)
+
+    pub Walks-enter : t < l.states → IsRow l.places t start end → (0 < length w.path → Inert (system_of l) (slice_index blocks) (state_at w.path w.at) t)
+        → (length w.path ≡ 0 → (length w.pairs ≡ 0) × (length w.listed ≡ 0)) → Walks l blocks lists Entered
     Walks-enter inside row step none =
-        let size : length path + 1 ≡ length Path = sym (length_push path New) in
-        let same : (p : ℕ) → p < length path → visit_at Path p ≡ visit_at path p = visit_before path New in
-        let last : visit_at Path (length path) ≡ New = visit_last path New in
-        let self = mark_set marks t (OnPath (length path)) within in
-        let others = mark_other marks t (OnPath (length path)) in
+        let state_same = λ (p : ℕ) (h : p < length w.path). ap (λ v. v.state) (same p h) in
+        let state_last = ap (λ v. v.state) last in
         record {
           on_path =
-              subst (λ n. AreOnPath n (state_at Path) (mark_at Marks)) size
-              (AreOnPath-enter (length path) (state_at path) (state_at Path) (mark_at marks) (mark_at Marks) t unseen
-              (λ p h. ap (λ v. v.state) (same p h)) (ap (λ v. v.state) last) self others walks.on_path);
+              subst (λ n. AreOnPath n (state_at Entered.path) (mark_at Entered.marks)) path_size
+              (AreOnPath-enter (length w.path) (state_at w.path) (state_at Entered.path) (mark_at w.marks) (mark_at Entered.marks) t unseen
+              state_same state_last self others walks.on_path);
           signed =
-              AreSigned-enter (length path) (state_at path) (state_at Path) (mark_at marks) (mark_at Marks) t unseen
-              (λ p h. ap (λ v. v.state) (same p h)) (ap (λ v. v.state) last) self others l blocks lists walks.signed;
-          bounded =
-              subst (λ n. AreBounds n (length path) (length items) (back_at Path) (IsBound Bounds)) size
-              (AreBounds-enter (length path) at (length items) (back_at path) (back_at Path) (IsBound bounds) (IsBound Bounds)
-              (bound_old_or_new bounds (length path) (length items)) (bound_up bounds (length path) (length items)) (bound_new bounds (length path) (length items))
-              (λ p h. ap (λ v. v.back) (same p h)) (ap (λ v. v.back) last) none walks.bounded);
-          rising = AreRising-push bounds (length path) (length items) walks.bounded.below walks.rising;
+              AreSigned-enter (length w.path) (state_at w.path) (state_at Entered.path) (mark_at w.marks) (mark_at Entered.marks) t unseen
+              state_same state_last self others l blocks lists walks.signed;
+          of_pairs = entered_bounds (λ x. x.pairs) (λ e. (none e).0) walks.of_pairs;
+          of_listed = entered_bounds (λ x. x.listed) (λ e. (none e).1) walks.of_listed;
+          rising = AreRising-push w.bounds NewBound (λ i h. walks.of_pairs.below _ _ (bound_here w.bounds (λ x. x.pairs) i h)) walks.rising;
           connects =
-              subst (λ n. Connects l blocks n (state_at Path) (IsBound Bounds) (length items) (item_at items) lists) size
-              (Connects-enter laws l blocks (length path) t (state_at path) (state_at Path) (IsBound bounds) (IsBound Bounds) (length items) (item_at items) lists
-              (λ p h. ap (λ v. v.state) (same p h)) (ap (λ v. v.state) last) (bound_up bounds (length path) (length items)) (bound_new bounds (length path) (length items))
+              subst (λ n. Connects l blocks n (state_at Entered.path) (BeginsPairs Entered.bounds)) path_size
+              (Connects-enter laws l blocks (length w.path) t (state_at w.path) (state_at Entered.path) state_same state_last (BeginsPairs w.bounds)
+              (BeginsPairs Entered.bounds) (bound_up w.bounds NewBound (λ x. x.pairs)) (length w.pairs) (bound_new w.bounds NewBound (λ x. x.pairs))
               (λ p h.
-              let some : 0 < length path = omega (arith, h) in
-              laws.after (system_of l) (slice_index blocks) (state_at path p) (state_at path at) t
-              (walks.connects.leads p at h (walks.rows.here some) (λ f c b le. walks.bounded.reached f c b)) (step some))
+              let some : 0 < length w.path = omega (arith, h) in
+              laws.after (system_of l) (slice_index blocks) (state_at w.path p) (state_at w.path w.at) t (ties p h some) (step some))
               walks.connects);
+          sound_pairs =
+              subst (λ n. IsSound l blocks n (state_at Entered.path) (BeginsPairs Entered.bounds) (length w.pairs) (GivesPair w.pairs)) path_size
+              (IsSound-enter laws l blocks (length w.path) t (state_at w.path) (state_at Entered.path) state_same state_last (BeginsPairs w.bounds)
+              (BeginsPairs Entered.bounds) (bound_up w.bounds NewBound (λ x. x.pairs)) (length w.pairs) (GivesPair w.pairs)
+              (bound_new w.bounds NewBound (λ x. x.pairs)) walks.sound_pairs);
+          sound_listed =
+              subst (λ n. IsSound l blocks n (state_at Entered.path) (BeginsListed Entered.bounds) (length w.listed) (GivesListed lists w.listed)) path_size
+              (IsSound-enter laws l blocks (length w.path) t (state_at w.path) (state_at Entered.path) state_same state_last (BeginsListed w.bounds)
+              (BeginsListed Entered.bounds) (bound_up w.bounds NewBound (λ x. x.listed)) (length w.listed) (GivesListed lists w.listed)
+              (bound_new w.bounds NewBound (λ x. x.listed)) walks.sound_listed);
+          listed = walks.listed;
           rows =
-              subst (λ n. AreRows l n (length path) (state_at Path) (next_at Path) (end_at Path) (back_at Path)) size
-              (Rows-enter l (length path) at (visit_at path) (visit_at Path) same (subst (λ v. v.state < l.states) (sym last) inside)
+              subst (λ n. AreRows l n (length w.path) (state_at Entered.path) (next_at Entered.path) (end_at Entered.path) (back_at Entered.path)) path_size
+              (Rows-enter l (length w.path) w.at (visit_at w.path) (visit_at Entered.path) same (subst (λ v. v.state < l.states) (sym last) inside)
               (subst (λ v. IsRow l.places v.state v.next v.end) (sym last) row) (ap (λ v. v.back) last) walks.rows);
           accounts =
-              subst (λ n. AccountsAll l blocks n (state_at Path) (next_at Path) (IsBound Bounds) (back_at Path) (length items) (item_at items) lists (mark_at Marks)) size
-              (AccountsAll-enter l blocks (length path) t (state_at path) (state_at Path) (next_at path) (next_at Path) (back_at path) (back_at Path)
-              (IsBound bounds) (IsBound Bounds) (length items) (item_at items) lists (mark_at marks) (mark_at Marks) unseen
-              (λ p h. ap (λ v. v.state) (same p h)) (λ p h. ap (λ v. v.next) (same p h)) (λ p h. ap (λ v. v.back) (same p h)) (ap (λ v. v.state) last) others
-              (bound_old_or_new bounds (length path) (length items)) walks.bounded.below walks.on_path end
-              (subst (λ v. IsRow l.places t v.next end) (sym last) row) walks.accounts);
+              subst (λ n. AccountsAll l blocks n (state_at Entered.path) (next_at Entered.path) (BeginsPairs Entered.bounds) (back_at Entered.path) (Held lists Entered) lists (mark_at Entered.marks)) path_size
+              (AccountsAll-enter l blocks (length w.path) t (state_at w.path) (state_at Entered.path) (next_at w.path) (next_at Entered.path) (back_at w.path)
+              (back_at Entered.path) (BeginsPairs w.bounds) (BeginsPairs Entered.bounds) (Held lists w) (Held lists Entered) lists (mark_at w.marks) (mark_at Entered.marks) unseen
+              state_same (λ p h. ap (λ v. v.next) (same p h)) (λ p h. ap (λ v. v.back) (same p h)) state_last others
+              (λ f c b. elim (bound_old_or_new w.bounds NewBound (λ x. x.pairs) f c b) [ inl o ↦ inl o | inr e ↦ inr e.0 ])
+              walks.of_pairs.below held_entered walks.on_path end (subst (λ v. IsRow l.places t v.next end) (sym last) row) walks.accounts);
         }
 
     pub accounts_entered : (s : ℕ) (e : Triple) → IsInert l blocks s e → target_of e ≡ t
-        → Accounts l blocks (IsBound Bounds) (back_at Path) (length items) (item_at items) lists (mark_at Marks) s at e
+        → Accounts l blocks (BeginsPairs Entered.bounds) (back_at Entered.path) (Held lists Entered w.at) lists (mark_at Entered.marks) s w.at e
     accounts_entered s e inert is = record {
       shown = λ other. absurd (other inert);
       followed = λ _. inl (
-        length path,
-        ap (mark_at Marks) is ∙ mark_set marks t (OnPath (length path)) within,
+        length w.path,
+        ap (mark_at Entered.marks) is ∙ self,
         λ f c b.
-            elim (bound_old_or_new bounds (length path) (length items) f c b) [
+            elim (bound_old_or_new w.bounds NewBound (λ x. x.pairs) f c b) [
               | inl o ↦
-                  let below = walks.bounded.below f c o in
-                  let reached = walks.bounded.reached f c o in
+                  let below = walks.of_pairs.below f c o in
+                  let reached = walks.of_pairs.reached f c o in
                   (λ le. omega (arith, below), λ lt le. absurd (omega (arith, lt, reached)))
               | inr new ↦
-                  (λ le. omega (arith, new.0), λ lt le. sym (ap (back_at Path) new.0 ∙ ap (λ v. v.back) (visit_last path New)))
+                  (λ le. omega (arith, new.0), λ lt le. sym (ap (back_at Entered.path) new.0 ∙ ap (λ v. v.back) last))
             ],
       );
     }
 
   -- a transition more was read of the row at place r
-  module _ (r : ℕ) (low : r ≤ at) (v : Visit) (here : r < length path) (state : v.state ≡ state_at path r) (next : v.next ≡ next_at path r + 1)
-      (end : v.end ≡ end_at path r) (back : v.back ≡ back_at path r) (more : next_at path r < end_at path r) where
-    abbrev Moved : List Visit
-    Moved = set path r v
+  module _ (r : ℕ) (low : r ≤ w.at) (v : Visit) (here : r < length w.path) (state : v.state ≡ state_at w.path r) (next : v.next ≡ next_at w.path r + 1)
+      (end : v.end ≡ end_at w.path r) (back : v.back ≡ back_at w.path r) (more : next_at w.path r < end_at w.path r) where
+    abbrev pub Moved : Parts
+    Moved = record w { path = set w.path r v }
 
-    moved_same : (F : Visit → ℕ) → F v ≡ F (visit_at path r) → (p : ℕ) → F (visit_at Moved p) ≡ F (visit_at path p)
+    moved_same : (F : Visit → ℕ) → F v ≡ F (visit_at w.path r) → (p : ℕ) → F (visit_at Moved.path p) ≡ F (visit_at w.path p)
     moved_same F e p = elim (cases_eq p r) [
-      | inl is ↦ ap (λ x. F (visit_at Moved x)) is ∙ ap F (get_or-set_same path r v _ here) ∙ e ∙ ap (λ x. F (visit_at path x)) (sym is)
-      | inr d ↦ ap F (get_or-set_other path r p v _ d)
+      | inl is ↦ ap (λ x. F (visit_at Moved.path x)) is ∙ ap F (get_or-set_same w.path r v _ here) ∙ e ∙ ap (λ x. F (visit_at w.path x)) (sym is)
+      | inr d ↦ ap F (get_or-set_other w.path r p v _ d)
     ]
 
     abbrev Shape : Type 0
     Shape = ℕ × (ℕ → ℕ) × (ℕ → ℕ) × (ℕ → ℕ)
 
-    same_shape : ◌≡◌ {A = Shape} (length path, state_at path, end_at path, back_at path) (length Moved, state_at Moved, end_at Moved, back_at Moved)
+    same_shape : ◌≡◌ {A = Shape} (length w.path, state_at w.path, end_at w.path, back_at w.path) (length Moved.path, state_at Moved.path, end_at Moved.path, back_at Moved.path)
     same_shape = λ i. (
-      sym (length-set path r v) i,
+      sym (length-set w.path r v) i,
       λ p. sym (moved_same (λ x. x.state) state p) i,
       λ p. sym (moved_same (λ x. x.end) end p) i,
       λ p. sym (moved_same (λ x. x.back) back p) i,
     )
 
-    pub Walks-next : Accounts l blocks (IsBound bounds) (back_at path) (length items) (item_at items) lists (mark_at marks) (state_at path r) r
-        (place_at l.places (next_at path r)) → Walks l blocks lists marks Moved at bounds items
+    pub Walks-next : Accounts l blocks (BeginsPairs w.bounds) (back_at w.path) (Held lists w r) lists (mark_at w.marks) (state_at w.path r) r
+        (place_at l.places (next_at w.path r)) → Walks l blocks lists Moved
     Walks-next this =
-        let self : next_at Moved r ≡ next_at path r + 1 = ap (λ x. x.next) (get_or-set_same path r v _ here) ∙ next in
-        let others : (p : ℕ) → p ≢ r → next_at Moved p ≡ next_at path p = λ p d. ap (λ x. x.next) (get_or-set_other path r p v _ d) in
+        let self : next_at Moved.path r ≡ next_at w.path r + 1 = ap (λ x. x.next) (get_or-set_same w.path r v _ here) ∙ next in
+        let others : (p : ℕ) → p ≢ r → next_at Moved.path p ≡ next_at w.path p = λ p d. ap (λ x. x.next) (get_or-set_other w.path r p v _ d) in
         record {
-          on_path = subst (λ (x : Shape). AreOnPath x.0 x.1 (mark_at marks)) same_shape walks.on_path;
+          on_path = subst (λ (x : Shape). AreOnPath x.0 x.1 (mark_at w.marks)) same_shape walks.on_path;
           signed = walks.signed;
-          bounded = subst (λ (x : Shape). AreBounds x.0 at (length items) x.3 (IsBound bounds)) same_shape walks.bounded;
+          of_pairs = subst (λ (x : Shape). AreBounds x.0 w.at (length w.pairs) x.3 (BeginsPairs w.bounds)) same_shape walks.of_pairs;
+          of_listed = subst (λ (x : Shape). AreBounds x.0 w.at (length w.listed) x.3 (BeginsListed w.bounds)) same_shape walks.of_listed;
           rising = walks.rising;
-          connects = subst (λ (x : Shape). Connects l blocks x.0 x.1 (IsBound bounds) (length items) (item_at items) lists) same_shape walks.connects;
+          connects = subst (λ (x : Shape). Connects l blocks x.0 x.1 (BeginsPairs w.bounds)) same_shape walks.connects;
+          sound_pairs =
+              subst (λ (x : Shape). IsSound l blocks x.0 x.1 (BeginsPairs w.bounds) (length w.pairs) (GivesPair w.pairs)) same_shape walks.sound_pairs;
+          sound_listed =
+              subst (λ (x : Shape). IsSound l blocks x.0 x.1 (BeginsListed w.bounds) (length w.listed) (GivesListed lists w.listed)) same_shape walks.sound_listed;
+          listed = walks.listed;
           rows =
-              subst (λ (x : Shape). AreRows l x.0 at x.1 (next_at Moved) x.2 x.3) same_shape
-              (AreRows-next l (length path) at r low (state_at path) (next_at path) (next_at Moved) (end_at path) (back_at path) self others more walks.rows);
+              subst (λ (x : Shape). AreRows l x.0 w.at x.1 (next_at Moved.path) x.2 x.3) same_shape
+              (AreRows-next l (length w.path) w.at r low (state_at w.path) (next_at w.path) (next_at Moved.path) (end_at w.path) (back_at w.path) self others more walks.rows);
           accounts =
-              subst (λ (x : Shape). AccountsAll l blocks x.0 x.1 (next_at Moved) (IsBound bounds) x.3 (length items) (item_at items) lists (mark_at marks)) same_shape
-              (AccountsAll-next l blocks (length path) r (state_at path) (next_at path) (next_at Moved) (back_at path) (IsBound bounds) (length items) (item_at items)
-              lists (mark_at marks) self others this walks.accounts);
+              subst (λ (x : Shape). AccountsAll l blocks x.0 x.1 (next_at Moved.path) (BeginsPairs w.bounds) x.3 (Held lists w) lists (mark_at w.marks)) same_shape
+              (AccountsAll-next l blocks (length w.path) r (state_at w.path) (next_at w.path) (next_at Moved.path) (back_at w.path) (BeginsPairs w.bounds) (Held lists w)
+              lists (mark_at w.marks) self others this walks.accounts);
         }
 
   -- the walk goes back from a place where no component begins
-  pub Walks-back : (some : 0 < length bounds) → (bound_at bounds (length bounds - 1)).place ≢ at → at < length path → next_at path at ≡ end_at path at
-      → Walks l blocks lists marks path (back_at path at) bounds items
+  pub Walks-back : (some : 0 < length w.bounds) → (bound_at w.bounds (length w.bounds - 1)).place ≢ w.at → w.at < length w.path → HasRead w.path w.at
+      → Walks l blocks lists (record w { at = back_at w.path w.at })
   Walks-back some apart here read =
-      let last = last_bound bounds walks.rising some in
-      let reached = walks.bounded.reached (bound_at bounds (length bounds - 1)).place (bound_at bounds (length bounds - 1)).items last in
+      let b = bound_at w.bounds (length w.bounds - 1) in
+      let reached = walks.of_pairs.reached b.place b.pairs (last_bound w.bounds walks.rising some (λ x. x.pairs)) in
       record {
         on_path = walks.on_path;
         signed = walks.signed;
-        bounded =
-            AreBounds-back (length path) at (length items) (bound_at bounds (length bounds - 1)).place (bound_at bounds (length bounds - 1)).items (back_at path)
-            (IsBound bounds) last (last_greatest bounds walks.rising some) apart here walks.bounded;
+        of_pairs =
+            AreBounds-back (length w.path) w.at (length w.pairs) b.place b.pairs (back_at w.path) (BeginsPairs w.bounds)
+            (last_bound w.bounds walks.rising some (λ x. x.pairs)) (last_greatest w.bounds walks.rising some (λ x. x.pairs)) apart here walks.of_pairs;
+        of_listed =
+            AreBounds-back (length w.path) w.at (length w.listed) b.place b.listed (back_at w.path) (BeginsListed w.bounds)
+            (last_bound w.bounds walks.rising some (λ x. x.listed)) (last_greatest w.bounds walks.rising some (λ x. x.listed)) apart here walks.of_listed;
         rising = walks.rising;
         connects = walks.connects;
-        rows = Rows-back l (length path) at (visit_at path) (omega (arith, apart, reached)) here read walks.rows;
+        sound_pairs = walks.sound_pairs;
+        sound_listed = walks.sound_listed;
+        listed = walks.listed;
+        rows = Rows-back l (length w.path) w.at (visit_at w.path) (omega (arith, apart, reached)) here read walks.rows;
         accounts = walks.accounts;
       }

@@ -1,6 +1,6 @@
 -- The walk over inert steps: what is known of each state, the path, the components on it, and what they have collected.
 use Rattle.std.specs.Prelude.{◌≡◌, ◌⊎◌, ℕ, ◌<◌, ◌≤◌, List, length, slice_index, slice_index_or}
-use Rattle.std.specs.List.{Contains}
+use Rattle.std.specs.List.{All, Contains}
 use Rattle.theory.specs.System.{System, Leads, internal}
 use Rattle.theory.specs.Bisimulation.Relation.{branching}
 use Rattle.theory.specs.Blocks.{Inert, Signature}
@@ -13,8 +13,7 @@ use Rattle.refine.specs.declared.walk.Mark.{Mark}
 use Rattle.refine.specs.declared.walk.Mark.TheVariants.{Unseen, OnPath, Finished}
 use Rattle.refine.specs.declared.walk.Visit.{Visit}
 use Rattle.refine.specs.declared.walk.Bound.{Bound}
-use Rattle.refine.specs.declared.walk.Item.{Item}
-use Rattle.refine.specs.declared.walk.Item.TheVariants.{Pair, Listed}
+use Rattle.refine.specs.declared.walk.Walk.{Walk}
 
 -- what inert steps lead to, and what they pass back
 pub record Laws : Type 0 where
@@ -51,24 +50,33 @@ HasRead path p = next_at path p ≡ end_at path p
 
 -- the bound number i
 abbrev pub bound_at : List Bound → ℕ → Bound
-bound_at bounds i = slice_index_or bounds i (record { place = 0; items = 0 })
+bound_at bounds i = slice_index_or bounds i (record { place = 0; pairs = 0; listed = 0 })
 
--- the item number j
-abbrev pub item_at : List Item → ℕ → Item
-item_at items j = slice_index_or items j (Pair 0 0)
+-- a component begins at place f on the path, and at number c of a buffer
+abbrev pub Begins : (Bound → ℕ) → List Bound → ℕ → ℕ → Type 0
+Begins start bounds f c = (i : ℕ) × (i < length bounds) × ((bound_at bounds i).place ≡ f) × (start (bound_at bounds i) ≡ c)
 
--- a component begins at place f, and its items at number c
-abbrev pub IsBound : List Bound → ℕ → ℕ → Type 0
-IsBound bounds f c = Contains bounds (record { place = f; items = c })
+-- the same of the pairs and of the lists that were collected
+abbrev pub BeginsPairs : List Bound → ℕ → ℕ → Type 0
+BeginsPairs = Begins (λ b. b.pairs)
 
--- the item gives the pair z
-abbrev pub Gives : List (List (ℕ × ℕ)) → Item → ℕ × ℕ → Type 0
-Gives lists (Pair k b) z = (k, b) ≡ z
-Gives lists (Listed k) z = Contains (list_at lists k) z
+abbrev pub BeginsListed : List Bound → ℕ → ℕ → Type 0
+BeginsListed = Begins (λ b. b.listed)
+
+-- what is collected at number j gives the pair z
+abbrev pub GivesPair : List (ℕ × ℕ) → ℕ → ℕ × ℕ → Type 0
+GivesPair pairs j z = slice_index_or pairs j (0, 0) ≡ z
+
+abbrev pub GivesListed : List (List (ℕ × ℕ)) → List ℕ → ℕ → ℕ × ℕ → Type 0
+GivesListed lists listed j z = Contains (list_at lists (slice_index listed j)) z
+
+-- a transition under the label, from a state of one block to a state of the other one, is inert
+abbrev pub IsInertWithin : Grouped → ℕ → ℕ → ℕ → Type 0
+IsInertWithin l block label other = (text_of l.labels label ≡ internal) × (other ≡ block)
 
 -- a transition from the state s is inert
 abbrev pub IsInert : Grouped → List ℕ → ℕ → Triple → Type 0
-IsInert l blocks s e = (text_of l.labels (label_of e) ≡ internal) × (slice_index blocks (target_of e) ≡ slice_index blocks s)
+IsInert l blocks s e = IsInertWithin l (slice_index blocks s) (label_of e) (slice_index blocks (target_of e))
 
 -- each state on the path is marked with its place, and no other state is
 pub record AreOnPath (n : ℕ) (state : ℕ → ℕ) (mark : ℕ → Mark) : Type 0 where
@@ -79,12 +87,12 @@ pub record AreOnPath (n : ℕ) (state : ℕ → ℕ) (mark : ℕ → Mark) : Typ
 abbrev pub AreSigned : Grouped → List ℕ → (ℕ → Mark) → List (List (ℕ × ℕ)) → Type 0
 AreSigned l blocks mark lists = (s k : ℕ) → mark s ≡ Finished k → (k < length lists) × IsSignature branching l blocks s (list_at lists k)
 
--- components begin on the path up to the place where the walk is, and their items in the same order
+-- components begin on the path up to the place where the walk is, and in a buffer in the same order
 pub record AreBounds (n at count : ℕ) (back : ℕ → ℕ) (B : ℕ → ℕ → Type 0) : Type 0 where
   pub first : 0 < n → B 0 0
   pub below : (f c : ℕ) → B f c → f < n
   pub reached : (f c : ℕ) → B f c → f ≤ at
-  pub items : (f c : ℕ) → B f c → c ≤ count
+  pub within : (f c : ℕ) → B f c → c ≤ count
   pub in_order : (f c g d : ℕ) → B f c → B g d → f ≤ g → c ≤ d
   pub inside : (f c p : ℕ) → B f c → f < p → p < n → f ≤ back p
 
@@ -92,15 +100,15 @@ pub record AreBounds (n at count : ℕ) (back : ℕ → ℕ) (B : ℕ → ℕ �
 abbrev pub AreRising : List Bound → Type 0
 AreRising bounds = (i j : ℕ) → i < j → j < length bounds → (bound_at bounds i).place < (bound_at bounds j).place
 
--- inert steps lead from the state at place p to that at place q, where no component between them begins; and the pairs of
--- item j are in the signature of the state at p, where item j is of its component or of a later one
-pub record Connects (l : Grouped) (blocks : List ℕ) (n : ℕ) (state : ℕ → ℕ) (B : ℕ → ℕ → Type 0) (count : ℕ) (item : ℕ → Item)
-    (lists : List (List (ℕ × ℕ))) : Type 0 where
-  pub leads : (p q : ℕ) → p < n → q < n → ((f c : ℕ) → B f c → f ≤ p → f ≤ q) →
-      Leads (Inert (system_of l) (slice_index blocks)) (state p) (state q)
-  pub sound : (p j : ℕ) (z : ℕ × ℕ) → p < n → j < count → ((f c : ℕ) → B f c → f ≤ p → c ≤ j) → Gives lists (item j) z →
-      HasPair branching l blocks (state p) z.0 z.1
-  pub listed : (j k : ℕ) → j < count → item j ≡ Listed k → k < length lists
+-- inert steps lead from the state at place p to that at place q, if no component between them begins
+abbrev pub Connects : Grouped → List ℕ → ℕ → (ℕ → ℕ) → (ℕ → ℕ → Type 0) → Type 0
+Connects l blocks n state B = (p q : ℕ) → p < n → q < n → ((f c : ℕ) → B f c → f ≤ p → f ≤ q) →
+    Leads (Inert (system_of l) (slice_index blocks)) (state p) (state q)
+
+-- what a buffer gives at number j is in the signature of the state at place p, if it is of its component or of a later one
+abbrev pub IsSound : Grouped → List ℕ → ℕ → (ℕ → ℕ) → (ℕ → ℕ → Type 0) → ℕ → (ℕ → ℕ × ℕ → Type 0) → Type 0
+IsSound l blocks n state B count gives = (p j : ℕ) (z : ℕ × ℕ) → p < n → j < count → ((f c : ℕ) → B f c → f ≤ p → c ≤ j) → gives j z →
+    HasPair branching l blocks (state p) z.0 z.1
 
 -- each visit has the rest of its state's row, and the rows that the walk does not come back to are read
 pub record AreRows (l : Grouped) (n at : ℕ) (state next end back : ℕ → ℕ) : Type 0 where
@@ -111,10 +119,9 @@ pub record AreRows (l : Grouped) (n at : ℕ) (state next end back : ℕ → ℕ
   pub above : (p : ℕ) → at < p → p < n → next p ≡ end p
   pub between : (p q : ℕ) → back q < p → p < q → q < n → next p ≡ end p
 
--- some item gives the pair z, and is of the component of place p or of an earlier one that is finished with it
-abbrev pub Holds : (ℕ → ℕ → Type 0) → ℕ → (ℕ → Item) → List (List (ℕ × ℕ)) → ℕ → ℕ × ℕ → Type 0
-Holds B count item lists p z =
-    (j : ℕ) × (j < count) × Gives lists (item j) z × ((f c : ℕ) → B f c → (f ≤ p → c ≤ j) × (p < f → j < c))
+-- a buffer gives the pair z in the component of place p, or in an earlier one that is finished with it
+abbrev pub Holds : (ℕ → ℕ → Type 0) → ℕ → (ℕ → ℕ × ℕ → Type 0) → ℕ → ℕ × ℕ → Type 0
+Holds B count gives p z = (j : ℕ) × (j < count) × gives j z × ((f c : ℕ) → B f c → (f ≤ p → c ≤ j) × (p < f → j < c))
 
 -- the state t is on the path at place q, in the component of place p or a later one, and only where the walk came from
 -- place p in one that is finished before it
@@ -122,35 +129,64 @@ abbrev pub LeadsUp : (ℕ → ℕ → Type 0) → (ℕ → ℕ) → (ℕ → Mar
 LeadsUp B back mark p t =
     (q : ℕ) × (mark t ≡ OnPath q) × ((f c : ℕ) → B f c → (f ≤ p → f ≤ q) × (p < f → f ≤ q → p ≡ back f))
 
--- the state t is finished, and place p holds all pairs of its list
-abbrev pub HoldsAll : (ℕ → ℕ → Type 0) → ℕ → (ℕ → Item) → List (List (ℕ × ℕ)) → (ℕ → Mark) → ℕ → ℕ → Type 0
-HoldsAll B count item lists mark p t =
-    (k : ℕ) × (mark t ≡ Finished k) × ((z : ℕ × ℕ) → Contains (list_at lists k) z → Holds B count item lists p z)
+-- the state t is finished, and all pairs of its list are held
+abbrev pub HoldsAll : (ℕ × ℕ → Type 0) → List (List (ℕ × ℕ)) → (ℕ → Mark) → ℕ → Type 0
+HoldsAll holds lists mark t = (k : ℕ) × (mark t ≡ Finished k) × ((z : ℕ × ℕ) → Contains (list_at lists k) z → holds z)
 
--- a transition of the state s at place p was taken into account
-pub record Accounts (l : Grouped) (blocks : List ℕ) (B : ℕ → ℕ → Type 0) (back : ℕ → ℕ) (count : ℕ) (item : ℕ → Item)
+-- a transition of the state s at place p, which holds some pairs, was taken into account
+pub record Accounts (l : Grouped) (blocks : List ℕ) (B : ℕ → ℕ → Type 0) (back : ℕ → ℕ) (holds : ℕ × ℕ → Type 0)
     (lists : List (List (ℕ × ℕ))) (mark : ℕ → Mark) (s p : ℕ) (e : Triple) : Type 0 where
-  pub shown : ¬ IsInert l blocks s e → Holds B count item lists p (pair_under blocks e)
-  pub followed : IsInert l blocks s e → LeadsUp B back mark p (target_of e) ⊎ HoldsAll B count item lists mark p (target_of e)
+  pub shown : ¬ IsInert l blocks s e → holds (pair_under blocks e)
+  pub followed : IsInert l blocks s e → LeadsUp B back mark p (target_of e) ⊎ HoldsAll holds lists mark (target_of e)
 
 -- all transitions that were read were taken into account
-abbrev pub AccountsAll : Grouped → List ℕ → ℕ → (ℕ → ℕ) → (ℕ → ℕ) → (ℕ → ℕ → Type 0) → (ℕ → ℕ) → ℕ → (ℕ → Item) →
+abbrev pub AccountsAll : Grouped → List ℕ → ℕ → (ℕ → ℕ) → (ℕ → ℕ) → (ℕ → ℕ → Type 0) → (ℕ → ℕ) → (ℕ → ℕ × ℕ → Type 0) →
     List (List (ℕ × ℕ)) → (ℕ → Mark) → Type 0
-AccountsAll l blocks n state next B back count item lists mark =
+AccountsAll l blocks n state next B back holds lists mark =
     (p k : ℕ) → p < n → k < length l.places → source_of (place_at l.places k) ≡ state p → k < next p →
-    Accounts l blocks B back count item lists mark (state p) p (place_at l.places k)
+    Accounts l blocks B back (holds p) lists mark (state p) p (place_at l.places k)
+
+-- what a walk knows, where it is, and what it has collected
+pub record Parts : Type 0 where
+  pub marks : List Mark
+  pub trail : List ℕ
+  pub path : List Visit
+  pub at : ℕ
+  pub bounds : List Bound
+  pub pairs : List (ℕ × ℕ)
+  pub listed : List ℕ
+
+abbrev pub parts_of : Walk → Parts
+parts_of w = record {
+  marks = w.marks.items;
+  trail = w.trail.items;
+  path = w.path.items;
+  at = w.at;
+  bounds = w.bounds.items;
+  pairs = w.pairs.items;
+  listed = w.listed.items;
+}
+
+-- the pairs and the lists that were collected give the pair z in the component of place p, or an earlier one
+abbrev pub Held : List (List (ℕ × ℕ)) → Parts → ℕ → ℕ × ℕ → Type 0
+Held lists w p z =
+    Holds (BeginsPairs w.bounds) (length w.pairs) (GivesPair w.pairs) p z
+    ⊎ Holds (BeginsListed w.bounds) (length w.listed) (GivesListed lists w.listed) p z
 
 -- the walk is at its place on the path, with all that it knows and has collected
-pub record Walks (l : Grouped) (blocks : List ℕ) (lists : List (List (ℕ × ℕ))) (marks : List Mark) (path : List Visit) (at : ℕ)
-    (bounds : List Bound) (items : List Item) : Type 0 where
-  pub on_path : AreOnPath (length path) (state_at path) (mark_at marks)
-  pub signed : AreSigned l blocks (mark_at marks) lists
-  pub bounded : AreBounds (length path) at (length items) (back_at path) (IsBound bounds)
-  pub rising : AreRising bounds
-  pub connects : Connects l blocks (length path) (state_at path) (IsBound bounds) (length items) (item_at items) lists
-  pub rows : AreRows l (length path) at (state_at path) (next_at path) (end_at path) (back_at path)
-  pub accounts : AccountsAll l blocks (length path) (state_at path) (next_at path) (IsBound bounds) (back_at path) (length items) (item_at items)
-      lists (mark_at marks)
+pub record Walks (l : Grouped) (blocks : List ℕ) (lists : List (List (ℕ × ℕ))) (w : Parts) : Type 0 where
+  pub on_path : AreOnPath (length w.path) (state_at w.path) (mark_at w.marks)
+  pub signed : AreSigned l blocks (mark_at w.marks) lists
+  pub of_pairs : AreBounds (length w.path) w.at (length w.pairs) (back_at w.path) (BeginsPairs w.bounds)
+  pub of_listed : AreBounds (length w.path) w.at (length w.listed) (back_at w.path) (BeginsListed w.bounds)
+  pub rising : AreRising w.bounds
+  pub connects : Connects l blocks (length w.path) (state_at w.path) (BeginsPairs w.bounds)
+  pub sound_pairs : IsSound l blocks (length w.path) (state_at w.path) (BeginsPairs w.bounds) (length w.pairs) (GivesPair w.pairs)
+  pub sound_listed : IsSound l blocks (length w.path) (state_at w.path) (BeginsListed w.bounds) (length w.listed) (GivesListed lists w.listed)
+  pub listed : All (λ k. k < length lists) w.listed
+  pub rows : AreRows l (length w.path) w.at (state_at w.path) (next_at w.path) (end_at w.path) (back_at w.path)
+  pub accounts : AccountsAll l blocks (length w.path) (state_at w.path) (next_at w.path) (BeginsPairs w.bounds) (back_at w.path) (Held lists w)
+      lists (mark_at w.marks)
 
 -- no state is on the path, and the list of each finished state is its signature
 pub record Rests (l : Grouped) (blocks : List ℕ) (lists : List (List (ℕ × ℕ))) (marks : List Mark) : Type 0 where

@@ -1,15 +1,14 @@
 //! One walk over inert steps: the states that lead to each other are a component, and the signature of each component is
 //! collected once, when all states are finished that it leads to (Gabow 2000).
-ghost use Rattle.std.specs.Prelude.{◌≡◌, ◌⊎◌, ◌↔◌, ℕ, ◌+◌, ◌-◌, ◌<◌, ◌≤◌, List, [], ◌∷◌, ◌++◌, length, take, slice_index, slice_set, MatchOption, IsTrue, IfOk, OnOk, OnErr};
+ghost use Rattle.std.specs.Prelude.{◌≡◌, ◌⊎◌, ◌↔◌, ℕ, ◌+◌, ◌<◌, ◌≤◌, [], length, IsTrue, IfOk, OnOk, OnErr};
 ghost use Rattle.std.specs.List.{All, Contains};
-ghost use Rattle.lts.specs.Lts.{IsRow};
-ghost use Rattle.refine.specs.Walks.{mark_at, visit_at, state_at, item_at, Gives};
+ghost use Rattle.lts.specs.declared.limits.TheConstants.{MOST_STATES};
+ghost use Rattle.refine.specs.Walks.{mark_at, parts_of};
 ghost use Rattle.refine.specs.Lists.{list_at, Grow};
-ghost use Rattle.refine.specs.Steps.{Enters, Cuts, Joins, Adds, Follows, IsGiven, IsCollected, IsLacking, Finishes, Leaves};
+ghost use Rattle.refine.specs.Steps.{Enters, Cuts, Follows, IsGiven, IsCollected, IsLacking, IsListed, Finishes, Leaves};
 ghost use Rattle.refine.specs.Ahead.{IsTrail};
 ghost use Rattle.refine.specs.declared.lists.TheConstants.{MOST_LISTS};
 ghost use Rattle.refine.specs.declared.walk.Mark.TheVariants.{Unseen, OnPath, Finished};
-ghost use Rattle.refine.specs.declared.walk.Item.TheVariants.{Pair, Listed};
 
 use crate::lists::{EMPTY, Lists};
 use crate::ordered::order;
@@ -38,20 +37,12 @@ pub(crate) struct Visit {
     pub back: u32,
 }
 
-/// Where a component begins on the path, and where its items begin.
+/// Where a component begins on the path, and where what it has collected begins.
 #[derive(Clone, Copy)]
 pub(crate) struct Bound {
     pub place: u32,
-    pub items: usize,
-}
-
-/// What a component has collected.
-#[derive(Clone, Copy)]
-pub(crate) enum Item {
-    /// The pair of a label number and a block.
-    Pair(u32, u32),
-    /// All pairs of the list of this number.
-    Listed(u32),
+    pub pairs: usize,
+    pub listed: usize,
 }
 
 /// A walk over inert steps, with what it knows and has collected.
@@ -65,9 +56,12 @@ pub(crate) struct Walk {
     /// The place on the path whose row is read.
     pub at: u32,
     pub bounds: Vec<Bound>,
-    pub items: Vec<Item>,
-    /// The pairs of the component that is finished.
+    /// The pairs that components have collected, each of a label number and a block.
     pub pairs: Vec<(u32, u32)>,
+    /// The numbers of the lists that components have collected, each for all its pairs.
+    pub listed: Vec<u32>,
+    /// Where the list of a component is put together.
+    pub scratch: Vec<(u32, u32)>,
 }
 
 impl Walk {
@@ -82,8 +76,9 @@ impl Walk {
             path: Vec::new(alloc),
             at: 0,
             bounds: Vec::new(alloc),
-            items: Vec::new(alloc),
             pairs: Vec::new(alloc),
+            listed: Vec::new(alloc),
+            scratch: Vec::new(alloc),
         }
     }
 
@@ -145,9 +140,9 @@ impl Walk {
     /// Fails if there is no memory for it.
     pub fn enter(&mut self, s: u32, start: u32, end: u32, back: u32) -> Result<(), Memory>
         requires state { s < length self.old.marks.items }
-        requires places { length self.old.path.items ≤ 2000000 }
+        requires places { length self.old.path.items ≤ MOST_STATES }
         requires trail { IsTrail self.old.marks.items self.old.trail.items }
-        ensures enters { OnOk result (Enters s start end back self.old self.new) }
+        ensures enters { OnOk result (Enters s start end back (parts_of self.old) (parts_of self.new)) }
         ensures size { length self.new.marks.items ≡ length self.old.marks.items }
         ensures trail { IsTrail self.new.marks.items self.new.trail.items }
     {
@@ -155,7 +150,8 @@ impl Walk {
         self.trail.push(s)?;
         self.bounds.push(Bound {
             place,
-            items: self.items.len(),
+            pairs: self.pairs.len(),
+            listed: self.listed.len(),
         })?;
         self.path.push(Visit {
             state: s,
@@ -168,53 +164,61 @@ impl Walk {
         Ok(())
     }
 
-    /// Follows an inert step to the state `t`, whose row is from `start` to `end`.
+    /// Follows an inert step to the state `t`, whose row is from `start` to `end`. Returns whether it enters `t`.
     ///
     /// Fails if there is no memory for it.
-    pub fn follow(&mut self, t: u32, start: u32, end: u32) -> Result<(), Memory>
+    pub fn follow(&mut self, t: u32, start: u32, end: u32) -> Result<bool, Memory>
         requires state { t < length self.old.marks.items }
-        requires places { length self.old.path.items ≤ 2000000 }
+        requires places { length self.old.path.items ≤ MOST_STATES }
         requires trail { IsTrail self.old.marks.items self.old.trail.items }
-        ensures follows { OnOk result (Follows t start end self.old self.new) }
+        ensures follows { OnOk result (Follows t start end (parts_of self.old) (parts_of self.new)) }
+        ensures here { IfOk result (λ entered. ¬ IsTrue entered → self.new.at ≡ self.old.at) }
         ensures size { length self.new.marks.items ≡ length self.old.marks.items }
         ensures trail { IsTrail self.new.marks.items self.new.trail.items }
     {
         match self.marks[t as usize] {
             Mark::Unseen => {
-                return self.enter(t, start, end, self.at);
+                self.enter(t, start, end, self.at)?;
+                return Ok(true);
             }
             Mark::OnPath(place) => {
                 cut(&mut self.bounds, place);
-                return Ok(());
+                return Ok(false);
             }
             Mark::Finished(list) => {
-                self.items.push(Item::Listed(list))?;
-                return Ok(());
+                self.listed.push(list)?;
+                return Ok(false);
             }
         }
     }
 
-    /// Finishes the component that begins at the place, with its items at the number `from`: the last one.
+    /// Finishes the component that begins at the bound: the last one.
     ///
     /// Fails if there is no memory for it. The marks are then as they were.
-    pub fn leave(&mut self, place: u32, from: usize, lists: &mut Lists) -> Result<(), Memory>
+    pub fn leave(&mut self, bound: Bound, lists: &mut Lists) -> Result<(), Memory>
         requires states { All (λ v. v.state < length self.old.marks.items) self.old.path.items }
-        requires place { place ≤ length self.old.path.items }
-        requires from { from ≤ length self.old.items.items }
-        requires listed { (j k : ℕ) → j < length self.old.items.items → item_at self.old.items.items j ≡ Listed k →
-            k < length lists.old }
+        requires place { bound.place ≤ length self.old.path.items }
+        requires pairs { bound.pairs ≤ length self.old.pairs.items }
+        requires from { bound.listed ≤ length self.old.listed.items }
+        requires listed { All (λ k. k < length lists.old) self.old.listed.items }
         requires lists { length lists.old < MOST_LISTS }
-        ensures leaves { OnOk result (Leaves place from self.old self.new lists.old lists.new) }
+        ensures leaves { OnOk result (Leaves bound (parts_of self.old) (parts_of self.new) lists.old lists.new) }
         ensures marks { OnErr result (self.new.marks.items ≡ self.old.marks.items) }
         ensures trail { self.new.trail.items ≡ self.old.trail.items }
         ensures lists { length lists.old ≤ length lists.new }
     {
-        let list = list_from(&self.items, from, lists, &mut self.pairs)?;
+        let list = list_from(
+            &self.pairs[bound.pairs..],
+            &self.listed[bound.listed..],
+            lists,
+            &mut self.scratch,
+        )?;
         self.bounds.pop();
-        self.items.truncate(from);
-        self.items.push(Item::Listed(list))?;
-        mark_members(&mut self.marks, &self.path, place as usize, list);
-        self.path.truncate(place as usize);
+        self.pairs.truncate(bound.pairs);
+        self.listed.truncate(bound.listed);
+        self.listed.push(list)?;
+        mark_members(&mut self.marks, &self.path, bound.place as usize, list);
+        self.path.truncate(bound.place as usize);
         Ok(())
     }
 }
@@ -251,97 +255,141 @@ pub(crate) fn mark_members(marks: &mut [Mark], path: &[Visit], from: usize, list
     }
 }
 
-/// The number of the list of the pairs that the items from the number `from` on give. It is the longest list that they refer
-/// to if that has all the pairs, and else a new one.
+/// The number of the list of these pairs and those of the lists of these numbers. It is the longest of the lists if that
+/// has all the pairs, and else a new one.
 ///
 /// Fails if there is no memory for it.
 fn list_from(
-    items: &[Item],
-    from: usize,
+    pairs: &[(u32, u32)],
+    listed: &[u32],
     lists: &mut Lists,
-    pairs: &mut Vec<(u32, u32)>,
+    scratch: &mut Vec<(u32, u32)>,
 ) -> Result<u32, Memory>
-    requires listed { (j k : ℕ) → j < length items.now → item_at items.now j ≡ Listed k → k < length lists.old }
-    requires within { from ≤ length items.now }
+    requires listed { All (λ k. k < length lists.old) listed.now }
     requires lists { length lists.old < MOST_LISTS }
     ensures within { IfOk result (λ k. k < length lists.new) }
-    ensures collected { IfOk result (λ k. IsCollected lists.old items.now from (list_at lists.new k)) }
+    ensures collected { IfOk result (λ k. IsCollected lists.old pairs.now listed.now (list_at lists.new k)) }
     ensures grow { Grow lists.old lists.new }
     ensures few { length lists.new ≤ length lists.old + 1 }
 {
     lists.known();
-    let longest = longest(items, from, lists);
-    collect(items, from, lists, longest, pairs)?;
-    if pairs.is_empty() {
+    if listed.is_empty() {
+        let list = list_of(pairs, lists, scratch)?;
+        return Ok(list);
+    }
+    let longest = longest(listed, lists);
+    collect(pairs, listed, lists, longest, scratch)?;
+    if scratch.is_empty() {
         return Ok(longest);
     }
-    let list = lists.extend(longest, pairs)?;
+    let list = lists.extend(longest, scratch)?;
     Ok(list)
 }
 
-/// The number of the longest list that the items from the number `from` on refer to; of the empty one if there is none.
-fn longest(items: &[Item], from: usize, lists: &Lists) -> u32
-    requires listed { (j k : ℕ) → j < length items.now → item_at items.now j ≡ Listed k → k < length lists.now }
-    requires within { from ≤ length items.now }
+/// The number of the list of these pairs.
+///
+/// Fails if there is no memory for it.
+fn list_of(
+    pairs: &[(u32, u32)],
+    lists: &mut Lists,
+    scratch: &mut Vec<(u32, u32)>,
+) -> Result<u32, Memory>
+    requires lists { length lists.old < MOST_LISTS }
+    ensures within { IfOk result (λ k. k < length lists.new) }
+    ensures collected { IfOk result (λ k. IsCollected lists.old pairs.now [] (list_at lists.new k)) }
+    ensures grow { Grow lists.old lists.new }
+    ensures few { length lists.new ≤ length lists.old + 1 }
+{
+    lists.known();
+    if pairs.is_empty() {
+        return Ok(EMPTY);
+    }
+    scratch.clear();
+    scratch.extend_from_slice(pairs)?;
+    order(scratch);
+    let list = lists.push(scratch)?;
+    Ok(list)
+}
+
+/// The number of the longest of the lists of these numbers, of the empty one if there is none.
+fn longest(listed: &[u32], lists: &Lists) -> u32
+    requires listed { All (λ k. k < length lists.now) listed.now }
     ensures within { result < length lists.now }
-    ensures given { (z : ℕ × ℕ) → Contains (list_at lists.now result) z → IsGiven lists.now items.now from z }
+    ensures listed { (result ≡ EMPTY) ⊎ Contains listed.now result }
 {
     lists.known();
     let mut longest = EMPTY;
-    for j in from..items.len() {
-        if let Item::Listed(list) = items[j] {
-            if lists.of(longest).len() < lists.of(list).len() {
-                longest = list;
-            }
+    for list in listed {
+        if lists.of(longest).len() < lists.of(*list).len() {
+            longest = *list;
         }
     }
     longest
 }
 
-/// Collects the pairs that the items from the number `from` on give and the list `known` lacks, in rising order, each once.
+/// Makes `out` the pairs that these and the lists of these numbers have and the list `known` lacks, in rising order, each
+/// once.
 ///
 /// Fails if there is no memory for it.
 fn collect(
-    items: &[Item],
-    from: usize,
+    pairs: &[(u32, u32)],
+    listed: &[u32],
     lists: &Lists,
     known: u32,
-    pairs: &mut Vec<(u32, u32)>,
+    out: &mut Vec<(u32, u32)>,
 ) -> Result<(), Memory>
-    requires listed { (j k : ℕ) → j < length items.now → item_at items.now j ≡ Listed k → k < length lists.now }
-    requires within { from ≤ length items.now }
+    requires listed { All (λ k. k < length lists.now) listed.now }
     requires known { known < length lists.now }
-    ensures { OnOk result (IsLacking lists.now items.now from (list_at lists.now known) pairs.new.items) }
+    ensures { OnOk result (IsLacking lists.now pairs.now listed.now (list_at lists.now known) out.new.items) }
 {
-    pairs.clear();
-    for j in from..items.len() {
-        gather(items[j], lists, known, pairs)?;
-    }
-    order(pairs);
+    out.clear();
+    collect_pairs(pairs, lists, known, out)?;
+    collect_lists(listed, lists, known, out)?;
+    order(out);
     Ok(())
 }
 
-/// Appends the pairs that the item gives and the list `known` lacks.
+/// Appends those of the pairs that the list `known` lacks.
 ///
 /// Fails if there is no memory for them.
-fn gather(item: Item, lists: &Lists, known: u32, pairs: &mut Vec<(u32, u32)>) -> Result<(), Memory>
-    requires listed { (k : ℕ) → item ≡ Listed k → k < length lists.now }
-    requires known { known < length lists.now }
-    ensures { OnOk result ((z : ℕ × ℕ) → Contains pairs.new.items z
-        ↔ (Contains pairs.old.items z ⊎ (Gives lists.now item z × ¬ Contains (list_at lists.now known) z))) }
+fn collect_pairs(
+    pairs: &[(u32, u32)],
+    lists: &Lists,
+    known: u32,
+    out: &mut Vec<(u32, u32)>,
+) -> Result<(), Memory>
+    requires { known < length lists.now }
+    ensures { OnOk result ((z : ℕ × ℕ) → Contains out.new.items z
+        ↔ (Contains out.old.items z ⊎ (Contains pairs.now z × ¬ Contains (list_at lists.now known) z))) }
 {
-    match item {
-        Item::Pair(label, block) => {
-            if !lists.has(known, (label, block)) {
-                pairs.push((label, block))?;
-            }
-            return Ok(());
+    for pair in pairs {
+        if lists.has(known, *pair) {
+            continue;
         }
-        Item::Listed(list) => {
-            if list != known {
-                lists.append_missing(list, known, pairs)?;
-            }
-            return Ok(());
-        }
+        out.push(*pair)?;
     }
+    Ok(())
+}
+
+/// Appends the pairs of the lists of these numbers that the list `known` lacks.
+///
+/// Fails if there is no memory for them.
+fn collect_lists(
+    listed: &[u32],
+    lists: &Lists,
+    known: u32,
+    out: &mut Vec<(u32, u32)>,
+) -> Result<(), Memory>
+    requires listed { All (λ k. k < length lists.now) listed.now }
+    requires known { known < length lists.now }
+    ensures { OnOk result ((z : ℕ × ℕ) → Contains out.new.items z
+        ↔ (Contains out.old.items z ⊎ (IsListed lists.now listed.now z × ¬ Contains (list_at lists.now known) z))) }
+{
+    for list in listed {
+        if *list == known {
+            continue;
+        }
+        lists.append_missing(*list, known, out)?;
+    }
+    Ok(())
 }

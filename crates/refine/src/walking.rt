@@ -1,15 +1,16 @@
 //! The walk over the transitions of a system: each one is read once.
-ghost use Rattle.std.specs.Prelude.{◌≡◌, ◌≢◌, ◌⊎◌, ◌↔◌, ℕ, ◌+◌, ◌-◌, ◌<◌, ◌≤◌, length, slice_index, IsTrue, OnOk};
+ghost use Rattle.std.specs.Prelude.{◌≡◌, ◌≢◌, ◌⊎◌, ◌↔◌, ℕ, ◌+◌, ◌<◌, ◌≤◌, length, slice_index, IsTrue, IfOk, OnOk};
 ghost use Rattle.lts.specs.Meter.{HasRoomFor, Costs};
 ghost use Rattle.lts.specs.Lts.{IsRow};
-ghost use Rattle.refine.specs.Walks.{mark_at, back_at, HasRead, IsInert, Laws, Rests};
+ghost use Rattle.lts.specs.declared.limits.TheConstants.{MOST_STATES};
+ghost use Rattle.refine.specs.Walks.{mark_at, parts_of, HasRead, IsInertWithin, Laws, Rests};
 ghost use Rattle.refine.specs.Steps.{IsInternal, Takes, Stands, HasNumbersLeft, ahead_of, steps_of};
 ghost use Rattle.refine.specs.Ahead.{unread, IsTrail, KeepsSeen, HasNumbers};
 ghost use Rattle.refine.specs.declared.walk.Mark.TheVariants.{Unseen};
 
 use crate::lists::Lists;
 use crate::partition::Partition;
-use crate::walk::{Item, Visit, Walk};
+use crate::walk::{Visit, Walk};
 use lts::{Lts, Memory, Meter};
 
 impl Walk {
@@ -51,7 +52,8 @@ impl Walk {
         laws();
         self.path.clear();
         self.bounds.clear();
-        self.items.clear();
+        self.pairs.clear();
+        self.listed.clear();
         let (start, end) = l.row(s);
         self.enter(s, start, end, 0)?;
         while !self.path.is_empty() {
@@ -94,16 +96,15 @@ impl Walk {
         ensures trail { IsTrail self.new.marks.items self.new.trail.items }
         ensures lists { length lists.old ≤ length lists.new }
     {
-        let at = self.at;
-        self.read(l, p, internal, lists, m)?;
-        if self.at == at {
-            self.go_back(l, p, lists)?;
+        if self.read(l, p, internal, lists, m)? {
+            return Ok(());
         }
+        self.go_back(l, p, lists)?;
         Ok(())
     }
 
     /// Reads the row of the state where the walk is up to its end, or up to an inert step to a state that was not seen,
-    /// and goes there.
+    /// and goes there. Returns whether it went there.
     ///
     /// Fails if there is no memory for it.
     fn read<M: Meter>(
@@ -113,7 +114,7 @@ impl Walk {
         internal: Option<u32>,
         lists: &Lists,
         m: &mut M,
-    ) -> Result<(), Memory>
+    ) -> Result<bool, Memory>
         requires blocks { length p.now ≡ l.now.states }
         requires internal { IsInternal l.now internal }
         requires some { 0 < length self.old.path.items }
@@ -129,9 +130,9 @@ impl Walk {
         ensures visits { OnOk result (
             (M.counted m.new).visits + ahead_of l.now self.new ≡ (M.counted m.old).visits + ahead_of l.now self.old) }
         ensures some { OnOk result (0 < length self.new.path.items) }
-        ensures here { OnOk result (self.new.at ≡ self.old.at →
+        ensures there { IfOk result (λ went. IsTrue went → steps_of l.now self.new < steps_of l.now self.old) }
+        ensures here { IfOk result (λ went. ¬ IsTrue went →
             HasRead self.new.path.items self.new.at × (steps_of l.now self.new ≤ steps_of l.now self.old)) }
-        ensures there { OnOk result (self.new.at ≢ self.old.at → steps_of l.now self.new < steps_of l.now self.old) }
 
         // In either case
         ensures cost { Costs (M.counted m.old) (M.counted m.new) 0 0 (ahead_of l.now self.old) }
@@ -142,23 +143,25 @@ impl Walk {
         l.known();
         let at = self.at;
         let visit = self.path[at as usize];
+        let block = p.block(visit.state);
         for next in visit.next..visit.end {
             let (label, target) = l.edge(next, m);
-            self.take(l, p, internal, visit.state, label, target)?;
+            let entered = self.take(l, p, internal, block, label, target)?;
             self.path[at as usize] = Visit {
                 state: visit.state,
                 next: next + 1,
                 end: visit.end,
                 back: visit.back,
             };
-            if self.at != at {
-                return Ok(());
+            if entered {
+                return Ok(true);
             }
         }
-        Ok(())
+        Ok(false)
     }
 
-    /// Follows a transition of the state `s` if it is inert, and else collects its pair.
+    /// Follows a transition of a state of this block if it is inert, and else collects its pair. Returns whether it enters
+    /// a state.
     ///
     /// Fails if there is no memory for it.
     fn take<M: Meter>(
@@ -166,28 +169,30 @@ impl Walk {
         l: &Lts<M>,
         p: &Partition,
         internal: Option<u32>,
-        s: u32,
+        block: u32,
         label: u32,
         target: u32,
-    ) -> Result<(), Memory>
+    ) -> Result<bool, Memory>
         requires blocks { length p.now ≡ l.now.states }
         requires internal { IsInternal l.now internal }
-        requires state { s < l.now.states }
         requires label { label < length l.now.labels }
         requires target { target < l.now.states }
         requires size { length self.old.marks.items ≡ l.now.states }
-        requires places { length self.old.path.items ≤ 2000000 }
+        requires places { length self.old.path.items ≤ MOST_STATES }
         requires trail { IsTrail self.old.marks.items self.old.trail.items }
-        ensures takes { OnOk result (Takes l.now p.now (s, label, target) self.old self.new) }
+        ensures takes { OnOk result (Takes l.now p.now block label target (parts_of self.old) (parts_of self.new)) }
+        ensures here { IfOk result (λ entered. ¬ IsTrue entered → self.new.at ≡ self.old.at) }
         ensures size { length self.new.marks.items ≡ length self.old.marks.items }
         ensures trail { IsTrail self.new.marks.items self.new.trail.items }
     {
-        if is_inert(l, p, internal, s, label, target) {
+        let other = p.block(target);
+        if is_inert(l, internal, block, label, other) {
             let (start, end) = l.row(target);
-            return self.follow(target, start, end);
+            let entered = self.follow(target, start, end)?;
+            return Ok(entered);
         }
-        self.items.push(Item::Pair(label, p.block(target)))?;
-        Ok(())
+        self.pairs.push((label, other))?;
+        Ok(false)
     }
 
     /// Goes back from the place where the walk is, whose row was read. If a component begins there, it is finished.
@@ -227,7 +232,7 @@ impl Walk {
             self.at = back;
             return Ok(());
         }
-        self.leave(bound.place, bound.items, lists)?;
+        self.leave(bound, lists)?;
         self.at = back;
         Ok(())
     }
@@ -241,25 +246,16 @@ fn laws()
     theory::inert_steps_pass_signatures_back();
 }
 
-/// Whether a transition of the state `s` is inert, if the internal label has this number.
-fn is_inert<M: Meter>(
-    l: &Lts<M>,
-    p: &Partition,
-    internal: Option<u32>,
-    s: u32,
-    label: u32,
-    target: u32,
-) -> bool
-    requires blocks { length p.now ≡ l.now.states }
+/// Whether a transition from a state of one block to a state of the other block is inert, if the internal label has this
+/// number.
+fn is_inert<M: Meter>(l: &Lts<M>, internal: Option<u32>, block: u32, label: u32, other: u32) -> bool
     requires internal { IsInternal l.now internal }
-    requires state { s < l.now.states }
     requires label { label < length l.now.labels }
-    requires target { target < l.now.states }
-    ensures { IsTrue result ↔ IsInert l.now p.now s (s, label, target) }
+    ensures { IsTrue result ↔ IsInertWithin l.now block label other }
 {
     l.known();
     match internal {
-        Some(k) => k == label && p.block(target) == p.block(s),
+        Some(k) => k == label && other == block,
         None => false,
     }
 }

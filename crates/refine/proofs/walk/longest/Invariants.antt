@@ -1,10 +1,9 @@
-use Rattle.std.proofs.Common.{ℕ, ◌<◌, length, Contains}
-use Rattle.refine.specs.Lists.{list_at}
-use Rattle.refine.specs.Steps.{IsGiven}
+use Rattle.std.proofs.Common.{◌≡◌, ◌⊎◌, ◌<◌, length, Contains}
+use Rattle.refine.specs.declared.lists.TheConstants.{EMPTY}
 use Rattle.refine.proofs.walk.longest.Given as goal
 
-abbrev pub invariant-loop-j : goal.invariant-loop-j
-invariant-loop-j l = record {
+abbrev pub invariant-loop-list : goal.invariant-loop-list
+invariant-loop-list l = record {
   within : l.longest < length l.lists;
-  given : (z : ℕ × ℕ) → Contains (list_at l.lists l.longest) z → IsGiven l.lists l.items l.from z;
+  listed : (l.longest ≡ EMPTY) ⊎ Contains l.listed l.longest;
 }

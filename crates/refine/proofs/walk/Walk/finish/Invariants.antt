@@ -1,13 +1,13 @@
 use Rattle.std.proofs.Common.{◌≡◌, ◌≢◌, ◌+◌, ◌≤◌, length}
 use Rattle.lts.specs.Meter.{Costs}
-use Rattle.refine.specs.Walks.{mark_at, Walks}
+use Rattle.refine.specs.Walks.{mark_at, parts_of, Walks}
 use Rattle.refine.specs.Ahead.{unread, ahead, IsTrail, KeepsSeen, HasNumbers, steps_ahead}
 use Rattle.refine.specs.declared.walk.Mark.TheVariants.{Unseen}
 use Rattle.refine.proofs.walk.Walk.finish.Given as goal
 
 abbrev pub invariant-loop-internal : goal.invariant-loop-internal
 invariant-loop-internal g l = record {
-  walks : Walks l.l l.p l.lists l.self.marks.items l.self.path.items l.self.at l.self.bounds.items l.self.items.items;
+  walks : Walks l.l l.p l.lists (parts_of l.self);
   numbers : HasNumbers l.l.states (length l.lists) (length l.self.path.items) l.self.marks.items;
   trail : IsTrail l.self.marks.items l.self.trail.items;
   seen : KeepsSeen l.fn.self.marks.items l.self.marks.items;

@@ -1,8 +1,7 @@
 use Rattle.std.specs.Prelude.{slice_index_or}
 use Rattle.std.proofs.Common.{◌≡◌, ◌∙◌, ◌-◌, ◌<◌, length, ap, sym, subst, inr, arith}
 use Rattle.std.proofs.lemmas.List.{get_or_default}
-use Rattle.refine.specs.Walks.{visit_at, bound_at, Walks}
-use Rattle.refine.specs.Steps.{Leaves}
+use Rattle.refine.specs.Walks.{visit_at, bound_at, parts_of, Walks}
 use Rattle.refine.specs.declared.walk.Walk.{Walk}
 use Rattle.refine.proofs.WalkCuts.{last_bound}
 use Rattle.refine.proofs.WalkSteps.{Walks-back}
@@ -10,7 +9,7 @@ use Rattle.refine.proofs.WalkAdvance.{bounds_some, left_walks, left_numbers, lef
 use Rattle.refine.proofs.WalkMove.{read_visit, read_bound}
 use Rattle.refine.proofs.walk.Walk.go_back.Given.{Over}
 use Rattle.refine.proofs.walk.Walk.go_back.Goals as goal
-use Rattle.refine.proofs.walk.Walk.go_back.Goals.{After-index-bound, In_ok-leave}
+use Rattle.refine.proofs.walk.Walk.go_back.Goals.{After-index-bound}
 
 -- the visit where the walk is, and the last bound
 module _ (g : Over) (c : After-index-bound g) where
@@ -26,7 +25,8 @@ module _ (g : Over) (c : After-index-bound g) where
   some : 0 < length w.bounds.items
   some =
       let lists = c.args.lists.now in
-      bounds_some c.laws.ensures c.args.l.now c.known.ensures c.args.p.now lists lists w w c.requires.walks c.requires.numbers c.requires.some c.requires.read
+      bounds_some c.laws.ensures c.args.l.now c.known.ensures c.args.p.now lists lists (parts_of w) (parts_of w) c.requires.walks c.requires.numbers c.requires.some
+      c.requires.read
 
   bound : c.index-bound.result.now ≡ bound_at w.bounds.items (length w.bounds.items - 1)
   bound = read_bound w.bounds.items (c.len.result - 1) c.index-bound.result.now (omega (arith, c.len.ensures, w.bounds.ok.0)) some c.index-bound.ensures
@@ -35,8 +35,8 @@ pub returns-then-bound-self-clause-walks : goal.returns-then-bound-self-clause-w
 returns-then-bound-self-clause-walks g c =
     let d = (goal.at.returns-then-bound-self-clause-walks g c).After-index-bound in
     let w = c.args.self.now in
-    subst (λ x. Walks c.args.l.now c.args.p.now c.args.lists.now w.marks.items w.path.items x w.bounds.items w.items.items) (sym (ap (λ v. v.back) (visit g d)))
-    (Walks-back c.laws.ensures c.args.l.now c.args.p.now c.args.lists.now w.marks.items w.path.items w.at w.bounds.items w.items.items c.requires.walks (some g d)
+    subst (λ x. Walks c.args.l.now c.args.p.now c.args.lists.now (record (parts_of w) { at = x })) (sym (ap (λ v. v.back) (visit g d)))
+    (Walks-back c.laws.ensures c.args.l.now c.args.p.now c.args.lists.now (parts_of w) c.requires.walks (some g d)
     (λ e. c.if-bound-self.true (ap (λ b. b.place) (bound g d) ∙ e)) (here g d) c.requires.read)
 
 pub returns-then-bound-self-clause-back : goal.returns-then-bound-self-clause-back
@@ -46,7 +46,7 @@ returns-then-bound-self-clause-back g c =
     let walks = c.requires.walks in
     let place = ap (λ b. b.place) (bound g d) in
     let back = ap (λ v. v.back) (visit g d) in
-    let reached = walks.bounded.reached _ _ (last_bound w.bounds.items walks.rising (some g d)) in
+    let reached = walks.of_pairs.reached _ _ (last_bound w.bounds.items walks.rising (some g d) (λ b. b.pairs)) in
     let apart = c.if-bound-self.true in
     let earlier = walks.rows.earlier w.at (omega (arith, reached, place, apart)) (here g d) in
     inr (omega (arith, earlier, back))
@@ -60,40 +60,39 @@ leave-requires-clause-states g c k d h =
     let state = ap (λ v. v.state) same in
     omega (arith, below, size, state)
 
+pub leave-requires-clause-pairs : goal.leave-requires-clause-pairs
+leave-requires-clause-pairs g c =
+    let d = (goal.at.leave-requires-clause-pairs g c).After-index-bound in
+    let walks = c.requires.walks in
+    let from = ap (λ b. b.pairs) (bound g d) in
+    let few = walks.of_pairs.within _ _ (last_bound c.args.self.now.bounds.items walks.rising (some g d) (λ b. b.pairs)) in
+    omega (arith, from, few)
+
 pub leave-requires-clause-from : goal.leave-requires-clause-from
 leave-requires-clause-from g c =
     let d = (goal.at.leave-requires-clause-from g c).After-index-bound in
     let walks = c.requires.walks in
-    let items = ap (λ b. b.items) (bound g d) in
-    let few = walks.bounded.items _ _ (last_bound c.args.self.now.bounds.items walks.rising (some g d)) in
-    omega (arith, items, few)
-
--- the component that begins where the walk is was finished
-module _ (g : Over) (c : In_ok-leave g) (is : c.index-bound.result.now ≡ bound_at c.args.self.now.bounds.items (length c.args.self.now.bounds.items - 1)) where
-  place : (bound_at c.args.self.now.bounds.items (length c.args.self.now.bounds.items - 1)).place ≡ c.args.self.now.at
-  place = sym (ap (λ b. b.place) is) ∙ c.if-bound-self.false
-
-  leaves : Leaves c.args.self.now.at c.index-bound.result.now.items c.args.self.now c.leave.new.self c.args.lists.now c.leave.new.lists
-  leaves =
-      subst (λ f. Leaves f c.index-bound.result.now.items c.args.self.now c.leave.new.self c.args.lists.now c.leave.new.lists) c.if-bound-self.false c.in_ok-leave.ensures.leaves
+    let from = ap (λ b. b.listed) (bound g d) in
+    let few = walks.of_listed.within _ _ (last_bound c.args.self.now.bounds.items walks.rising (some g d) (λ b. b.listed)) in
+    omega (arith, from, few)
 
 pub returns-clause-walks : goal.returns-clause-walks
 returns-clause-walks g c =
     let d = goal.at.returns-clause-walks g c in
-    let is = bound g d.After-index-bound in
-    left_walks c.laws.ensures c.args.l.now c.known.ensures c.args.p.now c.args.lists.now c.leave.new.lists c.args.self.now c.leave.new.self c.requires.walks c.requires.numbers c.requires.some
-    c.requires.read c.index-bound.result.now.items (place g d.In_ok-leave is) (sym (ap (λ b. b.items) is)) (leaves g d.In_ok-leave is) c.index.result.now.back (ap (λ v. v.back) (visit g d.After-index-bound))
+    left_walks c.laws.ensures c.args.l.now c.known.ensures c.args.p.now c.args.lists.now c.leave.new.lists (parts_of c.args.self.now) (parts_of c.leave.new.self)
+    c.requires.walks c.requires.numbers c.requires.some c.requires.read c.index-bound.result.now (bound g d.After-index-bound) c.if-bound-self.false
+    c.in_ok-leave.ensures.leaves c.index.result.now.back (ap (λ v. v.back) (visit g d.After-index-bound))
 
 pub returns-clause-numbers : goal.returns-clause-numbers
 returns-clause-numbers g c =
     let d = goal.at.returns-clause-numbers g c in
-    let is = bound g d.After-index-bound in
-    left_numbers c.laws.ensures c.args.l.now c.known.ensures c.args.p.now c.args.lists.now c.leave.new.lists c.args.self.now c.leave.new.self c.requires.walks c.requires.numbers c.requires.some
-    c.requires.read c.index-bound.result.now.items (place g d.In_ok-leave is) (sym (ap (λ b. b.items) is)) (leaves g d.In_ok-leave is)
+    left_numbers c.laws.ensures c.args.l.now c.known.ensures c.args.p.now c.args.lists.now c.leave.new.lists (parts_of c.args.self.now) (parts_of c.leave.new.self)
+    c.requires.walks c.requires.numbers c.requires.some c.requires.read c.index-bound.result.now (bound g d.After-index-bound) c.if-bound-self.false
+    c.in_ok-leave.ensures.leaves
 
 pub returns-clause-ahead : goal.returns-clause-ahead
 returns-clause-ahead g c =
     let d = goal.at.returns-clause-ahead g c in
-    let is = bound g d.After-index-bound in
-    left_ahead c.laws.ensures c.args.l.now c.known.ensures c.args.p.now c.args.lists.now c.leave.new.lists c.args.self.now c.leave.new.self c.requires.walks c.requires.numbers c.requires.some
-    c.requires.read c.index-bound.result.now.items (place g d.In_ok-leave is) (sym (ap (λ b. b.items) is)) (leaves g d.In_ok-leave is)
+    left_ahead c.laws.ensures c.args.l.now c.known.ensures c.args.p.now c.args.lists.now c.leave.new.lists (parts_of c.args.self.now) (parts_of c.leave.new.self)
+    c.requires.walks c.requires.numbers c.requires.some c.requires.read c.index-bound.result.now (bound g d.After-index-bound) c.if-bound-self.false
+    c.in_ok-leave.ensures.leaves

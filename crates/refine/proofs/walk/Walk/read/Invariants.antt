@@ -1,12 +1,12 @@
 use Rattle.std.proofs.Common.{◌≡◌, ◌+◌, ◌<◌, ◌≤◌, length}
 use Rattle.lts.specs.Meter.{Costs}
-use Rattle.refine.specs.Walks.{visit_at, Walks}
+use Rattle.refine.specs.Walks.{visit_at, parts_of, Walks}
 use Rattle.refine.specs.Ahead.{ahead, IsTrail, KeepsSeen, HasNumbers, steps_ahead}
 use Rattle.refine.proofs.walk.Walk.read.Given as goal
 
 abbrev pub invariant-loop-next : goal.invariant-loop-next
 invariant-loop-next g l = record {
-  walks : Walks l.l l.p l.lists l.self.marks.items l.self.path.items l.self.at l.self.bounds.items l.self.items.items;
+  walks : Walks l.l l.p l.lists (parts_of l.self);
   numbers : HasNumbers l.l.states (length l.lists) (length l.self.path.items) l.self.marks.items;
   trail : IsTrail l.self.marks.items l.self.trail.items;
   seen : KeepsSeen l.fn.self.marks.items l.self.marks.items;

@@ -1,0 +1,19 @@
+use Rattle.std.proofs.Common.{refl, arith}
+use Rattle.refine.specs.Lists.{list_at}
+use Rattle.refine.proofs.WalkLists.{among_more, among_known, among_all}
+use Rattle.refine.proofs.walk.collect_lists.Goals as goal
+
+pub returns : goal.returns
+returns c =
+    among_all c.args.lists.now c.args.listed.now c.loop-list.list-index (list_at c.args.lists.now c.args.known) c.args.out.now.items c.loop-list.out.items
+    (omega arith) c.loop-list.invariant
+
+pub loop-list-preserved-then-list-known : goal.loop-list-preserved-then-list-known
+loop-list-preserved-then-list-known c =
+    among_more c.args.lists.now c.args.listed.now c.loop-list.list-index _ (list_at c.args.lists.now c.args.known) c.args.out.now.items c.loop-list.out.items
+    c.loop-list.out.items refl (among_known c.args.lists.now c.args.known _ c.loop-list.out.items c.if-list-known.true) c.loop-list.invariant
+
+pub loop-list-preserved : goal.loop-list-preserved
+loop-list-preserved c =
+    among_more c.args.lists.now c.args.listed.now c.loop-list.list-index _ (list_at c.args.lists.now c.args.known) c.args.out.now.items c.loop-list.out.items
+    c.append_missing.new.pairs.items refl c.in_ok-append_missing.ensures c.loop-list.invariant
