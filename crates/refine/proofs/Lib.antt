@@ -10,6 +10,7 @@ pub mod Numbering
 pub mod Searching
 pub mod Elders
 pub mod Alone
+pub mod Prints
 pub mod Listing
 pub mod EachList
 pub mod WalkHolds

@@ -1,6 +1,6 @@
 -- Lists of pairs that are looked up by their numbers, and the number of each state's list.
 use Rattle.std.specs.Prelude.{◌≡◌, ℕ, ◌<◌, ◌≤◌, true, List, [], length, map, slice_index}
-use Rattle.std.specs.List.{All, slice_index_or}
+use Rattle.std.specs.List.{All, Contains, slice_index_or}
 use Rattle.std.specs.List.Sorted.{IsStrictlySortedBy}
 use Rattle.std.specs.Set.{sorted_merge}
 use Rattle.refine.specs.Signed.{pair_cmp}
@@ -12,6 +12,10 @@ list_at lists k = slice_index_or lists k []
 -- the pairs of both lists in rising order, if the lists are
 abbrev pub merged : List (ℕ × ℕ) → List (ℕ × ℕ) → List (ℕ × ℕ)
 merged = sorted_merge pair_cmp true
+
+-- no pair is in both lists
+abbrev pub Apart : List (ℕ × ℕ) → List (ℕ × ℕ) → Type 0
+Apart xs ys = (z : ℕ × ℕ) → Contains xs z → ¬ Contains ys z
 
 -- lists in strictly rising order, the first of which is empty
 pub record AreLists (lists : List (List (ℕ × ℕ))) : Type 0 where

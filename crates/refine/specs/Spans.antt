@@ -1,23 +1,27 @@
 -- How `Lists` keeps its lists: as spans of one buffer, each with a fingerprint.
-use Rattle.std.specs.Prelude.{◌≡◌, ℕ, ◌+◌, ◌*◌, ◌%◌, ◌^◌, ◌≤◌, List, length, map, fold}
-use Rattle.std.specs.List.{All, slice_range, slice_index_or}
+use Rattle.std.specs.Prelude.{◌≡◌, ℕ, ◌+◌, ◌*◌, ◌/◌, ◌%◌, ◌^◌, ◌≤◌, List, length, map}
+use Rattle.std.specs.List.{All, slice_range, slice_index_or, sum_by}
 use Rattle.std.specs.List.Sorted.{IsStrictlySortedBy}
 use Rattle.refine.specs.Signed.{pair_cmp}
 use Rattle.refine.specs.declared.span.Span.{Span}
-use Rattle.refine.specs.declared.span.TheConstants.{SEED, FIRST_FACTOR, SUM_FACTOR}
+use Rattle.refine.specs.declared.span.TheConstants.{FIRST_FACTOR, SUM_FACTOR}
 use Rattle.refine.specs.declared.lists.TheConstants.{MOST_LISTS}
 
--- a fingerprint with one pair more
+-- a number with a pair mixed in
 abbrev pub mixed : ℕ → ℕ × ℕ → ℕ
 mixed sum p = ((sum + p.0 * FIRST_FACTOR % 2 ^ 64) % 2 ^ 64 + p.1) % 2 ^ 64 * SUM_FACTOR % 2 ^ 64
 
--- the fingerprint of a list
+-- the word of a pair
+abbrev pub word_of : ℕ × ℕ → ℕ
+word_of p = mixed 0 p / 2 ^ 32 * (mixed 0 p % 2 ^ 32) % 2 ^ 64
+
+-- the fingerprint of a list: the sum of the words of its pairs
 abbrev pub fingerprint_of : List (ℕ × ℕ) → ℕ
-fingerprint_of list = fold mixed SEED list
+fingerprint_of list = sum_by word_of list % 2 ^ 64
 
 -- the span of no pairs
 abbrev pub no_pairs : Span
-no_pairs = record { start = 0; end = 0; fingerprint = SEED }
+no_pairs = record { start = 0; end = 0; fingerprint = 0 }
 
 -- the list that the span has
 abbrev pub list_in : List (ℕ × ℕ) → Span → List (ℕ × ℕ)

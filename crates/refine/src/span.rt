@@ -1,9 +1,6 @@
 //! Lists of pairs as spans of one buffer, each with a fingerprint.
 ghost use Rattle.std.specs.Prelude.{◌≡◌, ◌↔◌, ◌≤◌, length, IsTrue};
-ghost use Rattle.refine.specs.Spans.{list_in, no_pairs, mixed, fingerprint_of};
-
-/// The fingerprint of the empty list.
-const SEED: u64 = 0x2545_F491_4F6C_DD1D;
+ghost use Rattle.refine.specs.Spans.{list_in, no_pairs, mixed, word_of, fingerprint_of};
 
 const FIRST_FACTOR: u64 = 0x9E37_79B9_7F4A_7C15;
 
@@ -24,7 +21,7 @@ pub(crate) fn empty_span() -> Span
     Span {
         start: 0,
         end: 0,
-        fingerprint: SEED,
+        fingerprint: 0,
     }
 }
 
@@ -37,7 +34,7 @@ pub(crate) fn list_of(pairs: &[(u32, u32)], span: Span) -> &[(u32, u32)]
     &pairs[span.start..span.end]
 }
 
-/// A fingerprint with one pair more.
+/// A number with a pair mixed in.
 pub(crate) fn mix(sum: u64, first: u32, second: u32) -> u64
     ensures { result ≡ mixed sum (first, second) }
 {
@@ -46,13 +43,23 @@ pub(crate) fn mix(sum: u64, first: u32, second: u32) -> u64
         .wrapping_mul(SUM_FACTOR)
 }
 
-/// A number that equal lists share, and different lists seldom.
+/// A word for the pair, as if drawn by chance: the halves of its mix multiplied, so that sums of words do not depend on sums
+/// of numbers.
+pub(crate) fn word(first: u32, second: u32) -> u64
+    ensures { result ≡ word_of (first, second) }
+{
+    let mixed = mix(0, first, second);
+    (mixed / 0x1_0000_0000).wrapping_mul(mixed % 0x1_0000_0000)
+}
+
+/// A number that equal lists share, and different lists seldom: the sum of the words of the pairs, so that it can be added up
+/// from parts.
 pub(crate) fn fingerprint(list: &[(u32, u32)]) -> u64
     ensures { result ≡ fingerprint_of list.now }
 {
-    let mut sum = SEED;
+    let mut sum: u64 = 0;
     for (first, second) in list {
-        sum = mix(sum, *first, *second);
+        sum = sum.wrapping_add(word(*first, *second));
     }
     sum
 }
