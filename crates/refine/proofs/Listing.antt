@@ -12,7 +12,7 @@ use Rattle.refine.specs.Lists.{AreLists}
 use Rattle.refine.proofs.Rising.{rising_none}
 use Rattle.refine.proofs.Spans.{slice_range-append, slice_range-last}
 
-All-only : {X : Type 0} (P : X → Type 0) (x : X) → P x → All P (x ∷ [])
+pub All-only : {X : Type 0} (P : X → Type 0) (x : X) → P x → All P (x ∷ [])
 All-only P x p zero d h = p
 All-only P x p (suc k) d h = absurd (omega arith)
 
@@ -24,6 +24,7 @@ pub AreLists-of : (pairs : List (ℕ × ℕ)) (spans : List Span) → AreSpans p
 AreLists-of pairs spans are = record {
   rise = All-map (IsStrictlySortedBy pair_cmp) (list_in pairs) spans (All-weaker (IsSpan pairs) (λ x. IsStrictlySortedBy pair_cmp (list_in pairs x)) (λ x is. is.rising) spans are.each);
   some = let size = length-map spans (list_in pairs) in let old = are.some in omega (arith, size, old);
+  few = let size = length-map spans (list_in pairs) in let few = are.few in omega (arith, size, few);
   first = get_or-map (list_in pairs) spans 0 no_pairs [] are.some ∙ ap (list_in pairs) are.first;
 }
 

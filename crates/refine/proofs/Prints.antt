@@ -1,5 +1,5 @@
 -- Fingerprints are added up: pair by pair, and from two lists that share no pair.
-use Rattle.std.proofs.Common.{◌≡◌, ◌∙◌, ℕ, ◌+◌, ◌<◌, ◌%◌, ◌^◌, List, [], ◌∷◌, length, get_or, take, Contains, Less, Equal, Greater, ap, sym, arith}
+use Rattle.std.proofs.Common.{◌≡◌, ◌∙◌, ℕ, ◌+◌, ◌<◌, ◌%◌, ◌^◌, List, [], ◌∷◌, length, get_or, take, Contains, Less, Equal, Greater, refl, ap, sym, arith}
 use Rattle.std.specs.List.{sum_by}
 use Rattle.std.specs.Ordering.{is_eq}
 use Rattle.std.proofs.Math.Nat.{mod-add-mod, add-mod-mod}
@@ -43,3 +43,12 @@ pub fingerprint_merged : (xs ys : List (ℕ × ℕ)) → Apart xs ys → (finger
 fingerprint_merged xs ys apart =
     mod-add-mod (sum_by word_of xs) (2 ^ 64) (fingerprint_of ys) ∙ add-mod-mod (sum_by word_of xs) (sum_by word_of ys) (2 ^ 64)
     ∙ ap (λ s. s % 2 ^ 64) (sym (sum_merged word_of xs ys apart))
+
+length-sum : (xs : List (ℕ × ℕ)) → sum_by (λ _. 1) xs ≡ length xs
+length-sum [] = refl
+length-sum (x ∷ xs) = omega (arith, sum_by-cons (λ _. 1) x xs, length-sum xs)
+
+-- and the size of both as one that of their sizes
+pub length-merged : (xs ys : List (ℕ × ℕ)) → Apart xs ys → length (merged xs ys) ≡ length xs + length ys
+length-merged xs ys apart =
+    omega (arith, sum_merged (λ _. 1) xs ys apart, length-sum xs, length-sum ys, length-sum (merged xs ys))

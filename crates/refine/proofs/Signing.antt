@@ -6,7 +6,7 @@ use Rattle.theory.specs.Bisimulation.Relation.{strong, branching}
 use Rattle.theory.specs.Blocks.{Signature, SameSignature, Split}
 use Rattle.lts.specs.Labels.{text_of, IsNumber}
 use Rattle.lts.specs.Lts.{Grouped, system_of}
-use Rattle.refine.specs.Signed.{HasPair, IsSignature, signature_at}
+use Rattle.refine.specs.Signed.{HasPair, IsSignature}
 use Rattle.refine.proofs.Rising.{rising_unique, pair_total}
 
 -- each label that a step shows is in the table
@@ -39,25 +39,25 @@ module _ (rel : Relation) (l : Grouped) (labelled : Labelled l) (blocks : List �
         λ c. let h = (of_t.exactly z.0 z.1).0 c in (of_s.exactly z.0 z.1).1 (h.0, (same (text_of l.labels z.0) z.1).1 h.1),
       ))
 
-module _ (rel : Relation) (l : Grouped) (labelled : Labelled l) (p q : List ℕ) (signatures : List (List (ℕ × ℕ)))
-    (signed : (s : ℕ) → s < l.states → IsSignature rel l p s (signature_at signatures s)) where
+module _ (rel : Relation) (l : Grouped) (labelled : Labelled l) (p q : List ℕ) (signature : ℕ → List (ℕ × ℕ))
+    (signed : (s : ℕ) → s < l.states → IsSignature rel l p s (signature s)) where
   -- blocks that are parted by their signatures are the Split
   pub parted_is_split :
       ((s t : ℕ) → s < l.states → t < l.states →
-      (slice_index q s ≡ slice_index q t) ↔ ((slice_index p s ≡ slice_index p t) × (signature_at signatures s ≡ signature_at signatures t)))
+      (slice_index q s ≡ slice_index q t) ↔ ((slice_index p s ≡ slice_index p t) × (signature s ≡ signature t)))
       → Split rel (system_of l) (slice_index p) (slice_index q)
   parted_is_split parted s t ls lt = (
     λ e.
         let h = (parted s t ls lt).0 e in (
           h.0,
           λ a b. (
-            carried rel l labelled p s t (signature_at signatures s) (signature_at signatures t) (signed s ls) (signed t lt) h.1 a b,
-            carried rel l labelled p t s (signature_at signatures t) (signature_at signatures s) (signed t lt) (signed s ls) (sym h.1) a b,
+            carried rel l labelled p s t (signature s) (signature t) (signed s ls) (signed t lt) h.1 a b,
+            carried rel l labelled p t s (signature t) (signature s) (signed t lt) (signed s ls) (sym h.1) a b,
           ),
         ),
     λ h.
         (parted s t ls lt).1 (
           h.0,
-          same_list rel l labelled p s t (signature_at signatures s) (signature_at signatures t) (signed s ls) (signed t lt) h.1,
+          same_list rel l labelled p s t (signature s) (signature t) (signed s ls) (signed t lt) h.1,
         ),
   )

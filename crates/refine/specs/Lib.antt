@@ -2,6 +2,7 @@ pub mod Partition
 pub mod Signed
 pub mod Lists
 pub mod Spans
+pub mod Roots
 pub mod StrongPairs
 pub mod Splitting
 pub mod Walks

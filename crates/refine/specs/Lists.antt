@@ -4,6 +4,7 @@ use Rattle.std.specs.List.{All, Contains, slice_index_or}
 use Rattle.std.specs.List.Sorted.{IsStrictlySortedBy}
 use Rattle.std.specs.Set.{sorted_merge}
 use Rattle.refine.specs.Signed.{pair_cmp}
+use Rattle.refine.specs.declared.lists.TheConstants.{MOST_LISTS}
 
 -- the list number k
 abbrev pub list_at : List (List (ℕ × ℕ)) → ℕ → List (ℕ × ℕ)
@@ -17,10 +18,11 @@ merged = sorted_merge pair_cmp true
 abbrev pub Apart : List (ℕ × ℕ) → List (ℕ × ℕ) → Type 0
 Apart xs ys = (z : ℕ × ℕ) → Contains xs z → ¬ Contains ys z
 
--- lists in strictly rising order, the first of which is empty
+-- lists in strictly rising order, the first of which is empty, and not too many for their numbers
 pub record AreLists (lists : List (List (ℕ × ℕ))) : Type 0 where
   pub rise : All (IsStrictlySortedBy pair_cmp) lists
   pub some : 1 ≤ length lists
+  pub few : length lists ≤ MOST_LISTS
   pub first : list_at lists 0 ≡ []
 
 -- each list stays as it is, and there may be more
@@ -45,3 +47,8 @@ pub record AreNumbered (lists : List (List (ℕ × ℕ))) (numbers : List ℕ) :
   pub each : AreNumbers lists numbers
   pub some : 1 ≤ length numbers
   pub few : length numbers ≤ 2000000
+
+-- the lists of a round, each whole, and the numbers of the states' lists
+pub record AreLent (whole lists : List (List (ℕ × ℕ))) (numbers : List ℕ) : Type 0 where
+  pub same : whole ≡ lists
+  pub numbered : AreNumbered lists numbers

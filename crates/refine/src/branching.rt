@@ -38,7 +38,9 @@ impl Sense for Branching {
         let done = sign_one(&mut marks.walk, l, p, s, &mut marks.lists, m);
         marks.walk.reset();
         let list = done?;
-        out.extend_from_slice(marks.lists.of(list))?;
+        marks.pairs.clear();
+        marks.lists.append(list, &mut marks.pairs)?;
+        out.extend_from_slice(&marks.pairs)?;
         Ok(())
     }
 

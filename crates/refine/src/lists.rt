@@ -1,13 +1,15 @@
-//! Lists of pairs, one behind the other in one buffer, that are looked up by their numbers.
-ghost use Rattle.std.specs.Prelude.{◌≡◌, ◌⊎◌, ◌↔◌, ℕ, ◌+◌, ◌++◌, ◌∷◌, ◌<◌, ◌≤◌, [], length, IfOk, OnOk, OnErr, IsTrue};
+//! Lists of pairs that are looked up by their numbers. A list that adds little to another one is kept as what it adds.
+ghost use Rattle.std.specs.Prelude.{◌≡◌, ◌⊎◌, ◌↔◌, ℕ, ◌+◌, ◌++◌, ◌∷◌, ◌<◌, ◌≤◌, [], length, slice_index, IfOk, OnOk, OnErr, IsTrue};
 ghost use Rattle.std.specs.List.{Contains};
 ghost use Rattle.std.specs.List.Sorted.{IsStrictlySortedBy};
 ghost use Rattle.refine.specs.Signed.{pair_cmp};
-ghost use Rattle.refine.specs.Lists.{list_at, merged, AreLists};
-ghost use Rattle.refine.specs.Spans.{fingerprint_of, lists_of, AreSpans};
+ghost use Rattle.refine.specs.Lists.{list_at, merged, Apart, AreLists};
+ghost use Rattle.refine.specs.Roots.{wholes, AreRooted};
+ghost use Rattle.refine.specs.Spans.{fingerprint_of};
 
-use crate::ordered::{append_merged, append_missing, has};
-use crate::span::{Span, are_same, empty_span, fingerprint, list_of};
+use crate::ordered::{append_merged, append_missing, has_either};
+use crate::parts::Parts;
+use crate::span::are_same;
 use lts::Memory;
 use std::alloc::Global;
 use std::marker::Model;
@@ -18,16 +20,21 @@ pub(crate) const EMPTY: u32 = 0;
 /// The most lists: the empty one, and one for each of 2,000,000 states.
 pub(crate) const MOST_LISTS: usize = 2_000_001;
 
+/// A list is kept whole once it adds this part of its root to it.
+const PART: usize = 4;
+
 /// Lists of pairs in strictly rising order, each of the number of a label and the number of a block. The list number
 /// `EMPTY` is the empty one.
 #[derive(Drop)]
 pub struct Lists {
-    /// All lists one behind the other.
-    pairs: Vec<(u32, u32)>,
-    /// Where each list is.
-    spans: Vec<Span>,
+    /// What each list adds to its root.
+    parts: Parts,
+    /// The number of each list's root, which is a list that is kept whole, or `EMPTY` if the list itself is.
+    roots: Vec<u32>,
+    /// Where what a list adds is put together.
+    added: Vec<(u32, u32)>,
     /// Where a list is put together.
-    scratch: Vec<(u32, u32)>,
+    whole: Vec<(u32, u32)>,
 }
 
 impl Model for Lists {
@@ -35,11 +42,11 @@ impl Model for Lists {
 
     ghost Value = { List (List (ℕ × ℕ)) };
 
-    ghost use Rattle.refine.specs.Spans.{lists_of, AreSpans};
+    ghost use Rattle.refine.specs.Roots.{wholes, AreRooted};
 
-    ghost view = { λ x. lists_of x.pairs.items x.spans.items };
+    ghost view = { λ x. wholes x.parts x.roots.items };
 
-    ghost invariant = { λ x. AreSpans x.pairs.items x.spans.items };
+    ghost invariant = { λ x. AreRooted x.parts x.roots.items };
 }
 
 impl Lists {
@@ -49,12 +56,14 @@ impl Lists {
     pub(crate) fn new(alloc: Global, room: u32) -> Result<Lists, Memory>
         ensures { IfOk result (λ x. x ≡ [] ∷ []) }
     {
-        let mut spans = Vec::with_capacity(alloc, room as usize + 1)?;
-        spans.push(empty_span())?;
+        let parts = Parts::new(alloc, room)?;
+        let mut roots = Vec::with_capacity(alloc, room as usize + 1)?;
+        roots.push(EMPTY)?;
         Ok(Lists {
-            pairs: Vec::new(alloc),
-            spans,
-            scratch: Vec::new(alloc),
+            parts,
+            roots,
+            added: Vec::new(alloc),
+            whole: Vec::new(alloc),
         })
     }
 
@@ -62,23 +71,34 @@ impl Lists {
     pub(crate) fn known(&self)
         ensures { AreLists self.now }
     {
-        let _ = &self.spans;
+        let _ = &self.parts;
     }
 
     /// How many lists there are.
     pub(crate) fn len(&self) -> u32
         ensures { result ≡ length self.now }
     {
-        self.spans.len() as u32
+        self.parts.len()
     }
 
-    /// The list number `k`.
-    pub(crate) fn of(&self, k: u32) -> &[(u32, u32)]
+    /// The root of the list number `k`, and what it adds to that.
+    fn cut(&self, k: u32) -> (&[(u32, u32)], &[(u32, u32)])
         requires { k < length self.now }
-        ensures list { result.now ≡ list_at self.now k }
-        ensures rising { IsStrictlySortedBy pair_cmp result.now }
+        ensures whole { list_at self.now k ≡ merged result.0.now result.1.now }
+        ensures root { IsStrictlySortedBy pair_cmp result.0.now }
+        ensures added { IsStrictlySortedBy pair_cmp result.1.now }
+        ensures apart { Apart result.0.now result.1.now }
     {
-        list_of(&self.pairs, self.spans[k as usize])
+        (self.parts.of(self.roots[k as usize]), self.parts.of(k))
+    }
+
+    /// How many pairs the list number `k` has.
+    pub(crate) fn size(&self, k: u32) -> usize
+        requires { k < length self.now }
+        ensures { result ≡ length (list_at self.now k) }
+    {
+        let (root, added) = self.cut(k);
+        root.len() + added.len()
     }
 
     /// The fingerprint of the list number `k`.
@@ -86,17 +106,47 @@ impl Lists {
         requires { k < length self.now }
         ensures { result ≡ fingerprint_of (list_at self.now k) }
     {
-        self.spans[k as usize].fingerprint
+        let root = self.parts.fingerprint(self.roots[k as usize]);
+        root.wrapping_add(self.parts.fingerprint(k))
     }
 
     /// Whether the lists number `j` and `k` are equal. They are read only if the numbers differ, since many states share
-    /// a list.
+    /// a list, and their roots only if those differ.
     pub(crate) fn are_same(&self, j: u32, k: u32) -> bool
         requires first { j < length self.now }
         requires second { k < length self.now }
         ensures { IsTrue result ↔ (list_at self.now j ≡ list_at self.now k) }
     {
-        j == k || are_same(self.of(j), self.of(k))
+        if j == k {
+            return true;
+        }
+        if self.roots[j as usize] == self.roots[k as usize] {
+            return are_same(self.parts.of(j), self.parts.of(k));
+        }
+        self.has_all_of(k, j) && self.has_all_of(j, k)
+    }
+
+    /// Whether the list number `k` has all pairs of the list number `j`.
+    fn has_all_of(&self, k: u32, j: u32) -> bool
+        requires list { k < length self.now }
+        requires pairs { j < length self.now }
+        ensures { IsTrue result ↔ ((z : ℕ × ℕ) → Contains (list_at self.now j) z → Contains (list_at self.now k) z) }
+    {
+        let (root, added) = self.cut(j);
+        self.has_all(k, root) && self.has_all(k, added)
+    }
+
+    /// Whether the list number `k` has all these pairs.
+    fn has_all(&self, k: u32, pairs: &[(u32, u32)]) -> bool
+        requires { k < length self.now }
+        ensures { IsTrue result ↔ ((z : ℕ × ℕ) → Contains pairs.now z → Contains (list_at self.now k) z) }
+    {
+        for pair in pairs {
+            if !self.has(k, *pair) {
+                return false;
+            }
+        }
+        true
     }
 
     /// Whether the list number `k` has the pair.
@@ -104,7 +154,8 @@ impl Lists {
         requires { k < length self.now }
         ensures { IsTrue result ↔ Contains (list_at self.now k) pair }
     {
-        has(self.of(k), pair)
+        let (root, added) = self.cut(k);
+        has_either(root, added, pair)
     }
 
     /// Appends the pairs of the list number `j` that the list number `k` lacks to `pairs`.
@@ -121,7 +172,21 @@ impl Lists {
         ensures { OnOk result ((z : ℕ × ℕ) → Contains pairs.new.items z
             ↔ (Contains pairs.old.items z ⊎ (Contains (list_at self.now j) z × ¬ Contains (list_at self.now k) z))) }
     {
-        append_missing(self.of(j), self.of(k), pairs)
+        let root = self.roots[k as usize];
+        append_unshared(&self.parts, self.roots[j as usize], root, k, pairs)?;
+        append_unshared(&self.parts, j, root, k, pairs)?;
+        Ok(())
+    }
+
+    /// Appends the list number `k` to `pairs`.
+    ///
+    /// Fails if there is no memory for it.
+    pub(crate) fn append(&self, k: u32, pairs: &mut Vec<(u32, u32)>) -> Result<(), Memory>
+        requires { k < length self.now }
+        ensures { OnOk result (pairs.new.items ≡ pairs.old.items ++ list_at self.now k) }
+    {
+        let (root, added) = self.cut(k);
+        append_merged(root, added, pairs)
     }
 
     /// Appends the list and returns its number.
@@ -134,62 +199,106 @@ impl Lists {
         ensures number { IfOk result (λ k. k ≡ length self.old) }
         ensures err { OnErr result (self.new ≡ self.old) }
     {
-        put(&mut self.pairs, &mut self.spans, pairs)
+        put(&mut self.parts, &mut self.roots, EMPTY, pairs)
     }
 
-    /// Appends a list that has the pairs of the list number `k` and these, and returns its number.
+    /// Appends a list that has the pairs of the list number `k` and these, which it lacks, and returns its number.
     ///
     /// Fails if there is no memory for it.
     pub(crate) fn extend(&mut self, k: u32, pairs: &[(u32, u32)]) -> Result<u32, Memory>
         requires list { k < length self.old }
         requires few { length self.old < MOST_LISTS }
         requires rising { IsStrictlySortedBy pair_cmp pairs.now }
+        requires apart { Apart (list_at self.old k) pairs.now }
         ensures extended { OnOk result (self.new ≡ self.old ++ merged (list_at self.old k) pairs.now ∷ []) }
         ensures number { IfOk result (λ j. j ≡ length self.old) }
         ensures err { OnErr result (self.new ≡ self.old) }
     {
-        self.scratch.clear();
-        append_merged(
-            list_of(&self.pairs, self.spans[k as usize]),
-            pairs,
-            &mut self.scratch,
-        )?;
-        put(&mut self.pairs, &mut self.spans, &self.scratch)
+        let (base, known) = base_of(&self.parts, &self.roots, k);
+        self.added.clear();
+        append_merged(self.parts.of(known), pairs, &mut self.added)?;
+        if self.added.len() < self.parts.of(base).len() / PART {
+            return put(&mut self.parts, &mut self.roots, base, &self.added);
+        }
+        self.whole.clear();
+        append_merged(self.parts.of(base), &self.added, &mut self.whole)?;
+        put(&mut self.parts, &mut self.roots, EMPTY, &self.whole)
     }
 
     /// Forgets all lists but the empty one, and keeps the memory.
     pub(crate) fn clear(&mut self)
         ensures { self.new ≡ [] ∷ [] }
     {
-        self.pairs.clear();
-        self.spans.truncate(1);
+        self.parts.clear();
+        self.roots.truncate(1);
     }
 }
 
-/// Puts the list at the end of the pairs, and its span at the end of the spans, whose number it returns.
+/// Appends the pairs of the part number `part` that a list lacks, that of the number `k` with this root. Its own parts are
+/// not read for that.
+///
+/// Fails if there is no memory for them.
+fn append_unshared(
+    parts: &Parts,
+    part: u32,
+    root: u32,
+    k: u32,
+    pairs: &mut Vec<(u32, u32)>,
+) -> Result<(), Memory>
+    requires part { part < length parts.now }
+    requires root { root < length parts.now }
+    requires list { k < length parts.now }
+    ensures { let list = merged (list_at parts.now root) (list_at parts.now k) in
+        OnOk result ((z : ℕ × ℕ) → Contains pairs.new.items z
+        ↔ (Contains pairs.old.items z ⊎ (Contains (list_at parts.now part) z × ¬ Contains list z))) }
+{
+    if part == root || part == k {
+        return Ok(());
+    }
+    append_missing(parts.of(part), parts.of(root), parts.of(k), pairs)
+}
+
+/// The numbers of two parts that the list number `k` is made of, the first of which can be a root.
+fn base_of(parts: &Parts, roots: &[u32], k: u32) -> (u32, u32)
+    requires rooted { AreRooted parts.now roots.now }
+    requires list { k < length parts.now }
+    ensures base { result.0 < length parts.now }
+    ensures known { result.1 < length parts.now }
+    ensures whole { slice_index roots.now result.0 ≡ EMPTY }
+    ensures apart { Apart (list_at parts.now result.0) (list_at parts.now result.1) }
+    ensures list { merged (list_at parts.now result.0) (list_at parts.now result.1)
+        ≡ merged (list_at parts.now (slice_index roots.now k)) (list_at parts.now k) }
+{
+    let root = roots[k as usize];
+    if root == EMPTY {
+        return (k, EMPTY);
+    }
+    (root, k)
+}
+
+/// Puts a list at the end: what it adds to its root, and the root's number. Returns its own number.
 ///
 /// Fails if there is no memory for it. The lists are then as they were.
 fn put(
-    pairs: &mut Vec<(u32, u32)>,
-    spans: &mut Vec<Span>,
-    list: &[(u32, u32)],
+    parts: &mut Parts,
+    roots: &mut Vec<u32>,
+    root: u32,
+    added: &[(u32, u32)],
 ) -> Result<u32, Memory>
-    requires spans { AreSpans pairs.old.items spans.old.items }
-    requires few { length spans.old.items < MOST_LISTS }
-    requires rising { IsStrictlySortedBy pair_cmp list.now }
-    ensures spans { AreSpans pairs.new.items spans.new.items }
-    ensures put { OnOk result (lists_of pairs.new.items spans.new.items
-        ≡ lists_of pairs.old.items spans.old.items ++ list.now ∷ []) }
-    ensures number { IfOk result (λ k. k ≡ length spans.old.items) }
-    ensures err { OnErr result (lists_of pairs.new.items spans.new.items ≡ lists_of pairs.old.items spans.old.items) }
+    requires rooted { AreRooted parts.old roots.old.items }
+    requires few { length parts.old < MOST_LISTS }
+    requires root { root < length parts.old }
+    requires whole { slice_index roots.old.items root ≡ EMPTY }
+    requires rising { IsStrictlySortedBy pair_cmp added.now }
+    requires apart { Apart (list_at parts.old root) added.now }
+    ensures rooted { AreRooted parts.new roots.new.items }
+    ensures put { OnOk result (wholes parts.new roots.new.items
+        ≡ wholes parts.old roots.old.items ++ merged (list_at parts.old root) added.now ∷ []) }
+    ensures number { IfOk result (λ k. k ≡ length parts.old) }
+    ensures err { OnErr result (wholes parts.new roots.new.items ≡ wholes parts.old roots.old.items) }
 {
-    let number = spans.len() as u32;
-    let start = pairs.len();
-    pairs.extend_from_slice(list)?;
-    spans.push(Span {
-        start,
-        end: pairs.len(),
-        fingerprint: fingerprint(list),
-    })?;
+    roots.reserve(1)?;
+    let number = parts.push(added)?;
+    roots.push_reserved(root);
     Ok(number)
 }

@@ -5,11 +5,12 @@ ghost use Rattle.theory.specs.Blocks.{Split, Turns, EachTwo};
 ghost use Rattle.lts.specs.Meter.{HasRoomFor, Costs, CostsUpTo};
 ghost use Rattle.lts.specs.Lts.{system_of};
 ghost use Rattle.refine.specs.Partition.{IsNumbered};
+ghost use Rattle.refine.specs.Lists.{AreNumbered};
 
 use crate::marks::Marks;
 use crate::partition::Partition;
+use crate::round_signatures::RoundSignatures;
 use crate::sense::Sense;
-use crate::signatures::Signatures;
 use lts::{Lts, Memory, Meter};
 use std::alloc::Global;
 
@@ -36,7 +37,7 @@ pub fn round<S: Sense, M: Meter>(
     ensures err { OnErr result (CostsUpTo (M.counted m.old) (M.counted m.new) 1 (length l.now.places)) }
 {
     let mut marks = Marks::new(alloc, l.states())?;
-    let mut signatures = Signatures::new(alloc, l.states())?;
+    let mut signatures = RoundSignatures::new(alloc, l.states())?;
     next_round::<S, M>(l, p, &mut marks, &mut signatures, m)
 }
 
@@ -60,7 +61,7 @@ pub fn refine<S: Sense, M: Meter>(alloc: Global, l: &Lts<M>, m: &mut M) -> Resul
     ensures err { OnErr result (CostsUpTo (M.counted m.old) (M.counted m.new) l.now.states (length l.now.places)) }
 {
     let mut marks = Marks::new(alloc, l.states())?;
-    let mut signatures = Signatures::new(alloc, l.states())?;
+    let mut signatures = RoundSignatures::new(alloc, l.states())?;
     let mut blocks = Partition::one(alloc, l.states())?;
     theory::refinement_goes_on();
     theory::final_blocks_are_bisimilarity();
@@ -73,17 +74,18 @@ pub fn refine<S: Sense, M: Meter>(alloc: Global, l: &Lts<M>, m: &mut M) -> Resul
     }
 }
 
-/// One round, in marks and signatures that are used again.
+/// One round, in marks and lists that are used again.
 fn next_round<S: Sense, M: Meter>(
     l: &Lts<M>,
     p: &Partition,
     marks: &mut Marks,
-    signatures: &mut Signatures,
+    signatures: &mut RoundSignatures,
     m: &mut M,
 ) -> Result<Partition, Memory>
     requires states { length p.now ≡ l.now.states }
     requires marks { marks.old ≡ l.now.states }
-    requires signatures { length signatures.old ≡ l.now.states }
+    requires lists { AreNumbered signatures.old.lists signatures.old.numbers.items }
+    requires signatures { length signatures.old.numbers.items ≡ l.now.states }
     requires room { HasRoomFor (M.counted m.old) 1 (length l.now.places) }
 
     // Once it is done
@@ -97,11 +99,12 @@ fn next_round<S: Sense, M: Meter>(
 
     // In either case
     ensures marks { marks.new ≡ marks.old }
-    ensures signatures { length signatures.new ≡ length signatures.old }
+    ensures lists { AreNumbered signatures.new.lists signatures.new.numbers.items }
+    ensures signatures { length signatures.new.numbers.items ≡ length signatures.old.numbers.items }
 {
     lts::rows_are_steps();
     l.known();
     m.start_round();
-    signatures.fill::<S, M>(l, p, marks, m)?;
+    signatures.sign::<S, M>(l, p, marks, m)?;
     signatures.split(p)
 }

@@ -1,14 +1,16 @@
 //! The signatures of the states in memory.
-ghost use Rattle.std.specs.Prelude.{◌≡◌, ◌↔◌, ℕ, ◌<◌, ◌≤◌, [], length, slice_index, IfOk, OnOk};
+ghost use Rattle.std.specs.Prelude.{◌≡◌, ◌↔◌, ℕ, ◌<◌, ◌≤◌, [], ◌∷◌, length, slice_index, IfOk, OnOk};
 ghost use Rattle.lts.specs.Meter.{HasRoomFor, Visits};
 ghost use Rattle.refine.specs.Partition.{IsNumbered};
+ghost use Rattle.refine.specs.Lists.{list_of, AreNumbered};
 ghost use Rattle.refine.specs.Signed.{IsSignature, signature_at};
 
 use crate::lists::Lists;
 use crate::marks::Marks;
 use crate::partition::Partition;
+use crate::parts::Parts;
+use crate::round_signatures::RoundSignatures;
 use crate::sense::Sense;
-use crate::splitter::split;
 use lts::{Lts, Memory, Meter};
 use std::alloc::Global;
 use std::marker::Model;
@@ -17,9 +19,9 @@ use std::marker::Model;
 #[derive(Drop)]
 pub struct Signatures {
     alloc: Global,
-    lists: Lists,
-    /// The number of each state's list.
-    numbers: Vec<u32>,
+    round: RoundSignatures,
+    /// The lists of the round, each whole.
+    whole: Parts,
 }
 
 impl Model for Signatures {
@@ -27,11 +29,11 @@ impl Model for Signatures {
 
     ghost Value = { List (List (ℕ × ℕ)) };
 
-    ghost use Rattle.refine.specs.Lists.{each_list, AreNumbered};
+    ghost use Rattle.refine.specs.Lists.{each_list, AreLent};
 
-    ghost view = { λ g. each_list g.lists g.numbers.items };
+    ghost view = { λ g. each_list g.whole g.round.numbers.items };
 
-    ghost invariant = { λ g. AreNumbered g.lists g.numbers.items };
+    ghost invariant = { λ g. AreLent g.whole g.round.lists g.round.numbers.items };
 }
 
 impl Signatures {
@@ -46,8 +48,8 @@ impl Signatures {
     {
         Ok(Signatures {
             alloc,
-            lists: Lists::new(alloc, states)?,
-            numbers: vec![in alloc; 0u32; states as usize]?,
+            round: RoundSignatures::new(alloc, states)?,
+            whole: Parts::new(alloc, 0)?,
         })
     }
 
@@ -55,7 +57,7 @@ impl Signatures {
     pub fn states(&self) -> u32
         ensures { result ≡ length self.now }
     {
-        self.numbers.len() as u32
+        self.round.numbers.len() as u32
     }
 
     /// The signature of the state `s`.
@@ -63,7 +65,7 @@ impl Signatures {
         requires { s < length self.now }
         ensures { result.now ≡ signature_at self.now s }
     {
-        self.lists.of(self.numbers[s as usize])
+        self.whole.of(self.round.numbers[s as usize])
     }
 
     /// Takes the signature of each state under the blocks of `p`. Each transition is visited once.
@@ -90,17 +92,13 @@ impl Signatures {
         ensures marks { marks.new ≡ marks.old }
         ensures signatures { length self.new ≡ length self.old }
     {
-        self.lists.clear();
-        self.numbers.fill(0);
-        S::sign_each(
-            self.alloc,
-            l,
-            p,
-            marks,
-            &mut self.lists,
-            &mut self.numbers,
-            m,
-        )
+        let done = sign_whole::<S, M>(self.alloc, &mut self.round, &mut self.whole, l, p, marks, m);
+        if let Err(refusal) = done {
+            self.round.clear();
+            self.whole.clear();
+            return Err(refusal);
+        }
+        Ok(())
     }
 
     /// Splits the blocks of `p`: two states stay together if their signatures are equal.
@@ -114,6 +112,53 @@ impl Signatures {
             ↔ ((slice_index p.now s ≡ slice_index p.now t) × (signature_at self.now s ≡ signature_at self.now t))) }
         ensures numbered { IfOk result IsNumbered }
     {
-        split(self.alloc, p, &self.lists, &self.numbers)
+        self.round.split(p)
     }
+}
+
+/// Takes the signature of each state, and makes the lists whole.
+///
+/// Fails if there is no memory for it.
+fn sign_whole<S: Sense, M: Meter>(
+    alloc: Global,
+    round: &mut RoundSignatures,
+    whole: &mut Parts,
+    l: &Lts<M>,
+    p: &Partition,
+    marks: &mut Marks,
+    m: &mut M,
+) -> Result<(), Memory>
+    requires blocks { length p.now ≡ l.now.states }
+    requires marks { marks.old ≡ l.now.states }
+    requires numbered { AreNumbered round.old.lists round.old.numbers.items }
+    requires states { length round.old.numbers.items ≡ l.now.states }
+    requires room { HasRoomFor (M.counted m.old) 0 (length l.now.places) }
+    ensures signed { OnOk result ((s : ℕ) → s < l.now.states →
+        IsSignature S.relation l.now p.now s (list_of round.new.lists round.new.numbers.items s)) }
+    ensures whole { OnOk result (whole.new ≡ round.new.lists) }
+    ensures visits { let n = length l.now.places in Visits M.counted m.old m.new result n n }
+    ensures marks { marks.new ≡ marks.old }
+    ensures numbered { AreNumbered round.new.lists round.new.numbers.items }
+    ensures states { length round.new.numbers.items ≡ length round.old.numbers.items }
+{
+    round.sign::<S, M>(l, p, marks, m)?;
+    make_whole(alloc, &round.lists, whole)?;
+    Ok(())
+}
+
+/// Makes `whole` the lists, each whole.
+///
+/// Fails if there is no memory for it.
+fn make_whole(alloc: Global, lists: &Lists, whole: &mut Parts) -> Result<(), Memory>
+    ensures { OnOk result (whole.new ≡ lists.now) }
+{
+    lists.known();
+    whole.clear();
+    let mut list = Vec::new(alloc);
+    for k in 1..lists.len() {
+        list.clear();
+        lists.append(k, &mut list)?;
+        whole.push(&list)?;
+    }
+    Ok(())
 }

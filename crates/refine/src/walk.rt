@@ -320,7 +320,7 @@ fn longest(listed: &[u32], lists: &Lists) -> u32
     lists.known();
     let mut longest = EMPTY;
     for list in listed {
-        if lists.of(longest).len() < lists.of(*list).len() {
+        if lists.size(longest) < lists.size(*list) {
             longest = *list;
         }
     }

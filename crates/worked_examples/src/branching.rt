@@ -2,12 +2,18 @@
 use crate::named::{
     NOT_COMMITTED, OLD_BLOCKS, OPTION_BEHIND, SILENT_BESIDE_VISIBLE, SILENT_CHAIN, SILENT_CYCLE,
 };
-use crate::refining::{blocks, filled_twice, next, one_block, pairs, refined, split, table};
+use crate::refining::{
+    blocks, filled_twice, next, one_block, pairs, refined, rounds, split, table,
+};
 use crate::texts::system;
 use lts::{Counter, Lts, Memory};
 use refine::{Branching, Marks, Sense, Strong};
 use std::alloc::Global;
 use std::test::Fail;
+
+/// Silently, state 0 is led to by states that add one pair each to its 8.
+const ONE_PAIR_MORE: &str =
+    "0 of 3; 0 a 0; 0 b 0; 0 c 0; 0 d 0; 0 e 0; 0 f 0; 0 g 0; 0 h 0; 1 i 0; 1 x 0; 2 i 0; 2 y 0";
 
 #[test]
 fn branching_tables(rt: HostRuntime) -> Result<(), Fail> {
@@ -31,6 +37,14 @@ fn branching_tables(rt: HostRuntime) -> Result<(), Fail> {
             SILENT_CYCLE,
             1,
             "{(1, 0)}{(1, 0)}1: 0 0\n",
+        ),
+        (
+            "one-pair-more",
+            ONE_PAIR_MORE,
+            1,
+            "{(0, 0)(1, 0)(2, 0)(3, 0)(4, 0)(5, 0)(6, 0)(7, 0)}\
+            {(0, 0)(1, 0)(2, 0)(3, 0)(4, 0)(5, 0)(6, 0)(7, 0)(9, 0)}\
+            {(0, 0)(1, 0)(2, 0)(3, 0)(4, 0)(5, 0)(6, 0)(7, 0)(10, 0)}3: 0 1 2\n",
         ),
     ] {
         let l = system(rt.alloc(), text)?;
@@ -126,5 +140,21 @@ fn silent_beside_visible_filled_twice(rt: HostRuntime) -> Result<(), Fail> {
     let text = filled_twice::<Branching>(rt.alloc(), &l)?;
     let want = "{(0, 1)(1, 2)}{(2, 2)}{}{}, {(1, 0)(2, 0)}{(2, 0)}{}{}";
     assert_eq!(rt; text.as_str(), want);
+    Ok(())
+}
+
+/// States 1 to 6 add one or two pairs to the 12 of state 0, to which they go silently, and 9 adds five. States 7 and 8 have
+/// the pairs of 1 and of 4, and do not go to state 0 silently.
+const FEW_PAIRS_MORE: &str =
+    "0 of 10; 0 a 0; 0 b 0; 0 c 0; 0 d 0; 0 e 0; 0 f 0; 0 g 0; 0 h 0; 0 j 0; 0 k 0; 0 l 0; 0 m 0; \
+    1 i 0; 1 x 0; 2 i 0; 2 y 0; 3 i 0; 3 x 0; 4 i 1; 4 y 0; 5 i 2; 5 x 0; 6 i 1; 6 i 2; \
+    7 a 0; 7 b 0; 7 c 0; 7 d 0; 7 e 0; 7 f 0; 7 g 0; 7 h 0; 7 j 0; 7 k 0; 7 l 0; 7 m 0; 7 x 0; \
+    8 i 7; 8 y 0; 9 i 6; 9 u 0; 9 v 0; 9 w 0";
+
+#[test]
+fn few_pairs_more(rt: HostRuntime) -> Result<(), Fail> {
+    let l = system(rt.alloc(), FEW_PAIRS_MORE)?;
+    let text = rounds::<Branching>(rt.alloc(), &l, 1, &mut Counter::new())?;
+    assert_eq!(rt; text.as_str(), "5: 0 1 2 1 3 3 3 1 3 4\n");
     Ok(())
 }

@@ -14,6 +14,7 @@ loop-blocks-init g c =
     record {
       states = c.in_ok-blocks.ensures.states ∙ c.states-3.ensures.value;
       marks = c.in_ok-marks.ensures ∙ c.states.ensures.value;
+      lists = c.in_ok-signatures.ensures.numbered;
       signatures = c.in_ok-signatures.ensures.states ∙ c.states-2.ensures.value;
       made = (
         0,
@@ -85,6 +86,7 @@ loop-blocks-preserved g c =
     record {
       states = c.in_ok-next.ensures.states;
       marks = c.next_round.ensures.marks ∙ c.loop-blocks.invariant.marks;
+      lists = c.next_round.ensures.lists;
       signatures = c.next_round.ensures.signatures ∙ c.loop-blocks.invariant.signatures;
       made = (
         suc k,

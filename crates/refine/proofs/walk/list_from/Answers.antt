@@ -1,4 +1,4 @@
-use Rattle.std.proofs.Common.{◌≡◌, ◌∙◌, length, ap, sym, subst, arith}
+use Rattle.std.proofs.Common.{◌≡◌, ◌∙◌, length, Contains, ap, sym, subst, arith}
 use Rattle.std.proofs.lemmas.Bool.Decides.{nat_tests}
 use Rattle.std.proofs.lemmas.List.{nil_from_length}
 use Rattle.refine.specs.Lists.{list_at, merged}
@@ -16,6 +16,9 @@ returns-then-is_empty-2-clause-collected c =
     let none : length c.collect.new.out.items ≡ 0 = grind (arith, nat_tests) in
     collected_known c.args.lists.now c.args.pairs.now c.args.listed.now c.longest-longest.result c.collect.new.out.items c.known.ensures
     c.longest-longest.ensures.within c.longest-longest.ensures.listed c.in_ok-collect.ensures (nil_from_length c.collect.new.out.items none)
+
+pub extend-requires-clause-apart : goal.extend-requires-clause-apart
+extend-requires-clause-apart c z known new = ((c.in_ok-collect.ensures.exactly z).0 (subst (λ l. Contains l z) c.deref.ensures.value new)).1 known
 
 pub returns-clause-collected : goal.returns-clause-collected
 returns-clause-collected c =

@@ -1,10 +1,20 @@
-use Rattle.std.proofs.Common.{◌++◌, ◌∙◌, ap}
+use Rattle.std.proofs.Common.{◌++◌, ◌∙◌, [], ap, sym, rules}
+use Rattle.std.proofs.lemmas.List.{append-nil}
 use Rattle.refine.specs.Lists.{list_at}
+use Rattle.refine.specs.Signed.{Extends}
 use Rattle.refine.proofs.branching.BranchingSense.signature.Goals as goal
 
+pub returns-in_err-extend_from_slice-clause-extends : goal.returns-in_err-extend_from_slice-clause-extends
+returns-in_err-extend_from_slice-clause-extends g c =
+    let out = c.args.out.now.items in
+    let same : Extends out c.extend_from_slice.new.self.items = ([], c.in_err-extend_from_slice.ensures.items ∙ sym (append-nil out)) in
+    search rules
+
 pub returns-clause-appends : goal.returns-clause-appends
-returns-clause-appends g c = (
-  list_at c.sign_one-done.new.lists c.in_ok-list.list,
-  c.in_ok-list.ensures.signature,
-  c.in_ok-extend_from_slice.ensures.items ∙ ap (λ xs. c.args.out.now.items ++ xs) c.of.ensures.list,
-)
+returns-clause-appends g c =
+    let list = list_at c.sign_one-done.new.lists c.in_ok-list.list in (
+      list,
+      c.in_ok-list.ensures.signature,
+      c.in_ok-extend_from_slice.ensures.items
+          ∙ ap (λ xs. c.args.out.now.items ++ xs) (c.deref.ensures.value ∙ c.in_ok-append.ensures ∙ ap (λ xs. xs ++ list) c.clear-2.ensures.items),
+    )

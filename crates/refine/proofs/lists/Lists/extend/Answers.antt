@@ -1,19 +1,77 @@
-use Rattle.std.proofs.Common.{◌∙◌, ◌++◌, ◌<◌, length, ap, sym, subst}
-use Rattle.std.specs.List.Sorted.{IsStrictlySortedBy}
-use Rattle.std.proofs.lemmas.List.{length-map}
-use Rattle.refine.specs.Signed.{pair_cmp}
-use Rattle.refine.specs.Lists.{merged}
-use Rattle.refine.specs.Spans.{list_in}
-use Rattle.refine.proofs.Listing.{rising_at}
-use Rattle.refine.proofs.Merging.{merged_rises}
+use Rattle.std.proofs.Common.{◌≡◌, ◌∙◌, ◌++◌, ◌∷◌, [], arith}
+use Rattle.std.proofs.lemmas.Result.{IfOk-weaker, on_ok_weaker}
+use Rattle.refine.specs.Lists.{list_at, merged}
+use Rattle.refine.proofs.Rooted.{length-parts, added_rises, added_apart, added_extends, whole_rises, whole_extends}
 use Rattle.refine.proofs.lists.Lists.extend.Goals as goal
+
+pub base_of-base-requires-clause-list : goal.base_of-base-requires-clause-list
+base_of-base-requires-clause-list c =
+    let size = length-parts c.self.inside.parts c.self.inside.roots.items c.self.invariant c.args.self.now c.self.view_is in
+    omega (arith, size, c.requires.list)
+
+pub put-requires-clause-few : goal.put-requires-clause-few
+put-requires-clause-few c =
+    let size = length-parts c.self.inside.parts c.self.inside.roots.items c.self.invariant c.args.self.now c.self.view_is in
+    omega (arith, size, c.requires.few)
+
+pub put-requires-2-clause-few : goal.put-requires-2-clause-few
+put-requires-2-clause-few c =
+    let size = length-parts c.self.inside.parts c.self.inside.roots.items c.self.invariant c.args.self.now c.self.view_is in
+    omega (arith, size, c.requires.few)
+
+pub returns-then-len-of-clause-number : goal.returns-then-len-of-clause-number
+returns-then-len-of-clause-number c = IfOk-weaker c.put.result _ _ (λ k e. e ∙ length-parts c.self.inside.parts c.self.inside.roots.items c.self.invariant c.args.self.now c.self.view_is) c.put.ensures.number
+
+pub returns-clause-number : goal.returns-clause-number
+returns-clause-number c = IfOk-weaker c.put-2.result _ _ (λ k e. e ∙ length-parts c.self.inside.parts c.self.inside.roots.items c.self.invariant c.args.self.now c.self.view_is) c.put-2.ensures.number
+
+pub put-requires-clause-whole : goal.put-requires-clause-whole
+put-requires-clause-whole c = rw (← c.deref.ensures.value) c.base_of-base.ensures.whole
 
 pub put-requires-clause-rising : goal.put-requires-clause-rising
 put-requires-clause-rising c =
-    let list = c.list_of.result.now in
-    let low : c.args.k < length c.self.inside.spans.items = rw (← length-map c.self.inside.spans.items (list_in c.self.inside.pairs.items), c.self.view_is) c.requires.list in
-    let rising =
-    rising_at c.self.inside.pairs.items c.deref.result.now c.self.inside.spans.items c.self.invariant c.deref.ensures.value c.args.k c.index.result.now low c.index.ensures in
-    subst (IsStrictlySortedBy pair_cmp)
-    (sym (c.deref-2.ensures.value ∙ c.in_ok-append_merged.ensures ∙ ap (λ l. l ++ merged list c.args.pairs.now) c.clear.ensures.items))
-    (merged_rises list c.args.pairs.now (subst (IsStrictlySortedBy pair_cmp) (sym c.list_of.ensures) rising) c.requires.rising)
+    let is : c.deref-then-len-of.result.now ≡ merged (list_at c.self.inside.parts c.base_of-base.result.1) c.args.pairs.now =
+    c.deref-then-len-of.ensures.value ∙ c.in_ok-append_merged.ensures ∙ (λ i. c.clear.ensures.items i ++ merged (c.of.ensures.list i) c.args.pairs.now) in
+    added_rises c.self.inside.parts c.self.inside.roots.items c.self.invariant c.args.self.now c.self.view_is c.args.k c.base_of-base.result.0 c.base_of-base.result.1
+    c.args.pairs.now c.requires.list c.base_of-base.ensures.base c.base_of-base.ensures.known c.base_of-base.ensures.apart
+    (rw (← c.deref.ensures.value) c.base_of-base.ensures.list) c.requires.rising c.requires.apart c.deref-then-len-of.result.now is
+
+pub put-requires-clause-apart : goal.put-requires-clause-apart
+put-requires-clause-apart c =
+    let is : c.deref-then-len-of.result.now ≡ merged (list_at c.self.inside.parts c.base_of-base.result.1) c.args.pairs.now =
+    c.deref-then-len-of.ensures.value ∙ c.in_ok-append_merged.ensures ∙ (λ i. c.clear.ensures.items i ++ merged (c.of.ensures.list i) c.args.pairs.now) in
+    added_apart c.self.inside.parts c.self.inside.roots.items c.self.invariant c.args.self.now c.self.view_is c.args.k c.base_of-base.result.0 c.base_of-base.result.1
+    c.args.pairs.now c.requires.list c.base_of-base.ensures.base c.base_of-base.ensures.known c.base_of-base.ensures.apart
+    (rw (← c.deref.ensures.value) c.base_of-base.ensures.list) c.requires.rising c.requires.apart c.deref-then-len-of.result.now is
+
+pub returns-then-len-of-clause-extended : goal.returns-then-len-of-clause-extended
+returns-then-len-of-clause-extended c =
+    let is : c.deref-then-len-of.result.now ≡ merged (list_at c.self.inside.parts c.base_of-base.result.1) c.args.pairs.now =
+    c.deref-then-len-of.ensures.value ∙ c.in_ok-append_merged.ensures ∙ (λ i. c.clear.ensures.items i ++ merged (c.of.ensures.list i) c.args.pairs.now) in
+    let extends =
+    added_extends c.self.inside.parts c.self.inside.roots.items c.self.invariant c.args.self.now c.self.view_is c.args.k c.base_of-base.result.0 c.base_of-base.result.1
+    c.args.pairs.now c.requires.list c.base_of-base.ensures.base c.base_of-base.ensures.known c.base_of-base.ensures.apart
+    (rw (← c.deref.ensures.value) c.base_of-base.ensures.list) c.requires.rising c.requires.apart c.deref-then-len-of.result.now is in
+    on_ok_weaker c.put.result (λ put. put ∙ (λ i. c.self.view_is i ++ extends i ∷ [])) c.put.ensures.put
+
+pub put-requires-2-clause-rising : goal.put-requires-2-clause-rising
+put-requires-2-clause-rising c =
+    let is : c.deref-2.result.now ≡ merged (list_at c.self.inside.parts c.base_of-base.result.1) c.args.pairs.now =
+    c.deref-2.ensures.value ∙ c.in_ok-append_merged.ensures ∙ (λ i. c.clear.ensures.items i ++ merged (c.of.ensures.list i) c.args.pairs.now) in
+    let whole_is : c.deref-3.result.now ≡ merged (list_at c.self.inside.parts c.base_of-base.result.0) c.deref-2.result.now =
+    c.deref-3.ensures.value ∙ c.in_ok-append_merged-2.ensures ∙ (λ i. c.clear-2.ensures.items i ++ merged (c.of-3.ensures.list i) c.deref-2.result.now) in
+    whole_rises c.self.inside.parts c.self.inside.roots.items c.self.invariant c.args.self.now c.self.view_is c.args.k c.base_of-base.result.0 c.base_of-base.result.1
+    c.args.pairs.now c.requires.list c.base_of-base.ensures.base c.base_of-base.ensures.known c.base_of-base.ensures.apart
+    (rw (← c.deref.ensures.value) c.base_of-base.ensures.list) c.requires.rising c.requires.apart c.deref-2.result.now is c.deref-3.result.now whole_is
+
+pub returns-clause-extended : goal.returns-clause-extended
+returns-clause-extended c =
+    let is : c.deref-2.result.now ≡ merged (list_at c.self.inside.parts c.base_of-base.result.1) c.args.pairs.now =
+    c.deref-2.ensures.value ∙ c.in_ok-append_merged.ensures ∙ (λ i. c.clear.ensures.items i ++ merged (c.of.ensures.list i) c.args.pairs.now) in
+    let whole_is : c.deref-3.result.now ≡ merged (list_at c.self.inside.parts c.base_of-base.result.0) c.deref-2.result.now =
+    c.deref-3.ensures.value ∙ c.in_ok-append_merged-2.ensures ∙ (λ i. c.clear-2.ensures.items i ++ merged (c.of-3.ensures.list i) c.deref-2.result.now) in
+    let extends =
+    whole_extends c.self.inside.parts c.self.inside.roots.items c.self.invariant c.args.self.now c.self.view_is c.args.k c.base_of-base.result.0 c.base_of-base.result.1
+    c.args.pairs.now c.requires.list c.base_of-base.ensures.base c.base_of-base.ensures.known c.base_of-base.ensures.apart
+    (rw (← c.deref.ensures.value) c.base_of-base.ensures.list) c.requires.rising c.requires.apart c.deref-2.result.now is c.deref-3.result.now whole_is in
+    on_ok_weaker c.put-2.result (λ put. put ∙ (λ i. c.self.view_is i ++ extends i ∷ [])) c.put-2.ensures.put

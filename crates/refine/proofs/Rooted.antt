@@ -1,0 +1,295 @@
+-- Lists that are kept as what they add to a root: what each is, and one list more.
+use Rattle.std.proofs.Common.{◌≡◌, ◌∙◌, ◌↔◌, ◌⊎◌, ℕ, zero, suc, ◌+◌, ◌<◌, ◌≤◌, List, [], ◌∷◌, ◌++◌, length, take, get_or, slice_index, Contains, ap, sym, subst, refl, inl, inr, arith}
+use Rattle.std.specs.List.{All, zip}
+use Rattle.std.specs.List.Sorted.{IsStrictlySortedBy}
+use Rattle.std.proofs.lemmas.Bool.{cases_lt}
+use Rattle.std.proofs.lemmas.List.{length-map, length_push, get_or-map, get_or_append_left, get_or_push, get_or_default, same_lists}
+use Rattle.std.proofs.lemmas.List.Elements.{All-append, All-weaker}
+use Rattle.std.proofs.lemmas.Slice.Zip.{length-zip, get_or-zip}
+use Rattle.refine.specs.declared.lists.TheConstants.{MOST_LISTS}
+use Rattle.refine.specs.Signed.{pair_cmp}
+use Rattle.refine.specs.Lists.{list_at, merged, Apart, AreLists, AreNumbers}
+use Rattle.refine.specs.Roots.{whole, wholes, AreRooted}
+use Rattle.refine.proofs.Rising.{rising_none, rising_unique, pair_total}
+use Rattle.refine.proofs.Merging.{merged_has, merged_rises, merged_nil}
+use Rattle.refine.proofs.Listing.{All-only}
+
+-- each list, whole
+module _ (parts : List (List (ℕ × ℕ))) (roots : List ℕ) (size : length roots ≡ length parts) where
+  pub length-wholes : length (wholes parts roots) ≡ length parts
+  length-wholes = omega (arith, length-map (zip roots parts) (whole parts), length-zip roots parts, size)
+
+  pub whole_at : (k : ℕ) (d : List (ℕ × ℕ)) → k < length parts
+      → get_or (wholes parts roots) k d ≡ merged (list_at parts (slice_index roots k)) (list_at parts k)
+  whole_at k d low =
+      get_or-map (whole parts) (zip roots parts) k (0, []) d (omega (arith, length-zip roots parts, size, low))
+      ∙ ap (whole parts) (get_or-zip roots parts k (0, []) (omega (arith, size, low)) low)
+
+module _ (parts : List (List (ℕ × ℕ))) (roots : List ℕ) (are : AreRooted parts roots) where
+  rise_at : (k : ℕ) → k < length parts → IsStrictlySortedBy pair_cmp (list_at parts k)
+  rise_at k low = are.lists.rise k [] low
+
+  pub root_below : (k : ℕ) → k < length parts → slice_index roots k < length parts
+  root_below k low = let size = are.size in are.below k 0 (omega arith)
+
+  pub AreLists-wholes : AreLists (wholes parts roots)
+  AreLists-wholes =
+      let same = length-wholes parts roots are.size in
+      let some = are.lists.some in
+      let few = are.lists.few in
+      record {
+        rise = λ k d h.
+            let low : k < length parts = omega (arith, h, same) in
+            subst (IsStrictlySortedBy pair_cmp) (sym (whole_at parts roots are.size k d low))
+            (merged_rises _ _ (rise_at (slice_index roots k) (root_below k low)) (rise_at k low));
+        some = omega arith;
+        few = omega arith;
+        first =
+            whole_at parts roots are.size 0 [] some ∙ ap (λ r. merged (list_at parts r) (list_at parts 0)) are.first
+            ∙ ap (λ l. merged l (list_at parts 0)) are.lists.first ∙ are.lists.first;
+      }
+
+-- of lists that are seen whole
+module _ (parts : List (List (ℕ × ℕ))) (roots : List ℕ) (are : AreRooted parts roots) (lists : List (List (ℕ × ℕ))) (view : wholes parts roots ≡ lists) where
+  pub length-parts : length parts ≡ length lists
+  length-parts = sym (length-wholes parts roots are.size) ∙ ap length view
+
+  pub length-roots : length roots ≡ length lists
+  length-roots = are.size ∙ length-parts
+
+  pub root_within : (k root : ℕ) → k < length lists → root ≡ get_or roots k root → root < length parts
+  root_within k root low is =
+      let size = are.size in
+      let all = length-parts in
+      subst (λ r. r < length parts) (sym is) (are.below k root (omega arith))
+
+  pub list_is : (k root : ℕ) → k < length lists → root ≡ get_or roots k root → list_at lists k ≡ merged (list_at parts root) (list_at parts k)
+  list_is k root low is =
+      let size = are.size in
+      let all = length-parts in
+      ap (λ xs. list_at xs k) (sym view) ∙ whole_at parts roots are.size k [] (omega arith)
+      ∙ ap (λ r. merged (list_at parts r) (list_at parts k)) (get_or_default roots k 0 root (omega arith) ∙ sym is)
+
+  pub rise_of : (k : ℕ) → k < length lists → IsStrictlySortedBy pair_cmp (list_at lists k)
+  rise_of k low = (subst AreLists view (AreLists-wholes parts roots are)).rise k [] low
+
+  pub apart_at : (k root : ℕ) → k < length lists → root ≡ get_or roots k root → Apart (list_at parts root) (list_at parts k)
+  apart_at k root low is =
+      let size = are.size in
+      let all = length-parts in
+      subst (λ r. Apart (list_at parts r) (list_at parts k)) (get_or_default roots k 0 root (omega arith) ∙ sym is) (are.apart k (omega arith))
+
+-- one list more
+module _ (parts : List (List (ℕ × ℕ))) (roots : List ℕ) (are : AreRooted parts roots) (root : ℕ) (added : List (ℕ × ℕ)) (low : root < length parts) where
+  old_part : (k : ℕ) → k < length parts → list_at (parts ++ added ∷ []) k ≡ list_at parts k
+  old_part k h = get_or_append_left parts (added ∷ []) [] k h
+
+  new_part : (k : ℕ) → k ≡ length parts → list_at (parts ++ added ∷ []) k ≡ added
+  new_part k e = get_or_push parts added [] k (sym e)
+
+  old_root : (k : ℕ) → k < length parts → slice_index (roots ++ root ∷ []) k ≡ slice_index roots k
+  old_root k h = get_or_append_left roots (root ∷ []) 0 k (let size = are.size in omega arith)
+
+  new_root : (k : ℕ) → k ≡ length parts → slice_index (roots ++ root ∷ []) k ≡ root
+  new_root k e = get_or_push roots root 0 k (sym (e ∙ sym are.size))
+
+  sizes : length (roots ++ root ∷ []) ≡ length (parts ++ added ∷ [])
+  sizes = let size = are.size in omega (arith, length_push roots root, length_push parts added)
+
+  pub wholes-push : wholes (parts ++ added ∷ []) (roots ++ root ∷ []) ≡ wholes parts roots ++ merged (list_at parts root) added ∷ []
+  wholes-push =
+      let before = length-wholes parts roots are.size in
+      let after = length-wholes (parts ++ added ∷ []) (roots ++ root ∷ []) sizes in
+      let more = length_push parts added in
+      same_lists _ _ (omega (arith, length_push (wholes parts roots) (merged (list_at parts root) added))) (λ k d h.
+      whole_at (parts ++ added ∷ []) (roots ++ root ∷ []) sizes k d (omega arith) ∙ elim (cases_lt k (length parts)) [
+        | inl o ↦
+            (λ i. merged (list_at (parts ++ added ∷ []) (old_root k o i)) (old_part k o i))
+            ∙ ap (λ l. merged l (list_at parts k)) (old_part (slice_index roots k) (root_below parts roots are k o))
+            ∙ sym (whole_at parts roots are.size k d o) ∙ sym (get_or_append_left (wholes parts roots) _ d k (omega arith))
+        | inr n ↦
+            let last : k ≡ length parts = omega arith in
+            (λ i. merged (list_at (parts ++ added ∷ []) (new_root k last i)) (new_part k last i))
+            ∙ ap (λ l. merged l added) (old_part root low)
+            ∙ sym (get_or_push (wholes parts roots) _ d k (omega arith))
+      ])
+
+  pub AreRooted-push : length parts < MOST_LISTS → slice_index roots root ≡ 0 → IsStrictlySortedBy pair_cmp added → Apart (list_at parts root) added
+      → AreRooted (parts ++ added ∷ []) (roots ++ root ∷ [])
+  AreRooted-push few flat rising apart =
+      let size = are.size in
+      let more = length_push parts added in
+      let longer = length_push roots root in
+      let some = are.lists.some in
+      record {
+        lists = record {
+          rise = All-append (IsStrictlySortedBy pair_cmp) parts (added ∷ []) are.lists.rise (All-only (IsStrictlySortedBy pair_cmp) added rising);
+          some = omega arith;
+          few = omega arith;
+          first = old_part 0 some ∙ are.lists.first;
+        };
+        size = sizes;
+        below =
+            All-append (λ r. r < length (parts ++ added ∷ [])) roots (root ∷ [])
+            (All-weaker (λ r. r < length parts) (λ r. r < length (parts ++ added ∷ [])) (λ r h. omega arith) roots are.below)
+            (All-only (λ r. r < length (parts ++ added ∷ [])) root (omega arith));
+        first = old_root 0 some ∙ are.first;
+        flat = λ k h. elim (cases_lt k (length parts)) [
+          | inl o ↦ ap (slice_index (roots ++ root ∷ [])) (old_root k o) ∙ old_root (slice_index roots k) (root_below parts roots are k o) ∙ are.flat k (omega arith)
+          | inr n ↦ ap (slice_index (roots ++ root ∷ [])) (new_root k (omega arith)) ∙ old_root root low ∙ flat
+        ];
+        apart = λ k h. elim (cases_lt k (length parts)) [
+          | inl o ↦
+              subst (λ l. Apart l (list_at (parts ++ added ∷ []) k))
+              (sym (ap (list_at (parts ++ added ∷ [])) (old_root k o) ∙ old_part (slice_index roots k) (root_below parts roots are k o)))
+              (subst (Apart (list_at parts (slice_index roots k))) (sym (old_part k o)) (are.apart k (omega arith)))
+          | inr n ↦
+              let last : k ≡ length parts = omega arith in
+              subst (λ l. Apart l (list_at (parts ++ added ∷ []) k)) (sym (ap (list_at (parts ++ added ∷ [])) (new_root k last) ∙ old_part root low))
+              (subst (Apart (list_at parts root)) (sym (new_part k last)) apart)
+        ];
+      }
+
+-- the empty list alone
+pub AreRooted-first : AreRooted ([] ∷ []) (0 ∷ [])
+AreRooted-first = record {
+  lists = record { rise = All-only (IsStrictlySortedBy pair_cmp) [] (rising_none pair_cmp); some = omega arith; few = omega arith; first = refl };
+  size = refl;
+  below = All-only (λ r. r < 1) 0 (omega arith);
+  first = refl;
+  flat = λ k h. let e : k ≡ 0 = omega arith in ap (λ x. slice_index (0 ∷ []) (slice_index (0 ∷ []) x)) e;
+  apart = λ k h z (i, low, is).
+      let e : k ≡ 0 = omega arith in
+      let none : length (list_at ([] ∷ []) (slice_index (0 ∷ []) k)) ≡ 0 = ap (λ x. length (list_at ([] ∷ []) (slice_index (0 ∷ []) x))) e in
+      λ c. absurd (omega (arith, low, none));
+}
+
+pub first_root : (roots : List ℕ) → 1 ≤ length roots → slice_index roots 0 ≡ 0 → take 1 roots ≡ 0 ∷ []
+first_root [] some first = absurd (omega arith)
+first_root (r ∷ rs) some first = ap (λ x. x ∷ []) first
+
+-- nothing shares a pair with the empty list
+pub apart_none : (parts : List (List (ℕ × ℕ))) (list : List (ℕ × ℕ)) → list_at parts 0 ≡ [] → Apart (list_at parts 0) list
+apart_none parts list first z c d =
+    let (i, low, is) : Contains {X = ℕ × ℕ} [] z = subst (λ l. Contains l z) first c in
+    absurd (omega (arith, low))
+
+-- two additions to one root are equal if the whole lists are
+module _ (root a b : List (ℕ × ℕ)) where
+  stays : Apart root a → merged root a ≡ merged root b → (z : ℕ × ℕ) → Contains a z → Contains b z
+  stays apart e z c = elim ((merged_has z root b).0 (subst (λ l. Contains l z) e ((merged_has z root a).1 (inr c)))) [
+    | inl d ↦ absurd (apart z d c)
+    | inr d ↦ d
+  ]
+
+module _ (root a b : List (ℕ × ℕ)) (rise_a : IsStrictlySortedBy pair_cmp a) (rise_b : IsStrictlySortedBy pair_cmp b) (apart_a : Apart root a) (apart_b : Apart root b) where
+  pub same_added : (a ≡ b) ↔ (merged root a ≡ merged root b)
+  same_added = (
+    ap (merged root),
+    λ e. rising_unique pair_total a b rise_a rise_b (λ z. (stays root a b apart_a e z, stays root b a apart_b (sym e) z)),
+  )
+
+-- what has both parts of a list has the list
+pub has_both : (xs ys zs : List (ℕ × ℕ)) → ((z : ℕ × ℕ) → Contains xs z → Contains zs z) → ((z : ℕ × ℕ) → Contains ys z → Contains zs z)
+    → (z : ℕ × ℕ) → Contains (merged xs ys) z → Contains zs z
+has_both xs ys zs first second z c = elim ((merged_has z xs ys).0 c) [ inl a ↦ first z a | inr b ↦ second z b ]
+
+-- the pairs of one part and then of the other one that a list lacks
+pub missing_both : (xs ys list old between new : List (ℕ × ℕ))
+    → ((z : ℕ × ℕ) → Contains between z ↔ (Contains old z ⊎ (Contains xs z × ¬ Contains list z)))
+    → ((z : ℕ × ℕ) → Contains new z ↔ (Contains between z ⊎ (Contains ys z × ¬ Contains list z)))
+    → (z : ℕ × ℕ) → Contains new z ↔ (Contains old z ⊎ (Contains (merged xs ys) z × ¬ Contains list z))
+missing_both xs ys list old between new first second z = (
+  λ c. elim ((second z).0 c) [
+    | inl b ↦ elim ((first z).0 b) [ inl o ↦ inl o | inr m ↦ inr ((merged_has z xs ys).1 (inl m.0), m.1) ]
+    | inr m ↦ inr ((merged_has z xs ys).1 (inr m.0), m.1)
+  ],
+  λ o. elim o [
+    | inl c ↦ (second z).1 (inl ((first z).1 (inl c)))
+    | inr m ↦ elim ((merged_has z xs ys).0 m.0) [
+      | inl a ↦ (second z).1 (inl ((first z).1 (inr (a, m.1))))
+      | inr b ↦ (second z).1 (inr (b, m.1))
+    ]
+  ],
+)
+
+-- neither part of a list is missing in it
+module _ (root added part pairs : List (ℕ × ℕ)) where
+  none_missing : ((z : ℕ × ℕ) → Contains part z → Contains (merged root added) z)
+      → (z : ℕ × ℕ) → Contains pairs z ↔ (Contains pairs z ⊎ (Contains part z × ¬ Contains (merged root added) z))
+  none_missing has z = (λ c. inl c, λ o. elim o [ inl c ↦ c | inr m ↦ absurd (m.1 (has z m.0)) ])
+
+  pub first_not_missing : part ≡ root → (z : ℕ × ℕ) → Contains pairs z ↔ (Contains pairs z ⊎ (Contains part z × ¬ Contains (merged root added) z))
+  first_not_missing e = none_missing (λ z c. (merged_has z root added).1 (inl (subst (λ l. Contains l z) e c)))
+
+  pub second_not_missing : part ≡ added → (z : ℕ × ℕ) → Contains pairs z ↔ (Contains pairs z ⊎ (Contains part z × ¬ Contains (merged root added) z))
+  second_not_missing e = none_missing (λ z c. (merged_has z root added).1 (inr (subst (λ l. Contains l z) e c)))
+
+-- pairs that a list adds to a root, and more
+module _ (root added pairs : List (ℕ × ℕ)) (rise_root : IsStrictlySortedBy pair_cmp root) (rise_added : IsStrictlySortedBy pair_cmp added)
+    (rise_pairs : IsStrictlySortedBy pair_cmp pairs) where
+  pub merged_assoc : merged root (merged added pairs) ≡ merged (merged root added) pairs
+  merged_assoc = rising_unique pair_total _ _ (merged_rises _ _ rise_root (merged_rises _ _ rise_added rise_pairs))
+      (merged_rises _ _ (merged_rises _ _ rise_root rise_added) rise_pairs) (λ z. (
+        λ c. elim ((merged_has z root (merged added pairs)).0 c) [
+          | inl r ↦ (merged_has z (merged root added) pairs).1 (inl ((merged_has z root added).1 (inl r)))
+          | inr d ↦ elim ((merged_has z added pairs).0 d) [
+            | inl a ↦ (merged_has z (merged root added) pairs).1 (inl ((merged_has z root added).1 (inr a)))
+            | inr p ↦ (merged_has z (merged root added) pairs).1 (inr p)
+          ]
+        ],
+        λ c. elim ((merged_has z (merged root added) pairs).0 c) [
+          | inl d ↦ elim ((merged_has z root added).0 d) [
+            | inl r ↦ (merged_has z root (merged added pairs)).1 (inl r)
+            | inr a ↦ (merged_has z root (merged added pairs)).1 (inr ((merged_has z added pairs).1 (inl a)))
+          ]
+          | inr p ↦ (merged_has z root (merged added pairs)).1 (inr ((merged_has z added pairs).1 (inr p)))
+        ],
+      ))
+
+module _ (root added pairs : List (ℕ × ℕ)) where
+  pub apart_more : Apart root added → Apart (merged root added) pairs → Apart root (merged added pairs)
+  apart_more old more z c d = elim ((merged_has z added pairs).0 d) [
+    | inl a ↦ old z c a
+    | inr p ↦ more z ((merged_has z root added).1 (inl c)) p
+  ]
+
+-- the parts of a list that is kept whole
+module _ (parts : List (List (ℕ × ℕ))) (roots : List ℕ) (are : AreRooted parts roots) (k : ℕ) where
+  pub base_whole : slice_index roots k ≡ 0 → merged (list_at parts k) (list_at parts 0) ≡ merged (list_at parts (slice_index roots k)) (list_at parts k)
+  base_whole none =
+      ap (merged (list_at parts k)) are.lists.first ∙ merged_nil (list_at parts k) ∙ ap (λ l. merged l (list_at parts k)) (sym are.lists.first)
+      ∙ ap (λ r. merged (list_at parts r) (list_at parts k)) (sym none)
+
+  pub base_apart : Apart (list_at parts k) (list_at parts 0)
+  base_apart z c d = apart_none parts (list_at parts k) are.lists.first z d c
+
+-- a list of two parts, the first of which can be a root, is extended by pairs that it lacks
+module _ (parts : List (List (ℕ × ℕ))) (roots : List ℕ) (are : AreRooted parts roots) (lists : List (List (ℕ × ℕ))) (view : wholes parts roots ≡ lists)
+    (k base known : ℕ) (pairs : List (ℕ × ℕ)) (low : k < length lists) (low_base : base < length parts) (low_known : known < length parts)
+    (apart : Apart (list_at parts base) (list_at parts known))
+    (list : merged (list_at parts base) (list_at parts known) ≡ merged (list_at parts (slice_index roots k)) (list_at parts k))
+    (rising : IsStrictlySortedBy pair_cmp pairs) (lacks : Apart (list_at lists k) pairs) where
+  list_k : list_at lists k ≡ merged (list_at parts base) (list_at parts known)
+  list_k = ap (λ xs. list_at xs k) (sym view) ∙ whole_at parts roots are.size k [] (let all = length-parts parts roots are lists view in omega arith) ∙ sym list
+
+  module _ (added : List (ℕ × ℕ)) (is : added ≡ merged (list_at parts known) pairs) where
+    pub added_rises : IsStrictlySortedBy pair_cmp added
+    added_rises = subst (IsStrictlySortedBy pair_cmp) (sym is) (merged_rises _ _ (are.lists.rise known [] low_known) rising)
+
+    pub added_apart : Apart (list_at parts base) added
+    added_apart =
+        subst (Apart (list_at parts base)) (sym is)
+        (apart_more (list_at parts base) (list_at parts known) pairs apart (subst (λ l. Apart l pairs) list_k lacks))
+
+    pub added_extends : merged (list_at parts base) added ≡ merged (list_at lists k) pairs
+    added_extends =
+        ap (merged (list_at parts base)) is
+        ∙ merged_assoc (list_at parts base) (list_at parts known) pairs (are.lists.rise base [] low_base) (are.lists.rise known [] low_known) rising
+        ∙ ap (λ l. merged l pairs) (sym list_k)
+
+    pub whole_rises : (whole : List (ℕ × ℕ)) → whole ≡ merged (list_at parts base) added → IsStrictlySortedBy pair_cmp whole
+    whole_rises whole e = subst (IsStrictlySortedBy pair_cmp) (sym e) (merged_rises _ _ (are.lists.rise base [] low_base) added_rises)
+
+    pub whole_extends : (whole : List (ℕ × ℕ)) → whole ≡ merged (list_at parts base) added → merged (list_at parts 0) whole ≡ merged (list_at lists k) pairs
+    whole_extends whole e = ap (λ l. merged l whole) are.lists.first ∙ e ∙ added_extends

@@ -1,0 +1,105 @@
+//! What a round keeps of the signatures of the states.
+ghost use Rattle.std.specs.Prelude.{◌≡◌, ◌↔◌, ℕ, ◌<◌, ◌≤◌, [], ◌∷◌, length, slice_index, IfOk, OnOk};
+ghost use Rattle.lts.specs.Meter.{HasRoomFor, Visits};
+ghost use Rattle.refine.specs.Partition.{IsNumbered};
+ghost use Rattle.refine.specs.Lists.{list_of, AreNumbered};
+ghost use Rattle.refine.specs.Signed.{IsSignature};
+ghost use Rattle.refine.specs.Splitting.{Alike};
+
+use crate::lists::Lists;
+use crate::marks::Marks;
+use crate::partition::Partition;
+use crate::sense::Sense;
+use crate::splitter::split;
+use lts::{Lts, Memory, Meter};
+use std::alloc::Global;
+
+/// The signature of each state: lists, and the number of each state's list.
+#[derive(Drop)]
+pub(crate) struct RoundSignatures {
+    alloc: Global,
+    pub lists: Lists,
+    pub numbers: Vec<u32>,
+}
+
+impl RoundSignatures {
+    /// Empty signatures of so many states, 1 to 2,000,000.
+    ///
+    /// Fails if there is no memory for them.
+    pub fn new(alloc: Global, states: u32) -> Result<RoundSignatures, Memory>
+        requires some { 1 ≤ states }
+        requires few { states ≤ 2000000 }
+        ensures numbered { IfOk result (λ r. AreNumbered r.lists r.numbers.items) }
+        ensures lists { IfOk result (λ r. r.lists ≡ [] ∷ []) }
+        ensures states { IfOk result (λ r. length r.numbers.items ≡ states) }
+    {
+        Ok(RoundSignatures {
+            alloc,
+            lists: Lists::new(alloc, states)?,
+            numbers: vec![in alloc; 0u32; states as usize]?,
+        })
+    }
+
+    /// Makes each signature empty.
+    pub fn clear(&mut self)
+        requires { AreNumbered self.old.lists self.old.numbers.items }
+        ensures numbered { AreNumbered self.new.lists self.new.numbers.items }
+        ensures lists { self.new.lists ≡ [] ∷ [] }
+        ensures states { length self.new.numbers.items ≡ length self.old.numbers.items }
+    {
+        self.lists.clear();
+        self.numbers.fill(0);
+    }
+
+    /// Takes the signature of each state under the blocks of `p`. Each transition is visited once.
+    ///
+    /// Fails if there is no memory for it. It is open then which the signatures are.
+    pub fn sign<S: Sense, M: Meter>(
+        &mut self,
+        l: &Lts<M>,
+        p: &Partition,
+        marks: &mut Marks,
+        m: &mut M,
+    ) -> Result<(), Memory>
+        requires blocks { length p.now ≡ l.now.states }
+        requires marks { marks.old ≡ l.now.states }
+        requires numbered { AreNumbered self.old.lists self.old.numbers.items }
+        requires states { length self.old.numbers.items ≡ l.now.states }
+        requires room { HasRoomFor (M.counted m.old) 0 (length l.now.places) }
+
+        // Once it is done
+        ensures signed { OnOk result ((s : ℕ) → s < l.now.states →
+            IsSignature S.relation l.now p.now s (list_of self.new.lists self.new.numbers.items s)) }
+
+        // In either case
+        ensures visits { let n = length l.now.places in Visits M.counted m.old m.new result n n }
+        ensures marks { marks.new ≡ marks.old }
+        ensures numbered { AreNumbered self.new.lists self.new.numbers.items }
+        ensures states { length self.new.numbers.items ≡ length self.old.numbers.items }
+    {
+        self.clear();
+        S::sign_each(
+            self.alloc,
+            l,
+            p,
+            marks,
+            &mut self.lists,
+            &mut self.numbers,
+            m,
+        )
+    }
+
+    /// Splits the blocks of `p`: two states stay together if their signatures are equal.
+    ///
+    /// Fails if there is no memory for it.
+    pub fn split(&self, p: &Partition) -> Result<Partition, Memory>
+        requires numbered { AreNumbered self.now.lists self.now.numbers.items }
+        requires states { length p.now ≡ length self.now.numbers.items }
+        ensures states { IfOk result (λ q. length q ≡ length p.now) }
+        ensures blocks { IfOk result (λ q. (s t : ℕ) → s < length p.now → t < length p.now →
+            (slice_index q s ≡ slice_index q t) ↔ Alike p.now (list_of self.now.lists self.now.numbers.items) s t) }
+        ensures numbered { IfOk result IsNumbered }
+    {
+        split(self.alloc, p, &self.lists, &self.numbers)
+    }
+}
