@@ -3,7 +3,7 @@ use Rattle.std.proofs.Common.{◌≡◌, ◌⊎◌, ℕ, List, [], ◌∷◌, �
 use Rattle.std.specs.Prelude.{codes, IfSome, IfNone}
 use Rattle.std.proofs.lemmas.Option.{same_Some, none-some}
 use Rattle.autfmt.specs.Grammar.{Header, TransitionLine, HideLine}
-use Rattle.autfmt.specs.Reading.{Gives, after_blanks, header_at, transition_at, hide_line_at}
+use Rattle.autfmt.specs.Reading.{IsSeenAs, after_blanks, header_at, transition_at, hide_line_at}
 use Rattle.autfmt.proofs.Blanks.{at_token}
 use Rattle.autfmt.proofs.Lines.{header_at-takes, header_at-again, transition_at-takes, transition_at-again, hide_line_at-takes, hide_line_at-again}
 
@@ -20,11 +20,11 @@ no_hide_line line e a h = none-some a (sym e ∙ hide_line_at-again line a h)
 
 -- ---- what a function that gives what is read answers
 
-pub found_from : {X Y : Type 0} (view : X → Y) (r : Option X) (read : Option Y) (P : Y → Type 0) → Gives view r read → ((y : Y) → read ≡ Some y → P y) → IfSome r (λ x. P (view x))
+pub found_from : {X Y : Type 0} (view : X → Y) (r : Option X) (read : Option Y) (P : Y → Type 0) → IsSeenAs view r read → ((y : Y) → read ≡ Some y → P y) → IfSome r (λ x. P (view x))
 found_from view (Some x) read P e h = h (view x) e
 found_from view None read P e h = tt
 
-pub none_from : {X Y : Type 0} (view : X → Y) (r : Option X) (read : Option Y) (P : Type 0) → Gives view r read → (read ≡ None → P) → IfNone r P
+pub none_from : {X Y : Type 0} (view : X → Y) (r : Option X) (read : Option Y) (P : Type 0) → IsSeenAs view r read → (read ≡ None → P) → IfNone r P
 none_from view (Some x) read P e h = tt
 none_from view None read P e h = h e
 

@@ -4,6 +4,7 @@ use Rattle.autfmt.specs.declared.fault.Fault.{Fault}
 use Rattle.autfmt.specs.Texts.{Lines, IsOneLine}
 use Rattle.autfmt.specs.Faults.{FaultFrom, JudgedRest}
 use Rattle.autfmt.proofs.Cutting.{Lines-unique, first_begins}
+use Rattle.autfmt.specs.Line.{longest_line}
 
 module _ (Bad : ℕ → List ℕ → Fault → Type 0) where
   -- none of the lines from line k on is faulty
@@ -59,7 +60,7 @@ module _ (Bad : ℕ → List ℕ → Fault → Type 0) where
 
   -- the unended line k is not judged, so there is no fault yet
   pub no_judged :
-      (most k : ℕ) (lines : List (List ℕ)) (rest : List ℕ) (fault : Fault) → NoneFaulty k lines → length rest ≤ 8192 →
+      (most k : ℕ) (lines : List (List ℕ)) (rest : List ℕ) (fault : Fault) → NoneFaulty k lines → length rest ≤ longest_line →
       (k + length lines ≤ most) ⊎ (length rest ≡ 0) → FaultFrom Bad (JudgedRest Bad most rest) k lines fault → ⊥
   no_judged most k lines rest fault none short unjudged h =
       at_rest (FaultFrom-end (JudgedRest Bad most rest) k lines fault none h) unjudged
@@ -72,7 +73,7 @@ module _ (Bad : ℕ → List ℕ → Fault → Type 0) where
   -- the fault of a line that is too long, or behind the last that may stand, stays whatever follows in the line
   abbrev pub Stays : ℕ → Type 0
   Stays most =
-      (front tail : List ℕ) (k : ℕ) (fault : Fault) → (8192 < length front) ⊎ (most < k) →
+      (front tail : List ℕ) (k : ℕ) (fault : Fault) → (longest_line < length front) ⊎ (most < k) →
       Bad k front fault → Bad k (front ++ tail) fault
 
   -- then the fault of a judged unended line is that of the first line that it begins
@@ -81,12 +82,12 @@ module _ (Bad : ℕ → List ℕ → Fault → Type 0) where
       IsOneLine front → Lines (front ++ more) others → JudgedRest Bad most front k fault → FaultFrom Bad end k others fault
   judged_first most stays end front more others k fault one l (judged, bad) = begun judged
     where
-      from : 1 ≤ length front → (8192 < length front) ⊎ (most < k) → FaultFrom Bad end k others fault
+      from : 1 ≤ length front → (longest_line < length front) ⊎ (most < k) → FaultFrom Bad end k others fault
       from some kind =
           let b = first_begins front more one some in
           let same = Lines-unique (front ++ more) ((front ++ b.0) ∷ b.1) others b.2 l in
           subst (λ (ls : List (List ℕ)). FaultFrom Bad end k ls fault) same (inl (stays front b.0 k fault kind bad))
 
-      begun : (8192 < length front) ⊎ ((most < k) × (1 ≤ length front)) → FaultFrom Bad end k others fault
+      begun : (longest_line < length front) ⊎ ((most < k) × (1 ≤ length front)) → FaultFrom Bad end k others fault
       begun (inl big) = from (omega arith) (inl big)
       begun (inr behind) = from behind.1 (inr behind.0)

@@ -11,9 +11,10 @@ use Rattle.autfmt.specs.Texts.{IsOneLine}
 use Rattle.autfmt.specs.Cutter.{Cutting, BeginsTooLong, CutsLine, IsPart}
 use Rattle.autfmt.specs.Gathering.{FoundIn}
 use Rattle.autfmt.proofs.Cutting.{IsNoFeed}
+use Rattle.autfmt.specs.Line.{longest_line}
 
 -- more of a line
-pub IsPart-append : (kept bytes : List ℕ) → IsPart kept → IsOneLine bytes → length kept + length bytes ≤ 8192 → IsPart (kept ++ bytes)
+pub IsPart-append : (kept bytes : List ℕ) → IsPart kept → IsOneLine bytes → length kept + length bytes ≤ longest_line → IsPart (kept ++ bytes)
 IsPart-append kept bytes part one fits =
     (All-append IsNoFeed kept bytes part.0 one, omega (arith, length-append kept bytes))
 
@@ -32,7 +33,7 @@ pub feed_found :
     (a b c : Option (List ℕ)) (old bs kept buf bytes front kept' : List ℕ) (n at : ℕ) →
     Consumes a b bs → kept ≡ old ++ bs → IsPart kept → Consumes b c (take n buf) → n ≤ length buf → bytes ≡ take n buf →
     at < length bytes → IsOneLine (take at bytes) → drop at bytes ≡ 10 ∷ drop (at + 1) bytes → front ≡ take at bytes →
-    length kept + length front ≤ 8192 → kept' ≡ kept ++ front →
+    length kept + length front ≤ longest_line → kept' ≡ kept ++ front →
     (x : List ℕ) × Consumes a c x × FoundIn (old ++ x) (Feed at n) kept' buf
 feed_found a b c old bs kept buf bytes front kept' n at first e part second within same below one feed cut fits now =
     let more = got_more a b c old bs kept (take n buf) first e second in
@@ -54,7 +55,7 @@ feed_found a b c old bs kept buf bytes front kept' n at first e part second with
 pub too_long :
     (a b c : Option (List ℕ)) (old bs kept bytes front tail : List ℕ) →
     Consumes a b bs → kept ≡ old ++ bs → IsPart kept → Consumes b c bytes → bytes ≡ front ++ tail → IsOneLine front →
-    (length kept + length front ≤ 8192 → ⊥) → (x : List ℕ) × Consumes a c x × BeginsTooLong (old ++ x)
+    (length kept + length front ≤ longest_line → ⊥) → (x : List ℕ) × Consumes a c x × BeginsTooLong (old ++ x)
 too_long a b c old bs kept bytes front tail first e part second split one big =
     let more = got_more a b c old bs kept bytes first e second in (
       more.0,

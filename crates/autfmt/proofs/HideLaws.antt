@@ -13,6 +13,8 @@ use Rattle.autfmt.specs.HideLists.{Hides, HideReads, HideFault, FirstHideFault, 
 use Rattle.autfmt.proofs.FirstFaults.{NoneFaulty, Stays, FaultFrom-behind, FaultFrom-end, FaultFrom-extends, FaultFrom-unique, judged_first, no_judged}
 use Rattle.autfmt.proofs.Cutting.{Cuts-unique, Lines-unique, Lines-behind, lines_of}
 use Rattle.autfmt.proofs.Decisions.{one_hide_line, decide_hide_line}
+use Rattle.autfmt.specs.Line.{longest_line}
+use Rattle.autfmt.specs.declared.limits.TheConstants.{MOST_LINES}
 
 -- what the end of a whole hide list has: no fault
 abbrev pub no_fault : ℕ → Fault → Type 0
@@ -20,13 +22,13 @@ no_fault k fault = ⊥
 
 -- line k is one of those that may stand, and names a label
 abbrev pub GoodHide : ℕ → List ℕ → Type 0
-GoodHide k line = (k ≤ 100000) × (a : List ℕ) × Hides line a
+GoodHide k line = (k ≤ MOST_LINES) × (a : List ℕ) × Hides line a
 
 -- the three kinds of fault of a line
 pub data HideKind (k : ℕ) (line : List ℕ) (fault : Fault) : Type 0 where
-  extra : fault ≡ TooManyHidden → 100000 < k → HideKind k line fault
-  long : fault ≡ LineTooLong k → k ≤ 100000 → 8192 < length line → HideKind k line fault
-  unread : fault ≡ BadHide k → k ≤ 100000 → IsShort line → ((a : List ℕ) → ¬ HideLine line a) → HideKind k line fault
+  extra : fault ≡ TooManyHidden → MOST_LINES < k → HideKind k line fault
+  long : fault ≡ LineTooLong k → k ≤ MOST_LINES → longest_line < length line → HideKind k line fault
+  unread : fault ≡ BadHide k → k ≤ MOST_LINES → IsShort line → ((a : List ℕ) → ¬ HideLine line a) → HideKind k line fault
 
 pub hide_kind : (k : ℕ) (line : List ℕ) (fault : Fault) → HideFault k line fault → HideKind k line fault
 hide_kind k line TooManyHidden h = extra refl h
@@ -59,9 +61,9 @@ GoodHide-no_fault k line fault good h = against (hide_kind k line fault h)
 
 -- a line is good or has a fault
 pub hide_judged : (k : ℕ) (line : List ℕ) → GoodHide k line ⊎ ((fault : Fault) × HideFault k line fault)
-hide_judged k line = step (cases_lt 100000 k) (cases_lt 8192 (length line)) (decide_hide_line line)
+hide_judged k line = step (cases_lt MOST_LINES k) (cases_lt longest_line (length line)) (decide_hide_line line)
   where
-    step : (100000 < k) ⊎ (k ≤ 100000) → (8192 < length line) ⊎ (length line ≤ 8192) →
+    step : (MOST_LINES < k) ⊎ (k ≤ MOST_LINES) → (longest_line < length line) ⊎ (length line ≤ longest_line) →
         ((a : List ℕ) × HideLine line a) ⊎ ((a : List ℕ) → ¬ HideLine line a) →
         GoodHide k line ⊎ ((fault : Fault) × HideFault k line fault)
     step (inl x) l r = inr (TooManyHidden, x)
@@ -79,7 +81,7 @@ hides_push (l ∷ lines) (b ∷ H) line a g h = (g.0, hides_push lines H line a 
 
 -- none of the lines that name labels is faulty
 pub hides_none_faulty :
-    (k : ℕ) (lines H : List (List ℕ)) → AllZip Hides lines H → k + length lines ≤ 100001 → NoneFaulty HideFault k lines
+    (k : ℕ) (lines H : List (List ℕ)) → AllZip Hides lines H → k + length lines ≤ MOST_LINES + 1 → NoneFaulty HideFault k lines
 hides_none_faulty k [] H g few = tt
 hides_none_faulty k (line ∷ lines) [] g few = absurd g
 hides_none_faulty k (line ∷ lines) (a ∷ H) g few =
@@ -123,26 +125,26 @@ HideReads-no_fault text H fault r f =
 
 -- the lines from line k on name labels, or have a fault
 pub hides_judged :
-    (k : ℕ) (lines : List (List ℕ)) → k ≤ 100001 →
-    ((H : List (List ℕ)) × AllZip Hides lines H × (k + length lines ≤ 100001))
+    (k : ℕ) (lines : List (List ℕ)) → k ≤ MOST_LINES + 1 →
+    ((H : List (List ℕ)) × AllZip Hides lines H × (k + length lines ≤ MOST_LINES + 1))
     ⊎ ((fault : Fault) × FaultFrom HideFault no_fault k lines fault)
 hides_judged k [] few = inl ([], tt, omega arith)
 hides_judged k (line ∷ lines) few = step (λ x. hides_judged (k + 1) lines x) (hide_judged k line)
   where
     step :
-        (k + 1 ≤ 100001 →
-        ((H : List (List ℕ)) × AllZip Hides lines H × (k + 1 + length lines ≤ 100001))
+        (k + 1 ≤ MOST_LINES + 1 →
+        ((H : List (List ℕ)) × AllZip Hides lines H × (k + 1 + length lines ≤ MOST_LINES + 1))
         ⊎ ((fault : Fault) × FaultFrom HideFault no_fault (k + 1) lines fault)) →
         GoodHide k line ⊎ ((fault : Fault) × HideFault k line fault) →
-        ((H : List (List ℕ)) × AllZip Hides (line ∷ lines) H × (k + length (line ∷ lines) ≤ 100001))
+        ((H : List (List ℕ)) × AllZip Hides (line ∷ lines) H × (k + length (line ∷ lines) ≤ MOST_LINES + 1))
         ⊎ ((fault : Fault) × FaultFrom HideFault no_fault k (line ∷ lines) fault)
     step others (inr bad) = inr (bad.0, inl bad.1)
     step others (inl good) = then (others (let x = good.0 in omega arith))
       where
         then :
-            ((H : List (List ℕ)) × AllZip Hides lines H × (k + 1 + length lines ≤ 100001))
+            ((H : List (List ℕ)) × AllZip Hides lines H × (k + 1 + length lines ≤ MOST_LINES + 1))
             ⊎ ((fault : Fault) × FaultFrom HideFault no_fault (k + 1) lines fault) →
-            ((H : List (List ℕ)) × AllZip Hides (line ∷ lines) H × (k + length (line ∷ lines) ≤ 100001))
+            ((H : List (List ℕ)) × AllZip Hides (line ∷ lines) H × (k + length (line ∷ lines) ≤ MOST_LINES + 1))
             ⊎ ((fault : Fault) × FaultFrom HideFault no_fault k (line ∷ lines) fault)
         then (inr bad) = inr (bad.0, inr (λ fault. GoodHide-no_fault k line fault good, bad.1))
         then (inl rest) = let count = rest.2 in inl (good.1 ∷ rest.0, (good.2, rest.1), omega arith)
@@ -152,7 +154,7 @@ pub hide_text_judged : (text : List ℕ) → ((H : List (List ℕ)) × HideReads
 hide_text_judged text = step (hides_judged 1 (lines_of text).0 (omega arith))
   where
     step :
-        ((H : List (List ℕ)) × AllZip Hides (lines_of text).0 H × (1 + length (lines_of text).0 ≤ 100001))
+        ((H : List (List ℕ)) × AllZip Hides (lines_of text).0 H × (1 + length (lines_of text).0 ≤ MOST_LINES + 1))
         ⊎ ((fault : Fault) × FaultFrom HideFault no_fault 1 (lines_of text).0 fault) →
         ((H : List (List ℕ)) × HideReads text H) ⊎ ((fault : Fault) × FirstHideFault text fault)
     step (inl rest) =
@@ -160,10 +162,10 @@ hide_text_judged text = step (hides_judged 1 (lines_of text).0 (omega arith))
     step (inr bad) = inr (bad.0, ((lines_of text).0, (lines_of text).1, bad.1))
 
 -- the fault of a line that is too long, or behind the last that may stand, stays whatever follows in the line
-pub hide_stays : Stays HideFault 100000
+pub hide_stays : Stays HideFault MOST_LINES
 hide_stays front tail k fault judged h = step judged (hide_kind k front fault h)
   where
-    step : (8192 < length front) ⊎ (100000 < k) → HideKind k front fault → HideFault k (front ++ tail) fault
+    step : (longest_line < length front) ⊎ (MOST_LINES < k) → HideKind k front fault → HideFault k (front ++ tail) fault
     step judged (extra e x) =
         let right : HideFault k (front ++ tail) TooManyHidden = x in
         subst (λ (f : Fault). HideFault k (front ++ tail) f) (sym e) right
@@ -180,8 +182,8 @@ JudgedHideFault-first given more fault (ended, rest, c, h) = (
   ended ++ (lines_of (rest ++ more)).0,
   subst (λ (t : List ℕ). Lines t (ended ++ (lines_of (rest ++ more)).0)) whole
       (Lines-behind ended (rest ++ more) (lines_of (rest ++ more)).0 c.lines (lines_of (rest ++ more)).1),
-  FaultFrom-extends HideFault (JudgedRest HideFault 100000 rest) no_fault 1 ended (lines_of (rest ++ more)).0 fault
-      (λ k r. judged_first HideFault 100000 hide_stays no_fault rest more (lines_of (rest ++ more)).0 k fault c.one
+  FaultFrom-extends HideFault (JudgedRest HideFault MOST_LINES rest) no_fault 1 ended (lines_of (rest ++ more)).0 fault
+      (λ k r. judged_first HideFault MOST_LINES hide_stays no_fault rest more (lines_of (rest ++ more)).0 k fault c.one
       (lines_of (rest ++ more)).1 r) h,
 )
   where
@@ -191,20 +193,20 @@ JudgedHideFault-first given more fault (ended, rest, c, h) = (
 -- where the ended lines are good, and the unended one is not judged, there is no fault yet
 pub no_judged_hide_fault :
     (given : List ℕ) (lines : List (List ℕ)) (rest : List ℕ) (H : List (List ℕ)) (fault : Fault) →
-    Cuts given lines rest → AllZip Hides lines H → length lines ≤ 100000 → length rest ≤ 8192 →
-    (length lines < 100000) ⊎ (length rest ≡ 0) → JudgedHideFault given fault → ⊥
+    Cuts given lines rest → AllZip Hides lines H → length lines ≤ MOST_LINES → length rest ≤ longest_line →
+    (length lines < MOST_LINES) ⊎ (length rest ≡ 0) → JudgedHideFault given fault → ⊥
 no_judged_hide_fault given lines rest H fault c good few short unjudged j =
     let same = Cuts-unique given j.0 lines j.1 rest j.2 c in
     let h =
-    subst (λ (e : List (List ℕ)). FaultFrom HideFault (JudgedRest HideFault 100000 rest) 1 e fault) same.0
-    (subst (λ (r : List ℕ). FaultFrom HideFault (JudgedRest HideFault 100000 r) 1 j.0 fault) same.1 j.3) in
-    no_judged HideFault 100000 1 lines rest fault (hides_none_faulty 1 lines H good (omega arith)) short
+    subst (λ (e : List (List ℕ)). FaultFrom HideFault (JudgedRest HideFault MOST_LINES rest) 1 e fault) same.0
+    (subst (λ (r : List ℕ). FaultFrom HideFault (JudgedRest HideFault MOST_LINES r) 1 j.0 fault) same.1 j.3) in
+    no_judged HideFault MOST_LINES 1 lines rest fault (hides_none_faulty 1 lines H good (omega arith)) short
     (⊎_elim (λ less. inl (omega arith)) (λ none. inr none) unjudged) h
 
 -- the first fault of a hide list whose first lines are good
 pub FirstHideFault-behind :
     (text : List ℕ) (lines others H : List (List ℕ)) (fault : Fault) →
-    Lines text (lines ++ others) → AllZip Hides lines H → length lines ≤ 100000 →
+    Lines text (lines ++ others) → AllZip Hides lines H → length lines ≤ MOST_LINES →
     FaultFrom HideFault no_fault (1 + length lines) others fault → FirstHideFault text fault
 FirstHideFault-behind text lines others H fault l good few h =
     (lines ++ others, l, FaultFrom-behind HideFault no_fault 1 lines others fault (hides_none_faulty 1 lines H good (omega arith)) h)

@@ -17,8 +17,9 @@ use Rattle.autfmt.specs.HideOutcomes.{HideRefuses}
 use Rattle.autfmt.specs.HideOutcomes.HideRefuses.{failed_source, faulty_text}
 use Rattle.autfmt.proofs.Cutting.{IsNoFeed}
 use Rattle.autfmt.proofs.HideLaws.{no_fault, hides_push, no_judged_hide_fault, FirstHideFault-behind}
-use Rattle.autfmt.proofs.Standing.{Stands-line, Stands-lines, Stands-too_long, Stands-end, Stands-more, Stands-cut}
-use Rattle.autfmt.proofs.ReaderSteps.{if_told, none_to_come, fresh, Stands-fresh}
+use Rattle.autfmt.proofs.HasCut.{HasCut-line, HasCut-lines, HasCut-too_long, HasCut-end, HasCut-more, HasCut-part}
+use Rattle.autfmt.proofs.ReaderSteps.{if_told, none_to_come, fresh, HasCut-fresh}
+use Rattle.autfmt.specs.declared.limits.TheConstants.{MOST_LINES}
 
 -- a label put into the table was added
 pub AddsLabel-intern :
@@ -63,7 +64,7 @@ named_length (l ∷ lines) (a ∷ H) h = let e = named_length lines H h.1 in cc
 pub HideReadSoFar-new : (old : Cutting) (hidden : List (List ℕ)) → old ≡ fresh → hidden ≡ [] → HideReadSoFar [] old [] hidden
 HideReadSoFar-new old hidden e none = record {
   lines = [];
-  stands = Stands-fresh old e;
+  cut = HasCut-fresh old e;
   named = tt;
   same = λ a. (λ c. subst (λ (t : List (List ℕ)). Contains t a) none c, λ c. subst (λ (t : List (List ℕ)). Contains t a) (sym none) c);
 }
@@ -71,7 +72,7 @@ HideReadSoFar-new old hidden e none = record {
 -- a fault behind the lines read so far
 pub hide_fault_behind :
     (given : List ℕ) (at : Cutting) (H hidden : List (List ℕ)) (whole : List ℕ) (others : List (List ℕ)) (fault : Fault) →
-    (so_far : HideReadSoFar given at H hidden) → length H ≤ 100000 → Lines whole (so_far.lines ++ others) →
+    (so_far : HideReadSoFar given at H hidden) → length H ≤ MOST_LINES → Lines whole (so_far.lines ++ others) →
     FaultFrom HideFault no_fault (1 + length H) others fault → FirstHideFault whole fault
 hide_fault_behind given at H hidden whole others fault so_far few l h =
     let e = named_length so_far.lines H so_far.named in
@@ -81,35 +82,35 @@ hide_fault_behind given at H hidden whole others fault so_far few l h =
 -- the next line is too long
 pub hide_too_long :
     (given : List ℕ) (old : Cutting) (H hidden : List (List ℕ)) (got : List ℕ) (rest : Option (List ℕ)) (failures found : ℕ) →
-    HideReadSoFar given old H hidden → length H ≡ found → found < 100000 → failures ≡ 0 → (old.over ≡ true → ⊥) →
+    HideReadSoFar given old H hidden → length H ≡ found → found < MOST_LINES → failures ≡ 0 → (old.over ≡ true → ⊥) →
     BeginsTooLong (old.ahead ++ got) → HideRefuses (given ++ got) rest failures (LineTooLong (found + 1))
 hide_too_long given old H hidden got rest failures found so_far count few sound goes_on long =
     faulty_text sound tt
     (if_told rest (λ more. FirstHideFault (given ++ got ++ more) (LineTooLong (found + 1)))
     (λ more told.
-    let (line, others, big, l) = Stands-too_long given got more so_far.lines old so_far.stands goes_on long in
+    let (line, others, big, l) = HasCut-too_long given got more so_far.lines old so_far.cut goes_on long in
     hide_fault_behind given old H hidden (given ++ got ++ more) (line ∷ others) (LineTooLong (found + 1)) so_far (omega arith) l
     (inl (omega arith, omega arith, big))))
 
 -- the text ends
 pub hide_ends :
     (given : List ℕ) (old : Cutting) (H hidden : List (List ℕ)) (got : List ℕ) →
-    HideReadSoFar given old H hidden → length H ≤ 100000 → old.ahead ++ got ≡ [] → HidesAs (given ++ got) hidden
+    HideReadSoFar given old H hidden → length H ≤ MOST_LINES → old.ahead ++ got ≡ [] → HidesAs (given ++ got) hidden
 hide_ends given old H hidden got so_far few none =
     let e = named_length so_far.lines H so_far.named in
-    (H, (so_far.lines, Stands-end given got so_far.lines old so_far.stands none, omega arith, so_far.named), so_far.same)
+    (H, (so_far.lines, HasCut-end given got so_far.lines old so_far.cut none, omega arith, so_far.named), so_far.same)
 
 -- the source failed where a line has not ended
 pub hide_failed :
     (given : List ℕ) (old : Cutting) (H hidden : List (List ℕ)) (got : List ℕ) (rest : Option (List ℕ)) (failures : ℕ) →
-    HideReadSoFar given old H hidden → length H ≤ 100000 → (length H < 100000) ⊎ (length (old.ahead ++ got) ≡ 0) →
+    HideReadSoFar given old H hidden → length H ≤ MOST_LINES → (length H < MOST_LINES) ⊎ (length (old.ahead ++ got) ≡ 0) →
     failures ≡ 1 → (old.over ≡ true → ⊥) → IsPart (old.ahead ++ got) → HideRefuses (given ++ got) rest failures Device
 hide_failed given old H hidden got rest failures so_far few unjudged failed goes_on part =
     let e = named_length so_far.lines H so_far.named in
-    let c = Stands-cut given got so_far.lines old so_far.stands goes_on part.0 in
+    let c = HasCut-part given got so_far.lines old so_far.cut goes_on part.0 in
     failed_source failed refl
     (λ f. no_judged_hide_fault (given ++ got) so_far.lines (old.ahead ++ got) H f c so_far.named (omega arith) part.1
-    (subst (λ (k : ℕ). (k < 100000) ⊎ (length (old.ahead ++ got) ≡ 0)) (sym e) unjudged))
+    (subst (λ (k : ℕ). (k < MOST_LINES) ⊎ (length (old.ahead ++ got) ≡ 0)) (sym e) unjudged))
 
 -- the next line names a label
 pub hide_good :
@@ -118,7 +119,7 @@ pub hide_good :
     AddsLabel hidden a hidden' → HideReadSoFar (given ++ got) now (H ++ a ∷ []) hidden'
 hide_good given old now H hidden got a hidden' so_far goes_on cuts names added = record {
   lines = so_far.lines ++ now.line ∷ [];
-  stands = Stands-line given got so_far.lines old now so_far.stands goes_on cuts;
+  cut = HasCut-line given got so_far.lines old now so_far.cut goes_on cuts;
   named = hides_push so_far.lines H now.line a so_far.named names;
   same = SameLabels-add hidden H a hidden' so_far.same added;
 }
@@ -127,16 +128,16 @@ hide_good given old now H hidden got a hidden' so_far goes_on cuts names added =
 pub hide_faulty :
     (given : List ℕ) (old now : Cutting) (H hidden : List (List ℕ)) (got : List ℕ) (rest : Option (List ℕ)) (failures found : ℕ)
     (fault : Fault) →
-    HideReadSoFar given old H hidden → length H ≡ found → found < 100000 → failures ≡ 0 → (old.over ≡ true → ⊥) →
+    HideReadSoFar given old H hidden → length H ≡ found → found < MOST_LINES → failures ≡ 0 → (old.over ≡ true → ⊥) →
     (now.over ≡ true → IsAtEnd rest) → CutsLine (old.ahead ++ got) now → HideFault (found + 1) now.line fault →
     IsHideFault fault → HideRefuses (given ++ got) rest failures fault
 hide_faulty given old now H hidden got rest failures found fault so_far count few sound goes_on end cuts bad kind =
     faulty_text sound kind
     (if_told rest (λ more. FirstHideFault (given ++ got ++ more) fault)
     (λ more told.
-    let s = Stands-line given got so_far.lines old now so_far.stands goes_on cuts in
+    let s = HasCut-line given got so_far.lines old now so_far.cut goes_on cuts in
     let (others, l) =
-    Stands-lines (given ++ got) more (so_far.lines ++ now.line ∷ []) now s
+    HasCut-lines (given ++ got) more (so_far.lines ++ now.line ∷ []) now s
     (λ over. none_to_come rest more told (end over)) in
     let l' =
     subst (λ (ls : List (List ℕ)). Lines (given ++ got ++ more) ls) (append_assoc so_far.lines (now.line ∷ []) others) l in
@@ -147,20 +148,20 @@ hide_faulty given old now H hidden got rest failures found fault so_far count fe
 -- more stands behind the last line that may stand
 pub hide_behind :
     (given : List ℕ) (old : Cutting) (H hidden : List (List ℕ)) (got : List ℕ) (rest : Option (List ℕ)) (failures : ℕ) →
-    HideReadSoFar given old H hidden → length H ≡ 100000 → failures ≡ 0 → (old.over ≡ true → ⊥) →
+    HideReadSoFar given old H hidden → length H ≡ MOST_LINES → failures ≡ 0 → (old.over ≡ true → ⊥) →
     1 ≤ length (old.ahead ++ got) → HideRefuses (given ++ got) rest failures TooManyHidden
 hide_behind given old H hidden got rest failures so_far count sound goes_on some =
     faulty_text sound tt
     (if_told rest (λ more. FirstHideFault (given ++ got ++ more) TooManyHidden)
     (λ more told.
-    let (line, others, l) = Stands-more given got more so_far.lines old so_far.stands goes_on some in
+    let (line, others, l) = HasCut-more given got more so_far.lines old so_far.cut goes_on some in
     hide_fault_behind given old H hidden (given ++ got ++ more) (line ∷ others) TooManyHidden so_far (omega arith) l
     (inl (omega arith))))
 
 -- the source failed behind the last line that may stand
 pub hide_end_failed :
     (given : List ℕ) (old : Cutting) (H hidden : List (List ℕ)) (got : List ℕ) (rest : Option (List ℕ)) (failures : ℕ) →
-    HideReadSoFar given old H hidden → length H ≡ 100000 → failures ≡ 1 → (old.over ≡ true → ⊥) →
+    HideReadSoFar given old H hidden → length H ≡ MOST_LINES → failures ≡ 1 → (old.over ≡ true → ⊥) →
     old.ahead ++ got ≡ [] → HideRefuses (given ++ got) rest failures Device
 hide_end_failed given old H hidden got rest failures so_far count failed goes_on none =
     let part : IsPart (old.ahead ++ got) =

@@ -13,7 +13,7 @@ pub mod FaultLaws
 pub mod JudgedLaws
 pub mod HideLaws
 pub mod Gathering
-pub mod Standing
+pub mod HasCut
 pub mod Taking
 pub mod Hiding
 pub mod Holding

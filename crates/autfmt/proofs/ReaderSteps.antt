@@ -12,24 +12,24 @@ use Rattle.autfmt.specs.Bounds.{Bounds}
 use Rattle.autfmt.specs.Grammar.{TransitionLine}
 use Rattle.autfmt.specs.Texts.{Lines, GoodHeader, Reads}
 use Rattle.autfmt.specs.Faults.{HeaderFault, EdgeFault, FaultFrom, Missing, FirstFault}
-use Rattle.autfmt.specs.Cutter.{Cutting, Stands, CutsLine, CutsEnd, BeginsTooLong, IsPart}
+use Rattle.autfmt.specs.Cutter.{Cutting, HasCut, CutsLine, CutsEnd, BeginsTooLong, IsPart}
 use Rattle.autfmt.specs.Held.{Holds}
 use Rattle.autfmt.specs.Readers.{IsTextFault, HasGoodHeader}
 use Rattle.autfmt.specs.Outcomes.{Refuses}
-use Rattle.autfmt.specs.ReadSoFar.{ReadSoFar, Standing}
+use Rattle.autfmt.specs.ReadSoFar.{ReadSoFar, HeldSoFar}
 use Rattle.autfmt.specs.Outcomes.Refuses.{no_memory, failed_source, faulty_text}
 use Rattle.autfmt.proofs.Cutting.{IsNoFeed}
 use Rattle.autfmt.proofs.FaultLaws.{GoodLines, GoodLines-length, GoodLines-push, Reads-from_lines}
 use Rattle.autfmt.proofs.JudgedLaws.{no_judged_header, no_judged_fault, FirstFault-behind}
 use Rattle.autfmt.proofs.Holding.{Holds-length}
-use Rattle.autfmt.proofs.Standing.{Stands-new, Stands-line, Stands-lines, Stands-too_long, Stands-end, Stands-more, Stands-cut}
+use Rattle.autfmt.proofs.HasCut.{HasCut-new, HasCut-line, HasCut-lines, HasCut-too_long, HasCut-end, HasCut-more, HasCut-part}
 
 -- a cutter that has taken nothing
 abbrev pub fresh : Cutting
 fresh = record { line = []; ahead = []; over = false }
 
-pub Stands-fresh : (old : Cutting) → old ≡ fresh → Stands [] [] old
-Stands-fresh old e = subst (λ (c : Cutting). Stands [] [] c) (sym e) Stands-new
+pub HasCut-fresh : (old : Cutting) → old ≡ fresh → HasCut [] [] old
+HasCut-fresh old e = subst (λ (c : Cutting). HasCut [] [] c) (sym e) HasCut-new
 
 pub fresh_goes_on : (old : Cutting) → old ≡ fresh → old.over ≡ true → ⊥
 fresh_goes_on old e over = let f = ap (λ (c : Cutting). c.over) e in cc
@@ -51,7 +51,7 @@ header_too_long bounds old got rest failures e sound long =
     faulty_text sound tt
     (if_told rest (λ more. FirstFault bounds (got ++ more) (LineTooLong 1))
     (λ more told.
-    let (line, others, big, l) = Stands-too_long [] got more [] old (Stands-fresh old e) (fresh_goes_on old e) long in
+    let (line, others, big, l) = HasCut-too_long [] got more [] old (HasCut-fresh old e) (fresh_goes_on old e) long in
     (line ∷ others, l, inl (refl, big))))
 
 -- there is no line 1
@@ -63,7 +63,7 @@ header_missing bounds old now got rest failures e sound end cuts =
     (if_told rest (λ more. FirstFault bounds (got ++ more) BadHeader)
     (λ more told.
     let none = none_to_come rest more told (end cuts.over) in
-    let l = Stands-end [] got [] old (Stands-fresh old e) cuts.none in
+    let l = HasCut-end [] got [] old (HasCut-fresh old e) cuts.none in
     let l' = subst (λ (t : List ℕ). Lines t []) (sym (append-nil got) ∙ ap (λ (t : List ℕ). got ++ t) (sym none)) l in
     ([], l', refl)))
 
@@ -83,7 +83,7 @@ pub header_good :
 header_good bounds old now got p e cuts good = record {
   header = now.line;
   lines = [];
-  stands = Stands-line [] got [] old now (Stands-fresh old e) (fresh_goes_on old e) cuts;
+  cut = HasCut-line [] got [] old now (HasCut-fresh old e) (fresh_goes_on old e) cuts;
   good = good;
   spelled = tt;
   among = All-nil (IsAmong p.states);
@@ -98,8 +98,8 @@ header_faulty bounds old now got rest failures fault e sound end cuts bad kind =
     faulty_text sound kind
     (if_told rest (λ more. FirstFault bounds (got ++ more) fault)
     (λ more told.
-    let s = Stands-line [] got [] old now (Stands-fresh old e) (fresh_goes_on old e) cuts in
-    let (others, l) = Stands-lines got more (now.line ∷ []) now s (λ over. none_to_come rest more told (end over)) in
+    let s = HasCut-line [] got [] old now (HasCut-fresh old e) (fresh_goes_on old e) cuts in
+    let (others, l) = HasCut-lines got more (now.line ∷ []) now s (λ over. none_to_come rest more told (end over)) in
     (now.line ∷ others, l, inl bad)))
 
 -- the lines read so far are good
@@ -133,7 +133,7 @@ transition_too_long bounds given old p es got rest failures found so_far count p
     (if_told rest (λ more. FirstFault bounds (given ++ got ++ more) (LineTooLong (found + 2)))
     (λ more told.
     let (line, others, big, l) =
-    Stands-too_long given got more (so_far.header ∷ so_far.lines) old so_far.stands goes_on long in
+    HasCut-too_long given got more (so_far.header ∷ so_far.lines) old so_far.cut goes_on long in
     fault_behind bounds given old p es (given ++ got ++ more) (line ∷ others) (LineTooLong (found + 2)) so_far (omega arith) l
     (inl (omega arith, omega arith, big))))
 
@@ -149,7 +149,7 @@ transition_missing bounds given old now p es got rest failures found so_far coun
     (if_told rest (λ more. FirstFault bounds (given ++ got ++ more) (MissingEdges found))
     (λ more told.
     let none = none_to_come rest more told (end cuts.over) in
-    let l = Stands-end given got (so_far.header ∷ so_far.lines) old so_far.stands cuts.none in
+    let l = HasCut-end given got (so_far.header ∷ so_far.lines) old so_far.cut cuts.none in
     let same : given ++ got ≡ given ++ got ++ more =
     sym (append-nil (given ++ got)) ∙ ap (λ (t : List ℕ). given ++ got ++ t) (sym none) in
     let l' =
@@ -168,7 +168,7 @@ pub transition_failed :
 transition_failed bounds given old p es got rest failures so_far few unjudged failed goes_on part =
     let edges = good_lines bounds given old p es so_far in
     let e = GoodLines-length p.states so_far.lines es edges in
-    let c = Stands-cut given got (so_far.header ∷ so_far.lines) old so_far.stands goes_on part.0 in
+    let c = HasCut-part given got (so_far.header ∷ so_far.lines) old so_far.cut goes_on part.0 in
     failed_source failed refl
     (λ f. no_judged_fault bounds (given ++ got) so_far.header so_far.lines (old.ahead ++ got) p.first p.transitions p.states es f
     c so_far.good edges (omega arith) part.1
@@ -186,7 +186,7 @@ transition_good bounds given old now p es got e so_far goes_on cuts spelled amon
     record {
       header = so_far.header;
       lines = so_far.lines ++ now.line ∷ [];
-      stands = Stands-line given got (so_far.header ∷ so_far.lines) old now so_far.stands goes_on cuts;
+      cut = HasCut-line given got (so_far.header ∷ so_far.lines) old now so_far.cut goes_on cuts;
       good = so_far.good;
       spelled = edges.spelled;
       among = edges.among;
@@ -204,9 +204,9 @@ transition_faulty bounds given old now p es got rest failures found fault so_far
     faulty_text sound kind
     (if_told rest (λ more. FirstFault bounds (given ++ got ++ more) fault)
     (λ more told.
-    let s = Stands-line given got (so_far.header ∷ so_far.lines) old now so_far.stands goes_on cuts in
+    let s = HasCut-line given got (so_far.header ∷ so_far.lines) old now so_far.cut goes_on cuts in
     let (others, l) =
-    Stands-lines (given ++ got) more ((so_far.header ∷ so_far.lines) ++ now.line ∷ []) now s
+    HasCut-lines (given ++ got) more ((so_far.header ∷ so_far.lines) ++ now.line ∷ []) now s
     (λ over. none_to_come rest more told (end over)) in
     let l' =
     subst (λ (ls : List (List ℕ)). Lines (given ++ got ++ more) (so_far.header ∷ ls))
@@ -225,9 +225,9 @@ transition_refused bounds given old now p es got rest failures so_far sound goes
     no_memory sound refl
     (if_told rest (λ more. HasGoodHeader bounds (given ++ got ++ more))
     (λ more told.
-    let s = Stands-line given got (so_far.header ∷ so_far.lines) old now so_far.stands goes_on cuts in
+    let s = HasCut-line given got (so_far.header ∷ so_far.lines) old now so_far.cut goes_on cuts in
     let (others, l) =
-    Stands-lines (given ++ got) more ((so_far.header ∷ so_far.lines) ++ now.line ∷ []) now s
+    HasCut-lines (given ++ got) more ((so_far.header ∷ so_far.lines) ++ now.line ∷ []) now s
     (λ over. none_to_come rest more told (end over)) in
     (so_far.header, so_far.lines ++ now.line ∷ [] ++ others, p.first, p.transitions, p.states, l, so_far.good)))
 
@@ -241,7 +241,7 @@ text_behind bounds given old p es got rest failures so_far count sound goes_on s
     faulty_text sound tt
     (if_told rest (λ more. FirstFault bounds (given ++ got ++ more) (ExtraText (p.transitions + 2)))
     (λ more told.
-    let (line, others, l) = Stands-more given got more (so_far.header ∷ so_far.lines) old so_far.stands goes_on some in
+    let (line, others, l) = HasCut-more given got more (so_far.header ∷ so_far.lines) old so_far.cut goes_on some in
     fault_behind bounds given old p es (given ++ got ++ more) (line ∷ others) (ExtraText (p.transitions + 2)) so_far (omega arith)
     l (inl (omega arith, omega arith))))
 
@@ -253,7 +253,7 @@ pub text_ends :
 text_ends bounds given old p es got so_far count none =
     let edges = good_lines bounds given old p es so_far in
     let e = GoodLines-length p.states so_far.lines es edges in
-    let l = Stands-end given got (so_far.header ∷ so_far.lines) old so_far.stands none in
+    let l = HasCut-end given got (so_far.header ∷ so_far.lines) old so_far.cut none in
     Reads-from_lines bounds (given ++ got) so_far.header so_far.lines p.first p.transitions p.states es l so_far.good edges
     (e ∙ count)
 
@@ -262,25 +262,25 @@ pub goes_on : {over : Bool} → over ≡ false → over ≡ true → ⊥
 goes_on open_at over = cc
 
 -- the same bytes by another spelling
-pub Standing-same :
+pub HeldSoFar-same :
     (bounds : Bounds) (H : List (List ℕ)) (given given' : List ℕ) (at : Cutting) (p : Promise) (held : Held) (es : List Transition) →
-    given ≡ given' → Standing bounds H given at p held es → Standing bounds H given' at p held es
-Standing-same bounds H given given' at p held es e standing =
+    given ≡ given' → HeldSoFar bounds H given at p held es → HeldSoFar bounds H given' at p held es
+HeldSoFar-same bounds H given given' at p held es e standing =
     (subst (λ (t : List ℕ). ReadSoFar bounds t at p es) e standing.0, standing.1)
 
 -- one transition more was read, behind those of the bytes before
-pub Standing-push :
+pub HeldSoFar-push :
     (H : List (List ℕ)) (p : Promise) (old at now : Cutting) (held_old held_at held : Held) (before line : List ℕ) →
-    ((bounds : Bounds) (given : List ℕ) → Standing bounds H given old p held_old [] →
-    (es : List Transition) × Standing bounds H (given ++ before) at p held_at es) →
-    ((bounds : Bounds) (given : List ℕ) (es : List Transition) → Standing bounds H given at p held_at es →
-    (e : Transition) × Standing bounds H (given ++ line) now p held (es ++ e ∷ [])) →
-    (bounds : Bounds) (given : List ℕ) → Standing bounds H given old p held_old [] →
-    (es : List Transition) × Standing bounds H (given ++ (before ++ line)) now p held es
-Standing-push H p old at now held_old held_at held before line so_far step bounds given standing =
+    ((bounds : Bounds) (given : List ℕ) → HeldSoFar bounds H given old p held_old [] →
+    (es : List Transition) × HeldSoFar bounds H (given ++ before) at p held_at es) →
+    ((bounds : Bounds) (given : List ℕ) (es : List Transition) → HeldSoFar bounds H given at p held_at es →
+    (e : Transition) × HeldSoFar bounds H (given ++ line) now p held (es ++ e ∷ [])) →
+    (bounds : Bounds) (given : List ℕ) → HeldSoFar bounds H given old p held_old [] →
+    (es : List Transition) × HeldSoFar bounds H (given ++ (before ++ line)) now p held es
+HeldSoFar-push H p old at now held_old held_at held before line so_far step bounds given standing =
     let (es, then) = so_far bounds given standing in
     let (e, next) = step bounds (given ++ before) es then in
-    (es ++ e ∷ [], Standing-same bounds H _ _ now p held _ (append_assoc given before line) next)
+    (es ++ e ∷ [], HeldSoFar-same bounds H _ _ now p held _ (append_assoc given before line) next)
 
 pub Refuses-same :
     (bounds : Bounds) (given given' : List ℕ) (rest : Option (List ℕ)) (failures : ℕ) (fault : Fault) →

@@ -2,6 +2,7 @@
 use Rattle.std.specs.Prelude.{◌≡◌, ◌⊎◌, ℕ, ◌<◌, ◌≤◌, Bool, true, false, IsTrue, List, [], ◌∷◌, ◌++◌, length, Option, None, Some, IfSome}
 use Rattle.std.specs.List.{All, flat_map, slice_range}
 use Rattle.autfmt.specs.Texts.{Lines, IsOneLine, IsShort}
+use Rattle.autfmt.specs.Line.{longest_line}
 
 -- the line that was cut last, the bytes that were taken behind it, and whether the source came to its end
 pub record Cutting : Type 0 where
@@ -24,7 +25,7 @@ pub record IsCutter (from to : ℕ) (place : Option (ℕ × ℕ)) (over : Bool) 
 -- the bytes begin with a line of more than 8192 bytes
 abbrev pub BeginsTooLong : List ℕ → Type 0
 BeginsTooLong bytes =
-    (front : List ℕ) × (tail : List ℕ) × IsOneLine front × (8192 < length front) × (bytes ≡ front ++ tail)
+    (front : List ℕ) × (tail : List ℕ) × IsOneLine front × (longest_line < length front) × (bytes ≡ front ++ tail)
 
 -- the first line of the bytes was cut: after it comes a line feed and what is ahead, or the end of the text
 pub record CutsLine (bytes : List ℕ) (now : Cutting) : Type 0 where
@@ -49,7 +50,7 @@ abbrev pub with_line_feeds : List (List ℕ) → List ℕ
 with_line_feeds lines = flat_map (λ line. line ++ 10 ∷ []) lines
 
 -- the bytes given have these lines, and behind them what is ahead, or they are the whole text
-abbrev pub Stands : List ℕ → List (List ℕ) → Cutting → Type 0
-Stands given lines at =
+abbrev pub HasCut : List ℕ → List (List ℕ) → Cutting → Type 0
+HasCut given lines at =
     ((at.over ≡ false) × (given ≡ with_line_feeds lines ++ at.ahead) × All IsOneLine lines)
     ⊎ ((at.over ≡ true) × (at.ahead ≡ []) × Lines given lines)

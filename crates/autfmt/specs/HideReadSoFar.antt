@@ -3,7 +3,7 @@ use Rattle.std.specs.Prelude.{◌≡◌, ◌↔◌, ◌⊎◌, ℕ, ◌+◌, ◌
 use Rattle.std.specs.List.{AllZip}
 use Rattle.autfmt.specs.HideLists.{Hides}
 use Rattle.autfmt.specs.HideReaders.{SameLabels}
-use Rattle.autfmt.specs.Cutter.{Cutting, Stands}
+use Rattle.autfmt.specs.Cutter.{Cutting, HasCut}
 
 -- the label a was added to the list
 pub record AddsLabel (old : List (List ℕ)) (a : List ℕ) (now : List (List ℕ)) : Type 0 where
@@ -13,6 +13,6 @@ pub record AddsLabel (old : List (List ℕ)) (a : List ℕ) (now : List (List �
 -- lines that name the labels H were read from the bytes given, and the labels are held, repeats apart
 pub record HideReadSoFar (given : List ℕ) (at : Cutting) (H hidden : List (List ℕ)) : Type 0 where
   pub lines : List (List ℕ)
-  pub stands : Stands given lines at
+  pub cut : HasCut given lines at
   pub named : AllZip Hides lines H
   pub same : SameLabels hidden H

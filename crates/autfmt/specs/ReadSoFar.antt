@@ -6,21 +6,21 @@ use Rattle.autfmt.specs.declared.judge.Promise.{Promise}
 use Rattle.autfmt.specs.declared.held.Held.{Held}
 use Rattle.autfmt.specs.Bounds.{Bounds}
 use Rattle.autfmt.specs.Texts.{GoodHeader, SpellsTransition, Reads}
-use Rattle.autfmt.specs.Cutter.{Cutting, Stands}
+use Rattle.autfmt.specs.Cutter.{Cutting, HasCut}
 use Rattle.autfmt.specs.Held.{Holds}
 
 -- a good header with this promise and lines that spell the transitions were read from the bytes given
 pub record ReadSoFar (bounds : Bounds) (given : List ℕ) (at : Cutting) (p : Promise) (es : List Transition) : Type 0 where
   pub header : List ℕ
   pub lines : List (List ℕ)
-  pub stands : Stands given (header ∷ lines) at
+  pub cut : HasCut given (header ∷ lines) at
   pub good : GoodHeader bounds header p.first p.transitions p.states
   pub spelled : AllZip SpellsTransition lines es
   pub among : All (IsAmong p.states) es
 
 -- so far the transitions were read from the bytes given, and are held with the labels of H hidden
-abbrev pub Standing : Bounds → List (List ℕ) → List ℕ → Cutting → Promise → Held → List Transition → Type 0
-Standing bounds H given at p held es = ReadSoFar bounds given at p es × Holds H p.states held es
+abbrev pub HeldSoFar : Bounds → List (List ℕ) → List ℕ → Cutting → Promise → Held → List Transition → Type 0
+HeldSoFar bounds H given at p held es = ReadSoFar bounds given at p es × Holds H p.states held es
 
 -- the text reads as a system, which is held with the labels of H hidden
 abbrev pub HoldsText : Bounds → List (List ℕ) → List ℕ → Promise → Held → Type 0

@@ -11,9 +11,9 @@ abbrev pub ◌>>=◌ : {A B : Type 0} → Option A → (A → Option B) → Opti
 None >>= f = None
 
 -- what a function returned, seen by view, is what reading gives
-abbrev pub Gives : {X Y : Type 0} → (X → Y) → Option X → Option Y → Type 0
-Gives view (Some x) read = read ≡ Some (view x)
-Gives view None read = read ≡ None
+abbrev pub IsSeenAs : {X Y : Type 0} → (X → Y) → Option X → Option Y → Type 0
+IsSeenAs view (Some x) read = read ≡ Some (view x)
+IsSeenAs view None read = read ≡ None
 
 -- whether b is a blank
 abbrev pub is_blank : ℕ → Bool

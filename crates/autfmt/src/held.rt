@@ -1,6 +1,8 @@
 //! The transitions that a reader holds: their labels in a table, and a triple of numbers for each.
 ghost use Rattle.std.specs.Prelude.{◌≡◌, ℕ, ◌+◌, ◌<◌, ◌≤◌, List, [], ◌∷◌, ◌++◌, length, vec_len, IfOk, OnOk, OnErr};
 ghost use Rattle.theory.specs.System.{Transition, IsLabel, IsAmong};
+ghost use Rattle.lts.specs.declared.limits.TheConstants.{MOST_LABELS};
+ghost use Rattle.autfmt.specs.declared.limits.TheConstants.{FILE_TRANSITIONS};
 ghost use Rattle.lts.specs.Labels.{IsNumber, Interns, Keeps};
 ghost use Rattle.autfmt.specs.Held.{AddsTriple};
 
@@ -47,7 +49,7 @@ impl Held {
         requires label { IsLabel label.now }
         requires few { length self.old.labels ≤ vec_len self.old.triples }
         requires promised { vec_len self.old.triples < promised }
-        requires file { promised ≤ 10000000 }
+        requires file { promised ≤ FILE_TRANSITIONS }
         ensures added { OnOk result (AddsTriple self.old self.new source label.now target) }
         ensures len { OnOk result (vec_len self.new.triples ≡ vec_len self.old.triples + 1) }
         ensures few { OnOk result (length self.new.labels ≤ vec_len self.new.triples) }
@@ -66,7 +68,7 @@ impl Held {
 /// `Memory` if a growth is refused.
 fn number_of(labels: &mut Labels, guesses: &mut [u32; GUESSES], label: &[u8]) -> Result<u32, Memory>
     requires label { IsLabel label.now }
-    requires room { length labels.old < 20000000 }
+    requires room { length labels.old < MOST_LABELS }
     ensures number { IfOk result (λ k. IsNumber labels.new k label.now) }
     ensures table { OnOk result (Interns labels.old label.now labels.new) }
     ensures keeps { Keeps labels.old labels.new }

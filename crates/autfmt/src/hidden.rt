@@ -1,6 +1,7 @@
 //! The labels that are to be hidden.
 ghost use Rattle.std.specs.Prelude.{◌≡◌, ℕ, ◌+◌, ◌<◌, ◌≤◌, List, [], length, OnOk};
 ghost use Rattle.theory.specs.System.{IsLabel, hidden_label};
+ghost use Rattle.lts.specs.declared.limits.TheConstants.{MOST_LABELS};
 ghost use Rattle.autfmt.specs.HideReadSoFar.{AddsLabel};
 
 use lts::{Labels, Memory};
@@ -37,7 +38,7 @@ impl Hidden {
     /// `Memory` if a growth is refused.
     pub(crate) fn add(&mut self, label: &[u8]) -> Result<(), Memory>
         requires label { IsLabel label.now }
-        requires room { length self.old < 20000000 }
+        requires room { length self.old < MOST_LABELS }
         ensures added { OnOk result (AddsLabel self.old label.now self.new) }
     {
         self.labels.intern(label)?;

@@ -1,6 +1,7 @@
 //! The reader of a hide list: a label on each line.
 ghost use Rattle.std.specs.Prelude.{◌≡◌, ◌↔◌, ℕ, ◌+◌, ◌<◌, ◌≤◌, List, [], ◌∷◌, ◌++◌, length, false, IsTrue, IfSome, Ok, Err, IfOk, IfErr, OnOk, MatchResult, MatchBool};
 ghost use Rattle.std.specs.Io.KnownBytes.{Consumes, IsAtEnd};
+ghost use Rattle.autfmt.specs.declared.limits.TheConstants.{MOST_LINES};
 ghost use Rattle.autfmt.specs.HideLists.{FirstHideFault};
 ghost use Rattle.autfmt.specs.HideReaders.{IsHideFault, HidesAs};
 ghost use Rattle.autfmt.specs.HideReadSoFar.{HideReadSoFar};
@@ -10,11 +11,9 @@ use crate::cutter::{Cutter, Step};
 use crate::fault::Fault;
 use crate::hidden::Hidden;
 use crate::judge::judge_hide_line;
+use crate::limits::MOST_LINES;
 use crate::source::Source;
 use std::alloc::Global;
-
-/// The most lines of a hide list.
-const MOST_LINES: u32 = 100_000;
 
 /// Reads a hide list: at most 100,000 lines, each of one label. The source is taken to its end.
 ///
@@ -66,7 +65,7 @@ fn read_hide_line<R: Source>(
     found: u32,
     hidden: &mut Hidden,
 ) -> Result<bool, Fault>
-    requires more { found < 100000 }
+    requires more { found < MOST_LINES }
     requires few { length hidden.old ≤ found }
     requires sound { R.failures r.old ≡ 0 }
     requires end { IsTrue cutter.old.over → IsAtEnd (R.rest r.old) }

@@ -1,6 +1,7 @@
 //! One line is judged: what it says, or its fault.
 ghost use Rattle.std.specs.Prelude.{◌≡◌, ℕ, ◌+◌, ◌<◌, ◌≤◌, length, IfOk, IfErr};
 ghost use Rattle.theory.specs.System.{IsLabel};
+ghost use Rattle.autfmt.specs.declared.limits.TheConstants.{FILE_STATES, FILE_TRANSITIONS, MOST_LINES};
 ghost use Rattle.autfmt.specs.Grammar.{TransitionLine};
 ghost use Rattle.autfmt.specs.Texts.{IsShort, GoodHeader};
 ghost use Rattle.autfmt.specs.Faults.{HeaderFault, EdgeFault};
@@ -24,7 +25,7 @@ pub(crate) struct Promise {
 pub(crate) fn judge_header(line: &[u8], lim: &Limits) -> Result<Promise, Fault>
     requires { IsShort line.now }
     ensures good { IfOk result (λ p. GoodHeader lim.now line.now p.first p.transitions p.states) }
-    ensures file { IfOk result (λ p. (p.states ≤ 1000000) × (p.transitions ≤ 10000000)) }
+    ensures file { IfOk result (λ p. (p.states ≤ FILE_STATES) × (p.transitions ≤ FILE_TRANSITIONS)) }
     ensures fault { IfErr result (λ f. HeaderFault lim.now line.now f) }
     ensures kind { IfErr result IsTextFault }
 {
@@ -79,7 +80,7 @@ pub(crate) fn judge_transition(
 /// Judges line `k` of a hide list: its label.
 pub(crate) fn judge_hide_line(line: &[u8], k: u32) -> Result<&[u8], Fault>
     requires short { IsShort line.now }
-    requires few { k ≤ 100000 }
+    requires few { k ≤ MOST_LINES }
     ensures good { IfOk result (λ a. Hides line.now a.now) }
     ensures label { IfOk result (λ a. IsLabel a.now) }
     ensures fault { IfErr result (λ f. HideFault k line.now f) }

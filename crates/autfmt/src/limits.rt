@@ -5,10 +5,13 @@ ghost use Rattle.autfmt.specs.Bounds.{Bounds, bounds, IsWithinFile};
 use std::marker::Model;
 
 /// The most states of a file.
-const FILE_STATES: u32 = 1_000_000;
+pub(crate) const FILE_STATES: u32 = 1_000_000;
 
 /// The most transitions of a file.
-const FILE_TRANSITIONS: u32 = 10_000_000;
+pub(crate) const FILE_TRANSITIONS: u32 = 10_000_000;
+
+/// The most lines of a hide list.
+pub(crate) const MOST_LINES: u32 = 100_000;
 
 /// The most states and the most transitions that a text may promise.
 #[derive(Clone, Copy, Debug)]

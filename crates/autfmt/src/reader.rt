@@ -3,11 +3,12 @@ ghost use Rattle.std.specs.Prelude.{◌≡◌, ◌↔◌, ℕ, ◌+◌, ◌<◌,
 ghost use Rattle.std.specs.Io.KnownBytes.{Consumes, IsAtEnd};
 ghost use Rattle.theory.specs.System.{System, Transition};
 ghost use Rattle.lts.specs.Lts.{InRange};
+ghost use Rattle.autfmt.specs.declared.limits.TheConstants.{FILE_STATES, FILE_TRANSITIONS};
 ghost use Rattle.autfmt.specs.Bounds.{Bounds};
 ghost use Rattle.autfmt.specs.Cutter.{Cutting};
 ghost use Rattle.autfmt.specs.Faults.{FirstFault};
 ghost use Rattle.autfmt.specs.Readers.{IsTextFault, ReadsAs};
-ghost use Rattle.autfmt.specs.ReadSoFar.{ReadSoFar, Standing, HoldsText};
+ghost use Rattle.autfmt.specs.ReadSoFar.{ReadSoFar, HeldSoFar, HoldsText};
 ghost use Rattle.autfmt.specs.Outcomes.{Takes, Refuses, Answers};
 
 use crate::cutter::{Cutter, Step};
@@ -125,7 +126,7 @@ fn read_header<R: Source>(cutter: &mut Cutter, r: &mut R, lim: &Limits) -> Resul
     ensures header { Takes (R.rest r.old) (R.rest r.new)
         (λ given p. ReadSoFar lim.now given cutter.new p [])
         (λ given. Refuses lim.now given (R.rest r.new) (R.failures r.new)) result }
-    ensures file { IfOk result (λ p. (p.states ≤ 1000000) × (p.transitions ≤ 10000000)) }
+    ensures file { IfOk result (λ p. (p.states ≤ FILE_STATES) × (p.transitions ≤ FILE_TRANSITIONS)) }
     ensures end { OnOk result (IsTrue cutter.new.over → IsAtEnd (R.rest r.new)) }
     ensures sound { OnOk result (R.failures r.new ≡ 0) }
 {
@@ -145,16 +146,16 @@ fn read_transitions<R: Source>(
     h: &Hidden,
     held: &mut Held,
 ) -> Result<(), Fault>
-    requires file { promise.transitions ≤ 10000000 }
+    requires file { promise.transitions ≤ FILE_TRANSITIONS }
     requires none { vec_len held.old.triples ≡ 0 }
     requires few { length held.old.labels ≡ 0 }
     requires sound { R.failures r.old ≡ 0 }
     requires end { IsTrue cutter.old.over → IsAtEnd (R.rest r.old) }
     ensures transitions { (got : List ℕ) × Consumes (R.rest r.old) (R.rest r.new) got ×
         ((bounds : Bounds) (given : List ℕ) →
-        Standing bounds h.now given cutter.old promise held.old [] →
+        HeldSoFar bounds h.now given cutter.old promise held.old [] →
         MatchResult result
-        (λ _. (es : List Transition) × Standing bounds h.now (given ++ got) cutter.new promise held.new es)
+        (λ _. (es : List Transition) × HeldSoFar bounds h.now (given ++ got) cutter.new promise held.new es)
         (Refuses bounds (given ++ got) (R.rest r.new) (R.failures r.new))) }
     ensures end { OnOk result (IsTrue cutter.new.over → IsAtEnd (R.rest r.new)) }
     ensures sound { OnOk result (R.failures r.new ≡ 0) }
@@ -174,16 +175,16 @@ fn read_transition<R: Source>(
     h: &Hidden,
     held: &mut Held,
 ) -> Result<(), Fault>
-    requires file { promise.transitions ≤ 10000000 }
+    requires file { promise.transitions ≤ FILE_TRANSITIONS }
     requires promised { vec_len held.old.triples < promise.transitions }
     requires few { length held.old.labels ≤ vec_len held.old.triples }
     requires sound { R.failures r.old ≡ 0 }
     requires end { IsTrue cutter.old.over → IsAtEnd (R.rest r.old) }
     ensures transition { (got : List ℕ) × Consumes (R.rest r.old) (R.rest r.new) got ×
         ((bounds : Bounds) (given : List ℕ) (es : List Transition) →
-        Standing bounds h.now given cutter.old promise held.old es →
+        HeldSoFar bounds h.now given cutter.old promise held.old es →
         MatchResult result
-        (λ _. (e : Transition) × Standing bounds h.now (given ++ got) cutter.new promise held.new (es ++ e ∷ []))
+        (λ _. (e : Transition) × HeldSoFar bounds h.now (given ++ got) cutter.new promise held.new (es ++ e ∷ []))
         (Refuses bounds (given ++ got) (R.rest r.new) (R.failures r.new))) }
     ensures end { OnOk result (IsTrue cutter.new.over → IsAtEnd (R.rest r.new)) }
     ensures sound { OnOk result (R.failures r.new ≡ 0) }

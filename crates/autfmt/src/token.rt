@@ -3,7 +3,7 @@
 ghost use Rattle.std.specs.Prelude.{◌≡◌, ◌≢◌, ℕ, ◌<◌, ◌≤◌, ◌^◌, List, length, slice_index, IfSome, IfNone};
 ghost use Rattle.theory.specs.System.{IsLabel};
 ghost use Rattle.autfmt.specs.Grammar.{Header, TransitionLine, HideLine, is_letter};
-ghost use Rattle.autfmt.specs.Reading.{Gives, is_blank, is_word, after_blanks, past, number_at, word_len, more_digits, plain_at, last_quote, quoted_at, label_at, are_blanks, past_des, number_then, header_at, transition_at, hide_line_at};
+ghost use Rattle.autfmt.specs.Reading.{IsSeenAs, is_blank, is_word, after_blanks, past, number_at, word_len, more_digits, plain_at, last_quote, quoted_at, label_at, are_blanks, past_des, number_then, header_at, transition_at, hide_line_at};
 
 use lts::is_label;
 
@@ -39,7 +39,7 @@ pub(crate) fn hide_line_of(line: &[u8]) -> Option<&[u8]>
 /// The three numbers of a header, read from the left.
 #[tactic(auto, unfolding(crate::specs::Reading::header_at))]
 fn header_in(line: &[u8]) -> Option<(u64, u64, u64)>
-    ensures { Gives (λ x. (x.0, x.1, x.2)) result (header_at line.now) }
+    ensures { IsSeenAs (λ x. (x.0, x.1, x.2)) result (header_at line.now) }
 {
     let rest = past_des(after_blanks(line))?;
     let rest = past(b'(', after_blanks(rest))?;
@@ -56,7 +56,7 @@ fn header_in(line: &[u8]) -> Option<(u64, u64, u64)>
 /// The source, the label and the target, read from the left.
 #[tactic(auto, unfolding(crate::specs::Reading::transition_at))]
 fn transition_in(line: &[u8]) -> Option<(u64, &[u8], u64)>
-    ensures { Gives (λ x. (x.0, x.1.now, x.2)) result (transition_at line.now) }
+    ensures { IsSeenAs (λ x. (x.0, x.1.now, x.2)) result (transition_at line.now) }
 {
     let rest = past(b'(', after_blanks(line))?;
     let (source, rest) = number_then(b',', rest)?;
@@ -73,7 +73,7 @@ fn transition_in(line: &[u8]) -> Option<(u64, &[u8], u64)>
 /// The label of a hide line, read from the left.
 #[tactic(auto, unfolding(crate::specs::Reading::hide_line_at))]
 fn hide_line_in(line: &[u8]) -> Option<&[u8]>
-    ensures { Gives (λ a. a.now) result (hide_line_at line.now) }
+    ensures { IsSeenAs (λ a. a.now) result (hide_line_at line.now) }
 {
     let (label, rest) = label_at(after_blanks(line))?;
     if are_blanks(rest) { Some(label) } else { None }
@@ -83,7 +83,7 @@ fn hide_line_in(line: &[u8]) -> Option<&[u8]>
 #[inline(always)]
 #[tactic(auto, unfolding(crate::specs::Reading::number_then))]
 fn number_then(mark: u8, line: &[u8]) -> Option<(u64, &[u8])>
-    ensures { Gives (λ x. (x.0, x.1.now)) result (number_then mark line.now) }
+    ensures { IsSeenAs (λ x. (x.0, x.1.now)) result (number_then mark line.now) }
 {
     let (number, rest) = number_at(after_blanks(line))?;
     let rest = past(mark, after_blanks(rest))?;
@@ -93,7 +93,7 @@ fn number_then(mark: u8, line: &[u8]) -> Option<(u64, &[u8])>
 /// What follows `des`, if that is in front.
 #[tactic(auto, unfolding(crate::specs::Reading::past_des))]
 fn past_des(line: &[u8]) -> Option<&[u8]>
-    ensures { Gives (λ r. r.now) result (past_des line.now) }
+    ensures { IsSeenAs (λ r. r.now) result (past_des line.now) }
 {
     let rest = past(b'd', line)?;
     let rest = past(b'e', rest)?;
@@ -103,7 +103,7 @@ fn past_des(line: &[u8]) -> Option<&[u8]>
 /// What follows the mark, if it is the first byte.
 #[tactic(auto, unfolding(crate::specs::Reading::past))]
 fn past(mark: u8, line: &[u8]) -> Option<&[u8]>
-    ensures { Gives (λ r. r.now) result (past mark line.now) }
+    ensures { IsSeenAs (λ r. r.now) result (past mark line.now) }
 {
     match line {
         [first, rest @ ..] if *first == mark => Some(rest),
@@ -143,7 +143,7 @@ fn is_blank(b: u8) -> bool
 /// The number in front, and what follows it.
 #[tactic(auto, unfolding(crate::specs::Reading::number_at))]
 fn number_at(line: &[u8]) -> Option<(u64, &[u8])>
-    ensures { Gives (λ x. (x.0, x.1.now)) result (number_at line.now) }
+    ensures { IsSeenAs (λ x. (x.0, x.1.now)) result (number_at line.now) }
 {
     let [first @ b'0'..=b'9', rest @ ..] = line else {
         return None;
@@ -155,7 +155,7 @@ fn number_at(line: &[u8]) -> Option<(u64, &[u8])>
 #[tactic(auto, unfolding(crate::specs::Reading::more_digits))]
 fn more_digits(value: u64, line: &[u8]) -> Option<(u64, &[u8])>
     requires { value < 10 ^ 10 }
-    ensures { Gives (λ x. (x.0, x.1.now)) result (more_digits value line.now) }
+    ensures { IsSeenAs (λ x. (x.0, x.1.now)) result (more_digits value line.now) }
 {
     let mut value = value;
     let mut rest = line;
@@ -172,7 +172,7 @@ fn more_digits(value: u64, line: &[u8]) -> Option<(u64, &[u8])>
 /// The label in front, plain or quoted, and what follows it.
 #[tactic(auto, unfolding(crate::specs::Reading::label_at))]
 fn label_at(line: &[u8]) -> Option<(&[u8], &[u8])>
-    ensures { Gives (λ x. (x.0.now, x.1.now)) result (label_at line.now) }
+    ensures { IsSeenAs (λ x. (x.0.now, x.1.now)) result (label_at line.now) }
 {
     match line {
         [] => None,
@@ -183,7 +183,7 @@ fn label_at(line: &[u8]) -> Option<(&[u8], &[u8])>
 
 /// A label after its opening mark: nothing after a label has a mark, so the last one ends it.
 fn quoted_at(line: &[u8]) -> Option<(&[u8], &[u8])>
-    ensures { Gives (λ x. (x.0.now, x.1.now)) result (quoted_at line.now) }
+    ensures { IsSeenAs (λ x. (x.0.now, x.1.now)) result (quoted_at line.now) }
 {
     let end = last_quote(line)?;
     let label = &line[..end];
@@ -208,7 +208,7 @@ fn last_quote(line: &[u8]) -> Option<usize>
 /// A plain label in front, and what follows it.
 #[tactic(auto, unfolding(crate::specs::Reading::plain_at))]
 fn plain_at(line: &[u8]) -> Option<(&[u8], &[u8])>
-    ensures { Gives (λ x. (x.0.now, x.1.now)) result (plain_at line.now) }
+    ensures { IsSeenAs (λ x. (x.0.now, x.1.now)) result (plain_at line.now) }
 {
     let [first, ..] = line else {
         return None;

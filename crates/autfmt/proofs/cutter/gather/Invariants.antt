@@ -2,6 +2,7 @@ use Rattle.std.proofs.Common.{◌≡◌, ℕ, ◌-◌, List, ◌++◌, length}
 use Rattle.std.specs.Io.KnownBytes.{Consumes}
 use Rattle.autfmt.specs.Cutter.{IsPart}
 use Rattle.autfmt.proofs.cutter.gather.Given as goal
+use Rattle.autfmt.specs.Line.{longest_line}
 
 abbrev pub invariant-loop-n : goal.invariant-loop-n
 invariant-loop-n g l = record {
@@ -12,4 +13,4 @@ invariant-loop-n g l = record {
 }
 
 abbrev pub decreases-loop-n : goal.decreases-loop-n
-decreases-loop-n g l = 8192 - length l.kept
+decreases-loop-n g l = longest_line - length l.kept

@@ -4,7 +4,7 @@ use Rattle.std.proofs.lemmas.Result.{err_from_is_err_and}
 use Rattle.std.proofs.KnownBytes.{Consumes-trans}
 use Rattle.theory.specs.System.{Transition}
 use Rattle.autfmt.specs.declared.judge.Promise.{Promise}
-use Rattle.autfmt.specs.ReadSoFar.{Standing}
+use Rattle.autfmt.specs.ReadSoFar.{HeldSoFar}
 use Rattle.autfmt.proofs.Holding.{Holds-new}
 use Rattle.autfmt.proofs.ReaderSteps.{end_failed, text_behind, text_ends, count_held}
 use Rattle.autfmt.proofs.Taking.{refuses_behind}
@@ -30,7 +30,7 @@ module _ (g : Over) (c : After-is_at_end g) where
   abbrev front : List ℕ
   front = c.in_ok-promise.ensures.header.given ++ c.in_ok-read_transitions.ensures.transitions.0
 
-  transitions : (es : List Transition) × Standing c.args.lim.now c.args.h.now front c.read_transitions.new.cutter p c.read_transitions.new.held es
+  transitions : (es : List Transition) × HeldSoFar c.args.lim.now c.args.h.now front c.read_transitions.new.cutter p c.read_transitions.new.held es
   transitions =
       let first = c.in_ok-promise.ensures.header in
       let held = Holds-new c.args.h.now p.states c.new-held.result c.new-held.ensures.labels c.new-held.ensures.triples in

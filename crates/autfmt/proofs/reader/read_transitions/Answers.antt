@@ -2,7 +2,7 @@ use Rattle.std.proofs.Common.{[], ◌++◌, sym, arith}
 use Rattle.std.proofs.lemmas.List.{append_assoc, append-nil}
 use Rattle.std.proofs.lemmas.Result.{err_from_is_err_and}
 use Rattle.std.proofs.KnownBytes.{Consumes-nil, Consumes-trans}
-use Rattle.autfmt.proofs.ReaderSteps.{Refuses-same, Standing-same, Standing-push}
+use Rattle.autfmt.proofs.ReaderSteps.{Refuses-same, HeldSoFar-same, HeldSoFar-push}
 use Rattle.autfmt.proofs.reader.read_transitions.Goals as goal
 
 pub loop-found-init : goal.loop-found-init
@@ -10,7 +10,7 @@ loop-found-init g c = record {
   got = (
     [],
     Consumes-nil (g.R.Source.rest c.args.r.now),
-    λ bounds given standing. ([], Standing-same bounds _ given (given ++ []) _ _ _ [] (sym (append-nil given)) standing),
+    λ bounds given standing. ([], HeldSoFar-same bounds _ given (given ++ []) _ _ _ [] (sym (append-nil given)) standing),
   );
   len = c.requires.none;
   few = omega arith;
@@ -35,7 +35,7 @@ pub loop-found-preserved : goal.loop-found-preserved
 loop-found-preserved g c =
     let (before, taken, so_far) = c.loop-found.invariant.got in
     let (line, took, step) = c.in_ok-read_transition.ensures.transition in
-    let next = Standing-push _ _ _ _ _ _ _ _ before line so_far step in
+    let next = HeldSoFar-push _ _ _ _ _ _ _ _ before line so_far step in
     record {
       got = (before ++ line, Consumes-trans _ _ _ before line taken took, next);
       len = let e = c.in_ok-read_transition.ensures.len in let i = c.loop-found.invariant.len in omega arith;

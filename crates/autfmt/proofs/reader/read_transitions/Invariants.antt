@@ -2,7 +2,7 @@ use Rattle.std.proofs.Common.{◌≡◌, ℕ, ◌≤◌, true, List, [], ◌++�
 use Rattle.std.specs.Io.KnownBytes.{Consumes, IsAtEnd}
 use Rattle.theory.specs.System.{Transition}
 use Rattle.autfmt.specs.Bounds.{Bounds}
-use Rattle.autfmt.specs.ReadSoFar.{Standing}
+use Rattle.autfmt.specs.ReadSoFar.{HeldSoFar}
 use Rattle.autfmt.proofs.reader.read_transitions.Given as goal
 
 abbrev pub invariant-loop-found : goal.invariant-loop-found
@@ -10,8 +10,8 @@ invariant-loop-found g l = record {
   got :
       (bs : List ℕ) × Consumes (g.R.Source.rest l.initial.r) (g.R.Source.rest l.r) bs ×
       ((bounds : Bounds) (given : List ℕ) →
-      Standing bounds l.h given l.initial.cutter l.promise l.initial.held [] →
-      (es : List Transition) × Standing bounds l.h (given ++ bs) l.cutter l.promise l.held es);
+      HeldSoFar bounds l.h given l.initial.cutter l.promise l.initial.held [] →
+      (es : List Transition) × HeldSoFar bounds l.h (given ++ bs) l.cutter l.promise l.held es);
   len : vec_len l.held.triples ≡ l._found;
   few : length l.held.labels ≤ vec_len l.held.triples;
   sound : g.R.Source.failures l.r ≡ 0;
