@@ -23,6 +23,7 @@ pub mod WalkAccounts
 pub mod WalkExact
 pub mod WalkLists
 pub mod WalkCuts
+pub mod WalkCollects
 pub mod WalkAhead
 pub mod WalkSeen
 pub mod WalkBelow

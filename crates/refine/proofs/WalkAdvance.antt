@@ -23,7 +23,8 @@ use Rattle.refine.proofs.WalkExact.{place_step}
 use Rattle.refine.proofs.WalkLists.{mark_set, mark_other}
 use Rattle.refine.proofs.WalkAhead.{unseen-entered, unread-entered, unseen-same, unread-same, rest-push, rest-cut}
 use Rattle.refine.proofs.WalkSeen.{finishes-unseen}
-use Rattle.refine.proofs.WalkSteps.{WithPair, WithList, Joined, Entered, visit_before, Walks-pair, accounts_pair, Walks-listed, accounts_finished, Walks-join, accounts_joined, Walks-enter, accounts_entered}
+use Rattle.refine.proofs.WalkCollects.{WithPair, WithList, Walks-pair, accounts_pair, Walks-listed, accounts_finished}
+use Rattle.refine.proofs.WalkSteps.{Joined, Entered, visit_before, Walks-join, accounts_joined, Walks-enter, accounts_entered}
 use Rattle.refine.proofs.WalkLeave.{Left, Walks-leave}
 
 -- the walk after a transition of the state at its place was taken

@@ -1,26 +1,21 @@
 -- What holds of the walk holds after each of its steps.
-use Rattle.std.proofs.Common.{◌≡◌, ◌≢◌, ◌⊎◌, ℕ, ◌+◌, ◌-◌, ◌<◌, ◌≤◌, List, [], ◌∷◌, ◌++◌, length, set, slice_index, Contains, refl, sym, ◌∙◌, ap, subst, inl, inr, arith}
-use Rattle.std.specs.Prelude.{slice_index_or}
+use Rattle.std.proofs.Common.{◌≡◌, ◌≢◌, ◌⊎◌, ℕ, ◌+◌, ◌-◌, ◌<◌, ◌≤◌, List, [], ◌∷◌, ◌++◌, length, set, slice_index, refl, sym, ◌∙◌, ap, subst, inl, inr, arith}
 use Rattle.std.proofs.lemmas.Bool.{cases_eq}
 use Rattle.std.proofs.lemmas.List.{get_or_append_left, get_or_push, length_push, length-set, get_or-set_same, get_or-set_other}
-use Rattle.std.proofs.lemmas.List.Elements.{All-push}
-use Rattle.theory.specs.Bisimulation.Relation.{branching}
 use Rattle.theory.specs.Blocks.{Inert}
 use Rattle.lts.specs.Lts.{Grouped, Triple, target_of, place_at, system_of, IsRow}
-use Rattle.refine.specs.Lists.{list_at}
-use Rattle.refine.specs.Signed.{HasPair}
-use Rattle.refine.specs.StrongPairs.{pair_under}
-use Rattle.refine.specs.Walks.{Laws, mark_at, visit_at, state_at, next_at, end_at, back_at, HasRead, bound_at, Begins, BeginsPairs, BeginsListed, GivesPair, GivesListed, IsInert, AreOnPath, AreBounds, Connects, IsSound, AreRows, Accounts, AccountsAll, Holds, Parts, Held, Walks}
+use Rattle.refine.specs.Walks.{Laws, mark_at, visit_at, state_at, next_at, end_at, back_at, HasRead, bound_at, Begins, BeginsPairs, BeginsListed, GivesPair, GivesListed, IsInert, AreOnPath, AreBounds, Connects, IsSound, AreRows, Accounts, AccountsAll, Parts, Held, Walks}
 use Rattle.refine.specs.Steps.{Cuts}
-use Rattle.refine.specs.declared.walk.Mark.TheVariants.{Unseen, OnPath, Finished}
+use Rattle.refine.specs.declared.walk.Mark.TheVariants.{Unseen, OnPath}
 use Rattle.refine.specs.declared.walk.Visit.{Visit}
 use Rattle.refine.specs.declared.walk.Bound.{Bound}
-use Rattle.refine.proofs.WalkHolds.{Holds-bounds, Holds-more, Holds-last}
+use Rattle.refine.proofs.WalkHolds.{Holds-bounds}
 use Rattle.refine.proofs.WalkMarks.{AreOnPath-enter, AreSigned-enter}
-use Rattle.refine.proofs.WalkBounds.{AreBounds-item, AreBounds-join, AreBounds-enter, AreBounds-back}
-use Rattle.refine.proofs.WalkConnects.{Ties, IsSound-more, Connects-join, IsSound-join, Connects-enter, IsSound-enter}
+use Rattle.refine.proofs.WalkBounds.{AreBounds-join, AreBounds-enter, AreBounds-back}
+use Rattle.refine.proofs.WalkConnects.{Connects-join, IsSound-join, Connects-enter, IsSound-enter}
 use Rattle.refine.proofs.WalkRows.{Rows-enter, Rows-back, AreRows-next}
 use Rattle.refine.proofs.WalkAccounts.{AccountsAll-keep, AccountsAll-enter, AccountsAll-next}
+use Rattle.refine.proofs.WalkCollects.{ties}
 use Rattle.refine.proofs.WalkCuts.{bound_old_or_new, bound_up, bound_new, bound_here, AreRising-push, cut_old, cut_keep, cut_below, cut_rising, last_bound, last_greatest}
 use Rattle.refine.proofs.WalkLists.{mark_set, mark_other}
 
@@ -33,129 +28,6 @@ module _ (path : List Visit) (v : Visit) where
   visit_last = get_or_push path v _ (length path) refl
 
 module _ (laws : Laws) (l : Grouped) (blocks : List ℕ) (lists : List (List (ℕ × ℕ))) (w : Parts) (walks : Walks l blocks lists w) where
-  -- inert steps lead from each state on the path to the state where the walk is
-  pub ties : (p : ℕ) → p < length w.path → 0 < length w.path → Ties l blocks (state_at w.path p) (state_at w.path w.at)
-  ties p low some = walks.connects p w.at low (walks.rows.here some) (λ f c b le. walks.of_pairs.reached f c b)
-
-  -- a pair more
-  module _ (z : ℕ × ℕ) where
-    abbrev pub WithPair : Parts
-    WithPair = record w { pairs = w.pairs ++ z ∷ [] }
-
-    pairs_size : length w.pairs + 1 ≡ length WithPair.pairs
-    pairs_size = sym (length_push w.pairs z)
-
-    pair_same : (j : ℕ) → j < length w.pairs → slice_index_or WithPair.pairs j (0, 0) ≡ slice_index_or w.pairs j (0, 0)
-    pair_same j h = get_or_append_left w.pairs _ _ j h
-
-    pair_last : slice_index_or WithPair.pairs (length w.pairs) (0, 0) ≡ z
-    pair_last = get_or_push w.pairs z _ (length w.pairs) refl
-
-    held_still : (p : ℕ) (y : ℕ × ℕ) → Held lists w p y → Held lists WithPair p y
-    held_still p y (inl h) =
-        inl
-        (subst (λ k. Holds (BeginsPairs w.bounds) k (GivesPair WithPair.pairs) p y) pairs_size
-        (Holds-more (BeginsPairs w.bounds) (length w.pairs) (GivesPair w.pairs) (GivesPair WithPair.pairs) p (λ j low x g. pair_same j low ∙ g) y h))
-    held_still p y (inr h) = inr h
-
-    -- the place where the walk is holds it
-    pub holds_pair : Held lists WithPair w.at z
-    holds_pair =
-        inl
-        (subst (λ k. Holds (BeginsPairs w.bounds) k (GivesPair WithPair.pairs) w.at z) pairs_size
-        (Holds-last (BeginsPairs w.bounds) (length w.pairs) (GivesPair WithPair.pairs) w.at walks.of_pairs.reached walks.of_pairs.within z pair_last))
-
-    pub Walks-pair : (0 < length w.path → HasPair branching l blocks (state_at w.path w.at) z.0 z.1) → Walks l blocks lists WithPair
-    Walks-pair new = record {
-      on_path = walks.on_path;
-      signed = walks.signed;
-      of_pairs =
-          subst (λ k. AreBounds (length w.path) w.at k (back_at w.path) (BeginsPairs w.bounds)) pairs_size
-          (AreBounds-item (length w.path) w.at (length w.pairs) (back_at w.path) (BeginsPairs w.bounds) walks.of_pairs);
-      of_listed = walks.of_listed;
-      rising = walks.rising;
-      connects = walks.connects;
-      sound_pairs =
-          subst (λ k. IsSound l blocks (length w.path) (state_at w.path) (BeginsPairs w.bounds) k (GivesPair WithPair.pairs)) pairs_size
-          (IsSound-more laws l blocks (length w.path) w.at (state_at w.path) (BeginsPairs w.bounds) (length w.pairs) (GivesPair w.pairs) (GivesPair WithPair.pairs)
-          walks.rows.here ties (λ j low y g. sym (pair_same j low) ∙ g)
-          (λ some y g. subst (λ (x : ℕ × ℕ). HasPair branching l blocks (state_at w.path w.at) x.0 x.1) (sym pair_last ∙ g) (new some)) walks.sound_pairs);
-      sound_listed = walks.sound_listed;
-      listed = walks.listed;
-      rows = walks.rows;
-      accounts =
-          AccountsAll-keep l blocks (BeginsPairs w.bounds) (BeginsPairs w.bounds) (back_at w.path) (Held lists w) (Held lists WithPair) lists (mark_at w.marks)
-          (λ f c b. b) held_still (length w.path) (state_at w.path) (next_at w.path) walks.accounts;
-    }
-
-    -- a step that is not inert is accounted for by its pair
-    pub accounts_pair : (s : ℕ) (e : Triple) → z ≡ pair_under blocks e → ¬ IsInert l blocks s e
-        → Accounts l blocks (BeginsPairs w.bounds) (back_at w.path) (Held lists WithPair w.at) lists (mark_at w.marks) s w.at e
-    accounts_pair s e is other = record { shown = λ _. subst (Held lists WithPair w.at) is holds_pair; followed = λ inert. absurd (other inert) }
-
-  -- a list more
-  module _ (k : ℕ) where
-    abbrev pub WithList : Parts
-    WithList = record w { listed = w.listed ++ k ∷ [] }
-
-    listed_size : length w.listed + 1 ≡ length WithList.listed
-    listed_size = sym (length_push w.listed k)
-
-    listed_same : (j : ℕ) → j < length w.listed → slice_index WithList.listed j ≡ slice_index w.listed j
-    listed_same j h = get_or_append_left w.listed _ _ j h
-
-    listed_last : slice_index WithList.listed (length w.listed) ≡ k
-    listed_last = get_or_push w.listed k _ (length w.listed) refl
-
-    has_same : (y : ℕ × ℕ) (i j : ℕ) → i ≡ j → Contains (list_at lists i) y → Contains (list_at lists j) y
-    has_same y i j e = subst (λ x. Contains (list_at lists x) y) e
-
-    listed_still : (p : ℕ) (y : ℕ × ℕ) → Held lists w p y → Held lists WithList p y
-    listed_still p y (inl h) = inl h
-    listed_still p y (inr h) =
-        inr
-        (subst (λ n. Holds (BeginsListed w.bounds) n (GivesListed lists WithList.listed) p y) listed_size
-        (Holds-more (BeginsListed w.bounds) (length w.listed) (GivesListed lists w.listed) (GivesListed lists WithList.listed) p
-        (λ j low x g. has_same x (slice_index w.listed j) (slice_index WithList.listed j) (sym (listed_same j low)) g) y h))
-
-    -- the place where the walk is holds all its pairs
-    pub holds_listed : (y : ℕ × ℕ) → Contains (list_at lists k) y → Held lists WithList w.at y
-    holds_listed y c =
-        inr
-        (subst (λ n. Holds (BeginsListed w.bounds) n (GivesListed lists WithList.listed) w.at y) listed_size
-        (Holds-last (BeginsListed w.bounds) (length w.listed) (GivesListed lists WithList.listed) w.at walks.of_listed.reached walks.of_listed.within y
-        (has_same y k (slice_index WithList.listed (length w.listed)) (sym listed_last) c)))
-
-    pub Walks-listed : k < length lists → (0 < length w.path → (y : ℕ × ℕ) → Contains (list_at lists k) y → HasPair branching l blocks (state_at w.path w.at) y.0 y.1)
-        → Walks l blocks lists WithList
-    Walks-listed within new = record {
-      on_path = walks.on_path;
-      signed = walks.signed;
-      of_pairs = walks.of_pairs;
-      of_listed =
-          subst (λ n. AreBounds (length w.path) w.at n (back_at w.path) (BeginsListed w.bounds)) listed_size
-          (AreBounds-item (length w.path) w.at (length w.listed) (back_at w.path) (BeginsListed w.bounds) walks.of_listed);
-      rising = walks.rising;
-      connects = walks.connects;
-      sound_pairs = walks.sound_pairs;
-      sound_listed =
-          subst (λ n. IsSound l blocks (length w.path) (state_at w.path) (BeginsListed w.bounds) n (GivesListed lists WithList.listed)) listed_size
-          (IsSound-more laws l blocks (length w.path) w.at (state_at w.path) (BeginsListed w.bounds) (length w.listed) (GivesListed lists w.listed)
-          (GivesListed lists WithList.listed) walks.rows.here ties
-          (λ j low y g. has_same y (slice_index WithList.listed j) (slice_index w.listed j) (listed_same j low) g)
-          (λ some y g. new some y (has_same y (slice_index WithList.listed (length w.listed)) k listed_last g)) walks.sound_listed);
-      listed = All-push (λ n. n < length lists) w.listed k walks.listed within;
-      rows = walks.rows;
-      accounts =
-          AccountsAll-keep l blocks (BeginsPairs w.bounds) (BeginsPairs w.bounds) (back_at w.path) (Held lists w) (Held lists WithList) lists (mark_at w.marks)
-          (λ f c b. b) listed_still (length w.path) (state_at w.path) (next_at w.path) walks.accounts;
-    }
-
-    -- an inert step to a finished state is accounted for by its list
-    pub accounts_finished : (s : ℕ) (e : Triple) → IsInert l blocks s e → mark_at w.marks (target_of e) ≡ Finished k
-        → Accounts l blocks (BeginsPairs w.bounds) (back_at w.path) (Held lists WithList w.at) lists (mark_at w.marks) s w.at e
-    accounts_finished s e inert is = record { shown = λ other. absurd (other inert); followed = λ _. inr (k, is, λ z c. holds_listed z c) }
-
   -- bounds are cut back to place q, where an inert step leads
   module _ (q : ℕ) (bounds' : List Bound) (cuts : Cuts q w.bounds bounds') where
     abbrev pub Joined : Parts
@@ -180,7 +52,7 @@ module _ (laws : Laws) (l : Grouped) (blocks : List ℕ) (lists : List (List (�
     pub Walks-join : q < length w.path → Inert (system_of l) (slice_index blocks) (state_at w.path w.at) (state_at w.path q) → Walks l blocks lists Joined
     Walks-join low step =
         let some : 0 < length w.path = omega (arith, low) in
-        let tie = λ (p : ℕ) (lp : p < length w.path). ties p lp some in
+        let tie = λ (p : ℕ) (lp : p < length w.path). ties laws l blocks lists w walks p lp some in
         let keep_pairs = cut_keep q w.bounds bounds' cuts walks.rising (λ x. x.pairs) in
         let keep_listed = cut_keep q w.bounds bounds' cuts walks.rising (λ x. x.listed) in
         record {
@@ -291,7 +163,7 @@ module _ (laws : Laws) (l : Grouped) (blocks : List ℕ) (lists : List (List (�
               (BeginsPairs Entered.bounds) (bound_up w.bounds NewBound (λ x. x.pairs)) (length w.pairs) (bound_new w.bounds NewBound (λ x. x.pairs))
               (λ p h.
               let some : 0 < length w.path = omega (arith, h) in
-              laws.after (system_of l) (slice_index blocks) (state_at w.path p) (state_at w.path w.at) t (ties p h some) (step some))
+              laws.after (system_of l) (slice_index blocks) (state_at w.path p) (state_at w.path w.at) t (ties laws l blocks lists w walks p h some) (step some))
               walks.connects);
           sound_pairs =
               subst (λ n. IsSound l blocks n (state_at Entered.path) (BeginsPairs Entered.bounds) (length w.pairs) (GivesPair w.pairs)) path_size
