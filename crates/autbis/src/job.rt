@@ -125,26 +125,26 @@ fn min_job<F: Opener, R: Source, W: Sink, E: Write>(
         return min_text(
             alloc,
             files,
+            hide,
+            e,
             input,
             "standard input",
             output,
-            e,
             rel,
             stats,
-            hide,
         );
     };
     match open(files, name.as_str(), e) {
         Ok(mut text) => min_text(
             alloc,
             files,
+            hide,
+            e,
             &mut text,
             name.as_str(),
             output,
-            e,
             rel,
             stats,
-            hide,
         ),
         Err(status) => status,
     }
@@ -154,13 +154,13 @@ fn min_job<F: Opener, R: Source, W: Sink, E: Write>(
 fn min_text<F: Opener, R: Source, W: Sink, E: Write>(
     alloc: Global,
     files: &mut F,
+    hide: &Option<String>,
+    e: &mut E,
     r: &mut R,
     name: &str,
     w: &mut W,
-    e: &mut E,
     rel: Relation,
     stats: bool,
-    hide: &Option<String>,
 ) -> u8
     requires source { R.failures r.old ≡ 0 }
     requires sink { W.failures w.old ≡ 0 }
