@@ -27,6 +27,20 @@ AreBounds-join n at count q back B B' old_one keep old = record {
   inside = λ f c p b. old.inside f c p (old_one f c b);
 }
 
+-- a bound more at the end is in order
+in_order-enter : (n at count : ℕ) (back : ℕ → ℕ) (B B' : ℕ → ℕ → Type 0) → ((f c : ℕ) → B' f c → B f c ⊎ ((f ≡ n) × (c ≡ count)))
+    → AreBounds n at count back B → (f c g d : ℕ) → B' f c → B' g d → f ≤ g → c ≤ d
+in_order-enter n at count back B B' old_or_new old f c g d b b' h = elim (old_or_new f c b) [
+  | inl o ↦ elim (old_or_new g d b') [
+    | inl o' ↦ old.in_order f c g d o o' h
+    | inr e' ↦ (let i = old.within f c o in omega (arith, i, e'.1))
+  ]
+  | inr e ↦ elim (old_or_new g d b') [
+    | inl o' ↦ (let i = old.below g d o' in absurd (omega (arith, i, e.0, h)))
+    | inr e' ↦ omega (arith, e.1, e'.1)
+  ]
+]
+
 -- a component of its own begins at the end of the path
 pub AreBounds-enter : (n at count : ℕ) (back back' : ℕ → ℕ) (B B' : ℕ → ℕ → Type 0)
     → ((f c : ℕ) → B' f c → B f c ⊎ ((f ≡ n) × (c ≡ count))) → ((f c : ℕ) → B f c → B' f c) → B' n count
@@ -40,16 +54,7 @@ AreBounds-enter n at count back back' B B' old_or_new up new same last start old
   below = λ f c b. elim (old_or_new f c b) [ inl o ↦ (let h = old.below f c o in omega (arith, h)) | inr e ↦ omega (arith, e.0) ];
   reached = λ f c b. elim (old_or_new f c b) [ inl o ↦ (let h = old.below f c o in omega (arith, h)) | inr e ↦ omega (arith, e.0) ];
   within = λ f c b. elim (old_or_new f c b) [ inl o ↦ old.within f c o | inr e ↦ omega (arith, e.1) ];
-  in_order = λ f c g d b b' h. elim (old_or_new f c b) [
-    | inl o ↦ elim (old_or_new g d b') [
-      | inl o' ↦ old.in_order f c g d o o' h
-      | inr e' ↦ (let i = old.within f c o in omega (arith, i, e'.1))
-    ]
-    | inr e ↦ elim (old_or_new g d b') [
-      | inl o' ↦ (let i = old.below g d o' in absurd (omega (arith, i, e.0, h)))
-      | inr e' ↦ omega (arith, e.1, e'.1)
-    ]
-  ];
+  in_order = in_order-enter n at count back B B' old_or_new old;
   inside = λ f c p b above low. elim (old_or_new f c b) [
     | inl o ↦ elim (cases_lt p n) [
       | inl l ↦ subst (λ x. f ≤ x) (sym (same p l)) (old.inside f c p o above l)

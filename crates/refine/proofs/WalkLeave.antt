@@ -24,39 +24,42 @@ use Rattle.refine.proofs.WalkCuts.{last_bound, last_greatest, popped_old, popped
 use Rattle.refine.proofs.WalkLists.{in_drop, from_drop}
 use Rattle.refine.proofs.WalkBelow.{AreOnPath-below, AreBounds-below, Connects-below, IsSound-below, Rows-below, AccountsAll-below}
 
--- before the first state is entered
+-- nothing begins and nothing is read before the first state is entered
+no_bounds : (at : ℕ) (start : Bound → ℕ) → AreBounds 0 at 0 (back_at []) (Begins start [])
+no_bounds at start = record {
+  first = λ h. absurd (omega (arith, h));
+  below = λ f c b. absurd (omega (arith, b.1));
+  reached = λ f c b. absurd (omega (arith, b.1));
+  within = λ f c b. absurd (omega (arith, b.1));
+  in_order = λ f c g d b b' h. absurd (omega (arith, b.1));
+  inside = λ f c p b h h'. absurd (omega (arith, b.1));
+}
+
+no_rows : (l : Grouped) (at : ℕ) → AreRows l 0 at (state_at []) (next_at []) (end_at []) (back_at [])
+no_rows l at = record {
+  here = λ h. absurd (omega (arith, h));
+  below = λ p h. absurd (omega (arith, h));
+  row = λ p h. absurd (omega (arith, h));
+  earlier = λ p some h. absurd (omega (arith, h));
+  above = λ p h h'. absurd (omega (arith, h'));
+  between = λ p q h h' h''. absurd (omega (arith, h''));
+}
+
 pub Walks-none : (l : Grouped) (blocks : List ℕ) (lists : List (List (ℕ × ℕ))) (marks : List Mark) (trail : List ℕ) (at : ℕ) → Rests l blocks lists marks
     → Walks l blocks lists (record { marks = marks; trail = trail; path = []; at = at; bounds = []; pairs = []; listed = [] })
 Walks-none l blocks lists marks trail at rests = record {
   on_path = record { marked = λ p h. absurd (omega (arith, h)); only = λ s p is. absurd (rests.none s p is) };
   signed = rests.signed;
-  of_pairs = none (λ b. b.pairs);
-  of_listed = none (λ b. b.listed);
+  of_pairs = no_bounds at (λ b. b.pairs);
+  of_listed = no_bounds at (λ b. b.listed);
   rising = λ i j h h'. absurd (omega (arith, h'));
   connects = λ p q h h' f. absurd (omega (arith, h));
   sound_pairs = λ p j z h h' f g. absurd (omega (arith, h));
   sound_listed = λ p j z h h' f g. absurd (omega (arith, h));
   listed = λ k d h. absurd (omega (arith, h));
-  rows = record {
-    here = λ h. absurd (omega (arith, h));
-    below = λ p h. absurd (omega (arith, h));
-    row = λ p h. absurd (omega (arith, h));
-    earlier = λ p some h. absurd (omega (arith, h));
-    above = λ p h h'. absurd (omega (arith, h'));
-    between = λ p q h h' h''. absurd (omega (arith, h''));
-  };
+  rows = no_rows l at;
   accounts = λ p k h. absurd (omega (arith, h));
 }
-  where
-    none : (start : Bound → ℕ) → AreBounds 0 at 0 (back_at []) (Begins start [])
-    none start = record {
-      first = λ h. absurd (omega (arith, h));
-      below = λ f c b. absurd (omega (arith, b.1));
-      reached = λ f c b. absurd (omega (arith, b.1));
-      within = λ f c b. absurd (omega (arith, b.1));
-      in_order = λ f c g d b b' h. absurd (omega (arith, b.1));
-      inside = λ f c p b h h'. absurd (omega (arith, b.1));
-    }
 
 -- after the path has become empty
 pub Rests-end : (l : Grouped) (blocks : List ℕ) (lists : List (List (ℕ × ℕ))) (w : Parts) → length w.path ≡ 0 → Walks l blocks lists w → Rests l blocks lists w.marks
@@ -244,6 +247,40 @@ module _ (laws : Laws) (l : Grouped) (lts : IsLts l) (blocks : List ℕ) (lists 
       All-push (λ k. k < length lists') (take last.listed w.listed) number
       (All-take (λ k. k < length lists') last.listed w.listed (λ k d h. let low = walks.listed k d h in omega (arith, low, longer))) number_within
 
+  pairs_bounds : AreBounds (length Left.path) Left.at (length Left.pairs) (back_at Left.path) (BeginsPairs Bounds)
+  pairs_bounds =
+      subst (λ n. AreBounds n Left.at (length Left.pairs) (back_at Left.path) (BeginsPairs Bounds)) path_size
+      (subst (λ k. AreBounds w.at Left.at k (back_at Left.path) (BeginsPairs Bounds)) pairs_size
+      (AreBounds-below w.at (visit_at w.path) (visit_at Left.path) path_same Left.at last.pairs (BeginsPairs Bounds)
+      (bounds_left (λ b. b.pairs) (length w.pairs) walks.of_pairs)))
+
+  listed_bounds : AreBounds (length Left.path) Left.at (length Left.listed) (back_at Left.path) (BeginsListed Bounds)
+  listed_bounds =
+      subst (λ n. AreBounds n Left.at (length Left.listed) (back_at Left.path) (BeginsListed Bounds)) path_size
+      (subst (λ k. AreBounds w.at Left.at k (back_at Left.path) (BeginsListed Bounds)) listed_size
+      (AreBounds-below w.at (visit_at w.path) (visit_at Left.path) path_same Left.at (last.listed + 1) (BeginsListed Bounds)
+      (AreBounds-item w.at Left.at last.listed (back_at w.path) (BeginsListed Bounds) (bounds_left (λ b. b.listed) (length w.listed) walks.of_listed))))
+
+  pairs_sound : IsSound l blocks (length Left.path) (state_at Left.path) (BeginsPairs Bounds) (length Left.pairs) (GivesPair Left.pairs)
+  pairs_sound =
+      subst (λ n. IsSound l blocks n (state_at Left.path) (BeginsPairs Bounds) (length Left.pairs) (GivesPair Left.pairs)) path_size
+      (subst (λ k. IsSound l blocks w.at (state_at Left.path) (BeginsPairs Bounds) k (GivesPair Left.pairs)) pairs_size
+      (IsSound-below w.at (visit_at w.path) (visit_at Left.path) path_same l blocks (BeginsPairs Bounds) last.pairs (GivesPair Left.pairs)
+      (IsSound-leave laws l blocks (length w.path) w.at (state_at w.path) within (BeginsPairs w.bounds) (BeginsPairs Bounds) (keep (λ b. b.pairs))
+      (length w.pairs) last.pairs (GivesPair w.pairs) (GivesPair Left.pairs) few_pairs (λ j low z g. sym (pair_same j low) ∙ g) walks.sound_pairs)))
+
+  listed_sound : IsSound l blocks (length Left.path) (state_at Left.path) (BeginsListed Bounds) (length Left.listed) (GivesListed lists' Left.listed)
+  listed_sound =
+      subst (λ n. IsSound l blocks n (state_at Left.path) (BeginsListed Bounds) (length Left.listed) (GivesListed lists' Left.listed)) path_size
+      (subst (λ k. IsSound l blocks w.at (state_at Left.path) (BeginsListed Bounds) k (GivesListed lists' Left.listed)) listed_size
+      (IsSound-below w.at (visit_at w.path) (visit_at Left.path) path_same l blocks (BeginsListed Bounds) (last.listed + 1) (GivesListed lists' Left.listed) sound_left))
+
+  accounted_left : AccountsAll l blocks (length Left.path) (state_at Left.path) (next_at Left.path) (BeginsPairs Bounds) (back_at Left.path) (Held lists' Left) lists' (mark_at marks')
+  accounted_left =
+      subst (λ n. AccountsAll l blocks n (state_at Left.path) (next_at Left.path) (BeginsPairs Bounds) (back_at Left.path) (Held lists' Left) lists' (mark_at marks')) path_size
+      (AccountsAll-below w.at (visit_at w.path) (visit_at Left.path) path_same l blocks (BeginsPairs Bounds) (Held lists' Left) lists' (mark_at marks')
+      (λ f c b. (old_one (λ b. b.pairs) f c b).1) accounts_left)
+
   pub Walks-leave : Walks l blocks lists' Left
   Walks-leave = record {
     on_path =
@@ -253,37 +290,18 @@ module _ (laws : Laws) (l : Grouped) (lts : IsLts l) (blocks : List ℕ) (lists 
     signed =
         AreSigned-leave (length w.path) w.at number (state_at w.path) (mark_at w.marks) (mark_at marks') within walks.on_path finishes.members finishes.others
         l blocks lists lists' grow number_within exact walks.signed;
-    of_pairs =
-        subst (λ n. AreBounds n Left.at (length Left.pairs) (back_at Left.path) (BeginsPairs Bounds)) path_size
-        (subst (λ k. AreBounds w.at Left.at k (back_at Left.path) (BeginsPairs Bounds)) pairs_size
-        (AreBounds-below w.at (visit_at w.path) (visit_at Left.path) path_same Left.at last.pairs (BeginsPairs Bounds)
-        (bounds_left (λ b. b.pairs) (length w.pairs) walks.of_pairs)));
-    of_listed =
-        subst (λ n. AreBounds n Left.at (length Left.listed) (back_at Left.path) (BeginsListed Bounds)) path_size
-        (subst (λ k. AreBounds w.at Left.at k (back_at Left.path) (BeginsListed Bounds)) listed_size
-        (AreBounds-below w.at (visit_at w.path) (visit_at Left.path) path_same Left.at (last.listed + 1) (BeginsListed Bounds)
-        (AreBounds-item w.at Left.at last.listed (back_at w.path) (BeginsListed Bounds) (bounds_left (λ b. b.listed) (length w.listed) walks.of_listed))));
+    of_pairs = pairs_bounds;
+    of_listed = listed_bounds;
     rising = popped_rising w.bounds walks.rising some;
     connects =
         subst (λ n. Connects l blocks n (state_at Left.path) (BeginsPairs Bounds)) path_size
         (Connects-below w.at (visit_at w.path) (visit_at Left.path) path_same l blocks (BeginsPairs Bounds)
         (Connects-leave laws l blocks (length w.path) w.at (state_at w.path) within (BeginsPairs w.bounds) (BeginsPairs Bounds) (keep (λ b. b.pairs)) walks.connects));
-    sound_pairs =
-        subst (λ n. IsSound l blocks n (state_at Left.path) (BeginsPairs Bounds) (length Left.pairs) (GivesPair Left.pairs)) path_size
-        (subst (λ k. IsSound l blocks w.at (state_at Left.path) (BeginsPairs Bounds) k (GivesPair Left.pairs)) pairs_size
-        (IsSound-below w.at (visit_at w.path) (visit_at Left.path) path_same l blocks (BeginsPairs Bounds) last.pairs (GivesPair Left.pairs)
-        (IsSound-leave laws l blocks (length w.path) w.at (state_at w.path) within (BeginsPairs w.bounds) (BeginsPairs Bounds) (keep (λ b. b.pairs))
-        (length w.pairs) last.pairs (GivesPair w.pairs) (GivesPair Left.pairs) few_pairs (λ j low z g. sym (pair_same j low) ∙ g) walks.sound_pairs)));
-    sound_listed =
-        subst (λ n. IsSound l blocks n (state_at Left.path) (BeginsListed Bounds) (length Left.listed) (GivesListed lists' Left.listed)) path_size
-        (subst (λ k. IsSound l blocks w.at (state_at Left.path) (BeginsListed Bounds) k (GivesListed lists' Left.listed)) listed_size
-        (IsSound-below w.at (visit_at w.path) (visit_at Left.path) path_same l blocks (BeginsListed Bounds) (last.listed + 1) (GivesListed lists' Left.listed) sound_left));
+    sound_pairs = pairs_sound;
+    sound_listed = listed_sound;
     listed = listed_left;
     rows =
         subst (λ n. AreRows l n Left.at (state_at Left.path) (next_at Left.path) (end_at Left.path) (back_at Left.path)) path_size
         (Rows-below w.at (visit_at w.path) (visit_at Left.path) path_same l Left.at (Rows-leave l (length w.path) w.at w.at (visit_at w.path) within walks.rows));
-    accounts =
-        subst (λ n. AccountsAll l blocks n (state_at Left.path) (next_at Left.path) (BeginsPairs Bounds) (back_at Left.path) (Held lists' Left) lists' (mark_at marks')) path_size
-        (AccountsAll-below w.at (visit_at w.path) (visit_at Left.path) path_same l blocks (BeginsPairs Bounds) (Held lists' Left) lists' (mark_at marks')
-        (λ f c b. (old_one (λ b. b.pairs) f c b).1) accounts_left);
+    accounts = accounted_left;
   }
