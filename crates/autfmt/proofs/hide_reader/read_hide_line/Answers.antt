@@ -31,13 +31,12 @@ returns-in-End-clause-line g c =
 pub returns-in_err-label-clause-line : goal.returns-in_err-label-clause-line
 returns-in_err-label-clause-line g c =
     let s = rw c.in-Line.is at c.in_ok-advance.ensures.step in
-    let exit = err_from_is_err_and c.from_residual-in_err-label.result c.from_residual-in_err-label.ensures.1 in
-    let bad = rw c.line.ensures at c.in_err-label.ensures.fault in (
+    let exit = err_from_is_err_and c.from_residual-in_err-label.result c.from_residual-in_err-label.ensures.1 in (
       s.0,
       s.1,
       λ given H so_far count. rw (exit.1, exit.2)
           (hide_faulty given _ _ H _ s.0 _ _ _ _ so_far count c.requires.more c.in_ok-advance.ensures.failures (goes_on s.2.0)
-          (c.advance.ensures.end c.requires.end) s.2.1 bad c.in_err-label.ensures.kind),
+          (c.advance.ensures.end c.requires.end) s.2.1 (rw c.line.ensures at c.in_err-label.ensures.fault) c.in_err-label.ensures.kind),
     )
 
 pub returns-clause-line : goal.returns-clause-line
