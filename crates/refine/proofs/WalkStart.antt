@@ -20,11 +20,19 @@ use Rattle.refine.proofs.WalkSteps.{Walks-enter}
 use Rattle.refine.proofs.WalkLeave.{Walks-none}
 use Rattle.refine.proofs.WalkAdvance.{enters_is, seen_more}
 
+-- what a walk knows that has just begun, where all that it reads is still ahead
+pub record Begins (l : Grouped) (blocks : List ℕ) (lists : List (List (ℕ × ℕ))) (marks : List Mark) (s : ℕ) (new : Parts) : Type 0 where
+  pub walks : Walks l blocks lists new
+  pub numbers : HasNumbers l.states (length lists) (length new.path) new.marks
+  pub same : ahead l.places new.marks new.path ≡ unread l.places marks
+  pub seen : KeepsSeen marks new.marks
+  pub found : mark_at new.marks s ≢ Unseen
+
 -- the first state of a walk was entered
 module _ (laws : Laws) (l : Grouped) (blocks : List ℕ) (lists : List (List (ℕ × ℕ))) (marks : List Mark) (trail : List ℕ) (at : ℕ) (old new : Parts) (s start end : ℕ)
-    (empty : old ≡ record { marks = marks; trail = trail; path = []; at = at; bounds = []; pairs = []; listed = [] })
     (rests : Rests l blocks lists marks) (numbers : HasNumbers l.states (length lists) 0 marks)
-    (inside : s < l.states) (none : mark_at marks s ≡ Unseen) (row : IsRow l.places s start end) (enters : Enters s start end 0 old new) where
+    (inside : s < l.states) (none : mark_at marks s ≡ Unseen) (row : IsRow l.places s start end) (enters : Enters s start end 0 old new)
+    (empty : old ≡ record { marks = marks; trail = trail; path = []; at = at; bounds = []; pairs = []; listed = [] }) where
   abbrev First : Visit
   First = record { state = s; next = start; end = end; back = 0 }
 
@@ -47,13 +55,13 @@ module _ (laws : Laws) (l : Grouped) (blocks : List ℕ) (lists : List (List (�
       enters_is s start end 0 (record { marks = marks; trail = trail; path = []; at = at; bounds = []; pairs = []; listed = [] }) new
       (subst (λ w. Enters s start end 0 w new) empty enters)
 
-  pub started_walks : Walks l blocks lists new
+  started_walks : Walks l blocks lists new
   started_walks =
       subst (Walks l blocks lists) begun
       (Walks-enter laws l blocks lists _ (Walks-none l blocks lists marks trail 0 rests) s start end within none inside row
       (λ h. absurd (omega (arith, h))) (λ e. (refl, refl)))
 
-  pub started_numbers : HasNumbers l.states (length lists) (length new.path) new.marks
+  started_numbers : HasNumbers l.states (length lists) (length new.path) new.marks
   started_numbers =
       let fewer = unseen-entered marks s 0 within none in
       let room = numbers.numbers in
@@ -63,7 +71,7 @@ module _ (laws : Laws) (l : Grouped) (blocks : List ℕ) (lists : List (List (�
         numbers = omega (arith, fewer, room);
       })
 
-  pub started_ahead : ahead l.places new.marks new.path ≡ unread l.places marks
+  started_ahead : ahead l.places new.marks new.path ≡ unread l.places marks
   started_ahead =
       let fewer = unread-entered l.places marks s 0 within none in
       let first : rest ([] ++ First ∷ []) ≡ 0 + (end - start) = rest-push [] First in
@@ -71,12 +79,15 @@ module _ (laws : Laws) (l : Grouped) (blocks : List ℕ) (lists : List (List (�
       let all : ahead l.places Begun.marks Begun.path ≡ unread l.places marks = omega (arith, fewer, first, count) in
       subst (λ w. ahead l.places w.marks w.path ≡ unread l.places marks) begun all
 
-  pub started_seen : KeepsSeen marks new.marks
+  started_seen : KeepsSeen marks new.marks
   started_seen = subst (λ w. KeepsSeen marks w.marks) begun (seen_more marks s 0 within)
 
-  pub started_found : mark_at new.marks s ≢ Unseen
+  started_found : mark_at new.marks s ≢ Unseen
   started_found is =
       not_unseen 0 (sym (mark_set marks s (OnPath 0) within) ∙ ap (λ w. mark_at w.marks s) begun ∙ is)
+
+  pub started : Begins l blocks lists marks s new
+  started = record { walks = started_walks; numbers = started_numbers; same = started_ahead; seen = started_seen; found = started_found }
 
 -- nothing was seen yet
 module _ (l : Grouped) (blocks : List ℕ) (lists : List (List (ℕ × ℕ))) (marks : List Mark) (trail : List ℕ) (idle : AreIdle l.states marks trail) where

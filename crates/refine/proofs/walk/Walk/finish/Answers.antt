@@ -1,41 +1,48 @@
 use Rattle.std.proofs.Common.{◌≡◌, [], length, arith, rules}
 use Rattle.std.proofs.lemmas.Bool.Decides.{nat_tests}
-use Rattle.refine.specs.Walks.{parts_of}
+use Rattle.refine.specs.Walks.{Parts, parts_of}
 use Rattle.refine.specs.declared.walk.Walk.{Walk}
 use Rattle.refine.proofs.WalkLeave.{Rests-end}
-use Rattle.refine.proofs.WalkStart.{started_walks, started_numbers, started_ahead, started_seen, started_found}
+use Rattle.refine.proofs.WalkStart.{Begins, started}
+use Rattle.refine.proofs.walk.Walk.finish.Given.{Over}
 use Rattle.refine.proofs.walk.Walk.finish.Goals as goal
+use Rattle.refine.proofs.walk.Walk.finish.Goals.{In_ok-enter}
+
+-- the walk has entered its first state
+module _ (g : Over) (c : In_ok-enter g) where
+  abbrev w : Walk
+  w = c.args.self.now
+
+  abbrev cleared : Parts
+  cleared = parts_of (record w { path = c.clear.new.self; bounds = c.clear-2.new.self; pairs = c.clear-3.new.self; listed = c.clear-4.new.self })
+
+  empty : cleared ≡ record { marks = w.marks.items; trail = w.trail.items; path = []; at = w.at; bounds = []; pairs = []; listed = [] }
+  empty = λ i. record {
+    marks = w.marks.items;
+    trail = w.trail.items;
+    path = c.clear.ensures.items i;
+    at = w.at;
+    bounds = c.clear-2.ensures.items i;
+    pairs = c.clear-3.ensures.items i;
+    listed = c.clear-4.ensures.items i;
+  }
+
+  begins : Begins c.args.l.now c.args.p.now c.args.lists.now w.marks.items c.args.s (parts_of c.enter.new.self)
+  begins =
+      started c.laws.ensures c.args.l.now c.args.p.now c.args.lists.now w.marks.items w.trail.items w.at cleared (parts_of c.enter.new.self) c.args.s
+      c.row-start.result.0 c.row-start.result.1 c.requires.rests c.requires.numbers c.requires.state c.requires.unseen c.row-start.ensures
+      c.in_ok-enter.ensures.enters empty
 
 pub loop-internal-init : goal.loop-internal-init
 loop-internal-init g c =
-    let l = c.args.l.now in
-    let p = c.args.p.now in
-    let lists = c.args.lists.now in
-    let w : Walk = c.args.self.now in
-    let cleared : Walk = record w { path = c.clear.new.self; bounds = c.clear-2.new.self; pairs = c.clear-3.new.self; listed = c.clear-4.new.self } in
-    let empty : parts_of cleared ≡ record { marks = w.marks.items; trail = w.trail.items; path = []; at = w.at; bounds = []; pairs = []; listed = [] } = λ i. record {
-      marks = w.marks.items;
-      trail = w.trail.items;
-      path = c.clear.ensures.items i;
-      at = w.at;
-      bounds = c.clear-2.ensures.items i;
-      pairs = c.clear-3.ensures.items i;
-      listed = c.clear-4.ensures.items i;
-    } in
-    let new = parts_of c.enter.new.self in
-    let old = parts_of cleared in
-    let laws = c.laws.ensures in
-    let start = c.row-start.result.0 in
-    let end = c.row-start.result.1 in
-    let marks = w.marks.items in
-    let trail = w.trail.items in
-    let same = started_ahead laws l p lists marks trail w.at old new c.args.s start end empty c.requires.rests c.requires.numbers c.requires.state c.requires.unseen c.row-start.ensures c.in_ok-enter.ensures.enters in
+    let b = begins g (goal.at.loop-internal-init g c).In_ok-enter in
+    let same = b.same in
     record {
-      walks = started_walks laws l p lists marks trail w.at old new c.args.s start end empty c.requires.rests c.requires.numbers c.requires.state c.requires.unseen c.row-start.ensures c.in_ok-enter.ensures.enters;
-      numbers = started_numbers laws l p lists marks trail w.at old new c.args.s start end empty c.requires.rests c.requires.numbers c.requires.state c.requires.unseen c.row-start.ensures c.in_ok-enter.ensures.enters;
+      walks = b.walks;
+      numbers = b.numbers;
       trail = c.enter.ensures.trail;
-      seen = started_seen laws l p lists marks trail w.at old new c.args.s start end empty c.requires.rests c.requires.numbers c.requires.state c.requires.unseen c.row-start.ensures c.in_ok-enter.ensures.enters;
-      found = started_found laws l p lists marks trail w.at old new c.args.s start end empty c.requires.rests c.requires.numbers c.requires.state c.requires.unseen c.row-start.ensures c.in_ok-enter.ensures.enters;
+      seen = b.seen;
+      found = b.found;
       visits = omega (arith, same);
       cost = record { rounds = omega arith; at_least = omega arith; at_most = omega arith };
       size = c.enter.ensures.size;
