@@ -1,5 +1,5 @@
 -- Fingerprints are added up: pair by pair, and from two lists that share no pair.
-use Rattle.std.proofs.Common.{◌≡◌, ◌∙◌, ℕ, ◌+◌, ◌<◌, ◌%◌, ◌^◌, List, [], ◌∷◌, length, get_or, take, Contains, Less, Equal, Greater, refl, ap, sym, arith}
+use Rattle.std.proofs.Common.{◌≡◌, ◌∙◌, ℕ, ◌+◌, ◌<◌, ◌%◌, ◌^◌, List, [], ◌∷◌, length, get_or, take, refl, ap, sym, arith}
 use Rattle.std.specs.List.{sum_by}
 use Rattle.std.specs.Ordering.{is_eq}
 use Rattle.std.proofs.Math.Nat.{mod-add-mod, add-mod-mod}

@@ -1,6 +1,6 @@
 -- Lists that are kept as what they add to a root: what each is, and one list more.
-use Rattle.std.proofs.Common.{◌≡◌, ◌∙◌, ◌↔◌, ◌⊎◌, ℕ, zero, suc, ◌+◌, ◌<◌, ◌≤◌, List, [], ◌∷◌, ◌++◌, length, take, get_or, slice_index, Contains, ap, sym, subst, refl, inl, inr, arith}
-use Rattle.std.specs.List.{All, zip}
+use Rattle.std.proofs.Common.{◌≡◌, ◌∙◌, ◌↔◌, ◌⊎◌, ℕ, ◌<◌, ◌≤◌, List, [], ◌∷◌, ◌++◌, length, take, get_or, slice_index, Contains, ap, sym, subst, refl, inl, inr, arith}
+use Rattle.std.specs.List.{zip}
 use Rattle.std.specs.List.Sorted.{IsStrictlySortedBy}
 use Rattle.std.proofs.lemmas.Bool.{cases_lt}
 use Rattle.std.proofs.lemmas.List.{length-map, length_push, get_or-map, get_or_append_left, get_or_push, get_or_default, same_lists}
@@ -8,7 +8,7 @@ use Rattle.std.proofs.lemmas.List.Elements.{All-append, All-weaker}
 use Rattle.std.proofs.lemmas.Slice.Zip.{length-zip, get_or-zip}
 use Rattle.refine.specs.declared.lists.TheConstants.{MOST_LISTS}
 use Rattle.refine.specs.Signed.{pair_cmp}
-use Rattle.refine.specs.Lists.{list_at, merged, Apart, AreLists, AreNumbers}
+use Rattle.refine.specs.Lists.{list_at, merged, Apart, AreLists}
 use Rattle.refine.specs.Roots.{whole, wholes, AreRooted}
 use Rattle.refine.proofs.Rising.{rising_none, rising_unique, pair_total}
 use Rattle.refine.proofs.Merging.{merged_has, merged_rises, merged_nil}
@@ -49,6 +49,21 @@ module _ (parts : List (List (ℕ × ℕ))) (roots : List ℕ) (are : AreRooted 
             ∙ ap (λ l. merged l (list_at parts 0)) are.lists.first ∙ are.lists.first;
       }
 
+-- two additions to one root are equal if the whole lists are
+module _ (root a b : List (ℕ × ℕ)) where
+  stays : Apart root a → merged root a ≡ merged root b → (z : ℕ × ℕ) → Contains a z → Contains b z
+  stays apart e z c = elim ((merged_has z root b).0 (subst (λ l. Contains l z) e ((merged_has z root a).1 (inr c)))) [
+    | inl d ↦ absurd (apart z d c)
+    | inr d ↦ d
+  ]
+
+module _ (root a b : List (ℕ × ℕ)) (rise_a : IsStrictlySortedBy pair_cmp a) (rise_b : IsStrictlySortedBy pair_cmp b) (apart_a : Apart root a) (apart_b : Apart root b) where
+  pub same_added : (a ≡ b) ↔ (merged root a ≡ merged root b)
+  same_added = (
+    ap (merged root),
+    λ e. rising_unique pair_total a b rise_a rise_b (λ z. (stays root a b apart_a e z, stays root b a apart_b (sym e) z)),
+  )
+
 -- of lists that are seen whole
 module _ (parts : List (List (ℕ × ℕ))) (roots : List ℕ) (are : AreRooted parts roots) (lists : List (List (ℕ × ℕ))) (view : wholes parts roots ≡ lists) where
   pub length-parts : length parts ≡ length lists
@@ -78,6 +93,18 @@ module _ (parts : List (List (ℕ × ℕ))) (roots : List ℕ) (are : AreRooted 
       let size = are.size in
       let all = length-parts in
       subst (λ r. Apart (list_at parts r) (list_at parts k)) (get_or_default roots k 0 root (omega arith) ∙ sym is) (are.apart k (omega arith))
+
+  -- two lists with one root are equal if they add the same
+  pub same_root : (j k root : ℕ) → j < length lists → k < length lists → root ≡ get_or roots j root → root ≡ get_or roots k root
+      → (list_at parts j ≡ list_at parts k) ↔ (list_at lists j ≡ list_at lists k)
+  same_root j k root low_j low_k is_j is_k =
+      let all = length-parts in
+      let j_is = list_is j root low_j is_j in
+      let k_is = list_is k root low_k is_k in
+      let same =
+      same_added (list_at parts root) (list_at parts j) (list_at parts k) (are.lists.rise j [] (omega arith)) (are.lists.rise k [] (omega arith))
+      (apart_at j root low_j is_j) (apart_at k root low_k is_k) in
+      (λ e. j_is ∙ same.0 e ∙ sym k_is, λ e. same.1 (sym j_is ∙ e ∙ k_is))
 
 -- one list more
 module _ (parts : List (List (ℕ × ℕ))) (roots : List ℕ) (are : AreRooted parts roots) (root : ℕ) (added : List (ℕ × ℕ)) (low : root < length parts) where
@@ -173,21 +200,6 @@ pub apart_none : (parts : List (List (ℕ × ℕ))) (list : List (ℕ × ℕ)) �
 apart_none parts list first z c d =
     let (i, low, is) : Contains {X = ℕ × ℕ} [] z = subst (λ l. Contains l z) first c in
     absurd (omega (arith, low))
-
--- two additions to one root are equal if the whole lists are
-module _ (root a b : List (ℕ × ℕ)) where
-  stays : Apart root a → merged root a ≡ merged root b → (z : ℕ × ℕ) → Contains a z → Contains b z
-  stays apart e z c = elim ((merged_has z root b).0 (subst (λ l. Contains l z) e ((merged_has z root a).1 (inr c)))) [
-    | inl d ↦ absurd (apart z d c)
-    | inr d ↦ d
-  ]
-
-module _ (root a b : List (ℕ × ℕ)) (rise_a : IsStrictlySortedBy pair_cmp a) (rise_b : IsStrictlySortedBy pair_cmp b) (apart_a : Apart root a) (apart_b : Apart root b) where
-  pub same_added : (a ≡ b) ↔ (merged root a ≡ merged root b)
-  same_added = (
-    ap (merged root),
-    λ e. rising_unique pair_total a b rise_a rise_b (λ z. (stays root a b apart_a e z, stays root b a apart_b (sym e) z)),
-  )
 
 -- what has both parts of a list has the list
 pub has_both : (xs ys zs : List (ℕ × ℕ)) → ((z : ℕ × ℕ) → Contains xs z → Contains zs z) → ((z : ℕ × ℕ) → Contains ys z → Contains zs z)

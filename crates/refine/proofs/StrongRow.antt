@@ -1,16 +1,11 @@
--- The pairs of a state's row, sorted and freed of repeats, are its strong signature.
-use Rattle.std.proofs.Common.{◌≡◌, ◌↔◌, ℕ, Bool, true, ◌&&◌, nat_eq, List, [], length, map, slice_index, All, Contains, refl, sym, ◌∙◌, ap, subst, arith}
+-- The pairs of a state's row, in rising order and each once, are its strong signature.
+use Rattle.std.proofs.Common.{◌≡◌, ◌↔◌, ℕ, Bool, true, ◌&&◌, nat_eq, List, length, map, slice_index, All, Contains, refl, ◌∙◌, ap, subst, arith}
 use Rattle.std.proofs.lemmas.List.{length-map, get_or-map}
-use Rattle.std.proofs.lemmas.List.Filters.{dedup_is}
-use Rattle.std.proofs.lemmas.List.Kept.{IsStrictlySortedBy-dedup, Contains-dedup, Contains-from_dedup}
-use Rattle.std.proofs.lemmas.List.Sorted.{All-permutation, Contains-permutation}
 use Rattle.std.proofs.lemmas.List.Elements.{All-contains, All-contains_itself, All-map, All-weaker}
 use Rattle.std.proofs.lemmas.Bool.{and_parts, eqb-true}
 use Rattle.std.proofs.lemmas.Cmp.{and_equiv, on_equiv, nat_eq_equiv}
 use Rattle.std.specs.Cmp.{IsEquivalence, both_tied, unsigned_ties}
-use Rattle.std.specs.List.{dedup}
-use Rattle.std.specs.List.Retain.{IsFiltered, DiffersFromLast}
-use Rattle.std.specs.List.Sorted.{IsSorted, IsPermutation}
+use Rattle.std.specs.List.Sorted.{IsStrictlySortedBy}
 use Rattle.std.specs.Ordering.{eq_by_cmp, nat_cmp}
 use Rattle.theory.specs.System.{Step}
 use Rattle.theory.specs.Bisimulation.Relation.{strong}
@@ -18,7 +13,6 @@ use Rattle.lts.specs.Labels.{text_of}
 use Rattle.lts.specs.Lts.{Grouped, Triple, source_of, label_of, target_of, row_of, system_of, IsTriple, IsLts}
 use Rattle.refine.specs.Signed.{pair_cmp, HasPair, IsSignature}
 use Rattle.refine.specs.StrongPairs.{pair_under}
-use Rattle.refine.proofs.Rising.{pair_total}
 
 -- two pairs are equal, as the test that `dedup` makes
 abbrev pub pair_eq : ℕ × ℕ → ℕ × ℕ → Bool
@@ -56,21 +50,16 @@ module _ (l : Grouped) (blocks : List ℕ) (s : ℕ) (h : IsLts l)
       let place = get_or-map (pair_under blocks) row found.1.0 e (pair_under blocks e) found.1.1 ∙ ap (pair_under blocks) found.1.2 in
       subst (Contains (map (pair_under blocks) row)) is (found.1.0, omega (arith, found.1.1, length-map row (pair_under blocks)), place)
 
-  -- the row's pairs, sorted and freed of repeats
-  pub row_signature : (ys zs : List (ℕ × ℕ)) → IsPermutation (map (pair_under blocks) (row_of s l.places)) ys → IsSorted pair_cmp ys
-      → IsFiltered (DiffersFromLast pair_eq) [] ys zs → IsSignature strong l blocks s zs
-  row_signature ys zs same sorted filtered =
+  -- the row's pairs in rising order, each once
+  pub row_signature : (zs : List (ℕ × ℕ)) → IsStrictlySortedBy pair_cmp zs
+      → ((z : ℕ × ℕ) → Contains zs z ↔ Contains (map (pair_under blocks) (row_of s l.places)) z) → IsSignature strong l blocks s zs
+  row_signature zs rising same =
       let row = row_of s l.places in
       let xs = map (pair_under blocks) row in
       let Has : ℕ × ℕ → Type 0 = λ p. HasPair strong l blocks s p.0 p.1 in
-      let all : All Has ys =
-      All-permutation Has xs ys same
-      (All-map Has (pair_under blocks) row (All-weaker (Contains row) (λ e. Has (pair_under blocks e)) has_pair row (All-contains_itself row))) in
-      let e : zs ≡ dedup pair_eq ys = dedup_is pair_eq ys zs filtered in
-      subst (IsSignature strong l blocks s) (sym e) (record {
-        exactly = λ k b. (
-          λ c. All-contains Has ys (k, b) all (Contains-from_dedup pair_eq ys (k, b) c),
-          λ p. Contains-dedup pair_eq_equiv pair_equal ys (k, b) (Contains-permutation xs ys (k, b) same (pair_has k b p)),
-        );
-        rising = IsStrictlySortedBy-dedup pair_total pair_ties ys sorted;
-      })
+      let all : All Has xs =
+      All-map Has (pair_under blocks) row (All-weaker (Contains row) (λ e. Has (pair_under blocks e)) has_pair row (All-contains_itself row)) in
+      record {
+        exactly = λ k b. (λ c. All-contains Has xs (k, b) all ((same (k, b)).0 c), λ p. (same (k, b)).1 (pair_has k b p));
+        rising = rising;
+      }

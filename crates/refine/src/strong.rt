@@ -8,6 +8,7 @@ ghost use Rattle.refine.specs.StrongPairs.{pair_under};
 
 use crate::lists::Lists;
 use crate::marks::Marks;
+use crate::ordered::order;
 use crate::partition::Partition;
 use crate::sense::Sense;
 use lts::{Lts, Memory, Meter};
@@ -69,8 +70,7 @@ fn sign<M: Meter>(
     l.known();
     pairs.clear();
     collect_row(l, p, s, pairs, m)?;
-    pairs.sort_unstable();
-    pairs.dedup();
+    order(pairs);
     Ok(())
 }
 

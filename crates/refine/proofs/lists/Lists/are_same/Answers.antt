@@ -1,7 +1,7 @@
-use Rattle.std.proofs.Common.{◌≡◌, get_or, Contains, sym, subst, arith}
-use Rattle.refine.specs.Lists.{list_at, Apart}
+use Rattle.std.proofs.Common.{◌≡◌, ◌∙◌, get_or, Contains, sym, subst, arith}
+use Rattle.refine.specs.Lists.{list_at}
 use Rattle.refine.proofs.Rising.{rising_unique, pair_total}
-use Rattle.refine.proofs.Rooted.{length-parts, length-roots, list_is, rise_of, apart_at, same_added}
+use Rattle.refine.proofs.Rooted.{length-parts, length-roots, rise_of, same_root}
 use Rattle.refine.proofs.lists.Lists.are_same.Goals as goal
 
 pub index-requires : goal.index-requires
@@ -26,20 +26,13 @@ of-requires-then-index c =
 
 pub returns-then-index : goal.returns-then-index
 returns-then-index c =
-    let parts = c.self.inside.parts in
     let roots = c.self.inside.roots.items in
-    let root = c.index.result.now in
-    let k_root : root ≡ get_or roots c.args.k root = subst (λ r. r ≡ get_or roots c.args.k r) (sym c.if-index.true) c.index-2.ensures in
-    let j_is = list_is parts roots c.self.invariant c.args.self.now c.self.view_is c.args.j root c.requires.first c.index.ensures in
-    let k_is = list_is parts roots c.self.invariant c.args.self.now c.self.view_is c.args.k root c.requires.second k_root in
     let same =
-    same_added (list_at parts root) c.of.result.now c.of-then-index.result.now c.of.ensures.rising c.of-then-index.ensures.rising
-    (subst (Apart (list_at parts root)) (sym c.of.ensures.list)
-    (apart_at parts roots c.self.invariant c.args.self.now c.self.view_is c.args.j root c.requires.first c.index.ensures))
-    (subst (Apart (list_at parts root)) (sym c.of-then-index.ensures.list)
-    (apart_at parts roots c.self.invariant c.args.self.now c.self.view_is c.args.k root c.requires.second k_root)) in
-    rw (j_is, k_is, ← c.of.ensures.list, ← c.of-then-index.ensures.list)
-    (λ t. same.0 (c.are_same.ensures.0 t), λ e. c.are_same.ensures.1 (same.1 e))
+    same_root c.self.inside.parts roots c.self.invariant c.args.self.now c.self.view_is c.args.j c.args.k c.index.result.now c.requires.first c.requires.second
+    c.index.ensures (subst (λ r. r ≡ get_or roots c.args.k r) (sym c.if-index.true) c.index-2.ensures) in
+    let j_is = c.of.ensures.list in
+    let k_is = c.of-then-index.ensures.list in
+    (λ t. same.0 (sym j_is ∙ c.are_same.ensures.0 t ∙ k_is), λ e. c.are_same.ensures.1 (j_is ∙ same.1 e ∙ sym k_is))
 
 pub returns-then-has_all_of : goal.returns-then-has_all_of
 returns-then-has_all_of c =
