@@ -69,19 +69,9 @@ module _ (l : Grouped) (blocks : List ℕ) (lts : IsLts l) (n at f0 : ℕ) (stat
             (subst (λ y. Along (Inert (system_of l) (slice_index blocks)) y us u) there rest) step is
             (λ inert. other (inert.0, inert.1 ∙ ap (slice_index blocks) was.1 ∙ same)) low
         | inr done ↦
-            let signature = (signed (target_of (place_at l.places k)) done.0 done.1).1 in
-            let has : HasPair branching l blocks (target_of (place_at l.places k)) z.0 z.1 = (
-              low,
-              (
-                u,
-                t,
-                (us, subst (λ y. Along (Inert (system_of l) (slice_index blocks)) y us u) (sym place.4) rest),
-                step,
-                is,
-                λ inert. other (inert.0, inert.1 ∙ same),
-              ),
-            ) in
-            from_held p h z (done.2 z ((signature.exactly z.0 z.1).1 has))
+            let path = subst (λ y. Along (Inert (system_of l) (slice_index blocks)) y us u) (sym place.4) rest in
+            let has : HasPair branching l blocks (target_of (place_at l.places k)) z.0 z.1 = (low, (u, t, (us, path), step, is, λ inert. other (inert.0, inert.1 ∙ same))) in
+            from_held p h z (done.2 z (((signed (target_of (place_at l.places k)) done.0 done.1).1.exactly z.0 z.1).1 has))
       ]
 
   -- a list of what was collected is the signature of each state of the component

@@ -9,6 +9,20 @@ use Rattle.refine.specs.declared.walk.Visit.{Visit}
 abbrev pub Rows : Grouped → ℕ → ℕ → (ℕ → Visit) → Type 0
 Rows l n at visit = AreRows l n at (λ p. (visit p).state) (λ p. (visit p).next) (λ p. (visit p).end) (λ p. (visit p).back)
 
+-- where a state goes to the end of the path, the rows between it and the place that led to it are read
+between-enter : (l : Grouped) (n at : ℕ) (visit visit' : ℕ → Visit) → ((p : ℕ) → p < n → visit' p ≡ visit p) → (visit' n).back ≡ at
+    → Rows l n at visit → (p q : ℕ) → (visit' q).back < p → p < q → q < n + 1 → (visit' p).next ≡ (visit' p).end
+between-enter l n at visit visit' same back old p q h h' h'' = elim (cases_lt q n) [
+  | inl low ↦
+      subst (λ v. v.next ≡ v.end) (sym (same p (omega (arith, h', low))))
+      (old.between p q (subst (λ v. v.back < p) (same q low) h) h' low)
+  | inr high ↦
+      let e : q ≡ n = omega (arith, h'', high) in
+      let after : at < p = subst (λ x. x < p) back (subst (λ x. (visit' x).back < p) e h) in
+      let low : p < n = omega (arith, h', e) in
+      subst (λ v. v.next ≡ v.end) (sym (same p low)) (old.above p after low)
+]
+
 -- a state goes to the end of the path
 pub Rows-enter : (l : Grouped) (n at : ℕ) (visit visit' : ℕ → Visit) → ((p : ℕ) → p < n → visit' p ≡ visit p)
     → (visit' n).state < l.states → IsRow l.places (visit' n).state (visit' n).next (visit' n).end → (visit' n).back ≡ at
@@ -35,16 +49,7 @@ Rows-enter l n at visit visit' same inside row back old = record {
         subst (λ x. (visit' x).back < x) (sym e) (omega (arith, here, back))
   ];
   above = λ p h h'. absurd (omega (arith, h, h'));
-  between = λ p q h h' h''. elim (cases_lt q n) [
-    | inl low ↦
-        subst (λ v. v.next ≡ v.end) (sym (same p (omega (arith, h', low))))
-        (old.between p q (subst (λ v. v.back < p) (same q low) h) h' low)
-    | inr high ↦
-        let e : q ≡ n = omega (arith, h'', high) in
-        let after : at < p = subst (λ x. x < p) back (subst (λ x. (visit' x).back < p) e h) in
-        let low : p < n = omega (arith, h', e) in
-        subst (λ v. v.next ≡ v.end) (sym (same p low)) (old.above p after low)
-  ];
+  between = between-enter l n at visit visit' same back old;
 }
 
 -- the component that begins at place f0 is finished, and the walk goes back
