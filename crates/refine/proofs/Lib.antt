@@ -12,6 +12,7 @@ pub mod Elders
 pub mod Alone
 pub mod Prints
 pub mod Listing
+pub mod Padded
 pub mod Rooted
 pub mod EachList
 pub mod WalkHolds

@@ -9,7 +9,8 @@ use Rattle.std.proofs.lemmas.Slice.Zip.{length-zip, get_or-zip}
 use Rattle.refine.specs.declared.lists.TheConstants.{MOST_LISTS}
 use Rattle.refine.specs.Signed.{pair_cmp}
 use Rattle.refine.specs.Lists.{list_at, merged, Apart, AreLists}
-use Rattle.refine.specs.Roots.{whole, wholes, AreRooted}
+use Rattle.refine.specs.Roots.{padded, whole, wholes, AreRooted}
+use Rattle.refine.proofs.Padded.{padded_at}
 use Rattle.refine.proofs.Rising.{rising_none, rising_unique, pair_total}
 use Rattle.refine.proofs.Merging.{merged_has, merged_rises, merged_nil}
 use Rattle.refine.proofs.Listing.{All-only}
@@ -65,37 +66,37 @@ module _ (root a b : List (ℕ × ℕ)) (rise_a : IsStrictlySortedBy pair_cmp a)
   )
 
 -- of lists that are seen whole
-module _ (parts : List (List (ℕ × ℕ))) (roots : List ℕ) (are : AreRooted parts roots) (lists : List (List (ℕ × ℕ))) (view : wholes parts roots ≡ lists) where
+module _ (parts : List (List (ℕ × ℕ))) (roots : List ℕ) (are : AreRooted parts (padded roots (length parts))) (lists : List (List (ℕ × ℕ)))
+    (view : wholes parts (padded roots (length parts)) ≡ lists) where
   pub length-parts : length parts ≡ length lists
-  length-parts = sym (length-wholes parts roots are.size) ∙ ap length view
+  length-parts = sym (length-wholes parts (padded roots (length parts)) are.size) ∙ ap length view
 
-  pub length-roots : length roots ≡ length lists
-  length-roots = are.size ∙ length-parts
+  read : (k root : ℕ) → root ≡ slice_index roots k → slice_index (padded roots (length parts)) k ≡ root
+  read k root is = padded_at roots (length parts) k ∙ sym is
 
-  pub root_within : (k root : ℕ) → k < length lists → root ≡ get_or roots k root → root < length parts
+  pub root_within : (k root : ℕ) → k < length lists → root ≡ slice_index roots k → root < length parts
   root_within k root low is =
       let size = are.size in
       let all = length-parts in
-      subst (λ r. r < length parts) (sym is) (are.below k root (omega arith))
+      subst (λ r. r < length parts) (read k root is) (are.below k 0 (omega arith))
 
-  pub list_is : (k root : ℕ) → k < length lists → root ≡ get_or roots k root → list_at lists k ≡ merged (list_at parts root) (list_at parts k)
+  pub list_is : (k root : ℕ) → k < length lists → root ≡ slice_index roots k → list_at lists k ≡ merged (list_at parts root) (list_at parts k)
   list_is k root low is =
-      let size = are.size in
       let all = length-parts in
-      ap (λ xs. list_at xs k) (sym view) ∙ whole_at parts roots are.size k [] (omega arith)
-      ∙ ap (λ r. merged (list_at parts r) (list_at parts k)) (get_or_default roots k 0 root (omega arith) ∙ sym is)
+      ap (λ xs. list_at xs k) (sym view) ∙ whole_at parts (padded roots (length parts)) are.size k [] (omega arith)
+      ∙ ap (λ r. merged (list_at parts r) (list_at parts k)) (read k root is)
 
   pub rise_of : (k : ℕ) → k < length lists → IsStrictlySortedBy pair_cmp (list_at lists k)
-  rise_of k low = (subst AreLists view (AreLists-wholes parts roots are)).rise k [] low
+  rise_of k low = (subst AreLists view (AreLists-wholes parts (padded roots (length parts)) are)).rise k [] low
 
-  pub apart_at : (k root : ℕ) → k < length lists → root ≡ get_or roots k root → Apart (list_at parts root) (list_at parts k)
+  pub apart_at : (k root : ℕ) → k < length lists → root ≡ slice_index roots k → Apart (list_at parts root) (list_at parts k)
   apart_at k root low is =
       let size = are.size in
       let all = length-parts in
-      subst (λ r. Apart (list_at parts r) (list_at parts k)) (get_or_default roots k 0 root (omega arith) ∙ sym is) (are.apart k (omega arith))
+      subst (λ r. Apart (list_at parts r) (list_at parts k)) (read k root is) (are.apart k (omega arith))
 
   -- two lists with one root are equal if they add the same
-  pub same_root : (j k root : ℕ) → j < length lists → k < length lists → root ≡ get_or roots j root → root ≡ get_or roots k root
+  pub same_root : (j k root : ℕ) → j < length lists → k < length lists → root ≡ slice_index roots j → root ≡ slice_index roots k
       → (list_at parts j ≡ list_at parts k) ↔ (list_at lists j ≡ list_at lists k)
   same_root j k root low_j low_k is_j is_k =
       let all = length-parts in
@@ -267,7 +268,7 @@ module _ (root added pairs : List (ℕ × ℕ)) where
   ]
 
 -- the parts of a list that is kept whole
-module _ (parts : List (List (ℕ × ℕ))) (roots : List ℕ) (are : AreRooted parts roots) (k : ℕ) where
+module _ (parts : List (List (ℕ × ℕ))) (roots : List ℕ) (are : AreRooted parts (padded roots (length parts))) (k : ℕ) where
   pub base_whole : slice_index roots k ≡ 0 → merged (list_at parts k) (list_at parts 0) ≡ merged (list_at parts (slice_index roots k)) (list_at parts k)
   base_whole none =
       ap (merged (list_at parts k)) are.lists.first ∙ merged_nil (list_at parts k) ∙ ap (λ l. merged l (list_at parts k)) (sym are.lists.first)
@@ -276,14 +277,29 @@ module _ (parts : List (List (ℕ × ℕ))) (roots : List ℕ) (are : AreRooted 
   pub base_apart : Apart (list_at parts k) (list_at parts 0)
   base_apart z c d = apart_none parts (list_at parts k) are.lists.first z d c
 
+  -- its root
+  read_root : slice_index (padded roots (length parts)) k ≡ slice_index roots k
+  read_root = padded_at roots (length parts) k
+
+  pub root_low : k < length parts → slice_index roots k < length parts
+  root_low low = let size = are.size in subst (λ r. r < length parts) read_root (are.below k 0 (omega arith))
+
+  pub root_whole : k < length parts → slice_index roots (slice_index roots k) ≡ 0
+  root_whole low =
+      let size = are.size in
+      ap (slice_index roots) (sym read_root) ∙ sym (padded_at roots (length parts) (slice_index (padded roots (length parts)) k)) ∙ are.flat k (omega arith)
+
+  pub root_apart : k < length parts → Apart (list_at parts (slice_index roots k)) (list_at parts k)
+  root_apart low = let size = are.size in subst (λ r. Apart (list_at parts r) (list_at parts k)) read_root (are.apart k (omega arith))
+
 -- a list of two parts, the first of which can be a root, is extended by pairs that it lacks
-module _ (parts : List (List (ℕ × ℕ))) (roots : List ℕ) (are : AreRooted parts roots) (lists : List (List (ℕ × ℕ))) (view : wholes parts roots ≡ lists)
-    (k base known : ℕ) (pairs : List (ℕ × ℕ)) (low : k < length lists) (low_base : base < length parts) (low_known : known < length parts)
+module _ (parts : List (List (ℕ × ℕ))) (roots : List ℕ) (are : AreRooted parts (padded roots (length parts))) (lists : List (List (ℕ × ℕ)))
+    (view : wholes parts (padded roots (length parts)) ≡ lists) (k base known : ℕ) (pairs : List (ℕ × ℕ)) (low : k < length lists) (low_base : base < length parts) (low_known : known < length parts)
     (apart : Apart (list_at parts base) (list_at parts known))
     (list : merged (list_at parts base) (list_at parts known) ≡ merged (list_at parts (slice_index roots k)) (list_at parts k))
     (rising : IsStrictlySortedBy pair_cmp pairs) (lacks : Apart (list_at lists k) pairs) where
   list_k : list_at lists k ≡ merged (list_at parts base) (list_at parts known)
-  list_k = ap (λ xs. list_at xs k) (sym view) ∙ whole_at parts roots are.size k [] (let all = length-parts parts roots are lists view in omega arith) ∙ sym list
+  list_k = list_is parts roots are lists view k (slice_index roots k) low refl ∙ sym list
 
   module _ (added : List (ℕ × ℕ)) (is : added ≡ merged (list_at parts known) pairs) where
     pub added_rises : IsStrictlySortedBy pair_cmp added

@@ -149,16 +149,13 @@ collected_none lists pairs are none =
 
 -- what is given, where one of the lists and the pairs that it lacks are known
 module _ (lists : List (List (ℕ × ℕ))) (pairs : List (ℕ × ℕ)) (listed : List ℕ) (k : ℕ) (lacks : List (ℕ × ℕ))
-    (are : AreLists lists) (within : k < length lists) (one : (k ≡ EMPTY) ⊎ Contains listed k)
+    (are : AreLists lists) (within : k < length lists) (one : Contains listed k)
     (lacking : IsLacking lists pairs listed (list_at lists k) lacks) where
   rise : IsStrictlySortedBy pair_cmp (list_at lists k)
   rise = are.rise k [] within
 
   given : (z : ℕ × ℕ) → Contains (list_at lists k) z → IsGiven lists pairs listed z
-  given z c = elim one [
-    | inl e ↦ absurd (contains_none z (subst (λ xs. Contains xs z) (ap (list_at lists) e ∙ are.first) c))
-    | inr h ↦ inr (k, h, c)
-  ]
+  given z c = inr (k, one, c)
 
   pub collected_known : lacks ≡ [] → IsCollected lists pairs listed (list_at lists k)
   collected_known none = record {

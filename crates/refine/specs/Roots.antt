@@ -1,8 +1,12 @@
 -- How `Lists` keeps its lists: each as what it adds to its root, the number of which is kept beside it. A list that is kept
 -- whole adds all of itself to the empty list, number 0.
-use Rattle.std.specs.Prelude.{◌≡◌, ℕ, ◌<◌, List, length, map, slice_index}
+use Rattle.std.specs.Prelude.{◌≡◌, ℕ, ◌<◌, ◌-◌, List, ◌++◌, length, map, slice_index, replicate}
 use Rattle.std.specs.List.{zip}
 use Rattle.refine.specs.Lists.{list_at, merged, Apart, AreLists, AreNumbers}
+
+-- the root of each of n lists: those past the last root have the empty list as theirs
+abbrev pub padded : List ℕ → ℕ → List ℕ
+padded roots n = roots ++ replicate (n - length roots) 0
 
 -- the list that adds the second to the root of this number
 abbrev pub whole : List (List (ℕ × ℕ)) → ℕ × List (ℕ × ℕ) → List (ℕ × ℕ)

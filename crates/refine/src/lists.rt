@@ -4,7 +4,7 @@ ghost use Rattle.std.specs.List.{Contains};
 ghost use Rattle.std.specs.List.Sorted.{IsStrictlySortedBy};
 ghost use Rattle.refine.specs.Signed.{pair_cmp};
 ghost use Rattle.refine.specs.Lists.{list_at, merged, Apart, AreLists};
-ghost use Rattle.refine.specs.Roots.{wholes, AreRooted};
+ghost use Rattle.refine.specs.Roots.{padded, wholes, AreRooted};
 ghost use Rattle.refine.specs.Spans.{fingerprint_of};
 
 use crate::ordered::{append_merged, append_missing, has_either};
@@ -29,7 +29,8 @@ const PART: usize = 4;
 pub struct Lists {
     /// What each list adds to its root.
     parts: Parts,
-    /// The number of each list's root, which is a list that is kept whole, or `EMPTY` if the list itself is.
+    /// The number of each list's root, which is a list that is kept whole, or `EMPTY` if the list itself is. It ends with the
+    /// last list that has another root: by strong bisimulation none has, and nothing is kept or read here.
     roots: Vec<u32>,
     /// Where what a list adds is put together.
     added: Vec<(u32, u32)>,
@@ -42,11 +43,12 @@ impl Model for Lists {
 
     ghost Value = { List (List (ℕ × ℕ)) };
 
-    ghost use Rattle.refine.specs.Roots.{wholes, AreRooted};
+    ghost use Rattle.std.specs.Prelude.{length};
+    ghost use Rattle.refine.specs.Roots.{padded, wholes, AreRooted};
 
-    ghost view = { λ x. wholes x.parts x.roots.items };
+    ghost view = { λ x. wholes x.parts (padded x.roots.items (length x.parts)) };
 
-    ghost invariant = { λ x. AreRooted x.parts x.roots.items };
+    ghost invariant = { λ x. AreRooted x.parts (padded x.roots.items (length x.parts)) };
 }
 
 impl Lists {
@@ -56,12 +58,9 @@ impl Lists {
     pub(crate) fn new(alloc: Global, room: u32) -> Result<Lists, Memory>
         ensures { IfOk result (λ x. x ≡ [] ∷ []) }
     {
-        let parts = Parts::new(alloc, room)?;
-        let mut roots = Vec::with_capacity(alloc, room as usize + 1)?;
-        roots.push(EMPTY)?;
         Ok(Lists {
-            parts,
-            roots,
+            parts: Parts::new(alloc, room)?,
+            roots: Vec::new(alloc),
             added: Vec::new(alloc),
             whole: Vec::new(alloc),
         })
@@ -89,7 +88,7 @@ impl Lists {
         ensures added { IsStrictlySortedBy pair_cmp result.1.now }
         ensures apart { Apart result.0.now result.1.now }
     {
-        (self.parts.of(self.roots[k as usize]), self.parts.of(k))
+        (self.parts.of(root_of(&self.roots, k)), self.parts.of(k))
     }
 
     /// How many pairs the list number `k` has.
@@ -106,7 +105,7 @@ impl Lists {
         requires { k < length self.now }
         ensures { result ≡ fingerprint_of (list_at self.now k) }
     {
-        let root = self.parts.fingerprint(self.roots[k as usize]);
+        let root = self.parts.fingerprint(root_of(&self.roots, k));
         root.wrapping_add(self.parts.fingerprint(k))
     }
 
@@ -120,7 +119,7 @@ impl Lists {
         if j == k {
             return true;
         }
-        if self.roots[j as usize] == self.roots[k as usize] {
+        if root_of(&self.roots, j) == root_of(&self.roots, k) {
             return are_same(self.parts.of(j), self.parts.of(k));
         }
         self.has_all_of(k, j) && self.has_all_of(j, k)
@@ -158,6 +157,23 @@ impl Lists {
         has_either(root, added, pair)
     }
 
+    /// Appends those of the pairs that the list number `k` lacks to `out`.
+    ///
+    /// Fails if there is no memory for them.
+    pub(crate) fn append_new(
+        &self,
+        pairs: &[(u32, u32)],
+        k: u32,
+        out: &mut Vec<(u32, u32)>,
+    ) -> Result<(), Memory>
+        requires { k < length self.now }
+        ensures { OnOk result ((z : ℕ × ℕ) → Contains out.new.items z
+            ↔ (Contains out.old.items z ⊎ (Contains pairs.now z × ¬ Contains (list_at self.now k) z))) }
+    {
+        let (root, added) = self.cut(k);
+        append_missing(pairs, root, added, out)
+    }
+
     /// Appends the pairs of the list number `j` that the list number `k` lacks to `pairs`.
     ///
     /// Fails if there is no memory for them.
@@ -172,8 +188,8 @@ impl Lists {
         ensures { OnOk result ((z : ℕ × ℕ) → Contains pairs.new.items z
             ↔ (Contains pairs.old.items z ⊎ (Contains (list_at self.now j) z × ¬ Contains (list_at self.now k) z))) }
     {
-        let root = self.roots[k as usize];
-        append_unshared(&self.parts, self.roots[j as usize], root, k, pairs)?;
+        let root = root_of(&self.roots, k);
+        append_unshared(&self.parts, root_of(&self.roots, j), root, k, pairs)?;
         append_unshared(&self.parts, j, root, k, pairs)?;
         Ok(())
     }
@@ -230,7 +246,7 @@ impl Lists {
         ensures { self.new ≡ [] ∷ [] }
     {
         self.parts.clear();
-        self.roots.truncate(1);
+        self.roots.clear();
     }
 }
 
@@ -258,9 +274,19 @@ fn append_unshared(
     append_missing(parts.of(part), parts.of(root), parts.of(k), pairs)
 }
 
+/// The number of the root of the list number `k`.
+fn root_of(roots: &[u32], k: u32) -> u32
+    ensures { result ≡ slice_index roots.now k }
+{
+    match roots.get(k as usize) {
+        Some(root) => *root,
+        None => EMPTY,
+    }
+}
+
 /// The numbers of two parts that the list number `k` is made of, the first of which can be a root.
 fn base_of(parts: &Parts, roots: &[u32], k: u32) -> (u32, u32)
-    requires rooted { AreRooted parts.now roots.now }
+    requires rooted { AreRooted parts.now (padded roots.now (length parts.now)) }
     requires list { k < length parts.now }
     ensures base { result.0 < length parts.now }
     ensures known { result.1 < length parts.now }
@@ -269,7 +295,7 @@ fn base_of(parts: &Parts, roots: &[u32], k: u32) -> (u32, u32)
     ensures list { merged (list_at parts.now result.0) (list_at parts.now result.1)
         ≡ merged (list_at parts.now (slice_index roots.now k)) (list_at parts.now k) }
 {
-    let root = roots[k as usize];
+    let root = root_of(roots, k);
     if root == EMPTY {
         return (k, EMPTY);
     }
@@ -285,20 +311,38 @@ fn put(
     root: u32,
     added: &[(u32, u32)],
 ) -> Result<u32, Memory>
-    requires rooted { AreRooted parts.old roots.old.items }
+    requires rooted { AreRooted parts.old (padded roots.old.items (length parts.old)) }
     requires few { length parts.old < MOST_LISTS }
     requires root { root < length parts.old }
     requires whole { slice_index roots.old.items root ≡ EMPTY }
     requires rising { IsStrictlySortedBy pair_cmp added.now }
     requires apart { Apart (list_at parts.old root) added.now }
-    ensures rooted { AreRooted parts.new roots.new.items }
-    ensures put { OnOk result (wholes parts.new roots.new.items
-        ≡ wholes parts.old roots.old.items ++ merged (list_at parts.old root) added.now ∷ []) }
+    ensures rooted { AreRooted parts.new (padded roots.new.items (length parts.new)) }
+    ensures put { OnOk result (wholes parts.new (padded roots.new.items (length parts.new))
+        ≡ wholes parts.old (padded roots.old.items (length parts.old)) ++ merged (list_at parts.old root) added.now ∷ []) }
     ensures number { IfOk result (λ k. k ≡ length parts.old) }
-    ensures err { OnErr result (wholes parts.new roots.new.items ≡ wholes parts.old roots.old.items) }
+    ensures err { OnErr result (wholes parts.new (padded roots.new.items (length parts.new))
+        ≡ wholes parts.old (padded roots.old.items (length parts.old))) }
 {
+    if root == EMPTY {
+        let number = parts.push(added)?;
+        return Ok(number);
+    }
+    pad(roots, parts.len())?;
     roots.reserve(1)?;
     let number = parts.push(added)?;
     roots.push_reserved(root);
     Ok(number)
+}
+
+/// Makes the roots those of so many lists: the new ones have the empty list as theirs.
+///
+/// Fails if there is no memory for them. The roots are then as they were.
+fn pad(roots: &mut Vec<u32>, lists: u32) -> Result<(), Memory>
+    requires { length (padded roots.old.items lists) ≡ lists }
+    ensures padded { OnOk result (roots.new.items ≡ padded roots.old.items lists) }
+    ensures err { OnErr result (roots.new.items ≡ roots.old.items) }
+{
+    roots.resize(lists as usize, EMPTY)?;
+    Ok(())
 }

@@ -311,16 +311,16 @@ fn list_of(
     Ok(list)
 }
 
-/// The number of the longest of the lists of these numbers, of the empty one if there is none.
+/// The number of the longest of the lists of these numbers.
 fn longest(listed: &[u32], lists: &Lists) -> u32
+    requires some { 0 < length listed.now }
     requires listed { All (λ k. k < length lists.now) listed.now }
     ensures within { result < length lists.now }
-    ensures listed { (result ≡ EMPTY) ⊎ Contains listed.now result }
+    ensures listed { Contains listed.now result }
 {
-    lists.known();
-    let mut longest = EMPTY;
+    let mut longest = listed[0];
     for list in listed {
-        if lists.size(longest) < lists.size(*list) {
+        if *list != longest && lists.size(longest) < lists.size(*list) {
             longest = *list;
         }
     }
@@ -343,31 +343,9 @@ fn collect(
     ensures { OnOk result (IsLacking lists.now pairs.now listed.now (list_at lists.now known) out.new.items) }
 {
     out.clear();
-    collect_pairs(pairs, lists, known, out)?;
+    lists.append_new(pairs, known, out)?;
     collect_lists(listed, lists, known, out)?;
     order(out);
-    Ok(())
-}
-
-/// Appends those of the pairs that the list `known` lacks.
-///
-/// Fails if there is no memory for them.
-fn collect_pairs(
-    pairs: &[(u32, u32)],
-    lists: &Lists,
-    known: u32,
-    out: &mut Vec<(u32, u32)>,
-) -> Result<(), Memory>
-    requires { known < length lists.now }
-    ensures { OnOk result ((z : ℕ × ℕ) → Contains out.new.items z
-        ↔ (Contains out.old.items z ⊎ (Contains pairs.now z × ¬ Contains (list_at lists.now known) z))) }
-{
-    for pair in pairs {
-        if lists.has(known, *pair) {
-            continue;
-        }
-        out.push(*pair)?;
-    }
     Ok(())
 }
 
