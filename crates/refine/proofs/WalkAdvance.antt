@@ -11,7 +11,7 @@ use Rattle.refine.specs.Lists.{list_at}
 use Rattle.refine.specs.Signed.{HasPair}
 use Rattle.refine.specs.StrongPairs.{pair_under}
 use Rattle.refine.specs.Walks.{Laws, mark_at, visit_at, state_at, back_at, HasRead, bound_at, BeginsPairs, IsInert, Accounts, Parts, Held, Walks}
-use Rattle.refine.specs.Steps.{IsCollected, Enters, Cuts, Stays, Takes, Finishes, Leaves}
+use Rattle.refine.specs.Steps.{IsCollected, AreParts, entered, Cuts, Stays, Takes, Finishes, Leaves}
 use Rattle.refine.specs.Ahead.{is_unseen, rest, ahead, KeepsSeen, HasNumbers}
 use Rattle.refine.specs.declared.walk.Mark.{Mark}
 use Rattle.refine.specs.declared.walk.Mark.TheVariants.{Unseen, OnPath, Finished}
@@ -38,33 +38,16 @@ pub record Taken (l : Grouped) (blocks : List ℕ) (lists : List (List (ℕ × �
   pub longer : old.at < length new.path
   pub later : old.at ≤ new.at
 
--- the parts after a step
-stays_is : (bs : List Bound) (ps : List (ℕ × ℕ)) (ks : List ℕ) (old new : Parts) → Stays bs ps ks old new → record old { bounds = bs; pairs = ps; listed = ks } ≡ new
-stays_is bs ps ks old new s = λ i. record {
-  marks = sym s.marks i;
-  trail = sym s.trail i;
-  path = sym s.path i;
-  at = sym s.at i;
-  bounds = sym s.bounds i;
-  pairs = sym s.pairs i;
-  listed = sym s.listed i;
-}
-
-pub enters_is : (s start end back : ℕ) (old new : Parts) → Enters s start end back old new → record old {
-  marks = set old.marks s (OnPath (length old.path));
-  trail = old.trail ++ s ∷ [];
-  path = old.path ++ record { state = s; next = start; end = end; back = back } ∷ [];
-  at = length old.path;
-  bounds = old.bounds ++ record { place = length old.path; pairs = length old.pairs; listed = length old.listed } ∷ [];
-} ≡ new
-enters_is s start end back old new e = λ i. record {
-  marks = sym e.marks i;
-  trail = sym e.trail i;
-  path = sym e.path i;
-  at = sym e.at i;
-  bounds = sym e.bounds i;
-  pairs = sym e.pairs i;
-  listed = sym e.listed i;
+-- the parts of a walk
+pub parts_are : (w parts : Parts) → AreParts w parts → parts ≡ w
+parts_are w parts are = λ i. record {
+  marks = sym are.marks i;
+  trail = sym are.trail i;
+  path = sym are.path i;
+  at = sym are.at i;
+  bounds = sym are.bounds i;
+  pairs = sym are.pairs i;
+  listed = sym are.listed i;
 }
 
 -- the state t is seen, and no other is forgotten
@@ -124,7 +107,7 @@ module _ (laws : Laws) (l : Grouped) (lts : IsLts l) (blocks : List ℕ) (lists 
       → Taken l blocks lists old e new
   taken_pair new other stays =
       let z = pair_under blocks e in
-      subst (Taken l blocks lists old e) (stays_is old.bounds (old.pairs ++ z ∷ []) old.listed old new stays)
+      subst (Taken l blocks lists old e) (parts_are new (WithPair laws l blocks lists old walks z) stays)
       (stayed (WithPair laws l blocks lists old walks z) (Walks-pair laws l blocks lists old walks z (λ _. own_pair other))
       (accounts_pair laws l blocks lists old walks z e.0 e refl other))
 
@@ -134,7 +117,7 @@ module _ (laws : Laws) (l : Grouped) (lts : IsLts l) (blocks : List ℕ) (lists 
       let signed = walks.signed e.2 number mark in
       let s = state_at old.path old.at in
       let tie = laws.after (system_of l) (slice_index blocks) s s e.2 (laws.here (system_of l) (slice_index blocks) s) (inert_step inert) in
-      subst (Taken l blocks lists old e) (stays_is old.bounds old.pairs (old.listed ++ number ∷ []) old new stays)
+      subst (Taken l blocks lists old e) (parts_are new (WithList laws l blocks lists old walks number) stays)
       (stayed (WithList laws l blocks lists old walks number)
       (Walks-listed laws l blocks lists old walks number signed.0 (λ _ z c. pair_before laws l blocks s e.2 z tie ((signed.1.exactly z.0 z.1).0 c)))
       (accounts_finished laws l blocks lists old walks number e.0 e inert mark))
@@ -143,7 +126,7 @@ module _ (laws : Laws) (l : Grouped) (lts : IsLts l) (blocks : List ℕ) (lists 
       → Stays new.bounds old.pairs old.listed old new → Taken l blocks lists old e new
   taken_joined new q inert mark cuts stays =
       let was = walks.on_path.only e.2 q mark in
-      subst (Taken l blocks lists old e) (stays_is new.bounds old.pairs old.listed old new stays)
+      subst (Taken l blocks lists old e) (parts_are new (Joined laws l blocks lists old walks q new.bounds cuts) stays)
       (stayed (Joined laws l blocks lists old walks q new.bounds cuts)
       (Walks-join laws l blocks lists old walks q new.bounds cuts was.0
       (subst (Inert (system_of l) (slice_index blocks) (state_at old.path old.at)) (sym was.1) (inert_step inert)))
@@ -153,8 +136,8 @@ module _ (laws : Laws) (l : Grouped) (lts : IsLts l) (blocks : List ℕ) (lists 
     within : e.2 < length old.marks
     within = omega (arith, inside, numbers.size)
 
-    entered : IsInert l blocks e.0 e → Taken l blocks lists old e (Entered laws l blocks lists old walks e.2 start end within unseen_mark)
-    entered inert =
+    state_entered : IsInert l blocks e.0 e → Taken l blocks lists old e (Entered laws l blocks lists old walks e.2 start end within unseen_mark)
+    state_entered inert =
         let v : Visit = record { state = e.2; next = start; end = end; back = old.at } in
         let size = length_push old.path v in
         let fewer = unseen-entered old.marks e.2 (length old.path) within unseen_mark in
@@ -177,15 +160,17 @@ module _ (laws : Laws) (l : Grouped) (lts : IsLts l) (blocks : List ℕ) (lists 
           later = omega (arith, here);
         }
 
-    taken_entered : (new : Parts) → IsInert l blocks e.0 e → Enters e.2 start end old.at old new → Taken l blocks lists old e new
-    taken_entered new inert enters = subst (Taken l blocks lists old e) (enters_is e.2 start end old.at old new enters) (entered inert)
+    taken_entered : (new : Parts) → IsInert l blocks e.0 e → AreParts new (entered (record { state = e.2; next = start; end = end; back = old.at }) old)
+        → Taken l blocks lists old e new
+    taken_entered new inert parts =
+        subst (Taken l blocks lists old e) (parts_are new (Entered laws l blocks lists old walks e.2 start end within unseen_mark) parts) (state_entered inert)
 
   -- whichever it is
   pub taken : (new : Parts) → e.2 < l.states → Takes l blocks (slice_index blocks e.0) e.1 e.2 old new → Taken l blocks lists old e new
   taken new inside (inr other) = taken_pair new other.0 other.1
-  taken new inside (inl (inert, start, end, row, inl entered)) = taken_entered start end inside row entered.0 new inert entered.1
-  taken new inside (inl (inert, start, end, row, inr (inl joined))) = taken_joined new joined.0 inert joined.1 joined.2 joined.3
-  taken new inside (inl (inert, start, end, row, inr (inr finished))) = taken_finished new finished.0 inert finished.1 finished.2
+  taken new inside (inl (inert, inl (mark, enters))) = taken_entered enters.0 enters.1 inside enters.2 mark new inert enters.3
+  taken new inside (inl (inert, inr (inl joined))) = taken_joined new joined.0 inert joined.1 joined.2 joined.3
+  taken new inside (inl (inert, inr (inr finished))) = taken_finished new finished.0 inert finished.1 finished.2
 
 unseen_is : (m : Mark) → is_unseen m ≡ true → m ≡ Unseen
 unseen_is Unseen e = refl
@@ -212,15 +197,17 @@ module _ (laws : Laws) (l : Grouped) (lts : IsLts l) (blocks : List ℕ) (lists 
 
     left_is : (back : ℕ) → back ≡ back_at old.path old.at
         → Left laws l lts blocks lists lists' old new.marks leaves.number walks bounds_some last_place read leaves.within leaves.grow collected finishes ≡ record new { at = back }
-    left_is back e = λ i. record {
-      marks = new.marks;
-      trail = sym leaves.trail i;
-      path = sym (leaves.path ∙ ap (λ f. take f old.path) place) i;
-      at = sym e i;
-      bounds = sym leaves.bounds i;
-      pairs = sym (leaves.pairs ∙ ap (λ x. take x.pairs old.pairs) is) i;
-      listed = sym (leaves.listed ∙ ap (λ x. take x.listed old.listed ++ leaves.number ∷ []) is) i;
-    }
+    left_is back e =
+        parts_are (record new { at = back })
+        (Left laws l lts blocks lists lists' old new.marks leaves.number walks bounds_some last_place read leaves.within leaves.grow collected finishes) (record {
+          marks = refl;
+          trail = leaves.trail;
+          path = leaves.path ∙ ap (λ f. take f old.path) place;
+          at = e;
+          bounds = leaves.bounds;
+          pairs = leaves.pairs ∙ ap (λ x. take x.pairs old.pairs) is;
+          listed = leaves.listed ∙ ap (λ x. take x.listed old.listed ++ leaves.number ∷ []) is;
+        })
 
     pub left_walks : (back : ℕ) → back ≡ back_at old.path old.at → Walks l blocks lists' (record new { at = back })
     left_walks back e =

@@ -1,14 +1,14 @@
 -- How a walk begins, and how it ends.
-use Rattle.std.proofs.Common.{◌≡◌, ◌≢◌, ℕ, ◌+◌, ◌-◌, ◌<◌, ◌≤◌, List, [], ◌∷◌, ◌++◌, length, set, slice_index, refl, sym, ◌∙◌, ap, subst, inl, arith}
+use Rattle.std.proofs.Common.{◌≡◌, ◌≢◌, ℕ, ◌+◌, ◌-◌, ◌<◌, ◌≤◌, List, [], ◌∷◌, ◌++◌, length, slice_index, refl, sym, ◌∙◌, ap, subst, inl, arith}
 use Rattle.std.specs.List.{All}
 use Rattle.std.proofs.lemmas.List.{length-set, get_or_default}
 use Rattle.std.proofs.lemmas.List.Sums.{count_by-le-length}
 use Rattle.theory.specs.Bisimulation.Relation.{branching}
-use Rattle.lts.specs.Lts.{Grouped, IsLts, IsRow}
+use Rattle.lts.specs.Lts.{Grouped, IsLts}
 use Rattle.refine.specs.Lists.{list_of, AreNumbers}
 use Rattle.refine.specs.Signed.{IsSignature}
 use Rattle.refine.specs.Walks.{Laws, mark_at, Parts, Walks, Rests}
-use Rattle.refine.specs.Steps.{Enters}
+use Rattle.refine.specs.Steps.{AreParts, entered, Enters}
 use Rattle.refine.specs.Ahead.{is_unseen, unseen, unread, rest, ahead, IsTrail, KeepsSeen, HasNumbers, AreIdle}
 use Rattle.refine.specs.declared.walk.Mark.{Mark}
 use Rattle.refine.specs.declared.walk.Mark.TheVariants.{Unseen, OnPath, Finished}
@@ -18,7 +18,7 @@ use Rattle.refine.proofs.WalkLists.{mark_set}
 use Rattle.refine.proofs.WalkAhead.{unseen-entered, unread-entered, unread-all, unread-none, rest-push}
 use Rattle.refine.proofs.WalkSteps.{Walks-enter}
 use Rattle.refine.proofs.WalkLeave.{Walks-none}
-use Rattle.refine.proofs.WalkAdvance.{enters_is, seen_more}
+use Rattle.refine.proofs.WalkAdvance.{parts_are, seen_more}
 
 -- what a walk knows that has just begun, where all that it reads is still ahead
 pub record Begins (l : Grouped) (blocks : List ℕ) (lists : List (List (ℕ × ℕ))) (marks : List Mark) (s : ℕ) (new : Parts) : Type 0 where
@@ -29,36 +29,29 @@ pub record Begins (l : Grouped) (blocks : List ℕ) (lists : List (List (ℕ × 
   pub found : mark_at new.marks s ≢ Unseen
 
 -- the first state of a walk was entered
-module _ (laws : Laws) (l : Grouped) (blocks : List ℕ) (lists : List (List (ℕ × ℕ))) (marks : List Mark) (trail : List ℕ) (at : ℕ) (old new : Parts) (s start end : ℕ)
+module _ (laws : Laws) (l : Grouped) (blocks : List ℕ) (lists : List (List (ℕ × ℕ))) (marks : List Mark) (trail : List ℕ) (at : ℕ) (old new : Parts) (s : ℕ)
     (rests : Rests l blocks lists marks) (numbers : HasNumbers l.states (length lists) 0 marks)
-    (inside : s < l.states) (none : mark_at marks s ≡ Unseen) (row : IsRow l.places s start end) (enters : Enters s start end 0 old new)
-    (empty : old ≡ record { marks = marks; trail = trail; path = []; at = at; bounds = []; pairs = []; listed = [] }) where
+    (inside : s < l.states) (none : mark_at marks s ≡ Unseen) (enters : Enters l.places s 0 old new)
+    (empty : AreParts old (record { marks = marks; trail = trail; path = []; at = at; bounds = []; pairs = []; listed = [] })) where
+  abbrev Empty : Parts
+  Empty = record { marks = marks; trail = trail; path = []; at = at; bounds = []; pairs = []; listed = [] }
+
   abbrev First : Visit
-  First = record { state = s; next = start; end = end; back = 0 }
+  First = record { state = s; next = enters.0; end = enters.1; back = 0 }
 
   abbrev Begun : Parts
-  Begun = record {
-    marks = set marks s (OnPath 0);
-    trail = trail ++ s ∷ [];
-    path = First ∷ [];
-    at = 0;
-    bounds = record { place = 0; pairs = 0; listed = 0 } ∷ [];
-    pairs = [];
-    listed = [];
-  }
+  Begun = entered First Empty
 
   within : s < length marks
   within = omega (arith, inside, numbers.size)
 
   begun : Begun ≡ new
-  begun =
-      enters_is s start end 0 (record { marks = marks; trail = trail; path = []; at = at; bounds = []; pairs = []; listed = [] }) new
-      (subst (λ w. Enters s start end 0 w new) empty enters)
+  begun = parts_are new Begun (subst (λ w. AreParts new (entered First w)) (sym (parts_are old Empty empty)) enters.3)
 
   started_walks : Walks l blocks lists new
   started_walks =
       subst (Walks l blocks lists) begun
-      (Walks-enter laws l blocks lists _ (Walks-none l blocks lists marks trail 0 rests) s start end within none inside row
+      (Walks-enter laws l blocks lists _ (Walks-none l blocks lists marks trail 0 rests) s enters.0 enters.1 within none inside enters.2
       (λ h. absurd (omega (arith, h))) (λ e. (refl, refl)))
 
   started_numbers : HasNumbers l.states (length lists) (length new.path) new.marks
@@ -74,8 +67,8 @@ module _ (laws : Laws) (l : Grouped) (blocks : List ℕ) (lists : List (List (�
   started_ahead : ahead l.places new.marks new.path ≡ unread l.places marks
   started_ahead =
       let fewer = unread-entered l.places marks s 0 within none in
-      let first : rest ([] ++ First ∷ []) ≡ 0 + (end - start) = rest-push [] First in
-      let count = row.count in
+      let first : rest ([] ++ First ∷ []) ≡ 0 + (enters.1 - enters.0) = rest-push [] First in
+      let count = enters.2.count in
       let all : ahead l.places Begun.marks Begun.path ≡ unread l.places marks = omega (arith, fewer, first, count) in
       subst (λ w. ahead l.places w.marks w.path ≡ unread l.places marks) begun all
 

@@ -5,7 +5,7 @@ use Rattle.std.proofs.lemmas.List.{get_or_append_left, get_or_push, length_push,
 use Rattle.theory.specs.Blocks.{Inert}
 use Rattle.lts.specs.Lts.{Grouped, Triple, target_of, place_at, system_of, IsRow}
 use Rattle.refine.specs.Walks.{Laws, mark_at, visit_at, state_at, next_at, end_at, back_at, HasRead, bound_at, Begins, BeginsPairs, BeginsListed, GivesPair, GivesListed, IsInert, AreOnPath, AreBounds, Connects, IsSound, AreRows, Accounts, AccountsAll, Parts, Held, Walks}
-use Rattle.refine.specs.Steps.{Cuts}
+use Rattle.refine.specs.Steps.{entered, Cuts}
 use Rattle.refine.specs.declared.walk.Mark.TheVariants.{Unseen, OnPath}
 use Rattle.refine.specs.declared.walk.Visit.{Visit}
 use Rattle.refine.specs.declared.walk.Bound.{Bound}
@@ -99,13 +99,7 @@ module _ (laws : Laws) (l : Grouped) (blocks : List ℕ) (lists : List (List (�
     NewBound = record { place = length w.path; pairs = length w.pairs; listed = length w.listed }
 
     abbrev pub Entered : Parts
-    Entered = record w {
-      marks = set w.marks t (OnPath (length w.path));
-      trail = w.trail ++ t ∷ [];
-      path = w.path ++ New ∷ [];
-      at = length w.path;
-      bounds = w.bounds ++ NewBound ∷ [];
-    }
+    Entered = entered New w
 
     path_size : length w.path + 1 ≡ length Entered.path
     path_size = sym (length_push w.path New)

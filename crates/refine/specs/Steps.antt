@@ -2,7 +2,7 @@
 use Rattle.std.specs.Prelude.{◌≡◌, ◌⊎◌, ◌↔◌, ℕ, ◌+◌, ◌-◌, ◌<◌, ◌≤◌, List, [], ◌∷◌, ◌++◌, length, take, drop, slice_index, slice_set, Option, MatchOption}
 use Rattle.std.specs.List.{Contains}
 use Rattle.std.specs.List.Sorted.{IsStrictlySortedBy}
-use Rattle.lts.specs.Lts.{Grouped, IsRow}
+use Rattle.lts.specs.Lts.{Grouped, Triple, IsRow}
 use Rattle.theory.specs.System.{internal}
 use Rattle.lts.specs.Labels.{IsNumber}
 use Rattle.refine.specs.Lists.{list_at, Grow}
@@ -30,15 +30,30 @@ ahead_of l w = ahead l.places w.marks.items w.path.items
 abbrev pub steps_of : Grouped → Walk → ℕ
 steps_of l w = steps_ahead l.states (ahead_of l w) w.path.items w.at
 
--- the state s goes to the end of the path, as a component of its own, and the walk is there
-pub record Enters (s start end back : ℕ) (old new : Parts) : Type 0 where
-  pub marks : new.marks ≡ slice_set old.marks s (OnPath (length old.path))
-  pub trail : new.trail ≡ old.trail ++ s ∷ []
-  pub path : new.path ≡ old.path ++ record { state = s; next = start; end = end; back = back } ∷ []
-  pub at : new.at ≡ length old.path
-  pub bounds : new.bounds ≡ old.bounds ++ record { place = length old.path; pairs = length old.pairs; listed = length old.listed } ∷ []
-  pub pairs : new.pairs ≡ old.pairs
-  pub listed : new.listed ≡ old.listed
+-- a walk has these parts
+pub record AreParts (w parts : Parts) : Type 0 where
+  pub marks : w.marks ≡ parts.marks
+  pub trail : w.trail ≡ parts.trail
+  pub path : w.path ≡ parts.path
+  pub at : w.at ≡ parts.at
+  pub bounds : w.bounds ≡ parts.bounds
+  pub pairs : w.pairs ≡ parts.pairs
+  pub listed : w.listed ≡ parts.listed
+
+-- the visit goes to the end of the path, as a component of its own, and the walk is there
+abbrev pub entered : Visit → Parts → Parts
+entered v w = record w {
+  marks = slice_set w.marks v.state (OnPath (length w.path));
+  trail = w.trail ++ v.state ∷ [];
+  path = w.path ++ v ∷ [];
+  at = length w.path;
+  bounds = w.bounds ++ record { place = length w.path; pairs = length w.pairs; listed = length w.listed } ∷ [];
+}
+
+-- the state s is entered from the place back, with its whole row still to be read
+abbrev pub Enters : List Triple → ℕ → ℕ → Parts → Parts → Type 0
+Enters places s back old new =
+    (start end : ℕ) × IsRow places s start end × AreParts new (entered (record { state = s; next = start; end = end; back = back }) old)
 
 -- of the bounds those stay that begin up to the place q
 pub record Cuts (q : ℕ) (old new : List Bound) : Type 0 where
@@ -49,19 +64,13 @@ pub record Cuts (q : ℕ) (old new : List Bound) : Type 0 where
   pub below : 0 < kept → (bound_at old (kept - 1)).place ≤ q
 
 -- the same but for the bounds and what is collected
-pub record Stays (bs : List Bound) (ps : List (ℕ × ℕ)) (ks : List ℕ) (old new : Parts) : Type 0 where
-  pub marks : new.marks ≡ old.marks
-  pub trail : new.trail ≡ old.trail
-  pub path : new.path ≡ old.path
-  pub at : new.at ≡ old.at
-  pub bounds : new.bounds ≡ bs
-  pub pairs : new.pairs ≡ ps
-  pub listed : new.listed ≡ ks
+abbrev pub Stays : List Bound → List (ℕ × ℕ) → List ℕ → Parts → Parts → Type 0
+Stays bs ps ks old new = AreParts new (record old { bounds = bs; pairs = ps; listed = ks })
 
 -- an inert step to the state t is followed
-abbrev pub Follows : ℕ → ℕ → ℕ → Parts → Parts → Type 0
-Follows t start end old new =
-    ((mark_at old.marks t ≡ Unseen) × Enters t start end old.at old new)
+abbrev pub Follows : List Triple → ℕ → Parts → Parts → Type 0
+Follows places t old new =
+    ((mark_at old.marks t ≡ Unseen) × Enters places t old.at old new)
     ⊎ ((q : ℕ) × (mark_at old.marks t ≡ OnPath q) × Cuts q old.bounds new.bounds × Stays new.bounds old.pairs old.listed old new)
     ⊎ ((k : ℕ) × (mark_at old.marks t ≡ Finished k) × Stays old.bounds old.pairs (old.listed ++ k ∷ []) old new)
 
@@ -97,7 +106,7 @@ IsInternal l number = MatchOption number (¬ Contains l.labels internal) (λ k. 
 abbrev pub Takes : Grouped → List ℕ → ℕ → ℕ → ℕ → Parts → Parts → Type 0
 Takes l blocks block label target old new =
     let other = slice_index blocks target in
-    (IsInertWithin l block label other × (start end : ℕ) × IsRow l.places target start end × Follows target start end old new)
+    (IsInertWithin l block label other × Follows l.places target old new)
     ⊎ (¬ IsInertWithin l block label other × Stays old.bounds (old.pairs ++ (label, other) ∷ []) old.listed old new)
 
 -- the component that begins at the bound is finished: one of the lists is its list, an old one or a new one

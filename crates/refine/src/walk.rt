@@ -12,7 +12,7 @@ ghost use Rattle.refine.specs.declared.walk.Mark.TheVariants.{Unseen, OnPath, Fi
 
 use crate::lists::{EMPTY, Lists};
 use crate::ordered::order;
-use lts::Memory;
+use lts::{Lts, Memory, Meter};
 use std::alloc::Global;
 
 /// What the walk knows of a state.
@@ -134,18 +134,20 @@ impl Walk {
         self.trail.clear();
     }
 
-    /// Puts the state `s`, whose row is from `start` to `end`, at the end of the path, as a component of its own, and goes
-    /// there.
+    /// Puts the state `s` at the end of the path, as a component of its own, and goes there.
     ///
     /// Fails if there is no memory for it.
-    pub fn enter(&mut self, s: u32, start: u32, end: u32, back: u32) -> Result<(), Memory>
-        requires state { s < length self.old.marks.items }
+    #[inline(always)]
+    pub fn enter<M: Meter>(&mut self, l: &Lts<M>, s: u32, back: u32) -> Result<(), Memory>
+        requires state { s < l.now.states }
+        requires marks { length self.old.marks.items ≡ l.now.states }
         requires places { length self.old.path.items ≤ MOST_STATES }
         requires trail { IsTrail self.old.marks.items self.old.trail.items }
-        ensures enters { OnOk result (Enters s start end back (parts_of self.old) (parts_of self.new)) }
+        ensures enters { OnOk result (Enters l.now.places s back (parts_of self.old) (parts_of self.new)) }
         ensures size { length self.new.marks.items ≡ length self.old.marks.items }
         ensures trail { IsTrail self.new.marks.items self.new.trail.items }
     {
+        let (start, end) = l.row(s);
         let place = self.path.len() as u32;
         self.trail.push(s)?;
         self.bounds.push(Bound {
@@ -164,21 +166,22 @@ impl Walk {
         Ok(())
     }
 
-    /// Follows an inert step to the state `t`, whose row is from `start` to `end`. Returns whether it enters `t`.
+    /// Follows an inert step to the state `t`. Returns whether it enters `t`: only then is its row looked up.
     ///
     /// Fails if there is no memory for it.
-    pub fn follow(&mut self, t: u32, start: u32, end: u32) -> Result<bool, Memory>
-        requires state { t < length self.old.marks.items }
+    pub fn follow<M: Meter>(&mut self, l: &Lts<M>, t: u32) -> Result<bool, Memory>
+        requires state { t < l.now.states }
+        requires marks { length self.old.marks.items ≡ l.now.states }
         requires places { length self.old.path.items ≤ MOST_STATES }
         requires trail { IsTrail self.old.marks.items self.old.trail.items }
-        ensures follows { OnOk result (Follows t start end (parts_of self.old) (parts_of self.new)) }
+        ensures follows { OnOk result (Follows l.now.places t (parts_of self.old) (parts_of self.new)) }
         ensures here { IfOk result (λ entered. ¬ IsTrue entered → self.new.at ≡ self.old.at) }
         ensures size { length self.new.marks.items ≡ length self.old.marks.items }
         ensures trail { IsTrail self.new.marks.items self.new.trail.items }
     {
         match self.marks[t as usize] {
             Mark::Unseen => {
-                self.enter(t, start, end, self.at)?;
+                self.enter(l, t, self.at)?;
                 return Ok(true);
             }
             Mark::OnPath(place) => {

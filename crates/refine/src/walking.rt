@@ -54,52 +54,13 @@ impl Walk {
         self.bounds.clear();
         self.pairs.clear();
         self.listed.clear();
-        let (start, end) = l.row(s);
-        self.enter(s, start, end, 0)?;
+        self.enter(l, s, 0)?;
         while !self.path.is_empty() {
-            self.advance(l, p, internal, lists, m)?;
+            if self.read(l, p, internal, lists, m)? {
+                continue;
+            }
+            self.go_back(l, p, lists)?;
         }
-        Ok(())
-    }
-
-    /// Reads the row of the state where the walk is up to its end, and goes back; or up to an inert step to a state that
-    /// was not seen, and goes there.
-    ///
-    /// Fails if there is no memory for it.
-    fn advance<M: Meter>(
-        &mut self,
-        l: &Lts<M>,
-        p: &Partition,
-        internal: Option<u32>,
-        lists: &mut Lists,
-        m: &mut M,
-    ) -> Result<(), Memory>
-        requires blocks { length p.now ≡ l.now.states }
-        requires internal { IsInternal l.now internal }
-        requires some { 0 < length self.old.path.items }
-        requires walks { Stands l.now p.now lists.old self.old }
-        requires numbers { HasNumbersLeft l.now lists.old self.old }
-        requires trail { IsTrail self.old.marks.items self.old.trail.items }
-        requires room { HasRoomFor (M.counted m.old) 0 (ahead_of l.now self.old) }
-
-        // Once it is done
-        ensures walks { OnOk result (Stands l.now p.now lists.new self.new) }
-        ensures numbers { OnOk result (HasNumbersLeft l.now lists.new self.new) }
-        ensures seen { OnOk result (KeepsSeen self.old.marks.items self.new.marks.items) }
-        ensures visits { OnOk result (
-            (M.counted m.new).visits + ahead_of l.now self.new ≡ (M.counted m.old).visits + ahead_of l.now self.old) }
-        ensures fewer { OnOk result (steps_of l.now self.new < steps_of l.now self.old) }
-
-        // In either case
-        ensures cost { Costs (M.counted m.old) (M.counted m.new) 0 0 (ahead_of l.now self.old) }
-        ensures size { length self.new.marks.items ≡ length self.old.marks.items }
-        ensures trail { IsTrail self.new.marks.items self.new.trail.items }
-        ensures lists { length lists.old ≤ length lists.new }
-    {
-        if self.read(l, p, internal, lists, m)? {
-            return Ok(());
-        }
-        self.go_back(l, p, lists)?;
         Ok(())
     }
 
@@ -147,16 +108,18 @@ impl Walk {
         for next in visit.next..visit.end {
             let (label, target) = l.edge(next, m);
             let entered = self.take(l, p, internal, block, label, target)?;
-            self.path[at as usize] = Visit {
-                state: visit.state,
-                next: next + 1,
-                end: visit.end,
-                back: visit.back,
-            };
             if entered {
+                self.path[at as usize] = Visit {
+                    next: next + 1,
+                    ..visit
+                };
                 return Ok(true);
             }
         }
+        self.path[at as usize] = Visit {
+            next: visit.end,
+            ..visit
+        };
         Ok(false)
     }
 
@@ -187,8 +150,7 @@ impl Walk {
     {
         let other = p.block(target);
         if is_inert(l, internal, block, label, other) {
-            let (start, end) = l.row(target);
-            let entered = self.follow(target, start, end)?;
+            let entered = self.follow(l, target)?;
             return Ok(entered);
         }
         self.pairs.push((label, other))?;

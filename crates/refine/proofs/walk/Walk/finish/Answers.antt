@@ -1,6 +1,7 @@
-use Rattle.std.proofs.Common.{◌≡◌, [], length, arith, rules}
+use Rattle.std.proofs.Common.{◌≡◌, [], length, refl, arith, rules}
 use Rattle.std.proofs.lemmas.Bool.Decides.{nat_tests}
 use Rattle.refine.specs.Walks.{Parts, parts_of}
+use Rattle.refine.specs.Steps.{AreParts}
 use Rattle.refine.specs.declared.walk.Walk.{Walk}
 use Rattle.refine.proofs.WalkLeave.{Rests-end}
 use Rattle.refine.proofs.WalkStart.{Begins, started}
@@ -16,22 +17,21 @@ module _ (g : Over) (c : In_ok-enter g) where
   abbrev cleared : Parts
   cleared = parts_of (record w { path = c.clear.new.self; bounds = c.clear-2.new.self; pairs = c.clear-3.new.self; listed = c.clear-4.new.self })
 
-  empty : cleared ≡ record { marks = w.marks.items; trail = w.trail.items; path = []; at = w.at; bounds = []; pairs = []; listed = [] }
-  empty = λ i. record {
-    marks = w.marks.items;
-    trail = w.trail.items;
-    path = c.clear.ensures.items i;
-    at = w.at;
-    bounds = c.clear-2.ensures.items i;
-    pairs = c.clear-3.ensures.items i;
-    listed = c.clear-4.ensures.items i;
+  empty : AreParts cleared (record { marks = w.marks.items; trail = w.trail.items; path = []; at = w.at; bounds = []; pairs = []; listed = [] })
+  empty = record {
+    marks = refl;
+    trail = refl;
+    path = c.clear.ensures.items;
+    at = refl;
+    bounds = c.clear-2.ensures.items;
+    pairs = c.clear-3.ensures.items;
+    listed = c.clear-4.ensures.items;
   }
 
   begins : Begins c.args.l.now c.args.p.now c.args.lists.now w.marks.items c.args.s (parts_of c.enter.new.self)
   begins =
       started c.laws.ensures c.args.l.now c.args.p.now c.args.lists.now w.marks.items w.trail.items w.at cleared (parts_of c.enter.new.self) c.args.s
-      c.row-start.result.0 c.row-start.result.1 c.requires.rests c.requires.numbers c.requires.state c.requires.unseen c.row-start.ensures
-      c.in_ok-enter.ensures.enters empty
+      c.requires.rests c.requires.numbers c.requires.state c.requires.unseen c.in_ok-enter.ensures.enters empty
 
 pub loop-internal-init : goal.loop-internal-init
 loop-internal-init g c =
