@@ -1,5 +1,6 @@
 -- The lists of the states by their numbers: one list more, for one state.
-use Rattle.std.proofs.Common.{◌≡◌, ◌≢◌, ◌∙◌, ℕ, zero, suc, ◌<◌, List, [], ◌∷◌, ◌++◌, length, get_or, set, ap, refl, arith}
+use Rattle.std.proofs.Common.{◌≡◌, ◌≢◌, ◌∙◌, ℕ, zero, suc, ◌+◌, ◌<◌, List, [], ◌∷◌, ◌++◌, length, get_or, set, ap, sym, subst, refl, inl, inr, arith}
+use Rattle.std.proofs.lemmas.Bool.{cases_eq}
 use Rattle.std.proofs.lemmas.List.{length_push, get_or-map, get_or_append_left, get_or_push, get_or-set_same, get_or-set_other}
 use Rattle.std.proofs.lemmas.List.Elements.{All-set, All-weaker}
 use Rattle.refine.specs.Lists.{list_at, AreNumbers, list_of, each_list}
@@ -37,3 +38,11 @@ module _ (lists : List (List (ℕ × ℕ))) (numbers : List ℕ) (s : ℕ) (list
   list_of-others t other h =
       ap (list_at (lists ++ list ∷ [])) (get_or-set_other numbers s t (length lists) 0 other)
       ∙ get_or_append_left lists (list ∷ []) [] (get_or numbers t 0) (are t 0 h)
+
+  -- and what holds of the lists of the states before s holds of one more
+  pub each_push : (P : ℕ → List (ℕ × ℕ) → Type 0) → s < length numbers → ((t : ℕ) → t < s → P t (list_of lists numbers t)) → P s list
+      → (t : ℕ) → t < s + 1 → P t (list_of (lists ++ list ∷ []) (set numbers s (length lists)) t)
+  each_push P inside before this t low = elim (cases_eq t s) [
+    | inl e ↦ subst (λ x. P x (list_of (lists ++ list ∷ []) (set numbers s (length lists)) x)) (sym e) (subst (P s) (sym (list_of-new inside)) this)
+    | inr d ↦ subst (P t) (sym (list_of-others t d (omega arith))) (before t (omega (arith, low, d)))
+  ]

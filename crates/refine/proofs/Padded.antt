@@ -1,5 +1,5 @@
 -- Roots that are padded to the number of the lists.
-use Rattle.std.proofs.Common.{◌≡◌, ◌∙◌, ℕ, ◌+◌, ◌-◌, ◌<◌, ◌≤◌, List, [], ◌∷◌, ◌++◌, length, take, get_or, slice_index, replicate, ap, sym, refl, inl, inr, arith}
+use Rattle.std.proofs.Common.{◌≡◌, ◌∙◌, ℕ, ◌+◌, ◌-◌, ◌<◌, List, [], ◌∷◌, ◌++◌, length, take, get_or, slice_index, replicate, ap, sym, refl, inl, inr, arith}
 use Rattle.std.proofs.lemmas.Bool.{cases_lt}
 use Rattle.std.proofs.lemmas.List.{length-append, length-replicate, length_push, get_or_append_left, get_or-append_right, get_or-replicate, get_or_past, get_or_default, replicate_more, append-nil, append_assoc, take_all}
 use Rattle.refine.specs.Roots.{padded}
@@ -49,3 +49,13 @@ module _ (roots : List ℕ) (n : ℕ) where
 -- and a list more, which has this root
 pub padded_last : (roots : List ℕ) (n root : ℕ) → length roots ≡ n → padded (roots ++ root ∷ []) (n + 1) ≡ roots ++ root ∷ []
 padded_last roots n root size = padded_full (roots ++ root ∷ []) (n + 1) (let more = length_push roots root in omega arith)
+
+-- a list is pushed
+module _ (parts : List (List (ℕ × ℕ))) (added : List (ℕ × ℕ)) (roots : List ℕ) (root : ℕ) (size : length (padded roots (length parts)) ≡ length parts) where
+  -- without a root
+  pub pushed_whole : root ≡ 0 → padded roots (length (parts ++ added ∷ [])) ≡ padded roots (length parts) ++ root ∷ []
+  pushed_whole none = ap (padded roots) (length_push parts added) ∙ padded_flat roots (length parts) size root none
+
+  -- and with one
+  pub pushed_rooted : (roots' : List ℕ) → roots' ≡ padded roots (length parts) ++ root ∷ [] → padded roots' (length (parts ++ added ∷ [])) ≡ padded roots (length parts) ++ root ∷ []
+  pushed_rooted roots' is = (λ i. padded (is i) (length_push parts added i)) ∙ padded_last (padded roots (length parts)) (length parts) root size

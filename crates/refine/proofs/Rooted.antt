@@ -1,14 +1,14 @@
 -- Lists that are kept as what they add to a root: what each is, and one list more.
-use Rattle.std.proofs.Common.{◌≡◌, ◌∙◌, ◌↔◌, ◌⊎◌, ℕ, ◌<◌, ◌≤◌, List, [], ◌∷◌, ◌++◌, length, take, get_or, slice_index, Contains, ap, sym, subst, refl, inl, inr, arith}
+use Rattle.std.proofs.Common.{◌≡◌, ◌∙◌, ◌↔◌, ◌⊎◌, ℕ, ◌<◌, List, [], ◌∷◌, ◌++◌, length, get_or, slice_index, Contains, ap, sym, subst, refl, inl, inr, arith}
 use Rattle.std.specs.List.{zip}
 use Rattle.std.specs.List.Sorted.{IsStrictlySortedBy}
 use Rattle.std.proofs.lemmas.Bool.{cases_lt}
-use Rattle.std.proofs.lemmas.List.{length-map, length_push, get_or-map, get_or_append_left, get_or_push, get_or_default, same_lists}
+use Rattle.std.proofs.lemmas.List.{length-map, length_push, get_or-map, get_or_append_left, get_or_push, same_lists}
 use Rattle.std.proofs.lemmas.List.Elements.{All-append, All-weaker}
 use Rattle.std.proofs.lemmas.Slice.Zip.{length-zip, get_or-zip}
 use Rattle.refine.specs.declared.lists.TheConstants.{MOST_LISTS}
 use Rattle.refine.specs.Signed.{pair_cmp}
-use Rattle.refine.specs.Lists.{list_at, merged, Apart, AreLists}
+use Rattle.refine.specs.Lists.{list_at, merged, Apart, AreLists, AreNumbers}
 use Rattle.refine.specs.Roots.{padded, whole, wholes, AreRooted}
 use Rattle.refine.proofs.Padded.{padded_at}
 use Rattle.refine.proofs.Rising.{rising_none, rising_unique, pair_total}
@@ -86,6 +86,11 @@ module _ (parts : List (List (ℕ × ℕ))) (roots : List ℕ) (are : AreRooted 
       ap (λ xs. list_at xs k) (sym view) ∙ whole_at parts (padded roots (length parts)) are.size k [] (omega arith)
       ∙ ap (λ r. merged (list_at parts r) (list_at parts k)) (read k root is)
 
+  -- the list number k is kept whole
+  pub list_whole : (k : ℕ) → k < length lists → slice_index roots k ≡ 0 → list_at lists k ≡ list_at parts k
+  list_whole k low none =
+      list_is k (slice_index roots k) low refl ∙ ap (λ r. merged (list_at parts r) (list_at parts k)) none ∙ ap (λ l. merged l (list_at parts k)) are.lists.first
+
   pub rise_of : (k : ℕ) → k < length lists → IsStrictlySortedBy pair_cmp (list_at lists k)
   rise_of k low = (subst AreLists view (AreLists-wholes parts (padded roots (length parts)) are)).rise k [] low
 
@@ -142,41 +147,59 @@ module _ (parts : List (List (ℕ × ℕ))) (roots : List ℕ) (are : AreRooted 
             ∙ sym (get_or_push (wholes parts roots) _ d k (omega arith))
       ])
 
-  pub AreRooted-push : length parts < MOST_LISTS → slice_index roots root ≡ 0 → IsStrictlySortedBy pair_cmp added → Apart (list_at parts root) added
-      → AreRooted (parts ++ added ∷ []) (roots ++ root ∷ [])
-  AreRooted-push few flat rising apart =
-      let size = are.size in
+  lists-push : length parts < MOST_LISTS → IsStrictlySortedBy pair_cmp added → AreLists (parts ++ added ∷ [])
+  lists-push few rising =
       let more = length_push parts added in
-      let longer = length_push roots root in
       let some = are.lists.some in
       record {
-        lists = record {
-          rise = All-append (IsStrictlySortedBy pair_cmp) parts (added ∷ []) are.lists.rise (All-only (IsStrictlySortedBy pair_cmp) added rising);
-          some = omega arith;
-          few = omega arith;
-          first = old_part 0 some ∙ are.lists.first;
-        };
-        size = sizes;
-        below =
-            All-append (λ r. r < length (parts ++ added ∷ [])) roots (root ∷ [])
-            (All-weaker (λ r. r < length parts) (λ r. r < length (parts ++ added ∷ [])) (λ r h. omega arith) roots are.below)
-            (All-only (λ r. r < length (parts ++ added ∷ [])) root (omega arith));
-        first = old_root 0 some ∙ are.first;
-        flat = λ k h. elim (cases_lt k (length parts)) [
-          | inl o ↦ ap (slice_index (roots ++ root ∷ [])) (old_root k o) ∙ old_root (slice_index roots k) (root_below parts roots are k o) ∙ are.flat k (omega arith)
-          | inr n ↦ ap (slice_index (roots ++ root ∷ [])) (new_root k (omega arith)) ∙ old_root root low ∙ flat
-        ];
-        apart = λ k h. elim (cases_lt k (length parts)) [
-          | inl o ↦
-              subst (λ l. Apart l (list_at (parts ++ added ∷ []) k))
-              (sym (ap (list_at (parts ++ added ∷ [])) (old_root k o) ∙ old_part (slice_index roots k) (root_below parts roots are k o)))
-              (subst (Apart (list_at parts (slice_index roots k))) (sym (old_part k o)) (are.apart k (omega arith)))
-          | inr n ↦
-              let last : k ≡ length parts = omega arith in
-              subst (λ l. Apart l (list_at (parts ++ added ∷ []) k)) (sym (ap (list_at (parts ++ added ∷ [])) (new_root k last) ∙ old_part root low))
-              (subst (Apart (list_at parts root)) (sym (new_part k last)) apart)
-        ];
+        rise = All-append (IsStrictlySortedBy pair_cmp) parts (added ∷ []) are.lists.rise (All-only (IsStrictlySortedBy pair_cmp) added rising);
+        some = omega arith;
+        few = omega arith;
+        first = old_part 0 some ∙ are.lists.first;
       }
+
+  below-push : AreNumbers (parts ++ added ∷ []) (roots ++ root ∷ [])
+  below-push =
+      let more = length_push parts added in
+      All-append (λ r. r < length (parts ++ added ∷ [])) roots (root ∷ [])
+      (All-weaker (λ r. r < length parts) (λ r. r < length (parts ++ added ∷ [])) (λ r h. omega arith) roots are.below)
+      (All-only (λ r. r < length (parts ++ added ∷ [])) root (omega arith))
+
+  flat-push : slice_index roots root ≡ 0 → (k : ℕ) → k < length (roots ++ root ∷ []) → slice_index (roots ++ root ∷ []) (slice_index (roots ++ root ∷ []) k) ≡ 0
+  flat-push flat k h =
+      let size = are.size in
+      let longer = length_push roots root in
+      elim (cases_lt k (length parts)) [
+        | inl o ↦ ap (slice_index (roots ++ root ∷ [])) (old_root k o) ∙ old_root (slice_index roots k) (root_below parts roots are k o) ∙ are.flat k (omega arith)
+        | inr n ↦ ap (slice_index (roots ++ root ∷ [])) (new_root k (omega arith)) ∙ old_root root low ∙ flat
+      ]
+
+  apart-push : Apart (list_at parts root) added → (k : ℕ) → k < length (roots ++ root ∷ [])
+      → Apart (list_at (parts ++ added ∷ []) (slice_index (roots ++ root ∷ []) k)) (list_at (parts ++ added ∷ []) k)
+  apart-push apart k h =
+      let size = are.size in
+      let longer = length_push roots root in
+      elim (cases_lt k (length parts)) [
+        | inl o ↦
+            subst (λ l. Apart l (list_at (parts ++ added ∷ []) k))
+            (sym (ap (list_at (parts ++ added ∷ [])) (old_root k o) ∙ old_part (slice_index roots k) (root_below parts roots are k o)))
+            (subst (Apart (list_at parts (slice_index roots k))) (sym (old_part k o)) (are.apart k (omega arith)))
+        | inr n ↦
+            let last : k ≡ length parts = omega arith in
+            subst (λ l. Apart l (list_at (parts ++ added ∷ []) k)) (sym (ap (list_at (parts ++ added ∷ [])) (new_root k last) ∙ old_part root low))
+            (subst (Apart (list_at parts root)) (sym (new_part k last)) apart)
+      ]
+
+  pub AreRooted-push : length parts < MOST_LISTS → slice_index roots root ≡ 0 → IsStrictlySortedBy pair_cmp added → Apart (list_at parts root) added
+      → AreRooted (parts ++ added ∷ []) (roots ++ root ∷ [])
+  AreRooted-push few flat rising apart = record {
+    lists = lists-push few rising;
+    size = sizes;
+    below = below-push;
+    first = old_root 0 are.lists.some ∙ are.first;
+    flat = flat-push flat;
+    apart = apart-push apart;
+  }
 
 -- the empty list alone
 pub AreRooted-first : AreRooted ([] ∷ []) (0 ∷ [])
@@ -191,10 +214,6 @@ AreRooted-first = record {
       let none : length (list_at ([] ∷ []) (slice_index (0 ∷ []) k)) ≡ 0 = ap (λ x. length (list_at ([] ∷ []) (slice_index (0 ∷ []) x))) e in
       λ c. absurd (omega (arith, low, none));
 }
-
-pub first_root : (roots : List ℕ) → 1 ≤ length roots → slice_index roots 0 ≡ 0 → take 1 roots ≡ 0 ∷ []
-first_root [] some first = absurd (omega arith)
-first_root (r ∷ rs) some first = ap (λ x. x ∷ []) first
 
 -- nothing shares a pair with the empty list
 pub apart_none : (parts : List (List (ℕ × ℕ))) (list : List (ℕ × ℕ)) → list_at parts 0 ≡ [] → Apart (list_at parts 0) list
@@ -292,32 +311,44 @@ module _ (parts : List (List (ℕ × ℕ))) (roots : List ℕ) (are : AreRooted 
   pub root_apart : k < length parts → Apart (list_at parts (slice_index roots k)) (list_at parts k)
   root_apart low = let size = are.size in subst (λ r. Apart (list_at parts r) (list_at parts k)) read_root (are.apart k (omega arith))
 
--- a list of two parts, the first of which can be a root, is extended by pairs that it lacks
+-- a list of two parts, the first of which can be a root, and pairs that it lacks
+pub record Parted (list base known pairs : List (ℕ × ℕ)) : Type 0 where
+  pub rise_base : IsStrictlySortedBy pair_cmp base
+  pub rise_known : IsStrictlySortedBy pair_cmp known
+  pub rise_pairs : IsStrictlySortedBy pair_cmp pairs
+  pub is : list ≡ merged base known
+  pub apart : Apart base known
+  pub lacks : Apart list pairs
+
+-- it is extended by them
+module _ {list base known pairs : List (ℕ × ℕ)} (parted : Parted list base known pairs) {added : List (ℕ × ℕ)} (is : added ≡ merged known pairs) where
+  pub added_rises : IsStrictlySortedBy pair_cmp added
+  added_rises = subst (IsStrictlySortedBy pair_cmp) (sym is) (merged_rises _ _ parted.rise_known parted.rise_pairs)
+
+  pub added_apart : Apart base added
+  added_apart = subst (Apart base) (sym is) (apart_more base known pairs parted.apart (subst (λ l. Apart l pairs) parted.is parted.lacks))
+
+  pub added_extends : merged base added ≡ merged list pairs
+  added_extends =
+      ap (merged base) is ∙ merged_assoc base known pairs parted.rise_base parted.rise_known parted.rise_pairs ∙ ap (λ l. merged l pairs) (sym parted.is)
+
+  pub whole_rises : {whole : List (ℕ × ℕ)} → whole ≡ merged base added → IsStrictlySortedBy pair_cmp whole
+  whole_rises e = subst (IsStrictlySortedBy pair_cmp) (sym e) (merged_rises _ _ parted.rise_base added_rises)
+
+  pub whole_extends : (none whole : List (ℕ × ℕ)) → none ≡ [] → whole ≡ merged base added → merged none whole ≡ merged list pairs
+  whole_extends none whole empty e = ap (λ l. merged l whole) empty ∙ e ∙ added_extends
+
+-- of lists that are seen whole
 module _ (parts : List (List (ℕ × ℕ))) (roots : List ℕ) (are : AreRooted parts (padded roots (length parts))) (lists : List (List (ℕ × ℕ)))
-    (view : wholes parts (padded roots (length parts)) ≡ lists) (k base known : ℕ) (pairs : List (ℕ × ℕ)) (low : k < length lists) (low_base : base < length parts) (low_known : known < length parts)
-    (apart : Apart (list_at parts base) (list_at parts known))
-    (list : merged (list_at parts base) (list_at parts known) ≡ merged (list_at parts (slice_index roots k)) (list_at parts k))
-    (rising : IsStrictlySortedBy pair_cmp pairs) (lacks : Apart (list_at lists k) pairs) where
-  list_k : list_at lists k ≡ merged (list_at parts base) (list_at parts known)
-  list_k = list_is parts roots are lists view k (slice_index roots k) low refl ∙ sym list
-
-  module _ (added : List (ℕ × ℕ)) (is : added ≡ merged (list_at parts known) pairs) where
-    pub added_rises : IsStrictlySortedBy pair_cmp added
-    added_rises = subst (IsStrictlySortedBy pair_cmp) (sym is) (merged_rises _ _ (are.lists.rise known [] low_known) rising)
-
-    pub added_apart : Apart (list_at parts base) added
-    added_apart =
-        subst (Apart (list_at parts base)) (sym is)
-        (apart_more (list_at parts base) (list_at parts known) pairs apart (subst (λ l. Apart l pairs) list_k lacks))
-
-    pub added_extends : merged (list_at parts base) added ≡ merged (list_at lists k) pairs
-    added_extends =
-        ap (merged (list_at parts base)) is
-        ∙ merged_assoc (list_at parts base) (list_at parts known) pairs (are.lists.rise base [] low_base) (are.lists.rise known [] low_known) rising
-        ∙ ap (λ l. merged l pairs) (sym list_k)
-
-    pub whole_rises : (whole : List (ℕ × ℕ)) → whole ≡ merged (list_at parts base) added → IsStrictlySortedBy pair_cmp whole
-    whole_rises whole e = subst (IsStrictlySortedBy pair_cmp) (sym e) (merged_rises _ _ (are.lists.rise base [] low_base) added_rises)
-
-    pub whole_extends : (whole : List (ℕ × ℕ)) → whole ≡ merged (list_at parts base) added → merged (list_at parts 0) whole ≡ merged (list_at lists k) pairs
-    whole_extends whole e = ap (λ l. merged l whole) are.lists.first ∙ e ∙ added_extends
+    (view : wholes parts (padded roots (length parts)) ≡ lists) where
+  pub parted_at : (k base known : ℕ) (pairs : List (ℕ × ℕ)) → k < length lists → base < length parts → known < length parts → Apart (list_at parts base) (list_at parts known)
+      → merged (list_at parts base) (list_at parts known) ≡ merged (list_at parts (slice_index roots k)) (list_at parts k)
+      → IsStrictlySortedBy pair_cmp pairs → Apart (list_at lists k) pairs → Parted (list_at lists k) (list_at parts base) (list_at parts known) pairs
+  parted_at k base known pairs low low_base low_known apart list rising lacks = record {
+    rise_base = are.lists.rise base [] low_base;
+    rise_known = are.lists.rise known [] low_known;
+    rise_pairs = rising;
+    is = list_is parts roots are lists view k (slice_index roots k) low refl ∙ sym list;
+    apart = apart;
+    lacks = lacks;
+  }

@@ -1,5 +1,6 @@
 -- How `Lists` keeps its lists: as spans of one buffer, each with a fingerprint.
 use Rattle.std.specs.Prelude.{◌≡◌, ℕ, ◌+◌, ◌*◌, ◌/◌, ◌%◌, ◌^◌, ◌≤◌, List, length, map}
+use Rattle.std.specs.Int.Bits.{bit_xor}
 use Rattle.std.specs.List.{All, slice_range, slice_index_or, sum_by}
 use Rattle.std.specs.List.Sorted.{IsStrictlySortedBy}
 use Rattle.refine.specs.Signed.{pair_cmp}
@@ -13,7 +14,7 @@ mixed sum p = ((sum + p.0 * FIRST_FACTOR % 2 ^ 64) % 2 ^ 64 + p.1) % 2 ^ 64 * SU
 
 -- the word of a pair
 abbrev pub word_of : ℕ × ℕ → ℕ
-word_of p = mixed 0 p / 2 ^ 32 * (mixed 0 p % 2 ^ 32) % 2 ^ 64
+word_of p = bit_xor (mixed 0 p) (mixed 0 p / 2 ^ 32)
 
 -- the fingerprint of a list: the sum of the words of its pairs
 abbrev pub fingerprint_of : List (ℕ × ℕ) → ℕ

@@ -105,8 +105,12 @@ impl Lists {
         requires { k < length self.now }
         ensures { result ≡ fingerprint_of (list_at self.now k) }
     {
-        let root = self.parts.fingerprint(root_of(&self.roots, k));
-        root.wrapping_add(self.parts.fingerprint(k))
+        let added = self.parts.fingerprint(k);
+        let root = root_of(&self.roots, k);
+        if root == EMPTY {
+            return added;
+        }
+        self.parts.fingerprint(root).wrapping_add(added)
     }
 
     /// Whether the lists number `j` and `k` are equal. They are read only if the numbers differ, since many states share

@@ -43,13 +43,13 @@ pub(crate) fn mix(sum: u64, first: u32, second: u32) -> u64
         .wrapping_mul(SUM_FACTOR)
 }
 
-/// A word for the pair, as if drawn by chance: the halves of its mix multiplied, so that sums of words do not depend on sums
-/// of numbers.
+/// A word for the pair, as if drawn by chance: its mix, with the upper half put over the lower one, so that sums of words do
+/// not depend on sums of numbers.
 pub(crate) fn word(first: u32, second: u32) -> u64
     ensures { result ≡ word_of (first, second) }
 {
     let mixed = mix(0, first, second);
-    (mixed / 0x1_0000_0000).wrapping_mul(mixed % 0x1_0000_0000)
+    mixed ^ (mixed >> 32)
 }
 
 /// A number that equal lists share, and different lists seldom: the sum of the words of the pairs, so that it can be added up

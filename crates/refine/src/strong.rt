@@ -1,10 +1,9 @@
 //! Strong bisimulation: a state's signature has what its transitions show, and the blocks that they lead to.
-ghost use Rattle.std.specs.Prelude.{◌≡◌, ◌++◌, ◌<◌, length, map, OnOk};
+ghost use Rattle.std.specs.Prelude.{◌≡◌, ◌<◌, length, OnOk};
 ghost use Rattle.theory.specs.Bisimulation.Relation.{strong};
 ghost use Rattle.lts.specs.Meter.{HasRoomFor, Visits};
 ghost use Rattle.lts.specs.Lts.{row_of};
 ghost use Rattle.refine.specs.Signed.{IsSignature};
-ghost use Rattle.refine.specs.StrongPairs.{pair_under};
 
 use crate::lists::Lists;
 use crate::marks::Marks;
@@ -53,6 +52,8 @@ impl Sense for Strong {
 }
 
 /// Makes `pairs` the strong signature of `s`.
+///
+/// Fails if there is no memory for it.
 fn sign<M: Meter>(
     l: &Lts<M>,
     p: &Partition,
@@ -67,33 +68,15 @@ fn sign<M: Meter>(
     ensures visits { let n = length (row_of s l.now.places) in Visits M.counted m.old m.new result n n }
 {
     lts::rows_are_steps();
-    l.known();
-    pairs.clear();
-    collect_row(l, p, s, pairs, m)?;
-    order(pairs);
-    Ok(())
-}
-
-/// Appends the pair of each transition of `s`, repeats included.
-fn collect_row<M: Meter>(
-    l: &Lts<M>,
-    p: &Partition,
-    s: u32,
-    pairs: &mut Vec<(u32, u32)>,
-    m: &mut M,
-) -> Result<(), Memory>
-    requires states { length p.now ≡ l.now.states }
-    requires state { s < l.now.states }
-    requires room { HasRoomFor (M.counted m.old) 0 (length (row_of s l.now.places)) }
-    ensures pairs { OnOk result (pairs.new.items ≡ pairs.old.items ++ map (pair_under p.now) (row_of s l.now.places)) }
-    ensures visits { let n = length (row_of s l.now.places) in Visits M.counted m.old m.new result n n }
-{
     lts::rows_follow();
     l.known();
     let (start, end) = l.row(s);
+    pairs.clear();
+    pairs.reserve((end - start) as usize)?;
     for k in start..end {
         let (label, target) = l.edge(k, m);
-        pairs.push((label, p.block(target)))?;
+        pairs.push_reserved((label, p.block(target)));
     }
+    order(pairs);
     Ok(())
 }

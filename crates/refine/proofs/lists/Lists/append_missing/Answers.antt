@@ -13,14 +13,10 @@ append_unshared-requires-clause-root c =
     (c.root_of-root.ensures ∙ ap (λ xs. slice_index xs c.args.k) c.deref.ensures.value)
 
 pub append_unshared-requires-clause-list : goal.append_unshared-requires-clause-list
-append_unshared-requires-clause-list c =
-    let size = length-parts c.self.inside.parts c.self.inside.roots.items c.self.invariant c.args.self.now c.self.view_is in
-    omega (arith, size, c.requires.second)
+append_unshared-requires-clause-list c = omega (arith, length-parts c.self.inside.parts c.self.inside.roots.items c.self.invariant c.args.self.now c.self.view_is, c.requires.second)
 
 pub append_unshared-requires-2-clause-part : goal.append_unshared-requires-2-clause-part
-append_unshared-requires-2-clause-part c =
-    let size = length-parts c.self.inside.parts c.self.inside.roots.items c.self.invariant c.args.self.now c.self.view_is in
-    omega (arith, size, c.requires.first)
+append_unshared-requires-2-clause-part c = omega (arith, length-parts c.self.inside.parts c.self.inside.roots.items c.self.invariant c.args.self.now c.self.view_is, c.requires.first)
 
 pub append_unshared-requires-2-clause-root : goal.append_unshared-requires-2-clause-root
 append_unshared-requires-2-clause-root c =
@@ -28,9 +24,7 @@ append_unshared-requires-2-clause-root c =
     (c.root_of-root.ensures ∙ ap (λ xs. slice_index xs c.args.k) c.deref.ensures.value)
 
 pub append_unshared-requires-2-clause-list : goal.append_unshared-requires-2-clause-list
-append_unshared-requires-2-clause-list c =
-    let size = length-parts c.self.inside.parts c.self.inside.roots.items c.self.invariant c.args.self.now c.self.view_is in
-    omega (arith, size, c.requires.second)
+append_unshared-requires-2-clause-list c = omega (arith, length-parts c.self.inside.parts c.self.inside.roots.items c.self.invariant c.args.self.now c.self.view_is, c.requires.second)
 
 pub returns : goal.returns
 returns c =

@@ -5,14 +5,10 @@ use Rattle.refine.proofs.Rooted.{length-parts, rise_of, same_root}
 use Rattle.refine.proofs.lists.Lists.are_same.Goals as goal
 
 pub of-requires : goal.of-requires
-of-requires c =
-    let size = length-parts c.self.inside.parts c.self.inside.roots.items c.self.invariant c.args.self.now c.self.view_is in
-    omega (arith, size, c.requires.first)
+of-requires c = omega (arith, length-parts c.self.inside.parts c.self.inside.roots.items c.self.invariant c.args.self.now c.self.view_is, c.requires.first)
 
 pub of-requires-then-root_of : goal.of-requires-then-root_of
-of-requires-then-root_of c =
-    let size = length-parts c.self.inside.parts c.self.inside.roots.items c.self.invariant c.args.self.now c.self.view_is in
-    omega (arith, size, c.requires.second)
+of-requires-then-root_of c = omega (arith, length-parts c.self.inside.parts c.self.inside.roots.items c.self.invariant c.args.self.now c.self.view_is, c.requires.second)
 
 pub returns-then-root_of : goal.returns-then-root_of
 returns-then-root_of c =

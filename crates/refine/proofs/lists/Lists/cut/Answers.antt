@@ -8,9 +8,7 @@ of-requires c =
     root_within c.self.inside.parts c.self.inside.roots.items c.self.invariant c.args.self.now c.self.view_is c.args.k c.root_of.result c.requires (c.root_of.ensures ∙ ap (λ xs. slice_index xs c.args.k) c.deref.ensures.value)
 
 pub of-requires-2 : goal.of-requires-2
-of-requires-2 c =
-    let size = length-parts c.self.inside.parts c.self.inside.roots.items c.self.invariant c.args.self.now c.self.view_is in
-    omega (arith, size, c.requires)
+of-requires-2 c = omega (arith, length-parts c.self.inside.parts c.self.inside.roots.items c.self.invariant c.args.self.now c.self.view_is, c.requires)
 
 pub returns-clause-whole : goal.returns-clause-whole
 returns-clause-whole c =

@@ -4,9 +4,7 @@ use Rattle.refine.proofs.Rooted.{length-parts}
 use Rattle.refine.proofs.lists.Lists.push.Goals as goal
 
 pub put-requires-clause-few : goal.put-requires-clause-few
-put-requires-clause-few c =
-    let size = length-parts c.self.inside.parts c.self.inside.roots.items c.self.invariant c.args.self.now c.self.view_is in
-    omega (arith, size, c.requires.few)
+put-requires-clause-few c = omega (arith, length-parts c.self.inside.parts c.self.inside.roots.items c.self.invariant c.args.self.now c.self.view_is, c.requires.few)
 
 pub returns-clause-number : goal.returns-clause-number
 returns-clause-number c =
