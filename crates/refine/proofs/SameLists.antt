@@ -51,3 +51,8 @@ apart_lists n p q of_p of_q size_p size_q differ alike =
 -- a list has the same blocks as itself
 pub same_list_same_blocks : (A : System) (p q : List ℕ) → q ≡ p → SameBlocks A (slice_index p) (slice_index q)
 same_list_same_blocks A p q e = subst (λ x. SameBlocks A (slice_index p) (slice_index x)) (sym e) (λ s t ls lt. (λ f. f, λ f. f))
+
+-- states that all have the block 0 share a block
+pub one_block : (n : ℕ) (p : List ℕ) (m : ℕ) → n ≡ m → ((s : ℕ) → s < m → slice_index p s ≡ 0)
+    → (s t : ℕ) → s < n → t < n → slice_index p s ≡ slice_index p t
+one_block n p m e first s t ls lt = first s (omega (arith, ls, e)) ∙ sym (first t (omega (arith, lt, e)))

@@ -1,11 +1,13 @@
 -- Two states have equal lists as their signatures exactly where they have the same signature.
-use Rattle.std.proofs.Common.{◌≡◌, ◌↔◌, ℕ, ◌<◌, List, slice_index, Contains, sym, subst}
+use Rattle.std.proofs.Common.{◌≡◌, ◌↔◌, ◌∙◌, ℕ, ◌<◌, List, length, slice_index, Contains, Result, Ok, Err, IfOk, sym, subst, arith}
 use Rattle.theory.specs.System.{Step}
 use Rattle.theory.specs.Bisimulation.{Relation}
 use Rattle.theory.specs.Bisimulation.Relation.{strong, branching}
 use Rattle.theory.specs.Blocks.{Signature, SameSignature, Split}
 use Rattle.lts.specs.Labels.{text_of, IsNumber}
 use Rattle.lts.specs.Lts.{Grouped, system_of}
+use Rattle.refine.specs.Partition.{IsNumbered}
+use Rattle.refine.specs.Rounds.{IsNext}
 use Rattle.refine.specs.Signed.{HasPair, IsSignature}
 use Rattle.refine.proofs.Rising.{rising_unique, pair_total}
 
@@ -39,14 +41,14 @@ module _ (rel : Relation) (l : Grouped) (labelled : Labelled l) (blocks : List �
         λ c. let h = (of_t.exactly z.0 z.1).0 c in (of_s.exactly z.0 z.1).1 (h.0, (same (text_of l.labels z.0) z.1).1 h.1),
       ))
 
-module _ (rel : Relation) (l : Grouped) (labelled : Labelled l) (p q : List ℕ) (signature : ℕ → List (ℕ × ℕ))
+module _ (rel : Relation) (l : Grouped) (labelled : Labelled l) (p : List ℕ) (signature : ℕ → List (ℕ × ℕ))
     (signed : (s : ℕ) → s < l.states → IsSignature rel l p s (signature s)) where
   -- blocks that are parted by their signatures are the Split
-  pub parted_is_split :
+  parted_is_split : (q : List ℕ) →
       ((s t : ℕ) → s < l.states → t < l.states →
       (slice_index q s ≡ slice_index q t) ↔ ((slice_index p s ≡ slice_index p t) × (signature s ≡ signature t)))
       → Split rel (system_of l) (slice_index p) (slice_index q)
-  parted_is_split parted s t ls lt = (
+  parted_is_split q parted s t ls lt = (
     λ e.
         let h = (parted s t ls lt).0 e in (
           h.0,
@@ -61,3 +63,15 @@ module _ (rel : Relation) (l : Grouped) (labelled : Labelled l) (p q : List ℕ)
           same_list rel l labelled p s t (signature s) (signature t) (signed s ls) (signed t lt) h.1,
         ),
   )
+
+  -- and what a round makes if it is done
+  pub IsNext-done : {E : Type 0} (r : Result (List ℕ) E) → length p ≡ l.states → IfOk r (λ q. length q ≡ length p)
+      → IfOk r (λ q. (s t : ℕ) → s < length p → t < length p →
+      (slice_index q s ≡ slice_index q t) ↔ ((slice_index p s ≡ slice_index p t) × (signature s ≡ signature t)))
+      → IfOk r IsNumbered → IfOk r (IsNext rel l p)
+  IsNext-done (Ok q) size states parted numbered = record {
+    states = states ∙ size;
+    split = parted_is_split q (λ s t ls lt. parted s t (omega (arith, ls, size)) (omega (arith, lt, size)));
+    numbered = numbered;
+  }
+  IsNext-done (Err e) size states parted numbered = tt

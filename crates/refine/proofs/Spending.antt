@@ -4,6 +4,18 @@ use Rattle.std.proofs.lemmas.Nat.{mul-le}
 use Rattle.std.proofs.Math.Nat.{suc-mul, add-mul}
 use Rattle.lts.specs.Meter.{Counts, HasRoomFor, Costs, CostsUpTo}
 
+-- a round that was begun, and read so far, is at most one round
+pub begun_up_to : (old begun at : Counts) (n least : ℕ) → Costs old begun 1 0 0 → Costs begun at 0 least n → CostsUpTo old at 1 n
+begun_up_to old begun at n least start read = (
+  1,
+  omega arith,
+  record {
+    rounds = omega (arith, start.rounds, read.rounds);
+    at_least = omega (arith, start.at_least, read.at_least);
+    at_most = omega (arith, start.at_most, read.at_most);
+  },
+)
+
 module _ (n states k : ℕ) (old at : Counts) (made : Costs old at k (k * n) (k * n)) where
   -- a round more after k of them
   pub costs_more : (new : Counts) → Costs at new 1 n n → Costs old new (suc k) (suc k * n) (suc k * n)

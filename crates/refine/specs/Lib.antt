@@ -5,6 +5,7 @@ pub mod Spans
 pub mod Roots
 pub mod StrongPairs
 pub mod Splitting
+pub mod Rounds
 pub mod Walks
 pub mod Ahead
 pub mod Steps

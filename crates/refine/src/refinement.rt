@@ -6,6 +6,7 @@ ghost use Rattle.lts.specs.Meter.{HasRoomFor, Costs, CostsUpTo};
 ghost use Rattle.lts.specs.Lts.{system_of};
 ghost use Rattle.refine.specs.Partition.{IsNumbered};
 ghost use Rattle.refine.specs.Lists.{AreNumbered};
+ghost use Rattle.refine.specs.Rounds.{IsNext};
 
 use crate::marks::Marks;
 use crate::partition::Partition;
@@ -89,9 +90,7 @@ fn next_round<S: Sense, M: Meter>(
     requires room { HasRoomFor (M.counted m.old) 1 (length l.now.places) }
 
     // Once it is done
-    ensures states { IfOk result (λ q. length q ≡ l.now.states) }
-    ensures split { IfOk result (λ q. Split S.relation (system_of l.now) (slice_index p.now) (slice_index q)) }
-    ensures numbered { IfOk result IsNumbered }
+    ensures next { IfOk result (IsNext S.relation l.now p.now) }
     ensures costs { let n = length l.now.places in OnOk result (Costs (M.counted m.old) (M.counted m.new) 1 n n) }
 
     // After a refusal

@@ -2,7 +2,6 @@
 ghost use Rattle.std.specs.Prelude.{◌≡◌, ◌↔◌, ℕ, ◌<◌, ◌≤◌, [], ◌∷◌, length, slice_index, IfOk, OnOk};
 ghost use Rattle.lts.specs.Meter.{HasRoomFor, Visits};
 ghost use Rattle.refine.specs.Partition.{IsNumbered};
-ghost use Rattle.refine.specs.Lists.{list_of, AreNumbered};
 ghost use Rattle.refine.specs.Signed.{IsSignature, signature_at};
 
 use crate::lists::Lists;
@@ -92,8 +91,12 @@ impl Signatures {
         ensures marks { marks.new ≡ marks.old }
         ensures signatures { length self.new ≡ length self.old }
     {
-        let done = sign_whole::<S, M>(self.alloc, &mut self.round, &mut self.whole, l, p, marks, m);
-        if let Err(refusal) = done {
+        if let Err(refusal) = self.round.sign::<S, M>(l, p, marks, m) {
+            self.round.clear();
+            self.whole.clear();
+            return Err(refusal);
+        }
+        if let Err(refusal) = make_whole(self.alloc, &self.round.lists, &mut self.whole) {
             self.round.clear();
             self.whole.clear();
             return Err(refusal);
@@ -114,36 +117,6 @@ impl Signatures {
     {
         self.round.split(p)
     }
-}
-
-/// Takes the signature of each state, and makes the lists whole.
-///
-/// Fails if there is no memory for it.
-fn sign_whole<S: Sense, M: Meter>(
-    alloc: Global,
-    round: &mut RoundSignatures,
-    whole: &mut Parts,
-    l: &Lts<M>,
-    p: &Partition,
-    marks: &mut Marks,
-    m: &mut M,
-) -> Result<(), Memory>
-    requires blocks { length p.now ≡ l.now.states }
-    requires marks { marks.old ≡ l.now.states }
-    requires numbered { AreNumbered round.old.lists round.old.numbers.items }
-    requires states { length round.old.numbers.items ≡ l.now.states }
-    requires room { HasRoomFor (M.counted m.old) 0 (length l.now.places) }
-    ensures signed { OnOk result ((s : ℕ) → s < l.now.states →
-        IsSignature S.relation l.now p.now s (list_of round.new.lists round.new.numbers.items s)) }
-    ensures whole { OnOk result (whole.new ≡ round.new.lists) }
-    ensures visits { let n = length l.now.places in Visits M.counted m.old m.new result n n }
-    ensures marks { marks.new ≡ marks.old }
-    ensures numbered { AreNumbered round.new.lists round.new.numbers.items }
-    ensures states { length round.new.numbers.items ≡ length round.old.numbers.items }
-{
-    round.sign::<S, M>(l, p, marks, m)?;
-    make_whole(alloc, &round.lists, whole)?;
-    Ok(())
 }
 
 /// Makes `whole` the lists, each whole.

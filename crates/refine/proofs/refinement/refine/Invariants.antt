@@ -1,8 +1,6 @@
-use Rattle.std.proofs.Common.{◌≡◌, ℕ, ◌-◌, ◌*◌, length, slice_index}
-use Rattle.theory.specs.Blocks.{Underway}
-use Rattle.lts.specs.Meter.{Costs}
-use Rattle.lts.specs.Lts.{system_of}
+use Rattle.std.proofs.Common.{◌≡◌, ◌-◌, length}
 use Rattle.refine.specs.Lists.{AreNumbered}
+use Rattle.refine.specs.Rounds.{Made}
 use Rattle.refine.proofs.refinement.refine.Given as goal
 
 abbrev pub invariant-loop-blocks : goal.invariant-loop-blocks
@@ -11,8 +9,7 @@ invariant-loop-blocks g l = record {
   marks : l.marks ≡ l.l.states;
   lists : AreNumbered l.signatures.lists l.signatures.numbers.items;
   signatures : length l.signatures.numbers.items ≡ l.l.states;
-  made : (k : ℕ) × Underway g.S.Sense.relation (system_of l.l) k (slice_index l.blocks)
-      × Costs (g.M.Meter.counted l.initial.m) (g.M.Meter.counted l.m) k (k * length l.l.places) (k * length l.l.places);
+  made : Made g.S.Sense.relation l.l (g.M.Meter.counted l.initial.m) (g.M.Meter.counted l.m) l.blocks;
 }
 
 abbrev pub decreases-loop-blocks : goal.decreases-loop-blocks

@@ -1,0 +1,19 @@
+-- What a round of refinement makes of the blocks, and how far some rounds have come.
+use Rattle.std.specs.Prelude.{◌≡◌, ℕ, ◌*◌, List, length, slice_index}
+use Rattle.theory.specs.Bisimulation.{Relation}
+use Rattle.theory.specs.Blocks.{Split, Underway}
+use Rattle.lts.specs.Meter.{Counts, Costs}
+use Rattle.lts.specs.Lts.{Grouped, system_of}
+use Rattle.refine.specs.Partition.{IsNumbered}
+
+-- the blocks q are the Split of the blocks p of the same states
+pub record IsNext (rel : Relation) (l : Grouped) (p q : List ℕ) : Type 0 where
+  pub states : length q ≡ l.states
+  pub split : Split rel (system_of l) (slice_index p) (slice_index q)
+  pub numbered : IsNumbered q
+
+-- so many rounds were made from one block, each of which has split something and visited each transition once
+pub record Made (rel : Relation) (l : Grouped) (old at : Counts) (blocks : List ℕ) : Type 0 where
+  pub rounds : ℕ
+  pub underway : Underway rel (system_of l) rounds (slice_index blocks)
+  pub costs : Costs old at rounds (rounds * length l.places) (rounds * length l.places)
