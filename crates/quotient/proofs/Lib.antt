@@ -7,6 +7,7 @@ pub mod Reaching
 pub mod Classes
 -- the quotient
 pub mod Rows
+pub mod Members
 pub mod Copying
 pub mod Quotients
 pub mod Visits

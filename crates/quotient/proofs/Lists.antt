@@ -1,6 +1,6 @@
 -- What holds of any lists: what they contain, also mapped, filtered and one behind the other.
-use Rattle.std.proofs.Common.{◌≡◌, ◌≢◌, ◌∙◌, ◌⊎◌, ℕ, ◌+◌, ◌-◌, ◌<◌, Bool, true, false, cond, List, [], ◌∷◌, ◌++◌, length, map, get_or, Contains, refl, sym, ap, subst, inl, inr, arith}
-use Rattle.std.specs.List.{AllPairs, filter}
+use Rattle.std.proofs.Common.{◌≡◌, ◌≢◌, ◌∙◌, ◌⊎◌, ◌↔◌, ℕ, ◌+◌, ◌-◌, ◌<◌, Bool, true, false, cond, List, [], ◌∷◌, ◌++◌, length, map, get_or, Contains, refl, sym, ap, subst, inl, inr, arith}
+use Rattle.std.specs.List.{AllPairs, filter, flat_map}
 use Rattle.std.proofs.lemmas.Bool.{cases_eq, cases_lt, both_ways}
 use Rattle.std.proofs.lemmas.List.{length-append, length-map, get_or-map, get_or_push, get_or_append_left, get_or-append_right, get_or_default}
 use Rattle.std.proofs.lemmas.List.Elements.{All-contains, Contains-push, Contains-push_cases, Contains-append_left, Contains-append_right, Contains-append_cases, filter_passes}
@@ -54,6 +54,35 @@ filtered_has {X} p (y ∷ ys) x c = go (p y) (λ d. in_tail y ys x (filtered_has
 
 pub filtered_passes : {X : Type 0} (p : X → Bool) (xs : List X) (x : X) → Contains (filter p xs) x → p x ≡ true
 filtered_passes p xs x c = All-contains (λ y. p y ≡ true) (filter p xs) x (filter_passes p xs) c
+
+-- the lists of a list's elements, one behind the other, have what one of them has
+pub flat_from : {X Y : Type 0} (f : X → List Y) (xs : List X) (y : Y) → Contains (flat_map f xs) y → (x : X) × Contains xs x × Contains (f x) y
+flat_from f [] y c = absurd (no_element y c)
+flat_from f (x ∷ xs) y c = elim (Contains-append_cases (f x) (flat_map f xs) y c) [
+  | inl d ↦ (x, at_head x xs, d)
+  | inr d ↦ let h = flat_from f xs y d in (h.0, in_tail x xs h.0 h.1, h.2)
+]
+
+pub flat_has : {X Y : Type 0} (f : X → List Y) (xs : List X) (x : X) (y : Y) → Contains xs x → Contains (f x) y → Contains (flat_map f xs) y
+flat_has f [] x y c d = absurd (no_element x c)
+flat_has f (z ∷ zs) x y c d = elim (head_or_tail z zs x c) [
+  | inl e ↦ Contains-append_left (f z) (flat_map f zs) y (subst (λ w. Contains (f w) y) (sym e) d)
+  | inr h ↦ Contains-append_right (f z) (flat_map f zs) y (flat_has f zs x y h d)
+]
+
+-- what has the same as each of two lists has the same as both
+pub both_append : {X : Type 0} (xs ys us vs : List X) (x : X) → Contains xs x ↔ Contains us x → Contains ys x ↔ Contains vs x →
+    Contains (xs ++ ys) x ↔ Contains (us ++ vs) x
+both_append xs ys us vs x one other = (
+  λ c. elim (Contains-append_cases xs ys x c) [
+    | inl d ↦ Contains-append_left us vs x (one.0 d)
+    | inr d ↦ Contains-append_right us vs x (other.0 d)
+  ],
+  λ c. elim (Contains-append_cases us vs x c) [
+    | inl d ↦ Contains-append_left xs ys x (one.1 d)
+    | inr d ↦ Contains-append_right xs ys x (other.1 d)
+  ],
+)
 
 -- lists of different elements that have none in common, one behind the other
 pub apart_append : {X : Type 0} (xs ys : List X) → AllPairs (λ x y. x ≢ y) xs → AllPairs (λ x y. x ≢ y) ys →

@@ -1,40 +1,12 @@
--- What rows show between numbers: one row more, and what a triple that is shown stands for.
-use Rattle.std.proofs.Common.{◌≡◌, ◌∙◌, ◌↔◌, ℕ, ◌+◌, ◌≤◌, Bool, true, false, cond, not, Option, List, [], ◌∷◌, ◌++◌, length, map, Contains, sym, ap, subst, inl, inr, arith}
+-- What a row shows between numbers: one place more, and what a triple that is shown stands for.
+use Rattle.std.proofs.Common.{◌≡◌, ◌∙◌, ℕ, ◌≤◌, true, false, cond, not, Option, List, [], ◌∷◌, ◌++◌, length, map, Contains, sym, ap, arith}
 use Rattle.std.specs.List.{filter}
-use Rattle.std.proofs.lemmas.Bool.{cases_eq}
-use Rattle.std.proofs.lemmas.List.Elements.{Contains-append_left, Contains-append_right, Contains-append_cases, filter-append}
-use Rattle.std.proofs.lemmas.List.{length-map, map-append, append-nil}
+use Rattle.std.proofs.lemmas.List.Elements.{filter-append}
+use Rattle.std.proofs.lemmas.List.{length-map, map-append, append-nil, append_assoc}
 use Rattle.std.proofs.lemmas.List.Sums.{length-filter, count_by-le-length}
 use Rattle.lts.specs.Lts.{Triple, row_of}
-use Rattle.quotient.specs.Marked.{IsMarked}
-use Rattle.quotient.specs.Triples.{between_numbers, is_left_out, shown_in, shown_by, IsShownBelow, HasShown}
+use Rattle.quotient.specs.Triples.{between_numbers, is_left_out, shown_in, shown_by}
 use Rattle.quotient.proofs.Lists.{has_mapped, mapped_has, has_filtered, filtered_has, filtered_passes}
-
-module _ (numbers : List ℕ) (rows : List Bool) (dropped : Option ℕ) (places : List Triple) where
-  -- a state whose row is not read shows nothing
-  pub shown_without : (s : ℕ) → ¬ IsMarked rows s → (x : Triple) → IsShownBelow numbers rows dropped places s x ↔ IsShownBelow numbers rows dropped places (s + 1) x
-  shown_without s apart x = (
-    λ f. (f.0, omega (arith, f.1), f.2, f.3),
-    λ f. elim (cases_eq f.0 s) [
-      | inl e ↦ absurd (apart (subst (IsMarked rows) e f.2))
-      | inr d ↦ (f.0, omega (arith, f.1, d), f.2, f.3)
-    ],
-  )
-
-  -- the row of s, behind those below s
-  pub shown_with : (s : ℕ) (old row new : List Triple) → IsMarked rows s → HasShown numbers dropped places s row → new ≡ old ++ row →
-      ((x : Triple) → Contains old x ↔ IsShownBelow numbers rows dropped places s x) →
-      (x : Triple) → Contains new x ↔ IsShownBelow numbers rows dropped places (s + 1) x
-  shown_with s old row new marked shown put is x = (
-    λ c. elim (Contains-append_cases old row x (subst (λ xs. Contains xs x) put c)) [
-      | inl d ↦ let f = (is x).0 d in (f.0, omega (arith, f.1), f.2, f.3)
-      | inr d ↦ (s, omega arith, marked, (shown.exactly x).0 d)
-    ],
-    λ f. subst (λ xs. Contains xs x) (sym put) (elim (cases_eq f.0 s) [
-      | inl e ↦ Contains-append_right old row x ((shown.exactly x).1 (subst (λ t. Contains (shown_by numbers dropped places t) x) e f.3))
-      | inr d ↦ Contains-append_left old row x ((is x).1 (f.0, omega (arith, f.1, d), f.2, f.3))
-    ]),
-  )
 
 -- what is shown stands in a place of the row, and is not left out
 pub record ShownPlace (numbers : List ℕ) (dropped : Option ℕ) (places : List Triple) (s : ℕ) (x : Triple) : Type 0 where
@@ -76,13 +48,15 @@ module _ (numbers : List ℕ) (dropped : Option ℕ) (s : ℕ) (old new : List T
       ∙ filter-append (λ y. not (is_left_out dropped y)) (map (between_numbers numbers s) old) (between_numbers numbers s e ∷ [])
       ∙ ap (λ z. shown_in numbers dropped s old ++ cond (not (is_left_out dropped z)) (z ∷ []) []) (sym is)
 
-  pub shown_left_out : (row : List Triple) → row ≡ shown_in numbers dropped s old → is_left_out dropped x ≡ true → row ≡ shown_in numbers dropped s new
-  shown_left_out row h out =
+  -- behind what the list had
+  pub shown_left_out : (had list : List Triple) → list ≡ had ++ shown_in numbers dropped s old → is_left_out dropped x ≡ true →
+      list ≡ had ++ shown_in numbers dropped s new
+  shown_left_out had list h out =
       let same = ap (λ b. shown_in numbers dropped s old ++ cond (not b) (x ∷ []) []) out in
-      h ∙ sym (shown_more ∙ same ∙ append-nil (shown_in numbers dropped s old))
+      h ∙ ap (λ r. had ++ r) (sym (shown_more ∙ same ∙ append-nil (shown_in numbers dropped s old)))
 
-  pub shown_stays : (row pushed : List Triple) → row ≡ shown_in numbers dropped s old → pushed ≡ row ++ x ∷ [] → is_left_out dropped x ≡ false →
-      pushed ≡ shown_in numbers dropped s new
-  shown_stays row pushed h e stays =
+  pub shown_stays : (had list pushed : List Triple) → list ≡ had ++ shown_in numbers dropped s old → pushed ≡ list ++ x ∷ [] →
+      is_left_out dropped x ≡ false → pushed ≡ had ++ shown_in numbers dropped s new
+  shown_stays had list pushed h e stays =
       let same = ap (λ b. shown_in numbers dropped s old ++ cond (not b) (x ∷ []) []) stays in
-      e ∙ ap (λ r. r ++ x ∷ []) h ∙ sym (shown_more ∙ same)
+      e ∙ ap (λ r. r ++ x ∷ []) h ∙ append_assoc had (shown_in numbers dropped s old) (x ∷ []) ∙ ap (λ r. had ++ r) (sym (shown_more ∙ same))

@@ -1,7 +1,8 @@
 -- Private. The transitions of the quotient, by number: what the rows of some states show.
-use Rattle.std.specs.Prelude.{◌↔◌, ℕ, ◌<◌, ◌≤◌, ◌==◌, ◌&&◌, Bool, false, not, Option, None, Some, List, length, map, slice_index}
-use Rattle.std.specs.List.{Contains, filter}
-use Rattle.lts.specs.Lts.{Triple, source_of, label_of, target_of, row_of}
+use Rattle.std.specs.Prelude.{◌≡◌, ◌≢◌, ◌↔◌, ℕ, ◌<◌, ◌≤◌, ◌==◌, ◌&&◌, Bool, false, not, Option, None, Some, List, length, map, slice_index}
+use Rattle.std.specs.List.{AllPairs, Contains, filter, flat_map, slice_index_or, sum_by}
+use Rattle.std.specs.List.Sorted.{IsNonDecreasingBy}
+use Rattle.lts.specs.Lts.{Triple, source_of, label_of, target_of, row_of, before}
 use Rattle.quotient.specs.Marked.{IsMarked}
 
 -- what the transition e of the state s is between numbers
@@ -26,7 +27,41 @@ abbrev pub IsShownBelow : List ℕ → List Bool → Option ℕ → List Triple 
 IsShownBelow numbers rows dropped places s x =
     (t : ℕ) × (t < s) × IsMarked rows t × Contains (shown_by numbers dropped places t) x
 
--- the list has what the row of s shows, and is no longer than the row
-pub record HasShown (numbers : List ℕ) (dropped : Option ℕ) (places : List Triple) (s : ℕ) (row : List Triple) : Type 0 where
-  pub exactly : (x : Triple) → Contains row x ↔ Contains (shown_by numbers dropped places s) x
-  pub few : length row ≤ length (row_of s places)
+-- a state behind its number
+abbrev pub Member : Type 0
+Member = ℕ × ℕ
+
+-- the member in place k
+abbrev pub member_at : List Member → ℕ → Member
+member_at members k = slice_index_or members k (0, 0)
+
+-- p is a marked state below s, behind its number
+abbrev pub IsMemberBelow : List ℕ → List Bool → ℕ → Member → Type 0
+IsMemberBelow numbers rows s p = (p.1 < s) × IsMarked rows p.1 × (p.0 ≡ slice_index numbers p.1)
+
+-- what the rows of the members show, one row behind the other
+abbrev pub shown_among : List ℕ → Option ℕ → List Triple → List Member → List Triple
+shown_among numbers dropped places members = flat_map (λ p. shown_by numbers dropped places p.1) members
+
+-- how many transitions these rows have
+abbrev pub places_of : List Triple → List Member → ℕ
+places_of places members = sum_by (λ p. length (row_of p.1 places)) members
+
+-- the members are the marked states below the count, by rising number; their rows are no more than all
+pub record AreMembers (numbers : List ℕ) (rows : List Bool) (states : ℕ) (members : List Member) : Type 0 where
+  pub exactly : (p : Member) → Contains members p ↔ IsMemberBelow numbers rows states p
+  pub rising : IsNonDecreasingBy (λ p. p.0) members
+  pub few : (places : List Triple) → places_of places members ≤ before states places
+
+-- the members from start up to end have one number, and the next one has a larger number
+pub record IsClass (members : List Member) (start end : ℕ) : Type 0 where
+  pub some : start < end
+  pub within : end ≤ length members
+  pub one : (k : ℕ) → start ≤ k → k < end → (member_at members k).0 ≡ (member_at members start).0
+  pub next : end < length members → (member_at members start).0 < (member_at members end).0
+
+-- the list has what the rows of the members show, each once, and is no longer than these rows
+pub record HasShown (numbers : List ℕ) (dropped : Option ℕ) (places : List Triple) (members : List Member) (class : List Triple) : Type 0 where
+  pub exactly : (x : Triple) → Contains class x ↔ Contains (shown_among numbers dropped places members) x
+  pub once : AllPairs (λ x y. x ≢ y) class
+  pub few : length class ≤ places_of places members
