@@ -25,6 +25,13 @@ TakesState-few b reached first old new (inr f) = omega (arith, f.count)
 abbrev pub Other : Relation → System → ℕ → ℕ → Type 0
 Other rel A s m = IsLeader rel A m × (m < s) × (m ≢ A.first)
 
+-- how they are counted, state by state
+pub record CountingLaws (rel : Relation) (A : System) : Type 0 where
+  pub none : HowMany (Other rel A 0) 0
+  pub one : (l c : ℕ) → IsLeader rel A l → l ≢ A.first → HowMany (Other rel A l) c → HowMany (Other rel A (l + 1)) (c + 1)
+  pub kept : (l c : ℕ) → ¬ (IsLeader rel A l × (l ≢ A.first)) → HowMany (Other rel A l) c → HowMany (Other rel A (l + 1)) c
+  pub all : (c : ℕ) → HowMany (Other rel A A.states) c → HowMany (IsLeader rel A) (1 + c)
+
 -- what holds of a system whose blocks are the classes of bisimilar states
 pub record Laws (rel : Relation) (A : System) (block : ℕ → ℕ) : Type 0 where
   pub same : EachTwo A (λ s t. (block s ≡ block t) ↔ Bisimilar rel A s A t)
@@ -33,10 +40,7 @@ pub record Laws (rel : Relation) (A : System) (block : ℕ → ℕ) : Type 0 whe
   pub below : (s : ℕ) → Reachable A s → s < A.states
   pub number : (s : ℕ) → Reachable A s → (n : ℕ) × Number rel A s n
   pub classes : (s t m n : ℕ) → Reachable A s → Reachable A t → Number rel A s m → Number rel A t n → (m ≡ n) ↔ Bisimilar rel A s A t
-  pub none : HowMany (Other rel A 0) 0
-  pub one : (l c : ℕ) → IsLeader rel A l → l ≢ A.first → HowMany (Other rel A l) c → HowMany (Other rel A (l + 1)) (c + 1)
-  pub kept : (l c : ℕ) → ¬ (IsLeader rel A l × (l ≢ A.first)) → HowMany (Other rel A l) c → HowMany (Other rel A (l + 1)) c
-  pub all : (c : ℕ) → HowMany (Other rel A A.states) c → HowMany (IsLeader rel A) (1 + c)
+  pub counting : CountingLaws rel A
 
 -- a reachable state of the block of t below s, or the first state, has the number k
 pub record Earlier (rel : Relation) (A : System) (block : ℕ → ℕ) (s t k : ℕ) : Type 0 where
@@ -154,7 +158,7 @@ module _ (rel : Relation) (A : System) (block : ℕ → ℕ) (laws : Laws rel A 
       numbers = rw f.numbers (each_pushed (λ t n. Reachable A t → Number rel A t n) old.numbers.items (slice_index old.by_block.items (block s)) 0 s
           h.numbers_long h.numbers follows_number);
       leaders = rw f.leads (each_pushed (λ t b. IsTrue b ↔ IsLeader rel A t) old.leads.items first false s h.leads_long h.leaders follows_leader);
-      counted = (h.counted.0, laws.kept s h.counted.0 follows_not_other h.counted.1, f.count ∙ h.counted.2);
+      counted = (h.counted.0, laws.counting.kept s h.counted.0 follows_not_other h.counted.1, f.count ∙ h.counted.2);
       few = omega (arith, f.count, h.few);
       fewer = λ l. omega (arith, f.count, h.few);
     }
@@ -223,7 +227,7 @@ module _ (rel : Relation) (A : System) (block : ℕ → ℕ) (laws : Laws rel A 
       numbers = rw o.numbers (each_pushed (λ t n. Reachable A t → Number rel A t n) old.numbers.items old.count 0 s h.numbers_long h.numbers (λ way. opens_number));
       leaders = rw o.leads (each_pushed (λ t b. IsTrue b ↔ IsLeader rel A t) old.leads.items true false s h.leads_long h.leaders
           (λ x. opens_is_leader, λ x. refl));
-      counted = (h.counted.0 + 1, laws.one s h.counted.0 opens_is_leader opens_other h.counted.1, omega (arith, o.count, h.counted.2));
+      counted = (h.counted.0 + 1, laws.counting.one s h.counted.0 opens_is_leader opens_other h.counted.1, omega (arith, o.count, h.counted.2));
       few = omega (arith, o.count, h.few);
       fewer = λ l. omega (arith, o.count, h.fewer (let d = opens_other in omega (arith, l, d)));
     }
@@ -246,7 +250,7 @@ module _ (rel : Relation) (A : System) (block : ℕ → ℕ) (laws : Laws rel A 
     ];
     numbers = λ t l. absurd (omega (arith, l));
     leaders = λ t l. absurd (omega (arith, l));
-    counted = (0, laws.none, one);
+    counted = (0, laws.counting.none, one);
     few = omega (arith, one);
     fewer = λ l. absurd (omega (arith, l));
   }
@@ -261,7 +265,7 @@ module _ (rel : Relation) (A : System) (block : ℕ → ℕ) (laws : Laws rel A 
     leads_long = h.leads_long;
     number = λ s way. h.numbers s (laws.below s way) way;
     leader = h.leaders;
-    counted = subst (HowMany (IsLeader rel A)) (sym h.counted.2) (laws.all h.counted.0 h.counted.1);
+    counted = subst (HowMany (IsLeader rel A)) (sym h.counted.2) (laws.counting.all h.counted.0 h.counted.1);
     few = h.fewer laws.first;
   }
 

@@ -50,17 +50,20 @@ module _ (es : List Triple) (sources : (s : ℕ) (x : Triple) → Contains (row_
       (AllPairs-filter (λ x y. x ≢ y) (λ e. source_of e == a) es once) (rows_differ once (a + 1) k)
       (λ x c d. omega (arith, ((sources a x).0 c).1, rows_from (a + 1) k x d))
 
--- the laws of the theory and of rows, at this system
+-- the laws of the theory about leaders and numbers
+pub record NumberLaws (rel : Relation) (A : System) : Type 0 where
+  pub leader : (s : ℕ) → Reachable A s → (l : ℕ) × Leader rel A s l
+  pub one_number : (s m n : ℕ) → Number rel A s m → Number rel A s n → m ≡ n
+  pub classes : (s t m n : ℕ) → Reachable A s → Reachable A t → Number rel A s m → Number rel A t n → (m ≡ n) ↔ Bisimilar rel A s A t
+  pub below : (Q : System) (s n : ℕ) → Quotient rel A Q → Number rel A s n → n < Q.states
+
+-- these, those about what is reachable, and those of rows, at this system
 pub record Laws (rel : Relation) (g : Grouped) : Type 0 where
   pub lts : IsLts g
   pub reached_first : Reachable (system_of g) g.first
   pub reached_on : (s : ℕ) (a : List ℕ) (t : ℕ) → Reachable (system_of g) s → Step (system_of g) s a t → Reachable (system_of g) t
   pub below : (s : ℕ) → Reachable (system_of g) s → s < g.states
-  pub leader : (s : ℕ) → Reachable (system_of g) s → (l : ℕ) × Leader rel (system_of g) s l
-  pub one_number : (s m n : ℕ) → Number rel (system_of g) s m → Number rel (system_of g) s n → m ≡ n
-  pub classes : (s t m n : ℕ) → Reachable (system_of g) s → Reachable (system_of g) t → Number rel (system_of g) s m →
-      Number rel (system_of g) t n → (m ≡ n) ↔ Bisimilar rel (system_of g) s (system_of g) t
-  pub number_below : (Q : System) (s n : ℕ) → Quotient rel (system_of g) Q → Number rel (system_of g) s n → n < Q.states
+  pub numbers : NumberLaws rel (system_of g)
   pub sources : (s : ℕ) (es : List Triple) (e : Triple) → Contains (row_of s es) e ↔ (Contains es e × (source_of e ≡ s))
   pub steps : (s : ℕ) (a : List ℕ) (t : ℕ) → Step (system_of g) s a t ↔
       ((e : Triple) × Contains (row_of s g.places) e × (text_of g.labels (label_of e) ≡ a) × (target_of e ≡ t))
@@ -95,7 +98,7 @@ module _ (rel : Relation) (g : Grouped) (n : Numbering) (laws : Laws rel g) (num
   same_number : (s t : ℕ) → Reachable (system_of g) s → Reachable (system_of g) t → Bisimilar rel (system_of g) s (system_of g) t →
       slice_index n.numbers.items t ≡ slice_index n.numbers.items s
   same_number s t ws wt b =
-      sym ((laws.classes s t (slice_index n.numbers.items s) (slice_index n.numbers.items t) ws wt (num.number s ws) (num.number t wt)).1 b)
+      sym ((laws.numbers.classes s t (slice_index n.numbers.items s) (slice_index n.numbers.items t) ws wt (num.number s ws) (num.number t wt)).1 b)
 
   -- a place in a row is a step
   in_place : (s : ℕ) (e : Triple) → Contains (row_of s g.places) e → Step (system_of g) s (text_of g.labels (label_of e)) (target_of e)
@@ -121,7 +124,7 @@ leaders_enough : (g : Grouped) (n : Numbering) → Laws strong g → IsNumbering
 leaders_enough g n laws num = record {
   only = λ s l marked. leader_reached strong g n laws num s ((num.leader s l).0 marked);
   each = λ s a t way step.
-      let found : (l : ℕ) × Leader strong (system_of g) s l = laws.leader s way in
+      let found : (l : ℕ) × Leader strong (system_of g) s l = laws.numbers.leader s way in
       let fellow : Fellow strong (system_of g) s found.0 = leader_fellow strong g n laws num s found.0 found.1 in
       let low : found.0 < g.states = laws.below found.0 fellow.0 in
       let answer = fellow.1.1.forth s found.0 fellow.1.2 a t step in
@@ -213,9 +216,9 @@ module _ (rel : Relation) (g : Grouped) (n : Numbering) (laws : Laws rel g) (num
       let place = (laws.steps twin.source e.label twin.target).0 twin.step in
       let x : Triple = between_numbers n.numbers.items twin.source place.0 in
       let on : Reachable (system_of g) t = laws.reached_on s e.label t way step in
-      let source : source_of x ≡ e.source = twin.from ∙ laws.one_number s (slice_index n.numbers.items s) e.source (num.number s way) hs in
+      let source : source_of x ≡ e.source = twin.from ∙ laws.numbers.one_number s (slice_index n.numbers.items s) e.source (num.number s way) hs in
       let target : target_of x ≡ e.target =
-      ap (slice_index n.numbers.items) place.3 ∙ twin.to ∙ laws.one_number t (slice_index n.numbers.items t) e.target (num.number t on) ht in
+      ap (slice_index n.numbers.items) place.3 ∙ twin.to ∙ laws.numbers.one_number t (slice_index n.numbers.items t) e.target (num.number t on) ht in
       let is : transition_of g.labels x ≡ e = λ i. record { source = source i; label = place.2 i; target = target i } in
       let triple = All-contains (IsTriple (length g.labels) g.states) g.places place.0 laws.lts.in_range.each ((laws.sources twin.source g.places place.0).0 place.1).0 in
       let out : ¬ (is_left_out dropped x ≡ true) =
@@ -243,8 +246,8 @@ module _ (rel : Relation) (g : Grouped) (n : Numbering) (laws : Laws rel g) (num
   -- the numbers of a triple are below the count
   numbers_below : (x : Triple) → Stands rel (system_of g) (transition_of g.labels x) → (source_of x < n.count) × (target_of x < n.count)
   numbers_below x (s, t, way, step, hs, ht) = (
-    laws.number_below (system_from 0 n.count g.labels es) s (source_of x) quotient_of hs,
-    laws.number_below (system_from 0 n.count g.labels es) t (target_of x) quotient_of ht,
+    laws.numbers.below (system_from 0 n.count g.labels es) s (source_of x) quotient_of hs,
+    laws.numbers.below (system_from 0 n.count g.labels es) t (target_of x) quotient_of ht,
   )
 
   shown_triple : (x : Triple) → Contains es x → IsTriple (length g.labels) n.count x
@@ -256,7 +259,7 @@ module _ (rel : Relation) (g : Grouped) (n : Numbering) (laws : Laws rel g) (num
   pub quotient_in_range : length es ≤ length g.places → InRange (length g.labels) 0 n.count es
   quotient_in_range few =
       let low : slice_index n.numbers.items g.first < n.count =
-      laws.number_below (system_from 0 n.count g.labels es) g.first (slice_index n.numbers.items g.first) quotient_of (num.number g.first laws.reached_first) in
+      laws.numbers.below (system_from 0 n.count g.labels es) g.first (slice_index n.numbers.items g.first) quotient_of (num.number g.first laws.reached_first) in
       record {
         first_below = omega (arith, low);
         few_states = omega (arith, num.few, laws.lts.in_range.few_states);

@@ -5,26 +5,33 @@ use Rattle.lts.specs.Lts.{Triple, InRange, IsGrouping, system_of}
 use Rattle.quotient.specs.Relations.{meant}
 use Rattle.quotient.specs.Reading.{rows_of, IsDroppedLabel}
 use Rattle.quotient.specs.Triples.{IsShownBelow}
-use Rattle.quotient.proofs.Quotients.{Laws, AreEnough, rows_enough, quotient_in_range, IfOk-quotient}
+use Rattle.quotient.proofs.Quotients.{NumberLaws, Laws, AreEnough, rows_enough, quotient_in_range, IfOk-quotient}
 use Rattle.quotient.proofs.minimisation.quotient_of.Given.{Over}
 use Rattle.quotient.proofs.minimisation.quotient_of.Goals as goal
 use Rattle.quotient.proofs.minimisation.quotient_of.Goals.{After-shown_triples}
 
 module _ (g : Over) (c : After-shown_triples g) where
-  laws : Laws (meant c.args.r) c.args.l.now
-  laws =
+  numbers : NumberLaws (meant c.args.r) (system_of c.args.l.now)
+  numbers =
       let rel = meant c.args.r in
       let A = system_of c.args.l.now in
-      let lts = c.known.ensures in
+      let sys = c.known.ensures.system in
       record {
-        lts = lts;
+        leader = λ s way. c.each_state_has_a_number.ensures.leader rel A s sys way;
+        one_number = λ s m n h k. c.each_state_has_a_number.ensures.one_number rel A s m n sys h k;
+        classes = λ s t m n ws wt h k. c.numbers_are_classes.ensures rel A s t m n sys ws wt h k;
+        below = λ Q s n quotient h. c.numbers_are_states.ensures.below rel A Q s n sys quotient h;
+      }
+
+  laws : Laws (meant c.args.r) c.args.l.now
+  laws =
+      let A = system_of c.args.l.now in
+      record {
+        lts = c.known.ensures;
         reached_first = c.steps_keep_reachable.ensures.first A;
         reached_on = λ s a t way step. c.steps_keep_reachable.ensures.step A s a t way step;
-        below = λ s way. c.steps_keep_reachable.ensures.below A s lts.system way;
-        leader = λ s way. c.each_state_has_a_number.ensures.leader rel A s lts.system way;
-        one_number = λ s m n h k. c.each_state_has_a_number.ensures.one_number rel A s m n lts.system h k;
-        classes = λ s t m n ws wt h k. c.numbers_are_classes.ensures rel A s t m n lts.system ws wt h k;
-        number_below = λ Q s n quotient h. c.numbers_are_states.ensures.below rel A Q s n lts.system quotient h;
+        below = λ s way. c.steps_keep_reachable.ensures.below A s c.known.ensures.system way;
+        numbers = numbers;
         sources = c.rows_are_steps.ensures.sources;
         steps = λ s a t. c.rows_are_steps.ensures.steps c.args.l.now s a t;
       }

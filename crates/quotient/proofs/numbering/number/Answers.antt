@@ -1,32 +1,43 @@
 use Rattle.std.proofs.Common.{◌≡◌, ◌∙◌, ◌↔◌, ℕ, ◌<◌, IsTrue, eqb, slice_index, set, replicate, ap, sym, subst, refl, arith}
 use Rattle.std.proofs.lemmas.Bool.{eqb-true, eq-eqb}
 use Rattle.std.proofs.lemmas.List.{length-set, length-replicate}
+use Rattle.theory.specs.System.{System}
 use Rattle.theory.specs.Bisimulation.{Relation}
 use Rattle.lts.specs.Lts.{system_of}
 use Rattle.quotient.specs.Reading.{AreClasses}
 use Rattle.quotient.specs.Numbers.{none}
-use Rattle.quotient.proofs.Classes.{Laws, Taken, Taken-start, Taken-adds, Taken-end, TakesState-within, TakesState-few}
+use Rattle.quotient.proofs.Classes.{CountingLaws, Laws, Taken, Taken-start, Taken-adds, Taken-end, TakesState-within, TakesState-few}
 use Rattle.quotient.proofs.numbering.number.Given.{Over}
 use Rattle.quotient.proofs.numbering.number.Goals as goal
 
 -- the laws of the theory, at this system and these blocks
-laws : (g : Over) (c : goal.In_ok-with_capacity-2 g) (rel : Relation) → AreClasses rel c.args.l.now c.args.blocks.now →
-    Laws rel (system_of c.args.l.now) (slice_index c.args.blocks.now)
-laws g c rel classes =
+counting : (g : Over) (c : goal.In_ok-with_capacity-2 g) (rel : Relation) → CountingLaws rel (system_of c.args.l.now)
+counting g c rel =
     let A = system_of c.args.l.now in
-    let lts = c.states-states.ensures.lts in
+    let sys = c.states-states.ensures.lts.system in
     record {
-      same = classes;
-      first = lts.in_range.first_below;
-      first_reached = c.steps_keep_reachable.ensures.first A;
-      below = λ s way. c.steps_keep_reachable.ensures.below A s lts.system way;
-      number = λ s way. c.each_state_has_a_number.ensures.number rel A s lts.system way;
-      classes = λ s t m n way path h k. c.numbers_are_classes.ensures rel A s t m n lts.system way path h k;
       none = c.leaders_are_counted.ensures.none rel A;
-      one = λ l n leads other many. c.leaders_are_counted.ensures.one rel A l n lts.system leads other many;
-      kept = λ l n no many. c.leaders_are_counted.ensures.same rel A l n lts.system no many;
-      all = λ n many. c.leaders_are_counted.ensures.all rel A n lts.system many;
+      one = λ l n leads other many. c.leaders_are_counted.ensures.one rel A l n sys leads other many;
+      kept = λ l n no many. c.leaders_are_counted.ensures.same rel A l n sys no many;
+      all = λ n many. c.leaders_are_counted.ensures.all rel A n sys many;
     }
+
+module _ (g : Over) (c : goal.In_ok-with_capacity-2 g) (rel : Relation) where
+  abbrev A : System
+  A = system_of c.args.l.now
+
+  laws : AreClasses rel c.args.l.now c.args.blocks.now → Laws rel A (slice_index c.args.blocks.now)
+  laws classes =
+      let lts = c.states-states.ensures.lts in
+      record {
+        same = classes;
+        first = lts.in_range.first_below;
+        first_reached = c.steps_keep_reachable.ensures.first A;
+        below = λ s way. c.steps_keep_reachable.ensures.below A s lts.system way;
+        number = λ s way. c.each_state_has_a_number.ensures.number rel A s lts.system way;
+        classes = λ s t m n way path h k. c.numbers_are_classes.ensures rel A s t m n lts.system way path h k;
+        counting = counting g c rel;
+      }
 
 -- at first the first state's block alone has a number
 set_first : (g : Over) (c : goal.In_ok-with_capacity-2 g) → set c.in_ok-by_block.by_block.items c.block.result 0
