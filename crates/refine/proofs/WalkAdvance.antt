@@ -36,7 +36,6 @@ pub record Taken (l : Grouped) (blocks : List ℕ) (lists : List (List (ℕ × �
   pub seen : KeepsSeen old.marks new.marks
   pub same_visit : visit_at new.path old.at ≡ visit_at old.path old.at
   pub longer : old.at < length new.path
-  pub later : old.at ≤ new.at
 
 -- the parts of a walk
 pub parts_are : (w parts : Parts) → AreParts w parts → parts ≡ w
@@ -100,7 +99,6 @@ module _ (laws : Laws) (l : Grouped) (lts : IsLts l) (blocks : List ℕ) (lists 
     seen = λ s h. h;
     same_visit = refl;
     longer = here;
-    later = omega arith;
   }
 
   taken_pair : (new : Parts) → ¬ IsInert l blocks e.0 e → Stays old.bounds (old.pairs ++ pair_under blocks e ∷ []) old.listed old new
@@ -157,7 +155,6 @@ module _ (laws : Laws) (l : Grouped) (lts : IsLts l) (blocks : List ℕ) (lists 
           seen = seen_more old.marks e.2 (length old.path) within;
           same_visit = visit_before old.path v old.at here;
           longer = omega (arith, size, here);
-          later = omega (arith, here);
         }
 
     taken_entered : (new : Parts) → IsInert l blocks e.0 e → AreParts new (entered (record { state = e.2; next = start; end = end; back = old.at }) old)

@@ -1,14 +1,14 @@
 -- What is said of the path does not depend on what stands behind its end.
 use Rattle.std.proofs.Common.{◌≡◌, ℕ, ◌<◌, ◌≤◌, List, sym, ◌∙◌, ap, subst, subst₂, inl, arith}
 use Rattle.theory.specs.Bisimulation.Relation.{branching}
-use Rattle.lts.specs.Lts.{Grouped, place_at, IsRow}
+use Rattle.lts.specs.Lts.{Grouped, place_at}
 use Rattle.refine.specs.Signed.{HasPair}
 use Rattle.refine.specs.Walks.{AreOnPath, AreBounds, Connects, IsSound, AccountsAll}
 use Rattle.refine.specs.declared.walk.Mark.{Mark}
 use Rattle.refine.specs.declared.walk.Visit.{Visit}
 use Rattle.refine.proofs.WalkConnects.{Ties}
 use Rattle.refine.proofs.WalkHolds.{Accounts-change}
-use Rattle.refine.proofs.WalkRows.{Rows}
+use Rattle.refine.proofs.WalkRows.{Rows, HasRest}
 
 module _ (n : ℕ) (visit visit' : ℕ → Visit) (same : (p : ℕ) → p < n → visit' p ≡ visit p) where
   state_same : (p : ℕ) → p < n → (visit' p).state ≡ (visit p).state
@@ -44,7 +44,7 @@ module _ (n : ℕ) (visit visit' : ℕ → Visit) (same : (p : ℕ) → p < n �
   Rows-below l at old = record {
     here = old.here;
     below = λ p h. subst (λ v. v.state < l.states) (sym (same p h)) (old.below p h);
-    row = λ p h. subst (λ v. (start : ℕ) × IsRow l.places v.state start v.end × (start ≤ v.next) × (v.next ≤ v.end)) (sym (same p h)) (old.row p h);
+    row = λ p h. subst (HasRest l) (sym (same p h)) (old.row p h);
     earlier = λ p some h. subst (λ v. v.back < p) (sym (same p h)) (old.earlier p some h);
     above = λ p h h'. subst (λ v. v.next ≡ v.end) (sym (same p h')) (old.above p h h');
     between = λ p q h h' h''.

@@ -41,35 +41,38 @@ module _ (l : Grouped) (blocks : List ℕ) (lts : IsLts l) (n at f0 : ℕ) (stat
       let all = read p h lp in
       omega (arith, inside, all)
 
-  -- what a state of the component can do at the end of inert steps was collected
-  collects : (z : ℕ × ℕ) (us : List ℕ) (p : ℕ) → f0 ≤ p → p < n → (u t : ℕ) → Along (Inert (system_of l) (slice_index blocks)) (state p) us u
-      → Step (system_of l) u (text_of l.labels z.0) t → slice_index blocks t ≡ z.1
+  -- what a state of the component can do was collected
+  collects_here : (z : ℕ × ℕ) (p : ℕ) → f0 ≤ p → p < n → (t : ℕ) → Step (system_of l) (state p) (text_of l.labels z.0) t → slice_index blocks t ≡ z.1
       → ¬ ((text_of l.labels z.0 ≡ internal) × (z.1 ≡ slice_index blocks (state p))) → z.0 < length l.labels → Collected z
-  collects z [] p h lp u t e step is other low =
-      let place = step_place l u t (text_of l.labels z.0) step in
+  collects_here z p h lp t step is other low =
+      let place = step_place l (state p) t (text_of l.labels z.0) step in
       let k : ℕ = place.0 in
-      let source : source_of (place_at l.places k) ≡ state p = place.2 ∙ sym e in
-      let account = accounts p k lp place.1 source (was_read p k h lp place.1 source) in
+      let account = accounts p k lp place.1 place.2 (was_read p k h lp place.1 place.2) in
       let in_range = lts.in_range.each k (0, 0, 0) place.1 in
       let number : label_of (place_at l.places k) ≡ z.0 = lts.table.different (label_of (place_at l.places k)) z.0 in_range.label low place.3 in
       let block : slice_index blocks (target_of (place_at l.places k)) ≡ z.1 = ap (slice_index blocks) place.4 ∙ is in
       let same : pair_under blocks (place_at l.places k) ≡ z = λ i. (number i, block i) in
       from_held p h z
       (subst (holds p) same (account.shown (λ inert. other (sym place.3 ∙ inert.0, sym block ∙ inert.1))))
+
+  -- and what it can do at the end of inert steps
+  collects : (z : ℕ × ℕ) (us : List ℕ) (p : ℕ) → f0 ≤ p → p < n → (u t : ℕ) → Along (Inert (system_of l) (slice_index blocks)) (state p) us u
+      → Step (system_of l) u (text_of l.labels z.0) t → slice_index blocks t ≡ z.1
+      → ¬ ((text_of l.labels z.0 ≡ internal) × (z.1 ≡ slice_index blocks (state p))) → z.0 < length l.labels → Collected z
+  collects z [] p h lp u t e step is other low =
+      collects_here z p h lp t (subst (λ x. Step (system_of l) x (text_of l.labels z.0) t) (sym e) step) is other low
   collects z (x ∷ us) p h lp u t (first, rest) step is other low =
-      let place = step_place l (state p) x internal first.0 in
-      let k : ℕ = place.0 in
-      let account = accounts p k lp place.1 place.2 (was_read p k h lp place.1 place.2) in
-      let same : slice_index blocks (target_of (place_at l.places k)) ≡ slice_index blocks (state p) = ap (slice_index blocks) place.4 ∙ first.1 in
-      elim (account.followed (place.3, same)) [
+      let (k, inside, source, label, target) = step_place l (state p) x internal first.0 in
+      let same : slice_index blocks (target_of (place_at l.places k)) ≡ slice_index blocks (state p) = ap (slice_index blocks) target ∙ first.1 in
+      elim ((accounts p k lp inside source (was_read p k h lp inside source)).followed (label, same)) [
         | inl up ↦
             let was = on.only (target_of (place_at l.places k)) up.0 up.1 in
-            let there : x ≡ state up.0 = sym (was.1 ∙ place.4) in
+            let there : x ≡ state up.0 = sym (was.1 ∙ target) in
             collects z us up.0 ((up.2 f0 this.0 this.1).0 h) was.0 u t
             (subst (λ y. Along (Inert (system_of l) (slice_index blocks)) y us u) there rest) step is
             (λ inert. other (inert.0, inert.1 ∙ ap (slice_index blocks) was.1 ∙ same)) low
         | inr done ↦
-            let path = subst (λ y. Along (Inert (system_of l) (slice_index blocks)) y us u) (sym place.4) rest in
+            let path = subst (λ y. Along (Inert (system_of l) (slice_index blocks)) y us u) (sym target) rest in
             let has : HasPair branching l blocks (target_of (place_at l.places k)) z.0 z.1 = (low, (u, t, (us, path), step, is, λ inert. other (inert.0, inert.1 ∙ same))) in
             from_held p h z (done.2 z (((signed (target_of (place_at l.places k)) done.0 done.1).1.exactly z.0 z.1).1 has))
       ]

@@ -1,14 +1,16 @@
 -- The walk after one transition more was read.
 use Rattle.std.proofs.Common.{◌≡◌, ℕ, ◌+◌, ◌-◌, ◌<◌, ◌≤◌, List, [], ◌∷◌, ◌++◌, length, get_or, set, slice_index, refl, sym, ◌∙◌, ap, subst, inl, inr, arith}
 use Rattle.std.proofs.lemmas.List.{get_or_read, get_or-set_same, length-set, set-append_left, set-get_or, set-set}
-use Rattle.lts.specs.Lts.{Grouped, Triple, source_of, label_of, target_of, place_at, IsLts, IsRow}
+use Rattle.lts.specs.Meter.{Counts, Costs}
+use Rattle.lts.specs.Lts.{Grouped, Triple, source_of, label_of, target_of, place_at, IsLts}
 use Rattle.lts.specs.declared.limits.TheConstants.{MOST_STATES}
-use Rattle.refine.specs.Walks.{Laws, visit_at, state_at, next_at, end_at, back_at, HasRead, bound_at, mark_at, BeginsPairs, Accounts, Parts, Held, Walks}
+use Rattle.refine.specs.Walks.{Laws, visit_at, state_at, next_at, end_at, back_at, bound_at, mark_at, BeginsPairs, Accounts, Parts, Held, Walks}
 use Rattle.refine.specs.Steps.{Enters, Stays, Takes}
 use Rattle.refine.specs.Ahead.{ahead, KeepsSeen, HasNumbers, steps_ahead}
 use Rattle.refine.specs.declared.walk.Mark.TheVariants.{OnPath}
 use Rattle.refine.specs.declared.walk.Visit.{Visit}
 use Rattle.refine.specs.declared.walk.Bound.{Bound}
+use Rattle.refine.proofs.WalkRows.{HasRest}
 use Rattle.refine.proofs.WalkAhead.{rest-next}
 use Rattle.refine.proofs.WalkSeen.{steps-read}
 use Rattle.refine.proofs.WalkSteps.{Walks-next}
@@ -102,9 +104,17 @@ reads_none l blocks lists w walks numbers some v is =
       fewer = omega arith;
     })
 
--- the row was read to its end
-pub all_read : (path : List Visit) (at : ℕ) (v : Visit) → at < length path → HasRead (set path at (up_to v v.end)) at
-all_read path at v low = subst (λ x. x.next ≡ x.end) (sym (get_or-set_same path at (up_to v v.end) _ low)) refl
+-- what it costs to read one transition more, where so many are still ahead
+pub counts_more : (old at new : Counts) (from next first rest : ℕ) → at.visits + from ≡ old.visits + next → Costs old at 0 0 first → Costs at new 0 1 1
+    → rest + (next + 1) ≡ first + from → (new.visits + from ≡ old.visits + (next + 1)) × Costs old new 0 0 first
+counts_more old at new from next first rest read made one less = (
+  omega (arith, read, one.at_least, one.at_most),
+  record {
+    rounds = omega (arith, made.rounds, one.rounds);
+    at_least = omega (arith, made.at_least, one.at_least);
+    at_most = omega (arith, read, one.at_most, less);
+  },
+)
 
 module _ (laws : Laws) (l : Grouped) (lts : IsLts l) (blocks : List ℕ) (lists : List (List (ℕ × ℕ))) (first w : Parts) (v : Visit) (from next : ℕ)
     (reads : Reads l blocks lists first (reading w w.at (up_to v next)) from next) (same : w.at ≡ first.at) where
@@ -123,10 +133,9 @@ module _ (laws : Laws) (l : Grouped) (lts : IsLts l) (blocks : List ℕ) (lists 
   is : x ≡ visit_at old.path old.at
   is = sym (get_or-set_same w.path w.at x _ here)
 
-  row : (start : ℕ) × IsRow l.places x.state start x.end × (start ≤ x.next) × (x.next ≤ x.end)
+  row : HasRest l x
   row =
-      subst (λ y. (start : ℕ) × IsRow l.places y.state start y.end × (start ≤ y.next) × (y.next ≤ y.end)) (sym is)
-      (reads.walks.rows.row old.at (let low = here in let e = size in omega (arith, low, e)))
+      subst (HasRest l) (sym is) (reads.walks.rows.row old.at (let low = here in let e = size in omega (arith, low, e)))
 
   pub reads_all : ¬ (next < v.end) → Reads l blocks lists first (reading w first.at (up_to v v.end)) from v.end
   reads_all over =
@@ -203,7 +212,7 @@ module _ (laws : Laws) (l : Grouped) (lts : IsLts l) (blocks : List ℕ) (lists 
 
       moved_walks : Walks l blocks lists New
       moved_walks =
-          Walks-next laws l blocks lists mid walk.walks old.at walk.later Moved walk.longer (ap (λ y. y.state) mid_visit) (ap (λ y. y.next + 1) mid_visit)
+          Walks-next laws l blocks lists mid walk.walks old.at Moved walk.longer (ap (λ y. y.state) mid_visit) (ap (λ y. y.next + 1) mid_visit)
           (ap (λ y. y.end) mid_visit) (ap (λ y. y.back) mid_visit) mid_low accounted
 
       moved_size : length New.path ≡ length mid.path

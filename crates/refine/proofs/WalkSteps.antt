@@ -12,7 +12,7 @@ use Rattle.refine.specs.declared.walk.Bound.{Bound}
 use Rattle.refine.proofs.WalkHolds.{Holds-bounds}
 use Rattle.refine.proofs.WalkMarks.{AreOnPath-enter, AreSigned-enter}
 use Rattle.refine.proofs.WalkBounds.{AreBounds-join, AreBounds-enter, AreBounds-back}
-use Rattle.refine.proofs.WalkConnects.{Connects-join, IsSound-join, Connects-enter, IsSound-enter}
+use Rattle.refine.proofs.WalkConnects.{Ties, Connects-join, IsSound-join, Connects-enter, IsSound-enter}
 use Rattle.refine.proofs.WalkRows.{Rows-enter, Rows-back, AreRows-next}
 use Rattle.refine.proofs.WalkAccounts.{AccountsAll-keep, AccountsAll-enter, AccountsAll-next}
 use Rattle.refine.proofs.WalkCollects.{ties}
@@ -49,33 +49,41 @@ module _ (laws : Laws) (l : Grouped) (blocks : List ℕ) (lists : List (List (�
         AreBounds-join (length w.path) w.at count q (back_at w.path) (Begins start w.bounds) (Begins start bounds')
         (cut_old q w.bounds bounds' cuts walks.rising start) (cut_keep q w.bounds bounds' cuts walks.rising start)
 
-    pub Walks-join : q < length w.path → Inert (system_of l) (slice_index blocks) (state_at w.path w.at) (state_at w.path q) → Walks l blocks lists Joined
-    Walks-join low step =
-        let some : 0 < length w.path = omega (arith, low) in
-        let tie = λ (p : ℕ) (lp : p < length w.path). ties laws l blocks lists w walks p lp some in
-        let keep_pairs = cut_keep q w.bounds bounds' cuts walks.rising (λ x. x.pairs) in
-        let keep_listed = cut_keep q w.bounds bounds' cuts walks.rising (λ x. x.listed) in
-        record {
-          on_path = walks.on_path;
-          signed = walks.signed;
-          of_pairs = joined_bounds (λ x. x.pairs) (length w.pairs) walks.of_pairs;
-          of_listed = joined_bounds (λ x. x.listed) (length w.listed) walks.of_listed;
-          rising = cut_rising q w.bounds bounds' cuts walks.rising;
-          connects =
-              Connects-join laws l blocks (length w.path) w.at q (state_at w.path) (walks.rows.here some) low step tie (BeginsPairs w.bounds) (BeginsPairs bounds')
-              keep_pairs walks.connects;
-          sound_pairs =
-              IsSound-join laws l blocks (length w.path) w.at q (state_at w.path) (walks.rows.here some) low step tie (BeginsPairs w.bounds) (BeginsPairs bounds')
-              (length w.pairs) (GivesPair w.pairs) keep_pairs walks.sound_pairs;
-          sound_listed =
-              IsSound-join laws l blocks (length w.path) w.at q (state_at w.path) (walks.rows.here some) low step tie (BeginsListed w.bounds)
-              (BeginsListed bounds') (length w.listed) (GivesListed lists w.listed) keep_listed walks.sound_listed;
-          listed = walks.listed;
-          rows = walks.rows;
-          accounts =
-              AccountsAll-keep l blocks (BeginsPairs w.bounds) (BeginsPairs bounds') (back_at w.path) (Held lists w) (Held lists Joined) lists (mark_at w.marks)
-              (cut_old q w.bounds bounds' cuts walks.rising (λ x. x.pairs)) held_joined (length w.path) (state_at w.path) (next_at w.path) walks.accounts;
-        }
+    module _ (low : q < length w.path) (step : Inert (system_of l) (slice_index blocks) (state_at w.path w.at) (state_at w.path q)) where
+      here : w.at < length w.path
+      here = walks.rows.here (omega (arith, low))
+
+      tie : (p : ℕ) → p < length w.path → Ties l blocks (state_at w.path p) (state_at w.path w.at)
+      tie p lp = ties laws l blocks lists w walks p lp (omega (arith, low))
+
+      joined_connects : Connects l blocks (length w.path) (state_at w.path) (BeginsPairs bounds')
+      joined_connects =
+          Connects-join laws l blocks (length w.path) w.at q (state_at w.path) here low step tie (BeginsPairs w.bounds) (BeginsPairs bounds')
+          (cut_keep q w.bounds bounds' cuts walks.rising (λ x. x.pairs)) walks.connects
+
+      joined_sound : (start : Bound → ℕ) (count : ℕ) (gives : ℕ → ℕ × ℕ → Type 0)
+          → IsSound l blocks (length w.path) (state_at w.path) (Begins start w.bounds) count gives
+          → IsSound l blocks (length w.path) (state_at w.path) (Begins start bounds') count gives
+      joined_sound start count gives =
+          IsSound-join laws l blocks (length w.path) w.at q (state_at w.path) here low step tie (Begins start w.bounds) (Begins start bounds') count gives
+          (cut_keep q w.bounds bounds' cuts walks.rising start)
+
+      pub Walks-join : Walks l blocks lists Joined
+      Walks-join = record {
+        on_path = walks.on_path;
+        signed = walks.signed;
+        of_pairs = joined_bounds (λ x. x.pairs) (length w.pairs) walks.of_pairs;
+        of_listed = joined_bounds (λ x. x.listed) (length w.listed) walks.of_listed;
+        rising = cut_rising q w.bounds bounds' cuts walks.rising;
+        connects = joined_connects;
+        sound_pairs = joined_sound (λ x. x.pairs) (length w.pairs) (GivesPair w.pairs) walks.sound_pairs;
+        sound_listed = joined_sound (λ x. x.listed) (length w.listed) (GivesListed lists w.listed) walks.sound_listed;
+        listed = walks.listed;
+        rows = walks.rows;
+        accounts =
+            AccountsAll-keep l blocks (BeginsPairs w.bounds) (BeginsPairs bounds') (back_at w.path) (Held lists w) (Held lists Joined) lists (mark_at w.marks)
+            (cut_old q w.bounds bounds' cuts walks.rising (λ x. x.pairs)) held_joined (length w.path) (state_at w.path) (next_at w.path) walks.accounts;
+      }
 
     pub accounts_joined : (s : ℕ) (e : Triple) → IsInert l blocks s e → mark_at w.marks (target_of e) ≡ OnPath q
         → Accounts l blocks (BeginsPairs bounds') (back_at w.path) (Held lists Joined w.at) lists (mark_at w.marks) s w.at e
@@ -135,53 +143,75 @@ module _ (laws : Laws) (l : Grouped) (blocks : List ℕ) (lists : List (List (�
         (bound_old_or_new w.bounds NewBound from) (bound_up w.bounds NewBound from) (bound_new w.bounds NewBound from)
         (λ p h. ap (λ v. v.back) (same p h)) (ap (λ v. v.back) last) none old)
 
+    state_same : (p : ℕ) → p < length w.path → state_at Entered.path p ≡ state_at w.path p
+    state_same p h = ap (λ v. v.state) (same p h)
+
+    state_last : state_at Entered.path (length w.path) ≡ t
+    state_last = ap (λ v. v.state) last
+
+    entered_on_path : AreOnPath (length Entered.path) (state_at Entered.path) (mark_at Entered.marks)
+    entered_on_path =
+        subst (λ n. AreOnPath n (state_at Entered.path) (mark_at Entered.marks)) path_size
+        (AreOnPath-enter (length w.path) (state_at w.path) (state_at Entered.path) (mark_at w.marks) (mark_at Entered.marks) t unseen
+        state_same state_last self others walks.on_path)
+
+    entered_connects : (0 < length w.path → Inert (system_of l) (slice_index blocks) (state_at w.path w.at) t)
+        → Connects l blocks (length Entered.path) (state_at Entered.path) (BeginsPairs Entered.bounds)
+    entered_connects step =
+        subst (λ n. Connects l blocks n (state_at Entered.path) (BeginsPairs Entered.bounds)) path_size
+        (Connects-enter laws l blocks (length w.path) t (state_at w.path) (state_at Entered.path) state_same state_last (BeginsPairs w.bounds)
+        (BeginsPairs Entered.bounds) (bound_up w.bounds NewBound (λ x. x.pairs)) (length w.pairs) (bound_new w.bounds NewBound (λ x. x.pairs))
+        (λ p h.
+        let some : 0 < length w.path = omega (arith, h) in
+        laws.after (system_of l) (slice_index blocks) (state_at w.path p) (state_at w.path w.at) t (ties laws l blocks lists w walks p h some) (step some))
+        walks.connects)
+
+    entered_sound : (from : Bound → ℕ) (gives : ℕ → ℕ × ℕ → Type 0)
+        → IsSound l blocks (length w.path) (state_at w.path) (Begins from w.bounds) (from NewBound) gives
+        → IsSound l blocks (length Entered.path) (state_at Entered.path) (Begins from Entered.bounds) (from NewBound) gives
+    entered_sound from gives old =
+        subst (λ n. IsSound l blocks n (state_at Entered.path) (Begins from Entered.bounds) (from NewBound) gives) path_size
+        (IsSound-enter laws l blocks (length w.path) t (state_at w.path) (state_at Entered.path) state_same state_last (Begins from w.bounds)
+        (Begins from Entered.bounds) (bound_up w.bounds NewBound from) (from NewBound) gives (bound_new w.bounds NewBound from) old)
+
+    entered_rows : t < l.states → IsRow l.places t start end
+        → AreRows l (length Entered.path) (length w.path) (state_at Entered.path) (next_at Entered.path) (end_at Entered.path) (back_at Entered.path)
+    entered_rows inside row =
+        subst (λ n. AreRows l n (length w.path) (state_at Entered.path) (next_at Entered.path) (end_at Entered.path) (back_at Entered.path)) path_size
+        (Rows-enter l (length w.path) w.at (visit_at w.path) (visit_at Entered.path) same (subst (λ v. v.state < l.states) (sym last) inside)
+        (subst (λ v. IsRow l.places v.state v.next v.end) (sym last) row) (ap (λ v. v.back) last) walks.rows)
+
+    abbrev AccountsUpTo : ℕ → Type 0
+    AccountsUpTo n =
+        AccountsAll l blocks n (state_at Entered.path) (next_at Entered.path) (BeginsPairs Entered.bounds) (back_at Entered.path) (Held lists Entered) lists
+        (mark_at Entered.marks)
+
+    entered_accounts : IsRow l.places t start end → AccountsUpTo (length Entered.path)
+    entered_accounts row =
+        subst AccountsUpTo path_size
+        (AccountsAll-enter l blocks (length w.path) t (state_at w.path) (state_at Entered.path) (next_at w.path) (next_at Entered.path) (back_at w.path)
+        (back_at Entered.path) (BeginsPairs w.bounds) (BeginsPairs Entered.bounds) (Held lists w) (Held lists Entered) lists (mark_at w.marks) (mark_at Entered.marks) unseen
+        state_same (λ p h. ap (λ v. v.next) (same p h)) (λ p h. ap (λ v. v.back) (same p h)) state_last others
+        (λ f c b. elim (bound_old_or_new w.bounds NewBound (λ x. x.pairs) f c b) [ inl o ↦ inl o | inr e ↦ inr e.0 ])
+        walks.of_pairs.below held_entered walks.on_path end (subst (λ v. IsRow l.places t v.next end) (sym last) row) walks.accounts)
+
     pub Walks-enter : t < l.states → IsRow l.places t start end → (0 < length w.path → Inert (system_of l) (slice_index blocks) (state_at w.path w.at) t)
         → (length w.path ≡ 0 → (length w.pairs ≡ 0) × (length w.listed ≡ 0)) → Walks l blocks lists Entered
-    Walks-enter inside row step none =
-        let state_same = λ (p : ℕ) (h : p < length w.path). ap (λ v. v.state) (same p h) in
-        let state_last = ap (λ v. v.state) last in
-        record {
-          on_path =
-              subst (λ n. AreOnPath n (state_at Entered.path) (mark_at Entered.marks)) path_size
-              (AreOnPath-enter (length w.path) (state_at w.path) (state_at Entered.path) (mark_at w.marks) (mark_at Entered.marks) t unseen
-              state_same state_last self others walks.on_path);
-          signed =
-              AreSigned-enter (length w.path) (state_at w.path) (state_at Entered.path) (mark_at w.marks) (mark_at Entered.marks) t unseen
-              state_same state_last self others l blocks lists walks.signed;
-          of_pairs = entered_bounds (λ x. x.pairs) (λ e. (none e).0) walks.of_pairs;
-          of_listed = entered_bounds (λ x. x.listed) (λ e. (none e).1) walks.of_listed;
-          rising = AreRising-push w.bounds NewBound (λ i h. walks.of_pairs.below _ _ (bound_here w.bounds (λ x. x.pairs) i h)) walks.rising;
-          connects =
-              subst (λ n. Connects l blocks n (state_at Entered.path) (BeginsPairs Entered.bounds)) path_size
-              (Connects-enter laws l blocks (length w.path) t (state_at w.path) (state_at Entered.path) state_same state_last (BeginsPairs w.bounds)
-              (BeginsPairs Entered.bounds) (bound_up w.bounds NewBound (λ x. x.pairs)) (length w.pairs) (bound_new w.bounds NewBound (λ x. x.pairs))
-              (λ p h.
-              let some : 0 < length w.path = omega (arith, h) in
-              laws.after (system_of l) (slice_index blocks) (state_at w.path p) (state_at w.path w.at) t (ties laws l blocks lists w walks p h some) (step some))
-              walks.connects);
-          sound_pairs =
-              subst (λ n. IsSound l blocks n (state_at Entered.path) (BeginsPairs Entered.bounds) (length w.pairs) (GivesPair w.pairs)) path_size
-              (IsSound-enter laws l blocks (length w.path) t (state_at w.path) (state_at Entered.path) state_same state_last (BeginsPairs w.bounds)
-              (BeginsPairs Entered.bounds) (bound_up w.bounds NewBound (λ x. x.pairs)) (length w.pairs) (GivesPair w.pairs)
-              (bound_new w.bounds NewBound (λ x. x.pairs)) walks.sound_pairs);
-          sound_listed =
-              subst (λ n. IsSound l blocks n (state_at Entered.path) (BeginsListed Entered.bounds) (length w.listed) (GivesListed lists w.listed)) path_size
-              (IsSound-enter laws l blocks (length w.path) t (state_at w.path) (state_at Entered.path) state_same state_last (BeginsListed w.bounds)
-              (BeginsListed Entered.bounds) (bound_up w.bounds NewBound (λ x. x.listed)) (length w.listed) (GivesListed lists w.listed)
-              (bound_new w.bounds NewBound (λ x. x.listed)) walks.sound_listed);
-          listed = walks.listed;
-          rows =
-              subst (λ n. AreRows l n (length w.path) (state_at Entered.path) (next_at Entered.path) (end_at Entered.path) (back_at Entered.path)) path_size
-              (Rows-enter l (length w.path) w.at (visit_at w.path) (visit_at Entered.path) same (subst (λ v. v.state < l.states) (sym last) inside)
-              (subst (λ v. IsRow l.places v.state v.next v.end) (sym last) row) (ap (λ v. v.back) last) walks.rows);
-          accounts =
-              subst (λ n. AccountsAll l blocks n (state_at Entered.path) (next_at Entered.path) (BeginsPairs Entered.bounds) (back_at Entered.path) (Held lists Entered) lists (mark_at Entered.marks)) path_size
-              (AccountsAll-enter l blocks (length w.path) t (state_at w.path) (state_at Entered.path) (next_at w.path) (next_at Entered.path) (back_at w.path)
-              (back_at Entered.path) (BeginsPairs w.bounds) (BeginsPairs Entered.bounds) (Held lists w) (Held lists Entered) lists (mark_at w.marks) (mark_at Entered.marks) unseen
-              state_same (λ p h. ap (λ v. v.next) (same p h)) (λ p h. ap (λ v. v.back) (same p h)) state_last others
-              (λ f c b. elim (bound_old_or_new w.bounds NewBound (λ x. x.pairs) f c b) [ inl o ↦ inl o | inr e ↦ inr e.0 ])
-              walks.of_pairs.below held_entered walks.on_path end (subst (λ v. IsRow l.places t v.next end) (sym last) row) walks.accounts);
-        }
+    Walks-enter inside row step none = record {
+      on_path = entered_on_path;
+      signed =
+          AreSigned-enter (length w.path) (state_at w.path) (state_at Entered.path) (mark_at w.marks) (mark_at Entered.marks) t unseen
+          state_same state_last self others l blocks lists walks.signed;
+      of_pairs = entered_bounds (λ x. x.pairs) (λ e. (none e).0) walks.of_pairs;
+      of_listed = entered_bounds (λ x. x.listed) (λ e. (none e).1) walks.of_listed;
+      rising = AreRising-push w.bounds NewBound (λ i h. walks.of_pairs.below _ _ (bound_here w.bounds (λ x. x.pairs) i h)) walks.rising;
+      connects = entered_connects step;
+      sound_pairs = entered_sound (λ x. x.pairs) (GivesPair w.pairs) walks.sound_pairs;
+      sound_listed = entered_sound (λ x. x.listed) (GivesListed lists w.listed) walks.sound_listed;
+      listed = walks.listed;
+      rows = entered_rows inside row;
+      accounts = entered_accounts row;
+    }
 
     pub accounts_entered : (s : ℕ) (e : Triple) → IsInert l blocks s e → target_of e ≡ t
         → Accounts l blocks (BeginsPairs Entered.bounds) (back_at Entered.path) (Held lists Entered w.at) lists (mark_at Entered.marks) s w.at e
@@ -203,7 +233,7 @@ module _ (laws : Laws) (l : Grouped) (blocks : List ℕ) (lists : List (List (�
     }
 
   -- a transition more was read of the row at place r
-  module _ (r : ℕ) (low : r ≤ w.at) (v : Visit) (here : r < length w.path) (state : v.state ≡ state_at w.path r) (next : v.next ≡ next_at w.path r + 1)
+  module _ (r : ℕ) (v : Visit) (here : r < length w.path) (state : v.state ≡ state_at w.path r) (next : v.next ≡ next_at w.path r + 1)
       (end : v.end ≡ end_at w.path r) (back : v.back ≡ back_at w.path r) (more : next_at w.path r < end_at w.path r) where
     abbrev pub Moved : Parts
     Moved = record w { path = set w.path r v }
@@ -244,7 +274,7 @@ module _ (laws : Laws) (l : Grouped) (blocks : List ℕ) (lists : List (List (�
           listed = walks.listed;
           rows =
               subst (λ (x : Shape). AreRows l x.0 w.at x.1 (next_at Moved.path) x.2 x.3) same_shape
-              (AreRows-next l (length w.path) w.at r low (state_at w.path) (next_at w.path) (next_at Moved.path) (end_at w.path) (back_at w.path) self others more walks.rows);
+              (AreRows-next l (length w.path) w.at r (state_at w.path) (next_at w.path) (next_at Moved.path) (end_at w.path) (back_at w.path) self others more walks.rows);
           accounts =
               subst (λ (x : Shape). AccountsAll l blocks x.0 x.1 (next_at Moved.path) (BeginsPairs w.bounds) x.3 (Held lists w) lists (mark_at w.marks)) same_shape
               (AccountsAll-next l blocks (length w.path) r (state_at w.path) (next_at w.path) (next_at Moved.path) (back_at w.path) (BeginsPairs w.bounds) (Held lists w)

@@ -2,6 +2,7 @@
 use Rattle.std.specs.Prelude.{◌≡◌, ◌⊎◌, ℕ, ◌<◌, ◌+◌, ◌*◌, ◌-◌, ◌≤◌, min, Bool, true, false, List, [], length}
 use Rattle.std.specs.List.{Contains, All, filter, sum_by, count_by}
 use Rattle.lts.specs.Lts.{Triple, source_of}
+use Rattle.lts.specs.declared.limits.TheConstants.{MOST_STATES}
 use Rattle.refine.specs.Walks.{mark_at}
 use Rattle.refine.specs.declared.walk.Mark.{Mark}
 use Rattle.refine.specs.declared.walk.Mark.TheVariants.{Unseen, OnPath, Finished}
@@ -54,8 +55,8 @@ pub record AreIdle (states : ℕ) (marks : List Mark) (trail : List ℕ) : Type 
   pub none : (s : ℕ) → mark_at marks s ≡ Unseen
   pub empty : trail ≡ []
 
--- marks for at most 2,000,000 states, none of which was seen, and an empty trail
+-- marks for at most so many states as a system may have, none of which was seen, and an empty trail
 pub record AreMarks (states : ℕ) (marks : List Mark) (trail : List ℕ) : Type 0 where
-  pub few : states ≤ 2000000
+  pub few : states ≤ MOST_STATES
   pub none : (s : ℕ) → mark_at marks s ≡ Unseen
   pub empty : trail ≡ []

@@ -3,6 +3,7 @@
 #![tactic(auto)]
 
 mod branching;
+mod component;
 mod lists;
 mod marks;
 mod ordered;

@@ -7,13 +7,12 @@ loop-s-init g c =
     let l = c.args.l.now in
     let marks = c.args.walk.now.marks.items in
     let trail = c.args.walk.now.trail.items in
-    let all = idle_unread l c.args.p.now c.args.lists.now marks trail c.requires.idle in
     record {
       rests = idle_rests l c.args.p.now c.args.lists.now marks trail c.requires.idle;
       numbers = idle_numbers l c.args.p.now c.args.lists.now marks trail c.requires.idle (ap length c.requires.lists);
       trail = idle_trail l c.args.p.now c.args.lists.now marks trail c.requires.idle;
       all = λ t h below. absurd (omega (arith, h, below, c.states-s.ensures));
-      visits = omega (arith, all);
+      visits = omega (arith, idle_unread l c.args.p.now c.args.lists.now marks trail c.requires.idle);
       cost = record { rounds = omega arith; at_least = omega arith; at_most = omega arith };
     }
 

@@ -36,16 +36,14 @@ module _ (g : Over) (c : In_ok-enter g) where
 pub loop-internal-init : goal.loop-internal-init
 loop-internal-init g c =
     let b = begins g (goal.at.loop-internal-init g c).In_ok-enter in
-    let same = b.same in
     record {
       walks = b.walks;
       numbers = b.numbers;
       trail = c.enter.ensures.trail;
       seen = b.seen;
       found = b.found;
-      visits = omega (arith, same);
+      visits = omega (arith, b.same);
       cost = record { rounds = omega arith; at_least = omega arith; at_most = omega arith };
-      size = c.enter.ensures.size;
       lists = omega arith;
     }
 

@@ -15,7 +15,6 @@ invariant-loop-internal g l = record {
   visits : (g.M.Meter.counted l.m).visits + ahead l.l.places l.self.marks.items l.self.path.items
       ≡ (g.M.Meter.counted l.fn.m).visits + unread l.l.places l.fn.self.marks.items;
   cost : Costs (g.M.Meter.counted l.fn.m) (g.M.Meter.counted l.m) 0 0 (unread l.l.places l.fn.self.marks.items);
-  size : length l.self.marks.items ≡ length l.fn.self.marks.items;
   lists : length l.fn.lists ≤ length l.lists;
 }
 

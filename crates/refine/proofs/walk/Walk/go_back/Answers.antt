@@ -1,7 +1,8 @@
 use Rattle.std.specs.Prelude.{slice_index_or}
-use Rattle.std.proofs.Common.{◌≡◌, ◌∙◌, ◌-◌, ◌<◌, length, ap, sym, subst, inr, arith}
+use Rattle.std.proofs.Common.{◌≡◌, ◌∙◌, ℕ, ◌-◌, ◌<◌, ◌≤◌, length, ap, sym, subst, inr, arith}
 use Rattle.std.proofs.lemmas.List.{get_or_default}
-use Rattle.refine.specs.Walks.{visit_at, bound_at, parts_of, Walks}
+use Rattle.refine.specs.Walks.{visit_at, back_at, bound_at, Begins, AreBounds, parts_of, Walks}
+use Rattle.refine.specs.declared.walk.Bound.{Bound}
 use Rattle.refine.specs.declared.walk.Walk.{Walk}
 use Rattle.refine.proofs.WalkCuts.{last_bound}
 use Rattle.refine.proofs.WalkSteps.{Walks-back}
@@ -30,6 +31,13 @@ module _ (g : Over) (c : After-index-bound g) where
 
   bound : c.index-bound.result.now ≡ bound_at w.bounds.items (length w.bounds.items - 1)
   bound = read_bound w.bounds.items (c.len.result - 1) c.index-bound.result.now (omega (arith, c.len.ensures, w.bounds.ok.0)) some c.index-bound.ensures
+
+  few : (start : Bound → ℕ) (count : ℕ) → AreBounds (length w.path.items) w.at count (back_at w.path.items) (Begins start w.bounds.items)
+      → start c.index-bound.result.now ≤ count
+  few start count bounds =
+      let from = ap start bound in
+      let within = bounds.within _ _ (last_bound w.bounds.items c.requires.walks.rising some start) in
+      omega (arith, from, within)
 
 pub returns-then-bound-self-clause-walks : goal.returns-then-bound-self-clause-walks
 returns-then-bound-self-clause-walks g c =
@@ -61,20 +69,10 @@ leave-requires-clause-states g c k d h =
     omega (arith, below, size, state)
 
 pub leave-requires-clause-pairs : goal.leave-requires-clause-pairs
-leave-requires-clause-pairs g c =
-    let d = (goal.at.leave-requires-clause-pairs g c).After-index-bound in
-    let walks = c.requires.walks in
-    let from = ap (λ b. b.pairs) (bound g d) in
-    let few = walks.of_pairs.within _ _ (last_bound c.args.self.now.bounds.items walks.rising (some g d) (λ b. b.pairs)) in
-    omega (arith, from, few)
+leave-requires-clause-pairs g c = few g (goal.at.leave-requires-clause-pairs g c).After-index-bound (λ b. b.pairs) (length c.args.self.now.pairs.items) c.requires.walks.of_pairs
 
 pub leave-requires-clause-from : goal.leave-requires-clause-from
-leave-requires-clause-from g c =
-    let d = (goal.at.leave-requires-clause-from g c).After-index-bound in
-    let walks = c.requires.walks in
-    let from = ap (λ b. b.listed) (bound g d) in
-    let few = walks.of_listed.within _ _ (last_bound c.args.self.now.bounds.items walks.rising (some g d) (λ b. b.listed)) in
-    omega (arith, from, few)
+leave-requires-clause-from g c = few g (goal.at.leave-requires-clause-from g c).After-index-bound (λ b. b.listed) (length c.args.self.now.listed.items) c.requires.walks.of_listed
 
 pub returns-clause-walks : goal.returns-clause-walks
 returns-clause-walks g c =

@@ -1,9 +1,11 @@
 use Rattle.std.proofs.Common.{◌≡◌, ◌+◌, refl, sym, subst, ◌∙◌, arith}
 use Rattle.std.proofs.lemmas.Bool.{false≢true}
 use Rattle.std.proofs.lemmas.List.{length-set}
+use Rattle.lts.specs.Meter.{Costs}
 use Rattle.refine.specs.Walks.{Parts, parts_of}
+use Rattle.refine.specs.Steps.{ahead_of}
 use Rattle.refine.specs.declared.walk.Visit.{Visit}
-use Rattle.refine.proofs.WalkMove.{up_to, reading, Reads, read_visit, reads_none, place_low, label_low, target_low, reads_all, reads_more}
+use Rattle.refine.proofs.WalkMove.{up_to, reading, Reads, read_visit, reads_none, counts_more, place_low, label_low, target_low, reads_all, reads_more}
 use Rattle.refine.proofs.walk.Walk.read.Given.{Over}
 use Rattle.refine.proofs.walk.Walk.read.Goals as goal
 use Rattle.refine.proofs.walk.Walk.read.Goals.{In_ok-entered}
@@ -14,7 +16,6 @@ loop-next-init g c = record {
       reads_none c.args.l.now c.args.p.now c.args.lists.now (parts_of c.args.self.now) c.requires.walks c.requires.numbers c.requires.some c.index-visit.result.now
       (read_visit c.args.self.now.path.items c.args.self.now.at c.index-visit.result.now (c.requires.walks.rows.here c.requires.some) c.index-visit.ensures);
   at = refl;
-  same = refl;
   trail = c.requires.trail;
   visits = refl;
   cost = record { rounds = omega arith; at_least = omega arith; at_most = omega arith };
@@ -25,19 +26,19 @@ pub edge-label-requires-clause-place : goal.edge-label-requires-clause-place
 edge-label-requires-clause-place g c =
     let i = c.loop-next.invariant in
     place_low c.laws.ensures c.args.l.now c.known.ensures c.args.p.now c.args.lists.now (parts_of c.args.self.now) (parts_of c.loop-next.self) c.index-visit.result.now
-    c.index-visit.result.now.next c.loop-next.next i.reads (i.at ∙ i.same) (omega (arith, c.loop-next-test.true))
+    c.index-visit.result.now.next c.loop-next.next i.reads i.at (omega (arith, c.loop-next-test.true))
 
 pub take-requires-clause-label : goal.take-requires-clause-label
 take-requires-clause-label g c =
     let i = c.loop-next.invariant in
     label_low c.laws.ensures c.args.l.now c.known.ensures c.args.p.now c.args.lists.now (parts_of c.args.self.now) (parts_of c.loop-next.self) c.index-visit.result.now
-    c.index-visit.result.now.next c.loop-next.next i.reads (i.at ∙ i.same) (omega (arith, c.loop-next-test.true)) c.edge-label.result.0 c.edge-label.ensures.label
+    c.index-visit.result.now.next c.loop-next.next i.reads i.at (omega (arith, c.loop-next-test.true)) c.edge-label.result.0 c.edge-label.ensures.label
 
 pub take-requires-clause-target : goal.take-requires-clause-target
 take-requires-clause-target g c =
     let i = c.loop-next.invariant in
     target_low c.laws.ensures c.args.l.now c.known.ensures c.args.p.now c.args.lists.now (parts_of c.args.self.now) (parts_of c.loop-next.self) c.index-visit.result.now
-    c.index-visit.result.now.next c.loop-next.next i.reads (i.at ∙ i.same) (omega (arith, c.loop-next-test.true)) c.edge-label.result.1 c.edge-label.ensures.target
+    c.index-visit.result.now.next c.loop-next.next i.reads i.at (omega (arith, c.loop-next-test.true)) c.edge-label.result.1 c.edge-label.ensures.target
 
 -- one transition more is read
 module _ (g : Over) (c : In_ok-entered g) where
@@ -54,15 +55,19 @@ module _ (g : Over) (c : In_ok-entered g) where
   one =
       let i = c.loop-next.invariant in
       reads_more c.laws.ensures c.args.l.now c.known.ensures c.args.p.now c.args.lists.now (parts_of c.args.self.now) (parts_of c.loop-next.self) c.index-visit.result.now
-      c.index-visit.result.now.next c.loop-next.next i.reads (i.at ∙ i.same) (omega (arith, c.loop-next-test.true)) c.edge-label.result.0 c.edge-label.result.1
+      c.index-visit.result.now.next c.loop-next.next i.reads i.at (omega (arith, c.loop-next-test.true)) c.edge-label.result.0 c.edge-label.result.1
       c.edge-label.ensures.label c.edge-label.ensures.target c.block-block.result c.block-block.ensures new c.in_ok-entered.ensures.takes
+
+  counts : ((g.M.Meter.counted c.edge-label.new.m).visits + c.index-visit.result.now.next ≡ (g.M.Meter.counted c.args.m.now).visits + (c.loop-next.next + 1))
+      × Costs (g.M.Meter.counted c.args.m.now) (g.M.Meter.counted c.edge-label.new.m) 0 0 (ahead_of c.args.l.now c.args.self.now)
+  counts = counts_more _ _ _ _ _ _ _ c.loop-next.invariant.visits c.loop-next.invariant.cost c.edge-label.ensures.visit one.less
 
 pub index_mut-requires : goal.index_mut-requires
 index_mut-requires g c =
     let d = (goal.at.index_mut-requires g c).In_ok-entered in
     let longer = (one g d).longer in
     let size = length-set c.take.new.self.path.items c.args.self.now.at (x g d) in
-    omega (arith, longer, c.loop-next.invariant.same, size, c.take.new.self.path.ok.0)
+    omega (arith, longer, size, c.take.new.self.path.ok.0)
 
 pub returns-then-entered-clause-walks : goal.returns-then-entered-clause-walks
 returns-then-entered-clause-walks g c = (one g (goal.at.returns-then-entered-clause-walks g c).In_ok-entered).walks
@@ -89,25 +94,18 @@ returns-then-entered-clause-there g c = λ _.
 pub loop-next-preserved : goal.loop-next-preserved
 loop-next-preserved g c =
     let d = (goal.at.loop-next-preserved g c).In_ok-entered in
-    let i = c.loop-next.invariant in
-    let stayed : c.take.new.self.at ≡ c.loop-next.self.at = c.in_ok-entered.ensures.here (λ entered. false≢true (sym c.if-entered.false ∙ entered)) in
-    let less = (one g d).less in
+    let stays = c.in_ok-entered.ensures.here (λ entered. false≢true (sym c.if-entered.false ∙ entered)) ∙ c.loop-next.invariant.at in
     record {
-      reads = subst (λ a. Read g d (reading (new g d) a (x g d))) (sym (stayed ∙ i.at ∙ i.same)) (one g d);
-      at = stayed ∙ i.at;
-      same = i.same;
+      reads = subst (λ a. Read g d (reading (new g d) a (x g d))) (sym stays) (one g d);
+      at = stays;
       trail = c.take.ensures.trail;
-      visits = omega (arith, i.visits, c.edge-label.ensures.visit.at_least, c.edge-label.ensures.visit.at_most);
-      cost = record {
-        rounds = omega (arith, i.cost.rounds, c.edge-label.ensures.visit.rounds);
-        at_least = omega arith;
-        at_most = omega (arith, less, i.visits, c.edge-label.ensures.visit.at_least, c.edge-label.ensures.visit.at_most);
-      };
-      size = c.take.ensures.size ∙ i.size;
+      visits = (counts g d).0;
+      cost = (counts g d).1;
+      size = c.take.ensures.size ∙ c.loop-next.invariant.size;
     }
 
 pub returns-clause-walks : goal.returns-clause-walks
 returns-clause-walks g c =
     let i = c.loop-next.invariant in
     (reads_all c.laws.ensures c.args.l.now c.known.ensures c.args.p.now c.args.lists.now (parts_of c.args.self.now) (parts_of c.loop-next.self) c.index-visit.result.now
-    c.index-visit.result.now.next c.loop-next.next i.reads (i.at ∙ i.same) (omega (arith, c.loop-next-test.false))).walks
+    c.index-visit.result.now.next c.loop-next.next i.reads i.at (omega (arith, c.loop-next-test.false))).walks

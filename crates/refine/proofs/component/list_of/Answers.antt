@@ -4,7 +4,7 @@ use Rattle.std.proofs.lemmas.List.{nil_from_length}
 use Rattle.refine.specs.Lists.{list_at}
 use Rattle.refine.specs.Steps.{IsCollected}
 use Rattle.refine.proofs.WalkLists.{collected_pairs, collected_none, pushed_at}
-use Rattle.refine.proofs.walk.list_of.Goals as goal
+use Rattle.refine.proofs.component.list_of.Goals as goal
 
 pub returns-then-is_empty-clause-collected : goal.returns-then-is_empty-clause-collected
 returns-then-is_empty-clause-collected c =

@@ -1,5 +1,5 @@
 use Rattle.std.proofs.Common.{◌<◌, length, Contains}
-use Rattle.refine.proofs.walk.longest.Given as goal
+use Rattle.refine.proofs.component.longest.Given as goal
 
 abbrev pub invariant-loop-list : goal.invariant-loop-list
 invariant-loop-list l = record {

@@ -4,7 +4,7 @@ use Rattle.std.proofs.lemmas.List.{nil_from_length}
 use Rattle.refine.specs.Lists.{list_at, merged}
 use Rattle.refine.specs.Steps.{IsCollected}
 use Rattle.refine.proofs.WalkLists.{collected_known, collected_merged, pushed_at}
-use Rattle.refine.proofs.walk.list_from.Goals as goal
+use Rattle.refine.proofs.component.list_from.Goals as goal
 
 pub returns-then-is_empty-clause-collected : goal.returns-then-is_empty-clause-collected
 returns-then-is_empty-clause-collected c =

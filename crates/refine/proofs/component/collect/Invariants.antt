@@ -1,7 +1,7 @@
 use Rattle.std.proofs.Common.{◌⊎◌, ◌↔◌, ℕ, Contains}
 use Rattle.refine.specs.Lists.{list_at}
 use Rattle.refine.proofs.WalkLists.{IsAmong}
-use Rattle.refine.proofs.walk.collect_lists.Given as goal
+use Rattle.refine.proofs.component.collect.Given as goal
 
 abbrev pub invariant-loop-list : goal.invariant-loop-list
 invariant-loop-list l =
