@@ -174,6 +174,12 @@ unseen_is Unseen e = refl
 unseen_is (OnPath p) e = absurd (false≢true e)
 unseen_is (Finished k) e = absurd (false≢true e)
 
+-- what is left of a walk that goes back from a component that is finished
+pub record GoesBack (l : Grouped) (blocks : List ℕ) (lists : List (List (ℕ × ℕ))) (old new : Parts) : Type 0 where
+  pub walks : Walks l blocks lists (record new { at = back_at old.path old.at })
+  pub numbers : HasNumbers l.states (length lists) (length new.path) new.marks
+  pub same_ahead : ahead l.places new.marks new.path ≡ ahead l.places old.marks old.path
+
 -- the component that begins where the walk is was finished
 module _ (laws : Laws) (l : Grouped) (lts : IsLts l) (blocks : List ℕ) (lists lists' : List (List (ℕ × ℕ))) (old new : Parts)
     (walks : Walks l blocks lists old) (numbers : HasNumbers l.states (length lists) (length old.path) old.marks) (some : 0 < length old.path)
@@ -192,23 +198,23 @@ module _ (laws : Laws) (l : Grouped) (lts : IsLts l) (blocks : List ℕ) (lists 
         (drop (bound_at old.bounds (length old.bounds - 1)).listed old.listed) (list_at lists' leaves.number)
     collected = subst (λ x. IsCollected lists (drop x.pairs old.pairs) (drop x.listed old.listed) (list_at lists' leaves.number)) is leaves.collected
 
-    left_is : (back : ℕ) → back ≡ back_at old.path old.at
-        → Left laws l lts blocks lists lists' old new.marks leaves.number walks bounds_some last_place read leaves.within leaves.grow collected finishes ≡ record new { at = back }
-    left_is back e =
-        parts_are (record new { at = back })
+    left_is : Left laws l lts blocks lists lists' old new.marks leaves.number walks bounds_some last_place read leaves.within leaves.grow collected finishes
+        ≡ record new { at = back_at old.path old.at }
+    left_is =
+        parts_are (record new { at = back_at old.path old.at })
         (Left laws l lts blocks lists lists' old new.marks leaves.number walks bounds_some last_place read leaves.within leaves.grow collected finishes) (record {
           marks = refl;
           trail = leaves.trail;
           path = leaves.path ∙ ap (λ f. take f old.path) place;
-          at = e;
+          at = refl;
           bounds = leaves.bounds;
           pairs = leaves.pairs ∙ ap (λ x. take x.pairs old.pairs) is;
           listed = leaves.listed ∙ ap (λ x. take x.listed old.listed ++ leaves.number ∷ []) is;
         })
 
-    pub left_walks : (back : ℕ) → back ≡ back_at old.path old.at → Walks l blocks lists' (record new { at = back })
-    left_walks back e =
-        subst (Walks l blocks lists') (left_is back e)
+    left_walks : Walks l blocks lists' (record new { at = back_at old.path old.at })
+    left_walks =
+        subst (Walks l blocks lists') left_is
         (Walks-leave laws l lts blocks lists lists' old new.marks leaves.number walks bounds_some last_place read leaves.within leaves.grow collected finishes)
 
     same_unseen : (s : ℕ) → is_unseen (mark_at new.marks s) ≡ is_unseen (mark_at old.marks s)
@@ -225,7 +231,7 @@ module _ (laws : Laws) (l : Grouped) (lts : IsLts l) (blocks : List ℕ) (lists 
     pub left_shorter : length new.path ≤ length old.path
     left_shorter = let here = walks.rows.here some in let size = left_size in omega (arith, size, here)
 
-    pub left_numbers : HasNumbers l.states (length lists') (length new.path) new.marks
+    left_numbers : HasNumbers l.states (length lists') (length new.path) new.marks
     left_numbers =
         let here = walks.rows.here some in
         let size = left_size in
@@ -236,7 +242,7 @@ module _ (laws : Laws) (l : Grouped) (lts : IsLts l) (blocks : List ℕ) (lists 
         let room = numbers.numbers in
         record { size = finishes.size ∙ numbers.size; some = omega (arith, longer, some); numbers = omega (arith, size, same, few, room, here) }
 
-    pub left_ahead : ahead l.places new.marks new.path ≡ ahead l.places old.marks old.path
+    left_ahead : ahead l.places new.marks new.path ≡ ahead l.places old.marks old.path
     left_ahead =
         let same = unread-same l.places old.marks new.marks same_unseen in
         let cut : rest (take old.at old.path) ≡ rest old.path =
@@ -246,3 +252,6 @@ module _ (laws : Laws) (l : Grouped) (lts : IsLts l) (blocks : List ℕ) (lists 
         ]) in
         let rest' : rest new.path ≡ rest old.path = ap rest (leaves.path ∙ ap (λ f. take f old.path) place) ∙ cut in
         omega (arith, same, rest')
+
+    pub goes_back : GoesBack l blocks lists' old new
+    goes_back = record { walks = left_walks; numbers = left_numbers; same_ahead = left_ahead }

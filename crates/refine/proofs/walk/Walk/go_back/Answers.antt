@@ -1,12 +1,13 @@
 use Rattle.std.specs.Prelude.{slice_index_or}
-use Rattle.std.proofs.Common.{◌≡◌, ◌∙◌, ℕ, ◌-◌, ◌<◌, ◌≤◌, length, ap, sym, subst, inr, arith}
+use Rattle.std.proofs.Common.{◌≡◌, ◌∙◌, ℕ, ◌-◌, ◌<◌, ◌≤◌, List, length, ap, sym, subst, inr, arith}
 use Rattle.std.proofs.lemmas.List.{get_or_default}
-use Rattle.refine.specs.Walks.{visit_at, back_at, bound_at, Begins, AreBounds, parts_of, Walks}
+use Rattle.refine.specs.Walks.{visit_at, back_at, bound_at, Begins, AreBounds, Parts, parts_of, Walks}
+use Rattle.refine.specs.Steps.{Leaves}
 use Rattle.refine.specs.declared.walk.Bound.{Bound}
 use Rattle.refine.specs.declared.walk.Walk.{Walk}
 use Rattle.refine.proofs.WalkCuts.{last_bound}
 use Rattle.refine.proofs.WalkSteps.{Walks-back}
-use Rattle.refine.proofs.WalkAdvance.{bounds_some, left_walks, left_numbers, left_ahead}
+use Rattle.refine.proofs.WalkAdvance.{bounds_some, GoesBack, goes_back}
 use Rattle.refine.proofs.WalkMove.{read_visit, read_bound}
 use Rattle.refine.proofs.walk.Walk.go_back.Given.{Over}
 use Rattle.refine.proofs.walk.Walk.go_back.Goals as goal
@@ -38,6 +39,12 @@ module _ (g : Over) (c : After-index-bound g) where
       let from = ap start bound in
       let within = bounds.within _ _ (last_bound w.bounds.items c.requires.walks.rising some start) in
       omega (arith, from, within)
+
+  gone : c.index-bound.result.now.place ≡ w.at → (lists' : List (List (ℕ × ℕ))) (new : Parts) → Leaves c.index-bound.result.now (parts_of w) new c.args.lists.now lists'
+      → GoesBack c.args.l.now c.args.p.now lists' (parts_of w) new
+  gone place lists' new leaves =
+      goes_back c.laws.ensures c.args.l.now c.known.ensures c.args.p.now c.args.lists.now lists' (parts_of w) new c.requires.walks c.requires.numbers
+      c.requires.some c.requires.read c.index-bound.result.now bound place leaves
 
 pub returns-then-bound-self-clause-walks : goal.returns-then-bound-self-clause-walks
 returns-then-bound-self-clause-walks g c =
@@ -76,21 +83,16 @@ leave-requires-clause-from g c = few g (goal.at.leave-requires-clause-from g c).
 
 pub returns-clause-walks : goal.returns-clause-walks
 returns-clause-walks g c =
-    let d = goal.at.returns-clause-walks g c in
-    left_walks c.laws.ensures c.args.l.now c.known.ensures c.args.p.now c.args.lists.now c.leave.new.lists (parts_of c.args.self.now) (parts_of c.leave.new.self)
-    c.requires.walks c.requires.numbers c.requires.some c.requires.read c.index-bound.result.now (bound g d.After-index-bound) c.if-bound-self.false
-    c.in_ok-leave.ensures.leaves c.index.result.now.back (ap (λ v. v.back) (visit g d.After-index-bound))
+    let d = (goal.at.returns-clause-walks g c).After-index-bound in
+    let back = gone g d c.if-bound-self.false c.leave.new.lists (parts_of c.leave.new.self) c.in_ok-leave.ensures.leaves in
+    subst (λ x. Walks c.args.l.now c.args.p.now c.leave.new.lists (record (parts_of c.leave.new.self) { at = x })) (sym (ap (λ v. v.back) (visit g d))) back.walks
 
 pub returns-clause-numbers : goal.returns-clause-numbers
 returns-clause-numbers g c =
-    let d = goal.at.returns-clause-numbers g c in
-    left_numbers c.laws.ensures c.args.l.now c.known.ensures c.args.p.now c.args.lists.now c.leave.new.lists (parts_of c.args.self.now) (parts_of c.leave.new.self)
-    c.requires.walks c.requires.numbers c.requires.some c.requires.read c.index-bound.result.now (bound g d.After-index-bound) c.if-bound-self.false
-    c.in_ok-leave.ensures.leaves
+    let d = (goal.at.returns-clause-numbers g c).After-index-bound in
+    (gone g d c.if-bound-self.false c.leave.new.lists (parts_of c.leave.new.self) c.in_ok-leave.ensures.leaves).numbers
 
 pub returns-clause-ahead : goal.returns-clause-ahead
 returns-clause-ahead g c =
-    let d = goal.at.returns-clause-ahead g c in
-    left_ahead c.laws.ensures c.args.l.now c.known.ensures c.args.p.now c.args.lists.now c.leave.new.lists (parts_of c.args.self.now) (parts_of c.leave.new.self)
-    c.requires.walks c.requires.numbers c.requires.some c.requires.read c.index-bound.result.now (bound g d.After-index-bound) c.if-bound-self.false
-    c.in_ok-leave.ensures.leaves
+    let d = (goal.at.returns-clause-ahead g c).After-index-bound in
+    (gone g d c.if-bound-self.false c.leave.new.lists (parts_of c.leave.new.self) c.in_ok-leave.ensures.leaves).same_ahead
