@@ -1,5 +1,5 @@
 -- Small systems whose bisimulations, signatures and quotients are known: what the definitions must say of them.
-use Rattle.std.specs.Prelude.{◌≡◌, ℕ, suc, ◌<◌, List, [], ◌∷◌, ◌↔◌, length, map, slice_index}
+use Rattle.std.specs.Prelude.{◌≡◌, ℕ, suc, ◌<◌, List, [], ◌∷◌, ◌↔◌, length, map, slice_index, ⊤}
 use Rattle.std.specs.List.{Contains, slice_index_or}
 use Rattle.theory.specs.System.{System, Transition, IsSystem, internal}
 use Rattle.theory.specs.Bisimulation.{Relation, Equivalent}
@@ -56,6 +56,11 @@ pub record QuotientIs (rel : Relation) (A Q : System) (list : List ℕ) : Type 0
   pub quotient : Quotient rel A Q
   pub numbers : NumbersAre rel A list
 
+-- of each pair, the second is the quotient of the first
+abbrev pub AreQuotients : Relation → List (System × System) → Type 0
+AreQuotients rel [] = ⊤
+AreQuotients rel ((A, Q) ∷ rest) = Quotient rel A Q × AreQuotients rel rest
+
 -- a system by its first state, how many states it has, and its transitions
 abbrev pub system : ℕ → ℕ → List Transition → System
 system first states transitions = record { first = first; states = states; transitions = transitions }
@@ -73,181 +78,9 @@ b = 98 ∷ []
 abbrev pub c : List ℕ
 c = 99 ∷ []
 
--- after a, both b and c are open
-abbrev pub choice_after : System
-choice_after = system 0 4 (edge 0 a 1 ∷ edge 1 b 2 ∷ edge 1 c 3 ∷ [])
-
--- a itself chooses between b and c
-abbrev pub choice_before : System
-choice_before = system 0 5 (edge 0 a 1 ∷ edge 0 a 2 ∷ edge 1 b 3 ∷ edge 2 c 4 ∷ [])
-
--- a silent step between a and b
-abbrev pub silent_middle : System
-silent_middle = system 0 4 (edge 0 a 1 ∷ edge 1 internal 2 ∷ edge 2 b 3 ∷ [])
-
--- the same with no silent step
-abbrev pub no_middle : System
-no_middle = system 0 3 (edge 0 a 1 ∷ edge 1 b 2 ∷ [])
-
--- a silent step that gives a up
-abbrev pub silent_choice : System
-silent_choice = system 0 2 (edge 0 internal 1 ∷ edge 0 a 1 ∷ [])
-
--- a cycle of silent steps
-abbrev pub silent_cycle : System
-silent_cycle = system 0 2 (edge 0 internal 1 ∷ edge 1 internal 0 ∷ edge 1 a 1 ∷ [])
-
--- a silent step loses a, and b is open behind it alone
-abbrev pub option_behind : System
-option_behind = system 0 3 (edge 0 a 2 ∷ edge 0 internal 1 ∷ edge 1 b 2 ∷ [])
-
--- the same with b open before it too
-abbrev pub option_before : System
-option_before = system 0 3 (edge 0 a 2 ∷ edge 0 b 2 ∷ edge 0 internal 1 ∷ edge 1 b 2 ∷ [])
-
--- after a, b is open until a silent step gives it up
-abbrev pub not_committed : System
-not_committed = system 0 4 (edge 0 a 1 ∷ edge 1 internal 2 ∷ edge 1 b 3 ∷ [])
-
--- a may also lead at once to where b was given up
-abbrev pub committed : System
-committed = system 0 4 (edge 0 a 1 ∷ edge 0 a 2 ∷ edge 1 internal 2 ∷ edge 1 b 3 ∷ [])
-
--- state 1 is unreachable, and bisimilar to the reachable 3
-abbrev pub unreachable_twin : System
-unreachable_twin = system 0 4 (edge 0 a 2 ∷ edge 2 b 3 ∷ [])
-
--- the first state 2 leads 0, and its number comes before all others
-abbrev pub first_leads : System
-first_leads = system 2 4 (edge 2 a 3 ∷ edge 3 b 0 ∷ edge 0 a 3 ∷ edge 3 c 1 ∷ [])
-
--- b alone
-abbrev pub only_b : System
-only_b = system 0 2 (edge 0 b 1 ∷ [])
-
--- further systems, and the quotients that are meant
-
--- the strong quotient of unreachable_twin
-abbrev pub unreachable_twin_quotient : System
-unreachable_twin_quotient = system 0 3 (edge 0 a 1 ∷ edge 1 b 2 ∷ [])
-
--- the strong quotient of first_leads
-abbrev pub first_leads_quotient : System
-first_leads_quotient = system 0 3 (edge 0 a 2 ∷ edge 2 b 0 ∷ edge 2 c 1 ∷ [])
-
--- two states that take turns
-abbrev pub first_in_cycle : System
-first_in_cycle = system 1 2 (edge 1 a 0 ∷ edge 0 a 1 ∷ [])
-
--- its strong quotient
-abbrev pub first_in_cycle_quotient : System
-first_in_cycle_quotient = system 0 1 (edge 0 a 0 ∷ [])
-
--- the greatest state is the first
-abbrev pub first_is_two : System
-first_is_two = system 2 3 (edge 2 a 0 ∷ edge 0 b 1 ∷ [])
-
--- its strong quotient
-abbrev pub first_is_two_quotient : System
-first_is_two_quotient = system 0 3 (edge 0 a 1 ∷ edge 1 b 2 ∷ [])
-
--- a leads to two states that can do nothing
-abbrev pub two_equal_targets : System
-two_equal_targets = system 0 3 (edge 0 a 1 ∷ edge 0 a 2 ∷ [])
-
--- its strong quotient
-abbrev pub two_equal_targets_quotient : System
-two_equal_targets_quotient = system 0 2 (edge 0 a 1 ∷ [])
-
--- one transition, written three times
-abbrev pub written_twice : System
-written_twice = system 0 2 (edge 0 a 1 ∷ edge 0 a 1 ∷ edge 0 a 1 ∷ [])
-
--- its strong quotient
-abbrev pub written_twice_quotient : System
-written_twice_quotient = system 0 2 (edge 0 a 1 ∷ [])
-
--- nothing is reachable but the first state
-abbrev pub unreachable_pair : System
-unreachable_pair = system 0 3 (edge 1 a 2 ∷ [])
-
--- its strong quotient
-abbrev pub unreachable_pair_quotient : System
-unreachable_pair_quotient = system 0 1 []
-
--- three steps by one label
-abbrev pub chain_of_three : System
-chain_of_three = system 0 4 (edge 0 a 1 ∷ edge 1 a 2 ∷ edge 2 a 3 ∷ [])
-
--- its strong quotient
-abbrev pub chain_of_three_quotient : System
-chain_of_three_quotient = system 0 4 (edge 0 a 1 ∷ edge 1 a 2 ∷ edge 2 a 3 ∷ [])
-
--- the branching quotient of silent_cycle
-abbrev pub silent_cycle_branching_quotient : System
-silent_cycle_branching_quotient = system 0 1 (edge 0 a 0 ∷ [])
-
--- the strong quotient of silent_cycle
-abbrev pub silent_cycle_strong_quotient : System
-silent_cycle_strong_quotient = system 0 2 (edge 0 internal 1 ∷ edge 1 a 1 ∷ edge 1 internal 0 ∷ [])
-
--- a silent step from a state to itself
-abbrev pub silent_loop : System
-silent_loop = system 0 1 (edge 0 internal 0 ∷ [])
-
--- its branching quotient
-abbrev pub silent_loop_branching_quotient : System
-silent_loop_branching_quotient = system 0 1 []
-
--- its strong quotient
-abbrev pub silent_loop_strong_quotient : System
-silent_loop_strong_quotient = system 0 1 (edge 0 internal 0 ∷ [])
-
--- the branching quotient of silent_choice
-abbrev pub silent_choice_quotient : System
-silent_choice_quotient = system 0 2 (edge 0 a 1 ∷ edge 0 internal 1 ∷ [])
-
--- two silent steps before a
-abbrev pub silent_chain : System
-silent_chain = system 0 4 (edge 0 internal 1 ∷ edge 1 internal 2 ∷ edge 2 a 3 ∷ [])
-
--- its branching quotient
-abbrev pub silent_chain_quotient : System
-silent_chain_quotient = system 0 2 (edge 0 a 1 ∷ [])
-
--- a silent step beside a, with b behind it alone
-abbrev pub silent_beside : System
-silent_beside = system 0 4 (edge 0 internal 1 ∷ edge 0 a 2 ∷ edge 1 b 3 ∷ [])
-
--- its branching quotient
-abbrev pub silent_beside_quotient : System
-silent_beside_quotient = system 0 3 (edge 0 a 2 ∷ edge 0 internal 1 ∷ edge 1 b 2 ∷ [])
-
--- the branching quotient of silent_middle
-abbrev pub silent_middle_quotient : System
-silent_middle_quotient = system 0 3 (edge 0 a 1 ∷ edge 1 b 2 ∷ [])
-
--- a directly, or behind a silent step, and then b
-abbrev pub silent_detour : System
-silent_detour =
-    system 0 6 (edge 0 internal 1 ∷ edge 1 a 2 ∷ edge 0 a 3 ∷ edge 2 internal 4 ∷ edge 3 b 5 ∷ edge 4 b 5 ∷ [])
-
--- its branching quotient
-abbrev pub silent_detour_branching_quotient : System
-silent_detour_branching_quotient = system 0 3 (edge 0 a 1 ∷ edge 1 b 2 ∷ [])
-
--- its strong quotient
-abbrev pub silent_detour_strong_quotient : System
-silent_detour_strong_quotient =
-    system 0 5 (edge 0 a 3 ∷ edge 0 internal 1 ∷ edge 1 a 2 ∷ edge 2 internal 3 ∷ edge 3 b 4 ∷ [])
-
--- the strong quotient of no_middle with a hidden
-abbrev pub hidden_middle_strong_quotient : System
-hidden_middle_strong_quotient = system 0 3 (edge 0 internal 1 ∷ edge 1 b 2 ∷ [])
-
--- first_leads divided, with its leaders numbered by size alone
-abbrev pub first_leads_by_size : System
-first_leads_by_size = system 1 3 (edge 1 a 2 ∷ edge 2 b 1 ∷ edge 2 c 0 ∷ [])
+-- one state and no transition
+abbrev pub lone_state : System
+lone_state = system 0 1 []
 
 -- a alone
 abbrev pub only_a : System
@@ -257,14 +90,124 @@ only_a = system 0 2 (edge 0 a 1 ∷ [])
 abbrev pub only_a_from_1 : System
 only_a_from_1 = system 1 2 (edge 1 a 0 ∷ [])
 
--- no_middle, its transitions in another order
-abbrev pub no_middle_reordered : System
-no_middle_reordered = system 0 3 (edge 1 b 2 ∷ edge 0 a 1 ∷ [])
+-- b alone
+abbrev pub only_b : System
+only_b = system 0 2 (edge 0 b 1 ∷ [])
 
--- one state and no transition
-abbrev pub lone_state : System
-lone_state = system 0 1 []
+-- a, and then b
+abbrev pub a_then_b : System
+a_then_b = system 0 3 (edge 0 a 1 ∷ edge 1 b 2 ∷ [])
+
+-- a_then_b, its transitions in another order
+abbrev pub a_then_b_reordered : System
+a_then_b_reordered = system 0 3 (edge 1 b 2 ∷ edge 0 a 1 ∷ [])
+
+-- a from a state to itself
+abbrev pub loop_of_a : System
+loop_of_a = system 0 1 (edge 0 a 0 ∷ [])
+
+-- after a, both b and c are open
+abbrev pub choice_after : System
+choice_after = system 0 4 (edge 0 a 1 ∷ edge 1 b 2 ∷ edge 1 c 3 ∷ [])
+
+-- a itself chooses between b and c
+abbrev pub choice_before : System
+choice_before = system 0 5 (edge 0 a 1 ∷ edge 0 a 2 ∷ edge 1 b 3 ∷ edge 2 c 4 ∷ [])
+
+-- a silent step from a state to itself
+abbrev pub silent_loop : System
+silent_loop = system 0 1 (edge 0 internal 0 ∷ [])
 
 -- a silent step from a state to itself, beside a state with no step
 abbrev pub loop_and_rest : System
 loop_and_rest = system 0 2 (edge 0 internal 0 ∷ [])
+
+-- a silent step that gives a up
+abbrev pub silent_choice : System
+silent_choice = system 0 2 (edge 0 internal 1 ∷ edge 0 a 1 ∷ [])
+
+-- a cycle of silent steps
+abbrev pub silent_cycle : System
+silent_cycle = system 0 2 (edge 0 internal 1 ∷ edge 1 internal 0 ∷ edge 1 a 1 ∷ [])
+
+-- a silent step between a and b
+abbrev pub silent_middle : System
+silent_middle = system 0 4 (edge 0 a 1 ∷ edge 1 internal 2 ∷ edge 2 b 3 ∷ [])
+
+-- the strong quotient of a_then_b with a hidden
+abbrev pub hidden_middle_strong_quotient : System
+hidden_middle_strong_quotient = system 0 3 (edge 0 internal 1 ∷ edge 1 b 2 ∷ [])
+
+-- two silent steps before a
+abbrev pub silent_chain : System
+silent_chain = system 0 4 (edge 0 internal 1 ∷ edge 1 internal 2 ∷ edge 2 a 3 ∷ [])
+
+-- a silent step loses a, and b is open behind it alone
+abbrev pub option_behind : System
+option_behind = system 0 3 (edge 0 a 2 ∷ edge 0 internal 1 ∷ edge 1 b 2 ∷ [])
+
+-- the same with b open before it too
+abbrev pub option_before : System
+option_before = system 0 3 (edge 0 a 2 ∷ edge 0 b 2 ∷ edge 0 internal 1 ∷ edge 1 b 2 ∷ [])
+
+-- a silent step beside a, with b behind it alone
+abbrev pub silent_beside : System
+silent_beside = system 0 4 (edge 0 internal 1 ∷ edge 0 a 2 ∷ edge 1 b 3 ∷ [])
+
+-- after a, b is open until a silent step gives it up
+abbrev pub not_committed : System
+not_committed = system 0 4 (edge 0 a 1 ∷ edge 1 internal 2 ∷ edge 1 b 3 ∷ [])
+
+-- a may also lead at once to where b was given up
+abbrev pub committed : System
+committed = system 0 4 (edge 0 a 1 ∷ edge 0 a 2 ∷ edge 1 internal 2 ∷ edge 1 b 3 ∷ [])
+
+-- a directly, or behind a silent step, and then b
+abbrev pub silent_detour : System
+silent_detour =
+    system 0 6 (edge 0 internal 1 ∷ edge 1 a 2 ∷ edge 0 a 3 ∷ edge 2 internal 4 ∷ edge 3 b 5 ∷ edge 4 b 5 ∷ [])
+
+-- its strong quotient
+abbrev pub silent_detour_strong_quotient : System
+silent_detour_strong_quotient =
+    system 0 5 (edge 0 a 3 ∷ edge 0 internal 1 ∷ edge 1 a 2 ∷ edge 2 internal 3 ∷ edge 3 b 4 ∷ [])
+
+-- a leads to two states that can do nothing
+abbrev pub two_equal_targets : System
+two_equal_targets = system 0 3 (edge 0 a 1 ∷ edge 0 a 2 ∷ [])
+
+-- one transition, written three times
+abbrev pub written_twice : System
+written_twice = system 0 2 (edge 0 a 1 ∷ edge 0 a 1 ∷ edge 0 a 1 ∷ [])
+
+-- nothing is reachable but the first state
+abbrev pub unreachable_pair : System
+unreachable_pair = system 0 3 (edge 1 a 2 ∷ [])
+
+-- three steps by one label
+abbrev pub chain_of_three : System
+chain_of_three = system 0 4 (edge 0 a 1 ∷ edge 1 a 2 ∷ edge 2 a 3 ∷ [])
+
+-- state 1 is unreachable, and bisimilar to the reachable 3
+abbrev pub unreachable_twin : System
+unreachable_twin = system 0 4 (edge 0 a 2 ∷ edge 2 b 3 ∷ [])
+
+-- two states that take turns
+abbrev pub first_in_cycle : System
+first_in_cycle = system 1 2 (edge 1 a 0 ∷ edge 0 a 1 ∷ [])
+
+-- the greatest state is the first
+abbrev pub first_is_two : System
+first_is_two = system 2 3 (edge 2 a 0 ∷ edge 0 b 1 ∷ [])
+
+-- the first state 2 leads 0, and its number comes before all others
+abbrev pub first_leads : System
+first_leads = system 2 4 (edge 2 a 3 ∷ edge 3 b 0 ∷ edge 0 a 3 ∷ edge 3 c 1 ∷ [])
+
+-- the strong quotient of first_leads
+abbrev pub first_leads_quotient : System
+first_leads_quotient = system 0 3 (edge 0 a 2 ∷ edge 2 b 0 ∷ edge 2 c 1 ∷ [])
+
+-- first_leads divided, with its leaders numbered by size alone
+abbrev pub first_leads_by_size : System
+first_leads_by_size = system 1 3 (edge 1 a 2 ∷ edge 2 b 1 ∷ edge 2 c 0 ∷ [])

@@ -13,8 +13,8 @@ ghost use Rattle.theory.specs.Bisimulation.{
 };
 ghost use Rattle.theory.specs.Bisimulation.Relation.{strong, branching};
 ghost use Rattle.theory.specs.Examples.{AreApart, SplitsBy, RefinesBy};
-ghost use Rattle.theory.specs.Examples.{a, b, choice_after, choice_before, silent_middle, no_middle};
-ghost use Rattle.theory.specs.Examples.{no_middle_reordered, silent_choice, silent_cycle, silent_loop};
+ghost use Rattle.theory.specs.Examples.{a, b, choice_after, choice_before, silent_middle, a_then_b};
+ghost use Rattle.theory.specs.Examples.{a_then_b_reordered, silent_choice, silent_cycle, silent_loop};
 ghost use Rattle.theory.specs.Examples.{lone_state, option_behind, option_before, not_committed, committed};
 ghost use Rattle.theory.specs.Examples.{unreachable_twin, only_a, only_a_from_1, only_b};
 
@@ -28,11 +28,11 @@ pub fn moment_of_choice()
 
 /// `silent-middle`: a silent step between two others shows in strong bisimulation alone.
 pub fn a_silent_step_in_the_middle()
-    ensures systems { IsSystem silent_middle × IsSystem no_middle }
-    ensures branching { Branching silent_middle no_middle ((0, 0) ∷ (1, 1) ∷ (2, 1) ∷ (3, 2) ∷ []) }
-    ensures equivalent { Equivalent branching silent_middle no_middle }
-    ensures back { Equivalent branching no_middle silent_middle }
-    ensures strongly { ¬ Equivalent strong silent_middle no_middle }
+    ensures systems { IsSystem silent_middle × IsSystem a_then_b }
+    ensures branching { Branching silent_middle a_then_b ((0, 0) ∷ (1, 1) ∷ (2, 1) ∷ (3, 2) ∷ []) }
+    ensures equivalent { Equivalent branching silent_middle a_then_b }
+    ensures back { Equivalent branching a_then_b silent_middle }
+    ensures strongly { ¬ Equivalent strong silent_middle a_then_b }
 {}
 
 /// `silent-choice`: a silent step that gives a step up is no rest.
@@ -79,9 +79,9 @@ pub fn an_unreachable_twin()
 
 /// `hidden-both-sides`: hiding a step makes it silent, which shows in strong bisimulation alone.
 pub fn hidden_on_both_sides()
-    ensures hidden { Equivalent branching (Hide (a ∷ []) no_middle) (Hide (a ∷ []) only_b) }
-    ensures strongly { ¬ Equivalent strong (Hide (a ∷ []) no_middle) (Hide (a ∷ []) only_b) }
-    ensures shown { AreApart no_middle only_b }
+    ensures hidden { Equivalent branching (Hide (a ∷ []) a_then_b) (Hide (a ∷ []) only_b) }
+    ensures strongly { ¬ Equivalent strong (Hide (a ∷ []) a_then_b) (Hide (a ∷ []) only_b) }
+    ensures shown { AreApart a_then_b only_b }
 {}
 
 /// `silent-loop` and `lone-state`: a silent step from a state to itself shows in strong bisimulation alone.
@@ -97,8 +97,8 @@ pub fn different_labels()
 
 /// `reordered-lines`: the order of the transitions does not matter.
 pub fn reordered_lines()
-    ensures branching { Equivalent branching no_middle no_middle_reordered }
-    ensures strongly { Equivalent strong no_middle no_middle_reordered }
+    ensures branching { Equivalent branching a_then_b a_then_b_reordered }
+    ensures strongly { Equivalent strong a_then_b a_then_b_reordered }
 {}
 
 /// `first-differs`: which number the first state has does not matter.

@@ -34,12 +34,9 @@ pub use minimal::{
     quotient_states_differ, states_are_bisimilar_to_their_numbers, steps_keep_reachable,
 };
 pub use quotients::{
-    hidden_step, not_the_quotient, quotient_of_chain_of_three, quotient_of_first_in_cycle,
-    quotient_of_first_is_two, quotient_of_first_leads, quotient_of_silent_beside,
-    quotient_of_silent_chain, quotient_of_silent_choice, quotient_of_silent_cycle,
-    quotient_of_silent_detour, quotient_of_silent_loop, quotient_of_silent_middle,
-    quotient_of_two_equal_targets, quotient_of_unreachable_pair, quotient_of_unreachable_twin,
-    quotient_of_written_twice, the_quotient_is_one,
+    branching_quotients, hidden_step, not_the_quotient, quotient_of_first_leads,
+    quotient_of_silent_cycle, quotient_of_silent_detour, quotient_of_silent_loop,
+    quotient_of_unreachable_twin, strong_quotients, the_quotient_is_one,
 };
 pub use rounds::{
     old_blocks_count, rounds_of_chain_of_three, rounds_of_lone_state, rounds_of_not_committed,

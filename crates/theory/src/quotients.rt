@@ -6,30 +6,16 @@ ghost use Rattle.theory.specs.System.{System, Transition, Hide, Reachable};
 ghost use Rattle.theory.specs.Bisimulation.{Relation};
 ghost use Rattle.theory.specs.Bisimulation.Relation.{strong, branching};
 ghost use Rattle.theory.specs.Quotient.{IsLeader, Number, Quotient};
-ghost use Rattle.theory.specs.Examples.{LeadersAre, QuotientIs};
-ghost use Rattle.theory.specs.Examples.{a, unreachable_twin, unreachable_twin_quotient};
-ghost use Rattle.theory.specs.Examples.{first_leads, first_leads_quotient, first_in_cycle};
-ghost use Rattle.theory.specs.Examples.{first_in_cycle_quotient, first_is_two};
-ghost use Rattle.theory.specs.Examples.{first_is_two_quotient, two_equal_targets};
-ghost use Rattle.theory.specs.Examples.{two_equal_targets_quotient, written_twice};
-ghost use Rattle.theory.specs.Examples.{written_twice_quotient, unreachable_pair};
-ghost use Rattle.theory.specs.Examples.{unreachable_pair_quotient, chain_of_three};
-ghost use Rattle.theory.specs.Examples.{chain_of_three_quotient, silent_cycle};
-ghost use Rattle.theory.specs.Examples.{silent_cycle_branching_quotient};
-ghost use Rattle.theory.specs.Examples.{silent_cycle_strong_quotient, silent_loop};
-ghost use Rattle.theory.specs.Examples.{silent_loop_branching_quotient};
-ghost use Rattle.theory.specs.Examples.{silent_loop_strong_quotient, silent_choice};
-ghost use Rattle.theory.specs.Examples.{silent_choice_quotient, silent_chain};
-ghost use Rattle.theory.specs.Examples.{silent_chain_quotient, silent_beside};
-ghost use Rattle.theory.specs.Examples.{silent_beside_quotient, silent_middle};
-ghost use Rattle.theory.specs.Examples.{silent_middle_quotient, silent_detour};
-ghost use Rattle.theory.specs.Examples.{silent_detour_branching_quotient};
-ghost use Rattle.theory.specs.Examples.{silent_detour_strong_quotient, no_middle, only_b};
-ghost use Rattle.theory.specs.Examples.{hidden_middle_strong_quotient, first_leads_by_size};
+ghost use Rattle.theory.specs.Examples.{AreQuotients, LeadersAre, QuotientIs};
+ghost use Rattle.theory.specs.Examples.{a, only_a, a_then_b, only_b, loop_of_a, lone_state};
+ghost use Rattle.theory.specs.Examples.{unreachable_twin, unreachable_pair, two_equal_targets, written_twice, chain_of_three};
+ghost use Rattle.theory.specs.Examples.{first_leads, first_leads_quotient, first_leads_by_size, first_in_cycle, first_is_two};
+ghost use Rattle.theory.specs.Examples.{silent_cycle, silent_loop, silent_choice, silent_chain, silent_beside, option_behind};
+ghost use Rattle.theory.specs.Examples.{silent_middle, silent_detour, silent_detour_strong_quotient, hidden_middle_strong_quotient};
 
 /// `unreachable-twin`: state 1 is unreachable, bisimilar to 3 and no leader, so it adds no state.
 pub fn quotient_of_unreachable_twin()
-    ensures quotient { Quotient strong unreachable_twin unreachable_twin_quotient }
+    ensures quotient { Quotient strong unreachable_twin a_then_b }
     ensures number_of_0 { Number strong unreachable_twin 0 0 }
     ensures number_of_2 { Number strong unreachable_twin 2 1 }
     ensures number_of_3 { Number strong unreachable_twin 3 2 }
@@ -45,87 +31,54 @@ pub fn quotient_of_first_leads()
     ensures no_leader { ¬ IsLeader strong first_leads 0 }
 {}
 
-/// `first-in-cycle`: the two states are one.
-pub fn quotient_of_first_in_cycle()
-    ensures { Quotient strong first_in_cycle first_in_cycle_quotient }
+/// `first-in-cycle`: the two states are one. `first-is-two`: the greatest state is the first, and is numbered 0.
+/// `two-equal-targets`: a leads to two states of one class, which is one transition. `two-spellings`: a transition that is
+/// listed three times is in the quotient once. `unreachable-pair`: what is not reachable leaves nothing. `chain-of-three`:
+/// the system is its own quotient.
+pub fn strong_quotients()
+    ensures { AreQuotients strong ((first_in_cycle, loop_of_a) ∷ (first_is_two, a_then_b) ∷ (two_equal_targets, only_a)
+        ∷ (written_twice, only_a) ∷ (unreachable_pair, lone_state) ∷ (chain_of_three, chain_of_three) ∷ []) }
 {}
 
-/// `first-is-two`: the greatest state is the first, and is numbered 0.
-pub fn quotient_of_first_is_two()
-    ensures { Quotient strong first_is_two first_is_two_quotient }
-{}
-
-/// `two-equal-targets`: a leads to two states of one class, which is one transition.
-pub fn quotient_of_two_equal_targets()
-    ensures { Quotient strong two_equal_targets two_equal_targets_quotient }
-{}
-
-/// `two-spellings`: a transition that is listed three times is in the quotient once.
-pub fn quotient_of_written_twice()
-    ensures { Quotient strong written_twice written_twice_quotient }
-{}
-
-/// `unreachable-pair`: what is not reachable leaves nothing.
-pub fn quotient_of_unreachable_pair()
-    ensures { Quotient strong unreachable_pair unreachable_pair_quotient }
-{}
-
-/// `chain-of-three`: the system is its own quotient.
-pub fn quotient_of_chain_of_three()
-    ensures { Quotient strong chain_of_three chain_of_three_quotient }
+/// `silent-choice`: the silent step leads to another class, and stays. `silent-chain`: silent steps that give nothing up
+/// go. `silent-beside-visible`: a silent step that gives a up stays. `silent-middle`: the silent step between two others
+/// goes.
+pub fn branching_quotients()
+    ensures { AreQuotients branching ((silent_choice, silent_choice) ∷ (silent_chain, only_a)
+        ∷ (silent_beside, option_behind) ∷ (silent_middle, a_then_b) ∷ []) }
 {}
 
 /// `silent-cycle`: one state in branching bisimulation, and the system itself in strong.
 pub fn quotient_of_silent_cycle()
-    ensures branching { QuotientIs branching silent_cycle silent_cycle_branching_quotient (0 ∷ 0 ∷ []) }
-    ensures strong { QuotientIs strong silent_cycle silent_cycle_strong_quotient (0 ∷ 1 ∷ []) }
+    ensures branching { QuotientIs branching silent_cycle loop_of_a (0 ∷ 0 ∷ []) }
+    ensures strong { QuotientIs strong silent_cycle silent_cycle (0 ∷ 1 ∷ []) }
 {}
 
 /// `silent-loop`: the silent step within a class is left out in branching bisimulation, and kept in strong.
 pub fn quotient_of_silent_loop()
-    ensures quotient_branching { Quotient branching silent_loop silent_loop_branching_quotient }
-    ensures quotient_strong { Quotient strong silent_loop silent_loop_strong_quotient }
-{}
-
-/// `silent-choice`: the silent step leads to another class, and stays.
-pub fn quotient_of_silent_choice()
-    ensures { Quotient branching silent_choice silent_choice_quotient }
-{}
-
-/// `silent-chain`: silent steps that give nothing up go.
-pub fn quotient_of_silent_chain()
-    ensures { Quotient branching silent_chain silent_chain_quotient }
-{}
-
-/// `silent-beside-visible`: a silent step that gives a up stays.
-pub fn quotient_of_silent_beside()
-    ensures { Quotient branching silent_beside silent_beside_quotient }
-{}
-
-/// `silent-middle`: the silent step between two others goes.
-pub fn quotient_of_silent_middle()
-    ensures { Quotient branching silent_middle silent_middle_quotient }
+    ensures quotient_branching { Quotient branching silent_loop lone_state }
+    ensures quotient_strong { Quotient strong silent_loop silent_loop }
 {}
 
 /// `silent-detour`: the detour goes in branching bisimulation, and stays in strong; the states 3 and 4 are one in both.
 pub fn quotient_of_silent_detour()
-    ensures branching { QuotientIs branching silent_detour silent_detour_branching_quotient
+    ensures branching { QuotientIs branching silent_detour a_then_b
         (0 ∷ 0 ∷ 1 ∷ 1 ∷ 1 ∷ 2 ∷ []) }
     ensures strong { QuotientIs strong silent_detour silent_detour_strong_quotient (0 ∷ 1 ∷ 2 ∷ 3 ∷ 3 ∷ 4 ∷ []) }
 {}
 
 /// `hidden-step-goes` and `hidden-step-stays`: a hidden step goes in branching bisimulation and stays in strong.
 pub fn hidden_step()
-    ensures goes { Quotient branching (Hide (a ∷ []) no_middle) only_b }
-    ensures stays { Quotient strong (Hide (a ∷ []) no_middle) hidden_middle_strong_quotient }
-    ensures nothing_hidden { Hide [] no_middle ≡ no_middle }
+    ensures goes { Quotient branching (Hide (a ∷ []) a_then_b) only_b }
+    ensures stays { Quotient strong (Hide (a ∷ []) a_then_b) hidden_middle_strong_quotient }
+    ensures nothing_hidden { Hide [] a_then_b ≡ a_then_b }
 {}
 
 /// What is not the quotient: a system with a state too many, with a silent step within a class, with a transition
 /// twice, or with its leaders numbered by size alone.
 pub fn not_the_quotient()
-    ensures a_state_too_many { ¬ Quotient branching silent_cycle silent_cycle_strong_quotient }
-    ensures a_silent_step { ¬ Quotient branching silent_loop silent_loop_strong_quotient }
+    ensures a_state_too_many { ¬ Quotient branching silent_cycle silent_cycle }
+    ensures a_silent_step { ¬ Quotient branching silent_loop silent_loop }
     ensures written_twice { ¬ Quotient strong written_twice written_twice }
     ensures by_size { ¬ Quotient strong first_leads first_leads_by_size }
 {}

@@ -1,11 +1,11 @@
 -- Leaders, numbers and quotients of written-out systems, from what is told of each.
-use Rattle.std.proofs.Common.{◌≡◌, ℕ, Bool, true, not, eqb, List, length, slice_index, subst}
+use Rattle.std.proofs.Common.{◌≡◌, ℕ, Bool, true, not, eqb, List, [], ◌∷◌, length, map, slice_index, subst}
 use Rattle.std.proofs.lemmas.Bool.{eqb-true}
 use Rattle.theory.specs.System.{System, Reachable}
 use Rattle.theory.specs.Bisimulation.{Relation}
 use Rattle.theory.specs.Quotient.{Leader, IsLeader, Number, Quotient}
-use Rattle.theory.specs.Examples.{NumbersAre, LeadersAre, QuotientIs}
-use Rattle.theory.proofs.Testing.{and_then, and_then_parts, not_passes, has, has_contains, contains_has, each_below, each_below_passes}
+use Rattle.theory.specs.Examples.{AreQuotients, NumbersAre, LeadersAre, QuotientIs}
+use Rattle.theory.proofs.Testing.{and_then, and_then_parts, not_passes, every, has, has_contains, contains_has, each_below, each_below_passes}
 use Rattle.theory.proofs.Testing.Reaching.{reachable, reachable_found}
 use Rattle.theory.proofs.Testing.Rising.{rises}
 use Rattle.theory.proofs.Testing.Leading.{are_reachable, are_classes, classes_pass, are_leaders, reachable_has, leader_is, leader_listed}
@@ -42,6 +42,18 @@ pub is_quotient :
 is_quotient rel A Q told h d =
     let parts = census_parts rel A told h in
     quotient_passes rel A Q told.block told.pairs told.turns told.lead told.leaders parts.0 parts.1 parts.2 d
+
+-- systems that right censuses divide, each with its quotient
+pub are_quotients :
+    (rel : Relation) (told : List (System × System × Census)) →
+    every told (λ x. and_then (is_census rel x.0 x.2) (λ _. divides rel x.0 x.2.lead x.2.leaders x.1)) ≡ true →
+    AreQuotients rel (map (λ x. (x.0, x.1)) told)
+are_quotients rel [] h = tt
+are_quotients rel ((A, Q, told) ∷ rest) h =
+    let test = λ (x : System × System × Census). and_then (is_census rel x.0 x.2) (λ _. divides rel x.0 x.2.lead x.2.leaders x.1) in
+    let first = and_then_parts (test (A, Q, told)) (λ _. every rest test) h in
+    let parts = and_then_parts (is_census rel A told) (λ _. divides rel A told.lead told.leaders Q) first.0 in
+    (is_quotient rel A Q told parts.0 parts.1, are_quotients rel rest first.1)
 
 -- a reachable state's number by a right census
 pub is_number :

@@ -2,7 +2,7 @@
 use Rattle.std.proofs.Common.{refl, lit<}
 use Rattle.theory.specs.Bisimulation.Relation.{strong, branching}
 use Rattle.theory.specs.System.{internal}
-use Rattle.theory.specs.Examples.{a, edge, silent_cycle, silent_cycle_branching_quotient, silent_cycle_strong_quotient, silent_loop, silent_loop_branching_quotient, silent_loop_strong_quotient, first_leads, first_leads_quotient, first_leads_by_size}
+use Rattle.theory.specs.Examples.{a, edge, silent_cycle, loop_of_a, silent_loop, lone_state, first_leads, first_leads_quotient, first_leads_by_size}
 use Rattle.theory.proofs.Testing.Census.{is_quotient}
 use Rattle.theory.proofs.Testing.Refusing.{not_by_states, not_by_transition}
 use Rattle.theory.proofs.Testing.Told.{silent_cycle_branching, silent_loop_branching, first_leads_strong}
@@ -10,13 +10,13 @@ use Rattle.theory.proofs.quotients.not_the_quotient.Goals as goal
 
 pub returns-clause-a_state_too_many : goal.returns-clause-a_state_too_many
 returns-clause-a_state_too_many _ =
-    not_by_states branching silent_cycle silent_cycle_branching_quotient silent_cycle_strong_quotient
-    (is_quotient branching silent_cycle silent_cycle_branching_quotient silent_cycle_branching refl refl) refl
+    not_by_states branching silent_cycle loop_of_a silent_cycle
+    (is_quotient branching silent_cycle loop_of_a silent_cycle_branching refl refl) refl
 
 pub returns-clause-a_silent_step : goal.returns-clause-a_silent_step
 returns-clause-a_silent_step _ =
-    not_by_transition branching silent_loop silent_loop_branching_quotient silent_loop_strong_quotient (edge 0 internal 0)
-    (is_quotient branching silent_loop silent_loop_branching_quotient silent_loop_branching refl refl)
+    not_by_transition branching silent_loop lone_state silent_loop (edge 0 internal 0)
+    (is_quotient branching silent_loop lone_state silent_loop_branching refl refl)
     (0, lit< tt, refl) refl
 
 pub returns-clause-written_twice : goal.returns-clause-written_twice

@@ -1,13 +1,13 @@
 -- Each fact is a test that computes.
 use Rattle.std.proofs.Common.{refl}
 use Rattle.theory.specs.Bisimulation.Relation.{strong}
-use Rattle.theory.specs.Examples.{unreachable_twin, unreachable_twin_quotient}
+use Rattle.theory.specs.Examples.{unreachable_twin, a_then_b}
 use Rattle.theory.proofs.Testing.Census.{is_quotient, is_number, is_no_leader, is_unreachable}
 use Rattle.theory.proofs.Testing.Told.{unreachable_twin_strong}
 use Rattle.theory.proofs.quotients.quotient_of_unreachable_twin.Goals as goal
 
 pub returns-clause-quotient : goal.returns-clause-quotient
-returns-clause-quotient _ = is_quotient strong unreachable_twin unreachable_twin_quotient unreachable_twin_strong refl refl
+returns-clause-quotient _ = is_quotient strong unreachable_twin a_then_b unreachable_twin_strong refl refl
 
 pub returns-clause-number_of_0 : goal.returns-clause-number_of_0
 returns-clause-number_of_0 _ = is_number strong unreachable_twin 0 0 unreachable_twin_strong refl refl
