@@ -1,5 +1,5 @@
 -- A text reads as one system or has one first fault.
-use Rattle.std.proofs.Common.{◌≡◌, ◌⊎◌, ◌↔◌, ⊎_elim, ℕ, ◌+◌, ◌-◌, ◌<◌, ◌≤◌, List, [], ◌∷◌, ◌++◌, length, refl, sym, ◌∙◌, subst, inl, inr, arith, All}
+use Rattle.std.proofs.Common.{◌≡◌, ◌⊎◌, ℕ, ◌+◌, ◌-◌, ◌<◌, ◌≤◌, List, [], ◌∷◌, ◌++◌, length, refl, sym, ◌∙◌, subst, inl, inr, arith, All}
 use Rattle.std.specs.List.{AllZip}
 use Rattle.std.proofs.lemmas.Bool.{cases_lt}
 use Rattle.std.proofs.lemmas.List.Elements.{All-nil, All-cons, All-head, All-tail}
@@ -234,11 +234,3 @@ text_judged bounds text = step (lines_of text).0 (lines_of text).1
                   record { first = good.0; states = good.2; transitions = rest.0 },
                   Reads-from_lines bounds text line lines good.0 good.1 good.2 rest.0 l good.3 rest.1 (omega arith),
                 )
-
--- a text without a fault reads as a system, and no other does
-pub text_without_fault :
-    (bounds : Bounds) (text : List ℕ) → ((f : Fault) → ¬ FirstFault bounds text f) ↔ ((A : System) × Reads bounds text A)
-text_without_fault bounds text = (
-  λ none. ⊎_elim (λ r. r) (λ bad. absurd (none bad.0 bad.1)) (text_judged bounds text),
-  λ r f. Reads-no_fault bounds text r.0 f r.1,
-)

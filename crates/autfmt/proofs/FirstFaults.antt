@@ -1,10 +1,14 @@
 -- Laws of the first fault of lines, for texts and hide lists alike: Bad says which fault a line has.
-use Rattle.std.proofs.Common.{◌≡◌, ◌⊎◌, ℕ, ◌+◌, ◌<◌, ◌≤◌, List, [], ◌∷◌, ◌++◌, length, subst, inl, inr, arith}
+use Rattle.std.proofs.Common.{◌≡◌, ◌⊎◌, ◌↔◌, ⊎_elim, ℕ, ◌+◌, ◌<◌, ◌≤◌, List, [], ◌∷◌, ◌++◌, length, subst, inl, inr, arith}
 use Rattle.autfmt.specs.declared.fault.Fault.{Fault}
 use Rattle.autfmt.specs.Texts.{Lines, IsOneLine}
 use Rattle.autfmt.specs.Faults.{FaultFrom, JudgedRest}
 use Rattle.autfmt.proofs.Cutting.{Lines-unique, first_begins}
-use Rattle.autfmt.specs.Line.{longest_line}
+use Rattle.autfmt.specs.declared.line.TheConstants.{LONGEST_LINE}
+
+-- where there is a reading or a fault, and never both, there is a reading exactly if there is no fault
+pub without_fault : {X : Type 0} (P : Fault → Type 0) → X ⊎ ((f : Fault) × P f) → (X → (f : Fault) → ¬ P f) → ((f : Fault) → ¬ P f) ↔ X
+without_fault P one not_both = (λ none. ⊎_elim (λ x. x) (λ bad. absurd (none bad.0 bad.1)) one, not_both)
 
 module _ (Bad : ℕ → List ℕ → Fault → Type 0) where
   -- none of the lines from line k on is faulty
@@ -60,7 +64,7 @@ module _ (Bad : ℕ → List ℕ → Fault → Type 0) where
 
   -- the unended line k is not judged, so there is no fault yet
   pub no_judged :
-      (most k : ℕ) (lines : List (List ℕ)) (rest : List ℕ) (fault : Fault) → NoneFaulty k lines → length rest ≤ longest_line →
+      (most k : ℕ) (lines : List (List ℕ)) (rest : List ℕ) (fault : Fault) → NoneFaulty k lines → length rest ≤ LONGEST_LINE →
       (k + length lines ≤ most) ⊎ (length rest ≡ 0) → FaultFrom Bad (JudgedRest Bad most rest) k lines fault → ⊥
   no_judged most k lines rest fault none short unjudged h =
       at_rest (FaultFrom-end (JudgedRest Bad most rest) k lines fault none h) unjudged
@@ -73,7 +77,7 @@ module _ (Bad : ℕ → List ℕ → Fault → Type 0) where
   -- the fault of a line that is too long, or behind the last that may stand, stays whatever follows in the line
   abbrev pub Stays : ℕ → Type 0
   Stays most =
-      (front tail : List ℕ) (k : ℕ) (fault : Fault) → (longest_line < length front) ⊎ (most < k) →
+      (front tail : List ℕ) (k : ℕ) (fault : Fault) → (LONGEST_LINE < length front) ⊎ (most < k) →
       Bad k front fault → Bad k (front ++ tail) fault
 
   -- then the fault of a judged unended line is that of the first line that it begins
@@ -82,12 +86,12 @@ module _ (Bad : ℕ → List ℕ → Fault → Type 0) where
       IsOneLine front → Lines (front ++ more) others → JudgedRest Bad most front k fault → FaultFrom Bad end k others fault
   judged_first most stays end front more others k fault one l (judged, bad) = begun judged
     where
-      from : 1 ≤ length front → (longest_line < length front) ⊎ (most < k) → FaultFrom Bad end k others fault
+      from : 1 ≤ length front → (LONGEST_LINE < length front) ⊎ (most < k) → FaultFrom Bad end k others fault
       from some kind =
           let b = first_begins front more one some in
           let same = Lines-unique (front ++ more) ((front ++ b.0) ∷ b.1) others b.2 l in
           subst (λ (ls : List (List ℕ)). FaultFrom Bad end k ls fault) same (inl (stays front b.0 k fault kind bad))
 
-      begun : (longest_line < length front) ⊎ ((most < k) × (1 ≤ length front)) → FaultFrom Bad end k others fault
+      begun : (LONGEST_LINE < length front) ⊎ ((most < k) × (1 ≤ length front)) → FaultFrom Bad end k others fault
       begun (inl big) = from (omega arith) (inl big)
       begun (inr behind) = from behind.1 (inr behind.0)

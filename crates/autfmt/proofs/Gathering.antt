@@ -11,10 +11,11 @@ use Rattle.autfmt.specs.Texts.{IsOneLine}
 use Rattle.autfmt.specs.Cutter.{Cutting, BeginsTooLong, CutsLine, IsPart}
 use Rattle.autfmt.specs.Gathering.{FoundIn}
 use Rattle.autfmt.proofs.Cutting.{IsNoFeed}
-use Rattle.autfmt.specs.Line.{longest_line}
+use Rattle.autfmt.specs.declared.cutter.TheConstants.{PIECE}
+use Rattle.autfmt.specs.declared.line.TheConstants.{LONGEST_LINE}
 
 -- more of a line
-pub IsPart-append : (kept bytes : List ℕ) → IsPart kept → IsOneLine bytes → length kept + length bytes ≤ longest_line → IsPart (kept ++ bytes)
+pub IsPart-append : (kept bytes : List ℕ) → IsPart kept → IsOneLine bytes → length kept + length bytes ≤ LONGEST_LINE → IsPart (kept ++ bytes)
 IsPart-append kept bytes part one fits =
     (All-append IsNoFeed kept bytes part.0 one, omega (arith, length-append kept bytes))
 
@@ -33,7 +34,7 @@ pub feed_found :
     (a b c : Option (List ℕ)) (old bs kept buf bytes front kept' : List ℕ) (n at : ℕ) →
     Consumes a b bs → kept ≡ old ++ bs → IsPart kept → Consumes b c (take n buf) → n ≤ length buf → bytes ≡ take n buf →
     at < length bytes → IsOneLine (take at bytes) → drop at bytes ≡ 10 ∷ drop (at + 1) bytes → front ≡ take at bytes →
-    length kept + length front ≤ longest_line → kept' ≡ kept ++ front →
+    length kept + length front ≤ LONGEST_LINE → kept' ≡ kept ++ front →
     (x : List ℕ) × Consumes a c x × FoundIn (old ++ x) (Feed at n) kept' buf
 feed_found a b c old bs kept buf bytes front kept' n at first e part second within same below one feed cut fits now =
     let more = got_more a b c old bs kept (take n buf) first e second in
@@ -55,7 +56,7 @@ feed_found a b c old bs kept buf bytes front kept' n at first e part second with
 pub too_long :
     (a b c : Option (List ℕ)) (old bs kept bytes front tail : List ℕ) →
     Consumes a b bs → kept ≡ old ++ bs → IsPart kept → Consumes b c bytes → bytes ≡ front ++ tail → IsOneLine front →
-    (length kept + length front ≤ longest_line → ⊥) → (x : List ℕ) × Consumes a c x × BeginsTooLong (old ++ x)
+    (length kept + length front ≤ LONGEST_LINE → ⊥) → (x : List ℕ) × Consumes a c x × BeginsTooLong (old ++ x)
 too_long a b c old bs kept bytes front tail first e part second split one big =
     let more = got_more a b c old bs kept bytes first e second in (
       more.0,
@@ -103,7 +104,7 @@ cut_at piece from to at over =
 -- a line lies in the piece, behind a line feed what is ahead
 pub line_in_piece :
     (piece : List ℕ) (from to at : ℕ) (over : Bool) → over ≡ false → at < length (slice_range piece from to) → from ≤ to →
-    to ≤ 4096 → IsOneLine (take at (slice_range piece from to)) →
+    to ≤ PIECE → IsOneLine (take at (slice_range piece from to)) →
     drop at (slice_range piece from to) ≡ 10 ∷ drop (at + 1) (slice_range piece from to) →
     CutsLine (slice_range piece from to) (cut_at piece from to at over)
 line_in_piece piece from to at over goes_on below ordered within one feed =

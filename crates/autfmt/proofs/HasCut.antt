@@ -5,7 +5,7 @@ use Rattle.std.proofs.lemmas.List.Elements.{All-nil, All-push}
 use Rattle.autfmt.specs.Texts.{Cuts, Lines, IsOneLine}
 use Rattle.autfmt.specs.Cutter.{Cutting, HasCut, CutsLine, BeginsTooLong, with_line_feeds}
 use Rattle.autfmt.proofs.Cutting.{with_line_feeds-append, with_line_feeds-cons, Lines-behind, Lines-nil, Lines-one, lines_of, first_begins, some_line}
-use Rattle.autfmt.specs.Line.{longest_line}
+use Rattle.autfmt.specs.declared.line.TheConstants.{LONGEST_LINE}
 
 -- nothing was given
 pub HasCut-new : HasCut [] [] (record { line = []; ahead = []; over = false })
@@ -72,7 +72,7 @@ HasCut-lines given more lines at (inr (over, none, l)) end =
 pub HasCut-too_long :
     (given got more : List ℕ) (lines : List (List ℕ)) (old : Cutting) → HasCut given lines old → (old.over ≡ true → ⊥) →
     BeginsTooLong (old.ahead ++ got) →
-    (line : List ℕ) × (others : List (List ℕ)) × (longest_line < length line) × Lines (given ++ got ++ more) (lines ++ line ∷ others)
+    (line : List ℕ) × (others : List (List ℕ)) × (LONGEST_LINE < length line) × Lines (given ++ got ++ more) (lines ++ line ∷ others)
 HasCut-too_long given got more lines old (inr over) goes_on long = absurd (goes_on over.0)
 HasCut-too_long given got more lines old (inl (open_at, e, one)) goes_on (front, tail, single, big, b) =
     let first = first_begins front (tail ++ more) single (omega arith) in

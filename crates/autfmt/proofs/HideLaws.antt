@@ -1,5 +1,5 @@
 -- A hide list has one list of labels or one first fault.
-use Rattle.std.proofs.Common.{◌≡◌, ◌⊎◌, ◌↔◌, ⊎_elim, ℕ, ◌+◌, ◌<◌, ◌≤◌, List, [], ◌∷◌, ◌++◌, length, refl, sym, ◌∙◌, ap, subst, inl, inr, arith}
+use Rattle.std.proofs.Common.{◌≡◌, ◌⊎◌, ⊎_elim, ℕ, ◌+◌, ◌<◌, ◌≤◌, List, [], ◌∷◌, ◌++◌, length, refl, sym, ◌∙◌, ap, subst, inl, inr, arith}
 use Rattle.std.specs.List.{AllZip}
 use Rattle.std.proofs.lemmas.Bool.{cases_lt}
 use Rattle.std.proofs.lemmas.List.{append_assoc, length-append}
@@ -13,7 +13,7 @@ use Rattle.autfmt.specs.HideLists.{Hides, HideReads, HideFault, FirstHideFault, 
 use Rattle.autfmt.proofs.FirstFaults.{NoneFaulty, Stays, FaultFrom-behind, FaultFrom-end, FaultFrom-extends, FaultFrom-unique, judged_first, no_judged}
 use Rattle.autfmt.proofs.Cutting.{Cuts-unique, Lines-unique, Lines-behind, lines_of}
 use Rattle.autfmt.proofs.Decisions.{one_hide_line, decide_hide_line}
-use Rattle.autfmt.specs.Line.{longest_line}
+use Rattle.autfmt.specs.declared.line.TheConstants.{LONGEST_LINE}
 use Rattle.autfmt.specs.declared.limits.TheConstants.{MOST_LINES}
 
 -- what the end of a whole hide list has: no fault
@@ -27,7 +27,7 @@ GoodHide k line = (k ≤ MOST_LINES) × (a : List ℕ) × Hides line a
 -- the three kinds of fault of a line
 pub data HideKind (k : ℕ) (line : List ℕ) (fault : Fault) : Type 0 where
   extra : fault ≡ TooManyHidden → MOST_LINES < k → HideKind k line fault
-  long : fault ≡ LineTooLong k → k ≤ MOST_LINES → longest_line < length line → HideKind k line fault
+  long : fault ≡ LineTooLong k → k ≤ MOST_LINES → LONGEST_LINE < length line → HideKind k line fault
   unread : fault ≡ BadHide k → k ≤ MOST_LINES → IsShort line → ((a : List ℕ) → ¬ HideLine line a) → HideKind k line fault
 
 pub hide_kind : (k : ℕ) (line : List ℕ) (fault : Fault) → HideFault k line fault → HideKind k line fault
@@ -61,9 +61,9 @@ GoodHide-no_fault k line fault good h = against (hide_kind k line fault h)
 
 -- a line is good or has a fault
 pub hide_judged : (k : ℕ) (line : List ℕ) → GoodHide k line ⊎ ((fault : Fault) × HideFault k line fault)
-hide_judged k line = step (cases_lt MOST_LINES k) (cases_lt longest_line (length line)) (decide_hide_line line)
+hide_judged k line = step (cases_lt MOST_LINES k) (cases_lt LONGEST_LINE (length line)) (decide_hide_line line)
   where
-    step : (MOST_LINES < k) ⊎ (k ≤ MOST_LINES) → (longest_line < length line) ⊎ (length line ≤ longest_line) →
+    step : (MOST_LINES < k) ⊎ (k ≤ MOST_LINES) → (LONGEST_LINE < length line) ⊎ (length line ≤ LONGEST_LINE) →
         ((a : List ℕ) × HideLine line a) ⊎ ((a : List ℕ) → ¬ HideLine line a) →
         GoodHide k line ⊎ ((fault : Fault) × HideFault k line fault)
     step (inl x) l r = inr (TooManyHidden, x)
@@ -165,7 +165,7 @@ hide_text_judged text = step (hides_judged 1 (lines_of text).0 (omega arith))
 pub hide_stays : Stays HideFault MOST_LINES
 hide_stays front tail k fault judged h = step judged (hide_kind k front fault h)
   where
-    step : (longest_line < length front) ⊎ (MOST_LINES < k) → HideKind k front fault → HideFault k (front ++ tail) fault
+    step : (LONGEST_LINE < length front) ⊎ (MOST_LINES < k) → HideKind k front fault → HideFault k (front ++ tail) fault
     step judged (extra e x) =
         let right : HideFault k (front ++ tail) TooManyHidden = x in
         subst (λ (f : Fault). HideFault k (front ++ tail) f) (sym e) right
@@ -193,7 +193,7 @@ JudgedHideFault-first given more fault (ended, rest, c, h) = (
 -- where the ended lines are good, and the unended one is not judged, there is no fault yet
 pub no_judged_hide_fault :
     (given : List ℕ) (lines : List (List ℕ)) (rest : List ℕ) (H : List (List ℕ)) (fault : Fault) →
-    Cuts given lines rest → AllZip Hides lines H → length lines ≤ MOST_LINES → length rest ≤ longest_line →
+    Cuts given lines rest → AllZip Hides lines H → length lines ≤ MOST_LINES → length rest ≤ LONGEST_LINE →
     (length lines < MOST_LINES) ⊎ (length rest ≡ 0) → JudgedHideFault given fault → ⊥
 no_judged_hide_fault given lines rest H fault c good few short unjudged j =
     let same = Cuts-unique given j.0 lines j.1 rest j.2 c in
@@ -210,11 +210,3 @@ pub FirstHideFault-behind :
     FaultFrom HideFault no_fault (1 + length lines) others fault → FirstHideFault text fault
 FirstHideFault-behind text lines others H fault l good few h =
     (lines ++ others, l, FaultFrom-behind HideFault no_fault 1 lines others fault (hides_none_faulty 1 lines H good (omega arith)) h)
-
--- a hide list without a fault has its labels, and no other does
-pub hide_text_without_fault :
-    (text : List ℕ) → ((f : Fault) → ¬ FirstHideFault text f) ↔ ((H : List (List ℕ)) × HideReads text H)
-hide_text_without_fault text = (
-  λ none. ⊎_elim (λ r. r) (λ bad. absurd (none bad.0 bad.1)) (hide_text_judged text),
-  λ r f. HideReads-no_fault text r.0 f r.1,
-)

@@ -14,15 +14,15 @@ use Rattle.autfmt.proofs.FirstFaults.{Stays, FaultFrom-behind, FaultFrom-extends
 use Rattle.autfmt.proofs.LineFaults.{HeaderKind, header_kind, EdgeKind, edge_kind, GoodHeader-no_fault, same_header}
 use Rattle.autfmt.proofs.LineFaults.HeaderKind.{long, unread, wrong}
 use Rattle.autfmt.proofs.FaultLaws.{GoodLines, GoodLines-none_faulty}
-use Rattle.autfmt.specs.Line.{longest_line}
+use Rattle.autfmt.specs.declared.line.TheConstants.{LONGEST_LINE}
 
 -- a line that is too long stays so
 pub long_header :
-    (bounds : Bounds) (front tail : List ℕ) (fault : Fault) → longest_line < length front → HeaderFault bounds front fault →
+    (bounds : Bounds) (front tail : List ℕ) (fault : Fault) → LONGEST_LINE < length front → HeaderFault bounds front fault →
     HeaderFault bounds (front ++ tail) fault
 long_header bounds front tail fault big h = step (header_kind bounds front fault h)
   where
-    longer : longest_line < length (front ++ tail)
+    longer : LONGEST_LINE < length (front ++ tail)
     longer = omega (arith, length-append front tail)
 
     step : HeaderKind bounds front fault → HeaderFault bounds (front ++ tail) fault
@@ -36,7 +36,7 @@ long_header bounds front tail fault big h = step (header_kind bounds front fault
 pub edge_stays : (m n : ℕ) → Stays (EdgeFault m n) (m + 1)
 edge_stays m n front tail k fault judged h = step judged (edge_kind m n k front fault h)
   where
-    step : (longest_line < length front) ⊎ (m + 1 < k) → EdgeKind m n k front fault → EdgeFault m n k (front ++ tail) fault
+    step : (LONGEST_LINE < length front) ⊎ (m + 1 < k) → EdgeKind m n k front fault → EdgeFault m n k (front ++ tail) fault
     step judged (EdgeKind.extra e x) =
         let right : EdgeFault m n k (front ++ tail) (ExtraText k) = (refl, x) in
         subst (λ (f : Fault). EdgeFault m n k (front ++ tail) f) (sym e) right
@@ -50,7 +50,7 @@ edge_stays m n front tail k fault judged h = step judged (edge_kind m n k front 
 
 -- what an unended first line that is judged, and an unended later one, have
 abbrev pub JudgedFirst : Bounds → List ℕ → Fault → Type 0
-JudgedFirst bounds rest fault = (longest_line < length rest) × HeaderFault bounds rest fault
+JudgedFirst bounds rest fault = (LONGEST_LINE < length rest) × HeaderFault bounds rest fault
 
 abbrev pub JudgedLater : List ℕ → ℕ → ℕ → ℕ → Fault → Type 0
 JudgedLater rest m n = JudgedRest (EdgeFault m n) (m + 1) rest
@@ -98,7 +98,7 @@ judged_of bounds given ended rest fault c j =
 
 -- nothing is judged before line 1 has ended or is too long
 pub no_judged_header :
-    (bounds : Bounds) (given : List ℕ) (fault : Fault) → IsOneLine given → length given ≤ longest_line → JudgedFault bounds given fault → ⊥
+    (bounds : Bounds) (given : List ℕ) (fault : Fault) → IsOneLine given → length given ≤ LONGEST_LINE → JudgedFault bounds given fault → ⊥
 no_judged_header bounds given fault one short j =
     let here : Cuts given [] given = record { whole = refl; lines = All-nil IsOneLine; one = one } in
     let big = (judged_of bounds given [] given fault here j).0 in
@@ -109,7 +109,7 @@ pub no_judged_fault :
     (bounds : Bounds) (given line : List ℕ) (lines : List (List ℕ)) (rest : List ℕ) (f m n : ℕ) (es : List Transition)
     (fault : Fault) →
     Cuts given (line ∷ lines) rest → GoodHeader bounds line f m n → GoodLines n lines es → length lines ≤ m →
-    length rest ≤ longest_line → (length lines < m) ⊎ (length rest ≡ 0) → JudgedFault bounds given fault → ⊥
+    length rest ≤ LONGEST_LINE → (length lines < m) ⊎ (length rest ≡ 0) → JudgedFault bounds given fault → ⊥
 no_judged_fault bounds given line lines rest f m n es fault c good edges few short unjudged j =
     against (judged_of bounds given (line ∷ lines) rest fault c j)
   where

@@ -10,7 +10,7 @@ use Rattle.autfmt.specs.Grammar.{Header, TransitionLine}
 use Rattle.autfmt.specs.Texts.{IsShort, GoodHeader, SpellsTransition}
 use Rattle.autfmt.specs.Faults.{HeaderFault, EdgeFault}
 use Rattle.autfmt.proofs.Decisions.{one_header, one_transition, decide_header, decide_transition}
-use Rattle.autfmt.specs.Line.{longest_line}
+use Rattle.autfmt.specs.declared.line.TheConstants.{LONGEST_LINE}
 
 -- the fault of a header's numbers
 abbrev pub wrong_numbers : Bounds → ℕ → ℕ → ℕ → Option Fault
@@ -21,7 +21,7 @@ wrong_numbers bounds f m n =
 
 -- the three kinds of fault of line 1
 pub data HeaderKind (bounds : Bounds) (line : List ℕ) (fault : Fault) : Type 0 where
-  long : fault ≡ LineTooLong 1 → longest_line < length line → HeaderKind bounds line fault
+  long : fault ≡ LineTooLong 1 → LONGEST_LINE < length line → HeaderKind bounds line fault
   unread : fault ≡ BadHeader → IsShort line → ((f m n : ℕ) → ¬ Header line f m n) → HeaderKind bounds line fault
   wrong : (f m n : ℕ) → IsShort line → Header line f m n → wrong_numbers bounds f m n ≡ Some fault → HeaderKind bounds line fault
 
@@ -93,7 +93,7 @@ same_header bounds line f m n f' m' n' P g g' h =
 pub header_judged :
     (bounds : Bounds) (line : List ℕ) →
     ((f : ℕ) × (m : ℕ) × (n : ℕ) × GoodHeader bounds line f m n) ⊎ ((fault : Fault) × HeaderFault bounds line fault)
-header_judged bounds line = step (cases_lt longest_line (length line)) (decide_header line)
+header_judged bounds line = step (cases_lt LONGEST_LINE (length line)) (decide_header line)
   where
     numbers : (f m n : ℕ) → IsShort line → Header line f m n →
         (n ≡ 0) ⊎ (n ≡ 0 → ⊥) → (f < n) ⊎ (n ≤ f) → (bounds.states < n) ⊎ (n ≤ bounds.states) →
@@ -106,7 +106,7 @@ header_judged bounds line = step (cases_lt longest_line (length line)) (decide_h
     numbers f m n s h (inr some) (inl low) (inr few) (inr few') =
         inl (f, m, n, record { short = s; header = h; first = low; states = few; transitions = few' })
 
-    step : (longest_line < length line) ⊎ (length line ≤ longest_line) →
+    step : (LONGEST_LINE < length line) ⊎ (length line ≤ LONGEST_LINE) →
         ((f m n : ℕ) × Header line f m n) ⊎ ((f m n : ℕ) → ¬ Header line f m n) →
         ((f : ℕ) × (m : ℕ) × (n : ℕ) × GoodHeader bounds line f m n) ⊎ ((fault : Fault) × HeaderFault bounds line fault)
     step (inl l) r = inr (LineTooLong 1, (refl, l))
@@ -125,7 +125,7 @@ wrong_ends n k s t = cond (leb n s) (Some (SourceRange k)) (cond (leb n t) (Some
 -- the four kinds of fault of a later line
 pub data EdgeKind (m n k : ℕ) (line : List ℕ) (fault : Fault) : Type 0 where
   extra : fault ≡ ExtraText k → m + 1 < k → EdgeKind m n k line fault
-  long : fault ≡ LineTooLong k → k ≤ m + 1 → longest_line < length line → EdgeKind m n k line fault
+  long : fault ≡ LineTooLong k → k ≤ m + 1 → LONGEST_LINE < length line → EdgeKind m n k line fault
   unread :
       fault ≡ BadEdge k → k ≤ m + 1 → IsShort line → ((s t : ℕ) (a : List ℕ) → ¬ TransitionLine line s a t) →
       EdgeKind m n k line fault
@@ -191,7 +191,7 @@ GoodEdge-no_fault m n k line fault good h = against (edge_kind m n k line fault 
 -- a later line is good or has a fault
 pub edge_judged :
     (m n k : ℕ) (line : List ℕ) → GoodEdge m n k line ⊎ ((fault : Fault) × EdgeFault m n k line fault)
-edge_judged m n k line = step (cases_lt (m + 1) k) (cases_lt longest_line (length line)) (decide_transition line)
+edge_judged m n k line = step (cases_lt (m + 1) k) (cases_lt LONGEST_LINE (length line)) (decide_transition line)
   where
     e : ℕ → ℕ → List ℕ → Transition
     e s t a = record { source = s; label = a; target = t }
@@ -202,7 +202,7 @@ edge_judged m n k line = step (cases_lt (m + 1) k) (cases_lt longest_line (lengt
     ends x short s t a h (inl low) (inr high) = inr (TargetRange k, (refl, x, e s t a, (short, h), low, high))
     ends x short s t a h (inl low) (inl low') = inl (x, e s t a, (short, h), low, low')
 
-    step : (m + 1 < k) ⊎ (k ≤ m + 1) → (longest_line < length line) ⊎ (length line ≤ longest_line) →
+    step : (m + 1 < k) ⊎ (k ≤ m + 1) → (LONGEST_LINE < length line) ⊎ (length line ≤ LONGEST_LINE) →
         ((s t : ℕ) × (a : List ℕ) × TransitionLine line s a t) ⊎ ((s t : ℕ) (a : List ℕ) → ¬ TransitionLine line s a t) →
         GoodEdge m n k line ⊎ ((fault : Fault) × EdgeFault m n k line fault)
     step (inl x) l r = inr (ExtraText k, (refl, x))

@@ -1,17 +1,17 @@
 -- What the reader of a system answers of what was read.
-use Rattle.std.proofs.Common.{◌≡◌, ℕ, List, ◌++◌, length, Option, None, Some, IfSome, refl, sym, ◌∙◌, ap, subst, arith}
+use Rattle.std.proofs.Common.{◌≡◌, ℕ, ◌<◌, List, ◌++◌, length, Option, None, Some, IfSome, refl, sym, ◌∙◌, ap, subst, arith}
 use Rattle.std.proofs.lemmas.List.{append-nil}
 use Rattle.std.proofs.lemmas.List.Sorted.{length_permutation, Contains-permutation}
 use Rattle.std.specs.Io.KnownBytes.{IsAtEnd}
-use Rattle.lts.specs.Lts.{Grouped, IsGrouping, system_from, system_of, Groups}
+use Rattle.lts.specs.Lts.{Grouped, IsGrouping, IsCarried, system_from, system_of, Groups}
 use Rattle.theory.specs.System.{System}
 use Rattle.autfmt.specs.declared.fault.Fault.TheVariants.{Memory}
 use Rattle.autfmt.specs.declared.judge.Promise.{Promise}
 use Rattle.autfmt.specs.declared.held.Held.{Held}
 use Rattle.autfmt.specs.Bounds.{Bounds}
 use Rattle.autfmt.specs.Texts.{Reads}
-use Rattle.autfmt.specs.Readers.{HasGoodHeader}
-use Rattle.autfmt.specs.Outcomes.{Refuses, ReadsTo}
+use Rattle.autfmt.specs.Readers.{HasGoodHeader, ReadsAs}
+use Rattle.autfmt.specs.Outcomes.{Refuses, ReadsTo, IsWithin}
 use Rattle.autfmt.specs.Outcomes.Refuses.{no_memory}
 use Rattle.autfmt.specs.ReadSoFar.{HoldsText}
 use Rattle.autfmt.proofs.Holding.{Holds-system, Holds-length}
@@ -33,24 +33,36 @@ refuses_built bounds A new got failures sound end r = no_memory sound refl (told
         (Reads-header bounds got A r)
 
 -- the system that was built of what was read
-pub reads_built :
-    (bounds : Bounds) (H : List (List ℕ)) (got : List ℕ) (p : Promise) (held : Held) (rest : Option (List ℕ)) (failures : ℕ)
-    (s : Grouped) →
-    HoldsText bounds H got p held → s.labels ≡ held.labels → IsGrouping held.triples.items s.places →
-    Groups (system_from p.first p.states held.labels held.triples.items) (system_of s) → IsAtEnd rest → failures ≡ 0 →
-    ReadsTo bounds H got rest failures s
-reads_built bounds H got p held rest failures s (es, read, holds) labels grouping groups end sound =
-    let A : System = record { first = p.first; states = p.states; transitions = es } in
-    let hides = Holds-system H p.first p.states held es holds in
-    let states = groups.states in
-    let count = length_permutation held.triples.items s.places grouping.same ∙ Holds-length H p.states held es holds in
-    record {
-      read = (A, read, subst (λ (B : System). Groups B (system_of s)) hides groups);
-      as_many = count;
-      within = record { states = omega (arith, read.good.states); transitions = omega (arith, read.good.transitions) };
-      carried = λ k below.
-          let (e, among, number) = holds.carried k (omega (arith, ap length labels)) in
-          (e, Contains-permutation held.triples.items s.places e grouping.same among, number);
-      at_end = end;
-      sound = sound;
-    }
+module _ (bounds : Bounds) (H : List (List ℕ)) (got : List ℕ) (p : Promise) (held : Held) (s : Grouped)
+    (text : HoldsText bounds H got p held) (labels : s.labels ≡ held.labels) (grouping : IsGrouping held.triples.items s.places)
+    (groups : Groups (system_from p.first p.states held.labels held.triples.items) (system_of s)) where
+  -- groups the transitions of the one that the text reads as, with the labels of H hidden
+  abbrev read : ReadsAs bounds got H s
+  read =
+      let A : System = record { first = p.first; states = p.states; transitions = text.0 } in
+      let hides = Holds-system H p.first p.states held text.0 text.2 in
+      (A, text.1, subst (λ (B : System). Groups B (system_of s)) hides groups)
+
+  as_many : length s.places ≡ length text.0
+  as_many = length_permutation held.triples.items s.places grouping.same ∙ Holds-length H p.states held text.0 text.2
+
+  within : IsWithin bounds s
+  within =
+      let states = groups.states in
+      let count = as_many in
+      record { states = omega (arith, text.1.good.states); transitions = omega (arith, text.1.good.transitions) }
+
+  carried : (k : ℕ) → k < length s.labels → IsCarried s k
+  carried k below =
+      let (e, among, number) = text.2.carried k (omega (arith, ap length labels)) in
+      (e, Contains-permutation held.triples.items s.places e grouping.same among, number)
+
+  pub reads_built : (rest : Option (List ℕ)) (failures : ℕ) → IsAtEnd rest → failures ≡ 0 → ReadsTo bounds H got rest failures s
+  reads_built rest failures end sound = record {
+    read = read;
+    as_many = as_many;
+    within = within;
+    carried = carried;
+    at_end = end;
+    sound = sound;
+  }

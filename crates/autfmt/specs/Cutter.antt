@@ -2,7 +2,8 @@
 use Rattle.std.specs.Prelude.{◌≡◌, ◌⊎◌, ℕ, ◌<◌, ◌≤◌, Bool, true, false, IsTrue, List, [], ◌∷◌, ◌++◌, length, Option, None, Some, IfSome}
 use Rattle.std.specs.List.{All, flat_map, slice_range}
 use Rattle.autfmt.specs.Texts.{Lines, IsOneLine, IsShort}
-use Rattle.autfmt.specs.Line.{longest_line}
+use Rattle.autfmt.specs.declared.cutter.TheConstants.{PIECE}
+use Rattle.autfmt.specs.declared.line.TheConstants.{LONGEST_LINE}
 
 -- the line that was cut last, the bytes that were taken behind it, and whether the source came to its end
 pub record Cutting : Type 0 where
@@ -18,14 +19,14 @@ cut_line (Some place) piece kept = slice_range piece place.0 place.1
 -- the next line begins in the piece, the last one lies in it, and at the end of the source the piece is used up
 pub record IsCutter (from to : ℕ) (place : Option (ℕ × ℕ)) (over : Bool) : Type 0 where
   pub ordered : from ≤ to
-  pub within : to ≤ 4096
-  pub last : IfSome place (λ p. (p.0 ≤ p.1) × (p.1 ≤ 4096))
+  pub within : to ≤ PIECE
+  pub last : IfSome place (λ p. (p.0 ≤ p.1) × (p.1 ≤ PIECE))
   pub used_up : IsTrue over → from ≡ to
 
--- the bytes begin with a line of more than 8192 bytes
+-- the bytes begin with a line that is too long
 abbrev pub BeginsTooLong : List ℕ → Type 0
 BeginsTooLong bytes =
-    (front : List ℕ) × (tail : List ℕ) × IsOneLine front × (longest_line < length front) × (bytes ≡ front ++ tail)
+    (front : List ℕ) × (tail : List ℕ) × IsOneLine front × (LONGEST_LINE < length front) × (bytes ≡ front ++ tail)
 
 -- the first line of the bytes was cut: after it comes a line feed and what is ahead, or the end of the text
 pub record CutsLine (bytes : List ℕ) (now : Cutting) : Type 0 where
@@ -41,7 +42,7 @@ pub record CutsEnd (bytes : List ℕ) (now : Cutting) : Type 0 where
   pub ahead : now.ahead ≡ []
   pub over : now.over ≡ true
 
--- the bytes are a part of a line of at most 8192 bytes
+-- the bytes are a part of a line that is not too long
 abbrev pub IsPart : List ℕ → Type 0
 IsPart bytes = IsOneLine bytes × IsShort bytes
 

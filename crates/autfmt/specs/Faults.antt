@@ -2,6 +2,7 @@
 use Rattle.std.specs.Prelude.{◌≡◌, ◌⊎◌, ℕ, ◌+◌, ◌-◌, ◌<◌, ◌≤◌, List, [], ◌∷◌, length}
 use Rattle.autfmt.specs.declared.fault.Fault.{Fault}
 use Rattle.autfmt.specs.declared.fault.Fault.TheVariants.{BadHeader, FirstState, NoStates, TooManyStates, TooManyTransitions, LineTooLong, BadEdge, SourceRange, TargetRange, ExtraText, MissingEdges}
+use Rattle.autfmt.specs.declared.line.TheConstants.{LONGEST_LINE}
 use Rattle.autfmt.specs.Bounds.{Bounds}
 use Rattle.theory.specs.System.{Transition}
 use Rattle.autfmt.specs.Grammar.{Header}
@@ -9,7 +10,7 @@ use Rattle.autfmt.specs.Texts.{Lines, Cuts, IsShort, GoodHeader, SpellsTransitio
 
 -- the fault of line 1, in this order
 abbrev pub HeaderFault : Bounds → List ℕ → Fault → Type 0
-HeaderFault b line (LineTooLong k) = (k ≡ 1) × (8192 < length line)
+HeaderFault b line (LineTooLong k) = (k ≡ 1) × (LONGEST_LINE < length line)
 HeaderFault b line BadHeader = IsShort line × ((f m n : ℕ) → ¬ Header line f m n)
 HeaderFault b line FirstState = (f m n : ℕ) × IsShort line × Header line f m n × (1 ≤ n) × (n ≤ f)
 HeaderFault b line NoStates = (f m n : ℕ) × IsShort line × Header line f m n × (n ≡ 0)
@@ -20,7 +21,7 @@ HeaderFault b line _ = ⊥
 -- the fault of line k, from 2 on, behind a header of m transitions and n states, in this order
 abbrev pub EdgeFault : ℕ → ℕ → ℕ → List ℕ → Fault → Type 0
 EdgeFault m n k line (ExtraText j) = (j ≡ k) × (m + 1 < k)
-EdgeFault m n k line (LineTooLong j) = (j ≡ k) × (k ≤ m + 1) × (8192 < length line)
+EdgeFault m n k line (LineTooLong j) = (j ≡ k) × (k ≤ m + 1) × (LONGEST_LINE < length line)
 EdgeFault m n k line (BadEdge j) = (j ≡ k) × (k ≤ m + 1) × IsShort line × ((e : Transition) → ¬ SpellsTransition line e)
 EdgeFault m n k line (SourceRange j) = (j ≡ k) × (k ≤ m + 1) × (e : Transition) × SpellsTransition line e × (n ≤ e.source)
 EdgeFault m n k line (TargetRange j) =
@@ -51,11 +52,11 @@ FirstFault bounds text fault =
 
 -- an unended line k is judged once it is too long, or once it has a byte and no line k may stand
 abbrev pub JudgedRest : (ℕ → List ℕ → Fault → Type 0) → ℕ → List ℕ → ℕ → Fault → Type 0
-JudgedRest Bad most rest k fault = ((8192 < length rest) ⊎ ((most < k) × (1 ≤ length rest))) × Bad k rest fault
+JudgedRest Bad most rest k fault = ((LONGEST_LINE < length rest) ⊎ ((most < k) × (1 ≤ length rest))) × Bad k rest fault
 
 -- the fault that is known from the bytes that a source gave before it failed: of an ended line, or of a judged one
 abbrev pub JudgedFault : Bounds → List ℕ → Fault → Type 0
 JudgedFault bounds given fault =
     (ended : List (List ℕ)) × (rest : List ℕ) × Cuts given ended rest
-    × FaultOfLines bounds (λ f. (8192 < length rest) × HeaderFault bounds rest f)
+    × FaultOfLines bounds (λ f. (LONGEST_LINE < length rest) × HeaderFault bounds rest f)
     (λ m n. JudgedRest (EdgeFault m n) (m + 1) rest) ended fault

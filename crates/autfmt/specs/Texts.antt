@@ -2,6 +2,7 @@
 use Rattle.std.specs.Prelude.{◌≡◌, ◌≢◌, ℕ, ◌<◌, ◌≤◌, List, [], ◌∷◌, ◌++◌, length}
 use Rattle.std.specs.List.{All, AllZip, flat_map}
 use Rattle.theory.specs.System.{System, Transition, IsSystem}
+use Rattle.autfmt.specs.declared.line.TheConstants.{LONGEST_LINE}
 use Rattle.autfmt.specs.Bounds.{Bounds}
 use Rattle.autfmt.specs.Grammar.{Header, TransitionLine}
 
@@ -24,9 +25,9 @@ last_line (b ∷ bs) = (b ∷ bs) ∷ []
 abbrev pub Lines : List ℕ → List (List ℕ) → Type 0
 Lines text lines = (ended : List (List ℕ)) × (rest : List ℕ) × Cuts text ended rest × (lines ≡ ended ++ last_line rest)
 
--- a line has at most 8192 bytes, its line feed apart
+-- a line has at most LONGEST_LINE bytes, its line feed apart
 abbrev pub IsShort : List ℕ → Type 0
-IsShort line = length line ≤ 8192
+IsShort line = length line ≤ LONGEST_LINE
 
 -- line 1 is a good header: it promises m transitions and n states, within the bounds, and starts at f
 pub record GoodHeader (bounds : Bounds) (line : List ℕ) (f m n : ℕ) : Type 0 where

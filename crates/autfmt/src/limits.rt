@@ -1,6 +1,6 @@
 //! How many states and transitions a text may promise.
 ghost use Rattle.std.specs.Prelude.{◌≡◌, ◌↔◌, IsSome, IfSome};
-ghost use Rattle.autfmt.specs.Bounds.{Bounds, bounds, IsWithinFile};
+ghost use Rattle.autfmt.specs.Bounds.{Bounds, bounds, file_bounds, IsWithinFile};
 
 use std::marker::Model;
 
@@ -47,7 +47,7 @@ impl Limits {
 
     /// The limits of a file: 1,000,000 states and 10,000,000 transitions.
     pub fn file() -> Limits
-        ensures { result ≡ bounds 1000000 10000000 }
+        ensures { result ≡ file_bounds }
     {
         Limits {
             states: FILE_STATES,

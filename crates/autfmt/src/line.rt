@@ -1,6 +1,7 @@
 //! The bytes of one line, as they come in.
 ghost use Rattle.std.specs.Prelude.{◌≡◌, ℕ, ◌<◌, ◌≤◌, ◌↔◌, List, [], ◌∷◌, ◌++◌, length, take, IsTrue, if◌then◌else◌};
-ghost use Rattle.autfmt.specs.Line.{longest_line, Fits};
+ghost use Rattle.autfmt.specs.declared.line.TheConstants.{LONGEST_LINE};
+ghost use Rattle.autfmt.specs.Line.{Fits};
 
 use std::marker::Model;
 
@@ -19,7 +20,7 @@ impl Model for LineBuffer {
 
     ghost view = { λ l. take l.len l.bytes };
 
-    ghost invariant = { λ l. l.len ≤ longest_line };
+    ghost invariant = { λ l. l.len ≤ LONGEST_LINE };
 }
 
 impl LineBuffer {
@@ -35,7 +36,7 @@ impl LineBuffer {
 
     /// Appends `b` and returns true, or returns false if the line already has 8192 bytes.
     pub fn push(&mut self, b: u8) -> bool
-        ensures fits { IsTrue result ↔ (length self.old < longest_line) }
+        ensures fits { IsTrue result ↔ (length self.old < LONGEST_LINE) }
         ensures line { self.new ≡ (if result then self.old ++ b ∷ [] else self.old) }
     {
         if self.len == LONGEST_LINE {
@@ -63,7 +64,7 @@ impl LineBuffer {
     /// The bytes of the line.
     pub fn line(&self) -> &[u8]
         ensures bytes { result.now ≡ self.now }
-        ensures short { length self.now ≤ longest_line }
+        ensures short { length self.now ≤ LONGEST_LINE }
     {
         &self.bytes[..self.len]
     }

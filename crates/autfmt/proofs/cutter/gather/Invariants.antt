@@ -2,15 +2,16 @@ use Rattle.std.proofs.Common.{◌≡◌, ℕ, ◌-◌, List, ◌++◌, length}
 use Rattle.std.specs.Io.KnownBytes.{Consumes}
 use Rattle.autfmt.specs.Cutter.{IsPart}
 use Rattle.autfmt.proofs.cutter.gather.Given as goal
-use Rattle.autfmt.specs.Line.{longest_line}
+use Rattle.autfmt.specs.declared.cutter.TheConstants.{PIECE}
+use Rattle.autfmt.specs.declared.line.TheConstants.{LONGEST_LINE}
 
 abbrev pub invariant-loop-n : goal.invariant-loop-n
 invariant-loop-n g l = record {
   got : (bs : List ℕ) × Consumes (g.R.Source.rest l.initial.r) (g.R.Source.rest l.r) bs × (l.kept ≡ l.initial.kept ++ bs);
   part : IsPart l.kept;
   sound : g.R.Source.failures l.r ≡ 0;
-  room : length l.piece ≡ 4096;
+  room : length l.piece ≡ PIECE;
 }
 
 abbrev pub decreases-loop-n : goal.decreases-loop-n
-decreases-loop-n g l = longest_line - length l.kept
+decreases-loop-n g l = LONGEST_LINE - length l.kept

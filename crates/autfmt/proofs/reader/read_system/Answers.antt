@@ -29,7 +29,7 @@ returns g c =
       given = a.given;
       took = a.took;
       outcome =
-          reads_built c.args.lim.now c.args.h.now a.given c.in_ok-promise.promise c.in_ok-promise.held
-          (g.R.Source.rest c.read_text.new.r) (g.R.Source.failures c.read_text.new.r) c.in_ok-system.system a.outcome b.labels b.grouping
-          b.system c.in_ok-promise.ensures.end c.in_ok-promise.ensures.sound;
+          reads_built c.args.lim.now c.args.h.now a.given c.in_ok-promise.promise c.in_ok-promise.held c.in_ok-system.system
+          a.outcome b.labels b.grouping b.system (g.R.Source.rest c.read_text.new.r) (g.R.Source.failures c.read_text.new.r)
+          c.in_ok-promise.ensures.end c.in_ok-promise.ensures.sound;
     }

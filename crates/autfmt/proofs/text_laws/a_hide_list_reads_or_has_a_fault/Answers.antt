@@ -1,5 +1,7 @@
 -- The laws are the lemmas.
-use Rattle.autfmt.proofs.HideLaws.{hide_text_judged, HideReads-no_fault, hide_text_without_fault}
+use Rattle.autfmt.specs.HideLists.{FirstHideFault}
+use Rattle.autfmt.proofs.FirstFaults.{without_fault}
+use Rattle.autfmt.proofs.HideLaws.{hide_text_judged, HideReads-no_fault}
 use Rattle.autfmt.proofs.text_laws.a_hide_list_reads_or_has_a_fault.Goals as goal
 
 pub returns-clause-one : goal.returns-clause-one
@@ -9,4 +11,5 @@ pub returns-clause-not_both : goal.returns-clause-not_both
 returns-clause-not_both c = HideReads-no_fault
 
 pub returns-clause-none : goal.returns-clause-none
-returns-clause-none c = hide_text_without_fault
+returns-clause-none c = λ text.
+    without_fault (FirstHideFault text) (hide_text_judged text) (λ r f. HideReads-no_fault text r.0 f r.1)
