@@ -2,13 +2,13 @@
 use Rattle.std.proofs.Common.{◌≡◌, ◌∙◌, ℕ, List, [], ◌∷◌, Option, Some, None, IfSome, Bool, subst, subst₂}
 use Rattle.theory.specs.Bisimulation.{Relation}
 use Rattle.std.specs.Io.KnownBytes.{Appends}
-use Rattle.autfmt.specs.Bounds.{Bounds}
+use Rattle.autfmt.specs.Bounds.{Bounds, file_bounds}
 use Rattle.autfmt.specs.HideReaders.{HidesAs}
 use Rattle.quotient.specs.Relations.{meant}
 use Rattle.quotient.specs.declared.relation.Relation.{Relation as Word}
 use Rattle.autbis.specs.Comparisons.{ComparesNamed, ReadBoth, IsVerdict, line_of}
 use Rattle.autbis.specs.Files.{Name, Opens}
-use Rattle.autbis.specs.Jobs.{ComparesFiles, HidesNamed, file_bounds}
+use Rattle.autbis.specs.Jobs.{ComparesFiles, HidesNamed}
 use Rattle.autbis.proofs.Opening.{told_then, opens_then}
 
 -- two files are opened, one after the other

@@ -1,6 +1,6 @@
 -- A job: which files it opens, and what it does with what they hold.
 use Rattle.std.specs.Prelude.{◌≡◌, ℕ, Bool, true, false, List, [], ◌∷◌, ◌++◌, Option, None, Some, IfSome, option_map, string_bytes}
-use Rattle.autfmt.specs.Bounds.{Bounds}
+use Rattle.autfmt.specs.Bounds.{file_bounds}
 use Rattle.autfmt.specs.HideReaders.{HidesAs}
 use Rattle.quotient.specs.Relations.{meant}
 use Rattle.quotient.specs.declared.relation.Relation.{Relation}
@@ -34,10 +34,6 @@ text_of holds input (Some name) = holds name
 abbrev pub HidesNamed : (Name → Option (List ℕ)) → Option Name → List (List ℕ) → Type 0
 HidesNamed holds None H = H ≡ []
 HidesNamed holds (Some name) H = IfSome (holds name) (λ list. HidesAs list H)
-
--- the bounds of a file
-abbrev pub file_bounds : Bounds
-file_bounds = record { states = 1000000; transitions = 10000000 }
 
 -- a text is minimised with the labels of the hide list hidden, and a sink has gained the text of what it is minimised to
 abbrev pub MinimisesNamed :

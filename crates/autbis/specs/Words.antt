@@ -25,9 +25,9 @@ hide_rule = record (new_rule (codes "hide")) { long = Some (codes "hide"); value
 abbrev pub stats_rule : Rule
 stats_rule = record (new_rule (codes "stats")) { long = Some (codes "stats"); action = Some SetTrue }
 
--- the file
-abbrev pub file_rule : Rule
-file_rule = record (new_rule (codes "file")) { value_names = 1 }
+-- a file
+abbrev pub file_rule : Text → Rule
+file_rule id = record (new_rule id) { value_names = 1 }
 
 -- the words of the job of this name that both jobs have
 abbrev pub job_app : Text → App
@@ -35,11 +35,11 @@ job_app name = with_rule (with_rule (new_app name) relation_rule) hide_rule
 
 -- the words of `min`
 abbrev pub min_app : App
-min_app = with_rule (with_rule (job_app (codes "min")) stats_rule) file_rule
+min_app = with_rule (with_rule (job_app (codes "min")) stats_rule) (file_rule (codes "file"))
 
 -- a file that has to be named
 abbrev pub needed_file_rule : Text → Rule
-needed_file_rule id = record (new_rule id) { value_names = 1; required = true }
+needed_file_rule id = record (file_rule id) { required = true }
 
 -- the words of `cmp`
 abbrev pub cmp_app : App

@@ -15,6 +15,12 @@ use std::alloc::{AllocError, Global};
 /// The version of the program, which `--version` shows.
 pub const VERSION: &str = "0.1.0";
 
+/// What help says of `min`.
+const ABOUT_MIN: &str = "Writes the equivalent system with the fewest states";
+
+/// What help says of `cmp`.
+const ABOUT_CMP: &str = "Says whether two systems are equivalent: TRUE or FALSE";
+
 /// What the words ask for.
 #[derive(Debug, Drop, PartialEq, Eq)]
 pub enum Job {
@@ -98,13 +104,13 @@ fn described_min<'a>(alloc: Global) -> Result<Command<'a>, AllocError>
     ensures words { IfOk result (λ c. app_of c ≡ min_app) }
     ensures local { IfOk result (λ c. (out-Command c).has_globals ≡ false) }
 {
-    described_job(
-        alloc,
-        "min",
-        "Writes the equivalent system with the fewest states",
-    )?
-    .arg(stats_flag(alloc))?
-    .arg(file_argument(alloc))
+    described_job(alloc, "min", ABOUT_MIN)?
+        .arg(stats_flag(alloc))?
+        .arg(file(
+            alloc,
+            "file",
+            "The system; standard input where there is none",
+        ))
 }
 
 /// What `clap` is told of the words of `cmp`.
@@ -112,13 +118,9 @@ fn described_cmp<'a>(alloc: Global) -> Result<Command<'a>, AllocError>
     ensures words { IfOk result (λ c. app_of c ≡ cmp_app) }
     ensures local { IfOk result (λ c. (out-Command c).has_globals ≡ false) }
 {
-    described_job(
-        alloc,
-        "cmp",
-        "Says whether two systems are equivalent: TRUE or FALSE",
-    )?
-    .arg(needed_file(alloc, "first", "The first system"))?
-    .arg(needed_file(alloc, "second", "The second system"))
+    described_job(alloc, "cmp", ABOUT_CMP)?
+        .arg(needed_file(alloc, "first", "The first system"))?
+        .arg(needed_file(alloc, "second", "The second system"))
 }
 
 /// What `clap` is told of the words of either job: its name, and the options that both have.
@@ -169,14 +171,12 @@ fn stats_flag<'a>(alloc: Global) -> Arg<'a>
         .help("Say on standard error how many rounds and visits were made")
 }
 
-/// What `clap` is told of the file.
-fn file_argument<'a>(alloc: Global) -> Arg<'a>
-    ensures rule { rule_of result ≡ file_rule }
+/// What `clap` is told of a file.
+fn file<'a>(alloc: Global, id: &'a str, help: &'a str) -> Arg<'a>
+    ensures rule { rule_of result ≡ file_rule id.now }
     ensures local { result.global ≡ false }
 {
-    Arg::new(alloc, "file")
-        .value_name("FILE")
-        .help("The system; standard input where there is none")
+    Arg::new(alloc, id).value_name("FILE").help(help)
 }
 
 /// What `clap` is told of a file that has to be named.
@@ -184,10 +184,7 @@ fn needed_file<'a>(alloc: Global, id: &'a str, help: &'a str) -> Arg<'a>
     ensures rule { rule_of result ≡ needed_file_rule id.now }
     ensures local { result.global ≡ false }
 {
-    Arg::new(alloc, id)
-        .value_name("FILE")
-        .required(true)
-        .help(help)
+    file(alloc, id, help).required(true)
 }
 
 /// The job of the matches.

@@ -1,6 +1,7 @@
 use Rattle.std.proofs.Common.{◌↔◌, ℕ, ◌+◌, ◌*◌, Bool, IsTrue, List, Option, refl}
 use Rattle.std.specs.Io.KnownBytes.{Appends, IsAtEnd}
 use Rattle.std.proofs.lemmas.Result.{err_from_is_err_and}
+use Rattle.theory.specs.System.{Hide}
 use Rattle.theory.specs.Bisimulation.{Equivalent}
 use Rattle.theory.specs.Blocks.{Turns}
 use Rattle.theory.specs.Union.{union_of}
@@ -53,18 +54,23 @@ module _ (g : Over) (c : After-equivalent g) where
   verdict = verdict_of c.args.lim.now c.args.h.now first second c.in_ok-first.first c.in_ok-second.second
       c.in_ok-first.ensures.outcome.outcome.read c.in_ok-second.ensures.outcome.outcome.read law (meant c.args.rel)
 
+  -- the rounds that the union of the systems in memory takes are those of what the texts read as
+  turned : (k : ℕ) → Turns (meant c.args.rel) (union_of (system_of c.in_ok-first.first) (system_of c.in_ok-second.second)) k →
+      Turns (meant c.args.rel) (union_of (Hide c.args.h.now both.one) (Hide c.args.h.now both.other)) k
+  turned = compared_turns law c.args.lim.now c.args.h.now (meant c.args.rel) first second c.in_ok-first.first c.in_ok-second.second
+      c.in_ok-first.ensures.outcome.outcome.read c.in_ok-second.ensures.outcome.outcome.read
+
   -- the line of this verdict is that of a comparison of the texts
   compares : (same : Bool) (rest rest' old new : Option (List ℕ)) → IsAtEnd rest → IsAtEnd rest' →
       IsVerdict (meant c.args.rel) c.args.lim.now c.args.h.now both same → (let at = g.M.Meter.counted c.equivalent.new.m in
       Turns (meant c.args.rel) (union_of (system_of c.in_ok-first.first) (system_of c.in_ok-second.second)) at.rounds →
       KeepsTo (states_of both) (transitions_of both) 1 at ((at.rounds + 1) * transitions_of both) → Appends old new (line_of same) →
       ComparesTo (meant c.args.rel) c.args.lim.now c.args.h.now first second rest rest' old new at same)
-  compares same rest rest' old new at_end at_end' is turned keeps written = record {
+  compares same rest rest' old new at_end at_end' is turns keeps written = record {
     both = both;
     verdict = is;
     written = written;
-    turns = compared_turns law c.args.lim.now c.args.h.now (meant c.args.rel) first second c.in_ok-first.first c.in_ok-second.second
-        c.in_ok-first.ensures.outcome.outcome.read c.in_ok-second.ensures.outcome.outcome.read _ turned;
+    turns = turned _ turns;
     keeps = keeps;
     at_ends = (at_end, at_end');
   }
