@@ -22,7 +22,8 @@ list_in-nil x = ap (take (x.end - x.start)) (drop_all {X = ℕ × ℕ} x.start [
 -- the lists of spans rise, and the first is empty
 pub AreLists-of : (pairs : List (ℕ × ℕ)) (spans : List Span) → AreSpans pairs spans → AreLists (lists_of pairs spans)
 AreLists-of pairs spans are = record {
-  rise = All-map (IsStrictlySortedBy pair_cmp) (list_in pairs) spans (All-weaker (IsSpan pairs) (λ x. IsStrictlySortedBy pair_cmp (list_in pairs x)) (λ x is. is.rising) spans are.each);
+  rise = All-map (IsStrictlySortedBy pair_cmp) (list_in pairs) spans
+      (All-weaker (IsSpan pairs) (λ x. IsStrictlySortedBy pair_cmp (list_in pairs x)) (λ x is. is.rising) spans are.each);
   some = let size = length-map spans (list_in pairs) in let old = are.some in omega (arith, size, old);
   few = let size = length-map spans (list_in pairs) in let few = are.few in omega (arith, size, few);
   first = get_or-map (list_in pairs) spans 0 no_pairs [] are.some ∙ ap (list_in pairs) are.first;
@@ -31,7 +32,8 @@ AreLists-of pairs spans are = record {
 pub rising_at : (pairs pairs' : List (ℕ × ℕ)) (spans : List Span) → AreSpans pairs spans → pairs' ≡ pairs → (k : ℕ) (x : Span) → k < length spans
     → x ≡ get_or spans k x → IsStrictlySortedBy pair_cmp (list_in pairs' x)
 rising_at pairs pairs' spans are same k x low is =
-    subst (λ l. IsStrictlySortedBy pair_cmp (list_in l x)) (sym same) (subst (λ y. IsStrictlySortedBy pair_cmp (list_in pairs y)) (sym is) (are.each k x low).rising)
+    subst (λ l. IsStrictlySortedBy pair_cmp (list_in l x)) (sym same)
+    (subst (λ y. IsStrictlySortedBy pair_cmp (list_in pairs y)) (sym is) (are.each k x low).rising)
 
 -- the span of no pairs alone
 pub AreSpans-first : AreSpans [] (no_pairs ∷ [])
@@ -50,7 +52,8 @@ lists_of-cleared (x ∷ xs) some = ap (λ l. l ∷ []) (list_in-nil x)
 pub AreSpans-cleared : (pairs : List (ℕ × ℕ)) (spans : List Span) → AreSpans pairs spans → AreSpans [] (take 1 spans)
 AreSpans-cleared pairs [] are = absurd (let some = are.some in omega arith)
 AreSpans-cleared pairs (x ∷ xs) are = record {
-  each = All-only (IsSpan []) x (subst (IsSpan []) (sym are.first) (record { forward = omega arith; within = omega arith; rising = rising_none pair_cmp; fingerprint = refl }));
+  each = All-only (IsSpan []) x
+      (subst (IsSpan []) (sym are.first) (record { forward = omega arith; within = omega arith; rising = rising_none pair_cmp; fingerprint = refl }));
   some = omega arith;
   few = omega arith;
   first = are.first;
@@ -88,7 +91,8 @@ module _ (pairs more : List (ℕ × ℕ)) where
 
 -- the span of a list that goes last in the buffer goes last among the spans
 module _ (pairs list : List (ℕ × ℕ)) (spans : List Span) (new : Span) (are : AreSpans pairs spans)
-    (start : new.start ≡ length pairs) (end : new.end ≡ length pairs + length list) (rising : IsStrictlySortedBy pair_cmp list) (print : new.fingerprint ≡ fingerprint_of list) where
+    (start : new.start ≡ length pairs) (end : new.end ≡ length pairs + length list) (rising : IsStrictlySortedBy pair_cmp list)
+    (print : new.fingerprint ≡ fingerprint_of list) where
   list-new : list_in (pairs ++ list) new ≡ list
   list-new = ap (λ i. slice_range (pairs ++ list) i new.end) start ∙ slice_range-last pairs list new.end end
 

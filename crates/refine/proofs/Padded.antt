@@ -51,11 +51,13 @@ pub padded_last : (roots : List ℕ) (n root : ℕ) → length roots ≡ n → p
 padded_last roots n root size = padded_full (roots ++ root ∷ []) (n + 1) (let more = length_push roots root in omega arith)
 
 -- a list is pushed
-module _ (parts : List (List (ℕ × ℕ))) (added : List (ℕ × ℕ)) (roots : List ℕ) (root : ℕ) (size : length (padded roots (length parts)) ≡ length parts) where
+module _ (parts : List (List (ℕ × ℕ))) (added : List (ℕ × ℕ)) (roots : List ℕ) (root : ℕ)
+    (size : length (padded roots (length parts)) ≡ length parts) where
   -- without a root
   pub pushed_whole : root ≡ 0 → padded roots (length (parts ++ added ∷ [])) ≡ padded roots (length parts) ++ root ∷ []
   pushed_whole none = ap (padded roots) (length_push parts added) ∙ padded_flat roots (length parts) size root none
 
   -- and with one
-  pub pushed_rooted : (roots' : List ℕ) → roots' ≡ padded roots (length parts) ++ root ∷ [] → padded roots' (length (parts ++ added ∷ [])) ≡ padded roots (length parts) ++ root ∷ []
+  pub pushed_rooted : (roots' : List ℕ) → roots' ≡ padded roots (length parts) ++ root ∷ [] → padded roots' (length (parts ++ added ∷ []))
+      ≡ padded roots (length parts) ++ root ∷ []
   pushed_rooted roots' is = (λ i. padded (is i) (length_push parts added i)) ∙ padded_last (padded roots (length parts)) (length parts) root size

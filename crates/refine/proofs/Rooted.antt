@@ -58,7 +58,8 @@ module _ (root a b : List (ℕ × ℕ)) where
     | inr d ↦ d
   ]
 
-module _ (root a b : List (ℕ × ℕ)) (rise_a : IsStrictlySortedBy pair_cmp a) (rise_b : IsStrictlySortedBy pair_cmp b) (apart_a : Apart root a) (apart_b : Apart root b) where
+module _ (root a b : List (ℕ × ℕ)) (rise_a : IsStrictlySortedBy pair_cmp a) (rise_b : IsStrictlySortedBy pair_cmp b) (apart_a : Apart root a)
+    (apart_b : Apart root b) where
   pub same_added : (a ≡ b) ↔ (merged root a ≡ merged root b)
   same_added = (
     ap (merged root),
@@ -66,10 +67,14 @@ module _ (root a b : List (ℕ × ℕ)) (rise_a : IsStrictlySortedBy pair_cmp a)
   )
 
 -- of lists that are seen whole
+pub parts_size : {parts : List (List (ℕ × ℕ))} {roots : List ℕ} {lists : List (List (ℕ × ℕ))} → AreRooted parts roots → wholes parts roots ≡ lists
+    → length parts ≡ length lists
+parts_size {parts} {roots} are view = sym (length-wholes parts roots are.size) ∙ ap length view
+
 module _ (parts : List (List (ℕ × ℕ))) (roots : List ℕ) (are : AreRooted parts (padded roots (length parts))) (lists : List (List (ℕ × ℕ)))
     (view : wholes parts (padded roots (length parts)) ≡ lists) where
-  pub length-parts : length parts ≡ length lists
-  length-parts = sym (length-wholes parts (padded roots (length parts)) are.size) ∙ ap length view
+  length-parts : length parts ≡ length lists
+  length-parts = parts_size are view
 
   read : (k root : ℕ) → root ≡ slice_index roots k → slice_index (padded roots (length parts)) k ≡ root
   read k root is = padded_at roots (length parts) k ∙ sym is
@@ -89,7 +94,8 @@ module _ (parts : List (List (ℕ × ℕ))) (roots : List ℕ) (are : AreRooted 
   -- the list number k is kept whole
   pub list_whole : (k : ℕ) → k < length lists → slice_index roots k ≡ 0 → list_at lists k ≡ list_at parts k
   list_whole k low none =
-      list_is k (slice_index roots k) low refl ∙ ap (λ r. merged (list_at parts r) (list_at parts k)) none ∙ ap (λ l. merged l (list_at parts k)) are.lists.first
+      list_is k (slice_index roots k) low refl ∙ ap (λ r. merged (list_at parts r) (list_at parts k)) none
+      ∙ ap (λ l. merged l (list_at parts k)) are.lists.first
 
   pub rise_of : (k : ℕ) → k < length lists → IsStrictlySortedBy pair_cmp (list_at lists k)
   rise_of k low = (subst AreLists view (AreLists-wholes parts (padded roots (length parts)) are)).rise k [] low
@@ -113,7 +119,8 @@ module _ (parts : List (List (ℕ × ℕ))) (roots : List ℕ) (are : AreRooted 
       (λ e. j_is ∙ same.0 e ∙ sym k_is, λ e. same.1 (sym j_is ∙ e ∙ k_is))
 
 -- one list more
-module _ (parts : List (List (ℕ × ℕ))) (roots : List ℕ) (are : AreRooted parts roots) (root : ℕ) (added : List (ℕ × ℕ)) (low : root < length parts) where
+module _ (parts : List (List (ℕ × ℕ))) (roots : List ℕ) (are : AreRooted parts roots) (root : ℕ) (added : List (ℕ × ℕ))
+    (low : root < length parts) where
   old_part : (k : ℕ) → k < length parts → list_at (parts ++ added ∷ []) k ≡ list_at parts k
   old_part k h = get_or_append_left parts (added ∷ []) [] k h
 
@@ -165,12 +172,14 @@ module _ (parts : List (List (ℕ × ℕ))) (roots : List ℕ) (are : AreRooted 
       (All-weaker (λ r. r < length parts) (λ r. r < length (parts ++ added ∷ [])) (λ r h. omega arith) roots are.below)
       (All-only (λ r. r < length (parts ++ added ∷ [])) root (omega arith))
 
-  flat-push : slice_index roots root ≡ 0 → (k : ℕ) → k < length (roots ++ root ∷ []) → slice_index (roots ++ root ∷ []) (slice_index (roots ++ root ∷ []) k) ≡ 0
+  flat-push : slice_index roots root ≡ 0 → (k : ℕ) → k < length (roots ++ root ∷ [])
+      → slice_index (roots ++ root ∷ []) (slice_index (roots ++ root ∷ []) k) ≡ 0
   flat-push flat k h =
       let size = are.size in
       let longer = length_push roots root in
       elim (cases_lt k (length parts)) [
-        | inl o ↦ ap (slice_index (roots ++ root ∷ [])) (old_root k o) ∙ old_root (slice_index roots k) (root_below parts roots are k o) ∙ are.flat k (omega arith)
+        | inl o ↦ ap (slice_index (roots ++ root ∷ [])) (old_root k o) ∙ old_root (slice_index roots k) (root_below parts roots are k o)
+            ∙ are.flat k (omega arith)
         | inr n ↦ ap (slice_index (roots ++ root ∷ [])) (new_root k (omega arith)) ∙ old_root root low ∙ flat
       ]
 
@@ -288,7 +297,8 @@ module _ (root added pairs : List (ℕ × ℕ)) where
 
 -- the parts of a list that is kept whole
 module _ (parts : List (List (ℕ × ℕ))) (roots : List ℕ) (are : AreRooted parts (padded roots (length parts))) (k : ℕ) where
-  pub base_whole : slice_index roots k ≡ 0 → merged (list_at parts k) (list_at parts 0) ≡ merged (list_at parts (slice_index roots k)) (list_at parts k)
+  pub base_whole : slice_index roots k ≡ 0 → merged (list_at parts k) (list_at parts 0)
+      ≡ merged (list_at parts (slice_index roots k)) (list_at parts k)
   base_whole none =
       ap (merged (list_at parts k)) are.lists.first ∙ merged_nil (list_at parts k) ∙ ap (λ l. merged l (list_at parts k)) (sym are.lists.first)
       ∙ ap (λ r. merged (list_at parts r) (list_at parts k)) (sym none)
@@ -306,7 +316,8 @@ module _ (parts : List (List (ℕ × ℕ))) (roots : List ℕ) (are : AreRooted 
   pub root_whole : k < length parts → slice_index roots (slice_index roots k) ≡ 0
   root_whole low =
       let size = are.size in
-      ap (slice_index roots) (sym read_root) ∙ sym (padded_at roots (length parts) (slice_index (padded roots (length parts)) k)) ∙ are.flat k (omega arith)
+      ap (slice_index roots) (sym read_root) ∙ sym (padded_at roots (length parts) (slice_index (padded roots (length parts)) k))
+      ∙ are.flat k (omega arith)
 
   pub root_apart : k < length parts → Apart (list_at parts (slice_index roots k)) (list_at parts k)
   root_apart low = let size = are.size in subst (λ r. Apart (list_at parts r) (list_at parts k)) read_root (are.apart k (omega arith))
@@ -330,7 +341,8 @@ module _ {list base known pairs : List (ℕ × ℕ)} (parted : Parted list base 
 
   pub added_extends : merged base added ≡ merged list pairs
   added_extends =
-      ap (merged base) is ∙ merged_assoc base known pairs parted.rise_base parted.rise_known parted.rise_pairs ∙ ap (λ l. merged l pairs) (sym parted.is)
+      ap (merged base) is ∙ merged_assoc base known pairs parted.rise_base parted.rise_known parted.rise_pairs
+      ∙ ap (λ l. merged l pairs) (sym parted.is)
 
   pub whole_rises : {whole : List (ℕ × ℕ)} → whole ≡ merged base added → IsStrictlySortedBy pair_cmp whole
   whole_rises e = subst (IsStrictlySortedBy pair_cmp) (sym e) (merged_rises _ _ parted.rise_base added_rises)
@@ -341,7 +353,8 @@ module _ {list base known pairs : List (ℕ × ℕ)} (parted : Parted list base 
 -- of lists that are seen whole
 module _ (parts : List (List (ℕ × ℕ))) (roots : List ℕ) (are : AreRooted parts (padded roots (length parts))) (lists : List (List (ℕ × ℕ)))
     (view : wholes parts (padded roots (length parts)) ≡ lists) where
-  pub parted_at : (k base known : ℕ) (pairs : List (ℕ × ℕ)) → k < length lists → base < length parts → known < length parts → Apart (list_at parts base) (list_at parts known)
+  pub parted_at : (k base known : ℕ) (pairs : List (ℕ × ℕ)) → k < length lists → base < length parts → known < length parts
+      → Apart (list_at parts base) (list_at parts known)
       → merged (list_at parts base) (list_at parts known) ≡ merged (list_at parts (slice_index roots k)) (list_at parts k)
       → IsStrictlySortedBy pair_cmp pairs → Apart (list_at lists k) pairs → Parted (list_at lists k) (list_at parts base) (list_at parts known) pairs
   parted_at k base known pairs low low_base low_known apart list rising lacks = record {

@@ -31,7 +31,8 @@ module _ (n : ℕ) (p q : List ℕ) (j k : ℕ) (of_p : IsPartition p j) (of_q :
           | inl same ↦ same
           | inr o ↦ elim o [
             | inl less ↦ absurd (not_less n p q k of_q size_q (λ x y lx ly. (alike x y lx ly).1) m (omega (arith, l)) before less)
-            | inr more ↦ absurd (not_less n q p j of_p size_p (λ x y lx ly. (alike x y lx ly).0) m (omega (arith, l)) (λ t lt. sym (before t lt)) more)
+            | inr more ↦ absurd (not_less n q p j of_p size_p (λ x y lx ly. (alike x y lx ly).0) m (omega (arith, l)) (λ t lt. sym (before t lt))
+                more)
           ]
         ])
         | inr o ↦ elim o [ inl less ↦ before s less | inr more ↦ absurd (omega (arith, ls, more)) ]

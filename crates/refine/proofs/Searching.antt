@@ -6,7 +6,8 @@ use Rattle.refine.specs.Spans.{mixed, fingerprint_of}
 use Rattle.refine.specs.Splitting.{Alike, print_of, bucket_of, bucket_at, before_at, elder_at, IsElder, IsChain}
 
 -- states that are alike have one fingerprint
-pub one_print : (old : List ℕ) (signature : ℕ → List (ℕ × ℕ)) (s t : ℕ) → Alike old signature s t → print_of old signature s ≡ print_of old signature t
+pub one_print : (old : List ℕ) (signature : ℕ → List (ℕ × ℕ)) (s t : ℕ) → Alike old signature s t → print_of old signature s
+    ≡ print_of old signature t
 one_print old signature s t a =
     ap (λ l. mixed (fingerprint_of l) (slice_index old s, 0)) a.1 ∙ ap (λ b. mixed (fingerprint_of (signature t)) (b, 0)) a.0
 
@@ -21,7 +22,8 @@ module _ (old : List ℕ) (signature : ℕ → List (ℕ × ℕ)) (s : ℕ) (cha
 module _ (old : List ℕ) (signature : ℕ → List (ℕ × ℕ)) (s : ℕ) (heads : List ℕ) (chain : List Elder) (fingerprint : ℕ)
     (is : IsChain old signature s heads chain) (same : fingerprint ≡ print_of old signature s) where
   -- a elder that is alike is in the bucket of the fingerprint
-  fits : (q : ℕ) → 0 < q → q < length chain → Alike old signature (elder_at chain q).state s → bucket_at chain heads q ≡ bucket_of (length heads) fingerprint
+  fits : (q : ℕ) → 0 < q → q < length chain → Alike old signature (elder_at chain q).state s → bucket_at chain heads q
+      ≡ bucket_of (length heads) fingerprint
   fits q p h a = ap (bucket_of (length heads)) (is.prints q p h ∙ one_print old signature (elder_at chain q).state s a ∙ sym same)
 
   pub none-above-head : NoneAbove old signature s chain (get_or heads (bucket_of (length heads) fingerprint) 0)

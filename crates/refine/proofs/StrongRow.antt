@@ -31,7 +31,8 @@ pair_equal x y e =
 
 module _ (l : Grouped) (blocks : List ℕ) (s : ℕ) (h : IsLts l)
     (sources : (e : Triple) → Contains (row_of s l.places) e ↔ (Contains l.places e × (source_of e ≡ s)))
-    (steps : (a : List ℕ) (t : ℕ) → Step (system_of l) s a t ↔ ((e : Triple) × Contains (row_of s l.places) e × (text_of l.labels (label_of e) ≡ a) × (target_of e ≡ t))) where
+    (steps : (a : List ℕ) (t : ℕ)
+    → Step (system_of l) s a t ↔ ((e : Triple) × Contains (row_of s l.places) e × (text_of l.labels (label_of e) ≡ a) × (target_of e ≡ t))) where
   in_range : (e : Triple) → Contains (row_of s l.places) e → IsTriple (length l.labels) l.states e
   in_range e c = All-contains (IsTriple (length l.labels) l.states) l.places e h.in_range.each ((sources e).0 c).0
 

@@ -10,7 +10,8 @@ returns-then-part-root c =
     let root = list_at parts c.args.root in
     let added = list_at parts c.args.k in
     elim c.then-part-root.branch [
-      | then-part-root-via-then-part-root w ↦ first_not_missing root added (list_at parts c.args.part) c.args.pairs.now.items (ap (list_at parts) w.if-part-root.true)
+      | then-part-root-via-then-part-root w ↦ first_not_missing root added (list_at parts c.args.part) c.args.pairs.now.items
+          (ap (list_at parts) w.if-part-root.true)
       | then-part-root-via-else-part-root+then-part-k w ↦
           second_not_missing root added (list_at parts c.args.part) c.args.pairs.now.items (ap (list_at parts) w.if-part-k.true)
     ]

@@ -22,12 +22,23 @@ returns-then-root-eq-EMPTY-clause-put c =
 pub returns-in_err-reserve-clause-rooted : goal.returns-in_err-reserve-clause-rooted
 returns-in_err-reserve-clause-rooted c =
     let n = length c.args.parts.now in
-    rw (c.reserve.ensures.items, c.in_ok-pad.ensures.padded, c.len.ensures, padded_full (padded c.args.roots.now.items n) n c.requires.rooted.size) c.requires.rooted
+    rw (
+      c.reserve.ensures.items,
+      c.in_ok-pad.ensures.padded,
+      c.len.ensures,
+      padded_full (padded c.args.roots.now.items n) n c.requires.rooted.size,
+    ) c.requires.rooted
 
 pub returns-in_err-number-2-clause-rooted : goal.returns-in_err-number-2-clause-rooted
 returns-in_err-number-2-clause-rooted c =
     let n = length c.args.parts.now in
-    rw (c.in_err-number-2.ensures.err, c.reserve.ensures.items, c.in_ok-pad.ensures.padded, c.len.ensures, padded_full (padded c.args.roots.now.items n) n c.requires.rooted.size) c.requires.rooted
+    rw (
+      c.in_err-number-2.ensures.err,
+      c.reserve.ensures.items,
+      c.in_ok-pad.ensures.padded,
+      c.len.ensures,
+      padded_full (padded c.args.roots.now.items n) n c.requires.rooted.size,
+    ) c.requires.rooted
 
 -- the roots have got the root of the list
 roots_after : (c : goal.After-push_reserved) → padded c.push_reserved.new.self.items (length (c.args.parts.now ++ c.args.added.now ∷ []))
@@ -48,4 +59,5 @@ returns-clause-rooted c =
 pub returns-clause-put : goal.returns-clause-put
 returns-clause-put c =
     rw (c.in_ok-number-2.ensures.pushed, roots_after c)
-    (wholes-push c.args.parts.now (padded c.args.roots.now.items (length c.args.parts.now)) c.requires.rooted c.args.root c.args.added.now c.requires.root)
+    (wholes-push c.args.parts.now (padded c.args.roots.now.items (length c.args.parts.now)) c.requires.rooted c.args.root c.args.added.now
+    c.requires.root)

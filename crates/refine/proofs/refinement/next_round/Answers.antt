@@ -14,5 +14,6 @@ pub returns-clause-next : goal.returns-clause-next
 returns-clause-next g c =
     let l = c.args.l.now in
     IsNext-done g.S.Sense.relation l (λ s a t. c.rows_are_steps.ensures.numbered l s a t c.known.ensures) c.args.p.now
-    (list_of c.sign.new.self.lists c.sign.new.self.numbers.items) c.in_ok-sign.ensures.signed c.split.result c.requires.states c.split.ensures.states c.split.ensures.blocks
+    (list_of c.sign.new.self.lists c.sign.new.self.numbers.items) c.in_ok-sign.ensures.signed c.split.result c.requires.states
+    c.split.ensures.states c.split.ensures.blocks
     c.split.ensures.numbered

@@ -29,7 +29,8 @@ next_round-requires-clause-room g c =
     let l = c.args.l.now in
     let made = c.loop-blocks.invariant.made in
     room_for_more (length l.places) l.states made.rounds _ _ made.costs
-    (c.refinement_goes_on.ensures.below g.S.Sense.relation (system_of l) made.rounds (slice_index c.loop-blocks.blocks) c.states.ensures.lts.system made.underway)
+    (c.refinement_goes_on.ensures.below g.S.Sense.relation (system_of l) made.rounds (slice_index c.loop-blocks.blocks)
+    c.states.ensures.lts.system made.underway)
     c.requires.room
 
 pub returns-in_err-next-clause-err : goal.returns-in_err-next-clause-err
@@ -37,8 +38,10 @@ returns-in_err-next-clause-err g c =
     let l = c.args.l.now in
     let made = c.loop-blocks.invariant.made in
     let below =
-    c.refinement_goes_on.ensures.below g.S.Sense.relation (system_of l) made.rounds (slice_index c.loop-blocks.blocks) c.states.ensures.lts.system made.underway in
-    let most = costs_up_to_more (length l.places) l.states made.rounds _ _ made.costs (g.M.Meter.counted c.next_round.new.m) below c.in_err-next.ensures.err in
+    c.refinement_goes_on.ensures.below g.S.Sense.relation (system_of l) made.rounds (slice_index c.loop-blocks.blocks)
+    c.states.ensures.lts.system made.underway in
+    let most = costs_up_to_more (length l.places) l.states made.rounds _ _ made.costs (g.M.Meter.counted c.next_round.new.m) below
+    c.in_err-next.ensures.err in
     search rules
 
 pub returns-then-is_same-clause-bisimilar : goal.returns-then-is_same-clause-bisimilar
@@ -51,7 +54,8 @@ returns-then-is_same-clause-bisimilar g c =
     let same : SameBlocks A old next = same_list_same_blocks A c.loop-blocks.blocks c.in_ok-next.next (c.is_same.ensures.0 c.if-is_same.true) in
     let turns : Turns g.S.Sense.relation A (suc made.rounds) =
     c.refinement_goes_on.ensures.done g.S.Sense.relation A made.rounds old next c.states.ensures.lts.system made.underway split same in
-    c.final_blocks_are_bisimilarity.ensures g.S.Sense.relation A (suc made.rounds) next c.states.ensures.lts.system turns (old, made.underway.after, split)
+    c.final_blocks_are_bisimilarity.ensures g.S.Sense.relation A (suc made.rounds) next c.states.ensures.lts.system turns
+    (old, made.underway.after, split)
 
 pub returns-then-is_same-clause-turns : goal.returns-then-is_same-clause-turns
 returns-then-is_same-clause-turns g c =
@@ -63,7 +67,8 @@ returns-then-is_same-clause-turns g c =
     let same : SameBlocks A old next = same_list_same_blocks A c.loop-blocks.blocks c.in_ok-next.next (c.is_same.ensures.0 c.if-is_same.true) in (
       suc made.rounds,
       c.refinement_goes_on.ensures.below g.S.Sense.relation A made.rounds old c.states.ensures.lts.system made.underway,
-      c.refinement_goes_on.ensures.done g.S.Sense.relation A made.rounds old next c.states.ensures.lts.system made.underway c.in_ok-next.ensures.next.split same,
+      c.refinement_goes_on.ensures.done g.S.Sense.relation A made.rounds old next c.states.ensures.lts.system made.underway
+          c.in_ok-next.ensures.next.split same,
       costs_more (length l.places) l.states made.rounds _ _ made.costs (g.M.Meter.counted c.next_round.new.m) c.in_ok-next.ensures.costs,
     )
 
@@ -71,7 +76,8 @@ pub loop-blocks-smaller : goal.loop-blocks-smaller
 loop-blocks-smaller g c =
     let made = c.loop-blocks.invariant.made in
     let below =
-    c.refinement_goes_on.ensures.below g.S.Sense.relation (system_of c.args.l.now) made.rounds (slice_index c.loop-blocks.blocks) c.states.ensures.lts.system made.underway in
+    c.refinement_goes_on.ensures.below g.S.Sense.relation (system_of c.args.l.now) made.rounds (slice_index c.loop-blocks.blocks)
+    c.states.ensures.lts.system made.underway in
     omega (arith, below, made.costs.rounds, c.in_ok-next.ensures.costs.rounds)
 
 -- the round has split something
@@ -93,7 +99,8 @@ made g c =
     record {
       rounds = suc before.rounds;
       underway =
-          c.refinement_goes_on.ensures.more g.S.Sense.relation (system_of l) before.rounds (slice_index c.loop-blocks.blocks) (slice_index c.in_ok-next.next)
+          c.refinement_goes_on.ensures.more g.S.Sense.relation (system_of l) before.rounds (slice_index c.loop-blocks.blocks)
+          (slice_index c.in_ok-next.next)
           c.states.ensures.lts.system before.underway c.in_ok-next.ensures.next.split (changed g c);
       costs = costs_more (length l.places) l.states before.rounds _ _ before.costs (g.M.Meter.counted c.next_round.new.m) c.in_ok-next.ensures.costs;
     }

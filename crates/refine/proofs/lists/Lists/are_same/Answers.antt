@@ -1,20 +1,21 @@
 use Rattle.std.proofs.Common.{◌∙◌, slice_index, Contains, ap, sym, subst, arith}
 use Rattle.refine.specs.Lists.{list_at}
 use Rattle.refine.proofs.Rising.{rising_unique, pair_total}
-use Rattle.refine.proofs.Rooted.{length-parts, rise_of, same_root}
+use Rattle.refine.proofs.Rooted.{parts_size, rise_of, same_root}
 use Rattle.refine.proofs.lists.Lists.are_same.Goals as goal
 
 pub of-requires : goal.of-requires
-of-requires c = omega (arith, length-parts c.self.inside.parts c.self.inside.roots.items c.self.invariant c.args.self.now c.self.view_is, c.requires.first)
+of-requires c = omega (arith, parts_size c.self.invariant c.self.view_is, c.requires.first)
 
 pub of-requires-then-root_of : goal.of-requires-then-root_of
-of-requires-then-root_of c = omega (arith, length-parts c.self.inside.parts c.self.inside.roots.items c.self.invariant c.args.self.now c.self.view_is, c.requires.second)
+of-requires-then-root_of c = omega (arith, parts_size c.self.invariant c.self.view_is, c.requires.second)
 
 pub returns-then-root_of : goal.returns-then-root_of
 returns-then-root_of c =
     let roots = c.self.inside.roots.items in
     let same =
-    same_root c.self.inside.parts roots c.self.invariant c.args.self.now c.self.view_is c.args.j c.args.k c.root_of.result c.requires.first c.requires.second
+    same_root c.self.inside.parts roots c.self.invariant c.args.self.now c.self.view_is c.args.j c.args.k c.root_of.result c.requires.first
+    c.requires.second
     (c.root_of.ensures ∙ ap (λ xs. slice_index xs c.args.j) c.deref.ensures.value)
     (c.if-root_of.true ∙ c.root_of-2.ensures ∙ ap (λ xs. slice_index xs c.args.k) c.deref-2.ensures.value) in
     let j_is = c.of.ensures.list in
@@ -28,7 +29,8 @@ returns-then-has_all_of c =
     let lists = c.args.self.now in (
       λ t.
           rising_unique pair_total (list_at lists c.args.j) (list_at lists c.args.k)
-          (rise_of parts roots c.self.invariant lists c.self.view_is c.args.j c.requires.first) (rise_of parts roots c.self.invariant lists c.self.view_is c.args.k c.requires.second)
+          (rise_of parts roots c.self.invariant lists c.self.view_is c.args.j c.requires.first)
+          (rise_of parts roots c.self.invariant lists c.self.view_is c.args.k c.requires.second)
           (λ z. (c.has_all_of.ensures.0 c.if-has_all_of.true z, c.has_all_of-then-has_all_of.ensures.0 t z)),
       λ e. c.has_all_of-then-has_all_of.ensures.1 (λ z d. subst (λ l. Contains l z) (sym e) d),
     )

@@ -1,6 +1,6 @@
 use Rattle.std.proofs.Common.{◌∙◌}
-use Rattle.refine.proofs.Rooted.{length-parts}
+use Rattle.refine.proofs.Rooted.{parts_size}
 use Rattle.refine.proofs.lists.Lists.len.Goals as goal
 
 pub returns : goal.returns
-returns c = c.len.ensures ∙ length-parts c.self.inside.parts c.self.inside.roots.items c.self.invariant c.args.self.now c.self.view_is
+returns c = c.len.ensures ∙ parts_size c.self.invariant c.self.view_is

@@ -12,5 +12,6 @@ returns-clause-signed g c s ls =
     let states : length c.self.inside.round.numbers.items ≡ c.args.l.now.states =
     sym (length-map c.self.inside.round.numbers.items (list_at c.self.inside.whole)) ∙ ap length c.self.view_is ∙ c.requires.signatures in
     subst (IsSignature g.S.Sense.relation c.args.l.now c.args.p.now s)
-    (sym (signature_at-list whole numbers s (omega (arith, ls, states, c.sign.ensures.states)) ∙ ap (λ xs. list_of xs numbers s) c.in_default-make_whole.ensures))
+    (sym (signature_at-list whole numbers s (omega (arith, ls, states, c.sign.ensures.states))
+    ∙ ap (λ xs. list_of xs numbers s) c.in_default-make_whole.ensures))
     (c.in_default.ensures.signed s ls)
