@@ -59,8 +59,7 @@ returns-then-is_same-clause-bisimilar g c =
 
 pub returns-then-is_same-clause-turns : goal.returns-then-is_same-clause-turns
 returns-then-is_same-clause-turns g c =
-    let l = c.args.l.now in
-    let A = system_of l in
+    let A = system_of c.args.l.now in
     let old = slice_index c.loop-blocks.blocks in
     let next = slice_index c.in_ok-next.next in
     let made = c.loop-blocks.invariant.made in
@@ -69,7 +68,7 @@ returns-then-is_same-clause-turns g c =
       c.refinement_goes_on.ensures.below g.S.Sense.relation A made.rounds old c.states.ensures.lts.system made.underway,
       c.refinement_goes_on.ensures.done g.S.Sense.relation A made.rounds old next c.states.ensures.lts.system made.underway
           c.in_ok-next.ensures.next.split same,
-      costs_more (length l.places) l.states made.rounds _ _ made.costs (g.M.Meter.counted c.next_round.new.m) c.in_ok-next.ensures.costs,
+      costs_more (length c.args.l.now.places) A.states made.rounds _ _ made.costs (g.M.Meter.counted c.next_round.new.m) c.in_ok-next.ensures.costs,
     )
 
 pub loop-blocks-smaller : goal.loop-blocks-smaller

@@ -33,11 +33,10 @@ pub returns : goal.returns
 returns c =
     let parts = c.self.inside.parts in
     let roots = c.self.inside.roots.items in
-    let lists = c.args.self.now in
     rw (
-      list_is parts roots c.self.invariant lists c.self.view_is c.args.j c.root_of.result c.requires.first
+      list_is parts roots c.self.invariant _ c.self.view_is c.args.j c.root_of.result c.requires.first
           (c.root_of.ensures ∙ ap (λ xs. slice_index xs c.args.j) c.deref-2.ensures.value),
-      list_is parts roots c.self.invariant lists c.self.view_is c.args.k c.root_of-root.result c.requires.second
+      list_is parts roots c.self.invariant _ c.self.view_is c.args.k c.root_of-root.result c.requires.second
           (c.root_of-root.ensures ∙ ap (λ xs. slice_index xs c.args.k) c.deref.ensures.value),
     )
     (missing_both (list_at parts c.root_of.result) (list_at parts c.args.j) (merged (list_at parts c.root_of-root.result) (list_at parts c.args.k))
