@@ -8,7 +8,7 @@ use Rattle.refine.proofs.Spending.{costs_more, costs_up_to_more, room_for_more}
 use Rattle.refine.proofs.SameLists.{one_block, same_list_same_blocks, apart_lists}
 use Rattle.refine.proofs.refinement.refine.Goals as goal
 use Rattle.refine.proofs.refinement.refine.Given.{Over}
-use Rattle.refine.proofs.refinement.refine.Goals.{Else-is_same}
+use Rattle.refine.proofs.refinement.refine.Goals.{Then-is_same, Else-is_same}
 
 pub loop-blocks-init : goal.loop-blocks-init
 loop-blocks-init g c =
@@ -44,31 +44,31 @@ returns-in_err-next-clause-err g c =
     c.in_err-next.ensures.err in
     search rules
 
+-- the round was the last one
+turns : (g : Over) (c : Then-is_same g) → Turns g.S.Sense.relation (system_of c.args.l.now) (suc c.loop-blocks.invariant.made.rounds)
+turns g c =
+    let A = system_of c.args.l.now in
+    let made = c.loop-blocks.invariant.made in
+    let same = same_list_same_blocks A c.loop-blocks.blocks c.in_ok-next.next (c.is_same.ensures.0 c.if-is_same.true) in
+    c.refinement_goes_on.ensures.done g.S.Sense.relation A made.rounds (slice_index c.loop-blocks.blocks) (slice_index c.in_ok-next.next)
+    c.states.ensures.lts.system made.underway c.in_ok-next.ensures.next.split same
+
 pub returns-then-is_same-clause-bisimilar : goal.returns-then-is_same-clause-bisimilar
 returns-then-is_same-clause-bisimilar g c =
-    let A = system_of c.args.l.now in
-    let old = slice_index c.loop-blocks.blocks in
-    let next = slice_index c.in_ok-next.next in
     let made = c.loop-blocks.invariant.made in
-    let split = c.in_ok-next.ensures.next.split in
-    let same : SameBlocks A old next = same_list_same_blocks A c.loop-blocks.blocks c.in_ok-next.next (c.is_same.ensures.0 c.if-is_same.true) in
-    let turns : Turns g.S.Sense.relation A (suc made.rounds) =
-    c.refinement_goes_on.ensures.done g.S.Sense.relation A made.rounds old next c.states.ensures.lts.system made.underway split same in
-    c.final_blocks_are_bisimilarity.ensures g.S.Sense.relation A (suc made.rounds) next c.states.ensures.lts.system turns
-    (old, made.underway.after, split)
+    c.final_blocks_are_bisimilarity.ensures g.S.Sense.relation (system_of c.args.l.now) (suc made.rounds) (slice_index c.in_ok-next.next)
+    c.states.ensures.lts.system (turns g (goal.at.returns-then-is_same-clause-bisimilar g c).Then-is_same)
+    (slice_index c.loop-blocks.blocks, made.underway.after, c.in_ok-next.ensures.next.split)
 
 pub returns-then-is_same-clause-turns : goal.returns-then-is_same-clause-turns
 returns-then-is_same-clause-turns g c =
-    let A = system_of c.args.l.now in
-    let old = slice_index c.loop-blocks.blocks in
-    let next = slice_index c.in_ok-next.next in
-    let made = c.loop-blocks.invariant.made in
-    let same : SameBlocks A old next = same_list_same_blocks A c.loop-blocks.blocks c.in_ok-next.next (c.is_same.ensures.0 c.if-is_same.true) in (
+    let l = c.args.l.now in
+    let made = c.loop-blocks.invariant.made in (
       suc made.rounds,
-      c.refinement_goes_on.ensures.below g.S.Sense.relation A made.rounds old c.states.ensures.lts.system made.underway,
-      c.refinement_goes_on.ensures.done g.S.Sense.relation A made.rounds old next c.states.ensures.lts.system made.underway
-          c.in_ok-next.ensures.next.split same,
-      costs_more (length c.args.l.now.places) A.states made.rounds _ _ made.costs (g.M.Meter.counted c.next_round.new.m) c.in_ok-next.ensures.costs,
+      c.refinement_goes_on.ensures.below g.S.Sense.relation (system_of l) made.rounds (slice_index c.loop-blocks.blocks) c.states.ensures.lts.system
+          made.underway,
+      turns g (goal.at.returns-then-is_same-clause-turns g c).Then-is_same,
+      costs_more (length l.places) l.states made.rounds _ _ made.costs (g.M.Meter.counted c.next_round.new.m) c.in_ok-next.ensures.costs,
     )
 
 pub loop-blocks-smaller : goal.loop-blocks-smaller
