@@ -3,10 +3,4 @@
 #![tactic(auto)]
 
 #[cfg(test)]
-mod comparisons;
-#[cfg(test)]
-mod faults;
-#[cfg(test)]
-mod runs;
-#[cfg(test)]
-mod words;
+mod tests;

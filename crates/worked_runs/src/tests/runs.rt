@@ -1,0 +1,257 @@
+//! The worked examples of whole runs by strong bisimulation, and the largest texts, lines, labels and hide lists.
+use super::running::{
+    CHAIN_OF_THREE, ITS_CHAIN, ITS_DETOUR, ITS_QUOTIENT, SILENT_DETOUR, TWO_EQUAL_TARGETS, Written,
+    check, check_fault, check_hiding, check_written, ends, run,
+};
+use autbis::Counts;
+use autfmt::{Fault, Hidden};
+use lts::Meter;
+use std::alloc::{AllocError, Global};
+use std::test::Fail;
+
+const QUOTIENTS: [Written; 17] = [
+    ("lone-state", b"des (0,0,1)\n", b"des (0, 0, 1)\n"),
+    ("two-equal-targets", TWO_EQUAL_TARGETS, ITS_QUOTIENT),
+    (
+        "silent-cycle",
+        b"des (0,3,2)\n(0,i,1)\n(1,i,0)\n(1,a,1)\n",
+        b"des (0, 3, 2)\n(0, i, 1)\n(1, a, 1)\n(1, i, 0)\n",
+    ),
+    (
+        "unreachable-pair",
+        b"des (0,1,3)\n(1,a,2)\n",
+        b"des (0, 0, 1)\n",
+    ),
+    ("chain-of-three", CHAIN_OF_THREE, ITS_CHAIN),
+    (
+        "two-spellings",
+        b"des (0, 3, 2)\n(0, a, 1)\n(0, \"a\", 1)\n(0, a, 1)\n",
+        b"des (0, 1, 2)\n(0, a, 1)\n",
+    ),
+    (
+        "blanks-and-quotes",
+        b"des(0,1,2)\n( 0 ,\"SEND !1\", 1 )\n",
+        b"des (0, 1, 2)\n(0, \"SEND !1\", 1)\n",
+    ),
+    ("first-is-one", b"des (1,0,2)\n", b"des (0, 0, 1)\n"),
+    (
+        "label-order",
+        b"des (0,3,2)\n(0,a,1)\n(0,B,1)\n(0,\"!x\",1)\n",
+        b"des (0, 3, 2)\n(0, \"!x\", 1)\n(0, B, 1)\n(0, a, 1)\n",
+    ),
+    (
+        "unreachable-twin",
+        b"des (0,2,4)\n(0,a,2)\n(2,b,3)\n",
+        b"des (0, 2, 3)\n(0, a, 1)\n(1, b, 2)\n",
+    ),
+    (
+        "quoted-internal",
+        b"des (0,1,2)\n(0,\"i\",1)\n",
+        b"des (0, 1, 2)\n(0, i, 1)\n",
+    ),
+    (
+        "odd-quoted-labels, a backslash",
+        b"des (0,1,2)\n(0,\"a\\\",1)",
+        b"des (0, 1, 2)\n(0, \"a\\\", 1)\n",
+    ),
+    (
+        "odd-quoted-labels, marks inside",
+        b"des (0,1,2)\n(0,\"SEND !\"x\"\",1)\n",
+        b"des (0, 1, 2)\n(0, \"SEND !\"x\"\", 1)\n",
+    ),
+    (
+        "first-is-two",
+        b"des (2,2,3)\n(2,a,0)\n(0,b,1)\n",
+        b"des (0, 2, 3)\n(0, a, 1)\n(1, b, 2)\n",
+    ),
+    (
+        "first-in-cycle",
+        b"des (1,2,2)\n(1,a,0)\n(0,a,1)\n",
+        b"des (0, 1, 1)\n(0, a, 0)\n",
+    ),
+    (
+        "first-leads-numbering",
+        b"des (2,4,4)\n(2,a,3)\n(3,b,0)\n(0,a,3)\n(3,c,1)\n",
+        b"des (0, 3, 3)\n(0, a, 2)\n(2, b, 0)\n(2, c, 1)\n",
+    ),
+    ("silent-detour", SILENT_DETOUR, ITS_DETOUR),
+];
+
+#[test]
+fn quotients(rt: HostRuntime) -> Result<(), Fail> {
+    for (name, text, out) in &QUOTIENTS {
+        check_written(rt.alloc(), name, text, out)?;
+    }
+    Ok(())
+}
+
+/// What a run counts: the states and transitions that it answers, how many rounds it makes, and how many visits at most.
+type Counted = (u32, u32, u128, u128);
+
+/// Whether a run writes `out` and counts so.
+fn has_counts(alloc: Global, text: &[u8], out: &[u8], counted: &Counted) -> bool {
+    let (states, transitions, rounds, most) = *counted;
+    let counts = Counts {
+        states,
+        transitions,
+    };
+    let (answer, sink, meter) = run(alloc, text);
+    answer == Ok(counts)
+        && sink.bytes() == out
+        && meter.rounds() == rounds
+        && meter.visits() <= most
+}
+
+const COUNTED: [(Written, Counted); 4] = [
+    (
+        ("lone-state", b"des (0,0,1)\n", b"des (0, 0, 1)\n"),
+        (1, 0, 1, 0),
+    ),
+    (
+        ("two-equal-targets", TWO_EQUAL_TARGETS, ITS_QUOTIENT),
+        (3, 2, 2, 8),
+    ),
+    (("chain-of-three", CHAIN_OF_THREE, ITS_CHAIN), (4, 3, 4, 18)),
+    (("silent-detour", SILENT_DETOUR, ITS_DETOUR), (6, 6, 2, 24)),
+];
+
+#[test]
+fn rounds_and_visits(rt: HostRuntime) -> Result<(), Fail> {
+    for ((name, text, out), counted) in &COUNTED {
+        check(name, has_counts(rt.alloc(), text, out, counted))?;
+    }
+    Ok(())
+}
+
+/// A chain of a thousand states, as a text and as it is written.
+fn thousand(alloc: Global) -> Result<(String, String), AllocError> {
+    let mut text = String::from_str(alloc, "des (0,999,1000)\n")?;
+    let mut out = String::from_str(alloc, "des (0, 999, 1000)\n")?;
+    for k in 0..999u32 {
+        let next = k + 1;
+        text.push_str(&format!(in alloc; "({k},a,{next})\n")?)?;
+        out.push_str(&format!(in alloc; "({k}, a, {next})\n")?)?;
+    }
+    Ok((text, out))
+}
+
+#[test]
+fn long_chain(rt: HostRuntime) -> Result<(), Fail> {
+    let (text, out) = thousand(rt.alloc())?;
+    let counted = (1000, 999, 1000, 1_000_998);
+    check(
+        "long-chain",
+        has_counts(rt.alloc(), text.as_bytes(), out.as_bytes(), &counted),
+    )
+}
+
+const LARGEST: [&[u8]; 2] = [b"des (0,0,1000000)\n", b"des (0,0,500001)\n"];
+
+#[test]
+fn largest_header(rt: HostRuntime) -> Result<(), Fail> {
+    let hidden = Hidden::none(rt.alloc());
+    for text in &LARGEST {
+        let out = b"des (0, 0, 1)\n";
+        check(
+            "largest-header",
+            ends(rt.alloc(), text, &hidden, None, None, 4096, None, out),
+        )?;
+    }
+    Ok(())
+}
+
+/// Lines 2 of 8,192 and of 8,193 bytes.
+#[test]
+fn longest_line(rt: HostRuntime) -> Result<(), Fail> {
+    let (alloc, name) = (rt.alloc(), "longest-line");
+    let blanks = " ".repeat(alloc, 8185)?;
+    let fits = format!(in alloc; "des (0,1,2)\n(0,a,1){blanks}")?;
+    check_written(alloc, name, fits.as_bytes(), ITS_QUOTIENT)?;
+    for line in ["(0,a,1)", "(9,a,1)"] {
+        let long = format!(in alloc; "des (0,1,2)\n{line} {blanks}")?;
+        check_fault(alloc, name, long.as_bytes(), Fault::LineTooLong(2))?;
+    }
+    Ok(())
+}
+
+/// Labels of 8,000 and of 8,001 bytes, plain and between marks.
+#[test]
+fn longest_label(rt: HostRuntime) -> Result<(), Fail> {
+    let (alloc, name) = (rt.alloc(), "longest-label");
+    let label = "a".repeat(alloc, 8000)?;
+    let out = format!(in alloc; "des (0, 1, 2)\n(0, {label}, 1)\n")?;
+    for mark in ["", "\""] {
+        let fits = format!(in alloc; "des (0,1,2)\n(0,{mark}{label}{mark},1)\n")?;
+        check_written(alloc, name, fits.as_bytes(), out.as_bytes())?;
+        let long = format!(in alloc; "des (0,1,2)\n(0,{mark}a{label}{mark},1)\n")?;
+        check_fault(alloc, name, long.as_bytes(), Fault::BadEdge(2))?;
+    }
+    Ok(())
+}
+
+/// A name, a text, its hide list, its fault if it has one, and what is written.
+type Hiding = (
+    &'static str,
+    &'static [u8],
+    &'static [u8],
+    Option<Fault>,
+    &'static [u8],
+);
+
+const HIDING: [Hiding; 5] = [
+    (
+        "hidden-step-stays",
+        b"des (0,2,3)\n(0,a,1)\n(1,b,2)\n",
+        b"a\n",
+        None,
+        b"des (0, 2, 3)\n(0, i, 1)\n(1, b, 2)\n",
+    ),
+    (
+        "hidden-quoted",
+        b"des (0,2,2)\n(0,a,1)\n(0,b,1)\n",
+        b"\"a\"\nb\n",
+        None,
+        b"des (0, 1, 2)\n(0, i, 1)\n",
+    ),
+    (
+        "two-labels-a-line",
+        TWO_EQUAL_TARGETS,
+        b"a b\n",
+        Some(Fault::BadHide(1)),
+        b"",
+    ),
+    (
+        "empty-hide-list",
+        TWO_EQUAL_TARGETS,
+        b"",
+        None,
+        ITS_QUOTIENT,
+    ),
+    (
+        "empty-hide-line",
+        TWO_EQUAL_TARGETS,
+        b"a\n\n",
+        Some(Fault::BadHide(2)),
+        b"",
+    ),
+];
+
+#[test]
+fn hidden_labels(rt: HostRuntime) -> Result<(), Fail> {
+    for (name, text, list, fault, out) in &HIDING {
+        check_hiding(rt.alloc(), name, text, list, *fault, out)?;
+    }
+    Ok(())
+}
+
+/// Lists of 100,000 and of 100,001 lines.
+#[test]
+fn longest_hide_list(rt: HostRuntime) -> Result<(), Fail> {
+    let (alloc, name) = (rt.alloc(), "longest-hide-list");
+    let (text, hidden) = (TWO_EQUAL_TARGETS, b"des (0, 1, 2)\n(0, i, 1)\n");
+    let fits = "a\n".repeat(alloc, 100_000)?;
+    check_hiding(alloc, name, text, fits.as_bytes(), None, hidden)?;
+    let long = "a\n".repeat(alloc, 100_001)?;
+    let fault = Some(Fault::TooManyHidden);
+    check_hiding(alloc, name, text, long.as_bytes(), fault, b"")
+}

@@ -1,0 +1,294 @@
+//! The worked examples of command words: the jobs that they ask for, and what is said of others.
+use super::running::check;
+use autbis::{Job, VERSION, WordFault, command, report_words};
+use quotient::Relation;
+use std::alloc::{AllocError, Global};
+use std::io::{self, Write};
+use std::test::Fail;
+
+/// These words, which stand in a line between marks.
+pub(crate) fn words_of(alloc: Global, line: &str, mark: char) -> Result<Vec<String>, AllocError> {
+    let mut words = Vec::new(alloc);
+    for word in line.split(mark) {
+        words.push(String::from_str(alloc, word)?)?;
+    }
+    Ok(words)
+}
+
+/// What `command` answers for a line of words that are divided by blanks.
+fn asked(alloc: Global, line: &str) -> Result<Result<Job, WordFault>, AllocError> {
+    let words = words_of(alloc, line, ' ')?;
+    Ok(command(alloc, words))
+}
+
+fn is_text(text: &Option<String>, wanted: Option<&str>) -> bool {
+    match text {
+        Some(text) => wanted == Some(text.as_str()),
+        None => wanted.is_none(),
+    }
+}
+
+/// A line of words, and the relation, the flag `--stats`, the hide list and the file of the job that they ask for.
+type Minimises = (
+    &'static str,
+    Relation,
+    bool,
+    Option<&'static str>,
+    Option<&'static str>,
+);
+
+const MINIMISES: [Minimises; 4] = [
+    ("autbis min", Relation::Strong, false, None, None),
+    (
+        "autbis min --stats a.aut --relation=branching",
+        Relation::Branching,
+        true,
+        None,
+        Some("a.aut"),
+    ),
+    (
+        "autbis min -- --stats",
+        Relation::Strong,
+        false,
+        None,
+        Some("--stats"),
+    ),
+    (
+        "autbis min --relation strong a.aut --hide a.hide",
+        Relation::Strong,
+        false,
+        Some("a.hide"),
+        Some("a.aut"),
+    ),
+];
+
+/// Whether the words ask for this minimisation.
+fn asks_to_minimise(alloc: Global, wanted: &Minimises) -> Result<bool, AllocError> {
+    let (line, wants_relation, wants_stats, wants_hide, wants_file) = *wanted;
+    match asked(alloc, line)? {
+        Ok(
+            Job::Min {
+                relation,
+                stats,
+                hide,
+                file,
+            },
+        ) => Ok(
+            relation == wants_relation
+                && stats == wants_stats
+                && is_text(&hide, wants_hide)
+                && is_text(&file, wants_file),
+        ),
+        _ => Ok(false),
+    }
+}
+
+#[test]
+fn command_words(rt: HostRuntime) -> Result<(), Fail> {
+    for wanted in &MINIMISES {
+        check(wanted.0, asks_to_minimise(rt.alloc(), wanted)?)?;
+    }
+    Ok(())
+}
+
+/// A line of words, and the relation, the hide list and both files of the job that they ask for.
+type Compares = (
+    &'static str,
+    Relation,
+    Option<&'static str>,
+    &'static str,
+    &'static str,
+);
+
+const COMPARES: [Compares; 3] = [
+    (
+        "autbis cmp a.aut b.aut",
+        Relation::Strong,
+        None,
+        "a.aut",
+        "b.aut",
+    ),
+    (
+        "autbis cmp a.aut --relation branching b.aut",
+        Relation::Branching,
+        None,
+        "a.aut",
+        "b.aut",
+    ),
+    (
+        "autbis cmp --hide a.hide b.aut -- --stats",
+        Relation::Strong,
+        Some("a.hide"),
+        "b.aut",
+        "--stats",
+    ),
+];
+
+/// Whether the words ask for this comparison.
+fn asks_to_compare(alloc: Global, wanted: &Compares) -> Result<bool, AllocError> {
+    let (line, wants_relation, wants_hide, wants_first, wants_second) = *wanted;
+    match asked(alloc, line)? {
+        Ok(
+            Job::Cmp {
+                relation,
+                hide,
+                first,
+                second,
+            },
+        ) => Ok(
+            relation == wants_relation
+                && is_text(&hide, wants_hide)
+                && first.as_str() == wants_first
+                && second.as_str() == wants_second,
+        ),
+        _ => Ok(false),
+    }
+}
+
+#[test]
+fn command_words_of_cmp(rt: HostRuntime) -> Result<(), Fail> {
+    for wanted in &COMPARES {
+        check(wanted.0, asks_to_compare(rt.alloc(), wanted)?)?;
+    }
+    Ok(())
+}
+
+/// What `report_words` answers, shows and says of a fault.
+fn reported(alloc: Global, fault: &WordFault) -> (u8, Vec<u8>, Vec<u8>) {
+    let mut shown = Vec::new(alloc);
+    let mut said = Vec::new(alloc);
+    let status = report_words(fault, &mut shown, &mut said);
+    (status, shown, said)
+}
+
+/// Whether the word is said to be no relation.
+fn is_no_relation(alloc: Global, word: &str) -> Result<bool, AllocError> {
+    let line = format!(in alloc; "autbis min a.aut --relation={word}")?;
+    let Err(fault) = asked(alloc, &line)? else {
+        return Ok(false);
+    };
+    let (status, shown, said) = reported(alloc, &fault);
+    let message = format!(in alloc; "autbis: unknown relation: {word}\n")?;
+    let is_said = status == 3 && shown.is_empty() && said.as_slice() == message.as_bytes();
+    Ok(is_said && matches!(&fault, WordFault::Relation(named) if named.as_str() == word))
+}
+
+#[test]
+fn unknown_relation(rt: HostRuntime) -> Result<(), Fail> {
+    for word in ["weak", "Strong", "Branching", ""] {
+        check(word, is_no_relation(rt.alloc(), word)?)?;
+    }
+    Ok(())
+}
+
+const NO_JOBS: [&str; 12] = [
+    "autbis",
+    "autbis maximise a",
+    "autbis cmp a",
+    "autbis min a b",
+    "autbis cmp",
+    "autbis cmp a b c",
+    "autbis cmp --stats a b",
+    "autbis min --relation strong --relation strong",
+    "autbis min --stats --stats",
+    "autbis min --hide a --hide b",
+    "autbis min --hide",
+    "autbis min --loud",
+];
+
+/// Whether the words are said to be no job, by an error of `clap`.
+fn is_no_job(alloc: Global, line: &str) -> Result<bool, AllocError> {
+    let Err(fault) = asked(alloc, line)? else {
+        return Ok(false);
+    };
+    let (status, shown, said) = reported(alloc, &fault);
+    match &fault {
+        WordFault::Usage(text) => Ok(
+            status == 3
+                && shown.is_empty()
+                && said.as_slice() == text.as_bytes()
+                && text.as_str().starts_with("error: "),
+        ),
+        _ => Ok(false),
+    }
+}
+
+#[test]
+fn usage_faults(rt: HostRuntime) -> Result<(), Fail> {
+    for line in NO_JOBS {
+        check(line, is_no_job(rt.alloc(), line)?)?;
+    }
+    Ok(())
+}
+
+/// A writer that takes nothing.
+#[derive(Drop)]
+pub(crate) struct Closed;
+
+impl Write for Closed {
+    fn write(&mut self, _buf: &[u8]) -> io::Result<usize> {
+        Ok(0)
+    }
+
+    fn flush(&mut self) -> io::Result<()> {
+        Ok(())
+    }
+}
+
+/// Whether help that cannot be shown is said to be a failed write.
+fn is_closed(alloc: Global, fault: &WordFault) -> bool {
+    let mut said = Vec::new(alloc);
+    let status = report_words(fault, &mut Closed, &mut said);
+    status == 5 && said.as_slice() == b"autbis: read or write failed\n".as_slice()
+}
+
+/// Whether the words ask for a text that has this part.
+fn helps(alloc: Global, line: &str, part: &str) -> Result<bool, AllocError> {
+    let Err(fault) = asked(alloc, line)? else {
+        return Ok(false);
+    };
+    let (status, shown, said) = reported(alloc, &fault);
+    match &fault {
+        WordFault::Help(text) => Ok(
+            status == 0
+                && said.is_empty()
+                && shown.as_slice() == text.as_bytes()
+                && text.as_str().contains(part)
+                && is_closed(alloc, &fault),
+        ),
+        _ => Ok(false),
+    }
+}
+
+const HELP: [(&str, &str); 4] = [
+    ("autbis --help", "min"),
+    ("autbis --help", "cmp"),
+    ("autbis cmp --help", "--hide <FILE>"),
+    ("autbis min --help", "--relation <WORD>"),
+];
+
+#[test]
+fn help(rt: HostRuntime) -> Result<(), Fail> {
+    for (line, part) in &HELP {
+        check(line, helps(rt.alloc(), line, part)?)?;
+    }
+    Ok(())
+}
+
+/// Whether the words ask for the version, which is shown.
+fn shows_version(alloc: Global, line: &str) -> Result<bool, AllocError> {
+    let Err(fault) = asked(alloc, line)? else {
+        return Ok(false);
+    };
+    let (status, shown, said) = reported(alloc, &fault);
+    let version = format!(in alloc; "autbis {VERSION}\n")?;
+    Ok(status == 0 && said.is_empty() && shown.as_slice() == version.as_bytes())
+}
+
+#[test]
+fn version(rt: HostRuntime) -> Result<(), Fail> {
+    for line in ["autbis --version", "autbis -V"] {
+        check(line, shows_version(rt.alloc(), line)?)?;
+    }
+    Ok(())
+}
