@@ -16,9 +16,9 @@ pub(crate) fn words_of(alloc: Global, line: &str, mark: char) -> Result<Vec<Stri
 }
 
 /// What `command` answers for a line of words that are divided by blanks.
-fn asked(alloc: Global, line: &str) -> Result<Result<Job, WordFault>, AllocError> {
+fn asked(alloc: Global, line: &str) -> Result<Job, WordFault> {
     let words = words_of(alloc, line, ' ')?;
-    Ok(command(alloc, words))
+    command(alloc, words)
 }
 
 fn is_text(text: &Option<String>, wanted: Option<&str>) -> bool {
@@ -63,9 +63,9 @@ const MINIMISES: [Minimises; 4] = [
 ];
 
 /// Whether the words ask for this minimisation.
-fn asks_to_minimise(alloc: Global, wanted: &Minimises) -> Result<bool, AllocError> {
+fn asks_to_minimise(alloc: Global, wanted: &Minimises) -> bool {
     let (line, wants_relation, wants_stats, wants_hide, wants_file) = *wanted;
-    match asked(alloc, line)? {
+    match asked(alloc, line) {
         Ok(
             Job::Min {
                 relation,
@@ -73,20 +73,20 @@ fn asks_to_minimise(alloc: Global, wanted: &Minimises) -> Result<bool, AllocErro
                 hide,
                 file,
             },
-        ) => Ok(
+        ) => {
             relation == wants_relation
                 && stats == wants_stats
                 && is_text(&hide, wants_hide)
-                && is_text(&file, wants_file),
-        ),
-        _ => Ok(false),
+                && is_text(&file, wants_file)
+        }
+        _ => false,
     }
 }
 
 #[test]
 fn command_words(rt: HostRuntime) -> Result<(), Fail> {
     for wanted in &MINIMISES {
-        check(wanted.0, asks_to_minimise(rt.alloc(), wanted)?)?;
+        check(wanted.0, asks_to_minimise(rt.alloc(), wanted))?;
     }
     Ok(())
 }
@@ -125,9 +125,9 @@ const COMPARES: [Compares; 3] = [
 ];
 
 /// Whether the words ask for this comparison.
-fn asks_to_compare(alloc: Global, wanted: &Compares) -> Result<bool, AllocError> {
+fn asks_to_compare(alloc: Global, wanted: &Compares) -> bool {
     let (line, wants_relation, wants_hide, wants_first, wants_second) = *wanted;
-    match asked(alloc, line)? {
+    match asked(alloc, line) {
         Ok(
             Job::Cmp {
                 relation,
@@ -135,20 +135,20 @@ fn asks_to_compare(alloc: Global, wanted: &Compares) -> Result<bool, AllocError>
                 first,
                 second,
             },
-        ) => Ok(
+        ) => {
             relation == wants_relation
                 && is_text(&hide, wants_hide)
                 && first.as_str() == wants_first
-                && second.as_str() == wants_second,
-        ),
-        _ => Ok(false),
+                && second.as_str() == wants_second
+        }
+        _ => false,
     }
 }
 
 #[test]
 fn command_words_of_cmp(rt: HostRuntime) -> Result<(), Fail> {
     for wanted in &COMPARES {
-        check(wanted.0, asks_to_compare(rt.alloc(), wanted)?)?;
+        check(wanted.0, asks_to_compare(rt.alloc(), wanted))?;
     }
     Ok(())
 }
@@ -161,22 +161,51 @@ fn reported(alloc: Global, fault: &WordFault) -> (u8, Vec<u8>, Vec<u8>) {
     (status, shown, said)
 }
 
-/// Whether the word is said to be no relation.
-fn is_no_relation(alloc: Global, word: &str) -> Result<bool, AllocError> {
-    let line = format!(in alloc; "autbis min a.aut --relation={word}")?;
-    let Err(fault) = asked(alloc, &line)? else {
-        return Ok(false);
+/// Words, the one among them that names no relation, and what is said of it.
+const NO_RELATIONS: [(&str, &str, &str); 4] = [
+    (
+        "autbis min a.aut --relation=weak",
+        "weak",
+        "autbis: unknown relation: weak\n",
+    ),
+    (
+        "autbis min a.aut --relation=Strong",
+        "Strong",
+        "autbis: unknown relation: Strong\n",
+    ),
+    (
+        "autbis min a.aut --relation=Branching",
+        "Branching",
+        "autbis: unknown relation: Branching\n",
+    ),
+    (
+        "autbis min a.aut --relation=",
+        "",
+        "autbis: unknown relation: \n",
+    ),
+];
+
+/// Whether the fault is that this word is no relation.
+fn names(fault: &WordFault, word: &str) -> bool {
+    match fault {
+        WordFault::Relation(named) => named.as_str() == word,
+        _ => false,
+    }
+}
+
+/// Whether this word of the line is said to be no relation.
+fn is_no_relation(alloc: Global, line: &str, word: &str, message: &str) -> bool {
+    let Err(fault) = asked(alloc, line) else {
+        return false;
     };
     let (status, shown, said) = reported(alloc, &fault);
-    let message = format!(in alloc; "autbis: unknown relation: {word}\n")?;
-    let is_said = status == 3 && shown.is_empty() && said.as_slice() == message.as_bytes();
-    Ok(is_said && matches!(&fault, WordFault::Relation(named) if named.as_str() == word))
+    names(&fault, word) && status == 3 && shown.is_empty() && said.as_slice() == message.as_bytes()
 }
 
 #[test]
 fn unknown_relation(rt: HostRuntime) -> Result<(), Fail> {
-    for word in ["weak", "Strong", "Branching", ""] {
-        check(word, is_no_relation(rt.alloc(), word)?)?;
+    for (line, word, message) in &NO_RELATIONS {
+        check(line, is_no_relation(rt.alloc(), line, word, message))?;
     }
     Ok(())
 }
@@ -197,26 +226,26 @@ const NO_JOBS: [&str; 12] = [
 ];
 
 /// Whether the words are said to be no job, by an error of `clap`.
-fn is_no_job(alloc: Global, line: &str) -> Result<bool, AllocError> {
-    let Err(fault) = asked(alloc, line)? else {
-        return Ok(false);
+fn is_no_job(alloc: Global, line: &str) -> bool {
+    let Err(fault) = asked(alloc, line) else {
+        return false;
     };
     let (status, shown, said) = reported(alloc, &fault);
     match &fault {
-        WordFault::Usage(text) => Ok(
+        WordFault::Usage(text) => {
             status == 3
                 && shown.is_empty()
                 && said.as_slice() == text.as_bytes()
-                && text.as_str().starts_with("error: "),
-        ),
-        _ => Ok(false),
+                && text.as_str().starts_with("error: ")
+        }
+        _ => false,
     }
 }
 
 #[test]
 fn usage_faults(rt: HostRuntime) -> Result<(), Fail> {
     for line in NO_JOBS {
-        check(line, is_no_job(rt.alloc(), line)?)?;
+        check(line, is_no_job(rt.alloc(), line))?;
     }
     Ok(())
 }
@@ -243,20 +272,20 @@ fn is_closed(alloc: Global, fault: &WordFault) -> bool {
 }
 
 /// Whether the words ask for a text that has this part.
-fn helps(alloc: Global, line: &str, part: &str) -> Result<bool, AllocError> {
-    let Err(fault) = asked(alloc, line)? else {
-        return Ok(false);
+fn helps(alloc: Global, line: &str, part: &str) -> bool {
+    let Err(fault) = asked(alloc, line) else {
+        return false;
     };
     let (status, shown, said) = reported(alloc, &fault);
     match &fault {
-        WordFault::Help(text) => Ok(
+        WordFault::Help(text) => {
             status == 0
                 && said.is_empty()
                 && shown.as_slice() == text.as_bytes()
                 && text.as_str().contains(part)
-                && is_closed(alloc, &fault),
-        ),
-        _ => Ok(false),
+                && is_closed(alloc, &fault)
+        }
+        _ => false,
     }
 }
 
@@ -270,25 +299,25 @@ const HELP: [(&str, &str); 4] = [
 #[test]
 fn help(rt: HostRuntime) -> Result<(), Fail> {
     for (line, part) in &HELP {
-        check(line, helps(rt.alloc(), line, part)?)?;
+        check(line, helps(rt.alloc(), line, part))?;
     }
     Ok(())
 }
 
-/// Whether the words ask for the version, which is shown.
-fn shows_version(alloc: Global, line: &str) -> Result<bool, AllocError> {
-    let Err(fault) = asked(alloc, line)? else {
-        return Ok(false);
+/// Whether the words ask for a text, which is shown.
+fn shows(alloc: Global, line: &str, text: &str) -> bool {
+    let Err(fault) = asked(alloc, line) else {
+        return false;
     };
     let (status, shown, said) = reported(alloc, &fault);
-    let version = format!(in alloc; "autbis {VERSION}\n")?;
-    Ok(status == 0 && said.is_empty() && shown.as_slice() == version.as_bytes())
+    status == 0 && said.is_empty() && shown.as_slice() == text.as_bytes()
 }
 
 #[test]
 fn version(rt: HostRuntime) -> Result<(), Fail> {
+    let text = format!(in rt.alloc(); "autbis {VERSION}\n")?;
     for line in ["autbis --version", "autbis -V"] {
-        check(line, shows_version(rt.alloc(), line)?)?;
+        check(line, shows(rt.alloc(), line, &text))?;
     }
     Ok(())
 }
