@@ -11,19 +11,19 @@ NoneAbove lists chain key r = (q : ℕ) → r < q → q < length chain → key_a
 pub none-at-all : (lists : List (List (ℕ × ℕ))) (chain : List Elder) (key : Key) → NoneAbove lists chain key 0 → IsNew lists chain key
 none-at-all lists chain key none r e = none r e.0 e.1
 
-module _ (lists : List (List (ℕ × ℕ))) (heads : List ℕ) (chain : List Elder) (key : Key) (fingerprint : ℕ)
-    (is : IsChain lists heads chain) (same : fingerprint ≡ print_of key) where
-  -- an elder that has the key is in the bucket of the fingerprint
-  fits : (q : ℕ) → IsElder chain q → key_at lists chain q ≡ key → bucket_at chain heads q ≡ bucket_of (length heads) fingerprint
+module _ (lists : List (List (ℕ × ℕ))) (heads : List ℕ) (chain : List Elder) (key : Key) (print : ℕ)
+    (is : IsChain lists heads chain) (same : print ≡ print_of key) where
+  -- an elder that has the key is in the bucket of the print
+  fits : (q : ℕ) → IsElder chain q → key_at lists chain q ≡ key → bucket_at chain heads q ≡ bucket_of (length heads) print
   fits q e a = ap (bucket_of (length heads)) (is.prints q e ∙ ap print_of a ∙ sym same)
 
-  pub none-above-head : NoneAbove lists chain key (get_or heads (bucket_of (length heads) fingerprint) 0)
+  pub none-above-head : NoneAbove lists chain key (get_or heads (bucket_of (length heads) print) 0)
   none-above-head q h l a =
       let last = is.chained.heads_last q (omega arith) l in
       let at = ap (λ b. get_or heads b 0) (fits q (omega arith, l) a) in
       omega arith
 
-  pub none-above-before : (r : ℕ) → IsElder chain r → bucket_at chain heads r ≡ bucket_of (length heads) fingerprint →
+  pub none-above-before : (r : ℕ) → IsElder chain r → bucket_at chain heads r ≡ bucket_of (length heads) print →
       (key_at lists chain r ≡ key → ⊥) → NoneAbove lists chain key r → NoneAbove lists chain key (before_at chain r)
   none-above-before r e b other none q h k a = elim (cases_order q r) [
     | inl at ↦ other (subst (λ x. key_at lists chain x ≡ key) at a)

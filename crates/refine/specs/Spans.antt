@@ -12,9 +12,9 @@ use Rattle.refine.specs.declared.lists.TheConstants.{MOST_LISTS}
 abbrev pub mixed : ℕ → ℕ × ℕ → ℕ
 mixed sum p = ((sum + p.0 * FIRST_FACTOR % 2 ^ 64) % 2 ^ 64 + p.1) % 2 ^ 64 * SUM_FACTOR % 2 ^ 64
 
--- the word of a pair
+-- the word of a pair: both halves of a product, one put over the other
 abbrev pub word_of : ℕ × ℕ → ℕ
-word_of p = bit_xor (mixed 0 p) (mixed 0 p / 2 ^ 32)
+word_of p = let product = (p.0 * FIRST_FACTOR % 2 ^ 64 + p.1) % 2 ^ 64 * SUM_FACTOR in bit_xor (product % 2 ^ 64) (product / 2 ^ 64)
 
 -- the fingerprint of a list: the sum of the words of its pairs
 abbrev pub fingerprint_of : List (ℕ × ℕ) → ℕ

@@ -212,6 +212,7 @@ impl Lists {
     /// Appends the list and returns its number.
     ///
     /// Fails if there is no memory for it.
+    #[inline(always)]
     pub(crate) fn push(&mut self, pairs: &[(u32, u32)]) -> Result<u32, Memory>
         requires few { length self.old < MOST_LISTS }
         requires rising { IsStrictlySortedBy pair_cmp pairs.now }
@@ -309,6 +310,7 @@ fn base_of(parts: &Parts, roots: &[u32], k: u32) -> (u32, u32)
 /// Puts a list at the end: what it adds to its root, and the root's number. Returns its own number.
 ///
 /// Fails if there is no memory for it. The lists are then as they were.
+#[inline(always)]
 fn put(
     parts: &mut Parts,
     roots: &mut Vec<u32>,

@@ -81,6 +81,7 @@ impl Parts {
     /// Appends the list and returns its number.
     ///
     /// Fails if there is no memory for it.
+    #[inline(always)]
     pub(crate) fn push(&mut self, pairs: &[(u32, u32)]) -> Result<u32, Memory>
         requires few { length self.old < MOST_LISTS }
         requires rising { IsStrictlySortedBy pair_cmp pairs.now }
@@ -103,6 +104,7 @@ impl Parts {
 /// Puts the list at the end of the pairs, and its span at the end of the spans, whose number it returns.
 ///
 /// Fails if there is no memory for it. The lists are then as they were.
+#[inline(always)]
 fn put(
     pairs: &mut Vec<(u32, u32)>,
     spans: &mut Vec<Span>,

@@ -43,13 +43,16 @@ pub(crate) fn mix(sum: u64, first: u32, second: u32) -> u64
         .wrapping_mul(SUM_FACTOR)
 }
 
-/// A word for the pair, as if drawn by chance: its mix, with the upper half put over the lower one, so that sums of words do
+/// A word for the pair, as if drawn by chance: both halves of a product, one put over the other, so that sums of words do
 /// not depend on sums of numbers.
 pub(crate) fn word(first: u32, second: u32) -> u64
     ensures { result ≡ word_of (first, second) }
 {
-    let mixed = mix(0, first, second);
-    mixed ^ (mixed >> 32)
+    let number = u64::from(first)
+        .wrapping_mul(FIRST_FACTOR)
+        .wrapping_add(u64::from(second));
+    let product = number as u128 * SUM_FACTOR as u128;
+    (product % 0x1_0000_0000_0000_0000) as u64 ^ (product >> 64) as u64
 }
 
 /// A number that equal lists share, and different lists seldom: the sum of the words of the pairs, so that it can be added up
