@@ -55,7 +55,7 @@ pub fn minimise<M: Meter>(
     theory::bisimilarity_is_an_equivalence();
     let blocks = r.blocks(alloc, l, m)?;
     let reached = reachable(alloc, l, m)?;
-    let numbering = number(alloc, l, &blocks, &reached)?;
+    let numbering = number(alloc, l, blocks, &reached)?;
     quotient_of(alloc, l, r, &numbering, &reached, m)
 }
 

@@ -28,19 +28,19 @@ pub(crate) struct Numbering {
     pub(crate) count: u32,
 }
 
-/// Numbers the reachable states: for the relation whose classes the blocks are.
+/// Numbers the reachable states: for the relation whose classes the blocks are, which nothing needs any more.
 ///
 /// Fails if there is no memory for it.
 pub(crate) fn number<M: Meter>(
     alloc: Global,
     l: &Lts<M>,
-    blocks: &Partition,
+    blocks: Partition,
     reached: &[bool],
 ) -> Result<Numbering, Memory>
-    requires blocks_long { length blocks.now ≡ l.now.states }
+    requires blocks_long { length blocks ≡ l.now.states }
     requires reached_long { length reached.now ≡ l.now.states }
     requires reached { (s : ℕ) → s < l.now.states → IsMarked reached.now s ↔ Reachable (system_of l.now) s }
-    ensures { (rel : Relation) → AreClasses rel l.now blocks.now → IfOk result (IsNumbering rel (system_of l.now)) }
+    ensures { (rel : Relation) → AreClasses rel l.now blocks → IfOk result (IsNumbering rel (system_of l.now)) }
 {
     theory::steps_keep_reachable();
     theory::each_state_has_a_number();

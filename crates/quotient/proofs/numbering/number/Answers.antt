@@ -26,7 +26,7 @@ module _ (g : Over) (c : goal.In_ok-with_capacity-2 g) (rel : Relation) where
   abbrev A : System
   A = system_of c.args.l.now
 
-  laws : AreClasses rel c.args.l.now c.args.blocks.now → Laws rel A (slice_index c.args.blocks.now)
+  laws : AreClasses rel c.args.l.now c.args.blocks → Laws rel A (slice_index c.args.blocks)
   laws classes =
       let lts = c.states-states.ensures.lts in
       record {
@@ -41,21 +41,21 @@ module _ (g : Over) (c : goal.In_ok-with_capacity-2 g) (rel : Relation) where
 
 -- at first the first state's block alone has a number
 set_first : (g : Over) (c : goal.In_ok-with_capacity-2 g) → set c.in_ok-by_block.by_block.items c.block.result 0
-    ≡ set (replicate c.count.result none) (slice_index c.args.blocks.now c.args.l.now.first) 0
+    ≡ set (replicate c.count.result none) (slice_index c.args.blocks c.args.l.now.first) 0
 set_first g c =
     ap (λ xs. set xs c.block.result 0) (c.in_ok-by_block.ensures.items_if_clones_equal (λ y e. e))
-    ∙ ap (λ b. set (replicate c.count.result none) b 0) (c.block.ensures ∙ ap (slice_index c.args.blocks.now) c.first-first.ensures)
+    ∙ ap (λ b. set (replicate c.count.result none) b 0) (c.block.ensures ∙ ap (slice_index c.args.blocks) c.first-first.ensures)
 
 pub loop-s-init : goal.loop-s-init
 loop-s-init g c =
-    let within : (t : ℕ) → t < c.args.l.now.states → slice_index c.args.blocks.now t < c.count.result =
+    let within : (t : ℕ) → t < c.args.l.now.states → slice_index c.args.blocks t < c.count.result =
     λ t l. c.count.ensures.below t (omega (arith, l, c.requires.blocks_long)) in
     record {
       within = λ t l. let below = within t l in rw (set_first g c) (omega (arith, length-set {A = ℕ}, length-replicate {A = ℕ}, below));
       few = omega arith;
       laws = laws g c;
       taken = λ rel classes.
-          Taken-start rel (system_of c.args.l.now) (slice_index c.args.blocks.now) (laws g c rel classes) c.count.result _ within
+          Taken-start rel (system_of c.args.l.now) (slice_index c.args.blocks) (laws g c rel classes) c.count.result _ within
           (set_first g c) c.in_ok-with_capacity.ensures.items c.in_ok-with_capacity-2.ensures.items refl;
     }
 
@@ -69,10 +69,10 @@ loop-s-preserved g c =
     let b = c.block-in-loop-s.result in
     let below : c.loop-s.s < l.states = omega (arith, c.states-states.ensures.value) in
     record {
-      within = TakesState-within b _ _ c.loop-s.numbering c.add.new.self c.in_ok-add.ensures l.states (slice_index c.args.blocks.now) c.loop-s.invariant.within;
+      within = TakesState-within b _ _ c.loop-s.numbering c.add.new.self c.in_ok-add.ensures l.states (slice_index c.args.blocks) c.loop-s.invariant.within;
       few = omega (arith, TakesState-few b _ _ c.loop-s.numbering c.add.new.self c.in_ok-add.ensures, c.loop-s.invariant.few);
       laws = c.loop-s.invariant.laws;
-      taken = λ rel classes. Taken-adds rel (system_of l) (slice_index c.args.blocks.now) (c.loop-s.invariant.laws rel classes) c.loop-s.s b
+      taken = λ rel classes. Taken-adds rel (system_of l) (slice_index c.args.blocks) (c.loop-s.invariant.laws rel classes) c.loop-s.s b
           c.loop-s.numbering c.add.new.self _ _ c.block-in-loop-s.ensures (is_first c.loop-s.s c.first-first.result l.first c.first-first.ensures)
           (c.requires.reached c.loop-s.s below) below (omega (arith, below, c.states-states.ensures.lts.in_range.few_states)) (c.loop-s.invariant.taken rel classes) c.in_ok-add.ensures;
     }
@@ -81,5 +81,5 @@ pub returns : goal.returns
 returns g c = λ rel classes.
     let A = system_of c.args.l.now in
     let end : c.loop-s.s ≡ A.states = omega (arith, c.states-states.ensures.value) in
-    Taken-end rel A (slice_index c.args.blocks.now) (c.loop-s.invariant.laws rel classes) c.loop-s.numbering
-    (subst (λ n. Taken rel A (slice_index c.args.blocks.now) n c.loop-s.numbering) end (c.loop-s.invariant.taken rel classes))
+    Taken-end rel A (slice_index c.args.blocks) (c.loop-s.invariant.laws rel classes) c.loop-s.numbering
+    (subst (λ n. Taken rel A (slice_index c.args.blocks) n c.loop-s.numbering) end (c.loop-s.invariant.taken rel classes))
