@@ -1,4 +1,5 @@
 //! Comparisons.
+use crate::checks::check;
 use crate::named::{
     HIDDEN_STEP, LONE_STATE, MOMENT_AFTER, MOMENT_BEFORE, NO_MIDDLE, NOT_COMMITTED, ONLY_A, ONLY_B,
     OPTION_BEHIND, SILENT_LOOP,
@@ -61,31 +62,31 @@ const VERDICTS: [Row; 10] = [
     ),
 ];
 
-/// Whether the systems are equivalent, and the rounds and visits that this took. None if they do not fit together.
+/// Whether the systems are equivalent. None if they do not fit together, or if the meter is not fresh.
 fn verdict(
     alloc: Global,
     a: &Lts<Counter>,
     b: &Lts<Counter>,
     relation: Relation,
-) -> Result<Option<(bool, u128, u128)>, Memory> {
-    let mut m = Counter::new();
-    if !fits_together(a, b) {
+    m: &mut Counter,
+) -> Result<Option<bool>, Memory> {
+    if !fits_together(a, b) || !m.is_fresh() {
         return Ok(None);
     }
-    let same = equivalent(alloc, a, b, relation, &mut m)?;
-    Ok(Some((same, m.rounds(), m.visits())))
+    Ok(Some(equivalent(alloc, a, b, relation, m)?))
 }
 
-/// The verdict alone, on the systems that two texts spell.
+/// The same of the systems that two texts spell.
 fn are_equivalent(
     alloc: Global,
     a: &str,
     b: &str,
     relation: Relation,
+    m: &mut Counter,
 ) -> Result<Option<bool>, Fail> {
     let a = system(alloc, a)?;
     let b = system(alloc, b)?;
-    Ok(verdict(alloc, &a, &b, relation)?.map(|(same, _, _)| same))
+    Ok(verdict(alloc, &a, &b, relation, m)?)
 }
 
 /// How many states the quotient has of the system that the text spells.
@@ -95,20 +96,25 @@ fn size(alloc: Global, text: &str, relation: Relation) -> Result<u32, Fail> {
     Ok(q.states())
 }
 
+/// The verdict on the two systems by this relation is `same`.
+fn check_verdict(alloc: Global, row: &Row, relation: Relation, same: bool) -> Result<(), Fail> {
+    let (name, a, b, _, _) = *row;
+    let found = are_equivalent(alloc, a, b, relation, &mut Counter::new())?;
+    check(name, found == Some(same))
+}
+
 #[test]
 fn by_strong_bisimulation(rt: HostRuntime) -> Result<(), Fail> {
-    for (name, a, b, want, _) in VERDICTS {
-        let same = are_equivalent(rt.alloc(), a, b, Relation::Strong)?;
-        assert_eq!(rt; same, Some(want), "{name}");
+    for row in &VERDICTS {
+        check_verdict(rt.alloc(), row, Relation::Strong, row.3)?;
     }
     Ok(())
 }
 
 #[test]
 fn by_branching_bisimulation(rt: HostRuntime) -> Result<(), Fail> {
-    for (name, a, b, _, want) in VERDICTS {
-        let same = are_equivalent(rt.alloc(), a, b, Relation::Branching)?;
-        assert_eq!(rt; same, Some(want), "{name}");
+    for row in &VERDICTS {
+        check_verdict(rt.alloc(), row, Relation::Branching, row.4)?;
     }
     Ok(())
 }
@@ -116,35 +122,36 @@ fn by_branching_bisimulation(rt: HostRuntime) -> Result<(), Fail> {
 /// `moment-of-choice` takes 3 rounds: 7 visits for the union and 7 in each round.
 #[test]
 fn what_a_comparison_counts(rt: HostRuntime) -> Result<(), Fail> {
-    let (a, b) = (
-        system(rt.alloc(), MOMENT_AFTER)?,
-        system(rt.alloc(), MOMENT_BEFORE)?,
-    );
-    let found = verdict(rt.alloc(), &a, &b, Relation::Strong)?;
-    assert_eq!(rt; found, Some((false, 3, 28)));
-    Ok(())
+    let (a, b, mut m) = (MOMENT_AFTER, MOMENT_BEFORE, Counter::new());
+    let found = are_equivalent(rt.alloc(), a, b, Relation::Strong, &mut m)?;
+    check("verdict", found == Some(false))?;
+    check("rounds", m.rounds() == 3)?;
+    check("visits", m.visits() == 28)
 }
 
-/// Systems that are strongly bisimilar have quotients of one size.
+/// The quotients of both systems, if these are equivalent, have equally many states.
+fn check_sizes(alloc: Global, row: &Row, relation: Relation, same: bool) -> Result<(), Fail> {
+    let (name, a, b, _, _) = *row;
+    if !same {
+        return Ok(());
+    }
+    let first = size(alloc, a, relation)?;
+    let second = size(alloc, b, relation)?;
+    check(name, first == second)
+}
+
 #[test]
 fn sizes_by_strong_bisimulation(rt: HostRuntime) -> Result<(), Fail> {
-    for (name, a, b, same, _) in VERDICTS {
-        if same {
-            let first = size(rt.alloc(), a, Relation::Strong)?;
-            assert_eq!(rt; size(rt.alloc(), b, Relation::Strong)?, first, "{name}");
-        }
+    for row in &VERDICTS {
+        check_sizes(rt.alloc(), row, Relation::Strong, row.3)?;
     }
     Ok(())
 }
 
-/// And so do those that are branching bisimilar.
 #[test]
 fn sizes_by_branching_bisimulation(rt: HostRuntime) -> Result<(), Fail> {
-    for (name, a, b, _, same) in VERDICTS {
-        if same {
-            let first = size(rt.alloc(), a, Relation::Branching)?;
-            assert_eq!(rt; size(rt.alloc(), b, Relation::Branching)?, first, "{name}");
-        }
+    for row in &VERDICTS {
+        check_sizes(rt.alloc(), row, Relation::Branching, row.4)?;
     }
     Ok(())
 }

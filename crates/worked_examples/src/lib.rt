@@ -5,6 +5,8 @@
 #[cfg(test)]
 mod branching;
 #[cfg(test)]
+mod checks;
+#[cfg(test)]
 mod comparisons;
 #[cfg(test)]
 mod named;

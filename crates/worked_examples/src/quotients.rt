@@ -1,4 +1,5 @@
 //! Quotients.
+use crate::checks::check_text;
 use crate::named::{
     CHAIN_OF_THREE, LABEL_ORDER, LONE_STATE, QUOTED_INTERNAL, SILENT_BESIDE_VISIBLE, SILENT_CHAIN,
     SILENT_CYCLE, SILENT_DETOUR, SILENT_LOOP, TWO_EQUAL_TARGETS, TWO_SPELLINGS,
@@ -129,20 +130,21 @@ fn of_text(alloc: Global, text: &str, relation: Relation) -> Result<String, Fail
     Ok(shown(alloc, &l, relation)?)
 }
 
-#[test]
-fn by_strong_bisimulation(rt: HostRuntime) -> Result<(), Fail> {
-    for (name, text, want) in STRONG {
-        let found = of_text(rt.alloc(), text, Relation::Strong)?;
-        assert_eq!(rt; found.as_str(), want, "{name}");
+/// The quotient of each row's system by this relation is as wanted.
+fn check_rows(alloc: Global, rows: &[Row], relation: Relation) -> Result<(), Fail> {
+    for (name, text, wanted) in rows {
+        let found = of_text(alloc, text, relation)?;
+        check_text(name, &found, wanted)?;
     }
     Ok(())
 }
 
 #[test]
+fn by_strong_bisimulation(rt: HostRuntime) -> Result<(), Fail> {
+    check_rows(rt.alloc(), &STRONG, Relation::Strong)
+}
+
+#[test]
 fn by_branching_bisimulation(rt: HostRuntime) -> Result<(), Fail> {
-    for (name, text, want) in BRANCHING {
-        let found = of_text(rt.alloc(), text, Relation::Branching)?;
-        assert_eq!(rt; found.as_str(), want, "{name}");
-    }
-    Ok(())
+    check_rows(rt.alloc(), &BRANCHING, Relation::Branching)
 }

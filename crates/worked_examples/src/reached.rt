@@ -1,4 +1,5 @@
 //! Which states are reachable.
+use crate::checks::check_text;
 use crate::texts::system;
 use lts::{Counter, Lts, Memory, Meter};
 use quotient::reachable;
@@ -41,11 +42,23 @@ const REACHED: [Row; 8] = [
 fn shown(alloc: Global, l: &Lts<Counter>) -> Result<String, Memory> {
     let mut m = Counter::new();
     let mut text = String::new(alloc);
-    if m.has_room(0, u128::from(l.edges())) {
-        append_marked(alloc, &reachable(alloc, l, &mut m)?, &mut text)?;
-    }
+    append_reached(alloc, l, &mut m, &mut text)?;
     text.push_str(&format!(in alloc; "by {} visits, {} rounds", m.visits(), m.rounds())?)?;
     Ok(text)
+}
+
+/// Appends the reachable states, if there is room to count the visits.
+fn append_reached(
+    alloc: Global,
+    l: &Lts<Counter>,
+    m: &mut Counter,
+    text: &mut String,
+) -> Result<(), Memory> {
+    if !m.has_room(0, u128::from(l.edges())) {
+        return Ok(());
+    }
+    let marks = reachable(alloc, l, m)?;
+    append_marked(alloc, &marks, text)
 }
 
 fn append_marked(alloc: Global, marks: &[bool], text: &mut String) -> Result<(), Memory> {
@@ -63,11 +76,15 @@ fn of_text(alloc: Global, text: &str) -> Result<String, Fail> {
     Ok(shown(alloc, &l)?)
 }
 
+fn check_reached(alloc: Global, text: &str, wanted: &str) -> Result<(), Fail> {
+    let found = of_text(alloc, text)?;
+    check_text(text, &found, wanted)
+}
+
 #[test]
 fn finds_what_is_reachable(rt: HostRuntime) -> Result<(), Fail> {
-    for (text, want) in REACHED {
-        let found = of_text(rt.alloc(), text)?;
-        assert_eq!(rt; found.as_str(), want, "{text}");
+    for (text, wanted) in &REACHED {
+        check_reached(rt.alloc(), text, wanted)?;
     }
     Ok(())
 }

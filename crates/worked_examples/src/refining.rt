@@ -1,9 +1,51 @@
 //! Rounds of refinement, and how blocks and signatures are shown.
 ghost use Rattle.std.specs.Prelude.{◌≡◌, length, IfOk};
 
+use crate::checks::check_text;
+use crate::texts::system;
 use lts::{Counter, Lts, Memory, Meter};
 use refine::{Marks, Partition, Sense, Signatures, refine, round};
 use std::alloc::Global;
+use std::test::Fail;
+
+/// What is shown of a system.
+#[derive(Clone, Copy, Drop)]
+pub(crate) enum Shown {
+    /// The final blocks, and the rounds and visits that they took.
+    Refined,
+    /// What so many rounds make of one block, a line each.
+    Rounds(u32),
+    /// The signatures of all states in each of so many rounds, and the blocks after it, a line each.
+    Table(u32),
+    /// The signatures under the blocks after one round, and then, in the same marks and signatures, under one block.
+    FilledTwice,
+}
+
+/// An example: its name, its system, what is shown of it, and the text that this gives.
+pub(crate) type Row = (&'static str, &'static str, Shown, &'static str);
+
+/// What is shown of each system is as wanted.
+pub(crate) fn check_rows<S: Sense>(alloc: Global, rows: &[Row]) -> Result<(), Fail> {
+    for (name, text, what, wanted) in rows {
+        let found = of_text::<S>(alloc, text, *what)?;
+        check_text(name, &found, wanted)?;
+    }
+    Ok(())
+}
+
+fn of_text<S: Sense>(alloc: Global, text: &str, what: Shown) -> Result<String, Fail> {
+    let l = system(alloc, text)?;
+    Ok(show::<S>(alloc, &l, what)?)
+}
+
+fn show<S: Sense>(alloc: Global, l: &Lts<Counter>, what: Shown) -> Result<String, Memory> {
+    match what {
+        Shown::Refined => refined::<S>(alloc, l),
+        Shown::Rounds(many) => rounds::<S>(alloc, l, many, &mut Counter::new()),
+        Shown::Table(many) => table::<S>(alloc, l, many),
+        Shown::FilledTwice => filled_twice::<S>(alloc, l),
+    }
+}
 
 /// The blocks of the states, behind how many there are.
 pub(crate) fn blocks(alloc: Global, p: &Partition) -> Result<String, Memory> {
@@ -31,18 +73,17 @@ pub(crate) fn one_block(alloc: Global, l: &Lts<Counter>) -> Result<Partition, Me
     Partition::one(alloc, l.states())
 }
 
-/// The blocks, and the rounds and visits that they took.
-fn counted(alloc: Global, p: &Partition, m: &Counter) -> Result<String, Memory> {
-    let text = blocks(alloc, p)?;
-    Ok(format!(in alloc; "{text}; {} rounds, {} visits", m.rounds(), m.visits())?)
-}
-
-/// The final blocks, and the rounds and visits that they took.
-pub(crate) fn refined<S: Sense>(alloc: Global, l: &Lts<Counter>) -> Result<String, Memory> {
+fn refined<S: Sense>(alloc: Global, l: &Lts<Counter>) -> Result<String, Memory> {
     l.known();
     let mut m = Counter::new();
     let p = refine::<S, Counter>(alloc, l, &mut m)?;
     counted(alloc, &p, &m)
+}
+
+/// The blocks, and the rounds and visits that they took.
+fn counted(alloc: Global, p: &Partition, m: &Counter) -> Result<String, Memory> {
+    let text = blocks(alloc, p)?;
+    Ok(format!(in alloc; "{text}; {} rounds, {} visits", m.rounds(), m.visits())?)
 }
 
 /// What a round makes of the blocks, if they are of the system's states.
@@ -74,7 +115,8 @@ pub(crate) fn rounds<S: Sense>(
     Ok(text)
 }
 
-fn append_line(alloc: Global, p: &Partition, text: &mut String) -> Result<(), Memory> {
+/// Appends the blocks, on a line.
+pub(crate) fn append_line(alloc: Global, p: &Partition, text: &mut String) -> Result<(), Memory> {
     text.push_str(&blocks(alloc, p)?)?;
     text.push('\n')?;
     Ok(())
@@ -127,26 +169,34 @@ pub(crate) fn split<S: Sense>(
     signatures.split(p)
 }
 
-/// The signatures under the blocks after one round, and then, in the same marks and signatures, under one block.
-pub(crate) fn filled_twice<S: Sense>(alloc: Global, l: &Lts<Counter>) -> Result<String, Memory> {
+fn filled_twice<S: Sense>(alloc: Global, l: &Lts<Counter>) -> Result<String, Memory> {
     let mut text = String::new(alloc);
     let one = one_block(alloc, l)?;
     let split = split::<S>(alloc, l, &one, &mut text)?;
     text.clear();
-    let mut marks = Marks::new(alloc, l.states())?;
-    let mut signatures = Signatures::new(alloc, l.states())?;
-    append_filled::<S>(alloc, l, &split, &mut marks, &mut signatures, &mut text)?;
-    text.push_str(", ")?;
-    append_filled::<S>(alloc, l, &one, &mut marks, &mut signatures, &mut text)?;
+    append_both::<S>(alloc, l, &split, &one, &mut text)?;
     Ok(text)
 }
 
-/// The signatures of all states in each of so many rounds, and the blocks after it, a line each.
-pub(crate) fn table<S: Sense>(
+/// Appends the signatures under both, one after the other, in the same marks and signatures.
+fn append_both<S: Sense>(
     alloc: Global,
     l: &Lts<Counter>,
-    many: u32,
-) -> Result<String, Memory> {
+    first: &Partition,
+    second: &Partition,
+    text: &mut String,
+) -> Result<(), Memory>
+    requires first { length first.now ≡ l.now.states }
+    requires second { length second.now ≡ l.now.states }
+{
+    let mut marks = Marks::new(alloc, l.states())?;
+    let mut signatures = Signatures::new(alloc, l.states())?;
+    append_filled::<S>(alloc, l, first, &mut marks, &mut signatures, text)?;
+    text.push_str(", ")?;
+    append_filled::<S>(alloc, l, second, &mut marks, &mut signatures, text)
+}
+
+fn table<S: Sense>(alloc: Global, l: &Lts<Counter>, many: u32) -> Result<String, Memory> {
     let mut text = String::new(alloc);
     let mut p = one_block(alloc, l)?;
     for _ in 0..many {

@@ -1,4 +1,5 @@
 //! How rounds split blocks, by steps that all lead to state 0: the labels of a state are then its signature.
+use crate::checks::check_text;
 use crate::refining::{blocks, next, one_block};
 use crate::texts::system;
 use lts::Counter;
@@ -79,11 +80,16 @@ fn split_twice(alloc: Global, first: &str, second: &str) -> Result<String, Fail>
     Ok(blocks(alloc, &p)?)
 }
 
+fn check_split(alloc: Global, row: &Row) -> Result<(), Fail> {
+    let (first, second, wanted) = *row;
+    let found = split_twice(alloc, first, second)?;
+    check_text(first, &found, wanted)
+}
+
 #[test]
 fn splits(rt: HostRuntime) -> Result<(), Fail> {
-    for (first, second, want) in SPLITS {
-        let text = split_twice(rt.alloc(), first, second)?;
-        assert_eq!(rt; text.as_str(), want, "{first}");
+    for row in &SPLITS {
+        check_split(rt.alloc(), row)?;
     }
     Ok(())
 }

@@ -1,19 +1,11 @@
 //! Labels and their table, systems in memory, the union of two, and the meter.
+use crate::checks::check;
 use crate::texts::{spelled, system};
 use lts::{
     Counter, Labels, Lts, MOST_LABELS, Memory, Meter, fits_together, in_range, is_label, union,
 };
 use std::alloc::Global;
 use std::test::Fail;
-
-/// Fails with the name of an example that does not come out as wanted.
-fn check(name: &str, is_as_wanted: bool) -> Result<(), Fail> {
-    if is_as_wanted {
-        Ok(())
-    } else {
-        Err(Fail::new(name))
-    }
-}
 
 /// Bytes, and whether they are a label.
 const LABELS: [(&[u8], bool); 8] = [
@@ -153,11 +145,16 @@ fn is_joined(
     Ok(m.visits() == 4 && is_shown(alloc, &l, 4, 3, wanted)?)
 }
 
+/// The union of the systems that two texts spell is as wanted.
+fn check_joined(alloc: Global, a: &str, b: &str, wanted: &str) -> Result<(), Fail> {
+    let a = system(alloc, a)?;
+    let b = system(alloc, b)?;
+    check("joined", is_joined(alloc, &a, &b, wanted)?)
+}
+
 /// Two systems that number their labels in different orders.
 #[test]
 fn joins_by_bytes(rt: HostRuntime) -> Result<(), Fail> {
-    let a = system(rt.alloc(), "1 of 2; 0 a 1; 1 i 0")?;
-    let b = system(rt.alloc(), "0 of 2; 1 i 1; 0 b 1")?;
-    let wanted = "1 of 4; 0 a 1; 1 i 0; 2 b 3; 3 i 3";
-    check("joined", is_joined(rt.alloc(), &a, &b, wanted)?)
+    let (a, b) = ("1 of 2; 0 a 1; 1 i 0", "0 of 2; 1 i 1; 0 b 1");
+    check_joined(rt.alloc(), a, b, "1 of 4; 0 a 1; 1 i 0; 2 b 3; 3 i 3")
 }

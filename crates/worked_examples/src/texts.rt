@@ -22,14 +22,38 @@ fn read(alloc: Global, text: &str) -> Result<Option<Lts<Counter>>, Memory> {
         return Ok(None);
     };
     for part in parts {
-        let Some((source, label, target)) = step(part) else {
-            return Ok(None);
-        };
-        if !is_label(label.as_bytes()) || labels.len() >= MOST_LABELS {
+        if !append_step(part, &mut labels, &mut steps)? {
             return Ok(None);
         }
-        steps.push((source, labels.intern(label.as_bytes())?, target))?;
     }
+    built(alloc, labels, first, states, steps)
+}
+
+/// Appends the step that the part spells. False if it spells none.
+fn append_step(
+    part: &str,
+    labels: &mut Labels,
+    steps: &mut Vec<(u32, u32, u32)>,
+) -> Result<bool, Memory> {
+    let Some((source, label, target)) = step(part) else {
+        return Ok(false);
+    };
+    let label = label.as_bytes();
+    if !is_label(label) || labels.len() >= MOST_LABELS {
+        return Ok(false);
+    }
+    steps.push((source, labels.intern(label)?, target))?;
+    Ok(true)
+}
+
+/// The system of these steps, or none if they are not in range.
+fn built(
+    alloc: Global,
+    labels: Labels,
+    first: u32,
+    states: u32,
+    steps: Vec<(u32, u32, u32)>,
+) -> Result<Option<Lts<Counter>>, Memory> {
     if !in_range(&labels, first, states, &steps) {
         return Ok(None);
     }
