@@ -1,6 +1,6 @@
 //! The worked examples of comparisons, by their names.
-use super::running::check;
-use autbis::{CmpFault, Side, cmp_program, run_cmp, run_min};
+use super::running::{check, run};
+use autbis::{CmpFault, Side, cmp_program, run_cmp};
 use autfmt::{Fault, Hidden, Limits, SliceSource, VecSink, read, read_hidden};
 use lts::{Counter, Lts, Meter};
 use quotient::Relation;
@@ -22,14 +22,7 @@ type Pair = (
 );
 
 const PAIRS: [Pair; 12] = [
-    (
-        "moment-of-choice",
-        b"des (0,3,4)\n(0,a,1)\n(1,b,2)\n(1,c,3)\n",
-        b"des (0,4,5)\n(0,a,1)\n(0,a,2)\n(1,b,3)\n(2,c,4)\n",
-        b"",
-        false,
-        false,
-    ),
+    ("moment-of-choice", AFTER, BEFORE, b"", false, false),
     (
         "silent-middle",
         b"des (0,3,4)\n(0,a,1)\n(1,i,2)\n(2,b,3)\n",
@@ -99,6 +92,11 @@ const PAIRS: [Pair; 12] = [
     ("hidden-second-text", ONLY_B, IN_ORDER, b"a\n", false, true),
 ];
 
+/// `moment-of-choice`: the choice comes after the step, and before it.
+const AFTER: &[u8] = b"des (0,3,4)\n(0,a,1)\n(1,b,2)\n(1,c,3)\n";
+
+const BEFORE: &[u8] = b"des (0,4,5)\n(0,a,1)\n(0,a,2)\n(1,b,3)\n(2,c,4)\n";
+
 const IN_ORDER: &[u8] = b"des (0,2,3)\n(0,a,1)\n(1,b,2)\n";
 
 const REORDERED: &[u8] = b"des (0,2,3)\n(1,b,2)\n(0,a,1)\n";
@@ -108,7 +106,29 @@ const ONLY_B: &[u8] = b"des (0,1,2)\n(0,b,1)\n";
 /// Where the first source, the second one and the sink fail.
 type Places = (Option<usize>, Option<usize>, Option<usize>);
 
-/// Whether a comparison of the two texts, their labels of the list hidden, answers as wanted and writes `out`.
+/// What a comparison answers, what it writes and what it counts.
+type Ran = (Result<bool, CmpFault>, VecSink, Counter);
+
+/// A comparison of the two texts, their labels of the list hidden.
+fn compare(
+    alloc: Global,
+    texts: (&[u8], &[u8]),
+    hidden: &Hidden,
+    places: Places,
+    rel: Relation,
+) -> Ran {
+    let mut one = SliceSource::new(texts.0, places.0);
+    let mut other = SliceSource::new(texts.1, places.1);
+    let mut sink = VecSink::new(alloc, places.2);
+    let mut meter = Counter::new();
+    let lim = Limits::file();
+    let answer = run_cmp(
+        alloc, &mut one, &mut other, &mut sink, rel, &lim, hidden, &mut meter,
+    );
+    (answer, sink, meter)
+}
+
+/// Whether such a comparison answers as wanted and writes `out`.
 fn compares(
     alloc: Global,
     texts: (&[u8], &[u8]),
@@ -121,17 +141,7 @@ fn compares(
     let Ok(hidden) = read_hidden(alloc, &mut SliceSource::new(list, None)) else {
         return false;
     };
-    let mut sink = VecSink::new(alloc, places.2);
-    let answer = run_cmp(
-        alloc,
-        &mut SliceSource::new(texts.0, places.0),
-        &mut SliceSource::new(texts.1, places.1),
-        &mut sink,
-        rel,
-        &Limits::file(),
-        &hidden,
-        &mut Counter::new(),
-    );
+    let (answer, sink, _) = compare(alloc, texts, &hidden, places, rel);
     answer == wanted && sink.bytes() == out
 }
 
@@ -152,21 +162,26 @@ fn verdicts(rt: HostRuntime) -> Result<(), Fail> {
     Ok(())
 }
 
+/// The quotient of a text, its labels of the list hidden.
+fn quotient(alloc: Global, text: &[u8], list: &[u8], rel: Relation) -> Result<VecSink, Fault> {
+    let hidden = read_hidden(alloc, &mut SliceSource::new(list, None))?;
+    let (answer, sink, _) = run(alloc, text, &hidden, None, None, usize::MAX, rel);
+    match answer {
+        Ok(_) => Ok(sink),
+        Err(fault) => Err(fault),
+    }
+}
+
+/// How many states a text has.
+fn states(alloc: Global, text: &[u8]) -> Result<u32, Fault> {
+    let system: Lts<Counter> = read(alloc, &mut SliceSource::new(text, None), &Limits::file())?;
+    Ok(system.states())
+}
+
 /// How many states the quotient of a text has, its labels of the list hidden.
 fn least_states(alloc: Global, text: &[u8], list: &[u8], rel: Relation) -> Result<u32, Fault> {
-    let mut sink = VecSink::new(alloc, None);
-    run_min(
-        alloc,
-        &mut SliceSource::new(text, None),
-        &mut sink,
-        rel,
-        &Limits::file(),
-        &read_hidden(alloc, &mut SliceSource::new(list, None))?,
-        &mut Counter::new(),
-    )?;
-    let mut written = SliceSource::new(sink.bytes(), None);
-    let quotient: Lts<Counter> = read(alloc, &mut written, &Limits::file())?;
-    Ok(quotient.states())
+    let written = quotient(alloc, text, list, rel)?;
+    states(alloc, written.bytes())
 }
 
 /// The quotients of both texts, if they are equivalent, have equally many states.
@@ -175,9 +190,9 @@ fn check_states(alloc: Global, pair: &Pair, rel: Relation, same: bool) -> Result
     if !same {
         return Ok(());
     }
-    let states = least_states(alloc, one, list, rel);
-    let agree = states.is_ok() && states == least_states(alloc, other, list, rel);
-    check(name, agree)
+    let first = least_states(alloc, one, list, rel)?;
+    let second = least_states(alloc, other, list, rel)?;
+    check(name, first == second)
 }
 
 /// Systems that are equivalent have quotients of equally many states.
@@ -288,17 +303,9 @@ fn sides(rt: HostRuntime) -> Result<(), Fail> {
 /// `moment-of-choice` takes exactly 3 rounds, and 7 visits for the union and for each of them.
 #[test]
 fn rounds_and_visits(rt: HostRuntime) -> Result<(), Fail> {
-    let mut meter = Counter::new();
-    let answer = run_cmp(
-        rt.alloc(),
-        &mut SliceSource::new(b"des (0,3,4)\n(0,a,1)\n(1,b,2)\n(1,c,3)\n", None),
-        &mut SliceSource::new(b"des (0,4,5)\n(0,a,1)\n(0,a,2)\n(1,b,3)\n(2,c,4)\n", None),
-        &mut VecSink::new(rt.alloc(), None),
-        Relation::Strong,
-        &Limits::file(),
-        &Hidden::none(rt.alloc()),
-        &mut meter,
-    );
+    let (hidden, none) = (Hidden::none(rt.alloc()), (None, None, None));
+    let texts = (AFTER, BEFORE);
+    let (answer, _, meter) = compare(rt.alloc(), texts, &hidden, none, Relation::Strong);
     check(
         "moment-of-choice",
         answer == Ok(false) && meter.rounds() == 3 && meter.visits() <= 35,

@@ -1,7 +1,7 @@
 //! Runs by strong bisimulation that end in a fault: of the text, of a source or a sink, or for want of memory.
 use super::running::{
     CHAIN_OF_THREE, ITS_CHAIN, ITS_DETOUR, ITS_QUOTIENT, SILENT_DETOUR, TWO_EQUAL_TARGETS, Written,
-    check, check_fault, check_written, ends, run,
+    check, check_fault, check_written, ends, run_whole,
 };
 use autfmt::{Fault, Hidden};
 use lts::Meter;
@@ -111,7 +111,7 @@ fn failing_ends(rt: HostRuntime) -> Result<(), Fail> {
 /// Whether a run on a small text, at which a growth may be refused, answers by the table of outcomes: all is written; or
 /// there was no memory and nothing is; or the sink's own growth was refused, and a beginning is.
 fn is_right_or_refused(alloc: Global, text: &[u8], out: &[u8]) -> bool {
-    let (answer, sink, meter) = run(alloc, text);
+    let (answer, sink, meter) = run_whole(alloc, text);
     if meter.rounds() > 6 || meter.visits() > (meter.rounds() + 2) * 6 {
         return false;
     }

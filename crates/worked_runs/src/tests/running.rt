@@ -1,4 +1,4 @@
-//! How the texts of a table are minimised by strong bisimulation: from sources and into sinks that may fail, to a fault, or to
+//! How the texts of a table are minimised: from sources and into sinks that may fail, to a fault, or to
 //! the text of a quotient.
 use autbis::{Counts, run_min};
 use autfmt::{Fault, Hidden, Limits, SliceSource, VecSink, read_hidden};
@@ -33,8 +33,29 @@ pub(crate) fn check(name: &str, is_as_wanted: bool) -> Result<(), Fail> {
     }
 }
 
-/// Whether a run on the text, its labels of the list hidden, from a source that fails at a place and into a sink that takes so
-/// many bytes, at most `k` bytes at once, ends in this fault, or in none, and writes `out`.
+/// What a run answers, what it writes and what it counts.
+pub(crate) type Ran = (Result<Counts, Fault>, VecSink, Counter);
+
+/// A run on the text, its labels of the list hidden, from a source that fails at a place and into a sink that takes so many
+/// bytes, at most `k` bytes at once.
+pub(crate) fn run(
+    alloc: Global,
+    text: &[u8],
+    hidden: &Hidden,
+    place: Option<usize>,
+    count: Option<usize>,
+    k: usize,
+    rel: Relation,
+) -> Ran {
+    let mut source = SliceSource::new(text, place).pieces(k.max(1));
+    let mut sink = VecSink::new(alloc, count).pieces(k.max(1));
+    let mut meter = Counter::new();
+    let lim = Limits::file();
+    let answer = run_min(alloc, &mut source, &mut sink, rel, &lim, hidden, &mut meter);
+    (answer, sink, meter)
+}
+
+/// Whether such a run, by strong bisimulation, ends in this fault, or in none, and writes `out`.
 pub(crate) fn ends(
     alloc: Global,
     text: &[u8],
@@ -45,22 +66,26 @@ pub(crate) fn ends(
     fault: Option<Fault>,
     out: &[u8],
 ) -> bool {
-    let mut source = SliceSource::new(text, place).pieces(k.max(1));
-    let mut sink = VecSink::new(alloc, count).pieces(k.max(1));
-    let mut meter = Counter::new();
-    let answer = run_min(
-        alloc,
-        &mut source,
-        &mut sink,
-        Relation::Strong,
-        &Limits::file(),
-        hidden,
-        &mut meter,
-    );
+    let (answer, sink, _) = run(alloc, text, hidden, place, count, k, Relation::Strong);
     answer.err() == fault && sink.bytes() == out
 }
 
-/// The run on the text, its labels of the list hidden, ends so, of whole buffers and byte by byte.
+/// The run on the text ends so, of whole buffers and byte by byte.
+fn check_ends(
+    alloc: Global,
+    name: &str,
+    text: &[u8],
+    hidden: &Hidden,
+    fault: Option<Fault>,
+    out: &[u8],
+) -> Result<(), Fail> {
+    for k in [4096, 1] {
+        check(name, ends(alloc, text, hidden, None, None, k, fault, out))?;
+    }
+    Ok(())
+}
+
+/// The same of a run that hides the labels of the list. If these cannot be read, that is the fault.
 pub(crate) fn check_hiding(
     alloc: Global,
     name: &str,
@@ -70,13 +95,7 @@ pub(crate) fn check_hiding(
     out: &[u8],
 ) -> Result<(), Fail> {
     match read_hidden(alloc, &mut SliceSource::new(list, None)) {
-        Ok(hidden) => {
-            check(
-                name,
-                ends(alloc, text, &hidden, None, None, 4096, fault, out),
-            )?;
-            check(name, ends(alloc, text, &hidden, None, None, 1, fault, out))
-        }
+        Ok(hidden) => check_ends(alloc, name, text, &hidden, fault, out),
         Err(found) => check(name, Some(found) == fault),
     }
 }
@@ -101,18 +120,16 @@ pub(crate) fn check_fault(
     check_hiding(alloc, name, text, b"", Some(fault), b"")
 }
 
-/// A run on the text, with no label hidden, from a source and into a sink that do not fail: what it answers, writes and counts.
-pub(crate) fn run(alloc: Global, text: &[u8]) -> (Result<Counts, Fault>, VecSink, Counter) {
-    let mut sink = VecSink::new(alloc, None);
-    let mut meter = Counter::new();
-    let answer = run_min(
+/// A run by strong bisimulation on the text, with no label hidden, from a source and into a sink that do not fail.
+pub(crate) fn run_whole(alloc: Global, text: &[u8]) -> Ran {
+    let hidden = Hidden::none(alloc);
+    run(
         alloc,
-        &mut SliceSource::new(text, None),
-        &mut sink,
+        text,
+        &hidden,
+        None,
+        None,
+        usize::MAX,
         Relation::Strong,
-        &Limits::file(),
-        &Hidden::none(alloc),
-        &mut meter,
-    );
-    (answer, sink, meter)
+    )
 }

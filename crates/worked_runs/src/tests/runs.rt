@@ -1,7 +1,7 @@
 //! The worked examples of whole runs by strong bisimulation, and the largest texts, lines, labels and hide lists.
 use super::running::{
     CHAIN_OF_THREE, ITS_CHAIN, ITS_DETOUR, ITS_QUOTIENT, SILENT_DETOUR, TWO_EQUAL_TARGETS, Written,
-    check, check_fault, check_hiding, check_written, ends, run,
+    check, check_fault, check_hiding, check_written, ends, run_whole,
 };
 use autbis::Counts;
 use autfmt::{Fault, Hidden};
@@ -95,7 +95,7 @@ fn has_counts(alloc: Global, text: &[u8], out: &[u8], counted: &Counted) -> bool
         states,
         transitions,
     };
-    let (answer, sink, meter) = run(alloc, text);
+    let (answer, sink, meter) = run_whole(alloc, text);
     answer == Ok(counts)
         && sink.bytes() == out
         && meter.rounds() == rounds

@@ -62,22 +62,20 @@ const MINIMISES: [Minimises; 4] = [
     ),
 ];
 
-/// Whether the words ask for this minimisation.
-fn asks_to_minimise(alloc: Global, wanted: &Minimises) -> bool {
-    let (line, wants_relation, wants_stats, wants_hide, wants_file) = *wanted;
-    match asked(alloc, line) {
-        Ok(
-            Job::Min {
-                relation,
-                stats,
-                hide,
-                file,
-            },
-        ) => {
-            relation == wants_relation
-                && stats == wants_stats
-                && is_text(&hide, wants_hide)
-                && is_text(&file, wants_file)
+/// Whether the job is this minimisation.
+fn is_minimisation(job: &Job, wanted: &Minimises) -> bool {
+    let (_, wants_relation, wants_stats, wants_hide, wants_file) = *wanted;
+    match job {
+        Job::Min {
+            relation,
+            stats,
+            hide,
+            file,
+        } => {
+            *relation == wants_relation
+                && *stats == wants_stats
+                && is_text(hide, wants_hide)
+                && is_text(file, wants_file)
         }
         _ => false,
     }
@@ -86,7 +84,8 @@ fn asks_to_minimise(alloc: Global, wanted: &Minimises) -> bool {
 #[test]
 fn command_words(rt: HostRuntime) -> Result<(), Fail> {
     for wanted in &MINIMISES {
-        check(wanted.0, asks_to_minimise(rt.alloc(), wanted))?;
+        let job = asked(rt.alloc(), wanted.0)?;
+        check(wanted.0, is_minimisation(&job, wanted))?;
     }
     Ok(())
 }
@@ -124,20 +123,18 @@ const COMPARES: [Compares; 3] = [
     ),
 ];
 
-/// Whether the words ask for this comparison.
-fn asks_to_compare(alloc: Global, wanted: &Compares) -> bool {
-    let (line, wants_relation, wants_hide, wants_first, wants_second) = *wanted;
-    match asked(alloc, line) {
-        Ok(
-            Job::Cmp {
-                relation,
-                hide,
-                first,
-                second,
-            },
-        ) => {
-            relation == wants_relation
-                && is_text(&hide, wants_hide)
+/// Whether the job is this comparison.
+fn is_comparison(job: &Job, wanted: &Compares) -> bool {
+    let (_, wants_relation, wants_hide, wants_first, wants_second) = *wanted;
+    match job {
+        Job::Cmp {
+            relation,
+            hide,
+            first,
+            second,
+        } => {
+            *relation == wants_relation
+                && is_text(hide, wants_hide)
                 && first.as_str() == wants_first
                 && second.as_str() == wants_second
         }
@@ -148,17 +145,39 @@ fn asks_to_compare(alloc: Global, wanted: &Compares) -> bool {
 #[test]
 fn command_words_of_cmp(rt: HostRuntime) -> Result<(), Fail> {
     for wanted in &COMPARES {
-        check(wanted.0, asks_to_compare(rt.alloc(), wanted))?;
+        let job = asked(rt.alloc(), wanted.0)?;
+        check(wanted.0, is_comparison(&job, wanted))?;
     }
     Ok(())
 }
 
-/// What `report_words` answers, shows and says of a fault.
-fn reported(alloc: Global, fault: &WordFault) -> (u8, Vec<u8>, Vec<u8>) {
+/// What is answered to words that ask for no job: the fault, its exit status, and what is shown and said.
+#[derive(Drop)]
+struct Answer {
+    fault: WordFault,
+    status: u8,
+    shown: Vec<u8>,
+    said: Vec<u8>,
+}
+
+/// What is answered to a line of words. Fails if they ask for a job.
+fn answered(alloc: Global, line: &str) -> Result<Answer, Fail> {
+    match asked(alloc, line) {
+        Ok(_) => Err(Fail::new(line)),
+        Err(fault) => Ok(reported(alloc, fault)),
+    }
+}
+
+fn reported(alloc: Global, fault: WordFault) -> Answer {
     let mut shown = Vec::new(alloc);
     let mut said = Vec::new(alloc);
-    let status = report_words(fault, &mut shown, &mut said);
-    (status, shown, said)
+    let status = report_words(&fault, &mut shown, &mut said);
+    Answer {
+        fault,
+        status,
+        shown,
+        said,
+    }
 }
 
 /// Words, the one among them that names no relation, and what is said of it.
@@ -185,27 +204,24 @@ const NO_RELATIONS: [(&str, &str, &str); 4] = [
     ),
 ];
 
-/// Whether the fault is that this word is no relation.
-fn names(fault: &WordFault, word: &str) -> bool {
-    match fault {
-        WordFault::Relation(named) => named.as_str() == word,
+/// Whether this word is said to be no relation.
+fn is_no_relation(found: &Answer, word: &str, message: &str) -> bool {
+    match &found.fault {
+        WordFault::Relation(named) => {
+            named.as_str() == word
+                && found.status == 3
+                && found.shown.is_empty()
+                && found.said.as_slice() == message.as_bytes()
+        }
         _ => false,
     }
-}
-
-/// Whether this word of the line is said to be no relation.
-fn is_no_relation(alloc: Global, line: &str, word: &str, message: &str) -> bool {
-    let Err(fault) = asked(alloc, line) else {
-        return false;
-    };
-    let (status, shown, said) = reported(alloc, &fault);
-    names(&fault, word) && status == 3 && shown.is_empty() && said.as_slice() == message.as_bytes()
 }
 
 #[test]
 fn unknown_relation(rt: HostRuntime) -> Result<(), Fail> {
     for (line, word, message) in &NO_RELATIONS {
-        check(line, is_no_relation(rt.alloc(), line, word, message))?;
+        let found = answered(rt.alloc(), line)?;
+        check(line, is_no_relation(&found, word, message))?;
     }
     Ok(())
 }
@@ -226,16 +242,12 @@ const NO_JOBS: [&str; 12] = [
 ];
 
 /// Whether the words are said to be no job, by an error of `clap`.
-fn is_no_job(alloc: Global, line: &str) -> bool {
-    let Err(fault) = asked(alloc, line) else {
-        return false;
-    };
-    let (status, shown, said) = reported(alloc, &fault);
-    match &fault {
+fn is_no_job(found: &Answer) -> bool {
+    match &found.fault {
         WordFault::Usage(text) => {
-            status == 3
-                && shown.is_empty()
-                && said.as_slice() == text.as_bytes()
+            found.status == 3
+                && found.shown.is_empty()
+                && found.said.as_slice() == text.as_bytes()
                 && text.as_str().starts_with("error: ")
         }
         _ => false,
@@ -244,8 +256,9 @@ fn is_no_job(alloc: Global, line: &str) -> bool {
 
 #[test]
 fn usage_faults(rt: HostRuntime) -> Result<(), Fail> {
-    for line in NO_JOBS {
-        check(line, is_no_job(rt.alloc(), line))?;
+    for line in &NO_JOBS {
+        let found = answered(rt.alloc(), line)?;
+        check(line, is_no_job(&found))?;
     }
     Ok(())
 }
@@ -271,22 +284,17 @@ fn is_closed(alloc: Global, fault: &WordFault) -> bool {
     status == 5 && said.as_slice() == b"autbis: read or write failed\n".as_slice()
 }
 
-/// Whether the words ask for a text that has this part.
-fn helps(alloc: Global, line: &str, part: &str) -> bool {
-    let Err(fault) = asked(alloc, line) else {
-        return false;
-    };
-    let (status, shown, said) = reported(alloc, &fault);
-    match &fault {
-        WordFault::Help(text) => {
-            status == 0
-                && said.is_empty()
-                && shown.as_slice() == text.as_bytes()
-                && text.as_str().contains(part)
-                && is_closed(alloc, &fault)
-        }
+/// Whether a text that has this part is shown as help.
+fn helps(found: &Answer, part: &str) -> bool {
+    match &found.fault {
+        WordFault::Help(text) => shows(found, text) && text.as_str().contains(part),
         _ => false,
     }
+}
+
+/// Whether this text is shown, and nothing is said.
+fn shows(found: &Answer, text: &str) -> bool {
+    found.status == 0 && found.said.is_empty() && found.shown.as_slice() == text.as_bytes()
 }
 
 const HELP: [(&str, &str); 4] = [
@@ -299,25 +307,19 @@ const HELP: [(&str, &str); 4] = [
 #[test]
 fn help(rt: HostRuntime) -> Result<(), Fail> {
     for (line, part) in &HELP {
-        check(line, helps(rt.alloc(), line, part))?;
+        let found = answered(rt.alloc(), line)?;
+        check(line, helps(&found, part))?;
+        check(line, is_closed(rt.alloc(), &found.fault))?;
     }
     Ok(())
-}
-
-/// Whether the words ask for a text, which is shown.
-fn shows(alloc: Global, line: &str, text: &str) -> bool {
-    let Err(fault) = asked(alloc, line) else {
-        return false;
-    };
-    let (status, shown, said) = reported(alloc, &fault);
-    status == 0 && said.is_empty() && shown.as_slice() == text.as_bytes()
 }
 
 #[test]
 fn version(rt: HostRuntime) -> Result<(), Fail> {
     let text = format!(in rt.alloc(); "autbis {VERSION}\n")?;
     for line in ["autbis --version", "autbis -V"] {
-        check(line, shows(rt.alloc(), line, &text))?;
+        let found = answered(rt.alloc(), line)?;
+        check(line, shows(&found, &text))?;
     }
     Ok(())
 }
