@@ -28,7 +28,7 @@ pub(crate) struct Numbering {
     pub(crate) count: u32,
 }
 
-/// Numbers the reachable states: for the relation whose classes the blocks are. Nothing needs the blocks any more.
+/// Numbers the reachable states: for the relation whose classes the blocks are, which nothing needs any more.
 ///
 /// Fails if there is no memory for it.
 pub(crate) fn number<M: Meter>(
