@@ -4,8 +4,8 @@ use Rattle.theory.specs.Bisimulation.{Relation}
 use Rattle.std.specs.Io.KnownBytes.{Appends}
 use Rattle.autfmt.specs.Bounds.{Bounds, file_bounds}
 use Rattle.autfmt.specs.HideReaders.{HidesAs}
-use Rattle.quotient.specs.Relations.{meant}
-use Rattle.quotient.specs.declared.relation.Relation.{Relation as Word}
+use Rattle.theory.specs.Relations.{meant}
+use Rattle.theory.specs.declared.relation.Relation.{Relation as Word}
 use Rattle.autbis.specs.Comparisons.{ComparesNamed, ReadBoth, IsVerdict, line_of}
 use Rattle.autbis.specs.Files.{Name, Opens}
 use Rattle.autbis.specs.Jobs.{ComparesFiles, HidesNamed}

@@ -2,13 +2,13 @@
 use Rattle.std.specs.Prelude.{◌≡◌, ℕ, Bool, true, false, List, [], ◌∷◌, ◌++◌, Option, None, Some, IfSome, option_map, string_bytes}
 use Rattle.autfmt.specs.Bounds.{file_bounds}
 use Rattle.autfmt.specs.HideReaders.{HidesAs}
-use Rattle.quotient.specs.Relations.{meant}
-use Rattle.quotient.specs.declared.relation.Relation.{Relation}
+use Rattle.theory.specs.Relations.{meant}
+use Rattle.theory.specs.declared.relation.Relation.{Relation}
 use Rattle.autbis.specs.Comparisons.{ComparesNamed}
 use Rattle.autbis.specs.Files.{Name, Opens}
 use Rattle.autbis.specs.Runs.{IsMinimised}
-use Rattle.autbis.specs.declared.words.Job.{Job}
-use Rattle.autbis.specs.declared.words.Job.TheVariants.{Min, Cmp}
+use Rattle.words.specs.declared.words.Job.{Job}
+use Rattle.words.specs.declared.words.Job.TheVariants.{Min, Cmp}
 
 -- the name that is given, if there is one
 abbrev pub given : Option Name → List Name

@@ -1,6 +1,5 @@
 pub mod Files
 pub mod Reports
-pub mod Words
 pub mod Runs
 pub mod Comparisons
 pub mod Jobs

@@ -3,18 +3,17 @@ use Rattle.std.specs.Prelude.{◌≡◌, ◌≢◌, ◌⊎◌, ℕ, List, Option
 use Rattle.std.specs.IoError.{error_kind}
 use Rattle.std.specs.declared.io.Error.{Error}
 use Rattle.std.specs.declared.io.ErrorKind.TheVariants.{OutOfMemory}
-use Rattle.clap.specs.Words.{Text}
 use Rattle.autbis.specs.Files.{Name}
 use Rattle.autbis.specs.Jobs.{FindsDifferent, IsDone, OpensInOrder, files_of}
 use Rattle.autbis.specs.Reports.{IsJobStatus, IsWordStatus}
-use Rattle.autbis.specs.Words.{IsFaultOf, IsJobOf}
-use Rattle.autbis.specs.declared.words.Job.{Job}
-use Rattle.autbis.specs.declared.words.WordFault.{WordFault}
-use Rattle.autbis.specs.declared.words.WordFault.TheVariants as fault
+use Rattle.words.specs.Words.{IsFaultOf, IsJobOf}
+use Rattle.words.specs.declared.words.Job.{Job}
+use Rattle.words.specs.declared.words.WordFault.{WordFault}
+use Rattle.words.specs.declared.words.WordFault.TheVariants as fault
 
 -- the words ask for a job, whose files are opened in order, which is done if the status is 0, and found its two systems
 -- different if it is 1; or they ask for none
-pub data AnswersWords (holds : Name → Option (List ℕ)) (input : Option (List ℕ)) (words : List Text)
+pub data AnswersWords (holds : Name → Option (List ℕ)) (input : Option (List ℕ)) (words : List (List ℕ))
     (opened now_opened : Option (List Name)) (old new : Option (List ℕ)) (status : ℕ) : Type 0 where
   job : (job : Job) → IsJobOf words job → OpensInOrder (files_of job) opened now_opened → IsJobStatus status
       → (status ≡ 0 → IsDone holds input job old new) → (status ≡ 1 → FindsDifferent holds job old new)

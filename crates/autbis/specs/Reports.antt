@@ -2,8 +2,8 @@
 use Rattle.std.specs.Prelude.{◌≡◌, ◌⊎◌, ℕ}
 use Rattle.autfmt.specs.declared.fault.Fault.{Fault}
 use Rattle.autfmt.specs.declared.fault.Fault.TheVariants.{Device, Memory}
-use Rattle.autbis.specs.declared.words.WordFault.{WordFault}
-use Rattle.autbis.specs.declared.words.WordFault.TheVariants as word
+use Rattle.words.specs.declared.words.WordFault.{WordFault}
+use Rattle.words.specs.declared.words.WordFault.TheVariants as word
 
 -- the exit status of a run that ended in a fault: 5 for the device, 4 for memory, 2 for a fault of a text
 abbrev pub status_of : Fault → ℕ

@@ -4,16 +4,16 @@ ghost use Rattle.autbis.specs.Files.{Opens};
 ghost use Rattle.autbis.specs.Jobs.{ComparesFiles, FindsDifferent, IsDone, MinimisesNamed, OpensInOrder, files_of, given, text_of};
 ghost use Rattle.autbis.specs.Programs.{AnswersWords, IsUnread, IsUnreadStatus};
 ghost use Rattle.autbis.specs.Reports.{IsFaultStatus, IsJobStatus};
-ghost use Rattle.autbis.specs.Words.{IsFaultOf, IsJobOf};
+ghost use Rattle.words.specs.Words.{IsFaultOf, IsJobOf};
 
 use crate::opener::Opener;
 use crate::program::{cmp_program, hidden_of, min_program, open};
 use crate::reports::report_words;
-use crate::words::{Job, WordFault, command};
 use autfmt::{Limits, Sink, Source};
 use quotient::Relation;
 use std::alloc::Global;
 use std::io::{self, ErrorKind, Write};
+use words::{Job, WordFault, command};
 
 /// What is said of words that are not UTF-8.
 const NOT_UTF8: &str = "autbis: command words are not UTF-8\n";

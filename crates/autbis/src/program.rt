@@ -6,7 +6,7 @@ ghost use Rattle.autbis.specs.Files.{Name, Opens};
 ghost use Rattle.autbis.specs.Jobs.{HidesNamed, given};
 ghost use Rattle.autbis.specs.Reports.{IsFaultStatus};
 ghost use Rattle.autbis.specs.Runs.{BeginsQuotient, IsMinimised, IsFaulty};
-ghost use Rattle.quotient.specs.Relations.{meant};
+ghost use Rattle.theory.specs.Relations.{meant};
 ghost use Rattle.theory.specs.Quotient.{allowance};
 
 use crate::compare::{CmpFault, Side, run_cmp};

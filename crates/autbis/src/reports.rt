@@ -2,9 +2,9 @@
 ghost use Rattle.std.specs.Prelude.{◌≡◌};
 ghost use Rattle.autbis.specs.Reports.{IsWordStatus, status_of};
 
-use crate::words::WordFault;
 use autfmt::Fault;
 use std::io::Write;
+use words::WordFault;
 
 /// Says the fault on `e`, and answers its exit status: 5 for `Device`, 4 for `Memory`, else 2. The
 /// line names `name`, the file or hide list, where the fault is of its text.

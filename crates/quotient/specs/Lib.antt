@@ -1,5 +1,4 @@
 -- public words
-pub mod Relations
 pub mod Marked
 pub mod Bounds
 -- private ones

@@ -6,12 +6,13 @@ ghost use Rattle.theory.specs.Union.{union_of};
 ghost use Rattle.lts.specs.Meter.{IsFresh, on_ok};
 ghost use Rattle.lts.specs.Lts.{system_of};
 ghost use Rattle.lts.specs.Union.{FitTogether};
-ghost use Rattle.quotient.specs.Relations.{meant};
+ghost use Rattle.theory.specs.Relations.{meant};
 ghost use Rattle.quotient.specs.Bounds.{KeepsTo};
 
-use crate::relation::Relation;
+use crate::relation;
 use lts::{Lts, Memory, Meter, union};
 use std::alloc::Global;
+use theory::Relation;
 
 /// Whether the first states of two systems are bisimilar. The systems have to fit together, and the meter has to be
 /// fresh.
@@ -44,7 +45,7 @@ pub fn equivalent<M: Meter>(
     theory::the_union_decides_equivalence();
     let both = union(alloc, a, b, m)?;
     both.known();
-    let blocks = r.blocks(alloc, &both, m)?;
+    let blocks = relation::blocks(alloc, &both, r, m)?;
     let first = blocks.block(a.first());
     let second = blocks.block(a.states() + b.first());
     Ok(first == second)

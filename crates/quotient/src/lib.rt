@@ -14,5 +14,5 @@ mod triples;
 pub use allowance::the_bounds_are_within_the_allowance;
 pub use comparison::equivalent;
 pub use minimisation::minimise;
-pub use relation::Relation;
 pub use search::reachable;
+pub use theory::Relation;

@@ -6,18 +6,19 @@ ghost use Rattle.theory.specs.Blocks.{Turns};
 ghost use Rattle.theory.specs.Quotient.{Quotient};
 ghost use Rattle.lts.specs.Meter.{IsFresh, HasRoomFor, Costs, on_ok};
 ghost use Rattle.lts.specs.Lts.{system_of};
-ghost use Rattle.quotient.specs.Relations.{meant};
+ghost use Rattle.theory.specs.Relations.{meant};
 ghost use Rattle.quotient.specs.Bounds.{KeepsTo};
 ghost use Rattle.quotient.specs.Marked.{IsMarked};
 ghost use Rattle.quotient.specs.Numbers.{IsNumbering};
 
 use crate::numbering::{Numbering, number};
-use crate::relation::Relation;
+use crate::relation;
 use crate::search::reachable;
 use crate::table::copied;
 use crate::triples::shown_triples;
 use lts::{Counter, Lts, Memory, Meter};
 use std::alloc::Global;
+use theory::Relation;
 
 /// The quotient of a system: the smallest system that is equivalent to it.
 ///
@@ -53,7 +54,7 @@ pub fn minimise<M: Meter>(
     theory::quotient_states_differ();
     theory::no_smaller_system();
     theory::bisimilarity_is_an_equivalence();
-    let blocks = r.blocks(alloc, l, m)?;
+    let blocks = relation::blocks(alloc, l, r, m)?;
     let reached = reachable(alloc, l, m)?;
     let numbering = number(alloc, l, blocks, &reached)?;
     quotient_of(alloc, l, r, &numbering, &reached, m)
@@ -84,8 +85,8 @@ fn quotient_of<M: Meter>(
     theory::each_state_has_a_number();
     theory::numbers_are_classes();
     theory::numbers_are_states();
-    let rows = r.rows(&numbering.leads, reached);
-    let dropped = r.dropped(l.labels());
+    let rows = relation::rows(r, &numbering.leads, reached);
+    let dropped = relation::dropped(r, l.labels());
     let triples = shown_triples(alloc, l, &numbering.numbers, rows, dropped, m)?;
     let labels = copied(alloc, l.labels())?;
     Lts::build(alloc, labels, 0, numbering.count, triples)

@@ -1,68 +1,58 @@
-//! Which bisimulation a call is about, and what differs between the two: the refinement, the rows that the quotient is
-//! read from, and the label that it leaves out.
+//! What differs between the two relations: the refinement, the rows that the quotient is read from, and the label that it
+//! leaves out.
 ghost use Rattle.std.specs.Prelude.{◌≡◌, ◌*◌, length, IfOk, OnOk, OnErr};
 ghost use Rattle.lts.specs.Meter.{HasRoomFor, CostsUpTo};
-ghost use Rattle.quotient.specs.Relations.{meant};
+ghost use Rattle.theory.specs.Relations.{meant};
 ghost use Rattle.quotient.specs.Bounds.{TakesTurns};
 ghost use Rattle.quotient.specs.Reading.{AreClasses, rows_of, IsDroppedLabel};
 
 use lts::{Labels, Lts, Memory, Meter};
 use refine::{Branching, Partition, Strong, refine};
 use std::alloc::Global;
+use theory::Relation;
 
-/// The relation that is meant.
-#[derive(Clone, Copy, Debug, PartialEq, Eq)]
-pub enum Relation {
-    /// Strong bisimulation (Milner 1989).
-    Strong,
-    /// Branching bisimulation (van Glabbeek and Weijland 1996).
-    Branching,
+/// Blocks that two states share exactly if they are bisimilar.
+///
+/// Fails if there is no memory for them.
+pub(crate) fn blocks<M: Meter>(
+    alloc: Global,
+    l: &Lts<M>,
+    r: Relation,
+    m: &mut M,
+) -> Result<Partition, Memory>
+    requires room { HasRoomFor (M.counted m.old) l.now.states (l.now.states * length l.now.places) }
+
+    // Ok: a block for each state, and the rounds that refinement takes, each of one visit of every transition.
+    ensures states { IfOk result (λ p. length p ≡ l.now.states) }
+    ensures classes { IfOk result (λ p. AreClasses (meant r) l.now p) }
+    ensures turns { OnOk result (TakesTurns (meant r) l.now (M.counted m.old) (M.counted m.new)) }
+
+    // Err: no more rounds than states, and no more visits than these cost.
+    ensures err { OnErr result (CostsUpTo (M.counted m.old) (M.counted m.new) l.now.states (length l.now.places)) }
+{
+    match r {
+        Relation::Strong => refine::<Strong, M>(alloc, l, m),
+        Relation::Branching => refine::<Branching, M>(alloc, l, m),
+    }
 }
 
-impl Relation {
-    /// Blocks that two states share exactly if they are bisimilar.
-    ///
-    /// Fails if there is no memory for them.
-    pub(crate) fn blocks<M: Meter>(
-        self,
-        alloc: Global,
-        l: &Lts<M>,
-        m: &mut M,
-    ) -> Result<Partition, Memory>
-        requires room { HasRoomFor (M.counted m.old) l.now.states (l.now.states * length l.now.places) }
-
-        // Ok: a block for each state, and the rounds that refinement takes, each of one visit of every transition.
-        ensures states { IfOk result (λ p. length p ≡ l.now.states) }
-        ensures classes { IfOk result (λ p. AreClasses (meant self) l.now p) }
-        ensures turns { OnOk result (TakesTurns (meant self) l.now (M.counted m.old) (M.counted m.new)) }
-
-        // Err: no more rounds than states, and no more visits than these cost.
-        ensures err { OnErr result (CostsUpTo (M.counted m.old) (M.counted m.new) l.now.states (length l.now.places)) }
-    {
-        match self {
-            Relation::Strong => refine::<Strong, M>(alloc, l, m),
-            Relation::Branching => refine::<Branching, M>(alloc, l, m),
-        }
+/// The states whose rows show every transition of the quotient, of those that lead their classes and those that are
+/// reachable.
+pub(crate) fn rows<'a>(r: Relation, leads: &'a [bool], reached: &'a [bool]) -> &'a [bool]
+    ensures { result.now ≡ rows_of (meant r) leads.now reached.now }
+{
+    match r {
+        Relation::Strong => leads,
+        Relation::Branching => reached,
     }
+}
 
-    /// The states whose rows show every transition of the quotient, of those that lead their classes and those that are
-    /// reachable.
-    pub(crate) fn rows<'a>(self, leads: &'a [bool], reached: &'a [bool]) -> &'a [bool]
-        ensures { result.now ≡ rows_of (meant self) leads.now reached.now }
-    {
-        match self {
-            Relation::Strong => leads,
-            Relation::Branching => reached,
-        }
-    }
-
-    /// The number of the label that the quotient leaves out between equal numbers, if there is one.
-    pub(crate) fn dropped(self, labels: &Labels) -> Option<u32>
-        ensures { IsDroppedLabel (meant self) labels.now result }
-    {
-        match self {
-            Relation::Strong => None,
-            Relation::Branching => labels.internal(),
-        }
+/// The number of the label that the quotient leaves out between equal numbers, if there is one.
+pub(crate) fn dropped(r: Relation, labels: &Labels) -> Option<u32>
+    ensures { IsDroppedLabel (meant r) labels.now result }
+{
+    match r {
+        Relation::Strong => None,
+        Relation::Branching => labels.internal(),
     }
 }

@@ -12,6 +12,7 @@ mod inert;
 mod laws;
 mod minimal;
 mod quotients;
+mod relation;
 mod rounds;
 mod unions;
 
@@ -38,6 +39,7 @@ pub use quotients::{
     quotient_of_silent_cycle, quotient_of_silent_detour, quotient_of_silent_loop,
     quotient_of_unreachable_twin, strong_quotients, the_quotient_is_one,
 };
+pub use relation::Relation;
 pub use rounds::{
     old_blocks_count, rounds_of_chain_of_three, rounds_of_lone_state, rounds_of_not_committed,
     rounds_of_option_behind, rounds_of_silent_beside, rounds_of_silent_chain,

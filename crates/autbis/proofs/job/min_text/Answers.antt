@@ -1,4 +1,4 @@
-use Rattle.quotient.specs.Relations.{meant}
+use Rattle.theory.specs.Relations.{meant}
 use Rattle.autbis.proofs.Carried.{at_bounds}
 use Rattle.autbis.proofs.job.min_text.Goals as goal
 

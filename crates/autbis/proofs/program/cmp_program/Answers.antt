@@ -1,5 +1,5 @@
 use Rattle.std.proofs.Common.{rules, true, false, inl, inr, sym, ◌∙◌}
-use Rattle.quotient.specs.Relations.{meant}
+use Rattle.theory.specs.Relations.{meant}
 use Rattle.autbis.proofs.Comparing.{named}
 use Rattle.autbis.proofs.Failing.{faulty_side, one_failed, begun_line, nothing_failed}
 use Rattle.autbis.proofs.program.cmp_program.Goals as goal

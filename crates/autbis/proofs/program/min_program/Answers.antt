@@ -1,5 +1,5 @@
 use Rattle.std.proofs.Common.{sym, ◌∙◌}
-use Rattle.quotient.specs.Relations.{meant}
+use Rattle.theory.specs.Relations.{meant}
 use Rattle.autbis.proofs.Carried.{is_minimised}
 use Rattle.autbis.proofs.Failing.{faulty_run}
 use Rattle.autbis.proofs.program.min_program.Goals as goal

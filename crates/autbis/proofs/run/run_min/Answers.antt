@@ -7,7 +7,7 @@ use Rattle.theory.specs.System.{System, Hide}
 use Rattle.theory.specs.Bisimulation.{Relation}
 use Rattle.theory.specs.Alike.{SameSteps}
 use Rattle.quotient.specs.Bounds.{KeepsTo}
-use Rattle.quotient.specs.Relations.{meant}
+use Rattle.theory.specs.Relations.{meant}
 use Rattle.lts.specs.Lts.{transition_of, system_of}
 use Rattle.autfmt.specs.declared.fault.Fault.TheVariants.{Memory}
 use Rattle.autfmt.specs.Texts.{Reads}

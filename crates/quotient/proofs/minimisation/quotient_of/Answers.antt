@@ -2,7 +2,7 @@ use Rattle.std.proofs.Common.{◌∙◌, ◌↔◌, ◌≤◌, length, Contains,
 use Rattle.std.proofs.lemmas.List.Sorted.{length_permutation}
 use Rattle.std.proofs.lemmas.Result.{IfOk-weaker}
 use Rattle.lts.specs.Lts.{Triple, InRange, IsGrouping, system_of}
-use Rattle.quotient.specs.Relations.{meant}
+use Rattle.theory.specs.Relations.{meant}
 use Rattle.quotient.specs.Reading.{rows_of, IsDroppedLabel}
 use Rattle.quotient.specs.Triples.{IsShownBelow}
 use Rattle.quotient.proofs.Quotients.{NumberLaws, Laws, AreEnough, rows_enough, quotient_in_range, IfOk-quotient}

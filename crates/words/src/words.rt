@@ -4,13 +4,13 @@ ghost use Rattle.clap.specs.Words.{app_of, first_of, found_of, rows_of, rule_of,
 ghost use Rattle.clap.specs.Values.{kind_of};
 ghost use Rattle.clap.specs.declared.error.kind.ErrorKind.TheVariants.{OutOfMemory};
 ghost use Rattle.clap.specs.declared.builder.command.Command.TheViews.{out-Command};
-ghost use Rattle.autbis.specs.Words.{AskForAJob, HasMatches, IsFaultIn, IsFaultOf, IsFaultOfAJob, IsJobIn, IsJobOf, IsWhole, IsWholeIn, NamesNoRelation, cmp_app, file_rule, hide_rule, job_app, min_app, needed_file_rule, program_app, relation_in, relation_rule, stats_rule, word_of};
-ghost use Rattle.autbis.specs.declared.words.WordFault.TheVariants.{Memory};
+ghost use Rattle.words.specs.Words.{AskForAJob, HasMatches, IsFaultIn, IsFaultOf, IsFaultOfAJob, IsJobIn, IsJobOf, IsWhole, IsWholeIn, NamesNoRelation, cmp_app, file_rule, hide_rule, job_app, min_app, needed_file_rule, program_app, relation_in, relation_rule, stats_rule, word_of};
+ghost use Rattle.words.specs.declared.words.WordFault.TheVariants.{Memory};
 
 use clap::error::ErrorKind;
 use clap::{Arg, ArgAction, ArgMatches, Command, Error};
-use quotient::Relation;
 use std::alloc::{AllocError, Global};
+use theory::Relation;
 
 /// The version of the program, which `--version` shows.
 pub const VERSION: &str = "0.1.0";

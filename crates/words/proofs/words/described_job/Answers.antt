@@ -3,7 +3,7 @@ use Rattle.std.proofs.lemmas.Result.{IfOk-weaker}
 use Rattle.clap.specs.Simple.{app_of_fields}
 use Rattle.clap.specs.Words.{app_of, new_app, with_rule}
 use Rattle.clap.specs.declared.builder.command.Command.TheViews.{out-Command}
-use Rattle.autbis.proofs.words.described_job.Goals as goal
+use Rattle.words.proofs.words.described_job.Goals as goal
 
 pub returns-clause-words : goal.returns-clause-words
 returns-clause-words c =

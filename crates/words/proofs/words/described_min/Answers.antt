@@ -1,7 +1,7 @@
 use Rattle.std.proofs.Common.{ap₂, ◌∙◌, ◌||◌}
 use Rattle.std.proofs.lemmas.Result.{IfOk-weaker}
 use Rattle.clap.specs.Words.{with_rule}
-use Rattle.autbis.proofs.words.described_min.Goals as goal
+use Rattle.words.proofs.words.described_min.Goals as goal
 
 pub returns-clause-words : goal.returns-clause-words
 returns-clause-words c =

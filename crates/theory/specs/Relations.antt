@@ -1,8 +1,8 @@
--- Public. The theory's relation that a caller means.
+-- The relation of these definitions that a caller means.
 use Rattle.theory.specs.Bisimulation as theory
 use Rattle.theory.specs.Bisimulation.Relation.{strong, branching}
-use Rattle.quotient.specs.declared.relation.Relation.{Relation}
-use Rattle.quotient.specs.declared.relation.Relation.TheVariants.{Strong, Branching}
+use Rattle.theory.specs.declared.relation.Relation.{Relation}
+use Rattle.theory.specs.declared.relation.Relation.TheVariants.{Strong, Branching}
 
 -- the relation that is meant
 abbrev pub meant : Relation → theory.Relation

@@ -3,8 +3,8 @@ use Rattle.std.specs.Prelude.{option_map, unwrap_or}
 use Rattle.clap.specs.Words.{first_value, found_of, rows_of}
 use Rattle.clap.specs.declared.parser.matches.Found.{Found}
 use Rattle.clap.proofs.WalkLemmas.{first_value-rows}
-use Rattle.autbis.specs.Words.{relation_in}
-use Rattle.autbis.proofs.words.relation_found.Goals as goal
+use Rattle.words.specs.Words.{relation_in}
+use Rattle.words.proofs.words.relation_found.Goals as goal
 
 now-unwrap_or : (o : Option (Bor (List ℕ))) (d : Bor (List ℕ)) → unwrap_or (option_map (λ (t : Bor (List ℕ)). t.now) o) d.now ≡ (unwrap_or o d).now
 now-unwrap_or (Some t) d = refl

@@ -2,12 +2,12 @@
 use Rattle.std.specs.Prelude.{◌≡◌, ◌≢◌, ◌⊎◌, ⊤, IsSome, List, [], ◌∷◌, Some, None, codes, true, false, option_map, unwrap_or, string_bytes, Bool, Option}
 use Rattle.clap.specs.Words.{App, Row, Rule, Text, fault_of, first_of, new_app, new_rule, one_of, subcommand_of, with_rule, with_subcommand}
 use Rattle.clap.specs.declared.builder.ArgAction.TheVariants.{SetTrue}
-use Rattle.quotient.specs.declared.relation.Relation.{Relation}
-use Rattle.quotient.specs.declared.relation.Relation.TheVariants.{Strong, Branching}
-use Rattle.autbis.specs.declared.words.Job.{Job}
-use Rattle.autbis.specs.declared.words.Job.TheVariants.{Min, Cmp}
-use Rattle.autbis.specs.declared.words.WordFault.{WordFault}
-use Rattle.autbis.specs.declared.words.WordFault.TheVariants as fault
+use Rattle.theory.specs.declared.relation.Relation.{Relation}
+use Rattle.theory.specs.declared.relation.Relation.TheVariants.{Strong, Branching}
+use Rattle.words.specs.declared.words.Job.{Job}
+use Rattle.words.specs.declared.words.Job.TheVariants.{Min, Cmp}
+use Rattle.words.specs.declared.words.WordFault.{WordFault}
+use Rattle.words.specs.declared.words.WordFault.TheVariants as fault
 
 -- the option `--relation WORD`, `strong` where it is not given
 abbrev pub relation_rule : Rule

@@ -1,7 +1,7 @@
 use Rattle.std.proofs.Common.{◌∙◌, codes, refl}
 use Rattle.clap.specs.Words.{found_of}
 use Rattle.clap.proofs.WalkLemmas.{one_text-rows}
-use Rattle.autbis.proofs.words.min_of.Goals as goal
+use Rattle.words.proofs.words.min_of.Goals as goal
 
 pub returns-clause-job : goal.returns-clause-job
 returns-clause-job c =

@@ -1,7 +1,7 @@
 use Rattle.std.proofs.Common.{IfOk, ap, sym, subst}
-use Rattle.quotient.specs.Relations.{meant}
+use Rattle.theory.specs.Relations.{meant}
 use Rattle.quotient.specs.Reading.{AreClasses}
-use Rattle.quotient.proofs.relation.Relation.blocks.Goals as goal
+use Rattle.quotient.proofs.relation.blocks.Goals as goal
 
 pub returns-in-Strong-clause-classes : goal.returns-in-Strong-clause-classes
 returns-in-Strong-clause-classes g c =

@@ -2,8 +2,8 @@ use Rattle.std.proofs.Common.{rules, inl, inr, ap, ap₂, map, refl, subst, sym,
 use Rattle.std.specs.Prelude.{string_bytes}
 use Rattle.std.proofs.lemmas.Result.{IfErr-weaker, IfOk-weaker}
 use Rattle.clap.specs.Words.{HasKind, fault_of, is_simple, is_simple_and_free, subcommand_of}
-use Rattle.autbis.specs.Words.{IsFaultIn, IsFaultOfAJob, IsJobIn, program_app}
-use Rattle.autbis.proofs.words.command.Goals as goal
+use Rattle.words.specs.Words.{IsFaultIn, IsFaultOfAJob, IsJobIn, program_app}
+use Rattle.words.proofs.words.command.Goals as goal
 
 -- the program's words are such that all that `clap` promises holds of them
 simple : is_simple program_app ≡ true

@@ -1,0 +1,10 @@
+//! The relations by name, as callers ask for one.
+
+/// The relation that is meant. The definition that it stands for is that of `meant` in `specs/Relations`.
+#[derive(Clone, Copy, Debug, PartialEq, Eq)]
+pub enum Relation {
+    /// Strong bisimulation (Milner 1989).
+    Strong,
+    /// Branching bisimulation (van Glabbeek and Weijland 1996).
+    Branching,
+}
