@@ -1,4 +1,4 @@
-use Rattle.std.proofs.Common.{rules, true, false, inl, inr, sym, ◌∙◌}
+use Rattle.std.proofs.Common.{rules, arith, true, false, inl, inr, sym, ◌∙◌}
 use Rattle.theory.specs.Relations.{meant}
 use Rattle.autbis.proofs.Comparing.{named}
 use Rattle.autbis.proofs.Failing.{faulty_side, one_failed, begun_line, nothing_failed}
@@ -8,6 +8,9 @@ pub returns-in-Ok-true-clause-same : goal.returns-in-Ok-true-clause-same
 returns-in-Ok-true-clause-same g c e =
     let got = c.in-Ok-true.ensures.outcome in
     named (meant c.args.rel) _ _ _ _ _ _ _ _ _ got.given got.outcome.0 _ true c.in-Ok-true.field-0-test got.took got.outcome.1 got.outcome.2
+
+pub returns-in-Ok-false-clause-same : goal.returns-in-Ok-false-clause-same
+returns-in-Ok-false-clause-same g c e = absurd (omega (arith, e))
 
 pub returns-in-Ok-false-clause-different : goal.returns-in-Ok-false-clause-different
 returns-in-Ok-false-clause-different g c e =

@@ -1,4 +1,4 @@
-use Rattle.std.proofs.Common.{arith}
+use Rattle.std.proofs.Common.{arith, rules}
 use Rattle.refine.proofs.WalkStart.{finished, numbered, numbered_signed}
 use Rattle.refine.proofs.branching.sign_all.Goals as goal
 
@@ -15,3 +15,6 @@ returns-clause-signed g c s h =
 pub returns-clause-numbers : goal.returns-clause-numbers
 returns-clause-numbers g c =
     numbered c.args.l.now c.args.p.now c.walk_all.new.lists c.walk_all.new.walk.marks.items c.number.new.numbers c.in_ok-walk_all.ensures.rests c.number.ensures
+
+pub returns-clause-visits : goal.returns-clause-visits
+returns-clause-visits g c = search rules

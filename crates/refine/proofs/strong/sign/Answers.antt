@@ -30,3 +30,6 @@ returns-clause-signature g c =
     (c.rows_are_steps.ensures.steps l c.args.s)
     c.order.new.pairs.items c.order.ensures.rising
     (λ z. subst (λ xs. Contains c.order.new.pairs.items z ↔ Contains xs z) pairs (c.order.ensures.same z))
+
+pub returns-clause-visits : goal.returns-clause-visits
+returns-clause-visits g c = search rules
