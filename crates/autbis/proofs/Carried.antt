@@ -30,6 +30,10 @@ takes_error old new Good Bad r e given (y, is, same) took bad = record {
   outcome = rw (is, same) bad;
 }
 
+-- what is bad of an error is so of an answer that is this error
+pub at_error : {T E : Type 0} (Bad : E → Type 0) (r : Result T E) (e : E) → IsError r e → Bad e → IfErr r Bad
+at_error Bad r e (y, is, same) bad = rw (is, same) bad
+
 -- an error is no success, whatever text was told
 pub no_success : {T E : Type 0} (told : Option (List ℕ)) (Good : List ℕ → T → Type 0) (r : Result T E) (e : E) → IsError r e → IfSome told (λ text. IfOk r (Good text))
 no_success None Good r e exit = tt
@@ -39,7 +43,7 @@ no_success (Some text) Good r e (y, is, same) = rw is tt
 pub bad_of : {T E : Type 0} (told : Option (List ℕ)) (Bad : List ℕ → E → Type 0) (r : Result T E) (e : E) → IsError r e → ((text : List ℕ) → Bad text e) →
     IfSome told (λ text. IfErr r (Bad text))
 bad_of None Bad r e exit h = tt
-bad_of (Some text) Bad r e (y, is, same) h = rw (is, same) (h text)
+bad_of (Some text) Bad r e exit h = at_error (Bad text) r e exit (h text)
 
 -- a want of memory or a failure is no fault of the text
 pub not_of_text : (fault : Fault) → (fault ≡ Memory) ⊎ (fault ≡ Device) → ¬ IsTextFault fault

@@ -1,11 +1,11 @@
 -- Files that are opened one after the other and compared: what is known of them holds of what was read.
 use Rattle.std.proofs.Common.{◌≡◌, ◌∙◌, ℕ, List, [], ◌∷◌, Option, Some, None, IfSome, Bool, subst, subst₂}
 use Rattle.theory.specs.Bisimulation.{Relation}
+use Rattle.theory.specs.Relations.{meant}
+use Rattle.theory.specs.declared.relation.Relation.{Relation as Word}
 use Rattle.std.specs.Io.KnownBytes.{Appends}
 use Rattle.autfmt.specs.Bounds.{Bounds, file_bounds}
 use Rattle.autfmt.specs.HideReaders.{HidesAs}
-use Rattle.theory.specs.Relations.{meant}
-use Rattle.theory.specs.declared.relation.Relation.{Relation as Word}
 use Rattle.autbis.specs.Comparisons.{ComparesNamed, ReadBoth, IsVerdict, line_of}
 use Rattle.autbis.specs.Files.{Name, Opens}
 use Rattle.autbis.specs.Jobs.{ComparesFiles, HidesNamed}

@@ -1,9 +1,9 @@
 -- A job: which files it opens, and what it does with what they hold.
 use Rattle.std.specs.Prelude.{◌≡◌, ℕ, Bool, true, false, List, [], ◌∷◌, ◌++◌, Option, None, Some, IfSome, option_map, string_bytes}
-use Rattle.autfmt.specs.Bounds.{file_bounds}
-use Rattle.autfmt.specs.HideReaders.{HidesAs}
 use Rattle.theory.specs.Relations.{meant}
 use Rattle.theory.specs.declared.relation.Relation.{Relation}
+use Rattle.autfmt.specs.Bounds.{file_bounds}
+use Rattle.autfmt.specs.HideReaders.{HidesAs}
 use Rattle.autbis.specs.Comparisons.{ComparesNamed}
 use Rattle.autbis.specs.Files.{Name, Opens}
 use Rattle.autbis.specs.Runs.{IsMinimised}

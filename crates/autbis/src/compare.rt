@@ -1,8 +1,8 @@
 //! One comparison, from the bytes of two texts to a verdict.
 ghost use Rattle.std.specs.Prelude.{◌≡◌, ℕ, List, IfErr, OnOk, OnErr};
 ghost use Rattle.std.specs.Io.KnownBytes.{Appends, Consumes};
-ghost use Rattle.lts.specs.Meter.{IsFresh};
 ghost use Rattle.theory.specs.Relations.{meant};
+ghost use Rattle.lts.specs.Meter.{IsFresh};
 ghost use Rattle.autfmt.specs.Outcomes.{ReadsTo, Refuses, Takes};
 ghost use Rattle.autfmt.specs.Stream.{AppendsBeginning, CountsFailure};
 ghost use Rattle.autfmt.specs.declared.fault.Fault.TheVariants.{Device, Memory};

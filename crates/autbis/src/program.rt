@@ -6,8 +6,8 @@ ghost use Rattle.autbis.specs.Files.{Name, Opens};
 ghost use Rattle.autbis.specs.Jobs.{HidesNamed, given};
 ghost use Rattle.autbis.specs.Reports.{IsFaultStatus};
 ghost use Rattle.autbis.specs.Runs.{BeginsQuotient, IsMinimised, IsFaulty};
-ghost use Rattle.theory.specs.Relations.{meant};
 ghost use Rattle.theory.specs.Quotient.{allowance};
+ghost use Rattle.theory.specs.Relations.{meant};
 
 use crate::compare::{CmpFault, Side, run_cmp};
 use crate::opener::Opener;

@@ -1,7 +1,7 @@
 //! One run, from bytes to bytes.
 ghost use Rattle.std.specs.Prelude.{◌≡◌, ◌⊎◌, ◌≤◌, Err, IfSome, IfOk, IfErr, OnOk};
-ghost use Rattle.lts.specs.Meter.{IsFresh};
 ghost use Rattle.theory.specs.Relations.{meant};
+ghost use Rattle.lts.specs.Meter.{IsFresh};
 ghost use Rattle.autfmt.specs.declared.fault.Fault.TheVariants.{Memory};
 ghost use Rattle.autfmt.specs.Faults.{FirstFault};
 ghost use Rattle.autfmt.specs.Outcomes.{Takes};

@@ -1,12 +1,12 @@
 //! Whether two systems are equivalent, by one refinement of their union.
 ghost use Rattle.std.specs.Prelude.{◌↔◌, ◌+◌, ◌*◌, length, IsTrue, IfOk, OnOk};
 ghost use Rattle.theory.specs.Bisimulation.{Equivalent};
+ghost use Rattle.theory.specs.Relations.{meant};
 ghost use Rattle.theory.specs.Blocks.{Turns};
 ghost use Rattle.theory.specs.Union.{union_of};
 ghost use Rattle.lts.specs.Meter.{IsFresh, on_ok};
 ghost use Rattle.lts.specs.Lts.{system_of};
 ghost use Rattle.lts.specs.Union.{FitTogether};
-ghost use Rattle.theory.specs.Relations.{meant};
 ghost use Rattle.quotient.specs.Bounds.{KeepsTo};
 
 use crate::relation;

@@ -2,11 +2,11 @@
 ghost use Rattle.std.specs.Prelude.{◌≡◌, ◌↔◌, ℕ, ◌*◌, ◌<◌, ◌≤◌, length, IfOk, OnOk};
 ghost use Rattle.theory.specs.System.{System, IsSystem, Reachable};
 ghost use Rattle.theory.specs.Bisimulation.{Bisimilar, Equivalent};
+ghost use Rattle.theory.specs.Relations.{meant};
 ghost use Rattle.theory.specs.Blocks.{Turns};
 ghost use Rattle.theory.specs.Quotient.{Quotient};
 ghost use Rattle.lts.specs.Meter.{IsFresh, HasRoomFor, Costs, on_ok};
 ghost use Rattle.lts.specs.Lts.{system_of};
-ghost use Rattle.theory.specs.Relations.{meant};
 ghost use Rattle.quotient.specs.Bounds.{KeepsTo};
 ghost use Rattle.quotient.specs.Marked.{IsMarked};
 ghost use Rattle.quotient.specs.Numbers.{IsNumbering};

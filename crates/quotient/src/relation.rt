@@ -1,8 +1,8 @@
 //! What differs between the two relations: the refinement, the rows that the quotient is read from, and the label that it
 //! leaves out.
 ghost use Rattle.std.specs.Prelude.{◌≡◌, ◌*◌, length, IfOk, OnOk, OnErr};
-ghost use Rattle.lts.specs.Meter.{HasRoomFor, CostsUpTo};
 ghost use Rattle.theory.specs.Relations.{meant};
+ghost use Rattle.lts.specs.Meter.{HasRoomFor, CostsUpTo};
 ghost use Rattle.quotient.specs.Bounds.{TakesTurns};
 ghost use Rattle.quotient.specs.Reading.{AreClasses, rows_of, IsDroppedLabel};
 

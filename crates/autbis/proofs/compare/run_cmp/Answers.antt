@@ -3,11 +3,11 @@ use Rattle.std.specs.Io.KnownBytes.{Appends, IsAtEnd}
 use Rattle.std.proofs.lemmas.Result.{err_from_is_err_and}
 use Rattle.theory.specs.System.{Hide}
 use Rattle.theory.specs.Bisimulation.{Equivalent}
+use Rattle.theory.specs.Relations.{meant}
 use Rattle.theory.specs.Blocks.{Turns}
 use Rattle.theory.specs.Union.{union_of}
 use Rattle.lts.specs.Lts.{system_of}
 use Rattle.quotient.specs.Bounds.{KeepsTo}
-use Rattle.theory.specs.Relations.{meant}
 use Rattle.autfmt.specs.declared.fault.Fault.TheVariants.{Memory}
 use Rattle.autbis.specs.Comparisons.{ComparesTo, CountsComparison, IsVerdict, ReadBoth, line_of, states_of, transitions_of}
 use Rattle.autbis.specs.Comparisons.CmpFails.{behind_first}

@@ -1,13 +1,13 @@
-use Rattle.std.proofs.Common.{◌∙◌, ℕ, List, length, Option, Result, Err, IfErr, ap, ap₂, refl, inl, inr, sym, subst, arith}
+use Rattle.std.proofs.Common.{◌∙◌, ℕ, List, length, Option, Err, ap, ap₂, refl, inl, inr, sym, subst, arith}
 use Rattle.std.specs.Io.KnownBytes.{Appends, IsAtEnd}
 use Rattle.std.proofs.lemmas.List.{length-map}
 use Rattle.std.proofs.lemmas.List.Sorted.{IsPermutation-sym}
 use Rattle.std.proofs.lemmas.Result.{err_from_is_err_and}
 use Rattle.theory.specs.System.{System, Hide}
 use Rattle.theory.specs.Bisimulation.{Relation}
+use Rattle.theory.specs.Relations.{meant}
 use Rattle.theory.specs.Alike.{SameSteps}
 use Rattle.quotient.specs.Bounds.{KeepsTo}
-use Rattle.theory.specs.Relations.{meant}
 use Rattle.lts.specs.Lts.{transition_of, system_of}
 use Rattle.autfmt.specs.declared.fault.Fault.TheVariants.{Memory}
 use Rattle.autfmt.specs.Texts.{Reads}
@@ -15,7 +15,7 @@ use Rattle.autfmt.specs.Written.{GainsText, GainsBeginning, IsInWrittenOrder, fa
 use Rattle.autbis.specs.declared.run.Counts.{Counts}
 use Rattle.autbis.specs.Runs.{BeginsQuotient, MinimisedText, Minimises, RunsTo}
 use Rattle.autbis.specs.Runs.RunFails.{not_read, not_written}
-use Rattle.autbis.proofs.Carried.{IsError, all_taken, bad_of, keeps_part, keeps_whole, no_success, not_of_text, same_error, takes_error}
+use Rattle.autbis.proofs.Carried.{all_taken, at_error, bad_of, keeps_part, keeps_whole, no_success, not_of_text, same_error, takes_error}
 use Rattle.autbis.proofs.run.run_min.Given.{Over}
 use Rattle.autbis.proofs.run.run_min.Goals as goal
 use Rattle.autbis.proofs.run.run_min.Goals.{After-write}
@@ -139,10 +139,6 @@ returns-in_err-write-clause-outcome g c =
       | inl memory ↦ inl (memory, is.memory memory)
       | inr device ↦ inr (device, is.failures ∙ ap (λ f. failures_after {T = Unit {0}} (Err f)) device, begun g at _ _ (is.device device))
     ]))
-
--- what is so of the error that a run ends in is so of its answer
-at_error : {T E : Type 0} (Bad : E → Type 0) (r : Result T E) (e : E) → IsError r e → Bad e → IfErr r Bad
-at_error Bad r e (y, is, same) bad = rw (is, same) bad
 
 pub returns-in_err-write-clause-untouched : goal.returns-in_err-write-clause-untouched
 returns-in_err-write-clause-untouched g c =

@@ -1,7 +1,7 @@
 use Rattle.std.proofs.Common.{◌≡◌, ◌∙◌, ◌+◌, slice_index, ap, arith}
 use Rattle.std.proofs.lemmas.Result.{err_from_is_err_and}
-use Rattle.lts.specs.Lts.{system_of}
 use Rattle.theory.specs.Relations.{meant}
+use Rattle.lts.specs.Lts.{system_of}
 use Rattle.quotient.proofs.Unions.{same_decides}
 use Rattle.quotient.proofs.Visits.{compared_keeps, refused_keeps}
 use Rattle.quotient.proofs.comparison.equivalent.Goals as goal

@@ -2,9 +2,9 @@ use Rattle.std.proofs.Common.{◌≡◌, ℕ, ◌≤◌, length, arith}
 use Rattle.std.proofs.lemmas.Result.{IfOk-weaker}
 use Rattle.theory.specs.System.{System, IsSystem}
 use Rattle.theory.specs.Bisimulation.{Bisimilar, Equivalent}
+use Rattle.theory.specs.Relations.{meant}
 use Rattle.theory.specs.Quotient.{Quotient}
 use Rattle.lts.specs.Lts.{system_of}
-use Rattle.theory.specs.Relations.{meant}
 use Rattle.quotient.proofs.Visits.{IfOk-both, room_at_first, room_after, visits_then, turns_keep}
 use Rattle.quotient.proofs.minimisation.minimise.Goals as goal
 

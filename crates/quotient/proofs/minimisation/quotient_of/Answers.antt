@@ -1,8 +1,8 @@
 use Rattle.std.proofs.Common.{◌∙◌, ◌↔◌, ◌≤◌, length, Contains, ap, sym, subst, arith}
 use Rattle.std.proofs.lemmas.List.Sorted.{length_permutation}
 use Rattle.std.proofs.lemmas.Result.{IfOk-weaker}
-use Rattle.lts.specs.Lts.{Triple, InRange, IsGrouping, system_of}
 use Rattle.theory.specs.Relations.{meant}
+use Rattle.lts.specs.Lts.{Triple, InRange, IsGrouping, system_of}
 use Rattle.quotient.specs.Reading.{rows_of, IsDroppedLabel}
 use Rattle.quotient.specs.Triples.{IsShownBelow}
 use Rattle.quotient.proofs.Quotients.{NumberLaws, Laws, AreEnough, rows_enough, quotient_in_range, IfOk-quotient}
