@@ -3,7 +3,8 @@ use Rattle.std.proofs.Common.{◌≡◌, ◌≢◌, ◌∙◌, ℕ, zero, suc, �
 use Rattle.std.proofs.lemmas.Bool.{cases_eq}
 use Rattle.std.proofs.lemmas.List.{length_push, get_or-map, get_or_append_left, get_or_push, get_or-set_same, get_or-set_other}
 use Rattle.std.proofs.lemmas.List.Elements.{All-set, All-weaker}
-use Rattle.refine.specs.Lists.{list_at, AreNumbers, list_of, each_list}
+use Rattle.lists.specs.Lists.{list_at, AreNumbers}
+use Rattle.refine.specs.EachList.{list_of, each_list}
 use Rattle.refine.specs.Signed.{signature_at}
 
 -- the list of a state is the one that its number gives

@@ -9,7 +9,8 @@ use Rattle.lts.specs.Lts.{Grouped, system_of}
 use Rattle.refine.specs.Partition.{IsNumbered}
 use Rattle.refine.specs.Rounds.{IsNext}
 use Rattle.refine.specs.Signed.{HasPair, IsSignature}
-use Rattle.refine.proofs.Rising.{rising_unique, pair_total}
+use Rattle.lists.proofs.Pairs.{pair_total}
+use Rattle.lists.proofs.Rising.{rising_unique}
 
 -- each label that a step shows is in the table
 abbrev pub Labelled : Grouped → Type 0

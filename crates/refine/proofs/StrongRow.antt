@@ -1,33 +1,15 @@
 -- The pairs of a state's row, in rising order and each once, are its strong signature.
-use Rattle.std.proofs.Common.{◌≡◌, ◌↔◌, ℕ, Bool, true, ◌&&◌, nat_eq, List, length, map, slice_index, All, Contains, refl, ◌∙◌, ap, subst, arith}
+use Rattle.std.proofs.Common.{◌≡◌, ◌↔◌, ℕ, List, length, map, slice_index, All, Contains, refl, ◌∙◌, ap, subst, arith}
 use Rattle.std.proofs.lemmas.List.{length-map, get_or-map}
 use Rattle.std.proofs.lemmas.List.Elements.{All-contains, All-contains_itself, All-map, All-weaker}
-use Rattle.std.proofs.lemmas.Bool.{and_parts, eqb-true}
-use Rattle.std.proofs.lemmas.Cmp.{and_equiv, on_equiv, nat_eq_equiv}
-use Rattle.std.specs.Cmp.{IsEquivalence, both_tied, unsigned_ties}
 use Rattle.std.specs.List.Sorted.{IsStrictlySortedBy}
-use Rattle.std.specs.Ordering.{eq_by_cmp, nat_cmp}
 use Rattle.theory.specs.System.{Step}
 use Rattle.theory.specs.Bisimulation.Relation.{strong}
 use Rattle.lts.specs.Labels.{text_of}
 use Rattle.lts.specs.Lts.{Grouped, Triple, source_of, label_of, target_of, row_of, system_of, IsTriple, IsLts}
-use Rattle.refine.specs.Signed.{pair_cmp, HasPair, IsSignature}
+use Rattle.lists.specs.Lists.{pair_cmp}
+use Rattle.refine.specs.Signed.{HasPair, IsSignature}
 use Rattle.refine.specs.StrongPairs.{pair_under}
-
--- two pairs are equal, as the test that `dedup` makes
-abbrev pub pair_eq : ℕ × ℕ → ℕ × ℕ → Bool
-pair_eq x y = nat_eq x.0 y.0 && nat_eq x.1 y.1
-
-pub pair_eq_equiv : IsEquivalence pair_eq
-pair_eq_equiv = and_equiv (on_equiv (λ t. t.0) nat_eq_equiv) (on_equiv (λ t. t.1) nat_eq_equiv)
-
-pub pair_ties : (x y : ℕ × ℕ) → pair_eq x y ≡ eq_by_cmp pair_cmp x y
-pair_ties x y = both_tied (nat_eq x.0 y.0) (nat_eq x.1 y.1) (nat_cmp x.0 y.0) (nat_cmp x.1 y.1) (unsigned_ties x.0 y.0) (unsigned_ties x.1 y.1)
-
-pub pair_equal : (x y : ℕ × ℕ) → pair_eq x y ≡ true → x ≡ y
-pair_equal x y e =
-    let h = and_parts (nat_eq x.0 y.0) (nat_eq x.1 y.1) e in
-    λ i. (eqb-true x.0 y.0 h.0 i, eqb-true x.1 y.1 h.1 i)
 
 module _ (l : Grouped) (blocks : List ℕ) (s : ℕ) (h : IsLts l)
     (sources : (e : Triple) → Contains (row_of s l.places) e ↔ (Contains l.places e × (source_of e ≡ s)))

@@ -2,7 +2,8 @@
 use Rattle.std.proofs.Common.{◌≡◌, ◌≢◌, ◌⊎◌, ℕ, ◌+◌, ◌<◌, ◌≤◌, List, length, Contains, refl, sym, ◌∙◌, ap, subst, inl, inr, arith}
 use Rattle.std.proofs.lemmas.Bool.{cases_eq, cases_lt}
 use Rattle.lts.specs.Lts.{Grouped, place_at, IsRow}
-use Rattle.refine.specs.Lists.{list_at, Grow}
+use Rattle.lists.specs.Lists.{list_at}
+use Rattle.refine.specs.EachList.{Grow}
 use Rattle.refine.specs.Walks.{AreOnPath, LeadsUp, HoldsAll, Accounts, AccountsAll}
 use Rattle.refine.specs.declared.walk.Mark.{Mark}
 use Rattle.refine.specs.declared.walk.Mark.TheVariants.{Unseen, OnPath, Finished}

@@ -7,7 +7,7 @@ use Rattle.theory.specs.Bisimulation.Relation.{branching}
 use Rattle.theory.specs.Blocks.{Inert, Signature}
 use Rattle.lts.specs.Labels.{text_of}
 use Rattle.lts.specs.Lts.{Grouped, Triple, place_at, system_of, IsTriple, IsLts, IsRow}
-use Rattle.refine.specs.Lists.{list_at}
+use Rattle.lists.specs.Lists.{list_at}
 use Rattle.refine.specs.Signed.{HasPair}
 use Rattle.refine.specs.StrongPairs.{pair_under}
 use Rattle.refine.specs.Walks.{Laws, mark_at, visit_at, state_at, back_at, HasRead, bound_at, BeginsPairs, IsInert, Accounts, Parts, Held, Walks}

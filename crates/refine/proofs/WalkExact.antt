@@ -7,7 +7,8 @@ use Rattle.theory.specs.Bisimulation.Relation.{branching}
 use Rattle.theory.specs.Blocks.{Inert}
 use Rattle.lts.specs.Labels.{text_of}
 use Rattle.lts.specs.Lts.{Grouped, source_of, label_of, target_of, place_at, transition_of, system_of, IsLts}
-use Rattle.refine.specs.Signed.{pair_cmp, HasPair, IsSignature}
+use Rattle.lists.specs.Lists.{pair_cmp}
+use Rattle.refine.specs.Signed.{HasPair, IsSignature}
 use Rattle.refine.specs.StrongPairs.{pair_under}
 use Rattle.refine.specs.Walks.{AreOnPath, AreSigned, AccountsAll, AreRows}
 use Rattle.refine.specs.declared.walk.Mark.{Mark}

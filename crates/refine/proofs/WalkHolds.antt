@@ -1,7 +1,8 @@
 -- What places hold and what was taken into account, when bounds, buffers and lists change.
 use Rattle.std.proofs.Common.{◌≡◌, ◌⊎◌, ℕ, ◌+◌, ◌<◌, ◌≤◌, List, Contains, refl, sym, subst, inl, inr, arith}
 use Rattle.lts.specs.Lts.{Grouped, Triple, target_of}
-use Rattle.refine.specs.Lists.{list_at, Grow}
+use Rattle.lists.specs.Lists.{list_at}
+use Rattle.refine.specs.EachList.{Grow}
 use Rattle.refine.specs.StrongPairs.{pair_under}
 use Rattle.refine.specs.Walks.{IsInert, Holds, LeadsUp, HoldsAll, Accounts}
 use Rattle.refine.specs.declared.walk.Mark.{Mark}

@@ -7,7 +7,8 @@ use Rattle.std.proofs.lemmas.List.{get_or-take, length-take-le, get_or_append_le
 use Rattle.std.proofs.lemmas.List.Elements.{All-push, All-take}
 use Rattle.theory.specs.Bisimulation.Relation.{branching}
 use Rattle.lts.specs.Lts.{Grouped, IsLts}
-use Rattle.refine.specs.Lists.{list_at, Grow}
+use Rattle.lists.specs.Lists.{list_at}
+use Rattle.refine.specs.EachList.{Grow}
 use Rattle.refine.specs.Signed.{HasPair, IsSignature}
 use Rattle.refine.specs.Walks.{Laws, mark_at, visit_at, state_at, next_at, end_at, back_at, HasRead, bound_at, Begins, BeginsPairs, BeginsListed, GivesPair, GivesListed, AreOnPath, AreBounds, Connects, IsSound, AreRows, AccountsAll, Holds, Parts, Held, Walks, Rests}
 use Rattle.refine.specs.Steps.{IsGiven, IsCollected, Finishes}

@@ -5,14 +5,14 @@ use Rattle.std.proofs.lemmas.Bool.{cases_eq}
 use Rattle.std.proofs.lemmas.List.{get_or-set_same, get_or-set_other, get_or_default, get_or_append_left, get_or_push, get_or-drop, length-drop, length_push}
 use Rattle.std.proofs.lemmas.List.Elements.{Contains-get_or}
 use Rattle.theory.proofs.Deciding.{contains_none}
-use Rattle.refine.specs.Lists.{list_at, merged, AreLists, Grow}
-use Rattle.refine.specs.Signed.{pair_cmp}
+use Rattle.lists.specs.Lists.{list_at, merged, AreLists, pair_cmp}
+use Rattle.refine.specs.EachList.{Grow}
 use Rattle.refine.specs.Walks.{mark_at}
 use Rattle.refine.specs.Steps.{IsListed, IsGiven, IsCollected, IsLacking}
-use Rattle.refine.specs.declared.lists.TheConstants.{EMPTY}
+use Rattle.lists.specs.declared.lists.TheConstants.{EMPTY}
 use Rattle.refine.specs.declared.walk.Mark.{Mark}
 use Rattle.refine.specs.declared.walk.Mark.TheVariants.{Unseen, Finished}
-use Rattle.refine.proofs.Merging.{has_or_lacks, merged_has, merged_rises}
+use Rattle.lists.proofs.Merging.{has_or_lacks, merged_has, merged_rises}
 
 -- a mark that is set
 pub mark_set : (marks : List Mark) (t : ℕ) (m : Mark) → t < length marks → mark_at (set marks t m) t ≡ m

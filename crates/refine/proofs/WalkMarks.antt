@@ -3,7 +3,8 @@ use Rattle.std.proofs.Common.{◌≡◌, ◌≢◌, ◌⊎◌, ℕ, ◌+◌, ◌
 use Rattle.std.proofs.lemmas.Bool.{cases_eq, cases_lt}
 use Rattle.theory.specs.Bisimulation.Relation.{branching}
 use Rattle.lts.specs.Lts.{Grouped}
-use Rattle.refine.specs.Lists.{list_at, Grow}
+use Rattle.lists.specs.Lists.{list_at}
+use Rattle.refine.specs.EachList.{Grow}
 use Rattle.refine.specs.Signed.{IsSignature}
 use Rattle.refine.specs.Walks.{AreOnPath, AreSigned}
 use Rattle.refine.specs.declared.walk.Mark.{Mark}

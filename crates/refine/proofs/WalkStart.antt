@@ -5,7 +5,8 @@ use Rattle.std.proofs.lemmas.List.{length-set, get_or_default}
 use Rattle.std.proofs.lemmas.List.Sums.{count_by-le-length}
 use Rattle.theory.specs.Bisimulation.Relation.{branching}
 use Rattle.lts.specs.Lts.{Grouped, IsLts}
-use Rattle.refine.specs.Lists.{list_of, AreNumbers}
+use Rattle.lists.specs.Lists.{AreNumbers}
+use Rattle.refine.specs.EachList.{list_of}
 use Rattle.refine.specs.Signed.{IsSignature}
 use Rattle.refine.specs.Walks.{Laws, mark_at, Parts, Walks, Rests}
 use Rattle.refine.specs.Steps.{AreParts, entered, Enters}

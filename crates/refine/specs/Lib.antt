@@ -1,8 +1,6 @@
 pub mod Partition
 pub mod Signed
-pub mod Lists
-pub mod Spans
-pub mod Roots
+pub mod EachList
 pub mod StrongPairs
 pub mod Splitting
 pub mod Rounds

@@ -2,17 +2,12 @@
 use Rattle.std.specs.Prelude.{◌≡◌, ◌↔◌, ℕ, ◌<◌, List, [], ◌++◌, length, slice_index}
 use Rattle.std.specs.List.{Contains, slice_index_or}
 use Rattle.std.specs.List.Sorted.{IsStrictlySortedBy}
-use Rattle.std.specs.declared.cmp.Ordering.{Ordering}
-use Rattle.std.specs.Ordering.{nat_cmp, ordering_then}
 use Rattle.theory.specs.Bisimulation.{Relation}
 use Rattle.theory.specs.Bisimulation.Relation.{strong, branching}
 use Rattle.theory.specs.Blocks.{Signature}
 use Rattle.lts.specs.Labels.{text_of}
 use Rattle.lts.specs.Lts.{Grouped, system_of, row_of}
-
--- pairs in the order of their first numbers, and of their second ones where these are equal
-abbrev pub pair_cmp : ℕ × ℕ → ℕ × ℕ → Ordering
-pair_cmp p q = ordering_then (nat_cmp p.0 q.0) (nat_cmp p.1 q.1)
+use Rattle.lists.specs.Lists.{pair_cmp}
 
 -- the pair of the label number k and the block b is in the signature of s
 abbrev pub HasPair : Relation → Grouped → List ℕ → ℕ → ℕ → ℕ → Type 0

@@ -5,8 +5,8 @@ use Rattle.std.specs.List.Sorted.{IsStrictlySortedBy}
 use Rattle.lts.specs.Lts.{Grouped, Triple, IsRow}
 use Rattle.theory.specs.System.{internal}
 use Rattle.lts.specs.Labels.{IsNumber}
-use Rattle.refine.specs.Lists.{list_at, Grow}
-use Rattle.refine.specs.Signed.{pair_cmp}
+use Rattle.lists.specs.Lists.{list_at, pair_cmp}
+use Rattle.refine.specs.EachList.{Grow}
 use Rattle.refine.specs.Walks.{mark_at, state_at, bound_at, IsInertWithin, Parts, parts_of, Walks}
 use Rattle.refine.specs.Ahead.{ahead, HasNumbers, steps_ahead}
 use Rattle.refine.specs.declared.walk.Mark.{Mark}

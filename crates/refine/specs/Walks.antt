@@ -6,7 +6,7 @@ use Rattle.theory.specs.Bisimulation.Relation.{branching}
 use Rattle.theory.specs.Blocks.{Inert, Signature}
 use Rattle.lts.specs.Labels.{text_of}
 use Rattle.lts.specs.Lts.{Grouped, Triple, source_of, label_of, target_of, place_at, system_of, IsRow}
-use Rattle.refine.specs.Lists.{list_at}
+use Rattle.lists.specs.Lists.{list_at}
 use Rattle.refine.specs.Signed.{HasPair, IsSignature}
 use Rattle.refine.specs.StrongPairs.{pair_under}
 use Rattle.refine.specs.declared.walk.Mark.{Mark}

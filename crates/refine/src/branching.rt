@@ -4,17 +4,18 @@ ghost use Rattle.std.specs.Prelude.{◌≡◌, ◌≢◌, ℕ, ◌+◌, ◌<◌,
 ghost use Rattle.theory.specs.Bisimulation.Relation.{branching};
 ghost use Rattle.lts.specs.Meter.{HasRoomFor, Visits};
 ghost use Rattle.lts.specs.Lts.{row_of};
-ghost use Rattle.refine.specs.Lists.{list_at, list_of, AreNumbers};
+ghost use Rattle.lists.specs.Lists.{list_at, AreNumbers};
+ghost use Rattle.refine.specs.EachList.{list_of};
 ghost use Rattle.refine.specs.Signed.{IsSignature};
 ghost use Rattle.refine.specs.Walks.{mark_at, Rests};
 ghost use Rattle.refine.specs.Ahead.{IsTrail, AreIdle};
 ghost use Rattle.refine.specs.declared.walk.Mark.TheVariants.{Unseen, Finished};
 
-use crate::lists::Lists;
 use crate::marks::Marks;
 use crate::partition::Partition;
 use crate::sense::Sense;
 use crate::walk::Walk;
+use lists::Lists;
 use lts::{Lts, Memory, Meter};
 use std::alloc::Global;
 

@@ -1,12 +1,12 @@
 //! The list of a component: the pairs that it has collected, and those of the lists that it leads to.
 ghost use Rattle.std.specs.Prelude.{◌≡◌, ◌+◌, ◌<◌, ◌≤◌, [], length, IfOk, OnOk};
 ghost use Rattle.std.specs.List.{All, Contains};
-ghost use Rattle.refine.specs.Lists.{list_at, Grow};
+ghost use Rattle.lists.specs.Lists.{list_at};
+ghost use Rattle.refine.specs.EachList.{Grow};
 ghost use Rattle.refine.specs.Steps.{IsCollected, IsLacking};
-ghost use Rattle.refine.specs.declared.lists.TheConstants.{MOST_LISTS};
+ghost use Rattle.lists.specs.declared.lists.TheConstants.{MOST_LISTS};
 
-use crate::lists::{EMPTY, Lists};
-use crate::ordered::order;
+use lists::{EMPTY, Lists, order};
 use lts::Memory;
 
 /// The number of the list of these pairs and those of the lists of these numbers. It is the longest of the lists if that

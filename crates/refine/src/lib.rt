@@ -4,16 +4,12 @@
 
 mod branching;
 mod component;
-mod lists;
 mod marks;
-mod ordered;
 mod partition;
-mod parts;
 mod refinement;
 mod round_signatures;
 mod sense;
 mod signatures;
-mod span;
 mod splitter;
 mod strong;
 mod walk;

@@ -1,8 +1,8 @@
 //! What signatures are put together in, used again from state to state and from round to round.
 ghost use Rattle.std.specs.Prelude.{◌≡◌, ℕ, ◌≤◌, IfOk};
 
-use crate::lists::Lists;
 use crate::walk::Walk;
+use lists::Lists;
 use lts::Memory;
 use std::alloc::Global;
 use std::marker::Model;

@@ -5,7 +5,7 @@ ghost use Rattle.theory.specs.Blocks.{Split, Turns, EachTwo};
 ghost use Rattle.lts.specs.Meter.{HasRoomFor, Costs, CostsUpTo};
 ghost use Rattle.lts.specs.Lts.{system_of};
 ghost use Rattle.refine.specs.Partition.{IsNumbered};
-ghost use Rattle.refine.specs.Lists.{AreNumbered};
+ghost use Rattle.refine.specs.EachList.{AreNumbered};
 ghost use Rattle.refine.specs.Rounds.{IsNext};
 
 use crate::marks::Marks;

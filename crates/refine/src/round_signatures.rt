@@ -2,15 +2,15 @@
 ghost use Rattle.std.specs.Prelude.{◌≡◌, ◌↔◌, ℕ, ◌<◌, ◌≤◌, [], ◌∷◌, length, slice_index, IfOk, OnOk};
 ghost use Rattle.lts.specs.Meter.{HasRoomFor, Visits};
 ghost use Rattle.refine.specs.Partition.{IsNumbered};
-ghost use Rattle.refine.specs.Lists.{list_of, AreNumbered};
+ghost use Rattle.refine.specs.EachList.{list_of, AreNumbered};
 ghost use Rattle.refine.specs.Signed.{IsSignature};
 ghost use Rattle.refine.specs.Splitting.{Alike};
 
-use crate::lists::Lists;
 use crate::marks::Marks;
 use crate::partition::Partition;
 use crate::sense::Sense;
 use crate::splitter::split;
+use lists::Lists;
 use lts::{Lts, Memory, Meter};
 use std::alloc::Global;
 

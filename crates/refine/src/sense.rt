@@ -3,12 +3,13 @@ ghost use Rattle.std.specs.Prelude.{◌≡◌, ℕ, ◌<◌, [], ◌∷◌, leng
 ghost use Rattle.theory.specs.Bisimulation.{Relation};
 ghost use Rattle.lts.specs.Meter.{HasRoomFor, Visits};
 ghost use Rattle.lts.specs.Lts.{row_of};
-ghost use Rattle.refine.specs.Lists.{AreNumbers, list_of};
+ghost use Rattle.lists.specs.Lists.{AreNumbers};
+ghost use Rattle.refine.specs.EachList.{list_of};
 ghost use Rattle.refine.specs.Signed.{IsSignature, Extends, Appends, most_visits};
 
-use crate::lists::Lists;
 use crate::marks::Marks;
 use crate::partition::Partition;
+use lists::Lists;
 use lts::{Lts, Memory, Meter};
 use std::alloc::Global;
 

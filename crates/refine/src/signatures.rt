@@ -4,12 +4,11 @@ ghost use Rattle.lts.specs.Meter.{HasRoomFor, Visits};
 ghost use Rattle.refine.specs.Partition.{IsNumbered};
 ghost use Rattle.refine.specs.Signed.{IsSignature, signature_at};
 
-use crate::lists::Lists;
 use crate::marks::Marks;
 use crate::partition::Partition;
-use crate::parts::Parts;
 use crate::round_signatures::RoundSignatures;
 use crate::sense::Sense;
+use lists::{Lists, Parts};
 use lts::{Lts, Memory, Meter};
 use std::alloc::Global;
 use std::marker::Model;
@@ -28,7 +27,7 @@ impl Model for Signatures {
 
     ghost Value = { List (List (ℕ × ℕ)) };
 
-    ghost use Rattle.refine.specs.Lists.{each_list, AreLent};
+    ghost use Rattle.refine.specs.EachList.{each_list, AreLent};
 
     ghost view = { λ g. each_list g.whole g.round.numbers.items };
 

@@ -5,11 +5,10 @@ ghost use Rattle.lts.specs.Meter.{HasRoomFor, Visits};
 ghost use Rattle.lts.specs.Lts.{row_of};
 ghost use Rattle.refine.specs.Signed.{IsSignature};
 
-use crate::lists::Lists;
 use crate::marks::Marks;
-use crate::ordered::order;
 use crate::partition::Partition;
 use crate::sense::Sense;
+use lists::{Lists, order};
 use lts::{Lts, Memory, Meter};
 use std::alloc::Global;
 

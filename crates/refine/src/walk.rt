@@ -4,14 +4,13 @@ ghost use Rattle.std.specs.Prelude.{◌≡◌, ◌⊎◌, ◌↔◌, ℕ, ◌+�
 ghost use Rattle.std.specs.List.{All, Contains};
 ghost use Rattle.lts.specs.declared.limits.TheConstants.{MOST_STATES};
 ghost use Rattle.refine.specs.Walks.{mark_at, parts_of};
-ghost use Rattle.refine.specs.Lists.{list_at, Grow};
-ghost use Rattle.refine.specs.Steps.{Enters, Cuts, Follows, IsGiven, IsCollected, IsLacking, IsListed, Finishes, Leaves};
+ghost use Rattle.refine.specs.Steps.{Enters, Cuts, Follows, Finishes, Leaves};
 ghost use Rattle.refine.specs.Ahead.{IsTrail};
-ghost use Rattle.refine.specs.declared.lists.TheConstants.{MOST_LISTS};
+ghost use Rattle.lists.specs.declared.lists.TheConstants.{MOST_LISTS};
 ghost use Rattle.refine.specs.declared.walk.Mark.TheVariants.{Unseen, OnPath, Finished};
 
 use crate::component::list_from;
-use crate::lists::Lists;
+use lists::Lists;
 use lts::{Lts, Memory, Meter};
 use std::alloc::Global;
 

@@ -8,9 +8,9 @@ ghost use Rattle.refine.specs.Steps.{IsInternal, Takes, Stands, HasNumbersLeft, 
 ghost use Rattle.refine.specs.Ahead.{unread, IsTrail, KeepsSeen, HasNumbers};
 ghost use Rattle.refine.specs.declared.walk.Mark.TheVariants.{Unseen};
 
-use crate::lists::Lists;
 use crate::partition::Partition;
 use crate::walk::{Visit, Walk};
+use lists::Lists;
 use lts::{Lts, Memory, Meter};
 
 impl Walk {

@@ -1,5 +1,5 @@
 use Rattle.std.proofs.Common.{refl, arith}
-use Rattle.refine.specs.Lists.{list_at}
+use Rattle.lists.specs.Lists.{list_at}
 use Rattle.refine.proofs.WalkLists.{among_more, among_known, among_all, lacking}
 use Rattle.refine.proofs.component.collect.Goals as goal
 

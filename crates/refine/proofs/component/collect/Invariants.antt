@@ -1,5 +1,5 @@
 use Rattle.std.proofs.Common.{◌⊎◌, ◌↔◌, ℕ, Contains}
-use Rattle.refine.specs.Lists.{list_at}
+use Rattle.lists.specs.Lists.{list_at}
 use Rattle.refine.proofs.WalkLists.{IsAmong}
 use Rattle.refine.proofs.component.collect.Given as goal
 

@@ -1,7 +1,7 @@
 use Rattle.std.proofs.Common.{◌≡◌, ◌∙◌, length, Contains, ap, sym, subst, arith}
 use Rattle.std.proofs.lemmas.Bool.Decides.{nat_tests}
 use Rattle.std.proofs.lemmas.List.{nil_from_length}
-use Rattle.refine.specs.Lists.{list_at, merged}
+use Rattle.lists.specs.Lists.{list_at, merged}
 use Rattle.refine.specs.Steps.{IsCollected}
 use Rattle.refine.proofs.WalkLists.{collected_known, collected_merged, pushed_at}
 use Rattle.refine.proofs.component.list_from.Goals as goal

@@ -1,5 +1,5 @@
 use Rattle.std.proofs.Common.{rules}
-use Rattle.refine.specs.Lists.{list_of}
+use Rattle.refine.specs.EachList.{list_of}
 use Rattle.refine.proofs.Signing.{IsNext-done}
 use Rattle.refine.proofs.Spending.{begun_up_to}
 use Rattle.refine.proofs.refinement.next_round.Goals as goal

@@ -1,5 +1,5 @@
 use Rattle.std.proofs.Common.{◌≡◌, ◌-◌, length}
-use Rattle.refine.specs.Lists.{AreNumbered}
+use Rattle.refine.specs.EachList.{AreNumbered}
 use Rattle.refine.specs.Rounds.{Made}
 use Rattle.refine.proofs.refinement.refine.Given as goal
 

@@ -1,6 +1,6 @@
 use Rattle.std.proofs.Common.{◌++◌, ◌∙◌, [], ap, sym, rules}
 use Rattle.std.proofs.lemmas.List.{append-nil}
-use Rattle.refine.specs.Lists.{list_at}
+use Rattle.lists.specs.Lists.{list_at}
 use Rattle.refine.specs.Signed.{Extends}
 use Rattle.refine.proofs.branching.BranchingSense.signature.Goals as goal
 

@@ -2,7 +2,7 @@ use Rattle.std.proofs.Common.{◌≡◌, sym, subst, arith}
 use Rattle.std.specs.Vec.{with_items}
 use Rattle.std.proofs.lemmas.List.{take_at}
 use Rattle.std.proofs.lemmas.Result.{on_ok_weaker}
-use Rattle.refine.specs.Lists.{list_of}
+use Rattle.refine.specs.EachList.{list_of}
 use Rattle.refine.specs.Signed.{IsSignature}
 use Rattle.refine.proofs.round_signatures.RoundSignatures.sign.Goals as goal
 

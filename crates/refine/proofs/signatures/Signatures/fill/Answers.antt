@@ -1,6 +1,7 @@
 use Rattle.std.proofs.Common.{◌≡◌, ◌∙◌, length, ap, sym, subst, arith}
 use Rattle.std.proofs.lemmas.List.{length-map}
-use Rattle.refine.specs.Lists.{list_at, list_of}
+use Rattle.lists.specs.Lists.{list_at}
+use Rattle.refine.specs.EachList.{list_of}
 use Rattle.refine.specs.Signed.{IsSignature}
 use Rattle.refine.proofs.EachList.{signature_at-list}
 use Rattle.refine.proofs.signatures.Signatures.fill.Goals as goal

@@ -1,7 +1,7 @@
 use Rattle.std.proofs.Common.{ℕ, ◌+◌, ◌<◌, [], ◌∷◌, ◌++◌, length, set, sym, subst, arith, rules}
 use Rattle.std.proofs.lemmas.List.{length_push}
 use Rattle.theory.specs.Bisimulation.Relation.{strong}
-use Rattle.refine.specs.Lists.{list_of}
+use Rattle.refine.specs.EachList.{list_of}
 use Rattle.refine.specs.Signed.{IsSignature}
 use Rattle.refine.proofs.EachList.{AreNumbers-push, each_push}
 use Rattle.refine.proofs.strong.StrongSense.sign_each.Given.{Over}

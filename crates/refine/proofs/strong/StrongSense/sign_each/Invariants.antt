@@ -2,7 +2,8 @@ use Rattle.std.proofs.Common.{◌≡◌, ℕ, ◌+◌, ◌<◌, length}
 use Rattle.theory.specs.Bisimulation.Relation.{strong}
 use Rattle.lts.specs.Meter.{Costs}
 use Rattle.lts.specs.Lts.{before}
-use Rattle.refine.specs.Lists.{AreNumbers, list_of}
+use Rattle.lists.specs.Lists.{AreNumbers}
+use Rattle.refine.specs.EachList.{list_of}
 use Rattle.refine.specs.Signed.{IsSignature}
 use Rattle.refine.proofs.strong.StrongSense.sign_each.Given as goal
 

@@ -1,0 +1,25 @@
+-- Pairs: their order is total, and which are equal.
+use Rattle.std.proofs.Common.{◌≡◌, ℕ, Bool, true, ◌&&◌, nat_eq}
+use Rattle.std.proofs.lemmas.Bool.{and_parts, eqb-true}
+use Rattle.std.proofs.lemmas.Cmp.{and_equiv, on_equiv, on_total, then_total, nat_cmp_total, nat_eq_equiv}
+use Rattle.std.specs.Cmp.{IsEquivalence, IsTotalOrder, both_tied, unsigned_ties}
+use Rattle.std.specs.Ordering.{eq_by_cmp, nat_cmp}
+use Rattle.lists.specs.Lists.{pair_cmp}
+
+pub pair_total : IsTotalOrder pair_cmp
+pair_total = then_total (on_total (λ p. p.0) nat_cmp_total) (on_total (λ p. p.1) nat_cmp_total)
+
+-- two pairs are equal, as the test that `dedup` makes
+abbrev pub pair_eq : ℕ × ℕ → ℕ × ℕ → Bool
+pair_eq x y = nat_eq x.0 y.0 && nat_eq x.1 y.1
+
+pub pair_eq_equiv : IsEquivalence pair_eq
+pair_eq_equiv = and_equiv (on_equiv (λ t. t.0) nat_eq_equiv) (on_equiv (λ t. t.1) nat_eq_equiv)
+
+pub pair_ties : (x y : ℕ × ℕ) → pair_eq x y ≡ eq_by_cmp pair_cmp x y
+pair_ties x y = both_tied (nat_eq x.0 y.0) (nat_eq x.1 y.1) (nat_cmp x.0 y.0) (nat_cmp x.1 y.1) (unsigned_ties x.0 y.0) (unsigned_ties x.1 y.1)
+
+pub pair_equal : (x y : ℕ × ℕ) → pair_eq x y ≡ true → x ≡ y
+pair_equal x y e =
+    let h = and_parts (nat_eq x.0 y.0) (nat_eq x.1 y.1) e in
+    λ i. (eqb-true x.0 y.0 h.0 i, eqb-true x.1 y.1 h.1 i)

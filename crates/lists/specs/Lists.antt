@@ -1,0 +1,35 @@
+-- Lists of pairs in rising order, which are looked up by their numbers.
+use Rattle.std.specs.Prelude.{◌≡◌, ℕ, ◌<◌, ◌≤◌, true, List, [], length}
+use Rattle.std.specs.List.{All, Contains, slice_index_or}
+use Rattle.std.specs.List.Sorted.{IsStrictlySortedBy}
+use Rattle.std.specs.Ordering.{nat_cmp, ordering_then}
+use Rattle.std.specs.Set.{sorted_merge}
+use Rattle.std.specs.declared.cmp.Ordering.{Ordering}
+use Rattle.lists.specs.declared.lists.TheConstants.{MOST_LISTS}
+
+-- pairs in the order of their first numbers, and of their second ones where these are equal
+abbrev pub pair_cmp : ℕ × ℕ → ℕ × ℕ → Ordering
+pair_cmp p q = ordering_then (nat_cmp p.0 q.0) (nat_cmp p.1 q.1)
+
+-- the list number k
+abbrev pub list_at : List (List (ℕ × ℕ)) → ℕ → List (ℕ × ℕ)
+list_at lists k = slice_index_or lists k []
+
+-- the pairs of both lists in rising order, if the lists are
+abbrev pub merged : List (ℕ × ℕ) → List (ℕ × ℕ) → List (ℕ × ℕ)
+merged = sorted_merge pair_cmp true
+
+-- no pair is in both lists
+abbrev pub Apart : List (ℕ × ℕ) → List (ℕ × ℕ) → Type 0
+Apart xs ys = (z : ℕ × ℕ) → Contains xs z → ¬ Contains ys z
+
+-- lists in strictly rising order, the first of which is empty, and not too many for their numbers
+pub record AreLists (lists : List (List (ℕ × ℕ))) : Type 0 where
+  pub rise : All (IsStrictlySortedBy pair_cmp) lists
+  pub some : 1 ≤ length lists
+  pub few : length lists ≤ MOST_LISTS
+  pub first : list_at lists 0 ≡ []
+
+-- each number is that of one of the lists
+abbrev pub AreNumbers : List (List (ℕ × ℕ)) → List ℕ → Type 0
+AreNumbers lists numbers = All (λ k. k < length lists) numbers

@@ -1,0 +1,66 @@
+//! Lists of pairs as spans of one buffer, each with a fingerprint.
+ghost use Rattle.std.specs.Prelude.{◌≡◌, ◌↔◌, ◌≤◌, length, IsTrue};
+ghost use Rattle.lists.specs.Spans.{list_in, no_pairs, word_of, fingerprint_of};
+
+const FIRST_FACTOR: u64 = 0x9E37_79B9_7F4A_7C15;
+
+const SUM_FACTOR: u64 = 0xD6E8_FEB8_6659_FD93;
+
+/// The list of the pairs from `start` up to `end`, and its fingerprint.
+#[derive(Clone, Copy)]
+pub(crate) struct Span {
+    pub start: usize,
+    pub end: usize,
+    pub fingerprint: u64,
+}
+
+/// The span of no pairs.
+pub(crate) fn empty_span() -> Span
+    ensures { result ≡ no_pairs }
+{
+    Span {
+        start: 0,
+        end: 0,
+        fingerprint: 0,
+    }
+}
+
+/// The list that the span has.
+pub(crate) fn list_of(pairs: &[(u32, u32)], span: Span) -> &[(u32, u32)]
+    requires forward { span.start ≤ span.end }
+    requires within { span.end ≤ length pairs.now }
+    ensures { result.now ≡ list_in pairs.now span }
+{
+    &pairs[span.start..span.end]
+}
+
+/// A word for two numbers, as if drawn by chance: both halves of a product, one put over the other, so that sums of words
+/// do not depend on sums of numbers.
+pub fn word(first: u32, second: u64) -> u64
+    ensures { result ≡ word_of (first, second) }
+{
+    let number = u64::from(first)
+        .wrapping_mul(FIRST_FACTOR)
+        .wrapping_add(second);
+    let product = number as u128 * SUM_FACTOR as u128;
+    (product % 0x1_0000_0000_0000_0000) as u64 ^ (product >> 64) as u64
+}
+
+/// A number that equal lists share, and different lists seldom: the sum of the words of the pairs, so that it can be added up
+/// from parts.
+pub(crate) fn fingerprint(list: &[(u32, u32)]) -> u64
+    ensures { result ≡ fingerprint_of list.now }
+{
+    let mut sum: u64 = 0;
+    for (first, second) in list {
+        sum = sum.wrapping_add(word(*first, u64::from(*second)));
+    }
+    sum
+}
+
+/// Whether the two lists are the same.
+pub(crate) fn are_same(a: &[(u32, u32)], b: &[(u32, u32)]) -> bool
+    ensures { IsTrue result ↔ (a.now ≡ b.now) }
+{
+    a == b
+}

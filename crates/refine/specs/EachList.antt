@@ -1,0 +1,27 @@
+-- The list of each state, by its number, and how lists grow.
+use Rattle.std.specs.Prelude.{◌≡◌, ℕ, ◌<◌, ◌≤◌, List, length, map, slice_index}
+use Rattle.lists.specs.Lists.{list_at, AreNumbers}
+
+-- each list stays as it is, and there may be more
+pub record Grow (old new : List (List (ℕ × ℕ))) : Type 0 where
+  pub longer : length old ≤ length new
+  pub same : (k : ℕ) → k < length old → list_at new k ≡ list_at old k
+
+-- the list of the state s, if the states have these numbers
+abbrev pub list_of : List (List (ℕ × ℕ)) → List ℕ → ℕ → List (ℕ × ℕ)
+list_of lists numbers s = list_at lists (slice_index numbers s)
+
+-- the list of each state
+abbrev pub each_list : List (List (ℕ × ℕ)) → List ℕ → List (List (ℕ × ℕ))
+each_list lists numbers = map (list_at lists) numbers
+
+-- lists and their numbers for 1 to 2,000,000 states
+pub record AreNumbered (lists : List (List (ℕ × ℕ))) (numbers : List ℕ) : Type 0 where
+  pub each : AreNumbers lists numbers
+  pub some : 1 ≤ length numbers
+  pub few : length numbers ≤ 2000000
+
+-- the lists of a round, each whole, and the numbers of the states' lists
+pub record AreLent (whole lists : List (List (ℕ × ℕ))) (numbers : List ℕ) : Type 0 where
+  pub same : whole ≡ lists
+  pub numbered : AreNumbered lists numbers
