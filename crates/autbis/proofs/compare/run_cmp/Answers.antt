@@ -1,4 +1,4 @@
-use Rattle.std.proofs.Common.{◌↔◌, ℕ, ◌+◌, ◌*◌, Bool, IsTrue, List, Option, refl}
+use Rattle.std.proofs.Common.{rules, ◌↔◌, ℕ, ◌+◌, ◌*◌, Bool, IsTrue, List, Option, refl}
 use Rattle.std.specs.Io.KnownBytes.{Appends, IsAtEnd}
 use Rattle.std.proofs.lemmas.Result.{err_from_is_err_and}
 use Rattle.theory.specs.System.{Hide}
@@ -10,7 +10,7 @@ use Rattle.lts.specs.Lts.{system_of}
 use Rattle.quotient.specs.Bounds.{KeepsTo}
 use Rattle.autfmt.specs.declared.fault.Fault.TheVariants.{Memory}
 use Rattle.autbis.specs.Comparisons.{ComparesTo, CountsComparison, IsVerdict, ReadBoth, line_of, states_of, transitions_of}
-use Rattle.autbis.specs.Comparisons.CmpFails.{behind_first}
+use Rattle.autbis.specs.Comparisons.CmpFails.{first_side, behind_first}
 use Rattle.autbis.specs.Comparisons.FailsBehindFirst.{second_side, run_side}
 use Rattle.autbis.specs.Comparisons.NoLine.{no_memory, failed_sink}
 use Rattle.autbis.specs.declared.compare.Side.TheVariants.{Run}
@@ -19,6 +19,16 @@ use Rattle.autbis.proofs.Comparing.{OrderLaws, both_read, compared_turns, counte
 use Rattle.autbis.proofs.compare.run_cmp.Given.{Over}
 use Rattle.autbis.proofs.compare.run_cmp.Goals as goal
 use Rattle.autbis.proofs.compare.run_cmp.Goals.{After-equivalent}
+
+pub returns-in_err-first-clause-outcome : goal.returns-in_err-first-clause-outcome
+returns-in_err-first-clause-outcome g c =
+    let got = c.in_err-first.ensures.outcome in
+    let exit = err_from_is_err_and c.from_residual.result c.from_residual.ensures.1 in
+    takes_error _ _ _ _ c.from_residual.result c.in_err-first.field-0.0 got.given exit got.took
+    (first_side got.outcome.0 got.outcome.1 refl refl c.requires.fresh)
+
+pub returns-in_err-first-clause-untouched : goal.returns-in_err-first-clause-untouched
+returns-in_err-first-clause-untouched g c = search rules
 
 pub returns-in_err-second-clause-outcome : goal.returns-in_err-second-clause-outcome
 returns-in_err-second-clause-outcome g c =

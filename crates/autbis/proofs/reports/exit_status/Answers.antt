@@ -1,0 +1,8 @@
+use Rattle.std.proofs.Common.{rules}
+use Rattle.autbis.proofs.reports.exit_status.Goals as goal
+
+pub returns-in-Device : goal.returns-in-Device
+returns-in-Device c = search rules
+
+pub returns-in_default : goal.returns-in_default
+returns-in_default c = search rules
