@@ -1,10 +1,10 @@
 //! Comparisons.
-use crate::checks::check;
 use crate::named::{
     HIDDEN_STEP, LONE_STATE, MOMENT_AFTER, MOMENT_BEFORE, NO_MIDDLE, NOT_COMMITTED, ONLY_A, ONLY_B,
     OPTION_BEHIND, SILENT_LOOP,
 };
-use crate::texts::system;
+use crate::pairing::{Paired, check_pair};
+use crate::refining::append_counts;
 use lts::{Counter, Lts, Memory, Meter, fits_together};
 use quotient::{Relation, equivalent, minimise};
 use std::alloc::Global;
@@ -76,31 +76,69 @@ fn verdict(
     Ok(Some(equivalent(alloc, a, b, relation, m)?))
 }
 
-/// The same of the systems that two texts spell.
-fn are_equivalent(
-    alloc: Global,
-    a: &str,
-    b: &str,
-    relation: Relation,
-    m: &mut Counter,
-) -> Result<Option<bool>, Fail> {
-    let a = system(alloc, a)?;
-    let b = system(alloc, b)?;
-    Ok(verdict(alloc, &a, &b, relation, m)?)
+fn word(alloc: Global, verdict: Option<bool>) -> Result<String, Memory> {
+    let word = match verdict {
+        Some(true) => "equivalent",
+        Some(false) => "different",
+        None => "not compared",
+    };
+    Ok(String::from_str(alloc, word)?)
 }
 
-/// How many states the quotient has of the system that the text spells.
-fn size(alloc: Global, text: &str, relation: Relation) -> Result<u32, Fail> {
-    let l = system(alloc, text)?;
-    let q = minimise(alloc, &l, relation, &mut Counter::new())?;
+/// Whether the systems are equivalent, as a word.
+pub(crate) fn shown(
+    alloc: Global,
+    a: &Lts<Counter>,
+    b: &Lts<Counter>,
+    relation: Relation,
+) -> Result<String, Memory> {
+    let found = verdict(alloc, a, b, relation, &mut Counter::new())?;
+    word(alloc, found)
+}
+
+/// The same, and the rounds and visits that it took.
+pub(crate) fn counted(
+    alloc: Global,
+    a: &Lts<Counter>,
+    b: &Lts<Counter>,
+    relation: Relation,
+) -> Result<String, Memory> {
+    let mut m = Counter::new();
+    let found = verdict(alloc, a, b, relation, &mut m)?;
+    let mut text = word(alloc, found)?;
+    text.push_str("; ")?;
+    append_counts(alloc, &m, &mut text)?;
+    Ok(text)
+}
+
+/// How many states the quotient of the system has.
+fn size(alloc: Global, l: &Lts<Counter>, relation: Relation) -> Result<u32, Memory> {
+    let q = minimise(alloc, l, relation, &mut Counter::new())?;
     Ok(q.states())
+}
+
+/// Whether the quotients of both systems have equally many states, in words.
+pub(crate) fn sizes(
+    alloc: Global,
+    a: &Lts<Counter>,
+    b: &Lts<Counter>,
+    relation: Relation,
+) -> Result<String, Memory> {
+    let first = size(alloc, a, relation)?;
+    let second = size(alloc, b, relation)?;
+    let words = if first == second {
+        "equally many"
+    } else {
+        "not equally many"
+    };
+    Ok(String::from_str(alloc, words)?)
 }
 
 /// The verdict on the two systems by this relation is `same`.
 fn check_verdict(alloc: Global, row: &Row, relation: Relation, same: bool) -> Result<(), Fail> {
     let (name, a, b, _, _) = *row;
-    let found = are_equivalent(alloc, a, b, relation, &mut Counter::new())?;
-    check(name, found == Some(same))
+    let wanted = if same { "equivalent" } else { "different" };
+    check_pair(alloc, Paired::Verdict(relation), name, a, b, wanted)
 }
 
 #[test]
@@ -122,11 +160,12 @@ fn by_branching_bisimulation(rt: HostRuntime) -> Result<(), Fail> {
 /// `moment-of-choice` takes 3 rounds: 7 visits for the union and 7 in each round.
 #[test]
 fn what_a_comparison_counts(rt: HostRuntime) -> Result<(), Fail> {
-    let (a, b, mut m) = (MOMENT_AFTER, MOMENT_BEFORE, Counter::new());
-    let found = are_equivalent(rt.alloc(), a, b, Relation::Strong, &mut m)?;
-    check("verdict", found == Some(false))?;
-    check("rounds", m.rounds() == 3)?;
-    check("visits", m.visits() == 28)
+    let (name, a, b) = ("moment-of-choice", MOMENT_AFTER, MOMENT_BEFORE);
+    let (what, wanted) = (
+        Paired::Counted(Relation::Strong),
+        "different; 3 rounds, 28 visits",
+    );
+    check_pair(rt.alloc(), what, name, a, b, wanted)
 }
 
 /// The quotients of both systems, if these are equivalent, have equally many states.
@@ -135,9 +174,7 @@ fn check_sizes(alloc: Global, row: &Row, relation: Relation, same: bool) -> Resu
     if !same {
         return Ok(());
     }
-    let first = size(alloc, a, relation)?;
-    let second = size(alloc, b, relation)?;
-    check(name, first == second)
+    check_pair(alloc, Paired::Sizes(relation), name, a, b, "equally many")
 }
 
 #[test]

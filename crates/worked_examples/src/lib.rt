@@ -11,11 +11,15 @@ mod comparisons;
 #[cfg(test)]
 mod named;
 #[cfg(test)]
+mod pairing;
+#[cfg(test)]
 mod quotients;
 #[cfg(test)]
 mod reached;
 #[cfg(test)]
 mod refining;
+#[cfg(test)]
+mod showing;
 #[cfg(test)]
 mod splits;
 #[cfg(test)]

@@ -1,17 +1,14 @@
 //! Quotients.
-use crate::checks::check_text;
 use crate::named::{
     CHAIN_OF_THREE, LABEL_ORDER, LONE_STATE, QUOTED_INTERNAL, SILENT_BESIDE_VISIBLE, SILENT_CHAIN,
     SILENT_CYCLE, SILENT_DETOUR, SILENT_LOOP, TWO_EQUAL_TARGETS, TWO_SPELLINGS,
 };
-use crate::texts::{spelled, system};
+use crate::showing::{Row, Shown, check_rows};
+use crate::texts::append_spelled;
 use lts::{Counter, Lts, Memory, Meter};
 use quotient::{Relation, minimise};
 use std::alloc::Global;
 use std::test::Fail;
-
-/// An example: its name, its system, and what is wanted of it.
-type Row = (&'static str, &'static str, &'static str);
 
 const STRONG: [Row; 15] = [
     ("lone-state", LONE_STATE, "1 rounds: 0 of 1"),
@@ -113,38 +110,24 @@ const BRANCHING: [Row; 10] = [
 ];
 
 /// How many rounds were made to find the quotient, and the text that spells it.
-fn shown(alloc: Global, l: &Lts<Counter>, relation: Relation) -> Result<String, Memory> {
+pub(crate) fn shown(alloc: Global, l: &Lts<Counter>, relation: Relation) -> Result<String, Memory> {
     let mut m = Counter::new();
     let q = minimise(alloc, l, relation, &mut m)?;
     counted(alloc, &q, m.rounds())
 }
 
 fn counted(alloc: Global, q: &Lts<Counter>, rounds: u128) -> Result<String, Memory> {
-    let text = spelled(alloc, q)?;
-    Ok(format!(in alloc; "{rounds} rounds: {text}")?)
-}
-
-/// The same of the system that the text spells.
-fn of_text(alloc: Global, text: &str, relation: Relation) -> Result<String, Fail> {
-    let l = system(alloc, text)?;
-    Ok(shown(alloc, &l, relation)?)
-}
-
-/// The quotient of each row's system by this relation is as wanted.
-fn check_rows(alloc: Global, rows: &[Row], relation: Relation) -> Result<(), Fail> {
-    for (name, text, wanted) in rows {
-        let found = of_text(alloc, text, relation)?;
-        check_text(name, &found, wanted)?;
-    }
-    Ok(())
+    let mut text = format!(in alloc; "{rounds} rounds: ")?;
+    append_spelled(alloc, q, &mut text)?;
+    Ok(text)
 }
 
 #[test]
 fn by_strong_bisimulation(rt: HostRuntime) -> Result<(), Fail> {
-    check_rows(rt.alloc(), &STRONG, Relation::Strong)
+    check_rows(rt.alloc(), Shown::Quotient(Relation::Strong), &STRONG)
 }
 
 #[test]
 fn by_branching_bisimulation(rt: HostRuntime) -> Result<(), Fail> {
-    check_rows(rt.alloc(), &BRANCHING, Relation::Branching)
+    check_rows(rt.alloc(), Shown::Quotient(Relation::Branching), &BRANCHING)
 }

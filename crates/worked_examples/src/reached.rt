@@ -1,6 +1,5 @@
 //! Which states are reachable.
-use crate::checks::check_text;
-use crate::texts::system;
+use crate::showing::{Shown, check_row};
 use lts::{Counter, Lts, Memory, Meter};
 use quotient::reachable;
 use std::alloc::Global;
@@ -39,12 +38,17 @@ const REACHED: [Row; 8] = [
 ];
 
 /// The reachable states in their order, and how many visits and rounds were made to find them.
-fn shown(alloc: Global, l: &Lts<Counter>) -> Result<String, Memory> {
+pub(crate) fn shown(alloc: Global, l: &Lts<Counter>) -> Result<String, Memory> {
     let mut m = Counter::new();
     let mut text = String::new(alloc);
     append_reached(alloc, l, &mut m, &mut text)?;
-    text.push_str(&format!(in alloc; "by {} visits, {} rounds", m.visits(), m.rounds())?)?;
+    append_counts(alloc, &m, &mut text)?;
     Ok(text)
+}
+
+fn append_counts(alloc: Global, m: &Counter, text: &mut String) -> Result<(), Memory> {
+    text.push_str(&format!(in alloc; "by {} visits, {} rounds", m.visits(), m.rounds())?)?;
+    Ok(())
 }
 
 /// Appends the reachable states, if there is room to count the visits.
@@ -70,21 +74,10 @@ fn append_marked(alloc: Global, marks: &[bool], text: &mut String) -> Result<(),
     Ok(())
 }
 
-/// The same of the system that the text spells.
-fn of_text(alloc: Global, text: &str) -> Result<String, Fail> {
-    let l = system(alloc, text)?;
-    Ok(shown(alloc, &l)?)
-}
-
-fn check_reached(alloc: Global, text: &str, wanted: &str) -> Result<(), Fail> {
-    let found = of_text(alloc, text)?;
-    check_text(text, &found, wanted)
-}
-
 #[test]
 fn finds_what_is_reachable(rt: HostRuntime) -> Result<(), Fail> {
     for (text, wanted) in &REACHED {
-        check_reached(rt.alloc(), text, wanted)?;
+        check_row(rt.alloc(), Shown::Reached, text, text, wanted)?;
     }
     Ok(())
 }

@@ -1,49 +1,42 @@
 //! Rounds of refinement, and how blocks and signatures are shown.
 ghost use Rattle.std.specs.Prelude.{◌≡◌, length, IfOk};
+ghost use Rattle.lts.specs.Meter.{HasRoomFor};
+ghost use Rattle.refine.specs.Signed.{most_visits};
 
-use crate::checks::check_text;
-use crate::texts::system;
 use lts::{Counter, Lts, Memory, Meter};
 use refine::{Marks, Partition, Sense, Signatures, refine, round};
 use std::alloc::Global;
-use std::test::Fail;
 
-/// What is shown of a system.
+/// What refinement makes of a system.
 #[derive(Clone, Copy, Drop)]
-pub(crate) enum Shown {
+pub(crate) enum Made {
     /// The final blocks, and the rounds and visits that they took.
     Refined,
+    /// What a round makes of one block.
+    OneRound,
     /// What so many rounds make of one block, a line each.
     Rounds(u32),
+    /// The same, and the rounds and visits that they took.
+    Counted(u32),
     /// The signatures of all states in each of so many rounds, and the blocks after it, a line each.
     Table(u32),
     /// The signatures under the blocks after one round, and then, in the same marks and signatures, under one block.
     FilledTwice,
 }
 
-/// An example: its name, its system, what is shown of it, and the text that this gives.
-pub(crate) type Row = (&'static str, &'static str, Shown, &'static str);
-
-/// What is shown of each system is as wanted.
-pub(crate) fn check_rows<S: Sense>(alloc: Global, rows: &[Row]) -> Result<(), Fail> {
-    for (name, text, what, wanted) in rows {
-        let found = of_text::<S>(alloc, text, *what)?;
-        check_text(name, &found, wanted)?;
-    }
-    Ok(())
-}
-
-fn of_text<S: Sense>(alloc: Global, text: &str, what: Shown) -> Result<String, Fail> {
-    let l = system(alloc, text)?;
-    Ok(show::<S>(alloc, &l, what)?)
-}
-
-fn show<S: Sense>(alloc: Global, l: &Lts<Counter>, what: Shown) -> Result<String, Memory> {
+/// What refinement in this sense makes of the system.
+pub(crate) fn refine_as<S: Sense>(
+    alloc: Global,
+    l: &Lts<Counter>,
+    what: Made,
+) -> Result<String, Memory> {
     match what {
-        Shown::Refined => refined::<S>(alloc, l),
-        Shown::Rounds(many) => rounds::<S>(alloc, l, many, &mut Counter::new()),
-        Shown::Table(many) => table::<S>(alloc, l, many),
-        Shown::FilledTwice => filled_twice::<S>(alloc, l),
+        Made::Refined => refined::<S>(alloc, l),
+        Made::OneRound => one_round::<S>(alloc, l),
+        Made::Rounds(many) => rounds::<S>(alloc, l, many, &mut Counter::new()),
+        Made::Counted(many) => counted_rounds::<S>(alloc, l, many),
+        Made::Table(many) => table::<S>(alloc, l, many),
+        Made::FilledTwice => filled_twice::<S>(alloc, l),
     }
 }
 
@@ -56,13 +49,12 @@ pub(crate) fn blocks(alloc: Global, p: &Partition) -> Result<String, Memory> {
     Ok(text)
 }
 
-/// The pairs, each as its label number and its block.
-pub(crate) fn pairs(alloc: Global, list: &[(u32, u32)]) -> Result<String, Memory> {
-    let mut text = String::new(alloc);
+/// Appends the pairs, each as its label number and its block.
+fn append_pairs(alloc: Global, list: &[(u32, u32)], text: &mut String) -> Result<(), Memory> {
     for (label, block) in list {
         text.push_str(&format!(in alloc; "({label}, {block})")?)?;
     }
-    Ok(text)
+    Ok(())
 }
 
 /// One block of the system's states.
@@ -82,8 +74,15 @@ fn refined<S: Sense>(alloc: Global, l: &Lts<Counter>) -> Result<String, Memory> 
 
 /// The blocks, and the rounds and visits that they took.
 fn counted(alloc: Global, p: &Partition, m: &Counter) -> Result<String, Memory> {
-    let text = blocks(alloc, p)?;
-    Ok(format!(in alloc; "{text}; {} rounds, {} visits", m.rounds(), m.visits())?)
+    let mut text = blocks(alloc, p)?;
+    text.push_str("; ")?;
+    append_counts(alloc, m, &mut text)?;
+    Ok(text)
+}
+
+pub(crate) fn append_counts(alloc: Global, m: &Counter, text: &mut String) -> Result<(), Memory> {
+    text.push_str(&format!(in alloc; "{} rounds, {} visits", m.rounds(), m.visits())?)?;
+    Ok(())
 }
 
 /// What a round makes of the blocks, if they are of the system's states.
@@ -99,8 +98,14 @@ pub(crate) fn next<S: Sense>(
     round::<S, Counter>(alloc, l, &p, m)
 }
 
+fn one_round<S: Sense>(alloc: Global, l: &Lts<Counter>) -> Result<String, Memory> {
+    let p = one_block(alloc, l)?;
+    let p = next::<S>(alloc, l, p, &mut Counter::new())?;
+    blocks(alloc, &p)
+}
+
 /// What so many rounds make of one block, a line each.
-pub(crate) fn rounds<S: Sense>(
+fn rounds<S: Sense>(
     alloc: Global,
     l: &Lts<Counter>,
     many: u32,
@@ -112,6 +117,14 @@ pub(crate) fn rounds<S: Sense>(
         p = next::<S>(alloc, l, p, m)?;
         append_line(alloc, &p, &mut text)?;
     }
+    Ok(text)
+}
+
+/// The same, and the rounds and visits that they took.
+fn counted_rounds<S: Sense>(alloc: Global, l: &Lts<Counter>, many: u32) -> Result<String, Memory> {
+    let mut m = Counter::new();
+    let mut text = rounds::<S>(alloc, l, many, &mut m)?;
+    append_counts(alloc, &m, &mut text)?;
     Ok(text)
 }
 
@@ -134,8 +147,8 @@ fn append_filled<S: Sense>(
     requires states { length p.now ≡ l.now.states }
     requires marks { marks.old ≡ l.now.states }
     requires signatures { length signatures.old ≡ l.now.states }
-    ensures marks { marks.new ≡ marks.old }
-    ensures signatures { length signatures.new ≡ length signatures.old }
+    ensures marks { marks.new ≡ l.now.states }
+    ensures signatures { length signatures.new ≡ l.now.states }
 {
     l.known();
     signatures.fill::<S, Counter>(l, p, marks, &mut Counter::new())?;
@@ -148,7 +161,9 @@ fn append_signatures(
     text: &mut String,
 ) -> Result<(), Memory> {
     for s in 0..signatures.states() {
-        text.push_str(&format!(in alloc; "{{{}}}", &pairs(alloc, signatures.of(s))?)?)?;
+        text.push('{')?;
+        append_pairs(alloc, signatures.of(s), text)?;
+        text.push('}')?;
     }
     Ok(())
 }
@@ -165,7 +180,24 @@ pub(crate) fn split<S: Sense>(
 {
     let mut marks = Marks::new(alloc, l.states())?;
     let mut signatures = Signatures::new(alloc, l.states())?;
-    append_filled::<S>(alloc, l, p, &mut marks, &mut signatures, text)?;
+    split_in::<S>(alloc, l, p, &mut marks, &mut signatures, text)
+}
+
+/// The same, in these marks and signatures.
+fn split_in<S: Sense>(
+    alloc: Global,
+    l: &Lts<Counter>,
+    p: &Partition,
+    marks: &mut Marks,
+    signatures: &mut Signatures,
+    text: &mut String,
+) -> Result<Partition, Memory>
+    requires states { length p.now ≡ l.now.states }
+    requires marks { marks.old ≡ l.now.states }
+    requires signatures { length signatures.old ≡ l.now.states }
+    ensures { IfOk result (λ q. length q ≡ l.now.states) }
+{
+    append_filled::<S>(alloc, l, p, marks, signatures, text)?;
     signatures.split(p)
 }
 
@@ -191,9 +223,27 @@ fn append_both<S: Sense>(
 {
     let mut marks = Marks::new(alloc, l.states())?;
     let mut signatures = Signatures::new(alloc, l.states())?;
-    append_filled::<S>(alloc, l, first, &mut marks, &mut signatures, text)?;
+    append_in::<S>(alloc, l, first, second, &mut marks, &mut signatures, text)
+}
+
+/// The same, in these marks and signatures.
+fn append_in<S: Sense>(
+    alloc: Global,
+    l: &Lts<Counter>,
+    first: &Partition,
+    second: &Partition,
+    marks: &mut Marks,
+    signatures: &mut Signatures,
+    text: &mut String,
+) -> Result<(), Memory>
+    requires first { length first.now ≡ l.now.states }
+    requires second { length second.now ≡ l.now.states }
+    requires marks { marks.old ≡ l.now.states }
+    requires signatures { length signatures.old ≡ l.now.states }
+{
+    append_filled::<S>(alloc, l, first, marks, signatures, text)?;
     text.push_str(", ")?;
-    append_filled::<S>(alloc, l, second, &mut marks, &mut signatures, text)
+    append_filled::<S>(alloc, l, second, marks, signatures, text)
 }
 
 fn table<S: Sense>(alloc: Global, l: &Lts<Counter>, many: u32) -> Result<String, Memory> {
@@ -206,4 +256,41 @@ fn table<S: Sense>(alloc: Global, l: &Lts<Counter>, many: u32) -> Result<String,
         append_line(alloc, &p, &mut text)?;
     }
     Ok(text)
+}
+
+/// Appends the signature of state 0 under the blocks, behind what stood.
+pub(crate) fn append_signature<S: Sense, M: Meter>(
+    alloc: Global,
+    l: &Lts<M>,
+    p: &Partition,
+    stood: &[(u32, u32)],
+    m: &mut M,
+    text: &mut String,
+) -> Result<(), Memory>
+    requires states { length p.now ≡ l.now.states }
+    requires room { HasRoomFor (M.counted m.old) 0 (most_visits S.relation l.now 0) }
+{
+    l.known();
+    let mut marks = Marks::new(alloc, l.states())?;
+    let mut out = Vec::from_slice(alloc, stood)?;
+    append_signed::<S, M>(alloc, l, p, &mut marks, &mut out, m, text)
+}
+
+/// The same, in these marks and behind these pairs.
+fn append_signed<S: Sense, M: Meter>(
+    alloc: Global,
+    l: &Lts<M>,
+    p: &Partition,
+    marks: &mut Marks,
+    out: &mut Vec<(u32, u32)>,
+    m: &mut M,
+    text: &mut String,
+) -> Result<(), Memory>
+    requires states { length p.now ≡ l.now.states }
+    requires marks { marks.old ≡ l.now.states }
+    requires room { HasRoomFor (M.counted m.old) 0 (most_visits S.relation l.now 0) }
+{
+    l.known();
+    S::signature(alloc, l, p, 0, marks, out, m)?;
+    append_pairs(alloc, out, text)
 }

@@ -1,9 +1,9 @@
 //! How rounds split blocks, by steps that all lead to state 0: the labels of a state are then its signature.
-use crate::checks::check_text;
-use crate::refining::{blocks, next, one_block};
-use crate::texts::system;
-use lts::Counter;
-use refine::{Partition, Strong};
+use crate::pairing::{Paired, check_pair};
+use crate::refining::{Made, blocks, next, one_block};
+use crate::showing::{Shown, check_row};
+use lts::{Counter, Lts, Memory};
+use refine::Strong;
 use std::alloc::Global;
 use std::test::Fail;
 
@@ -57,33 +57,21 @@ const SPLITS: [Row; 9] = [
     ),
 ];
 
-/// One block of the states of the system that the text spells.
-fn one(alloc: Global, text: &str) -> Result<Partition, Fail> {
-    let l = system(alloc, text)?;
-    Ok(one_block(alloc, &l)?)
-}
-
-/// What a round on the system that the text spells makes of the blocks; these, if the text is empty.
-fn split_by(alloc: Global, text: &str, p: Partition) -> Result<Partition, Fail> {
-    if text.is_empty() {
-        return Ok(p);
-    }
-    let l = system(alloc, text)?;
-    Ok(next::<Strong>(alloc, &l, p, &mut Counter::new())?)
-}
-
-/// The blocks that the two rounds make of one block.
-fn split_twice(alloc: Global, first: &str, second: &str) -> Result<String, Fail> {
-    let p = one(alloc, first)?;
-    let p = split_by(alloc, first, p)?;
-    let p = split_by(alloc, second, p)?;
-    Ok(blocks(alloc, &p)?)
+/// The blocks that a strong round on the one and then one on the other make of one block.
+pub(crate) fn twice(alloc: Global, a: &Lts<Counter>, b: &Lts<Counter>) -> Result<String, Memory> {
+    let p = one_block(alloc, a)?;
+    let p = next::<Strong>(alloc, a, p, &mut Counter::new())?;
+    let p = next::<Strong>(alloc, b, p, &mut Counter::new())?;
+    blocks(alloc, &p)
 }
 
 fn check_split(alloc: Global, row: &Row) -> Result<(), Fail> {
     let (first, second, wanted) = *row;
-    let found = split_twice(alloc, first, second)?;
-    check_text(first, &found, wanted)
+    if second.is_empty() {
+        let what = Shown::Strong(Made::OneRound);
+        return check_row(alloc, what, first, first, wanted);
+    }
+    check_pair(alloc, Paired::Split, first, first, second, wanted)
 }
 
 #[test]

@@ -1,67 +1,54 @@
 //! Refinement by strong bisimulation.
-use crate::checks::{check, check_text};
 use crate::named::{CHAIN_OF_THREE, LABEL_ORDER, LONE_STATE, OLD_BLOCKS, TWO_SPELLINGS};
-use crate::refining::{Row, Shown, check_rows, one_block, pairs, rounds};
-use crate::texts::system;
+use crate::refining::{Made, append_signature, one_block};
+use crate::showing::{Row, Shown, check_row, check_rows};
 use lts::{Counter, Lts, Memory, Meter};
-use refine::{Marks, Sense, Strong};
+use refine::Strong;
 use std::alloc::Global;
 use std::test::Fail;
 
-/// What so many rounds make of the system that the text spells, a line each.
-fn rounds_of(alloc: Global, text: &str, many: u32, m: &mut Counter) -> Result<String, Fail> {
-    let l = system(alloc, text)?;
-    Ok(rounds::<Strong>(alloc, &l, many, m)?)
-}
-
-/// So many rounds are as wanted, and take these rounds and visits.
-fn check_rounds(
-    alloc: Global,
-    name: &str,
-    text: &str,
-    many: u32,
-    wanted: &str,
-    counts: (u128, u128),
-) -> Result<(), Fail> {
-    let mut m = Counter::new();
-    let found = rounds_of(alloc, text, many, &mut m)?;
-    check_text(name, &found, wanted)?;
-    check(name, (m.rounds(), m.visits()) == counts)
-}
+/// So many rounds, each one's blocks on a line, and the rounds and visits that they took.
+const ROUNDS: [(&str, &str, u32, &str); 2] = [
+    (
+        "chain-rounds",
+        CHAIN_OF_THREE,
+        4,
+        "2: 0 0 0 1\n3: 0 0 1 2\n4: 0 1 2 3\n4: 0 1 2 3\n4 rounds, 12 visits",
+    ),
+    (
+        "old-blocks-count",
+        OLD_BLOCKS,
+        1,
+        "2: 0 1\n1 rounds, 1 visits",
+    ),
+];
 
 #[test]
 fn rounds_one_by_one(rt: HostRuntime) -> Result<(), Fail> {
-    let (name, text) = ("chain-rounds", CHAIN_OF_THREE);
-    let wanted = "2: 0 0 0 1\n3: 0 0 1 2\n4: 0 1 2 3\n4: 0 1 2 3\n";
-    check_rounds(rt.alloc(), name, text, 4, wanted, (4, 12))?;
-    let (name, text) = ("old-blocks-count", OLD_BLOCKS);
-    check_rounds(rt.alloc(), name, text, 1, "2: 0 1\n", (1, 1))
+    for (name, text, many, wanted) in &ROUNDS {
+        let what = Shown::Strong(Made::Counted(*many));
+        check_row(rt.alloc(), what, name, text, wanted)?;
+    }
+    Ok(())
 }
 
 const REFINED: [Row; 2] = [
     (
         "chain-refined",
         CHAIN_OF_THREE,
-        Shown::Refined,
         "4: 0 1 2 3; 4 rounds, 12 visits",
     ),
-    (
-        "lone-state-refined",
-        LONE_STATE,
-        Shown::Refined,
-        "1: 0; 1 rounds, 0 visits",
-    ),
+    ("lone-state-refined", LONE_STATE, "1: 0; 1 rounds, 0 visits"),
 ];
 
 #[test]
 fn refined_to_the_end(rt: HostRuntime) -> Result<(), Fail> {
-    check_rows::<Strong>(rt.alloc(), &REFINED)
+    check_rows(rt.alloc(), Shown::Strong(Made::Refined), &REFINED)
 }
 
 const CHAIN: [Row; 1] = [(
     "chain-of-three",
     CHAIN_OF_THREE,
-    Shown::Table(4),
     "{(0, 0)}{(0, 0)}{(0, 0)}{}2: 0 0 0 1\n\
     {(0, 0)}{(0, 0)}{(0, 1)}{}3: 0 0 1 2\n\
     {(0, 0)}{(0, 1)}{(0, 2)}{}4: 0 1 2 3\n\
@@ -70,36 +57,41 @@ const CHAIN: [Row; 1] = [(
 
 #[test]
 fn chain_of_three(rt: HostRuntime) -> Result<(), Fail> {
-    check_rows::<Strong>(rt.alloc(), &CHAIN)
+    check_rows(rt.alloc(), Shown::Strong(Made::Table(4)), &CHAIN)
 }
 
 const CHAIN_TWICE: [Row; 1] = [(
     "chain-of-three, filled twice",
     CHAIN_OF_THREE,
-    Shown::FilledTwice,
     "{(0, 0)}{(0, 0)}{(0, 1)}{}, {(0, 0)}{(0, 0)}{(0, 0)}{}",
 )];
 
 /// A second fill leaves nothing of the first.
 #[test]
 fn chain_filled_twice(rt: HostRuntime) -> Result<(), Fail> {
-    check_rows::<Strong>(rt.alloc(), &CHAIN_TWICE)
+    check_rows(rt.alloc(), Shown::Strong(Made::FilledTwice), &CHAIN_TWICE)
 }
 
 /// The signature of state 0 under one block, behind what stood, and the visits.
-fn signed(alloc: Global, l: &Lts<Counter>, stood: &[(u32, u32)]) -> Result<String, Memory> {
-    let mut m = Counter::new();
-    let mut out = Vec::from_slice(alloc, stood)?;
-    append_signature(alloc, l, &mut out, &mut m)?;
-    let text = pairs(alloc, &out)?;
-    Ok(format!(in alloc; "{text}; {} visits", m.visits())?)
-}
-
-fn append_signature(
+pub(crate) fn signed(
     alloc: Global,
     l: &Lts<Counter>,
-    out: &mut Vec<(u32, u32)>,
+    stood: &[(u32, u32)],
+) -> Result<String, Memory> {
+    let mut m = Counter::new();
+    let mut text = String::new(alloc);
+    append_first(alloc, l, stood, &mut m, &mut text)?;
+    text.push_str(&format!(in alloc; "; {} visits", m.visits())?)?;
+    Ok(text)
+}
+
+/// Appends the signature of state 0 under one block, if there is room to count the visits.
+fn append_first(
+    alloc: Global,
+    l: &Lts<Counter>,
+    stood: &[(u32, u32)],
     m: &mut Counter,
+    text: &mut String,
 ) -> Result<(), Memory> {
     l.known();
     let (start, end) = l.row(0);
@@ -107,24 +99,18 @@ fn append_signature(
         return Ok(());
     }
     let p = one_block(alloc, l)?;
-    let mut marks = Marks::new(alloc, l.states())?;
-    Strong::signature(alloc, l, &p, 0, &mut marks, out, m)
-}
-
-/// The signature of state 0 of the system that the text spells is as wanted.
-fn check_signed(alloc: Global, text: &str, stood: &[(u32, u32)], wanted: &str) -> Result<(), Fail> {
-    let l = system(alloc, text)?;
-    let found = signed(alloc, &l, stood)?;
-    check_text("signature", &found, wanted)
+    append_signature::<Strong, Counter>(alloc, l, &p, stood, m, text)
 }
 
 #[test]
 fn after_what_stood(rt: HostRuntime) -> Result<(), Fail> {
     let wanted = "(7, 7)(0, 0)(1, 0)(2, 0); 3 visits";
-    check_signed(rt.alloc(), LABEL_ORDER, &[(7, 7)], wanted)
+    let what = Shown::StrongSigned(&[(7, 7)]);
+    check_row(rt.alloc(), what, "signature", LABEL_ORDER, wanted)
 }
 
 #[test]
 fn repeated_once(rt: HostRuntime) -> Result<(), Fail> {
-    check_signed(rt.alloc(), TWO_SPELLINGS, &[], "(0, 0); 3 visits")
+    let (what, wanted) = (Shown::StrongSigned(&[]), "(0, 0); 3 visits");
+    check_row(rt.alloc(), what, "signature", TWO_SPELLINGS, wanted)
 }

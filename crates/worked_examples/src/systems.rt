@@ -1,6 +1,8 @@
 //! Labels and their table, systems in memory, the union of two, and the meter.
 use crate::checks::check;
-use crate::texts::{spelled, system};
+use crate::pairing::{Paired, check_pair};
+use crate::showing::{Shown, check_row};
+use crate::texts::append_spelled;
 use lts::{
     Counter, Labels, Lts, MOST_LABELS, Memory, Meter, fits_together, in_range, is_label, union,
 };
@@ -111,50 +113,55 @@ fn knows_what_is_in_range(rt: HostRuntime) -> Result<(), Fail> {
     Ok(())
 }
 
-/// Whether the system has so many transitions and labels, and is spelled as `wanted`.
-fn is_shown(
-    alloc: Global,
-    l: &Lts<Counter>,
-    edges: u32,
-    labels: u32,
-    wanted: &str,
-) -> Result<bool, Memory> {
-    let text = spelled(alloc, l)?;
-    Ok(l.edges() == edges && l.labels().len() == labels && text.as_str() == wanted)
+/// The text that spells the system, and how many transitions and labels it has.
+pub(crate) fn shown(alloc: Global, l: &Lts<Counter>) -> Result<String, Memory> {
+    let mut text = String::new(alloc);
+    append_shown(alloc, l, &mut text)?;
+    Ok(text)
+}
+
+fn append_shown(alloc: Global, l: &Lts<Counter>, text: &mut String) -> Result<(), Memory> {
+    append_spelled(alloc, l, text)?;
+    let (edges, labels) = (l.edges(), l.labels().len());
+    text.push_str(&format!(in alloc; ", {edges} transitions, {labels} labels")?)?;
+    Ok(())
 }
 
 #[test]
 fn groups_by_source(rt: HostRuntime) -> Result<(), Fail> {
-    let l = system(rt.alloc(), "2 of 3; 2 a 1; 0 i 2; 2 i 0; 0 a 1; 2 a 1")?;
-    let wanted = "2 of 3; 0 i 2; 0 a 1; 2 a 1; 2 i 0; 2 a 1";
-    check("grouped", is_shown(rt.alloc(), &l, 5, 2, wanted)?)
+    let text = "2 of 3; 2 a 1; 0 i 2; 2 i 0; 0 a 1; 2 a 1";
+    let wanted = "2 of 3; 0 i 2; 0 a 1; 2 a 1; 2 i 0; 2 a 1, 5 transitions, 2 labels";
+    check_row(rt.alloc(), Shown::System, "grouped", text, wanted)
 }
 
-/// Whether the union is as wanted, by a visit of each of the four transitions of both.
-fn is_joined(
+/// The union, and the visits that it took.
+pub(crate) fn joined(alloc: Global, a: &Lts<Counter>, b: &Lts<Counter>) -> Result<String, Memory> {
+    let mut m = Counter::new();
+    let mut text = String::new(alloc);
+    append_joined(alloc, a, b, &mut m, &mut text)?;
+    text.push_str(&format!(in alloc; ", {} visits", m.visits())?)?;
+    Ok(text)
+}
+
+/// Appends the union, if the systems fit together and there is room to count the visits.
+fn append_joined(
     alloc: Global,
     a: &Lts<Counter>,
     b: &Lts<Counter>,
-    wanted: &str,
-) -> Result<bool, Memory> {
-    let mut m = Counter::new();
+    m: &mut Counter,
+    text: &mut String,
+) -> Result<(), Memory> {
     if !fits_together(a, b) || !m.has_room(0, 40_000_000) {
-        return Ok(false);
+        return Ok(());
     }
-    let l = union(alloc, a, b, &mut m)?;
-    Ok(m.visits() == 4 && is_shown(alloc, &l, 4, 3, wanted)?)
+    let l = union(alloc, a, b, m)?;
+    append_shown(alloc, &l, text)
 }
 
-/// The union of the systems that two texts spell is as wanted.
-fn check_joined(alloc: Global, a: &str, b: &str, wanted: &str) -> Result<(), Fail> {
-    let a = system(alloc, a)?;
-    let b = system(alloc, b)?;
-    check("joined", is_joined(alloc, &a, &b, wanted)?)
-}
-
-/// Two systems that number their labels in different orders.
+/// Two systems that number their labels in different orders. Each of the four transitions of both is visited.
 #[test]
 fn joins_by_bytes(rt: HostRuntime) -> Result<(), Fail> {
     let (a, b) = ("1 of 2; 0 a 1; 1 i 0", "0 of 2; 1 i 1; 0 b 1");
-    check_joined(rt.alloc(), a, b, "1 of 4; 0 a 1; 1 i 0; 2 b 3; 3 i 3")
+    let wanted = "1 of 4; 0 a 1; 1 i 0; 2 b 3; 3 i 3, 4 transitions, 3 labels, 4 visits";
+    check_pair(rt.alloc(), Paired::Union, "joined", a, b, wanted)
 }

@@ -73,38 +73,60 @@ fn step(part: &str) -> Option<(u32, &str, u32)> {
     Some((source.parse().ok()?, label, target.parse().ok()?))
 }
 
-/// The text that spells the system, with its steps in the order of their sources.
-pub(crate) fn spelled(alloc: Global, l: &Lts<Counter>) -> Result<String, Memory> {
-    let mut text = format!(in alloc; "{} of {}", l.first(), l.states())?;
+/// Appends the text that spells the system, with its steps in the order of their sources.
+pub(crate) fn append_spelled(
+    alloc: Global,
+    l: &Lts<Counter>,
+    text: &mut String,
+) -> Result<(), Memory> {
+    text.push_str(&format!(in alloc; "{} of {}", l.first(), l.states())?)?;
     for s in 0..l.states() {
-        append_row(alloc, l, s, &mut text)?;
+        append_row(alloc, l, s, text)?;
     }
-    Ok(text)
+    Ok(())
 }
 
 /// Appends the steps of a state.
 fn append_row(alloc: Global, l: &Lts<Counter>, s: u32, text: &mut String) -> Result<(), Memory> {
-    let mut m = Counter::new();
     if s >= l.states() {
         return Ok(());
     }
     let (start, end) = l.row(s);
     for k in start..end {
-        if k < l.edges() && m.has_room(0, 1) {
-            let (label, target) = l.edge(k, &mut m);
-            text.push_str(&format!(in alloc; "; {s} ")?)?;
-            append_label(l, label, text)?;
-            text.push_str(&format!(in alloc; " {target}")?)?;
-        }
+        append_edge(alloc, l, s, k, text)?;
     }
     Ok(())
 }
 
+/// Appends the step from a state in a place, if there is that place.
+fn append_edge(
+    alloc: Global,
+    l: &Lts<Counter>,
+    s: u32,
+    k: u32,
+    text: &mut String,
+) -> Result<(), Memory> {
+    let mut m = Counter::new();
+    if k >= l.edges() || !m.has_room(0, 1) {
+        return Ok(());
+    }
+    let (label, target) = l.edge(k, &mut m);
+    text.push_str(&format!(in alloc; "; {s} ")?)?;
+    append_label(l, label, text)?;
+    text.push_str(&format!(in alloc; " {target}")?)?;
+    Ok(())
+}
+
 fn append_label(l: &Lts<Counter>, label: u32, text: &mut String) -> Result<(), Memory> {
-    if label < l.labels().len() {
-        for b in l.labels().text(label) {
-            text.push(*b as char)?;
-        }
+    if label >= l.labels().len() {
+        return Ok(());
+    }
+    append_bytes(l.labels().text(label), text)
+}
+
+fn append_bytes(bytes: &[u8], text: &mut String) -> Result<(), Memory> {
+    for b in bytes {
+        text.push(*b as char)?;
     }
     Ok(())
 }

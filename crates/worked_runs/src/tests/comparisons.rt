@@ -1,5 +1,5 @@
 //! The worked examples of comparisons, by their names.
-use super::running::{check, run};
+use super::running::{check, run_hiding};
 use autbis::{CmpFault, Side, cmp_program, run_cmp};
 use autfmt::{Fault, Hidden, Limits, SliceSource, VecSink, read, read_hidden};
 use lts::{Counter, Lts, Meter};
@@ -165,7 +165,7 @@ fn verdicts(rt: HostRuntime) -> Result<(), Fail> {
 /// The quotient of a text, its labels of the list hidden.
 fn quotient(alloc: Global, text: &[u8], list: &[u8], rel: Relation) -> Result<VecSink, Fault> {
     let hidden = read_hidden(alloc, &mut SliceSource::new(list, None))?;
-    let (answer, sink, _) = run(alloc, text, &hidden, None, None, usize::MAX, rel);
+    let (answer, sink, _) = run_hiding(alloc, text, &hidden, rel);
     match answer {
         Ok(_) => Ok(sink),
         Err(fault) => Err(fault),

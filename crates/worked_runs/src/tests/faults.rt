@@ -1,9 +1,9 @@
 //! Runs by strong bisimulation that end in a fault: of the text, of a source or a sink, or for want of memory.
 use super::running::{
-    CHAIN_OF_THREE, ITS_CHAIN, ITS_DETOUR, ITS_QUOTIENT, SILENT_DETOUR, TWO_EQUAL_TARGETS, Written,
-    check, check_fault, check_written, ends, run_whole,
+    CHAIN_OF_THREE, Flow, ITS_CHAIN, ITS_DETOUR, ITS_QUOTIENT, SILENT_DETOUR, TWO_EQUAL_TARGETS,
+    Written, check, check_ends, check_fault, check_written, run_whole,
 };
-use autfmt::{Fault, Hidden};
+use autfmt::Fault;
 use lts::Meter;
 use std::alloc::Global;
 use std::test::Fail;
@@ -70,11 +70,12 @@ fn check_failing(
     fault: Fault,
     out: &[u8],
 ) -> Result<(), Fail> {
-    let hidden = Hidden::none(alloc);
-    check(
-        "failing",
-        ends(alloc, text, &hidden, place, count, 4096, Some(fault), out),
-    )
+    let at = Flow {
+        source: place,
+        sink: count,
+        piece: 4096,
+    };
+    check_ends(alloc, "failing", text, at, Some(fault), out)
 }
 
 #[test]

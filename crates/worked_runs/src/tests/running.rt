@@ -36,19 +36,27 @@ pub(crate) fn check(name: &str, is_as_wanted: bool) -> Result<(), Fail> {
 /// What a run answers, what it writes and what it counts.
 pub(crate) type Ran = (Result<Counts, Fault>, VecSink, Counter);
 
-/// A run on the text, its labels of the list hidden, from a source that fails at a place and into a sink that takes so many
-/// bytes, at most `k` bytes at once.
-pub(crate) fn run(
-    alloc: Global,
-    text: &[u8],
-    hidden: &Hidden,
-    place: Option<usize>,
-    count: Option<usize>,
-    k: usize,
-    rel: Relation,
-) -> Ran {
-    let mut source = SliceSource::new(text, place).pieces(k.max(1));
-    let mut sink = VecSink::new(alloc, count).pieces(k.max(1));
+/// Where the source and the sink of a run fail, if they do, and how many bytes at most move at once.
+#[derive(Clone, Copy, Drop)]
+pub(crate) struct Flow {
+    pub(crate) source: Option<usize>,
+    pub(crate) sink: Option<usize>,
+    pub(crate) piece: usize,
+}
+
+/// A source and a sink that do not fail, and move so many bytes at once.
+fn sound(piece: usize) -> Flow {
+    Flow {
+        source: None,
+        sink: None,
+        piece,
+    }
+}
+
+/// A run on the text, its labels of the list hidden, from such a source into such a sink.
+fn run(alloc: Global, text: &[u8], hidden: &Hidden, at: Flow, rel: Relation) -> Ran {
+    let mut source = SliceSource::new(text, at.source).pieces(at.piece.max(1));
+    let mut sink = VecSink::new(alloc, at.sink).pieces(at.piece.max(1));
     let mut meter = Counter::new();
     let lim = Limits::file();
     let answer = run_min(alloc, &mut source, &mut sink, rel, &lim, hidden, &mut meter);
@@ -56,22 +64,33 @@ pub(crate) fn run(
 }
 
 /// Whether such a run, by strong bisimulation, ends in this fault, or in none, and writes `out`.
-pub(crate) fn ends(
+fn ends(
     alloc: Global,
     text: &[u8],
     hidden: &Hidden,
-    place: Option<usize>,
-    count: Option<usize>,
-    k: usize,
+    at: Flow,
     fault: Option<Fault>,
     out: &[u8],
 ) -> bool {
-    let (answer, sink, _) = run(alloc, text, hidden, place, count, k, Relation::Strong);
+    let (answer, sink, _) = run(alloc, text, hidden, at, Relation::Strong);
     answer.err() == fault && sink.bytes() == out
 }
 
-/// The run on the text ends so, of whole buffers and byte by byte.
-fn check_ends(
+/// The run on the text, with no label hidden, ends so.
+pub(crate) fn check_ends(
+    alloc: Global,
+    name: &str,
+    text: &[u8],
+    at: Flow,
+    fault: Option<Fault>,
+    out: &[u8],
+) -> Result<(), Fail> {
+    let hidden = Hidden::none(alloc);
+    check(name, ends(alloc, text, &hidden, at, fault, out))
+}
+
+/// The run on the text, which hides these labels, ends so, of whole buffers and byte by byte.
+fn check_pieces(
     alloc: Global,
     name: &str,
     text: &[u8],
@@ -79,10 +98,10 @@ fn check_ends(
     fault: Option<Fault>,
     out: &[u8],
 ) -> Result<(), Fail> {
-    for k in [4096, 1] {
-        check(name, ends(alloc, text, hidden, None, None, k, fault, out))?;
-    }
-    Ok(())
+    let whole = ends(alloc, text, hidden, sound(4096), fault, out);
+    check(name, whole)?;
+    let bytes = ends(alloc, text, hidden, sound(1), fault, out);
+    check(name, bytes)
 }
 
 /// The same of a run that hides the labels of the list. If these cannot be read, that is the fault.
@@ -95,7 +114,7 @@ pub(crate) fn check_hiding(
     out: &[u8],
 ) -> Result<(), Fail> {
     match read_hidden(alloc, &mut SliceSource::new(list, None)) {
-        Ok(hidden) => check_ends(alloc, name, text, &hidden, fault, out),
+        Ok(hidden) => check_pieces(alloc, name, text, &hidden, fault, out),
         Err(found) => check(name, Some(found) == fault),
     }
 }
@@ -120,16 +139,13 @@ pub(crate) fn check_fault(
     check_hiding(alloc, name, text, b"", Some(fault), b"")
 }
 
-/// A run by strong bisimulation on the text, with no label hidden, from a source and into a sink that do not fail.
+/// A run on the text, its labels of the list hidden, from a source and into a sink that do not fail.
+pub(crate) fn run_hiding(alloc: Global, text: &[u8], hidden: &Hidden, rel: Relation) -> Ran {
+    run(alloc, text, hidden, sound(usize::MAX), rel)
+}
+
+/// The same by strong bisimulation, with no label hidden.
 pub(crate) fn run_whole(alloc: Global, text: &[u8]) -> Ran {
     let hidden = Hidden::none(alloc);
-    run(
-        alloc,
-        text,
-        &hidden,
-        None,
-        None,
-        usize::MAX,
-        Relation::Strong,
-    )
+    run_hiding(alloc, text, &hidden, Relation::Strong)
 }

@@ -1,10 +1,10 @@
 //! The worked examples of whole runs by strong bisimulation, and the largest texts, lines, labels and hide lists.
 use super::running::{
-    CHAIN_OF_THREE, ITS_CHAIN, ITS_DETOUR, ITS_QUOTIENT, SILENT_DETOUR, TWO_EQUAL_TARGETS, Written,
-    check, check_fault, check_hiding, check_written, ends, run_whole,
+    CHAIN_OF_THREE, Flow, ITS_CHAIN, ITS_DETOUR, ITS_QUOTIENT, SILENT_DETOUR, TWO_EQUAL_TARGETS,
+    Written, check, check_ends, check_fault, check_hiding, check_written, run_whole,
 };
 use autbis::Counts;
-use autfmt::{Fault, Hidden};
+use autfmt::Fault;
 use lts::Meter;
 use std::alloc::{AllocError, Global};
 use std::test::Fail;
@@ -123,21 +123,20 @@ fn rounds_and_visits(rt: HostRuntime) -> Result<(), Fail> {
     Ok(())
 }
 
-/// A chain of a thousand states, as a text and as it is written.
-fn thousand(alloc: Global) -> Result<(String, String), AllocError> {
-    let mut text = String::from_str(alloc, "des (0,999,1000)\n")?;
-    let mut out = String::from_str(alloc, "des (0, 999, 1000)\n")?;
+/// The text of a chain of a thousand states, with blanks behind its commas or with none.
+fn thousand(alloc: Global, blank: &str) -> Result<String, AllocError> {
+    let mut text = format!(in alloc; "des (0,{blank}999,{blank}1000)\n")?;
     for k in 0..999u32 {
         let next = k + 1;
-        text.push_str(&format!(in alloc; "({k},a,{next})\n")?)?;
-        out.push_str(&format!(in alloc; "({k}, a, {next})\n")?)?;
+        text.push_str(&format!(in alloc; "({k},{blank}a,{blank}{next})\n")?)?;
     }
-    Ok((text, out))
+    Ok(text)
 }
 
 #[test]
 fn long_chain(rt: HostRuntime) -> Result<(), Fail> {
-    let (text, out) = thousand(rt.alloc())?;
+    let text = thousand(rt.alloc(), "")?;
+    let out = thousand(rt.alloc(), " ")?;
     let counted = (1000, 999, 1000, 1_000_998);
     check(
         "long-chain",
@@ -149,42 +148,70 @@ const LARGEST: [&[u8]; 2] = [b"des (0,0,1000000)\n", b"des (0,0,500001)\n"];
 
 #[test]
 fn largest_header(rt: HostRuntime) -> Result<(), Fail> {
-    let hidden = Hidden::none(rt.alloc());
+    let at = Flow {
+        source: None,
+        sink: None,
+        piece: 4096,
+    };
+    let out = b"des (0, 0, 1)\n";
     for text in &LARGEST {
-        let out = b"des (0, 0, 1)\n";
-        check(
-            "largest-header",
-            ends(rt.alloc(), text, &hidden, None, None, 4096, None, out),
-        )?;
+        check_ends(rt.alloc(), "largest-header", text, at, None, out)?;
     }
     Ok(())
+}
+
+/// A long text: what stands in front, what follows it so many times, and what stands behind.
+type Long = (&'static str, &'static str, usize, &'static str);
+
+fn spelled(alloc: Global, long: Long) -> Result<String, AllocError> {
+    let (front, piece, times, behind) = long;
+    let middle = piece.repeat(alloc, times)?;
+    format!(in alloc; "{front}{middle}{behind}")
+}
+
+/// The run on the long text writes `out`.
+fn check_long(alloc: Global, name: &str, text: Long, out: Long) -> Result<(), Fail> {
+    let text = spelled(alloc, text)?;
+    let out = spelled(alloc, out)?;
+    check_written(alloc, name, text.as_bytes(), out.as_bytes())
+}
+
+/// The run on the long text ends in this fault.
+fn check_long_fault(alloc: Global, name: &str, text: Long, fault: Fault) -> Result<(), Fail> {
+    let text = spelled(alloc, text)?;
+    check_fault(alloc, name, text.as_bytes(), fault)
 }
 
 /// Lines 2 of 8,192 and of 8,193 bytes.
 #[test]
 fn longest_line(rt: HostRuntime) -> Result<(), Fail> {
     let (alloc, name) = (rt.alloc(), "longest-line");
-    let blanks = " ".repeat(alloc, 8185)?;
-    let fits = format!(in alloc; "des (0,1,2)\n(0,a,1){blanks}")?;
-    check_written(alloc, name, fits.as_bytes(), ITS_QUOTIENT)?;
-    for line in ["(0,a,1)", "(9,a,1)"] {
-        let long = format!(in alloc; "des (0,1,2)\n{line} {blanks}")?;
-        check_fault(alloc, name, long.as_bytes(), Fault::LineTooLong(2))?;
+    let fits = ("des (0,1,2)\n(0,a,1)", " ", 8185, "");
+    check_long(alloc, name, fits, ("des (0, 1, 2)\n(0, a, 1)", "", 0, "\n"))?;
+    for front in ["des (0,1,2)\n(0,a,1)", "des (0,1,2)\n(9,a,1)"] {
+        let long = (front, " ", 8186, "");
+        check_long_fault(alloc, name, long, Fault::LineTooLong(2))?;
     }
     Ok(())
 }
+
+/// A label of 8,000 bytes, as it is written.
+const WRITTEN: Long = ("des (0, 1, 2)\n(0, ", "a", 8000, ", 1)\n");
+
+/// What stands before a label, and behind it, plain and between marks.
+const AROUND: [(&str, &str); 2] = [
+    ("des (0,1,2)\n(0,", ",1)\n"),
+    ("des (0,1,2)\n(0,\"", "\",1)\n"),
+];
 
 /// Labels of 8,000 and of 8,001 bytes, plain and between marks.
 #[test]
 fn longest_label(rt: HostRuntime) -> Result<(), Fail> {
     let (alloc, name) = (rt.alloc(), "longest-label");
-    let label = "a".repeat(alloc, 8000)?;
-    let out = format!(in alloc; "des (0, 1, 2)\n(0, {label}, 1)\n")?;
-    for mark in ["", "\""] {
-        let fits = format!(in alloc; "des (0,1,2)\n(0,{mark}{label}{mark},1)\n")?;
-        check_written(alloc, name, fits.as_bytes(), out.as_bytes())?;
-        let long = format!(in alloc; "des (0,1,2)\n(0,{mark}a{label}{mark},1)\n")?;
-        check_fault(alloc, name, long.as_bytes(), Fault::BadEdge(2))?;
+    for (front, behind) in &AROUND {
+        check_long(alloc, name, (*front, "a", 8000, *behind), WRITTEN)?;
+        let long = (*front, "a", 8001, *behind);
+        check_long_fault(alloc, name, long, Fault::BadEdge(2))?;
     }
     Ok(())
 }
@@ -244,14 +271,21 @@ fn hidden_labels(rt: HostRuntime) -> Result<(), Fail> {
     Ok(())
 }
 
+/// The run on `two-equal-targets`, its labels of a list of so many lines hidden, ends so.
+fn check_long_list(
+    alloc: Global,
+    lines: usize,
+    fault: Option<Fault>,
+    out: &[u8],
+) -> Result<(), Fail> {
+    let list = "a\n".repeat(alloc, lines)?;
+    let (name, text) = ("longest-hide-list", TWO_EQUAL_TARGETS);
+    check_hiding(alloc, name, text, list.as_bytes(), fault, out)
+}
+
 /// Lists of 100,000 and of 100,001 lines.
 #[test]
 fn longest_hide_list(rt: HostRuntime) -> Result<(), Fail> {
-    let (alloc, name) = (rt.alloc(), "longest-hide-list");
-    let (text, hidden) = (TWO_EQUAL_TARGETS, b"des (0, 1, 2)\n(0, i, 1)\n");
-    let fits = "a\n".repeat(alloc, 100_000)?;
-    check_hiding(alloc, name, text, fits.as_bytes(), None, hidden)?;
-    let long = "a\n".repeat(alloc, 100_001)?;
-    let fault = Some(Fault::TooManyHidden);
-    check_hiding(alloc, name, text, long.as_bytes(), fault, b"")
+    check_long_list(rt.alloc(), 100_000, None, b"des (0, 1, 2)\n(0, i, 1)\n")?;
+    check_long_list(rt.alloc(), 100_001, Some(Fault::TooManyHidden), b"")
 }

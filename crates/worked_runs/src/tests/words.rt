@@ -64,21 +64,29 @@ const MINIMISES: [Minimises; 4] = [
 
 /// Whether the job is this minimisation.
 fn is_minimisation(job: &Job, wanted: &Minimises) -> bool {
-    let (_, wants_relation, wants_stats, wants_hide, wants_file) = *wanted;
     match job {
         Job::Min {
             relation,
             stats,
             hide,
             file,
-        } => {
-            *relation == wants_relation
-                && *stats == wants_stats
-                && is_text(hide, wants_hide)
-                && is_text(file, wants_file)
-        }
+        } => is_min(*relation, *stats, hide, file, wanted),
         _ => false,
     }
+}
+
+fn is_min(
+    relation: Relation,
+    stats: bool,
+    hide: &Option<String>,
+    file: &Option<String>,
+    wanted: &Minimises,
+) -> bool {
+    let (_, wants_relation, wants_stats, wants_hide, wants_file) = *wanted;
+    if relation != wants_relation || stats != wants_stats {
+        return false;
+    }
+    is_text(hide, wants_hide) && is_text(file, wants_file)
 }
 
 #[test]
@@ -125,21 +133,29 @@ const COMPARES: [Compares; 3] = [
 
 /// Whether the job is this comparison.
 fn is_comparison(job: &Job, wanted: &Compares) -> bool {
-    let (_, wants_relation, wants_hide, wants_first, wants_second) = *wanted;
     match job {
         Job::Cmp {
             relation,
             hide,
             first,
             second,
-        } => {
-            *relation == wants_relation
-                && is_text(hide, wants_hide)
-                && first.as_str() == wants_first
-                && second.as_str() == wants_second
-        }
+        } => is_cmp(*relation, hide, first, second, wanted),
         _ => false,
     }
+}
+
+fn is_cmp(
+    relation: Relation,
+    hide: &Option<String>,
+    first: &str,
+    second: &str,
+    wanted: &Compares,
+) -> bool {
+    let (_, wants_relation, wants_hide, wants_first, wants_second) = *wanted;
+    if relation != wants_relation || !is_text(hide, wants_hide) {
+        return false;
+    }
+    first == wants_first && second == wants_second
 }
 
 #[test]
