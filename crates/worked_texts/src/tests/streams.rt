@@ -1,4 +1,6 @@
 //! The line buffer, sources and sinks: of memory, and of the readers and writers of the standard library.
+ghost use Rattle.std.specs.Prelude.{◌≡◌};
+
 use super::reading::check;
 use autfmt::{FromRead, LineBuffer, Sink, SliceSource, Source, ToWrite, VecSink, put_all};
 use std::alloc::{AllocError, Global};
@@ -105,7 +107,9 @@ fn a_slice_gives_pieces(_rt: HostRuntime) -> Result<(), Fail> {
 }
 
 /// Whether the sink takes the text and is finished, with no failure before.
-fn fills(sink: &mut VecSink) -> bool {
+fn fills<W: Sink>(sink: &mut W) -> bool
+    requires { W.failures sink.old ≡ 0 }
+{
     put_all(sink, TEXT).is_ok() && sink.failures() == 0 && sink.finish().is_ok()
 }
 
