@@ -139,11 +139,16 @@ fn longest_hide_list(rt: HostRuntime) -> Result<(), Fail> {
     check_written(rt.alloc(), "longest-hide-list", STEP, &list, wanted)
 }
 
+/// The list has too many lines, also if its source fails behind them.
+fn check_too_long(alloc: Global, list: &[u8]) -> Result<(), Fail> {
+    for place in [None, Some(list.len())] {
+        check_fault(alloc, "longest-hide-list", list, place, TooManyHidden)?;
+    }
+    Ok(())
+}
+
 #[test]
 fn too_long_hide_list(rt: HostRuntime) -> Result<(), Fail> {
     let list = lines(rt.alloc(), 100_001)?;
-    for place in [None, Some(list.len())] {
-        check_fault(rt.alloc(), "longest-hide-list", &list, place, TooManyHidden)?;
-    }
-    Ok(())
+    check_too_long(rt.alloc(), &list)
 }

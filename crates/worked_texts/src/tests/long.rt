@@ -14,11 +14,16 @@ pub(crate) fn padded(
     behind: &str,
 ) -> Result<Vec<u8>, AllocError> {
     let mut text = Vec::from_slice(alloc, front.as_bytes())?;
+    append(byte, times, behind, &mut text)?;
+    Ok(text)
+}
+
+fn append(byte: u8, times: usize, behind: &str, text: &mut Vec<u8>) -> Result<(), AllocError> {
     for _ in 0..times {
         text.push(byte)?;
     }
     text.extend_from_slice(behind.as_bytes())?;
-    Ok(text)
+    Ok(())
 }
 
 /// A name, the parts of a text, and its fault.
@@ -116,11 +121,17 @@ const LONG: [Long; 10] = [
     ),
 ];
 
+/// The long text has its fault, or none.
+fn check_long(alloc: Global, long: &Long) -> Result<(), Fail> {
+    let (name, front, byte, times, behind, wanted) = *long;
+    let text = padded(alloc, front, byte, times, behind)?;
+    check_fault(alloc, name, &text, None, &Limits::file(), wanted)
+}
+
 #[test]
 fn long_texts(rt: HostRuntime) -> Result<(), Fail> {
-    for (name, front, byte, times, behind, wanted) in &LONG {
-        let text = padded(rt.alloc(), front, *byte, *times, behind)?;
-        check_fault(rt.alloc(), name, &text, None, &Limits::file(), *wanted)?;
+    for long in &LONG {
+        check_long(rt.alloc(), long)?;
     }
     Ok(())
 }
@@ -140,27 +151,31 @@ fn judged_long_line(rt: HostRuntime) -> Result<(), Fail> {
     )
 }
 
-/// A byte of a longest label, and the mark beside the label in the text and in what is written.
-const LABELS: [(u8, &str, &str); 3] = [(b'a', "", ""), (b'a', "\"", ""), (b' ', "\"", "\"")];
+/// What stands before a label and behind it.
+type Around = (&'static str, &'static str);
 
-/// A text whose label is 8,000 bytes between the marks.
-fn labelled(alloc: Global, byte: u8, mark: &str) -> Result<Vec<u8>, AllocError> {
-    let front = format!(in alloc; "des (0, 1, 2)\n(0, {mark}")?;
-    let behind = format!(in alloc; "{mark}, 1)\n")?;
-    padded(alloc, &front, byte, 8000, &behind)
-}
+const PLAIN: Around = ("des (0, 1, 2)\n(0, ", ", 1)\n");
 
-/// The label between the one mark is written between the other.
-fn check_label(alloc: Global, byte: u8, mark: &str, written: &str) -> Result<(), Fail> {
-    let text = labelled(alloc, byte, mark)?;
-    let wanted = labelled(alloc, byte, written)?;
+const QUOTED: Around = ("des (0, 1, 2)\n(0, \"", "\", 1)\n");
+
+/// A byte of a longest label, and what is around the label in the text and in what is written.
+const LABELS: [(u8, Around, Around); 3] = [
+    (b'a', PLAIN, PLAIN),
+    (b'a', QUOTED, PLAIN),
+    (b' ', QUOTED, QUOTED),
+];
+
+/// The label of 8,000 bytes is written in the one text as in the other.
+fn check_label(alloc: Global, byte: u8, read: Around, written: Around) -> Result<(), Fail> {
+    let text = padded(alloc, read.0, byte, 8000, read.1)?;
+    let wanted = padded(alloc, written.0, byte, 8000, written.1)?;
     check_written(alloc, "longest-label", &text, b"", &wanted)
 }
 
 #[test]
 fn longest_label(rt: HostRuntime) -> Result<(), Fail> {
-    for (byte, mark, written) in &LABELS {
-        check_label(rt.alloc(), *byte, mark, written)?;
+    for (byte, read, written) in &LABELS {
+        check_label(rt.alloc(), *byte, *read, *written)?;
     }
     Ok(())
 }
@@ -171,12 +186,17 @@ fn longest_line(rt: HostRuntime) -> Result<(), Fail> {
     check_written(rt.alloc(), "longest-line", &text, b"", STEP)
 }
 
+/// The text with so many carriage returns behind its header is written as without them.
+fn check_pad(alloc: Global, pad: usize) -> Result<(), Fail> {
+    let text = padded(alloc, "des (0,1,2)", b'\r', pad, "\n(0,a,1)\r\n")?;
+    check_written(alloc, "any-pieces", &text, b"", STEP)
+}
+
 /// The end of a piece falls before, inside and behind each token and each carriage return.
 #[test]
 fn any_pieces(rt: HostRuntime) -> Result<(), Fail> {
     for pad in 4070..4100 {
-        let text = padded(rt.alloc(), "des (0,1,2)", b'\r', pad, "\n(0,a,1)\r\n")?;
-        check_written(rt.alloc(), "any-pieces", &text, b"", STEP)?;
+        check_pad(rt.alloc(), pad)?;
     }
     Ok(())
 }
@@ -184,10 +204,15 @@ fn any_pieces(rt: HostRuntime) -> Result<(), Fail> {
 /// The text of a chain of so many transitions.
 fn chain(alloc: Global, steps: u64) -> Result<String, AllocError> {
     let mut text = format!(in alloc; "des (0, {steps}, 10000)\n")?;
-    for k in 1..=steps {
-        text.push_str(&format!(in alloc; "({}, a, {k})\n", k - 1)?)?;
-    }
+    append_steps(alloc, steps, &mut text)?;
     Ok(text)
+}
+
+fn append_steps(alloc: Global, steps: u64, text: &mut String) -> Result<(), AllocError> {
+    for k in 0..steps {
+        text.push_str(&format!(in alloc; "({k}, a, {})\n", k + 1)?)?;
+    }
+    Ok(())
 }
 
 #[test]
@@ -201,18 +226,22 @@ fn long_chain(rt: HostRuntime) -> Result<(), Fail> {
 fn append_labels(alloc: Global, times: usize, text: &mut String) -> Result<(), AllocError> {
     for k in 1000..2000 {
         let line = format!(in alloc; "(0, l{k}, 0)\n")?;
-        for _ in 0..times {
-            text.push_str(&line)?;
-        }
+        append_times(&line, times, text)?;
     }
     Ok(())
 }
 
-/// The text of two thousand transitions: each label twice, so many times one after the other.
-fn two_thousand(alloc: Global, times: usize) -> Result<String, AllocError> {
+fn append_times(line: &str, times: usize, text: &mut String) -> Result<(), AllocError> {
+    for _ in 0..times {
+        text.push_str(line)?;
+    }
+    Ok(())
+}
+
+/// The text of two thousand transitions: so many times each label, so many times one after the other.
+fn two_thousand(alloc: Global, rounds: usize, times: usize) -> Result<String, AllocError> {
     let mut text = String::from_str(alloc, "des (0, 2000, 1)\n")?;
-    append_labels(alloc, times, &mut text)?;
-    if times == 1 {
+    for _ in 0..rounds {
         append_labels(alloc, times, &mut text)?;
     }
     Ok(text)
@@ -221,8 +250,8 @@ fn two_thousand(alloc: Global, times: usize) -> Result<String, AllocError> {
 /// A thousand labels that are guessed at few places, each on two lines that are far apart.
 #[test]
 fn many_labels(rt: HostRuntime) -> Result<(), Fail> {
-    let text = two_thousand(rt.alloc(), 1)?;
-    let wanted = two_thousand(rt.alloc(), 2)?;
+    let text = two_thousand(rt.alloc(), 2, 1)?;
+    let wanted = two_thousand(rt.alloc(), 1, 2)?;
     check_written(
         rt.alloc(),
         "many labels",

@@ -1,5 +1,7 @@
 //! How the texts of a table are read: from sources in pieces, to a fault, or to a system that is written again.
-use autfmt::{Fault, Hidden, Limits, SliceSource, VecSink, read, read_hidden, read_hiding, write};
+use autfmt::{
+    Fault, Hidden, Limits, Sink, SliceSource, VecSink, read, read_hidden, read_hiding, write,
+};
 use lts::{Counter, Lts, Meter};
 use std::alloc::Global;
 use std::test::Fail;
@@ -85,13 +87,25 @@ pub(crate) fn hiding(
     read_hiding(alloc, &mut source, &Limits::file(), &hidden)
 }
 
+/// What `write` answers, and the visits that it made. Another fault than it has if it cannot be called.
+pub(crate) fn answer<W: Sink>(
+    alloc: Global,
+    s: &Lts<Counter>,
+    sink: &mut W,
+) -> (Result<(), Fault>, u128) {
+    let mut m = Counter::new();
+    if !m.has_room(0, u128::from(s.edges())) || sink.failures() != 0 {
+        return (Err(Fault::BadHeader), 0);
+    }
+    let answer = write(alloc, s, &mut m, sink);
+    (answer, m.visits())
+}
+
 /// Whether the system is written as `wanted`, to a sink that takes `k` bytes at once.
 fn is_written(alloc: Global, system: &Lts<Counter>, k: usize, wanted: &[u8]) -> bool {
     let mut sink = VecSink::new(alloc, None).pieces(k.max(1));
-    let mut meter = Counter::new();
-    meter.has_room(0, u128::from(system.edges()))
-        && write(alloc, system, &mut meter, &mut sink).is_ok()
-        && sink.bytes() == wanted
+    let (answer, _) = answer(alloc, system, &mut sink);
+    answer.is_ok() && sink.bytes() == wanted
 }
 
 /// Whether the text, its labels of the list hidden, is read and then written as `wanted`.

@@ -1,7 +1,7 @@
 //! Growths that are refused, one after another, by `rt try --test --fail-alloc`.
-use super::reading::{TWO_EQUAL_TARGETS, check, hidden_by};
-use autfmt::{Fault, Hidden, Limits, Sink, SliceSource, VecSink, read_hiding, write};
-use lts::{Counter, Lts, Meter};
+use super::reading::{TWO_EQUAL_TARGETS, answer, check, hidden_by};
+use autfmt::{Fault, Hidden, Limits, Sink, SliceSource, VecSink, read_hiding};
+use lts::{Counter, Lts};
 use std::alloc::Global;
 use std::test::Fail;
 
@@ -9,11 +9,12 @@ use std::test::Fail;
 /// beginning of the text if the sink's own growth was refused.
 fn is_written(alloc: Global, system: &Lts<Counter>, wanted: &[u8]) -> bool {
     let mut sink = VecSink::new(alloc, None).pieces(4);
-    let mut meter = Counter::new();
-    if !meter.has_room(0, u128::from(system.edges())) || sink.failures() != 0 {
-        return false;
-    }
-    match write(alloc, system, &mut meter, &mut sink) {
+    let (answer, _) = answer(alloc, system, &mut sink);
+    is_right(answer, &sink, wanted)
+}
+
+fn is_right(answer: Result<(), Fault>, sink: &VecSink, wanted: &[u8]) -> bool {
+    match answer {
         Ok(()) => sink.bytes() == wanted,
         Err(Fault::Memory) => sink.bytes().is_empty(),
         Err(Fault::Device) => sink.failures() == 1 && wanted.starts_with(sink.bytes()),

@@ -1,4 +1,6 @@
 //! The line buffer, sources and sinks: of memory, and of the readers and writers of the standard library.
+ghost use Rattle.std.specs.Prelude.{◌≡◌};
+
 use super::reading::check;
 use autfmt::{FromRead, LineBuffer, Sink, SliceSource, Source, ToWrite, VecSink, put_all};
 use std::alloc::{AllocError, Global};
@@ -30,18 +32,29 @@ fn full_line_buffer(_rt: HostRuntime) -> Result<(), Fail> {
     )
 }
 
-/// The bytes that a source gives until it ends or fails, taken five at a time, and how often it failed.
-fn drained<R: Source>(alloc: Global, r: &mut R) -> Result<(Vec<u8>, u32), AllocError> {
-    let mut all = Vec::new(alloc);
+/// Appends the bytes that a source gives until it ends or fails, taken five at a time.
+fn drain<R: Source>(r: &mut R, all: &mut Vec<u8>) -> Result<(), AllocError> {
     let mut piece = [0u8; 5];
     for _ in 0..1000 {
         if r.failures() != 0 {
-            return Ok((all, r.failures()));
+            return Ok(());
         }
         let n = r.take(&mut piece).unwrap_or(0);
         all.extend_from_slice(&piece[..n])?;
     }
-    Ok((all, r.failures()))
+    Ok(())
+}
+
+/// Whether a source gives `wanted` until it ends or fails, and fails so often.
+fn is_drained<R: Source>(
+    alloc: Global,
+    r: &mut R,
+    wanted: &[u8],
+    failures: u32,
+) -> Result<bool, AllocError> {
+    let mut all = Vec::new(alloc);
+    drain(r, &mut all)?;
+    Ok(all.as_slice() == wanted && r.failures() == failures)
 }
 
 /// Whether a source of the text that fails at the place gives `wanted`, and fails so often.
@@ -53,8 +66,7 @@ fn gives(
     failures: u32,
 ) -> Result<bool, AllocError> {
     let mut source = SliceSource::new(TEXT, place).pieces(most.max(1));
-    let (all, failed) = drained(alloc, &mut source)?;
-    Ok(all.as_slice() == wanted && failed == failures)
+    is_drained(alloc, &mut source, wanted, failures)
 }
 
 const SIZES: [usize; 5] = [1, 2, 3, 7, 4096];
@@ -94,10 +106,17 @@ fn a_slice_gives_pieces(_rt: HostRuntime) -> Result<(), Fail> {
     Ok(())
 }
 
+/// Whether the sink takes the text and is finished, with no failure before.
+fn fills<W: Sink>(sink: &mut W) -> bool
+    requires { W.failures sink.old ≡ 0 }
+{
+    put_all(sink, TEXT).is_ok() && sink.failures() == 0 && sink.finish().is_ok()
+}
+
 /// Whether a sink that fails at the count takes `wanted` of the text, and fails so often; finishing counts.
 fn takes(alloc: Global, count: Option<usize>, most: usize, wanted: &[u8], failures: u32) -> bool {
     let mut sink = VecSink::new(alloc, count).pieces(most.max(1));
-    let done = put_all(&mut sink, TEXT).is_ok() && sink.failures() == 0 && sink.finish().is_ok();
+    let done = fills(&mut sink);
     done == (failures == 0) && sink.bytes() == wanted && sink.failures() == failures
 }
 
@@ -125,8 +144,8 @@ fn a_vec_sink_takes_all_bytes(rt: HostRuntime) -> Result<(), Fail> {
 
 #[test]
 fn a_reader_gives_its_bytes(rt: HostRuntime) -> Result<(), Fail> {
-    let (all, failures) = drained(rt.alloc(), &mut FromRead::new(TEXT))?;
-    check("a reader", all.as_slice() == TEXT && failures == 0)
+    let mut reader = FromRead::new(TEXT);
+    check("a reader", is_drained(rt.alloc(), &mut reader, TEXT, 0)?)
 }
 
 /// Whether all of these bytes are put, and how often the sink failed.
@@ -167,10 +186,10 @@ impl Read for Faltering {
 
 #[test]
 fn a_failed_read_is_not_tried_again(rt: HostRuntime) -> Result<(), Fail> {
-    let (all, failures) = drained(rt.alloc(), &mut FromRead::new(Faltering { left: 3 }))?;
+    let mut reader = FromRead::new(Faltering { left: 3 });
     check(
         "a failed read",
-        all.as_slice() == b"aaa".as_slice() && failures == 1,
+        is_drained(rt.alloc(), &mut reader, b"aaa", 1)?,
     )
 }
 

@@ -59,9 +59,14 @@ const BAD_LINES: [&[u8]; 18] = [
 /// The text of this line under a header.
 fn under(alloc: Global, header: &str, line: &[u8]) -> Result<Vec<u8>, AllocError> {
     let mut text = Vec::from_slice(alloc, header.as_bytes())?;
+    append_line(line, &mut text)?;
+    Ok(text)
+}
+
+fn append_line(line: &[u8], text: &mut Vec<u8>) -> Result<(), AllocError> {
     text.extend_from_slice(line)?;
     text.push(b'\n')?;
-    Ok(text)
+    Ok(())
 }
 
 /// The line is read as a transition, and written as `wanted`.

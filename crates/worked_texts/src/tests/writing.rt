@@ -1,21 +1,11 @@
 //! Sinks that fail while a system is written, and how often they are finished.
 ghost use Rattle.std.specs.Prelude.{None};
 
-use super::reading::{STEP, check, hiding};
-use autfmt::{Broken, Fault, Sink, VecSink, write};
-use lts::{Counter, Lts, Meter};
+use super::reading::{STEP, answer, check, hiding};
+use autfmt::{Broken, Fault, Sink, VecSink};
+use lts::{Counter, Lts};
 use std::alloc::Global;
 use std::test::Fail;
-
-/// What `write` answers, and the visits that it made.
-fn answer<W: Sink>(alloc: Global, s: &Lts<Counter>, sink: &mut W) -> (Result<(), Fault>, u128) {
-    let mut m = Counter::new();
-    if !m.has_room(0, u128::from(s.edges())) || sink.failures() != 0 {
-        return (Err(Fault::Memory), 0);
-    }
-    let answer = write(alloc, s, &mut m, sink);
-    (answer, m.visits())
-}
 
 /// Whether a sink that fails at the count, in pieces, gets the beginning of the text and the fault `Device`.
 fn fails_at(alloc: Global, s: &Lts<Counter>, count: usize, most: usize) -> bool {
@@ -35,12 +25,18 @@ fn check_ends(alloc: Global, s: &Lts<Counter>, most: usize) -> Result<(), Fail> 
     Ok(())
 }
 
+/// The same of sinks that take so many bytes at once.
+fn check_all_ends(alloc: Global, s: &Lts<Counter>) -> Result<(), Fail> {
+    for most in [1, 5, 100] {
+        check_ends(alloc, s, most)?;
+    }
+    Ok(())
+}
+
 #[test]
 fn failing_ends(rt: HostRuntime) -> Result<(), Fail> {
     let s = hiding(rt.alloc(), STEP, b"", 4096)?;
-    check_ends(rt.alloc(), &s, 1)?;
-    check_ends(rt.alloc(), &s, 5)?;
-    check_ends(rt.alloc(), &s, 100)
+    check_all_ends(rt.alloc(), &s)
 }
 
 /// A sink that takes all and counts its ends.
@@ -68,13 +64,15 @@ impl Sink for Counted {
     }
 }
 
+/// Whether the system is written by one visit, and the sink is finished once.
+fn finishes_once(alloc: Global, s: &Lts<Counter>) -> bool {
+    let mut sink = Counted { finished: 0 };
+    let (answer, visits) = answer(alloc, s, &mut sink);
+    answer.is_ok() && visits == 1 && sink.finished == 1
+}
+
 #[test]
 fn never_finishes(rt: HostRuntime) -> Result<(), Fail> {
     let s = hiding(rt.alloc(), STEP, b"", 4096)?;
-    let mut sink = Counted { finished: 0 };
-    let (answer, visits) = answer(rt.alloc(), &s, &mut sink);
-    check(
-        "finished",
-        answer.is_ok() && visits == 1 && sink.finished == 1,
-    )
+    check("finished", finishes_once(rt.alloc(), &s))
 }
