@@ -1,8 +1,8 @@
 //! The worked examples of messages and exit statuses: of faults, of runs, and of the whole program.
 ghost use Rattle.std.specs.Prelude.{◌≡◌};
 
+use super::commands::{Closed, words_of};
 use super::running::{SILENT_DETOUR, TWO_EQUAL_TARGETS, check};
-use super::words::{Closed, words_of};
 use autbis::{Disk, WordFault, cannot_open, main_program, min_program, report, report_words};
 use autfmt::{Fault, Hidden, Limits, SliceSource, VecSink};
 use quotient::Relation;
