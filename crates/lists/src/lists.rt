@@ -9,7 +9,7 @@ ghost use Rattle.lists.specs.Spans.{fingerprint_of};
 use crate::ordered::{append_merged, append_missing, has_either};
 use crate::parts::Parts;
 use crate::span::are_same;
-use lts::Memory;
+use growth::Memory;
 use std::alloc::Global;
 use std::marker::Model;
 

@@ -6,7 +6,7 @@ ghost use Rattle.lists.specs.Spans.{fingerprint_of, lists_of, AreSpans};
 ghost use Rattle.lists.specs.declared.lists.TheConstants.{MOST_LISTS};
 
 use crate::span::{Span, empty_span, fingerprint, list_of};
-use lts::Memory;
+use growth::Memory;
 use std::alloc::Global;
 use std::marker::Model;
 

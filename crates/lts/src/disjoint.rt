@@ -9,8 +9,8 @@ ghost use Rattle.lts.specs.Joining.{IsJoined, AddsShifted};
 use crate::labels::Labels;
 use crate::limits::{MOST_STATES, MOST_TRANSITIONS};
 use crate::lts::Lts;
-use crate::memory::Memory;
 use crate::meter::Meter;
+use growth::Memory;
 use std::alloc::Global;
 
 /// Whether the two systems together stay within the limits of a system in memory.

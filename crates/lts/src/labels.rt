@@ -4,7 +4,7 @@ ghost use Rattle.theory.specs.System.{IsLabel, internal};
 ghost use Rattle.lts.specs.declared.limits.TheConstants.{MOST_LABELS};
 ghost use Rattle.lts.specs.Labels.{text_of, IsNumber, IsTable, Keeps, Interns};
 
-use crate::memory::Memory;
+use growth::Memory;
 use indexmap::IndexSet;
 use std::alloc::Global;
 use std::marker::Model;

@@ -7,14 +7,13 @@ mod grouping;
 mod labels;
 mod limits;
 mod lts;
-mod memory;
 mod meter;
 mod row_laws;
 
 pub use disjoint::{fits_together, union};
+pub use growth::Memory;
 pub use labels::{Labels, is_label};
 pub use limits::{MOST_LABELS, MOST_STATES, MOST_TRANSITIONS};
 pub use lts::{Lts, in_range};
-pub use memory::Memory;
 pub use meter::{Counter, Meter};
 pub use row_laws::{rows_are_steps, rows_follow};

@@ -6,8 +6,8 @@ ghost use Rattle.lts.specs.Lts.{label_of, target_of, place_at, system_from, syst
 use crate::grouping::group;
 use crate::labels::Labels;
 use crate::limits::{MOST_STATES, MOST_TRANSITIONS};
-use crate::memory::Memory;
 use crate::meter::Meter;
+use growth::Memory;
 use std::alloc::Global;
 use std::marker::{Model, PhantomData};
 
