@@ -15,6 +15,34 @@ use theory::Relation;
 /// The version of the program, which `--version` shows.
 pub const VERSION: &str = "0.1.0";
 
+/// What help says after the list of the options.
+const NOTES: &str = "\
+Labels:
+  i is the internal action. tau, as mCRL2 writes it, is a label like any other.
+  For a system of mCRL2, hide a list of the one line tau:
+    autbis min --relation branching --hide <(echo tau) model.aut
+    echo tau | autbis min --relation branching --hide /dev/stdin model.aut
+
+Files:
+  Without FILE, min reads standard input; on a terminal it waits for a text,
+  which Ctrl-D ends. A folder cannot be read, and - is the name of a file.
+
+Exit status:
+  0  min: the system was written; cmp: TRUE; help or the version was printed
+  1  cmp: FALSE
+  2  a text or the hide list is faulty
+  3  wrong usage, or an unknown relation
+  4  out of memory
+  5  a file cannot be opened, or a read or write failed
+
+Examples:
+  autbis min --relation branching model.aut > smallest.aut
+  autbis cmp --relation branching model.aut wanted.aut
+";
+
+/// What the help of either job says last.
+const MORE: &str = "autbis --help tells of labels, exit statuses and examples.";
+
 /// What help says of `min`.
 const ABOUT_MIN: &str = "Writes the equivalent system with the fewest states";
 
@@ -92,8 +120,10 @@ fn described<'a>(alloc: Global) -> Result<Command<'a>, AllocError>
     ensures { IfOk result (λ c. app_of c ≡ program_app) }
 {
     Command::new(alloc, "autbis")
+        .bin_name("autbis")?
         .about("Minimises and compares labelled transition systems in the Aldebaran (.aut) format")
         .version(VERSION)
+        .after_help(NOTES)
         .subcommand_required(true)
         .subcommand(described_min(alloc)?)?
         .subcommand(described_cmp(alloc)?)
@@ -109,7 +139,7 @@ fn described_min<'a>(alloc: Global) -> Result<Command<'a>, AllocError>
         .arg(file(
             alloc,
             "file",
-            "The system; standard input where there is none",
+            "The system; standard input if there is none",
         ))
 }
 
@@ -134,6 +164,7 @@ fn described_job<'a>(
 {
     Command::new(alloc, name)
         .about(about)
+        .after_help(MORE)
         .arg(relation_option(alloc))?
         .arg(hide_option(alloc))
 }
@@ -147,7 +178,7 @@ fn relation_option<'a>(alloc: Global) -> Arg<'a>
         .long("relation")
         .value_name("WORD")
         .default_value("strong")
-        .help("The relation that is meant: strong or branching")
+        .help("The bisimulation: strong or branching")
 }
 
 /// What `clap` is told of `--hide FILE`.
