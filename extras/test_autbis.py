@@ -1,11 +1,17 @@
 """Tests of the module `autbis`: python3 -m unittest. AUTBIS names the program, by default the one on PATH."""
 
+import copy
 import doctest
+import io
 import os
+import pathlib
+import pickle
 import shutil
 import stat
 import tempfile
+import time
 import unittest
+from concurrent.futures import ProcessPoolExecutor
 
 import autbis
 
@@ -20,6 +26,15 @@ def example(name):
         return file.read()
 
 
+def path(name):
+    return pathlib.Path(EXAMPLES, name)
+
+
+def raise_fault(text):
+    """Stands outside of all classes, as another process has to find it."""
+    minimise(text)
+
+
 def minimise(*args, **options):
     return autbis.minimise(*args, program=PROGRAM, **options)
 
@@ -29,6 +44,10 @@ def equivalent(*args, **options):
 
 
 class Answers(unittest.TestCase):
+    def test_version(self):
+        with open(os.path.join(EXAMPLES, "..", "manual", "version.txt"), encoding="ascii") as file:
+            self.assertEqual(f"autbis {autbis.__version__}\n", file.read())
+
     def test_minimise(self):
         for relation in ("strong", "branching"):
             wanted = example(f"mutual-exclusion.{relation}.aut")
@@ -64,6 +83,86 @@ class Answers(unittest.TestCase):
         self.assertFalse(equivalent(LATE, EARLY))
         self.assertTrue(equivalent(example("coffee-machine.aut"), example("coffee-machine.strong.aut")))
         self.assertFalse(equivalent(example("coffee-machine.aut"), example("coffee-chosen-by-coin.aut")))
+
+
+class Inputs(unittest.TestCase):
+    """What a system, a hide list and a program may be."""
+
+    def setUp(self):
+        self.folder = pathlib.Path(self.enterContext(tempfile.TemporaryDirectory()))
+
+    def enterContext(self, context):
+        self.addCleanup(context.__exit__, None, None, None)
+        return context.__enter__()
+
+    def test_a_path(self):
+        wanted = example("mutual-exclusion.branching.aut")
+        self.assertEqual(minimise(path("mutual-exclusion.aut"), "branching"), wanted)
+        self.assertTrue(equivalent(path("mutual-exclusion.aut"), path("mutual-exclusion.branching.aut"), "branching"))
+        self.assertFalse(equivalent(path("coffee-machine.aut"), example("coffee-chosen-by-coin.aut")))
+
+    def test_a_path_that_is_relative_begins_with_a_minus_sign_and_has_a_blank(self):
+        self.addCleanup(os.chdir, os.getcwd())
+        os.chdir(self.folder)
+        pathlib.Path("-a b.aut").write_text(LATE, encoding="ascii")
+        self.assertTrue(equivalent(pathlib.Path("-a b.aut"), LATE))
+
+    def test_an_open_file(self):
+        wanted = example("mutual-exclusion.branching.aut")
+        with open(path("mutual-exclusion.aut"), encoding="ascii") as text, open(path("mutual-exclusion.aut"), "rb") as binary:
+            self.assertEqual(minimise(text, "branching"), wanted)
+            self.assertEqual(minimise(binary, "branching"), wanted)
+        self.assertTrue(equivalent(io.StringIO(LATE), io.BytesIO(LATE.encode("ascii"))))
+
+    def test_bytes(self):
+        text = LATE.encode("ascii")
+        for given in (text, bytearray(text), memoryview(text)):
+            self.assertTrue(equivalent(given, LATE))
+
+    def test_the_name_of_a_file_as_a_str(self):
+        with self.assertRaisesRegex(ValueError, "pass pathlib.Path"):
+            minimise(str(path("coffee-machine.aut")))
+
+    def test_what_is_no_system(self):
+        for given in (None, 3, ["des (0, 0, 1)\n"], object()):
+            with self.assertRaisesRegex(TypeError, "a system is a str, bytes, an os.PathLike or an open file"):
+                minimise(given)
+
+    def test_hide_lists(self):
+        wanted = example("alternating-bit.hidden.branching.aut")
+        system, hide = path("alternating-bit.aut"), path("alternating-bit.hide")
+        self.assertEqual(minimise(system, "branching", hide=hide), wanted)
+        with open(hide, encoding="ascii") as text:
+            self.assertEqual(minimise(system, "branching", hide=text), wanted)
+        self.assertEqual(minimise(LATE, "branching", hide=[b"a", "b", bytearray(b"c")]), "des (0, 0, 1)\n")
+
+    def test_what_is_no_hide_list(self):
+        for given in ("a", b"a", None, 3, [None], [3]):
+            with self.assertRaises(TypeError):
+                minimise(LATE, hide=given)
+        with self.assertRaises(ValueError):
+            minimise(LATE, hide=[b"a\nb"])
+
+    def test_a_program_by_its_path(self):
+        program = pathlib.Path(shutil.which(PROGRAM))
+        self.assertTrue(autbis.equivalent(LATE, LATE, program=program))
+
+
+class CountsOfARun(unittest.TestCase):
+    def test_counts(self):
+        smallest, counts = autbis.minimise_with_counts(EARLY, program=PROGRAM)
+        self.assertEqual(smallest, minimise(EARLY))
+        self.assertEqual((counts.states, counts.transitions), (5, 4))
+        self.assertEqual(counts.allowance, (counts.rounds + 2) * counts.transitions)
+        self.assertLessEqual(counts.rounds * counts.transitions, counts.visits)
+        self.assertLessEqual(counts.visits, counts.allowance)
+        _, counts = autbis.minimise_with_counts(EARLY, "branching", hide=["b", "c"], program=PROGRAM)
+        self.assertEqual((counts.states, counts.transitions), (5, 4))
+        self.assertEqual(counts.allowance, (counts.rounds * counts.states + 2) * counts.transitions)
+
+    def test_a_fault(self):
+        with self.assertRaises(autbis.TextFault):
+            autbis.minimise_with_counts("x", program=PROGRAM)
 
 
 class Pages(unittest.TestCase):
@@ -123,20 +222,116 @@ class Faults(unittest.TestCase):
             minimise(LATE, "weak")
         self.assertEqual(str(caught.exception), "autbis: unknown relation: weak")
 
+    def test_the_file_is_named(self):
+        name = os.path.join(EXAMPLES, "verdicts")
+        for systems in ((pathlib.Path(name), LATE), (LATE, pathlib.Path(name))):
+            with self.assertRaises(autbis.TextFault) as caught:
+                equivalent(*systems)
+            fault = caught.exception
+            self.assertEqual((fault.name, fault.line, fault.fault), (name, None, "bad header"))
+            self.assertEqual(str(fault), f"autbis: {name}: bad header")
+        with self.assertRaises(autbis.TextFault) as caught, open(name, encoding="ascii") as file:
+            minimise(file)
+        self.assertEqual(caught.exception.name, name)
+        with self.assertRaises(autbis.TextFault) as caught:
+            minimise(LATE, hide=pathlib.Path(EXAMPLES, "coffee-machine.aut"))
+        fault = caught.exception
+        self.assertEqual((fault.where, os.path.basename(fault.name)), ("hide", "coffee-machine.aut"))
+        self.assertEqual((fault.line, fault.fault), (1, "not a label"))
+
+    def test_a_text_is_named_by_its_place(self):
+        with self.assertRaises(autbis.TextFault) as caught:
+            minimise("des (0, 1, 2)\n(0, a, 2)\n")
+        self.assertEqual((caught.exception.name, caught.exception.line), ("text", 2))
+
+    def test_a_file_that_is_not_there(self):
+        with self.assertRaises(autbis.DeviceFault) as caught:
+            minimise(pathlib.Path("no-such.aut"))
+        self.assertEqual(str(caught.exception), "autbis: no-such.aut: cannot open")
+
     def test_no_program(self):
-        with self.assertRaises(FileNotFoundError):
+        with self.assertRaisesRegex(FileNotFoundError, "the program is not installed, or not on PATH: 'no-such-autbis'"):
             autbis.minimise(LATE, program="no-such-autbis")
 
+
+class OtherPrograms(unittest.TestCase):
+    """A program that does not do what autbis does."""
+
+    def setUp(self):
+        folder = tempfile.TemporaryDirectory()
+        self.addCleanup(folder.cleanup)
+        self.fake = pathlib.Path(folder.name, "fake")
+
+    def does(self, script):
+        self.fake.write_text(f"#!/bin/sh\n{script}\n", encoding="ascii")
+        self.fake.chmod(stat.S_IRWXU)
+
     def test_statuses_that_are_hard_to_bring_about(self):
-        """A program that only ends: without memory, by a failed read, by a signal."""
-        with tempfile.TemporaryDirectory() as folder:
-            fake = os.path.join(folder, "fake")
-            for end, wanted in (("exit 4", autbis.OutOfMemory), ("exit 5", autbis.DeviceFault), ("kill -9 $$", autbis.Fault)):
-                with open(fake, "w", encoding="ascii") as file:
-                    file.write(f"#!/bin/sh\n{end}\n")
-                os.chmod(fake, stat.S_IRWXU)
-                with self.assertRaises(wanted):
-                    autbis.equivalent(LATE, LATE, program=fake)
+        for end, wanted in (("exit 4", autbis.OutOfMemory), ("exit 5", autbis.DeviceFault), ("kill -9 $$", autbis.Fault)):
+            self.does(end)
+            with self.assertRaisesRegex(wanted, "fake ended with status"):
+                autbis.equivalent(LATE, LATE, program=self.fake)
+
+    def test_no_answer_is_taken_for_one(self):
+        for end in ("", "exit 1", "echo FALSE", "echo TRUE; exit 1", "echo help"):
+            self.does(end)
+            with self.assertRaisesRegex(autbis.Fault, "no answer of autbis"):
+                autbis.equivalent(LATE, LATE, program=self.fake)
+        for end in ("", "echo help"):
+            self.does(end)
+            with self.assertRaisesRegex(autbis.Fault, "no answer of autbis"):
+                autbis.minimise(LATE, program=self.fake)
+        self.does("echo 'des (0, 0, 1)'")
+        with self.assertRaisesRegex(autbis.Fault, "no answer of autbis"):
+            autbis.minimise_with_counts(LATE, program=self.fake)
+
+    def test_a_timeout_ends_the_program(self):
+        number = self.fake.with_name("number")
+        self.does(f"echo $$ >'{number}'\nexec sleep 60")
+        begun = time.monotonic()
+        with self.assertRaisesRegex(autbis.TimedOut, "autbis: no answer in 0.5 seconds"):
+            autbis.minimise(LATE, program=self.fake, timeout=0.5)
+        self.assertLess(time.monotonic() - begun, 30)
+        with self.assertRaises(ProcessLookupError):
+            os.kill(int(number.read_text(encoding="ascii")), 0)
+
+    def test_an_answer_in_time(self):
+        self.assertTrue(equivalent(LATE, LATE, timeout=60))
+
+
+class Copies(unittest.TestCase):
+    """Each exception can be pickled and copied."""
+
+    FAULTS = (
+        autbis.Fault(70, "not built"),
+        autbis.TextFault(2, "autbis: a.aut: line 2: not a transition", "text", "a.aut", 2, "not a transition"),
+        autbis.TextFault(2, "autbis: hide: too many hidden labels", "hide", "hide", None, "too many hidden labels"),
+        autbis.UsageFault(3, "autbis: unknown relation: weak"),
+        autbis.OutOfMemory(4, "autbis: out of memory"),
+        autbis.DeviceFault(5, "autbis: read or write failed"),
+        autbis.TimedOut(-9, "autbis: no answer in 1 seconds"),
+    )
+
+    def test_each_exception_is_tried(self):
+        named = {getattr(autbis, name) for name in autbis.__all__}
+        wanted = {it for it in named if isinstance(it, type) and issubclass(it, Exception)}
+        self.assertEqual({type(it) for it in self.FAULTS}, wanted)
+
+    def test_copies(self):
+        for fault in self.FAULTS:
+            pickled = [pickle.loads(pickle.dumps(fault, protocol)) for protocol in range(pickle.HIGHEST_PROTOCOL + 1)]
+            for other in (*pickled, copy.copy(fault), copy.deepcopy(fault)):
+                self.assertIs(type(other), type(fault))
+                self.assertEqual((str(other), vars(other)), (str(fault), vars(fault)))
+
+    def test_a_fault_in_another_process(self):
+        with ProcessPoolExecutor(1) as pool:
+            with self.assertRaises(autbis.TextFault) as caught:
+                pool.submit(raise_fault, "des (0, 1, 2)\n(0, a, 2)\n").result()
+            fault = caught.exception
+            self.assertEqual((fault.name, fault.line, fault.fault), ("text", 2, "target out of range"))
+            with self.assertRaises(autbis.DeviceFault):
+                pool.submit(raise_fault, pathlib.Path("no-such.aut")).result()
 
 
 if __name__ == "__main__":

@@ -1,0 +1,272 @@
+"""Minimises and compares labelled transition systems by the installed program `autbis`.
+
+>>> import autbis
+>>> print(autbis.minimise('des (0, 2, 3)\\n(0, coin, 1)\\n(0, coin, 2)\\n'), end='')
+des (0, 1, 2)
+(0, coin, 1)
+>>> autbis.equivalent('des (0, 1, 2)\\n(0, i, 1)\\n', 'des (0, 0, 1)\\n', relation='branching')
+True
+
+A system is the text of an `.aut` file as `str` or `bytes`, the path of such a file as an `os.PathLike`, such as a
+`pathlib.Path`, or an open file, which is read to its end. A `str` is never taken for a path.
+
+`relation` is 'strong' or 'branching'. `hide` lists the labels that are made internal first, each a `str` or `bytes`, as
+they are and without quotation marks round them; or it is the path of a hide list as an `os.PathLike`, or an open hide
+list. `program` is the program to run, a `str` or an `os.PathLike`, by default `autbis` on PATH. `timeout` is in
+seconds, and None waits for ever.
+"""
+
+from __future__ import annotations
+
+import errno
+import os
+import re
+import shutil
+import signal
+import subprocess
+import tempfile
+from typing import IO, Dict, Iterable, List, NamedTuple, Optional, Tuple, Union
+
+__version__ = "0.1.0"
+
+__all__ = [
+    "minimise",
+    "minimise_with_counts",
+    "equivalent",
+    "Counts",
+    "Fault",
+    "TextFault",
+    "UsageFault",
+    "OutOfMemory",
+    "DeviceFault",
+    "TimedOut",
+]
+
+System = Union[str, bytes, "os.PathLike[str]", IO[str], IO[bytes]]
+Labels = Union[Iterable[Union[str, bytes]], "os.PathLike[str]", IO[str], IO[bytes]]
+Program = Union[str, "os.PathLike[str]"]
+
+
+class Counts(NamedTuple):
+    """The line of `--stats`: the sizes of the system that was read, and the counts of the run."""
+
+    states: int
+    transitions: int
+    rounds: int
+    visits: int
+    allowance: int
+
+
+class Fault(Exception):
+    """There is no answer. `status` is the exit status of the program, and `message` what it said."""
+
+    def __init__(self, status: int, message: str) -> None:
+        super().__init__(status, message)
+        self.status = status
+        self.message = message
+
+    def __str__(self) -> str:
+        return self.message
+
+
+class TextFault(Fault):
+    """A system or the hide list is faulty.
+
+    `where` says which: 'text', 'first', 'second' or 'hide'. `name` is the name of its file, or `where` if it has none.
+    `line` is the number of the faulty line, or None if the fault names none. `fault` says what is wrong.
+    """
+
+    def __init__(
+        self, status: int, message: str, where: Optional[str], name: Optional[str], line: Optional[int], fault: str
+    ) -> None:
+        super().__init__(status, message)
+        # A pickled exception is made anew from these.
+        self.args = (status, message, where, name, line, fault)
+        self.where = where
+        self.name = name
+        self.line = line
+        self.fault = fault
+
+
+class UsageFault(Fault):
+    """The relation is unknown, or the program takes other words."""
+
+
+class OutOfMemory(Fault):
+    """A growth was refused."""
+
+
+class DeviceFault(Fault):
+    """A file cannot be opened, or a read or write failed."""
+
+
+class TimedOut(Fault):
+    """There was no answer in time, and the program was ended."""
+
+
+_FAULTS = {3: UsageFault, 4: OutOfMemory, 5: DeviceFault}
+
+
+def minimise(
+    text: System,
+    relation: str = "strong",
+    hide: Labels = (),
+    program: Program = "autbis",
+    timeout: Optional[float] = None,
+) -> str:
+    """Returns the text of the equivalent system with the fewest states.
+
+    Raises a Fault if there is none, and FileNotFoundError if the program is not installed.
+    """
+    return _text(_run(program, ["min"], relation, hide, {"text": text}, timeout))
+
+
+def minimise_with_counts(
+    text: System,
+    relation: str = "strong",
+    hide: Labels = (),
+    program: Program = "autbis",
+    timeout: Optional[float] = None,
+) -> Tuple[str, Counts]:
+    """As `minimise`, and returns the counts of `--stats` too."""
+    ran = _run(program, ["min", "--stats"], relation, hide, {"text": text}, timeout)
+    line = re.fullmatch(rb"stats: states (\d+) transitions (\d+) rounds (\d+) visits (\d+) allowance (\d+)\n", ran.stderr)
+    if line is None:
+        raise _no_answer(ran)
+    return _text(ran), Counts(*map(int, line.groups()))
+
+
+def equivalent(
+    a: System,
+    b: System,
+    relation: str = "strong",
+    hide: Labels = (),
+    program: Program = "autbis",
+    timeout: Optional[float] = None,
+) -> bool:
+    """Returns whether the two systems are equivalent.
+
+    Raises a Fault if there is no answer, and FileNotFoundError if the program is not installed.
+    """
+    ran = _run(program, ["cmp"], relation, hide, {"first": a, "second": b}, timeout)
+    verdict = {(0, b"TRUE\n"): True, (1, b"FALSE\n"): False}.get((ran.returncode, ran.stdout))
+    if verdict is None:
+        raise _no_answer(ran)
+    return verdict
+
+
+class _Input(NamedTuple):
+    """A file that the program reads: which one it is, its word on the command line, and the name that faults give it."""
+
+    where: str
+    word: str
+    name: str
+
+
+def _run(
+    program: Program,
+    words: List[str],
+    relation: str,
+    hide: Labels,
+    systems: Dict[str, System],
+    timeout: Optional[float],
+) -> subprocess.CompletedProcess[bytes]:
+    """Runs the program on the systems. Raises a Fault if it ended with a status that is that of none of its answers."""
+    found = shutil.which(os.fspath(program))
+    if found is None:
+        raise FileNotFoundError(errno.ENOENT, "the program is not installed, or not on PATH", os.fspath(program))
+    with tempfile.TemporaryDirectory(prefix="autbis-") as folder:
+        inputs = [_input(folder, where, system) for where, system in systems.items()]
+        files = [it.word for it in inputs]
+        hidden = _hidden(folder, hide)
+        if hidden is not None:
+            inputs.append(hidden)
+            words = [*words, f"--hide={hidden.word}"]
+        command = [os.path.abspath(found), *words, f"--relation={relation}", "--", *files]
+        try:
+            ran = subprocess.run(command, cwd=folder, stdin=subprocess.DEVNULL, capture_output=True, timeout=timeout)
+        except subprocess.TimeoutExpired:
+            raise TimedOut(-signal.SIGKILL, f"autbis: no answer in {timeout} seconds") from None
+    if ran.returncode == 0 or (ran.returncode == 1 and words[0] == "cmp"):
+        return ran
+    raise _fault(ran, inputs)
+
+
+def _text(ran: subprocess.CompletedProcess[bytes]) -> str:
+    """Returns the system that was written."""
+    if not ran.stdout.startswith(b"des ("):
+        raise _no_answer(ran)
+    return ran.stdout.decode("ascii")
+
+
+def _no_answer(ran: subprocess.CompletedProcess[bytes]) -> Fault:
+    return Fault(ran.returncode, f"{ran.args[0]} ended with status {ran.returncode} and no answer of autbis")
+
+
+def _fault(ran: subprocess.CompletedProcess[bytes], inputs: List[_Input]) -> Fault:
+    """Returns the fault of the message, which names each file as the caller does."""
+    message = ran.stderr.decode("utf-8", "replace").rstrip("\n")
+    rest, named = message, None
+    for it in inputs:
+        prefix = f"autbis: {it.word}: "
+        # Of two names that fit, the longer one is meant.
+        if message.startswith(prefix) and len(message) - len(prefix) < len(rest):
+            rest, named = message[len(prefix) :], it
+    if named is not None:
+        message = f"autbis: {named.name}: {rest}"
+    if ran.returncode == 2:
+        line = re.fullmatch(r"line (\d+): (.*)", rest)
+        where, name = (None, None) if named is None else (named.where, named.name)
+        return TextFault(2, message, where, name, int(line[1]) if line else None, line[2] if line else rest)
+    if not message:
+        message = f"{ran.args[0]} ended with status {ran.returncode}"
+    return _FAULTS.get(ran.returncode, Fault)(ran.returncode, message)
+
+
+def _input(folder: str, where: str, source: object) -> _Input:
+    """Returns the file of a system or a hide list. That of a text or of an open file is written into the folder."""
+    if isinstance(source, os.PathLike):
+        name = os.fsdecode(source)
+        return _Input(where, os.path.abspath(name), name)
+    name = where
+    text = source
+    if isinstance(source, str) and _is_file(source):
+        raise ValueError(f"a str is the text of a system, and this is the name of a file: pass pathlib.Path({source!r})")
+    if not isinstance(source, (str, bytes, bytearray, memoryview)) and hasattr(source, "read"):
+        text = source.read()
+        given = getattr(source, "name", where)
+        name = given if isinstance(given, str) else where
+    if not isinstance(text, (str, bytes, bytearray, memoryview)):
+        raise TypeError(f"a system is a str, bytes, an os.PathLike or an open file, and not {type(source).__name__}")
+    with open(os.path.join(folder, where), "wb") as file:
+        file.write(_bytes(text))
+    return _Input(where, where, name)
+
+
+def _is_file(text: str) -> bool:
+    return "\n" not in text and "\0" not in text and os.path.isfile(text)
+
+
+def _bytes(text: Union[str, bytes]) -> bytes:
+    """Returns the bytes of a text. What is not ASCII becomes bytes that the program refuses."""
+    return text.encode("utf-8", "surrogatepass") if isinstance(text, str) else bytes(text)
+
+
+def _hidden(folder: str, hide: Labels) -> Optional[_Input]:
+    """Returns the file of the hide list, or None if nothing is hidden."""
+    if isinstance(hide, (str, bytes, bytearray, memoryview)):
+        raise TypeError("hide is a list of labels, an os.PathLike or an open file, and not one text")
+    if isinstance(hide, os.PathLike) or hasattr(hide, "read"):
+        return _input(folder, "hide", hide)
+    lines = b"".join(map(_label, hide))
+    return _input(folder, "hide", lines) if lines else None
+
+
+def _label(label: Union[str, bytes]) -> bytes:
+    """Returns the line of a hide list for this label: between quotation marks, which may stand round any label."""
+    if not isinstance(label, (str, bytes, bytearray)):
+        raise TypeError(f"a label is a str or bytes, and not {type(label).__name__}")
+    text = _bytes(label)
+    if b"\n" in text:
+        raise ValueError(f"a label has no line feed: {label!r}")
+    return b'"' + text + b'"\n'

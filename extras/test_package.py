@@ -1,0 +1,75 @@
+"""Tests of what comes round the module `autbis`: its installation by pip, and its annotations. AUTBIS names the program."""
+
+import importlib.util
+import os
+import pathlib
+import shutil
+import subprocess
+import sys
+import tempfile
+import unittest
+
+PROGRAM = os.environ.get("AUTBIS", "autbis")
+HERE = pathlib.Path(__file__).resolve().parent
+USE = """
+import pathlib
+from typing import Optional
+
+import autbis
+
+smallest: str = autbis.minimise(pathlib.Path("a.aut"), hide=["tau", b"put"], program=pathlib.Path("autbis"), timeout=2.5)
+with open("a.aut", encoding="ascii") as text, open("b.aut", "rb") as binary:
+    same: bool = autbis.equivalent(text, binary, "branching", hide=pathlib.Path("a.hide"))
+text_again, counts = autbis.minimise_with_counts(b"des (0, 0, 1)", hide=(label for label in "ab"))
+rounds: int = counts.rounds
+try:
+    autbis.minimise(text_again)
+except autbis.TextFault as fault:
+    name: Optional[str] = fault.name
+    line: Optional[int] = fault.line
+    what: str = fault.fault
+"""
+
+
+class Package(unittest.TestCase):
+    def setUp(self):
+        folder = tempfile.TemporaryDirectory()
+        self.addCleanup(folder.cleanup)
+        self.folder = pathlib.Path(folder.name)
+
+    def run_in_folder(self, *words, **variables):
+        return subprocess.run(
+            list(map(str, words)),
+            cwd=self.folder,
+            env={**os.environ, **variables},
+            stdout=subprocess.PIPE,
+            stderr=subprocess.STDOUT,
+            universal_newlines=True,
+        )
+
+    @unittest.skipUnless(importlib.util.find_spec("pip"), "there is no pip to install with")
+    def test_pip_installs_the_module(self):
+        shutil.copytree(HERE, self.folder / "extras")
+        words = ("-m", "pip", "--disable-pip-version-check", "install", "--no-index", "--target", "fresh", "./extras")
+        installed = self.run_in_folder(sys.executable, *words)
+        self.assertEqual(installed.returncode, 0, installed.stdout)
+        shutil.rmtree(self.folder / "extras")
+        self.assertTrue((self.folder / "fresh" / "autbis" / "py.typed").exists())
+        shown = "import autbis; print(autbis.minimise('des (0, 2, 3)\\n(0, coin, 1)\\n(0, coin, 2)\\n'), end='')"
+        without = self.run_in_folder(sys.executable, "-c", shown, PATH=str(self.folder), PYTHONPATH="fresh")
+        self.assertEqual(without.returncode, 1)
+        self.assertIn("the program is not installed, or not on PATH: 'autbis'", without.stdout)
+        (self.folder / "autbis").symlink_to(shutil.which(PROGRAM))
+        answer = self.run_in_folder(sys.executable, "-c", shown, PATH=str(self.folder), PYTHONPATH="fresh")
+        self.assertEqual(answer.stdout, "des (0, 1, 2)\n(0, coin, 1)\n")
+
+    @unittest.skipUnless(importlib.util.find_spec("mypy"), "there is no mypy to check types with")
+    def test_annotations_are_accepted_in_strict_mode(self):
+        (self.folder / "use.py").write_text(USE, encoding="ascii")
+        words = ("-m", "mypy", "--strict", "--cache-dir", self.folder / "cache", "use.py", HERE / "autbis")
+        checked = self.run_in_folder(sys.executable, *words, MYPYPATH=str(HERE))
+        self.assertEqual(checked.returncode, 0, checked.stdout)
+
+
+if __name__ == "__main__":
+    unittest.main()
