@@ -1,15 +1,28 @@
 # Completions of autbis for bash. manual/try compares them with what --help lists.
+
+# Completes the name of a system: files that end in .aut come first, then folders. If there are none, bash completes the name of any file.
+_autbis_system() {
+    local name
+    compopt -o filenames -o nosort 2>/dev/null || return
+    while IFS= read -r name; do
+        [[ -d $name ]] || COMPREPLY+=("$name")
+    done < <(compgen -f -X '!*.aut' -- "$1" | LC_ALL=C sort)
+    while IFS= read -r name; do
+        COMPREPLY+=("$name")
+    done < <(compgen -d -- "$1" | LC_ALL=C sort)
+}
+
 _autbis() {
-    local word=${COMP_WORDS[COMP_CWORD]} before=${COMP_WORDS[COMP_CWORD - 1]} command= place words=
+    local word=${COMP_WORDS[COMP_CWORD]} before=${COMP_WORDS[COMP_CWORD - 1]} command='' ended='' place words=''
     # bash takes --relation=strong for three words.
     if [[ $word == = ]]; then
-        word=
+        word=''
     elif [[ $before == = ]]; then
         before=${COMP_WORDS[COMP_CWORD - 2]}
     fi
     for ((place = 1; place < COMP_CWORD; place++)); do
         case ${COMP_WORDS[place]} in
-            --) return ;;
+            --) ended=yes ;;
             min | cmp | help) command=${command:-${COMP_WORDS[place]}} ;;
         esac
     done
@@ -21,9 +34,13 @@ _autbis() {
         min:*) words="--relation --hide --stats -h --help" ;;
         cmp:*) words="--relation --hide -h --help" ;;
     esac
-    # Where a file may stand, no word is given unless it begins as an option does, and bash completes the names of files.
-    if [[ $command == "" || $command == help || $before == --relation || $word == -* ]]; then
-        COMPREPLY=($(compgen -W "$words" -- "$word"))
+    COMPREPLY=()
+    if [[ $ended || $word != -* && $command == @(min|cmp) && $before != @(--relation|--hide) ]]; then
+        [[ ! $command ]] || _autbis_system "$word"
+    else
+        while IFS= read -r word; do
+            COMPREPLY+=("$word")
+        done < <(compgen -W "$words" -- "$word")
     fi
 }
 complete -o default -F _autbis autbis

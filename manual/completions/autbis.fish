@@ -12,4 +12,5 @@ complete -c autbis -n '__fish_seen_subcommand_from min' -s h -l help -d 'print h
 complete -c autbis -n '__fish_seen_subcommand_from cmp' -l relation -x -a 'strong branching' -d 'select the bisimulation'
 complete -c autbis -n '__fish_seen_subcommand_from cmp' -l hide -r -F -d 'make the labels of this list internal first'
 complete -c autbis -n '__fish_seen_subcommand_from cmp' -s h -l help -d 'print help'
+complete -c autbis -n '__fish_seen_subcommand_from min cmp' -f -k -a '(__fish_complete_suffix .aut)'
 complete -c autbis -n '__fish_seen_subcommand_from help' -f -a 'min cmp help'
