@@ -156,7 +156,7 @@ def equivalent(
 
 
 class _Input(NamedTuple):
-    """A file that the program reads: which one it is, its word on the command line, and the name that faults give it."""
+    """A file that the program reads: which one it is, its word on the command line, and its name in a fault."""
 
     where: str
     word: str
@@ -231,7 +231,7 @@ def _input(folder: str, where: str, source: object) -> _Input:
     name = where
     text = source
     if isinstance(source, str) and _is_file(source):
-        raise ValueError(f"a str is the text of a system, and this is the name of a file: pass pathlib.Path({source!r})")
+        raise ValueError(f"a str is the text of a system, and this names a file: pass pathlib.Path({source!r})")
     if not isinstance(source, (str, bytes, bytearray, memoryview)) and hasattr(source, "read"):
         text = source.read()
         given = getattr(source, "name", where)
