@@ -227,21 +227,24 @@ class Box(NamedTuple):
 
 def put_labels(ways, labels, circles, look):
     """Puts each label beside its way: as near to the middle as it is clear of all ways, states and other labels."""
+    visible = [(way, label) for way, label in zip(ways, labels) if label != "i" and look.font]
     put = []
-    for way, label in sorted(zip(ways, labels), key=lambda one: len(one[0])):
-        if label == "i" or not look.font:
-            continue
+    for way, label in sorted(visible, key=lambda one: len(one[0])):
+        middle, reach = way[len(way) // 2], 3 * len(way) + 10 * look.font  # what is farther off is not looked at
+        is_near = lambda place: abs(place - middle) < reach
         own = list(map(Box, way))
-        others = [*map(Box, set(itertools.chain(*ways)) - set(way)), *circles, *(box for box, _ in put)]
-        badness = lambda one: one[1] + crowding(one[0], own, others, look.font)
+        elsewhere = filter(is_near, set(itertools.chain(*ways)) - set(way))
+        others = [*map(Box, elsewhere), *circles, *(box for box, _ in put)]
+        rivals = [Box(place) for other, _ in visible if other is not way for place in filter(is_near, other)]
+
+        def badness(place):
+            box, bad = place
+            near, far, next_way = (min(map(box.gap, boxes), default=look.font) for boxes in (own, others, rivals))
+            bad += 1000 * (min(near, far) < CLEAR) + 2 * max(0, look.font - far)
+            return bad + 20 * max(0, near + CLEAR - next_way)
+
         put.append((min(beside(way, label, look), key=badness)[0], label))
     return put
-
-
-def crowding(box, own, others, wanted):
-    """How bad it is that others are nearer to a box than is wanted, or nearer than its own way."""
-    near, far = (min(map(box.gap, boxes)) for boxes in (own, others))
-    return 1000 * (min(near, far) < CLEAR) + 20 * max(0, near + CLEAR - far) + 2 * max(0, wanted - far)
 
 
 def beside(way, label, look):
