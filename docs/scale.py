@@ -12,6 +12,7 @@ script takes itself are not seen.
 import math
 import os
 import re
+import statistics
 import subprocess
 import sys
 import threading
@@ -20,6 +21,8 @@ HERE = os.path.dirname(os.path.abspath(__file__))
 LONGEST = 60  # seconds
 LEAST = 15  # megabytes, about what this script takes
 RELATIONS = {"strong": "#2166ac", "branching": "#d6604d"}
+GREY = "#555"
+FAR = 3  # times more or less than the line says, for a name
 
 
 def run(words):
@@ -85,59 +88,122 @@ def cell(column, word):
 
 
 class Panel:
-    """One plot with two logarithmic axes, from powers of ten to powers of ten."""
+    """One plot with two logarithmic axes, each from a value to a value, and the line of slope 1 at the median."""
 
-    SIDE = 230
+    SIDE = 300
 
-    def __init__(self, left, title, across, up):
-        self.left, self.across, self.up = left, across, up
-        self.parts = [f'<text x="{left + self.SIDE / 2}" y="14">{title}</text>']
-        for power in range(across[0], across[1] + 1):
-            x = self.x(10**power)
-            self.parts.append(f'<path d="M{x:.1f} 24v{self.SIDE}"/>')
-            self.parts.append(f'<text x="{x:.1f}" y="{self.SIDE + 40}">{spelled(power)}</text>')
-        for power in range(up[0], up[1] + 1):
-            y = self.y(10**power)
+    def __init__(self, left, top, title, across, up, line):
+        self.left, self.top, self.across, self.up, self.line = left, top, across, up, line
+        self.parts = [f'<text class="title" x="{left}" y="{top - 12}">{title}</text>']
+        for value in ticks(across):
+            x = self.x(value)
+            self.parts.append(f'<path d="M{x:.1f} {top}v{self.SIDE}"/>')
+            self.parts.append(f'<text x="{x:.1f}" y="{top + self.SIDE + 16}">{spelled(value)}</text>')
+        for value in ticks(up):
+            y = self.y(value)
             self.parts.append(f'<path d="M{left} {y:.1f}h{self.SIDE}"/>')
-            self.parts.append(f'<text x="{left - 6}" y="{y + 4:.1f}" text-anchor="end">{spelled(power)}</text>')
+            self.parts.append(f'<text class="end" x="{left - 6}" y="{y + 4:.1f}">{spelled(value)}</text>')
+        self.points = []
 
     def x(self, value):
         low, high = self.across
-        return self.left + self.SIDE * (math.log10(value) - low) / (high - low)
+        return self.left + self.SIDE * math.log(value / low) / math.log(high / low)
 
     def y(self, value):
         low, high = self.up
-        return 24 + self.SIDE * (high - math.log10(value)) / (high - low)
+        return self.top + self.SIDE * math.log(high / max(value, low)) / math.log(high / low)
 
-    def put(self, relation, across, up):
-        place = f'cx="{self.x(across):.1f}" cy="{self.y(max(up, 10 ** self.up[0])):.1f}"'
-        self.parts.append(f'<circle {place} r="3" fill="{RELATIONS[relation]}" fill-opacity="0.75"/>')
+    def put(self, name, colour, across, up):
+        self.points.append((name, colour, across, up))
+
+    def drawn(self):
+        """The elements: the line and its words, the points, and the names of those far from the line."""
+        yield from self.parts
+        rate = statistics.median(up / across for _, _, across, up in self.points if up > self.up[0])
+        start, end = max(self.across[0], self.up[0] / rate), min(self.across[1], self.up[1] / rate)
+        (x, y), (x_2, y_2) = ((self.x(value), self.y(value * rate)) for value in (start, end))
+        yield f'<path class="line" d="M{x:.1f} {y:.1f}L{x_2:.1f} {y_2:.1f}"/>'
+        places = [(self.x(across), self.y(up)) for _, _, across, up in self.points]
+        for place, (_, colour, _, _) in zip(places, self.points):
+            yield f'<circle cx="{place[0]:.1f}" cy="{place[1]:.1f}" r="4" fill="{colour}" fill-opacity="0.75"/>'
+        places += [(x + part / 60 * (x_2 - x), y + part / 60 * (y_2 - y)) for part in range(61)]
+        taken = [(x - 4, y - 4, x + 4, y + 4) for x, y in places]
+        for (name, colour), (_, across, up) in self.outliers(rate).items():
+            yield self.named(name, across, up, colour, taken)
+        middle = math.sqrt(start * end)
+        yield self.named(self.line(rate), middle, middle * rate, GREY, taken)
+
+    def outliers(self, rate):
+        """For each system and relation, the point that is farthest from the line, if that is far, and how far."""
+        found = {}
+        for name, colour, across, up in self.points:
+            far = abs(math.log(max(up, self.up[0]) / across / rate))
+            key = re.sub(r" \d+$", "", name), colour
+            if far > math.log(FAR) and far > found.get(key, (0,))[0]:
+                found[key] = far, across, up
+        return found
+
+    def named(self, words, across, up, colour, taken):
+        """Words beside a point, where nothing else is, and notes their room in `taken`."""
+        x, y, wide = self.x(across), self.y(up), 6.6 * len(words)
+        lefts = x + 7, x - 7 - wide, x - wide / 2, x + 20, x - 20 - wide
+        middles = (y + down for down in (0, -13, 13, -26, 26, -39, 39))
+        rooms = [(left, middle - 6, left + wide, middle + 6) for middle in middles for left in lefts]
+        meets = lambda a, b: a[0] < b[2] and b[0] < a[2] and a[1] < b[3] and b[1] < a[3]
+
+        def badness(room):
+            outside = room[0] < self.left or room[2] > self.left + self.SIDE + 35 or room[3] > self.top + self.SIDE
+            return 100 * outside + sum(meets(room, other) for other in taken)
+
+        room = min(rooms, key=badness)
+        taken.append(room)
+        return f'<text class="name" x="{room[0]:.1f}" y="{room[1] + 10:.1f}" fill="{colour}">{words}</text>'
 
 
-def spelled(power):
-    return f"{10**power:,}" if 0 <= power < 6 else f"{10 ** (power - 6):,} M" if power >= 6 else f"{10**power:g}"
+def ticks(ends):
+    """The values of an axis that get a line: the powers of ten, and on a short axis 2 and 5 times these."""
+    steps = (1,) if ends[1] / ends[0] > 1000 else (1, 2, 5)
+    values = (step * 10.0**power for power in range(-2, 10) for step in steps)
+    return [value for value in values if ends[0] <= value * 1.0001 and value <= ends[1] * 1.0001]
+
+
+def spelled(value):
+    return f"{value / 1e6:,.0f} M" if value >= 1e6 else f"{value:,.0f}" if value >= 1 else f"{value:g}"
 
 
 def drawing():
-    """The picture: time and memory by transitions, and time by visits."""
-    time = Panel(60, "seconds by transitions", (3, 7), (-2, 2))
-    memory = Panel(370, "MB by transitions", (3, 7), (1, 3))
-    work = Panel(680, "seconds by rounds times transitions", (4, 9), (-2, 2))
-    for _, _, transitions, relation, rounds, seconds, megabytes in rows():
-        if seconds != "-":
-            time.put(relation, int(transitions), float(seconds))
-            if float(megabytes) > LEAST:
-                memory.put(relation, int(transitions), float(megabytes))
-            work.put(relation, int(transitions) * int(rounds), float(seconds))
-    yield '<svg xmlns="http://www.w3.org/2000/svg" width="940" height="310" viewBox="0 0 940 310">'
+    """The picture: time and memory by transitions, time by visits, and the time of one relation by the other's."""
+    seconds = 0.01, 20
+    speed = lambda rate: f"{1e-6 / rate:.{1 if rate > 1e-7 else 0}f} M a second"
+    time = Panel(60, 40, "seconds by transitions", (1e3, 2e7), seconds, speed)
+    memory = Panel(460, 40, "MB by transitions", (5e5, 1.2e7), (15, 400), lambda rate: f"{rate * 1e6:.0f} bytes each")
+    work = Panel(60, 420, "seconds by rounds times transitions", (1e4, 5e8), seconds, speed)
+    both = Panel(460, 420, "seconds: branching by strong", seconds, seconds, lambda rate: f"{rate:.1f} times")
+    strong = {}
+    for name, states, transitions, relation, rounds, seconds, megabytes in rows():
+        if seconds == "-":
+            continue
+        colour = RELATIONS[relation]
+        time.put(name, colour, int(transitions), float(seconds))
+        if float(megabytes) > LEAST:
+            memory.put(name, colour, int(transitions), float(megabytes))
+        work.put(name, colour, int(transitions) * int(rounds), float(seconds))
+        if relation == "strong":
+            strong[name, states] = float(seconds)
+        elif (name, states) in strong:
+            both.put(name, GREY, strong[name, states], float(seconds))
+    yield '<svg xmlns="http://www.w3.org/2000/svg" width="800" height="790" viewBox="0 0 800 790">'
     yield "<title>What min takes, by strong and by branching bisimilarity</title>"
-    yield "<style>text { font: 11px sans-serif; text-anchor: middle } path { stroke: #ddd }</style>"
+    yield "<style>text { font: 12px sans-serif; text-anchor: middle } .title, .name { text-anchor: start }"
+    yield ".end { text-anchor: end } path { stroke: #ddd } .line { stroke: #555; stroke-dasharray: 4 3 }</style>"
     yield '<rect width="100%" height="100%" fill="white"/>'
-    for panel in (time, memory, work):
-        yield from panel.parts
+    for panel in (time, memory, work, both):
+        yield from panel.drawn()
     for k, (relation, colour) in enumerate(RELATIONS.items()):
-        x = 400 + 100 * k
-        yield f'<circle cx="{x}" cy="295" r="4" fill="{colour}"/><text x="{x + 40}" y="299">{relation}</text>'
+        yield f'<circle cx="{66 + 80 * k}" cy="771" r="4" fill="{colour}"/>'
+        yield f'<text class="name" x="{74 + 80 * k}" y="775">{relation}</text>'
+    said = f"The line has slope 1, through the median. Named: {FAR} times off it or more."
+    yield f'<text class="name" x="240" y="775">{said}</text>'
     yield "</svg>"
 
 
