@@ -122,9 +122,10 @@ fn old_blocks_count(rt: HostRuntime) -> Result<(), Fail> {
 const FILLED_TWICE: [Row; 1] = [(
     "silent-beside-visible",
     SILENT_BESIDE_VISIBLE,
-    "{(0, 1)(1, 2)}{(2, 2)}{}{}, {(1, 0)(2, 0)}{(2, 0)}{}{}",
+    "{(0, 1)(1, 2)}{(2, 2)}{}{} by 3 visits, {(1, 0)(2, 0)}{(2, 0)}{}{}",
 )];
 
+/// Each of the three transitions is visited, and none twice.
 #[test]
 fn silent_beside_visible_filled_twice(rt: HostRuntime) -> Result<(), Fail> {
     let what = Shown::Branching(Made::FilledTwice);

@@ -1,15 +1,6 @@
 //! What a test says of an example that does not come out as wanted.
 use std::test::Fail;
 
-/// Fails with the name of an example that does not come out as wanted.
-pub(crate) fn check(name: &str, is_as_wanted: bool) -> Result<(), Fail> {
-    if is_as_wanted {
-        Ok(())
-    } else {
-        Err(Fail::new(name))
-    }
-}
-
 /// Fails with the name of an example, and both texts, if what is found is not what is wanted.
 pub(crate) fn check_text(name: &str, found: &str, wanted: &str) -> Result<(), Fail> {
     if found == wanted {

@@ -6,7 +6,7 @@ use crate::named::{
 use crate::pairing::{Paired, check_pair};
 use crate::refining::append_counts;
 use lts::{Counter, Lts, Memory, Meter, fits_together};
-use quotient::{Relation, equivalent, minimise};
+use quotient::{Relation, equivalent};
 use std::alloc::Global;
 use std::test::Fail;
 
@@ -111,29 +111,6 @@ pub(crate) fn counted(
     Ok(text)
 }
 
-/// How many states the quotient of the system has.
-fn size(alloc: Global, l: &Lts<Counter>, relation: Relation) -> Result<u32, Memory> {
-    let q = minimise(alloc, l, relation, &mut Counter::new())?;
-    Ok(q.states())
-}
-
-/// Whether the quotients of both systems have equally many states, in words.
-pub(crate) fn sizes(
-    alloc: Global,
-    a: &Lts<Counter>,
-    b: &Lts<Counter>,
-    relation: Relation,
-) -> Result<String, Memory> {
-    let first = size(alloc, a, relation)?;
-    let second = size(alloc, b, relation)?;
-    let words = if first == second {
-        "equally many"
-    } else {
-        "not equally many"
-    };
-    Ok(String::from_str(alloc, words)?)
-}
-
 /// The verdict on the two systems by this relation is `same`.
 fn check_verdict(alloc: Global, row: &Row, relation: Relation, same: bool) -> Result<(), Fail> {
     let (name, a, b, _, _) = *row;
@@ -166,29 +143,4 @@ fn what_a_comparison_counts(rt: HostRuntime) -> Result<(), Fail> {
         "different; 3 rounds, 28 visits",
     );
     check_pair(rt.alloc(), what, name, a, b, wanted)
-}
-
-/// The quotients of both systems, if these are equivalent, have equally many states.
-fn check_sizes(alloc: Global, row: &Row, relation: Relation, same: bool) -> Result<(), Fail> {
-    let (name, a, b, _, _) = *row;
-    if !same {
-        return Ok(());
-    }
-    check_pair(alloc, Paired::Sizes(relation), name, a, b, "equally many")
-}
-
-#[test]
-fn sizes_by_strong_bisimulation(rt: HostRuntime) -> Result<(), Fail> {
-    for row in &VERDICTS {
-        check_sizes(rt.alloc(), row, Relation::Strong, row.3)?;
-    }
-    Ok(())
-}
-
-#[test]
-fn sizes_by_branching_bisimulation(rt: HostRuntime) -> Result<(), Fail> {
-    for row in &VERDICTS {
-        check_sizes(rt.alloc(), row, Relation::Branching, row.4)?;
-    }
-    Ok(())
 }

@@ -14,8 +14,6 @@ pub(crate) enum Paired {
     Verdict(Relation),
     /// The same, and the rounds and visits that it took.
     Counted(Relation),
-    /// Whether their quotients have equally many states.
-    Sizes(Relation),
     /// The blocks that a strong round on the one and then one on the other make of one block.
     Split,
     /// Their union, and the visits that it took.
@@ -49,7 +47,6 @@ fn show(alloc: Global, what: Paired, a: &Lts<Counter>, b: &Lts<Counter>) -> Resu
     match what {
         Paired::Verdict(relation) => comparisons::shown(alloc, a, b, relation),
         Paired::Counted(relation) => comparisons::counted(alloc, a, b, relation),
-        Paired::Sizes(relation) => comparisons::sizes(alloc, a, b, relation),
         Paired::Split => splits::twice(alloc, a, b),
         Paired::Union => systems::joined(alloc, a, b),
     }

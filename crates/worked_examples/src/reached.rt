@@ -1,4 +1,5 @@
 //! Which states are reachable.
+use crate::refining::append_counts;
 use crate::showing::{Shown, check_row};
 use lts::{Counter, Lts, Memory, Meter};
 use quotient::reachable;
@@ -10,30 +11,30 @@ type Row = (&'static str, &'static str);
 
 const REACHED: [Row; 8] = [
     // A lone state, and one that leads to itself.
-    ("0 of 1", "0 by 0 visits, 0 rounds"),
-    ("0 of 1; 0 a 0", "0 by 1 visits, 0 rounds"),
+    ("0 of 1", "0 by 0 rounds, 0 visits"),
+    ("0 of 1; 0 a 0", "0 by 0 rounds, 1 visits"),
     // A chain, from its start and from its middle.
     (
         "0 of 4; 2 a 3; 0 a 1; 1 a 2",
-        "0 1 2 3 by 3 visits, 0 rounds",
+        "0 1 2 3 by 0 rounds, 3 visits",
     ),
-    ("2 of 4; 2 a 3; 0 a 1; 1 a 2", "2 3 by 1 visits, 0 rounds"),
+    ("2 of 4; 2 a 3; 0 a 1; 1 a 2", "2 3 by 0 rounds, 1 visits"),
     // Two states that nothing leads to.
-    ("0 of 3; 1 a 2", "0 by 0 visits, 0 rounds"),
+    ("0 of 3; 1 a 2", "0 by 0 rounds, 0 visits"),
     // A cycle, with a state before it.
     (
         "1 of 4; 0 a 1; 1 a 2; 2 a 3; 3 a 1",
-        "1 2 3 by 3 visits, 0 rounds",
+        "1 2 3 by 0 rounds, 3 visits",
     ),
     // Several transitions to one state.
     (
         "0 of 3; 0 a 1; 0 a 1; 0 a 2; 1 a 2; 2 a 1",
-        "0 1 2 by 5 visits, 0 rounds",
+        "0 1 2 by 0 rounds, 5 visits",
     ),
     // A branch whose later half leads back to its earlier one.
     (
         "3 of 5; 3 a 0; 3 a 4; 4 a 0; 0 a 3; 1 a 0; 2 a 1",
-        "0 3 4 by 4 visits, 0 rounds",
+        "0 3 4 by 0 rounds, 4 visits",
     ),
 ];
 
@@ -42,13 +43,9 @@ pub(crate) fn shown(alloc: Global, l: &Lts<Counter>) -> Result<String, Memory> {
     let mut m = Counter::new();
     let mut text = String::new(alloc);
     append_reached(alloc, l, &mut m, &mut text)?;
+    text.push_str("by ")?;
     append_counts(alloc, &m, &mut text)?;
     Ok(text)
-}
-
-fn append_counts(alloc: Global, m: &Counter, text: &mut String) -> Result<(), Memory> {
-    text.push_str(&format!(in alloc; "by {} visits, {} rounds", m.visits(), m.rounds())?)?;
-    Ok(())
 }
 
 /// Appends the reachable states, if there is room to count the visits.

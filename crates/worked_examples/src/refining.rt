@@ -135,7 +135,8 @@ pub(crate) fn append_line(alloc: Global, p: &Partition, text: &mut String) -> Re
     Ok(())
 }
 
-/// Appends the signatures of all states under the blocks, filled into signatures that may be used again.
+/// Appends the signatures of all states under the blocks, filled into signatures that may be used again. Returns how
+/// many visits that took.
 fn append_filled<S: Sense>(
     alloc: Global,
     l: &Lts<Counter>,
@@ -143,7 +144,7 @@ fn append_filled<S: Sense>(
     marks: &mut Marks,
     signatures: &mut Signatures,
     text: &mut String,
-) -> Result<(), Memory>
+) -> Result<u128, Memory>
     requires states { length p.now ≡ l.now.states }
     requires marks { marks.old ≡ l.now.states }
     requires signatures { length signatures.old ≡ l.now.states }
@@ -151,8 +152,10 @@ fn append_filled<S: Sense>(
     ensures signatures { length signatures.new ≡ l.now.states }
 {
     l.known();
-    signatures.fill::<S, Counter>(l, p, marks, &mut Counter::new())?;
-    append_signatures(alloc, signatures, text)
+    let mut m = Counter::new();
+    signatures.fill::<S, Counter>(l, p, marks, &mut m)?;
+    append_signatures(alloc, signatures, text)?;
+    Ok(m.visits())
 }
 
 fn append_signatures(
@@ -241,9 +244,10 @@ fn append_in<S: Sense>(
     requires marks { marks.old ≡ l.now.states }
     requires signatures { length signatures.old ≡ l.now.states }
 {
-    append_filled::<S>(alloc, l, first, marks, signatures, text)?;
-    text.push_str(", ")?;
-    append_filled::<S>(alloc, l, second, marks, signatures, text)
+    let visits = append_filled::<S>(alloc, l, first, marks, signatures, text)?;
+    text.push_str(&format!(in alloc; " by {visits} visits, ")?)?;
+    append_filled::<S>(alloc, l, second, marks, signatures, text)?;
+    Ok(())
 }
 
 fn table<S: Sense>(alloc: Global, l: &Lts<Counter>, many: u32) -> Result<String, Memory> {

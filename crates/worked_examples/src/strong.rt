@@ -1,5 +1,5 @@
 //! Refinement by strong bisimulation.
-use crate::named::{CHAIN_OF_THREE, LABEL_ORDER, LONE_STATE, OLD_BLOCKS, TWO_SPELLINGS};
+use crate::named::{CHAIN_OF_THREE, LABEL_ORDER, LONE_STATE, TWO_SPELLINGS};
 use crate::refining::{Made, append_signature, one_block};
 use crate::showing::{Row, Shown, check_row, check_rows};
 use lts::{Counter, Lts, Memory, Meter};
@@ -7,29 +7,16 @@ use refine::Strong;
 use std::alloc::Global;
 use std::test::Fail;
 
-/// So many rounds, each one's blocks on a line, and the rounds and visits that they took.
-const ROUNDS: [(&str, &str, u32, &str); 2] = [
-    (
-        "chain-rounds",
-        CHAIN_OF_THREE,
-        4,
-        "2: 0 0 0 1\n3: 0 0 1 2\n4: 0 1 2 3\n4: 0 1 2 3\n4 rounds, 12 visits",
-    ),
-    (
-        "old-blocks-count",
-        OLD_BLOCKS,
-        1,
-        "2: 0 1\n1 rounds, 1 visits",
-    ),
-];
+/// Four rounds, each one's blocks on a line, and the rounds and visits that they took.
+const ROUNDS: [Row; 1] = [(
+    "chain-rounds",
+    CHAIN_OF_THREE,
+    "2: 0 0 0 1\n3: 0 0 1 2\n4: 0 1 2 3\n4: 0 1 2 3\n4 rounds, 12 visits",
+)];
 
 #[test]
 fn rounds_one_by_one(rt: HostRuntime) -> Result<(), Fail> {
-    for (name, text, many, wanted) in &ROUNDS {
-        let what = Shown::Strong(Made::Counted(*many));
-        check_row(rt.alloc(), what, name, text, wanted)?;
-    }
-    Ok(())
+    check_rows(rt.alloc(), Shown::Strong(Made::Counted(4)), &ROUNDS)
 }
 
 const REFINED: [Row; 2] = [
@@ -63,7 +50,7 @@ fn chain_of_three(rt: HostRuntime) -> Result<(), Fail> {
 const CHAIN_TWICE: [Row; 1] = [(
     "chain-of-three, filled twice",
     CHAIN_OF_THREE,
-    "{(0, 0)}{(0, 0)}{(0, 1)}{}, {(0, 0)}{(0, 0)}{(0, 0)}{}",
+    "{(0, 0)}{(0, 0)}{(0, 1)}{} by 3 visits, {(0, 0)}{(0, 0)}{(0, 0)}{}",
 )];
 
 /// A second fill leaves nothing of the first.

@@ -1,5 +1,4 @@
 //! Labels and their table, systems in memory, the union of two, and the meter.
-use crate::checks::check;
 use crate::pairing::{Paired, check_pair};
 use crate::showing::{Shown, check_row};
 use crate::texts::append_spelled;
@@ -8,6 +7,7 @@ use lts::{
 };
 use std::alloc::Global;
 use std::test::Fail;
+use worked::check;
 
 /// Bytes, and whether they are a label.
 const LABELS: [(&[u8], bool); 8] = [

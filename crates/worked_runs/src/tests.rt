@@ -2,6 +2,7 @@
 mod commands;
 mod comparisons;
 mod faults;
+mod programs;
 mod reports;
 mod running;
 mod runs;

@@ -4,7 +4,6 @@ mod hiding;
 mod long;
 mod messages;
 mod reading;
-mod refusals;
 mod streams;
 mod transitions;
 mod writing;

@@ -1,10 +1,10 @@
 //! The worked examples of command words: the jobs that they ask for, and what is said of others.
-use super::running::check;
 use autbis::{Job, VERSION, WordFault, command, report_words};
 use quotient::Relation;
 use std::alloc::{AllocError, Global};
 use std::io::{self, Write};
 use std::test::Fail;
+use worked::check;
 
 /// These words, which stand in a line between marks.
 pub(crate) fn words_of(alloc: Global, line: &str, mark: char) -> Result<Vec<String>, AllocError> {
@@ -21,148 +21,99 @@ fn asked(alloc: Global, line: &str) -> Result<Job, WordFault> {
     command(alloc, words)
 }
 
-fn is_text(text: &Option<String>, wanted: Option<&str>) -> bool {
-    match text {
-        Some(text) => wanted == Some(text.as_str()),
-        None => wanted.is_none(),
-    }
-}
-
-/// A line of words, and the relation, the flag `--stats`, the hide list and the file of the job that they ask for.
-type Minimises = (
-    &'static str,
+/// The parts of a job: its relation, the flag `--stats` of a minimisation, the hide list and the files.
+type Parts<'a> = (
     Relation,
-    bool,
-    Option<&'static str>,
-    Option<&'static str>,
+    Option<bool>,
+    Option<&'a str>,
+    Option<&'a str>,
+    Option<&'a str>,
 );
 
-const MINIMISES: [Minimises; 4] = [
-    ("autbis min", Relation::Strong, false, None, None),
-    (
-        "autbis min --stats a.aut --relation=branching",
-        Relation::Branching,
-        true,
-        None,
-        Some("a.aut"),
-    ),
-    (
-        "autbis min -- --stats",
-        Relation::Strong,
-        false,
-        None,
-        Some("--stats"),
-    ),
-    (
-        "autbis min --relation strong a.aut --hide a.hide",
-        Relation::Strong,
-        false,
-        Some("a.hide"),
-        Some("a.aut"),
-    ),
-];
-
-/// Whether the job is this minimisation.
-fn is_minimisation(job: &Job, wanted: &Minimises) -> bool {
+fn parts(job: &Job) -> Parts {
     match job {
         Job::Min {
             relation,
             stats,
             hide,
             file,
-        } => is_min(*relation, *stats, hide, file, wanted),
-        _ => false,
-    }
-}
-
-fn is_min(
-    relation: Relation,
-    stats: bool,
-    hide: &Option<String>,
-    file: &Option<String>,
-    wanted: &Minimises,
-) -> bool {
-    let (_, wants_relation, wants_stats, wants_hide, wants_file) = *wanted;
-    if relation != wants_relation || stats != wants_stats {
-        return false;
-    }
-    is_text(hide, wants_hide) && is_text(file, wants_file)
-}
-
-#[test]
-fn command_words(rt: HostRuntime) -> Result<(), Fail> {
-    for wanted in &MINIMISES {
-        let job = asked(rt.alloc(), wanted.0)?;
-        check(wanted.0, is_minimisation(&job, wanted))?;
-    }
-    Ok(())
-}
-
-/// A line of words, and the relation, the hide list and both files of the job that they ask for.
-type Compares = (
-    &'static str,
-    Relation,
-    Option<&'static str>,
-    &'static str,
-    &'static str,
-);
-
-const COMPARES: [Compares; 3] = [
-    (
-        "autbis cmp a.aut b.aut",
-        Relation::Strong,
-        None,
-        "a.aut",
-        "b.aut",
-    ),
-    (
-        "autbis cmp a.aut --relation branching b.aut",
-        Relation::Branching,
-        None,
-        "a.aut",
-        "b.aut",
-    ),
-    (
-        "autbis cmp --hide a.hide b.aut -- --stats",
-        Relation::Strong,
-        Some("a.hide"),
-        "b.aut",
-        "--stats",
-    ),
-];
-
-/// Whether the job is this comparison.
-fn is_comparison(job: &Job, wanted: &Compares) -> bool {
-    match job {
+        } => (
+            *relation,
+            Some(*stats),
+            hide.as_deref(),
+            file.as_deref(),
+            None,
+        ),
         Job::Cmp {
             relation,
             hide,
             first,
             second,
-        } => is_cmp(*relation, hide, first, second, wanted),
-        _ => false,
+        } => (
+            *relation,
+            None,
+            hide.as_deref(),
+            Some(first.as_str()),
+            Some(second.as_str()),
+        ),
     }
 }
 
-fn is_cmp(
-    relation: Relation,
-    hide: &Option<String>,
-    first: &str,
-    second: &str,
-    wanted: &Compares,
-) -> bool {
-    let (_, wants_relation, wants_hide, wants_first, wants_second) = *wanted;
-    if relation != wants_relation || !is_text(hide, wants_hide) {
-        return false;
-    }
-    first == wants_first && second == wants_second
-}
+/// Lines of words, and the parts of the jobs that they ask for.
+const JOBS: [(&str, Parts); 7] = [
+    (
+        "autbis min",
+        (Relation::Strong, Some(false), None, None, None),
+    ),
+    (
+        "autbis min --stats a.aut --relation=branching",
+        (Relation::Branching, Some(true), None, Some("a.aut"), None),
+    ),
+    (
+        "autbis min -- --stats",
+        (Relation::Strong, Some(false), None, Some("--stats"), None),
+    ),
+    (
+        "autbis min --relation strong a.aut --hide a.hide",
+        (
+            Relation::Strong,
+            Some(false),
+            Some("a.hide"),
+            Some("a.aut"),
+            None,
+        ),
+    ),
+    (
+        "autbis cmp a.aut b.aut",
+        (Relation::Strong, None, None, Some("a.aut"), Some("b.aut")),
+    ),
+    (
+        "autbis cmp a.aut --relation branching b.aut",
+        (
+            Relation::Branching,
+            None,
+            None,
+            Some("a.aut"),
+            Some("b.aut"),
+        ),
+    ),
+    (
+        "autbis cmp --hide a.hide b.aut -- --stats",
+        (
+            Relation::Strong,
+            None,
+            Some("a.hide"),
+            Some("b.aut"),
+            Some("--stats"),
+        ),
+    ),
+];
 
 #[test]
-fn command_words_of_cmp(rt: HostRuntime) -> Result<(), Fail> {
-    for wanted in &COMPARES {
-        let job = asked(rt.alloc(), wanted.0)?;
-        check(wanted.0, is_comparison(&job, wanted))?;
+fn command_words(rt: HostRuntime) -> Result<(), Fail> {
+    for (line, wanted) in &JOBS {
+        let job = asked(rt.alloc(), line)?;
+        check(line, parts(&job) == *wanted)?;
     }
     Ok(())
 }

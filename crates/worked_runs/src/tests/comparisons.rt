@@ -1,105 +1,107 @@
 //! The worked examples of comparisons, by their names.
-use super::running::{check, run_hiding};
+use super::running::{is_within, run_hiding};
 use autbis::{CmpFault, Side, cmp_program, run_cmp};
-use autfmt::{Fault, Hidden, Limits, SliceSource, VecSink, read, read_hidden};
-use lts::{Counter, Lts, Meter};
+use autfmt::{Fault, Hidden, Limits, SliceSource, Source, VecSink, read, read_hidden};
+use lts::{Counter, Lts};
 use quotient::Relation;
 use std::alloc::Global;
 use std::test::Fail;
+use worked::{Counted, LONE_STATE_TEXT, MOMENT_OF_CHOICE, Pair, SILENT_MIDDLE, check};
 
 const TRUE: &[u8] = b"TRUE\n";
 
 const FALSE: &[u8] = b"FALSE\n";
 
-/// An example: its name, both texts, its hide list, and whether they are equivalent by strong and by branching bisimulation.
-type Pair = (
-    &'static str,
-    &'static [u8],
-    &'static [u8],
-    &'static [u8],
-    bool,
-    bool,
-);
-
 const PAIRS: [Pair; 12] = [
-    ("moment-of-choice", AFTER, BEFORE, b"", false, false),
-    (
-        "silent-middle",
-        b"des (0,3,4)\n(0,a,1)\n(1,i,2)\n(2,b,3)\n",
-        b"des (0,2,3)\n(0,a,1)\n(1,b,2)\n",
-        b"",
-        false,
-        true,
-    ),
-    (
-        "silent-loop",
-        b"des (0,1,1)\n(0,i,0)\n",
-        b"des (0,0,1)\n",
-        b"",
-        false,
-        true,
-    ),
-    (
-        "first-differs",
-        b"des (1,1,2)\n(1,a,0)\n",
-        b"des (0,1,2)\n(0,a,1)\n",
-        b"",
-        true,
-        true,
-    ),
-    (
-        "different-labels",
-        b"des (0,1,2)\n(0,a,1)\n",
-        b"des (0,1,2)\n(0,b,1)\n",
-        b"",
-        false,
-        false,
-    ),
-    (
-        "different-labels, both hidden",
-        b"des (0,1,2)\n(0,a,1)\n",
-        b"des (0,1,2)\n(0,b,1)\n",
-        b"a\nb\n",
-        true,
-        true,
-    ),
-    ("reordered-lines", IN_ORDER, REORDERED, b"", true, true),
-    (
-        "committed-or-not",
-        b"des (0,3,4)\n(0,a,1)\n(1,i,2)\n(1,b,3)\n",
-        b"des (0,4,4)\n(0,a,1)\n(0,a,2)\n(1,i,2)\n(1,b,3)\n",
-        b"",
-        false,
-        false,
-    ),
-    (
-        "lost-option",
-        b"des (0,3,3)\n(0,a,2)\n(0,i,1)\n(1,b,2)\n",
-        b"des (0,4,3)\n(0,a,2)\n(0,b,2)\n(0,i,1)\n(1,b,2)\n",
-        b"",
-        false,
-        false,
-    ),
-    ("hidden-both-sides", IN_ORDER, ONLY_B, b"a\n", false, true),
-    (
-        "hidden-both-sides, without the list",
-        IN_ORDER,
-        ONLY_B,
-        b"",
-        false,
-        false,
-    ),
-    ("hidden-second-text", ONLY_B, IN_ORDER, b"a\n", false, true),
+    MOMENT_OF_CHOICE,
+    SILENT_MIDDLE,
+    Pair {
+        name: "silent-loop",
+        first: b"des (0,1,1)\n(0,i,0)\n",
+        second: LONE_STATE_TEXT,
+        hide: b"",
+        strong: false,
+        branching: true,
+    },
+    Pair {
+        name: "first-differs",
+        first: b"des (1,1,2)\n(1,a,0)\n",
+        second: ONLY_A,
+        hide: b"",
+        strong: true,
+        branching: true,
+    },
+    Pair {
+        name: "different-labels",
+        first: ONLY_A,
+        second: ONLY_B,
+        hide: b"",
+        strong: false,
+        branching: false,
+    },
+    Pair {
+        name: "different-labels, both hidden",
+        first: ONLY_A,
+        second: ONLY_B,
+        hide: b"a\nb\n",
+        strong: true,
+        branching: true,
+    },
+    Pair {
+        name: "reordered-lines",
+        first: IN_ORDER,
+        second: REORDERED,
+        hide: b"",
+        strong: true,
+        branching: true,
+    },
+    Pair {
+        name: "committed-or-not",
+        first: b"des (0,3,4)\n(0,a,1)\n(1,i,2)\n(1,b,3)\n",
+        second: b"des (0,4,4)\n(0,a,1)\n(0,a,2)\n(1,i,2)\n(1,b,3)\n",
+        hide: b"",
+        strong: false,
+        branching: false,
+    },
+    Pair {
+        name: "lost-option",
+        first: b"des (0,3,3)\n(0,a,2)\n(0,i,1)\n(1,b,2)\n",
+        second: b"des (0,4,3)\n(0,a,2)\n(0,b,2)\n(0,i,1)\n(1,b,2)\n",
+        hide: b"",
+        strong: false,
+        branching: false,
+    },
+    Pair {
+        name: "hidden-both-sides",
+        first: IN_ORDER,
+        second: ONLY_B,
+        hide: b"a\n",
+        strong: false,
+        branching: true,
+    },
+    Pair {
+        name: "hidden-both-sides, without the list",
+        first: IN_ORDER,
+        second: ONLY_B,
+        hide: b"",
+        strong: false,
+        branching: false,
+    },
+    Pair {
+        name: "hidden-second-text",
+        first: ONLY_B,
+        second: IN_ORDER,
+        hide: b"a\n",
+        strong: false,
+        branching: true,
+    },
 ];
-
-/// `moment-of-choice`: the choice comes after the step, and before it.
-const AFTER: &[u8] = b"des (0,3,4)\n(0,a,1)\n(1,b,2)\n(1,c,3)\n";
-
-const BEFORE: &[u8] = b"des (0,4,5)\n(0,a,1)\n(0,a,2)\n(1,b,3)\n(2,c,4)\n";
 
 const IN_ORDER: &[u8] = b"des (0,2,3)\n(0,a,1)\n(1,b,2)\n";
 
 const REORDERED: &[u8] = b"des (0,2,3)\n(1,b,2)\n(0,a,1)\n";
+
+const ONLY_A: &[u8] = b"des (0,1,2)\n(0,a,1)\n";
 
 const ONLY_B: &[u8] = b"des (0,1,2)\n(0,b,1)\n";
 
@@ -147,17 +149,19 @@ fn compares(
 
 /// The verdict on the two texts by this relation is `same`.
 fn check_verdict(alloc: Global, pair: &Pair, rel: Relation, same: bool) -> Result<(), Fail> {
-    let (name, one, other, list, _, _) = *pair;
-    let (texts, none) = ((one, other), (None, None, None));
+    let (texts, none) = ((pair.first, pair.second), (None, None, None));
     let out = if same { TRUE } else { FALSE };
-    check(name, compares(alloc, texts, list, none, rel, Ok(same), out))
+    check(
+        pair.name,
+        compares(alloc, texts, pair.hide, none, rel, Ok(same), out),
+    )
 }
 
 #[test]
 fn verdicts(rt: HostRuntime) -> Result<(), Fail> {
     for pair in &PAIRS {
-        check_verdict(rt.alloc(), pair, Relation::Strong, pair.4)?;
-        check_verdict(rt.alloc(), pair, Relation::Branching, pair.5)?;
+        check_verdict(rt.alloc(), pair, Relation::Strong, pair.strong)?;
+        check_verdict(rt.alloc(), pair, Relation::Branching, pair.branching)?;
     }
     Ok(())
 }
@@ -186,21 +190,20 @@ fn least_states(alloc: Global, text: &[u8], list: &[u8], rel: Relation) -> Resul
 
 /// The quotients of both texts, if they are equivalent, have equally many states.
 fn check_states(alloc: Global, pair: &Pair, rel: Relation, same: bool) -> Result<(), Fail> {
-    let (name, one, other, list, _, _) = *pair;
     if !same {
         return Ok(());
     }
-    let first = least_states(alloc, one, list, rel)?;
-    let second = least_states(alloc, other, list, rel)?;
-    check(name, first == second)
+    let first = least_states(alloc, pair.first, pair.hide, rel)?;
+    let second = least_states(alloc, pair.second, pair.hide, rel)?;
+    check(pair.name, first == second)
 }
 
 /// Systems that are equivalent have quotients of equally many states.
 #[test]
 fn no_smaller_system(rt: HostRuntime) -> Result<(), Fail> {
     for pair in &PAIRS {
-        check_states(rt.alloc(), pair, Relation::Strong, pair.4)?;
-        check_states(rt.alloc(), pair, Relation::Branching, pair.5)?;
+        check_states(rt.alloc(), pair, Relation::Strong, pair.strong)?;
+        check_states(rt.alloc(), pair, Relation::Branching, pair.branching)?;
     }
     Ok(())
 }
@@ -300,36 +303,127 @@ fn sides(rt: HostRuntime) -> Result<(), Fail> {
     Ok(())
 }
 
-/// `moment-of-choice` takes exactly 3 rounds, and 7 visits for the union and for each of them.
+/// `moment-of-choice` takes exactly 3 rounds.
 #[test]
 fn rounds_and_visits(rt: HostRuntime) -> Result<(), Fail> {
     let (hidden, none) = (Hidden::none(rt.alloc()), (None, None, None));
-    let texts = (AFTER, BEFORE);
+    let texts = (MOMENT_OF_CHOICE.first, MOMENT_OF_CHOICE.second);
     let (answer, _, meter) = compare(rt.alloc(), texts, &hidden, none, Relation::Strong);
     check(
         "moment-of-choice",
-        answer == Ok(false) && meter.rounds() == 3 && meter.visits() <= 35,
+        answer == Ok(false) && is_within(&meter, 3, 7, 35),
     )
 }
 
-const LONE: &[u8] = b"des (0,0,1)\n";
+/// Whether a fault in the first text leaves the second one whole.
+fn leaves_second(alloc: Global) -> bool {
+    let mut other = SliceSource::new(IN_ORDER, None);
+    let answer = run_cmp(
+        alloc,
+        &mut SliceSource::new(b"", None),
+        &mut other,
+        &mut VecSink::new(alloc, None),
+        Relation::Strong,
+        &Limits::file(),
+        &Hidden::none(alloc),
+        &mut Counter::new(),
+    );
+    answer.is_err() && starts_with(&mut other, IN_ORDER)
+}
 
-/// A name, both texts, the status, what is written, and what is said.
+/// Whether the source gives the first bytes of the text.
+fn starts_with(source: &mut SliceSource, text: &[u8]) -> bool {
+    let mut piece = [0u8; 8];
+    source.failures() == 0 && source.take(&mut piece).unwrap_or(0) == 8 && text.starts_with(&piece)
+}
+
+#[test]
+fn first_side_faulty(rt: HostRuntime) -> Result<(), Fail> {
+    check("first-side-faulty", leaves_second(rt.alloc()))
+}
+
+/// Whether a comparison answers so and finishes its sink once.
+fn finishes_once(alloc: Global, pair: &Pair, same: bool) -> bool {
+    let mut sink = Counted { finished: 0 };
+    let answer = run_cmp(
+        alloc,
+        &mut SliceSource::new(pair.first, None),
+        &mut SliceSource::new(pair.second, None),
+        &mut sink,
+        Relation::Branching,
+        &Limits::file(),
+        &Hidden::none(alloc),
+        &mut Counter::new(),
+    );
+    answer == Ok(same) && sink.finished == 1
+}
+
+#[test]
+fn finished(rt: HostRuntime) -> Result<(), Fail> {
+    for pair in &[MOMENT_OF_CHOICE, SILENT_MIDDLE] {
+        check(pair.name, finishes_once(rt.alloc(), pair, pair.branching))?;
+    }
+    Ok(())
+}
+
+/// A name, both texts, the relation, the hide list, the status, what is written, and what is said.
 type Compared = (
     &'static str,
     &'static [u8],
+    &'static [u8],
+    Relation,
     &'static [u8],
     u8,
     &'static [u8],
     &'static [u8],
 );
 
-const COMPARED: [Compared; 4] = [
-    ("reordered-lines", IN_ORDER, REORDERED, 0, TRUE, b""),
-    ("a text beside lone-state", IN_ORDER, LONE, 1, FALSE, b""),
+const COMPARED: [Compared; 6] = [
+    (
+        "reordered-lines",
+        IN_ORDER,
+        REORDERED,
+        Relation::Strong,
+        b"",
+        0,
+        TRUE,
+        b"",
+    ),
+    (
+        "hidden-both-sides",
+        IN_ORDER,
+        ONLY_B,
+        Relation::Strong,
+        b"a\n",
+        1,
+        FALSE,
+        b"",
+    ),
+    (
+        "hidden-second-text",
+        ONLY_B,
+        IN_ORDER,
+        Relation::Branching,
+        b"a\n",
+        0,
+        TRUE,
+        b"",
+    ),
+    (
+        "hidden-both-sides, without the list",
+        IN_ORDER,
+        ONLY_B,
+        Relation::Branching,
+        b"",
+        1,
+        FALSE,
+        b"",
+    ),
     (
         "second-file-empty",
-        LONE,
+        LONE_STATE_TEXT,
+        b"",
+        Relation::Strong,
         b"",
         2,
         b"",
@@ -338,43 +432,54 @@ const COMPARED: [Compared; 4] = [
     (
         "first-side-faulty",
         b"",
-        LONE,
+        LONE_STATE_TEXT,
+        Relation::Strong,
+        b"",
         2,
         b"",
         b"autbis: a.aut: bad header\n",
     ),
 ];
 
-/// Whether the program compares the two texts with this status, and writes and says so.
-fn is_compared(
+/// The exit status of the program that compares two texts, and what it wrote and said.
+fn compared(
     alloc: Global,
-    texts: (&[u8], &[u8]),
-    status: u8,
-    out: &[u8],
-    message: &[u8],
-) -> bool {
+    one: &[u8],
+    other: &[u8],
+    relation: Relation,
+    hidden: &Hidden,
+) -> (u8, VecSink, Vec<u8>) {
     let mut sink = VecSink::new(alloc, None);
     let mut said = Vec::new(alloc);
-    let ended = cmp_program(
+    let status = cmp_program(
         alloc,
-        &mut SliceSource::new(texts.0, None),
+        &mut SliceSource::new(one, None),
         "a.aut",
-        &mut SliceSource::new(texts.1, None),
+        &mut SliceSource::new(other, None),
         "b.aut",
         &mut sink,
         &mut said,
-        Relation::Strong,
+        relation,
         &Limits::file(),
-        &Hidden::none(alloc),
+        hidden,
     );
+    (status, sink, said)
+}
+
+/// Whether the program compares the two texts with this status, and writes and says so.
+fn is_compared(alloc: Global, row: &Compared) -> bool {
+    let (_, one, other, relation, list, status, out, message) = *row;
+    let Ok(hidden) = read_hidden(alloc, &mut SliceSource::new(list, None)) else {
+        return false;
+    };
+    let (ended, sink, said) = compared(alloc, one, other, relation, &hidden);
     ended == status && sink.bytes() == out && said.as_slice() == message
 }
 
 #[test]
 fn statuses(rt: HostRuntime) -> Result<(), Fail> {
-    for (name, one, other, status, out, message) in &COMPARED {
-        let texts = (*one, *other);
-        check(name, is_compared(rt.alloc(), texts, *status, out, message))?;
+    for row in &COMPARED {
+        check(row.0, is_compared(rt.alloc(), row))?;
     }
     Ok(())
 }

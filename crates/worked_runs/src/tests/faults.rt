@@ -1,12 +1,12 @@
-//! Runs by strong bisimulation that end in a fault: of the text, of a source or a sink, or for want of memory.
-use super::running::{
-    CHAIN_OF_THREE, Flow, ITS_CHAIN, ITS_DETOUR, ITS_QUOTIENT, SILENT_DETOUR, TWO_EQUAL_TARGETS,
-    Written, check, check_ends, check_fault, check_written, run_whole,
-};
+//! Runs by strong bisimulation that end in a fault: of the text, or of a source or a sink.
+use super::running::{Flow, check_ends, check_fault, check_written};
 use autfmt::Fault;
-use lts::Meter;
+use quotient::Relation;
 use std::alloc::Global;
 use std::test::Fail;
+use worked::{STEP, TWO_EQUAL_TARGETS_TEXT, check};
+
+const TWO: &[u8] = TWO_EQUAL_TARGETS_TEXT;
 
 /// A text, and its fault.
 type Faulty = (&'static [u8], Fault);
@@ -52,13 +52,13 @@ const CUTS: [(usize, usize, Fault); 5] = [
 
 #[test]
 fn cut_texts(rt: HostRuntime) -> Result<(), Fail> {
-    check("two-equal-targets", TWO_EQUAL_TARGETS.len() == 34)?;
+    check("two-equal-targets", TWO.len() == 34)?;
     for (from, to, fault) in &CUTS {
         for k in *from..=*to {
-            check_fault(rt.alloc(), "cut", &TWO_EQUAL_TARGETS[..k.min(34)], *fault)?;
+            check_fault(rt.alloc(), "cut", &TWO[..k.min(34)], *fault)?;
         }
     }
-    check_written(rt.alloc(), "cut", &TWO_EQUAL_TARGETS[..33], ITS_QUOTIENT)
+    check_written(rt.alloc(), "cut", &TWO[..33], Relation::Strong, STEP)
 }
 
 /// A run on the text, of which the source or the sink fails at a place, ends in this fault and writes `out`.
@@ -71,6 +71,7 @@ fn check_failing(
     out: &[u8],
 ) -> Result<(), Fail> {
     let at = Flow {
+        relation: Relation::Strong,
         source: place,
         sink: count,
         piece: 4096,
@@ -81,7 +82,7 @@ fn check_failing(
 #[test]
 fn failing_sources(rt: HostRuntime) -> Result<(), Fail> {
     for place in 0..35 {
-        let (text, place) = (TWO_EQUAL_TARGETS, Some(place));
+        let (text, place) = (TWO, Some(place));
         check_failing(rt.alloc(), text, place, None, Fault::Device, b"")?;
     }
     // judged-before-failure
@@ -92,59 +93,10 @@ fn failing_sources(rt: HostRuntime) -> Result<(), Fail> {
 
 #[test]
 fn failing_sinks(rt: HostRuntime) -> Result<(), Fail> {
-    check("its quotient", ITS_QUOTIENT.len() == 24)?;
+    check("its quotient", STEP.len() == 24)?;
     for count in 0..25 {
-        let (text, out) = (TWO_EQUAL_TARGETS, &ITS_QUOTIENT[..count]);
+        let (text, out) = (TWO, &STEP[..count]);
         check_failing(rt.alloc(), text, None, Some(count), Fault::Device, out)?;
-    }
-    Ok(())
-}
-
-/// That a first growth is refused is for `refused_growths`.
-#[test]
-fn failing_ends(rt: HostRuntime) -> Result<(), Fail> {
-    let text = TWO_EQUAL_TARGETS;
-    check_failing(rt.alloc(), text, None, Some(7), Fault::Device, b"des (0,")?;
-    // The first two lines have 24 bytes.
-    check_failing(rt.alloc(), text, Some(24), None, Fault::Device, b"")
-}
-
-/// Whether a run on a small text, at which a growth may be refused, answers by the table of outcomes: all is written; or
-/// there was no memory and nothing is; or the sink's own growth was refused, and a beginning is.
-fn is_right_or_refused(alloc: Global, text: &[u8], out: &[u8]) -> bool {
-    let (answer, sink, meter) = run_whole(alloc, text);
-    if meter.rounds() > 6 || meter.visits() > (meter.rounds() + 2) * 6 {
-        return false;
-    }
-    match answer {
-        Ok(_) => sink.bytes() == out,
-        Err(Fault::Memory) => sink.bytes().is_empty(),
-        Err(Fault::Device) => out.starts_with(sink.bytes()),
-        Err(_) => false,
-    }
-}
-
-const SMALL: [Written; 5] = [
-    ("two-equal-targets", TWO_EQUAL_TARGETS, ITS_QUOTIENT),
-    (
-        "silent-choice",
-        b"des (0,2,2)\n(0,i,1)\n(0,a,1)\n",
-        b"des (0, 2, 2)\n(0, a, 1)\n(0, i, 1)\n",
-    ),
-    ("chain-of-three", CHAIN_OF_THREE, ITS_CHAIN),
-    (
-        "silent-chain",
-        b"des (0,3,4)\n(0,i,1)\n(1,i,2)\n(2,a,3)\n",
-        b"des (0, 3, 4)\n(0, i, 1)\n(1, i, 2)\n(2, a, 3)\n",
-    ),
-    ("silent-detour", SILENT_DETOUR, ITS_DETOUR),
-];
-
-/// Of use where the n-th growth is refused, for each n: a run then answers nothing else.
-#[test]
-fn refused_growths(rt: HostRuntime) -> Result<(), Fail> {
-    for (name, text, out) in &SMALL {
-        check(name, is_right_or_refused(rt.alloc(), text, out))?;
     }
     Ok(())
 }

@@ -1,14 +1,11 @@
-//! The worked examples of messages and exit statuses: of faults, of runs, and of the whole program.
-ghost use Rattle.std.specs.Prelude.{◌≡◌};
-
-use super::commands::{Closed, words_of};
-use super::running::{SILENT_DETOUR, TWO_EQUAL_TARGETS, check};
-use autbis::{Disk, WordFault, cannot_open, main_program, min_program, report, report_words};
-use autfmt::{Fault, Hidden, Limits, SliceSource, VecSink};
+//! The worked examples of messages and exit statuses: of faults, and of minimisations.
+use super::commands::Closed;
+use autbis::{WordFault, cannot_open, min_program, report, report_words};
+use autfmt::{Fault, Hidden, Limits, SliceSource, VecSink, read_hidden};
 use quotient::Relation;
 use std::alloc::{AllocError, Global};
-use std::rt::Files;
 use std::test::Fail;
+use worked::{Example, HIDDEN_QUOTED, SILENT_DETOUR, TWO_EQUAL_TARGETS_TEXT, check};
 
 /// A fault, its exit status, and what is said of it.
 type Message = (Fault, u8, &'static str);
@@ -101,8 +98,15 @@ fn other_messages(rt: HostRuntime) -> Result<(), Fail> {
     check("messages", said.as_slice() == messages.as_bytes())
 }
 
-/// What `min_program` answers for a text from a source that fails at a place: the exit status, and what it wrote and said.
-fn ran(alloc: Global, text: &[u8], place: Option<usize>, name: &str) -> (u8, VecSink, Vec<u8>) {
+/// What `min_program` answers for a text from a source that fails at a place, by strong bisimulation and with `--stats`:
+/// the exit status, and what it wrote and said.
+fn ran(
+    alloc: Global,
+    text: &[u8],
+    place: Option<usize>,
+    name: &str,
+    hidden: &Hidden,
+) -> (u8, VecSink, Vec<u8>) {
     let mut source = SliceSource::new(text, place);
     let mut sink = VecSink::new(alloc, None);
     let mut said = Vec::new(alloc);
@@ -115,7 +119,7 @@ fn ran(alloc: Global, text: &[u8], place: Option<usize>, name: &str) -> (u8, Vec
         Relation::Strong,
         true,
         &Limits::file(),
-        &Hidden::none(alloc),
+        hidden,
     );
     (status, sink, said)
 }
@@ -132,7 +136,7 @@ const FAULTY: [Faulty; 3] = [
         b"autbis: standard input: only 1 transitions found\n",
     ),
     (
-        TWO_EQUAL_TARGETS,
+        TWO_EQUAL_TARGETS_TEXT,
         Some(20),
         5,
         b"autbis: read or write failed\n",
@@ -142,7 +146,8 @@ const FAULTY: [Faulty; 3] = [
 /// Whether the program refuses the text with this status, writes nothing and says so.
 fn is_refused(alloc: Global, faulty: &Faulty) -> bool {
     let (text, place, status, message) = *faulty;
-    let (ended, sink, said) = ran(alloc, text, place, "standard input");
+    let hidden = Hidden::none(alloc);
+    let (ended, sink, said) = ran(alloc, text, place, "standard input", &hidden);
     ended == status && sink.bytes().is_empty() && said.as_slice() == message
 }
 
@@ -154,76 +159,41 @@ fn faulty_texts(rt: HostRuntime) -> Result<(), Fail> {
     Ok(())
 }
 
-/// Whether the line of `--stats` shows so many visits of `silent-detour`.
-fn shows_visits(alloc: Global, said: &[u8], visits: u32) -> Result<bool, AllocError> {
-    let line = "stats: states 6 transitions 6 rounds 2 visits";
-    let wanted = format!(in alloc; "{line} {visits} allowance 24\n")?;
-    Ok(said == wanted.as_bytes())
+/// Systems that take two rounds.
+const COUNTED: [Example; 2] = [SILENT_DETOUR, HIDDEN_QUOTED];
+
+/// The line of `--stats` that shows so many visits of the example in two rounds.
+fn stats(alloc: Global, example: &Example, visits: u32) -> Result<String, AllocError> {
+    let (n, m) = (example.states, example.transitions);
+    let most = u64::from(m) * 4;
+    let counts = format!(in alloc; "states {n} transitions {m} rounds 2")?;
+    format!(in alloc; "stats: {counts} visits {visits} allowance {most}\n")
 }
 
-/// The visits may be fewer than are allowed.
-#[test]
-fn silent_detour_stats(rt: HostRuntime) -> Result<(), Fail> {
-    let (status, sink, said) = ran(rt.alloc(), SILENT_DETOUR, None, "a.aut");
-    check("silent-detour", status == 0 && !sink.bytes().is_empty())?;
-    let mut agrees = false;
-    for visits in 0..25 {
-        agrees = agrees || shows_visits(rt.alloc(), &said, visits)?;
+/// Whether what is said is the line of `--stats` of the example: with at least a visit of each transition in each of both
+/// rounds, and at most as many as are allowed.
+fn shows_counts(alloc: Global, example: &Example, said: &[u8]) -> Result<bool, AllocError> {
+    let transitions = example.transitions.min(6);
+    for visits in 2 * transitions..=4 * transitions {
+        if stats(alloc, example, visits)?.as_bytes() == said {
+            return Ok(true);
+        }
     }
-    check("silent-detour, --stats", agrees)
+    Ok(false)
 }
 
-/// Whether the program ends a line of words so, over the files of the test, and writes nothing: the exit status, and what it said.
-fn ended(files: &impl Files, alloc: Global, line: &str) -> Result<(bool, u8, Vec<u8>), AllocError> {
-    let words = words_of(alloc, line, '/')?;
-    let mut output = VecSink::new(alloc, None);
-    let mut said = Vec::new(alloc);
-    let status = main_program(
-        alloc,
-        Ok(words),
-        &mut Disk::new(files),
-        &mut SliceSource::new(b"", None),
-        &mut output,
-        &mut Closed,
-        &mut said,
-    );
-    Ok((output.bytes().is_empty(), status, said))
+/// The program writes the quotient of the example and says what was counted.
+fn check_counts(alloc: Global, example: &Example) -> Result<(), Fail> {
+    let hidden = read_hidden(alloc, &mut SliceSource::new(example.hide, None))?;
+    let (status, sink, said) = ran(alloc, example.text, None, "a.aut", &hidden);
+    check(example.name, status == 0 && sink.bytes() == example.strong)?;
+    check(example.name, shows_counts(alloc, example, &said)?)
 }
-
-/// Words that name a file that is not there, and what is said.
-const NO_FILE: [(&str, &str); 3] = [
-    (
-        "autbis/min/no such file.aut",
-        "autbis: no such file.aut: cannot open\n",
-    ),
-    (
-        "autbis/min/--hide/no such list",
-        "autbis: no such list: cannot open\n",
-    ),
-    (
-        "autbis/cmp/no such file.aut/b.aut",
-        "autbis: no such file.aut: cannot open\n",
-    ),
-];
 
 #[test]
-fn no_file(rt: HostRuntime) -> Result<(), Fail> {
-    for (line, message) in &NO_FILE {
-        let (is_empty, status, said) = ended(&rt, rt.alloc(), line)?;
-        check(
-            line,
-            is_empty && status == 5 && said.as_slice() == message.as_bytes(),
-        )?;
+fn counts(rt: HostRuntime) -> Result<(), Fail> {
+    for example in &COUNTED {
+        check_counts(rt.alloc(), example)?;
     }
     Ok(())
-}
-
-/// A folder may be opened, and is then not read; or it cannot be opened.
-#[test]
-fn folder(rt: HostRuntime) -> Result<(), Fail> {
-    let (is_empty, status, said) = ended(&rt, rt.alloc(), "autbis/min/.")?;
-    let said = said.as_slice();
-    let unread = said == b"autbis: read or write failed\n".as_slice();
-    let unopened = said == b"autbis: .: cannot open\n".as_slice();
-    check("a folder", is_empty && status == 5 && (unread || unopened))
 }

@@ -2,51 +2,32 @@
 //! the text of a quotient.
 use autbis::{Counts, run_min};
 use autfmt::{Fault, Hidden, Limits, SliceSource, VecSink, read_hidden};
-use lts::Counter;
+use lts::{Counter, Meter};
 use quotient::Relation;
 use std::alloc::Global;
 use std::test::Fail;
+use worked::check;
 
 /// A name, a text, and what is written of it.
 pub(crate) type Written = (&'static str, &'static [u8], &'static [u8]);
 
-pub(crate) const TWO_EQUAL_TARGETS: &[u8] = b"des (0, 2, 3)\n(0, a, 1)\n(0, a, 2)\n";
-
-pub(crate) const ITS_QUOTIENT: &[u8] = b"des (0, 1, 2)\n(0, a, 1)\n";
-
-pub(crate) const CHAIN_OF_THREE: &[u8] = b"des (0,3,4)\n(0,a,1)\n(1,a,2)\n(2,a,3)\n";
-
-pub(crate) const ITS_CHAIN: &[u8] = b"des (0, 3, 4)\n(0, a, 1)\n(1, a, 2)\n(2, a, 3)\n";
-
-pub(crate) const SILENT_DETOUR: &[u8] =
-    b"des (0,6,6)\n(0,i,1)\n(1,a,2)\n(0,a,3)\n(2,i,4)\n(3,b,5)\n(4,b,5)\n";
-
-pub(crate) const ITS_DETOUR: &[u8] =
-    b"des (0, 5, 5)\n(0, a, 3)\n(0, i, 1)\n(1, a, 2)\n(2, i, 3)\n(3, b, 4)\n";
-
-/// Fails with the name of an example that does not come out as wanted.
-pub(crate) fn check(name: &str, is_as_wanted: bool) -> Result<(), Fail> {
-    if is_as_wanted {
-        Ok(())
-    } else {
-        Err(Fail::new(name))
-    }
-}
-
 /// What a run answers, what it writes and what it counts.
 pub(crate) type Ran = (Result<Counts, Fault>, VecSink, Counter);
 
-/// Where the source and the sink of a run fail, if they do, and how many bytes at most move at once.
+/// By which relation a run minimises, where its source and its sink fail, if they do, and how many bytes at most move at
+/// once.
 #[derive(Clone, Copy, Drop)]
 pub(crate) struct Flow {
+    pub(crate) relation: Relation,
     pub(crate) source: Option<usize>,
     pub(crate) sink: Option<usize>,
     pub(crate) piece: usize,
 }
 
 /// A source and a sink that do not fail, and move so many bytes at once.
-fn sound(piece: usize) -> Flow {
+fn sound(relation: Relation, piece: usize) -> Flow {
     Flow {
+        relation,
         source: None,
         sink: None,
         piece,
@@ -54,16 +35,24 @@ fn sound(piece: usize) -> Flow {
 }
 
 /// A run on the text, its labels of the list hidden, from such a source into such a sink.
-fn run(alloc: Global, text: &[u8], hidden: &Hidden, at: Flow, rel: Relation) -> Ran {
+fn run(alloc: Global, text: &[u8], hidden: &Hidden, at: Flow) -> Ran {
     let mut source = SliceSource::new(text, at.source).pieces(at.piece.max(1));
     let mut sink = VecSink::new(alloc, at.sink).pieces(at.piece.max(1));
     let mut meter = Counter::new();
     let lim = Limits::file();
-    let answer = run_min(alloc, &mut source, &mut sink, rel, &lim, hidden, &mut meter);
+    let answer = run_min(
+        alloc,
+        &mut source,
+        &mut sink,
+        at.relation,
+        &lim,
+        hidden,
+        &mut meter,
+    );
     (answer, sink, meter)
 }
 
-/// Whether such a run, by strong bisimulation, ends in this fault, or in none, and writes `out`.
+/// Whether such a run ends in this fault, or in none, and writes `out`.
 fn ends(
     alloc: Global,
     text: &[u8],
@@ -72,7 +61,7 @@ fn ends(
     fault: Option<Fault>,
     out: &[u8],
 ) -> bool {
-    let (answer, sink, _) = run(alloc, text, hidden, at, Relation::Strong);
+    let (answer, sink, _) = run(alloc, text, hidden, at);
     answer.err() == fault && sink.bytes() == out
 }
 
@@ -95,13 +84,15 @@ fn check_pieces(
     name: &str,
     text: &[u8],
     hidden: &Hidden,
+    relation: Relation,
     fault: Option<Fault>,
     out: &[u8],
 ) -> Result<(), Fail> {
-    let whole = ends(alloc, text, hidden, sound(4096), fault, out);
-    check(name, whole)?;
-    let bytes = ends(alloc, text, hidden, sound(1), fault, out);
-    check(name, bytes)
+    for piece in [4096, 1] {
+        let at = sound(relation, piece);
+        check(name, ends(alloc, text, hidden, at, fault, out))?;
+    }
+    Ok(())
 }
 
 /// The same of a run that hides the labels of the list. If these cannot be read, that is the fault.
@@ -110,11 +101,12 @@ pub(crate) fn check_hiding(
     name: &str,
     text: &[u8],
     list: &[u8],
+    relation: Relation,
     fault: Option<Fault>,
     out: &[u8],
 ) -> Result<(), Fail> {
     match read_hidden(alloc, &mut SliceSource::new(list, None)) {
-        Ok(hidden) => check_pieces(alloc, name, text, &hidden, fault, out),
+        Ok(hidden) => check_pieces(alloc, name, text, &hidden, relation, fault, out),
         Err(found) => check(name, Some(found) == fault),
     }
 }
@@ -124,28 +116,29 @@ pub(crate) fn check_written(
     alloc: Global,
     name: &str,
     text: &[u8],
+    relation: Relation,
     out: &[u8],
 ) -> Result<(), Fail> {
-    check_hiding(alloc, name, text, b"", None, out)
+    check_hiding(alloc, name, text, b"", relation, None, out)
 }
 
-/// The run on the text, with no label hidden, ends in this fault and writes nothing.
+/// The run on the text by strong bisimulation, with no label hidden, ends in this fault and writes nothing.
 pub(crate) fn check_fault(
     alloc: Global,
     name: &str,
     text: &[u8],
     fault: Fault,
 ) -> Result<(), Fail> {
-    check_hiding(alloc, name, text, b"", Some(fault), b"")
+    check_hiding(alloc, name, text, b"", Relation::Strong, Some(fault), b"")
 }
 
 /// A run on the text, its labels of the list hidden, from a source and into a sink that do not fail.
-pub(crate) fn run_hiding(alloc: Global, text: &[u8], hidden: &Hidden, rel: Relation) -> Ran {
-    run(alloc, text, hidden, sound(usize::MAX), rel)
+pub(crate) fn run_hiding(alloc: Global, text: &[u8], hidden: &Hidden, relation: Relation) -> Ran {
+    run(alloc, text, hidden, sound(relation, usize::MAX))
 }
 
-/// The same by strong bisimulation, with no label hidden.
-pub(crate) fn run_whole(alloc: Global, text: &[u8]) -> Ran {
-    let hidden = Hidden::none(alloc);
-    run_hiding(alloc, text, &hidden, Relation::Strong)
+/// Whether so many rounds were counted, and from one visit of each transition in each round to `most` visits.
+pub(crate) fn is_within(meter: &Counter, rounds: u32, transitions: u32, most: u128) -> bool {
+    let least = u128::from(rounds) * u128::from(transitions);
+    meter.rounds() == u128::from(rounds) && least <= meter.visits() && meter.visits() <= most
 }

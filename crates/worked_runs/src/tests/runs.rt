@@ -1,17 +1,52 @@
-//! The worked examples of whole runs by strong bisimulation, and the largest texts, lines, labels and hide lists.
-use super::running::{
-    CHAIN_OF_THREE, Flow, ITS_CHAIN, ITS_DETOUR, ITS_QUOTIENT, SILENT_DETOUR, TWO_EQUAL_TARGETS,
-    Written, check, check_ends, check_fault, check_hiding, check_written, run_whole,
-};
+//! The worked examples of whole runs: quotients, counts, and the largest texts, lines, labels and hide lists.
+use super::running::{Written, check_fault, check_hiding, check_written, is_within, run_hiding};
 use autbis::Counts;
-use autfmt::Fault;
-use lts::Meter;
+use autfmt::{Fault, Hidden};
+use quotient::Relation;
 use std::alloc::{AllocError, Global};
 use std::test::Fail;
+use worked::{
+    CHAIN_OF_THREE, EXAMPLES, Example, LONE_STATE, SILENT_BESIDE_VISIBLE, SILENT_CHAIN,
+    SILENT_DETOUR, STEP, TWO_EQUAL_TARGETS, TWO_EQUAL_TARGETS_TEXT, check,
+};
 
-const QUOTIENTS: [Written; 17] = [
-    ("lone-state", b"des (0,0,1)\n", b"des (0, 0, 1)\n"),
-    ("two-equal-targets", TWO_EQUAL_TARGETS, ITS_QUOTIENT),
+/// The example is minimised to its quotient by this relation.
+fn check_example(alloc: Global, example: &Example, relation: Relation) -> Result<(), Fail> {
+    let Example {
+        name,
+        text,
+        hide,
+        ..
+    } = *example;
+    check_hiding(
+        alloc,
+        name,
+        text,
+        hide,
+        relation,
+        None,
+        quotient(example, relation),
+    )
+}
+
+fn quotient(example: &Example, relation: Relation) -> &'static [u8] {
+    match relation {
+        Relation::Strong => example.strong,
+        Relation::Branching => example.branching,
+    }
+}
+
+#[test]
+fn examples(rt: HostRuntime) -> Result<(), Fail> {
+    for example in &EXAMPLES {
+        check_example(rt.alloc(), example, Relation::Strong)?;
+        check_example(rt.alloc(), example, Relation::Branching)?;
+    }
+    Ok(())
+}
+
+/// Systems whose quotients by strong bisimulation are wanted.
+const STRONG: [Written; 15] = [
     (
         "silent-cycle",
         b"des (0,3,2)\n(0,i,1)\n(1,i,0)\n(1,a,1)\n",
@@ -22,7 +57,6 @@ const QUOTIENTS: [Written; 17] = [
         b"des (0,1,3)\n(1,a,2)\n",
         b"des (0, 0, 1)\n",
     ),
-    ("chain-of-three", CHAIN_OF_THREE, ITS_CHAIN),
     (
         "two-spellings",
         b"des (0, 3, 2)\n(0, a, 1)\n(0, \"a\", 1)\n(0, a, 1)\n",
@@ -74,51 +108,82 @@ const QUOTIENTS: [Written; 17] = [
         b"des (2,4,4)\n(2,a,3)\n(3,b,0)\n(0,a,3)\n(3,c,1)\n",
         b"des (0, 3, 3)\n(0, a, 2)\n(2, b, 0)\n(2, c, 1)\n",
     ),
-    ("silent-detour", SILENT_DETOUR, ITS_DETOUR),
+    ("largest-header", b"des (0,0,1000000)\n", b"des (0, 0, 1)\n"),
+    ("largest-header", b"des (0,0,500001)\n", b"des (0, 0, 1)\n"),
 ];
 
 #[test]
-fn quotients(rt: HostRuntime) -> Result<(), Fail> {
-    for (name, text, out) in &QUOTIENTS {
-        check_written(rt.alloc(), name, text, out)?;
+fn by_strong_bisimulation(rt: HostRuntime) -> Result<(), Fail> {
+    for (name, text, out) in &STRONG {
+        check_written(rt.alloc(), name, text, Relation::Strong, out)?;
     }
     Ok(())
 }
 
-/// What a run counts: the states and transitions that it answers, how many rounds it makes, and how many visits at most.
-type Counted = (u32, u32, u128, u128);
-
-/// Whether a run writes `out` and counts so.
-fn has_counts(alloc: Global, text: &[u8], out: &[u8], counted: &Counted) -> bool {
-    let (states, transitions, rounds, most) = *counted;
-    let counts = Counts {
-        states,
-        transitions,
-    };
-    let (answer, sink, meter) = run_whole(alloc, text);
-    answer == Ok(counts)
-        && sink.bytes() == out
-        && meter.rounds() == rounds
-        && meter.visits() <= most
-}
-
-const COUNTED: [(Written, Counted); 4] = [
+/// Systems whose quotients by branching bisimulation are wanted.
+const BRANCHING: [Written; 4] = [
     (
-        ("lone-state", b"des (0,0,1)\n", b"des (0, 0, 1)\n"),
-        (1, 0, 1, 0),
+        "silent-cycle",
+        b"des (0,3,2)\n(0,i,1)\n(1,i,0)\n(1,a,1)\n",
+        b"des (0, 1, 1)\n(0, a, 0)\n",
+    ),
+    ("silent-loop", b"des (0,1,1)\n(0,i,0)\n", b"des (0, 0, 1)\n"),
+    (
+        "quoted-internal",
+        b"des (0,1,2)\n(0,\"i\",1)\n",
+        b"des (0, 0, 1)\n",
     ),
     (
-        ("two-equal-targets", TWO_EQUAL_TARGETS, ITS_QUOTIENT),
-        (3, 2, 2, 8),
+        "quoted-internal, tau",
+        b"des (0,1,2)\n(0,tau,1)\n",
+        b"des (0, 1, 2)\n(0, tau, 1)\n",
     ),
-    (("chain-of-three", CHAIN_OF_THREE, ITS_CHAIN), (4, 3, 4, 18)),
-    (("silent-detour", SILENT_DETOUR, ITS_DETOUR), (6, 6, 2, 24)),
 ];
 
 #[test]
+fn by_branching_bisimulation(rt: HostRuntime) -> Result<(), Fail> {
+    for (name, text, out) in &BRANCHING {
+        check_written(rt.alloc(), name, text, Relation::Branching, out)?;
+    }
+    Ok(())
+}
+
+/// What a run by a relation counts: how many rounds it makes, and how many visits at most.
+type Counted = (Relation, u32, u128);
+
+/// Whether a run writes `out`, answers the counts of its text, and counts so.
+fn has_counts(alloc: Global, text: &[u8], out: &[u8], counts: Counts, counted: Counted) -> bool {
+    let (relation, rounds, most) = counted;
+    let (answer, sink, meter) = run_hiding(alloc, text, &Hidden::none(alloc), relation);
+    answer == Ok(counts)
+        && sink.bytes() == out
+        && is_within(&meter, rounds, counts.transitions, most)
+}
+
+const COUNTED: [(Example, Counted); 7] = [
+    (LONE_STATE, (Relation::Strong, 1, 0)),
+    (TWO_EQUAL_TARGETS, (Relation::Strong, 2, 8)),
+    (CHAIN_OF_THREE, (Relation::Strong, 4, 18)),
+    (SILENT_CHAIN, (Relation::Branching, 2, 30)),
+    (SILENT_BESIDE_VISIBLE, (Relation::Branching, 2, 30)),
+    (SILENT_DETOUR, (Relation::Strong, 2, 24)),
+    (SILENT_DETOUR, (Relation::Branching, 2, 84)),
+];
+
+/// Whether a run on the example counts so.
+fn is_counted(alloc: Global, example: &Example, counted: Counted) -> bool {
+    let counts = Counts {
+        states: example.states,
+        transitions: example.transitions,
+    };
+    let out = quotient(example, counted.0);
+    has_counts(alloc, example.text, out, counts, counted)
+}
+
+#[test]
 fn rounds_and_visits(rt: HostRuntime) -> Result<(), Fail> {
-    for ((name, text, out), counted) in &COUNTED {
-        check(name, has_counts(rt.alloc(), text, out, counted))?;
+    for (example, counted) in &COUNTED {
+        check(example.name, is_counted(rt.alloc(), example, *counted))?;
     }
     Ok(())
 }
@@ -137,27 +202,16 @@ fn thousand(alloc: Global, blank: &str) -> Result<String, AllocError> {
 fn long_chain(rt: HostRuntime) -> Result<(), Fail> {
     let text = thousand(rt.alloc(), "")?;
     let out = thousand(rt.alloc(), " ")?;
-    let counted = (1000, 999, 1000, 1_000_998);
+    let (text, out) = (text.as_bytes(), out.as_bytes());
+    let counts = Counts {
+        states: 1000,
+        transitions: 999,
+    };
+    let counted = (Relation::Strong, 1000, 1_000_998);
     check(
         "long-chain",
-        has_counts(rt.alloc(), text.as_bytes(), out.as_bytes(), &counted),
+        has_counts(rt.alloc(), text, out, counts, counted),
     )
-}
-
-const LARGEST: [&[u8]; 2] = [b"des (0,0,1000000)\n", b"des (0,0,500001)\n"];
-
-#[test]
-fn largest_header(rt: HostRuntime) -> Result<(), Fail> {
-    let at = Flow {
-        source: None,
-        sink: None,
-        piece: 4096,
-    };
-    let out = b"des (0, 0, 1)\n";
-    for text in &LARGEST {
-        check_ends(rt.alloc(), "largest-header", text, at, None, out)?;
-    }
-    Ok(())
 }
 
 /// A long text: what stands in front, what follows it so many times, and what stands behind.
@@ -173,7 +227,13 @@ fn spelled(alloc: Global, long: Long) -> Result<String, AllocError> {
 fn check_long(alloc: Global, name: &str, text: Long, out: Long) -> Result<(), Fail> {
     let text = spelled(alloc, text)?;
     let out = spelled(alloc, out)?;
-    check_written(alloc, name, text.as_bytes(), out.as_bytes())
+    check_written(
+        alloc,
+        name,
+        text.as_bytes(),
+        Relation::Strong,
+        out.as_bytes(),
+    )
 }
 
 /// The run on the long text ends in this fault.
@@ -216,48 +276,70 @@ fn longest_label(rt: HostRuntime) -> Result<(), Fail> {
     Ok(())
 }
 
-/// A name, a text, its hide list, its fault if it has one, and what is written.
+/// A name, a text, its hide list, a relation, its fault if it has one, and what is written.
 type Hiding = (
     &'static str,
     &'static [u8],
     &'static [u8],
+    Relation,
     Option<Fault>,
     &'static [u8],
 );
 
-const HIDING: [Hiding; 5] = [
+const HIDING: [Hiding; 7] = [
+    (
+        "hidden-step-goes",
+        b"des (0,2,3)\n(0,a,1)\n(1,b,2)\n",
+        b"a\n",
+        Relation::Branching,
+        None,
+        b"des (0, 1, 2)\n(0, b, 1)\n",
+    ),
     (
         "hidden-step-stays",
         b"des (0,2,3)\n(0,a,1)\n(1,b,2)\n",
         b"a\n",
+        Relation::Strong,
         None,
         b"des (0, 2, 3)\n(0, i, 1)\n(1, b, 2)\n",
     ),
     (
-        "hidden-quoted",
-        b"des (0,2,2)\n(0,a,1)\n(0,b,1)\n",
-        b"\"a\"\nb\n",
+        "hidden-spaced-label",
+        b"des(0,1,2)\n( 0 ,\"SEND !1\", 1 )\n",
+        b"\"SEND !1\"\n",
+        Relation::Branching,
         None,
-        b"des (0, 1, 2)\n(0, i, 1)\n",
+        b"des (0, 0, 1)\n",
+    ),
+    (
+        "hidden-internal",
+        b"des (0,2,2)\n(0,i,1)\n(0,a,1)\n",
+        b"i\n",
+        Relation::Branching,
+        None,
+        b"des (0, 2, 2)\n(0, a, 1)\n(0, i, 1)\n",
     ),
     (
         "two-labels-a-line",
-        TWO_EQUAL_TARGETS,
+        TWO_EQUAL_TARGETS_TEXT,
         b"a b\n",
+        Relation::Strong,
         Some(Fault::BadHide(1)),
         b"",
     ),
     (
         "empty-hide-list",
-        TWO_EQUAL_TARGETS,
+        TWO_EQUAL_TARGETS_TEXT,
         b"",
+        Relation::Strong,
         None,
-        ITS_QUOTIENT,
+        STEP,
     ),
     (
         "empty-hide-line",
-        TWO_EQUAL_TARGETS,
+        TWO_EQUAL_TARGETS_TEXT,
         b"a\n\n",
+        Relation::Strong,
         Some(Fault::BadHide(2)),
         b"",
     ),
@@ -265,8 +347,8 @@ const HIDING: [Hiding; 5] = [
 
 #[test]
 fn hidden_labels(rt: HostRuntime) -> Result<(), Fail> {
-    for (name, text, list, fault, out) in &HIDING {
-        check_hiding(rt.alloc(), name, text, list, *fault, out)?;
+    for (name, text, list, relation, fault, out) in &HIDING {
+        check_hiding(rt.alloc(), name, text, list, *relation, *fault, out)?;
     }
     Ok(())
 }
@@ -279,8 +361,16 @@ fn check_long_list(
     out: &[u8],
 ) -> Result<(), Fail> {
     let list = "a\n".repeat(alloc, lines)?;
-    let (name, text) = ("longest-hide-list", TWO_EQUAL_TARGETS);
-    check_hiding(alloc, name, text, list.as_bytes(), fault, out)
+    let (name, text) = ("longest-hide-list", TWO_EQUAL_TARGETS_TEXT);
+    check_hiding(
+        alloc,
+        name,
+        text,
+        list.as_bytes(),
+        Relation::Strong,
+        fault,
+        out,
+    )
 }
 
 /// Lists of 100,000 and of 100,001 lines.

@@ -1,8 +1,9 @@
 //! Header lines, and the limits of a text.
-use super::reading::{Faulty, Written, check, check_all_written, check_faults};
+use super::reading::{Faulty, Written, check_all_written, check_faults};
 use autfmt::Fault::{BadHeader, FirstState, NoStates, TooManyStates, TooManyTransitions};
 use autfmt::Limits;
 use std::test::Fail;
+use worked::check;
 
 const THREE: &[u8] = b"des (0, 3, 4)\n(0, a, 3)\n(0, a, 3)\n(0, a, 3)\n";
 
@@ -75,7 +76,7 @@ fn no_headers(rt: HostRuntime) -> Result<(), Fail> {
     check_faults(rt.alloc(), &Limits::file(), &NO_HEADERS)
 }
 
-const OUT_OF_RANGE: [Faulty; 8] = [
+const OUT_OF_RANGE: [Faulty; 7] = [
     ("first-out-of-range", b"des (2,0,2)\n", FirstState),
     ("first-out-of-range", b"des (1,0,0)\n", NoStates),
     ("ten-digit-numbers", b"des (9999999999,0,1)\n", FirstState),
@@ -95,7 +96,6 @@ const OUT_OF_RANGE: [Faulty; 8] = [
         b"des (0,10000001,1)\n",
         TooManyTransitions,
     ),
-    ("header-fault-needs-no-memory", b"des (0,0,0)\n", NoStates),
 ];
 
 #[test]

@@ -1,12 +1,11 @@
 //! Hide lists: their labels, their faults, and what a text is when they are hidden.
 use super::long::padded;
-use super::reading::{
-    SIZES, STEP, TWO_EQUAL_TARGETS, Written, check, check_all_written, check_written, hidden_by,
-};
+use super::reading::{SIZES, Written, check_all_written, check_written, hidden_by};
 use autfmt::Fault;
 use autfmt::Fault::{BadHide, Device, LineTooLong, TooManyHidden};
 use std::alloc::{AllocError, Global};
 use std::test::Fail;
+use worked::{STEP, TWO_EQUAL_TARGETS_TEXT, check};
 
 const TWO: &[u8] = b"des (0,2,2)\n(0,a,1)\n(0,b,1)\n";
 
@@ -55,7 +54,12 @@ const HIDDEN: [Written; 9] = [
     ),
     ("silent-choice", SILENT, b"", CHOICE),
     ("hidden-internal", SILENT, b"i\n", CHOICE),
-    ("empty-hide-list", TWO_EQUAL_TARGETS, b"", TWO_EQUAL_TARGETS),
+    (
+        "empty-hide-list",
+        TWO_EQUAL_TARGETS_TEXT,
+        b"",
+        TWO_EQUAL_TARGETS_TEXT,
+    ),
 ];
 
 #[test]

@@ -1,9 +1,10 @@
 //! Lines, labels and texts that are long.
-use super::reading::{STEP, check_fault, check_written};
+use super::reading::{check_fault, check_written};
 use autfmt::Fault::{BadEdge, ExtraText, LineTooLong};
 use autfmt::{Fault, Limits};
 use std::alloc::{AllocError, Global};
 use std::test::Fail;
+use worked::STEP;
 
 /// The bytes in front, one byte so many times, and the bytes behind.
 pub(crate) fn padded(
@@ -27,49 +28,18 @@ fn append(byte: u8, times: usize, behind: &str, text: &mut Vec<u8>) -> Result<()
 }
 
 /// A name, the parts of a text, and its fault.
-type Long = (
-    &'static str,
-    &'static str,
-    u8,
-    usize,
-    &'static str,
-    Option<Fault>,
-);
+type Long = (&'static str, &'static str, u8, usize, &'static str, Fault);
 
-const LONG: [Long; 10] = [
-    // Lines 1 of 8,193 bytes without a line feed, and of 10,000 bytes; these are refused before anything grows.
-    (
-        "long-header",
-        "des (0,0,1)",
-        b' ',
-        8182,
-        "",
-        Some(LineTooLong(1)),
-    ),
-    (
-        "header-fault-needs-no-memory",
-        "",
-        b'x',
-        10_000,
-        "",
-        Some(LineTooLong(1)),
-    ),
-    // Lines 2 of 8,192 and of 8,193 bytes.
-    (
-        "longest-line",
-        "des (0,1,2)\n(0,a,1)",
-        b' ',
-        8185,
-        "\n",
-        None,
-    ),
+const LONG: [Long; 6] = [
+    // A line 1 of 8,193 bytes without a line feed, and lines 2 of 8,193 bytes.
+    ("long-header", "des (0,0,1)", b' ', 8182, "", LineTooLong(1)),
     (
         "longest-line, a byte more",
         "des (0,1,2)\n(0,a,1)",
         b' ',
         8186,
         "\n",
-        Some(LineTooLong(2)),
+        LineTooLong(2),
     ),
     (
         "longest-line, out of range",
@@ -77,7 +47,7 @@ const LONG: [Long; 10] = [
         b' ',
         8186,
         "\n",
-        Some(LineTooLong(2)),
+        LineTooLong(2),
     ),
     (
         "long-line-after-end",
@@ -85,15 +55,7 @@ const LONG: [Long; 10] = [
         b'x',
         9000,
         "\n",
-        Some(ExtraText(2)),
-    ),
-    (
-        "longest-label",
-        "des (0,1,2)\n(0,",
-        b'a',
-        8000,
-        ",1)\n",
-        None,
+        ExtraText(2),
     ),
     (
         "longest-label, a byte more",
@@ -101,15 +63,7 @@ const LONG: [Long; 10] = [
         b'a',
         8001,
         ",1)\n",
-        Some(BadEdge(2)),
-    ),
-    (
-        "longest-label, quoted",
-        "des (0,1,2)\n(0,\"",
-        b'a',
-        8000,
-        "\",1)\n",
-        None,
+        BadEdge(2),
     ),
     (
         "longest-label, quoted, a byte more",
@@ -117,15 +71,15 @@ const LONG: [Long; 10] = [
         b'a',
         8001,
         "\",1)\n",
-        Some(BadEdge(2)),
+        BadEdge(2),
     ),
 ];
 
-/// The long text has its fault, or none.
+/// The long text has its fault.
 fn check_long(alloc: Global, long: &Long) -> Result<(), Fail> {
     let (name, front, byte, times, behind, wanted) = *long;
     let text = padded(alloc, front, byte, times, behind)?;
-    check_fault(alloc, name, &text, None, &Limits::file(), wanted)
+    check_fault(alloc, name, &text, None, &Limits::file(), Some(wanted))
 }
 
 #[test]

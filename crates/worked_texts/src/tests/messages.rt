@@ -1,9 +1,9 @@
 //! The messages of faults, and the faults that other errors become.
-use super::reading::check;
 use autfmt::{Broken, Fault};
 use lts::Memory;
 use std::alloc::{AllocError, AllocFailed, Global};
 use std::test::Fail;
+use worked::check;
 
 /// Faults and their messages.
 const MESSAGES: [(Fault, &str); 17] = [

@@ -5,6 +5,7 @@ use autfmt::{
 use lts::{Counter, Lts, Meter};
 use std::alloc::Global;
 use std::test::Fail;
+use worked::check;
 
 /// A name, a text, and its fault.
 pub(crate) type Faulty = (&'static str, &'static [u8], Fault);
@@ -14,19 +15,6 @@ pub(crate) type Written = (&'static str, &'static [u8], &'static [u8], &'static 
 
 /// The sizes of the pieces in which each text comes.
 pub(crate) const SIZES: [usize; 7] = [1, 2, 3, 7, 4095, 4096, 4097];
-
-pub(crate) const TWO_EQUAL_TARGETS: &[u8] = b"des (0, 2, 3)\n(0, a, 1)\n(0, a, 2)\n";
-
-pub(crate) const STEP: &[u8] = b"des (0, 1, 2)\n(0, a, 1)\n";
-
-/// Fails with the name of an example that does not come out as wanted.
-pub(crate) fn check(name: &str, is_as_wanted: bool) -> Result<(), Fail> {
-    if is_as_wanted {
-        Ok(())
-    } else {
-        Err(Fail::new(name))
-    }
-}
 
 /// The system of the text, which comes in pieces of `k` bytes and fails at the place.
 fn system_of(

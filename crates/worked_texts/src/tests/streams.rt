@@ -1,12 +1,12 @@
 //! The line buffer, sources and sinks: of memory, and of the readers and writers of the standard library.
 ghost use Rattle.std.specs.Prelude.{◌≡◌};
 
-use super::reading::check;
 use autfmt::{FromRead, LineBuffer, Sink, SliceSource, Source, ToWrite, VecSink, put_all};
 use std::alloc::{AllocError, Global};
 use std::io;
 use std::io::{Error, ErrorKind, Read, Write};
 use std::test::Fail;
+use worked::check;
 
 const TEXT: &[u8] = b"des (0,2,3)\n(0,a,1)\n(0,a,2)\n";
 
@@ -162,7 +162,7 @@ fn a_writer_takes_its_bytes(rt: HostRuntime) -> Result<(), Fail> {
     check("a writer", done && failures == 0 && out.as_slice() == TEXT)
 }
 
-/// A reader that gives one byte a read, and is interrupted once `left` are given.
+/// A reader that gives one byte a read, and is interrupted once: when `left` are given.
 #[derive(Drop)]
 struct Faltering {
     left: u32,
@@ -171,6 +171,7 @@ struct Faltering {
 impl Read for Faltering {
     fn read(&mut self, buf: &mut [u8]) -> io::Result<usize> {
         if self.left == 0 {
+            self.left = u32::MAX;
             return Err(Error::from(ErrorKind::Interrupted));
         }
         self.left -= 1;
@@ -193,7 +194,8 @@ fn a_failed_read_is_not_tried_again(rt: HostRuntime) -> Result<(), Fail> {
     )
 }
 
-/// A writer that takes two bytes a write until it has `room` for none, and counts its flushes.
+/// A writer that takes two bytes a write until it has `room` for none. It then fails once, or takes no bytes once, and
+/// has room again. It counts its flushes, of which the first one fails if the writer fails.
 #[derive(Drop)]
 struct Tight {
     room: usize,
@@ -203,8 +205,13 @@ struct Tight {
 
 impl Write for Tight {
     fn write(&mut self, buf: &[u8]) -> io::Result<usize> {
-        if self.room == 0 && self.fails {
-            return Err(Error::from(ErrorKind::Interrupted));
+        if self.room == 0 {
+            self.room = 100;
+            return if self.fails {
+                Err(Error::from(ErrorKind::Interrupted))
+            } else {
+                Ok(0)
+            };
         }
         let n = buf.len().min(self.room).min(2);
         self.room -= n;
@@ -213,8 +220,8 @@ impl Write for Tight {
 
     fn flush(&mut self) -> io::Result<()> {
         self.flushes = self.flushes.saturating_add(1);
-        if self.fails {
-            Err(Error::from(ErrorKind::BrokenPipe))
+        if self.fails && self.flushes == 1 {
+            Err(Error::from(ErrorKind::Interrupted))
         } else {
             Ok(())
         }

@@ -1,7 +1,6 @@
 //! Transition lines, how many of them a text may have, and sources that fail between them.
 use super::reading::{
-    Faulty, STEP, TWO_EQUAL_TARGETS, Written, check_all_written, check_fault, check_faults,
-    check_written,
+    Faulty, Written, check_all_written, check_fault, check_faults, check_written,
 };
 use autfmt::Fault::{
     BadEdge, BadHeader, Device, ExtraText, MissingEdges, SourceRange, TargetRange,
@@ -9,6 +8,9 @@ use autfmt::Fault::{
 use autfmt::{Fault, Limits};
 use std::alloc::{AllocError, Global};
 use std::test::Fail;
+use worked::{STEP, TWO_EQUAL_TARGETS_TEXT};
+
+const TWO: &[u8] = TWO_EQUAL_TARGETS_TEXT;
 
 /// A line, and how it is written again.
 type Line = (&'static [u8], &'static [u8]);
@@ -102,12 +104,7 @@ fn bad_lines(rt: HostRuntime) -> Result<(), Fail> {
 const CHAIN: &[u8] = b"des (0, 2, 3)\n(0, a, 1)\n(1, b, 2)\n";
 
 const GOOD: [Written; 9] = [
-    (
-        "two-equal-targets",
-        TWO_EQUAL_TARGETS,
-        b"",
-        TWO_EQUAL_TARGETS,
-    ),
+    ("two-equal-targets", TWO, b"", TWO),
     (
         "two-spellings",
         b"des (0, 3, 2)\n(0, a, 1)\n(0, \"a\", 1)\n(0, a, 1)\n",
@@ -202,7 +199,7 @@ fn faulty_texts(rt: HostRuntime) -> Result<(), Fail> {
 
 /// Texts that fail at their end, and the fault that is known then.
 const FAILING: [Faulty; 7] = [
-    ("whole", TWO_EQUAL_TARGETS, Device),
+    ("whole", TWO, Device),
     ("failing-ends", b"des (0, 2, 3)\n(0, a, 1)\n", Device),
     ("unjudged-last-line", b"des (0,1,2)\n(0,a,9)", Device),
     (
@@ -242,8 +239,8 @@ fn cut_after(k: usize) -> Option<Fault> {
 
 #[test]
 fn cut_after_each_byte(rt: HostRuntime) -> Result<(), Fail> {
-    for (k, _) in TWO_EQUAL_TARGETS.iter().enumerate() {
-        let text = &TWO_EQUAL_TARGETS[..k];
+    for (k, _) in TWO.iter().enumerate() {
+        let text = &TWO[..k];
         check_fault(rt.alloc(), "cut", text, None, &Limits::file(), cut_after(k))?;
     }
     Ok(())
@@ -251,7 +248,7 @@ fn cut_after_each_byte(rt: HostRuntime) -> Result<(), Fail> {
 
 #[test]
 fn failing_after_each_byte(rt: HostRuntime) -> Result<(), Fail> {
-    let (text, wanted) = (TWO_EQUAL_TARGETS, Some(Device));
+    let (text, wanted) = (TWO, Some(Device));
     for k in 0..35 {
         check_fault(
             rt.alloc(),

@@ -1,11 +1,10 @@
 //! Sinks that fail while a system is written, and how often they are finished.
-ghost use Rattle.std.specs.Prelude.{None};
-
-use super::reading::{STEP, answer, check, hiding};
-use autfmt::{Broken, Fault, Sink, VecSink};
+use super::reading::{answer, hiding};
+use autfmt::{Fault, Sink, VecSink};
 use lts::{Counter, Lts};
 use std::alloc::Global;
 use std::test::Fail;
+use worked::{Counted, STEP, check};
 
 /// Whether a sink that fails at the count, in pieces, gets the beginning of the text and the fault `Device`.
 fn fails_at(alloc: Global, s: &Lts<Counter>, count: usize, most: usize) -> bool {
@@ -37,31 +36,6 @@ fn check_all_ends(alloc: Global, s: &Lts<Counter>) -> Result<(), Fail> {
 fn failing_ends(rt: HostRuntime) -> Result<(), Fail> {
     let s = hiding(rt.alloc(), STEP, b"", 4096)?;
     check_all_ends(rt.alloc(), &s)
-}
-
-/// A sink that takes all and counts its ends.
-#[derive(Drop)]
-struct Counted {
-    finished: u32,
-}
-
-impl Sink for Counted {
-    ghost written = { λ _. None };
-
-    ghost failures = { λ _. 0 };
-
-    fn put(&mut self, b: &[u8]) -> Result<usize, Broken> {
-        Ok(b.len())
-    }
-
-    fn finish(&mut self) -> Result<(), Broken> {
-        self.finished = self.finished.saturating_add(1);
-        Ok(())
-    }
-
-    fn failures(&self) -> u32 {
-        0
-    }
 }
 
 /// Whether the system is written by one visit, and the sink is finished once.

@@ -1,0 +1,146 @@
+//! Systems by their names, with what is made of them.
+
+/// A system that is minimised, its labels of a list hidden.
+#[derive(Clone, Copy, Drop)]
+pub struct Example {
+    pub name: &'static str,
+    pub text: &'static [u8],
+    pub hide: &'static [u8],
+    pub states: u32,
+    pub transitions: u32,
+    /// Its quotient by strong bisimulation.
+    pub strong: &'static [u8],
+    /// Its quotient by branching bisimulation.
+    pub branching: &'static [u8],
+}
+
+/// One transition: the quotient of `two-equal-targets`.
+pub const STEP: &[u8] = b"des (0, 1, 2)\n(0, a, 1)\n";
+
+pub const LONE_STATE_TEXT: &[u8] = b"des (0,0,1)\n";
+
+pub const LONE_STATE: Example = Example {
+    name: "lone-state",
+    text: LONE_STATE_TEXT,
+    hide: b"",
+    states: 1,
+    transitions: 0,
+    strong: b"des (0, 0, 1)\n",
+    branching: b"des (0, 0, 1)\n",
+};
+
+pub const TWO_EQUAL_TARGETS_TEXT: &[u8] = b"des (0, 2, 3)\n(0, a, 1)\n(0, a, 2)\n";
+
+pub const TWO_EQUAL_TARGETS: Example = Example {
+    name: "two-equal-targets",
+    text: TWO_EQUAL_TARGETS_TEXT,
+    hide: b"",
+    states: 3,
+    transitions: 2,
+    strong: STEP,
+    branching: STEP,
+};
+
+pub const SILENT_CHOICE: Example = Example {
+    name: "silent-choice",
+    text: b"des (0,2,2)\n(0,i,1)\n(0,a,1)\n",
+    hide: b"",
+    states: 2,
+    transitions: 2,
+    strong: b"des (0, 2, 2)\n(0, a, 1)\n(0, i, 1)\n",
+    branching: b"des (0, 2, 2)\n(0, a, 1)\n(0, i, 1)\n",
+};
+
+pub const CHAIN_OF_THREE: Example = Example {
+    name: "chain-of-three",
+    text: b"des (0,3,4)\n(0,a,1)\n(1,a,2)\n(2,a,3)\n",
+    hide: b"",
+    states: 4,
+    transitions: 3,
+    strong: b"des (0, 3, 4)\n(0, a, 1)\n(1, a, 2)\n(2, a, 3)\n",
+    branching: b"des (0, 3, 4)\n(0, a, 1)\n(1, a, 2)\n(2, a, 3)\n",
+};
+
+pub const SILENT_CHAIN: Example = Example {
+    name: "silent-chain",
+    text: b"des (0,3,4)\n(0,i,1)\n(1,i,2)\n(2,a,3)\n",
+    hide: b"",
+    states: 4,
+    transitions: 3,
+    strong: b"des (0, 3, 4)\n(0, i, 1)\n(1, i, 2)\n(2, a, 3)\n",
+    branching: STEP,
+};
+
+pub const SILENT_BESIDE_VISIBLE: Example = Example {
+    name: "silent-beside-visible",
+    text: b"des (0,3,4)\n(0,i,1)\n(0,a,2)\n(1,b,3)\n",
+    hide: b"",
+    states: 4,
+    transitions: 3,
+    strong: b"des (0, 3, 3)\n(0, a, 2)\n(0, i, 1)\n(1, b, 2)\n",
+    branching: b"des (0, 3, 3)\n(0, a, 2)\n(0, i, 1)\n(1, b, 2)\n",
+};
+
+pub const SILENT_DETOUR: Example = Example {
+    name: "silent-detour",
+    text: b"des (0,6,6)\n(0,i,1)\n(1,a,2)\n(0,a,3)\n(2,i,4)\n(3,b,5)\n(4,b,5)\n",
+    hide: b"",
+    states: 6,
+    transitions: 6,
+    strong: b"des (0, 5, 5)\n(0, a, 3)\n(0, i, 1)\n(1, a, 2)\n(2, i, 3)\n(3, b, 4)\n",
+    branching: b"des (0, 2, 3)\n(0, a, 1)\n(1, b, 2)\n",
+};
+
+pub const HIDDEN_QUOTED: Example = Example {
+    name: "hidden-quoted",
+    text: b"des (0,2,2)\n(0,a,1)\n(0,b,1)\n",
+    hide: b"\"a\"\nb\n",
+    states: 2,
+    transitions: 2,
+    strong: b"des (0, 1, 2)\n(0, i, 1)\n",
+    branching: b"des (0, 0, 1)\n",
+};
+
+/// All systems of this file.
+pub const EXAMPLES: [Example; 8] = [
+    LONE_STATE,
+    TWO_EQUAL_TARGETS,
+    SILENT_CHOICE,
+    CHAIN_OF_THREE,
+    SILENT_CHAIN,
+    SILENT_BESIDE_VISIBLE,
+    SILENT_DETOUR,
+    HIDDEN_QUOTED,
+];
+
+/// Two systems that are compared, their labels of a list hidden.
+#[derive(Clone, Copy, Drop)]
+pub struct Pair {
+    pub name: &'static str,
+    pub first: &'static [u8],
+    pub second: &'static [u8],
+    pub hide: &'static [u8],
+    /// Whether they are strongly bisimilar.
+    pub strong: bool,
+    /// Whether they are branching bisimilar.
+    pub branching: bool,
+}
+
+/// The choice comes after the step, and before it.
+pub const MOMENT_OF_CHOICE: Pair = Pair {
+    name: "moment-of-choice",
+    first: b"des (0,3,4)\n(0,a,1)\n(1,b,2)\n(1,c,3)\n",
+    second: b"des (0,4,5)\n(0,a,1)\n(0,a,2)\n(1,b,3)\n(2,c,4)\n",
+    hide: b"",
+    strong: false,
+    branching: false,
+};
+
+pub const SILENT_MIDDLE: Pair = Pair {
+    name: "silent-middle",
+    first: b"des (0,3,4)\n(0,a,1)\n(1,i,2)\n(2,b,3)\n",
+    second: b"des (0,2,3)\n(0,a,1)\n(1,b,2)\n",
+    hide: b"",
+    strong: false,
+    branching: true,
+};

@@ -1,0 +1,23 @@
+//! What the tests of several crates share: worked examples by their names, a sink that counts its ends, and how a test
+//! says which example is not as wanted.
+#![tactic(auto)]
+
+mod counted;
+mod examples;
+
+pub use counted::Counted;
+pub use examples::{
+    CHAIN_OF_THREE, EXAMPLES, Example, HIDDEN_QUOTED, LONE_STATE, LONE_STATE_TEXT,
+    MOMENT_OF_CHOICE, Pair, SILENT_BESIDE_VISIBLE, SILENT_CHAIN, SILENT_CHOICE, SILENT_DETOUR,
+    SILENT_MIDDLE, STEP, TWO_EQUAL_TARGETS, TWO_EQUAL_TARGETS_TEXT,
+};
+use std::test::Fail;
+
+/// Fails with the name of an example that does not come out as wanted.
+pub fn check(name: &str, is_as_wanted: bool) -> Result<(), Fail> {
+    if is_as_wanted {
+        Ok(())
+    } else {
+        Err(Fail::new(name))
+    }
+}

@@ -1,0 +1,89 @@
+//! Two systems compared from memory into memory.
+use crate::ending::{Ending, has_more, keeps_to};
+use autbis::{CmpFault, Side, run_cmp};
+use autfmt::{Fault, Hidden, Limits, Sink, SliceSource, VecSink};
+use lts::{Counter, Meter};
+use quotient::Relation;
+use std::alloc::Global;
+use worked::Pair;
+
+/// What is left of both texts.
+type Left = (bool, bool);
+
+/// What a comparison answers, what it left of the texts, what it wrote and what it counted.
+type Ran = (Result<bool, CmpFault>, Left, VecSink, Counter);
+
+fn run(alloc: Global, pair: &Pair, relation: Relation) -> Ran {
+    let mut first = SliceSource::new(pair.first, None);
+    let mut second = SliceSource::new(pair.second, None);
+    let mut sink = VecSink::new(alloc, None);
+    let mut meter = Counter::new();
+    let (lim, hidden) = (Limits::file(), Hidden::none(alloc));
+    let answer = run_cmp(
+        alloc,
+        &mut first,
+        &mut second,
+        &mut sink,
+        relation,
+        &lim,
+        &hidden,
+        &mut meter,
+    );
+    (
+        answer,
+        (has_more(&mut first), has_more(&mut second)),
+        sink,
+        meter,
+    )
+}
+
+/// How the comparison ends.
+pub(crate) fn ending(alloc: Global, pair: &Pair, relation: Relation) -> Ending {
+    let same = match relation {
+        Relation::Strong => pair.strong,
+        Relation::Branching => pair.branching,
+    };
+    let (answer, left, sink, meter) = run(alloc, pair, relation);
+    match answer {
+        Ok(found) => Ending::wanted_if(found == same && is_said(same, left, &sink, &meter)),
+        Err(refused) => Ending::refused_if(is_left(refused, same, left, &sink, &meter)),
+    }
+}
+
+fn line_of(same: bool) -> &'static [u8] {
+    if same { b"TRUE\n" } else { b"FALSE\n" }
+}
+
+/// Whether both texts were read and the line of the verdict was written.
+fn is_said(same: bool, left: Left, sink: &VecSink, meter: &Counter) -> bool {
+    left == (false, false)
+        && sink.failures() == 0
+        && sink.bytes() == line_of(same)
+        && keeps_to(meter, 9, 7, 1)
+}
+
+/// Whether a refusal left what is promised. While a text is read, nothing is written or counted, and the second text is
+/// whole until the first is read. After that, the sink's own refusal leaves a beginning of the line, and others nothing.
+fn is_left(refused: CmpFault, same: bool, left: Left, sink: &VecSink, meter: &Counter) -> bool {
+    let CmpFault { side, fault } = refused;
+    if fault == Fault::Device {
+        return side == Side::Run
+            && left == (false, false)
+            && sink.failures() == 1
+            && line_of(same).starts_with(sink.bytes())
+            && keeps_to(meter, 9, 7, 1);
+    }
+    fault == Fault::Memory
+        && sink.failures() == 0
+        && sink.bytes().is_empty()
+        && is_met(side, left, meter)
+}
+
+/// Whether what was read and counted fits the side of a refusal.
+fn is_met(side: Side, left: Left, meter: &Counter) -> bool {
+    match side {
+        Side::First => left.1 && meter.is_fresh(),
+        Side::Second => !left.0 && meter.is_fresh(),
+        Side::Run => left == (false, false) && keeps_to(meter, 9, 7, 1),
+    }
+}

@@ -1,0 +1,73 @@
+//! Worked examples in memory, of which `refusals/try` refuses each growth in turn. The exit status and the message are
+//! those of the program `autbis`: 0 if each example came out as wanted, 4 if one met a refusal and left what is promised
+//! then. The status is 1 if one did anything else; its name is said then.
+#![tactic(auto)]
+
+mod comparisons;
+mod ending;
+mod minimisations;
+mod streams;
+
+use autbis::{Fault, Relation, report};
+use ending::Ending;
+use std::alloc::Global;
+use std::io::Write;
+use std::process::ExitCode;
+use worked::{EXAMPLES, Example, MOMENT_OF_CHOICE, Pair, SILENT_MIDDLE};
+
+const RELATIONS: [Relation; 2] = [Relation::Strong, Relation::Branching];
+
+fn main(rt: HostRuntime) -> ExitCode {
+    let errors = &mut rt.stderr();
+    let ending = all(rt.alloc(), errors);
+    ExitCode::from(status(ending, errors))
+}
+
+/// The exit status of an ending. That of a refusal is said.
+fn status<E: Write>(ending: Ending, e: &mut E) -> u8 {
+    match ending {
+        Ending::Wanted => 0,
+        Ending::Refused => report(&Fault::Memory, "", e),
+        Ending::Wrong => 1,
+    }
+}
+
+/// The worst ending of all examples.
+fn all<E: Write>(alloc: Global, e: &mut E) -> Ending {
+    let mut worst = said("streams", streams::ending(alloc), e);
+    for example in &EXAMPLES {
+        worst = worst.and(minimised(alloc, example, e));
+    }
+    for pair in &[MOMENT_OF_CHOICE, SILENT_MIDDLE] {
+        worst = worst.and(compared(alloc, pair, e));
+    }
+    worst
+}
+
+/// The worse ending of the minimisations by both relations.
+fn minimised<E: Write>(alloc: Global, example: &Example, e: &mut E) -> Ending {
+    let mut worst = Ending::Wanted;
+    for relation in RELATIONS {
+        let ending = minimisations::ending(alloc, example, relation);
+        worst = worst.and(said(example.name, ending, e));
+    }
+    worst
+}
+
+/// The worse ending of the comparisons by both relations.
+fn compared<E: Write>(alloc: Global, pair: &Pair, e: &mut E) -> Ending {
+    let mut worst = Ending::Wanted;
+    for relation in RELATIONS {
+        let ending = comparisons::ending(alloc, pair, relation);
+        worst = worst.and(said(pair.name, ending, e));
+    }
+    worst
+}
+
+/// The ending. If it is wrong, the name of the example is said.
+fn said<E: Write>(name: &str, ending: Ending, e: &mut E) -> Ending {
+    if ending == Ending::Wrong {
+        let _ = writeln!(e, "{name}");
+    }
+    ending
+}

@@ -1,0 +1,34 @@
+//! Texts whose first lines need no memory, and a sink in memory that grows twice.
+use crate::ending::Ending;
+use autfmt::{Fault, Limits, Sink, SliceSource, VecSink, put_all, read};
+use lts::{Counter, Lts};
+use std::alloc::Global;
+use worked::STEP;
+
+const LONG: [u8; 10_000] = [b'x'; 10_000];
+
+/// How both end.
+pub(crate) fn ending(alloc: Global) -> Ending {
+    let long = is_fault(alloc, &LONG, Fault::LineTooLong(1));
+    let none = is_fault(alloc, b"des (0,0,0)\n", Fault::NoStates);
+    Ending::wanted_if(long && none).and(of_sink(alloc))
+}
+
+/// Whether the text has this fault, also if every growth is refused.
+fn is_fault(alloc: Global, text: &[u8], fault: Fault) -> bool {
+    let mut source = SliceSource::new(text, None);
+    let read: Result<Lts<Counter>, Fault> = read(alloc, &mut source, &Limits::file());
+    read.err() == Some(fault)
+}
+
+/// A refused growth of the sink leaves the bytes that it had.
+fn of_sink(alloc: Global) -> Ending {
+    let mut sink = VecSink::new(alloc, None);
+    if put_all(&mut sink, STEP).is_err() {
+        return Ending::refused_if(sink.failures() == 1 && sink.bytes().is_empty());
+    }
+    if put_all(&mut sink, &LONG).is_err() {
+        return Ending::refused_if(sink.failures() == 1 && sink.bytes() == STEP);
+    }
+    Ending::wanted_if(sink.failures() == 0 && sink.bytes().len() == 10_024)
+}

@@ -1,0 +1,166 @@
+//! The worked examples of whole programs, over files in memory and those of the test.
+ghost use Rattle.std.specs.Prelude.{None};
+
+use super::commands::{Closed, words_of};
+use autbis::{Disk, Opener, main_program};
+use autfmt::{Broken, SliceSource, VecSink};
+use std::alloc::{AllocError, Global};
+use std::test::Fail;
+use worked::{LONE_STATE_TEXT, STEP, TWO_EQUAL_TARGETS_TEXT, check};
+
+/// Files in memory, by their names.
+const FILES: [(&str, &[u8]); 6] = [
+    ("two.aut", TWO_EQUAL_TARGETS_TEXT),
+    ("lone.aut", LONE_STATE_TEXT),
+    ("ab.aut", b"des (0,2,3)\n(0,a,1)\n(1,b,2)\n"),
+    ("b.aut", b"des (0,1,2)\n(0,b,1)\n"),
+    ("a.hide", b"a\n"),
+    ("two.hide", b"a b\n"),
+];
+
+/// What opens these files and no others.
+#[derive(Drop)]
+struct Shelf;
+
+impl Opener for Shelf {
+    type File = SliceSource<'static>;
+
+    ghost opened = { λ _. None };
+
+    ghost holds = { λ _ _. None };
+
+    fn open(&mut self, name: &str) -> Result<SliceSource<'static>, Broken> {
+        for (known, text) in &FILES {
+            if *known == name {
+                return Ok(SliceSource::new(*text, None));
+            }
+        }
+        Err(Broken)
+    }
+}
+
+/// How the program ends a line of words over these files: the exit status, and what it wrote and said. Standard input is
+/// the text of `two-equal-targets`.
+fn ended<F: Opener>(
+    files: &mut F,
+    alloc: Global,
+    line: &str,
+) -> Result<(u8, VecSink, Vec<u8>), AllocError> {
+    let words = words_of(alloc, line, '/')?;
+    let mut output = VecSink::new(alloc, None);
+    let mut said = Vec::new(alloc);
+    let status = main_program(
+        alloc,
+        Ok(words),
+        files,
+        &mut SliceSource::new(TWO_EQUAL_TARGETS_TEXT, None),
+        &mut output,
+        &mut Closed,
+        &mut said,
+    );
+    Ok((status, output, said))
+}
+
+/// A line of words, the exit status, and what is written and said.
+type Ends = (&'static str, u8, &'static [u8], &'static [u8]);
+
+const ENDS: [Ends; 11] = [
+    ("autbis/min", 0, STEP, b""),
+    ("autbis/min/two.aut", 0, STEP, b""),
+    (
+        "autbis/min/--relation/branching/--hide/a.hide/ab.aut",
+        0,
+        b"des (0, 1, 2)\n(0, b, 1)\n",
+        b"",
+    ),
+    (
+        "autbis/min/--hide/a.hide/ab.aut",
+        0,
+        b"des (0, 2, 3)\n(0, i, 1)\n(1, b, 2)\n",
+        b"",
+    ),
+    (
+        "autbis/min/--hide/two.hide/two.aut",
+        2,
+        b"",
+        b"autbis: two.hide: line 1: not a label\n",
+    ),
+    (
+        "autbis/min/no such file.aut",
+        5,
+        b"",
+        b"autbis: no such file.aut: cannot open\n",
+    ),
+    ("autbis/cmp/two.aut/two.aut", 0, b"TRUE\n", b""),
+    ("autbis/cmp/ab.aut/b.aut", 1, b"FALSE\n", b""),
+    (
+        "autbis/cmp/--relation/branching/--hide/a.hide/b.aut/ab.aut",
+        0,
+        b"TRUE\n",
+        b"",
+    ),
+    (
+        "autbis/cmp/lone.aut/a.hide",
+        2,
+        b"",
+        b"autbis: a.hide: bad header\n",
+    ),
+    (
+        "autbis/cmp/b.aut/no such file.aut",
+        5,
+        b"",
+        b"autbis: no such file.aut: cannot open\n",
+    ),
+];
+
+/// Whether the program ends the line of words so.
+fn ends(alloc: Global, row: &Ends) -> Result<bool, AllocError> {
+    let (line, status, out, message) = *row;
+    let (found, output, said) = ended(&mut Shelf, alloc, line)?;
+    Ok(found == status && output.bytes() == out && said.as_slice() == message)
+}
+
+#[test]
+fn files_in_memory(rt: HostRuntime) -> Result<(), Fail> {
+    for row in &ENDS {
+        check(row.0, ends(rt.alloc(), row)?)?;
+    }
+    Ok(())
+}
+
+/// Words that name a file that is not there, and what is said.
+const NO_FILE: [(&str, &str); 3] = [
+    (
+        "autbis/min/no such file.aut",
+        "autbis: no such file.aut: cannot open\n",
+    ),
+    (
+        "autbis/min/--hide/no such list",
+        "autbis: no such list: cannot open\n",
+    ),
+    (
+        "autbis/cmp/no such file.aut/b.aut",
+        "autbis: no such file.aut: cannot open\n",
+    ),
+];
+
+#[test]
+fn no_file(rt: HostRuntime) -> Result<(), Fail> {
+    for (line, message) in &NO_FILE {
+        let (status, output, said) = ended(&mut Disk::new(&rt), rt.alloc(), line)?;
+        let is_said = said.as_slice() == message.as_bytes();
+        check(line, output.bytes().is_empty() && status == 5 && is_said)?;
+    }
+    Ok(())
+}
+
+/// A folder may be opened, and is then not read; or it cannot be opened.
+#[test]
+fn folder(rt: HostRuntime) -> Result<(), Fail> {
+    let (status, output, said) = ended(&mut Disk::new(&rt), rt.alloc(), "autbis/min/.")?;
+    let said = said.as_slice();
+    let unread = said == b"autbis: read or write failed\n".as_slice();
+    let unopened = said == b"autbis: .: cannot open\n".as_slice();
+    let is_empty = output.bytes().is_empty();
+    check("a folder", is_empty && status == 5 && (unread || unopened))
+}
