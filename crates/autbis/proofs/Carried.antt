@@ -10,8 +10,7 @@ use Rattle.autfmt.specs.declared.fault.Fault.{Fault}
 use Rattle.autfmt.specs.declared.fault.Fault.TheVariants.{Device, Memory}
 use Rattle.autfmt.specs.Outcomes.{Takes}
 use Rattle.autfmt.specs.Readers.{IsTextFault}
-use Rattle.autbis.specs.declared.run.Counts.{Counts as Sizes}
-use Rattle.autbis.specs.Runs.{IsMinimised, RunsTo}
+use Rattle.autbis.specs.Runs.{IsMinimised, OfText}
 
 -- the answer is the error e
 abbrev pub IsError : {T E : Type 0} → Result T E → E → Type 0
@@ -56,6 +55,12 @@ all_taken None new given P took at_end h = tt
 all_taken (Some text) None given P took at_end h = elim took [ ]
 all_taken (Some text) (Some rest) given P took at_end h = rw (took, at_end, append-nil given) h
 
+-- and what holds of the bytes given holds of the text, told or not
+pub of_all : (old new : Option (List ℕ)) (given : List ℕ) (P : List ℕ → Type 0) → Consumes old new given → IsAtEnd new → P given → OfText old P
+of_all None new given P took at_end h = (given, tt, h)
+of_all (Some text) None given P took at_end h = elim took [ ]
+of_all (Some text) (Some rest) given P took at_end h = (given, rw (took, at_end) (append-nil given), h)
+
 module _ (n k m j : ℕ) (at : Counts) (states : n ≡ k) (transitions : m ≡ j) where
   -- a success keeps to the size of another system of this size
   pub keeps_whole : KeepsTo n m 2 at (at.rounds * m) → KeepsTo k j 2 at (at.rounds * j)
@@ -69,14 +74,7 @@ module _ (n k m j : ℕ) (at : Counts) (states : n ≡ k) (transitions : m ≡ j
     at_most = rw (← transitions) keeps.at_most;
   }
 
--- what a run does with a text that was told
-pub is_minimised : (rel : Relation) (bounds : Bounds) (H : List (List ℕ)) (rest old new : Option (List ℕ)) (at : Counts) (sizes : Sizes)
-    (told : Option (List ℕ)) → IfSome told (λ text. RunsTo rel bounds H text rest old new at sizes) →
-    IfSome told (λ text. IsMinimised rel bounds H text old new)
-is_minimised rel bounds H rest old new at sizes None runs = tt
-is_minimised rel bounds H rest old new at sizes (Some text) runs = (runs.to, runs.written)
-
--- and the same within equal bounds
+-- what is minimised is so within equal bounds
 pub at_bounds : (rel : Relation) (bounds other : Bounds) (H : List (List ℕ)) (told old new : Option (List ℕ)) → bounds ≡ other →
-    IfSome told (λ text. IsMinimised rel bounds H text old new) → IfSome told (λ text. IsMinimised rel other H text old new)
-at_bounds rel bounds other H told old new same is = subst (λ b. IfSome told (λ text. IsMinimised rel b H text old new)) same is
+    OfText told (λ text. IsMinimised rel bounds H text old new) → OfText told (λ text. IsMinimised rel other H text old new)
+at_bounds rel bounds other H told old new same is = subst (λ b. OfText told (λ text. IsMinimised rel b H text old new)) same is

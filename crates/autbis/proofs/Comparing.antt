@@ -1,6 +1,5 @@
 -- What is said of two systems that were read holds of those that the texts read as: the order of their lists alone differs.
-use Rattle.std.proofs.Common.{◌≡◌, ◌↔◌, ℕ, ◌+◌, ◌*◌, Bool, IsTrue, List, length, Option, ap₂, subst, sym, arith}
-use Rattle.std.specs.Io.KnownBytes.{Consumes}
+use Rattle.std.proofs.Common.{◌≡◌, ◌↔◌, ℕ, ◌+◌, ◌*◌, Bool, IsTrue, List, length, ap₂, sym, arith}
 use Rattle.std.specs.List.Sorted.{IsPermutation}
 use Rattle.std.proofs.lemmas.List.Sorted.{IsPermutation-sym}
 use Rattle.theory.specs.System.{System, Hide}
@@ -15,8 +14,7 @@ use Rattle.quotient.specs.Bounds.{KeepsTo}
 use Rattle.autfmt.specs.Bounds.{Bounds, IsWithinFile}
 use Rattle.autfmt.specs.Outcomes.{IsWithin}
 use Rattle.autfmt.specs.Readers.{ReadsAs}
-use Rattle.autbis.specs.Comparisons.{ComparesNamed, ComparesTo, CountsComparison, IsVerdict, ReadBoth, states_of, transitions_of}
-use Rattle.autbis.proofs.Carried.{all_taken}
+use Rattle.autbis.specs.Comparisons.{CountsComparison, IsVerdict, ReadBoth, states_of, transitions_of}
 
 -- two systems that were read from a file have a place in memory together
 pub fit_together :
@@ -100,10 +98,3 @@ module _ (bounds : Bounds) (H : List (List ℕ)) (first second : List ℕ) (s t 
       at_least = omega arith;
       at_most = rw (← transitions_are) keeps.at_most;
     }
-
--- a verdict over the bytes that were taken is one over the whole texts, if both are known
-pub named : (rel : Relation) (bounds : Bounds) (H : List (List ℕ)) (a a' b b' old new : Option (List ℕ)) (at : Counts) (first second : List ℕ) (same verdict : Bool) →
-    same ≡ verdict → Consumes a a' first → Consumes b b' second → ComparesTo rel bounds H first second a' b' old new at same → ComparesNamed rel bounds H a b old new verdict
-named rel bounds H a a' b b' old new at first second same verdict said took took' is =
-    subst (ComparesNamed rel bounds H a b old new) said
-    (all_taken a a' first _ took is.at_ends.0 (all_taken b b' second _ took' is.at_ends.1 (is.both, is.verdict, is.written)))

@@ -9,7 +9,8 @@ use Rattle.autfmt.specs.HideReaders.{HidesAs}
 use Rattle.autbis.specs.Comparisons.{ComparesNamed, ReadBoth, IsVerdict, line_of}
 use Rattle.autbis.specs.Files.{Name, Opens}
 use Rattle.autbis.specs.Jobs.{ComparesFiles, HidesNamed}
-use Rattle.autbis.proofs.Opening.{told_then, opens_then}
+use Rattle.autbis.specs.Runs.{OfText}
+use Rattle.autbis.proofs.Opening.{of_told, opens_then}
 
 -- two files are opened, one after the other
 pub opened_two : (old one two : Option (List Name)) (first second a b : Name) → a ≡ first → b ≡ second
@@ -31,10 +32,10 @@ hides_kept h h' (Some n) H same is = subst (λ o. IfSome o (λ list. HidesAs lis
 named_told : (rel : Relation) (bounds : Bounds) (H : List (List ℕ)) (told told' rest rest' old new : Option (List ℕ)) (same : Bool)
     → IfSome told (λ t. rest ≡ Some t) → IfSome told' (λ t. rest' ≡ Some t)
     → ComparesNamed rel bounds H rest rest' old new same → ComparesNamed rel bounds H told told' old new same
-named_told rel bounds H None told' rest rest' old new same is is' h = tt
-named_told rel bounds H (Some t) told' rest rest' old new same is is' h =
+named_told rel bounds H told told' rest rest' old new same is is' h =
     let P : List ℕ → List ℕ → Type 0 = λ one other. (both : ReadBoth bounds one other) × IsVerdict rel bounds H both same × Appends old new (line_of same) in
-    told_then told' rest' (P t) is' (subst (λ o. IfSome o (λ one. IfSome rest' (P one))) is h)
+    let first = of_told told rest (λ one. OfText rest' (P one)) is h in
+    (first.0, first.1, of_told told' rest' (P first.0) is' first.2)
 
 -- what is said of two texts that were read is said of the files that they are known to be
 pub compares_files : (h0 h1 h2 : Name → Option (List ℕ)) (rel : Word) (hide : Option Name) (first second a b : Name) (bounds : Bounds)

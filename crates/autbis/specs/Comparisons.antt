@@ -11,10 +11,12 @@ use Rattle.autfmt.specs.Bounds.{Bounds}
 use Rattle.autfmt.specs.Texts.{Reads}
 use Rattle.autfmt.specs.declared.fault.Fault.{Fault}
 use Rattle.autfmt.specs.declared.fault.Fault.TheVariants.{Device, Memory}
+use Rattle.autfmt.specs.Faults.{FirstFault}
 use Rattle.autfmt.specs.Outcomes.{Refuses}
 use Rattle.autfmt.specs.Stream.{AppendsBeginning}
-use Rattle.autbis.specs.Runs.{IsFaulty}
+use Rattle.autbis.specs.Runs.{IsFaulty, OfText}
 use Rattle.autbis.specs.declared.compare.CmpFault.{CmpFault}
+use Rattle.autbis.specs.declared.compare.Side.{Side}
 use Rattle.autbis.specs.declared.compare.Side.TheVariants.{First, Second, Run}
 
 -- the line of a verdict
@@ -52,24 +54,31 @@ pub record ComparesTo (rel : Relation) (bounds : Bounds) (H : List (List ℕ)) (
   pub keeps : KeepsTo (states_of both) (transitions_of both) 1 at ((at.rounds + 1) * transitions_of both)
   pub at_ends : IsAtEnd first_rest × IsAtEnd second_rest
 
--- of two texts, if both are known: they read as systems, the verdict on these is so, and a sink has gained its line
+-- of two texts: they read as systems, the verdict on these is so, and a sink has gained its line
 abbrev pub ComparesNamed : (rel : Relation) (bounds : Bounds) (H : List (List ℕ)) (first second old new : Option (List ℕ)) → Bool → Type 0
-ComparesNamed rel bounds H first second old new same = IfSome first (λ one. IfSome second (λ other.
+ComparesNamed rel bounds H first second old new same = OfText first (λ one. OfText second (λ other.
     (both : ReadBoth bounds one other) × IsVerdict rel bounds H both same × Appends old new (line_of same)))
 
 -- the text is that of a system
 abbrev pub IsReadable : Bounds → List ℕ → Type 0
 IsReadable bounds text = (A : System) × Reads bounds text A
 
+-- of two texts, where they are known: this is the first fault of the one of this side; of the second one only if the first one is
+-- that of a system
+abbrev pub IsFaultOfSide : Side → Bounds → Option (List ℕ) → Option (List ℕ) → Fault → Type 0
+IsFaultOfSide First bounds first second fault = IfSome first (λ text. FirstFault bounds text fault)
+IsFaultOfSide Second bounds first second fault = IfSome first (IsReadable bounds) × IfSome second (λ text. FirstFault bounds text fault)
+IsFaultOfSide Run bounds first second fault = ⊥
+
 -- of two texts, where they are known: the first one is faulty, or it is that of a system and the second one is faulty
 abbrev pub HasFaultySide : Bounds → Option (List ℕ) → Option (List ℕ) → Type 0
 HasFaultySide bounds first second =
     IfSome first (IsFaulty bounds) ⊎ (IfSome first (IsReadable bounds) × IfSome second (IsFaulty bounds))
 
--- of two texts, if both are known: they read as systems, and a sink has gained a beginning of the line of the verdict on these
+-- of two texts: they read as systems, and a sink has gained a beginning of the line of the verdict on these
 abbrev pub BeginsVerdict :
     (rel : Relation) (bounds : Bounds) (H : List (List ℕ)) (first second old new : Option (List ℕ)) → Type 0
-BeginsVerdict rel bounds H first second old new = IfSome first (λ one. IfSome second (λ other.
+BeginsVerdict rel bounds H first second old new = OfText first (λ one. OfText second (λ other.
     (both : ReadBoth bounds one other) × (same : Bool) × IsVerdict rel bounds H both same × AppendsBeginning old new (line_of same)))
 
 -- a fresh meter counted no more than a comparison of the texts may take

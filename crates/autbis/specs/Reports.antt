@@ -1,5 +1,6 @@
 -- The exit statuses.
-use Rattle.std.specs.Prelude.{◌≡◌, ◌⊎◌, ℕ}
+use Rattle.std.specs.Prelude.{◌≡◌, ◌⊎◌, ℕ, List, Option, string_bytes}
+use Rattle.std.specs.Io.KnownBytes.{Appends}
 use Rattle.autfmt.specs.declared.fault.Fault.{Fault}
 use Rattle.autfmt.specs.declared.fault.Fault.TheVariants.{Device, Memory}
 use Rattle.words.specs.declared.words.WordFault.{WordFault}
@@ -19,9 +20,9 @@ IsFaultStatus status = (status ≡ 2) ⊎ ((status ≡ 4) ⊎ (status ≡ 5))
 abbrev pub IsJobStatus : ℕ → Type 0
 IsJobStatus status = (status ≡ 0) ⊎ ((status ≡ 1) ⊎ IsFaultStatus status)
 
--- the exit status of words that ask for no job: help that cannot be written ends in 5
-abbrev pub IsWordStatus : WordFault → ℕ → Type 0
-IsWordStatus (word.Usage _) status = status ≡ 3
-IsWordStatus (word.Relation _) status = status ≡ 3
-IsWordStatus (word.Help _) status = (status ≡ 0) ⊎ (status ≡ 5)
-IsWordStatus word.Memory status = status ≡ 4
+-- the exit status of words that give no job: with 0 the output has gained the text of help, with 5 it could not be written
+abbrev pub IsWordStatus : (old new : Option (List ℕ)) → WordFault → ℕ → Type 0
+IsWordStatus old new (word.Usage text) status = status ≡ 3
+IsWordStatus old new (word.Relation named) status = status ≡ 3
+IsWordStatus old new (word.Help text) status = ((status ≡ 0) × Appends old new (string_bytes text)) ⊎ (status ≡ 5)
+IsWordStatus old new word.Memory status = status ≡ 4

@@ -1,5 +1,5 @@
 -- A whole run: what it does with the system that a text reads as, and why it does not.
-use Rattle.std.specs.Prelude.{◌≡◌, ◌⊎◌, ℕ, ◌*◌, ◌≤◌, List, length, Option}
+use Rattle.std.specs.Prelude.{◌≡◌, ◌⊎◌, ℕ, ◌*◌, ◌≤◌, List, length, Option, IfSome}
 use Rattle.std.specs.Io.KnownBytes.{Appends, IsAtEnd}
 use Rattle.theory.specs.System.{System, IsSystem, Hide}
 use Rattle.theory.specs.Bisimulation.{Relation, Bisimilar, Equivalent}
@@ -44,6 +44,10 @@ IsMinimised rel bounds H text old new = (to : MinimisedText rel bounds H text) �
 -- a sink has gained a beginning of the text of what the text is minimised to
 abbrev pub BeginsQuotient : Relation → Bounds → List (List ℕ) → List ℕ → Option (List ℕ) → Option (List ℕ) → Type 0
 BeginsQuotient rel bounds H text old new = (to : MinimisedText rel bounds H text) × AppendsBeginning old new (listed to.listing)
+
+-- P holds of a text: the one that a source tells, or some text if it tells none
+abbrev pub OfText : Option (List ℕ) → (List ℕ → Type 0) → Type 0
+OfText told P = (text : List ℕ) × IfSome told (λ bytes. bytes ≡ text) × P text
 
 -- the text does not read as a system: it has a first fault
 abbrev pub IsFaulty : Bounds → List ℕ → Type 0

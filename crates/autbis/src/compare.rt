@@ -1,12 +1,13 @@
 //! One comparison, from the bytes of two texts to a verdict.
-ghost use Rattle.std.specs.Prelude.{◌≡◌, ℕ, List, IfErr, OnOk, OnErr};
+ghost use Rattle.std.specs.Prelude.{◌≡◌, ℕ, List, IfOk, IfErr, OnOk, OnErr};
 ghost use Rattle.std.specs.Io.KnownBytes.{Appends, Consumes};
 ghost use Rattle.theory.specs.Relations.{meant};
 ghost use Rattle.lts.specs.Meter.{IsFresh};
 ghost use Rattle.autfmt.specs.Outcomes.{ReadsTo, Refuses, Takes};
+ghost use Rattle.autfmt.specs.Readers.{IsTextFault};
 ghost use Rattle.autfmt.specs.Stream.{AppendsBeginning, CountsFailure};
 ghost use Rattle.autfmt.specs.declared.fault.Fault.TheVariants.{Device, Memory};
-ghost use Rattle.autbis.specs.Comparisons.{CmpFails, ComparesTo, line_of};
+ghost use Rattle.autbis.specs.Comparisons.{CmpFails, ComparesNamed, ComparesTo, IsFaultOfSide, line_of};
 ghost use Rattle.autbis.specs.declared.compare.Side.TheVariants.{First, Run};
 
 use autfmt::{Fault, Hidden, Limits, Sink, Source, put_all, read_hiding};
@@ -78,6 +79,12 @@ pub fn run_cmp<M: Meter, R1: Source, R2: Source, W: Sink>(
         (R1.failures a.new) (R2.failures b.new) (W.failures w.new) (b.new ≡ b.old) (w.new ≡ w.old)
         (W.written w.old) (W.written w.new) (M.counted m.new))
         result }
+
+    // The same of the whole texts that the sources tell.
+    ensures compared { IfOk result (ComparesNamed (meant rel) lim.now h.now (R1.rest a.old) (R2.rest b.old)
+        (W.written w.old) (W.written w.new)) }
+    ensures fault { IfErr result (λ f. IsTextFault f.fault →
+        IsFaultOfSide f.side lim.now (R1.rest a.old) (R2.rest b.old) f.fault) }
 
     // What is left.
     ensures untouched { IfErr result (λ f. f.side ≡ First → (b.new ≡ b.old) × (w.new ≡ w.old)) }

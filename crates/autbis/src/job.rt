@@ -1,9 +1,12 @@
 //! A job from its words to its exit status, over any files and streams.
-ghost use Rattle.std.specs.Prelude.{◌≡◌, ◌⊎◌, ◌++◌, ◌∷◌, true, false, IfOk, IfErr, IsErrAnd, map, option_map, string_bytes};
+ghost use Rattle.std.specs.Prelude.{◌≡◌, ◌⊎◌, ◌++◌, ◌∷◌, true, false, IfOk, IfErr, IfSome, IsErrAnd, map, option_map, string_bytes};
 ghost use Rattle.autbis.specs.Files.{Opens};
-ghost use Rattle.autbis.specs.Jobs.{ComparesFiles, FindsDifferent, IsDone, MinimisesNamed, OpensInOrder, files_of, given, text_of};
+ghost use Rattle.autbis.specs.Comparisons.{HasFaultySide};
+ghost use Rattle.autbis.specs.Jobs.{ComparesFiles, EndsIn, FindsDifferent, HasFailed, HasFaultyList, HasLostFile, IsDone, IsFaultyJob, MinimisesNamed, OpensInOrder, files_of, given, text_of};
 ghost use Rattle.autbis.specs.Programs.{AnswersWords, IsUnread, IsUnreadStatus};
 ghost use Rattle.autbis.specs.Reports.{IsFaultStatus, IsJobStatus};
+ghost use Rattle.autbis.specs.Runs.{IsFaulty};
+ghost use Rattle.autfmt.specs.Bounds.{file_bounds};
 ghost use Rattle.words.specs.Words.{IsFaultOf, IsJobOf};
 
 use crate::opener::Opener;
@@ -32,10 +35,14 @@ pub fn main_program<F: Opener, R: Source, W: Sink, O: Write, E: Write>(
 ) -> u8
     requires input { R.failures input.old ≡ 0 }
     requires output { W.failures output.old ≡ 0 }
-    ensures answer { IfOk words (λ words. AnswersWords
-        (F.holds files.old) (R.rest input.old) (map string_bytes words.items)
-        (F.opened files.old) (F.opened files.new) (W.written output.old) (W.written output.new) result) }
-    ensures unread { IfErr words (λ error. IsUnreadStatus error result) }
+    ensures answer { IfOk words (λ words. AnswersWords (map string_bytes words.items)
+        (EndsIn F.File.failures (F.holds files.old) (R.rest input.old) (F.opened files.old) (F.opened files.new)
+        (F.has_refused files.old) (F.has_refused files.new) (R.failures input.new) (W.failures output.new)
+        (output.new ≡ output.old) (W.written output.old) (W.written output.new) result)
+        ((files.new ≡ files.old) × (input.new ≡ input.old) × (output.new ≡ output.old))
+        (O.contents o.old) (O.contents o.new) result) }
+    ensures unread { IfErr words (λ error. IsUnreadStatus error result
+        × (files.new ≡ files.old) × (input.new ≡ input.old) × (output.new ≡ output.old)) }
 {
     match asked(alloc, words) {
         Ok(job) => do_job(alloc, &job, files, input, output, e),
@@ -75,8 +82,12 @@ pub fn do_job<F: Opener, R: Source, W: Sink, E: Write>(
         IsDone (F.holds files.old) (R.rest input.old) job.now (W.written output.old) (W.written output.new) }
     ensures different { result ≡ 1 →
         FindsDifferent (F.holds files.old) job.now (W.written output.old) (W.written output.new) }
+    ensures faulty { result ≡ 2 → IsFaultyJob (F.holds files.old) (R.rest input.old) job.now }
+    ensures failed { result ≡ 5 →
+        HasFailed F.File.failures (F.has_refused files.new) (R.failures input.new) (W.failures output.new) }
     ensures order { OpensInOrder (files_of job.now) (F.opened files.old) (F.opened files.new) }
-    ensures opened { (result ≡ 5) ⊎ Opens (F.opened files.old) (F.opened files.new) (files_of job.now) }
+    ensures opened { (result ≡ 5) ⊎ (Opens (F.opened files.old) (F.opened files.new) (files_of job.now)
+        × (F.has_refused files.new ≡ F.has_refused files.old)) }
     ensures untouched { (result ≡ 2) ⊎ (result ≡ 4) → output.new ≡ output.old }
 {
     match job {
@@ -115,10 +126,15 @@ fn min_job<F: Opener, R: Source, W: Sink, E: Write>(
     ensures done { result ≡ 0 → MinimisesNamed (F.holds files.old) rel (option_map string_bytes hide.now)
         (text_of (F.holds files.old) (R.rest input.old) (option_map string_bytes file.now))
         (W.written output.old) (W.written output.new) }
+    ensures faulty { result ≡ 2 → HasFaultyList (F.holds files.old) (option_map string_bytes hide.now)
+        ⊎ IfSome (text_of (F.holds files.old) (R.rest input.old) (option_map string_bytes file.now)) (IsFaulty file_bounds) }
+    ensures failed { result ≡ 5 →
+        HasFailed F.File.failures (F.has_refused files.new) (R.failures input.new) (W.failures output.new) }
     ensures order { OpensInOrder (given (option_map string_bytes file.now) ++ given (option_map string_bytes hide.now))
         (F.opened files.old) (F.opened files.new) }
-    ensures opened { (result ≡ 5) ⊎ Opens (F.opened files.old) (F.opened files.new)
-        (given (option_map string_bytes file.now) ++ given (option_map string_bytes hide.now)) }
+    ensures opened { (result ≡ 5) ⊎ (Opens (F.opened files.old) (F.opened files.new)
+        (given (option_map string_bytes file.now) ++ given (option_map string_bytes hide.now))
+        × (F.has_refused files.new ≡ F.has_refused files.old)) }
     ensures untouched { (result ≡ 2) ⊎ (result ≡ 4) → output.new ≡ output.old }
 {
     let Some(name) = file else {
@@ -168,7 +184,12 @@ fn min_text<F: Opener, R: Source, W: Sink, E: Write>(
     ensures done { result ≡ 0 →
         MinimisesNamed (F.holds files.old) rel (option_map string_bytes hide.now) (R.rest r.old)
         (W.written w.old) (W.written w.new) }
+    ensures faulty { result ≡ 2 → HasFaultyList (F.holds files.old) (option_map string_bytes hide.now)
+        ⊎ IfSome (R.rest r.old) (IsFaulty file_bounds) }
+    ensures failed { result ≡ 5 →
+        HasFailed F.File.failures (F.has_refused files.new) (R.failures r.new) (W.failures w.new) }
     ensures opened { Opens (F.opened files.old) (F.opened files.new) (given (option_map string_bytes hide.now)) }
+    ensures refused { (result ≡ 5) ⊎ (F.has_refused files.new ≡ F.has_refused files.old) }
     ensures untouched { (result ≡ 2) ⊎ (result ≡ 4) → w.new ≡ w.old }
 {
     match hidden_of(alloc, files, hide, e) {
@@ -194,11 +215,15 @@ fn cmp_job<F: Opener, W: Sink, E: Write>(
         (string_bytes first.now) (string_bytes second.now) (W.written output.old) (W.written output.new) true }
     ensures different { result ≡ 1 → ComparesFiles (F.holds files.old) rel (option_map string_bytes hide.now)
         (string_bytes first.now) (string_bytes second.now) (W.written output.old) (W.written output.new) false }
+    ensures faulty { result ≡ 2 → HasFaultyList (F.holds files.old) (option_map string_bytes hide.now)
+        ⊎ HasFaultySide file_bounds (F.holds files.old (string_bytes first.now)) (F.holds files.old (string_bytes second.now)) }
+    ensures failed { result ≡ 5 → HasLostFile F.File.failures (F.has_refused files.new) ⊎ (W.failures output.new ≡ 1) }
     ensures order { OpensInOrder
         (string_bytes first.now ∷ string_bytes second.now ∷ given (option_map string_bytes hide.now))
         (F.opened files.old) (F.opened files.new) }
-    ensures opened { (result ≡ 5) ⊎ Opens (F.opened files.old) (F.opened files.new)
-        (string_bytes first.now ∷ string_bytes second.now ∷ given (option_map string_bytes hide.now)) }
+    ensures opened { (result ≡ 5) ⊎ (Opens (F.opened files.old) (F.opened files.new)
+        (string_bytes first.now ∷ string_bytes second.now ∷ given (option_map string_bytes hide.now))
+        × (F.has_refused files.new ≡ F.has_refused files.old)) }
     ensures untouched { (result ≡ 2) ⊎ (result ≡ 4) → output.new ≡ output.old }
 {
     let mut a = match open(files, first.as_str(), e) {

@@ -1,11 +1,11 @@
 //! A job done: the files opened, the run, and what is said of it.
-ghost use Rattle.std.specs.Prelude.{◌≡◌, ◌≤◌, ◌⊎◌, [], ◌∷◌, true, false, Some, IfSome, IfOk, IfErr, option_map, string_bytes};
-ghost use Rattle.autbis.specs.Comparisons.{BeginsVerdict, ComparesNamed, HasFaultySide};
+ghost use Rattle.std.specs.Prelude.{◌≡◌, ◌≤◌, ◌⊎◌, [], ◌∷◌, true, false, Some, IfSome, IfOk, IfErr, MatchResult, option_map, string_bytes};
+ghost use Rattle.autbis.specs.Comparisons.{BeginsVerdict, ComparesNamed, HasFaultySide, IsReadable};
 ghost use Rattle.autbis.specs.declared.compare.Side.TheVariants.{First, Second};
-ghost use Rattle.autbis.specs.Files.{Name, Opens};
-ghost use Rattle.autbis.specs.Jobs.{HidesNamed, given};
+ghost use Rattle.autbis.specs.Files.{Name, NotesRefusal, Opens};
+ghost use Rattle.autbis.specs.Jobs.{HasFaultyList, HasLostFile, HidesNamed, given};
 ghost use Rattle.autbis.specs.Reports.{IsFaultStatus};
-ghost use Rattle.autbis.specs.Runs.{BeginsQuotient, IsMinimised, IsFaulty};
+ghost use Rattle.autbis.specs.Runs.{BeginsQuotient, IsMinimised, IsFaulty, OfText};
 ghost use Rattle.theory.specs.Quotient.{allowance};
 ghost use Rattle.theory.specs.Relations.{meant};
 
@@ -29,6 +29,7 @@ pub fn open<F: Opener, E: Write>(files: &mut F, name: &str, e: &mut E) -> Result
         IfOk result (λ file. F.File.rest file ≡ Some text)) }
     ensures status { IfErr result (λ status. status ≡ 5) }
     ensures opened { Opens (F.opened files.old) (F.opened files.new) (name.now ∷ []) }
+    ensures refused { NotesRefusal (F.has_refused files.old) (F.has_refused files.new) result }
     ensures kept { (other : Name) → F.holds files.new other ≡ F.holds files.old other }
 {
     match files.open(name) {
@@ -40,7 +41,7 @@ pub fn open<F: Opener, E: Write>(files: &mut F, name: &str, e: &mut E) -> Result
 /// Opens and reads the hide list, and returns its labels; none if there is no list.
 ///
 /// # Errors
-/// The exit status, 2, 4 or 5, if the list cannot be opened or read. That is said on `e`.
+/// The exit status: 2 if the list is faulty, 4 for want of memory, 5 if it cannot be opened or read. That is said on `e`.
 pub fn hidden_of<F: Opener, E: Write>(
     alloc: Global,
     files: &mut F,
@@ -49,7 +50,12 @@ pub fn hidden_of<F: Opener, E: Write>(
 ) -> Result<Hidden, u8>
     ensures labels { IfOk result (HidesNamed (F.holds files.old) (option_map string_bytes hide.now)) }
     ensures status { IfErr result IsFaultStatus }
+    ensures faulty { IfErr result (λ status. status ≡ 2 →
+        HasFaultyList (F.holds files.old) (option_map string_bytes hide.now)) }
+    ensures failed { IfErr result (λ status. status ≡ 5 → HasLostFile F.File.failures (F.has_refused files.new)) }
     ensures opened { Opens (F.opened files.old) (F.opened files.new) (given (option_map string_bytes hide.now)) }
+    ensures refused { MatchResult result (λ _. F.has_refused files.new ≡ F.has_refused files.old)
+        (λ status. (status ≡ 5) ⊎ (F.has_refused files.new ≡ F.has_refused files.old)) }
 {
     let Some(name) = hide else {
         return Ok(Hidden::none(alloc));
@@ -80,12 +86,12 @@ pub fn min_program<R: Source, W: Sink, E: Write>(
 
     // What each status means.
     ensures status { (result ≡ 0) ⊎ IsFaultStatus result }
-    ensures minimised { result ≡ 0 → IfSome (R.rest r.old) (λ text.
+    ensures minimised { result ≡ 0 → OfText (R.rest r.old) (λ text.
         IsMinimised (meant rel) lim.now h.now text (W.written w.old) (W.written w.new)) }
     ensures faulty { result ≡ 2 → (R.failures r.new ≡ 0) × IfSome (R.rest r.old) (IsFaulty lim.now) }
     ensures device { result ≡ 5 →
         ((R.failures r.new ≡ 1) × (w.new ≡ w.old)) ⊎ ((R.failures r.new ≡ 0) × (W.failures w.new ≡ 1)) }
-    ensures begun { result ≡ 5 → R.failures r.new ≡ 0 → IfSome (R.rest r.old) (λ text.
+    ensures begun { result ≡ 5 → R.failures r.new ≡ 0 → OfText (R.rest r.old) (λ text.
         BeginsQuotient (meant rel) lim.now h.now text (W.written w.old) (W.written w.new)) }
 
     // What is left.
@@ -106,8 +112,8 @@ pub fn min_program<R: Source, W: Sink, E: Write>(
 
 /// Compares the texts of `a` and `b`, writes the line of the verdict to `w`, and returns the exit status: 0 if they are
 /// equivalent, 1 if not, 2 if a text is faulty, 4 for want of memory, 5 if a source or the sink failed. With 2 and 4 nothing
-/// failed and nothing was written. A fault goes to `report` with the name of the text that it is in. After a fault in the first
-/// text the second source is untouched.
+/// failed and nothing was written. A fault goes to `report` with the name of the text that it is in. If the first text is
+/// faulty or its source fails, the second source is untouched.
 pub fn cmp_program<R1: Source, R2: Source, W: Sink, E: Write>(
     alloc: Global,
     a: &mut R1,
@@ -139,6 +145,7 @@ pub fn cmp_program<R1: Source, R2: Source, W: Sink, E: Write>(
         BeginsVerdict (meant rel) lim.now h.now (R1.rest a.old) (R2.rest b.old) (W.written w.old) (W.written w.new) }
 
     // What is left.
+    ensures unread { result ≡ 2 → (b.new ≡ b.old) ⊎ IfSome (R1.rest a.old) (IsReadable lim.now) }
     ensures sound { (result ≡ 0) ⊎ (result ≡ 1) →
         (R1.failures a.new ≡ 0) × (R2.failures b.new ≡ 0) × (W.failures w.new ≡ 0) }
     ensures untouched { (result ≡ 2) ⊎ (result ≡ 4) →

@@ -40,7 +40,7 @@ pub fn cannot_open<E: Write>(name: &str, e: &mut E) -> u8
 /// Says why the words ask for no job, on `e`, and answers the exit status: 3 for a usage fault or an
 /// unknown relation, 4 for want of memory. Help goes to `o`, with 0, or 5 where it cannot be written.
 pub fn report_words<O: Write, E: Write>(f: &WordFault, o: &mut O, e: &mut E) -> u8
-    ensures status { IsWordStatus f.now result }
+    ensures status { IsWordStatus (O.contents o.old) (O.contents o.new) f.now result }
 {
     match f {
         WordFault::Usage(text) => {

@@ -1,7 +1,9 @@
 -- The words of the command line: what `clap` is told of them, and the job of what it found in them.
 use Rattle.std.specs.Prelude.{◌≡◌, ◌≢◌, ◌⊎◌, ⊤, IsSome, List, [], ◌∷◌, Some, None, codes, true, false, option_map, unwrap_or, string_bytes, Bool, Option}
-use Rattle.clap.specs.Words.{App, Row, Rule, Text, fault_of, first_of, new_app, new_rule, one_of, subcommand_of, with_rule, with_subcommand}
+use Rattle.clap.specs.Words.{App, IsAmong, Row, Rule, Text, fault_of, first_of, new_app, new_rule, one_of, subcommand_of, with_rule, with_subcommand}
 use Rattle.clap.specs.declared.builder.ArgAction.TheVariants.{SetTrue}
+use Rattle.clap.specs.declared.error.kind.ErrorKind.{ErrorKind}
+use Rattle.clap.specs.declared.error.kind.ErrorKind.TheVariants.{DisplayHelp, DisplayVersion}
 use Rattle.theory.specs.declared.relation.Relation.{Relation}
 use Rattle.theory.specs.declared.relation.Relation.TheVariants.{Strong, Branching}
 use Rattle.words.specs.declared.words.Job.{Job}
@@ -98,19 +100,16 @@ NamesNoRelation word _ = ⊥
 abbrev pub IsJobIn : Option (Text × List Row) → Job → Type 0
 IsJobIn subcommand job = (name : Text) × (rows : List Row) × (subcommand ≡ Some (name, rows)) × HasMatches name rows job
 
--- where a relation is named as unknown, it was found for the subcommand that was found
+-- the job is not given since the relation that was found is unknown, or for want of a file or of memory
 abbrev pub IsFaultIn : Option (Text × List Row) → WordFault → Type 0
 IsFaultIn subcommand (fault.Relation named) = (name : Text) × (rows : List Row) × (subcommand ≡ Some (name, rows))
     × NamesNoRelation (relation_in rows) (fault.Relation named)
+IsFaultIn subcommand (fault.Help text) = ⊥
 IsFaultIn subcommand _ = ⊤
 
 -- what was found is enough for a job
 abbrev pub IsWholeIn : Option (Text × List Row) → Type 0
 IsWholeIn subcommand = (name : Text) × (rows : List Row) × (subcommand ≡ Some (name, rows)) × IsWhole name rows
-
--- the words are taken, and what is found in them is enough for a job
-abbrev pub AskForAJob : List Text → Type 0
-AskForAJob words = AreTaken words × IsWholeIn (subcommand_of program_app words)
 
 -- a fault where the words are those of a job: an unknown relation, or want of memory
 abbrev pub IsFaultOfAJob : WordFault → Type 0
@@ -118,10 +117,28 @@ IsFaultOfAJob (fault.Relation _) = ⊤
 IsFaultOfAJob fault.Memory = ⊤
 IsFaultOfAJob _ = ⊥
 
+-- the fault of words in which `clap` finds one of this kind
+abbrev pub IsFaultOfKind : ErrorKind → WordFault → Type 0
+IsFaultOfKind kind (fault.Help text) = (kind ≡ DisplayHelp) ⊎ (kind ≡ DisplayVersion)
+IsFaultOfKind kind (fault.Relation named) = ⊥
+IsFaultOfKind kind _ = ⊤
+
+-- the words are taken, and what is found in them is enough for a job
+abbrev pub AskForAJob : List Text → Type 0
+AskForAJob words = AreTaken words × IsWholeIn (subcommand_of program_app words)
+
+-- the words ask for help, or for the version
+abbrev pub AskForHelp : List Text → Type 0
+AskForHelp words = IsAmong DisplayHelp (fault_of program_app words) ⊎ IsAmong DisplayVersion (fault_of program_app words)
+
 -- the words are taken, and the job is that of what is found in them
 abbrev pub IsJobOf : List Text → Job → Type 0
 IsJobOf words job = AreTaken words × IsJobIn (subcommand_of program_app words) job
 
--- a relation is named as unknown only where the words are taken, it is found in them, and it is unknown
+-- why words give no job: they are taken and the relation found in them is unknown; they ask for help; they do not ask for a job;
+-- or memory was refused
 abbrev pub IsFaultOf : List Text → WordFault → Type 0
-IsFaultOf words = IsFaultIn (subcommand_of program_app words)
+IsFaultOf words (fault.Relation named) = AreTaken words × IsFaultIn (subcommand_of program_app words) (fault.Relation named)
+IsFaultOf words (fault.Help text) = AskForHelp words
+IsFaultOf words (fault.Usage text) = ¬ AskForAJob words
+IsFaultOf words fault.Memory = ⊤

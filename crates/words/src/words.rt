@@ -1,10 +1,10 @@
 //! The words of the command line, read by `clap`: which job they ask for, or why they ask for none.
-ghost use Rattle.std.specs.Prelude.{◌≡◌, ℕ, List, map, option_map, string_bytes, codes, IfOk, IfErr, Some, false};
+ghost use Rattle.std.specs.Prelude.{◌≡◌, map, option_map, string_bytes, codes, IfOk, IfErr, Some, false};
 ghost use Rattle.clap.specs.Words.{app_of, first_of, found_of, rows_of, rule_of, subcommand_rows_of};
 ghost use Rattle.clap.specs.Values.{kind_of};
 ghost use Rattle.clap.specs.declared.error.kind.ErrorKind.TheVariants.{OutOfMemory};
 ghost use Rattle.clap.specs.declared.builder.command.Command.TheViews.{out-Command};
-ghost use Rattle.words.specs.Words.{AskForAJob, HasMatches, IsFaultIn, IsFaultOf, IsFaultOfAJob, IsJobIn, IsJobOf, IsWhole, IsWholeIn, NamesNoRelation, cmp_app, file_rule, hide_rule, job_app, min_app, needed_file_rule, program_app, relation_in, relation_rule, stats_rule, word_of};
+ghost use Rattle.words.specs.Words.{HasMatches, IsFaultIn, IsFaultOf, IsFaultOfAJob, IsFaultOfKind, IsJobIn, IsJobOf, IsWhole, IsWholeIn, NamesNoRelation, cmp_app, file_rule, hide_rule, job_app, min_app, needed_file_rule, program_app, relation_in, relation_rule, stats_rule, word_of};
 ghost use Rattle.words.specs.declared.words.WordFault.TheVariants.{Memory};
 
 use clap::error::ErrorKind;
@@ -100,13 +100,11 @@ impl From<AllocError> for WordFault {
 /// The job that the words ask for. The first word is the program's name.
 ///
 /// # Errors
-/// `Usage` where the words are not those of a job, `Relation` where they are but name an unknown
-/// relation, `Help` where they ask for help or for the version, `Memory` where a growth was refused. Words in which `clap` finds
-/// no fault are never answered by `Usage` or `Help`.
+/// `Usage` if the words do not ask for a job, `Relation` if `clap` accepts them but the relation is unknown, `Help` if they ask
+/// for help or for the version, `Memory` if a growth was refused.
 pub fn command(alloc: Global, words: Vec<String>) -> Result<Job, WordFault>
     ensures job { IfOk result (IsJobOf (map string_bytes words.items)) }
     ensures fault { IfErr result (IsFaultOf (map string_bytes words.items)) }
-    ensures asked { AskForAJob (map string_bytes words.items) → IfErr result IsFaultOfAJob }
 {
     let described = described(alloc)?;
     match described.try_get_matches_from(words.as_slice()) {
@@ -305,7 +303,7 @@ fn relation_of(alloc: Global, word: &str) -> Result<Relation, WordFault>
 
 /// The fault of words that `clap` gave no matches for.
 fn fault_of(alloc: Global, error: &Error) -> WordFault
-    ensures fault { (words : List (List ℕ)) → IsFaultOf words result }
+    ensures kind { IsFaultOfKind (kind_of error.now) result }
     ensures memory { kind_of error.now ≡ OutOfMemory → result ≡ Memory }
 {
     if error.kind() == ErrorKind::OutOfMemory {

@@ -1,4 +1,4 @@
-use Rattle.std.proofs.Common.{[], ◌∷◌, false, inr, append-nil, option_map, string_bytes, refl, sym}
+use Rattle.std.proofs.Common.{[], ◌∷◌, ◌∙◌, true, false, inr, append-nil, option_map, string_bytes, refl, sym}
 use Rattle.autbis.specs.Files.{Opens}
 use Rattle.autbis.specs.Jobs.{given}
 use Rattle.autbis.proofs.Naming.{opened_two, opened_three, compares_files}
@@ -23,6 +23,13 @@ returns-in-Err-open-clause-order g c = (
       _ _ _ _ c.as_str.ensures.value c.as_str-2.ensures.value c.open.ensures.opened c.open-2.ensures.opened,
 )
 
+pub returns-in-Ok-hidden_of-clause-same : goal.returns-in-Ok-hidden_of-clause-same
+returns-in-Ok-hidden_of-clause-same g c e =
+    compares_files (g.F.Opener.holds c.args.files.now) (g.F.Opener.holds c.open.new.files) (g.F.Opener.holds c.open-2.new.files)
+    c.args.rel (option_map string_bytes c.args.hide.now) _ _ _ _ _ c.in-Ok-hidden_of.hidden _ _ _ _ true
+    c.as_str.ensures.value c.as_str-2.ensures.value c.file.ensures c.open.ensures.kept c.open-2.ensures.kept
+    c.in-Ok.ensures.bytes c.in-Ok-open.ensures.bytes c.in-Ok-hidden_of.ensures.labels (c.cmp_program.ensures.same e)
+
 pub returns-in-Ok-hidden_of-clause-different : goal.returns-in-Ok-hidden_of-clause-different
 returns-in-Ok-hidden_of-clause-different g c e =
     compares_files (g.F.Opener.holds c.args.files.now) (g.F.Opener.holds c.open.new.files) (g.F.Opener.holds c.open-2.new.files)
@@ -35,7 +42,10 @@ returns-in-Ok-hidden_of-clause-order g c =
     (_, [], sym (append-nil _), all_opened g (goal.at.returns-in-Ok-hidden_of-clause-order g c).After-hidden_of)
 
 pub returns-in-Ok-hidden_of-clause-opened : goal.returns-in-Ok-hidden_of-clause-opened
-returns-in-Ok-hidden_of-clause-opened g c = inr (all_opened g (goal.at.returns-in-Ok-hidden_of-clause-opened g c).After-hidden_of)
+returns-in-Ok-hidden_of-clause-opened g c = inr (
+  all_opened g (goal.at.returns-in-Ok-hidden_of-clause-opened g c).After-hidden_of,
+  c.in-Ok-hidden_of.ensures.refused ∙ c.in-Ok-open.ensures.refused ∙ c.in-Ok.ensures.refused,
+)
 
 pub returns-clause-order : goal.returns-clause-order
 returns-clause-order g c = (_, [], sym (append-nil _), all_opened g (goal.at.returns-clause-order g c).After-hidden_of)

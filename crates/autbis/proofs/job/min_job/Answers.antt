@@ -1,4 +1,4 @@
-use Rattle.std.proofs.Common.{[], ◌++◌, inr, append-nil, option_map, string_bytes, sym}
+use Rattle.std.proofs.Common.{[], ◌++◌, ◌∙◌, inl, inr, append-nil, option_map, string_bytes, sym}
 use Rattle.autbis.specs.Files.{Opens}
 use Rattle.autbis.specs.Jobs.{given}
 use Rattle.autbis.proofs.Opening.{opens_then}
@@ -18,4 +18,16 @@ pub returns-in-Ok-clause-order : goal.returns-in-Ok-clause-order
 returns-in-Ok-clause-order g c = (_, [], sym (append-nil _), both g c)
 
 pub returns-in-Ok-clause-opened : goal.returns-in-Ok-clause-opened
-returns-in-Ok-clause-opened g c = inr (both g c)
+returns-in-Ok-clause-opened g c = elim c.min_text-in-Ok.ensures.refused [
+  | inl five ↦ inl five
+  | inr same ↦ inr (both g c, same ∙ c.in-Ok.ensures.refused)
+]
+
+pub returns-in-Ok-clause-failed : goal.returns-in-Ok-clause-failed
+returns-in-Ok-clause-failed g c five = elim (c.min_text-in-Ok.ensures.failed five) [
+  | inl lost ↦ inl lost
+  | inr failed ↦ elim failed [
+    | inl read ↦ inl (inr (_, read))
+    | inr output ↦ inr (inr output)
+  ]
+]

@@ -1,8 +1,13 @@
-use Rattle.std.proofs.Common.{rules, inl, inr, ap, ap₂, map, refl, subst, sym, ◌≡◌, ◌∙◌, true}
+use Rattle.std.proofs.Common.{rules, inl, inr, ap, ap₂, List, Result, Ok, Err, IfErr, map, refl, subst, sym, ◌≡◌, ◌∙◌, true}
 use Rattle.std.specs.Prelude.{string_bytes}
-use Rattle.std.proofs.lemmas.Result.{IfErr-weaker, IfOk-weaker}
-use Rattle.clap.specs.Words.{HasKind, fault_of, is_simple, is_simple_and_free, subcommand_of}
-use Rattle.words.specs.Words.{IsFaultIn, IsFaultOfAJob, IsJobIn, program_app}
+use Rattle.std.proofs.lemmas.Result.{IfOk-weaker}
+use Rattle.clap.specs.Words.{HasKind, IsAmong, Text, fault_of, is_simple, is_simple_and_free, subcommand_of}
+use Rattle.clap.specs.declared.error.Error.{Error}
+use Rattle.clap.specs.Values.{kind_of}
+use Rattle.words.specs.declared.words.Job.{Job}
+use Rattle.words.specs.declared.words.WordFault.{WordFault}
+use Rattle.words.specs.declared.words.WordFault.TheVariants as fault
+use Rattle.words.specs.Words.{AreTaken, IsFaultIn, IsFaultOf, IsFaultOfAJob, IsFaultOfKind, IsJobIn, IsWholeIn, program_app}
 use Rattle.words.proofs.words.command.Goals as goal
 
 -- the program's words are such that all that `clap` promises holds of them
@@ -11,6 +16,28 @@ simple = refl
 
 free : is_simple_and_free program_app ≡ true
 free = refl
+
+-- the fault of what was found in words that are taken is that of the words
+taken_fault : (words : List Text) (f : WordFault) → AreTaken words → IsFaultIn (subcommand_of program_app words) f →
+    (IsWholeIn (subcommand_of program_app words) → IsFaultOfAJob f) → IsFaultOf words f
+taken_fault words (fault.Relation named) taken is asked = (taken, is)
+taken_fault words (fault.Help text) taken is asked = absurd is
+taken_fault words (fault.Usage text) taken is asked = λ a. asked a.1
+taken_fault words fault.Memory taken is asked = tt
+
+taken_error : (words : List Text) (r : Result Job WordFault) → AreTaken words → IfErr r (IsFaultIn (subcommand_of program_app words)) →
+    (IsWholeIn (subcommand_of program_app words) → IfErr r IsFaultOfAJob) → IfErr r (IsFaultOf words)
+taken_error words (Ok job) taken is asked = tt
+taken_error words (Err f) taken is asked = taken_fault words f taken is asked
+
+-- words in which `clap` finds a fault of this kind have the fault of this kind
+found_fault : (words : List Text) (e : Error) (f : WordFault) → IsAmong (kind_of e) (fault_of program_app words) → IsFaultOfKind (kind_of e) f →
+    IsFaultOf words f
+found_fault words e (fault.Relation named) among is = absurd is
+found_fault words e (fault.Help text) among (inl help) = inl (subst (λ k. IsAmong k (fault_of program_app words)) help among)
+found_fault words e (fault.Help text) among (inr version) = inr (subst (λ k. IsAmong k (fault_of program_app words)) version among)
+found_fault words e (fault.Usage text) among is = λ a. subst (IsAmong (kind_of e)) a.0 among
+found_fault words e fault.Memory among is = tt
 
 pub returns-in-Ok : goal.returns-in-Ok
 returns-in-Ok c =
@@ -21,19 +48,16 @@ returns-in-Ok c =
     let taken = sym (ap₂ fault_of c.in_ok-described.ensures (ap (map string_bytes) words_are)) ∙ none in
     record {
       job = IfOk-weaker c.job_of.result _ _ (λ job is. (taken, subst (λ s. IsJobIn s job) subcommand is)) c.job_of.ensures.job;
-      fault = IfErr-weaker c.job_of.result _ _ (λ fault. subst (λ s. IsFaultIn s fault) subcommand) c.job_of.ensures.fault;
-      asked = λ a. c.job_of.ensures.asked (a.1.0, a.1.1, subcommand ∙ a.1.2, a.1.3);
+      fault = taken_error (map string_bytes c.args.words.items) c.job_of.result taken (subst (λ s. IfErr c.job_of.result (IsFaultIn s)) subcommand c.job_of.ensures.fault)
+          (λ a. c.job_of.ensures.asked (a.0, a.1, subcommand ∙ a.2, a.3));
     }
 
 pub returns-clause-fault : goal.returns-clause-fault
-returns-clause-fault c = c.fault_of.ensures.fault (map string_bytes c.args.words.items)
-
-pub returns-clause-asked : goal.returns-clause-asked
-returns-clause-asked c a =
+returns-clause-fault c =
     let words_are : c.as_slice.result.now ≡ c.args.words.items = search rules in
-    let none = ap₂ fault_of c.in_ok-described.ensures (ap (map string_bytes) words_are) ∙ a.0 in
-    let kind = subst (λ kinds. HasKind kinds c.in-Err.error) none (c.in-Err.ensures.kinds (ap is_simple_and_free c.in_ok-described.ensures ∙ free)) in
+    let same = ap₂ fault_of c.in_ok-described.ensures (ap (map string_bytes) words_are) in
+    let kind = subst (λ kinds. HasKind kinds c.in-Err.error) same (c.in-Err.ensures.kinds (ap is_simple_and_free c.in_ok-described.ensures ∙ free)) in
     elim kind [
-      | inl memory ↦ subst IsFaultOfAJob (sym (c.fault_of.ensures.memory memory)) tt
-      | inr among ↦ absurd among
+      | inl memory ↦ subst (IsFaultOf (map string_bytes c.args.words.items)) (sym (c.fault_of.ensures.memory memory)) tt
+      | inr among ↦ found_fault (map string_bytes c.args.words.items) c.in-Err.error _ among c.fault_of.ensures.kind
     ]
