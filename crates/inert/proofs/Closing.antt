@@ -1,13 +1,13 @@
 -- The walk after its last component was finished.
 use Rattle.std.proofs.Common.{◌≡◌, ◌⊎◌, ℕ, ◌+◌, ◌-◌, ◌<◌, ◌≤◌, List, [], ◌∷◌, ◌++◌, length, take, slice_index, Contains, refl, sym, ◌∙◌, ap, subst, inl, inr, arith}
 use Rattle.std.proofs.lemmas.Bool.{cases_eq, cases_lt}
-use Rattle.std.proofs.lemmas.List.{get_or-take, length-take-le, get_or_append_left, get_or_push, length_push}
+use Rattle.std.proofs.lemmas.List.{get_or-take, length-drop, length-take-le, get_or_append_left, get_or_push, length_push}
 use Rattle.theory.specs.Bisimulation.Relation.{branching}
 use Rattle.lts.specs.Lts.{Grouped, place_at, IsLts, IsRow}
-use Rattle.lists.specs.Lists.{list_at}
-use Rattle.inert.specs.Signed.{HasPair, IsSignature, Grow}
+use Rattle.lists.specs.Lists.{list_at, Grow}
+use Rattle.inert.specs.Signed.{HasPair, IsSignature}
 use Rattle.inert.specs.Search.{Search, Laws, mark_at, frame_at, top, root_at, item_at, Begins, Ties, IsOf, IsThere, Gives, Holds, IsHere, IsHeld, IsEntered, AreOpen, AreSigned, AreRoots, AreFrames, AreThere, AreSound, AreAccounted, Connects, Walks}
-use Rattle.inert.specs.Moves.{Finishes, Closes, HasRead, popped}
+use Rattle.inert.specs.Moves.{Finishes, Closes, HasRead, popped, weight}
 use Rattle.inert.specs.Ahead.{is_unseen}
 use Rattle.inert.specs.declared.walk.Mark.TheVariants.{Open, Finished}
 use Rattle.inert.specs.declared.walk.Item.{Item}
@@ -370,16 +370,31 @@ module _ (laws : Laws) (l : Grouped) (lts : IsLts l) (blocks : List ℕ) (lists 
         | inr done ↦ inr (Accounted-change l blocks lists lists' w new p (place_at l.places k) (holds_still p lp') (met_still p lp') done)
       ]
 
+  -- it is lighter by the lists that were made
+  pub weight-close : weight new + length lists' ≤ weight w + length lists
+  weight-close =
+      let same = unseen-same w.marks new.marks marks.size same_unseen in
+      let made = closes.listed.few in
+      let taken = length-drop c0 w.items in
+      let e = size in
+      let f = few in
+      let g = frames_size in
+      elim (cases_lt 0 (length new.frames)) [
+        | inl led ↦ (let items = led_size led in omega (arith, same, made, taken, e, f, g, low_q, items, led))
+        | inr none ↦
+            let items = ap length (alone_items (omega (arith, none))) ∙ cut_size in
+            omega (arith, same, made, taken, e, f, g, low_q, items, none)
+      ]
+
   pub Walks-close : Walks l blocks lists' new
   Walks-close = record {
     numbers =
         let same = unseen-same w.marks new.marks marks.size same_unseen in
         let room = walks.numbers.numbers in
+        let e = size in
         let one = walks.numbers.some in
         let longer = closes.listed.grow.longer in
-        let few' = closes.listed.few in
-        let e = size in
-        record { size = marks.size ∙ walks.numbers.size; some = omega (arith, one, longer); numbers = omega (arith, same, room, few', e, low_q) };
+        record { size = marks.size ∙ walks.numbers.size; some = omega (arith, one, longer); numbers = omega (arith, same, room, e, low_q) };
     opened = opened;
     signed = signed;
     roots = roots_left;

@@ -12,8 +12,8 @@ use Rattle.lts.specs.Lts.{Grouped, Triple, source_of, label_of, target_of, place
 use Rattle.inert.specs.Signed.{HasPair, pair_under}
 use Rattle.inert.specs.Steps.{IsInert, IsStep}
 use Rattle.inert.specs.Search.{Search, Laws, mark_at, frame_at, top, root_at, Accounted, Walks}
-use Rattle.inert.specs.Moves.{entered, with_item, Takes, Cuts, Closes, popped, ahead, steps, HasRead, GoesOn}
-use Rattle.inert.specs.Ahead.{is_unseen, unread, rest, KeepsSeen}
+use Rattle.inert.specs.Moves.{entered, with_item, Takes, Cuts, Closes, popped, ahead, weight, Fits, steps, HasRead, GoesOn}
+use Rattle.inert.specs.Ahead.{is_unseen, unseen, unread, rest, KeepsSeen}
 use Rattle.inert.specs.declared.step.Step.{Step as TakenStep}
 use Rattle.inert.specs.declared.step.Step.TheVariants.{Inert as Goes, Shows}
 use Rattle.inert.specs.declared.walk.Mark.{Mark}
@@ -22,14 +22,14 @@ use Rattle.inert.specs.declared.walk.Frame.{Frame}
 use Rattle.inert.specs.declared.walk.Root.{Root}
 use Rattle.inert.specs.declared.walk.Item.TheVariants.{Pair, Listed}
 use Rattle.inert.proofs.Marks.{seen_more}
-use Rattle.inert.proofs.Counting.{unread-entered, unread-same, rest-push, rest-next, rest-cut}
+use Rattle.inert.proofs.Counting.{unseen-entered, unread-entered, unread-same, rest-push, rest-next, rest-cut}
 use Rattle.inert.proofs.Standing.{at, pair_before}
 use Rattle.inert.proofs.Collecting.{Walks-collect, collected_holds}
 use Rattle.inert.proofs.Joining.{Walks-join, joined_here}
 use Rattle.inert.proofs.Entering.{Walks-enter, entered_met}
 use Rattle.inert.proofs.Turning.{Walks-next, Walks-pop}
 use Rattle.inert.proofs.Exact.{place_step}
-use Rattle.inert.proofs.Closing.{Walks-close, same_unseen}
+use Rattle.inert.proofs.Closing.{Walks-close, weight-close, same_unseen}
 
 true_or_not : (b : Bool) → IsTrue b ⊎ ¬ IsTrue b
 true_or_not true = inl refl
@@ -54,9 +54,9 @@ pub record Entered (l : Grouped) (blocks : List ℕ) (lists : List (List (ℕ ×
   pub forward : (top old.frames).next < k
   pub less : ahead l new + k ≡ ahead l old + (top old.frames).next
 
-pub reads_none : (l : Grouped) (blocks : List ℕ) (lists : List (List (ℕ × ℕ))) (w : Search) → Walks l blocks lists w → Reads l blocks lists w w (top w.frames).next
-reads_none l blocks lists w walks =
-    record { on = record { walks = walks; seen = λ s h. h }; size = refl; here = refl; stack = refl; forward = omega arith; less = refl }
+pub reads_none : (l : Grouped) (blocks : List ℕ) (lists : List (List (ℕ × ℕ))) (w : Search) → Walks l blocks lists w → Fits l (length lists) w → Reads l blocks lists w w (top w.frames).next
+reads_none l blocks lists w walks fits =
+    record { on = record { walks = walks; fits = fits; seen = λ s h. h }; size = refl; here = refl; stack = refl; forward = omega arith; less = refl }
 
 module _ (laws : Laws) (l : Grouped) (lts : IsLts l) (blocks : List ℕ) (lists : List (List (ℕ × ℕ))) (w : Search) (walks : Walks l blocks lists w)
     (some : 0 < length w.frames) (more : (top w.frames).next < (top w.frames).end) where
@@ -110,18 +110,24 @@ module _ (laws : Laws) (l : Grouped) (lts : IsLts l) (blocks : List ℕ) (lists 
     pub done : Accounted l blocks lists m p e
     pub seen : KeepsSeen w.marks m.marks
     pub same_ahead : ahead l m ≡ ahead l w
+    pub heavier : weight m ≤ weight w + 1
     pub same_frame : frame_at m.frames i ≡ frame_at w.frames i
     pub still : ¬ IsTrue enters → (m.frames ≡ w.frames) × (m.stack ≡ w.stack)
     pub longer : IsTrue enters → length m.frames ≡ length w.frames + 1
 
   -- nothing was entered
   stayed : (m : Search) (enters : Bool) → Walks l blocks lists m → Accounted l blocks lists m p e → m.marks ≡ w.marks → m.frames ≡ w.frames → m.stack ≡ w.stack
-      → ¬ IsTrue enters → Taken m enters
-  stayed m enters walks' done marks frames stack stay = record {
+      → length m.items ≤ length w.items + 1 → ¬ IsTrue enters → Taken m enters
+  stayed m enters walks' done marks frames stack items stay = record {
     after = walks';
     done = done;
     seen = λ s h. subst (λ ms. mark_at ms s ≡ Unseen) marks h;
     same_ahead = λ j. unread l.places (marks j) + rest (frames j);
+    heavier =
+        let e = ap unseen marks in
+        let e' = ap length stack in
+        let e'' = ap length frames in
+        omega (arith, e, e', e'', items);
     same_frame = ap (λ xs. frame_at xs i) frames;
     still = λ _. (frames, stack);
     longer = λ went. absurd (stay went);
@@ -137,7 +143,7 @@ module _ (laws : Laws) (l : Grouped) (lts : IsLts l) (blocks : List ℕ) (lists 
         shown = λ _. collected_holds l blocks lists w walks (Pair a b) (pair_under blocks e) is;
         followed = λ inert. absurd (other inert);
       })
-      refl refl refl stay
+      refl refl refl (let e = length_push w.items (Pair a b) in omega (arith, e)) stay
     where
       pair_list : (a b j : ℕ) → ¬ (Pair a b ≡ Listed j)
       pair_list a b j e' = cc
@@ -156,7 +162,7 @@ module _ (laws : Laws) (l : Grouped) (lts : IsLts l) (blocks : List ℕ) (lists 
           shown = λ other. absurd (other inert);
           followed = λ _. inr (inl (number, mark, λ z c. collected_holds l blocks lists w walks (Listed number) z c));
         })
-        refl refl refl stay
+        refl refl refl (let e = length_push w.items (Listed number) in omega (arith, e)) stay
 
     taken_joined : (q : ℕ) (roots : List Root) (enters : Bool) → mark_at w.marks (target_of e) ≡ Open q → Cuts q w.roots roots → ¬ IsTrue enters
         → Taken (record w { roots = roots }) enters
@@ -169,7 +175,7 @@ module _ (laws : Laws) (l : Grouped) (lts : IsLts l) (blocks : List ℕ) (lists 
           shown = λ other. absurd (other inert);
           followed = λ _. inl (joined_here laws l blocks lists w walks q roots cuts (target_of e) mark);
         })
-        refl refl refl stay
+        refl refl refl (omega arith) stay
 
     taken_entered : (start end : ℕ) (enters : Bool) → IsRow l.places (target_of e) start end → mark_at w.marks (target_of e) ≡ Unseen → IsTrue enters
         → Taken (entered (target_of e) start end w) enters
@@ -188,6 +194,11 @@ module _ (laws : Laws) (l : Grouped) (lts : IsLts l) (blocks : List ℕ) (lists 
               let rest' = rest-push w.frames x in
               let count = row.count in
               omega (arith, fewer, rest', count);
+          heavier =
+              let fewer = unseen-entered w.marks (target_of e) (length w.stack) within unseen in
+              let stack = length_push w.stack (target_of e) in
+              let frames = length_push w.frames x in
+              omega (arith, fewer, stack, frames);
           same_frame = get_or_append_left w.frames (x ∷ []) _ i low;
           still = λ stay. absurd (stay went);
           longer = λ _. length_push w.frames x;
@@ -239,7 +250,16 @@ module _ (laws : Laws) (l : Grouped) (lts : IsLts l) (blocks : List ℕ) (lists 
 
     module _ (first : Search) (reads : Reads l blocks lists first w k) where
       on : GoesOn l blocks lists first New
-      on = record { walks = moved_walks; seen = λ s h. reads.on.seen s (t.seen s h) }
+      on = record {
+        walks = moved_walks;
+        fits =
+            let before = reads.on.fits in
+            let one = moved_ahead in
+            let more' = t.heavier in
+            let same = moved_size in
+            omega (arith, before, one, more', same);
+        seen = λ s h. reads.on.seen s (t.seen s h);
+      }
 
       less : ahead l New + (k + 1) ≡ ahead l first + (top first.frames).next
       less = let one = moved_ahead in let before = reads.less in omega (arith, one, before)
@@ -365,7 +385,7 @@ unseen_is (Finished k) e = absurd (false≢true e)
 
 -- the walk goes back from its last frame, whose row was read
 module _ (laws : Laws) (l : Grouped) (lts : IsLts l) (blocks : List ℕ) (lists : List (List (ℕ × ℕ))) (w : Search) (walks : Walks l blocks lists w)
-    (some : 0 < length w.frames) (read : HasRead w) where
+    (fits : Fits l (length lists) w) (some : 0 < length w.frames) (read : HasRead w) where
   popped_rest : rest (popped w).frames ≡ rest w.frames
   popped_rest = rest-cut w.frames (length w.frames - 1) (λ p from low. subst (λ i. (frame_at w.frames i).next ≡ (frame_at w.frames i).end) (omega (arith, from, low)) read)
 
@@ -376,21 +396,26 @@ module _ (laws : Laws) (l : Grouped) (lts : IsLts l) (blocks : List ℕ) (lists 
   popped_size = let e = length-take-le (length w.frames - 1) w.frames (omega arith) in omega (arith, e, some)
 
   pub popped_on : (root_at w.roots (length w.roots - 1)).place ≢ (top w.frames).place → GoesOn l blocks lists w (popped w)
-  popped_on apart = record { walks = Walks-pop l blocks lists w walks some read apart; seen = λ s h. h }
+  popped_on apart = record {
+    walks = Walks-pop l blocks lists w walks some read apart;
+    fits = let less = popped_size in let same = popped_ahead in omega (arith, fits, less, same);
+    seen = λ s h. h;
+  }
 
   module _ (lists' : List (List (ℕ × ℕ))) (new : Search) (place : (root_at w.roots (length w.roots - 1)).place ≡ (top w.frames).place)
       (closes : Closes (root_at w.roots (length w.roots - 1)) lists lists' (popped w) new) where
     same : (s : ℕ) → is_unseen (mark_at new.marks s) ≡ is_unseen (mark_at w.marks s)
     same = same_unseen laws l lts blocks lists lists' w new walks some read place closes
 
+    pub closed_ahead : ahead l new ≡ ahead l w
+    closed_ahead = let e = unread-same l.places w.marks new.marks same in let e' = ap rest closes.frames ∙ popped_rest in omega (arith, e, e')
+
     pub closed_on : GoesOn l blocks lists' w new
     closed_on = record {
       walks = Walks-close laws l lts blocks lists lists' w new walks some read place closes;
+      fits = let less = weight-close laws l lts blocks lists lists' w new walks some read place closes in let e = closed_ahead in omega (arith, fits, less, e);
       seen = λ s is. unseen_is (mark_at w.marks s) (sym (same s) ∙ ap is_unseen is);
     }
-
-    pub closed_ahead : ahead l new ≡ ahead l w
-    closed_ahead = let e = unread-same l.places w.marks new.marks same in let e' = ap rest closes.frames ∙ popped_rest in omega (arith, e, e')
 
     pub closed_size : length new.frames < length w.frames
     closed_size = let e = ap length closes.frames in let e' = popped_size in omega (arith, e, e')

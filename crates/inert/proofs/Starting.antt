@@ -1,7 +1,7 @@
 -- How a walk begins, and how it ends.
 use Rattle.std.proofs.Common.{◌≡◌, ℕ, ◌<◌, ◌≤◌, List, [], ◌∷◌, length, slice_index, refl, sym, ◌∙◌, subst, inl, inr, arith}
 use Rattle.std.proofs.lemmas.Bool.{cases_eq}
-use Rattle.std.proofs.lemmas.List.{get_or_default}
+use Rattle.std.proofs.lemmas.List.{get_or_default, length_push}
 use Rattle.std.proofs.lemmas.List.Sums.{count_by-le-length}
 use Rattle.theory.specs.Bisimulation.Relation.{branching}
 use Rattle.lts.specs.Lts.{Grouped, IsLts, IsRow}
@@ -14,13 +14,13 @@ use Rattle.inert.specs.declared.walk.Mark.{Mark}
 use Rattle.inert.specs.declared.walk.Mark.TheVariants.{Unseen, Open, Finished}
 use Rattle.inert.specs.declared.walk.Frame.{Frame}
 use Rattle.inert.proofs.Marks.{not_unseen, not_finished, mark_set, seen_more}
-use Rattle.inert.proofs.Counting.{unread-entered, unread-all, unread-none, rest-push}
+use Rattle.inert.proofs.Counting.{unseen-entered, unread-entered, unread-all, unread-none, rest-push}
 use Rattle.inert.proofs.Standing.{frames_some}
 use Rattle.inert.proofs.Entering.{Walks-enter}
 
 -- if no row is being read, nothing is on the stack
 pub rests_empty : (l : Grouped) (blocks : List ℕ) (lists : List (List (ℕ × ℕ))) (w : Search) → Rests l blocks lists w → length w.stack ≡ 0
-rests_empty l blocks lists w (walks, none) = elim (cases_eq (length w.stack) 0) [
+rests_empty l blocks lists w (walks, none, fits) = elim (cases_eq (length w.stack) 0) [
   | inl e ↦ e
   | inr d ↦ (let some = frames_some l blocks lists w walks (omega (arith, d)) in absurd (omega (arith, some, none)))
 ]
@@ -51,6 +51,16 @@ module _ (laws : Laws) (l : Grouped) (blocks : List ℕ) (lists : List (List (�
       record {
         on = record {
           walks = Walks-enter laws l blocks lists old rests.0 s start end within none row (λ some. absurd (let e = rests.1 in omega (arith, some, e)));
+          fits =
+              let fewer = unseen-entered old.marks s (length old.stack) within none in
+              let unread' = unread-entered l.places old.marks s (length old.stack) within none in
+              let first = rest-push old.frames x in
+              let count = row.count in
+              let stack = length_push old.stack s in
+              let frames = length_push old.frames x in
+              let empty = rests.1 in
+              let fits = rests.2 in
+              omega (arith, fewer, unread', first, count, stack, frames, empty, fits);
           seen = seen_more old.marks s (length old.stack) within;
         };
         found = λ is. not_unseen (length old.stack) (sym (mark_set old.marks s (Open (length old.stack)) within) ∙ is);
@@ -70,7 +80,7 @@ pub Rests-idle : (l : Grouped) (blocks : List ℕ) (lists : List (List (ℕ × �
     → ((s : ℕ) → mark_at marks s ≡ Unseen) → Rests l blocks lists (nothing marks)
 Rests-idle l blocks lists marks size one none = (
   record {
-    numbers = let few : unseen marks ≤ length marks = count_by-le-length is_unseen marks in record { size = size; some = omega (arith, one); numbers = omega (arith, few, size, one) };
+    numbers = let few : unseen marks ≤ length marks = count_by-le-length is_unseen marks in record { size = size; some = omega (arith, one); numbers = omega (arith, few, size) };
     opened = record { marked = λ p h. absurd (omega (arith, h)); only = λ s p is. absurd (not_unseen p (sym is ∙ none s)) };
     signed = λ s k is. absurd (not_finished k (sym is ∙ none s));
     roots = record {
@@ -87,6 +97,11 @@ Rests-idle l blocks lists marks size one none = (
     accounted = λ p k h. absurd (omega (arith, h));
   },
   refl,
+  (
+    let few : unseen marks ≤ length marks = count_by-le-length is_unseen marks in
+    let all = unread-all l.places marks none in
+    omega (arith, few, all, size, one)
+  ),
 )
 
 -- a walk that is idle rests

@@ -1,5 +1,5 @@
 -- What a walk has still to read.
-use Rattle.std.specs.Prelude.{◌≡◌, ◌⊎◌, ℕ, ◌<◌, ◌+◌, ◌-◌, ◌≤◌, Bool, true, false, List, length, slice_index_or}
+use Rattle.std.specs.Prelude.{◌≡◌, ◌⊎◌, ℕ, ◌<◌, ◌+◌, ◌*◌, ◌-◌, ◌≤◌, Bool, true, false, List, length, slice_index_or}
 use Rattle.std.specs.List.{Contains, All, filter, sum_by, count_by}
 use Rattle.lts.specs.Lts.{Triple, source_of}
 use Rattle.inert.specs.declared.walk.Mark.{Mark}
@@ -38,8 +38,8 @@ pub record HasSeen (s : ℕ) (old new : List Mark) : Type 0 where
   pub seen : KeepsSeen old new
   pub found : ¬ (slice_index_or new s Unseen ≡ Unseen)
 
--- there is a mark for each state, some list, and a number for the list of each state that is not finished
+-- there is a mark for each state, some list, and no state is twice on the stack
 pub record HasNumbers (states lists stack : ℕ) (marks : List Mark) : Type 0 where
   pub size : length marks ≡ states
   pub some : 1 ≤ lists
-  pub numbers : unseen marks + stack + lists ≤ states + 1
+  pub numbers : unseen marks + stack ≤ states

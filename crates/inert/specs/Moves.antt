@@ -3,10 +3,9 @@ use Rattle.std.specs.Prelude.{◌≡◌, ◌⊎◌, ◌↔◌, ℕ, ◌+◌, ◌
 use Rattle.std.specs.List.{Contains}
 use Rattle.std.specs.List.Sorted.{IsStrictlySortedBy}
 use Rattle.lts.specs.Lts.{Grouped, Triple, IsRow}
-use Rattle.lists.specs.Lists.{list_at, pair_cmp}
-use Rattle.inert.specs.Signed.{Grow}
+use Rattle.lists.specs.Lists.{list_at, pair_cmp, Grow}
 use Rattle.inert.specs.Search.{Search, mark_at, top, root_at, item_at, Gives, Walks}
-use Rattle.inert.specs.Ahead.{unread, rest, KeepsSeen}
+use Rattle.inert.specs.Ahead.{unseen, unread, rest, KeepsSeen}
 use Rattle.inert.specs.declared.step.Step.{Step}
 use Rattle.inert.specs.declared.step.Step.TheVariants.{Inert, Shows}
 use Rattle.inert.specs.declared.walk.Mark.{Mark}
@@ -52,16 +51,17 @@ Takes places (Inert t) old new enters =
 abbrev pub IsGiven : List (List (ℕ × ℕ)) → List Item → ℕ × ℕ → Type 0
 IsGiven lists items z = (j : ℕ) × (j < length items) × Gives lists (item_at items j) z
 
--- the list has what these items give and the list number k lacks
-pub record IsLacking (lists : List (List (ℕ × ℕ))) (items : List Item) (k : ℕ) (list : List (ℕ × ℕ)) : Type 0 where
-  pub exactly : (z : ℕ × ℕ) → Contains list z ↔ (IsGiven lists items z × ¬ Contains (list_at lists k) z)
-  pub rising : IsStrictlySortedBy pair_cmp list
+-- the numbers of the lists that these items name, and the pairs that they are
+pub record AreTaken (items : List Item) (numbers : List ℕ) (pairs : List (ℕ × ℕ)) : Type 0 where
+  pub named : (k : ℕ) → Contains numbers k ↔ Contains items (Listed k)
+  pub own : (a b : ℕ) → Contains pairs (a, b) ↔ Contains items (Pair a b)
+  pub few : length numbers ≤ length items
 
 -- among the lists after, an old one or a new one, is that of what these items give
 pub record IsListed (items : List Item) (before after : List (List (ℕ × ℕ))) (k : ℕ) : Type 0 where
   pub within : k < length after
   pub grow : Grow before after
-  pub few : length after ≤ length before + 1
+  pub few : length after ≤ length before + length items + 2
   pub exactly : (z : ℕ × ℕ) → Contains (list_at after k) z ↔ IsGiven before items z
   pub rising : IsStrictlySortedBy pair_cmp (list_at after k)
 
@@ -90,6 +90,15 @@ pub record Closes (root : Root) (before after : List (List (ℕ × ℕ))) (old n
 abbrev pub ahead : Grouped → Search → ℕ
 ahead l w = unread l.places w.marks + rest w.frames
 
+-- how many lists a walk makes at most of what it has seen: one for each item, and for each frame that is to come back with
+-- one, and two for each state that is not finished
+abbrev pub weight : Search → ℕ
+weight w = 2 * (unseen w.marks + length w.stack) + length w.items + (length w.frames - 1)
+
+-- there is room for these, and for one for each transition that is still to be read
+abbrev pub Fits : Grouped → ℕ → Search → Type 0
+Fits l lists w = weight w + ahead l w + lists ≤ 2 * l.states + length l.places + 1
+
 -- how many steps a walk makes at most
 abbrev pub steps : Grouped → Search → ℕ
 steps l w = 2 * ahead l w + length w.frames
@@ -101,6 +110,7 @@ HasRead w = (top w.frames).next ≡ (top w.frames).end
 -- a walk goes on
 pub record GoesOn (l : Grouped) (blocks : List ℕ) (lists : List (List (ℕ × ℕ))) (old new : Search) : Type 0 where
   pub walks : Walks l blocks lists new
+  pub fits : Fits l (length lists) new
   pub seen : KeepsSeen old.marks new.marks
 
 -- fewer steps are ahead after a state was entered, and else no more, where the row is read
@@ -110,4 +120,4 @@ Advances l old new enters = (IsTrue enters → steps l new < steps l old)
 
 -- the walk rests: nothing is on the stack
 abbrev pub Rests : Grouped → List ℕ → List (List (ℕ × ℕ)) → Search → Type 0
-Rests l blocks lists w = Walks l blocks lists w × (length w.frames ≡ 0)
+Rests l blocks lists w = Walks l blocks lists w × (length w.frames ≡ 0) × Fits l (length lists) w

@@ -1,5 +1,5 @@
 -- Signatures in memory: each state's pairs of a label number and a block, in rising order.
-use Rattle.std.specs.Prelude.{◌≡◌, ◌↔◌, ℕ, ◌<◌, ◌≤◌, List, length, slice_index}
+use Rattle.std.specs.Prelude.{◌↔◌, ℕ, ◌<◌, List, length, slice_index}
 use Rattle.std.specs.List.{Contains}
 use Rattle.std.specs.List.Sorted.{IsStrictlySortedBy}
 use Rattle.theory.specs.Bisimulation.{Relation}
@@ -21,11 +21,6 @@ pub record IsSignature (rel : Relation) (l : Grouped) (blocks : List ℕ) (s : �
 -- the pair that a transition gives: its label number and the block of its target
 abbrev pub pair_under : List ℕ → Triple → ℕ × ℕ
 pair_under blocks e = (label_of e, slice_index blocks (target_of e))
-
--- each list stays as it is, and there may be more
-pub record Grow (old new : List (List (ℕ × ℕ))) : Type 0 where
-  pub longer : length old ≤ length new
-  pub same : (k : ℕ) → k < length old → list_at new k ≡ list_at old k
 
 -- the list of this number is the branching signature of s
 pub record IsListOf (l : Grouped) (blocks : List ℕ) (s : ℕ) (lists : List (List (ℕ × ℕ))) (k : ℕ) : Type 0 where

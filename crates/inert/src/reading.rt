@@ -1,11 +1,11 @@
 //! The walk over the transitions of a system: each one is read once.
-ghost use Rattle.std.specs.Prelude.{◌≡◌, ℕ, ◌+◌, ◌<◌, ◌≤◌, length, IfOk, OnOk};
+ghost use Rattle.std.specs.Prelude.{◌≡◌, ℕ, ◌+◌, ◌-◌, ◌<◌, ◌≤◌, length, IfOk, OnOk};
 ghost use Rattle.std.specs.List.{All};
 ghost use Rattle.lts.specs.Meter.{HasRoomFor, Costs};
 ghost use Rattle.lists.specs.declared.lists.TheConstants.{MOST_LISTS};
 ghost use Rattle.inert.specs.Steps.{Sees};
 ghost use Rattle.inert.specs.Search.{mark_at, AreOpen, AreThere, Walks, Laws};
-ghost use Rattle.inert.specs.Moves.{Closes, Finishes, ahead, HasRead, GoesOn, Rests, Advances};
+ghost use Rattle.inert.specs.Moves.{Closes, Finishes, ahead, Fits, HasRead, GoesOn, Rests, Advances};
 ghost use Rattle.inert.specs.Ahead.{unread, HasSeen};
 ghost use Rattle.inert.specs.declared.walk.Mark.TheVariants.{Unseen};
 
@@ -64,6 +64,7 @@ impl Walk {
         requires sees { Sees l.now blocks.now internal }
         requires some { 0 < length self.old.frames }
         requires walks { Walks l.now blocks.now lists.now self.old }
+        requires fits { Fits l.now (length lists.now) self.old }
         requires room { HasRoomFor (M.counted m.old) 0 (ahead l.now self.old) }
         ensures on { OnOk result (GoesOn l.now blocks.now lists.now self.old self.new) }
         ensures visits { OnOk result ((M.counted m.new).visits + ahead l.now self.new ≡ (M.counted m.old).visits + ahead l.now self.old) }
@@ -97,6 +98,7 @@ impl Walk {
     ) -> Result<(), Memory>
         requires some { 0 < length self.old.frames }
         requires walks { Walks l.now blocks.now lists.old self.old }
+        requires fits { Fits l.now (length lists.old) self.old }
         requires read { HasRead self.old }
         ensures on { OnOk result (GoesOn l.now blocks.now lists.new self.old self.new) }
         ensures ahead { OnOk result (ahead l.now self.new ≡ ahead l.now self.old) }
@@ -121,10 +123,15 @@ impl Walk {
         requires place { root.place ≤ length self.old.stack }
         requires items { root.items ≤ length self.old.items }
         requires there { AreThere lists.old self.old.items }
-        requires few { length lists.old < MOST_LISTS }
+        requires few { length lists.old + (length self.old.items - root.items) + 2 ≤ MOST_LISTS }
         ensures { OnOk result (Closes root lists.old lists.new self.old self.new) }
     {
-        let list = list_from(&self.items[root.items..], lists, &mut self.scratch)?;
+        let list = list_from(
+            &self.items[root.items..],
+            lists,
+            &mut self.numbers,
+            &mut self.pairs,
+        )?;
         mark_members(&mut self.marks, &self.stack, root.place as usize, list);
         self.stack.truncate(root.place as usize);
         self.roots.pop();

@@ -59,8 +59,10 @@ pub(crate) struct Walk {
     /// Where the components on the stack begin.
     pub roots: Vec<Root>,
     pub items: Vec<Item>,
-    /// Where the list of a component is put together.
-    pub scratch: Vec<(u32, u32)>,
+    /// Where the numbers of the lists that a component leads to are put together.
+    pub numbers: Vec<u32>,
+    /// Where the pairs that a component has collected are put together.
+    pub pairs: Vec<(u32, u32)>,
 }
 
 impl Model for Walk {
@@ -93,7 +95,8 @@ impl Walk {
             frames: Vec::new(alloc),
             roots: Vec::new(alloc),
             items: Vec::new(alloc),
-            scratch: Vec::new(alloc),
+            numbers: Vec::new(alloc),
+            pairs: Vec::new(alloc),
         }
     }
 

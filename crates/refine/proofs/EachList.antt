@@ -1,12 +1,12 @@
 -- The lists of the states by their numbers: one list more, for one state.
-use Rattle.std.proofs.Common.{◌≡◌, ◌∙◌, ℕ, zero, suc, ◌+◌, ◌<◌, List, [], ◌∷◌, length, get_or, set, ap, sym, subst, refl, inl, inr, arith}
+use Rattle.std.proofs.Common.{◌≡◌, ◌∙◌, ℕ, zero, suc, ◌+◌, ◌<◌, List, [], ◌∷◌, length, get_or, slice_index, set, ap, sym, subst, refl, inl, inr, arith}
 use Rattle.std.proofs.lemmas.Bool.{cases_eq}
 use Rattle.std.proofs.lemmas.List.{get_or-map, get_or-set_same, get_or-set_other}
 use Rattle.std.proofs.lemmas.List.Elements.{All-set, All-weaker}
-use Rattle.lists.specs.Lists.{list_at, AreNumbers}
-use Rattle.inert.specs.Signed.{Grow}
+use Rattle.lists.specs.Lists.{list_at, AreLists, AreNumbers, Grow}
 use Rattle.refine.specs.EachList.{list_of, each_list}
 use Rattle.refine.specs.Signed.{signature_at}
+use Rattle.refine.specs.Splitting.{Splits}
 
 -- the list of a state is the one that its number gives
 pub signature_at-list : (lists : List (List (ℕ × ℕ))) (numbers : List ℕ) (s : ℕ) → s < length numbers →
@@ -41,3 +41,19 @@ module _ (lists lists' : List (List (ℕ × ℕ))) (numbers : List ℕ) (s k : �
         ap (list_at lists') (get_or-set_other numbers s t k 0 d) ∙ grow.same (get_or numbers t 0) (are t 0 (omega (arith, low, d, inside))) in
         subst (P t) (sym same) (before t (omega (arith, low, d)))
   ]
+
+-- blocks that are split by the numbers of lists are split by the lists, which are all different
+pub Splits-lists : (lists : List (List (ℕ × ℕ))) (numbers old : List ℕ) (count : ℕ) (new : List ℕ) (more : ℕ) → AreLists lists → AreNumbers lists numbers
+    → length old ≡ length numbers → Splits old count (slice_index numbers) new more → Splits old count (list_of lists numbers) new more
+Splits-lists lists numbers old count new more are each size splits = record {
+  states = splits.states;
+  blocks = splits.blocks;
+  grows = splits.grows;
+  alike = λ s t hs ht.
+      let h = splits.alike s t hs ht in (
+        λ e. let a = h.0 e in (a.0, ap (list_at lists) a.1),
+        λ a. h.1 (a.0, are.different _ _ (each s 0 (omega (arith, hs, size))) (each t 0 (omega (arith, ht, size))) a.1),
+      );
+  stays = splits.stays;
+  parts = splits.parts;
+}

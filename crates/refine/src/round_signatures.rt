@@ -101,6 +101,7 @@ impl RoundSignatures {
         requires states { length p.now ≡ length self.now.numbers.items }
         ensures { IfOk result (λ q. Splits p.now count (list_of self.now.lists self.now.numbers.items) q.of.items q.count) }
     {
-        split(self.alloc, p, count, &self.lists, &self.numbers)
+        self.lists.known();
+        split(self.alloc, p, count, self.lists.len(), &self.numbers)
     }
 }

@@ -50,7 +50,7 @@ pub trait Sense {
 
     /// Puts the signature of each state under the blocks `p` into `lists`, and its number there into `numbers`: no pairs
     /// for a state of a block that is known to be of one state alone, and for one that no number from `low` on can be seen
-    /// from. States with equal signatures may share a list. Each transition is visited once.
+    /// from. States with equal signatures share a list. Each transition is visited once.
     ///
     /// Fails if there is no memory for it. It is open then which lists there are.
     fn sign_each<M: Meter>(

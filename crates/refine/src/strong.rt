@@ -3,9 +3,9 @@ ghost use Rattle.std.specs.Prelude.{◌≡◌, ◌↔◌, ℕ, ◌+◌, ◌<◌,
 ghost use Rattle.theory.specs.Bisimulation.Relation.{strong};
 ghost use Rattle.lts.specs.Meter.{HasRoomFor, Visits};
 ghost use Rattle.lts.specs.Lts.{row_of};
-ghost use Rattle.lists.specs.Lists.{list_at};
+ghost use Rattle.lists.specs.Lists.{list_at, Grow};
 ghost use Rattle.lists.specs.declared.lists.TheConstants.{MOST_LISTS};
-ghost use Rattle.inert.specs.Signed.{IsSignature, Grow, pair_under};
+ghost use Rattle.inert.specs.Signed.{IsSignature, pair_under};
 ghost use Rattle.refine.specs.Settled.{HasFrom, IsPut};
 
 use crate::marks::Marks;

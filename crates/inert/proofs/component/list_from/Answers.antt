@@ -1,30 +1,20 @@
-use Rattle.std.proofs.Common.{◌≡◌, ◌∙◌, [], length, Contains, ap, sym, subst, arith}
-use Rattle.std.proofs.lemmas.Bool.Decides.{nat_tests}
-use Rattle.std.proofs.lemmas.List.{nil_from_length}
-use Rattle.lists.specs.Lists.{list_at, merged}
-use Rattle.inert.proofs.Listing.{listed_known, listed_new}
+use Rattle.inert.specs.Moves.{AreTaken}
+use Rattle.inert.proofs.Listing.{taken_ordered, numbers_there, listed}
 use Rattle.inert.proofs.component.list_from.Goals as goal
+use Rattle.inert.proofs.component.list_from.Goals.{After-deref-2}
 
-pub returns-then-is_empty : goal.returns-then-is_empty
-returns-then-is_empty c =
-    let none : length c.collect.new.out.items ≡ 0 = grind (arith, nat_tests) in
-    listed_known c.args.lists.now c.args.items.now c.longest-known.result c.known.ensures c.longest-known.ensures.within c.longest-known.ensures.given
-    c.collect.new.out.items c.in_ok-collect.ensures (nil_from_length c.collect.new.out.items none)
+-- the numbers and pairs that are joined are those of the items
+taken : (c : goal.After-deref-2) → AreTaken c.args.items.now c.deref.result.now c.deref-2.result.now
+taken c =
+    rw (c.deref.ensures.value, c.deref-2.ensures.value)
+    (taken_ordered c.args.items.now c.collect.new.numbers.items c.order_numbers.new.numbers.items c.collect.new.pairs.items c.order.new.pairs.items
+    c.in_ok-collect.ensures c.order_numbers.ensures.same c.order_numbers.ensures.few c.order.ensures.same)
 
-pub returns-then-known-eq-EMPTY : goal.returns-then-known-eq-EMPTY
-returns-then-known-eq-EMPTY c =
-    let lists = c.args.lists.now in
-    let first : list_at lists c.longest-known.result ≡ [] = ap (list_at lists) c.if-known-eq-EMPTY.true ∙ c.known.ensures.first in
-    listed_new lists c.args.items.now c.longest-known.result c.known.ensures c.longest-known.ensures.within c.longest-known.ensures.given
-    c.collect.new.out.items c.in_ok-collect.ensures c.push.new.self c.deref.result.now c.in_ok-list.list c.in_ok-list.ensures.pushed c.in_ok-list.ensures.number
-    (c.deref.ensures.value ∙ ap (λ xs. merged xs c.collect.new.out.items) (sym first))
-
-pub extend-requires-clause-apart : goal.extend-requires-clause-apart
-extend-requires-clause-apart c z known new = ((c.in_ok-collect.ensures.exactly z).0 (subst (λ l. Contains l z) c.deref-2.ensures.value new)).1 known
+pub join-requires-clause-lists : goal.join-requires-clause-lists
+join-requires-clause-lists c = numbers_there c.args.items.now c.args.lists.now c.deref.result.now c.deref-2.result.now (taken c) c.requires.there
 
 pub returns : goal.returns
 returns c =
-    let lists = c.args.lists.now in
-    listed_new lists c.args.items.now c.longest-known.result c.known.ensures c.longest-known.ensures.within c.longest-known.ensures.given
-    c.collect.new.out.items c.in_ok-collect.ensures c.extend.new.self (merged (list_at lists c.longest-known.result) c.deref-2.result.now) c.in_ok-list-2.list
-    c.in_ok-list-2.ensures.extended c.in_ok-list-2.ensures.number (ap (merged (list_at lists c.longest-known.result)) c.deref-2.ensures.value)
+    let join = c.in_ok-list.ensures in
+    listed c.args.items.now c.args.lists.now c.deref.result.now c.deref-2.result.now (taken (goal.at.returns c).After-deref-2) c.join.new.self c.in_ok-list.list
+    c.known.ensures join.within join.grow join.few join.exactly

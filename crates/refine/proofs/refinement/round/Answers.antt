@@ -26,3 +26,9 @@ returns-clause-split g c =
     (subst (λ new. Split g.S.Sense.relation A (slice_index c.args.p.now) (slice_index new)) (sym c.deref.ensures.value)
     (subst (λ old. Split g.S.Sense.relation A (slice_index old) (slice_index c.in_ok-next.next.of.items)) c.blocks-2.ensures.blocks next.split)))
     c.renumber.ensures.same
+
+pub returns-clause-states : goal.returns-clause-states
+returns-clause-states g c =
+    let next = c.in_ok-next.ensures.next in
+    let size = ap length c.deref.ensures.value in
+    IfOk-weaker c.renumber.result _ _ (λ q same. omega (arith, same, size, next.states)) c.renumber.ensures.states

@@ -1,6 +1,5 @@
-use Rattle.std.proofs.Common.{◌≡◌, ◌∙◌, ◌↔◌, Contains, ap, sym, subst, inl, inr}
+use Rattle.std.proofs.Common.{◌≡◌, ◌∙◌, ◌↔◌, Contains, sym, subst, inl, inr}
 use Rattle.std.proofs.lemmas.Bool.{iff_false}
-use Rattle.std.proofs.lemmas.List.{get_or_push}
 use Rattle.theory.specs.Bisimulation.Relation.{strong}
 use Rattle.lists.specs.Lists.{list_at}
 use Rattle.inert.specs.Signed.{IsSignature}
@@ -37,7 +36,5 @@ returns-clause-put g c =
     row_signature l c.args.p.now c.args.s c.known.ensures (c.rows_are_steps.ensures.sources c.args.s l.places)
     (c.rows_are_steps.ensures.steps l c.args.s) pairs c.order.ensures.rising
     (λ z. subst (λ xs. Contains pairs z ↔ Contains xs z) c.in_ok-touched.ensures.pairs (c.order.ensures.same z)) in
-    let at : list_at c.push.new.self c.in_ok-list.list ≡ pairs =
-    ap (λ xs. list_at xs c.in_ok-list.list) c.in_ok-list.ensures.pushed
-    ∙ get_or_push c.args.lists.now c.deref.result.now _ c.in_ok-list.list (sym c.in_ok-list.ensures.number) ∙ c.deref.ensures.value in
+    let at : list_at c.push.new.self c.in_ok-list.list ≡ pairs = c.in_ok-list.ensures.list ∙ c.deref.ensures.value in
     inl (touched, subst (IsSignature strong l c.args.p.now c.args.s) (sym at) signed)

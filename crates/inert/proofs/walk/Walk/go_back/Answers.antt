@@ -2,7 +2,7 @@ use Rattle.std.proofs.Common.{◌≡◌, ◌≢◌, ◌∙◌, ℕ, ◌-◌, ◌
 use Rattle.std.specs.Vec.{vec_len}
 use Rattle.std.proofs.lemmas.List.{get_or_read}
 use Rattle.inert.specs.Search.{Search, frame_at, top, root_at, Walks}
-use Rattle.inert.specs.Moves.{HasRead, GoesOn, Closes, popped, ahead}
+use Rattle.inert.specs.Moves.{HasRead, Fits, GoesOn, Closes, popped, ahead}
 use Rattle.inert.specs.declared.walk.Frame.{Frame}
 use Rattle.inert.proofs.Roots.{last_root}
 use Rattle.inert.proofs.Standing.{roots_some, stack_some}
@@ -28,6 +28,9 @@ module _ (g : Over) (c : After-index-root g) where
   walks : Walks c.args.l.now c.args.blocks.now c.args.lists.now Inside
   walks = subst (Walks c.args.l.now c.args.blocks.now c.args.lists.now) (sym is) c.requires.walks
 
+  fits : Fits c.args.l.now (length c.args.lists.now) Inside
+  fits = subst (Fits c.args.l.now (length c.args.lists.now)) (sym is) c.requires.fits
+
   some : 0 < length Inside.frames
   some = subst (λ w. 0 < length w.frames) (sym is) c.requires.some
 
@@ -46,6 +49,16 @@ module _ (g : Over) (c : After-index-root g) where
   root =
       let n : c.len-2.result ≡ length Inside.roots = omega (arith, c.len-2.ensures, c.self.inside.roots.ok.0) in
       get_or_read Inside.roots (c.len-2.result - 1) c.index-root.result.now (omega (arith, roots, n)) c.index-root.ensures _ ∙ ap (λ k. root_at Inside.roots (k - 1)) n
+
+pub close-requires-clause-few : goal.close-requires-clause-few
+close-requires-clause-few g c =
+    let d = (goal.at.close-requires-clause-few g c).After-index-root in
+    let room = fits g d in
+    let stack = stack_some c.args.l.now c.args.blocks.now c.args.lists.now (Inside g d) (walks g d) (some g d) in
+    let range = c.known.ensures.in_range in
+    let few = (walks g d).roots.within _ _ (last_root c.self.inside.roots.items (walks g d).roots.rising (roots g d)) in
+    let items = ap (λ r. r.items) (root g d) in
+    omega (arith, room, stack, range.few_states, range.few_transitions, few, items)
 
 pub close-requires-clause-items : goal.close-requires-clause-items
 close-requires-clause-items g c =
@@ -68,7 +81,7 @@ returns-else-root-frame-clause-on g c =
     λ e. c.if-root-frame.false (ap (λ r. r.place) (root g d) ∙ e ∙ ap (λ x. x.place) (sym (frame g d))) in
     subst (λ x. GoesOn c.args.l.now c.args.blocks.now c.args.lists.now x (record (Inside g d) { frames = c.pop.new.self.items })) (is g d)
     (subst (GoesOn c.args.l.now c.args.blocks.now c.args.lists.now (Inside g d)) (left g d c.pop.new.self.items c.pop.ensures.rest)
-    (popped_on c.laws.ensures c.args.l.now c.known.ensures c.args.blocks.now c.args.lists.now (Inside g d) (walks g d) (some g d) (read g d) apart))
+    (popped_on c.laws.ensures c.args.l.now c.known.ensures c.args.blocks.now c.args.lists.now (Inside g d) (walks g d) (fits g d) (some g d) (read g d) apart))
 
 -- the component was finished
 module _ (g : Over) (d : After-index-root g) (same : d.index-root.result.now.place ≡ d.index-frame.result.now.place) (lists' : List (List (ℕ × ℕ)))
@@ -85,11 +98,11 @@ module _ (g : Over) (d : After-index-root g) (same : d.index-root.result.now.pla
   on : GoesOn d.args.l.now d.args.blocks.now lists' d.args.self.now new
   on =
       subst (λ x. GoesOn d.args.l.now d.args.blocks.now lists' x new) (is g d)
-      (closed_on d.laws.ensures d.args.l.now d.known.ensures d.args.blocks.now d.args.lists.now (Inside g d) (walks g d) (some g d) (read g d) lists' new place closes_last)
+      (closed_on d.laws.ensures d.args.l.now d.known.ensures d.args.blocks.now d.args.lists.now (Inside g d) (walks g d) (fits g d) (some g d) (read g d) lists' new place closes_last)
 
   same_ahead : ahead d.args.l.now new ≡ ahead d.args.l.now d.args.self.now
   same_ahead =
-      closed_ahead d.laws.ensures d.args.l.now d.known.ensures d.args.blocks.now d.args.lists.now (Inside g d) (walks g d) (some g d) (read g d) lists' new place closes_last
+      closed_ahead d.laws.ensures d.args.l.now d.known.ensures d.args.blocks.now d.args.lists.now (Inside g d) (walks g d) (fits g d) (some g d) (read g d) lists' new place closes_last
       ∙ ap (ahead d.args.l.now) (is g d)
 
 pub returns-in_ok-close-clause-on : goal.returns-in_ok-close-clause-on

@@ -55,7 +55,7 @@ loop-k-init g c =
     record {
       reads =
           subst (Reads c.args.l.now c.args.blocks.now c.args.lists.now c.args.self.now c.args.self.now) (sym next)
-          (reads_none c.args.l.now c.args.blocks.now c.args.lists.now c.args.self.now c.requires.walks);
+          (reads_none c.args.l.now c.args.blocks.now c.args.lists.now c.args.self.now c.requires.walks c.requires.fits);
       visits = ap (λ n. (g.M.Meter.counted c.args.m.now).visits + n) (sym next);
       cost = record { rounds = omega arith; at_least = omega arith; at_most = omega arith };
     }
