@@ -5,4 +5,10 @@ pub mod Spans
 pub mod Listing
 pub mod Prints
 pub mod Padded
-pub mod Rooted
+pub mod Linked
+pub mod Extending
+pub mod Chains
+pub mod Searching
+pub mod Hashing
+pub mod Uniting
+pub mod Noting

@@ -1,8 +1,8 @@
--- Roots that are padded to the number of the lists.
+-- Bases that are padded to the number of the lists.
 use Rattle.std.proofs.Common.{◌≡◌, ◌∙◌, ℕ, ◌+◌, ◌-◌, List, [], ◌∷◌, ◌++◌, length, get_or, slice_index, replicate, ap, sym, refl, inl, inr, arith}
 use Rattle.std.proofs.lemmas.Bool.{cases_lt}
 use Rattle.std.proofs.lemmas.List.{length-append, length-replicate, length_push, get_or_append_left, get_or-append_right, get_or-replicate, get_or_past, replicate_more, append-nil, append_assoc}
-use Rattle.lists.specs.Roots.{padded}
+use Rattle.lists.specs.Links.{padded}
 
 no_more : (m j z : ℕ) → get_or (replicate m z) j z ≡ z
 no_more m j z = elim (cases_lt j m) [
@@ -52,6 +52,6 @@ module _ (parts : List (List (ℕ × ℕ))) (added : List (ℕ × ℕ)) (roots :
   pushed_whole none = ap (padded roots) (length_push parts added) ∙ padded_flat roots (length parts) size root none
 
   -- and with one
-  pub pushed_rooted : (roots' : List ℕ) → roots' ≡ padded roots (length parts) ++ root ∷ [] → padded roots' (length (parts ++ added ∷ []))
+  pub pushed_linked : (roots' : List ℕ) → roots' ≡ padded roots (length parts) ++ root ∷ [] → padded roots' (length (parts ++ added ∷ []))
       ≡ padded roots (length parts) ++ root ∷ []
-  pushed_rooted roots' is = (λ i. padded (is i) (length_push parts added i)) ∙ padded_last (padded roots (length parts)) (length parts) root size
+  pushed_linked roots' is = (λ i. padded (is i) (length_push parts added i)) ∙ padded_last (padded roots (length parts)) (length parts) root size

@@ -43,6 +43,16 @@ fingerprint_merged xs ys apart =
     mod-add-mod (sum_by word_of xs) (2 ^ 64) (fingerprint_of ys) ∙ add-mod-mod (sum_by word_of xs) (sum_by word_of ys) (2 ^ 64)
     ∙ ap (λ s. s % 2 ^ 64) (sym (sum_merged word_of xs ys apart))
 
+-- a list's is the sum of its base's and that of what it adds
+pub fingerprint_link : (sum print : ℕ) (list base added : List (ℕ × ℕ)) → list ≡ merged base added → Apart base added → print ≡ fingerprint_of added
+    → ((sum + print) % 2 ^ 64 + fingerprint_of base) % 2 ^ 64 ≡ (sum + fingerprint_of list) % 2 ^ 64
+fingerprint_link sum print list base added is apart same =
+    let turned : sum + print + fingerprint_of base ≡ sum + (fingerprint_of base + print) = omega arith in
+    mod-add-mod (sum + print) (2 ^ 64) (fingerprint_of base) ∙ ap (λ n. n % 2 ^ 64) turned
+    ∙ sym (add-mod-mod sum (fingerprint_of base + print) (2 ^ 64))
+    ∙ ap (λ f. (sum + f) % 2 ^ 64)
+    (ap (λ p. (fingerprint_of base + p) % 2 ^ 64) same ∙ fingerprint_merged base added apart ∙ ap fingerprint_of (sym is))
+
 length-sum : (xs : List (ℕ × ℕ)) → sum_by (λ _. 1) xs ≡ length xs
 length-sum [] = refl
 length-sum (x ∷ xs) = omega (arith, sum_by-cons (λ _. 1) x xs, length-sum xs)

@@ -1,3 +1,5 @@
 pub mod Lists
 pub mod Spans
-pub mod Roots
+pub mod Links
+pub mod Hashed
+pub mod Unions

@@ -1,4 +1,4 @@
--- How `Lists` keeps its lists: as spans of one buffer, each with a fingerprint.
+-- How `Parts` keeps its lists: as spans of one buffer, each with a fingerprint.
 use Rattle.std.specs.Prelude.{◌≡◌, ℕ, ◌+◌, ◌*◌, ◌/◌, ◌%◌, ◌^◌, ◌≤◌, List, length, map}
 use Rattle.std.specs.Int.Bits.{bit_xor}
 use Rattle.std.specs.List.{All, slice_range, slice_index_or, sum_by}

@@ -1,7 +1,11 @@
-//! Lists of pairs of numbers: each in rising order without repeats, kept once and from then on named by its number, and
-//! compared by that number, by a fingerprint, or by its pairs.
+//! Different lists of pairs of numbers: each in rising order without repeats, kept once and from then on named by its number,
+//! so that lists are equal if their numbers are.
 #![tactic(auto)]
 
+mod chained;
+mod distinct;
+mod hashed;
+mod known;
 mod lists;
 mod ordered;
 mod parts;

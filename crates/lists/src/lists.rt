@@ -1,14 +1,12 @@
-//! Lists of pairs that are looked up by their numbers. A list that adds little to another one is kept as what it adds.
-ghost use Rattle.std.specs.Prelude.{◌≡◌, ◌⊎◌, ◌↔◌, ℕ, ◌+◌, ◌++◌, ◌∷◌, ◌<◌, ◌≤◌, [], length, slice_index, IfOk, OnOk, OnErr, IsTrue};
+//! Different lists of pairs that are looked up by their numbers, and unions of them.
+ghost use Rattle.std.specs.Prelude.{◌≡◌, ◌⊎◌, ◌↔◌, ℕ, ◌+◌, ◌++◌, ◌∷◌, ◌<◌, ◌≤◌, [], length, IfOk, OnOk};
 ghost use Rattle.std.specs.List.{Contains};
 ghost use Rattle.std.specs.List.Sorted.{IsStrictlySortedBy};
-ghost use Rattle.lists.specs.Lists.{pair_cmp, list_at, merged, Apart, AreLists};
-ghost use Rattle.lists.specs.Roots.{padded, wholes, AreRooted};
-ghost use Rattle.lists.specs.Spans.{fingerprint_of};
+ghost use Rattle.lists.specs.Lists.{pair_cmp, list_at, AreLists, AreNumbers, Grow, HasOne};
 
-use crate::ordered::{append_merged, append_missing, has_either};
-use crate::parts::Parts;
-use crate::span::are_same;
+use crate::distinct::Distinct;
+use crate::known::Known;
+use crate::ordered::order;
 use growth::Memory;
 use std::alloc::Global;
 use std::marker::Model;
@@ -16,25 +14,21 @@ use std::marker::Model;
 /// The number of the empty list.
 pub const EMPTY: u32 = 0;
 
-/// The most lists: the empty one, and one for each of 2,000,000 states.
-pub const MOST_LISTS: usize = 2_000_001;
+/// The most lists: the empty one, one for each of 20,000,000 transitions, and two for each of 2,000,000 states.
+pub const MOST_LISTS: usize = 24_000_001;
 
-/// A list is kept whole once it adds this part of its root to it.
-const PART: usize = 4;
+/// A list with more pairs is noted if it adds over so many times as many to its root, since to make it again copies those.
+const LONG: usize = 8;
 
-/// Lists of pairs in strictly rising order, each under the number that `push` or `extend` returned for it. The list number
-/// `EMPTY` is the empty one.
+/// Different lists of pairs in strictly rising order, so that equal lists have equal numbers. The list number `EMPTY` is the
+/// empty one.
 #[derive(Drop)]
 pub struct Lists {
-    /// What each list adds to its root.
-    parts: Parts,
-    /// The number of each list's root, which is a list that is kept whole, or `EMPTY` if the list itself is. It ends with the
-    /// last list that has another root: if no list was made by `extend`, none has, and nothing is kept or read here.
-    roots: Vec<u32>,
-    /// Where what a list adds is put together.
-    added: Vec<(u32, u32)>,
-    /// Where a list is put together.
-    whole: Vec<(u32, u32)>,
+    lists: Distinct,
+    /// Where the pairs are put together that a union adds to the longest of its lists.
+    missing: Vec<(u32, u32)>,
+    /// The unions that were made.
+    known: Known,
 }
 
 impl Model for Lists {
@@ -42,12 +36,11 @@ impl Model for Lists {
 
     ghost Value = { List (List (ℕ × ℕ)) };
 
-    ghost use Rattle.std.specs.Prelude.{length};
-    ghost use Rattle.lists.specs.Roots.{padded, wholes, AreRooted};
+    ghost use Rattle.lists.specs.Unions.{AreUnions};
 
-    ghost view = { λ x. wholes x.parts (padded x.roots.items (length x.parts)) };
+    ghost view = { λ x. x.lists };
 
-    ghost invariant = { λ x. AreRooted x.parts (padded x.roots.items (length x.parts)) };
+    ghost invariant = { λ x. AreUnions x.lists x.known };
 }
 
 impl Lists {
@@ -58,10 +51,9 @@ impl Lists {
         ensures { IfOk result (λ x. x ≡ [] ∷ []) }
     {
         Ok(Lists {
-            parts: Parts::new(alloc, room)?,
-            roots: Vec::new(alloc),
-            added: Vec::new(alloc),
-            whole: Vec::new(alloc),
+            lists: Distinct::new(alloc, room)?,
+            missing: Vec::new(alloc),
+            known: Known::new(alloc),
         })
     }
 
@@ -69,127 +61,14 @@ impl Lists {
     pub fn known(&self)
         ensures { AreLists self.now }
     {
-        let _ = &self.parts;
+        self.lists.known();
     }
 
     /// How many lists there are.
     pub fn len(&self) -> u32
         ensures { result ≡ length self.now }
     {
-        self.parts.len()
-    }
-
-    /// The root of the list number `k`, and what it adds to that.
-    fn cut(&self, k: u32) -> (&[(u32, u32)], &[(u32, u32)])
-        requires { k < length self.now }
-        ensures whole { list_at self.now k ≡ merged result.0.now result.1.now }
-        ensures root { IsStrictlySortedBy pair_cmp result.0.now }
-        ensures added { IsStrictlySortedBy pair_cmp result.1.now }
-        ensures apart { Apart result.0.now result.1.now }
-    {
-        (self.parts.of(root_of(&self.roots, k)), self.parts.of(k))
-    }
-
-    /// How many pairs the list number `k` has.
-    pub fn size(&self, k: u32) -> usize
-        requires { k < length self.now }
-        ensures { result ≡ length (list_at self.now k) }
-    {
-        let (root, added) = self.cut(k);
-        root.len() + added.len()
-    }
-
-    /// The fingerprint of the list number `k`.
-    pub fn fingerprint(&self, k: u32) -> u64
-        requires { k < length self.now }
-        ensures { result ≡ fingerprint_of (list_at self.now k) }
-    {
-        let added = self.parts.fingerprint(k);
-        let root = root_of(&self.roots, k);
-        if root == EMPTY {
-            return added;
-        }
-        self.parts.fingerprint(root).wrapping_add(added)
-    }
-
-    /// Whether the lists number `j` and `k` are equal. They are read only if the numbers differ, and their roots
-    /// only if those differ too.
-    pub fn are_same(&self, j: u32, k: u32) -> bool
-        requires first { j < length self.now }
-        requires second { k < length self.now }
-        ensures { IsTrue result ↔ (list_at self.now j ≡ list_at self.now k) }
-    {
-        if j == k {
-            return true;
-        }
-        if root_of(&self.roots, j) == root_of(&self.roots, k) {
-            return are_same(self.parts.of(j), self.parts.of(k));
-        }
-        self.has_all_of(k, j) && self.has_all_of(j, k)
-    }
-
-    /// Whether the list number `k` has all pairs of the list number `j`.
-    fn has_all_of(&self, k: u32, j: u32) -> bool
-        requires list { k < length self.now }
-        requires pairs { j < length self.now }
-        ensures { IsTrue result ↔ ((z : ℕ × ℕ) → Contains (list_at self.now j) z → Contains (list_at self.now k) z) }
-    {
-        let (root, added) = self.cut(j);
-        self.has_all(k, root) && self.has_all(k, added)
-    }
-
-    /// Whether the list number `k` has all these pairs.
-    fn has_all(&self, k: u32, pairs: &[(u32, u32)]) -> bool
-        requires { k < length self.now }
-        ensures { IsTrue result ↔ ((z : ℕ × ℕ) → Contains pairs.now z → Contains (list_at self.now k) z) }
-    {
-        for pair in pairs {
-            if !self.has(k, *pair) {
-                return false;
-            }
-        }
-        true
-    }
-
-    /// Whether the list number `k` has the pair.
-    fn has(&self, k: u32, pair: (u32, u32)) -> bool
-        requires { k < length self.now }
-        ensures { IsTrue result ↔ Contains (list_at self.now k) pair }
-    {
-        let (root, added) = self.cut(k);
-        has_either(root, added, pair)
-    }
-
-    /// Appends those of the pairs that the list number `k` lacks to `out`.
-    ///
-    /// Fails if there is no memory for them.
-    pub fn append_new(
-        &self,
-        pairs: &[(u32, u32)],
-        k: u32,
-        out: &mut Vec<(u32, u32)>,
-    ) -> Result<(), Memory>
-        requires { k < length self.now }
-        ensures { OnOk result ((z : ℕ × ℕ) → Contains out.new.items z
-            ↔ (Contains out.old.items z ⊎ (Contains pairs.now z × ¬ Contains (list_at self.now k) z))) }
-    {
-        let (root, added) = self.cut(k);
-        append_missing(pairs, root, added, out)
-    }
-
-    /// Appends the pairs of the list number `j` that the list number `k` lacks to `pairs`.
-    ///
-    /// Fails if there is no memory for them.
-    pub fn append_missing(&self, j: u32, k: u32, pairs: &mut Vec<(u32, u32)>) -> Result<(), Memory>
-        requires first { j < length self.now }
-        requires second { k < length self.now }
-        ensures { OnOk result ((z : ℕ × ℕ) → Contains pairs.new.items z
-            ↔ (Contains pairs.old.items z ⊎ (Contains (list_at self.now j) z × ¬ Contains (list_at self.now k) z))) }
-    {
-        let root = root_of(&self.roots, k);
-        append_unshared(&self.parts, root_of(&self.roots, j), root, k, pairs)?;
-        append_unshared(&self.parts, j, root, k, pairs)?;
-        Ok(())
+        self.lists.len()
     }
 
     /// Appends the list number `k` to `pairs`.
@@ -199,150 +78,223 @@ impl Lists {
         requires { k < length self.now }
         ensures { OnOk result (pairs.new.items ≡ pairs.old.items ++ list_at self.now k) }
     {
-        let (root, added) = self.cut(k);
-        append_merged(root, added, pairs)
+        self.lists.append(k, pairs)
     }
 
-    /// Appends the list and returns its number.
+    /// The number of the list that is equal to this one: a new one if there was none.
     ///
     /// Fails if there is no memory for it.
-    #[inline(always)]
     pub fn push(&mut self, pairs: &[(u32, u32)]) -> Result<u32, Memory>
         requires few { length self.old < MOST_LISTS }
         requires rising { IsStrictlySortedBy pair_cmp pairs.now }
-        ensures pushed { OnOk result (self.new ≡ self.old ++ pairs.now ∷ []) }
-        ensures number { IfOk result (λ k. k ≡ length self.old) }
-        ensures err { OnErr result (self.new ≡ self.old) }
+        ensures within { IfOk result (λ k. k < length self.new) }
+        ensures list { IfOk result (λ k. list_at self.new k ≡ pairs.now) }
+        ensures grow { Grow self.old self.new }
+        ensures few { length self.new ≤ length self.old + 1 }
     {
-        put(&mut self.parts, &mut self.roots, EMPTY, pairs)
+        self.lists.push(pairs)
     }
 
-    /// Appends a list that has the pairs of the list number `k` and these, which it lacks, and returns its number.
+    /// The number of the list that has the pairs of these lists and these pairs, and no other one.
     ///
     /// Fails if there is no memory for it.
-    pub fn extend(&mut self, k: u32, pairs: &[(u32, u32)]) -> Result<u32, Memory>
-        requires list { k < length self.old }
-        requires few { length self.old < MOST_LISTS }
+    pub fn join(&mut self, lists: &[u32], pairs: &[(u32, u32)]) -> Result<u32, Memory>
+        requires few { length self.old + length lists.now + 2 ≤ MOST_LISTS }
+        requires lists { AreNumbers self.old lists.now }
         requires rising { IsStrictlySortedBy pair_cmp pairs.now }
-        requires apart { Apart (list_at self.old k) pairs.now }
-        ensures extended { OnOk result (self.new ≡ self.old ++ merged (list_at self.old k) pairs.now ∷ []) }
-        ensures number { IfOk result (λ j. j ≡ length self.old) }
-        ensures err { OnErr result (self.new ≡ self.old) }
+        ensures within { IfOk result (λ k. k < length self.new) }
+        ensures exactly { IfOk result (λ k. (z : ℕ × ℕ) → Contains (list_at self.new k) z ↔ (Contains pairs.now z ⊎ HasOne self.old lists.now z)) }
+        ensures grow { Grow self.old self.new }
+        ensures few { length self.new ≤ length self.old + length lists.now + 2 }
     {
-        let (base, known) = base_of(&self.parts, &self.roots, k);
-        self.added.clear();
-        append_merged(self.parts.of(known), pairs, &mut self.added)?;
-        if self.added.len() < self.parts.of(base).len() / PART {
-            return put(&mut self.parts, &mut self.roots, base, &self.added);
+        let union = self.union(lists)?;
+        self.with(union, pairs)
+    }
+
+    /// The number of the list that has the pairs of the list number `k` and these. If it is dear to make, those that the list
+    /// lacks are a list too, and the union of both is noted.
+    ///
+    /// Fails if there is no memory for it.
+    fn with(&mut self, k: u32, pairs: &[(u32, u32)]) -> Result<u32, Memory>
+        requires few { length self.old + 2 ≤ MOST_LISTS }
+        requires list { k < length self.old }
+        requires rising { IsStrictlySortedBy pair_cmp pairs.now }
+        ensures within { IfOk result (λ i. i < length self.new) }
+        ensures exactly { IfOk result (λ i. (z : ℕ × ℕ) → Contains (list_at self.new i) z
+            ↔ (Contains pairs.now z ⊎ Contains (list_at self.old k) z)) }
+        ensures grow { Grow self.old self.new }
+        ensures few { length self.new ≤ length self.old + 2 }
+    {
+        self.known();
+        if k == EMPTY {
+            return self.push(pairs);
         }
-        self.whole.clear();
-        append_merged(self.parts.of(base), &self.added, &mut self.whole)?;
-        put(&mut self.parts, &mut self.roots, EMPTY, &self.whole)
+        lack(&self.lists, k, pairs, &mut self.missing)?;
+        if self.lists.addition(k) / LONG <= self.missing.len() {
+            return self.lists.add(k, &self.missing);
+        }
+        let own = self.lists.push(&self.missing)?;
+        self.both(k, own)
+    }
+
+    /// The number of the list that has the pairs of these lists: of the longest and each other one in turn.
+    ///
+    /// Fails if there is no memory for it.
+    fn union(&mut self, numbers: &[u32]) -> Result<u32, Memory>
+        requires few { length self.old + length numbers.now ≤ MOST_LISTS }
+        requires numbers { AreNumbers self.old numbers.now }
+        ensures within { IfOk result (λ k. k < length self.new) }
+        ensures exactly { IfOk result (λ k. (z : ℕ × ℕ) → Contains (list_at self.new k) z ↔ HasOne self.old numbers.now z) }
+        ensures grow { Grow self.old self.new }
+        ensures few { length self.new ≤ length self.old + length numbers.now }
+    {
+        let mut union = self.longest(numbers);
+        for k in numbers {
+            union = self.both(union, *k)?;
+        }
+        Ok(union)
+    }
+
+    /// The number of a longest one of these lists.
+    fn longest(&self, numbers: &[u32]) -> u32
+        requires { AreNumbers self.now numbers.now }
+        ensures within { result < length self.now }
+        ensures one { (z : ℕ × ℕ) → Contains (list_at self.now result) z → HasOne self.now numbers.now z }
+    {
+        self.known();
+        let mut longest = EMPTY;
+        for k in numbers {
+            if self.lists.size(longest) < self.lists.size(*k) {
+                longest = *k;
+            }
+        }
+        longest
+    }
+
+    /// The number of the list that has the pairs of both lists.
+    ///
+    /// Fails if there is no memory for it.
+    fn both(&mut self, j: u32, k: u32) -> Result<u32, Memory>
+        requires few { length self.old < MOST_LISTS }
+        requires first { j < length self.old }
+        requires second { k < length self.old }
+        ensures within { IfOk result (λ i. i < length self.new) }
+        ensures exactly { IfOk result (λ i. (z : ℕ × ℕ) → Contains (list_at self.new i) z
+            ↔ (Contains (list_at self.old j) z ⊎ Contains (list_at self.old k) z)) }
+        ensures grow { Grow self.old self.new }
+        ensures few { length self.new ≤ length self.old + 1 }
+    {
+        self.known();
+        if j == k {
+            return Ok(k);
+        }
+        if j == EMPTY {
+            return Ok(k);
+        }
+        if k == EMPTY {
+            return Ok(j);
+        }
+        if k < j {
+            return self.known_or_made(k, j);
+        }
+        self.known_or_made(j, k)
+    }
+
+    /// The number of the list that has the pairs of both lists, as it was noted or else made now.
+    ///
+    /// Fails if there is no memory for it.
+    fn known_or_made(&mut self, j: u32, k: u32) -> Result<u32, Memory>
+        requires few { length self.old < MOST_LISTS }
+        requires first { j < length self.old }
+        requires second { k < length self.old }
+        ensures within { IfOk result (λ i. i < length self.new) }
+        ensures exactly { IfOk result (λ i. (z : ℕ × ℕ) → Contains (list_at self.new i) z
+            ↔ (Contains (list_at self.old j) z ⊎ Contains (list_at self.old k) z)) }
+        ensures grow { Grow self.old self.new }
+        ensures few { length self.new ≤ length self.old + 1 }
+    {
+        if let Some(i) = self.known.find(j, k) {
+            return Ok(i);
+        }
+        let i = unite(&mut self.lists, &mut self.missing, j, k)?;
+        self.known.note(j, k, i)?;
+        Ok(i)
     }
 
     /// Forgets all lists but the empty one, and keeps the memory.
     pub fn clear(&mut self)
         ensures { self.new ≡ [] ∷ [] }
     {
-        self.parts.clear();
-        self.roots.clear();
+        self.lists.clear();
+        self.known.clear();
     }
 }
 
-/// Appends the pairs of the part number `part` that a list lacks, that of the number `k` with this root. Its own parts are
-/// not read for that.
+/// Makes `missing` the list of those of the pairs that the list number `k` lacks, in rising order.
 ///
 /// Fails if there is no memory for them.
-fn append_unshared(
-    parts: &Parts,
-    part: u32,
-    root: u32,
+fn lack(
+    lists: &Distinct,
     k: u32,
-    pairs: &mut Vec<(u32, u32)>,
+    pairs: &[(u32, u32)],
+    missing: &mut Vec<(u32, u32)>,
 ) -> Result<(), Memory>
-    requires part { part < length parts.now }
-    requires root { root < length parts.now }
-    requires list { k < length parts.now }
-    ensures { let list = merged (list_at parts.now root) (list_at parts.now k) in
-        OnOk result ((z : ℕ × ℕ) → Contains pairs.new.items z
-        ↔ (Contains pairs.old.items z ⊎ (Contains (list_at parts.now part) z × ¬ Contains list z))) }
+    requires { k < length lists.now }
+    ensures rising { OnOk result (IsStrictlySortedBy pair_cmp missing.new.items) }
+    ensures exactly { OnOk result ((z : ℕ × ℕ) → Contains missing.new.items z
+        ↔ (Contains pairs.now z × ¬ Contains (list_at lists.now k) z)) }
 {
-    if part == root || part == k {
-        return Ok(());
-    }
-    append_missing(parts.of(part), parts.of(root), parts.of(k), pairs)
-}
-
-/// The number of the root of the list number `k`.
-fn root_of(roots: &[u32], k: u32) -> u32
-    ensures { result ≡ slice_index roots.now k }
-{
-    match roots.get(k as usize) {
-        Some(root) => *root,
-        None => EMPTY,
-    }
-}
-
-/// The numbers of two parts that the list number `k` is made of, the first of which can be a root.
-fn base_of(parts: &Parts, roots: &[u32], k: u32) -> (u32, u32)
-    requires rooted { AreRooted parts.now (padded roots.now (length parts.now)) }
-    requires list { k < length parts.now }
-    ensures base { result.0 < length parts.now }
-    ensures known { result.1 < length parts.now }
-    ensures whole { slice_index roots.now result.0 ≡ EMPTY }
-    ensures apart { Apart (list_at parts.now result.0) (list_at parts.now result.1) }
-    ensures list { merged (list_at parts.now result.0) (list_at parts.now result.1)
-        ≡ merged (list_at parts.now (slice_index roots.now k)) (list_at parts.now k) }
-{
-    let root = root_of(roots, k);
-    if root == EMPTY {
-        return (k, EMPTY);
-    }
-    (root, k)
-}
-
-/// Puts a list at the end: what it adds to its root, and the root's number. Returns its own number.
-///
-/// Fails if there is no memory for it. The lists are then as they were.
-#[inline(always)]
-fn put(
-    parts: &mut Parts,
-    roots: &mut Vec<u32>,
-    root: u32,
-    added: &[(u32, u32)],
-) -> Result<u32, Memory>
-    requires rooted { AreRooted parts.old (padded roots.old.items (length parts.old)) }
-    requires few { length parts.old < MOST_LISTS }
-    requires root { root < length parts.old }
-    requires whole { slice_index roots.old.items root ≡ EMPTY }
-    requires rising { IsStrictlySortedBy pair_cmp added.now }
-    requires apart { Apart (list_at parts.old root) added.now }
-    ensures rooted { AreRooted parts.new (padded roots.new.items (length parts.new)) }
-    ensures put { OnOk result (wholes parts.new (padded roots.new.items (length parts.new))
-        ≡ wholes parts.old (padded roots.old.items (length parts.old)) ++ merged (list_at parts.old root) added.now ∷ []) }
-    ensures number { IfOk result (λ k. k ≡ length parts.old) }
-    ensures err { OnErr result (wholes parts.new (padded roots.new.items (length parts.new))
-        ≡ wholes parts.old (padded roots.old.items (length parts.old))) }
-{
-    if root == EMPTY {
-        let number = parts.push(added)?;
-        return Ok(number);
-    }
-    pad(roots, parts.len())?;
-    roots.reserve(1)?;
-    let number = parts.push(added)?;
-    roots.push_reserved(root);
-    Ok(number)
-}
-
-/// Makes the roots those of so many lists: the new ones have the empty list as theirs.
-///
-/// Fails if there is no memory for them. The roots are then as they were.
-fn pad(roots: &mut Vec<u32>, lists: u32) -> Result<(), Memory>
-    requires { length (padded roots.old.items lists) ≡ lists }
-    ensures padded { OnOk result (roots.new.items ≡ padded roots.old.items lists) }
-    ensures err { OnErr result (roots.new.items ≡ roots.old.items) }
-{
-    roots.resize(lists as usize, EMPTY)?;
+    missing.clear();
+    lists.append_new(pairs, k, missing)?;
+    order(missing);
     Ok(())
+}
+
+/// The number of the list that has the pairs of both lists: the longer one with what it lacks.
+///
+/// Fails if there is no memory for it.
+fn unite(
+    lists: &mut Distinct,
+    missing: &mut Vec<(u32, u32)>,
+    j: u32,
+    k: u32,
+) -> Result<u32, Memory>
+    requires few { length lists.old < MOST_LISTS }
+    requires first { j < length lists.old }
+    requires second { k < length lists.old }
+    ensures within { IfOk result (λ i. i < length lists.new) }
+    ensures exactly { IfOk result (λ i. (z : ℕ × ℕ) → Contains (list_at lists.new i) z
+        ↔ (Contains (list_at lists.old j) z ⊎ Contains (list_at lists.old k) z)) }
+    ensures grow { Grow lists.old lists.new }
+    ensures few { length lists.new ≤ length lists.old + 1 }
+{
+    if lists.size(j) < lists.size(k) {
+        return extended(lists, missing, k, j);
+    }
+    extended(lists, missing, j, k)
+}
+
+/// The number of the list that has the pairs of the list number `base`, and those that it lacks of the list number `other`,
+/// which are put together in `missing`.
+///
+/// Fails if there is no memory for it.
+fn extended(
+    lists: &mut Distinct,
+    missing: &mut Vec<(u32, u32)>,
+    base: u32,
+    other: u32,
+) -> Result<u32, Memory>
+    requires few { length lists.old < MOST_LISTS }
+    requires first { base < length lists.old }
+    requires second { other < length lists.old }
+    ensures within { IfOk result (λ i. i < length lists.new) }
+    ensures exactly { IfOk result (λ i. (z : ℕ × ℕ) → Contains (list_at lists.new i) z
+        ↔ (Contains (list_at lists.old base) z ⊎ Contains (list_at lists.old other) z)) }
+    ensures grow { Grow lists.old lists.new }
+    ensures few { length lists.new ≤ length lists.old + 1 }
+{
+    missing.clear();
+    lists.append_missing(other, base, missing)?;
+    order(missing);
+    lists.add(base, missing)
 }

@@ -1,11 +1,12 @@
 -- The lists of the states by their numbers: one list more, for one state.
-use Rattle.std.proofs.Common.{◌≡◌, ◌≢◌, ◌∙◌, ℕ, zero, suc, ◌+◌, ◌<◌, List, [], ◌∷◌, ◌++◌, length, get_or, set, ap, sym, subst, refl, inl, inr, arith}
+use Rattle.std.proofs.Common.{◌≡◌, ◌∙◌, ℕ, zero, suc, ◌+◌, ◌<◌, List, [], ◌∷◌, length, get_or, slice_index, set, ap, sym, subst, refl, inl, inr, arith}
 use Rattle.std.proofs.lemmas.Bool.{cases_eq}
-use Rattle.std.proofs.lemmas.List.{length_push, get_or-map, get_or_append_left, get_or_push, get_or-set_same, get_or-set_other}
+use Rattle.std.proofs.lemmas.List.{get_or-map, get_or-set_same, get_or-set_other}
 use Rattle.std.proofs.lemmas.List.Elements.{All-set, All-weaker}
-use Rattle.lists.specs.Lists.{list_at, AreNumbers}
+use Rattle.lists.specs.Lists.{list_at, AreLists, AreNumbers, Grow}
 use Rattle.refine.specs.EachList.{list_of, each_list}
 use Rattle.refine.specs.Signed.{signature_at}
+use Rattle.refine.specs.Splitting.{Splits}
 
 -- the list of a state is the one that its number gives
 pub signature_at-list : (lists : List (List (ℕ × ℕ))) (numbers : List ℕ) (s : ℕ) → s < length numbers →
@@ -22,28 +23,37 @@ signature_at-none lists numbers s only h =
     at zero = refl
     at (suc k) = refl
 
--- the list that goes last becomes that of the state s
-module _ (lists : List (List (ℕ × ℕ))) (numbers : List ℕ) (s : ℕ) (list : List (ℕ × ℕ)) (are : AreNumbers lists numbers) where
-  pub AreNumbers-push : AreNumbers (lists ++ list ∷ []) (set numbers s (length lists))
-  AreNumbers-push =
-      let size = length_push lists list in
-      All-set (λ k. k < length (lists ++ list ∷ [])) numbers s (length lists) (omega arith)
-      (All-weaker (λ k. k < length lists) (λ k. k < length (lists ++ list ∷ [])) (λ k h. omega arith) numbers are)
+-- lists that grow, with a number for one state more
+module _ (lists lists' : List (List (ℕ × ℕ))) (numbers : List ℕ) (s k : ℕ) (grow : Grow lists lists') (are : AreNumbers lists numbers) where
+  pub AreNumbers-put : k < length lists' → AreNumbers lists' (set numbers s k)
+  AreNumbers-put h =
+      let longer = grow.longer in
+      All-set (λ j. j < length lists') numbers s k h (All-weaker (λ j. j < length lists) (λ j. j < length lists') (λ j h. omega arith) numbers are)
 
-  pub list_of-new : s < length numbers → list_of (lists ++ list ∷ []) (set numbers s (length lists)) s ≡ list
-  list_of-new h =
-      ap (list_at (lists ++ list ∷ [])) (get_or-set_same numbers s (length lists) 0 h) ∙ get_or_push lists list [] (length lists) refl
-
-  pub list_of-others : (t : ℕ) → t ≢ s → t < length numbers →
-      list_of (lists ++ list ∷ []) (set numbers s (length lists)) t ≡ list_of lists numbers t
-  list_of-others t other h =
-      ap (list_at (lists ++ list ∷ [])) (get_or-set_other numbers s t (length lists) 0 other)
-      ∙ get_or_append_left lists (list ∷ []) [] (get_or numbers t 0) (are t 0 h)
-
-  -- and what holds of the lists of the states before s holds of one more
-  pub each_push : (P : ℕ → List (ℕ × ℕ) → Type 0) → s < length numbers → ((t : ℕ) → t < s → P t (list_of lists numbers t)) → P s list
-      → (t : ℕ) → t < s + 1 → P t (list_of (lists ++ list ∷ []) (set numbers s (length lists)) t)
-  each_push P inside before this t low = elim (cases_eq t s) [
-    | inl e ↦ subst (λ x. P x (list_of (lists ++ list ∷ []) (set numbers s (length lists)) x)) (sym e) (subst (P s) (sym (list_of-new inside)) this)
-    | inr d ↦ subst (P t) (sym (list_of-others t d (omega arith))) (before t (omega (arith, low, d)))
+  pub each_put : (P : ℕ → List (ℕ × ℕ) → Type 0) → s < length numbers → ((t : ℕ) → t < s → P t (list_of lists numbers t)) → P s (list_at lists' k)
+      → (t : ℕ) → t < s + 1 → P t (list_of lists' (set numbers s k) t)
+  each_put P inside before this t low = elim (cases_eq t s) [
+    | inl e ↦
+        subst (λ x. P x (list_of lists' (set numbers s k) x)) (sym e)
+        (subst (P s) (sym (ap (list_at lists') (get_or-set_same numbers s k 0 inside))) this)
+    | inr d ↦
+        let same =
+        ap (list_at lists') (get_or-set_other numbers s t k 0 d) ∙ grow.same (get_or numbers t 0) (are t 0 (omega (arith, low, d, inside))) in
+        subst (P t) (sym same) (before t (omega (arith, low, d)))
   ]
+
+-- blocks that are split by the numbers of lists are split by the lists, which are all different
+pub Splits-lists : (lists : List (List (ℕ × ℕ))) (numbers old : List ℕ) (count : ℕ) (new : List ℕ) (more : ℕ) → AreLists lists → AreNumbers lists numbers
+    → length old ≡ length numbers → Splits old count (slice_index numbers) new more → Splits old count (list_of lists numbers) new more
+Splits-lists lists numbers old count new more are each size splits = record {
+  states = splits.states;
+  blocks = splits.blocks;
+  grows = splits.grows;
+  alike = λ s t hs ht.
+      let h = splits.alike s t hs ht in (
+        λ e. let a = h.0 e in (a.0, ap (list_at lists) a.1),
+        λ a. h.1 (a.0, are.different _ _ (each s 0 (omega (arith, hs, size))) (each t 0 (omega (arith, ht, size))) a.1),
+      );
+  stays = splits.stays;
+  parts = splits.parts;
+}

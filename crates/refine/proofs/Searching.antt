@@ -2,33 +2,32 @@
 use Rattle.std.proofs.Common.{◌≡◌, ◌∙◌, ℕ, ◌<◌, List, length, get_or, ap, sym, subst, inl, inr, arith}
 use Rattle.std.proofs.lemmas.Bool.{cases_order}
 use Rattle.refine.specs.declared.splitter.Elder.{Elder}
-use Rattle.refine.specs.Splitting.{Key, print_of, bucket_of, bucket_at, before_at, key_at, IsElder, IsChain, IsNew}
+use Rattle.refine.specs.Splitting.{Key, bucket_of, bucket_at, before_at, key_at, IsElder, IsChain, IsNew}
 
 -- no elder with a number above r has the key
-abbrev pub NoneAbove : List (List (ℕ × ℕ)) → List Elder → Key → ℕ → Type 0
-NoneAbove lists chain key r = (q : ℕ) → r < q → q < length chain → key_at lists chain q ≡ key → ⊥
+abbrev pub NoneAbove : List Elder → Key → ℕ → Type 0
+NoneAbove chain key r = (q : ℕ) → r < q → q < length chain → key_at chain q ≡ key → ⊥
 
-pub none-at-all : (lists : List (List (ℕ × ℕ))) (chain : List Elder) (key : Key) → NoneAbove lists chain key 0 → IsNew lists chain key
-none-at-all lists chain key none r e = none r e.0 e.1
+pub none-at-all : (chain : List Elder) (key : Key) → NoneAbove chain key 0 → IsNew chain key
+none-at-all chain key none r e = none r e.0 e.1
 
-module _ (lists : List (List (ℕ × ℕ))) (heads : List ℕ) (chain : List Elder) (key : Key) (print : ℕ)
-    (is : IsChain lists heads chain) (same : print ≡ print_of key) where
-  -- an elder that has the key is in the bucket of the print
-  fits : (q : ℕ) → IsElder chain q → key_at lists chain q ≡ key → bucket_at chain heads q ≡ bucket_of (length heads) print
-  fits q e a = ap (bucket_of (length heads)) (is.prints q e ∙ ap print_of a ∙ sym same)
+module _ (heads : List ℕ) (chain : List Elder) (key : Key) (is : IsChain heads chain) where
+  -- an elder that has the key is in its bucket
+  fits : (q : ℕ) → key_at chain q ≡ key → bucket_at chain heads q ≡ bucket_of (length heads) key
+  fits q a = ap (bucket_of (length heads)) a
 
-  pub none-above-head : NoneAbove lists chain key (get_or heads (bucket_of (length heads) print) 0)
-  none-above-head q h l a =
+  pub none-above-head : (b : ℕ) → b ≡ bucket_of (length heads) key → NoneAbove chain key (get_or heads b 0)
+  none-above-head b in' q h l a =
       let last = is.chained.heads_last q (omega arith) l in
-      let at = ap (λ b. get_or heads b 0) (fits q (omega arith, l) a) in
+      let at = ap (λ x. get_or heads x 0) (fits q a ∙ sym in') in
       omega arith
 
-  pub none-above-before : (r : ℕ) → IsElder chain r → bucket_at chain heads r ≡ bucket_of (length heads) print →
-      (key_at lists chain r ≡ key → ⊥) → NoneAbove lists chain key r → NoneAbove lists chain key (before_at chain r)
+  pub none-above-before : (r : ℕ) → IsElder chain r → bucket_at chain heads r ≡ bucket_of (length heads) key →
+      (key_at chain r ≡ key → ⊥) → NoneAbove chain key r → NoneAbove chain key (before_at chain r)
   none-above-before r e b other none q h k a = elim (cases_order q r) [
-    | inl at ↦ other (subst (λ x. key_at lists chain x ≡ key) at a)
+    | inl at ↦ other (subst (λ x. key_at chain x ≡ key) at a)
     | inr order ↦ elim order [
-      | inl low ↦ let last = is.chained.before_last q r (omega arith) low e.1 (fits q (omega arith, k) a ∙ sym b) in omega arith
+      | inl low ↦ let last = is.chained.before_last q r (omega arith) low e.1 (fits q a ∙ sym b) in omega arith
       | inr high ↦ none q high k a
     ]
   ]

@@ -1,5 +1,5 @@
 -- What rounds cost, of which each makes n visits.
-use Rattle.std.proofs.Common.{◌≡◌, ℕ, suc, ◌+◌, ◌*◌, ◌<◌, ◌≤◌, arith}
+use Rattle.std.proofs.Common.{◌≡◌, ℕ, suc, ◌+◌, ◌*◌, ◌<◌, ◌≤◌, Result, Ok, Err, OnOk, OnErr, arith}
 use Rattle.std.proofs.lemmas.Nat.{mul-le}
 use Rattle.std.proofs.Math.Nat.{suc-mul, add-mul}
 use Rattle.lts.specs.Meter.{Counts, HasRoomFor, Costs, CostsUpTo}
@@ -49,3 +49,12 @@ module _ (n states k : ℕ) (old at : Counts) (made : Costs old at k (k * n) (k 
           at_most = omega (arith, sum, made.at_most, one.at_most);
         },
       )
+
+-- what holds in either case
+pub on_ok_from : {T E P : Type 0} (r : Result T E) → P → OnOk r P
+on_ok_from (Ok x) p = p
+on_ok_from (Err e) p = tt
+
+pub on_err_from : {T E P : Type 0} (r : Result T E) → P → OnErr r P
+on_err_from (Ok x) p = tt
+on_err_from (Err e) p = p

@@ -1,5 +1,6 @@
 -- The pairs of a state's row, in rising order and each once, are its strong signature.
-use Rattle.std.proofs.Common.{◌≡◌, ◌↔◌, ℕ, List, length, map, slice_index, All, Contains, refl, ◌∙◌, ap, subst, arith}
+use Rattle.std.proofs.Common.{◌≡◌, ◌↔◌, ℕ, List, length, map, slice_index, All, Contains, refl, ◌∙◌, ap, subst, inl, inr, arith}
+use Rattle.std.proofs.lemmas.Bool.{cases_lt}
 use Rattle.std.proofs.lemmas.List.{length-map, get_or-map}
 use Rattle.std.proofs.lemmas.List.Elements.{All-contains, All-contains_itself, All-map, All-weaker}
 use Rattle.std.specs.List.Sorted.{IsStrictlySortedBy}
@@ -8,8 +9,8 @@ use Rattle.theory.specs.Bisimulation.Relation.{strong}
 use Rattle.lts.specs.Labels.{text_of}
 use Rattle.lts.specs.Lts.{Grouped, Triple, source_of, label_of, target_of, row_of, system_of, IsTriple, IsLts}
 use Rattle.lists.specs.Lists.{pair_cmp}
-use Rattle.refine.specs.Signed.{HasPair, IsSignature}
-use Rattle.refine.specs.StrongPairs.{pair_under}
+use Rattle.inert.specs.Signed.{HasPair, IsSignature, pair_under}
+use Rattle.refine.specs.Settled.{HasFrom, IsTouched, IsStill}
 
 module _ (l : Grouped) (blocks : List ℕ) (s : ℕ) (h : IsLts l)
     (sources : (e : Triple) → Contains (row_of s l.places) e ↔ (Contains l.places e × (source_of e ≡ s)))
@@ -46,3 +47,32 @@ module _ (l : Grouped) (blocks : List ℕ) (s : ℕ) (h : IsLts l)
         exactly = λ k b. (λ c. All-contains Has xs (k, b) all ((same (k, b)).0 c), λ p. (same (k, b)).1 (pair_has k b p));
         rising = rising;
       }
+
+  -- a transition's pair is one of the row's pairs
+  shows : (e : Triple) → Contains (row_of s l.places) e → Contains (map (pair_under blocks) (row_of s l.places)) (pair_under blocks e)
+  shows e c =
+      let row = row_of s l.places in (
+        c.0,
+        omega (arith, c.1, length-map row (pair_under blocks)),
+        get_or-map (pair_under blocks) row c.0 e (pair_under blocks e) c.1 ∙ ap (pair_under blocks) c.2,
+      )
+
+  -- a state whose row has a new number is touched
+  pub row_touched : (low : ℕ) → HasFrom low (map (pair_under blocks) (row_of s l.places)) → IsTouched strong (system_of l) (slice_index blocks) low s
+  row_touched low h =
+      let row = row_of s l.places in
+      let Has : ℕ × ℕ → Type 0 = λ p. HasPair strong l blocks s p.0 p.1 in
+      let all : All Has (map (pair_under blocks) row) =
+      All-map Has (pair_under blocks) row (All-weaker (Contains row) (λ e. Has (pair_under blocks e)) has_pair row (All-contains_itself row)) in
+      let has = All-contains Has (map (pair_under blocks) row) h.0 all h.1 in
+      (text_of l.labels h.0.0, has.1.0, has.1.1, omega (arith, h.2, has.1.2))
+
+  -- and one whose row has none is still
+  pub row_still : (low : ℕ) → (HasFrom low (map (pair_under blocks) (row_of s l.places)) → ⊥) → IsStill strong (system_of l) (slice_index blocks) low s
+  row_still low none a t step =
+      let found = (steps a t).0 step in
+      let at : slice_index blocks (target_of found.0) ≡ slice_index blocks t = ap (slice_index blocks) found.3 in
+      elim (cases_lt (slice_index blocks t) low) [
+        | inl l ↦ l
+        | inr g ↦ absurd (none (pair_under blocks found.0, shows found.0 found.1, omega (arith, g, at)))
+      ]

@@ -1,11 +1,6 @@
--- The list of each state, by its number, and how lists grow.
-use Rattle.std.specs.Prelude.{◌≡◌, ℕ, ◌<◌, ◌≤◌, List, length, map, slice_index}
+-- The list of each state, by its number.
+use Rattle.std.specs.Prelude.{◌≡◌, ℕ, ◌≤◌, List, length, map, slice_index}
 use Rattle.lists.specs.Lists.{list_at, AreNumbers}
-
--- each list stays as it is, and there may be more
-pub record Grow (old new : List (List (ℕ × ℕ))) : Type 0 where
-  pub longer : length old ≤ length new
-  pub same : (k : ℕ) → k < length old → list_at new k ≡ list_at old k
 
 -- the list of the state s, if the states have these numbers
 abbrev pub list_of : List (List (ℕ × ℕ)) → List ℕ → ℕ → List (ℕ × ℕ)

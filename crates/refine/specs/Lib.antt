@@ -1,9 +1,6 @@
 pub mod Partition
 pub mod Signed
 pub mod EachList
-pub mod StrongPairs
 pub mod Splitting
+pub mod Settled
 pub mod Rounds
-pub mod Walks
-pub mod Ahead
-pub mod Steps

@@ -13,3 +13,11 @@ pub record IsPartition (blocks : List ℕ) (count : ℕ) : Type 0 where
 -- blocks that are numbered so, however many
 abbrev pub IsNumbered : List ℕ → Type 0
 IsNumbered blocks = (count : ℕ) × IsPartition blocks count
+
+-- blocks that are numbered from 0, however: each state's block is below the count, and each number below it is used
+pub record AreBlocks (blocks : List ℕ) (count : ℕ) : Type 0 where
+  pub some : 1 ≤ length blocks
+  pub few : length blocks ≤ 2000000
+  pub fewer : count ≤ length blocks
+  pub below : (s : ℕ) → s < length blocks → slice_index blocks s < count
+  pub used : (b : ℕ) → b < count → (s : ℕ) × (s < length blocks) × (slice_index blocks s ≡ b)

@@ -1,22 +1,10 @@
 -- Signatures in memory: each state's pairs of a label number and a block, in rising order.
-use Rattle.std.specs.Prelude.{◌≡◌, ◌↔◌, ℕ, ◌<◌, List, [], ◌++◌, length, slice_index}
-use Rattle.std.specs.List.{Contains, slice_index_or}
-use Rattle.std.specs.List.Sorted.{IsStrictlySortedBy}
+use Rattle.std.specs.Prelude.{◌≡◌, ℕ, List, [], ◌++◌, length}
+use Rattle.std.specs.List.{slice_index_or}
 use Rattle.theory.specs.Bisimulation.{Relation}
 use Rattle.theory.specs.Bisimulation.Relation.{strong, branching}
-use Rattle.theory.specs.Blocks.{Signature}
-use Rattle.lts.specs.Labels.{text_of}
-use Rattle.lts.specs.Lts.{Grouped, system_of, row_of}
-use Rattle.lists.specs.Lists.{pair_cmp}
-
--- the pair of the label number k and the block b is in the signature of s
-abbrev pub HasPair : Relation → Grouped → List ℕ → ℕ → ℕ → ℕ → Type 0
-HasPair rel l blocks s k b = (k < length l.labels) × Signature rel (system_of l) (slice_index blocks) s (text_of l.labels k) b
-
--- the list is the signature of s: each of its pairs once, in rising order
-pub record IsSignature (rel : Relation) (l : Grouped) (blocks : List ℕ) (s : ℕ) (pairs : List (ℕ × ℕ)) : Type 0 where
-  pub exactly : (k b : ℕ) → Contains pairs (k, b) ↔ HasPair rel l blocks s k b
-  pub rising : IsStrictlySortedBy pair_cmp pairs
+use Rattle.lts.specs.Lts.{Grouped, row_of}
+use Rattle.inert.specs.Signed.{IsSignature}
 
 -- what was in the list before is still there, with more behind it
 abbrev pub Extends : List (ℕ × ℕ) → List (ℕ × ℕ) → Type 0

@@ -3,7 +3,6 @@
 #![tactic(auto)]
 
 mod branching;
-mod component;
 mod marks;
 mod partition;
 mod refinement;
@@ -12,8 +11,6 @@ mod sense;
 mod signatures;
 mod splitter;
 mod strong;
-mod walk;
-mod walking;
 
 pub use branching::Branching;
 pub use marks::Marks;

@@ -1,32 +1,31 @@
 //! What signatures are put together in, used again from state to state and from round to round.
 ghost use Rattle.std.specs.Prelude.{◌≡◌, ℕ, ◌≤◌, IfOk};
 
-use crate::walk::Walk;
+use inert::Signer;
 use lists::Lists;
 use lts::Memory;
 use std::alloc::Global;
 use std::marker::Model;
 
-/// The pairs that a state collects, and the walk over inert steps with its lists. Signatures do not depend on what earlier
-/// ones left here.
+/// The pairs that a state collects, and what signs states by inert steps, with its lists. Signatures do not depend on what
+/// earlier ones left here.
 #[derive(Drop)]
 pub struct Marks {
     states: u32,
     pub(crate) pairs: Vec<(u32, u32)>,
-    pub(crate) walk: Walk,
+    pub(crate) signer: Signer,
     pub(crate) lists: Lists,
 }
 
 impl Model for Marks {
     ghost use Rattle.std.specs.Prelude.{ℕ, ◌≤◌};
+    ghost use Rattle.lts.specs.declared.limits.TheConstants.{MOST_STATES};
 
     ghost Value = { ℕ };
 
     ghost view = { λ k. k.states };
 
-    ghost use Rattle.refine.specs.Ahead.{AreMarks};
-
-    ghost invariant = { λ k. AreMarks k.states k.walk.marks.items k.walk.trail.items };
+    ghost invariant = { λ k. k.states ≤ MOST_STATES };
 }
 
 impl Marks {
@@ -42,7 +41,7 @@ impl Marks {
         Ok(Marks {
             states,
             pairs: Vec::new(alloc),
-            walk: Walk::new(alloc),
+            signer: Signer::new(alloc),
             lists,
         })
     }

@@ -1,5 +1,5 @@
 //! A partition of the states of a system into blocks, which are numbered in the order of their least members.
-ghost use Rattle.std.specs.Prelude.{◌≡◌, ◌↔◌, ℕ, ◌<◌, ◌≤◌, length, slice_index, IfOk, IsTrue};
+ghost use Rattle.std.specs.Prelude.{◌≡◌, ℕ, ◌<◌, ◌≤◌, length, slice_index, IfOk};
 ghost use Rattle.refine.specs.Partition.{IsPartition, IsNumbered};
 
 use lts::Memory;
@@ -75,12 +75,5 @@ impl Partition {
         ensures blocks { result.now ≡ self.now }
     {
         &self.blocks
-    }
-
-    /// Whether the other one has the same blocks.
-    pub(crate) fn is_same(&self, other: &Partition) -> bool
-        ensures { IsTrue result ↔ (self.now ≡ other.now) }
-    {
-        self.blocks == other.blocks
     }
 }

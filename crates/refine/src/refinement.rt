@@ -4,14 +4,16 @@ ghost use Rattle.theory.specs.Bisimulation.{Bisimilar};
 ghost use Rattle.theory.specs.Blocks.{Split, Turns, EachTwo};
 ghost use Rattle.lts.specs.Meter.{HasRoomFor, Costs, CostsUpTo};
 ghost use Rattle.lts.specs.Lts.{system_of};
-ghost use Rattle.refine.specs.Partition.{IsNumbered};
+ghost use Rattle.refine.specs.Partition.{AreBlocks, IsNumbered};
 ghost use Rattle.refine.specs.EachList.{AreNumbered};
+ghost use Rattle.refine.specs.Settled.{Settled};
 ghost use Rattle.refine.specs.Rounds.{IsNext};
 
 use crate::marks::Marks;
 use crate::partition::Partition;
 use crate::round_signatures::RoundSignatures;
 use crate::sense::Sense;
+use crate::splitter::{Blocks, alone, one_block, renumber};
 use lts::{Lts, Memory, Meter};
 use std::alloc::Global;
 
@@ -39,7 +41,17 @@ pub fn round<S: Sense, M: Meter>(
 {
     let mut marks = Marks::new(alloc, l.states())?;
     let mut signatures = RoundSignatures::new(alloc, l.states())?;
-    next_round::<S, M>(l, p, &mut marks, &mut signatures, m)
+    let next = next_round::<S, M>(
+        alloc,
+        l,
+        p.blocks(),
+        p.count(),
+        0,
+        &mut marks,
+        &mut signatures,
+        m,
+    )?;
+    renumber(alloc, &next.of, next.count)
 }
 
 /// Blocks that two states share exactly if they are bisimilar, made from one block by round after round. The last
@@ -63,34 +75,53 @@ pub fn refine<S: Sense, M: Meter>(alloc: Global, l: &Lts<M>, m: &mut M) -> Resul
 {
     let mut marks = Marks::new(alloc, l.states())?;
     let mut signatures = RoundSignatures::new(alloc, l.states())?;
-    let mut blocks = Partition::one(alloc, l.states())?;
+    let mut blocks = one_block(alloc, l.states())?;
+    let mut count = 1;
+    let mut low = 0;
     theory::refinement_goes_on();
     theory::final_blocks_are_bisimilarity();
     loop {
-        let next = next_round::<S, M>(l, &blocks, &mut marks, &mut signatures, m)?;
-        if next.is_same(&blocks) {
-            return Ok(next);
+        let next = next_round::<S, M>(
+            alloc,
+            l,
+            &blocks,
+            count,
+            low,
+            &mut marks,
+            &mut signatures,
+            m,
+        )?;
+        if next.count == count {
+            return renumber(alloc, &next.of, next.count);
         }
-        blocks = next;
+        low = count;
+        count = next.count;
+        blocks = next.of;
     }
 }
 
-/// One round, in marks and lists that are used again.
+/// One round, in marks and lists that are used again: the Split of `count` blocks, those that are numbered from `low` on
+/// being new.
 fn next_round<S: Sense, M: Meter>(
+    alloc: Global,
     l: &Lts<M>,
-    p: &Partition,
+    p: &[u32],
+    count: u32,
+    low: u32,
     marks: &mut Marks,
     signatures: &mut RoundSignatures,
     m: &mut M,
-) -> Result<Partition, Memory>
+) -> Result<Blocks, Memory>
     requires states { length p.now ≡ l.now.states }
+    requires blocks { AreBlocks p.now count }
+    requires settled { Settled S.relation (system_of l.now) (slice_index p.now) low }
     requires marks { marks.old ≡ l.now.states }
     requires lists { AreNumbered signatures.old.lists signatures.old.numbers.items }
     requires signatures { length signatures.old.numbers.items ≡ l.now.states }
     requires room { HasRoomFor (M.counted m.old) 1 (length l.now.places) }
 
     // Once it is done
-    ensures next { IfOk result (IsNext S.relation l.now p.now) }
+    ensures next { IfOk result (λ q. IsNext S.relation l.now p.now count q.of.items q.count) }
     ensures costs { let n = length l.now.places in OnOk result (Costs (M.counted m.old) (M.counted m.new) 1 n n) }
 
     // After a refusal
@@ -104,6 +135,7 @@ fn next_round<S: Sense, M: Meter>(
     lts::rows_are_steps();
     l.known();
     m.start_round();
-    signatures.sign::<S, M>(l, p, marks, m)?;
-    signatures.split(p)
+    let alone = alone(alloc, p, count)?;
+    signatures.sign::<S, M>(l, p, low, &alone, marks, m)?;
+    signatures.split(p, count)
 }

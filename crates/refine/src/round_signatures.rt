@@ -1,15 +1,14 @@
 //! What a round keeps of the signatures of the states.
-ghost use Rattle.std.specs.Prelude.{◌≡◌, ◌↔◌, ℕ, ◌<◌, ◌≤◌, [], ◌∷◌, length, slice_index, IfOk, OnOk};
+ghost use Rattle.std.specs.Prelude.{◌≡◌, ◌≤◌, [], ◌∷◌, length, IfOk, OnOk};
 ghost use Rattle.lts.specs.Meter.{HasRoomFor, Visits};
-ghost use Rattle.refine.specs.Partition.{IsNumbered};
+ghost use Rattle.refine.specs.Partition.{AreBlocks};
 ghost use Rattle.refine.specs.EachList.{list_of, AreNumbered};
-ghost use Rattle.refine.specs.Signed.{IsSignature};
-ghost use Rattle.refine.specs.Splitting.{Alike};
+ghost use Rattle.refine.specs.Settled.{ArePut};
+ghost use Rattle.refine.specs.Splitting.{Splits};
 
 use crate::marks::Marks;
-use crate::partition::Partition;
 use crate::sense::Sense;
-use crate::splitter::split;
+use crate::splitter::{Blocks, split};
 use lists::Lists;
 use lts::{Lts, Memory, Meter};
 use std::alloc::Global;
@@ -51,13 +50,16 @@ impl RoundSignatures {
         self.numbers.fill(0);
     }
 
-    /// Takes the signature of each state under the blocks of `p`. Each transition is visited once.
+    /// Takes the signature of each state under the blocks `p`: no pairs for a state of a block that is known to be of one
+    /// state alone, and for one that no number from `low` on can be seen from. Each transition is visited once.
     ///
     /// Fails if there is no memory for it. It is open then which the signatures are.
     pub fn sign<S: Sense, M: Meter>(
         &mut self,
         l: &Lts<M>,
-        p: &Partition,
+        p: &[u32],
+        low: u32,
+        alone: &[bool],
         marks: &mut Marks,
         m: &mut M,
     ) -> Result<(), Memory>
@@ -68,8 +70,7 @@ impl RoundSignatures {
         requires room { HasRoomFor (M.counted m.old) 0 (length l.now.places) }
 
         // Once it is done
-        ensures signed { OnOk result ((s : ℕ) → s < l.now.states →
-            IsSignature S.relation l.now p.now s (list_of self.new.lists self.new.numbers.items s)) }
+        ensures signed { OnOk result (ArePut S.relation l.now p.now low alone.now (list_of self.new.lists self.new.numbers.items)) }
 
         // In either case
         ensures visits { let n = length l.now.places in Visits M.counted m.old m.new result n n }
@@ -82,6 +83,8 @@ impl RoundSignatures {
             self.alloc,
             l,
             p,
+            low,
+            alone,
             marks,
             &mut self.lists,
             &mut self.numbers,
@@ -89,17 +92,16 @@ impl RoundSignatures {
         )
     }
 
-    /// Splits the blocks of `p`: two states stay together if their signatures are equal.
+    /// Splits these blocks: two states stay together if their signatures are equal.
     ///
     /// Fails if there is no memory for it.
-    pub fn split(&self, p: &Partition) -> Result<Partition, Memory>
+    pub fn split(&self, p: &[u32], count: u32) -> Result<Blocks, Memory>
+        requires blocks { AreBlocks p.now count }
         requires numbered { AreNumbered self.now.lists self.now.numbers.items }
         requires states { length p.now ≡ length self.now.numbers.items }
-        ensures states { IfOk result (λ q. length q ≡ length p.now) }
-        ensures blocks { IfOk result (λ q. (s t : ℕ) → s < length p.now → t < length p.now →
-            (slice_index q s ≡ slice_index q t) ↔ Alike p.now (list_of self.now.lists self.now.numbers.items) s t) }
-        ensures numbered { IfOk result IsNumbered }
+        ensures { IfOk result (λ q. Splits p.now count (list_of self.now.lists self.now.numbers.items) q.of.items q.count) }
     {
-        split(self.alloc, p, &self.lists, &self.numbers)
+        self.lists.known();
+        split(self.alloc, p, count, self.lists.len(), &self.numbers)
     }
 }

@@ -5,7 +5,8 @@ ghost use Rattle.lts.specs.Meter.{HasRoomFor, Visits};
 ghost use Rattle.lts.specs.Lts.{row_of};
 ghost use Rattle.lists.specs.Lists.{AreNumbers};
 ghost use Rattle.refine.specs.EachList.{list_of};
-ghost use Rattle.refine.specs.Signed.{IsSignature, Extends, Appends, most_visits};
+ghost use Rattle.refine.specs.Signed.{Extends, Appends, most_visits};
+ghost use Rattle.refine.specs.Settled.{ArePut};
 
 use crate::marks::Marks;
 use crate::partition::Partition;
@@ -47,14 +48,17 @@ pub trait Sense {
             Visits M.counted m.old m.new result row (most_visits relation l.now s) }
         ensures marks { marks.new ≡ marks.old };
 
-    /// Puts the signature of each state under the blocks of `p` into `lists`, and its number there into `numbers`.
-    /// States with equal signatures may share a list. Each transition is visited once.
+    /// Puts the signature of each state under the blocks `p` into `lists`, and its number there into `numbers`: no pairs
+    /// for a state of a block that is known to be of one state alone, and for one that no number from `low` on can be seen
+    /// from. States with equal signatures share a list. Each transition is visited once.
     ///
     /// Fails if there is no memory for it. It is open then which lists there are.
     fn sign_each<M: Meter>(
         alloc: Global,
         l: &Lts<M>,
-        p: &Partition,
+        p: &[u32],
+        low: u32,
+        alone: &[bool],
         marks: &mut Marks,
         lists: &mut Lists,
         numbers: &mut [u32],
@@ -68,8 +72,7 @@ pub trait Sense {
         requires room { HasRoomFor (M.counted m.old) 0 (length l.now.places) }
 
         // Once it is done
-        ensures signed { OnOk result ((s : ℕ) → s < l.now.states →
-            IsSignature relation l.now p.now s (list_of lists.new numbers.new s)) }
+        ensures signed { OnOk result (ArePut relation l.now p.now low alone.now (list_of lists.new numbers.new)) }
 
         // In either case
         ensures visits { let n = length l.now.places in Visits M.counted m.old m.new result n n }

@@ -2,12 +2,14 @@
 ghost use Rattle.std.specs.Prelude.{◌≡◌, ◌↔◌, ℕ, ◌<◌, ◌≤◌, [], ◌∷◌, length, slice_index, IfOk, OnOk};
 ghost use Rattle.lts.specs.Meter.{HasRoomFor, Visits};
 ghost use Rattle.refine.specs.Partition.{IsNumbered};
-ghost use Rattle.refine.specs.Signed.{IsSignature, signature_at};
+ghost use Rattle.inert.specs.Signed.{IsSignature};
+ghost use Rattle.refine.specs.Signed.{signature_at};
 
 use crate::marks::Marks;
 use crate::partition::Partition;
 use crate::round_signatures::RoundSignatures;
 use crate::sense::Sense;
+use crate::splitter::renumber;
 use lists::{Lists, Parts};
 use lts::{Lts, Memory, Meter};
 use std::alloc::Global;
@@ -90,7 +92,8 @@ impl Signatures {
         ensures marks { marks.new ≡ marks.old }
         ensures signatures { length self.new ≡ length self.old }
     {
-        if let Err(refusal) = self.round.sign::<S, M>(l, p, marks, m) {
+        let none: Vec<bool> = Vec::new(self.alloc);
+        if let Err(refusal) = self.round.sign::<S, M>(l, p.blocks(), 0, &none, marks, m) {
             self.round.clear();
             self.whole.clear();
             return Err(refusal);
@@ -114,7 +117,8 @@ impl Signatures {
             ↔ ((slice_index p.now s ≡ slice_index p.now t) × (signature_at self.now s ≡ signature_at self.now t))) }
         ensures numbered { IfOk result IsNumbered }
     {
-        self.round.split(p)
+        let parts = self.round.split(p.blocks(), p.count())?;
+        renumber(self.alloc, &parts.of, parts.count)
     }
 }
 

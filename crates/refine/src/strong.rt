@@ -1,14 +1,17 @@
 //! Strong bisimulation: a state's signature has what its transitions show, and the blocks that they lead to.
-ghost use Rattle.std.specs.Prelude.{◌≡◌, ◌<◌, length, OnOk};
+ghost use Rattle.std.specs.Prelude.{◌≡◌, ◌↔◌, ℕ, ◌+◌, ◌<◌, ◌≤◌, false, length, map, slice_index, slice_index_or, IsTrue, IfOk, OnOk};
 ghost use Rattle.theory.specs.Bisimulation.Relation.{strong};
 ghost use Rattle.lts.specs.Meter.{HasRoomFor, Visits};
 ghost use Rattle.lts.specs.Lts.{row_of};
-ghost use Rattle.refine.specs.Signed.{IsSignature};
+ghost use Rattle.lists.specs.Lists.{list_at, Grow};
+ghost use Rattle.lists.specs.declared.lists.TheConstants.{MOST_LISTS};
+ghost use Rattle.inert.specs.Signed.{IsSignature, pair_under};
+ghost use Rattle.refine.specs.Settled.{HasFrom, IsPut};
 
 use crate::marks::Marks;
 use crate::partition::Partition;
 use crate::sense::Sense;
-use lists::{Lists, order};
+use lists::{EMPTY, Lists, order};
 use lts::{Lts, Memory, Meter};
 use std::alloc::Global;
 
@@ -27,7 +30,7 @@ impl Sense for Strong {
         out: &mut Vec<(u32, u32)>,
         m: &mut M,
     ) -> Result<(), Memory> {
-        sign(l, p, s, &mut marks.pairs, m)?;
+        sign(l, p.blocks(), s, &mut marks.pairs, m)?;
         out.extend_from_slice(&marks.pairs)?;
         Ok(())
     }
@@ -35,7 +38,9 @@ impl Sense for Strong {
     fn sign_each<M: Meter>(
         alloc: Global,
         l: &Lts<M>,
-        p: &Partition,
+        p: &[u32],
+        low: u32,
+        alone: &[bool],
         marks: &mut Marks,
         lists: &mut Lists,
         numbers: &mut [u32],
@@ -43,11 +48,57 @@ impl Sense for Strong {
     ) -> Result<(), Memory> {
         lts::rows_follow();
         for s in 0..l.states() {
-            sign(l, p, s, &mut marks.pairs, m)?;
-            numbers[s as usize] = lists.push(&marks.pairs)?;
+            let known = is_alone(alone, p[s as usize]);
+            numbers[s as usize] = put(l, p, low, known, s, &mut marks.pairs, lists, m)?;
         }
         Ok(())
     }
+}
+
+/// Whether the block is known to be of one state alone.
+fn is_alone(alone: &[bool], block: u32) -> bool
+    ensures { result ≡ slice_index_or alone.now block false }
+{
+    match alone.get(block as usize) {
+        Some(alone) => *alone,
+        None => false,
+    }
+}
+
+/// Puts the strong signature of `s` into `lists` and returns its number there, or that of the empty list where `s` is alone
+/// or leads to no number from `low` on.
+///
+/// Fails if there is no memory for it.
+fn put<M: Meter>(
+    l: &Lts<M>,
+    p: &[u32],
+    low: u32,
+    alone: bool,
+    s: u32,
+    pairs: &mut Vec<(u32, u32)>,
+    lists: &mut Lists,
+    m: &mut M,
+) -> Result<u32, Memory>
+    requires states { length p.now ≡ l.now.states }
+    requires state { s < l.now.states }
+    requires few { length lists.old < MOST_LISTS }
+    requires room { HasRoomFor (M.counted m.old) 0 (length (row_of s l.now.places)) }
+    ensures within { IfOk result (λ k. k < length lists.new) }
+    ensures put { IfOk result (λ k. IsPut strong l.now p.now low (IsTrue alone) s (list_at lists.new k)) }
+    ensures grow { Grow lists.old lists.new }
+    ensures few { length lists.new ≤ length lists.old + 1 }
+    ensures visits { let n = length (row_of s l.now.places) in Visits M.counted m.old m.new result n n }
+{
+    lts::rows_are_steps();
+    l.known();
+    lists.known();
+    let touched = read(l, p, low, s, pairs, m)?;
+    if !touched || alone {
+        return Ok(EMPTY);
+    }
+    order(pairs);
+    let list = lists.push(pairs)?;
+    Ok(list)
 }
 
 /// Makes `pairs` the strong signature of `s`.
@@ -55,7 +106,7 @@ impl Sense for Strong {
 /// Fails if there is no memory for it.
 fn sign<M: Meter>(
     l: &Lts<M>,
-    p: &Partition,
+    p: &[u32],
     s: u32,
     pairs: &mut Vec<(u32, u32)>,
     m: &mut M,
@@ -67,15 +118,44 @@ fn sign<M: Meter>(
     ensures visits { let n = length (row_of s l.now.places) in Visits M.counted m.old m.new result n n }
 {
     lts::rows_are_steps();
+    l.known();
+    read(l, p, 0, s, pairs, m)?;
+    order(pairs);
+    Ok(())
+}
+
+/// Makes `pairs` those of the transitions of `s`, as they stand in its row. Returns whether one of them has a number from
+/// `low` on.
+///
+/// Fails if there is no memory for it.
+fn read<M: Meter>(
+    l: &Lts<M>,
+    p: &[u32],
+    low: u32,
+    s: u32,
+    pairs: &mut Vec<(u32, u32)>,
+    m: &mut M,
+) -> Result<bool, Memory>
+    requires states { length p.now ≡ l.now.states }
+    requires state { s < l.now.states }
+    requires room { HasRoomFor (M.counted m.old) 0 (length (row_of s l.now.places)) }
+    ensures pairs { OnOk result (pairs.new.items ≡ map (pair_under p.now) (row_of s l.now.places)) }
+    ensures touched { IfOk result (λ touched. IsTrue touched ↔ HasFrom low pairs.new.items) }
+    ensures visits { let n = length (row_of s l.now.places) in Visits M.counted m.old m.new result n n }
+{
     lts::rows_follow();
     l.known();
     let (start, end) = l.row(s);
     pairs.clear();
     pairs.reserve((end - start) as usize)?;
+    let mut touched = false;
     for k in start..end {
         let (label, target) = l.edge(k, m);
-        pairs.push_reserved((label, p.block(target)));
+        let block = p[target as usize];
+        if block >= low {
+            touched = true;
+        }
+        pairs.push_reserved((label, block));
     }
-    order(pairs);
-    Ok(())
+    Ok(touched)
 }

@@ -9,6 +9,8 @@ mod checks;
 #[cfg(test)]
 mod comparisons;
 #[cfg(test)]
+mod families;
+#[cfg(test)]
 mod named;
 #[cfg(test)]
 mod pairing;

@@ -1,10 +1,5 @@
-use Rattle.std.proofs.Common.{◌∙◌, arith}
-use Rattle.std.proofs.lemmas.Result.{IfOk-weaker}
-use Rattle.lists.proofs.Rooted.{parts_size}
+use Rattle.lists.proofs.Uniting.{AreUnions-grow}
 use Rattle.lists.proofs.lists.Lists.push.Goals as goal
 
-pub put-requires-clause-few : goal.put-requires-clause-few
-put-requires-clause-few c = omega (arith, parts_size c.self.invariant c.self.view_is, c.requires.few)
-
-pub returns-clause-number : goal.returns-clause-number
-returns-clause-number c = IfOk-weaker c.put.result _ _ (λ k e. e ∙ parts_size c.self.invariant c.self.view_is) c.put.ensures.number
+pub invariant_of-self : goal.invariant_of-self
+invariant_of-self c = AreUnions-grow c.push.ensures.grow c.self.inside.known c.self.invariant

@@ -1,6 +1,8 @@
-use Rattle.std.proofs.Common.{◌++◌, ◌∙◌, [], ap, sym, rules}
+use Rattle.std.proofs.Common.{◌++◌, ◌∙◌, [], ap, sym, subst, rules}
 use Rattle.std.proofs.lemmas.List.{append-nil}
 use Rattle.lists.specs.Lists.{list_at}
+use Rattle.theory.specs.Bisimulation.Relation.{branching}
+use Rattle.inert.specs.Signed.{IsSignature}
 use Rattle.refine.specs.Signed.{Extends}
 use Rattle.refine.proofs.branching.BranchingSense.signature.Goals as goal
 
@@ -12,9 +14,9 @@ returns-in_err-extend_from_slice-clause-extends g c =
 
 pub returns-clause-appends : goal.returns-clause-appends
 returns-clause-appends g c =
-    let list = list_at c.sign_one-done.new.lists c.in_ok-list.list in (
+    let list = list_at c.sign.new.lists c.in_ok-list.list in (
       list,
-      c.in_ok-list.ensures.signature,
+      subst (λ bs. IsSignature branching c.args.l.now bs c.args.s list) c.blocks-2.ensures.blocks c.in_ok-list.ensures.signature,
       c.in_ok-extend_from_slice.ensures.items
           ∙ ap (λ xs. c.args.out.now.items ++ xs) (c.deref.ensures.value ∙ c.in_ok-append.ensures ∙ ap (λ xs. xs ++ list) c.clear-2.ensures.items),
     )

@@ -1,0 +1,162 @@
+-- If the rows of the last component are read, what it has collected is exactly the signature of each of its states.
+use Rattle.std.proofs.Common.{◌≡◌, ℕ, ◌+◌, ◌-◌, ◌<◌, ◌≤◌, List, [], ◌∷◌, length, drop, slice_index, sym, ◌∙◌, ap, subst, inl, inr, arith}
+use Rattle.std.proofs.lemmas.Bool.{cases_eq, cases_lt}
+use Rattle.std.proofs.lemmas.List.{length-map, get_or-map, get_or-drop, length-drop}
+use Rattle.theory.specs.System.{Step, Along, internal}
+use Rattle.theory.specs.Bisimulation.Relation.{branching}
+use Rattle.theory.specs.Blocks.{Inert}
+use Rattle.lts.specs.Labels.{text_of}
+use Rattle.lts.specs.Lts.{Grouped, source_of, label_of, target_of, place_at, transition_of, system_of, IsLts}
+use Rattle.lists.specs.Lists.{list_at}
+use Rattle.inert.specs.Signed.{HasPair, IsSignature, pair_under}
+use Rattle.inert.specs.Search.{Search, Laws, frame_at, top, root_at, item_at, Begins, Gives, Holds, Accounted, Walks}
+use Rattle.inert.specs.Moves.{IsGiven, IsListed, HasRead}
+use Rattle.inert.specs.declared.walk.Item.{Item}
+use Rattle.inert.specs.declared.walk.Root.{Root}
+use Rattle.inert.proofs.Roots.{last_root, last_greatest}
+use Rattle.inert.proofs.Standing.{at, pair_before, roots_some, stack_some, on_stack}
+
+-- a step stands in some place
+pub step_place : (l : Grouped) (s t : ℕ) (a : List ℕ) → Step (system_of l) s a t →
+    (k : ℕ) × (k < length l.places) × (source_of (place_at l.places k) ≡ s) × (text_of l.labels (label_of (place_at l.places k)) ≡ a) × (target_of (place_at l.places k) ≡ t)
+step_place l s t a step =
+    let below : step.0 < length l.places = omega (arith, step.1, length-map l.places (transition_of l.labels)) in
+    let same : transition_of l.labels (place_at l.places step.0) ≡ record { source = s; label = a; target = t } =
+    sym (get_or-map (transition_of l.labels) l.places step.0 (0, 0, 0) (record { source = s; label = a; target = t }) below) ∙ step.2 in
+    (step.0, below, ap (λ e. e.source) same, ap (λ e. e.label) same, ap (λ e. e.target) same)
+
+-- a place stands for a step
+pub place_step : (l : Grouped) (k : ℕ) → k < length l.places →
+    Step (system_of l) (source_of (place_at l.places k)) (text_of l.labels (label_of (place_at l.places k))) (target_of (place_at l.places k))
+place_step l k h =
+    let e = transition_of l.labels (place_at l.places k) in
+    (k, omega (arith, h, length-map l.places (transition_of l.labels)), get_or-map (transition_of l.labels) l.places k (0, 0, 0) e h)
+
+-- an item from number c on
+pub item_drop : (items : List Item) (c j : ℕ) → item_at (drop c items) j ≡ item_at items (c + j)
+item_drop items c j = get_or-drop c items j _
+
+module _ (laws : Laws) (l : Grouped) (lts : IsLts l) (blocks : List ℕ) (lists : List (List (ℕ × ℕ))) (w : Search) (walks : Walks l blocks lists w)
+    (some : 0 < length w.frames) (read : HasRead w) (place : (root_at w.roots (length w.roots - 1)).place ≡ (top w.frames).place) where
+  abbrev pub last : Root
+  last = root_at w.roots (length w.roots - 1)
+
+  abbrev pub f0 : ℕ
+  f0 = at l blocks lists w walks
+
+  roots : 0 < length w.roots
+  roots = roots_some l blocks lists w walks (stack_some l blocks lists w walks some)
+
+  pub within : f0 < length w.stack
+  within = on_stack l blocks lists w walks some
+
+  pub this : Begins w.roots f0 last.items
+  this = subst (λ f. Begins w.roots f last.items) place (last_root w.roots walks.roots.rising roots)
+
+  pub greatest : (f c : ℕ) → Begins w.roots f c → f ≤ f0
+  greatest f c b = subst (λ x. f ≤ x) place (last_greatest w.roots walks.roots.rising roots f c b)
+
+  pub few_items : last.items ≤ length w.items
+  few_items = walks.roots.within f0 last.items this
+
+  -- what the component has collected
+  abbrev pub Collected : ℕ × ℕ → Type 0
+  Collected z = IsGiven lists (drop last.items w.items) z
+
+  pub collected_from : (p : ℕ) → f0 ≤ p → (z : ℕ × ℕ) → Holds lists w p z → Collected z
+  collected_from p h z (j, low, g, of) =
+      let from = (of f0 last.items this).0 h in
+      let size = length-drop last.items w.items in
+      let is : last.items + (j - last.items) ≡ j = omega (arith, from) in (
+        j - last.items,
+        omega (arith, size, low, from),
+        subst (λ x. Gives lists x z) (sym (item_drop w.items last.items (j - last.items) ∙ ap (item_at w.items) is)) g,
+      )
+
+  -- the frame of a state of the component is the last one
+  last_frame : (i : ℕ) → i < length w.frames → f0 ≤ (frame_at w.frames i).place → i ≡ length w.frames - 1
+  last_frame i low h = elim (cases_eq i (length w.frames - 1)) [
+    | inl e ↦ e
+    | inr d ↦ (let up = walks.frames.rising i (length w.frames - 1) (omega (arith, low, d)) (omega (arith, low)) in absurd (omega (arith, up, h)))
+  ]
+
+  -- each transition of the component was taken into account
+  done : (p k : ℕ) → f0 ≤ p → p < length w.stack → k < length l.places → source_of (place_at l.places k) ≡ slice_index w.stack p
+      → Accounted l blocks lists w p (place_at l.places k)
+  done p k h lp lk source = elim (walks.accounted p k lp lk source) [
+    | inr a ↦ a
+    | inl (i, low, is, ahead) ↦
+        let e = last_frame i low (omega (arith, is, h)) in
+        let row = walks.frames.row i low in
+        let inside = ((row.1.exactly k lk).0 (source ∙ ap (slice_index w.stack) (sym is))).1 in
+        let next = ap (λ j. (frame_at w.frames j).next) e in
+        let end = ap (λ j. (frame_at w.frames j).end) e in
+        absurd (omega (arith, ahead, inside, next, end, read))
+  ]
+
+  -- what a state of the component can do was collected
+  collects_here : (z : ℕ × ℕ) (p : ℕ) → f0 ≤ p → p < length w.stack → (t : ℕ) → Step (system_of l) (slice_index w.stack p) (text_of l.labels z.0) t
+      → slice_index blocks t ≡ z.1 → ¬ ((text_of l.labels z.0 ≡ internal) × (z.1 ≡ slice_index blocks (slice_index w.stack p)))
+      → z.0 < length l.labels → Collected z
+  collects_here z p h lp t step is other low =
+      let (k, lk, source, label, target) = step_place l (slice_index w.stack p) t (text_of l.labels z.0) step in
+      let in_range = lts.in_range.each k (0, 0, 0) lk in
+      let number : label_of (place_at l.places k) ≡ z.0 = lts.table.different (label_of (place_at l.places k)) z.0 in_range.label low label in
+      let block : slice_index blocks (target_of (place_at l.places k)) ≡ z.1 = ap (slice_index blocks) target ∙ is in
+      let same : pair_under blocks (place_at l.places k) ≡ z = λ i. (number i, block i) in
+      collected_from p h z
+      (subst (Holds lists w p) same
+      ((done p k h lp lk source).shown (λ inert. other (sym label ∙ inert.0, sym block ∙ inert.1 ∙ ap (slice_index blocks) source))))
+
+  -- and what it can do at the end of inert steps
+  collects : (z : ℕ × ℕ) (us : List ℕ) (p : ℕ) → f0 ≤ p → p < length w.stack → (u t : ℕ)
+      → Along (Inert (system_of l) (slice_index blocks)) (slice_index w.stack p) us u → Step (system_of l) u (text_of l.labels z.0) t → slice_index blocks t ≡ z.1
+      → ¬ ((text_of l.labels z.0 ≡ internal) × (z.1 ≡ slice_index blocks (slice_index w.stack p))) → z.0 < length l.labels → Collected z
+  collects z [] p h lp u t e step is other low =
+      collects_here z p h lp t (subst (λ x. Step (system_of l) x (text_of l.labels z.0) t) (sym e) step) is other low
+  collects z (x ∷ us) p h lp u t (first, rest) step is other low =
+      let (k, lk, source, label, target) = step_place l (slice_index w.stack p) x internal first.0 in
+      let same : slice_index blocks (target_of (place_at l.places k)) ≡ slice_index blocks (slice_index w.stack p) = ap (slice_index blocks) target ∙ first.1 in
+      elim ((done p k h lp lk source).followed (label, same ∙ ap (slice_index blocks) (sym source))) [
+        | inl (q, mark, up, down) ↦
+            let was = walks.opened.only (target_of (place_at l.places k)) q mark in
+            let there : x ≡ slice_index w.stack q = sym (was.1 ∙ target) in
+            collects z us q (up f0 last.items this h) was.0 u t
+            (subst (λ y. Along (Inert (system_of l) (slice_index blocks)) y us u) there rest) step is
+            (λ inert. other (inert.0, inert.1 ∙ ap (slice_index blocks) was.1 ∙ same)) low
+        | inr held ↦ elim held [
+          | inl (number, mark, all) ↦
+              let path = subst (λ y. Along (Inert (system_of l) (slice_index blocks)) y us u) (sym target) rest in
+              let has : HasPair branching l blocks (target_of (place_at l.places k)) z.0 z.1 = (low, (u, t, (us, path), step, is, λ inert. other (inert.0, inert.1 ∙ same))) in
+              collected_from p h z (all z (((walks.signed (target_of (place_at l.places k)) number mark).1.exactly z.0 z.1).1 has))
+          | inr (i, low', is', to) ↦
+              let e = last_frame i (omega (arith, low')) (omega (arith, is', h)) in
+              absurd (omega (arith, e, low'))
+        ]
+      ]
+
+  -- what was collected is in the signature of each state of the component
+  sound : (p : ℕ) → f0 ≤ p → p < length w.stack → (z : ℕ × ℕ) → Collected z → HasPair branching l blocks (slice_index w.stack p) z.0 z.1
+  sound p h lp z (i, low, g) =
+      let size = length-drop last.items w.items in
+      let lj : last.items + i < length w.items = omega (arith, low, size) in
+      let (q, lq, of, all) = walks.sound (last.items + i) lj in
+      let tie = walks.connects p q lp lq (λ f c b le.
+      let before = walks.roots.in_order f c f0 last.items b this (greatest f c b) in
+      elim (cases_lt q f) [
+        | inl under ↦ (let less = (of f c b).1 under in absurd (omega (arith, less, before)))
+        | inr over ↦ over
+      ]) in
+      pair_before laws l blocks (slice_index w.stack p) (slice_index w.stack q) z tie
+      (all z (subst (λ x. Gives lists x z) (item_drop w.items last.items i) g))
+
+  -- a list of it is the signature of each state of the component
+  pub exact : (lists' : List (List (ℕ × ℕ))) (number : ℕ) → IsListed (drop last.items w.items) lists lists' number
+      → (p : ℕ) → f0 ≤ p → p < length w.stack → IsSignature branching l blocks (slice_index w.stack p) (list_at lists' number)
+  exact lists' number listed p h lp = record {
+    exactly = λ k b. (
+      λ c. sound p h lp (k, b) ((listed.exactly (k, b)).0 c),
+      λ has. (listed.exactly (k, b)).1 (collects (k, b) has.1.2.0 p h lp has.1.0 has.1.1 has.1.2.1 has.1.3 has.1.4 has.1.5 has.0),
+    );
+    rising = listed.rising;
+  }

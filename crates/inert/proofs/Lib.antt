@@ -1,0 +1,14 @@
+pub mod Marks
+pub mod Roots
+pub mod Counting
+pub mod Standing
+pub mod Collecting
+pub mod Joining
+pub mod Entering
+pub mod Turning
+pub mod Trails
+pub mod Exact
+pub mod Closing
+pub mod Moving
+pub mod Listing
+pub mod Starting

@@ -1,0 +1,164 @@
+-- The list of what items give: that of the lists that they name, and of the pairs that they are.
+use Rattle.std.proofs.Common.{true, false, ◌≡◌, ◌⊎◌, ◌↔◌, ℕ, Bool, ◌+◌, ◌<◌, ◌≤◌, List, [], ◌∷◌, ◌++◌, length, slice_index, Contains, nat_eq, refl, sym, ◌∙◌, ap, subst, inl, inr, arith}
+use Rattle.std.specs.List.{dedup, items_where_true}
+use Rattle.std.specs.List.Retain.{IsFiltered, DiffersFromLast}
+use Rattle.std.specs.List.Sorted.{IsPermutation}
+use Rattle.std.proofs.lemmas.Bool.{eqb-true}
+use Rattle.std.proofs.lemmas.Cmp.{nat_eq_equiv}
+use Rattle.std.proofs.lemmas.List.{get_or_default, length_push}
+use Rattle.std.proofs.lemmas.List.Elements.{All-from_get_or, Contains-append_left, Contains-get_or, Contains-push, Contains-push_cases}
+use Rattle.std.proofs.lemmas.List.Filters.{dedup_is}
+use Rattle.std.proofs.lemmas.List.Kept.{Contains-dedup, Contains-from_dedup}
+use Rattle.std.proofs.lemmas.List.Sorted.{Contains-permutation, IsPermutation-sym, length_permutation}
+use Rattle.lists.specs.Lists.{list_at, AreLists, AreNumbers, Grow, HasOne}
+use Rattle.inert.specs.Search.{item_at, AreThere, Gives}
+use Rattle.inert.specs.Moves.{IsGiven, AreTaken, IsListed}
+use Rattle.inert.specs.declared.walk.Item.{Item}
+use Rattle.inert.specs.declared.walk.Item.TheVariants.{Pair, Listed}
+
+first_of : (a b c d : ℕ) → Pair a b ≡ Pair c d → a ≡ c
+first_of a b c d e = cc
+
+second_of : (a b c d : ℕ) → Pair a b ≡ Pair c d → b ≡ d
+second_of a b c d e = cc
+
+number_of : (j k : ℕ) → Listed j ≡ Listed k → j ≡ k
+number_of j k e = cc
+
+not_both : (a b k : ℕ) → Pair a b ≡ Listed k → ⊥
+not_both a b k e = cc
+
+-- no item names anything
+pub taken_none : AreTaken [] [] []
+taken_none = record {
+  named = λ k. (λ c. absurd (omega (arith, c.1)), λ c. absurd (omega (arith, c.1)));
+  own = λ a b. (λ c. absurd (omega (arith, c.1)), λ c. absurd (omega (arith, c.1)));
+  few = omega arith;
+}
+
+-- one item more
+module _ (items : List Item) (numbers : List ℕ) (pairs : List (ℕ × ℕ)) (taken : AreTaken items numbers pairs) where
+  pub taken_pair : (a b : ℕ) → AreTaken (items ++ Pair a b ∷ []) numbers (pairs ++ (a, b) ∷ [])
+  taken_pair a b = record {
+    named = λ k. (
+      λ c. Contains-append_left items (Pair a b ∷ []) (Listed k) ((taken.named k).0 c),
+      λ c. elim (Contains-push_cases items (Pair a b) (Listed k) c) [
+        | inl old ↦ (taken.named k).1 old
+        | inr e ↦ absurd (not_both a b k e)
+      ],
+    );
+    own = λ x y. (
+      λ c. elim (Contains-push_cases pairs (a, b) (x, y) c) [
+        | inl old ↦ Contains-append_left items (Pair a b ∷ []) (Pair x y) ((taken.own x y).0 old)
+        | inr e ↦ subst (Contains (items ++ Pair a b ∷ [])) (ap (λ z. Pair z.0 z.1) e) (Contains-push items (Pair a b))
+      ],
+      λ c. elim (Contains-push_cases items (Pair a b) (Pair x y) c) [
+        | inl old ↦ Contains-append_left pairs ((a, b) ∷ []) (x, y) ((taken.own x y).1 old)
+        | inr e ↦ subst (Contains (pairs ++ (a, b) ∷ [])) (λ i. (first_of a b x y e i, second_of a b x y e i)) (Contains-push pairs (a, b))
+      ],
+    );
+    few = let before = taken.few in let more = length_push items (Pair a b) in omega (arith, before, more);
+  }
+
+  pub taken_list : (j : ℕ) → AreTaken (items ++ Listed j ∷ []) (numbers ++ j ∷ []) pairs
+  taken_list j = record {
+    named = λ k. (
+      λ c. elim (Contains-push_cases numbers j k c) [
+        | inl old ↦ Contains-append_left items (Listed j ∷ []) (Listed k) ((taken.named k).0 old)
+        | inr e ↦ subst (Contains (items ++ Listed j ∷ [])) (ap Listed e) (Contains-push items (Listed j))
+      ],
+      λ c. elim (Contains-push_cases items (Listed j) (Listed k) c) [
+        | inl old ↦ Contains-append_left numbers (j ∷ []) k ((taken.named k).1 old)
+        | inr e ↦ subst (Contains (numbers ++ j ∷ [])) (number_of j k e) (Contains-push numbers j)
+      ],
+    );
+    own = λ x y. (
+      λ c. Contains-append_left items (Listed j ∷ []) (Pair x y) ((taken.own x y).0 c),
+      λ c. elim (Contains-push_cases items (Listed j) (Pair x y) c) [
+        | inl old ↦ (taken.own x y).1 old
+        | inr e ↦ absurd (not_both x y j (sym e))
+      ],
+    );
+    few =
+        let before = taken.few in
+        let more = length_push items (Listed j) in
+        let more' = length_push numbers j in
+        omega (arith, before, more, more');
+  }
+
+-- numbers that are sorted and freed of repeats
+pub numbers_have : (xs ys zs : List ℕ) → IsPermutation xs ys → IsFiltered (DiffersFromLast nat_eq) [] ys zs → (k : ℕ) → Contains zs k ↔ Contains xs k
+numbers_have xs ys zs same filtered k =
+    let freed : zs ≡ dedup nat_eq ys = dedup_is nat_eq ys zs filtered in (
+      λ c. Contains-permutation ys xs k (IsPermutation-sym xs ys same) (Contains-from_dedup nat_eq ys k (subst (λ l. Contains l k) freed c)),
+      λ c. subst (λ l. Contains l k) (sym freed) (Contains-dedup nat_eq_equiv eqb-true ys k (Contains-permutation xs ys k same c)),
+    )
+
+picked_few : (bs : List Bool) (xs : List ℕ) → length (items_where_true bs xs) ≤ length xs
+picked_few [] xs = omega arith
+picked_few (b ∷ bs) [] = omega arith
+picked_few (true ∷ bs) (x ∷ xs) = let rest = picked_few bs xs in omega (arith, rest)
+picked_few (false ∷ bs) (x ∷ xs) = let rest = picked_few bs xs in omega (arith, rest)
+
+pub numbers_few : (xs ys zs : List ℕ) → IsPermutation xs ys → IsFiltered (DiffersFromLast nat_eq) [] ys zs → length zs ≤ length xs
+numbers_few xs ys zs same filtered =
+    let (bs, q, size, returns, is) = filtered in
+    let few = picked_few bs ys in
+    let e = length_permutation xs ys same in
+    let e' = ap length is in
+    omega (arith, few, e, e')
+
+-- numbers and pairs in another order
+pub taken_ordered : (items : List Item) (ns numbers : List ℕ) (ps pairs : List (ℕ × ℕ)) → AreTaken items ns ps
+    → ((k : ℕ) → Contains numbers k ↔ Contains ns k) → length numbers ≤ length ns → ((z : ℕ × ℕ) → Contains pairs z ↔ Contains ps z)
+    → AreTaken items numbers pairs
+taken_ordered items ns numbers ps pairs taken named fewer own = record {
+  named = λ k. (λ c. (taken.named k).0 ((named k).0 c), λ c. (named k).1 ((taken.named k).1 c));
+  own = λ a b. (λ c. (taken.own a b).0 ((own (a, b)).0 c), λ c. (own (a, b)).1 ((taken.own a b).1 c));
+  few = let few = taken.few in omega (arith, few, fewer);
+}
+
+module _ (items : List Item) (lists : List (List (ℕ × ℕ))) (numbers : List ℕ) (pairs : List (ℕ × ℕ)) (taken : AreTaken items numbers pairs) where
+  -- where an item is, and that it is one of them
+  place : (x : Item) → Contains items x → (j : ℕ) × (j < length items) × (item_at items j ≡ x)
+  place x (j, low, is) = (j, low, get_or_default items j _ x low ∙ is)
+
+  found : (j : ℕ) (x : Item) → j < length items → item_at items j ≡ x → Contains items x
+  found j x low is = (j, low, get_or_default items j x _ low ∙ is)
+
+  -- the item of a number
+  listed_at : (i : ℕ) → i < length numbers → (j : ℕ) × (j < length items) × (item_at items j ≡ Listed (slice_index numbers i))
+  listed_at i low = place (Listed (slice_index numbers i)) ((taken.named (slice_index numbers i)).0 (Contains-get_or numbers i 0 low))
+
+  pub numbers_there : AreThere lists items → AreNumbers lists numbers
+  numbers_there there = All-from_get_or (λ k. k < length lists) numbers 0 (λ i low.
+      let (j, lj, is) = listed_at i low in
+      there j lj (slice_index numbers i) is)
+
+  -- what they give is what the lists have that they name, and the pairs that they are
+  gives : (z : ℕ × ℕ) (j : ℕ) → j < length items → (x : Item) → item_at items j ≡ x → Gives lists x z → Contains pairs z ⊎ HasOne lists numbers z
+  gives z j low (Pair a b) is g = inl (subst (Contains pairs) g ((taken.own a b).1 (found j (Pair a b) low is)))
+  gives z j low (Listed k) is g =
+      let (i, li, e) = (taken.named k).1 (found j (Listed k) low is) in
+      inr (i, li, subst (λ n. Contains (list_at lists n) z) (sym (get_or_default numbers i 0 k li ∙ e)) g)
+
+  given : (z : ℕ × ℕ) → Contains pairs z ⊎ HasOne lists numbers z → IsGiven lists items z
+  given z (inl c) =
+      let (j, low, is) = place (Pair z.0 z.1) ((taken.own z.0 z.1).0 c) in
+      (j, low, subst (λ x. Gives lists x z) (sym is) refl)
+  given z (inr (i, li, c)) =
+      let (j, low, is) = listed_at i li in
+      (j, low, subst (λ x. Gives lists x z) (sym is) c)
+
+  pub listed : (lists' : List (List (ℕ × ℕ))) (k : ℕ) → AreLists lists' → k < length lists' → Grow lists lists' → length lists' ≤ length lists + length numbers + 2
+      → ((z : ℕ × ℕ) → Contains (list_at lists' k) z ↔ (Contains pairs z ⊎ HasOne lists numbers z)) → IsListed items lists lists' k
+  listed lists' k are within grow few exactly = record {
+    within = within;
+    grow = grow;
+    few = let fewer = taken.few in omega (arith, few, fewer);
+    exactly = λ z. (
+      λ c. given z ((exactly z).0 c),
+      λ (j, low, g). (exactly z).1 (gives z j low (item_at items j) refl g),
+    );
+    rising = are.rise k [] within;
+  }

@@ -1,0 +1,43 @@
+-- Marks: they differ, and one is set.
+use Rattle.std.proofs.Common.{◌≡◌, ◌≢◌, ℕ, ◌<◌, List, length, set, sym, ◌∙◌, ap, inl, inr}
+use Rattle.std.proofs.lemmas.Bool.{cases_eq, cases_lt}
+use Rattle.std.proofs.lemmas.List.{get_or-set_same, get_or-set_other, get_or_past}
+use Rattle.inert.specs.Search.{mark_at}
+use Rattle.inert.specs.Ahead.{KeepsSeen}
+use Rattle.inert.specs.declared.walk.Mark.{Mark}
+use Rattle.inert.specs.declared.walk.Mark.TheVariants.{Unseen, Open, Finished}
+
+pub place_same : (p q : ℕ) → Open p ≡ Open q → p ≡ q
+place_same p q e = cc
+
+pub list_same : (j k : ℕ) → Finished j ≡ Finished k → j ≡ k
+list_same j k e = cc
+
+pub not_both : (p k : ℕ) → ¬ (Open p ≡ Finished k)
+not_both p k e = cc
+
+pub not_unseen : (p : ℕ) → ¬ (Open p ≡ Unseen)
+not_unseen p e = cc
+
+pub not_finished : (k : ℕ) → ¬ (Finished k ≡ Unseen)
+not_finished k e = cc
+
+pub mark_set : (marks : List Mark) (t : ℕ) (m : Mark) → t < length marks → mark_at (set marks t m) t ≡ m
+mark_set marks t m h = get_or-set_same marks t m Unseen h
+
+pub mark_other : (marks : List Mark) (t : ℕ) (m : Mark) (s : ℕ) → s ≢ t → mark_at (set marks t m) s ≡ mark_at marks s
+mark_other marks t m s d = get_or-set_other marks t s m Unseen d
+
+-- a state that is open has a mark
+pub marked_below : (marks : List Mark) (s p : ℕ) → mark_at marks s ≡ Open p → s < length marks
+marked_below marks s p is = elim (cases_lt s (length marks)) [
+  | inl low ↦ low
+  | inr high ↦ absurd (not_unseen p (sym is ∙ get_or_past marks s Unseen high))
+]
+
+-- the state t is seen, and no other is forgotten
+pub seen_more : (marks : List Mark) (t p : ℕ) → t < length marks → KeepsSeen marks (set marks t (Open p))
+seen_more marks t p low s is = elim (cases_eq s t) [
+  | inl e ↦ absurd (not_unseen p (sym (mark_set marks t (Open p) low) ∙ ap (mark_at (set marks t (Open p))) (sym e) ∙ is))
+  | inr d ↦ sym (mark_other marks t (Open p) s d) ∙ is
+]

@@ -1,0 +1,29 @@
+use Rattle.std.proofs.Common.{take, subst}
+use Rattle.std.proofs.lemmas.List.{take_all, take_more}
+use Rattle.inert.specs.Moves.{AreTaken}
+use Rattle.inert.specs.declared.walk.Item.TheVariants.{Pair}
+use Rattle.inert.proofs.Listing.{taken_none, taken_pair, taken_list}
+use Rattle.inert.proofs.component.collect.Goals as goal
+use Rattle.inert.proofs.component.collect.Goals.{in-Pair+in_ok-push-in-Pair, in-Listed+in_ok-push-in-Listed}
+
+pub loop-item-init : goal.loop-item-init
+loop-item-init c = rw (c.clear.ensures.items, c.clear-2.ensures.items) taken_none
+
+pub loop-item-preserved : goal.loop-item-preserved
+loop-item-preserved c =
+    let items = c.args.items.now in
+    let i = c.loop-item.item-index in
+    let more = take_more items i (Pair 0 0) c.loop-item-test.true in
+    elim c.match-item.branch [
+      | in-Pair+in_ok-push-in-Pair w ↦
+          rw (more, w.in-Pair.is, w.numbers-is, w.pairs-is, w.in_ok-push-in-Pair.ensures.items)
+          (taken_pair (take i items) c.loop-item.numbers.items c.loop-item.pairs.items c.loop-item.invariant _ _)
+      | in-Listed+in_ok-push-in-Listed w ↦
+          rw (more, w.in-Listed.is, w.numbers-is, w.pairs-is, w.in_ok-push-in-Listed.ensures.items)
+          (taken_list (take i items) c.loop-item.numbers.items c.loop-item.pairs.items c.loop-item.invariant _)
+    ]
+
+pub returns : goal.returns
+returns c =
+    let all = take_all c.loop-item.item-index c.args.items.now c.loop-item-test.false in
+    subst (λ items. AreTaken items c.loop-item.numbers.items c.loop-item.pairs.items) all c.loop-item.invariant

@@ -1,0 +1,21 @@
+use Rattle.std.proofs.Common.{length, ap, arith}
+use Rattle.inert.proofs.Starting.{idle_rests, idle_unread, none_unread}
+use Rattle.inert.proofs.signer.walk_all.Goals as goal
+
+pub loop-s-init : goal.loop-s-init
+loop-s-init g c =
+    let l = c.args.l.now in
+    let walk = c.args.walk.now in
+    record {
+      rests = idle_rests l c.args.blocks.now c.args.lists.now walk c.requires.idle c.requires.marks (ap length c.requires.lists);
+      all = λ t h below. absurd (omega (arith, h, below, c.states-s.ensures.value));
+      visits = omega (arith, idle_unread l walk.marks c.requires.idle.none);
+      cost = record { rounds = omega arith; at_least = omega arith; at_most = omega arith };
+    }
+
+pub returns-clause-visits : goal.returns-clause-visits
+returns-clause-visits g c =
+    let i = c.loop-s.invariant in
+    let none = none_unread c.args.l.now c.known.ensures c.loop-s.walk.marks i.rests.0.numbers.size (λ s h. i.all s (omega (arith, h)) h) in
+    let read = i.visits in
+    record { rounds = i.cost.rounds; at_least = omega (arith, read, none); at_most = i.cost.at_most }

@@ -1,0 +1,5 @@
+pub mod Signed
+pub mod Steps
+pub mod Search
+pub mod Moves
+pub mod Ahead

@@ -1,0 +1,123 @@
+-- The moves of a walk, and how far it has come.
+use Rattle.std.specs.Prelude.{◌≡◌, ◌⊎◌, ◌↔◌, ℕ, ◌+◌, ◌*◌, ◌-◌, ◌<◌, ◌≤◌, List, [], ◌∷◌, ◌++◌, length, take, drop, slice_index, slice_set, Bool, IsTrue}
+use Rattle.std.specs.List.{Contains}
+use Rattle.std.specs.List.Sorted.{IsStrictlySortedBy}
+use Rattle.lts.specs.Lts.{Grouped, Triple, IsRow}
+use Rattle.lists.specs.Lists.{list_at, pair_cmp, Grow}
+use Rattle.inert.specs.Search.{Search, mark_at, top, root_at, item_at, Gives, Walks}
+use Rattle.inert.specs.Ahead.{unseen, unread, rest, KeepsSeen}
+use Rattle.inert.specs.declared.step.Step.{Step}
+use Rattle.inert.specs.declared.step.Step.TheVariants.{Inert, Shows}
+use Rattle.inert.specs.declared.walk.Mark.{Mark}
+use Rattle.inert.specs.declared.walk.Mark.TheVariants.{Unseen, Open, Finished}
+use Rattle.inert.specs.declared.walk.Root.{Root}
+use Rattle.inert.specs.declared.walk.Item.{Item}
+use Rattle.inert.specs.declared.walk.Item.TheVariants.{Pair, Listed}
+
+-- the state s, whose row this is, goes on the stack as a component of its own
+abbrev pub entered : ℕ → ℕ → ℕ → Search → Search
+entered s start end w = record {
+  marks = slice_set w.marks s (Open (length w.stack));
+  stack = w.stack ++ s ∷ [];
+  frames = w.frames ++ record { place = length w.stack; next = start; end = end } ∷ [];
+  roots = w.roots ++ record { place = length w.stack; items = length w.items } ∷ [];
+  items = w.items;
+}
+
+abbrev pub Enters : List Triple → ℕ → Search → Search → Type 0
+Enters places s old new = (start end : ℕ) × IsRow places s start end × (new ≡ entered s start end old)
+
+-- of the roots those stay that are up to the place q
+pub record Cuts (q : ℕ) (old new : List Root) : Type 0 where
+  pub kept : ℕ
+  pub roots : new ≡ take kept old
+  pub within : kept ≤ length old
+  pub above : (i : ℕ) → kept ≤ i → i < length old → q < (root_at old i).place
+  pub below : 0 < kept → (root_at old (kept - 1)).place ≤ q
+
+-- one item more is collected
+abbrev pub with_item : Item → Search → Search
+with_item x w = record w { items = w.items ++ x ∷ [] }
+
+-- a step is taken, and enters a state or not
+abbrev pub Takes : List Triple → Step → Search → Search → Bool → Type 0
+Takes places (Shows a b) old new enters = (new ≡ with_item (Pair a b) old) × ¬ IsTrue enters
+Takes places (Inert t) old new enters =
+    ((mark_at old.marks t ≡ Unseen) × Enters places t old new × IsTrue enters)
+    ⊎ ((q : ℕ) × (mark_at old.marks t ≡ Open q) × Cuts q old.roots new.roots × (new ≡ record old { roots = new.roots }) × ¬ IsTrue enters)
+    ⊎ ((k : ℕ) × (mark_at old.marks t ≡ Finished k) × (new ≡ with_item (Listed k) old) × ¬ IsTrue enters)
+
+-- some of the items gives the pair z
+abbrev pub IsGiven : List (List (ℕ × ℕ)) → List Item → ℕ × ℕ → Type 0
+IsGiven lists items z = (j : ℕ) × (j < length items) × Gives lists (item_at items j) z
+
+-- the numbers of the lists that these items name, and the pairs that they are
+pub record AreTaken (items : List Item) (numbers : List ℕ) (pairs : List (ℕ × ℕ)) : Type 0 where
+  pub named : (k : ℕ) → Contains numbers k ↔ Contains items (Listed k)
+  pub own : (a b : ℕ) → Contains pairs (a, b) ↔ Contains items (Pair a b)
+  pub few : length numbers ≤ length items
+
+-- among the lists after, an old one or a new one, is that of what these items give
+pub record IsListed (items : List Item) (before after : List (List (ℕ × ℕ))) (k : ℕ) : Type 0 where
+  pub within : k < length after
+  pub grow : Grow before after
+  pub few : length after ≤ length before + length items + 2
+  pub exactly : (z : ℕ × ℕ) → Contains (list_at after k) z ↔ IsGiven before items z
+  pub rising : IsStrictlySortedBy pair_cmp (list_at after k)
+
+-- the states on the stack from place f on are finished, and no other mark changes
+pub record Finishes (stack : List ℕ) (f number : ℕ) (old new : List Mark) : Type 0 where
+  pub size : length new ≡ length old
+  pub members : (p : ℕ) → f ≤ p → p < length stack → mark_at new (slice_index stack p) ≡ Finished number
+  pub others : (s : ℕ) → (mark_at new s ≡ mark_at old s) ⊎ ((p : ℕ) × (f ≤ p) × (p < length stack) × (slice_index stack p ≡ s))
+
+-- the walk without its last frame
+abbrev pub popped : Search → Search
+popped w = record w { frames = take (length w.frames - 1) w.frames }
+
+-- the component of the last root is finished: its list is the one of this number, which the state that led to it collects
+pub record Closes (root : Root) (before after : List (List (ℕ × ℕ))) (old new : Search) : Type 0 where
+  pub number : ℕ
+  pub listed : IsListed (drop root.items old.items) before after number
+  pub marks : Finishes old.stack root.place number old.marks new.marks
+  pub stack : new.stack ≡ take root.place old.stack
+  pub frames : new.frames ≡ old.frames
+  pub roots : new.roots ≡ take (length old.roots - 1) old.roots
+  pub led : 0 < length old.frames → new.items ≡ take root.items old.items ++ Listed number ∷ []
+  pub alone : length old.frames ≡ 0 → new.items ≡ take root.items old.items
+
+-- how many transitions are still to be read
+abbrev pub ahead : Grouped → Search → ℕ
+ahead l w = unread l.places w.marks + rest w.frames
+
+-- how many lists a walk makes at most of what it has seen: one for each item, and for each frame that is to come back with
+-- one, and two for each state that is not finished
+abbrev pub weight : Search → ℕ
+weight w = 2 * (unseen w.marks + length w.stack) + length w.items + (length w.frames - 1)
+
+-- there is room for these, and for one for each transition that is still to be read
+abbrev pub Fits : Grouped → ℕ → Search → Type 0
+Fits l lists w = weight w + ahead l w + lists ≤ 2 * l.states + length l.places + 1
+
+-- how many steps a walk makes at most
+abbrev pub steps : Grouped → Search → ℕ
+steps l w = 2 * ahead l w + length w.frames
+
+-- the row of the last frame was read
+abbrev pub HasRead : Search → Type 0
+HasRead w = (top w.frames).next ≡ (top w.frames).end
+
+-- a walk goes on
+pub record GoesOn (l : Grouped) (blocks : List ℕ) (lists : List (List (ℕ × ℕ))) (old new : Search) : Type 0 where
+  pub walks : Walks l blocks lists new
+  pub fits : Fits l (length lists) new
+  pub seen : KeepsSeen old.marks new.marks
+
+-- fewer steps are ahead after a state was entered, and else no more, where the row is read
+abbrev pub Advances : Grouped → Search → Search → Bool → Type 0
+Advances l old new enters = (IsTrue enters → steps l new < steps l old)
+    × (¬ IsTrue enters → HasRead new × (0 < length new.frames) × (steps l new ≤ steps l old))
+
+-- the walk rests: nothing is on the stack
+abbrev pub Rests : Grouped → List ℕ → List (List (ℕ × ℕ)) → Search → Type 0
+Rests l blocks lists w = Walks l blocks lists w × (length w.frames ≡ 0) × Fits l (length lists) w

@@ -1,0 +1,166 @@
+-- A walk over inert steps: what is known of each state, the stack and its components, and what they have collected.
+use Rattle.std.specs.Prelude.{◌≡◌, ◌⊎◌, ℕ, ◌+◌, ◌-◌, ◌<◌, ◌≤◌, List, [], length, slice_index, slice_index_or}
+use Rattle.std.specs.List.{Contains}
+use Rattle.theory.specs.System.{System, Leads}
+use Rattle.theory.specs.Bisimulation.Relation.{branching}
+use Rattle.theory.specs.Blocks.{Inert, Signature}
+use Rattle.lts.specs.Lts.{Grouped, Triple, source_of, target_of, place_at, system_of, IsRow}
+use Rattle.lists.specs.Lists.{list_at}
+use Rattle.inert.specs.Signed.{HasPair, IsSignature, pair_under}
+use Rattle.inert.specs.Steps.{IsInert}
+use Rattle.inert.specs.Ahead.{HasNumbers}
+use Rattle.inert.specs.declared.walk.Mark.{Mark}
+use Rattle.inert.specs.declared.walk.Mark.TheVariants.{Unseen, Open, Finished}
+use Rattle.inert.specs.declared.walk.Frame.{Frame}
+use Rattle.inert.specs.declared.walk.Root.{Root}
+use Rattle.inert.specs.declared.walk.Item.{Item}
+use Rattle.inert.specs.declared.walk.Item.TheVariants.{Pair, Listed}
+
+-- what a walk knows, where it is, and what it has collected
+pub record Search : Type 0 where
+  pub marks : List Mark
+  pub stack : List ℕ
+  pub frames : List Frame
+  pub roots : List Root
+  pub items : List Item
+
+-- nothing is on the stack
+abbrev pub nothing : List Mark → Search
+nothing marks = record { marks = marks; stack = []; frames = []; roots = []; items = [] }
+
+-- what is known of the state s
+abbrev pub mark_at : List Mark → ℕ → Mark
+mark_at marks s = slice_index_or marks s Unseen
+
+-- nothing was seen
+pub record IsIdle (w : Search) : Type 0 where
+  pub empty : w ≡ nothing w.marks
+  pub none : (s : ℕ) → mark_at w.marks s ≡ Unseen
+
+-- the frame number i, the last one, the root number i, and the item number j
+abbrev pub frame_at : List Frame → ℕ → Frame
+frame_at frames i = slice_index_or frames i (record { place = 0; next = 0; end = 0 })
+
+abbrev pub top : List Frame → Frame
+top frames = frame_at frames (length frames - 1)
+
+abbrev pub root_at : List Root → ℕ → Root
+root_at roots i = slice_index_or roots i (record { place = 0; items = 0 })
+
+abbrev pub item_at : List Item → ℕ → Item
+item_at items j = slice_index_or items j (Pair 0 0)
+
+-- a component begins at place f on the stack, and its items at number c
+abbrev pub Begins : List Root → ℕ → ℕ → Type 0
+Begins roots f c = (i : ℕ) × (i < length roots) × ((root_at roots i).place ≡ f) × ((root_at roots i).items ≡ c)
+
+-- what inert steps lead to, and what they pass back
+pub record Laws : Type 0 where
+  pub here : (A : System) (blocks : ℕ → ℕ) (s : ℕ) → Leads (Inert A blocks) s s
+  pub after : (A : System) (blocks : ℕ → ℕ) (s t u : ℕ) → Leads (Inert A blocks) s t → Inert A blocks t u → Leads (Inert A blocks) s u
+  pub joined : (A : System) (blocks : ℕ → ℕ) (s t u : ℕ) → Leads (Inert A blocks) s t → Leads (Inert A blocks) t u → Leads (Inert A blocks) s u
+  pub path : (A : System) (blocks : ℕ → ℕ) (s t : ℕ) (a : List ℕ) (b : ℕ) → Leads (Inert A blocks) s t →
+      Signature branching A blocks t a b → Signature branching A blocks s a b
+
+-- inert steps lead from s to t
+abbrev pub Ties : Grouped → List ℕ → ℕ → ℕ → Type 0
+Ties l blocks s t = Leads (Inert (system_of l) (slice_index blocks)) s t
+
+-- the component of place p is that of place q, or an earlier one
+abbrev pub IsUpTo : List Root → ℕ → ℕ → Type 0
+IsUpTo roots p q = (f c : ℕ) → Begins roots f c → f ≤ p → f ≤ q
+
+-- the item number j is of the component of place p
+abbrev pub IsOf : List Root → ℕ → ℕ → Type 0
+IsOf roots j p = (f c : ℕ) → Begins roots f c → (f ≤ p → c ≤ j) × (p < f → j < c)
+
+-- an item gives the pair z
+abbrev pub Gives : List (List (ℕ × ℕ)) → Item → ℕ × ℕ → Type 0
+Gives lists (Pair a b) z = (a, b) ≡ z
+Gives lists (Listed k) z = Contains (list_at lists k) z
+
+-- some item of the component of place p gives the pair z
+abbrev pub Holds : List (List (ℕ × ℕ)) → Search → ℕ → ℕ × ℕ → Type 0
+Holds lists w p z = (j : ℕ) × (j < length w.items) × Gives lists (item_at w.items j) z × IsOf w.roots j p
+
+-- each state on the stack is marked with its place, and no other state is
+pub record AreOpen (marks : List Mark) (stack : List ℕ) : Type 0 where
+  pub marked : (p : ℕ) → p < length stack → mark_at marks (slice_index stack p) ≡ Open p
+  pub only : (s p : ℕ) → mark_at marks s ≡ Open p → (p < length stack) × (slice_index stack p ≡ s)
+
+-- the list of each finished state is its signature
+abbrev pub AreSigned : Grouped → List ℕ → List (List (ℕ × ℕ)) → List Mark → Type 0
+AreSigned l blocks lists marks =
+    (s k : ℕ) → mark_at marks s ≡ Finished k → (k < length lists) × IsSignature branching l blocks s (list_at lists k)
+
+-- components begin at frames, and their items in the same order
+pub record AreRoots (w : Search) : Type 0 where
+  pub first : 0 < length w.stack → Begins w.roots 0 0
+  pub rising : (i j : ℕ) → i < j → j < length w.roots → (root_at w.roots i).place < (root_at w.roots j).place
+  pub framed : (f c : ℕ) → Begins w.roots f c → (i : ℕ) × (i < length w.frames) × ((frame_at w.frames i).place ≡ f)
+  pub within : (f c : ℕ) → Begins w.roots f c → c ≤ length w.items
+  pub in_order : (f c g d : ℕ) → Begins w.roots f c → Begins w.roots g d → f ≤ g → c ≤ d
+
+-- frames are of rising places on the stack, each with the rest of its state's row
+pub record AreFrames (l : Grouped) (stack : List ℕ) (frames : List Frame) : Type 0 where
+  pub rising : (i j : ℕ) → i < j → j < length frames → (frame_at frames i).place < (frame_at frames j).place
+  pub on_stack : (i : ℕ) → i < length frames → (frame_at frames i).place < length stack
+  pub row : (i : ℕ) → i < length frames → let x = frame_at frames i in
+      (start : ℕ) × IsRow l.places (slice_index stack x.place) start x.end × (start ≤ x.next) × (x.next ≤ x.end)
+
+-- inert steps lead from each state on the stack to those of its component and of later ones
+abbrev pub Connects : Grouped → List ℕ → Search → Type 0
+Connects l blocks w = (p q : ℕ) → p < length w.stack → q < length w.stack → IsUpTo w.roots p q →
+    Ties l blocks (slice_index w.stack p) (slice_index w.stack q)
+
+-- what each item gives is in the signature of some state of its component
+abbrev pub AreSound : Grouped → List ℕ → List (List (ℕ × ℕ)) → Search → Type 0
+AreSound l blocks lists w = (j : ℕ) → j < length w.items → (p : ℕ) × (p < length w.stack) × IsOf w.roots j p ×
+    ((z : ℕ × ℕ) → Gives lists (item_at w.items j) z → HasPair branching l blocks (slice_index w.stack p) z.0 z.1)
+
+-- the lists that items name are there
+abbrev pub IsThere : List (List (ℕ × ℕ)) → Item → Type 0
+IsThere lists x = (k : ℕ) → x ≡ Listed k → k < length lists
+
+abbrev pub AreThere : List (List (ℕ × ℕ)) → List Item → Type 0
+AreThere lists items = (j : ℕ) → j < length items → IsThere lists (item_at items j)
+
+-- the transition in place k of the state at place p is still to be read
+abbrev pub IsAhead : Search → ℕ → ℕ → Type 0
+IsAhead w p k = (i : ℕ) × (i < length w.frames) × ((frame_at w.frames i).place ≡ p) × ((frame_at w.frames i).next ≤ k)
+
+-- the state t is in the component of place p
+abbrev pub IsHere : Search → ℕ → ℕ → Type 0
+IsHere w p t = (q : ℕ) × (mark_at w.marks t ≡ Open q) × IsUpTo w.roots p q × IsUpTo w.roots q p
+
+-- the state t is finished, and the component of place p holds all its pairs
+abbrev pub IsHeld : List (List (ℕ × ℕ)) → Search → ℕ → ℕ → Type 0
+IsHeld lists w p t = (k : ℕ) × (mark_at w.marks t ≡ Finished k) × ((z : ℕ × ℕ) → Contains (list_at lists k) z → Holds lists w p z)
+
+-- the walk went from place p to the state t, and has not come back
+abbrev pub IsEntered : Search → ℕ → ℕ → Type 0
+IsEntered w p t = (i : ℕ) × (i + 1 < length w.frames) × ((frame_at w.frames i).place ≡ p)
+    × (slice_index w.stack (frame_at w.frames (i + 1)).place ≡ t)
+
+-- a transition of the state at place p was taken into account
+pub record Accounted (l : Grouped) (blocks : List ℕ) (lists : List (List (ℕ × ℕ))) (w : Search) (p : ℕ) (e : Triple) : Type 0 where
+  pub shown : ¬ IsInert l blocks (slice_index blocks (source_of e)) e → Holds lists w p (pair_under blocks e)
+  pub followed : IsInert l blocks (slice_index blocks (source_of e)) e →
+      IsHere w p (target_of e) ⊎ IsHeld lists w p (target_of e) ⊎ IsEntered w p (target_of e)
+
+-- all transitions of open states were taken into account, or are still to be read
+abbrev pub AreAccounted : Grouped → List ℕ → List (List (ℕ × ℕ)) → Search → Type 0
+AreAccounted l blocks lists w = (p k : ℕ) → p < length w.stack → k < length l.places → source_of (place_at l.places k) ≡ slice_index w.stack p →
+    IsAhead w p k ⊎ Accounted l blocks lists w p (place_at l.places k)
+
+-- what holds of a walk between its steps
+pub record Walks (l : Grouped) (blocks : List ℕ) (lists : List (List (ℕ × ℕ))) (w : Search) : Type 0 where
+  pub numbers : HasNumbers l.states (length lists) (length w.stack) w.marks
+  pub opened : AreOpen w.marks w.stack
+  pub signed : AreSigned l blocks lists w.marks
+  pub roots : AreRoots w
+  pub frames : AreFrames l w.stack w.frames
+  pub connects : Connects l blocks w
+  pub there : AreThere lists w.items
+  pub sound : AreSound l blocks lists w
+  pub accounted : AreAccounted l blocks lists w

@@ -1,0 +1,28 @@
+-- Signatures in memory: each state's pairs of a label number and a block, in rising order.
+use Rattle.std.specs.Prelude.{◌↔◌, ℕ, ◌<◌, List, length, slice_index}
+use Rattle.std.specs.List.{Contains}
+use Rattle.std.specs.List.Sorted.{IsStrictlySortedBy}
+use Rattle.theory.specs.Bisimulation.{Relation}
+use Rattle.theory.specs.Bisimulation.Relation.{branching}
+use Rattle.theory.specs.Blocks.{Signature}
+use Rattle.lts.specs.Labels.{text_of}
+use Rattle.lts.specs.Lts.{Grouped, Triple, label_of, target_of, system_of}
+use Rattle.lists.specs.Lists.{pair_cmp, list_at}
+
+-- the pair of the label number k and the block b is in the signature of s
+abbrev pub HasPair : Relation → Grouped → List ℕ → ℕ → ℕ → ℕ → Type 0
+HasPair rel l blocks s k b = (k < length l.labels) × Signature rel (system_of l) (slice_index blocks) s (text_of l.labels k) b
+
+-- the list is the signature of s: each of its pairs once, in rising order
+pub record IsSignature (rel : Relation) (l : Grouped) (blocks : List ℕ) (s : ℕ) (pairs : List (ℕ × ℕ)) : Type 0 where
+  pub exactly : (k b : ℕ) → Contains pairs (k, b) ↔ HasPair rel l blocks s k b
+  pub rising : IsStrictlySortedBy pair_cmp pairs
+
+-- the pair that a transition gives: its label number and the block of its target
+abbrev pub pair_under : List ℕ → Triple → ℕ × ℕ
+pair_under blocks e = (label_of e, slice_index blocks (target_of e))
+
+-- the list of this number is the branching signature of s
+pub record IsListOf (l : Grouped) (blocks : List ℕ) (s : ℕ) (lists : List (List (ℕ × ℕ))) (k : ℕ) : Type 0 where
+  pub within : k < length lists
+  pub signature : IsSignature branching l blocks s (list_at lists k)

@@ -1,0 +1,163 @@
+//! The walk over the transitions of a system: each one is read once.
+ghost use Rattle.std.specs.Prelude.{◌≡◌, ℕ, ◌+◌, ◌-◌, ◌<◌, ◌≤◌, length, IfOk, OnOk};
+ghost use Rattle.std.specs.List.{All};
+ghost use Rattle.lts.specs.Meter.{HasRoomFor, Costs};
+ghost use Rattle.lists.specs.declared.lists.TheConstants.{MOST_LISTS};
+ghost use Rattle.inert.specs.Steps.{Sees};
+ghost use Rattle.inert.specs.Search.{mark_at, AreOpen, AreThere, Walks, Laws};
+ghost use Rattle.inert.specs.Moves.{Closes, Finishes, ahead, Fits, HasRead, GoesOn, Rests, Advances};
+ghost use Rattle.inert.specs.Ahead.{unread, HasSeen};
+ghost use Rattle.inert.specs.declared.walk.Mark.TheVariants.{Unseen};
+
+use crate::component::list_from;
+use crate::step::read_step;
+use crate::walk::{Item, Mark, Root, Walk};
+use lists::Lists;
+use lts::{Lts, Memory, Meter};
+
+impl Walk {
+    /// Finishes the state `s`, which was not seen, and all states that inert steps lead to.
+    ///
+    /// Fails if there is no memory for it.
+    pub fn finish<M: Meter>(
+        &mut self,
+        l: &Lts<M>,
+        blocks: &[u32],
+        internal: Option<u32>,
+        s: u32,
+        lists: &mut Lists,
+        m: &mut M,
+    ) -> Result<(), Memory>
+        requires sees { Sees l.now blocks.now internal }
+        requires state { (s < l.now.states) × (mark_at self.old.marks s ≡ Unseen) }
+        requires rests { Rests l.now blocks.now lists.old self.old }
+        requires room { HasRoomFor (M.counted m.old) 0 (unread l.now.places self.old.marks) }
+        ensures rests { OnOk result (Rests l.now blocks.now lists.new self.new) }
+        ensures seen { OnOk result (HasSeen s self.old.marks self.new.marks) }
+        ensures visits { OnOk result ((M.counted m.new).visits + unread l.now.places self.new.marks
+            ≡ (M.counted m.old).visits + unread l.now.places self.old.marks) }
+        ensures cost { Costs (M.counted m.old) (M.counted m.new) 0 0 (unread l.now.places self.old.marks) }
+    {
+        laws();
+        self.enter(l, s)?;
+        while !self.frames.is_empty() {
+            if self.read(l, blocks, internal, lists, m)? {
+                continue;
+            }
+            self.go_back(l, blocks, lists)?;
+        }
+        Ok(())
+    }
+
+    /// Reads the row of the state where the walk is up to its end, or up to a step that enters a state. Returns whether it
+    /// does.
+    ///
+    /// Fails if there is no memory for it.
+    fn read<M: Meter>(
+        &mut self,
+        l: &Lts<M>,
+        blocks: &[u32],
+        internal: Option<u32>,
+        lists: &Lists,
+        m: &mut M,
+    ) -> Result<bool, Memory>
+        requires sees { Sees l.now blocks.now internal }
+        requires some { 0 < length self.old.frames }
+        requires walks { Walks l.now blocks.now lists.now self.old }
+        requires fits { Fits l.now (length lists.now) self.old }
+        requires room { HasRoomFor (M.counted m.old) 0 (ahead l.now self.old) }
+        ensures on { OnOk result (GoesOn l.now blocks.now lists.now self.old self.new) }
+        ensures visits { OnOk result ((M.counted m.new).visits + ahead l.now self.new ≡ (M.counted m.old).visits + ahead l.now self.old) }
+        ensures steps { IfOk result (Advances l.now self.old self.new) }
+        ensures cost { Costs (M.counted m.old) (M.counted m.new) 0 0 (ahead l.now self.old) }
+    {
+        laws();
+        l.known();
+        let last = self.frames.len() - 1;
+        let frame = self.frames[last];
+        let block = blocks[self.stack[frame.place as usize] as usize];
+        for k in frame.next..frame.end {
+            let step = read_step(l, blocks, internal, block, k, m);
+            let entered = self.take(l, step)?;
+            self.frames[last].next = k + 1;
+            if entered {
+                return Ok(true);
+            }
+        }
+        Ok(false)
+    }
+
+    /// Goes back from the state where the walk is, whose row was read. If it is the root of a component, that is finished.
+    ///
+    /// Fails if there is no memory for it.
+    fn go_back<M: Meter>(
+        &mut self,
+        l: &Lts<M>,
+        blocks: &[u32],
+        lists: &mut Lists,
+    ) -> Result<(), Memory>
+        requires some { 0 < length self.old.frames }
+        requires walks { Walks l.now blocks.now lists.old self.old }
+        requires fits { Fits l.now (length lists.old) self.old }
+        requires read { HasRead self.old }
+        ensures on { OnOk result (GoesOn l.now blocks.now lists.new self.old self.new) }
+        ensures ahead { OnOk result (ahead l.now self.new ≡ ahead l.now self.old) }
+        ensures back { OnOk result (length self.new.frames < length self.old.frames) }
+    {
+        laws();
+        l.known();
+        let frame = self.frames[self.frames.len() - 1];
+        let root = self.roots[self.roots.len() - 1];
+        self.frames.pop();
+        if root.place == frame.place {
+            self.close(root, lists)?;
+        }
+        Ok(())
+    }
+
+    /// Finishes the component of this root: the last one.
+    ///
+    /// Fails if there is no memory for it.
+    fn close(&mut self, root: Root, lists: &mut Lists) -> Result<(), Memory>
+        requires open { AreOpen self.old.marks self.old.stack }
+        requires place { root.place ≤ length self.old.stack }
+        requires items { root.items ≤ length self.old.items }
+        requires there { AreThere lists.old self.old.items }
+        requires few { length lists.old + (length self.old.items - root.items) + 2 ≤ MOST_LISTS }
+        ensures { OnOk result (Closes root lists.old lists.new self.old self.new) }
+    {
+        let list = list_from(
+            &self.items[root.items..],
+            lists,
+            &mut self.numbers,
+            &mut self.pairs,
+        )?;
+        mark_members(&mut self.marks, &self.stack, root.place as usize, list);
+        self.stack.truncate(root.place as usize);
+        self.roots.pop();
+        self.items.truncate(root.items);
+        if !self.frames.is_empty() {
+            self.items.push(Item::Listed(list))?;
+        }
+        Ok(())
+    }
+}
+
+/// Marks the states on the stack from the place on as finished, with the list of this number.
+fn mark_members(marks: &mut Vec<Mark>, stack: &[u32], from: usize, list: u32)
+    requires states { All (λ s. s < length marks.old.items) stack.now }
+    requires within { from ≤ length stack.now }
+    ensures { Finishes stack.now from list marks.old.items marks.new.items }
+{
+    for p in from..stack.len() {
+        marks[stack[p] as usize] = Mark::Finished(list);
+    }
+}
+
+/// Does nothing when it runs: its contract says what inert steps lead to, and what they pass back.
+fn laws()
+    ensures { Laws }
+{
+    theory::inert_steps_lead_on();
+    theory::inert_steps_pass_signatures_back();
+}

@@ -1,0 +1,234 @@
+//! A walk over inert steps (Gabow 2000): the states that lead to each other are a component, which is on the stack until all
+//! that it leads to is finished.
+ghost use Rattle.std.specs.Prelude.{◌≡◌, ◌↔◌, ℕ, ◌+◌, ◌<◌, ◌≤◌, [], length, IsTrue, IfOk, OnOk};
+ghost use Rattle.lts.specs.declared.limits.TheConstants.{MOST_STATES};
+ghost use Rattle.inert.specs.Search.{Search, mark_at, nothing, IsIdle};
+ghost use Rattle.inert.specs.Moves.{Enters, Takes, Cuts};
+ghost use Rattle.inert.specs.Ahead.{IsTrail};
+ghost use Rattle.inert.specs.declared.walk.Mark.TheVariants.{Unseen, Open, Finished};
+ghost use Rattle.inert.specs.declared.step.Step.TheVariants.{Inert};
+
+use crate::step::Step;
+use lts::{Lts, Memory, Meter};
+use std::alloc::Global;
+use std::marker::Model;
+
+/// What the walk knows of a state.
+#[derive(Clone, Copy)]
+pub(crate) enum Mark {
+    Unseen,
+    /// On the stack, at this place.
+    Open(u32),
+    /// Finished: its signature is the list of this number.
+    Finished(u32),
+}
+
+/// A state whose row is being read: its place on the stack, and what is left of its row.
+#[derive(Clone, Copy)]
+pub(crate) struct Frame {
+    pub place: u32,
+    pub next: u32,
+    pub end: u32,
+}
+
+/// Where a component begins: the place of its root on the stack, and its first item.
+#[derive(Clone, Copy)]
+pub(crate) struct Root {
+    pub place: u32,
+    pub items: usize,
+}
+
+/// What a component has collected: a pair, or all pairs of a list.
+#[derive(Clone, Copy)]
+pub(crate) enum Item {
+    Pair(u32, u32),
+    Listed(u32),
+}
+
+/// A walk, with what it knows and has collected.
+#[derive(Drop)]
+pub(crate) struct Walk {
+    /// What is known of each state.
+    pub marks: Vec<Mark>,
+    /// The states that were seen since the marks were made or reset.
+    trail: Vec<u32>,
+    /// The states that were seen and are not finished, as they were entered.
+    pub stack: Vec<u32>,
+    /// Those of them whose rows are being read, from the first to the one where the walk is.
+    pub frames: Vec<Frame>,
+    /// Where the components on the stack begin.
+    pub roots: Vec<Root>,
+    pub items: Vec<Item>,
+    /// Where the numbers of the lists that a component leads to are put together.
+    pub numbers: Vec<u32>,
+    /// Where the pairs that a component has collected are put together.
+    pub pairs: Vec<(u32, u32)>,
+}
+
+impl Model for Walk {
+    ghost use Rattle.inert.specs.Search.{Search};
+
+    ghost Value = { Search };
+
+    ghost use Rattle.inert.specs.Ahead.{IsTrail};
+
+    ghost view = { λ w. record {
+      marks = w.marks.items;
+      stack = w.stack.items;
+      frames = w.frames.items;
+      roots = w.roots.items;
+      items = w.items.items;
+    } };
+
+    ghost invariant = { λ w. IsTrail w.marks.items w.trail.items };
+}
+
+impl Walk {
+    /// A walk that has seen nothing, with no marks yet.
+    pub fn new(alloc: Global) -> Walk
+        ensures { result ≡ nothing [] }
+    {
+        Walk {
+            marks: Vec::new(alloc),
+            trail: Vec::new(alloc),
+            stack: Vec::new(alloc),
+            frames: Vec::new(alloc),
+            roots: Vec::new(alloc),
+            items: Vec::new(alloc),
+            numbers: Vec::new(alloc),
+            pairs: Vec::new(alloc),
+        }
+    }
+
+    /// Makes the marks for so many states, unless they are there.
+    ///
+    /// Fails if there is no memory for them.
+    pub fn prepare(&mut self, alloc: Global, states: u32) -> Result<(), Memory>
+        requires idle { IsIdle self.old }
+        ensures idle { IsIdle self.new }
+        ensures size { OnOk result (length self.new.marks ≡ states) }
+    {
+        if self.marks.len() == states as usize {
+            return Ok(());
+        }
+        self.trail.clear();
+        self.marks = vec![in alloc; Mark::Unseen; states as usize]?;
+        Ok(())
+    }
+
+    /// Forgets all that was seen. It costs what was seen.
+    pub fn reset(&mut self)
+        ensures { IsIdle self.new }
+    {
+        forget(&mut self.marks, &self.trail);
+        self.trail.clear();
+        self.stack.clear();
+        self.frames.clear();
+        self.roots.clear();
+        self.items.clear();
+    }
+
+    /// Whether the state `s` was not seen.
+    pub fn is_unseen(&self, s: u32) -> bool
+        requires { s < length self.now.marks }
+        ensures { IsTrue result ↔ (mark_at self.now.marks s ≡ Unseen) }
+    {
+        match self.marks[s as usize] {
+            Mark::Unseen => true,
+            Mark::Open(_) => false,
+            Mark::Finished(_) => false,
+        }
+    }
+
+    /// The number of the list of the state `s`, which is finished.
+    pub fn list(&self, s: usize) -> u32
+        requires state { s < length self.now.marks }
+        requires finished { (k : ℕ) × (mark_at self.now.marks s ≡ Finished k) }
+        ensures { mark_at self.now.marks s ≡ Finished result }
+    {
+        match self.marks[s] {
+            Mark::Finished(list) => list,
+            Mark::Unseen => 0,
+            Mark::Open(_) => 0,
+        }
+    }
+
+    /// Enters the state `s`: it goes on the stack, as a component of its own, and its row is read from now on.
+    ///
+    /// Fails if there is no memory for it.
+    #[inline(always)]
+    pub fn enter<M: Meter>(&mut self, l: &Lts<M>, s: u32) -> Result<(), Memory>
+        requires state { s < l.now.states }
+        requires marks { length self.old.marks ≡ l.now.states }
+        requires places { length self.old.stack ≤ MOST_STATES }
+        ensures { OnOk result (Enters l.now.places s self.old self.new) }
+    {
+        let (next, end) = l.row(s);
+        let place = self.stack.len() as u32;
+        self.trail.push(s)?;
+        self.roots.push(Root {
+            place,
+            items: self.items.len(),
+        })?;
+        self.frames.push(Frame { place, next, end })?;
+        self.stack.push(s)?;
+        self.marks[s as usize] = Mark::Open(place);
+        Ok(())
+    }
+
+    /// Takes a step from the state where the walk is: what it shows is collected, and an inert one is followed. Returns
+    /// whether it enters a state.
+    ///
+    /// Fails if there is no memory for it.
+    #[inline(always)]
+    pub fn take<M: Meter>(&mut self, l: &Lts<M>, step: Step) -> Result<bool, Memory>
+        requires state { (t : ℕ) → step ≡ Inert t → t < l.now.states }
+        requires marks { length self.old.marks ≡ l.now.states }
+        requires places { length self.old.stack ≤ MOST_STATES }
+        ensures { IfOk result (Takes l.now.places step self.old self.new) }
+    {
+        match step {
+            Step::Shows(label, block) => {
+                self.items.push(Item::Pair(label, block))?;
+                return Ok(false);
+            }
+            Step::Inert(t) => {
+                match self.marks[t as usize] {
+                    Mark::Unseen => {
+                        self.enter(l, t)?;
+                        return Ok(true);
+                    }
+                    Mark::Open(place) => {
+                        cut(&mut self.roots, place);
+                        return Ok(false);
+                    }
+                    Mark::Finished(list) => {
+                        self.items.push(Item::Listed(list))?;
+                        return Ok(false);
+                    }
+                }
+            }
+        }
+    }
+}
+
+/// Makes unseen each of these states.
+fn forget(marks: &mut Vec<Mark>, trail: &[u32])
+    requires { IsTrail marks.old.items trail.now }
+    ensures { (s : ℕ) → mark_at marks.new.items s ≡ Unseen }
+{
+    for s in trail {
+        marks[*s as usize] = Mark::Unseen;
+    }
+}
+
+/// Drops the roots above the place.
+fn cut(roots: &mut Vec<Root>, place: u32)
+    ensures { Cuts place roots.old.items roots.new.items }
+{
+    let mut kept = roots.len();
+    while kept > 0 && roots[kept - 1].place > place {
+        kept -= 1;
+    }
+    roots.truncate(kept);
+}

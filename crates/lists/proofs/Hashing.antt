@@ -1,0 +1,95 @@
+-- One list more in the table: it begins the chain of its bucket.
+use Rattle.std.proofs.Common.{◌≡◌, ◌∙◌, ℕ, ◌+◌, ◌<◌, List, [], ◌∷◌, ◌++◌, length, get_or, set, ap, sym, subst, inl, inr, arith}
+use Rattle.std.proofs.lemmas.Bool.{cases_lt, cases_eq}
+use Rattle.std.proofs.lemmas.List.{length-set, length_push, get_or_append_left, get_or_push}
+use Rattle.lists.specs.declared.hashed.Entry.{Entry}
+use Rattle.lists.specs.Lists.{list_at}
+use Rattle.lists.specs.Hashed.{print_of, bucket_of, bucket_at, before_at, entry_at, IsChained, IsHashed, IsNew}
+use Rattle.lists.proofs.Chains.{IsChained-push}
+
+-- entries with one more at the end
+module _ (entries : List Entry) (new : Entry) where
+  entry-old : (r : ℕ) → r < length entries → entry_at (entries ++ new ∷ []) r ≡ entry_at entries r
+  entry-old r h = get_or_append_left entries (new ∷ []) _ r h
+
+  entry-new : (r : ℕ) → r ≡ length entries → entry_at (entries ++ new ∷ []) r ≡ new
+  entry-new r e = get_or_push entries new _ r (sym e)
+
+module _ (lists : List (List (ℕ × ℕ))) (list : List (ℕ × ℕ)) where
+  pub list-old : (r : ℕ) → r < length lists → list_at (lists ++ list ∷ []) r ≡ list_at lists r
+  list-old r h = get_or_append_left lists (list ∷ []) [] r h
+
+  pub list-new : (r : ℕ) → r ≡ length lists → list_at (lists ++ list ∷ []) r ≡ list
+  list-new r e = get_or_push lists list [] r (sym e)
+
+-- the new list
+module _ (lists : List (List (ℕ × ℕ))) (heads : List ℕ) (entries : List Entry) (list : List (ℕ × ℕ)) (new : Entry) (b : ℕ)
+    (is : IsHashed lists heads entries) (some : 0 < length lists) (first : list_at lists 0 ≡ list → ⊥) (absent : IsNew lists list)
+    (print : new.print ≡ print_of list) (at_b : b ≡ bucket_of (length heads) new.print) (below : b < length heads)
+    (before : new.before ≡ get_or heads b 0) where
+  IsChained-new : IsChained (length lists + 1) (bucket_at (entries ++ new ∷ []) (set heads b (length lists))) (before_at (entries ++ new ∷ []))
+      (set heads b (length lists))
+  IsChained-new =
+      let size = length-set heads b (length lists) in
+      let count = is.size in
+      IsChained-push (length lists) (bucket_at entries heads) (before_at entries)
+      (bucket_at (entries ++ new ∷ []) (set heads b (length lists))) (before_at (entries ++ new ∷ [])) heads b is.chained some below
+      (λ r h. ap (λ n. bucket_of n (entry_at (entries ++ new ∷ []) r).print) size
+      ∙ ap (λ x. bucket_of (length heads) x.print) (entry-old entries new r (omega arith)))
+      (λ r h. ap (λ x. x.before) (entry-old entries new r (omega arith)))
+      (ap (λ n. bucket_of n (entry_at (entries ++ new ∷ []) (length lists)).print) size
+      ∙ ap (λ x. bucket_of (length heads) x.print) (entry-new entries new (length lists) (sym count)) ∙ sym at_b)
+      (ap (λ x. x.before) (entry-new entries new (length lists) (sym count)) ∙ before)
+
+  prints-push : (r : ℕ) → 0 < r → r < length (lists ++ list ∷ [])
+      → (entry_at (entries ++ new ∷ []) r).print ≡ print_of (list_at (lists ++ list ∷ []) r)
+  prints-push r p h =
+      let longer = length_push lists list in
+      let count = is.size in
+      elim (cases_lt r (length lists)) [
+        | inl o ↦ ap (λ x. x.print) (entry-old entries new r (omega arith)) ∙ is.prints r p o ∙ ap print_of (sym (list-old lists list r o))
+        | inr n ↦
+            let last : r ≡ length lists = omega arith in
+            ap (λ x. x.print) (entry-new entries new r (last ∙ sym count)) ∙ print ∙ ap print_of (sym (list-new lists list r last))
+      ]
+
+  -- no old list is the new one
+  apart : (q r : ℕ) → q < length lists → r ≡ length lists → list_at (lists ++ list ∷ []) q ≡ list_at (lists ++ list ∷ []) r → ⊥
+  apart q r o last e =
+      let same : list_at lists q ≡ list = sym (list-old lists list q o) ∙ e ∙ list-new lists list r last in
+      elim (cases_eq q 0) [
+        | inl z ↦ first (ap (list_at lists) (sym z) ∙ same)
+        | inr p ↦ absent q (omega (arith, p)) o same
+      ]
+
+  different-push : (q r : ℕ) → q < length (lists ++ list ∷ []) → r < length (lists ++ list ∷ [])
+      → list_at (lists ++ list ∷ []) q ≡ list_at (lists ++ list ∷ []) r → q ≡ r
+  different-push q r d h e =
+      let longer = length_push lists list in
+      elim (cases_lt q (length lists)) [
+        | inl oq ↦ elim (cases_lt r (length lists)) [
+          | inl or ↦ is.different q r oq or (sym (list-old lists list q oq) ∙ e ∙ list-old lists list r or)
+          | inr nr ↦ absurd (apart q r oq (omega arith) e)
+        ]
+        | inr nq ↦ elim (cases_lt r (length lists)) [
+          | inl or ↦ absurd (apart r q or (omega arith) (sym e))
+          | inr nr ↦ omega arith
+        ]
+      ]
+
+  pub IsHashed-push : IsHashed (lists ++ list ∷ []) (set heads b (length lists)) (entries ++ new ∷ [])
+  IsHashed-push =
+      let longer = length_push lists list in
+      let more = length_push entries new in
+      let buckets = length-set heads b (length lists) in
+      let count = is.size in
+      record {
+        some_buckets = let some = is.some_buckets in omega arith;
+        few_buckets = let few = is.few_buckets in omega arith;
+        size = omega arith;
+        prints = prints-push;
+        different = different-push;
+        chained =
+            subst (λ n. IsChained n (bucket_at (entries ++ new ∷ []) (set heads b (length lists))) (before_at (entries ++ new ∷ []))
+            (set heads b (length lists))) (sym longer) IsChained-new;
+      }

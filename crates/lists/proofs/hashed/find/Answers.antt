@@ -1,0 +1,30 @@
+use Rattle.std.proofs.Common.{◌≡◌, ◌∙◌, ◌<◌, ap, sym, arith}
+use Rattle.std.proofs.lemmas.Bool.{both_ways}
+use Rattle.lists.specs.Lists.{list_at, merged}
+use Rattle.lists.specs.Hashed.{print_of}
+use Rattle.lists.proofs.Searching.{none-above-before}
+use Rattle.lists.proofs.hashed.find.Goals as goal
+use Rattle.lists.proofs.hashed.find.Goals.{else-entry-print-via-then-entry-print+else-is_extended, else-entry-print-via-else-entry-print}
+
+-- the list that was looked at is another one
+other : (c : goal.Joined-else-entry-print) → list_at c.args.lists.now c.loop-r.r ≡ merged (list_at c.args.lists.now c.args.k) c.args.pairs.now → ⊥
+other c a = elim c.else-entry-print.branch [
+  | else-entry-print-via-then-entry-print+else-is_extended w ↦ both_ways w.is_extended.result w.if-is_extended.false (w.is_extended.ensures.1 a)
+  | else-entry-print-via-else-entry-print w ↦
+      let some : 0 < c.loop-r.r = let h = c.loop-r-test.true in omega arith in
+      w.if-entry-print.false (c.requires.hashed.prints c.loop-r.r some c.loop-r.invariant.below ∙ ap print_of a ∙ sym c.requires.print)
+]
+
+pub loop-r-preserved : goal.loop-r-preserved
+loop-r-preserved c =
+    let chained = c.requires.hashed.chained in
+    let r = c.loop-r.r in
+    let some : 0 < r = let h = c.loop-r-test.true in omega arith in
+    let lower = chained.before_below r some c.loop-r.invariant.below in
+    record {
+      below = let h = c.loop-r.invariant.below in omega arith;
+      fits = λ p. chained.before_fit r some c.loop-r.invariant.below p ∙ c.loop-r.invariant.fits some;
+      above =
+          none-above-before c.args.lists.now c.args.heads.now c.args.entries.now _ c.args.print c.requires.hashed c.requires.print
+          r some c.loop-r.invariant.below (c.loop-r.invariant.fits some) (other c) c.loop-r.invariant.above;
+    }

@@ -1,0 +1,15 @@
+use Rattle.std.proofs.Common.{◌≡◌, ◌<◌, length}
+use Rattle.lists.specs.Lists.{list_at, merged}
+use Rattle.lists.specs.Hashed.{bucket_of, bucket_at}
+use Rattle.lists.proofs.Searching.{NoneAbove}
+use Rattle.lists.proofs.hashed.find.Given as goal
+
+abbrev pub invariant-loop-r : goal.invariant-loop-r
+invariant-loop-r l = record {
+  below : l.r < length l.lists;
+  fits : 0 < l.r → bucket_at l.entries l.heads l.r ≡ bucket_of (length l.heads) l.print;
+  above : NoneAbove l.lists (merged (list_at l.lists l.k) l.pairs) l.r;
+}
+
+abbrev pub decreases-loop-r : goal.decreases-loop-r
+decreases-loop-r l = l.r

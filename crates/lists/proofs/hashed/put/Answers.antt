@@ -1,0 +1,33 @@
+use Rattle.std.proofs.Common.{◌≡◌, ◌∙◌, ℕ, [], ◌∷◌, ◌++◌, List, length, set, ap, sym, arith}
+use Rattle.std.proofs.lemmas.List.{get_or_read}
+use Rattle.lists.specs.declared.hashed.Entry.{Entry}
+use Rattle.lists.specs.Lists.{list_at, merged}
+use Rattle.lists.specs.Hashed.{bucket_of, IsHashed}
+use Rattle.lists.proofs.Merging.{merged_some}
+use Rattle.lists.proofs.Hashing.{IsHashed-push}
+use Rattle.lists.proofs.hashed.put.Goals as goal
+use Rattle.lists.proofs.hashed.put.Goals.{After-push_reserved}
+
+module _ (c : After-push_reserved) where
+  abbrev list : List (ℕ × ℕ)
+  list = merged (list_at c.args.lists.now c.args.k) c.args.pairs.now
+
+  abbrev new : Entry
+  new = record { print = c.args.print; before = c.index.result.now }
+
+  size : c.len.result ≡ length c.args.heads.now.items
+  size = omega (arith, c.len.ensures, c.args.heads.now.ok.0)
+
+  grown : IsHashed (c.args.lists.now ++ list ∷ []) (set c.args.heads.now.items c.bucket-b.result (length c.args.lists.now))
+      (c.args.entries.now.items ++ new ∷ [])
+  grown =
+      IsHashed-push c.args.lists.now c.args.heads.now.items c.args.entries.now.items list new c.bucket-b.result c.requires.hashed
+      c.known.ensures.some
+      (λ e. merged_some (list_at c.args.lists.now c.args.k) c.args.pairs.now c.requires.some (sym c.known.ensures.first ∙ e))
+      c.requires.absent c.requires.print (c.bucket-b.ensures.value ∙ ap (λ n. bucket_of n c.args.print) size)
+      (omega (arith, c.bucket-b.ensures.below, size))
+      (get_or_read c.args.heads.now.items _ _ (omega (arith, c.bucket-b.ensures.below, size)) c.index.ensures 0)
+
+pub returns-clause-hashed : goal.returns-clause-hashed
+returns-clause-hashed c =
+    rw (c.in_ok-number.ensures.added, c.push_reserved.ensures.items, c.reserve.ensures.items, c.in_ok-number.ensures.number) (grown ((goal.at.returns-clause-hashed c).After-push_reserved))

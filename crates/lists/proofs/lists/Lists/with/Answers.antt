@@ -1,0 +1,45 @@
+use Rattle.std.proofs.Common.{◌∙◌, ◌⊎◌, ◌↔◌, Contains, ap, sym, subst, refl}
+use Rattle.std.proofs.lemmas.Result.{IfOk-weaker}
+use Rattle.lists.specs.Lists.{list_at, merged}
+use Rattle.lists.proofs.Merging.{merged_has}
+use Rattle.lists.proofs.Uniting.{AreUnions-grow, with_none, with_lacked}
+use Rattle.lists.proofs.lists.Lists.with.Goals as goal
+
+pub returns-then-k-eq-EMPTY-clause-exactly : goal.returns-then-k-eq-EMPTY-clause-exactly
+returns-then-k-eq-EMPTY-clause-exactly c =
+    IfOk-weaker c.push.result _ _
+    (λ i e z. with_none z _ _ _ (ap (list_at c.args.self.now) c.if-k-eq-EMPTY.true ∙ c.known.ensures.first) e) c.push.ensures.list
+
+pub invariant_of-self-in_err-own : goal.invariant_of-self-in_err-own
+invariant_of-self-in_err-own c = AreUnions-grow c.push-2.ensures.grow c.self.inside.known c.self.invariant
+
+pub invariant_of-self-2 : goal.invariant_of-self-2
+invariant_of-self-2 c = AreUnions-grow c.push-2.ensures.grow c.self.inside.known c.self.invariant
+
+pub returns-clause-exactly : goal.returns-clause-exactly
+returns-clause-exactly c =
+    rw (← c.self.view_is)
+    (IfOk-weaker c.both.result _ _
+    (λ i h z.
+    with_lacked z (list_at c.self.inside.lists c.args.k) _ _ _ _ _ (c.in_ok-own.ensures.grow.same c.args.k (rw c.self.view_is c.requires.list))
+    (c.in_ok-own.ensures.list ∙ c.deref-2.ensures.value) (c.in_ok-lack.ensures.exactly z) (h z))
+    c.both.ensures.exactly)
+
+-- the pairs are added to the list at once
+pub add-requires-clause-apart : goal.add-requires-clause-apart
+add-requires-clause-apart c = rw c.deref.ensures.value (λ z b d. ((c.in_ok-lack.ensures.exactly z).0 d).1 b)
+
+pub invariant_of-self-then-addition-len : goal.invariant_of-self-then-addition-len
+invariant_of-self-then-addition-len c = AreUnions-grow c.add.ensures.grow c.self.inside.known c.self.invariant
+
+pub returns-then-addition-len-clause-exactly : goal.returns-then-addition-len-clause-exactly
+returns-then-addition-len-clause-exactly c =
+    let before = list_at c.self.inside.lists c.args.k in
+    let missing = c.lack.new.missing.items in
+    rw (← c.self.view_is)
+    (IfOk-weaker c.add.result _ _
+    (λ i e z.
+    with_lacked z before before missing missing c.args.pairs.now _ refl refl (c.in_ok-lack.ensures.exactly z)
+    (subst (λ l. Contains l z ↔ (Contains before z ⊎ Contains missing z)) (sym (e ∙ ap (merged before) c.deref.ensures.value))
+    (merged_has z before missing)))
+    c.add.ensures.list)

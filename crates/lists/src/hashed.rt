@@ -1,0 +1,100 @@
+//! The table that different lists are found in (hash-consing): each list has an entry, and those of one bucket are chained.
+ghost use Rattle.std.specs.Prelude.{◌≡◌, ℕ, ◌/◌, ◌*◌, ◌^◌, ◌++◌, ◌∷◌, ◌<◌, ◌≤◌, [], length, IfOk, OnOk, OnErr, MatchOption};
+ghost use Rattle.std.specs.List.Sorted.{IsStrictlySortedBy};
+ghost use Rattle.lists.specs.Lists.{pair_cmp, list_at, merged, Apart};
+ghost use Rattle.lists.specs.Hashed.{print_of, bucket_of, IsHashed, IsNew, IsNumberOf};
+ghost use Rattle.lists.specs.declared.lists.TheConstants.{MOST_LISTS};
+
+use crate::chained::Chained;
+use growth::Memory;
+
+/// How a list is found.
+#[derive(Clone, Copy)]
+pub(crate) struct Entry {
+    /// The upper half of the fingerprint of the list.
+    pub print: u32,
+    /// The number of the list before this one in the same bucket, or 0 if there is none.
+    pub before: u32,
+}
+
+/// The entry of the empty list, which is in no bucket.
+pub(crate) fn first_entry() -> Entry {
+    Entry {
+        print: 0,
+        before: 0,
+    }
+}
+
+/// The bucket of a print, if there are so many buckets.
+fn bucket(print: u32, buckets: usize) -> usize
+    requires some { 0 < buckets }
+    requires few { buckets < 2 ^ 32 }
+    ensures value { result ≡ bucket_of buckets print }
+    ensures below { result < buckets }
+{
+    (u64::from(print) * buckets as u64 / 0x1_0000_0000) as usize
+}
+
+/// The number of the list that is the list number `k` with these pairs, if there is one.
+pub(crate) fn find(
+    lists: &Chained,
+    heads: &[u32],
+    entries: &[Entry],
+    k: u32,
+    pairs: &[(u32, u32)],
+    print: u32,
+) -> Option<u32>
+    requires hashed { IsHashed lists.now heads.now entries.now }
+    requires list { k < length lists.now }
+    requires rising { IsStrictlySortedBy pair_cmp pairs.now }
+    requires apart { Apart (list_at lists.now k) pairs.now }
+    requires print { print ≡ print_of (merged (list_at lists.now k) pairs.now) }
+    ensures { let list = merged (list_at lists.now k) pairs.now in
+        MatchOption result (IsNew lists.now list) (IsNumberOf lists.now list) }
+{
+    let mut r = heads[bucket(print, heads.len())];
+    while r != 0 {
+        let entry = &entries[r as usize];
+        if entry.print == print && lists.is_extended(r, k, pairs) {
+            return Some(r);
+        }
+        r = entry.before;
+    }
+    None
+}
+
+/// Appends a list that is not there, the list number `k` with these pairs, and returns its number.
+///
+/// Fails if there is no memory for it. The lists are then as they were.
+pub(crate) fn put(
+    lists: &mut Chained,
+    heads: &mut Vec<u32>,
+    entries: &mut Vec<Entry>,
+    k: u32,
+    pairs: &[(u32, u32)],
+    print: u32,
+) -> Result<u32, Memory>
+    requires hashed { IsHashed lists.old heads.old.items entries.old.items }
+    requires few { length lists.old < MOST_LISTS }
+    requires list { k < length lists.old }
+    requires rising { IsStrictlySortedBy pair_cmp pairs.now }
+    requires some { 0 < length pairs.now }
+    requires apart { Apart (list_at lists.old k) pairs.now }
+    requires print { print ≡ print_of (merged (list_at lists.old k) pairs.now) }
+    requires absent { IsNew lists.old (merged (list_at lists.old k) pairs.now) }
+    ensures hashed { IsHashed lists.new heads.new.items entries.new.items }
+    ensures added { OnOk result (lists.new ≡ lists.old ++ merged (list_at lists.old k) pairs.now ∷ []) }
+    ensures number { IfOk result (λ j. j ≡ length lists.old) }
+    ensures err { OnErr result (lists.new ≡ lists.old) }
+{
+    lists.known();
+    entries.reserve(1)?;
+    let number = lists.add(k, pairs)?;
+    let b = bucket(print, heads.len());
+    entries.push_reserved(Entry {
+        print,
+        before: heads[b],
+    });
+    heads[b] = number;
+    Ok(number)
+}

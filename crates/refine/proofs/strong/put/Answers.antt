@@ -1,0 +1,40 @@
+use Rattle.std.proofs.Common.{◌≡◌, ◌∙◌, ◌↔◌, Contains, sym, subst, inl, inr}
+use Rattle.std.proofs.lemmas.Bool.{iff_false}
+use Rattle.theory.specs.Bisimulation.Relation.{strong}
+use Rattle.lists.specs.Lists.{list_at}
+use Rattle.inert.specs.Signed.{IsSignature}
+use Rattle.refine.specs.Settled.{HasFrom}
+use Rattle.refine.proofs.StrongRow.{row_signature, row_touched, row_still}
+use Rattle.refine.proofs.strong.put.Goals as goal
+use Rattle.refine.proofs.strong.put.Goals.{then-not-touched-via-then-not-touched, then-not-touched-via-else-not-touched+then-alone}
+
+pub returns-then-not-touched-clause-put : goal.returns-then-not-touched-clause-put
+returns-then-not-touched-clause-put g c =
+    let l = c.args.l.now in
+    inr (
+      c.known-2.ensures.first,
+      elim c.then-not-touched.branch [
+        | then-not-touched-via-then-not-touched w ↦
+            inl (row_still l c.args.p.now c.args.s c.known.ensures (c.rows_are_steps.ensures.sources c.args.s l.places)
+            (c.rows_are_steps.ensures.steps l c.args.s) c.args.low
+            (subst (λ xs. HasFrom c.args.low xs → ⊥) c.in_ok-touched.ensures.pairs
+            (iff_false c.in_ok-touched.ensures.touched w.if-not-touched.true)))
+        | then-not-touched-via-else-not-touched+then-alone w ↦ inr w.if-alone.true
+      ],
+    )
+
+pub returns-clause-put : goal.returns-clause-put
+returns-clause-put g c =
+    let l = c.args.l.now in
+    let pairs = c.order.new.pairs.items in
+    let touched =
+    row_touched l c.args.p.now c.args.s c.known.ensures (c.rows_are_steps.ensures.sources c.args.s l.places)
+    (c.rows_are_steps.ensures.steps l c.args.s) c.args.low
+    (subst (HasFrom c.args.low) c.in_ok-touched.ensures.pairs
+    (c.in_ok-touched.ensures.touched.0 c.if-not-touched.false)) in
+    let signed =
+    row_signature l c.args.p.now c.args.s c.known.ensures (c.rows_are_steps.ensures.sources c.args.s l.places)
+    (c.rows_are_steps.ensures.steps l c.args.s) pairs c.order.ensures.rising
+    (λ z. subst (λ xs. Contains pairs z ↔ Contains xs z) c.in_ok-touched.ensures.pairs (c.order.ensures.same z)) in
+    let at : list_at c.push.new.self c.in_ok-list.list ≡ pairs = c.in_ok-list.ensures.list ∙ c.deref.ensures.value in
+    inl (touched, subst (IsSignature strong l c.args.p.now c.args.s) (sym at) signed)
