@@ -1,5 +1,5 @@
 //! Different lists of pairs that are looked up by their numbers, and unions of them.
-ghost use Rattle.std.specs.Prelude.{◌≡◌, ◌⊎◌, ◌↔◌, ℕ, ◌+◌, ◌++◌, ◌∷◌, ◌<◌, ◌≤◌, [], length, IfOk, OnOk};
+ghost use Rattle.std.specs.Prelude.{◌≡◌, ◌⊎◌, ◌↔◌, ℕ, ◌+◌, ◌++◌, ◌∷◌, ◌<◌, ◌≤◌, [], length, IfOk, OnOk, OnErr};
 ghost use Rattle.std.specs.List.{Contains};
 ghost use Rattle.std.specs.List.Sorted.{IsStrictlySortedBy};
 ghost use Rattle.lists.specs.Lists.{pair_cmp, list_at, AreLists, AreNumbers, Grow, HasOne};
@@ -73,10 +73,11 @@ impl Lists {
 
     /// Appends the list number `k` to `pairs`.
     ///
-    /// Fails if there is no memory for it.
+    /// Fails if there is no memory for it. `pairs` has then what it had.
     pub fn append(&self, k: u32, pairs: &mut Vec<(u32, u32)>) -> Result<(), Memory>
         requires { k < length self.now }
-        ensures { OnOk result (pairs.new.items ≡ pairs.old.items ++ list_at self.now k) }
+        ensures appended { OnOk result (pairs.new.items ≡ pairs.old.items ++ list_at self.now k) }
+        ensures err { OnErr result (pairs.new.items ≡ pairs.old.items) }
     {
         self.lists.append(k, pairs)
     }
