@@ -1,4 +1,4 @@
-//! Lists of pairs that are looked up by their numbers. A list that is made from another one is kept as what it adds to it.
+//! Lists of pairs, each kept as what it adds to an earlier one, its base: the layer above `parts`.
 ghost use Rattle.std.specs.Prelude.{◌≡◌, ◌⊎◌, ◌↔◌, ℕ, ◌+◌, ◌*◌, ◌++◌, ◌∷◌, ◌<◌, ◌≤◌, [], length, slice_index, IfOk, OnOk, OnErr, IsTrue};
 ghost use Rattle.std.specs.List.{Contains};
 ghost use Rattle.std.specs.List.Sorted.{IsStrictlySortedBy};
@@ -24,7 +24,7 @@ pub(crate) struct Chained {
     parts: Parts,
     /// The number of each list's base, which is an earlier list, or `EMPTY` if the list stands alone. It ends with the last list
     /// that has another base: if all lists stand alone, nothing is kept or read here. A list adds at most half as many pairs as
-    /// its base, so that chains are short.
+    /// its base adds to its own one, so that chains are short.
     bases: Vec<u32>,
 }
 
@@ -298,8 +298,9 @@ impl Chained {
         self.push(base, &added)
     }
 
-    /// The list number `k` with these pairs, which it lacks, as a list of its chain and pairs that this one lacks: as long
-    /// as that one adds less than twice as many to its base, they are put together. If `all` are to be, the list is the empty one.
+    /// The list number `k` with these pairs, which it lacks, as a list of its chain and pairs that this one lacks. As long as a
+    /// list of the chain adds less than twice as many pairs to its base, both are merged. If `all` are to be merged, the base is
+    /// the empty list.
     ///
     /// Fails if there is no memory for it.
     fn gather(

@@ -1,4 +1,5 @@
-//! Different lists of pairs: a list that is asked for again has the number that it got the first time.
+//! Different lists of pairs, so that a list that is asked for again has the number that it got the first time: the layer above
+//! `chained`.
 ghost use Rattle.std.specs.Prelude.{◌≡◌, ◌⊎◌, ◌↔◌, ℕ, ◌+◌, ◌++◌, ◌∷◌, ◌<◌, ◌≤◌, [], length, IfOk, OnOk, OnErr};
 ghost use Rattle.std.specs.List.{Contains};
 ghost use Rattle.std.specs.List.Sorted.{IsStrictlySortedBy};

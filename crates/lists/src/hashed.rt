@@ -1,4 +1,4 @@
-//! The table that different lists are found in (hash-consing): each list has an entry, and those of one bucket are chained.
+//! The table that `distinct` finds its lists in (hash-consing): each list has an entry, and those of one bucket are chained.
 ghost use Rattle.std.specs.Prelude.{◌≡◌, ℕ, ◌/◌, ◌*◌, ◌^◌, ◌++◌, ◌∷◌, ◌<◌, ◌≤◌, [], length, IfOk, OnOk, OnErr, MatchOption};
 ghost use Rattle.lists.specs.Lists.{list_at, merged};
 ghost use Rattle.lists.specs.Hashed.{bucket_of, IsHashed, IsSought, IsNew, IsNumberOf};
