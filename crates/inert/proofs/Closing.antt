@@ -1,12 +1,12 @@
 -- The walk after its last component was finished.
-use Rattle.std.proofs.Common.{◌≡◌, ◌⊎◌, ℕ, ◌+◌, ◌-◌, ◌<◌, ◌≤◌, List, [], ◌∷◌, ◌++◌, length, take, slice_index, Contains, refl, sym, ◌∙◌, ap, subst, inl, inr, arith}
+use Rattle.std.proofs.Common.{◌≡◌, ◌⊎◌, ℕ, ◌+◌, ◌-◌, ◌<◌, ◌≤◌, Bool, List, [], ◌∷◌, ◌++◌, length, take, slice_index, Contains, refl, sym, ◌∙◌, ap, subst, inl, inr, arith}
 use Rattle.std.proofs.lemmas.Bool.{cases_eq, cases_lt}
 use Rattle.std.proofs.lemmas.List.{get_or-take, length-drop, length-take-le, get_or_append_left, get_or_push, length_push}
 use Rattle.theory.specs.Bisimulation.Relation.{branching}
 use Rattle.lts.specs.Lts.{Grouped, place_at, IsLts, IsRow}
 use Rattle.lists.specs.Lists.{list_at, Grow}
 use Rattle.inert.specs.Signed.{HasPair, IsSignature}
-use Rattle.inert.specs.Search.{Search, Laws, mark_at, frame_at, top, root_at, item_at, Begins, Ties, IsOf, IsThere, Gives, Holds, IsHere, IsHeld, IsEntered, AreOpen, AreSigned, AreRoots, AreFrames, AreThere, AreSound, AreAccounted, Connects, Walks}
+use Rattle.inert.specs.Search.{Search, Laws, mark_at, frame_at, top, root_at, item_at, Begins, Ties, IsOf, IsThere, Gives, Holds, IsHere, IsHeld, IsEntered, AreOpen, IsSigned, AreSigned, AreRoots, AreFrames, AreThere, AreSound, AreAccounted, Connects, Walks}
 use Rattle.inert.specs.Moves.{Finishes, Closes, HasRead, popped, weight}
 use Rattle.inert.specs.Ahead.{is_unseen}
 use Rattle.inert.specs.declared.walk.Mark.TheVariants.{Open, Finished}
@@ -30,30 +30,46 @@ Gives-shrink lists lists' grow (Listed k) there z g = subst (λ xs. Contains xs 
 IsThere-grow : (lists lists' : List (List (ℕ × ℕ))) → Grow lists lists' → (x : Item) → IsThere lists x → IsThere lists' x
 IsThere-grow lists lists' grow x there k is = let low = there k is in let longer = grow.longer in omega (arith, low, longer)
 
+-- so does the list of a state
+IsSigned-grow : (l : Grouped) (blocks : List ℕ) (alone : List Bool) (s : ℕ) (lists lists' : List (List (ℕ × ℕ))) → Grow lists lists' → (k : ℕ)
+    → IsSigned l blocks alone s lists k → IsSigned l blocks alone s lists' k
+IsSigned-grow l blocks alone s lists lists' grow k was =
+    let longer = grow.longer in
+    let low = was.within in
+    let same = grow.same k low in
+    record {
+      within = omega (arith, low, longer);
+      sound = λ z c. was.sound z (subst (λ xs. Contains xs z) same c);
+      whole = elim was.whole [
+        | inl signature ↦ inl (subst (IsSignature branching l blocks s) (sym same) signature)
+        | inr known ↦ inr known
+      ];
+    }
+
 number_same : (j k : ℕ) → Listed j ≡ Listed k → j ≡ k
 number_same j k e = cc
 
-module _ (laws : Laws) (l : Grouped) (lts : IsLts l) (blocks : List ℕ) (lists lists' : List (List (ℕ × ℕ))) (w new : Search) (walks : Walks l blocks lists w)
+module _ (laws : Laws) (l : Grouped) (lts : IsLts l) (blocks : List ℕ) (alone : List Bool) (lists lists' : List (List (ℕ × ℕ))) (w new : Search) (walks : Walks l blocks alone lists w)
     (some : 0 < length w.frames) (read : HasRead w) (place : (root_at w.roots (length w.roots - 1)).place ≡ (top w.frames).place)
     (closes : Closes (root_at w.roots (length w.roots - 1)) lists lists' (popped w) new) where
   -- its place, which is that of the last frame, and where its items begin
   abbrev q : ℕ
-  q = f0 laws l lts blocks lists w walks some read place
+  q = f0 laws l lts blocks alone lists w walks some read place
 
   abbrev c0 : ℕ
-  c0 = (last laws l lts blocks lists w walks some read place).items
+  c0 = (last laws l lts blocks alone lists w walks some read place).items
 
   low_q : q < length w.stack
-  low_q = within laws l lts blocks lists w walks some read place
+  low_q = within laws l lts blocks alone lists w walks some read place
 
   begins : Begins w.roots q c0
-  begins = this laws l lts blocks lists w walks some read place
+  begins = this laws l lts blocks alone lists w walks some read place
 
   few : c0 ≤ length w.items
-  few = few_items laws l lts blocks lists w walks some read place
+  few = few_items laws l lts blocks alone lists w walks some read place
 
   roots : 0 < length w.roots
-  roots = roots_some l blocks lists w walks (stack_some l blocks lists w walks some)
+  roots = roots_some l blocks alone lists w walks (stack_some l blocks alone lists w walks some)
 
   old_one : (f c : ℕ) → Begins new.roots f c → Begins w.roots f c × (f < q)
   old_one f c b =
@@ -212,7 +228,7 @@ module _ (laws : Laws) (l : Grouped) (lts : IsLts l) (blocks : List ℕ) (lists 
     | inr high ↦ (let le = down q c0 begins high in absurd (omega (arith, le, lp)))
   ]
   met_still p lp t (inr (inl (k, is, all))) =
-      let low = (walks.signed t k is).0 in
+      let low = (walks.signed t k is).within in
       inr (inl (k, stays_finished t k is, λ z c. holds_still p lp z (all z (subst (λ xs. Contains xs z) (closes.listed.grow.same k low) c))))
   met_still p lp t (inr (inr (i, low, is, to))) = elim (cases_eq (i + 1) (length w.frames - 1)) [
     | inl e ↦
@@ -235,8 +251,8 @@ module _ (laws : Laws) (l : Grouped) (lts : IsLts l) (blocks : List ℕ) (lists 
         ))
   ]
 
-  exact_here : (p : ℕ) → q ≤ p → p < length w.stack → IsSignature branching l blocks (slice_index w.stack p) (list_at lists' closes.number)
-  exact_here = exact laws l lts blocks lists w walks some read place lists' closes.number closes.listed
+  exact_here : (p : ℕ) → q ≤ p → p < length w.stack → IsSigned l blocks alone (slice_index w.stack p) lists' closes.number
+  exact_here = exact laws l lts blocks alone lists w walks some read place lists' closes.number closes.listed
 
   opened : AreOpen new.marks new.stack
   opened = record {
@@ -253,23 +269,19 @@ module _ (laws : Laws) (l : Grouped) (lts : IsLts l) (blocks : List ℕ) (lists 
     ];
   }
 
-  signed : AreSigned l blocks lists' new.marks
+  signed : AreSigned l blocks alone lists' new.marks
   signed s k is = elim (marks.others s) [
     | inl e ↦
-        let was = walks.signed s k (sym e ∙ is) in
-        let longer = closes.listed.grow.longer in
-        (omega (arith, was.0, longer), subst (IsSignature branching l blocks s) (sym (closes.listed.grow.same k was.0)) was.1)
+        IsSigned-grow l blocks alone s lists lists' closes.listed.grow k (walks.signed s k (sym e ∙ is))
     | inr (m, from, high, same) ↦
-        let e : closes.number ≡ k = list_same closes.number k (sym (marks.members m from high) ∙ ap (mark_at new.marks) same ∙ is) in (
-          subst (λ x. x < length lists') e closes.listed.within,
-          subst (λ x. IsSignature branching l blocks x (list_at lists' k)) same
-              (subst (λ x. IsSignature branching l blocks (slice_index w.stack m) (list_at lists' x)) e (exact_here m from high)),
-        )
+        let e : closes.number ≡ k = list_same closes.number k (sym (marks.members m from high) ∙ ap (mark_at new.marks) same ∙ is) in
+        subst (λ x. IsSigned l blocks alone x lists' k) same
+        (subst (IsSigned l blocks alone (slice_index w.stack m) lists') e (exact_here m from high))
   ]
 
   roots_left : AreRoots new
   roots_left = record {
-    first = λ h. (let e = size in keep 0 0 (walks.roots.first (stack_some l blocks lists w walks some)) (omega (arith, h, e)));
+    first = λ h. (let e = size in keep 0 0 (walks.roots.first (stack_some l blocks alone lists w walks some)) (omega (arith, h, e)));
     rising = subst (λ xs. (i j : ℕ) → i < j → j < length xs → (root_at xs i).place < (root_at xs j).place) (sym closes.roots) (popped_rising w.roots walks.roots.rising roots);
     framed = λ f c b.
         let o = old_one f c b in
@@ -354,7 +366,7 @@ module _ (laws : Laws) (l : Grouped) (lts : IsLts l) (blocks : List ℕ) (lists 
               subst (λ s. HasPair branching l blocks s z.0 z.1) (sym (state_same back less))
               (pair_before laws l blocks (slice_index w.stack back) (slice_index w.stack q) z
               (walks.connects back q (omega (arith, less, low_q)) low_q (λ f c b le. omega (arith, le, less)))
-              (((exact_here q (omega arith) low_q).exactly z.0 z.1).0
+              ((exact_here q (omega arith) low_q).sound z
               (subst (λ x. Gives lists' x z) (item_new led) (subst (λ i. Gives lists' (item_at new.items i) z) (sym e) g)))),
         )
   ]
@@ -386,7 +398,7 @@ module _ (laws : Laws) (l : Grouped) (lts : IsLts l) (blocks : List ℕ) (lists 
             omega (arith, same, made, taken, e, f, g, low_q, items, none)
       ]
 
-  pub Walks-close : Walks l blocks lists' new
+  pub Walks-close : Walks l blocks alone lists' new
   Walks-close = record {
     numbers =
         let same = unseen-same w.marks new.marks marks.size same_unseen in

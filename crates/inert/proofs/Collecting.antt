@@ -1,5 +1,5 @@
 -- The walk after an item more was collected.
-use Rattle.std.proofs.Common.{◌≡◌, ◌⊎◌, ℕ, ◌+◌, ◌<◌, List, length, slice_index, refl, sym, subst, inl, inr, arith}
+use Rattle.std.proofs.Common.{◌≡◌, ◌⊎◌, ℕ, ◌+◌, ◌<◌, Bool, List, length, slice_index, refl, sym, subst, inl, inr, arith}
 use Rattle.std.proofs.lemmas.Bool.{cases_lt}
 use Rattle.std.proofs.lemmas.List.{get_or_append_left, get_or_push, length_push}
 use Rattle.theory.specs.Bisimulation.Relation.{branching}
@@ -10,7 +10,7 @@ use Rattle.inert.specs.Moves.{with_item}
 use Rattle.inert.specs.declared.walk.Item.{Item}
 use Rattle.inert.proofs.Standing.{Accounted-change, at, reached, on_stack}
 
-module _ (l : Grouped) (blocks : List ℕ) (lists : List (List (ℕ × ℕ))) (w : Search) (walks : Walks l blocks lists w) (x : Item) where
+module _ (l : Grouped) (blocks : List ℕ) (alone : List Bool) (lists : List (List (ℕ × ℕ))) (w : Search) (walks : Walks l blocks alone lists w) (x : Item) where
   abbrev With : Search
   With = with_item x w
 
@@ -24,13 +24,13 @@ module _ (l : Grouped) (blocks : List ℕ) (lists : List (List (ℕ × ℕ))) (w
   last = get_or_push w.items x _ (length w.items) refl
 
   -- the new item is of the component where the walk is
-  of_last : IsOf w.roots (length w.items) (at l blocks lists w walks)
+  of_last : IsOf w.roots (length w.items) (at l blocks alone lists w walks)
   of_last f c b = (
     λ le. walks.roots.within f c b,
-    λ lt. let h = reached l blocks lists w walks f c b in absurd (omega (arith, lt, h)),
+    λ lt. let h = reached l blocks alone lists w walks f c b in absurd (omega (arith, lt, h)),
   )
 
-  pub collected_holds : (z : ℕ × ℕ) → Gives lists x z → Holds lists With (at l blocks lists w walks) z
+  pub collected_holds : (z : ℕ × ℕ) → Gives lists x z → Holds lists With (at l blocks alone lists w walks) z
   collected_holds z g = (length w.items, omega (arith, size), subst (λ y. Gives lists y z) (sym last) g, of_last)
 
   holds_still : (p : ℕ) (z : ℕ × ℕ) → Holds lists w p z → Holds lists With p z
@@ -42,7 +42,7 @@ module _ (l : Grouped) (blocks : List ℕ) (lists : List (List (ℕ × ℕ))) (w
   met_still p t (inr (inr entered)) = inr (inr entered)
 
   pub Walks-collect : 0 < length w.frames → IsThere lists x
-      → ((z : ℕ × ℕ) → Gives lists x z → HasPair branching l blocks (slice_index w.stack (at l blocks lists w walks)) z.0 z.1) → Walks l blocks lists With
+      → ((z : ℕ × ℕ) → Gives lists x z → HasPair branching l blocks (slice_index w.stack (at l blocks alone lists w walks)) z.0 z.1) → Walks l blocks alone lists With
   Walks-collect some there sound = record {
     numbers = walks.numbers;
     opened = walks.opened;
@@ -66,9 +66,9 @@ module _ (l : Grouped) (blocks : List ℕ) (lists : List (List (ℕ × ℕ))) (w
           (p, lp, of, λ z g. all z (subst (λ y. Gives lists y z) (same j h) g))
       | inr h ↦
           let e : length w.items ≡ j = omega (arith, low, h, size) in (
-            at l blocks lists w walks,
-            on_stack l blocks lists w walks some,
-            subst (λ i. IsOf w.roots i (at l blocks lists w walks)) e of_last,
+            at l blocks alone lists w walks,
+            on_stack l blocks alone lists w walks some,
+            subst (λ i. IsOf w.roots i (at l blocks alone lists w walks)) e of_last,
             λ z g. sound z (subst (λ y. Gives lists y z) last (subst (λ i. Gives lists (item_at With.items i) z) (sym e) g)),
           )
     ];

@@ -28,37 +28,38 @@ length-filter-cons p e es = go (p e) (filter p es)
     go true l = omega arith
     go false l = omega arith
 
--- a state enters the frames
+-- a state that was not seen is marked
 
-module _ (marks : List Mark) (t p : ℕ) (below : t < length marks) (was : mark_at marks t ≡ Unseen) where
-  pub unseen-entered : unseen (set marks t (Open p)) + 1 ≡ unseen marks
-  unseen-entered =
-      let now = sum_by-set (λ m. one (is_unseen m)) marks t (Open p) Unseen below in
+module _ (marks : List Mark) (t : ℕ) (m : Mark) (met : is_unseen m ≡ false) (below : t < length marks) (was : mark_at marks t ≡ Unseen) where
+  pub unseen-marked : unseen (set marks t m) + 1 ≡ unseen marks
+  unseen-marked =
+      let now = sum_by-set (λ x. one (is_unseen x)) marks t m Unseen below in
+      let gone : one (is_unseen m) ≡ 0 = ap one met in
       let before : one (is_unseen (mark_at marks t)) ≡ 1 = ap (λ m. one (is_unseen m)) was in
       omega arith
 
-  one-entered : (s : ℕ) → one (is_unseen (mark_at (set marks t (Open p)) s)) + one (eqb s t) ≡ one (is_unseen (mark_at marks s))
-  one-entered s = elim (cases_eq s t) [
+  one-marked : (s : ℕ) → one (is_unseen (mark_at (set marks t m) s)) + one (eqb s t) ≡ one (is_unseen (mark_at marks s))
+  one-marked s = elim (cases_eq s t) [
     | inl e ↦
         let before : mark_at marks s ≡ Unseen = ap (mark_at marks) e ∙ was in
-        let after : mark_at (set marks t (Open p)) s ≡ Open p = get_or-set_at marks t s (Open p) Unseen e below in
+        let after : mark_at (set marks t m) s ≡ m = get_or-set_at marks t s m Unseen e below in
         let here : eqb s t ≡ true = eq-eqb s t e in
-        rw (before, after, here) refl
+        rw (before, after, here, met) refl
     | inr d ↦
-        let after : mark_at (set marks t (Open p)) s ≡ mark_at marks s = get_or-set_other marks t s (Open p) Unseen d in
+        let after : mark_at (set marks t m) s ≡ mark_at marks s = get_or-set_other marks t s m Unseen d in
         let elsewhere : eqb s t ≡ false = ne_eqb s t d in
         rw (after, elsewhere) (omega arith)
   ]
 
-pub unread-entered : (places : List Triple) (marks : List Mark) (t p : ℕ) → t < length marks → mark_at marks t ≡ Unseen →
-    unread places (set marks t (Open p)) + length (row_of t places) ≡ unread places marks
-unread-entered [] marks t p below was = refl
-unread-entered (e ∷ es) marks t p below was =
-    let others = unread-entered es marks t p below was in
-    let after = length-filter-cons (λ x. is_unseen (mark_at (set marks t (Open p)) (source_of x))) e es in
+pub unread-marked : (places : List Triple) (marks : List Mark) (t : ℕ) (m : Mark) → is_unseen m ≡ false → t < length marks → mark_at marks t ≡ Unseen →
+    unread places (set marks t m) + length (row_of t places) ≡ unread places marks
+unread-marked [] marks t m met below was = refl
+unread-marked (e ∷ es) marks t m met below was =
+    let others = unread-marked es marks t m met below was in
+    let after = length-filter-cons (λ x. is_unseen (mark_at (set marks t m) (source_of x))) e es in
     let before = length-filter-cons (λ x. is_unseen (mark_at marks (source_of x))) e es in
     let row = length-filter-cons (λ x. eqb (source_of x) t) e es in
-    let this = one-entered marks t p below was (source_of e) in
+    let this = one-marked marks t m met below was (source_of e) in
     omega arith
 
 -- the same states are unseen

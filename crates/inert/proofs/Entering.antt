@@ -1,5 +1,5 @@
 -- The walk after a state was entered.
-use Rattle.std.proofs.Common.{◌≡◌, ◌≢◌, ◌⊎◌, ℕ, ◌+◌, ◌-◌, ◌<◌, ◌≤◌, List, length, slice_index, refl, sym, ◌∙◌, ap, subst, subst₂, inl, inr, arith}
+use Rattle.std.proofs.Common.{◌≡◌, ◌≢◌, ◌⊎◌, ℕ, ◌+◌, ◌-◌, ◌<◌, ◌≤◌, Bool, List, length, slice_index, refl, sym, ◌∙◌, ap, subst, subst₂, inl, inr, arith}
 use Rattle.std.proofs.lemmas.Bool.{cases_eq, cases_lt}
 use Rattle.std.proofs.lemmas.List.{get_or_append_left, get_or_push, length_push, length-set}
 use Rattle.theory.specs.Bisimulation.Relation.{branching}
@@ -14,10 +14,10 @@ use Rattle.inert.specs.declared.walk.Frame.{Frame}
 use Rattle.inert.specs.declared.walk.Root.{Root}
 use Rattle.inert.proofs.Marks.{place_same, not_both, not_unseen, not_finished, mark_set, mark_other}
 use Rattle.inert.proofs.Roots.{root_old_or_new, root_up, root_new, root_here, AreRising-push}
-use Rattle.inert.proofs.Counting.{unseen-entered}
+use Rattle.inert.proofs.Counting.{unseen-marked}
 use Rattle.inert.proofs.Standing.{Accounted-change, at, ties, frames_some, no_items}
 
-module _ (laws : Laws) (l : Grouped) (blocks : List ℕ) (lists : List (List (ℕ × ℕ))) (w : Search) (walks : Walks l blocks lists w)
+module _ (laws : Laws) (l : Grouped) (blocks : List ℕ) (alone : List Bool) (lists : List (List (ℕ × ℕ))) (w : Search) (walks : Walks l blocks alone lists w)
     (t start end : ℕ) (within : t < length w.marks) (unseen : mark_at w.marks t ≡ Unseen) where
   abbrev pub Entered : Search
   Entered = entered t start end w
@@ -101,7 +101,7 @@ module _ (laws : Laws) (l : Grouped) (blocks : List ℕ) (lists : List (List (�
       ))
 
   -- the walk went to the state t from where it was
-  pub entered_met : 0 < length w.frames → IsEntered Entered (at l blocks lists w walks) t
+  pub entered_met : 0 < length w.frames → IsEntered Entered (at l blocks alone lists w walks) t
   entered_met some =
       let e : length w.frames - 1 + 1 ≡ length w.frames = omega (arith, some) in (
         length w.frames - 1,
@@ -130,7 +130,7 @@ module _ (laws : Laws) (l : Grouped) (blocks : List ℕ) (lists : List (List (�
     ];
   }
 
-  signed : AreSigned l blocks lists Entered.marks
+  signed : AreSigned l blocks alone lists Entered.marks
   signed s k is = elim (cases_eq s t) [
     | inl e ↦ absurd (not_both n k (sym self ∙ ap (mark_at Entered.marks) (sym e) ∙ is))
     | inr d ↦ walks.signed s k (sym (others s d) ∙ is)
@@ -139,7 +139,7 @@ module _ (laws : Laws) (l : Grouped) (blocks : List ℕ) (lists : List (List (�
   roots : AreRoots Entered
   roots = record {
     first = λ _. elim (cases_eq n 0) [
-      | inl e ↦ subst₂ (Begins Entered.roots) e (no_items l blocks lists w walks e) new
+      | inl e ↦ subst₂ (Begins Entered.roots) e (no_items l blocks alone lists w walks e) new
       | inr d ↦ up 0 0 (walks.roots.first (omega (arith, d)))
     ];
     rising = AreRising-push w.roots NewRoot (λ i h. below _ _ (root_here w.roots i h)) walks.roots.rising;
@@ -191,7 +191,7 @@ module _ (laws : Laws) (l : Grouped) (blocks : List ℕ) (lists : List (List (�
         (let count = row.count in (start, subst (λ s. IsRow l.places s start end) (sym state_new) row, omega arith, omega (arith, count)));
   }
 
-  connects : (0 < length w.frames → Inert (system_of l) (slice_index blocks) (slice_index w.stack (at l blocks lists w walks)) t) → Connects l blocks Entered
+  connects : (0 < length w.frames → Inert (system_of l) (slice_index blocks) (slice_index w.stack (at l blocks alone lists w walks)) t) → Connects l blocks Entered
   connects step p q lp lq h = elim (cases_lt p n) [
     | inl low ↦ elim (cases_lt q n) [
       | inl low' ↦
@@ -200,8 +200,8 @@ module _ (laws : Laws) (l : Grouped) (blocks : List ℕ) (lists : List (List (�
       | inr high' ↦
           let e : q ≡ n = omega (arith, lq, high', size) in
           subst₂ (Ties l blocks) (sym (state_same p low)) (sym (ap (slice_index Entered.stack) e ∙ state_new))
-          (laws.after (system_of l) (slice_index blocks) _ _ _ (ties l blocks lists w walks p low)
-          (step (frames_some l blocks lists w walks (omega (arith, low)))))
+          (laws.after (system_of l) (slice_index blocks) _ _ _ (ties l blocks alone lists w walks p low)
+          (step (frames_some l blocks alone lists w walks (omega (arith, low)))))
     ]
     | inr high ↦
         let e : p ≡ n = omega (arith, lp, high, size) in
@@ -245,10 +245,10 @@ module _ (laws : Laws) (l : Grouped) (blocks : List ℕ) (lists : List (List (�
   ]
 
   pub Walks-enter : IsRow l.places t start end
-      → (0 < length w.frames → Inert (system_of l) (slice_index blocks) (slice_index w.stack (at l blocks lists w walks)) t) → Walks l blocks lists Entered
+      → (0 < length w.frames → Inert (system_of l) (slice_index blocks) (slice_index w.stack (at l blocks alone lists w walks)) t) → Walks l blocks alone lists Entered
   Walks-enter row step = record {
     numbers =
-        let fewer = unseen-entered w.marks t n within unseen in
+        let fewer = unseen-marked w.marks t (Open n) refl within unseen in
         let old = walks.numbers.numbers in
         record { size = length-set w.marks t (Open n) ∙ walks.numbers.size; some = walks.numbers.some; numbers = omega (arith, fewer, old, size) };
     opened = opened;

@@ -1,5 +1,5 @@
 -- If the rows of the last component are read, what it has collected is exactly the signature of each of its states.
-use Rattle.std.proofs.Common.{◌≡◌, ℕ, ◌+◌, ◌-◌, ◌<◌, ◌≤◌, List, [], ◌∷◌, length, drop, slice_index, sym, ◌∙◌, ap, subst, inl, inr, arith}
+use Rattle.std.proofs.Common.{◌≡◌, ℕ, ◌+◌, ◌-◌, ◌<◌, ◌≤◌, Bool, List, [], ◌∷◌, length, drop, slice_index, slice_index_or, false, IsTrue, sym, ◌∙◌, ap, subst, inl, inr, arith}
 use Rattle.std.proofs.lemmas.Bool.{cases_eq, cases_lt}
 use Rattle.std.proofs.lemmas.List.{length-map, get_or-map, get_or-drop, length-drop}
 use Rattle.theory.specs.System.{Step, Along, internal}
@@ -8,12 +8,13 @@ use Rattle.theory.specs.Blocks.{Inert}
 use Rattle.lts.specs.Labels.{text_of}
 use Rattle.lts.specs.Lts.{Grouped, source_of, label_of, target_of, place_at, transition_of, system_of, IsLts}
 use Rattle.lists.specs.Lists.{list_at}
-use Rattle.inert.specs.Signed.{HasPair, IsSignature, pair_under}
-use Rattle.inert.specs.Search.{Search, Laws, frame_at, top, root_at, item_at, Begins, Gives, Holds, Accounted, Walks}
+use Rattle.inert.specs.Signed.{HasPair, IsSignature, IsKnownAlone, pair_under}
+use Rattle.inert.specs.Search.{Search, Laws, frame_at, top, root_at, item_at, Begins, Gives, Holds, Accounted, IsSigned, Walks}
 use Rattle.inert.specs.Moves.{IsGiven, IsListed, HasRead}
 use Rattle.inert.specs.declared.walk.Item.{Item}
 use Rattle.inert.specs.declared.walk.Root.{Root}
 use Rattle.inert.proofs.Roots.{last_root, last_greatest}
+use Rattle.inert.proofs.Marks.{true_or_not}
 use Rattle.inert.proofs.Standing.{at, pair_before, roots_some, stack_some, on_stack}
 
 -- a step stands in some place
@@ -36,19 +37,19 @@ place_step l k h =
 pub item_drop : (items : List Item) (c j : ℕ) → item_at (drop c items) j ≡ item_at items (c + j)
 item_drop items c j = get_or-drop c items j _
 
-module _ (laws : Laws) (l : Grouped) (lts : IsLts l) (blocks : List ℕ) (lists : List (List (ℕ × ℕ))) (w : Search) (walks : Walks l blocks lists w)
+module _ (laws : Laws) (l : Grouped) (lts : IsLts l) (blocks : List ℕ) (alone : List Bool) (lists : List (List (ℕ × ℕ))) (w : Search) (walks : Walks l blocks alone lists w)
     (some : 0 < length w.frames) (read : HasRead w) (place : (root_at w.roots (length w.roots - 1)).place ≡ (top w.frames).place) where
   abbrev pub last : Root
   last = root_at w.roots (length w.roots - 1)
 
   abbrev pub f0 : ℕ
-  f0 = at l blocks lists w walks
+  f0 = at l blocks alone lists w walks
 
   roots : 0 < length w.roots
-  roots = roots_some l blocks lists w walks (stack_some l blocks lists w walks some)
+  roots = roots_some l blocks alone lists w walks (stack_some l blocks alone lists w walks some)
 
   pub within : f0 < length w.stack
-  within = on_stack l blocks lists w walks some
+  within = on_stack l blocks alone lists w walks some
 
   pub this : Begins w.roots f0 last.items
   this = subst (λ f. Begins w.roots f last.items) place (last_root w.roots walks.roots.rising roots)
@@ -108,15 +109,17 @@ module _ (laws : Laws) (l : Grouped) (lts : IsLts l) (blocks : List ℕ) (lists 
       (subst (Holds lists w p) same
       ((done p k h lp lk source).shown (λ inert. other (sym label ∙ inert.0, sym block ∙ inert.1 ∙ ap (slice_index blocks) source))))
 
-  -- and what it can do at the end of inert steps
+  -- and what it can do at the end of inert steps, unless it is known to be alone: so are then all states of its block
   collects : (z : ℕ × ℕ) (us : List ℕ) (p : ℕ) → f0 ≤ p → p < length w.stack → (u t : ℕ)
       → Along (Inert (system_of l) (slice_index blocks)) (slice_index w.stack p) us u → Step (system_of l) u (text_of l.labels z.0) t → slice_index blocks t ≡ z.1
-      → ¬ ((text_of l.labels z.0 ≡ internal) × (z.1 ≡ slice_index blocks (slice_index w.stack p))) → z.0 < length l.labels → Collected z
-  collects z [] p h lp u t e step is other low =
+      → ¬ ((text_of l.labels z.0 ≡ internal) × (z.1 ≡ slice_index blocks (slice_index w.stack p))) → z.0 < length l.labels
+      → ¬ IsKnownAlone blocks alone (slice_index w.stack p) → Collected z
+  collects z [] p h lp u t e step is other low company =
       collects_here z p h lp t (subst (λ x. Step (system_of l) x (text_of l.labels z.0) t) (sym e) step) is other low
-  collects z (x ∷ us) p h lp u t (first, rest) step is other low =
+  collects z (x ∷ us) p h lp u t (first, rest) step is other low company =
       let (k, lk, source, label, target) = step_place l (slice_index w.stack p) x internal first.0 in
       let same : slice_index blocks (target_of (place_at l.places k)) ≡ slice_index blocks (slice_index w.stack p) = ap (slice_index blocks) target ∙ first.1 in
+      let together : ¬ IsKnownAlone blocks alone (target_of (place_at l.places k)) = λ known. company (subst (λ b. IsTrue (slice_index_or alone b false)) same known) in
       elim ((done p k h lp lk source).followed (label, same ∙ ap (slice_index blocks) (sym source))) [
         | inl (q, mark, up, down) ↦
             let was = walks.opened.only (target_of (place_at l.places k)) q mark in
@@ -124,11 +127,15 @@ module _ (laws : Laws) (l : Grouped) (lts : IsLts l) (blocks : List ℕ) (lists 
             collects z us q (up f0 last.items this h) was.0 u t
             (subst (λ y. Along (Inert (system_of l) (slice_index blocks)) y us u) there rest) step is
             (λ inert. other (inert.0, inert.1 ∙ ap (slice_index blocks) was.1 ∙ same)) low
+            (subst (λ s. ¬ IsKnownAlone blocks alone s) (sym was.1) together)
         | inr held ↦ elim held [
           | inl (number, mark, all) ↦
               let path = subst (λ y. Along (Inert (system_of l) (slice_index blocks)) y us u) (sym target) rest in
               let has : HasPair branching l blocks (target_of (place_at l.places k)) z.0 z.1 = (low, (u, t, (us, path), step, is, λ inert. other (inert.0, inert.1 ∙ same))) in
-              collected_from p h z (all z (((walks.signed (target_of (place_at l.places k)) number mark).1.exactly z.0 z.1).1 has))
+              elim ((walks.signed (target_of (place_at l.places k)) number mark).whole) [
+                | inl signature ↦ collected_from p h z (all z ((signature.exactly z.0 z.1).1 has))
+                | inr known ↦ absurd (together known)
+              ]
           | inr (i, low', is', to) ↦
               let e = last_frame i (omega (arith, low')) (omega (arith, is', h)) in
               absurd (omega (arith, e, low'))
@@ -151,12 +158,23 @@ module _ (laws : Laws) (l : Grouped) (lts : IsLts l) (blocks : List ℕ) (lists 
       (all z (subst (λ x. Gives lists x z) (item_drop w.items last.items i) g))
 
   -- a list of it is the signature of each state of the component
-  pub exact : (lists' : List (List (ℕ × ℕ))) (number : ℕ) → IsListed (drop last.items w.items) lists lists' number
-      → (p : ℕ) → f0 ≤ p → p < length w.stack → IsSignature branching l blocks (slice_index w.stack p) (list_at lists' number)
-  exact lists' number listed p h lp = record {
-    exactly = λ k b. (
-      λ c. sound p h lp (k, b) ((listed.exactly (k, b)).0 c),
-      λ has. (listed.exactly (k, b)).1 (collects (k, b) has.1.2.0 p h lp has.1.0 has.1.1 has.1.2.1 has.1.3 has.1.4 has.1.5 has.0),
-    );
-    rising = listed.rising;
-  }
+  module _ (lists' : List (List (ℕ × ℕ))) (number : ℕ) (listed : IsListed (drop last.items w.items) lists lists' number) where
+    whole : (p : ℕ) → f0 ≤ p → p < length w.stack → ¬ IsKnownAlone blocks alone (slice_index w.stack p)
+        → IsSignature branching l blocks (slice_index w.stack p) (list_at lists' number)
+    whole p h lp company = record {
+      exactly = λ k b. (
+        λ c. sound p h lp (k, b) ((listed.exactly (k, b)).0 c),
+        λ has. (listed.exactly (k, b)).1 (collects (k, b) has.1.2.0 p h lp has.1.0 has.1.1 has.1.2.1 has.1.3 has.1.4 has.1.5 has.0 company),
+      );
+      rising = listed.rising;
+    }
+
+    pub exact : (p : ℕ) → f0 ≤ p → p < length w.stack → IsSigned l blocks alone (slice_index w.stack p) lists' number
+    exact p h lp = record {
+      within = listed.within;
+      sound = λ z c. sound p h lp z ((listed.exactly z).0 c);
+      whole = elim (true_or_not (slice_index_or alone (slice_index blocks (slice_index w.stack p)) false)) [
+        | inl known ↦ inr known
+        | inr company ↦ inl (whole p h lp company)
+      ];
+    }

@@ -1,5 +1,5 @@
 -- The walk after an inert step to a state that is open: the components from there on are one.
-use Rattle.std.proofs.Common.{◌≡◌, ◌⊎◌, ℕ, ◌<◌, ◌≤◌, List, length, slice_index, inl, inr, arith}
+use Rattle.std.proofs.Common.{◌≡◌, ◌⊎◌, ℕ, ◌<◌, ◌≤◌, Bool, List, length, slice_index, inl, inr, arith}
 use Rattle.std.proofs.lemmas.Bool.{cases_lt}
 use Rattle.theory.specs.Blocks.{Inert}
 use Rattle.lts.specs.Lts.{Grouped, system_of}
@@ -10,7 +10,7 @@ use Rattle.inert.specs.declared.walk.Mark.TheVariants.{Open}
 use Rattle.inert.proofs.Roots.{cut_old, cut_keep, cut_below, cut_rising}
 use Rattle.inert.proofs.Standing.{Accounted-change, at, reached, ties}
 
-module _ (laws : Laws) (l : Grouped) (blocks : List ℕ) (lists : List (List (ℕ × ℕ))) (w : Search) (walks : Walks l blocks lists w)
+module _ (laws : Laws) (l : Grouped) (blocks : List ℕ) (alone : List Bool) (lists : List (List (ℕ × ℕ))) (w : Search) (walks : Walks l blocks alone lists w)
     (q : ℕ) (roots : List Root) (cuts : Cuts q w.roots roots) where
   abbrev Joined : Search
   Joined = record w { roots = roots }
@@ -33,17 +33,17 @@ module _ (laws : Laws) (l : Grouped) (blocks : List ℕ) (lists : List (List (�
   met_still p t (inr (inr entered)) = inr (inr entered)
 
   -- the state that the step leads to is in the component where the walk is
-  pub joined_here : (t : ℕ) → mark_at w.marks t ≡ Open q → IsHere Joined (at l blocks lists w walks) t
+  pub joined_here : (t : ℕ) → mark_at w.marks t ≡ Open q → IsHere Joined (at l blocks alone lists w walks) t
   joined_here t is = (
     q,
     is,
     λ f c b le. cut_below q w.roots roots cuts walks.roots.rising f c b,
-    λ f c b le. reached l blocks lists w walks f c (old_one f c b),
+    λ f c b le. reached l blocks alone lists w walks f c (old_one f c b),
   )
 
-  module _ (low : q < length w.stack) (step : Inert (system_of l) (slice_index blocks) (slice_index w.stack (at l blocks lists w walks)) (slice_index w.stack q)) where
+  module _ (low : q < length w.stack) (step : Inert (system_of l) (slice_index blocks) (slice_index w.stack (at l blocks alone lists w walks)) (slice_index w.stack q)) where
     to_q : (p : ℕ) → p < length w.stack → Ties l blocks (slice_index w.stack p) (slice_index w.stack q)
-    to_q p lp = laws.after (system_of l) (slice_index blocks) _ _ _ (ties l blocks lists w walks p lp) step
+    to_q p lp = laws.after (system_of l) (slice_index blocks) _ _ _ (ties l blocks alone lists w walks p lp) step
 
     connects : (p r : ℕ) → p < length w.stack → r < length w.stack → IsUpTo roots p r → Ties l blocks (slice_index w.stack p) (slice_index w.stack r)
     connects p r lp lr h = elim (cases_lt p q) [
@@ -53,7 +53,7 @@ module _ (laws : Laws) (l : Grouped) (blocks : List ℕ) (lists : List (List (�
           (walks.connects q r low lr (λ f c b le. h f c (keep f c b le) (omega (arith, le, after))))
     ]
 
-    pub Walks-join : Walks l blocks lists Joined
+    pub Walks-join : Walks l blocks alone lists Joined
     Walks-join = record {
       numbers = walks.numbers;
       opened = walks.opened;

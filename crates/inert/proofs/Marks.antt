@@ -1,11 +1,16 @@
 -- Marks: they differ, and one is set.
-use Rattle.std.proofs.Common.{◌≡◌, ◌≢◌, ℕ, ◌<◌, List, length, set, sym, ◌∙◌, ap, inl, inr}
-use Rattle.std.proofs.lemmas.Bool.{cases_eq, cases_lt}
+use Rattle.std.proofs.Common.{◌≡◌, ◌≢◌, ◌⊎◌, ℕ, ◌<◌, Bool, true, false, List, length, set, refl, sym, ◌∙◌, ap, inl, inr}
+use Rattle.std.specs.Prelude.{IsTrue}
+use Rattle.std.proofs.lemmas.Bool.{cases_eq, cases_lt, false≢true}
 use Rattle.std.proofs.lemmas.List.{get_or-set_same, get_or-set_other, get_or_past}
 use Rattle.inert.specs.Search.{mark_at}
 use Rattle.inert.specs.Ahead.{KeepsSeen}
 use Rattle.inert.specs.declared.walk.Mark.{Mark}
 use Rattle.inert.specs.declared.walk.Mark.TheVariants.{Unseen, Open, Finished}
+
+pub true_or_not : (b : Bool) → IsTrue b ⊎ ¬ IsTrue b
+true_or_not true = inl refl
+true_or_not false = inr (λ e. false≢true e)
 
 pub place_same : (p q : ℕ) → Open p ≡ Open q → p ≡ q
 place_same p q e = cc
@@ -36,8 +41,8 @@ marked_below marks s p is = elim (cases_lt s (length marks)) [
 ]
 
 -- the state t is seen, and no other is forgotten
-pub seen_more : (marks : List Mark) (t p : ℕ) → t < length marks → KeepsSeen marks (set marks t (Open p))
-seen_more marks t p low s is = elim (cases_eq s t) [
-  | inl e ↦ absurd (not_unseen p (sym (mark_set marks t (Open p) low) ∙ ap (mark_at (set marks t (Open p))) (sym e) ∙ is))
-  | inr d ↦ sym (mark_other marks t (Open p) s d) ∙ is
+pub seen_more : (marks : List Mark) (t : ℕ) (m : Mark) → ¬ (m ≡ Unseen) → t < length marks → KeepsSeen marks (set marks t m)
+seen_more marks t m seen low s is = elim (cases_eq s t) [
+  | inl e ↦ absurd (seen (sym (mark_set marks t m low) ∙ ap (mark_at (set marks t m)) (sym e) ∙ is))
+  | inr d ↦ sym (mark_other marks t m s d) ∙ is
 ]

@@ -21,8 +21,8 @@ use Rattle.inert.specs.declared.walk.Mark.TheVariants.{Unseen, Open, Finished}
 use Rattle.inert.specs.declared.walk.Frame.{Frame}
 use Rattle.inert.specs.declared.walk.Root.{Root}
 use Rattle.inert.specs.declared.walk.Item.TheVariants.{Pair, Listed}
-use Rattle.inert.proofs.Marks.{seen_more}
-use Rattle.inert.proofs.Counting.{unseen-entered, unread-entered, unread-same, rest-push, rest-next, rest-cut}
+use Rattle.inert.proofs.Marks.{true_or_not, not_unseen, seen_more}
+use Rattle.inert.proofs.Counting.{unseen-marked, unread-marked, unread-same, rest-push, rest-next, rest-cut}
 use Rattle.inert.proofs.Standing.{at, pair_before}
 use Rattle.inert.proofs.Collecting.{Walks-collect, collected_holds}
 use Rattle.inert.proofs.Joining.{Walks-join, joined_here}
@@ -31,16 +31,12 @@ use Rattle.inert.proofs.Turning.{Walks-next, Walks-pop}
 use Rattle.inert.proofs.Exact.{place_step}
 use Rattle.inert.proofs.Closing.{Walks-close, weight-close, same_unseen}
 
-true_or_not : (b : Bool) → IsTrue b ⊎ ¬ IsTrue b
-true_or_not true = inl refl
-true_or_not false = inr (λ e. false≢true e)
-
 number_is : (j k : ℕ) → Listed j ≡ Listed k → j ≡ k
 number_is j k e = cc
 
 -- from one walk to another one, the last row was read up to place k
-pub record Reads (l : Grouped) (blocks : List ℕ) (lists : List (List (ℕ × ℕ))) (old new : Search) (k : ℕ) : Type 0 where
-  pub on : GoesOn l blocks lists old new
+pub record Reads (l : Grouped) (blocks : List ℕ) (alone : List Bool) (lists : List (List (ℕ × ℕ))) (old new : Search) (k : ℕ) : Type 0 where
+  pub on : GoesOn l blocks alone lists old new
   pub size : length new.frames ≡ length old.frames
   pub here : top new.frames ≡ record (top old.frames) { next = k }
   pub stack : new.stack ≡ old.stack
@@ -48,17 +44,17 @@ pub record Reads (l : Grouped) (blocks : List ℕ) (lists : List (List (ℕ × �
   pub less : ahead l new + k ≡ ahead l old + (top old.frames).next
 
 -- and a state was entered
-pub record Entered (l : Grouped) (blocks : List ℕ) (lists : List (List (ℕ × ℕ))) (old new : Search) (k : ℕ) : Type 0 where
-  pub on : GoesOn l blocks lists old new
+pub record Entered (l : Grouped) (blocks : List ℕ) (alone : List Bool) (lists : List (List (ℕ × ℕ))) (old new : Search) (k : ℕ) : Type 0 where
+  pub on : GoesOn l blocks alone lists old new
   pub size : length new.frames ≡ length old.frames + 1
   pub forward : (top old.frames).next < k
   pub less : ahead l new + k ≡ ahead l old + (top old.frames).next
 
-pub reads_none : (l : Grouped) (blocks : List ℕ) (lists : List (List (ℕ × ℕ))) (w : Search) → Walks l blocks lists w → Fits l (length lists) w → Reads l blocks lists w w (top w.frames).next
-reads_none l blocks lists w walks fits =
+pub reads_none : (l : Grouped) (blocks : List ℕ) (alone : List Bool) (lists : List (List (ℕ × ℕ))) (w : Search) → Walks l blocks alone lists w → Fits l (length lists) w → Reads l blocks alone lists w w (top w.frames).next
+reads_none l blocks alone lists w walks fits =
     record { on = record { walks = walks; fits = fits; seen = λ s h. h }; size = refl; here = refl; stack = refl; forward = omega arith; less = refl }
 
-module _ (laws : Laws) (l : Grouped) (lts : IsLts l) (blocks : List ℕ) (lists : List (List (ℕ × ℕ))) (w : Search) (walks : Walks l blocks lists w)
+module _ (laws : Laws) (l : Grouped) (lts : IsLts l) (blocks : List ℕ) (alone : List Bool) (lists : List (List (ℕ × ℕ))) (w : Search) (walks : Walks l blocks alone lists w)
     (some : 0 < length w.frames) (more : (top w.frames).next < (top w.frames).end) where
   abbrev i : ℕ
   i = length w.frames - 1
@@ -67,7 +63,7 @@ module _ (laws : Laws) (l : Grouped) (lts : IsLts l) (blocks : List ℕ) (lists 
   k = (top w.frames).next
 
   abbrev p : ℕ
-  p = at l blocks lists w walks
+  p = at l blocks alone lists w walks
 
   abbrev e : Triple
   e = place_at l.places k
@@ -106,7 +102,7 @@ module _ (laws : Laws) (l : Grouped) (lts : IsLts l) (blocks : List ℕ) (lists 
 
   -- the walk after the transition was taken, and before it is marked as read
   pub record Taken (m : Search) (enters : Bool) : Type 0 where
-    pub after : Walks l blocks lists m
+    pub after : Walks l blocks alone lists m
     pub done : Accounted l blocks lists m p e
     pub seen : KeepsSeen w.marks m.marks
     pub same_ahead : ahead l m ≡ ahead l w
@@ -116,7 +112,7 @@ module _ (laws : Laws) (l : Grouped) (lts : IsLts l) (blocks : List ℕ) (lists 
     pub longer : IsTrue enters → length m.frames ≡ length w.frames + 1
 
   -- nothing was entered
-  stayed : (m : Search) (enters : Bool) → Walks l blocks lists m → Accounted l blocks lists m p e → m.marks ≡ w.marks → m.frames ≡ w.frames → m.stack ≡ w.stack
+  stayed : (m : Search) (enters : Bool) → Walks l blocks alone lists m → Accounted l blocks lists m p e → m.marks ≡ w.marks → m.frames ≡ w.frames → m.stack ≡ w.stack
       → length m.items ≤ length w.items + 1 → ¬ IsTrue enters → Taken m enters
   stayed m enters walks' done marks frames stack items stay = record {
     after = walks';
@@ -137,10 +133,10 @@ module _ (laws : Laws) (l : Grouped) (lts : IsLts l) (blocks : List ℕ) (lists 
       → Taken (with_item (Pair a b) w) enters
   taken_pair a b enters other is stay =
       stayed (with_item (Pair a b) w) enters
-      (Walks-collect l blocks lists w walks (Pair a b) some (λ j e'. absurd (pair_list a b j e'))
+      (Walks-collect l blocks alone lists w walks (Pair a b) some (λ j e'. absurd (pair_list a b j e'))
       (λ z g. subst (λ (x : ℕ × ℕ). HasPair branching l blocks (slice_index w.stack p) x.0 x.1) (sym is ∙ g) (own_pair other)))
       (record {
-        shown = λ _. collected_holds l blocks lists w walks (Pair a b) (pair_under blocks e) is;
+        shown = λ _. collected_holds l blocks alone lists w walks (Pair a b) (pair_under blocks e) is;
         followed = λ inert. absurd (other inert);
       })
       refl refl refl (let e = length_push w.items (Pair a b) in omega (arith, e)) stay
@@ -156,11 +152,11 @@ module _ (laws : Laws) (l : Grouped) (lts : IsLts l) (blocks : List ℕ) (lists 
         let s = slice_index w.stack p in
         let tie = laws.after (system_of l) (slice_index blocks) s s (target_of e) (laws.here (system_of l) (slice_index blocks) s) (inert_step inert) in
         stayed (with_item (Listed number) w) enters
-        (Walks-collect l blocks lists w walks (Listed number) some (λ j e'. subst (λ x. x < length lists) (number_is number j e') signed.0)
-        (λ z g. pair_before laws l blocks s (target_of e) z tie ((signed.1.exactly z.0 z.1).0 g)))
+        (Walks-collect l blocks alone lists w walks (Listed number) some (λ j e'. subst (λ x. x < length lists) (number_is number j e') signed.within)
+        (λ z g. pair_before laws l blocks s (target_of e) z tie (signed.sound z g)))
         (record {
           shown = λ other. absurd (other inert);
-          followed = λ _. inr (inl (number, mark, λ z c. collected_holds l blocks lists w walks (Listed number) z c));
+          followed = λ _. inr (inl (number, mark, λ z c. collected_holds l blocks alone lists w walks (Listed number) z c));
         })
         refl refl refl (let e = length_push w.items (Listed number) in omega (arith, e)) stay
 
@@ -169,11 +165,11 @@ module _ (laws : Laws) (l : Grouped) (lts : IsLts l) (blocks : List ℕ) (lists 
     taken_joined q roots enters mark cuts stay =
         let was = walks.opened.only (target_of e) q mark in
         stayed (record w { roots = roots }) enters
-        (Walks-join laws l blocks lists w walks q roots cuts was.0
+        (Walks-join laws l blocks alone lists w walks q roots cuts was.0
         (subst (Inert (system_of l) (slice_index blocks) (slice_index w.stack p)) (sym was.1) (inert_step inert)))
         (record {
           shown = λ other. absurd (other inert);
-          followed = λ _. inl (joined_here laws l blocks lists w walks q roots cuts (target_of e) mark);
+          followed = λ _. inl (joined_here laws l blocks alone lists w walks q roots cuts (target_of e) mark);
         })
         refl refl refl (omega arith) stay
 
@@ -183,19 +179,19 @@ module _ (laws : Laws) (l : Grouped) (lts : IsLts l) (blocks : List ℕ) (lists 
         let within : target_of e < length w.marks = (let size = walks.numbers.size in let t = target_low in omega (arith, size, t)) in
         let x : Frame = record { place = length w.stack; next = start; end = end } in
         record {
-          after = Walks-enter laws l blocks lists w walks (target_of e) start end within unseen row (λ _. inert_step inert);
+          after = Walks-enter laws l blocks alone lists w walks (target_of e) start end within unseen row (λ _. inert_step inert);
           done = record {
             shown = λ other. absurd (other inert);
-            followed = λ _. inr (inr (entered_met laws l blocks lists w walks (target_of e) start end within unseen some));
+            followed = λ _. inr (inr (entered_met laws l blocks alone lists w walks (target_of e) start end within unseen some));
           };
-          seen = seen_more w.marks (target_of e) (length w.stack) within;
+          seen = seen_more w.marks (target_of e) (Open (length w.stack)) (not_unseen (length w.stack)) within;
           same_ahead =
-              let fewer = unread-entered l.places w.marks (target_of e) (length w.stack) within unseen in
+              let fewer = unread-marked l.places w.marks (target_of e) (Open (length w.stack)) refl within unseen in
               let rest' = rest-push w.frames x in
               let count = row.count in
               omega (arith, fewer, rest', count);
           heavier =
-              let fewer = unseen-entered w.marks (target_of e) (length w.stack) within unseen in
+              let fewer = unseen-marked w.marks (target_of e) (Open (length w.stack)) refl within unseen in
               let stack = length_push w.stack (target_of e) in
               let frames = length_push w.frames x in
               omega (arith, fewer, stack, frames);
@@ -234,9 +230,9 @@ module _ (laws : Laws) (l : Grouped) (lts : IsLts l) (blocks : List ℕ) (lists 
     next : x.next ≡ (frame_at m.frames i).next + 1
     next = ap (λ y. y.next) is ∙ ap (λ y. y.next + 1) (sym frame)
 
-    moved_walks : Walks l blocks lists New
+    moved_walks : Walks l blocks alone lists New
     moved_walks =
-        Walks-next l blocks lists m t.after i x here (ap (λ y. y.place) is) next (ap (λ y. y.end) is) (subst (λ y. y.next < y.end) (sym frame) more)
+        Walks-next l blocks alone lists m t.after i x here (ap (λ y. y.place) is) next (ap (λ y. y.end) is) (subst (λ y. y.next < y.end) (sym frame) more)
         (subst (λ y. Accounted l blocks lists m y.place (place_at l.places y.next)) (sym frame) t.done)
 
     moved_ahead : ahead l New + 1 ≡ ahead l w
@@ -248,8 +244,8 @@ module _ (laws : Laws) (l : Grouped) (lts : IsLts l) (blocks : List ℕ) (lists 
     moved_size : length New.frames ≡ length m.frames
     moved_size = length-set m.frames i x
 
-    module _ (first : Search) (reads : Reads l blocks lists first w k) where
-      on : GoesOn l blocks lists first New
+    module _ (first : Search) (reads : Reads l blocks alone lists first w k) where
+      on : GoesOn l blocks alone lists first New
       on = record {
         walks = moved_walks;
         fits =
@@ -267,7 +263,7 @@ module _ (laws : Laws) (l : Grouped) (lts : IsLts l) (blocks : List ℕ) (lists 
       advanced : (y z : Frame) → y ≡ record z { next = k } → record y { next = k + 1 } ≡ record z { next = k + 1 }
       advanced y z same j = record { place = (same j).place; next = k + 1; end = (same j).end }
 
-      pub reads_more : ¬ IsTrue enters → Reads l blocks lists first New (k + 1)
+      pub reads_more : ¬ IsTrue enters → Reads l blocks alone lists first New (k + 1)
       reads_more stay = record {
         on = on;
         size = moved_size ∙ ap length (t.still stay).0 ∙ reads.size;
@@ -279,12 +275,12 @@ module _ (laws : Laws) (l : Grouped) (lts : IsLts l) (blocks : List ℕ) (lists 
         less = less;
       }
 
-      pub reads_entered : IsTrue enters → Entered l blocks lists first New (k + 1)
+      pub reads_entered : IsTrue enters → Entered l blocks alone lists first New (k + 1)
       reads_entered went = record { on = on; size = (let e' = moved_size in let longer = t.longer went in let same = reads.size in omega (arith, e', longer, same)); forward = (let low' = reads.forward in omega (arith, low')); less = less }
 
 -- the same, where the place is k and the last frame has number i
-module _ (laws : Laws) (l : Grouped) (lts : IsLts l) (blocks : List ℕ) (lists : List (List (ℕ × ℕ))) (first w : Search) (k i : ℕ)
-    (reads : Reads l blocks lists first w k) (some : 0 < length first.frames) (last : i ≡ length first.frames - 1) where
+module _ (laws : Laws) (l : Grouped) (lts : IsLts l) (blocks : List ℕ) (alone : List Bool) (lists : List (List (ℕ × ℕ))) (first w : Search) (k i : ℕ)
+    (reads : Reads l blocks alone lists first w k) (some : 0 < length first.frames) (last : i ≡ length first.frames - 1) where
   now_some : 0 < length w.frames
   now_some = let size = reads.size in omega (arith, size, some)
 
@@ -312,7 +308,7 @@ module _ (laws : Laws) (l : Grouped) (lts : IsLts l) (blocks : List ℕ) (lists 
     now_more = omega (arith, next_is, end_is, more)
 
     pub place_below : k < length l.places
-    place_below = let low = place_low laws l lts blocks lists w reads.on.walks now_some now_more in omega (arith, low, next_is)
+    place_below = let low = place_low laws l lts blocks alone lists w reads.on.walks now_some now_more in omega (arith, low, next_is)
 
     module _ (block : ℕ) (is_block : block ≡ slice_index blocks (slice_index first.stack (top first.frames).place)) (step : TakenStep)
         (is_step : IsStep l blocks block (place_at l.places k) step) where
@@ -326,7 +322,7 @@ module _ (laws : Laws) (l : Grouped) (lts : IsLts l) (blocks : List ℕ) (lists 
       module _ (m : Search) (enters : Bool) (takes : Takes l.places step w m enters) (x : Frame) (is : x ≡ record (frame_at m.frames i) { next = k + 1 }) where
         source_is : source_of (place_at l.places k) ≡ slice_index first.stack (top first.frames).place
         source_is =
-            ap (λ y. source_of (place_at l.places y)) (sym next_is) ∙ source laws l lts blocks lists w reads.on.walks now_some now_more
+            ap (λ y. source_of (place_at l.places y)) (sym next_is) ∙ source laws l lts blocks alone lists w reads.on.walks now_some now_more
             ∙ ap (slice_index w.stack) (ap (λ y. y.place) reads.here) ∙ ap (λ xs. slice_index xs (top first.frames).place) reads.stack
 
         step_now : IsStep l blocks (slice_index blocks (source_of (place_at l.places (top w.frames).next))) (place_at l.places (top w.frames).next) step
@@ -334,24 +330,24 @@ module _ (laws : Laws) (l : Grouped) (lts : IsLts l) (blocks : List ℕ) (lists 
             subst (λ y. IsStep l blocks (slice_index blocks (source_of (place_at l.places y))) (place_at l.places y) step) (sym next_is)
             (subst (λ b. IsStep l blocks b (place_at l.places k) step) (is_block ∙ ap (slice_index blocks) (sym source_is)) is_step)
 
-        took : Taken laws l lts blocks lists w reads.on.walks now_some now_more m enters
-        took = taken laws l lts blocks lists w reads.on.walks now_some now_more step m enters step_now takes
+        took : Taken laws l lts blocks alone lists w reads.on.walks now_some now_more m enters
+        took = taken laws l lts blocks alone lists w reads.on.walks now_some now_more step m enters step_now takes
 
         frame_is : x ≡ record (frame_at m.frames (length w.frames - 1)) { next = (top w.frames).next + 1 }
         frame_is = is ∙ (λ j. record (frame_at m.frames (sym last_is j)) { next = sym next_is j + 1 })
 
-        reads_now : Reads l blocks lists first w (top w.frames).next
-        reads_now = subst (Reads l blocks lists first w) (sym next_is) reads
+        reads_now : Reads l blocks alone lists first w (top w.frames).next
+        reads_now = subst (Reads l blocks alone lists first w) (sym next_is) reads
 
-        pub read_more : ¬ IsTrue enters → Reads l blocks lists first (record m { frames = set m.frames i x }) (k + 1)
+        pub read_more : ¬ IsTrue enters → Reads l blocks alone lists first (record m { frames = set m.frames i x }) (k + 1)
         read_more stay =
-            subst₂ (λ j y. Reads l blocks lists first (record m { frames = set m.frames j x }) (y + 1)) last_is next_is
-            (reads_more laws l lts blocks lists w reads.on.walks now_some now_more m enters took x frame_is first reads_now stay)
+            subst₂ (λ j y. Reads l blocks alone lists first (record m { frames = set m.frames j x }) (y + 1)) last_is next_is
+            (reads_more laws l lts blocks alone lists w reads.on.walks now_some now_more m enters took x frame_is first reads_now stay)
 
-        pub read_entered : IsTrue enters → Entered l blocks lists first (record m { frames = set m.frames i x }) (k + 1)
+        pub read_entered : IsTrue enters → Entered l blocks alone lists first (record m { frames = set m.frames i x }) (k + 1)
         read_entered went =
-            subst₂ (λ j y. Entered l blocks lists first (record m { frames = set m.frames j x }) (y + 1)) last_is next_is
-            (reads_entered laws l lts blocks lists w reads.on.walks now_some now_more m enters took x frame_is first reads_now went)
+            subst₂ (λ j y. Entered l blocks alone lists first (record m { frames = set m.frames j x }) (y + 1)) last_is next_is
+            (reads_entered laws l lts blocks alone lists w reads.on.walks now_some now_more m enters took x frame_is first reads_now went)
 
         pub still_there : i < length m.frames
         still_there = elim (true_or_not enters) [
@@ -359,8 +355,8 @@ module _ (laws : Laws) (l : Grouped) (lts : IsLts l) (blocks : List ℕ) (lists 
           | inr stay ↦ (let size = ap length (took.still stay).0 in omega (arith, size, last_is, now_some))
         ]
 
-pub entered_steps : (l : Grouped) (blocks : List ℕ) (lists : List (List (ℕ × ℕ))) (old new : Search) (k : ℕ) → Entered l blocks lists old new k → steps l new < steps l old
-entered_steps l blocks lists old new k entered =
+pub entered_steps : (l : Grouped) (blocks : List ℕ) (alone : List Bool) (lists : List (List (ℕ × ℕ))) (old new : Search) (k : ℕ) → Entered l blocks alone lists old new k → steps l new < steps l old
+entered_steps l blocks alone lists old new k entered =
     let size = entered.size in
     let less = entered.less in
     let forward = entered.forward in
@@ -384,7 +380,7 @@ unseen_is (Open p) e = absurd (false≢true e)
 unseen_is (Finished k) e = absurd (false≢true e)
 
 -- the walk goes back from its last frame, whose row was read
-module _ (laws : Laws) (l : Grouped) (lts : IsLts l) (blocks : List ℕ) (lists : List (List (ℕ × ℕ))) (w : Search) (walks : Walks l blocks lists w)
+module _ (laws : Laws) (l : Grouped) (lts : IsLts l) (blocks : List ℕ) (alone : List Bool) (lists : List (List (ℕ × ℕ))) (w : Search) (walks : Walks l blocks alone lists w)
     (fits : Fits l (length lists) w) (some : 0 < length w.frames) (read : HasRead w) where
   popped_rest : rest (popped w).frames ≡ rest w.frames
   popped_rest = rest-cut w.frames (length w.frames - 1) (λ p from low. subst (λ i. (frame_at w.frames i).next ≡ (frame_at w.frames i).end) (omega (arith, from, low)) read)
@@ -395,9 +391,9 @@ module _ (laws : Laws) (l : Grouped) (lts : IsLts l) (blocks : List ℕ) (lists 
   pub popped_size : length (popped w).frames < length w.frames
   popped_size = let e = length-take-le (length w.frames - 1) w.frames (omega arith) in omega (arith, e, some)
 
-  pub popped_on : (root_at w.roots (length w.roots - 1)).place ≢ (top w.frames).place → GoesOn l blocks lists w (popped w)
+  pub popped_on : (root_at w.roots (length w.roots - 1)).place ≢ (top w.frames).place → GoesOn l blocks alone lists w (popped w)
   popped_on apart = record {
-    walks = Walks-pop l blocks lists w walks some read apart;
+    walks = Walks-pop l blocks alone lists w walks some read apart;
     fits = let less = popped_size in let same = popped_ahead in omega (arith, fits, less, same);
     seen = λ s h. h;
   }
@@ -405,15 +401,15 @@ module _ (laws : Laws) (l : Grouped) (lts : IsLts l) (blocks : List ℕ) (lists 
   module _ (lists' : List (List (ℕ × ℕ))) (new : Search) (place : (root_at w.roots (length w.roots - 1)).place ≡ (top w.frames).place)
       (closes : Closes (root_at w.roots (length w.roots - 1)) lists lists' (popped w) new) where
     same : (s : ℕ) → is_unseen (mark_at new.marks s) ≡ is_unseen (mark_at w.marks s)
-    same = same_unseen laws l lts blocks lists lists' w new walks some read place closes
+    same = same_unseen laws l lts blocks alone lists lists' w new walks some read place closes
 
     pub closed_ahead : ahead l new ≡ ahead l w
     closed_ahead = let e = unread-same l.places w.marks new.marks same in let e' = ap rest closes.frames ∙ popped_rest in omega (arith, e, e')
 
-    pub closed_on : GoesOn l blocks lists' w new
+    pub closed_on : GoesOn l blocks alone lists' w new
     closed_on = record {
-      walks = Walks-close laws l lts blocks lists lists' w new walks some read place closes;
-      fits = let less = weight-close laws l lts blocks lists lists' w new walks some read place closes in let e = closed_ahead in omega (arith, fits, less, e);
+      walks = Walks-close laws l lts blocks alone lists lists' w new walks some read place closes;
+      fits = let less = weight-close laws l lts blocks alone lists lists' w new walks some read place closes in let e = closed_ahead in omega (arith, fits, less, e);
       seen = λ s is. unseen_is (mark_at w.marks s) (sym (same s) ∙ ap is_unseen is);
     }
 

@@ -1,5 +1,5 @@
 -- What follows of a walk that stands between two of its steps.
-use Rattle.std.proofs.Common.{◌≡◌, ◌⊎◌, ℕ, ◌-◌, ◌<◌, ◌≤◌, List, length, slice_index, ap, inl, inr, arith}
+use Rattle.std.proofs.Common.{◌≡◌, ◌⊎◌, ℕ, ◌-◌, ◌<◌, ◌≤◌, Bool, List, length, slice_index, ap, inl, inr, arith}
 use Rattle.std.proofs.lemmas.Bool.{cases_eq}
 use Rattle.theory.specs.Bisimulation.Relation.{branching}
 use Rattle.lts.specs.Lts.{Grouped, Triple, system_of}
@@ -21,7 +21,7 @@ Accounted-change l blocks lists lists' w w' p e more met old = record {
   followed = λ inert. met e.2 (old.followed inert);
 }
 
-module _ (l : Grouped) (blocks : List ℕ) (lists : List (List (ℕ × ℕ))) (w : Search) (walks : Walks l blocks lists w) where
+module _ (l : Grouped) (blocks : List ℕ) (alone : List Bool) (lists : List (List (ℕ × ℕ))) (w : Search) (walks : Walks l blocks alone lists w) where
   -- the place of the state where the walk is
   abbrev pub at : ℕ
   at = (top w.frames).place

@@ -1,4 +1,4 @@
--- The trail has each state that was seen, when a state is entered, and when some are finished.
+-- The trail has each state that was seen, when one is marked, and when some are finished.
 use Rattle.std.proofs.Common.{◌≡◌, ◌∙◌, ℕ, ◌<◌, List, [], ◌∷◌, ◌++◌, length, set, sym, ap, subst, refl, inl, inr, arith}
 use Rattle.std.specs.List.{All}
 use Rattle.std.proofs.lemmas.Bool.{cases_eq}
@@ -11,17 +11,17 @@ use Rattle.inert.specs.declared.walk.Mark.{Mark}
 use Rattle.inert.specs.declared.walk.Mark.TheVariants.{Open}
 use Rattle.inert.proofs.Marks.{mark_other, not_unseen}
 
-pub IsTrail-enter : (marks : List Mark) (trail trail' : List ℕ) (s p : ℕ) → s < length marks → trail' ≡ trail ++ s ∷ [] → IsTrail marks trail
-    → IsTrail (set marks s (Open p)) trail'
-IsTrail-enter marks trail trail' s p low is old =
-    let size = length-set marks s (Open p) in
-    subst (IsTrail (set marks s (Open p))) (sym is) (
+pub IsTrail-mark : (marks : List Mark) (trail trail' : List ℕ) (s : ℕ) (m : Mark) → s < length marks → trail' ≡ trail ++ s ∷ [] → IsTrail marks trail
+    → IsTrail (set marks s m) trail'
+IsTrail-mark marks trail trail' s m low is old =
+    let size = length-set marks s m in
+    subst (IsTrail (set marks s m)) (sym is) (
     record {
       each = subst (λ n. All (λ x. x < n) (trail ++ s ∷ [])) (sym size) (All-push (λ x. x < length marks) trail s old.each low);
       seen = λ x. elim (cases_eq x s) [
         | inl e ↦ inr (length trail, (let more = length_push trail s in omega (arith, more)), get_or_push trail s x (length trail) refl ∙ sym e)
         | inr d ↦ elim (old.seen x) [
-          | inl none ↦ inl (mark_other marks s (Open p) x d ∙ none)
+          | inl none ↦ inl (mark_other marks s m x d ∙ none)
           | inr (i, below, is) ↦
               inr (i, (let more = length_push trail s in omega (arith, more, below)), get_or_append_left trail (s ∷ []) x i below ∙ is)
         ]

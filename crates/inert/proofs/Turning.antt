@@ -1,5 +1,5 @@
 -- The walk after a transition more of a row was read, and after it goes back from a state that is no root.
-use Rattle.std.proofs.Common.{◌≡◌, ◌≢◌, ◌⊎◌, ℕ, ◌+◌, ◌-◌, ◌<◌, ◌≤◌, List, length, set, slice_index, refl, sym, ◌∙◌, ap, subst, inl, inr, arith}
+use Rattle.std.proofs.Common.{◌≡◌, ◌≢◌, ◌⊎◌, ℕ, ◌+◌, ◌-◌, ◌<◌, ◌≤◌, Bool, List, length, set, slice_index, refl, sym, ◌∙◌, ap, subst, inl, inr, arith}
 use Rattle.std.proofs.lemmas.Bool.{cases_eq, cases_lt}
 use Rattle.std.proofs.lemmas.List.{get_or-set_same, get_or-set_other, length-set, get_or-take, length-take-le}
 use Rattle.lts.specs.Lts.{Grouped, place_at, IsRow}
@@ -9,7 +9,7 @@ use Rattle.inert.specs.declared.walk.Frame.{Frame}
 use Rattle.inert.proofs.Roots.{last_root, last_greatest}
 use Rattle.inert.proofs.Standing.{Accounted-change, at, reached, roots_some, stack_some}
 
-module _ (l : Grouped) (blocks : List ℕ) (lists : List (List (ℕ × ℕ))) (w : Search) (walks : Walks l blocks lists w) where
+module _ (l : Grouped) (blocks : List ℕ) (alone : List Bool) (lists : List (List (ℕ × ℕ))) (w : Search) (walks : Walks l blocks alone lists w) where
   -- the transition that is next in the row of frame i was read
   module _ (i : ℕ) (x : Frame) (low : i < length w.frames) (place : x.place ≡ (frame_at w.frames i).place) (next : x.next ≡ (frame_at w.frames i).next + 1)
       (end : x.end ≡ (frame_at w.frames i).end) (more : (frame_at w.frames i).next < (frame_at w.frames i).end) where
@@ -61,7 +61,7 @@ module _ (l : Grouped) (blocks : List ℕ) (lists : List (List (ℕ × ℕ))) (w
       | inr done ↦ inr (done_still p k done)
     ]
 
-    pub Walks-next : Accounted l blocks lists w (frame_at w.frames i).place (place_at l.places (frame_at w.frames i).next) → Walks l blocks lists Moved
+    pub Walks-next : Accounted l blocks lists w (frame_at w.frames i).place (place_at l.places (frame_at w.frames i).next) → Walks l blocks alone lists Moved
     Walks-next this = record {
       numbers = walks.numbers;
       opened = walks.opened;
@@ -116,14 +116,14 @@ module _ (l : Grouped) (blocks : List ℕ) (lists : List (List (ℕ × ℕ))) (w
     frame_same i h = get_or-take (length w.frames - 1) w.frames i _ h
 
     -- each component begins before the last frame
-    earlier : (f c : ℕ) → Begins w.roots f c → f < at l blocks lists w walks
+    earlier : (f c : ℕ) → Begins w.roots f c → f < at l blocks alone lists w walks
     earlier f c b =
-        let roots = roots_some l blocks lists w walks (stack_some l blocks lists w walks some) in
+        let roots = roots_some l blocks alone lists w walks (stack_some l blocks alone lists w walks some) in
         let most = last_greatest w.roots walks.roots.rising roots f c b in
-        let last = reached l blocks lists w walks _ _ (last_root w.roots walks.roots.rising roots) in
+        let last = reached l blocks alone lists w walks _ _ (last_root w.roots walks.roots.rising roots) in
         omega (arith, most, last, apart)
 
-    not_last : (i : ℕ) → i < length w.frames → (frame_at w.frames i).place < at l blocks lists w walks → i < length w.frames - 1
+    not_last : (i : ℕ) → i < length w.frames → (frame_at w.frames i).place < at l blocks alone lists w walks → i < length w.frames - 1
     not_last i low before = elim (cases_eq i (length w.frames - 1)) [
       | inl e ↦ (let same = ap (λ j. (frame_at w.frames j).place) e in absurd (omega (arith, before, same)))
       | inr d ↦ omega (arith, low, d)
@@ -142,7 +142,7 @@ module _ (l : Grouped) (blocks : List ℕ) (lists : List (List (ℕ × ℕ))) (w
           ))
       | inr high ↦
           let e : i + 1 ≡ length w.frames - 1 = omega (arith, low, high) in
-          let q : ℕ = at l blocks lists w walks in
+          let q : ℕ = at l blocks alone lists w walks in
           let there : (frame_at w.frames (i + 1)).place ≡ q = ap (λ j. (frame_at w.frames j).place) e in
           let before = walks.frames.rising i (i + 1) (omega arith) low in
           let on = walks.frames.on_stack (i + 1) low in
@@ -161,7 +161,7 @@ module _ (l : Grouped) (blocks : List ℕ) (lists : List (List (ℕ × ℕ))) (w
           )
     ]
 
-    pub Walks-pop : Walks l blocks lists Popped
+    pub Walks-pop : Walks l blocks alone lists Popped
     Walks-pop = record {
       numbers = walks.numbers;
       opened = walks.opened;

@@ -71,6 +71,10 @@ pub record Finishes (stack : List ℕ) (f number : ℕ) (old new : List Mark) : 
   pub members : (p : ℕ) → f ≤ p → p < length stack → mark_at new (slice_index stack p) ≡ Finished number
   pub others : (s : ℕ) → (mark_at new s ≡ mark_at old s) ⊎ ((p : ℕ) × (f ≤ p) × (p < length stack) × (slice_index stack p ≡ s))
 
+-- the state s is finished with the empty list, and nothing else changes
+abbrev pub skipped : ℕ → Search → Search
+skipped s w = record w { marks = slice_set w.marks s (Finished 0) }
+
 -- the walk without its last frame
 abbrev pub popped : Search → Search
 popped w = record w { frames = take (length w.frames - 1) w.frames }
@@ -107,9 +111,15 @@ steps l w = 2 * ahead l w + length w.frames
 abbrev pub HasRead : Search → Type 0
 HasRead w = (top w.frames).next ≡ (top w.frames).end
 
+-- a walk is under way: what holds between its steps, with room for its lists and a row to read
+pub record IsUnderWay (l : Grouped) (blocks : List ℕ) (alone : List Bool) (lists : List (List (ℕ × ℕ))) (w : Search) : Type 0 where
+  pub walks : Walks l blocks alone lists w
+  pub fits : Fits l (length lists) w
+  pub some : 0 < length w.frames
+
 -- a walk goes on
-pub record GoesOn (l : Grouped) (blocks : List ℕ) (lists : List (List (ℕ × ℕ))) (old new : Search) : Type 0 where
-  pub walks : Walks l blocks lists new
+pub record GoesOn (l : Grouped) (blocks : List ℕ) (alone : List Bool) (lists : List (List (ℕ × ℕ))) (old new : Search) : Type 0 where
+  pub walks : Walks l blocks alone lists new
   pub fits : Fits l (length lists) new
   pub seen : KeepsSeen old.marks new.marks
 
@@ -119,5 +129,5 @@ Advances l old new enters = (IsTrue enters → steps l new < steps l old)
     × (¬ IsTrue enters → HasRead new × (0 < length new.frames) × (steps l new ≤ steps l old))
 
 -- the walk rests: nothing is on the stack
-abbrev pub Rests : Grouped → List ℕ → List (List (ℕ × ℕ)) → Search → Type 0
-Rests l blocks lists w = Walks l blocks lists w × (length w.frames ≡ 0) × Fits l (length lists) w
+abbrev pub Rests : Grouped → List ℕ → List Bool → List (List (ℕ × ℕ)) → Search → Type 0
+Rests l blocks alone lists w = Walks l blocks alone lists w × (length w.frames ≡ 0) × Fits l (length lists) w

@@ -1,12 +1,12 @@
 -- A walk over inert steps: what is known of each state, the stack and its components, and what they have collected.
-use Rattle.std.specs.Prelude.{◌≡◌, ◌⊎◌, ℕ, ◌+◌, ◌-◌, ◌<◌, ◌≤◌, List, [], length, slice_index, slice_index_or}
+use Rattle.std.specs.Prelude.{◌≡◌, ◌⊎◌, ℕ, ◌+◌, ◌-◌, ◌<◌, ◌≤◌, Bool, List, [], length, slice_index, slice_index_or}
 use Rattle.std.specs.List.{Contains}
 use Rattle.theory.specs.System.{System, Leads}
 use Rattle.theory.specs.Bisimulation.Relation.{branching}
 use Rattle.theory.specs.Blocks.{Inert, Signature}
 use Rattle.lts.specs.Lts.{Grouped, Triple, source_of, target_of, place_at, system_of, IsRow}
 use Rattle.lists.specs.Lists.{list_at}
-use Rattle.inert.specs.Signed.{HasPair, IsSignature, pair_under}
+use Rattle.inert.specs.Signed.{HasPair, IsSignature, IsKnownAlone, pair_under}
 use Rattle.inert.specs.Steps.{IsInert}
 use Rattle.inert.specs.Ahead.{HasNumbers}
 use Rattle.inert.specs.declared.walk.Mark.{Mark}
@@ -36,6 +36,11 @@ mark_at marks s = slice_index_or marks s Unseen
 pub record IsIdle (w : Search) : Type 0 where
   pub empty : w ≡ nothing w.marks
   pub none : (s : ℕ) → mark_at w.marks s ≡ Unseen
+
+-- and there is a mark for each of so many states
+pub record IsReady (states : ℕ) (w : Search) : Type 0 where
+  pub idle : IsIdle w
+  pub size : length w.marks ≡ states
 
 -- the frame number i, the last one, the root number i, and the item number j
 abbrev pub frame_at : List Frame → ℕ → Frame
@@ -88,10 +93,20 @@ pub record AreOpen (marks : List Mark) (stack : List ℕ) : Type 0 where
   pub marked : (p : ℕ) → p < length stack → mark_at marks (slice_index stack p) ≡ Open p
   pub only : (s p : ℕ) → mark_at marks s ≡ Open p → (p < length stack) × (slice_index stack p ≡ s)
 
--- the list of each finished state is its signature
-abbrev pub AreSigned : Grouped → List ℕ → List (List (ℕ × ℕ)) → List Mark → Type 0
-AreSigned l blocks lists marks =
-    (s k : ℕ) → mark_at marks s ≡ Finished k → (k < length lists) × IsSignature branching l blocks s (list_at lists k)
+-- the list of this number has only pairs of the signature of s, and all of them unless s is known to be alone in its block
+pub record IsSigned (l : Grouped) (blocks : List ℕ) (alone : List Bool) (s : ℕ) (lists : List (List (ℕ × ℕ))) (k : ℕ) : Type 0 where
+  pub within : k < length lists
+  pub sound : (z : ℕ × ℕ) → Contains (list_at lists k) z → HasPair branching l blocks s z.0 z.1
+  pub whole : IsSignature branching l blocks s (list_at lists k) ⊎ IsKnownAlone blocks alone s
+
+-- so is each finished state, with its list
+abbrev pub AreSigned : Grouped → List ℕ → List Bool → List (List (ℕ × ℕ)) → List Mark → Type 0
+AreSigned l blocks alone lists marks = (s k : ℕ) → mark_at marks s ≡ Finished k → IsSigned l blocks alone s lists k
+
+-- a finished state has the number of its list, and that of the empty one if it is known to be alone
+abbrev pub IsNumbered : List ℕ → List Bool → List Mark → ℕ → ℕ → Type 0
+IsNumbered blocks alone marks s k = (IsKnownAlone blocks alone s × (k ≡ 0))
+    ⊎ (¬ IsKnownAlone blocks alone s × (mark_at marks s ≡ Finished k))
 
 -- components begin at frames, and their items in the same order
 pub record AreRoots (w : Search) : Type 0 where
@@ -154,10 +169,10 @@ AreAccounted l blocks lists w = (p k : ℕ) → p < length w.stack → k < lengt
     IsAhead w p k ⊎ Accounted l blocks lists w p (place_at l.places k)
 
 -- what holds of a walk between its steps
-pub record Walks (l : Grouped) (blocks : List ℕ) (lists : List (List (ℕ × ℕ))) (w : Search) : Type 0 where
+pub record Walks (l : Grouped) (blocks : List ℕ) (alone : List Bool) (lists : List (List (ℕ × ℕ))) (w : Search) : Type 0 where
   pub numbers : HasNumbers l.states (length lists) (length w.stack) w.marks
   pub opened : AreOpen w.marks w.stack
-  pub signed : AreSigned l blocks lists w.marks
+  pub signed : AreSigned l blocks alone lists w.marks
   pub roots : AreRoots w
   pub frames : AreFrames l w.stack w.frames
   pub connects : Connects l blocks w

@@ -1,5 +1,5 @@
 -- Signatures in memory: each state's pairs of a label number and a block, in rising order.
-use Rattle.std.specs.Prelude.{◌↔◌, ℕ, ◌<◌, List, length, slice_index}
+use Rattle.std.specs.Prelude.{◌≡◌, ◌⊎◌, ◌↔◌, ℕ, ◌<◌, Bool, false, IsTrue, List, [], length, slice_index, slice_index_or}
 use Rattle.std.specs.List.{Contains}
 use Rattle.std.specs.List.Sorted.{IsStrictlySortedBy}
 use Rattle.theory.specs.Bisimulation.{Relation}
@@ -7,7 +7,7 @@ use Rattle.theory.specs.Bisimulation.Relation.{branching}
 use Rattle.theory.specs.Blocks.{Signature}
 use Rattle.lts.specs.Labels.{text_of}
 use Rattle.lts.specs.Lts.{Grouped, Triple, label_of, target_of, system_of}
-use Rattle.lists.specs.Lists.{pair_cmp, list_at}
+use Rattle.lists.specs.Lists.{pair_cmp}
 
 -- the pair of the label number k and the block b is in the signature of s
 abbrev pub HasPair : Relation → Grouped → List ℕ → ℕ → ℕ → ℕ → Type 0
@@ -22,7 +22,10 @@ pub record IsSignature (rel : Relation) (l : Grouped) (blocks : List ℕ) (s : �
 abbrev pub pair_under : List ℕ → Triple → ℕ × ℕ
 pair_under blocks e = (label_of e, slice_index blocks (target_of e))
 
--- the list of this number is the branching signature of s
-pub record IsListOf (l : Grouped) (blocks : List ℕ) (s : ℕ) (lists : List (List (ℕ × ℕ))) (k : ℕ) : Type 0 where
-  pub within : k < length lists
-  pub signature : IsSignature branching l blocks s (list_at lists k)
+-- the block of s is known to be of one state alone; alone tells it of each block
+abbrev pub IsKnownAlone : List ℕ → List Bool → ℕ → Type 0
+IsKnownAlone blocks alone s = IsTrue (slice_index_or alone (slice_index blocks s) false)
+
+-- the list of s: its branching signature, or no pairs if it is known to be alone in its block
+abbrev pub IsListOf : Grouped → List ℕ → List Bool → ℕ → List (ℕ × ℕ) → Type 0
+IsListOf l blocks alone s pairs = IsSignature branching l blocks s pairs ⊎ (IsKnownAlone blocks alone s × (pairs ≡ []))

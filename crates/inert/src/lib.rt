@@ -1,4 +1,25 @@
-//! The branching signatures of the states under blocks: one walk over inert steps, which reads each transition once.
+//! The branching signatures of all states under blocks, by one walk over inert steps that reads each transition once.
+//!
+//! A step is inert if it is internal and stays in its block. A state's signature has the pairs that its other steps show, and
+//! those of the states that inert steps lead to. So states that lead to each other, a component, share one signature.
+//! The walk goes into the depth (Gabow 2000), and meets a step in one of four ways:
+//!
+//! - It is not inert: its pair is an item of the component.
+//! - It leads to a state that was not seen: the state is entered, as a component of its own with a frame for its row.
+//! - It leads to a state on the stack: all components from that state's on become one, so the roots above it are cut.
+//! - It leads to a finished state: the number of its list is an item of the component.
+//!
+//! When a row was read, its frame is popped. If its state is the root of a component, the component is closed: the list of
+//! its items is the signature of its states, and the number of that list is an item of the component that led to it.
+//!
+//! ```text
+//! stack    2    5    7    3    9       states that were entered and are not finished
+//! frames   2         7         9       those whose rows are being read: the walk is at 9
+//! roots    2         7                 two components: 2 5, and 7 3 9
+//! items    (a,1) list 4   (b,1) (a,0)  what each has collected: two items each
+//! ```
+//!
+//! A state that is alone in its block is passed: no inert step leads to it from another one, so nothing needs its list.
 #![tactic(auto)]
 
 mod component;

@@ -4,8 +4,8 @@ ghost use Rattle.std.specs.List.{All};
 ghost use Rattle.lts.specs.Meter.{HasRoomFor, Costs};
 ghost use Rattle.lists.specs.declared.lists.TheConstants.{MOST_LISTS};
 ghost use Rattle.inert.specs.Steps.{Sees};
-ghost use Rattle.inert.specs.Search.{mark_at, AreOpen, AreThere, Walks, Laws};
-ghost use Rattle.inert.specs.Moves.{Closes, Finishes, ahead, Fits, HasRead, GoesOn, Rests, Advances};
+ghost use Rattle.inert.specs.Search.{mark_at, AreOpen, AreThere, Laws};
+ghost use Rattle.inert.specs.Moves.{Closes, Finishes, ahead, HasRead, IsUnderWay, GoesOn, Rests, Advances};
 ghost use Rattle.inert.specs.Ahead.{unread, HasSeen};
 ghost use Rattle.inert.specs.declared.walk.Mark.TheVariants.{Unseen};
 
@@ -24,15 +24,16 @@ impl Walk {
         l: &Lts<M>,
         blocks: &[u32],
         internal: Option<u32>,
+        alone: &[bool],
         s: u32,
         lists: &mut Lists,
         m: &mut M,
     ) -> Result<(), Memory>
         requires sees { Sees l.now blocks.now internal }
         requires state { (s < l.now.states) × (mark_at self.old.marks s ≡ Unseen) }
-        requires rests { Rests l.now blocks.now lists.old self.old }
+        requires rests { Rests l.now blocks.now alone.now lists.old self.old }
         requires room { HasRoomFor (M.counted m.old) 0 (unread l.now.places self.old.marks) }
-        ensures rests { OnOk result (Rests l.now blocks.now lists.new self.new) }
+        ensures rests { OnOk result (Rests l.now blocks.now alone.now lists.new self.new) }
         ensures seen { OnOk result (HasSeen s self.old.marks self.new.marks) }
         ensures visits { OnOk result ((M.counted m.new).visits + unread l.now.places self.new.marks
             ≡ (M.counted m.old).visits + unread l.now.places self.old.marks) }
@@ -41,10 +42,10 @@ impl Walk {
         laws();
         self.enter(l, s)?;
         while !self.frames.is_empty() {
-            if self.read(l, blocks, internal, lists, m)? {
+            if self.read(l, blocks, internal, alone, lists, m)? {
                 continue;
             }
-            self.go_back(l, blocks, lists)?;
+            self.go_back(l, blocks, alone, lists)?;
         }
         Ok(())
     }
@@ -58,15 +59,14 @@ impl Walk {
         l: &Lts<M>,
         blocks: &[u32],
         internal: Option<u32>,
+        alone: &[bool],
         lists: &Lists,
         m: &mut M,
     ) -> Result<bool, Memory>
         requires sees { Sees l.now blocks.now internal }
-        requires some { 0 < length self.old.frames }
-        requires walks { Walks l.now blocks.now lists.now self.old }
-        requires fits { Fits l.now (length lists.now) self.old }
+        requires way { IsUnderWay l.now blocks.now alone.now lists.now self.old }
         requires room { HasRoomFor (M.counted m.old) 0 (ahead l.now self.old) }
-        ensures on { OnOk result (GoesOn l.now blocks.now lists.now self.old self.new) }
+        ensures on { OnOk result (GoesOn l.now blocks.now alone.now lists.now self.old self.new) }
         ensures visits { OnOk result ((M.counted m.new).visits + ahead l.now self.new ≡ (M.counted m.old).visits + ahead l.now self.old) }
         ensures steps { IfOk result (Advances l.now self.old self.new) }
         ensures cost { Costs (M.counted m.old) (M.counted m.new) 0 0 (ahead l.now self.old) }
@@ -94,13 +94,12 @@ impl Walk {
         &mut self,
         l: &Lts<M>,
         blocks: &[u32],
+        alone: &[bool],
         lists: &mut Lists,
     ) -> Result<(), Memory>
-        requires some { 0 < length self.old.frames }
-        requires walks { Walks l.now blocks.now lists.old self.old }
-        requires fits { Fits l.now (length lists.old) self.old }
+        requires way { IsUnderWay l.now blocks.now alone.now lists.old self.old }
         requires read { HasRead self.old }
-        ensures on { OnOk result (GoesOn l.now blocks.now lists.new self.old self.new) }
+        ensures on { OnOk result (GoesOn l.now blocks.now alone.now lists.new self.old self.new) }
         ensures ahead { OnOk result (ahead l.now self.new ≡ ahead l.now self.old) }
         ensures back { OnOk result (length self.new.frames < length self.old.frames) }
     {

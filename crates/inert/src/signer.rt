@@ -1,16 +1,19 @@
 //! The two entrances to the walk: the branching signature of one state, and those of all.
-ghost use Rattle.std.specs.Prelude.{◌≡◌, ℕ, ◌+◌, ◌<◌, ◌≤◌, [], ◌∷◌, length, slice_index, IfOk, OnOk};
+ghost use Rattle.std.specs.Prelude.{◌≡◌, ◌⊎◌, ◌↔◌, ℕ, ◌+◌, ◌<◌, ◌≤◌, false, [], ◌∷◌, length, slice_index, slice_index_or, IfOk, OnOk, IsTrue};
 ghost use Rattle.theory.specs.Bisimulation.Relation.{branching};
-ghost use Rattle.lts.specs.Meter.{HasRoomFor, Visits};
+ghost use Rattle.lts.specs.Meter.{HasRoomFor, Costs, Visits};
 ghost use Rattle.lts.specs.Lts.{row_of};
 ghost use Rattle.lists.specs.Lists.{list_at, AreNumbers};
-ghost use Rattle.inert.specs.Signed.{IsSignature, IsListOf};
-ghost use Rattle.inert.specs.Search.{mark_at, IsIdle};
-ghost use Rattle.inert.specs.Moves.{Rests};
+ghost use Rattle.inert.specs.Signed.{IsSignature, IsKnownAlone, IsListOf};
+ghost use Rattle.inert.specs.Steps.{Sees};
+ghost use Rattle.inert.specs.Search.{mark_at, IsReady, IsNumbered};
+ghost use Rattle.inert.specs.Ahead.{unread, HasSeen};
+ghost use Rattle.inert.specs.Moves.{skipped, Rests};
 ghost use Rattle.inert.specs.declared.walk.Mark.TheVariants.{Unseen, Finished};
 
+use crate::step::read_row;
 use crate::walk::Walk;
-use lists::Lists;
+use lists::{EMPTY, Lists};
 use lts::{Lts, Memory, Meter};
 use std::alloc::Global;
 use std::marker::Model;
@@ -67,14 +70,16 @@ impl Signer {
         Ok(list)
     }
 
-    /// Puts the branching signature of each state into `lists`, and its number there into `numbers`.
+    /// Puts the branching signature of each state into `lists`, and its number there into `numbers`: no pairs for a state of a
+    /// block that is known to be of one state alone. `alone` tells it of each block; a block that is past its end is not known.
     ///
-    /// Fails if there is no memory for it.
+    /// Fails if there is no memory for it. It is open then which lists there are.
     pub fn sign_each<M: Meter>(
         &mut self,
         alloc: Global,
         l: &Lts<M>,
         blocks: &[u32],
+        alone: &[bool],
         lists: &mut Lists,
         numbers: &mut [u32],
         m: &mut M,
@@ -85,12 +90,12 @@ impl Signer {
         requires size { length numbers.old ≡ l.now.states }
         requires room { HasRoomFor (M.counted m.old) 0 (length l.now.places) }
         ensures signed { OnOk result ((s : ℕ) → s < l.now.states →
-            IsSignature branching l.now blocks.now s (list_at lists.new (slice_index numbers.new s))) }
+            IsListOf l.now blocks.now alone.now s (list_at lists.new (slice_index numbers.new s))) }
         ensures visits { let n = length l.now.places in Visits M.counted m.old m.new result n n }
         ensures numbers { AreNumbers lists.new numbers.new }
     {
         self.walk.prepare(alloc, l.states())?;
-        let done = sign_all(&mut self.walk, l, blocks, lists, numbers, m);
+        let done = sign_all(&mut self.walk, l, blocks, alone, lists, numbers, m);
         self.walk.reset();
         done?;
         Ok(())
@@ -108,46 +113,46 @@ fn sign_one<M: Meter>(
     lists: &mut Lists,
     m: &mut M,
 ) -> Result<u32, Memory>
-    requires idle { IsIdle walk.old }
-    requires marks { length walk.old.marks ≡ l.now.states }
+    requires ready { IsReady l.now.states walk.old }
     requires blocks { length blocks.now ≡ l.now.states }
     requires state { s < l.now.states }
     requires lists { lists.old ≡ [] ∷ [] }
     requires room { HasRoomFor (M.counted m.old) 0 (length l.now.places) }
-    ensures signature { IfOk result (λ k. IsListOf l.now blocks.now s lists.new k) }
+    ensures within { IfOk result (λ k. k < length lists.new) }
+    ensures signature { IfOk result (λ k. IsSignature branching l.now blocks.now s (list_at lists.new k)) }
     ensures visits { Visits M.counted m.old m.new result (length (row_of s l.now.places)) (length l.now.places) }
 {
     let internal = l.labels().internal();
-    walk.finish(l, blocks, internal, s, lists, m)?;
+    walk.finish(l, blocks, internal, &[], s, lists, m)?;
     let list = walk.list(s as usize);
     Ok(list)
 }
 
-/// Walks from each state that was not seen, and numbers the signatures of all.
+/// Walks from each state that was not seen, and numbers the lists of all.
 ///
 /// Fails if there is no memory for it.
 fn sign_all<M: Meter>(
     walk: &mut Walk,
     l: &Lts<M>,
     blocks: &[u32],
+    alone: &[bool],
     lists: &mut Lists,
     numbers: &mut [u32],
     m: &mut M,
 ) -> Result<(), Memory>
-    requires idle { IsIdle walk.old }
-    requires marks { length walk.old.marks ≡ l.now.states }
+    requires ready { IsReady l.now.states walk.old }
     requires blocks { length blocks.now ≡ l.now.states }
     requires lists { lists.old ≡ [] ∷ [] }
     requires numbers { (length numbers.old ≡ l.now.states) × AreNumbers lists.old numbers.old }
     requires room { HasRoomFor (M.counted m.old) 0 (length l.now.places) }
-    ensures signed { OnOk result ((s : ℕ) → s < l.now.states → IsListOf l.now blocks.now s lists.new (slice_index numbers.new s)) }
+    ensures signed { OnOk result ((s : ℕ) → s < l.now.states → IsListOf l.now blocks.now alone.now s (list_at lists.new (slice_index numbers.new s))) }
     ensures numbers { AreNumbers lists.new numbers.new }
     ensures visits { let n = length l.now.places in Visits M.counted m.old m.new result n n }
 {
-    let done = walk_all(walk, l, blocks, lists, m);
+    let done = walk_all(walk, l, blocks, alone, lists, m);
     lists.known();
     done?;
-    number(walk, numbers);
+    number(walk, blocks, alone, numbers);
     Ok(())
 }
 
@@ -159,15 +164,15 @@ fn walk_all<M: Meter>(
     walk: &mut Walk,
     l: &Lts<M>,
     blocks: &[u32],
+    alone: &[bool],
     lists: &mut Lists,
     m: &mut M,
 ) -> Result<(), Memory>
-    requires idle { IsIdle walk.old }
-    requires marks { length walk.old.marks ≡ l.now.states }
+    requires ready { IsReady l.now.states walk.old }
     requires blocks { length blocks.now ≡ l.now.states }
     requires lists { lists.old ≡ [] ∷ [] }
     requires room { HasRoomFor (M.counted m.old) 0 (length l.now.places) }
-    ensures rests { OnOk result (Rests l.now blocks.now lists.new walk.new) }
+    ensures rests { OnOk result (Rests l.now blocks.now alone.now lists.new walk.new) }
     ensures all { OnOk result ((s : ℕ) → s < l.now.states → ¬ (mark_at walk.new.marks s ≡ Unseen)) }
     ensures visits { let n = length l.now.places in Visits M.counted m.old m.new result n n }
 {
@@ -177,18 +182,90 @@ fn walk_all<M: Meter>(
         if !walk.is_unseen(s) {
             continue;
         }
-        walk.finish(l, blocks, internal, s, lists, m)?;
+        finish(walk, l, blocks, internal, alone, s, lists, m)?;
     }
     Ok(())
 }
 
-/// Puts the number of the list of each state, all of which are finished, in its place.
-fn number(walk: &Walk, numbers: &mut [u32])
+/// Finishes the state `s`, which was not seen, and all states that the walk from it sees. A state that is known to be alone in
+/// its block needs no list, since no inert step leads to it from another one: it is passed.
+///
+/// Fails if there is no memory for it.
+fn finish<M: Meter>(
+    walk: &mut Walk,
+    l: &Lts<M>,
+    blocks: &[u32],
+    internal: Option<u32>,
+    alone: &[bool],
+    s: u32,
+    lists: &mut Lists,
+    m: &mut M,
+) -> Result<(), Memory>
+    requires sees { Sees l.now blocks.now internal }
+    requires state { (s < l.now.states) × (mark_at walk.old.marks s ≡ Unseen) }
+    requires rests { Rests l.now blocks.now alone.now lists.old walk.old }
+    requires room { HasRoomFor (M.counted m.old) 0 (unread l.now.places walk.old.marks) }
+    ensures rests { OnOk result (Rests l.now blocks.now alone.now lists.new walk.new) }
+    ensures seen { OnOk result (HasSeen s walk.old.marks walk.new.marks) }
+    ensures visits { OnOk result ((M.counted m.new).visits + unread l.now.places walk.new.marks
+        ≡ (M.counted m.old).visits + unread l.now.places walk.old.marks) }
+    ensures cost { Costs (M.counted m.old) (M.counted m.new) 0 0 (unread l.now.places walk.old.marks) }
+{
+    lists.known();
+    if is_alone(alone, blocks[s as usize]) {
+        return pass(walk, l, s, m);
+    }
+    walk.finish(l, blocks, internal, alone, s, lists, m)
+}
+
+/// Whether the block is known to be of one state alone.
+fn is_alone(alone: &[bool], block: u32) -> bool
+    ensures { result ≡ slice_index_or alone.now block false }
+{
+    match alone.get(block as usize) {
+        Some(alone) => *alone,
+        None => false,
+    }
+}
+
+/// Finishes the state `s` with the empty list. Its row is read for the count of its visits alone.
+///
+/// Fails if there is no memory for it.
+fn pass<M: Meter>(walk: &mut Walk, l: &Lts<M>, s: u32, m: &mut M) -> Result<(), Memory>
+    requires state { s < l.now.states }
+    requires marks { length walk.old.marks ≡ l.now.states }
+    requires room { HasRoomFor (M.counted m.old) 0 (length (row_of s l.now.places)) }
+    ensures passed { let n = length (row_of s l.now.places) in
+        OnOk result ((walk.new ≡ skipped s walk.old) × Costs (M.counted m.old) (M.counted m.new) 0 n n) }
+    ensures cost { Costs (M.counted m.old) (M.counted m.new) 0 0 (length (row_of s l.now.places)) }
+{
+    walk.skip(s)?;
+    read_row(l, s, m);
+    Ok(())
+}
+
+/// Puts the number of the list of each state, all of which are finished, in its place: that of the empty one for a state that
+/// is known to be alone.
+fn number(walk: &Walk, blocks: &[u32], alone: &[bool], numbers: &mut [u32])
     requires size { length numbers.old ≡ length walk.now.marks }
+    requires blocks { length blocks.now ≡ length walk.now.marks }
     requires finished { (s : ℕ) → s < length walk.now.marks → (k : ℕ) × (mark_at walk.now.marks s ≡ Finished k) }
-    ensures { (s : ℕ) → s < length numbers.new → mark_at walk.now.marks s ≡ Finished (slice_index numbers.new s) }
+    ensures { (s : ℕ) → s < length numbers.new → IsNumbered blocks.now alone.now walk.now.marks s (slice_index numbers.new s) }
 {
     for s in 0..numbers.len() {
-        numbers[s] = walk.list(s);
+        numbers[s] = number_of(walk, blocks, alone, s);
     }
+}
+
+/// The number of the list of the state `s`, which is finished: that of the empty one if it is known to be alone.
+fn number_of(walk: &Walk, blocks: &[u32], alone: &[bool], s: usize) -> u32
+    requires state { s < length walk.now.marks }
+    requires blocks { length blocks.now ≡ length walk.now.marks }
+    requires finished { (k : ℕ) × (mark_at walk.now.marks s ≡ Finished k) }
+    ensures { IsNumbered blocks.now alone.now walk.now.marks s result }
+{
+    if is_alone(alone, blocks[s]) {
+        return EMPTY;
+    }
+    walk.list(s)
 }

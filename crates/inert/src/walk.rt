@@ -3,12 +3,13 @@
 ghost use Rattle.std.specs.Prelude.{◌≡◌, ◌↔◌, ℕ, ◌+◌, ◌<◌, ◌≤◌, [], length, IsTrue, IfOk, OnOk};
 ghost use Rattle.lts.specs.declared.limits.TheConstants.{MOST_STATES};
 ghost use Rattle.inert.specs.Search.{Search, mark_at, nothing, IsIdle};
-ghost use Rattle.inert.specs.Moves.{Enters, Takes, Cuts};
+ghost use Rattle.inert.specs.Moves.{Enters, Takes, Cuts, skipped};
 ghost use Rattle.inert.specs.Ahead.{IsTrail};
 ghost use Rattle.inert.specs.declared.walk.Mark.TheVariants.{Unseen, Open, Finished};
 ghost use Rattle.inert.specs.declared.step.Step.TheVariants.{Inert};
 
 use crate::step::Step;
+use lists::EMPTY;
 use lts::{Lts, Memory, Meter};
 use std::alloc::Global;
 use std::marker::Model;
@@ -151,6 +152,18 @@ impl Walk {
             Mark::Unseen => 0,
             Mark::Open(_) => 0,
         }
+    }
+
+    /// Finishes the state `s` with the empty list.
+    ///
+    /// Fails if there is no memory for it.
+    pub fn skip(&mut self, s: u32) -> Result<(), Memory>
+        requires { s < length self.old.marks }
+        ensures { OnOk result (self.new ≡ skipped s self.old) }
+    {
+        self.trail.push(s)?;
+        self.marks[s as usize] = Mark::Finished(EMPTY);
+        Ok(())
     }
 
     /// Enters the state `s`: it goes on the stack, as a component of its own, and its row is read from now on.

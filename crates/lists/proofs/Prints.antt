@@ -1,10 +1,12 @@
 -- Fingerprints are added up: pair by pair, and from two lists that share no pair.
-use Rattle.std.proofs.Common.{◌≡◌, ◌∙◌, ℕ, ◌+◌, ◌<◌, ◌%◌, ◌^◌, List, [], ◌∷◌, length, get_or, take, refl, ap, sym, arith}
+use Rattle.std.proofs.Common.{◌≡◌, ◌∙◌, ℕ, ◌+◌, ◌<◌, ◌%◌, ◌/◌, ◌^◌, false, eqb, List, [], ◌∷◌, length, get_or, take, refl, ap, sym, inl, inr, arith}
+use Rattle.std.proofs.lemmas.Bool.{cases_eq, eq-eqb, false≢true}
 use Rattle.std.specs.List.{sum_by}
 use Rattle.std.specs.Ordering.{is_eq}
 use Rattle.std.proofs.Math.Nat.{mod-add-mod, add-mod-mod}
 use Rattle.std.proofs.lemmas.List.Sums.{sum_by-cons, sum_by_more}
-use Rattle.lists.specs.Lists.{pair_cmp, merged, Apart}
+use Rattle.lists.specs.Lists.{pair_cmp, list_at, merged, Apart, IsAddition}
+use Rattle.lists.specs.Hashed.{IsSought}
 use Rattle.lists.specs.Spans.{word_of, fingerprint_of}
 use Rattle.lists.proofs.Rising.{here, there}
 use Rattle.lists.proofs.Merging.{at_order, pair_Decides}
@@ -61,3 +63,16 @@ length-sum (x ∷ xs) = omega (arith, sum_by-cons (λ _. 1) x xs, length-sum xs)
 pub length-merged : (xs ys : List (ℕ × ℕ)) → Apart xs ys → length (merged xs ys) ≡ length xs + length ys
 length-merged xs ys apart =
     omega (arith, sum_merged (λ _. 1) xs ys apart, length-sum xs, length-sum ys, length-sum (merged xs ys))
+
+-- the list that is looked for has the print that is made of both fingerprints
+pub sought_is : (lists : List (List (ℕ × ℕ))) (k : ℕ) (pairs : List (ℕ × ℕ)) → IsAddition lists k pairs → eqb (length pairs) 0 ≡ false
+    → (first second : ℕ) → first ≡ fingerprint_of (list_at lists k) → second ≡ fingerprint_of pairs
+    → IsSought lists k pairs ((first + second) % 2 ^ 64 / 2 ^ 32)
+sought_is lists k pairs addition some first second of_list of_pairs = record {
+  addition = addition;
+  some = elim (cases_eq (length pairs) 0) [
+    | inl none ↦ absurd (false≢true (sym some ∙ eq-eqb (length pairs) 0 none))
+    | inr more ↦ omega (arith, more)
+  ];
+  print_is = ap (λ f. f / 2 ^ 32) ((λ i. (of_list i + of_pairs i) % 2 ^ 64) ∙ fingerprint_merged (list_at lists k) pairs addition.apart);
+}

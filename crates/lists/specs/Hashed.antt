@@ -2,7 +2,7 @@
 use Rattle.std.specs.Prelude.{◌≡◌, ℕ, ◌*◌, ◌/◌, ◌^◌, ◌<◌, ◌≤◌, List, length, slice_index, slice_index_or}
 use Rattle.lists.specs.declared.hashed.Entry.{Entry}
 use Rattle.lists.specs.Spans.{fingerprint_of}
-use Rattle.lists.specs.Lists.{list_at}
+use Rattle.lists.specs.Lists.{list_at, merged, IsAddition}
 
 -- the print of a list: the upper half of its fingerprint
 abbrev pub print_of : List (ℕ × ℕ) → ℕ
@@ -41,6 +41,12 @@ pub record IsHashed (lists : List (List (ℕ × ℕ))) (heads : List ℕ) (entri
   pub prints : (r : ℕ) → 0 < r → r < length lists → (entry_at entries r).print ≡ print_of (list_at lists r)
   pub different : (j k : ℕ) → j < length lists → k < length lists → list_at lists j ≡ list_at lists k → j ≡ k
   pub chained : IsChained (length lists) (bucket_at entries heads) (before_at entries) heads
+
+-- the list that is looked for: the list number k with these pairs, some, which it lacks; it has this print
+pub record IsSought (lists : List (List (ℕ × ℕ))) (k : ℕ) (pairs : List (ℕ × ℕ)) (print : ℕ) : Type 0 where
+  pub addition : IsAddition lists k pairs
+  pub some : 0 < length pairs
+  pub print_is : print ≡ print_of (merged (list_at lists k) pairs)
 
 -- none of the lists from number 1 is this one
 abbrev pub IsNew : List (List (ℕ × ℕ)) → List (ℕ × ℕ) → Type 0

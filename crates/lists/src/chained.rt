@@ -1,8 +1,8 @@
-//! Lists of pairs that are looked up by their numbers. A list that is made from another one is kept as what it adds to it.
+//! Lists of pairs, each kept as what it adds to an earlier one, its base: the layer above `parts`.
 ghost use Rattle.std.specs.Prelude.{◌≡◌, ◌⊎◌, ◌↔◌, ℕ, ◌+◌, ◌*◌, ◌++◌, ◌∷◌, ◌<◌, ◌≤◌, [], length, slice_index, IfOk, OnOk, OnErr, IsTrue};
 ghost use Rattle.std.specs.List.{Contains};
 ghost use Rattle.std.specs.List.Sorted.{IsStrictlySortedBy};
-ghost use Rattle.lists.specs.Lists.{pair_cmp, list_at, merged, Apart};
+ghost use Rattle.lists.specs.Lists.{pair_cmp, list_at, merged, Apart, IsAddition};
 ghost use Rattle.lists.specs.Links.{padded, wholes, AreRising, AreChained};
 ghost use Rattle.lists.specs.Spans.{fingerprint_of};
 ghost use Rattle.lists.specs.declared.lists.TheConstants.{MOST_LISTS};
@@ -24,7 +24,7 @@ pub(crate) struct Chained {
     parts: Parts,
     /// The number of each list's base, which is an earlier list, or `EMPTY` if the list stands alone. It ends with the last list
     /// that has another base: if all lists stand alone, nothing is kept or read here. A list adds at most half as many pairs as
-    /// its base, so that chains are short.
+    /// its base adds to its own one, so that chains are short.
     bases: Vec<u32>,
 }
 
@@ -131,9 +131,7 @@ impl Chained {
     /// Whether the list number `j` is the list number `k` with these pairs, which that one lacks. What both share is not read.
     pub fn is_extended(&self, j: u32, k: u32, pairs: &[(u32, u32)]) -> bool
         requires list { j < length self.now }
-        requires base { k < length self.now }
-        requires rising { IsStrictlySortedBy pair_cmp pairs.now }
-        requires apart { Apart (list_at self.now k) pairs.now }
+        requires addition { IsAddition self.now k pairs.now }
         ensures { IsTrue result ↔ (list_at self.now j ≡ merged (list_at self.now k) pairs.now) }
     {
         self.known();
@@ -263,10 +261,11 @@ impl Chained {
 
     /// Appends the list number `k` to `pairs`.
     ///
-    /// Fails if there is no memory for it.
+    /// Fails if there is no memory for it. `pairs` has then what it had.
     pub fn append(&self, k: u32, pairs: &mut Vec<(u32, u32)>) -> Result<(), Memory>
         requires { k < length self.now }
-        ensures { OnOk result (pairs.new.items ≡ pairs.old.items ++ list_at self.now k) }
+        ensures appended { OnOk result (pairs.new.items ≡ pairs.old.items ++ list_at self.now k) }
+        ensures err { OnErr result (pairs.new.items ≡ pairs.old.items) }
     {
         self.known();
         if k == EMPTY {
@@ -286,10 +285,8 @@ impl Chained {
     ///
     /// Fails if there is no memory for it.
     pub fn add(&mut self, k: u32, pairs: &[(u32, u32)]) -> Result<u32, Memory>
-        requires list { k < length self.old }
         requires few { length self.old < MOST_LISTS }
-        requires rising { IsStrictlySortedBy pair_cmp pairs.now }
-        requires apart { Apart (list_at self.old k) pairs.now }
+        requires addition { IsAddition self.old k pairs.now }
         ensures added { OnOk result (self.new ≡ self.old ++ merged (list_at self.old k) pairs.now ∷ []) }
         ensures number { IfOk result (λ j. j ≡ length self.old) }
         ensures err { OnErr result (self.new ≡ self.old) }
@@ -301,8 +298,9 @@ impl Chained {
         self.push(base, &added)
     }
 
-    /// The list number `k` with these pairs, which it lacks, as a list of its chain and pairs that this one lacks: as long
-    /// as that one adds less than twice as many to its base, they are put together. If `all` are to be, the list is the empty one.
+    /// The list number `k` with these pairs, which it lacks, as a list of its chain and pairs that this one lacks. As long as a
+    /// list of the chain adds less than twice as many pairs to its base, both are merged. If `all` are to be merged, the base is
+    /// the empty list.
     ///
     /// Fails if there is no memory for it.
     fn gather(
@@ -311,12 +309,8 @@ impl Chained {
         pairs: &[(u32, u32)],
         all: bool,
     ) -> Result<(u32, Vec<(u32, u32)>), Memory>
-        requires list { k < length self.now }
-        requires rising { IsStrictlySortedBy pair_cmp pairs.now }
-        requires apart { Apart (list_at self.now k) pairs.now }
-        ensures base { IfOk result (λ r. r.0 < length self.now) }
-        ensures rising { IfOk result (λ r. IsStrictlySortedBy pair_cmp r.1.items) }
-        ensures apart { IfOk result (λ r. Apart (list_at self.now r.0) r.1.items) }
+        requires addition { IsAddition self.now k pairs.now }
+        ensures addition { IfOk result (λ r. IsAddition self.now r.0 r.1.items) }
         ensures list { IfOk result (λ r. merged (list_at self.now r.0) r.1.items ≡ merged (list_at self.now k) pairs.now) }
         ensures all { IfOk result (λ r. IsTrue all → r.0 ≡ 0) }
     {
@@ -341,10 +335,8 @@ impl Chained {
     /// Fails if there is no memory for it.
     #[inline(always)]
     fn push(&mut self, base: u32, added: &[(u32, u32)]) -> Result<u32, Memory>
-        requires base { base < length self.old }
         requires few { length self.old < MOST_LISTS }
-        requires rising { IsStrictlySortedBy pair_cmp added.now }
-        requires apart { Apart (list_at self.old base) added.now }
+        requires addition { IsAddition self.old base added.now }
         ensures pushed { OnOk result (self.new ≡ self.old ++ merged (list_at self.old base) added.now ∷ []) }
         ensures number { IfOk result (λ k. k ≡ length self.old) }
         ensures err { OnErr result (self.new ≡ self.old) }
@@ -383,9 +375,7 @@ fn put(
 ) -> Result<u32, Memory>
     requires chained { AreChained parts.old (padded bases.old.items (length parts.old)) }
     requires few { length parts.old < MOST_LISTS }
-    requires base { base < length parts.old }
-    requires rising { IsStrictlySortedBy pair_cmp added.now }
-    requires apart { Apart (list_at (wholes parts.old (padded bases.old.items (length parts.old))) base) added.now }
+    requires addition { IsAddition (wholes parts.old (padded bases.old.items (length parts.old))) base added.now }
     ensures chained { AreChained parts.new (padded bases.new.items (length parts.new)) }
     ensures put { let lists = wholes parts.old (padded bases.old.items (length parts.old)) in
         OnOk result (wholes parts.new (padded bases.new.items (length parts.new)) ≡ lists ++ merged (list_at lists base) added.now ∷ []) }

@@ -1,8 +1,9 @@
-//! Different lists of pairs: a list that is asked for again has the number that it got the first time.
-ghost use Rattle.std.specs.Prelude.{◌≡◌, ◌⊎◌, ◌↔◌, ℕ, ◌+◌, ◌++◌, ◌∷◌, ◌<◌, ◌≤◌, [], length, IfOk, OnOk};
+//! Different lists of pairs, so that a list that is asked for again has the number that it got the first time: the layer above
+//! `chained`.
+ghost use Rattle.std.specs.Prelude.{◌≡◌, ◌⊎◌, ◌↔◌, ℕ, ◌+◌, ◌++◌, ◌∷◌, ◌<◌, ◌≤◌, [], length, IfOk, OnOk, OnErr};
 ghost use Rattle.std.specs.List.{Contains};
 ghost use Rattle.std.specs.List.Sorted.{IsStrictlySortedBy};
-ghost use Rattle.lists.specs.Lists.{pair_cmp, list_at, merged, Apart, AreLists, Grow};
+ghost use Rattle.lists.specs.Lists.{pair_cmp, list_at, merged, IsAddition, AreLists, Grow};
 ghost use Rattle.lists.specs.declared.lists.TheConstants.{MOST_LISTS};
 
 use crate::chained::Chained;
@@ -114,10 +115,11 @@ impl Distinct {
 
     /// Appends the list number `k` to `pairs`.
     ///
-    /// Fails if there is no memory for it.
+    /// Fails if there is no memory for it. `pairs` has then what it had.
     pub fn append(&self, k: u32, pairs: &mut Vec<(u32, u32)>) -> Result<(), Memory>
         requires { k < length self.now }
-        ensures { OnOk result (pairs.new.items ≡ pairs.old.items ++ list_at self.now k) }
+        ensures appended { OnOk result (pairs.new.items ≡ pairs.old.items ++ list_at self.now k) }
+        ensures err { OnErr result (pairs.new.items ≡ pairs.old.items) }
     {
         self.lists.append(k, pairs)
     }
@@ -141,10 +143,8 @@ impl Distinct {
     ///
     /// Fails if there is no memory for it.
     pub fn add(&mut self, k: u32, pairs: &[(u32, u32)]) -> Result<u32, Memory>
-        requires list { k < length self.old }
         requires few { length self.old < MOST_LISTS }
-        requires rising { IsStrictlySortedBy pair_cmp pairs.now }
-        requires apart { Apart (list_at self.old k) pairs.now }
+        requires addition { IsAddition self.old k pairs.now }
         ensures within { IfOk result (λ j. j < length self.new) }
         ensures list { IfOk result (λ j. list_at self.new j ≡ merged (list_at self.old k) pairs.now) }
         ensures grow { Grow self.old self.new }

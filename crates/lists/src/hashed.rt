@@ -1,8 +1,7 @@
-//! The table that different lists are found in (hash-consing): each list has an entry, and those of one bucket are chained.
+//! The table that `distinct` finds its lists in (hash-consing): each list has an entry, and those of one bucket are chained.
 ghost use Rattle.std.specs.Prelude.{◌≡◌, ℕ, ◌/◌, ◌*◌, ◌^◌, ◌++◌, ◌∷◌, ◌<◌, ◌≤◌, [], length, IfOk, OnOk, OnErr, MatchOption};
-ghost use Rattle.std.specs.List.Sorted.{IsStrictlySortedBy};
-ghost use Rattle.lists.specs.Lists.{pair_cmp, list_at, merged, Apart};
-ghost use Rattle.lists.specs.Hashed.{print_of, bucket_of, IsHashed, IsNew, IsNumberOf};
+ghost use Rattle.lists.specs.Lists.{list_at, merged};
+ghost use Rattle.lists.specs.Hashed.{bucket_of, IsHashed, IsSought, IsNew, IsNumberOf};
 ghost use Rattle.lists.specs.declared.lists.TheConstants.{MOST_LISTS};
 
 use crate::chained::Chained;
@@ -45,10 +44,7 @@ pub(crate) fn find(
     print: u32,
 ) -> Option<u32>
     requires hashed { IsHashed lists.now heads.now entries.now }
-    requires list { k < length lists.now }
-    requires rising { IsStrictlySortedBy pair_cmp pairs.now }
-    requires apart { Apart (list_at lists.now k) pairs.now }
-    requires print { print ≡ print_of (merged (list_at lists.now k) pairs.now) }
+    requires sought { IsSought lists.now k pairs.now print }
     ensures { let list = merged (list_at lists.now k) pairs.now in
         MatchOption result (IsNew lists.now list) (IsNumberOf lists.now list) }
 {
@@ -76,11 +72,7 @@ pub(crate) fn put(
 ) -> Result<u32, Memory>
     requires hashed { IsHashed lists.old heads.old.items entries.old.items }
     requires few { length lists.old < MOST_LISTS }
-    requires list { k < length lists.old }
-    requires rising { IsStrictlySortedBy pair_cmp pairs.now }
-    requires some { 0 < length pairs.now }
-    requires apart { Apart (list_at lists.old k) pairs.now }
-    requires print { print ≡ print_of (merged (list_at lists.old k) pairs.now) }
+    requires sought { IsSought lists.old k pairs.now print }
     requires absent { IsNew lists.old (merged (list_at lists.old k) pairs.now) }
     ensures hashed { IsHashed lists.new heads.new.items entries.new.items }
     ensures added { OnOk result (lists.new ≡ lists.old ++ merged (list_at lists.old k) pairs.now ∷ []) }

@@ -1,4 +1,4 @@
-//! Unions of lists that are known, so that no union is made twice.
+//! The unions that `lists` has made, so that none is made twice.
 ghost use Rattle.std.specs.Prelude.{◌≡◌, ◌⊎◌, ℕ, [], IfSome};
 ghost use Rattle.std.specs.List.{Contains};
 

@@ -1,5 +1,5 @@
-//! Different lists of pairs that are looked up by their numbers, and unions of them.
-ghost use Rattle.std.specs.Prelude.{◌≡◌, ◌⊎◌, ◌↔◌, ℕ, ◌+◌, ◌++◌, ◌∷◌, ◌<◌, ◌≤◌, [], length, IfOk, OnOk};
+//! Different lists of pairs and their unions, asked for by number: the top layer, which the crates above see.
+ghost use Rattle.std.specs.Prelude.{◌≡◌, ◌⊎◌, ◌↔◌, ℕ, ◌+◌, ◌++◌, ◌∷◌, ◌<◌, ◌≤◌, [], length, IfOk, OnOk, OnErr};
 ghost use Rattle.std.specs.List.{Contains};
 ghost use Rattle.std.specs.List.Sorted.{IsStrictlySortedBy};
 ghost use Rattle.lists.specs.Lists.{pair_cmp, list_at, AreLists, AreNumbers, Grow, HasOne};
@@ -73,17 +73,18 @@ impl Lists {
 
     /// Appends the list number `k` to `pairs`.
     ///
-    /// Fails if there is no memory for it.
+    /// Fails if there is no memory for it. `pairs` has then what it had.
     pub fn append(&self, k: u32, pairs: &mut Vec<(u32, u32)>) -> Result<(), Memory>
         requires { k < length self.now }
-        ensures { OnOk result (pairs.new.items ≡ pairs.old.items ++ list_at self.now k) }
+        ensures appended { OnOk result (pairs.new.items ≡ pairs.old.items ++ list_at self.now k) }
+        ensures err { OnErr result (pairs.new.items ≡ pairs.old.items) }
     {
         self.lists.append(k, pairs)
     }
 
     /// The number of the list that is equal to this one: a new one if there was none.
     ///
-    /// Fails if there is no memory for it.
+    /// Fails if there is no memory for it. The lists that there were are as they were.
     pub fn push(&mut self, pairs: &[(u32, u32)]) -> Result<u32, Memory>
         requires few { length self.old < MOST_LISTS }
         requires rising { IsStrictlySortedBy pair_cmp pairs.now }
@@ -97,13 +98,17 @@ impl Lists {
 
     /// The number of the list that has the pairs of these lists and these pairs, and no other one.
     ///
-    /// Fails if there is no memory for it.
+    /// Fails if there is no memory for it. The lists that there were are as they were, and unions that were made until then stay.
     pub fn join(&mut self, lists: &[u32], pairs: &[(u32, u32)]) -> Result<u32, Memory>
         requires few { length self.old + length lists.now + 2 ≤ MOST_LISTS }
         requires lists { AreNumbers self.old lists.now }
         requires rising { IsStrictlySortedBy pair_cmp pairs.now }
+
+        // Once it is done
         ensures within { IfOk result (λ k. k < length self.new) }
         ensures exactly { IfOk result (λ k. (z : ℕ × ℕ) → Contains (list_at self.new k) z ↔ (Contains pairs.now z ⊎ HasOne self.old lists.now z)) }
+
+        // In either case
         ensures grow { Grow self.old self.new }
         ensures few { length self.new ≤ length self.old + length lists.now + 2 }
     {
@@ -253,12 +258,7 @@ fn lack(
 /// The number of the list that has the pairs of both lists: the longer one with what it lacks.
 ///
 /// Fails if there is no memory for it.
-fn unite(
-    lists: &mut Distinct,
-    missing: &mut Vec<(u32, u32)>,
-    j: u32,
-    k: u32,
-) -> Result<u32, Memory>
+fn unite(lists: &mut Distinct, missing: &mut Vec<(u32, u32)>, j: u32, k: u32) -> Result<u32, Memory>
     requires few { length lists.old < MOST_LISTS }
     requires first { j < length lists.old }
     requires second { k < length lists.old }

@@ -1,4 +1,4 @@
-//! Lists of pairs, one behind the other in one buffer.
+//! Lists of pairs, one after the other in one buffer: the lowest layer.
 ghost use Rattle.std.specs.Prelude.{◌≡◌, ◌++◌, ◌∷◌, ◌<◌, [], length, IfOk, OnOk, OnErr};
 ghost use Rattle.std.specs.List.Sorted.{IsStrictlySortedBy};
 ghost use Rattle.lists.specs.Lists.{pair_cmp, list_at};
@@ -14,7 +14,7 @@ use std::marker::Model;
 /// empty one.
 #[derive(Drop)]
 pub struct Parts {
-    /// All lists one behind the other.
+    /// All lists, one after the other.
     pairs: Vec<(u32, u32)>,
     /// Where each list is.
     spans: Vec<Span>,

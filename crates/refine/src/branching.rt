@@ -45,6 +45,8 @@ impl Sense for Branching {
         numbers: &mut [u32],
         m: &mut M,
     ) -> Result<(), Memory> {
-        marks.signer.sign_each(alloc, l, p, lists, numbers, m)
+        marks
+            .signer
+            .sign_each(alloc, l, p, alone, lists, numbers, m)
     }
 }

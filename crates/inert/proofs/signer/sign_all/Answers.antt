@@ -4,19 +4,18 @@ use Rattle.inert.proofs.signer.sign_all.Goals as goal
 
 pub number-requires-clause-finished : goal.number-requires-clause-finished
 number-requires-clause-finished g c s h =
-    finished c.args.l.now c.args.blocks.now c.walk_all-done.new.lists c.walk_all-done.new.walk c.in_ok-done.ensures.rests s
+    finished c.args.l.now c.args.blocks.now c.args.alone.now c.walk_all-done.new.lists c.walk_all-done.new.walk c.in_ok-done.ensures.rests s
     (c.in_ok-done.ensures.all s (let size = c.in_ok-done.ensures.rests.0.numbers.size in omega (arith, h, size)))
 
 pub returns-clause-signed : goal.returns-clause-signed
 returns-clause-signed g c s h =
     let size = c.requires.numbers.0 in
-    let low : s < length c.number.new.numbers = omega (arith, h, c.number.auto.numbers, size) in
-    let rests = c.in_ok-done.ensures.rests in
-    record {
-      within = (rests.0.signed s _ (c.number.ensures s low)).0;
-      signature = numbered_signed c.args.l.now c.args.blocks.now c.walk_all-done.new.lists c.walk_all-done.new.walk c.number.new.numbers rests c.number.ensures s low;
-    }
+    numbered_signed c.args.l.now c.args.blocks.now c.args.alone.now c.walk_all-done.new.lists c.walk_all-done.new.walk c.number.new.numbers c.in_ok-done.ensures.rests
+    c.number.ensures c.known.ensures.first s (omega (arith, h, c.number.auto.numbers, size))
 
 pub returns-clause-numbers : goal.returns-clause-numbers
 returns-clause-numbers g c =
-    numbered c.args.l.now c.args.blocks.now c.walk_all-done.new.lists c.walk_all-done.new.walk c.number.new.numbers c.in_ok-done.ensures.rests c.number.ensures
+    numbered c.args.l.now c.args.blocks.now c.args.alone.now c.walk_all-done.new.lists c.walk_all-done.new.walk c.number.new.numbers c.in_ok-done.ensures.rests c.number.ensures
+
+pub number-requires-clause-blocks : goal.number-requires-clause-blocks
+number-requires-clause-blocks g c = let size = c.in_ok-done.ensures.rests.0.numbers.size in omega (arith, c.requires.blocks, size)

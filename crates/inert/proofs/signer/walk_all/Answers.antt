@@ -7,9 +7,9 @@ loop-s-init g c =
     let l = c.args.l.now in
     let walk = c.args.walk.now in
     record {
-      rests = idle_rests l c.args.blocks.now c.args.lists.now walk c.requires.idle c.requires.marks (ap length c.requires.lists);
+      rests = idle_rests l c.args.blocks.now c.args.alone.now c.args.lists.now walk c.requires.ready.idle c.requires.ready.size (ap length c.requires.lists);
       all = λ t h below. absurd (omega (arith, h, below, c.states-s.ensures.value));
-      visits = omega (arith, idle_unread l walk.marks c.requires.idle.none);
+      visits = omega (arith, idle_unread l walk.marks c.requires.ready.idle.none);
       cost = record { rounds = omega arith; at_least = omega arith; at_most = omega arith };
     }
 

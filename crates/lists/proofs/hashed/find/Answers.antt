@@ -12,7 +12,7 @@ other c a = elim c.else-entry-print.branch [
   | else-entry-print-via-then-entry-print+else-is_extended w ↦ both_ways w.is_extended.result w.if-is_extended.false (w.is_extended.ensures.1 a)
   | else-entry-print-via-else-entry-print w ↦
       let some : 0 < c.loop-r.r = let h = c.loop-r-test.true in omega arith in
-      w.if-entry-print.false (c.requires.hashed.prints c.loop-r.r some c.loop-r.invariant.below ∙ ap print_of a ∙ sym c.requires.print)
+      w.if-entry-print.false (c.requires.hashed.prints c.loop-r.r some c.loop-r.invariant.below ∙ ap print_of a ∙ sym c.requires.sought.print_is)
 ]
 
 pub loop-r-preserved : goal.loop-r-preserved
@@ -25,6 +25,6 @@ loop-r-preserved c =
       below = let h = c.loop-r.invariant.below in omega arith;
       fits = λ p. chained.before_fit r some c.loop-r.invariant.below p ∙ c.loop-r.invariant.fits some;
       above =
-          none-above-before c.args.lists.now c.args.heads.now c.args.entries.now _ c.args.print c.requires.hashed c.requires.print
+          none-above-before c.args.lists.now c.args.heads.now c.args.entries.now _ c.args.print c.requires.hashed c.requires.sought.print_is
           r some c.loop-r.invariant.below (c.loop-r.invariant.fits some) (other c) c.loop-r.invariant.above;
     }

@@ -23,8 +23,8 @@ module _ (c : After-push_reserved) where
   grown =
       IsHashed-push c.args.lists.now c.args.heads.now.items c.args.entries.now.items list new c.bucket-b.result c.requires.hashed
       c.known.ensures.some
-      (λ e. merged_some (list_at c.args.lists.now c.args.k) c.args.pairs.now c.requires.some (sym c.known.ensures.first ∙ e))
-      c.requires.absent c.requires.print (c.bucket-b.ensures.value ∙ ap (λ n. bucket_of n c.args.print) size)
+      (λ e. merged_some (list_at c.args.lists.now c.args.k) c.args.pairs.now c.requires.sought.some (sym c.known.ensures.first ∙ e))
+      c.requires.absent c.requires.sought.print_is (c.bucket-b.ensures.value ∙ ap (λ n. bucket_of n c.args.print) size)
       (omega (arith, c.bucket-b.ensures.below, size))
       (get_or_read c.args.heads.now.items _ _ (omega (arith, c.bucket-b.ensures.below, size)) c.index.ensures 0)
 

@@ -1,5 +1,6 @@
 use Rattle.std.proofs.Common.{ap, length, arith}
-use Rattle.inert.proofs.Trails.{IsTrail-enter}
+use Rattle.inert.specs.declared.walk.Mark.TheVariants.{Open}
+use Rattle.inert.proofs.Trails.{IsTrail-mark}
 use Rattle.inert.proofs.walk.Walk.enter.Goals as goal
 
 pub invariant_of-self-2 : goal.invariant_of-self-2
@@ -7,5 +8,5 @@ invariant_of-self-2 g c =
     let same = ap (λ w. length w.marks) c.self.view_is in
     let size = c.requires.marks in
     let state = c.requires.state in
-    IsTrail-enter c.self.inside.marks.items c.self.inside.trail.items c.push.new.self.items c.args.s c.len-place.result (omega (arith, same, size, state))
+    IsTrail-mark c.self.inside.marks.items c.self.inside.trail.items c.push.new.self.items c.args.s (Open c.len-place.result) (omega (arith, same, size, state))
     c.in_ok-push.ensures.items c.self.invariant

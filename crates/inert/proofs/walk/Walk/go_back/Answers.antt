@@ -25,20 +25,20 @@ module _ (g : Over) (c : After-index-root g) where
   is : Inside ≡ c.args.self.now
   is = c.self.view_is
 
-  walks : Walks c.args.l.now c.args.blocks.now c.args.lists.now Inside
-  walks = subst (Walks c.args.l.now c.args.blocks.now c.args.lists.now) (sym is) c.requires.walks
+  walks : Walks c.args.l.now c.args.blocks.now c.args.alone.now c.args.lists.now Inside
+  walks = subst (Walks c.args.l.now c.args.blocks.now c.args.alone.now c.args.lists.now) (sym is) c.requires.way.walks
 
   fits : Fits c.args.l.now (length c.args.lists.now) Inside
-  fits = subst (Fits c.args.l.now (length c.args.lists.now)) (sym is) c.requires.fits
+  fits = subst (Fits c.args.l.now (length c.args.lists.now)) (sym is) c.requires.way.fits
 
   some : 0 < length Inside.frames
-  some = subst (λ w. 0 < length w.frames) (sym is) c.requires.some
+  some = subst (λ w. 0 < length w.frames) (sym is) c.requires.way.some
 
   read : HasRead Inside
   read = subst HasRead (sym is) c.requires.read
 
   roots : 0 < length Inside.roots
-  roots = roots_some c.args.l.now c.args.blocks.now c.args.lists.now Inside walks (stack_some c.args.l.now c.args.blocks.now c.args.lists.now Inside walks some)
+  roots = roots_some c.args.l.now c.args.blocks.now c.args.alone.now c.args.lists.now Inside walks (stack_some c.args.l.now c.args.blocks.now c.args.alone.now c.args.lists.now Inside walks some)
 
   frame : c.index-frame.result.now ≡ top Inside.frames
   frame =
@@ -54,7 +54,7 @@ pub close-requires-clause-few : goal.close-requires-clause-few
 close-requires-clause-few g c =
     let d = (goal.at.close-requires-clause-few g c).After-index-root in
     let room = fits g d in
-    let stack = stack_some c.args.l.now c.args.blocks.now c.args.lists.now (Inside g d) (walks g d) (some g d) in
+    let stack = stack_some c.args.l.now c.args.blocks.now c.args.alone.now c.args.lists.now (Inside g d) (walks g d) (some g d) in
     let range = c.known.ensures.in_range in
     let few = (walks g d).roots.within _ _ (last_root c.self.inside.roots.items (walks g d).roots.rising (roots g d)) in
     let items = ap (λ r. r.items) (root g d) in
@@ -79,9 +79,9 @@ returns-else-root-frame-clause-on g c =
     let d = (goal.at.returns-else-root-frame-clause-on g c).After-index-root in
     let apart : (root_at (Inside g d).roots (length (Inside g d).roots - 1)).place ≢ (top (Inside g d).frames).place =
     λ e. c.if-root-frame.false (ap (λ r. r.place) (root g d) ∙ e ∙ ap (λ x. x.place) (sym (frame g d))) in
-    subst (λ x. GoesOn c.args.l.now c.args.blocks.now c.args.lists.now x (record (Inside g d) { frames = c.pop.new.self.items })) (is g d)
-    (subst (GoesOn c.args.l.now c.args.blocks.now c.args.lists.now (Inside g d)) (left g d c.pop.new.self.items c.pop.ensures.rest)
-    (popped_on c.laws.ensures c.args.l.now c.known.ensures c.args.blocks.now c.args.lists.now (Inside g d) (walks g d) (fits g d) (some g d) (read g d) apart))
+    subst (λ x. GoesOn c.args.l.now c.args.blocks.now c.args.alone.now c.args.lists.now x (record (Inside g d) { frames = c.pop.new.self.items })) (is g d)
+    (subst (GoesOn c.args.l.now c.args.blocks.now c.args.alone.now c.args.lists.now (Inside g d)) (left g d c.pop.new.self.items c.pop.ensures.rest)
+    (popped_on c.laws.ensures c.args.l.now c.known.ensures c.args.blocks.now c.args.alone.now c.args.lists.now (Inside g d) (walks g d) (fits g d) (some g d) (read g d) apart))
 
 -- the component was finished
 module _ (g : Over) (d : After-index-root g) (same : d.index-root.result.now.place ≡ d.index-frame.result.now.place) (lists' : List (List (ℕ × ℕ)))
@@ -95,14 +95,14 @@ module _ (g : Over) (d : After-index-root g) (same : d.index-root.result.now.pla
       subst (λ w. Closes (root_at (Inside g d).roots (length (Inside g d).roots - 1)) d.args.lists.now lists' w new) (sym (left g d frames rest))
       (subst (λ r. Closes r d.args.lists.now lists' (record (Inside g d) { frames = frames }) new) (root g d) closes)
 
-  on : GoesOn d.args.l.now d.args.blocks.now lists' d.args.self.now new
+  on : GoesOn d.args.l.now d.args.blocks.now d.args.alone.now lists' d.args.self.now new
   on =
-      subst (λ x. GoesOn d.args.l.now d.args.blocks.now lists' x new) (is g d)
-      (closed_on d.laws.ensures d.args.l.now d.known.ensures d.args.blocks.now d.args.lists.now (Inside g d) (walks g d) (fits g d) (some g d) (read g d) lists' new place closes_last)
+      subst (λ x. GoesOn d.args.l.now d.args.blocks.now d.args.alone.now lists' x new) (is g d)
+      (closed_on d.laws.ensures d.args.l.now d.known.ensures d.args.blocks.now d.args.alone.now d.args.lists.now (Inside g d) (walks g d) (fits g d) (some g d) (read g d) lists' new place closes_last)
 
   same_ahead : ahead d.args.l.now new ≡ ahead d.args.l.now d.args.self.now
   same_ahead =
-      closed_ahead d.laws.ensures d.args.l.now d.known.ensures d.args.blocks.now d.args.lists.now (Inside g d) (walks g d) (fits g d) (some g d) (read g d) lists' new place closes_last
+      closed_ahead d.laws.ensures d.args.l.now d.known.ensures d.args.blocks.now d.args.alone.now d.args.lists.now (Inside g d) (walks g d) (fits g d) (some g d) (read g d) lists' new place closes_last
       ∙ ap (ahead d.args.l.now) (is g d)
 
 pub returns-in_ok-close-clause-on : goal.returns-in_ok-close-clause-on

@@ -35,13 +35,13 @@ module _ (g : Over) (c : After-index g) where
 
   frame : c.index-frame.result.now ≡ top c.args.self.now.frames
   frame =
-      let low : c.len-last.result - 1 < length Inside.frames = omega (arith, number, c.requires.some, ap (λ w. length w.frames) is) in
+      let low : c.len-last.result - 1 < length Inside.frames = omega (arith, number, c.requires.way.some, ap (λ w. length w.frames) is) in
       get_or_read Inside.frames (c.len-last.result - 1) c.index-frame.result.now low c.index-frame.ensures _
       ∙ ap (λ w. frame_at w.frames (c.len-last.result - 1)) is ∙ ap (frame_at c.args.self.now.frames) last
 
   block : slice_index c.args.blocks.now c.index.result.now ≡ slice_index c.args.blocks.now (slice_index c.args.self.now.stack (top c.args.self.now.frames).place)
   block =
-      let on = c.requires.walks.frames.on_stack (length c.args.self.now.frames - 1) (omega (arith, c.requires.some)) in
+      let on = c.requires.way.walks.frames.on_stack (length c.args.self.now.frames - 1) (omega (arith, c.requires.way.some)) in
       let place = ap (λ x. x.place) frame in
       let low : c.index-frame.result.now.place < length Inside.stack = omega (arith, on, place, ap (λ w. length w.stack) is) in
       ap (slice_index c.args.blocks.now)
@@ -54,8 +54,8 @@ loop-k-init g c =
     let next = ap (λ x. x.next) (frame g d) in
     record {
       reads =
-          subst (Reads c.args.l.now c.args.blocks.now c.args.lists.now c.args.self.now c.args.self.now) (sym next)
-          (reads_none c.args.l.now c.args.blocks.now c.args.lists.now c.args.self.now c.requires.walks c.requires.fits);
+          subst (Reads c.args.l.now c.args.blocks.now c.args.alone.now c.args.lists.now c.args.self.now c.args.self.now) (sym next)
+          (reads_none c.args.l.now c.args.blocks.now c.args.alone.now c.args.lists.now c.args.self.now c.requires.way.walks c.requires.way.fits);
       visits = ap (λ n. (g.M.Meter.counted c.args.m.now).visits + n) (sym next);
       cost = record { rounds = omega arith; at_least = omega arith; at_most = omega arith };
     }
@@ -64,15 +64,15 @@ pub read_step-step-requires-clause-place : goal.read_step-step-requires-clause-p
 read_step-step-requires-clause-place g c =
     let d = (goal.at.read_step-step-requires-clause-place g c).After-index in
     let end = ap (λ x. x.end) (frame g d) in
-    place_below c.laws.ensures c.args.l.now c.known.ensures c.args.blocks.now c.args.lists.now c.args.self.now c.loop-k.self c.loop-k.k (c.len-last.result - 1)
-    c.loop-k.invariant.reads c.requires.some (last g d) (omega (arith, c.loop-k-test.true, end))
+    place_below c.laws.ensures c.args.l.now c.known.ensures c.args.blocks.now c.args.alone.now c.args.lists.now c.args.self.now c.loop-k.self c.loop-k.k (c.len-last.result - 1)
+    c.loop-k.invariant.reads c.requires.way.some (last g d) (omega (arith, c.loop-k-test.true, end))
 
 pub take-requires-clause-state : goal.take-requires-clause-state
 take-requires-clause-state g c =
     let d = (goal.at.take-requires-clause-state g c).After-index in
     let end = ap (λ x. x.end) (frame g d) in
-    goes_low c.laws.ensures c.args.l.now c.known.ensures c.args.blocks.now c.args.lists.now c.args.self.now c.loop-k.self c.loop-k.k (c.len-last.result - 1)
-    c.loop-k.invariant.reads c.requires.some (last g d) (omega (arith, c.loop-k-test.true, end)) (slice_index c.args.blocks.now c.index.result.now) (block g d)
+    goes_low c.laws.ensures c.args.l.now c.known.ensures c.args.blocks.now c.args.alone.now c.args.lists.now c.args.self.now c.loop-k.self c.loop-k.k (c.len-last.result - 1)
+    c.loop-k.invariant.reads c.requires.way.some (last g d) (omega (arith, c.loop-k-test.true, end)) (slice_index c.args.blocks.now c.index.result.now) (block g d)
     c.read_step-step.result c.read_step-step.ensures.step
 
 pub index_mut-requires : goal.index_mut-requires
@@ -80,8 +80,8 @@ index_mut-requires g c =
     let d = (goal.at.index_mut-requires g c).After-index in
     let end = ap (λ x. x.end) (frame g d) in
     let there =
-    still_there c.laws.ensures c.args.l.now c.known.ensures c.args.blocks.now c.args.lists.now c.args.self.now c.loop-k.self c.loop-k.k (c.len-last.result - 1)
-    c.loop-k.invariant.reads c.requires.some (last g d) (omega (arith, c.loop-k-test.true, end)) (slice_index c.args.blocks.now c.index.result.now) (block g d)
+    still_there c.laws.ensures c.args.l.now c.known.ensures c.args.blocks.now c.args.alone.now c.args.lists.now c.args.self.now c.loop-k.self c.loop-k.k (c.len-last.result - 1)
+    c.loop-k.invariant.reads c.requires.way.some (last g d) (omega (arith, c.loop-k-test.true, end)) (slice_index c.args.blocks.now c.index.result.now) (block g d)
     c.read_step-step.result c.read_step-step.ensures.step c.take.new.self c.in_ok-entered.entered c.in_ok-entered.ensures _ refl in
     omega (arith, there, ap (λ w. length w.frames) c.self-in-loop-k.view_is, c.self-in-loop-k.inside.frames.ok.0)
 
@@ -92,16 +92,16 @@ returns-clause-steps g c =
     let size = c.loop-k.invariant.reads.size in (
       λ e. absurd (false≢true e),
       λ _. (
-        read_all c.laws.ensures c.args.l.now c.known.ensures c.args.blocks.now c.args.lists.now c.args.self.now c.loop-k.self c.loop-k.k (c.len-last.result - 1)
-            c.loop-k.invariant.reads c.requires.some (last g d) (omega (arith, c.loop-k-test.false, end)),
-        omega (arith, size, c.requires.some),
-        read_steps c.laws.ensures c.args.l.now c.known.ensures c.args.blocks.now c.args.lists.now c.args.self.now c.loop-k.self c.loop-k.k (c.len-last.result - 1)
-            c.loop-k.invariant.reads c.requires.some (last g d),
+        read_all c.laws.ensures c.args.l.now c.known.ensures c.args.blocks.now c.args.alone.now c.args.lists.now c.args.self.now c.loop-k.self c.loop-k.k (c.len-last.result - 1)
+            c.loop-k.invariant.reads c.requires.way.some (last g d) (omega (arith, c.loop-k-test.false, end)),
+        omega (arith, size, c.requires.way.some),
+        read_steps c.laws.ensures c.args.l.now c.known.ensures c.args.blocks.now c.args.alone.now c.args.lists.now c.args.self.now c.loop-k.self c.loop-k.k (c.len-last.result - 1)
+            c.loop-k.invariant.reads c.requires.way.some (last g d),
       ),
     )
 
 -- one transition more was read
-module _ (g : Over) (d : After-index g) (w : Search) (k : ℕ) (reads : Reads d.args.l.now d.args.blocks.now d.args.lists.now d.args.self.now w k)
+module _ (g : Over) (d : After-index g) (w : Search) (k : ℕ) (reads : Reads d.args.l.now d.args.blocks.now d.args.alone.now d.args.lists.now d.args.self.now w k)
     (more : k < d.index-frame.result.now.end) (step : Step)
     (is_step : IsStep d.args.l.now d.args.blocks.now (slice_index d.args.blocks.now d.index.result.now) (place_at d.args.l.now.places k) step)
     (m inside : Search) (same : inside ≡ m) (enters : Bool) (takes : Takes d.args.l.now.places step w m enters)
@@ -117,7 +117,7 @@ module _ (g : Over) (d : After-index g) (w : Search) (k : ℕ) (reads : Reads d.
 
   there : i < length m.frames
   there =
-      still_there d.laws.ensures d.args.l.now d.known.ensures d.args.blocks.now d.args.lists.now d.args.self.now w k i reads d.requires.some (last g d) more_left
+      still_there d.laws.ensures d.args.l.now d.known.ensures d.args.blocks.now d.args.alone.now d.args.lists.now d.args.self.now w k i reads d.requires.way.some (last g d) more_left
       (slice_index d.args.blocks.now d.index.result.now) (block g d) step is_step m enters takes _ refl
 
   moved : record at { next = k + 1 } ≡ record (frame_at m.frames i) { next = k + 1 }
@@ -126,18 +126,18 @@ module _ (g : Over) (d : After-index g) (w : Search) (k : ℕ) (reads : Reads d.
       let here : at ≡ frame_at m.frames i = get_or_read inside.frames i at low is_at _ ∙ ap (λ x. frame_at x.frames i) same in
       λ j. record (here j) { next = k + 1 }
 
-  reads_on : ¬ IsTrue enters → Reads d.args.l.now d.args.blocks.now d.args.lists.now d.args.self.now New (k + 1)
+  reads_on : ¬ IsTrue enters → Reads d.args.l.now d.args.blocks.now d.args.alone.now d.args.lists.now d.args.self.now New (k + 1)
   reads_on stay =
-      subst (λ (x : Search). Reads d.args.l.now d.args.blocks.now d.args.lists.now d.args.self.now (record x { frames = set x.frames i (record at { next = k + 1 }) }) (k + 1))
+      subst (λ (x : Search). Reads d.args.l.now d.args.blocks.now d.args.alone.now d.args.lists.now d.args.self.now (record x { frames = set x.frames i (record at { next = k + 1 }) }) (k + 1))
       (sym same)
-      (read_more d.laws.ensures d.args.l.now d.known.ensures d.args.blocks.now d.args.lists.now d.args.self.now w k i reads d.requires.some (last g d) more_left
+      (read_more d.laws.ensures d.args.l.now d.known.ensures d.args.blocks.now d.args.alone.now d.args.lists.now d.args.self.now w k i reads d.requires.way.some (last g d) more_left
       (slice_index d.args.blocks.now d.index.result.now) (block g d) step is_step m enters takes (record at { next = k + 1 }) moved stay)
 
-  entered_on : IsTrue enters → Entered d.args.l.now d.args.blocks.now d.args.lists.now d.args.self.now New (k + 1)
+  entered_on : IsTrue enters → Entered d.args.l.now d.args.blocks.now d.args.alone.now d.args.lists.now d.args.self.now New (k + 1)
   entered_on went =
-      subst (λ (x : Search). Entered d.args.l.now d.args.blocks.now d.args.lists.now d.args.self.now (record x { frames = set x.frames i (record at { next = k + 1 }) }) (k + 1))
+      subst (λ (x : Search). Entered d.args.l.now d.args.blocks.now d.args.alone.now d.args.lists.now d.args.self.now (record x { frames = set x.frames i (record at { next = k + 1 }) }) (k + 1))
       (sym same)
-      (read_entered d.laws.ensures d.args.l.now d.known.ensures d.args.blocks.now d.args.lists.now d.args.self.now w k i reads d.requires.some (last g d) more_left
+      (read_entered d.laws.ensures d.args.l.now d.known.ensures d.args.blocks.now d.args.alone.now d.args.lists.now d.args.self.now w k i reads d.requires.way.some (last g d) more_left
       (slice_index d.args.blocks.now d.index.result.now) (block g d) step is_step m enters takes (record at { next = k + 1 }) moved went)
 
 pub loop-k-preserved : goal.loop-k-preserved
@@ -169,7 +169,7 @@ pub returns-then-entered-clause-steps : goal.returns-then-entered-clause-steps
 returns-then-entered-clause-steps g c =
     let d = (goal.at.returns-then-entered-clause-steps g c).After-index in
     let less =
-    entered_steps _ _ _ _ _ _
+    entered_steps _ _ _ _ _ _ _
     (entered_on g d c.loop-k.self c.loop-k.k c.loop-k.invariant.reads (omega (arith, c.loop-k-test.true)) c.read_step-step.result c.read_step-step.ensures.step c.take.new.self
     _ c.self-in-loop-k.view_is c.in_ok-entered.entered c.in_ok-entered.ensures c.index_mut.result.now c.index_mut.ensures.value c.if-entered.true) in
     (λ _. less, λ stay. absurd (stay refl))

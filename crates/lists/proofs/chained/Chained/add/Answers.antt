@@ -1,4 +1,4 @@
 use Rattle.lists.proofs.chained.Chained.add.Goals as goal
 
-pub push-requires-2-clause-apart : goal.push-requires-2-clause-apart
-push-requires-2-clause-apart c = rw c.deref.ensures.value c.in_ok-base.ensures.apart
+pub push-requires-2-clause-addition : goal.push-requires-2-clause-addition
+push-requires-2-clause-addition c = rw c.deref.ensures.value c.in_ok-base.ensures.addition

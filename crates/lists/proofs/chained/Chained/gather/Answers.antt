@@ -9,9 +9,7 @@ pub loop-at-init : goal.loop-at-init
 loop-at-init c =
     let is = c.in_ok-added.ensures.items in
     record {
-      within = c.requires.list;
-      rising = rw is c.requires.rising;
-      apart = rw is c.requires.apart;
+      addition = rw is c.requires.addition;
       list = ap (merged (list_at c.args.self.now c.args.k)) is;
     }
 
@@ -30,13 +28,16 @@ loop-at-preserved c =
     let both = c.append_merged.new.out.items in
     let is = c.cut-base.ensures.list in
     let rise_part = c.cut-base.ensures.rising in
-    let rise_added = c.loop-at.invariant.rising in
-    let low = c.loop-at.invariant.within in
+    let before = c.loop-at.invariant.addition in
+    let rise_added = before.rising in
+    let low = before.within in
     let below = c.cut-base.ensures.base in
     record {
-      within = omega arith;
-      rising = gathered_rises list base part added both is (made at) rise_part rise_added;
-      apart = gathered_apart list base part added both is (made at) rise_part rise_added c.cut-base.ensures.apart c.loop-at.invariant.apart;
+      addition = record {
+        within = omega (arith, low, below);
+        rising = gathered_rises list base part added both is (made at) rise_part rise_added;
+        apart = gathered_apart list base part added both is (made at) rise_part rise_added c.cut-base.ensures.apart before.apart;
+      };
       list =
           gathered_is list base part added both is (made at) rise_part rise_added (c.known.ensures.rise c.cut-base.result.0 _ (omega arith))
           ∙ c.loop-at.invariant.list;

@@ -6,11 +6,8 @@ use Rattle.lists.proofs.chained.Chained.push.Goals as goal
 pub put-requires-clause-few : goal.put-requires-clause-few
 put-requires-clause-few c = omega (arith, parts_size c.self.invariant c.self.view_is, c.requires.few)
 
-pub put-requires-clause-base : goal.put-requires-clause-base
-put-requires-clause-base c = omega (arith, parts_size c.self.invariant c.self.view_is, c.requires.base)
-
-pub put-requires-clause-apart : goal.put-requires-clause-apart
-put-requires-clause-apart c = rw c.self.view_is c.requires.apart
+pub put-requires-clause-addition : goal.put-requires-clause-addition
+put-requires-clause-addition c = rw c.self.view_is c.requires.addition
 
 pub returns-clause-number : goal.returns-clause-number
 returns-clause-number c = IfOk-weaker c.put.result _ _ (λ k e. e ∙ parts_size c.self.invariant c.self.view_is) c.put.ensures.number

@@ -1,6 +1,6 @@
 use Rattle.std.proofs.Common.{◌∙◌, ◌⊎◌, ◌↔◌, Contains, ap, sym, subst, refl}
 use Rattle.std.proofs.lemmas.Result.{IfOk-weaker}
-use Rattle.lists.specs.Lists.{list_at, merged}
+use Rattle.lists.specs.Lists.{list_at, merged, IsAddition}
 use Rattle.lists.proofs.Merging.{merged_has}
 use Rattle.lists.proofs.Uniting.{AreUnions-grow, with_none, with_lacked}
 use Rattle.lists.proofs.lists.Lists.with.Goals as goal
@@ -26,8 +26,14 @@ returns-clause-exactly c =
     c.both.ensures.exactly)
 
 -- the pairs are added to the list at once
-pub add-requires-clause-apart : goal.add-requires-clause-apart
-add-requires-clause-apart c = rw c.deref.ensures.value (λ z b d. ((c.in_ok-lack.ensures.exactly z).0 d).1 b)
+pub add-requires-clause-addition : goal.add-requires-clause-addition
+add-requires-clause-addition c =
+    let addition : IsAddition c.self.inside.lists c.args.k c.lack.new.missing.items = record {
+      within = rw c.self.view_is c.requires.list;
+      rising = c.in_ok-lack.ensures.rising;
+      apart = λ z b d. ((c.in_ok-lack.ensures.exactly z).0 d).1 b;
+    } in
+    rw c.deref.ensures.value addition
 
 pub invariant_of-self-then-addition-len : goal.invariant_of-self-then-addition-len
 invariant_of-self-then-addition-len c = AreUnions-grow c.add.ensures.grow c.self.inside.known c.self.invariant

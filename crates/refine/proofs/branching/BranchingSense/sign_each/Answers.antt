@@ -1,6 +1,12 @@
-use Rattle.std.proofs.Common.{inl}
+use Rattle.std.proofs.Common.{inl, inr}
 use Rattle.std.proofs.lemmas.Result.{on_ok_weaker}
 use Rattle.refine.proofs.branching.BranchingSense.sign_each.Goals as goal
 
 pub returns-clause-signed : goal.returns-clause-signed
-returns-clause-signed g c = on_ok_weaker c.sign_each.result (λ signed s h. inl (tt, signed s h)) c.sign_each.ensures.signed
+returns-clause-signed g c =
+    on_ok_weaker c.sign_each.result
+    (λ signed s h. elim (signed s h) [
+      | inl signature ↦ inl (tt, signature)
+      | inr (known, empty) ↦ inr (empty, inr known)
+    ])
+    c.sign_each.ensures.signed

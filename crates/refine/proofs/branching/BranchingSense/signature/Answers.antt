@@ -18,5 +18,5 @@ returns-clause-appends g c =
       list,
       subst (λ bs. IsSignature branching c.args.l.now bs c.args.s list) c.blocks-2.ensures.blocks c.in_ok-list.ensures.signature,
       c.in_ok-extend_from_slice.ensures.items
-          ∙ ap (λ xs. c.args.out.now.items ++ xs) (c.deref.ensures.value ∙ c.in_ok-append.ensures ∙ ap (λ xs. xs ++ list) c.clear-2.ensures.items),
+          ∙ ap (λ xs. c.args.out.now.items ++ xs) (c.deref.ensures.value ∙ c.in_ok-append.ensures.appended ∙ ap (λ xs. xs ++ list) c.clear-2.ensures.items),
     )

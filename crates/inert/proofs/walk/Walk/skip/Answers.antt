@@ -1,0 +1,10 @@
+use Rattle.std.proofs.Common.{ap, length, arith}
+use Rattle.inert.specs.declared.walk.Mark.TheVariants.{Finished}
+use Rattle.inert.proofs.Trails.{IsTrail-mark}
+use Rattle.inert.proofs.walk.Walk.skip.Goals as goal
+
+pub invariant_of-self-2 : goal.invariant_of-self-2
+invariant_of-self-2 c =
+    let same = ap (λ w. length w.marks) c.self.view_is in
+    IsTrail-mark c.self.inside.marks.items c.self.inside.trail.items c.push.new.self.items c.args.s (Finished 0) (omega (arith, same, c.requires))
+    c.in_ok-push.ensures.items c.self.invariant
