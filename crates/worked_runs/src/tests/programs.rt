@@ -20,12 +20,16 @@ const FILES: [(&str, &[u8]); 6] = [
 
 /// What opens these files and no others.
 #[derive(Drop)]
-struct Shelf;
+struct Shelf {
+    has_refused: bool,
+}
 
 impl Opener for Shelf {
     type File = SliceSource<'static>;
 
     ghost opened = { λ _. None };
+
+    ghost has_refused = { λ shelf. shelf.has_refused };
 
     ghost holds = { λ _ _. None };
 
@@ -35,6 +39,7 @@ impl Opener for Shelf {
                 return Ok(SliceSource::new(*text, None));
             }
         }
+        self.has_refused = true;
         Err(Broken)
     }
 }
@@ -116,7 +121,8 @@ const ENDS: [Ends; 11] = [
 /// Whether the program ends the line of words so.
 fn ends(alloc: Global, row: &Ends) -> Result<bool, AllocError> {
     let (line, status, out, message) = *row;
-    let (found, output, said) = ended(&mut Shelf, alloc, line)?;
+    let mut shelf = Shelf { has_refused: false };
+    let (found, output, said) = ended(&mut shelf, alloc, line)?;
     Ok(found == status && output.bytes() == out && said.as_slice() == message)
 }
 
