@@ -1,5 +1,6 @@
 //! The one error of every crate that grows something: there was no memory for it.
 #![tactic(auto)]
+
 ghost use Rattle.std.specs.Prelude.{◌≡◌};
 
 use std::alloc::{AllocError, AllocFailed};

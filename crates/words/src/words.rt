@@ -134,11 +134,7 @@ fn described_min<'a>(alloc: Global) -> Result<Command<'a>, AllocError>
 {
     described_job(alloc, "min", ABOUT_MIN)?
         .arg(stats_flag(alloc))?
-        .arg(file(
-            alloc,
-            "file",
-            "The system; standard input if there is none",
-        ))
+        .arg(file(alloc, "file", "The system; standard input if there is none"))
 }
 
 /// What `clap` is told of the words of `cmp`.
