@@ -24,11 +24,11 @@ fn is_fault(alloc: Global, text: &[u8], fault: Fault) -> bool {
 /// A refused growth of the sink leaves the bytes that it had.
 fn of_sink(alloc: Global) -> Ending {
     let mut sink = VecSink::new(alloc, None);
-    if put_all(&mut sink, STEP).is_err() {
+    let Ok(()) = put_all(&mut sink, STEP) else {
         return Ending::refused_if(sink.failures() == 1 && sink.bytes().is_empty());
-    }
-    if put_all(&mut sink, &LONG).is_err() {
+    };
+    let Ok(()) = put_all(&mut sink, &LONG) else {
         return Ending::refused_if(sink.failures() == 1 && sink.bytes() == STEP);
-    }
+    };
     Ending::wanted_if(sink.failures() == 0 && sink.bytes().len() == 10_024)
 }
