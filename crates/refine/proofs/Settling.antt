@@ -14,7 +14,7 @@ use Rattle.inert.specs.Signed.{HasPair, IsSignature}
 use Rattle.refine.specs.Rounds.{IsNext}
 use Rattle.refine.specs.Splitting.{IsAlone, Splits}
 use Rattle.refine.specs.Settled.{IsTouched, IsStill, Settled, IsPut, ArePut, AreAlone}
-use Rattle.refine.proofs.Signing.{Labelled, carried, same_list}
+use Rattle.refine.proofs.Signing.{Labelled, equal_lists}
 
 -- before the first round every number is new
 pub settled_first : (rel : Relation) (A : System) (blocks : ℕ → ℕ) → Settled rel A blocks 0
@@ -100,13 +100,7 @@ module _ (rel : Relation) (l : Grouped) (labelled : Labelled l) (p : List ℕ) (
       → (signature s ≡ signature t) ↔ SameSignature rel (system_of l) (slice_index p) s t
   tells s t ls lt one = elim (put s ls) [
     | inl x ↦ elim (put t lt) [
-      | inl y ↦ (
-        λ e a b. (
-          carried rel l labelled p s t (signature s) (signature t) x.1 y.1 e a b,
-          carried rel l labelled p t s (signature t) (signature s) y.1 x.1 (sym e) a b,
-        ),
-        same_list rel l labelled p s t (signature s) (signature t) x.1 y.1,
-      )
+      | inl y ↦ equal_lists rel l labelled p s t (signature s) (signature t) x.1 y.1
       | inr y ↦ elim y.1 [
         | inl still ↦ mixed s t x.0 x.1 y.0 still
         | inr a ↦ of_one s t (known t lt a s (omega (arith, ls, states)) one)
@@ -172,14 +166,6 @@ module _ (rel : Relation) (l : Grouped) (sys : IsSystem (system_of l)) (labelled
     same = same;
     parted = parted;
   }
-
--- numbers do not matter for a Split
-pub split_renumbered : (rel : Relation) (A : System) (old new new' : ℕ → ℕ) → EachTwo A (λ s t. (new' s ≡ new' t) ↔ (new s ≡ new t))
-    → Split rel A old new → Split rel A old new'
-split_renumbered rel A old new new' same split s t ls lt = (
-  λ e. (split s t ls lt).0 ((same s t ls lt).0 e),
-  λ h. (same s t ls lt).1 ((split s t ls lt).1 h),
-)
 
 rises_empty : IsStrictlySortedBy pair_cmp []
 unfolding IsStrictlySortedBy

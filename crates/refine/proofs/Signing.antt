@@ -1,9 +1,9 @@
 -- Two states have equal lists as their signatures exactly where they have the same signature.
-use Rattle.std.proofs.Common.{◌≡◌, ℕ, List, slice_index, Contains, sym, subst}
+use Rattle.std.proofs.Common.{◌≡◌, ◌↔◌, ℕ, ◌<◌, List, slice_index, Contains, sym, subst}
 use Rattle.theory.specs.System.{Step}
 use Rattle.theory.specs.Bisimulation.{Relation}
 use Rattle.theory.specs.Bisimulation.Relation.{strong, branching}
-use Rattle.theory.specs.Blocks.{Signature, SameSignature}
+use Rattle.theory.specs.Blocks.{Signature, SameSignature, Split}
 use Rattle.lts.specs.Labels.{text_of, IsNumber}
 use Rattle.lts.specs.Lts.{Grouped, system_of}
 use Rattle.inert.specs.Signed.{HasPair, IsSignature}
@@ -23,7 +23,7 @@ module _ (l : Grouped) (labelled : Labelled l) (blocks : ℕ → ℕ) where
 
 module _ (rel : Relation) (l : Grouped) (labelled : Labelled l) (blocks : List ℕ) (s t : ℕ) (xs ys : List (ℕ × ℕ))
     (of_s : IsSignature rel l blocks s xs) (of_t : IsSignature rel l blocks t ys) where
-  pub carried : xs ≡ ys → (a : List ℕ) (b : ℕ) → Signature rel (system_of l) (slice_index blocks) s a b
+  carried : xs ≡ ys → (a : List ℕ) (b : ℕ) → Signature rel (system_of l) (slice_index blocks) s a b
       → Signature rel (system_of l) (slice_index blocks) t a b
   carried e a b h =
       let number = label_number l labelled (slice_index blocks) rel s a b h in
@@ -33,9 +33,30 @@ module _ (rel : Relation) (l : Grouped) (labelled : Labelled l) (blocks : List �
       (of_t.exactly number.0 b).0 (subst (λ zs. Contains zs (number.0, b)) e ((of_s.exactly number.0 b).1 pair)) in
       subst (λ x. Signature rel (system_of l) (slice_index blocks) t x b) number.1.text there.1
 
-  pub same_list : SameSignature rel (system_of l) (slice_index blocks) s t → xs ≡ ys
+  same_list : SameSignature rel (system_of l) (slice_index blocks) s t → xs ≡ ys
   same_list same =
       rising_unique pair_total xs ys of_s.rising of_t.rising (λ z. (
         λ c. let h = (of_s.exactly z.0 z.1).0 c in (of_t.exactly z.0 z.1).1 (h.0, (same (text_of l.labels z.0) z.1).0 h.1),
         λ c. let h = (of_t.exactly z.0 z.1).0 c in (of_s.exactly z.0 z.1).1 (h.0, (same (text_of l.labels z.0) z.1).1 h.1),
       ))
+
+module _ (rel : Relation) (l : Grouped) (labelled : Labelled l) (blocks : List ℕ) where
+  -- so equal lists tell equal signatures
+  pub equal_lists : (s t : ℕ) (xs ys : List (ℕ × ℕ)) → IsSignature rel l blocks s xs → IsSignature rel l blocks t ys
+      → (xs ≡ ys) ↔ SameSignature rel (system_of l) (slice_index blocks) s t
+  equal_lists s t xs ys of_s of_t = (
+    λ e a b. (carried rel l labelled blocks s t xs ys of_s of_t e a b, carried rel l labelled blocks t s ys xs of_t of_s (sym e) a b),
+    same_list rel l labelled blocks s t xs ys of_s of_t,
+  )
+
+  -- and blocks that are parted by the lists are the Split
+  pub signed_is_split : (signature : ℕ → List (ℕ × ℕ)) (new : List ℕ)
+      → ((s : ℕ) → s < l.states → IsSignature rel l blocks s (signature s))
+      → ((s t : ℕ) → s < l.states → t < l.states
+      → (slice_index new s ≡ slice_index new t) ↔ ((slice_index blocks s ≡ slice_index blocks t) × (signature s ≡ signature t)))
+      → Split rel (system_of l) (slice_index blocks) (slice_index new)
+  signed_is_split signature new signed parted s t ls lt =
+      let lists = equal_lists s t (signature s) (signature t) (signed s ls) (signed t lt) in (
+        λ e. let h = (parted s t ls lt).0 e in (h.0, lists.0 h.1),
+        λ h. (parted s t ls lt).1 (h.0, lists.1 h.1),
+      )

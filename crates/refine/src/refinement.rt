@@ -13,6 +13,7 @@ use crate::marks::Marks;
 use crate::partition::Partition;
 use crate::round_signatures::RoundSignatures;
 use crate::sense::Sense;
+use crate::signatures::Signatures;
 use crate::splitter::{Blocks, alone, one_block, renumber};
 use lts::{Lts, Memory, Meter};
 use std::alloc::Global;
@@ -39,19 +40,13 @@ pub fn round<S: Sense, M: Meter>(
     // After a refusal
     ensures err { OnErr result (CostsUpTo (M.counted m.old) (M.counted m.new) 1 (length l.now.places)) }
 {
+    lts::rows_are_steps();
+    l.known();
     let mut marks = Marks::new(alloc, l.states())?;
-    let mut signatures = RoundSignatures::new(alloc, l.states())?;
-    let next = next_round::<S, M>(
-        alloc,
-        l,
-        p.blocks(),
-        p.count(),
-        0,
-        &mut marks,
-        &mut signatures,
-        m,
-    )?;
-    renumber(alloc, &next.of, next.count)
+    let mut signatures = Signatures::new(alloc, l.states())?;
+    m.start_round();
+    signatures.fill::<S, M>(l, p, &mut marks, m)?;
+    signatures.split(p)
 }
 
 /// Blocks that two states share exactly if they are bisimilar, made from one block by round after round. The last
@@ -100,7 +95,7 @@ pub fn refine<S: Sense, M: Meter>(alloc: Global, l: &Lts<M>, m: &mut M) -> Resul
     }
 }
 
-/// One round, in marks and lists that are used again: the Split of `count` blocks, those that are numbered from `low` on
+/// One round as `round` makes it, without a look at what is settled, in marks and lists that are used again: the Split of `count` blocks, those that are numbered from `low` on
 /// being new.
 fn next_round<S: Sense, M: Meter>(
     alloc: Global,

@@ -1,34 +1,35 @@
-use Rattle.std.proofs.Common.{slice_index, length, ap, sym, subst, arith}
+use Rattle.std.proofs.Common.{◌∙◌, length, arith, rules}
 use Rattle.std.proofs.lemmas.Result.{IfOk-weaker}
-use Rattle.theory.specs.Blocks.{Split}
-use Rattle.lts.specs.Lts.{system_of}
-use Rattle.refine.specs.Partition.{AreBlocks}
-use Rattle.refine.proofs.Renumbering.{AreBlocks-partition}
-use Rattle.refine.proofs.Settling.{settled_first, split_renumbered}
+use Rattle.refine.specs.Signed.{signature_at}
+use Rattle.refine.proofs.Signing.{signed_is_split}
+use Rattle.refine.proofs.Spending.{begun_up_to, on_ok_from, on_err_from}
 use Rattle.refine.proofs.refinement.round.Goals as goal
 
-pub next_round-requires-clause-blocks : goal.next_round-requires-clause-blocks
-next_round-requires-clause-blocks g c =
-    subst (λ p. AreBlocks p c.count.result) (sym c.blocks-2.ensures.blocks) (AreBlocks-partition c.args.p.now c.count.result c.count.ensures)
+pub returns-in_err-fill-clause-err : goal.returns-in_err-fill-clause-err
+returns-in_err-fill-clause-err g c = let most = begun_up_to _ _ _ _ _ c.start_round.ensures c.fill.ensures.visits in search rules
 
-pub next_round-requires-clause-settled : goal.next_round-requires-clause-settled
-next_round-requires-clause-settled g c = settled_first g.S.Sense.relation (system_of c.args.l.now) (slice_index c.blocks-2.result.now)
+pub returns-clause-states : goal.returns-clause-states
+returns-clause-states g c = IfOk-weaker c.split.result _ _ (λ q size. size ∙ c.requires.states) c.split.ensures.states
 
 pub returns-clause-split : goal.returns-clause-split
 returns-clause-split g c =
-    let A = system_of c.args.l.now in
-    let next = c.in_ok-next.ensures.next in
-    let size = ap length c.deref.ensures.value in
-    IfOk-weaker c.renumber.result _ _
-    (λ q same.
-    split_renumbered g.S.Sense.relation A (slice_index c.args.p.now) (slice_index c.deref.result.now) (slice_index q)
-    (λ s t ls lt. same s t (omega (arith, ls, size, next.states)) (omega (arith, lt, size, next.states)))
-    (subst (λ new. Split g.S.Sense.relation A (slice_index c.args.p.now) (slice_index new)) (sym c.deref.ensures.value)
-    (subst (λ old. Split g.S.Sense.relation A (slice_index old) (slice_index c.in_ok-next.next.of.items)) c.blocks-2.ensures.blocks next.split)))
-    c.renumber.ensures.same
+    let l = c.args.l.now in
+    let size = c.requires.states in
+    IfOk-weaker c.split.result _ _
+    (λ q parted.
+    signed_is_split g.S.Sense.relation l (λ s a t. c.rows_are_steps.ensures.numbered l s a t c.known.ensures) c.args.p.now (signature_at c.fill.new.self) q
+    c.in_ok-fill.ensures.signed (λ s t ls lt. parted s t (omega (arith, ls, size)) (omega (arith, lt, size))))
+    c.split.ensures.blocks
 
-pub returns-clause-states : goal.returns-clause-states
-returns-clause-states g c =
-    let next = c.in_ok-next.ensures.next in
-    let size = ap length c.deref.ensures.value in
-    IfOk-weaker c.renumber.result _ _ (λ q same. omega (arith, same, size, next.states)) c.renumber.ensures.states
+pub returns-clause-costs : goal.returns-clause-costs
+returns-clause-costs g c =
+    let start = c.start_round.ensures in
+    let read = c.in_ok-fill.ensures.visits in
+    on_ok_from c.split.result (record {
+      rounds = omega (arith, start.rounds, read.rounds);
+      at_least = omega (arith, start.at_least, read.at_least);
+      at_most = omega (arith, start.at_most, read.at_most);
+    })
+
+pub returns-clause-err : goal.returns-clause-err
+returns-clause-err g c = on_err_from c.split.result (begun_up_to _ _ _ _ _ c.start_round.ensures c.fill.ensures.visits)
