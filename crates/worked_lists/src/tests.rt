@@ -1,0 +1,184 @@
+//! Lists by their numbers.
+ghost use Rattle.std.specs.Prelude.{IfOk};
+ghost use Rattle.std.specs.List.Sorted.{IsStrictlySortedBy};
+ghost use Rattle.lists.specs.Lists.{pair_cmp};
+
+use growth::Memory;
+use lists::{EMPTY, Lists, MOST_LISTS, order};
+use std::alloc::Global;
+use std::test::Fail;
+use worked::check;
+
+type Pairs = &'static [(u32, u32)];
+
+/// What two lists have, whether they are one list, and the pairs of both. Lists of equal prints have sums of words with the same
+/// upper half, by which the table looks for them.
+type Row = (&'static str, Pairs, Pairs, bool, Pairs);
+
+const ROWS: [Row; 8] = [
+    ("no pairs", &[], &[], true, &[]),
+    ("one is empty", &[(1, 2)], &[], false, &[(1, 2)]),
+    (
+        "in another order",
+        &[(1, 2), (0, 3)],
+        &[(0, 3), (1, 2)],
+        true,
+        &[(0, 3), (1, 2)],
+    ),
+    (
+        "more than once",
+        &[(1, 2), (1, 2)],
+        &[(1, 2)],
+        true,
+        &[(1, 2)],
+    ),
+    (
+        "numbers the other way round",
+        &[(1, 2)],
+        &[(2, 1)],
+        false,
+        &[(1, 2), (2, 1)],
+    ),
+    (
+        "one begins as the other",
+        &[(0, 0), (0, 1)],
+        &[(0, 0)],
+        false,
+        &[(0, 0), (0, 1)],
+    ),
+    (
+        "equal prints, one pair",
+        &[(51, 317)],
+        &[(160, 433)],
+        false,
+        &[(51, 317), (160, 433)],
+    ),
+    (
+        "equal prints, two pairs",
+        &[(1, 8), (2, 15)],
+        &[(1, 174), (2, 430)],
+        false,
+        &[(1, 8), (1, 174), (2, 15), (2, 430)],
+    ),
+];
+
+/// These pairs in rising order, each once.
+fn ordered(alloc: Global, pairs: &[(u32, u32)]) -> Result<Vec<(u32, u32)>, Memory>
+    ensures { IfOk result (λ list. IsStrictlySortedBy pair_cmp list.items) }
+{
+    let mut list = Vec::from_slice(alloc, pairs)?;
+    order(&mut list);
+    Ok(list)
+}
+
+/// The number of the list of these pairs.
+fn number_of(alloc: Global, lists: &mut Lists, pairs: &[(u32, u32)]) -> Result<u32, Fail> {
+    let list = ordered(alloc, pairs)?;
+    if lists.len() as usize >= MOST_LISTS {
+        return Err(Fail::new("too many lists"));
+    }
+    Ok(lists.push(&list)?)
+}
+
+/// The number of the union of two lists and these pairs.
+fn union_of(
+    alloc: Global,
+    lists: &mut Lists,
+    j: u32,
+    k: u32,
+    pairs: &[(u32, u32)],
+) -> Result<u32, Fail> {
+    let own = ordered(alloc, pairs)?;
+    let count = lists.len();
+    if count as usize + 4 > MOST_LISTS || j >= count || k >= count {
+        return Err(Fail::new("too many lists, or too few"));
+    }
+    Ok(lists.join(&[j, k], &own)?)
+}
+
+/// Fails if the list number `k` has not these pairs, or the next ones.
+fn check_list(
+    alloc: Global,
+    name: &str,
+    lists: &Lists,
+    k: u32,
+    wanted: &[(u32, u32)],
+) -> Result<(), Fail> {
+    let mut found = Vec::new(alloc);
+    if k >= lists.len() {
+        return Err(Fail::new(name));
+    }
+    lists.append(k, &mut found)?;
+    check(name, found.as_slice() == wanted)
+}
+
+/// Fails if the two lists of the row are not one, or two, as wanted, or their union is not.
+fn check_row(alloc: Global, lists: &mut Lists, row: &Row) -> Result<(), Fail> {
+    let (name, first, second, same, both) = *row;
+    let j = number_of(alloc, lists, first)?;
+    let k = number_of(alloc, lists, second)?;
+    check(name, (j == k) == same)?;
+    let union = union_of(alloc, lists, j, k, &[])?;
+    check_list(alloc, name, lists, union, both)?;
+    check_again(alloc, lists, row, union)
+}
+
+/// Fails if the union of the row's lists has another number when it is asked for in other words.
+fn check_again(alloc: Global, lists: &mut Lists, row: &Row, union: u32) -> Result<(), Fail> {
+    let (name, first, second, _, both) = *row;
+    let j = number_of(alloc, lists, first)?;
+    let k = number_of(alloc, lists, second)?;
+    check(name, union_of(alloc, lists, k, j, &[])? == union)?;
+    check(name, union_of(alloc, lists, EMPTY, j, second)? == union)?;
+    check(name, number_of(alloc, lists, both)? == union)
+}
+
+/// The rows share a table, so that what one of them made is there for those after it.
+fn check_rows(alloc: Global, lists: &mut Lists) -> Result<(), Fail> {
+    for row in &ROWS {
+        check_row(alloc, lists, row)?;
+    }
+    Ok(())
+}
+
+#[test]
+fn equal_lists_have_one_number(rt: HostRuntime) -> Result<(), Fail> {
+    let mut lists = Lists::new(rt.alloc(), 1)?;
+    check_rows(rt.alloc(), &mut lists)
+}
+
+/// Fails if a list that gets a pair more again and again, so that additions are merged, lacks one of them.
+fn check_growth(alloc: Global, lists: &mut Lists) -> Result<(), Fail> {
+    let mut whole = Vec::new(alloc);
+    let mut last = EMPTY;
+    for number in 0..20u32 {
+        whole.push((number, 0))?;
+        last = union_of(alloc, lists, EMPTY, last, &[(number, 0)])?;
+        check_list(alloc, "as many as were added", lists, last, &whole)?;
+    }
+    check("made at once", number_of(alloc, lists, &whole)? == last)
+}
+
+#[test]
+fn a_list_grows_by_a_pair(rt: HostRuntime) -> Result<(), Fail> {
+    let mut lists = Lists::new(rt.alloc(), 1)?;
+    check_growth(rt.alloc(), &mut lists)
+}
+
+/// Fails if lists are not there, or not with the same numbers, after all were forgotten.
+fn check_clear(alloc: Global, lists: &mut Lists) -> Result<(), Fail> {
+    check_growth(alloc, lists)?;
+    lists.clear();
+    check("the empty list alone", lists.len() == 1)?;
+    check_growth(alloc, lists)?;
+    check(
+        "the first number again",
+        number_of(alloc, lists, &[(0, 0)])? == 1,
+    )
+}
+
+#[test]
+fn what_is_forgotten_is_numbered_anew(rt: HostRuntime) -> Result<(), Fail> {
+    let mut lists = Lists::new(rt.alloc(), 1)?;
+    check_clear(rt.alloc(), &mut lists)
+}
