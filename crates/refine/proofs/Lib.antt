@@ -3,7 +3,6 @@ pub mod Settling
 pub mod Spending
 pub mod StrongRow
 pub mod Touching
-pub mod Chains
 pub mod Numbering
 pub mod Renumbering
 pub mod Keeping
