@@ -95,8 +95,8 @@ pub fn refine<S: Sense, M: Meter>(alloc: Global, l: &Lts<M>, m: &mut M) -> Resul
     }
 }
 
-/// One round as `round` makes it, without a look at what is settled, in marks and lists that are used again: the Split of `count` blocks, those that are numbered from `low` on
-/// being new.
+/// One round in marks and lists that are used again, of which `RoundSignatures` has what a round keeps and none whole: the Split
+/// of `count` blocks, those that are numbered from `low` on being new.
 fn next_round<S: Sense, M: Meter>(
     alloc: Global,
     l: &Lts<M>,
