@@ -15,6 +15,9 @@ use growth::Memory;
 use std::alloc::Global;
 use std::marker::Model;
 
+/// From this length on a list that stands alone is not merged with what is added to it: what shares it need not read it.
+const LONG_ROOT: usize = 64;
+
 /// Lists of pairs in strictly rising order, each under the number that `add` returned for it. The list number
 /// `EMPTY` is the empty one.
 #[derive(Drop)]
@@ -24,7 +27,7 @@ pub(crate) struct Chained {
     parts: Parts,
     /// The number of each list's base, which is an earlier list, or `EMPTY` if the list stands alone. It ends with the last list
     /// that has another base: if all lists stand alone, nothing is kept or read here. A list adds at most half as many pairs as
-    /// its base adds to its own one, so that chains are short.
+    /// its base adds to its own one, or its base is a long list that stands alone: so chains are short.
     bases: Vec<u32>,
 }
 
@@ -299,8 +302,8 @@ impl Chained {
     }
 
     /// The list number `k` with these pairs, which it lacks, as a list of its chain and pairs that this one lacks. As long as a
-    /// list of the chain adds less than twice as many pairs to its base, both are merged. If `all` are to be merged, the base is
-    /// the empty list.
+    /// list of the chain adds less than twice as many pairs to its base, both are merged, unless it is a long one that stands
+    /// alone. If `all` are to be merged, the base is the empty list.
     ///
     /// Fails if there is no memory for it.
     fn gather(
@@ -319,7 +322,7 @@ impl Chained {
         let mut at = k;
         while at != EMPTY {
             let (base, part, _) = self.cut(at);
-            if !all && part.len() / 2 >= added.len() {
+            if !all && stays(base, part.len(), added.len()) {
                 return Ok((at, added));
             }
             let mut both = Vec::new(self.alloc);
@@ -351,6 +354,12 @@ impl Chained {
         self.parts.clear();
         self.bases.clear();
     }
+}
+
+/// Whether a list that adds so many pairs to its base stays a link of the chain where so many more are added to it. A long one
+/// that stands alone always does, so that all lists made from it still share it.
+fn stays(base: u32, length: usize, more: usize) -> bool {
+    (base == EMPTY && length >= LONG_ROOT) || length / 2 >= more
 }
 
 /// The number of the base of the list number `k`.

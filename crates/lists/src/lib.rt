@@ -9,7 +9,8 @@
 //! ```
 //!
 //! A list is made from another one by pairs that it lacks. As long as the other one's own addition is less than twice as
-//! long, both are merged, as in a binary counter, so that chains are short:
+//! long, both are merged, as in a binary counter, so that chains are short. A long list that stands alone is not merged, so
+//! that all lists made from it share it:
 //!
 //! ```text
 //! number   base   adds          the whole list
