@@ -4,7 +4,7 @@
 //! ```text
 //! Lists         unions of lists are asked for by number, and made once       lists, known
 //!   Distinct    a list that is asked for again has the number that it had    distinct, hashed
-//!     Chained   a list is kept as what it adds to an earlier one             chained, ordered
+//!     Chained   a list is kept as what it adds to an earlier one             chained, links, ordered
 //!       Parts   lists stand one after the other in one buffer                parts, span
 //! ```
 //!
@@ -26,6 +26,7 @@ mod chained;
 mod distinct;
 mod hashed;
 mod known;
+mod links;
 mod lists;
 mod ordered;
 mod parts;
