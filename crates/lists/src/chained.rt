@@ -1,12 +1,13 @@
 //! Lists of pairs, each kept as what it adds to an earlier one, its base: the layer above `parts`.
-ghost use Rattle.std.specs.Prelude.{◌≡◌, ◌⊎◌, ◌↔◌, ℕ, ◌+◌, ◌*◌, ◌++◌, ◌∷◌, ◌<◌, ◌≤◌, [], length, slice_index, IfOk, OnOk, OnErr, IsTrue};
+ghost use Rattle.std.specs.Prelude.{◌≡◌, ◌⊎◌, ◌↔◌, ℕ, ◌+◌, ◌*◌, ◌++◌, ◌∷◌, ◌<◌, ◌≤◌, [], length, IfOk, OnOk, OnErr, IsTrue};
 ghost use Rattle.std.specs.List.{Contains};
 ghost use Rattle.std.specs.List.Sorted.{IsStrictlySortedBy};
 ghost use Rattle.lists.specs.Lists.{pair_cmp, list_at, merged, Apart, IsAddition};
-ghost use Rattle.lists.specs.Links.{padded, wholes, AreRising, AreChained};
+ghost use Rattle.lists.specs.Links.{AreRising};
 ghost use Rattle.lists.specs.Spans.{fingerprint_of};
 ghost use Rattle.lists.specs.declared.lists.TheConstants.{MOST_LISTS};
 
+use crate::links::{base_of, put, stays};
 use crate::lists::EMPTY;
 use crate::ordered::{append_merged, has};
 use crate::parts::Parts;
@@ -24,7 +25,7 @@ pub(crate) struct Chained {
     parts: Parts,
     /// The number of each list's base, which is an earlier list, or `EMPTY` if the list stands alone. It ends with the last list
     /// that has another base: if all lists stand alone, nothing is kept or read here. A list adds at most half as many pairs as
-    /// its base adds to its own one, so that chains are short.
+    /// its base adds to its own one, or its base is a long list that stands alone: so chains are short.
     bases: Vec<u32>,
 }
 
@@ -299,8 +300,8 @@ impl Chained {
     }
 
     /// The list number `k` with these pairs, which it lacks, as a list of its chain and pairs that this one lacks. As long as a
-    /// list of the chain adds less than twice as many pairs to its base, both are merged. If `all` are to be merged, the base is
-    /// the empty list.
+    /// list of the chain adds less than twice as many pairs to its base, both are merged, unless it is a long one that stands
+    /// alone. If `all` are to be merged, the base is the empty list.
     ///
     /// Fails if there is no memory for it.
     fn gather(
@@ -319,7 +320,7 @@ impl Chained {
         let mut at = k;
         while at != EMPTY {
             let (base, part, _) = self.cut(at);
-            if !all && part.len() / 2 >= added.len() {
+            if !all && stays(base, part.len(), added.len()) {
                 return Ok((at, added));
             }
             let mut both = Vec::new(self.alloc);
@@ -351,57 +352,4 @@ impl Chained {
         self.parts.clear();
         self.bases.clear();
     }
-}
-
-/// The number of the base of the list number `k`.
-fn base_of(bases: &[u32], k: u32) -> u32
-    ensures { result ≡ slice_index bases.now k }
-{
-    match bases.get(k as usize) {
-        Some(base) => *base,
-        None => EMPTY,
-    }
-}
-
-/// Puts a list at the end: what it adds to its base, and the base's number. Returns its own number.
-///
-/// Fails if there is no memory for it. The lists are then as they were.
-#[inline(always)]
-fn put(
-    parts: &mut Parts,
-    bases: &mut Vec<u32>,
-    base: u32,
-    added: &[(u32, u32)],
-) -> Result<u32, Memory>
-    requires chained { AreChained parts.old (padded bases.old.items (length parts.old)) }
-    requires few { length parts.old < MOST_LISTS }
-    requires addition { IsAddition (wholes parts.old (padded bases.old.items (length parts.old))) base added.now }
-    ensures chained { AreChained parts.new (padded bases.new.items (length parts.new)) }
-    ensures put { let lists = wholes parts.old (padded bases.old.items (length parts.old)) in
-        OnOk result (wholes parts.new (padded bases.new.items (length parts.new)) ≡ lists ++ merged (list_at lists base) added.now ∷ []) }
-    ensures number { IfOk result (λ k. k ≡ length parts.old) }
-    ensures err { OnErr result (wholes parts.new (padded bases.new.items (length parts.new))
-        ≡ wholes parts.old (padded bases.old.items (length parts.old))) }
-{
-    if base == EMPTY {
-        let number = parts.push(added)?;
-        return Ok(number);
-    }
-    pad(bases, parts.len())?;
-    bases.reserve(1)?;
-    let number = parts.push(added)?;
-    bases.push_reserved(base);
-    Ok(number)
-}
-
-/// Makes the bases those of so many lists: the new ones have the empty list as theirs.
-///
-/// Fails if there is no memory for them. The bases are then as they were.
-fn pad(bases: &mut Vec<u32>, lists: u32) -> Result<(), Memory>
-    requires { length (padded bases.old.items lists) ≡ lists }
-    ensures padded { OnOk result (bases.new.items ≡ padded bases.old.items lists) }
-    ensures err { OnErr result (bases.new.items ≡ bases.old.items) }
-{
-    bases.resize(lists as usize, EMPTY)?;
-    Ok(())
 }

@@ -4,12 +4,13 @@
 //! ```text
 //! Lists         unions of lists are asked for by number, and made once       lists, known
 //!   Distinct    a list that is asked for again has the number that it had    distinct, hashed
-//!     Chained   a list is kept as what it adds to an earlier one             chained, ordered
+//!     Chained   a list is kept as what it adds to an earlier one             chained, links, ordered
 //!       Parts   lists stand one after the other in one buffer                parts, span
 //! ```
 //!
 //! A list is made from another one by pairs that it lacks. As long as the other one's own addition is less than twice as
-//! long, both are merged, as in a binary counter, so that chains are short:
+//! long, both are merged, as in a binary counter, so that chains are short. A long list that stands alone is not merged, so
+//! that all lists made from it share it:
 //!
 //! ```text
 //! number   base   adds          the whole list
@@ -25,6 +26,7 @@ mod chained;
 mod distinct;
 mod hashed;
 mod known;
+mod links;
 mod lists;
 mod ordered;
 mod parts;

@@ -2,7 +2,7 @@ use Rattle.std.proofs.Common.{◌≡◌, ◌∙◌, ℕ, ◌<◌, List, [], ◌�
 use Rattle.lists.specs.Links.{padded, wholes}
 use Rattle.lists.proofs.Padded.{padded_full, pushed_whole, pushed_linked}
 use Rattle.lists.proofs.Linked.{length-to, AreChained-push, wholes-push}
-use Rattle.lists.proofs.chained.put.Goals as goal
+use Rattle.lists.proofs.links.put.Goals as goal
 
 -- the base is one of the parts
 base_low : (parts : List (List (ℕ × ℕ))) (bases : List ℕ) (base : ℕ) → base < length (wholes parts (padded bases (length parts))) → base < length parts
