@@ -8,7 +8,6 @@ use Rattle.inert.specs.Search.{mark_at, AreOpen}
 use Rattle.inert.specs.Moves.{Finishes}
 use Rattle.inert.specs.Ahead.{IsTrail}
 use Rattle.inert.specs.declared.walk.Mark.{Mark}
-use Rattle.inert.specs.declared.walk.Mark.TheVariants.{Open}
 use Rattle.inert.proofs.Marks.{mark_other, not_unseen}
 
 pub IsTrail-mark : (marks : List Mark) (trail trail' : List ℕ) (s : ℕ) (m : Mark) → s < length marks → trail' ≡ trail ++ s ∷ [] → IsTrail marks trail

@@ -1,5 +1,5 @@
 -- What a walk has still to read.
-use Rattle.std.specs.Prelude.{◌≡◌, ◌⊎◌, ℕ, ◌<◌, ◌+◌, ◌*◌, ◌-◌, ◌≤◌, Bool, true, false, List, length, slice_index_or}
+use Rattle.std.specs.Prelude.{◌≡◌, ◌⊎◌, ℕ, ◌<◌, ◌+◌, ◌-◌, ◌≤◌, Bool, true, false, List, length, slice_index_or}
 use Rattle.std.specs.List.{Contains, All, filter, sum_by, count_by}
 use Rattle.lts.specs.Lts.{Triple, source_of}
 use Rattle.inert.specs.declared.walk.Mark.{Mark}

@@ -1,5 +1,5 @@
 -- Unions of lists: of two as the one with what it lacks of the other, and of several in turn.
-use Rattle.std.proofs.Common.{◌≡◌, ◌∙◌, ◌⊎◌, ◌↔◌, ℕ, ◌+◌, ◌<◌, List, [], ◌∷◌, length, slice_index, Contains, sym, subst, refl, inl, inr, arith}
+use Rattle.std.proofs.Common.{◌≡◌, ◌∙◌, ◌⊎◌, ◌↔◌, ℕ, ◌+◌, ◌<◌, List, [], length, slice_index, Contains, sym, subst, refl, inl, inr, arith}
 use Rattle.std.proofs.lemmas.Bool.{cases_eq}
 use Rattle.lists.specs.Lists.{list_at, merged, Apart, Grow, HasOne}
 use Rattle.lists.specs.Unions.{IsUnion, AreUnions}

@@ -5,7 +5,7 @@ use Rattle.std.specs.List.Sorted.{IsStrictlySortedBy}
 use Rattle.theory.specs.System.{System, IsSystem, Step}
 use Rattle.theory.specs.Bisimulation.{Relation}
 use Rattle.theory.specs.Bisimulation.Relation.{strong, branching}
-use Rattle.theory.specs.Blocks.{Signature, SameSignature, SameBlocks, EachTwo, Split}
+use Rattle.theory.specs.Blocks.{Signature, SameSignature, SameBlocks, Split}
 use Rattle.theory.proofs.Paths.{step_below}
 use Rattle.lts.specs.Labels.{text_of}
 use Rattle.lts.specs.Lts.{Grouped, system_of}

@@ -1,7 +1,6 @@
-use Rattle.std.proofs.Common.{◌≡◌, ◌∙◌, ◌+◌, length, sym, subst, arith}
+use Rattle.std.proofs.Common.{◌≡◌, ◌∙◌, ◌+◌, sym, subst, arith}
 use Rattle.std.proofs.lemmas.Result.{on_ok_weaker}
-use Rattle.lts.specs.Lts.{row_of}
-use Rattle.inert.specs.Moves.{skipped, Rests}
+use Rattle.inert.specs.Moves.{Rests}
 use Rattle.inert.specs.Ahead.{unread, HasSeen}
 use Rattle.inert.proofs.Starting.{row_unread, skipped_seen, Rests-skipped}
 use Rattle.inert.proofs.signer.finish.Goals as goal

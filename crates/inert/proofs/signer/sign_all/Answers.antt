@@ -1,4 +1,4 @@
-use Rattle.std.proofs.Common.{◌<◌, length, arith}
+use Rattle.std.proofs.Common.{arith}
 use Rattle.inert.proofs.Starting.{finished, numbered, numbered_signed}
 use Rattle.inert.proofs.signer.sign_all.Goals as goal
 

@@ -1,4 +1,4 @@
-use Rattle.std.proofs.Common.{◌∙◌, length, arith, rules}
+use Rattle.std.proofs.Common.{◌∙◌, arith, rules}
 use Rattle.std.proofs.lemmas.Result.{IfOk-weaker}
 use Rattle.refine.specs.Signed.{signature_at}
 use Rattle.refine.proofs.Signing.{signed_is_split}

@@ -1,4 +1,4 @@
-use Rattle.std.proofs.Common.{◌≡◌, ◌∙◌, slice_index, ap, sym, arith}
+use Rattle.std.proofs.Common.{◌∙◌, slice_index, ap, sym, arith}
 use Rattle.lists.specs.Lists.{list_at, merged}
 use Rattle.lists.proofs.Linked.{parts_size, base_below, list_is, apart_at}
 use Rattle.lists.proofs.chained.Chained.cut.Goals as goal

@@ -1,6 +1,5 @@
-use Rattle.std.proofs.Common.{◌≡◌, ◌∙◌, ◌++◌, ap, sym, subst, arith}
-use Rattle.std.specs.List.Sorted.{IsStrictlySortedBy}
-use Rattle.lists.specs.Lists.{pair_cmp, list_at, merged, Apart}
+use Rattle.std.proofs.Common.{◌≡◌, ◌∙◌, ◌++◌, ap, arith}
+use Rattle.lists.specs.Lists.{list_at, merged}
 use Rattle.lists.proofs.Linked.{gathered_rises, gathered_apart, gathered_is}
 use Rattle.lists.proofs.chained.Chained.gather.Goals as goal
 use Rattle.lists.proofs.chained.Chained.gather.Goals.{In_ok-append_merged}

@@ -1,4 +1,4 @@
-use Rattle.std.proofs.Common.{◌≡◌, ◌∙◌, [], Contains, sym, subst, inl, inr}
+use Rattle.std.proofs.Common.{◌∙◌, [], Contains, sym, subst, inl, inr}
 use Rattle.std.proofs.lemmas.Bool.{false≢true}
 use Rattle.lists.specs.Lists.{list_at}
 use Rattle.lists.proofs.Merging.{merged_has}

@@ -1,4 +1,3 @@
-use Rattle.std.proofs.Common.{refl}
 use Rattle.lists.proofs.Noting.{noted, pair_same}
 use Rattle.lists.proofs.known.Known.note.Goals as goal
 

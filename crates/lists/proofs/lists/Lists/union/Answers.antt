@@ -1,4 +1,4 @@
-use Rattle.std.proofs.Common.{length, slice_index, arith}
+use Rattle.std.proofs.Common.{slice_index, arith}
 use Rattle.lists.specs.Lists.{list_at}
 use Rattle.lists.proofs.Uniting.{Grow-same, Grow-twice, IsUpTo-none, IsUpTo-more, IsUpTo-all}
 use Rattle.lists.proofs.lists.Lists.union.Goals as goal
