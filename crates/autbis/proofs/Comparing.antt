@@ -9,20 +9,10 @@ use Rattle.theory.specs.Alike.{SameSteps}
 use Rattle.theory.specs.Union.{union_of}
 use Rattle.lts.specs.Lts.{Grouped, system_of}
 use Rattle.lts.specs.Meter.{Counts}
-use Rattle.lts.specs.Union.{FitTogether}
 use Rattle.quotient.specs.Bounds.{KeepsTo}
-use Rattle.autfmt.specs.Bounds.{Bounds, IsWithinFile}
-use Rattle.autfmt.specs.Outcomes.{IsWithin}
+use Rattle.autfmt.specs.Bounds.{Bounds}
 use Rattle.autfmt.specs.Readers.{ReadsAs}
 use Rattle.autbis.specs.Comparisons.{CountsComparison, IsVerdict, ReadBoth, states_of, transitions_of}
-
--- two systems that were read from a file have a place in memory together
-pub fit_together :
-    (bounds : Bounds) (s t : Grouped) → IsWithinFile bounds → IsWithin bounds s → IsWithin bounds t → FitTogether s t
-fit_together bounds s t file one other = record {
-  states = omega (arith, file.states, one.states, other.states);
-  transitions = omega (arith, file.transitions, one.transitions, other.transitions);
-}
 
 -- the laws that the comparison rests on
 pub record OrderLaws : Type 0 where

@@ -1,7 +1,6 @@
 -- What is known of a text from its first bytes.
 use Rattle.std.proofs.Common.{◌≡◌, ◌⊎◌, ⊎_elim, ℕ, ◌+◌, ◌<◌, ◌≤◌, List, [], ◌∷◌, ◌++◌, length, refl, sym, ◌∙◌, ap, subst, inl, inr, arith}
 use Rattle.std.proofs.lemmas.List.{append_assoc, length-append}
-use Rattle.std.proofs.lemmas.List.Elements.{All-nil}
 use Rattle.theory.specs.System.{Transition}
 use Rattle.autfmt.specs.declared.fault.Fault.{Fault}
 use Rattle.autfmt.specs.declared.fault.Fault.TheVariants.{BadHeader, LineTooLong, ExtraText}
@@ -95,14 +94,6 @@ judged_of bounds given ended rest fault c j =
     let same = Cuts-unique given j.0 ended j.1 rest j.2 c in
     subst (λ (e : List (List ℕ)). FaultOfLines bounds (JudgedFirst bounds rest) (JudgedLater rest) e fault) same.0
     (subst (λ (r : List ℕ). FaultOfLines bounds (JudgedFirst bounds r) (JudgedLater r) j.0 fault) same.1 j.3)
-
--- nothing is judged before line 1 has ended or is too long
-pub no_judged_header :
-    (bounds : Bounds) (given : List ℕ) (fault : Fault) → IsOneLine given → length given ≤ LONGEST_LINE → JudgedFault bounds given fault → ⊥
-no_judged_header bounds given fault one short j =
-    let here : Cuts given [] given = record { whole = refl; lines = All-nil IsOneLine; one = one } in
-    let big = (judged_of bounds given [] given fault here j).0 in
-    omega arith
 
 -- if the ended lines are good, and the unended one is not judged, there is no fault yet
 pub no_judged_fault :

@@ -1,5 +1,5 @@
 -- Lines on their way to a sink through a buffer.
-use Rattle.std.proofs.Common.{Bool, false, Result, Ok, Err, IfErr, OnErr, ◌≡◌, ℕ, ◌+◌, ◌<◌, List, [], ◌++◌, length, map, get_or, take, drop, refl, sym, ap, ◌∙◌, subst, Option, ◌∷◌, arith, append_assoc}
+use Rattle.std.proofs.Common.{Bool, false, Result, Ok, Err, IfErr, OnErr, ◌≡◌, ℕ, ◌+◌, ◌<◌, List, [], ◌++◌, length, map, get_or, take, drop, sym, ap, ◌∙◌, subst, Option, ◌∷◌, arith, append_assoc}
 use Rattle.std.specs.Io.KnownBytes.{Appends}
 use Rattle.std.specs.List.{All, flat_map}
 use Rattle.std.proofs.KnownBytes.{Appends-trans}
@@ -15,12 +15,6 @@ use Rattle.autfmt.specs.Progress.{Progress}
 use Rattle.autfmt.specs.Ranks.{Entry, texts}
 use Rattle.autfmt.specs.Stream.{AppendsBeginning}
 use Rattle.autfmt.specs.Written.{header_of, written_transition, listed, Text, GainsBeginning}
-
-pub nothing_put : {known : Option (List ℕ)} {bytes : List ℕ} → Appends known known [] → Progress known known bytes bytes
-nothing_put kept = record { front = []; gained = kept; whole = refl }
-
-pub all_put : {old new : Option (List ℕ)} {bytes : List ℕ} → Appends old new bytes → Progress old new [] bytes
-all_put {bytes = bytes} put = record { front = bytes; gained = put; whole = sym (append-nil bytes) }
 
 -- what waited goes on its way
 pub goes_on : {old mid new : Option (List ℕ)} {waiting later bytes : List ℕ} → Progress old mid waiting bytes → Progress mid new later waiting → Progress old new later bytes

@@ -5,7 +5,7 @@ use Rattle.std.proofs.lemmas.List.Elements.{All-nil}
 use Rattle.std.specs.Io.KnownBytes.{IsAtEnd}
 use Rattle.theory.specs.System.{Transition, IsAmong}
 use Rattle.autfmt.specs.declared.fault.Fault.{Fault}
-use Rattle.autfmt.specs.declared.fault.Fault.TheVariants.{BadHeader, LineTooLong, MissingEdges, ExtraText, Device, Memory}
+use Rattle.autfmt.specs.declared.fault.Fault.TheVariants.{LineTooLong, MissingEdges, ExtraText, Device, Memory}
 use Rattle.autfmt.specs.declared.held.Held.{Held}
 use Rattle.autfmt.specs.declared.judge.Promise.{Promise}
 use Rattle.autfmt.specs.Bounds.{Bounds}
@@ -20,7 +20,7 @@ use Rattle.autfmt.specs.ReadSoFar.{ReadSoFar, HeldSoFar}
 use Rattle.autfmt.specs.Outcomes.Refuses.{no_memory, failed_source, faulty_text}
 use Rattle.autfmt.proofs.Cutting.{IsNoFeed}
 use Rattle.autfmt.proofs.FaultLaws.{GoodLines, GoodLines-length, GoodLines-push, Reads-from_lines}
-use Rattle.autfmt.proofs.JudgedLaws.{no_judged_header, no_judged_fault, FirstFault-behind}
+use Rattle.autfmt.proofs.JudgedLaws.{no_judged_fault, FirstFault-behind}
 use Rattle.autfmt.proofs.Holding.{Holds-length}
 use Rattle.autfmt.proofs.HasCut.{HasCut-new, HasCut-line, HasCut-lines, HasCut-too_long, HasCut-end, HasCut-more, HasCut-part}
 
@@ -53,28 +53,6 @@ header_too_long bounds old got rest failures e sound long =
     (λ more told.
     let (line, others, big, l) = HasCut-too_long [] got more [] old (HasCut-fresh old e) (fresh_goes_on old e) long in
     (line ∷ others, l, inl (refl, big))))
-
--- there is no line 1
-pub header_missing :
-    (bounds : Bounds) (old now : Cutting) (got : List ℕ) (rest : Option (List ℕ)) (failures : ℕ) → old ≡ fresh → failures ≡ 0 →
-    (now.over ≡ true → IsAtEnd rest) → CutsEnd (old.ahead ++ got) now → Refuses bounds got rest failures BadHeader
-header_missing bounds old now got rest failures e sound end cuts =
-    faulty_text sound tt
-    (if_told rest (λ more. FirstFault bounds (got ++ more) BadHeader)
-    (λ more told.
-    let none = none_to_come rest more told (end cuts.over) in
-    let l = HasCut-end [] got [] old (HasCut-fresh old e) cuts.none in
-    let l' = subst (λ (t : List ℕ). Lines t []) (sym (append-nil got) ∙ ap (λ (t : List ℕ). got ++ t) (sym none)) l in
-    ([], l', refl)))
-
--- the source failed before line 1 had ended
-pub header_failed :
-    (bounds : Bounds) (old : Cutting) (got : List ℕ) (rest : Option (List ℕ)) (failures : ℕ) → old ≡ fresh → failures ≡ 1 →
-    IsPart (old.ahead ++ got) → Refuses bounds got rest failures Device
-header_failed bounds old got rest failures e failed part =
-    let a : old.ahead ++ got ≡ got = ap (λ (c : Cutting). c.ahead ++ got) e in
-    let p = subst (λ (t : List ℕ). IsPart t) a part in
-    failed_source failed refl (λ f. no_judged_header bounds got f p.0 p.1)
 
 -- line 1 is good
 pub header_good :

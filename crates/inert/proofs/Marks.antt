@@ -1,8 +1,8 @@
 -- Marks: they differ, and one is set.
 use Rattle.std.proofs.Common.{◌≡◌, ◌≢◌, ◌⊎◌, ℕ, ◌<◌, Bool, true, false, List, length, set, refl, sym, ◌∙◌, ap, inl, inr}
 use Rattle.std.specs.Prelude.{IsTrue}
-use Rattle.std.proofs.lemmas.Bool.{cases_eq, cases_lt, false≢true}
-use Rattle.std.proofs.lemmas.List.{get_or-set_same, get_or-set_other, get_or_past}
+use Rattle.std.proofs.lemmas.Bool.{cases_eq, false≢true}
+use Rattle.std.proofs.lemmas.List.{get_or-set_same, get_or-set_other}
 use Rattle.inert.specs.Search.{mark_at}
 use Rattle.inert.specs.Ahead.{KeepsSeen}
 use Rattle.inert.specs.declared.walk.Mark.{Mark}
@@ -32,13 +32,6 @@ mark_set marks t m h = get_or-set_same marks t m Unseen h
 
 pub mark_other : (marks : List Mark) (t : ℕ) (m : Mark) (s : ℕ) → s ≢ t → mark_at (set marks t m) s ≡ mark_at marks s
 mark_other marks t m s d = get_or-set_other marks t s m Unseen d
-
--- a state that is open has a mark
-pub marked_below : (marks : List Mark) (s p : ℕ) → mark_at marks s ≡ Open p → s < length marks
-marked_below marks s p is = elim (cases_lt s (length marks)) [
-  | inl low ↦ low
-  | inr high ↦ absurd (not_unseen p (sym is ∙ get_or_past marks s Unseen high))
-]
 
 -- the state t is seen, and no other is forgotten
 pub seen_more : (marks : List Mark) (t : ℕ) (m : Mark) → ¬ (m ≡ Unseen) → t < length marks → KeepsSeen marks (set marks t m)

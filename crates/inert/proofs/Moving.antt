@@ -412,6 +412,3 @@ module _ (laws : Laws) (l : Grouped) (lts : IsLts l) (blocks : List ℕ) (alone 
       fits = let less = weight-close laws l lts blocks alone lists lists' w new walks some read place closes in let e = closed_ahead in omega (arith, fits, less, e);
       seen = λ s is. unseen_is (mark_at w.marks s) (sym (same s) ∙ ap is_unseen is);
     }
-
-    pub closed_size : length new.frames < length w.frames
-    closed_size = let e = ap length closes.frames in let e' = popped_size in omega (arith, e, e')

@@ -28,10 +28,6 @@ rest_none : (frames : List Frame) → length frames ≡ 0 → rest frames ≡ 0
 rest_none [] e = refl
 rest_none (x ∷ xs) e = absurd (omega (arith, e))
 
--- so all that is ahead is the rows of states that were not seen
-pub rests_ahead : (l : Grouped) (w : Search) → length w.frames ≡ 0 → ahead l w ≡ unread l.places w.marks
-rests_ahead l w none = let e = rest_none w.frames none in omega (arith, e)
-
 -- what a walk knows that has just begun
 pub record Begins (l : Grouped) (blocks : List ℕ) (alone : List Bool) (lists : List (List (ℕ × ℕ))) (s : ℕ) (old new : Search) : Type 0 where
   pub on : GoesOn l blocks alone lists old new

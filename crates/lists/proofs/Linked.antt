@@ -205,12 +205,6 @@ pub wholes-first : wholes ([] ∷ []) (0 ∷ []) ≡ [] ∷ []
 unfolding wholes_to
 wholes-first = refl
 
--- no pair is in the empty list
-pub empty_has_none : (list : List (ℕ × ℕ)) → list ≡ [] → (z : ℕ × ℕ) → ¬ Contains list z
-empty_has_none list none z c =
-    let (i, low, is) : Contains {X = ℕ × ℕ} [] z = subst (λ l. Contains l z) none c in
-    omega (arith, low)
-
 -- what has both parts of a list has the list
 pub has_both : (xs ys zs : List (ℕ × ℕ)) → ((z : ℕ × ℕ) → Contains xs z → Contains zs z) → ((z : ℕ × ℕ) → Contains ys z → Contains zs z)
     → (z : ℕ × ℕ) → Contains (merged xs ys) z → Contains zs z

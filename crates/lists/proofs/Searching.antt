@@ -1,5 +1,5 @@
 -- A search for a list: from the last number of its bucket down, no list above is the one.
-use Rattle.std.proofs.Common.{◌≡◌, ◌∙◌, ℕ, ◌<◌, List, length, get_or, ap, sym, subst, inl, inr, arith}
+use Rattle.std.proofs.Common.{◌≡◌, ◌∙◌, ℕ, ◌<◌, List, length, ap, sym, subst, inl, inr, arith}
 use Rattle.std.proofs.lemmas.Bool.{cases_order}
 use Rattle.lists.specs.declared.hashed.Entry.{Entry}
 use Rattle.lists.specs.Lists.{list_at}
@@ -14,12 +14,6 @@ module _ (lists : List (List (ℕ × ℕ))) (heads : List ℕ) (entries : List E
   -- a list that is this one is in the bucket of the print
   fits : (q : ℕ) → 0 < q → q < length lists → list_at lists q ≡ list → bucket_at entries heads q ≡ bucket_of (length heads) print
   fits q p l a = ap (bucket_of (length heads)) (is.prints q p l ∙ ap print_of a ∙ sym same)
-
-  pub none-above-head : NoneAbove lists list (get_or heads (bucket_of (length heads) print) 0)
-  none-above-head q h l a =
-      let last = is.chained.heads_last q (omega arith) l in
-      let at = ap (λ b. get_or heads b 0) (fits q (omega arith) l a) in
-      omega arith
 
   pub none-above-before : (r : ℕ) → 0 < r → r < length lists → bucket_at entries heads r ≡ bucket_of (length heads) print
       → (list_at lists r ≡ list → ⊥) → NoneAbove lists list r → NoneAbove lists list (before_at entries r)

@@ -31,24 +31,6 @@ or_swap f = (
   λ o. f.1 (elim o [ inl c ↦ inr c | inr b ↦ inl b ]),
 )
 
-pub none_has : (z : ℕ × ℕ) (list : List (ℕ × ℕ)) → list ≡ [] → ¬ Contains list z
-none_has z list none c =
-    let (k, low, e) : Contains {X = ℕ × ℕ} [] z = subst (λ l. Contains l z) none c in
-    omega (arith, low)
-
--- of the same list twice, of the empty one and another one
-pub both_same : (z : ℕ × ℕ) (first second : List (ℕ × ℕ)) → first ≡ second → Contains second z ↔ (Contains first z ⊎ Contains second z)
-both_same z first second same = (
-  λ c. inr c,
-  λ o. elim o [ inl f ↦ subst (λ l. Contains l z) same f | inr c ↦ c ],
-)
-
-pub both_none : (z : ℕ × ℕ) (first second : List (ℕ × ℕ)) → first ≡ [] → Contains second z ↔ (Contains first z ⊎ Contains second z)
-both_none z first second none = (
-  λ c. inr c,
-  λ o. elim o [ inl f ↦ absurd (none_has z first none f) | inr c ↦ c ],
-)
-
 -- the pair is in one of the lists of the first i of these numbers
 abbrev pub HasUpTo : List (List (ℕ × ℕ)) → List ℕ → ℕ → ℕ × ℕ → Type 0
 HasUpTo lists numbers i z = (j : ℕ) × (j < i) × Contains (list_at lists (slice_index numbers j)) z
@@ -144,11 +126,6 @@ AreUnions-noted lists old new key i are is more z c = elim (more z c) [
   | inl o ↦ are z o
   | inr e ↦ subst (λ x. IsUnion lists x.0 x.1) (sym e) is
 ]
-
-pub AreUnions-none : (lists : List (List (ℕ × ℕ))) (unions : List ((ℕ × ℕ) × ℕ)) → unions ≡ [] → AreUnions lists unions
-AreUnions-none lists unions none z c =
-    let (k, low, e) : Contains {X = (ℕ × ℕ) × ℕ} [] z = subst (λ l. Contains l z) none c in
-    absurd (omega (arith, low))
 
 -- those of some pairs that a list lacks
 pub lacked : (z : ℕ × ℕ) (old new ordered pairs list : List (ℕ × ℕ)) → old ≡ []

@@ -4,7 +4,7 @@ use Rattle.std.specs.List.{All}
 use Rattle.std.specs.List.Sorted.{IsNonDecreasingBy}
 use Rattle.std.proofs.lemmas.Bool.{cases_lt}
 use Rattle.std.proofs.lemmas.List.{length-append, length-map, length_push, append-nil, append_assoc, map-append, map_push, get_or-map, get_or_push, take-append-drop, take-take, drop-take, length-take}
-use Rattle.std.proofs.lemmas.List.Elements.{All-nil, All-map, All-head, All-tail, All-push, All-weaker, Contains-push, Contains-append_left}
+use Rattle.std.proofs.lemmas.List.Elements.{All-map, All-head, All-tail, All-push, All-weaker, Contains-push, Contains-append_left}
 use Rattle.theory.specs.System.{System, Transition, IsAmong}
 use Rattle.theory.specs.Union.{shifted, union_of}
 use Rattle.lts.specs.Labels.{text_of, IsNumber, IsTable, Keeps, Interns}
@@ -12,9 +12,6 @@ use Rattle.lts.specs.Lts.{Triple, source_of, label_of, target_of, row_of, before
 use Rattle.lts.specs.Joining.{IsJoined, AddsShifted}
 use Rattle.lts.proofs.Rows.{before-next, before-le, row-slice, row-more}
 use Rattle.lts.proofs.Grouped.{rising-append, rising-map, grouped-same}
-
-pub IsJoined-nil : IsJoined [] 0 []
-IsJoined-nil = record { each = All-nil (IsTriple 0 0); carried = λ k h. absurd (omega arith); few = omega arith }
 
 IsTriple-weaker : (labels labels' states states' : ℕ) → labels ≤ labels' → states ≤ states' → (e : Triple) → IsTriple labels states e → IsTriple labels' states' e
 IsTriple-weaker labels labels' states states' l s e h =

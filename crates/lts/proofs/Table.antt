@@ -74,13 +74,6 @@ IsTable-push labels a t new is room = record {
   short = omega (arith, length_push labels a);
 }
 
-pub IsTable-nil : IsTable []
-IsTable-nil = record {
-  each_label = λ k d h. absurd (omega arith);
-  different = λ j k hj hk e. absurd (omega arith);
-  short = omega arith;
-}
-
 -- what a read by place gives of a mapped list
 pub get_or-map-slice_get : {X : Type 0} (f : X → List ℕ) (xs : List X) (k : ℕ) (v : X) → slice_get xs k ≡ Some v → (k < length (map f xs)) × (f v ≡ get_or (map f xs) k [])
 get_or-map-slice_get f [] k v e = cc

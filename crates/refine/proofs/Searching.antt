@@ -1,26 +1,17 @@
 -- A search for the elder with a key: from the last number of its bucket down, no elder above has the key.
-use Rattle.std.proofs.Common.{◌≡◌, ◌∙◌, ℕ, ◌<◌, List, length, get_or, ap, sym, subst, inl, inr, arith}
+use Rattle.std.proofs.Common.{◌≡◌, ◌∙◌, ℕ, ◌<◌, List, length, ap, sym, subst, inl, inr, arith}
 use Rattle.std.proofs.lemmas.Bool.{cases_order}
 use Rattle.refine.specs.declared.splitter.Elder.{Elder}
-use Rattle.refine.specs.Splitting.{Key, bucket_of, bucket_at, before_at, key_at, IsElder, IsChain, IsNew}
+use Rattle.refine.specs.Splitting.{Key, bucket_of, bucket_at, before_at, key_at, IsElder, IsChain}
 
 -- no elder with a number above r has the key
 abbrev pub NoneAbove : List Elder → Key → ℕ → Type 0
 NoneAbove chain key r = (q : ℕ) → r < q → q < length chain → key_at chain q ≡ key → ⊥
 
-pub none-at-all : (chain : List Elder) (key : Key) → NoneAbove chain key 0 → IsNew chain key
-none-at-all chain key none r e = none r e.0 e.1
-
 module _ (heads : List ℕ) (chain : List Elder) (key : Key) (is : IsChain heads chain) where
   -- an elder that has the key is in its bucket
   fits : (q : ℕ) → key_at chain q ≡ key → bucket_at chain heads q ≡ bucket_of (length heads) key
   fits q a = ap (bucket_of (length heads)) a
-
-  pub none-above-head : (b : ℕ) → b ≡ bucket_of (length heads) key → NoneAbove chain key (get_or heads b 0)
-  none-above-head b in' q h l a =
-      let last = is.chained.heads_last q (omega arith) l in
-      let at = ap (λ x. get_or heads x 0) (fits q a ∙ sym in') in
-      omega arith
 
   pub none-above-before : (r : ℕ) → IsElder chain r → bucket_at chain heads r ≡ bucket_of (length heads) key →
       (key_at chain r ≡ key → ⊥) → NoneAbove chain key r → NoneAbove chain key (before_at chain r)

@@ -110,23 +110,6 @@ parting_adds rel A old new split s t ls lt e apart = go (opens_decided old x.0) 
         let same : x.0 ≡ y.0 = opener_unique old x.0 y.0 f g (p ∙ (e ∙ sym q)) in
         absurd (apart (sym x.2 ∙ (ap new same ∙ y.2)))
 
-pub same_blocks_count : (A : System) (old new : ℕ → ℕ) → SameBlocks A old new → block_count A old ≡ block_count A new
-unfolding block_count
-same_blocks_count A old new same =
-    tally_same (Opens old) (Opens new) (opens_decided old) (opens_decided new) A.states
-    (λ k l. (
-      λ f t m e. f t m ((same t k (omega (arith, m, l)) l).0 e),
-      λ f t m e. f t m ((same t k (omega (arith, m, l)) l).1 e),
-    ))
-
--- a Split with as many blocks changes nothing
-pub count_same_blocks : (rel : Relation) (A : System) (old new : ℕ → ℕ) → Split rel A old new
-    → block_count A old ≡ block_count A new → SameBlocks A old new
-count_same_blocks rel A old new split e = elim (split_cases rel A old new split) [
-  | inl same ↦ same
-  | inr h ↦ absurd (omega (arith, e, parting_adds rel A old new split h.0 h.2.0 h.1 h.2.1 h.2.2.0 h.2.2.1))
-]
-
 -- some state below j has the block b
 abbrev Hit : (ℕ → ℕ) → ℕ → ℕ → Type 0
 Hit blocks j b = (s : ℕ) × (s < j) × (blocks s ≡ b)

@@ -8,10 +8,6 @@ use Rattle.theory.proofs.Deciding.{same_number, same_bytes, not_so, both, implie
 use Rattle.theory.proofs.Paths.{step_below}
 use Rattle.theory.proofs.Closure.{leads_decided}
 
--- having the same blocks is an equivalence
-pub same_blocks_refl : (A : System) (one : ℕ → ℕ) → SameBlocks A one one
-same_blocks_refl A one s t ls lt = (λ e. e, λ e. e)
-
 pub same_blocks_sym : (A : System) (one two : ℕ → ℕ) → SameBlocks A one two → SameBlocks A two one
 same_blocks_sym A one two h s t ls lt = ((h s t ls lt).1, (h s t ls lt).0)
 

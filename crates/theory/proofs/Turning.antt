@@ -1,6 +1,6 @@
 -- Some Split changes nothing, for each that changes something adds a block; so bisimilarity is shared blocks.
-use Rattle.std.proofs.Common.{◌≡◌, ◌↔◌, ℕ, zero, suc, ◌+◌, ◌<◌, ◌≤◌, refl, sym, subst, ◌∙◌, inl, inr, arith}
-use Rattle.std.proofs.lemmas.Bool.{cases_eq, cases_lt, cases_order}
+use Rattle.std.proofs.Common.{◌↔◌, ℕ, zero, suc, ◌+◌, ◌<◌, ◌≤◌, refl, sym, subst, ◌∙◌, inl, inr, arith}
+use Rattle.std.proofs.lemmas.Bool.{cases_eq, cases_lt}
 use Rattle.theory.specs.System.{System, IsSystem}
 use Rattle.theory.specs.Bisimulation.{Relation, Bisimilar}
 use Rattle.theory.specs.Blocks.{OneBlock, Split, SameBlocks, Share, After, ChangesNothing, Turns, Underway}
@@ -80,13 +80,6 @@ module _ (rel : Relation) (A : System) (sys : IsSystem A) where
         | inl l ↦ omega (arith, l, turns_found.2)
         | inr o ↦ absurd (h.changed turns_found.0 o turns_found.1.last)
       ]
-
--- one number is that of Turns
-pub turns_unique : (rel : Relation) (A : System) (j k : ℕ) → Turns rel A j → Turns rel A k → j ≡ k
-turns_unique rel A j k h g = elim (cases_order j k) [
-  | inl e ↦ e
-  | inr o ↦ elim o [ inl l ↦ absurd (g.least j l h.last) | inr l ↦ absurd (h.least k l g.last) ]
-]
 
 -- a state of A that is bisimilar to one of B is a state of A
 bisimilar_below : (rel : Relation) (A B : System) (s x : ℕ) → Bisimilar rel A s B x → s < A.states
