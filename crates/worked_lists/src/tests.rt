@@ -96,7 +96,7 @@ fn union_of(
     Ok(lists.join(&[j, k], &own)?)
 }
 
-/// Fails if the list number `k` has not these pairs, or the next ones.
+/// Fails if the list number `k` is not there, or does not have exactly these pairs in this order.
 fn check_list(
     alloc: Global,
     name: &str,
