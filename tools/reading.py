@@ -1,8 +1,8 @@
 #!/usr/bin/env python3
 """Lists, from the sources, what has to be read to believe a contract: every definition of the specs that its clauses
 cite, and those that these cite in turn, with what gives the contract's variables their meaning.
-usage: docs/reading.py            prints docs/reading.md as the sources have it
-       docs/reading.py --write    writes it there
+usage: tools/reading.py            prints docs/reading.md as the sources have it
+       tools/reading.py --write    writes it there
 The page's other text is kept; what this script makes stands between two lines of the page that say so."""
 import os
 import re
@@ -12,7 +12,7 @@ from pathlib import Path
 
 TOP = Path(__file__).resolve().parent.parent
 PAGE = TOP / "docs" / "reading.md"
-BEGIN, END = "<!-- made by docs/reading.py -->", "<!-- up to here -->"
+BEGIN, END = "<!-- made by tools/reading.py -->", "<!-- up to here -->"
 CONTRACTS = ["run_min", "run_cmp", "main_program"]
 TRAITS = [("autfmt", "Source"), ("autfmt", "Sink"), ("lts", "Meter"), ("autbis", "Opener")]
 VIEWS = [("autfmt", "Limits"), ("autfmt", "Hidden")]
@@ -142,7 +142,7 @@ def source_of(crate, item, kind):
         for k, line in enumerate(lines):
             if re.match(rf"\s*{kind} {item}\b", line):
                 return path, lines, k
-    sys.exit(f"docs/reading.py: crates/{crate}/src has no `{kind} {item}`")
+    sys.exit(f"tools/reading.py: crates/{crate}/src has no `{kind} {item}`")
 
 
 def imports(lines):
@@ -271,7 +271,7 @@ def write(text):
 def page():
     text = PAGE.read_text()
     if text.count(BEGIN) != 1 or text.count(END) != 1:
-        sys.exit(f"docs/reading.py: docs/reading.md wants one line {BEGIN} and one line {END}")
+        sys.exit(f"tools/reading.py: docs/reading.md wants one line {BEGIN} and one line {END}")
     front, back = text[: text.index(BEGIN)], text[text.index(END) :]
     made, known = lists()
     return front + "\n".join([BEGIN, "", *variables(known), *fault(), *made]).rstrip() + "\n\n" + back
@@ -287,7 +287,7 @@ def main():
             sys.stdout.write(page())
             sys.stdout.flush()
     except OSError as error:
-        sys.stderr.write(f"docs/reading.py: {error}\n")
+        sys.stderr.write(f"tools/reading.py: {error}\n")
         os._exit(1)
 
 
