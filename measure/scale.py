@@ -1,8 +1,9 @@
 #!/usr/bin/env python3
-"""Measures the program on systems, and draws what was measured for scale.md.
+"""Measures the program on systems, and draws what was measured for docs/scale.md.
 
-usage: scale.py measure PROGRAM RUNS NAME=FILE..   measures each FILE by both relations and writes scale.tsv anew
-       scale.py draw                               writes scale.svg, and the table in scale.md, from scale.tsv
+usage: measure/scale.py measure PROGRAM RUNS NAME=FILE..
+                                measures each FILE by both relations, RUNS times, and writes measure/scale.tsv anew
+       measure/scale.py draw    writes docs/scale.svg, and the table in docs/scale.md, from measure/scale.tsv
 
 A row of scale.tsv has the name, states, transitions, relation, rounds, seconds of processor time (the least of RUNS)
 and megabytes at most. It has `-` for the last three if the program took more than a minute. Fewer megabytes than this
@@ -16,8 +17,11 @@ import statistics
 import subprocess
 import sys
 import threading
+from pathlib import Path
 
-HERE = os.path.dirname(os.path.abspath(__file__))
+HERE = Path(__file__).resolve().parent
+ROWS, PAGE, PICTURE = HERE / "scale.tsv", HERE.parent / "docs" / "scale.md", HERE.parent / "docs" / "scale.svg"
+BEGIN = "<!-- the table is written by measure/scale.py -->\n"
 LONGEST = 60  # seconds
 LEAST = 15  # megabytes, about what this script takes
 RELATIONS = {"strong": "#2166ac", "branching": "#d6604d"}
@@ -44,7 +48,10 @@ def run(words):
 def measured(program, runs, name, file, relation):
     """A row of scale.tsv."""
     with open(file) as text:
-        _, transitions, states = re.findall(r"\d+", text.readline())
+        header = re.findall(r"\d+", text.readline())
+    if len(header) != 3:
+        sys.exit(f"measure/scale.py: {file} begins with no header")
+    _, transitions, states = header
     best = None
     for _ in range(runs):
         found = run([program, "min", "--relation", relation, "--stats", file])
@@ -57,19 +64,30 @@ def measured(program, runs, name, file, relation):
 
 
 def measure(program, runs, *inputs):
-    with open(f"{HERE}/scale.tsv", "w") as out:
-        for name, file in (one.rsplit("=", 1) for one in inputs):
-            for relation in RELATIONS:
-                print(*measured(program, int(runs), name, file, relation), sep="\t", file=out, flush=True)
+    found = (measured(program, runs, *one.rsplit("=", 1), relation) for one in inputs for relation in RELATIONS)
+    write(ROWS, ("\t".join(row) for row in found))
+
+
+def write(path, lines):
+    """Puts the lines in the file's place once all are written."""
+    beside = path.with_suffix(".new")
+    try:
+        with open(beside, "w") as out:
+            for line in lines:
+                print(line, file=out, flush=True)
+        os.replace(beside, path)
+    finally:
+        if beside.exists():
+            beside.unlink()
 
 
 def rows():
-    with open(f"{HERE}/scale.tsv") as lines:
+    with open(ROWS) as lines:
         return [line.rstrip("\n").split("\t") for line in lines]
 
 
 def table():
-    """The table of scale.md: a line for each system, with both relations."""
+    """The table of docs/scale.md: a line for each system, with both relations."""
     by_system = {}
     for name, states, transitions, _, *found in rows():
         by_system.setdefault((name, states, transitions), []).extend(found)
@@ -208,14 +226,27 @@ def drawing():
 
 
 def draw():
-    with open(f"{HERE}/scale.svg", "w") as out:
-        out.writelines(f"{line}\n" for line in drawing())
-    with open(f"{HERE}/scale.md") as page:
-        before, rest = page.read().split("<!-- the table is written by scale.py -->\n")
-        after = rest[rest.index("\n\n") :]
-    with open(f"{HERE}/scale.md", "w") as page:
-        page.write(f"{before}<!-- the table is written by scale.py -->\n" + "\n".join(table()) + after)
+    text = PAGE.read_text()
+    if text.count(BEGIN) != 1:
+        sys.exit(f"measure/scale.py: docs/scale.md wants one line {BEGIN.strip()}")
+    before, rest = text.split(BEGIN)
+    after = rest[rest.index("\n\n") + 1 :].rstrip("\n")
+    write(PICTURE, drawing())
+    write(PAGE, [before + BEGIN.strip(), *table(), after])
+
+
+def main():
+    command, *words = sys.argv[1:] or [""]
+    try:
+        if command == "measure" and words[2:] and re.fullmatch("[1-9][0-9]*", words[1]) and all("=" in one for one in words[2:]):
+            measure(words[0], int(words[1]), *words[2:])
+        elif command == "draw" and not words:
+            draw()
+        else:
+            sys.exit(__doc__)
+    except OSError as error:
+        sys.exit(f"measure/scale.py: {error}")
 
 
 if __name__ == "__main__":
-    {"measure": measure, "draw": draw}[sys.argv[1]](*sys.argv[2:])
+    main()
