@@ -27,6 +27,17 @@ LEAST = 15  # megabytes, about what this script takes
 RELATIONS = {"strong": "#2166ac", "branching": "#d6604d"}
 GREY = "#555"
 FAR = 3  # times more or less than the line says, for a name
+KINDS = {  # what systems of a name are; a number after it is k
+    "philosophers": "k dining philosophers; taking and putting forks is internal",
+    "leader election": "k stations in a ring (Chang and Roberts 1979); messages are internal",
+    "token ring": "of k stations the one with the token may enter; passing it on is internal",
+    "lossy channels": "two alternating-bit protocols in series, for k values; all but the ends is internal",
+    "buffers": "a row of k one-place buffers for two values; passing one on is internal",
+    "counters": "k independent counters; nothing is internal",
+    "random, sparse": "one transition a state, 20 % internal",
+    "internal cycle": "a cycle of internal steps, and from each state a visible step to the end",
+    "chain": "a line of states with one label",
+}
 
 
 def run(words):
@@ -86,16 +97,23 @@ def rows():
         return [line.rstrip("\n").split("\t") for line in lines]
 
 
+def kind_of(name):
+    return re.sub(r" \d+$", "", name)
+
+
 def table():
-    """The table of docs/scale.md: a line for each system, with both relations."""
+    """The table of docs/scale.md: a line for the largest system of each kind, with both relations."""
     by_system = {}
     for name, states, transitions, _, *found in rows():
-        by_system.setdefault((name, states, transitions), []).extend(found)
-    yield "| System | States | Transitions | Strong: rounds | Seconds | MB | Branching: rounds | Seconds | MB |"
-    yield "|---|--:|--:|--:|--:|--:|--:|--:|--:|"
-    for (name, *sizes), found in by_system.items():
-        counts = [f"{int(size):,}" for size in sizes]
-        yield f"| {name} | {' | '.join(counts + [cell(k % 3, word) for k, word in enumerate(found)])} |"
+        by_system.setdefault((name, int(states), int(transitions)), []).extend(found)
+    largest = {}
+    for system in by_system:
+        largest[kind_of(system[0])] = max(system, largest.get(kind_of(system[0]), system), key=lambda one: one[2])
+    yield "| System | What it is | States | Transitions | Strong: rounds | Seconds | MB | Branching: rounds | Seconds | MB |"
+    yield "|---|---|--:|--:|--:|--:|--:|--:|--:|--:|"
+    for kind, (name, *sizes) in largest.items():
+        cells = [cell(k % 3, word) for k, word in enumerate(by_system[name, sizes[0], sizes[1]])]
+        yield f"| {' | '.join([name, KINDS.get(kind, ''), *(f'{size:,}' for size in sizes), *cells])} |"
 
 
 def cell(column, word):
@@ -156,7 +174,7 @@ class Panel:
         found = {}
         for name, colour, across, up in self.points:
             far = abs(math.log(max(up, self.up[0]) / across / rate))
-            key = re.sub(r" \d+$", "", name), colour
+            key = kind_of(name), colour
             if far > math.log(FAR) and far > found.get(key, (0,))[0]:
                 found[key] = far, across, up
         return found
