@@ -33,8 +33,8 @@ KINDS = {  # what systems of a name are; a number after it is k
     "token ring": "of k stations the one with the token may enter; passing it on is internal",
     "lossy channels": "two alternating-bit protocols in series, for k values; all but the ends is internal",
     "buffers": "a row of k one-place buffers for two values; passing one on is internal",
-    "counters": "k independent counters; nothing is internal",
-    "random, sparse": "one transition a state, 20 % internal",
+    "counters": "k independent counters modulo 5; nothing is internal",
+    "random, sparse": "one transition a state, 20 % internal, between random states",
     "internal cycle": "a cycle of internal steps, and from each state a visible step to the end",
     "chain": "a line of states with one label",
 }
