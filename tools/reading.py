@@ -95,7 +95,10 @@ def read_modules():
     return modules
 
 
-MODULES = read_modules()
+try:
+    MODULES = read_modules()
+except OSError as error:
+    sys.exit(f"tools/reading.py: {error}")
 
 
 def words(text):
