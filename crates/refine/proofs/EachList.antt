@@ -6,7 +6,7 @@ use Rattle.std.proofs.lemmas.List.Elements.{All-set, All-weaker}
 use Rattle.lists.specs.Lists.{list_at, AreLists, AreNumbers, Grow}
 use Rattle.refine.specs.EachList.{list_of, each_list}
 use Rattle.refine.specs.Signed.{signature_at}
-use Rattle.refine.specs.Splitting.{Splits}
+use Rattle.partition.specs.Splitting.{Splits}
 
 -- the list of a state is the one that its number gives
 pub signature_at-list : (lists : List (List (ℕ × ℕ))) (numbers : List ℕ) (s : ℕ) → s < length numbers →

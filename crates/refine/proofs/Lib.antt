@@ -3,10 +3,4 @@ pub mod Settling
 pub mod Spending
 pub mod StrongRow
 pub mod Touching
-pub mod Numbering
-pub mod Renumbering
-pub mod Keeping
-pub mod Searching
-pub mod Elders
-pub mod Alone
 pub mod EachList

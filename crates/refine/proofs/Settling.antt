@@ -12,8 +12,8 @@ use Rattle.lts.specs.Lts.{Grouped, system_of}
 use Rattle.lists.specs.Lists.{pair_cmp}
 use Rattle.inert.specs.Signed.{HasPair, IsSignature}
 use Rattle.refine.specs.Rounds.{IsNext}
-use Rattle.refine.specs.Splitting.{IsAlone, Splits}
-use Rattle.refine.specs.Settled.{IsTouched, IsStill, Settled, IsPut, ArePut, AreAlone}
+use Rattle.partition.specs.Splitting.{IsAlone, AreAlone, Splits}
+use Rattle.refine.specs.Settled.{IsTouched, IsStill, Settled, IsPut, ArePut}
 use Rattle.refine.proofs.Signing.{Labelled, equal_lists}
 
 -- before the first round every number is new
@@ -192,15 +192,3 @@ none_alone xs b e a = at b (subst (λ ys. IsTrue (slice_index_or ys b false)) e 
     at : (k : ℕ) → IsTrue (slice_index_or [] k false) → ⊥
     at zero h = false≢true h
     at (suc k) h = false≢true h
-
--- blocks that are split, and numbered by least members
-pub renumbered_alike : (old new q : List ℕ) (count more : ℕ) (f g : ℕ → List (ℕ × ℕ)) → Splits old count f new more
-    → ((s t : ℕ) → s < length new → t < length new → (slice_index q s ≡ slice_index q t) ↔ (slice_index new s ≡ slice_index new t))
-    → ((s : ℕ) → s < length old → g s ≡ f s)
-    → (s t : ℕ) → s < length old → t < length old → (slice_index q s ≡ slice_index q t) ↔ ((slice_index old s ≡ slice_index old t) × (g s ≡ g t))
-renumbered_alike old new q count more f g splits same is s t hs ht =
-    let here = same s t (omega (arith, hs, splits.states)) (omega (arith, ht, splits.states)) in
-    let alike = splits.alike s t hs ht in (
-      λ e. let a = alike.0 (here.0 e) in (a.0, is s hs ∙ a.1 ∙ sym (is t ht)),
-      λ a. here.1 (alike.1 (a.0, sym (is s hs) ∙ a.1 ∙ is t ht)),
-    )

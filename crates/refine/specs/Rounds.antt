@@ -4,7 +4,7 @@ use Rattle.theory.specs.Bisimulation.{Relation}
 use Rattle.theory.specs.Blocks.{Split, SameBlocks, Underway}
 use Rattle.lts.specs.Meter.{Counts, Costs}
 use Rattle.lts.specs.Lts.{Grouped, system_of}
-use Rattle.refine.specs.Partition.{AreBlocks}
+use Rattle.partition.specs.Partition.{AreBlocks}
 use Rattle.refine.specs.Settled.{Settled}
 
 -- the blocks q, of which there are more, are the Split of the count blocks p; their numbers from the count on are new

@@ -1,6 +1,6 @@
 -- What need not be signed again: a state that no new block number can be seen from. Blocks keep their numbers, and those from
 -- `low` on are new.
-use Rattle.std.specs.Prelude.{◌≡◌, ◌⊎◌, ℕ, ◌<◌, ◌≤◌, Bool, false, IsTrue, List, [], length, slice_index, slice_index_or}
+use Rattle.std.specs.Prelude.{◌≡◌, ◌⊎◌, ℕ, ◌<◌, ◌≤◌, Bool, false, IsTrue, List, [], slice_index, slice_index_or}
 use Rattle.std.specs.List.{Contains}
 use Rattle.theory.specs.System.{System, Step}
 use Rattle.theory.specs.Bisimulation.{Relation}
@@ -8,7 +8,6 @@ use Rattle.theory.specs.Bisimulation.Relation.{strong, branching}
 use Rattle.theory.specs.Blocks.{SameSignature, EachTwo}
 use Rattle.lts.specs.Lts.{Grouped, system_of}
 use Rattle.inert.specs.Signed.{IsSignature}
-use Rattle.refine.specs.Splitting.{IsAlone}
 
 -- the signature of s has a new number (branching: it may have one)
 abbrev pub IsTouched : Relation → System → (ℕ → ℕ) → ℕ → ℕ → Type 0
@@ -39,7 +38,3 @@ HasFrom low pairs = (z : ℕ × ℕ) × Contains pairs z × (low ≤ z.1)
 abbrev pub ArePut : Relation → Grouped → List ℕ → ℕ → List Bool → (ℕ → List (ℕ × ℕ)) → Type 0
 ArePut rel l blocks low alone signature = (s : ℕ) → s < l.states →
     IsPut rel l blocks low (IsTrue (slice_index_or alone (slice_index blocks s) false)) s (signature s)
-
--- what is said to be alone is
-abbrev pub AreAlone : List ℕ → List Bool → Type 0
-AreAlone blocks alone = (s : ℕ) → s < length blocks → IsTrue (slice_index_or alone (slice_index blocks s) false) → IsAlone blocks s

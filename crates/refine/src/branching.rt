@@ -3,10 +3,10 @@
 ghost use Rattle.theory.specs.Bisimulation.Relation.{branching};
 
 use crate::marks::Marks;
-use crate::partition::Partition;
 use crate::sense::Sense;
 use lists::Lists;
 use lts::{Lts, Memory, Meter};
+use partition::Partition;
 use std::alloc::Global;
 
 /// Branching bisimulation (van Glabbeek and Weijland 1996).

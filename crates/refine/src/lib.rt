@@ -4,12 +4,10 @@
 
 mod branching;
 mod marks;
-mod partition;
 mod refinement;
 mod round_signatures;
 mod sense;
 mod signatures;
-mod splitter;
 mod strong;
 
 pub use branching::Branching;

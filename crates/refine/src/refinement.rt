@@ -4,18 +4,17 @@ ghost use Rattle.theory.specs.Bisimulation.{Bisimilar};
 ghost use Rattle.theory.specs.Blocks.{Split, Turns, EachTwo};
 ghost use Rattle.lts.specs.Meter.{HasRoomFor, Costs, CostsUpTo};
 ghost use Rattle.lts.specs.Lts.{system_of};
-ghost use Rattle.refine.specs.Partition.{AreBlocks, IsNumbered};
+ghost use Rattle.partition.specs.Partition.{AreBlocks, IsNumbered};
 ghost use Rattle.refine.specs.EachList.{AreNumbered};
 ghost use Rattle.refine.specs.Settled.{Settled};
 ghost use Rattle.refine.specs.Rounds.{IsNext};
 
 use crate::marks::Marks;
-use crate::partition::Partition;
 use crate::round_signatures::RoundSignatures;
 use crate::sense::Sense;
 use crate::signatures::Signatures;
-use crate::splitter::{Blocks, alone, one_block, renumber};
 use lts::{Lts, Memory, Meter};
+use partition::{Blocks, Partition, alone, one_block, renumber};
 use std::alloc::Global;
 
 /// One round: the Split of the blocks by the signatures that the states have under them. Each transition is visited

@@ -1,16 +1,16 @@
 //! What a round keeps of the signatures of the states.
 ghost use Rattle.std.specs.Prelude.{◌≡◌, ◌≤◌, [], ◌∷◌, length, IfOk, OnOk};
 ghost use Rattle.lts.specs.Meter.{HasRoomFor, Visits};
-ghost use Rattle.refine.specs.Partition.{AreBlocks};
+ghost use Rattle.partition.specs.Partition.{AreBlocks};
 ghost use Rattle.refine.specs.EachList.{list_of, AreNumbered};
 ghost use Rattle.refine.specs.Settled.{ArePut};
-ghost use Rattle.refine.specs.Splitting.{Splits};
+ghost use Rattle.partition.specs.Splitting.{Splits};
 
 use crate::marks::Marks;
 use crate::sense::Sense;
-use crate::splitter::{Blocks, split};
 use lists::Lists;
 use lts::{Lts, Memory, Meter};
+use partition::{Blocks, split};
 use std::alloc::Global;
 
 /// The signature of each state: lists, and the number of each state's list.

@@ -9,9 +9,9 @@ ghost use Rattle.refine.specs.Signed.{Extends, Appends, most_visits};
 ghost use Rattle.refine.specs.Settled.{ArePut};
 
 use crate::marks::Marks;
-use crate::partition::Partition;
 use lists::Lists;
 use lts::{Lts, Memory, Meter};
+use partition::Partition;
 use std::alloc::Global;
 
 /// A relation whose signatures can be computed. Its definitions (the bisimulations, the signature, and what blocks keep)

@@ -1,17 +1,16 @@
 //! The signatures of the states in memory.
 ghost use Rattle.std.specs.Prelude.{◌≡◌, ◌↔◌, ℕ, ◌<◌, ◌≤◌, [], ◌∷◌, length, slice_index, IfOk, OnOk};
 ghost use Rattle.lts.specs.Meter.{HasRoomFor, Visits};
-ghost use Rattle.refine.specs.Partition.{IsNumbered};
+ghost use Rattle.partition.specs.Partition.{IsNumbered};
 ghost use Rattle.inert.specs.Signed.{IsSignature};
 ghost use Rattle.refine.specs.Signed.{signature_at};
 
 use crate::marks::Marks;
-use crate::partition::Partition;
 use crate::round_signatures::RoundSignatures;
 use crate::sense::Sense;
-use crate::splitter::renumber;
 use lists::{Lists, Parts};
 use lts::{Lts, Memory, Meter};
+use partition::{Partition, renumber};
 use std::alloc::Global;
 use std::marker::Model;
 

@@ -9,10 +9,10 @@ ghost use Rattle.inert.specs.Signed.{IsSignature, pair_under};
 ghost use Rattle.refine.specs.Settled.{HasFrom, IsPut};
 
 use crate::marks::Marks;
-use crate::partition::Partition;
 use crate::sense::Sense;
 use lists::{EMPTY, Lists, order};
 use lts::{Lts, Memory, Meter};
+use partition::Partition;
 use std::alloc::Global;
 
 /// Strong bisimulation (Milner 1989).

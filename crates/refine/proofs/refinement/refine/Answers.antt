@@ -6,7 +6,7 @@ use Rattle.lts.specs.Lts.{system_of}
 use Rattle.refine.specs.Settled.{Settled}
 use Rattle.refine.specs.Rounds.{Made}
 use Rattle.refine.proofs.Spending.{costs_more, costs_up_to_more, room_for_more, on_ok_from, on_err_from}
-use Rattle.refine.proofs.Renumbering.{AreBlocks-one, one_block}
+use Rattle.partition.proofs.Renumbering.{one_block}
 use Rattle.refine.proofs.Settling.{settled_first}
 use Rattle.refine.proofs.refinement.refine.Goals as goal
 use Rattle.refine.proofs.refinement.refine.Given.{Over}
@@ -17,15 +17,11 @@ loop-blocks-init g c =
     let A = system_of c.args.l.now in
     let blocks = c.in_ok-blocks.blocks.items in
     let size = c.in_ok-blocks.ensures.states in
-    let numbered = c.in_ok-signatures.ensures.numbered in
     let one = one_block A.states blocks c.states-3.result (sym c.states-3.ensures.value) c.in_ok-blocks.ensures.one in
     let begun = c.refinement_goes_on.ensures.begun g.S.Sense.relation A (slice_index blocks) c.states.ensures.lts.system one in
     record {
       states = size ∙ c.states-3.ensures.value;
-      blocks =
-          AreBlocks-one blocks (omega (arith, size, numbered.some, c.in_ok-signatures.ensures.states, c.states-2.ensures.value, c.states-3.ensures.value))
-          (omega (arith, size, numbered.few, c.in_ok-signatures.ensures.states, c.states-2.ensures.value, c.states-3.ensures.value))
-          (λ s h. c.in_ok-blocks.ensures.one s (omega (arith, h, size)));
+      blocks = c.in_ok-blocks.ensures.blocks;
       settled = settled_first g.S.Sense.relation A (slice_index blocks);
       marks = c.in_ok-marks.ensures ∙ c.states.ensures.value;
       lists = c.in_ok-signatures.ensures.numbered;

@@ -1,6 +1,6 @@
 use Rattle.std.proofs.Common.{◌≡◌, ◌-◌, length, slice_index}
 use Rattle.lts.specs.Lts.{system_of}
-use Rattle.refine.specs.Partition.{AreBlocks}
+use Rattle.partition.specs.Partition.{AreBlocks}
 use Rattle.refine.specs.EachList.{AreNumbered}
 use Rattle.refine.specs.Settled.{Settled}
 use Rattle.refine.specs.Rounds.{Made}

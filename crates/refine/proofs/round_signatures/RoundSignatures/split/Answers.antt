@@ -1,6 +1,6 @@
 use Rattle.std.proofs.Common.{slice_index, subst}
 use Rattle.std.proofs.lemmas.Result.{IfOk-weaker}
-use Rattle.refine.specs.Splitting.{Splits}
+use Rattle.partition.specs.Splitting.{Splits}
 use Rattle.refine.proofs.EachList.{Splits-lists}
 use Rattle.refine.proofs.round_signatures.RoundSignatures.split.Goals as goal
 

@@ -2,12 +2,11 @@ use Rattle.std.proofs.Common.{◌≡◌, ◌↔◌, ◌∙◌, ℕ, ◌<◌, len
 use Rattle.std.proofs.lemmas.List.{length-map}
 use Rattle.std.proofs.lemmas.Result.{IfOk-weaker}
 use Rattle.lists.specs.Lists.{list_at}
-use Rattle.refine.specs.Partition.{AreBlocks}
+use Rattle.partition.specs.Partition.{AreBlocks}
 use Rattle.refine.specs.EachList.{list_of}
 use Rattle.refine.specs.Signed.{signature_at}
 use Rattle.refine.proofs.EachList.{signature_at-list}
-use Rattle.refine.proofs.Renumbering.{AreBlocks-partition}
-use Rattle.refine.proofs.Settling.{renumbered_alike}
+use Rattle.partition.proofs.Renumbering.{AreBlocks-partition, renumbered_alike}
 use Rattle.refine.proofs.signatures.Signatures.split.Goals as goal
 
 pub split-requires-clause-blocks : goal.split-requires-clause-blocks

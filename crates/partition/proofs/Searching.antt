@@ -1,0 +1,24 @@
+-- A search for the elder with a key: from the last number of its bucket down, no elder above has the key.
+use Rattle.std.proofs.Common.{◌≡◌, ◌∙◌, ℕ, ◌<◌, List, length, ap, sym, subst, inl, inr, arith}
+use Rattle.std.proofs.lemmas.Bool.{cases_order}
+use Rattle.partition.specs.declared.splitter.Elder.{Elder}
+use Rattle.partition.specs.Elders.{Key, bucket_of, bucket_at, before_at, key_at, IsElder, IsChain}
+
+-- no elder with a number above r has the key
+abbrev pub NoneAbove : List Elder → Key → ℕ → Type 0
+NoneAbove chain key r = (q : ℕ) → r < q → q < length chain → key_at chain q ≡ key → ⊥
+
+module _ (heads : List ℕ) (chain : List Elder) (key : Key) (is : IsChain heads chain) where
+  -- an elder that has the key is in its bucket
+  fits : (q : ℕ) → key_at chain q ≡ key → bucket_at chain heads q ≡ bucket_of (length heads) key
+  fits q a = ap (bucket_of (length heads)) a
+
+  pub none-above-before : (r : ℕ) → IsElder chain r → bucket_at chain heads r ≡ bucket_of (length heads) key →
+      (key_at chain r ≡ key → ⊥) → NoneAbove chain key r → NoneAbove chain key (before_at chain r)
+  none-above-before r e b other none q h k a = elim (cases_order q r) [
+    | inl at ↦ other (subst (λ x. key_at chain x ≡ key) at a)
+    | inr order ↦ elim order [
+      | inl low ↦ let last = is.chained.before_last q r (omega arith) low e.1 (fits q a ∙ sym b) in omega arith
+      | inr high ↦ none q high k a
+    ]
+  ]

@@ -1,0 +1,79 @@
+//! A partition of the states 0, 1, .. into blocks, which are numbered in the order of their least members.
+ghost use Rattle.std.specs.Prelude.{◌≡◌, ℕ, ◌<◌, ◌≤◌, length, slice_index, IfOk};
+ghost use Rattle.partition.specs.Partition.{IsPartition, IsNumbered};
+
+use growth::Memory;
+use std::alloc::Global;
+use std::marker::Model;
+
+/// The block of each state, as a number from 0 up to the count of blocks.
+#[derive(Drop)]
+pub struct Partition {
+    blocks: Vec<u32>,
+    count: u32,
+}
+
+impl Model for Partition {
+    ghost use Rattle.std.specs.Prelude.{ℕ, List};
+
+    ghost Value = { List ℕ };
+
+    ghost view = { λ p. p.blocks.items };
+
+    ghost use Rattle.partition.specs.Partition.{IsPartition};
+
+    ghost invariant = { λ p. IsPartition p.blocks.items p.count };
+}
+
+impl Partition {
+    /// All of 1 to 2,000,000 states in one block.
+    ///
+    /// Fails where there is no memory for it.
+    pub fn one(alloc: Global, states: u32) -> Result<Partition, Memory>
+        requires some { 1 ≤ states }
+        requires few { states ≤ 2000000 }
+        ensures states { IfOk result (λ p. length p ≡ states) }
+        ensures one { IfOk result (λ p. (s : ℕ) → s < states → slice_index p s ≡ 0) }
+    {
+        let blocks = vec![in alloc; 0u32; states as usize]?;
+        Ok(Partition { blocks, count: 1 })
+    }
+
+    /// The partition with these blocks, of which there are so many.
+    pub fn from_blocks(blocks: Vec<u32>, count: u32) -> Partition
+        requires { IsPartition blocks.items count }
+        ensures { result ≡ blocks.items }
+    {
+        Partition { blocks, count }
+    }
+
+    /// How many states there are: 1 to 2,000,000.
+    pub fn states(&self) -> u32
+        ensures value { result ≡ length self.now }
+        ensures numbered { IsNumbered self.now }
+    {
+        self.blocks.len() as u32
+    }
+
+    /// The number of the block of the state `s`.
+    pub fn block(&self, s: u32) -> u32
+        requires { s < length self.now }
+        ensures { result ≡ slice_index self.now s }
+    {
+        self.blocks[s as usize]
+    }
+
+    /// How many blocks there are.
+    pub fn count(&self) -> u32
+        ensures { IsPartition self.now result }
+    {
+        self.count
+    }
+
+    /// The blocks of the states in their order.
+    pub fn blocks(&self) -> &[u32]
+        ensures blocks { result.now ≡ self.now }
+    {
+        &self.blocks
+    }
+}

@@ -1,5 +1,0 @@
-use Rattle.std.proofs.Common.{rules}
-use Rattle.refine.proofs.partition.Partition.count.Goals as goal
-
-pub returns : goal.returns
-returns c = search rules
