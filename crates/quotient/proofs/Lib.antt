@@ -8,8 +8,10 @@ pub mod Classes
 -- the quotient
 pub mod Rows
 pub mod Members
+pub mod Stopping
 pub mod Copying
 pub mod Quotients
+pub mod Settled
 pub mod Visits
 -- the comparison
 pub mod Unions

@@ -148,7 +148,7 @@ rows_enough strong g n reached laws num is = leaders_enough g n laws num
 rows_enough branching g n reached laws num is = reached_enough branching g n laws num reached is
 
 -- what is left out is what the relation drops
-left_out_is : (rel : Relation) (labels : List (List ℕ)) (dropped : Option ℕ) → IsTable labels → IsDroppedLabel rel labels dropped →
+pub left_out_is : (rel : Relation) (labels : List (List ℕ)) (dropped : Option ℕ) → IsTable labels → IsDroppedLabel rel labels dropped →
     (x : Triple) → label_of x < length labels → (is_left_out dropped x ≡ true) ↔ IsDropped rel (transition_of labels x)
 left_out_is strong labels dropped table none x low = (
   λ out. both_ways (is_left_out dropped x) (ap (λ d. is_left_out d x) none) out,
@@ -173,7 +173,7 @@ stays_if : (b : Bool) → ¬ (b ≡ true) → not b ≡ true
 stays_if true never = absurd (never refl)
 stays_if false never = refl
 
-goes_if : (b : Bool) → not b ≡ true → ¬ (b ≡ true)
+pub goes_if : (b : Bool) → not b ≡ true → ¬ (b ≡ true)
 goes_if true stays out = absurd (both_ways false refl stays)
 goes_if false stays out = absurd (both_ways false refl out)
 

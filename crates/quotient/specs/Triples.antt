@@ -22,6 +22,16 @@ shown_in numbers dropped s row = filter (λ x. not (is_left_out dropped x)) (map
 abbrev pub shown_by : List ℕ → Option ℕ → List Triple → ℕ → List Triple
 shown_by numbers dropped places s = shown_in numbers dropped s (row_of s places)
 
+-- no step of the state s is left out: its row shows as many transitions as it has
+abbrev pub LeavesNothingOut : List ℕ → Option ℕ → List Triple → ℕ → Type 0
+LeavesNothingOut numbers dropped places s = length (shown_by numbers dropped places s) ≡ length (row_of s places)
+
+-- unless a step of s is left out, the row of s shows also what that of t does
+abbrev pub ShowsAlso : List ℕ → Option ℕ → List Triple → ℕ → ℕ → Type 0
+ShowsAlso numbers dropped places s t =
+    LeavesNothingOut numbers dropped places s → (x : Triple) →
+    Contains (shown_by numbers dropped places t) x → Contains (shown_by numbers dropped places s) x
+
 -- the row of a marked state below s shows x
 abbrev pub IsShownBelow : List ℕ → List Bool → Option ℕ → List Triple → ℕ → Triple → Type 0
 IsShownBelow numbers rows dropped places s x =

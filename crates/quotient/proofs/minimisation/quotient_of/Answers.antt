@@ -6,11 +6,12 @@ use Rattle.lts.specs.Lts.{Triple, InRange, IsGrouping, system_of}
 use Rattle.quotient.specs.Reading.{rows_of, IsDroppedLabel}
 use Rattle.quotient.specs.Triples.{IsShownBelow}
 use Rattle.quotient.proofs.Quotients.{NumberLaws, Laws, AreEnough, rows_enough, quotient_in_range, IfOk-quotient}
+use Rattle.quotient.proofs.Settled.{members_show_also}
 use Rattle.quotient.proofs.minimisation.quotient_of.Given.{Over}
 use Rattle.quotient.proofs.minimisation.quotient_of.Goals as goal
-use Rattle.quotient.proofs.minimisation.quotient_of.Goals.{After-shown_triples}
+use Rattle.quotient.proofs.minimisation.quotient_of.Goals.{After-dropped-dropped}
 
-module _ (g : Over) (c : After-shown_triples g) where
+module _ (g : Over) (c : After-dropped-dropped g) where
   numbers : NumberLaws (meant c.args.r) (system_of c.args.l.now)
   numbers =
       let rel = meant c.args.r in
@@ -45,11 +46,17 @@ module _ (g : Over) (c : After-shown_triples g) where
   drops : IsDroppedLabel (meant c.args.r) c.args.l.now.labels c.dropped-dropped.result
   drops = subst (λ labels. IsDroppedLabel (meant c.args.r) labels c.dropped-dropped.result) c.labels.ensures c.dropped-dropped.ensures
 
+pub shown_triples-requires-clause-whole : goal.shown_triples-requires-clause-whole
+shown_triples-requires-clause-whole g c =
+    let at = (goal.at.shown_triples-requires-clause-whole g c).After-dropped-dropped in
+    rw c.deref-2.ensures.value (members_show_also (meant c.args.r) c.args.l.now c.args.numbering.now (laws g at) c.requires.numbering
+    c.rows-rows.result.now (enough g at) c.dropped-dropped.result (drops g at))
+
 pub build-requires : goal.build-requires
 build-requires g c =
     let l = c.args.l.now in
     let es = c.in_ok-triples.triples.items in
-    let at = (goal.at.build-requires g c).After-shown_triples in
+    let at = (goal.at.build-requires g c).After-dropped-dropped in
     let exactly : (x : Triple) → Contains es x ↔ IsShownBelow c.args.numbering.now.numbers.items c.rows-rows.result.now c.dropped-dropped.result l.places l.states x =
     subst (λ numbers. (x : Triple) → Contains es x ↔ IsShownBelow numbers c.rows-rows.result.now c.dropped-dropped.result l.places l.states x)
     c.deref-2.ensures.value c.in_ok-triples.ensures.exactly in
@@ -62,7 +69,7 @@ pub returns-clause-quotient : goal.returns-clause-quotient
 returns-clause-quotient g c =
     let l = c.args.l.now in
     let es = c.in_ok-triples.triples.items in
-    let at = (goal.at.returns-clause-quotient g c).After-shown_triples in
+    let at = (goal.at.returns-clause-quotient g c).After-dropped-dropped in
     let exactly : (x : Triple) → Contains es x ↔ IsShownBelow c.args.numbering.now.numbers.items c.rows-rows.result.now c.dropped-dropped.result l.places l.states x =
     subst (λ numbers. (x : Triple) → Contains es x ↔ IsShownBelow numbers c.rows-rows.result.now c.dropped-dropped.result l.places l.states x)
     c.deref-2.ensures.value c.in_ok-triples.ensures.exactly in

@@ -1,0 +1,148 @@
+-- A row that leaves nothing out shows what each row of its number does.
+use Rattle.std.proofs.Common.{◌≡◌, ◌∙◌, ◌↔◌, ℕ, ◌<◌, Bool, true, not, Option, List, [], ◌∷◌, length, map, slice_index, Contains, refl, sym, ap, subst, arith}
+use Rattle.std.specs.List.{filter}
+use Rattle.std.proofs.lemmas.List.{length-map}
+use Rattle.std.proofs.lemmas.List.Elements.{All-contains}
+use Rattle.std.proofs.lemmas.List.Filters.{length-filter_both}
+use Rattle.theory.specs.System.{System, IsSystem, Step, Reachable, internal}
+use Rattle.theory.specs.Bisimulation.{Relation, Bisimilar}
+use Rattle.theory.specs.Bisimulation.Relation.{strong, branching}
+use Rattle.theory.specs.Blocks.{Signature, Stable, Share}
+use Rattle.theory.specs.Quotient.{IsDropped}
+use Rattle.theory.proofs.Paths.{step_below}
+use Rattle.theory.proofs.Refinement.{blocks_after, after_stable, final_share}
+use Rattle.theory.proofs.Turning.{turns_found}
+use Rattle.lts.specs.Labels.{text_of}
+use Rattle.lts.specs.Lts.{Triple, source_of, label_of, target_of, row_of, transition_of, system_of, IsTriple, Grouped}
+use Rattle.quotient.specs.Reading.{IsDroppedLabel}
+use Rattle.quotient.specs.Numbers.{IsNumbering}
+use Rattle.quotient.specs.Triples.{IsMemberBelow, Member, between_numbers, is_left_out, shown_by, LeavesNothingOut, ShowsAlso}
+use Rattle.quotient.specs.declared.numbering.Numbering.{Numbering}
+use Rattle.quotient.proofs.Lists.{has_mapped, has_filtered}
+use Rattle.quotient.proofs.Quotients.{Laws, AreEnough, left_out_is, goes_if}
+use Rattle.quotient.proofs.Rows.{ShownPlace, place_of, shown_place}
+
+-- a step from s by a to t is left out: for branching, an internal one to a bisimilar state
+abbrev pub IsInert : Relation → System → ℕ → List ℕ → ℕ → Type 0
+IsInert strong A s a t = ⊥
+IsInert branching A s a t = (a ≡ internal) × Bisimilar branching A s A t
+
+-- a step of s by a to a state that is bisimilar to t
+abbrev pub Makes : Relation → System → ℕ → List ℕ → ℕ → Type 0
+Makes rel A s a t = (u : ℕ) × Step A s a u × Bisimilar rel A t A u
+
+module _ (A : System) (sys : IsSystem A) (blocks : ℕ → ℕ) where
+  strong_shown : ((s t : ℕ) → Share A blocks s t ↔ Bisimilar strong A s A t) → Stable strong A blocks →
+      (s t : ℕ) (a : List ℕ) (u : ℕ) → Bisimilar strong A s A t → Step A t a u → Makes strong A s a u
+  strong_shown is stable s t a u same step =
+      let share : Share A blocks s t = (is s t).1 same in
+      let found : Signature strong A blocks s a (blocks u) = (stable s t share.0 share.1 share.2 a (blocks u)).1 (u, step, refl) in
+      let low = (step_below A sys t a u step).1 in
+      let ends = (step_below A sys s a found.0 found.1).1 in
+      (found.0, found.1, (is u found.0).0 (low, ends, sym found.2))
+
+  branching_shown : ((s t : ℕ) → Share A blocks s t ↔ Bisimilar branching A s A t) → Stable branching A blocks →
+      (s t : ℕ) (a : List ℕ) (u : ℕ) → Bisimilar branching A s A t → ((b : List ℕ) (v : ℕ) → Step A s b v → ¬ IsInert branching A s b v) →
+      Step A t a u → ¬ IsInert branching A t a u → Makes branching A s a u
+  branching_shown is stable s t a u same none step leaves =
+      let share : Share A blocks s t = (is s t).1 same in
+      let low = (step_below A sys t a u step).1 in
+      let can : Signature branching A blocks t a (blocks u) =
+      (t, u, ([], refl), step, refl, λ inert. leaves (inert.0, (is t u).0 (share.1, low, sym inert.1))) in
+      go ((stable s t share.0 share.1 share.2 a (blocks u)).1 can)
+    where
+      go : Signature branching A blocks s a (blocks u) → Makes branching A s a u
+      go (x, v, ([], here), there, at, shows) =
+          let own : Step A s a v = subst (λ y. Step A y a v) (sym here) there in
+          let low = (step_below A sys t a u step).1 in
+          (v, own, (is u v).0 (low, (step_below A sys s a v own).1, sym at))
+      go (x, v, (w ∷ ws, way), there, at, shows) =
+          let first = step_below A sys s internal w way.0.0 in
+          absurd (none internal w way.0.0 (refl, (is s w).0 (first.0, first.1, sym way.0.1)))
+
+-- a state with no step that is left out makes the steps of its class that are not
+pub all_made : (rel : Relation) (A : System) → IsSystem A → (s t : ℕ) (a : List ℕ) (u : ℕ) → Bisimilar rel A s A t →
+    ((b : List ℕ) (v : ℕ) → Step A s b v → ¬ IsInert rel A s b v) → Step A t a u → ¬ IsInert rel A t a u → Makes rel A s a u
+all_made rel A sys s t a u same none step leaves =
+    let turns = turns_found rel A sys in
+    let after = blocks_after rel A sys turns.0 in
+    go rel after.0 (final_share rel A sys turns.0 after.0 turns.1 after.1) (after_stable rel A sys turns.0 after.0 turns.1.last after.1) same none leaves
+  where
+    go : (r : Relation) (blocks : ℕ → ℕ) → ((x y : ℕ) → Share A blocks x y ↔ Bisimilar r A x A y) → Stable r A blocks → Bisimilar r A s A t →
+        ((b : List ℕ) (v : ℕ) → Step A s b v → ¬ IsInert r A s b v) → ¬ IsInert r A t a u → Makes r A s a u
+    go strong blocks is stable same none leaves = strong_shown A sys blocks is stable s t a u same step
+    go branching blocks is stable same none leaves = branching_shown A sys blocks is stable s t a u same none step leaves
+
+-- a step between numbers is dropped exactly where the step of the states is left out
+dropped_is : (rel : Relation) (A : System) (labels : List (List ℕ)) (x : Triple) (s t : ℕ) (a : List ℕ) → text_of labels (label_of x) ≡ a →
+    (source_of x ≡ target_of x) ↔ Bisimilar rel A s A t → IsDropped rel (transition_of labels x) ↔ IsInert rel A s a t
+dropped_is strong A labels x s t a label same = (λ gone. absurd gone, λ gone. absurd gone)
+dropped_is branching A labels x s t a label same = (λ h. (sym label ∙ h.0, same.0 h.1), λ h. (label ∙ h.0, same.1 h.1))
+
+-- where a row shows as many transitions as it has, none is left out
+whole_row : (numbers : List ℕ) (dropped : Option ℕ) (places : List Triple) (s : ℕ) → LeavesNothingOut numbers dropped places s →
+    (e : Triple) → Contains (row_of s places) e → ¬ (is_left_out dropped (between_numbers numbers s e) ≡ true)
+whole_row numbers dropped places s whole e c gone =
+    let row = row_of s places in
+    let triples : List Triple = map (between_numbers numbers s) row in
+    let out = λ (x : Triple). is_left_out dropped x in
+    let counts = length-filter_both out (λ x. not (out x)) (λ x. refl) triples in
+    let none : length (filter out triples) ≡ 0 = omega (arith, counts, whole, length-map row (between_numbers numbers s)) in
+    let found = has_filtered out triples (between_numbers numbers s e) (has_mapped (between_numbers numbers s) row e c) gone in
+    absurd (omega (arith, none, found.1))
+
+module _ (rel : Relation) (g : Grouped) (n : Numbering) (laws : Laws rel g) (num : IsNumbering rel (system_of g) n)
+    (rows : List Bool) (enough : AreEnough g n.numbers.items rows) (dropped : Option ℕ) (drops : IsDroppedLabel rel g.labels dropped) where
+  -- a place of a row is left out between numbers where its step is inert
+  out_is : (s : ℕ) (e : Triple) → Reachable (system_of g) s → Contains (row_of s g.places) e →
+      (is_left_out dropped (between_numbers n.numbers.items s e) ≡ true) ↔ IsInert rel (system_of g) s (text_of g.labels (label_of e)) (target_of e)
+  out_is s e way c =
+      let A = system_of g in
+      let x = between_numbers n.numbers.items s e in
+      let step = (laws.steps s (text_of g.labels (label_of e)) (target_of e)).1 (e, c, refl, refl) in
+      let on = laws.reached_on s (text_of g.labels (label_of e)) (target_of e) way step in
+      let triple = All-contains (IsTriple (length g.labels) g.states) g.places e laws.lts.in_range.each ((laws.sources s g.places e).0 c).0 in
+      let gone = left_out_is rel g.labels dropped laws.lts.table drops x triple.label in
+      let same = laws.numbers.classes s (target_of e) (source_of x) (target_of x) way on (num.number s way) (num.number (target_of e) on) in
+      let inert = dropped_is rel A g.labels x s (target_of e) (text_of g.labels (label_of e)) refl same in
+      (λ out. inert.0 (gone.0 out), λ is. gone.1 (inert.1 is))
+
+  -- the row of s shows what that of a state of its number does
+  shows_also : (s t : ℕ) → Reachable (system_of g) s → Reachable (system_of g) t → slice_index n.numbers.items s ≡ slice_index n.numbers.items t →
+      ShowsAlso n.numbers.items dropped g.places s t
+  shows_also s t ws wt same whole x c =
+      let A = system_of g in
+      let numbers = n.numbers.items in
+      let from : ShownPlace numbers dropped g.places t x = place_of numbers dropped g.places t x c in
+      let e = from.place in
+      let a = text_of g.labels (label_of e) in
+      let step = (laws.steps t a (target_of e)).1 (e, from.in_row, refl, refl) in
+      let stays : ¬ (is_left_out dropped (between_numbers numbers t e) ≡ true) =
+      λ out. goes_if (is_left_out dropped x) from.stays (ap (is_left_out dropped) (sym from.is) ∙ out) in
+      let none : (b : List ℕ) (v : ℕ) → Step A s b v → ¬ IsInert rel A s b v = λ b v own inert.
+      let place = (laws.steps s b v).0 own in
+      whole_row numbers dropped g.places s whole place.0 place.1
+      ((out_is s place.0 ws place.1).1 (subst (λ y. IsInert rel A s y (target_of place.0)) (sym place.2) (subst (IsInert rel A s b) (sym place.3) inert))) in
+      let alike = (laws.numbers.classes s t (slice_index numbers s) (slice_index numbers t) ws wt (num.number s ws) (num.number t wt)).0 same in
+      let made = all_made rel A laws.lts.system s t a (target_of e) alike none step (λ inert. stays ((out_is t e wt from.in_row).1 inert)) in
+      let place = (laws.steps s a made.0).0 made.1 in
+      let f = place.0 in
+      let on = laws.reached_on t a (target_of e) wt step in
+      let ons = laws.reached_on s a made.0 ws made.1 in
+      let target : slice_index numbers (target_of f) ≡ slice_index numbers (target_of e) =
+      ap (slice_index numbers) place.3
+      ∙ sym ((laws.numbers.classes (target_of e) made.0 (slice_index numbers (target_of e)) (slice_index numbers made.0) on ons
+      (num.number (target_of e) on) (num.number made.0 ons)).1 made.2) in
+      let label : label_of f ≡ label_of e =
+      laws.lts.table.different (label_of f) (label_of e) (in_table s f place.1) (in_table t e from.in_row) place.2 in
+      let is : between_numbers numbers s f ≡ x = (λ i. (same i, label i, target i)) ∙ from.is in
+      subst (Contains (shown_by numbers dropped g.places s)) is
+      (shown_place numbers dropped g.places s f place.1 (subst (λ y. not (is_left_out dropped y) ≡ true) (sym is) from.stays))
+    where
+      in_table : (v : ℕ) (e : Triple) → Contains (row_of v g.places) e → label_of e < length g.labels
+      in_table v e c = (All-contains (IsTriple (length g.labels) g.states) g.places e laws.lts.in_range.each ((laws.sources v g.places e).0 c).0).label
+
+  -- so do the members of one number
+  pub members_show_also : (p q : Member) → IsMemberBelow n.numbers.items rows g.states p → IsMemberBelow n.numbers.items rows g.states q →
+      p.0 ≡ q.0 → ShowsAlso n.numbers.items dropped g.places p.1 q.1
+  members_show_also p q hp hq same = shows_also p.1 q.1 (enough.only p.1 hp.0 hp.1) (enough.only q.1 hq.0 hq.1) (sym hp.2 ∙ same ∙ hq.2)
