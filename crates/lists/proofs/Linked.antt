@@ -4,7 +4,7 @@ use Rattle.std.specs.List.{All}
 use Rattle.std.specs.List.Sorted.{IsStrictlySortedBy}
 use Rattle.std.proofs.lemmas.Bool.{cases_lt}
 use Rattle.std.proofs.lemmas.List.{length_push, get_or_append_left, get_or_push, get_or_past}
-use Rattle.std.proofs.lemmas.List.Elements.{All-append}
+use Rattle.std.proofs.lemmas.List.Elements.{All-append, Contains-append_cases, Contains-append_left, Contains-append_right}
 use Rattle.lists.specs.declared.lists.TheConstants.{MOST_LISTS}
 use Rattle.lists.specs.Lists.{pair_cmp, list_at, merged, Apart}
 use Rattle.lists.specs.Links.{padded, wholes_to, wholes, AreRising, AreChained}
@@ -273,12 +273,14 @@ module _ (list base added : List (ℕ × ℕ)) (is : list ≡ merged base added)
   pub link_below : (z : ℕ × ℕ) → Contains base z → Contains list z
   link_below z d = subst (λ l. Contains l z) (sym is) ((merged_has z base added).1 (inl d))
 
-  -- another list that has what it adds has all of it if it has the base
-  pub link_has : {A : Type 0} (other : List (ℕ × ℕ)) → ((z : ℕ × ℕ) → Contains added z → Contains other z)
-      → A ↔ ((z : ℕ × ℕ) → Contains list z → Contains other z) → A ↔ ((z : ℕ × ℕ) → Contains base z → Contains other z)
-  link_has other has same = (
-    λ a z c. same.0 a z (link_below z c),
-    λ all. same.1 (λ z c. has_both base added other all has z (subst (λ l. Contains l z) is c)),
+  -- those of some pairs that it does not add are left
+  pub link_left : {A : Type 0} (old new : List (ℕ × ℕ)) (z : ℕ × ℕ) → Contains new z ↔ (Contains old z × ¬ Contains added z)
+      → (Contains old z × ¬ Contains list z) ↔ A → (Contains new z × ¬ Contains base z) ↔ A
+  link_left old new z step same = (
+    λ m.
+        let o = step.0 m.0 in
+        same.0 (o.0, λ c. elim ((merged_has z base added).0 (subst (λ l. Contains l z) is c)) [ inl b ↦ m.1 b | inr d ↦ o.1 d ]),
+    λ a. let m = same.1 a in (step.1 (m.0, λ d. m.1 (link_adds z d)), λ b. m.1 (link_below z b)),
   )
 
   -- what another list lacks of what it adds was put out
@@ -306,4 +308,27 @@ pub missing_end : {A : Type 0} (new list other : List (ℕ × ℕ)) (z : ℕ × 
 missing_end new list other z within same = (
   λ c. same.0 (inl c),
   λ a. elim (same.1 a) [ inl c ↦ c | inr m ↦ absurd (m.1 (within m.0)) ],
+)
+
+pub left_end : {A : Type 0} (left list : List (ℕ × ℕ)) (z : ℕ × ℕ) → list ≡ [] → (Contains left z × ¬ Contains list z) ↔ A → Contains left z ↔ A
+left_end left list z none same = (
+  λ c.
+      same.0 (
+        c,
+        λ d.
+            let (k, low, e) : Contains {X = ℕ × ℕ} [] z = subst (λ l. Contains l z) none d in
+            omega (arith, low),
+      ),
+  λ a. (same.1 a).0,
+)
+
+-- what is left goes to other pairs
+pub left_appended : {A : Type 0} (old left new : List (ℕ × ℕ)) (z : ℕ × ℕ) → new ≡ old ++ left → Contains left z ↔ A
+    → Contains new z ↔ (Contains old z ⊎ A)
+left_appended old left new z is same = (
+  λ c. elim (Contains-append_cases old left z (subst (λ l. Contains l z) is c)) [ inl o ↦ inl o | inr d ↦ inr (same.0 d) ],
+  λ o. subst (λ l. Contains l z) (sym is) (elim o [
+    | inl c ↦ Contains-append_left old left z c
+    | inr a ↦ Contains-append_right old left z (same.1 a)
+  ]),
 )

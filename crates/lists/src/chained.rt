@@ -9,12 +9,15 @@ ghost use Rattle.lists.specs.declared.lists.TheConstants.{MOST_LISTS};
 
 use crate::links::{base_of, put, stays};
 use crate::lists::EMPTY;
-use crate::ordered::{append_merged, has};
+use crate::ordered::{append_merged, has, lacked};
 use crate::parts::Parts;
 use crate::span::are_same;
 use growth::Memory;
 use std::alloc::Global;
 use std::marker::Model;
+
+/// So many pairs are read beside another list, and fewer are looked up in it.
+const MANY: usize = 8;
 
 /// Lists of pairs in strictly rising order, each under the number that `add` returned for it. The list number
 /// `EMPTY` is the empty one.
@@ -130,22 +133,27 @@ impl Chained {
     }
 
     /// Whether the list number `j` is the list number `k` with these pairs, which that one lacks. What both share is not read.
-    pub fn is_extended(&self, j: u32, k: u32, pairs: &[(u32, u32)]) -> bool
+    ///
+    /// Fails if there is no memory to compare them.
+    pub fn is_extended(&self, j: u32, k: u32, pairs: &[(u32, u32)]) -> Result<bool, Memory>
         requires list { j < length self.now }
         requires addition { IsAddition self.now k pairs.now }
-        ensures { IsTrue result ↔ (list_at self.now j ≡ merged (list_at self.now k) pairs.now) }
+        ensures { IfOk result (λ r. IsTrue r ↔ (list_at self.now j ≡ merged (list_at self.now k) pairs.now)) }
     {
         self.known();
         if k == EMPTY && j != EMPTY {
             let (base, added, _) = self.cut(j);
             if base == EMPTY {
-                return are_same(added, pairs);
+                return Ok(are_same(added, pairs));
             }
         }
         if !self.has_size(j, k, pairs.len()) {
-            return false;
+            return Ok(false);
         }
-        self.has_all(j, pairs) && self.has_all_of(j, k)
+        let mut missing = Vec::new(self.alloc);
+        self.append_new(pairs, j, &mut missing)?;
+        self.append_missing(k, j, &mut missing)?;
+        Ok(missing.is_empty())
     }
 
     /// Whether the list number `j` has so many pairs more than the list number `k`.
@@ -159,42 +167,6 @@ impl Chained {
             return false;
         }
         size - more as u128 == self.size(k)
-    }
-
-    /// Whether the list number `k` has all pairs of the list number `j`. What both share is not read.
-    fn has_all_of(&self, k: u32, j: u32) -> bool
-        requires list { k < length self.now }
-        requires pairs { j < length self.now }
-        ensures { IsTrue result ↔ ((z : ℕ × ℕ) → Contains (list_at self.now j) z → Contains (list_at self.now k) z) }
-    {
-        let mut at = j;
-        let mut below = k;
-        while at != below {
-            if at < below {
-                let (base, _, _) = self.cut(below);
-                below = base;
-            } else {
-                let (base, added, _) = self.cut(at);
-                if !self.has_all(k, added) {
-                    return false;
-                }
-                at = base;
-            }
-        }
-        true
-    }
-
-    /// Whether the list number `k` has all these pairs.
-    fn has_all(&self, k: u32, pairs: &[(u32, u32)]) -> bool
-        requires { k < length self.now }
-        ensures { IsTrue result ↔ ((z : ℕ × ℕ) → Contains pairs.now z → Contains (list_at self.now k) z) }
-    {
-        for pair in pairs {
-            if !self.has(k, *pair) {
-                return false;
-            }
-        }
-        true
     }
 
     /// Whether the list number `k` has the pair.
@@ -214,10 +186,32 @@ impl Chained {
         false
     }
 
-    /// Appends those of the pairs that the list number `k` lacks to `out`.
+    /// Appends those of the pairs that the list number `k` lacks to `out`: a few are looked up, and more are read beside it.
     ///
     /// Fails if there is no memory for them.
     pub fn append_new(
+        &self,
+        pairs: &[(u32, u32)],
+        k: u32,
+        out: &mut Vec<(u32, u32)>,
+    ) -> Result<(), Memory>
+        requires list { k < length self.now }
+        requires rising { IsStrictlySortedBy pair_cmp pairs.now }
+        ensures { OnOk result ((z : ℕ × ℕ) → Contains out.new.items z
+            ↔ (Contains out.old.items z ⊎ (Contains pairs.now z × ¬ Contains (list_at self.now k) z))) }
+    {
+        if pairs.len() < MANY {
+            return self.append_looked_up(pairs, k, out);
+        }
+        let left = self.left(pairs, k)?;
+        out.extend_from_slice(&left)?;
+        Ok(())
+    }
+
+    /// Appends those of the pairs that are not found in the list number `k` to `out`.
+    ///
+    /// Fails if there is no memory for them.
+    fn append_looked_up(
         &self,
         pairs: &[(u32, u32)],
         k: u32,
@@ -234,6 +228,25 @@ impl Chained {
             out.push(*pair)?;
         }
         Ok(())
+    }
+
+    /// Those of the pairs that no link of the list number `k` has.
+    ///
+    /// Fails if there is no memory for them.
+    fn left(&self, pairs: &[(u32, u32)], k: u32) -> Result<Vec<(u32, u32)>, Memory>
+        requires list { k < length self.now }
+        requires rising { IsStrictlySortedBy pair_cmp pairs.now }
+        ensures { IfOk result (λ r. (z : ℕ × ℕ) → Contains r.items z ↔ (Contains pairs.now z × ¬ Contains (list_at self.now k) z)) }
+    {
+        self.known();
+        let mut left = Vec::from_slice(self.alloc, pairs)?;
+        let mut at = k;
+        while at != EMPTY {
+            let (base, added, _) = self.cut(at);
+            left = lacked(self.alloc, &left, added)?;
+            at = base;
+        }
+        Ok(left)
     }
 
     /// Appends the pairs of the list number `j` that the list number `k` lacks to `pairs`. What both share is not read.

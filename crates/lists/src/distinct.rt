@@ -94,7 +94,8 @@ impl Distinct {
         k: u32,
         out: &mut Vec<(u32, u32)>,
     ) -> Result<(), Memory>
-        requires { k < length self.now }
+        requires list { k < length self.now }
+        requires rising { IsStrictlySortedBy pair_cmp pairs.now }
         ensures { OnOk result ((z : ℕ × ℕ) → Contains out.new.items z
             ↔ (Contains out.old.items z ⊎ (Contains pairs.now z × ¬ Contains (list_at self.now k) z))) }
     {
@@ -155,7 +156,7 @@ impl Distinct {
         }
         let print = (self.lists.fingerprint(k).wrapping_add(fingerprint(pairs))
             / 0x1_0000_0000) as u32;
-        if let Some(number) = find(&self.lists, &self.heads, &self.entries, k, pairs, print) {
+        if let Some(number) = find(&self.lists, &self.heads, &self.entries, k, pairs, print)? {
             return Ok(number);
         }
         put(

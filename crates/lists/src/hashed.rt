@@ -35,6 +35,8 @@ fn bucket(print: u32, buckets: usize) -> usize
 }
 
 /// The number of the list that is the list number `k` with these pairs, if there is one.
+///
+/// Fails if there is no memory to compare lists.
 pub(crate) fn find(
     lists: &Chained,
     heads: &[u32],
@@ -42,21 +44,21 @@ pub(crate) fn find(
     k: u32,
     pairs: &[(u32, u32)],
     print: u32,
-) -> Option<u32>
+) -> Result<Option<u32>, Memory>
     requires hashed { IsHashed lists.now heads.now entries.now }
     requires sought { IsSought lists.now k pairs.now print }
     ensures { let list = merged (list_at lists.now k) pairs.now in
-        MatchOption result (IsNew lists.now list) (IsNumberOf lists.now list) }
+        IfOk result (λ r. MatchOption r (IsNew lists.now list) (IsNumberOf lists.now list)) }
 {
     let mut r = heads[bucket(print, heads.len())];
     while r != 0 {
         let entry = &entries[r as usize];
-        if entry.print == print && lists.is_extended(r, k, pairs) {
-            return Some(r);
+        if entry.print == print && lists.is_extended(r, k, pairs)? {
+            return Ok(Some(r));
         }
         r = entry.before;
     }
-    None
+    Ok(None)
 }
 
 /// Appends a list that is not there, the list number `k` with these pairs, and returns its number.

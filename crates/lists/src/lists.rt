@@ -244,7 +244,8 @@ fn lack(
     pairs: &[(u32, u32)],
     missing: &mut Vec<(u32, u32)>,
 ) -> Result<(), Memory>
-    requires { k < length lists.now }
+    requires list { k < length lists.now }
+    requires pairs { IsStrictlySortedBy pair_cmp pairs.now }
     ensures rising { OnOk result (IsStrictlySortedBy pair_cmp missing.new.items) }
     ensures exactly { OnOk result ((z : ℕ × ℕ) → Contains missing.new.items z
         ↔ (Contains pairs.now z × ¬ Contains (list_at lists.now k) z)) }

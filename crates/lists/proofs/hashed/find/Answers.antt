@@ -4,12 +4,12 @@ use Rattle.lists.specs.Lists.{list_at, merged}
 use Rattle.lists.specs.Hashed.{print_of}
 use Rattle.lists.proofs.Searching.{none-above-before}
 use Rattle.lists.proofs.hashed.find.Goals as goal
-use Rattle.lists.proofs.hashed.find.Goals.{else-entry-print-via-then-entry-print+else-is_extended, else-entry-print-via-else-entry-print}
+use Rattle.lists.proofs.hashed.find.Goals.{else-entry-print-via-then-entry-print+in_ok-is_extended+else-branch, else-entry-print-via-else-entry-print}
 
 -- the list that was looked at is another one
 other : (c : goal.Joined-else-entry-print) → list_at c.args.lists.now c.loop-r.r ≡ merged (list_at c.args.lists.now c.args.k) c.args.pairs.now → ⊥
 other c a = elim c.else-entry-print.branch [
-  | else-entry-print-via-then-entry-print+else-is_extended w ↦ both_ways w.is_extended.result w.if-is_extended.false (w.is_extended.ensures.1 a)
+  | else-entry-print-via-then-entry-print+in_ok-is_extended+else-branch w ↦ both_ways _ w.if-branch.false (w.in_ok-is_extended.ensures.1 a)
   | else-entry-print-via-else-entry-print w ↦
       let some : 0 < c.loop-r.r = let h = c.loop-r-test.true in omega arith in
       w.if-entry-print.false (c.requires.hashed.prints c.loop-r.r some c.loop-r.invariant.below ∙ ap print_of a ∙ sym c.requires.sought.print_is)

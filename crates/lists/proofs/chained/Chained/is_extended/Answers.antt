@@ -1,8 +1,7 @@
-use Rattle.std.proofs.Common.{◌∙◌, [], Contains, sym, subst, inl, inr}
-use Rattle.std.proofs.lemmas.Bool.{false≢true}
+use Rattle.std.proofs.Common.{◌≡◌, ◌∙◌, ◌==◌, [], length, vec_len, ap, sym, arith}
+use Rattle.std.proofs.lemmas.Bool.{eqb-true, false≢true}
 use Rattle.lists.specs.Lists.{list_at}
-use Rattle.lists.proofs.Merging.{merged_has}
-use Rattle.lists.proofs.Extending.{extended_size, extended_is}
+use Rattle.lists.proofs.Extending.{extended_size, extended_is, lacks_no_pair, lacks_no_base, lacks_nothing}
 use Rattle.lists.proofs.chained.Chained.is_extended.Goals as goal
 
 pub returns-then-not-has_size : goal.returns-then-not-has_size
@@ -12,20 +11,25 @@ returns-then-not-has_size c = (
       ∙ c.has_size.ensures.1 (extended_size (list_at c.args.self.now c.args.j) (list_at c.args.self.now c.args.k) c.args.pairs.now c.requires.addition.apart e))),
 )
 
-pub returns-then-has_all : goal.returns-then-has_all
-returns-then-has_all c =
-    let lists = c.args.self.now in (
-      λ t. extended_is (list_at lists c.args.j) (list_at lists c.args.k) c.args.pairs.now (c.known.ensures.rise c.args.j [] c.requires.list)
-          (c.known.ensures.rise c.args.k [] c.requires.addition.within) c.requires.addition.rising c.requires.addition.apart (c.has_size.ensures.0 c.if-not-has_size.false)
-          (c.has_all_of.ensures.0 t) (c.has_all.ensures.0 c.if-has_all.true),
-      λ e. c.has_all_of.ensures.1
-          (λ z d. subst (λ l. Contains l z) (sym e) ((merged_has z (list_at lists c.args.k) c.args.pairs.now).1 (inl d))),
-    )
-
-pub returns-else-has_all : goal.returns-else-has_all
-returns-else-has_all c =
-    let lists = c.args.self.now in (
-      λ t. absurd (false≢true (sym c.if-has_all.false ∙ t)),
-      λ e. c.has_all.ensures.1
-          (λ z d. subst (λ l. Contains l z) (sym e) ((merged_has z (list_at lists c.args.k) c.args.pairs.now).1 (inr d))),
+pub returns : goal.returns
+returns c =
+    let lists = c.args.self.now in
+    let list = list_at lists c.args.j in
+    let base = list_at lists c.args.k in
+    let pairs = c.args.pairs.now in
+    let none = c.new-missing.result.items in
+    let some = c.append_new.new.out.items in
+    let all = c.append_missing.new.pairs.items in
+    let empty = c.new-missing.ensures.items in
+    let first = c.in_ok-append_new.ensures in
+    let second = c.in_ok-append_missing.ensures in (
+      λ t.
+          let size : length all ≡ 0 = omega (arith, eqb-true (vec_len c.append_missing.new.pairs) 0 (sym c.is_empty.ensures ∙ t), c.append_missing.new.pairs.ok.0) in
+          extended_is list base pairs (c.known.ensures.rise c.args.j [] c.requires.list) (c.known.ensures.rise c.args.k [] c.requires.addition.within)
+          c.requires.addition.rising c.requires.addition.apart (c.has_size.ensures.0 c.if-not-has_size.false)
+          (lacks_no_base list base pairs none some all empty first second size) (lacks_no_pair list base pairs none some all empty first second size),
+      λ e.
+          let size : vec_len c.append_missing.new.pairs ≡ 0 =
+          omega (arith, lacks_nothing list base pairs none some all empty first second e, c.append_missing.new.pairs.ok.0) in
+          c.is_empty.ensures ∙ ap (λ n. n == 0) size,
     )

@@ -1,6 +1,6 @@
 use Rattle.std.proofs.Common.{◌≡◌, ◌⊎◌, ◌↔◌, ℕ, ◌<◌, get_or, Contains}
 use Rattle.lists.specs.Lists.{list_at}
-use Rattle.lists.proofs.chained.Chained.append_new.Given as goal
+use Rattle.lists.proofs.chained.Chained.append_looked_up.Given as goal
 
 abbrev pub invariant-loop-pair : goal.invariant-loop-pair
 invariant-loop-pair l =
