@@ -12,7 +12,8 @@ use Rattle.lts.specs.Meter.{Counts}
 use Rattle.quotient.specs.Bounds.{KeepsTo}
 use Rattle.autfmt.specs.Bounds.{Bounds}
 use Rattle.autfmt.specs.Readers.{ReadsAs}
-use Rattle.autbis.specs.Comparisons.{CountsComparison, IsVerdict, ReadBoth, states_of, transitions_of}
+use Rattle.autbis.specs.Comparisons.{CountsComparison, CountsUnion, IsVerdict, ReadBoth, states_of, transitions_of}
+use Rattle.autbis.specs.Runs.{Request}
 
 -- the laws that the comparison rests on
 pub record OrderLaws : Type 0 where
@@ -53,10 +54,10 @@ module _ (law : OrderLaws) (bounds : Bounds) (H : List (List ℕ)) where
         law.turns rel (system_of s) (Hide H one.0) (system_of t) (Hide H other.0) k
         (steps_of_text given s one) (steps_of_text given' t other)
 
-module _ (bounds : Bounds) (H : List (List ℕ)) (first second : List ℕ) (s t : Grouped)
-    (one : ReadsAs bounds first H s) (other : ReadsAs bounds second H t) where
+module _ (asked : Request) (first second : List ℕ) (s t : Grouped)
+    (one : ReadsAs asked.bounds first asked.hidden s) (other : ReadsAs asked.bounds second asked.hidden t) where
   -- both texts read as the systems that were read
-  abbrev pub both_read : ReadBoth bounds first second
+  abbrev pub both_read : ReadBoth asked.bounds first second
   both_read = record {
     one = one.0;
     other = other.0;
@@ -65,10 +66,11 @@ module _ (bounds : Bounds) (H : List (List ℕ)) (first second : List ℕ) (s t 
   }
 
   -- the verdict on the systems in memory is that on the texts
-  pub verdict_of : (law : OrderLaws) (rel : Relation) (same : Bool) → (IsTrue same ↔ Equivalent rel (system_of s) (system_of t)) →
-      IsVerdict rel bounds H both_read same
-  verdict_of law rel same is =
-      let texts = compared law bounds H rel first second s t one other in (λ yes. texts.0 (is.0 yes), λ equivalent. is.1 (texts.1 equivalent))
+  pub verdict_of : (law : OrderLaws) (same : Bool) → (IsTrue same ↔ Equivalent asked.relation (system_of s) (system_of t)) →
+      IsVerdict asked both_read same
+  verdict_of law same is =
+      let texts = compared law asked.bounds asked.hidden asked.relation first second s t one other in
+      (λ yes. texts.0 (is.0 yes), λ equivalent. is.1 (texts.1 equivalent))
 
   module _ (at : Counts) (few : length s.places ≡ length one.0.transitions) (few' : length t.places ≡ length other.0.transitions) where
     states_are : s.states + t.states ≡ states_of both_read
@@ -77,10 +79,13 @@ module _ (bounds : Bounds) (H : List (List ℕ)) (first second : List ℕ) (s t 
     transitions_are : length s.places + length t.places ≡ transitions_of both_read
     transitions_are = ap₂ ◌+◌ few few'
 
-    -- what was counted keeps to the size of both systems
-    pub counted_whole : (let k = length s.places + length t.places in KeepsTo (s.states + t.states) k 1 at ((at.rounds + 1) * k)) →
-        KeepsTo (states_of both_read) (transitions_of both_read) 1 at ((at.rounds + 1) * transitions_of both_read)
-    counted_whole keeps = rw (← states_are, ← transitions_are) keeps
+    -- what was counted is what the union of both texts takes
+    pub counted_whole : (law : OrderLaws) → Turns asked.relation (union_of (system_of s) (system_of t)) at.rounds →
+        (let k = length s.places + length t.places in KeepsTo (s.states + t.states) k 1 at ((at.rounds + 1) * k)) → CountsUnion asked both_read at
+    counted_whole law turns keeps = record {
+      turns = compared_turns law asked.bounds asked.hidden asked.relation first second s t one other at.rounds turns;
+      keeps = rw (← states_are, ← transitions_are) keeps;
+    }
 
     pub counted_part : (least : ℕ) → KeepsTo (s.states + t.states) (length s.places + length t.places) 1 at least → CountsComparison both_read at
     counted_part least keeps = record {

@@ -1,26 +1,24 @@
--- What the exit status of a run or comparison that failed tells: which text is faulty, or what failed.
+-- What the exit status of a run or comparison tells: which text is faulty, or what failed.
 use Rattle.std.proofs.Common.{◌≡◌, ◌⊎◌, ℕ, List, ◌++◌, Option, Some, None, IfSome, inl, inr, ap, refl, sym, subst, arith}
 use Rattle.std.specs.Io.KnownBytes.{Consumes}
-use Rattle.theory.specs.Bisimulation.{Relation}
 use Rattle.lts.specs.Meter.{Counts}
 use Rattle.autfmt.specs.Bounds.{Bounds}
 use Rattle.autfmt.specs.declared.fault.Fault.{Fault}
 use Rattle.autfmt.specs.declared.fault.Fault.TheVariants.{Device, Memory}
+use Rattle.autfmt.specs.Faults.{FirstFault}
 use Rattle.autfmt.specs.Outcomes.{Refuses}
 use Rattle.autfmt.specs.Outcomes.Refuses.{faulty_text, failed_source, no_memory}
+use Rattle.autfmt.specs.Readers.{IsTextFault}
 use Rattle.autbis.specs.declared.compare.CmpFault.{CmpFault}
-use Rattle.autbis.specs.declared.compare.Side.{Side}
-use Rattle.autbis.specs.declared.compare.Side.TheVariants.{First, Second}
-use Rattle.autbis.specs.Comparisons.{BeginsVerdict, CmpFails, HasFaultySide, IsFaultOfSide, IsReadable}
-use Rattle.autbis.specs.Comparisons.CmpFails.{first_side, behind_first}
-use Rattle.autbis.specs.Comparisons.FailsBehindFirst.{second_side, run_side}
+use Rattle.autbis.specs.declared.compare.Side.TheVariants.{First}
+use Rattle.autbis.specs.Comparisons.{BeginsVerdict, CmpFails, HasFaultySide, IsReadable}
+use Rattle.autbis.specs.Comparisons.CmpFails.{first_side, after_first}
+use Rattle.autbis.specs.Comparisons.FailsAfterFirst.{second_side, run_side}
 use Rattle.autbis.specs.Comparisons.NoLine.{no_memory as no_room, failed_sink}
 use Rattle.autbis.specs.Reports.{status_of}
-use Rattle.autbis.specs.Runs.{BeginsQuotient, IsFaulty, OfText, RunFails}
-use Rattle.autbis.specs.Runs.RunFails.{not_read, not_written}
+use Rattle.autbis.specs.Runs.{BeginsQuotient, IsFaulty, OfText, Request, RunFails, Used}
+use Rattle.autbis.specs.Runs.RunFails.{not_read, out_of_memory, not_written}
 use Rattle.autbis.proofs.Carried.{all_taken, of_all}
-use Rattle.autfmt.specs.Faults.{FirstFault}
-use Rattle.autfmt.specs.Readers.{IsTextFault}
 
 -- what holds of the bytes that were taken and of those that are left holds of the text that was told
 told_whole : (P : List ℕ → Type 0) (given : List ℕ) (told rest : Option (List ℕ)) → Consumes told rest given →
@@ -50,13 +48,6 @@ module _ (bounds : Bounds) (given : List ℕ) (rest : Option (List ℕ)) (failur
   faulty_told told took (failed_source failed device unknown) two = absurd (omega (arith, ap status_of device, two))
   faulty_told told took (no_memory sound memory header) two = absurd (omega (arith, ap status_of memory, two))
 
-  -- a fault of the text is the first one of the text that was told
-  pub first_told : (told : Option (List ℕ)) → Consumes told rest given → Refuses bounds given rest failures fault →
-      IsTextFault fault → IfSome told (λ text. FirstFault bounds text fault)
-  first_told told took (faulty_text sound is first) of_text = told_whole (λ text. FirstFault bounds text fault) given told rest took first
-  first_told told took (failed_source failed device unknown) of_text = absurd (subst IsTextFault device of_text)
-  first_told told took (no_memory sound memory header) of_text = absurd (subst IsTextFault memory of_text)
-
   -- with the status 5 the source failed
   pub failed_with_5 : Refuses bounds given rest failures fault → status_of fault ≡ 5 → failures ≡ 1
   failed_with_5 (faulty_text sound of_text first) five = absurd (omega (arith, text_status fault of_text, five))
@@ -70,101 +61,104 @@ module _ (bounds : Bounds) (given : List ℕ) (rest : Option (List ℕ)) (failur
   sound_with_2_or_4 (failed_source failed device unknown) (inr four) = absurd (omega (arith, ap status_of device, four))
   sound_with_2_or_4 (no_memory sound memory header) status = sound
 
--- a fault of the text of the first side is the first one of the text that was told
-pub fault_of_first : (bounds : Bounds) (given : List ℕ) (rest : Option (List ℕ)) (failures : ℕ) (side : Side) (fault : Fault) (told other : Option (List ℕ)) →
-    side ≡ First → Consumes told rest given → Refuses bounds given rest failures fault → IsTextFault fault → IsFaultOfSide side bounds told other fault
-fault_of_first bounds given rest failures side fault told other is took refused of_text =
-    rw is (first_told bounds given rest failures fault told took refused of_text)
-
--- and of the second side, behind a text that reads as a system
-pub fault_of_second : (bounds : Bounds) (given : List ℕ) (rest : Option (List ℕ)) (failures : ℕ) (side : Side) (fault : Fault) (told other : Option (List ℕ)) →
-    side ≡ Second → IfSome told (IsReadable bounds) → Consumes other rest given → Refuses bounds given rest failures fault → IsTextFault fault →
-    IsFaultOfSide side bounds told other fault
-fault_of_second bounds given rest failures side fault told other is readable took refused of_text =
-    rw is (readable, first_told bounds given rest failures fault other took refused of_text)
-
-module _ {rel : Relation} {bounds : Bounds} {H : List (List ℕ)} {a' b b' old new : Option (List ℕ)} {of_first of_second of_sink : ℕ}
-    {unread unchanged : Type 0} {at : Counts} {fault : CmpFault} {first : List ℕ} where
+module _ {asked : Request} {first : List ℕ} {one other sink : Used} {at : Counts} {fault : CmpFault} where
   -- with the status 2 one of the texts is faulty
-  pub faulty_side : (a : Option (List ℕ)) → Consumes a a' first →
-      CmpFails rel bounds H first a' b b' of_first of_second of_sink unread unchanged old new at fault → status_of fault.fault ≡ 2 → HasFaultySide bounds a b
-  faulty_side a took (first_side side refused unread' unchanged' fresh) two =
-      inl (faulty_told bounds first a' of_first fault.fault a took refused two)
-  faulty_side a took (behind_first sound at_end second took' (second_side side readable refused unchanged' fresh)) two = inr (
-    all_taken a a' first (IsReadable bounds) took at_end readable,
-    faulty_told bounds second b' of_second fault.fault b took' refused two,
+  pub faulty_side : CmpFails asked first one other sink at fault → Consumes one.before one.after first → status_of fault.fault ≡ 2 →
+      HasFaultySide asked.bounds one.before other.before
+  faulty_side (first_side side refused sound fresh) took two =
+      inl (faulty_told asked.bounds first one.after one.failures fault.fault one.before took refused two)
+  faulty_side (after_first whole second took' (second_side side readable refused sound fresh)) took two = inr (
+    all_taken one.before one.after first (IsReadable asked.bounds) took whole.at_end readable,
+    faulty_told asked.bounds second other.after other.failures fault.fault other.before took' refused two,
   )
-  faulty_side a took (behind_first sound at_end second took' (run_side side sound' at_end' both counts (no_room memory unchanged'))) two =
+  faulty_side (after_first whole second took' (run_side side whole' both counts (no_room memory sound))) took two =
       absurd (omega (arith, ap status_of memory, two))
-  faulty_side a took (behind_first sound at_end second took' (run_side side sound' at_end' both counts (failed_sink device failed same verdict begun))) two =
+  faulty_side (after_first whole second took' (run_side side whole' both counts (failed_sink device failed same verdict begun))) took two =
       absurd (omega (arith, ap status_of device, two))
 
   -- with 5 the first source failed, or the second one, or the sink
-  pub one_failed : CmpFails rel bounds H first a' b b' of_first of_second of_sink unread unchanged old new at fault →
-      status_of fault.fault ≡ 5 → ((of_first ≡ 1) × unread × unchanged)
-      ⊎ (((of_first ≡ 0) × (of_second ≡ 1) × unchanged) ⊎ ((of_first ≡ 0) × (of_second ≡ 0) × (of_sink ≡ 1)))
-  one_failed (first_side side refused unread' unchanged' fresh) five =
-      inl (failed_with_5 bounds first a' of_first fault.fault refused five, unread', unchanged')
-  one_failed (behind_first sound at_end second took' (second_side side readable refused unchanged' fresh)) five =
-      inr (inl (sound, failed_with_5 bounds second b' of_second fault.fault refused five, unchanged'))
-  one_failed (behind_first sound at_end second took' (run_side side sound' at_end' both counts (no_room memory unchanged'))) five =
+  pub one_failed : CmpFails asked first one other sink at fault → status_of fault.fault ≡ 5 →
+      ((one.failures ≡ 1) × (fault.side ≡ First) × (sink.failures ≡ 0))
+      ⊎ (((one.failures ≡ 0) × (other.failures ≡ 1) × (sink.failures ≡ 0))
+      ⊎ ((one.failures ≡ 0) × (other.failures ≡ 0) × (sink.failures ≡ 1)))
+  one_failed (first_side side refused sound fresh) five =
+      inl (failed_with_5 asked.bounds first one.after one.failures fault.fault refused five, side, sound.1)
+  one_failed (after_first whole second took' (second_side side readable refused sound fresh)) five =
+      inr (inl (whole.sound, failed_with_5 asked.bounds second other.after other.failures fault.fault refused five, sound))
+  one_failed (after_first whole second took' (run_side side whole' both counts (no_room memory sound))) five =
       absurd (omega (arith, ap status_of memory, five))
-  one_failed (behind_first sound at_end second took' (run_side side sound' at_end' both counts (failed_sink device failed same verdict begun))) five =
-      inr (inr (sound, sound', failed))
+  one_failed (after_first whole second took' (run_side side whole' both counts (failed_sink device failed same verdict begun))) five =
+      inr (inr (whole.sound, whole'.sound, failed))
 
   -- and if it was the sink, a beginning of the line was written
-  pub begun_line : (a : Option (List ℕ)) → Consumes a a' first →
-      CmpFails rel bounds H first a' b b' of_first of_second of_sink unread unchanged old new at fault → status_of fault.fault ≡ 5 → of_first ≡ 0 → of_second ≡ 0 → BeginsVerdict rel bounds H a b old new
-  begun_line a took (first_side side refused unread' unchanged' fresh) five zero zero' =
-      absurd (omega (arith, failed_with_5 bounds first a' of_first fault.fault refused five, zero))
-  begun_line a took (behind_first sound at_end second took' (second_side side readable refused unchanged' fresh)) five zero zero' =
-      absurd (omega (arith, failed_with_5 bounds second b' of_second fault.fault refused five, zero'))
-  begun_line a took (behind_first sound at_end second took' (run_side side sound' at_end' both counts (no_room memory unchanged'))) five zero zero' =
+  pub begun_line : CmpFails asked first one other sink at fault → Consumes one.before one.after first → status_of fault.fault ≡ 5 →
+      one.failures ≡ 0 → other.failures ≡ 0 → BeginsVerdict asked one.before other.before sink.before sink.after
+  begun_line (first_side side refused sound fresh) took five zero zero' =
+      absurd (omega (arith, failed_with_5 asked.bounds first one.after one.failures fault.fault refused five, zero))
+  begun_line (after_first whole second took' (second_side side readable refused sound fresh)) took five zero zero' =
+      absurd (omega (arith, failed_with_5 asked.bounds second other.after other.failures fault.fault refused five, zero'))
+  begun_line (after_first whole second took' (run_side side whole' both counts (no_room memory sound))) took five zero zero' =
       absurd (omega (arith, ap status_of memory, five))
-  begun_line a took (behind_first sound at_end second took' (run_side side sound' at_end' both counts (failed_sink device failed same verdict begun))) five zero zero' =
-      of_all a a' first _ took at_end (of_all b b' second _ took' at_end' (both, same, verdict, begun))
+  begun_line (after_first whole second took' (run_side side whole' both counts (failed_sink device failed same verdict begun))) took five zero zero' =
+      of_all one.before one.after first _ took whole.at_end
+      (of_all other.before other.after second _ took' whole'.at_end (both, same, verdict, begun))
 
-  -- the second text was not read, or the first one is that of a system
-  pub unread_or_readable : (a : Option (List ℕ)) → Consumes a a' first →
-      CmpFails rel bounds H first a' b b' of_first of_second of_sink unread unchanged old new at fault → unread ⊎ IfSome a (IsReadable bounds)
-  unread_or_readable a took (first_side side refused unread' unchanged' fresh) = inl unread'
-  unread_or_readable a took (behind_first sound at_end second took' (second_side side readable refused unchanged' fresh)) =
-      inr (all_taken a a' first (IsReadable bounds) took at_end readable)
-  unread_or_readable a took (behind_first sound at_end second took' (run_side side sound' at_end' both counts no_line)) =
-      inr (all_taken a a' first (IsReadable bounds) took at_end (both.one, both.reads_first))
+  -- the fault is of the first text, or that one reads as a system
+  pub first_or_readable : CmpFails asked first one other sink at fault → Consumes one.before one.after first →
+      (fault.side ≡ First) ⊎ IfSome one.before (IsReadable asked.bounds)
+  first_or_readable (first_side side refused sound fresh) took = inl side
+  first_or_readable (after_first whole second took' (second_side side readable refused sound fresh)) took =
+      inr (all_taken one.before one.after first (IsReadable asked.bounds) took whole.at_end readable)
+  first_or_readable (after_first whole second took' (run_side side whole' both counts no_line)) took =
+      inr (all_taken one.before one.after first (IsReadable asked.bounds) took whole.at_end (both.one, both.reads_first))
 
-  -- with 2 and 4 nothing failed, and nothing was written
-  pub nothing_failed : (unread → of_second ≡ 0) →
-      CmpFails rel bounds H first a' b b' of_first of_second of_sink unread unchanged old new at fault →
-      (status_of fault.fault ≡ 2) ⊎ (status_of fault.fault ≡ 4) →
-      (of_first ≡ 0) × (of_second ≡ 0) × unchanged
-  nothing_failed fine (first_side side refused unread' unchanged' fresh) status =
-      (sound_with_2_or_4 bounds first a' of_first fault.fault refused status, fine unread', unchanged')
-  nothing_failed fine (behind_first sound at_end second took' (second_side side readable refused unchanged' fresh)) status =
-      (sound, sound_with_2_or_4 bounds second b' of_second fault.fault refused status, unchanged')
-  nothing_failed fine (behind_first sound at_end second took' (run_side side sound' at_end' both counts (no_room memory unchanged'))) status =
-      (sound, sound', unchanged')
-  nothing_failed fine (behind_first sound at_end second took' (run_side side sound' at_end' both counts (failed_sink device failed same verdict begun))) (inl two) =
+  -- with 2 and 4 nothing failed
+  pub nothing_failed : CmpFails asked first one other sink at fault → (status_of fault.fault ≡ 2) ⊎ (status_of fault.fault ≡ 4) →
+      (one.failures ≡ 0) × (other.failures ≡ 0) × (sink.failures ≡ 0)
+  nothing_failed (first_side side refused sound fresh) status =
+      (sound_with_2_or_4 asked.bounds first one.after one.failures fault.fault refused status, sound.0, sound.1)
+  nothing_failed (after_first whole second took' (second_side side readable refused sound fresh)) status =
+      (whole.sound, sound_with_2_or_4 asked.bounds second other.after other.failures fault.fault refused status, sound)
+  nothing_failed (after_first whole second took' (run_side side whole' both counts (no_room memory sound))) status =
+      (whole.sound, whole'.sound, sound)
+  nothing_failed (after_first whole second took' (run_side side whole' both counts (failed_sink device failed same verdict begun))) (inl two) =
       absurd (omega (arith, ap status_of device, two))
-  nothing_failed fine (behind_first sound at_end second took' (run_side side sound' at_end' both counts (failed_sink device failed same verdict begun))) (inr four) =
+  nothing_failed (after_first whole second took' (run_side side whole' both counts (failed_sink device failed same verdict begun))) (inr four) =
       absurd (omega (arith, ap status_of device, four))
 
--- with the status 2 a run's text is faulty, and its source did not fail
-pub faulty_run : {rel : Relation} {bounds : Bounds} {H : List (List ℕ)} {given : List ℕ} {rest old new : Option (List ℕ)} {source sink : ℕ}
-    {unchanged : Type 0} {at : Counts} {fault : Fault} (told : Option (List ℕ)) → Consumes told rest given →
-    RunFails rel bounds H given rest source sink unchanged old new at fault → status_of fault ≡ 2 → (source ≡ 0) × IfSome told (IsFaulty bounds)
-faulty_run {bounds = bounds} {given = given} {rest = rest} {source = source} {fault = fault} told took (not_read refused same fresh) two =
-    (sound_with_2_or_4 bounds given rest source fault refused (inl two), faulty_told bounds given rest source fault told took refused two)
-faulty_run told took (not_written sound at_end A reads keeps (inl refused)) two = absurd (omega (arith, ap status_of refused.0, two))
-faulty_run told took (not_written sound at_end A reads keeps (inr failed)) two = absurd (omega (arith, ap status_of failed.0, two))
+module _ {asked : Request} {given : List ℕ} {source sink : Used} {at : Counts} {fault : Fault} where
+  -- with the status 2 a run's text is faulty, and its source did not fail
+  pub faulty_run : RunFails asked given source sink at fault → Consumes source.before source.after given → status_of fault ≡ 2 →
+      (source.failures ≡ 0) × IfSome source.before (IsFaulty asked.bounds)
+  faulty_run (not_read refused sound fresh) took two = (
+    sound_with_2_or_4 asked.bounds given source.after source.failures fault refused (inl two),
+    faulty_told asked.bounds given source.after source.failures fault source.before took refused two,
+  )
+  faulty_run (out_of_memory got memory sound) took two = absurd (omega (arith, ap status_of memory, two))
+  faulty_run (not_written got device failed begun) took two = absurd (omega (arith, ap status_of device, two))
 
--- with 5 and a source that did not fail, a beginning of the text of its quotient was written
-pub begun_run : {rel : Relation} {bounds : Bounds} {H : List (List ℕ)} {given : List ℕ} {rest old new : Option (List ℕ)} {source sink : ℕ}
-    {unchanged : Type 0} {at : Counts} {fault : Fault} (told : Option (List ℕ)) → Consumes told rest given →
-    RunFails rel bounds H given rest source sink unchanged old new at fault → status_of fault ≡ 5 → source ≡ 0 →
-    OfText told (λ text. BeginsQuotient rel bounds H text old new)
-begun_run {bounds = bounds} {given = given} {rest = rest} {source = source} {fault = fault} told took (not_read refused same fresh) five zero =
-    absurd (omega (arith, failed_with_5 bounds given rest source fault refused five, zero))
-begun_run told took (not_written sound at_end A reads keeps (inl refused)) five zero = absurd (omega (arith, ap status_of refused.0, five))
-begun_run {given = given} {rest = rest} told took (not_written sound at_end A reads keeps (inr failed)) five zero =
-    of_all told rest given _ took at_end failed.2
+  -- with 5 its source failed, or its sink
+  pub failed_run : RunFails asked given source sink at fault → status_of fault ≡ 5 →
+      ((source.failures ≡ 1) × (sink.failures ≡ 0)) ⊎ ((source.failures ≡ 0) × (sink.failures ≡ 1))
+  failed_run (not_read refused sound fresh) five =
+      inl (failed_with_5 asked.bounds given source.after source.failures fault refused five, sound)
+  failed_run (out_of_memory got memory sound) five = absurd (omega (arith, ap status_of memory, five))
+  failed_run (not_written got device failed begun) five = inr (got.exhausted.sound, failed)
+
+  -- and if it was the sink, a beginning of the text of its quotient was written
+  pub begun_run : RunFails asked given source sink at fault → Consumes source.before source.after given → status_of fault ≡ 5 →
+      source.failures ≡ 0 → OfText source.before (λ text. BeginsQuotient asked text sink.before sink.after)
+  begun_run (not_read refused sound fresh) took five zero =
+      absurd (omega (arith, failed_with_5 asked.bounds given source.after source.failures fault refused five, zero))
+  begun_run (out_of_memory got memory sound) took five zero = absurd (omega (arith, ap status_of memory, five))
+  begun_run (not_written got device failed begun) took five zero =
+      of_all source.before source.after given _ took got.exhausted.at_end begun
+
+  -- with 2 and 4 neither failed
+  pub sound_run : RunFails asked given source sink at fault → (status_of fault ≡ 2) ⊎ (status_of fault ≡ 4) →
+      (source.failures ≡ 0) × (sink.failures ≡ 0)
+  sound_run (not_read refused sound fresh) status =
+      (sound_with_2_or_4 asked.bounds given source.after source.failures fault refused status, sound)
+  sound_run (out_of_memory got memory sound) status = (got.exhausted.sound, sound)
+  sound_run (not_written got device failed begun) (inl two) = absurd (omega (arith, ap status_of device, two))
+  sound_run (not_written got device failed begun) (inr four) = absurd (omega (arith, ap status_of device, four))

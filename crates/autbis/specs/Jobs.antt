@@ -1,6 +1,5 @@
 -- A job: which files it opens, and what it does with what they hold.
 use Rattle.std.specs.Prelude.{◌≡◌, ◌⊎◌, ℕ, Bool, true, false, List, [], ◌∷◌, ◌++◌, Option, None, Some, IfSome, option_map, string_bytes}
-use Rattle.theory.specs.Relations.{meant}
 use Rattle.theory.specs.declared.relation.Relation.{Relation}
 use Rattle.autfmt.specs.Bounds.{file_bounds}
 use Rattle.autfmt.specs.declared.fault.Fault.{Fault}
@@ -9,7 +8,7 @@ use Rattle.autfmt.specs.HideReaders.{HidesAs, IsHideFault}
 use Rattle.autbis.specs.Comparisons.{ComparesNamed, HasFaultySide}
 use Rattle.autbis.specs.Files.{Name, Opens}
 use Rattle.autbis.specs.Reports.{IsJobStatus}
-use Rattle.autbis.specs.Runs.{IsFaulty, IsMinimised, OfText}
+use Rattle.autbis.specs.Runs.{IsFaulty, IsMinimised, OfText, Request, Used, asks}
 use Rattle.words.specs.declared.words.Job.{Job}
 use Rattle.words.specs.declared.words.Job.TheVariants.{Min, Cmp}
 
@@ -24,7 +23,7 @@ files_of (Min relation stats hide file) = given (option_map string_bytes file) +
 files_of (Cmp relation hide first second) =
     string_bytes first ∷ string_bytes second ∷ given (option_map string_bytes hide)
 
--- files are asked for in this order: all of them, or none behind the first that cannot be had
+-- files are asked for in this order: all of them, or none after the first that cannot be had
 abbrev pub OpensInOrder : List Name → Option (List Name) → Option (List Name) → Type 0
 OpensInOrder files old new = (names later : List Name) × (files ≡ names ++ later) × Opens old new names
 
@@ -38,30 +37,26 @@ abbrev pub HidesNamed : (Name → Option (List ℕ)) → Option Name → List (L
 HidesNamed holds None H = H ≡ []
 HidesNamed holds (Some name) H = IfSome (holds name) (λ list. HidesAs list H)
 
--- a text is minimised with the labels of the hide list hidden, and a sink has gained the text of what it is minimised to
-abbrev pub MinimisesNamed :
-    (Name → Option (List ℕ)) → Relation → Option Name → Option (List ℕ) → Option (List ℕ) → Option (List ℕ) → Type 0
-MinimisesNamed holds rel hide text old new = (H : List (List ℕ)) × HidesNamed holds hide H
-    × OfText text (λ bytes. IsMinimised (meant rel) file_bounds H bytes old new)
+-- P holds of what is asked by this relation, within the bounds of a file, with the labels of the hide list hidden
+abbrev pub OfRequest : (Name → Option (List ℕ)) → Relation → Option Name → (Request → Type 0) → Type 0
+OfRequest holds rel hide P = (H : List (List ℕ)) × HidesNamed holds hide H × P (asks rel file_bounds H)
 
--- two files are compared with the labels of the hide list hidden, and a sink has gained the line of this verdict
-abbrev pub ComparesFiles :
-    (Name → Option (List ℕ)) → Relation → Option Name → Name → Name → Option (List ℕ) → Option (List ℕ) → Bool → Type 0
-ComparesFiles holds rel hide first second old new same = (H : List (List ℕ)) × HidesNamed holds hide H
-    × ComparesNamed (meant rel) file_bounds H (holds first) (holds second) old new same
+-- a text is minimised so, and known bytes have grown by the text of what it is minimised to
+abbrev pub MinimisesNamed : (Name → Option (List ℕ)) → Relation → Option Name → (text old new : Option (List ℕ)) → Type 0
+MinimisesNamed holds rel hide text old new =
+    OfRequest holds rel hide (λ asked. OfText text (λ bytes. IsMinimised asked bytes old new))
 
--- the job is done: of what its files and standard input hold, the sink has gained what it asks for
-abbrev pub IsDone : (Name → Option (List ℕ)) → Option (List ℕ) → Job → Option (List ℕ) → Option (List ℕ) → Type 0
+-- a job of comparing ends in this verdict on its files, and known bytes have grown by its line
+abbrev pub ComparesJob : (Name → Option (List ℕ)) → Job → (old new : Option (List ℕ)) → Bool → Type 0
+ComparesJob holds (Min relation stats hide file) old new same = ⊥
+ComparesJob holds (Cmp relation hide first second) old new same = OfRequest holds relation (option_map string_bytes hide)
+    (λ asked. ComparesNamed asked (holds (string_bytes first)) (holds (string_bytes second)) old new same)
+
+-- the job is done: of what its files and standard input hold, the known bytes have grown by what it asks for
+abbrev pub IsDone : (Name → Option (List ℕ)) → (input : Option (List ℕ)) → Job → (old new : Option (List ℕ)) → Type 0
 IsDone holds input (Min relation stats hide file) old new =
     MinimisesNamed holds relation (option_map string_bytes hide) (text_of holds input (option_map string_bytes file)) old new
-IsDone holds input (Cmp relation hide first second) old new =
-    ComparesFiles holds relation (option_map string_bytes hide) (string_bytes first) (string_bytes second) old new true
-
--- the job was to compare, and the systems are not equivalent
-abbrev pub FindsDifferent : (Name → Option (List ℕ)) → Job → Option (List ℕ) → Option (List ℕ) → Type 0
-FindsDifferent holds (Min relation stats hide file) old new = ⊥
-FindsDifferent holds (Cmp relation hide first second) old new =
-    ComparesFiles holds relation (option_map string_bytes hide) (string_bytes first) (string_bytes second) old new false
+IsDone holds input (Cmp relation hide first second) old new = ComparesJob holds (Cmp relation hide first second) old new true
 
 -- the text is no hide list: it has a first fault
 abbrev pub IsFaultyList : List ℕ → Type 0
@@ -84,18 +79,25 @@ abbrev pub HasLostFile : {File : Type 0} → (File → ℕ) → Bool → Type 0
 HasLostFile {File} failures refused = (refused ≡ true) ⊎ ((file : File) × (failures file ≡ 1))
 
 -- a file could not be opened or read, or standard input or the output failed
-abbrev pub HasFailed : {File : Type 0} → (File → ℕ) → Bool → ℕ → ℕ → Type 0
+abbrev pub HasFailed : {File : Type 0} → (File → ℕ) → Bool → (of_input of_output : ℕ) → Type 0
 HasFailed failures refused of_input of_output = HasLostFile failures refused ⊎ ((of_input ≡ 1) ⊎ (of_output ≡ 1))
 
+-- what a job did with files: what they hold, how often each failed, and before and after which names were asked for, as far as
+-- they are told, and whether one could not be opened
+pub record FilesUsed (File : Type 0) : Type 0 where
+  pub holds : Name → Option (List ℕ)
+  pub failures : File → ℕ
+  pub asked : Option (List Name)
+  pub now_asked : Option (List Name)
+  pub refused : Bool
+  pub now_refused : Bool
+
 -- what a job came to, as its status tells: which files were opened, and what the output has gained, or why it has not
-pub record EndsIn {File : Type 0} (failures : File → ℕ) (holds : Name → Option (List ℕ)) (input : Option (List ℕ))
-    (opened now_opened : Option (List Name)) (refused now_refused : Bool) (of_input of_output : ℕ) (unchanged : Type 0)
-    (old new : Option (List ℕ)) (status : ℕ) (job : Job) : Type 0 where
+pub record EndsIn {File : Type 0} (files : FilesUsed File) (input output : Used) (status : ℕ) (job : Job) : Type 0 where
   pub known : IsJobStatus status
-  pub done : status ≡ 0 → IsDone holds input job old new
-  pub different : status ≡ 1 → FindsDifferent holds job old new
-  pub faulty : status ≡ 2 → IsFaultyJob holds input job
-  pub failed : status ≡ 5 → HasFailed failures now_refused of_input of_output
-  pub order : OpensInOrder (files_of job) opened now_opened
-  pub all_opened : (status ≡ 5) ⊎ (Opens opened now_opened (files_of job) × (now_refused ≡ refused))
-  pub untouched : (status ≡ 2) ⊎ (status ≡ 4) → unchanged
+  pub done : status ≡ 0 → IsDone files.holds input.before job output.before output.after
+  pub different : status ≡ 1 → ComparesJob files.holds job output.before output.after false
+  pub faulty : status ≡ 2 → IsFaultyJob files.holds input.before job
+  pub failed : status ≡ 5 → HasFailed files.failures files.now_refused input.failures output.failures
+  pub order : OpensInOrder (files_of job) files.asked files.now_asked
+  pub all_opened : (status ≡ 5) ⊎ (Opens files.asked files.now_asked (files_of job) × (files.now_refused ≡ files.refused))

@@ -1,13 +1,12 @@
 //! One comparison, from the bytes of two texts to a verdict.
-ghost use Rattle.std.specs.Prelude.{◌≡◌, ℕ, List, IfOk, IfErr, OnOk, OnErr};
-ghost use Rattle.std.specs.Io.KnownBytes.{Appends, Consumes};
-ghost use Rattle.theory.specs.Relations.{meant};
+ghost use Rattle.std.specs.Prelude.{◌≡◌, IfErr, OnOk, OnErr};
+ghost use Rattle.std.specs.Io.KnownBytes.{Appends};
 ghost use Rattle.lts.specs.Meter.{IsFresh};
 ghost use Rattle.autfmt.specs.Outcomes.{ReadsTo, Refuses, Takes};
-ghost use Rattle.autfmt.specs.Readers.{IsTextFault};
 ghost use Rattle.autfmt.specs.Stream.{AppendsBeginning, CountsFailure};
 ghost use Rattle.autfmt.specs.declared.fault.Fault.TheVariants.{Device, Memory};
-ghost use Rattle.autbis.specs.Comparisons.{CmpFails, ComparesNamed, ComparesTo, IsFaultOfSide, line_of};
+ghost use Rattle.autbis.specs.Comparisons.{CmpFails, ComparesTo, line_of};
+ghost use Rattle.autbis.specs.Runs.{Used, asks};
 ghost use Rattle.autbis.specs.declared.compare.Side.TheVariants.{First, Run};
 
 use autfmt::{Fault, Hidden, Limits, Sink, Source, put_all, read_hiding};
@@ -70,25 +69,17 @@ pub fn run_cmp<M: Meter, R1: Source, R2: Source, W: Sink>(
     requires second { R2.failures b.old ≡ 0 }
     requires sink { W.failures w.old ≡ 0 }
 
-    // What a verdict means, and which error comes when, over the bytes that were taken.
-    ensures outcome { Takes (R1.rest a.old) (R1.rest a.new)
-        (λ first same. (second : List ℕ) × Consumes (R2.rest b.old) (R2.rest b.new) second
-        × ComparesTo (meant rel) lim.now h.now first second (R1.rest a.new) (R2.rest b.new)
-        (W.written w.old) (W.written w.new) (M.counted m.new) same)
-        (λ first. CmpFails (meant rel) lim.now h.now first (R1.rest a.new) (R2.rest b.old) (R2.rest b.new)
-        (R1.failures a.new) (R2.failures b.new) (W.failures w.new) (b.new ≡ b.old) (w.new ≡ w.old)
-        (W.written w.old) (W.written w.new) (M.counted m.new))
-        result }
-
-    // The same of the whole texts that the sources tell.
-    ensures compared { IfOk result (ComparesNamed (meant rel) lim.now h.now (R1.rest a.old) (R2.rest b.old)
-        (W.written w.old) (W.written w.new)) }
-    ensures fault { IfErr result (λ f. IsTextFault f.fault →
-        IsFaultOfSide f.side lim.now (R1.rest a.old) (R2.rest b.old) f.fault) }
+    // What a verdict means, and which error comes when.
+    ensures outcome { let at = M.counted m.new in let asked = asks rel lim.now h.now in
+        let one : Used = record { before = R1.rest a.old; after = R1.rest a.new; failures = R1.failures a.new } in
+        let other : Used = record { before = R2.rest b.old; after = R2.rest b.new; failures = R2.failures b.new } in
+        let sink : Used = record { before = W.written w.old; after = W.written w.new; failures = W.failures w.new } in
+        Takes one.before one.after (λ first. ComparesTo asked first one other sink at)
+        (λ first. CmpFails asked first one other sink at) result }
 
     // What is left.
-    ensures untouched { IfErr result (λ f. f.side ≡ First → (b.new ≡ b.old) × (w.new ≡ w.old)) }
-    ensures sound { OnOk result ((R1.failures a.new ≡ 0) × (R2.failures b.new ≡ 0) × (W.failures w.new ≡ 0)) }
+    ensures unread { IfErr result (λ f. f.side ≡ First → b.new ≡ b.old) }
+    ensures untouched { IfErr result (λ _. W.failures w.new ≡ 0 → w.new ≡ w.old) }
 {
     theory::the_order_does_not_matter();
     theory::the_order_does_not_matter_side_by_side();

@@ -2,12 +2,13 @@
 ghost use Rattle.std.specs.Prelude.{◌≡◌, ◌⊎◌, ◌++◌, ◌∷◌, true, false, IfOk, IfErr, IfSome, IsErrAnd, map, option_map, string_bytes};
 ghost use Rattle.autbis.specs.Files.{Opens};
 ghost use Rattle.autbis.specs.Comparisons.{HasFaultySide};
-ghost use Rattle.autbis.specs.Jobs.{ComparesFiles, EndsIn, FindsDifferent, HasFailed, HasFaultyList, HasLostFile, IsDone, IsFaultyJob, MinimisesNamed, OpensInOrder, files_of, given, text_of};
+ghost use Rattle.autbis.specs.Jobs.{ComparesJob, EndsIn, FilesUsed, HasFailed, HasFaultyList, HasLostFile, IsDone, IsFaultyJob, MinimisesNamed, OpensInOrder, files_of, given, text_of};
 ghost use Rattle.autbis.specs.Programs.{AnswersWords, IsUnread, IsUnreadStatus};
 ghost use Rattle.autbis.specs.Reports.{IsFaultStatus, IsJobStatus};
-ghost use Rattle.autbis.specs.Runs.{IsFaulty};
+ghost use Rattle.autbis.specs.Runs.{IsFaulty, Used};
 ghost use Rattle.autfmt.specs.Bounds.{file_bounds};
 ghost use Rattle.words.specs.Words.{IsFaultOf, IsJobOf};
+ghost use Rattle.words.specs.declared.words.Job.TheVariants.{Cmp};
 
 use crate::opener::Opener;
 use crate::program::{cmp_program, hidden_of, min_program, open};
@@ -35,12 +36,20 @@ pub fn main_program<F: Opener, R: Source, W: Sink, O: Write, E: Write>(
 ) -> u8
     requires input { R.failures input.old ≡ 0 }
     requires output { W.failures output.old ≡ 0 }
-    ensures answer { IfOk words (λ words. AnswersWords (map string_bytes words.items)
-        (EndsIn F.File.failures (F.holds files.old) (R.rest input.old) (F.opened files.old) (F.opened files.new)
-        (F.has_refused files.old) (F.has_refused files.new) (R.failures input.new) (W.failures output.new)
-        (output.new ≡ output.old) (W.written output.old) (W.written output.new) result)
+    ensures answer { let opened : FilesUsed F.File = record {
+      holds = F.holds files.old;
+      failures = F.File.failures;
+      asked = F.opened files.old;
+      now_asked = F.opened files.new;
+      refused = F.has_refused files.old;
+      now_refused = F.has_refused files.new;
+    } in
+        let source : Used = record { before = R.rest input.old; after = R.rest input.new; failures = R.failures input.new } in
+        let sink : Used = record { before = W.written output.old; after = W.written output.new; failures = W.failures output.new } in
+        IfOk words (λ words. AnswersWords (map string_bytes words.items) (EndsIn opened source sink result)
         ((files.new ≡ files.old) × (input.new ≡ input.old) × (output.new ≡ output.old))
         (O.contents o.old) (O.contents o.new) result) }
+    ensures untouched { (result ≡ 2) ⊎ (result ≡ 4) → output.new ≡ output.old }
     ensures unread { IfErr words (λ error. IsUnreadStatus error result
         × (files.new ≡ files.old) × (input.new ≡ input.old) × (output.new ≡ output.old)) }
 {
@@ -81,7 +90,7 @@ pub fn do_job<F: Opener, R: Source, W: Sink, E: Write>(
     ensures done { result ≡ 0 →
         IsDone (F.holds files.old) (R.rest input.old) job.now (W.written output.old) (W.written output.new) }
     ensures different { result ≡ 1 →
-        FindsDifferent (F.holds files.old) job.now (W.written output.old) (W.written output.new) }
+        ComparesJob (F.holds files.old) job.now (W.written output.old) (W.written output.new) false }
     ensures faulty { result ≡ 2 → IsFaultyJob (F.holds files.old) (R.rest input.old) job.now }
     ensures failed { result ≡ 5 →
         HasFailed F.File.failures (F.has_refused files.new) (R.failures input.new) (W.failures output.new) }
@@ -211,10 +220,10 @@ fn cmp_job<F: Opener, W: Sink, E: Write>(
 ) -> u8
     requires output { W.failures output.old ≡ 0 }
     ensures status { IsJobStatus result }
-    ensures same { result ≡ 0 → ComparesFiles (F.holds files.old) rel (option_map string_bytes hide.now)
-        (string_bytes first.now) (string_bytes second.now) (W.written output.old) (W.written output.new) true }
-    ensures different { result ≡ 1 → ComparesFiles (F.holds files.old) rel (option_map string_bytes hide.now)
-        (string_bytes first.now) (string_bytes second.now) (W.written output.old) (W.written output.new) false }
+    ensures same { result ≡ 0 → ComparesJob (F.holds files.old) (Cmp rel hide.now first.now second.now)
+        (W.written output.old) (W.written output.new) true }
+    ensures different { result ≡ 1 → ComparesJob (F.holds files.old) (Cmp rel hide.now first.now second.now)
+        (W.written output.old) (W.written output.new) false }
     ensures faulty { result ≡ 2 → HasFaultyList (F.holds files.old) (option_map string_bytes hide.now)
         ⊎ HasFaultySide file_bounds (F.holds files.old (string_bytes first.now)) (F.holds files.old (string_bytes second.now)) }
     ensures failed { result ≡ 5 → HasLostFile F.File.failures (F.has_refused files.new) ⊎ (W.failures output.new ≡ 1) }

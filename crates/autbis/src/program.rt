@@ -5,7 +5,7 @@ ghost use Rattle.autbis.specs.declared.compare.Side.TheVariants.{First, Second};
 ghost use Rattle.autbis.specs.Files.{Name, NotesRefusal, Opens};
 ghost use Rattle.autbis.specs.Jobs.{HasFaultyList, HasLostFile, HidesNamed, given};
 ghost use Rattle.autbis.specs.Reports.{IsFaultStatus};
-ghost use Rattle.autbis.specs.Runs.{BeginsQuotient, IsMinimised, IsFaulty, OfText};
+ghost use Rattle.autbis.specs.Runs.{BeginsQuotient, IsMinimised, IsFaulty, OfText, asks};
 ghost use Rattle.theory.specs.Quotient.{allowance};
 ghost use Rattle.theory.specs.Relations.{meant};
 
@@ -87,12 +87,12 @@ pub fn min_program<R: Source, W: Sink, E: Write>(
     // What each status means.
     ensures status { (result ≡ 0) ⊎ IsFaultStatus result }
     ensures minimised { result ≡ 0 → OfText (R.rest r.old) (λ text.
-        IsMinimised (meant rel) lim.now h.now text (W.written w.old) (W.written w.new)) }
+        IsMinimised (asks rel lim.now h.now) text (W.written w.old) (W.written w.new)) }
     ensures faulty { result ≡ 2 → (R.failures r.new ≡ 0) × IfSome (R.rest r.old) (IsFaulty lim.now) }
     ensures device { result ≡ 5 →
         ((R.failures r.new ≡ 1) × (w.new ≡ w.old)) ⊎ ((R.failures r.new ≡ 0) × (W.failures w.new ≡ 1)) }
     ensures begun { result ≡ 5 → R.failures r.new ≡ 0 → OfText (R.rest r.old) (λ text.
-        BeginsQuotient (meant rel) lim.now h.now text (W.written w.old) (W.written w.new)) }
+        BeginsQuotient (asks rel lim.now h.now) text (W.written w.old) (W.written w.new)) }
 
     // What is left.
     ensures sound { result ≡ 0 → (R.failures r.new ≡ 0) × (W.failures w.new ≡ 0) }
@@ -132,9 +132,9 @@ pub fn cmp_program<R1: Source, R2: Source, W: Sink, E: Write>(
 
     // What each status means.
     ensures status { (result ≡ 0) ⊎ ((result ≡ 1) ⊎ IsFaultStatus result) }
-    ensures same { result ≡ 0 → ComparesNamed (meant rel) lim.now h.now (R1.rest a.old) (R2.rest b.old)
+    ensures same { result ≡ 0 → ComparesNamed (asks rel lim.now h.now) (R1.rest a.old) (R2.rest b.old)
         (W.written w.old) (W.written w.new) true }
-    ensures different { result ≡ 1 → ComparesNamed (meant rel) lim.now h.now (R1.rest a.old) (R2.rest b.old)
+    ensures different { result ≡ 1 → ComparesNamed (asks rel lim.now h.now) (R1.rest a.old) (R2.rest b.old)
         (W.written w.old) (W.written w.new) false }
     ensures faulty { result ≡ 2 → HasFaultySide lim.now (R1.rest a.old) (R2.rest b.old) }
     ensures device { result ≡ 5 →
@@ -142,7 +142,7 @@ pub fn cmp_program<R1: Source, R2: Source, W: Sink, E: Write>(
         ⊎ (((R1.failures a.new ≡ 0) × (R2.failures b.new ≡ 1) × (w.new ≡ w.old))
         ⊎ ((R1.failures a.new ≡ 0) × (R2.failures b.new ≡ 0) × (W.failures w.new ≡ 1))) }
     ensures begun { result ≡ 5 → R1.failures a.new ≡ 0 → R2.failures b.new ≡ 0 →
-        BeginsVerdict (meant rel) lim.now h.now (R1.rest a.old) (R2.rest b.old) (W.written w.old) (W.written w.new) }
+        BeginsVerdict (asks rel lim.now h.now) (R1.rest a.old) (R2.rest b.old) (W.written w.old) (W.written w.new) }
 
     // What is left.
     ensures unread { result ≡ 2 → (b.new ≡ b.old) ⊎ IfSome (R1.rest a.old) (IsReadable lim.now) }

@@ -1,12 +1,8 @@
 //! One run, from bytes to bytes.
-ghost use Rattle.std.specs.Prelude.{◌≡◌, ◌⊎◌, ◌≤◌, Err, IfSome, IfOk, IfErr, OnOk};
-ghost use Rattle.theory.specs.Relations.{meant};
+ghost use Rattle.std.specs.Prelude.{◌≡◌, IfErr};
 ghost use Rattle.lts.specs.Meter.{IsFresh};
-ghost use Rattle.autfmt.specs.declared.fault.Fault.TheVariants.{Memory};
-ghost use Rattle.autfmt.specs.Faults.{FirstFault};
 ghost use Rattle.autfmt.specs.Outcomes.{Takes};
-ghost use Rattle.autfmt.specs.Readers.{IsTextFault};
-ghost use Rattle.autbis.specs.Runs.{BeginsQuotient, RunFails, RunsTo};
+ghost use Rattle.autbis.specs.Runs.{RunFails, RunsTo, Used, asks};
 
 use autfmt::{Fault, Hidden, Limits, Sink, Source, read_hiding, write};
 use lts::{Counter, Lts, Meter};
@@ -30,7 +26,7 @@ pub struct Counts {
 /// # Errors
 /// A fault of the text, `BadHeader` to `MissingEdges`: its first one. Nothing failed, and nothing was written or counted.
 /// `Device` if the source failed, and nothing was written or counted; or if the sink failed, and a beginning of the text was
-/// written. `Memory` if a growth was refused, which comes only behind a good line 1; nothing failed, and nothing was written.
+/// written. `Memory` if a growth was refused, which comes only after a good line 1; nothing failed, and nothing was written.
 pub fn run_min<M: Meter, R: Source, W: Sink>(
     alloc: Global,
     r: &mut R,
@@ -44,28 +40,15 @@ pub fn run_min<M: Meter, R: Source, W: Sink>(
     requires source { R.failures r.old ≡ 0 }
     requires sink { W.failures w.old ≡ 0 }
 
-    // What a success means, and which error comes when, over the bytes that were taken.
-    ensures outcome { Takes (R.rest r.old) (R.rest r.new)
-        (λ given. RunsTo (meant rel) lim.now h.now given (R.rest r.new)
-        (W.written w.old) (W.written w.new) (M.counted m.new))
-        (λ given. RunFails (meant rel) lim.now h.now given (R.rest r.new) (R.failures r.new) (W.failures w.new)
-        (w.new ≡ w.old) (W.written w.old) (W.written w.new) (M.counted m.new))
-        result }
-
-    // The same of a whole text that the source tells.
-    ensures minimised { IfSome (R.rest r.old) (λ text.
-        IfOk result (RunsTo (meant rel) lim.now h.now text (R.rest r.new)
-        (W.written w.old) (W.written w.new) (M.counted m.new))) }
-    ensures fault { IfSome (R.rest r.old) (λ text. IfErr result (λ f. IsTextFault f → FirstFault lim.now text f)) }
+    // What a success means, and which error comes when.
+    ensures outcome { let at = M.counted m.new in let asked = asks rel lim.now h.now in
+        let source : Used = record { before = R.rest r.old; after = R.rest r.new; failures = R.failures r.new } in
+        let sink : Used = record { before = W.written w.old; after = W.written w.new; failures = W.failures w.new } in
+        Takes source.before source.after (λ text. RunsTo asked text source sink at)
+        (λ given. RunFails asked given source sink at) result }
 
     // What is left.
-    ensures sound { OnOk result ((R.failures r.new ≡ 0) × (W.failures w.new ≡ 0)) }
-    ensures untouched { IfErr result (λ f. IsTextFault f ⊎ (f ≡ Memory) → (R.failures r.new ≡ 0) × (w.new ≡ w.old)) }
-    ensures device { result ≡ Err Fault.Device →
-        ((R.failures r.new ≡ 1) × (w.new ≡ w.old)) ⊎ ((R.failures r.new ≡ 0) × (W.failures w.new ≡ 1)) }
-    ensures begun { result ≡ Err Fault.Device → R.failures r.new ≡ 0 → IfSome (R.rest r.old) (λ text.
-        BeginsQuotient (meant rel) lim.now h.now text (W.written w.old) (W.written w.new)) }
-    ensures failures { (R.failures r.new ≤ 1) × (W.failures w.new ≤ 1) }
+    ensures untouched { IfErr result (λ _. W.failures w.new ≡ 0 → w.new ≡ w.old) }
 {
     theory::the_order_does_not_matter();
     theory::quotient_is_a_system();

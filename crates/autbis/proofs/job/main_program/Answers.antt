@@ -14,7 +14,6 @@ returns-in-Ok-clause-answer g c =
       failed = did.failed;
       order = did.order;
       all_opened = did.opened;
-      untouched = did.untouched;
     })) c.in-Ok.ensures.job
 
 pub returns-in-Err-clause-answer : goal.returns-in-Err-clause-answer

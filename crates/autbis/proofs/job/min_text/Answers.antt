@@ -1,4 +1,3 @@
-use Rattle.theory.specs.Relations.{meant}
 use Rattle.autbis.proofs.Carried.{at_bounds}
 use Rattle.autbis.proofs.job.min_text.Goals as goal
 
@@ -6,5 +5,5 @@ pub returns-in-Ok-clause-done : goal.returns-in-Ok-clause-done
 returns-in-Ok-clause-done g c done = (
   c.in-Ok.hidden,
   c.in-Ok.ensures.labels,
-  at_bounds (meant c.args.rel) _ _ c.in-Ok.hidden (g.R.Source.rest c.args.r.now) _ _ c.file.ensures (c.min_program.ensures.minimised done),
+  at_bounds c.args.rel _ _ c.in-Ok.hidden (g.R.Source.rest c.args.r.now) _ _ c.file.ensures (c.min_program.ensures.minimised done),
 )

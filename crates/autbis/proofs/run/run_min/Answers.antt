@@ -1,5 +1,5 @@
-use Rattle.std.proofs.Common.{◌∙◌, ℕ, List, length, Option, Err, ap, ap₂, refl, inl, inr, sym, subst, arith}
-use Rattle.std.specs.Io.KnownBytes.{Appends, IsAtEnd}
+use Rattle.std.proofs.Common.{◌≡◌, ◌∙◌, ℕ, List, length, Option, Err, ap, ap₂, refl, inl, inr, sym, subst, arith}
+use Rattle.std.specs.Io.KnownBytes.{Appends}
 use Rattle.std.proofs.lemmas.List.{length-map}
 use Rattle.std.proofs.lemmas.List.Sorted.{IsPermutation-sym}
 use Rattle.std.proofs.lemmas.Result.{err_from_is_err_and}
@@ -7,15 +7,14 @@ use Rattle.theory.specs.System.{System, Hide}
 use Rattle.theory.specs.Bisimulation.{Relation}
 use Rattle.theory.specs.Relations.{meant}
 use Rattle.theory.specs.Alike.{SameSteps}
-use Rattle.quotient.specs.Bounds.{KeepsTo}
 use Rattle.lts.specs.Lts.{transition_of, system_of}
 use Rattle.autfmt.specs.declared.fault.Fault.TheVariants.{Memory}
 use Rattle.autfmt.specs.Texts.{Reads}
 use Rattle.autfmt.specs.Written.{GainsText, GainsBeginning, IsInWrittenOrder, failures_after, listed}
 use Rattle.autbis.specs.declared.run.Counts.{Counts}
-use Rattle.autbis.specs.Runs.{BeginsQuotient, MinimisedText, Minimises, RunsTo}
-use Rattle.autbis.specs.Runs.RunFails.{not_read, not_written}
-use Rattle.autbis.proofs.Carried.{all_taken, at_error, bad_of, keeps_part, keeps_whole, no_success, not_of_text, same_error, takes_error}
+use Rattle.autbis.specs.Runs.{BeginsQuotient, GotAsFar, IsExhausted, MinimisedText, Minimises, Request, RunsTo, Used, asks}
+use Rattle.autbis.specs.Runs.RunFails.{not_read, out_of_memory, not_written}
+use Rattle.autbis.proofs.Carried.{at_error, keeps_part, keeps_whole, takes_error}
 use Rattle.autbis.proofs.run.run_min.Given.{Over}
 use Rattle.autbis.proofs.run.run_min.Goals as goal
 use Rattle.autbis.proofs.run.run_min.Goals.{After-write}
@@ -24,7 +23,7 @@ pub returns-in_err-system-clause-outcome : goal.returns-in_err-system-clause-out
 returns-in_err-system-clause-outcome g c =
     let got = c.in_err-system.ensures.outcome in
     let exit = err_from_is_err_and c.from_residual.result c.from_residual.ensures.1 in
-    takes_error _ _ _ _ c.from_residual.result c.in_err-system.field-0.0 got.given exit got.took (not_read got.outcome refl c.requires.fresh)
+    takes_error _ _ _ _ c.from_residual.result c.in_err-system.field-0.0 got.given exit got.took (not_read got.outcome c.requires.sink c.requires.fresh)
 
 pub returns-in_err-quotient-clause-outcome : goal.returns-in_err-quotient-clause-outcome
 returns-in_err-quotient-clause-outcome g c =
@@ -32,8 +31,12 @@ returns-in_err-quotient-clause-outcome g c =
     let read = got.outcome.read in
     let exit = err_from_is_err_and c.from_residual-in_err-quotient.result c.from_residual-in_err-quotient.ensures.1 in
     let part = keeps_part _ read.0.states _ (length read.0.transitions) _ read.2.states got.outcome.as_many 0 c.in_err-quotient.ensures.keeps in
-    takes_error _ _ _ _ c.from_residual-in_err-quotient.result Memory got.given exit got.took
-    (not_written got.outcome.sound got.outcome.at_end read.0 read.1 part (inl (refl, refl)))
+    takes_error _ _ _ _ c.from_residual-in_err-quotient.result Memory got.given exit got.took (out_of_memory (record {
+      input = read.0;
+      read = read.1;
+      keeps = part;
+      exhausted = record { at_end = got.outcome.at_end; sound = got.outcome.sound };
+    }) refl c.requires.sink)
 
 -- the sizes that are answered
 abbrev sizes_of : ℕ → ℕ → Counts
@@ -41,6 +44,9 @@ sizes_of s t = record { states = s; transitions = t }
 
 -- what is proved of the system in memory holds of the one that the text reads as: the order of the list alone differs
 module _ (g : Over) (c : After-write g) where
+  abbrev asked : Request
+  asked = asks c.args.rel c.args.lim.now c.args.h.now
+
   abbrev rel : Relation
   rel = meant c.args.rel
 
@@ -90,7 +96,7 @@ module _ (g : Over) (c : After-write g) where
 module _ (g : Over) (c : After-write g) where
   -- what the text that was read is minimised to
   abbrev to : (listing : System) → IsInWrittenOrder (Q g c) listing →
-      MinimisedText (rel g c) c.args.lim.now c.args.h.now c.in_ok-system.ensures.outcome.given
+      MinimisedText (asked g c) c.in_ok-system.ensures.outcome.given
   to listing order = record {
     input = input g c;
     output = Q g c;
@@ -102,30 +108,36 @@ module _ (g : Over) (c : After-write g) where
   }
 
   -- the sink has gained its text
-  done : (rest old new : Option (List ℕ)) → IsAtEnd rest → GainsText (Q g c) old new →
-      RunsTo (rel g c) c.args.lim.now c.args.h.now c.in_ok-system.ensures.outcome.given rest old new (g.M.Meter.counted c.minimise.new.m)
+  done : (source sink : Used) → IsExhausted source → GainsText (Q g c) sink.before sink.after → sink.failures ≡ 0 →
+      RunsTo (asked g c) c.in_ok-system.ensures.outcome.given source sink (g.M.Meter.counted c.minimise.new.m)
       (record { states = c.states.result; transitions = c.edges.result })
-  done rest old new at_end (text, (listing, order, is), gained) =
+  done source sink exhausted (text, (listing, order, is), gained) sound =
       let got = c.in_ok-system.ensures.outcome.outcome in
       record {
         to = to listing order;
         sizes = ap₂ sizes_of (c.states.ensures.value ∙ got.read.2.states) (c.edges.ensures.value ∙ got.as_many);
-        written = subst (λ bytes. Appends old new bytes) is gained;
+        written = record { written = subst (λ bytes. Appends sink.before sink.after bytes) is gained; sound = sound };
         turns = c.the_order_does_not_matter.ensures.turns (rel g c) (A g c) (B g c) _ (same g c) c.in_ok-quotient.ensures.turns;
         keeps = keeps_whole _ _ _ _ _ (sym c.states.ensures.value) (sym c.edges.ensures.value) c.in_ok-quotient.ensures.keeps;
-        at_end = at_end;
+        exhausted = exhausted;
       }
 
   -- or a beginning of it
   begun : (old new : Option (List ℕ)) → GainsBeginning (Q g c) old new →
-      BeginsQuotient (rel g c) c.args.lim.now c.args.h.now c.in_ok-system.ensures.outcome.given old new
+      BeginsQuotient (asked g c) c.in_ok-system.ensures.outcome.given old new
   begun old new (front, later, (listing, order, is), gained) = (to listing order, (front, later, sym is, gained))
 
-  -- the meter stands within what a run over the system that was read may take
-  part : KeepsTo (input g c).states (length (input g c).transitions) 2 (g.M.Meter.counted c.minimise.new.m) 0
-  part =
+  -- the meter shows no more than a run over the system that was read may take
+  far : (source : Used) → IsExhausted source →
+      GotAsFar c.args.lim.now c.in_ok-system.ensures.outcome.given source (g.M.Meter.counted c.minimise.new.m)
+  far source exhausted =
       let got = c.in_ok-system.ensures.outcome.outcome in
-      keeps_part _ _ _ _ _ got.read.2.states got.as_many _ c.in_ok-quotient.ensures.keeps
+      record {
+        input = input g c;
+        read = got.read.1;
+        keeps = keeps_part _ _ _ _ _ got.read.2.states got.as_many _ c.in_ok-quotient.ensures.keeps;
+        exhausted = exhausted;
+      }
 
 pub returns-in_err-write-clause-outcome : goal.returns-in_err-write-clause-outcome
 returns-in_err-write-clause-outcome g c =
@@ -134,40 +146,20 @@ returns-in_err-write-clause-outcome g c =
     let e = c.in_err-write.field-0.0 in
     let is = c.in_err-write.ensures in
     let exit = err_from_is_err_and c.from_residual-in_err-write.result c.from_residual-in_err-write.ensures.1 in
-    takes_error _ _ _ _ c.from_residual-in_err-write.result e got.given exit got.took
-    (not_written got.outcome.sound got.outcome.at_end (input g at) got.outcome.read.1 (part g at) (elim is.faults [
-      | inl memory ↦ inl (memory, is.memory memory)
-      | inr device ↦ inr (device, is.failures ∙ ap (λ f. failures_after {T = Unit {0}} (Err f)) device, begun g at _ _ (is.device device))
-    ]))
+    takes_error _ _ _ _ c.from_residual-in_err-write.result e got.given exit got.took (elim is.faults [
+      | inl memory ↦ out_of_memory (far g at _ (record { at_end = got.outcome.at_end; sound = got.outcome.sound })) memory (is.failures ∙ ap (λ x. failures_after {T = Unit {0}} (Err x)) memory)
+      | inr device ↦ not_written (far g at _ (record { at_end = got.outcome.at_end; sound = got.outcome.sound })) device (is.failures ∙ ap (λ x. failures_after {T = Unit {0}} (Err x)) device) (begun g at _ _ (is.device device))
+    ])
 
 pub returns-in_err-write-clause-untouched : goal.returns-in_err-write-clause-untouched
 returns-in_err-write-clause-untouched g c =
     let exit = err_from_is_err_and c.from_residual-in_err-write.result c.from_residual-in_err-write.ensures.1 in
-    at_error _ c.from_residual-in_err-write.result c.in_err-write.field-0.0 exit (λ cause. (
-      c.in_ok-system.ensures.outcome.outcome.sound,
-      c.in_err-write.ensures.memory (elim cause [
-        | inl of_text ↦ absurd (not_of_text c.in_err-write.field-0.0 c.in_err-write.ensures.faults of_text)
-        | inr memory ↦ memory
-      ]),
-    ))
-
-pub returns-in_err-write-clause-begun : goal.returns-in_err-write-clause-begun
-returns-in_err-write-clause-begun g c said sound =
-    let at = (goal.at.returns-in_err-write-clause-begun g c).After-write in
-    let got = c.in_ok-system.ensures.outcome in
-    let exit = err_from_is_err_and c.from_residual-in_err-write.result c.from_residual-in_err-write.ensures.1 in
-    let device = sym (same_error _ _ _ exit said) in
-    all_taken _ _ got.given _ got.took got.outcome.at_end
-    (begun g at _ _ (c.in_err-write.ensures.device device))
-
-pub returns-in_err-write-clause-minimised : goal.returns-in_err-write-clause-minimised
-returns-in_err-write-clause-minimised g c =
-    no_success _ _ c.from_residual-in_err-write.result c.in_err-write.field-0.0 (err_from_is_err_and c.from_residual-in_err-write.result c.from_residual-in_err-write.ensures.1)
-
-pub returns-in_err-write-clause-fault : goal.returns-in_err-write-clause-fault
-returns-in_err-write-clause-fault g c =
-    bad_of _ _ c.from_residual-in_err-write.result c.in_err-write.field-0.0 (err_from_is_err_and c.from_residual-in_err-write.result c.from_residual-in_err-write.ensures.1)
-    (λ text of_text. absurd (not_of_text c.in_err-write.field-0.0 c.in_err-write.ensures.faults of_text))
+    let e = c.in_err-write.field-0.0 in
+    let is = c.in_err-write.ensures in
+    at_error _ c.from_residual-in_err-write.result e exit (λ sound. elim is.faults [
+      | inl memory ↦ is.memory memory
+      | inr device ↦ absurd (omega (arith, sound, is.failures ∙ ap (λ x. failures_after {T = Unit {0}} (Err x)) device))
+    ])
 
 pub returns-clause-outcome : goal.returns-clause-outcome
 unfolding done
@@ -177,11 +169,5 @@ returns-clause-outcome g c =
     record {
       given = got.given;
       took = got.took;
-      outcome = done g at _ _ _ got.outcome.at_end c.in_ok-write.ensures.text;
+      outcome = done g at _ _ (record { at_end = got.outcome.at_end; sound = got.outcome.sound }) c.in_ok-write.ensures.text c.in_ok-write.ensures.failures;
     }
-
-pub returns-clause-minimised : goal.returns-clause-minimised
-returns-clause-minimised g c =
-    let at = (goal.at.returns-clause-minimised g c).After-write in
-    let got = c.in_ok-system.ensures.outcome in
-    all_taken _ _ got.given _ got.took got.outcome.at_end (done g at _ _ _ got.outcome.at_end c.in_ok-write.ensures.text)
