@@ -1,4 +1,4 @@
-//! Worked examples in memory, of which `refusals/try` refuses each growth in turn. The exit status and the message are
+//! Worked examples in memory, of which `tests/refused-calls/try` refuses each growth in turn. The exit status and the message are
 //! those of the program `autbis`: 0 if each example came out as wanted, 4 if one met a refusal and left what is promised
 //! then. The status is 1 if one did anything else; its name is said then.
 #![tactic(auto)]
