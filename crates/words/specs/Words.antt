@@ -58,9 +58,9 @@ abbrev pub AreTaken : List Text → Type 0
 AreTaken words = fault_of program_app words ≡ []
 
 -- the word for a relation
-abbrev pub word_of : Relation → Text
-word_of Strong = codes "strong"
-word_of Branching = codes "branching"
+abbrev pub relation_word : Relation → Text
+relation_word Strong = codes "strong"
+relation_word Branching = codes "branching"
 
 -- whether a flag was found
 pub record IsFlag (rows : List Row) (id : Text) (flag : Bool) : Type 0 where
@@ -75,12 +75,12 @@ relation_in rows = unwrap_or (first_of (codes "relation") rows) (codes "strong")
 -- the job of what `clap` found in the words of this subcommand
 abbrev pub HasMatches : Text → List Row → Job → Type 0
 HasMatches name rows (Min relation stats hide file) = (name ≡ codes "min")
-    × (relation_in rows ≡ word_of relation)
+    × (relation_in rows ≡ relation_word relation)
     × IsFlag rows (codes "stats") stats
     × (first_of (codes "hide") rows ≡ option_map string_bytes hide)
     × (first_of (codes "file") rows ≡ option_map string_bytes file)
 HasMatches name rows (Cmp relation hide first second) = (name ≡ codes "cmp")
-    × (relation_in rows ≡ word_of relation)
+    × (relation_in rows ≡ relation_word relation)
     × (first_of (codes "hide") rows ≡ option_map string_bytes hide)
     × (first_of (codes "first") rows ≡ Some (string_bytes first))
     × (first_of (codes "second") rows ≡ Some (string_bytes second))
@@ -92,7 +92,7 @@ IsWhole name rows = (name ≡ codes "min")
 
 -- the word is not that of a relation, and the fault names it; or memory was refused
 abbrev pub NamesNoRelation : Text → WordFault → Type 0
-NamesNoRelation word (fault.Relation named) = (string_bytes named ≡ word) × ((relation : Relation) → word ≢ word_of relation)
+NamesNoRelation word (fault.Relation named) = (string_bytes named ≡ word) × ((relation : Relation) → word ≢ relation_word relation)
 NamesNoRelation word fault.Memory = ⊤
 NamesNoRelation word _ = ⊥
 

@@ -4,7 +4,7 @@ ghost use Rattle.clap.specs.Words.{app_of, first_of, found_of, rows_of, rule_of,
 ghost use Rattle.clap.specs.Values.{kind_of};
 ghost use Rattle.clap.specs.declared.error.kind.ErrorKind.TheVariants.{OutOfMemory};
 ghost use Rattle.clap.specs.declared.builder.command.Command.TheViews.{out-Command};
-ghost use Rattle.words.specs.Words.{HasMatches, IsFaultIn, IsFaultOf, IsFaultOfAJob, IsFaultOfKind, IsJobIn, IsJobOf, IsWhole, IsWholeIn, NamesNoRelation, cmp_app, file_rule, hide_rule, job_app, min_app, needed_file_rule, program_app, relation_in, relation_rule, stats_rule, word_of};
+ghost use Rattle.words.specs.Words.{HasMatches, IsFaultIn, IsFaultOf, IsFaultOfAJob, IsFaultOfKind, IsJobIn, IsJobOf, IsWhole, IsWholeIn, NamesNoRelation, cmp_app, file_rule, hide_rule, job_app, min_app, needed_file_rule, program_app, relation_in, relation_rule, stats_rule, relation_word};
 ghost use Rattle.words.specs.declared.words.WordFault.TheVariants.{Memory};
 
 use clap::error::ErrorKind;
@@ -267,7 +267,7 @@ fn cmp_of(alloc: Global, matches: &ArgMatches<'_>) -> Result<Job, WordFault>
 
 /// The relation of the word that was found; `strong` if there is none.
 fn relation_found(alloc: Global, matches: &ArgMatches<'_>) -> Result<Relation, WordFault>
-    ensures ok { IfOk result (λ relation. relation_in (rows_of (found_of matches.now)) ≡ word_of relation) }
+    ensures ok { IfOk result (λ relation. relation_in (rows_of (found_of matches.now)) ≡ relation_word relation) }
     ensures err { IfErr result (NamesNoRelation (relation_in (rows_of (found_of matches.now)))) }
 {
     relation_of(alloc, matches.get_str("relation").unwrap_or("strong"))
@@ -285,7 +285,7 @@ fn found(alloc: Global, matches: &ArgMatches<'_>, id: &str) -> Result<Option<Str
 
 /// The relation of this name.
 fn relation_of(alloc: Global, word: &str) -> Result<Relation, WordFault>
-    ensures ok { IfOk result (λ relation. word.now ≡ word_of relation) }
+    ensures ok { IfOk result (λ relation. word.now ≡ relation_word relation) }
     ensures err { IfErr result (NamesNoRelation word.now) }
 {
     if word == "strong" {
