@@ -13,3 +13,4 @@ pub mod Searching
 pub mod Hashing
 pub mod Uniting
 pub mod Noting
+pub mod Differing

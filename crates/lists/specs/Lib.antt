@@ -3,3 +3,4 @@ pub mod Spans
 pub mod Links
 pub mod Hashed
 pub mod Unions
+pub mod Differences

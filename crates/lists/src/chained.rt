@@ -4,9 +4,11 @@ ghost use Rattle.std.specs.List.{Contains};
 ghost use Rattle.std.specs.List.Sorted.{IsStrictlySortedBy};
 ghost use Rattle.lists.specs.Lists.{pair_cmp, list_at, merged, Apart, IsAddition};
 ghost use Rattle.lists.specs.Links.{AreRising};
+ghost use Rattle.lists.specs.Differences.{AreDifferences};
 ghost use Rattle.lists.specs.Spans.{fingerprint_of};
 ghost use Rattle.lists.specs.declared.lists.TheConstants.{MOST_LISTS};
 
+use crate::differences::{Differences, append_differing};
 use crate::links::{base_of, put, stays};
 use crate::lists::EMPTY;
 use crate::ordered::{append_merged, has, lacked};
@@ -74,7 +76,7 @@ impl Chained {
     }
 
     /// The base of the list number `k`, what the list adds to that, and the fingerprint of what it adds.
-    fn cut(&self, k: u32) -> (u32, &[(u32, u32)], u64)
+    pub fn cut(&self, k: u32) -> (u32, &[(u32, u32)], u64)
         requires some { 0 < k }
         requires list { k < length self.now }
         ensures base { result.0 < k }
@@ -135,9 +137,16 @@ impl Chained {
     /// Whether the list number `j` is the list number `k` with these pairs, which that one lacks. What both share is not read.
     ///
     /// Fails if there is no memory to compare them.
-    pub fn is_extended(&self, j: u32, k: u32, pairs: &[(u32, u32)]) -> Result<bool, Memory>
+    pub fn is_extended(
+        &self,
+        j: u32,
+        k: u32,
+        pairs: &[(u32, u32)],
+        differences: &Differences,
+    ) -> Result<bool, Memory>
         requires list { j < length self.now }
         requires addition { IsAddition self.now k pairs.now }
+        requires differences { AreDifferences self.now differences.now.numbers differences.now.pairs }
         ensures { IfOk result (λ r. IsTrue r ↔ (list_at self.now j ≡ merged (list_at self.now k) pairs.now)) }
     {
         self.known();
@@ -152,7 +161,7 @@ impl Chained {
         }
         let mut missing = Vec::new(self.alloc);
         self.append_new(pairs, j, &mut missing)?;
-        self.append_missing(k, j, &mut missing)?;
+        append_differing(self, k, j, differences, &mut missing)?;
         Ok(missing.is_empty())
     }
 

@@ -7,6 +7,7 @@ ghost use Rattle.lists.specs.Lists.{pair_cmp, list_at, merged, IsAddition, AreLi
 ghost use Rattle.lists.specs.declared.lists.TheConstants.{MOST_LISTS};
 
 use crate::chained::Chained;
+use crate::differences::{Differences, forget, no_differences, note};
 use crate::hashed::{Entry, find, first_entry, put};
 use crate::lists::EMPTY;
 use crate::span::fingerprint;
@@ -25,6 +26,8 @@ pub(crate) struct Distinct {
     heads: Vec<u32>,
     /// How each list is found.
     entries: Vec<Entry>,
+    /// What lists from two roots have and lack of each other.
+    differences: Differences,
 }
 
 impl Model for Distinct {
@@ -33,10 +36,11 @@ impl Model for Distinct {
     ghost Value = { List (List (ℕ × ℕ)) };
 
     ghost use Rattle.lists.specs.Hashed.{IsHashed};
+    ghost use Rattle.lists.specs.Differences.{AreDifferences};
 
     ghost view = { λ x. x.lists };
 
-    ghost invariant = { λ x. IsHashed x.lists x.heads.items x.entries.items };
+    ghost invariant = { λ x. IsHashed x.lists x.heads.items x.entries.items × AreDifferences x.lists x.differences.numbers x.differences.pairs };
 }
 
 impl Distinct {
@@ -53,6 +57,7 @@ impl Distinct {
             lists: Chained::new(alloc, room)?,
             heads: vec![in alloc; EMPTY; buckets]?,
             entries,
+            differences: no_differences(alloc)?,
         })
     }
 
@@ -156,17 +161,27 @@ impl Distinct {
         }
         let print = (self.lists.fingerprint(k).wrapping_add(fingerprint(pairs))
             / 0x1_0000_0000) as u32;
-        if let Some(number) = find(&self.lists, &self.heads, &self.entries, k, pairs, print)? {
+        if let Some(number) = find(
+            &self.lists,
+            &self.heads,
+            &self.entries,
+            k,
+            pairs,
+            print,
+            &self.differences,
+        )? {
+            note(&self.lists, &mut self.differences, k, number)?;
             return Ok(number);
         }
-        put(
+        let made = put(
             &mut self.lists,
             &mut self.heads,
             &mut self.entries,
             k,
             pairs,
             print,
-        )
+        )?;
+        Ok(made)
     }
 
     /// Forgets all lists but the empty one, and keeps the memory.
@@ -176,5 +191,6 @@ impl Distinct {
         self.lists.clear();
         self.entries.truncate(1);
         self.heads.fill(EMPTY);
+        forget(&mut self.differences);
     }
 }

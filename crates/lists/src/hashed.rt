@@ -2,9 +2,11 @@
 ghost use Rattle.std.specs.Prelude.{◌≡◌, ℕ, ◌/◌, ◌*◌, ◌^◌, ◌++◌, ◌∷◌, ◌<◌, ◌≤◌, [], length, IfOk, OnOk, OnErr, MatchOption};
 ghost use Rattle.lists.specs.Lists.{list_at, merged};
 ghost use Rattle.lists.specs.Hashed.{bucket_of, IsHashed, IsSought, IsNew, IsNumberOf};
+ghost use Rattle.lists.specs.Differences.{AreDifferences};
 ghost use Rattle.lists.specs.declared.lists.TheConstants.{MOST_LISTS};
 
 use crate::chained::Chained;
+use crate::differences::Differences;
 use growth::Memory;
 
 /// How a list is found.
@@ -44,7 +46,9 @@ pub(crate) fn find(
     k: u32,
     pairs: &[(u32, u32)],
     print: u32,
+    differences: &Differences,
 ) -> Result<Option<u32>, Memory>
+    requires differences { AreDifferences lists.now differences.now.numbers differences.now.pairs }
     requires hashed { IsHashed lists.now heads.now entries.now }
     requires sought { IsSought lists.now k pairs.now print }
     ensures { let list = merged (list_at lists.now k) pairs.now in
@@ -53,7 +57,7 @@ pub(crate) fn find(
     let mut r = heads[bucket(print, heads.len())];
     while r != 0 {
         let entry = &entries[r as usize];
-        if entry.print == print && lists.is_extended(r, k, pairs)? {
+        if entry.print == print && lists.is_extended(r, k, pairs, differences)? {
             return Ok(Some(r));
         }
         r = entry.before;

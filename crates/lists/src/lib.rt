@@ -3,7 +3,7 @@
 //!
 //! ```text
 //! Lists         unions of lists are asked for by number, and made once       lists, known
-//!   Distinct    a list that is asked for again has the number that it had    distinct, hashed
+//!   Distinct    a list that is asked for again has the number that it had    distinct, hashed, differences
 //!     Chained   a list is kept as what it adds to an earlier one             chained, links, ordered
 //!       Parts   lists stand one after the other in one buffer                parts, span
 //! ```
@@ -23,6 +23,7 @@
 #![tactic(auto)]
 
 mod chained;
+mod differences;
 mod distinct;
 mod hashed;
 mod known;

@@ -19,17 +19,17 @@ returns c =
     let pairs = c.args.pairs.now in
     let none = c.new-missing.result.items in
     let some = c.append_new.new.out.items in
-    let all = c.append_missing.new.pairs.items in
+    let all = c.append_differing.new.pairs.items in
     let empty = c.new-missing.ensures.items in
     let first = c.in_ok-append_new.ensures in
-    let second = c.in_ok-append_missing.ensures in (
+    let second = c.in_ok-append_differing.ensures in (
       λ t.
-          let size : length all ≡ 0 = omega (arith, eqb-true (vec_len c.append_missing.new.pairs) 0 (sym c.is_empty.ensures ∙ t), c.append_missing.new.pairs.ok.0) in
+          let size : length all ≡ 0 = omega (arith, eqb-true (vec_len c.append_differing.new.pairs) 0 (sym c.is_empty.ensures ∙ t), c.append_differing.new.pairs.ok.0) in
           extended_is list base pairs (c.known.ensures.rise c.args.j [] c.requires.list) (c.known.ensures.rise c.args.k [] c.requires.addition.within)
           c.requires.addition.rising c.requires.addition.apart (c.has_size.ensures.0 c.if-not-has_size.false)
           (lacks_no_base list base pairs none some all empty first second size) (lacks_no_pair list base pairs none some all empty first second size),
       λ e.
-          let size : vec_len c.append_missing.new.pairs ≡ 0 =
-          omega (arith, lacks_nothing list base pairs none some all empty first second e, c.append_missing.new.pairs.ok.0) in
+          let size : vec_len c.append_differing.new.pairs ≡ 0 =
+          omega (arith, lacks_nothing list base pairs none some all empty first second e, c.append_differing.new.pairs.ok.0) in
           c.is_empty.ensures ∙ ap (λ n. n == 0) size,
     )
