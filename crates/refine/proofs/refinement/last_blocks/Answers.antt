@@ -1,0 +1,134 @@
+use Rattle.std.proofs.Common.{◌≡◌, ◌↔◌, suc, ◌*◌, ◌<◌, length, slice_index, ap, sym, ◌∙◌, subst, arith, rules}
+use Rattle.theory.specs.Blocks.{Split, SameBlocks, Turns}
+use Rattle.lts.specs.Meter.{Costs}
+use Rattle.lts.specs.Lts.{system_of}
+use Rattle.refine.specs.Settled.{Settled}
+use Rattle.refine.specs.Rounds.{Made}
+use Rattle.refine.proofs.Spending.{costs_more, costs_up_to_more, room_for_more}
+use Rattle.partition.proofs.Renumbering.{one_block}
+use Rattle.refine.proofs.Settling.{settled_first}
+use Rattle.refine.proofs.refinement.last_blocks.Goals as goal
+use Rattle.refine.proofs.refinement.last_blocks.Given.{Over}
+use Rattle.refine.proofs.refinement.last_blocks.Goals.{Then-next-count, Else-next-count}
+
+pub loop-blocks-init : goal.loop-blocks-init
+loop-blocks-init g c =
+    let A = system_of c.args.l.now in
+    let blocks = c.in_ok-blocks.blocks.items in
+    let size = c.in_ok-blocks.ensures.states in
+    let one = one_block A.states blocks c.states.result (sym c.states.ensures.value) c.in_ok-blocks.ensures.one in
+    let begun = c.refinement_goes_on.ensures.begun g.S.Sense.relation A (slice_index blocks) c.states.ensures.lts.system one in
+    record {
+      states = size ∙ c.states.ensures.value;
+      blocks = c.in_ok-blocks.ensures.blocks;
+      settled = settled_first g.S.Sense.relation A (slice_index blocks);
+      marks = c.requires.marks;
+      lists = c.requires.lists;
+      signatures = c.requires.signatures;
+      made = record { rounds = 0; underway = begun; costs = search rules };
+    }
+
+pub next_round-requires-clause-settled : goal.next_round-requires-clause-settled
+next_round-requires-clause-settled g c =
+    subst (λ p. Settled g.S.Sense.relation (system_of c.args.l.now) (slice_index p) c.loop-blocks.low) (sym c.deref.ensures.value) c.loop-blocks.invariant.settled
+
+pub next_round-requires-clause-room : goal.next_round-requires-clause-room
+next_round-requires-clause-room g c =
+    let l = c.args.l.now in
+    let made = c.loop-blocks.invariant.made in
+    room_for_more (length l.places) l.states made.rounds _ _ made.costs
+    (c.refinement_goes_on.ensures.below g.S.Sense.relation (system_of l) made.rounds (slice_index c.loop-blocks.blocks.items)
+    c.states.ensures.lts.system made.underway)
+    c.requires.room
+
+pub returns-in_err-next-clause-err : goal.returns-in_err-next-clause-err
+returns-in_err-next-clause-err g c =
+    let l = c.args.l.now in
+    let made = c.loop-blocks.invariant.made in
+    let below =
+    c.refinement_goes_on.ensures.below g.S.Sense.relation (system_of l) made.rounds (slice_index c.loop-blocks.blocks.items)
+    c.states.ensures.lts.system made.underway in
+    let most = costs_up_to_more (length l.places) l.states made.rounds _ _ made.costs (g.M.Meter.counted c.next_round.new.m) below
+    c.in_err-next.ensures.err in
+    search rules
+
+-- the round was the last one
+turns : (g : Over) (c : Then-next-count g) → Turns g.S.Sense.relation (system_of c.args.l.now) (suc c.loop-blocks.invariant.made.rounds)
+turns g c =
+    let A = system_of c.args.l.now in
+    let made = c.loop-blocks.invariant.made in
+    let next = c.in_ok-next.ensures.next in
+    let is = c.deref.ensures.value in
+    c.refinement_goes_on.ensures.done g.S.Sense.relation A made.rounds (slice_index c.loop-blocks.blocks.items) (slice_index c.in_ok-next.next.of.items)
+    c.states.ensures.lts.system made.underway
+    (subst (λ p. Split g.S.Sense.relation A (slice_index p) (slice_index c.in_ok-next.next.of.items)) is next.split)
+    (subst (λ p. SameBlocks A (slice_index p) (slice_index c.in_ok-next.next.of.items)) is (next.same c.if-next-count.true))
+
+costs : (g : Over) (c : Then-next-count g) → let l = c.args.l.now in let k = suc c.loop-blocks.invariant.made.rounds in
+    Costs (g.M.Meter.counted c.args.m.now) (g.M.Meter.counted c.next_round.new.m) k (k * length l.places) (k * length l.places)
+costs g c =
+    let l = c.args.l.now in
+    let made = c.loop-blocks.invariant.made in
+    costs_more (length l.places) l.states made.rounds _ _ made.costs (g.M.Meter.counted c.next_round.new.m) c.in_ok-next.ensures.costs
+
+few : (g : Over) (c : Then-next-count g) → c.loop-blocks.invariant.made.rounds < c.args.l.now.states
+few g c =
+    let made = c.loop-blocks.invariant.made in
+    c.refinement_goes_on.ensures.below g.S.Sense.relation (system_of c.args.l.now) made.rounds (slice_index c.loop-blocks.blocks.items)
+    c.states.ensures.lts.system made.underway
+
+pub returns-then-next-count-clause-bisimilar : goal.returns-then-next-count-clause-bisimilar
+returns-then-next-count-clause-bisimilar g c =
+    let A = system_of c.args.l.now in
+    let made = c.loop-blocks.invariant.made in
+    let next = c.in_ok-next.ensures.next in
+    c.final_blocks_are_bisimilarity.ensures g.S.Sense.relation A (suc made.rounds) (slice_index c.in_ok-next.next.of.items)
+    c.states.ensures.lts.system (turns g (goal.at.returns-then-next-count-clause-bisimilar g c).Then-next-count) (
+      slice_index c.loop-blocks.blocks.items,
+      made.underway.after,
+      subst (λ p. Split g.S.Sense.relation A (slice_index p) (slice_index c.in_ok-next.next.of.items)) c.deref.ensures.value next.split,
+    )
+
+pub returns-then-next-count-clause-turns : goal.returns-then-next-count-clause-turns
+returns-then-next-count-clause-turns g c =
+    let d = (goal.at.returns-then-next-count-clause-turns g c).Then-next-count in
+    (suc c.loop-blocks.invariant.made.rounds, few g d, turns g d, costs g d)
+
+pub loop-blocks-smaller : goal.loop-blocks-smaller
+loop-blocks-smaller g c =
+    let made = c.loop-blocks.invariant.made in
+    let below =
+    c.refinement_goes_on.ensures.below g.S.Sense.relation (system_of c.args.l.now) made.rounds (slice_index c.loop-blocks.blocks.items)
+    c.states.ensures.lts.system made.underway in
+    omega (arith, below, made.costs.rounds, c.in_ok-next.ensures.costs.rounds)
+
+-- a round more was made
+made : (g : Over) (c : Else-next-count g) →
+    Made g.S.Sense.relation c.args.l.now (g.M.Meter.counted c.args.m.now) (g.M.Meter.counted c.next_round.new.m) c.in_ok-next.next.of.items
+made g c =
+    let l = c.args.l.now in
+    let A = system_of l in
+    let before = c.loop-blocks.invariant.made in
+    let next = c.in_ok-next.ensures.next in
+    let is = c.deref.ensures.value in
+    record {
+      rounds = suc before.rounds;
+      underway =
+          c.refinement_goes_on.ensures.more g.S.Sense.relation A before.rounds (slice_index c.loop-blocks.blocks.items)
+          (slice_index c.in_ok-next.next.of.items)
+          c.states.ensures.lts.system before.underway
+          (subst (λ p. Split g.S.Sense.relation A (slice_index p) (slice_index c.in_ok-next.next.of.items)) is next.split)
+          (subst (λ p. SameBlocks A (slice_index p) (slice_index c.in_ok-next.next.of.items) → ⊥) is (next.parted c.if-next-count.false));
+      costs = costs_more (length l.places) l.states before.rounds _ _ before.costs (g.M.Meter.counted c.next_round.new.m) c.in_ok-next.ensures.costs;
+    }
+
+pub loop-blocks-preserved : goal.loop-blocks-preserved
+loop-blocks-preserved g c = record {
+  states = c.in_ok-next.ensures.next.states;
+  blocks = c.in_ok-next.ensures.next.blocks;
+  settled = c.in_ok-next.ensures.next.settled;
+  marks = c.next_round.ensures.marks ∙ c.loop-blocks.invariant.marks;
+  lists = c.next_round.ensures.lists;
+  signatures = c.next_round.ensures.signatures ∙ c.loop-blocks.invariant.signatures;
+  made = made g (goal.at.loop-blocks-preserved g c).Else-next-count;
+}
