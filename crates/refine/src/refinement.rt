@@ -96,31 +96,30 @@ pub fn refine<S: Sense, M: Meter>(alloc: Global, l: &Lts<M>, m: &mut M) -> Resul
 {
     let mut marks = Marks::new(alloc, l.states())?;
     let mut signatures = RoundSignatures::new(alloc, l.states())?;
-    let last = last_blocks::<S, M>(alloc, l, &mut marks, &mut signatures, m)?;
-    renumber(alloc, &last.of, last.count)
+    refine_in::<S, M>(alloc, l, &mut marks, &mut signatures, m)
 }
 
-/// The blocks of the last round, whose numbers are in no order. Marks and lists are used again from round to round.
+/// Rounds up to the last one in these marks and lists, which are used again from round to round.
 ///
-/// Fails if there is no memory for them. At most as many rounds as there are states were begun then, with at most their
+/// Fails if there is no memory for it. At most as many rounds as there are states were begun then, with at most their
 /// visits.
-fn last_blocks<S: Sense, M: Meter>(
+fn refine_in<S: Sense, M: Meter>(
     alloc: Global,
     l: &Lts<M>,
     marks: &mut Marks,
     signatures: &mut RoundSignatures,
     m: &mut M,
-) -> Result<Blocks, Memory>
+) -> Result<Partition, Memory>
     requires marks { marks.old ≡ l.now.states }
     requires lists { AreNumbered signatures.old.lists signatures.old.numbers.items }
     requires signatures { length signatures.old.numbers.items ≡ l.now.states }
     requires room { HasRoomFor (M.counted m.old) l.now.states (l.now.states * length l.now.places) }
 
     // Once it is done
-    ensures states { IfOk result (λ q. length q.of.items ≡ l.now.states) }
-    ensures blocks { IfOk result (λ q. AreBlocks q.of.items q.count) }
-    ensures bisimilar { let A = system_of l.now in IfOk result (λ q. EachTwo A (λ s t.
-        (slice_index q.of.items s ≡ slice_index q.of.items t) ↔ Bisimilar S.relation A s A t)) }
+    ensures states { IfOk result (λ p. length p ≡ l.now.states) }
+    ensures bisimilar { let A = system_of l.now in IfOk result (λ p. EachTwo A (λ s t.
+        (slice_index p s ≡ slice_index p t) ↔ Bisimilar S.relation A s A t)) }
+    ensures numbered { IfOk result IsNumbered }
     ensures turns { let n = length l.now.places in OnOk result ((r : ℕ) × (r ≤ l.now.states)
         × Turns S.relation (system_of l.now) r × Costs (M.counted m.old) (M.counted m.new) r (r * n) (r * n)) }
 
@@ -135,7 +134,7 @@ fn last_blocks<S: Sense, M: Meter>(
     loop {
         let next = next_round::<S, M>(alloc, l, &blocks, count, low, marks, signatures, m)?;
         if next.count == count {
-            return Ok(next);
+            return renumber(alloc, &next.of, next.count);
         }
         low = count;
         count = next.count;

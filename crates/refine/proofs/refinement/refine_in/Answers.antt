@@ -1,15 +1,16 @@
 use Rattle.std.proofs.Common.{◌≡◌, ◌↔◌, suc, ◌*◌, ◌<◌, length, slice_index, ap, sym, ◌∙◌, subst, arith, rules}
+use Rattle.std.proofs.lemmas.Result.{IfOk-weaker}
 use Rattle.theory.specs.Blocks.{Split, SameBlocks, Turns}
 use Rattle.lts.specs.Meter.{Costs}
 use Rattle.lts.specs.Lts.{system_of}
 use Rattle.refine.specs.Settled.{Settled}
 use Rattle.refine.specs.Rounds.{Made}
-use Rattle.refine.proofs.Spending.{costs_more, costs_up_to_more, room_for_more}
+use Rattle.refine.proofs.Spending.{costs_more, costs_up_to_more, room_for_more, on_ok_from, on_err_from}
 use Rattle.partition.proofs.Renumbering.{one_block}
 use Rattle.refine.proofs.Settling.{settled_first}
-use Rattle.refine.proofs.refinement.last_blocks.Goals as goal
-use Rattle.refine.proofs.refinement.last_blocks.Given.{Over}
-use Rattle.refine.proofs.refinement.last_blocks.Goals.{Then-next-count, Else-next-count}
+use Rattle.refine.proofs.refinement.refine_in.Goals as goal
+use Rattle.refine.proofs.refinement.refine_in.Given.{Over}
+use Rattle.refine.proofs.refinement.refine_in.Goals.{Then-next-count, Else-next-count}
 
 pub loop-blocks-init : goal.loop-blocks-init
 loop-blocks-init g c =
@@ -77,22 +78,44 @@ few g c =
     c.refinement_goes_on.ensures.below g.S.Sense.relation (system_of c.args.l.now) made.rounds (slice_index c.loop-blocks.blocks.items)
     c.states.ensures.lts.system made.underway
 
+pub returns-then-next-count-clause-states : goal.returns-then-next-count-clause-states
+returns-then-next-count-clause-states g c =
+    IfOk-weaker c.renumber.result _ _ (λ q size. size ∙ ap length c.deref-then-next-count.ensures.value ∙ c.in_ok-next.ensures.next.states)
+    c.renumber.ensures.states
+
 pub returns-then-next-count-clause-bisimilar : goal.returns-then-next-count-clause-bisimilar
 returns-then-next-count-clause-bisimilar g c =
     let A = system_of c.args.l.now in
     let made = c.loop-blocks.invariant.made in
     let next = c.in_ok-next.ensures.next in
+    let value = c.deref-then-next-count.ensures.value in
+    let size = ap length value in
+    let all =
     c.final_blocks_are_bisimilarity.ensures g.S.Sense.relation A (suc made.rounds) (slice_index c.in_ok-next.next.of.items)
     c.states.ensures.lts.system (turns g (goal.at.returns-then-next-count-clause-bisimilar g c).Then-next-count) (
       slice_index c.loop-blocks.blocks.items,
       made.underway.after,
       subst (λ p. Split g.S.Sense.relation A (slice_index p) (slice_index c.in_ok-next.next.of.items)) c.deref.ensures.value next.split,
-    )
+    ) in
+    IfOk-weaker c.renumber.result _ _
+    (λ q same s t ls lt.
+    let here = same s t (omega (arith, ls, size, next.states)) (omega (arith, lt, size, next.states)) in
+    let moved = subst (λ xs. (slice_index q s ≡ slice_index q t) ↔ (slice_index xs s ≡ slice_index xs t)) value here in
+    (λ e. (all s t ls lt).0 (moved.0 e), λ h. moved.1 ((all s t ls lt).1 h)))
+    c.renumber.ensures.same
 
 pub returns-then-next-count-clause-turns : goal.returns-then-next-count-clause-turns
 returns-then-next-count-clause-turns g c =
     let d = (goal.at.returns-then-next-count-clause-turns g c).Then-next-count in
-    (suc c.loop-blocks.invariant.made.rounds, few g d, turns g d, costs g d)
+    on_ok_from c.renumber.result (suc c.loop-blocks.invariant.made.rounds, few g d, turns g d, costs g d)
+
+pub returns-then-next-count-clause-err : goal.returns-then-next-count-clause-err
+returns-then-next-count-clause-err g c =
+    let d = (goal.at.returns-then-next-count-clause-err g c).Then-next-count in
+    let k = suc c.loop-blocks.invariant.made.rounds in
+    let paid = costs g d in
+    on_err_from c.renumber.result
+    (k, few g d, record { rounds = paid.rounds; at_least = omega (arith, paid.at_least); at_most = paid.at_most })
 
 pub loop-blocks-smaller : goal.loop-blocks-smaller
 loop-blocks-smaller g c =
