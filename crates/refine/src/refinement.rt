@@ -39,12 +39,39 @@ pub fn round<S: Sense, M: Meter>(
     // After a refusal
     ensures err { OnErr result (CostsUpTo (M.counted m.old) (M.counted m.new) 1 (length l.now.places)) }
 {
-    lts::rows_are_steps();
-    l.known();
     let mut marks = Marks::new(alloc, l.states())?;
     let mut signatures = Signatures::new(alloc, l.states())?;
+    round_in::<S, M>(l, p, &mut marks, &mut signatures, m)
+}
+
+/// One round in these marks and signatures.
+///
+/// Fails if there is no memory for it. At most one round was begun then, with at most its visits.
+fn round_in<S: Sense, M: Meter>(
+    l: &Lts<M>,
+    p: &Partition,
+    marks: &mut Marks,
+    signatures: &mut Signatures,
+    m: &mut M,
+) -> Result<Partition, Memory>
+    requires states { length p.now ≡ l.now.states }
+    requires marks { marks.old ≡ l.now.states }
+    requires signatures { length signatures.old ≡ l.now.states }
+    requires room { HasRoomFor (M.counted m.old) 1 (length l.now.places) }
+
+    // Once it is done
+    ensures states { IfOk result (λ q. length q ≡ l.now.states) }
+    ensures split { IfOk result (λ q. Split S.relation (system_of l.now) (slice_index p.now) (slice_index q)) }
+    ensures numbered { IfOk result IsNumbered }
+    ensures costs { let n = length l.now.places in OnOk result (Costs (M.counted m.old) (M.counted m.new) 1 n n) }
+
+    // After a refusal
+    ensures err { OnErr result (CostsUpTo (M.counted m.old) (M.counted m.new) 1 (length l.now.places)) }
+{
+    lts::rows_are_steps();
+    l.known();
     m.start_round();
-    signatures.fill::<S, M>(l, p, &mut marks, m)?;
+    signatures.fill::<S, M>(l, p, marks, m)?;
     signatures.split(p)
 }
 
@@ -69,22 +96,43 @@ pub fn refine<S: Sense, M: Meter>(alloc: Global, l: &Lts<M>, m: &mut M) -> Resul
 {
     let mut marks = Marks::new(alloc, l.states())?;
     let mut signatures = RoundSignatures::new(alloc, l.states())?;
+    refine_in::<S, M>(alloc, l, &mut marks, &mut signatures, m)
+}
+
+/// Rounds up to the last one in these marks and lists, which are used again from round to round.
+///
+/// Fails if there is no memory for it. At most as many rounds as there are states were begun then, with at most their
+/// visits.
+fn refine_in<S: Sense, M: Meter>(
+    alloc: Global,
+    l: &Lts<M>,
+    marks: &mut Marks,
+    signatures: &mut RoundSignatures,
+    m: &mut M,
+) -> Result<Partition, Memory>
+    requires marks { marks.old ≡ l.now.states }
+    requires lists { AreNumbered signatures.old.lists signatures.old.numbers.items }
+    requires signatures { length signatures.old.numbers.items ≡ l.now.states }
+    requires room { HasRoomFor (M.counted m.old) l.now.states (l.now.states * length l.now.places) }
+
+    // Once it is done
+    ensures states { IfOk result (λ p. length p ≡ l.now.states) }
+    ensures bisimilar { let A = system_of l.now in IfOk result (λ p. EachTwo A (λ s t.
+        (slice_index p s ≡ slice_index p t) ↔ Bisimilar S.relation A s A t)) }
+    ensures numbered { IfOk result IsNumbered }
+    ensures turns { let n = length l.now.places in OnOk result ((r : ℕ) × (r ≤ l.now.states)
+        × Turns S.relation (system_of l.now) r × Costs (M.counted m.old) (M.counted m.new) r (r * n) (r * n)) }
+
+    // After a refusal
+    ensures err { OnErr result (CostsUpTo (M.counted m.old) (M.counted m.new) l.now.states (length l.now.places)) }
+{
     let mut blocks = one_block(alloc, l.states())?;
     let mut count = 1;
     let mut low = 0;
     theory::refinement_goes_on();
     theory::final_blocks_are_bisimilarity();
     loop {
-        let next = next_round::<S, M>(
-            alloc,
-            l,
-            &blocks,
-            count,
-            low,
-            &mut marks,
-            &mut signatures,
-            m,
-        )?;
+        let next = next_round::<S, M>(alloc, l, &blocks, count, low, marks, signatures, m)?;
         if next.count == count {
             return renumber(alloc, &next.of, next.count);
         }

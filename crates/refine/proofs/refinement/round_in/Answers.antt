@@ -3,7 +3,7 @@ use Rattle.std.proofs.lemmas.Result.{IfOk-weaker}
 use Rattle.refine.specs.Signed.{signature_at}
 use Rattle.refine.proofs.Signing.{signed_is_split}
 use Rattle.refine.proofs.Spending.{begun_up_to, on_ok_from, on_err_from}
-use Rattle.refine.proofs.refinement.round.Goals as goal
+use Rattle.refine.proofs.refinement.round_in.Goals as goal
 
 pub returns-in_err-fill-clause-err : goal.returns-in_err-fill-clause-err
 returns-in_err-fill-clause-err g c = let most = begun_up_to _ _ _ _ _ c.start_round.ensures c.fill.ensures.visits in search rules

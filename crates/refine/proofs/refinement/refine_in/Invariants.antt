@@ -4,7 +4,7 @@ use Rattle.partition.specs.Partition.{AreBlocks}
 use Rattle.refine.specs.EachList.{AreNumbered}
 use Rattle.refine.specs.Settled.{Settled}
 use Rattle.refine.specs.Rounds.{Made}
-use Rattle.refine.proofs.refinement.refine.Given as goal
+use Rattle.refine.proofs.refinement.refine_in.Given as goal
 
 abbrev pub invariant-loop-blocks : goal.invariant-loop-blocks
 invariant-loop-blocks g l = record {

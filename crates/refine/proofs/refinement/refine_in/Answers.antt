@@ -8,24 +8,24 @@ use Rattle.refine.specs.Rounds.{Made}
 use Rattle.refine.proofs.Spending.{costs_more, costs_up_to_more, room_for_more, on_ok_from, on_err_from}
 use Rattle.partition.proofs.Renumbering.{one_block}
 use Rattle.refine.proofs.Settling.{settled_first}
-use Rattle.refine.proofs.refinement.refine.Goals as goal
-use Rattle.refine.proofs.refinement.refine.Given.{Over}
-use Rattle.refine.proofs.refinement.refine.Goals.{Then-next-count, Else-next-count}
+use Rattle.refine.proofs.refinement.refine_in.Goals as goal
+use Rattle.refine.proofs.refinement.refine_in.Given.{Over}
+use Rattle.refine.proofs.refinement.refine_in.Goals.{Then-next-count, Else-next-count}
 
 pub loop-blocks-init : goal.loop-blocks-init
 loop-blocks-init g c =
     let A = system_of c.args.l.now in
     let blocks = c.in_ok-blocks.blocks.items in
     let size = c.in_ok-blocks.ensures.states in
-    let one = one_block A.states blocks c.states-3.result (sym c.states-3.ensures.value) c.in_ok-blocks.ensures.one in
+    let one = one_block A.states blocks c.states.result (sym c.states.ensures.value) c.in_ok-blocks.ensures.one in
     let begun = c.refinement_goes_on.ensures.begun g.S.Sense.relation A (slice_index blocks) c.states.ensures.lts.system one in
     record {
-      states = size ∙ c.states-3.ensures.value;
+      states = size ∙ c.states.ensures.value;
       blocks = c.in_ok-blocks.ensures.blocks;
       settled = settled_first g.S.Sense.relation A (slice_index blocks);
-      marks = c.in_ok-marks.ensures ∙ c.states.ensures.value;
-      lists = c.in_ok-signatures.ensures.numbered;
-      signatures = c.in_ok-signatures.ensures.states ∙ c.states-2.ensures.value;
+      marks = c.requires.marks;
+      lists = c.requires.lists;
+      signatures = c.requires.signatures;
       made = record { rounds = 0; underway = begun; costs = search rules };
     }
 
