@@ -13,8 +13,11 @@ use crate::parts::Parts;
 use growth::Memory;
 use std::alloc::Global;
 
-/// A difference is noted if the list has over so many times as many pairs.
-const NEARLY: u128 = 8;
+/// A shorter list is read again in less time than a difference is looked up.
+const LONG: u128 = 64;
+
+/// A longer difference is not noted: notes take memory in proportion to the lists alone.
+const NEARLY: usize = 8;
 
 /// The differences that were noted.
 #[derive(Drop)]
@@ -40,7 +43,7 @@ pub(crate) fn no_differences(alloc: Global) -> Result<Differences, Memory>
     })
 }
 
-/// Notes what the list number `k` has and the root of the list number `j` lacks, if it is short and not noted yet.
+/// Notes what the list number `k`, a long one, has and the root of the list number `j` lacks, if it is short and not noted yet.
 ///
 /// Fails if there is no memory for it.
 pub(crate) fn note(
@@ -54,6 +57,9 @@ pub(crate) fn note(
     requires differences { AreDifferences lists.now differences.old.numbers differences.old.pairs }
     ensures { AreDifferences lists.now differences.new.numbers differences.new.pairs }
 {
+    if lists.size(k) < LONG {
+        return Ok(());
+    }
     let last = root(lists, j);
     if root(lists, k) == last {
         return Ok(());
@@ -63,7 +69,7 @@ pub(crate) fn note(
     }
     differences.missing.clear();
     lists.append_missing(k, last, &mut differences.missing)?;
-    if lists.size(k) / NEARLY < differences.missing.len() as u128 {
+    if differences.missing.len() > NEARLY {
         return Ok(());
     }
     if differences.pairs.len() as usize >= MOST_LISTS {
@@ -91,6 +97,9 @@ pub(crate) fn append_differing(
     ensures { OnOk result ((z : ℕ × ℕ) → Contains pairs.new.items z
         ↔ (Contains pairs.old.items z ⊎ (Contains (list_at lists.now j) z × ¬ Contains (list_at lists.now k) z))) }
 {
+    if lists.size(j) < LONG {
+        return lists.append_missing(j, k, pairs);
+    }
     let last = root(lists, k);
     if root(lists, j) == last {
         return lists.append_missing(j, k, pairs);
