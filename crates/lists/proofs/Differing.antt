@@ -15,13 +15,6 @@ differing_lacks list other less difference old new z part is has = (
   λ o. has.1 (elim o [ inl p ↦ inl p | inr m ↦ inr (is.1 (m.0, λ d. m.1 (part d)), m.1) ]),
 )
 
--- differences of no lists
-pub AreDifferences-none : (lists : List (List (ℕ × ℕ))) (numbers : List ((ℕ × ℕ) × ℕ)) (differences : List (List (ℕ × ℕ))) → numbers ≡ []
-    → AreDifferences lists numbers differences
-AreDifferences-none lists numbers differences none z c =
-    let (k, low, e) : Contains {X = (ℕ × ℕ) × ℕ} [] z = subst (λ l. Contains l z) none c in
-    absurd (omega (arith, low))
-
 module _ (lists : List (List (ℕ × ℕ))) (numbers : List ((ℕ × ℕ) × ℕ)) (differences : List (List (ℕ × ℕ))) (are : AreDifferences lists numbers differences)
     (list : List (ℕ × ℕ)) where
   -- one list more

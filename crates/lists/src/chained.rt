@@ -108,16 +108,6 @@ impl Chained {
         size
     }
 
-    /// How many pairs the list number `k` adds to its base: none if it stands alone.
-    pub fn addition(&self, k: u32) -> usize
-        requires { k < length self.now }
-    {
-        if base_of(&self.bases, k) == EMPTY {
-            return 0;
-        }
-        self.parts.of(k).len()
-    }
-
     /// The fingerprint of the list number `k`.
     pub fn fingerprint(&self, k: u32) -> u64
         requires { k < length self.now }

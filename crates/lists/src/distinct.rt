@@ -83,13 +83,6 @@ impl Distinct {
         self.lists.size(k)
     }
 
-    /// How many pairs the list number `k` adds to its base: none if it stands alone.
-    pub fn addition(&self, k: u32) -> usize
-        requires { k < length self.now }
-    {
-        self.lists.addition(k)
-    }
-
     /// Appends those of the pairs that the list number `k` lacks to `out`.
     ///
     /// Fails if there is no memory for them.

@@ -17,9 +17,6 @@ pub const EMPTY: u32 = 0;
 /// The most lists: the empty one, one for each of 20,000,000 transitions, and two for each of 2,000,000 states.
 pub const MOST_LISTS: usize = 24_000_001;
 
-/// A list with more pairs is noted if it adds over so many times as many to its root, since to make it again copies those.
-const LONG: usize = 8;
-
 /// Different lists of pairs in strictly rising order, so that equal lists have equal numbers. The list number `EMPTY` is the
 /// empty one.
 #[derive(Drop)]
@@ -116,30 +113,25 @@ impl Lists {
         self.with(union, pairs)
     }
 
-    /// The number of the list that has the pairs of the list number `k` and these. If it is dear to make, those that the list
-    /// lacks are a list too, and the union of both is noted.
+    /// The number of the list that has the pairs of the list number `k` and these.
     ///
     /// Fails if there is no memory for it.
     fn with(&mut self, k: u32, pairs: &[(u32, u32)]) -> Result<u32, Memory>
-        requires few { length self.old + 2 ≤ MOST_LISTS }
+        requires few { length self.old < MOST_LISTS }
         requires list { k < length self.old }
         requires rising { IsStrictlySortedBy pair_cmp pairs.now }
         ensures within { IfOk result (λ i. i < length self.new) }
         ensures exactly { IfOk result (λ i. (z : ℕ × ℕ) → Contains (list_at self.new i) z
             ↔ (Contains pairs.now z ⊎ Contains (list_at self.old k) z)) }
         ensures grow { Grow self.old self.new }
-        ensures few { length self.new ≤ length self.old + 2 }
+        ensures few { length self.new ≤ length self.old + 1 }
     {
         self.known();
         if k == EMPTY {
             return self.push(pairs);
         }
         lack(&self.lists, k, pairs, &mut self.missing)?;
-        if self.lists.addition(k) / LONG <= self.missing.len() {
-            return self.lists.add(k, &self.missing);
-        }
-        let own = self.lists.push(&self.missing)?;
-        self.both(k, own)
+        self.lists.add(k, &self.missing)
     }
 
     /// The number of the list that has the pairs of these lists: of the longest and each other one in turn.

@@ -10,21 +10,6 @@ returns-then-k-eq-EMPTY-clause-exactly c =
     IfOk-weaker c.push.result _ _
     (λ i e z. with_none z _ _ _ (ap (list_at c.args.self.now) c.if-k-eq-EMPTY.true ∙ c.known.ensures.first) e) c.push.ensures.list
 
-pub invariant_of-self-in_err-own : goal.invariant_of-self-in_err-own
-invariant_of-self-in_err-own c = AreUnions-grow c.push-2.ensures.grow c.self.inside.known c.self.invariant
-
-pub invariant_of-self-2 : goal.invariant_of-self-2
-invariant_of-self-2 c = AreUnions-grow c.push-2.ensures.grow c.self.inside.known c.self.invariant
-
-pub returns-clause-exactly : goal.returns-clause-exactly
-returns-clause-exactly c =
-    rw (← c.self.view_is)
-    (IfOk-weaker c.both.result _ _
-    (λ i h z.
-    with_lacked z (list_at c.self.inside.lists c.args.k) _ _ _ _ _ (c.in_ok-own.ensures.grow.same c.args.k (rw c.self.view_is c.requires.list))
-    (c.in_ok-own.ensures.list ∙ c.deref-2.ensures.value) (c.in_ok-lack.ensures.exactly z) (h z))
-    c.both.ensures.exactly)
-
 -- the pairs are added to the list at once
 pub add-requires-clause-addition : goal.add-requires-clause-addition
 add-requires-clause-addition c =
@@ -35,11 +20,11 @@ add-requires-clause-addition c =
     } in
     rw c.deref.ensures.value addition
 
-pub invariant_of-self-then-addition-len : goal.invariant_of-self-then-addition-len
-invariant_of-self-then-addition-len c = AreUnions-grow c.add.ensures.grow c.self.inside.known c.self.invariant
+pub invariant_of-self-2 : goal.invariant_of-self-2
+invariant_of-self-2 c = AreUnions-grow c.add.ensures.grow c.self.inside.known c.self.invariant
 
-pub returns-then-addition-len-clause-exactly : goal.returns-then-addition-len-clause-exactly
-returns-then-addition-len-clause-exactly c =
+pub returns-clause-exactly : goal.returns-clause-exactly
+returns-clause-exactly c =
     let before = list_at c.self.inside.lists c.args.k in
     let missing = c.lack.new.missing.items in
     rw (← c.self.view_is)
