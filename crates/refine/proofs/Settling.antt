@@ -186,9 +186,6 @@ put_whole rel l p s list alone none (inr x) = empty rel x.1
     empty branching (inl still) = absurd still
 
 -- in no list is anything said to be alone
-pub none_alone : (xs : List Bool) (b : ℕ) → xs ≡ [] → IsTrue (slice_index_or xs b false) → ⊥
-none_alone xs b e a = at b (subst (λ ys. IsTrue (slice_index_or ys b false)) e a)
-  where
-    at : (k : ℕ) → IsTrue (slice_index_or [] k false) → ⊥
-    at zero h = false≢true h
-    at (suc k) h = false≢true h
+pub none_alone : (b : ℕ) → IsTrue (slice_index_or [] b false) → ⊥
+none_alone zero h = false≢true h
+none_alone (suc k) h = false≢true h

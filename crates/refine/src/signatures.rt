@@ -91,8 +91,7 @@ impl Signatures {
         ensures marks { marks.new ≡ marks.old }
         ensures signatures { length self.new ≡ length self.old }
     {
-        let none: Vec<bool> = Vec::new(self.alloc);
-        if let Err(refusal) = self.round.sign::<S, M>(l, p.blocks(), 0, &none, marks, m) {
+        if let Err(refusal) = self.round.sign::<S, M>(l, p.blocks(), 0, &[], marks, m) {
             self.round.clear();
             self.whole.clear();
             return Err(refusal);

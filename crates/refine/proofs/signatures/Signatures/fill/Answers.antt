@@ -1,4 +1,4 @@
-use Rattle.std.proofs.Common.{◌≡◌, ◌∙◌, IsTrue, false, slice_index, slice_index_or, length, ap, sym, subst, arith}
+use Rattle.std.proofs.Common.{◌≡◌, ◌∙◌, IsTrue, false, [], slice_index, slice_index_or, length, ap, sym, subst, arith}
 use Rattle.std.proofs.lemmas.List.{length-map}
 use Rattle.lists.specs.Lists.{list_at}
 use Rattle.refine.specs.EachList.{list_of}
@@ -18,6 +18,6 @@ returns-clause-signed g c s ls =
     (sym (signature_at-list whole numbers s (omega (arith, ls, states, c.sign.ensures.states))
     ∙ ap (λ xs. list_of xs numbers s) c.in_default-make_whole.ensures))
     (put_whole g.S.Sense.relation c.args.l.now c.args.p.now s (list_of c.sign.new.self.lists numbers s) _
-    (none_alone c.deref.result.now (slice_index c.args.p.now s) (c.deref.ensures.value ∙ c.new-none.ensures.items))
-    (subst (λ p. IsPut g.S.Sense.relation c.args.l.now p 0 (IsTrue (slice_index_or c.deref.result.now (slice_index p s) false)) s
+    (none_alone (slice_index c.args.p.now s))
+    (subst (λ p. IsPut g.S.Sense.relation c.args.l.now p 0 (IsTrue (slice_index_or [] (slice_index p s) false)) s
     (list_of c.sign.new.self.lists numbers s)) c.blocks-2.ensures.blocks (c.in_default.ensures.signed s ls)))
