@@ -36,5 +36,6 @@ returns-clause-pairs g c =
     let all : take (c.loop-k.k - c.row-start.result.0) row ≡ row = take_all _ row (omega (arith, c.row-start.ensures.count, c.loop-k-test.false)) in
     c.loop-k.invariant.pairs ∙ ap (map (pair_under c.args.p.now)) all
 
+-- The checker finds this one; it stands here so that a wrong body is refused at once.
 pub returns-clause-visits : goal.returns-clause-visits
 returns-clause-visits g c = search rules
