@@ -6,7 +6,7 @@ use Rattle.std.proofs.lemmas.List.{length-set, length_push, get_or_append_left, 
 use Rattle.std.proofs.lemmas.List.Elements.{All-push}
 use Rattle.inert.specs.Ahead.{IsTrail}
 use Rattle.inert.specs.declared.walk.Mark.{Mark}
-use Rattle.inert.proofs.Marks.{mark_other}
+use Rattle.inert.proofs.parts.Marks.{mark_other}
 
 pub IsTrail-mark : (marks : List Mark) (trail trail' : List ℕ) (s : ℕ) (m : Mark) → s < length marks → trail' ≡ trail ++ s ∷ [] → IsTrail marks trail
     → IsTrail (set marks s m) trail'

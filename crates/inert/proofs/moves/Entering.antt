@@ -1,0 +1,211 @@
+-- The walk after a state was entered.
+use Rattle.std.proofs.Common.{◌≡◌, ◌≢◌, ℕ, ◌+◌, ◌-◌, ◌<◌, ◌≤◌, Bool, List, length, slice_index, refl, sym, ◌∙◌, ap, subst, subst₂, inl, inr, arith}
+use Rattle.std.proofs.lemmas.Bool.{cases_eq, cases_lt}
+use Rattle.std.proofs.lemmas.List.{get_or_append_left, get_or_push, length_push, length-set}
+use Rattle.std.proofs.lemmas.List.Elements.{All-push}
+use Rattle.std.proofs.lemmas.List.Quantifiers.{all_pairs_push}
+use Rattle.theory.specs.Blocks.{Inert}
+use Rattle.lts.specs.Lts.{Grouped, system_of, IsRow}
+use Rattle.inert.specs.Search.{Search, Laws, mark_at, frame_at, no_frame, here, root_at, no_root, Ties, IsBefore, IsRoot, IsFrame, IsEntered, IsAhead, AreOpen, AreSigned, AreRoots, AreFrames, AreAccounted, Connects, Walks}
+use Rattle.inert.specs.Moves.{entered}
+use Rattle.inert.specs.declared.walk.Mark.{Mark}
+use Rattle.inert.specs.declared.walk.Mark.TheVariants.{Unseen, Open, Finished}
+use Rattle.inert.specs.declared.walk.Frame.{Frame}
+use Rattle.inert.specs.declared.walk.Root.{Root}
+use Rattle.inert.proofs.parts.Marks.{place_same, not_both, not_unseen, not_finished, mark_set, mark_other}
+use Rattle.inert.proofs.parts.Counting.{unseen-marked}
+use Rattle.inert.proofs.invariant.Standing.{IsFrame-moved, ties, frames_some, roots_some, root_low}
+use Rattle.inert.proofs.invariant.Keeping.{Keeps, accounted_still, sound_still}
+
+module _ (laws : Laws) {l : Grouped} {blocks : List ℕ} {alone : List Bool} {lists : List (List (ℕ × ℕ))} {w : Search} (walks : Walks l blocks alone lists w)
+    {t start end : ℕ} (within : t < length w.marks) (unseen : mark_at w.marks t ≡ Unseen) (row : IsRow l.places t start end) where
+  abbrev pub Entered : Search
+  Entered = entered t start end w
+
+  abbrev n : ℕ
+  n = length w.stack
+
+  abbrev NewFrame : Frame
+  NewFrame = record { place = length w.stack; next = start; end = end }
+
+  abbrev NewRoot : Root
+  NewRoot = record { place = length w.stack; items = length w.items }
+
+  -- the stack, the frames and the marks
+  size : length Entered.stack ≡ n + 1
+  size = length_push w.stack t
+
+  state_same : (p : ℕ) → p < n → slice_index Entered.stack p ≡ slice_index w.stack p
+  state_same p h = get_or_append_left w.stack _ _ p h
+
+  state_new : slice_index Entered.stack n ≡ t
+  state_new = get_or_push w.stack t _ n refl
+
+  frames_size : length Entered.frames ≡ length w.frames + 1
+  frames_size = length_push w.frames NewFrame
+
+  frame_same : (i : ℕ) → i < length w.frames → frame_at Entered.frames i ≡ frame_at w.frames i
+  frame_same i h = get_or_append_left w.frames _ _ i h
+
+  frame_new : frame_at Entered.frames (length w.frames) ≡ NewFrame
+  frame_new = get_or_push w.frames NewFrame _ (length w.frames) refl
+
+  self : mark_at Entered.marks t ≡ Open n
+  self = mark_set w.marks t (Open n) within
+
+  others : (s : ℕ) → s ≢ t → mark_at Entered.marks s ≡ mark_at w.marks s
+  others = mark_other w.marks t (Open n)
+
+  -- a state that was seen keeps its mark
+  mark_still : (s : ℕ) (m : Mark) → mark_at w.marks s ≡ m → ¬ (m ≡ Unseen) → mark_at Entered.marks s ≡ m
+  mark_still s m is seen = others s (λ e. seen (sym is ∙ ap (mark_at w.marks) e ∙ unseen)) ∙ is
+
+  keeps : Keeps w Entered n
+  keeps = record {
+    within = omega arith;
+    states = state_same;
+    below = λ p q h low up. low;
+    up = λ p q h up. All-push (λ r. r.place ≤ p → r.place ≤ q) w.roots NewRoot up (λ le. absurd (omega (arith, le, h)));
+    of = λ j p low h of. All-push (λ r. (r.place ≤ p → r.items ≤ j) × (p < r.place → j < r.items)) w.roots NewRoot of (λ le. absurd (omega (arith, le, h)), λ _. low);
+    items = λ j p low h of. (low, refl);
+    opened = λ s p h is. mark_still s (Open p) is (not_unseen p);
+    finished = λ s k is. mark_still s (Finished k) is (not_finished k);
+  }
+
+  -- the walk went to the state t from where it was
+  pub entered_met : 0 < length w.frames → IsEntered Entered (here w) t
+  entered_met some =
+      let e : length w.frames - 1 + 1 ≡ length w.frames = omega (arith, some) in (
+        length w.frames - 1,
+        omega (arith, some, frames_size),
+        ap (λ x. x.place) (frame_same (length w.frames - 1) (omega (arith, some))),
+        ap (λ i. slice_index Entered.stack (frame_at Entered.frames i).place) e ∙ ap (λ x. slice_index Entered.stack x.place) frame_new ∙ state_new,
+      )
+
+  entered_still : (p u : ℕ) → IsEntered w p u → IsEntered Entered p u
+  entered_still p u (i, low, is, to) = (
+    i,
+    omega (arith, low, frames_size),
+    ap (λ x. x.place) (frame_same i (omega (arith, low))) ∙ is,
+    ap (λ x. slice_index Entered.stack x.place) (frame_same (i + 1) low) ∙ state_same (frame_at w.frames (i + 1)).place (walks.frames.each (i + 1) no_frame low).on_stack ∙ to,
+  )
+
+  ahead_still : (p k : ℕ) → IsAhead w p k → IsAhead Entered p k
+  ahead_still p k (i, low, is, ahead) = (
+    i,
+    omega (arith, low, frames_size),
+    ap (λ x. x.place) (frame_same i low) ∙ is,
+    subst (λ x. x.next ≤ k) (sym (frame_same i low)) ahead,
+  )
+
+  opened : AreOpen Entered.marks Entered.stack
+  opened = record {
+    marked = λ p h. elim (cases_lt p n) [
+      | inl low ↦ ap (mark_at Entered.marks) (state_same p low) ∙ mark_still (slice_index w.stack p) (Open p) (walks.opened.marked p low) (not_unseen p)
+      | inr high ↦
+          let e : n ≡ p = omega (arith, h, high, size) in
+          subst (λ x. mark_at Entered.marks (slice_index Entered.stack x) ≡ Open x) e (ap (mark_at Entered.marks) state_new ∙ self)
+    ];
+    only = λ s p is. elim (cases_eq s t) [
+      | inl e ↦
+          let at : p ≡ n = place_same p n (sym is ∙ ap (mark_at Entered.marks) e ∙ self) in
+          (omega (arith, at, size), ap (slice_index Entered.stack) at ∙ state_new ∙ sym e)
+      | inr d ↦
+          let was = walks.opened.only s p (sym (others s d) ∙ is) in
+          (omega (arith, was.0, size), state_same p was.0 ∙ was.1)
+    ];
+  }
+
+  signed : AreSigned l blocks alone lists Entered.marks
+  signed s k is = elim (cases_eq s t) [
+    | inl e ↦ absurd (not_both n k (sym self ∙ ap (mark_at Entered.marks) (sym e) ∙ is))
+    | inr d ↦ walks.signed s k (sym (others s d) ∙ is)
+  ]
+
+  first : (0 < length Entered.roots) × ((root_at Entered.roots 0).place ≡ 0)
+  first = (
+    let longer = length_push w.roots NewRoot in omega (arith, longer),
+    elim (cases_eq n 0) [
+      | inl e ↦
+          let none : length w.roots ≡ 0 = elim (cases_eq (length w.roots) 0) [
+            | inl zero ↦ zero
+            | inr d ↦ let low = root_low walks 0 no_root (omega (arith, d)) in absurd (omega (arith, low, e))
+          ] in
+          ap (λ r. r.place) (get_or_push w.roots NewRoot no_root 0 none) ∙ e
+      | inr d ↦
+          let some : 0 < n = omega (arith, d) in
+          ap (λ r. r.place) (get_or_append_left w.roots _ no_root 0 (roots_some walks some)) ∙ (walks.roots.first some).1
+    ],
+  )
+
+  roots : AreRoots Entered
+  roots = record {
+    first = λ _. first;
+    rising = all_pairs_push IsBefore w.roots NewRoot walks.roots.rising (λ i d h. (root_low walks i d h, (walks.roots.each i d h).within));
+    each = All-push (IsRoot Entered.frames Entered.items) w.roots NewRoot
+        (λ i d h.
+        let root = walks.roots.each i d h in
+        let (j, low, is) = root.framed in
+        record { framed = (j, omega (arith, low, frames_size), ap (λ x. x.place) (frame_same j low) ∙ is); within = root.within })
+        (record { framed = (length w.frames, omega (arith, frames_size), ap (λ x. x.place) frame_new); within = omega arith });
+  }
+
+  frames : AreFrames l Entered.stack Entered.frames
+  frames = record {
+    rising = all_pairs_push (λ x y. x.place < y.place) w.frames NewFrame walks.frames.rising (λ i d h. (walks.frames.each i d h).on_stack);
+    each = All-push (IsFrame l Entered.stack) w.frames NewFrame
+        (λ i d h. let frame = walks.frames.each i d h in let low = frame.on_stack in IsFrame-moved frame (omega (arith, low, size)) (state_same _ low))
+        (record {
+          on_stack = omega (arith, size);
+          start = start;
+          row = subst (λ s. IsRow l.places s start end) (sym state_new) row;
+          first = omega arith;
+          most = let count = row.count in omega (arith, count);
+        });
+  }
+
+  accounted : AreAccounted l blocks lists Entered
+  accounted p k lp lk source = elim (cases_lt p n) [
+    | inl low ↦ accounted_still walks keeps p k low lk source (λ ahead. inl (ahead_still p k ahead)) (λ u e. inr (inr (entered_still p u e)))
+    | inr high ↦
+        let e : p ≡ n = omega (arith, lp, high, size) in
+        let inside = ((row.exactly k lk).0 (source ∙ ap (slice_index Entered.stack) e ∙ state_new)).0 in
+        inl (length w.frames, omega (arith, frames_size), ap (λ y. y.place) frame_new ∙ sym e, subst (λ y. y.next ≤ k) (sym frame_new) inside)
+  ]
+
+  module _ (step : 0 < length w.frames → Inert (system_of l) (slice_index blocks) (slice_index w.stack (here w)) t) where
+    connects : Connects l blocks Entered
+    connects p q lp lq h = elim (cases_lt p n) [
+      | inl low ↦ elim (cases_lt q n) [
+        | inl low' ↦
+            subst₂ (Ties l blocks) (sym (state_same p low)) (sym (state_same q low'))
+            (walks.connects p q low low' (λ i d h'. subst (λ r. r.place ≤ p → r.place ≤ q) (get_or_append_left w.roots _ d i h') (h i d (let longer = length_push w.roots NewRoot in omega (arith, h', longer)))))
+        | inr high' ↦
+            let e : n ≡ q = omega (arith, lq, high', size) in
+            subst₂ (Ties l blocks) (sym (state_same p low)) (sym state_new ∙ ap (slice_index Entered.stack) e)
+            (laws.after (system_of l) (slice_index blocks) _ _ _ (ties walks p low) (step (frames_some walks (omega (arith, low)))))
+      ]
+      | inr high ↦
+          let longer = length_push w.roots NewRoot in
+          let new = ap (λ r. r.place) (get_or_push w.roots NewRoot no_root (length w.roots) refl) in
+          let le = h (length w.roots) no_root (omega (arith, longer)) (omega (arith, new, high)) in
+          let e : p ≡ q = omega (arith, lp, lq, high, le, new, size) in
+          subst (λ x. Ties l blocks (slice_index Entered.stack p) (slice_index Entered.stack x)) e
+          (laws.here (system_of l) (slice_index blocks) (slice_index Entered.stack p))
+    ]
+
+    pub Walks-enter : Walks l blocks alone lists Entered
+    Walks-enter = record {
+      numbers =
+          let fewer = unseen-marked w.marks t (Open n) refl within unseen in
+          let old = walks.numbers.numbers in
+          record { size = length-set w.marks t (Open n) ∙ walks.numbers.size; some = walks.numbers.some; numbers = omega (arith, fewer, old, size) };
+      opened = opened;
+      signed = signed;
+      roots = roots;
+      frames = frames;
+      connects = connects;
+      there = walks.there;
+      sound = λ j lj. sound_still walks keeps j lj (omega (arith, size)) (λ p lp _. lp);
+      accounted = accounted;
+    }
