@@ -68,7 +68,7 @@ module _ {l : Grouped} {blocks : List ℕ} {alone : List Bool} {lists : List (Li
     begins laws new (start, end, row, is) =
         let x : Frame = record { place = length w.stack; next = start; end = end } in
         let fewer = unseen-marked w.marks s (Open (length w.stack)) refl within none in
-        let less = unread-marked l.places w.marks s (Open (length w.stack)) refl within none in
+        let less = unread-marked w.marks s (Open (length w.stack)) refl within none l.places in
         let count = row.count in
         let fits = rests.fits in
         let left = ap (λ y. rest y.frames) rests.empty in
@@ -95,7 +95,7 @@ module _ {l : Grouped} {blocks : List ℕ} {alone : List Bool} {lists : List (Li
     skipped_seen = record { seen = seen_more w.marks s (Finished 0) (not_finished 0) within; found = λ is. not_finished 0 (sym self ∙ is) }
 
     pub row_unread : unread l.places New.marks + length (row_of s l.places) ≡ unread l.places w.marks
-    row_unread = unread-marked l.places w.marks s (Finished 0) refl within none
+    row_unread = unread-marked w.marks s (Finished 0) refl within none l.places
 
     pub skipped_rests : list_at lists 0 ≡ [] → IsKnownAlone blocks alone s → Rests l blocks alone lists New
     skipped_rests first known = record {

@@ -286,7 +286,7 @@ module _ (laws : Laws) {l : Grouped} {blocks : List ℕ} {alone : List Bool} {li
   -- it is lighter by two, and by the items of the component
   pub lighter : weight Closed + (length w.items - c0) + 2 ≤ weight w
   lighter =
-      let same = unseen-same w.marks new_marks marks.size same_unseen in
+      let same = unseen-same w.marks new_marks same_unseen marks.size in
       elim (cases_lt 0 (length Closed.frames)) [
         | inl more ↦ let items = (item_new more).0 in omega (arith, same, size, few, popped_size walks, low_q, items, more)
         | inr none ↦ let items = no_item (omega (arith, none)) in omega (arith, same, size, few, popped_size walks, low_q, items, none)
@@ -295,7 +295,7 @@ module _ (laws : Laws) {l : Grouped} {blocks : List ℕ} {alone : List Bool} {li
   pub Walks-closed : Walks l blocks alone lists Closed
   Walks-closed = record {
     numbers =
-        let same = unseen-same w.marks new_marks marks.size same_unseen in
+        let same = unseen-same w.marks new_marks same_unseen marks.size in
         let room = walks.numbers.numbers in
         record { size = marks.size ∙ walks.numbers.size; some = walks.numbers.some; numbers = omega (arith, same, room, size, low_q) };
     opened = opened;

@@ -6,7 +6,7 @@ use Rattle.lts.specs.Meter.{Counts, Costs}
 use Rattle.lts.specs.Lts.{Grouped, source_of, place_at, IsLts}
 use Rattle.inert.specs.Steps.{IsStep}
 use Rattle.inert.specs.Search.{Search, Laws, frame_at, no_frame, top, Accounted, Walks}
-use Rattle.inert.specs.Moves.{Takes, ahead, Fits, steps, HasRead, GoesOn}
+use Rattle.inert.specs.Moves.{Takes, ahead, steps, HasRead, GoesOn}
 use Rattle.inert.specs.declared.step.Step.{Step}
 use Rattle.inert.specs.declared.step.Step.TheVariants.{Inert}
 use Rattle.inert.specs.declared.walk.Frame.{Frame}
@@ -16,8 +16,7 @@ use Rattle.inert.proofs.moves.Turning.{Walks-next}
 use Rattle.inert.proofs.rows.Taking.{Taken, place_low, source, target_low, taken}
 
 -- from one walk to another one, the last row was read up to place k
-pub record Reads (l : Grouped) (blocks : List ℕ) (alone : List Bool) (lists : List (List (ℕ × ℕ))) (old new : Search) (k : ℕ) : Type 0 where
-  pub on : GoesOn l blocks alone lists old new
+pub record Reads (l : Grouped) (old new : Search) (k : ℕ) : Type 0 where
   pub size : length new.frames ≡ length old.frames
   pub here : top new.frames ≡ record (top old.frames) { next = k }
   pub stack : new.stack ≡ old.stack
@@ -25,26 +24,23 @@ pub record Reads (l : Grouped) (blocks : List ℕ) (alone : List Bool) (lists : 
   pub less : ahead l new + k ≡ ahead l old + (top old.frames).next
 
 -- and a state was entered
-pub record Entered (l : Grouped) (blocks : List ℕ) (alone : List Bool) (lists : List (List (ℕ × ℕ))) (old new : Search) (k : ℕ) : Type 0 where
-  pub on : GoesOn l blocks alone lists old new
+pub record Entered (l : Grouped) (old new : Search) (k : ℕ) : Type 0 where
   pub size : length new.frames ≡ length old.frames + 1
   pub forward : (top old.frames).next < k
   pub less : ahead l new + k ≡ ahead l old + (top old.frames).next
 
-pub reads_none : {l : Grouped} {blocks : List ℕ} {alone : List Bool} {lists : List (List (ℕ × ℕ))} {w : Search} → Walks l blocks alone lists w → Fits l (length lists) w
-    → Reads l blocks alone lists w w (top w.frames).next
-reads_none walks fits = record { on = record { walks = walks; fits = fits; seen = λ s h. h }; size = refl; here = refl; stack = refl; forward = omega arith; less = refl }
+pub reads_none : (l : Grouped) (w : Search) → Reads l w w (top w.frames).next
+reads_none l w = record { size = refl; here = refl; stack = refl; forward = omega arith; less = refl }
 
-pub entered_steps : {l : Grouped} {blocks : List ℕ} {alone : List Bool} {lists : List (List (ℕ × ℕ))} {old new : Search} {k : ℕ} → Entered l blocks alone lists old new k
-    → steps l new < steps l old
+pub entered_steps : {l : Grouped} {old new : Search} {k : ℕ} → Entered l old new k → steps l new < steps l old
 entered_steps entered =
     let size = entered.size in
     let less = entered.less in
     let forward = entered.forward in
     omega (arith, size, less, forward)
 
-module _ {l : Grouped} {blocks : List ℕ} {alone : List Bool} {lists : List (List (ℕ × ℕ))} {first w : Search} {k : ℕ} (reads : Reads l blocks alone lists first w k)
-    (some : 0 < length first.frames) where
+module _ {l : Grouped} {blocks : List ℕ} {alone : List Bool} {lists : List (List (ℕ × ℕ))} {first w : Search} {k : ℕ} (on : GoesOn l blocks alone lists first w)
+    (reads : Reads l first w k) (some : 0 < length first.frames) where
   now_some : 0 < length w.frames
   now_some = let size = reads.size in omega (arith, size, some)
 
@@ -57,7 +53,7 @@ module _ {l : Grouped} {blocks : List ℕ} {alone : List Bool} {lists : List (Li
   -- the row is read where no more is left
   pub read_all : ¬ (k < (top first.frames).end) → HasRead w
   read_all over =
-      let most = (reads.on.walks.frames.each (length w.frames - 1) no_frame (omega (arith, now_some))).most in
+      let most = (on.walks.frames.each (length w.frames - 1) no_frame (omega (arith, now_some))).most in
       omega (arith, most, next_is, end_is, over)
 
   pub read_steps : steps l w ≤ steps l first
@@ -69,7 +65,7 @@ module _ {l : Grouped} {blocks : List ℕ} {alone : List Bool} {lists : List (Li
     now_more = omega (arith, end_is, more)
 
     pub place_below : k < length l.places
-    place_below = place_low laws lts reads.on.walks now_some next_is now_more
+    place_below = place_low laws lts on.walks now_some next_is now_more
 
     module _ (block : ℕ) (is_block : block ≡ slice_index blocks (slice_index first.stack (top first.frames).place)) (step : Step)
         (is_step : IsStep l blocks block (place_at l.places k) step) where
@@ -77,17 +73,17 @@ module _ {l : Grouped} {blocks : List ℕ} {alone : List Bool} {lists : List (Li
       goes_low t e =
           let is : IsStep l blocks block (place_at l.places k) (Inert t) = subst (IsStep l blocks block (place_at l.places k)) e is_step in
           let same = is.1 in
-          omega (arith, target_low laws lts reads.on.walks now_some next_is now_more, same)
+          omega (arith, target_low laws lts on.walks now_some next_is now_more, same)
 
       module _ (m : Search) (enters : Bool) (takes : Takes l.places step w m enters) (i : ℕ) (last : i ≡ length first.frames - 1) where
         same_block : block ≡ slice_index blocks (source_of (place_at l.places k))
         same_block =
             is_block ∙ ap (slice_index blocks) (ap (slice_index first.stack) (sym (ap (λ y. y.place) reads.here)) ∙ ap (λ xs. slice_index xs (top w.frames).place) (sym reads.stack)
-            ∙ sym (source laws lts reads.on.walks now_some next_is now_more))
+            ∙ sym (source laws lts on.walks now_some next_is now_more))
 
-        took : Taken laws lts reads.on.walks now_some next_is now_more m enters
+        took : Taken laws lts on.walks now_some next_is now_more m enters
         took =
-            taken laws lts reads.on.walks now_some next_is now_more step m enters (subst (λ b. IsStep l blocks b (place_at l.places k) step) same_block is_step) takes
+            taken laws lts on.walks now_some next_is now_more step m enters (subst (λ b. IsStep l blocks b (place_at l.places k) step) same_block is_step) takes
 
         pub still_there : i < length m.frames
         still_there = let size = reads.size in elim (true_or_not enters) [
@@ -121,23 +117,22 @@ module _ {l : Grouped} {blocks : List ℕ} {alone : List Bool} {lists : List (Li
           size : length New.frames ≡ length m.frames
           size = length-set m.frames i x
 
-          on : GoesOn l blocks alone lists first New
-          on = record {
+          pub goes_on : GoesOn l blocks alone lists first New
+          goes_on = record {
             walks = moved;
-            fits = let before = reads.on.fits in let heavier = took.heavier in omega (arith, before, moved_ahead, heavier, size);
-            seen = λ s h. reads.on.seen s (took.seen s h);
+            fits = let before = on.fits in let heavier = took.heavier in omega (arith, before, moved_ahead, heavier, size);
+            seen = λ s h. on.seen s (took.seen s h);
           }
 
           less : ahead l New + (k + 1) ≡ ahead l first + (top first.frames).next
           less = let before = reads.less in omega (arith, moved_ahead, before)
 
-          pub read_more : ¬ IsTrue enters → Reads l blocks alone lists first New (k + 1)
+          pub read_more : ¬ IsTrue enters → Reads l first New (k + 1)
           read_more stay =
               let same = size ∙ ap length (took.still stay).0 ∙ reads.size in
               let top_is : top New.frames ≡ x = ap (frame_at New.frames) (let e : length New.frames - 1 ≡ i = omega (arith, same, last) in e) ∙ get_or-set_same m.frames i x _ still_there in
               let old : frame_at m.frames i ≡ record (top first.frames) { next = k } = same_frame ∙ reads.here in
               record {
-                on = on;
                 size = same;
                 here = top_is ∙ is ∙ (λ j. record { place = (old j).place; next = k + 1; end = (old j).end });
                 stack = (took.still stay).1 ∙ reads.stack;
@@ -145,9 +140,8 @@ module _ {l : Grouped} {blocks : List ℕ} {alone : List Bool} {lists : List (Li
                 less = less;
               }
 
-          pub read_entered : IsTrue enters → Entered l blocks alone lists first New (k + 1)
+          pub read_entered : IsTrue enters → Entered l first New (k + 1)
           read_entered went = record {
-            on = on;
             size = let longer = took.longer went in let same = reads.size in omega (arith, size, longer, same);
             forward = let before = reads.forward in omega (arith, before);
             less = less;

@@ -1,9 +1,9 @@
 -- The walk after it went back from its last frame, the row of which was read.
-use Rattle.std.proofs.Common.{true, ◌≡◌, ◌≢◌, ◌⊎◌, ℕ, ◌-◌, ◌<◌, ◌≤◌, Bool, List, [], ◌∷◌, ◌++◌, length, take, slice_index, refl, sym, ◌∙◌, ap, subst, inl, inr, arith}
+use Rattle.std.proofs.Common.{true, ◌≡◌, ◌≢◌, ◌⊎◌, ℕ, ◌<◌, ◌≤◌, Bool, List, [], ◌∷◌, ◌++◌, length, take, slice_index, refl, sym, ◌∙◌, ap, subst, inl, inr, arith}
 use Rattle.std.proofs.lemmas.Bool.{cases_lt, false≢true}
 use Rattle.std.proofs.lemmas.List.{append-nil, length-drop}
 use Rattle.lts.specs.Lts.{Grouped, IsLts}
-use Rattle.inert.specs.Search.{Search, Laws, mark_at, frame_at, here, last, IsSigned, Walks}
+use Rattle.inert.specs.Search.{Search, Laws, mark_at, here, last, IsSigned, Walks}
 use Rattle.inert.specs.Moves.{Closes, popped, ahead, Fits, HasRead, GoesOn}
 use Rattle.inert.specs.Ahead.{is_unseen, rest}
 use Rattle.inert.specs.declared.walk.Mark.{Mark}
@@ -24,7 +24,7 @@ unseen_is (Finished k) e = absurd (false≢true e)
 module _ {l : Grouped} {blocks : List ℕ} {alone : List Bool} {lists : List (List (ℕ × ℕ))} {w : Search} (walks : Walks l blocks alone lists w) (fits : Fits l (length lists) w)
     (some : 0 < length w.frames) (read : HasRead w) where
   popped_rest : rest (popped w).frames ≡ rest w.frames
-  popped_rest = rest-cut w.frames (length w.frames - 1) (λ p from low. subst (λ i. (frame_at w.frames i).next ≡ (frame_at w.frames i).end) (omega (arith, from, low)) read)
+  popped_rest = rest-cut w.frames some read
 
   pub popped_ahead : ahead l (popped w) ≡ ahead l w
   popped_ahead = let e = popped_rest in omega (arith, e)
@@ -51,7 +51,7 @@ module _ {l : Grouped} {blocks : List ℕ} {alone : List Bool} {lists : List (Li
         λ p high. exact laws lts walks some read place closes.listed p (omega (arith, high, place)) in
         let unseen = same_unseen laws walks' some place closes.marks signed led in
         let same : ahead l (Closed laws walks' some place closes.marks signed led) ≡ ahead l w =
-        (let e = unread-same l.places w.marks new.marks unseen in omega (arith, e, popped_rest)) in
+        (let e = unread-same w.marks new.marks unseen l.places in omega (arith, e, popped_rest)) in
         subst Returns (λ i. record { marks = new.marks; stack = sym closes.stack i; frames = sym closes.frames i; roots = sym closes.roots i; items = sym items i }) (
           record {
             walks = Walks-closed laws walks' some place closes.marks signed led;

@@ -133,7 +133,7 @@ module _ (laws : Laws) {l : Grouped} (lts : IsLts l) {blocks : List ℕ} {alone 
           done = record { shown = λ other. absurd (other inert); followed = λ _. inr (inr (entered_met laws walks within unseen row some)) };
           seen = seen_more w.marks (target_of e) (Open (length w.stack)) (not_unseen (length w.stack)) within;
           same_ahead =
-              let fewer = unread-marked l.places w.marks (target_of e) (Open (length w.stack)) refl within unseen in
+              let fewer = unread-marked w.marks (target_of e) (Open (length w.stack)) refl within unseen l.places in
               let count = row.count in
               omega (arith, fewer, rest-push w.frames x, count);
           heavier =
