@@ -49,7 +49,7 @@ Takes places (Inert t) old new enters =
 
 -- some of the items gives the pair z
 abbrev pub IsGiven : List (List (ℕ × ℕ)) → List Item → ℕ × ℕ → Type 0
-IsGiven lists items z = (j : ℕ) × (j < length items) × Gives lists (item_at items j) z
+IsGiven lists items z = (x : Item) × Contains items x × Gives lists x z
 
 -- the numbers of the lists that these items name, and the pairs that they are
 pub record AreTaken (items : List Item) (numbers : List ℕ) (pairs : List (ℕ × ℕ)) : Type 0 where

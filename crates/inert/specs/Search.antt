@@ -164,7 +164,7 @@ abbrev pub IsThere : List (List (ℕ × ℕ)) → Item → Type 0
 IsThere lists x = (k : ℕ) → x ≡ Listed k → k < length lists
 
 abbrev pub AreThere : List (List (ℕ × ℕ)) → List Item → Type 0
-AreThere lists items = (j : ℕ) → j < length items → IsThere lists (item_at items j)
+AreThere lists = All (IsThere lists)
 
 -- the transition in place k of the state at place p is still to be read
 abbrev pub IsAhead : Search → ℕ → ℕ → Type 0

@@ -30,7 +30,7 @@ module _ {lists lists' : List (List (ℕ × ℕ))} (grow : Grow lists lists') wh
     }
 
     holds : (p : ℕ) (z : ℕ × ℕ) → Holds lists w p z → Holds lists' w p z
-    holds p z (j, low, g, of) = (j, low, Gives-grow (item_at w.items j) (walks.there j low) z g, of)
+    holds p z (j, low, g, of) = (j, low, Gives-grow (item_at w.items j) (walks.there j (Pair 0 0) low) z g, of)
 
     followed : (p t : ℕ) → IsFollowed lists w p t → IsFollowed lists' w p t
     followed p t (inl here) = inl here
@@ -45,8 +45,8 @@ module _ {lists lists' : List (List (ℕ × ℕ))} (grow : Grow lists lists') wh
       roots = walks.roots;
       frames = walks.frames;
       connects = walks.connects;
-      there = λ j low k is. let old = walks.there j low k is in let longer = grow.longer in omega (arith, old, longer);
-      sound = λ j low. let (p, lp, of, all) = walks.sound j low in (p, lp, of, λ z g. all z (Gives-shrink (item_at w.items j) (walks.there j low) z g));
+      there = λ j d low k is. let old = walks.there j d low k is in let longer = grow.longer in omega (arith, old, longer);
+      sound = λ j low. let (p, lp, of, all) = walks.sound j low in (p, lp, of, λ z g. all z (Gives-shrink (item_at w.items j) (walks.there j (Pair 0 0) low) z g));
       accounted = λ p k lp lk source. elim (walks.accounted p k lp lk source) [
         | inl ahead ↦ inl ahead
         | inr done ↦ inr (record { shown = λ other. holds p _ (done.shown other); followed = λ inert. followed p _ (done.followed inert) })

@@ -49,7 +49,7 @@ module _ {l : Grouped} {blocks : List ℕ} {alone : List Bool} {lists : List (Li
     roots = record { first = λ h. absurd (omega (arith, h)); rising = λ i j d h h'. absurd (omega (arith, h')); each = λ i d h. absurd (omega (arith, h)) };
     frames = record { rising = λ i j d h h'. absurd (omega (arith, h')); each = λ i d h. absurd (omega (arith, h)) };
     connects = λ p q h. absurd (omega (arith, h));
-    there = λ j h. absurd (omega (arith, h));
+    there = λ j d h. absurd (omega (arith, h));
     sound = λ j h. absurd (omega (arith, h));
     accounted = λ p k h. absurd (omega (arith, h));
   })

@@ -3,7 +3,7 @@ use Rattle.std.proofs.Common.{◌≡◌, ◌⊎◌, ℕ, ◌+◌, ◌-◌, ◌<�
 use Rattle.std.specs.List.{All}
 use Rattle.std.proofs.lemmas.Bool.{cases_eq, cases_lt}
 use Rattle.std.proofs.lemmas.List.{get_or_default, get_or-take, length-take-le, length-append, get_or_append_left, get_or_push, length_push}
-use Rattle.std.proofs.lemmas.List.Elements.{All-from_get_or, All-take}
+use Rattle.std.proofs.lemmas.List.Elements.{All-nil, All-cons, All-append, All-from_get_or, All-take}
 use Rattle.theory.specs.Bisimulation.Relation.{branching}
 use Rattle.lts.specs.Lts.{Grouped}
 use Rattle.lists.specs.Lists.{list_at}
@@ -256,9 +256,12 @@ module _ (laws : Laws) {l : Grouped} {blocks : List ℕ} {alone : List Bool} {li
       absurd (omega (arith, same, le, low)))))
 
   there : AreThere lists Closed.items
-  there = each_item (λ j. IsThere lists (item_at Closed.items j))
-      (λ j h. subst (IsThere lists) (sym (item_same j h).1) (walks.there j (omega (arith, h, few))))
-      (λ more k is. subst (λ n. n < length lists) (number_same number k (sym (item_new more).1 ∙ is)) (exact q (omega arith) low_q).within)
+  there = All-append (IsThere lists) (take c0 w.items) added (All-take (IsThere lists) c0 w.items walks.there) (elim led [
+    | inl (_, e) ↦
+        let it : IsThere lists (Listed number) = λ k is. subst (λ n. n < length lists) (number_same number k is) (exact q (omega arith) low_q).within in
+        subst (All (IsThere lists)) (sym e) (All-cons (IsThere lists) (Listed number) [] it (All-nil (IsThere lists)))
+    | inr (_, e) ↦ subst (All (IsThere lists)) (sym e) (All-nil (IsThere lists))
+  ])
 
   sound : AreSound l blocks lists Closed
   sound = each_item (IsSound l blocks lists Closed)

@@ -2,6 +2,7 @@
 use Rattle.std.proofs.Common.{◌≡◌, ℕ, ◌+◌, ◌<◌, Bool, List, length, slice_index, refl, sym, subst, inl, inr, arith}
 use Rattle.std.proofs.lemmas.Bool.{cases_lt}
 use Rattle.std.proofs.lemmas.List.{get_or_append_left, get_or_push, length_push}
+use Rattle.std.proofs.lemmas.List.Elements.{All-push}
 use Rattle.theory.specs.Bisimulation.Relation.{branching}
 use Rattle.lts.specs.Lts.{Grouped}
 use Rattle.inert.specs.Signed.{HasPair}
@@ -34,13 +35,6 @@ module _ {l : Grouped} {blocks : List ℕ} {alone : List Bool} {lists : List (Li
   pub collected_holds : (z : ℕ × ℕ) → Gives lists x z → Holds lists With (here w) z
   collected_holds z g = (length w.items, omega (arith, size), subst (λ y. Gives lists y z) (sym last) g, of_here)
 
-  -- what holds of each item that was there and of the new one holds of all
-  of_each : (P : ℕ → Type 0) → ((j : ℕ) → j < length w.items → P j) → P (length w.items) → (j : ℕ) → j < length With.items → P j
-  of_each P old new j low = elim (cases_lt j (length w.items)) [
-    | inl h ↦ old j h
-    | inr h ↦ subst P (let e : length w.items ≡ j = omega (arith, low, h, size) in e) new
-  ]
-
   pub Walks-collect : 0 < length w.frames → IsThere lists x
       → ((z : ℕ × ℕ) → Gives lists x z → HasPair branching l blocks (slice_index w.stack (here w)) z.0 z.1) → Walks l blocks alone lists With
   Walks-collect some there sound = record {
@@ -54,8 +48,12 @@ module _ {l : Grouped} {blocks : List ℕ} {alone : List Bool} {lists : List (Li
     };
     frames = walks.frames;
     connects = walks.connects;
-    there = of_each (λ j. IsThere lists (item_at With.items j)) (λ j h. subst (IsThere lists) (sym (same j h).1) (walks.there j h)) (subst (IsThere lists) (sym last) there);
-    sound = of_each (IsSound l blocks lists With) (λ j h. sound_still walks keeps j h (omega arith) (λ p low _. low))
-        (here w, on_stack walks some, of_here, λ z g. sound z (subst (λ y. Gives lists y z) last g));
+    there = All-push (IsThere lists) w.items x walks.there there;
+    sound = λ j low. elim (cases_lt j (length w.items)) [
+      | inl h ↦ sound_still walks keeps j h (omega arith) (λ p low _. low)
+      | inr h ↦
+          subst (IsSound l blocks lists With) (let e : length w.items ≡ j = omega (arith, low, h, size) in e)
+          (here w, on_stack walks some, of_here, λ z g. sound z (subst (λ y. Gives lists y z) last g))
+    ];
     accounted = λ p k lp lk source. accounted_still walks keeps p k lp lk source (λ ahead. inl ahead) (λ t entered. inr (inr entered));
   }

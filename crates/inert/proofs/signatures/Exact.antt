@@ -1,7 +1,7 @@
 -- If the rows of the last component are read, what it has collected is exactly the signature of each of its states.
 use Rattle.std.proofs.Common.{◌≡◌, ℕ, ◌+◌, ◌-◌, ◌<◌, ◌≤◌, Bool, List, [], ◌∷◌, length, drop, get_or, slice_index, slice_index_or, false, IsTrue, sym, ◌∙◌, ap, subst, inl, inr, arith}
 use Rattle.std.proofs.lemmas.Bool.{cases_lt}
-use Rattle.std.proofs.lemmas.List.{length-map, get_or-map, get_or-drop, length-drop}
+use Rattle.std.proofs.lemmas.List.{length-map, get_or-map, get_or-drop, get_or_default, length-drop}
 use Rattle.theory.specs.System.{Step, Along, internal}
 use Rattle.theory.specs.Bisimulation.Relation.{branching}
 use Rattle.theory.specs.Blocks.{Inert}
@@ -47,7 +47,7 @@ module _ (laws : Laws) {l : Grouped} (lts : IsLts l) {blocks : List ℕ} {alone 
       let from = (of (length w.roots - 1) no_root last_low).0 (omega (arith, place, h)) in
       let size = length-drop c0 w.items in
       let is : c0 + (j - c0) ≡ j = omega (arith, from) in
-      (j - c0, omega (arith, size, low, from), subst (λ x. Gives lists x z) (sym (get_or-drop c0 w.items (j - c0) _ ∙ ap (item_at w.items) is)) g)
+      (item_at w.items j, (j - c0, omega (arith, size, low, from), get_or-drop c0 w.items (j - c0) _ ∙ ap (λ i. get_or w.items i (item_at w.items j)) is ∙ get_or_default w.items j _ _ low), g)
 
   -- each transition of the component was taken into account
   done : (p k : ℕ) → here w ≤ p → p < length w.stack → k < length l.places → source_of (place_at l.places k) ≡ slice_index w.stack p
@@ -104,15 +104,17 @@ module _ (laws : Laws) {l : Grouped} (lts : IsLts l) {blocks : List ℕ} {alone 
 
   -- what was collected is in the signature of each state of the component
   sound : (p : ℕ) → here w ≤ p → p < length w.stack → (z : ℕ × ℕ) → Collected z → HasPair branching l blocks (slice_index w.stack p) z.0 z.1
-  sound p h lp z (i, low, g) =
-      let (q, lq, of, all) = walks.sound (c0 + i) (let size = length-drop c0 w.items in omega (arith, low, size)) in
+  sound p h lp z (x, (i, low, at), g) =
+      let low' : c0 + i < length w.items = (let size = length-drop c0 w.items in omega (arith, low, size)) in
+      let (q, lq, of, all) = walks.sound (c0 + i) low' in
       let tie = walks.connects p q lp lq (λ j d lj le.
       let before = (last_most walks j d lj).1 in
       elim (cases_lt q (get_or w.roots j d).place) [
         | inl under ↦ let less = (of j d lj).1 under in absurd (omega (arith, less, before))
         | inr over ↦ over
       ]) in
-      pair_before laws l blocks (slice_index w.stack p) (slice_index w.stack q) z tie (all z (subst (λ x. Gives lists x z) (get_or-drop c0 w.items i _) g))
+      pair_before laws l blocks (slice_index w.stack p) (slice_index w.stack q) z tie
+      (all z (subst (λ y. Gives lists y z) (sym at ∙ get_or-drop c0 w.items i x ∙ get_or_default w.items (c0 + i) x _ low') g))
 
   -- a list of it is the signature of each state of the component
   module _ {lists' : List (List (ℕ × ℕ))} {number : ℕ} (listed : IsListed (drop c0 w.items) lists lists' number) where
