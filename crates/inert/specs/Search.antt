@@ -127,9 +127,9 @@ pub record IsRoot (frames : List Frame) (items : List Item) (r : Root) : Type 0 
   pub framed : (i : ℕ) × (i < length frames) × ((frame_at frames i).place ≡ r.place)
   pub within : r.items ≤ length items
 
--- components begin from the bottom of the stack on, their items in the same order
+-- components begin from the bottom of the stack on (not all begin above it), their items in the same order
 pub record AreRoots (w : Search) : Type 0 where
-  pub first : 0 < length w.stack → (0 < length w.roots) × ((root_at w.roots 0).place ≡ 0)
+  pub first : 0 < length w.stack → ¬ All (λ r. 0 < r.place) w.roots
   pub rising : AllPairs IsBefore w.roots
   pub each : All (IsRoot w.frames w.items) w.roots
 

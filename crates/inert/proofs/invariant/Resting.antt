@@ -128,18 +128,10 @@ module _ {l : Grouped} {blocks : List ℕ} {alone : List Bool} {lists : List (Li
 pub walk_rests : {l : Grouped} {blocks : List ℕ} {alone : List Bool} {lists : List (List (ℕ × ℕ))} {w : Search} → Walks l blocks alone lists w → length w.frames ≡ 0
     → Fits l (length lists) w → Rests l blocks alone lists w
 walk_rests {w = w} walks none fits =
-    let stack : length w.stack ≡ 0 = elim (cases_eq (length w.stack) 0) [
-      | inl e ↦ e
-      | inr d ↦ let some = frames_some walks (omega (arith, d)) in absurd (omega (arith, some, none))
-    ] in
-    let roots : length w.roots ≡ 0 = elim (cases_eq (length w.roots) 0) [
-      | inl e ↦ e
-      | inr d ↦ let low = root_low walks 0 no_root (omega (arith, d)) in absurd (omega (arith, low, stack))
-    ] in
-    let items : length w.items ≡ 0 = elim (cases_eq (length w.items) 0) [
-      | inl e ↦ e
-      | inr d ↦ let sound = walks.sound 0 (omega (arith, d)) in absurd (omega (arith, sound.1, stack))
-    ] in
+    let stack : length w.stack ≡ 0 = grind (arith, frames_some walks, none) in
+    let roots : length w.roots ≡ 0 = grind (arith, root_low walks 0 no_root, stack) in
+    let of_some : 0 < length w.items → 0 < length w.stack = λ h. let sound = walks.sound 0 h in omega (arith, sound.1) in
+    let items : length w.items ≡ 0 = grind (arith, of_some, stack) in
     record {
       empty = λ i. record {
         marks = w.marks;

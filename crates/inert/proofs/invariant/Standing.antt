@@ -1,23 +1,34 @@
 -- What follows of a walk that stands between two of its steps.
-use Rattle.std.proofs.Common.{◌≡◌, ℕ, ◌-◌, ◌<◌, ◌≤◌, Bool, List, length, slice_index, sym, ◌∙◌, ap, subst, inl, inr, arith}
-use Rattle.std.specs.List.{All}
-use Rattle.std.proofs.lemmas.Bool.{cases_eq}
+use Rattle.std.proofs.Common.{◌≡◌, ◌⊎◌, ℕ, ◌-◌, ◌<◌, ◌≤◌, Bool, List, length, slice_index, sym, ◌∙◌, ap, subst, inl, inr, arith}
+use Rattle.std.specs.List.{All, AllPairs}
+use Rattle.std.proofs.lemmas.Bool.{cases_eq, cases_lt}
 use Rattle.std.proofs.lemmas.List.Elements.{All-from_get_or}
 use Rattle.theory.specs.Bisimulation.Relation.{branching}
 use Rattle.lts.specs.Lts.{Grouped, system_of, source_of, place_at, IsRow}
 use Rattle.inert.specs.Moves.{HasRead}
 use Rattle.inert.specs.declared.walk.Frame.{Frame}
+use Rattle.inert.specs.declared.walk.Root.{Root}
 use Rattle.inert.specs.Signed.{HasPair}
-use Rattle.inert.specs.Search.{Search, Laws, frame_at, no_frame, here, root_at, last, no_root, Ties, IsFrame, Walks}
+use Rattle.inert.specs.Search.{Search, Laws, frame_at, no_frame, here, root_at, last, no_root, Ties, IsBefore, IsFrame, Walks}
 
 -- the pairs of a state are those of each state that leads to it
 pub pair_before : (laws : Laws) (l : Grouped) (blocks : List ℕ) (s t : ℕ) (z : ℕ × ℕ) → Ties l blocks s t
     → HasPair branching l blocks t z.0 z.1 → HasPair branching l blocks s z.0 z.1
 pair_before laws l blocks s t z tie has = (has.0, laws.path (system_of l) (slice_index blocks) s t _ z.1 tie has.1)
 
+-- of rising roots the last one is of the greatest place, and has the last items
+pub roots_up : (roots : List Root) → AllPairs IsBefore roots → All (λ r. (r.place ≤ (last roots).place) × (r.items ≤ (last roots).items)) roots
+roots_up roots rising = All-from_get_or (λ r. (r.place ≤ (last roots).place) × (r.items ≤ (last roots).items)) roots no_root (λ i h. elim (cases_eq i (length roots - 1)) [
+  | inl e ↦ let place = ap (λ j. (root_at roots j).place) e in let items = ap (λ j. (root_at roots j).items) e in (omega (arith, place), omega (arith, items))
+  | inr d ↦ let up = rising i (length roots - 1) no_root (omega (arith, h, d)) (omega (arith, h)) in (omega (arith, up.0), up.1)
+])
+
 module _ {l : Grouped} {blocks : List ℕ} {alone : List Bool} {lists : List (List (ℕ × ℕ))} {w : Search} (walks : Walks l blocks alone lists w) where
   pub roots_some : 0 < length w.stack → 0 < length w.roots
-  roots_some some = (walks.roots.first some).0
+  roots_some some = elim (cases_lt 0 (length w.roots)) [
+    | inl h ↦ h
+    | inr none ↦ absurd (walks.roots.first some (λ i d h. absurd (omega (arith, none, h))))
+  ]
 
   pub frames_some : 0 < length w.stack → 0 < length w.frames
   frames_some some = let framed = (walks.roots.each 0 no_root (roots_some some)).framed in omega (arith, framed.1)
@@ -28,25 +39,22 @@ module _ {l : Grouped} {blocks : List ℕ} {alone : List Bool} {lists : List (Li
   pub stack_some : 0 < length w.frames → 0 < length w.stack
   stack_some some = let low = on_stack some in omega (arith, low)
 
-  -- the last frame is of the greatest place
-  pub frames_up : (i : ℕ) → i < length w.frames → (frame_at w.frames i).place ≤ here w
-  frames_up i low = elim (cases_eq i (length w.frames - 1)) [
-    | inl e ↦ let same = ap (λ j. (frame_at w.frames j).place) e in omega (arith, same)
-    | inr d ↦ let up = walks.frames.rising i (length w.frames - 1) no_frame (omega (arith, low, d)) (omega (arith, low)) in omega (arith, up)
+  -- a frame is the last one, or of an earlier place
+  frame_cases : (i : ℕ) → i < length w.frames
+      → ((i ≡ length w.frames - 1) × ((frame_at w.frames i).place ≡ here w)) ⊎ ((i < length w.frames - 1) × ((frame_at w.frames i).place < here w))
+  frame_cases i low = elim (cases_eq i (length w.frames - 1)) [
+    | inl e ↦ inl (e, ap (λ j. (frame_at w.frames j).place) e)
+    | inr d ↦ let less : i < length w.frames - 1 = omega (arith, low, d) in inr (less, walks.frames.rising i (length w.frames - 1) no_frame less (omega (arith, low)))
   ]
 
-  -- so a frame of an earlier place is not the last one
+  pub frames_up : (i : ℕ) → i < length w.frames → (frame_at w.frames i).place ≤ here w
+  frames_up i low = omega (arith, frame_cases i low)
+
   pub not_last : (i : ℕ) → i < length w.frames → (frame_at w.frames i).place < here w → i < length w.frames - 1
-  not_last i low before = elim (cases_eq i (length w.frames - 1)) [
-    | inl e ↦ let same = ap (λ j. (frame_at w.frames j).place) e in absurd (omega (arith, before, same))
-    | inr d ↦ omega (arith, low, d)
-  ]
+  not_last i low before = omega (arith, frame_cases i low, before)
 
   pub last_frame : (i : ℕ) → i < length w.frames → here w ≤ (frame_at w.frames i).place → i ≡ length w.frames - 1
-  last_frame i low high = elim (cases_eq i (length w.frames - 1)) [
-    | inl e ↦ e
-    | inr d ↦ let up = walks.frames.rising i (length w.frames - 1) no_frame (omega (arith, low, d)) (omega (arith, low)) in absurd (omega (arith, up, high))
-  ]
+  last_frame i low high = omega (arith, frame_cases i low, high)
 
   -- if the row of the last frame was read, none of its transitions is ahead
   pub none_ahead : HasRead w → (p k i : ℕ) → k < length l.places → source_of (place_at l.places k) ≡ slice_index w.stack p → i < length w.frames
@@ -72,13 +80,7 @@ module _ {l : Grouped} {blocks : List ℕ} {alone : List Bool} {lists : List (Li
 
   -- no component is after that of the last root
   pub last_most : All (λ r. (r.place ≤ (last w.roots).place) × (r.items ≤ (last w.roots).items)) w.roots
-  last_most = All-from_get_or (λ r. (r.place ≤ (last w.roots).place) × (r.items ≤ (last w.roots).items)) w.roots no_root (λ i h. elim (cases_eq i (length w.roots - 1)) [
-    | inl e ↦
-        let place = ap (λ j. (root_at w.roots j).place) e in
-        let items = ap (λ j. (root_at w.roots j).items) e in
-        (omega (arith, place), omega (arith, items))
-    | inr d ↦ let up = walks.roots.rising i (length w.roots - 1) no_root (omega (arith, h, d)) (omega (arith, h)) in (omega (arith, up.0), up.1)
-  ])
+  last_most = roots_up w.roots walks.roots.rising
 
   -- inert steps lead to where the walk is from each state on the stack
   pub ties : (p : ℕ) → p < length w.stack → Ties l blocks (slice_index w.stack p) (slice_index w.stack (here w))

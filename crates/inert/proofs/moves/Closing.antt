@@ -15,15 +15,12 @@ use Rattle.inert.specs.declared.walk.Mark.{Mark}
 use Rattle.inert.specs.declared.walk.Mark.TheVariants.{Open, Finished}
 use Rattle.inert.specs.declared.walk.Item.{Item}
 use Rattle.inert.specs.declared.walk.Item.TheVariants.{Listed}
-use Rattle.inert.proofs.parts.Marks.{place_same, list_same, not_both}
+use Rattle.inert.proofs.parts.Marks.{place_same, list_same, not_both, number_same}
 use Rattle.inert.proofs.parts.Rising.{AllPairs-take, All-from_take}
 use Rattle.inert.proofs.parts.Counting.{unseen-same}
 use Rattle.inert.proofs.invariant.Standing.{IsFrame-moved, pair_before, stack_some, roots_some, root_low, not_last}
 use Rattle.inert.proofs.invariant.Keeping.{Keeps, accounted_still, sound_still}
 use Rattle.inert.proofs.moves.Turning.{popped_size, popped_framed, popped_ahead_still, popped_entered}
-
-number_same : (j k : ℕ) → Listed j ≡ Listed k → j ≡ k
-number_same j k e = cc
 
 module _ (laws : Laws) {l : Grouped} {blocks : List ℕ} {alone : List Bool} {lists : List (List (ℕ × ℕ))} {w : Search} (walks : Walks l blocks alone lists w)
     (some : 0 < length w.frames) (place : (last w.roots).place ≡ here w) {new_marks : List Mark} {number : ℕ} (marks : Finishes w.stack (last w.roots).place number w.marks new_marks)
@@ -134,10 +131,7 @@ module _ (laws : Laws) {l : Grouped} {blocks : List ℕ} {alone : List Bool} {li
   keeps = record {
     within = omega (arith, low_q);
     states = state_same;
-    below = λ p r h low up. elim (cases_lt r q) [
-      | inl less ↦ less
-      | inr more ↦ let le = up (length w.roots - 1) no_root last_low more in absurd (omega (arith, le, h))
-    ];
+    below = λ p r h low up. let le = up (length w.roots - 1) no_root last_low in grind (arith, le, h);
     up = λ p r h up. All-take (λ x. x.place ≤ p → x.place ≤ r) (length w.roots - 1) w.roots up;
     of = λ j p low h of. All-take (λ x. (x.place ≤ p → x.items ≤ j) × (p < x.place → j < x.items)) (length w.roots - 1) w.roots of;
     items = λ j p low h of. item_same j (item_before j p h of);
@@ -221,15 +215,10 @@ module _ (laws : Laws) {l : Grouped} {blocks : List ℕ} {alone : List Bool} {li
 
   roots : AreRoots Closed
   roots = record {
-    first = λ h.
-        let old = walks.roots.first (stack_some walks some) in
-        let n : 0 < length w.roots - 1 = elim (cases_eq (length w.roots - 1) 0) [
-          | inl e ↦ let zero = ap (λ i. (root_at w.roots i).place) e ∙ old.1 in absurd (omega (arith, h, size, zero))
-          | inr d ↦ omega (arith, d)
-        ] in (
-          (let e = length-take-le (length w.roots - 1) w.roots (omega arith) in omega (arith, n, e)),
-          ap (λ r. r.place) (get_or-take (length w.roots - 1) w.roots 0 no_root n) ∙ old.1,
-        );
+    first = λ h all. walks.roots.first (stack_some walks some) (All-from_take (λ r. 0 < r.place) (length w.roots - 1) w.roots no_root all (λ i high low.
+        let e : i ≡ length w.roots - 1 = omega (arith, high, low) in
+        let same = ap (λ j. (root_at w.roots j).place) e in
+        omega (arith, same, h, size)));
     rising = AllPairs-take IsBefore (length w.roots - 1) w.roots walks.roots.rising;
     each = λ i d h.
         let (root, before) = root_left i d h in
@@ -265,10 +254,7 @@ module _ (laws : Laws) {l : Grouped} {blocks : List ℕ} {alone : List Bool} {li
 
   sound : AreSound l blocks lists Closed
   sound = each_item (IsSound l blocks lists Closed)
-      (λ j h. sound_still walks keeps j (omega (arith, h, few)) (omega (arith, size)) (λ p lp of. elim (cases_lt p q) [
-        | inl less ↦ less
-        | inr more ↦ let le = (of (length w.roots - 1) no_root last_low).0 more in absurd (omega (arith, le, h))
-      ]))
+      (λ j h. sound_still walks keeps j (omega (arith, h, few)) (omega (arith, size)) (λ p lp of. let le = (of (length w.roots - 1) no_root last_low).0 in grind (arith, le, h)))
       (λ more. let low = back_low more in (
         back,
         omega (arith, low, size),

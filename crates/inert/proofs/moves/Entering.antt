@@ -1,6 +1,7 @@
 -- The walk after a state was entered.
 use Rattle.std.proofs.Common.{◌≡◌, ◌≢◌, ℕ, ◌+◌, ◌-◌, ◌<◌, ◌≤◌, Bool, List, length, slice_index, refl, sym, ◌∙◌, ap, subst, subst₂, inl, inr, arith}
 use Rattle.std.proofs.lemmas.Bool.{cases_eq, cases_lt}
+use Rattle.std.proofs.lemmas.Grind.{common_steps, elements}
 use Rattle.std.proofs.lemmas.List.{get_or_append_left, get_or_push, length_push, length-set}
 use Rattle.std.proofs.lemmas.List.Elements.{All-push}
 use Rattle.std.proofs.lemmas.List.Quantifiers.{all_pairs_push}
@@ -43,6 +44,9 @@ module _ (laws : Laws) {l : Grouped} {blocks : List ℕ} {alone : List Bool} {li
 
   frames_size : length Entered.frames ≡ length w.frames + 1
   frames_size = length_push w.frames NewFrame
+
+  roots_size : length Entered.roots ≡ length w.roots + 1
+  roots_size = length_push w.roots NewRoot
 
   frame_same : (i : ℕ) → i < length w.frames → frame_at Entered.frames i ≡ frame_at w.frames i
   frame_same i h = get_or_append_left w.frames _ _ i h
@@ -100,12 +104,7 @@ module _ (laws : Laws) {l : Grouped} {blocks : List ℕ} {alone : List Bool} {li
 
   opened : AreOpen Entered.marks Entered.stack
   opened = record {
-    marked = λ p h. elim (cases_lt p n) [
-      | inl low ↦ ap (mark_at Entered.marks) (state_same p low) ∙ mark_still (slice_index w.stack p) (Open p) (walks.opened.marked p low) (not_unseen p)
-      | inr high ↦
-          let e : n ≡ p = omega (arith, h, high, size) in
-          subst (λ x. mark_at Entered.marks (slice_index Entered.stack x) ≡ Open x) e (ap (mark_at Entered.marks) state_new ∙ self)
-    ];
+    marked = λ p h. grind (arith, common_steps, elements, walks.opened.marked p, unseen, within, h);
     only = λ s p is. elim (cases_eq s t) [
       | inl e ↦
           let at : p ≡ n = place_same p n (sym is ∙ ap (mark_at Entered.marks) e ∙ self) in
@@ -122,25 +121,15 @@ module _ (laws : Laws) {l : Grouped} {blocks : List ℕ} {alone : List Bool} {li
     | inr d ↦ walks.signed s k (sym (others s d) ∙ is)
   ]
 
-  first : (0 < length Entered.roots) × ((root_at Entered.roots 0).place ≡ 0)
-  first = (
-    let longer = length_push w.roots NewRoot in omega (arith, longer),
-    elim (cases_eq n 0) [
-      | inl e ↦
-          let none : length w.roots ≡ 0 = elim (cases_eq (length w.roots) 0) [
-            | inl zero ↦ zero
-            | inr d ↦ let low = root_low walks 0 no_root (omega (arith, d)) in absurd (omega (arith, low, e))
-          ] in
-          ap (λ r. r.place) (get_or_push w.roots NewRoot no_root 0 none) ∙ e
-      | inr d ↦
-          let some : 0 < n = omega (arith, d) in
-          ap (λ r. r.place) (get_or_append_left w.roots _ no_root 0 (roots_some walks some)) ∙ (walks.roots.first some).1
-    ],
-  )
-
   roots : AreRoots Entered
   roots = record {
-    first = λ _. first;
+    first = λ _ all. elim (cases_eq n 0) [
+      | inl e ↦
+          let up = all (length w.roots) no_root (omega (arith, roots_size)) in
+          let new = ap (λ r. r.place) (get_or_push w.roots NewRoot no_root (length w.roots) refl) in
+          omega (arith, up, new, e)
+      | inr d ↦ walks.roots.first (omega (arith, d)) (λ i x h. subst (λ r. 0 < r.place) (get_or_append_left w.roots _ x i h) (all i x (omega (arith, h, roots_size))))
+    ];
     rising = all_pairs_push IsBefore w.roots NewRoot walks.roots.rising (λ i d h. (root_low walks i d h, (walks.roots.each i d h).within));
     each = All-push (IsRoot Entered.frames Entered.items) w.roots NewRoot
         (λ i d h.
@@ -179,16 +168,15 @@ module _ (laws : Laws) {l : Grouped} {blocks : List ℕ} {alone : List Bool} {li
       | inl low ↦ elim (cases_lt q n) [
         | inl low' ↦
             subst₂ (Ties l blocks) (sym (state_same p low)) (sym (state_same q low'))
-            (walks.connects p q low low' (λ i d h'. subst (λ r. r.place ≤ p → r.place ≤ q) (get_or_append_left w.roots _ d i h') (h i d (let longer = length_push w.roots NewRoot in omega (arith, h', longer)))))
+            (walks.connects p q low low' (λ i d h'. subst (λ r. r.place ≤ p → r.place ≤ q) (get_or_append_left w.roots _ d i h') (h i d (omega (arith, h', roots_size)))))
         | inr high' ↦
             let e : n ≡ q = omega (arith, lq, high', size) in
             subst₂ (Ties l blocks) (sym (state_same p low)) (sym state_new ∙ ap (slice_index Entered.stack) e)
             (laws.after (system_of l) (slice_index blocks) _ _ _ (ties walks p low) (step (frames_some walks (omega (arith, low)))))
       ]
       | inr high ↦
-          let longer = length_push w.roots NewRoot in
           let new = ap (λ r. r.place) (get_or_push w.roots NewRoot no_root (length w.roots) refl) in
-          let le = h (length w.roots) no_root (omega (arith, longer)) (omega (arith, new, high)) in
+          let le = h (length w.roots) no_root (omega (arith, roots_size)) (omega (arith, new, high)) in
           let e : p ≡ q = omega (arith, lp, lq, high, le, new, size) in
           subst (λ x. Ties l blocks (slice_index Entered.stack p) (slice_index Entered.stack x)) e
           (laws.here (system_of l) (slice_index blocks) (slice_index Entered.stack p))

@@ -11,7 +11,7 @@ use Rattle.inert.specs.Moves.{Cuts}
 use Rattle.inert.specs.declared.walk.Root.{Root}
 use Rattle.inert.specs.declared.walk.Mark.TheVariants.{Open}
 use Rattle.inert.proofs.parts.Rising.{AllPairs-take, All-from_take}
-use Rattle.inert.proofs.invariant.Standing.{reached, ties, roots_some}
+use Rattle.inert.proofs.invariant.Standing.{roots_up, reached, ties}
 use Rattle.inert.proofs.invariant.Keeping.{Keeps, keeps_stack, accounted_still, sound_still}
 
 -- roots that were cut above the place q
@@ -31,35 +31,22 @@ module _ (laws : Laws) {l : Grouped} {blocks : List ℕ} {alone : List Bool} {li
   keeps : Keeps w Joined (length w.stack)
   keeps = keeps_stack w w.frames roots w.items (λ j h. (h, refl)) (cut_each cuts)
 
+  rising : AllPairs IsBefore roots
+  rising = subst (AllPairs IsBefore) (sym cuts.roots) (AllPairs-take IsBefore cuts.kept w.roots walks.roots.rising)
+
   -- the last root that is left is up to q, so all are
   below : All (λ r. r.place ≤ q) roots
-  below = subst (All (λ r. r.place ≤ q)) (sym cuts.roots) (All-from_get_or (λ r. r.place ≤ q) (take cuts.kept w.roots) no_root (λ i h.
-      let low : i < cuts.kept = (let within = cuts.within in let size = length-take-le cuts.kept w.roots within in omega (arith, h, size)) in
-      let same = ap (λ r. r.place) (get_or-take cuts.kept w.roots i no_root low) in
-      let last = cuts.below (omega (arith, low)) in
-      elim (cases_eq i (cuts.kept - 1)) [
-        | inl e ↦ let at = ap (λ j. (root_at w.roots j).place) e in omega (arith, same, at, last)
-        | inr d ↦
-            let up = walks.roots.rising i (cuts.kept - 1) no_root (omega (arith, low, d)) (let within = cuts.within in omega (arith, low, within)) in
-            omega (arith, same, up.0, last)
-      ]))
+  below i d h =
+      let size = ap length cuts.roots ∙ length-take-le cuts.kept w.roots cuts.within in
+      let low : length roots - 1 < cuts.kept = omega (arith, h, size) in
+      let same = ap (λ xs. (root_at xs (length roots - 1)).place) cuts.roots ∙ ap (λ r. r.place) (get_or-take cuts.kept w.roots (length roots - 1) no_root low)
+      ∙ ap (λ n. (root_at w.roots (n - 1)).place) size in
+      let most = cuts.below (omega (arith, low)) in
+      omega (arith, (roots_up roots rising i d h).0, same, most)
 
   -- the state that the step leads to is in the component where the walk is
   pub joined_here : (t : ℕ) → mark_at w.marks t ≡ Open q → IsHere Joined (here w) t
   joined_here t is = (q, is, λ i d h _. below i d h, λ i d h _. cut_each cuts (λ r. r.place ≤ here w) (reached walks) i d h)
-
-  -- the first root stays, since its place is 0
-  first : 0 < length w.stack → (0 < length roots) × ((root_at roots 0).place ≡ 0)
-  first some =
-      let zero = (walks.roots.first some).1 in
-      let within = cuts.within in
-      let kept : 0 < cuts.kept = elim (cases_eq cuts.kept 0) [
-        | inl e ↦ let up = cuts.above 0 (omega (arith, e)) (roots_some walks some) in absurd (omega (arith, up, zero))
-        | inr d ↦ omega (arith, d)
-      ] in (
-        (let size = ap length cuts.roots ∙ length-take-le cuts.kept w.roots within in omega (arith, size, kept)),
-        ap (λ xs. (root_at xs 0).place) cuts.roots ∙ ap (λ r. r.place) (get_or-take cuts.kept w.roots 0 no_root kept) ∙ zero,
-      )
 
   module _ (low : q < length w.stack) (step : Inert (system_of l) (slice_index blocks) (slice_index w.stack (here w)) (slice_index w.stack q)) where
     to_q : (p : ℕ) → p < length w.stack → Ties l blocks (slice_index w.stack p) (slice_index w.stack q)
@@ -80,8 +67,8 @@ module _ (laws : Laws) {l : Grouped} {blocks : List ℕ} {alone : List Bool} {li
       opened = walks.opened;
       signed = walks.signed;
       roots = record {
-        first = first;
-        rising = subst (AllPairs IsBefore) (sym cuts.roots) (AllPairs-take IsBefore cuts.kept w.roots walks.roots.rising);
+        first = λ some all. walks.roots.first some (cut_back cuts (λ r. 0 < r.place) all (λ r up. omega (arith, up)));
+        rising = rising;
         each = cut_each cuts (IsRoot w.frames w.items) walks.roots.each;
       };
       frames = walks.frames;

@@ -1,21 +1,16 @@
 -- Lists of which each element stands in a relation to all that follow, as the roots and the frames of a walk do; and their last elements.
 use Rattle.std.proofs.Common.{◌≡◌, ℕ, ◌-◌, ◌<◌, ◌≤◌, List, length, take, get_or, sym, ◌∙◌, ap, subst, subst₂, inl, inr, arith}
 use Rattle.std.specs.List.{All, AllPairs}
-use Rattle.std.proofs.lemmas.Bool.{cases_lt}
+use Rattle.std.proofs.lemmas.Grind.{elements}
 use Rattle.std.proofs.lemmas.List.{get_or_read, get_or-take, length-take}
 use Rattle.std.proofs.lemmas.List.Elements.{All-from_get_or}
 
 pub AllPairs-take : {X : Type 0} (R : X → X → Type 0) (n : ℕ) (xs : List X) → AllPairs R xs → AllPairs R (take n xs)
-AllPairs-take R n xs old i j d h low =
-    let low' : (j < n) × (j < length xs) = (omega (arith, low, length-take n xs), omega (arith, low, length-take n xs)) in
-    subst₂ R (sym (get_or-take n xs i d (omega (arith, h, low'.0)))) (sym (get_or-take n xs j d low'.0)) (old i j d h low'.1)
+AllPairs-take R n xs old i j d h low = grind (arith, elements, old i j d)
 
 -- what holds of the first elements, and of the rest, holds of all
 pub All-from_take : {X : Type 0} (P : X → Type 0) (n : ℕ) (xs : List X) (d : X) → All P (take n xs) → ((i : ℕ) → n ≤ i → i < length xs → P (get_or xs i d)) → All P xs
-All-from_take P n xs d first rest = All-from_get_or P xs d (λ i h. elim (cases_lt i n) [
-  | inl low ↦ subst P (get_or-take n xs i d low) (first i d (omega (arith, low, h, length-take n xs)))
-  | inr high ↦ rest i high h
-])
+All-from_take P n xs d first rest = All-from_get_or P xs d (λ i h. grind (arith, elements, rest i, first i d))
 
 -- the last element, as it is read through the length
 pub last_read : {X : Type 0} (xs ys : List X) (n : ℕ) (x d : X) → xs ≡ ys → n ≡ length xs → 0 < length ys → x ≡ get_or xs (n - 1) x → x ≡ get_or ys (length ys - 1) d

@@ -19,19 +19,13 @@ use Rattle.inert.specs.declared.walk.Frame.{Frame}
 use Rattle.inert.specs.declared.walk.Root.{Root}
 use Rattle.inert.specs.declared.walk.Item.{Item}
 use Rattle.inert.specs.declared.walk.Item.TheVariants.{Pair, Listed}
-use Rattle.inert.proofs.parts.Marks.{not_unseen, seen_more}
+use Rattle.inert.proofs.parts.Marks.{not_unseen, number_same, no_list, seen_more}
 use Rattle.inert.proofs.parts.Counting.{unseen-marked, unread-marked, rest-push}
 use Rattle.inert.proofs.invariant.Standing.{pair_before}
 use Rattle.inert.proofs.moves.Collecting.{Walks-collect, collected_holds}
 use Rattle.inert.proofs.moves.Joining.{Walks-join, joined_here}
 use Rattle.inert.proofs.moves.Entering.{Walks-enter, entered_met}
 use Rattle.inert.proofs.signatures.Exact.{place_step}
-
-number_is : (j k : ℕ) → Listed j ≡ Listed k → j ≡ k
-number_is j k e = cc
-
-no_list : (a b j : ℕ) → ¬ (Pair a b ≡ Listed j)
-no_list a b j e = cc
 
 module _ (laws : Laws) {l : Grouped} (lts : IsLts l) {blocks : List ℕ} {alone : List Bool} {lists : List (List (ℕ × ℕ))} {w : Search} (walks : Walks l blocks alone lists w)
     (some : 0 < length w.frames) {k : ℕ} (next : (top w.frames).next ≡ k) (more : k < (top w.frames).end) where
@@ -105,7 +99,7 @@ module _ (laws : Laws) {l : Grouped} (lts : IsLts l) {blocks : List ℕ} {alone 
         let s = slice_index w.stack (here w) in
         let tie = laws.after (system_of l) (slice_index blocks) s s (target_of e) (laws.here (system_of l) (slice_index blocks) s) (inert_step inert) in
         stayed w.roots (with_item (Listed number) w).items enters
-        (Walks-collect walks (Listed number) some (λ j e'. subst (λ x. x < length lists) (number_is number j e') signed.within)
+        (Walks-collect walks (Listed number) some (λ j e'. subst (λ x. x < length lists) (number_same number j e') signed.within)
         (λ z g. pair_before laws l blocks s (target_of e) z tie (signed.sound z g)))
         (record {
           shown = λ other. absurd (other inert);

@@ -109,10 +109,8 @@ module _ (laws : Laws) {l : Grouped} (lts : IsLts l) {blocks : List ℕ} {alone 
       let (q, lq, of, all) = walks.sound (c0 + i) low' in
       let tie = walks.connects p q lp lq (λ j d lj le.
       let before = (last_most walks j d lj).1 in
-      elim (cases_lt q (get_or w.roots j d).place) [
-        | inl under ↦ let less = (of j d lj).1 under in absurd (omega (arith, less, before))
-        | inr over ↦ over
-      ]) in
+      let after = (of j d lj).1 in
+      grind (arith, before, after)) in
       pair_before laws l blocks (slice_index w.stack p) (slice_index w.stack q) z tie
       (all z (subst (λ y. Gives lists y z) (sym at ∙ get_or-drop c0 w.items i x ∙ get_or_default w.items (c0 + i) x _ low') g))
 

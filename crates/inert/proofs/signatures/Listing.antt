@@ -15,18 +15,13 @@ use Rattle.inert.specs.Search.{IsThere, AreThere, Gives}
 use Rattle.inert.specs.Moves.{IsGiven, AreTaken, IsListed}
 use Rattle.inert.specs.declared.walk.Item.{Item}
 use Rattle.inert.specs.declared.walk.Item.TheVariants.{Pair, Listed}
+use Rattle.inert.proofs.parts.Marks.{number_same, no_list}
 
 first_of : (a b c d : ℕ) → Pair a b ≡ Pair c d → a ≡ c
 first_of a b c d e = cc
 
 second_of : (a b c d : ℕ) → Pair a b ≡ Pair c d → b ≡ d
 second_of a b c d e = cc
-
-number_of : (j k : ℕ) → Listed j ≡ Listed k → j ≡ k
-number_of j k e = cc
-
-not_both : (a b k : ℕ) → Pair a b ≡ Listed k → ⊥
-not_both a b k e = cc
 
 -- no item names anything
 pub taken_none : AreTaken [] [] []
@@ -51,7 +46,7 @@ fewer xs {x = x} {x' = x'} other c = elim (Contains-push_cases xs x x' c) [ inl 
 module _ (items : List Item) (numbers : List ℕ) (pairs : List (ℕ × ℕ)) (taken : AreTaken items numbers pairs) where
   pub taken_pair : (a b : ℕ) → AreTaken (items ++ Pair a b ∷ []) numbers (pairs ++ (a, b) ∷ [])
   taken_pair a b = record {
-    named = λ k. (λ c. Contains-append_left items (Pair a b ∷ []) (Listed k) ((taken.named k).0 c), λ c. (taken.named k).1 (fewer items (not_both a b k) c));
+    named = λ k. (λ c. Contains-append_left items (Pair a b ∷ []) (Listed k) ((taken.named k).0 c), λ c. (taken.named k).1 (fewer items (no_list a b k) c));
     own = λ x y. (
       more pairs items (taken.own x y).0 (λ e. ap (λ z. Pair z.0 z.1) e),
       more items pairs (taken.own x y).1 (λ e i. (first_of a b x y e i, second_of a b x y e i)),
@@ -61,10 +56,10 @@ module _ (items : List Item) (numbers : List ℕ) (pairs : List (ℕ × ℕ)) (t
 
   pub taken_list : (j : ℕ) → AreTaken (items ++ Listed j ∷ []) (numbers ++ j ∷ []) pairs
   taken_list j = record {
-    named = λ k. (more numbers items (taken.named k).0 (ap Listed), more items numbers (taken.named k).1 (number_of j k));
+    named = λ k. (more numbers items (taken.named k).0 (ap Listed), more items numbers (taken.named k).1 (number_same j k));
     own = λ x y. (
       λ c. Contains-append_left items (Listed j ∷ []) (Pair x y) ((taken.own x y).0 c),
-      λ c. (taken.own x y).1 (fewer items (λ e. not_both x y j (sym e)) c),
+      λ c. (taken.own x y).1 (fewer items (λ e. no_list x y j (sym e)) c),
     );
     few = let before = taken.few in omega (arith, before, length_push items (Listed j), length_push numbers j);
   }
