@@ -4,7 +4,7 @@ use Rattle.std.specs.List.{Contains}
 use Rattle.std.specs.List.Sorted.{IsStrictlySortedBy}
 use Rattle.lts.specs.Lts.{Grouped, Triple, IsRow}
 use Rattle.lists.specs.Lists.{list_at, pair_cmp, Grow}
-use Rattle.inert.specs.Search.{Search, nothing, mark_at, top, root_at, item_at, Gives, AreSigned, Walks}
+use Rattle.inert.specs.Search.{Search, nothing, mark_at, top, root_at, Gives, AreSigned, Walks}
 use Rattle.inert.specs.Ahead.{unseen, unread, rest, KeepsSeen, HasNumbers}
 use Rattle.inert.specs.declared.step.Step.{Step}
 use Rattle.inert.specs.declared.step.Step.TheVariants.{Inert, Shows}

@@ -1,6 +1,7 @@
 -- A walk at rest: before it has begun, after it has passed a state, as it begins, and when it is over.
 use Rattle.std.proofs.Common.{◌≡◌, ◌≢◌, ℕ, ◌+◌, ◌<◌, ◌≤◌, Bool, List, [], length, Contains, refl, sym, ◌∙◌, ap, subst, inl, inr, arith}
 use Rattle.std.proofs.lemmas.Bool.{cases_eq}
+use Rattle.std.proofs.lemmas.Grind.{common_steps}
 use Rattle.std.proofs.lemmas.List.{length-set, length_push, nil_from_length}
 use Rattle.std.proofs.lemmas.List.Sums.{count_by-le-length}
 use Rattle.lts.specs.Lts.{Grouped, row_of}
@@ -11,7 +12,7 @@ use Rattle.inert.specs.Moves.{Enters, skipped, ahead, Fits, GoesOn, Rests}
 use Rattle.inert.specs.Ahead.{is_unseen, unseen, unread, rest, HasSeen}
 use Rattle.inert.specs.declared.walk.Mark.TheVariants.{Unseen, Open, Finished}
 use Rattle.inert.specs.declared.walk.Frame.{Frame}
-use Rattle.inert.proofs.parts.Marks.{not_both, not_unseen, not_finished, list_same, mark_set, mark_other, seen_more}
+use Rattle.inert.proofs.parts.Marks.{not_unseen, not_finished, list_same, mark_set, mark_other, seen_more}
 use Rattle.inert.proofs.parts.Counting.{unseen-marked, unread-marked, unread-all, rest-push}
 use Rattle.inert.proofs.invariant.Standing.{frames_some, root_low}
 use Rattle.inert.proofs.moves.Entering.{Walks-enter}
@@ -104,10 +105,7 @@ module _ {l : Grouped} {blocks : List ℕ} {alone : List Bool} {lists : List (Li
           let fewer = unseen-marked w.marks s (Finished 0) refl within none in
           let few = rests.numbers.numbers in
           record { size = length-set w.marks s (Finished 0) ∙ rests.numbers.size; some = rests.numbers.some; numbers = omega (arith, few, fewer) };
-      shut = λ t p is. elim (cases_eq t s) [
-        | inl e ↦ not_both p 0 (sym is ∙ ap (mark_at New.marks) e ∙ self)
-        | inr d ↦ rests.shut t p (sym (others t d) ∙ is)
-      ];
+      shut = λ t p is. rests.shut t p (grind (arith, common_steps, none, within, is));
       signed = λ t k is. elim (cases_eq t s) [
         | inl e ↦
             let zero : 0 ≡ k = list_same 0 k (sym self ∙ ap (mark_at New.marks) (sym e) ∙ is) in

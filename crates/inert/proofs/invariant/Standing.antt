@@ -1,27 +1,19 @@
 -- What follows of a walk that stands between two of its steps.
 use Rattle.std.proofs.Common.{◌≡◌, ◌⊎◌, ℕ, ◌-◌, ◌<◌, ◌≤◌, Bool, List, length, slice_index, sym, ◌∙◌, ap, subst, inl, inr, arith}
-use Rattle.std.specs.List.{All, AllPairs}
+use Rattle.std.specs.List.{All}
 use Rattle.std.proofs.lemmas.Bool.{cases_eq, cases_lt}
-use Rattle.std.proofs.lemmas.List.Elements.{All-from_get_or}
+use Rattle.std.proofs.lemmas.List.{get_or_default}
 use Rattle.theory.specs.Bisimulation.Relation.{branching}
 use Rattle.lts.specs.Lts.{Grouped, system_of, source_of, place_at, IsRow}
 use Rattle.inert.specs.Moves.{HasRead}
 use Rattle.inert.specs.declared.walk.Frame.{Frame}
-use Rattle.inert.specs.declared.walk.Root.{Root}
 use Rattle.inert.specs.Signed.{HasPair}
-use Rattle.inert.specs.Search.{Search, Laws, frame_at, no_frame, here, root_at, last, no_root, Ties, IsBefore, IsFrame, Walks}
+use Rattle.inert.specs.Search.{Search, Laws, frame_at, no_frame, here, last, no_root, Ties, IsFrame, Walks}
 
 -- the pairs of a state are those of each state that leads to it
 pub pair_before : (laws : Laws) (l : Grouped) (blocks : List ℕ) (s t : ℕ) (z : ℕ × ℕ) → Ties l blocks s t
     → HasPair branching l blocks t z.0 z.1 → HasPair branching l blocks s z.0 z.1
 pair_before laws l blocks s t z tie has = (has.0, laws.path (system_of l) (slice_index blocks) s t _ z.1 tie has.1)
-
--- of rising roots the last one is of the greatest place, and has the last items
-pub roots_up : (roots : List Root) → AllPairs IsBefore roots → All (λ r. (r.place ≤ (last roots).place) × (r.items ≤ (last roots).items)) roots
-roots_up roots rising = All-from_get_or (λ r. (r.place ≤ (last roots).place) × (r.items ≤ (last roots).items)) roots no_root (λ i h. elim (cases_eq i (length roots - 1)) [
-  | inl e ↦ let place = ap (λ j. (root_at roots j).place) e in let items = ap (λ j. (root_at roots j).items) e in (omega (arith, place), omega (arith, items))
-  | inr d ↦ let up = rising i (length roots - 1) no_root (omega (arith, h, d)) (omega (arith, h)) in (omega (arith, up.0), up.1)
-])
 
 module _ {l : Grouped} {blocks : List ℕ} {alone : List Bool} {lists : List (List (ℕ × ℕ))} {w : Search} (walks : Walks l blocks alone lists w) where
   pub roots_some : 0 < length w.stack → 0 < length w.roots
@@ -80,7 +72,7 @@ module _ {l : Grouped} {blocks : List ℕ} {alone : List Bool} {lists : List (Li
 
   -- no component is after that of the last root
   pub last_most : All (λ r. (r.place ≤ (last w.roots).place) × (r.items ≤ (last w.roots).items)) w.roots
-  last_most = roots_up w.roots walks.roots.rising
+  last_most i d h = grind (arith, walks.roots.rising i (length w.roots - 1) d, get_or_default w.roots (length w.roots - 1) d no_root)
 
   -- inert steps lead to where the walk is from each state on the stack
   pub ties : (p : ℕ) → p < length w.stack → Ties l blocks (slice_index w.stack p) (slice_index w.stack (here w))

@@ -2,8 +2,9 @@
 use Rattle.std.proofs.Common.{◌≡◌, ◌⊎◌, ℕ, ◌+◌, ◌-◌, ◌<◌, ◌≤◌, Bool, List, [], ◌∷◌, ◌++◌, length, take, slice_index, Contains, sym, ◌∙◌, ap, subst, subst₂, inl, inr, arith}
 use Rattle.std.specs.List.{All}
 use Rattle.std.proofs.lemmas.Bool.{cases_eq, cases_lt}
+use Rattle.std.proofs.lemmas.Grind.{common_steps, elements}
 use Rattle.std.proofs.lemmas.List.{get_or_default, get_or-take, length-take-le, length-append, get_or_append_left, get_or_push, length_push}
-use Rattle.std.proofs.lemmas.List.Elements.{All-nil, All-cons, All-append, All-from_get_or, All-take}
+use Rattle.std.proofs.lemmas.List.Elements.{All-nil, All-cons, All-append, All-take}
 use Rattle.theory.specs.Bisimulation.Relation.{branching}
 use Rattle.lts.specs.Lts.{Grouped}
 use Rattle.lists.specs.Lists.{list_at}
@@ -14,8 +15,8 @@ use Rattle.inert.specs.Ahead.{is_unseen}
 use Rattle.inert.specs.declared.walk.Mark.{Mark}
 use Rattle.inert.specs.declared.walk.Mark.TheVariants.{Open, Finished}
 use Rattle.inert.specs.declared.walk.Item.{Item}
-use Rattle.inert.specs.declared.walk.Item.TheVariants.{Listed}
-use Rattle.inert.proofs.parts.Marks.{place_same, list_same, not_both, number_same}
+use Rattle.inert.specs.declared.walk.Item.TheVariants.{Pair, Listed}
+use Rattle.inert.proofs.parts.Marks.{list_same, not_both, number_same}
 use Rattle.inert.proofs.parts.Rising.{AllPairs-take, All-from_take}
 use Rattle.inert.proofs.parts.Counting.{unseen-same}
 use Rattle.inert.proofs.invariant.Standing.{IsFrame-moved, pair_before, stack_some, roots_some, root_low, not_last}
@@ -59,44 +60,24 @@ module _ (laws : Laws) {l : Grouped} {blocks : List ℕ} {alone : List Bool} {li
   state_same p h = get_or-take q w.stack p _ h
 
   before_last : All (λ x. x.place < q) Closed.frames
-  before_last i d h =
-      let low : i < length w.frames - 1 = omega (arith, h, popped_size walks) in
-      let up = walks.frames.rising i (length w.frames - 1) no_frame low (omega (arith, some)) in
-      subst (λ x. x.place < q) (sym (get_or-take (length w.frames - 1) w.frames i d low ∙ get_or_default w.frames i d no_frame (omega (arith, low)))) (omega (arith, up, place))
+  before_last i d h = grind (arith, elements, walks.frames.rising i (length w.frames - 1), get_or_default w.frames (length w.frames - 1) d no_frame, place)
 
   -- the marks
   stays_open : (s p : ℕ) → p < q → mark_at w.marks s ≡ Open p → mark_at Closed.marks s ≡ Open p
-  stays_open s p low is = elim (marks.others s) [
-    | inl e ↦ e ∙ is
-    | inr (m, from, high, same) ↦
-        let e : m ≡ p = place_same m p (sym (walks.opened.marked m high) ∙ ap (mark_at w.marks) same ∙ is) in
-        absurd (omega (arith, e, low, from))
-  ]
+  stays_open s p low is = grind (arith, marks.others s, walks.opened.only s p, walks.opened.marked)
 
   stays_finished : (s k : ℕ) → mark_at w.marks s ≡ Finished k → mark_at Closed.marks s ≡ Finished k
-  stays_finished s k is = elim (marks.others s) [
-    | inl e ↦ e ∙ is
-    | inr (m, from, high, same) ↦ absurd (not_both m k (sym (walks.opened.marked m high) ∙ ap (mark_at w.marks) same ∙ is))
-  ]
+  stays_finished s k is = grind (arith, marks.others s, walks.opened.marked)
 
   pub same_unseen : (s : ℕ) → is_unseen (mark_at Closed.marks s) ≡ is_unseen (mark_at w.marks s)
-  same_unseen s = elim (marks.others s) [
-    | inl e ↦ ap is_unseen e
-    | inr (m, from, high, is) ↦
-        let before : mark_at w.marks s ≡ Open m = ap (mark_at w.marks) (sym is) ∙ walks.opened.marked m high in
-        let after : mark_at Closed.marks s ≡ Finished number = ap (mark_at Closed.marks) (sym is) ∙ marks.members m from high in
-        ap is_unseen after ∙ sym (ap is_unseen before)
-  ]
+  same_unseen s = grind (arith, marks.others s, walks.opened.marked, marks.members)
 
   -- the items before the component's
   cut_size : length (take c0 w.items) ≡ c0
   cut_size = length-take-le c0 w.items few
 
   item_same : (j : ℕ) → j < c0 → (j < length Closed.items) × (item_at Closed.items j ≡ item_at w.items j)
-  item_same j h = (
-    omega (arith, h, length-append (take c0 w.items) added, cut_size),
-    get_or_append_left (take c0 w.items) added _ j (omega (arith, h, cut_size)) ∙ get_or-take c0 w.items j _ h,
-  )
+  item_same j h = (omega (arith, h, length-append (take c0 w.items) added, cut_size), grind (arith, h, cut_size, get_or_append_left (take c0 w.items) added (Pair 0 0) j, get_or-take c0 w.items j (Pair 0 0)))
 
   -- and its list, if some state led to it
   item_new : 0 < length Closed.frames → (length Closed.items ≡ c0 + 1) × (item_at Closed.items c0 ≡ Listed number)
@@ -109,10 +90,7 @@ module _ (laws : Laws) {l : Grouped} {blocks : List ℕ} {alone : List Bool} {li
   ]
 
   no_item : length Closed.frames ≡ 0 → length Closed.items ≡ c0
-  no_item none = elim led [
-    | inl (more, _) ↦ absurd (omega (arith, more, none))
-    | inr (_, e) ↦ ap (λ xs. length (take c0 w.items ++ xs)) e ∙ length-append (take c0 w.items) [] ∙ (let e' = cut_size in omega (arith, e'))
-  ]
+  no_item none = grind (arith, elements, common_steps, led, few, none)
 
   each_item : (P : ℕ → Type 0) → ((j : ℕ) → j < c0 → P j) → (0 < length Closed.frames → P c0) → (j : ℕ) → j < length Closed.items → P j
   each_item P old new j low = elim (cases_lt j c0) [
@@ -141,10 +119,10 @@ module _ (laws : Laws) {l : Grouped} {blocks : List ℕ} {alone : List Bool} {li
 
   -- the roots that are left were roots before the last one
   root_left : All (λ r. IsRoot w.frames w.items r × IsBefore r (last w.roots)) Closed.roots
-  root_left = All-from_get_or (λ r. IsRoot w.frames w.items r × IsBefore r (last w.roots)) Closed.roots no_root (λ i h.
-      let low : i < length w.roots - 1 = (let e = length-take-le (length w.roots - 1) w.roots (omega arith) in omega (arith, h, e)) in
-      subst (λ r. IsRoot w.frames w.items r × IsBefore r (last w.roots)) (sym (get_or-take (length w.roots - 1) w.roots i no_root low))
-      (walks.roots.each i no_root (omega (arith, low)), walks.roots.rising i (length w.roots - 1) no_root low last_low))
+  root_left i d h = (
+    All-take (IsRoot w.frames w.items) (length w.roots - 1) w.roots walks.roots.each i d h,
+    grind (arith, elements, walks.roots.rising i (length w.roots - 1), get_or_default w.roots (length w.roots - 1) d no_root),
+  )
 
   -- the place that led to it
   abbrev back : ℕ

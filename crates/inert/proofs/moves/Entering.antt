@@ -7,15 +7,15 @@ use Rattle.std.proofs.lemmas.List.Elements.{All-push}
 use Rattle.std.proofs.lemmas.List.Quantifiers.{all_pairs_push}
 use Rattle.theory.specs.Blocks.{Inert}
 use Rattle.lts.specs.Lts.{Grouped, system_of, IsRow}
-use Rattle.inert.specs.Search.{Search, Laws, mark_at, frame_at, no_frame, here, root_at, no_root, Ties, IsBefore, IsRoot, IsFrame, IsEntered, IsAhead, AreOpen, AreSigned, AreRoots, AreFrames, AreAccounted, Connects, Walks}
+use Rattle.inert.specs.Search.{Search, Laws, mark_at, frame_at, no_frame, here, no_root, Ties, IsBefore, IsRoot, IsFrame, IsEntered, IsAhead, AreOpen, AreSigned, AreRoots, AreFrames, AreAccounted, Connects, Walks}
 use Rattle.inert.specs.Moves.{entered}
 use Rattle.inert.specs.declared.walk.Mark.{Mark}
 use Rattle.inert.specs.declared.walk.Mark.TheVariants.{Unseen, Open, Finished}
 use Rattle.inert.specs.declared.walk.Frame.{Frame}
 use Rattle.inert.specs.declared.walk.Root.{Root}
-use Rattle.inert.proofs.parts.Marks.{place_same, not_both, not_unseen, not_finished, mark_set, mark_other}
+use Rattle.inert.proofs.parts.Marks.{place_same, not_unseen, not_finished, mark_set, mark_other}
 use Rattle.inert.proofs.parts.Counting.{unseen-marked}
-use Rattle.inert.proofs.invariant.Standing.{IsFrame-moved, ties, frames_some, roots_some, root_low}
+use Rattle.inert.proofs.invariant.Standing.{IsFrame-moved, ties, frames_some, root_low}
 use Rattle.inert.proofs.invariant.Keeping.{Keeps, accounted_still, sound_still}
 
 module _ (laws : Laws) {l : Grouped} {blocks : List ℕ} {alone : List Bool} {lists : List (List (ℕ × ℕ))} {w : Search} (walks : Walks l blocks alone lists w)
@@ -95,12 +95,7 @@ module _ (laws : Laws) {l : Grouped} {blocks : List ℕ} {alone : List Bool} {li
   )
 
   ahead_still : (p k : ℕ) → IsAhead w p k → IsAhead Entered p k
-  ahead_still p k (i, low, is, ahead) = (
-    i,
-    omega (arith, low, frames_size),
-    ap (λ x. x.place) (frame_same i low) ∙ is,
-    subst (λ x. x.next ≤ k) (sym (frame_same i low)) ahead,
-  )
+  ahead_still p k (i, low, is, ahead) = (i, omega (arith, low, frames_size), grind (arith, frame_same i low, is), grind (arith, frame_same i low, ahead))
 
   opened : AreOpen Entered.marks Entered.stack
   opened = record {
@@ -116,10 +111,7 @@ module _ (laws : Laws) {l : Grouped} {blocks : List ℕ} {alone : List Bool} {li
   }
 
   signed : AreSigned l blocks alone lists Entered.marks
-  signed s k is = elim (cases_eq s t) [
-    | inl e ↦ absurd (not_both n k (sym self ∙ ap (mark_at Entered.marks) (sym e) ∙ is))
-    | inr d ↦ walks.signed s k (sym (others s d) ∙ is)
-  ]
+  signed s k is = walks.signed s k (grind (arith, common_steps, unseen, within, is))
 
   roots : AreRoots Entered
   roots = record {

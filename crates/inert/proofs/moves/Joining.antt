@@ -1,9 +1,10 @@
 -- The walk after an inert step to a state that is open: the components from there on are one.
-use Rattle.std.proofs.Common.{◌≡◌, ℕ, ◌-◌, ◌<◌, ◌≤◌, Bool, List, length, take, slice_index, refl, sym, ◌∙◌, ap, subst, inl, inr, arith}
+use Rattle.std.proofs.Common.{◌≡◌, ℕ, ◌-◌, ◌<◌, ◌≤◌, Bool, List, length, slice_index, refl, sym, subst, inl, inr, arith}
 use Rattle.std.specs.List.{All, AllPairs}
-use Rattle.std.proofs.lemmas.Bool.{cases_eq, cases_lt}
-use Rattle.std.proofs.lemmas.List.{get_or-take, length-take-le}
-use Rattle.std.proofs.lemmas.List.Elements.{All-from_get_or, All-take}
+use Rattle.std.proofs.lemmas.Bool.{cases_lt}
+use Rattle.std.proofs.lemmas.Grind.{elements}
+use Rattle.std.proofs.lemmas.List.{get_or_default}
+use Rattle.std.proofs.lemmas.List.Elements.{All-take}
 use Rattle.theory.specs.Blocks.{Inert}
 use Rattle.lts.specs.Lts.{Grouped, system_of}
 use Rattle.inert.specs.Search.{Search, Laws, mark_at, here, root_at, no_root, Ties, IsUpTo, IsBefore, IsRoot, IsHere, Walks}
@@ -11,7 +12,7 @@ use Rattle.inert.specs.Moves.{Cuts}
 use Rattle.inert.specs.declared.walk.Root.{Root}
 use Rattle.inert.specs.declared.walk.Mark.TheVariants.{Open}
 use Rattle.inert.proofs.parts.Rising.{AllPairs-take, All-from_take}
-use Rattle.inert.proofs.invariant.Standing.{roots_up, reached, ties}
+use Rattle.inert.proofs.invariant.Standing.{reached, ties}
 use Rattle.inert.proofs.invariant.Keeping.{Keeps, keeps_stack, accounted_still, sound_still}
 
 -- roots that were cut above the place q
@@ -36,13 +37,7 @@ module _ (laws : Laws) {l : Grouped} {blocks : List ℕ} {alone : List Bool} {li
 
   -- the last root that is left is up to q, so all are
   below : All (λ r. r.place ≤ q) roots
-  below i d h =
-      let size = ap length cuts.roots ∙ length-take-le cuts.kept w.roots cuts.within in
-      let low : length roots - 1 < cuts.kept = omega (arith, h, size) in
-      let same = ap (λ xs. (root_at xs (length roots - 1)).place) cuts.roots ∙ ap (λ r. r.place) (get_or-take cuts.kept w.roots (length roots - 1) no_root low)
-      ∙ ap (λ n. (root_at w.roots (n - 1)).place) size in
-      let most = cuts.below (omega (arith, low)) in
-      omega (arith, (roots_up roots rising i d h).0, same, most)
+  below i d h = grind (arith, elements, cuts.below, cuts.roots, walks.roots.rising i (cuts.kept - 1), get_or_default w.roots (cuts.kept - 1) d no_root)
 
   -- the state that the step leads to is in the component where the walk is
   pub joined_here : (t : ℕ) → mark_at w.marks t ≡ Open q → IsHere Joined (here w) t

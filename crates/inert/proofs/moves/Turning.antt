@@ -2,6 +2,7 @@
 use Rattle.std.proofs.Common.{◌≡◌, ◌≢◌, ◌⊎◌, ℕ, ◌+◌, ◌-◌, ◌<◌, ◌≤◌, Bool, List, length, set, get_or, slice_index, refl, sym, ◌∙◌, ap, subst, inl, inr, arith}
 use Rattle.std.specs.List.{All}
 use Rattle.std.proofs.lemmas.Bool.{cases_eq, cases_lt}
+use Rattle.std.proofs.lemmas.Grind.{common_steps, elements}
 use Rattle.std.proofs.lemmas.List.{get_or-set_same, get_or-set_other, get_or_default, length-set, get_or-take, length-take-le}
 use Rattle.std.proofs.lemmas.List.Elements.{All-set, All-take}
 use Rattle.lts.specs.Lts.{Grouped, source_of, place_at}
@@ -26,12 +27,7 @@ module _ {l : Grouped} {blocks : List ℕ} {alone : List Bool} {lists : List (Li
     others j d = get_or-set_other w.frames i j x no_frame d
 
     places_same : (j : ℕ) (d : Frame) → (get_or Moved.frames j d).place ≡ (get_or w.frames j d).place
-    places_same j d = elim (cases_eq j i) [
-      | inl e ↦
-          ap (λ k. (get_or Moved.frames k d).place) e ∙ ap (λ y. y.place) (get_or-set_same w.frames i x d low ∙ is)
-          ∙ ap (λ y. y.place) (get_or_default w.frames i no_frame d low) ∙ ap (λ k. (get_or w.frames k d).place) (sym e)
-      | inr other ↦ ap (λ y. y.place) (get_or-set_other w.frames i j x d other)
-    ]
+    places_same j d = grind (arith, elements, common_steps, is, get_or_default w.frames i no_frame d)
 
     keeps : Keeps w Moved (length w.stack)
     keeps = keeps_stack w Moved.frames w.roots w.items (λ j h. (h, refl)) (λ P each. each)
@@ -116,12 +112,8 @@ module _ {l : Grouped} {blocks : List ℕ} {alone : List Bool} {lists : List (Li
 
   pub popped_entered : (p t i : ℕ) → i + 1 < length w.frames - 1 → (frame_at w.frames i).place ≡ p → slice_index w.stack (frame_at w.frames (i + 1)).place ≡ t
       → IsEntered (popped w) p t
-  popped_entered p t i low is to = (
-    i,
-    omega (arith, low, popped_size),
-    ap (λ x. x.place) (popped_same i (omega (arith, low))) ∙ is,
-    ap (λ x. slice_index w.stack x.place) (popped_same (i + 1) low) ∙ to,
-  )
+  popped_entered p t i low is to =
+      (i, omega (arith, low, popped_size), grind (arith, popped_same i, low, is), grind (arith, popped_same (i + 1), low, to))
 
   -- the row of the last frame was read, and no component begins there
   module _ (some : 0 < length w.frames) (read : HasRead w) (apart : (last w.roots).place ≢ here w) where

@@ -1,6 +1,5 @@
 -- If the rows of the last component are read, what it has collected is exactly the signature of each of its states.
 use Rattle.std.proofs.Common.{◌≡◌, ℕ, ◌+◌, ◌-◌, ◌<◌, ◌≤◌, Bool, List, [], ◌∷◌, length, drop, get_or, slice_index, slice_index_or, false, IsTrue, sym, ◌∙◌, ap, subst, inl, inr, arith}
-use Rattle.std.proofs.lemmas.Bool.{cases_lt}
 use Rattle.std.proofs.lemmas.List.{length-map, get_or-map, get_or-drop, get_or_default, length-drop}
 use Rattle.theory.specs.System.{Step, Along, internal}
 use Rattle.theory.specs.Bisimulation.Relation.{branching}
