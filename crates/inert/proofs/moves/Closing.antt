@@ -139,10 +139,8 @@ module _ (laws : Laws) {l : Grouped} {blocks : List ℕ} {alone : List Bool} {li
       let (root, before) = root_left k d h in
       let (i, low, is) = root.framed in
       let low' = not_last walks i low (omega (arith, is, before.0, place)) in
-      elim (cases_eq i (length w.frames - 2)) [
-        | inl e ↦ let same = ap (λ j. (frame_at w.frames j).place) e in omega (arith, same, is)
-        | inr d' ↦ let up = walks.frames.rising i (length w.frames - 2) no_frame (omega (arith, low', d')) (omega (arith, some)) in omega (arith, up, is)
-      ]
+      let up = walks.frames.rising i (length w.frames - 2) no_frame in
+      grind (arith, up, low', is, some)
 
   of_back : 0 < length Closed.frames → IsOf Closed.roots c0 back
   of_back more i d h = (λ _. (root_left i d h).1.1, λ lt. let up = up_to_back more i d h in absurd (omega (arith, lt, up)))

@@ -87,12 +87,9 @@ module _ (laws : Laws) {l : Grouped} {blocks : List ℕ} {alone : List Bool} {li
       )
 
   entered_still : (p u : ℕ) → IsEntered w p u → IsEntered Entered p u
-  entered_still p u (i, low, is, to) = (
-    i,
-    omega (arith, low, frames_size),
-    ap (λ x. x.place) (frame_same i (omega (arith, low))) ∙ is,
-    ap (λ x. slice_index Entered.stack x.place) (frame_same (i + 1) low) ∙ state_same (frame_at w.frames (i + 1)).place (walks.frames.each (i + 1) no_frame low).on_stack ∙ to,
-  )
+  entered_still p u (i, low, is, to) =
+      let on = (walks.frames.each (i + 1) no_frame low).on_stack in
+      (i, omega (arith, low, frames_size), grind (arith, frame_same i, low, is), grind (arith, frame_same (i + 1), state_same, on, low, to))
 
   ahead_still : (p k : ℕ) → IsAhead w p k → IsAhead Entered p k
   ahead_still p k (i, low, is, ahead) = (i, omega (arith, low, frames_size), grind (arith, frame_same i low, is), grind (arith, frame_same i low, ahead))

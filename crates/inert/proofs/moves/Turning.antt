@@ -143,10 +143,8 @@ module _ {l : Grouped} {blocks : List ℕ} {alone : List Bool} {lists : List (Li
                 let (k, lk, place) = (walks.roots.each j d h).framed in
                 let first = earlier j d h in
                 let less = not_last walks k lk (omega (arith, first, place)) in
-                elim (cases_eq k i) [
-                  | inl e' ↦ let same = ap (λ y. (frame_at w.frames y).place) e' in omega (arith, same, place, is)
-                  | inr d' ↦ let up' = walks.frames.rising k i no_frame (omega (arith, less, e, d')) (omega (arith, low)) in omega (arith, up', place, is)
-                ],
+                let up' = walks.frames.rising k i no_frame in
+                grind (arith, up', less, e, place, is, low),
           )
     ]
 

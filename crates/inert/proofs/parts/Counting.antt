@@ -1,9 +1,10 @@
 -- What a walk has still to read: how it shrinks as states are entered and their rows are read.
 use Rattle.std.proofs.Common.{◌≡◌, ◌∙◌, ℕ, suc, ◌+◌, ◌-◌, ◌<◌, ◌≤◌, Bool, true, false, cond, eqb, List, [], ◌∷◌, ◌++◌, length, set, take, map, get_or, ap, refl, sym, inl, inr, arith}
 use Rattle.std.specs.List.{All, sum, sum_by}
-use Rattle.std.proofs.lemmas.Grind.{get_or-set_at}
-use Rattle.std.proofs.lemmas.Bool.{cases_eq, eq-eqb, ne_eqb}
-use Rattle.std.proofs.lemmas.List.{ext_get_or, get_or-map, get_or-set_other, length-map, take_all}
+use Rattle.std.proofs.lemmas.Grind.{common_steps}
+use Rattle.std.proofs.lemmas.Bool.Decides.{nat_tests}
+use Rattle.std.proofs.lemmas.Bool.{cases_eq, ne_eqb}
+use Rattle.std.proofs.lemmas.List.{ext_get_or, get_or-map, length-map, take_all}
 use Rattle.std.proofs.lemmas.List.Elements.{All-head, All-tail, filter_agree}
 use Rattle.std.proofs.lemmas.List.Sums.{length-filter, sum-map, sum_by-cons, sum_by-le, sum_by_more, sum_by_push, sum_by-set}
 use Rattle.lts.specs.Lts.{Triple, source_of, row_of}
@@ -47,17 +48,7 @@ module _ (marks : List Mark) (t : ℕ) (m : Mark) (met : is_unseen m ≡ false) 
       omega arith
 
   one-marked : (e : Triple) → to_read (set marks t m) e + one (eqb (source_of e) t) ≡ to_read marks e
-  one-marked e = elim (cases_eq (source_of e) t) [
-    | inl same ↦
-        let before : mark_at marks (source_of e) ≡ Unseen = ap (mark_at marks) same ∙ was in
-        let after : mark_at (set marks t m) (source_of e) ≡ m = get_or-set_at marks t (source_of e) m Unseen same below in
-        let here : eqb (source_of e) t ≡ true = eq-eqb (source_of e) t same in
-        rw (before, after, here, met) refl
-    | inr d ↦
-        let after : mark_at (set marks t m) (source_of e) ≡ mark_at marks (source_of e) = get_or-set_other marks t (source_of e) m Unseen d in
-        let elsewhere : eqb (source_of e) t ≡ false = ne_eqb (source_of e) t d in
-        rw (after, elsewhere) (omega arith)
-  ]
+  one-marked e = grind (arith, common_steps, nat_tests, met, was, below)
 
   pub unread-marked : (places : List Triple) → unread places (set marks t m) + length (row_of t places) ≡ unread places marks
   unread-marked places =
