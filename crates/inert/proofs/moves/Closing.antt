@@ -16,7 +16,7 @@ use Rattle.inert.specs.declared.walk.Mark.{Mark}
 use Rattle.inert.specs.declared.walk.Mark.TheVariants.{Open, Finished}
 use Rattle.inert.specs.declared.walk.Item.{Item}
 use Rattle.inert.specs.declared.walk.Item.TheVariants.{Pair, Listed}
-use Rattle.inert.proofs.parts.Marks.{list_same, not_both, number_same}
+use Rattle.inert.proofs.parts.Marks.{list_same, number_same}
 use Rattle.inert.proofs.parts.Rising.{AllPairs-take, All-from_take}
 use Rattle.inert.proofs.parts.Counting.{unseen-same}
 use Rattle.inert.proofs.invariant.Standing.{IsFrame-moved, pair_before, stack_some, roots_some, root_low, not_last}
@@ -166,19 +166,11 @@ module _ (laws : Laws) {l : Grouped} {blocks : List ℕ} {alone : List Bool} {li
 
   opened : AreOpen Closed.marks Closed.stack
   opened = record {
-    marked = λ p h.
-        let low : p < q = omega (arith, h, size) in
-        ap (mark_at Closed.marks) (state_same p low) ∙ stays_open _ p low (walks.opened.marked p (omega (arith, low, low_q)));
-    only = λ s p is. elim (marks.others s) [
-      | inl e ↦
-          let was = walks.opened.only s p (sym e ∙ is) in
-          let low : p < q = elim (cases_lt p q) [
-            | inl low ↦ low
-            | inr high ↦ absurd (not_both p number (sym is ∙ ap (mark_at Closed.marks) (sym was.1) ∙ marks.members p high was.0))
-          ] in
-          (omega (arith, low, size), state_same p low ∙ was.1)
-      | inr (m, from, high, same) ↦ absurd (not_both p number (sym is ∙ ap (mark_at Closed.marks) (sym same) ∙ marks.members m from high))
-    ];
+    marked = λ p h. grind (arith, state_same p, stays_open (slice_index w.stack p) p, walks.opened.marked p, size, low_q, h);
+    only = λ s p is. (
+      grind (arith, marks.others s, marks.members, walks.opened.only s p, is, size),
+      grind (arith, marks.others s, marks.members, walks.opened.only s p, state_same p, is),
+    );
   }
 
   signed : AreSigned l blocks alone lists Closed.marks
@@ -252,10 +244,7 @@ module _ (laws : Laws) {l : Grouped} {blocks : List ℕ} {alone : List Bool} {li
   pub lighter : weight Closed + (length w.items - c0) + 2 ≤ weight w
   lighter =
       let same = unseen-same w.marks new_marks same_unseen marks.size in
-      elim (cases_lt 0 (length Closed.frames)) [
-        | inl more ↦ let items = (item_new more).0 in omega (arith, same, size, few, popped_size walks, low_q, items, more)
-        | inr none ↦ let items = no_item (omega (arith, none)) in omega (arith, same, size, few, popped_size walks, low_q, items, none)
-      ]
+      grind (arith, same, size, few, popped_size walks, low_q, item_new, no_item, led)
 
   pub Walks-closed : Walks l blocks alone lists Closed
   Walks-closed = record {

@@ -13,7 +13,7 @@ use Rattle.inert.specs.declared.walk.Mark.{Mark}
 use Rattle.inert.specs.declared.walk.Mark.TheVariants.{Unseen, Open, Finished}
 use Rattle.inert.specs.declared.walk.Frame.{Frame}
 use Rattle.inert.specs.declared.walk.Root.{Root}
-use Rattle.inert.proofs.parts.Marks.{place_same, not_unseen, not_finished, mark_set, mark_other}
+use Rattle.inert.proofs.parts.Marks.{not_unseen, not_finished, mark_set, mark_other}
 use Rattle.inert.proofs.parts.Counting.{unseen-marked}
 use Rattle.inert.proofs.invariant.Standing.{IsFrame-moved, ties, frames_some, root_low}
 use Rattle.inert.proofs.invariant.Keeping.{Keeps, accounted_still, sound_still}
@@ -78,13 +78,12 @@ module _ (laws : Laws) {l : Grouped} {blocks : List ℕ} {alone : List Bool} {li
 
   -- the walk went to the state t from where it was
   pub entered_met : 0 < length w.frames → IsEntered Entered (here w) t
-  entered_met some =
-      let e : length w.frames - 1 + 1 ≡ length w.frames = omega (arith, some) in (
-        length w.frames - 1,
-        omega (arith, some, frames_size),
-        ap (λ x. x.place) (frame_same (length w.frames - 1) (omega (arith, some))),
-        ap (λ i. slice_index Entered.stack (frame_at Entered.frames i).place) e ∙ ap (λ x. slice_index Entered.stack x.place) frame_new ∙ state_new,
-      )
+  entered_met some = (
+    length w.frames - 1,
+    omega (arith, some, frames_size),
+    grind (arith, frame_same (length w.frames - 1), some),
+    grind (arith, frame_new, state_new, some),
+  )
 
   entered_still : (p u : ℕ) → IsEntered w p u → IsEntered Entered p u
   entered_still p u (i, low, is, to) =
@@ -97,14 +96,10 @@ module _ (laws : Laws) {l : Grouped} {blocks : List ℕ} {alone : List Bool} {li
   opened : AreOpen Entered.marks Entered.stack
   opened = record {
     marked = λ p h. grind (arith, common_steps, elements, walks.opened.marked p, unseen, within, h);
-    only = λ s p is. elim (cases_eq s t) [
-      | inl e ↦
-          let at : p ≡ n = place_same p n (sym is ∙ ap (mark_at Entered.marks) e ∙ self) in
-          (omega (arith, at, size), ap (slice_index Entered.stack) at ∙ state_new ∙ sym e)
-      | inr d ↦
-          let was = walks.opened.only s p (sym (others s d) ∙ is) in
-          (omega (arith, was.0, size), state_same p was.0 ∙ was.1)
-    ];
+    only = λ s p is. (
+      grind (arith, others s, self, walks.opened.only s p, size, is),
+      grind (arith, others s, self, walks.opened.only s p, state_same p, state_new, is),
+    );
   }
 
   signed : AreSigned l blocks alone lists Entered.marks

@@ -1,9 +1,8 @@
 -- What a walk has still to read: how it shrinks as states are entered and their rows are read.
-use Rattle.std.proofs.Common.{◌≡◌, ◌∙◌, ℕ, suc, ◌+◌, ◌-◌, ◌<◌, ◌≤◌, Bool, true, false, cond, eqb, List, [], ◌∷◌, ◌++◌, length, set, take, map, get_or, ap, refl, sym, inl, inr, arith}
+use Rattle.std.proofs.Common.{◌≡◌, ◌∙◌, ℕ, suc, ◌+◌, ◌-◌, ◌<◌, ◌≤◌, Bool, false, cond, eqb, List, [], ◌∷◌, ◌++◌, length, set, take, map, get_or, ap, refl, sym, arith}
 use Rattle.std.specs.List.{All, sum, sum_by}
 use Rattle.std.proofs.lemmas.Grind.{common_steps}
 use Rattle.std.proofs.lemmas.Bool.Decides.{nat_tests}
-use Rattle.std.proofs.lemmas.Bool.{cases_eq, ne_eqb}
 use Rattle.std.proofs.lemmas.List.{ext_get_or, get_or-map, length-map, take_all}
 use Rattle.std.proofs.lemmas.List.Elements.{All-head, All-tail, filter_agree}
 use Rattle.std.proofs.lemmas.List.Sums.{length-filter, sum-map, sum_by-cons, sum_by-le, sum_by_more, sum_by_push, sum_by-set}
@@ -41,11 +40,7 @@ row_sum places s = length-filter (λ e. eqb (source_of e) s) places
 
 module _ (marks : List Mark) (t : ℕ) (m : Mark) (met : is_unseen m ≡ false) (below : t < length marks) (was : mark_at marks t ≡ Unseen) where
   pub unseen-marked : unseen (set marks t m) + 1 ≡ unseen marks
-  unseen-marked =
-      let now = sum_by-set (λ x. one (is_unseen x)) marks t m Unseen below in
-      let gone : one (is_unseen m) ≡ 0 = ap one met in
-      let before : one (is_unseen (mark_at marks t)) ≡ 1 = ap (λ m. one (is_unseen m)) was in
-      omega arith
+  unseen-marked = grind (arith, nat_tests, sum_by-set (λ x. one (is_unseen x)) marks t m Unseen below, met, was)
 
   one-marked : (e : Triple) → to_read (set marks t m) e + one (eqb (source_of e) t) ≡ to_read marks e
   one-marked e = grind (arith, common_steps, nat_tests, met, was, below)
@@ -105,19 +100,15 @@ unread-none (e ∷ es) marks each below =
     let here = each (source_of e) (All-head (λ x. source_of x < length marks) e es below) in
     rw (seen (mark_at marks (source_of e)) here) (unread-none es marks each (All-tail (λ x. source_of x < length marks) e es below))
 
-one-le : (b : Bool) → one b ≤ 1
-one-le true = omega arith
-one-le false = omega arith
+at_most : (marks : List Mark) (s : ℕ) → ¬ (mark_at marks s ≡ Unseen) → (e : Triple) → to_read marks e + one (eqb (source_of e) s) ≤ 1
+at_most marks s was e = grind (arith, nat_tests, was, seen (mark_at marks s))
 
 -- the row of a state that was seen is not among what is still to be read
 pub unread-seen : (places : List Triple) (marks : List Mark) (s : ℕ) → ¬ (mark_at marks s ≡ Unseen) →
     unread places marks + length (row_of s places) ≤ length places
 unread-seen places marks s was =
     let row : Triple → ℕ = λ e. one (eqb (source_of e) s) in
-    let most : (e : Triple) → to_read marks e + row e ≤ 1 = λ e. elim (cases_eq (source_of e) s) [
-      | inl same ↦ rw (seen (mark_at marks (source_of e)) (λ is. was (ap (mark_at marks) (sym same) ∙ is))) (let most = one-le (eqb (source_of e) s) in omega arith)
-      | inr other ↦ rw (ne_eqb (source_of e) s other) (let most = one-le (is_unseen (mark_at marks (source_of e))) in omega arith)
-    ] in
+    let most : (e : Triple) → to_read marks e + row e ≤ 1 = λ e. at_most marks s was e in
     let add = sums_add (to_read marks) row (λ e. to_read marks e + row e) places (λ e. refl) in
     let all = sum_by-le (λ e. to_read marks e + row e) 1 places (λ k d h. most (get_or places k d)) in
     omega (arith, add, all, unread_sum places marks, row_sum places s)

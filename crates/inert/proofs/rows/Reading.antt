@@ -1,5 +1,5 @@
 -- The walk while the row of its last frame is read.
-use Rattle.std.proofs.Common.{◌≡◌, ℕ, ◌+◌, ◌-◌, ◌<◌, ◌≤◌, List, length, set, slice_index, Bool, refl, sym, ◌∙◌, ap, subst, inl, inr, arith}
+use Rattle.std.proofs.Common.{◌≡◌, ℕ, ◌+◌, ◌-◌, ◌<◌, ◌≤◌, List, length, set, slice_index, Bool, refl, sym, ◌∙◌, ap, subst, arith}
 use Rattle.std.specs.Prelude.{IsTrue}
 use Rattle.std.proofs.lemmas.List.{get_or-set_same, length-set}
 use Rattle.lts.specs.Meter.{Counts, Costs}
@@ -86,10 +86,7 @@ module _ {l : Grouped} {blocks : List ℕ} {alone : List Bool} {lists : List (Li
             taken laws lts on.walks now_some next_is now_more step m enters (subst (λ b. IsStep l blocks b (place_at l.places k) step) same_block is_step) takes
 
         pub still_there : i < length m.frames
-        still_there = let size = reads.size in elim (true_or_not enters) [
-          | inl went ↦ let longer = took.longer went in omega (arith, longer, size, last, some)
-          | inr stay ↦ let same = ap length (took.still stay).0 in omega (arith, same, size, last, some)
-        ]
+        still_there = grind (arith, true_or_not enters, took.longer, took.still, reads.size, last, some)
 
         same_frame : frame_at m.frames i ≡ top w.frames
         same_frame = ap (frame_at m.frames) (let size = reads.size in let e : i ≡ length w.frames - 1 = omega (arith, size, last) in e) ∙ took.same_frame
