@@ -1,7 +1,7 @@
 -- What follows of a walk that stands between two of its steps.
-use Rattle.std.proofs.Common.{◌≡◌, ◌⊎◌, ℕ, ◌-◌, ◌<◌, ◌≤◌, Bool, List, length, slice_index, sym, ◌∙◌, ap, subst, inl, inr, arith}
+use Rattle.std.proofs.Common.{◌≡◌, ℕ, ◌-◌, ◌<◌, ◌≤◌, Bool, List, length, slice_index, sym, ◌∙◌, ap, subst, inl, inr, arith}
 use Rattle.std.specs.List.{All}
-use Rattle.std.proofs.lemmas.Bool.{cases_eq, cases_lt}
+use Rattle.std.proofs.lemmas.Bool.{cases_lt}
 use Rattle.std.proofs.lemmas.List.{get_or_default}
 use Rattle.theory.specs.Bisimulation.Relation.{branching}
 use Rattle.lts.specs.Lts.{Grouped, system_of, source_of, place_at, IsRow}
@@ -32,21 +32,14 @@ module _ {l : Grouped} {blocks : List ℕ} {alone : List Bool} {lists : List (Li
   stack_some some = let low = on_stack some in omega (arith, low)
 
   -- a frame is the last one, or of an earlier place
-  frame_cases : (i : ℕ) → i < length w.frames
-      → ((i ≡ length w.frames - 1) × ((frame_at w.frames i).place ≡ here w)) ⊎ ((i < length w.frames - 1) × ((frame_at w.frames i).place < here w))
-  frame_cases i low = elim (cases_eq i (length w.frames - 1)) [
-    | inl e ↦ inl (e, ap (λ j. (frame_at w.frames j).place) e)
-    | inr d ↦ let less : i < length w.frames - 1 = omega (arith, low, d) in inr (less, walks.frames.rising i (length w.frames - 1) no_frame less (omega (arith, low)))
-  ]
-
   pub frames_up : (i : ℕ) → i < length w.frames → (frame_at w.frames i).place ≤ here w
-  frames_up i low = omega (arith, frame_cases i low)
+  frames_up i low = grind (arith, walks.frames.rising i (length w.frames - 1) no_frame, low)
 
   pub not_last : (i : ℕ) → i < length w.frames → (frame_at w.frames i).place < here w → i < length w.frames - 1
-  not_last i low before = omega (arith, frame_cases i low, before)
+  not_last i low before = grind (arith, low, before)
 
   pub last_frame : (i : ℕ) → i < length w.frames → here w ≤ (frame_at w.frames i).place → i ≡ length w.frames - 1
-  last_frame i low high = omega (arith, frame_cases i low, high)
+  last_frame i low high = grind (arith, walks.frames.rising i (length w.frames - 1) no_frame, low, high)
 
   -- if the row of the last frame was read, none of its transitions is ahead
   pub none_ahead : HasRead w → (p k i : ℕ) → k < length l.places → source_of (place_at l.places k) ≡ slice_index w.stack p → i < length w.frames

@@ -1,7 +1,7 @@
 -- The walk after its last component was finished, with its list among the lists.
 use Rattle.std.proofs.Common.{◌≡◌, ◌⊎◌, ℕ, ◌+◌, ◌-◌, ◌<◌, ◌≤◌, Bool, List, [], ◌∷◌, ◌++◌, length, take, slice_index, Contains, sym, ◌∙◌, ap, subst, subst₂, inl, inr, arith}
 use Rattle.std.specs.List.{All}
-use Rattle.std.proofs.lemmas.Bool.{cases_eq, cases_lt}
+use Rattle.std.proofs.lemmas.Bool.{cases_eq}
 use Rattle.std.proofs.lemmas.Grind.{common_steps, elements}
 use Rattle.std.proofs.lemmas.List.{get_or_default, get_or-take, length-take-le, length-append, get_or_append_left, get_or_push, length_push}
 use Rattle.std.proofs.lemmas.List.Elements.{All-nil, All-cons, All-append, All-take}
@@ -81,25 +81,16 @@ module _ (laws : Laws) {l : Grouped} {blocks : List ℕ} {alone : List Bool} {li
 
   -- and its list, if some state led to it
   item_new : 0 < length Closed.frames → (length Closed.items ≡ c0 + 1) × (item_at Closed.items c0 ≡ Listed number)
-  item_new more = elim led [
-    | inl (_, e) ↦ (
-      ap (λ xs. length (take c0 w.items ++ xs)) e ∙ length_push (take c0 w.items) (Listed number) ∙ ap (λ n. n + 1) cut_size,
-      ap (λ xs. item_at (take c0 w.items ++ xs) c0) e ∙ get_or_push (take c0 w.items) (Listed number) _ c0 cut_size,
-    )
-    | inr (none, _) ↦ absurd (omega (arith, more, none))
-  ]
+  item_new more = (
+    grind (arith, led, cut_size, length_push (take c0 w.items) (Listed number), more),
+    grind (arith, led, cut_size, get_or_push (take c0 w.items) (Listed number) (Pair 0 0) c0, more),
+  )
 
   no_item : length Closed.frames ≡ 0 → length Closed.items ≡ c0
   no_item none = grind (arith, elements, common_steps, led, few, none)
 
   each_item : (P : ℕ → Type 0) → ((j : ℕ) → j < c0 → P j) → (0 < length Closed.frames → P c0) → (j : ℕ) → j < length Closed.items → P j
-  each_item P old new j low = elim (cases_lt j c0) [
-    | inl h ↦ old j h
-    | inr h ↦ elim (cases_lt 0 (length Closed.frames)) [
-      | inl more ↦ let e : c0 ≡ j = (let n = (item_new more).0 in omega (arith, n, h, low)) in subst P e (new more)
-      | inr none ↦ let n = no_item (omega (arith, none)) in absurd (omega (arith, n, h, low))
-    ]
-  ]
+  each_item P old new j low = grind (arith, old j, new, item_new, no_item, low)
 
   -- an item of a component that stays is before those of the finished one
   item_before : (j p : ℕ) → p < q → IsOf w.roots j p → j < c0

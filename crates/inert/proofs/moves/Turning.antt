@@ -69,11 +69,7 @@ module _ {l : Grouped} {blocks : List ℕ} {alone : List Bool} {lists : List (Li
               record { framed = (j, omega (arith, lj, size), places_same j no_frame ∙ at); within = root.within };
         };
         frames = record {
-          rising = λ j k d h h'.
-              let up = walks.frames.rising j k d h (omega (arith, h', size)) in
-              let e = places_same j d in
-              let e' = places_same k d in
-              omega (arith, up, e, e');
+          rising = λ j k d h h'. grind (arith, walks.frames.rising j k d h, places_same j d, places_same k d, size, h');
           each =
               let frame = walks.frames.each i no_frame low in
               All-set (IsFrame l w.stack) w.frames i x
