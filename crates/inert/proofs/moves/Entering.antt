@@ -108,10 +108,7 @@ module _ (laws : Laws) {l : Grouped} {blocks : List ℕ} {alone : List Bool} {li
   roots : AreRoots Entered
   roots = record {
     first = λ _ all. elim (cases_eq n 0) [
-      | inl e ↦
-          let up = all (length w.roots) no_root (omega (arith, roots_size)) in
-          let new = ap (λ r. r.place) (get_or_push w.roots NewRoot no_root (length w.roots) refl) in
-          omega (arith, up, new, e)
+      | inl e ↦ grind (arith, all (length w.roots) no_root, roots_size, get_or_push w.roots NewRoot no_root (length w.roots) refl, e)
       | inr d ↦ walks.roots.first (omega (arith, d)) (λ i x h. subst (λ r. 0 < r.place) (get_or_append_left w.roots _ x i h) (all i x (omega (arith, h, roots_size))))
     ];
     rising = all_pairs_push IsBefore w.roots NewRoot walks.roots.rising (λ i d h. (root_low walks i d h, (walks.roots.each i d h).within));
@@ -159,9 +156,8 @@ module _ (laws : Laws) {l : Grouped} {blocks : List ℕ} {alone : List Bool} {li
             (laws.after (system_of l) (slice_index blocks) _ _ _ (ties walks p low) (step (frames_some walks (omega (arith, low)))))
       ]
       | inr high ↦
-          let new = ap (λ r. r.place) (get_or_push w.roots NewRoot no_root (length w.roots) refl) in
-          let le = h (length w.roots) no_root (omega (arith, roots_size)) (omega (arith, new, high)) in
-          let e : p ≡ q = omega (arith, lp, lq, high, le, new, size) in
+          let new = get_or_push w.roots NewRoot no_root (length w.roots) refl in
+          let e : p ≡ q = grind (arith, h (length w.roots) no_root, roots_size, new, lp, lq, high, size) in
           subst (λ x. Ties l blocks (slice_index Entered.stack p) (slice_index Entered.stack x)) e
           (laws.here (system_of l) (slice_index blocks) (slice_index Entered.stack p))
     ]

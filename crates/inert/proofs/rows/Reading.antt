@@ -33,11 +33,7 @@ pub reads_none : (l : Grouped) (w : Search) → Reads l w w (top w.frames).next
 reads_none l w = record { size = refl; here = refl; stack = refl; forward = omega arith; less = refl }
 
 pub entered_steps : {l : Grouped} {old new : Search} {k : ℕ} → Entered l old new k → steps l new < steps l old
-entered_steps entered =
-    let size = entered.size in
-    let less = entered.less in
-    let forward = entered.forward in
-    omega (arith, size, less, forward)
+entered_steps entered = grind (arith, entered.size, entered.less, entered.forward)
 
 module _ {l : Grouped} {blocks : List ℕ} {alone : List Bool} {lists : List (List (ℕ × ℕ))} {first w : Search} {k : ℕ} (on : GoesOn l blocks alone lists first w)
     (reads : Reads l first w k) (some : 0 < length first.frames) where
