@@ -120,9 +120,7 @@ module _ (laws : Laws) {l : Grouped} {blocks : List ℕ} {alone : List Bool} {li
   back = (frame_at w.frames (length w.frames - 2)).place
 
   back_low : 0 < length Closed.frames → back < q
-  back_low more =
-      let up = walks.frames.rising (length w.frames - 2) (length w.frames - 1) no_frame (omega (arith, more, popped_size walks)) (omega (arith, some)) in
-      omega (arith, up, place)
+  back_low more = grind (arith, walks.frames.rising (length w.frames - 2) (length w.frames - 1) no_frame, more, popped_size walks, some, place)
 
   -- components that stay begin up to it
   up_to_back : 0 < length Closed.frames → All (λ r. r.place ≤ back) Closed.roots

@@ -99,8 +99,7 @@ module _ {l : Grouped} {blocks : List ℕ} {alone : List Bool} {lists : List (Li
   pub popped_framed : (p : ℕ) → p < here w → (i : ℕ) × (i < length w.frames) × ((frame_at w.frames i).place ≡ p)
       → (i : ℕ) × (i < length (popped w).frames) × ((frame_at (popped w).frames i).place ≡ p)
   popped_framed p before (i, low, is) =
-      let low' = not_last walks i low (omega (arith, is, before)) in
-      (i, omega (arith, low', popped_size), ap (λ x. x.place) (popped_same i low') ∙ is)
+      (i, (let low' = not_last walks i low (omega (arith, is, before)) in omega (arith, low', popped_size)), grind (arith, not_last walks i low, popped_same i, is, before))
 
   -- a frame that is left, and the next one
   pub popped_ahead_still : (p k i : ℕ) → i < length w.frames - 1 → (frame_at w.frames i).place ≡ p → (frame_at w.frames i).next ≤ k → IsAhead (popped w) p k

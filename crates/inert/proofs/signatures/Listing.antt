@@ -81,10 +81,7 @@ picked_few (false ∷ bs) (x ∷ xs) = let rest = picked_few bs xs in omega (ari
 pub numbers_few : (xs ys zs : List ℕ) → IsPermutation xs ys → IsFiltered (DiffersFromLast nat_eq) [] ys zs → length zs ≤ length xs
 numbers_few xs ys zs same filtered =
     let (bs, q, size, returns, is) = filtered in
-    let few = picked_few bs ys in
-    let e = length_permutation xs ys same in
-    let e' = ap length is in
-    omega (arith, few, e, e')
+    omega (arith, picked_few bs ys, length_permutation xs ys same, ap length is)
 
 -- numbers and pairs in another order
 pub taken_ordered : (items : List Item) (ns numbers : List ℕ) (ps pairs : List (ℕ × ℕ)) → AreTaken items ns ps
