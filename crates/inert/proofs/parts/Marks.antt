@@ -14,14 +14,8 @@ pub true_or_not : (b : Bool) → IsTrue b ⊎ ¬ IsTrue b
 true_or_not true = inl refl
 true_or_not false = inr (λ e. false≢true e)
 
-pub place_same : (p q : ℕ) → Open p ≡ Open q → p ≡ q
-place_same p q e = cc
-
 pub list_same : (j k : ℕ) → Finished j ≡ Finished k → j ≡ k
 list_same j k e = cc
-
-pub not_both : (p k : ℕ) → ¬ (Open p ≡ Finished k)
-not_both p k e = cc
 
 pub not_unseen : (p : ℕ) → ¬ (Open p ≡ Unseen)
 not_unseen p e = cc
