@@ -4,8 +4,8 @@ use Rattle.std.specs.List.{Contains}
 use Rattle.std.specs.List.Sorted.{IsStrictlySortedBy}
 use Rattle.lts.specs.Lts.{Grouped, Triple, IsRow}
 use Rattle.lists.specs.Lists.{list_at, pair_cmp, Grow}
-use Rattle.inert.specs.Search.{Search, mark_at, top, root_at, item_at, Gives, Walks}
-use Rattle.inert.specs.Ahead.{unseen, unread, rest, KeepsSeen}
+use Rattle.inert.specs.Search.{Search, nothing, mark_at, top, root_at, Gives, AreSigned, Walks}
+use Rattle.inert.specs.Ahead.{unseen, unread, rest, KeepsSeen, HasNumbers}
 use Rattle.inert.specs.declared.step.Step.{Step}
 use Rattle.inert.specs.declared.step.Step.TheVariants.{Inert, Shows}
 use Rattle.inert.specs.declared.walk.Mark.{Mark}
@@ -49,7 +49,7 @@ Takes places (Inert t) old new enters =
 
 -- some of the items gives the pair z
 abbrev pub IsGiven : List (List (ℕ × ℕ)) → List Item → ℕ × ℕ → Type 0
-IsGiven lists items z = (j : ℕ) × (j < length items) × Gives lists (item_at items j) z
+IsGiven lists items z = (x : Item) × Contains items x × Gives lists x z
 
 -- the numbers of the lists that these items name, and the pairs that they are
 pub record AreTaken (items : List Item) (numbers : List ℕ) (pairs : List (ℕ × ℕ)) : Type 0 where
@@ -128,6 +128,10 @@ abbrev pub Advances : Grouped → Search → Search → Bool → Type 0
 Advances l old new enters = (IsTrue enters → steps l new < steps l old)
     × (¬ IsTrue enters → HasRead new × (0 < length new.frames) × (steps l new ≤ steps l old))
 
--- the walk rests: nothing is on the stack
-abbrev pub Rests : Grouped → List ℕ → List Bool → List (List (ℕ × ℕ)) → Search → Type 0
-Rests l blocks alone lists w = Walks l blocks alone lists w × (length w.frames ≡ 0) × Fits l (length lists) w
+-- the walk rests: nothing is on the stack, and each state that was seen is finished, with its list
+pub record Rests (l : Grouped) (blocks : List ℕ) (alone : List Bool) (lists : List (List (ℕ × ℕ))) (w : Search) : Type 0 where
+  pub empty : w ≡ nothing w.marks
+  pub numbers : HasNumbers l.states (length lists) 0 w.marks
+  pub shut : (s p : ℕ) → ¬ (mark_at w.marks s ≡ Open p)
+  pub signed : AreSigned l blocks alone lists w.marks
+  pub fits : Fits l (length lists) w

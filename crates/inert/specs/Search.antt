@@ -1,6 +1,6 @@
 -- A walk over inert steps: what is known of each state, the stack and its components, and what they have collected.
 use Rattle.std.specs.Prelude.{◌≡◌, ◌⊎◌, ℕ, ◌+◌, ◌-◌, ◌<◌, ◌≤◌, Bool, List, [], length, slice_index, slice_index_or}
-use Rattle.std.specs.List.{Contains}
+use Rattle.std.specs.List.{All, AllPairs, Contains}
 use Rattle.theory.specs.System.{System, Leads}
 use Rattle.theory.specs.Bisimulation.Relation.{branching}
 use Rattle.theory.specs.Blocks.{Inert, Signature}
@@ -42,22 +42,32 @@ pub record IsReady (states : ℕ) (w : Search) : Type 0 where
   pub idle : IsIdle w
   pub size : length w.marks ≡ states
 
--- the frame number i, the last one, the root number i, and the item number j
+-- the frame number i, the last one, and the place of the state where the walk is
+abbrev pub no_frame : Frame
+no_frame = record { place = 0; next = 0; end = 0 }
+
 abbrev pub frame_at : List Frame → ℕ → Frame
-frame_at frames i = slice_index_or frames i (record { place = 0; next = 0; end = 0 })
+frame_at frames i = slice_index_or frames i no_frame
 
 abbrev pub top : List Frame → Frame
 top frames = frame_at frames (length frames - 1)
 
-abbrev pub root_at : List Root → ℕ → Root
-root_at roots i = slice_index_or roots i (record { place = 0; items = 0 })
+abbrev pub here : Search → ℕ
+here w = (top w.frames).place
 
+-- the root number i, and the last one
+abbrev pub no_root : Root
+no_root = record { place = 0; items = 0 }
+
+abbrev pub root_at : List Root → ℕ → Root
+root_at roots i = slice_index_or roots i no_root
+
+abbrev pub last : List Root → Root
+last roots = root_at roots (length roots - 1)
+
+-- the item number j
 abbrev pub item_at : List Item → ℕ → Item
 item_at items j = slice_index_or items j (Pair 0 0)
-
--- a component begins at place f on the stack, and its items at number c
-abbrev pub Begins : List Root → ℕ → ℕ → Type 0
-Begins roots f c = (i : ℕ) × (i < length roots) × ((root_at roots i).place ≡ f) × ((root_at roots i).items ≡ c)
 
 -- what inert steps lead to, and what they pass back
 pub record Laws : Type 0 where
@@ -73,11 +83,11 @@ Ties l blocks s t = Leads (Inert (system_of l) (slice_index blocks)) s t
 
 -- the component of place p is that of place q, or an earlier one
 abbrev pub IsUpTo : List Root → ℕ → ℕ → Type 0
-IsUpTo roots p q = (f c : ℕ) → Begins roots f c → f ≤ p → f ≤ q
+IsUpTo roots p q = All (λ r. r.place ≤ p → r.place ≤ q) roots
 
 -- the item number j is of the component of place p
 abbrev pub IsOf : List Root → ℕ → ℕ → Type 0
-IsOf roots j p = (f c : ℕ) → Begins roots f c → (f ≤ p → c ≤ j) × (p < f → j < c)
+IsOf roots j p = All (λ r. (r.place ≤ p → r.items ≤ j) × (p < r.place → j < r.items)) roots
 
 -- an item gives the pair z
 abbrev pub Gives : List (List (ℕ × ℕ)) → Item → ℕ × ℕ → Type 0
@@ -108,37 +118,53 @@ abbrev pub IsNumbered : List ℕ → List Bool → List Mark → ℕ → ℕ →
 IsNumbered blocks alone marks s k = (IsKnownAlone blocks alone s × (k ≡ 0))
     ⊎ (¬ IsKnownAlone blocks alone s × (mark_at marks s ≡ Finished k))
 
--- components begin at frames, and their items in the same order
-pub record AreRoots (w : Search) : Type 0 where
-  pub first : 0 < length w.stack → Begins w.roots 0 0
-  pub rising : (i j : ℕ) → i < j → j < length w.roots → (root_at w.roots i).place < (root_at w.roots j).place
-  pub framed : (f c : ℕ) → Begins w.roots f c → (i : ℕ) × (i < length w.frames) × ((frame_at w.frames i).place ≡ f)
-  pub within : (f c : ℕ) → Begins w.roots f c → c ≤ length w.items
-  pub in_order : (f c g d : ℕ) → Begins w.roots f c → Begins w.roots g d → f ≤ g → c ≤ d
+-- one component begins before another one, and so do its items
+abbrev pub IsBefore : Root → Root → Type 0
+IsBefore x y = (x.place < y.place) × (x.items ≤ y.items)
 
--- frames are of rising places on the stack, each with the rest of its state's row
+-- a component begins where some frame is, and its items are there
+pub record IsRoot (frames : List Frame) (items : List Item) (r : Root) : Type 0 where
+  pub framed : (i : ℕ) × (i < length frames) × ((frame_at frames i).place ≡ r.place)
+  pub within : r.items ≤ length items
+
+-- components begin from the bottom of the stack on (not all begin above it), their items in the same order
+pub record AreRoots (w : Search) : Type 0 where
+  pub first : 0 < length w.stack → ¬ All (λ r. 0 < r.place) w.roots
+  pub rising : AllPairs IsBefore w.roots
+  pub each : All (IsRoot w.frames w.items) w.roots
+
+-- a frame is of a state on the stack, and has the rest of its row
+pub record IsFrame (l : Grouped) (stack : List ℕ) (x : Frame) : Type 0 where
+  pub on_stack : x.place < length stack
+  pub start : ℕ
+  pub row : IsRow l.places (slice_index stack x.place) start x.end
+  pub first : start ≤ x.next
+  pub most : x.next ≤ x.end
+
+-- frames are of rising places
 pub record AreFrames (l : Grouped) (stack : List ℕ) (frames : List Frame) : Type 0 where
-  pub rising : (i j : ℕ) → i < j → j < length frames → (frame_at frames i).place < (frame_at frames j).place
-  pub on_stack : (i : ℕ) → i < length frames → (frame_at frames i).place < length stack
-  pub row : (i : ℕ) → i < length frames → let x = frame_at frames i in
-      (start : ℕ) × IsRow l.places (slice_index stack x.place) start x.end × (start ≤ x.next) × (x.next ≤ x.end)
+  pub rising : AllPairs (λ x y. x.place < y.place) frames
+  pub each : All (IsFrame l stack) frames
 
 -- inert steps lead from each state on the stack to those of its component and of later ones
 abbrev pub Connects : Grouped → List ℕ → Search → Type 0
 Connects l blocks w = (p q : ℕ) → p < length w.stack → q < length w.stack → IsUpTo w.roots p q →
     Ties l blocks (slice_index w.stack p) (slice_index w.stack q)
 
--- what each item gives is in the signature of some state of its component
-abbrev pub AreSound : Grouped → List ℕ → List (List (ℕ × ℕ)) → Search → Type 0
-AreSound l blocks lists w = (j : ℕ) → j < length w.items → (p : ℕ) × (p < length w.stack) × IsOf w.roots j p ×
+-- what the item number j gives is in the signature of some state of its component
+abbrev pub IsSound : Grouped → List ℕ → List (List (ℕ × ℕ)) → Search → ℕ → Type 0
+IsSound l blocks lists w j = (p : ℕ) × (p < length w.stack) × IsOf w.roots j p ×
     ((z : ℕ × ℕ) → Gives lists (item_at w.items j) z → HasPair branching l blocks (slice_index w.stack p) z.0 z.1)
+
+abbrev pub AreSound : Grouped → List ℕ → List (List (ℕ × ℕ)) → Search → Type 0
+AreSound l blocks lists w = (j : ℕ) → j < length w.items → IsSound l blocks lists w j
 
 -- the lists that items name are there
 abbrev pub IsThere : List (List (ℕ × ℕ)) → Item → Type 0
 IsThere lists x = (k : ℕ) → x ≡ Listed k → k < length lists
 
 abbrev pub AreThere : List (List (ℕ × ℕ)) → List Item → Type 0
-AreThere lists items = (j : ℕ) → j < length items → IsThere lists (item_at items j)
+AreThere lists = All (IsThere lists)
 
 -- the transition in place k of the state at place p is still to be read
 abbrev pub IsAhead : Search → ℕ → ℕ → Type 0
@@ -157,11 +183,14 @@ abbrev pub IsEntered : Search → ℕ → ℕ → Type 0
 IsEntered w p t = (i : ℕ) × (i + 1 < length w.frames) × ((frame_at w.frames i).place ≡ p)
     × (slice_index w.stack (frame_at w.frames (i + 1)).place ≡ t)
 
+-- an inert step from place p to the state t was followed
+abbrev pub IsFollowed : List (List (ℕ × ℕ)) → Search → ℕ → ℕ → Type 0
+IsFollowed lists w p t = IsHere w p t ⊎ IsHeld lists w p t ⊎ IsEntered w p t
+
 -- a transition of the state at place p was taken into account
 pub record Accounted (l : Grouped) (blocks : List ℕ) (lists : List (List (ℕ × ℕ))) (w : Search) (p : ℕ) (e : Triple) : Type 0 where
   pub shown : ¬ IsInert l blocks (slice_index blocks (source_of e)) e → Holds lists w p (pair_under blocks e)
-  pub followed : IsInert l blocks (slice_index blocks (source_of e)) e →
-      IsHere w p (target_of e) ⊎ IsHeld lists w p (target_of e) ⊎ IsEntered w p (target_of e)
+  pub followed : IsInert l blocks (slice_index blocks (source_of e)) e → IsFollowed lists w p (target_of e)
 
 -- all transitions of open states were taken into account, or are still to be read
 abbrev pub AreAccounted : Grouped → List ℕ → List (List (ℕ × ℕ)) → Search → Type 0

@@ -1,5 +1,5 @@
 use Rattle.inert.specs.Moves.{AreTaken}
-use Rattle.inert.proofs.Listing.{taken_ordered, numbers_there, listed}
+use Rattle.inert.proofs.signatures.Listing.{taken_ordered, numbers_there, listed}
 use Rattle.inert.proofs.component.list_from.Goals as goal
 use Rattle.inert.proofs.component.list_from.Goals.{After-deref-2}
 

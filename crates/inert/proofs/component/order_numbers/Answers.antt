@@ -1,4 +1,4 @@
-use Rattle.inert.proofs.Listing.{numbers_have, numbers_few}
+use Rattle.inert.proofs.signatures.Listing.{numbers_have, numbers_few}
 use Rattle.inert.proofs.component.order_numbers.Goals as goal
 
 pub returns-clause-same : goal.returns-clause-same

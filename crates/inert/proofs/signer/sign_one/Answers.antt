@@ -1,43 +1,44 @@
 use Rattle.std.proofs.Common.{[], length, ap, inl, inr, arith}
 use Rattle.std.proofs.lemmas.Bool.{false≢true}
 use Rattle.std.proofs.lemmas.Result.{err_from_is_err_and}
-use Rattle.inert.proofs.Counting.{unread-seen}
-use Rattle.inert.proofs.Starting.{idle_rests, idle_unread, finished}
+use Rattle.inert.proofs.parts.Counting.{unread-all, unread-seen}
+use Rattle.inert.proofs.invariant.Resting.{idle_rests}
+use Rattle.inert.proofs.signatures.Numbering.{finished}
 use Rattle.inert.proofs.signer.sign_one.Goals as goal
 
 pub finish-requires-clause-rests : goal.finish-requires-clause-rests
 finish-requires-clause-rests g c =
-    idle_rests c.args.l.now c.args.blocks.now [] c.args.lists.now c.args.walk.now c.requires.ready.idle c.requires.ready.size (ap length c.requires.lists)
+    idle_rests c.args.l.now c.args.blocks.now [] c.args.lists.now c.requires.ready.idle c.requires.ready.size (ap length c.requires.lists)
 
 pub finish-requires-clause-room : goal.finish-requires-clause-room
 finish-requires-clause-room g c =
-    let all = idle_unread c.args.l.now c.args.walk.now.marks c.requires.ready.idle.none in
+    let all = unread-all c.args.l.now.places c.args.walk.now.marks c.requires.ready.idle.none in
     record { for_rounds = c.requires.room.for_rounds; for_visits = omega (arith, all, c.requires.room.for_visits) }
 
 pub returns-in_err-finish-clause-visits : goal.returns-in_err-finish-clause-visits
 returns-in_err-finish-clause-visits g c =
-    let all = idle_unread c.args.l.now c.args.walk.now.marks c.requires.ready.idle.none in
+    let all = unread-all c.args.l.now.places c.args.walk.now.marks c.requires.ready.idle.none in
     let cost = c.finish.ensures.cost in
     let exit = err_from_is_err_and c.from_residual.result c.from_residual.ensures.1 in
     rw (exit.1) (record { rounds = cost.rounds; at_least = cost.at_least; at_most = omega (arith, all, cost.at_most) })
 
 pub list-list-requires-clause-finished : goal.list-list-requires-clause-finished
 list-list-requires-clause-finished g c =
-    finished c.args.l.now c.args.blocks.now [] c.finish.new.lists c.finish.new.self c.in_ok-finish.ensures.rests c.args.s c.in_ok-finish.ensures.seen.found
+    finished c.in_ok-finish.ensures.rests c.args.s c.in_ok-finish.ensures.seen.found
 
 pub returns-clause-within : goal.returns-clause-within
-returns-clause-within g c = (c.in_ok-finish.ensures.rests.0.signed c.args.s c.list-list.result c.list-list.ensures).within
+returns-clause-within g c = (c.in_ok-finish.ensures.rests.signed c.args.s c.list-list.result c.list-list.ensures).within
 
 -- no block is known to be of one state alone
 pub returns-clause-signature : goal.returns-clause-signature
-returns-clause-signature g c = elim (c.in_ok-finish.ensures.rests.0.signed c.args.s c.list-list.result c.list-list.ensures).whole [
+returns-clause-signature g c = elim (c.in_ok-finish.ensures.rests.signed c.args.s c.list-list.result c.list-list.ensures).whole [
   | inl signature ↦ signature
   | inr known ↦ absurd (false≢true known)
 ]
 
 pub returns-clause-visits : goal.returns-clause-visits
 returns-clause-visits g c =
-    let all = idle_unread c.args.l.now c.args.walk.now.marks c.requires.ready.idle.none in
+    let all = unread-all c.args.l.now.places c.args.walk.now.marks c.requires.ready.idle.none in
     let row = unread-seen c.args.l.now.places c.finish.new.self.marks c.args.s c.in_ok-finish.ensures.seen.found in
     let cost = c.finish.ensures.cost in
     let read = c.in_ok-finish.ensures.visits in

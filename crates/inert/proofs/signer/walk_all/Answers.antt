@@ -1,5 +1,7 @@
 use Rattle.std.proofs.Common.{length, ap, arith}
-use Rattle.inert.proofs.Starting.{idle_rests, idle_unread, none_unread}
+use Rattle.inert.proofs.parts.Counting.{unread-all}
+use Rattle.inert.proofs.invariant.Resting.{idle_rests}
+use Rattle.inert.proofs.signatures.Numbering.{none_unread}
 use Rattle.inert.proofs.signer.walk_all.Goals as goal
 
 pub loop-s-init : goal.loop-s-init
@@ -7,15 +9,15 @@ loop-s-init g c =
     let l = c.args.l.now in
     let walk = c.args.walk.now in
     record {
-      rests = idle_rests l c.args.blocks.now c.args.alone.now c.args.lists.now walk c.requires.ready.idle c.requires.ready.size (ap length c.requires.lists);
+      rests = idle_rests l c.args.blocks.now c.args.alone.now c.args.lists.now c.requires.ready.idle c.requires.ready.size (ap length c.requires.lists);
       all = λ t h below. absurd (omega (arith, h, below, c.states-s.ensures.value));
-      visits = omega (arith, idle_unread l walk.marks c.requires.ready.idle.none);
+      visits = omega (arith, unread-all l.places walk.marks c.requires.ready.idle.none);
       cost = record { rounds = omega arith; at_least = omega arith; at_most = omega arith };
     }
 
 pub returns-clause-visits : goal.returns-clause-visits
 returns-clause-visits g c =
     let i = c.loop-s.invariant in
-    let none = none_unread c.args.l.now c.known.ensures c.loop-s.walk.marks i.rests.0.numbers.size (λ s h. i.all s (omega (arith, h)) h) in
+    let none = none_unread c.known.ensures c.loop-s.walk.marks i.rests.numbers.size (λ s h. i.all s (omega (arith, h)) h) in
     let read = i.visits in
     record { rounds = i.cost.rounds; at_least = omega (arith, read, none); at_most = i.cost.at_most }

@@ -6,7 +6,7 @@ use Rattle.std.proofs.lemmas.List.{length-set, length_push, get_or_append_left, 
 use Rattle.std.proofs.lemmas.List.Elements.{All-push}
 use Rattle.inert.specs.Ahead.{IsTrail}
 use Rattle.inert.specs.declared.walk.Mark.{Mark}
-use Rattle.inert.proofs.Marks.{mark_other}
+use Rattle.inert.proofs.parts.Marks.{mark_other}
 
 pub IsTrail-mark : (marks : List Mark) (trail trail' : List ℕ) (s : ℕ) (m : Mark) → s < length marks → trail' ≡ trail ++ s ∷ [] → IsTrail marks trail
     → IsTrail (set marks s m) trail'
@@ -16,11 +16,10 @@ IsTrail-mark marks trail trail' s m low is old =
     record {
       each = subst (λ n. All (λ x. x < n) (trail ++ s ∷ [])) (sym size) (All-push (λ x. x < length marks) trail s old.each low);
       seen = λ x. elim (cases_eq x s) [
-        | inl e ↦ inr (length trail, (let more = length_push trail s in omega (arith, more)), get_or_push trail s x (length trail) refl ∙ sym e)
+        | inl e ↦ inr (length trail, omega (arith, length_push trail s), get_or_push trail s x (length trail) refl ∙ sym e)
         | inr d ↦ elim (old.seen x) [
           | inl none ↦ inl (mark_other marks s m x d ∙ none)
-          | inr (i, below, is) ↦
-              inr (i, (let more = length_push trail s in omega (arith, more, below)), get_or_append_left trail (s ∷ []) x i below ∙ is)
+          | inr (i, below, is) ↦ inr (i, omega (arith, length_push trail s, below), get_or_append_left trail (s ∷ []) x i below ∙ is)
         ]
       ];
     })

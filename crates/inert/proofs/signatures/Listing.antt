@@ -6,27 +6,22 @@ use Rattle.std.specs.List.Sorted.{IsPermutation}
 use Rattle.std.proofs.lemmas.Bool.{eqb-true}
 use Rattle.std.proofs.lemmas.Cmp.{nat_eq_equiv}
 use Rattle.std.proofs.lemmas.List.{get_or_default, length_push}
-use Rattle.std.proofs.lemmas.List.Elements.{All-from_get_or, Contains-append_left, Contains-get_or, Contains-push, Contains-push_cases}
+use Rattle.std.proofs.lemmas.List.Elements.{All-contains, All-from_get_or, Contains-append_left, Contains-get_or, Contains-push, Contains-push_cases}
 use Rattle.std.proofs.lemmas.List.Filters.{dedup_is}
 use Rattle.std.proofs.lemmas.List.Kept.{Contains-dedup, Contains-from_dedup}
 use Rattle.std.proofs.lemmas.List.Sorted.{Contains-permutation, IsPermutation-sym, length_permutation}
 use Rattle.lists.specs.Lists.{list_at, AreLists, AreNumbers, Grow, HasOne}
-use Rattle.inert.specs.Search.{item_at, AreThere, Gives}
+use Rattle.inert.specs.Search.{IsThere, AreThere, Gives}
 use Rattle.inert.specs.Moves.{IsGiven, AreTaken, IsListed}
 use Rattle.inert.specs.declared.walk.Item.{Item}
 use Rattle.inert.specs.declared.walk.Item.TheVariants.{Pair, Listed}
+use Rattle.inert.proofs.parts.Marks.{number_same, no_list}
 
 first_of : (a b c d : ℕ) → Pair a b ≡ Pair c d → a ≡ c
 first_of a b c d e = cc
 
 second_of : (a b c d : ℕ) → Pair a b ≡ Pair c d → b ≡ d
 second_of a b c d e = cc
-
-number_of : (j k : ℕ) → Listed j ≡ Listed k → j ≡ k
-number_of j k e = cc
-
-not_both : (a b k : ℕ) → Pair a b ≡ Listed k → ⊥
-not_both a b k e = cc
 
 -- no item names anything
 pub taken_none : AreTaken [] [] []
@@ -36,54 +31,37 @@ taken_none = record {
   few = omega arith;
 }
 
+-- an element more at the end of two lists, which have the same of what they had
+more : {X Y : Type 0} (xs : List X) (ys : List Y) {x x' : X} {y y' : Y} → (Contains xs x' → Contains ys y') → (x ≡ x' → y ≡ y')
+    → Contains (xs ++ x ∷ []) x' → Contains (ys ++ y ∷ []) y'
+more xs ys {x = x} {x' = x'} {y = y} {y' = y'} old new c = elim (Contains-push_cases xs x x' c) [
+  | inl was ↦ Contains-append_left ys (y ∷ []) y' (old was)
+  | inr e ↦ subst (Contains (ys ++ y ∷ [])) (new e) (Contains-push ys y)
+]
+
+fewer : {X : Type 0} (xs : List X) {x x' : X} → ¬ (x ≡ x') → Contains (xs ++ x ∷ []) x' → Contains xs x'
+fewer xs {x = x} {x' = x'} other c = elim (Contains-push_cases xs x x' c) [ inl was ↦ was | inr e ↦ absurd (other e) ]
+
 -- one item more
 module _ (items : List Item) (numbers : List ℕ) (pairs : List (ℕ × ℕ)) (taken : AreTaken items numbers pairs) where
   pub taken_pair : (a b : ℕ) → AreTaken (items ++ Pair a b ∷ []) numbers (pairs ++ (a, b) ∷ [])
   taken_pair a b = record {
-    named = λ k. (
-      λ c. Contains-append_left items (Pair a b ∷ []) (Listed k) ((taken.named k).0 c),
-      λ c. elim (Contains-push_cases items (Pair a b) (Listed k) c) [
-        | inl old ↦ (taken.named k).1 old
-        | inr e ↦ absurd (not_both a b k e)
-      ],
-    );
+    named = λ k. (λ c. Contains-append_left items (Pair a b ∷ []) (Listed k) ((taken.named k).0 c), λ c. (taken.named k).1 (fewer items (no_list a b k) c));
     own = λ x y. (
-      λ c. elim (Contains-push_cases pairs (a, b) (x, y) c) [
-        | inl old ↦ Contains-append_left items (Pair a b ∷ []) (Pair x y) ((taken.own x y).0 old)
-        | inr e ↦ subst (Contains (items ++ Pair a b ∷ [])) (ap (λ z. Pair z.0 z.1) e) (Contains-push items (Pair a b))
-      ],
-      λ c. elim (Contains-push_cases items (Pair a b) (Pair x y) c) [
-        | inl old ↦ Contains-append_left pairs ((a, b) ∷ []) (x, y) ((taken.own x y).1 old)
-        | inr e ↦ subst (Contains (pairs ++ (a, b) ∷ [])) (λ i. (first_of a b x y e i, second_of a b x y e i)) (Contains-push pairs (a, b))
-      ],
+      more pairs items (taken.own x y).0 (λ e. ap (λ z. Pair z.0 z.1) e),
+      more items pairs (taken.own x y).1 (λ e i. (first_of a b x y e i, second_of a b x y e i)),
     );
-    few = let before = taken.few in let more = length_push items (Pair a b) in omega (arith, before, more);
+    few = let before = taken.few in omega (arith, before, length_push items (Pair a b));
   }
 
   pub taken_list : (j : ℕ) → AreTaken (items ++ Listed j ∷ []) (numbers ++ j ∷ []) pairs
   taken_list j = record {
-    named = λ k. (
-      λ c. elim (Contains-push_cases numbers j k c) [
-        | inl old ↦ Contains-append_left items (Listed j ∷ []) (Listed k) ((taken.named k).0 old)
-        | inr e ↦ subst (Contains (items ++ Listed j ∷ [])) (ap Listed e) (Contains-push items (Listed j))
-      ],
-      λ c. elim (Contains-push_cases items (Listed j) (Listed k) c) [
-        | inl old ↦ Contains-append_left numbers (j ∷ []) k ((taken.named k).1 old)
-        | inr e ↦ subst (Contains (numbers ++ j ∷ [])) (number_of j k e) (Contains-push numbers j)
-      ],
-    );
+    named = λ k. (more numbers items (taken.named k).0 (ap Listed), more items numbers (taken.named k).1 (number_same j k));
     own = λ x y. (
       λ c. Contains-append_left items (Listed j ∷ []) (Pair x y) ((taken.own x y).0 c),
-      λ c. elim (Contains-push_cases items (Listed j) (Pair x y) c) [
-        | inl old ↦ (taken.own x y).1 old
-        | inr e ↦ absurd (not_both x y j (sym e))
-      ],
+      λ c. (taken.own x y).1 (fewer items (λ e. no_list x y j (sym e)) c),
     );
-    few =
-        let before = taken.few in
-        let more = length_push items (Listed j) in
-        let more' = length_push numbers j in
-        omega (arith, before, more, more');
+    few = let before = taken.few in omega (arith, before, length_push items (Listed j), length_push numbers j);
   }
 
 -- numbers that are sorted and freed of repeats
@@ -103,10 +81,7 @@ picked_few (false ∷ bs) (x ∷ xs) = let rest = picked_few bs xs in omega (ari
 pub numbers_few : (xs ys zs : List ℕ) → IsPermutation xs ys → IsFiltered (DiffersFromLast nat_eq) [] ys zs → length zs ≤ length xs
 numbers_few xs ys zs same filtered =
     let (bs, q, size, returns, is) = filtered in
-    let few = picked_few bs ys in
-    let e = length_permutation xs ys same in
-    let e' = ap length is in
-    omega (arith, few, e, e')
+    omega (arith, picked_few bs ys, length_permutation xs ys same, ap length is)
 
 -- numbers and pairs in another order
 pub taken_ordered : (items : List Item) (ns numbers : List ℕ) (ps pairs : List (ℕ × ℕ)) → AreTaken items ns ps
@@ -119,36 +94,24 @@ taken_ordered items ns numbers ps pairs taken named fewer own = record {
 }
 
 module _ (items : List Item) (lists : List (List (ℕ × ℕ))) (numbers : List ℕ) (pairs : List (ℕ × ℕ)) (taken : AreTaken items numbers pairs) where
-  -- where an item is, and that it is one of them
-  place : (x : Item) → Contains items x → (j : ℕ) × (j < length items) × (item_at items j ≡ x)
-  place x (j, low, is) = (j, low, get_or_default items j _ x low ∙ is)
-
-  found : (j : ℕ) (x : Item) → j < length items → item_at items j ≡ x → Contains items x
-  found j x low is = (j, low, get_or_default items j x _ low ∙ is)
-
   -- the item of a number
-  listed_at : (i : ℕ) → i < length numbers → (j : ℕ) × (j < length items) × (item_at items j ≡ Listed (slice_index numbers i))
-  listed_at i low = place (Listed (slice_index numbers i)) ((taken.named (slice_index numbers i)).0 (Contains-get_or numbers i 0 low))
+  listed_at : (i : ℕ) → i < length numbers → Contains items (Listed (slice_index numbers i))
+  listed_at i low = (taken.named (slice_index numbers i)).0 (Contains-get_or numbers i 0 low)
 
   pub numbers_there : AreThere lists items → AreNumbers lists numbers
   numbers_there there = All-from_get_or (λ k. k < length lists) numbers 0 (λ i low.
-      let (j, lj, is) = listed_at i low in
-      there j lj (slice_index numbers i) is)
+      All-contains (IsThere lists) items (Listed (slice_index numbers i)) there (listed_at i low) (slice_index numbers i) refl)
 
   -- what they give is what the lists have that they name, and the pairs that they are
-  gives : (z : ℕ × ℕ) (j : ℕ) → j < length items → (x : Item) → item_at items j ≡ x → Gives lists x z → Contains pairs z ⊎ HasOne lists numbers z
-  gives z j low (Pair a b) is g = inl (subst (Contains pairs) g ((taken.own a b).1 (found j (Pair a b) low is)))
-  gives z j low (Listed k) is g =
-      let (i, li, e) = (taken.named k).1 (found j (Listed k) low is) in
+  gives : (z : ℕ × ℕ) (x : Item) → Contains items x → Gives lists x z → Contains pairs z ⊎ HasOne lists numbers z
+  gives z (Pair a b) c g = inl (subst (Contains pairs) g ((taken.own a b).1 c))
+  gives z (Listed k) c g =
+      let (i, li, e) = (taken.named k).1 c in
       inr (i, li, subst (λ n. Contains (list_at lists n) z) (sym (get_or_default numbers i 0 k li ∙ e)) g)
 
   given : (z : ℕ × ℕ) → Contains pairs z ⊎ HasOne lists numbers z → IsGiven lists items z
-  given z (inl c) =
-      let (j, low, is) = place (Pair z.0 z.1) ((taken.own z.0 z.1).0 c) in
-      (j, low, subst (λ x. Gives lists x z) (sym is) refl)
-  given z (inr (i, li, c)) =
-      let (j, low, is) = listed_at i li in
-      (j, low, subst (λ x. Gives lists x z) (sym is) c)
+  given z (inl c) = (Pair z.0 z.1, (taken.own z.0 z.1).0 c, refl)
+  given z (inr (i, li, c)) = (Listed (slice_index numbers i), listed_at i li, c)
 
   pub listed : (lists' : List (List (ℕ × ℕ))) (k : ℕ) → AreLists lists' → k < length lists' → Grow lists lists' → length lists' ≤ length lists + length numbers + 2
       → ((z : ℕ × ℕ) → Contains (list_at lists' k) z ↔ (Contains pairs z ⊎ HasOne lists numbers z)) → IsListed items lists lists' k
@@ -158,7 +121,7 @@ module _ (items : List Item) (lists : List (List (ℕ × ℕ))) (numbers : List 
     few = let fewer = taken.few in omega (arith, few, fewer);
     exactly = λ z. (
       λ c. given z ((exactly z).0 c),
-      λ (j, low, g). (exactly z).1 (gives z j low (item_at items j) refl g),
+      λ (x, c, g). (exactly z).1 (gives z x c g),
     );
     rising = are.rise k [] within;
   }

@@ -1,7 +1,6 @@
 -- If the rows of the last component are read, what it has collected is exactly the signature of each of its states.
-use Rattle.std.proofs.Common.{◌≡◌, ℕ, ◌+◌, ◌-◌, ◌<◌, ◌≤◌, Bool, List, [], ◌∷◌, length, drop, slice_index, slice_index_or, false, IsTrue, sym, ◌∙◌, ap, subst, inl, inr, arith}
-use Rattle.std.proofs.lemmas.Bool.{cases_eq, cases_lt}
-use Rattle.std.proofs.lemmas.List.{length-map, get_or-map, get_or-drop, length-drop}
+use Rattle.std.proofs.Common.{◌≡◌, ℕ, ◌+◌, ◌-◌, ◌<◌, ◌≤◌, Bool, List, [], ◌∷◌, length, drop, get_or, slice_index, slice_index_or, false, IsTrue, sym, ◌∙◌, ap, subst, inl, inr, arith}
+use Rattle.std.proofs.lemmas.List.{length-map, get_or-map, get_or-drop, get_or_default, length-drop}
 use Rattle.theory.specs.System.{Step, Along, internal}
 use Rattle.theory.specs.Bisimulation.Relation.{branching}
 use Rattle.theory.specs.Blocks.{Inert}
@@ -9,13 +8,10 @@ use Rattle.lts.specs.Labels.{text_of}
 use Rattle.lts.specs.Lts.{Grouped, source_of, label_of, target_of, place_at, transition_of, system_of, IsLts}
 use Rattle.lists.specs.Lists.{list_at}
 use Rattle.inert.specs.Signed.{HasPair, IsSignature, IsKnownAlone, pair_under}
-use Rattle.inert.specs.Search.{Search, Laws, frame_at, top, root_at, item_at, Begins, Gives, Holds, Accounted, IsSigned, Walks}
+use Rattle.inert.specs.Search.{Search, Laws, here, last, no_root, item_at, Gives, Holds, Accounted, IsSigned, Walks}
 use Rattle.inert.specs.Moves.{IsGiven, IsListed, HasRead}
-use Rattle.inert.specs.declared.walk.Item.{Item}
-use Rattle.inert.specs.declared.walk.Root.{Root}
-use Rattle.inert.proofs.Roots.{last_root, last_greatest}
-use Rattle.inert.proofs.Marks.{true_or_not}
-use Rattle.inert.proofs.Standing.{at, pair_before, roots_some, stack_some, on_stack}
+use Rattle.inert.proofs.parts.Marks.{true_or_not}
+use Rattle.inert.proofs.invariant.Standing.{pair_before, roots_some, stack_some, last_most, last_frame, none_ahead}
 
 -- a step stands in some place
 pub step_place : (l : Grouped) (s t : ℕ) (a : List ℕ) → Step (system_of l) s a t →
@@ -33,70 +29,35 @@ place_step l k h =
     let e = transition_of l.labels (place_at l.places k) in
     (k, omega (arith, h, length-map l.places (transition_of l.labels)), get_or-map (transition_of l.labels) l.places k (0, 0, 0) e h)
 
--- an item from number c on
-pub item_drop : (items : List Item) (c j : ℕ) → item_at (drop c items) j ≡ item_at items (c + j)
-item_drop items c j = get_or-drop c items j _
+module _ (laws : Laws) {l : Grouped} (lts : IsLts l) {blocks : List ℕ} {alone : List Bool} {lists : List (List (ℕ × ℕ))} {w : Search} (walks : Walks l blocks alone lists w)
+    (some : 0 < length w.frames) (read : HasRead w) (place : (last w.roots).place ≡ here w) where
+  -- where the items of the component begin, and what they give
+  abbrev c0 : ℕ
+  c0 = (last w.roots).items
 
-module _ (laws : Laws) (l : Grouped) (lts : IsLts l) (blocks : List ℕ) (alone : List Bool) (lists : List (List (ℕ × ℕ))) (w : Search) (walks : Walks l blocks alone lists w)
-    (some : 0 < length w.frames) (read : HasRead w) (place : (root_at w.roots (length w.roots - 1)).place ≡ (top w.frames).place) where
-  abbrev pub last : Root
-  last = root_at w.roots (length w.roots - 1)
+  abbrev Collected : ℕ × ℕ → Type 0
+  Collected z = IsGiven lists (drop c0 w.items) z
 
-  abbrev pub f0 : ℕ
-  f0 = at l blocks alone lists w walks
+  last_low : length w.roots - 1 < length w.roots
+  last_low = let some' = roots_some walks (stack_some walks some) in omega (arith, some')
 
-  roots : 0 < length w.roots
-  roots = roots_some l blocks alone lists w walks (stack_some l blocks alone lists w walks some)
-
-  pub within : f0 < length w.stack
-  within = on_stack l blocks alone lists w walks some
-
-  pub this : Begins w.roots f0 last.items
-  this = subst (λ f. Begins w.roots f last.items) place (last_root w.roots walks.roots.rising roots)
-
-  pub greatest : (f c : ℕ) → Begins w.roots f c → f ≤ f0
-  greatest f c b = subst (λ x. f ≤ x) place (last_greatest w.roots walks.roots.rising roots f c b)
-
-  pub few_items : last.items ≤ length w.items
-  few_items = walks.roots.within f0 last.items this
-
-  -- what the component has collected
-  abbrev pub Collected : ℕ × ℕ → Type 0
-  Collected z = IsGiven lists (drop last.items w.items) z
-
-  pub collected_from : (p : ℕ) → f0 ≤ p → (z : ℕ × ℕ) → Holds lists w p z → Collected z
+  collected_from : (p : ℕ) → here w ≤ p → (z : ℕ × ℕ) → Holds lists w p z → Collected z
   collected_from p h z (j, low, g, of) =
-      let from = (of f0 last.items this).0 h in
-      let size = length-drop last.items w.items in
-      let is : last.items + (j - last.items) ≡ j = omega (arith, from) in (
-        j - last.items,
-        omega (arith, size, low, from),
-        subst (λ x. Gives lists x z) (sym (item_drop w.items last.items (j - last.items) ∙ ap (item_at w.items) is)) g,
-      )
-
-  -- the frame of a state of the component is the last one
-  last_frame : (i : ℕ) → i < length w.frames → f0 ≤ (frame_at w.frames i).place → i ≡ length w.frames - 1
-  last_frame i low h = elim (cases_eq i (length w.frames - 1)) [
-    | inl e ↦ e
-    | inr d ↦ (let up = walks.frames.rising i (length w.frames - 1) (omega (arith, low, d)) (omega (arith, low)) in absurd (omega (arith, up, h)))
-  ]
+      let from = (of (length w.roots - 1) no_root last_low).0 (omega (arith, place, h)) in
+      let size = length-drop c0 w.items in
+      let is : c0 + (j - c0) ≡ j = omega (arith, from) in
+      (item_at w.items j, (j - c0, omega (arith, size, low, from), get_or-drop c0 w.items (j - c0) _ ∙ ap (λ i. get_or w.items i (item_at w.items j)) is ∙ get_or_default w.items j _ _ low), g)
 
   -- each transition of the component was taken into account
-  done : (p k : ℕ) → f0 ≤ p → p < length w.stack → k < length l.places → source_of (place_at l.places k) ≡ slice_index w.stack p
+  done : (p k : ℕ) → here w ≤ p → p < length w.stack → k < length l.places → source_of (place_at l.places k) ≡ slice_index w.stack p
       → Accounted l blocks lists w p (place_at l.places k)
   done p k h lp lk source = elim (walks.accounted p k lp lk source) [
     | inr a ↦ a
-    | inl (i, low, is, ahead) ↦
-        let e = last_frame i low (omega (arith, is, h)) in
-        let row = walks.frames.row i low in
-        let inside = ((row.1.exactly k lk).0 (source ∙ ap (slice_index w.stack) (sym is))).1 in
-        let next = ap (λ j. (frame_at w.frames j).next) e in
-        let end = ap (λ j. (frame_at w.frames j).end) e in
-        absurd (omega (arith, ahead, inside, next, end, read))
+    | inl (i, low, is, ahead) ↦ absurd (none_ahead walks read p k i lk source low (last_frame walks i low (omega (arith, is, h))) is ahead)
   ]
 
   -- what a state of the component can do was collected
-  collects_here : (z : ℕ × ℕ) (p : ℕ) → f0 ≤ p → p < length w.stack → (t : ℕ) → Step (system_of l) (slice_index w.stack p) (text_of l.labels z.0) t
+  collects_here : (z : ℕ × ℕ) (p : ℕ) → here w ≤ p → p < length w.stack → (t : ℕ) → Step (system_of l) (slice_index w.stack p) (text_of l.labels z.0) t
       → slice_index blocks t ≡ z.1 → ¬ ((text_of l.labels z.0 ≡ internal) × (z.1 ≡ slice_index blocks (slice_index w.stack p)))
       → z.0 < length l.labels → Collected z
   collects_here z p h lp t step is other low =
@@ -110,7 +71,7 @@ module _ (laws : Laws) (l : Grouped) (lts : IsLts l) (blocks : List ℕ) (alone 
       ((done p k h lp lk source).shown (λ inert. other (sym label ∙ inert.0, sym block ∙ inert.1 ∙ ap (slice_index blocks) source))))
 
   -- and what it can do at the end of inert steps, unless it is known to be alone: so are then all states of its block
-  collects : (z : ℕ × ℕ) (us : List ℕ) (p : ℕ) → f0 ≤ p → p < length w.stack → (u t : ℕ)
+  collects : (z : ℕ × ℕ) (us : List ℕ) (p : ℕ) → here w ≤ p → p < length w.stack → (u t : ℕ)
       → Along (Inert (system_of l) (slice_index blocks)) (slice_index w.stack p) us u → Step (system_of l) u (text_of l.labels z.0) t → slice_index blocks t ≡ z.1
       → ¬ ((text_of l.labels z.0 ≡ internal) × (z.1 ≡ slice_index blocks (slice_index w.stack p))) → z.0 < length l.labels
       → ¬ IsKnownAlone blocks alone (slice_index w.stack p) → Collected z
@@ -123,9 +84,9 @@ module _ (laws : Laws) (l : Grouped) (lts : IsLts l) (blocks : List ℕ) (alone 
       elim ((done p k h lp lk source).followed (label, same ∙ ap (slice_index blocks) (sym source))) [
         | inl (q, mark, up, down) ↦
             let was = walks.opened.only (target_of (place_at l.places k)) q mark in
-            let there : x ≡ slice_index w.stack q = sym (was.1 ∙ target) in
-            collects z us q (up f0 last.items this h) was.0 u t
-            (subst (λ y. Along (Inert (system_of l) (slice_index blocks)) y us u) there rest) step is
+            let high = up (length w.roots - 1) no_root last_low (omega (arith, place, h)) in
+            collects z us q (omega (arith, place, high)) was.0 u t
+            (subst (λ y. Along (Inert (system_of l) (slice_index blocks)) y us u) (sym target ∙ sym was.1) rest) step is
             (λ inert. other (inert.0, inert.1 ∙ ap (slice_index blocks) was.1 ∙ same)) low
             (subst (λ s. ¬ IsKnownAlone blocks alone s) (sym was.1) together)
         | inr held ↦ elim held [
@@ -136,30 +97,25 @@ module _ (laws : Laws) (l : Grouped) (lts : IsLts l) (blocks : List ℕ) (alone 
                 | inl signature ↦ collected_from p h z (all z ((signature.exactly z.0 z.1).1 has))
                 | inr known ↦ absurd (together known)
               ]
-          | inr (i, low', is', to) ↦
-              let e = last_frame i (omega (arith, low')) (omega (arith, is', h)) in
-              absurd (omega (arith, e, low'))
+          | inr (i, low', is', to) ↦ let e = last_frame walks i (omega (arith, low')) (omega (arith, is', h)) in absurd (omega (arith, e, low'))
         ]
       ]
 
   -- what was collected is in the signature of each state of the component
-  sound : (p : ℕ) → f0 ≤ p → p < length w.stack → (z : ℕ × ℕ) → Collected z → HasPair branching l blocks (slice_index w.stack p) z.0 z.1
-  sound p h lp z (i, low, g) =
-      let size = length-drop last.items w.items in
-      let lj : last.items + i < length w.items = omega (arith, low, size) in
-      let (q, lq, of, all) = walks.sound (last.items + i) lj in
-      let tie = walks.connects p q lp lq (λ f c b le.
-      let before = walks.roots.in_order f c f0 last.items b this (greatest f c b) in
-      elim (cases_lt q f) [
-        | inl under ↦ (let less = (of f c b).1 under in absurd (omega (arith, less, before)))
-        | inr over ↦ over
-      ]) in
+  sound : (p : ℕ) → here w ≤ p → p < length w.stack → (z : ℕ × ℕ) → Collected z → HasPair branching l blocks (slice_index w.stack p) z.0 z.1
+  sound p h lp z (x, (i, low, at), g) =
+      let low' : c0 + i < length w.items = (let size = length-drop c0 w.items in omega (arith, low, size)) in
+      let (q, lq, of, all) = walks.sound (c0 + i) low' in
+      let tie = walks.connects p q lp lq (λ j d lj le.
+      let before = (last_most walks j d lj).1 in
+      let after = (of j d lj).1 in
+      grind (arith, before, after)) in
       pair_before laws l blocks (slice_index w.stack p) (slice_index w.stack q) z tie
-      (all z (subst (λ x. Gives lists x z) (item_drop w.items last.items i) g))
+      (all z (subst (λ y. Gives lists y z) (sym at ∙ get_or-drop c0 w.items i x ∙ get_or_default w.items (c0 + i) x _ low') g))
 
   -- a list of it is the signature of each state of the component
-  module _ (lists' : List (List (ℕ × ℕ))) (number : ℕ) (listed : IsListed (drop last.items w.items) lists lists' number) where
-    whole : (p : ℕ) → f0 ≤ p → p < length w.stack → ¬ IsKnownAlone blocks alone (slice_index w.stack p)
+  module _ {lists' : List (List (ℕ × ℕ))} {number : ℕ} (listed : IsListed (drop c0 w.items) lists lists' number) where
+    whole : (p : ℕ) → here w ≤ p → p < length w.stack → ¬ IsKnownAlone blocks alone (slice_index w.stack p)
         → IsSignature branching l blocks (slice_index w.stack p) (list_at lists' number)
     whole p h lp company = record {
       exactly = λ k b. (
@@ -169,7 +125,7 @@ module _ (laws : Laws) (l : Grouped) (lts : IsLts l) (blocks : List ℕ) (alone 
       rising = listed.rising;
     }
 
-    pub exact : (p : ℕ) → f0 ≤ p → p < length w.stack → IsSigned l blocks alone (slice_index w.stack p) lists' number
+    pub exact : (p : ℕ) → here w ≤ p → p < length w.stack → IsSigned l blocks alone (slice_index w.stack p) lists' number
     exact p h lp = record {
       within = listed.within;
       sound = λ z c. sound p h lp z ((listed.exactly z).0 c);

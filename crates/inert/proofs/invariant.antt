@@ -1,0 +1,4 @@
+pub mod Standing
+pub mod Keeping
+pub mod Growing
+pub mod Resting

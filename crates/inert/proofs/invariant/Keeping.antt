@@ -1,0 +1,82 @@
+-- What a move of a walk keeps of the states below a place: what each move says of itself, and what follows for all of them.
+use Rattle.std.proofs.Common.{◌≡◌, ◌⊎◌, ℕ, ◌<◌, ◌≤◌, Bool, List, length, slice_index, refl, sym, ◌∙◌, subst, inl, inr, arith}
+use Rattle.std.specs.List.{All}
+use Rattle.theory.specs.Bisimulation.Relation.{branching}
+use Rattle.lts.specs.Lts.{Grouped, Triple, source_of, place_at}
+use Rattle.inert.specs.Signed.{HasPair, pair_under}
+use Rattle.inert.specs.Search.{Search, mark_at, item_at, Gives, IsUpTo, IsOf, Holds, IsAhead, IsEntered, IsFollowed, Accounted, IsSound, Walks}
+use Rattle.inert.specs.declared.walk.Mark.TheVariants.{Open, Finished}
+use Rattle.inert.specs.declared.walk.Frame.{Frame}
+use Rattle.inert.specs.declared.walk.Root.{Root}
+use Rattle.inert.specs.declared.walk.Item.{Item}
+
+-- the states at places below n, their components and their items are as they were
+pub record Keeps (w new : Search) (n : ℕ) : Type 0 where
+  pub within : n ≤ length w.stack
+  pub states : (p : ℕ) → p < n → slice_index new.stack p ≡ slice_index w.stack p
+  pub below : (p q : ℕ) → p < n → q < length w.stack → IsUpTo w.roots q p → q < n
+  pub up : (p q : ℕ) → p < n → IsUpTo w.roots p q → IsUpTo new.roots p q
+  pub of : (j p : ℕ) → j < length w.items → p < n → IsOf w.roots j p → IsOf new.roots j p
+  pub items : (j p : ℕ) → j < length w.items → p < n → IsOf w.roots j p → (j < length new.items) × (item_at new.items j ≡ item_at w.items j)
+  pub opened : (s p : ℕ) → p < n → mark_at w.marks s ≡ Open p → mark_at new.marks s ≡ Open p
+  pub finished : (s k : ℕ) → mark_at w.marks s ≡ Finished k → mark_at new.marks s ≡ Finished k
+
+-- a move that leaves the marks and the stack alone, the items that are there, and roots, unless it drops some
+pub keeps_stack : (w : Search) (frames : List Frame) (roots : List Root) (items : List Item)
+    → ((j : ℕ) → j < length w.items → (j < length items) × (item_at items j ≡ item_at w.items j)) → ((P : Root → Type 0) → All P w.roots → All P roots)
+    → Keeps w (record w { frames = frames; roots = roots; items = items }) (length w.stack)
+keeps_stack w frames roots items same fewer = record {
+  within = omega arith;
+  states = λ p h. refl;
+  below = λ p q h low up. low;
+  up = λ p q h. fewer (λ r. r.place ≤ p → r.place ≤ q);
+  of = λ j p low h. fewer (λ r. (r.place ≤ p → r.items ≤ j) × (p < r.place → j < r.items));
+  items = λ j p low h of. same j low;
+  opened = λ s p h is. is;
+  finished = λ s k is. is;
+}
+
+module _ {l : Grouped} {blocks : List ℕ} {alone : List Bool} {lists : List (List (ℕ × ℕ))} {w : Search} (walks : Walks l blocks alone lists w) {new : Search} {n : ℕ}
+    (keeps : Keeps w new n) where
+  holds_still : (p : ℕ) (z : ℕ × ℕ) → p < n → Holds lists w p z → Holds lists new p z
+  holds_still p z h (j, low, g, of) =
+      let (low', same) = keeps.items j p low h of in
+      (j, low', subst (λ x. Gives lists x z) (sym same) g, keeps.of j p low h of)
+
+  followed_still : (p t : ℕ) → p < n → (IsEntered w p t → IsFollowed lists new p t) → IsFollowed lists w p t → IsFollowed lists new p t
+  followed_still p t h entered (inl (q, is, up, down)) =
+      let low = keeps.below p q h (walks.opened.only t q is).0 down in
+      inl (q, keeps.opened t q low is, keeps.up p q h up, keeps.up q p low down)
+  followed_still p t h entered (inr (inl (k, is, all))) = inr (inl (k, keeps.finished t k is, λ z c. holds_still p z h (all z c)))
+  followed_still p t h entered (inr (inr e)) = entered e
+
+  pub done_still : (p : ℕ) (e : Triple) → p < n → ((t : ℕ) → IsEntered w p t → IsFollowed lists new p t) → Accounted l blocks lists w p e
+      → Accounted l blocks lists new p e
+  done_still p e h entered done = record {
+    shown = λ other. holds_still p (pair_under blocks e) h (done.shown other);
+    followed = λ inert. followed_still p e.2 h (entered e.2) (done.followed inert);
+  }
+
+  -- a transition that was taken into account, or was still to be read
+  pub accounted_still : (p k : ℕ) → p < n → k < length l.places → source_of (place_at l.places k) ≡ slice_index new.stack p
+      → (IsAhead w p k → IsAhead new p k ⊎ Accounted l blocks lists new p (place_at l.places k)) → ((t : ℕ) → IsEntered w p t → IsFollowed lists new p t)
+      → IsAhead new p k ⊎ Accounted l blocks lists new p (place_at l.places k)
+  accounted_still p k h low source ahead entered =
+      let within = keeps.within in
+      elim (walks.accounted p k (omega (arith, h, within)) low (source ∙ keeps.states p h)) [
+        | inl a ↦ ahead a
+        | inr done ↦ inr (done_still p (place_at l.places k) h entered done)
+      ]
+
+  -- an item of a component below n
+  pub sound_still : (j : ℕ) → j < length w.items → n ≤ length new.stack → ((p : ℕ) → p < length w.stack → IsOf w.roots j p → p < n)
+      → IsSound l blocks lists new j
+  sound_still j low room below =
+      let (p, lp, of, all) = walks.sound j low in
+      let h = below p lp of in (
+        p,
+        omega (arith, h, room),
+        keeps.of j p low h of,
+        λ z g.
+            subst (λ s. HasPair branching l blocks s z.0 z.1) (sym (keeps.states p h)) (all z (subst (λ x. Gives lists x z) (keeps.items j p low h of).1 g)),
+      )

@@ -1,0 +1,83 @@
+-- What follows of a walk that stands between two of its steps.
+use Rattle.std.proofs.Common.{◌≡◌, ℕ, ◌-◌, ◌<◌, ◌≤◌, Bool, List, length, slice_index, sym, ◌∙◌, ap, subst, inl, inr, arith}
+use Rattle.std.specs.List.{All}
+use Rattle.std.proofs.lemmas.Bool.{cases_lt}
+use Rattle.std.proofs.lemmas.List.{get_or_default}
+use Rattle.theory.specs.Bisimulation.Relation.{branching}
+use Rattle.lts.specs.Lts.{Grouped, system_of, source_of, place_at, IsRow}
+use Rattle.inert.specs.Moves.{HasRead}
+use Rattle.inert.specs.declared.walk.Frame.{Frame}
+use Rattle.inert.specs.Signed.{HasPair}
+use Rattle.inert.specs.Search.{Search, Laws, frame_at, no_frame, here, last, no_root, Ties, IsFrame, Walks}
+
+-- the pairs of a state are those of each state that leads to it
+pub pair_before : (laws : Laws) (l : Grouped) (blocks : List ℕ) (s t : ℕ) (z : ℕ × ℕ) → Ties l blocks s t
+    → HasPair branching l blocks t z.0 z.1 → HasPair branching l blocks s z.0 z.1
+pair_before laws l blocks s t z tie has = (has.0, laws.path (system_of l) (slice_index blocks) s t _ z.1 tie has.1)
+
+module _ {l : Grouped} {blocks : List ℕ} {alone : List Bool} {lists : List (List (ℕ × ℕ))} {w : Search} (walks : Walks l blocks alone lists w) where
+  pub roots_some : 0 < length w.stack → 0 < length w.roots
+  roots_some some = elim (cases_lt 0 (length w.roots)) [
+    | inl h ↦ h
+    | inr none ↦ absurd (walks.roots.first some (λ i d h. absurd (omega (arith, none, h))))
+  ]
+
+  pub frames_some : 0 < length w.stack → 0 < length w.frames
+  frames_some some = let framed = (walks.roots.each 0 no_root (roots_some some)).framed in omega (arith, framed.1)
+
+  pub on_stack : 0 < length w.frames → here w < length w.stack
+  on_stack some = (walks.frames.each (length w.frames - 1) no_frame (omega (arith, some))).on_stack
+
+  pub stack_some : 0 < length w.frames → 0 < length w.stack
+  stack_some some = let low = on_stack some in omega (arith, low)
+
+  -- a frame is the last one, or of an earlier place
+  pub frames_up : (i : ℕ) → i < length w.frames → (frame_at w.frames i).place ≤ here w
+  frames_up i low = grind (arith, walks.frames.rising i (length w.frames - 1) no_frame, low)
+
+  pub not_last : (i : ℕ) → i < length w.frames → (frame_at w.frames i).place < here w → i < length w.frames - 1
+  not_last i low before = grind (arith, low, before)
+
+  pub last_frame : (i : ℕ) → i < length w.frames → here w ≤ (frame_at w.frames i).place → i ≡ length w.frames - 1
+  last_frame i low high = grind (arith, walks.frames.rising i (length w.frames - 1) no_frame, low, high)
+
+  -- if the row of the last frame was read, none of its transitions is ahead
+  pub none_ahead : HasRead w → (p k i : ℕ) → k < length l.places → source_of (place_at l.places k) ≡ slice_index w.stack p → i < length w.frames
+      → i ≡ length w.frames - 1 → (frame_at w.frames i).place ≡ p → ¬ ((frame_at w.frames i).next ≤ k)
+  none_ahead read p k i lk source low e is ahead =
+      let inside = (((walks.frames.each i no_frame low).row.exactly k lk).0 (source ∙ ap (slice_index w.stack) (sym is))).1 in
+      let next = ap (λ j. (frame_at w.frames j).next) e in
+      let end = ap (λ j. (frame_at w.frames j).end) e in
+      omega (arith, ahead, inside, next, end, read)
+
+  -- components begin up to it, and on the stack
+  pub reached : All (λ r. r.place ≤ here w) w.roots
+  reached i d h =
+      let (j, low, is) = (walks.roots.each i d h).framed in
+      let up = frames_up j low in
+      omega (arith, up, is)
+
+  pub root_low : All (λ r. r.place < length w.stack) w.roots
+  root_low i d h =
+      let (j, low, is) = (walks.roots.each i d h).framed in
+      let on = (walks.frames.each j no_frame low).on_stack in
+      omega (arith, on, is)
+
+  -- no component is after that of the last root
+  pub last_most : All (λ r. (r.place ≤ (last w.roots).place) × (r.items ≤ (last w.roots).items)) w.roots
+  last_most i d h = grind (arith, walks.roots.rising i (length w.roots - 1) d, get_or_default w.roots (length w.roots - 1) d no_root)
+
+  -- inert steps lead to where the walk is from each state on the stack
+  pub ties : (p : ℕ) → p < length w.stack → Ties l blocks (slice_index w.stack p) (slice_index w.stack (here w))
+  ties p low = walks.connects p (here w) low (on_stack (frames_some (omega (arith, low)))) (λ i d h _. reached i d h)
+
+-- a frame of a state that stays in its place
+pub IsFrame-moved : {l : Grouped} {stack stack' : List ℕ} {x : Frame} → IsFrame l stack x → x.place < length stack'
+    → slice_index stack' x.place ≡ slice_index stack x.place → IsFrame l stack' x
+IsFrame-moved {l = l} {x = x} was low same = record {
+  on_stack = low;
+  start = was.start;
+  row = subst (λ s. IsRow l.places s was.start x.end) (sym same) was.row;
+  first = was.first;
+  most = was.most;
+}

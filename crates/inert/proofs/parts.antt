@@ -1,0 +1,4 @@
+pub mod Marks
+pub mod Trails
+pub mod Rising
+pub mod Counting

@@ -1,0 +1,3 @@
+pub mod Taking
+pub mod Reading
+pub mod Returning
