@@ -99,6 +99,11 @@ pub fn do_job<F: Opener, R: Source, W: Sink, E: Write>(
         × (F.has_refused files.new ≡ F.has_refused files.old)) }
     ensures untouched { (result ≡ 2) ⊎ (result ≡ 4) → output.new ≡ output.old }
 {
+    let ends = Ends {
+        files,
+        output,
+        errors: e,
+    };
     match job {
         Job::Min {
             relation,
@@ -106,156 +111,210 @@ pub fn do_job<F: Opener, R: Source, W: Sink, E: Write>(
             hide,
             file,
         } => min_job(
-            alloc, files, input, output, e, *relation, *stats, hide, file,
+            alloc,
+            ends,
+            input,
+            &Minimisation {
+                relation: *relation,
+                stats: *stats,
+                hide,
+                file,
+            },
         ),
         Job::Cmp {
             relation,
             hide,
             first,
             second,
-        } => cmp_job(alloc, files, output, e, *relation, hide, first, second),
+        } => cmp_job(
+            alloc,
+            ends,
+            &Comparison {
+                relation: *relation,
+                hide,
+                first,
+                second,
+            },
+        ),
     }
+}
+
+/// Where a job takes its files, puts what it was asked for, and says its fault. In a contract `exit.0` is what becomes of
+/// the files, and `exit.1.0` of the output.
+#[derive(Drop)]
+struct Ends<'a, F, W, E> {
+    files: &'a mut F,
+    output: &'a mut W,
+    errors: &'a mut E,
+}
+
+/// What a job of minimising asks for.
+#[derive(Drop)]
+struct Minimisation<'a> {
+    relation: Relation,
+    stats: bool,
+    hide: &'a Option<String>,
+    file: &'a Option<String>,
+}
+
+/// What a job of comparing asks for.
+#[derive(Drop)]
+struct Comparison<'a> {
+    relation: Relation,
+    hide: &'a Option<String>,
+    first: &'a String,
+    second: &'a String,
 }
 
 /// Opens the file, or takes `input` if there is none, and minimises its text.
 fn min_job<F: Opener, R: Source, W: Sink, E: Write>(
     alloc: Global,
-    files: &mut F,
+    ends: Ends<'_, F, W, E>,
     input: &mut R,
-    output: &mut W,
-    e: &mut E,
-    rel: Relation,
-    stats: bool,
-    hide: &Option<String>,
-    file: &Option<String>,
+    asked: &Minimisation<'_>,
 ) -> u8
     requires input { R.failures input.old ≡ 0 }
-    requires output { W.failures output.old ≡ 0 }
+    requires output { W.failures ends.output.now ≡ 0 }
     ensures status { (result ≡ 0) ⊎ IsFaultStatus result }
-    ensures done { result ≡ 0 → MinimisesNamed (F.holds files.old) rel (option_map string_bytes hide.now)
-        (text_of (F.holds files.old) (R.rest input.old) (option_map string_bytes file.now))
-        (W.written output.old) (W.written output.new) }
-    ensures faulty { result ≡ 2 → HasFaultyList (F.holds files.old) (option_map string_bytes hide.now)
-        ⊎ IfSome (text_of (F.holds files.old) (R.rest input.old) (option_map string_bytes file.now)) (IsFaulty file_bounds) }
+    ensures done { result ≡ 0 →
+        MinimisesNamed (F.holds ends.entry.files.now) asked.now.relation (option_map string_bytes asked.now.hide.now)
+        (text_of (F.holds ends.entry.files.now) (R.rest input.old) (option_map string_bytes asked.now.file.now))
+        (W.written ends.entry.output.now) (W.written ends.exit.1.0.now) }
+    ensures faulty { result ≡ 2 →
+        HasFaultyList (F.holds ends.entry.files.now) (option_map string_bytes asked.now.hide.now)
+        ⊎ IfSome (text_of (F.holds ends.entry.files.now) (R.rest input.old) (option_map string_bytes asked.now.file.now))
+        (IsFaulty file_bounds) }
     ensures failed { result ≡ 5 →
-        HasFailed F.File.failures (F.has_refused files.new) (R.failures input.new) (W.failures output.new) }
-    ensures order { OpensInOrder (given (option_map string_bytes file.now) ++ given (option_map string_bytes hide.now))
-        (F.opened files.old) (F.opened files.new) }
-    ensures opened { (result ≡ 5) ⊎ (Opens (F.opened files.old) (F.opened files.new)
-        (given (option_map string_bytes file.now) ++ given (option_map string_bytes hide.now))
-        × (F.has_refused files.new ≡ F.has_refused files.old)) }
-    ensures untouched { (result ≡ 2) ⊎ (result ≡ 4) → output.new ≡ output.old }
+        HasFailed F.File.failures (F.has_refused ends.exit.0.now) (R.failures input.new) (W.failures ends.exit.1.0.now) }
+    ensures order { OpensInOrder
+        (given (option_map string_bytes asked.now.file.now) ++ given (option_map string_bytes asked.now.hide.now))
+        (F.opened ends.entry.files.now) (F.opened ends.exit.0.now) }
+    ensures opened { (result ≡ 5) ⊎ (Opens (F.opened ends.entry.files.now) (F.opened ends.exit.0.now)
+        (given (option_map string_bytes asked.now.file.now) ++ given (option_map string_bytes asked.now.hide.now))
+        × (F.has_refused ends.exit.0.now ≡ F.has_refused ends.entry.files.now)) }
+    ensures untouched { (result ≡ 2) ⊎ (result ≡ 4) → ends.exit.1.0.now ≡ ends.entry.output.now }
 {
-    let Some(name) = file else {
-        return min_text(
-            alloc,
-            files,
-            hide,
-            e,
-            input,
-            "standard input",
-            output,
-            rel,
-            stats,
-        );
+    let Some(name) = asked.file else {
+        return min_text(alloc, ends, input, "standard input", asked);
     };
-    match open(files, name.as_str(), e) {
-        Ok(mut text) => min_text(
-            alloc,
-            files,
-            hide,
-            e,
-            &mut text,
-            name.as_str(),
-            output,
-            rel,
-            stats,
-        ),
-        Err(status) => status,
-    }
+    let Ends {
+        files,
+        output,
+        errors,
+    } = ends;
+    let mut text = match open(files, name.as_str(), errors) {
+        Ok(text) => text,
+        Err(status) => return status,
+    };
+    let ends = Ends {
+        files,
+        output,
+        errors,
+    };
+    min_text(alloc, ends, &mut text, name.as_str(), asked)
 }
 
 /// Opens and reads the hide list, and minimises the text of `r`, which is called `name`.
 fn min_text<F: Opener, R: Source, W: Sink, E: Write>(
     alloc: Global,
-    files: &mut F,
-    hide: &Option<String>,
-    e: &mut E,
+    ends: Ends<'_, F, W, E>,
     r: &mut R,
     name: &str,
-    w: &mut W,
-    rel: Relation,
-    stats: bool,
+    asked: &Minimisation<'_>,
 ) -> u8
     requires source { R.failures r.old ≡ 0 }
-    requires sink { W.failures w.old ≡ 0 }
+    requires sink { W.failures ends.output.now ≡ 0 }
     ensures status { (result ≡ 0) ⊎ IsFaultStatus result }
     ensures done { result ≡ 0 →
-        MinimisesNamed (F.holds files.old) rel (option_map string_bytes hide.now) (R.rest r.old)
-        (W.written w.old) (W.written w.new) }
-    ensures faulty { result ≡ 2 → HasFaultyList (F.holds files.old) (option_map string_bytes hide.now)
+        MinimisesNamed (F.holds ends.entry.files.now) asked.now.relation (option_map string_bytes asked.now.hide.now)
+        (R.rest r.old) (W.written ends.entry.output.now) (W.written ends.exit.1.0.now) }
+    ensures faulty { result ≡ 2 →
+        HasFaultyList (F.holds ends.entry.files.now) (option_map string_bytes asked.now.hide.now)
         ⊎ IfSome (R.rest r.old) (IsFaulty file_bounds) }
     ensures failed { result ≡ 5 →
-        HasFailed F.File.failures (F.has_refused files.new) (R.failures r.new) (W.failures w.new) }
-    ensures opened { Opens (F.opened files.old) (F.opened files.new) (given (option_map string_bytes hide.now)) }
-    ensures refused { (result ≡ 5) ⊎ (F.has_refused files.new ≡ F.has_refused files.old) }
-    ensures untouched { (result ≡ 2) ⊎ (result ≡ 4) → w.new ≡ w.old }
+        HasFailed F.File.failures (F.has_refused ends.exit.0.now) (R.failures r.new) (W.failures ends.exit.1.0.now) }
+    ensures opened { Opens (F.opened ends.entry.files.now) (F.opened ends.exit.0.now)
+        (given (option_map string_bytes asked.now.hide.now)) }
+    ensures refused { (result ≡ 5) ⊎ (F.has_refused ends.exit.0.now ≡ F.has_refused ends.entry.files.now) }
+    ensures untouched { (result ≡ 2) ⊎ (result ≡ 4) → ends.exit.1.0.now ≡ ends.entry.output.now }
 {
-    match hidden_of(alloc, files, hide, e) {
-        Ok(hidden) => min_program(alloc, r, name, w, e, rel, stats, &Limits::file(), &hidden),
-        Err(status) => status,
-    }
+    let Ends {
+        files,
+        output,
+        errors,
+    } = ends;
+    let labels = match hidden_of(alloc, files, asked.hide, errors) {
+        Ok(labels) => labels,
+        Err(status) => return status,
+    };
+    min_program(
+        alloc,
+        r,
+        name,
+        output,
+        errors,
+        asked.relation,
+        asked.stats,
+        &Limits::file(),
+        &labels,
+    )
 }
 
 /// Opens both files and the hide list, and compares their texts.
 fn cmp_job<F: Opener, W: Sink, E: Write>(
     alloc: Global,
-    files: &mut F,
-    output: &mut W,
-    e: &mut E,
-    rel: Relation,
-    hide: &Option<String>,
-    first: &String,
-    second: &String,
+    ends: Ends<'_, F, W, E>,
+    asked: &Comparison<'_>,
 ) -> u8
-    requires output { W.failures output.old ≡ 0 }
+    requires output { W.failures ends.output.now ≡ 0 }
     ensures status { IsJobStatus result }
-    ensures same { result ≡ 0 → ComparesJob (F.holds files.old) (Cmp rel hide.now first.now second.now)
-        (W.written output.old) (W.written output.new) true }
-    ensures different { result ≡ 1 → ComparesJob (F.holds files.old) (Cmp rel hide.now first.now second.now)
-        (W.written output.old) (W.written output.new) false }
-    ensures faulty { result ≡ 2 → HasFaultyList (F.holds files.old) (option_map string_bytes hide.now)
-        ⊎ HasFaultySide file_bounds (F.holds files.old (string_bytes first.now)) (F.holds files.old (string_bytes second.now)) }
-    ensures failed { result ≡ 5 → HasLostFile F.File.failures (F.has_refused files.new) ⊎ (W.failures output.new ≡ 1) }
+    ensures same { result ≡ 0 → ComparesJob (F.holds ends.entry.files.now)
+        (Cmp asked.now.relation asked.now.hide.now asked.now.first.now asked.now.second.now)
+        (W.written ends.entry.output.now) (W.written ends.exit.1.0.now) true }
+    ensures different { result ≡ 1 → ComparesJob (F.holds ends.entry.files.now)
+        (Cmp asked.now.relation asked.now.hide.now asked.now.first.now asked.now.second.now)
+        (W.written ends.entry.output.now) (W.written ends.exit.1.0.now) false }
+    ensures faulty { result ≡ 2 →
+        HasFaultyList (F.holds ends.entry.files.now) (option_map string_bytes asked.now.hide.now)
+        ⊎ HasFaultySide file_bounds (F.holds ends.entry.files.now (string_bytes asked.now.first.now))
+        (F.holds ends.entry.files.now (string_bytes asked.now.second.now)) }
+    ensures failed { result ≡ 5 →
+        HasLostFile F.File.failures (F.has_refused ends.exit.0.now) ⊎ (W.failures ends.exit.1.0.now ≡ 1) }
     ensures order { OpensInOrder
-        (string_bytes first.now ∷ string_bytes second.now ∷ given (option_map string_bytes hide.now))
-        (F.opened files.old) (F.opened files.new) }
-    ensures opened { (result ≡ 5) ⊎ (Opens (F.opened files.old) (F.opened files.new)
-        (string_bytes first.now ∷ string_bytes second.now ∷ given (option_map string_bytes hide.now))
-        × (F.has_refused files.new ≡ F.has_refused files.old)) }
-    ensures untouched { (result ≡ 2) ⊎ (result ≡ 4) → output.new ≡ output.old }
+        (files_of (Cmp asked.now.relation asked.now.hide.now asked.now.first.now asked.now.second.now))
+        (F.opened ends.entry.files.now) (F.opened ends.exit.0.now) }
+    ensures opened { (result ≡ 5) ⊎ (Opens (F.opened ends.entry.files.now) (F.opened ends.exit.0.now)
+        (files_of (Cmp asked.now.relation asked.now.hide.now asked.now.first.now asked.now.second.now))
+        × (F.has_refused ends.exit.0.now ≡ F.has_refused ends.entry.files.now)) }
+    ensures untouched { (result ≡ 2) ⊎ (result ≡ 4) → ends.exit.1.0.now ≡ ends.entry.output.now }
 {
-    let mut a = match open(files, first.as_str(), e) {
+    let Ends {
+        files,
+        output,
+        errors,
+    } = ends;
+    let mut a = match open(files, asked.first.as_str(), errors) {
         Ok(file) => file,
         Err(status) => return status,
     };
-    let mut b = match open(files, second.as_str(), e) {
+    let mut b = match open(files, asked.second.as_str(), errors) {
         Ok(file) => file,
         Err(status) => return status,
     };
-    match hidden_of(alloc, files, hide, e) {
-        Ok(hidden) => cmp_program(
-            alloc,
-            &mut a,
-            first.as_str(),
-            &mut b,
-            second.as_str(),
-            output,
-            e,
-            rel,
-            &Limits::file(),
-            &hidden,
-        ),
-        Err(status) => status,
-    }
+    let hidden = match hidden_of(alloc, files, asked.hide, errors) {
+        Ok(hidden) => hidden,
+        Err(status) => return status,
+    };
+    cmp_program(
+        alloc,
+        &mut a,
+        asked.first.as_str(),
+        &mut b,
+        asked.second.as_str(),
+        output,
+        errors,
+        asked.relation,
+        &Limits::file(),
+        &hidden,
+    )
 }
