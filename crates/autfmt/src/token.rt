@@ -111,9 +111,23 @@ fn past(mark: u8, line: &[u8]) -> Option<&[u8]>
     }
 }
 
-/// The line from its first byte that is no blank.
+/// The line from its first byte that is no blank. Mostly that is its first byte, or one space stands before it.
+#[inline(always)]
 #[tactic(auto, unfolding(crate::specs::Reading::after_blanks))]
 fn after_blanks(line: &[u8]) -> &[u8]
+    ensures { result.now ≡ after_blanks line.now }
+{
+    match line {
+        [first, ..] if !is_blank(*first) => line,
+        [b' ', next, ..] if !is_blank(*next) => &line[1..],
+        _ => skip_blanks(line),
+    }
+}
+
+/// The same for any blanks.
+#[inline(never)]
+#[tactic(auto, unfolding(crate::specs::Reading::after_blanks))]
+fn skip_blanks(line: &[u8]) -> &[u8]
     ensures { result.now ≡ after_blanks line.now }
 {
     let mut rest = line;
@@ -141,6 +155,7 @@ fn is_blank(b: u8) -> bool
 }
 
 /// The number in front, and what follows it.
+#[inline(always)]
 #[tactic(auto, unfolding(crate::specs::Reading::number_at))]
 fn number_at(line: &[u8]) -> Option<(u64, &[u8])>
     ensures { IsSeenAs (λ x. (x.0, x.1.now)) result (number_at line.now) }
@@ -152,6 +167,7 @@ fn number_at(line: &[u8]) -> Option<(u64, &[u8])>
 }
 
 /// Goes on after the digits of `value`: none follows a leading zero, and none follows ten of them.
+#[inline(always)]
 #[tactic(auto, unfolding(crate::specs::Reading::more_digits))]
 fn more_digits(value: u64, line: &[u8]) -> Option<(u64, &[u8])>
     requires { value < 10 ^ 10 }

@@ -1,6 +1,6 @@
 use Rattle.std.proofs.Common.{◌≡◌, length}
 use Rattle.autfmt.specs.Reading.{after_blanks}
-use Rattle.autfmt.proofs.token.after_blanks.Given as goal
+use Rattle.autfmt.proofs.token.skip_blanks.Given as goal
 
 abbrev pub invariant-loop-rest : goal.invariant-loop-rest
 invariant-loop-rest l = after_blanks l.rest ≡ after_blanks l.fn.line
