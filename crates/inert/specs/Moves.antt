@@ -4,15 +4,10 @@ use Rattle.std.specs.List.{Contains}
 use Rattle.std.specs.List.Sorted.{IsStrictlySortedBy}
 use Rattle.lts.specs.Lts.{Grouped, Triple, IsRow}
 use Rattle.lists.specs.Lists.{list_at, pair_cmp, Grow}
-use Rattle.inert.specs.Search.{Search, nothing, mark_at, top, root_at, Gives, AreSigned, Walks}
+use Rattle.inert.specs.Search.{Search, nothing, mark_at, top, root_at, Gives, AreSigned, Walks, Mark, Unseen, Open, Finished, Root, Item, Pair, Listed}
 use Rattle.inert.specs.Ahead.{unseen, unread, rest, KeepsSeen, HasNumbers}
 use Rattle.inert.specs.declared.step.Step.{Step}
 use Rattle.inert.specs.declared.step.Step.TheVariants.{Inert, Shows}
-use Rattle.inert.specs.declared.walk.Mark.{Mark}
-use Rattle.inert.specs.declared.walk.Mark.TheVariants.{Unseen, Open, Finished}
-use Rattle.inert.specs.declared.walk.Root.{Root}
-use Rattle.inert.specs.declared.walk.Item.{Item}
-use Rattle.inert.specs.declared.walk.Item.TheVariants.{Pair, Listed}
 
 -- the state s, whose row this is, goes on the stack as a component of its own
 abbrev pub entered : ℕ → ℕ → ℕ → Search → Search

@@ -9,12 +9,12 @@ use Rattle.lists.specs.Lists.{list_at}
 use Rattle.inert.specs.Signed.{HasPair, IsSignature, IsKnownAlone, pair_under}
 use Rattle.inert.specs.Steps.{IsInert}
 use Rattle.inert.specs.Ahead.{HasNumbers}
-use Rattle.inert.specs.declared.walk.Mark.{Mark}
-use Rattle.inert.specs.declared.walk.Mark.TheVariants.{Unseen, Open, Finished}
-use Rattle.inert.specs.declared.walk.Frame.{Frame}
-use Rattle.inert.specs.declared.walk.Root.{Root}
-use Rattle.inert.specs.declared.walk.Item.{Item}
-use Rattle.inert.specs.declared.walk.Item.TheVariants.{Pair, Listed}
+pub use Rattle.inert.specs.declared.walk.Mark.{Mark}
+pub use Rattle.inert.specs.declared.walk.Mark.TheVariants.{Unseen, Open, Finished}
+pub use Rattle.inert.specs.declared.walk.Frame.{Frame}
+pub use Rattle.inert.specs.declared.walk.Root.{Root}
+pub use Rattle.inert.specs.declared.walk.Item.{Item}
+pub use Rattle.inert.specs.declared.walk.Item.TheVariants.{Pair, Listed}
 
 -- what a walk knows, where it is, and what it has collected
 pub record Search : Type 0 where

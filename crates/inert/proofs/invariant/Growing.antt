@@ -4,9 +4,7 @@ use Rattle.theory.specs.Bisimulation.Relation.{branching}
 use Rattle.lts.specs.Lts.{Grouped}
 use Rattle.lists.specs.Lists.{Grow}
 use Rattle.inert.specs.Signed.{IsSignature}
-use Rattle.inert.specs.Search.{Search, item_at, IsSigned, IsThere, Gives, Holds, IsFollowed, Walks}
-use Rattle.inert.specs.declared.walk.Item.{Item}
-use Rattle.inert.specs.declared.walk.Item.TheVariants.{Pair, Listed}
+use Rattle.inert.specs.Search.{Search, item_at, IsSigned, IsThere, Gives, Holds, IsFollowed, Walks, Item, Pair, Listed}
 
 module _ {lists lists' : List (List (ℕ × ℕ))} (grow : Grow lists lists') where
   -- an item gives the same

@@ -4,11 +4,7 @@ use Rattle.std.specs.List.{All}
 use Rattle.theory.specs.Bisimulation.Relation.{branching}
 use Rattle.lts.specs.Lts.{Grouped, Triple, source_of, place_at}
 use Rattle.inert.specs.Signed.{HasPair, pair_under}
-use Rattle.inert.specs.Search.{Search, mark_at, item_at, Gives, IsUpTo, IsOf, Holds, IsAhead, IsEntered, IsFollowed, Accounted, IsSound, Walks}
-use Rattle.inert.specs.declared.walk.Mark.TheVariants.{Open, Finished}
-use Rattle.inert.specs.declared.walk.Frame.{Frame}
-use Rattle.inert.specs.declared.walk.Root.{Root}
-use Rattle.inert.specs.declared.walk.Item.{Item}
+use Rattle.inert.specs.Search.{Search, mark_at, item_at, Gives, IsUpTo, IsOf, Holds, IsAhead, IsEntered, IsFollowed, Accounted, IsSound, Walks, Open, Finished, Frame, Root, Item}
 
 -- the states at places below n, their components and their items are as they were
 pub record Keeps (w new : Search) (n : ℕ) : Type 0 where

@@ -7,11 +7,9 @@ use Rattle.std.proofs.lemmas.List.Sums.{count_by-le-length}
 use Rattle.lts.specs.Lts.{Grouped, row_of}
 use Rattle.lists.specs.Lists.{list_at}
 use Rattle.inert.specs.Signed.{IsKnownAlone}
-use Rattle.inert.specs.Search.{Search, Laws, mark_at, no_root, IsIdle, IsSigned, Walks}
+use Rattle.inert.specs.Search.{Search, Laws, mark_at, no_root, IsIdle, IsSigned, Walks, Unseen, Open, Finished, Frame}
 use Rattle.inert.specs.Moves.{Enters, skipped, ahead, Fits, GoesOn, Rests}
 use Rattle.inert.specs.Ahead.{is_unseen, unseen, unread, rest, HasSeen}
-use Rattle.inert.specs.declared.walk.Mark.TheVariants.{Unseen, Open, Finished}
-use Rattle.inert.specs.declared.walk.Frame.{Frame}
 use Rattle.inert.proofs.parts.Marks.{not_unseen, not_finished, list_same, mark_set, mark_other, seen_more}
 use Rattle.inert.proofs.parts.Counting.{unseen-marked, unread-marked, unread-all, rest-push}
 use Rattle.inert.proofs.invariant.Standing.{frames_some, root_low}

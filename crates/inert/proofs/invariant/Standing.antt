@@ -6,9 +6,8 @@ use Rattle.std.proofs.lemmas.List.{get_or_default}
 use Rattle.theory.specs.Bisimulation.Relation.{branching}
 use Rattle.lts.specs.Lts.{Grouped, system_of, source_of, place_at, IsRow}
 use Rattle.inert.specs.Moves.{HasRead}
-use Rattle.inert.specs.declared.walk.Frame.{Frame}
 use Rattle.inert.specs.Signed.{HasPair}
-use Rattle.inert.specs.Search.{Search, Laws, frame_at, no_frame, here, last, no_root, Ties, IsFrame, Walks}
+use Rattle.inert.specs.Search.{Search, Laws, frame_at, no_frame, here, last, no_root, Ties, IsFrame, Walks, Frame}
 
 -- the pairs of a state are those of each state that leads to it
 pub pair_before : (laws : Laws) (l : Grouped) (blocks : List ℕ) (s t : ℕ) (z : ℕ × ℕ) → Ties l blocks s t

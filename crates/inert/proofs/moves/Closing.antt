@@ -9,13 +9,9 @@ use Rattle.theory.specs.Bisimulation.Relation.{branching}
 use Rattle.lts.specs.Lts.{Grouped}
 use Rattle.lists.specs.Lists.{list_at}
 use Rattle.inert.specs.Signed.{HasPair}
-use Rattle.inert.specs.Search.{Search, Laws, mark_at, frame_at, no_frame, here, root_at, last, no_root, item_at, Ties, IsOf, IsBefore, IsRoot, IsFrame, IsThere, Gives, Holds, IsEntered, IsFollowed, AreOpen, IsSigned, AreSigned, AreRoots, AreFrames, AreThere, IsSound, AreSound, AreAccounted, Connects, Walks}
+use Rattle.inert.specs.Search.{Search, Laws, mark_at, frame_at, no_frame, here, root_at, last, no_root, item_at, Ties, IsOf, IsBefore, IsRoot, IsFrame, IsThere, Gives, Holds, IsEntered, IsFollowed, AreOpen, IsSigned, AreSigned, AreRoots, AreFrames, AreThere, IsSound, AreSound, AreAccounted, Connects, Walks, Mark, Open, Finished, Item, Pair, Listed}
 use Rattle.inert.specs.Moves.{Finishes, popped, weight}
 use Rattle.inert.specs.Ahead.{is_unseen}
-use Rattle.inert.specs.declared.walk.Mark.{Mark}
-use Rattle.inert.specs.declared.walk.Mark.TheVariants.{Open, Finished}
-use Rattle.inert.specs.declared.walk.Item.{Item}
-use Rattle.inert.specs.declared.walk.Item.TheVariants.{Pair, Listed}
 use Rattle.inert.proofs.parts.Marks.{list_same, number_same}
 use Rattle.inert.proofs.parts.Rising.{AllPairs-take, All-from_take}
 use Rattle.inert.proofs.parts.Counting.{unseen-same}

@@ -6,9 +6,8 @@ use Rattle.std.proofs.lemmas.List.Elements.{All-push}
 use Rattle.theory.specs.Bisimulation.Relation.{branching}
 use Rattle.lts.specs.Lts.{Grouped}
 use Rattle.inert.specs.Signed.{HasPair}
-use Rattle.inert.specs.Search.{Search, here, item_at, IsThere, IsOf, Gives, Holds, IsSound, Walks}
+use Rattle.inert.specs.Search.{Search, here, item_at, IsThere, IsOf, Gives, Holds, IsSound, Walks, Item}
 use Rattle.inert.specs.Moves.{with_item}
-use Rattle.inert.specs.declared.walk.Item.{Item}
 use Rattle.inert.proofs.invariant.Standing.{reached, on_stack}
 use Rattle.inert.proofs.invariant.Keeping.{Keeps, keeps_stack, accounted_still, sound_still}
 

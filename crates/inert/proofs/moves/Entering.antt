@@ -7,12 +7,8 @@ use Rattle.std.proofs.lemmas.List.Elements.{All-push}
 use Rattle.std.proofs.lemmas.List.Quantifiers.{all_pairs_push}
 use Rattle.theory.specs.Blocks.{Inert}
 use Rattle.lts.specs.Lts.{Grouped, system_of, IsRow}
-use Rattle.inert.specs.Search.{Search, Laws, mark_at, frame_at, no_frame, here, no_root, Ties, IsBefore, IsRoot, IsFrame, IsEntered, IsAhead, AreOpen, AreSigned, AreRoots, AreFrames, AreAccounted, Connects, Walks}
+use Rattle.inert.specs.Search.{Search, Laws, mark_at, frame_at, no_frame, here, no_root, Ties, IsBefore, IsRoot, IsFrame, IsEntered, IsAhead, AreOpen, AreSigned, AreRoots, AreFrames, AreAccounted, Connects, Walks, Mark, Unseen, Open, Finished, Frame, Root}
 use Rattle.inert.specs.Moves.{entered}
-use Rattle.inert.specs.declared.walk.Mark.{Mark}
-use Rattle.inert.specs.declared.walk.Mark.TheVariants.{Unseen, Open, Finished}
-use Rattle.inert.specs.declared.walk.Frame.{Frame}
-use Rattle.inert.specs.declared.walk.Root.{Root}
 use Rattle.inert.proofs.parts.Marks.{not_unseen, not_finished, mark_set, mark_other}
 use Rattle.inert.proofs.parts.Counting.{unseen-marked}
 use Rattle.inert.proofs.invariant.Standing.{IsFrame-moved, ties, frames_some, root_low}

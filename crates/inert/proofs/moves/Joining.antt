@@ -7,10 +7,8 @@ use Rattle.std.proofs.lemmas.List.{get_or_default}
 use Rattle.std.proofs.lemmas.List.Elements.{All-take}
 use Rattle.theory.specs.Blocks.{Inert}
 use Rattle.lts.specs.Lts.{Grouped, system_of}
-use Rattle.inert.specs.Search.{Search, Laws, mark_at, here, root_at, no_root, Ties, IsUpTo, IsBefore, IsRoot, IsHere, Walks}
+use Rattle.inert.specs.Search.{Search, Laws, mark_at, here, root_at, no_root, Ties, IsUpTo, IsBefore, IsRoot, IsHere, Walks, Root, Open}
 use Rattle.inert.specs.Moves.{Cuts}
-use Rattle.inert.specs.declared.walk.Root.{Root}
-use Rattle.inert.specs.declared.walk.Mark.TheVariants.{Open}
 use Rattle.inert.proofs.parts.Rising.{AllPairs-take, All-from_take}
 use Rattle.inert.proofs.invariant.Standing.{reached, ties}
 use Rattle.inert.proofs.invariant.Keeping.{Keeps, keeps_stack, accounted_still, sound_still}

@@ -6,9 +6,8 @@ use Rattle.std.proofs.lemmas.Grind.{common_steps, elements}
 use Rattle.std.proofs.lemmas.List.{get_or-set_same, get_or-set_other, get_or_default, length-set, get_or-take, length-take-le}
 use Rattle.std.proofs.lemmas.List.Elements.{All-set, All-take}
 use Rattle.lts.specs.Lts.{Grouped, source_of, place_at}
-use Rattle.inert.specs.Search.{Search, mark_at, frame_at, no_frame, here, last, no_root, IsFrame, IsAhead, IsEntered, IsFollowed, Accounted, Walks}
+use Rattle.inert.specs.Search.{Search, mark_at, frame_at, no_frame, here, last, no_root, IsFrame, IsAhead, IsEntered, IsFollowed, Accounted, Walks, Frame}
 use Rattle.inert.specs.Moves.{popped, HasRead}
-use Rattle.inert.specs.declared.walk.Frame.{Frame}
 use Rattle.inert.proofs.parts.Rising.{AllPairs-take}
 use Rattle.inert.proofs.invariant.Standing.{reached, not_last, last_most, none_ahead}
 use Rattle.inert.proofs.invariant.Keeping.{Keeps, keeps_stack, done_still, accounted_still, sound_still}

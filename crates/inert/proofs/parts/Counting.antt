@@ -8,10 +8,7 @@ use Rattle.std.proofs.lemmas.List.Elements.{All-head, All-tail, filter_agree}
 use Rattle.std.proofs.lemmas.List.Sums.{length-filter, sum-map, sum_by-cons, sum_by-le, sum_by_more, sum_by_push, sum_by-set}
 use Rattle.lts.specs.Lts.{Triple, source_of, row_of}
 use Rattle.inert.specs.Ahead.{is_unseen, unseen, unread, rest}
-use Rattle.inert.specs.Search.{mark_at, frame_at, no_frame, top}
-use Rattle.inert.specs.declared.walk.Mark.{Mark}
-use Rattle.inert.specs.declared.walk.Mark.TheVariants.{Unseen, Open, Finished}
-use Rattle.inert.specs.declared.walk.Frame.{Frame}
+use Rattle.inert.specs.Search.{mark_at, frame_at, no_frame, top, Mark, Unseen, Open, Finished, Frame}
 
 -- 1 for true, and 0 for false
 abbrev one : Bool → ℕ

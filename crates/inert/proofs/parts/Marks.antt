@@ -4,11 +4,8 @@ use Rattle.std.specs.Prelude.{IsTrue}
 use Rattle.std.proofs.lemmas.Bool.{false≢true}
 use Rattle.std.proofs.lemmas.Grind.{common_steps}
 use Rattle.std.proofs.lemmas.List.{get_or-set_same, get_or-set_other}
-use Rattle.inert.specs.Search.{mark_at}
+use Rattle.inert.specs.Search.{mark_at, Mark, Unseen, Open, Finished, Pair, Listed}
 use Rattle.inert.specs.Ahead.{KeepsSeen}
-use Rattle.inert.specs.declared.walk.Mark.{Mark}
-use Rattle.inert.specs.declared.walk.Mark.TheVariants.{Unseen, Open, Finished}
-use Rattle.inert.specs.declared.walk.Item.TheVariants.{Pair, Listed}
 
 pub true_or_not : (b : Bool) → IsTrue b ⊎ ¬ IsTrue b
 true_or_not true = inl refl

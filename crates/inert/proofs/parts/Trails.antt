@@ -5,7 +5,7 @@ use Rattle.std.proofs.lemmas.Bool.{cases_eq}
 use Rattle.std.proofs.lemmas.List.{length-set, length_push, get_or_append_left, get_or_push}
 use Rattle.std.proofs.lemmas.List.Elements.{All-push}
 use Rattle.inert.specs.Ahead.{IsTrail}
-use Rattle.inert.specs.declared.walk.Mark.{Mark}
+use Rattle.inert.specs.Search.{Mark}
 use Rattle.inert.proofs.parts.Marks.{mark_other}
 
 pub IsTrail-mark : (marks : List Mark) (trail trail' : List ℕ) (s : ℕ) (m : Mark) → s < length marks → trail' ≡ trail ++ s ∷ [] → IsTrail marks trail

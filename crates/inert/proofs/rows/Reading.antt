@@ -5,11 +5,10 @@ use Rattle.std.proofs.lemmas.List.{get_or-set_same, length-set}
 use Rattle.lts.specs.Meter.{Counts, Costs}
 use Rattle.lts.specs.Lts.{Grouped, source_of, place_at, IsLts}
 use Rattle.inert.specs.Steps.{IsStep}
-use Rattle.inert.specs.Search.{Search, Laws, frame_at, no_frame, top, Accounted, Walks}
+use Rattle.inert.specs.Search.{Search, Laws, frame_at, no_frame, top, Accounted, Walks, Frame}
 use Rattle.inert.specs.Moves.{Takes, ahead, steps, HasRead, GoesOn}
 use Rattle.inert.specs.declared.step.Step.{Step}
 use Rattle.inert.specs.declared.step.Step.TheVariants.{Inert}
-use Rattle.inert.specs.declared.walk.Frame.{Frame}
 use Rattle.inert.proofs.parts.Marks.{true_or_not}
 use Rattle.inert.proofs.parts.Counting.{rest-next}
 use Rattle.inert.proofs.moves.Turning.{Walks-next}

@@ -3,13 +3,9 @@ use Rattle.std.proofs.Common.{true, ◌≡◌, ◌≢◌, ◌⊎◌, ℕ, ◌<�
 use Rattle.std.proofs.lemmas.Bool.{cases_lt, false≢true}
 use Rattle.std.proofs.lemmas.List.{append-nil, length-drop}
 use Rattle.lts.specs.Lts.{Grouped, IsLts}
-use Rattle.inert.specs.Search.{Search, Laws, mark_at, here, last, IsSigned, Walks}
+use Rattle.inert.specs.Search.{Search, Laws, mark_at, here, last, IsSigned, Walks, Mark, Unseen, Open, Finished, Item, Listed}
 use Rattle.inert.specs.Moves.{Closes, popped, ahead, Fits, HasRead, GoesOn}
 use Rattle.inert.specs.Ahead.{is_unseen, rest}
-use Rattle.inert.specs.declared.walk.Mark.{Mark}
-use Rattle.inert.specs.declared.walk.Mark.TheVariants.{Unseen, Open, Finished}
-use Rattle.inert.specs.declared.walk.Item.{Item}
-use Rattle.inert.specs.declared.walk.Item.TheVariants.{Listed}
 use Rattle.inert.proofs.parts.Counting.{unread-same, rest-cut}
 use Rattle.inert.proofs.moves.Turning.{Walks-pop, popped_size}
 use Rattle.inert.proofs.signatures.Exact.{exact}

@@ -9,16 +9,11 @@ use Rattle.lts.specs.Labels.{text_of}
 use Rattle.lts.specs.Lts.{Grouped, Triple, source_of, label_of, target_of, place_at, system_of, IsLts, IsRow}
 use Rattle.inert.specs.Signed.{HasPair, pair_under}
 use Rattle.inert.specs.Steps.{IsInert, IsStep}
-use Rattle.inert.specs.Search.{Search, Laws, mark_at, frame_at, no_frame, top, here, IsFrame, Accounted, Walks}
+use Rattle.inert.specs.Search.{Search, Laws, mark_at, frame_at, no_frame, top, here, IsFrame, Accounted, Walks, Unseen, Open, Finished, Frame, Root, Item, Pair, Listed}
 use Rattle.inert.specs.Moves.{entered, with_item, Takes, Cuts, ahead, weight}
 use Rattle.inert.specs.Ahead.{KeepsSeen}
 use Rattle.inert.specs.declared.step.Step.{Step as TakenStep}
 use Rattle.inert.specs.declared.step.Step.TheVariants.{Inert as Goes, Shows}
-use Rattle.inert.specs.declared.walk.Mark.TheVariants.{Unseen, Open, Finished}
-use Rattle.inert.specs.declared.walk.Frame.{Frame}
-use Rattle.inert.specs.declared.walk.Root.{Root}
-use Rattle.inert.specs.declared.walk.Item.{Item}
-use Rattle.inert.specs.declared.walk.Item.TheVariants.{Pair, Listed}
 use Rattle.inert.proofs.parts.Marks.{not_unseen, number_same, no_list, seen_more}
 use Rattle.inert.proofs.parts.Counting.{unseen-marked, unread-marked, rest-push}
 use Rattle.inert.proofs.invariant.Standing.{pair_before}

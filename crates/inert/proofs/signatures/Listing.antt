@@ -11,10 +11,8 @@ use Rattle.std.proofs.lemmas.List.Filters.{dedup_is}
 use Rattle.std.proofs.lemmas.List.Kept.{Contains-dedup, Contains-from_dedup}
 use Rattle.std.proofs.lemmas.List.Sorted.{Contains-permutation, IsPermutation-sym, length_permutation}
 use Rattle.lists.specs.Lists.{list_at, AreLists, AreNumbers, Grow, HasOne}
-use Rattle.inert.specs.Search.{IsThere, AreThere, Gives}
+use Rattle.inert.specs.Search.{IsThere, AreThere, Gives, Item, Pair, Listed}
 use Rattle.inert.specs.Moves.{IsGiven, AreTaken, IsListed}
-use Rattle.inert.specs.declared.walk.Item.{Item}
-use Rattle.inert.specs.declared.walk.Item.TheVariants.{Pair, Listed}
 use Rattle.inert.proofs.parts.Marks.{number_same, no_list}
 
 first_of : (a b c d : ℕ) → Pair a b ≡ Pair c d → a ≡ c

@@ -4,11 +4,9 @@ use Rattle.std.proofs.lemmas.List.{get_or_default}
 use Rattle.lts.specs.Lts.{Grouped, IsLts}
 use Rattle.lists.specs.Lists.{list_at, AreNumbers}
 use Rattle.inert.specs.Signed.{IsListOf}
-use Rattle.inert.specs.Search.{Search, mark_at, IsNumbered}
+use Rattle.inert.specs.Search.{Search, mark_at, IsNumbered, Mark, Unseen, Open, Finished}
 use Rattle.inert.specs.Moves.{Rests}
 use Rattle.inert.specs.Ahead.{unread}
-use Rattle.inert.specs.declared.walk.Mark.{Mark}
-use Rattle.inert.specs.declared.walk.Mark.TheVariants.{Unseen, Open, Finished}
 use Rattle.inert.proofs.parts.Counting.{unread-none}
 
 -- no row is left

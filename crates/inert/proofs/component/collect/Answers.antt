@@ -1,7 +1,7 @@
 use Rattle.std.proofs.Common.{take, subst}
 use Rattle.std.proofs.lemmas.List.{take_all, take_more}
 use Rattle.inert.specs.Moves.{AreTaken}
-use Rattle.inert.specs.declared.walk.Item.TheVariants.{Pair}
+use Rattle.inert.specs.Search.{Pair}
 use Rattle.inert.proofs.signatures.Listing.{taken_none, taken_pair, taken_list}
 use Rattle.inert.proofs.component.collect.Goals as goal
 use Rattle.inert.proofs.component.collect.Goals.{in-Pair+in_ok-push-in-Pair, in-Listed+in_ok-push-in-Listed}

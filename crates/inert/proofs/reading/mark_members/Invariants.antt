@@ -1,6 +1,5 @@
 use Rattle.std.proofs.Common.{◌≡◌, ◌⊎◌, ℕ, ◌<◌, ◌≤◌, length, slice_index}
-use Rattle.inert.specs.Search.{mark_at}
-use Rattle.inert.specs.declared.walk.Mark.TheVariants.{Finished}
+use Rattle.inert.specs.Search.{mark_at, Finished}
 use Rattle.inert.proofs.reading.mark_members.Given as goal
 
 abbrev pub invariant-loop-p : goal.invariant-loop-p

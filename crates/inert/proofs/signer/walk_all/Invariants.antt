@@ -1,9 +1,8 @@
 use Rattle.std.proofs.Common.{◌≡◌, ℕ, ◌+◌, ◌<◌, ◌≤◌, length}
 use Rattle.lts.specs.Meter.{Costs}
-use Rattle.inert.specs.Search.{mark_at}
+use Rattle.inert.specs.Search.{mark_at, Unseen}
 use Rattle.inert.specs.Moves.{Rests}
 use Rattle.inert.specs.Ahead.{unread}
-use Rattle.inert.specs.declared.walk.Mark.TheVariants.{Unseen}
 use Rattle.inert.proofs.signer.walk_all.Given as goal
 
 abbrev pub invariant-loop-s : goal.invariant-loop-s

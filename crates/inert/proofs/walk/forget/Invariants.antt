@@ -1,6 +1,5 @@
 use Rattle.std.proofs.Common.{◌≡◌, ◌⊎◌, ℕ, ◌<◌, ◌≤◌, length, get_or}
-use Rattle.inert.specs.Search.{mark_at}
-use Rattle.inert.specs.declared.walk.Mark.TheVariants.{Unseen}
+use Rattle.inert.specs.Search.{mark_at, Unseen}
 use Rattle.inert.proofs.walk.forget.Given as goal
 
 abbrev pub invariant-loop-s : goal.invariant-loop-s

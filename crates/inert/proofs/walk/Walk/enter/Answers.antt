@@ -1,5 +1,5 @@
 use Rattle.std.proofs.Common.{ap, length, arith}
-use Rattle.inert.specs.declared.walk.Mark.TheVariants.{Open}
+use Rattle.inert.specs.Search.{Open}
 use Rattle.inert.proofs.parts.Trails.{IsTrail-mark}
 use Rattle.inert.proofs.walk.Walk.enter.Goals as goal
 

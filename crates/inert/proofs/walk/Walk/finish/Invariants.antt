@@ -1,9 +1,8 @@
 use Rattle.std.proofs.Common.{◌≡◌, ◌+◌}
 use Rattle.lts.specs.Meter.{Costs}
-use Rattle.inert.specs.Search.{mark_at}
+use Rattle.inert.specs.Search.{mark_at, Unseen}
 use Rattle.inert.specs.Moves.{ahead, steps, GoesOn}
 use Rattle.inert.specs.Ahead.{unread}
-use Rattle.inert.specs.declared.walk.Mark.TheVariants.{Unseen}
 use Rattle.inert.proofs.walk.Walk.finish.Given as goal
 
 abbrev pub invariant-loop-internal : goal.invariant-loop-internal

@@ -1,8 +1,7 @@
 use Rattle.std.proofs.Common.{◌≡◌, ◌≢◌, ◌∙◌, ℕ, ◌-◌, ◌<◌, ◌≤◌, List, length, take, ap, sym, subst, subst₂, arith}
 use Rattle.std.specs.Vec.{vec_len}
-use Rattle.inert.specs.Search.{Search, top, here, no_root, last}
+use Rattle.inert.specs.Search.{Search, top, here, no_root, last, Frame}
 use Rattle.inert.specs.Moves.{GoesOn, Closes, popped, ahead}
-use Rattle.inert.specs.declared.walk.Frame.{Frame}
 use Rattle.inert.proofs.parts.Rising.{last_read}
 use Rattle.inert.proofs.invariant.Standing.{roots_some, stack_some}
 use Rattle.inert.proofs.rows.Returning.{popped_on, closed}

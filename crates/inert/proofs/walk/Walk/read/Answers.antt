@@ -4,10 +4,9 @@ use Rattle.std.proofs.lemmas.Bool.{false≢true}
 use Rattle.std.proofs.lemmas.List.{get_or_read}
 use Rattle.lts.specs.Lts.{place_at}
 use Rattle.inert.specs.Steps.{IsStep}
-use Rattle.inert.specs.Search.{Search, frame_at, top, here}
+use Rattle.inert.specs.Search.{Search, frame_at, top, here, Frame}
 use Rattle.inert.specs.Moves.{Takes, GoesOn}
 use Rattle.inert.specs.declared.step.Step.{Step}
-use Rattle.inert.specs.declared.walk.Frame.{Frame}
 use Rattle.inert.proofs.parts.Rising.{last_read}
 use Rattle.inert.proofs.invariant.Standing.{on_stack}
 use Rattle.inert.proofs.rows.Reading.{Reads, Entered, reads_none, read_all, read_steps, place_below, goes_low, goes_on, read_more, read_entered, still_there, entered_steps, counts_more}

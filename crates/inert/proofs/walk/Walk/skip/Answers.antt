@@ -1,5 +1,5 @@
 use Rattle.std.proofs.Common.{ap, length, arith}
-use Rattle.inert.specs.declared.walk.Mark.TheVariants.{Finished}
+use Rattle.inert.specs.Search.{Finished}
 use Rattle.inert.proofs.parts.Trails.{IsTrail-mark}
 use Rattle.inert.proofs.walk.Walk.skip.Goals as goal
 
