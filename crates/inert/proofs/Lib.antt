@@ -1,5 +1,4 @@
 pub mod parts
 pub mod invariant
 pub mod moves
-pub mod rows
 pub mod signatures

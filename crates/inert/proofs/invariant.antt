@@ -1,4 +1,3 @@
 pub mod Standing
 pub mod Keeping
-pub mod Growing
 pub mod Resting

@@ -1,5 +1,3 @@
-pub mod Collecting
-pub mod Joining
-pub mod Entering
-pub mod Turning
-pub mod Closing
+pub mod Forward
+pub mod Reading
+pub mod Back

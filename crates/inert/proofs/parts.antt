@@ -1,4 +1,3 @@
 pub mod Marks
-pub mod Trails
 pub mod Rising
 pub mod Counting

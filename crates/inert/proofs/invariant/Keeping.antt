@@ -1,10 +1,11 @@
--- What a move of a walk keeps of the states below a place: what each move says of itself, and what follows for all of them.
-use Rattle.std.proofs.Common.{◌≡◌, ◌⊎◌, ℕ, ◌<◌, ◌≤◌, Bool, List, length, slice_index, refl, sym, ◌∙◌, subst, inl, inr, arith}
+-- What a walk says of the states below a place holds still after a move that keeps them, and after lists were added.
+use Rattle.std.proofs.Common.{◌≡◌, ◌⊎◌, ℕ, ◌<◌, ◌≤◌, Bool, List, length, slice_index, refl, sym, ◌∙◌, subst, inl, inr, arith, Contains}
 use Rattle.std.specs.List.{All}
 use Rattle.theory.specs.Bisimulation.Relation.{branching}
 use Rattle.lts.specs.Lts.{Grouped, Triple, source_of, place_at}
-use Rattle.inert.specs.Signed.{HasPair, pair_under}
-use Rattle.inert.specs.Search.{Search, mark_at, item_at, Gives, IsUpTo, IsOf, Holds, IsAhead, IsEntered, IsFollowed, Accounted, IsSound, Walks, Open, Finished, Frame, Root, Item}
+use Rattle.lists.specs.Lists.{Grow}
+use Rattle.inert.specs.Signed.{HasPair, pair_under, IsSignature, IsKnownAlone}
+use Rattle.inert.specs.Search.{Search, mark_at, item_at, Gives, IsUpTo, IsOf, Holds, IsAhead, IsEntered, IsFollowed, Accounted, IsSound, IsThere, Walks, Open, Finished, Frame, Root, Item, Pair, Listed}
 
 -- the states at places below n, their components and their items are as they were
 pub record Keeps (w new : Search) (n : ℕ) : Type 0 where
@@ -76,3 +77,42 @@ module _ {l : Grouped} {blocks : List ℕ} {alone : List Bool} {lists : List (Li
         λ z g.
             subst (λ s. HasPair branching l blocks s z.0 z.1) (sym (keeps.states p h)) (all z (subst (λ x. Gives lists x z) (keeps.items j p low h of).1 g)),
       )
+
+-- lists were added
+module _ {lists lists' : List (List (ℕ × ℕ))} (grow : Grow lists lists') where
+  -- an item gives the same
+  Gives-grow : (x : Item) → IsThere lists x → (z : ℕ × ℕ) → (Gives lists x z → Gives lists' x z) × (Gives lists' x z → Gives lists x z)
+  Gives-grow (Pair a b) there z = (λ g. g, λ g. g)
+  Gives-grow (Listed k) there z = let same = grow.same k (there k refl) in (subst (λ xs. Contains xs z) (sym same), subst (λ xs. Contains xs z) same)
+
+  module _ {l : Grouped} {blocks : List ℕ} {alone : List Bool} {w : Search} (walks : Walks l blocks alone lists w) where
+    holds : (p : ℕ) (z : ℕ × ℕ) → Holds lists w p z → Holds lists' w p z
+    holds p z (j, low, g, of) = (j, low, (Gives-grow (item_at w.items j) (walks.there j (Pair 0 0) low) z).0 g, of)
+
+    followed : (p t : ℕ) → IsFollowed lists w p t → IsFollowed lists' w p t
+    followed p t (inl here) = inl here
+    followed p t (inr (inl (k, is, all))) = inr (inl (k, is, λ z c. holds p z (all z (subst (λ xs. Contains xs z) (grow.same k (walks.signed t k is).within) c))))
+    followed p t (inr (inr entered)) = inr (inr entered)
+
+    pub Walks-grow : Walks l blocks alone lists' w
+    Walks-grow = record {
+      numbers = record { size = walks.numbers.size; some = omega (arith, walks.numbers.some, grow.longer); numbers = walks.numbers.numbers };
+      opened = walks.opened;
+      signed = λ s k is.
+          let was = walks.signed s k is in
+          let same = grow.same k was.within in
+          record {
+            within = omega (arith, was.within, grow.longer);
+            sound = λ z c. was.sound z (subst (λ xs. Contains xs z) same c);
+            whole = subst (λ xs. IsSignature branching l blocks s xs ⊎ IsKnownAlone blocks alone s) (sym same) was.whole;
+          };
+      roots = walks.roots;
+      frames = walks.frames;
+      connects = walks.connects;
+      there = λ j d low k is. omega (arith, walks.there j d low k is, grow.longer);
+      sound = λ j low. let (p, lp, of, all) = walks.sound j low in (p, lp, of, λ z g. all z ((Gives-grow (item_at w.items j) (walks.there j (Pair 0 0) low) z).1 g));
+      accounted = λ p k lp lk source. elim (walks.accounted p k lp lk source) [
+        | inl ahead ↦ inl ahead
+        | inr done ↦ inr (record { shown = λ other. holds p _ (done.shown other); followed = λ inert. followed p _ (done.followed inert) })
+      ];
+    }

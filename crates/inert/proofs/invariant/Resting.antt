@@ -1,19 +1,19 @@
--- A walk at rest: before it has begun, after it has passed a state, as it begins, and when it is over.
-use Rattle.std.proofs.Common.{◌≡◌, ◌≢◌, ℕ, ◌+◌, ◌<◌, ◌≤◌, Bool, List, [], length, Contains, refl, sym, ◌∙◌, ap, subst, inl, inr, arith}
+-- A walk at rest: before it has begun, after it has passed a state, as it begins, when it is over, and the numbers of its lists then.
+use Rattle.std.proofs.Common.{◌≡◌, ℕ, ◌+◌, ◌<◌, ◌≤◌, Bool, List, [], length, Contains, refl, sym, ◌∙◌, ap, subst, inl, inr, arith, slice_index}
 use Rattle.std.proofs.lemmas.Bool.{cases_eq}
 use Rattle.std.proofs.lemmas.Grind.{common_steps}
-use Rattle.std.proofs.lemmas.List.{length-set, length_push, nil_from_length}
+use Rattle.std.proofs.lemmas.List.{get_or-set_same, get_or-set_other, length-set, length_push, nil_from_length, get_or_default}
 use Rattle.std.proofs.lemmas.List.Sums.{count_by-le-length}
-use Rattle.lts.specs.Lts.{Grouped, row_of}
-use Rattle.lists.specs.Lists.{list_at}
-use Rattle.inert.specs.Signed.{IsKnownAlone}
-use Rattle.inert.specs.Search.{Search, Laws, mark_at, no_root, IsIdle, IsSigned, Walks, Unseen, Open, Finished, Frame}
+use Rattle.lts.specs.Lts.{Grouped, row_of, IsLts}
+use Rattle.lists.specs.Lists.{list_at, AreNumbers}
+use Rattle.inert.specs.Signed.{IsKnownAlone, IsListOf}
+use Rattle.inert.specs.Search.{Search, Laws, mark_at, no_root, IsIdle, IsSigned, Walks, Unseen, Open, Finished, Frame, IsNumbered, Mark}
 use Rattle.inert.specs.Moves.{Enters, skipped, ahead, Fits, GoesOn, Rests}
 use Rattle.inert.specs.Ahead.{is_unseen, unseen, unread, rest, HasSeen}
-use Rattle.inert.proofs.parts.Marks.{not_unseen, not_finished, list_same, mark_set, mark_other, seen_more}
-use Rattle.inert.proofs.parts.Counting.{unseen-marked, unread-marked, unread-all, rest-push}
+use Rattle.inert.proofs.parts.Marks.{seen_more}
+use Rattle.inert.proofs.parts.Counting.{unseen-marked, unread-marked, unread-all, rest-push, unread-none}
 use Rattle.inert.proofs.invariant.Standing.{frames_some, root_low}
-use Rattle.inert.proofs.moves.Entering.{Walks-enter}
+use Rattle.inert.proofs.moves.Forward.{Walks-enter}
 
 -- nothing was seen yet
 pub idle_rests : (l : Grouped) (blocks : List ℕ) (alone : List Bool) (lists : List (List (ℕ × ℕ))) {w : Search} → IsIdle w → length w.marks ≡ l.states → length lists ≡ 1
@@ -23,22 +23,25 @@ idle_rests l blocks alone lists {w = w} idle size one =
     record {
       empty = idle.empty;
       numbers = record { size = size; some = omega (arith, one); numbers = omega (arith, few, size) };
-      shut = λ s p is. not_unseen p (sym is ∙ idle.none s);
-      signed = λ s k is. absurd (not_finished k (sym is ∙ idle.none s));
-      fits =
-          let stack = ap (λ x. length x.stack) idle.empty in
-          let frames = ap (λ x. length x.frames) idle.empty in
-          let left = ap (λ x. rest x.frames) idle.empty in
-          let items = ap (λ x. length x.items) idle.empty in
-          omega (arith, few, unread-all l.places w.marks idle.none, size, one, stack, frames, left, items);
+      shut = λ s p is. cc (is, idle.none s);
+      signed = λ s k is. absurd (cc (is, idle.none s));
+      fits = subst (Fits l (length lists)) (sym idle.empty) (omega (arith, few, unread-all l.places w.marks idle.none, size, one));
     }
+
+-- no row is left
+pub none_unread : {l : Grouped} → IsLts l → (marks : List Mark) → length marks ≡ l.states → ((s : ℕ) → s < l.states → ¬ (mark_at marks s ≡ Unseen)) → unread l.places marks ≡ 0
+none_unread {l = l} lts marks size all =
+    unread-none l.places marks (λ s h. all s (omega (arith, h, size)))
+    (λ k d h. let e = (lts.in_range.each k d h).source in omega (arith, e, size))
+
+seen_finished : (m : Mark) → ((p : ℕ) → ¬ (m ≡ Open p)) → ¬ (m ≡ Unseen) → (k : ℕ) × (m ≡ Finished k)
+seen_finished Unseen on seen = absurd (seen refl)
+seen_finished (Open p) on seen = absurd (on p refl)
+seen_finished (Finished k) on seen = (k, refl)
 
 module _ {l : Grouped} {blocks : List ℕ} {alone : List Bool} {lists : List (List (ℕ × ℕ))} {w : Search} (rests : Rests l blocks alone lists w) where
   pub rests_empty : length w.stack ≡ 0
   rests_empty = ap (λ x. length x.stack) rests.empty
-
-  no_frames : length w.frames ≡ 0
-  no_frames = ap (λ x. length x.frames) rests.empty
 
   rests_walks : Walks l blocks alone lists w
   rests_walks = subst (Walks l blocks alone lists) (sym rests.empty) (record {
@@ -68,57 +71,68 @@ module _ {l : Grouped} {blocks : List ℕ} {alone : List Bool} {lists : List (Li
         let x : Frame = record { place = length w.stack; next = start; end = end } in
         let fewer = unseen-marked w.marks s (Open (length w.stack)) refl within none in
         let less = unread-marked w.marks s (Open (length w.stack)) refl within none l.places in
-        let count = row.count in
-        let fits = rests.fits in
+        let frames = ap (λ y. length y.frames) rests.empty in
         let left = ap (λ y. rest y.frames) rests.empty in
         subst Begins (sym is) (record {
           on = record {
-            walks = Walks-enter laws rests_walks within none row (λ some. absurd (omega (arith, some, no_frames)));
-            fits = omega (arith, fewer, less, rest-push w.frames x, count, length_push w.stack s, length_push w.frames x, no_frames, fits);
-            seen = seen_more w.marks s (Open (length w.stack)) (not_unseen (length w.stack)) within;
+            walks = Walks-enter rests_walks laws within none row (λ some. absurd (omega (arith, some, frames)));
+            fits = omega (arith, fewer, less, rest-push w.frames x, row.count, length_push w.stack s, length_push w.frames x, frames, rests.fits);
+            seen = seen_more w.marks s (Open (length w.stack)) (λ e. cc) within;
           };
-          found = λ is. not_unseen (length w.stack) (sym (mark_set w.marks s (Open (length w.stack)) within) ∙ is);
-          same = omega (arith, less, rest-push w.frames x, count, left);
+          found = λ is. cc (is, get_or-set_same w.marks s (Open (length w.stack)) Unseen within);
+          same = omega (arith, less, rest-push w.frames x, row.count, left);
         })
 
-    abbrev New : Search
-    New = skipped s w
+    pub skipped_seen : HasSeen s w.marks (skipped s w).marks
+    skipped_seen = record { seen = seen_more w.marks s (Finished 0) (λ e. cc) within; found = λ is. cc (is, get_or-set_same w.marks s (Finished 0) Unseen within) }
 
-    self : mark_at New.marks s ≡ Finished 0
-    self = mark_set w.marks s (Finished 0) within
-
-    others : (t : ℕ) → t ≢ s → mark_at New.marks t ≡ mark_at w.marks t
-    others t d = mark_other w.marks s (Finished 0) t d
-
-    pub skipped_seen : HasSeen s w.marks New.marks
-    skipped_seen = record { seen = seen_more w.marks s (Finished 0) (not_finished 0) within; found = λ is. not_finished 0 (sym self ∙ is) }
-
-    pub row_unread : unread l.places New.marks + length (row_of s l.places) ≡ unread l.places w.marks
+    pub row_unread : unread l.places (skipped s w).marks + length (row_of s l.places) ≡ unread l.places w.marks
     row_unread = unread-marked w.marks s (Finished 0) refl within none l.places
 
-    pub skipped_rests : list_at lists 0 ≡ [] → IsKnownAlone blocks alone s → Rests l blocks alone lists New
-    skipped_rests first known = record {
-      empty = ap (skipped s) rests.empty;
-      numbers =
-          let fewer = unseen-marked w.marks s (Finished 0) refl within none in
-          let few = rests.numbers.numbers in
-          record { size = length-set w.marks s (Finished 0) ∙ rests.numbers.size; some = rests.numbers.some; numbers = omega (arith, few, fewer) };
-      shut = λ t p is. rests.shut t p (grind (arith, common_steps, none, within, is));
-      signed = λ t k is. elim (cases_eq t s) [
-        | inl e ↦
-            let zero : 0 ≡ k = list_same 0 k (sym self ∙ ap (mark_at New.marks) (sym e) ∙ is) in
-            subst (IsSigned l blocks alone t lists) zero (record {
-              within = rests.numbers.some;
-              sound = λ z c. absurd (let has = subst (λ xs. Contains xs z) first c in omega (arith, has.1));
-              whole = inr (subst (IsKnownAlone blocks alone) (sym e) known);
-            })
-        | inr d ↦ rests.signed t k (sym (others t d) ∙ is)
-      ];
-      fits =
-          let fewer = unseen-marked w.marks s (Finished 0) refl within none in
-          let fits = rests.fits in
-          omega (arith, fits, fewer, row_unread);
-    }
+    pub skipped_rests : list_at lists 0 ≡ [] → IsKnownAlone blocks alone s → Rests l blocks alone lists (skipped s w)
+    skipped_rests first known =
+        let fewer = unseen-marked w.marks s (Finished 0) refl within none in
+        record {
+          empty = ap (skipped s) rests.empty;
+          numbers = record {
+            size = length-set w.marks s (Finished 0) ∙ rests.numbers.size;
+            some = rests.numbers.some;
+            numbers = omega (arith, fewer, rests.numbers.numbers);
+          };
+          shut = λ t p is. rests.shut t p (grind (arith, common_steps, none, within, is));
+          signed = λ t k is. elim (cases_eq t s) [
+            | inl e ↦
+                let zero : 0 ≡ k = cc (get_or-set_same w.marks s (Finished 0) Unseen within, is, e) in
+                subst (IsSigned l blocks alone t lists) zero (record {
+                  within = rests.numbers.some;
+                  sound = λ z c. absurd (let has = subst (λ xs. Contains xs z) first c in omega (arith, has.1));
+                  whole = inr (subst (IsKnownAlone blocks alone) (sym e) known);
+                })
+            | inr d ↦ rests.signed t k (sym (get_or-set_other w.marks s t (Finished 0) Unseen d) ∙ is)
+          ];
+          fits = omega (arith, rests.fits, fewer, row_unread);
+        }
+
+  -- a state that was seen is finished
+  pub finished : (s : ℕ) → ¬ (mark_at w.marks s ≡ Unseen) → (k : ℕ) × (mark_at w.marks s ≡ Finished k)
+  finished s = seen_finished (mark_at w.marks s) (rests.shut s)
+
+  -- the numbers are of lists that are there, each of its state
+  module _ (numbers : List ℕ) (are : (s : ℕ) → s < length numbers → IsNumbered blocks alone w.marks s (slice_index numbers s)) where
+    pub numbered : AreNumbers lists numbers
+    numbered s d h = subst (λ x. x < length lists) (get_or_default numbers s 0 d h) (elim (are s h) [
+      | inl (known, zero) ↦ let some = rests.numbers.some in omega (arith, zero, some)
+      | inr (company, is) ↦ (rests.signed s (slice_index numbers s) is).within
+    ])
+
+    pub numbered_signed : list_at lists 0 ≡ [] → (s : ℕ) → s < length numbers → IsListOf l blocks alone s (list_at lists (slice_index numbers s))
+    numbered_signed first s h = elim (are s h) [
+      | inl (known, zero) ↦ inr (known, ap (list_at lists) zero ∙ first)
+      | inr (company, is) ↦ elim (rests.signed s (slice_index numbers s) is).whole [
+        | inl signature ↦ inl signature
+        | inr known ↦ absurd (company known)
+      ]
+    ]
 
 -- a walk rests when no row is being read
 pub walk_rests : {l : Grouped} {blocks : List ℕ} {alone : List Bool} {lists : List (List (ℕ × ℕ))} {w : Search} → Walks l blocks alone lists w → length w.frames ≡ 0

@@ -22,13 +22,13 @@ module _ {l : Grouped} {blocks : List ℕ} {alone : List Bool} {lists : List (Li
   ]
 
   pub frames_some : 0 < length w.stack → 0 < length w.frames
-  frames_some some = let framed = (walks.roots.each 0 no_root (roots_some some)).framed in omega (arith, framed.1)
+  frames_some some = omega (arith, (walks.roots.each 0 no_root (roots_some some)).framed.1)
 
   pub on_stack : 0 < length w.frames → here w < length w.stack
   on_stack some = (walks.frames.each (length w.frames - 1) no_frame (omega (arith, some))).on_stack
 
   pub stack_some : 0 < length w.frames → 0 < length w.stack
-  stack_some some = let low = on_stack some in omega (arith, low)
+  stack_some some = omega (arith, on_stack some)
 
   -- a frame is the last one, or of an earlier place
   pub frames_up : (i : ℕ) → i < length w.frames → (frame_at w.frames i).place ≤ here w
@@ -45,22 +45,18 @@ module _ {l : Grouped} {blocks : List ℕ} {alone : List Bool} {lists : List (Li
       → i ≡ length w.frames - 1 → (frame_at w.frames i).place ≡ p → ¬ ((frame_at w.frames i).next ≤ k)
   none_ahead read p k i lk source low e is ahead =
       let inside = (((walks.frames.each i no_frame low).row.exactly k lk).0 (source ∙ ap (slice_index w.stack) (sym is))).1 in
-      let next = ap (λ j. (frame_at w.frames j).next) e in
-      let end = ap (λ j. (frame_at w.frames j).end) e in
-      omega (arith, ahead, inside, next, end, read)
+      omega (arith, ahead, inside, ap (λ j. (frame_at w.frames j).next) e, ap (λ j. (frame_at w.frames j).end) e, read)
 
   -- components begin up to it, and on the stack
   pub reached : All (λ r. r.place ≤ here w) w.roots
   reached i d h =
       let (j, low, is) = (walks.roots.each i d h).framed in
-      let up = frames_up j low in
-      omega (arith, up, is)
+      omega (arith, frames_up j low, is)
 
   pub root_low : All (λ r. r.place < length w.stack) w.roots
   root_low i d h =
       let (j, low, is) = (walks.roots.each i d h).framed in
-      let on = (walks.frames.each j no_frame low).on_stack in
-      omega (arith, on, is)
+      omega (arith, (walks.frames.each j no_frame low).on_stack, is)
 
   -- no component is after that of the last root
   pub last_most : All (λ r. (r.place ≤ (last w.roots).place) × (r.items ≤ (last w.roots).items)) w.roots

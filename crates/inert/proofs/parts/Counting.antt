@@ -18,10 +18,6 @@ one b = cond b 1 0
 abbrev to_read : List Mark → Triple → ℕ
 to_read marks e = one (is_unseen (mark_at marks (source_of e)))
 
--- what is left of a row
-abbrev left : Frame → ℕ
-left x = x.end - x.next
-
 -- numbers that add up at each element add up
 sums_add : {X : Type 0} (f g h : X → ℕ) (xs : List X) → ((x : X) → f x + g x ≡ h x) → sum_by f xs + sum_by g xs ≡ sum_by h xs
 sums_add f g h [] each = refl
@@ -34,7 +30,6 @@ row_sum : (places : List Triple) (s : ℕ) → length (row_of s places) ≡ sum_
 row_sum places s = length-filter (λ e. eqb (source_of e) s) places
 
 -- a state that was not seen is marked
-
 module _ (marks : List Mark) (t : ℕ) (m : Mark) (met : is_unseen m ≡ false) (below : t < length marks) (was : mark_at marks t ≡ Unseen) where
   pub unseen-marked : unseen (set marks t m) + 1 ≡ unseen marks
   unseen-marked = grind (arith, nat_tests, sum_by-set (λ x. one (is_unseen x)) marks t m Unseen below, met, was)
@@ -48,7 +43,6 @@ module _ (marks : List Mark) (t : ℕ) (m : Mark) (met : is_unseen m ≡ false) 
       omega (arith, add, unread_sum places (set marks t m), unread_sum places marks, row_sum places t)
 
 -- the same states are unseen
-
 module _ (old new : List Mark) (same : (s : ℕ) → is_unseen (mark_at new s) ≡ is_unseen (mark_at old s)) where
   pub unseen-same : length new ≡ length old → unseen new ≡ unseen old
   unseen-same size =
@@ -62,22 +56,19 @@ module _ (old new : List Mark) (same : (s : ℕ) → is_unseen (mark_at new s) �
   unread-same places = ap length (filter_agree _ _ (λ e. same (source_of e)) places)
 
 -- the rows on the frames
-
 pub rest-push : (frames : List Frame) (x : Frame) → rest (frames ++ x ∷ []) ≡ rest frames + (x.end - x.next)
-rest-push frames x = sum_by_push left frames x
+rest-push frames x = sum_by_push (λ y. y.end - y.next) frames x
 
 -- one place of a row was read
 pub rest-next : (frames : List Frame) (i : ℕ) (x : Frame) → i < length frames → x.end ≡ (frame_at frames i).end →
     x.next ≡ (frame_at frames i).next + 1 → (frame_at frames i).next < (frame_at frames i).end → rest (set frames i x) + 1 ≡ rest frames
-rest-next frames i x below end next more = omega (arith, sum_by-set left frames i x no_frame below, end, next, more)
+rest-next frames i x below end next more = omega (arith, sum_by-set (λ y. y.end - y.next) frames i x no_frame below, end, next, more)
 
 -- the last row was read
 pub rest-cut : (frames : List Frame) → 0 < length frames → (top frames).next ≡ (top frames).end → rest (take (length frames - 1) frames) ≡ rest frames
 rest-cut frames some read =
     let all : take (length frames - 1 + 1) frames ≡ frames = take_all (length frames - 1 + 1) frames (omega arith) in
-    omega (arith, sum_by_more left frames (length frames - 1) no_frame (omega (arith, some)), ap rest all, read)
-
--- the beginning and the end of a walk
+    omega (arith, sum_by_more (λ y. y.end - y.next) frames (length frames - 1) no_frame (omega (arith, some)), ap rest all, read)
 
 -- nothing was seen, so all is still to be read
 pub unread-all : (places : List Triple) (marks : List Mark) → ((s : ℕ) → mark_at marks s ≡ Unseen) → unread places marks ≡ length places
@@ -97,15 +88,12 @@ unread-none (e ∷ es) marks each below =
     let here = each (source_of e) (All-head (λ x. source_of x < length marks) e es below) in
     rw (seen (mark_at marks (source_of e)) here) (unread-none es marks each (All-tail (λ x. source_of x < length marks) e es below))
 
-at_most : (marks : List Mark) (s : ℕ) → ¬ (mark_at marks s ≡ Unseen) → (e : Triple) → to_read marks e + one (eqb (source_of e) s) ≤ 1
-at_most marks s was e = grind (arith, nat_tests, was, seen (mark_at marks s))
-
 -- the row of a state that was seen is not among what is still to be read
 pub unread-seen : (places : List Triple) (marks : List Mark) (s : ℕ) → ¬ (mark_at marks s ≡ Unseen) →
     unread places marks + length (row_of s places) ≤ length places
 unread-seen places marks s was =
     let row : Triple → ℕ = λ e. one (eqb (source_of e) s) in
-    let most : (e : Triple) → to_read marks e + row e ≤ 1 = λ e. at_most marks s was e in
+    let most : (e : Triple) → to_read marks e + row e ≤ 1 = λ e. grind (arith, nat_tests, was, seen (mark_at marks s)) in
     let add = sums_add (to_read marks) row (λ e. to_read marks e + row e) places (λ e. refl) in
     let all = sum_by-le (λ e. to_read marks e + row e) 1 places (λ k d h. most (get_or places k d)) in
     omega (arith, add, all, unread_sum places marks, row_sum places s)

@@ -1,5 +1,6 @@
 -- If the rows of the last component are read, what it has collected is exactly the signature of each of its states.
 use Rattle.std.proofs.Common.{◌≡◌, ℕ, ◌+◌, ◌-◌, ◌<◌, ◌≤◌, Bool, List, [], ◌∷◌, length, drop, get_or, slice_index, slice_index_or, false, IsTrue, sym, ◌∙◌, ap, subst, inl, inr, arith}
+use Rattle.std.proofs.lemmas.Bool.{cases_Bool}
 use Rattle.std.proofs.lemmas.List.{length-map, get_or-map, get_or-drop, get_or_default, length-drop}
 use Rattle.theory.specs.System.{Step, Along, internal}
 use Rattle.theory.specs.Bisimulation.Relation.{branching}
@@ -10,7 +11,6 @@ use Rattle.lists.specs.Lists.{list_at}
 use Rattle.inert.specs.Signed.{HasPair, IsSignature, IsKnownAlone, pair_under}
 use Rattle.inert.specs.Search.{Search, Laws, here, last, no_root, item_at, Gives, Holds, Accounted, IsSigned, Walks}
 use Rattle.inert.specs.Moves.{IsGiven, IsListed, HasRead}
-use Rattle.inert.proofs.parts.Marks.{true_or_not}
 use Rattle.inert.proofs.invariant.Standing.{pair_before, roots_some, stack_some, last_most, last_frame, none_ahead}
 
 -- a step stands in some place
@@ -39,14 +39,13 @@ module _ (laws : Laws) {l : Grouped} (lts : IsLts l) {blocks : List ℕ} {alone 
   Collected z = IsGiven lists (drop c0 w.items) z
 
   last_low : length w.roots - 1 < length w.roots
-  last_low = let some' = roots_some walks (stack_some walks some) in omega (arith, some')
+  last_low = omega (arith, roots_some walks (stack_some walks some))
 
   collected_from : (p : ℕ) → here w ≤ p → (z : ℕ × ℕ) → Holds lists w p z → Collected z
   collected_from p h z (j, low, g, of) =
       let from = (of (length w.roots - 1) no_root last_low).0 (omega (arith, place, h)) in
-      let size = length-drop c0 w.items in
       let is : c0 + (j - c0) ≡ j = omega (arith, from) in
-      (item_at w.items j, (j - c0, omega (arith, size, low, from), get_or-drop c0 w.items (j - c0) _ ∙ ap (λ i. get_or w.items i (item_at w.items j)) is ∙ get_or_default w.items j _ _ low), g)
+      (item_at w.items j, (j - c0, omega (arith, length-drop c0 w.items, low, from), get_or-drop c0 w.items (j - c0) _ ∙ ap (λ i. get_or w.items i (item_at w.items j)) is ∙ get_or_default w.items j _ _ low), g)
 
   -- each transition of the component was taken into account
   done : (p k : ℕ) → here w ≤ p → p < length w.stack → k < length l.places → source_of (place_at l.places k) ≡ slice_index w.stack p
@@ -62,8 +61,7 @@ module _ (laws : Laws) {l : Grouped} (lts : IsLts l) {blocks : List ℕ} {alone 
       → z.0 < length l.labels → Collected z
   collects_here z p h lp t step is other low =
       let (k, lk, source, label, target) = step_place l (slice_index w.stack p) t (text_of l.labels z.0) step in
-      let in_range = lts.in_range.each k (0, 0, 0) lk in
-      let number : label_of (place_at l.places k) ≡ z.0 = lts.table.different (label_of (place_at l.places k)) z.0 in_range.label low label in
+      let number : label_of (place_at l.places k) ≡ z.0 = lts.table.different (label_of (place_at l.places k)) z.0 (lts.in_range.each k (0, 0, 0) lk).label low label in
       let block : slice_index blocks (target_of (place_at l.places k)) ≡ z.1 = ap (slice_index blocks) target ∙ is in
       let same : pair_under blocks (place_at l.places k) ≡ z = λ i. (number i, block i) in
       collected_from p h z
@@ -104,12 +102,9 @@ module _ (laws : Laws) {l : Grouped} (lts : IsLts l) {blocks : List ℕ} {alone 
   -- what was collected is in the signature of each state of the component
   sound : (p : ℕ) → here w ≤ p → p < length w.stack → (z : ℕ × ℕ) → Collected z → HasPair branching l blocks (slice_index w.stack p) z.0 z.1
   sound p h lp z (x, (i, low, at), g) =
-      let low' : c0 + i < length w.items = (let size = length-drop c0 w.items in omega (arith, low, size)) in
+      let low' : c0 + i < length w.items = omega (arith, low, length-drop c0 w.items) in
       let (q, lq, of, all) = walks.sound (c0 + i) low' in
-      let tie = walks.connects p q lp lq (λ j d lj le.
-      let before = (last_most walks j d lj).1 in
-      let after = (of j d lj).1 in
-      grind (arith, before, after)) in
+      let tie = walks.connects p q lp lq (λ j d lj le. grind (arith, (last_most walks j d lj).1, (of j d lj).1)) in
       pair_before laws l blocks (slice_index w.stack p) (slice_index w.stack q) z tie
       (all z (subst (λ y. Gives lists y z) (sym at ∙ get_or-drop c0 w.items i x ∙ get_or_default w.items (c0 + i) x _ low') g))
 
@@ -129,8 +124,8 @@ module _ (laws : Laws) {l : Grouped} (lts : IsLts l) {blocks : List ℕ} {alone 
     exact p h lp = record {
       within = listed.within;
       sound = λ z c. sound p h lp z ((listed.exactly z).0 c);
-      whole = elim (true_or_not (slice_index_or alone (slice_index blocks (slice_index w.stack p)) false)) [
+      whole = elim (cases_Bool (slice_index_or alone (slice_index blocks (slice_index w.stack p)) false)) [
         | inl known ↦ inr known
-        | inr company ↦ inl (whole p h lp company)
+        | inr other ↦ inl (whole p h lp (λ known. cc (other, known)))
       ];
     }

@@ -13,13 +13,6 @@ use Rattle.std.proofs.lemmas.List.Sorted.{Contains-permutation, IsPermutation-sy
 use Rattle.lists.specs.Lists.{list_at, AreLists, AreNumbers, Grow, HasOne}
 use Rattle.inert.specs.Search.{IsThere, AreThere, Gives, Item, Pair, Listed}
 use Rattle.inert.specs.Moves.{IsGiven, AreTaken, IsListed}
-use Rattle.inert.proofs.parts.Marks.{number_same, no_list}
-
-first_of : (a b c d : ℕ) → Pair a b ≡ Pair c d → a ≡ c
-first_of a b c d e = cc
-
-second_of : (a b c d : ℕ) → Pair a b ≡ Pair c d → b ≡ d
-second_of a b c d e = cc
 
 -- no item names anything
 pub taken_none : AreTaken [] [] []
@@ -44,22 +37,22 @@ fewer xs {x = x} {x' = x'} other c = elim (Contains-push_cases xs x x' c) [ inl 
 module _ (items : List Item) (numbers : List ℕ) (pairs : List (ℕ × ℕ)) (taken : AreTaken items numbers pairs) where
   pub taken_pair : (a b : ℕ) → AreTaken (items ++ Pair a b ∷ []) numbers (pairs ++ (a, b) ∷ [])
   taken_pair a b = record {
-    named = λ k. (λ c. Contains-append_left items (Pair a b ∷ []) (Listed k) ((taken.named k).0 c), λ c. (taken.named k).1 (fewer items (no_list a b k) c));
+    named = λ k. (λ c. Contains-append_left items (Pair a b ∷ []) (Listed k) ((taken.named k).0 c), λ c. (taken.named k).1 (fewer items (λ e. cc) c));
     own = λ x y. (
       more pairs items (taken.own x y).0 (λ e. ap (λ z. Pair z.0 z.1) e),
-      more items pairs (taken.own x y).1 (λ e i. (first_of a b x y e i, second_of a b x y e i)),
+      more items pairs (taken.own x y).1 (λ e. let (left, right) : (a ≡ x) × (b ≡ y) = (cc, cc) in λ i. (left i, right i)),
     );
-    few = let before = taken.few in omega (arith, before, length_push items (Pair a b));
+    few = omega (arith, taken.few, length_push items (Pair a b));
   }
 
   pub taken_list : (j : ℕ) → AreTaken (items ++ Listed j ∷ []) (numbers ++ j ∷ []) pairs
   taken_list j = record {
-    named = λ k. (more numbers items (taken.named k).0 (ap Listed), more items numbers (taken.named k).1 (number_same j k));
+    named = λ k. (more numbers items (taken.named k).0 (ap Listed), more items numbers (taken.named k).1 (λ e. cc));
     own = λ x y. (
       λ c. Contains-append_left items (Listed j ∷ []) (Pair x y) ((taken.own x y).0 c),
-      λ c. (taken.own x y).1 (fewer items (λ e. no_list x y j (sym e)) c),
+      λ c. (taken.own x y).1 (fewer items (λ e. cc) c),
     );
-    few = let before = taken.few in omega (arith, before, length_push items (Listed j), length_push numbers j);
+    few = omega (arith, taken.few, length_push items (Listed j), length_push numbers j);
   }
 
 -- numbers that are sorted and freed of repeats
@@ -88,7 +81,7 @@ pub taken_ordered : (items : List Item) (ns numbers : List ℕ) (ps pairs : List
 taken_ordered items ns numbers ps pairs taken named fewer own = record {
   named = λ k. (λ c. (taken.named k).0 ((named k).0 c), λ c. (named k).1 ((taken.named k).1 c));
   own = λ a b. (λ c. (taken.own a b).0 ((own (a, b)).0 c), λ c. (own (a, b)).1 ((taken.own a b).1 c));
-  few = let few = taken.few in omega (arith, few, fewer);
+  few = omega (arith, taken.few, fewer);
 }
 
 module _ (items : List Item) (lists : List (List (ℕ × ℕ))) (numbers : List ℕ) (pairs : List (ℕ × ℕ)) (taken : AreTaken items numbers pairs) where
@@ -116,7 +109,7 @@ module _ (items : List Item) (lists : List (List (ℕ × ℕ))) (numbers : List 
   listed lists' k are within grow few exactly = record {
     within = within;
     grow = grow;
-    few = let fewer = taken.few in omega (arith, few, fewer);
+    few = omega (arith, taken.few, few);
     exactly = λ z. (
       λ c. given z ((exactly z).0 c),
       λ (x, c, g). (exactly z).1 (gives z x c g),

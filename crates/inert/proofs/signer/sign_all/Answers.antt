@@ -1,5 +1,5 @@
 use Rattle.std.proofs.Common.{arith}
-use Rattle.inert.proofs.signatures.Numbering.{finished, numbered, numbered_signed}
+use Rattle.inert.proofs.invariant.Resting.{finished, numbered, numbered_signed}
 use Rattle.inert.proofs.signer.sign_all.Goals as goal
 
 pub number-requires-clause-finished : goal.number-requires-clause-finished

@@ -3,7 +3,7 @@ use Rattle.std.proofs.lemmas.Bool.{false≢true}
 use Rattle.std.proofs.lemmas.Result.{err_from_is_err_and}
 use Rattle.inert.proofs.parts.Counting.{unread-all, unread-seen}
 use Rattle.inert.proofs.invariant.Resting.{idle_rests}
-use Rattle.inert.proofs.signatures.Numbering.{finished}
+use Rattle.inert.proofs.invariant.Resting.{finished}
 use Rattle.inert.proofs.signer.sign_one.Goals as goal
 
 pub finish-requires-clause-rests : goal.finish-requires-clause-rests

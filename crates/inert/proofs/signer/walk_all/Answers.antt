@@ -1,7 +1,7 @@
 use Rattle.std.proofs.Common.{length, ap, arith}
 use Rattle.inert.proofs.parts.Counting.{unread-all}
 use Rattle.inert.proofs.invariant.Resting.{idle_rests}
-use Rattle.inert.proofs.signatures.Numbering.{none_unread}
+use Rattle.inert.proofs.invariant.Resting.{none_unread}
 use Rattle.inert.proofs.signer.walk_all.Goals as goal
 
 pub loop-s-init : goal.loop-s-init

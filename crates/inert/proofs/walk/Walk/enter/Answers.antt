@@ -1,6 +1,6 @@
 use Rattle.std.proofs.Common.{ap, length, arith}
 use Rattle.inert.specs.Search.{Open}
-use Rattle.inert.proofs.parts.Trails.{IsTrail-mark}
+use Rattle.inert.proofs.parts.Marks.{IsTrail-mark}
 use Rattle.inert.proofs.walk.Walk.enter.Goals as goal
 
 pub invariant_of-self-2 : goal.invariant_of-self-2

@@ -4,7 +4,7 @@ use Rattle.inert.specs.Search.{Search, top, here, no_root, last, Frame}
 use Rattle.inert.specs.Moves.{GoesOn, Closes, popped, ahead}
 use Rattle.inert.proofs.parts.Rising.{last_read}
 use Rattle.inert.proofs.invariant.Standing.{roots_some, stack_some}
-use Rattle.inert.proofs.rows.Returning.{popped_on, closed}
+use Rattle.inert.proofs.moves.Back.{popped_on, closed}
 use Rattle.inert.proofs.walk.Walk.go_back.Given.{Over}
 use Rattle.inert.proofs.walk.Walk.go_back.Goals as goal
 use Rattle.inert.proofs.walk.Walk.go_back.Goals.{After-index-root}

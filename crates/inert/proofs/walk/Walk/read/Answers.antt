@@ -9,7 +9,7 @@ use Rattle.inert.specs.Moves.{Takes, GoesOn}
 use Rattle.inert.specs.declared.step.Step.{Step}
 use Rattle.inert.proofs.parts.Rising.{last_read}
 use Rattle.inert.proofs.invariant.Standing.{on_stack}
-use Rattle.inert.proofs.rows.Reading.{Reads, Entered, reads_none, read_all, read_steps, place_below, goes_low, goes_on, read_more, read_entered, still_there, entered_steps, counts_more}
+use Rattle.inert.proofs.moves.Reading.{Reads, Entered, reads_none, read_all, read_steps, place_below, goes_low, goes_on, read_more, read_entered, still_there, entered_steps, counts_more}
 use Rattle.inert.proofs.walk.Walk.read.Given.{Over}
 use Rattle.inert.proofs.walk.Walk.read.Goals as goal
 use Rattle.inert.proofs.walk.Walk.read.Goals.{After-index}

@@ -2,7 +2,7 @@ use Rattle.std.proofs.Common.{◌≡◌, ◌+◌}
 use Rattle.lts.specs.Meter.{Costs}
 use Rattle.inert.specs.Search.{top}
 use Rattle.inert.specs.Moves.{ahead, GoesOn}
-use Rattle.inert.proofs.rows.Reading.{Reads}
+use Rattle.inert.proofs.moves.Reading.{Reads}
 use Rattle.inert.proofs.walk.Walk.read.Given as goal
 
 abbrev pub invariant-loop-k : goal.invariant-loop-k

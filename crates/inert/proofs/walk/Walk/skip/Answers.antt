@@ -1,6 +1,6 @@
 use Rattle.std.proofs.Common.{ap, length, arith}
 use Rattle.inert.specs.Search.{Finished}
-use Rattle.inert.proofs.parts.Trails.{IsTrail-mark}
+use Rattle.inert.proofs.parts.Marks.{IsTrail-mark}
 use Rattle.inert.proofs.walk.Walk.skip.Goals as goal
 
 pub invariant_of-self-2 : goal.invariant_of-self-2

@@ -1,0 +1,355 @@
+-- The moves back from the last frame, the row of which was read: the frame is popped, and its component is closed if it is the root.
+use Rattle.std.proofs.Common.{◌≡◌, ◌≢◌, ◌⊎◌, ℕ, ◌+◌, ◌-◌, ◌<◌, ◌≤◌, Bool, List, [], length, slice_index, refl, sym, ◌∙◌, ap, subst, inl, inr, arith, ◌∷◌, ◌++◌, take, Contains, subst₂}
+use Rattle.std.specs.List.{All}
+use Rattle.std.proofs.lemmas.Bool.{cases_eq, cases_lt}
+use Rattle.std.proofs.lemmas.Grind.{common_steps, elements}
+use Rattle.std.proofs.lemmas.List.{get_or_default, get_or-take, length-take-le, length-append, get_or_append_left, get_or_push, length_push, append-nil, length-drop}
+use Rattle.std.proofs.lemmas.List.Elements.{All-take, All-nil, All-cons, All-append}
+use Rattle.theory.specs.Bisimulation.Relation.{branching}
+use Rattle.lts.specs.Lts.{Grouped, source_of, place_at, IsLts}
+use Rattle.lists.specs.Lists.{list_at}
+use Rattle.inert.specs.Search.{Search, mark_at, frame_at, no_frame, here, last, no_root, IsFrame, IsAhead, IsEntered, IsFollowed, Walks, Laws, root_at, item_at, Ties, IsOf, IsBefore, IsRoot, IsThere, Gives, Holds, AreOpen, IsSigned, IsSound, AreSound, Mark, Item, Pair, Listed}
+use Rattle.inert.specs.Moves.{popped, HasRead, Finishes, weight, Closes, ahead, Fits, GoesOn}
+use Rattle.inert.specs.Signed.{HasPair}
+use Rattle.inert.specs.Ahead.{is_unseen, rest, KeepsSeen}
+use Rattle.inert.proofs.parts.Rising.{AllPairs-take, All-from_take}
+use Rattle.inert.proofs.parts.Counting.{unseen-same, unread-same, rest-cut}
+use Rattle.inert.proofs.invariant.Standing.{reached, not_last, last_most, none_ahead, IsFrame-moved, pair_before, stack_some, roots_some, root_low}
+use Rattle.inert.proofs.invariant.Keeping.{Keeps, keeps_stack, Walks-grow, accounted_still, sound_still}
+use Rattle.inert.proofs.signatures.Exact.{exact}
+
+module _ {l : Grouped} {blocks : List ℕ} {alone : List Bool} {lists : List (List (ℕ × ℕ))} {w : Search} (walks : Walks l blocks alone lists w) where
+  -- the frames but the last one
+  popped_size : length (popped w).frames ≡ length w.frames - 1
+  popped_size = length-take-le (length w.frames - 1) w.frames (omega arith)
+
+  popped_same : (i : ℕ) → i < length w.frames - 1 → frame_at (popped w).frames i ≡ frame_at w.frames i
+  popped_same i h = get_or-take (length w.frames - 1) w.frames i _ h
+
+  -- an earlier place has its frame still
+  popped_framed : (p : ℕ) → p < here w → (i : ℕ) × (i < length w.frames) × ((frame_at w.frames i).place ≡ p)
+      → (i : ℕ) × (i < length (popped w).frames) × ((frame_at (popped w).frames i).place ≡ p)
+  popped_framed p before (i, low, is) =
+      (i, (let low' = not_last walks i low (omega (arith, is, before)) in omega (arith, low', popped_size)), grind (arith, not_last walks i low, popped_same i, is, before))
+
+  -- a frame that is left, and the next one
+  popped_ahead_still : (p k i : ℕ) → i < length w.frames - 1 → (frame_at w.frames i).place ≡ p → (frame_at w.frames i).next ≤ k → IsAhead (popped w) p k
+  popped_ahead_still p k i low is ahead = (i, omega (arith, low, popped_size), ap (λ x. x.place) (popped_same i low) ∙ is, subst (λ x. x.next ≤ k) (sym (popped_same i low)) ahead)
+
+  popped_entered : (p t i : ℕ) → i + 1 < length w.frames - 1 → (frame_at w.frames i).place ≡ p → slice_index w.stack (frame_at w.frames (i + 1)).place ≡ t
+      → IsEntered (popped w) p t
+  popped_entered p t i low is to =
+      (i, omega (arith, low, popped_size), grind (arith, popped_same i, low, is), grind (arith, popped_same (i + 1), low, to))
+
+  -- the row of the last frame was read, and no component begins there
+  module _ (some : 0 < length w.frames) (read : HasRead w) (apart : (last w.roots).place ≢ here w) where
+    pop_keeps : Keeps w (popped w) (length w.stack)
+    pop_keeps = keeps_stack w (popped w).frames w.roots w.items (λ j h. (h, refl)) (λ P each. each)
+
+    -- each component begins before the last frame
+    earlier : All (λ r. r.place < here w) w.roots
+    earlier i d h =
+        let most = last_most walks i d h in
+        let reach = reached walks (length w.roots - 1) no_root (omega (arith, h)) in
+        omega (arith, most.0, reach, apart)
+
+    entered_popped : (p t : ℕ) → IsEntered w p t → IsFollowed lists (popped w) p t
+    entered_popped p t (i, low, is, to) = elim (cases_lt (i + 1) (length w.frames - 1)) [
+      | inl low' ↦ inr (inr (popped_entered p t i low' is to))
+      | inr high ↦
+          let e : i + 1 ≡ length w.frames - 1 = omega (arith, low, high) in
+          let there = ap (λ j. (frame_at w.frames j).place) e in
+          let on = (walks.frames.each (i + 1) no_frame low).on_stack in
+          let up = walks.frames.rising i (i + 1) no_frame (omega arith) low in
+          inl (
+            here w,
+            ap (mark_at w.marks) (sym to ∙ ap (slice_index w.stack) there) ∙ walks.opened.marked (here w) (omega (arith, on, there)),
+            λ j d h le. omega (arith, le, is, up, there),
+            λ j d h le.
+                let (k, lk, place) = (walks.roots.each j d h).framed in
+                let first = earlier j d h in
+                let less = not_last walks k lk (omega (arith, first, place)) in
+                let up' = walks.frames.rising k i no_frame in
+                grind (arith, up', less, e, place, is, low),
+          )
+    ]
+
+    ahead_popped : (p k : ℕ) → k < length l.places → source_of (place_at l.places k) ≡ slice_index w.stack p → IsAhead w p k → IsAhead (popped w) p k
+    ahead_popped p k lk source (i, low, is, ahead) = elim (cases_eq i (length w.frames - 1)) [
+      | inl e ↦ absurd (none_ahead walks read p k i lk source low e is ahead)
+      | inr d ↦ popped_ahead_still p k i (omega (arith, low, d)) is ahead
+    ]
+
+    Walks-pop : Walks l blocks alone lists (popped w)
+    Walks-pop = record {
+      numbers = walks.numbers;
+      opened = walks.opened;
+      signed = walks.signed;
+      roots = record {
+        first = walks.roots.first;
+        rising = walks.roots.rising;
+        each = λ i d h. let root = walks.roots.each i d h in record { framed = popped_framed _ (earlier i d h) root.framed; within = root.within };
+      };
+      frames = record {
+        rising = AllPairs-take (λ x y. x.place < y.place) (length w.frames - 1) w.frames walks.frames.rising;
+        each = All-take (IsFrame l w.stack) (length w.frames - 1) w.frames walks.frames.each;
+      };
+      connects = walks.connects;
+      there = walks.there;
+      sound = λ j lj. sound_still walks pop_keeps j lj (omega arith) (λ p lp _. lp);
+      accounted = λ p k lp lk source. accounted_still walks pop_keeps p k lp lk source (λ ahead. inl (ahead_popped p k lk source ahead)) (entered_popped p);
+    }
+
+-- its last component was finished, with its list among the lists
+module _ (laws : Laws) {l : Grouped} {blocks : List ℕ} {alone : List Bool} {lists : List (List (ℕ × ℕ))} {w : Search} (walks : Walks l blocks alone lists w)
+    (some : 0 < length w.frames) (place : (last w.roots).place ≡ here w) {new_marks : List Mark} {number : ℕ} (marks : Finishes w.stack (last w.roots).place number w.marks new_marks)
+    (exact : (p : ℕ) → (last w.roots).place ≤ p → p < length w.stack → IsSigned l blocks alone (slice_index w.stack p) lists number)
+    {added : List Item} (led : ((0 < length (popped w).frames) × (added ≡ Listed number ∷ [])) ⊎ ((length (popped w).frames ≡ 0) × (added ≡ []))) where
+  -- the place where the component begins, and its first item
+  abbrev q : ℕ
+  q = (last w.roots).place
+
+  abbrev c0 : ℕ
+  c0 = (last w.roots).items
+
+  abbrev Closed : Search
+  Closed = record {
+    marks = new_marks;
+    stack = take q w.stack;
+    frames = (popped w).frames;
+    roots = take (length w.roots - 1) w.roots;
+    items = take c0 w.items ++ added;
+  }
+
+  last_low : length w.roots - 1 < length w.roots
+  last_low = omega (arith, roots_some walks (stack_some walks some))
+
+  low_q : q < length w.stack
+  low_q = root_low walks (length w.roots - 1) no_root last_low
+
+  few : c0 ≤ length w.items
+  few = (walks.roots.each (length w.roots - 1) no_root last_low).within
+
+  -- the stack and the frames
+  size : length Closed.stack ≡ q
+  size = length-take-le q w.stack (omega (arith, low_q))
+
+  state_same : (p : ℕ) → p < q → slice_index Closed.stack p ≡ slice_index w.stack p
+  state_same p h = get_or-take q w.stack p _ h
+
+  before_last : All (λ x. x.place < q) Closed.frames
+  before_last i d h = grind (arith, elements, walks.frames.rising i (length w.frames - 1), get_or_default w.frames (length w.frames - 1) d no_frame, place)
+
+  same_unseen : (s : ℕ) → is_unseen (mark_at Closed.marks s) ≡ is_unseen (mark_at w.marks s)
+  same_unseen s = grind (arith, marks.others s, walks.opened.marked, marks.members)
+
+  closed_seen : KeepsSeen w.marks new_marks
+  closed_seen s is = grind (arith, marks.others s, marks.members, is)
+
+  -- the items before the component's
+  cut_size : length (take c0 w.items) ≡ c0
+  cut_size = length-take-le c0 w.items few
+
+  item_same : (j : ℕ) → j < c0 → (j < length Closed.items) × (item_at Closed.items j ≡ item_at w.items j)
+  item_same j h = (omega (arith, h, length-append (take c0 w.items) added, cut_size), grind (arith, h, cut_size, get_or_append_left (take c0 w.items) added (Pair 0 0) j, get_or-take c0 w.items j (Pair 0 0)))
+
+  -- and its list, if some state led to it
+  item_new : 0 < length Closed.frames → (length Closed.items ≡ c0 + 1) × (item_at Closed.items c0 ≡ Listed number)
+  item_new more = (
+    grind (arith, led, cut_size, length_push (take c0 w.items) (Listed number), more),
+    grind (arith, led, cut_size, get_or_push (take c0 w.items) (Listed number) (Pair 0 0) c0, more),
+  )
+
+  no_item : length Closed.frames ≡ 0 → length Closed.items ≡ c0
+  no_item none = grind (arith, elements, common_steps, led, few, none)
+
+  each_item : (P : ℕ → Type 0) → ((j : ℕ) → j < c0 → P j) → (0 < length Closed.frames → P c0) → (j : ℕ) → j < length Closed.items → P j
+  each_item P old new j low = grind (arith, old j, new, item_new, no_item, low)
+
+  keeps : Keeps w Closed q
+  keeps = record {
+    within = omega (arith, low_q);
+    states = state_same;
+    below = λ p r h low up. let le = up (length w.roots - 1) no_root last_low in grind (arith, le, h);
+    up = λ p r h up. All-take (λ x. x.place ≤ p → x.place ≤ r) (length w.roots - 1) w.roots up;
+    of = λ j p low h of. All-take (λ x. (x.place ≤ p → x.items ≤ j) × (p < x.place → j < x.items)) (length w.roots - 1) w.roots of;
+    items = λ j p low h of. item_same j ((of (length w.roots - 1) no_root last_low).1 h);
+    opened = λ s p low is. grind (arith, marks.others s, walks.opened.only s p, walks.opened.marked);
+    finished = λ s k is. grind (arith, marks.others s, walks.opened.marked);
+  }
+
+  -- the roots that are left were roots before the last one
+  root_left : All (λ r. IsRoot w.frames w.items r × IsBefore r (last w.roots)) Closed.roots
+  root_left i d h = (
+    All-take (IsRoot w.frames w.items) (length w.roots - 1) w.roots walks.roots.each i d h,
+    grind (arith, elements, walks.roots.rising i (length w.roots - 1), get_or_default w.roots (length w.roots - 1) d no_root),
+  )
+
+  -- the place that led to it
+  abbrev back : ℕ
+  back = (frame_at w.frames (length w.frames - 2)).place
+
+  back_low : 0 < length Closed.frames → back < q
+  back_low more = grind (arith, walks.frames.rising (length w.frames - 2) (length w.frames - 1) no_frame, more, popped_size walks, some, place)
+
+  -- components that stay begin up to it
+  up_to_back : 0 < length Closed.frames → All (λ r. r.place ≤ back) Closed.roots
+  up_to_back more k d h =
+      let (root, before) = root_left k d h in
+      let (i, low, is) = root.framed in
+      let low' = not_last walks i low (omega (arith, is, before.0, place)) in
+      let up = walks.frames.rising i (length w.frames - 2) no_frame in
+      grind (arith, up, low', is, some)
+
+  of_back : 0 < length Closed.frames → IsOf Closed.roots c0 back
+  of_back more i d h = (λ _. (root_left i d h).1.1, λ lt. let up = up_to_back more i d h in absurd (omega (arith, lt, up)))
+
+  back_holds : 0 < length Closed.frames → (z : ℕ × ℕ) → Contains (list_at lists number) z → Holds lists Closed back z
+  back_holds more z c = (c0, (let n = (item_new more).0 in omega (arith, n)), subst (λ x. Gives lists x z) (sym (item_new more).1) c, of_back more)
+
+  entered_still : (p t : ℕ) → IsEntered w p t → IsFollowed lists Closed p t
+  entered_still p t (i, low, is, to) = elim (cases_eq (i + 1) (length w.frames - 1)) [
+    | inl e ↦
+        let more : 0 < length Closed.frames = omega (arith, e, popped_size walks) in
+        let at : back ≡ p = ap (λ j. (frame_at w.frames j).place) (let e' : length w.frames - 2 ≡ i = omega (arith, e) in e') ∙ is in
+        let there : slice_index w.stack q ≡ t = ap (slice_index w.stack) (place ∙ ap (λ j. (frame_at w.frames j).place) (sym e)) ∙ to in
+        inr (inl (
+          number,
+          ap (mark_at Closed.marks) (sym there) ∙ marks.members q (omega arith) low_q,
+          λ z c. subst (λ x. Holds lists Closed x z) at (back_holds more z c),
+        ))
+    | inr d ↦
+        let (j, low', is', to') = popped_entered walks p t i (omega (arith, low, d)) is to in
+        inr (inr (j, low', is', state_same _ (before_last (j + 1) no_frame low') ∙ to'))
+  ]
+
+  opened : AreOpen Closed.marks Closed.stack
+  opened = record {
+    marked = λ p h. grind (arith, state_same p, keeps.opened (slice_index w.stack p) p, walks.opened.marked p, size, low_q, h);
+    only = λ s p is. (
+      grind (arith, marks.others s, marks.members, walks.opened.only s p, is, size),
+      grind (arith, marks.others s, marks.members, walks.opened.only s p, state_same p, is),
+    );
+  }
+
+  sound : AreSound l blocks lists Closed
+  sound = each_item (IsSound l blocks lists Closed)
+      (λ j h. sound_still walks keeps j (omega (arith, h, few)) (omega (arith, size)) (λ p lp of. let le = (of (length w.roots - 1) no_root last_low).0 in grind (arith, le, h)))
+      (λ more. let low = back_low more in (
+        back,
+        omega (arith, low, size),
+        of_back more,
+        λ z g.
+            subst (λ s. HasPair branching l blocks s z.0 z.1) (sym (state_same back low))
+            (pair_before laws l blocks (slice_index w.stack back) (slice_index w.stack q) z
+            (walks.connects back q (omega (arith, low, low_q)) low_q (λ i d h le. omega (arith, le, low)))
+            ((exact q (omega arith) low_q).sound z (subst (λ x. Gives lists x z) (item_new more).1 g))),
+      ))
+
+  -- it is lighter by two, and by the items of the component
+  lighter : weight Closed + (length w.items - c0) + 2 ≤ weight w
+  lighter =
+      let same = unseen-same w.marks new_marks same_unseen marks.size in
+      grind (arith, same, size, few, popped_size walks, low_q, item_new, no_item, led)
+
+  Walks-closed : Walks l blocks alone lists Closed
+  Walks-closed = record {
+    numbers = record {
+      size = marks.size ∙ walks.numbers.size;
+      some = walks.numbers.some;
+      numbers = omega (arith, unseen-same w.marks new_marks same_unseen marks.size, walks.numbers.numbers, size, low_q);
+    };
+    opened = opened;
+    signed = λ s k is. elim (marks.others s) [
+      | inl e ↦ walks.signed s k (sym e ∙ is)
+      | inr (m, from, high, same) ↦
+          let e : number ≡ k = cc (marks.members m from high, same, is) in
+          subst₂ (λ x n. IsSigned l blocks alone x lists n) same e (exact m from high)
+    ];
+    roots = record {
+      first = λ h all. walks.roots.first (stack_some walks some) (All-from_take (λ r. 0 < r.place) (length w.roots - 1) w.roots no_root all (λ i high low.
+          let e : i ≡ length w.roots - 1 = omega (arith, high, low) in
+          let same = ap (λ j. (root_at w.roots j).place) e in
+          omega (arith, same, h, size)));
+      rising = AllPairs-take IsBefore (length w.roots - 1) w.roots walks.roots.rising;
+      each = λ i d h.
+          let (root, before) = root_left i d h in
+          record { framed = popped_framed walks _ (omega (arith, before.0, place)) root.framed; within = omega (arith, before.1, length-append (take c0 w.items) added, cut_size) };
+    };
+    frames = record {
+      rising = AllPairs-take (λ x y. x.place < y.place) (length w.frames - 1) w.frames walks.frames.rising;
+      each = λ i d h.
+          let low = before_last i d h in
+          IsFrame-moved (All-take (IsFrame l w.stack) (length w.frames - 1) w.frames walks.frames.each i d h) (omega (arith, low, size)) (state_same _ low);
+    };
+    connects = λ p r lp lr h.
+        let low : p < q = omega (arith, lp, size) in
+        let low' : r < q = omega (arith, lr, size) in
+        subst₂ (Ties l blocks) (sym (state_same p low)) (sym (state_same r low'))
+        (walks.connects p r (omega (arith, low, low_q)) (omega (arith, low', low_q))
+        (All-from_take (λ x. x.place ≤ p → x.place ≤ r) (length w.roots - 1) w.roots no_root h (λ i high lr le.
+        let e : length w.roots - 1 ≡ i = omega (arith, high, lr) in
+        let same = ap (λ j. (root_at w.roots j).place) e in
+        absurd (omega (arith, same, le, low)))));
+    there = All-append (IsThere lists) (take c0 w.items) added (All-take (IsThere lists) c0 w.items walks.there) (elim led [
+      | inl (_, e) ↦
+          let it : IsThere lists (Listed number) = λ k is. subst (λ n. n < length lists) (let e : number ≡ k = cc in e) (exact q (omega arith) low_q).within in
+          subst (All (IsThere lists)) (sym e) (All-cons (IsThere lists) (Listed number) [] it (All-nil (IsThere lists)))
+      | inr (_, e) ↦ subst (All (IsThere lists)) (sym e) (All-nil (IsThere lists))
+    ]);
+    sound = sound;
+    accounted = λ p k lp lk source.
+        let low : p < q = omega (arith, lp, size) in
+        accounted_still walks keeps p k low lk source
+        (λ (i, li, is, ahead). inl (popped_ahead_still walks p k i (not_last walks i li (omega (arith, is, low, place))) is ahead)) (entered_still p);
+  }
+
+module _ {l : Grouped} {blocks : List ℕ} {alone : List Bool} {lists : List (List (ℕ × ℕ))} {w : Search} (walks : Walks l blocks alone lists w) (fits : Fits l (length lists) w)
+    (some : 0 < length w.frames) (read : HasRead w) where
+  popped_rest : rest (popped w).frames ≡ rest w.frames
+  popped_rest = rest-cut w.frames some read
+
+  pub popped_ahead : ahead l (popped w) ≡ ahead l w
+  popped_ahead = omega (arith, popped_rest)
+
+  -- its state is no root
+  pub popped_on : (last w.roots).place ≢ here w → GoesOn l blocks alone lists w (popped w)
+  popped_on apart = record {
+    walks = Walks-pop walks some read apart;
+    fits = omega (arith, fits, popped_size walks, popped_ahead);
+    seen = λ s h. h;
+  }
+
+  -- its state is a root, and the component was finished
+  module _ (laws : Laws) (lts : IsLts l) {lists' : List (List (ℕ × ℕ))} {new : Search} (place : (last w.roots).place ≡ here w)
+      (closes : Closes (last w.roots) lists lists' (popped w) new) where
+    abbrev Returns : Search → Type 0
+    Returns x = GoesOn l blocks alone lists' w x × (ahead l x ≡ ahead l w)
+
+    closed_with : (added : List Item) → new.items ≡ take (last w.roots).items w.items ++ added
+        → ((0 < length (popped w).frames) × (added ≡ Listed closes.number ∷ [])) ⊎ ((length (popped w).frames ≡ 0) × (added ≡ [])) → Returns new
+    closed_with added items led =
+        let walks' = Walks-grow closes.listed.grow walks in
+        let signed : (p : ℕ) → (last w.roots).place ≤ p → p < length w.stack → IsSigned l blocks alone (slice_index w.stack p) lists' closes.number =
+        λ p high. exact laws lts walks some read place closes.listed p (omega (arith, high, place)) in
+        let unseen = same_unseen laws walks' some place closes.marks signed led in
+        let same : ahead l (Closed laws walks' some place closes.marks signed led) ≡ ahead l w =
+        (let e = unread-same w.marks new.marks unseen l.places in omega (arith, e, popped_rest)) in
+        subst Returns (λ i. record { marks = new.marks; stack = sym closes.stack i; frames = sym closes.frames i; roots = sym closes.roots i; items = sym items i }) (
+          record {
+            walks = Walks-closed laws walks' some place closes.marks signed led;
+            fits =
+                let less = lighter laws walks' some place closes.marks signed led in
+                omega (arith, fits, less, closes.listed.few, length-drop (last w.roots).items w.items, same);
+            seen = λ s is. closed_seen laws walks' some place closes.marks signed led s is;
+          },
+          same,
+        )
+
+    pub closed : Returns new
+    closed = elim (cases_lt 0 (length (popped w).frames)) [
+      | inl more ↦ closed_with (Listed closes.number ∷ []) (closes.led more) (inl (more, refl))
+      | inr none ↦
+          let zero : length (popped w).frames ≡ 0 = omega (arith, none) in
+          closed_with [] (closes.alone zero ∙ sym (append-nil (take (last w.roots).items w.items))) (inr (zero, refl))
+    ]

@@ -1,0 +1,275 @@
+-- The walk while the row of its last frame is read: a step is taken, and then marked as read.
+use Rattle.std.proofs.Common.{◌≡◌, ℕ, ◌+◌, ◌-◌, ◌<◌, ◌≤◌, List, [], ◌∷◌, length, slice_index, Bool, refl, sym, ◌∙◌, ap, subst, inl, inr, arith, set}
+use Rattle.std.specs.Prelude.{IsTrue}
+use Rattle.std.proofs.lemmas.Bool.{cases_Bool}
+use Rattle.std.proofs.lemmas.List.{length_push, get_or_append_left, get_or-set_same, length-set}
+use Rattle.theory.specs.System.{Step}
+use Rattle.theory.specs.Bisimulation.Relation.{branching}
+use Rattle.theory.specs.Blocks.{Inert, Signature}
+use Rattle.lts.specs.Labels.{text_of}
+use Rattle.lts.specs.Lts.{Grouped, Triple, source_of, label_of, target_of, place_at, system_of, IsLts, IsRow}
+use Rattle.lts.specs.Meter.{Counts, Costs}
+use Rattle.inert.specs.Signed.{HasPair, pair_under}
+use Rattle.inert.specs.Steps.{IsInert, IsStep}
+use Rattle.inert.specs.Search.{Search, Laws, mark_at, frame_at, no_frame, top, here, IsFrame, Accounted, Walks, Unseen, Open, Finished, Frame, Root, Item, Pair, Listed}
+use Rattle.inert.specs.Moves.{entered, with_item, Takes, Cuts, ahead, weight, steps, HasRead, GoesOn}
+use Rattle.inert.specs.Ahead.{KeepsSeen}
+use Rattle.inert.specs.declared.step.Step.{Step as TakenStep}
+use Rattle.inert.specs.declared.step.Step.TheVariants.{Inert as Goes, Shows}
+use Rattle.inert.proofs.parts.Marks.{seen_more}
+use Rattle.inert.proofs.parts.Counting.{unseen-marked, unread-marked, rest-push, rest-next}
+use Rattle.inert.proofs.invariant.Standing.{pair_before}
+use Rattle.inert.proofs.signatures.Exact.{place_step}
+use Rattle.inert.proofs.moves.Forward.{Walks-collect, collected_holds, Walks-join, joined_here, Walks-enter, entered_met, Walks-next}
+
+-- the transition that is next was taken, and is not marked as read
+module _ (laws : Laws) {l : Grouped} (lts : IsLts l) {blocks : List ℕ} {alone : List Bool} {lists : List (List (ℕ × ℕ))} {w : Search} (walks : Walks l blocks alone lists w)
+    (some : 0 < length w.frames) {k : ℕ} (next : (top w.frames).next ≡ k) (more : k < (top w.frames).end) where
+  abbrev e : Triple
+  e = place_at l.places k
+
+  frame : IsFrame l w.stack (top w.frames)
+  frame = walks.frames.each (length w.frames - 1) no_frame (omega (arith, some))
+
+  pub place_low : k < length l.places
+  place_low = omega (arith, frame.row.within, more)
+
+  pub source : source_of e ≡ slice_index w.stack (here w)
+  source = (frame.row.exactly k place_low).1 (omega (arith, frame.first, next), more)
+
+  pub target_low : target_of e < l.states
+  target_low = (lts.in_range.each k (0, 0, 0) place_low).target
+
+  -- an inert transition is an inert step
+  inert_step : IsInert l blocks (slice_index blocks (source_of e)) e → Inert (system_of l) (slice_index blocks) (slice_index w.stack (here w)) (target_of e)
+  inert_step inert =
+      subst (λ s. Inert (system_of l) (slice_index blocks) s (target_of e)) source
+      (subst (λ a. Step (system_of l) (source_of e) a (target_of e)) inert.0 (place_step l k place_low), inert.1)
+
+  -- another one gives a pair of the signature
+  own_pair : ¬ IsInert l blocks (slice_index blocks (source_of e)) e
+      → HasPair branching l blocks (slice_index w.stack (here w)) (pair_under blocks e).0 (pair_under blocks e).1
+  own_pair other = (
+    (lts.in_range.each k (0, 0, 0) place_low).label,
+    subst (λ s. Signature branching (system_of l) (slice_index blocks) s (text_of l.labels (label_of e)) (slice_index blocks (target_of e))) source
+        (source_of e, target_of e, laws.here (system_of l) (slice_index blocks) (source_of e), place_step l k place_low, refl, other),
+  )
+
+  -- what holds of the walk then, whether it has entered a state or not
+  pub record Taken (m : Search) (enters : Bool) : Type 0 where
+    pub after : Walks l blocks alone lists m
+    pub done : Accounted l blocks lists m (here w) e
+    pub seen : KeepsSeen w.marks m.marks
+    pub same_ahead : ahead l m ≡ ahead l w
+    pub heavier : weight m ≤ weight w + 1
+    pub same_frame : frame_at m.frames (length w.frames - 1) ≡ top w.frames
+    pub still : ¬ IsTrue enters → (m.frames ≡ w.frames) × (m.stack ≡ w.stack)
+    pub longer : IsTrue enters → length m.frames ≡ length w.frames + 1
+
+  stayed : (roots : List Root) (items : List Item) (enters : Bool) → let m : Search = record w { roots = roots; items = items } in
+      Walks l blocks alone lists m → Accounted l blocks lists m (here w) e → length items ≤ length w.items + 1 → ¬ IsTrue enters → Taken m enters
+  stayed roots items enters after done most stay = record {
+    after = after;
+    done = done;
+    seen = λ s h. h;
+    same_ahead = refl;
+    heavier = omega (arith, most);
+    same_frame = refl;
+    still = λ _. (refl, refl);
+    longer = λ went. absurd (stay went);
+  }
+
+  taken_pair : (a b : ℕ) (enters : Bool) → ¬ IsInert l blocks (slice_index blocks (source_of e)) e → (a, b) ≡ pair_under blocks e → ¬ IsTrue enters
+      → Taken (with_item (Pair a b) w) enters
+  taken_pair a b enters other is =
+      stayed w.roots (with_item (Pair a b) w).items enters
+      (Walks-collect walks (Pair a b) some (λ j e'. absurd (cc))
+      (λ z g. subst (λ (x : ℕ × ℕ). HasPair branching l blocks (slice_index w.stack (here w)) x.0 x.1) (sym is ∙ g) (own_pair other)))
+      (record { shown = λ _. collected_holds walks (Pair a b) (pair_under blocks e) is; followed = λ inert. absurd (other inert) })
+      (omega (arith, length_push w.items (Pair a b)))
+
+  module _ (inert : IsInert l blocks (slice_index blocks (source_of e)) e) where
+    taken_finished : (number : ℕ) (enters : Bool) → mark_at w.marks (target_of e) ≡ Finished number → ¬ IsTrue enters → Taken (with_item (Listed number) w) enters
+    taken_finished number enters mark =
+        let signed = walks.signed (target_of e) number mark in
+        let s = slice_index w.stack (here w) in
+        let tie = laws.after (system_of l) (slice_index blocks) s s (target_of e) (laws.here (system_of l) (slice_index blocks) s) (inert_step inert) in
+        stayed w.roots (with_item (Listed number) w).items enters
+        (Walks-collect walks (Listed number) some (λ j e'. subst (λ x. x < length lists) (let same : number ≡ j = cc in same) signed.within)
+        (λ z g. pair_before laws l blocks s (target_of e) z tie (signed.sound z g)))
+        (record {
+          shown = λ other. absurd (other inert);
+          followed = λ _. inr (inl (number, mark, λ z c. collected_holds walks (Listed number) z c));
+        })
+        (omega (arith, length_push w.items (Listed number)))
+
+    taken_joined : (q : ℕ) (roots : List Root) (enters : Bool) → mark_at w.marks (target_of e) ≡ Open q → Cuts q w.roots roots → ¬ IsTrue enters
+        → Taken (record w { roots = roots }) enters
+    taken_joined q roots enters mark cuts =
+        let was = walks.opened.only (target_of e) q mark in
+        stayed roots w.items enters
+        (Walks-join walks laws cuts was.0 (subst (Inert (system_of l) (slice_index blocks) (slice_index w.stack (here w))) (sym was.1) (inert_step inert)))
+        (record { shown = λ other. absurd (other inert); followed = λ _. inl (joined_here walks laws cuts (target_of e) mark) })
+        (omega arith)
+
+    taken_entered : (start end : ℕ) (enters : Bool) → IsRow l.places (target_of e) start end → mark_at w.marks (target_of e) ≡ Unseen → IsTrue enters
+        → Taken (entered (target_of e) start end w) enters
+    taken_entered start end enters row unseen went =
+        let within : target_of e < length w.marks = omega (arith, walks.numbers.size, target_low) in
+        let x : Frame = record { place = length w.stack; next = start; end = end } in
+        let frames = length_push w.frames x in
+        record {
+          after = Walks-enter walks laws within unseen row (λ _. inert_step inert);
+          done = record { shown = λ other. absurd (other inert); followed = λ _. inr (inr (entered_met walks laws within unseen row some)) };
+          seen = seen_more w.marks (target_of e) (Open (length w.stack)) (λ e. cc) within;
+          same_ahead = omega (arith, unread-marked w.marks (target_of e) (Open (length w.stack)) refl within unseen l.places, rest-push w.frames x, row.count);
+          heavier = omega (arith, unseen-marked w.marks (target_of e) (Open (length w.stack)) refl within unseen, length_push w.stack (target_of e), frames);
+          same_frame = get_or_append_left w.frames (x ∷ []) _ (length w.frames - 1) (omega (arith, some));
+          still = λ stay. absurd (stay went);
+          longer = λ _. frames;
+        }
+
+  -- whichever step it is
+  pub taken : (step : TakenStep) (m : Search) (enters : Bool) → IsStep l blocks (slice_index blocks (source_of e)) e step → Takes l.places step w m enters
+      → Taken m enters
+  taken (Shows a b) m enters is takes =
+      subst (λ x. Taken x enters) (sym takes.0) (taken_pair a b enters is.0 is.1 takes.1)
+  taken (Goes t) m enters is (inl (unseen, (start, end, row, new), went)) =
+      subst (λ x. Taken x enters) (sym (new ∙ ap (λ s. entered s start end w) is.1))
+      (taken_entered is.0 start end enters (subst (λ s. IsRow l.places s start end) is.1 row) (ap (mark_at w.marks) (sym is.1) ∙ unseen) went)
+  taken (Goes t) m enters is (inr (inl (q, mark, cuts, new, stay))) =
+      subst (λ x. Taken x enters) (sym new) (taken_joined is.0 q m.roots enters (ap (mark_at w.marks) (sym is.1) ∙ mark) cuts stay)
+  taken (Goes t) m enters is (inr (inr (number, mark, new, stay))) =
+      subst (λ x. Taken x enters) (sym new) (taken_finished is.0 number enters (ap (mark_at w.marks) (sym is.1) ∙ mark) stay)
+
+-- from one walk to another one, the last row was read up to place k
+pub record Reads (l : Grouped) (old new : Search) (k : ℕ) : Type 0 where
+  pub size : length new.frames ≡ length old.frames
+  pub here : top new.frames ≡ record (top old.frames) { next = k }
+  pub stack : new.stack ≡ old.stack
+  pub forward : (top old.frames).next ≤ k
+  pub less : ahead l new + k ≡ ahead l old + (top old.frames).next
+
+-- and a state was entered
+pub record Entered (l : Grouped) (old new : Search) (k : ℕ) : Type 0 where
+  pub size : length new.frames ≡ length old.frames + 1
+  pub forward : (top old.frames).next < k
+  pub less : ahead l new + k ≡ ahead l old + (top old.frames).next
+
+pub reads_none : (l : Grouped) (w : Search) → Reads l w w (top w.frames).next
+reads_none l w = record { size = refl; here = refl; stack = refl; forward = omega arith; less = refl }
+
+pub entered_steps : {l : Grouped} {old new : Search} {k : ℕ} → Entered l old new k → steps l new < steps l old
+entered_steps entered = grind (arith, entered.size, entered.less, entered.forward)
+
+module _ {l : Grouped} {blocks : List ℕ} {alone : List Bool} {lists : List (List (ℕ × ℕ))} {first w : Search} {k : ℕ} (on : GoesOn l blocks alone lists first w)
+    (reads : Reads l first w k) (some : 0 < length first.frames) where
+  now_some : 0 < length w.frames
+  now_some = omega (arith, reads.size, some)
+
+  next_is : (top w.frames).next ≡ k
+  next_is = ap (λ y. y.next) reads.here
+
+  end_is : (top w.frames).end ≡ (top first.frames).end
+  end_is = ap (λ y. y.end) reads.here
+
+  -- the row is read where no more is left
+  pub read_all : ¬ (k < (top first.frames).end) → HasRead w
+  read_all over =
+      let most = (on.walks.frames.each (length w.frames - 1) no_frame (omega (arith, now_some))).most in
+      omega (arith, most, next_is, end_is, over)
+
+  pub read_steps : steps l w ≤ steps l first
+  read_steps = omega (arith, reads.size, reads.less, reads.forward)
+
+  -- and else a transition more is taken
+  module _ (laws : Laws) (lts : IsLts l) (more : k < (top first.frames).end) where
+    now_more : k < (top w.frames).end
+    now_more = omega (arith, end_is, more)
+
+    pub place_below : k < length l.places
+    place_below = place_low laws lts on.walks now_some next_is now_more
+
+    module _ (block : ℕ) (is_block : block ≡ slice_index blocks (slice_index first.stack (top first.frames).place)) (step : TakenStep)
+        (is_step : IsStep l blocks block (place_at l.places k) step) where
+      pub goes_low : (t : ℕ) → step ≡ Goes t → t < l.states
+      goes_low t e =
+          let is : IsStep l blocks block (place_at l.places k) (Goes t) = subst (IsStep l blocks block (place_at l.places k)) e is_step in
+          omega (arith, target_low laws lts on.walks now_some next_is now_more, is.1)
+
+      module _ (m : Search) (enters : Bool) (takes : Takes l.places step w m enters) (i : ℕ) (last : i ≡ length first.frames - 1) where
+        same_block : block ≡ slice_index blocks (source_of (place_at l.places k))
+        same_block =
+            is_block ∙ ap (slice_index blocks) (ap (slice_index first.stack) (sym (ap (λ y. y.place) reads.here)) ∙ ap (λ xs. slice_index xs (top w.frames).place) (sym reads.stack)
+            ∙ sym (source laws lts on.walks now_some next_is now_more))
+
+        took : Taken laws lts on.walks now_some next_is now_more m enters
+        took =
+            taken laws lts on.walks now_some next_is now_more step m enters (subst (λ b. IsStep l blocks b (place_at l.places k) step) same_block is_step) takes
+
+        pub still_there : i < length m.frames
+        still_there = grind (arith, cases_Bool enters, took.longer, took.still, reads.size, last, some)
+
+        same_frame : frame_at m.frames i ≡ top w.frames
+        same_frame = ap (frame_at m.frames) (let e : i ≡ length w.frames - 1 = omega (arith, reads.size, last) in e) ∙ took.same_frame
+
+        -- it is marked as read
+        module _ (x : Frame) (is : x ≡ record (frame_at m.frames i) { next = k + 1 }) where
+          abbrev New : Search
+          New = record m { frames = set m.frames i x }
+
+          next : (frame_at m.frames i).next ≡ k
+          next = ap (λ y. y.next) same_frame ∙ next_is
+
+          left : k < (frame_at m.frames i).end
+          left = omega (arith, now_more, ap (λ y. y.end) same_frame)
+
+          moved : Walks l blocks alone lists New
+          moved = Walks-next took.after still_there is next left (subst (λ y. Accounted l blocks lists m y.place (place_at l.places k)) (sym same_frame) took.done)
+
+          moved_ahead : ahead l New + 1 ≡ ahead l w
+          moved_ahead =
+              let one = rest-next m.frames i x still_there (ap (λ y. y.end) is) (ap (λ y. y.next) is ∙ ap (λ n. n + 1) (sym next)) (omega (arith, next, left)) in
+              omega (arith, one, took.same_ahead)
+
+          pub goes_on : GoesOn l blocks alone lists first New
+          goes_on = record {
+            walks = moved;
+            fits = omega (arith, on.fits, moved_ahead, took.heavier, length-set m.frames i x);
+            seen = λ s h. on.seen s (took.seen s h);
+          }
+
+          less : ahead l New + (k + 1) ≡ ahead l first + (top first.frames).next
+          less = omega (arith, moved_ahead, reads.less)
+
+          pub read_more : ¬ IsTrue enters → Reads l first New (k + 1)
+          read_more stay =
+              let same = length-set m.frames i x ∙ ap length (took.still stay).0 ∙ reads.size in
+              let top_is : top New.frames ≡ x = ap (frame_at New.frames) (let e : length New.frames - 1 ≡ i = omega (arith, same, last) in e) ∙ get_or-set_same m.frames i x _ still_there in
+              let old : frame_at m.frames i ≡ record (top first.frames) { next = k } = same_frame ∙ reads.here in
+              record {
+                size = same;
+                here = top_is ∙ is ∙ (λ j. record { place = (old j).place; next = k + 1; end = (old j).end });
+                stack = (took.still stay).1 ∙ reads.stack;
+                forward = omega (arith, reads.forward);
+                less = less;
+              }
+
+          pub read_entered : IsTrue enters → Entered l first New (k + 1)
+          read_entered went = record {
+            size = omega (arith, length-set m.frames i x, took.longer went, reads.size);
+            forward = omega (arith, reads.forward);
+            less = less;
+          }
+
+-- what it costs to read one transition more, if so many are still ahead
+pub counts_more : (old at new : Counts) (from next first rest : ℕ) → at.visits + from ≡ old.visits + next → Costs old at 0 0 first → Costs at new 0 1 1
+    → rest + (next + 1) ≡ first + from → (new.visits + from ≡ old.visits + (next + 1)) × Costs old new 0 0 first
+counts_more old at new from next first rest read made one less = (
+  omega (arith, read, one.at_least, one.at_most),
+  record {
+    rounds = omega (arith, made.rounds, one.rounds);
+    at_least = omega (arith, made.at_least, one.at_least);
+    at_most = omega (arith, read, one.at_most, less);
+  },
+)

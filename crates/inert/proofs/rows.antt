@@ -1,3 +1,0 @@
-pub mod Taking
-pub mod Reading
-pub mod Returning
