@@ -304,6 +304,7 @@ module _ (laws : Laws) {l : Grouped} {blocks : List ℕ} {alone : List Bool} {li
         (λ (i, li, is, ahead). inl (popped_ahead_still walks p k i (not_last walks i li (omega (arith, is, low, place))) is ahead)) (entered_still p);
   }
 
+-- the walk goes on from there: what is ahead is the same, and there is room for its lists
 module _ {l : Grouped} {blocks : List ℕ} {alone : List Bool} {lists : List (List (ℕ × ℕ))} {w : Search} (walks : Walks l blocks alone lists w) (fits : Fits l (length lists) w)
     (some : 0 < length w.frames) (read : HasRead w) where
   popped_rest : rest (popped w).frames ≡ rest w.frames
@@ -334,7 +335,7 @@ module _ {l : Grouped} {blocks : List ℕ} {alone : List Bool} {lists : List (Li
         λ p high. exact laws lts walks some read place closes.listed p (omega (arith, high, place)) in
         let unseen = same_unseen laws walks' some place closes.marks signed led in
         let same : ahead l (Closed laws walks' some place closes.marks signed led) ≡ ahead l w =
-        (let e = unread-same w.marks new.marks unseen l.places in omega (arith, e, popped_rest)) in
+        omega (arith, unread-same w.marks new.marks unseen l.places, popped_rest) in
         subst Returns (λ i. record { marks = new.marks; stack = sym closes.stack i; frames = sym closes.frames i; roots = sym closes.roots i; items = sym items i }) (
           record {
             walks = Walks-closed laws walks' some place closes.marks signed led;
