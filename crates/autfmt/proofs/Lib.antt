@@ -22,6 +22,7 @@ pub mod ReaderAnswers
 pub mod HideSteps
 pub mod Order
 pub mod Progress
+pub mod Spelled
 pub mod Ranks
 pub mod ByRank
 pub mod Rows

@@ -1,18 +1,27 @@
 //! How lines are spelled into a buffer: the header, and the line of a transition.
-ghost use Rattle.std.specs.Prelude.{◌≡◌, ◌+◌, ◌≤◌, length, take, ◌++◌, ◌||◌};
+ghost use Rattle.std.specs.Prelude.{◌≡◌, ◌+◌, ◌≤◌, length, take, codes, decimal, ◌++◌, ◌||◌, ◌⊎◌, IfSome};
 ghost use Rattle.std.specs.Char.{is_ascii_digit};
 ghost use Rattle.std.specs.List.{list_all};
 ghost use Rattle.theory.specs.System.{IsLabel};
 ghost use Rattle.autfmt.specs.Grammar.{is_letter, is_plain};
 ghost use Rattle.autfmt.specs.Written.{written_label, header_of, written_transition};
-ghost use Rattle.autfmt.specs.Fronts.{written_front};
+ghost use Rattle.autfmt.specs.Fronts.{written_front, written_word, IsSpelled};
 
 use crate::token::is_letter;
-use itoa::Buffer;
+use itoa::{Buffer, write_digits};
 use std::marker::Model;
 
 /// Room for the front of a line: a bracket, a number of ten digits, a comma and a space.
 const FRONT: usize = 13;
+
+/// Room for a short label, with its quotes and the comma and the space after it.
+const SHORT: usize = 32;
+
+/// The most digits of a target.
+const DIGITS: usize = 10;
+
+/// Room for the end of a line: a number of ten digits, a bracket and a line feed.
+const TARGET: usize = 12;
 
 /// No line is longer: 8000 bytes of label, two quotes, two numbers of ten digits, six further bytes and a line feed.
 pub(crate) const LONGEST: usize = 8_029;
@@ -85,29 +94,89 @@ impl Front {
     }
 }
 
+/// A short label as lines have it, with the comma and the space after it. It has no bytes if the label is not short.
+#[derive(Clone, Copy)]
+pub(crate) struct Spelled {
+    bytes: [u8; SHORT],
+    len: u8,
+}
+
+/// How lines have a label, if it is short.
+pub(crate) fn spell(label: &[u8]) -> Spelled
+    ensures { IsSpelled label.now result }
+{
+    let mut bytes = [0; SHORT];
+    if label.len() + 4 > SHORT {
+        return Spelled { bytes, len: 0 };
+    }
+    let end = append_label(&mut bytes, 0, label, is_plain(label));
+    let end = append(&mut bytes, end, b", ");
+    Spelled {
+        bytes,
+        len: end as u8,
+    }
+}
+
 /// Puts the line of a transition at `end`, and returns where it ends. `plain` says whether the label may stand without
-/// quotation marks.
+/// quotation marks, and `spelled` how lines have it, if it is known.
 pub(crate) fn append_transition(
     buffer: &mut [u8],
     end: usize,
     front: &Front,
     label: &[u8],
     plain: bool,
+    spelled: Option<&Spelled>,
     target: u32,
 ) -> usize
     requires room { end + LONGEST ≤ length buffer.old }
     requires label { IsLabel label.now }
     requires plain { plain ≡ is_plain label.now }
+    requires spelled { IfSome spelled (λ s. IsSpelled label.now s.now) }
     ensures text { take result buffer.new ≡ take end buffer.old
         ++ written_transition (record { source = front.now; label = label.now; target = target }) }
     ensures end { result ≤ end + LONGEST }
 {
-    let mut digits = Buffer::new();
     let end = front.put(buffer, end);
+    let end = append_word(buffer, end, label, plain, spelled);
+    append_target(buffer, end, target)
+}
+
+/// Puts a label and the comma and the space after it at `end`, and returns where they end. If it is known how lines have
+/// it, all the room for that is copied, which takes no call.
+fn append_word(
+    buffer: &mut [u8],
+    end: usize,
+    label: &[u8],
+    plain: bool,
+    spelled: Option<&Spelled>,
+) -> usize
+    requires room { (end + SHORT ≤ length buffer.old) × (end + 4 + length label.now ≤ length buffer.old) }
+    requires plain { plain ≡ is_plain label.now }
+    requires spelled { IfSome spelled (λ s. IsSpelled label.now s.now) }
+    ensures text { take result buffer.new ≡ take end buffer.old ++ written_word label.now }
+    ensures end { (result ≤ end + SHORT) ⊎ (result ≤ end + 4 + length label.now) }
+{
+    if let Some(spelled) = spelled {
+        if spelled.len > 0 {
+            append(buffer, end, &spelled.bytes);
+            return end + spelled.len as usize;
+        }
+    }
     let end = append_label(buffer, end, label, plain);
-    let end = append(buffer, end, b", ");
-    let end = append(buffer, end, digits.format(target).as_bytes());
-    append(buffer, end, b")\n")
+    append(buffer, end, b", ")
+}
+
+/// Puts a target and the end of its line at `end`, and returns where they end. All their room is copied, which takes no
+/// call.
+fn append_target(buffer: &mut [u8], end: usize, target: u32) -> usize
+    requires { end + TARGET ≤ length buffer.old }
+    ensures text { take result buffer.new ≡ take end buffer.old ++ decimal target ++ codes ")\n" }
+    ensures end { result ≤ end + TARGET }
+{
+    let mut bytes = *b"..........)\n..........";
+    let start = write_digits(u64::from(target), &mut bytes, DIGITS);
+    append(buffer, end, &bytes[start..start + TARGET]);
+    end + TARGET - start
 }
 
 /// Puts the spelling of a label at `end`, and returns where it ends: plain if it can stand so, else quoted.

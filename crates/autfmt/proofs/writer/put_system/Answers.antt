@@ -1,5 +1,6 @@
 use Rattle.std.proofs.Common.{◌≡◌, [], length, arith}
 use Rattle.autfmt.proofs.Progress.{line_waits, text_begun, text_put, label_of_entry, plain_of_entry, on_err}
+use Rattle.autfmt.proofs.Spelled.{spelled_of_entry}
 use Rattle.std.proofs.lemmas.Result.{on_ok_weaker, on_err_weaker}
 use Rattle.autfmt.proofs.writer.put_system.Goals as goal
 
@@ -10,6 +11,10 @@ append_transition-waiting-requires-clause-label g c =
 pub append_transition-waiting-requires-clause-plain : goal.append_transition-waiting-requires-clause-plain
 append_transition-waiting-requires-clause-plain g c =
     plain_of_entry c.args.entries.now c.args.plain.now _ _ (c.requires.ranks c.loop-source.source-index (0, 0, 0) (omega arith)) c.requires.plain
+
+pub append_transition-waiting-requires-clause-spelled : goal.append_transition-waiting-requires-clause-spelled
+append_transition-waiting-requires-clause-spelled g c =
+    spelled_of_entry c.args.entries.now c.args.spelled.now _ _ c.get-spelled.result c.get-spelled.ensures.lookup (c.requires.ranks c.loop-source.source-index (0, 0, 0) (omega arith)) c.requires.spelled
 
 pub loop-source-preserved : goal.loop-source-preserved
 loop-source-preserved g c = (

@@ -1,0 +1,10 @@
+use Rattle.std.proofs.Common.{◌≡◌, length}
+use Rattle.autfmt.specs.Fronts.{AreSpelled}
+use Rattle.autfmt.specs.Ranks.{texts}
+use Rattle.autfmt.proofs.writer.spelled_labels.Given as goal
+
+abbrev pub invariant-loop-text : goal.invariant-loop-text
+invariant-loop-text l = record {
+  as_many : length l.known.items ≡ l.text-index;
+  spelled : AreSpelled (texts l.entries) l.known.items;
+}
