@@ -39,8 +39,8 @@ pub fn round<S: Sense, M: Meter>(
     // After a refusal
     ensures err { OnErr result (CostsUpTo (M.counted m.old) (M.counted m.new) 1 (length l.now.places)) }
 {
-    let mut marks = Marks::new(alloc, l.states())?;
     let mut signatures = Signatures::new(alloc, l.states())?;
+    let mut marks = Marks::new(alloc, l.states())?;
     round_in::<S, M>(l, p, &mut marks, &mut signatures, m)
 }
 
@@ -94,8 +94,8 @@ pub fn refine<S: Sense, M: Meter>(alloc: Global, l: &Lts<M>, m: &mut M) -> Resul
     // After a refusal
     ensures err { OnErr result (CostsUpTo (M.counted m.old) (M.counted m.new) l.now.states (length l.now.places)) }
 {
-    let mut marks = Marks::new(alloc, l.states())?;
     let mut signatures = RoundSignatures::new(alloc, l.states())?;
+    let mut marks = Marks::new(alloc, l.states())?;
     refine_in::<S, M>(alloc, l, &mut marks, &mut signatures, m)
 }
 

@@ -14,11 +14,21 @@ use partition::{Blocks, split};
 use std::alloc::Global;
 
 /// The signature of each state: lists, and the number of each state's list.
-#[derive(Drop)]
 pub(crate) struct RoundSignatures {
     alloc: Global,
     pub lists: Lists,
     pub numbers: Vec<u32>,
+}
+
+/// Written out, so that signatures are dropped by one call and not by one for each part of them.
+impl Drop for RoundSignatures {
+    fn drop(self) {
+        let RoundSignatures {
+            alloc: _,
+            lists: _,
+            numbers: _,
+        } = self;
+    }
 }
 
 impl RoundSignatures {
@@ -32,10 +42,11 @@ impl RoundSignatures {
         ensures lists { IfOk result (λ r. r.lists ≡ [] ∷ []) }
         ensures states { IfOk result (λ r. length r.numbers.items ≡ states) }
     {
+        // The numbers first: where the second cannot be made the first is dropped, and numbers have one part where lists have many.
         Ok(RoundSignatures {
             alloc,
-            lists: Lists::new(alloc, states)?,
             numbers: vec![in alloc; 0u32; states as usize]?,
+            lists: Lists::new(alloc, states)?,
         })
     }
 
