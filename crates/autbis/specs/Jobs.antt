@@ -28,9 +28,9 @@ abbrev pub OpensInOrder : List Name → Option (List Name) → Option (List Name
 OpensInOrder files old new = (names later : List Name) × (files ≡ names ++ later) × Opens old new names
 
 -- what a file holds, or standard input if none is named
-abbrev pub text_of : (Name → Option (List ℕ)) → Option (List ℕ) → Option Name → Option (List ℕ)
-text_of holds input None = input
-text_of holds input (Some name) = holds name
+abbrev pub held_text : (Name → Option (List ℕ)) → Option (List ℕ) → Option Name → Option (List ℕ)
+held_text holds input None = input
+held_text holds input (Some name) = holds name
 
 -- the labels to hide are exactly those of the hide list, and none without a list
 abbrev pub HidesNamed : (Name → Option (List ℕ)) → Option Name → List (List ℕ) → Type 0
@@ -55,7 +55,7 @@ ComparesJob holds (Cmp relation hide first second) old new same = OfRequest hold
 -- the job is done: of what its files and standard input hold, the known bytes have grown by what it asks for
 abbrev pub IsDone : (Name → Option (List ℕ)) → (input : Option (List ℕ)) → Job → (old new : Option (List ℕ)) → Type 0
 IsDone holds input (Min relation stats hide file) old new =
-    MinimisesNamed holds relation (option_map string_bytes hide) (text_of holds input (option_map string_bytes file)) old new
+    MinimisesNamed holds relation (option_map string_bytes hide) (held_text holds input (option_map string_bytes file)) old new
 IsDone holds input (Cmp relation hide first second) old new = ComparesJob holds (Cmp relation hide first second) old new true
 
 -- the text is no hide list: it has a first fault
@@ -70,7 +70,7 @@ HasFaultyList holds (Some name) = IfSome (holds name) IsFaultyList
 -- the hide list of a job, or a text of it, is faulty, if it is known
 abbrev pub IsFaultyJob : (Name → Option (List ℕ)) → Option (List ℕ) → Job → Type 0
 IsFaultyJob holds input (Min relation stats hide file) = HasFaultyList holds (option_map string_bytes hide)
-    ⊎ IfSome (text_of holds input (option_map string_bytes file)) (IsFaulty file_bounds)
+    ⊎ IfSome (held_text holds input (option_map string_bytes file)) (IsFaulty file_bounds)
 IsFaultyJob holds input (Cmp relation hide first second) = HasFaultyList holds (option_map string_bytes hide)
     ⊎ HasFaultySide file_bounds (holds (string_bytes first)) (holds (string_bytes second))
 

@@ -2,8 +2,8 @@
 use Rattle.std.specs.Prelude.{◌≡◌, ℕ, ◌*◌, ◌≤◌, List, length, Option, IfSome}
 use Rattle.std.specs.Io.KnownBytes.{Appends, IsAtEnd}
 use Rattle.theory.specs.System.{System, IsSystem, Hide}
-use Rattle.theory.specs.Bisimulation.{Relation, Bisimilar, Equivalent}
-use Rattle.theory.specs.Relations.{meant}
+use Rattle.theory.specs.Bisimulation.{Bisimilar, Equivalent}
+use Rattle.theory.specs.declared.relation.Relation.{Relation}
 use Rattle.theory.specs.declared.relation.Relation.{Relation as Word}
 use Rattle.theory.specs.Blocks.{Turns}
 use Rattle.theory.specs.Quotient.{Quotient}
@@ -29,7 +29,7 @@ pub record Request : Type 0 where
 
 -- what is asked by a relation of the code
 abbrev pub asks : Word → Bounds → List (List ℕ) → Request
-asks word bounds H = record { relation = meant word; bounds = bounds; hidden = H }
+asks word bounds H = record { relation = word; bounds = bounds; hidden = H }
 
 -- what a call did with a source or a sink: the bytes to come, or those written, as told before and after, and its failures
 pub record Used : Type 0 where

@@ -2,7 +2,7 @@
 ghost use Rattle.std.specs.Prelude.{◌≡◌, ◌⊎◌, ◌++◌, ◌∷◌, true, false, IfOk, IfErr, IfSome, IsErrAnd, map, option_map, string_bytes};
 ghost use Rattle.autbis.specs.Files.{Opens};
 ghost use Rattle.autbis.specs.Comparisons.{HasFaultySide};
-ghost use Rattle.autbis.specs.Jobs.{ComparesJob, EndsIn, FilesUsed, HasFailed, HasFaultyList, HasLostFile, IsDone, IsFaultyJob, MinimisesNamed, OpensInOrder, files_of, given, text_of};
+ghost use Rattle.autbis.specs.Jobs.{ComparesJob, EndsIn, FilesUsed, HasFailed, HasFaultyList, HasLostFile, IsDone, IsFaultyJob, MinimisesNamed, OpensInOrder, files_of, given, held_text};
 ghost use Rattle.autbis.specs.Programs.{AnswersWords, IsUnread, IsUnreadStatus};
 ghost use Rattle.autbis.specs.Reports.{IsFaultStatus, IsJobStatus};
 ghost use Rattle.autbis.specs.Runs.{IsFaulty, Used};
@@ -178,11 +178,11 @@ fn min_job<F: Opener, R: Source, W: Sink, E: Write>(
     ensures status { (result ≡ 0) ⊎ IsFaultStatus result }
     ensures done { result ≡ 0 →
         MinimisesNamed (F.holds ends.entry.files.now) asked.now.relation (option_map string_bytes asked.now.hide.now)
-        (text_of (F.holds ends.entry.files.now) (R.rest input.old) (option_map string_bytes asked.now.file.now))
+        (held_text (F.holds ends.entry.files.now) (R.rest input.old) (option_map string_bytes asked.now.file.now))
         (W.written ends.entry.output.now) (W.written ends.exit.1.0.now) }
     ensures faulty { result ≡ 2 →
         HasFaultyList (F.holds ends.entry.files.now) (option_map string_bytes asked.now.hide.now)
-        ⊎ IfSome (text_of (F.holds ends.entry.files.now) (R.rest input.old) (option_map string_bytes asked.now.file.now))
+        ⊎ IfSome (held_text (F.holds ends.entry.files.now) (R.rest input.old) (option_map string_bytes asked.now.file.now))
         (IsFaulty file_bounds) }
     ensures failed { result ≡ 5 →
         HasFailed F.File.failures (F.has_refused ends.exit.0.now) (R.failures input.new) (W.failures ends.exit.1.0.now) }

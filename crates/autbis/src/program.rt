@@ -7,7 +7,6 @@ ghost use Rattle.autbis.specs.Jobs.{HasFaultyList, HasLostFile, HidesNamed, give
 ghost use Rattle.autbis.specs.Reports.{IsFaultStatus};
 ghost use Rattle.autbis.specs.Runs.{BeginsQuotient, IsMinimised, IsFaulty, OfText, asks};
 ghost use Rattle.theory.specs.Quotient.{allowance};
-ghost use Rattle.theory.specs.Relations.{meant};
 
 use crate::compare::{CmpFault, Side, run_cmp};
 use crate::opener::Opener;
@@ -187,7 +186,7 @@ fn show_stats<M: Meter, E: Write>(counts: Counts, rel: Relation, m: &M, e: &mut 
 /// The most visits that a run of so many rounds may make.
 fn allowed_visits(counts: Counts, rel: Relation, rounds: u128) -> u128
     requires { rounds ≤ counts.states }
-    ensures { result ≡ allowance (meant rel) counts.states counts.transitions rounds }
+    ensures { result ≡ allowance rel counts.states counts.transitions rounds }
 {
     match rel {
         Relation::Strong => (rounds + 2) * u128::from(counts.transitions),

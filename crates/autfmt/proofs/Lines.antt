@@ -6,7 +6,7 @@ use Rattle.std.proofs.lemmas.Bool.{eqb-true, ne_eqb}
 use Rattle.std.proofs.lemmas.Fmt.{decimal_by_steps}
 use Rattle.std.proofs.lemmas.Option.{cond_some, same_Some}
 use Rattle.theory.specs.System.{IsLabel}
-use Rattle.autfmt.specs.Grammar.{Spaced, Number, Label, Header, TransitionLine, HideLine}
+use Rattle.autfmt.specs.Grammar.{Spaced, IsDecimal, Label, Header, TransitionLine, HideLine}
 use Rattle.autfmt.specs.Reading.{◌>>=◌, is_blank, is_word, are_blanks, after_blanks, past, past_des, number_at, number_then, label_at, header_at, transition_at, hide_line_at}
 use Rattle.autfmt.proofs.Blanks.{at_token, Spaced-from, Stops, Stops-blanks, Stops-mark, are_blanks-from, Blanks-from_test}
 use Rattle.autfmt.proofs.Numbers.{blanks_no_digits, IsToken-number, number_at-takes, number_at-again}
@@ -49,7 +49,7 @@ mark-again c tokens line h e s = ap (past c) (at_token (c ∷ []) tokens line h 
 -- ---- a number and the mark after it
 
 number_then-takes : (c : ℕ) (tokens : List (List ℕ)) (line : List ℕ) (x : ℕ × List ℕ) → number_then c line ≡ Some x → Spaced tokens x.1
-    → (digits : List ℕ) × Number digits x.0 × Spaced (digits ∷ (c ∷ []) ∷ tokens) line
+    → (digits : List ℕ) × IsDecimal digits x.0 × Spaced (digits ∷ (c ∷ []) ∷ tokens) line
 unfolding number_then
 number_then-takes c tokens line x e s =
     let a = bind_some (number_at (after_blanks line)) (λ n. past c (after_blanks n.1) >>= λ rest. Some (n.0, rest)) x e in
@@ -59,9 +59,9 @@ number_then-takes c tokens line x e s =
     let value : a.0.0 ≡ x.0 = ap (λ (p : ℕ × List ℕ). p.0) pair in
     let rest : b.0 ≡ x.1 = ap (λ (p : ℕ × List ℕ). p.1) pair in
     let behind : Spaced tokens b.0 = subst (Spaced tokens) (sym rest) s in
-    (t.0, subst (Number t.0) value t.1, Spaced-from t.0 ((c ∷ []) ∷ tokens) line a.0.1 t.2 (mark-takes c tokens a.0.1 b.0 b.1 behind))
+    (t.0, subst (IsDecimal t.0) value t.1, Spaced-from t.0 ((c ∷ []) ∷ tokens) line a.0.1 t.2 (mark-takes c tokens a.0.1 b.0 b.1 behind))
 
-number_then-again : (c : ℕ) (tokens : List (List ℕ)) (line digits : List ℕ) (n : ℕ) → is_blank c ≡ false → (c == c) ≡ true → is_ascii_digit c ≡ false → Number digits n
+number_then-again : (c : ℕ) (tokens : List (List ℕ)) (line digits : List ℕ) (n : ℕ) → is_blank c ≡ false → (c == c) ≡ true → is_ascii_digit c ≡ false → IsDecimal digits n
     → (s : Spaced (digits ∷ (c ∷ []) ∷ tokens) line) → number_then c line ≡ Some (n, s.4.1)
 unfolding number_then
 number_then-again c tokens line digits n h e d number s =
@@ -150,7 +150,7 @@ transition_at-takes line x e =
     let found : TransitionLine line s.0.0 a.0.0 t.0.0 = (source.0, label.0, target.0, source.1, label.1, target.1, whole) in
     subst (λ (y : ℕ × List ℕ × ℕ). TransitionLine line y.0 y.1 y.2) end.1 found
 
-HasNoQuote-number : (digits : List ℕ) (n : ℕ) → Number digits n → HasNoQuote digits
+HasNoQuote-number : (digits : List ℕ) (n : ℕ) → IsDecimal digits n → HasNoQuote digits
 HasNoQuote-number digits n number =
     let digit : (d : ℕ) → d < 10 → HasNoQuote ((48 + d) ∷ []) = λ d _. (ne_eqb (48 + d) 34 (λ e. omega arith), tt) in
     let h : HasNoQuote (decimal n) =

@@ -7,7 +7,7 @@ use Rattle.std.proofs.lemmas.Bool.Decides.{nat_tests}
 use Rattle.std.proofs.lemmas.Option.{some_pair_parts}
 use Rattle.std.proofs.lemmas.List.{append-nil}
 use Rattle.std.proofs.lemmas.Fmt.{decimal_digit, decimal_step, decimal_by_steps}
-use Rattle.autfmt.specs.Grammar.{Number}
+use Rattle.autfmt.specs.Grammar.{IsDecimal}
 use Rattle.autfmt.specs.Reading.{is_blank, grows, more_digits, number_at}
 use Rattle.autfmt.proofs.Blanks.{IsToken, Stops, FailsBlanks}
 
@@ -72,11 +72,11 @@ more_digits-takes v (b ∷ bytes) n rest small e =
     (λ _ f. more_digits-done v (b ∷ bytes) n rest small f)
     e
 
-pub number_at-takes : (bytes : List ℕ) (n : ℕ) (rest : List ℕ) → number_at bytes ≡ Some (n, rest) → (digits : List ℕ) × Number digits n × (bytes ≡ digits ++ rest)
+pub number_at-takes : (bytes : List ℕ) (n : ℕ) (rest : List ℕ) → number_at bytes ≡ Some (n, rest) → (digits : List ℕ) × IsDecimal digits n × (bytes ≡ digits ++ rest)
 unfolding number_at
 number_at-takes [] n rest e = absurd cc
 number_at-takes (b ∷ bytes) n rest e =
-    cond_both (is_ascii_digit b) (more_digits (b - 48) bytes) None (λ r. r ≡ Some (n, rest) → (digits : List ℕ) × Number digits n × (b ∷ bytes ≡ digits ++ rest))
+    cond_both (is_ascii_digit b) (more_digits (b - 48) bytes) None (λ r. r ≡ Some (n, rest) → (digits : List ℕ) × IsDecimal digits n × (b ∷ bytes ≡ digits ++ rest))
     (λ digit f.
     let range = digit-range b digit in
     let t = more_digits-takes (b - 48) bytes n rest (omega arith) f in
@@ -112,7 +112,7 @@ unfolding more_digits
 more_digits-stops n [] h = refl
 more_digits-stops n (b ∷ rest) h = rw h refl
 
-pub number_at-again : (digits : List ℕ) (n : ℕ) (rest : List ℕ) → Number digits n → Stops is_ascii_digit rest → number_at (digits ++ rest) ≡ Some (n, rest)
+pub number_at-again : (digits : List ℕ) (n : ℕ) (rest : List ℕ) → IsDecimal digits n → Stops is_ascii_digit rest → number_at (digits ++ rest) ≡ Some (n, rest)
 number_at-again digits n rest number stops =
     let leads : Leads n (decimal n) = decimal_by_steps Leads Leads-one Leads-more n (omega (arith, number.0)) in
     ap (λ (x : List ℕ). number_at (x ++ rest)) number.1 ∙ leads number.0 rest ∙ more_digits-stops n rest stops
@@ -123,7 +123,7 @@ IsToken-append : (token tail : List ℕ) → IsToken token → IsToken (token ++
 IsToken-append [] tail h = absurd h
 IsToken-append (b ∷ bs) tail h = h
 
-pub IsToken-number : (digits : List ℕ) (n : ℕ) → Number digits n → IsToken digits
+pub IsToken-number : (digits : List ℕ) (n : ℕ) → IsDecimal digits n → IsToken digits
 IsToken-number digits n number =
     let h : IsToken (decimal n) = decimal_by_steps (λ _ ds. IsToken ds) (λ k _. digit-not_blank k) (λ k ds _ before. IsToken-append ds ((48 + k % 10) ∷ []) before) n (omega (arith, number.0)) in
     rw number.1 h

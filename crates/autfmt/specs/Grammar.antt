@@ -15,8 +15,8 @@ Spaced [] line = Blanks line
 Spaced (token ∷ tokens) line = (before rest : List ℕ) × Blanks before × (line ≡ before ++ token ++ rest) × Spaced tokens rest
 
 -- the digits of v without leading zeros, at most ten of them
-abbrev pub Number : List ℕ → ℕ → Type 0
-Number digits v = (v < 10 ^ 10) × (digits ≡ decimal v)
+abbrev pub IsDecimal : List ℕ → ℕ → Type 0
+IsDecimal digits v = (v < 10 ^ 10) × (digits ≡ decimal v)
 
 -- a letter A to Z, a to z, or the low line
 abbrev pub is_letter : ℕ → Bool
@@ -38,13 +38,13 @@ Label spelling a = (IsTrue (is_plain a) × (spelling ≡ a)) ⊎ (IsLabel a × (
 -- `des (f, m, n)`: the first state, how many transitions and how many states
 abbrev pub Header : List ℕ → ℕ → ℕ → ℕ → Type 0
 Header line f m n =
-    (first transitions states : List ℕ) × Number first f × Number transitions m × Number states n
+    (first transitions states : List ℕ) × IsDecimal first f × IsDecimal transitions m × IsDecimal states n
     × Spaced (codes "des" ∷ codes "(" ∷ first ∷ codes "," ∷ transitions ∷ codes "," ∷ states ∷ codes ")" ∷ []) line
 
 -- `(s, a, t)`: the source, the label and the target
 abbrev pub TransitionLine : List ℕ → ℕ → List ℕ → ℕ → Type 0
 TransitionLine line s a t =
-    (source label target : List ℕ) × Number source s × Label label a × Number target t
+    (source label target : List ℕ) × IsDecimal source s × Label label a × IsDecimal target t
     × Spaced (codes "(" ∷ source ∷ codes "," ∷ label ∷ codes "," ∷ target ∷ codes ")" ∷ []) line
 
 -- one label

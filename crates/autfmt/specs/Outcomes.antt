@@ -40,6 +40,6 @@ pub data Refuses (bounds : Bounds) (given : List ℕ) (rest : Option (List ℕ))
       Refuses bounds given rest failures fault
 
 -- a system was read from the bytes that were taken, or they tell why there is none
-abbrev pub Answers : Bounds → List (List ℕ) → Option (List ℕ) → Option (List ℕ) → ℕ → Result Grouped Fault → Type 0
-Answers bounds H old new failures result =
+abbrev pub AnswersRead : Bounds → List (List ℕ) → Option (List ℕ) → Option (List ℕ) → ℕ → Result Grouped Fault → Type 0
+AnswersRead bounds H old new failures result =
     Takes old new (λ given. ReadsTo bounds H given new failures) (λ given. Refuses bounds given new failures) result

@@ -9,7 +9,7 @@ ghost use Rattle.autfmt.specs.Cutter.{Cutting};
 ghost use Rattle.autfmt.specs.Faults.{FirstFault};
 ghost use Rattle.autfmt.specs.Readers.{IsTextFault, ReadsAs};
 ghost use Rattle.autfmt.specs.ReadSoFar.{ReadSoFar, HeldSoFar, HoldsText};
-ghost use Rattle.autfmt.specs.Outcomes.{Takes, Refuses, Answers};
+ghost use Rattle.autfmt.specs.Outcomes.{Takes, Refuses, AnswersRead};
 
 use crate::cutter::{Cutter, Step};
 use crate::fault::Fault;
@@ -34,7 +34,7 @@ pub fn read<M: Meter, R: Source>(alloc: Global, r: &mut R, lim: &Limits) -> Resu
     requires { R.failures r.old ≡ 0 }
 
     // What Ok means, and when each error comes, over the bytes that were taken.
-    ensures outcome { Answers lim.now [] (R.rest r.old) (R.rest r.new) (R.failures r.new) result }
+    ensures outcome { AnswersRead lim.now [] (R.rest r.old) (R.rest r.new) (R.failures r.new) result }
 
     // The same for the whole text, if the source tells it.
     ensures system { IfSome (R.rest r.old) (λ text. IfOk result (ReadsAs lim.now text [])) }
@@ -60,7 +60,7 @@ pub fn read_hiding<M: Meter, R: Source>(
     requires { R.failures r.old ≡ 0 }
 
     // What Ok means, and when each error comes, over the bytes that were taken.
-    ensures outcome { Answers lim.now h.now (R.rest r.old) (R.rest r.new) (R.failures r.new) result }
+    ensures outcome { AnswersRead lim.now h.now (R.rest r.old) (R.rest r.new) (R.failures r.new) result }
 
     // The same for the whole text, if the source tells it.
     ensures system { IfSome (R.rest r.old) (λ text. IfOk result (ReadsAs lim.now text h.now)) }
@@ -81,7 +81,7 @@ fn read_system<M: Meter, R: Source>(
     h: &Hidden,
 ) -> Result<Lts<M>, Fault>
     requires { R.failures r.old ≡ 0 }
-    ensures { Answers lim.now h.now (R.rest r.old) (R.rest r.new) (R.failures r.new) result }
+    ensures { AnswersRead lim.now h.now (R.rest r.old) (R.rest r.new) (R.failures r.new) result }
 {
     let (promise, held) = read_text(alloc, r, lim, h)?;
     let Held {

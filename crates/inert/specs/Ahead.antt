@@ -39,7 +39,7 @@ pub record HasSeen (s : ℕ) (old new : List Mark) : Type 0 where
   pub found : ¬ (slice_index_or new s Unseen ≡ Unseen)
 
 -- there is a mark for each state, some list, and no state is twice on the stack
-pub record HasNumbers (states lists stack : ℕ) (marks : List Mark) : Type 0 where
+pub record HasMarks (states lists stack : ℕ) (marks : List Mark) : Type 0 where
   pub size : length marks ≡ states
   pub some : 1 ≤ lists
   pub numbers : unseen marks + stack ≤ states

@@ -5,7 +5,7 @@ use Rattle.std.specs.List.Sorted.{IsStrictlySortedBy}
 use Rattle.lts.specs.Lts.{Grouped, Triple, IsRow}
 use Rattle.lists.specs.Lists.{list_at, pair_cmp, Grow}
 use Rattle.inert.specs.Search.{Search, nothing, mark_at, top, root_at, Gives, AreSigned, Walks, Mark, Unseen, Open, Finished, Root, Item, Pair, Listed}
-use Rattle.inert.specs.Ahead.{unseen, unread, rest, KeepsSeen, HasNumbers}
+use Rattle.inert.specs.Ahead.{unseen, unread, rest, KeepsSeen, HasMarks}
 use Rattle.inert.specs.declared.step.Step.{Step}
 use Rattle.inert.specs.declared.step.Step.TheVariants.{Inert, Shows}
 
@@ -23,7 +23,7 @@ abbrev pub Enters : List Triple → ℕ → Search → Search → Type 0
 Enters places s old new = (start end : ℕ) × IsRow places s start end × (new ≡ entered s start end old)
 
 -- of the roots those stay that are up to the place q
-pub record Cuts (q : ℕ) (old new : List Root) : Type 0 where
+pub record CutsRoots (q : ℕ) (old new : List Root) : Type 0 where
   pub kept : ℕ
   pub roots : new ≡ take kept old
   pub within : kept ≤ length old
@@ -35,11 +35,11 @@ abbrev pub with_item : Item → Search → Search
 with_item x w = record w { items = w.items ++ x ∷ [] }
 
 -- a step is taken, and enters a state or not
-abbrev pub Takes : List Triple → Step → Search → Search → Bool → Type 0
-Takes places (Shows a b) old new enters = (new ≡ with_item (Pair a b) old) × ¬ IsTrue enters
-Takes places (Inert t) old new enters =
+abbrev pub TakesStep : List Triple → Step → Search → Search → Bool → Type 0
+TakesStep places (Shows a b) old new enters = (new ≡ with_item (Pair a b) old) × ¬ IsTrue enters
+TakesStep places (Inert t) old new enters =
     ((mark_at old.marks t ≡ Unseen) × Enters places t old new × IsTrue enters)
-    ⊎ ((q : ℕ) × (mark_at old.marks t ≡ Open q) × Cuts q old.roots new.roots × (new ≡ record old { roots = new.roots }) × ¬ IsTrue enters)
+    ⊎ ((q : ℕ) × (mark_at old.marks t ≡ Open q) × CutsRoots q old.roots new.roots × (new ≡ record old { roots = new.roots }) × ¬ IsTrue enters)
     ⊎ ((k : ℕ) × (mark_at old.marks t ≡ Finished k) × (new ≡ with_item (Listed k) old) × ¬ IsTrue enters)
 
 -- some of the items gives the pair z
@@ -47,7 +47,7 @@ abbrev pub IsGiven : List (List (ℕ × ℕ)) → List Item → ℕ × ℕ → T
 IsGiven lists items z = (x : Item) × Contains items x × Gives lists x z
 
 -- the numbers of the lists that these items name, and the pairs that they are
-pub record AreTaken (items : List Item) (numbers : List ℕ) (pairs : List (ℕ × ℕ)) : Type 0 where
+pub record AreCollected (items : List Item) (numbers : List ℕ) (pairs : List (ℕ × ℕ)) : Type 0 where
   pub named : (k : ℕ) → Contains numbers k ↔ Contains items (Listed k)
   pub own : (a b : ℕ) → Contains pairs (a, b) ↔ Contains items (Pair a b)
   pub few : length numbers ≤ length items
@@ -95,8 +95,8 @@ abbrev pub weight : Search → ℕ
 weight w = 2 * (unseen w.marks + length w.stack) + length w.items + (length w.frames - 1)
 
 -- there is room for these, and for one for each transition that is still to be read
-abbrev pub Fits : Grouped → ℕ → Search → Type 0
-Fits l lists w = weight w + ahead l w + lists ≤ 2 * l.states + length l.places + 1
+abbrev pub FitsLists : Grouped → ℕ → Search → Type 0
+FitsLists l lists w = weight w + ahead l w + lists ≤ 2 * l.states + length l.places + 1
 
 -- how many steps a walk makes at most
 abbrev pub steps : Grouped → Search → ℕ
@@ -109,24 +109,24 @@ HasRead w = (top w.frames).next ≡ (top w.frames).end
 -- a walk is under way: what holds between its steps, with room for its lists and a row to read
 pub record IsUnderWay (l : Grouped) (blocks : List ℕ) (alone : List Bool) (lists : List (List (ℕ × ℕ))) (w : Search) : Type 0 where
   pub walks : Walks l blocks alone lists w
-  pub fits : Fits l (length lists) w
+  pub fits : FitsLists l (length lists) w
   pub some : 0 < length w.frames
 
 -- a walk goes on
 pub record GoesOn (l : Grouped) (blocks : List ℕ) (alone : List Bool) (lists : List (List (ℕ × ℕ))) (old new : Search) : Type 0 where
   pub walks : Walks l blocks alone lists new
-  pub fits : Fits l (length lists) new
+  pub fits : FitsLists l (length lists) new
   pub seen : KeepsSeen old.marks new.marks
 
 -- fewer steps are ahead after a state was entered, and else no more, where the row is read
-abbrev pub Advances : Grouped → Search → Search → Bool → Type 0
-Advances l old new enters = (IsTrue enters → steps l new < steps l old)
+abbrev pub ComesNearer : Grouped → Search → Search → Bool → Type 0
+ComesNearer l old new enters = (IsTrue enters → steps l new < steps l old)
     × (¬ IsTrue enters → HasRead new × (0 < length new.frames) × (steps l new ≤ steps l old))
 
 -- the walk rests: nothing is on the stack, and each state that was seen is finished, with its list
 pub record Rests (l : Grouped) (blocks : List ℕ) (alone : List Bool) (lists : List (List (ℕ × ℕ))) (w : Search) : Type 0 where
   pub empty : w ≡ nothing w.marks
-  pub numbers : HasNumbers l.states (length lists) 0 w.marks
+  pub numbers : HasMarks l.states (length lists) 0 w.marks
   pub shut : (s p : ℕ) → ¬ (mark_at w.marks s ≡ Open p)
   pub signed : AreSigned l blocks alone lists w.marks
-  pub fits : Fits l (length lists) w
+  pub fits : FitsLists l (length lists) w

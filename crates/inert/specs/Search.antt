@@ -2,13 +2,13 @@
 use Rattle.std.specs.Prelude.{◌≡◌, ◌⊎◌, ℕ, ◌+◌, ◌-◌, ◌<◌, ◌≤◌, Bool, List, [], length, slice_index, slice_index_or}
 use Rattle.std.specs.List.{All, AllPairs, Contains}
 use Rattle.theory.specs.System.{System, Leads}
-use Rattle.theory.specs.Bisimulation.Relation.{branching}
+use Rattle.theory.specs.declared.relation.Relation.TheVariants.{Branching}
 use Rattle.theory.specs.Blocks.{Inert, Signature}
 use Rattle.lts.specs.Lts.{Grouped, Triple, source_of, target_of, place_at, system_of, IsRow}
 use Rattle.lists.specs.Lists.{list_at}
 use Rattle.inert.specs.Signed.{HasPair, IsSignature, IsKnownAlone, pair_under}
 use Rattle.inert.specs.Steps.{IsInert}
-use Rattle.inert.specs.Ahead.{HasNumbers}
+use Rattle.inert.specs.Ahead.{HasMarks}
 pub use Rattle.inert.specs.declared.walk.Mark.{Mark}
 pub use Rattle.inert.specs.declared.walk.Mark.TheVariants.{Unseen, Open, Finished}
 pub use Rattle.inert.specs.declared.walk.Frame.{Frame}
@@ -75,7 +75,7 @@ pub record Laws : Type 0 where
   pub after : (A : System) (blocks : ℕ → ℕ) (s t u : ℕ) → Leads (Inert A blocks) s t → Inert A blocks t u → Leads (Inert A blocks) s u
   pub joined : (A : System) (blocks : ℕ → ℕ) (s t u : ℕ) → Leads (Inert A blocks) s t → Leads (Inert A blocks) t u → Leads (Inert A blocks) s u
   pub path : (A : System) (blocks : ℕ → ℕ) (s t : ℕ) (a : List ℕ) (b : ℕ) → Leads (Inert A blocks) s t →
-      Signature branching A blocks t a b → Signature branching A blocks s a b
+      Signature Branching A blocks t a b → Signature Branching A blocks s a b
 
 -- inert steps lead from s to t
 abbrev pub Ties : Grouped → List ℕ → ℕ → ℕ → Type 0
@@ -95,8 +95,8 @@ Gives lists (Pair a b) z = (a, b) ≡ z
 Gives lists (Listed k) z = Contains (list_at lists k) z
 
 -- some item of the component of place p gives the pair z
-abbrev pub Holds : List (List (ℕ × ℕ)) → Search → ℕ → ℕ × ℕ → Type 0
-Holds lists w p z = (j : ℕ) × (j < length w.items) × Gives lists (item_at w.items j) z × IsOf w.roots j p
+abbrev pub HoldsPair : List (List (ℕ × ℕ)) → Search → ℕ → ℕ × ℕ → Type 0
+HoldsPair lists w p z = (j : ℕ) × (j < length w.items) × Gives lists (item_at w.items j) z × IsOf w.roots j p
 
 -- each state on the stack is marked with its place, and no other state is
 pub record AreOpen (marks : List Mark) (stack : List ℕ) : Type 0 where
@@ -106,16 +106,16 @@ pub record AreOpen (marks : List Mark) (stack : List ℕ) : Type 0 where
 -- the list of this number has only pairs of the signature of s, and all of them unless s is known to be alone in its block
 pub record IsSigned (l : Grouped) (blocks : List ℕ) (alone : List Bool) (s : ℕ) (lists : List (List (ℕ × ℕ))) (k : ℕ) : Type 0 where
   pub within : k < length lists
-  pub sound : (z : ℕ × ℕ) → Contains (list_at lists k) z → HasPair branching l blocks s z.0 z.1
-  pub whole : IsSignature branching l blocks s (list_at lists k) ⊎ IsKnownAlone blocks alone s
+  pub sound : (z : ℕ × ℕ) → Contains (list_at lists k) z → HasPair Branching l blocks s z.0 z.1
+  pub whole : IsSignature Branching l blocks s (list_at lists k) ⊎ IsKnownAlone blocks alone s
 
 -- so is each finished state, with its list
 abbrev pub AreSigned : Grouped → List ℕ → List Bool → List (List (ℕ × ℕ)) → List Mark → Type 0
 AreSigned l blocks alone lists marks = (s k : ℕ) → mark_at marks s ≡ Finished k → IsSigned l blocks alone s lists k
 
 -- a finished state has the number of its list, and that of the empty one if it is known to be alone
-abbrev pub IsNumbered : List ℕ → List Bool → List Mark → ℕ → ℕ → Type 0
-IsNumbered blocks alone marks s k = (IsKnownAlone blocks alone s × (k ≡ 0))
+abbrev pub HasItsList : List ℕ → List Bool → List Mark → ℕ → ℕ → Type 0
+HasItsList blocks alone marks s k = (IsKnownAlone blocks alone s × (k ≡ 0))
     ⊎ (¬ IsKnownAlone blocks alone s × (mark_at marks s ≡ Finished k))
 
 -- one component begins before another one, and so do its items
@@ -154,7 +154,7 @@ Connects l blocks w = (p q : ℕ) → p < length w.stack → q < length w.stack 
 -- what the item number j gives is in the signature of some state of its component
 abbrev pub IsSound : Grouped → List ℕ → List (List (ℕ × ℕ)) → Search → ℕ → Type 0
 IsSound l blocks lists w j = (p : ℕ) × (p < length w.stack) × IsOf w.roots j p ×
-    ((z : ℕ × ℕ) → Gives lists (item_at w.items j) z → HasPair branching l blocks (slice_index w.stack p) z.0 z.1)
+    ((z : ℕ × ℕ) → Gives lists (item_at w.items j) z → HasPair Branching l blocks (slice_index w.stack p) z.0 z.1)
 
 abbrev pub AreSound : Grouped → List ℕ → List (List (ℕ × ℕ)) → Search → Type 0
 AreSound l blocks lists w = (j : ℕ) → j < length w.items → IsSound l blocks lists w j
@@ -176,7 +176,7 @@ IsHere w p t = (q : ℕ) × (mark_at w.marks t ≡ Open q) × IsUpTo w.roots p q
 
 -- the state t is finished, and the component of place p holds all its pairs
 abbrev pub IsHeld : List (List (ℕ × ℕ)) → Search → ℕ → ℕ → Type 0
-IsHeld lists w p t = (k : ℕ) × (mark_at w.marks t ≡ Finished k) × ((z : ℕ × ℕ) → Contains (list_at lists k) z → Holds lists w p z)
+IsHeld lists w p t = (k : ℕ) × (mark_at w.marks t ≡ Finished k) × ((z : ℕ × ℕ) → Contains (list_at lists k) z → HoldsPair lists w p z)
 
 -- the walk went from place p to the state t, and has not come back
 abbrev pub IsEntered : Search → ℕ → ℕ → Type 0
@@ -189,7 +189,7 @@ IsFollowed lists w p t = IsHere w p t ⊎ IsHeld lists w p t ⊎ IsEntered w p t
 
 -- a transition of the state at place p was taken into account
 pub record Accounted (l : Grouped) (blocks : List ℕ) (lists : List (List (ℕ × ℕ))) (w : Search) (p : ℕ) (e : Triple) : Type 0 where
-  pub shown : ¬ IsInert l blocks (slice_index blocks (source_of e)) e → Holds lists w p (pair_under blocks e)
+  pub shown : ¬ IsInert l blocks (slice_index blocks (source_of e)) e → HoldsPair lists w p (pair_under blocks e)
   pub followed : IsInert l blocks (slice_index blocks (source_of e)) e → IsFollowed lists w p (target_of e)
 
 -- all transitions of open states were taken into account, or are still to be read
@@ -199,7 +199,7 @@ AreAccounted l blocks lists w = (p k : ℕ) → p < length w.stack → k < lengt
 
 -- what holds of a walk between its steps
 pub record Walks (l : Grouped) (blocks : List ℕ) (alone : List Bool) (lists : List (List (ℕ × ℕ))) (w : Search) : Type 0 where
-  pub numbers : HasNumbers l.states (length lists) (length w.stack) w.marks
+  pub numbers : HasMarks l.states (length lists) (length w.stack) w.marks
   pub opened : AreOpen w.marks w.stack
   pub signed : AreSigned l blocks alone lists w.marks
   pub roots : AreRoots w

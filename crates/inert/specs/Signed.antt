@@ -2,8 +2,8 @@
 use Rattle.std.specs.Prelude.{◌≡◌, ◌⊎◌, ◌↔◌, ℕ, ◌<◌, Bool, false, IsTrue, List, [], length, slice_index, slice_index_or}
 use Rattle.std.specs.List.{Contains}
 use Rattle.std.specs.List.Sorted.{IsStrictlySortedBy}
-use Rattle.theory.specs.Bisimulation.{Relation}
-use Rattle.theory.specs.Bisimulation.Relation.{branching}
+use Rattle.theory.specs.declared.relation.Relation.{Relation}
+use Rattle.theory.specs.declared.relation.Relation.TheVariants.{Branching}
 use Rattle.theory.specs.Blocks.{Signature}
 use Rattle.lts.specs.Labels.{text_of}
 use Rattle.lts.specs.Lts.{Grouped, Triple, label_of, target_of, system_of}
@@ -28,4 +28,4 @@ IsKnownAlone blocks alone s = IsTrue (slice_index_or alone (slice_index blocks s
 
 -- the list of s: its branching signature, or no pairs if it is known to be alone in its block
 abbrev pub IsListOf : Grouped → List ℕ → List Bool → ℕ → List (ℕ × ℕ) → Type 0
-IsListOf l blocks alone s pairs = IsSignature branching l blocks s pairs ⊎ (IsKnownAlone blocks alone s × (pairs ≡ []))
+IsListOf l blocks alone s pairs = IsSignature Branching l blocks s pairs ⊎ (IsKnownAlone blocks alone s × (pairs ≡ []))

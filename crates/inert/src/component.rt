@@ -3,7 +3,7 @@ ghost use Rattle.std.specs.Prelude.{◌↔◌, ℕ, ◌+◌, ◌≤◌, length, 
 ghost use Rattle.std.specs.List.{Contains};
 ghost use Rattle.lists.specs.declared.lists.TheConstants.{MOST_LISTS};
 ghost use Rattle.inert.specs.Search.{AreThere};
-ghost use Rattle.inert.specs.Moves.{IsListed, AreTaken};
+ghost use Rattle.inert.specs.Moves.{IsListed, AreCollected};
 
 use crate::walk::Item;
 use lists::{Lists, order};
@@ -38,7 +38,7 @@ fn collect(
     numbers: &mut Vec<u32>,
     pairs: &mut Vec<(u32, u32)>,
 ) -> Result<(), Memory>
-    ensures { OnOk result (AreTaken items.now numbers.new.items pairs.new.items) }
+    ensures { OnOk result (AreCollected items.now numbers.new.items pairs.new.items) }
 {
     numbers.clear();
     pairs.clear();

@@ -5,7 +5,7 @@ ghost use Rattle.lts.specs.Meter.{HasRoomFor, Costs};
 ghost use Rattle.lists.specs.declared.lists.TheConstants.{MOST_LISTS};
 ghost use Rattle.inert.specs.Steps.{Sees};
 ghost use Rattle.inert.specs.Search.{mark_at, AreOpen, AreThere, Laws};
-ghost use Rattle.inert.specs.Moves.{Closes, Finishes, ahead, HasRead, IsUnderWay, GoesOn, Rests, Advances};
+ghost use Rattle.inert.specs.Moves.{Closes, Finishes, ahead, HasRead, IsUnderWay, GoesOn, Rests, ComesNearer};
 ghost use Rattle.inert.specs.Ahead.{unread, HasSeen};
 ghost use Rattle.inert.specs.declared.walk.Mark.TheVariants.{Unseen};
 
@@ -68,7 +68,7 @@ impl Walk {
         requires room { HasRoomFor (M.counted m.old) 0 (ahead l.now self.old) }
         ensures on { OnOk result (GoesOn l.now blocks.now alone.now lists.now self.old self.new) }
         ensures visits { OnOk result ((M.counted m.new).visits + ahead l.now self.new ≡ (M.counted m.old).visits + ahead l.now self.old) }
-        ensures steps { IfOk result (Advances l.now self.old self.new) }
+        ensures steps { IfOk result (ComesNearer l.now self.old self.new) }
         ensures cost { Costs (M.counted m.old) (M.counted m.new) 0 0 (ahead l.now self.old) }
     {
         laws();

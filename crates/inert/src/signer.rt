@@ -1,12 +1,12 @@
 //! The two entrances to the walk: the branching signature of one state, and those of all.
 ghost use Rattle.std.specs.Prelude.{◌≡◌, ◌⊎◌, ◌↔◌, ℕ, ◌+◌, ◌<◌, ◌≤◌, false, [], ◌∷◌, length, slice_index, slice_index_or, IfOk, OnOk, IsTrue};
-ghost use Rattle.theory.specs.Bisimulation.Relation.{branching};
+ghost use Rattle.theory.specs.declared.relation.Relation.TheVariants.{Branching};
 ghost use Rattle.lts.specs.Meter.{HasRoomFor, Costs, Visits};
 ghost use Rattle.lts.specs.Lts.{row_of};
 ghost use Rattle.lists.specs.Lists.{list_at, AreNumbers};
 ghost use Rattle.inert.specs.Signed.{IsSignature, IsKnownAlone, IsListOf};
 ghost use Rattle.inert.specs.Steps.{Sees};
-ghost use Rattle.inert.specs.Search.{mark_at, IsReady, IsNumbered};
+ghost use Rattle.inert.specs.Search.{mark_at, IsReady, HasItsList};
 ghost use Rattle.inert.specs.Ahead.{unread, HasSeen};
 ghost use Rattle.inert.specs.Moves.{skipped, Rests};
 ghost use Rattle.inert.specs.declared.walk.Mark.TheVariants.{Unseen, Finished};
@@ -60,7 +60,7 @@ impl Signer {
         requires lists { lists.old ≡ [] ∷ [] }
         requires room { HasRoomFor (M.counted m.old) 0 (length l.now.places) }
         ensures within { IfOk result (λ k. k < length lists.new) }
-        ensures signature { IfOk result (λ k. IsSignature branching l.now blocks.now s (list_at lists.new k)) }
+        ensures signature { IfOk result (λ k. IsSignature Branching l.now blocks.now s (list_at lists.new k)) }
         ensures visits { Visits M.counted m.old m.new result (length (row_of s l.now.places)) (length l.now.places) }
     {
         self.walk.prepare(alloc, l.states())?;
@@ -119,7 +119,7 @@ fn sign_one<M: Meter>(
     requires lists { lists.old ≡ [] ∷ [] }
     requires room { HasRoomFor (M.counted m.old) 0 (length l.now.places) }
     ensures within { IfOk result (λ k. k < length lists.new) }
-    ensures signature { IfOk result (λ k. IsSignature branching l.now blocks.now s (list_at lists.new k)) }
+    ensures signature { IfOk result (λ k. IsSignature Branching l.now blocks.now s (list_at lists.new k)) }
     ensures visits { Visits M.counted m.old m.new result (length (row_of s l.now.places)) (length l.now.places) }
 {
     let internal = l.labels().internal();
@@ -250,7 +250,7 @@ fn number(walk: &Walk, blocks: &[u32], alone: &[bool], numbers: &mut [u32])
     requires size { length numbers.old ≡ length walk.now.marks }
     requires blocks { length blocks.now ≡ length walk.now.marks }
     requires finished { (s : ℕ) → s < length walk.now.marks → (k : ℕ) × (mark_at walk.now.marks s ≡ Finished k) }
-    ensures { (s : ℕ) → s < length numbers.new → IsNumbered blocks.now alone.now walk.now.marks s (slice_index numbers.new s) }
+    ensures { (s : ℕ) → s < length numbers.new → HasItsList blocks.now alone.now walk.now.marks s (slice_index numbers.new s) }
 {
     for s in 0..numbers.len() {
         numbers[s] = number_of(walk, blocks, alone, s);
@@ -262,7 +262,7 @@ fn number_of(walk: &Walk, blocks: &[u32], alone: &[bool], s: usize) -> u32
     requires state { s < length walk.now.marks }
     requires blocks { length blocks.now ≡ length walk.now.marks }
     requires finished { (k : ℕ) × (mark_at walk.now.marks s ≡ Finished k) }
-    ensures { IsNumbered blocks.now alone.now walk.now.marks s result }
+    ensures { HasItsList blocks.now alone.now walk.now.marks s result }
 {
     if is_alone(alone, blocks[s]) {
         return EMPTY;

@@ -3,7 +3,7 @@
 ghost use Rattle.std.specs.Prelude.{◌≡◌, ◌↔◌, ℕ, ◌+◌, ◌<◌, ◌≤◌, [], length, IsTrue, IfOk, OnOk};
 ghost use Rattle.lts.specs.declared.limits.TheConstants.{MOST_STATES};
 ghost use Rattle.inert.specs.Search.{Search, mark_at, nothing, IsIdle};
-ghost use Rattle.inert.specs.Moves.{Enters, Takes, Cuts, skipped};
+ghost use Rattle.inert.specs.Moves.{Enters, TakesStep, CutsRoots, skipped};
 ghost use Rattle.inert.specs.Ahead.{IsTrail};
 ghost use Rattle.inert.specs.declared.walk.Mark.TheVariants.{Unseen, Open, Finished};
 ghost use Rattle.inert.specs.declared.step.Step.TheVariants.{Inert};
@@ -189,7 +189,7 @@ impl Walk {
         Ok(())
     }
 
-    /// Takes a step from the state where the walk is: what it shows is collected, and an inert one is followed. Returns
+    /// TakesStep a step from the state where the walk is: what it shows is collected, and an inert one is followed. Returns
     /// whether it enters a state.
     ///
     /// Fails if there is no memory for it.
@@ -198,7 +198,7 @@ impl Walk {
         requires state { (t : ℕ) → step ≡ Inert t → t < l.now.states }
         requires marks { length self.old.marks ≡ l.now.states }
         requires places { length self.old.stack ≤ MOST_STATES }
-        ensures { IfOk result (Takes l.now.places step self.old self.new) }
+        ensures { IfOk result (TakesStep l.now.places step self.old self.new) }
     {
         match step {
             Step::Shows(label, block) => {
@@ -237,7 +237,7 @@ fn forget(marks: &mut Vec<Mark>, trail: &[u32])
 
 /// Drops the roots above the place.
 fn cut(roots: &mut Vec<Root>, place: u32)
-    ensures { Cuts place roots.old.items roots.new.items }
+    ensures { CutsRoots place roots.old.items roots.new.items }
 {
     let mut kept = roots.len();
     while kept > 0 && roots[kept - 1].place > place {

@@ -7,7 +7,7 @@ use Rattle.lists.specs.Lists.{pair_cmp, merged, Apart}
 use Rattle.lists.proofs.Rising.{rising_same_size}
 use Rattle.lists.proofs.Pairs.{pair_total}
 use Rattle.lists.proofs.Merging.{merged_rises, merged_has, has_or_lacks}
-use Rattle.lists.proofs.Prints.{length-merged}
+use Rattle.lists.proofs.Tags.{length-merged}
 use Rattle.lists.proofs.Linked.{has_both}
 
 module _ (list base pairs : List (ℕ × ℕ)) where

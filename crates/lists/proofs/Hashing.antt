@@ -4,7 +4,7 @@ use Rattle.std.proofs.lemmas.Bool.{cases_lt, cases_eq}
 use Rattle.std.proofs.lemmas.List.{length-set, length_push, get_or_append_left, get_or_push}
 use Rattle.lists.specs.declared.hashed.Entry.{Entry}
 use Rattle.lists.specs.Lists.{list_at}
-use Rattle.lists.specs.Hashed.{print_of, bucket_of, bucket_at, before_at, entry_at, IsChained, IsHashed, IsNew}
+use Rattle.lists.specs.Hashed.{tag_of, bucket_of_tag, entry_bucket, entry_before, entry_at, IsChained, IsHashed, IsNewList}
 use Rattle.lists.proofs.Chains.{IsChained-push}
 
 -- entries with one more at the end
@@ -24,33 +24,33 @@ module _ (lists : List (List (ℕ × ℕ))) (list : List (ℕ × ℕ)) where
 
 -- the new list
 module _ (lists : List (List (ℕ × ℕ))) (heads : List ℕ) (entries : List Entry) (list : List (ℕ × ℕ)) (new : Entry) (b : ℕ)
-    (is : IsHashed lists heads entries) (some : 0 < length lists) (first : list_at lists 0 ≡ list → ⊥) (absent : IsNew lists list)
-    (print : new.print ≡ print_of list) (at_b : b ≡ bucket_of (length heads) new.print) (below : b < length heads)
+    (is : IsHashed lists heads entries) (some : 0 < length lists) (first : list_at lists 0 ≡ list → ⊥) (absent : IsNewList lists list)
+    (tag : new.tag ≡ tag_of list) (at_b : b ≡ bucket_of_tag (length heads) new.tag) (below : b < length heads)
     (before : new.before ≡ get_or heads b 0) where
-  IsChained-new : IsChained (length lists + 1) (bucket_at (entries ++ new ∷ []) (set heads b (length lists))) (before_at (entries ++ new ∷ []))
+  IsChained-new : IsChained (length lists + 1) (entry_bucket (entries ++ new ∷ []) (set heads b (length lists))) (entry_before (entries ++ new ∷ []))
       (set heads b (length lists))
   IsChained-new =
       let size = length-set heads b (length lists) in
       let count = is.size in
-      IsChained-push (length lists) (bucket_at entries heads) (before_at entries)
-      (bucket_at (entries ++ new ∷ []) (set heads b (length lists))) (before_at (entries ++ new ∷ [])) heads b is.chained some below
-      (λ r h. ap (λ n. bucket_of n (entry_at (entries ++ new ∷ []) r).print) size
-      ∙ ap (λ x. bucket_of (length heads) x.print) (entry-old entries new r (omega arith)))
+      IsChained-push (length lists) (entry_bucket entries heads) (entry_before entries)
+      (entry_bucket (entries ++ new ∷ []) (set heads b (length lists))) (entry_before (entries ++ new ∷ [])) heads b is.chained some below
+      (λ r h. ap (λ n. bucket_of_tag n (entry_at (entries ++ new ∷ []) r).tag) size
+      ∙ ap (λ x. bucket_of_tag (length heads) x.tag) (entry-old entries new r (omega arith)))
       (λ r h. ap (λ x. x.before) (entry-old entries new r (omega arith)))
-      (ap (λ n. bucket_of n (entry_at (entries ++ new ∷ []) (length lists)).print) size
-      ∙ ap (λ x. bucket_of (length heads) x.print) (entry-new entries new (length lists) (sym count)) ∙ sym at_b)
+      (ap (λ n. bucket_of_tag n (entry_at (entries ++ new ∷ []) (length lists)).tag) size
+      ∙ ap (λ x. bucket_of_tag (length heads) x.tag) (entry-new entries new (length lists) (sym count)) ∙ sym at_b)
       (ap (λ x. x.before) (entry-new entries new (length lists) (sym count)) ∙ before)
 
-  prints-push : (r : ℕ) → 0 < r → r < length (lists ++ list ∷ [])
-      → (entry_at (entries ++ new ∷ []) r).print ≡ print_of (list_at (lists ++ list ∷ []) r)
-  prints-push r p h =
+  tags-push : (r : ℕ) → 0 < r → r < length (lists ++ list ∷ [])
+      → (entry_at (entries ++ new ∷ []) r).tag ≡ tag_of (list_at (lists ++ list ∷ []) r)
+  tags-push r p h =
       let longer = length_push lists list in
       let count = is.size in
       elim (cases_lt r (length lists)) [
-        | inl o ↦ ap (λ x. x.print) (entry-old entries new r (omega arith)) ∙ is.prints r p o ∙ ap print_of (sym (list-old lists list r o))
+        | inl o ↦ ap (λ x. x.tag) (entry-old entries new r (omega arith)) ∙ is.tags r p o ∙ ap tag_of (sym (list-old lists list r o))
         | inr n ↦
             let last : r ≡ length lists = omega arith in
-            ap (λ x. x.print) (entry-new entries new r (last ∙ sym count)) ∙ print ∙ ap print_of (sym (list-new lists list r last))
+            ap (λ x. x.tag) (entry-new entries new r (last ∙ sym count)) ∙ tag ∙ ap tag_of (sym (list-new lists list r last))
       ]
 
   -- no old list is the new one
@@ -87,9 +87,9 @@ module _ (lists : List (List (ℕ × ℕ))) (heads : List ℕ) (entries : List E
         some_buckets = let some = is.some_buckets in omega arith;
         few_buckets = let few = is.few_buckets in omega arith;
         size = omega arith;
-        prints = prints-push;
+        tags = tags-push;
         different = different-push;
         chained =
-            subst (λ n. IsChained n (bucket_at (entries ++ new ∷ []) (set heads b (length lists))) (before_at (entries ++ new ∷ []))
+            subst (λ n. IsChained n (entry_bucket (entries ++ new ∷ []) (set heads b (length lists))) (entry_before (entries ++ new ∷ []))
             (set heads b (length lists))) (sym longer) IsChained-new;
       }

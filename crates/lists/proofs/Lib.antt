@@ -3,7 +3,7 @@ pub mod Rising
 pub mod Merging
 pub mod Spans
 pub mod Listing
-pub mod Prints
+pub mod Tags
 pub mod Padded
 pub mod Linked
 pub mod Extending

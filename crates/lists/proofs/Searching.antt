@@ -3,20 +3,20 @@ use Rattle.std.proofs.Common.{◌≡◌, ◌∙◌, ℕ, ◌<◌, List, length, 
 use Rattle.std.proofs.lemmas.Bool.{cases_order}
 use Rattle.lists.specs.declared.hashed.Entry.{Entry}
 use Rattle.lists.specs.Lists.{list_at}
-use Rattle.lists.specs.Hashed.{print_of, bucket_of, bucket_at, before_at, IsHashed}
+use Rattle.lists.specs.Hashed.{tag_of, bucket_of_tag, entry_bucket, entry_before, IsHashed}
 
 -- no list with a number above r is this one
 abbrev pub NoneAbove : List (List (ℕ × ℕ)) → List (ℕ × ℕ) → ℕ → Type 0
 NoneAbove lists list r = (q : ℕ) → r < q → q < length lists → list_at lists q ≡ list → ⊥
 
-module _ (lists : List (List (ℕ × ℕ))) (heads : List ℕ) (entries : List Entry) (list : List (ℕ × ℕ)) (print : ℕ)
-    (is : IsHashed lists heads entries) (same : print ≡ print_of list) where
-  -- a list that is this one is in the bucket of the print
-  fits : (q : ℕ) → 0 < q → q < length lists → list_at lists q ≡ list → bucket_at entries heads q ≡ bucket_of (length heads) print
-  fits q p l a = ap (bucket_of (length heads)) (is.prints q p l ∙ ap print_of a ∙ sym same)
+module _ (lists : List (List (ℕ × ℕ))) (heads : List ℕ) (entries : List Entry) (list : List (ℕ × ℕ)) (tag : ℕ)
+    (is : IsHashed lists heads entries) (same : tag ≡ tag_of list) where
+  -- a list that is this one is in the bucket of the tag
+  fits : (q : ℕ) → 0 < q → q < length lists → list_at lists q ≡ list → entry_bucket entries heads q ≡ bucket_of_tag (length heads) tag
+  fits q p l a = ap (bucket_of_tag (length heads)) (is.tags q p l ∙ ap tag_of a ∙ sym same)
 
-  pub none-above-before : (r : ℕ) → 0 < r → r < length lists → bucket_at entries heads r ≡ bucket_of (length heads) print
-      → (list_at lists r ≡ list → ⊥) → NoneAbove lists list r → NoneAbove lists list (before_at entries r)
+  pub none-above-before : (r : ℕ) → 0 < r → r < length lists → entry_bucket entries heads r ≡ bucket_of_tag (length heads) tag
+      → (list_at lists r ≡ list → ⊥) → NoneAbove lists list r → NoneAbove lists list (entry_before entries r)
   none-above-before r p below b other none q h k a = elim (cases_order q r) [
     | inl at ↦ other (subst (λ x. list_at lists x ≡ list) at a)
     | inr order ↦ elim order [

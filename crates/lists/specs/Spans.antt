@@ -8,13 +8,13 @@ use Rattle.lists.specs.declared.span.Span.{Span}
 use Rattle.lists.specs.declared.span.TheConstants.{FIRST_FACTOR, SUM_FACTOR}
 use Rattle.lists.specs.declared.lists.TheConstants.{MOST_LISTS}
 
--- the word of two numbers: both halves of a product, one put over the other
-abbrev pub word_of : ℕ × ℕ → ℕ
-word_of p = let product = (p.0 * FIRST_FACTOR % 2 ^ 64 + p.1) % 2 ^ 64 * SUM_FACTOR in bit_xor (product % 2 ^ 64) (product / 2 ^ 64)
+-- the hash of two numbers: both halves of a product, one put over the other
+abbrev pub hash_of : ℕ × ℕ → ℕ
+hash_of p = let product = (p.0 * FIRST_FACTOR % 2 ^ 64 + p.1) % 2 ^ 64 * SUM_FACTOR in bit_xor (product % 2 ^ 64) (product / 2 ^ 64)
 
--- the fingerprint of a list: the sum of the words of its pairs
+-- the fingerprint of a list: the sum of the hashes of its pairs
 abbrev pub fingerprint_of : List (ℕ × ℕ) → ℕ
-fingerprint_of list = sum_by word_of list % 2 ^ 64
+fingerprint_of list = sum_by hash_of list % 2 ^ 64
 
 -- the span of no pairs
 abbrev pub no_pairs : Span

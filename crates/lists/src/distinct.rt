@@ -152,7 +152,7 @@ impl Distinct {
         if pairs.is_empty() {
             return Ok(k);
         }
-        let print = (self.lists.fingerprint(k).wrapping_add(fingerprint(pairs))
+        let tag = (self.lists.fingerprint(k).wrapping_add(fingerprint(pairs))
             / 0x1_0000_0000) as u32;
         if let Some(number) = find(
             &self.lists,
@@ -160,7 +160,7 @@ impl Distinct {
             &self.entries,
             k,
             pairs,
-            print,
+            tag,
             &self.differences,
         )? {
             note(&self.lists, &mut self.differences, k, number)?;
@@ -172,7 +172,7 @@ impl Distinct {
             &mut self.entries,
             k,
             pairs,
-            print,
+            tag,
         )?;
         Ok(made)
     }

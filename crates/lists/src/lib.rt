@@ -36,4 +36,4 @@ mod span;
 pub use lists::{EMPTY, Lists, MOST_LISTS};
 pub use ordered::order;
 pub use parts::Parts;
-pub use span::word;
+pub use span::hash;

@@ -1,6 +1,6 @@
 //! Lists of pairs as spans of one buffer, each with a fingerprint.
 ghost use Rattle.std.specs.Prelude.{◌≡◌, ◌↔◌, ◌≤◌, length, IsTrue};
-ghost use Rattle.lists.specs.Spans.{list_in, no_pairs, word_of, fingerprint_of};
+ghost use Rattle.lists.specs.Spans.{list_in, no_pairs, hash_of, fingerprint_of};
 
 const FIRST_FACTOR: u64 = 0x9E37_79B9_7F4A_7C15;
 
@@ -34,10 +34,10 @@ pub(crate) fn list_of(pairs: &[(u32, u32)], span: Span) -> &[(u32, u32)]
     &pairs[span.start..span.end]
 }
 
-/// A word for two numbers, as if drawn by chance: both halves of a product, one put over the other, so that sums of words
+/// A hash for two numbers, as if drawn by chance: both halves of a product, one put over the other, so that sums of hashes
 /// do not depend on sums of numbers.
-pub fn word(first: u32, second: u64) -> u64
-    ensures { result ≡ word_of (first, second) }
+pub fn hash(first: u32, second: u64) -> u64
+    ensures { result ≡ hash_of (first, second) }
 {
     let number = u64::from(first)
         .wrapping_mul(FIRST_FACTOR)
@@ -46,14 +46,14 @@ pub fn word(first: u32, second: u64) -> u64
     (product % 0x1_0000_0000_0000_0000) as u64 ^ (product >> 64) as u64
 }
 
-/// A number that equal lists share, and different lists seldom: the sum of the words of the pairs, so that it can be added up
+/// A number that equal lists share, and different lists seldom: the sum of the hashes of the pairs, so that it can be added up
 /// from parts.
 pub(crate) fn fingerprint(list: &[(u32, u32)]) -> u64
     ensures { result ≡ fingerprint_of list.now }
 {
     let mut sum: u64 = 0;
     for (first, second) in list {
-        sum = sum.wrapping_add(word(*first, u64::from(*second)));
+        sum = sum.wrapping_add(hash(*first, u64::from(*second)));
     }
     sum
 }

@@ -2,5 +2,5 @@ pub mod Numbering
 pub mod Renumbering
 pub mod Keeping
 pub mod Searching
-pub mod Elders
+pub mod Representatives
 pub mod Meeting

@@ -1,20 +1,20 @@
--- A search for the elder with a key: from the last number of its bucket down, no elder above has the key.
+-- A search for the representative with a key: from the last number of its bucket down, no representative above has the key.
 use Rattle.std.proofs.Common.{◌≡◌, ◌∙◌, ℕ, ◌<◌, List, length, ap, sym, subst, inl, inr, arith}
 use Rattle.std.proofs.lemmas.Bool.{cases_order}
-use Rattle.partition.specs.declared.splitter.Elder.{Elder}
-use Rattle.partition.specs.Elders.{Key, bucket_of, bucket_at, before_at, key_at, IsElder, IsChain}
+use Rattle.partition.specs.declared.splitter.Representative.{Representative}
+use Rattle.partition.specs.Representatives.{Key, bucket_of_key, representative_bucket, representative_before, key_at, IsRepresentative, IsChain}
 
--- no elder with a number above r has the key
-abbrev pub NoneAbove : List Elder → Key → ℕ → Type 0
+-- no representative with a number above r has the key
+abbrev pub NoneAbove : List Representative → Key → ℕ → Type 0
 NoneAbove chain key r = (q : ℕ) → r < q → q < length chain → key_at chain q ≡ key → ⊥
 
-module _ (heads : List ℕ) (chain : List Elder) (key : Key) (is : IsChain heads chain) where
-  -- an elder that has the key is in its bucket
-  fits : (q : ℕ) → key_at chain q ≡ key → bucket_at chain heads q ≡ bucket_of (length heads) key
-  fits q a = ap (bucket_of (length heads)) a
+module _ (heads : List ℕ) (chain : List Representative) (key : Key) (is : IsChain heads chain) where
+  -- an representative that has the key is in its bucket
+  fits : (q : ℕ) → key_at chain q ≡ key → representative_bucket chain heads q ≡ bucket_of_key (length heads) key
+  fits q a = ap (bucket_of_key (length heads)) a
 
-  pub none-above-before : (r : ℕ) → IsElder chain r → bucket_at chain heads r ≡ bucket_of (length heads) key →
-      (key_at chain r ≡ key → ⊥) → NoneAbove chain key r → NoneAbove chain key (before_at chain r)
+  pub none-above-before : (r : ℕ) → IsRepresentative chain r → representative_bucket chain heads r ≡ bucket_of_key (length heads) key →
+      (key_at chain r ≡ key → ⊥) → NoneAbove chain key r → NoneAbove chain key (representative_before chain r)
   none-above-before r e b other none q h k a = elim (cases_order q r) [
     | inl at ↦ other (subst (λ x. key_at chain x ≡ key) at a)
     | inr order ↦ elim order [

@@ -1,3 +1,3 @@
 pub mod Partition
 pub mod Splitting
-pub mod Elders
+pub mod Representatives

@@ -11,8 +11,8 @@ pub record IsPartition (blocks : List ℕ) (count : ℕ) : Type 0 where
   pub in_order : (s b : ℕ) → s < length blocks → b < slice_index blocks s → (t : ℕ) × (t < s) × (slice_index blocks t ≡ b)
 
 -- blocks that are numbered so, however many
-abbrev pub IsNumbered : List ℕ → Type 0
-IsNumbered blocks = (count : ℕ) × IsPartition blocks count
+abbrev pub IsSomePartition : List ℕ → Type 0
+IsSomePartition blocks = (count : ℕ) × IsPartition blocks count
 
 -- blocks that are numbered from 0, however: each state's block is below the count, and each number below it is used
 pub record AreBlocks (blocks : List ℕ) (count : ℕ) : Type 0 where

@@ -1,6 +1,6 @@
 //! A partition of the states 0, 1, .. into blocks, which are numbered in the order of their least members.
 ghost use Rattle.std.specs.Prelude.{◌≡◌, ℕ, ◌<◌, ◌≤◌, length, slice_index, IfOk};
-ghost use Rattle.partition.specs.Partition.{IsPartition, IsNumbered};
+ghost use Rattle.partition.specs.Partition.{IsPartition, IsSomePartition};
 
 use growth::Memory;
 use std::alloc::Global;
@@ -50,7 +50,7 @@ impl Partition {
     /// How many states there are: 1 to 2,000,000.
     pub fn states(&self) -> u32
         ensures value { result ≡ length self.now }
-        ensures numbered { IsNumbered self.now }
+        ensures numbered { IsSomePartition self.now }
     {
         self.blocks.len() as u32
     }

@@ -7,8 +7,9 @@ use Rattle.std.proofs.lemmas.List.Elements.{All-contains, Contains-get_or, Conta
 use Rattle.std.proofs.lemmas.List.Kept.{AllPairs-filter}
 use Rattle.std.proofs.lemmas.List.Sorted.{Contains-permutation, IsPermutation-sym}
 use Rattle.theory.specs.System.{System, Transition, Step, Reachable, internal}
-use Rattle.theory.specs.Bisimulation.{Relation, Bisimilar}
-use Rattle.theory.specs.Bisimulation.Relation.{strong, branching}
+use Rattle.theory.specs.Bisimulation.{Bisimilar}
+use Rattle.theory.specs.declared.relation.Relation.{Relation}
+use Rattle.theory.specs.declared.relation.Relation.TheVariants.{Strong, Branching}
 use Rattle.theory.specs.Quotient.{Fellow, Leader, IsLeader, Number, Stands, IsDropped, Quotient}
 use Rattle.lts.specs.Labels.{text_of, IsTable}
 use Rattle.lts.specs.Lts.{Triple, source_of, label_of, target_of, row_of, transition_of, system_from, system_of, grouped, IsGrouping, IsTriple, InRange, IsLts, Grouped}
@@ -120,12 +121,12 @@ module _ (rel : Relation) (g : Grouped) (n : Numbering) (laws : Laws rel g) (num
   }
 
 -- the leaders are enough for strong bisimulation: a leader answers each step of its class
-leaders_enough : (g : Grouped) (n : Numbering) → Laws strong g → IsNumbering strong (system_of g) n → AreEnough g n.numbers.items n.leads.items
+leaders_enough : (g : Grouped) (n : Numbering) → Laws Strong g → IsNumbering Strong (system_of g) n → AreEnough g n.numbers.items n.leads.items
 leaders_enough g n laws num = record {
-  only = λ s l marked. leader_reached strong g n laws num s ((num.leader s l).0 marked);
+  only = λ s l marked. leader_reached Strong g n laws num s ((num.leader s l).0 marked);
   each = λ s a t way step.
-      let found : (l : ℕ) × Leader strong (system_of g) s l = laws.numbers.leader s way in
-      let fellow : Fellow strong (system_of g) s found.0 = leader_fellow strong g n laws num s found.0 found.1 in
+      let found : (l : ℕ) × Leader Strong (system_of g) s l = laws.numbers.leader s way in
+      let fellow : Fellow Strong (system_of g) s found.0 = leader_fellow Strong g n laws num s found.0 found.1 in
       let low : found.0 < g.states = laws.below found.0 fellow.0 in
       let answer = fellow.1.1.forth s found.0 fellow.1.2 a t step in
       record {
@@ -134,9 +135,9 @@ leaders_enough g n laws num = record {
         low = low;
         marked = (num.leader found.0 low).1 (s, way, found.1);
         step = answer.1;
-        from = same_number strong g n laws num s found.0 way fellow.0 fellow.1;
+        from = same_number Strong g n laws num s found.0 way fellow.0 fellow.1;
         to =
-            same_number strong g n laws num t answer.0 (laws.reached_on s a t way step)
+            same_number Strong g n laws num t answer.0 (laws.reached_on s a t way step)
             (laws.reached_on found.0 a answer.0 fellow.0 answer.1) (fellow.1.0, fellow.1.1, answer.2);
       };
 }
@@ -144,21 +145,21 @@ leaders_enough g n laws num = record {
 -- the rows that are read are enough
 pub rows_enough : (rel : Relation) (g : Grouped) (n : Numbering) (reached : List Bool) → Laws rel g → IsNumbering rel (system_of g) n →
     ((s : ℕ) → s < g.states → IsMarked reached s ↔ Reachable (system_of g) s) → AreEnough g n.numbers.items (rows_of rel n.leads.items reached)
-rows_enough strong g n reached laws num is = leaders_enough g n laws num
-rows_enough branching g n reached laws num is = reached_enough branching g n laws num reached is
+rows_enough Strong g n reached laws num is = leaders_enough g n laws num
+rows_enough Branching g n reached laws num is = reached_enough Branching g n laws num reached is
 
 -- what is left out is what the relation drops
 pub left_out_is : (rel : Relation) (labels : List (List ℕ)) (dropped : Option ℕ) → IsTable labels → IsDroppedLabel rel labels dropped →
     (x : Triple) → label_of x < length labels → (is_left_out dropped x ≡ true) ↔ IsDropped rel (transition_of labels x)
-left_out_is strong labels dropped table none x low = (
+left_out_is Strong labels dropped table none x low = (
   λ out. both_ways (is_left_out dropped x) (ap (λ d. is_left_out d x) none) out,
   λ never. absurd never,
 )
-left_out_is branching labels None table without x low = (
+left_out_is Branching labels None table without x low = (
   λ out. absurd (both_ways false refl out),
   λ h. absurd (without (label_of x, low, get_or_default labels (label_of x) internal [] low ∙ h.0)),
 )
-left_out_is branching labels (Some k) table number x low = (
+left_out_is Branching labels (Some k) table number x low = (
   λ out.
       let parts = and_parts (label_of x == k) (source_of x == target_of x) out in
       (ap (text_of labels) (eqb-true (label_of x) k parts.0) ∙ number.text, eqb-true (source_of x) (target_of x) parts.1),

@@ -5,8 +5,9 @@ use Rattle.std.proofs.lemmas.List.{length-map}
 use Rattle.std.proofs.lemmas.List.Elements.{All-contains}
 use Rattle.std.proofs.lemmas.List.Filters.{length-filter_both}
 use Rattle.theory.specs.System.{System, IsSystem, Step, Reachable, internal}
-use Rattle.theory.specs.Bisimulation.{Relation, Bisimilar}
-use Rattle.theory.specs.Bisimulation.Relation.{strong, branching}
+use Rattle.theory.specs.Bisimulation.{Bisimilar}
+use Rattle.theory.specs.declared.relation.Relation.{Relation}
+use Rattle.theory.specs.declared.relation.Relation.TheVariants.{Strong, Branching}
 use Rattle.theory.specs.Blocks.{Signature, Stable, Share}
 use Rattle.theory.specs.Quotient.{IsDropped}
 use Rattle.theory.proofs.Paths.{step_below}
@@ -24,34 +25,34 @@ use Rattle.quotient.proofs.Rows.{ShownPlace, place_of, shown_place}
 
 -- a step from s by a to t is left out: for branching, an internal one to a bisimilar state
 abbrev pub IsInert : Relation → System → ℕ → List ℕ → ℕ → Type 0
-IsInert strong A s a t = ⊥
-IsInert branching A s a t = (a ≡ internal) × Bisimilar branching A s A t
+IsInert Strong A s a t = ⊥
+IsInert Branching A s a t = (a ≡ internal) × Bisimilar Branching A s A t
 
 -- a step of s by a to a state that is bisimilar to t
 abbrev pub Makes : Relation → System → ℕ → List ℕ → ℕ → Type 0
 Makes rel A s a t = (u : ℕ) × Step A s a u × Bisimilar rel A t A u
 
 module _ (A : System) (sys : IsSystem A) (blocks : ℕ → ℕ) where
-  strong_shown : ((s t : ℕ) → Share A blocks s t ↔ Bisimilar strong A s A t) → Stable strong A blocks →
-      (s t : ℕ) (a : List ℕ) (u : ℕ) → Bisimilar strong A s A t → Step A t a u → Makes strong A s a u
+  strong_shown : ((s t : ℕ) → Share A blocks s t ↔ Bisimilar Strong A s A t) → Stable Strong A blocks →
+      (s t : ℕ) (a : List ℕ) (u : ℕ) → Bisimilar Strong A s A t → Step A t a u → Makes Strong A s a u
   strong_shown is stable s t a u same step =
       let share : Share A blocks s t = (is s t).1 same in
-      let found : Signature strong A blocks s a (blocks u) = (stable s t share.0 share.1 share.2 a (blocks u)).1 (u, step, refl) in
+      let found : Signature Strong A blocks s a (blocks u) = (stable s t share.0 share.1 share.2 a (blocks u)).1 (u, step, refl) in
       let low = (step_below A sys t a u step).1 in
       let ends = (step_below A sys s a found.0 found.1).1 in
       (found.0, found.1, (is u found.0).0 (low, ends, sym found.2))
 
-  branching_shown : ((s t : ℕ) → Share A blocks s t ↔ Bisimilar branching A s A t) → Stable branching A blocks →
-      (s t : ℕ) (a : List ℕ) (u : ℕ) → Bisimilar branching A s A t → ((b : List ℕ) (v : ℕ) → Step A s b v → ¬ IsInert branching A s b v) →
-      Step A t a u → ¬ IsInert branching A t a u → Makes branching A s a u
+  branching_shown : ((s t : ℕ) → Share A blocks s t ↔ Bisimilar Branching A s A t) → Stable Branching A blocks →
+      (s t : ℕ) (a : List ℕ) (u : ℕ) → Bisimilar Branching A s A t → ((b : List ℕ) (v : ℕ) → Step A s b v → ¬ IsInert Branching A s b v) →
+      Step A t a u → ¬ IsInert Branching A t a u → Makes Branching A s a u
   branching_shown is stable s t a u same none step leaves =
       let share : Share A blocks s t = (is s t).1 same in
       let low = (step_below A sys t a u step).1 in
-      let can : Signature branching A blocks t a (blocks u) =
+      let can : Signature Branching A blocks t a (blocks u) =
       (t, u, ([], refl), step, refl, λ inert. leaves (inert.0, (is t u).0 (share.1, low, sym inert.1))) in
       go ((stable s t share.0 share.1 share.2 a (blocks u)).1 can)
     where
-      go : Signature branching A blocks s a (blocks u) → Makes branching A s a u
+      go : Signature Branching A blocks s a (blocks u) → Makes Branching A s a u
       go (x, v, ([], here), there, at, shows) =
           let own : Step A s a v = subst (λ y. Step A y a v) (sym here) there in
           let low = (step_below A sys t a u step).1 in
@@ -70,14 +71,14 @@ all_made rel A sys s t a u same none step leaves =
   where
     go : (r : Relation) (blocks : ℕ → ℕ) → ((x y : ℕ) → Share A blocks x y ↔ Bisimilar r A x A y) → Stable r A blocks → Bisimilar r A s A t →
         ((b : List ℕ) (v : ℕ) → Step A s b v → ¬ IsInert r A s b v) → ¬ IsInert r A t a u → Makes r A s a u
-    go strong blocks is stable same none leaves = strong_shown A sys blocks is stable s t a u same step
-    go branching blocks is stable same none leaves = branching_shown A sys blocks is stable s t a u same none step leaves
+    go Strong blocks is stable same none leaves = strong_shown A sys blocks is stable s t a u same step
+    go Branching blocks is stable same none leaves = branching_shown A sys blocks is stable s t a u same none step leaves
 
 -- a step between numbers is dropped exactly where the step of the states is left out
 dropped_is : (rel : Relation) (A : System) (labels : List (List ℕ)) (x : Triple) (s t : ℕ) (a : List ℕ) → text_of labels (label_of x) ≡ a →
     (source_of x ≡ target_of x) ↔ Bisimilar rel A s A t → IsDropped rel (transition_of labels x) ↔ IsInert rel A s a t
-dropped_is strong A labels x s t a label same = (λ gone. absurd gone, λ gone. absurd gone)
-dropped_is branching A labels x s t a label same = (λ h. (sym label ∙ h.0, same.0 h.1), λ h. (label ∙ h.0, same.1 h.1))
+dropped_is Strong A labels x s t a label same = (λ gone. absurd gone, λ gone. absurd gone)
+dropped_is Branching A labels x s t a label same = (λ h. (sym label ∙ h.0, same.0 h.1), λ h. (label ∙ h.0, same.1 h.1))
 
 -- where a row shows as many transitions as it has, none is left out
 whole_row : (numbers : List ℕ) (dropped : Option ℕ) (places : List Triple) (s : ℕ) → LeavesNothingOut numbers dropped places s →

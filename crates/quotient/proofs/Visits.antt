@@ -2,7 +2,7 @@
 use Rattle.std.proofs.Common.{◌≡◌, ℕ, ◌+◌, ◌*◌, ◌≤◌, Result, Ok, Err, IfOk, length, ap, arith}
 use Rattle.std.proofs.lemmas.Nat.{mul-le}
 use Rattle.theory.specs.Union.{union_of}
-use Rattle.theory.specs.Bisimulation.{Relation}
+use Rattle.theory.specs.declared.relation.Relation.{Relation}
 use Rattle.lts.specs.Meter.{Counts, IsFresh, HasRoomFor, Costs, on_ok}
 use Rattle.lts.specs.Lts.{Grouped, IsLts, system_of}
 use Rattle.quotient.specs.Bounds.{TakesTurns, KeepsTo}

@@ -1,7 +1,7 @@
 -- Private. The numbers of the reachable states, given in one pass over the states in their order.
 use Rattle.std.specs.Prelude.{◌≡◌, ◌≢◌, ◌⊎◌, ◌↔◌, ℕ, ◌+◌, ◌<◌, ◌≤◌, Bool, true, IsTrue, [], ◌∷◌, ◌++◌, length, slice_index, slice_set}
 use Rattle.theory.specs.System.{System, Reachable}
-use Rattle.theory.specs.Bisimulation.{Relation}
+use Rattle.theory.specs.declared.relation.Relation.{Relation}
 use Rattle.theory.specs.Quotient.{HowMany, IsLeader, Number}
 use Rattle.quotient.specs.Marked.{IsMarked}
 use Rattle.quotient.specs.declared.numbering.Numbering.{Numbering}

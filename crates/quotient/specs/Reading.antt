@@ -2,8 +2,9 @@
 use Rattle.std.specs.Prelude.{◌≡◌, ◌↔◌, ℕ, Bool, List, Option, None, MatchOption, slice_index}
 use Rattle.std.specs.List.{Contains}
 use Rattle.theory.specs.System.{internal}
-use Rattle.theory.specs.Bisimulation.{Relation, Bisimilar}
-use Rattle.theory.specs.Bisimulation.Relation.{strong, branching}
+use Rattle.theory.specs.Bisimulation.{Bisimilar}
+use Rattle.theory.specs.declared.relation.Relation.{Relation}
+use Rattle.theory.specs.declared.relation.Relation.TheVariants.{Strong, Branching}
 use Rattle.theory.specs.Blocks.{EachTwo}
 use Rattle.lts.specs.Labels.{IsNumber}
 use Rattle.lts.specs.Lts.{Grouped, system_of}
@@ -16,10 +17,10 @@ AreClasses rel g blocks =
 -- whose rows are read: those of the leaders, which show for strong bisimulation what their classes do; for branching
 -- bisimulation those of all reachable states, since a leader need not show what its class shows behind internal steps
 abbrev pub rows_of : Relation → List Bool → List Bool → List Bool
-rows_of strong leads reached = leads
-rows_of branching leads reached = reached
+rows_of Strong leads reached = leads
+rows_of Branching leads reached = reached
 
 -- the label number that is left out between equal numbers: for branching bisimulation the internal action's, if it has one
 abbrev pub IsDroppedLabel : Relation → List (List ℕ) → Option ℕ → Type 0
-IsDroppedLabel strong labels dropped = dropped ≡ None
-IsDroppedLabel branching labels dropped = MatchOption dropped (¬ Contains labels internal) (λ k. IsNumber labels k internal)
+IsDroppedLabel Strong labels dropped = dropped ≡ None
+IsDroppedLabel Branching labels dropped = MatchOption dropped (¬ Contains labels internal) (λ k. IsNumber labels k internal)

@@ -1,6 +1,6 @@
 //! The allowance, which is wider than what the calls keep to.
 ghost use Rattle.std.specs.Prelude.{ℕ, ◌+◌, ◌*◌, ◌≤◌};
-ghost use Rattle.theory.specs.Bisimulation.{Relation};
+ghost use Rattle.theory.specs.declared.relation.Relation.{Relation};
 ghost use Rattle.theory.specs.Quotient.{allowance};
 
 /// Visits of the transitions in each of the rounds and twice more are within the allowance of either relation.

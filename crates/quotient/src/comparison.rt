@@ -1,7 +1,6 @@
 //! Whether two systems are equivalent, by one refinement of their union.
 ghost use Rattle.std.specs.Prelude.{◌↔◌, ◌+◌, ◌*◌, length, IsTrue, IfOk, OnOk};
 ghost use Rattle.theory.specs.Bisimulation.{Equivalent};
-ghost use Rattle.theory.specs.Relations.{meant};
 ghost use Rattle.theory.specs.Blocks.{Turns};
 ghost use Rattle.theory.specs.Union.{union_of};
 ghost use Rattle.lts.specs.Meter.{IsFresh, on_ok};
@@ -32,9 +31,9 @@ pub fn equivalent<M: Meter>(
     requires fit { FitTogether a.now b.now }
 
     // Ok: the verdict, and the rounds that one refinement of the union takes.
-    ensures verdict { IfOk result (λ same. IsTrue same ↔ Equivalent (meant r) (system_of a.now) (system_of b.now)) }
+    ensures verdict { IfOk result (λ same. IsTrue same ↔ Equivalent r (system_of a.now) (system_of b.now)) }
     ensures turns { let both = union_of (system_of a.now) (system_of b.now) in
-        OnOk result (Turns (meant r) both (M.counted m.new).rounds) }
+        OnOk result (Turns r both (M.counted m.new).rounds) }
 
     // Ok: one visit of each transition for the union and for each round. Err: no more than these.
     ensures keeps { let at = M.counted m.new in let k = length a.now.places + length b.now.places in

@@ -2,7 +2,6 @@
 ghost use Rattle.std.specs.Prelude.{◌≡◌, ◌↔◌, ℕ, ◌*◌, ◌<◌, ◌≤◌, length, IfOk, OnOk};
 ghost use Rattle.theory.specs.System.{System, IsSystem, Reachable};
 ghost use Rattle.theory.specs.Bisimulation.{Bisimilar, Equivalent};
-ghost use Rattle.theory.specs.Relations.{meant};
 ghost use Rattle.theory.specs.Blocks.{Turns};
 ghost use Rattle.theory.specs.Quotient.{Quotient};
 ghost use Rattle.lts.specs.Meter.{IsFresh, HasRoomFor, Costs, on_ok};
@@ -36,16 +35,16 @@ pub fn minimise<M: Meter>(
     requires fresh { IsFresh (M.counted m.old) }
 
     // Ok: the quotient, and what makes it the smallest system.
-    ensures quotient { IfOk result (λ q. Quotient (meant r) (system_of l.now) (system_of q)) }
-    ensures equivalent { IfOk result (λ q. Equivalent (meant r) (system_of l.now) (system_of q)) }
+    ensures quotient { IfOk result (λ q. Quotient r (system_of l.now) (system_of q)) }
+    ensures equivalent { IfOk result (λ q. Equivalent r (system_of l.now) (system_of q)) }
     ensures no_two_bisimilar { IfOk result (λ q. (s t : ℕ) →
-        Bisimilar (meant r) (system_of q) s (system_of q) t → s ≡ t) }
+        Bisimilar r (system_of q) s (system_of q) t → s ≡ t) }
     ensures smallest { IfOk result (λ q. (B : System) →
-        IsSystem B → Equivalent (meant r) (system_of l.now) B → q.states ≤ B.states) }
+        IsSystem B → Equivalent r (system_of l.now) B → q.states ≤ B.states) }
     ensures no_larger { IfOk result (λ q. (q.states ≤ l.now.states) × (length q.places ≤ length l.now.places)) }
 
     // Ok: the rounds of one refinement. Ok and Err: at most one for each state, and the visits that they allow.
-    ensures turns { OnOk result (Turns (meant r) (system_of l.now) (M.counted m.new).rounds) }
+    ensures turns { OnOk result (Turns r (system_of l.now) (M.counted m.new).rounds) }
     ensures keeps { let at = M.counted m.new in let k = length l.now.places in
         KeepsTo l.now.states k 2 at (on_ok result (at.rounds * k)) }
 {
@@ -71,11 +70,11 @@ fn quotient_of<M: Meter>(
     reached: &[bool],
     m: &mut M,
 ) -> Result<Lts<Counter>, Memory>
-    requires numbering { IsNumbering (meant r) (system_of l.now) numbering.now }
+    requires numbering { IsNumbering r (system_of l.now) numbering.now }
     requires reached_long { length reached.now ≡ l.now.states }
     requires reached { (s : ℕ) → s < l.now.states → IsMarked reached.now s ↔ Reachable (system_of l.now) s }
     requires room { HasRoomFor (M.counted m.old) 0 (length l.now.places) }
-    ensures quotient { IfOk result (λ q. Quotient (meant r) (system_of l.now) (system_of q)) }
+    ensures quotient { IfOk result (λ q. Quotient r (system_of l.now) (system_of q)) }
     ensures fewer_transitions { IfOk result (λ q. length q.places ≤ length l.now.places) }
     ensures visits { Costs (M.counted m.old) (M.counted m.new) 0 0 (length l.now.places) }
 {

@@ -2,7 +2,7 @@
 //! order of the least reachable members.
 ghost use Rattle.std.specs.Prelude.{◌≡◌, ◌↔◌, ℕ, ◌<◌, [], ◌∷◌, ◌++◌, length, IfOk, OnOk};
 ghost use Rattle.theory.specs.System.{Reachable};
-ghost use Rattle.theory.specs.Bisimulation.{Relation};
+ghost use Rattle.theory.specs.declared.relation.Relation.{Relation};
 ghost use Rattle.lts.specs.Lts.{system_of};
 ghost use Rattle.quotient.specs.Marked.{IsMarked};
 ghost use Rattle.quotient.specs.Reading.{AreClasses};

@@ -1,7 +1,6 @@
 //! What differs between the two relations: the refinement, the rows that the quotient is read from, and the label that it
 //! leaves out.
 ghost use Rattle.std.specs.Prelude.{◌≡◌, ◌*◌, length, IfOk, OnOk, OnErr};
-ghost use Rattle.theory.specs.Relations.{meant};
 ghost use Rattle.lts.specs.Meter.{HasRoomFor, CostsUpTo};
 ghost use Rattle.quotient.specs.Bounds.{TakesTurns};
 ghost use Rattle.quotient.specs.Reading.{AreClasses, rows_of, IsDroppedLabel};
@@ -24,8 +23,8 @@ pub(crate) fn blocks<M: Meter>(
 
     // Ok: a block for each state, and the rounds that refinement takes, each of one visit of every transition.
     ensures states { IfOk result (λ p. length p ≡ l.now.states) }
-    ensures classes { IfOk result (λ p. AreClasses (meant r) l.now p) }
-    ensures turns { OnOk result (TakesTurns (meant r) l.now (M.counted m.old) (M.counted m.new)) }
+    ensures classes { IfOk result (λ p. AreClasses r l.now p) }
+    ensures turns { OnOk result (TakesTurns r l.now (M.counted m.old) (M.counted m.new)) }
 
     // Err: no more rounds than states, and no more visits than these cost.
     ensures err { OnErr result (CostsUpTo (M.counted m.old) (M.counted m.new) l.now.states (length l.now.places)) }
@@ -39,7 +38,7 @@ pub(crate) fn blocks<M: Meter>(
 /// The states whose rows show every transition of the quotient, of those that lead their classes and those that are
 /// reachable.
 pub(crate) fn rows<'a>(r: Relation, leads: &'a [bool], reached: &'a [bool]) -> &'a [bool]
-    ensures { result.now ≡ rows_of (meant r) leads.now reached.now }
+    ensures { result.now ≡ rows_of r leads.now reached.now }
 {
     match r {
         Relation::Strong => leads,
@@ -49,7 +48,7 @@ pub(crate) fn rows<'a>(r: Relation, leads: &'a [bool], reached: &'a [bool]) -> &
 
 /// The number of the label that the quotient leaves out between equal numbers, if there is one.
 pub(crate) fn dropped(r: Relation, labels: &Labels) -> Option<u32>
-    ensures { IsDroppedLabel (meant r) labels.now result }
+    ensures { IsDroppedLabel r labels.now result }
 {
     match r {
         Relation::Strong => None,

@@ -3,8 +3,8 @@ use Rattle.std.proofs.Common.{◌≡◌, ◌⊎◌, ◌↔◌, ◌∙◌, ℕ, z
 use Rattle.std.proofs.lemmas.Bool.{false≢true}
 use Rattle.std.specs.List.Sorted.{IsStrictlySortedBy}
 use Rattle.theory.specs.System.{System, IsSystem, Step}
-use Rattle.theory.specs.Bisimulation.{Relation}
-use Rattle.theory.specs.Bisimulation.Relation.{strong, branching}
+use Rattle.theory.specs.declared.relation.Relation.{Relation}
+use Rattle.theory.specs.declared.relation.Relation.TheVariants.{Strong, Branching}
 use Rattle.theory.specs.Blocks.{Signature, SameSignature, SameBlocks, Split}
 use Rattle.theory.proofs.Paths.{step_below}
 use Rattle.lts.specs.Labels.{text_of}
@@ -18,11 +18,11 @@ use Rattle.refine.proofs.Signing.{Labelled, equal_lists}
 
 -- before the first round every number is new
 pub settled_first : (rel : Relation) (A : System) (blocks : ℕ → ℕ) → Settled rel A blocks 0
-settled_first strong A blocks s t ls lt e of_s of_t a b = (
+settled_first Strong A blocks s t ls lt e of_s of_t a b = (
   λ h. absurd (omega (arith, of_s a h.0 h.1)),
   λ h. absurd (omega (arith, of_t a h.0 h.1)),
 )
-settled_first branching A blocks s t ls lt e of_s of_t a b = absurd of_s
+settled_first Branching A blocks s t ls lt e of_s of_t a b = absurd of_s
 
 -- numbers below low are old ones
 abbrev pub Stays : System → (ℕ → ℕ) → (ℕ → ℕ) → ℕ → Type 0
@@ -30,13 +30,13 @@ Stays A old new low = (s : ℕ) → s < A.states → new s < low → new s ≡ o
 
 module _ (A : System) (old new : ℕ → ℕ) (low : ℕ) (inside : (s : ℕ) (a : List ℕ) (t : ℕ) → Step A s a t → t < A.states) (stays : Stays A old new low) where
   -- what a still state shows now it has shown before, and the other way round
-  shown_before : (s : ℕ) → IsStill strong A new low s → (a : List ℕ) (b : ℕ) → Signature strong A new s a b → Signature strong A old s a b
+  shown_before : (s : ℕ) → IsStill Strong A new low s → (a : List ℕ) (b : ℕ) → Signature Strong A new s a b → Signature Strong A old s a b
   shown_before s still a b h = (h.0, h.1, sym (stays h.0 (inside s a h.0 h.1) (still a h.0 h.1)) ∙ h.2)
 
-  shown_now : (s : ℕ) → IsStill strong A new low s → (a : List ℕ) (b : ℕ) → Signature strong A old s a b → Signature strong A new s a b
+  shown_now : (s : ℕ) → IsStill Strong A new low s → (a : List ℕ) (b : ℕ) → Signature Strong A old s a b → Signature Strong A new s a b
   shown_now s still a b h = (h.0, h.1, stays h.0 (inside s a h.0 h.1) (still a h.0 h.1) ∙ h.2)
 
-  settled_strong : Split strong A old new → Settled strong A new low
+  settled_strong : Split Strong A old new → Settled Strong A new low
   settled_strong split s t ls lt e of_s of_t a b =
       let before = ((split s t ls lt).0 e).1 in (
         λ h. shown_now t of_t a b ((before a b).0 (shown_before s of_s a b h)),
@@ -46,27 +46,27 @@ module _ (A : System) (old new : ℕ → ℕ) (low : ℕ) (inside : (s : ℕ) (a
 -- after each round the numbers from the count before it on are new
 pub settled_next : (rel : Relation) (A : System) (old new : ℕ → ℕ) (low : ℕ)
     → ((s : ℕ) (a : List ℕ) (t : ℕ) → Step A s a t → t < A.states) → Stays A old new low → Split rel A old new → Settled rel A new low
-settled_next strong A old new low inside stays split = settled_strong A old new low inside stays split
-settled_next branching A old new low inside stays split = λ s t ls lt e of_s of_t. absurd of_s
+settled_next Strong A old new low inside stays split = settled_strong A old new low inside stays split
+settled_next Branching A old new low inside stays split = λ s t ls lt e of_s of_t. absurd of_s
 
 -- a touched state has another signature than a still one, and not an empty one
 module _ (A : System) (blocks : ℕ → ℕ) (low s t : ℕ) where
   pub differs : (rel : Relation) → IsTouched rel A blocks low s → IsStill rel A blocks low t → SameSignature rel A blocks s t → ⊥
-  differs strong touched still same =
+  differs Strong touched still same =
       let h = (same touched.0 (blocks touched.1)).0 (touched.1, touched.2, refl) in
       absurd (omega (arith, still touched.0 h.0 h.1, h.2, touched.3))
-  differs branching touched still same = still
+  differs Branching touched still same = still
 
 -- the list of a touched state is not empty, if some state is still
 not_empty : (rel : Relation) (l : Grouped) (labelled : Labelled l) (blocks : List ℕ) (low s t : ℕ) (xs : List (ℕ × ℕ))
     → IsTouched rel (system_of l) (slice_index blocks) low s → IsSignature rel l blocks s xs
     → IsStill rel (system_of l) (slice_index blocks) low t → xs ≡ [] → ⊥
-not_empty strong l labelled blocks low s t xs touched signed still e =
+not_empty Strong l labelled blocks low s t xs touched signed still e =
     let number = labelled s touched.0 touched.1 touched.2 in
-    let pair : HasPair strong l blocks s number.0 (slice_index blocks touched.1) = (number.1.below, (touched.1, subst (λ a. Step (system_of l) s a touched.1) (sym number.1.text) touched.2, refl)) in
+    let pair : HasPair Strong l blocks s number.0 (slice_index blocks touched.1) = (number.1.below, (touched.1, subst (λ a. Step (system_of l) s a touched.1) (sym number.1.text) touched.2, refl)) in
     let c = subst (λ zs. Contains zs (number.0, slice_index blocks touched.1)) e ((signed.exactly number.0 (slice_index blocks touched.1)).1 pair) in
     absurd (omega (arith, c.1))
-not_empty branching l labelled blocks low s t xs touched signed still e = still
+not_empty Branching l labelled blocks low s t xs touched signed still e = still
 
 module _ (rel : Relation) (l : Grouped) (labelled : Labelled l) (p : List ℕ) (low : ℕ) (states : length p ≡ l.states)
     (settled : Settled rel (system_of l) (slice_index p) low) (signature : ℕ → List (ℕ × ℕ)) (alone : ℕ → Type 0)
@@ -179,11 +179,11 @@ put_whole rel l p s list alone none (inr x) = empty rel x.1
   where
     empty : (r : Relation) → IsStill r (system_of l) (slice_index p) 0 s ⊎ alone → IsSignature r l p s list
     empty r (inr a) = absurd (none a)
-    empty strong (inl still) = subst (IsSignature strong l p s) (sym x.0) (record {
+    empty Strong (inl still) = subst (IsSignature Strong l p s) (sym x.0) (record {
       exactly = λ k b. (λ c. absurd (omega (arith, c.1)), λ h. absurd (omega (arith, still (text_of l.labels k) h.1.0 h.1.1)));
       rising = rises_empty;
     })
-    empty branching (inl still) = absurd still
+    empty Branching (inl still) = absurd still
 
 -- in no list is anything said to be alone
 pub none_alone : (b : ℕ) → IsTrue (slice_index_or [] b false) → ⊥

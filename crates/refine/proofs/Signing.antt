@@ -1,8 +1,8 @@
 -- Two states have equal lists as their signatures exactly where they have the same signature.
 use Rattle.std.proofs.Common.{◌≡◌, ◌↔◌, ℕ, ◌<◌, List, slice_index, Contains, sym, subst}
 use Rattle.theory.specs.System.{Step}
-use Rattle.theory.specs.Bisimulation.{Relation}
-use Rattle.theory.specs.Bisimulation.Relation.{strong, branching}
+use Rattle.theory.specs.declared.relation.Relation.{Relation}
+use Rattle.theory.specs.declared.relation.Relation.TheVariants.{Strong, Branching}
 use Rattle.theory.specs.Blocks.{Signature, SameSignature, Split}
 use Rattle.lts.specs.Labels.{text_of, IsNumber}
 use Rattle.lts.specs.Lts.{Grouped, system_of}
@@ -18,8 +18,8 @@ module _ (l : Grouped) (labelled : Labelled l) (blocks : ℕ → ℕ) where
   -- and each label of a signature
   label_number : (rel : Relation) (s : ℕ) (a : List ℕ) (b : ℕ) → Signature rel (system_of l) blocks s a b
       → (k : ℕ) × IsNumber l.labels k a
-  label_number strong s a b h = labelled s a h.0 h.1
-  label_number branching s a b h = labelled h.0 a h.1 h.3
+  label_number Strong s a b h = labelled s a h.0 h.1
+  label_number Branching s a b h = labelled h.0 a h.1 h.3
 
 module _ (rel : Relation) (l : Grouped) (labelled : Labelled l) (blocks : List ℕ) (s t : ℕ) (xs ys : List (ℕ × ℕ))
     (of_s : IsSignature rel l blocks s xs) (of_t : IsSignature rel l blocks t ys) where

@@ -11,7 +11,7 @@ abbrev pub each_list : List (List (ℕ × ℕ)) → List ℕ → List (List (ℕ
 each_list lists numbers = map (list_at lists) numbers
 
 -- lists and their numbers for 1 to 2,000,000 states
-pub record AreNumbered (lists : List (List (ℕ × ℕ))) (numbers : List ℕ) : Type 0 where
+pub record AreListsOfStates (lists : List (List (ℕ × ℕ))) (numbers : List ℕ) : Type 0 where
   pub each : AreNumbers lists numbers
   pub some : 1 ≤ length numbers
   pub few : length numbers ≤ 2000000
@@ -19,4 +19,4 @@ pub record AreNumbered (lists : List (List (ℕ × ℕ))) (numbers : List ℕ) :
 -- the lists of a round, each whole, and the numbers of the states' lists
 pub record AreLent (whole lists : List (List (ℕ × ℕ))) (numbers : List ℕ) : Type 0 where
   pub same : whole ≡ lists
-  pub numbered : AreNumbered lists numbers
+  pub numbered : AreListsOfStates lists numbers

@@ -3,21 +3,21 @@
 use Rattle.std.specs.Prelude.{◌≡◌, ◌⊎◌, ℕ, ◌<◌, ◌≤◌, Bool, false, IsTrue, List, [], slice_index, slice_index_or}
 use Rattle.std.specs.List.{Contains}
 use Rattle.theory.specs.System.{System, Step}
-use Rattle.theory.specs.Bisimulation.{Relation}
-use Rattle.theory.specs.Bisimulation.Relation.{strong, branching}
+use Rattle.theory.specs.declared.relation.Relation.{Relation}
+use Rattle.theory.specs.declared.relation.Relation.TheVariants.{Strong, Branching}
 use Rattle.theory.specs.Blocks.{SameSignature, EachTwo}
 use Rattle.lts.specs.Lts.{Grouped, system_of}
 use Rattle.inert.specs.Signed.{IsSignature}
 
 -- the signature of s has a new number (branching: it may have one)
 abbrev pub IsTouched : Relation → System → (ℕ → ℕ) → ℕ → ℕ → Type 0
-IsTouched strong A blocks low s = (a : List ℕ) × (t : ℕ) × Step A s a t × (low ≤ blocks t)
-IsTouched branching A blocks low s = Unit {0}
+IsTouched Strong A blocks low s = (a : List ℕ) × (t : ℕ) × Step A s a t × (low ≤ blocks t)
+IsTouched Branching A blocks low s = Unit {0}
 
 -- no step of s leads to a new number (branching: this is not looked for)
 abbrev pub IsStill : Relation → System → (ℕ → ℕ) → ℕ → ℕ → Type 0
-IsStill strong A blocks low s = (a : List ℕ) (t : ℕ) → Step A s a t → blocks t < low
-IsStill branching A blocks low s = ⊥
+IsStill Strong A blocks low s = (a : List ℕ) (t : ℕ) → Step A s a t → blocks t < low
+IsStill Branching A blocks low s = ⊥
 
 -- states of one block that are still have equal signatures
 abbrev pub Settled : Relation → System → (ℕ → ℕ) → ℕ → Type 0

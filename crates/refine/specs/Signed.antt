@@ -1,8 +1,8 @@
 -- Signatures in memory: each state's pairs of a label number and a block, in rising order.
 use Rattle.std.specs.Prelude.{◌≡◌, ℕ, List, [], ◌++◌, length}
 use Rattle.std.specs.List.{slice_index_or}
-use Rattle.theory.specs.Bisimulation.{Relation}
-use Rattle.theory.specs.Bisimulation.Relation.{strong, branching}
+use Rattle.theory.specs.declared.relation.Relation.{Relation}
+use Rattle.theory.specs.declared.relation.Relation.TheVariants.{Strong, Branching}
 use Rattle.lts.specs.Lts.{Grouped, row_of}
 use Rattle.inert.specs.Signed.{IsSignature}
 
@@ -20,5 +20,5 @@ signature_at signatures s = slice_index_or signatures s []
 
 -- the most visits of one signature: of the state's transitions for strong, of all for branching
 abbrev pub most_visits : Relation → Grouped → ℕ → ℕ
-most_visits strong l s = length (row_of s l.places)
-most_visits branching l s = length l.places
+most_visits Strong l s = length (row_of s l.places)
+most_visits Branching l s = length l.places

@@ -1,6 +1,6 @@
 //! Branching bisimulation: a state's signature has what the transitions show that inert steps lead to, and the blocks that
 //! they lead to.
-ghost use Rattle.theory.specs.Bisimulation.Relation.{branching};
+ghost use Rattle.theory.specs.declared.relation.Relation.TheVariants.{Branching as branching};
 
 use crate::marks::Marks;
 use crate::sense::Sense;

@@ -4,8 +4,8 @@ ghost use Rattle.theory.specs.Bisimulation.{Bisimilar};
 ghost use Rattle.theory.specs.Blocks.{Split, Turns, EachTwo};
 ghost use Rattle.lts.specs.Meter.{HasRoomFor, Costs, CostsUpTo};
 ghost use Rattle.lts.specs.Lts.{system_of};
-ghost use Rattle.partition.specs.Partition.{AreBlocks, IsNumbered};
-ghost use Rattle.refine.specs.EachList.{AreNumbered};
+ghost use Rattle.partition.specs.Partition.{AreBlocks, IsSomePartition};
+ghost use Rattle.refine.specs.EachList.{AreListsOfStates};
 ghost use Rattle.refine.specs.Settled.{Settled};
 ghost use Rattle.refine.specs.Rounds.{IsNext};
 
@@ -33,7 +33,7 @@ pub fn round<S: Sense, M: Meter>(
     // Once it is done
     ensures states { IfOk result (λ q. length q ≡ l.now.states) }
     ensures split { IfOk result (λ q. Split S.relation (system_of l.now) (slice_index p.now) (slice_index q)) }
-    ensures numbered { IfOk result IsNumbered }
+    ensures numbered { IfOk result IsSomePartition }
     ensures costs { let n = length l.now.places in OnOk result (Costs (M.counted m.old) (M.counted m.new) 1 n n) }
 
     // After a refusal
@@ -62,7 +62,7 @@ fn round_in<S: Sense, M: Meter>(
     // Once it is done
     ensures states { IfOk result (λ q. length q ≡ l.now.states) }
     ensures split { IfOk result (λ q. Split S.relation (system_of l.now) (slice_index p.now) (slice_index q)) }
-    ensures numbered { IfOk result IsNumbered }
+    ensures numbered { IfOk result IsSomePartition }
     ensures costs { let n = length l.now.places in OnOk result (Costs (M.counted m.old) (M.counted m.new) 1 n n) }
 
     // After a refusal
@@ -87,7 +87,7 @@ pub fn refine<S: Sense, M: Meter>(alloc: Global, l: &Lts<M>, m: &mut M) -> Resul
     ensures states { IfOk result (λ p. length p ≡ l.now.states) }
     ensures bisimilar { let A = system_of l.now in IfOk result (λ p. EachTwo A (λ s t.
         (slice_index p s ≡ slice_index p t) ↔ Bisimilar S.relation A s A t)) }
-    ensures numbered { IfOk result IsNumbered }
+    ensures numbered { IfOk result IsSomePartition }
     ensures turns { let n = length l.now.places in OnOk result ((r : ℕ) × (r ≤ l.now.states)
         × Turns S.relation (system_of l.now) r × Costs (M.counted m.old) (M.counted m.new) r (r * n) (r * n)) }
 
@@ -111,7 +111,7 @@ fn refine_in<S: Sense, M: Meter>(
     m: &mut M,
 ) -> Result<Partition, Memory>
     requires marks { marks.old ≡ l.now.states }
-    requires lists { AreNumbered signatures.old.lists signatures.old.numbers.items }
+    requires lists { AreListsOfStates signatures.old.lists signatures.old.numbers.items }
     requires signatures { length signatures.old.numbers.items ≡ l.now.states }
     requires room { HasRoomFor (M.counted m.old) l.now.states (l.now.states * length l.now.places) }
 
@@ -119,7 +119,7 @@ fn refine_in<S: Sense, M: Meter>(
     ensures states { IfOk result (λ p. length p ≡ l.now.states) }
     ensures bisimilar { let A = system_of l.now in IfOk result (λ p. EachTwo A (λ s t.
         (slice_index p s ≡ slice_index p t) ↔ Bisimilar S.relation A s A t)) }
-    ensures numbered { IfOk result IsNumbered }
+    ensures numbered { IfOk result IsSomePartition }
     ensures turns { let n = length l.now.places in OnOk result ((r : ℕ) × (r ≤ l.now.states)
         × Turns S.relation (system_of l.now) r × Costs (M.counted m.old) (M.counted m.new) r (r * n) (r * n)) }
 
@@ -158,7 +158,7 @@ fn next_round<S: Sense, M: Meter>(
     requires blocks { AreBlocks p.now count }
     requires settled { Settled S.relation (system_of l.now) (slice_index p.now) low }
     requires marks { marks.old ≡ l.now.states }
-    requires lists { AreNumbered signatures.old.lists signatures.old.numbers.items }
+    requires lists { AreListsOfStates signatures.old.lists signatures.old.numbers.items }
     requires signatures { length signatures.old.numbers.items ≡ l.now.states }
     requires room { HasRoomFor (M.counted m.old) 1 (length l.now.places) }
 
@@ -171,7 +171,7 @@ fn next_round<S: Sense, M: Meter>(
 
     // In either case
     ensures marks { marks.new ≡ marks.old }
-    ensures lists { AreNumbered signatures.new.lists signatures.new.numbers.items }
+    ensures lists { AreListsOfStates signatures.new.lists signatures.new.numbers.items }
     ensures signatures { length signatures.new.numbers.items ≡ length signatures.old.numbers.items }
 {
     lts::rows_are_steps();

@@ -2,7 +2,7 @@
 ghost use Rattle.std.specs.Prelude.{◌≡◌, ◌≤◌, [], ◌∷◌, length, IfOk, OnOk};
 ghost use Rattle.lts.specs.Meter.{HasRoomFor, Visits};
 ghost use Rattle.partition.specs.Partition.{AreBlocks};
-ghost use Rattle.refine.specs.EachList.{list_of, AreNumbered};
+ghost use Rattle.refine.specs.EachList.{list_of, AreListsOfStates};
 ghost use Rattle.refine.specs.Settled.{ArePut};
 ghost use Rattle.partition.specs.Splitting.{Splits};
 
@@ -38,7 +38,7 @@ impl RoundSignatures {
     pub fn new(alloc: Global, states: u32) -> Result<RoundSignatures, Memory>
         requires some { 1 ≤ states }
         requires few { states ≤ 2000000 }
-        ensures numbered { IfOk result (λ r. AreNumbered r.lists r.numbers.items) }
+        ensures numbered { IfOk result (λ r. AreListsOfStates r.lists r.numbers.items) }
         ensures lists { IfOk result (λ r. r.lists ≡ [] ∷ []) }
         ensures states { IfOk result (λ r. length r.numbers.items ≡ states) }
     {
@@ -52,8 +52,8 @@ impl RoundSignatures {
 
     /// Makes each signature empty.
     pub fn clear(&mut self)
-        requires { AreNumbered self.old.lists self.old.numbers.items }
-        ensures numbered { AreNumbered self.new.lists self.new.numbers.items }
+        requires { AreListsOfStates self.old.lists self.old.numbers.items }
+        ensures numbered { AreListsOfStates self.new.lists self.new.numbers.items }
         ensures lists { self.new.lists ≡ [] ∷ [] }
         ensures states { length self.new.numbers.items ≡ length self.old.numbers.items }
     {
@@ -76,7 +76,7 @@ impl RoundSignatures {
     ) -> Result<(), Memory>
         requires blocks { length p.now ≡ l.now.states }
         requires marks { marks.old ≡ l.now.states }
-        requires numbered { AreNumbered self.old.lists self.old.numbers.items }
+        requires numbered { AreListsOfStates self.old.lists self.old.numbers.items }
         requires states { length self.old.numbers.items ≡ l.now.states }
         requires room { HasRoomFor (M.counted m.old) 0 (length l.now.places) }
 
@@ -86,7 +86,7 @@ impl RoundSignatures {
         // In either case
         ensures visits { let n = length l.now.places in Visits M.counted m.old m.new result n n }
         ensures marks { marks.new ≡ marks.old }
-        ensures numbered { AreNumbered self.new.lists self.new.numbers.items }
+        ensures numbered { AreListsOfStates self.new.lists self.new.numbers.items }
         ensures states { length self.new.numbers.items ≡ length self.old.numbers.items }
     {
         self.clear();
@@ -108,7 +108,7 @@ impl RoundSignatures {
     /// Fails if there is no memory for it.
     pub fn split(&self, p: &[u32], count: u32) -> Result<Blocks, Memory>
         requires blocks { AreBlocks p.now count }
-        requires numbered { AreNumbered self.now.lists self.now.numbers.items }
+        requires numbered { AreListsOfStates self.now.lists self.now.numbers.items }
         requires states { length p.now ≡ length self.now.numbers.items }
         ensures { IfOk result (λ q. Splits p.now count (list_of self.now.lists self.now.numbers.items) q.of.items q.count) }
     {

@@ -1,6 +1,6 @@
 //! What a relation looks at: the signatures of the states.
 ghost use Rattle.std.specs.Prelude.{◌≡◌, ℕ, ◌<◌, [], ◌∷◌, length, OnOk, OnErr};
-ghost use Rattle.theory.specs.Bisimulation.{Relation};
+ghost use Rattle.theory.specs.declared.relation.Relation.{Relation};
 ghost use Rattle.lts.specs.Meter.{HasRoomFor, Visits};
 ghost use Rattle.lts.specs.Lts.{row_of};
 ghost use Rattle.lists.specs.Lists.{AreNumbers};

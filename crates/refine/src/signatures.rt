@@ -1,7 +1,7 @@
 //! The signatures of the states in memory.
 ghost use Rattle.std.specs.Prelude.{◌≡◌, ◌↔◌, ℕ, ◌<◌, ◌≤◌, [], ◌∷◌, length, slice_index, IfOk, OnOk};
 ghost use Rattle.lts.specs.Meter.{HasRoomFor, Visits};
-ghost use Rattle.partition.specs.Partition.{IsNumbered};
+ghost use Rattle.partition.specs.Partition.{IsSomePartition};
 ghost use Rattle.inert.specs.Signed.{IsSignature};
 ghost use Rattle.refine.specs.Signed.{signature_at};
 
@@ -113,7 +113,7 @@ impl Signatures {
         ensures blocks { IfOk result (λ q. (s t : ℕ) → s < length p.now → t < length p.now →
             (slice_index q s ≡ slice_index q t)
             ↔ ((slice_index p.now s ≡ slice_index p.now t) × (signature_at self.now s ≡ signature_at self.now t))) }
-        ensures numbered { IfOk result IsNumbered }
+        ensures numbered { IfOk result IsSomePartition }
     {
         let parts = self.round.split(p.blocks(), p.count())?;
         renumber(self.alloc, &parts.of, parts.count)

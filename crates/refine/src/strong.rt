@@ -1,6 +1,6 @@
 //! Strong bisimulation: a state's signature has what its transitions show, and the blocks that they lead to.
 ghost use Rattle.std.specs.Prelude.{◌≡◌, ◌↔◌, ℕ, ◌+◌, ◌<◌, ◌≤◌, false, length, map, slice_index, slice_index_or, IsTrue, IfOk, OnOk};
-ghost use Rattle.theory.specs.Bisimulation.Relation.{strong};
+ghost use Rattle.theory.specs.declared.relation.Relation.TheVariants.{Strong as strong};
 ghost use Rattle.lts.specs.Meter.{HasRoomFor, Visits};
 ghost use Rattle.lts.specs.Lts.{row_of};
 ghost use Rattle.lists.specs.Lists.{list_at, Grow};

@@ -1,7 +1,8 @@
 -- Systems that have the same steps have the same leaders, numbers and quotients.
 use Rattle.std.proofs.Common.{◌≢◌, ◌↔◌, ℕ, ◌<◌, sym, ◌∙◌, subst, inl, inr}
 use Rattle.theory.specs.System.{System, Transition}
-use Rattle.theory.specs.Bisimulation.{Relation, Bisimilar}
+use Rattle.theory.specs.Bisimulation.{Bisimilar}
+use Rattle.theory.specs.declared.relation.Relation.{Relation}
 use Rattle.theory.specs.Quotient.{Least, Fellow, Leader, IsLeader, Number, Stands, Quotient}
 use Rattle.theory.specs.Alike.{SameSteps}
 use Rattle.theory.proofs.Tally.{how_many_like}

@@ -3,8 +3,9 @@ use Rattle.std.proofs.Common.{◌≡◌, ◌↔◌, ℕ, zero, suc, ◌<◌, Lis
 use Rattle.std.specs.List.Sorted.{IsPermutation}
 use Rattle.std.proofs.lemmas.List.Sorted.{IsPermutation-sym, Contains-permutation}
 use Rattle.theory.specs.System.{System, Transition, Internal, AnyStep, Leads, Silent, Reachable, internal}
-use Rattle.theory.specs.Bisimulation.{Relation, Answers, IsBisimulation, Pairs, Bisimilar, Equivalent}
-use Rattle.theory.specs.Bisimulation.Relation.{strong, branching}
+use Rattle.theory.specs.Bisimulation.{Answers, IsBisimulation, Pairs, Bisimilar, Equivalent}
+use Rattle.theory.specs.declared.relation.Relation.{Relation}
+use Rattle.theory.specs.declared.relation.Relation.TheVariants.{Strong, Branching}
 use Rattle.theory.specs.Blocks.{Inert, Signature, SameSignature, EachTwo, Split, After, ChangesNothing, Turns}
 use Rattle.theory.specs.Alike.{SameSteps}
 use Rattle.theory.proofs.Paths.{leads_map}
@@ -45,10 +46,10 @@ reachable_alike A B same s path =
 -- the same answers
 answers_alike : (rel : Relation) (A B C D : System) → SameSteps A B → SameSteps C D → (R : ℕ → ℕ → Type 0) (s t : ℕ)
     → Answers rel A C R s t → Answers rel B D R s t
-answers_alike strong A B C D one other R s t answers = λ a s' step.
+answers_alike Strong A B C D one other R s t answers = λ a s' step.
     let found = answers a s' ((one.steps s a s').1 step) in
     (found.0, (other.steps t a found.0).0 found.1, found.2)
-answers_alike branching A B C D one other R s t answers = λ a s' step.
+answers_alike Branching A B C D one other R s t answers = λ a s' step.
     elim (answers a s' ((one.steps s a s').1 step)) [
       | inl rests ↦ inl rests
       | inr goes ↦ inr (
@@ -85,8 +86,8 @@ equivalent_alike rel A B C same b =
 -- the same signatures
 signature_alike : (rel : Relation) (A B : System) → SameSteps A B → (blocks : ℕ → ℕ) (s : ℕ) (a : List ℕ) (b : ℕ)
     → Signature rel A blocks s a b → Signature rel B blocks s a b
-signature_alike strong A B same blocks s a b (t, step, at) = (t, (same.steps s a t).0 step, at)
-signature_alike branching A B same blocks s a b (u, t, path, step, at, shown) = (
+signature_alike Strong A B same blocks s a b (t, step, at) = (t, (same.steps s a t).0 step, at)
+signature_alike Branching A B same blocks s a b (u, t, path, step, at, shown) = (
   u,
   t,
   leads_map (Inert A blocks) (Inert B blocks) (λ x y r. ((same.steps x internal y).0 r.0, r.1)) s u path,

@@ -2,8 +2,9 @@
 -- states bisimilar.
 use Rattle.std.proofs.Common.{◌≡◌, ◌⊎◌, ◌↔◌, ℕ, ◌+◌, ◌<◌, List, refl, subst, inl, inr, arith}
 use Rattle.theory.specs.System.{System, IsSystem, Internal}
-use Rattle.theory.specs.Bisimulation.{Relation, Answers, IsBisimulation, Pairs, Bisimilar}
-use Rattle.theory.specs.Bisimulation.Relation.{strong, branching}
+use Rattle.theory.specs.Bisimulation.{Answers, IsBisimulation, Pairs, Bisimilar}
+use Rattle.theory.specs.declared.relation.Relation.{Relation}
+use Rattle.theory.specs.declared.relation.Relation.TheVariants.{Strong, Branching}
 use Rattle.theory.proofs.Paths.{leads_here, step_below}
 use Rattle.theory.proofs.Deciding.{same_number, both, decided_like, some_in}
 use Rattle.theory.proofs.Listing.{pairs_listed}
@@ -12,10 +13,10 @@ use Rattle.theory.proofs.Listing.{pairs_listed}
 pub answers_weaker :
     (rel : Relation) (A B : System) (R S : ℕ → ℕ → Type 0) → ((s t : ℕ) → R s t → S s t) →
     (s t : ℕ) → Answers rel A B R s t → Answers rel A B S s t
-answers_weaker strong A B R S wider s t answers = λ a s' step.
+answers_weaker Strong A B R S wider s t answers = λ a s' step.
     let found = answers a s' step in
     (found.0, found.1, wider s' found.0 found.2)
-answers_weaker branching A B R S wider s t answers = λ a s' step.
+answers_weaker Branching A B R S wider s t answers = λ a s' step.
     elim (answers a s' step) [
       | inl rests ↦ inl (rests.0, wider s' t rests.1)
       | inr goes ↦ inr (goes.0, goes.1, goes.2, goes.3, wider s goes.0 goes.4, wider s' goes.1 goes.5)
@@ -25,8 +26,8 @@ answers_weaker branching A B R S wider s t answers = λ a s' step.
 pub answers_itself :
     (rel : Relation) (A : System) (R : ℕ → ℕ → Type 0) → IsSystem A → ((s : ℕ) → s < A.states → R s s) →
     (s : ℕ) → s < A.states → Answers rel A A R s s
-answers_itself strong A R system itself s below = λ a s' step. (s', step, itself s' (step_below A system s a s' step).1)
-answers_itself branching A R system itself s below = λ a s' step.
+answers_itself Strong A R system itself s below = λ a s' step. (s', step, itself s' (step_below A system s a s' step).1)
+answers_itself Branching A R system itself s below = λ a s' step.
     inr (s, s', leads_here (Internal A) s, step, itself s below, itself s' (step_below A system s a s' step).1)
 
 -- related by R, or the same state of A

@@ -2,16 +2,16 @@
 use Rattle.std.proofs.Common.{◌≡◌, ℕ, List, [], ◌∷◌, refl, sym, subst, inl, inr}
 use Rattle.theory.specs.System.{System, Step, Internal, Along, Silent}
 use Rattle.theory.specs.Bisimulation.{Answers, IsBisimulation}
-use Rattle.theory.specs.Bisimulation.Relation.{strong, branching}
+use Rattle.theory.specs.declared.relation.Relation.TheVariants.{Strong, Branching}
 
 answers_strongly :
-    (A B : System) (R : ℕ → ℕ → Type 0) (s t : ℕ) → R s t → Answers strong A B R s t → Answers branching A B R s t
+    (A B : System) (R : ℕ → ℕ → Type 0) (s t : ℕ) → R s t → Answers Strong A B R s t → Answers Branching A B R s t
 answers_strongly A B R s t r answer = λ x s' step.
     let found = answer x s' step in
     inr (t, found.0, ([], refl), found.1, r, found.2)
 
 -- a strong bisimulation is a branching one
-pub strong_is_branching : (A B : System) (R : ℕ → ℕ → Type 0) → IsBisimulation strong A B R → IsBisimulation branching A B R
+pub strong_is_branching : (A B : System) (R : ℕ → ℕ → Type 0) → IsBisimulation Strong A B R → IsBisimulation Branching A B R
 strong_is_branching A B R meets = record {
   states = meets.states;
   forth = λ s t r. answers_strongly A B R s t r (meets.forth s t r);
@@ -28,7 +28,7 @@ stays B none s t path = go path.0 s path.1
 
 answers_visibly :
     (A B : System) (R : ℕ → ℕ → Type 0) → ((s t : ℕ) → ¬ Internal A s t) → ((s t : ℕ) → ¬ Internal B s t) →
-    (s t : ℕ) → Answers branching A B R s t → Answers strong A B R s t
+    (s t : ℕ) → Answers Branching A B R s t → Answers Strong A B R s t
 answers_visibly A B R none none' s t answer = λ x s' step. elim (answer x s' step) [
   | inl rests ↦ absurd (none s s' (subst (λ z. Step A s z s') rests.0 step))
   | inr moves ↦ (
@@ -39,7 +39,7 @@ answers_visibly A B R none none' s t answer = λ x s' step. elim (answer x s' st
 -- a branching bisimulation of systems with no internal step is a strong one
 pub branching_is_strong :
     (A B : System) (R : ℕ → ℕ → Type 0) → ((s t : ℕ) → ¬ Internal A s t) → ((s t : ℕ) → ¬ Internal B s t) →
-    IsBisimulation branching A B R → IsBisimulation strong A B R
+    IsBisimulation Branching A B R → IsBisimulation Strong A B R
 branching_is_strong A B R none none' meets = record {
   states = meets.states;
   forth = λ s t r. answers_visibly A B R none none' s t (meets.forth s t r);

@@ -6,7 +6,7 @@ use Rattle.std.proofs.lemmas.Bool.Decides.{Decides-eqb, Decides-and, not_from_De
 use Rattle.std.proofs.lemmas.Slice.Eq.{bytes_eq-Decides}
 use Rattle.theory.specs.System.{System, IsSystem, Step, Internal, Along, Leads, Silent, internal}
 use Rattle.theory.specs.Bisimulation.{IsBisimulation, BranchingAnswers}
-use Rattle.theory.specs.Bisimulation.Relation.{branching}
+use Rattle.theory.specs.declared.relation.Relation.TheVariants.{Branching}
 use Rattle.theory.specs.Blocks.{Inert, Signature, SameSignature, Split, Kept, Stable, Share, OneBlock}
 use Rattle.theory.proofs.Paths.{leads_here, leads_step, leads_append, leads_on, leads_answered, leads_keeps, leads_map, step_below, silent_below}
 
@@ -21,7 +21,7 @@ module _ (A : System) (blocks : ℕ → ℕ) where
 
   -- a silent path between states of one kept block is inert
   pub silent_inert :
-      IsSystem A → Kept branching A blocks →
+      IsSystem A → Kept Branching A blocks →
       (s t : ℕ) → s < A.states → Silent A s t → blocks s ≡ blocks t → Leads (Inert A blocks) s t
   silent_inert system kept s t below path same = go s path.0 below path.1 same
     where
@@ -37,7 +37,7 @@ module _ (A : System) (blocks : ℕ → ℕ) where
   -- what a state can do, each state can do that leads to it by inert steps
   pub signature_before :
       (s t : ℕ) → Leads (Inert A blocks) s t →
-      (a : List ℕ) (b : ℕ) → Signature branching A blocks t a b → Signature branching A blocks s a b
+      (a : List ℕ) (b : ℕ) → Signature Branching A blocks t a b → Signature Branching A blocks s a b
   signature_before s t path a b can = (
     can.0,
     can.1,
@@ -48,13 +48,13 @@ module _ (A : System) (blocks : ℕ → ℕ) where
   )
 
 -- one block of all states is kept
-pub branching_one_block : (A : System) (blocks : ℕ → ℕ) → IsSystem A → OneBlock A blocks → Kept branching A blocks
+pub branching_one_block : (A : System) (blocks : ℕ → ℕ) → IsSystem A → OneBlock A blocks → Kept Branching A blocks
 branching_one_block A blocks system one s u t below su ut same = one u s (silent_below A system s u su below) below
 
 -- the Split of kept blocks is kept
 pub branching_split :
     (A : System) (old new : ℕ → ℕ) →
-    IsSystem A → Kept branching A old → Split branching A old new → Kept branching A new
+    IsSystem A → Kept Branching A old → Split Branching A old new → Kept Branching A new
 branching_split A old new system kept split s u t below su ut same =
     let u_below = silent_below A system s u su below in
     let t_below = silent_below A system u t ut u_below in
@@ -68,8 +68,8 @@ branching_split A old new system kept split s u t below su ut same =
     )
 
 -- states of A that are related to one state of B have equal signatures, if all such states share kept blocks
-module _ (A B : System) (blocks : ℕ → ℕ) (R : ℕ → ℕ → Type 0) (system : IsSystem A) (kept : Kept branching A blocks)
-    (bisimulation : IsBisimulation branching A B R) (shared : (s t x : ℕ) → R s x → R t x → blocks s ≡ blocks t) where
+module _ (A B : System) (blocks : ℕ → ℕ) (R : ℕ → ℕ → Type 0) (system : IsSystem A) (kept : Kept Branching A blocks)
+    (bisimulation : IsBisimulation Branching A B R) (shared : (s t x : ℕ) → R s x → R t x → blocks s ≡ blocks t) where
   -- both are related to one state of B
   abbrev Together : ℕ → ℕ → Type 0
   Together s t = (x : ℕ) × R s x × R t x
@@ -138,7 +138,7 @@ module _ (A B : System) (blocks : ℕ → ℕ) (R : ℕ → ℕ → Type 0) (sys
   -- what a state can do, each state can do that is together with it
   branching_within :
       (s t : ℕ) → Together s t →
-      (a : List ℕ) (b : ℕ) → Signature branching A blocks s a b → Signature branching A blocks t a b
+      (a : List ℕ) (b : ℕ) → Signature Branching A blocks s a b → Signature Branching A blocks t a b
   branching_within s t both a b can =
       let near = inert_path_followed s can.0 t can.2 both in
       let at_near = sym (together_share can.0 near.0 near.2) ∙ inert_same A blocks s can.0 can.2 in
@@ -156,7 +156,7 @@ module _ (A B : System) (blocks : ℕ → ℕ) (R : ℕ → ℕ → Type 0) (sys
         )
       ]
 
-  pub branching_same : (s t x : ℕ) → R s x → R t x → SameSignature branching A blocks s t
+  pub branching_same : (s t x : ℕ) → R s x → R t x → SameSignature Branching A blocks s t
   branching_same s t x sx tx a b = (branching_within s t (x, sx, tx) a b, branching_within t s (x, tx, sx) a b)
 
 -- a test decides
@@ -172,14 +172,14 @@ inert_or_not a b c =
 
 -- states that share a stable block answer each other
 pub branching_answers :
-    (A : System) (blocks : ℕ → ℕ) → IsSystem A → Stable branching A blocks →
+    (A : System) (blocks : ℕ → ℕ) → IsSystem A → Stable Branching A blocks →
     (s t : ℕ) → Share A blocks s t → BranchingAnswers A A (Share A blocks) s t
 branching_answers A blocks system stable s t share a s' step =
     let s'_below = (step_below A system s a s' step).1 in
     elim (inert_or_not a (blocks s') (blocks s)) [
       | inl inert ↦ inl (inert.0, (s'_below, share.1, inert.1 ∙ share.2))
       | inr other ↦
-          let can : Signature branching A blocks s a (blocks s') =
+          let can : Signature Branching A blocks s a (blocks s') =
           (s, s', leads_here (Inert A blocks) s, step, refl, other) in
           let found = (stable s t share.0 share.1 share.2 a (blocks s')).0 can in
           let ends = step_below A system found.0 a found.1 found.3 in

@@ -1,7 +1,8 @@
 -- Bisimilarity across systems: an equivalence, and what it is in a union.
 use Rattle.std.proofs.Common.{◌≡◌, ◌↔◌, ℕ, ◌+◌, ◌<◌, subst₂, arith}
 use Rattle.theory.specs.System.{System, IsSystem}
-use Rattle.theory.specs.Bisimulation.{Relation, Bisimilar, Equivalent}
+use Rattle.theory.specs.Bisimulation.{Bisimilar, Equivalent}
+use Rattle.theory.specs.declared.relation.Relation.{Relation}
 use Rattle.theory.specs.Blocks.{EachTwo}
 use Rattle.theory.specs.Alike.{SameSteps}
 use Rattle.theory.specs.Union.{union_of}

@@ -2,7 +2,7 @@
 use Rattle.std.proofs.Common.{◌≡◌, ◌⊎◌, ◌↔◌, ℕ, zero, suc, ◌+◌, ◌<◌, ◌≤◌, refl, sym, ap, subst, ◌∙◌, inl, inr, arith}
 use Rattle.std.proofs.lemmas.Bool.{cases_eq, cases_order}
 use Rattle.theory.specs.System.{System}
-use Rattle.theory.specs.Bisimulation.{Relation}
+use Rattle.theory.specs.declared.relation.Relation.{Relation}
 use Rattle.theory.specs.Blocks.{Split, SameBlocks}
 use Rattle.theory.proofs.Deciding.{same_number, not_so, both, some_below, each_below, least_to}
 use Rattle.theory.proofs.Tally.{one, one_yes, one_no, tally, tally_zero, tally_suc, tally_at_most, tally_greater, tally_same, tally_one_more, tally_all, tally_none}

@@ -1,7 +1,7 @@
 -- The quotient is one system, but for the order of its list.
 use Rattle.std.proofs.Common.{◌≡◌, ◌↔◌, Contains, sym, ◌∙◌}
 use Rattle.theory.specs.System.{System, Transition}
-use Rattle.theory.specs.Bisimulation.{Relation}
+use Rattle.theory.specs.declared.relation.Relation.{Relation}
 use Rattle.theory.specs.Quotient.{IsLeader, Quotient}
 use Rattle.theory.proofs.Tally.{how_many_unique}
 

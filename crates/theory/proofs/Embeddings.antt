@@ -1,8 +1,9 @@
 -- Embeddings: the states of one system stand in another with their steps, so bisimilarity is the same there.
 use Rattle.std.proofs.Common.{◌≡◌, ℕ, ◌<◌, List, [], ◌∷◌, Contains, refl, sym, ap, subst, subst₂, inl, inr}
 use Rattle.theory.specs.System.{System, IsSystem, Step, Internal, Along, Silent, internal}
-use Rattle.theory.specs.Bisimulation.{Relation, Answers, IsBisimulation, Pairs, Converse, Bisimilar}
-use Rattle.theory.specs.Bisimulation.Relation.{strong, branching}
+use Rattle.theory.specs.Bisimulation.{Answers, IsBisimulation, Pairs, Converse, Bisimilar}
+use Rattle.theory.specs.declared.relation.Relation.{Relation}
+use Rattle.theory.specs.declared.relation.Relation.TheVariants.{Strong, Branching}
 use Rattle.theory.proofs.Paths.{leads_step, leads_append, leads_answered, step_below}
 use Rattle.theory.proofs.Deciding.{same_number, below, both, some_in}
 use Rattle.theory.proofs.Bisimulations.{pairs_decided, bisimilar_by}
@@ -46,11 +47,11 @@ module _ (A U B V : System) (f g : ℕ → ℕ) (one : Embeds A U f) (other : Em
   -- what answers in the smaller systems answers in the larger ones
   answers_there : (rel : Relation) → ((s t : ℕ) → R s t → Q (f s) (g t))
       → (s t : ℕ) → s < A.states → Answers rel A B R s t → Answers rel U V Q (f s) (g t)
-  answers_there strong into s t low answers = λ a x step.
+  answers_there Strong into s t low answers = λ a x step.
       let h = one.back s low a x step in
       let found = answers a h.0 h.1 in
       (g found.0, other.there t a found.0 found.1, subst (λ z. Q z (g found.0)) (sym h.2) (into h.0 found.0 found.2))
-  answers_there branching into s t low answers = λ a x step.
+  answers_there Branching into s t low answers = λ a x step.
       let h = one.back s low a x step in
       elim (answers a h.0 h.1) [
         | inl rests ↦ inl (rests.0, subst (λ z. Q z (g t)) (sym h.2) (into h.0 t rests.1))
@@ -68,12 +69,12 @@ module _ (A U B V : System) (f g : ℕ → ℕ) (one : Embeds A U f) (other : Em
   answers_back : (rel : Relation) → IsSystem A → IsSystem B
       → ((s t : ℕ) → s < A.states → t < B.states → Q (f s) (g t) → R s t)
       → (s t : ℕ) → s < A.states → t < B.states → Answers rel U V Q (f s) (g t) → Answers rel A B R s t
-  answers_back strong sys sys' from s t low low' answers = λ a s' step.
+  answers_back Strong sys sys' from s t low low' answers = λ a s' step.
       let found = answers a (f s') (one.there s a s' step) in
       let h = other.back t low' a found.0 found.1 in
       let below' = (step_below A sys s a s' step).1 in
       (h.0, h.1, from s' h.0 below' (step_below B sys' t a h.0 h.1).1 (subst (λ z. Q (f s') z) h.2 found.2))
-  answers_back branching sys sys' from s t low low' answers = λ a s' step.
+  answers_back Branching sys sys' from s t low low' answers = λ a s' step.
       let below' = (step_below A sys s a s' step).1 in
       elim (answers a (f s') (one.there s a s' step)) [
         | inl rests ↦ inl (rests.0, from s' t below' low' rests.1)

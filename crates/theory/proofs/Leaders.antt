@@ -2,7 +2,8 @@
 use Rattle.std.proofs.Common.{◌≡◌, ℕ, ◌<◌, ◌≤◌, refl, sym, ◌∙◌, subst, inl, inr, le_antisymm}
 use Rattle.std.proofs.lemmas.Bool.{cases_lt}
 use Rattle.theory.specs.System.{System, IsSystem, Step, AnyStep, Reachable}
-use Rattle.theory.specs.Bisimulation.{Relation, Bisimilar}
+use Rattle.theory.specs.Bisimulation.{Bisimilar}
+use Rattle.theory.specs.declared.relation.Relation.{Relation}
 use Rattle.theory.specs.Quotient.{Fellow, Leader, IsLeader}
 use Rattle.theory.proofs.Deciding.{same_number, both, decided_like, some_in, least_to}
 use Rattle.theory.proofs.Paths.{leads_here, step_below, reachable_below}

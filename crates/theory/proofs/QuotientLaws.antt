@@ -2,8 +2,8 @@
 use Rattle.std.proofs.Common.{◌⊎◌, ℕ, ◌<◌, List, get_or, sym, subst, inl, inr}
 use Rattle.std.proofs.lemmas.List.Elements.{All-contains, Contains-get_or}
 use Rattle.theory.specs.System.{System, IsSystem, IsAmong, Transition, Step, Internal, AnyStep, Reachable, Silent, internal}
-use Rattle.theory.specs.Bisimulation.{Relation}
-use Rattle.theory.specs.Bisimulation.Relation.{strong, branching}
+use Rattle.theory.specs.declared.relation.Relation.{Relation}
+use Rattle.theory.specs.declared.relation.Relation.TheVariants.{Strong, Branching}
 use Rattle.theory.specs.Quotient.{Number, IsDropped, Stands, Quotient}
 use Rattle.theory.proofs.Deciding.{same_number, same_bytes, both}
 use Rattle.theory.proofs.Paths.{leads_map, leads_append, reachable_on}
@@ -20,8 +20,8 @@ reachable_silent A s t path silent =
 
 -- whether a transition is dropped is decided
 dropped_decided : (rel : Relation) (e : Transition) → Dec (IsDropped rel e)
-dropped_decided strong e = no (λ h. h)
-dropped_decided branching e = both (same_bytes e.label internal) (same_number e.source e.target)
+dropped_decided Strong e = no (λ h. h)
+dropped_decided Branching e = both (same_bytes e.label internal) (same_number e.source e.target)
 
 module _ (rel : Relation) (A Q : System) (sys : IsSystem A) (quotient : Quotient rel A Q) where
   -- numbers are states of the quotient

@@ -1,8 +1,9 @@
 -- No two states of the quotient are bisimilar: a bisimulation of the quotient is pulled back to one of the system.
 use Rattle.std.proofs.Common.{◌≡◌, ℕ, ◌<◌, ◌≤◌, subst, inl, inr}
 use Rattle.theory.specs.System.{System, IsSystem, Internal}
-use Rattle.theory.specs.Bisimulation.{Relation, Answers, IsBisimulation, Pairs, Bisimilar}
-use Rattle.theory.specs.Bisimulation.Relation.{strong, branching}
+use Rattle.theory.specs.Bisimulation.{Answers, IsBisimulation, Pairs, Bisimilar}
+use Rattle.theory.specs.declared.relation.Relation.{Relation}
+use Rattle.theory.specs.declared.relation.Relation.TheVariants.{Strong, Branching}
 use Rattle.theory.specs.Blocks.{After, Turns}
 use Rattle.theory.specs.Quotient.{Quotient}
 use Rattle.theory.proofs.Paths.{leads_append, reachable_below}
@@ -17,10 +18,10 @@ use Rattle.theory.proofs.QuotientSteps.{strong_back, branching_goes, silent_goes
 abbrev Pulled : Relation → System → (ℕ → ℕ → Type 0) → ℕ → ℕ → Type 0
 Pulled rel A R x y = (m n : ℕ) × Numbered rel A x m × Numbered rel A y n × R m n
 
-strong_pulled : (A Q : System) → IsSystem A → Quotient strong A Q → (R : ℕ → ℕ → Type 0) → IsBisimulation strong Q Q R →
-    (x y : ℕ) → Pulled strong A R x y → Answers strong A A (Pulled strong A R) x y
+strong_pulled : (A Q : System) → IsSystem A → Quotient Strong A Q → (R : ℕ → ℕ → Type 0) → IsBisimulation Strong Q Q R →
+    (x y : ℕ) → Pulled Strong A R x y → Answers Strong A A (Pulled Strong A R) x y
 strong_pulled A Q sys quotient R bisimulation x y (m, n, hx, hy, related) = λ a x' step.
-    let on = step_numbered strong A Q sys quotient x m a x' hx step in
+    let on = step_numbered Strong A Q sys quotient x m a x' hx step in
     elim on.2 [
       | inl there ↦ (
           let found = bisimulation.forth m n related a on.0 there in
@@ -29,10 +30,10 @@ strong_pulled A Q sys quotient R bisimulation x y (m, n, hx, hy, related) = λ a
       | inr drop ↦ absurd drop
     ]
 
-branching_pulled : (A Q : System) → IsSystem A → Quotient branching A Q → (R : ℕ → ℕ → Type 0) → IsBisimulation branching Q Q R →
-    (x y : ℕ) → Pulled branching A R x y → Answers branching A A (Pulled branching A R) x y
+branching_pulled : (A Q : System) → IsSystem A → Quotient Branching A Q → (R : ℕ → ℕ → Type 0) → IsBisimulation Branching Q Q R →
+    (x y : ℕ) → Pulled Branching A R x y → Answers Branching A A (Pulled Branching A R) x y
 branching_pulled A Q sys quotient R bisimulation x y (m, n, hx, hy, related) = λ a x' step.
-    let on = step_numbered branching A Q sys quotient x m a x' hx step in
+    let on = step_numbered Branching A Q sys quotient x m a x' hx step in
     elim on.2 [
       | inl there ↦ elim (bisimulation.forth m n related a on.0 there) [
         | inl rests ↦ inl (rests.0, (on.0, n, on.1, hy, rests.1))
@@ -65,8 +66,8 @@ module _ (rel : Relation) (A Q : System) (sys : IsSystem A) (quotient : Quotient
       (x y : ℕ) → Pulled rel A R x y → Answers rel A A (Pulled rel A R) x y
   pulled_answers = elim rel as (λ r. Quotient r A Q → (R : ℕ → ℕ → Type 0) → IsBisimulation r Q Q R →
       (x y : ℕ) → Pulled r A R x y → Answers r A A (Pulled r A R) x y) [
-        | strong ↦ strong_pulled A Q sys
-        | branching ↦ branching_pulled A Q sys
+        | Strong ↦ strong_pulled A Q sys
+        | Branching ↦ branching_pulled A Q sys
       ] quotient
 
   -- a bisimulation of the quotient, pulled back, is one of the system

@@ -1,8 +1,9 @@
 -- Steps of the quotient are answered by the states of their numbers, and these are bisimilar to their numbers.
 use Rattle.std.proofs.Common.{ℕ, List, sym, subst, inl, inr}
 use Rattle.theory.specs.System.{System, IsSystem, Transition, Step, Internal, Silent, internal}
-use Rattle.theory.specs.Bisimulation.{Relation, Answers, IsBisimulation, Bisimilar, Equivalent, Converse}
-use Rattle.theory.specs.Bisimulation.Relation.{strong, branching}
+use Rattle.theory.specs.Bisimulation.{Answers, IsBisimulation, Bisimilar, Equivalent, Converse}
+use Rattle.theory.specs.declared.relation.Relation.{Relation}
+use Rattle.theory.specs.declared.relation.Relation.TheVariants.{Strong, Branching}
 use Rattle.theory.specs.Quotient.{Number, Stands, Quotient}
 use Rattle.theory.proofs.Paths.{leads_here, leads_on, leads_answered, reachable_below, reachable_on}
 use Rattle.theory.proofs.Bisimulations.{bisimilar_by}
@@ -22,77 +23,77 @@ step_stands rel A Q sys quotient s n a m number step =
     let stands : Stands rel A e = ((quotient.transitions e).0 step).0 in
     (stands.0, stands.1, same_number_bisimilar rel A sys stands.0 s n stands.4 number, stands.3, stands.4, stands.5)
 
-module _ (A Q : System) (sys : IsSystem A) (quotient : Quotient strong A Q) where
+module _ (A Q : System) (sys : IsSystem A) (quotient : Quotient Strong A Q) where
   -- a step of a state is one of the quotient
-  strong_forth : (s n : ℕ) → Numbered strong A s n → Answers strong A Q (Numbered strong A) s n
+  strong_forth : (s n : ℕ) → Numbered Strong A s n → Answers Strong A Q (Numbered Strong A) s n
   strong_forth s n h = λ a t step.
-      let on = step_numbered strong A Q sys quotient s n a t h step in
+      let on = step_numbered Strong A Q sys quotient s n a t h step in
       elim on.2 [ inl there ↦ (on.0, there, on.1) | inr drop ↦ absurd drop ]
 
   -- a step of the quotient is one of each state of its number
-  pub strong_back : (s n : ℕ) → Numbered strong A s n → Answers strong Q A (Converse (Numbered strong A)) n s
+  pub strong_back : (s n : ℕ) → Numbered Strong A s n → Answers Strong Q A (Converse (Numbered Strong A)) n s
   strong_back s n h = λ a m step.
-      let (x, y, (pairs, bisimulation, related), there, before, after) : Fellows strong A s n a m =
-      step_stands strong A Q sys quotient s n a m h.1 step in
+      let (x, y, (pairs, bisimulation, related), there, before, after) : Fellows Strong A s n a m =
+      step_stands Strong A Q sys quotient s n a m h.1 step in
       let found = bisimulation.forth x s related a y there in
-      (found.0, found.1, (reachable_on A s a found.0 h.0 found.1, number_carried strong A sys y found.0 m (pairs, bisimulation, found.2) after))
+      (found.0, found.1, (reachable_on A s a found.0 h.0 found.1, number_carried Strong A sys y found.0 m (pairs, bisimulation, found.2) after))
 
-module _ (A Q : System) (sys : IsSystem A) (quotient : Quotient branching A Q) where
+module _ (A Q : System) (sys : IsSystem A) (quotient : Quotient Branching A Q) where
   -- a step of a state is one of the quotient, or stays at its number
-  branching_forth : (s n : ℕ) → Numbered branching A s n → Answers branching A Q (Numbered branching A) s n
+  branching_forth : (s n : ℕ) → Numbered Branching A s n → Answers Branching A Q (Numbered Branching A) s n
   branching_forth s n h = λ a t step.
-      let on = step_numbered branching A Q sys quotient s n a t h step in
+      let on = step_numbered Branching A Q sys quotient s n a t h step in
       elim on.2 [
         | inl there ↦ inr (n, on.0, leads_here (Internal Q) n, there, h, on.1)
-        | inr drop ↦ inl (drop.0, subst (Numbered branching A t) (sym drop.1) on.1)
+        | inr drop ↦ inl (drop.0, subst (Numbered Branching A t) (sym drop.1) on.1)
       ]
 
   -- s goes silently to a state of its number, and by a to one of the number m
   abbrev Goes : ℕ → ℕ → List ℕ → ℕ → Type 0
   Goes s n a m =
-      (u t : ℕ) × Silent A s u × Step A u a t × Numbered branching A u n × Numbered branching A t m
+      (u t : ℕ) × Silent A s u × Step A u a t × Numbered Branching A u n × Numbered Branching A t m
 
   -- a step of the quotient is answered by each state of its number
-  pub branching_goes : (s n : ℕ) (a : List ℕ) (m : ℕ) → Numbered branching A s n → Step Q n a m → Goes s n a m
+  pub branching_goes : (s n : ℕ) (a : List ℕ) (m : ℕ) → Numbered Branching A s n → Step Q n a m → Goes s n a m
   branching_goes s n a m h step =
-      let (x, y, (pairs, bisimulation, related), there, before, after) : Fellows branching A s n a m =
-      step_stands branching A Q sys quotient s n a m h.1 step in
+      let (x, y, (pairs, bisimulation, related), there, before, after) : Fellows Branching A s n a m =
+      step_stands Branching A Q sys quotient s n a m h.1 step in
       elim (bisimulation.forth x s related a y there) [
         | inl rests ↦ (
-            let own : Number branching A s m = number_carried branching A sys y s m (pairs, bisimulation, rests.1) after in
+            let own : Number Branching A s m = number_carried Branching A sys y s m (pairs, bisimulation, rests.1) after in
             let e : Transition = record { source = n; label = a; target = m } in
-            absurd (((quotient.transitions e).0 step).1 (rests.0, number_once branching A sys s n m h.1 own)))
+            absurd (((quotient.transitions e).0 step).1 (rests.0, number_once Branching A sys s n m h.1 own)))
         | inr goes ↦ (
             let reached = reachable_silent A s goes.0 h.0 goes.2 in (
               goes.0,
               goes.1,
               goes.2,
               goes.3,
-              (reached, number_carried branching A sys x goes.0 n (pairs, bisimulation, goes.4) before),
-              (reachable_on A goes.0 a goes.1 reached goes.3, number_carried branching A sys y goes.1 m (pairs, bisimulation, goes.5) after),
+              (reached, number_carried Branching A sys x goes.0 n (pairs, bisimulation, goes.4) before),
+              (reachable_on A goes.0 a goes.1 reached goes.3, number_carried Branching A sys y goes.1 m (pairs, bisimulation, goes.5) after),
             ))
       ]
 
-  branching_back : (s n : ℕ) → Numbered branching A s n → Answers branching Q A (Converse (Numbered branching A)) n s
+  branching_back : (s n : ℕ) → Numbered Branching A s n → Answers Branching Q A (Converse (Numbered Branching A)) n s
   branching_back s n h = λ a m step. inr (branching_goes s n a m h step)
 
   -- a silent path of the quotient is followed by each state of the number where it begins
-  pub silent_goes : (n m s : ℕ) → Silent Q n m → Numbered branching A s n → (t : ℕ) × Silent A s t × Numbered branching A t m
-  silent_goes = leads_answered (Internal Q) (Internal A) (λ q s. Numbered branching A s q) (λ n m s step h.
+  pub silent_goes : (n m s : ℕ) → Silent Q n m → Numbered Branching A s n → (t : ℕ) × Silent A s t × Numbered Branching A t m
+  silent_goes = leads_answered (Internal Q) (Internal A) (λ q s. Numbered Branching A s q) (λ n m s step h.
       let goes = branching_goes s n internal m h step in
       (goes.1, leads_on (Internal A) s goes.0 goes.1 goes.2 goes.3, goes.5))
 
 module _ (rel : Relation) (A Q : System) (sys : IsSystem A) (quotient : Quotient rel A Q) where
   numbered_forth : (s n : ℕ) → Numbered rel A s n → Answers rel A Q (Numbered rel A) s n
   numbered_forth = elim rel as (λ r. Quotient r A Q → (s n : ℕ) → Numbered r A s n → Answers r A Q (Numbered r A) s n) [
-    | strong ↦ strong_forth A Q sys
-    | branching ↦ branching_forth A Q sys
+    | Strong ↦ strong_forth A Q sys
+    | Branching ↦ branching_forth A Q sys
   ] quotient
 
   numbered_back : (s n : ℕ) → Numbered rel A s n → Answers rel Q A (Converse (Numbered rel A)) n s
   numbered_back = elim rel as (λ r. Quotient r A Q → (s n : ℕ) → Numbered r A s n → Answers r Q A (Converse (Numbered r A)) n s) [
-    | strong ↦ strong_back A Q sys
-    | branching ↦ branching_back A Q sys
+    | Strong ↦ strong_back A Q sys
+    | Branching ↦ branching_back A Q sys
   ] quotient
 
   -- what relates each reachable state to its number is a bisimulation

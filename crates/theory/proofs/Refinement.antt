@@ -1,7 +1,8 @@
 -- Split after Split: what holds of the blocks after each, and that the first Split that changes nothing leaves bisimilarity.
 use Rattle.std.proofs.Common.{◌≡◌, ◌⊎◌, ◌↔◌, ℕ, zero, suc, ◌<◌, refl, sym, ◌∙◌, inl, inr}
 use Rattle.theory.specs.System.{System, IsSystem}
-use Rattle.theory.specs.Bisimulation.{Relation, IsBisimulation, Pairs, Bisimilar}
+use Rattle.theory.specs.Bisimulation.{IsBisimulation, Pairs, Bisimilar}
+use Rattle.theory.specs.declared.relation.Relation.{Relation}
 use Rattle.theory.specs.Blocks.{SameSignature, Split, SameBlocks, Stable, Kept, Share, After, ChangesNothing, Turns}
 use Rattle.theory.proofs.Deciding.{same_number, below, both, decided_like, classes_exist}
 use Rattle.theory.proofs.RefinementLaws.{one_block_kept, split_kept, bisimulation_survives, stable_bisimulation, across_survives}

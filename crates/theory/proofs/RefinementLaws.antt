@@ -1,8 +1,9 @@
 -- The laws of refinement, for each relation.
 use Rattle.std.proofs.Common.{◌≡◌, ◌↔◌, ℕ, refl, sym, ap, inl, inr, ◌∙◌}
 use Rattle.theory.specs.System.{System, IsSystem}
-use Rattle.theory.specs.Bisimulation.{Relation, Answers, IsBisimulation}
-use Rattle.theory.specs.Bisimulation.Relation.{strong, branching}
+use Rattle.theory.specs.Bisimulation.{Answers, IsBisimulation}
+use Rattle.theory.specs.declared.relation.Relation.{Relation}
+use Rattle.theory.specs.declared.relation.Relation.TheVariants.{Strong, Branching}
 use Rattle.theory.specs.Blocks.{SameSignature, Split, Kept, Stable, Share, OneBlock}
 use Rattle.theory.proofs.Bisimulations.{answers_weaker, OrSame, bisimulation_or_same}
 use Rattle.theory.proofs.StrongLaws.{strong_same, strong_answers}
@@ -10,14 +11,14 @@ use Rattle.theory.proofs.BranchingLaws.{branching_one_block, branching_split, br
 
 -- one block of all states is kept
 pub one_block_kept : (rel : Relation) (A : System) (blocks : ℕ → ℕ) → IsSystem A → OneBlock A blocks → Kept rel A blocks
-one_block_kept strong A blocks system one = tt
-one_block_kept branching A blocks system one = branching_one_block A blocks system one
+one_block_kept Strong A blocks system one = tt
+one_block_kept Branching A blocks system one = branching_one_block A blocks system one
 
 -- the Split of kept blocks is kept
 pub split_kept :
     (rel : Relation) (A : System) (old new : ℕ → ℕ) → IsSystem A → Kept rel A old → Split rel A old new → Kept rel A new
-split_kept strong A old new system kept split = tt
-split_kept branching A old new system kept split = branching_split A old new system kept split
+split_kept Strong A old new system kept split = tt
+split_kept Branching A old new system kept split = branching_split A old new system kept split
 
 -- states of A that are related to one state of B have equal signatures, if all such states share kept blocks
 pub across_same :
@@ -25,8 +26,8 @@ pub across_same :
     IsSystem A → Kept rel A blocks → IsBisimulation rel A B R →
     ((s t x : ℕ) → R s x → R t x → blocks s ≡ blocks t) →
     (s t x : ℕ) → R s x → R t x → SameSignature rel A blocks s t
-across_same strong A B blocks R system kept bisimulation shared = strong_same A B blocks R bisimulation shared
-across_same branching A B blocks R system kept bisimulation shared =
+across_same Strong A B blocks R system kept bisimulation shared = strong_same A B blocks R bisimulation shared
+across_same Branching A B blocks R system kept bisimulation shared =
     branching_same A B blocks R system kept bisimulation shared
 
 -- if states of A that are related to one state of B share kept blocks, they share the blocks of their Split
@@ -61,8 +62,8 @@ bisimulation_survives rel A old new R system kept split bisimulation inside s t 
 pub stable_answers :
     (rel : Relation) (A : System) (blocks : ℕ → ℕ) → IsSystem A → Stable rel A blocks →
     (s t : ℕ) → Share A blocks s t → Answers rel A A (Share A blocks) s t
-stable_answers strong A blocks system stable = strong_answers A blocks system stable
-stable_answers branching A blocks system stable = branching_answers A blocks system stable
+stable_answers Strong A blocks system stable = strong_answers A blocks system stable
+stable_answers Branching A blocks system stable = branching_answers A blocks system stable
 
 -- stable blocks are a bisimulation: the relation of states that share one
 pub stable_bisimulation :

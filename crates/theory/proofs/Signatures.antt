@@ -1,8 +1,8 @@
 -- Signatures: they are decided, and depend only on which states share a block.
 use Rattle.std.proofs.Common.{◌≡◌, ℕ, ◌<◌, List, [], ◌∷◌, Contains, refl, sym, subst, subst₂, ◌∙◌}
 use Rattle.theory.specs.System.{System, IsSystem, Transition, Step, Along, Leads, internal}
-use Rattle.theory.specs.Bisimulation.{Relation}
-use Rattle.theory.specs.Bisimulation.Relation.{strong, branching}
+use Rattle.theory.specs.declared.relation.Relation.{Relation}
+use Rattle.theory.specs.declared.relation.Relation.TheVariants.{Strong, Branching}
 use Rattle.theory.specs.Blocks.{Inert, Signature, SameSignature, SameBlocks}
 use Rattle.theory.proofs.Deciding.{same_number, same_bytes, not_so, both, implied, decided_like, some_in, each_in}
 use Rattle.theory.proofs.Paths.{step_below}
@@ -23,19 +23,19 @@ inert_carried A sys one two same (u ∷ us) s t ls h =
     ((h.0.0, (same u s lu ls).0 h.0.1), inert_carried A sys one two same us u t lu h.1)
 
 module _ (A : System) (sys : IsSystem A) (one two : ℕ → ℕ) (same : SameBlocks A one two) where
-  strong_carried : (s t : ℕ) → s < A.states → t < A.states → SameSignature strong A one s t
-      → (a : List ℕ) (b : ℕ) → Signature strong A two s a b → Signature strong A two t a b
+  strong_carried : (s t : ℕ) → s < A.states → t < A.states → SameSignature Strong A one s t
+      → (a : List ℕ) (b : ℕ) → Signature Strong A two s a b → Signature Strong A two t a b
   strong_carried s t ls lt sig a b h =
-      let g : Signature strong A one t a (one h.0) = (sig a (one h.0)).0 (h.0, h.1, refl) in
+      let g : Signature Strong A one t a (one h.0) = (sig a (one h.0)).0 (h.0, h.1, refl) in
       let le : h.0 < A.states = (step_below A sys s a h.0 h.1).1 in
       let lg : g.0 < A.states = (step_below A sys t a g.0 g.1).1 in
       (g.0, g.1, (same g.0 h.0 lg le).1 g.2 ∙ h.2)
 
-  branching_carried : (s t : ℕ) → s < A.states → t < A.states → SameSignature branching A one s t
-      → (a : List ℕ) (b : ℕ) → Signature branching A two s a b → Signature branching A two t a b
+  branching_carried : (s t : ℕ) → s < A.states → t < A.states → SameSignature Branching A one s t
+      → (a : List ℕ) (b : ℕ) → Signature Branching A two s a b → Signature Branching A two t a b
   branching_carried s t ls lt sig a b h =
       let le : h.1 < A.states = (step_below A sys h.0 a h.1 h.3).1 in
-      let p : Signature branching A one s a (one h.1) = (
+      let p : Signature Branching A one s a (one h.1) = (
         h.0,
         h.1,
         (h.2.0, inert_carried A sys one two same h.2.0 s h.0 ls h.2.1),
@@ -43,7 +43,7 @@ module _ (A : System) (sys : IsSystem A) (one two : ℕ → ℕ) (same : SameBlo
         refl,
         λ x. h.5 (x.0, sym h.4 ∙ (same h.1 s le ls).1 x.1),
       ) in
-      let g : Signature branching A one t a (one h.1) = (sig a (one h.1)).0 p in
+      let g : Signature Branching A one t a (one h.1) = (sig a (one h.1)).0 p in
       let lg : g.1 < A.states = (step_below A sys g.0 a g.1 g.3).1 in (
         g.0,
         g.1,
@@ -55,8 +55,8 @@ module _ (A : System) (sys : IsSystem A) (one two : ℕ → ℕ) (same : SameBlo
 
   signature_carried : (rel : Relation) (s t : ℕ) → s < A.states → t < A.states → SameSignature rel A one s t
       → (a : List ℕ) (b : ℕ) → Signature rel A two s a b → Signature rel A two t a b
-  signature_carried strong = strong_carried
-  signature_carried branching = branching_carried
+  signature_carried Strong = strong_carried
+  signature_carried Branching = branching_carried
 
   -- equal signatures stay equal if the same states share a block
   pub same_signature_carried : (rel : Relation) (s t : ℕ) → s < A.states → t < A.states
@@ -69,8 +69,8 @@ module _ (A : System) (sys : IsSystem A) (one two : ℕ → ℕ) (same : SameBlo
 -- some transition stands for each pair of a signature
 signature_stands : (rel : Relation) (A : System) (blocks : ℕ → ℕ) (s : ℕ) (a : List ℕ) (b : ℕ) → Signature rel A blocks s a b
     → (e : Transition) × Contains A.transitions e × ((e.label ≡ a) × (blocks e.target ≡ b))
-signature_stands strong A blocks s a b h = (record { source = s; label = a; target = h.0 }, h.1, (refl, h.2))
-signature_stands branching A blocks s a b h = (record { source = h.0; label = a; target = h.1 }, h.3, (refl, h.4))
+signature_stands Strong A blocks s a b h = (record { source = s; label = a; target = h.0 }, h.1, (refl, h.2))
+signature_stands Branching A blocks s a b h = (record { source = h.0; label = a; target = h.1 }, h.3, (refl, h.4))
 
 -- a transition whose parts are s, a and t is a step
 step_stands : (A : System) (e : Transition) (s : ℕ) (a : List ℕ) (t : ℕ) → Contains A.transitions e
@@ -103,11 +103,11 @@ module _ (A : System) (blocks : ℕ → ℕ) where
       leads_decided (Inert A blocks) A.states inert_decided (λ s t h. (step_below A sys s internal t h.0).1)
 
   pub signature_decided : (rel : Relation) → IsSystem A → (s : ℕ) (a : List ℕ) (b : ℕ) → Dec (Signature rel A blocks s a b)
-  signature_decided strong sys s a b =
+  signature_decided Strong sys s a b =
       decided_like (λ h. (h.0.target, step_stands A h.0 s a h.0.target h.1 h.2.0 h.2.1.0 refl, h.2.1.1))
       (λ h. (record { source = s; label = a; target = h.0 }, h.1, (refl, (refl, h.2))))
       (leaving_decided (λ u. u ≡ s) (λ u. same_number u s) a b)
-  signature_decided branching sys s a b =
+  signature_decided Branching sys s a b =
       decided_like
       (λ h. (h.0.0.source, h.0.0.target, h.0.2.0, step_stands A h.0.0 h.0.0.source a h.0.0.target h.0.1 refl h.0.2.1.0 refl, h.0.2.1.1, h.1))
       (λ h. ((record { source = h.0; label = a; target = h.1 }, h.3, (h.2, (refl, h.4))), h.5))

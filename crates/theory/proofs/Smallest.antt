@@ -1,8 +1,9 @@
 -- No system that is equivalent to another has fewer states than its quotient: each class has a state of its own there.
 use Rattle.std.proofs.Common.{◌≡◌, ℕ, ◌<◌, ◌≤◌, List, inl, inr, arith}
 use Rattle.theory.specs.System.{System, IsSystem, AnyStep, Reachable}
-use Rattle.theory.specs.Bisimulation.{Relation, Answers, IsBisimulation, Pairs, Bisimilar, Equivalent}
-use Rattle.theory.specs.Bisimulation.Relation.{strong, branching}
+use Rattle.theory.specs.Bisimulation.{Answers, IsBisimulation, Pairs, Bisimilar, Equivalent}
+use Rattle.theory.specs.declared.relation.Relation.{Relation}
+use Rattle.theory.specs.declared.relation.Relation.TheVariants.{Strong, Branching}
 use Rattle.theory.specs.Quotient.{Number, Quotient}
 use Rattle.theory.proofs.Deciding.{both, some_below}
 use Rattle.theory.proofs.Paths.{leads_keeps, reachable_below}
@@ -15,8 +16,8 @@ use Rattle.theory.proofs.Numbers.{number_of, number_once, number_carried, first_
 -- if a step is answered, its end is related to some state
 answered : (rel : Relation) (A B : System) (R : ℕ → ℕ → Type 0) (s t : ℕ) → Answers rel A B R s t →
     (s' : ℕ) → AnyStep A s s' → (t' : ℕ) × R s' t'
-answered strong A B R s t answers s' step = (let found = answers step.0 s' step.1 in (found.0, found.2))
-answered branching A B R s t answers s' step = elim (answers step.0 s' step.1) [
+answered Strong A B R s t answers s' step = (let found = answers step.0 s' step.1 in (found.0, found.2))
+answered Branching A B R s t answers s' step = elim (answers step.0 s' step.1) [
   | inl rests ↦ (t, rests.1)
   | inr goes ↦ (goes.1, goes.5)
 ]

@@ -2,7 +2,8 @@
 use Rattle.std.proofs.Common.{◌↔◌, ℕ, zero, suc, ◌+◌, ◌<◌, ◌≤◌, refl, sym, subst, ◌∙◌, inl, inr, arith}
 use Rattle.std.proofs.lemmas.Bool.{cases_eq, cases_lt}
 use Rattle.theory.specs.System.{System, IsSystem}
-use Rattle.theory.specs.Bisimulation.{Relation, Bisimilar}
+use Rattle.theory.specs.Bisimulation.{Bisimilar}
+use Rattle.theory.specs.declared.relation.Relation.{Relation}
 use Rattle.theory.specs.Blocks.{OneBlock, Split, SameBlocks, Share, After, ChangesNothing, Turns, Underway}
 use Rattle.theory.proofs.Deciding.{decided_like}
 use Rattle.theory.proofs.Refinement.{split_of_blocks, blocks_after, no_change, share_decided, final_share, bisimilar_to_one_share}

@@ -3,11 +3,8 @@
 use Rattle.std.specs.Prelude.{◌≡◌, ◌⊎◌, ℕ, ◌<◌, List}
 use Rattle.std.specs.List.{Contains}
 use Rattle.theory.specs.System.{System, Step, Silent, internal}
-
--- which bisimulation is meant
-pub data Relation : Type 0 where
-  strong : Relation
-  branching : Relation
+use Rattle.theory.specs.declared.relation.Relation.{Relation}
+use Rattle.theory.specs.declared.relation.Relation.TheVariants.{Strong as strong, Branching as branching}
 
 -- each step of A from s has an equal step of B from t, and the ends are related too (Milner 1989)
 abbrev pub StronglyAnswers : System → System → (ℕ → ℕ → Type 0) → ℕ → ℕ → Type 0

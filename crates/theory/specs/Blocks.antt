@@ -3,8 +3,8 @@
 -- Glabbeek and Weijland 1996.)
 use Rattle.std.specs.Prelude.{◌≡◌, ◌↔◌, ℕ, zero, suc, ◌<◌, ◌≤◌, List}
 use Rattle.theory.specs.System.{System, Step, Internal, Silent, Leads, internal}
-use Rattle.theory.specs.Bisimulation.{Relation}
-use Rattle.theory.specs.Bisimulation.Relation.{strong, branching}
+use Rattle.theory.specs.declared.relation.Relation.{Relation}
+use Rattle.theory.specs.declared.relation.Relation.TheVariants.{Strong, Branching}
 
 -- an internal step from s to a state of s's block
 abbrev pub Inert : System → (ℕ → ℕ) → ℕ → ℕ → Type 0
@@ -13,8 +13,8 @@ Inert A blocks s t = Internal A s t × (blocks t ≡ blocks s)
 -- the pair of a and block b is in the signature of s: a step by a leads from s into b; for branching, from a state that
 -- inert steps lead to, and not by an inert step
 abbrev pub Signature : Relation → System → (ℕ → ℕ) → ℕ → List ℕ → ℕ → Type 0
-Signature strong A blocks s a b = (t : ℕ) × Step A s a t × (blocks t ≡ b)
-Signature branching A blocks s a b =
+Signature Strong A blocks s a b = (t : ℕ) × Step A s a t × (blocks t ≡ b)
+Signature Branching A blocks s a b =
     (u t : ℕ) × Leads (Inert A blocks) s u × Step A u a t × (blocks t ≡ b) × ¬ ((a ≡ internal) × (b ≡ blocks s))
 
 -- the same pairs are in the signatures of s and of t
@@ -39,8 +39,8 @@ Stable rel A blocks = EachTwo A (λ s t. blocks s ≡ blocks t → SameSignature
 
 -- for branching: what lies silently between two states of a block is in that block; for strong, always
 abbrev pub Kept : Relation → System → (ℕ → ℕ) → Type 0
-Kept strong A blocks = Unit {0}
-Kept branching A blocks = (s u t : ℕ) → s < A.states → Silent A s u → Silent A u t → blocks s ≡ blocks t → blocks u ≡ blocks s
+Kept Strong A blocks = Unit {0}
+Kept Branching A blocks = (s u t : ℕ) → s < A.states → Silent A s u → Silent A u t → blocks s ≡ blocks t → blocks u ≡ blocks s
 
 -- two states share a block
 abbrev pub Share : System → (ℕ → ℕ) → ℕ → ℕ → Type 0

@@ -2,16 +2,17 @@
 use Rattle.std.specs.Prelude.{◌≡◌, ℕ, suc, ◌<◌, List, [], ◌∷◌, ◌↔◌, length, map, slice_index, ⊤}
 use Rattle.std.specs.List.{Contains, slice_index_or}
 use Rattle.theory.specs.System.{System, Transition, IsSystem, internal}
-use Rattle.theory.specs.Bisimulation.{Relation, Equivalent}
-use Rattle.theory.specs.Bisimulation.Relation.{strong, branching}
+use Rattle.theory.specs.Bisimulation.{Equivalent}
+use Rattle.theory.specs.declared.relation.Relation.{Relation}
+use Rattle.theory.specs.declared.relation.Relation.TheVariants.{Strong, Branching}
 use Rattle.theory.specs.Blocks.{Signature, Split, OneBlock, Turns}
 use Rattle.theory.specs.Quotient.{Leader, Number, Quotient}
 
 -- two systems that neither relation makes equivalent
 pub record AreApart (A B : System) : Type 0 where
   pub systems : IsSystem A × IsSystem B
-  pub strongly : ¬ Equivalent strong A B
-  pub branching : ¬ Equivalent branching A B
+  pub strongly : ¬ Equivalent Strong A B
+  pub branching : ¬ Equivalent Branching A B
 
 -- the signature of s has exactly the pairs in the list
 abbrev pub SignatureIs : Relation → System → (ℕ → ℕ) → ℕ → List (List ℕ × ℕ) → Type 0

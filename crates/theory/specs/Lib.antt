@@ -1,6 +1,5 @@
 pub mod System
 pub mod Bisimulation
-pub mod Relations
 pub mod Blocks
 pub mod Quotient
 pub mod Examples

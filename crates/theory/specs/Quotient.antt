@@ -3,8 +3,9 @@ use Rattle.std.specs.Prelude.{◌≡◌, ◌≢◌, ◌⊎◌, ◌↔◌, ℕ, �
 use Rattle.std.specs.List.{Contains, AllPairs}
 use Rattle.std.specs.List.Sorted.{IsStrictlyIncreasing}
 use Rattle.theory.specs.System.{System, Transition, Step, Reachable, internal}
-use Rattle.theory.specs.Bisimulation.{Relation, Bisimilar}
-use Rattle.theory.specs.Bisimulation.Relation.{strong, branching}
+use Rattle.theory.specs.Bisimulation.{Bisimilar}
+use Rattle.theory.specs.declared.relation.Relation.{Relation}
+use Rattle.theory.specs.declared.relation.Relation.TheVariants.{Strong, Branching}
 
 -- the least number at which P holds
 abbrev pub Least : (ℕ → Type 0) → ℕ → Type 0
@@ -38,8 +39,8 @@ Number rel A s n =
 
 -- what branching bisimulation leaves out: an internal transition from a class to itself
 abbrev pub IsDropped : Relation → Transition → Type 0
-IsDropped strong e = ⊥
-IsDropped branching e = (e.label ≡ internal) × (e.source ≡ e.target)
+IsDropped Strong e = ⊥
+IsDropped Branching e = (e.label ≡ internal) × (e.source ≡ e.target)
 
 -- the transition e between numbers stands for a step of a reachable state
 abbrev pub Stands : Relation → System → Transition → Type 0
@@ -56,5 +57,5 @@ pub record Quotient (rel : Relation) (A Q : System) : Type 0 where
 
 -- how many transition visits r rounds on n states and m transitions may take
 abbrev pub allowance : Relation → ℕ → ℕ → ℕ → ℕ
-allowance strong n m r = (r + 2) * m
-allowance branching n m r = (r * n + 2) * m
+allowance Strong n m r = (r + 2) * m
+allowance Branching n m r = (r * n + 2) * m

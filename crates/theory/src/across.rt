@@ -2,7 +2,8 @@
 
 ghost use Rattle.std.specs.Prelude.{ℕ, ◌<◌};
 ghost use Rattle.theory.specs.System.{System, IsSystem};
-ghost use Rattle.theory.specs.Bisimulation.{Relation, Bisimilar, Equivalent};
+ghost use Rattle.theory.specs.Bisimulation.{Bisimilar, Equivalent};
+ghost use Rattle.theory.specs.declared.relation.Relation.{Relation};
 
 /// Bisimilarity of either relation is symmetric and transitive across systems. It relates states only.
 pub fn bisimilarity_goes_across()

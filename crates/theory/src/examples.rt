@@ -2,16 +2,9 @@
 
 ghost use Rattle.std.specs.Prelude.{ℕ, List, [], ◌∷◌};
 ghost use Rattle.theory.specs.System.{System, IsSystem, Internal, Hide, internal};
-ghost use Rattle.theory.specs.Bisimulation.{
-  Relation,
-  IsBisimulation,
-  Strong,
-  Branching,
-  Pairs,
-  Bisimilar,
-  Equivalent,
-};
-ghost use Rattle.theory.specs.Bisimulation.Relation.{strong, branching};
+ghost use Rattle.theory.specs.Bisimulation.{IsBisimulation, Strong, Branching, Pairs, Bisimilar, Equivalent};
+ghost use Rattle.theory.specs.declared.relation.Relation.{Relation};
+ghost use Rattle.theory.specs.declared.relation.Relation.TheVariants.{Strong as strong, Branching as branching};
 ghost use Rattle.theory.specs.Examples.{AreApart, SplitsBy, RefinesBy};
 ghost use Rattle.theory.specs.Examples.{a, b, choice_after, choice_before, silent_middle, a_then_b};
 ghost use Rattle.theory.specs.Examples.{a_then_b_reordered, silent_choice, silent_cycle, silent_loop};

@@ -2,7 +2,8 @@
 
 ghost use Rattle.std.specs.Prelude.{◌≡◌, ◌↔◌, ℕ, suc, ◌≤◌, ◌<◌};
 ghost use Rattle.theory.specs.System.{System, IsSystem};
-ghost use Rattle.theory.specs.Bisimulation.{Relation, Bisimilar};
+ghost use Rattle.theory.specs.Bisimulation.{Bisimilar};
+ghost use Rattle.theory.specs.declared.relation.Relation.{Relation};
 ghost use Rattle.theory.specs.Blocks.{OneBlock, Split, SameBlocks, After, Turns, Underway, EachTwo};
 
 /// All blocks have a Split.

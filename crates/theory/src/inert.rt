@@ -2,7 +2,7 @@
 
 ghost use Rattle.std.specs.Prelude.{◌≡◌, ◌⊎◌, ℕ, ◌<◌, Bool, IsTrue, List};
 ghost use Rattle.theory.specs.System.{System, IsSystem, Step, Leads, internal};
-ghost use Rattle.theory.specs.Bisimulation.Relation.{branching};
+ghost use Rattle.theory.specs.declared.relation.Relation.TheVariants.{Branching};
 ghost use Rattle.theory.specs.Blocks.{Inert, Signature, SameSignature};
 
 /// A path of inert steps may be empty, and may be extended at either end. It stays in one block and among the states. A
@@ -32,14 +32,14 @@ pub fn inert_steps_lead_on()
 /// inert step leads to, and no other pair. States that reach each other by inert steps have equal signatures.
 pub fn inert_steps_pass_signatures_back()
     ensures own { (A : System) (blocks : ℕ → ℕ) (s : ℕ) (a : List ℕ) (t : ℕ) → Step A s a t →
-        ¬ ((a ≡ internal) × (blocks t ≡ blocks s)) → Signature branching A blocks s a (blocks t) }
+        ¬ ((a ≡ internal) × (blocks t ≡ blocks s)) → Signature Branching A blocks s a (blocks t) }
     ensures step { (A : System) (blocks : ℕ → ℕ) (s t : ℕ) (a : List ℕ) (b : ℕ) → Inert A blocks s t →
-        Signature branching A blocks t a b → Signature branching A blocks s a b }
+        Signature Branching A blocks t a b → Signature Branching A blocks s a b }
     ensures path { (A : System) (blocks : ℕ → ℕ) (s t : ℕ) (a : List ℕ) (b : ℕ) → Leads (Inert A blocks) s t →
-        Signature branching A blocks t a b → Signature branching A blocks s a b }
-    ensures only { (A : System) (blocks : ℕ → ℕ) (s : ℕ) (a : List ℕ) (b : ℕ) → Signature branching A blocks s a b →
+        Signature Branching A blocks t a b → Signature Branching A blocks s a b }
+    ensures only { (A : System) (blocks : ℕ → ℕ) (s : ℕ) (a : List ℕ) (b : ℕ) → Signature Branching A blocks s a b →
         ((t : ℕ) × Step A s a t × (blocks t ≡ b) × ¬ ((a ≡ internal) × (b ≡ blocks s)))
-        ⊎ ((t : ℕ) × Inert A blocks s t × Signature branching A blocks t a b) }
+        ⊎ ((t : ℕ) × Inert A blocks s t × Signature Branching A blocks t a b) }
     ensures same { (A : System) (blocks : ℕ → ℕ) (s t : ℕ) → Leads (Inert A blocks) s t → Leads (Inert A blocks) t s →
-        SameSignature branching A blocks s t }
+        SameSignature Branching A blocks s t }
 {}

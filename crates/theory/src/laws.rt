@@ -2,7 +2,8 @@
 
 ghost use Rattle.std.specs.Prelude.{◌≡◌, ◌↔◌, ℕ, List};
 ghost use Rattle.theory.specs.System.{System, IsSystem};
-ghost use Rattle.theory.specs.Bisimulation.{Relation, IsBisimulation, Pairs};
+ghost use Rattle.theory.specs.Bisimulation.{IsBisimulation, Pairs};
+ghost use Rattle.theory.specs.declared.relation.Relation.{Relation};
 ghost use Rattle.theory.specs.Blocks.{OneBlock, Kept, Split, Stable, Share};
 
 /// One block of all states is kept: what lies silently between two of its states is in it.

@@ -3,7 +3,8 @@
 
 ghost use Rattle.std.specs.Prelude.{◌≡◌, ◌≢◌, ◌↔◌, ℕ, ◌+◌, ◌<◌, ◌≤◌, Bool, IsTrue, List};
 ghost use Rattle.theory.specs.System.{System, IsSystem, Step, Reachable};
-ghost use Rattle.theory.specs.Bisimulation.{Relation, Bisimilar, Equivalent};
+ghost use Rattle.theory.specs.Bisimulation.{Bisimilar, Equivalent};
+ghost use Rattle.theory.specs.declared.relation.Relation.{Relation};
 ghost use Rattle.theory.specs.Quotient.{HowMany, Leader, IsLeader, Number, Quotient};
 
 /// The first state is reachable, and so is what a step leads to from a reachable state; each is a state. A property of

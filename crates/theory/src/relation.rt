@@ -1,6 +1,6 @@
 //! The relations by name, as callers ask for one.
 
-/// The relation that is meant. The definition that it stands for is that of `meant` in `specs/Relations`.
+/// The relation that is meant: what a caller asks for, and what the definitions take.
 #[derive(Clone, Copy, Debug, PartialEq, Eq)]
 pub enum Relation {
     /// Strong bisimulation (Milner 1989).

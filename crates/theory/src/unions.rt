@@ -2,7 +2,8 @@
 
 ghost use Rattle.std.specs.Prelude.{◌≡◌, ◌↔◌, ℕ, ◌+◌, ◌<◌};
 ghost use Rattle.theory.specs.System.{System, IsSystem};
-ghost use Rattle.theory.specs.Bisimulation.{Relation, Bisimilar, Equivalent};
+ghost use Rattle.theory.specs.Bisimulation.{Bisimilar, Equivalent};
+ghost use Rattle.theory.specs.declared.relation.Relation.{Relation};
 ghost use Rattle.theory.specs.Blocks.{Turns, EachTwo};
 ghost use Rattle.theory.specs.Alike.{SameSteps};
 ghost use Rattle.theory.specs.Union.{union_of};

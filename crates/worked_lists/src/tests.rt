@@ -11,7 +11,7 @@ use worked::check;
 
 type Pairs = &'static [(u32, u32)];
 
-/// What two lists have, whether they are one list, and the pairs of both. Lists of equal prints have sums of words with the same
+/// What two lists have, whether they are one list, and the pairs of both. Lists of equal tags have sums of hashes with the same
 /// upper half, by which the table looks for them.
 type Row = (&'static str, Pairs, Pairs, bool, Pairs);
 

@@ -1,11 +1,11 @@
 -- What a walk says of the states below a place holds still after a move that keeps them, and after lists were added.
 use Rattle.std.proofs.Common.{◌≡◌, ◌⊎◌, ℕ, ◌<◌, ◌≤◌, Bool, List, length, slice_index, refl, sym, ◌∙◌, subst, inl, inr, arith, Contains}
 use Rattle.std.specs.List.{All}
-use Rattle.theory.specs.Bisimulation.Relation.{branching}
+use Rattle.theory.specs.declared.relation.Relation.TheVariants.{Branching}
 use Rattle.lts.specs.Lts.{Grouped, Triple, source_of, place_at}
 use Rattle.lists.specs.Lists.{Grow}
 use Rattle.inert.specs.Signed.{HasPair, pair_under, IsSignature, IsKnownAlone}
-use Rattle.inert.specs.Search.{Search, mark_at, item_at, Gives, IsUpTo, IsOf, Holds, IsAhead, IsEntered, IsFollowed, Accounted, IsSound, IsThere, Walks, Open, Finished, Frame, Root, Item, Pair, Listed}
+use Rattle.inert.specs.Search.{Search, mark_at, item_at, Gives, IsUpTo, IsOf, HoldsPair, IsAhead, IsEntered, IsFollowed, Accounted, IsSound, IsThere, Walks, Open, Finished, Frame, Root, Item, Pair, Listed}
 
 -- the states at places below n, their components and their items are as they were
 pub record Keeps (w new : Search) (n : ℕ) : Type 0 where
@@ -35,7 +35,7 @@ keeps_stack w frames roots items same fewer = record {
 
 module _ {l : Grouped} {blocks : List ℕ} {alone : List Bool} {lists : List (List (ℕ × ℕ))} {w : Search} (walks : Walks l blocks alone lists w) {new : Search} {n : ℕ}
     (keeps : Keeps w new n) where
-  holds_still : (p : ℕ) (z : ℕ × ℕ) → p < n → Holds lists w p z → Holds lists new p z
+  holds_still : (p : ℕ) (z : ℕ × ℕ) → p < n → HoldsPair lists w p z → HoldsPair lists new p z
   holds_still p z h (j, low, g, of) =
       let (low', same) = keeps.items j p low h of in
       (j, low', subst (λ x. Gives lists x z) (sym same) g, keeps.of j p low h of)
@@ -75,7 +75,7 @@ module _ {l : Grouped} {blocks : List ℕ} {alone : List Bool} {lists : List (Li
         omega (arith, h, room),
         keeps.of j p low h of,
         λ z g.
-            subst (λ s. HasPair branching l blocks s z.0 z.1) (sym (keeps.states p h)) (all z (subst (λ x. Gives lists x z) (keeps.items j p low h of).1 g)),
+            subst (λ s. HasPair Branching l blocks s z.0 z.1) (sym (keeps.states p h)) (all z (subst (λ x. Gives lists x z) (keeps.items j p low h of).1 g)),
       )
 
 -- lists were added
@@ -86,7 +86,7 @@ module _ {lists lists' : List (List (ℕ × ℕ))} (grow : Grow lists lists') wh
   Gives-grow (Listed k) there z = let same = grow.same k (there k refl) in (subst (λ xs. Contains xs z) (sym same), subst (λ xs. Contains xs z) same)
 
   module _ {l : Grouped} {blocks : List ℕ} {alone : List Bool} {w : Search} (walks : Walks l blocks alone lists w) where
-    holds : (p : ℕ) (z : ℕ × ℕ) → Holds lists w p z → Holds lists' w p z
+    holds : (p : ℕ) (z : ℕ × ℕ) → HoldsPair lists w p z → HoldsPair lists' w p z
     holds p z (j, low, g, of) = (j, low, (Gives-grow (item_at w.items j) (walks.there j (Pair 0 0) low) z).0 g, of)
 
     followed : (p t : ℕ) → IsFollowed lists w p t → IsFollowed lists' w p t
@@ -104,7 +104,7 @@ module _ {lists lists' : List (List (ℕ × ℕ))} (grow : Grow lists lists') wh
           record {
             within = omega (arith, was.within, grow.longer);
             sound = λ z c. was.sound z (subst (λ xs. Contains xs z) same c);
-            whole = subst (λ xs. IsSignature branching l blocks s xs ⊎ IsKnownAlone blocks alone s) (sym same) was.whole;
+            whole = subst (λ xs. IsSignature Branching l blocks s xs ⊎ IsKnownAlone blocks alone s) (sym same) was.whole;
           };
       roots = walks.roots;
       frames = walks.frames;

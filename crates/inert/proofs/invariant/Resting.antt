@@ -7,8 +7,8 @@ use Rattle.std.proofs.lemmas.List.Sums.{count_by-le-length}
 use Rattle.lts.specs.Lts.{Grouped, row_of, IsLts}
 use Rattle.lists.specs.Lists.{list_at, AreNumbers}
 use Rattle.inert.specs.Signed.{IsKnownAlone, IsListOf}
-use Rattle.inert.specs.Search.{Search, Laws, mark_at, no_root, IsIdle, IsSigned, Walks, Unseen, Open, Finished, Frame, IsNumbered, Mark}
-use Rattle.inert.specs.Moves.{Enters, skipped, ahead, Fits, GoesOn, Rests}
+use Rattle.inert.specs.Search.{Search, Laws, mark_at, no_root, IsIdle, IsSigned, Walks, Unseen, Open, Finished, Frame, HasItsList, Mark}
+use Rattle.inert.specs.Moves.{Enters, skipped, ahead, FitsLists, GoesOn, Rests}
 use Rattle.inert.specs.Ahead.{is_unseen, unseen, unread, rest, HasSeen}
 use Rattle.inert.proofs.parts.Marks.{seen_more}
 use Rattle.inert.proofs.parts.Counting.{unseen-marked, unread-marked, unread-all, rest-push, unread-none}
@@ -25,7 +25,7 @@ idle_rests l blocks alone lists {w = w} idle size one =
       numbers = record { size = size; some = omega (arith, one); numbers = omega (arith, few, size) };
       shut = λ s p is. cc (is, idle.none s);
       signed = λ s k is. absurd (cc (is, idle.none s));
-      fits = subst (Fits l (length lists)) (sym idle.empty) (omega (arith, few, unread-all l.places w.marks idle.none, size, one));
+      fits = subst (FitsLists l (length lists)) (sym idle.empty) (omega (arith, few, unread-all l.places w.marks idle.none, size, one));
     }
 
 -- no row is left
@@ -118,7 +118,7 @@ module _ {l : Grouped} {blocks : List ℕ} {alone : List Bool} {lists : List (Li
   finished s = seen_finished (mark_at w.marks s) (rests.shut s)
 
   -- the numbers are of lists that are there, each of its state
-  module _ (numbers : List ℕ) (are : (s : ℕ) → s < length numbers → IsNumbered blocks alone w.marks s (slice_index numbers s)) where
+  module _ (numbers : List ℕ) (are : (s : ℕ) → s < length numbers → HasItsList blocks alone w.marks s (slice_index numbers s)) where
     pub numbered : AreNumbers lists numbers
     numbered s d h = subst (λ x. x < length lists) (get_or_default numbers s 0 d h) (elim (are s h) [
       | inl (known, zero) ↦ let some = rests.numbers.some in omega (arith, zero, some)
@@ -136,7 +136,7 @@ module _ {l : Grouped} {blocks : List ℕ} {alone : List Bool} {lists : List (Li
 
 -- a walk rests when no row is being read
 pub walk_rests : {l : Grouped} {blocks : List ℕ} {alone : List Bool} {lists : List (List (ℕ × ℕ))} {w : Search} → Walks l blocks alone lists w → length w.frames ≡ 0
-    → Fits l (length lists) w → Rests l blocks alone lists w
+    → FitsLists l (length lists) w → Rests l blocks alone lists w
 walk_rests {w = w} walks none fits =
     let stack : length w.stack ≡ 0 = grind (arith, frames_some walks, none) in
     let roots : length w.roots ≡ 0 = grind (arith, root_low walks 0 no_root, stack) in

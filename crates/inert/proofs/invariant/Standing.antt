@@ -3,7 +3,7 @@ use Rattle.std.proofs.Common.{◌≡◌, ℕ, ◌-◌, ◌<◌, ◌≤◌, Bool,
 use Rattle.std.specs.List.{All}
 use Rattle.std.proofs.lemmas.Bool.{cases_lt}
 use Rattle.std.proofs.lemmas.List.{get_or_default}
-use Rattle.theory.specs.Bisimulation.Relation.{branching}
+use Rattle.theory.specs.declared.relation.Relation.TheVariants.{Branching}
 use Rattle.lts.specs.Lts.{Grouped, system_of, source_of, place_at, IsRow}
 use Rattle.inert.specs.Moves.{HasRead}
 use Rattle.inert.specs.Signed.{HasPair}
@@ -11,7 +11,7 @@ use Rattle.inert.specs.Search.{Search, Laws, frame_at, no_frame, here, last, no_
 
 -- the pairs of a state are those of each state that leads to it
 pub pair_before : (laws : Laws) (l : Grouped) (blocks : List ℕ) (s t : ℕ) (z : ℕ × ℕ) → Ties l blocks s t
-    → HasPair branching l blocks t z.0 z.1 → HasPair branching l blocks s z.0 z.1
+    → HasPair Branching l blocks t z.0 z.1 → HasPair Branching l blocks s z.0 z.1
 pair_before laws l blocks s t z tie has = (has.0, laws.path (system_of l) (slice_index blocks) s t _ z.1 tie has.1)
 
 module _ {l : Grouped} {blocks : List ℕ} {alone : List Bool} {lists : List (List (ℕ × ℕ))} {w : Search} (walks : Walks l blocks alone lists w) where

@@ -5,11 +5,11 @@ use Rattle.std.proofs.lemmas.Bool.{cases_eq, cases_lt}
 use Rattle.std.proofs.lemmas.Grind.{common_steps, elements}
 use Rattle.std.proofs.lemmas.List.{get_or_default, get_or-take, length-take-le, length-append, get_or_append_left, get_or_push, length_push, append-nil, length-drop}
 use Rattle.std.proofs.lemmas.List.Elements.{All-take, All-nil, All-cons, All-append}
-use Rattle.theory.specs.Bisimulation.Relation.{branching}
+use Rattle.theory.specs.declared.relation.Relation.TheVariants.{Branching}
 use Rattle.lts.specs.Lts.{Grouped, source_of, place_at, IsLts}
 use Rattle.lists.specs.Lists.{list_at}
-use Rattle.inert.specs.Search.{Search, mark_at, frame_at, no_frame, here, last, no_root, IsFrame, IsAhead, IsEntered, IsFollowed, Walks, Laws, root_at, item_at, Ties, IsOf, IsBefore, IsRoot, IsThere, Gives, Holds, AreOpen, IsSigned, IsSound, AreSound, Mark, Item, Pair, Listed}
-use Rattle.inert.specs.Moves.{popped, HasRead, Finishes, weight, Closes, ahead, Fits, GoesOn}
+use Rattle.inert.specs.Search.{Search, mark_at, frame_at, no_frame, here, last, no_root, IsFrame, IsAhead, IsEntered, IsFollowed, Walks, Laws, root_at, item_at, Ties, IsOf, IsBefore, IsRoot, IsThere, Gives, HoldsPair, AreOpen, IsSigned, IsSound, AreSound, Mark, Item, Pair, Listed}
+use Rattle.inert.specs.Moves.{popped, HasRead, Finishes, weight, Closes, ahead, FitsLists, GoesOn}
 use Rattle.inert.specs.Signed.{HasPair}
 use Rattle.inert.specs.Ahead.{is_unseen, rest, KeepsSeen}
 use Rattle.inert.proofs.parts.Rising.{AllPairs-take, All-from_take}
@@ -204,7 +204,7 @@ module _ (laws : Laws) {l : Grouped} {blocks : List ℕ} {alone : List Bool} {li
   of_back : 0 < length Closed.frames → IsOf Closed.roots c0 back
   of_back more i d h = (λ _. (root_left i d h).1.1, λ lt. let up = up_to_back more i d h in absurd (omega (arith, lt, up)))
 
-  back_holds : 0 < length Closed.frames → (z : ℕ × ℕ) → Contains (list_at lists number) z → Holds lists Closed back z
+  back_holds : 0 < length Closed.frames → (z : ℕ × ℕ) → Contains (list_at lists number) z → HoldsPair lists Closed back z
   back_holds more z c = (c0, (let n = (item_new more).0 in omega (arith, n)), subst (λ x. Gives lists x z) (sym (item_new more).1) c, of_back more)
 
   entered_still : (p t : ℕ) → IsEntered w p t → IsFollowed lists Closed p t
@@ -216,7 +216,7 @@ module _ (laws : Laws) {l : Grouped} {blocks : List ℕ} {alone : List Bool} {li
         inr (inl (
           number,
           ap (mark_at Closed.marks) (sym there) ∙ marks.members q (omega arith) low_q,
-          λ z c. subst (λ x. Holds lists Closed x z) at (back_holds more z c),
+          λ z c. subst (λ x. HoldsPair lists Closed x z) at (back_holds more z c),
         ))
     | inr d ↦
         let (j, low', is', to') = popped_entered walks p t i (omega (arith, low, d)) is to in
@@ -240,7 +240,7 @@ module _ (laws : Laws) {l : Grouped} {blocks : List ℕ} {alone : List Bool} {li
         omega (arith, low, size),
         of_back more,
         λ z g.
-            subst (λ s. HasPair branching l blocks s z.0 z.1) (sym (state_same back low))
+            subst (λ s. HasPair Branching l blocks s z.0 z.1) (sym (state_same back low))
             (pair_before laws l blocks (slice_index w.stack back) (slice_index w.stack q) z
             (walks.connects back q (omega (arith, low, low_q)) low_q (λ i d h le. omega (arith, le, low)))
             ((exact q (omega arith) low_q).sound z (subst (λ x. Gives lists x z) (item_new more).1 g))),
@@ -305,7 +305,7 @@ module _ (laws : Laws) {l : Grouped} {blocks : List ℕ} {alone : List Bool} {li
   }
 
 -- the walk goes on from there: what is ahead is the same, and there is room for its lists
-module _ {l : Grouped} {blocks : List ℕ} {alone : List Bool} {lists : List (List (ℕ × ℕ))} {w : Search} (walks : Walks l blocks alone lists w) (fits : Fits l (length lists) w)
+module _ {l : Grouped} {blocks : List ℕ} {alone : List Bool} {lists : List (List (ℕ × ℕ))} {w : Search} (walks : Walks l blocks alone lists w) (fits : FitsLists l (length lists) w)
     (some : 0 < length w.frames) (read : HasRead w) where
   popped_rest : rest (popped w).frames ≡ rest w.frames
   popped_rest = rest-cut w.frames some read

@@ -6,12 +6,12 @@ use Rattle.std.proofs.lemmas.List.{get_or_append_left, get_or_push, length_push,
 use Rattle.std.proofs.lemmas.List.Elements.{All-push, All-take, All-set}
 use Rattle.std.proofs.lemmas.Grind.{elements, common_steps}
 use Rattle.std.proofs.lemmas.List.Quantifiers.{all_pairs_push}
-use Rattle.theory.specs.Bisimulation.Relation.{branching}
+use Rattle.theory.specs.declared.relation.Relation.TheVariants.{Branching}
 use Rattle.theory.specs.Blocks.{Inert}
 use Rattle.lts.specs.Lts.{Grouped, system_of, IsRow, place_at}
 use Rattle.inert.specs.Signed.{HasPair}
-use Rattle.inert.specs.Search.{Search, here, item_at, IsThere, IsOf, Gives, Holds, IsSound, Walks, Item, Laws, mark_at, root_at, no_root, Ties, IsUpTo, IsBefore, IsRoot, IsHere, Root, Open, frame_at, no_frame, IsFrame, IsEntered, IsAhead, AreOpen, AreRoots, AreFrames, AreAccounted, Connects, Mark, Unseen, Finished, Frame, IsFollowed, Accounted}
-use Rattle.inert.specs.Moves.{with_item, Cuts, entered}
+use Rattle.inert.specs.Search.{Search, here, item_at, IsThere, IsOf, Gives, HoldsPair, IsSound, Walks, Item, Laws, mark_at, root_at, no_root, Ties, IsUpTo, IsBefore, IsRoot, IsHere, Root, Open, frame_at, no_frame, IsFrame, IsEntered, IsAhead, AreOpen, AreRoots, AreFrames, AreAccounted, Connects, Mark, Unseen, Finished, Frame, IsFollowed, Accounted}
+use Rattle.inert.specs.Moves.{with_item, CutsRoots, entered}
 use Rattle.inert.proofs.parts.Rising.{AllPairs-take, All-from_take}
 use Rattle.inert.proofs.parts.Counting.{unseen-marked}
 use Rattle.inert.proofs.invariant.Standing.{reached, on_stack, ties, IsFrame-moved, frames_some, root_low}
@@ -36,11 +36,11 @@ module _ {l : Grouped} {blocks : List ℕ} {alone : List Bool} {lists : List (Li
     of_here : IsOf w.roots (length w.items) (here w)
     of_here i d h = (λ _. (walks.roots.each i d h).within, λ lt. let up = reached walks i d h in absurd (omega (arith, lt, up)))
 
-    pub collected_holds : (z : ℕ × ℕ) → Gives lists x z → Holds lists With (here w) z
+    pub collected_holds : (z : ℕ × ℕ) → Gives lists x z → HoldsPair lists With (here w) z
     collected_holds z g = (length w.items, omega (arith, length_push w.items x), subst (λ y. Gives lists y z) (sym item_last) g, of_here)
 
     pub Walks-collect : 0 < length w.frames → IsThere lists x
-        → ((z : ℕ × ℕ) → Gives lists x z → HasPair branching l blocks (slice_index w.stack (here w)) z.0 z.1) → Walks l blocks alone lists With
+        → ((z : ℕ × ℕ) → Gives lists x z → HasPair Branching l blocks (slice_index w.stack (here w)) z.0 z.1) → Walks l blocks alone lists With
     Walks-collect some there sound = record {
       numbers = walks.numbers;
       opened = walks.opened;
@@ -63,7 +63,7 @@ module _ {l : Grouped} {blocks : List ℕ} {alone : List Bool} {lists : List (Li
     }
 
   -- an inert step leads to a state that is open: the roots above its place q are cut, so that the components from there on are one
-  module _ (laws : Laws) {q : ℕ} {roots : List Root} (cuts : Cuts q w.roots roots) where
+  module _ (laws : Laws) {q : ℕ} {roots : List Root} (cuts : CutsRoots q w.roots roots) where
     cut_each : (P : Root → Type 0) → All P w.roots → All P roots
     cut_each P each = subst (All P) (sym cuts.roots) (All-take P cuts.kept w.roots each)
 

@@ -4,7 +4,7 @@ use Rattle.std.specs.Prelude.{IsTrue}
 use Rattle.std.proofs.lemmas.Bool.{cases_Bool}
 use Rattle.std.proofs.lemmas.List.{length_push, get_or_append_left, get_or-set_same, length-set}
 use Rattle.theory.specs.System.{Step}
-use Rattle.theory.specs.Bisimulation.Relation.{branching}
+use Rattle.theory.specs.declared.relation.Relation.TheVariants.{Branching}
 use Rattle.theory.specs.Blocks.{Inert, Signature}
 use Rattle.lts.specs.Labels.{text_of}
 use Rattle.lts.specs.Lts.{Grouped, Triple, source_of, label_of, target_of, place_at, system_of, IsLts, IsRow}
@@ -12,7 +12,7 @@ use Rattle.lts.specs.Meter.{Counts, Costs}
 use Rattle.inert.specs.Signed.{HasPair, pair_under}
 use Rattle.inert.specs.Steps.{IsInert, IsStep}
 use Rattle.inert.specs.Search.{Search, Laws, mark_at, frame_at, no_frame, top, here, IsFrame, Accounted, Walks, Unseen, Open, Finished, Frame, Root, Item, Pair, Listed}
-use Rattle.inert.specs.Moves.{entered, with_item, Takes, Cuts, ahead, weight, steps, HasRead, GoesOn}
+use Rattle.inert.specs.Moves.{entered, with_item, TakesStep, CutsRoots, ahead, weight, steps, HasRead, GoesOn}
 use Rattle.inert.specs.Ahead.{KeepsSeen}
 use Rattle.inert.specs.declared.step.Step.{Step as TakenStep}
 use Rattle.inert.specs.declared.step.Step.TheVariants.{Inert as Goes, Shows}
@@ -48,10 +48,10 @@ module _ (laws : Laws) {l : Grouped} (lts : IsLts l) {blocks : List ℕ} {alone 
 
   -- another one gives a pair of the signature
   own_pair : ¬ IsInert l blocks (slice_index blocks (source_of e)) e
-      → HasPair branching l blocks (slice_index w.stack (here w)) (pair_under blocks e).0 (pair_under blocks e).1
+      → HasPair Branching l blocks (slice_index w.stack (here w)) (pair_under blocks e).0 (pair_under blocks e).1
   own_pair other = (
     (lts.in_range.each k (0, 0, 0) place_low).label,
-    subst (λ s. Signature branching (system_of l) (slice_index blocks) s (text_of l.labels (label_of e)) (slice_index blocks (target_of e))) source
+    subst (λ s. Signature Branching (system_of l) (slice_index blocks) s (text_of l.labels (label_of e)) (slice_index blocks (target_of e))) source
         (source_of e, target_of e, laws.here (system_of l) (slice_index blocks) (source_of e), place_step l k place_low, refl, other),
   )
 
@@ -84,7 +84,7 @@ module _ (laws : Laws) {l : Grouped} (lts : IsLts l) {blocks : List ℕ} {alone 
   taken_pair a b enters other is =
       stayed w.roots (with_item (Pair a b) w).items enters
       (Walks-collect walks (Pair a b) some (λ j e'. absurd (cc))
-      (λ z g. subst (λ (x : ℕ × ℕ). HasPair branching l blocks (slice_index w.stack (here w)) x.0 x.1) (sym is ∙ g) (own_pair other)))
+      (λ z g. subst (λ (x : ℕ × ℕ). HasPair Branching l blocks (slice_index w.stack (here w)) x.0 x.1) (sym is ∙ g) (own_pair other)))
       (record { shown = λ _. collected_holds walks (Pair a b) (pair_under blocks e) is; followed = λ inert. absurd (other inert) })
       (omega (arith, length_push w.items (Pair a b)))
 
@@ -103,7 +103,7 @@ module _ (laws : Laws) {l : Grouped} (lts : IsLts l) {blocks : List ℕ} {alone 
         })
         (omega (arith, length_push w.items (Listed number)))
 
-    taken_joined : (q : ℕ) (roots : List Root) (enters : Bool) → mark_at w.marks (target_of e) ≡ Open q → Cuts q w.roots roots → ¬ IsTrue enters
+    taken_joined : (q : ℕ) (roots : List Root) (enters : Bool) → mark_at w.marks (target_of e) ≡ Open q → CutsRoots q w.roots roots → ¬ IsTrue enters
         → Taken (record w { roots = roots }) enters
     taken_joined q roots enters mark cuts =
         let was = walks.opened.only (target_of e) q mark in
@@ -130,7 +130,7 @@ module _ (laws : Laws) {l : Grouped} (lts : IsLts l) {blocks : List ℕ} {alone 
         }
 
   -- whichever step it is
-  pub taken : (step : TakenStep) (m : Search) (enters : Bool) → IsStep l blocks (slice_index blocks (source_of e)) e step → Takes l.places step w m enters
+  pub taken : (step : TakenStep) (m : Search) (enters : Bool) → IsStep l blocks (slice_index blocks (source_of e)) e step → TakesStep l.places step w m enters
       → Taken m enters
   taken (Shows a b) m enters is takes =
       subst (λ x. Taken x enters) (sym takes.0) (taken_pair a b enters is.0 is.1 takes.1)
@@ -197,7 +197,7 @@ module _ {l : Grouped} {blocks : List ℕ} {alone : List Bool} {lists : List (Li
           let is : IsStep l blocks block (place_at l.places k) (Goes t) = subst (IsStep l blocks block (place_at l.places k)) e is_step in
           omega (arith, target_low laws lts on.walks now_some next_is now_more, is.1)
 
-      module _ (m : Search) (enters : Bool) (takes : Takes l.places step w m enters) (i : ℕ) (last : i ≡ length first.frames - 1) where
+      module _ (m : Search) (enters : Bool) (takes : TakesStep l.places step w m enters) (i : ℕ) (last : i ≡ length first.frames - 1) where
         same_block : block ≡ slice_index blocks (source_of (place_at l.places k))
         same_block =
             is_block ∙ ap (slice_index blocks) (ap (slice_index first.stack) (sym (ap (λ y. y.place) reads.here)) ∙ ap (λ xs. slice_index xs (top w.frames).place) (sym reads.stack)

@@ -3,13 +3,13 @@ use Rattle.std.proofs.Common.{◌≡◌, ℕ, ◌+◌, ◌-◌, ◌<◌, ◌≤�
 use Rattle.std.proofs.lemmas.Bool.{cases_Bool}
 use Rattle.std.proofs.lemmas.List.{length-map, get_or-map, get_or-drop, get_or_default, length-drop}
 use Rattle.theory.specs.System.{Step, Along, internal}
-use Rattle.theory.specs.Bisimulation.Relation.{branching}
+use Rattle.theory.specs.declared.relation.Relation.TheVariants.{Branching}
 use Rattle.theory.specs.Blocks.{Inert}
 use Rattle.lts.specs.Labels.{text_of}
 use Rattle.lts.specs.Lts.{Grouped, source_of, label_of, target_of, place_at, transition_of, system_of, IsLts}
 use Rattle.lists.specs.Lists.{list_at}
 use Rattle.inert.specs.Signed.{HasPair, IsSignature, IsKnownAlone, pair_under}
-use Rattle.inert.specs.Search.{Search, Laws, here, last, no_root, item_at, Gives, Holds, Accounted, IsSigned, Walks}
+use Rattle.inert.specs.Search.{Search, Laws, here, last, no_root, item_at, Gives, HoldsPair, Accounted, IsSigned, Walks}
 use Rattle.inert.specs.Moves.{IsGiven, IsListed, HasRead}
 use Rattle.inert.proofs.invariant.Standing.{pair_before, roots_some, stack_some, last_most, last_frame, none_ahead}
 
@@ -41,7 +41,7 @@ module _ (laws : Laws) {l : Grouped} (lts : IsLts l) {blocks : List ℕ} {alone 
   last_low : length w.roots - 1 < length w.roots
   last_low = omega (arith, roots_some walks (stack_some walks some))
 
-  collected_from : (p : ℕ) → here w ≤ p → (z : ℕ × ℕ) → Holds lists w p z → Collected z
+  collected_from : (p : ℕ) → here w ≤ p → (z : ℕ × ℕ) → HoldsPair lists w p z → Collected z
   collected_from p h z (j, low, g, of) =
       let from = (of (length w.roots - 1) no_root last_low).0 (omega (arith, place, h)) in
       let is : c0 + (j - c0) ≡ j = omega (arith, from) in
@@ -65,7 +65,7 @@ module _ (laws : Laws) {l : Grouped} (lts : IsLts l) {blocks : List ℕ} {alone 
       let block : slice_index blocks (target_of (place_at l.places k)) ≡ z.1 = ap (slice_index blocks) target ∙ is in
       let same : pair_under blocks (place_at l.places k) ≡ z = λ i. (number i, block i) in
       collected_from p h z
-      (subst (Holds lists w p) same
+      (subst (HoldsPair lists w p) same
       ((done p k h lp lk source).shown (λ inert. other (sym label ∙ inert.0, sym block ∙ inert.1 ∙ ap (slice_index blocks) source))))
 
   -- and what it can do at the end of inert steps, unless it is known to be alone: so are then all states of its block
@@ -90,7 +90,7 @@ module _ (laws : Laws) {l : Grouped} (lts : IsLts l) {blocks : List ℕ} {alone 
         | inr held ↦ elim held [
           | inl (number, mark, all) ↦
               let path = subst (λ y. Along (Inert (system_of l) (slice_index blocks)) y us u) (sym target) rest in
-              let has : HasPair branching l blocks (target_of (place_at l.places k)) z.0 z.1 = (low, (u, t, (us, path), step, is, λ inert. other (inert.0, inert.1 ∙ same))) in
+              let has : HasPair Branching l blocks (target_of (place_at l.places k)) z.0 z.1 = (low, (u, t, (us, path), step, is, λ inert. other (inert.0, inert.1 ∙ same))) in
               elim ((walks.signed (target_of (place_at l.places k)) number mark).whole) [
                 | inl signature ↦ collected_from p h z (all z ((signature.exactly z.0 z.1).1 has))
                 | inr known ↦ absurd (together known)
@@ -100,7 +100,7 @@ module _ (laws : Laws) {l : Grouped} (lts : IsLts l) {blocks : List ℕ} {alone 
       ]
 
   -- what was collected is in the signature of each state of the component
-  sound : (p : ℕ) → here w ≤ p → p < length w.stack → (z : ℕ × ℕ) → Collected z → HasPair branching l blocks (slice_index w.stack p) z.0 z.1
+  sound : (p : ℕ) → here w ≤ p → p < length w.stack → (z : ℕ × ℕ) → Collected z → HasPair Branching l blocks (slice_index w.stack p) z.0 z.1
   sound p h lp z (x, (i, low, at), g) =
       let low' : c0 + i < length w.items = omega (arith, low, length-drop c0 w.items) in
       let (q, lq, of, all) = walks.sound (c0 + i) low' in
@@ -111,7 +111,7 @@ module _ (laws : Laws) {l : Grouped} (lts : IsLts l) {blocks : List ℕ} {alone 
   -- a list of it is the signature of each state of the component
   module _ {lists' : List (List (ℕ × ℕ))} {number : ℕ} (listed : IsListed (drop c0 w.items) lists lists' number) where
     whole : (p : ℕ) → here w ≤ p → p < length w.stack → ¬ IsKnownAlone blocks alone (slice_index w.stack p)
-        → IsSignature branching l blocks (slice_index w.stack p) (list_at lists' number)
+        → IsSignature Branching l blocks (slice_index w.stack p) (list_at lists' number)
     whole p h lp company = record {
       exactly = λ k b. (
         λ c. sound p h lp (k, b) ((listed.exactly (k, b)).0 c),

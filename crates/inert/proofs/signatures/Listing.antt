@@ -12,10 +12,10 @@ use Rattle.std.proofs.lemmas.List.Kept.{Contains-dedup, Contains-from_dedup}
 use Rattle.std.proofs.lemmas.List.Sorted.{Contains-permutation, IsPermutation-sym, length_permutation}
 use Rattle.lists.specs.Lists.{list_at, AreLists, AreNumbers, Grow, HasOne}
 use Rattle.inert.specs.Search.{IsThere, AreThere, Gives, Item, Pair, Listed}
-use Rattle.inert.specs.Moves.{IsGiven, AreTaken, IsListed}
+use Rattle.inert.specs.Moves.{IsGiven, AreCollected, IsListed}
 
 -- no item names anything
-pub taken_none : AreTaken [] [] []
+pub taken_none : AreCollected [] [] []
 taken_none = record {
   named = λ k. (λ c. absurd (omega (arith, c.1)), λ c. absurd (omega (arith, c.1)));
   own = λ a b. (λ c. absurd (omega (arith, c.1)), λ c. absurd (omega (arith, c.1)));
@@ -34,8 +34,8 @@ fewer : {X : Type 0} (xs : List X) {x x' : X} → ¬ (x ≡ x') → Contains (xs
 fewer xs {x = x} {x' = x'} other c = elim (Contains-push_cases xs x x' c) [ inl was ↦ was | inr e ↦ absurd (other e) ]
 
 -- one item more
-module _ (items : List Item) (numbers : List ℕ) (pairs : List (ℕ × ℕ)) (taken : AreTaken items numbers pairs) where
-  pub taken_pair : (a b : ℕ) → AreTaken (items ++ Pair a b ∷ []) numbers (pairs ++ (a, b) ∷ [])
+module _ (items : List Item) (numbers : List ℕ) (pairs : List (ℕ × ℕ)) (taken : AreCollected items numbers pairs) where
+  pub taken_pair : (a b : ℕ) → AreCollected (items ++ Pair a b ∷ []) numbers (pairs ++ (a, b) ∷ [])
   taken_pair a b = record {
     named = λ k. (λ c. Contains-append_left items (Pair a b ∷ []) (Listed k) ((taken.named k).0 c), λ c. (taken.named k).1 (fewer items (λ e. cc) c));
     own = λ x y. (
@@ -45,7 +45,7 @@ module _ (items : List Item) (numbers : List ℕ) (pairs : List (ℕ × ℕ)) (t
     few = omega (arith, taken.few, length_push items (Pair a b));
   }
 
-  pub taken_list : (j : ℕ) → AreTaken (items ++ Listed j ∷ []) (numbers ++ j ∷ []) pairs
+  pub taken_list : (j : ℕ) → AreCollected (items ++ Listed j ∷ []) (numbers ++ j ∷ []) pairs
   taken_list j = record {
     named = λ k. (more numbers items (taken.named k).0 (ap Listed), more items numbers (taken.named k).1 (λ e. cc));
     own = λ x y. (
@@ -75,16 +75,16 @@ numbers_few xs ys zs same filtered =
     omega (arith, picked_few bs ys, length_permutation xs ys same, ap length is)
 
 -- numbers and pairs in another order
-pub taken_ordered : (items : List Item) (ns numbers : List ℕ) (ps pairs : List (ℕ × ℕ)) → AreTaken items ns ps
+pub taken_ordered : (items : List Item) (ns numbers : List ℕ) (ps pairs : List (ℕ × ℕ)) → AreCollected items ns ps
     → ((k : ℕ) → Contains numbers k ↔ Contains ns k) → length numbers ≤ length ns → ((z : ℕ × ℕ) → Contains pairs z ↔ Contains ps z)
-    → AreTaken items numbers pairs
+    → AreCollected items numbers pairs
 taken_ordered items ns numbers ps pairs taken named fewer own = record {
   named = λ k. (λ c. (taken.named k).0 ((named k).0 c), λ c. (named k).1 ((taken.named k).1 c));
   own = λ a b. (λ c. (taken.own a b).0 ((own (a, b)).0 c), λ c. (own (a, b)).1 ((taken.own a b).1 c));
   few = omega (arith, taken.few, fewer);
 }
 
-module _ (items : List Item) (lists : List (List (ℕ × ℕ))) (numbers : List ℕ) (pairs : List (ℕ × ℕ)) (taken : AreTaken items numbers pairs) where
+module _ (items : List Item) (lists : List (List (ℕ × ℕ))) (numbers : List ℕ) (pairs : List (ℕ × ℕ)) (taken : AreCollected items numbers pairs) where
   -- the item of a number
   listed_at : (i : ℕ) → i < length numbers → Contains items (Listed (slice_index numbers i))
   listed_at i low = (taken.named (slice_index numbers i)).0 (Contains-get_or numbers i 0 low)

@@ -2,7 +2,7 @@
 use Rattle.std.proofs.Common.{◌≡◌, ℕ, Bool, true, not, eqb, List, [], ◌∷◌, length, map, slice_index, subst}
 use Rattle.std.proofs.lemmas.Bool.{eqb-true}
 use Rattle.theory.specs.System.{System, Reachable}
-use Rattle.theory.specs.Bisimulation.{Relation}
+use Rattle.theory.specs.declared.relation.Relation.{Relation}
 use Rattle.theory.specs.Quotient.{Leader, IsLeader, Number, Quotient}
 use Rattle.theory.specs.Examples.{AreQuotients, NumbersAre, LeadersAre, QuotientIs}
 use Rattle.theory.proofs.Testing.{and_then, and_then_parts, not_passes, every, has, has_contains, contains_has, each_below, each_below_passes}

@@ -3,8 +3,9 @@ use Rattle.std.proofs.Common.{◌≡◌, ◌≢◌, ◌↔◌, ℕ, zero, suc, B
 use Rattle.std.proofs.lemmas.Bool.{eqb-true, eq-eqb}
 use Rattle.std.proofs.lemmas.List.Elements.{Contains-get_or}
 use Rattle.theory.specs.System.{System, Transition, Reachable, AnyStep, internal}
-use Rattle.theory.specs.Bisimulation.{Relation, Bisimilar}
-use Rattle.theory.specs.Bisimulation.Relation.{strong, branching}
+use Rattle.theory.specs.Bisimulation.{Bisimilar}
+use Rattle.theory.specs.declared.relation.Relation.{Relation}
+use Rattle.theory.specs.declared.relation.Relation.TheVariants.{Strong, Branching}
 use Rattle.theory.specs.Blocks.{Share}
 use Rattle.theory.specs.Quotient.{HowMany, IsLeader, Number, IsDropped, Stands, Quotient}
 use Rattle.theory.proofs.Testing.{and_then, and_then_parts, and_then_from, or_else, or_else_cases, not_passes, every, every_passes, some, some_passes, has, has_contains, contains_has, bytes_same, bytes_pass}
@@ -55,18 +56,18 @@ all_differ_passes (e ∷ es) h (suc i) (suc j) d low l =
 
 -- a transition that the quotient leaves out
 abbrev pub dropped : Relation → Transition → Bool
-dropped strong e = false
-dropped branching e = and_then (bytes_eq e.label internal) (λ _. eqb e.source e.target)
+dropped Strong e = false
+dropped Branching e = and_then (bytes_eq e.label internal) (λ _. eqb e.source e.target)
 
 dropped_there : (rel : Relation) (e : Transition) → dropped rel e ≡ true → IsDropped rel e
-dropped_there strong e h = cc
-dropped_there branching e h =
+dropped_there Strong e h = cc
+dropped_there Branching e h =
     let parts = and_then_parts (bytes_eq e.label internal) (λ _. eqb e.source e.target) h in
     (bytes_same e.label internal parts.0, eqb-true e.source e.target parts.1)
 
 dropped_back : (rel : Relation) (e : Transition) → IsDropped rel e → dropped rel e ≡ true
-dropped_back strong e h = absurd h
-dropped_back branching e h =
+dropped_back Strong e h = absurd h
+dropped_back Branching e h =
     and_then_from (bytes_eq e.label internal) (λ _. eqb e.source e.target) (bytes_pass e.label internal h.0)
     (eq-eqb e.source e.target h.1)
 

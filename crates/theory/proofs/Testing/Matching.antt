@@ -2,8 +2,9 @@
 use Rattle.std.proofs.Common.{◌≡◌, ℕ, zero, suc, Bool, true, false, not, eqb, ltb, ltb-true, List, Contains, bytes_eq, refl, sym, subst, inl, inr}
 use Rattle.std.proofs.lemmas.Bool.{eqb-true}
 use Rattle.theory.specs.System.{System, Step, internal}
-use Rattle.theory.specs.Bisimulation.{Relation, Answers, IsBisimulation, Pairs, Bisimilar}
-use Rattle.theory.specs.Bisimulation.Relation.{strong, branching}
+use Rattle.theory.specs.Bisimulation.{Answers, IsBisimulation, Pairs, Bisimilar}
+use Rattle.theory.specs.declared.relation.Relation.{Relation}
+use Rattle.theory.specs.declared.relation.Relation.TheVariants.{Strong, Branching}
 use Rattle.theory.specs.Examples.{AreApart}
 use Rattle.theory.proofs.Testing.{and_then, and_then_parts, or_else, or_else_cases, not_passes, every, every_passes, some, some_passes, each_step, each_step_passes, some_step, some_step_passes, bytes_same, bytes_pass}
 use Rattle.theory.proofs.Testing.Systems.{is_system, system_passes}
@@ -38,16 +39,16 @@ replies_later B r s t x s' = some (silent_from B t) (λ t1. and_then (r s t1) (�
 
 -- the test of an answer, for related states that r tests
 abbrev pub answers : Relation → System → System → (ℕ → ℕ → Bool) → ℕ → ℕ → Bool
-answers strong A B r s t = each_step A.transitions s (λ x s'. replies B r t x s')
-answers branching A B r s t = each_step A.transitions s (λ x s'.
+answers Strong A B r s t = each_step A.transitions s (λ x s'. replies B r t x s')
+answers Branching A B r s t = each_step A.transitions s (λ x s'.
     or_else (and_then (bytes_eq x internal) (λ _. r s' t)) (λ _. replies_later B r s t x s'))
 
 pub answers_hold :
     (rel : Relation) (A B : System) (r : ℕ → ℕ → Bool) (R : ℕ → ℕ → Type 0) → ((s t : ℕ) → r s t ≡ true → R s t) →
     (s t : ℕ) → answers rel A B r s t ≡ true → Answers rel A B R s t
-answers_hold strong A B r R sound s t h = λ x s' step.
+answers_hold Strong A B r R sound s t h = λ x s' step.
     replies_hold B r R sound t x s' (each_step_passes A.transitions s (λ x s'. replies B r t x s') h x s' step)
-answers_hold branching A B r R sound s t h = λ x s' step.
+answers_hold Branching A B r R sound s t h = λ x s' step.
     let passed = each_step_passes A.transitions s (λ x s'.
     or_else (and_then (bytes_eq x internal) (λ _. r s' t)) (λ _. replies_later B r s t x s')) h x s' step in
     elim (or_else_cases (and_then (bytes_eq x internal) (λ _. r s' t)) (λ _. replies_later B r s t x s') passed) [
@@ -130,8 +131,8 @@ no_answer B d s t x s' =
 
 -- a step from s that t does not answer
 abbrev pub unanswered : Relation → System → System → (ℕ → ℕ → Bool) → ℕ → ℕ → Bool
-unanswered strong A B d s t = some_step A.transitions s (λ x s'. avoids B d t x s')
-unanswered branching A B d s t =
+unanswered Strong A B d s t = some_step A.transitions s (λ x s'. avoids B d t x s')
+unanswered Branching A B d s t =
     and_then (covers B.transitions is_internal (silent_from B t) t) (λ _. some_step A.transitions s (no_answer B d s t))
 
 rest_fails :
@@ -156,11 +157,11 @@ move_fails B d R apart s t x s' h t1 t' c step related reached =
 pub unanswered_fails :
     (rel : Relation) (A B : System) (d : ℕ → ℕ → Bool) (R : ℕ → ℕ → Type 0) → ((s t : ℕ) → d s t ≡ true → R s t → ⊥) →
     (s t : ℕ) → unanswered rel A B d s t ≡ true → Answers rel A B R s t → ⊥
-unanswered_fails strong A B d R apart s t h answer =
+unanswered_fails Strong A B d R apart s t h answer =
     let found = some_step_passes A.transitions s (λ x s'. avoids B d t x s') h in
     let reply = answer found.0 found.1 found.2 in
     avoids_holds B d R apart t found.0 found.1 found.3 reply.0 reply.1 reply.2
-unanswered_fails branching A B d R apart s t h answer =
+unanswered_fails Branching A B d R apart s t h answer =
     let whole = and_then_parts (covers B.transitions is_internal (silent_from B t) t) (λ _.
     some_step A.transitions s (no_answer B d s t)) h in
     let found = some_step_passes A.transitions s (no_answer B d s t) whole.1 in
@@ -201,9 +202,9 @@ not_bisimilar rel A B k s t h found = differing rel A B (Pairs found.0) found.1 
 -- neither relation makes the two systems equivalent: their first states are told apart in j and in k turns
 pub are_apart :
     (A B : System) (j k : ℕ) → is_system A ≡ true → is_system B ≡ true →
-    differ strong A B j A.first B.first ≡ true → differ branching A B k A.first B.first ≡ true → AreApart A B
+    differ Strong A B j A.first B.first ≡ true → differ Branching A B k A.first B.first ≡ true → AreApart A B
 are_apart A B j k a b strongly branching_too = record {
   systems = (system_passes A a, system_passes B b);
-  strongly = not_bisimilar strong A B j A.first B.first strongly;
-  branching = not_bisimilar branching A B k A.first B.first branching_too;
+  strongly = not_bisimilar Strong A B j A.first B.first strongly;
+  branching = not_bisimilar Branching A B k A.first B.first branching_too;
 }

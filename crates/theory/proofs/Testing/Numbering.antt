@@ -3,7 +3,8 @@ use Rattle.std.proofs.Common.{◌≡◌, ◌≢◌, ◌⊎◌, ◌↔◌, ℕ, �
 use Rattle.std.proofs.lemmas.Bool.{eq-eqb, lt-ltb, ne_eqb, cases_eq, not_from_false}
 use Rattle.std.proofs.lemmas.List.Kept.{IsStrictlyIncreasing-filter}
 use Rattle.theory.specs.System.{System, Reachable}
-use Rattle.theory.specs.Bisimulation.{Relation, Bisimilar}
+use Rattle.theory.specs.Bisimulation.{Bisimilar}
+use Rattle.theory.specs.declared.relation.Relation.{Relation}
 use Rattle.theory.specs.Blocks.{Share}
 use Rattle.theory.specs.Quotient.{HowMany, IsLeader, Number}
 use Rattle.theory.proofs.Testing.{and_then, and_then_parts, and_then_from, not_passes}

@@ -2,7 +2,7 @@
 use Rattle.std.proofs.Common.{◌≡◌, true, not, eqb, Contains, refl}
 use Rattle.std.proofs.lemmas.Bool.{eq-eqb}
 use Rattle.theory.specs.System.{System, Transition}
-use Rattle.theory.specs.Bisimulation.{Relation}
+use Rattle.theory.specs.declared.relation.Relation.{Relation}
 use Rattle.theory.specs.Quotient.{Quotient}
 use Rattle.theory.proofs.Determined.{same_states, same_transitions}
 use Rattle.theory.proofs.Testing.{not_passes, some, some_from}

@@ -3,7 +3,7 @@ use Rattle.std.proofs.Common.{◌≡◌, ◌≢◌, ℕ, zero, suc, ◌<◌, ◌
 use Rattle.std.specs.List.{slice_index_or}
 use Rattle.std.proofs.lemmas.Bool.{eqb-true, eq-eqb}
 use Rattle.theory.specs.System.{System, IsSystem}
-use Rattle.theory.specs.Bisimulation.{Relation}
+use Rattle.theory.specs.declared.relation.Relation.{Relation}
 use Rattle.theory.specs.Blocks.{Split, SameBlocks, OneBlock, After, ChangesNothing, Turns}
 use Rattle.theory.proofs.Testing.{and_then, and_then_parts, not_passes, each_below, each_below_passes, same_answer, same_answer_there, same_answer_back}
 use Rattle.theory.proofs.Testing.Systems.{is_system, system_passes}

@@ -2,8 +2,8 @@
 use Rattle.std.proofs.Common.{◌≡◌, ◌↔◌, ℕ, Bool, true, not, eqb, List, Contains, bytes_eq, refl, sym, ◌∙◌, subst, inl, inr}
 use Rattle.std.proofs.lemmas.Bool.{eqb-true, eq-eqb}
 use Rattle.theory.specs.System.{System, Step, internal}
-use Rattle.theory.specs.Bisimulation.{Relation}
-use Rattle.theory.specs.Bisimulation.Relation.{strong, branching}
+use Rattle.theory.specs.declared.relation.Relation.{Relation}
+use Rattle.theory.specs.declared.relation.Relation.TheVariants.{Strong, Branching}
 use Rattle.theory.specs.Blocks.{Signature}
 use Rattle.theory.proofs.Testing.{and_then, and_then_parts, and_then_from, or_else, or_else_cases, not_passes, every, every_passes, every_from, some, some_passes, some_from, each_step, each_step_passes, some_step, some_step_passes, bytes_same, bytes_pass}
 use Rattle.theory.proofs.Testing.Reaching.{covers, is_inert, inert_from, inert_found, inert_only}
@@ -53,25 +53,25 @@ own_pass blocks s x n h =
 
 -- each entry of the signature of s is in the list
 abbrev pub in_list : Relation → System → (ℕ → ℕ) → ℕ → List Entry → Bool
-in_list strong A blocks s xs = each_step A.transitions s (λ x t. has_entry xs x (blocks t))
-in_list branching A blocks s xs =
+in_list Strong A blocks s xs = each_step A.transitions s (λ x t. has_entry xs x (blocks t))
+in_list Branching A blocks s xs =
     and_then (covers A.transitions (is_inert blocks) (inert_from A blocks s) s) (λ _.
     every (inert_from A blocks s) (λ u.
     each_step A.transitions u (λ x t. or_else (own blocks s x (blocks t)) (λ _. has_entry xs x (blocks t)))))
 
 -- each entry of the list is in the signature of s
 abbrev pub in_signature : Relation → System → (ℕ → ℕ) → ℕ → List Entry → Bool
-in_signature strong A blocks s xs = every xs (λ p. from_step A blocks s p)
-in_signature branching A blocks s xs =
+in_signature Strong A blocks s xs = every xs (λ p. from_step A blocks s p)
+in_signature Branching A blocks s xs =
     every xs (λ p. and_then (not (own blocks s p.0 p.1)) (λ _. some (inert_from A blocks s) (λ u. from_step A blocks u p)))
 
 in_list_holds :
     (rel : Relation) (A : System) (blocks : ℕ → ℕ) (s : ℕ) (xs : List Entry) → in_list rel A blocks s xs ≡ true →
     (x : List ℕ) (n : ℕ) → Signature rel A blocks s x n → Contains xs (x, n)
-in_list_holds strong A blocks s xs h x n (t, step, e) =
+in_list_holds Strong A blocks s xs h x n (t, step, e) =
     subst (λ z. Contains xs (x, z)) e
     (has_entry_contains xs x (blocks t) (each_step_passes A.transitions s (λ x t. has_entry xs x (blocks t)) h x t step))
-in_list_holds branching A blocks s xs h x n (u, t, path, step, e, other) =
+in_list_holds Branching A blocks s xs h x n (u, t, path, step, e, other) =
     let parts = and_then_parts (covers A.transitions (is_inert blocks) (inert_from A blocks s) s) (λ _.
     every (inert_from A blocks s) (λ u.
     each_step A.transitions u (λ x t. or_else (own blocks s x (blocks t)) (λ _. has_entry xs x (blocks t))))) h in
@@ -90,9 +90,9 @@ in_list_holds branching A blocks s xs h x n (u, t, path, step, e, other) =
 in_signature_holds :
     (rel : Relation) (A : System) (blocks : ℕ → ℕ) (s : ℕ) (xs : List Entry) → in_signature rel A blocks s xs ≡ true →
     (x : List ℕ) (n : ℕ) → Contains xs (x, n) → Signature rel A blocks s x n
-in_signature_holds strong A blocks s xs h x n c =
+in_signature_holds Strong A blocks s xs h x n c =
     from_step_found A blocks s (x, n) (every_passes xs (λ p. from_step A blocks s p) h (x, n) c)
-in_signature_holds branching A blocks s xs h x n c =
+in_signature_holds Branching A blocks s xs h x n c =
     let test = every_passes xs
     (λ p. and_then (not (own blocks s p.0 p.1)) (λ _. some (inert_from A blocks s) (λ u. from_step A blocks u p)))
     h (x, n) c in

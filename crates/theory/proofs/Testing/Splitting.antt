@@ -3,7 +3,7 @@ use Rattle.std.proofs.Common.{◌≡◌, ◌↔◌, ℕ, ◌<◌, Bool, true, eq
 use Rattle.std.specs.List.{slice_index_or}
 use Rattle.std.proofs.lemmas.Bool.{eqb-true, eq-eqb}
 use Rattle.theory.specs.System.{System}
-use Rattle.theory.specs.Bisimulation.{Relation}
+use Rattle.theory.specs.declared.relation.Relation.{Relation}
 use Rattle.theory.specs.Blocks.{Signature, SameSignature, Split}
 use Rattle.theory.specs.Examples.{SplitsBy}
 use Rattle.theory.proofs.Testing.{and_then, and_then_parts, and_then_from, each_below, each_below_passes, same_answer, same_answer_there, same_answer_back}

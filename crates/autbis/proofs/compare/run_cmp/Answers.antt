@@ -1,7 +1,6 @@
 use Rattle.std.proofs.Common.{◌↔◌, ◌+◌, ◌*◌, Bool, IsTrue, List, ℕ, length, refl, arith}
 use Rattle.std.proofs.lemmas.Result.{err_from_is_err_and}
 use Rattle.theory.specs.Bisimulation.{Equivalent}
-use Rattle.theory.specs.Relations.{meant}
 use Rattle.theory.specs.Blocks.{Turns}
 use Rattle.theory.specs.Union.{union_of}
 use Rattle.lts.specs.Lts.{system_of}
@@ -58,7 +57,7 @@ module _ (g : Over) (c : After-equivalent g) where
   }
 
   -- a verdict on the systems in memory is one on the texts
-  verdict : (same : Bool) → (IsTrue same ↔ Equivalent (meant c.args.rel) (system_of c.in_ok-first.first) (system_of c.in_ok-second.second)) →
+  verdict : (same : Bool) → (IsTrue same ↔ Equivalent c.args.rel (system_of c.in_ok-first.first) (system_of c.in_ok-second.second)) →
       IsVerdict asked both same
   verdict = verdict_of asked first second c.in_ok-first.first c.in_ok-second.second
       c.in_ok-first.ensures.outcome.outcome.read c.in_ok-second.ensures.outcome.outcome.read law
@@ -66,7 +65,7 @@ module _ (g : Over) (c : After-equivalent g) where
   -- the meter shows what the union of the texts takes
   counted : (let at = g.M.Meter.counted c.equivalent.new.m in
       let k = length c.in_ok-first.first.places + length c.in_ok-second.second.places in
-      Turns (meant c.args.rel) (union_of (system_of c.in_ok-first.first) (system_of c.in_ok-second.second)) at.rounds →
+      Turns c.args.rel (union_of (system_of c.in_ok-first.first) (system_of c.in_ok-second.second)) at.rounds →
       KeepsTo (c.in_ok-first.first.states + c.in_ok-second.second.states) k 1 at ((at.rounds + 1) * k) → CountsUnion asked both at)
   counted = counted_whole asked first second c.in_ok-first.first c.in_ok-second.second
       c.in_ok-first.ensures.outcome.outcome.read c.in_ok-second.ensures.outcome.outcome.read (g.M.Meter.counted c.equivalent.new.m)

@@ -4,8 +4,7 @@ use Rattle.std.proofs.lemmas.List.{length-map}
 use Rattle.std.proofs.lemmas.List.Sorted.{IsPermutation-sym}
 use Rattle.std.proofs.lemmas.Result.{err_from_is_err_and}
 use Rattle.theory.specs.System.{System, Hide}
-use Rattle.theory.specs.Bisimulation.{Relation}
-use Rattle.theory.specs.Relations.{meant}
+use Rattle.theory.specs.declared.relation.Relation.{Relation}
 use Rattle.theory.specs.Alike.{SameSteps}
 use Rattle.lts.specs.Lts.{transition_of, system_of}
 use Rattle.autfmt.specs.declared.fault.Fault.TheVariants.{Memory}
@@ -48,7 +47,7 @@ module _ (g : Over) (c : After-write g) where
   asked = asks c.args.rel c.args.lim.now c.args.h.now
 
   abbrev rel : Relation
-  rel = meant c.args.rel
+  rel = c.args.rel
 
   abbrev A : System
   A = system_of c.in_ok-system.system

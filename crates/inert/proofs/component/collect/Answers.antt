@@ -1,6 +1,6 @@
 use Rattle.std.proofs.Common.{take, subst}
 use Rattle.std.proofs.lemmas.List.{take_all, take_more}
-use Rattle.inert.specs.Moves.{AreTaken}
+use Rattle.inert.specs.Moves.{AreCollected}
 use Rattle.inert.specs.Search.{Pair}
 use Rattle.inert.proofs.signatures.Listing.{taken_none, taken_pair, taken_list}
 use Rattle.inert.proofs.component.collect.Goals as goal
@@ -26,4 +26,4 @@ loop-item-preserved c =
 pub returns : goal.returns
 returns c =
     let all = take_all c.loop-item.item-index c.args.items.now c.loop-item-test.false in
-    subst (λ items. AreTaken items c.loop-item.numbers.items c.loop-item.pairs.items) all c.loop-item.invariant
+    subst (λ items. AreCollected items c.loop-item.numbers.items c.loop-item.pairs.items) all c.loop-item.invariant

@@ -1,10 +1,10 @@
-use Rattle.inert.specs.Moves.{AreTaken}
+use Rattle.inert.specs.Moves.{AreCollected}
 use Rattle.inert.proofs.signatures.Listing.{taken_ordered, numbers_there, listed}
 use Rattle.inert.proofs.component.list_from.Goals as goal
 use Rattle.inert.proofs.component.list_from.Goals.{After-deref-2}
 
 -- the numbers and pairs that are joined are those of the items
-taken : (c : goal.After-deref-2) → AreTaken c.args.items.now c.deref.result.now c.deref-2.result.now
+taken : (c : goal.After-deref-2) → AreCollected c.args.items.now c.deref.result.now c.deref-2.result.now
 taken c =
     rw (c.deref.ensures.value, c.deref-2.ensures.value)
     (taken_ordered c.args.items.now c.collect.new.numbers.items c.order_numbers.new.numbers.items c.collect.new.pairs.items c.order.new.pairs.items

@@ -2,7 +2,7 @@ use Rattle.std.proofs.Common.{◌≡◌, ◌∙◌, ℕ, [], ◌∷◌, ◌++◌
 use Rattle.std.proofs.lemmas.List.{get_or_read}
 use Rattle.lists.specs.declared.hashed.Entry.{Entry}
 use Rattle.lists.specs.Lists.{list_at, merged}
-use Rattle.lists.specs.Hashed.{bucket_of, IsHashed}
+use Rattle.lists.specs.Hashed.{bucket_of_tag, IsHashed}
 use Rattle.lists.proofs.Merging.{merged_some}
 use Rattle.lists.proofs.Hashing.{IsHashed-push}
 use Rattle.lists.proofs.hashed.put.Goals as goal
@@ -13,7 +13,7 @@ module _ (c : After-push_reserved) where
   list = merged (list_at c.args.lists.now c.args.k) c.args.pairs.now
 
   abbrev new : Entry
-  new = record { print = c.args.print; before = c.index.result.now }
+  new = record { tag = c.args.tag; before = c.index.result.now }
 
   size : c.len.result ≡ length c.args.heads.now.items
   size = omega (arith, c.len.ensures, c.args.heads.now.ok.0)
@@ -24,7 +24,7 @@ module _ (c : After-push_reserved) where
       IsHashed-push c.args.lists.now c.args.heads.now.items c.args.entries.now.items list new c.bucket-b.result c.requires.hashed
       c.known.ensures.some
       (λ e. merged_some (list_at c.args.lists.now c.args.k) c.args.pairs.now c.requires.sought.some (sym c.known.ensures.first ∙ e))
-      c.requires.absent c.requires.sought.print_is (c.bucket-b.ensures.value ∙ ap (λ n. bucket_of n c.args.print) size)
+      c.requires.absent c.requires.sought.tag_is (c.bucket-b.ensures.value ∙ ap (λ n. bucket_of_tag n c.args.tag) size)
       (omega (arith, c.bucket-b.ensures.below, size))
       (get_or_read c.args.heads.now.items _ _ (omega (arith, c.bucket-b.ensures.below, size)) c.index.ensures 0)
 

@@ -1,13 +1,13 @@
 use Rattle.std.proofs.Common.{ℕ, ◌+◌, ◌*◌, ◌≤◌, arith}
 use Rattle.std.proofs.lemmas.Nat.{mul-le}
-use Rattle.theory.specs.Bisimulation.{Relation}
-use Rattle.theory.specs.Bisimulation.Relation.{strong, branching}
+use Rattle.theory.specs.declared.relation.Relation.{Relation}
+use Rattle.theory.specs.declared.relation.Relation.TheVariants.{Strong, Branching}
 use Rattle.theory.specs.Quotient.{allowance}
 use Rattle.quotient.proofs.allowance.the_bounds_are_within_the_allowance.Goals as goal
 
 within : (rel : Relation) (n m r visits : ℕ) → 1 ≤ n → visits ≤ (r + 2) * m → visits ≤ allowance rel n m r
-within strong n m r visits some most = most
-within branching n m r visits some most =
+within Strong n m r visits some most = most
+within Branching n m r visits some most =
     let rounds : r * 1 ≤ r * n = mul-le r 1 r n (omega arith) some in
     let all : (r + 2) * m ≤ (r * n + 2) * m = mul-le (r + 2) m (r * n + 2) m (omega arith) (omega arith) in
     omega (arith, most, all)

@@ -1,6 +1,5 @@
 use Rattle.std.proofs.Common.{◌≡◌, ◌∙◌, ◌+◌, slice_index, ap, arith}
 use Rattle.std.proofs.lemmas.Result.{err_from_is_err_and}
-use Rattle.theory.specs.Relations.{meant}
 use Rattle.lts.specs.Lts.{system_of}
 use Rattle.quotient.proofs.Unions.{same_decides}
 use Rattle.quotient.proofs.Visits.{compared_keeps, refused_keeps}
@@ -14,7 +13,7 @@ returns-clause-verdict g c =
     let blocks = slice_index c.in_ok-blocks.blocks in
     let decides = c.the_union_decides_equivalence.ensures in
     let same = decides.same U _ c.in_ok-both.ensures.system in
-    let law = decides.blocks (meant c.args.r) A B U blocks c.known.ensures.system c.known-2.ensures.system same c.in_ok-blocks.ensures.classes in
+    let law = decides.blocks c.args.r A B U blocks c.known.ensures.system c.known-2.ensures.system same c.in_ok-blocks.ensures.classes in
     let at : c.states.result + c.first-2.result ≡ A.states + B.first = omega (arith, c.states.ensures.value, c.first-2.ensures) in
     same_decides _ _ _ _ (c.block-first.ensures ∙ ap blocks c.first.ensures) (c.block-second.ensures ∙ ap blocks at) law
 

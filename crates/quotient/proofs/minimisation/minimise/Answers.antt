@@ -2,7 +2,6 @@ use Rattle.std.proofs.Common.{◌≡◌, ℕ, ◌≤◌, length, arith}
 use Rattle.std.proofs.lemmas.Result.{IfOk-weaker}
 use Rattle.theory.specs.System.{System, IsSystem}
 use Rattle.theory.specs.Bisimulation.{Bisimilar, Equivalent}
-use Rattle.theory.specs.Relations.{meant}
 use Rattle.theory.specs.Quotient.{Quotient}
 use Rattle.lts.specs.Lts.{system_of}
 use Rattle.quotient.proofs.Visits.{IfOk-both, room_at_first, room_after, visits_then, turns_keep}
@@ -11,31 +10,31 @@ use Rattle.quotient.proofs.minimisation.minimise.Goals as goal
 pub returns-clause-equivalent : goal.returns-clause-equivalent
 returns-clause-equivalent g c =
     let A = system_of c.args.l.now in
-    IfOk-weaker c.quotient_of.result (λ q. Quotient (meant c.args.r) A (system_of q)) (λ q. Equivalent (meant c.args.r) A (system_of q))
-    (λ q h. c.quotient_is_equivalent.ensures (meant c.args.r) A (system_of q) c.known.ensures.system h) c.quotient_of.ensures.quotient
+    IfOk-weaker c.quotient_of.result (λ q. Quotient c.args.r A (system_of q)) (λ q. Equivalent c.args.r A (system_of q))
+    (λ q h. c.quotient_is_equivalent.ensures c.args.r A (system_of q) c.known.ensures.system h) c.quotient_of.ensures.quotient
 
 pub returns-clause-no_two_bisimilar : goal.returns-clause-no_two_bisimilar
 returns-clause-no_two_bisimilar g c =
     let A = system_of c.args.l.now in
-    IfOk-weaker c.quotient_of.result (λ q. Quotient (meant c.args.r) A (system_of q))
-    (λ q. (s t : ℕ) → Bisimilar (meant c.args.r) (system_of q) s (system_of q) t → s ≡ t)
-    (λ q h s t b. c.quotient_states_differ.ensures (meant c.args.r) A (system_of q) s t c.known.ensures.system h b) c.quotient_of.ensures.quotient
+    IfOk-weaker c.quotient_of.result (λ q. Quotient c.args.r A (system_of q))
+    (λ q. (s t : ℕ) → Bisimilar c.args.r (system_of q) s (system_of q) t → s ≡ t)
+    (λ q h s t b. c.quotient_states_differ.ensures c.args.r A (system_of q) s t c.known.ensures.system h b) c.quotient_of.ensures.quotient
 
 pub returns-clause-smallest : goal.returns-clause-smallest
 returns-clause-smallest g c =
     let A = system_of c.args.l.now in
-    IfOk-weaker c.quotient_of.result (λ q. Quotient (meant c.args.r) A (system_of q))
-    (λ q. (B : System) → IsSystem B → Equivalent (meant c.args.r) A B → q.states ≤ B.states)
-    (λ q h B sys same. c.no_smaller_system.ensures (meant c.args.r) A (system_of q) B c.known.ensures.system sys h same) c.quotient_of.ensures.quotient
+    IfOk-weaker c.quotient_of.result (λ q. Quotient c.args.r A (system_of q))
+    (λ q. (B : System) → IsSystem B → Equivalent c.args.r A B → q.states ≤ B.states)
+    (λ q h B sys same. c.no_smaller_system.ensures c.args.r A (system_of q) B c.known.ensures.system sys h same) c.quotient_of.ensures.quotient
 
 pub returns-clause-no_larger : goal.returns-clause-no_larger
 returns-clause-no_larger g c =
     let A = system_of c.args.l.now in
     let sys = c.known.ensures.system in
     IfOk-both c.quotient_of.result (λ q. q.states ≤ A.states) (λ q. length q.places ≤ length c.args.l.now.places)
-    (IfOk-weaker c.quotient_of.result (λ q. Quotient (meant c.args.r) A (system_of q)) (λ q. q.states ≤ A.states)
-    (λ q h. c.no_smaller_system.ensures (meant c.args.r) A (system_of q) A sys sys h
-    (c.bisimilarity_is_an_equivalence.ensures.reflexive (meant c.args.r) A A.first sys sys.first)) c.quotient_of.ensures.quotient)
+    (IfOk-weaker c.quotient_of.result (λ q. Quotient c.args.r A (system_of q)) (λ q. q.states ≤ A.states)
+    (λ q h. c.no_smaller_system.ensures c.args.r A (system_of q) A sys sys h
+    (c.bisimilarity_is_an_equivalence.ensures.reflexive c.args.r A A.first sys sys.first)) c.quotient_of.ensures.quotient)
     c.quotient_of.ensures.fewer_transitions
 
 pub blocks-requires : goal.blocks-requires
@@ -55,15 +54,15 @@ quotient_of-requires-clause-room g c =
 
 pub returns-in_err-reached-clause-keeps : goal.returns-in_err-reached-clause-keeps
 returns-in_err-reached-clause-keeps g c =
-    turns_keep c.from_residual-in_err-reached.result (meant c.args.r) c.args.l.now _ _ _ _ (omega arith)
+    turns_keep c.from_residual-in_err-reached.result c.args.r c.args.l.now _ _ _ _ (omega arith)
     c.requires.fresh c.in_ok-blocks.ensures.turns c.reachable.ensures.visits
 
 pub returns-in_err-numbering-clause-keeps : goal.returns-in_err-numbering-clause-keeps
 returns-in_err-numbering-clause-keeps g c =
-    turns_keep c.from_residual-in_err-numbering.result (meant c.args.r) c.args.l.now _ _ _ _ (omega arith)
+    turns_keep c.from_residual-in_err-numbering.result c.args.r c.args.l.now _ _ _ _ (omega arith)
     c.requires.fresh c.in_ok-blocks.ensures.turns c.reachable.ensures.visits
 
 pub returns-clause-keeps : goal.returns-clause-keeps
 returns-clause-keeps g c =
-    turns_keep c.quotient_of.result (meant c.args.r) c.args.l.now _ _ _ _ (omega arith)
+    turns_keep c.quotient_of.result c.args.r c.args.l.now _ _ _ _ (omega arith)
     c.requires.fresh c.in_ok-blocks.ensures.turns (visits_then _ _ _ _ _ c.reachable.ensures.visits c.quotient_of.ensures.visits)

@@ -1,7 +1,6 @@
 use Rattle.std.proofs.Common.{◌∙◌, ◌↔◌, ◌≤◌, length, Contains, ap, sym, subst, arith}
 use Rattle.std.proofs.lemmas.List.Sorted.{length_permutation}
 use Rattle.std.proofs.lemmas.Result.{IfOk-weaker}
-use Rattle.theory.specs.Relations.{meant}
 use Rattle.lts.specs.Lts.{Triple, InRange, IsGrouping, system_of}
 use Rattle.quotient.specs.Reading.{rows_of, IsDroppedLabel}
 use Rattle.quotient.specs.Triples.{IsShownBelow}
@@ -12,9 +11,9 @@ use Rattle.quotient.proofs.minimisation.quotient_of.Goals as goal
 use Rattle.quotient.proofs.minimisation.quotient_of.Goals.{After-dropped-dropped}
 
 module _ (g : Over) (c : After-dropped-dropped g) where
-  numbers : NumberLaws (meant c.args.r) (system_of c.args.l.now)
+  numbers : NumberLaws c.args.r (system_of c.args.l.now)
   numbers =
-      let rel = meant c.args.r in
+      let rel = c.args.r in
       let A = system_of c.args.l.now in
       let sys = c.known.ensures.system in
       record {
@@ -24,7 +23,7 @@ module _ (g : Over) (c : After-dropped-dropped g) where
         below = λ Q s n quotient h. c.numbers_are_states.ensures.below rel A Q s n sys quotient h;
       }
 
-  laws : Laws (meant c.args.r) c.args.l.now
+  laws : Laws c.args.r c.args.l.now
   laws =
       let A = system_of c.args.l.now in
       record {
@@ -39,17 +38,17 @@ module _ (g : Over) (c : After-dropped-dropped g) where
 
   enough : AreEnough c.args.l.now c.args.numbering.now.numbers.items c.rows-rows.result.now
   enough =
-      let leads = ap (λ marks. rows_of (meant c.args.r) marks c.args.reached.now) c.deref.ensures.value in
+      let leads = ap (λ marks. rows_of c.args.r marks c.args.reached.now) c.deref.ensures.value in
       subst (AreEnough c.args.l.now c.args.numbering.now.numbers.items) (sym (c.rows-rows.ensures ∙ leads))
-      (rows_enough (meant c.args.r) c.args.l.now c.args.numbering.now c.args.reached.now laws c.requires.numbering c.requires.reached)
+      (rows_enough c.args.r c.args.l.now c.args.numbering.now c.args.reached.now laws c.requires.numbering c.requires.reached)
 
-  drops : IsDroppedLabel (meant c.args.r) c.args.l.now.labels c.dropped-dropped.result
-  drops = subst (λ labels. IsDroppedLabel (meant c.args.r) labels c.dropped-dropped.result) c.labels.ensures c.dropped-dropped.ensures
+  drops : IsDroppedLabel c.args.r c.args.l.now.labels c.dropped-dropped.result
+  drops = subst (λ labels. IsDroppedLabel c.args.r labels c.dropped-dropped.result) c.labels.ensures c.dropped-dropped.ensures
 
 pub shown_triples-requires-clause-whole : goal.shown_triples-requires-clause-whole
 shown_triples-requires-clause-whole g c =
     let at = (goal.at.shown_triples-requires-clause-whole g c).After-dropped-dropped in
-    rw c.deref-2.ensures.value (members_show_also (meant c.args.r) c.args.l.now c.args.numbering.now (laws g at) c.requires.numbering
+    rw c.deref-2.ensures.value (members_show_also c.args.r c.args.l.now c.args.numbering.now (laws g at) c.requires.numbering
     c.rows-rows.result.now (enough g at) c.dropped-dropped.result (drops g at))
 
 pub build-requires : goal.build-requires
@@ -62,7 +61,7 @@ build-requires g c =
     c.deref-2.ensures.value c.in_ok-triples.ensures.exactly in
     let labels = c.in_ok-labels.ensures ∙ c.labels-2.ensures in
     subst (λ n. InRange n 0 c.args.numbering.now.count es) (sym (ap length labels))
-    (quotient_in_range (meant c.args.r) l c.args.numbering.now (laws g at) c.requires.numbering c.rows-rows.result.now (enough g at)
+    (quotient_in_range c.args.r l c.args.numbering.now (laws g at) c.requires.numbering c.rows-rows.result.now (enough g at)
     c.dropped-dropped.result (drops g at) es exactly c.in_ok-triples.ensures.once c.in_ok-triples.ensures.few)
 
 pub returns-clause-quotient : goal.returns-clause-quotient
@@ -74,7 +73,7 @@ returns-clause-quotient g c =
     subst (λ numbers. (x : Triple) → Contains es x ↔ IsShownBelow numbers c.rows-rows.result.now c.dropped-dropped.result l.places l.states x)
     c.deref-2.ensures.value c.in_ok-triples.ensures.exactly in
     let built = c.build.ensures in
-    IfOk-quotient (meant c.args.r) l c.args.numbering.now (laws g at) c.requires.numbering c.rows-rows.result.now (enough g at)
+    IfOk-quotient c.args.r l c.args.numbering.now (laws g at) c.requires.numbering c.rows-rows.result.now (enough g at)
     c.dropped-dropped.result (drops g at) es exactly c.in_ok-triples.ensures.once c.in_ok-labels.labels (c.in_ok-labels.ensures ∙ c.labels-2.ensures)
     c.build.result built.first built.states built.labels built.places built.grouping
 

@@ -2,7 +2,7 @@ use Rattle.std.proofs.Common.{◌≡◌, ◌∙◌, ◌↔◌, ℕ, ◌<◌, IsT
 use Rattle.std.proofs.lemmas.Bool.{eqb-true, eq-eqb}
 use Rattle.std.proofs.lemmas.List.{length-set, length-replicate}
 use Rattle.theory.specs.System.{System}
-use Rattle.theory.specs.Bisimulation.{Relation}
+use Rattle.theory.specs.declared.relation.Relation.{Relation}
 use Rattle.lts.specs.Lts.{system_of}
 use Rattle.quotient.specs.Reading.{AreClasses}
 use Rattle.quotient.specs.Numbers.{none}

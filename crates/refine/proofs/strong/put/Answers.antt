@@ -1,6 +1,6 @@
 use Rattle.std.proofs.Common.{◌≡◌, ◌∙◌, ◌↔◌, Contains, sym, subst, inl, inr}
 use Rattle.std.proofs.lemmas.Bool.{iff_false}
-use Rattle.theory.specs.Bisimulation.Relation.{strong}
+use Rattle.theory.specs.declared.relation.Relation.TheVariants.{Strong}
 use Rattle.lists.specs.Lists.{list_at}
 use Rattle.inert.specs.Signed.{IsSignature}
 use Rattle.refine.specs.Settled.{HasFrom}
@@ -37,4 +37,4 @@ returns-clause-put g c =
     (c.rows_are_steps.ensures.steps l c.args.s) pairs c.order.ensures.rising
     (λ z. subst (λ xs. Contains pairs z ↔ Contains xs z) c.in_ok-touched.ensures.pairs (c.order.ensures.same z)) in
     let at : list_at c.push.new.self c.in_ok-list.list ≡ pairs = c.in_ok-list.ensures.list ∙ c.deref.ensures.value in
-    inl (touched, subst (IsSignature strong l c.args.p.now c.args.s) (sym at) signed)
+    inl (touched, subst (IsSignature Strong l c.args.p.now c.args.s) (sym at) signed)

@@ -1,6 +1,6 @@
 -- Each fact is a test that computes.
 use Rattle.std.proofs.Common.{[], ◌∷◌, refl}
-use Rattle.theory.specs.Bisimulation.Relation.{branching}
+use Rattle.theory.specs.declared.relation.Relation.TheVariants.{Branching}
 use Rattle.theory.specs.Examples.{not_committed, committed}
 use Rattle.theory.proofs.Testing.Matching.{bisimilar_passes, are_apart}
 use Rattle.theory.proofs.examples.committed_or_not.Goals as goal
@@ -9,4 +9,4 @@ pub returns-clause-apart : goal.returns-clause-apart
 returns-clause-apart _ = are_apart not_committed committed 2 2 refl refl refl refl
 
 pub returns-clause-after_a : goal.returns-clause-after_a
-returns-clause-after_a _ = bisimilar_passes branching not_committed committed ((1, 1) ∷ (2, 2) ∷ (3, 3) ∷ []) 1 1 refl refl
+returns-clause-after_a _ = bisimilar_passes Branching not_committed committed ((1, 1) ∷ (2, 2) ∷ (3, 3) ∷ []) 1 1 refl refl

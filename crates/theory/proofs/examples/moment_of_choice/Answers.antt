@@ -1,6 +1,6 @@
 -- Each fact is a test that computes.
 use Rattle.std.proofs.Common.{[], ◌∷◌, refl}
-use Rattle.theory.specs.Bisimulation.Relation.{strong}
+use Rattle.theory.specs.declared.relation.Relation.TheVariants.{Strong}
 use Rattle.theory.specs.Examples.{choice_after, choice_before}
 use Rattle.theory.proofs.Testing.Matching.{bisimulation_passes, not_bisimilar, are_apart}
 use Rattle.theory.proofs.examples.moment_of_choice.Goals as goal
@@ -9,7 +9,7 @@ pub returns-clause-apart : goal.returns-clause-apart
 returns-clause-apart _ = are_apart choice_after choice_before 2 2 refl refl refl refl
 
 pub returns-clause-after_b : goal.returns-clause-after_b
-returns-clause-after_b _ = not_bisimilar strong choice_after choice_before 1 1 1 refl
+returns-clause-after_b _ = not_bisimilar Strong choice_after choice_before 1 1 1 refl
 
 pub returns-clause-ends : goal.returns-clause-ends
-returns-clause-ends _ = bisimulation_passes strong choice_after choice_before ((2, 3) ∷ (3, 3) ∷ (3, 4) ∷ []) refl
+returns-clause-ends _ = bisimulation_passes Strong choice_after choice_before ((2, 3) ∷ (3, 3) ∷ (3, 4) ∷ []) refl

@@ -1,6 +1,6 @@
 -- The quotient is known, and what differs from it is not the quotient.
 use Rattle.std.proofs.Common.{refl, lit<}
-use Rattle.theory.specs.Bisimulation.Relation.{strong, branching}
+use Rattle.theory.specs.declared.relation.Relation.TheVariants.{Strong, Branching}
 use Rattle.theory.specs.System.{internal}
 use Rattle.theory.specs.Examples.{a, edge, silent_cycle, loop_of_a, silent_loop, lone_state, first_leads, first_leads_quotient, first_leads_by_size}
 use Rattle.theory.proofs.Testing.Census.{is_quotient}
@@ -10,13 +10,13 @@ use Rattle.theory.proofs.quotients.not_the_quotient.Goals as goal
 
 pub returns-clause-a_state_too_many : goal.returns-clause-a_state_too_many
 returns-clause-a_state_too_many _ =
-    not_by_states branching silent_cycle loop_of_a silent_cycle
-    (is_quotient branching silent_cycle loop_of_a silent_cycle_branching refl refl) refl
+    not_by_states Branching silent_cycle loop_of_a silent_cycle
+    (is_quotient Branching silent_cycle loop_of_a silent_cycle_branching refl refl) refl
 
 pub returns-clause-a_silent_step : goal.returns-clause-a_silent_step
 returns-clause-a_silent_step _ =
-    not_by_transition branching silent_loop lone_state silent_loop (edge 0 internal 0)
-    (is_quotient branching silent_loop lone_state silent_loop_branching refl refl)
+    not_by_transition Branching silent_loop lone_state silent_loop (edge 0 internal 0)
+    (is_quotient Branching silent_loop lone_state silent_loop_branching refl refl)
     (0, lit< tt, refl) refl
 
 pub returns-clause-written_twice : goal.returns-clause-written_twice
@@ -24,6 +24,6 @@ returns-clause-written_twice _ = λ q. q.once 0 1 (edge 0 a 1) (lit< tt) (lit< t
 
 pub returns-clause-by_size : goal.returns-clause-by_size
 returns-clause-by_size _ =
-    not_by_transition strong first_leads first_leads_quotient first_leads_by_size (edge 1 a 2)
-    (is_quotient strong first_leads first_leads_quotient first_leads_strong refl refl)
+    not_by_transition Strong first_leads first_leads_quotient first_leads_by_size (edge 1 a 2)
+    (is_quotient Strong first_leads first_leads_quotient first_leads_strong refl refl)
     (0, lit< tt, refl) refl

@@ -1,13 +1,13 @@
 -- Each fact is a test that computes.
 use Rattle.std.proofs.Common.{refl}
-use Rattle.theory.specs.Bisimulation.Relation.{strong, branching}
+use Rattle.theory.specs.declared.relation.Relation.TheVariants.{Strong, Branching}
 use Rattle.theory.specs.Examples.{silent_loop, lone_state}
 use Rattle.theory.proofs.Testing.Census.{is_quotient}
 use Rattle.theory.proofs.Testing.Told.{silent_loop_branching, silent_loop_strong}
 use Rattle.theory.proofs.quotients.quotient_of_silent_loop.Goals as goal
 
 pub returns-clause-quotient_branching : goal.returns-clause-quotient_branching
-returns-clause-quotient_branching _ = is_quotient branching silent_loop lone_state silent_loop_branching refl refl
+returns-clause-quotient_branching _ = is_quotient Branching silent_loop lone_state silent_loop_branching refl refl
 
 pub returns-clause-quotient_strong : goal.returns-clause-quotient_strong
-returns-clause-quotient_strong _ = is_quotient strong silent_loop silent_loop silent_loop_strong refl refl
+returns-clause-quotient_strong _ = is_quotient Strong silent_loop silent_loop silent_loop_strong refl refl

@@ -1,12 +1,12 @@
 -- Each fact is a test that computes.
 use Rattle.std.proofs.Common.{[], refl}
-use Rattle.theory.specs.Bisimulation.Relation.{strong, branching}
+use Rattle.theory.specs.declared.relation.Relation.TheVariants.{Strong, Branching}
 use Rattle.theory.specs.Examples.{lone_state}
 use Rattle.theory.proofs.Testing.Repeating.{refines_by}
 use Rattle.theory.proofs.rounds.rounds_of_lone_state.Goals as goal
 
 pub returns-clause-rounds_strong : goal.returns-clause-rounds_strong
-returns-clause-rounds_strong _ = refines_by strong lone_state _ _ [] 0 refl refl
+returns-clause-rounds_strong _ = refines_by Strong lone_state _ _ [] 0 refl refl
 
 pub returns-clause-rounds_branching : goal.returns-clause-rounds_branching
-returns-clause-rounds_branching _ = refines_by branching lone_state _ _ [] 0 refl refl
+returns-clause-rounds_branching _ = refines_by Branching lone_state _ _ [] 0 refl refl

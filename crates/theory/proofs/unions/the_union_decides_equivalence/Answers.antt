@@ -1,6 +1,6 @@
 -- Each fact is the lemma.
 use Rattle.std.proofs.Common.{subst}
-use Rattle.theory.specs.Bisimulation.{Relation}
+use Rattle.theory.specs.declared.relation.Relation.TheVariants.{Strong}
 use Rattle.theory.specs.Alike.{SameSteps}
 use Rattle.theory.specs.Union.{union_of}
 use Rattle.theory.proofs.AlikeSystems.{same_steps_refl, turns_alike}
@@ -8,7 +8,7 @@ use Rattle.theory.proofs.Comparing.{first_states, equivalent_in_union, equivalen
 use Rattle.theory.proofs.unions.the_union_decides_equivalence.Goals as goal
 
 pub returns-clause-states : goal.returns-clause-states
-returns-clause-states c = λ A B U sys sys' same. first_states Relation.strong A B sys sys' U same
+returns-clause-states c = λ A B U sys sys' same. first_states Strong A B sys sys' U same
 
 pub returns-clause-bisimilar : goal.returns-clause-bisimilar
 returns-clause-bisimilar c = λ rel A B U sys sys' same. equivalent_in_union rel A B sys sys' U same

@@ -5,7 +5,7 @@ use Rattle.std.proofs.lemmas.List.{get_or_read}
 use Rattle.lts.specs.Lts.{place_at}
 use Rattle.inert.specs.Steps.{IsStep}
 use Rattle.inert.specs.Search.{Search, frame_at, top, here, Frame}
-use Rattle.inert.specs.Moves.{Takes, GoesOn}
+use Rattle.inert.specs.Moves.{TakesStep, GoesOn}
 use Rattle.inert.specs.declared.step.Step.{Step}
 use Rattle.inert.proofs.parts.Rising.{last_read}
 use Rattle.inert.proofs.invariant.Standing.{on_stack}
@@ -39,7 +39,7 @@ module _ (g : Over) (c : After-index g) where
 module _ (g : Over) (d : After-index g) {w : Search} {k : ℕ} (on : GoesOn d.args.l.now d.args.blocks.now d.args.alone.now d.args.lists.now d.args.self.now w)
     (reads : Reads d.args.l.now d.args.self.now w k) (more : k < d.index-frame.result.now.end) (step : Step)
     (is_step : IsStep d.args.l.now d.args.blocks.now (slice_index d.args.blocks.now d.index.result.now) (place_at d.args.l.now.places k) step)
-    (m : Search) (enters : Bool) (takes : Takes d.args.l.now.places step w m enters) where
+    (m : Search) (enters : Bool) (takes : TakesStep d.args.l.now.places step w m enters) where
   abbrev i : ℕ
   i = d.len-last.result - 1
 

@@ -1,6 +1,6 @@
 use Rattle.std.proofs.Common.{◌∙◌, arith}
 use Rattle.lists.specs.Lists.{list_at}
-use Rattle.lists.proofs.Prints.{fingerprint_link}
+use Rattle.lists.proofs.Tags.{fingerprint_link}
 use Rattle.lists.proofs.chained.Chained.fingerprint.Goals as goal
 
 pub loop-at-preserved : goal.loop-at-preserved
@@ -12,6 +12,6 @@ loop-at-preserved c =
       within = omega arith;
       total =
           fingerprint_link c.loop-at.sum c.cut-base.result.2 (list_at lists c.loop-at.at) (list_at lists c.cut-base.result.0) c.cut-base.result.1.now
-          c.cut-base.ensures.list c.cut-base.ensures.apart c.cut-base.ensures.print
+          c.cut-base.ensures.list c.cut-base.ensures.apart c.cut-base.ensures.tag
           ∙ c.loop-at.invariant.total;
     }

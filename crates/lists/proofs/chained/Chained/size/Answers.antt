@@ -1,6 +1,6 @@
 use Rattle.std.proofs.Common.{◌∙◌, length, ap, arith}
 use Rattle.lists.specs.Lists.{list_at}
-use Rattle.lists.proofs.Prints.{length-merged}
+use Rattle.lists.proofs.Tags.{length-merged}
 use Rattle.lists.proofs.chained.Chained.size.Goals as goal
 
 pub loop-at-preserved : goal.loop-at-preserved

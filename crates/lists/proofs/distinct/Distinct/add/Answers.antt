@@ -2,7 +2,7 @@ use Rattle.std.proofs.Common.{◌∙◌, length, sym}
 use Rattle.std.proofs.lemmas.Bool.{eqb-true}
 use Rattle.lists.specs.Lists.{list_at, merged}
 use Rattle.lists.proofs.Merging.{merged_none}
-use Rattle.lists.proofs.Prints.{sought_is}
+use Rattle.lists.proofs.Tags.{sought_is}
 use Rattle.lists.proofs.Differing.{AreDifferences-push}
 use Rattle.lists.proofs.distinct.Distinct.add.Goals as goal
 

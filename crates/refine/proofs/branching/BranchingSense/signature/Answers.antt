@@ -1,7 +1,7 @@
 use Rattle.std.proofs.Common.{◌++◌, ◌∙◌, [], ap, sym, subst, rules}
 use Rattle.std.proofs.lemmas.List.{append-nil}
 use Rattle.lists.specs.Lists.{list_at}
-use Rattle.theory.specs.Bisimulation.Relation.{branching}
+use Rattle.theory.specs.declared.relation.Relation.TheVariants.{Branching}
 use Rattle.inert.specs.Signed.{IsSignature}
 use Rattle.refine.specs.Signed.{Extends}
 use Rattle.refine.proofs.branching.BranchingSense.signature.Goals as goal
@@ -16,7 +16,7 @@ pub returns-clause-appends : goal.returns-clause-appends
 returns-clause-appends g c =
     let list = list_at c.sign.new.lists c.in_ok-list.list in (
       list,
-      subst (λ bs. IsSignature branching c.args.l.now bs c.args.s list) c.blocks-2.ensures.blocks c.in_ok-list.ensures.signature,
+      subst (λ bs. IsSignature Branching c.args.l.now bs c.args.s list) c.blocks-2.ensures.blocks c.in_ok-list.ensures.signature,
       c.in_ok-extend_from_slice.ensures.items
           ∙ ap (λ xs. c.args.out.now.items ++ xs) (c.deref.ensures.value ∙ c.in_ok-append.ensures.appended ∙ ap (λ xs. xs ++ list) c.clear-2.ensures.items),
     )

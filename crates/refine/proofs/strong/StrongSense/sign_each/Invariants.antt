@@ -1,5 +1,5 @@
 use Rattle.std.proofs.Common.{◌≡◌, ℕ, ◌+◌, ◌<◌, ◌≤◌, IsTrue, false, length, slice_index, slice_index_or}
-use Rattle.theory.specs.Bisimulation.Relation.{strong}
+use Rattle.theory.specs.declared.relation.Relation.TheVariants.{Strong}
 use Rattle.lts.specs.Meter.{Costs}
 use Rattle.lts.specs.Lts.{before}
 use Rattle.lists.specs.Lists.{AreNumbers}
@@ -9,7 +9,7 @@ use Rattle.refine.proofs.strong.StrongSense.sign_each.Given as goal
 
 abbrev pub invariant-loop-s : goal.invariant-loop-s
 invariant-loop-s g l = record {
-  put : (t : ℕ) → t < l.s → IsPut strong l.l l.p l.low (IsTrue (slice_index_or l.alone (slice_index l.p t) false)) t (list_of l.lists l.numbers t);
+  put : (t : ℕ) → t < l.s → IsPut Strong l.l l.p l.low (IsTrue (slice_index_or l.alone (slice_index l.p t) false)) t (list_of l.lists l.numbers t);
   lists : length l.lists ≤ l.s + 1;
   numbers : AreNumbers l.lists l.numbers;
   marks : l.marks-inside.states ≡ l.initial.marks-inside.states;

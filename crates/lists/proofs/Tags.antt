@@ -7,17 +7,17 @@ use Rattle.std.proofs.Math.Nat.{mod-add-mod, add-mod-mod}
 use Rattle.std.proofs.lemmas.List.Sums.{sum_by-cons, sum_by_more}
 use Rattle.lists.specs.Lists.{pair_cmp, list_at, merged, Apart, IsAddition}
 use Rattle.lists.specs.Hashed.{IsSought}
-use Rattle.lists.specs.Spans.{word_of, fingerprint_of}
+use Rattle.lists.specs.Spans.{hash_of, fingerprint_of}
 use Rattle.lists.proofs.Rising.{here, there}
 use Rattle.lists.proofs.Merging.{at_order, pair_Decides}
 
 -- one pair more
-pub fingerprint_more : (list : List (ℕ × ℕ)) (i sum word : ℕ) → i < length list → sum ≡ fingerprint_of (take i list)
-    → word ≡ word_of (get_or list i (0, 0)) → (sum + word) % 2 ^ 64 ≡ fingerprint_of (take (i + 1) list)
-fingerprint_more list i sum word low before is =
-    ap (λ s. (s + word) % 2 ^ 64) before ∙ mod-add-mod (sum_by word_of (take i list)) (2 ^ 64) word
-    ∙ ap (λ w. (sum_by word_of (take i list) + w) % 2 ^ 64) is
-    ∙ ap (λ s. s % 2 ^ 64) (sym (sum_by_more word_of list i (0, 0) low))
+pub fingerprint_more : (list : List (ℕ × ℕ)) (i sum hash : ℕ) → i < length list → sum ≡ fingerprint_of (take i list)
+    → hash ≡ hash_of (get_or list i (0, 0)) → (sum + hash) % 2 ^ 64 ≡ fingerprint_of (take (i + 1) list)
+fingerprint_more list i sum hash low before is =
+    ap (λ s. (s + hash) % 2 ^ 64) before ∙ mod-add-mod (sum_by hash_of (take i list)) (2 ^ 64) hash
+    ∙ ap (λ w. (sum_by hash_of (take i list) + w) % 2 ^ 64) is
+    ∙ ap (λ s. s % 2 ^ 64) (sym (sum_by_more hash_of list i (0, 0) low))
 
 -- a sum over two lists as one
 module _ (f : ℕ × ℕ → ℕ) where
@@ -42,16 +42,16 @@ module _ (f : ℕ × ℕ → ℕ) where
 -- the fingerprint of both as one is the sum of theirs
 pub fingerprint_merged : (xs ys : List (ℕ × ℕ)) → Apart xs ys → (fingerprint_of xs + fingerprint_of ys) % 2 ^ 64 ≡ fingerprint_of (merged xs ys)
 fingerprint_merged xs ys apart =
-    mod-add-mod (sum_by word_of xs) (2 ^ 64) (fingerprint_of ys) ∙ add-mod-mod (sum_by word_of xs) (sum_by word_of ys) (2 ^ 64)
-    ∙ ap (λ s. s % 2 ^ 64) (sym (sum_merged word_of xs ys apart))
+    mod-add-mod (sum_by hash_of xs) (2 ^ 64) (fingerprint_of ys) ∙ add-mod-mod (sum_by hash_of xs) (sum_by hash_of ys) (2 ^ 64)
+    ∙ ap (λ s. s % 2 ^ 64) (sym (sum_merged hash_of xs ys apart))
 
 -- a list's is the sum of its base's and that of what it adds
-pub fingerprint_link : (sum print : ℕ) (list base added : List (ℕ × ℕ)) → list ≡ merged base added → Apart base added → print ≡ fingerprint_of added
-    → ((sum + print) % 2 ^ 64 + fingerprint_of base) % 2 ^ 64 ≡ (sum + fingerprint_of list) % 2 ^ 64
-fingerprint_link sum print list base added is apart same =
-    let turned : sum + print + fingerprint_of base ≡ sum + (fingerprint_of base + print) = omega arith in
-    mod-add-mod (sum + print) (2 ^ 64) (fingerprint_of base) ∙ ap (λ n. n % 2 ^ 64) turned
-    ∙ sym (add-mod-mod sum (fingerprint_of base + print) (2 ^ 64))
+pub fingerprint_link : (sum tag : ℕ) (list base added : List (ℕ × ℕ)) → list ≡ merged base added → Apart base added → tag ≡ fingerprint_of added
+    → ((sum + tag) % 2 ^ 64 + fingerprint_of base) % 2 ^ 64 ≡ (sum + fingerprint_of list) % 2 ^ 64
+fingerprint_link sum tag list base added is apart same =
+    let turned : sum + tag + fingerprint_of base ≡ sum + (fingerprint_of base + tag) = omega arith in
+    mod-add-mod (sum + tag) (2 ^ 64) (fingerprint_of base) ∙ ap (λ n. n % 2 ^ 64) turned
+    ∙ sym (add-mod-mod sum (fingerprint_of base + tag) (2 ^ 64))
     ∙ ap (λ f. (sum + f) % 2 ^ 64)
     (ap (λ p. (fingerprint_of base + p) % 2 ^ 64) same ∙ fingerprint_merged base added apart ∙ ap fingerprint_of (sym is))
 
@@ -64,7 +64,7 @@ pub length-merged : (xs ys : List (ℕ × ℕ)) → Apart xs ys → length (merg
 length-merged xs ys apart =
     omega (arith, sum_merged (λ _. 1) xs ys apart, length-sum xs, length-sum ys, length-sum (merged xs ys))
 
--- the list that is looked for has the print that is made of both fingerprints
+-- the list that is looked for has the tag that is made of both fingerprints
 pub sought_is : (lists : List (List (ℕ × ℕ))) (k : ℕ) (pairs : List (ℕ × ℕ)) → IsAddition lists k pairs → eqb (length pairs) 0 ≡ false
     → (first second : ℕ) → first ≡ fingerprint_of (list_at lists k) → second ≡ fingerprint_of pairs
     → IsSought lists k pairs ((first + second) % 2 ^ 64 / 2 ^ 32)
@@ -74,5 +74,5 @@ sought_is lists k pairs addition some first second of_list of_pairs = record {
     | inl none ↦ absurd (false≢true (sym some ∙ eq-eqb (length pairs) 0 none))
     | inr more ↦ omega (arith, more)
   ];
-  print_is = ap (λ f. f / 2 ^ 32) ((λ i. (of_list i + of_pairs i) % 2 ^ 64) ∙ fingerprint_merged (list_at lists k) pairs addition.apart);
+  tag_is = ap (λ f. f / 2 ^ 32) ((λ i. (of_list i + of_pairs i) % 2 ^ 64) ∙ fingerprint_merged (list_at lists k) pairs addition.apart);
 }

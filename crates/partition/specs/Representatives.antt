@@ -1,0 +1,66 @@
+-- The steps of a split by numbers of lists: two states stay together if they have one key, their old block and the number of their
+-- list. Those of one key in each block keep its number. The least state with another key is an representative, whose number tells the new
+-- block. Representatives are looked up by their keys: those in one bucket are chained, from the last one down.
+use Rattle.std.specs.Prelude.{◌≡◌, ◌⊎◌, ℕ, ◌*◌, ◌/◌, ◌^◌, ◌++◌, ◌∷◌, ◌<◌, List, [], length, slice_index, slice_index_or}
+use Rattle.partition.specs.declared.splitter.Representative.{Representative}
+use Rattle.lists.specs.Hashed.{IsChained}
+use Rattle.lists.specs.Spans.{hash_of}
+
+-- an old block and the number of a list
+abbrev pub Key : Type 0
+Key = ℕ × ℕ
+
+-- the bucket of a key, of so many buckets: by the upper half of the key's hash
+abbrev pub bucket_of_key : ℕ → Key → ℕ
+bucket_of_key buckets key = hash_of key / 2 ^ 32 * buckets / 2 ^ 32
+
+-- the representative number r
+abbrev pub representative_at : List Representative → ℕ → Representative
+representative_at chain r = slice_index_or chain r (record { old = 0; list = 0; before = 0 })
+
+-- the key of an representative
+abbrev pub key_of : Representative → Key
+key_of representative = (representative.old, representative.list)
+
+-- the key of the representative number r
+abbrev pub key_at : List Representative → ℕ → Key
+key_at chain r = key_of (representative_at chain r)
+
+-- the bucket of the representative number r
+abbrev pub representative_bucket : List Representative → List ℕ → ℕ → ℕ
+representative_bucket chain heads r = bucket_of_key (length heads) (key_at chain r)
+
+-- the number before r in its bucket
+abbrev pub representative_before : List Representative → ℕ → ℕ
+representative_before chain r = (representative_at chain r).before
+
+-- r is the number of an representative
+abbrev pub IsRepresentative : List Representative → ℕ → Type 0
+IsRepresentative chain r = (0 < r) × (r < length chain)
+
+-- representatives with different keys, each of which a search by its key finds
+pub record IsChain (heads : List ℕ) (chain : List Representative) : Type 0 where
+  pub some : 0 < length chain
+  pub some_buckets : 0 < length heads
+  pub few_buckets : length heads < 2 ^ 32
+  pub different : (q r : ℕ) → IsRepresentative chain q → IsRepresentative chain r → key_at chain q ≡ key_at chain r → q ≡ r
+  pub chained : IsChained (length chain) (representative_bucket chain heads) (representative_before chain) heads
+
+-- the representative number r has the key
+abbrev pub HasRepresentative : List Representative → Key → ℕ → Type 0
+HasRepresentative chain key r = IsRepresentative chain r × (key_at chain r ≡ key)
+
+-- no representative has the key
+abbrev pub IsNewKey : List Representative → Key → Type 0
+IsNewKey chain key = (r : ℕ) → IsRepresentative chain r → key_at chain r ≡ key → ⊥
+
+-- a state of the key goes to the representative number r: the one that has the key, or the next one
+abbrev pub GoesTo : Key → List Representative → List Representative → ℕ → Type 0
+GoesTo key old new r = (HasRepresentative old key r × (new ≡ old))
+    ⊎ ((r ≡ length old) × ((representative : Representative) × (new ≡ old ++ representative ∷ []) × (key_of representative ≡ key)))
+
+-- each block has a state whose list has the number that stands for the block
+pub record AreKeepers (old numbers keepers : List ℕ) : Type 0 where
+  pub room : (s : ℕ) → s < length old → slice_index old s < length keepers
+  pub keeps : (s : ℕ) → s < length old →
+      (u : ℕ) × (u < length old) × (slice_index old u ≡ slice_index old s) × (slice_index keepers (slice_index old s) ≡ slice_index numbers u)
