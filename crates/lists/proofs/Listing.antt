@@ -75,7 +75,7 @@ module _ (pairs more : List (ℕ × ℕ)) where
 -- the span of a list that goes last in the buffer goes last among the spans
 module _ (pairs list : List (ℕ × ℕ)) (spans : List Span) (new : Span) (are : AreSpans pairs spans)
     (start : new.start ≡ length pairs) (end : new.end ≡ length pairs + length list) (rising : IsStrictlySortedBy pair_cmp list)
-    (tag : new.fingerprint ≡ fingerprint_of list) where
+    (same : new.fingerprint ≡ fingerprint_of list) where
   list-new : list_in (pairs ++ list) new ≡ list
   list-new = ap (λ i. slice_range (pairs ++ list) i new.end) start ∙ slice_range-last pairs list new.end end
 
@@ -84,7 +84,7 @@ module _ (pairs list : List (ℕ × ℕ)) (spans : List Span) (new : Span) (are 
     forward = omega arith;
     within = omega (arith, length-append pairs list);
     rising = subst (IsStrictlySortedBy pair_cmp) (sym list-new) rising;
-    fingerprint = tag ∙ ap fingerprint_of (sym list-new);
+    fingerprint = same ∙ ap fingerprint_of (sym list-new);
   }
 
   pub lists_of-push : lists_of (pairs ++ list) (spans ++ new ∷ []) ≡ lists_of pairs spans ++ list ∷ []

@@ -46,12 +46,12 @@ fingerprint_merged xs ys apart =
     ∙ ap (λ s. s % 2 ^ 64) (sym (sum_merged hash_of xs ys apart))
 
 -- a list's is the sum of its base's and that of what it adds
-pub fingerprint_link : (sum tag : ℕ) (list base added : List (ℕ × ℕ)) → list ≡ merged base added → Apart base added → tag ≡ fingerprint_of added
-    → ((sum + tag) % 2 ^ 64 + fingerprint_of base) % 2 ^ 64 ≡ (sum + fingerprint_of list) % 2 ^ 64
-fingerprint_link sum tag list base added is apart same =
-    let turned : sum + tag + fingerprint_of base ≡ sum + (fingerprint_of base + tag) = omega arith in
-    mod-add-mod (sum + tag) (2 ^ 64) (fingerprint_of base) ∙ ap (λ n. n % 2 ^ 64) turned
-    ∙ sym (add-mod-mod sum (fingerprint_of base + tag) (2 ^ 64))
+pub fingerprint_link : (sum part : ℕ) (list base added : List (ℕ × ℕ)) → list ≡ merged base added → Apart base added → part ≡ fingerprint_of added
+    → ((sum + part) % 2 ^ 64 + fingerprint_of base) % 2 ^ 64 ≡ (sum + fingerprint_of list) % 2 ^ 64
+fingerprint_link sum part list base added is apart same =
+    let turned : sum + part + fingerprint_of base ≡ sum + (fingerprint_of base + part) = omega arith in
+    mod-add-mod (sum + part) (2 ^ 64) (fingerprint_of base) ∙ ap (λ n. n % 2 ^ 64) turned
+    ∙ sym (add-mod-mod sum (fingerprint_of base + part) (2 ^ 64))
     ∙ ap (λ f. (sum + f) % 2 ^ 64)
     (ap (λ p. (fingerprint_of base + p) % 2 ^ 64) same ∙ fingerprint_merged base added apart ∙ ap fingerprint_of (sym is))
 

@@ -83,7 +83,7 @@ impl Chained {
         ensures list { list_at self.now k ≡ merged (list_at self.now result.0) result.1.now }
         ensures rising { IsStrictlySortedBy pair_cmp result.1.now }
         ensures apart { Apart (list_at self.now result.0) result.1.now }
-        ensures tag { result.2 ≡ fingerprint_of result.1.now }
+        ensures part { result.2 ≡ fingerprint_of result.1.now }
     {
         (
             base_of(&self.bases, k),
@@ -117,8 +117,8 @@ impl Chained {
         let mut sum: u64 = 0;
         let mut at = k;
         while at != EMPTY {
-            let (base, _, tag) = self.cut(at);
-            sum = sum.wrapping_add(tag);
+            let (base, _, part) = self.cut(at);
+            sum = sum.wrapping_add(part);
             at = base;
         }
         sum

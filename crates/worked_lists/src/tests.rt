@@ -47,14 +47,14 @@ const ROWS: [Row; 8] = [
         &[(0, 0), (0, 1)],
     ),
     (
-        "equal prints, one pair",
+        "equal tags, one pair",
         &[(51, 317)],
         &[(160, 433)],
         false,
         &[(51, 317), (160, 433)],
     ),
     (
-        "equal prints, two pairs",
+        "equal tags, two pairs",
         &[(1, 8), (2, 15)],
         &[(1, 174), (2, 430)],
         false,

@@ -12,6 +12,6 @@ loop-at-preserved c =
       within = omega arith;
       total =
           fingerprint_link c.loop-at.sum c.cut-base.result.2 (list_at lists c.loop-at.at) (list_at lists c.cut-base.result.0) c.cut-base.result.1.now
-          c.cut-base.ensures.list c.cut-base.ensures.apart c.cut-base.ensures.tag
+          c.cut-base.ensures.list c.cut-base.ensures.apart c.cut-base.ensures.part
           ∙ c.loop-at.invariant.total;
     }
