@@ -42,7 +42,8 @@ impl RoundSignatures {
         ensures lists { IfOk result (λ r. r.lists ≡ [] ∷ []) }
         ensures states { IfOk result (λ r. length r.numbers.items ≡ states) }
     {
-        // The numbers first: where the second cannot be made the first is dropped, and numbers have one part where lists have many.
+        // The numbers first: where the second cannot be made the first is dropped, and numbers have one part where lists
+        // have many.
         Ok(RoundSignatures {
             alloc,
             numbers: vec![in alloc; 0u32; states as usize]?,
