@@ -3,7 +3,7 @@ use Rattle.std.proofs.Common.{◌≡◌, ℕ, Bool, ◌*◌, List, Option, Some,
 use Rattle.std.specs.Io.KnownBytes.{Consumes, IsAtEnd}
 use Rattle.theory.specs.declared.relation.Relation.{Relation}
 use Rattle.lts.specs.Meter.{Counts}
-use Rattle.quotient.specs.Bounds.{KeepsTo}
+use Rattle.quotient.specs.Visits.{KeepsTo}
 use Rattle.autfmt.specs.Bounds.{Bounds}
 use Rattle.autfmt.specs.Outcomes.{Takes}
 use Rattle.autbis.specs.Comparisons.{ComparesNamed, ComparesTo}

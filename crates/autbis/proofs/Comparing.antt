@@ -10,7 +10,7 @@ use Rattle.theory.specs.Alike.{SameSteps}
 use Rattle.theory.specs.Union.{union_of}
 use Rattle.lts.specs.Lts.{Grouped, system_of}
 use Rattle.lts.specs.Meter.{Counts}
-use Rattle.quotient.specs.Bounds.{KeepsTo}
+use Rattle.quotient.specs.Visits.{KeepsTo}
 use Rattle.autfmt.specs.Bounds.{Bounds}
 use Rattle.autfmt.specs.Readers.{ReadsAs}
 use Rattle.autbis.specs.Comparisons.{CountsComparison, CountsUnion, IsVerdict, ReadBoth, states_of, transitions_of}

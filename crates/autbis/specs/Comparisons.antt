@@ -6,7 +6,7 @@ use Rattle.theory.specs.Bisimulation.{Equivalent}
 use Rattle.theory.specs.Blocks.{Turns}
 use Rattle.theory.specs.Union.{union_of}
 use Rattle.lts.specs.Meter.{Counts, IsFresh}
-use Rattle.quotient.specs.Bounds.{KeepsTo}
+use Rattle.quotient.specs.Visits.{KeepsTo}
 use Rattle.autfmt.specs.Bounds.{Bounds}
 use Rattle.autfmt.specs.Texts.{Reads}
 use Rattle.autfmt.specs.declared.fault.Fault.{Fault}

@@ -9,7 +9,7 @@ use Rattle.theory.specs.Blocks.{Turns}
 use Rattle.theory.specs.Quotient.{Quotient}
 use Rattle.lts.specs.Meter as meter
 use Rattle.lts.specs.Meter.{IsFresh}
-use Rattle.quotient.specs.Bounds.{KeepsTo}
+use Rattle.quotient.specs.Visits.{KeepsTo}
 use Rattle.autfmt.specs.Bounds.{Bounds}
 use Rattle.autfmt.specs.Texts.{Reads}
 use Rattle.autfmt.specs.declared.fault.Fault.{Fault}

@@ -1,3 +1,3 @@
-pub mod Marks
+pub mod Stages
 pub mod Rising
 pub mod Counting

@@ -2,44 +2,44 @@
 use Rattle.std.specs.Prelude.{◌≡◌, ◌⊎◌, ℕ, ◌<◌, ◌+◌, ◌-◌, ◌≤◌, Bool, true, false, List, length, slice_index_or}
 use Rattle.std.specs.List.{Contains, All, filter, sum_by, count_by}
 use Rattle.lts.specs.Lts.{Triple, source_of}
-use Rattle.inert.specs.declared.walk.Mark.{Mark}
-use Rattle.inert.specs.declared.walk.Mark.TheVariants.{Unseen, Open, Finished}
+use Rattle.inert.specs.declared.walk.Stage.{Stage}
+use Rattle.inert.specs.declared.walk.Stage.TheVariants.{Unseen, Open, Finished}
 use Rattle.inert.specs.declared.walk.Frame.{Frame}
 
--- whether a state with this mark was not seen
-abbrev pub is_unseen : Mark → Bool
+-- whether a state with this stage was not seen
+abbrev pub is_unseen : Stage → Bool
 is_unseen Unseen = true
 is_unseen (Open p) = false
 is_unseen (Finished k) = false
 
 -- how many states were not seen
-abbrev pub unseen : List Mark → ℕ
-unseen marks = count_by is_unseen marks
+abbrev pub unseen : List Stage → ℕ
+unseen stages = count_by is_unseen stages
 
 -- how many transitions start at states that were not seen
-abbrev pub unread : List Triple → List Mark → ℕ
-unread places marks = length (filter (λ e. is_unseen (slice_index_or marks (source_of e) Unseen)) places)
+abbrev pub unread : List Triple → List Stage → ℕ
+unread places stages = length (filter (λ e. is_unseen (slice_index_or stages (source_of e) Unseen)) places)
 
 -- how many transitions are still to be read of the rows that are being read
 abbrev pub rest : List Frame → ℕ
 rest frames = sum_by (λ x. x.end - x.next) frames
 
 -- each state that was seen is on the trail
-pub record IsTrail (marks : List Mark) (trail : List ℕ) : Type 0 where
-  pub each : All (λ s. s < length marks) trail
-  pub seen : (s : ℕ) → (slice_index_or marks s Unseen ≡ Unseen) ⊎ Contains trail s
+pub record IsTrail (stages : List Stage) (trail : List ℕ) : Type 0 where
+  pub each : All (λ s. s < length stages) trail
+  pub seen : (s : ℕ) → (slice_index_or stages s Unseen ≡ Unseen) ⊎ Contains trail s
 
 -- each state that was seen is seen still
-abbrev pub KeepsSeen : List Mark → List Mark → Type 0
+abbrev pub KeepsSeen : List Stage → List Stage → Type 0
 KeepsSeen old new = (s : ℕ) → slice_index_or new s Unseen ≡ Unseen → slice_index_or old s Unseen ≡ Unseen
 
 -- and the state s is seen
-pub record HasSeen (s : ℕ) (old new : List Mark) : Type 0 where
+pub record HasSeen (s : ℕ) (old new : List Stage) : Type 0 where
   pub seen : KeepsSeen old new
   pub found : ¬ (slice_index_or new s Unseen ≡ Unseen)
 
--- there is a mark for each state, some list, and no state is twice on the stack
-pub record HasMarks (states lists stack : ℕ) (marks : List Mark) : Type 0 where
-  pub size : length marks ≡ states
+-- there is a stage for each state, some list, and no state is twice on the stack
+pub record HasStages (states lists stack : ℕ) (stages : List Stage) : Type 0 where
+  pub size : length stages ≡ states
   pub some : 1 ≤ lists
-  pub numbers : unseen marks + stack ≤ states
+  pub numbers : unseen stages + stack ≤ states

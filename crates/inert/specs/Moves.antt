@@ -4,15 +4,15 @@ use Rattle.std.specs.List.{Contains}
 use Rattle.std.specs.List.Sorted.{IsStrictlySortedBy}
 use Rattle.lts.specs.Lts.{Grouped, Triple, IsRow}
 use Rattle.lists.specs.Lists.{list_at, pair_cmp, Grow}
-use Rattle.inert.specs.Search.{Search, nothing, mark_at, top, root_at, Gives, AreSigned, Walks, Mark, Unseen, Open, Finished, Root, Item, Pair, Listed}
-use Rattle.inert.specs.Ahead.{unseen, unread, rest, KeepsSeen, HasMarks}
+use Rattle.inert.specs.Search.{Search, nothing, stage_at, top, root_at, Gives, AreSigned, Walks, Stage, Unseen, Open, Finished, Root, Item, Pair, Listed}
+use Rattle.inert.specs.Ahead.{unseen, unread, rest, KeepsSeen, HasStages}
 use Rattle.inert.specs.declared.step.Step.{Step}
 use Rattle.inert.specs.declared.step.Step.TheVariants.{Inert, Shows}
 
 -- the state s, whose row this is, goes on the stack as a component of its own
 abbrev pub entered : ℕ → ℕ → ℕ → Search → Search
 entered s start end w = record {
-  marks = slice_set w.marks s (Open (length w.stack));
+  stages = slice_set w.stages s (Open (length w.stack));
   stack = w.stack ++ s ∷ [];
   frames = w.frames ++ record { place = length w.stack; next = start; end = end } ∷ [];
   roots = w.roots ++ record { place = length w.stack; items = length w.items } ∷ [];
@@ -38,9 +38,9 @@ with_item x w = record w { items = w.items ++ x ∷ [] }
 abbrev pub TakesStep : List Triple → Step → Search → Search → Bool → Type 0
 TakesStep places (Shows a b) old new enters = (new ≡ with_item (Pair a b) old) × ¬ IsTrue enters
 TakesStep places (Inert t) old new enters =
-    ((mark_at old.marks t ≡ Unseen) × Enters places t old new × IsTrue enters)
-    ⊎ ((q : ℕ) × (mark_at old.marks t ≡ Open q) × CutsRoots q old.roots new.roots × (new ≡ record old { roots = new.roots }) × ¬ IsTrue enters)
-    ⊎ ((k : ℕ) × (mark_at old.marks t ≡ Finished k) × (new ≡ with_item (Listed k) old) × ¬ IsTrue enters)
+    ((stage_at old.stages t ≡ Unseen) × Enters places t old new × IsTrue enters)
+    ⊎ ((q : ℕ) × (stage_at old.stages t ≡ Open q) × CutsRoots q old.roots new.roots × (new ≡ record old { roots = new.roots }) × ¬ IsTrue enters)
+    ⊎ ((k : ℕ) × (stage_at old.stages t ≡ Finished k) × (new ≡ with_item (Listed k) old) × ¬ IsTrue enters)
 
 -- some of the items gives the pair z
 abbrev pub IsGiven : List (List (ℕ × ℕ)) → List Item → ℕ × ℕ → Type 0
@@ -60,15 +60,15 @@ pub record IsListed (items : List Item) (before after : List (List (ℕ × ℕ))
   pub exactly : (z : ℕ × ℕ) → Contains (list_at after k) z ↔ IsGiven before items z
   pub rising : IsStrictlySortedBy pair_cmp (list_at after k)
 
--- the states on the stack from place f on are finished, and no other mark changes
-pub record Finishes (stack : List ℕ) (f number : ℕ) (old new : List Mark) : Type 0 where
+-- the states on the stack from place f on are finished, and no other stage changes
+pub record Finishes (stack : List ℕ) (f number : ℕ) (old new : List Stage) : Type 0 where
   pub size : length new ≡ length old
-  pub members : (p : ℕ) → f ≤ p → p < length stack → mark_at new (slice_index stack p) ≡ Finished number
-  pub others : (s : ℕ) → (mark_at new s ≡ mark_at old s) ⊎ ((p : ℕ) × (f ≤ p) × (p < length stack) × (slice_index stack p ≡ s))
+  pub members : (p : ℕ) → f ≤ p → p < length stack → stage_at new (slice_index stack p) ≡ Finished number
+  pub others : (s : ℕ) → (stage_at new s ≡ stage_at old s) ⊎ ((p : ℕ) × (f ≤ p) × (p < length stack) × (slice_index stack p ≡ s))
 
 -- the state s is finished with the empty list, and nothing else changes
 abbrev pub skipped : ℕ → Search → Search
-skipped s w = record w { marks = slice_set w.marks s (Finished 0) }
+skipped s w = record w { stages = slice_set w.stages s (Finished 0) }
 
 -- the walk without its last frame
 abbrev pub popped : Search → Search
@@ -78,7 +78,7 @@ popped w = record w { frames = take (length w.frames - 1) w.frames }
 pub record Closes (root : Root) (before after : List (List (ℕ × ℕ))) (old new : Search) : Type 0 where
   pub number : ℕ
   pub listed : IsListed (drop root.items old.items) before after number
-  pub marks : Finishes old.stack root.place number old.marks new.marks
+  pub stages : Finishes old.stack root.place number old.stages new.stages
   pub stack : new.stack ≡ take root.place old.stack
   pub frames : new.frames ≡ old.frames
   pub roots : new.roots ≡ take (length old.roots - 1) old.roots
@@ -87,12 +87,12 @@ pub record Closes (root : Root) (before after : List (List (ℕ × ℕ))) (old n
 
 -- how many transitions are still to be read
 abbrev pub ahead : Grouped → Search → ℕ
-ahead l w = unread l.places w.marks + rest w.frames
+ahead l w = unread l.places w.stages + rest w.frames
 
 -- how many lists a walk makes at most of what it has seen: one for each item, and for each frame that is to come back with
 -- one, and two for each state that is not finished
 abbrev pub weight : Search → ℕ
-weight w = 2 * (unseen w.marks + length w.stack) + length w.items + (length w.frames - 1)
+weight w = 2 * (unseen w.stages + length w.stack) + length w.items + (length w.frames - 1)
 
 -- there is room for these, and for one for each transition that is still to be read
 abbrev pub FitsLists : Grouped → ℕ → Search → Type 0
@@ -116,7 +116,7 @@ pub record IsUnderWay (l : Grouped) (blocks : List ℕ) (alone : List Bool) (lis
 pub record GoesOn (l : Grouped) (blocks : List ℕ) (alone : List Bool) (lists : List (List (ℕ × ℕ))) (old new : Search) : Type 0 where
   pub walks : Walks l blocks alone lists new
   pub fits : FitsLists l (length lists) new
-  pub seen : KeepsSeen old.marks new.marks
+  pub seen : KeepsSeen old.stages new.stages
 
 -- fewer steps are ahead after a state was entered, and else no more, where the row is read
 abbrev pub ComesNearer : Grouped → Search → Search → Bool → Type 0
@@ -125,8 +125,8 @@ ComesNearer l old new enters = (IsTrue enters → steps l new < steps l old)
 
 -- the walk rests: nothing is on the stack, and each state that was seen is finished, with its list
 pub record Rests (l : Grouped) (blocks : List ℕ) (alone : List Bool) (lists : List (List (ℕ × ℕ))) (w : Search) : Type 0 where
-  pub empty : w ≡ nothing w.marks
-  pub numbers : HasMarks l.states (length lists) 0 w.marks
-  pub shut : (s p : ℕ) → ¬ (mark_at w.marks s ≡ Open p)
-  pub signed : AreSigned l blocks alone lists w.marks
+  pub empty : w ≡ nothing w.stages
+  pub numbers : HasStages l.states (length lists) 0 w.stages
+  pub shut : (s p : ℕ) → ¬ (stage_at w.stages s ≡ Open p)
+  pub signed : AreSigned l blocks alone lists w.stages
   pub fits : FitsLists l (length lists) w

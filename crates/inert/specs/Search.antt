@@ -8,9 +8,9 @@ use Rattle.lts.specs.Lts.{Grouped, Triple, source_of, target_of, place_at, syste
 use Rattle.lists.specs.Lists.{list_at}
 use Rattle.inert.specs.Signed.{HasPair, IsSignature, IsKnownAlone, pair_under}
 use Rattle.inert.specs.Steps.{IsInert}
-use Rattle.inert.specs.Ahead.{HasMarks}
-pub use Rattle.inert.specs.declared.walk.Mark.{Mark}
-pub use Rattle.inert.specs.declared.walk.Mark.TheVariants.{Unseen, Open, Finished}
+use Rattle.inert.specs.Ahead.{HasStages}
+pub use Rattle.inert.specs.declared.walk.Stage.{Stage}
+pub use Rattle.inert.specs.declared.walk.Stage.TheVariants.{Unseen, Open, Finished}
 pub use Rattle.inert.specs.declared.walk.Frame.{Frame}
 pub use Rattle.inert.specs.declared.walk.Root.{Root}
 pub use Rattle.inert.specs.declared.walk.Item.{Item}
@@ -18,29 +18,29 @@ pub use Rattle.inert.specs.declared.walk.Item.TheVariants.{Pair, Listed}
 
 -- what a walk knows, where it is, and what it has collected
 pub record Search : Type 0 where
-  pub marks : List Mark
+  pub stages : List Stage
   pub stack : List ℕ
   pub frames : List Frame
   pub roots : List Root
   pub items : List Item
 
 -- nothing is on the stack
-abbrev pub nothing : List Mark → Search
-nothing marks = record { marks = marks; stack = []; frames = []; roots = []; items = [] }
+abbrev pub nothing : List Stage → Search
+nothing stages = record { stages = stages; stack = []; frames = []; roots = []; items = [] }
 
 -- what is known of the state s
-abbrev pub mark_at : List Mark → ℕ → Mark
-mark_at marks s = slice_index_or marks s Unseen
+abbrev pub stage_at : List Stage → ℕ → Stage
+stage_at stages s = slice_index_or stages s Unseen
 
 -- nothing was seen
 pub record IsIdle (w : Search) : Type 0 where
-  pub empty : w ≡ nothing w.marks
-  pub none : (s : ℕ) → mark_at w.marks s ≡ Unseen
+  pub empty : w ≡ nothing w.stages
+  pub none : (s : ℕ) → stage_at w.stages s ≡ Unseen
 
--- and there is a mark for each of so many states
+-- and there is a stage for each of so many states
 pub record IsReady (states : ℕ) (w : Search) : Type 0 where
   pub idle : IsIdle w
-  pub size : length w.marks ≡ states
+  pub size : length w.stages ≡ states
 
 -- the frame number i, the last one, and the place of the state where the walk is
 abbrev pub no_frame : Frame
@@ -98,10 +98,10 @@ Gives lists (Listed k) z = Contains (list_at lists k) z
 abbrev pub HoldsPair : List (List (ℕ × ℕ)) → Search → ℕ → ℕ × ℕ → Type 0
 HoldsPair lists w p z = (j : ℕ) × (j < length w.items) × Gives lists (item_at w.items j) z × IsOf w.roots j p
 
--- each state on the stack is marked with its place, and no other state is
-pub record AreOpen (marks : List Mark) (stack : List ℕ) : Type 0 where
-  pub marked : (p : ℕ) → p < length stack → mark_at marks (slice_index stack p) ≡ Open p
-  pub only : (s p : ℕ) → mark_at marks s ≡ Open p → (p < length stack) × (slice_index stack p ≡ s)
+-- each state on the stack is open at its place, and no other state is
+pub record AreOpen (stages : List Stage) (stack : List ℕ) : Type 0 where
+  pub placed : (p : ℕ) → p < length stack → stage_at stages (slice_index stack p) ≡ Open p
+  pub only : (s p : ℕ) → stage_at stages s ≡ Open p → (p < length stack) × (slice_index stack p ≡ s)
 
 -- the list of this number has only pairs of the signature of s, and all of them unless s is known to be alone in its block
 pub record IsSigned (l : Grouped) (blocks : List ℕ) (alone : List Bool) (s : ℕ) (lists : List (List (ℕ × ℕ))) (k : ℕ) : Type 0 where
@@ -110,13 +110,13 @@ pub record IsSigned (l : Grouped) (blocks : List ℕ) (alone : List Bool) (s : �
   pub whole : IsSignature Branching l blocks s (list_at lists k) ⊎ IsKnownAlone blocks alone s
 
 -- so is each finished state, with its list
-abbrev pub AreSigned : Grouped → List ℕ → List Bool → List (List (ℕ × ℕ)) → List Mark → Type 0
-AreSigned l blocks alone lists marks = (s k : ℕ) → mark_at marks s ≡ Finished k → IsSigned l blocks alone s lists k
+abbrev pub AreSigned : Grouped → List ℕ → List Bool → List (List (ℕ × ℕ)) → List Stage → Type 0
+AreSigned l blocks alone lists stages = (s k : ℕ) → stage_at stages s ≡ Finished k → IsSigned l blocks alone s lists k
 
 -- a finished state has the number of its list, and that of the empty one if it is known to be alone
-abbrev pub HasItsList : List ℕ → List Bool → List Mark → ℕ → ℕ → Type 0
-HasItsList blocks alone marks s k = (IsKnownAlone blocks alone s × (k ≡ 0))
-    ⊎ (¬ IsKnownAlone blocks alone s × (mark_at marks s ≡ Finished k))
+abbrev pub HasItsList : List ℕ → List Bool → List Stage → ℕ → ℕ → Type 0
+HasItsList blocks alone stages s k = (IsKnownAlone blocks alone s × (k ≡ 0))
+    ⊎ (¬ IsKnownAlone blocks alone s × (stage_at stages s ≡ Finished k))
 
 -- one component begins before another one, and so do its items
 abbrev pub IsBefore : Root → Root → Type 0
@@ -172,11 +172,11 @@ IsAhead w p k = (i : ℕ) × (i < length w.frames) × ((frame_at w.frames i).pla
 
 -- the state t is in the component of place p
 abbrev pub IsHere : Search → ℕ → ℕ → Type 0
-IsHere w p t = (q : ℕ) × (mark_at w.marks t ≡ Open q) × IsUpTo w.roots p q × IsUpTo w.roots q p
+IsHere w p t = (q : ℕ) × (stage_at w.stages t ≡ Open q) × IsUpTo w.roots p q × IsUpTo w.roots q p
 
 -- the state t is finished, and the component of place p holds all its pairs
 abbrev pub IsHeld : List (List (ℕ × ℕ)) → Search → ℕ → ℕ → Type 0
-IsHeld lists w p t = (k : ℕ) × (mark_at w.marks t ≡ Finished k) × ((z : ℕ × ℕ) → Contains (list_at lists k) z → HoldsPair lists w p z)
+IsHeld lists w p t = (k : ℕ) × (stage_at w.stages t ≡ Finished k) × ((z : ℕ × ℕ) → Contains (list_at lists k) z → HoldsPair lists w p z)
 
 -- the walk went from place p to the state t, and has not come back
 abbrev pub IsEntered : Search → ℕ → ℕ → Type 0
@@ -199,9 +199,9 @@ AreAccounted l blocks lists w = (p k : ℕ) → p < length w.stack → k < lengt
 
 -- what holds of a walk between its steps
 pub record Walks (l : Grouped) (blocks : List ℕ) (alone : List Bool) (lists : List (List (ℕ × ℕ))) (w : Search) : Type 0 where
-  pub numbers : HasMarks l.states (length lists) (length w.stack) w.marks
-  pub opened : AreOpen w.marks w.stack
-  pub signed : AreSigned l blocks alone lists w.marks
+  pub numbers : HasStages l.states (length lists) (length w.stack) w.stages
+  pub opened : AreOpen w.stages w.stack
+  pub signed : AreSigned l blocks alone lists w.stages
   pub roots : AreRoots w
   pub frames : AreFrames l w.stack w.frames
   pub connects : Connects l blocks w

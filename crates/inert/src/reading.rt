@@ -4,14 +4,14 @@ ghost use Rattle.std.specs.List.{All};
 ghost use Rattle.lts.specs.Meter.{HasRoomFor, Costs};
 ghost use Rattle.lists.specs.declared.lists.TheConstants.{MOST_LISTS};
 ghost use Rattle.inert.specs.Steps.{Sees};
-ghost use Rattle.inert.specs.Search.{mark_at, AreOpen, AreThere, Laws};
+ghost use Rattle.inert.specs.Search.{stage_at, AreOpen, AreThere, Laws};
 ghost use Rattle.inert.specs.Moves.{Closes, Finishes, ahead, HasRead, IsUnderWay, GoesOn, Rests, ComesNearer};
 ghost use Rattle.inert.specs.Ahead.{unread, HasSeen};
-ghost use Rattle.inert.specs.declared.walk.Mark.TheVariants.{Unseen};
+ghost use Rattle.inert.specs.declared.walk.Stage.TheVariants.{Unseen};
 
 use crate::component::list_from;
 use crate::step::read_step;
-use crate::walk::{Item, Mark, Root, Walk};
+use crate::walk::{Item, Stage, Root, Walk};
 use lists::Lists;
 use lts::{Lts, Memory, Meter};
 
@@ -30,14 +30,14 @@ impl Walk {
         m: &mut M,
     ) -> Result<(), Memory>
         requires sees { Sees l.now blocks.now internal }
-        requires state { (s < l.now.states) × (mark_at self.old.marks s ≡ Unseen) }
+        requires state { (s < l.now.states) × (stage_at self.old.stages s ≡ Unseen) }
         requires rests { Rests l.now blocks.now alone.now lists.old self.old }
-        requires room { HasRoomFor (M.counted m.old) 0 (unread l.now.places self.old.marks) }
+        requires room { HasRoomFor (M.counted m.old) 0 (unread l.now.places self.old.stages) }
         ensures rests { OnOk result (Rests l.now blocks.now alone.now lists.new self.new) }
-        ensures seen { OnOk result (HasSeen s self.old.marks self.new.marks) }
-        ensures visits { OnOk result ((M.counted m.new).visits + unread l.now.places self.new.marks
-            ≡ (M.counted m.old).visits + unread l.now.places self.old.marks) }
-        ensures cost { Costs (M.counted m.old) (M.counted m.new) 0 0 (unread l.now.places self.old.marks) }
+        ensures seen { OnOk result (HasSeen s self.old.stages self.new.stages) }
+        ensures visits { OnOk result ((M.counted m.new).visits + unread l.now.places self.new.stages
+            ≡ (M.counted m.old).visits + unread l.now.places self.old.stages) }
+        ensures cost { Costs (M.counted m.old) (M.counted m.new) 0 0 (unread l.now.places self.old.stages) }
     {
         laws();
         self.enter(l, s)?;
@@ -118,7 +118,7 @@ impl Walk {
     ///
     /// Fails if there is no memory for it.
     fn close(&mut self, root: Root, lists: &mut Lists) -> Result<(), Memory>
-        requires open { AreOpen self.old.marks self.old.stack }
+        requires open { AreOpen self.old.stages self.old.stack }
         requires place { root.place ≤ length self.old.stack }
         requires items { root.items ≤ length self.old.items }
         requires there { AreThere lists.old self.old.items }
@@ -131,7 +131,7 @@ impl Walk {
             &mut self.numbers,
             &mut self.pairs,
         )?;
-        mark_members(&mut self.marks, &self.stack, root.place as usize, list);
+        finish_members(&mut self.stages, &self.stack, root.place as usize, list);
         self.stack.truncate(root.place as usize);
         self.roots.pop();
         self.items.truncate(root.items);
@@ -142,14 +142,14 @@ impl Walk {
     }
 }
 
-/// Marks the states on the stack from the place on as finished, with the list of this number.
-fn mark_members(marks: &mut Vec<Mark>, stack: &[u32], from: usize, list: u32)
-    requires states { All (λ s. s < length marks.old.items) stack.now }
+/// Finishes the states on the stack from the place on, with the list of this number.
+fn finish_members(stages: &mut Vec<Stage>, stack: &[u32], from: usize, list: u32)
+    requires states { All (λ s. s < length stages.old.items) stack.now }
     requires within { from ≤ length stack.now }
-    ensures { Finishes stack.now from list marks.old.items marks.new.items }
+    ensures { Finishes stack.now from list stages.old.items stages.new.items }
 {
     for p in from..stack.len() {
-        marks[stack[p] as usize] = Mark::Finished(list);
+        stages[stack[p] as usize] = Stage::Finished(list);
     }
 }
 

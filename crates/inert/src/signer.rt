@@ -6,15 +6,14 @@ ghost use Rattle.lts.specs.Lts.{row_of};
 ghost use Rattle.lists.specs.Lists.{list_at, AreNumbers};
 ghost use Rattle.inert.specs.Signed.{IsSignature, IsKnownAlone, IsListOf};
 ghost use Rattle.inert.specs.Steps.{Sees};
-ghost use Rattle.inert.specs.Search.{mark_at, IsReady, HasItsList};
+ghost use Rattle.inert.specs.Search.{stage_at, IsReady, HasItsList};
 ghost use Rattle.inert.specs.Ahead.{unread, HasSeen};
 ghost use Rattle.inert.specs.Moves.{skipped, Rests};
-ghost use Rattle.inert.specs.declared.walk.Mark.TheVariants.{Unseen, Finished};
+ghost use Rattle.inert.specs.declared.walk.Stage.TheVariants.{Unseen, Finished};
 
-use crate::step::read_row;
 use crate::walk::Walk;
 use lists::{EMPTY, Lists};
-use lts::{Lts, Memory, Meter};
+use lts::{Lts, Memory, Meter, visit_row};
 use std::alloc::Global;
 use std::marker::Model;
 
@@ -30,7 +29,7 @@ impl Model for Signer {
 
     ghost Value = { ℕ };
 
-    ghost view = { λ x. length x.walk.marks };
+    ghost view = { λ x. length x.walk.stages };
 
     ghost invariant = { λ x. IsIdle x.walk };
 }
@@ -173,7 +172,7 @@ fn walk_all<M: Meter>(
     requires lists { lists.old ≡ [] ∷ [] }
     requires room { HasRoomFor (M.counted m.old) 0 (length l.now.places) }
     ensures rests { OnOk result (Rests l.now blocks.now alone.now lists.new walk.new) }
-    ensures all { OnOk result ((s : ℕ) → s < l.now.states → ¬ (mark_at walk.new.marks s ≡ Unseen)) }
+    ensures all { OnOk result ((s : ℕ) → s < l.now.states → ¬ (stage_at walk.new.stages s ≡ Unseen)) }
     ensures visits { let n = length l.now.places in Visits M.counted m.old m.new result n n }
 {
     l.known();
@@ -202,14 +201,14 @@ fn finish<M: Meter>(
     m: &mut M,
 ) -> Result<(), Memory>
     requires sees { Sees l.now blocks.now internal }
-    requires state { (s < l.now.states) × (mark_at walk.old.marks s ≡ Unseen) }
+    requires state { (s < l.now.states) × (stage_at walk.old.stages s ≡ Unseen) }
     requires rests { Rests l.now blocks.now alone.now lists.old walk.old }
-    requires room { HasRoomFor (M.counted m.old) 0 (unread l.now.places walk.old.marks) }
+    requires room { HasRoomFor (M.counted m.old) 0 (unread l.now.places walk.old.stages) }
     ensures rests { OnOk result (Rests l.now blocks.now alone.now lists.new walk.new) }
-    ensures seen { OnOk result (HasSeen s walk.old.marks walk.new.marks) }
-    ensures visits { OnOk result ((M.counted m.new).visits + unread l.now.places walk.new.marks
-        ≡ (M.counted m.old).visits + unread l.now.places walk.old.marks) }
-    ensures cost { Costs (M.counted m.old) (M.counted m.new) 0 0 (unread l.now.places walk.old.marks) }
+    ensures seen { OnOk result (HasSeen s walk.old.stages walk.new.stages) }
+    ensures visits { OnOk result ((M.counted m.new).visits + unread l.now.places walk.new.stages
+        ≡ (M.counted m.old).visits + unread l.now.places walk.old.stages) }
+    ensures cost { Costs (M.counted m.old) (M.counted m.new) 0 0 (unread l.now.places walk.old.stages) }
 {
     lists.known();
     if is_alone(alone, blocks[s as usize]) {
@@ -233,24 +232,24 @@ fn is_alone(alone: &[bool], block: u32) -> bool
 /// Fails if there is no memory for it.
 fn pass<M: Meter>(walk: &mut Walk, l: &Lts<M>, s: u32, m: &mut M) -> Result<(), Memory>
     requires state { s < l.now.states }
-    requires marks { length walk.old.marks ≡ l.now.states }
+    requires stages { length walk.old.stages ≡ l.now.states }
     requires room { HasRoomFor (M.counted m.old) 0 (length (row_of s l.now.places)) }
     ensures passed { let n = length (row_of s l.now.places) in
         OnOk result ((walk.new ≡ skipped s walk.old) × Costs (M.counted m.old) (M.counted m.new) 0 n n) }
     ensures cost { Costs (M.counted m.old) (M.counted m.new) 0 0 (length (row_of s l.now.places)) }
 {
     walk.skip(s)?;
-    read_row(l, s, m);
+    visit_row(l, s, m);
     Ok(())
 }
 
 /// Puts the number of the list of each state, all of which are finished, in its place: that of the empty one for a state that
 /// is known to be alone.
 fn number(walk: &Walk, blocks: &[u32], alone: &[bool], numbers: &mut [u32])
-    requires size { length numbers.old ≡ length walk.now.marks }
-    requires blocks { length blocks.now ≡ length walk.now.marks }
-    requires finished { (s : ℕ) → s < length walk.now.marks → (k : ℕ) × (mark_at walk.now.marks s ≡ Finished k) }
-    ensures { (s : ℕ) → s < length numbers.new → HasItsList blocks.now alone.now walk.now.marks s (slice_index numbers.new s) }
+    requires size { length numbers.old ≡ length walk.now.stages }
+    requires blocks { length blocks.now ≡ length walk.now.stages }
+    requires finished { (s : ℕ) → s < length walk.now.stages → (k : ℕ) × (stage_at walk.now.stages s ≡ Finished k) }
+    ensures { (s : ℕ) → s < length numbers.new → HasItsList blocks.now alone.now walk.now.stages s (slice_index numbers.new s) }
 {
     for s in 0..numbers.len() {
         numbers[s] = number_of(walk, blocks, alone, s);
@@ -259,10 +258,10 @@ fn number(walk: &Walk, blocks: &[u32], alone: &[bool], numbers: &mut [u32])
 
 /// The number of the list of the state `s`, which is finished: that of the empty one if it is known to be alone.
 fn number_of(walk: &Walk, blocks: &[u32], alone: &[bool], s: usize) -> u32
-    requires state { s < length walk.now.marks }
-    requires blocks { length blocks.now ≡ length walk.now.marks }
-    requires finished { (k : ℕ) × (mark_at walk.now.marks s ≡ Finished k) }
-    ensures { HasItsList blocks.now alone.now walk.now.marks s result }
+    requires state { s < length walk.now.stages }
+    requires blocks { length blocks.now ≡ length walk.now.stages }
+    requires finished { (k : ℕ) × (stage_at walk.now.stages s ≡ Finished k) }
+    ensures { HasItsList blocks.now alone.now walk.now.stages s result }
 {
     if is_alone(alone, blocks[s]) {
         return EMPTY;

@@ -1,6 +1,6 @@
 //! What a transition is under blocks: an inert step, or what it shows.
 ghost use Rattle.std.specs.Prelude.{◌<◌, length};
-ghost use Rattle.lts.specs.Lts.{place_at, row_of};
+ghost use Rattle.lts.specs.Lts.{place_at};
 ghost use Rattle.lts.specs.Meter.{HasRoomFor, Costs};
 ghost use Rattle.inert.specs.Steps.{Sees, IsStep};
 
@@ -40,17 +40,4 @@ pub(crate) fn read_step<M: Meter>(
         }
     }
     Step::Shows(label, other)
-}
-
-/// Reads the row of the state `s` for the count of its visits alone.
-pub(crate) fn read_row<M: Meter>(l: &Lts<M>, s: u32, m: &mut M)
-    requires state { s < l.now.states }
-    requires room { HasRoomFor (M.counted m.old) 0 (length (row_of s l.now.places)) }
-    ensures { let n = length (row_of s l.now.places) in Costs (M.counted m.old) (M.counted m.new) 0 n n }
-{
-    l.known();
-    let (start, end) = l.row(s);
-    for k in start..end {
-        l.edge(k, m);
-    }
 }

@@ -2,10 +2,10 @@
 //! that it leads to is finished.
 ghost use Rattle.std.specs.Prelude.{◌≡◌, ◌↔◌, ℕ, ◌+◌, ◌<◌, ◌≤◌, [], length, IsTrue, IfOk, OnOk};
 ghost use Rattle.lts.specs.declared.limits.TheConstants.{MOST_STATES};
-ghost use Rattle.inert.specs.Search.{Search, mark_at, nothing, IsIdle};
+ghost use Rattle.inert.specs.Search.{Search, stage_at, nothing, IsIdle};
 ghost use Rattle.inert.specs.Moves.{Enters, TakesStep, CutsRoots, skipped};
 ghost use Rattle.inert.specs.Ahead.{IsTrail};
-ghost use Rattle.inert.specs.declared.walk.Mark.TheVariants.{Unseen, Open, Finished};
+ghost use Rattle.inert.specs.declared.walk.Stage.TheVariants.{Unseen, Open, Finished};
 ghost use Rattle.inert.specs.declared.step.Step.TheVariants.{Inert};
 
 use crate::step::Step;
@@ -16,7 +16,7 @@ use std::marker::Model;
 
 /// What the walk knows of a state.
 #[derive(Clone, Copy)]
-pub(crate) enum Mark {
+pub(crate) enum Stage {
     Unseen,
     /// On the stack, at this place.
     Open(u32),
@@ -50,8 +50,8 @@ pub(crate) enum Item {
 #[derive(Drop)]
 pub(crate) struct Walk {
     /// What is known of each state.
-    pub marks: Vec<Mark>,
-    /// The states that were seen since the marks were made or reset.
+    pub stages: Vec<Stage>,
+    /// The states that were seen since the stages were made or reset.
     trail: Vec<u32>,
     /// The states that were seen and are not finished, as they were entered.
     pub stack: Vec<u32>,
@@ -74,23 +74,23 @@ impl Model for Walk {
     ghost use Rattle.inert.specs.Ahead.{IsTrail};
 
     ghost view = { λ w. record {
-      marks = w.marks.items;
+      stages = w.stages.items;
       stack = w.stack.items;
       frames = w.frames.items;
       roots = w.roots.items;
       items = w.items.items;
     } };
 
-    ghost invariant = { λ w. IsTrail w.marks.items w.trail.items };
+    ghost invariant = { λ w. IsTrail w.stages.items w.trail.items };
 }
 
 impl Walk {
-    /// A walk that has seen nothing, with no marks yet.
+    /// A walk that has seen nothing, with no stages yet.
     pub fn new(alloc: Global) -> Walk
         ensures { result ≡ nothing [] }
     {
         Walk {
-            marks: Vec::new(alloc),
+            stages: Vec::new(alloc),
             trail: Vec::new(alloc),
             stack: Vec::new(alloc),
             frames: Vec::new(alloc),
@@ -101,19 +101,19 @@ impl Walk {
         }
     }
 
-    /// Makes the marks for so many states, unless they are there.
+    /// Makes the stages for so many states, unless they are there.
     ///
     /// Fails if there is no memory for them.
     pub fn prepare(&mut self, alloc: Global, states: u32) -> Result<(), Memory>
         requires idle { IsIdle self.old }
         ensures idle { IsIdle self.new }
-        ensures size { OnOk result (length self.new.marks ≡ states) }
+        ensures size { OnOk result (length self.new.stages ≡ states) }
     {
-        if self.marks.len() == states as usize {
+        if self.stages.len() == states as usize {
             return Ok(());
         }
         self.trail.clear();
-        self.marks = vec![in alloc; Mark::Unseen; states as usize]?;
+        self.stages = vec![in alloc; Stage::Unseen; states as usize]?;
         Ok(())
     }
 
@@ -121,7 +121,7 @@ impl Walk {
     pub fn reset(&mut self)
         ensures { IsIdle self.new }
     {
-        forget(&mut self.marks, &self.trail);
+        forget(&mut self.stages, &self.trail);
         self.trail.clear();
         self.stack.clear();
         self.frames.clear();
@@ -131,26 +131,26 @@ impl Walk {
 
     /// Whether the state `s` was not seen.
     pub fn is_unseen(&self, s: u32) -> bool
-        requires { s < length self.now.marks }
-        ensures { IsTrue result ↔ (mark_at self.now.marks s ≡ Unseen) }
+        requires { s < length self.now.stages }
+        ensures { IsTrue result ↔ (stage_at self.now.stages s ≡ Unseen) }
     {
-        match self.marks[s as usize] {
-            Mark::Unseen => true,
-            Mark::Open(_) => false,
-            Mark::Finished(_) => false,
+        match self.stages[s as usize] {
+            Stage::Unseen => true,
+            Stage::Open(_) => false,
+            Stage::Finished(_) => false,
         }
     }
 
     /// The number of the list of the state `s`, which is finished.
     pub fn list(&self, s: usize) -> u32
-        requires state { s < length self.now.marks }
-        requires finished { (k : ℕ) × (mark_at self.now.marks s ≡ Finished k) }
-        ensures { mark_at self.now.marks s ≡ Finished result }
+        requires state { s < length self.now.stages }
+        requires finished { (k : ℕ) × (stage_at self.now.stages s ≡ Finished k) }
+        ensures { stage_at self.now.stages s ≡ Finished result }
     {
-        match self.marks[s] {
-            Mark::Finished(list) => list,
-            Mark::Unseen => 0,
-            Mark::Open(_) => 0,
+        match self.stages[s] {
+            Stage::Finished(list) => list,
+            Stage::Unseen => 0,
+            Stage::Open(_) => 0,
         }
     }
 
@@ -158,11 +158,11 @@ impl Walk {
     ///
     /// Fails if there is no memory for it.
     pub fn skip(&mut self, s: u32) -> Result<(), Memory>
-        requires { s < length self.old.marks }
+        requires { s < length self.old.stages }
         ensures { OnOk result (self.new ≡ skipped s self.old) }
     {
         self.trail.push(s)?;
-        self.marks[s as usize] = Mark::Finished(EMPTY);
+        self.stages[s as usize] = Stage::Finished(EMPTY);
         Ok(())
     }
 
@@ -172,7 +172,7 @@ impl Walk {
     #[inline(always)]
     pub fn enter<M: Meter>(&mut self, l: &Lts<M>, s: u32) -> Result<(), Memory>
         requires state { s < l.now.states }
-        requires marks { length self.old.marks ≡ l.now.states }
+        requires stages { length self.old.stages ≡ l.now.states }
         requires places { length self.old.stack ≤ MOST_STATES }
         ensures { OnOk result (Enters l.now.places s self.old self.new) }
     {
@@ -185,18 +185,18 @@ impl Walk {
         })?;
         self.frames.push(Frame { place, next, end })?;
         self.stack.push(s)?;
-        self.marks[s as usize] = Mark::Open(place);
+        self.stages[s as usize] = Stage::Open(place);
         Ok(())
     }
 
-    /// TakesStep a step from the state where the walk is: what it shows is collected, and an inert one is followed. Returns
+    /// Takes a step from the state where the walk is: what it shows is collected, and an inert one is followed. Returns
     /// whether it enters a state.
     ///
     /// Fails if there is no memory for it.
     #[inline(always)]
     pub fn take<M: Meter>(&mut self, l: &Lts<M>, step: Step) -> Result<bool, Memory>
         requires state { (t : ℕ) → step ≡ Inert t → t < l.now.states }
-        requires marks { length self.old.marks ≡ l.now.states }
+        requires stages { length self.old.stages ≡ l.now.states }
         requires places { length self.old.stack ≤ MOST_STATES }
         ensures { IfOk result (TakesStep l.now.places step self.old self.new) }
     {
@@ -206,16 +206,16 @@ impl Walk {
                 return Ok(false);
             }
             Step::Inert(t) => {
-                match self.marks[t as usize] {
-                    Mark::Unseen => {
+                match self.stages[t as usize] {
+                    Stage::Unseen => {
                         self.enter(l, t)?;
                         return Ok(true);
                     }
-                    Mark::Open(place) => {
+                    Stage::Open(place) => {
                         cut(&mut self.roots, place);
                         return Ok(false);
                     }
-                    Mark::Finished(list) => {
+                    Stage::Finished(list) => {
                         self.items.push(Item::Listed(list))?;
                         return Ok(false);
                     }
@@ -226,12 +226,12 @@ impl Walk {
 }
 
 /// Makes unseen each of these states.
-fn forget(marks: &mut Vec<Mark>, trail: &[u32])
-    requires { IsTrail marks.old.items trail.now }
-    ensures { (s : ℕ) → mark_at marks.new.items s ≡ Unseen }
+fn forget(stages: &mut Vec<Stage>, trail: &[u32])
+    requires { IsTrail stages.old.items trail.now }
+    ensures { (s : ℕ) → stage_at stages.new.items s ≡ Unseen }
 {
     for s in trail {
-        marks[*s as usize] = Mark::Unseen;
+        stages[*s as usize] = Stage::Unseen;
     }
 }
 

@@ -1,5 +1,5 @@
 //! What a list has and another one lacks, noted so that lists from two roots with nearly the same pairs are read in full only once.
-ghost use Rattle.std.specs.Prelude.{◌≡◌, ◌⊎◌, ◌↔◌, ℕ, ◌<◌, [], length, IfOk, OnOk};
+ghost use Rattle.std.specs.Prelude.{◌≡◌, ◌⊎◌, ◌↔◌, ℕ, ◌<◌, [], length, IfOk, IfSome, OnOk};
 ghost use Rattle.std.specs.List.{Contains};
 ghost use Rattle.lists.specs.Lists.{list_at};
 ghost use Rattle.lists.specs.Differences.{AreDifferences};
@@ -57,13 +57,9 @@ pub(crate) fn note(
     requires differences { AreDifferences lists.now differences.old.numbers differences.old.pairs }
     ensures { AreDifferences lists.now differences.new.numbers differences.new.pairs }
 {
-    if lists.size(k) < LONG {
+    let Some(last) = other_root(lists, k, j) else {
         return Ok(());
-    }
-    let last = root(lists, j);
-    if root(lists, k) == last {
-        return Ok(());
-    }
+    };
     if differences.numbers.find(k, last).is_some() {
         return Ok(());
     }
@@ -97,18 +93,29 @@ pub(crate) fn append_differing(
     ensures { OnOk result ((z : ℕ × ℕ) → Contains pairs.new.items z
         ↔ (Contains pairs.old.items z ⊎ (Contains (list_at lists.now j) z × ¬ Contains (list_at lists.now k) z))) }
 {
-    if lists.size(j) < LONG {
-        return lists.append_missing(j, k, pairs);
-    }
-    let last = root(lists, k);
-    if root(lists, j) == last {
-        return lists.append_missing(j, k, pairs);
-    }
-    if let Some(i) = differences.numbers.find(j, last) {
-        lists.append_new(differences.pairs.of(i), k, pairs)?;
-        return Ok(());
+    if let Some(last) = other_root(lists, j, k) {
+        if let Some(i) = differences.numbers.find(j, last) {
+            return lists.append_new(differences.pairs.of(i), k, pairs);
+        }
     }
     lists.append_missing(j, k, pairs)
+}
+
+/// The root of the list number `j`, if the list number `k` is a long one from another root: only their difference is worth a note.
+fn other_root(lists: &Chained, k: u32, j: u32) -> Option<u32>
+    requires first { k < length lists.now }
+    requires second { j < length lists.now }
+    ensures within { IfSome result (λ last. last < length lists.now) }
+    ensures part { IfSome result (λ last. (z : ℕ × ℕ) → Contains (list_at lists.now last) z → Contains (list_at lists.now j) z) }
+{
+    if lists.size(k) < LONG {
+        return None;
+    }
+    let last = root(lists, j);
+    if root(lists, k) == last {
+        return None;
+    }
+    Some(last)
 }
 
 /// The last list of the chain of the list number `k`, which stands alone.

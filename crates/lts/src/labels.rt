@@ -17,10 +17,19 @@ pub fn is_label(b: &[u8]) -> bool
 }
 
 /// A list of different labels. The number of a label is its place in the list.
-#[derive(Drop)]
 pub struct Labels {
     alloc: Global,
     texts: IndexSet<Vec<u8>>,
+}
+
+/// Written out, so that labels are dropped by one call and not by one for each part.
+impl Drop for Labels {
+    fn drop(self) {
+        let Labels {
+            alloc: _,
+            texts: _,
+        } = self;
+    }
 }
 
 impl Model for Labels {

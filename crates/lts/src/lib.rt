@@ -9,6 +9,7 @@ mod limits;
 mod lts;
 mod meter;
 mod row_laws;
+mod visiting;
 
 pub use disjoint::{fits_together, union};
 pub use growth::Memory;
@@ -17,3 +18,4 @@ pub use limits::{MOST_LABELS, MOST_STATES, MOST_TRANSITIONS};
 pub use lts::{Lts, in_range};
 pub use meter::{Counter, Meter};
 pub use row_laws::{rows_are_steps, rows_follow};
+pub use visiting::visit_row;

@@ -25,7 +25,6 @@ pub fn in_range(l: &Labels, first: u32, states: u32, e: &[(u32, u32, u32)]) -> b
 }
 
 /// A system whose transitions are read with a meter of type `M`.
-#[derive(Drop)]
 pub struct Lts<M: Meter> {
     labels: Labels,
     first: u32,
@@ -35,6 +34,20 @@ pub struct Lts<M: Meter> {
     /// The label number and the target of each place.
     pairs: Vec<(u32, u32)>,
     meter: PhantomData<M>,
+}
+
+/// Written out, so that a system is dropped by one call and not by one for each part.
+impl<M: Meter> Drop for Lts<M> {
+    fn drop(self) {
+        let Lts {
+            labels: _,
+            first: _,
+            states: _,
+            ends: _,
+            pairs: _,
+            meter: _,
+        } = self;
+    }
 }
 
 impl<M: Meter> Model for Lts<M> {

@@ -9,7 +9,7 @@ abbrev pub NoneAbove : List Representative → Key → ℕ → Type 0
 NoneAbove chain key r = (q : ℕ) → r < q → q < length chain → key_at chain q ≡ key → ⊥
 
 module _ (heads : List ℕ) (chain : List Representative) (key : Key) (is : IsChain heads chain) where
-  -- an representative that has the key is in its bucket
+  -- a representative that has the key is in its bucket
   fits : (q : ℕ) → key_at chain q ≡ key → representative_bucket chain heads q ≡ bucket_of_key (length heads) key
   fits q a = ap (bucket_of_key (length heads)) a
 

@@ -1,5 +1,5 @@
 -- The steps of a split by numbers of lists: two states stay together if they have one key, their old block and the number of their
--- list. Those of one key in each block keep its number. The least state with another key is an representative, whose number tells the new
+-- list. Those of one key in each block keep its number. The least state with another key is a representative, whose number tells the new
 -- block. Representatives are looked up by their keys: those in one bucket are chained, from the last one down.
 use Rattle.std.specs.Prelude.{◌≡◌, ◌⊎◌, ℕ, ◌*◌, ◌/◌, ◌^◌, ◌++◌, ◌∷◌, ◌<◌, List, [], length, slice_index, slice_index_or}
 use Rattle.partition.specs.declared.splitter.Representative.{Representative}
@@ -18,7 +18,7 @@ bucket_of_key buckets key = hash_of key / 2 ^ 32 * buckets / 2 ^ 32
 abbrev pub representative_at : List Representative → ℕ → Representative
 representative_at chain r = slice_index_or chain r (record { old = 0; list = 0; before = 0 })
 
--- the key of an representative
+-- the key of a representative
 abbrev pub key_of : Representative → Key
 key_of representative = (representative.old, representative.list)
 
@@ -34,7 +34,7 @@ representative_bucket chain heads r = bucket_of_key (length heads) (key_at chain
 abbrev pub representative_before : List Representative → ℕ → ℕ
 representative_before chain r = (representative_at chain r).before
 
--- r is the number of an representative
+-- r is the number of a representative
 abbrev pub IsRepresentative : List Representative → ℕ → Type 0
 IsRepresentative chain r = (0 < r) × (r < length chain)
 

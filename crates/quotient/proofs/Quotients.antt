@@ -14,7 +14,7 @@ use Rattle.theory.specs.Quotient.{Fellow, Leader, IsLeader, Number, Stands, IsDr
 use Rattle.lts.specs.Labels.{text_of, IsTable}
 use Rattle.lts.specs.Lts.{Triple, source_of, label_of, target_of, row_of, transition_of, system_from, system_of, grouped, IsGrouping, IsTriple, InRange, IsLts, Grouped}
 use Rattle.quotient.specs.Marked.{IsMarked}
-use Rattle.quotient.specs.Reading.{rows_of, IsDroppedLabel}
+use Rattle.quotient.specs.Reading.{sources_of, IsDroppedLabel}
 use Rattle.quotient.specs.Numbers.{IsNumbering}
 use Rattle.quotient.specs.Triples.{between_numbers, is_left_out, IsShownBelow}
 use Rattle.quotient.specs.declared.numbering.Numbering.{Numbering}
@@ -70,19 +70,19 @@ pub record Laws (rel : Relation) (g : Grouped) : Type 0 where
       ((e : Triple) × Contains (row_of s g.places) e × (text_of g.labels (label_of e) ≡ a) × (target_of e ≡ t))
 
 -- a step of a marked state by a, between states of the numbers of s and t
-pub record Twin (g : Grouped) (numbers : List ℕ) (rows : List Bool) (s : ℕ) (a : List ℕ) (t : ℕ) : Type 0 where
+pub record Twin (g : Grouped) (numbers : List ℕ) (sources : List Bool) (s : ℕ) (a : List ℕ) (t : ℕ) : Type 0 where
   pub source : ℕ
   pub target : ℕ
   pub low : source < g.states
-  pub marked : IsMarked rows source
+  pub marked : IsMarked sources source
   pub step : Step (system_of g) source a target
   pub from : slice_index numbers source ≡ slice_index numbers s
   pub to : slice_index numbers target ≡ slice_index numbers t
 
 -- the marked states are reachable, and each step of a reachable state has a twin among theirs
-pub record AreEnough (g : Grouped) (numbers : List ℕ) (rows : List Bool) : Type 0 where
-  pub only : (s : ℕ) → s < g.states → IsMarked rows s → Reachable (system_of g) s
-  pub each : (s : ℕ) (a : List ℕ) (t : ℕ) → Reachable (system_of g) s → Step (system_of g) s a t → Twin g numbers rows s a t
+pub record AreEnough (g : Grouped) (numbers : List ℕ) (sources : List Bool) : Type 0 where
+  pub only : (s : ℕ) → s < g.states → IsMarked sources s → Reachable (system_of g) s
+  pub each : (s : ℕ) (a : List ℕ) (t : ℕ) → Reachable (system_of g) s → Step (system_of g) s a t → Twin g numbers sources s a t
 
 module _ (rel : Relation) (g : Grouped) (n : Numbering) (laws : Laws rel g) (num : IsNumbering rel (system_of g) n) where
   -- a leader is reachable
@@ -144,7 +144,7 @@ leaders_enough g n laws num = record {
 
 -- the rows that are read are enough
 pub rows_enough : (rel : Relation) (g : Grouped) (n : Numbering) (reached : List Bool) → Laws rel g → IsNumbering rel (system_of g) n →
-    ((s : ℕ) → s < g.states → IsMarked reached s ↔ Reachable (system_of g) s) → AreEnough g n.numbers.items (rows_of rel n.leads.items reached)
+    ((s : ℕ) → s < g.states → IsMarked reached s ↔ Reachable (system_of g) s) → AreEnough g n.numbers.items (sources_of rel n.leads.items reached)
 rows_enough Strong g n reached laws num is = leaders_enough g n laws num
 rows_enough Branching g n reached laws num is = reached_enough Branching g n laws num reached is
 
@@ -180,8 +180,8 @@ goes_if false stays out = absurd (both_ways false refl out)
 
 -- triples that are those which enough rows show, each once
 module _ (rel : Relation) (g : Grouped) (n : Numbering) (laws : Laws rel g) (num : IsNumbering rel (system_of g) n)
-    (rows : List Bool) (enough : AreEnough g n.numbers.items rows) (dropped : Option ℕ) (drops : IsDroppedLabel rel g.labels dropped)
-    (es : List Triple) (exactly : (x : Triple) → Contains es x ↔ IsShownBelow n.numbers.items rows dropped g.places g.states x)
+    (sources : List Bool) (enough : AreEnough g n.numbers.items sources) (dropped : Option ℕ) (drops : IsDroppedLabel rel g.labels dropped)
+    (es : List Triple) (exactly : (x : Triple) → Contains es x ↔ IsShownBelow n.numbers.items sources dropped g.places g.states x)
     (once : AllPairs (λ x y. x ≢ y) es) where
   -- a triple has a label of the table
   shown_label : (x : Triple) → Contains es x → label_of x < length g.labels
@@ -213,7 +213,7 @@ module _ (rel : Relation) (g : Grouped) (n : Numbering) (laws : Laws rel g) (num
   -- what stands for a step of a reachable state and is not dropped is shown
   stands_shown : (e : Transition) → Stands rel (system_of g) e → ¬ IsDropped rel e → (x : Triple) × Contains es x × (transition_of g.labels x ≡ e)
   stands_shown e (s, t, way, step, hs, ht) stays =
-      let twin : Twin g n.numbers.items rows s e.label t = enough.each s e.label t way step in
+      let twin : Twin g n.numbers.items sources s e.label t = enough.each s e.label t way step in
       let place = (laws.steps twin.source e.label twin.target).0 twin.step in
       let x : Triple = between_numbers n.numbers.items twin.source place.0 in
       let on : Reachable (system_of g) t = laws.reached_on s e.label t way step in
@@ -270,21 +270,21 @@ module _ (rel : Relation) (g : Grouped) (n : Numbering) (laws : Laws rel g) (num
 
 -- the system that is built of them
 module _ (rel : Relation) (g : Grouped) (n : Numbering) (laws : Laws rel g) (num : IsNumbering rel (system_of g) n)
-    (rows : List Bool) (enough : AreEnough g n.numbers.items rows) (dropped : Option ℕ) (drops : IsDroppedLabel rel g.labels dropped)
-    (es : List Triple) (exactly : (x : Triple) → Contains es x ↔ IsShownBelow n.numbers.items rows dropped g.places g.states x)
+    (sources : List Bool) (enough : AreEnough g n.numbers.items sources) (dropped : Option ℕ) (drops : IsDroppedLabel rel g.labels dropped)
+    (es : List Triple) (exactly : (x : Triple) → Contains es x ↔ IsShownBelow n.numbers.items sources dropped g.places g.states x)
     (once : AllPairs (λ x y. x ≢ y) es) (labels : List (List ℕ)) (same : labels ≡ g.labels) where
   built : (q : Grouped) → q.first ≡ 0 → q.states ≡ n.count → q.labels ≡ labels → q.places ≡ grouped n.count es → IsGrouping es q.places →
       Quotient rel (system_of g) (system_of q)
   built q first states table places grouping =
       let differ : AllPairs (λ x y. x ≢ y) q.places = subst (AllPairs (λ x y. x ≢ y)) (sym places) (rows_differ es (λ s. laws.sources s es) once 0 n.count) in
-      let is : (x : Triple) → Contains q.places x ↔ IsShownBelow n.numbers.items rows dropped g.places g.states x = λ x. (
+      let is : (x : Triple) → Contains q.places x ↔ IsShownBelow n.numbers.items sources dropped g.places g.states x = λ x. (
         λ c. (exactly x).0 (Contains-permutation q.places es x (IsPermutation-sym es q.places grouping.same) c),
         λ h. Contains-permutation es q.places x grouping.same ((exactly x).1 h),
       ) in
       subst (λ f. Quotient rel (system_of g) (system_from f q.states q.labels q.places)) (sym first)
       (subst (λ k. Quotient rel (system_of g) (system_from 0 k q.labels q.places)) (sym states)
       (subst (λ t. Quotient rel (system_of g) (system_from 0 n.count t q.places)) (sym (table ∙ same))
-      (quotient_of rel g n laws num rows enough dropped drops q.places is differ)))
+      (quotient_of rel g n laws num sources enough dropped drops q.places is differ)))
 
   pub IfOk-quotient : {E : Type 0} (r : Result Grouped E) → IfOk r (λ q. q.first ≡ 0) → IfOk r (λ q. q.states ≡ n.count) →
       IfOk r (λ q. q.labels ≡ labels) → IfOk r (λ q. q.places ≡ grouped n.count es) → IfOk r (λ q. IsGrouping es q.places) →

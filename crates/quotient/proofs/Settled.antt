@@ -93,7 +93,7 @@ whole_row numbers dropped places s whole e c gone =
     absurd (omega (arith, none, found.1))
 
 module _ (rel : Relation) (g : Grouped) (n : Numbering) (laws : Laws rel g) (num : IsNumbering rel (system_of g) n)
-    (rows : List Bool) (enough : AreEnough g n.numbers.items rows) (dropped : Option ℕ) (drops : IsDroppedLabel rel g.labels dropped) where
+    (sources : List Bool) (enough : AreEnough g n.numbers.items sources) (dropped : Option ℕ) (drops : IsDroppedLabel rel g.labels dropped) where
   -- a place of a row is left out between numbers where its step is inert
   out_is : (s : ℕ) (e : Triple) → Reachable (system_of g) s → Contains (row_of s g.places) e →
       (is_left_out dropped (between_numbers n.numbers.items s e) ≡ true) ↔ IsInert rel (system_of g) s (text_of g.labels (label_of e)) (target_of e)
@@ -144,6 +144,6 @@ module _ (rel : Relation) (g : Grouped) (n : Numbering) (laws : Laws rel g) (num
       in_table v e c = (All-contains (IsTriple (length g.labels) g.states) g.places e laws.lts.in_range.each ((laws.sources v g.places e).0 c).0).label
 
   -- so do the members of one number
-  pub members_show_also : (p q : Member) → IsMemberBelow n.numbers.items rows g.states p → IsMemberBelow n.numbers.items rows g.states q →
+  pub members_show_also : (p q : Member) → IsMemberBelow n.numbers.items sources g.states p → IsMemberBelow n.numbers.items sources g.states q →
       p.0 ≡ q.0 → ShowsAlso n.numbers.items dropped g.places p.1 q.1
   members_show_also p q hp hq same = shows_also p.1 q.1 (enough.only p.1 hp.0 hp.1) (enough.only q.1 hq.0 hq.1) (sym hp.2 ∙ same ∙ hq.2)

@@ -5,7 +5,7 @@ use Rattle.theory.specs.Union.{union_of}
 use Rattle.theory.specs.declared.relation.Relation.{Relation}
 use Rattle.lts.specs.Meter.{Counts, IsFresh, HasRoomFor, Costs, on_ok}
 use Rattle.lts.specs.Lts.{Grouped, IsLts, system_of}
-use Rattle.quotient.specs.Bounds.{TakesTurns, KeepsTo}
+use Rattle.quotient.specs.Visits.{TakesTurns, KeepsTo}
 use Rattle.quotient.proofs.Unions.{union_states, union_places}
 
 -- as many rounds as states visit so many transitions at most

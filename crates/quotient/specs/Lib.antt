@@ -1,6 +1,6 @@
 -- public words
 pub mod Marked
-pub mod Bounds
+pub mod Visits
 -- private ones
 pub mod Search
 pub mod Reading

@@ -16,9 +16,9 @@ AreClasses rel g blocks =
 
 -- whose rows are read: those of the leaders, which show for strong bisimulation what their classes do; for branching
 -- bisimulation those of all reachable states, since a leader need not show what its class shows behind internal steps
-abbrev pub rows_of : Relation → List Bool → List Bool → List Bool
-rows_of Strong leads reached = leads
-rows_of Branching leads reached = reached
+abbrev pub sources_of : Relation → List Bool → List Bool → List Bool
+sources_of Strong leads reached = leads
+sources_of Branching leads reached = reached
 
 -- the label number that is left out between equal numbers: for branching bisimulation the internal action's, if it has one
 abbrev pub IsDroppedLabel : Relation → List (List ℕ) → Option ℕ → Type 0

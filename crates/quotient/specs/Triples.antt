@@ -34,8 +34,8 @@ ShowsAlso numbers dropped places s t =
 
 -- the row of a marked state below s shows x
 abbrev pub IsShownBelow : List ℕ → List Bool → Option ℕ → List Triple → ℕ → Triple → Type 0
-IsShownBelow numbers rows dropped places s x =
-    (t : ℕ) × (t < s) × IsMarked rows t × Contains (shown_by numbers dropped places t) x
+IsShownBelow numbers sources dropped places s x =
+    (t : ℕ) × (t < s) × IsMarked sources t × Contains (shown_by numbers dropped places t) x
 
 -- a state behind its number
 abbrev pub Member : Type 0
@@ -47,7 +47,7 @@ member_at members k = slice_index_or members k (0, 0)
 
 -- p is a marked state below s, behind its number
 abbrev pub IsMemberBelow : List ℕ → List Bool → ℕ → Member → Type 0
-IsMemberBelow numbers rows s p = (p.1 < s) × IsMarked rows p.1 × (p.0 ≡ slice_index numbers p.1)
+IsMemberBelow numbers sources s p = (p.1 < s) × IsMarked sources p.1 × (p.0 ≡ slice_index numbers p.1)
 
 -- what the rows of the members show, one row behind the other
 abbrev pub shown_among : List ℕ → Option ℕ → List Triple → List Member → List Triple
@@ -58,8 +58,8 @@ abbrev pub places_of : List Triple → List Member → ℕ
 places_of places members = sum_by (λ p. length (row_of p.1 places)) members
 
 -- the members are the marked states below the count, by rising number; their rows are no more than all
-pub record AreMembers (numbers : List ℕ) (rows : List Bool) (states : ℕ) (members : List Member) : Type 0 where
-  pub exactly : (p : Member) → Contains members p ↔ IsMemberBelow numbers rows states p
+pub record AreMembers (numbers : List ℕ) (sources : List Bool) (states : ℕ) (members : List Member) : Type 0 where
+  pub exactly : (p : Member) → Contains members p ↔ IsMemberBelow numbers sources states p
   pub rising : IsNonDecreasingBy (λ p. p.0) members
   pub few : (places : List Triple) → places_of places members ≤ before states places
 

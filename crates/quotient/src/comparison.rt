@@ -6,7 +6,7 @@ ghost use Rattle.theory.specs.Union.{union_of};
 ghost use Rattle.lts.specs.Meter.{IsFresh, on_ok};
 ghost use Rattle.lts.specs.Lts.{system_of};
 ghost use Rattle.lts.specs.Union.{FitTogether};
-ghost use Rattle.quotient.specs.Bounds.{KeepsTo};
+ghost use Rattle.quotient.specs.Visits.{KeepsTo};
 
 use crate::relation;
 use lts::{Lts, Memory, Meter, union};

@@ -11,7 +11,7 @@ mod search;
 mod table;
 mod triples;
 
-pub use allowance::the_bounds_are_within_the_allowance;
+pub use allowance::visits_are_within_the_allowance;
 pub use comparison::equivalent;
 pub use minimisation::minimise;
 pub use search::reachable;

@@ -6,7 +6,7 @@ ghost use Rattle.theory.specs.Blocks.{Turns};
 ghost use Rattle.theory.specs.Quotient.{Quotient};
 ghost use Rattle.lts.specs.Meter.{IsFresh, HasRoomFor, Costs, on_ok};
 ghost use Rattle.lts.specs.Lts.{system_of};
-ghost use Rattle.quotient.specs.Bounds.{KeepsTo};
+ghost use Rattle.quotient.specs.Visits.{KeepsTo};
 ghost use Rattle.quotient.specs.Marked.{IsMarked};
 ghost use Rattle.quotient.specs.Numbers.{IsNumbering};
 
@@ -84,9 +84,9 @@ fn quotient_of<M: Meter>(
     theory::each_state_has_a_number();
     theory::numbers_are_classes();
     theory::numbers_are_states();
-    let rows = relation::rows(r, &numbering.leads, reached);
+    let sources = relation::sources(r, &numbering.leads, reached);
     let dropped = relation::dropped(r, l.labels());
-    let triples = shown_triples(alloc, l, &numbering.numbers, rows, dropped, m)?;
+    let triples = shown_triples(alloc, l, &numbering.numbers, sources, dropped, m)?;
     let labels = copied(alloc, l.labels())?;
     Lts::build(alloc, labels, 0, numbering.count, triples)
 }

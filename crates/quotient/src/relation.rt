@@ -2,8 +2,8 @@
 //! leaves out.
 ghost use Rattle.std.specs.Prelude.{◌≡◌, ◌*◌, length, IfOk, OnOk, OnErr};
 ghost use Rattle.lts.specs.Meter.{HasRoomFor, CostsUpTo};
-ghost use Rattle.quotient.specs.Bounds.{TakesTurns};
-ghost use Rattle.quotient.specs.Reading.{AreClasses, rows_of, IsDroppedLabel};
+ghost use Rattle.quotient.specs.Visits.{TakesTurns};
+ghost use Rattle.quotient.specs.Reading.{AreClasses, sources_of, IsDroppedLabel};
 
 use lts::{Labels, Lts, Memory, Meter};
 use refine::{Branching, Partition, Strong, refine};
@@ -37,8 +37,8 @@ pub(crate) fn blocks<M: Meter>(
 
 /// The states whose rows show every transition of the quotient, of those that lead their classes and those that are
 /// reachable.
-pub(crate) fn rows<'a>(r: Relation, leads: &'a [bool], reached: &'a [bool]) -> &'a [bool]
-    ensures { result.now ≡ rows_of r leads.now reached.now }
+pub(crate) fn sources<'a>(r: Relation, leads: &'a [bool], reached: &'a [bool]) -> &'a [bool]
+    ensures { result.now ≡ sources_of r leads.now reached.now }
 {
     match r {
         Relation::Strong => leads,

@@ -1,5 +1,5 @@
 -- The list of each state, by its number.
-use Rattle.std.specs.Prelude.{◌≡◌, ℕ, ◌≤◌, List, length, map, slice_index}
+use Rattle.std.specs.Prelude.{ℕ, ◌≤◌, List, length, map, slice_index}
 use Rattle.lists.specs.Lists.{list_at, AreNumbers}
 
 -- the list of the state s, if the states have these numbers
@@ -16,7 +16,10 @@ pub record AreListsOfStates (lists : List (List (ℕ × ℕ))) (numbers : List �
   pub some : 1 ≤ length numbers
   pub few : length numbers ≤ 2000000
 
--- the lists of a round, each whole, and the numbers of the states' lists
-pub record AreLent (whole lists : List (List (ℕ × ℕ))) (numbers : List ℕ) : Type 0 where
-  pub same : whole ≡ lists
-  pub numbered : AreListsOfStates lists numbers
+-- lists, and for each state the number of its list
+pub record Numbered : Type 0 where
+  pub lists : List (List (ℕ × ℕ))
+  pub numbers : List ℕ
+
+abbrev pub numbered : List (List (ℕ × ℕ)) → List ℕ → Numbered
+numbered lists numbers = record { lists = lists; numbers = numbers }

@@ -9,12 +9,23 @@ use std::marker::Model;
 
 /// The pairs that a state collects, and what signs states by inert steps, with its lists. Signatures do not depend on what
 /// earlier ones left here.
-#[derive(Drop)]
 pub struct Marks {
     states: u32,
     pub(crate) pairs: Vec<(u32, u32)>,
     pub(crate) signer: Signer,
     pub(crate) lists: Lists,
+}
+
+/// Written out, so that marks are dropped by one call and not by one for each part.
+impl Drop for Marks {
+    fn drop(self) {
+        let Marks {
+            states: _,
+            pairs: _,
+            signer: _,
+            lists: _,
+        } = self;
+    }
 }
 
 impl Model for Marks {

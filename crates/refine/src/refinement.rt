@@ -5,7 +5,6 @@ ghost use Rattle.theory.specs.Blocks.{Split, Turns, EachTwo};
 ghost use Rattle.lts.specs.Meter.{HasRoomFor, Costs, CostsUpTo};
 ghost use Rattle.lts.specs.Lts.{system_of};
 ghost use Rattle.partition.specs.Partition.{AreBlocks, IsSomePartition};
-ghost use Rattle.refine.specs.EachList.{AreListsOfStates};
 ghost use Rattle.refine.specs.Settled.{Settled};
 ghost use Rattle.refine.specs.Rounds.{IsNext};
 
@@ -111,8 +110,7 @@ fn refine_in<S: Sense, M: Meter>(
     m: &mut M,
 ) -> Result<Partition, Memory>
     requires marks { marks.old ≡ l.now.states }
-    requires lists { AreListsOfStates signatures.old.lists signatures.old.numbers.items }
-    requires signatures { length signatures.old.numbers.items ≡ l.now.states }
+    requires signatures { length signatures.old.numbers ≡ l.now.states }
     requires room { HasRoomFor (M.counted m.old) l.now.states (l.now.states * length l.now.places) }
 
     // Once it is done
@@ -158,8 +156,7 @@ fn next_round<S: Sense, M: Meter>(
     requires blocks { AreBlocks p.now count }
     requires settled { Settled S.relation (system_of l.now) (slice_index p.now) low }
     requires marks { marks.old ≡ l.now.states }
-    requires lists { AreListsOfStates signatures.old.lists signatures.old.numbers.items }
-    requires signatures { length signatures.old.numbers.items ≡ l.now.states }
+    requires signatures { length signatures.old.numbers ≡ l.now.states }
     requires room { HasRoomFor (M.counted m.old) 1 (length l.now.places) }
 
     // Once it is done
@@ -171,8 +168,7 @@ fn next_round<S: Sense, M: Meter>(
 
     // In either case
     ensures marks { marks.new ≡ marks.old }
-    ensures lists { AreListsOfStates signatures.new.lists signatures.new.numbers.items }
-    ensures signatures { length signatures.new.numbers.items ≡ length signatures.old.numbers.items }
+    ensures signatures { length signatures.new.numbers ≡ length signatures.old.numbers }
 {
     lts::rows_are_steps();
     l.known();

@@ -24,15 +24,15 @@ pub struct Signatures {
 }
 
 impl Model for Signatures {
-    ghost use Rattle.std.specs.Prelude.{ℕ, List};
+    ghost use Rattle.std.specs.Prelude.{◌≡◌, ℕ, List};
 
     ghost Value = { List (List (ℕ × ℕ)) };
 
-    ghost use Rattle.refine.specs.EachList.{each_list, AreLent};
+    ghost use Rattle.refine.specs.EachList.{each_list};
 
-    ghost view = { λ g. each_list g.whole g.round.numbers.items };
+    ghost view = { λ g. each_list g.whole g.round.numbers };
 
-    ghost invariant = { λ g. AreLent g.whole g.round.lists g.round.numbers.items };
+    ghost invariant = { λ g. g.whole ≡ g.round.lists };
 }
 
 impl Signatures {
@@ -56,7 +56,7 @@ impl Signatures {
     pub fn states(&self) -> u32
         ensures { result ≡ length self.now }
     {
-        self.round.numbers.len() as u32
+        self.round.states()
     }
 
     /// The signature of the state `s`.
@@ -64,7 +64,7 @@ impl Signatures {
         requires { s < length self.now }
         ensures { result.now ≡ signature_at self.now s }
     {
-        self.whole.of(self.round.numbers[s as usize])
+        self.whole.of(self.round.number(s))
     }
 
     /// Takes the signature of each state under the blocks of `p`. Each transition is visited once.
@@ -96,7 +96,7 @@ impl Signatures {
             self.whole.clear();
             return Err(refusal);
         }
-        if let Err(refusal) = make_whole(self.alloc, &self.round.lists, &mut self.whole) {
+        if let Err(refusal) = make_whole(self.alloc, self.round.lists(), &mut self.whole) {
             self.round.clear();
             self.whole.clear();
             return Err(refusal);

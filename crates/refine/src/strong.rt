@@ -11,7 +11,7 @@ ghost use Rattle.refine.specs.Settled.{HasFrom, IsPut};
 use crate::marks::Marks;
 use crate::sense::Sense;
 use lists::{EMPTY, Lists, order};
-use lts::{Lts, Memory, Meter};
+use lts::{Lts, Memory, Meter, visit_row};
 use partition::Partition;
 use std::alloc::Global;
 
@@ -92,8 +92,12 @@ fn put<M: Meter>(
     lts::rows_are_steps();
     l.known();
     lists.known();
+    if alone {
+        visit_row(l, s, m);
+        return Ok(EMPTY);
+    }
     let touched = read(l, p, low, s, pairs, m)?;
-    if !touched || alone {
+    if !touched {
         return Ok(EMPTY);
     }
     order(pairs);

@@ -1,9 +1,10 @@
 //! Labels and their table, systems in memory, the union of two, and the meter.
 use crate::pairing::{Paired, check_pair};
 use crate::showing::{Shown, check_row};
-use crate::texts::append_spelled;
+use crate::texts::{append_spelled, system};
 use lts::{
     Counter, Labels, Lts, MOST_LABELS, Memory, Meter, fits_together, in_range, is_label, union,
+    visit_row,
 };
 use std::alloc::Global;
 use std::test::Fail;
@@ -132,6 +133,28 @@ fn groups_by_source(rt: HostRuntime) -> Result<(), Fail> {
     let text = "2 of 3; 2 a 1; 0 i 2; 2 i 0; 0 a 1; 2 a 1";
     let wanted = "2 of 3; 0 i 2; 0 a 1; 2 a 1; 2 i 0; 2 a 1, 5 transitions, 2 labels";
     check_row(rt.alloc(), Shown::System, "grouped", text, wanted)
+}
+
+/// How many visits the row of the state `s` takes; none if there is no such state.
+fn row_visits(l: &Lts<Counter>, s: u32) -> u128 {
+    let mut m = Counter::new();
+    if s >= l.states() {
+        return 0;
+    }
+    let (start, end) = l.row(s);
+    if m.has_room(0, (end - start) as u128) {
+        visit_row(l, s, &mut m);
+    }
+    m.visits()
+}
+
+#[test]
+fn visits_rows(rt: HostRuntime) -> Result<(), Fail> {
+    let l = system(rt.alloc(), "2 of 3; 2 a 1; 0 i 2; 2 i 0; 0 a 1; 2 a 1")?;
+    for (s, wanted) in [(0, 2), (1, 0), (2, 3)] {
+        check("visits", row_visits(&l, s) == wanted)?;
+    }
+    Ok(())
 }
 
 /// The union, and the visits that it took.

@@ -5,7 +5,7 @@ use Rattle.theory.specs.declared.relation.Relation.TheVariants.{Branching}
 use Rattle.lts.specs.Lts.{Grouped, Triple, source_of, place_at}
 use Rattle.lists.specs.Lists.{Grow}
 use Rattle.inert.specs.Signed.{HasPair, pair_under, IsSignature, IsKnownAlone}
-use Rattle.inert.specs.Search.{Search, mark_at, item_at, Gives, IsUpTo, IsOf, HoldsPair, IsAhead, IsEntered, IsFollowed, Accounted, IsSound, IsThere, Walks, Open, Finished, Frame, Root, Item, Pair, Listed}
+use Rattle.inert.specs.Search.{Search, stage_at, item_at, Gives, IsUpTo, IsOf, HoldsPair, IsAhead, IsEntered, IsFollowed, Accounted, IsSound, IsThere, Walks, Open, Finished, Frame, Root, Item, Pair, Listed}
 
 -- the states at places below n, their components and their items are as they were
 pub record Keeps (w new : Search) (n : ℕ) : Type 0 where
@@ -15,10 +15,10 @@ pub record Keeps (w new : Search) (n : ℕ) : Type 0 where
   pub up : (p q : ℕ) → p < n → IsUpTo w.roots p q → IsUpTo new.roots p q
   pub of : (j p : ℕ) → j < length w.items → p < n → IsOf w.roots j p → IsOf new.roots j p
   pub items : (j p : ℕ) → j < length w.items → p < n → IsOf w.roots j p → (j < length new.items) × (item_at new.items j ≡ item_at w.items j)
-  pub opened : (s p : ℕ) → p < n → mark_at w.marks s ≡ Open p → mark_at new.marks s ≡ Open p
-  pub finished : (s k : ℕ) → mark_at w.marks s ≡ Finished k → mark_at new.marks s ≡ Finished k
+  pub opened : (s p : ℕ) → p < n → stage_at w.stages s ≡ Open p → stage_at new.stages s ≡ Open p
+  pub finished : (s k : ℕ) → stage_at w.stages s ≡ Finished k → stage_at new.stages s ≡ Finished k
 
--- a move that leaves the marks and the stack alone, the items that are there, and roots, unless it drops some
+-- a move that leaves the stages and the stack alone, the items that are there, and roots, unless it drops some
 pub keeps_stack : (w : Search) (frames : List Frame) (roots : List Root) (items : List Item)
     → ((j : ℕ) → j < length w.items → (j < length items) × (item_at items j ≡ item_at w.items j)) → ((P : Root → Type 0) → All P w.roots → All P roots)
     → Keeps w (record w { frames = frames; roots = roots; items = items }) (length w.stack)

@@ -7,34 +7,34 @@ use Rattle.std.proofs.lemmas.List.Sums.{count_by-le-length}
 use Rattle.lts.specs.Lts.{Grouped, row_of, IsLts}
 use Rattle.lists.specs.Lists.{list_at, AreNumbers}
 use Rattle.inert.specs.Signed.{IsKnownAlone, IsListOf}
-use Rattle.inert.specs.Search.{Search, Laws, mark_at, no_root, IsIdle, IsSigned, Walks, Unseen, Open, Finished, Frame, HasItsList, Mark}
+use Rattle.inert.specs.Search.{Search, Laws, stage_at, no_root, IsIdle, IsSigned, Walks, Unseen, Open, Finished, Frame, HasItsList, Stage}
 use Rattle.inert.specs.Moves.{Enters, skipped, ahead, FitsLists, GoesOn, Rests}
 use Rattle.inert.specs.Ahead.{is_unseen, unseen, unread, rest, HasSeen}
-use Rattle.inert.proofs.parts.Marks.{seen_more}
-use Rattle.inert.proofs.parts.Counting.{unseen-marked, unread-marked, unread-all, rest-push, unread-none}
+use Rattle.inert.proofs.parts.Stages.{seen_more}
+use Rattle.inert.proofs.parts.Counting.{unseen-set, unread-set, unread-all, rest-push, unread-none}
 use Rattle.inert.proofs.invariant.Standing.{frames_some, root_low}
 use Rattle.inert.proofs.moves.Forward.{Walks-enter}
 
 -- nothing was seen yet
-pub idle_rests : (l : Grouped) (blocks : List ℕ) (alone : List Bool) (lists : List (List (ℕ × ℕ))) {w : Search} → IsIdle w → length w.marks ≡ l.states → length lists ≡ 1
+pub idle_rests : (l : Grouped) (blocks : List ℕ) (alone : List Bool) (lists : List (List (ℕ × ℕ))) {w : Search} → IsIdle w → length w.stages ≡ l.states → length lists ≡ 1
     → Rests l blocks alone lists w
 idle_rests l blocks alone lists {w = w} idle size one =
-    let few : unseen w.marks ≤ length w.marks = count_by-le-length is_unseen w.marks in
+    let few : unseen w.stages ≤ length w.stages = count_by-le-length is_unseen w.stages in
     record {
       empty = idle.empty;
       numbers = record { size = size; some = omega (arith, one); numbers = omega (arith, few, size) };
       shut = λ s p is. cc (is, idle.none s);
       signed = λ s k is. absurd (cc (is, idle.none s));
-      fits = subst (FitsLists l (length lists)) (sym idle.empty) (omega (arith, few, unread-all l.places w.marks idle.none, size, one));
+      fits = subst (FitsLists l (length lists)) (sym idle.empty) (omega (arith, few, unread-all l.places w.stages idle.none, size, one));
     }
 
 -- no row is left
-pub none_unread : {l : Grouped} → IsLts l → (marks : List Mark) → length marks ≡ l.states → ((s : ℕ) → s < l.states → ¬ (mark_at marks s ≡ Unseen)) → unread l.places marks ≡ 0
-none_unread {l = l} lts marks size all =
-    unread-none l.places marks (λ s h. all s (omega (arith, h, size)))
+pub none_unread : {l : Grouped} → IsLts l → (stages : List Stage) → length stages ≡ l.states → ((s : ℕ) → s < l.states → ¬ (stage_at stages s ≡ Unseen)) → unread l.places stages ≡ 0
+none_unread {l = l} lts stages size all =
+    unread-none l.places stages (λ s h. all s (omega (arith, h, size)))
     (λ k d h. let e = (lts.in_range.each k d h).source in omega (arith, e, size))
 
-seen_finished : (m : Mark) → ((p : ℕ) → ¬ (m ≡ Open p)) → ¬ (m ≡ Unseen) → (k : ℕ) × (m ≡ Finished k)
+seen_finished : (m : Stage) → ((p : ℕ) → ¬ (m ≡ Open p)) → ¬ (m ≡ Unseen) → (k : ℕ) × (m ≡ Finished k)
 seen_finished Unseen on seen = absurd (seen refl)
 seen_finished (Open p) on seen = absurd (on p refl)
 seen_finished (Finished k) on seen = (k, refl)
@@ -46,7 +46,7 @@ module _ {l : Grouped} {blocks : List ℕ} {alone : List Bool} {lists : List (Li
   rests_walks : Walks l blocks alone lists w
   rests_walks = subst (Walks l blocks alone lists) (sym rests.empty) (record {
     numbers = rests.numbers;
-    opened = record { marked = λ p h. absurd (omega (arith, h)); only = λ s p is. absurd (rests.shut s p is) };
+    opened = record { placed = λ p h. absurd (omega (arith, h)); only = λ s p is. absurd (rests.shut s p is) };
     signed = rests.signed;
     roots = record { first = λ h. absurd (omega (arith, h)); rising = λ i j d h h'. absurd (omega (arith, h')); each = λ i d h. absurd (omega (arith, h)) };
     frames = record { rising = λ i j d h h'. absurd (omega (arith, h')); each = λ i d h. absurd (omega (arith, h)) };
@@ -57,68 +57,68 @@ module _ {l : Grouped} {blocks : List ℕ} {alone : List Bool} {lists : List (Li
   })
 
   -- the state s, which was not seen, is the first one of a walk, or is passed
-  module _ {s : ℕ} (inside : s < l.states) (none : mark_at w.marks s ≡ Unseen) where
-    within : s < length w.marks
+  module _ {s : ℕ} (inside : s < l.states) (none : stage_at w.stages s ≡ Unseen) where
+    within : s < length w.stages
     within = let size = rests.numbers.size in omega (arith, size, inside)
 
     pub record Begins (new : Search) : Type 0 where
       pub on : GoesOn l blocks alone lists w new
-      pub found : ¬ (mark_at new.marks s ≡ Unseen)
-      pub same : ahead l new ≡ unread l.places w.marks
+      pub found : ¬ (stage_at new.stages s ≡ Unseen)
+      pub same : ahead l new ≡ unread l.places w.stages
 
     pub begins : (laws : Laws) (new : Search) → Enters l.places s w new → Begins new
     begins laws new (start, end, row, is) =
         let x : Frame = record { place = length w.stack; next = start; end = end } in
-        let fewer = unseen-marked w.marks s (Open (length w.stack)) refl within none in
-        let less = unread-marked w.marks s (Open (length w.stack)) refl within none l.places in
+        let fewer = unseen-set w.stages s (Open (length w.stack)) refl within none in
+        let less = unread-set w.stages s (Open (length w.stack)) refl within none l.places in
         let frames = ap (λ y. length y.frames) rests.empty in
         let left = ap (λ y. rest y.frames) rests.empty in
         subst Begins (sym is) (record {
           on = record {
             walks = Walks-enter rests_walks laws within none row (λ some. absurd (omega (arith, some, frames)));
             fits = omega (arith, fewer, less, rest-push w.frames x, row.count, length_push w.stack s, length_push w.frames x, frames, rests.fits);
-            seen = seen_more w.marks s (Open (length w.stack)) (λ e. cc) within;
+            seen = seen_more w.stages s (Open (length w.stack)) (λ e. cc) within;
           };
-          found = λ is. cc (is, get_or-set_same w.marks s (Open (length w.stack)) Unseen within);
+          found = λ is. cc (is, get_or-set_same w.stages s (Open (length w.stack)) Unseen within);
           same = omega (arith, less, rest-push w.frames x, row.count, left);
         })
 
-    pub skipped_seen : HasSeen s w.marks (skipped s w).marks
-    skipped_seen = record { seen = seen_more w.marks s (Finished 0) (λ e. cc) within; found = λ is. cc (is, get_or-set_same w.marks s (Finished 0) Unseen within) }
+    pub skipped_seen : HasSeen s w.stages (skipped s w).stages
+    skipped_seen = record { seen = seen_more w.stages s (Finished 0) (λ e. cc) within; found = λ is. cc (is, get_or-set_same w.stages s (Finished 0) Unseen within) }
 
-    pub row_unread : unread l.places (skipped s w).marks + length (row_of s l.places) ≡ unread l.places w.marks
-    row_unread = unread-marked w.marks s (Finished 0) refl within none l.places
+    pub row_unread : unread l.places (skipped s w).stages + length (row_of s l.places) ≡ unread l.places w.stages
+    row_unread = unread-set w.stages s (Finished 0) refl within none l.places
 
     pub skipped_rests : list_at lists 0 ≡ [] → IsKnownAlone blocks alone s → Rests l blocks alone lists (skipped s w)
     skipped_rests first known =
-        let fewer = unseen-marked w.marks s (Finished 0) refl within none in
+        let fewer = unseen-set w.stages s (Finished 0) refl within none in
         record {
           empty = ap (skipped s) rests.empty;
           numbers = record {
-            size = length-set w.marks s (Finished 0) ∙ rests.numbers.size;
+            size = length-set w.stages s (Finished 0) ∙ rests.numbers.size;
             some = rests.numbers.some;
             numbers = omega (arith, fewer, rests.numbers.numbers);
           };
           shut = λ t p is. rests.shut t p (grind (arith, common_steps, none, within, is));
           signed = λ t k is. elim (cases_eq t s) [
             | inl e ↦
-                let zero : 0 ≡ k = cc (get_or-set_same w.marks s (Finished 0) Unseen within, is, e) in
+                let zero : 0 ≡ k = cc (get_or-set_same w.stages s (Finished 0) Unseen within, is, e) in
                 subst (IsSigned l blocks alone t lists) zero (record {
                   within = rests.numbers.some;
                   sound = λ z c. absurd (let has = subst (λ xs. Contains xs z) first c in omega (arith, has.1));
                   whole = inr (subst (IsKnownAlone blocks alone) (sym e) known);
                 })
-            | inr d ↦ rests.signed t k (sym (get_or-set_other w.marks s t (Finished 0) Unseen d) ∙ is)
+            | inr d ↦ rests.signed t k (sym (get_or-set_other w.stages s t (Finished 0) Unseen d) ∙ is)
           ];
           fits = omega (arith, rests.fits, fewer, row_unread);
         }
 
   -- a state that was seen is finished
-  pub finished : (s : ℕ) → ¬ (mark_at w.marks s ≡ Unseen) → (k : ℕ) × (mark_at w.marks s ≡ Finished k)
-  finished s = seen_finished (mark_at w.marks s) (rests.shut s)
+  pub finished : (s : ℕ) → ¬ (stage_at w.stages s ≡ Unseen) → (k : ℕ) × (stage_at w.stages s ≡ Finished k)
+  finished s = seen_finished (stage_at w.stages s) (rests.shut s)
 
   -- the numbers are of lists that are there, each of its state
-  module _ (numbers : List ℕ) (are : (s : ℕ) → s < length numbers → HasItsList blocks alone w.marks s (slice_index numbers s)) where
+  module _ (numbers : List ℕ) (are : (s : ℕ) → s < length numbers → HasItsList blocks alone w.stages s (slice_index numbers s)) where
     pub numbered : AreNumbers lists numbers
     numbered s d h = subst (λ x. x < length lists) (get_or_default numbers s 0 d h) (elim (are s h) [
       | inl (known, zero) ↦ let some = rests.numbers.some in omega (arith, zero, some)
@@ -144,7 +144,7 @@ walk_rests {w = w} walks none fits =
     let items : length w.items ≡ 0 = grind (arith, of_some, stack) in
     record {
       empty = λ i. record {
-        marks = w.marks;
+        stages = w.stages;
         stack = nil_from_length w.stack stack i;
         frames = nil_from_length w.frames none i;
         roots = nil_from_length w.roots roots i;

@@ -8,7 +8,7 @@ use Rattle.std.proofs.lemmas.List.Elements.{All-take, All-nil, All-cons, All-app
 use Rattle.theory.specs.declared.relation.Relation.TheVariants.{Branching}
 use Rattle.lts.specs.Lts.{Grouped, source_of, place_at, IsLts}
 use Rattle.lists.specs.Lists.{list_at}
-use Rattle.inert.specs.Search.{Search, mark_at, frame_at, no_frame, here, last, no_root, IsFrame, IsAhead, IsEntered, IsFollowed, Walks, Laws, root_at, item_at, Ties, IsOf, IsBefore, IsRoot, IsThere, Gives, HoldsPair, AreOpen, IsSigned, IsSound, AreSound, Mark, Item, Pair, Listed}
+use Rattle.inert.specs.Search.{Search, stage_at, frame_at, no_frame, here, last, no_root, IsFrame, IsAhead, IsEntered, IsFollowed, Walks, Laws, root_at, item_at, Ties, IsOf, IsBefore, IsRoot, IsThere, Gives, HoldsPair, AreOpen, IsSigned, IsSound, AreSound, Stage, Item, Pair, Listed}
 use Rattle.inert.specs.Moves.{popped, HasRead, Finishes, weight, Closes, ahead, FitsLists, GoesOn}
 use Rattle.inert.specs.Signed.{HasPair}
 use Rattle.inert.specs.Ahead.{is_unseen, rest, KeepsSeen}
@@ -63,7 +63,7 @@ module _ {l : Grouped} {blocks : List ℕ} {alone : List Bool} {lists : List (Li
           let up = walks.frames.rising i (i + 1) no_frame (omega arith) low in
           inl (
             here w,
-            ap (mark_at w.marks) (sym to ∙ ap (slice_index w.stack) there) ∙ walks.opened.marked (here w) (omega (arith, on, there)),
+            ap (stage_at w.stages) (sym to ∙ ap (slice_index w.stack) there) ∙ walks.opened.placed (here w) (omega (arith, on, there)),
             λ j d h le. omega (arith, le, is, up, there),
             λ j d h le.
                 let (k, lk, place) = (walks.roots.each j d h).framed in
@@ -102,7 +102,7 @@ module _ {l : Grouped} {blocks : List ℕ} {alone : List Bool} {lists : List (Li
 
 -- its last component was finished, with its list among the lists
 module _ (laws : Laws) {l : Grouped} {blocks : List ℕ} {alone : List Bool} {lists : List (List (ℕ × ℕ))} {w : Search} (walks : Walks l blocks alone lists w)
-    (some : 0 < length w.frames) (place : (last w.roots).place ≡ here w) {new_marks : List Mark} {number : ℕ} (marks : Finishes w.stack (last w.roots).place number w.marks new_marks)
+    (some : 0 < length w.frames) (place : (last w.roots).place ≡ here w) {new_stages : List Stage} {number : ℕ} (stages : Finishes w.stack (last w.roots).place number w.stages new_stages)
     (exact : (p : ℕ) → (last w.roots).place ≤ p → p < length w.stack → IsSigned l blocks alone (slice_index w.stack p) lists number)
     {added : List Item} (led : ((0 < length (popped w).frames) × (added ≡ Listed number ∷ [])) ⊎ ((length (popped w).frames ≡ 0) × (added ≡ []))) where
   -- the place where the component begins, and its first item
@@ -114,7 +114,7 @@ module _ (laws : Laws) {l : Grouped} {blocks : List ℕ} {alone : List Bool} {li
 
   abbrev Closed : Search
   Closed = record {
-    marks = new_marks;
+    stages = new_stages;
     stack = take q w.stack;
     frames = (popped w).frames;
     roots = take (length w.roots - 1) w.roots;
@@ -140,11 +140,11 @@ module _ (laws : Laws) {l : Grouped} {blocks : List ℕ} {alone : List Bool} {li
   before_last : All (λ x. x.place < q) Closed.frames
   before_last i d h = grind (arith, elements, walks.frames.rising i (length w.frames - 1), get_or_default w.frames (length w.frames - 1) d no_frame, place)
 
-  same_unseen : (s : ℕ) → is_unseen (mark_at Closed.marks s) ≡ is_unseen (mark_at w.marks s)
-  same_unseen s = grind (arith, marks.others s, walks.opened.marked, marks.members)
+  same_unseen : (s : ℕ) → is_unseen (stage_at Closed.stages s) ≡ is_unseen (stage_at w.stages s)
+  same_unseen s = grind (arith, stages.others s, walks.opened.placed, stages.members)
 
-  closed_seen : KeepsSeen w.marks new_marks
-  closed_seen s is = grind (arith, marks.others s, marks.members, is)
+  closed_seen : KeepsSeen w.stages new_stages
+  closed_seen s is = grind (arith, stages.others s, stages.members, is)
 
   -- the items before the component's
   cut_size : length (take c0 w.items) ≡ c0
@@ -174,8 +174,8 @@ module _ (laws : Laws) {l : Grouped} {blocks : List ℕ} {alone : List Bool} {li
     up = λ p r h up. All-take (λ x. x.place ≤ p → x.place ≤ r) (length w.roots - 1) w.roots up;
     of = λ j p low h of. All-take (λ x. (x.place ≤ p → x.items ≤ j) × (p < x.place → j < x.items)) (length w.roots - 1) w.roots of;
     items = λ j p low h of. item_same j ((of (length w.roots - 1) no_root last_low).1 h);
-    opened = λ s p low is. grind (arith, marks.others s, walks.opened.only s p, walks.opened.marked);
-    finished = λ s k is. grind (arith, marks.others s, walks.opened.marked);
+    opened = λ s p low is. grind (arith, stages.others s, walks.opened.only s p, walks.opened.placed);
+    finished = λ s k is. grind (arith, stages.others s, walks.opened.placed);
   }
 
   -- the roots that are left were roots before the last one
@@ -215,7 +215,7 @@ module _ (laws : Laws) {l : Grouped} {blocks : List ℕ} {alone : List Bool} {li
         let there : slice_index w.stack q ≡ t = ap (slice_index w.stack) (place ∙ ap (λ j. (frame_at w.frames j).place) (sym e)) ∙ to in
         inr (inl (
           number,
-          ap (mark_at Closed.marks) (sym there) ∙ marks.members q (omega arith) low_q,
+          ap (stage_at Closed.stages) (sym there) ∙ stages.members q (omega arith) low_q,
           λ z c. subst (λ x. HoldsPair lists Closed x z) at (back_holds more z c),
         ))
     | inr d ↦
@@ -223,12 +223,12 @@ module _ (laws : Laws) {l : Grouped} {blocks : List ℕ} {alone : List Bool} {li
         inr (inr (j, low', is', state_same _ (before_last (j + 1) no_frame low') ∙ to'))
   ]
 
-  opened : AreOpen Closed.marks Closed.stack
+  opened : AreOpen Closed.stages Closed.stack
   opened = record {
-    marked = λ p h. grind (arith, state_same p, keeps.opened (slice_index w.stack p) p, walks.opened.marked p, size, low_q, h);
+    placed = λ p h. grind (arith, state_same p, keeps.opened (slice_index w.stack p) p, walks.opened.placed p, size, low_q, h);
     only = λ s p is. (
-      grind (arith, marks.others s, marks.members, walks.opened.only s p, is, size),
-      grind (arith, marks.others s, marks.members, walks.opened.only s p, state_same p, is),
+      grind (arith, stages.others s, stages.members, walks.opened.only s p, is, size),
+      grind (arith, stages.others s, stages.members, walks.opened.only s p, state_same p, is),
     );
   }
 
@@ -249,21 +249,21 @@ module _ (laws : Laws) {l : Grouped} {blocks : List ℕ} {alone : List Bool} {li
   -- it is lighter by two, and by the items of the component
   lighter : weight Closed + (length w.items - c0) + 2 ≤ weight w
   lighter =
-      let same = unseen-same w.marks new_marks same_unseen marks.size in
+      let same = unseen-same w.stages new_stages same_unseen stages.size in
       grind (arith, same, size, few, popped_size walks, low_q, item_new, no_item, led)
 
   Walks-closed : Walks l blocks alone lists Closed
   Walks-closed = record {
     numbers = record {
-      size = marks.size ∙ walks.numbers.size;
+      size = stages.size ∙ walks.numbers.size;
       some = walks.numbers.some;
-      numbers = omega (arith, unseen-same w.marks new_marks same_unseen marks.size, walks.numbers.numbers, size, low_q);
+      numbers = omega (arith, unseen-same w.stages new_stages same_unseen stages.size, walks.numbers.numbers, size, low_q);
     };
     opened = opened;
-    signed = λ s k is. elim (marks.others s) [
+    signed = λ s k is. elim (stages.others s) [
       | inl e ↦ walks.signed s k (sym e ∙ is)
       | inr (m, from, high, same) ↦
-          let e : number ≡ k = cc (marks.members m from high, same, is) in
+          let e : number ≡ k = cc (stages.members m from high, same, is) in
           subst₂ (λ x n. IsSigned l blocks alone x lists n) same e (exact m from high)
     ];
     roots = record {
@@ -333,16 +333,16 @@ module _ {l : Grouped} {blocks : List ℕ} {alone : List Bool} {lists : List (Li
         let walks' = Walks-grow closes.listed.grow walks in
         let signed : (p : ℕ) → (last w.roots).place ≤ p → p < length w.stack → IsSigned l blocks alone (slice_index w.stack p) lists' closes.number =
         λ p high. exact laws lts walks some read place closes.listed p (omega (arith, high, place)) in
-        let unseen = same_unseen laws walks' some place closes.marks signed led in
-        let same : ahead l (Closed laws walks' some place closes.marks signed led) ≡ ahead l w =
-        omega (arith, unread-same w.marks new.marks unseen l.places, popped_rest) in
-        subst Returns (λ i. record { marks = new.marks; stack = sym closes.stack i; frames = sym closes.frames i; roots = sym closes.roots i; items = sym items i }) (
+        let unseen = same_unseen laws walks' some place closes.stages signed led in
+        let same : ahead l (Closed laws walks' some place closes.stages signed led) ≡ ahead l w =
+        omega (arith, unread-same w.stages new.stages unseen l.places, popped_rest) in
+        subst Returns (λ i. record { stages = new.stages; stack = sym closes.stack i; frames = sym closes.frames i; roots = sym closes.roots i; items = sym items i }) (
           record {
-            walks = Walks-closed laws walks' some place closes.marks signed led;
+            walks = Walks-closed laws walks' some place closes.stages signed led;
             fits =
-                let less = lighter laws walks' some place closes.marks signed led in
+                let less = lighter laws walks' some place closes.stages signed led in
                 omega (arith, fits, less, closes.listed.few, length-drop (last w.roots).items w.items, same);
-            seen = λ s is. closed_seen laws walks' some place closes.marks signed led s is;
+            seen = λ s is. closed_seen laws walks' some place closes.stages signed led s is;
           },
           same,
         )

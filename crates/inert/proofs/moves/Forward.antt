@@ -10,10 +10,10 @@ use Rattle.theory.specs.declared.relation.Relation.TheVariants.{Branching}
 use Rattle.theory.specs.Blocks.{Inert}
 use Rattle.lts.specs.Lts.{Grouped, system_of, IsRow, place_at}
 use Rattle.inert.specs.Signed.{HasPair}
-use Rattle.inert.specs.Search.{Search, here, item_at, IsThere, IsOf, Gives, HoldsPair, IsSound, Walks, Item, Laws, mark_at, root_at, no_root, Ties, IsUpTo, IsBefore, IsRoot, IsHere, Root, Open, frame_at, no_frame, IsFrame, IsEntered, IsAhead, AreOpen, AreRoots, AreFrames, AreAccounted, Connects, Mark, Unseen, Finished, Frame, IsFollowed, Accounted}
+use Rattle.inert.specs.Search.{Search, here, item_at, IsThere, IsOf, Gives, HoldsPair, IsSound, Walks, Item, Laws, stage_at, root_at, no_root, Ties, IsUpTo, IsBefore, IsRoot, IsHere, Root, Open, frame_at, no_frame, IsFrame, IsEntered, IsAhead, AreOpen, AreRoots, AreFrames, AreAccounted, Connects, Stage, Unseen, Finished, Frame, IsFollowed, Accounted}
 use Rattle.inert.specs.Moves.{with_item, CutsRoots, entered}
 use Rattle.inert.proofs.parts.Rising.{AllPairs-take, All-from_take}
-use Rattle.inert.proofs.parts.Counting.{unseen-marked}
+use Rattle.inert.proofs.parts.Counting.{unseen-set}
 use Rattle.inert.proofs.invariant.Standing.{reached, on_stack, ties, IsFrame-moved, frames_some, root_low}
 use Rattle.inert.proofs.invariant.Keeping.{Keeps, keeps_stack, accounted_still, sound_still, done_still}
 
@@ -83,7 +83,7 @@ module _ {l : Grouped} {blocks : List ℕ} {alone : List Bool} {lists : List (Li
     below i d h = grind (arith, elements, cuts.below, cuts.roots, walks.roots.rising i (cuts.kept - 1), get_or_default w.roots (cuts.kept - 1) d no_root)
 
     -- the state that the step leads to is in the component where the walk is
-    pub joined_here : (t : ℕ) → mark_at w.marks t ≡ Open q → IsHere Joined (here w) t
+    pub joined_here : (t : ℕ) → stage_at w.stages t ≡ Open q → IsHere Joined (here w) t
     joined_here t is = (q, is, λ i d h _. below i d h, λ i d h _. cut_each (λ r. r.place ≤ here w) (reached walks) i d h)
 
     pub Walks-join : q < length w.stack → Inert (system_of l) (slice_index blocks) (slice_index w.stack (here w)) (slice_index w.stack q)
@@ -111,7 +111,7 @@ module _ {l : Grouped} {blocks : List ℕ} {alone : List Bool} {lists : List (Li
     }
 
   -- the state t is entered
-  module _ (laws : Laws) {t start end : ℕ} (within : t < length w.marks) (unseen : mark_at w.marks t ≡ Unseen) (row : IsRow l.places t start end) where
+  module _ (laws : Laws) {t start end : ℕ} (within : t < length w.stages) (unseen : stage_at w.stages t ≡ Unseen) (row : IsRow l.places t start end) where
     abbrev pub Entered : Search
     Entered = entered t start end w
 
@@ -124,7 +124,7 @@ module _ {l : Grouped} {blocks : List ℕ} {alone : List Bool} {lists : List (Li
     abbrev NewRoot : Root
     NewRoot = record { place = length w.stack; items = length w.items }
 
-    -- the stack, the frames and the marks
+    -- the stack, the frames and the stages
     size : length Entered.stack ≡ n + 1
     size = length_push w.stack t
 
@@ -146,9 +146,9 @@ module _ {l : Grouped} {blocks : List ℕ} {alone : List Bool} {lists : List (Li
     before_new : (P : Root → Type 0) → All P Entered.roots → All P w.roots
     before_new P all i d h = subst P (get_or_append_left w.roots _ d i h) (all i d (omega (arith, h, length_push w.roots NewRoot)))
 
-    -- a state that was seen keeps its mark
-    mark_still : (s : ℕ) (m : Mark) → mark_at w.marks s ≡ m → ¬ (m ≡ Unseen) → mark_at Entered.marks s ≡ m
-    mark_still s m is seen = get_or-set_other w.marks t s (Open n) Unseen (λ e. seen (sym is ∙ ap (mark_at w.marks) e ∙ unseen)) ∙ is
+    -- a state that was seen keeps its stage
+    stage_still : (s : ℕ) (m : Stage) → stage_at w.stages s ≡ m → ¬ (m ≡ Unseen) → stage_at Entered.stages s ≡ m
+    stage_still s m is seen = get_or-set_other w.stages t s (Open n) Unseen (λ e. seen (sym is ∙ ap (stage_at w.stages) e ∙ unseen)) ∙ is
 
     enter_keeps : Keeps w Entered n
     enter_keeps = record {
@@ -158,8 +158,8 @@ module _ {l : Grouped} {blocks : List ℕ} {alone : List Bool} {lists : List (Li
       up = λ p q h up. All-push (λ r. r.place ≤ p → r.place ≤ q) w.roots NewRoot up (λ le. absurd (omega (arith, le, h)));
       of = λ j p low h of. All-push (λ r. (r.place ≤ p → r.items ≤ j) × (p < r.place → j < r.items)) w.roots NewRoot of (λ le. absurd (omega (arith, le, h)), λ _. low);
       items = λ j p low h of. (low, refl);
-      opened = λ s p h is. mark_still s (Open p) is (λ e. cc);
-      finished = λ s k is. mark_still s (Finished k) is (λ e. cc);
+      opened = λ s p h is. stage_still s (Open p) is (λ e. cc);
+      finished = λ s k is. stage_still s (Finished k) is (λ e. cc);
     }
 
     -- the walk went to the state t from where it was
@@ -179,12 +179,12 @@ module _ {l : Grouped} {blocks : List ℕ} {alone : List Bool} {lists : List (Li
     ahead_still : (p k : ℕ) → IsAhead w p k → IsAhead Entered p k
     ahead_still p k (i, low, is, ahead) = (i, omega (arith, low, frames_size), grind (arith, frame_same i low, is), grind (arith, frame_same i low, ahead))
 
-    opened : AreOpen Entered.marks Entered.stack
+    opened : AreOpen Entered.stages Entered.stack
     opened = record {
-      marked = λ p h. grind (arith, common_steps, elements, walks.opened.marked p, unseen, within, h);
+      placed = λ p h. grind (arith, common_steps, elements, walks.opened.placed p, unseen, within, h);
       only = λ s p is.
-          let other = get_or-set_other w.marks t s (Open n) Unseen in
-          let self = get_or-set_same w.marks t (Open n) Unseen within in
+          let other = get_or-set_other w.stages t s (Open n) Unseen in
+          let self = get_or-set_same w.stages t (Open n) Unseen within in
           (grind (arith, other, self, walks.opened.only s p, size, is), grind (arith, other, self, walks.opened.only s p, state_same p, state_new, is));
     }
 
@@ -247,9 +247,9 @@ module _ {l : Grouped} {blocks : List ℕ} {alone : List Bool} {lists : List (Li
       pub Walks-enter : Walks l blocks alone lists Entered
       Walks-enter = record {
         numbers = record {
-          size = length-set w.marks t (Open n) ∙ walks.numbers.size;
+          size = length-set w.stages t (Open n) ∙ walks.numbers.size;
           some = walks.numbers.some;
-          numbers = omega (arith, unseen-marked w.marks t (Open n) refl within unseen, walks.numbers.numbers, size);
+          numbers = omega (arith, unseen-set w.stages t (Open n) refl within unseen, walks.numbers.numbers, size);
         };
         opened = opened;
         signed = λ s k is. walks.signed s k (grind (arith, common_steps, unseen, within, is));

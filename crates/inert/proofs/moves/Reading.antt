@@ -11,13 +11,13 @@ use Rattle.lts.specs.Lts.{Grouped, Triple, source_of, label_of, target_of, place
 use Rattle.lts.specs.Meter.{Counts, Costs}
 use Rattle.inert.specs.Signed.{HasPair, pair_under}
 use Rattle.inert.specs.Steps.{IsInert, IsStep}
-use Rattle.inert.specs.Search.{Search, Laws, mark_at, frame_at, no_frame, top, here, IsFrame, Accounted, Walks, Unseen, Open, Finished, Frame, Root, Item, Pair, Listed}
+use Rattle.inert.specs.Search.{Search, Laws, stage_at, frame_at, no_frame, top, here, IsFrame, Accounted, Walks, Unseen, Open, Finished, Frame, Root, Item, Pair, Listed}
 use Rattle.inert.specs.Moves.{entered, with_item, TakesStep, CutsRoots, ahead, weight, steps, HasRead, GoesOn}
 use Rattle.inert.specs.Ahead.{KeepsSeen}
 use Rattle.inert.specs.declared.step.Step.{Step as TakenStep}
 use Rattle.inert.specs.declared.step.Step.TheVariants.{Inert as Goes, Shows}
-use Rattle.inert.proofs.parts.Marks.{seen_more}
-use Rattle.inert.proofs.parts.Counting.{unseen-marked, unread-marked, rest-push, rest-next}
+use Rattle.inert.proofs.parts.Stages.{seen_more}
+use Rattle.inert.proofs.parts.Counting.{unseen-set, unread-set, rest-push, rest-next}
 use Rattle.inert.proofs.invariant.Standing.{pair_before}
 use Rattle.inert.proofs.signatures.Exact.{place_step}
 use Rattle.inert.proofs.moves.Forward.{Walks-collect, collected_holds, Walks-join, joined_here, Walks-enter, entered_met, Walks-next}
@@ -59,7 +59,7 @@ module _ (laws : Laws) {l : Grouped} (lts : IsLts l) {blocks : List ℕ} {alone 
   pub record Taken (m : Search) (enters : Bool) : Type 0 where
     pub after : Walks l blocks alone lists m
     pub done : Accounted l blocks lists m (here w) e
-    pub seen : KeepsSeen w.marks m.marks
+    pub seen : KeepsSeen w.stages m.stages
     pub same_ahead : ahead l m ≡ ahead l w
     pub heavier : weight m ≤ weight w + 1
     pub same_frame : frame_at m.frames (length w.frames - 1) ≡ top w.frames
@@ -89,9 +89,9 @@ module _ (laws : Laws) {l : Grouped} (lts : IsLts l) {blocks : List ℕ} {alone 
       (omega (arith, length_push w.items (Pair a b)))
 
   module _ (inert : IsInert l blocks (slice_index blocks (source_of e)) e) where
-    taken_finished : (number : ℕ) (enters : Bool) → mark_at w.marks (target_of e) ≡ Finished number → ¬ IsTrue enters → Taken (with_item (Listed number) w) enters
-    taken_finished number enters mark =
-        let signed = walks.signed (target_of e) number mark in
+    taken_finished : (number : ℕ) (enters : Bool) → stage_at w.stages (target_of e) ≡ Finished number → ¬ IsTrue enters → Taken (with_item (Listed number) w) enters
+    taken_finished number enters stage =
+        let signed = walks.signed (target_of e) number stage in
         let s = slice_index w.stack (here w) in
         let tie = laws.after (system_of l) (slice_index blocks) s s (target_of e) (laws.here (system_of l) (slice_index blocks) s) (inert_step inert) in
         stayed w.roots (with_item (Listed number) w).items enters
@@ -99,31 +99,31 @@ module _ (laws : Laws) {l : Grouped} (lts : IsLts l) {blocks : List ℕ} {alone 
         (λ z g. pair_before laws l blocks s (target_of e) z tie (signed.sound z g)))
         (record {
           shown = λ other. absurd (other inert);
-          followed = λ _. inr (inl (number, mark, λ z c. collected_holds walks (Listed number) z c));
+          followed = λ _. inr (inl (number, stage, λ z c. collected_holds walks (Listed number) z c));
         })
         (omega (arith, length_push w.items (Listed number)))
 
-    taken_joined : (q : ℕ) (roots : List Root) (enters : Bool) → mark_at w.marks (target_of e) ≡ Open q → CutsRoots q w.roots roots → ¬ IsTrue enters
+    taken_joined : (q : ℕ) (roots : List Root) (enters : Bool) → stage_at w.stages (target_of e) ≡ Open q → CutsRoots q w.roots roots → ¬ IsTrue enters
         → Taken (record w { roots = roots }) enters
-    taken_joined q roots enters mark cuts =
-        let was = walks.opened.only (target_of e) q mark in
+    taken_joined q roots enters stage cuts =
+        let was = walks.opened.only (target_of e) q stage in
         stayed roots w.items enters
         (Walks-join walks laws cuts was.0 (subst (Inert (system_of l) (slice_index blocks) (slice_index w.stack (here w))) (sym was.1) (inert_step inert)))
-        (record { shown = λ other. absurd (other inert); followed = λ _. inl (joined_here walks laws cuts (target_of e) mark) })
+        (record { shown = λ other. absurd (other inert); followed = λ _. inl (joined_here walks laws cuts (target_of e) stage) })
         (omega arith)
 
-    taken_entered : (start end : ℕ) (enters : Bool) → IsRow l.places (target_of e) start end → mark_at w.marks (target_of e) ≡ Unseen → IsTrue enters
+    taken_entered : (start end : ℕ) (enters : Bool) → IsRow l.places (target_of e) start end → stage_at w.stages (target_of e) ≡ Unseen → IsTrue enters
         → Taken (entered (target_of e) start end w) enters
     taken_entered start end enters row unseen went =
-        let within : target_of e < length w.marks = omega (arith, walks.numbers.size, target_low) in
+        let within : target_of e < length w.stages = omega (arith, walks.numbers.size, target_low) in
         let x : Frame = record { place = length w.stack; next = start; end = end } in
         let frames = length_push w.frames x in
         record {
           after = Walks-enter walks laws within unseen row (λ _. inert_step inert);
           done = record { shown = λ other. absurd (other inert); followed = λ _. inr (inr (entered_met walks laws within unseen row some)) };
-          seen = seen_more w.marks (target_of e) (Open (length w.stack)) (λ e. cc) within;
-          same_ahead = omega (arith, unread-marked w.marks (target_of e) (Open (length w.stack)) refl within unseen l.places, rest-push w.frames x, row.count);
-          heavier = omega (arith, unseen-marked w.marks (target_of e) (Open (length w.stack)) refl within unseen, length_push w.stack (target_of e), frames);
+          seen = seen_more w.stages (target_of e) (Open (length w.stack)) (λ e. cc) within;
+          same_ahead = omega (arith, unread-set w.stages (target_of e) (Open (length w.stack)) refl within unseen l.places, rest-push w.frames x, row.count);
+          heavier = omega (arith, unseen-set w.stages (target_of e) (Open (length w.stack)) refl within unseen, length_push w.stack (target_of e), frames);
           same_frame = get_or_append_left w.frames (x ∷ []) _ (length w.frames - 1) (omega (arith, some));
           still = λ stay. absurd (stay went);
           longer = λ _. frames;
@@ -136,11 +136,11 @@ module _ (laws : Laws) {l : Grouped} (lts : IsLts l) {blocks : List ℕ} {alone 
       subst (λ x. Taken x enters) (sym takes.0) (taken_pair a b enters is.0 is.1 takes.1)
   taken (Goes t) m enters is (inl (unseen, (start, end, row, new), went)) =
       subst (λ x. Taken x enters) (sym (new ∙ ap (λ s. entered s start end w) is.1))
-      (taken_entered is.0 start end enters (subst (λ s. IsRow l.places s start end) is.1 row) (ap (mark_at w.marks) (sym is.1) ∙ unseen) went)
-  taken (Goes t) m enters is (inr (inl (q, mark, cuts, new, stay))) =
-      subst (λ x. Taken x enters) (sym new) (taken_joined is.0 q m.roots enters (ap (mark_at w.marks) (sym is.1) ∙ mark) cuts stay)
-  taken (Goes t) m enters is (inr (inr (number, mark, new, stay))) =
-      subst (λ x. Taken x enters) (sym new) (taken_finished is.0 number enters (ap (mark_at w.marks) (sym is.1) ∙ mark) stay)
+      (taken_entered is.0 start end enters (subst (λ s. IsRow l.places s start end) is.1 row) (ap (stage_at w.stages) (sym is.1) ∙ unseen) went)
+  taken (Goes t) m enters is (inr (inl (q, stage, cuts, new, stay))) =
+      subst (λ x. Taken x enters) (sym new) (taken_joined is.0 q m.roots enters (ap (stage_at w.stages) (sym is.1) ∙ stage) cuts stay)
+  taken (Goes t) m enters is (inr (inr (number, stage, new, stay))) =
+      subst (λ x. Taken x enters) (sym new) (taken_finished is.0 number enters (ap (stage_at w.stages) (sym is.1) ∙ stage) stay)
 
 -- from one walk to another one, the last row was read up to place k
 pub record Reads (l : Grouped) (old new : Search) (k : ℕ) : Type 0 where

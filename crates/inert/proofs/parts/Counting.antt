@@ -8,45 +8,45 @@ use Rattle.std.proofs.lemmas.List.Elements.{All-head, All-tail, filter_agree}
 use Rattle.std.proofs.lemmas.List.Sums.{length-filter, sum-map, sum_by-cons, sum_by-le, sum_by_more, sum_by_push, sum_by-set}
 use Rattle.lts.specs.Lts.{Triple, source_of, row_of}
 use Rattle.inert.specs.Ahead.{is_unseen, unseen, unread, rest}
-use Rattle.inert.specs.Search.{mark_at, frame_at, no_frame, top, Mark, Unseen, Open, Finished, Frame}
+use Rattle.inert.specs.Search.{stage_at, frame_at, no_frame, top, Stage, Unseen, Open, Finished, Frame}
 
 -- 1 for true, and 0 for false
 abbrev one : Bool → ℕ
 one b = cond b 1 0
 
 -- 1 if the source of a transition was not seen
-abbrev to_read : List Mark → Triple → ℕ
-to_read marks e = one (is_unseen (mark_at marks (source_of e)))
+abbrev to_read : List Stage → Triple → ℕ
+to_read stages e = one (is_unseen (stage_at stages (source_of e)))
 
 -- numbers that add up at each element add up
 sums_add : {X : Type 0} (f g h : X → ℕ) (xs : List X) → ((x : X) → f x + g x ≡ h x) → sum_by f xs + sum_by g xs ≡ sum_by h xs
 sums_add f g h [] each = refl
 sums_add f g h (x ∷ xs) each = omega (arith, sums_add f g h xs each, each x, sum_by-cons f x xs, sum_by-cons g x xs, sum_by-cons h x xs)
 
-unread_sum : (places : List Triple) (marks : List Mark) → unread places marks ≡ sum_by (to_read marks) places
-unread_sum places marks = length-filter (λ e. is_unseen (mark_at marks (source_of e))) places
+unread_sum : (places : List Triple) (stages : List Stage) → unread places stages ≡ sum_by (to_read stages) places
+unread_sum places stages = length-filter (λ e. is_unseen (stage_at stages (source_of e))) places
 
 row_sum : (places : List Triple) (s : ℕ) → length (row_of s places) ≡ sum_by (λ e. one (eqb (source_of e) s)) places
 row_sum places s = length-filter (λ e. eqb (source_of e) s) places
 
--- a state that was not seen is marked
-module _ (marks : List Mark) (t : ℕ) (m : Mark) (met : is_unseen m ≡ false) (below : t < length marks) (was : mark_at marks t ≡ Unseen) where
-  pub unseen-marked : unseen (set marks t m) + 1 ≡ unseen marks
-  unseen-marked = grind (arith, nat_tests, sum_by-set (λ x. one (is_unseen x)) marks t m Unseen below, met, was)
+-- a state that was not seen is set
+module _ (stages : List Stage) (t : ℕ) (m : Stage) (met : is_unseen m ≡ false) (below : t < length stages) (was : stage_at stages t ≡ Unseen) where
+  pub unseen-set : unseen (set stages t m) + 1 ≡ unseen stages
+  unseen-set = grind (arith, nat_tests, sum_by-set (λ x. one (is_unseen x)) stages t m Unseen below, met, was)
 
-  one-marked : (e : Triple) → to_read (set marks t m) e + one (eqb (source_of e) t) ≡ to_read marks e
-  one-marked e = grind (arith, common_steps, nat_tests, met, was, below)
+  one-set : (e : Triple) → to_read (set stages t m) e + one (eqb (source_of e) t) ≡ to_read stages e
+  one-set e = grind (arith, common_steps, nat_tests, met, was, below)
 
-  pub unread-marked : (places : List Triple) → unread places (set marks t m) + length (row_of t places) ≡ unread places marks
-  unread-marked places =
-      let add = sums_add (to_read (set marks t m)) (λ e. one (eqb (source_of e) t)) (to_read marks) places one-marked in
-      omega (arith, add, unread_sum places (set marks t m), unread_sum places marks, row_sum places t)
+  pub unread-set : (places : List Triple) → unread places (set stages t m) + length (row_of t places) ≡ unread places stages
+  unread-set places =
+      let add = sums_add (to_read (set stages t m)) (λ e. one (eqb (source_of e) t)) (to_read stages) places one-set in
+      omega (arith, add, unread_sum places (set stages t m), unread_sum places stages, row_sum places t)
 
 -- the same states are unseen
-module _ (old new : List Mark) (same : (s : ℕ) → is_unseen (mark_at new s) ≡ is_unseen (mark_at old s)) where
+module _ (old new : List Stage) (same : (s : ℕ) → is_unseen (stage_at new s) ≡ is_unseen (stage_at old s)) where
   pub unseen-same : length new ≡ length old → unseen new ≡ unseen old
   unseen-same size =
-      let f : Mark → ℕ = λ m. one (is_unseen m) in
+      let f : Stage → ℕ = λ m. one (is_unseen m) in
       let maps : map f new ≡ map f old = ext_get_or 0 (map f new) (map f old) (length-map new f ∙ size ∙ sym (length-map old f)) (λ i h.
       let low : i < length new = omega (arith, h, length-map new f) in
       get_or-map f new i Unseen 0 low ∙ ap one (same i) ∙ sym (get_or-map f old i Unseen 0 (omega (arith, low, size)))) in
@@ -71,29 +71,29 @@ rest-cut frames some read =
     omega (arith, sum_by_more (λ y. y.end - y.next) frames (length frames - 1) no_frame (omega (arith, some)), ap rest all, read)
 
 -- nothing was seen, so all is still to be read
-pub unread-all : (places : List Triple) (marks : List Mark) → ((s : ℕ) → mark_at marks s ≡ Unseen) → unread places marks ≡ length places
-unread-all [] marks none = refl
-unread-all (e ∷ es) marks none = rw (none (source_of e)) (ap suc (unread-all es marks none))
+pub unread-all : (places : List Triple) (stages : List Stage) → ((s : ℕ) → stage_at stages s ≡ Unseen) → unread places stages ≡ length places
+unread-all [] stages none = refl
+unread-all (e ∷ es) stages none = rw (none (source_of e)) (ap suc (unread-all es stages none))
 
-pub seen : (m : Mark) → ¬ (m ≡ Unseen) → is_unseen m ≡ false
+pub seen : (m : Stage) → ¬ (m ≡ Unseen) → is_unseen m ≡ false
 seen Unseen f = absurd (f refl)
 seen (Open p) f = refl
 seen (Finished k) f = refl
 
 -- all was seen, so nothing is still to be read
-pub unread-none : (places : List Triple) (marks : List Mark) → ((s : ℕ) → s < length marks → ¬ (mark_at marks s ≡ Unseen)) →
-    All (λ e. source_of e < length marks) places → unread places marks ≡ 0
-unread-none [] marks each below = refl
-unread-none (e ∷ es) marks each below =
-    let here = each (source_of e) (All-head (λ x. source_of x < length marks) e es below) in
-    rw (seen (mark_at marks (source_of e)) here) (unread-none es marks each (All-tail (λ x. source_of x < length marks) e es below))
+pub unread-none : (places : List Triple) (stages : List Stage) → ((s : ℕ) → s < length stages → ¬ (stage_at stages s ≡ Unseen)) →
+    All (λ e. source_of e < length stages) places → unread places stages ≡ 0
+unread-none [] stages each below = refl
+unread-none (e ∷ es) stages each below =
+    let here = each (source_of e) (All-head (λ x. source_of x < length stages) e es below) in
+    rw (seen (stage_at stages (source_of e)) here) (unread-none es stages each (All-tail (λ x. source_of x < length stages) e es below))
 
 -- the row of a state that was seen is not among what is still to be read
-pub unread-seen : (places : List Triple) (marks : List Mark) (s : ℕ) → ¬ (mark_at marks s ≡ Unseen) →
-    unread places marks + length (row_of s places) ≤ length places
-unread-seen places marks s was =
+pub unread-seen : (places : List Triple) (stages : List Stage) (s : ℕ) → ¬ (stage_at stages s ≡ Unseen) →
+    unread places stages + length (row_of s places) ≤ length places
+unread-seen places stages s was =
     let row : Triple → ℕ = λ e. one (eqb (source_of e) s) in
-    let most : (e : Triple) → to_read marks e + row e ≤ 1 = λ e. grind (arith, nat_tests, was, seen (mark_at marks s)) in
-    let add = sums_add (to_read marks) row (λ e. to_read marks e + row e) places (λ e. refl) in
-    let all = sum_by-le (λ e. to_read marks e + row e) 1 places (λ k d h. most (get_or places k d)) in
-    omega (arith, add, all, unread_sum places marks, row_sum places s)
+    let most : (e : Triple) → to_read stages e + row e ≤ 1 = λ e. grind (arith, nat_tests, was, seen (stage_at stages s)) in
+    let add = sums_add (to_read stages) row (λ e. to_read stages e + row e) places (λ e. refl) in
+    let all = sum_by-le (λ e. to_read stages e + row e) 1 places (λ k d h. most (get_or places k d)) in
+    omega (arith, add, all, unread_sum places stages, row_sum places s)

@@ -80,18 +80,18 @@ module _ (laws : Laws) {l : Grouped} (lts : IsLts l) {blocks : List ℕ} {alone 
       let same : slice_index blocks (target_of (place_at l.places k)) ≡ slice_index blocks (slice_index w.stack p) = ap (slice_index blocks) target ∙ first.1 in
       let together : ¬ IsKnownAlone blocks alone (target_of (place_at l.places k)) = λ known. company (subst (λ b. IsTrue (slice_index_or alone b false)) same known) in
       elim ((done p k h lp lk source).followed (label, same ∙ ap (slice_index blocks) (sym source))) [
-        | inl (q, mark, up, down) ↦
-            let was = walks.opened.only (target_of (place_at l.places k)) q mark in
+        | inl (q, stage, up, down) ↦
+            let was = walks.opened.only (target_of (place_at l.places k)) q stage in
             let high = up (length w.roots - 1) no_root last_low (omega (arith, place, h)) in
             collects z us q (omega (arith, place, high)) was.0 u t
             (subst (λ y. Along (Inert (system_of l) (slice_index blocks)) y us u) (sym target ∙ sym was.1) rest) step is
             (λ inert. other (inert.0, inert.1 ∙ ap (slice_index blocks) was.1 ∙ same)) low
             (subst (λ s. ¬ IsKnownAlone blocks alone s) (sym was.1) together)
         | inr held ↦ elim held [
-          | inl (number, mark, all) ↦
+          | inl (number, stage, all) ↦
               let path = subst (λ y. Along (Inert (system_of l) (slice_index blocks)) y us u) (sym target) rest in
               let has : HasPair Branching l blocks (target_of (place_at l.places k)) z.0 z.1 = (low, (u, t, (us, path), step, is, λ inert. other (inert.0, inert.1 ∙ same))) in
-              elim ((walks.signed (target_of (place_at l.places k)) number mark).whole) [
+              elim ((walks.signed (target_of (place_at l.places k)) number stage).whole) [
                 | inl signature ↦ collected_from p h z (all z ((signature.exactly z.0 z.1).1 has))
                 | inr known ↦ absurd (together known)
               ]

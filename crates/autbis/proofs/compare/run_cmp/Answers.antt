@@ -4,7 +4,7 @@ use Rattle.theory.specs.Bisimulation.{Equivalent}
 use Rattle.theory.specs.Blocks.{Turns}
 use Rattle.theory.specs.Union.{union_of}
 use Rattle.lts.specs.Lts.{system_of}
-use Rattle.quotient.specs.Bounds.{KeepsTo}
+use Rattle.quotient.specs.Visits.{KeepsTo}
 use Rattle.autfmt.specs.declared.fault.Fault.TheVariants.{Memory}
 use Rattle.autbis.specs.Comparisons.{CountsComparison, CountsUnion, IsVerdict, ReadBoth}
 use Rattle.autbis.specs.Comparisons.CmpFails.{first_side, after_first}

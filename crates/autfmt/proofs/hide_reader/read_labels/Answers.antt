@@ -1,4 +1,4 @@
-use Rattle.std.proofs.Common.{◌≡◌, ◌+◌, ℕ, List, [], ◌∷◌, ◌++◌, length, Ok, ◌∙◌, ap, refl, arith}
+use Rattle.std.proofs.Common.{◌≡◌, ◌+◌, ℕ, Bool, true, false, List, [], ◌∷◌, ◌++◌, length, Result, Ok, ◌∙◌, ap, refl, arith}
 use Rattle.std.proofs.lemmas.List.{length_push}
 use Rattle.std.proofs.lemmas.Result.{err_from_is_err_and}
 use Rattle.std.proofs.KnownBytes.{Consumes-nil, Consumes-trans}
@@ -57,13 +57,17 @@ returns-in_err-at_end g c =
     (hide_end_failed before _ H _ last _ _ so_far (omega arith) c.in_err-at_end.ensures.failures
     (λ over. let a = c.is_at_end.ensures.over over in let b = c.in_err-at_end.was in cc) none))
 
+-- the end was found, and then it was not
+not_both : {E : Type 0} (r : Result Bool E) (at_end : Bool) → r ≡ Ok true → r ≡ Ok at_end → at_end ≡ false → ⊥
+not_both r at_end found was not = cc
+
 pub returns-then-not-at_end : goal.returns-then-not-at_end
 returns-then-not-at_end g c =
     let (before, taken, H, so_far, count) = c.loop-found.invariant.got in
     let last = rw c.if-not-at_end.true at c.in_ok-at_end.ensures.look in
     hide_refuses_behind _ _ _ before last.0 _ _ taken last.1
     (hide_behind before _ H _ last.0 _ _ so_far (omega arith) c.in_ok-at_end.ensures.failures
-    (λ over. let a = c.is_at_end.ensures.over over in let b = c.in_ok-at_end.was in let d = c.if-not-at_end.true in cc)
+    (λ over. not_both c.is_at_end.result c.in_ok-at_end.at_end (c.is_at_end.ensures.over over) c.in_ok-at_end.was c.if-not-at_end.true)
     (last.2.3 refl))
 
 pub returns : goal.returns

@@ -20,7 +20,7 @@ returns-then-is_alone-clause-rests g c =
 pub returns-then-is_alone-clause-seen : goal.returns-then-is_alone-clause-seen
 returns-then-is_alone-clause-seen g c =
     on_ok_weaker c.pass.result
-    (λ passed. subst (λ w. HasSeen c.args.s c.args.walk.now.marks w.marks) (sym passed.0)
+    (λ passed. subst (λ w. HasSeen c.args.s c.args.walk.now.stages w.stages) (sym passed.0)
     (skipped_seen c.requires.rests c.requires.state.0 c.requires.state.1))
     c.pass.ensures.passed
 
@@ -29,8 +29,8 @@ returns-then-is_alone-clause-visits g c =
     let row = row_unread c.requires.rests c.requires.state.0 c.requires.state.1 in
     on_ok_weaker c.pass.result
     (λ passed. subst
-    (λ w. (g.M.Meter.counted c.pass.new.m).visits + unread c.args.l.now.places w.marks
-    ≡ (g.M.Meter.counted c.args.m.now).visits + unread c.args.l.now.places c.args.walk.now.marks)
+    (λ w. (g.M.Meter.counted c.pass.new.m).visits + unread c.args.l.now.places w.stages
+    ≡ (g.M.Meter.counted c.args.m.now).visits + unread c.args.l.now.places c.args.walk.now.stages)
     (sym passed.0) (omega (arith, row, passed.1.at_least, passed.1.at_most)))
     c.pass.ensures.passed
 

@@ -12,12 +12,12 @@ finish-requires-clause-rests g c =
 
 pub finish-requires-clause-room : goal.finish-requires-clause-room
 finish-requires-clause-room g c =
-    let all = unread-all c.args.l.now.places c.args.walk.now.marks c.requires.ready.idle.none in
+    let all = unread-all c.args.l.now.places c.args.walk.now.stages c.requires.ready.idle.none in
     record { for_rounds = c.requires.room.for_rounds; for_visits = omega (arith, all, c.requires.room.for_visits) }
 
 pub returns-in_err-finish-clause-visits : goal.returns-in_err-finish-clause-visits
 returns-in_err-finish-clause-visits g c =
-    let all = unread-all c.args.l.now.places c.args.walk.now.marks c.requires.ready.idle.none in
+    let all = unread-all c.args.l.now.places c.args.walk.now.stages c.requires.ready.idle.none in
     let cost = c.finish.ensures.cost in
     let exit = err_from_is_err_and c.from_residual.result c.from_residual.ensures.1 in
     rw (exit.1) (record { rounds = cost.rounds; at_least = cost.at_least; at_most = omega (arith, all, cost.at_most) })
@@ -38,8 +38,8 @@ returns-clause-signature g c = elim (c.in_ok-finish.ensures.rests.signed c.args.
 
 pub returns-clause-visits : goal.returns-clause-visits
 returns-clause-visits g c =
-    let all = unread-all c.args.l.now.places c.args.walk.now.marks c.requires.ready.idle.none in
-    let row = unread-seen c.args.l.now.places c.finish.new.self.marks c.args.s c.in_ok-finish.ensures.seen.found in
+    let all = unread-all c.args.l.now.places c.args.walk.now.stages c.requires.ready.idle.none in
+    let row = unread-seen c.args.l.now.places c.finish.new.self.stages c.args.s c.in_ok-finish.ensures.seen.found in
     let cost = c.finish.ensures.cost in
     let read = c.in_ok-finish.ensures.visits in
     record { rounds = cost.rounds; at_least = omega (arith, all, row, read); at_most = omega (arith, all, cost.at_most) }

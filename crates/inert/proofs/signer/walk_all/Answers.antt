@@ -11,13 +11,13 @@ loop-s-init g c =
     record {
       rests = idle_rests l c.args.blocks.now c.args.alone.now c.args.lists.now c.requires.ready.idle c.requires.ready.size (ap length c.requires.lists);
       all = λ t h below. absurd (omega (arith, h, below, c.states-s.ensures.value));
-      visits = omega (arith, unread-all l.places walk.marks c.requires.ready.idle.none);
+      visits = omega (arith, unread-all l.places walk.stages c.requires.ready.idle.none);
       cost = record { rounds = omega arith; at_least = omega arith; at_most = omega arith };
     }
 
 pub returns-clause-visits : goal.returns-clause-visits
 returns-clause-visits g c =
     let i = c.loop-s.invariant in
-    let none = none_unread c.known.ensures c.loop-s.walk.marks i.rests.numbers.size (λ s h. i.all s (omega (arith, h)) h) in
+    let none = none_unread c.known.ensures c.loop-s.walk.stages i.rests.numbers.size (λ s h. i.all s (omega (arith, h)) h) in
     let read = i.visits in
     record { rounds = i.cost.rounds; at_least = omega (arith, read, none); at_most = i.cost.at_most }

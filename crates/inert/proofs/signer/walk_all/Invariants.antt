@@ -1,6 +1,6 @@
 use Rattle.std.proofs.Common.{◌≡◌, ℕ, ◌+◌, ◌<◌, ◌≤◌, length}
 use Rattle.lts.specs.Meter.{Costs}
-use Rattle.inert.specs.Search.{mark_at, Unseen}
+use Rattle.inert.specs.Search.{stage_at, Unseen}
 use Rattle.inert.specs.Moves.{Rests}
 use Rattle.inert.specs.Ahead.{unread}
 use Rattle.inert.proofs.signer.walk_all.Given as goal
@@ -8,7 +8,7 @@ use Rattle.inert.proofs.signer.walk_all.Given as goal
 abbrev pub invariant-loop-s : goal.invariant-loop-s
 invariant-loop-s g l = record {
   rests : Rests l.l l.blocks l.alone l.lists l.walk;
-  all : (t : ℕ) → l.s ≤ t → t < l.l.states → ¬ (mark_at l.walk.marks t ≡ Unseen);
-  visits : (g.M.Meter.counted l.m).visits + unread l.l.places l.walk.marks ≡ (g.M.Meter.counted l.fn.m).visits + length l.l.places;
+  all : (t : ℕ) → l.s ≤ t → t < l.l.states → ¬ (stage_at l.walk.stages t ≡ Unseen);
+  visits : (g.M.Meter.counted l.m).visits + unread l.l.places l.walk.stages ≡ (g.M.Meter.counted l.fn.m).visits + length l.l.places;
   cost : Costs (g.M.Meter.counted l.fn.m) (g.M.Meter.counted l.m) 0 0 (length l.l.places);
 }

@@ -2,7 +2,7 @@ use Rattle.std.proofs.Common.{◌∙◌, ◌↔◌, ◌≤◌, length, Contains,
 use Rattle.std.proofs.lemmas.List.Sorted.{length_permutation}
 use Rattle.std.proofs.lemmas.Result.{IfOk-weaker}
 use Rattle.lts.specs.Lts.{Triple, InRange, IsGrouping, system_of}
-use Rattle.quotient.specs.Reading.{rows_of, IsDroppedLabel}
+use Rattle.quotient.specs.Reading.{sources_of, IsDroppedLabel}
 use Rattle.quotient.specs.Triples.{IsShownBelow}
 use Rattle.quotient.proofs.Quotients.{NumberLaws, Laws, AreEnough, rows_enough, quotient_in_range, IfOk-quotient}
 use Rattle.quotient.proofs.Settled.{members_show_also}
@@ -36,10 +36,10 @@ module _ (g : Over) (c : After-dropped-dropped g) where
         steps = λ s a t. c.rows_are_steps.ensures.steps c.args.l.now s a t;
       }
 
-  enough : AreEnough c.args.l.now c.args.numbering.now.numbers.items c.rows-rows.result.now
+  enough : AreEnough c.args.l.now c.args.numbering.now.numbers.items c.sources-sources.result.now
   enough =
-      let leads = ap (λ marks. rows_of c.args.r marks c.args.reached.now) c.deref.ensures.value in
-      subst (AreEnough c.args.l.now c.args.numbering.now.numbers.items) (sym (c.rows-rows.ensures ∙ leads))
+      let leads = ap (λ marks. sources_of c.args.r marks c.args.reached.now) c.deref.ensures.value in
+      subst (AreEnough c.args.l.now c.args.numbering.now.numbers.items) (sym (c.sources-sources.ensures ∙ leads))
       (rows_enough c.args.r c.args.l.now c.args.numbering.now c.args.reached.now laws c.requires.numbering c.requires.reached)
 
   drops : IsDroppedLabel c.args.r c.args.l.now.labels c.dropped-dropped.result
@@ -49,19 +49,19 @@ pub shown_triples-requires-clause-whole : goal.shown_triples-requires-clause-who
 shown_triples-requires-clause-whole g c =
     let at = (goal.at.shown_triples-requires-clause-whole g c).After-dropped-dropped in
     rw c.deref-2.ensures.value (members_show_also c.args.r c.args.l.now c.args.numbering.now (laws g at) c.requires.numbering
-    c.rows-rows.result.now (enough g at) c.dropped-dropped.result (drops g at))
+    c.sources-sources.result.now (enough g at) c.dropped-dropped.result (drops g at))
 
 pub build-requires : goal.build-requires
 build-requires g c =
     let l = c.args.l.now in
     let es = c.in_ok-triples.triples.items in
     let at = (goal.at.build-requires g c).After-dropped-dropped in
-    let exactly : (x : Triple) → Contains es x ↔ IsShownBelow c.args.numbering.now.numbers.items c.rows-rows.result.now c.dropped-dropped.result l.places l.states x =
-    subst (λ numbers. (x : Triple) → Contains es x ↔ IsShownBelow numbers c.rows-rows.result.now c.dropped-dropped.result l.places l.states x)
+    let exactly : (x : Triple) → Contains es x ↔ IsShownBelow c.args.numbering.now.numbers.items c.sources-sources.result.now c.dropped-dropped.result l.places l.states x =
+    subst (λ numbers. (x : Triple) → Contains es x ↔ IsShownBelow numbers c.sources-sources.result.now c.dropped-dropped.result l.places l.states x)
     c.deref-2.ensures.value c.in_ok-triples.ensures.exactly in
     let labels = c.in_ok-labels.ensures ∙ c.labels-2.ensures in
     subst (λ n. InRange n 0 c.args.numbering.now.count es) (sym (ap length labels))
-    (quotient_in_range c.args.r l c.args.numbering.now (laws g at) c.requires.numbering c.rows-rows.result.now (enough g at)
+    (quotient_in_range c.args.r l c.args.numbering.now (laws g at) c.requires.numbering c.sources-sources.result.now (enough g at)
     c.dropped-dropped.result (drops g at) es exactly c.in_ok-triples.ensures.once c.in_ok-triples.ensures.few)
 
 pub returns-clause-quotient : goal.returns-clause-quotient
@@ -69,11 +69,11 @@ returns-clause-quotient g c =
     let l = c.args.l.now in
     let es = c.in_ok-triples.triples.items in
     let at = (goal.at.returns-clause-quotient g c).After-dropped-dropped in
-    let exactly : (x : Triple) → Contains es x ↔ IsShownBelow c.args.numbering.now.numbers.items c.rows-rows.result.now c.dropped-dropped.result l.places l.states x =
-    subst (λ numbers. (x : Triple) → Contains es x ↔ IsShownBelow numbers c.rows-rows.result.now c.dropped-dropped.result l.places l.states x)
+    let exactly : (x : Triple) → Contains es x ↔ IsShownBelow c.args.numbering.now.numbers.items c.sources-sources.result.now c.dropped-dropped.result l.places l.states x =
+    subst (λ numbers. (x : Triple) → Contains es x ↔ IsShownBelow numbers c.sources-sources.result.now c.dropped-dropped.result l.places l.states x)
     c.deref-2.ensures.value c.in_ok-triples.ensures.exactly in
     let built = c.build.ensures in
-    IfOk-quotient c.args.r l c.args.numbering.now (laws g at) c.requires.numbering c.rows-rows.result.now (enough g at)
+    IfOk-quotient c.args.r l c.args.numbering.now (laws g at) c.requires.numbering c.sources-sources.result.now (enough g at)
     c.dropped-dropped.result (drops g at) es exactly c.in_ok-triples.ensures.once c.in_ok-labels.labels (c.in_ok-labels.ensures ∙ c.labels-2.ensures)
     c.build.result built.first built.states built.labels built.places built.grouping
 

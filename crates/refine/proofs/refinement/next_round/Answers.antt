@@ -16,7 +16,7 @@ pub returns-clause-next : goal.returns-clause-next
 returns-clause-next g c =
     let l = c.args.l.now in
     let p = c.args.p.now in
-    let list = list_of c.sign.new.self.lists c.sign.new.self.numbers.items in
+    let list = list_of c.sign.new.self.lists c.sign.new.self.numbers in
     let put = subst (λ alone. ArePut g.S.Sense.relation l p c.args.low alone list) c.deref.ensures.value c.in_ok-sign.ensures.signed in
     IfOk-weaker c.split.result _ _
     (λ q splits. IsNext-from g.S.Sense.relation l c.known.ensures.system (λ s a t. c.rows_are_steps.ensures.numbered l s a t c.known.ensures) p c.args.count

@@ -24,7 +24,6 @@ loop-blocks-init g c =
       blocks = c.in_ok-blocks.ensures.blocks;
       settled = settled_first g.S.Sense.relation A (slice_index blocks);
       marks = c.requires.marks;
-      lists = c.requires.lists;
       signatures = c.requires.signatures;
       made = record { rounds = 0; underway = begun; costs = search rules };
     }
@@ -151,7 +150,6 @@ loop-blocks-preserved g c = record {
   blocks = c.in_ok-next.ensures.next.blocks;
   settled = c.in_ok-next.ensures.next.settled;
   marks = c.next_round.ensures.marks ∙ c.loop-blocks.invariant.marks;
-  lists = c.next_round.ensures.lists;
   signatures = c.next_round.ensures.signatures ∙ c.loop-blocks.invariant.signatures;
   made = made g (goal.at.loop-blocks-preserved g c).Else-next-count;
 }

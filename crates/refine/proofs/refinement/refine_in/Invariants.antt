@@ -1,7 +1,6 @@
 use Rattle.std.proofs.Common.{◌≡◌, ◌-◌, length, slice_index}
 use Rattle.lts.specs.Lts.{system_of}
 use Rattle.partition.specs.Partition.{AreBlocks}
-use Rattle.refine.specs.EachList.{AreListsOfStates}
 use Rattle.refine.specs.Settled.{Settled}
 use Rattle.refine.specs.Rounds.{Made}
 use Rattle.refine.proofs.refinement.refine_in.Given as goal
@@ -12,8 +11,7 @@ invariant-loop-blocks g l = record {
   blocks : AreBlocks l.blocks.items l.count;
   settled : Settled g.S.Sense.relation (system_of l.l) (slice_index l.blocks.items) l.low;
   marks : l.marks ≡ l.l.states;
-  lists : AreListsOfStates l.signatures.lists l.signatures.numbers.items;
-  signatures : length l.signatures.numbers.items ≡ l.l.states;
+  signatures : length l.signatures.numbers ≡ l.l.states;
   made : Made g.S.Sense.relation l.l (g.M.Meter.counted l.initial.m) (g.M.Meter.counted l.m) l.blocks.items;
 }
 

@@ -37,7 +37,7 @@ module _ (g : Over) (c : After-index-root g) where
         ap (λ k. take (k - 1) W.frames) n ∙ ap (λ w. take (vec_len c.self.inside.frames - 1) w.frames) (sym c.self.view_is) ∙ sym rest
 
     left : popped W ≡ record {
-      marks = c.self.inside.marks.items;
+      stages = c.self.inside.stages.items;
       stack = c.self.inside.stack.items;
       frames = frames;
       roots = c.self.inside.roots.items;

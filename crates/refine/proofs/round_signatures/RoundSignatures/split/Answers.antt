@@ -1,15 +1,19 @@
-use Rattle.std.proofs.Common.{slice_index, subst}
+use Rattle.std.proofs.Common.{◌∙◌, IfOk, length, slice_index, ap, sym, subst}
 use Rattle.std.proofs.lemmas.Result.{IfOk-weaker}
 use Rattle.partition.specs.Splitting.{Splits}
+use Rattle.refine.specs.EachList.{list_of}
 use Rattle.refine.proofs.EachList.{Splits-lists}
 use Rattle.refine.proofs.round_signatures.RoundSignatures.split.Goals as goal
 
 pub returns : goal.returns
 returns c =
     let old = c.args.p.now in
-    let lists = c.args.self.now.lists in
-    let numbers = c.args.self.now.numbers.items in
-    IfOk-weaker c.split.result _ _
-    (λ q splits. Splits-lists lists numbers old c.args.count q.of.items q.count c.known.ensures c.requires.numbered.each c.requires.states
+    let lists = c.self.inside.lists in
+    let numbers = c.self.inside.numbers.items in
+    let is = c.self.view_is in
+    subst (λ r. IfOk c.split.result (λ q. Splits old c.args.count (list_of r.lists r.numbers) q.of.items q.count)) is
+    (IfOk-weaker c.split.result _ _
+    (λ q splits. Splits-lists lists numbers old c.args.count q.of.items q.count c.known.ensures c.self.invariant.each
+    (c.requires.states ∙ sym (ap (λ r. length r.numbers) is))
     (subst (λ ns. Splits old c.args.count (slice_index ns) q.of.items q.count) c.deref.ensures.value splits))
-    c.split.ensures
+    c.split.ensures)

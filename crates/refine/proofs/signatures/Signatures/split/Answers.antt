@@ -16,7 +16,7 @@ split-requires-clause-blocks c =
 pub returns-clause-blocks : goal.returns-clause-blocks
 returns-clause-blocks c =
     let round = c.self.inside.round in
-    let numbers = round.numbers.items in
+    let numbers = round.numbers in
     let whole = c.self.inside.whole in
     let states : length numbers ≡ length c.args.p.now =
     sym (length-map numbers (list_at whole)) ∙ ap length c.self.view_is ∙ sym c.requires.states in
@@ -31,5 +31,5 @@ returns-clause-blocks c =
     c.deref.ensures.value same)
     (λ s h.
     ap (λ g. signature_at g s) (sym c.self.view_is) ∙ signature_at-list whole numbers s (omega (arith, h, states, p))
-    ∙ ap (λ xs. list_of xs numbers s) c.self.invariant.same)))
+    ∙ ap (λ xs. list_of xs numbers s) c.self.invariant)))
     c.renumber.ensures.same

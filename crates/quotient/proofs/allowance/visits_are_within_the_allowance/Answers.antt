@@ -3,7 +3,7 @@ use Rattle.std.proofs.lemmas.Nat.{mul-le}
 use Rattle.theory.specs.declared.relation.Relation.{Relation}
 use Rattle.theory.specs.declared.relation.Relation.TheVariants.{Strong, Branching}
 use Rattle.theory.specs.Quotient.{allowance}
-use Rattle.quotient.proofs.allowance.the_bounds_are_within_the_allowance.Goals as goal
+use Rattle.quotient.proofs.allowance.visits_are_within_the_allowance.Goals as goal
 
 within : (rel : Relation) (n m r visits : ℕ) → 1 ≤ n → visits ≤ (r + 2) * m → visits ≤ allowance rel n m r
 within Strong n m r visits some most = most

@@ -1,4 +1,4 @@
--- Public. What refinement costs, and the bounds that the calls of this crate keep to.
+-- Public. The visits and rounds that refinement costs, and those that the calls of this crate keep to.
 use Rattle.std.specs.Prelude.{ℕ, ◌+◌, ◌*◌, ◌≤◌, length}
 use Rattle.theory.specs.declared.relation.Relation.{Relation}
 use Rattle.theory.specs.Blocks.{Turns}
