@@ -11,7 +11,7 @@ ghost use Rattle.inert.specs.declared.walk.Stage.TheVariants.{Unseen};
 
 use crate::component::list_from;
 use crate::step::read_step;
-use crate::walk::{Item, Stage, Root, Walk};
+use crate::walk::{Item, Root, Stage, Walk};
 use lists::Lists;
 use lts::{Lts, Memory, Meter};
 

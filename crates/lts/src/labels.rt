@@ -25,10 +25,7 @@ pub struct Labels {
 /// Written out, so that labels are dropped by one call and not by one for each part.
 impl Drop for Labels {
     fn drop(self) {
-        let Labels {
-            alloc: _,
-            texts: _,
-        } = self;
+        let Labels { alloc: _, texts: _ } = self;
     }
 }
 

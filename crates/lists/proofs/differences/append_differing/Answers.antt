@@ -20,6 +20,6 @@ pub returns-in-Some-find : goal.returns-in-Some-find
 returns-in-Some-find c =
     let lists = c.args.lists.now in
     weaker c.append_new.result (λ new z.
-        differing_lacks (list_at lists c.args.j) (list_at lists c.args.k) (list_at lists c.in-Some.last) c.of.result.now c.args.pairs.now.items
-        c.append_new.new.out.items z (c.in-Some.ensures.part z)
-        (rw c.of.ensures.list ((found (goal.at.returns-in-Some-find c).In-Some-find).exactly z)) (new z)) c.append_new.ensures
+    differing_lacks (list_at lists c.args.j) (list_at lists c.args.k) (list_at lists c.in-Some.last) c.of.result.now c.args.pairs.now.items
+    c.append_new.new.out.items z (c.in-Some.ensures.part z)
+    (rw c.of.ensures.list ((found (goal.at.returns-in-Some-find c).In-Some-find).exactly z)) (new z)) c.append_new.ensures

@@ -16,9 +16,9 @@ returns-then-not-touched-clause-put g c =
     inr (
       c.known-2.ensures.first,
       inl (row_still l c.args.p.now c.args.s c.known.ensures (c.rows_are_steps.ensures.sources c.args.s l.places)
-      (c.rows_are_steps.ensures.steps l c.args.s) c.args.low
-      (subst (λ xs. HasFrom c.args.low xs → ⊥) c.in_ok-touched.ensures.pairs
-      (iff_false c.in_ok-touched.ensures.touched c.if-not-touched.true))),
+          (c.rows_are_steps.ensures.steps l c.args.s) c.args.low
+          (subst (λ xs. HasFrom c.args.low xs → ⊥) c.in_ok-touched.ensures.pairs
+          (iff_false c.in_ok-touched.ensures.touched c.if-not-touched.true))),
     )
 
 pub returns-clause-put : goal.returns-clause-put
