@@ -22,10 +22,10 @@ pub opened_three : (old one two three : Option (List Name)) (first second a b : 
 opened_three old one two three first second a b more e f x y z =
     opens_then old two three (first ∷ second ∷ []) more (opened_two old one two first second a b e f x y) z
 
-hides_kept : (h h' : Name → Option (List ℕ)) (name : Option Name) (H : List (List ℕ)) → ((n : Name) → h n ≡ h' n)
+hides_same : (h h' : Name → Option (List ℕ)) (name : Option Name) (H : List (List ℕ)) → ((n : Name) → h n ≡ h' n)
     → HidesNamed h name H → HidesNamed h' name H
-hides_kept h h' None H same is = is
-hides_kept h h' (Some n) H same is = subst (λ o. IfSome o (λ list. HidesAs list H)) (same n) is
+hides_same h h' None H same is = is
+hides_same h h' (Some n) H same is = subst (λ o. IfSome o (λ list. HidesAs list H)) (same n) is
 
 named_told : (asked : Request) (told told' rest rest' old new : Option (List ℕ)) (same : Bool)
     → IfSome told (λ t. rest ≡ Some t) → IfSome told' (λ t. rest' ≡ Some t)
@@ -43,11 +43,11 @@ pub compares_files : (h0 h1 h2 : Name → Option (List ℕ)) (rel : Relation) (h
     → IfSome (h0 a) (λ t. rest ≡ Some t) → IfSome (h1 b) (λ t. rest' ≡ Some t) → HidesNamed h2 hide H
     → ComparesNamed (asks rel bounds H) rest rest' old new same
     → OfRequest h0 rel hide (λ asked. ComparesNamed asked (h0 first) (h0 second) old new same)
-compares_files h0 h1 h2 rel hide first second a b bounds H rest rest' old new same e f g kept kept' one other hides compared = (
+compares_files h0 h1 h2 rel hide first second a b bounds H rest rest' old new same e f g others others' one other hides compared = (
   H,
-  hides_kept h2 h0 hide H (λ n. kept' n ∙ kept n) hides,
+  hides_same h2 h0 hide H (λ n. others' n ∙ others n) hides,
   named_told (asks rel file_bounds H) (h0 first) (h0 second) rest rest' old new same
       (subst (λ x. IfSome (h0 x) (λ t. rest ≡ Some t)) e one)
-      (subst (λ x. IfSome (h0 x) (λ t. rest' ≡ Some t)) f (subst (λ o. IfSome o (λ t. rest' ≡ Some t)) (kept b) other))
+      (subst (λ x. IfSome (h0 x) (λ t. rest' ≡ Some t)) f (subst (λ o. IfSome o (λ t. rest' ≡ Some t)) (others b) other))
       (subst (λ z. ComparesNamed (asks rel z H) rest rest' old new same) g compared),
 )

@@ -30,7 +30,7 @@ pub trait Opener {
             IfOk result (λ file. Self.File.rest file ≡ Some text)) }
         ensures opened { Opens (opened self.old) (opened self.new) (name.now ∷ []) }
         ensures refused { NotesRefusal (has_refused self.old) (has_refused self.new) result }
-        ensures kept { (other : Name) → holds self.new other ≡ holds self.old other };
+        ensures others { (other : Name) → holds self.new other ≡ holds self.old other };
 }
 
 /// The files of a runtime. They tell neither names nor bytes, but whether one could not be opened.

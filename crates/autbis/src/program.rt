@@ -29,7 +29,7 @@ pub fn open<F: Opener, E: Write>(files: &mut F, name: &str, e: &mut E) -> Result
     ensures status { IfErr result (λ status. status ≡ 5) }
     ensures opened { Opens (F.opened files.old) (F.opened files.new) (name.now ∷ []) }
     ensures refused { NotesRefusal (F.has_refused files.old) (F.has_refused files.new) result }
-    ensures kept { (other : Name) → F.holds files.new other ≡ F.holds files.old other }
+    ensures others { (other : Name) → F.holds files.new other ≡ F.holds files.old other }
 {
     match files.open(name) {
         Ok(file) => Ok(file),

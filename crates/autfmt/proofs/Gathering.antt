@@ -15,15 +15,15 @@ use Rattle.autfmt.specs.declared.cutter.TheConstants.{PIECE}
 use Rattle.autfmt.specs.declared.line.TheConstants.{LONGEST_LINE}
 
 -- more of a line
-pub IsPart-append : (kept bytes : List ℕ) → IsPart kept → IsOneLine bytes → length kept + length bytes ≤ LONGEST_LINE → IsPart (kept ++ bytes)
-IsPart-append kept bytes part one fits =
-    (All-append IsNoFeed kept bytes part.0 one, omega (arith, length-append kept bytes))
+pub IsPart-append : (buffer bytes : List ℕ) → IsPart buffer → IsOneLine bytes → length buffer + length bytes ≤ LONGEST_LINE → IsPart (buffer ++ bytes)
+IsPart-append buffer bytes part one fits =
+    (All-append IsNoFeed buffer bytes part.0 one, omega (arith, length-append buffer bytes))
 
 -- bytes got behind those got before
 pub got_more :
-    (a b c : Option (List ℕ)) (old bs kept bytes : List ℕ) → Consumes a b bs → kept ≡ old ++ bs → Consumes b c bytes →
-    (x : List ℕ) × Consumes a c x × (old ++ x ≡ kept ++ bytes)
-got_more a b c old bs kept bytes first e second = (
+    (a b c : Option (List ℕ)) (old bs buffer bytes : List ℕ) → Consumes a b bs → buffer ≡ old ++ bs → Consumes b c bytes →
+    (x : List ℕ) × Consumes a c x × (old ++ x ≡ buffer ++ bytes)
+got_more a b c old bs buffer bytes first e second = (
   bs ++ bytes,
   Consumes-trans a b c bs bytes first second,
   sym (append_assoc old bs bytes) ∙ ap (λ (t : List ℕ). t ++ bytes) (sym e),
@@ -31,13 +31,13 @@ got_more a b c old bs kept bytes first e second = (
 
 -- a line feed was found in the piece
 pub feed_found :
-    (a b c : Option (List ℕ)) (old bs kept buf bytes front kept' : List ℕ) (n at : ℕ) →
-    Consumes a b bs → kept ≡ old ++ bs → IsPart kept → Consumes b c (take n buf) → n ≤ length buf → bytes ≡ take n buf →
+    (a b c : Option (List ℕ)) (old bs buffer buf bytes front buffer' : List ℕ) (n at : ℕ) →
+    Consumes a b bs → buffer ≡ old ++ bs → IsPart buffer → Consumes b c (take n buf) → n ≤ length buf → bytes ≡ take n buf →
     at < length bytes → IsOneLine (take at bytes) → drop at bytes ≡ 10 ∷ drop (at + 1) bytes → front ≡ take at bytes →
-    length kept + length front ≤ LONGEST_LINE → kept' ≡ kept ++ front →
-    (x : List ℕ) × Consumes a c x × FoundIn (old ++ x) (Feed at n) kept' buf
-feed_found a b c old bs kept buf bytes front kept' n at first e part second within same below one feed cut fits now =
-    let more = got_more a b c old bs kept (take n buf) first e second in
+    length buffer + length front ≤ LONGEST_LINE → buffer' ≡ buffer ++ front →
+    (x : List ℕ) × Consumes a c x × FoundIn (old ++ x) (Feed at n) buffer' buf
+feed_found a b c old bs buffer buf bytes front buffer' n at first e part second within same below one feed cut fits now =
+    let more = got_more a b c old bs buffer (take n buf) first e second in
     let size : length bytes ≡ n = ap length same ∙ length-take-le n buf within in
     let behind : drop (at + 1) bytes ≡ slice_range buf (at + 1) n =
     ap (λ (t : List ℕ). drop (at + 1) t) same ∙ sym (between_is buf (at + 1) n) in
@@ -45,40 +45,40 @@ feed_found a b c old bs kept buf bytes front kept' n at first e part second with
     sym same ∙ sym (take-append-drop at bytes)
     ∙ ap (λ (t : List ℕ). take at bytes ++ t) (feed ∙ ap (λ (t : List ℕ). 10 ∷ t) behind)
     ∙ ap (λ (t : List ℕ). t ++ 10 ∷ slice_range buf (at + 1) n) (sym cut) in
-    let whole : old ++ more.0 ≡ kept' ++ 10 ∷ slice_range buf (at + 1) n =
-    more.2 ∙ ap (λ (t : List ℕ). kept ++ t) split ∙ sym (append_assoc kept front (10 ∷ slice_range buf (at + 1) n))
+    let whole : old ++ more.0 ≡ buffer' ++ 10 ∷ slice_range buf (at + 1) n =
+    more.2 ∙ ap (λ (t : List ℕ). buffer ++ t) split ∙ sym (append_assoc buffer front (10 ∷ slice_range buf (at + 1) n))
     ∙ ap (λ (t : List ℕ). t ++ 10 ∷ slice_range buf (at + 1) n) (sym now) in
-    let all : IsPart (kept ++ front) =
-    IsPart-append kept front part (subst (λ (t : List ℕ). IsOneLine t) (sym cut) one) fits in
+    let all : IsPart (buffer ++ front) =
+    IsPart-append buffer front part (subst (λ (t : List ℕ). IsOneLine t) (sym cut) one) fits in
     (more.0, more.1, (subst (λ (t : List ℕ). IsPart t) (sym now) all, omega arith, within, whole))
 
 -- the line is too long
 pub too_long :
-    (a b c : Option (List ℕ)) (old bs kept bytes front tail : List ℕ) →
-    Consumes a b bs → kept ≡ old ++ bs → IsPart kept → Consumes b c bytes → bytes ≡ front ++ tail → IsOneLine front →
-    (length kept + length front ≤ LONGEST_LINE → ⊥) → (x : List ℕ) × Consumes a c x × BeginsTooLong (old ++ x)
-too_long a b c old bs kept bytes front tail first e part second split one big =
-    let more = got_more a b c old bs kept bytes first e second in (
+    (a b c : Option (List ℕ)) (old bs buffer bytes front tail : List ℕ) →
+    Consumes a b bs → buffer ≡ old ++ bs → IsPart buffer → Consumes b c bytes → bytes ≡ front ++ tail → IsOneLine front →
+    (length buffer + length front ≤ LONGEST_LINE → ⊥) → (x : List ℕ) × Consumes a c x × BeginsTooLong (old ++ x)
+too_long a b c old bs buffer bytes front tail first e part second split one big =
+    let more = got_more a b c old bs buffer bytes first e second in (
       more.0,
       more.1,
       (
-        kept ++ front,
+        buffer ++ front,
         tail,
-        All-append IsNoFeed kept front part.0 one,
-        omega (arith, length-append kept front, big),
-        more.2 ∙ ap (λ (t : List ℕ). kept ++ t) split ∙ sym (append_assoc kept front tail),
+        All-append IsNoFeed buffer front part.0 one,
+        omega (arith, length-append buffer front, big),
+        more.2 ∙ ap (λ (t : List ℕ). buffer ++ t) split ∙ sym (append_assoc buffer front tail),
       ),
     )
 
 -- the line goes on
 pub line_goes_on :
-    (a b c : Option (List ℕ)) (old bs kept bytes kept' : List ℕ) →
-    Consumes a b bs → kept ≡ old ++ bs → Consumes b c bytes → kept' ≡ kept ++ bytes →
-    (x : List ℕ) × Consumes a c x × (kept' ≡ old ++ x)
-line_goes_on a b c old bs kept bytes kept' first e second now =
-    let more = got_more a b c old bs kept bytes first e second in (more.0, more.1, now ∙ sym more.2)
+    (a b c : Option (List ℕ)) (old bs buffer bytes buffer' : List ℕ) →
+    Consumes a b bs → buffer ≡ old ++ bs → Consumes b c bytes → buffer' ≡ buffer ++ bytes →
+    (x : List ℕ) × Consumes a c x × (buffer' ≡ old ++ x)
+line_goes_on a b c old bs buffer bytes buffer' first e second now =
+    let more = got_more a b c old bs buffer bytes first e second in (more.0, more.1, now ∙ sym more.2)
 
--- the bytes of a slice up to a place in it
+-- the bytes of a slice up to an index
 slice_to :
     (piece : List ℕ) (from to at : ℕ) → at ≤ to - from →
     slice_range piece from (from + at) ≡ take at (slice_range piece from to)
@@ -86,7 +86,7 @@ slice_to piece from to at below =
     ap (λ (m : ℕ). take m (drop from piece)) (let e : from + at - from ≡ at = omega arith in e)
     ∙ sym (take-take at (to - from) (drop from piece) below)
 
--- the bytes of a slice behind a place in it
+-- the bytes of a slice behind an index
 slice_behind :
     (piece : List ℕ) (from to at : ℕ) → at < to - from → from ≤ to →
     drop (at + 1) (slice_range piece from to) ≡ slice_range piece (from + (at + 1)) to
@@ -96,7 +96,7 @@ slice_behind piece from to at below ordered =
     ∙ drop-take (at + 1) (to - (from + (at + 1))) (drop from piece)
     ∙ ap (λ (t : List ℕ). take (to - (from + (at + 1))) t) (drop-drop (at + 1) from piece)
 
--- what is cut off by a line feed at a place of what is ahead in the piece
+-- what is cut off by a line feed at an index of what is ahead in the piece
 abbrev pub cut_at : List ℕ → ℕ → ℕ → ℕ → Bool → Cutting
 cut_at piece from to at over =
     record { line = slice_range piece from (from + at); ahead = slice_range piece (from + (at + 1)) to; over = over }

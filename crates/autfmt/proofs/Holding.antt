@@ -81,7 +81,7 @@ pub Holds-add :
 Holds-add H n old now es e held among added =
     let triple : Triple = (e.source, added.number, e.target) in
     let made : List ℕ → Transition = λ a. record { source = e.source; label = a; target = e.target } in
-    let kept =
+    let still =
     kept_transitions n old.labels now.labels old.triples.items added.keeps held.among in
     let all = kept_triples n old.labels now.labels old.triples.items added.keeps held.among in
     let few = held.few_labels in
@@ -90,7 +90,7 @@ Holds-add H n old now es e held among added =
       hidden =
           ap (map (transition_of now.labels)) added.items
           ∙ map_push (transition_of now.labels) old.triples.items triple
-          ∙ ap (λ (t : List Transition). t ++ transition_of now.labels triple ∷ []) (kept ∙ held.hidden)
+          ∙ ap (λ (t : List Transition). t ++ transition_of now.labels triple ∷ []) (still ∙ held.hidden)
           ∙ ap (λ (a : List ℕ). map (hidden_transition H) es ++ made a ∷ []) added.numbered.text
           ∙ sym (map_push (hidden_transition H) es e);
       among =

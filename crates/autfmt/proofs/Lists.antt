@@ -15,7 +15,7 @@ front_more front rest all n is =
     ∙ sym (append_assoc front (take n rest) (drop n rest))
     ∙ ap (λ l. front ++ take n rest ++ l) (sym (rest_of n rest))
 
--- a run was put at a place, and of it the first n elements count
+-- a run was put at an index, and of it the first n elements count
 pub begins_with : {A : Type 0} → (at n : ℕ) (run old new : List A) → at ≤ length old → n ≤ length run →
     take (at + length run) new ≡ take at old ++ run → take (at + n) new ≡ take at old ++ take n run
 begins_with at n run old new room short is =

@@ -92,16 +92,16 @@ plain_of_entry entries flags r d h is =
     ap (λ l. get_or l r false) is ∙ get_or-map is_plain (texts entries) r [] false within ∙ ap is_plain (sym (label_at entries r d h))
 
 -- after one more line
-pub line_waits : {old mid new : Option (List ℕ)} {waiting kept : List ℕ} (first states : ℕ) (entries : List Entry) (order : List Triple) (i : ℕ) (d : Triple) (none : Entry) → i < length order → label_of (get_or order i d) < length entries
-    → Progress old mid waiting (lines_to first states entries order i) → Progress mid new kept waiting
-    → (now : List ℕ) → now ≡ kept ++ written_transition (record { source = source_of (get_or order i d); label = (get_or entries (label_of (get_or order i d)) none).0.now; target = target_of (get_or order i d) })
+pub line_waits : {old mid new : Option (List ℕ)} {waiting earlier : List ℕ} (first states : ℕ) (entries : List Entry) (order : List Triple) (i : ℕ) (d : Triple) (none : Entry) → i < length order → label_of (get_or order i d) < length entries
+    → Progress old mid waiting (lines_to first states entries order i) → Progress mid new earlier waiting
+    → (now : List ℕ) → now ≡ earlier ++ written_transition (record { source = source_of (get_or order i d); label = (get_or entries (label_of (get_or order i d)) none).0.now; target = target_of (get_or order i d) })
     → Progress old new now (lines_to first states entries order (i + 1))
-line_waits {old} {mid} {new} {waiting} {kept} first states entries order i d none h low p q now is =
+line_waits {old} {mid} {new} {waiting} {earlier} first states entries order i d none h low p q now is =
     let e = get_or order i d in
     let line = ap (λ a. written_transition (record { source = source_of e; label = a; target = target_of e })) (label_at entries (label_of e) none low) in
     let lines = one_line_more first states entries order i d h in
     subst (Progress old new now) (sym lines)
-    (subst (λ l. Progress old new l (lines_to first states entries order i ++ written_transition (transition_of (texts entries) e))) (sym (is ∙ ap (λ l. kept ++ l) line))
+    (subst (λ l. Progress old new l (lines_to first states entries order i ++ written_transition (transition_of (texts entries) e))) (sym (is ∙ ap (λ l. earlier ++ l) line))
     (waits_too (written_transition (transition_of (texts entries) e)) (goes_on p q)))
 
 -- a beginning of the text of A was appended

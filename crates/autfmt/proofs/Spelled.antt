@@ -18,18 +18,18 @@ target_of_line t start bytes rest long is =
     let len : 12 - start ≡ length (decimal t) + 2 = omega (arith, long) in
     ap₂ (λ n l. take n l) len is ∙ take-append-add (decimal t) (codes ")\n" ++ rest) 2
 
--- all their room was put at a place, and they count
-pub target_put : (place t start n to : ℕ) (bytes rest old new : List ℕ) → n ≡ 12 → start + length (decimal t) ≡ 10 → length bytes ≡ 22 → place ≤ length old
-    → drop start bytes ≡ decimal t ++ (codes ")\n" ++ rest) → to ≡ place + length (take n (drop start bytes)) → take to new ≡ take place old ++ take n (drop start bytes)
-    → take (place + 12 - start) new ≡ take place old ++ decimal t ++ codes ")\n"
-target_put place t start n to bytes rest old new twelve long size room is end put =
+-- all their room was put at an index, and they count
+pub target_put : (from t start n to : ℕ) (bytes rest old new : List ℕ) → n ≡ 12 → start + length (decimal t) ≡ 10 → length bytes ≡ 22 → from ≤ length old
+    → drop start bytes ≡ decimal t ++ (codes ")\n" ++ rest) → to ≡ from + length (take n (drop start bytes)) → take to new ≡ take from old ++ take n (drop start bytes)
+    → take (from + 12 - start) new ≡ take from old ++ decimal t ++ codes ")\n"
+target_put from t start n to bytes rest old new twelve long size room is end put =
     let run = take n (drop start bytes) in
-    let places : place + 12 - start ≡ place + (12 - start) = omega (arith, long) in
+    let sum : from + 12 - start ≡ from + (12 - start) = omega (arith, long) in
     let short : 12 - start ≤ length run = omega (arith, twelve, long, length-take-le n (drop start bytes) (omega (arith, twelve, long, size, length-drop start bytes))) in
-    ap (λ k. take k new) places
-    ∙ begins_with place (12 - start) run old new room short (ap (λ k. take k new) (sym end) ∙ put)
-    ∙ ap (λ l. take place old ++ l) (take-take (12 - start) n (drop start bytes) (omega (arith, twelve)) ∙ target_of_line t start bytes rest long is)
-    ∙ sym (append_assoc (take place old) (decimal t) (codes ")\n"))
+    ap (λ k. take k new) sum
+    ∙ begins_with from (12 - start) run old new room short (ap (λ k. take k new) (sym end) ∙ put)
+    ∙ ap (λ l. take from old ++ l) (take-take (12 - start) n (drop start bytes) (omega (arith, twelve)) ∙ target_of_line t start bytes rest long is)
+    ∙ sym (append_assoc (take from old) (decimal t) (codes ")\n"))
 
 -- one label more
 pub one_spelled_more : (entries : List Entry) (known grown : List Spelled) (x : Spelled) (i : ℕ) (d : Entry) → i < length entries → length known ≡ i → AreSpelled (texts entries) known

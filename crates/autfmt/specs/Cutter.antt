@@ -11,16 +11,16 @@ pub record Cutting : Type 0 where
   pub ahead : List ℕ
   pub over : Bool
 
--- the line that was cut last: a part of the piece, or what was kept
+-- the line that was cut last: a part of the piece, or what is in the buffer
 abbrev pub cut_line : Option (ℕ × ℕ) → List ℕ → List ℕ → List ℕ
-cut_line None piece kept = kept
-cut_line (Some place) piece kept = slice_range piece place.0 place.1
+cut_line None piece buffer = buffer
+cut_line (Some span) piece buffer = slice_range piece span.0 span.1
 
 -- the next line begins in the piece, the last one lies in it, and at the end of the source the piece is used up
-pub record IsCutter (from to : ℕ) (place : Option (ℕ × ℕ)) (over : Bool) : Type 0 where
+pub record IsCutter (from to : ℕ) (span : Option (ℕ × ℕ)) (over : Bool) : Type 0 where
   pub ordered : from ≤ to
   pub within : to ≤ PIECE
-  pub last : IfSome place (λ p. (p.0 ≤ p.1) × (p.1 ≤ PIECE))
+  pub last : IfSome span (λ p. (p.0 ≤ p.1) × (p.1 ≤ PIECE))
   pub used_up : IsTrue over → from ≡ to
 
 -- the bytes begin with a line that is too long

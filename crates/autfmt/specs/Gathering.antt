@@ -9,14 +9,14 @@ use Rattle.autfmt.specs.Cutter.{Cutting, BeginsTooLong, CutsLine, CutsEnd, IsPar
 
 -- the bytes of the line and of the piece behind it were found, or the line is too long, or it ends with the source
 abbrev pub FoundIn : List ℕ → Found → List ℕ → List ℕ → Type 0
-FoundIn bytes (Feed at to) kept piece =
-    IsPart kept × (at < to) × (to ≤ length piece) × (bytes ≡ kept ++ 10 ∷ slice_range piece (at + 1) to)
-FoundIn bytes Long kept piece = BeginsTooLong bytes
-FoundIn bytes AtEnd kept piece = IsPart kept × (bytes ≡ kept)
+FoundIn bytes (Feed at to) buffer piece =
+    IsPart buffer × (at < to) × (to ≤ length piece) × (bytes ≡ buffer ++ 10 ∷ slice_range piece (at + 1) to)
+FoundIn bytes Long buffer piece = BeginsTooLong bytes
+FoundIn bytes AtEnd buffer piece = IsPart buffer × (bytes ≡ buffer)
 
--- what became of the bytes kept and got
+-- what became of the bytes in the buffer and of those got
 abbrev pub Gathers : {E : Type 0} → List ℕ → Result Found E → List ℕ → List ℕ → Type 0
-Gathers bytes result kept piece = MatchResult result (λ found. FoundIn bytes found kept piece) (λ _. IsPart bytes)
+Gathers bytes result buffer piece = MatchResult result (λ found. FoundIn bytes found buffer piece) (λ _. IsPart bytes)
 
 -- what a step made of the bytes ahead; over says whether the source had come to its end before
 abbrev pub Makes : Bool → List ℕ → Step → Cutting → Type 0

@@ -30,7 +30,7 @@ pub(crate) enum Step {
 /// What the pieces taken came to.
 #[derive(Clone, Copy)]
 pub(crate) enum Found {
-    /// A line feed at the first place of the piece, which holds as many bytes as the second number says.
+    /// A line feed at the first index of the piece, which holds as many bytes as the second number says.
     Feed(usize, usize),
     /// A line of more than 8192 bytes.
     TooLong,
@@ -44,8 +44,8 @@ pub(crate) struct Cutter {
     piece: [u8; PIECE],
     from: usize,
     to: usize,
-    kept: LineBuffer,
-    place: Option<(usize, usize)>,
+    buffer: LineBuffer,
+    span: Option<(usize, usize)>,
     over: bool,
 }
 
@@ -56,9 +56,9 @@ impl Model for Cutter {
 
     ghost Value = { Cutting };
 
-    ghost view = { λ c. record { line = cut_line c.place c.piece c.kept; ahead = slice_range c.piece c.from c.to; over = c.over } };
+    ghost view = { λ c. record { line = cut_line c.span c.piece c.buffer; ahead = slice_range c.piece c.from c.to; over = c.over } };
 
-    ghost invariant = { λ c. IsCutter c.from c.to c.place c.over };
+    ghost invariant = { λ c. IsCutter c.from c.to c.span c.over };
 }
 
 impl Cutter {
@@ -70,8 +70,8 @@ impl Cutter {
             piece: [0; PIECE],
             from: 0,
             to: 0,
-            kept: LineBuffer::new(),
-            place: None,
+            buffer: LineBuffer::new(),
+            span: None,
             over: false,
         }
     }
@@ -80,9 +80,9 @@ impl Cutter {
     pub(crate) fn line(&self) -> &[u8]
         ensures { result.now ≡ self.now.line }
     {
-        match self.place {
+        match self.span {
             Some((start, end)) => &self.piece[start..end],
-            None => self.kept.line(),
+            None => self.buffer.line(),
         }
     }
 
@@ -100,7 +100,7 @@ impl Cutter {
         }
         let ahead = &self.piece[self.from..self.to];
         if let Some(at) = line_feed_in(ahead) {
-            self.place = Some((self.from, self.from + at));
+            self.span = Some((self.from, self.from + at));
             self.from += at + 1;
             return Ok(Step::Line);
         }
@@ -108,15 +108,15 @@ impl Cutter {
             piece,
             from,
             to,
-            kept,
-            place,
+            buffer,
+            span,
             over,
         } = self;
-        kept.clear();
-        let _fits = kept.extend(&piece[*from..*to]);
-        *place = None;
+        buffer.clear();
+        let _fits = buffer.extend(&piece[*from..*to]);
+        *span = None;
         *from = *to;
-        match gather(piece, kept, r)? {
+        match gather(piece, buffer, r)? {
             Found::Feed(at, end) => {
                 *from = at + 1;
                 *to = end;
@@ -126,7 +126,7 @@ impl Cutter {
             Found::End => {}
         }
         *over = true;
-        if kept.line().is_empty() {
+        if buffer.line().is_empty() {
             return Ok(Step::End);
         }
         Ok(Step::Line)
@@ -156,7 +156,7 @@ impl Cutter {
     }
 }
 
-/// The place of the first line feed.
+/// The index of the first line feed.
 fn line_feed_in(bytes: &[u8]) -> Option<usize>
     ensures within { IfSome result (λ at. at < length bytes.now) }
     ensures line { IfSome result (λ at. IsOneLine (take at bytes.now)) }
@@ -166,13 +166,13 @@ fn line_feed_in(bytes: &[u8]) -> Option<usize>
     memchr(b'\n', bytes)
 }
 
-/// Takes pieces up to the end of the line whose beginning is kept.
-fn gather<R: Source>(piece: &mut [u8], kept: &mut LineBuffer, r: &mut R) -> Result<Found, Broken>
+/// Takes pieces up to the end of the line whose beginning is in the buffer.
+fn gather<R: Source>(piece: &mut [u8], buffer: &mut LineBuffer, r: &mut R) -> Result<Found, Broken>
     requires room { length piece.old ≡ PIECE }
-    requires part { IsPart kept.old }
+    requires part { IsPart buffer.old }
     requires sound { R.failures r.old ≡ 0 }
     ensures got { (got : List ℕ) × Consumes (R.rest r.old) (R.rest r.new) got ×
-        Gathers (kept.old ++ got) result kept.new piece.new }
+        Gathers (buffer.old ++ got) result buffer.new piece.new }
     ensures end { result ≡ Ok Found.End → IsAtEnd (R.rest r.new) }
     ensures failures { CountsFailure result (R.failures r.new) }
 {
@@ -184,13 +184,13 @@ fn gather<R: Source>(piece: &mut [u8], kept: &mut LineBuffer, r: &mut R) -> Resu
         let bytes = &piece[..n];
         match line_feed_in(bytes) {
             Some(at) => {
-                if kept.extend(&bytes[..at]) {
+                if buffer.extend(&bytes[..at]) {
                     return Ok(Found::Feed(at, n));
                 }
                 return Ok(Found::TooLong);
             }
             None => {
-                if !kept.extend(bytes) {
+                if !buffer.extend(bytes) {
                     return Ok(Found::TooLong);
                 }
             }

@@ -73,19 +73,19 @@ fn number_of(labels: &mut Labels, guesses: &mut [u32; GUESSES], label: &[u8]) ->
     ensures table { OnOk result (Interns labels.old label.now labels.new) }
     ensures keeps { Keeps labels.old labels.new }
 {
-    let place = guess_place(label);
-    let guess = guesses[place];
+    let slot = guess_slot(label);
+    let guess = guesses[slot];
     if guess < labels.len() && labels.text(guess) == label {
         return Ok(guess);
     }
     let number = labels.intern(label)?;
-    guesses[place] = number;
+    guesses[slot] = number;
     Ok(number)
 }
 
-/// Where the number of a label may be guessed: labels that differ in their last two bytes mostly have places of their
+/// Where the number of a label may be guessed: labels that differ in their last two bytes mostly have slots of their
 /// own.
-fn guess_place(label: &[u8]) -> usize
+fn guess_slot(label: &[u8]) -> usize
     ensures { result < GUESSES }
 {
     match label {

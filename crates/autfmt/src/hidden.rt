@@ -32,7 +32,7 @@ impl Hidden {
         }
     }
 
-    /// Adds a label; one that is already there is kept once.
+    /// Adds a label; one that is already there is not added again.
     ///
     /// # Errors
     /// `Memory` if a growth is refused.

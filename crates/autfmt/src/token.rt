@@ -210,7 +210,7 @@ fn quoted_at(line: &[u8]) -> Option<(&[u8], &[u8])>
     }
 }
 
-/// The place of the last quotation mark.
+/// The index of the last quotation mark.
 fn last_quote(line: &[u8]) -> Option<usize>
     ensures within { IfSome result (λ i. i < length line.now) }
     ensures quote { IfSome result (λ i. slice_index line.now i ≡ 34) }

@@ -14,21 +14,21 @@ abbrev pub entered : ℕ → ℕ → ℕ → Search → Search
 entered s start end w = record {
   stages = slice_set w.stages s (Open (length w.stack));
   stack = w.stack ++ s ∷ [];
-  frames = w.frames ++ record { place = length w.stack; next = start; end = end } ∷ [];
-  roots = w.roots ++ record { place = length w.stack; items = length w.items } ∷ [];
+  frames = w.frames ++ record { height = length w.stack; next = start; end = end } ∷ [];
+  roots = w.roots ++ record { height = length w.stack; items = length w.items } ∷ [];
   items = w.items;
 }
 
 abbrev pub Enters : List Triple → ℕ → Search → Search → Type 0
 Enters places s old new = (start end : ℕ) × IsRow places s start end × (new ≡ entered s start end old)
 
--- of the roots those stay that are up to the place q
+-- of the roots those stay that are up to the height q
 pub record CutsRoots (q : ℕ) (old new : List Root) : Type 0 where
-  pub kept : ℕ
-  pub roots : new ≡ take kept old
-  pub within : kept ≤ length old
-  pub above : (i : ℕ) → kept ≤ i → i < length old → q < (root_at old i).place
-  pub below : 0 < kept → (root_at old (kept - 1)).place ≤ q
+  pub count : ℕ
+  pub roots : new ≡ take count old
+  pub within : count ≤ length old
+  pub above : (i : ℕ) → count ≤ i → i < length old → q < (root_at old i).height
+  pub below : 0 < count → (root_at old (count - 1)).height ≤ q
 
 -- one item more is collected
 abbrev pub with_item : Item → Search → Search
@@ -60,7 +60,7 @@ pub record IsListed (items : List Item) (before after : List (List (ℕ × ℕ))
   pub exactly : (z : ℕ × ℕ) → Contains (list_at after k) z ↔ IsGiven before items z
   pub rising : IsStrictlySortedBy pair_cmp (list_at after k)
 
--- the states on the stack from place f on are finished, and no other stage changes
+-- the states on the stack from height f on are finished, and no other stage changes
 pub record Finishes (stack : List ℕ) (f number : ℕ) (old new : List Stage) : Type 0 where
   pub size : length new ≡ length old
   pub members : (p : ℕ) → f ≤ p → p < length stack → stage_at new (slice_index stack p) ≡ Finished number
@@ -78,8 +78,8 @@ popped w = record w { frames = take (length w.frames - 1) w.frames }
 pub record Closes (root : Root) (before after : List (List (ℕ × ℕ))) (old new : Search) : Type 0 where
   pub number : ℕ
   pub listed : IsListed (drop root.items old.items) before after number
-  pub stages : Finishes old.stack root.place number old.stages new.stages
-  pub stack : new.stack ≡ take root.place old.stack
+  pub stages : Finishes old.stack root.height number old.stages new.stages
+  pub stack : new.stack ≡ take root.height old.stack
   pub frames : new.frames ≡ old.frames
   pub roots : new.roots ≡ take (length old.roots - 1) old.roots
   pub led : 0 < length old.frames → new.items ≡ take root.items old.items ++ Listed number ∷ []

@@ -13,8 +13,8 @@ pub use Rattle.inert.specs.declared.walk.Stage.{Stage}
 pub use Rattle.inert.specs.declared.walk.Stage.TheVariants.{Unseen, Open, Finished}
 pub use Rattle.inert.specs.declared.walk.Frame.{Frame}
 pub use Rattle.inert.specs.declared.walk.Root.{Root}
-pub use Rattle.inert.specs.declared.walk.Item.{Item}
-pub use Rattle.inert.specs.declared.walk.Item.TheVariants.{Pair, Listed}
+pub use Rattle.inert.specs.declared.item.Item.{Item}
+pub use Rattle.inert.specs.declared.item.Item.TheVariants.{Pair, Listed}
 
 -- what a walk knows, where it is, and what it has collected
 pub record Search : Type 0 where
@@ -42,9 +42,9 @@ pub record IsReady (states : ℕ) (w : Search) : Type 0 where
   pub idle : IsIdle w
   pub size : length w.stages ≡ states
 
--- the frame number i, the last one, and the place of the state where the walk is
+-- the frame number i, the last one, and the height of the state where the walk is
 abbrev pub no_frame : Frame
-no_frame = record { place = 0; next = 0; end = 0 }
+no_frame = record { height = 0; next = 0; end = 0 }
 
 abbrev pub frame_at : List Frame → ℕ → Frame
 frame_at frames i = slice_index_or frames i no_frame
@@ -53,11 +53,11 @@ abbrev pub top : List Frame → Frame
 top frames = frame_at frames (length frames - 1)
 
 abbrev pub here : Search → ℕ
-here w = (top w.frames).place
+here w = (top w.frames).height
 
 -- the root number i, and the last one
 abbrev pub no_root : Root
-no_root = record { place = 0; items = 0 }
+no_root = record { height = 0; items = 0 }
 
 abbrev pub root_at : List Root → ℕ → Root
 root_at roots i = slice_index_or roots i no_root
@@ -81,24 +81,24 @@ pub record Laws : Type 0 where
 abbrev pub Ties : Grouped → List ℕ → ℕ → ℕ → Type 0
 Ties l blocks s t = Leads (Inert (system_of l) (slice_index blocks)) s t
 
--- the component of place p is that of place q, or an earlier one
+-- the component at height p is that at height q, or an earlier one
 abbrev pub IsUpTo : List Root → ℕ → ℕ → Type 0
-IsUpTo roots p q = All (λ r. r.place ≤ p → r.place ≤ q) roots
+IsUpTo roots p q = All (λ r. r.height ≤ p → r.height ≤ q) roots
 
--- the item number j is of the component of place p
+-- the item number j is of the component at height p
 abbrev pub IsOf : List Root → ℕ → ℕ → Type 0
-IsOf roots j p = All (λ r. (r.place ≤ p → r.items ≤ j) × (p < r.place → j < r.items)) roots
+IsOf roots j p = All (λ r. (r.height ≤ p → r.items ≤ j) × (p < r.height → j < r.items)) roots
 
 -- an item gives the pair z
 abbrev pub Gives : List (List (ℕ × ℕ)) → Item → ℕ × ℕ → Type 0
 Gives lists (Pair a b) z = (a, b) ≡ z
 Gives lists (Listed k) z = Contains (list_at lists k) z
 
--- some item of the component of place p gives the pair z
+-- some item of the component at height p gives the pair z
 abbrev pub HoldsPair : List (List (ℕ × ℕ)) → Search → ℕ → ℕ × ℕ → Type 0
 HoldsPair lists w p z = (j : ℕ) × (j < length w.items) × Gives lists (item_at w.items j) z × IsOf w.roots j p
 
--- each state on the stack is open at its place, and no other state is
+-- each state on the stack is open at its height, and no other state is
 pub record AreOpen (stages : List Stage) (stack : List ℕ) : Type 0 where
   pub placed : (p : ℕ) → p < length stack → stage_at stages (slice_index stack p) ≡ Open p
   pub only : (s p : ℕ) → stage_at stages s ≡ Open p → (p < length stack) × (slice_index stack p ≡ s)
@@ -120,30 +120,30 @@ HasItsList blocks alone stages s k = (IsKnownAlone blocks alone s × (k ≡ 0))
 
 -- one component begins before another one, and so do its items
 abbrev pub IsBefore : Root → Root → Type 0
-IsBefore x y = (x.place < y.place) × (x.items ≤ y.items)
+IsBefore x y = (x.height < y.height) × (x.items ≤ y.items)
 
 -- a component begins where some frame is, and its items are there
 pub record IsRoot (frames : List Frame) (items : List Item) (r : Root) : Type 0 where
-  pub framed : (i : ℕ) × (i < length frames) × ((frame_at frames i).place ≡ r.place)
+  pub framed : (i : ℕ) × (i < length frames) × ((frame_at frames i).height ≡ r.height)
   pub within : r.items ≤ length items
 
 -- components begin from the bottom of the stack on (not all begin above it), their items in the same order
 pub record AreRoots (w : Search) : Type 0 where
-  pub first : 0 < length w.stack → ¬ All (λ r. 0 < r.place) w.roots
+  pub first : 0 < length w.stack → ¬ All (λ r. 0 < r.height) w.roots
   pub rising : AllPairs IsBefore w.roots
   pub each : All (IsRoot w.frames w.items) w.roots
 
 -- a frame is of a state on the stack, and has the rest of its row
 pub record IsFrame (l : Grouped) (stack : List ℕ) (x : Frame) : Type 0 where
-  pub on_stack : x.place < length stack
+  pub on_stack : x.height < length stack
   pub start : ℕ
-  pub row : IsRow l.places (slice_index stack x.place) start x.end
+  pub row : IsRow l.places (slice_index stack x.height) start x.end
   pub first : start ≤ x.next
   pub most : x.next ≤ x.end
 
 -- frames are of rising places
 pub record AreFrames (l : Grouped) (stack : List ℕ) (frames : List Frame) : Type 0 where
-  pub rising : AllPairs (λ x y. x.place < y.place) frames
+  pub rising : AllPairs (λ x y. x.height < y.height) frames
   pub each : All (IsFrame l stack) frames
 
 -- inert steps lead from each state on the stack to those of its component and of later ones
@@ -166,28 +166,28 @@ IsThere lists x = (k : ℕ) → x ≡ Listed k → k < length lists
 abbrev pub AreThere : List (List (ℕ × ℕ)) → List Item → Type 0
 AreThere lists = All (IsThere lists)
 
--- the transition in place k of the state at place p is still to be read
+-- the transition in place k of the state at height p is still to be read
 abbrev pub IsAhead : Search → ℕ → ℕ → Type 0
-IsAhead w p k = (i : ℕ) × (i < length w.frames) × ((frame_at w.frames i).place ≡ p) × ((frame_at w.frames i).next ≤ k)
+IsAhead w p k = (i : ℕ) × (i < length w.frames) × ((frame_at w.frames i).height ≡ p) × ((frame_at w.frames i).next ≤ k)
 
--- the state t is in the component of place p
+-- the state t is in the component at height p
 abbrev pub IsHere : Search → ℕ → ℕ → Type 0
 IsHere w p t = (q : ℕ) × (stage_at w.stages t ≡ Open q) × IsUpTo w.roots p q × IsUpTo w.roots q p
 
--- the state t is finished, and the component of place p holds all its pairs
+-- the state t is finished, and the component at height p holds all its pairs
 abbrev pub IsHeld : List (List (ℕ × ℕ)) → Search → ℕ → ℕ → Type 0
 IsHeld lists w p t = (k : ℕ) × (stage_at w.stages t ≡ Finished k) × ((z : ℕ × ℕ) → Contains (list_at lists k) z → HoldsPair lists w p z)
 
--- the walk went from place p to the state t, and has not come back
+-- the walk went from height p to the state t, and has not come back
 abbrev pub IsEntered : Search → ℕ → ℕ → Type 0
-IsEntered w p t = (i : ℕ) × (i + 1 < length w.frames) × ((frame_at w.frames i).place ≡ p)
-    × (slice_index w.stack (frame_at w.frames (i + 1)).place ≡ t)
+IsEntered w p t = (i : ℕ) × (i + 1 < length w.frames) × ((frame_at w.frames i).height ≡ p)
+    × (slice_index w.stack (frame_at w.frames (i + 1)).height ≡ t)
 
--- an inert step from place p to the state t was followed
+-- an inert step from height p to the state t was followed
 abbrev pub IsFollowed : List (List (ℕ × ℕ)) → Search → ℕ → ℕ → Type 0
 IsFollowed lists w p t = IsHere w p t ⊎ IsHeld lists w p t ⊎ IsEntered w p t
 
--- a transition of the state at place p was taken into account
+-- a transition of the state at height p was taken into account
 pub record Accounted (l : Grouped) (blocks : List ℕ) (lists : List (List (ℕ × ℕ))) (w : Search) (p : ℕ) (e : Triple) : Type 0 where
   pub shown : ¬ IsInert l blocks (slice_index blocks (source_of e)) e → HoldsPair lists w p (pair_under blocks e)
   pub followed : IsInert l blocks (slice_index blocks (source_of e)) e → IsFollowed lists w p (target_of e)

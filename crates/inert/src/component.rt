@@ -5,7 +5,7 @@ ghost use Rattle.lists.specs.declared.lists.TheConstants.{MOST_LISTS};
 ghost use Rattle.inert.specs.Search.{AreThere};
 ghost use Rattle.inert.specs.Moves.{IsListed, AreCollected};
 
-use crate::walk::Item;
+use crate::item::{CompactItem, Item};
 use lists::{Lists, order};
 use lts::Memory;
 
@@ -13,7 +13,7 @@ use lts::Memory;
 ///
 /// Fails if there is no memory for it.
 pub(crate) fn list_from(
-    items: &[Item],
+    items: &[CompactItem],
     lists: &mut Lists,
     numbers: &mut Vec<u32>,
     pairs: &mut Vec<(u32, u32)>,
@@ -34,7 +34,7 @@ pub(crate) fn list_from(
 ///
 /// Fails if there is no memory for them.
 fn collect(
-    items: &[Item],
+    items: &[CompactItem],
     numbers: &mut Vec<u32>,
     pairs: &mut Vec<(u32, u32)>,
 ) -> Result<(), Memory>
@@ -43,7 +43,7 @@ fn collect(
     numbers.clear();
     pairs.clear();
     for item in items {
-        match *item {
+        match item.item() {
             Item::Pair(label, block) => pairs.push((label, block))?,
             Item::Listed(list) => numbers.push(list)?,
         }

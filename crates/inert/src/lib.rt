@@ -23,9 +23,10 @@
 #![tactic(auto)]
 
 mod component;
+mod item;
 mod reading;
 mod signer;
 mod step;
 mod walk;
 
-pub use signer::Signer;
+pub use signer::{Signer, is_alone};

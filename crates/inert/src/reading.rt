@@ -10,8 +10,9 @@ ghost use Rattle.inert.specs.Ahead.{unread, HasSeen};
 ghost use Rattle.inert.specs.declared.walk.Stage.TheVariants.{Unseen};
 
 use crate::component::list_from;
+use crate::item::{CompactItem, Item};
 use crate::step::read_step;
-use crate::walk::{Item, Root, Stage, Walk};
+use crate::walk::{Root, Stage, Walk};
 use lists::Lists;
 use lts::{Lts, Memory, Meter};
 
@@ -75,7 +76,7 @@ impl Walk {
         l.known();
         let last = self.frames.len() - 1;
         let frame = self.frames[last];
-        let block = blocks[self.stack[frame.place as usize] as usize];
+        let block = blocks[self.stack[frame.height as usize] as usize];
         for k in frame.next..frame.end {
             let step = read_step(l, blocks, internal, block, k, m);
             let entered = self.take(l, step)?;
@@ -108,7 +109,7 @@ impl Walk {
         let frame = self.frames[self.frames.len() - 1];
         let root = self.roots[self.roots.len() - 1];
         self.frames.pop();
-        if root.place == frame.place {
+        if root.height == frame.height {
             self.close(root, lists)?;
         }
         Ok(())
@@ -119,7 +120,7 @@ impl Walk {
     /// Fails if there is no memory for it.
     fn close(&mut self, root: Root, lists: &mut Lists) -> Result<(), Memory>
         requires open { AreOpen self.old.stages self.old.stack }
-        requires place { root.place ≤ length self.old.stack }
+        requires height { root.height ≤ length self.old.stack }
         requires items { root.items ≤ length self.old.items }
         requires there { AreThere lists.old self.old.items }
         requires few { length lists.old + (length self.old.items - root.items) + 2 ≤ MOST_LISTS }
@@ -131,18 +132,18 @@ impl Walk {
             &mut self.numbers,
             &mut self.pairs,
         )?;
-        finish_members(&mut self.stages, &self.stack, root.place as usize, list);
-        self.stack.truncate(root.place as usize);
+        finish_members(&mut self.stages, &self.stack, root.height as usize, list);
+        self.stack.truncate(root.height as usize);
         self.roots.pop();
         self.items.truncate(root.items);
         if !self.frames.is_empty() {
-            self.items.push(Item::Listed(list))?;
+            self.items.push(CompactItem::new(Item::Listed(list)))?;
         }
         Ok(())
     }
 }
 
-/// Finishes the states on the stack from the place on, with the list of this number.
+/// Finishes the states on the stack from the height on, with the list of this number.
 fn finish_members(stages: &mut Vec<Stage>, stack: &[u32], from: usize, list: u32)
     requires states { All (λ s. s < length stages.old.items) stack.now }
     requires within { from ≤ length stack.now }

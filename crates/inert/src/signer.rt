@@ -101,6 +101,16 @@ impl Signer {
     }
 }
 
+/// Whether the block is known to be of one state alone: `alone` tells it of each block, and a block past its end is not known.
+pub fn is_alone(alone: &[bool], block: u32) -> bool
+    ensures { result ≡ slice_index_or alone.now block false }
+{
+    match alone.get(block as usize) {
+        Some(alone) => *alone,
+        None => false,
+    }
+}
+
 /// Walks from the state `s`, and returns the number of its signature.
 ///
 /// Fails if there is no memory for it.
@@ -215,16 +225,6 @@ fn finish<M: Meter>(
         return pass(walk, l, s, m);
     }
     walk.finish(l, blocks, internal, alone, s, lists, m)
-}
-
-/// Whether the block is known to be of one state alone.
-fn is_alone(alone: &[bool], block: u32) -> bool
-    ensures { result ≡ slice_index_or alone.now block false }
-{
-    match alone.get(block as usize) {
-        Some(alone) => *alone,
-        None => false,
-    }
 }
 
 /// Finishes the state `s` with the empty list. Its row is read for the count of its visits alone.

@@ -6,8 +6,10 @@ ghost use Rattle.inert.specs.Search.{Search, stage_at, nothing, IsIdle};
 ghost use Rattle.inert.specs.Moves.{Enters, TakesStep, CutsRoots, skipped};
 ghost use Rattle.inert.specs.Ahead.{IsTrail};
 ghost use Rattle.inert.specs.declared.walk.Stage.TheVariants.{Unseen, Open, Finished};
-ghost use Rattle.inert.specs.declared.step.Step.TheVariants.{Inert};
+ghost use Rattle.inert.specs.declared.step.Step.TheVariants.{Inert, Shows};
+ghost use Rattle.inert.specs.declared.item.TheConstants.{LISTED};
 
+use crate::item::{CompactItem, Item};
 use crate::step::Step;
 use lists::EMPTY;
 use lts::{Lts, Memory, Meter};
@@ -18,32 +20,25 @@ use std::marker::Model;
 #[derive(Clone, Copy)]
 pub(crate) enum Stage {
     Unseen,
-    /// On the stack, at this place.
+    /// On the stack, at this height.
     Open(u32),
     /// Finished: its signature is the list of this number.
     Finished(u32),
 }
 
-/// A state whose row is being read: its place on the stack, and what is left of its row.
+/// A state whose row is being read: its height on the stack, and what is left of its row.
 #[derive(Clone, Copy)]
 pub(crate) struct Frame {
-    pub place: u32,
+    pub height: u32,
     pub next: u32,
     pub end: u32,
 }
 
-/// Where a component begins: the place of its root on the stack, and its first item.
+/// Where a component begins: the height of its root on the stack, and its first item.
 #[derive(Clone, Copy)]
 pub(crate) struct Root {
-    pub place: u32,
+    pub height: u32,
     pub items: usize,
-}
-
-/// What a component has collected: a pair, or all pairs of a list.
-#[derive(Clone, Copy)]
-pub(crate) enum Item {
-    Pair(u32, u32),
-    Listed(u32),
 }
 
 /// A walk, with what it knows and has collected.
@@ -59,7 +54,7 @@ pub(crate) struct Walk {
     pub frames: Vec<Frame>,
     /// Where the components on the stack begin.
     pub roots: Vec<Root>,
-    pub items: Vec<Item>,
+    pub items: Vec<CompactItem>,
     /// Where the numbers of the lists that a component leads to are put together.
     pub numbers: Vec<u32>,
     /// Where the pairs that a component has collected are put together.
@@ -173,19 +168,19 @@ impl Walk {
     pub fn enter<M: Meter>(&mut self, l: &Lts<M>, s: u32) -> Result<(), Memory>
         requires state { s < l.now.states }
         requires stages { length self.old.stages ≡ l.now.states }
-        requires places { length self.old.stack ≤ MOST_STATES }
+        requires heights { length self.old.stack ≤ MOST_STATES }
         ensures { OnOk result (Enters l.now.places s self.old self.new) }
     {
         let (next, end) = l.row(s);
-        let place = self.stack.len() as u32;
+        let height = self.stack.len() as u32;
         self.trail.push(s)?;
         self.roots.push(Root {
-            place,
+            height,
             items: self.items.len(),
         })?;
-        self.frames.push(Frame { place, next, end })?;
+        self.frames.push(Frame { height, next, end })?;
         self.stack.push(s)?;
-        self.stages[s as usize] = Stage::Open(place);
+        self.stages[s as usize] = Stage::Open(height);
         Ok(())
     }
 
@@ -196,13 +191,14 @@ impl Walk {
     #[inline(always)]
     pub fn take<M: Meter>(&mut self, l: &Lts<M>, step: Step) -> Result<bool, Memory>
         requires state { (t : ℕ) → step ≡ Inert t → t < l.now.states }
+        requires label { (a b : ℕ) → step ≡ Shows a b → a < LISTED }
         requires stages { length self.old.stages ≡ l.now.states }
-        requires places { length self.old.stack ≤ MOST_STATES }
+        requires heights { length self.old.stack ≤ MOST_STATES }
         ensures { IfOk result (TakesStep l.now.places step self.old self.new) }
     {
         match step {
             Step::Shows(label, block) => {
-                self.items.push(Item::Pair(label, block))?;
+                self.items.push(CompactItem::new(Item::Pair(label, block)))?;
                 return Ok(false);
             }
             Step::Inert(t) => {
@@ -211,12 +207,12 @@ impl Walk {
                         self.enter(l, t)?;
                         return Ok(true);
                     }
-                    Stage::Open(place) => {
-                        cut(&mut self.roots, place);
+                    Stage::Open(height) => {
+                        cut(&mut self.roots, height);
                         return Ok(false);
                     }
                     Stage::Finished(list) => {
-                        self.items.push(Item::Listed(list))?;
+                        self.items.push(CompactItem::new(Item::Listed(list)))?;
                         return Ok(false);
                     }
                 }
@@ -235,13 +231,13 @@ fn forget(stages: &mut Vec<Stage>, trail: &[u32])
     }
 }
 
-/// Drops the roots above the place.
-fn cut(roots: &mut Vec<Root>, place: u32)
-    ensures { CutsRoots place roots.old.items roots.new.items }
+/// Drops the roots above the height.
+fn cut(roots: &mut Vec<Root>, height: u32)
+    ensures { CutsRoots height roots.old.items roots.new.items }
 {
-    let mut kept = roots.len();
-    while kept > 0 && roots[kept - 1].place > place {
-        kept -= 1;
+    let mut count = roots.len();
+    while count > 0 && roots[count - 1].height > height {
+        count -= 1;
     }
-    roots.truncate(kept);
+    roots.truncate(count);
 }

@@ -145,6 +145,9 @@ impl Lists {
         ensures grow { Grow self.old self.new }
         ensures few { length self.new ≤ length self.old + length numbers.now }
     {
+        if let [only] = numbers {
+            return Ok(*only);
+        }
         let mut union = self.longest(numbers);
         for k in numbers {
             union = self.both(union, *k)?;

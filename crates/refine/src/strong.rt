@@ -1,5 +1,5 @@
 //! Strong bisimulation: a state's signature has what its transitions show, and the blocks that they lead to.
-ghost use Rattle.std.specs.Prelude.{◌≡◌, ◌↔◌, ℕ, ◌+◌, ◌<◌, ◌≤◌, false, length, map, slice_index, slice_index_or, IsTrue, IfOk, OnOk};
+ghost use Rattle.std.specs.Prelude.{◌≡◌, ◌↔◌, ℕ, ◌+◌, ◌<◌, ◌≤◌, length, map, slice_index, IsTrue, IfOk, OnOk};
 ghost use Rattle.theory.specs.declared.relation.Relation.TheVariants.{Strong as strong};
 ghost use Rattle.lts.specs.Meter.{HasRoomFor, Visits};
 ghost use Rattle.lts.specs.Lts.{row_of};
@@ -10,6 +10,7 @@ ghost use Rattle.refine.specs.Settled.{HasFrom, IsPut};
 
 use crate::marks::Marks;
 use crate::sense::Sense;
+use inert::is_alone;
 use lists::{EMPTY, Lists, order};
 use lts::{Lts, Memory, Meter, visit_row};
 use partition::Partition;
@@ -52,16 +53,6 @@ impl Sense for Strong {
             numbers[s as usize] = put(l, p, low, known, s, &mut marks.pairs, lists, m)?;
         }
         Ok(())
-    }
-}
-
-/// Whether the block is known to be of one state alone.
-fn is_alone(alone: &[bool], block: u32) -> bool
-    ensures { result ≡ slice_index_or alone.now block false }
-{
-    match alone.get(block as usize) {
-        Some(alone) => *alone,
-        None => false,
     }
 }
 

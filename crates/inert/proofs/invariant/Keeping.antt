@@ -1,4 +1,4 @@
--- What a walk says of the states below a place holds still after a move that keeps them, and after lists were added.
+-- What a walk says of the states below a height holds still after a move that keeps them, and after lists were added.
 use Rattle.std.proofs.Common.{◌≡◌, ◌⊎◌, ℕ, ◌<◌, ◌≤◌, Bool, List, length, slice_index, refl, sym, ◌∙◌, subst, inl, inr, arith, Contains}
 use Rattle.std.specs.List.{All}
 use Rattle.theory.specs.declared.relation.Relation.TheVariants.{Branching}
@@ -26,8 +26,8 @@ keeps_stack w frames roots items same fewer = record {
   within = omega arith;
   states = λ p h. refl;
   below = λ p q h low up. low;
-  up = λ p q h. fewer (λ r. r.place ≤ p → r.place ≤ q);
-  of = λ j p low h. fewer (λ r. (r.place ≤ p → r.items ≤ j) × (p < r.place → j < r.items));
+  up = λ p q h. fewer (λ r. r.height ≤ p → r.height ≤ q);
+  of = λ j p low h. fewer (λ r. (r.height ≤ p → r.items ≤ j) × (p < r.height → j < r.items));
   items = λ j p low h of. same j low;
   opened = λ s p h is. is;
   finished = λ s k is. is;

@@ -68,7 +68,7 @@ module _ {l : Grouped} {blocks : List ℕ} {alone : List Bool} {lists : List (Li
 
     pub begins : (laws : Laws) (new : Search) → Enters l.places s w new → Begins new
     begins laws new (start, end, row, is) =
-        let x : Frame = record { place = length w.stack; next = start; end = end } in
+        let x : Frame = record { height = length w.stack; next = start; end = end } in
         let fewer = unseen-set w.stages s (Open (length w.stack)) refl within none in
         let less = unread-set w.stages s (Open (length w.stack)) refl within none l.places in
         let frames = ap (λ y. length y.frames) rests.empty in

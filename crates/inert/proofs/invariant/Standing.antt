@@ -30,45 +30,45 @@ module _ {l : Grouped} {blocks : List ℕ} {alone : List Bool} {lists : List (Li
   pub stack_some : 0 < length w.frames → 0 < length w.stack
   stack_some some = omega (arith, on_stack some)
 
-  -- a frame is the last one, or of an earlier place
-  pub frames_up : (i : ℕ) → i < length w.frames → (frame_at w.frames i).place ≤ here w
+  -- a frame is the last one, or lower
+  pub frames_up : (i : ℕ) → i < length w.frames → (frame_at w.frames i).height ≤ here w
   frames_up i low = grind (arith, walks.frames.rising i (length w.frames - 1) no_frame, low)
 
-  pub not_last : (i : ℕ) → i < length w.frames → (frame_at w.frames i).place < here w → i < length w.frames - 1
+  pub not_last : (i : ℕ) → i < length w.frames → (frame_at w.frames i).height < here w → i < length w.frames - 1
   not_last i low before = grind (arith, low, before)
 
-  pub last_frame : (i : ℕ) → i < length w.frames → here w ≤ (frame_at w.frames i).place → i ≡ length w.frames - 1
+  pub last_frame : (i : ℕ) → i < length w.frames → here w ≤ (frame_at w.frames i).height → i ≡ length w.frames - 1
   last_frame i low high = grind (arith, walks.frames.rising i (length w.frames - 1) no_frame, low, high)
 
   -- if the row of the last frame was read, none of its transitions is ahead
   pub none_ahead : HasRead w → (p k i : ℕ) → k < length l.places → source_of (place_at l.places k) ≡ slice_index w.stack p → i < length w.frames
-      → i ≡ length w.frames - 1 → (frame_at w.frames i).place ≡ p → ¬ ((frame_at w.frames i).next ≤ k)
+      → i ≡ length w.frames - 1 → (frame_at w.frames i).height ≡ p → ¬ ((frame_at w.frames i).next ≤ k)
   none_ahead read p k i lk source low e is ahead =
       let inside = (((walks.frames.each i no_frame low).row.exactly k lk).0 (source ∙ ap (slice_index w.stack) (sym is))).1 in
       omega (arith, ahead, inside, ap (λ j. (frame_at w.frames j).next) e, ap (λ j. (frame_at w.frames j).end) e, read)
 
   -- components begin up to it, and on the stack
-  pub reached : All (λ r. r.place ≤ here w) w.roots
+  pub reached : All (λ r. r.height ≤ here w) w.roots
   reached i d h =
       let (j, low, is) = (walks.roots.each i d h).framed in
       omega (arith, frames_up j low, is)
 
-  pub root_low : All (λ r. r.place < length w.stack) w.roots
+  pub root_low : All (λ r. r.height < length w.stack) w.roots
   root_low i d h =
       let (j, low, is) = (walks.roots.each i d h).framed in
       omega (arith, (walks.frames.each j no_frame low).on_stack, is)
 
   -- no component is after that of the last root
-  pub last_most : All (λ r. (r.place ≤ (last w.roots).place) × (r.items ≤ (last w.roots).items)) w.roots
+  pub last_most : All (λ r. (r.height ≤ (last w.roots).height) × (r.items ≤ (last w.roots).items)) w.roots
   last_most i d h = grind (arith, walks.roots.rising i (length w.roots - 1) d, get_or_default w.roots (length w.roots - 1) d no_root)
 
   -- inert steps lead to where the walk is from each state on the stack
   pub ties : (p : ℕ) → p < length w.stack → Ties l blocks (slice_index w.stack p) (slice_index w.stack (here w))
   ties p low = walks.connects p (here w) low (on_stack (frames_some (omega (arith, low)))) (λ i d h _. reached i d h)
 
--- a frame of a state that stays in its place
-pub IsFrame-moved : {l : Grouped} {stack stack' : List ℕ} {x : Frame} → IsFrame l stack x → x.place < length stack'
-    → slice_index stack' x.place ≡ slice_index stack x.place → IsFrame l stack' x
+-- a frame of a state that stays at its height
+pub IsFrame-moved : {l : Grouped} {stack stack' : List ℕ} {x : Frame} → IsFrame l stack x → x.height < length stack'
+    → slice_index stack' x.height ≡ slice_index stack x.height → IsFrame l stack' x
 IsFrame-moved {l = l} {x = x} was low same = record {
   on_stack = low;
   start = was.start;

@@ -26,28 +26,28 @@ module _ {l : Grouped} {blocks : List ℕ} {alone : List Bool} {lists : List (Li
   popped_same : (i : ℕ) → i < length w.frames - 1 → frame_at (popped w).frames i ≡ frame_at w.frames i
   popped_same i h = get_or-take (length w.frames - 1) w.frames i _ h
 
-  -- an earlier place has its frame still
-  popped_framed : (p : ℕ) → p < here w → (i : ℕ) × (i < length w.frames) × ((frame_at w.frames i).place ≡ p)
-      → (i : ℕ) × (i < length (popped w).frames) × ((frame_at (popped w).frames i).place ≡ p)
+  -- a lower height has its frame still
+  popped_framed : (p : ℕ) → p < here w → (i : ℕ) × (i < length w.frames) × ((frame_at w.frames i).height ≡ p)
+      → (i : ℕ) × (i < length (popped w).frames) × ((frame_at (popped w).frames i).height ≡ p)
   popped_framed p before (i, low, is) =
       (i, (let low' = not_last walks i low (omega (arith, is, before)) in omega (arith, low', popped_size)), grind (arith, not_last walks i low, popped_same i, is, before))
 
   -- a frame that is left, and the next one
-  popped_ahead_still : (p k i : ℕ) → i < length w.frames - 1 → (frame_at w.frames i).place ≡ p → (frame_at w.frames i).next ≤ k → IsAhead (popped w) p k
-  popped_ahead_still p k i low is ahead = (i, omega (arith, low, popped_size), ap (λ x. x.place) (popped_same i low) ∙ is, subst (λ x. x.next ≤ k) (sym (popped_same i low)) ahead)
+  popped_ahead_still : (p k i : ℕ) → i < length w.frames - 1 → (frame_at w.frames i).height ≡ p → (frame_at w.frames i).next ≤ k → IsAhead (popped w) p k
+  popped_ahead_still p k i low is ahead = (i, omega (arith, low, popped_size), ap (λ x. x.height) (popped_same i low) ∙ is, subst (λ x. x.next ≤ k) (sym (popped_same i low)) ahead)
 
-  popped_entered : (p t i : ℕ) → i + 1 < length w.frames - 1 → (frame_at w.frames i).place ≡ p → slice_index w.stack (frame_at w.frames (i + 1)).place ≡ t
+  popped_entered : (p t i : ℕ) → i + 1 < length w.frames - 1 → (frame_at w.frames i).height ≡ p → slice_index w.stack (frame_at w.frames (i + 1)).height ≡ t
       → IsEntered (popped w) p t
   popped_entered p t i low is to =
       (i, omega (arith, low, popped_size), grind (arith, popped_same i, low, is), grind (arith, popped_same (i + 1), low, to))
 
   -- the row of the last frame was read, and no component begins there
-  module _ (some : 0 < length w.frames) (read : HasRead w) (apart : (last w.roots).place ≢ here w) where
+  module _ (some : 0 < length w.frames) (read : HasRead w) (apart : (last w.roots).height ≢ here w) where
     pop_keeps : Keeps w (popped w) (length w.stack)
     pop_keeps = keeps_stack w (popped w).frames w.roots w.items (λ j h. (h, refl)) (λ P each. each)
 
     -- each component begins before the last frame
-    earlier : All (λ r. r.place < here w) w.roots
+    earlier : All (λ r. r.height < here w) w.roots
     earlier i d h =
         let most = last_most walks i d h in
         let reach = reached walks (length w.roots - 1) no_root (omega (arith, h)) in
@@ -58,7 +58,7 @@ module _ {l : Grouped} {blocks : List ℕ} {alone : List Bool} {lists : List (Li
       | inl low' ↦ inr (inr (popped_entered p t i low' is to))
       | inr high ↦
           let e : i + 1 ≡ length w.frames - 1 = omega (arith, low, high) in
-          let there = ap (λ j. (frame_at w.frames j).place) e in
+          let there = ap (λ j. (frame_at w.frames j).height) e in
           let on = (walks.frames.each (i + 1) no_frame low).on_stack in
           let up = walks.frames.rising i (i + 1) no_frame (omega arith) low in
           inl (
@@ -66,11 +66,11 @@ module _ {l : Grouped} {blocks : List ℕ} {alone : List Bool} {lists : List (Li
             ap (stage_at w.stages) (sym to ∙ ap (slice_index w.stack) there) ∙ walks.opened.placed (here w) (omega (arith, on, there)),
             λ j d h le. omega (arith, le, is, up, there),
             λ j d h le.
-                let (k, lk, place) = (walks.roots.each j d h).framed in
+                let (k, lk, height) = (walks.roots.each j d h).framed in
                 let first = earlier j d h in
-                let less = not_last walks k lk (omega (arith, first, place)) in
+                let less = not_last walks k lk (omega (arith, first, height)) in
                 let up' = walks.frames.rising k i no_frame in
-                grind (arith, up', less, e, place, is, low),
+                grind (arith, up', less, e, height, is, low),
           )
     ]
 
@@ -91,7 +91,7 @@ module _ {l : Grouped} {blocks : List ℕ} {alone : List Bool} {lists : List (Li
         each = λ i d h. let root = walks.roots.each i d h in record { framed = popped_framed _ (earlier i d h) root.framed; within = root.within };
       };
       frames = record {
-        rising = AllPairs-take (λ x y. x.place < y.place) (length w.frames - 1) w.frames walks.frames.rising;
+        rising = AllPairs-take (λ x y. x.height < y.height) (length w.frames - 1) w.frames walks.frames.rising;
         each = All-take (IsFrame l w.stack) (length w.frames - 1) w.frames walks.frames.each;
       };
       connects = walks.connects;
@@ -102,12 +102,12 @@ module _ {l : Grouped} {blocks : List ℕ} {alone : List Bool} {lists : List (Li
 
 -- its last component was finished, with its list among the lists
 module _ (laws : Laws) {l : Grouped} {blocks : List ℕ} {alone : List Bool} {lists : List (List (ℕ × ℕ))} {w : Search} (walks : Walks l blocks alone lists w)
-    (some : 0 < length w.frames) (place : (last w.roots).place ≡ here w) {new_stages : List Stage} {number : ℕ} (stages : Finishes w.stack (last w.roots).place number w.stages new_stages)
-    (exact : (p : ℕ) → (last w.roots).place ≤ p → p < length w.stack → IsSigned l blocks alone (slice_index w.stack p) lists number)
+    (some : 0 < length w.frames) (height : (last w.roots).height ≡ here w) {new_stages : List Stage} {number : ℕ} (stages : Finishes w.stack (last w.roots).height number w.stages new_stages)
+    (exact : (p : ℕ) → (last w.roots).height ≤ p → p < length w.stack → IsSigned l blocks alone (slice_index w.stack p) lists number)
     {added : List Item} (led : ((0 < length (popped w).frames) × (added ≡ Listed number ∷ [])) ⊎ ((length (popped w).frames ≡ 0) × (added ≡ []))) where
-  -- the place where the component begins, and its first item
+  -- where the component begins on the stack, and its first item
   abbrev q : ℕ
-  q = (last w.roots).place
+  q = (last w.roots).height
 
   abbrev c0 : ℕ
   c0 = (last w.roots).items
@@ -137,8 +137,8 @@ module _ (laws : Laws) {l : Grouped} {blocks : List ℕ} {alone : List Bool} {li
   state_same : (p : ℕ) → p < q → slice_index Closed.stack p ≡ slice_index w.stack p
   state_same p h = get_or-take q w.stack p _ h
 
-  before_last : All (λ x. x.place < q) Closed.frames
-  before_last i d h = grind (arith, elements, walks.frames.rising i (length w.frames - 1), get_or_default w.frames (length w.frames - 1) d no_frame, place)
+  before_last : All (λ x. x.height < q) Closed.frames
+  before_last i d h = grind (arith, elements, walks.frames.rising i (length w.frames - 1), get_or_default w.frames (length w.frames - 1) d no_frame, height)
 
   same_unseen : (s : ℕ) → is_unseen (stage_at Closed.stages s) ≡ is_unseen (stage_at w.stages s)
   same_unseen s = grind (arith, stages.others s, walks.opened.placed, stages.members)
@@ -171,8 +171,8 @@ module _ (laws : Laws) {l : Grouped} {blocks : List ℕ} {alone : List Bool} {li
     within = omega (arith, low_q);
     states = state_same;
     below = λ p r h low up. let le = up (length w.roots - 1) no_root last_low in grind (arith, le, h);
-    up = λ p r h up. All-take (λ x. x.place ≤ p → x.place ≤ r) (length w.roots - 1) w.roots up;
-    of = λ j p low h of. All-take (λ x. (x.place ≤ p → x.items ≤ j) × (p < x.place → j < x.items)) (length w.roots - 1) w.roots of;
+    up = λ p r h up. All-take (λ x. x.height ≤ p → x.height ≤ r) (length w.roots - 1) w.roots up;
+    of = λ j p low h of. All-take (λ x. (x.height ≤ p → x.items ≤ j) × (p < x.height → j < x.items)) (length w.roots - 1) w.roots of;
     items = λ j p low h of. item_same j ((of (length w.roots - 1) no_root last_low).1 h);
     opened = λ s p low is. grind (arith, stages.others s, walks.opened.only s p, walks.opened.placed);
     finished = λ s k is. grind (arith, stages.others s, walks.opened.placed);
@@ -185,19 +185,19 @@ module _ (laws : Laws) {l : Grouped} {blocks : List ℕ} {alone : List Bool} {li
     grind (arith, elements, walks.roots.rising i (length w.roots - 1), get_or_default w.roots (length w.roots - 1) d no_root),
   )
 
-  -- the place that led to it
+  -- the height of the state that led to it
   abbrev back : ℕ
-  back = (frame_at w.frames (length w.frames - 2)).place
+  back = (frame_at w.frames (length w.frames - 2)).height
 
   back_low : 0 < length Closed.frames → back < q
-  back_low more = grind (arith, walks.frames.rising (length w.frames - 2) (length w.frames - 1) no_frame, more, popped_size walks, some, place)
+  back_low more = grind (arith, walks.frames.rising (length w.frames - 2) (length w.frames - 1) no_frame, more, popped_size walks, some, height)
 
   -- components that stay begin up to it
-  up_to_back : 0 < length Closed.frames → All (λ r. r.place ≤ back) Closed.roots
+  up_to_back : 0 < length Closed.frames → All (λ r. r.height ≤ back) Closed.roots
   up_to_back more k d h =
       let (root, before) = root_left k d h in
       let (i, low, is) = root.framed in
-      let low' = not_last walks i low (omega (arith, is, before.0, place)) in
+      let low' = not_last walks i low (omega (arith, is, before.0, height)) in
       let up = walks.frames.rising i (length w.frames - 2) no_frame in
       grind (arith, up, low', is, some)
 
@@ -211,8 +211,8 @@ module _ (laws : Laws) {l : Grouped} {blocks : List ℕ} {alone : List Bool} {li
   entered_still p t (i, low, is, to) = elim (cases_eq (i + 1) (length w.frames - 1)) [
     | inl e ↦
         let more : 0 < length Closed.frames = omega (arith, e, popped_size walks) in
-        let at : back ≡ p = ap (λ j. (frame_at w.frames j).place) (let e' : length w.frames - 2 ≡ i = omega (arith, e) in e') ∙ is in
-        let there : slice_index w.stack q ≡ t = ap (slice_index w.stack) (place ∙ ap (λ j. (frame_at w.frames j).place) (sym e)) ∙ to in
+        let at : back ≡ p = ap (λ j. (frame_at w.frames j).height) (let e' : length w.frames - 2 ≡ i = omega (arith, e) in e') ∙ is in
+        let there : slice_index w.stack q ≡ t = ap (slice_index w.stack) (height ∙ ap (λ j. (frame_at w.frames j).height) (sym e)) ∙ to in
         inr (inl (
           number,
           ap (stage_at Closed.stages) (sym there) ∙ stages.members q (omega arith) low_q,
@@ -267,17 +267,17 @@ module _ (laws : Laws) {l : Grouped} {blocks : List ℕ} {alone : List Bool} {li
           subst₂ (λ x n. IsSigned l blocks alone x lists n) same e (exact m from high)
     ];
     roots = record {
-      first = λ h all. walks.roots.first (stack_some walks some) (All-from_take (λ r. 0 < r.place) (length w.roots - 1) w.roots no_root all (λ i high low.
+      first = λ h all. walks.roots.first (stack_some walks some) (All-from_take (λ r. 0 < r.height) (length w.roots - 1) w.roots no_root all (λ i high low.
           let e : i ≡ length w.roots - 1 = omega (arith, high, low) in
-          let same = ap (λ j. (root_at w.roots j).place) e in
+          let same = ap (λ j. (root_at w.roots j).height) e in
           omega (arith, same, h, size)));
       rising = AllPairs-take IsBefore (length w.roots - 1) w.roots walks.roots.rising;
       each = λ i d h.
           let (root, before) = root_left i d h in
-          record { framed = popped_framed walks _ (omega (arith, before.0, place)) root.framed; within = omega (arith, before.1, length-append (take c0 w.items) added, cut_size) };
+          record { framed = popped_framed walks _ (omega (arith, before.0, height)) root.framed; within = omega (arith, before.1, length-append (take c0 w.items) added, cut_size) };
     };
     frames = record {
-      rising = AllPairs-take (λ x y. x.place < y.place) (length w.frames - 1) w.frames walks.frames.rising;
+      rising = AllPairs-take (λ x y. x.height < y.height) (length w.frames - 1) w.frames walks.frames.rising;
       each = λ i d h.
           let low = before_last i d h in
           IsFrame-moved (All-take (IsFrame l w.stack) (length w.frames - 1) w.frames walks.frames.each i d h) (omega (arith, low, size)) (state_same _ low);
@@ -287,9 +287,9 @@ module _ (laws : Laws) {l : Grouped} {blocks : List ℕ} {alone : List Bool} {li
         let low' : r < q = omega (arith, lr, size) in
         subst₂ (Ties l blocks) (sym (state_same p low)) (sym (state_same r low'))
         (walks.connects p r (omega (arith, low, low_q)) (omega (arith, low', low_q))
-        (All-from_take (λ x. x.place ≤ p → x.place ≤ r) (length w.roots - 1) w.roots no_root h (λ i high lr le.
+        (All-from_take (λ x. x.height ≤ p → x.height ≤ r) (length w.roots - 1) w.roots no_root h (λ i high lr le.
         let e : length w.roots - 1 ≡ i = omega (arith, high, lr) in
-        let same = ap (λ j. (root_at w.roots j).place) e in
+        let same = ap (λ j. (root_at w.roots j).height) e in
         absurd (omega (arith, same, le, low)))));
     there = All-append (IsThere lists) (take c0 w.items) added (All-take (IsThere lists) c0 w.items walks.there) (elim led [
       | inl (_, e) ↦
@@ -301,7 +301,7 @@ module _ (laws : Laws) {l : Grouped} {blocks : List ℕ} {alone : List Bool} {li
     accounted = λ p k lp lk source.
         let low : p < q = omega (arith, lp, size) in
         accounted_still walks keeps p k low lk source
-        (λ (i, li, is, ahead). inl (popped_ahead_still walks p k i (not_last walks i li (omega (arith, is, low, place))) is ahead)) (entered_still p);
+        (λ (i, li, is, ahead). inl (popped_ahead_still walks p k i (not_last walks i li (omega (arith, is, low, height))) is ahead)) (entered_still p);
   }
 
 -- the walk goes on from there: what is ahead is the same, and there is room for its lists
@@ -314,7 +314,7 @@ module _ {l : Grouped} {blocks : List ℕ} {alone : List Bool} {lists : List (Li
   popped_ahead = omega (arith, popped_rest)
 
   -- its state is no root
-  pub popped_on : (last w.roots).place ≢ here w → GoesOn l blocks alone lists w (popped w)
+  pub popped_on : (last w.roots).height ≢ here w → GoesOn l blocks alone lists w (popped w)
   popped_on apart = record {
     walks = Walks-pop walks some read apart;
     fits = omega (arith, fits, popped_size walks, popped_ahead);
@@ -322,7 +322,7 @@ module _ {l : Grouped} {blocks : List ℕ} {alone : List Bool} {lists : List (Li
   }
 
   -- its state is a root, and the component was finished
-  module _ (laws : Laws) (lts : IsLts l) {lists' : List (List (ℕ × ℕ))} {new : Search} (place : (last w.roots).place ≡ here w)
+  module _ (laws : Laws) (lts : IsLts l) {lists' : List (List (ℕ × ℕ))} {new : Search} (height : (last w.roots).height ≡ here w)
       (closes : Closes (last w.roots) lists lists' (popped w) new) where
     abbrev Returns : Search → Type 0
     Returns x = GoesOn l blocks alone lists' w x × (ahead l x ≡ ahead l w)
@@ -331,18 +331,18 @@ module _ {l : Grouped} {blocks : List ℕ} {alone : List Bool} {lists : List (Li
         → ((0 < length (popped w).frames) × (added ≡ Listed closes.number ∷ [])) ⊎ ((length (popped w).frames ≡ 0) × (added ≡ [])) → Returns new
     closed_with added items led =
         let walks' = Walks-grow closes.listed.grow walks in
-        let signed : (p : ℕ) → (last w.roots).place ≤ p → p < length w.stack → IsSigned l blocks alone (slice_index w.stack p) lists' closes.number =
-        λ p high. exact laws lts walks some read place closes.listed p (omega (arith, high, place)) in
-        let unseen = same_unseen laws walks' some place closes.stages signed led in
-        let same : ahead l (Closed laws walks' some place closes.stages signed led) ≡ ahead l w =
+        let signed : (p : ℕ) → (last w.roots).height ≤ p → p < length w.stack → IsSigned l blocks alone (slice_index w.stack p) lists' closes.number =
+        λ p high. exact laws lts walks some read height closes.listed p (omega (arith, high, height)) in
+        let unseen = same_unseen laws walks' some height closes.stages signed led in
+        let same : ahead l (Closed laws walks' some height closes.stages signed led) ≡ ahead l w =
         omega (arith, unread-same w.stages new.stages unseen l.places, popped_rest) in
         subst Returns (λ i. record { stages = new.stages; stack = sym closes.stack i; frames = sym closes.frames i; roots = sym closes.roots i; items = sym items i }) (
           record {
-            walks = Walks-closed laws walks' some place closes.stages signed led;
+            walks = Walks-closed laws walks' some height closes.stages signed led;
             fits =
-                let less = lighter laws walks' some place closes.stages signed led in
+                let less = lighter laws walks' some height closes.stages signed led in
                 omega (arith, fits, less, closes.listed.few, length-drop (last w.roots).items w.items, same);
-            seen = λ s is. closed_seen laws walks' some place closes.stages signed led s is;
+            seen = λ s is. closed_seen laws walks' some height closes.stages signed led s is;
           },
           same,
         )

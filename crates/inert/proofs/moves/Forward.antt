@@ -62,15 +62,15 @@ module _ {l : Grouped} {blocks : List ℕ} {alone : List Bool} {lists : List (Li
       accounted = λ p k lp lk source. accounted_still walks collect_keeps p k lp lk source (λ ahead. inl ahead) (λ t entered. inr (inr entered));
     }
 
-  -- an inert step leads to a state that is open: the roots above its place q are cut, so that the components from there on are one
+  -- an inert step leads to a state that is open: the roots above its height q are cut, so that the components from there on are one
   module _ (laws : Laws) {q : ℕ} {roots : List Root} (cuts : CutsRoots q w.roots roots) where
     cut_each : (P : Root → Type 0) → All P w.roots → All P roots
-    cut_each P each = subst (All P) (sym cuts.roots) (All-take P cuts.kept w.roots each)
+    cut_each P each = subst (All P) (sym cuts.roots) (All-take P cuts.count w.roots each)
 
     -- what holds of those that are left, and of all above q, held of all
-    cut_back : (P : Root → Type 0) → All P roots → ((r : Root) → q < r.place → P r) → All P w.roots
+    cut_back : (P : Root → Type 0) → All P roots → ((r : Root) → q < r.height → P r) → All P w.roots
     cut_back P each above =
-        All-from_take P cuts.kept w.roots no_root (subst (All P) cuts.roots each) (λ i high low. above (root_at w.roots i) (cuts.above i high low))
+        All-from_take P cuts.count w.roots no_root (subst (All P) cuts.roots each) (λ i high low. above (root_at w.roots i) (cuts.above i high low))
 
     abbrev Joined : Search
     Joined = record w { roots = roots }
@@ -79,12 +79,12 @@ module _ {l : Grouped} {blocks : List ℕ} {alone : List Bool} {lists : List (Li
     join_keeps = keeps_stack w w.frames roots w.items (λ j h. (h, refl)) cut_each
 
     -- the last root that is left is up to q, so all are
-    below : All (λ r. r.place ≤ q) roots
-    below i d h = grind (arith, elements, cuts.below, cuts.roots, walks.roots.rising i (cuts.kept - 1), get_or_default w.roots (cuts.kept - 1) d no_root)
+    below : All (λ r. r.height ≤ q) roots
+    below i d h = grind (arith, elements, cuts.below, cuts.roots, walks.roots.rising i (cuts.count - 1), get_or_default w.roots (cuts.count - 1) d no_root)
 
     -- the state that the step leads to is in the component where the walk is
     pub joined_here : (t : ℕ) → stage_at w.stages t ≡ Open q → IsHere Joined (here w) t
-    joined_here t is = (q, is, λ i d h _. below i d h, λ i d h _. cut_each (λ r. r.place ≤ here w) (reached walks) i d h)
+    joined_here t is = (q, is, λ i d h _. below i d h, λ i d h _. cut_each (λ r. r.height ≤ here w) (reached walks) i d h)
 
     pub Walks-join : q < length w.stack → Inert (system_of l) (slice_index blocks) (slice_index w.stack (here w)) (slice_index w.stack q)
         → Walks l blocks alone lists Joined
@@ -93,17 +93,17 @@ module _ {l : Grouped} {blocks : List ℕ} {alone : List Bool} {lists : List (Li
       opened = walks.opened;
       signed = walks.signed;
       roots = record {
-        first = λ some all. walks.roots.first some (cut_back (λ r. 0 < r.place) all (λ r up. omega (arith, up)));
-        rising = subst (AllPairs IsBefore) (sym cuts.roots) (AllPairs-take IsBefore cuts.kept w.roots walks.roots.rising);
+        first = λ some all. walks.roots.first some (cut_back (λ r. 0 < r.height) all (λ r up. omega (arith, up)));
+        rising = subst (AllPairs IsBefore) (sym cuts.roots) (AllPairs-take IsBefore cuts.count w.roots walks.roots.rising);
         each = cut_each (IsRoot w.frames w.items) walks.roots.each;
       };
       frames = walks.frames;
       connects = λ p r lp lr h. elim (cases_lt p q) [
-        | inl before ↦ walks.connects p r lp lr (cut_back (λ x. x.place ≤ p → x.place ≤ r) h (λ x up le. absurd (omega (arith, up, le, before))))
+        | inl before ↦ walks.connects p r lp lr (cut_back (λ x. x.height ≤ p → x.height ≤ r) h (λ x up le. absurd (omega (arith, up, le, before))))
         | inr after ↦
             let up : IsUpTo roots q r = λ i d h' le. h i d h' (omega (arith, le, after)) in
             laws.joined (system_of l) (slice_index blocks) _ _ _ (laws.after (system_of l) (slice_index blocks) _ _ _ (ties walks p lp) step)
-            (walks.connects q r low lr (cut_back (λ x. x.place ≤ q → x.place ≤ r) up (λ x above le. absurd (omega (arith, above, le)))))
+            (walks.connects q r low lr (cut_back (λ x. x.height ≤ q → x.height ≤ r) up (λ x above le. absurd (omega (arith, above, le)))))
       ];
       there = walks.there;
       sound = λ j lj. sound_still walks join_keeps j lj (omega arith) (λ p lp _. lp);
@@ -119,10 +119,10 @@ module _ {l : Grouped} {blocks : List ℕ} {alone : List Bool} {lists : List (Li
     n = length w.stack
 
     abbrev NewFrame : Frame
-    NewFrame = record { place = length w.stack; next = start; end = end }
+    NewFrame = record { height = length w.stack; next = start; end = end }
 
     abbrev NewRoot : Root
-    NewRoot = record { place = length w.stack; items = length w.items }
+    NewRoot = record { height = length w.stack; items = length w.items }
 
     -- the stack, the frames and the stages
     size : length Entered.stack ≡ n + 1
@@ -155,8 +155,8 @@ module _ {l : Grouped} {blocks : List ℕ} {alone : List Bool} {lists : List (Li
       within = omega arith;
       states = state_same;
       below = λ p q h low up. low;
-      up = λ p q h up. All-push (λ r. r.place ≤ p → r.place ≤ q) w.roots NewRoot up (λ le. absurd (omega (arith, le, h)));
-      of = λ j p low h of. All-push (λ r. (r.place ≤ p → r.items ≤ j) × (p < r.place → j < r.items)) w.roots NewRoot of (λ le. absurd (omega (arith, le, h)), λ _. low);
+      up = λ p q h up. All-push (λ r. r.height ≤ p → r.height ≤ q) w.roots NewRoot up (λ le. absurd (omega (arith, le, h)));
+      of = λ j p low h of. All-push (λ r. (r.height ≤ p → r.items ≤ j) × (p < r.height → j < r.items)) w.roots NewRoot of (λ le. absurd (omega (arith, le, h)), λ _. low);
       items = λ j p low h of. (low, refl);
       opened = λ s p h is. stage_still s (Open p) is (λ e. cc);
       finished = λ s k is. stage_still s (Finished k) is (λ e. cc);
@@ -192,20 +192,20 @@ module _ {l : Grouped} {blocks : List ℕ} {alone : List Bool} {lists : List (Li
     roots = record {
       first = λ _ all. elim (cases_eq n 0) [
         | inl e ↦ grind (arith, all (length w.roots) no_root, length_push w.roots NewRoot, get_or_push w.roots NewRoot no_root (length w.roots) refl, e)
-        | inr d ↦ walks.roots.first (omega (arith, d)) (before_new (λ r. 0 < r.place) all)
+        | inr d ↦ walks.roots.first (omega (arith, d)) (before_new (λ r. 0 < r.height) all)
       ];
       rising = all_pairs_push IsBefore w.roots NewRoot walks.roots.rising (λ i d h. (root_low walks i d h, (walks.roots.each i d h).within));
       each = All-push (IsRoot Entered.frames Entered.items) w.roots NewRoot
           (λ i d h.
           let root = walks.roots.each i d h in
           let (j, low, is) = root.framed in
-          record { framed = (j, omega (arith, low, frames_size), ap (λ x. x.place) (frame_same j low) ∙ is); within = root.within })
-          (record { framed = (length w.frames, omega (arith, frames_size), ap (λ x. x.place) frame_new); within = omega arith });
+          record { framed = (j, omega (arith, low, frames_size), ap (λ x. x.height) (frame_same j low) ∙ is); within = root.within })
+          (record { framed = (length w.frames, omega (arith, frames_size), ap (λ x. x.height) frame_new); within = omega arith });
     }
 
     frames : AreFrames l Entered.stack Entered.frames
     frames = record {
-      rising = all_pairs_push (λ x y. x.place < y.place) w.frames NewFrame walks.frames.rising (λ i d h. (walks.frames.each i d h).on_stack);
+      rising = all_pairs_push (λ x y. x.height < y.height) w.frames NewFrame walks.frames.rising (λ i d h. (walks.frames.each i d h).on_stack);
       each = All-push (IsFrame l Entered.stack) w.frames NewFrame
           (λ i d h. let frame = walks.frames.each i d h in let low = frame.on_stack in IsFrame-moved frame (omega (arith, low, size)) (state_same _ low))
           (record {
@@ -223,7 +223,7 @@ module _ {l : Grouped} {blocks : List ℕ} {alone : List Bool} {lists : List (Li
       | inr high ↦
           let e : p ≡ n = omega (arith, lp, high, size) in
           let inside = ((row.exactly k lk).0 (source ∙ ap (slice_index Entered.stack) e ∙ state_new)).0 in
-          inl (length w.frames, omega (arith, frames_size), ap (λ y. y.place) frame_new ∙ sym e, subst (λ y. y.next ≤ k) (sym frame_new) inside)
+          inl (length w.frames, omega (arith, frames_size), ap (λ y. y.height) frame_new ∙ sym e, subst (λ y. y.next ≤ k) (sym frame_new) inside)
     ]
 
     module _ (step : 0 < length w.frames → Inert (system_of l) (slice_index blocks) (slice_index w.stack (here w)) t) where
@@ -231,7 +231,7 @@ module _ {l : Grouped} {blocks : List ℕ} {alone : List Bool} {lists : List (Li
       connects p q lp lq h = elim (cases_lt p n) [
         | inl low ↦ elim (cases_lt q n) [
           | inl low' ↦
-              subst₂ (Ties l blocks) (sym (state_same p low)) (sym (state_same q low')) (walks.connects p q low low' (before_new (λ r. r.place ≤ p → r.place ≤ q) h))
+              subst₂ (Ties l blocks) (sym (state_same p low)) (sym (state_same q low')) (walks.connects p q low low' (before_new (λ r. r.height ≤ p → r.height ≤ q) h))
           | inr high' ↦
               let e : n ≡ q = omega (arith, lq, high', size) in
               subst₂ (Ties l blocks) (sym (state_same p low)) (sym state_new ∙ ap (slice_index Entered.stack) e)
@@ -270,7 +270,7 @@ module _ {l : Grouped} {blocks : List ℕ} {alone : List Bool} {lists : List (Li
     same_size : length Moved.frames ≡ length w.frames
     same_size = length-set w.frames i x
 
-    places_same : (j : ℕ) (d : Frame) → (get_or Moved.frames j d).place ≡ (get_or w.frames j d).place
+    places_same : (j : ℕ) (d : Frame) → (get_or Moved.frames j d).height ≡ (get_or w.frames j d).height
     places_same j d = grind (arith, elements, common_steps, is, get_or_default w.frames i no_frame d)
 
     next_keeps : Keeps w Moved (length w.stack)
@@ -280,18 +280,18 @@ module _ {l : Grouped} {blocks : List ℕ} {alone : List Bool} {lists : List (Li
     next_entered p t (j, lj, at, to) =
         inr (inr (j, omega (arith, lj, same_size), places_same j no_frame ∙ at, ap (slice_index w.stack) (places_same (j + 1) no_frame) ∙ to))
 
-    module _ (done : Accounted l blocks lists w (frame_at w.frames i).place (place_at l.places m)) where
+    module _ (done : Accounted l blocks lists w (frame_at w.frames i).height (place_at l.places m)) where
       -- a transition that is still to be read, but for the one that was read
       next_ahead : (p k : ℕ) → p < length w.stack → IsAhead w p k → IsAhead Moved p k ⊎ Accounted l blocks lists Moved p (place_at l.places k)
       next_ahead p k lp (j, lj, at, ahead) = elim (cases_eq j i) [
         | inr d ↦ inl (j, omega (arith, lj, same_size), places_same j no_frame ∙ at, subst (λ y. y.next ≤ k) (sym (get_or-set_other w.frames i j x no_frame d)) ahead)
         | inl e ↦
-            let at' : (frame_at w.frames i).place ≡ p = ap (λ y. (frame_at w.frames y).place) (sym e) ∙ at in
+            let at' : (frame_at w.frames i).height ≡ p = ap (λ y. (frame_at w.frames y).height) (sym e) ∙ at in
             elim (cases_eq m k) [
               | inl e' ↦
                   inr (done_still walks next_keeps p (place_at l.places k) lp (next_entered p)
                   (subst (λ y. Accounted l blocks lists w y (place_at l.places k)) at'
-                  (subst (λ y. Accounted l blocks lists w (frame_at w.frames i).place (place_at l.places y)) e' done)))
+                  (subst (λ y. Accounted l blocks lists w (frame_at w.frames i).height (place_at l.places y)) e' done)))
               | inr d' ↦
                   let was = ap (λ y. (frame_at w.frames y).next) e in
                   let now = ap (λ y. y.next) (get_or-set_same w.frames i x no_frame low ∙ is) in

@@ -116,7 +116,7 @@ module _ (laws : Laws) {l : Grouped} (lts : IsLts l) {blocks : List ℕ} {alone 
         → Taken (entered (target_of e) start end w) enters
     taken_entered start end enters row unseen went =
         let within : target_of e < length w.stages = omega (arith, walks.numbers.size, target_low) in
-        let x : Frame = record { place = length w.stack; next = start; end = end } in
+        let x : Frame = record { height = length w.stack; next = start; end = end } in
         let frames = length_push w.frames x in
         record {
           after = Walks-enter walks laws within unseen row (λ _. inert_step inert);
@@ -190,7 +190,7 @@ module _ {l : Grouped} {blocks : List ℕ} {alone : List Bool} {lists : List (Li
     pub place_below : k < length l.places
     place_below = place_low laws lts on.walks now_some next_is now_more
 
-    module _ (block : ℕ) (is_block : block ≡ slice_index blocks (slice_index first.stack (top first.frames).place)) (step : TakenStep)
+    module _ (block : ℕ) (is_block : block ≡ slice_index blocks (slice_index first.stack (top first.frames).height)) (step : TakenStep)
         (is_step : IsStep l blocks block (place_at l.places k) step) where
       pub goes_low : (t : ℕ) → step ≡ Goes t → t < l.states
       goes_low t e =
@@ -200,7 +200,7 @@ module _ {l : Grouped} {blocks : List ℕ} {alone : List Bool} {lists : List (Li
       module _ (m : Search) (enters : Bool) (takes : TakesStep l.places step w m enters) (i : ℕ) (last : i ≡ length first.frames - 1) where
         same_block : block ≡ slice_index blocks (source_of (place_at l.places k))
         same_block =
-            is_block ∙ ap (slice_index blocks) (ap (slice_index first.stack) (sym (ap (λ y. y.place) reads.here)) ∙ ap (λ xs. slice_index xs (top w.frames).place) (sym reads.stack)
+            is_block ∙ ap (slice_index blocks) (ap (slice_index first.stack) (sym (ap (λ y. y.height) reads.here)) ∙ ap (λ xs. slice_index xs (top w.frames).height) (sym reads.stack)
             ∙ sym (source laws lts on.walks now_some next_is now_more))
 
         took : Taken laws lts on.walks now_some next_is now_more m enters
@@ -225,7 +225,7 @@ module _ {l : Grouped} {blocks : List ℕ} {alone : List Bool} {lists : List (Li
           left = omega (arith, now_more, ap (λ y. y.end) same_frame)
 
           moved : Walks l blocks alone lists New
-          moved = Walks-next took.after still_there is next left (subst (λ y. Accounted l blocks lists m y.place (place_at l.places k)) (sym same_frame) took.done)
+          moved = Walks-next took.after still_there is next left (subst (λ y. Accounted l blocks lists m y.height (place_at l.places k)) (sym same_frame) took.done)
 
           moved_ahead : ahead l New + 1 ≡ ahead l w
           moved_ahead =
@@ -249,7 +249,7 @@ module _ {l : Grouped} {blocks : List ℕ} {alone : List Bool} {lists : List (Li
               let old : frame_at m.frames i ≡ record (top first.frames) { next = k } = same_frame ∙ reads.here in
               record {
                 size = same;
-                here = top_is ∙ is ∙ (λ j. record { place = (old j).place; next = k + 1; end = (old j).end });
+                here = top_is ∙ is ∙ (λ j. record { height = (old j).height; next = k + 1; end = (old j).end });
                 stack = (took.still stay).1 ∙ reads.stack;
                 forward = omega (arith, reads.forward);
                 less = less;

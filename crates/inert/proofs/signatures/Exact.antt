@@ -30,7 +30,7 @@ place_step l k h =
     (k, omega (arith, h, length-map l.places (transition_of l.labels)), get_or-map (transition_of l.labels) l.places k (0, 0, 0) e h)
 
 module _ (laws : Laws) {l : Grouped} (lts : IsLts l) {blocks : List ℕ} {alone : List Bool} {lists : List (List (ℕ × ℕ))} {w : Search} (walks : Walks l blocks alone lists w)
-    (some : 0 < length w.frames) (read : HasRead w) (place : (last w.roots).place ≡ here w) where
+    (some : 0 < length w.frames) (read : HasRead w) (height : (last w.roots).height ≡ here w) where
   -- where the items of the component begin, and what they give
   abbrev c0 : ℕ
   c0 = (last w.roots).items
@@ -43,7 +43,7 @@ module _ (laws : Laws) {l : Grouped} (lts : IsLts l) {blocks : List ℕ} {alone 
 
   collected_from : (p : ℕ) → here w ≤ p → (z : ℕ × ℕ) → HoldsPair lists w p z → Collected z
   collected_from p h z (j, low, g, of) =
-      let from = (of (length w.roots - 1) no_root last_low).0 (omega (arith, place, h)) in
+      let from = (of (length w.roots - 1) no_root last_low).0 (omega (arith, height, h)) in
       let is : c0 + (j - c0) ≡ j = omega (arith, from) in
       (item_at w.items j, (j - c0, omega (arith, length-drop c0 w.items, low, from), get_or-drop c0 w.items (j - c0) _ ∙ ap (λ i. get_or w.items i (item_at w.items j)) is ∙ get_or_default w.items j _ _ low), g)
 
@@ -82,8 +82,8 @@ module _ (laws : Laws) {l : Grouped} (lts : IsLts l) {blocks : List ℕ} {alone 
       elim ((done p k h lp lk source).followed (label, same ∙ ap (slice_index blocks) (sym source))) [
         | inl (q, stage, up, down) ↦
             let was = walks.opened.only (target_of (place_at l.places k)) q stage in
-            let high = up (length w.roots - 1) no_root last_low (omega (arith, place, h)) in
-            collects z us q (omega (arith, place, high)) was.0 u t
+            let high = up (length w.roots - 1) no_root last_low (omega (arith, height, h)) in
+            collects z us q (omega (arith, height, high)) was.0 u t
             (subst (λ y. Along (Inert (system_of l) (slice_index blocks)) y us u) (sym target ∙ sym was.1) rest) step is
             (λ inert. other (inert.0, inert.1 ∙ ap (slice_index blocks) was.1 ∙ same)) low
             (subst (λ s. ¬ IsKnownAlone blocks alone s) (sym was.1) together)

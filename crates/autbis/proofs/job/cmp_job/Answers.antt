@@ -27,14 +27,14 @@ pub returns-clause-same : goal.returns-clause-same
 returns-clause-same g c e =
     compares_files (g.F.Opener.holds c.args.ends.files.now) (g.F.Opener.holds c.open.new.files) (g.F.Opener.holds c.open-2.new.files)
     c.args.asked.now.relation (option_map string_bytes c.args.asked.now.hide.now) _ _ _ _ _ c.in-Ok-hidden_of.hidden _ _ _ _ true
-    c.as_str.ensures.value c.as_str-2.ensures.value c.file.ensures c.open.ensures.kept c.open-2.ensures.kept
+    c.as_str.ensures.value c.as_str-2.ensures.value c.file.ensures c.open.ensures.others c.open-2.ensures.others
     c.in-Ok.ensures.bytes c.in-Ok-open.ensures.bytes c.in-Ok-hidden_of.ensures.labels (c.cmp_program.ensures.same e)
 
 pub returns-clause-different : goal.returns-clause-different
 returns-clause-different g c e =
     compares_files (g.F.Opener.holds c.args.ends.files.now) (g.F.Opener.holds c.open.new.files) (g.F.Opener.holds c.open-2.new.files)
     c.args.asked.now.relation (option_map string_bytes c.args.asked.now.hide.now) _ _ _ _ _ c.in-Ok-hidden_of.hidden _ _ _ _ false
-    c.as_str.ensures.value c.as_str-2.ensures.value c.file.ensures c.open.ensures.kept c.open-2.ensures.kept
+    c.as_str.ensures.value c.as_str-2.ensures.value c.file.ensures c.open.ensures.others c.open-2.ensures.others
     c.in-Ok.ensures.bytes c.in-Ok-open.ensures.bytes c.in-Ok-hidden_of.ensures.labels (c.cmp_program.ensures.different e)
 
 pub returns-clause-order : goal.returns-clause-order

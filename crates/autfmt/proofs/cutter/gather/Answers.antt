@@ -11,7 +11,7 @@ returns-then-extend-clause-got g c =
     let n = c.in_ok-n.n in
     let at = c.in-Some.at in
     let buf = c.take.new.buf in
-    feed_found _ _ _ c.args.kept.now i.got.0 c.loop-n.kept buf (take n buf) (take at (take n buf)) c.extend.new.self n at
+    feed_found _ _ _ c.args.buffer.now i.got.0 c.loop-n.buffer buf (take n buf) (take at (take n buf)) c.extend.new.self n at
     i.got.1 i.got.2 i.part c.in_ok-n.ensures.bytes.0 c.in_ok-n.ensures.bound.0 refl c.in-Some.ensures.within
     c.in-Some.ensures.line c.in-Some.ensures.feed refl (c.extend.ensures.fits.0 c.if-extend.true) c.if-extend.ensures.line
 
@@ -21,7 +21,7 @@ returns-in-Some-clause-got g c =
     let n = c.in_ok-n.n in
     let at = c.in-Some.at in
     let bytes = take n c.take.new.buf in
-    too_long _ _ _ c.args.kept.now i.got.0 c.loop-n.kept bytes (take at bytes) (drop at bytes) i.got.1 i.got.2 i.part
+    too_long _ _ _ c.args.buffer.now i.got.0 c.loop-n.buffer bytes (take at bytes) (drop at bytes) i.got.1 i.got.2 i.part
     c.in_ok-n.ensures.bytes.0 (sym (take-append-drop at bytes)) c.in-Some.ensures.line
     (iff_false c.extend.ensures.fits c.if-extend.false)
 
@@ -29,7 +29,7 @@ pub returns-then-not-extend-clause-got : goal.returns-then-not-extend-clause-got
 returns-then-not-extend-clause-got g c =
     let i = c.loop-n.invariant in
     let bytes = take c.in_ok-n.n c.take.new.buf in
-    too_long _ _ _ c.args.kept.now i.got.0 c.loop-n.kept bytes bytes [] i.got.1 i.got.2 i.part c.in_ok-n.ensures.bytes.0
+    too_long _ _ _ c.args.buffer.now i.got.0 c.loop-n.buffer bytes bytes [] i.got.1 i.got.2 i.part c.in_ok-n.ensures.bytes.0
     (sym (append-nil bytes)) c.in-None.ensures.none (iff_false c.extend-in-None.ensures.fits c.if-not-extend.true)
 
 pub loop-n-preserved : goal.loop-n-preserved
@@ -39,8 +39,8 @@ loop-n-preserved g c =
     let now = c.if-not-extend.ensures.line in
     let fits = c.extend-in-None.ensures.fits.0 c.if-not-extend.false in
     record {
-      got = line_goes_on _ _ _ c.args.kept.now i.got.0 c.loop-n.kept bytes _ i.got.1 i.got.2 c.in_ok-n.ensures.bytes.0 now;
-      part = subst IsPart (sym now) (IsPart-append c.loop-n.kept bytes i.part c.in-None.ensures.none fits);
+      got = line_goes_on _ _ _ c.args.buffer.now i.got.0 c.loop-n.buffer bytes _ i.got.1 i.got.2 c.in_ok-n.ensures.bytes.0 now;
+      part = subst IsPart (sym now) (IsPart-append c.loop-n.buffer bytes i.part c.in-None.ensures.none fits);
       sound = c.in_ok-n.ensures.failures;
       room = c.take.auto.buf ∙ i.room;
     }

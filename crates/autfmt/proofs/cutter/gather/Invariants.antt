@@ -7,11 +7,11 @@ use Rattle.autfmt.specs.declared.line.TheConstants.{LONGEST_LINE}
 
 abbrev pub invariant-loop-n : goal.invariant-loop-n
 invariant-loop-n g l = record {
-  got : (bs : List ℕ) × Consumes (g.R.Source.rest l.initial.r) (g.R.Source.rest l.r) bs × (l.kept ≡ l.initial.kept ++ bs);
-  part : IsPart l.kept;
+  got : (bs : List ℕ) × Consumes (g.R.Source.rest l.initial.r) (g.R.Source.rest l.r) bs × (l.buffer ≡ l.initial.buffer ++ bs);
+  part : IsPart l.buffer;
   sound : g.R.Source.failures l.r ≡ 0;
   room : length l.piece ≡ PIECE;
 }
 
 abbrev pub decreases-loop-n : goal.decreases-loop-n
-decreases-loop-n g l = LONGEST_LINE - length l.kept
+decreases-loop-n g l = LONGEST_LINE - length l.buffer

@@ -1,7 +1,7 @@
-use Rattle.std.proofs.Common.{take, subst}
-use Rattle.std.proofs.lemmas.List.{take_all, take_more}
+use Rattle.std.proofs.Common.{◌≡◌, ◌∙◌, take, subst, sym, arith}
+use Rattle.std.proofs.lemmas.List.{get_or_default, take_all, take_more}
 use Rattle.inert.specs.Moves.{AreCollected}
-use Rattle.inert.specs.Search.{Pair}
+use Rattle.inert.specs.Search.{item_at, Pair}
 use Rattle.inert.proofs.signatures.Listing.{taken_none, taken_pair, taken_list}
 use Rattle.inert.proofs.component.collect.Goals as goal
 use Rattle.inert.proofs.component.collect.Goals.{in-Pair+in_ok-push-in-Pair, in-Listed+in_ok-push-in-Listed}
@@ -14,12 +14,14 @@ loop-item-preserved c =
     let items = c.args.items.now in
     let i = c.loop-item.item-index in
     let more = take_more items i (Pair 0 0) c.loop-item-test.true in
+    let at : item_at items i ≡ c.item.result =
+    get_or_default items i _ c.item-item.result (omega (arith, c.loop-item-test.true)) ∙ sym c.item-item.is ∙ sym c.item.ensures in
     elim c.match-item.branch [
       | in-Pair+in_ok-push-in-Pair w ↦
-          rw (more, w.in-Pair.is, w.numbers-is, w.pairs-is, w.in_ok-push-in-Pair.ensures.items)
+          rw (more, at ∙ w.in-Pair.is, w.numbers-is, w.pairs-is, w.in_ok-push-in-Pair.ensures.items)
           (taken_pair (take i items) c.loop-item.numbers.items c.loop-item.pairs.items c.loop-item.invariant _ _)
       | in-Listed+in_ok-push-in-Listed w ↦
-          rw (more, w.in-Listed.is, w.numbers-is, w.pairs-is, w.in_ok-push-in-Listed.ensures.items)
+          rw (more, at ∙ w.in-Listed.is, w.numbers-is, w.pairs-is, w.in_ok-push-in-Listed.ensures.items)
           (taken_list (take i items) c.loop-item.numbers.items c.loop-item.pairs.items c.loop-item.invariant _)
     ]
 

@@ -2,11 +2,11 @@ use Rattle.std.proofs.Common.{ℕ, ◌<◌, ◌≤◌, length}
 use Rattle.inert.specs.Search.{root_at}
 use Rattle.inert.proofs.walk.cut.Given as goal
 
-abbrev pub invariant-loop-kept : goal.invariant-loop-kept
-invariant-loop-kept l = record {
-  within : l.kept ≤ length l.roots.items;
-  above : (i : ℕ) → l.kept ≤ i → i < length l.roots.items → l.place < (root_at l.roots.items i).place;
+abbrev pub invariant-loop-count : goal.invariant-loop-count
+invariant-loop-count l = record {
+  within : l.count ≤ length l.roots.items;
+  above : (i : ℕ) → l.count ≤ i → i < length l.roots.items → l.height < (root_at l.roots.items i).height;
 }
 
-abbrev pub decreases-loop-kept : goal.decreases-loop-kept
-decreases-loop-kept l = l.kept
+abbrev pub decreases-loop-count : goal.decreases-loop-count
+decreases-loop-count l = l.count

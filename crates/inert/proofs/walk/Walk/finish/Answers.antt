@@ -2,8 +2,8 @@ use Rattle.std.proofs.Common.{◌≡◌, ◌+◌, length, ap, arith, rules}
 use Rattle.inert.proofs.invariant.Resting.{rests_empty, begins, walk_rests}
 use Rattle.inert.proofs.walk.Walk.finish.Goals as goal
 
-pub enter-requires-clause-places : goal.enter-requires-clause-places
-enter-requires-clause-places g c = omega (arith, rests_empty c.requires.rests)
+pub enter-requires-clause-heights : goal.enter-requires-clause-heights
+enter-requires-clause-heights g c = omega (arith, rests_empty c.requires.rests)
 
 pub loop-internal-init : goal.loop-internal-init
 loop-internal-init g c =

@@ -29,11 +29,11 @@ module _ (g : Over) (c : After-index g) where
 
   block : slice_index c.args.blocks.now c.index.result.now ≡ slice_index c.args.blocks.now (slice_index c.args.self.now.stack (here c.args.self.now))
   block =
-      let place = ap (λ x. x.place) frame in
-      let low : c.index-frame.result.now.place < length c.self.inside.stack.items = omega (arith, on_stack c.requires.way.walks c.requires.way.some, place, ap (λ w. length w.stack) c.self.view_is) in
+      let height = ap (λ x. x.height) frame in
+      let low : c.index-frame.result.now.height < length c.self.inside.stack.items = omega (arith, on_stack c.requires.way.walks c.requires.way.some, height, ap (λ w. length w.stack) c.self.view_is) in
       ap (slice_index c.args.blocks.now)
-      (get_or_read c.self.inside.stack.items c.index-frame.result.now.place c.index.result.now low c.index.ensures 0
-      ∙ ap (λ w. slice_index w.stack c.index-frame.result.now.place) c.self.view_is ∙ ap (slice_index c.args.self.now.stack) place)
+      (get_or_read c.self.inside.stack.items c.index-frame.result.now.height c.index.result.now low c.index.ensures 0
+      ∙ ap (λ w. slice_index w.stack c.index-frame.result.now.height) c.self.view_is ∙ ap (slice_index c.args.self.now.stack) height)
 
 -- one transition more is read
 module _ (g : Over) (d : After-index g) {w : Search} {k : ℕ} (on : GoesOn d.args.l.now d.args.blocks.now d.args.alone.now d.args.lists.now d.args.self.now w)
