@@ -135,7 +135,7 @@ module _ {asked : Request} {given : List ℕ} {source sink : Used} {at : Counts}
     faulty_told asked.bounds given source.after source.failures fault source.before took refused two,
   )
   faulty_run (out_of_memory got memory sound) took two = absurd (omega (arith, ap status_of memory, two))
-  faulty_run (not_written got device failed begun) took two = absurd (omega (arith, ap status_of device, two))
+  faulty_run (not_written got device failed to begun) took two = absurd (omega (arith, ap status_of device, two))
 
   -- with 5 its source failed, or its sink
   pub failed_run : RunFails asked given source sink at fault → status_of fault ≡ 5 →
@@ -143,7 +143,7 @@ module _ {asked : Request} {given : List ℕ} {source sink : Used} {at : Counts}
   failed_run (not_read refused sound fresh) five =
       inl (failed_with_5 asked.bounds given source.after source.failures fault refused five, sound)
   failed_run (out_of_memory got memory sound) five = absurd (omega (arith, ap status_of memory, five))
-  failed_run (not_written got device failed begun) five = inr (got.exhausted.sound, failed)
+  failed_run (not_written got device failed to begun) five = inr (got.exhausted.sound, failed)
 
   -- and if it was the sink, a beginning of the text of its quotient was written
   pub begun_run : RunFails asked given source sink at fault → Consumes source.before source.after given → status_of fault ≡ 5 →
@@ -151,8 +151,8 @@ module _ {asked : Request} {given : List ℕ} {source sink : Used} {at : Counts}
   begun_run (not_read refused sound fresh) took five zero =
       absurd (omega (arith, failed_with_5 asked.bounds given source.after source.failures fault refused five, zero))
   begun_run (out_of_memory got memory sound) took five zero = absurd (omega (arith, ap status_of memory, five))
-  begun_run (not_written got device failed begun) took five zero =
-      of_all source.before source.after given _ took got.exhausted.at_end begun
+  begun_run (not_written got device failed to begun) took five zero =
+      of_all source.before source.after given _ took got.exhausted.at_end (to, begun)
 
   -- with 2 and 4 neither failed
   pub sound_run : RunFails asked given source sink at fault → (status_of fault ≡ 2) ⊎ (status_of fault ≡ 4) →
@@ -160,5 +160,5 @@ module _ {asked : Request} {given : List ℕ} {source sink : Used} {at : Counts}
   sound_run (not_read refused sound fresh) status =
       (sound_with_2_or_4 asked.bounds given source.after source.failures fault refused status, sound)
   sound_run (out_of_memory got memory sound) status = (got.exhausted.sound, sound)
-  sound_run (not_written got device failed begun) (inl two) = absurd (omega (arith, ap status_of device, two))
-  sound_run (not_written got device failed begun) (inr four) = absurd (omega (arith, ap status_of device, four))
+  sound_run (not_written got device failed to begun) (inl two) = absurd (omega (arith, ap status_of device, two))
+  sound_run (not_written got device failed to begun) (inr four) = absurd (omega (arith, ap status_of device, four))

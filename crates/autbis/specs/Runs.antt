@@ -1,10 +1,10 @@
 -- A whole run: what it does with the system that a text reads as, and why it does not.
 use Rattle.std.specs.Prelude.{◌≡◌, ℕ, ◌*◌, ◌≤◌, List, length, Option, IfSome}
+use Rattle.std.specs.List.Sorted.{IsSorted}
 use Rattle.std.specs.Io.KnownBytes.{Appends, IsAtEnd}
 use Rattle.theory.specs.System.{System, IsSystem, Hide}
 use Rattle.theory.specs.Bisimulation.{Bisimilar, Equivalent}
 use Rattle.theory.specs.declared.relation.Relation.{Relation}
-use Rattle.theory.specs.declared.relation.Relation.{Relation as Word}
 use Rattle.theory.specs.Blocks.{Turns}
 use Rattle.theory.specs.Quotient.{Quotient}
 use Rattle.lts.specs.Meter as meter
@@ -18,7 +18,7 @@ use Rattle.autfmt.specs.Faults.{FirstFault}
 use Rattle.autfmt.specs.Outcomes.{Refuses}
 use Rattle.autfmt.specs.Readers.{IsTextFault}
 use Rattle.autfmt.specs.Stream.{AppendsBeginning}
-use Rattle.autfmt.specs.Written.{IsInWrittenOrder, listed}
+use Rattle.autfmt.specs.Written.{listed, transition_cmp}
 use Rattle.autbis.specs.declared.run.Counts.{Counts}
 
 -- what is asked of a run: its relation, the bounds of its texts, and the labels to hide
@@ -27,9 +27,9 @@ pub record Request : Type 0 where
   pub bounds : Bounds
   pub hidden : List (List ℕ)
 
--- what is asked by a relation of the code
-abbrev pub asks : Word → Bounds → List (List ℕ) → Request
-asks word bounds H = record { relation = word; bounds = bounds; hidden = H }
+-- what is asked by a relation, bounds and labels to hide
+abbrev pub asks : Relation → Bounds → List (List ℕ) → Request
+asks rel bounds H = record { relation = rel; bounds = bounds; hidden = H }
 
 -- what a call did with a source or a sink: the bytes to come, or those written, as told before and after, and its failures
 pub record Used : Type 0 where
@@ -54,24 +54,23 @@ pub record Minimises (rel : Relation) (A Q : System) : Type 0 where
   pub no_two_bisimilar : (s t : ℕ) → Bisimilar rel Q s Q t → s ≡ t
   pub smallest : (B : System) → IsSystem B → Equivalent rel A B → Q.states ≤ B.states
 
--- what a text is minimised to: it reads as the input, and the output minimises that, its labels to hide hidden; the listing is the
--- output with its transitions in the order in which they are written, and reads again
+-- what a text is minimised to: it reads as the input, and the output minimises that, its labels to hide hidden; the output's
+-- transitions are in the order in which they are written, and its text reads again
 pub record MinimisedText (asked : Request) (text : List ℕ) : Type 0 where
   pub input : System
   pub output : System
-  pub listing : System
   pub read : Reads asked.bounds text input
   pub minimises : Minimises asked.relation (Hide asked.hidden input) output
-  pub order : IsInWrittenOrder output listing
-  pub read_again : Reads asked.bounds (listed listing) listing
+  pub sorted : IsSorted transition_cmp output.transitions
+  pub read_again : Reads asked.bounds (listed output) output
 
 -- known bytes have grown by the text of what the text is minimised to
 abbrev pub IsMinimised : Request → List ℕ → (old new : Option (List ℕ)) → Type 0
-IsMinimised asked text old new = (to : MinimisedText asked text) × Appends old new (listed to.listing)
+IsMinimised asked text old new = (to : MinimisedText asked text) × Appends old new (listed to.output)
 
 -- known bytes have grown by a beginning of the text of what the text is minimised to
 abbrev pub BeginsQuotient : Request → List ℕ → (old new : Option (List ℕ)) → Type 0
-BeginsQuotient asked text old new = (to : MinimisedText asked text) × AppendsBeginning old new (listed to.listing)
+BeginsQuotient asked text old new = (to : MinimisedText asked text) × AppendsBeginning old new (listed to.output)
 
 -- P holds of a text: the one that a source tells, or some text if it tells none
 abbrev pub OfText : Option (List ℕ) → (List ℕ → Type 0) → Type 0
@@ -86,7 +85,7 @@ IsFaulty bounds text = (f : Fault) × IsTextFault f × FirstFault bounds text f
 pub record RunsTo (asked : Request) (text : List ℕ) (source sink : Used) (at : meter.Counts) (counts : Counts) : Type 0 where
   pub to : MinimisedText asked text
   pub sizes : counts ≡ record { states = to.input.states; transitions = length to.input.transitions }
-  pub written : Gains sink (listed to.listing)
+  pub written : Gains sink (listed to.output)
   pub turns : Turns asked.relation (Hide asked.hidden to.input) at.rounds
   pub keeps : KeepsTo counts.states counts.transitions 2 at (at.rounds * counts.transitions)
   pub exhausted : IsExhausted source
@@ -103,5 +102,5 @@ pub data RunFails (asked : Request) (given : List ℕ) (source sink : Used) (at 
   not_read : Refuses asked.bounds given source.after source.failures fault → sink.failures ≡ 0 → IsFresh at →
       RunFails asked given source sink at fault
   out_of_memory : GotAsFar asked.bounds given source at → fault ≡ Memory → sink.failures ≡ 0 → RunFails asked given source sink at fault
-  not_written : GotAsFar asked.bounds given source at → fault ≡ Device → sink.failures ≡ 1 →
-      BeginsQuotient asked given sink.before sink.after → RunFails asked given source sink at fault
+  not_written : GotAsFar asked.bounds given source at → fault ≡ Device → sink.failures ≡ 1 → (to : MinimisedText asked given) →
+      AppendsBeginning sink.before sink.after (listed to.output) → RunFails asked given source sink at fault

@@ -6,7 +6,7 @@ ghost use Rattle.autfmt.specs.Outcomes.{ReadsTo, Refuses, Takes};
 ghost use Rattle.autfmt.specs.Stream.{AppendsBeginning, CountsFailure};
 ghost use Rattle.autfmt.specs.declared.fault.Fault.TheVariants.{Device, Memory};
 ghost use Rattle.autbis.specs.Comparisons.{CmpFails, ComparesTo, line_of};
-ghost use Rattle.autbis.specs.Runs.{Used, asks};
+ghost use Rattle.autbis.specs.Runs.{Request, Used};
 ghost use Rattle.autbis.specs.declared.compare.Side.TheVariants.{First, Run};
 
 use autfmt::{Fault, Hidden, Limits, Sink, Source, put_all, read_hiding};
@@ -70,7 +70,8 @@ pub fn run_cmp<M: Meter, R1: Source, R2: Source, W: Sink>(
     requires sink { W.failures w.old ≡ 0 }
 
     // What a verdict means, and which error comes when.
-    ensures outcome { let at = M.counted m.new in let asked = asks rel lim.now h.now in
+    ensures outcome { let at = M.counted m.new in
+        let asked : Request = record { relation = rel; bounds = lim.now; hidden = h.now } in
         let one : Used = record { before = R1.rest a.old; after = R1.rest a.new; failures = R1.failures a.new } in
         let other : Used = record { before = R2.rest b.old; after = R2.rest b.new; failures = R2.failures b.new } in
         let sink : Used = record { before = W.written w.old; after = W.written w.new; failures = W.failures w.new } in

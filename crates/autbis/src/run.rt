@@ -2,7 +2,7 @@
 ghost use Rattle.std.specs.Prelude.{◌≡◌, IfErr};
 ghost use Rattle.lts.specs.Meter.{IsFresh};
 ghost use Rattle.autfmt.specs.Outcomes.{Takes};
-ghost use Rattle.autbis.specs.Runs.{RunFails, RunsTo, Used, asks};
+ghost use Rattle.autbis.specs.Runs.{Request, RunFails, RunsTo, Used};
 
 use autfmt::{Fault, Hidden, Limits, Sink, Source, read_hiding, write};
 use lts::{Counter, Lts, Meter};
@@ -41,7 +41,8 @@ pub fn run_min<M: Meter, R: Source, W: Sink>(
     requires sink { W.failures w.old ≡ 0 }
 
     // What a success means, and which error comes when.
-    ensures outcome { let at = M.counted m.new in let asked = asks rel lim.now h.now in
+    ensures outcome { let at = M.counted m.new in
+        let asked : Request = record { relation = rel; bounds = lim.now; hidden = h.now } in
         let source : Used = record { before = R.rest r.old; after = R.rest r.new; failures = R.failures r.new } in
         let sink : Used = record { before = W.written w.old; after = W.written w.new; failures = W.failures w.new } in
         Takes source.before source.after (λ text. RunsTo asked text source sink at)

@@ -1,12 +1,15 @@
--- Systems that have the same steps have the same leaders, numbers and quotients.
-use Rattle.std.proofs.Common.{◌≢◌, ◌↔◌, ℕ, ◌<◌, sym, ◌∙◌, subst, inl, inr}
+-- Systems that have the same steps have the same leaders, numbers and quotients, and a quotient is one in any order of its list.
+use Rattle.std.proofs.Common.{◌≡◌, ◌≢◌, ◌↔◌, ℕ, ◌<◌, sym, ◌∙◌, subst, inl, inr}
+use Rattle.std.specs.List.Sorted.{IsPermutation}
+use Rattle.std.proofs.lemmas.List.Sorted.{IsPermutation-sym, Contains-permutation}
 use Rattle.theory.specs.System.{System, Transition}
 use Rattle.theory.specs.Bisimulation.{Bisimilar}
 use Rattle.theory.specs.declared.relation.Relation.{Relation}
-use Rattle.theory.specs.Quotient.{Least, Fellow, Leader, IsLeader, Number, Stands, Quotient}
+use Rattle.theory.specs.Quotient.{HowMany, Least, Fellow, Leader, IsLeader, Number, Stands, Quotient}
 use Rattle.theory.specs.Alike.{SameSteps}
 use Rattle.theory.proofs.Tally.{how_many_like}
 use Rattle.theory.proofs.AlikeSystems.{same_steps_sym, reachable_alike, bisimilar_alike}
+use Rattle.theory.proofs.Reordering.{all_pairs_permutation}
 
 -- properties of the same numbers have the same least one
 least_like : (P Q : ℕ → Type 0) (n : ℕ) → ((k : ℕ) → P k ↔ Q k) → Least P n → Least Q n
@@ -75,4 +78,19 @@ quotient_alike rel A B Q same quotient =
         λ h. (quotient.transitions e).1 (stands_alike rel B A back e h.0, h.1),
       );
       once = quotient.once;
+    }
+
+-- a quotient is one in any order of its transitions
+pub quotient_reordered : (rel : Relation) (A Q R : System) → R.first ≡ Q.first → R.states ≡ Q.states
+    → IsPermutation R.transitions Q.transitions → Quotient rel A Q → Quotient rel A R
+quotient_reordered rel A Q R first states moved quotient =
+    let turned = IsPermutation-sym R.transitions Q.transitions moved in
+    record {
+      states = subst (HowMany (IsLeader rel A)) (sym states) quotient.states;
+      first = first ∙ quotient.first;
+      transitions = λ e. (
+        λ c. (quotient.transitions e).0 (Contains-permutation R.transitions Q.transitions e moved c),
+        λ h. Contains-permutation Q.transitions R.transitions e turned ((quotient.transitions e).1 h),
+      );
+      once = all_pairs_permutation (λ e f. e ≢ f) (λ e f differ same. differ (sym same)) Q.transitions R.transitions turned quotient.once;
     }

@@ -23,6 +23,7 @@ pub mod QuotientSteps
 pub mod QuotientStates
 pub mod Smallest
 pub mod AlikeSystems
+pub mod Reordering
 pub mod AlikeQuotients
 pub mod Embeddings
 pub mod UnionSteps

@@ -10,7 +10,8 @@ ghost use Rattle.theory.specs.Blocks.{Turns};
 ghost use Rattle.theory.specs.Quotient.{Quotient};
 ghost use Rattle.theory.specs.Alike.{SameSteps};
 
-/// No property of a system here depends on the order of its list of transitions, nor on repeats in it.
+/// No property of a system here depends on the order of its list of transitions, nor on repeats in it; and a quotient is one in
+/// any order of its list.
 pub fn the_order_does_not_matter()
     ensures permuted { (A B : System) → A.first ≡ B.first → A.states ≡ B.states →
         IsPermutation A.transitions B.transitions → SameSteps A B }
@@ -21,5 +22,7 @@ pub fn the_order_does_not_matter()
         Bisimilar rel A s C t → Bisimilar rel B s D t }
     ensures turns { (rel : Relation) (A B : System) (k : ℕ) → SameSteps A B → Turns rel A k → Turns rel B k }
     ensures quotient { (rel : Relation) (A B Q : System) → SameSteps A B → Quotient rel A Q → Quotient rel B Q }
+    ensures reordered { (rel : Relation) (A Q R : System) → R.first ≡ Q.first → R.states ≡ Q.states →
+        IsPermutation R.transitions Q.transitions → Quotient rel A Q → Quotient rel A R }
     ensures equivalent { (rel : Relation) (A B C : System) → SameSteps A B → Equivalent rel A C → Equivalent rel B C }
 {}

@@ -1,17 +1,19 @@
-use Rattle.std.proofs.Common.{◌≡◌, ◌∙◌, ℕ, List, length, Option, Err, ap, ap₂, refl, inl, inr, sym, subst, arith}
+use Rattle.std.proofs.Common.{◌≡◌, ◌≤◌, ◌∙◌, ℕ, List, length, Option, Err, ap, ap₂, refl, inl, inr, sym, subst, arith}
 use Rattle.std.specs.Io.KnownBytes.{Appends}
 use Rattle.std.proofs.lemmas.List.{length-map}
 use Rattle.std.proofs.lemmas.List.Sorted.{IsPermutation-sym}
 use Rattle.std.proofs.lemmas.Result.{err_from_is_err_and}
 use Rattle.theory.specs.System.{System, Hide}
+use Rattle.theory.specs.Bisimulation.{Bisimilar}
 use Rattle.theory.specs.declared.relation.Relation.{Relation}
 use Rattle.theory.specs.Alike.{SameSteps}
 use Rattle.lts.specs.Lts.{transition_of, system_of}
 use Rattle.autfmt.specs.declared.fault.Fault.TheVariants.{Memory}
+use Rattle.autfmt.specs.Stream.{AppendsBeginning}
 use Rattle.autfmt.specs.Texts.{Reads}
 use Rattle.autfmt.specs.Written.{GainsText, GainsBeginning, IsInWrittenOrder, failures_after, listed}
 use Rattle.autbis.specs.declared.run.Counts.{Counts}
-use Rattle.autbis.specs.Runs.{BeginsQuotient, GotAsFar, IsExhausted, MinimisedText, Minimises, Request, RunsTo, Used, asks}
+use Rattle.autbis.specs.Runs.{GotAsFar, IsExhausted, MinimisedText, Minimises, Request, RunsTo, Used, asks}
 use Rattle.autbis.specs.Runs.RunFails.{not_read, out_of_memory, not_written}
 use Rattle.autbis.proofs.Carried.{at_error, keeps_part, keeps_whole, takes_error}
 use Rattle.autbis.proofs.run.run_min.Given.{Over}
@@ -71,15 +73,20 @@ module _ (g : Over) (c : After-write g) where
       let groups = c.in_ok-system.ensures.outcome.outcome.read.2 in
       c.the_order_does_not_matter.ensures.permuted B A (sym groups.first) (sym groups.states) groups.same
 
-  minimised : Minimises rel B Q
-  minimised =
+  -- what holds of the quotient in memory holds of it in the order in which it is written
+  minimised : (R : System) → IsInWrittenOrder Q R → Minimises rel B R
+  minimised R order =
       let law = c.the_order_does_not_matter.ensures in
       let is = c.in_ok-quotient.ensures in
+      let alike = law.permuted R Q order.first order.states order.same in
+      let turned = law.permuted Q R (sym order.first) (sym order.states) (IsPermutation-sym R.transitions Q.transitions order.same) in
       record {
-        quotient = law.quotient rel A B Q same is.quotient;
-        equivalent = law.equivalent rel A B Q same is.equivalent;
-        no_two_bisimilar = is.no_two_bisimilar;
-        smallest = λ C sys other. is.smallest C sys (law.equivalent rel B A C back other);
+        quotient = law.reordered rel B Q R order.first order.states order.same (law.quotient rel A B Q same is.quotient);
+        equivalent = subst (Bisimilar rel B B.first R) (sym order.first)
+            (law.bisimilar rel A B Q R B.first Q.first same turned (subst (λ s. Bisimilar rel A s Q Q.first) same.first is.equivalent));
+        no_two_bisimilar = λ s t both. is.no_two_bisimilar s t (law.bisimilar rel R Q R Q s t alike alike both);
+        smallest = λ C sys other.
+            subst (λ n. n ≤ C.states) (sym order.states) (is.smallest C sys (law.equivalent rel B A C back other));
       }
 
   read_again : (listing : System) → IsInWrittenOrder Q listing → Reads c.args.lim.now (listed listing) listing
@@ -98,11 +105,10 @@ module _ (g : Over) (c : After-write g) where
       MinimisedText (asked g c) c.in_ok-system.ensures.outcome.given
   to listing order = record {
     input = input g c;
-    output = Q g c;
-    listing = listing;
+    output = listing;
     read = c.in_ok-system.ensures.outcome.outcome.read.1;
-    minimises = minimised g c;
-    order = order;
+    minimises = minimised g c listing order;
+    sorted = order.sorted;
     read_again = read_again g c listing order;
   }
 
@@ -123,7 +129,7 @@ module _ (g : Over) (c : After-write g) where
 
   -- or a beginning of it
   begun : (old new : Option (List ℕ)) → GainsBeginning (Q g c) old new →
-      BeginsQuotient (asked g c) c.in_ok-system.ensures.outcome.given old new
+      (written : MinimisedText (asked g c) c.in_ok-system.ensures.outcome.given) × AppendsBeginning old new (listed written.output)
   begun old new (front, later, (listing, order, is), gained) = (to listing order, (front, later, sym is, gained))
 
   -- the meter shows no more than a run over the system that was read may take
@@ -147,7 +153,10 @@ returns-in_err-write-clause-outcome g c =
     let exit = err_from_is_err_and c.from_residual-in_err-write.result c.from_residual-in_err-write.ensures.1 in
     takes_error _ _ _ _ c.from_residual-in_err-write.result e got.given exit got.took (elim is.faults [
       | inl memory ↦ out_of_memory (far g at _ (record { at_end = got.outcome.at_end; sound = got.outcome.sound })) memory (is.failures ∙ ap (λ x. failures_after {T = Unit {0}} (Err x)) memory)
-      | inr device ↦ not_written (far g at _ (record { at_end = got.outcome.at_end; sound = got.outcome.sound })) device (is.failures ∙ ap (λ x. failures_after {T = Unit {0}} (Err x)) device) (begun g at _ _ (is.device device))
+      | inr device ↦
+          let some = begun g at _ _ (is.device device) in
+          not_written (far g at _ (record { at_end = got.outcome.at_end; sound = got.outcome.sound })) device
+          (is.failures ∙ ap (λ x. failures_after {T = Unit {0}} (Err x)) device) some.0 some.1
     ])
 
 pub returns-in_err-write-clause-untouched : goal.returns-in_err-write-clause-untouched

@@ -1,0 +1,47 @@
+-- Relations of each two places of a list, in another order of the list.
+use Rattle.std.proofs.Common.{◌≡◌, ◌≢◌, ◌⊎◌, ℕ, ◌<◌, List, length, get_or, swap, AllPairs, refl, ap, ◌∙◌, inl, inr, arith}
+use Rattle.std.specs.List.Sorted.{IsPermutation}
+use Rattle.std.proofs.lemmas.Bool.{cases_eq}
+use Rattle.std.proofs.lemmas.Bool.Decides.{leb_tells}
+use Rattle.std.proofs.lemmas.List.Edits.{length-swap, swapped_from_swap}
+use Rattle.std.proofs.lemmas.List.Sorted.{IsPermutation-keeps}
+
+-- what stands at k once places i and j were exchanged stood at m
+abbrev Stood : ℕ → ℕ → ℕ → ℕ → Type 0
+Stood i j k m = ((k ≡ i) × (m ≡ j)) ⊎ (((k ≡ j) × (m ≡ i)) ⊎ ((k ≢ i) × (k ≢ j) × (m ≡ k)))
+
+stood : {X : Type 0} (xs : List X) (i j : ℕ) (d : X) → i < length xs → j < length xs → (k : ℕ) → k < length xs →
+    (m : ℕ) × (m < length xs) × (get_or (swap xs i j) k d ≡ get_or xs m d) × Stood i j k m
+stood xs i j d p q k inside =
+    let is = swapped_from_swap xs (swap xs i j) i j d p q refl in
+    elim (cases_eq k i) [
+      | inl e ↦ (j, q, ap (λ n. get_or (swap xs i j) n d) e ∙ is.0, inl (e, refl))
+      | inr e ↦ elim (cases_eq k j) [
+        | inl e' ↦ (i, p, ap (λ n. get_or (swap xs i j) n d) e' ∙ is.1, inr (inl (e', refl)))
+        | inr e' ↦ (k, inside, is.2 k e e', inr (inr (e, e', refl)))
+      ]
+    ]
+
+-- different places come from different ones
+differ : (i j a b m n : ℕ) → Stood i j a m → Stood i j b n → a ≢ b → m ≢ n
+differ i j a b m n one other apart same = omega (arith, one, other, apart, same)
+
+-- a relation that holds either way round
+module _ {X : Type 0} (R : X → X → Type 0) (turn : (x y : X) → R x y → R y x) where
+  -- of each two different places, whichever comes first
+  two_places : (xs : List X) → AllPairs R xs → (i j : ℕ) (d : X) → i ≢ j → i < length xs → j < length xs → R (get_or xs i d) (get_or xs j d)
+  two_places xs pairs i j d differ low high = elim (leb_tells i j) [
+    | inl p ↦ pairs i j d (omega (arith, p.1, differ)) high
+    | inr p ↦ turn (get_or xs j d) (get_or xs i d) (pairs j i d p.1 low)
+  ]
+
+  all_pairs_swap : (xs : List X) (i j : ℕ) → i < length xs → j < length xs → AllPairs R xs → AllPairs R (swap xs i j)
+  all_pairs_swap xs i j p q pairs a b d below inside =
+      let long = length-swap xs i j in
+      let from = stood xs i j d p q a (omega arith) in
+      let to = stood xs i j d p q b (omega arith) in
+      rw (from.2, to.2) (two_places xs pairs from.0 to.0 d (differ i j a b from.0 to.0 from.3 to.3 (omega arith)) from.1 to.1)
+
+  -- and so of each two places in another order
+  pub all_pairs_permutation : (xs ys : List X) → IsPermutation xs ys → AllPairs R xs → AllPairs R ys
+  all_pairs_permutation xs ys moved pairs = IsPermutation-keeps xs (AllPairs R) pairs all_pairs_swap ys moved
