@@ -1,3 +1,4 @@
 pub mod Forward
 pub mod Reading
 pub mod Back
+pub mod Beginning

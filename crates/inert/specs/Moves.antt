@@ -9,18 +9,22 @@ use Rattle.inert.specs.Ahead.{unseen, unread, rest, KeepsSeen, HasStages}
 use Rattle.inert.specs.declared.step.Step.{Step}
 use Rattle.inert.specs.declared.step.Step.TheVariants.{Inert, Shows}
 
--- the state s, whose row this is, goes on the stack as a component of its own
-abbrev pub entered : ℕ → ℕ → ℕ → Search → Search
-entered s start end w = record {
+-- the state s is seen, with this stage
+abbrev pub with_stage : ℕ → Stage → Search → Search
+with_stage s stage w = record w { stages = slice_set w.stages s stage }
+
+-- the state s goes on the stack as a component of its own, with a frame for these places of its row and the items from this one on
+abbrev pub entered : ℕ → ℕ → ℕ → ℕ → Search → Search
+entered s next end items w = record {
   stages = slice_set w.stages s (Open (length w.stack));
   stack = w.stack ++ s ∷ [];
-  frames = w.frames ++ record { height = length w.stack; next = start; end = end } ∷ [];
-  roots = w.roots ++ record { height = length w.stack; items = length w.items } ∷ [];
+  frames = w.frames ++ record { height = length w.stack; next = next; end = end } ∷ [];
+  roots = w.roots ++ record { height = length w.stack; items = items } ∷ [];
   items = w.items;
 }
 
 abbrev pub Enters : List Triple → ℕ → Search → Search → Type 0
-Enters places s old new = (start end : ℕ) × IsRow places s start end × (new ≡ entered s start end old)
+Enters places s old new = (start end : ℕ) × IsRow places s start end × (new ≡ entered s start end (length old.items) old)
 
 -- of the roots those stay that are up to the height q
 pub record CutsRoots (q : ℕ) (old new : List Root) : Type 0 where
@@ -33,6 +37,10 @@ pub record CutsRoots (q : ℕ) (old new : List Root) : Type 0 where
 -- one item more is collected
 abbrev pub with_item : Item → Search → Search
 with_item x w = record w { items = w.items ++ x ∷ [] }
+
+-- the step is an inert one, to a state that is not finished
+abbrev pub LeadsOn : List Stage → Step → Type 0
+LeadsOn stages step = (t : ℕ) × (step ≡ Inert t) × ((k : ℕ) → ¬ (stage_at stages t ≡ Finished k))
 
 -- a step is taken, and enters a state or not
 abbrev pub TakesStep : List Triple → Step → Search → Search → Bool → Type 0
@@ -68,7 +76,7 @@ pub record Finishes (stack : List ℕ) (f number : ℕ) (old new : List Stage) :
 
 -- the state s is finished with the empty list, and nothing else changes
 abbrev pub skipped : ℕ → Search → Search
-skipped s w = record w { stages = slice_set w.stages s (Finished 0) }
+skipped s w = with_stage s (Finished 0) w
 
 -- the walk without its last frame
 abbrev pub popped : Search → Search
@@ -84,6 +92,12 @@ pub record Closes (root : Root) (before after : List (List (ℕ × ℕ))) (old n
   pub roots : new.roots ≡ take (length old.roots - 1) old.roots
   pub led : 0 < length old.frames → new.items ≡ take root.items old.items ++ Listed number ∷ []
   pub alone : length old.frames ≡ 0 → new.items ≡ take root.items old.items
+
+-- the state s, for which all items were collected, is finished: its list is the one of this number
+pub record Ends (s : ℕ) (before after : List (List (ℕ × ℕ))) (old new : Search) : Type 0 where
+  pub number : ℕ
+  pub listed : IsListed old.items before after number
+  pub is : new ≡ with_stage s (Finished number) (record old { items = [] })
 
 -- how many transitions are still to be read
 abbrev pub ahead : Grouped → Search → ℕ

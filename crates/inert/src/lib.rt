@@ -19,9 +19,13 @@
 //! items    (a,1) list 4   (b,1) (a,0)  what each has collected: two items each
 //! ```
 //!
+//! A walk begins without a frame, with nothing on the stack: its first state is put there only if an inert step leads on to a
+//! state that is not finished. Most walks are one row: in ten rounds over nine buffers, steps enter 521 of 196,830 states.
+//!
 //! A state that is alone in its block is passed: no inert step leads to it from another one, so nothing needs its list.
 #![tactic(auto)]
 
+mod beginning;
 mod component;
 mod item;
 mod reading;

@@ -40,8 +40,7 @@ impl Walk {
             ≡ (M.counted m.old).visits + unread l.now.places self.old.stages) }
         ensures cost { Costs (M.counted m.old) (M.counted m.new) 0 0 (unread l.now.places self.old.stages) }
     {
-        laws();
-        self.enter(l, s)?;
+        self.begin(l, blocks, internal, alone, s, lists, m)?;
         while !self.frames.is_empty() {
             if self.read(l, blocks, internal, alone, lists, m)? {
                 continue;
@@ -155,7 +154,7 @@ fn finish_members(stages: &mut Vec<Stage>, stack: &[u32], from: usize, list: u32
 }
 
 /// Does nothing when it runs: its contract says what inert steps lead to, and what they pass back.
-fn laws()
+pub(crate) fn laws()
     ensures { Laws }
 {
     theory::inert_steps_lead_on();

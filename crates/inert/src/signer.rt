@@ -11,7 +11,7 @@ ghost use Rattle.inert.specs.Ahead.{unread, HasSeen};
 ghost use Rattle.inert.specs.Moves.{skipped, Rests};
 ghost use Rattle.inert.specs.declared.walk.Stage.TheVariants.{Unseen, Finished};
 
-use crate::walk::Walk;
+use crate::walk::{Stage, Walk};
 use lists::{EMPTY, Lists};
 use lts::{Lts, Memory, Meter, visit_row};
 use std::alloc::Global;
@@ -238,7 +238,7 @@ fn pass<M: Meter>(walk: &mut Walk, l: &Lts<M>, s: u32, m: &mut M) -> Result<(), 
         OnOk result ((walk.new ≡ skipped s walk.old) × Costs (M.counted m.old) (M.counted m.new) 0 n n) }
     ensures cost { Costs (M.counted m.old) (M.counted m.new) 0 0 (length (row_of s l.now.places)) }
 {
-    walk.skip(s)?;
+    walk.see(s, Stage::Finished(EMPTY))?;
     visit_row(l, s, m);
     Ok(())
 }

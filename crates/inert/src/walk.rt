@@ -3,7 +3,7 @@
 ghost use Rattle.std.specs.Prelude.{◌≡◌, ◌↔◌, ℕ, ◌+◌, ◌<◌, ◌≤◌, [], length, IsTrue, IfOk, OnOk};
 ghost use Rattle.lts.specs.declared.limits.TheConstants.{MOST_STATES};
 ghost use Rattle.inert.specs.Search.{Search, stage_at, nothing, IsIdle};
-ghost use Rattle.inert.specs.Moves.{Enters, TakesStep, CutsRoots, skipped};
+ghost use Rattle.inert.specs.Moves.{with_stage, entered, Enters, LeadsOn, TakesStep, CutsRoots};
 ghost use Rattle.inert.specs.Ahead.{IsTrail};
 ghost use Rattle.inert.specs.declared.walk.Stage.TheVariants.{Unseen, Open, Finished};
 ghost use Rattle.inert.specs.declared.step.Step.TheVariants.{Inert, Shows};
@@ -11,7 +11,6 @@ ghost use Rattle.inert.specs.declared.item.TheConstants.{LISTED};
 
 use crate::item::{CompactItem, Item};
 use crate::step::Step;
-use lists::EMPTY;
 use lts::{Lts, Memory, Meter};
 use std::alloc::Global;
 use std::marker::Model;
@@ -149,16 +148,50 @@ impl Walk {
         }
     }
 
-    /// Finishes the state `s` with the empty list.
+    /// Whether the step is an inert one to a state that is not finished.
+    #[inline(always)]
+    pub fn leads_on(&self, step: Step) -> bool
+        requires { (t : ℕ) → step ≡ Inert t → t < length self.now.stages }
+        ensures { IsTrue result ↔ LeadsOn self.now.stages step }
+    {
+        match step {
+            Step::Shows(_, _) => false,
+            Step::Inert(t) => match self.stages[t as usize] {
+                Stage::Unseen => true,
+                Stage::Open(_) => true,
+                Stage::Finished(_) => false,
+            },
+        }
+    }
+
+    /// Sees the state `s`: this is known of it from now on.
     ///
     /// Fails if there is no memory for it.
-    pub fn skip(&mut self, s: u32) -> Result<(), Memory>
+    #[inline(always)]
+    pub fn see(&mut self, s: u32, stage: Stage) -> Result<(), Memory>
         requires { s < length self.old.stages }
-        ensures { OnOk result (self.new ≡ skipped s self.old) }
+        ensures { OnOk result (self.new ≡ with_stage s stage self.old) }
     {
         self.trail.push(s)?;
-        self.stages[s as usize] = Stage::Finished(EMPTY);
+        self.stages[s as usize] = stage;
         Ok(())
+    }
+
+    /// Puts the state `s` on the stack, as a component of its own: its items are those from `items` on, and its frame is for the
+    /// places of its row from `next` up to `end`.
+    ///
+    /// Fails if there is no memory for it.
+    #[inline(always)]
+    pub fn put(&mut self, s: u32, next: u32, end: u32, items: usize) -> Result<(), Memory>
+        requires state { s < length self.old.stages }
+        requires heights { length self.old.stack ≤ MOST_STATES }
+        ensures { OnOk result (self.new ≡ entered s next end items self.old) }
+    {
+        let height = self.stack.len() as u32;
+        self.roots.push(Root { height, items })?;
+        self.frames.push(Frame { height, next, end })?;
+        self.stack.push(s)?;
+        self.see(s, Stage::Open(height))
     }
 
     /// Enters the state `s`: it goes on the stack, as a component of its own, and its row is read from now on.
@@ -172,16 +205,8 @@ impl Walk {
         ensures { OnOk result (Enters l.now.places s self.old self.new) }
     {
         let (next, end) = l.row(s);
-        let height = self.stack.len() as u32;
-        self.trail.push(s)?;
-        self.roots.push(Root {
-            height,
-            items: self.items.len(),
-        })?;
-        self.frames.push(Frame { height, next, end })?;
-        self.stack.push(s)?;
-        self.stages[s as usize] = Stage::Open(height);
-        Ok(())
+        let items = self.items.len();
+        self.put(s, next, end, items)
     }
 
     /// Takes a step from the state where the walk is: what it shows is collected, and an inert one is followed. Returns

@@ -1,19 +1,18 @@
--- A walk at rest: before it has begun, after it has passed a state, as it begins, when it is over, and the numbers of its lists then.
+-- A walk at rest: before it has begun, after it has passed a state, when it is over, and the numbers of its lists then.
 use Rattle.std.proofs.Common.{◌≡◌, ℕ, ◌+◌, ◌<◌, ◌≤◌, Bool, List, [], length, Contains, refl, sym, ◌∙◌, ap, subst, inl, inr, arith, slice_index}
 use Rattle.std.proofs.lemmas.Bool.{cases_eq}
 use Rattle.std.proofs.lemmas.Grind.{common_steps}
-use Rattle.std.proofs.lemmas.List.{get_or-set_same, get_or-set_other, length-set, length_push, nil_from_length, get_or_default}
+use Rattle.std.proofs.lemmas.List.{get_or-set_same, get_or-set_other, length-set, nil_from_length, get_or_default}
 use Rattle.std.proofs.lemmas.List.Sums.{count_by-le-length}
-use Rattle.lts.specs.Lts.{Grouped, row_of, IsLts}
+use Rattle.lts.specs.Lts.{Grouped, row_of}
 use Rattle.lists.specs.Lists.{list_at, AreNumbers}
 use Rattle.inert.specs.Signed.{IsKnownAlone, IsListOf}
-use Rattle.inert.specs.Search.{Search, Laws, stage_at, no_root, IsIdle, IsSigned, Walks, Unseen, Open, Finished, Frame, HasItsList, Stage}
-use Rattle.inert.specs.Moves.{Enters, skipped, ahead, FitsLists, GoesOn, Rests}
-use Rattle.inert.specs.Ahead.{is_unseen, unseen, unread, rest, HasSeen}
+use Rattle.inert.specs.Search.{Search, nothing, stage_at, no_root, IsIdle, IsSigned, Walks, Unseen, Open, Finished, HasItsList, Stage}
+use Rattle.inert.specs.Moves.{skipped, FitsLists, Rests}
+use Rattle.inert.specs.Ahead.{is_unseen, unseen, unread, HasSeen}
 use Rattle.inert.proofs.parts.Stages.{seen_more}
-use Rattle.inert.proofs.parts.Counting.{unseen-set, unread-set, unread-all, rest-push, unread-none}
+use Rattle.inert.proofs.parts.Counting.{unseen-set, unread-set, unread-all}
 use Rattle.inert.proofs.invariant.Standing.{frames_some, root_low}
-use Rattle.inert.proofs.moves.Forward.{Walks-enter}
 
 -- nothing was seen yet
 pub idle_rests : (l : Grouped) (blocks : List ℕ) (alone : List Bool) (lists : List (List (ℕ × ℕ))) {w : Search} → IsIdle w → length w.stages ≡ l.states → length lists ≡ 1
@@ -28,23 +27,14 @@ idle_rests l blocks alone lists {w = w} idle size one =
       fits = subst (FitsLists l (length lists)) (sym idle.empty) (omega (arith, few, unread-all l.places w.stages idle.none, size, one));
     }
 
--- no row is left
-pub none_unread : {l : Grouped} → IsLts l → (stages : List Stage) → length stages ≡ l.states → ((s : ℕ) → s < l.states → ¬ (stage_at stages s ≡ Unseen)) → unread l.places stages ≡ 0
-none_unread {l = l} lts stages size all =
-    unread-none l.places stages (λ s h. all s (omega (arith, h, size)))
-    (λ k d h. let e = (lts.in_range.each k d h).source in omega (arith, e, size))
-
 seen_finished : (m : Stage) → ((p : ℕ) → ¬ (m ≡ Open p)) → ¬ (m ≡ Unseen) → (k : ℕ) × (m ≡ Finished k)
 seen_finished Unseen on seen = absurd (seen refl)
 seen_finished (Open p) on seen = absurd (on p refl)
 seen_finished (Finished k) on seen = (k, refl)
 
 module _ {l : Grouped} {blocks : List ℕ} {alone : List Bool} {lists : List (List (ℕ × ℕ))} {w : Search} (rests : Rests l blocks alone lists w) where
-  pub rests_empty : length w.stack ≡ 0
-  rests_empty = ap (λ x. length x.stack) rests.empty
-
-  rests_walks : Walks l blocks alone lists w
-  rests_walks = subst (Walks l blocks alone lists) (sym rests.empty) (record {
+  pub idle_walks : Walks l blocks alone lists (nothing w.stages)
+  idle_walks = record {
     numbers = rests.numbers;
     opened = record { placed = λ p h. absurd (omega (arith, h)); only = λ s p is. absurd (rests.shut s p is) };
     signed = rests.signed;
@@ -54,34 +44,12 @@ module _ {l : Grouped} {blocks : List ℕ} {alone : List Bool} {lists : List (Li
     there = λ j d h. absurd (omega (arith, h));
     sound = λ j h. absurd (omega (arith, h));
     accounted = λ p k h. absurd (omega (arith, h));
-  })
+  }
 
-  -- the state s, which was not seen, is the first one of a walk, or is passed
+  -- the state s, which was not seen, is passed
   module _ {s : ℕ} (inside : s < l.states) (none : stage_at w.stages s ≡ Unseen) where
-    within : s < length w.stages
+    pub within : s < length w.stages
     within = let size = rests.numbers.size in omega (arith, size, inside)
-
-    pub record Begins (new : Search) : Type 0 where
-      pub on : GoesOn l blocks alone lists w new
-      pub found : ¬ (stage_at new.stages s ≡ Unseen)
-      pub same : ahead l new ≡ unread l.places w.stages
-
-    pub begins : (laws : Laws) (new : Search) → Enters l.places s w new → Begins new
-    begins laws new (start, end, row, is) =
-        let x : Frame = record { height = length w.stack; next = start; end = end } in
-        let fewer = unseen-set w.stages s (Open (length w.stack)) refl within none in
-        let less = unread-set w.stages s (Open (length w.stack)) refl within none l.places in
-        let frames = ap (λ y. length y.frames) rests.empty in
-        let left = ap (λ y. rest y.frames) rests.empty in
-        subst Begins (sym is) (record {
-          on = record {
-            walks = Walks-enter rests_walks laws within none row (λ some. absurd (omega (arith, some, frames)));
-            fits = omega (arith, fewer, less, rest-push w.frames x, row.count, length_push w.stack s, length_push w.frames x, frames, rests.fits);
-            seen = seen_more w.stages s (Open (length w.stack)) (λ e. cc) within;
-          };
-          found = λ is. cc (is, get_or-set_same w.stages s (Open (length w.stack)) Unseen within);
-          same = omega (arith, less, rest-push w.frames x, row.count, left);
-        })
 
     pub skipped_seen : HasSeen s w.stages (skipped s w).stages
     skipped_seen = record { seen = seen_more w.stages s (Finished 0) (λ e. cc) within; found = λ is. cc (is, get_or-set_same w.stages s (Finished 0) Unseen within) }

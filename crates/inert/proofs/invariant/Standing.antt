@@ -30,6 +30,9 @@ module _ {l : Grouped} {blocks : List ℕ} {alone : List Bool} {lists : List (Li
   pub stack_some : 0 < length w.frames → 0 < length w.stack
   stack_some some = omega (arith, on_stack some)
 
+  pub last_low : 0 < length w.frames → length w.roots - 1 < length w.roots
+  last_low some = omega (arith, roots_some (stack_some some))
+
   -- a frame is the last one, or lower
   pub frames_up : (i : ℕ) → i < length w.frames → (frame_at w.frames i).height ≤ here w
   frames_up i low = grind (arith, walks.frames.rising i (length w.frames - 1) no_frame, low)

@@ -14,7 +14,7 @@ use Rattle.inert.specs.Signed.{HasPair}
 use Rattle.inert.specs.Ahead.{is_unseen, rest, KeepsSeen}
 use Rattle.inert.proofs.parts.Rising.{AllPairs-take, All-from_take}
 use Rattle.inert.proofs.parts.Counting.{unseen-same, unread-same, rest-cut}
-use Rattle.inert.proofs.invariant.Standing.{reached, not_last, last_most, none_ahead, IsFrame-moved, pair_before, stack_some, roots_some, root_low}
+use Rattle.inert.proofs.invariant.Standing.{reached, not_last, last_most, none_ahead, IsFrame-moved, pair_before, stack_some, last_low, root_low}
 use Rattle.inert.proofs.invariant.Keeping.{Keeps, keeps_stack, Walks-grow, accounted_still, sound_still}
 use Rattle.inert.proofs.signatures.Exact.{exact}
 
@@ -121,14 +121,11 @@ module _ (laws : Laws) {l : Grouped} {blocks : List ℕ} {alone : List Bool} {li
     items = take c0 w.items ++ added;
   }
 
-  last_low : length w.roots - 1 < length w.roots
-  last_low = omega (arith, roots_some walks (stack_some walks some))
-
   low_q : q < length w.stack
-  low_q = root_low walks (length w.roots - 1) no_root last_low
+  low_q = root_low walks (length w.roots - 1) no_root (last_low walks some)
 
   few : c0 ≤ length w.items
-  few = (walks.roots.each (length w.roots - 1) no_root last_low).within
+  few = (walks.roots.each (length w.roots - 1) no_root (last_low walks some)).within
 
   -- the stack and the frames
   size : length Closed.stack ≡ q
@@ -170,10 +167,10 @@ module _ (laws : Laws) {l : Grouped} {blocks : List ℕ} {alone : List Bool} {li
   keeps = record {
     within = omega (arith, low_q);
     states = state_same;
-    below = λ p r h low up. let le = up (length w.roots - 1) no_root last_low in grind (arith, le, h);
+    below = λ p r h low up. let le = up (length w.roots - 1) no_root (last_low walks some) in grind (arith, le, h);
     up = λ p r h up. All-take (λ x. x.height ≤ p → x.height ≤ r) (length w.roots - 1) w.roots up;
     of = λ j p low h of. All-take (λ x. (x.height ≤ p → x.items ≤ j) × (p < x.height → j < x.items)) (length w.roots - 1) w.roots of;
-    items = λ j p low h of. item_same j ((of (length w.roots - 1) no_root last_low).1 h);
+    items = λ j p low h of. item_same j ((of (length w.roots - 1) no_root (last_low walks some)).1 h);
     opened = λ s p low is. grind (arith, stages.others s, walks.opened.only s p, walks.opened.placed);
     finished = λ s k is. grind (arith, stages.others s, walks.opened.placed);
   }
@@ -234,7 +231,7 @@ module _ (laws : Laws) {l : Grouped} {blocks : List ℕ} {alone : List Bool} {li
 
   sound : AreSound l blocks lists Closed
   sound = each_item (IsSound l blocks lists Closed)
-      (λ j h. sound_still walks keeps j (omega (arith, h, few)) (omega (arith, size)) (λ p lp of. let le = (of (length w.roots - 1) no_root last_low).0 in grind (arith, le, h)))
+      (λ j h. sound_still walks keeps j (omega (arith, h, few)) (omega (arith, size)) (λ p lp of. let le = (of (length w.roots - 1) no_root (last_low walks some)).0 in grind (arith, le, h)))
       (λ more. let low = back_low more in (
         back,
         omega (arith, low, size),

@@ -113,7 +113,7 @@ module _ {l : Grouped} {blocks : List ℕ} {alone : List Bool} {lists : List (Li
   -- the state t is entered
   module _ (laws : Laws) {t start end : ℕ} (within : t < length w.stages) (unseen : stage_at w.stages t ≡ Unseen) (row : IsRow l.places t start end) where
     abbrev pub Entered : Search
-    Entered = entered t start end w
+    Entered = entered t start end (length w.items) w
 
     abbrev n : ℕ
     n = length w.stack

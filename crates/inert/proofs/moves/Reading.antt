@@ -8,11 +8,10 @@ use Rattle.theory.specs.declared.relation.Relation.TheVariants.{Branching}
 use Rattle.theory.specs.Blocks.{Inert, Signature}
 use Rattle.lts.specs.Labels.{text_of}
 use Rattle.lts.specs.Lts.{Grouped, Triple, source_of, label_of, target_of, place_at, system_of, IsLts, IsRow}
-use Rattle.lts.specs.Meter.{Counts, Costs}
 use Rattle.inert.specs.Signed.{HasPair, pair_under}
 use Rattle.inert.specs.Steps.{IsInert, IsStep}
 use Rattle.inert.specs.Search.{Search, Laws, stage_at, frame_at, no_frame, top, here, IsFrame, Accounted, Walks, Unseen, Open, Finished, Frame, Root, Item, Pair, Listed}
-use Rattle.inert.specs.Moves.{entered, with_item, TakesStep, CutsRoots, ahead, weight, steps, HasRead, GoesOn}
+use Rattle.inert.specs.Moves.{entered, with_item, TakesStep, CutsRoots, ahead, weight, HasRead, IsUnderWay, GoesOn}
 use Rattle.inert.specs.Ahead.{KeepsSeen}
 use Rattle.inert.specs.declared.step.Step.{Step as TakenStep}
 use Rattle.inert.specs.declared.step.Step.TheVariants.{Inert as Goes, Shows}
@@ -113,7 +112,7 @@ module _ (laws : Laws) {l : Grouped} (lts : IsLts l) {blocks : List ℕ} {alone 
         (omega arith)
 
     taken_entered : (start end : ℕ) (enters : Bool) → IsRow l.places (target_of e) start end → stage_at w.stages (target_of e) ≡ Unseen → IsTrue enters
-        → Taken (entered (target_of e) start end w) enters
+        → Taken (entered (target_of e) start end (length w.items) w) enters
     taken_entered start end enters row unseen went =
         let within : target_of e < length w.stages = omega (arith, walks.numbers.size, target_low) in
         let x : Frame = record { height = length w.stack; next = start; end = end } in
@@ -135,141 +134,105 @@ module _ (laws : Laws) {l : Grouped} (lts : IsLts l) {blocks : List ℕ} {alone 
   taken (Shows a b) m enters is takes =
       subst (λ x. Taken x enters) (sym takes.0) (taken_pair a b enters is.0 is.1 takes.1)
   taken (Goes t) m enters is (inl (unseen, (start, end, row, new), went)) =
-      subst (λ x. Taken x enters) (sym (new ∙ ap (λ s. entered s start end w) is.1))
+      subst (λ x. Taken x enters) (sym (new ∙ ap (λ s. entered s start end (length w.items) w) is.1))
       (taken_entered is.0 start end enters (subst (λ s. IsRow l.places s start end) is.1 row) (ap (stage_at w.stages) (sym is.1) ∙ unseen) went)
   taken (Goes t) m enters is (inr (inl (q, stage, cuts, new, stay))) =
       subst (λ x. Taken x enters) (sym new) (taken_joined is.0 q m.roots enters (ap (stage_at w.stages) (sym is.1) ∙ stage) cuts stay)
   taken (Goes t) m enters is (inr (inr (number, stage, new, stay))) =
       subst (λ x. Taken x enters) (sym new) (taken_finished is.0 number enters (ap (stage_at w.stages) (sym is.1) ∙ stage) stay)
 
--- from one walk to another one, the last row was read up to place k
-pub record Reads (l : Grouped) (old new : Search) (k : ℕ) : Type 0 where
-  pub size : length new.frames ≡ length old.frames
-  pub here : top new.frames ≡ record (top old.frames) { next = k }
-  pub stack : new.stack ≡ old.stack
+-- from one walk to another one, the row of what was its last frame was read up to place k
+pub record Reads (l : Grouped) (blocks : List ℕ) (alone : List Bool) (lists : List (List (ℕ × ℕ))) (old new : Search) (k : ℕ) : Type 0 where
+  pub on : GoesOn l blocks alone lists old new
+  pub here : frame_at new.frames (length old.frames - 1) ≡ record (top old.frames) { next = k }
   pub forward : (top old.frames).next ≤ k
   pub less : ahead l new + k ≡ ahead l old + (top old.frames).next
 
--- and a state was entered
-pub record Entered (l : Grouped) (old new : Search) (k : ℕ) : Type 0 where
-  pub size : length new.frames ≡ length old.frames + 1
-  pub forward : (top old.frames).next < k
-  pub less : ahead l new + k ≡ ahead l old + (top old.frames).next
+-- and no state was entered
+pub record Stays (old new : Search) : Type 0 where
+  pub size : length new.frames ≡ length old.frames
+  pub stack : new.stack ≡ old.stack
 
-pub reads_none : (l : Grouped) (w : Search) → Reads l w w (top w.frames).next
-reads_none l w = record { size = refl; here = refl; stack = refl; forward = omega arith; less = refl }
+pub reads_none : {l : Grouped} {blocks : List ℕ} {alone : List Bool} {lists : List (List (ℕ × ℕ))} {w : Search} → IsUnderWay l blocks alone lists w
+    → Reads l blocks alone lists w w (top w.frames).next
+reads_none way = record { on = record { walks = way.walks; fits = way.fits; seen = λ s h. h }; here = refl; forward = omega arith; less = refl }
 
-pub entered_steps : {l : Grouped} {old new : Search} {k : ℕ} → Entered l old new k → steps l new < steps l old
-entered_steps entered = grind (arith, entered.size, entered.less, entered.forward)
-
-module _ {l : Grouped} {blocks : List ℕ} {alone : List Bool} {lists : List (List (ℕ × ℕ))} {first w : Search} {k : ℕ} (on : GoesOn l blocks alone lists first w)
-    (reads : Reads l first w k) (some : 0 < length first.frames) where
+module _ {l : Grouped} {blocks : List ℕ} {alone : List Bool} {lists : List (List (ℕ × ℕ))} {first w : Search} {k : ℕ} (reads : Reads l blocks alone lists first w k)
+    (stays : Stays first w) (some : 0 < length first.frames) where
   now_some : 0 < length w.frames
-  now_some = omega (arith, reads.size, some)
+  now_some = omega (arith, stays.size, some)
 
-  next_is : (top w.frames).next ≡ k
-  next_is = ap (λ y. y.next) reads.here
-
-  end_is : (top w.frames).end ≡ (top first.frames).end
-  end_is = ap (λ y. y.end) reads.here
+  top_is : top w.frames ≡ record (top first.frames) { next = k }
+  top_is = ap (λ n. frame_at w.frames (n - 1)) stays.size ∙ reads.here
 
   -- the row is read where no more is left
   pub read_all : ¬ (k < (top first.frames).end) → HasRead w
   read_all over =
-      let most = (on.walks.frames.each (length w.frames - 1) no_frame (omega (arith, now_some))).most in
-      omega (arith, most, next_is, end_is, over)
-
-  pub read_steps : steps l w ≤ steps l first
-  read_steps = omega (arith, reads.size, reads.less, reads.forward)
+      let most = (reads.on.walks.frames.each (length w.frames - 1) no_frame (omega (arith, now_some))).most in
+      omega (arith, most, ap (λ y. y.next) top_is, ap (λ y. y.end) top_is, over)
 
   -- and else a transition more is taken
   module _ (laws : Laws) (lts : IsLts l) (more : k < (top first.frames).end) where
     now_more : k < (top w.frames).end
-    now_more = omega (arith, end_is, more)
+    now_more = omega (arith, ap (λ y. y.end) top_is, more)
 
     pub place_below : k < length l.places
-    place_below = place_low laws lts on.walks now_some next_is now_more
+    place_below = place_low laws lts reads.on.walks now_some (ap (λ y. y.next) top_is) now_more
 
     module _ (block : ℕ) (is_block : block ≡ slice_index blocks (slice_index first.stack (top first.frames).height)) (step : TakenStep)
-        (is_step : IsStep l blocks block (place_at l.places k) step) where
-      pub goes_low : (t : ℕ) → step ≡ Goes t → t < l.states
-      goes_low t e =
-          let is : IsStep l blocks block (place_at l.places k) (Goes t) = subst (IsStep l blocks block (place_at l.places k)) e is_step in
-          omega (arith, target_low laws lts on.walks now_some next_is now_more, is.1)
+        (is_step : IsStep l blocks block (place_at l.places k) step) (m : Search) (enters : Bool) (takes : TakesStep l.places step w m enters) where
+      same_block : block ≡ slice_index blocks (source_of (place_at l.places k))
+      same_block =
+          is_block ∙ ap (slice_index blocks) (ap (slice_index first.stack) (sym (ap (λ y. y.height) top_is)) ∙ ap (λ xs. slice_index xs (top w.frames).height) (sym stays.stack)
+          ∙ sym (source laws lts reads.on.walks now_some (ap (λ y. y.next) top_is) now_more))
 
-      module _ (m : Search) (enters : Bool) (takes : TakesStep l.places step w m enters) (i : ℕ) (last : i ≡ length first.frames - 1) where
-        same_block : block ≡ slice_index blocks (source_of (place_at l.places k))
-        same_block =
-            is_block ∙ ap (slice_index blocks) (ap (slice_index first.stack) (sym (ap (λ y. y.height) reads.here)) ∙ ap (λ xs. slice_index xs (top w.frames).height) (sym reads.stack)
-            ∙ sym (source laws lts on.walks now_some next_is now_more))
+      took : Taken laws lts reads.on.walks now_some (ap (λ y. y.next) top_is) now_more m enters
+      took =
+          taken laws lts reads.on.walks now_some (ap (λ y. y.next) top_is) now_more step m enters
+          (subst (λ b. IsStep l blocks b (place_at l.places k) step) same_block is_step) takes
 
-        took : Taken laws lts on.walks now_some next_is now_more m enters
-        took =
-            taken laws lts on.walks now_some next_is now_more step m enters (subst (λ b. IsStep l blocks b (place_at l.places k) step) same_block is_step) takes
-
+      -- it is marked as read
+      module _ (i : ℕ) (last : i ≡ length first.frames - 1) where
         pub still_there : i < length m.frames
-        still_there = grind (arith, cases_Bool enters, took.longer, took.still, reads.size, last, some)
+        still_there = grind (arith, cases_Bool enters, took.longer, took.still, stays.size, last, some)
 
-        same_frame : frame_at m.frames i ≡ top w.frames
-        same_frame = ap (frame_at m.frames) (let e : i ≡ length w.frames - 1 = omega (arith, reads.size, last) in e) ∙ took.same_frame
+        same_frame : frame_at m.frames i ≡ record (top first.frames) { next = k }
+        same_frame = ap (frame_at m.frames) (let e : i ≡ length w.frames - 1 = omega (arith, stays.size, last) in e) ∙ took.same_frame ∙ top_is
 
-        -- it is marked as read
         module _ (x : Frame) (is : x ≡ record (frame_at m.frames i) { next = k + 1 }) where
           abbrev New : Search
           New = record m { frames = set m.frames i x }
 
           next : (frame_at m.frames i).next ≡ k
-          next = ap (λ y. y.next) same_frame ∙ next_is
+          next = ap (λ y. y.next) same_frame
 
           left : k < (frame_at m.frames i).end
-          left = omega (arith, now_more, ap (λ y. y.end) same_frame)
+          left = omega (arith, more, ap (λ y. y.end) same_frame)
 
-          moved : Walks l blocks alone lists New
-          moved = Walks-next took.after still_there is next left (subst (λ y. Accounted l blocks lists m y.height (place_at l.places k)) (sym same_frame) took.done)
+          done : Accounted l blocks lists m (frame_at m.frames i).height (place_at l.places k)
+          done = subst (λ (y : Frame). Accounted l blocks lists m y.height (place_at l.places k)) (top_is ∙ sym same_frame) took.done
 
           moved_ahead : ahead l New + 1 ≡ ahead l w
           moved_ahead =
               let one = rest-next m.frames i x still_there (ap (λ y. y.end) is) (ap (λ y. y.next) is ∙ ap (λ n. n + 1) (sym next)) (omega (arith, next, left)) in
               omega (arith, one, took.same_ahead)
 
-          pub goes_on : GoesOn l blocks alone lists first New
-          goes_on = record {
-            walks = moved;
-            fits = omega (arith, on.fits, moved_ahead, took.heavier, length-set m.frames i x);
-            seen = λ s h. on.seen s (took.seen s h);
-          }
-
-          less : ahead l New + (k + 1) ≡ ahead l first + (top first.frames).next
-          less = omega (arith, moved_ahead, reads.less)
-
-          pub read_more : ¬ IsTrue enters → Reads l first New (k + 1)
-          read_more stay =
-              let same = length-set m.frames i x ∙ ap length (took.still stay).0 ∙ reads.size in
-              let top_is : top New.frames ≡ x = ap (frame_at New.frames) (let e : length New.frames - 1 ≡ i = omega (arith, same, last) in e) ∙ get_or-set_same m.frames i x _ still_there in
-              let old : frame_at m.frames i ≡ record (top first.frames) { next = k } = same_frame ∙ reads.here in
-              record {
-                size = same;
-                here = top_is ∙ is ∙ (λ j. record { height = (old j).height; next = k + 1; end = (old j).end });
-                stack = (took.still stay).1 ∙ reads.stack;
-                forward = omega (arith, reads.forward);
-                less = less;
-              }
-
-          pub read_entered : IsTrue enters → Entered l first New (k + 1)
-          read_entered went = record {
-            size = omega (arith, length-set m.frames i x, took.longer went, reads.size);
+          pub read_more : Reads l blocks alone lists first New (k + 1)
+          read_more = record {
+            on = record {
+              walks = Walks-next took.after still_there is next left done;
+              fits = omega (arith, reads.on.fits, moved_ahead, took.heavier, length-set m.frames i x);
+              seen = λ s h. reads.on.seen s (took.seen s h);
+            };
+            here =
+                ap (frame_at New.frames) (sym last) ∙ get_or-set_same m.frames i x _ still_there ∙ is
+                ∙ (λ j. record { height = (same_frame j).height; next = k + 1; end = (same_frame j).end });
             forward = omega (arith, reads.forward);
-            less = less;
+            less = omega (arith, moved_ahead, reads.less);
           }
 
--- what it costs to read one transition more, if so many are still ahead
-pub counts_more : (old at new : Counts) (from next first rest : ℕ) → at.visits + from ≡ old.visits + next → Costs old at 0 0 first → Costs at new 0 1 1
-    → rest + (next + 1) ≡ first + from → (new.visits + from ≡ old.visits + (next + 1)) × Costs old new 0 0 first
-counts_more old at new from next first rest read made one less = (
-  omega (arith, read, one.at_least, one.at_most),
-  record {
-    rounds = omega (arith, made.rounds, one.rounds);
-    at_least = omega (arith, made.at_least, one.at_least);
-    at_most = omega (arith, read, one.at_most, less);
-  },
-)
+          pub stays_more : ¬ IsTrue enters → Stays first New
+          stays_more stay = record { size = length-set m.frames i x ∙ ap length (took.still stay).0 ∙ stays.size; stack = (took.still stay).1 ∙ stays.stack }
+
+          pub enters_more : IsTrue enters → length New.frames ≡ length first.frames + 1
+          enters_more went = omega (arith, length-set m.frames i x, took.longer went, stays.size)

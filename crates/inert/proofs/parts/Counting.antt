@@ -1,12 +1,13 @@
 -- What a walk has still to read: how it shrinks as states are entered and their rows are read.
-use Rattle.std.proofs.Common.{◌≡◌, ◌∙◌, ℕ, suc, ◌+◌, ◌-◌, ◌<◌, ◌≤◌, Bool, false, cond, eqb, List, [], ◌∷◌, ◌++◌, length, set, take, map, get_or, ap, refl, sym, arith}
-use Rattle.std.specs.List.{All, sum, sum_by}
+use Rattle.std.proofs.Common.{◌≡◌, ◌∙◌, ℕ, ◌+◌, ◌-◌, ◌<◌, ◌≤◌, Bool, false, cond, eqb, List, [], ◌∷◌, ◌++◌, length, set, take, map, get_or, ap, refl, sym, arith}
+use Rattle.std.specs.List.{sum, sum_by}
 use Rattle.std.proofs.lemmas.Grind.{common_steps}
 use Rattle.std.proofs.lemmas.Bool.Decides.{nat_tests}
 use Rattle.std.proofs.lemmas.List.{ext_get_or, get_or-map, length-map, take_all}
-use Rattle.std.proofs.lemmas.List.Elements.{All-head, All-tail, filter_agree}
+use Rattle.std.proofs.lemmas.List.Elements.{filter_agree}
 use Rattle.std.proofs.lemmas.List.Sums.{length-filter, sum-map, sum_by-cons, sum_by-le, sum_by_more, sum_by_push, sum_by-set}
-use Rattle.lts.specs.Lts.{Triple, source_of, row_of}
+use Rattle.lts.specs.Lts.{Grouped, Triple, source_of, row_of, IsLts}
+use Rattle.lts.proofs.Filters.{filter-none, filter-whole}
 use Rattle.inert.specs.Ahead.{is_unseen, unseen, unread, rest}
 use Rattle.inert.specs.Search.{stage_at, frame_at, no_frame, top, Stage, Unseen, Open, Finished, Frame}
 
@@ -72,8 +73,7 @@ rest-cut frames some read =
 
 -- nothing was seen, so all is still to be read
 pub unread-all : (places : List Triple) (stages : List Stage) → ((s : ℕ) → stage_at stages s ≡ Unseen) → unread places stages ≡ length places
-unread-all [] stages none = refl
-unread-all (e ∷ es) stages none = rw (none (source_of e)) (ap suc (unread-all es stages none))
+unread-all places stages none = ap length (filter-whole (λ e. is_unseen (stage_at stages (source_of e))) places (λ k d h. ap is_unseen (none _)))
 
 pub seen : (m : Stage) → ¬ (m ≡ Unseen) → is_unseen m ≡ false
 seen Unseen f = absurd (f refl)
@@ -81,12 +81,9 @@ seen (Open p) f = refl
 seen (Finished k) f = refl
 
 -- all was seen, so nothing is still to be read
-pub unread-none : (places : List Triple) (stages : List Stage) → ((s : ℕ) → s < length stages → ¬ (stage_at stages s ≡ Unseen)) →
-    All (λ e. source_of e < length stages) places → unread places stages ≡ 0
-unread-none [] stages each below = refl
-unread-none (e ∷ es) stages each below =
-    let here = each (source_of e) (All-head (λ x. source_of x < length stages) e es below) in
-    rw (seen (stage_at stages (source_of e)) here) (unread-none es stages each (All-tail (λ x. source_of x < length stages) e es below))
+pub unread-none : {l : Grouped} → IsLts l → (stages : List Stage) → ((s : ℕ) → s < l.states → ¬ (stage_at stages s ≡ Unseen)) → unread l.places stages ≡ 0
+unread-none {l = l} lts stages all =
+    ap length (filter-none (λ e. is_unseen (stage_at stages (source_of e))) l.places (λ k d h. seen _ (all _ (lts.in_range.each k d h).source)))
 
 -- the row of a state that was seen is not among what is still to be read
 pub unread-seen : (places : List Triple) (stages : List Stage) (s : ℕ) → ¬ (stage_at stages s ≡ Unseen) →

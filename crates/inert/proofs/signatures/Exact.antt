@@ -11,7 +11,7 @@ use Rattle.lists.specs.Lists.{list_at}
 use Rattle.inert.specs.Signed.{HasPair, IsSignature, IsKnownAlone, pair_under}
 use Rattle.inert.specs.Search.{Search, Laws, here, last, no_root, item_at, Gives, HoldsPair, Accounted, IsSigned, Walks}
 use Rattle.inert.specs.Moves.{IsGiven, IsListed, HasRead}
-use Rattle.inert.proofs.invariant.Standing.{pair_before, roots_some, stack_some, last_most, last_frame, none_ahead}
+use Rattle.inert.proofs.invariant.Standing.{pair_before, last_low, last_most, last_frame, none_ahead}
 
 -- a step stands in some place
 pub step_place : (l : Grouped) (s t : ℕ) (a : List ℕ) → Step (system_of l) s a t →
@@ -38,12 +38,9 @@ module _ (laws : Laws) {l : Grouped} (lts : IsLts l) {blocks : List ℕ} {alone 
   abbrev Collected : ℕ × ℕ → Type 0
   Collected z = IsGiven lists (drop c0 w.items) z
 
-  last_low : length w.roots - 1 < length w.roots
-  last_low = omega (arith, roots_some walks (stack_some walks some))
-
   collected_from : (p : ℕ) → here w ≤ p → (z : ℕ × ℕ) → HoldsPair lists w p z → Collected z
   collected_from p h z (j, low, g, of) =
-      let from = (of (length w.roots - 1) no_root last_low).0 (omega (arith, height, h)) in
+      let from = (of (length w.roots - 1) no_root (last_low walks some)).0 (omega (arith, height, h)) in
       let is : c0 + (j - c0) ≡ j = omega (arith, from) in
       (item_at w.items j, (j - c0, omega (arith, length-drop c0 w.items, low, from), get_or-drop c0 w.items (j - c0) _ ∙ ap (λ i. get_or w.items i (item_at w.items j)) is ∙ get_or_default w.items j _ _ low), g)
 
@@ -82,7 +79,7 @@ module _ (laws : Laws) {l : Grouped} (lts : IsLts l) {blocks : List ℕ} {alone 
       elim ((done p k h lp lk source).followed (label, same ∙ ap (slice_index blocks) (sym source))) [
         | inl (q, stage, up, down) ↦
             let was = walks.opened.only (target_of (place_at l.places k)) q stage in
-            let high = up (length w.roots - 1) no_root last_low (omega (arith, height, h)) in
+            let high = up (length w.roots - 1) no_root (last_low walks some) (omega (arith, height, h)) in
             collects z us q (omega (arith, height, high)) was.0 u t
             (subst (λ y. Along (Inert (system_of l) (slice_index blocks)) y us u) (sym target ∙ sym was.1) rest) step is
             (λ inert. other (inert.0, inert.1 ∙ ap (slice_index blocks) was.1 ∙ same)) low

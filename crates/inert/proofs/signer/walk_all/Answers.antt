@@ -1,7 +1,6 @@
 use Rattle.std.proofs.Common.{length, ap, arith}
-use Rattle.inert.proofs.parts.Counting.{unread-all}
+use Rattle.inert.proofs.parts.Counting.{unread-all, unread-none}
 use Rattle.inert.proofs.invariant.Resting.{idle_rests}
-use Rattle.inert.proofs.invariant.Resting.{none_unread}
 use Rattle.inert.proofs.signer.walk_all.Goals as goal
 
 pub loop-s-init : goal.loop-s-init
@@ -18,6 +17,6 @@ loop-s-init g c =
 pub returns-clause-visits : goal.returns-clause-visits
 returns-clause-visits g c =
     let i = c.loop-s.invariant in
-    let none = none_unread c.known.ensures c.loop-s.walk.stages i.rests.numbers.size (λ s h. i.all s (omega (arith, h)) h) in
+    let none = unread-none c.known.ensures c.loop-s.walk.stages (λ s h. i.all s (omega (arith, h)) h) in
     let read = i.visits in
     record { rounds = i.cost.rounds; at_least = omega (arith, read, none); at_most = i.cost.at_most }

@@ -5,11 +5,11 @@ use Rattle.std.proofs.lemmas.List.{get_or_read}
 use Rattle.lts.specs.Lts.{place_at}
 use Rattle.inert.specs.Steps.{IsStep}
 use Rattle.inert.specs.Search.{Search, frame_at, top, here, Frame}
-use Rattle.inert.specs.Moves.{TakesStep, GoesOn}
+use Rattle.inert.specs.Moves.{TakesStep}
 use Rattle.inert.specs.declared.step.Step.{Step}
 use Rattle.inert.proofs.parts.Rising.{last_read}
 use Rattle.inert.proofs.invariant.Standing.{on_stack}
-use Rattle.inert.proofs.moves.Reading.{Reads, Entered, reads_none, read_all, read_steps, place_below, goes_low, goes_on, read_more, read_entered, still_there, entered_steps, counts_more}
+use Rattle.inert.proofs.moves.Reading.{Reads, Stays, reads_none, read_all, place_below, still_there, read_more, stays_more, enters_more}
 use Rattle.inert.proofs.walk.Walk.read.Given.{Over}
 use Rattle.inert.proofs.walk.Walk.read.Goals as goal
 use Rattle.inert.proofs.walk.Walk.read.Goals.{After-index}
@@ -36,8 +36,8 @@ module _ (g : Over) (c : After-index g) where
       ∙ ap (λ w. slice_index w.stack c.index-frame.result.now.height) c.self.view_is ∙ ap (slice_index c.args.self.now.stack) height)
 
 -- one transition more is read
-module _ (g : Over) (d : After-index g) {w : Search} {k : ℕ} (on : GoesOn d.args.l.now d.args.blocks.now d.args.alone.now d.args.lists.now d.args.self.now w)
-    (reads : Reads d.args.l.now d.args.self.now w k) (more : k < d.index-frame.result.now.end) (step : Step)
+module _ (g : Over) (d : After-index g) {w : Search} {k : ℕ} (reads : Reads d.args.l.now d.args.blocks.now d.args.alone.now d.args.lists.now d.args.self.now w k)
+    (stays : Stays d.args.self.now w) (more : k < d.index-frame.result.now.end) (step : Step)
     (is_step : IsStep d.args.l.now d.args.blocks.now (slice_index d.args.blocks.now d.index.result.now) (place_at d.args.l.now.places k) step)
     (m : Search) (enters : Bool) (takes : TakesStep d.args.l.now.places step w m enters) where
   abbrev i : ℕ
@@ -48,7 +48,7 @@ module _ (g : Over) (d : After-index g) {w : Search} {k : ℕ} (on : GoesOn d.ar
 
   there : i < length m.frames
   there =
-      still_there on reads d.requires.way.some d.laws.ensures d.known.ensures more_left (slice_index d.args.blocks.now d.index.result.now) (block g d) step is_step m
+      still_there reads stays d.requires.way.some d.laws.ensures d.known.ensures more_left (slice_index d.args.blocks.now d.index.result.now) (block g d) step is_step m
       enters takes i (last g d)
 
   -- and its frame says so
@@ -62,102 +62,101 @@ module _ (g : Over) (d : After-index g) {w : Search} {k : ℕ} (on : GoesOn d.ar
     abbrev With : Search → Search
     With x = record x { frames = set x.frames i (record at { next = k + 1 }) }
 
-    on_more : GoesOn d.args.l.now d.args.blocks.now d.args.alone.now d.args.lists.now d.args.self.now (With inside)
-    on_more =
-        subst (λ (x : Search). GoesOn d.args.l.now d.args.blocks.now d.args.alone.now d.args.lists.now d.args.self.now (With x)) (sym same)
-        (goes_on on reads d.requires.way.some d.laws.ensures d.known.ensures more_left (slice_index d.args.blocks.now d.index.result.now) (block g d) step is_step m
+    after : Reads d.args.l.now d.args.blocks.now d.args.alone.now d.args.lists.now d.args.self.now (With inside) (k + 1)
+    after =
+        subst (λ (x : Search). Reads d.args.l.now d.args.blocks.now d.args.alone.now d.args.lists.now d.args.self.now (With x) (k + 1)) (sym same)
+        (read_more reads stays d.requires.way.some d.laws.ensures d.known.ensures more_left (slice_index d.args.blocks.now d.index.result.now) (block g d) step is_step m
         enters takes i (last g d) (record at { next = k + 1 }) moved)
 
-    reads_more : ¬ IsTrue enters → Reads d.args.l.now d.args.self.now (With inside) (k + 1)
-    reads_more stay =
-        subst (λ (x : Search). Reads d.args.l.now d.args.self.now (With x) (k + 1)) (sym same)
-        (read_more on reads d.requires.way.some d.laws.ensures d.known.ensures more_left (slice_index d.args.blocks.now d.index.result.now) (block g d) step is_step m
+    still : ¬ IsTrue enters → Stays d.args.self.now (With inside)
+    still stay =
+        subst (λ (x : Search). Stays d.args.self.now (With x)) (sym same)
+        (stays_more reads stays d.requires.way.some d.laws.ensures d.known.ensures more_left (slice_index d.args.blocks.now d.index.result.now) (block g d) step is_step m
         enters takes i (last g d) (record at { next = k + 1 }) moved stay)
 
-    enters_more : IsTrue enters → Entered d.args.l.now d.args.self.now (With inside) (k + 1)
-    enters_more went =
-        subst (λ (x : Search). Entered d.args.l.now d.args.self.now (With x) (k + 1)) (sym same)
-        (read_entered on reads d.requires.way.some d.laws.ensures d.known.ensures more_left (slice_index d.args.blocks.now d.index.result.now) (block g d) step is_step m
+    longer : IsTrue enters → length (With inside).frames ≡ length d.args.self.now.frames + 1
+    longer went =
+        subst (λ (x : Search). length (With x).frames ≡ length d.args.self.now.frames + 1) (sym same)
+        (enters_more reads stays d.requires.way.some d.laws.ensures d.known.ensures more_left (slice_index d.args.blocks.now d.index.result.now) (block g d) step is_step m
         enters takes i (last g d) (record at { next = k + 1 }) moved went)
 
 pub loop-k-init : goal.loop-k-init
 loop-k-init g c =
     let next = ap (λ x. x.next) (frame g (goal.at.loop-k-init g c).After-index) in
     record {
-      on = record { walks = c.requires.way.walks; fits = c.requires.way.fits; seen = λ s h. h };
-      reads = subst (Reads c.args.l.now c.args.self.now c.args.self.now) (sym next) (reads_none c.args.l.now c.args.self.now);
-      visits = ap (λ n. (g.M.Meter.counted c.args.m.now).visits + n) (sym next);
-      cost = record { rounds = omega arith; at_least = omega arith; at_most = omega arith };
+      reads = subst (Reads c.args.l.now c.args.blocks.now c.args.alone.now c.args.lists.now c.args.self.now c.args.self.now) (sym next) (reads_none c.requires.way);
+      stays = record { size = refl; stack = refl };
+      cost = record { rounds = omega arith; at_least = omega (arith, next); at_most = omega arith };
     }
 
 pub read_step-step-requires-clause-place : goal.read_step-step-requires-clause-place
 read_step-step-requires-clause-place g c =
     let i = c.loop-k.invariant in
-    place_below i.on i.reads c.requires.way.some c.laws.ensures c.known.ensures
+    place_below i.reads i.stays c.requires.way.some c.laws.ensures c.known.ensures
     (omega (arith, c.loop-k-test.true, end g (goal.at.read_step-step-requires-clause-place g c).After-index))
-
-pub take-requires-clause-state : goal.take-requires-clause-state
-take-requires-clause-state g c =
-    let d = (goal.at.take-requires-clause-state g c).After-index in
-    let i = c.loop-k.invariant in
-    goes_low i.on i.reads c.requires.way.some c.laws.ensures c.known.ensures (omega (arith, c.loop-k-test.true, end g d))
-    (slice_index c.args.blocks.now c.index.result.now) (block g d) c.read_step-step.result c.read_step-step.ensures.step
 
 pub index_mut-requires : goal.index_mut-requires
 index_mut-requires g c =
+    let i = c.loop-k.invariant in
     let low =
-    there g (goal.at.index_mut-requires g c).After-index c.loop-k.invariant.on c.loop-k.invariant.reads (omega (arith, c.loop-k-test.true)) c.read_step-step.result
-    c.read_step-step.ensures.step c.take.new.self c.in_ok-entered.entered c.in_ok-entered.ensures in
+    there g (goal.at.index_mut-requires g c).After-index i.reads i.stays (omega (arith, c.loop-k-test.true)) c.read_step-step.result c.read_step-step.ensures.step
+    c.take.new.self c.in_ok-entered.entered c.in_ok-entered.ensures in
     omega (arith, low, ap (λ w. length w.frames) c.self-in-loop-k.view_is, c.self-in-loop-k.inside.frames.ok.0)
 
 pub loop-k-preserved : goal.loop-k-preserved
 loop-k-preserved g c =
     let d = (goal.at.loop-k-preserved g c).After-index in
     let i = c.loop-k.invariant in
-    let reads =
-    reads_more g d i.on i.reads (omega (arith, c.loop-k-test.true)) c.read_step-step.result c.read_step-step.ensures.step c.take.new.self c.in_ok-entered.entered
-    c.in_ok-entered.ensures c.self-in-loop-k.view_is c.index_mut.ensures.value (λ e. false≢true (sym c.if-entered.false ∙ e)) in
-    let counts = counts_more _ _ _ _ _ _ _ i.visits i.cost c.read_step-step.ensures.visit reads.less in
+    let one = c.read_step-step.ensures.visit in
     record {
-      on =
-          on_more g d i.on i.reads (omega (arith, c.loop-k-test.true)) c.read_step-step.result c.read_step-step.ensures.step c.take.new.self c.in_ok-entered.entered
+      reads =
+          after g d i.reads i.stays (omega (arith, c.loop-k-test.true)) c.read_step-step.result c.read_step-step.ensures.step c.take.new.self c.in_ok-entered.entered
           c.in_ok-entered.ensures c.self-in-loop-k.view_is c.index_mut.ensures.value;
-      reads = reads;
-      visits = counts.0;
-      cost = counts.1;
+      stays =
+          still g d i.reads i.stays (omega (arith, c.loop-k-test.true)) c.read_step-step.result c.read_step-step.ensures.step c.take.new.self c.in_ok-entered.entered
+          c.in_ok-entered.ensures c.self-in-loop-k.view_is c.index_mut.ensures.value (λ e. false≢true (sym c.if-entered.false ∙ e));
+      cost = record {
+        rounds = omega (arith, i.cost.rounds, one.rounds);
+        at_least = omega (arith, i.cost.at_least, one.at_least, i.reads.forward);
+        at_most = omega (arith, i.cost.at_most, one.at_most, i.reads.forward);
+      };
     }
 
 pub returns-then-entered-clause-on : goal.returns-then-entered-clause-on
 returns-then-entered-clause-on g c =
-    on_more g (goal.at.returns-then-entered-clause-on g c).After-index c.loop-k.invariant.on c.loop-k.invariant.reads (omega (arith, c.loop-k-test.true))
+    (after g (goal.at.returns-then-entered-clause-on g c).After-index c.loop-k.invariant.reads c.loop-k.invariant.stays (omega (arith, c.loop-k-test.true))
     c.read_step-step.result c.read_step-step.ensures.step c.take.new.self c.in_ok-entered.entered c.in_ok-entered.ensures c.self-in-loop-k.view_is
-    c.index_mut.ensures.value
+    c.index_mut.ensures.value).on
 
 pub returns-then-entered-clause-visits : goal.returns-then-entered-clause-visits
 returns-then-entered-clause-visits g c =
+    let i = c.loop-k.invariant in
     let e =
-    (enters_more g (goal.at.returns-then-entered-clause-visits g c).After-index c.loop-k.invariant.on c.loop-k.invariant.reads (omega (arith, c.loop-k-test.true))
+    (after g (goal.at.returns-then-entered-clause-visits g c).After-index c.loop-k.invariant.reads c.loop-k.invariant.stays (omega (arith, c.loop-k-test.true))
     c.read_step-step.result c.read_step-step.ensures.step c.take.new.self c.in_ok-entered.entered c.in_ok-entered.ensures c.self-in-loop-k.view_is
-    c.index_mut.ensures.value c.if-entered.true).less in
-    omega (arith, e, c.loop-k.invariant.visits, c.read_step-step.ensures.visit.at_least, c.read_step-step.ensures.visit.at_most)
+    c.index_mut.ensures.value).less in
+    omega (arith, e, i.reads.forward, i.cost.at_least, i.cost.at_most, c.read_step-step.ensures.visit.at_least, c.read_step-step.ensures.visit.at_most)
 
 pub returns-then-entered-clause-steps : goal.returns-then-entered-clause-steps
 returns-then-entered-clause-steps g c =
-    let less =
-    entered_steps
-    (enters_more g (goal.at.returns-then-entered-clause-steps g c).After-index c.loop-k.invariant.on c.loop-k.invariant.reads (omega (arith, c.loop-k-test.true))
+    let e =
+    (after g (goal.at.returns-then-entered-clause-steps g c).After-index c.loop-k.invariant.reads c.loop-k.invariant.stays (omega (arith, c.loop-k-test.true))
     c.read_step-step.result c.read_step-step.ensures.step c.take.new.self c.in_ok-entered.entered c.in_ok-entered.ensures c.self-in-loop-k.view_is
-    c.index_mut.ensures.value c.if-entered.true) in
-    (λ _. less, λ stay. absurd (stay refl))
+    c.index_mut.ensures.value).less in
+    let size =
+    longer g (goal.at.returns-then-entered-clause-steps g c).After-index c.loop-k.invariant.reads c.loop-k.invariant.stays (omega (arith, c.loop-k-test.true))
+    c.read_step-step.result c.read_step-step.ensures.step c.take.new.self c.in_ok-entered.entered c.in_ok-entered.ensures c.self-in-loop-k.view_is
+    c.index_mut.ensures.value c.if-entered.true in
+    (λ _. omega (arith, e, size, c.loop-k.invariant.reads.forward), λ stay. absurd (stay refl))
 
 pub returns-clause-steps : goal.returns-clause-steps
 returns-clause-steps g c =
     let i = c.loop-k.invariant in
-    let size = i.reads.size in (
+    let size = i.stays.size in (
       λ e. absurd (false≢true e),
       λ _. (
-        read_all i.on i.reads c.requires.way.some (omega (arith, c.loop-k-test.false, end g (goal.at.returns-clause-steps g c).After-index)),
+        read_all i.reads i.stays c.requires.way.some (omega (arith, c.loop-k-test.false, end g (goal.at.returns-clause-steps g c).After-index)),
         omega (arith, size, c.requires.way.some),
-        read_steps i.on i.reads c.requires.way.some,
+        omega (arith, size, i.reads.less, i.reads.forward),
       ),
     )
