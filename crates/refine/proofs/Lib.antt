@@ -2,5 +2,4 @@ pub mod Signing
 pub mod Settling
 pub mod Spending
 pub mod StrongRow
-pub mod Touching
 pub mod EachList

@@ -1,5 +1,6 @@
 //! Strong bisimulation: a state's signature has what its transitions show, and the blocks that they lead to.
-ghost use Rattle.std.specs.Prelude.{◌≡◌, ◌↔◌, ℕ, ◌+◌, ◌<◌, ◌≤◌, length, map, slice_index, IsTrue, IfOk, OnOk};
+ghost use Rattle.std.specs.Prelude.{◌≡◌, ◌↔◌, ℕ, ◌+◌, ◌++◌, ◌∷◌, ◌<◌, ◌≤◌, [], length, map, slice_index, IsTrue, IfOk, OnOk};
+ghost use Rattle.std.specs.Vec.{vec_len, vec_capacity};
 ghost use Rattle.theory.specs.declared.relation.Relation.TheVariants.{Strong as strong};
 ghost use Rattle.lts.specs.Meter.{HasRoomFor, Visits};
 ghost use Rattle.lts.specs.Lts.{row_of};
@@ -144,13 +145,41 @@ fn read<M: Meter>(
     pairs.clear();
     pairs.reserve((end - start) as usize)?;
     let mut touched = false;
-    for k in start..end {
-        let (label, target) = l.edge(k, m);
-        let block = p[target as usize];
-        if block >= low {
-            touched = true;
-        }
-        pairs.push_reserved((label, block));
+    let mut k = start;
+    if (end - start) % 2 == 1 {
+        let only = l.edge(k, m);
+        touched = collect(p, low, only, touched, pairs);
+        k += 1;
+    }
+    // Two visits, then two writes: a visit after a write waits until the count has come back from memory.
+    while k < end {
+        let first = l.edge(k, m);
+        let second = l.edge(k + 1, m);
+        touched = collect(p, low, first, touched, pairs);
+        touched = collect(p, low, second, touched, pairs);
+        k += 2;
     }
     Ok(touched)
+}
+
+/// Appends the pair that a transition with this label number and this target shows; there is room for it. Returns whether one
+/// of the pairs has a number from `low` on, as `touched` tells of those before.
+#[inline(always)]
+fn collect(
+    p: &[u32],
+    low: u32,
+    transition: (u32, u32),
+    touched: bool,
+    pairs: &mut Vec<(u32, u32)>,
+) -> bool
+    requires target { transition.1 < length p.now }
+    requires touched { IsTrue touched ↔ HasFrom low pairs.old.items }
+    requires room { vec_len pairs.old < vec_capacity pairs.old }
+    ensures pairs { pairs.new.items ≡ pairs.old.items ++ (transition.0, slice_index p.now transition.1) ∷ [] }
+    ensures touched { IsTrue result ↔ HasFrom low pairs.new.items }
+    ensures room { (vec_len pairs.new ≡ vec_len pairs.old + 1) × (vec_capacity pairs.new ≡ vec_capacity pairs.old) }
+{
+    let block = p[transition.1 as usize];
+    pairs.push_reserved((transition.0, block));
+    touched || block >= low
 }

@@ -1,32 +1,68 @@
-use Rattle.std.proofs.Common.{◌≡◌, ◌∙◌, ◌↔◌, ◌-◌, IsTrue, take, map, slice_index, ap, sym, subst, inl, inr, arith, rules}
+use Rattle.std.proofs.Common.{◌≡◌, ◌∙◌, ◌↔◌, IsTrue, ℕ, ◌+◌, ◌-◌, ◌/◌, ◌≤◌, ◌<◌, ◌++◌, ◌∷◌, [], List, take, map, slice_index, ap, sym, subst₂, refl, arith, rules}
 use Rattle.std.proofs.lemmas.Grind.{common_steps}
 use Rattle.std.proofs.lemmas.List.{take_all}
-use Rattle.lts.specs.Lts.{place_at, row_of}
+use Rattle.lts.specs.Lts.{row_of, place_at}
 use Rattle.inert.specs.Signed.{pair_under}
 use Rattle.refine.specs.Settled.{HasFrom}
+use Rattle.refine.proofs.strong.read.Given.{Over}
 use Rattle.refine.proofs.strong.read.Goals as goal
-use Rattle.refine.proofs.Touching.{touched_more}
-use Rattle.refine.proofs.strong.read.Goals.{then-block-low, else-block-low}
+use Rattle.refine.proofs.strong.read.Goals.{After-row-start, then-end-start-eq1, else-end-start-eq1}
+
+-- a pair more of the row
+module _ (g : Over) (c : After-row-start g) where
+  one_more : (k next : ℕ) {label target : ℕ} {pairs new : List (ℕ × ℕ)} → next ≡ k + 1 → c.row-start.result.0 ≤ k → k < c.row-start.result.1
+      → label ≡ (place_at c.args.l.now.places k).1 → target ≡ (place_at c.args.l.now.places k).2
+      → pairs ≡ map (pair_under c.args.p.now) (take (k - c.row-start.result.0) (row_of c.args.s c.args.l.now.places))
+      → new ≡ pairs ++ (label, slice_index c.args.p.now target) ∷ []
+      → new ≡ map (pair_under c.args.p.now) (take (next - c.row-start.result.0) (row_of c.args.s c.args.l.now.places))
+  one_more k next {label} {target} {pairs} {new} is_next begun more is_label is_target before after =
+      let shown : (label, slice_index c.args.p.now target) ≡ pair_under c.args.p.now (place_at c.args.l.now.places k) =
+      λ i. (is_label i, (ap (slice_index c.args.p.now) is_target) i) in
+      let row = c.rows_follow.ensures.inside c.args.l.now.places c.args.s c.row-start.result.0 c.row-start.result.1 k c.row-start.ensures begun more in
+      grind (arith, common_steps, is_next, shown, row, before, after)
+
+pub loop-k-init : goal.loop-k-init
+loop-k-init g c =
+    let d = (goal.at.loop-k-init g c).After-row-start in
+    let start = c.row-start.result.0 in
+    let read : ℕ → List (ℕ × ℕ) = λ k. map (pair_under c.args.p.now) (take (k - start) (row_of c.args.s c.args.l.now.places)) in
+    let zero : 0 ≡ start - start = omega arith in
+    let none : c.reserve.new.self.items ≡ read start =
+    c.in_ok-reserve.ensures.items ∙ c.clear.ensures.items ∙ ap (λ n. map (pair_under c.args.p.now) (take n (row_of c.args.s c.args.l.now.places))) zero in
+    elim c.if-end-start-eq1.branch [
+      | then-end-start-eq1 w ↦ record {
+        begun = omega (arith, w.k-is);
+        by_two = ((c.row-start.result.1 - start) / 2, omega (arith, w.k-is, w.if-end-start-eq1.true, c.row-start.ensures.count));
+        room = search rules;
+        pairs =
+            ap (λ v. v.items) w.pairs-is
+            ∙ one_more g d start (start + 1) refl (omega arith) (omega (arith, w.if-end-start-eq1.true)) w.edge-only.ensures.label w.edge-only.ensures.target none w.collect-touched.ensures.pairs
+            ∙ ap read (sym w.k-is);
+        touched = subst₂ (λ t v. IsTrue t ↔ HasFrom c.args.low v.items) (sym w.touched-is) (sym w.pairs-is) w.collect-touched.ensures.touched;
+        visits = search rules;
+      }
+      | else-end-start-eq1 w ↦ record {
+        begun = omega (arith, w.k-is);
+        by_two = ((c.row-start.result.1 - start) / 2, omega (arith, w.k-is, w.if-end-start-eq1.false, c.row-start.ensures.count));
+        room = search rules;
+        pairs = ap (λ v. v.items) w.pairs-is ∙ none ∙ ap read (sym w.k-is);
+        touched = search rules;
+        visits = search rules;
+      }
+    ]
 
 pub loop-k-preserved : goal.loop-k-preserved
 loop-k-preserved g c =
-    let range = c.loop-k.auto.k in
-    let places = c.args.l.now.places in
-    let block = slice_index c.args.p.now c.edge-label.result.1 in
-    let shown : (c.edge-label.result.0, block) ≡ pair_under c.args.p.now (place_at places c.loop-k.k) =
-    λ i. (c.edge-label.ensures.label i, (ap (slice_index c.args.p.now) c.edge-label.ensures.target) i) in
-    let more = c.rows_follow.ensures.inside places c.args.s c.row-start.result.0 c.row-start.result.1 c.loop-k.k c.row-start.ensures
-    (omega arith) (omega arith) in
+    let d = (goal.at.loop-k-preserved g c).After-row-start in
+    let i = c.loop-k.invariant in
+    let more : c.loop-k.k + 1 < c.row-start.result.1 = omega (arith, i.by_two.1, c.loop-k-test.true) in
+    let first = one_more g d c.loop-k.k (c.loop-k.k + 1) refl i.begun c.loop-k-test.true c.edge-first.ensures.label c.edge-first.ensures.target i.pairs c.collect-touched-in-loop-k.ensures.pairs in
     record {
-      room = omega (arith, c.push_reserved.ensures.len, c.push_reserved.ensures.capacity, c.loop-k.invariant.room);
-      pairs = grind (arith, common_steps, shown, more, c.push_reserved.ensures.items, c.loop-k.invariant.pairs);
-      touched =
-          subst (λ xs. IsTrue c.if-block-low.touched ↔ HasFrom c.args.low xs) (sym c.push_reserved.ensures.items)
-          (touched_more c.args.low c.loop-k.pairs.items (c.edge-label.result.0, block) c.loop-k.touched c.if-block-low.touched c.loop-k.invariant.touched
-          (elim c.if-block-low.branch [
-            | then-block-low w ↦ inl (w.if-block-low.true, w.touched-is)
-            | else-block-low w ↦ inr (omega (arith, w.if-block-low.false), w.touched-is)
-          ]));
+      begun = omega (arith, i.begun);
+      by_two = (i.by_two.0 - 1, omega (arith, i.by_two.1, c.loop-k-test.true));
+      room = omega (arith, i.room, c.collect-touched-in-loop-k.ensures.room, c.collect-touched-in-loop-k-2.ensures.room);
+      pairs = one_more g d (c.loop-k.k + 1) (c.loop-k.k + 2) (omega arith) (omega (arith, i.begun)) more c.edge-second.ensures.label c.edge-second.ensures.target first c.collect-touched-in-loop-k-2.ensures.pairs;
+      touched = c.collect-touched-in-loop-k-2.ensures.touched;
       visits = search rules;
     }
 
@@ -35,7 +71,3 @@ returns-clause-pairs g c =
     let row = row_of c.args.s c.args.l.now.places in
     let all : take (c.loop-k.k - c.row-start.result.0) row ≡ row = take_all _ row (omega (arith, c.row-start.ensures.count, c.loop-k-test.false)) in
     c.loop-k.invariant.pairs ∙ ap (map (pair_under c.args.p.now)) all
-
--- The checker finds this one; it stands here so that a wrong body is refused at once.
-pub returns-clause-visits : goal.returns-clause-visits
-returns-clause-visits g c = search rules
