@@ -42,10 +42,12 @@ fn collect(
 {
     numbers.clear();
     pairs.clear();
+    numbers.reserve(items.len())?;
+    pairs.reserve(items.len())?;
     for item in items {
         match item.item() {
-            Item::Pair(label, block) => pairs.push((label, block))?,
-            Item::Listed(list) => numbers.push(list)?,
+            Item::Pair(label, block) => pairs.push_reserved((label, block)),
+            Item::Listed(list) => numbers.push_reserved(list),
         }
     }
     Ok(())
