@@ -104,10 +104,10 @@ TargetsMarked-more places start k t old waiting new pushed l target marks read j
 -- the search
 
 -- a state that waits is one of the system
-pub Searches-below : (g : Grouped) (marked : List Bool) (s : ℕ) (stack : List ℕ) → Searches g marked (s ∷ stack) → s < g.states
-Searches-below g marked s stack search = elim (cases_lt s (length marked)) [
+pub Searches-below : (g : Grouped) (marked : List Bool) (s : ℕ) (queue : List ℕ) → Searches g marked (s ∷ queue) → s < g.states
+Searches-below g marked s queue search = elim (cases_lt s (length marked)) [
   | inl l ↦ omega (arith, search.size)
-  | inr l ↦ absurd (both_ways _ (get_or_past marked s false l) (search.each_waiting s (at_head s stack)))
+  | inr l ↦ absurd (both_ways _ (get_or_past marked s false l) (search.each_waiting s (at_head s queue)))
 ]
 
 -- the first state alone is marked, and waits
@@ -135,47 +135,27 @@ Searches-start g marked waiting l reached marks =
       ];
     }
 
--- a state is taken from the end
-pub Searches-taken : (g : Grouped) (marked : List Bool) (waiting stack : List ℕ) (s : ℕ) → waiting ≡ stack ++ s ∷ [] →
-    Searches g marked waiting → Searches g marked (s ∷ stack)
-Searches-taken g marked waiting stack s e search = record {
-  size = search.size;
-  first = search.first;
-  only_reachable = search.only_reachable;
-  each_waiting = λ u c. search.each_waiting u (subst (λ ws. Contains ws u) (sym e) (elim (head_or_tail s stack u c) [
-    | inl h ↦ subst (Contains (stack ++ s ∷ [])) h (Contains-push stack s)
-    | inr h ↦ Contains-append_left stack (s ∷ []) u h
-  ]));
-  followed = λ u v a m step. elim (search.followed u v a m step) [
-    | inl c ↦ inl (elim (Contains-push_cases stack s u (subst (λ ws. Contains ws u) e c)) [
-      | inl d ↦ in_tail s stack u d
-      | inr h ↦ subst (Contains (s ∷ stack)) h (at_head s stack)
-    ])
-    | inr h ↦ inr h
-  ];
-}
-
 -- a step of s leads to t, which is marked
-module _ (g : Grouped) (s t : ℕ) (old : List Bool) (stack : List ℕ) (new : List Bool) (pushed : List ℕ) (below : t < length old)
-    (search : Searches g old (s ∷ stack)) (marks : MarksState t old stack new pushed) where
+module _ (g : Grouped) (s t : ℕ) (old : List Bool) (queue : List ℕ) (new : List Bool) (pushed : List ℕ) (below : t < length old)
+    (search : Searches g old (s ∷ queue)) (marks : MarksState t old queue new pushed) where
   mark_keeps : (u : ℕ) → IsMarked old u → IsMarked new u
-  mark_keeps = MarksState-keeps t old stack new pushed marks below
+  mark_keeps = MarksState-keeps t old queue new pushed marks below
 
   mark_waiting : (u : ℕ) → Contains (s ∷ pushed) u → IsMarked new u
   mark_waiting u c = elim (head_or_tail s pushed u c) [
-    | inl e ↦ mark_keeps u (search.each_waiting u (subst (Contains (s ∷ stack)) e (at_head s stack)))
-    | inr d ↦ elim (MarksState-waiting t old stack new pushed marks u d) [
-      | inl e ↦ subst (IsMarked new) e (MarksState-self t old stack new pushed marks below)
-      | inr f ↦ mark_keeps u (search.each_waiting u (in_tail s stack u f))
+    | inl e ↦ mark_keeps u (search.each_waiting u (subst (Contains (s ∷ queue)) e (at_head s queue)))
+    | inr d ↦ elim (MarksState-waiting t old queue new pushed marks u d) [
+      | inl e ↦ subst (IsMarked new) e (MarksState-self t old queue new pushed marks below)
+      | inr f ↦ mark_keeps u (search.each_waiting u (in_tail s queue u f))
     ]
   ]
 
   mark_followed : (u v : ℕ) (a : List ℕ) → IsMarked new u → Step (system_of g) u a v → Contains (s ∷ pushed) u ⊎ IsMarked new v
-  mark_followed u v a m next = elim (MarksState-new t old stack new pushed marks u m) [
+  mark_followed u v a m next = elim (MarksState-new t old queue new pushed marks u m) [
     | inl h ↦ elim (search.followed u v a h next) [
-      | inl c ↦ inl (elim (head_or_tail s stack u c) [
+      | inl c ↦ inl (elim (head_or_tail s queue u c) [
         | inl e ↦ subst (Contains (s ∷ pushed)) e (at_head s pushed)
-        | inr d ↦ in_tail s pushed u (MarksState-waits t old stack new pushed marks u d)
+        | inr d ↦ in_tail s pushed u (MarksState-waits t old queue new pushed marks u d)
       ])
       | inr d ↦ inr (mark_keeps v d)
     ]
@@ -184,38 +164,38 @@ module _ (g : Grouped) (s t : ℕ) (old : List Bool) (stack : List ℕ) (new : L
 
   Searches-mark : (Reachable (system_of g) s → Reachable (system_of g) t) → Searches g new (s ∷ pushed)
   Searches-mark reached_on = record {
-    size = MarksState-size t old stack new pushed marks ∙ search.size;
+    size = MarksState-size t old queue new pushed marks ∙ search.size;
     first = mark_keeps g.first search.first;
-    only_reachable = λ u m. elim (MarksState-new t old stack new pushed marks u m) [
+    only_reachable = λ u m. elim (MarksState-new t old queue new pushed marks u m) [
       | inl h ↦ search.only_reachable u h
-      | inr h ↦ subst (Reachable (system_of g)) (sym h.0) (reached_on (search.only_reachable s (search.each_waiting s (at_head s stack))))
+      | inr h ↦ subst (Reachable (system_of g)) (sym h.0) (reached_on (search.only_reachable s (search.each_waiting s (at_head s queue))))
     ];
     each_waiting = mark_waiting;
     followed = mark_followed;
   }
 
 -- place k of the row of s was read, and what it leads to is marked
-pub Searches-place : (g : Grouped) (s start end k t : ℕ) (old : List Bool) (stack : List ℕ) (new : List Bool) (pushed : List ℕ) →
+pub Searches-place : (g : Grouped) (s start end k t : ℕ) (old : List Bool) (queue : List ℕ) (new : List Bool) (pushed : List ℕ) →
     ((a : List ℕ) → Reachable (system_of g) s → Step (system_of g) s a t → Reachable (system_of g) t) →
     IsRow g.places s start end → start ≤ k → k < end → t ≡ target_of (place_at g.places k) → t < g.states →
-    Searches g old (s ∷ stack) → MarksState t old stack new pushed → Searches g new (s ∷ pushed)
-Searches-place g s start end k t old stack new pushed reached_on row low high target l search marks =
+    Searches g old (s ∷ queue) → MarksState t old queue new pushed → Searches g new (s ∷ pushed)
+Searches-place g s start end k t old queue new pushed reached_on row low high target l search marks =
     let below : k < length g.places = omega (arith, row.within) in
     let a = text_of g.labels (label_of (place_at g.places k)) in
     let from : Step (system_of g) s a (target_of (place_at g.places k)) =
     subst (λ x. Step (system_of g) x a (target_of (place_at g.places k))) ((row.exactly k below).1 (low, high)) (place_step g k below) in
-    Searches-mark g s t old stack new pushed (omega (arith, l, search.size)) search marks (λ way. reached_on a way (subst (Step (system_of g) s a) (sym target) from))
+    Searches-mark g s t old queue new pushed (omega (arith, l, search.size)) search marks (λ way. reached_on a way (subst (Step (system_of g) s a) (sym target) from))
 
 -- the whole row of s was read
-pub Searches-read : (g : Grouped) (s start end : ℕ) (marked : List Bool) (stack : List ℕ) → IsRow g.places s start end →
-    TargetsMarked g.places marked start end → Searches g marked (s ∷ stack) → Searches g marked stack
-Searches-read g s start end marked stack row read search = record {
+pub Searches-read : (g : Grouped) (s start end : ℕ) (marked : List Bool) (queue : List ℕ) → IsRow g.places s start end →
+    TargetsMarked g.places marked start end → Searches g marked (s ∷ queue) → Searches g marked queue
+Searches-read g s start end marked queue row read search = record {
   size = search.size;
   first = search.first;
   only_reachable = search.only_reachable;
-  each_waiting = λ u c. search.each_waiting u (in_tail s stack u c);
+  each_waiting = λ u c. search.each_waiting u (in_tail s queue u c);
   followed = λ u v a m step. elim (search.followed u v a m step) [
-    | inl c ↦ elim (head_or_tail s stack u c) [
+    | inl c ↦ elim (head_or_tail s queue u c) [
       | inl e ↦
           let place = step_place g u v a step in
           let within = (row.exactly place.0 place.1).0 (place.2 ∙ sym e) in

@@ -3,14 +3,14 @@ use Rattle.std.specs.List.{slice_index_or}
 use Rattle.std.proofs.lemmas.List.{length-replicate}
 use Rattle.lts.specs.Lts.{system_of}
 use Rattle.quotient.specs.Search.{MarksState}
-use Rattle.quotient.proofs.Reaching.{Searches-start, Searches-taken, Searches-end, places_ahead-marks, places_ahead-first}
+use Rattle.quotient.proofs.Reaching.{Searches-start, Searches-end, places_ahead-marks, places_ahead-first}
 use Rattle.quotient.proofs.search.reachable.Given.{Over}
 use Rattle.quotient.proofs.search.reachable.Goals as goal
 use Rattle.quotient.proofs.search.reachable.Goals.{In_ok-mark}
 
 -- the first state alone is marked
 first_marked : (g : Over) (c : In_ok-mark g) →
-    MarksState c.args.l.now.first (replicate c.args.l.now.states false) [] c.mark.new.self.marked.items c.mark.new.self.stack.items
+    MarksState c.args.l.now.first (replicate c.args.l.now.states false) [] c.mark.new.self.marked.items c.mark.new.self.queue.items
 first_marked g c =
     let none : c.in_ok-vec.field-0.items ≡ replicate c.args.l.now.states false =
     c.in_ok-vec.ensures.items_if_clones_equal (λ y e. e) ∙ ap (λ n. replicate n false) c.states.ensures.value in
@@ -29,15 +29,10 @@ loop-s-init g c =
       visits = search rules;
     }
 
-pub mark_targets-requires-clause-search : goal.mark_targets-requires-clause-search
-mark_targets-requires-clause-search g c =
-    Searches-taken c.args.l.now c.loop-s.search.marked.items c.loop-s.search.stack.items c.pop.new.self.items c.in-Some.s
-    c.in-Some.ensures.items c.loop-s.invariant.search
-
 pub returns-clause-exactly : goal.returns-clause-exactly
 returns-clause-exactly g c s below =
     let l = c.args.l.now in
     let marked = c.loop-s.search.marked.items in
-    let stack = c.loop-s.search.stack in
-    Searches-end l marked stack.items (omega (arith, stack.ok.0, c.in_default.ensures.cases.0))
+    let queue = c.loop-s.search.queue in
+    Searches-end l marked queue.items (omega (arith, queue.ok.0, c.in_default.ensures.cases.0))
     (c.steps_keep_reachable.ensures.kept (system_of l) (λ x. slice_index_or marked x false)) c.loop-s.invariant.search s

@@ -5,11 +5,11 @@ use Rattle.quotient.proofs.search.reachable.Given as goal
 
 abbrev pub invariant-loop-s : goal.invariant-loop-s
 invariant-loop-s g l = record {
-  search : Searches l.l l.search.marked.items l.search.stack.items;
-  few : places_ahead l.l.places l.search.marked.items l.search.stack.items ≤ length l.l.places;
+  search : Searches l.l l.search.marked.items l.search.queue.items;
+  few : places_ahead l.l.places l.search.marked.items l.search.queue.items ≤ length l.l.places;
   visits : Costs (g.M.Meter.counted l.fn.m) (g.M.Meter.counted l.m) 0 0
-      (length l.l.places - places_ahead l.l.places l.search.marked.items l.search.stack.items);
+      (length l.l.places - places_ahead l.l.places l.search.marked.items l.search.queue.items);
 }
 
 abbrev pub decreases-loop-s : goal.decreases-loop-s
-decreases-loop-s g l = states_ahead l.search.marked.items l.search.stack.items
+decreases-loop-s g l = states_ahead l.search.marked.items l.search.queue.items

@@ -7,7 +7,7 @@ use Rattle.quotient.proofs.search.Search.mark_targets.Goals as goal
 use Rattle.quotient.proofs.search.Search.mark_targets.Goals.{In_ok-mark}
 
 pub row-start-requires : goal.row-start-requires
-row-start-requires g c = Searches-below c.args.l.now c.args.self.now.marked.items c.args.s c.args.self.now.stack.items c.requires.search
+row-start-requires g c = Searches-below c.args.l.now c.args.self.now.marked.items c.args.s c.args.self.now.queue.items c.requires.search
 
 -- the state that is marked is one of the system
 module _ (g : Over) (c : In_ok-mark g) where
@@ -20,10 +20,10 @@ module _ (g : Over) (c : In_ok-mark g) where
   below : c.edge-target.result.1 < length c.loop-k.self.marked.items
   below = omega (arith, state, c.loop-k.invariant.search.size)
 
-  goes_on : Searches c.args.l.now c.mark.new.self.marked.items (c.args.s ∷ c.mark.new.self.stack.items)
+  goes_on : Searches c.args.l.now c.mark.new.self.marked.items (c.args.s ∷ c.mark.new.self.queue.items)
   goes_on =
       Searches-place c.args.l.now c.args.s c.row-start.result.0 c.row-start.result.1 c.loop-k.k c.edge-target.result.1
-      c.loop-k.self.marked.items c.loop-k.self.stack.items c.mark.new.self.marked.items c.mark.new.self.stack.items
+      c.loop-k.self.marked.items c.loop-k.self.queue.items c.mark.new.self.marked.items c.mark.new.self.queue.items
       (λ a. c.steps_keep_reachable.ensures.step (system_of c.args.l.now) c.args.s a c.edge-target.result.1)
       c.row-start.ensures (omega (arith, c.loop-k.auto.k)) (omega arith) c.edge-target.ensures.target state c.loop-k.invariant.search c.in_ok-mark.ensures
 
@@ -34,15 +34,15 @@ loop-k-preserved g c =
     let t = c.edge-target.result.1 in
     record {
       search = goes_on g at;
-      read = TargetsMarked-more c.args.l.now.places c.row-start.result.0 c.loop-k.k t old.marked.items old.stack.items _ _ (below g at)
+      read = TargetsMarked-more c.args.l.now.places c.row-start.result.0 c.loop-k.k t old.marked.items old.queue.items _ _ (below g at)
           c.edge-target.ensures.target c.in_ok-mark.ensures c.loop-k.invariant.read;
-      states = states_ahead-marks t old.marked.items old.stack.items _ _ (below g at) c.in_ok-mark.ensures ∙ c.loop-k.invariant.states;
-      places = places_ahead-marks c.args.l.now.places t old.marked.items old.stack.items _ _ (below g at) c.in_ok-mark.ensures ∙ c.loop-k.invariant.places;
+      states = states_ahead-marks t old.marked.items old.queue.items _ _ (below g at) c.in_ok-mark.ensures ∙ c.loop-k.invariant.states;
+      places = places_ahead-marks c.args.l.now.places t old.marked.items old.queue.items _ _ (below g at) c.in_ok-mark.ensures ∙ c.loop-k.invariant.places;
       visits = let range = c.loop-k.auto.k in search rules;
     }
 
 pub returns-clause-search : goal.returns-clause-search
 returns-clause-search g c =
     let at = c.loop-k-test.false in
-    Searches-read c.args.l.now c.args.s c.row-start.result.0 c.row-start.result.1 c.loop-k.self.marked.items c.loop-k.self.stack.items
+    Searches-read c.args.l.now c.args.s c.row-start.result.0 c.row-start.result.1 c.loop-k.self.marked.items c.loop-k.self.queue.items
     c.row-start.ensures (λ j low high. c.loop-k.invariant.read j low (omega (arith, high, at))) c.loop-k.invariant.search

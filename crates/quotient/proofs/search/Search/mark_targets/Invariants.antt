@@ -6,9 +6,9 @@ use Rattle.quotient.proofs.search.Search.mark_targets.Given as goal
 
 abbrev pub invariant-loop-k : goal.invariant-loop-k
 invariant-loop-k g l = record {
-  search : Searches l.l l.self.marked.items (l.s ∷ l.self.stack.items);
+  search : Searches l.l l.self.marked.items (l.s ∷ l.self.queue.items);
   read : TargetsMarked l.l.places l.self.marked.items l.start l.k;
-  states : states_ahead l.self.marked.items l.self.stack.items ≡ states_ahead l.initial.self.marked.items l.initial.self.stack.items;
-  places : places_ahead l.l.places l.self.marked.items l.self.stack.items ≡ places_ahead l.l.places l.initial.self.marked.items l.initial.self.stack.items;
+  states : states_ahead l.self.marked.items l.self.queue.items ≡ states_ahead l.initial.self.marked.items l.initial.self.queue.items;
+  places : places_ahead l.l.places l.self.marked.items l.self.queue.items ≡ places_ahead l.l.places l.initial.self.marked.items l.initial.self.queue.items;
   visits : Costs (g.M.Meter.counted l.initial.m) (g.M.Meter.counted l.m) 0 (l.k - l.start) (l.k - l.start);
 }
