@@ -1,14 +1,15 @@
 -- Reading a line: what is read is spelled so, and what is spelled so is read.
-use Rattle.std.proofs.Common.{◌≡◌, ℕ, ◌+◌, ◌<◌, ◌^◌, ◌%◌, true, false, cond, List, [], ◌∷◌, ◌++◌, Option, Some, None, refl, sym, ap, subst, ◌∙◌, arith}
+use Rattle.std.proofs.Common.{◌≡◌, ℕ, ◌+◌, ◌<◌, ◌^◌, ◌%◌, true, false, cond, List, [], ◌∷◌, ◌++◌, Option, Some, None, refl, sym, ap, subst, ◌∙◌, inl, inr, append_assoc, arith}
 use Rattle.std.specs.Prelude.{codes, decimal, ◌==◌}
 use Rattle.std.specs.Char.{is_ascii_digit}
 use Rattle.std.proofs.lemmas.Bool.{eqb-true, ne_eqb}
 use Rattle.std.proofs.lemmas.Fmt.{decimal_by_steps}
 use Rattle.std.proofs.lemmas.Option.{cond_some, same_Some}
+use Rattle.std.proofs.lemmas.List.Elements.{All-nil, All-cons}
 use Rattle.theory.specs.System.{IsLabel}
-use Rattle.autfmt.specs.Grammar.{Spaced, IsDecimal, Label, Header, TransitionLine, HideLine}
-use Rattle.autfmt.specs.Reading.{◌>>=◌, is_blank, is_word, are_blanks, after_blanks, past, past_des, number_at, number_then, label_at, header_at, transition_at, hide_line_at}
-use Rattle.autfmt.proofs.Blanks.{at_token, Spaced-from, Stops, Stops-blanks, Stops-mark, are_blanks-from, Blanks-from_test}
+use Rattle.autfmt.specs.Grammar.{Spaced, IsDecimal, Label, quoted, Header, TransitionLine, HideLine}
+use Rattle.autfmt.specs.Reading.{◌>>=◌, is_blank, is_word, are_blanks, after_blanks, past, past_des, number_at, number_then, label_at, header_at, ending_at, UsualEnding, transition_at, hide_line_at}
+use Rattle.autfmt.proofs.Blanks.{IsBlank, at_token, Spaced-from, Stops, Stops-blanks, Stops-mark, are_blanks-from, Blanks-from_test}
 use Rattle.autfmt.proofs.Numbers.{blanks_no_digits, IsToken-number, number_at-takes, number_at-again}
 use Rattle.autfmt.proofs.PlainLabels.{bind_some, blanks_no_words}
 use Rattle.autfmt.proofs.QuotedLabels.{HasNoQuote, HasNoQuote-append, HasNoQuote-blanks, HasNoQuote-spaced}
@@ -131,24 +132,24 @@ header_at-again line f m n h =
     )
     (with_end-again states.4.1 (f, m, n) states.4.4)
 
--- ---- a transition
+-- ---- the end of a transition
 
-pub transition_at-takes : (line : List ℕ) (x : ℕ × List ℕ × ℕ) → transition_at line ≡ Some x → TransitionLine line x.0 x.1 x.2
-unfolding transition_at
-transition_at-takes line x e =
-    let b = bind_some (past 40 (after_blanks line)) (λ r. number_then 44 r >>= λ s. label_at (after_blanks s.1) >>= λ a. past 44 (after_blanks a.1) >>= λ r. number_then 41 r >>= λ t. with_end t.1 (s.0, a.0, t.0)) x e in
-    let s = bind_some (number_then 44 b.0) (λ s. label_at (after_blanks s.1) >>= λ a. past 44 (after_blanks a.1) >>= λ r. number_then 41 r >>= λ t. with_end t.1 (s.0, a.0, t.0)) x b.2 in
-    let a = bind_some (label_at (after_blanks s.0.1)) (λ a. past 44 (after_blanks a.1) >>= λ r. number_then 41 r >>= λ t. with_end t.1 (s.0.0, a.0, t.0)) x s.2 in
-    let c = bind_some (past 44 (after_blanks a.0.1)) (λ r. number_then 41 r >>= λ t. with_end t.1 (s.0.0, a.0.0, t.0)) x a.2 in
-    let t = bind_some (number_then 41 c.0) (λ t. with_end t.1 (s.0.0, a.0.0, t.0)) x c.2 in
-    let end = with_end-takes t.0.1 (s.0.0, a.0.0, t.0.0) x t.2 in
+-- a label and a target, with blanks before, between and after them
+abbrev Ending : List ℕ → List ℕ → ℕ → Type 0
+Ending line a t = (label target : List ℕ) × Label label a × IsDecimal target t × Spaced (label ∷ codes "," ∷ target ∷ codes ")" ∷ []) line
+
+ending_at-takes : (line : List ℕ) (x : List ℕ × ℕ) → ending_at (after_blanks line) ≡ Some x → Ending line x.0 x.1
+unfolding ending_at
+ending_at-takes line x e =
+    let a = bind_some (label_at (after_blanks line)) (λ a. past 44 (after_blanks a.1) >>= λ r. number_then 41 r >>= λ t. with_end t.1 (a.0, t.0)) x e in
+    let c = bind_some (past 44 (after_blanks a.0.1)) (λ r. number_then 41 r >>= λ t. with_end t.1 (a.0.0, t.0)) x a.2 in
+    let t = bind_some (number_then 41 c.0) (λ t. with_end t.1 (a.0.0, t.0)) x c.2 in
+    let end = with_end-takes t.0.1 (a.0.0, t.0.0) x t.2 in
     let target = number_then-takes 41 [] c.0 t.0 t.1 end.0 in
     let comma = mark-takes 44 (target.0 ∷ codes ")" ∷ []) a.0.1 c.0 c.1 target.2 in
-    let label = label-takes (codes "," ∷ target.0 ∷ codes ")" ∷ []) s.0.1 a.0 a.1 comma in
-    let source = number_then-takes 44 (label.0 ∷ codes "," ∷ target.0 ∷ codes ")" ∷ []) b.0 s.0 s.1 label.2 in
-    let whole = mark-takes 40 (source.0 ∷ codes "," ∷ label.0 ∷ codes "," ∷ target.0 ∷ codes ")" ∷ []) line b.0 b.1 source.2 in
-    let found : TransitionLine line s.0.0 a.0.0 t.0.0 = (source.0, label.0, target.0, source.1, label.1, target.1, whole) in
-    subst (λ (y : ℕ × List ℕ × ℕ). TransitionLine line y.0 y.1 y.2) end.1 found
+    let label = label-takes (codes "," ∷ target.0 ∷ codes ")" ∷ []) line a.0 a.1 comma in
+    let found : Ending line a.0.0 t.0.0 = (label.0, target.0, label.1, target.1, label.2) in
+    subst (λ (y : List ℕ × ℕ). Ending line y.0 y.1) {x = (a.0.0, t.0.0)} end.1 found
 
 HasNoQuote-number : (digits : List ℕ) (n : ℕ) → IsDecimal digits n → HasNoQuote digits
 HasNoQuote-number digits n number =
@@ -158,25 +159,61 @@ HasNoQuote-number digits n number =
     (λ k ds _ before. HasNoQuote-append ds ((48 + k % 10) ∷ []) before (digit (k % 10) (omega arith))) n (omega (arith, number.0)) in
     rw number.1 h
 
+ending_at-again : (line a : List ℕ) (t : ℕ) → Ending line a t → ending_at (after_blanks line) ≡ Some (a, t)
+unfolding ending_at
+ending_at-again line a t h =
+    let label = h.4 in
+    let comma = label.4 in
+    let target = comma.4 in
+    let behind = h.1 ∷ codes ")" ∷ [] in
+    let stops = Stops-mark is_word 44 behind label.1 blanks_no_words refl comma in
+    let none = HasNoQuote-spaced (codes "," ∷ behind) label.1 ((refl, tt), (HasNoQuote-number h.1 t h.3, ((refl, tt), tt))) comma in
+    rw (
+      label-again (codes "," ∷ behind) line h.0 a h.2 label stops none,
+      mark-again 44 behind label.1 refl refl comma,
+      number_then-again 41 [] comma.1 h.1 t refl refl refl h.3 target,
+    )
+    (with_end-again target.4.1 (a, t) target.4.4)
+
+-- what is spelled in the usual way is read from the left too
+pub usual_ending-read : (bytes a : List ℕ) (t : ℕ) → UsualEnding bytes a t → ending_at bytes ≡ Some (a, t)
+usual_ending-read bytes a t h =
+    let none = All-nil IsBlank in
+    let behind = codes ", " ++ decimal t ++ codes ")" in
+    let spelled : bytes ≡ quoted a ++ behind = h.2 ∙ append_assoc (quoted a ++ codes ", ") (decimal t) (codes ")") ∙ append_assoc (quoted a) (codes ", ") (decimal t ++ codes ")") in
+    let bracket : Spaced (codes ")" ∷ []) (codes ")") = ([], [], none, refl, none) in
+    let target : Spaced (decimal t ∷ codes ")" ∷ []) (codes " " ++ decimal t ++ codes ")") = (codes " ", codes ")", All-cons IsBlank 32 [] (inl refl) none, refl, bracket) in
+    let comma : Spaced (codes "," ∷ decimal t ∷ codes ")" ∷ []) behind = ([], codes " " ++ decimal t ++ codes ")", none, refl, target) in
+    let label : Spaced (quoted a ∷ codes "," ∷ decimal t ∷ codes ")" ∷ []) bytes = ([], behind, none, spelled, comma) in
+    let whole : after_blanks bytes ≡ bytes = at_token (quoted a) (codes "," ∷ decimal t ∷ codes ")" ∷ []) bytes refl label ∙ sym spelled in
+    ap ending_at (sym whole) ∙ ending_at-again bytes a t (quoted a, decimal t, inr (h.0, refl), (h.1, refl), label)
+
+-- ---- a transition
+
+pub transition_at-takes : (line : List ℕ) (x : ℕ × List ℕ × ℕ) → transition_at line ≡ Some x → TransitionLine line x.0 x.1 x.2
+unfolding transition_at
+transition_at-takes line x e =
+    let b = bind_some (past 40 (after_blanks line)) (λ r. number_then 44 r >>= λ s. ending_at (after_blanks s.1) >>= λ n. Some (s.0, n.0, n.1)) x e in
+    let s = bind_some (number_then 44 b.0) (λ s. ending_at (after_blanks s.1) >>= λ n. Some (s.0, n.0, n.1)) x b.2 in
+    let n = bind_some (ending_at (after_blanks s.0.1)) (λ n. Some (s.0.0, n.0, n.1)) x s.2 in
+    let ending = ending_at-takes s.0.1 n.0 n.1 in
+    let tokens = ending.0 ∷ codes "," ∷ ending.1 ∷ codes ")" ∷ [] in
+    let source = number_then-takes 44 tokens b.0 s.0 s.1 ending.4 in
+    let whole = mark-takes 40 (source.0 ∷ codes "," ∷ tokens) line b.0 b.1 source.2 in
+    let found : TransitionLine line s.0.0 n.0.0 n.0.1 = (source.0, ending.0, ending.1, source.1, ending.2, ending.3, whole) in
+    subst (λ (y : ℕ × List ℕ × ℕ). TransitionLine line y.0 y.1 y.2) {x = (s.0.0, n.0.0, n.0.1)} (same_Some (s.0.0, n.0.0, n.0.1) x n.2) found
+
 pub transition_at-again : (line : List ℕ) (s : ℕ) (a : List ℕ) (t : ℕ) → TransitionLine line s a t → transition_at line ≡ Some (s, a, t)
 unfolding transition_at
 transition_at-again line s a t h =
     let bracket = h.6 in
     let source = bracket.4 in
-    let label = source.4.4 in
-    let comma = label.4 in
-    let target = comma.4 in
-    let behind = h.2 ∷ codes ")" ∷ [] in
-    let stops = Stops-mark is_word 44 behind label.1 blanks_no_words refl comma in
-    let none = HasNoQuote-spaced (codes "," ∷ behind) label.1 ((refl, tt), (HasNoQuote-number h.2 t h.5, ((refl, tt), tt))) comma in
+    let tokens = h.1 ∷ codes "," ∷ h.2 ∷ codes ")" ∷ [] in
     rw (
-      mark-again 40 (h.0 ∷ codes "," ∷ h.1 ∷ codes "," ∷ behind) line refl refl bracket,
-      number_then-again 44 (h.1 ∷ codes "," ∷ behind) bracket.1 h.0 s refl refl refl h.3 source,
-      label-again (codes "," ∷ behind) source.4.1 h.1 a h.4 label stops none,
-      mark-again 44 behind label.1 refl refl comma,
-      number_then-again 41 [] comma.1 h.2 t refl refl refl h.5 target,
-    )
-    (with_end-again target.4.1 (s, a, t) target.4.4)
+      mark-again 40 (h.0 ∷ codes "," ∷ tokens) line refl refl bracket,
+      number_then-again 44 tokens bracket.1 h.0 s refl refl refl h.3 source,
+      ending_at-again source.4.1 a t (h.1, h.2, h.4, h.5, source.4.4),
+    ) refl
 
 -- ---- a line of a hide list
 

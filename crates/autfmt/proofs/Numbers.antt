@@ -28,7 +28,7 @@ blanks_no_digits b (inr (inr e)) = rw e refl
 -- ---- what is read
 
 -- one more digit behind those of v
-decimal-more : (v d : ℕ) → 0 < v → v < 10 ^ 9 → d < 10 → decimal (10 * v + d) ≡ decimal v ++ ((48 + d) ∷ [])
+pub decimal-more : (v d : ℕ) → 0 < v → v < 10 ^ 18 → d < 10 → decimal (10 * v + d) ≡ decimal v ++ ((48 + d) ∷ [])
 decimal-more v d positive small digit =
     let q : (10 * v + d) / 10 ≡ v = omega arith in
     let r : (10 * v + d) % 10 ≡ d = omega arith in
@@ -66,7 +66,7 @@ more_digits-takes v (b ∷ bytes) n rest small e =
     let low : 0 < v = ltb-true 0 v h.0 in
     let high : v < 10 ^ 9 = ltb-true v (10 ^ 9) h.1 in
     let range = digit-range b digit in
-    more_digits-one v (b - 48) b bytes n rest (omega arith) (decimal-more v (b - 48) low high (omega arith))
+    more_digits-one v (b - 48) b bytes n rest (omega arith) (decimal-more v (b - 48) low (omega arith) (omega arith))
     (more_digits-takes (10 * v + (b - 48)) bytes n rest (omega arith) f))
     (λ _ f. absurd cc))
     (λ _ f. more_digits-done v (b ∷ bytes) n rest small f)

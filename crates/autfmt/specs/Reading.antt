@@ -1,8 +1,9 @@
 -- Reading a line from the left: a token, and the bytes after it.
-use Rattle.std.specs.Prelude.{◌≡◌, ℕ, ◌+◌, ◌-◌, ◌*◌, ◌^◌, Bool, ◌&&◌, ◌||◌, ◌==◌, nat_lt, nat_le, List, [], ◌∷◌, length, take, drop, Option, Some, None, if◌then◌else◌}
+use Rattle.std.specs.Prelude.{◌≡◌, ℕ, ◌+◌, ◌-◌, ◌*◌, ◌^◌, ◌<◌, Bool, ◌&&◌, ◌||◌, ◌==◌, nat_lt, nat_le, List, [], ◌∷◌, ◌++◌, length, take, drop, Option, Some, None, if◌then◌else◌, codes, decimal}
 use Rattle.std.specs.Char.{is_ascii_digit}
 use Rattle.std.specs.List.{list_all, prefix_len}
-use Rattle.autfmt.specs.Grammar.{is_letter}
+use Rattle.theory.specs.System.{IsLabel}
+use Rattle.autfmt.specs.Grammar.{is_letter, quoted}
 
 -- the next step, if this one did not fail
 infixl 10 ◌>>=◌
@@ -108,15 +109,25 @@ header_at line = do
   n ← number_then 41 m.1
   if are_blanks n.1 then Some (f.0, m.0, n.0) else None
 
+-- the label and the target at the end of a transition
+unfoldable pub ending_at : List ℕ → Option (List ℕ × ℕ)
+ending_at rest = do
+  a ← label_at rest
+  rest ← past 44 (after_blanks a.1)
+  t ← number_then 41 rest
+  if are_blanks t.1 then Some (a.0, t.0) else None
+
+-- `"a", t)`, with which most transitions end
+abbrev pub UsualEnding : List ℕ → List ℕ → ℕ → Type 0
+UsualEnding bytes a t = IsLabel a × (t < 10 ^ 10) × (bytes ≡ quoted a ++ codes ", " ++ decimal t ++ codes ")")
+
 -- the source, the label and the target of a transition
 unfoldable pub transition_at : List ℕ → Option (ℕ × List ℕ × ℕ)
 transition_at line = do
   rest ← past 40 (after_blanks line)
   s ← number_then 44 rest
-  a ← label_at (after_blanks s.1)
-  rest ← past 44 (after_blanks a.1)
-  t ← number_then 41 rest
-  if are_blanks t.1 then Some (s.0, a.0, t.0) else None
+  e ← ending_at (after_blanks s.1)
+  Some (s.0, e.0, e.1)
 
 -- the label of a line of a hide list
 unfoldable pub hide_line_at : List ℕ → Option (List ℕ)
