@@ -1,5 +1,5 @@
 -- What a round of refinement makes of the blocks, and how far some rounds have come.
-use Rattle.std.specs.Prelude.{◌≡◌, ℕ, ◌*◌, List, length, slice_index}
+use Rattle.std.specs.Prelude.{◌≡◌, ℕ, ◌*◌, ◌<◌, ◌≤◌, List, length, slice_index}
 use Rattle.theory.specs.declared.relation.Relation.{Relation}
 use Rattle.theory.specs.Blocks.{Split, SameBlocks, Underway}
 use Rattle.lts.specs.Meter.{Counts, Costs}
@@ -13,6 +13,8 @@ pub record IsNext (rel : Relation) (l : Grouped) (p : List ℕ) (count : ℕ) (q
   pub split : Split rel (system_of l) (slice_index p) (slice_index q)
   pub blocks : AreBlocks q more
   pub settled : Settled rel (system_of l) (slice_index q) count
+  pub grows : count ≤ more
+  pub stays : (s : ℕ) → s < l.states → slice_index q s < count → slice_index q s ≡ slice_index p s
   pub same : more ≡ count → SameBlocks (system_of l) (slice_index p) (slice_index q)
   pub parted : ¬ (more ≡ count) → ¬ SameBlocks (system_of l) (slice_index p) (slice_index q)
 

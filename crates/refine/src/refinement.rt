@@ -5,6 +5,7 @@ ghost use Rattle.theory.specs.Blocks.{Split, Turns, EachTwo};
 ghost use Rattle.lts.specs.Meter.{HasRoomFor, Costs, CostsUpTo};
 ghost use Rattle.lts.specs.Lts.{system_of};
 ghost use Rattle.partition.specs.Partition.{AreBlocks, IsSomePartition};
+ghost use Rattle.partition.specs.Splitting.{AreAlone};
 ghost use Rattle.refine.specs.Settled.{Settled};
 ghost use Rattle.refine.specs.Rounds.{IsNext};
 
@@ -127,10 +128,12 @@ fn refine_in<S: Sense, M: Meter>(
     let mut blocks = one_block(alloc, l.states())?;
     let mut count = 1;
     let mut low = 0;
+    let mut alone = Vec::new(alloc);
     theory::refinement_goes_on();
     theory::final_blocks_are_bisimilarity();
     loop {
-        let next = next_round::<S, M>(alloc, l, &blocks, count, low, marks, signatures, m)?;
+        alone = known_alone(alloc, &blocks, count, alone)?;
+        let next = next_round::<S, M>(l, &blocks, count, low, &alone, marks, signatures, m)?;
         if next.count == count {
             return renumber(alloc, &next.of, next.count);
         }
@@ -140,14 +143,32 @@ fn refine_in<S: Sense, M: Meter>(
     }
 }
 
+/// The blocks that are known to be of one state alone. Those `found` in an earlier round still are, since blocks keep their
+/// numbers. They are all found anew once there are over an eighth more blocks.
+///
+/// Fails if there is no memory for it.
+fn known_alone(alloc: Global, p: &[u32], count: u32, found: Vec<bool>) -> Result<Vec<bool>, Memory>
+    requires blocks { AreBlocks p.now count }
+    requires alone { AreAlone p.now found.items }
+    requires fewer { length found.items ≤ count }
+    ensures alone { IfOk result (λ v. AreAlone p.now v.items) }
+    ensures fewer { IfOk result (λ v. length v.items ≤ count) }
+{
+    let more = count as usize - found.len();
+    if more <= found.len() / 8 {
+        return Ok(found);
+    }
+    alone(alloc, p, count)
+}
+
 /// One round in marks and lists that are used again, of which `RoundSignatures` has what a round keeps and none whole: the Split
-/// of `count` blocks, those that are numbered from `low` on being new.
+/// of `count` blocks, those that are numbered from `low` on being new and those in `alone` of one state.
 fn next_round<S: Sense, M: Meter>(
-    alloc: Global,
     l: &Lts<M>,
     p: &[u32],
     count: u32,
     low: u32,
+    alone: &[bool],
     marks: &mut Marks,
     signatures: &mut RoundSignatures,
     m: &mut M,
@@ -155,6 +176,7 @@ fn next_round<S: Sense, M: Meter>(
     requires states { length p.now ≡ l.now.states }
     requires blocks { AreBlocks p.now count }
     requires settled { Settled S.relation (system_of l.now) (slice_index p.now) low }
+    requires alone { AreAlone p.now alone.now }
     requires marks { marks.old ≡ l.now.states }
     requires signatures { length signatures.old.numbers ≡ l.now.states }
     requires room { HasRoomFor (M.counted m.old) 1 (length l.now.places) }
@@ -173,7 +195,6 @@ fn next_round<S: Sense, M: Meter>(
     lts::rows_are_steps();
     l.known();
     m.start_round();
-    let alone = alone(alloc, p, count)?;
-    signatures.sign::<S, M>(l, p, low, &alone, marks, m)?;
+    signatures.sign::<S, M>(l, p, low, alone, marks, m)?;
     signatures.split(p, count)
 }

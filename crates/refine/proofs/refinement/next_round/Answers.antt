@@ -1,7 +1,6 @@
-use Rattle.std.proofs.Common.{rules, subst}
+use Rattle.std.proofs.Common.{rules}
 use Rattle.std.proofs.lemmas.Result.{IfOk-weaker}
 use Rattle.refine.specs.EachList.{list_of}
-use Rattle.refine.specs.Settled.{ArePut}
 use Rattle.refine.proofs.Settling.{IsNext-from}
 use Rattle.refine.proofs.Spending.{begun_up_to}
 use Rattle.refine.proofs.refinement.next_round.Goals as goal
@@ -17,7 +16,6 @@ returns-clause-next g c =
     let l = c.args.l.now in
     let p = c.args.p.now in
     let list = list_of c.sign.new.self.lists c.sign.new.self.numbers in
-    let put = subst (λ alone. ArePut g.S.Sense.relation l p c.args.low alone list) c.deref.ensures.value c.in_ok-sign.ensures.signed in
     IfOk-weaker c.split.result _ _
     (λ q splits. IsNext-from g.S.Sense.relation l c.known.ensures.system (λ s a t. c.rows_are_steps.ensures.numbered l s a t c.known.ensures) p c.args.count
-    c.args.low c.requires.states c.requires.settled c.in_ok-alone.alone.items c.in_ok-alone.ensures list put q.of.items q.count splits) c.split.ensures
+    c.args.low c.requires.states c.requires.settled c.args.alone.now c.requires.alone list c.in_ok-sign.ensures.signed q.of.items q.count splits) c.split.ensures

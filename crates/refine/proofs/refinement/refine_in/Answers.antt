@@ -6,8 +6,9 @@ use Rattle.lts.specs.Lts.{system_of}
 use Rattle.refine.specs.Settled.{Settled}
 use Rattle.refine.specs.Rounds.{Made}
 use Rattle.refine.proofs.Spending.{costs_more, costs_up_to_more, room_for_more, on_ok_from, on_err_from}
+use Rattle.partition.specs.Splitting.{AreAlone}
 use Rattle.partition.proofs.Renumbering.{one_block}
-use Rattle.refine.proofs.Settling.{settled_first}
+use Rattle.refine.proofs.Settling.{settled_first, none_alone, AreAlone-next}
 use Rattle.refine.proofs.refinement.refine_in.Goals as goal
 use Rattle.refine.proofs.refinement.refine_in.Given.{Over}
 use Rattle.refine.proofs.refinement.refine_in.Goals.{Then-next-count, Else-next-count}
@@ -23,6 +24,8 @@ loop-blocks-init g c =
       states = size ∙ c.states.ensures.value;
       blocks = c.in_ok-blocks.ensures.blocks;
       settled = settled_first g.S.Sense.relation A (slice_index blocks);
+      alone = subst (AreAlone blocks) (sym c.new-alone.ensures.items) (λ s ls told. absurd (none_alone (slice_index blocks s) told));
+      fewer = omega (arith, ap length c.new-alone.ensures.items);
       marks = c.requires.marks;
       signatures = c.requires.signatures;
       made = record { rounds = 0; underway = begun; costs = search rules };
@@ -30,7 +33,7 @@ loop-blocks-init g c =
 
 pub next_round-requires-clause-settled : goal.next_round-requires-clause-settled
 next_round-requires-clause-settled g c =
-    subst (λ p. Settled g.S.Sense.relation (system_of c.args.l.now) (slice_index p) c.loop-blocks.low) (sym c.deref.ensures.value) c.loop-blocks.invariant.settled
+    subst (λ p. Settled g.S.Sense.relation (system_of c.args.l.now) (slice_index p) c.loop-blocks.low) (sym c.deref-in-loop-blocks.ensures.value) c.loop-blocks.invariant.settled
 
 pub next_round-requires-clause-room : goal.next_round-requires-clause-room
 next_round-requires-clause-room g c =
@@ -58,7 +61,7 @@ turns g c =
     let A = system_of c.args.l.now in
     let made = c.loop-blocks.invariant.made in
     let next = c.in_ok-next.ensures.next in
-    let is = c.deref.ensures.value in
+    let is = c.deref-in-loop-blocks.ensures.value in
     c.refinement_goes_on.ensures.done g.S.Sense.relation A made.rounds (slice_index c.loop-blocks.blocks.items) (slice_index c.in_ok-next.next.of.items)
     c.states.ensures.lts.system made.underway
     (subst (λ p. Split g.S.Sense.relation A (slice_index p) (slice_index c.in_ok-next.next.of.items)) is next.split)
@@ -94,7 +97,7 @@ returns-then-next-count-clause-bisimilar g c =
     c.states.ensures.lts.system (turns g (goal.at.returns-then-next-count-clause-bisimilar g c).Then-next-count) (
       slice_index c.loop-blocks.blocks.items,
       made.underway.after,
-      subst (λ p. Split g.S.Sense.relation A (slice_index p) (slice_index c.in_ok-next.next.of.items)) c.deref.ensures.value next.split,
+      subst (λ p. Split g.S.Sense.relation A (slice_index p) (slice_index c.in_ok-next.next.of.items)) c.deref-in-loop-blocks.ensures.value next.split,
     ) in
     IfOk-weaker c.renumber.result _ _
     (λ q same s t ls lt.
@@ -132,7 +135,7 @@ made g c =
     let A = system_of l in
     let before = c.loop-blocks.invariant.made in
     let next = c.in_ok-next.ensures.next in
-    let is = c.deref.ensures.value in
+    let is = c.deref-in-loop-blocks.ensures.value in
     record {
       rounds = suc before.rounds;
       underway =
@@ -144,11 +147,23 @@ made g c =
       costs = costs_more (length l.places) l.states before.rounds _ _ before.costs (g.M.Meter.counted c.next_round.new.m) c.in_ok-next.ensures.costs;
     }
 
+-- what is known to be alone is so after the round too
+alone : (g : Over) (c : Else-next-count g) → AreAlone c.in_ok-next.next.of.items c.in_ok-alone.alone.items
+alone g c =
+    let p = c.deref-in-loop-blocks.result.now in
+    let alone = c.in_ok-alone.alone.items in
+    let is = c.deref-in-loop-blocks.ensures.value in
+    AreAlone-next g.S.Sense.relation c.args.l.now p c.loop-blocks.count c.in_ok-next.next.of.items c.in_ok-next.next.count alone
+    (ap length is ∙ c.loop-blocks.invariant.states) c.in_ok-alone.ensures.fewer c.in_ok-next.ensures.next
+    (subst (λ q. AreAlone q alone) (c.deref.ensures.value ∙ sym is) c.in_ok-alone.ensures.alone)
+
 pub loop-blocks-preserved : goal.loop-blocks-preserved
 loop-blocks-preserved g c = record {
   states = c.in_ok-next.ensures.next.states;
   blocks = c.in_ok-next.ensures.next.blocks;
   settled = c.in_ok-next.ensures.next.settled;
+  alone = alone g (goal.at.loop-blocks-preserved g c).Else-next-count;
+  fewer = omega (arith, c.in_ok-alone.ensures.fewer, c.in_ok-next.ensures.next.grows);
   marks = c.next_round.ensures.marks ∙ c.loop-blocks.invariant.marks;
   signatures = c.next_round.ensures.signatures ∙ c.loop-blocks.invariant.signatures;
   made = made g (goal.at.loop-blocks-preserved g c).Else-next-count;
