@@ -54,6 +54,11 @@ TakesStep places (Inert t) old new enters =
 abbrev pub IsGiven : List (List (ℕ × ℕ)) → List Item → ℕ × ℕ → Type 0
 IsGiven lists items z = (x : Item) × Contains items x × Gives lists x z
 
+-- the item names this list, or is a pair that it has
+abbrev pub IsIn : List (List (ℕ × ℕ)) → ℕ → Item → Type 0
+IsIn lists k (Pair a b) = Contains (list_at lists k) (a, b)
+IsIn lists k (Listed j) = j ≡ k
+
 -- the numbers of the lists that these items name, and the pairs that they are
 pub record AreCollected (items : List Item) (numbers : List ℕ) (pairs : List (ℕ × ℕ)) : Type 0 where
   pub named : (k : ℕ) → Contains numbers k ↔ Contains items (Listed k)

@@ -1,9 +1,10 @@
 //! The list of a component: the pairs that it has collected, and those of the lists that it leads to.
-ghost use Rattle.std.specs.Prelude.{◌↔◌, ℕ, ◌+◌, ◌≤◌, length, IfOk, OnOk};
-ghost use Rattle.std.specs.List.{Contains};
+ghost use Rattle.std.specs.Prelude.{◌↔◌, ℕ, ◌+◌, ◌<◌, ◌≤◌, length, IfOk, IfSome, IsTrue, OnOk};
+ghost use Rattle.std.specs.List.{All, Contains};
 ghost use Rattle.lists.specs.declared.lists.TheConstants.{MOST_LISTS};
 ghost use Rattle.inert.specs.Search.{AreThere};
-ghost use Rattle.inert.specs.Moves.{IsListed, AreCollected};
+ghost use Rattle.inert.specs.Moves.{IsListed, AreCollected, IsIn};
+ghost use Rattle.inert.specs.Search.{Listed};
 
 use crate::item::{CompactItem, Item};
 use lists::{Lists, order};
@@ -22,12 +23,59 @@ pub(crate) fn list_from(
     requires few { length lists.old + length items.now + 2 ≤ MOST_LISTS }
     ensures { IfOk result (IsListed items.now lists.old lists.new) }
 {
+    if let Some(list) = lone(items, lists) {
+        return Ok(list);
+    }
     collect(items, numbers, pairs)?;
     order_numbers(numbers);
     order(pairs);
     let list = lists.join(numbers, pairs)?;
     lists.known();
     Ok(list)
+}
+
+/// The number of the list that these items name, if it is one list alone and has all the pairs that they are: then it is the list
+/// of what they give, and nothing is put in order.
+fn lone(items: &[CompactItem], lists: &Lists) -> Option<u32>
+    requires { AreThere lists.now items.now }
+    ensures { IfSome result (IsListed items.now lists.now lists.now) }
+{
+    lists.known();
+    let list = first_list(items)?;
+    if all_in(items, list, lists) {
+        Some(list)
+    } else {
+        None
+    }
+}
+
+/// The number of the first list that these items name.
+fn first_list(items: &[CompactItem]) -> Option<u32>
+    ensures { IfSome result (λ k. Contains items.now (Listed k)) }
+{
+    for item in items {
+        if let Item::Listed(list) = item.item() {
+            return Some(list);
+        }
+    }
+    None
+}
+
+/// Whether each of the items names this list, or is a pair that it has.
+fn all_in(items: &[CompactItem], list: u32, lists: &Lists) -> bool
+    requires { list < length lists.now }
+    ensures { IsTrue result ↔ All (IsIn lists.now list) items.now }
+{
+    for item in items {
+        let is_in = match item.item() {
+            Item::Pair(label, block) => lists.has(list, (label, block)),
+            Item::Listed(other) => other == list,
+        };
+        if !is_in {
+            return false;
+        }
+    }
+    true
 }
 
 /// Makes `numbers` those of the lists that these items name, and `pairs` the pairs that they are.

@@ -8,6 +8,7 @@ pub mod Padded
 pub mod Linked
 pub mod Extending
 pub mod Chains
+pub mod Rechaining
 pub mod Seeking
 pub mod Searching
 pub mod Hashing

@@ -4,7 +4,7 @@ use Rattle.std.proofs.lemmas.Bool.{cases_lt}
 use Rattle.std.proofs.lemmas.List.{length-append, length-replicate, length_push, get_or_append_left, get_or-append_right, get_or-replicate, get_or_past, replicate_more, append-nil, append_assoc}
 use Rattle.lists.specs.Links.{padded}
 
-no_more : (m j z : ℕ) → get_or (replicate m z) j z ≡ z
+pub no_more : (m j z : ℕ) → get_or (replicate m z) j z ≡ z
 no_more m j z = elim (cases_lt j m) [
   | inl h ↦ get_or-replicate m j z z h
   | inr h ↦ get_or_past (replicate m z) j z (let size = length-replicate m z in omega arith)

@@ -169,7 +169,7 @@ impl Chained {
     }
 
     /// Whether the list number `k` has the pair.
-    fn has(&self, k: u32, pair: (u32, u32)) -> bool
+    pub fn has(&self, k: u32, pair: (u32, u32)) -> bool
         requires { k < length self.now }
         ensures { IsTrue result ↔ Contains (list_at self.now k) pair }
     {

@@ -1,6 +1,6 @@
 //! Different lists of pairs, so that a list that is asked for again has the number that it got the first time: the layer above
 //! `chained`.
-ghost use Rattle.std.specs.Prelude.{◌≡◌, ◌⊎◌, ◌↔◌, ℕ, ◌+◌, ◌++◌, ◌∷◌, ◌<◌, ◌≤◌, [], length, IfOk, OnOk, OnErr};
+ghost use Rattle.std.specs.Prelude.{◌≡◌, ◌⊎◌, ◌↔◌, ℕ, ◌+◌, ◌++◌, ◌∷◌, ◌<◌, ◌≤◌, [], length, IfOk, OnOk, OnErr, IsTrue};
 ghost use Rattle.std.specs.List.{Contains};
 ghost use Rattle.std.specs.List.Sorted.{IsStrictlySortedBy};
 ghost use Rattle.lists.specs.Lists.{pair_cmp, list_at, merged, IsAddition, AreLists, Grow};
@@ -8,15 +8,15 @@ ghost use Rattle.lists.specs.declared.lists.TheConstants.{MOST_LISTS};
 
 use crate::chained::Chained;
 use crate::differences::{Differences, forget, no_differences, note};
-use crate::hashed::{Entry, find, first_entry, put};
+use crate::hashed::{Entry, MOST_BUCKETS, find, first_entry, put, widen};
 use crate::lists::EMPTY;
 use crate::span::fingerprint;
 use growth::Memory;
 use std::alloc::Global;
 use std::marker::Model;
 
-/// The most buckets that lists are looked up in.
-const MOST_BUCKETS: u32 = 1 << 20;
+/// How many buckets there are at first. There are more once there are more lists.
+const FIRST_BUCKETS: usize = 1 << 12;
 
 /// Different lists of pairs in strictly rising order. The list number `EMPTY` is the empty one.
 #[derive(Drop)]
@@ -44,18 +44,20 @@ impl Model for Distinct {
 }
 
 impl Distinct {
-    /// The empty list alone, with room for so many other ones, and buckets for as many.
+    /// The empty list alone, with room for so many other ones, and for as many buckets.
     ///
     /// Fails if there is no memory for it.
     pub fn new(alloc: Global, room: u32) -> Result<Distinct, Memory>
         ensures { IfOk result (λ x. x ≡ [] ∷ []) }
     {
-        let buckets = room.min(MOST_BUCKETS - 1) as usize + 1;
+        let buckets = (room as usize + 1).min(MOST_BUCKETS);
+        let mut heads = Vec::with_capacity(alloc, buckets)?;
+        heads.resize(buckets.min(FIRST_BUCKETS), EMPTY)?;
         let mut entries = Vec::with_capacity(alloc, room as usize + 1)?;
         entries.push(first_entry())?;
         Ok(Distinct {
             lists: Chained::new(alloc, room)?,
-            heads: vec![in alloc; EMPTY; buckets]?,
+            heads,
             entries,
             differences: no_differences(alloc)?,
         })
@@ -81,6 +83,14 @@ impl Distinct {
         ensures { result ≡ length (list_at self.now k) }
     {
         self.lists.size(k)
+    }
+
+    /// Whether the list number `k` has the pair.
+    pub fn has(&self, k: u32, pair: (u32, u32)) -> bool
+        requires { k < length self.now }
+        ensures { IsTrue result ↔ Contains (list_at self.now k) pair }
+    {
+        self.lists.has(k, pair)
     }
 
     /// Appends those of the pairs that the list number `k` lacks to `out`.
@@ -166,6 +176,7 @@ impl Distinct {
             note(&self.lists, &mut self.differences, k, number)?;
             return Ok(number);
         }
+        widen(&mut self.heads, &mut self.entries)?;
         let made = put(
             &mut self.lists,
             &mut self.heads,
@@ -181,8 +192,12 @@ impl Distinct {
     pub fn clear(&mut self)
         ensures { self.new ≡ [] ∷ [] }
     {
+        // Buckets as for lists as many as now: a round mostly has no more than the last one.
+        let buckets = FIRST_BUCKETS.max(self.entries.len());
+        self.lists.known();
         self.lists.clear();
         self.entries.truncate(1);
+        self.heads.truncate(buckets);
         self.heads.fill(EMPTY);
         forget(&mut self.differences);
     }

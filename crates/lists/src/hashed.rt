@@ -1,13 +1,17 @@
 //! The table that `distinct` finds its lists in (hash-consing): each list has an entry, and those of one bucket are chained.
-ghost use Rattle.std.specs.Prelude.{◌≡◌, ℕ, ◌/◌, ◌*◌, ◌^◌, ◌++◌, ◌∷◌, ◌<◌, ◌≤◌, [], length, IfOk, OnOk, OnErr, MatchOption};
+ghost use Rattle.std.specs.Prelude.{◌≡◌, ℕ, ◌/◌, ◌*◌, ◌^◌, ◌++◌, ◌∷◌, ◌<◌, ◌≤◌, List, [], length, slice_index, IfOk, OnOk, OnErr, MatchOption};
 ghost use Rattle.lists.specs.Lists.{list_at, merged};
-ghost use Rattle.lists.specs.Hashed.{bucket_of_tag, IsHashed, IsSought, IsNewList, IsNumberOf};
+ghost use Rattle.lists.specs.Hashed.{bucket_of_tag, entry_at, entry_bucket, entry_before, IsChained, IsHashed, IsSought, IsNewList, IsNumberOf};
 ghost use Rattle.lists.specs.Differences.{AreDifferences};
 ghost use Rattle.lists.specs.declared.lists.TheConstants.{MOST_LISTS};
 
 use crate::chained::Chained;
 use crate::differences::Differences;
+use crate::lists::EMPTY;
 use growth::Memory;
+
+/// The most buckets that lists are looked up in.
+pub(crate) const MOST_BUCKETS: usize = 1 << 20;
 
 /// How a list is found.
 #[derive(Clone, Copy)]
@@ -92,4 +96,44 @@ pub(crate) fn put(
     });
     heads[b] = number;
     Ok(number)
+}
+
+/// Makes four times as many buckets, as far as there is room for them, and chains all lists anew, if there are more lists than
+/// buckets. So few lists have few buckets, which stay near in memory.
+///
+/// Fails if there is no memory for them. The buckets are then as they were.
+pub(crate) fn widen(heads: &mut Vec<u32>, entries: &mut [Entry]) -> Result<(), Memory>
+    requires buckets { 0 < length heads.old.items }
+    requires few { (0 < length entries.old) × (length entries.old ≤ MOST_LISTS) }
+    ensures { (lists : List (List (ℕ × ℕ))) → IsHashed lists heads.old.items entries.old → IsHashed lists heads.new.items entries.new }
+{
+    let most = heads.capacity().min(MOST_BUCKETS);
+    if entries.len() <= heads.len() || most <= heads.len() {
+        return Ok(());
+    }
+    heads.resize(most.min(4 * heads.len()), EMPTY)?;
+    heads.fill(EMPTY);
+    chain(heads, entries);
+    Ok(())
+}
+
+/// Puts the entries from the first list on into the buckets, none of which has one.
+fn chain(heads: &mut [u32], entries: &mut [Entry])
+    requires buckets { (0 < length heads.old) × (length heads.old < 2 ^ 32) }
+    requires none { (b : ℕ) → b < length heads.old → slice_index heads.old b ≡ EMPTY }
+    requires few { (0 < length entries.old) × (length entries.old ≤ MOST_LISTS) }
+    ensures buckets { length heads.new ≡ length heads.old }
+    ensures size { length entries.new ≡ length entries.old }
+    ensures tags { (r : ℕ) → (entry_at entries.new r).tag ≡ (entry_at entries.old r).tag }
+    ensures chained { IsChained (length entries.new) (entry_bucket entries.new heads.new) (entry_before entries.new) heads.new }
+{
+    for r in 1..entries.len() {
+        let tag = entries[r].tag;
+        let b = bucket(tag, heads.len());
+        entries[r] = Entry {
+            tag,
+            before: heads[b],
+        };
+        heads[b] = r as u32;
+    }
 }

@@ -1,5 +1,5 @@
 //! Different lists of pairs and their unions, asked for by number: the top layer, which the crates above see.
-ghost use Rattle.std.specs.Prelude.{◌≡◌, ◌⊎◌, ◌↔◌, ℕ, ◌+◌, ◌++◌, ◌∷◌, ◌<◌, ◌≤◌, [], length, IfOk, OnOk, OnErr};
+ghost use Rattle.std.specs.Prelude.{◌≡◌, ◌⊎◌, ◌↔◌, ℕ, ◌+◌, ◌++◌, ◌∷◌, ◌<◌, ◌≤◌, [], length, IfOk, OnOk, OnErr, IsTrue};
 ghost use Rattle.std.specs.List.{Contains};
 ghost use Rattle.std.specs.List.Sorted.{IsStrictlySortedBy};
 ghost use Rattle.lists.specs.Lists.{pair_cmp, list_at, AreLists, AreNumbers, Grow, HasOne};
@@ -91,6 +91,14 @@ impl Lists {
         ensures few { length self.new ≤ length self.old + 1 }
     {
         self.lists.push(pairs)
+    }
+
+    /// Whether the list number `k` has the pair.
+    pub fn has(&self, k: u32, pair: (u32, u32)) -> bool
+        requires { k < length self.now }
+        ensures { IsTrue result ↔ Contains (list_at self.now k) pair }
+    {
+        self.lists.has(k, pair)
     }
 
     /// The number of the list that has the pairs of these lists and these pairs, and no other one.

@@ -96,7 +96,7 @@ fn union_of(
     Ok(lists.join(&[j, k], &own)?)
 }
 
-/// Fails if the list number `k` is not there, or does not have exactly these pairs in this order.
+/// Fails if the list number `k` is not there, or does not have exactly these pairs in this order, or says otherwise.
 fn check_list(
     alloc: Global,
     name: &str,
@@ -109,6 +109,10 @@ fn check_list(
         return Err(Fail::new(name));
     }
     lists.append(k, &mut found)?;
+    for pair in wanted {
+        check(name, lists.has(k, *pair))?;
+    }
+    check(name, !lists.has(k, (0, 999)))?;
     check(name, found.as_slice() == wanted)
 }
 
