@@ -12,6 +12,7 @@ mod row_laws;
 mod visiting;
 
 pub use disjoint::{fits_together, union};
+pub use grouping::by_source;
 pub use growth::Memory;
 pub use labels::{Labels, is_label};
 pub use limits::{MOST_LABELS, MOST_STATES, MOST_TRANSITIONS};

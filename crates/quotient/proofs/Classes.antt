@@ -61,6 +61,8 @@ pub record Taken (rel : Relation) (A : System) (block : ℕ → ℕ) (s : ℕ) (
   pub known : (t : ℕ) → t < A.states → slice_index n.by_block.items (block t) ≢ none →
       Earlier rel A block s t (slice_index n.by_block.items (block t))
   pub numbers : (t : ℕ) → t < s → Reachable A t → Number rel A t (slice_index n.numbers.items t)
+  pub known_below : (t : ℕ) → t < A.states → slice_index n.by_block.items (block t) ≢ none → slice_index n.by_block.items (block t) < n.count
+  pub below : (t : ℕ) → t < s → Reachable A t → slice_index n.numbers.items t < n.count
   pub leaders : (t : ℕ) → t < s → IsMarked n.leads.items t ↔ IsLeader rel A t
   pub counted : (c : ℕ) × HowMany (Other rel A s) c × (n.count ≡ 1 + c)
   pub few : n.count ≤ s + 1
@@ -158,6 +160,9 @@ module _ (rel : Relation) (A : System) (block : ℕ → ℕ) (laws : Laws rel A 
       known = rw f.by_block (λ t l some. earlier_on s t (slice_index old.by_block.items (block t)) (h.known t l some));
       numbers = rw f.numbers (each_pushed (λ t n. Reachable A t → Number rel A t n) old.numbers.items (slice_index old.by_block.items (block s)) 0 s
           h.numbers_long h.numbers follows_number);
+      known_below = rw f.by_block (rw f.count h.known_below);
+      below = rw f.numbers (rw f.count (each_pushed (λ t n. Reachable A t → n < old.count) old.numbers.items (slice_index old.by_block.items (block s)) 0 s
+          h.numbers_long h.below (λ way. h.known_below s ls (f.known (is_reached.1 way)))));
       leaders = rw f.leads (each_pushed (λ t b. IsTrue b ↔ IsLeader rel A t) old.leads.items first false s h.leads_long h.leaders follows_leader);
       counted = (h.counted.0, laws.counting.kept s h.counted.0 follows_not_other h.counted.1, f.count ∙ h.counted.2);
       few = omega (arith, f.count, h.few);
@@ -208,6 +213,12 @@ module _ (rel : Relation) (A : System) (block : ℕ → ℕ) (laws : Laws rel A 
           (h.known t l (λ e. some (opens_elsewhere t d ∙ e))))
     ]
 
+    opens_below_count : (t : ℕ) → t < A.states → slice_index new.by_block.items (block t) ≢ none → slice_index new.by_block.items (block t) < new.count
+    opens_below_count t l some = elim (cases_eq (block t) (block s)) [
+      | inl e ↦ omega (arith, opens_here t e, o.count)
+      | inr d ↦ omega (arith, opens_elsewhere t d, o.count, h.known_below t l (λ e. some (opens_elsewhere t d ∙ e)))
+    ]
+
     opens_seen : (t : ℕ) → t < s + 1 → Reachable A t → slice_index new.by_block.items (block t) ≢ none
     opens_seen t l way e = elim (cases_eq (block t) (block s)) [
       | inl f ↦ opens_some (sym (opens_here t f) ∙ e)
@@ -226,6 +237,9 @@ module _ (rel : Relation) (A : System) (block : ℕ → ℕ) (laws : Laws rel A 
       seen = opens_seen;
       known = opens_known;
       numbers = rw o.numbers (each_pushed (λ t n. Reachable A t → Number rel A t n) old.numbers.items old.count 0 s h.numbers_long h.numbers (λ way. opens_number));
+      known_below = opens_below_count;
+      below = rw o.numbers (each_pushed (λ t n. Reachable A t → n < new.count) old.numbers.items old.count 0 s h.numbers_long
+          (λ t l way. omega (arith, o.count, h.below t l way)) (λ way. omega (arith, o.count)));
       leaders = rw o.leads (each_pushed (λ t b. IsTrue b ↔ IsLeader rel A t) old.leads.items true false s h.leads_long h.leaders
           (λ x. opens_is_leader, λ x. refl));
       counted = (h.counted.0 + 1, laws.counting.one s h.counted.0 opens_is_leader opens_other h.counted.1, omega (arith, o.count, h.counted.2));
@@ -250,6 +264,13 @@ module _ (rel : Relation) (A : System) (block : ℕ → ℕ) (laws : Laws rel A 
       | inr d ↦ absurd (some (rw by_block (get_or-set_other (replicate count none) (block A.first) (block t) 0 0 d ∙ get_or-replicate count (block t) none 0 (within t l))))
     ];
     numbers = λ t l. absurd (omega (arith, l));
+    known_below = λ t l some. elim (cases_eq (block t) (block A.first)) [
+      | inl e ↦
+          let value : slice_index n.by_block.items (block t) ≡ 0 = ap (slice_index n.by_block.items) e ∙ rw by_block at in
+          omega (arith, value, one)
+      | inr d ↦ absurd (some (rw by_block (get_or-set_other (replicate count none) (block A.first) (block t) 0 0 d ∙ get_or-replicate count (block t) none 0 (within t l))))
+    ];
+    below = λ t l. absurd (omega (arith, l));
     leaders = λ t l. absurd (omega (arith, l));
     counted = (0, laws.counting.none, one);
     few = omega (arith, one);
@@ -265,6 +286,7 @@ module _ (rel : Relation) (A : System) (block : ℕ → ℕ) (laws : Laws rel A 
     numbers_long = h.numbers_long;
     leads_long = h.leads_long;
     number = λ s way. h.numbers s (laws.below s way) way;
+    below = λ s way. h.below s (laws.below s way) way;
     leader = h.leaders;
     counted = subst (HowMany (IsLeader rel A)) (sym h.counted.2) (laws.counting.all h.counted.0 h.counted.1);
     few = h.fewer laws.first;

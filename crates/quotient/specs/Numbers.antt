@@ -11,6 +11,7 @@ pub record IsNumbering (rel : Relation) (A : System) (n : Numbering) : Type 0 wh
   pub numbers_long : length n.numbers.items ≡ A.states
   pub leads_long : length n.leads.items ≡ A.states
   pub number : (s : ℕ) → Reachable A s → Number rel A s (slice_index n.numbers.items s)
+  pub below : (s : ℕ) → Reachable A s → slice_index n.numbers.items s < n.count
   pub leader : (s : ℕ) → s < A.states → IsMarked n.leads.items s ↔ IsLeader rel A s
   pub counted : HowMany (IsLeader rel A) n.count
   pub few : n.count ≤ A.states

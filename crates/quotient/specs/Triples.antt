@@ -49,6 +49,18 @@ member_at members k = slice_index_or members k (0, 0)
 abbrev pub IsMemberBelow : List ℕ → List Bool → ℕ → Member → Type 0
 IsMemberBelow numbers sources s p = (p.1 < s) × IsMarked sources p.1 × (p.0 ≡ slice_index numbers p.1)
 
+-- the numbers of the marked states below s are below the count
+abbrev pub AreBelow : List ℕ → List Bool → ℕ → ℕ → Type 0
+AreBelow numbers sources s count = (t : ℕ) → t < s → IsMarked sources t → slice_index numbers t < count
+
+-- a member as a triple, with its number in front once more
+abbrev pub numbered_of : Member → Triple
+numbered_of p = (p.0, p.0, p.1)
+
+-- what follows that
+abbrev pub member_of : Triple → Member
+member_of x = (label_of x, target_of x)
+
 -- what the rows of the members show, one row behind the other
 abbrev pub shown_among : List ℕ → Option ℕ → List Triple → List Member → List Triple
 shown_among numbers dropped places members = flat_map (λ p. shown_by numbers dropped places p.1) members

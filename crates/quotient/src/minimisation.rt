@@ -86,7 +86,15 @@ fn quotient_of<M: Meter>(
     theory::numbers_are_states();
     let sources = relation::sources(r, &numbering.leads, reached);
     let dropped = relation::dropped(r, l.labels());
-    let triples = shown_triples(alloc, l, &numbering.numbers, sources, dropped, m)?;
+    let triples = shown_triples(
+        alloc,
+        l,
+        &numbering.numbers,
+        numbering.count,
+        sources,
+        dropped,
+        m,
+    )?;
     let labels = copied(alloc, l.labels())?;
     Lts::build(alloc, labels, 0, numbering.count, triples)
 }
