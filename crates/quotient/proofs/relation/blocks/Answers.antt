@@ -1,4 +1,4 @@
-use Rattle.std.proofs.Common.{IfOk, ap, sym, subst}
+use Rattle.std.proofs.Common.{IfOk, sym, subst}
 use Rattle.quotient.specs.Reading.{AreClasses}
 use Rattle.quotient.proofs.relation.blocks.Goals as goal
 
