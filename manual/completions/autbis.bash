@@ -1,19 +1,20 @@
 # Completions of autbis for bash. manual/try compares them with what --help lists.
 
-# Completes the name of a system: files that end in .aut come first, then folders. If there are none, bash completes the name of any file.
+# Completes the name of a system, which begins with - only if $2 is not empty: files that end in .aut come first, then folders. If there are none, bash
+# completes the name of any file.
 _autbis_system() {
     local name
     compopt -o filenames -o nosort 2>/dev/null || return
     while IFS= read -r name; do
-        [[ -d $name ]] || COMPREPLY+=("$name")
+        [[ -d $name || ! $2 && $name == -* ]] || COMPREPLY+=("$name")
     done < <(compgen -f -X '!*.aut' -- "$1" | LC_ALL=C sort)
     while IFS= read -r name; do
-        COMPREPLY+=("$name")
+        [[ ! $2 && $name == -* ]] || COMPREPLY+=("$name")
     done < <(compgen -d -- "$1" | LC_ALL=C sort)
 }
 
 _autbis() {
-    local word=${COMP_WORDS[COMP_CWORD]} before=${COMP_WORDS[COMP_CWORD - 1]} command='' ended='' place words=''
+    local word=${COMP_WORDS[COMP_CWORD]} before=${COMP_WORDS[COMP_CWORD - 1]} command='' ended='' systems=0 place words=''
     # bash takes --relation=strong for three words.
     if [[ $word == = ]]; then
         word=''
@@ -21,9 +22,16 @@ _autbis() {
         before=${COMP_WORDS[COMP_CWORD - 2]}
     fi
     for ((place = 1; place < COMP_CWORD; place++)); do
-        case ${COMP_WORDS[place]} in
-            --) ended=yes ;;
-            min | cmp | help) command=${command:-${COMP_WORDS[place]}} ;;
+        case $ended:$command:${COMP_WORDS[place]} in
+            ::-*) ;;
+            ::*) command=${COMP_WORDS[place]} ;;
+            :*:--) ended=yes ;;
+            :*:--relation | :*:--hide)
+                [[ ${COMP_WORDS[place + 1]} != = ]] || ((place++))
+                ((place++))
+                ;;
+            :*:-*) ;;
+            *) ((systems++)) ;;
         esac
     done
     case $command:$before in
@@ -36,8 +44,12 @@ _autbis() {
     esac
     COMPREPLY=()
     if [[ $ended || $word != -* && $command == @(min|cmp) && $before != @(--relation|--hide) ]]; then
-        [[ ! $command ]] || _autbis_system "$word"
+        case $command:$systems in
+            min:0 | cmp:[01]) _autbis_system "$word" "$ended" ;;
+            *) compopt +o default 2>/dev/null ;;
+        esac
     else
+        [[ $word != -* ]] || compopt +o default 2>/dev/null
         while IFS= read -r word; do
             COMPREPLY+=("$word")
         done < <(compgen -W "$words" -- "$word")
