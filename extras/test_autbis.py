@@ -7,8 +7,12 @@ import os
 import pathlib
 import pickle
 import shutil
+import socket
 import stat
+import subprocess
+import sys
 import tempfile
+import threading
 import time
 import unittest
 from concurrent.futures import ProcessPoolExecutor
@@ -19,6 +23,8 @@ PROGRAM = os.environ.get("AUTBIS", "autbis")
 EXAMPLES = os.path.join(os.path.dirname(os.path.abspath(__file__)), "..", "examples")
 EARLY = "des (0, 4, 5)\n(0, a, 1)\n(0, a, 2)\n(1, b, 3)\n(2, c, 4)\n"
 LATE = "des (0, 3, 4)\n(0, a, 1)\n(1, b, 2)\n(1, c, 3)\n"
+SILENT = "des (0, 2, 3)\n(0, tau, 1)\n(1, a, 2)\n"
+ONE_STEP = "des (0, 1, 2)\n(0, a, 1)\n"
 
 
 def example(name):
@@ -28,6 +34,11 @@ def example(name):
 
 def path(name):
     return pathlib.Path(EXAMPLES, name)
+
+
+def with_module():
+    """The environment of another Python that finds the module."""
+    return {**os.environ, "PYTHONPATH": str(pathlib.Path(autbis.__file__).resolve().parents[1])}
 
 
 def raise_fault(text):
@@ -120,8 +131,9 @@ class Inputs(unittest.TestCase):
             self.assertTrue(equivalent(given, LATE))
 
     def test_the_name_of_a_file_as_a_str(self):
-        with self.assertRaisesRegex(ValueError, "pass pathlib.Path"):
-            minimise(str(path("coffee-machine.aut")))
+        for name in (str(path("coffee-machine.aut")), "no-such.aut"):
+            with self.assertRaisesRegex(ValueError, "pass pathlib.Path"):
+                minimise(name)
 
     def test_what_is_no_system(self):
         for given in (None, 3, ["des (0, 0, 1)\n"], object()):
@@ -143,9 +155,153 @@ class Inputs(unittest.TestCase):
         with self.assertRaises(ValueError):
             minimise(LATE, hide=[b"a\nb"])
 
+    def test_a_path_whose_name_is_no_word(self):
+        for name in (b"a\nb.aut", b"gr\xfcn.aut"):
+            named = pathlib.Path(os.fsdecode(os.fsencode(self.folder) + b"/" + name))
+            named.write_text(LATE, encoding="ascii")
+            self.assertTrue(equivalent(named, LATE))
+
     def test_a_program_by_its_path(self):
         program = pathlib.Path(shutil.which(PROGRAM))
         self.assertTrue(autbis.equivalent(LATE, LATE, program=program))
+
+
+class OtherThanFiles(unittest.TestCase):
+    """Paths that name no regular file, or another one for each process: as a hide list and as a system."""
+
+    def setUp(self):
+        folder = tempfile.TemporaryDirectory()
+        self.addCleanup(folder.cleanup)
+        self.folder = pathlib.Path(folder.name)
+
+    def written(self, text):
+        """A regular file that has this text."""
+        file = self.folder / f"file-{len(list(self.folder.iterdir()))}"
+        file.write_text(text, encoding="ascii")
+        return file
+
+    def descriptor(self, text):
+        """The end of a pipe through which this text comes."""
+        reader, writer = os.pipe()
+        self.addCleanup(os.close, reader)
+        with open(writer, "w", encoding="ascii") as file:
+            file.write(text)
+        return reader
+
+    def assert_answers(self, path_of):
+        """Each path that comes from `path_of` is read as what was given to that."""
+        self.assertTrue(equivalent(SILENT, ONE_STEP, "branching", hide=path_of("tau\n")))
+        self.assertFalse(equivalent(SILENT, ONE_STEP, "branching", hide=path_of("a\n")))
+        self.assertEqual(minimise(path_of(ONE_STEP)), ONE_STEP)
+        self.assertTrue(equivalent(path_of(SILENT), path_of(ONE_STEP), "branching", hide=path_of("tau\n")))
+        with self.assertRaisesRegex(autbis.TextFault, "line 2: not a label"):
+            minimise(ONE_STEP, hide=path_of("a\n\n"))
+
+    def test_a_named_pipe(self):
+        def path_of(text):
+            pipe = self.folder / f"pipe-{len(list(self.folder.iterdir()))}"
+            os.mkfifo(pipe)
+            writer = threading.Thread(target=pipe.write_text, args=(text,))
+            writer.start()
+            self.addCleanup(writer.join)
+            return pipe
+
+        self.assert_answers(path_of)
+
+    def test_a_descriptor_as_of_a_process_substitution(self):
+        self.assert_answers(lambda text: pathlib.Path(f"/dev/fd/{self.descriptor(text)}"))
+        self.assert_answers(lambda text: pathlib.Path(f"/proc/self/fd/{self.descriptor(text)}"))
+
+    def test_a_descriptor_of_a_regular_file(self):
+        def path_of(text):
+            descriptor = os.open(self.written(text), os.O_RDONLY)
+            self.addCleanup(os.close, descriptor)
+            return pathlib.Path(f"/dev/fd/{descriptor}")
+
+        def path_of_a_removed_file(text):
+            path = path_of(text)
+            for file in self.folder.iterdir():
+                file.unlink()
+            return path
+
+        self.assert_answers(path_of)
+        self.assert_answers(path_of_a_removed_file)
+
+    def test_a_link_to_a_descriptor(self):
+        def path_of(text):
+            link = self.folder / f"link-{len(list(self.folder.iterdir()))}"
+            link.symlink_to(f"/dev/fd/{self.descriptor(text)}")
+            return link
+
+        self.assert_answers(path_of)
+
+    def test_standard_input_by_its_path(self):
+        calls = {
+            "hide=Path('/dev/stdin')": ("tau\n", f"equivalent({SILENT!r}, {ONE_STEP!r}, 'branching', Path('/dev/stdin'), PROGRAM)", "True"),
+            "Path('/dev/stdin') as a system": (ONE_STEP, f"equivalent({ONE_STEP!r}, Path('/dev/stdin'), program=PROGRAM)", "True"),
+        }
+        for name, (given, call, wanted) in calls.items():
+            script = f"from pathlib import Path; from autbis import equivalent; PROGRAM = {PROGRAM!r}; print({call})"
+            for of_a_pipe in (True, False):
+                with self.subTest(name, of_a_pipe=of_a_pipe), open(self.written(given), encoding="ascii") as file:
+                    stdin = {"input": given} if of_a_pipe else {"stdin": file}
+                    words = [sys.executable, "-c", script]
+                    ran = subprocess.run(words, stdout=subprocess.PIPE, universal_newlines=True, env=with_module(), **stdin)
+                    self.assertEqual(ran.stdout, f"{wanted}\n")
+
+    def test_a_folder_and_a_socket(self):
+        end = socket.socket(socket.AF_UNIX)
+        self.addCleanup(end.close)
+        end.bind(str(self.folder / "socket"))
+        for given in (self.folder, self.folder / "socket"):
+            for call in (lambda: minimise(given), lambda: minimise(LATE, hide=given)):
+                with self.assertRaises(autbis.DeviceFault):
+                    call()
+
+
+class UsedBefore(unittest.TestCase):
+    """A hide list of which nothing is left."""
+
+    def assert_is_refused_again(self, hide, why):
+        self.assertTrue(equivalent(SILENT, ONE_STEP, "branching", hide=hide))
+        for _ in range(2):
+            with self.assertRaisesRegex(ValueError, why):
+                equivalent(SILENT, ONE_STEP, "branching", hide=hide)
+
+    def test_an_open_file(self):
+        with tempfile.NamedTemporaryFile("w+", encoding="ascii") as file:
+            file.write("tau\n")
+            for mode in ("r", "rb"):
+                file.seek(0)
+                with open(file.name, mode) as hide:
+                    self.assert_is_refused_again(hide, f"nothing is left of the hide list {file.name}")
+        self.assert_is_refused_again(io.StringIO("tau\n"), "nothing is left of the hide list hide")
+
+    def test_a_pipe_that_is_open_or_named(self):
+        for by_its_path in (False, True):
+            reader, writer = os.pipe()
+            with open(writer, "w", encoding="ascii") as file:
+                file.write("tau\n")
+            with open(reader, encoding="ascii") as hide:
+                hide = pathlib.Path(f"/dev/fd/{reader}") if by_its_path else hide
+                self.assert_is_refused_again(hide, "nothing is left of the hide list")
+
+    def test_an_iterator(self):
+        for hide in ((label for label in ["tau"]), iter(["tau"]), map(str, ["tau"])):
+            self.assert_is_refused_again(hide, "nothing comes from the iterator of labels")
+
+    def test_the_system_in_the_same_open_file(self):
+        with self.assertRaisesRegex(ValueError, "nothing is left of the hide list"):
+            file = io.StringIO(LATE)
+            minimise(file, hide=file)
+
+    def test_what_may_be_empty(self):
+        for hide in ([], (), set(), {}, io.StringIO(), io.BytesIO(), pathlib.Path(os.devnull)):
+            for _ in range(2):
+                self.assertFalse(equivalent(SILENT, ONE_STEP, "branching", hide=hide))
+        with tempfile.NamedTemporaryFile() as empty:
+            self.assertFalse(equivalent(SILENT, ONE_STEP, "branching", hide=pathlib.Path(empty.name)))
+            self.assertFalse(equivalent(SILENT, ONE_STEP, "branching", hide=empty))
 
 
 class CountsOfARun(unittest.TestCase):
@@ -238,6 +394,16 @@ class Faults(unittest.TestCase):
         fault = caught.exception
         self.assertEqual((fault.where, os.path.basename(fault.name)), ("hide", "coffee-machine.aut"))
         self.assertEqual((fault.line, fault.fault), (1, "not a label"))
+
+    def test_of_one_path_for_two_files_the_faulty_one_is_named(self):
+        late = path("mutual-exclusion.aut")
+        with self.assertRaises(autbis.TextFault) as caught:
+            equivalent(LATE, late, hide=late)
+        self.assertEqual((caught.exception.where, caught.exception.line), ("hide", 1))
+        hide = path("alternating-bit.hide")
+        with self.assertRaises(autbis.TextFault) as caught:
+            equivalent(LATE, hide, hide=hide)
+        self.assertEqual((caught.exception.where, caught.exception.fault), ("second", "bad header"))
 
     def test_a_text_is_named_by_its_place(self):
         with self.assertRaises(autbis.TextFault) as caught:
