@@ -12,6 +12,8 @@ import unittest
 PROGRAM = os.environ.get("AUTBIS", "autbis")
 HERE = pathlib.Path(__file__).resolve().parent
 USE = """
+import gzip
+import io
 import pathlib
 from typing import Optional
 
@@ -20,6 +22,12 @@ import autbis
 smallest: str = autbis.minimise(pathlib.Path("a.aut"), hide=["tau", b"put"], program=pathlib.Path("autbis"), timeout=2.5)
 with open("a.aut", encoding="ascii") as text, open("b.aut", "rb") as binary:
     same: bool = autbis.equivalent(text, binary, "branching", hide=pathlib.Path("a.hide"))
+with gzip.open("a.aut.gz") as packed:
+    autbis.minimise(packed, hide={"tau": 1}.keys())
+autbis.minimise(io.BytesIO(), hide=io.StringIO())
+autbis.minimise("", hide="tau")  # type: ignore[arg-type]
+autbis.minimise("", hide=b"tau")  # type: ignore[arg-type]
+autbis.minimise(["tau"])  # type: ignore[arg-type]
 text_again, counts = autbis.minimise_with_counts(b"des (0, 0, 1)", hide=(label for label in "ab"))
 rounds: int = counts.rounds
 try:
@@ -62,6 +70,28 @@ class Package(unittest.TestCase):
         (self.folder / "autbis").symlink_to(shutil.which(PROGRAM))
         answer = self.run_in_folder(sys.executable, "-c", shown, PATH=str(self.folder), PYTHONPATH="fresh")
         self.assertEqual(answer.stdout, "des (0, 1, 2)\n(0, coin, 1)\n")
+
+    @unittest.skipUnless(importlib.util.find_spec("pip"), "there is no pip to install with")
+    def test_pip_installs_the_sources_in_place(self):
+        shutil.copytree(HERE, self.folder / "extras")
+        words = ("-m", "pip", "--disable-pip-version-check", "install", "--no-index", "--target", "fresh", "-e", "./extras")
+        installed = self.run_in_folder(sys.executable, *words)
+        self.assertEqual(installed.returncode, 0, installed.stdout)
+        where = "import site; site.addsitedir('fresh'); import autbis; print(autbis.__file__)"
+        found = self.run_in_folder(sys.executable, "-c", where)
+        self.assertEqual(found.stdout, f"{self.folder.resolve()}/extras/autbis/__init__.py\n")
+
+    def test_two_wheels_have_the_same_bytes(self):
+        shutil.copytree(HERE, self.folder / "extras")
+        wheels = []
+        for mode, now in (0o600, 10**9), (0o644, 2 * 10**9):
+            for file in (self.folder / "extras" / "autbis").iterdir():
+                os.utime(file, (now, now))
+                file.chmod(mode)
+            build = f"import time; time.time = lambda: {now}; import wheel_of_autbis; print(wheel_of_autbis.build_wheel('.'))"
+            built = self.run_in_folder(sys.executable, "-c", build, PYTHONPATH="extras")
+            wheels.append((self.folder / built.stdout.strip()).read_bytes())
+        self.assertEqual(*wheels)
 
     @unittest.skipUnless(importlib.util.find_spec("mypy"), "there is no mypy to check types with")
     def test_annotations_are_accepted_in_strict_mode(self):

@@ -3,17 +3,18 @@
 import base64
 import hashlib
 import pathlib
+import re
 import tarfile
 import zipfile
 
-from autbis import __version__
-
 HERE = pathlib.Path(__file__).resolve().parent
-NAME = f"autbis-{__version__}"
+# The module cannot be imported by a Python that is too old for it, to which pip says so.
+VERSION = re.search('^__version__ = "(.*)"', (HERE / "autbis" / "__init__.py").read_text(encoding="utf-8"), re.M).group(1)
+NAME = f"autbis-{VERSION}"
 FILES = ("autbis/__init__.py", "autbis/py.typed")
 METADATA = f"""Metadata-Version: 2.1
 Name: autbis
-Version: {__version__}
+Version: {VERSION}
 Summary: Minimises and compares labelled transition systems by the installed program autbis
 Requires-Python: >=3.7
 """
@@ -25,16 +26,27 @@ Tag: py3-none-any
 
 
 def build_wheel(wheel_directory, config_settings=None, metadata_directory=None):
-    """Writes the wheel into the directory, and returns its name."""
-    contents = {name: (HERE / name).read_bytes() for name in FILES}
+    """Writes the wheel into the directory, and returns its name. The same sources give the same bytes."""
+    return _write(wheel_directory, {name: (HERE / name).read_bytes() for name in FILES})
+
+
+def build_editable(wheel_directory, config_settings=None, metadata_directory=None):
+    """As build_wheel, for `pip install -e`: the wheel has the path of this folder in place of the module."""
+    return _write(wheel_directory, {"autbis.pth": f"{HERE}\n".encode("utf-8")})
+
+
+def _write(wheel_directory, contents):
     contents[f"{NAME}.dist-info/METADATA"] = METADATA.encode("ascii")
     contents[f"{NAME}.dist-info/WHEEL"] = WHEEL.encode("ascii")
     record = f"{NAME}.dist-info/RECORD"
     contents[record] = ("".join(map(_record_line, contents.items())) + f"{record},,\n").encode("ascii")
     wheel = f"{NAME}-py3-none-any.whl"
-    with zipfile.ZipFile(pathlib.Path(wheel_directory, wheel), "w", zipfile.ZIP_DEFLATED) as archive:
+    with zipfile.ZipFile(pathlib.Path(wheel_directory, wheel), "w") as archive:
         for name, content in contents.items():
-            archive.writestr(name, content)
+            # It has no time, and what it says of the system that made it is fixed.
+            file = zipfile.ZipInfo(name)
+            file.create_system, file.external_attr = 3, 0o100644 << 16
+            archive.writestr(file, content)
     return wheel
 
 
