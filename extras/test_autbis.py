@@ -3,6 +3,7 @@
 import copy
 import doctest
 import io
+import itertools
 import os
 import pathlib
 import pickle
@@ -54,6 +55,33 @@ def equivalent(*args, **options):
     return autbis.equivalent(*args, program=PROGRAM, **options)
 
 
+class InFolder(unittest.TestCase):
+    """Has a folder of its own."""
+
+    def setUp(self):
+        folder = tempfile.TemporaryDirectory()
+        self.addCleanup(folder.cleanup)
+        self.folder = pathlib.Path(folder.name)
+        self.numbers = itertools.count()
+
+    def new(self):
+        """A path in the folder at which there is nothing yet."""
+        return self.folder / str(next(self.numbers))
+
+    def written(self, text):
+        """A regular file that has this text."""
+        file = self.new()
+        file.write_text(text, encoding="ascii")
+        return file
+
+    def piped(self, text):
+        """The descriptor of a pipe through which this text comes."""
+        reader, writer = os.pipe()
+        with open(writer, "w", encoding="ascii") as file:
+            file.write(text)
+        return reader
+
+
 class Answers(unittest.TestCase):
     def test_version(self):
         with open(os.path.join(EXAMPLES, "..", "manual", "version.txt"), encoding="ascii") as file:
@@ -96,15 +124,8 @@ class Answers(unittest.TestCase):
         self.assertFalse(equivalent(example("coffee-machine.aut"), example("coffee-chosen-by-coin.aut")))
 
 
-class Inputs(unittest.TestCase):
+class Inputs(InFolder):
     """What a system, a hide list and a program may be."""
-
-    def setUp(self):
-        self.folder = pathlib.Path(self.enterContext(tempfile.TemporaryDirectory()))
-
-    def enterContext(self, context):
-        self.addCleanup(context.__exit__, None, None, None)
-        return context.__enter__()
 
     def test_a_path(self):
         wanted = example("mutual-exclusion.branching.aut")
@@ -149,7 +170,7 @@ class Inputs(unittest.TestCase):
         self.assertEqual(minimise(LATE, "branching", hide=[b"a", "b", bytearray(b"c")]), "des (0, 0, 1)\n")
 
     def test_what_is_no_hide_list(self):
-        for given in ("a", b"a", None, 3, [None], [3]):
+        for given in ("abc", b"a", None, 3, [None], [3]):
             with self.assertRaises(TypeError):
                 minimise(LATE, hide=given)
         with self.assertRaises(ValueError):
@@ -166,27 +187,8 @@ class Inputs(unittest.TestCase):
         self.assertTrue(autbis.equivalent(LATE, LATE, program=program))
 
 
-class OtherThanFiles(unittest.TestCase):
+class OtherThanFiles(InFolder):
     """Paths that name no regular file, or another one for each process: as a hide list and as a system."""
-
-    def setUp(self):
-        folder = tempfile.TemporaryDirectory()
-        self.addCleanup(folder.cleanup)
-        self.folder = pathlib.Path(folder.name)
-
-    def written(self, text):
-        """A regular file that has this text."""
-        file = self.folder / f"file-{len(list(self.folder.iterdir()))}"
-        file.write_text(text, encoding="ascii")
-        return file
-
-    def descriptor(self, text):
-        """The end of a pipe through which this text comes."""
-        reader, writer = os.pipe()
-        self.addCleanup(os.close, reader)
-        with open(writer, "w", encoding="ascii") as file:
-            file.write(text)
-        return reader
 
     def assert_answers(self, path_of):
         """Each path that comes from `path_of` is read as what was given to that."""
@@ -199,7 +201,7 @@ class OtherThanFiles(unittest.TestCase):
 
     def test_a_named_pipe(self):
         def path_of(text):
-            pipe = self.folder / f"pipe-{len(list(self.folder.iterdir()))}"
+            pipe = self.new()
             os.mkfifo(pipe)
             writer = threading.Thread(target=pipe.write_text, args=(text,))
             writer.start()
@@ -208,46 +210,41 @@ class OtherThanFiles(unittest.TestCase):
 
         self.assert_answers(path_of)
 
+    def path_of_descriptor(self, descriptor, folder="/dev/fd"):
+        self.addCleanup(os.close, descriptor)
+        return pathlib.Path(folder, str(descriptor))
+
     def test_a_descriptor_as_of_a_process_substitution(self):
-        self.assert_answers(lambda text: pathlib.Path(f"/dev/fd/{self.descriptor(text)}"))
-        self.assert_answers(lambda text: pathlib.Path(f"/proc/self/fd/{self.descriptor(text)}"))
+        for folder in ("/dev/fd", "/proc/self/fd"):
+            self.assert_answers(lambda text: self.path_of_descriptor(self.piped(text), folder))
 
-    def test_a_descriptor_of_a_regular_file(self):
-        def path_of(text):
-            descriptor = os.open(self.written(text), os.O_RDONLY)
-            self.addCleanup(os.close, descriptor)
-            return pathlib.Path(f"/dev/fd/{descriptor}")
+    def test_a_descriptor_of_a_regular_file_and_of_one_that_was_removed(self):
+        for then in (lambda file: None, pathlib.Path.unlink):
 
-        def path_of_a_removed_file(text):
-            path = path_of(text)
-            for file in self.folder.iterdir():
-                file.unlink()
-            return path
+            def path_of(text):
+                file = self.written(text)
+                path = self.path_of_descriptor(os.open(file, os.O_RDONLY))
+                then(file)
+                return path
 
-        self.assert_answers(path_of)
-        self.assert_answers(path_of_a_removed_file)
+            self.assert_answers(path_of)
 
     def test_a_link_to_a_descriptor(self):
         def path_of(text):
-            link = self.folder / f"link-{len(list(self.folder.iterdir()))}"
-            link.symlink_to(f"/dev/fd/{self.descriptor(text)}")
+            link = self.new()
+            link.symlink_to(self.path_of_descriptor(self.piped(text)))
             return link
 
         self.assert_answers(path_of)
 
     def test_standard_input_by_its_path(self):
-        calls = {
-            "hide=Path('/dev/stdin')": ("tau\n", f"equivalent({SILENT!r}, {ONE_STEP!r}, 'branching', Path('/dev/stdin'), PROGRAM)", "True"),
-            "Path('/dev/stdin') as a system": (ONE_STEP, f"equivalent({ONE_STEP!r}, Path('/dev/stdin'), program=PROGRAM)", "True"),
-        }
-        for name, (given, call, wanted) in calls.items():
-            script = f"from pathlib import Path; from autbis import equivalent; PROGRAM = {PROGRAM!r}; print({call})"
-            for of_a_pipe in (True, False):
-                with self.subTest(name, of_a_pipe=of_a_pipe), open(self.written(given), encoding="ascii") as file:
-                    stdin = {"input": given} if of_a_pipe else {"stdin": file}
-                    words = [sys.executable, "-c", script]
+        for given, systems, hide in ("tau\n", (SILENT, ONE_STEP), "hide=STDIN"), (ONE_STEP, (ONE_STEP,), "b=STDIN"):
+            script = f"import autbis, pathlib; STDIN = pathlib.Path('/dev/stdin'); call = {{'relation': 'branching', 'program': {PROGRAM!r}}}"
+            words = [sys.executable, "-c", f"{script}; print(autbis.equivalent(*{systems!r}, {hide}, **call))"]
+            with open(self.written(given), encoding="ascii") as file:
+                for stdin in {"input": given}, {"stdin": file}:
                     ran = subprocess.run(words, stdout=subprocess.PIPE, universal_newlines=True, env=with_module(), **stdin)
-                    self.assertEqual(ran.stdout, f"{wanted}\n")
+                    self.assertEqual(ran.stdout, "True\n", (hide, stdin))
 
     def test_a_folder_and_a_socket(self):
         end = socket.socket(socket.AF_UNIX)
@@ -259,7 +256,7 @@ class OtherThanFiles(unittest.TestCase):
                     call()
 
 
-class UsedBefore(unittest.TestCase):
+class UsedBefore(InFolder):
     """A hide list of which nothing is left."""
 
     def assert_is_refused_again(self, hide, why):
@@ -269,22 +266,15 @@ class UsedBefore(unittest.TestCase):
                 equivalent(SILENT, ONE_STEP, "branching", hide=hide)
 
     def test_an_open_file(self):
-        with tempfile.NamedTemporaryFile("w+", encoding="ascii") as file:
-            file.write("tau\n")
-            for mode in ("r", "rb"):
-                file.seek(0)
-                with open(file.name, mode) as hide:
-                    self.assert_is_refused_again(hide, f"nothing is left of the hide list {file.name}")
+        for mode in ("r", "rb"):
+            with open(self.written("tau\n"), mode) as hide:
+                self.assert_is_refused_again(hide, f"nothing is left of the hide list {hide.name}")
         self.assert_is_refused_again(io.StringIO("tau\n"), "nothing is left of the hide list hide")
 
     def test_a_pipe_that_is_open_or_named(self):
-        for by_its_path in (False, True):
-            reader, writer = os.pipe()
-            with open(writer, "w", encoding="ascii") as file:
-                file.write("tau\n")
-            with open(reader, encoding="ascii") as hide:
-                hide = pathlib.Path(f"/dev/fd/{reader}") if by_its_path else hide
-                self.assert_is_refused_again(hide, "nothing is left of the hide list")
+        for as_hide in (lambda pipe: pipe, lambda pipe: pathlib.Path(f"/dev/fd/{pipe.fileno()}")):
+            with open(self.piped("tau\n"), encoding="ascii") as pipe:
+                self.assert_is_refused_again(as_hide(pipe), "nothing is left of the hide list")
 
     def test_an_iterator(self):
         for hide in ((label for label in ["tau"]), iter(["tau"]), map(str, ["tau"])):
@@ -296,12 +286,11 @@ class UsedBefore(unittest.TestCase):
             minimise(file, hide=file)
 
     def test_what_may_be_empty(self):
-        for hide in ([], (), set(), {}, io.StringIO(), io.BytesIO(), pathlib.Path(os.devnull)):
-            for _ in range(2):
-                self.assertFalse(equivalent(SILENT, ONE_STEP, "branching", hide=hide))
-        with tempfile.NamedTemporaryFile() as empty:
-            self.assertFalse(equivalent(SILENT, ONE_STEP, "branching", hide=pathlib.Path(empty.name)))
-            self.assertFalse(equivalent(SILENT, ONE_STEP, "branching", hide=empty))
+        empty = self.written("")
+        with open(empty, encoding="ascii") as file:
+            for hide in ([], (), set(), {}, io.StringIO(), io.BytesIO(), file, empty, pathlib.Path(os.devnull)):
+                for _ in range(2):
+                    self.assertFalse(equivalent(SILENT, ONE_STEP, "branching", hide=hide))
 
 
 class CountsOfARun(unittest.TestCase):
@@ -340,7 +329,7 @@ class Faults(unittest.TestCase):
         with self.assertRaises(autbis.TextFault) as caught:
             minimise("des (0, 1, 2)\n(0, a, 2)\n")
         fault = caught.exception
-        self.assertEqual((fault.status, fault.where, fault.line), (2, "text", 2))
+        self.assertEqual((fault.status, fault.where, fault.name, fault.line), (2, "text", "text", 2))
         self.assertEqual(fault.fault, "target out of range")
         self.assertEqual(str(fault), "autbis: text: line 2: target out of range")
 
@@ -361,12 +350,6 @@ class Faults(unittest.TestCase):
             minimise(LATE, hide=["a", "b\t"])
         self.assertEqual((caught.exception.where, caught.exception.line), ("hide", 2))
         self.assertEqual(caught.exception.fault, "not a label")
-
-    def test_a_hide_list_that_is_none(self):
-        with self.assertRaises(TypeError):
-            minimise(LATE, hide="abc")
-        with self.assertRaises(ValueError):
-            minimise(LATE, hide=['a"\n"b'])
 
     def test_a_letter_outside_ascii(self):
         with self.assertRaises(autbis.TextFault) as caught:
@@ -405,11 +388,6 @@ class Faults(unittest.TestCase):
             equivalent(LATE, hide, hide=hide)
         self.assertEqual((caught.exception.where, caught.exception.fault), ("second", "bad header"))
 
-    def test_a_text_is_named_by_its_place(self):
-        with self.assertRaises(autbis.TextFault) as caught:
-            minimise("des (0, 1, 2)\n(0, a, 2)\n")
-        self.assertEqual((caught.exception.name, caught.exception.line), ("text", 2))
-
     def test_a_file_that_is_not_there(self):
         with self.assertRaises(autbis.DeviceFault) as caught:
             minimise(pathlib.Path("no-such.aut"))
@@ -420,13 +398,12 @@ class Faults(unittest.TestCase):
             autbis.minimise(LATE, program="no-such-autbis")
 
 
-class OtherPrograms(unittest.TestCase):
+class OtherPrograms(InFolder):
     """A program that does not do what autbis does."""
 
     def setUp(self):
-        folder = tempfile.TemporaryDirectory()
-        self.addCleanup(folder.cleanup)
-        self.fake = pathlib.Path(folder.name, "fake")
+        super().setUp()
+        self.fake = self.folder / "fake"
 
     def does(self, script):
         self.fake.write_text(f"#!/bin/sh\n{script}\n", encoding="ascii")
