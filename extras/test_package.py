@@ -1,15 +1,11 @@
-"""Tests of what comes round the module `autbis`: its installation by pip, its annotations, and what the scripts that try
-all this leave behind. AUTBIS names the program."""
+"""Tests of what comes round the module `autbis`: its installation by pip, and its annotations. AUTBIS names the program."""
 
 import importlib.util
 import os
 import pathlib
 import shutil
-import signal
 import subprocess
 import sys
-import tempfile
-import time
 import unittest
 
 from test_autbis import PROGRAM, InFolder
@@ -99,25 +95,6 @@ class Package(InFolder):
         words = ("-m", "mypy", "--strict", "--cache-dir", self.folder / "cache", "use.py", HERE / "autbis")
         checked = self.run_in_folder(sys.executable, *words, MYPYPATH=str(HERE))
         self.assertEqual(checked.returncode, 0, checked.stdout)
-
-
-class Trials(unittest.TestCase):
-    def test_ctrl_c_leaves_nothing_behind(self):
-        for trial in ("extras", "examples", "tests/pages"):
-            with self.subTest(trial), tempfile.TemporaryDirectory() as folder:
-                begun = subprocess.Popen(
-                    [str(HERE.parent / trial / "try"), shutil.which(PROGRAM)],
-                    env={**os.environ, "TMPDIR": folder},
-                    stdout=subprocess.DEVNULL,
-                    stderr=subprocess.DEVNULL,
-                    start_new_session=True,
-                    preexec_fn=lambda: signal.signal(signal.SIGINT, signal.SIG_DFL),
-                )
-                while not os.listdir(folder) and begun.poll() is None:
-                    time.sleep(0.1)
-                time.sleep(0.1)
-                os.killpg(begun.pid, signal.SIGINT)
-                self.assertEqual((begun.wait(30), os.listdir(folder)), (130, []))
 
 
 if __name__ == "__main__":
