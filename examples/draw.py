@@ -9,8 +9,10 @@ system is equivalent to. Needs graphviz, which places the states. Where they go 
 import cmath
 import itertools
 import math
+import os
 import re
 import shlex
+import shutil
 import subprocess
 import sys
 import tempfile
@@ -236,12 +238,14 @@ def put_labels(ways, labels, circles, look):
         elsewhere = filter(is_near, set(itertools.chain(*ways)) - set(way))
         others = [*map(Box, elsewhere), *circles, *(box for box, _ in put)]
         rivals = [Box(place) for other, _ in visible if other is not way for place in filter(is_near, other)]
+        strangers = [it for it in circles if min(it.gap(own[0]), it.gap(own[-1])) > CLEAR]
 
         def badness(place):
             box, bad = place
             near, far, next_way = (min(map(box.gap, boxes), default=look.font) for boxes in (own, others, rivals))
-            bad += 1000 * (min(near, far) < CLEAR) + 2 * max(0, look.font - far)
-            return bad + 20 * max(0, near + CLEAR - next_way)
+            bad += 1000 * (min(near, far) < CLEAR) + 2 * max(0, look.font - far) + 20 * max(0, near + CLEAR - next_way)
+            # In rows, a label stands between states that it does not belong to.
+            return bad if not look.box else bad + max(0, 2 * look.font - min(map(box.gap, strangers)))
 
         put.append((min(beside(way, label, look), key=badness)[0], label))
     return put
@@ -309,7 +313,7 @@ def picture(program, kind):
     shared = [t for t in range(quotient.states) if found.count(t) > 1]
     fills = {t: COLOURS[k] for k, t in enumerate(shared)}
     titles = (
-        f"{kind.name}: {system.states} states",
+        f"{kind.name}{' with its hide list' if kind.hide else ''}: {system.states} states",
         f"its quotient by {kind.relation} bisimilarity: {quotient.states} states",
     )
     before = panel(system, kind.before, [fills.get(t, "white") for t in found])
@@ -364,6 +368,13 @@ def in_lines(items, width):
 
 
 if __name__ == "__main__":
+    program = shutil.which(sys.argv[1]) if len(sys.argv) == 2 else None
+    if program is None or shutil.which("dot") is None:
+        print(__doc__, file=sys.stderr)
+        sys.exit(3)
+    program = os.path.abspath(program)
+    os.chdir(os.path.dirname(os.path.abspath(__file__)))
     for kind in PICTURES:
+        drawn = picture(program, kind)
         with open(f"{kind.name}.svg", "w", newline="\n") as out:
-            out.write(picture(sys.argv[1], kind))
+            out.write(drawn)

@@ -1,9 +1,16 @@
 #!/usr/bin/env python3
-"""Writes the example systems of this folder, each as NAME.aut, and hide lists as NAME.hide. Run it where they are to stand.
+"""Writes the example systems of this folder, each as NAME.aut, and hide lists as NAME.hide.
 
 A system is its first state and a function from a state to its steps: pairs of a label and a state. The label i is the
 internal action.
+
+usage: generate.py
 """
+
+import pathlib
+import sys
+
+HERE = pathlib.Path(__file__).resolve().parent
 
 
 def alternating_bit(data=(1, 2, 3), bits=2):
@@ -193,11 +200,14 @@ HIDE_LISTS = {
 
 
 def write(name, text):
-    with open(name, "w", newline="\n") as out:
+    with open(HERE / name, "w", newline="\n") as out:
         out.write(text)
 
 
 if __name__ == "__main__":
+    if len(sys.argv) > 1:
+        print(__doc__, file=sys.stderr)
+        sys.exit(3)
     for name, (first, steps) in SYSTEMS.items():
         transitions, states = explored(first, steps)
         write(f"{name}.aut", text_of(transitions, states))

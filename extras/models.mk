@@ -5,5 +5,6 @@
 	autbis min --relation branching $< > $@
 
 %.kept: %.aut %.wanted
+	rm -f $@
 	autbis cmp --relation branching $^
 	touch $@

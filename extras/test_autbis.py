@@ -3,14 +3,19 @@
 import copy
 import doctest
 import io
+import itertools
 import os
 import pathlib
 import pickle
 import shutil
+import socket
 import stat
+import subprocess
+import sys
 import tempfile
+import threading
 import time
-import unittest
+import unittest.mock
 from concurrent.futures import ProcessPoolExecutor
 
 import autbis
@@ -19,6 +24,8 @@ PROGRAM = os.environ.get("AUTBIS", "autbis")
 EXAMPLES = os.path.join(os.path.dirname(os.path.abspath(__file__)), "..", "examples")
 EARLY = "des (0, 4, 5)\n(0, a, 1)\n(0, a, 2)\n(1, b, 3)\n(2, c, 4)\n"
 LATE = "des (0, 3, 4)\n(0, a, 1)\n(1, b, 2)\n(1, c, 3)\n"
+SILENT = "des (0, 2, 3)\n(0, tau, 1)\n(1, a, 2)\n"
+ONE_STEP = "des (0, 1, 2)\n(0, a, 1)\n"
 
 
 def example(name):
@@ -28,6 +35,11 @@ def example(name):
 
 def path(name):
     return pathlib.Path(EXAMPLES, name)
+
+
+def with_module():
+    """The environment of another Python that finds the module."""
+    return {**os.environ, "PYTHONPATH": str(pathlib.Path(autbis.__file__).resolve().parents[1])}
 
 
 def raise_fault(text):
@@ -43,6 +55,33 @@ def equivalent(*args, **options):
     return autbis.equivalent(*args, program=PROGRAM, **options)
 
 
+class InFolder(unittest.TestCase):
+    """Has a folder of its own."""
+
+    def setUp(self):
+        folder = tempfile.TemporaryDirectory()
+        self.addCleanup(folder.cleanup)
+        self.folder = pathlib.Path(folder.name)
+        self.numbers = itertools.count()
+
+    def new(self):
+        """A path in the folder at which there is nothing yet."""
+        return self.folder / str(next(self.numbers))
+
+    def written(self, text):
+        """A regular file that has this text."""
+        file = self.new()
+        file.write_text(text, encoding="ascii")
+        return file
+
+    def piped(self, text):
+        """The descriptor of a pipe through which this text comes."""
+        reader, writer = os.pipe()
+        with open(writer, "w", encoding="ascii") as file:
+            file.write(text)
+        return reader
+
+
 class Answers(unittest.TestCase):
     def test_version(self):
         with open(os.path.join(EXAMPLES, "..", "manual", "version.txt"), encoding="ascii") as file:
@@ -55,9 +94,6 @@ class Answers(unittest.TestCase):
 
     def test_minimise_is_strong_by_default(self):
         self.assertEqual(minimise(example("mutual-exclusion.aut")), example("mutual-exclusion.strong.aut"))
-
-    def test_minimise_bytes(self):
-        self.assertEqual(minimise(b"des (0, 2, 3)\n(0, coin, 1)\n(0, coin, 2)\n"), "des (0, 1, 2)\n(0, coin, 1)\n")
 
     def test_minimise_a_system_without_transitions(self):
         self.assertEqual(minimise("des (0, 0, 1)\n"), "des (0, 0, 1)\n")
@@ -85,15 +121,8 @@ class Answers(unittest.TestCase):
         self.assertFalse(equivalent(example("coffee-machine.aut"), example("coffee-chosen-by-coin.aut")))
 
 
-class Inputs(unittest.TestCase):
+class Inputs(InFolder):
     """What a system, a hide list and a program may be."""
-
-    def setUp(self):
-        self.folder = pathlib.Path(self.enterContext(tempfile.TemporaryDirectory()))
-
-    def enterContext(self, context):
-        self.addCleanup(context.__exit__, None, None, None)
-        return context.__enter__()
 
     def test_a_path(self):
         wanted = example("mutual-exclusion.branching.aut")
@@ -115,13 +144,14 @@ class Inputs(unittest.TestCase):
         self.assertTrue(equivalent(io.StringIO(LATE), io.BytesIO(LATE.encode("ascii"))))
 
     def test_bytes(self):
-        text = LATE.encode("ascii")
+        text = ONE_STEP.encode("ascii")
         for given in (text, bytearray(text), memoryview(text)):
-            self.assertTrue(equivalent(given, LATE))
+            self.assertEqual(minimise(given), ONE_STEP)
 
     def test_the_name_of_a_file_as_a_str(self):
-        with self.assertRaisesRegex(ValueError, "pass pathlib.Path"):
-            minimise(str(path("coffee-machine.aut")))
+        for name in (str(path("coffee-machine.aut")), "no-such.aut"):
+            with self.assertRaisesRegex(ValueError, "pass pathlib.Path"):
+                minimise(name)
 
     def test_what_is_no_system(self):
         for given in (None, 3, ["des (0, 0, 1)\n"], object()):
@@ -137,15 +167,127 @@ class Inputs(unittest.TestCase):
         self.assertEqual(minimise(LATE, "branching", hide=[b"a", "b", bytearray(b"c")]), "des (0, 0, 1)\n")
 
     def test_what_is_no_hide_list(self):
-        for given in ("a", b"a", None, 3, [None], [3]):
+        for given in ("abc", b"a", None, 3, [None], [3]):
             with self.assertRaises(TypeError):
                 minimise(LATE, hide=given)
         with self.assertRaises(ValueError):
             minimise(LATE, hide=[b"a\nb"])
 
+    def test_a_path_whose_name_is_no_word(self):
+        for name in (b"a\nb.aut", b"gr\xfcn.aut"):
+            named = pathlib.Path(os.fsdecode(os.fsencode(self.folder) + b"/" + name))
+            named.write_text(LATE, encoding="ascii")
+            self.assertTrue(equivalent(named, LATE))
+
     def test_a_program_by_its_path(self):
         program = pathlib.Path(shutil.which(PROGRAM))
         self.assertTrue(autbis.equivalent(LATE, LATE, program=program))
+
+
+class OtherThanFiles(InFolder):
+    """Paths that name no regular file, or another one for each process: as a hide list and as a system."""
+
+    def assert_answers(self, path_of):
+        """Each path that comes from `path_of` is read as what was given to that."""
+        self.assertTrue(equivalent(SILENT, ONE_STEP, "branching", hide=path_of("tau\n")))
+        self.assertFalse(equivalent(SILENT, ONE_STEP, "branching", hide=path_of("a\n")))
+        self.assertEqual(minimise(path_of(ONE_STEP)), ONE_STEP)
+        self.assertTrue(equivalent(path_of(SILENT), path_of(ONE_STEP), "branching", hide=path_of("tau\n")))
+        with self.assertRaisesRegex(autbis.TextFault, "line 2: not a label"):
+            minimise(ONE_STEP, hide=path_of("a\n\n"))
+
+    def test_a_named_pipe(self):
+        def path_of(text):
+            pipe = self.new()
+            os.mkfifo(pipe)
+            writer = threading.Thread(target=pipe.write_text, args=(text,))
+            writer.start()
+            self.addCleanup(writer.join)
+            return pipe
+
+        self.assert_answers(path_of)
+
+    def path_of_descriptor(self, descriptor, folder="/dev/fd"):
+        self.addCleanup(os.close, descriptor)
+        return pathlib.Path(folder, str(descriptor))
+
+    def test_a_descriptor_as_of_a_process_substitution(self):
+        for folder in ("/dev/fd", "/proc/self/fd"):
+            self.assert_answers(lambda text: self.path_of_descriptor(self.piped(text), folder))
+
+    def test_a_descriptor_of_a_regular_file_and_of_one_that_was_removed(self):
+        for then in (lambda file: None, pathlib.Path.unlink):
+
+            def path_of(text):
+                file = self.written(text)
+                path = self.path_of_descriptor(os.open(file, os.O_RDONLY))
+                then(file)
+                return path
+
+            self.assert_answers(path_of)
+
+    def test_a_link_to_a_descriptor(self):
+        def path_of(text):
+            link = self.new()
+            link.symlink_to(self.path_of_descriptor(self.piped(text)))
+            return link
+
+        self.assert_answers(path_of)
+
+    def test_standard_input_by_its_path(self):
+        for given, systems, hide in ("tau\n", (SILENT, ONE_STEP), "hide=STDIN"), (ONE_STEP, (ONE_STEP,), "b=STDIN"):
+            script = f"import autbis, pathlib; STDIN = pathlib.Path('/dev/stdin'); call = {{'relation': 'branching', 'program': {PROGRAM!r}}}"
+            words = [sys.executable, "-c", f"{script}; print(autbis.equivalent(*{systems!r}, {hide}, **call))"]
+            with open(self.written(given), encoding="ascii") as file:
+                for stdin in {"input": given}, {"stdin": file}:
+                    ran = subprocess.run(words, stdout=subprocess.PIPE, universal_newlines=True, env=with_module(), **stdin)
+                    self.assertEqual(ran.stdout, "True\n", (hide, stdin))
+
+    def test_a_folder_and_a_socket(self):
+        end = socket.socket(socket.AF_UNIX)
+        self.addCleanup(end.close)
+        end.bind(str(self.folder / "socket"))
+        for given in (self.folder, self.folder / "socket"):
+            for call in (lambda: minimise(given), lambda: minimise(LATE, hide=given)):
+                with self.assertRaises(autbis.DeviceFault):
+                    call()
+
+
+class UsedBefore(InFolder):
+    """A hide list of which nothing is left."""
+
+    def assert_is_refused_again(self, hide, why):
+        self.assertTrue(equivalent(SILENT, ONE_STEP, "branching", hide=hide))
+        for _ in range(2):
+            with self.assertRaisesRegex(ValueError, why):
+                equivalent(SILENT, ONE_STEP, "branching", hide=hide)
+
+    def test_an_open_file(self):
+        for mode in ("r", "rb"):
+            with open(self.written("tau\n"), mode) as hide:
+                self.assert_is_refused_again(hide, f"nothing is left of the hide list {hide.name}")
+        self.assert_is_refused_again(io.StringIO("tau\n"), "nothing is left of the hide list hide")
+
+    def test_a_pipe_that_is_open_or_named(self):
+        for as_hide in (lambda pipe: pipe, lambda pipe: pathlib.Path(f"/dev/fd/{pipe.fileno()}")):
+            with open(self.piped("tau\n"), encoding="ascii") as pipe:
+                self.assert_is_refused_again(as_hide(pipe), "nothing is left of the hide list")
+
+    def test_an_iterator(self):
+        for hide in ((label for label in ["tau"]), iter(["tau"]), map(str, ["tau"])):
+            self.assert_is_refused_again(hide, "nothing comes from the iterator of labels")
+
+    def test_the_system_in_the_same_open_file(self):
+        with self.assertRaisesRegex(ValueError, "nothing is left of the hide list"):
+            file = io.StringIO(LATE)
+            minimise(file, hide=file)
+
+    def test_what_may_be_empty(self):
+        empty = self.written("")
+        with open(empty, encoding="ascii") as file:
+            for hide in ([], (), set(), {}, io.StringIO(), io.BytesIO(), file, empty, pathlib.Path(os.devnull)):
+                for _ in range(2):
+                    self.assertFalse(equivalent(SILENT, ONE_STEP, "branching", hide=hide))
 
 
 class CountsOfARun(unittest.TestCase):
@@ -165,102 +307,70 @@ class CountsOfARun(unittest.TestCase):
             autbis.minimise_with_counts("x", program=PROGRAM)
 
 
-class Pages(unittest.TestCase):
+class Pages(InFolder):
     def test_what_the_documentation_shows(self):
-        with tempfile.TemporaryDirectory() as folder:
-            os.symlink(shutil.which(PROGRAM), os.path.join(folder, "autbis"))
-            path = os.environ["PATH"]
-            os.environ["PATH"] = os.pathsep.join((folder, path))
-            try:
-                for shown in (doctest.testmod(autbis, verbose=False), doctest.testfile("../docs/scripting.md", verbose=False)):
-                    self.assertEqual(shown.failed, 0)
-                    self.assertGreater(shown.attempted, 0)
-            finally:
-                os.environ["PATH"] = path
+        (self.folder / "autbis").symlink_to(shutil.which(PROGRAM))
+        with unittest.mock.patch.dict(os.environ, PATH=os.pathsep.join((str(self.folder), os.environ["PATH"]))):
+            for shown in (doctest.testmod(autbis, verbose=False), doctest.testfile("../docs/scripting.md", verbose=False)):
+                self.assertEqual(shown.failed, 0)
+                self.assertGreater(shown.attempted, 0)
 
 
 class Faults(unittest.TestCase):
-    def test_a_faulty_line(self):
+    def assert_fault(self, where, name, line, said, *systems, **options):
+        """One system cannot be minimised, or two not compared, for a fault of the text `where`."""
         with self.assertRaises(autbis.TextFault) as caught:
-            minimise("des (0, 1, 2)\n(0, a, 2)\n")
+            (minimise if len(systems) == 1 else equivalent)(*systems, **options)
         fault = caught.exception
-        self.assertEqual((fault.status, fault.where, fault.line), (2, "text", 2))
-        self.assertEqual(fault.fault, "target out of range")
-        self.assertEqual(str(fault), "autbis: text: line 2: target out of range")
+        self.assertEqual((fault.status, fault.where, fault.name, fault.line, fault.fault), (2, where, name, line, said))
+        self.assertEqual(str(fault), f"autbis: {name}: " + (f"line {line}: " if line else "") + said)
+
+    def test_a_faulty_line(self):
+        self.assert_fault("text", "text", 2, "target out of range", "des (0, 1, 2)\n(0, a, 2)\n")
+        self.assert_fault("text", "text", 2, "not a transition", 'des (0, 1, 2)\n(0, "café", 1)\n')
 
     def test_a_fault_that_names_no_line(self):
-        for text, wanted in (("", "bad header"), ("des (0, 1, 1)\n", "only 0 transitions found")):
-            with self.assertRaises(autbis.TextFault) as caught:
-                minimise(text)
-            self.assertEqual((caught.exception.line, caught.exception.fault), (None, wanted))
+        self.assert_fault("text", "text", None, "bad header", "")
+        self.assert_fault("text", "text", None, "only 0 transitions found", "des (0, 1, 1)\n")
 
-    def test_each_system_is_named(self):
-        for systems, wanted in (("x", LATE), "first"), ((LATE, "x"), "second"):
-            with self.assertRaises(autbis.TextFault) as caught:
-                equivalent(*systems)
-            self.assertEqual(caught.exception.where, wanted)
+    def test_the_faulty_text_is_named(self):
+        self.assert_fault("first", "first", None, "bad header", "x", LATE)
+        self.assert_fault("second", "second", None, "bad header", LATE, "x")
+        self.assert_fault("hide", "hide", 2, "not a label", LATE, hide=["a", "b\t"])
 
-    def test_the_hide_list_is_named(self):
-        with self.assertRaises(autbis.TextFault) as caught:
-            minimise(LATE, hide=["a", "b\t"])
-        self.assertEqual((caught.exception.where, caught.exception.line), ("hide", 2))
-        self.assertEqual(caught.exception.fault, "not a label")
+    def test_the_faulty_file_is_named(self):
+        name = os.path.join(EXAMPLES, "verdicts")
+        self.assert_fault("first", name, None, "bad header", pathlib.Path(name), LATE)
+        self.assert_fault("second", name, None, "bad header", LATE, pathlib.Path(name))
+        with open(name, encoding="ascii") as file:
+            self.assert_fault("text", name, None, "bad header", file)
+        hide = path("coffee-machine.aut")
+        self.assert_fault("hide", str(hide), 1, "not a label", LATE, hide=hide)
 
-    def test_a_hide_list_that_is_none(self):
-        with self.assertRaises(TypeError):
-            minimise(LATE, hide="abc")
-        with self.assertRaises(ValueError):
-            minimise(LATE, hide=['a"\n"b'])
-
-    def test_a_letter_outside_ascii(self):
-        with self.assertRaises(autbis.TextFault) as caught:
-            minimise('des (0, 1, 2)\n(0, "café", 1)\n')
-        self.assertEqual(caught.exception.fault, "not a transition")
+    def test_of_one_path_for_two_files_the_faulty_one_is_named(self):
+        system, hide = path("mutual-exclusion.aut"), path("alternating-bit.hide")
+        self.assert_fault("hide", str(system), 1, "not a label", LATE, system, hide=system)
+        self.assert_fault("second", str(hide), None, "bad header", LATE, hide, hide=hide)
 
     def test_an_unknown_relation(self):
-        with self.assertRaises(autbis.UsageFault) as caught:
+        with self.assertRaisesRegex(autbis.UsageFault, "^autbis: unknown relation: weak$"):
             minimise(LATE, "weak")
-        self.assertEqual(str(caught.exception), "autbis: unknown relation: weak")
-
-    def test_the_file_is_named(self):
-        name = os.path.join(EXAMPLES, "verdicts")
-        for systems in ((pathlib.Path(name), LATE), (LATE, pathlib.Path(name))):
-            with self.assertRaises(autbis.TextFault) as caught:
-                equivalent(*systems)
-            fault = caught.exception
-            self.assertEqual((fault.name, fault.line, fault.fault), (name, None, "bad header"))
-            self.assertEqual(str(fault), f"autbis: {name}: bad header")
-        with self.assertRaises(autbis.TextFault) as caught, open(name, encoding="ascii") as file:
-            minimise(file)
-        self.assertEqual(caught.exception.name, name)
-        with self.assertRaises(autbis.TextFault) as caught:
-            minimise(LATE, hide=pathlib.Path(EXAMPLES, "coffee-machine.aut"))
-        fault = caught.exception
-        self.assertEqual((fault.where, os.path.basename(fault.name)), ("hide", "coffee-machine.aut"))
-        self.assertEqual((fault.line, fault.fault), (1, "not a label"))
-
-    def test_a_text_is_named_by_its_place(self):
-        with self.assertRaises(autbis.TextFault) as caught:
-            minimise("des (0, 1, 2)\n(0, a, 2)\n")
-        self.assertEqual((caught.exception.name, caught.exception.line), ("text", 2))
 
     def test_a_file_that_is_not_there(self):
-        with self.assertRaises(autbis.DeviceFault) as caught:
+        with self.assertRaisesRegex(autbis.DeviceFault, "^autbis: no-such.aut: cannot open$"):
             minimise(pathlib.Path("no-such.aut"))
-        self.assertEqual(str(caught.exception), "autbis: no-such.aut: cannot open")
 
     def test_no_program(self):
         with self.assertRaisesRegex(FileNotFoundError, "the program is not installed, or not on PATH: 'no-such-autbis'"):
             autbis.minimise(LATE, program="no-such-autbis")
 
 
-class OtherPrograms(unittest.TestCase):
+class OtherPrograms(InFolder):
     """A program that does not do what autbis does."""
 
     def setUp(self):
-        folder = tempfile.TemporaryDirectory()
-        self.addCleanup(folder.cleanup)
-        self.fake = pathlib.Path(folder.name, "fake")
+        super().setUp()
+        self.fake = self.folder / "fake"
 
     def does(self, script):
         self.fake.write_text(f"#!/bin/sh\n{script}\n", encoding="ascii")

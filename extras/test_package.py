@@ -6,10 +6,10 @@ import pathlib
 import shutil
 import subprocess
 import sys
-import tempfile
 import unittest
 
-PROGRAM = os.environ.get("AUTBIS", "autbis")
+from test_autbis import PROGRAM, InFolder
+
 HERE = pathlib.Path(__file__).resolve().parent
 USE = """
 import gzip
@@ -39,12 +39,7 @@ except autbis.TextFault as fault:
 """
 
 
-class Package(unittest.TestCase):
-    def setUp(self):
-        folder = tempfile.TemporaryDirectory()
-        self.addCleanup(folder.cleanup)
-        self.folder = pathlib.Path(folder.name)
-
+class Package(InFolder):
     def run_in_folder(self, *words, **variables):
         return subprocess.run(
             list(map(str, words)),
@@ -55,12 +50,16 @@ class Package(unittest.TestCase):
             universal_newlines=True,
         )
 
+    def install(self, *words):
+        """Installs a copy of this folder into the folder `fresh`."""
+        shutil.copytree(HERE, self.folder / "extras")
+        pip = ("-m", "pip", "--disable-pip-version-check", "install", "--no-index", "--target", "fresh")
+        installed = self.run_in_folder(sys.executable, *pip, *words)
+        self.assertEqual(installed.returncode, 0, installed.stdout)
+
     @unittest.skipUnless(importlib.util.find_spec("pip"), "there is no pip to install with")
     def test_pip_installs_the_module(self):
-        shutil.copytree(HERE, self.folder / "extras")
-        words = ("-m", "pip", "--disable-pip-version-check", "install", "--no-index", "--target", "fresh", "./extras")
-        installed = self.run_in_folder(sys.executable, *words)
-        self.assertEqual(installed.returncode, 0, installed.stdout)
+        self.install("./extras")
         shutil.rmtree(self.folder / "extras")
         self.assertTrue((self.folder / "fresh" / "autbis" / "py.typed").exists())
         shown = "import autbis; print(autbis.minimise('des (0, 2, 3)\\n(0, coin, 1)\\n(0, coin, 2)\\n'), end='')"
@@ -73,10 +72,7 @@ class Package(unittest.TestCase):
 
     @unittest.skipUnless(importlib.util.find_spec("pip"), "there is no pip to install with")
     def test_pip_installs_the_sources_in_place(self):
-        shutil.copytree(HERE, self.folder / "extras")
-        words = ("-m", "pip", "--disable-pip-version-check", "install", "--no-index", "--target", "fresh", "-e", "./extras")
-        installed = self.run_in_folder(sys.executable, *words)
-        self.assertEqual(installed.returncode, 0, installed.stdout)
+        self.install("-e", "./extras")
         where = "import site; site.addsitedir('fresh'); import autbis; print(autbis.__file__)"
         found = self.run_in_folder(sys.executable, "-c", where)
         self.assertEqual(found.stdout, f"{self.folder.resolve()}/extras/autbis/__init__.py\n")

@@ -8,12 +8,14 @@ des (0, 1, 2)
 True
 
 A system is the text of an `.aut` file as `str` or `bytes`, the path of such a file as an `os.PathLike`, such as a
-`pathlib.Path`, or an open file, which is read to its end. A `str` is never taken for a path.
+`pathlib.Path`, or an open file, which is read to its end, as is a path that is no regular file, such as `/dev/stdin`.
+A `str` is never taken for a path.
 
 `relation` is 'strong' or 'branching'. `hide` lists the labels that are made internal first, each a `str` or `bytes`, as
 they are and without quotation marks round them; or it is the path of a hide list as an `os.PathLike`, or an open hide
-list. `program` is the program to run, a `str` or an `os.PathLike`, by default `autbis` on PATH. `timeout` is in
-seconds, and None waits for ever.
+list. A list may be empty; if nothing comes from an iterator, a pipe or an open file, it may have been used before, which
+is a ValueError. `program` is the program to run, a `str` or an `os.PathLike`, by default `autbis` on PATH. `timeout` is
+in seconds, from when all was read; None waits for ever.
 """
 
 from __future__ import annotations
@@ -24,8 +26,14 @@ import re
 import shutil
 import signal
 import subprocess
+import sys
 import tempfile
-from typing import IO, Dict, Iterable, List, NamedTuple, Optional, Tuple, Union
+from typing import Dict, Iterator, List, NamedTuple, Optional, Tuple, Union
+
+if sys.version_info >= (3, 8):
+    from typing import Protocol
+else:
+    Protocol = object
 
 __version__ = "0.1.0"
 
@@ -42,8 +50,23 @@ __all__ = [
     "TimedOut",
 ]
 
-System = Union[str, bytes, "os.PathLike[str]", IO[str], IO[bytes]]
-Labels = Union[Iterable[Union[str, bytes]], "os.PathLike[str]", IO[str], IO[bytes]]
+
+class Readable(Protocol):
+    """An open file, also one of `gzip` or the like."""
+
+    def read(self) -> Union[str, bytes]: ...
+
+
+class ListOfLabels(Protocol):
+    """A list, tuple, set or the like, but no `str`, which can only be asked for a part of it."""
+
+    def __iter__(self) -> Iterator[Union[str, bytes]]: ...
+
+    def __contains__(self, __label: object) -> bool: ...
+
+
+System = Union[str, bytes, "os.PathLike[str]", Readable]
+Labels = Union[ListOfLabels, Iterator[Union[str, bytes]], "os.PathLike[str]", Readable]
 Program = Union[str, "os.PathLike[str]"]
 
 
@@ -155,14 +178,6 @@ def equivalent(
     return verdict
 
 
-class _Input(NamedTuple):
-    """A file that the program reads: which one it is, its word on the command line, and its name in a fault."""
-
-    where: str
-    word: str
-    name: str
-
-
 def _run(
     program: Program,
     words: List[str],
@@ -176,20 +191,19 @@ def _run(
     if found is None:
         raise FileNotFoundError(errno.ENOENT, "the program is not installed, or not on PATH", os.fspath(program))
     with tempfile.TemporaryDirectory(prefix="autbis-") as folder:
-        inputs = [_input(folder, where, system) for where, system in systems.items()]
-        files = [it.word for it in inputs]
-        hidden = _hidden(folder, hide)
-        if hidden is not None:
-            inputs.append(hidden)
-            words = [*words, f"--hide={hidden.word}"]
-        command = [os.path.abspath(found), *words, f"--relation={relation}", "--", *files]
+        names = {where: _put(folder, where, system) for where, system in systems.items()}
+        hidden = _hidden(hide)
+        if hidden != b"":
+            names["hide"] = _put(folder, "hide", hidden)
+            words = [*words, "--hide=hide"]
+        command = [os.path.abspath(found), *words, f"--relation={relation}", "--", *systems]
         try:
             ran = subprocess.run(command, cwd=folder, stdin=subprocess.DEVNULL, capture_output=True, timeout=timeout)
         except subprocess.TimeoutExpired:
             raise TimedOut(-signal.SIGKILL, f"autbis: no answer in {timeout} seconds") from None
     if ran.returncode == 0 or (ran.returncode == 1 and words[0] == "cmp"):
         return ran
-    raise _fault(ran, inputs)
+    raise _fault(ran, names)
 
 
 def _text(ran: subprocess.CompletedProcess[bytes]) -> str:
@@ -203,48 +217,69 @@ def _no_answer(ran: subprocess.CompletedProcess[bytes]) -> Fault:
     return Fault(ran.returncode, f"{ran.args[0]} ended with status {ran.returncode} and no answer of autbis")
 
 
-def _fault(ran: subprocess.CompletedProcess[bytes], inputs: List[_Input]) -> Fault:
-    """Returns the fault of the message, which names each file as the caller does."""
+def _fault(ran: subprocess.CompletedProcess[bytes], names: Dict[str, str]) -> Fault:
+    """Returns the fault of the message, in which each file has the name that the caller knows."""
     message = ran.stderr.decode("utf-8", "replace").rstrip("\n")
-    rest, named = message, None
-    for it in inputs:
-        prefix = f"autbis: {it.word}: "
-        # Of two names that fit, the longer one is meant.
-        if message.startswith(prefix) and len(message) - len(prefix) < len(rest):
-            rest, named = message[len(prefix) :], it
-    if named is not None:
-        message = f"autbis: {named.name}: {rest}"
+    rest, where, name = message, None, None
+    prefix = re.match("autbis: ([a-z]+): ", message)
+    if prefix is not None and prefix[1] in names:
+        where, name, rest = prefix[1], names[prefix[1]], message[prefix.end() :]
+        message = f"autbis: {name}: {rest}"
     if ran.returncode == 2:
         line = re.fullmatch(r"line (\d+): (.*)", rest)
-        where, name = (None, None) if named is None else (named.where, named.name)
         return TextFault(2, message, where, name, int(line[1]) if line else None, line[2] if line else rest)
     if not message:
         message = f"{ran.args[0]} ended with status {ran.returncode}"
     return _FAULTS.get(ran.returncode, Fault)(ran.returncode, message)
 
 
-def _input(folder: str, where: str, source: object) -> _Input:
-    """Returns the file of a system or a hide list. That of a text or of an open file is written into the folder."""
+def _put(folder: str, where: str, source: object) -> str:
+    """Puts a system or a hide list into the folder, under the name `where`. Returns its name for a fault."""
+    place = os.path.join(folder, where)
     if isinstance(source, os.PathLike):
         name = os.fsdecode(source)
-        return _Input(where, os.path.abspath(name), name)
-    name = where
-    text = source
-    if isinstance(source, str) and _is_file(source):
-        raise ValueError(f"a str is the text of a system, and this names a file: pass pathlib.Path({source!r})")
-    if not isinstance(source, (str, bytes, bytearray, memoryview)) and hasattr(source, "read"):
-        text = source.read()
+        real = os.path.realpath(name)
+        if os.path.isfile(real) or os.path.isdir(real) or not os.path.exists(name):
+            os.symlink(real, place)
+            return name
+        # It is a pipe or a descriptor, which the program may not have, or may have as another one.
+        try:
+            with open(name, "rb") as file:
+                text: object = _read(file, where, name)
+        except OSError as cause:
+            raise DeviceFault(5, f"autbis: {name}: cannot open") from cause
+    elif hasattr(source, "read"):
         given = getattr(source, "name", where)
         name = given if isinstance(given, str) else where
+        text = _read(source, where, name)
+    else:
+        name, text = where, source
+    if isinstance(source, str) and "\n" not in source and (source.endswith(".aut") or _is_file(source)):
+        raise ValueError(f"a str is the text of a system, and this names a file: pass pathlib.Path({source!r})")
     if not isinstance(text, (str, bytes, bytearray, memoryview)):
         raise TypeError(f"a system is a str, bytes, an os.PathLike or an open file, and not {type(source).__name__}")
-    with open(os.path.join(folder, where), "wb") as file:
-        file.write(_bytes(text))
-    return _Input(where, where, name)
+    with open(place, "wb") as written:
+        written.write(_bytes(text))
+    return name
+
+
+def _read(file: Readable, where: str, name: str) -> Union[str, bytes]:
+    """Returns what is left of an open file. A hide list of which nothing is left has to be one that never had anything."""
+    text = file.read()
+    if where == "hide" and not text and not _is_at_its_beginning(file):
+        raise ValueError(f"nothing is left of the hide list {name}, which may have been read before; hide=[] hides nothing")
+    return text
+
+
+def _is_at_its_beginning(file: object) -> bool:
+    try:
+        return bool(file.tell() == 0)  # type: ignore[attr-defined]
+    except (AttributeError, OSError):
+        return False
 
 
 def _is_file(text: str) -> bool:
-    return "\n" not in text and "\0" not in text and os.path.isfile(text)
+    return "\0" not in text and os.path.isfile(text)
 
 
 def _bytes(text: Union[str, bytes]) -> bytes:
@@ -252,14 +287,16 @@ def _bytes(text: Union[str, bytes]) -> bytes:
     return text.encode("utf-8", "surrogatepass") if isinstance(text, str) else bytes(text)
 
 
-def _hidden(folder: str, hide: Labels) -> Optional[_Input]:
-    """Returns the file of the hide list, or None if nothing is hidden."""
+def _hidden(hide: Labels) -> object:
+    """Returns the hide list: the path or the open file, or the lines for a list of labels."""
     if isinstance(hide, (str, bytes, bytearray, memoryview)):
         raise TypeError("hide is a list of labels, an os.PathLike or an open file, and not one text")
     if isinstance(hide, os.PathLike) or hasattr(hide, "read"):
-        return _input(folder, "hide", hide)
+        return hide
     lines = b"".join(map(_label, hide))
-    return _input(folder, "hide", lines) if lines else None
+    if not lines and iter(hide) is hide:
+        raise ValueError("nothing comes from the iterator of labels, which may have been used before; hide=[] hides nothing")
+    return lines
 
 
 def _label(label: Union[str, bytes]) -> bytes:
