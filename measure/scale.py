@@ -18,10 +18,10 @@ import argparse
 import math
 import os
 import re
+import resource
 import statistics
 import subprocess
 import sys
-import threading
 import zlib
 from pathlib import Path
 
@@ -29,7 +29,7 @@ HERE = Path(__file__).resolve().parent
 ROWS, PAGE, PICTURE = HERE / "scale.tsv", HERE.parent / "docs" / "scale.md", HERE.parent / "docs" / "scale.svg"
 KEPT, YARDSTICK = HERE / "out", HERE / "yardstick"
 LONGEST = 60  # seconds
-LEAST = 16  # megabytes, about what this script takes
+LEAST = 15  # megabytes, about what this script takes
 RELATIONS = {"strong": "#2166ac", "branching": "#d6604d"}
 GREY = "#555"
 FAR = 3  # times more or less than the line says, for a name
@@ -70,20 +70,21 @@ MADE = {  # rows of the second table: what the systems are, and their families
 SAME_RULE = ("signs every state in every round", "signs only what can have changed")
 
 
+def started(words, **streams):
+    """A process that is ended after LONGEST seconds of processor time."""
+    bounded = lambda: resource.setrlimit(resource.RLIMIT_CPU, (LONGEST, LONGEST))
+    return subprocess.Popen(words, stdin=subprocess.DEVNULL, preexec_fn=bounded, **streams)
+
+
 def run(words):
-    """The processor seconds, the megabytes and what was said of one run; None if it took too long."""
-    process = subprocess.Popen(words, stdin=subprocess.DEVNULL, stdout=subprocess.DEVNULL, stderr=subprocess.PIPE)
-    timer = threading.Timer(LONGEST, process.kill)
-    timer.start()
+    """The processor seconds, the megabytes and what was said of one run; nothing if it took too long."""
+    process = started(words, stdout=subprocess.DEVNULL, stderr=subprocess.PIPE)
     said = process.stderr.read().decode()
     _, status, used = os.wait4(process.pid, 0)
-    timer.cancel()
     process.returncode = os.waitstatus_to_exitcode(status)
-    if os.WIFSIGNALED(status):
-        return None
-    if process.returncode != 0:
+    if process.returncode > 0:
         sys.exit(f"{' '.join(words)}: {said}")
-    return used.ru_utime + used.ru_stime, used.ru_maxrss / 1024, said
+    return () if process.returncode else (used.ru_utime + used.ru_stime, used.ru_maxrss / 1024, said)
 
 
 def made(words):
@@ -118,12 +119,9 @@ def yardsticks():
 def digest(words):
     """A checksum of what a program writes; None if that takes too long."""
     found = 0
-    with subprocess.Popen(words, stdin=subprocess.DEVNULL, stdout=subprocess.PIPE) as process:
-        timer = threading.Timer(LONGEST, process.kill)
-        timer.start()
+    with started(words, stdout=subprocess.PIPE) as process:
         while part := process.stdout.read(1 << 16):
             found = zlib.crc32(part, found)
-        timer.cancel()
     if process.returncode > 0:
         sys.exit(f"measure/scale.py: {' '.join(words)}: status {process.returncode}")
     return None if process.returncode else found
@@ -136,10 +134,13 @@ def measured(programs, runs, name, file, relation):
     calls = [[*program, "--relation", relation, str(file)] for program in programs]
     if len({digest(call) for call in calls} - {None}) > 1:
         sys.exit(f"measure/scale.py: {name}, {relation}: the programs write different texts")
-    best = [(math.inf,)] * len(calls)
+    best = [None] * len(calls)
     for _ in range(runs):
         for k, call in enumerate(calls):
-            best[k] = best[k] and min(best[k], run([*call, "--stats"] if k == 0 else call) or (), key=lambda found: found or (math.inf,))
+            # Once too long, not again.
+            if best[k] != ():
+                found = run([*call, "--stats"] if k == 0 else call)
+                best[k] = found and min(best[k] or found, found)
     return name, states, transitions, relation, *cells(best[0]), *(f"{found[0]:.2f}" if found else "-" for found in best[1:])
 
 
