@@ -2,11 +2,12 @@
 """Makes systems, measures the program on them beside the yardstick, and draws what was measured for docs/scale.md.
 
 usage: measure/scale.py PROGRAM [--runs N]     all systems of the page, N times (4): writes measure/scale.tsv, and draws
-       measure/scale.py PROGRAM [--runs N] SYSTEM..
+       measure/scale.py PROGRAM.. [--runs N] SYSTEM..
                                                those systems alone, as "grid 100": prints their rows, and writes nothing
        measure/scale.py --draw                 the tables and the picture of docs/scale.md, from measure/scale.tsv
 
-A SYSTEM is the words of measure/systems.py, which lists them. Systems and the built yardstick are kept in measure/out.
+A SYSTEM is the words of measure/systems.py, which lists them, in one word. Further programs that take the words of
+`autbis` stand in the place of the yardstick. Systems and the built yardstick are kept in measure/out.
 
 A row of scale.tsv has the name, states, transitions, relation, rounds, seconds of processor time (the least of N runs,
 in turn with the others'), megabytes at most, and the seconds of the yardstick that signs every state in every round
@@ -151,12 +152,12 @@ def cells(found):
     return said.split()[said.split().index("rounds") + 1], f"{seconds:.2f}", f"{megabytes:.0f}"
 
 
-def measure(program, runs, wanted):
+def measure(program, others, runs, wanted):
     """The rows of systems, each name with its words, as they are measured."""
-    programs = [[program, "min"], *yardsticks()]
+    programs = [[program, "min"], *(others or yardsticks())]
     for name, words in wanted.items():
         for relation in RELATIONS if name not in MADE_SYSTEMS else ["branching"]:
-            row = [*measured(programs, runs, name, made(words), relation), "-", "-"][:9]
+            row = [*measured(programs, runs, name, made(words), relation), *["-"] * (3 - len(programs))]
             print("\t".join(row), flush=True)
             yield "\t".join(row)
 
@@ -384,16 +385,17 @@ def main():
     parser.add_argument("--runs", type=int, default=4)
     parser.add_argument("--draw", action="store_true")
     given = parser.parse_intermixed_args()
-    program, *chosen = given.words or [None]
-    if given.draw == bool(program) or given.runs < 1:
-        parser.error("a PROGRAM or --draw is wanted, and at least one run")
+    chosen = [word for word in given.words if " " in word]
+    program, *others = [word for word in given.words if " " not in word] or [None]
+    if given.draw == bool(program) or given.runs < 1 or others and not chosen:
+        parser.error("--draw is wanted, or a PROGRAM and at least one run; or programs and systems")
     try:
         if chosen:
-            for _ in measure(program, given.runs, {words: words for words in chosen}):
+            for _ in measure(program, [[other, "min"] for other in others], given.runs, {words: words for words in chosen}):
                 pass
             return
         if program:
-            write(ROWS, measure(program, given.runs, {**SYSTEMS, **MADE_SYSTEMS}))
+            write(ROWS, measure(program, [], given.runs, {**SYSTEMS, **MADE_SYSTEMS}))
         draw()
     except OSError as error:
         sys.exit(f"measure/scale.py: {error}")
