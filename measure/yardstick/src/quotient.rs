@@ -42,13 +42,15 @@ pub fn written(system: &System, rows: &Rows, components: &Components, contracted
     for (number, &shown) in shown_by.iter().enumerate() {
         let begun = lines.len();
         let target = |t: u32| numbers[blocks[t as usize] as usize];
-        lines.extend(contracted.row(shown).iter().map(|step| (number as u32, ranks[step.label as usize], target(step.target))));
+        lines.extend(
+            contracted.row(shown).iter().map(|step| (number as u32, ranks[step.label as usize], target(step.target))),
+        );
         lines[begun..].sort_unstable();
     }
     lines.dedup();
     let spelled: Vec<Vec<u8>> = order.iter().map(|&k| spelled(&system.labels[k])).collect();
     let mut out = Vec::with_capacity(24 * lines.len() + 64);
-    put_three(&mut out, b"des (", (0, lines.len() as u32, count), |out, steps| put_number(out, steps));
+    put_three(&mut out, b"des (", (0, lines.len() as u32, count), put_number);
     for &line in &lines {
         put_three(&mut out, b"(", line, |out, label| out.extend_from_slice(&spelled[label as usize]));
     }

@@ -39,7 +39,7 @@ impl Signatures {
             for &hash in &self.hashes {
                 let mut slot = self.begin(hash);
                 while std::mem::replace(&mut self.slots[slot], NONE) != NONE {
-                    slot = slot + 1 & self.slots.len() - 1;
+                    slot = self.after(slot);
                 }
             }
         } else {
@@ -53,7 +53,11 @@ impl Signatures {
     }
 
     fn begin(&self, hash: u64) -> usize {
-        hash as usize & self.slots.len() - 1
+        hash as usize & (self.slots.len() - 1)
+    }
+
+    fn after(&self, slot: usize) -> usize {
+        (slot + 1) & (self.slots.len() - 1)
     }
 
     fn list(&self, k: u32) -> &[u64] {
@@ -63,7 +67,14 @@ impl Signatures {
     /// The number of the signature of a state with this row in a block. `block_of` are the blocks of all states,
     /// `signed` the numbers of the signatures of those in the block that inert steps lead to. If one of these shows
     /// all that the row does, the signature is that one (Blom and van de Pol 2009).
-    pub fn sign(&mut self, row: &[Step], internal: Option<u32>, block: u32, block_of: &[u32], signed: impl Fn(u32) -> u32) -> u32 {
+    pub fn sign(
+        &mut self,
+        row: &[Step],
+        internal: Option<u32>,
+        block: u32,
+        block_of: &[u32],
+        signed: impl Fn(u32) -> u32,
+    ) -> u32 {
         self.own.clear();
         self.inert.clear();
         for step in row {
@@ -110,7 +121,7 @@ impl Signatures {
             if self.hashes[k as usize] == hash && self.list(k) == self.own {
                 return k;
             }
-            slot = slot + 1 & self.slots.len() - 1;
+            slot = self.after(slot);
         }
         let k = self.count();
         self.slots[slot] = k;
@@ -128,7 +139,7 @@ impl Signatures {
         for k in 1..self.hashes.len() {
             let mut slot = self.begin(self.hashes[k]);
             while self.slots[slot] != NONE {
-                slot = slot + 1 & self.slots.len() - 1;
+                slot = self.after(slot);
             }
             self.slots[slot] = k as u32;
         }

@@ -65,7 +65,10 @@ impl<'a> Line<'a> {
         let digits = self.0.iter().take_while(|byte| byte.is_ascii_digit()).count();
         let (number, rest) = self.0.split_at(digits);
         self.0 = rest;
-        number.iter().try_fold(0u32, |sum, digit| sum.checked_mul(10)?.checked_add((digit - b'0') as u32)).filter(|_| digits > 0)
+        number
+            .iter()
+            .try_fold(0u32, |sum, digit| sum.checked_mul(10)?.checked_add((digit - b'0') as u32))
+            .filter(|_| digits > 0)
     }
 
     fn label(&mut self) -> Option<&'a [u8]> {
@@ -115,7 +118,7 @@ fn transition(line: &[u8], states: u32) -> Option<(u32, &[u8], u32)> {
 fn next_line<'a>(text: &mut &'a [u8]) -> Option<&'a [u8]> {
     const ONES: u64 = u64::MAX / 255;
     let has_none = |part: &[u8]| {
-        let differ = part.iter().rev().fold(0, |word, &byte| word << 8 | byte as u64) ^ ONES * b'\n' as u64;
+        let differ = part.iter().rev().fold(0, |word, &byte| word << 8 | byte as u64) ^ (ONES * b'\n' as u64);
         differ.wrapping_sub(ONES) & !differ & ONES << 7 == 0
     };
     let skipped = 8 * text.chunks_exact(8).take_while(|part| has_none(part)).count();
@@ -131,9 +134,11 @@ pub fn read(mut text: &[u8]) -> Result<System, String> {
     let mut lines = std::iter::from_fn(|| next_line(&mut text));
     let (first, promised, states) = lines.next().and_then(header).ok_or("bad header")?;
     let mut numbers: HashMap<&[u8], u32, BuildHasherDefault<Fold>> = HashMap::default();
-    let mut system = System { first, states, labels: Vec::new(), steps: Vec::with_capacity(promised.min(size) as usize) };
+    let mut system =
+        System { first, states, labels: Vec::new(), steps: Vec::with_capacity(promised.min(size) as usize) };
     for (k, line) in lines.enumerate() {
-        let (source, label, target) = transition(line, states).ok_or_else(|| format!("line {}: not a transition", k + 2))?;
+        let (source, label, target) =
+            transition(line, states).ok_or_else(|| format!("line {}: not a transition", k + 2))?;
         let number = *numbers.entry(label).or_insert_with(|| {
             system.labels.push(label.to_vec());
             system.labels.len() as u32 - 1
@@ -149,7 +154,11 @@ pub fn read(mut text: &[u8]) -> Result<System, String> {
 /// A label as it is written: plain if it can be.
 pub fn spelled(label: &[u8]) -> Vec<u8> {
     let plain = !label[0].is_ascii_digit() && label.iter().all(|byte| byte.is_ascii_alphanumeric() || *byte == b'_');
-    if plain { label.to_vec() } else { [b"\"", label, b"\""].concat() }
+    if plain {
+        label.to_vec()
+    } else {
+        [b"\"", label, b"\""].concat()
+    }
 }
 
 pub fn put_number(out: &mut Vec<u8>, number: u32) {
