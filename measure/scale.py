@@ -276,7 +276,10 @@ class Panel:
     def drawn(self):
         """The elements: the line and its words, the points, and the names of those far from the line."""
         yield from self.parts
-        rate = statistics.median(up / across for _, _, across, up in self.points if up > self.up[0])
+        rates = [up / across for _, _, across, up in self.points if up > self.up[0]]
+        if not rates:
+            return
+        rate = statistics.median(rates)
         start, end = max(self.across[0], self.up[0] / rate), min(self.across[1], self.up[1] / rate)
         (x, y), (x_2, y_2) = ((self.x(value), self.y(value * rate)) for value in (start, end))
         yield f'<path class="line" d="M{x:.1f} {y:.1f}L{x_2:.1f} {y_2:.1f}"/>'

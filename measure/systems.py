@@ -231,12 +231,13 @@ def many(letter, count, first=0):
     return [f"{letter}{k}" for k in range(first, first + count)]
 
 
-def line(n):
-    """States 1 to n, each with an inert step to the one before and a label of its own."""
+def line(n, step):
+    """States 1 to n, each with a label of its own and an inert step to the next one, or to the one before by -1. Which
+    way decides whether a signature adds its pair in front of those of the other, or at their end."""
     for s in range(1, n + 1):
+        if 1 <= s + step <= n:
+            yield from inert(s, s + step)
         yield from shows(s, [f"l{s}"])
-        if s > 1:
-            yield from inert(s, s - 1)
 
 
 @family
@@ -298,7 +299,7 @@ def inert_cycle(n):
 @family
 def inert_line(n):
     """A line of n inert steps, each state with a label of its own: signatures of 1 to n pairs."""
-    return line(n)
+    return made(line(n, 1), first=1)
 
 
 @family
@@ -306,10 +307,10 @@ def line_over_hub(n):
     """A line of n inert steps with a label for each state, where each also leads to one state of n labels."""
     hub = n + 1
     yield from shows(hub, many("h", n))
-    yield from line(n)
+    yield from line(n, 1)
     for s in range(1, n + 1):
         yield from inert(s, hub)
-    yield from tops([n, hub])
+    yield from tops([1, hub])
 
 
 @family
@@ -317,7 +318,7 @@ def line_and_hub(n):
     """A line of n inert steps with a label for each state, one state of n other labels, and n states with inert steps
     to one of the line and to that one."""
     hub, own = n + 1, range(n + 2, 2 * n + 2)
-    yield from line(n)
+    yield from line(n, -1)
     yield from shows(hub, many("h", n))
     for j, s in enumerate(own):
         yield from inert(s, j + 1, hub)
@@ -328,7 +329,7 @@ def line_and_hub(n):
 def line_by_twos(n):
     """A line of n inert steps with a label for each state, and n states with inert steps to two states of it."""
     own = range(n + 1, 2 * n + 1)
-    yield from line(n)
+    yield from line(n, 1)
     for j, s in enumerate(own):
         yield from inert(s, j + 1, n - j)
     yield from tops(own)
@@ -450,7 +451,7 @@ def long_line(k, n):
     their own."""
     last = 63 + 2**k
     own = range(last + 1, last + n + 1)
-    yield from line(last)
+    yield from line(last, -1)
     for j, s in enumerate(own):
         yield from inert(s, last)
         yield from shows(s, [f"o{j}"])
