@@ -50,7 +50,7 @@ fn run(job: &Job) -> Result<(), String> {
     let text = std::fs::read(&job.file).map_err(|error| error.to_string())?;
     let system = text::read(&text)?;
     drop(text);
-    let rows = Rows::of(system.states, &system.steps, |step| (step.0, step.1, step.2));
+    let rows = Rows::of(system.states, system.steps.iter().copied());
     let internal = system.internal().filter(|_| job.branching);
     // Strong bisimilarity has no inert steps, so that each state is a component.
     let components = Components::of(&rows, internal);
