@@ -1,0 +1,94 @@
+//! A program that calls the library: it reads a system from standard input, says how large it and the smallest
+//! equivalent one are, and whether it behaves as a one-place buffer.
+#![tactic(auto)]
+
+ghost use Rattle.std.specs.Prelude.{◌≡◌, ◌↔◌, ◌≤◌, IsTrue, IfOk};
+ghost use Rattle.theory.specs.System.{System, IsSystem};
+ghost use Rattle.theory.specs.Bisimulation.{Equivalent};
+ghost use Rattle.theory.specs.declared.relation.Relation.TheVariants.{Branching};
+ghost use Rattle.lts.specs.Lts.{system_of};
+ghost use Rattle.lts.specs.Union.{FitTogether};
+
+use autfmt::{Fault, FromRead, Limits, SliceSource, Source, read};
+use lts::{Counter, Lts, Memory};
+use quotient::{Relation, equivalent, minimise};
+use std::alloc::Global;
+use std::io;
+
+/// What a system has to behave as.
+const BUFFER: &[u8] = b"des (0, 2, 2)\n(0, put, 1)\n(1, get, 0)\n";
+
+/// How large a system is.
+#[derive(Clone, Copy)]
+struct Size {
+    states: u32,
+    transitions: u32,
+}
+
+/// What is said of a system.
+#[derive(Drop)]
+struct Findings {
+    given: Size,
+    smallest: Size,
+    as_wanted: bool,
+}
+
+fn size_of(system: &Lts<Counter>) -> Size
+    ensures { result.states ≡ system.now.states }
+{
+    Size {
+        states: system.states(),
+        transitions: system.edges(),
+    }
+}
+
+/// The smallest system that is equivalent to `given`, and whether `wanted` is. Fails if there is no memory for it.
+fn examine(alloc: Global, given: &Lts<Counter>, wanted: &Lts<Counter>) -> Result<Findings, Memory>
+    requires fit { FitTogether given.now wanted.now }
+    ensures smallest { IfOk result (λ found. (B : System) →
+        IsSystem B → Equivalent Branching (system_of given.now) B → found.smallest.states ≤ B.states) }
+    ensures verdict { IfOk result (λ found.
+        IsTrue found.as_wanted ↔ Equivalent Branching (system_of given.now) (system_of wanted.now)) }
+{
+    let smallest = minimise(alloc, given, Relation::Branching, &mut Counter::new())?;
+    let as_wanted = equivalent(
+        alloc,
+        given,
+        wanted,
+        Relation::Branching,
+        &mut Counter::new(),
+    )?;
+    Ok(Findings {
+        given: size_of(given),
+        smallest: size_of(&smallest),
+        as_wanted,
+    })
+}
+
+/// Reads the system of `source`, and says what there is to say. Fails as `read` does, or for want of memory.
+fn examine_text<R: Source>(alloc: Global, source: &mut R) -> Result<Findings, Fault>
+    requires { R.failures source.old ≡ 0 }
+{
+    let lim = Limits::file();
+    let given = read(alloc, source, &lim)?;
+    let wanted = read(alloc, &mut SliceSource::new(BUFFER, None), &lim)?;
+    Ok(examine(alloc, &given, &wanted)?)
+}
+
+fn main(rt: HostRuntime) -> io::Result<()> {
+    match examine_text(rt.alloc(), &mut FromRead::new(rt.stdin())) {
+        Ok(found) => {
+            let (given, smallest) = (found.given, found.smallest);
+            println!(rt;
+                "{} states, {} transitions",
+                given.states, given.transitions
+            )?;
+            println!(rt;
+                "smallest: {} states, {} transitions",
+                smallest.states, smallest.transitions
+            )?;
+            println!(rt; "as wanted: {}", found.as_wanted)
+        }
+        Err(fault) => println!(rt; "{fault}"),
+    }
+}

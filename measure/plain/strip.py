@@ -1,0 +1,102 @@
+#!/usr/bin/env python3
+"""Builds the crates below `quotient` as plain Rust, their contracts stripped, with the yardstick's reader and writer
+around: a form of the code can be tried in half a minute, before anything is proved.
+
+usage: measure/plain/strip.py                   makes measure/out/plain anew, and builds it
+       measure/plain/strip.py --keep            builds what is there: edit measure/out/plain/CRATE/src
+then:  measure/out/plain/target/release/tool min --relation branching FILE
+
+It cannot tell what a proof would cost. It has no reader, writer and command line of the product, and asks for memory
+as Rust does. A `Vec` is indexed without a check, as in the product, but a slice with one; so compare with another tree
+built in the same way, and not with the product.
+"""
+
+import os
+import re
+import shutil
+import subprocess
+import sys
+from pathlib import Path
+
+HERE = Path(__file__).resolve().parent
+TOP, OUT = HERE.parents[1], HERE.parent / "out" / "plain"
+CRATES = "growth", "theory", "lts", "lists", "inert", "partition", "refine", "quotient"
+# What stands for what: the kit's words, and Rust's with the shim `kit`.
+REPLACED = (
+    (r"^\s*ghost use [^;]*;\n", ""),
+    (r"^\s*ghost [^;]*;\n", ""),
+    (r"^ *#!?\[(tactic\(.*|derive\(Drop\))\]\n", ""),
+    (r"\b(derive\([^)]*), Drop\b", r"\1"),
+    (r"\b(derive\()Drop, ", r"\1"),
+    (r"(<\w+|\btrait \w+): Drop\b", r"\1"),
+    (r"vec!\[in alloc; ([^;]*); ([^\]]*)\]", r"kit::vec_in(\1, \2)"),
+    (r"\buse std::alloc::", "use kit::"),
+    (r"\buse indexmap::", "use kit::"),
+    (r"\buse std::collections::VecDeque;", "use kit::VecDeque;"),
+    (r"\buse std::marker::Model;\n", ""),
+    (r"\buse std::marker::\{Model, (\w+)\};", r"use std::marker::\1;"),
+)
+BLOCKS = r"^\s*impl[^\n{]*\b(Model|Drop) for [^\n{]*\{", r"^\s*(requires|ensures)( \w+)? \{"
+
+
+def without_blocks(text, pattern):
+    """The text without what the pattern begins, up to the brace that closes it, and a semicolon put back after it."""
+    while found := re.search(pattern, text, re.M):
+        end, depth = found.end(), 1
+        while depth:
+            depth += {"{": 1, "}": -1}.get(text[end], 0)
+            end += 1
+        text = text[: found.start()] + text[end:]
+    return text
+
+
+def stripped(text):
+    for pattern in BLOCKS:
+        text = without_blocks(text, pattern)
+    for pattern, plain in REPLACED:
+        text = re.sub(pattern, plain, text, flags=re.M)
+    # After the comments about the file, and what is said of all of it.
+    head = re.match(r"((//!.*|#!\[.*|\s*)\n)*", text).end()
+    return f"{text[:head]}#[allow(unused_imports)]\nuse kit::Vec;\n{text[head:]}"
+
+
+def package(folder, name, needs):
+    needs = "".join(f'{other} = {{ path = "../{other}" }}\n' for other in needs)
+    folder.mkdir(parents=True, exist_ok=True)
+    (folder / "Cargo.toml").write_text(f'[package]\nname = "{name}"\nedition = "2021"\n\n[dependencies]\n{needs}')
+
+
+def make():
+    lines = [line.split(":") for line in (TOP / "crates.txt").read_text().splitlines() if ":" in line and line[0] != "#"]
+    needs = {name.strip(): [other for other in rest.split() if other in CRATES] for name, rest in lines}
+    shutil.rmtree(OUT, ignore_errors=True)
+    for name in CRATES:
+        package(OUT / name, name, ["kit", *needs[name]])
+        (OUT / name / "src").mkdir()
+        for file in sorted((TOP / "crates" / name / "src").glob("*.rt")):
+            (OUT / name / "src" / file.with_suffix(".rs").name).write_text(stripped(file.read_text()))
+    for name, more in (("kit", []), ("tool", ["kit", *CRATES])):
+        package(OUT / name, name, more)
+        (OUT / name / "src").mkdir()
+    shutil.copy(HERE / "kit.rs", OUT / "kit" / "src" / "lib.rs")
+    shutil.copy(HERE / "tool.rs", OUT / "tool" / "src" / "main.rs")
+    shutil.copy(HERE.parent / "yardstick" / "src" / "text.rs", OUT / "tool" / "src")
+    members = ", ".join(f'"{name}"' for name in ("kit", *CRATES, "tool"))
+    profile = '[profile.release]\nopt-level = 3\nlto = true\ncodegen-units = 1\npanic = "abort"\ndebug = 1\n'
+    (OUT / "Cargo.toml").write_text(f'[workspace]\nresolver = "2"\nmembers = [{members}]\n\n{profile}')
+
+
+def main():
+    if sys.argv[1:] not in ([], ["--keep"]):
+        sys.exit(__doc__)
+    try:
+        if not sys.argv[1:]:
+            make()
+        cargo = "cargo", "build", "--release", "--offline", "--quiet", "--manifest-path", OUT / "Cargo.toml"
+        sys.exit(subprocess.run(cargo, env={**os.environ, "RUSTFLAGS": "-Awarnings"}).returncode)
+    except (OSError, KeyError, IndexError) as error:
+        sys.exit(f"measure/plain/strip.py: {error!r}")
+
+
+if __name__ == "__main__":
+    main()
