@@ -28,3 +28,4 @@ pub mod Ranks
 pub mod ByRank
 pub mod Rows
 pub mod ReadBack
+pub mod UsualLines

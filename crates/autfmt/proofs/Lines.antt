@@ -17,7 +17,7 @@ use Rattle.autfmt.proofs.Labels.{label_at-takes, label_at-again, IsToken-label, 
 
 -- ---- marks
 
-past-takes : (c : ℕ) (bytes rest : List ℕ) → past c bytes ≡ Some rest → bytes ≡ c ∷ rest
+pub past-takes : (c : ℕ) (bytes rest : List ℕ) → past c bytes ≡ Some rest → bytes ≡ c ∷ rest
 unfolding past
 past-takes c [] rest e = absurd cc
 past-takes c (b ∷ bs) rest e =

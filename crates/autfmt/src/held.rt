@@ -1,23 +1,30 @@
 //! The transitions that a reader holds: their labels in a table, and a triple of numbers for each.
-ghost use Rattle.std.specs.Prelude.{◌≡◌, ℕ, ◌+◌, ◌<◌, ◌≤◌, List, [], ◌∷◌, ◌++◌, length, vec_len, IfOk, OnOk, OnErr};
+ghost use Rattle.std.specs.Prelude.{◌≡◌, ℕ, ◌+◌, ◌<◌, ◌≤◌, List, [], ◌∷◌, ◌++◌, length, vec_len, vec_capacity, IfOk, OnOk, OnErr};
 ghost use Rattle.theory.specs.System.{Transition, IsLabel, IsAmong};
 ghost use Rattle.lts.specs.declared.limits.TheConstants.{MOST_LABELS};
 ghost use Rattle.autfmt.specs.declared.limits.TheConstants.{FILE_TRANSITIONS};
 ghost use Rattle.lts.specs.Labels.{IsNumber, Interns, Keeps};
 ghost use Rattle.autfmt.specs.Held.{AddsTriple};
 
+use crate::digits::word_in_front;
 use lts::{Labels, Memory};
 use std::alloc::{AllocError, Global};
 
 /// How many labels are guessed.
 const GUESSES: usize = 256;
 
+/// An odd number without a pattern, by which the first bytes of a label are mixed.
+const FIRST_WEIGHT: u64 = 0x9E37_79B9_7F4A_7C15;
+
+/// Another one, for its last bytes.
+const LAST_WEIGHT: u64 = 0xD1B5_4A32_D192_ED03;
+
 /// The transitions read so far.
 #[derive(Drop)]
 pub(crate) struct Held {
     pub(crate) labels: Labels,
     pub(crate) triples: Vec<(u32, u32, u32)>,
-    /// The number that a label had which came before, by its last two bytes.
+    /// The number that a label had which came before, by its slot.
     guesses: [u32; GUESSES],
 }
 
@@ -39,6 +46,7 @@ impl Held {
     ///
     /// # Errors
     /// `Memory` if a growth is refused.
+    #[inline(always)]
     pub(crate) fn add(
         &mut self,
         source: u32,
@@ -56,7 +64,7 @@ impl Held {
     {
         let number = number_of(&mut self.labels, &mut self.guesses, label)?;
         make_room(&mut self.triples, promised as usize)?;
-        self.triples.push((source, number, target))?;
+        self.triples.push_reserved((source, number, target));
         Ok(())
     }
 }
@@ -66,6 +74,7 @@ impl Held {
 ///
 /// # Errors
 /// `Memory` if a growth is refused.
+#[inline(always)]
 fn number_of(labels: &mut Labels, guesses: &mut [u32; GUESSES], label: &[u8]) -> Result<u32, Memory>
     requires label { IsLabel label.now }
     requires room { length labels.old < MOST_LABELS }
@@ -83,11 +92,18 @@ fn number_of(labels: &mut Labels, guesses: &mut [u32; GUESSES], label: &[u8]) ->
     Ok(number)
 }
 
-/// Where the number of a label may be guessed: labels that differ in their last two bytes mostly have slots of their
-/// own.
+/// Where the number of a label may be guessed: different labels mostly have slots of their own, long ones by their
+/// first and last eight bytes.
+#[inline(always)]
 fn guess_slot(label: &[u8]) -> usize
     ensures { result < GUESSES }
 {
+    let len = label.len();
+    if len >= 8 {
+        let first = word_in_front(label).wrapping_mul(FIRST_WEIGHT);
+        let last = word_in_front(&label[len - 8..]).wrapping_mul(LAST_WEIGHT);
+        return (first.wrapping_add(last) >> 56) as usize;
+    }
     match label {
         [.., before, last] => (31 * usize::from(*before) + usize::from(*last)) % GUESSES,
         [last] => usize::from(*last) % GUESSES,
@@ -100,6 +116,7 @@ fn make_room(triples: &mut Vec<(u32, u32, u32)>, promised: usize) -> Result<(), 
     requires { vec_len triples.old < promised }
     ensures items { triples.new.items ≡ triples.old.items }
     ensures len { vec_len triples.new ≡ vec_len triples.old }
+    ensures room { OnOk result (vec_len triples.new < vec_capacity triples.new) }
 {
     let len = triples.len();
     if len < triples.capacity() {

@@ -153,7 +153,7 @@ fn past_des(line: &[u8]) -> Option<&[u8]>
 
 /// What follows the mark, if it is the first byte.
 #[tactic(auto, unfolding(crate::specs::Reading::past))]
-fn past(mark: u8, line: &[u8]) -> Option<&[u8]>
+pub(crate) fn past(mark: u8, line: &[u8]) -> Option<&[u8]>
     ensures { IsSeenAs (λ r. r.now) result (past mark line.now) }
 {
     match line {
@@ -273,8 +273,9 @@ fn last_quote(line: &[u8]) -> Option<usize>
 }
 
 /// A plain label in front, and what follows it.
+#[inline(always)]
 #[tactic(auto, unfolding(crate::specs::Reading::plain_at))]
-fn plain_at(line: &[u8]) -> Option<(&[u8], &[u8])>
+pub(crate) fn plain_at(line: &[u8]) -> Option<(&[u8], &[u8])>
     ensures { IsSeenAs (λ x. (x.0.now, x.1.now)) result (plain_at line.now) }
 {
     let [first, ..] = line else {
@@ -289,6 +290,7 @@ fn plain_at(line: &[u8]) -> Option<(&[u8], &[u8])>
 }
 
 /// How many letters and digits there are in front.
+#[inline(always)]
 fn word_len(line: &[u8]) -> usize
     ensures value { result ≡ word_len line.now }
     ensures within { result ≤ length line.now }

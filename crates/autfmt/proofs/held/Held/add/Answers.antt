@@ -12,6 +12,6 @@ returns-clause-added c =
       keeps = n.ensures.keeps;
       known = Interns-known _ _ c.number_of.new.labels n.number n.ensures.table n.ensures.keeps n.ensures.number;
       items =
-          c.in_ok-push.ensures.items
+          c.push_reserved.ensures.items
           ∙ ap (λ (es : List Triple). es ++ (c.args.source, n.number, c.args.target) ∷ []) c.in_ok-make_room.ensures.items;
     }
