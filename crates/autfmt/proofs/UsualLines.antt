@@ -1,23 +1,25 @@
 -- A transition line as programs mostly write it, in front of other bytes.
-use Rattle.std.proofs.Common.{◌≡◌, ◌≢◌, ℕ, suc, ◌+◌, ◌-◌, ◌*◌, ◌%◌, ◌^◌, ◌<◌, ◌≤◌, true, false, cond, List, [], ◌∷◌, ◌++◌, length, get_or, take, drop, codes, decimal, All, Some, refl, sym, ap, subst, ◌∙◌, inl, inr, append_assoc, append-nil, length-append, Bool, arith}
+use Rattle.std.proofs.Common.{◌≡◌, ◌≢◌, ℕ, suc, ◌+◌, ◌*◌, ◌^◌, ◌<◌, ◌≤◌, true, false, not, cond, eqb, List, [], ◌∷◌, ◌++◌, length, get_or, take, drop, map, codes, decimal, Some, refl, sym, ap, subst, ◌∙◌, inl, inr, append_assoc, append-nil, length-append, Bool, arith}
 use Rattle.std.specs.Char.{is_ascii_digit}
-use Rattle.std.specs.List.{list_all, prefix_len}
+use Rattle.std.specs.List.{prefix_len}
+use lib.Count.{count_trailing_zeros}
+use lib.Lanes.{chunk, mask_l}
 use Rattle.std.specs.Str.Parse.{digits_value}
-use Rattle.std.proofs.lemmas.Bool.{cases_lt, cond_both, and_from}
-use Rattle.std.proofs.lemmas.Bool.Decides.{nat_tests}
+use Rattle.std.proofs.lemmas.Bool.{cases_lt, eqb-true}
+use Rattle.std.proofs.lemmas.Simd.{length-chunk, trailing_mask_l, run_in_chunk_stops}
 use Rattle.std.proofs.lemmas.Fmt.{decimal-digits_value, length-decimal-le}
 use Rattle.std.proofs.lemmas.Str.Parse.{IsNumeralModel, numerals_by_value, tells_by_index, digits_value_short}
-use Rattle.std.proofs.lemmas.List.{take-take, get_or-take, length-take-le, take-append-drop, take_at, drop_at, drop-drop, drop_more}
+use Rattle.std.proofs.lemmas.List.{take-take, get_or-take, length-take-le, take-append-drop, drop_more}
 use Rattle.std.proofs.lemmas.List.Elements.{All-weaker}
-use Rattle.std.proofs.lemmas.List.Sums.{AllPass-from_list_all, prefix_len_passes}
+use Rattle.std.proofs.lemmas.List.Sums.{prefix_len_passes}
 use Rattle.theory.specs.System.{IsLabel}
-use Rattle.autfmt.specs.Grammar.{Blanks, Spaced, Label, TransitionLine, quoted}
+use Rattle.autfmt.specs.Grammar.{Blanks, Spaced, Label, quoted}
 use Rattle.autfmt.specs.Texts.{IsOneLine, IsShort}
 use Rattle.autfmt.specs.Cutter.{Cutting, CutsLine}
 use Rattle.autfmt.specs.Reading.{past, plain_at}
-use Rattle.autfmt.specs.Usual.{AreDigitsInFront, BeginsWithNumber, FollowsComma, BeginsWithLabel, BeginsWithTransition, is_inside, inside_len}
+use Rattle.autfmt.specs.Usual.{AreDigitsInFront, BeginsWithNumber, FollowsComma, HasMark, BeginsWithLabel, BeginsWithTransition}
 use Rattle.autfmt.proofs.Numbers.{digit-range}
-use Rattle.autfmt.proofs.Labels.{IsLabel-spelled, quoted-append}
+use Rattle.autfmt.proofs.Labels.{quoted-append}
 use Rattle.autfmt.proofs.PlainLabels.{IsLabel-plain, plain_at-takes}
 use Rattle.autfmt.proofs.Lines.{past-takes}
 use Rattle.autfmt.proofs.ReadBack.{Visible, one_line, visible_append, visible_decimal, literal, IsSpaced, next, none, a_space, closed}
@@ -57,33 +59,34 @@ number_in_front bytes n v found leads =
 
 -- ---- labels
 
-insides_in_front : (bs : List ℕ) → list_all is_inside (take (inside_len bs) bs) ≡ true
-insides_in_front [] = refl
-insides_in_front (b ∷ bs) =
-    cond_both (is_inside b) (1 + inside_len bs) 0 (λ n. list_all is_inside (take n (b ∷ bs)) ≡ true)
-    (λ e. let one : 1 + inside_len bs ≡ suc (inside_len bs) = omega arith in rw one (and_from (is_inside b) (list_all is_inside (take (inside_len bs) bs)) e (insides_in_front bs)))
-    (λ _. refl)
+-- a mask with a bit set: a lane passes the test
+lane_passes : (p : ℕ → Bool) (xs : List ℕ) → 0 < mask_l (map p xs) → prefix_len (λ x. not (p x)) xs < length xs
+lane_passes p [] some = absurd (omega arith)
+lane_passes p (x ∷ xs) some = step (p x) (mask_l (map p xs)) (prefix_len (λ y. not (p y)) xs) (length xs) some (lane_passes p xs)
+  where
+    step : (b : Bool) (n t l : ℕ) → 0 < cond b 1 0 + 2 * n → (0 < n → t < l) → cond (not b) (1 + t) 0 < suc l
+    step true n t l some f = omega arith
+    step false n t l some f = omega (arith, f (omega arith))
 
-inside-range : (b : ℕ) → is_inside b ≡ true → (0x20 ≤ b) × (b ≤ 0x7E)
-inside-range b e = (grind (arith, nat_tests), grind (arith, nat_tests))
+-- the lowest bit of a comparison of sixteen bytes: one of them is the byte there
+pub byte_in_lanes : (bytes : List ℕ) (i byte mask : ℕ) → i + 16 ≤ length bytes → mask ≡ mask_l (map (λ x. eqb x byte) (chunk i 16 bytes)) → 0 < mask
+    → (i + count_trailing_zeros 64 mask < length bytes) × (get_or bytes (i + count_trailing_zeros 64 mask) 0 ≡ byte)
+byte_in_lanes bytes i byte mask room is some =
+    let v = chunk i 16 bytes in
+    let long = length-chunk i 16 bytes room in
+    let passes : ℕ → Bool = λ x. eqb x byte in
+    let some_lane = subst (λ (n : ℕ). 0 < n) is some in
+    let first = ap (count_trailing_zeros 64) is ∙ trailing_mask_l passes 64 v (omega (arith, long)) some_lane in
+    let short : count_trailing_zeros 64 mask < 16 = omega (arith, first, long, lane_passes passes v some_lane) in
+    (omega (arith, short), eqb-true _ _ (run_in_chunk_stops passes bytes i 16 _ 0 room first short))
 
--- the bytes up to the mark that follows them
-pub quoted_in_front : (bytes inside a after rest : List ℕ) (n : ℕ) → 0 < length bytes → get_or bytes 0 0 ≡ 34 → inside ≡ drop 1 bytes → n ≡ inside_len inside → a ≡ take n inside → after ≡ drop n inside
-    → n ≤ length inside → 0 < n → n ≤ 8000 → past 34 after ≡ Some rest → BeginsWithLabel bytes a rest
-quoted_in_front bytes inside a after rest n room mark behind count front back within some short last =
-    let size : length a ≡ n = ap length front ∙ length-take-le n inside within in
-    let printable = AllPass-from_list_all is_inside (take (inside_len inside) inside) (insides_in_front inside) in
-    let same : take (inside_len inside) inside ≡ a = ap (λ (m : ℕ). take m inside) (sym count) ∙ sym front in
-    let label : IsLabel a = record {
-      not_empty = omega arith;
-      short = omega arith;
-      printable =
-          subst (λ (t : List ℕ). All (λ b. (0x20 ≤ b) × (b ≤ 0x7E)) t) same
-          (All-weaker (λ b. is_inside b ≡ true) (λ b. (0x20 ≤ b) × (b ≤ 0x7E)) inside-range (take (inside_len inside) inside) printable);
-    } in
+-- the bytes up to a quotation mark
+pub quoted_in_front : (bytes inside a rest : List ℕ) (n : ℕ) → 0 < length bytes → get_or bytes 0 0 ≡ 34 → inside ≡ drop 1 bytes → HasMark inside n → a ≡ take n inside → rest ≡ drop (n + 1) inside
+    → IsLabel a → BeginsWithLabel bytes a rest
+quoted_in_front bytes inside a rest n room mark behind (within, closed) front back label =
     let begin : bytes ≡ 34 ∷ inside = drop_more bytes 0 0 room ∙ ap (λ (b : ℕ). b ∷ drop 1 bytes) mark ∙ ap (λ (t : List ℕ). 34 ∷ t) (sym behind) in
-    let cut : inside ≡ a ++ 34 ∷ rest =
-    sym (take-append-drop n inside) ∙ ap (λ (t : List ℕ). t ++ drop n inside) (sym front) ∙ ap (λ (t : List ℕ). a ++ t) (sym back ∙ past-takes 34 after rest last) in
+    let close : drop n inside ≡ 34 ∷ rest = drop_more inside n 0 within ∙ ap (λ (b : ℕ). b ∷ drop (n + 1) inside) closed ∙ ap (λ (t : List ℕ). 34 ∷ t) (sym back) in
+    let cut : inside ≡ a ++ 34 ∷ rest = sym (take-append-drop n inside) ∙ ap (λ (t : List ℕ). t ++ drop n inside) (sym front) ∙ ap (λ (t : List ℕ). a ++ t) close in
     (quoted a, inr (label, refl), begin ∙ ap (λ (t : List ℕ). 34 ∷ t) cut ∙ sym (quoted-append a rest))
 
 -- the same of a plain one
@@ -158,7 +161,6 @@ transition_in_front bytes r0 r1 r2 r3 r4 r5 r6 r7 s a t e0 source e1 (spelling, 
       line = spelled_line s b.space spelling d.space t;
       whole = nested ∙ simp append_assoc;
       spelled = (decimal s, spelling, decimal t, (source.0, refl), label, (target.0, refl), spaced_line (decimal s) b.space spelling d.space (decimal t) b.blank d.blank);
-      label = IsLabel-spelled spelling a label;
       one = spelled_line-one s t b.space d.space spelling a source.0 target.0 b.seen d.seen label;
       short = spelled_line-short s t b.space d.space spelling a source.0 target.0 b.short d.short label;
     }

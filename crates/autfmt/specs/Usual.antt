@@ -1,9 +1,8 @@
 -- A transition line as programs mostly write it, in front of other bytes.
-use Rattle.std.specs.Prelude.{◌≡◌, ◌⊎◌, ℕ, ◌<◌, ◌≤◌, ◌^◌, Bool, not, ◌&&◌, ◌==◌, nat_le, List, ◌∷◌, ◌++◌, length, take, codes, decimal}
+use Rattle.std.specs.Prelude.{◌≡◌, ◌⊎◌, ℕ, ◌<◌, ◌≤◌, ◌^◌, List, ◌∷◌, ◌++◌, length, take, slice_index, codes, decimal}
 use Rattle.std.specs.Char.{is_ascii_digit}
 use Rattle.std.specs.List.{prefix_len}
 use Rattle.std.specs.Str.Parse.{digits_value}
-use Rattle.theory.specs.System.{IsLabel}
 use Rattle.autfmt.specs.Grammar.{Label, TransitionLine}
 use Rattle.autfmt.specs.Texts.{IsOneLine, IsShort}
 
@@ -27,19 +26,14 @@ BeginsWithLabel bytes a rest = (spelling : List ℕ) × Label spelling a × (byt
 abbrev pub FollowsComma : List ℕ → List ℕ → Type 0
 FollowsComma bytes rest = (bytes ≡ codes "," ++ rest) ⊎ (bytes ≡ codes ", " ++ rest)
 
--- whether b may stand between quotation marks and is none
-abbrev pub is_inside : ℕ → Bool
-is_inside b = nat_le 0x20 b && nat_le b 0x7E && not (b == 34)
-
--- how many such bytes are in front
-abbrev pub inside_len : List ℕ → ℕ
-inside_len bytes = prefix_len is_inside bytes
+-- a quotation mark stands at the index
+abbrev pub HasMark : List ℕ → ℕ → Type 0
+HasMark bytes i = (i < length bytes) × (slice_index bytes i ≡ 34)
 
 -- the bytes begin with a line that gives the transition, and the rest follows its line feed
 pub record BeginsWithTransition (bytes : List ℕ) (s : ℕ) (a : List ℕ) (t : ℕ) (rest : List ℕ) : Type 0 where
   pub line : List ℕ
   pub whole : bytes ≡ line ++ 10 ∷ rest
   pub spelled : TransitionLine line s a t
-  pub label : IsLabel a
   pub one : IsOneLine line
   pub short : IsShort line

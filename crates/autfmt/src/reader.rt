@@ -201,12 +201,15 @@ fn read_transition<R: Source>(
         return read_any_transition(cutter, r, promise, h, held);
     }
     let left = rest.len();
-    held.add(
+    let is_added = held.add_if_label(
         source as u32,
         h.shown(label),
         target as u32,
         promise.transitions,
     )?;
+    if !is_added {
+        return read_any_transition(cutter, r, promise, h, held);
+    }
     cutter.pass(left);
     Ok(())
 }

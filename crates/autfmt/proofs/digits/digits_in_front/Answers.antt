@@ -1,4 +1,4 @@
-use Rattle.std.proofs.Common.{◌≡◌, ◌+◌, ◌/◌, ◌≤◌, ◌∙◌, sym, length, take, drop, arith}
+use Rattle.std.proofs.Common.{◌+◌, ◌/◌, ◌≤◌, ◌∙◌, sym, length, take, drop, arith}
 use lib.Count.{count_trailing_zeros}
 use Rattle.core.proofs.dec2flt.Eight.{word_at, eight_at, lanes_are, first_other, shifted_is}
 use Rattle.autfmt.proofs.digits.digits_in_front.Goals as goal

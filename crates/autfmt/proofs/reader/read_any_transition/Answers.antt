@@ -93,5 +93,5 @@ returns-clause-transition g c =
       s.1,
       λ bounds given es standing.
           let so_far = transition_good bounds given _ _ _ es s.0 e standing.0 (goes_on s.2.0) s.2.1 good among in
-          (e, (so_far, Holds-add _ _ _ _ es e standing.1 among (rw c.shown.ensures at c.in_ok-add.ensures.added))),
+          (e, (so_far, Holds-add _ _ _ _ es e standing.1 among (rw c.shown.ensures.shown at c.in_ok-add.ensures.added))),
     )

@@ -1,4 +1,4 @@
-use Rattle.std.proofs.Common.{◌≡◌, ◌≢◌, ◌-◌, ◌<◌, ◌++◌, length, get_or, take, drop, decimal, subst, sym, arith}
+use Rattle.std.proofs.Common.{◌≢◌, ◌<◌, get_or, subst, sym, arith}
 use Rattle.autfmt.specs.Usual.{BeginsWithNumber}
 use Rattle.autfmt.proofs.Lists.{rest_of}
 use Rattle.autfmt.proofs.UsualLines.{number_in_front}
