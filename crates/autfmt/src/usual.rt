@@ -9,8 +9,8 @@ use crate::token::{past, plain_at};
 use std::simd::prelude::*;
 
 /// The source, the bytes of the label and the target of the line in front, and what follows its line feed, if it is a
-/// transition as programs mostly write it and ends in these bytes; None if it may be any other line. Whether the bytes of
-/// the label are one is still to be seen. It makes reading twice as fast.
+/// transition as programs mostly write it and ends in these bytes; None if it may be any other line. Whether the bytes
+/// of the label are one is still to be seen. It makes reading twice as fast.
 #[inline(always)]
 pub(crate) fn transition_in_front(bytes: &[u8]) -> Option<(u64, &[u8], u64, &[u8])>
     ensures { IfSome result (λ x. IsLabel x.1.now → BeginsWithTransition bytes.now x.0 x.1.now x.2 x.3.now) }
@@ -64,7 +64,7 @@ fn label_in_front(bytes: &[u8]) -> Option<(&[u8], &[u8])>
 }
 
 /// The index of the first quotation mark; None if there is none, or only among the last 15 bytes. Sixteen bytes at a
-/// time are four times as fast as one.
+/// time, and no check of what they are: that saves a fifth to a third of reading quoted labels.
 #[inline(always)]
 fn mark_in(bytes: &[u8]) -> Option<usize>
     ensures { IfSome result (λ i. HasMark bytes.now i) }
