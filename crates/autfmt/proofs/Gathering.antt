@@ -1,9 +1,9 @@
 -- Pieces that are put together to a line.
-use Rattle.std.proofs.Common.{◌≡◌, ℕ, ◌+◌, ◌-◌, ◌<◌, ◌≤◌, Bool, false, List, ◌∷◌, ◌++◌, length, take, drop, Option, sym, ◌∙◌, ap, subst, inl, arith}
+use Rattle.std.proofs.Common.{◌≡◌, ℕ, ◌+◌, ◌-◌, ◌<◌, ◌≤◌, Bool, true, false, suc, List, ◌∷◌, ◌++◌, length, take, drop, Option, refl, sym, ◌∙◌, ap, subst, inl, arith}
 use Rattle.std.specs.List.{slice_range}
 use Rattle.std.specs.Io.KnownBytes.{Consumes}
 use Rattle.std.proofs.KnownBytes.{Consumes-trans}
-use Rattle.std.proofs.lemmas.List.{append_assoc, length-append, length-take, length-take-le, take-append-drop, take-take, drop-take, drop-drop}
+use Rattle.std.proofs.lemmas.List.{append_assoc, length-append, length-drop, length-take, length-take-le, take-append-drop, take-take, drop-take, drop-drop, take_at, drop_at}
 use Rattle.std.proofs.lemmas.List.Elements.{All-append}
 use Rattle.std.proofs.lemmas.Slice.{between_is}
 use Rattle.autfmt.specs.declared.cutter.Found.TheVariants.{Feed}
@@ -123,3 +123,27 @@ line_in_piece piece from to at over goes_on below ordered within one feed =
                 ∙ ap (λ (t : List ℕ). t ++ 10 ∷ slice_range piece (from + (at + 1)) to) (sym line),
           );
     }
+
+abbrev cutting : List ℕ → List ℕ → Bool → Cutting
+cutting line ahead over = record { line = line; ahead = ahead; over = over }
+
+-- a source with bytes ahead goes on
+goes_on_ahead : (from to : ℕ) (over : Bool) → (over ≡ true → from ≡ to) → from < to → over ≡ false
+goes_on_ahead from to false used some = refl
+goes_on_ahead from to true used some = absurd (omega (arith, used refl))
+
+-- a line and its line feed in front of what is ahead in the piece were passed
+pub passed : (piece : List ℕ) (from to left : ℕ) (over : Bool) (line rest : List ℕ) → from ≤ to → to ≤ length piece → (over ≡ true → from ≡ to) → slice_range piece from to ≡ line ++ 10 ∷ rest
+    → left ≡ length rest → cutting (slice_range piece from (to - left - 1)) (slice_range piece (to - left) to) over ≡ cutting line rest false
+passed piece from to left over line rest ordered within used whole count =
+    let long : length (slice_range piece from to) ≡ to - from = length-take-le (to - from) (drop from piece) (omega (arith, length-drop from piece)) in
+    let size : to - from ≡ length line + suc (length rest) = sym long ∙ ap length whole ∙ length-append line (10 ∷ rest) in
+    let end : to - left - 1 ≡ from + length line = omega arith in
+    let next : to - left ≡ from + (length line + 1) = omega arith in
+    let front : slice_range piece from (to - left - 1) ≡ line =
+    ap (λ (k : ℕ). slice_range piece from k) end ∙ slice_to piece from to (length line) (omega arith) ∙ ap (take (length line)) whole ∙ take_at line (10 ∷ rest) _ refl in
+    let back : slice_range piece (to - left) to ≡ rest =
+    ap (λ (k : ℕ). slice_range piece k to) next ∙ sym (slice_behind piece from to (length line) (omega arith) ordered) ∙ ap (drop (length line + 1)) whole
+    ∙ sym (drop-drop 1 (length line) (line ++ 10 ∷ rest)) ∙ ap (drop 1) (drop_at line (10 ∷ rest) _ refl) in
+    let open_at = goes_on_ahead from to over used (omega arith) in
+    λ i. cutting (front i) (back i) (open_at i)

@@ -9,7 +9,7 @@ use Rattle.autfmt.proofs.Blanks.{IsToken, Stops}
 use Rattle.autfmt.proofs.PlainLabels.{IsLabel-plain, Plain-from, letter-no_quote, letter-no_blank, plain_at-takes, plain_at-again}
 use Rattle.autfmt.proofs.QuotedLabels.{HasNoQuote, quoted_at-takes, quoted_at-again}
 
-quoted-append : (a rest : List ℕ) → quoted a ++ rest ≡ 34 ∷ (a ++ 34 ∷ rest)
+pub quoted-append : (a rest : List ℕ) → quoted a ++ rest ≡ 34 ∷ (a ++ 34 ∷ rest)
 quoted-append a rest = ap (λ (t : List ℕ). 34 ∷ t) (append_assoc a (34 ∷ []) rest)
 
 pub label_at-takes : (bytes a rest : List ℕ) → label_at bytes ≡ Some (a, rest) → (spelling : List ℕ) × Label spelling a × (bytes ≡ spelling ++ rest)

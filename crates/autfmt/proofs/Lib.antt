@@ -1,7 +1,6 @@
 pub mod Lists
 pub mod Blanks
 pub mod Numbers
-pub mod EndDigits
 pub mod QuotedLabels
 pub mod PlainLabels
 pub mod Labels
@@ -28,3 +27,4 @@ pub mod Ranks
 pub mod ByRank
 pub mod Rows
 pub mod ReadBack
+pub mod UsualLines

@@ -1,15 +1,14 @@
 -- Reading a line: what is read is spelled so, and what is spelled so is read.
-use Rattle.std.proofs.Common.{◌≡◌, ℕ, ◌+◌, ◌<◌, ◌^◌, ◌%◌, true, false, cond, List, [], ◌∷◌, ◌++◌, Option, Some, None, refl, sym, ap, subst, ◌∙◌, inl, inr, append_assoc, arith}
+use Rattle.std.proofs.Common.{◌≡◌, ℕ, ◌+◌, ◌<◌, ◌^◌, ◌%◌, true, false, cond, List, [], ◌∷◌, ◌++◌, Option, Some, None, refl, sym, ap, subst, ◌∙◌, arith}
 use Rattle.std.specs.Prelude.{codes, decimal, ◌==◌}
 use Rattle.std.specs.Char.{is_ascii_digit}
 use Rattle.std.proofs.lemmas.Bool.{eqb-true, ne_eqb}
 use Rattle.std.proofs.lemmas.Fmt.{decimal_by_steps}
 use Rattle.std.proofs.lemmas.Option.{cond_some, same_Some}
-use Rattle.std.proofs.lemmas.List.Elements.{All-nil, All-cons}
 use Rattle.theory.specs.System.{IsLabel}
-use Rattle.autfmt.specs.Grammar.{Spaced, IsDecimal, Label, quoted, Header, TransitionLine, HideLine}
-use Rattle.autfmt.specs.Reading.{◌>>=◌, is_blank, is_word, are_blanks, after_blanks, past, past_des, number_at, number_then, label_at, header_at, ending_at, UsualEnding, transition_at, hide_line_at}
-use Rattle.autfmt.proofs.Blanks.{IsBlank, at_token, Spaced-from, Stops, Stops-blanks, Stops-mark, are_blanks-from, Blanks-from_test}
+use Rattle.autfmt.specs.Grammar.{Spaced, IsDecimal, Label, Header, TransitionLine, HideLine}
+use Rattle.autfmt.specs.Reading.{◌>>=◌, is_blank, is_word, are_blanks, after_blanks, past, past_des, number_at, number_then, label_at, header_at, ending_at, transition_at, hide_line_at}
+use Rattle.autfmt.proofs.Blanks.{at_token, Spaced-from, Stops, Stops-blanks, Stops-mark, are_blanks-from, Blanks-from_test}
 use Rattle.autfmt.proofs.Numbers.{blanks_no_digits, IsToken-number, number_at-takes, number_at-again}
 use Rattle.autfmt.proofs.PlainLabels.{bind_some, blanks_no_words}
 use Rattle.autfmt.proofs.QuotedLabels.{HasNoQuote, HasNoQuote-append, HasNoQuote-blanks, HasNoQuote-spaced}
@@ -17,7 +16,7 @@ use Rattle.autfmt.proofs.Labels.{label_at-takes, label_at-again, IsToken-label, 
 
 -- ---- marks
 
-past-takes : (c : ℕ) (bytes rest : List ℕ) → past c bytes ≡ Some rest → bytes ≡ c ∷ rest
+pub past-takes : (c : ℕ) (bytes rest : List ℕ) → past c bytes ≡ Some rest → bytes ≡ c ∷ rest
 unfolding past
 past-takes c [] rest e = absurd cc
 past-takes c (b ∷ bs) rest e =
@@ -174,19 +173,6 @@ ending_at-again line a t h =
       number_then-again 41 [] comma.1 h.1 t refl refl refl h.3 target,
     )
     (with_end-again target.4.1 (a, t) target.4.4)
-
--- what is spelled in the usual way is read from the left too
-pub usual_ending-read : (bytes a : List ℕ) (t : ℕ) → UsualEnding bytes a t → ending_at bytes ≡ Some (a, t)
-usual_ending-read bytes a t h =
-    let none = All-nil IsBlank in
-    let behind = codes ", " ++ decimal t ++ codes ")" in
-    let spelled : bytes ≡ quoted a ++ behind = h.2 ∙ append_assoc (quoted a ++ codes ", ") (decimal t) (codes ")") ∙ append_assoc (quoted a) (codes ", ") (decimal t ++ codes ")") in
-    let bracket : Spaced (codes ")" ∷ []) (codes ")") = ([], [], none, refl, none) in
-    let target : Spaced (decimal t ∷ codes ")" ∷ []) (codes " " ++ decimal t ++ codes ")") = (codes " ", codes ")", All-cons IsBlank 32 [] (inl refl) none, refl, bracket) in
-    let comma : Spaced (codes "," ∷ decimal t ∷ codes ")" ∷ []) behind = ([], codes " " ++ decimal t ++ codes ")", none, refl, target) in
-    let label : Spaced (quoted a ∷ codes "," ∷ decimal t ∷ codes ")" ∷ []) bytes = ([], behind, none, spelled, comma) in
-    let whole : after_blanks bytes ≡ bytes = at_token (quoted a) (codes "," ∷ decimal t ∷ codes ")" ∷ []) bytes refl label ∙ sym spelled in
-    ap ending_at (sym whole) ∙ ending_at-again bytes a t (quoted a, decimal t, inr (h.0, refl), (h.1, refl), label)
 
 -- ---- a transition
 

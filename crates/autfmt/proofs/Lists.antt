@@ -1,6 +1,6 @@
 -- Lemmas on lists.
-use Rattle.std.proofs.Common.{◌≡◌, ℕ, ◌+◌, ◌-◌, ◌<◌, ◌≤◌, List, [], ◌∷◌, ◌++◌, length, get_or, take, drop, sym, ◌∙◌, ap, arith}
-use Rattle.std.proofs.lemmas.List.{append_assoc, take-append-drop, length-drop, take-take, take_more, length-take-le}
+use Rattle.std.proofs.Common.{◌≡◌, ℕ, ◌+◌, ◌-◌, ◌≤◌, List, ◌++◌, length, take, drop, sym, ◌∙◌, ap, arith}
+use Rattle.std.proofs.lemmas.List.{append_assoc, take-append-drop, length-drop, take-take, length-take-le}
 use Rattle.std.proofs.Math.Seq.{take-length, take-append-add}
 
 -- the list from n on is a list of its own length
@@ -21,9 +21,3 @@ pub begins_with : {A : Type 0} → (at n : ℕ) (run old new : List A) → at �
 begins_with at n run old new room short is =
     sym (take-take (at + n) (at + length run) new (omega arith)) ∙ ap (take (at + n)) is
     ∙ ap (λ k. take (k + n) (take at old ++ run)) (sym (length-take-le at old room)) ∙ take-append-add (take at old) run n
-
--- a list with an element: what is before its last one, and that
-pub with_last : {A : Type 0} → (xs : List A) (d : A) → 0 < length xs → xs ≡ take (length xs - 1) xs ++ get_or xs (length xs - 1) d ∷ []
-with_last xs d some =
-    let last : length xs - 1 + 1 ≡ length xs = omega arith in
-    sym (take-length xs) ∙ ap (λ k. take k xs) (sym last) ∙ take_more xs (length xs - 1) d (omega arith)

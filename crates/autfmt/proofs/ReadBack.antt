@@ -15,8 +15,8 @@ use Rattle.autfmt.specs.Cutter.{with_line_feeds}
 use Rattle.autfmt.specs.Written.{written_label, header_of, written_transition, listed, IsInWrittenOrder}
 
 -- none of these bytes is a line feed
-record Visible (bs : List ℕ) : Type 0 where
-  each : All (λ b. 32 ≤ b) bs
+pub record Visible (bs : List ℕ) : Type 0 where
+  pub each : All (λ b. 32 ≤ b) bs
 
 abbrev header_line : System → List ℕ
 header_line A =
@@ -26,17 +26,17 @@ abbrev transition_line : Transition → List ℕ
 transition_line e =
     codes "(" ++ decimal e.source ++ codes ", " ++ written_label e.label ++ codes ", " ++ decimal e.target ++ codes ")"
 
-one_line : (bs : List ℕ) → Visible bs → IsOneLine bs
+pub one_line : (bs : List ℕ) → Visible bs → IsOneLine bs
 one_line bs seen = All-weaker (λ b. 32 ≤ b) (λ b. b ≢ 10) (λ b h e. absurd (omega arith)) bs seen.each
 
-visible_append : {xs ys : List ℕ} → Visible xs → Visible ys → Visible (xs ++ ys)
+pub visible_append : {xs ys : List ℕ} → Visible xs → Visible ys → Visible (xs ++ ys)
 visible_append a b = record { each = All-append (λ b. 32 ≤ b) _ _ a.each b.each }
 
 -- a literal of the grammar
-literal : (bs : List ℕ) → list_all (λ b. leb 32 b) bs ≡ true → Visible bs
+pub literal : (bs : List ℕ) → list_all (λ b. leb 32 b) bs ≡ true → Visible bs
 literal bs h = record { each = All-weaker (λ b. leb 32 b ≡ true) (λ b. 32 ≤ b) (λ b k. search (rules, tests)) bs (AllPass-from_list_all (λ b. leb 32 b) bs h) }
 
-visible_decimal : (n : ℕ) → n < 2 ^ 64 → Visible (decimal n)
+pub visible_decimal : (n : ℕ) → n < 2 ^ 64 → Visible (decimal n)
 visible_decimal n small =
     decimal_by_steps (λ n ds. Visible ds)
     (λ n h. record { each = All-cons (λ b. 32 ≤ b) (48 + n) [] (omega arith) (All-nil (λ b. 32 ≤ b)) })
@@ -63,19 +63,19 @@ spelled a is = go (is_plain a) refl
     }
 
 -- the line is the tokens, with blanks between them
-record IsSpaced (tokens : List (List ℕ)) (line : List ℕ) : Type 0 where
-  spaced : Spaced tokens line
+pub record IsSpaced (tokens : List (List ℕ)) (line : List ℕ) : Type 0 where
+  pub spaced : Spaced tokens line
 
-next : {rest : List ℕ} {tokens : List (List ℕ)} (before token : List ℕ) → Blanks before → IsSpaced tokens rest → IsSpaced (token ∷ tokens) (before ++ token ++ rest)
+pub next : {rest : List ℕ} {tokens : List (List ℕ)} (before token : List ℕ) → Blanks before → IsSpaced tokens rest → IsSpaced (token ∷ tokens) (before ++ token ++ rest)
 next {rest} before token blank s = record { spaced = (before, rest, blank, refl, s.spaced) }
 
-none : Blanks []
+pub none : Blanks []
 none = All-nil IsBlank
 
-a_space : Blanks (32 ∷ [])
+pub a_space : Blanks (32 ∷ [])
 a_space = All-from_recursion IsBlank (32 ∷ []) (inl refl, tt)
 
-closed : IsSpaced (codes ")" ∷ []) (codes ")")
+pub closed : IsSpaced (codes ")" ∷ []) (codes ")")
 closed = next [] (codes ")") none (record { spaced = none })
 
 -- a comma, a space and a token, and then what follows

@@ -7,6 +7,7 @@ pub mod Line
 pub mod Grammar
 pub mod Reading
 pub mod Texts
+pub mod Usual
 pub mod Faults
 pub mod Cutter
 pub mod Gathering

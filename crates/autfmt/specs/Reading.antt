@@ -1,9 +1,8 @@
 -- Reading a line from the left: a token, and the bytes after it.
-use Rattle.std.specs.Prelude.{◌≡◌, ℕ, ◌+◌, ◌-◌, ◌*◌, ◌^◌, ◌<◌, Bool, ◌&&◌, ◌||◌, ◌==◌, nat_lt, nat_le, List, [], ◌∷◌, ◌++◌, length, take, drop, Option, Some, None, if◌then◌else◌, codes, decimal}
+use Rattle.std.specs.Prelude.{◌≡◌, ℕ, ◌+◌, ◌-◌, ◌*◌, ◌^◌, Bool, ◌&&◌, ◌||◌, ◌==◌, nat_lt, nat_le, List, [], ◌∷◌, length, take, drop, Option, Some, None, if◌then◌else◌}
 use Rattle.std.specs.Char.{is_ascii_digit}
 use Rattle.std.specs.List.{list_all, prefix_len}
-use Rattle.theory.specs.System.{IsLabel}
-use Rattle.autfmt.specs.Grammar.{is_letter, quoted}
+use Rattle.autfmt.specs.Grammar.{is_letter}
 
 -- the next step, if this one did not fail
 infixl 10 ◌>>=◌
@@ -116,10 +115,6 @@ ending_at rest = do
   rest ← past 44 (after_blanks a.1)
   t ← number_then 41 rest
   if are_blanks t.1 then Some (a.0, t.0) else None
-
--- `"a", t)`, with which most transitions end
-abbrev pub UsualEnding : List ℕ → List ℕ → ℕ → Type 0
-UsualEnding bytes a t = IsLabel a × (t < 10 ^ 10) × (bytes ≡ quoted a ++ codes ", " ++ decimal t ++ codes ")")
 
 -- the source, the label and the target of a transition
 unfoldable pub transition_at : List ℕ → Option (ℕ × List ℕ × ℕ)

@@ -86,6 +86,28 @@ impl Cutter {
         }
     }
 
+    /// What was taken and lies in the piece after the line that was cut last.
+    #[inline(always)]
+    pub(crate) fn ahead(&self) -> &[u8]
+        ensures ahead { result.now ≡ self.now.ahead }
+        ensures open { IsTrue self.now.over → result.now ≡ [] }
+    {
+        &self.piece[self.from..self.to]
+    }
+
+    /// Goes on to the next line, which lies in the piece: `left` bytes follow the line feed at its end.
+    #[inline(always)]
+    pub(crate) fn pass(&mut self, left: usize)
+        requires { left < length self.old.ahead }
+        ensures line { (line rest : List ℕ) → self.old.ahead ≡ line ++ 10 ∷ rest → left ≡ length rest
+            → self.new ≡ record { line = line; ahead = rest; over = false } }
+        ensures open { self.old.over ≡ false }
+    {
+        let next = self.to - left;
+        self.span = Some((self.from, next - 1));
+        self.from = next;
+    }
+
     /// Goes on to the next line.
     pub(crate) fn advance<R: Source>(&mut self, r: &mut R) -> Result<Step, Broken>
         requires { R.failures r.old ≡ 0 }

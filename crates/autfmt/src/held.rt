@@ -1,23 +1,30 @@
 //! The transitions that a reader holds: their labels in a table, and a triple of numbers for each.
-ghost use Rattle.std.specs.Prelude.{◌≡◌, ℕ, ◌+◌, ◌<◌, ◌≤◌, List, [], ◌∷◌, ◌++◌, length, vec_len, IfOk, OnOk, OnErr};
+ghost use Rattle.std.specs.Prelude.{◌≡◌, ℕ, ◌+◌, ◌<◌, ◌≤◌, ◌↔◌, List, [], ◌∷◌, ◌++◌, length, vec_len, vec_capacity, IsTrue, IsSome, IfSome, IfNone, IfOk, OnOk, OnErr, MatchResult};
 ghost use Rattle.theory.specs.System.{Transition, IsLabel, IsAmong};
 ghost use Rattle.lts.specs.declared.limits.TheConstants.{MOST_LABELS};
 ghost use Rattle.autfmt.specs.declared.limits.TheConstants.{FILE_TRANSITIONS};
 ghost use Rattle.lts.specs.Labels.{IsNumber, Interns, Keeps};
 ghost use Rattle.autfmt.specs.Held.{AddsTriple};
 
-use lts::{Labels, Memory};
+use crate::digits::word_in_front;
+use lts::{Labels, Memory, is_label};
 use std::alloc::{AllocError, Global};
 
 /// How many labels are guessed.
 const GUESSES: usize = 256;
+
+/// An odd number without a pattern, by which the first bytes of a label are mixed.
+const FIRST_WEIGHT: u64 = 0x9E37_79B9_7F4A_7C15;
+
+/// Another one, for its last bytes.
+const LAST_WEIGHT: u64 = 0xD1B5_4A32_D192_ED03;
 
 /// The transitions read so far.
 #[derive(Drop)]
 pub(crate) struct Held {
     pub(crate) labels: Labels,
     pub(crate) triples: Vec<(u32, u32, u32)>,
-    /// The number that a label had which came before, by its last two bytes.
+    /// The number that a label had which came before, by its slot.
     guesses: [u32; GUESSES],
 }
 
@@ -35,7 +42,7 @@ impl Held {
         }
     }
 
-    /// One transition more, of as many as were promised.
+    /// Adds one transition more, of as many as were promised.
     ///
     /// # Errors
     /// `Memory` if a growth is refused.
@@ -54,40 +61,83 @@ impl Held {
         ensures len { OnOk result (vec_len self.new.triples ≡ vec_len self.old.triples + 1) }
         ensures few { OnOk result (length self.new.labels ≤ vec_len self.new.triples) }
     {
-        let number = number_of(&mut self.labels, &mut self.guesses, label)?;
-        make_room(&mut self.triples, promised as usize)?;
-        self.triples.push((source, number, target))?;
+        self.add_if_label(source, label, target, promised)?;
         Ok(())
+    }
+
+    /// The same if the bytes are a label; false, and nothing is added, if they are none.
+    ///
+    /// # Errors
+    /// `Memory` if a growth is refused.
+    #[inline(always)]
+    pub(crate) fn add_if_label(
+        &mut self,
+        source: u32,
+        label: &[u8],
+        target: u32,
+        promised: u32,
+    ) -> Result<bool, Memory>
+        requires few { length self.old.labels ≤ vec_len self.old.triples }
+        requires promised { vec_len self.old.triples < promised }
+        requires file { promised ≤ FILE_TRANSITIONS }
+        ensures label { MatchResult result (λ added. IsTrue added ↔ IsLabel label.now) (λ _. IsLabel label.now) }
+        ensures added { IfOk result (λ added. IsTrue added → AddsTriple self.old self.new source label.now target) }
+        ensures none { IfOk result (λ added. ¬ IsTrue added → self.new ≡ self.old) }
+        ensures len { IfOk result (λ added. IsTrue added → vec_len self.new.triples ≡ vec_len self.old.triples + 1) }
+        ensures few { OnOk result (length self.new.labels ≤ vec_len self.new.triples) }
+    {
+        let Some(number) = number_of(&mut self.labels, &mut self.guesses, label)? else {
+            return Ok(false);
+        };
+        make_room(&mut self.triples, promised as usize)?;
+        self.triples.push_reserved((source, number, target));
+        Ok(true)
     }
 }
 
-/// The number of a label, which is added at the end of the table if it is new. If the guess is right there is no
-/// search, which saves a sixth of the time of reading.
+/// The number of a label, which is added at the end of the table if it is new; None if the bytes are no label. If the
+/// guess is right there is no search, and nothing to check.
 ///
 /// # Errors
 /// `Memory` if a growth is refused.
-fn number_of(labels: &mut Labels, guesses: &mut [u32; GUESSES], label: &[u8]) -> Result<u32, Memory>
-    requires label { IsLabel label.now }
+#[inline(always)]
+fn number_of(
+    labels: &mut Labels,
+    guesses: &mut [u32; GUESSES],
+    label: &[u8],
+) -> Result<Option<u32>, Memory>
     requires room { length labels.old < MOST_LABELS }
-    ensures number { IfOk result (λ k. IsNumber labels.new k label.now) }
-    ensures table { OnOk result (Interns labels.old label.now labels.new) }
+    ensures label { MatchResult result (λ k. IsSome k ↔ IsLabel label.now) (λ _. IsLabel label.now) }
+    ensures number { IfOk result (λ n. IfSome n (λ k. IsNumber labels.new k label.now)) }
+    ensures table { IfOk result (λ n. IfSome n (λ _. Interns labels.old label.now labels.new)) }
+    ensures none { IfOk result (λ n. IfNone n ((labels.new ≡ labels.old) × (guesses.new ≡ guesses.old))) }
     ensures keeps { Keeps labels.old labels.new }
 {
     let slot = guess_slot(label);
     let guess = guesses[slot];
     if guess < labels.len() && labels.text(guess) == label {
-        return Ok(guess);
+        return Ok(Some(guess));
+    }
+    if !is_label(label) {
+        return Ok(None);
     }
     let number = labels.intern(label)?;
     guesses[slot] = number;
-    Ok(number)
+    Ok(Some(number))
 }
 
-/// Where the number of a label may be guessed: labels that differ in their last two bytes mostly have slots of their
-/// own.
+/// Where the number of a label may be guessed: different labels mostly have slots of their own, long ones by their
+/// first and last eight bytes.
+#[inline(always)]
 fn guess_slot(label: &[u8]) -> usize
     ensures { result < GUESSES }
 {
+    let len = label.len();
+    if len >= 8 {
+        let first = word_in_front(label).wrapping_mul(FIRST_WEIGHT);
+        let last = word_in_front(&label[len - 8..]).wrapping_mul(LAST_WEIGHT);
+        return (first.wrapping_add(last) >> 56) as usize;
+    }
     match label {
         [.., before, last] => (31 * usize::from(*before) + usize::from(*last)) % GUESSES,
         [last] => usize::from(*last) % GUESSES,
@@ -100,6 +150,7 @@ fn make_room(triples: &mut Vec<(u32, u32, u32)>, promised: usize) -> Result<(), 
     requires { vec_len triples.old < promised }
     ensures items { triples.new.items ≡ triples.old.items }
     ensures len { vec_len triples.new ≡ vec_len triples.old }
+    ensures room { OnOk result (vec_len triples.new < vec_capacity triples.new) }
 {
     let len = triples.len();
     if len < triples.capacity() {

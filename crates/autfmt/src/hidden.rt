@@ -47,7 +47,8 @@ impl Hidden {
 
     /// The label itself, or `i` if it is hidden.
     pub(crate) fn shown<'a>(&self, label: &'a [u8]) -> &'a [u8]
-        ensures { result.now ≡ hidden_label self.now label.now }
+        ensures shown { result.now ≡ hidden_label self.now label.now }
+        ensures label { IsLabel result.now → IsLabel label.now }
     {
         if self.labels.len() == 0 {
             return label;

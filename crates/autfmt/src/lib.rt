@@ -2,6 +2,7 @@
 #![tactic(auto)]
 
 mod cutter;
+mod digits;
 mod fault;
 mod held;
 mod hidden;
@@ -18,6 +19,7 @@ mod spelling;
 mod stream;
 mod text_laws;
 mod token;
+mod usual;
 mod write_laws;
 mod writer;
 

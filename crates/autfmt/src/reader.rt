@@ -18,6 +18,7 @@ use crate::hidden::Hidden;
 use crate::judge::{Promise, judge_header, judge_transition};
 use crate::limits::Limits;
 use crate::source::Source;
+use crate::usual::transition_in_front;
 use lts::{Lts, Meter};
 use std::alloc::Global;
 
@@ -167,8 +168,55 @@ fn read_transitions<R: Source>(
     Ok(())
 }
 
-/// Reads one line more, a transition of those that were promised, and holds it.
+/// Reads one line more, a transition of those that were promised, and holds it. A line as programs mostly write it is
+/// read where it lies, twice as fast as others.
+#[inline(always)]
 fn read_transition<R: Source>(
+    cutter: &mut Cutter,
+    r: &mut R,
+    promise: Promise,
+    h: &Hidden,
+    held: &mut Held,
+) -> Result<(), Fault>
+    requires file { promise.transitions ≤ FILE_TRANSITIONS }
+    requires promised { vec_len held.old.triples < promise.transitions }
+    requires few { length held.old.labels ≤ vec_len held.old.triples }
+    requires sound { R.failures r.old ≡ 0 }
+    requires end { IsTrue cutter.old.over → IsAtEnd (R.rest r.old) }
+    ensures transition { (got : List ℕ) × Consumes (R.rest r.old) (R.rest r.new) got ×
+        ((bounds : Bounds) (given : List ℕ) (es : List Transition) →
+        HeldSoFar bounds h.now given cutter.old promise held.old es →
+        MatchResult result
+        (λ _. (e : Transition) × HeldSoFar bounds h.now (given ++ got) cutter.new promise held.new (es ++ e ∷ []))
+        (Refuses bounds (given ++ got) (R.rest r.new) (R.failures r.new))) }
+    ensures end { OnOk result (IsTrue cutter.new.over → IsAtEnd (R.rest r.new)) }
+    ensures sound { OnOk result (R.failures r.new ≡ 0) }
+    ensures len { OnOk result (vec_len held.new.triples ≡ vec_len held.old.triples + 1) }
+    ensures few { OnOk result (length held.new.labels ≤ vec_len held.new.triples) }
+{
+    let Some((source, label, target, rest)) = transition_in_front(cutter.ahead()) else {
+        return read_any_transition(cutter, r, promise, h, held);
+    };
+    if source >= u64::from(promise.states) || target >= u64::from(promise.states) {
+        return read_any_transition(cutter, r, promise, h, held);
+    }
+    let left = rest.len();
+    let is_added = held.add_if_label(
+        source as u32,
+        h.shown(label),
+        target as u32,
+        promise.transitions,
+    )?;
+    if !is_added {
+        return read_any_transition(cutter, r, promise, h, held);
+    }
+    cutter.pass(left);
+    Ok(())
+}
+
+/// The same for any line.
+#[inline(never)]
+fn read_any_transition<R: Source>(
     cutter: &mut Cutter,
     r: &mut R,
     promise: Promise,

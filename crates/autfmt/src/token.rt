@@ -1,9 +1,9 @@
 //! The tokens of one line: of a header, of a transition, of a line of a hide list.
 
-ghost use Rattle.std.specs.Prelude.{◌≡◌, ◌≢◌, ℕ, ◌<◌, ◌≤◌, ◌^◌, List, ◌++◌, length, slice_index, decimal, IfSome, IfNone};
+ghost use Rattle.std.specs.Prelude.{◌≡◌, ◌≢◌, ℕ, ◌<◌, ◌≤◌, ◌^◌, List, length, slice_index, IfSome, IfNone};
 ghost use Rattle.theory.specs.System.{IsLabel};
 ghost use Rattle.autfmt.specs.Grammar.{Header, TransitionLine, HideLine, is_letter};
-ghost use Rattle.autfmt.specs.Reading.{IsSeenAs, is_blank, is_word, after_blanks, past, number_at, word_len, more_digits, plain_at, last_quote, quoted_at, label_at, are_blanks, past_des, number_then, header_at, ending_at, UsualEnding, transition_at, hide_line_at};
+ghost use Rattle.autfmt.specs.Reading.{IsSeenAs, is_blank, is_word, after_blanks, past, number_at, word_len, more_digits, plain_at, last_quote, quoted_at, label_at, are_blanks, past_des, number_then, header_at, ending_at, transition_at, hide_line_at};
 
 use lts::is_label;
 
@@ -64,58 +64,16 @@ fn transition_in(line: &[u8]) -> Option<(u64, &[u8], u64)>
     Some((source, label, target))
 }
 
-/// The label and the target at the end of a transition. The usual form is tried first: up to 1.4 times as fast.
-#[inline(always)]
+/// The label and the target at the end of a transition.
 #[tactic(auto, unfolding(crate::specs::Reading::ending_at))]
 fn ending_in(line: &[u8]) -> Option<(&[u8], u64)>
     ensures { IsSeenAs (λ x. (x.0.now, x.1)) result (ending_at line.now) }
 {
-    if let Some((label, target)) = usual_ending(line) {
-        return Some((label, target));
-    }
     let (label, rest) = label_at(line)?;
     let rest = past(b',', after_blanks(rest))?;
     let (target, rest) = number_then(b')', rest)?;
     if are_blanks(rest) {
         Some((label, target))
-    } else {
-        None
-    }
-}
-
-/// The same, read from the right, if the line ends as lines mostly do, `"label", 12)`; None if it may end otherwise.
-#[inline(always)]
-fn usual_ending(line: &[u8]) -> Option<(&[u8], u64)>
-    ensures { IfSome result (λ x. UsualEnding line.now x.0.now x.1) }
-{
-    let [b'"', rest @ .., b')'] = line else {
-        return None;
-    };
-    let (before, target) = number_before(rest)?;
-    match before {
-        [label @ .., b'"', b',', b' '] if is_label(label) => Some((label, target)),
-        _ => None,
-    }
-}
-
-/// What is before the number at the end, and that number; None if it has no digit, a tenth one or a zero in front.
-#[inline(always)]
-fn number_before(line: &[u8]) -> Option<(&[u8], u64)>
-    ensures { IfSome result (λ x. (x.1 < 10 ^ 10) × (line.now ≡ x.0.now ++ decimal x.1)) }
-{
-    let mut value = 0;
-    let mut unit = 1;
-    let mut front = line;
-    while let [before @ .., digit @ b'0'..=b'9'] = front {
-        if unit > 100_000_000 {
-            return None;
-        }
-        value += unit * u64::from(*digit - b'0');
-        unit *= 10;
-        front = before;
-    }
-    if unit > 1 && 10 * value >= unit {
-        Some((front, value))
     } else {
         None
     }
@@ -153,7 +111,7 @@ fn past_des(line: &[u8]) -> Option<&[u8]>
 
 /// What follows the mark, if it is the first byte.
 #[tactic(auto, unfolding(crate::specs::Reading::past))]
-fn past(mark: u8, line: &[u8]) -> Option<&[u8]>
+pub(crate) fn past(mark: u8, line: &[u8]) -> Option<&[u8]>
     ensures { IsSeenAs (λ r. r.now) result (past mark line.now) }
 {
     match line {
@@ -273,8 +231,9 @@ fn last_quote(line: &[u8]) -> Option<usize>
 }
 
 /// A plain label in front, and what follows it.
+#[inline(always)]
 #[tactic(auto, unfolding(crate::specs::Reading::plain_at))]
-fn plain_at(line: &[u8]) -> Option<(&[u8], &[u8])>
+pub(crate) fn plain_at(line: &[u8]) -> Option<(&[u8], &[u8])>
     ensures { IsSeenAs (λ x. (x.0.now, x.1.now)) result (plain_at line.now) }
 {
     let [first, ..] = line else {
@@ -289,6 +248,7 @@ fn plain_at(line: &[u8]) -> Option<(&[u8], &[u8])>
 }
 
 /// How many letters and digits there are in front.
+#[inline(always)]
 fn word_len(line: &[u8]) -> usize
     ensures value { result ≡ word_len line.now }
     ensures within { result ≤ length line.now }

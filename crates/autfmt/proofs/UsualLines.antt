@@ -1,0 +1,179 @@
+-- A transition line as programs mostly write it, in front of other bytes.
+use Rattle.std.proofs.Common.{◌≡◌, ◌≢◌, ℕ, suc, ◌+◌, ◌*◌, ◌^◌, ◌<◌, ◌≤◌, true, false, not, cond, eqb, List, [], ◌∷◌, ◌++◌, length, get_or, take, drop, map, codes, decimal, Some, refl, sym, ap, subst, ◌∙◌, inl, inr, append_assoc, append-nil, length-append, Bool, arith}
+use Rattle.std.specs.Char.{is_ascii_digit}
+use Rattle.std.specs.List.{prefix_len}
+use lib.Count.{count_trailing_zeros}
+use lib.Lanes.{chunk, mask_l}
+use Rattle.std.specs.Str.Parse.{digits_value}
+use Rattle.std.proofs.lemmas.Bool.{cases_lt, eqb-true}
+use Rattle.std.proofs.lemmas.Simd.{length-chunk, trailing_mask_l, run_in_chunk_stops}
+use Rattle.std.proofs.lemmas.Fmt.{decimal-digits_value, length-decimal-le}
+use Rattle.std.proofs.lemmas.Str.Parse.{IsNumeralModel, numerals_by_value, tells_by_index, digits_value_short}
+use Rattle.std.proofs.lemmas.List.{take-take, get_or-take, length-take-le, take-append-drop, drop_more}
+use Rattle.std.proofs.lemmas.List.Elements.{All-weaker}
+use Rattle.std.proofs.lemmas.List.Sums.{prefix_len_passes}
+use Rattle.theory.specs.System.{IsLabel}
+use Rattle.autfmt.specs.Grammar.{Blanks, Spaced, Label, quoted}
+use Rattle.autfmt.specs.Texts.{IsOneLine, IsShort}
+use Rattle.autfmt.specs.Cutter.{Cutting, CutsLine}
+use Rattle.autfmt.specs.Reading.{past, plain_at}
+use Rattle.autfmt.specs.Usual.{AreDigitsInFront, BeginsWithNumber, FollowsComma, HasMark, BeginsWithLabel, BeginsWithTransition}
+use Rattle.autfmt.proofs.Numbers.{digit-range}
+use Rattle.autfmt.proofs.Labels.{quoted-append}
+use Rattle.autfmt.proofs.PlainLabels.{IsLabel-plain, plain_at-takes}
+use Rattle.autfmt.proofs.Lines.{past-takes}
+use Rattle.autfmt.proofs.ReadBack.{Visible, one_line, visible_append, visible_decimal, literal, IsSpaced, next, none, a_space, closed}
+
+-- ---- numbers
+
+abbrev AreDigits : List ℕ → Type 0
+AreDigits ds = (i : ℕ) → i < length ds → (48 ≤ get_or ds i 0) × (get_or ds i 0 ≤ 57)
+
+numerals : IsNumeralModel AreDigits (digits_value 10)
+numerals = numerals_by_value AreDigits tells_by_index
+
+digits_in_front : (n : ℕ) (bytes : List ℕ) → n ≤ length bytes → n ≤ prefix_len is_ascii_digit bytes → AreDigits (take n bytes)
+digits_in_front n bytes within digits i h =
+    let below : i < n = omega (arith, length-take-le n bytes within) in
+    let e = get_or-take n bytes i 0 below in
+    let range = digit-range (get_or bytes i 0) (prefix_len_passes is_ascii_digit bytes i 0 (omega arith)) in
+    (omega (arith, e, range.0), omega (arith, e, range.1))
+
+-- the digits that were found in the first eight bytes
+pub number_in_front : (bytes : List ℕ) (n v : ℕ) → AreDigitsInFront bytes n v → (1 < n → get_or bytes 0 0 ≢ 48) → BeginsWithNumber bytes v (drop n bytes)
+number_in_front bytes n v found leads =
+    let count = found.count in
+    let few = found.few in
+    let size = length-take-le 8 bytes found.room in
+    let ds = take n (take 8 bytes) in
+    let long : length ds ≡ n = length-take-le n (take 8 bytes) (omega arith) in
+    let digits = digits_in_front n (take 8 bytes) (omega arith) (omega arith) in
+    let small : digits_value 10 ds < 10 ^ 7 = digits_value_short numerals ds 7 digits (omega arith) in
+    let is : v ≡ digits_value 10 ds = found.value in
+    let same : ds ≡ take n bytes = take-take n 8 bytes (omega arith) in
+    let first : get_or ds 0 0 ≡ get_or bytes 0 0 = ap (λ (t : List ℕ). get_or t 0 0) same ∙ get_or-take n bytes 0 0 found.some in
+    let lone : get_or ds 0 0 ≡ 48 → length ds ≡ 1 =
+    λ e. elim (cases_lt 1 n) [ inl l ↦ absurd (leads l (sym first ∙ e)) | inr g ↦ omega arith ] in
+    let written : decimal (digits_value 10 ds) ≡ ds = decimal-digits_value numerals ds digits (omega (arith, found.some)) lone (omega arith) in
+    (omega (arith, is), sym (take-append-drop n bytes) ∙ ap (λ (t : List ℕ). t ++ drop n bytes) (sym same ∙ sym written ∙ ap decimal (sym is)))
+
+-- ---- labels
+
+-- a mask with a bit set: a lane passes the test
+lane_passes : (p : ℕ → Bool) (xs : List ℕ) → 0 < mask_l (map p xs) → prefix_len (λ x. not (p x)) xs < length xs
+lane_passes p [] some = absurd (omega arith)
+lane_passes p (x ∷ xs) some = step (p x) (mask_l (map p xs)) (prefix_len (λ y. not (p y)) xs) (length xs) some (lane_passes p xs)
+  where
+    step : (b : Bool) (n t l : ℕ) → 0 < cond b 1 0 + 2 * n → (0 < n → t < l) → cond (not b) (1 + t) 0 < suc l
+    step true n t l some f = omega arith
+    step false n t l some f = omega (arith, f (omega arith))
+
+-- the lowest bit of a comparison of sixteen bytes: one of them is the byte there
+pub byte_in_lanes : (bytes : List ℕ) (i byte mask : ℕ) → i + 16 ≤ length bytes → mask ≡ mask_l (map (λ x. eqb x byte) (chunk i 16 bytes)) → 0 < mask
+    → (i + count_trailing_zeros 64 mask < length bytes) × (get_or bytes (i + count_trailing_zeros 64 mask) 0 ≡ byte)
+byte_in_lanes bytes i byte mask room is some =
+    let v = chunk i 16 bytes in
+    let long = length-chunk i 16 bytes room in
+    let passes : ℕ → Bool = λ x. eqb x byte in
+    let some_lane = subst (λ (n : ℕ). 0 < n) is some in
+    let first = ap (count_trailing_zeros 64) is ∙ trailing_mask_l passes 64 v (omega (arith, long)) some_lane in
+    let short : count_trailing_zeros 64 mask < 16 = omega (arith, first, long, lane_passes passes v some_lane) in
+    (omega (arith, short), eqb-true _ _ (run_in_chunk_stops passes bytes i 16 _ 0 room first short))
+
+-- the bytes up to a quotation mark
+pub quoted_in_front : (bytes inside a rest : List ℕ) (n : ℕ) → 0 < length bytes → get_or bytes 0 0 ≡ 34 → inside ≡ drop 1 bytes → HasMark inside n → a ≡ take n inside → rest ≡ drop (n + 1) inside
+    → IsLabel a → BeginsWithLabel bytes a rest
+quoted_in_front bytes inside a rest n room mark behind (within, closed) front back label =
+    let begin : bytes ≡ 34 ∷ inside = drop_more bytes 0 0 room ∙ ap (λ (b : ℕ). b ∷ drop 1 bytes) mark ∙ ap (λ (t : List ℕ). 34 ∷ t) (sym behind) in
+    let close : drop n inside ≡ 34 ∷ rest = drop_more inside n 0 within ∙ ap (λ (b : ℕ). b ∷ drop (n + 1) inside) closed ∙ ap (λ (t : List ℕ). 34 ∷ t) (sym back) in
+    let cut : inside ≡ a ++ 34 ∷ rest = sym (take-append-drop n inside) ∙ ap (λ (t : List ℕ). t ++ drop n inside) (sym front) ∙ ap (λ (t : List ℕ). a ++ t) close in
+    (quoted a, inr (label, refl), begin ∙ ap (λ (t : List ℕ). 34 ∷ t) cut ∙ sym (quoted-append a rest))
+
+-- the same of a plain one
+pub plain_in_front : (bytes a rest : List ℕ) → plain_at bytes ≡ Some (a, rest) → BeginsWithLabel bytes a rest
+plain_in_front bytes a rest e = let h = plain_at-takes bytes a rest e in (a, inl (h.0, refl), h.1)
+
+-- ---- whole lines
+
+seen_label : (a : List ℕ) → IsLabel a → Visible a
+seen_label a is = record { each = All-weaker (λ b. (32 ≤ b) × (b ≤ 126)) (λ b. 32 ≤ b) (λ b h. h.0) a is.printable }
+
+seen_spelling : (spelling a : List ℕ) → Label spelling a → Visible spelling × (length spelling ≤ 8002)
+seen_spelling spelling a (inl h) = let is = IsLabel-plain a h.0 in rw h.1 (seen_label a is, omega (arith, is.short))
+seen_spelling spelling a (inr h) =
+    let mark = literal (codes "\"") refl in
+    rw h.1 (visible_append (visible_append mark (seen_label a h.0)) mark, omega (arith, h.0.short, length-append a (codes "\"")))
+
+-- a comma and one space at most, after which the rest comes
+record IsComma (bytes rest : List ℕ) : Type 0 where
+  space : List ℕ
+  blank : Blanks space
+  seen : Visible space
+  short : length space ≤ 1
+  parts : bytes ≡ codes "," ++ (space ++ rest)
+
+is_comma : (bytes rest : List ℕ) → FollowsComma bytes rest → IsComma bytes rest
+is_comma bytes rest (inl e) = record { space = []; blank = none; seen = literal [] refl; short = omega arith; parts = e }
+is_comma bytes rest (inr e) = record { space = codes " "; blank = a_space; seen = literal (codes " ") refl; short = omega arith; parts = e }
+
+pub with_space : (bytes between rest : List ℕ) → bytes ≡ 44 ∷ between → 0 < length between → get_or between 0 0 ≡ 32 → rest ≡ drop 1 between → FollowsComma bytes rest
+with_space bytes between rest e room space behind =
+    let parts : between ≡ 32 ∷ rest = drop_more between 0 0 room ∙ ap (λ (b : ℕ). b ∷ drop 1 between) space ∙ ap (λ (t : List ℕ). 32 ∷ t) (sym behind) in
+    inr (e ∙ ap (λ (t : List ℕ). 44 ∷ t) parts)
+
+abbrev spelled_line : ℕ → List ℕ → List ℕ → List ℕ → ℕ → List ℕ
+spelled_line s b spelling d t = codes "(" ++ decimal s ++ codes "," ++ b ++ spelling ++ codes "," ++ d ++ decimal t ++ codes ")"
+
+spelled_line-one : (s t : ℕ) (b d spelling a : List ℕ) → s < 10 ^ 10 → t < 10 ^ 10 → Visible b → Visible d → Label spelling a → IsOneLine (spelled_line s b spelling d t)
+spelled_line-one s t b d spelling a source target before between is =
+    let comma = literal (codes ",") refl in
+    let first = visible_append (visible_append (visible_append (literal (codes "(") refl) (visible_decimal s (omega arith))) comma) before in
+    let second = visible_append (visible_append (visible_append first (seen_spelling spelling a is).0) comma) between in
+    one_line _ (visible_append (visible_append second (visible_decimal t (omega arith))) (literal (codes ")") refl))
+
+spelled_line-short : (s t : ℕ) (b d spelling a : List ℕ) → s < 10 ^ 10 → t < 10 ^ 10 → length b ≤ 1 → length d ≤ 1 → Label spelling a → IsShort (spelled_line s b spelling d t)
+spelled_line-short s t b d spelling a source target before between is =
+    simp length-append (omega (arith, length-decimal-le 10 s (omega arith) source (omega arith), length-decimal-le 10 t (omega arith) target (omega arith), (seen_spelling spelling a is).1))
+
+-- a comma, blanks and a token, and then what follows
+after_comma : {rest : List ℕ} {tokens : List (List ℕ)} (blanks token : List ℕ) → Blanks blanks → IsSpaced tokens rest → IsSpaced (codes "," ∷ token ∷ tokens) (codes "," ++ (blanks ++ token ++ rest))
+after_comma blanks token blank s = next [] (codes ",") none (next blanks token blank s)
+
+spaced_line : (s b l d t : List ℕ) → Blanks b → Blanks d
+    → Spaced (codes "(" ∷ s ∷ codes "," ∷ l ∷ codes "," ∷ t ∷ codes ")" ∷ []) (codes "(" ++ s ++ codes "," ++ b ++ l ++ codes "," ++ d ++ t ++ codes ")")
+spaced_line s b l d t before between =
+    let nested = next [] (codes "(") none (next [] s none (after_comma b l before (after_comma d t between closed))) in
+    subst (Spaced (codes "(" ∷ s ∷ codes "," ∷ l ∷ codes "," ∷ t ∷ codes ")" ∷ [])) (simp append_assoc) nested.spaced
+
+-- the tokens and marks that were found one after the other
+pub transition_in_front : (bytes r0 r1 r2 r3 r4 r5 r6 r7 : List ℕ) (s : ℕ) (a : List ℕ) (t : ℕ) → past 40 bytes ≡ Some r0 → BeginsWithNumber r0 s r1 → FollowsComma r1 r2 → BeginsWithLabel r2 a r3
+    → FollowsComma r3 r4 → BeginsWithNumber r4 t r5 → past 41 r5 ≡ Some r6 → past 10 r6 ≡ Some r7 → BeginsWithTransition bytes s a t r7
+transition_in_front bytes r0 r1 r2 r3 r4 r5 r6 r7 s a t e0 source e1 (spelling, label, e2) e3 target e5 e6 =
+    let b = is_comma r1 r2 e1 in
+    let d = is_comma r3 r4 e3 in
+    let end : r5 ≡ codes ")" ++ 10 ∷ r7 = past-takes 41 r5 r6 e5 ∙ ap (λ (x : List ℕ). 41 ∷ x) (past-takes 10 r6 r7 e6) in
+    let tail : r3 ≡ codes "," ++ (d.space ++ (decimal t ++ (codes ")" ++ 10 ∷ r7))) = d.parts ∙ ap (λ (x : List ℕ). codes "," ++ (d.space ++ x)) (target.1 ∙ ap (λ (x : List ℕ). decimal t ++ x) end) in
+    let middle : r1 ≡ codes "," ++ (b.space ++ (spelling ++ (codes "," ++ (d.space ++ (decimal t ++ (codes ")" ++ 10 ∷ r7)))))) =
+    b.parts ∙ ap (λ (x : List ℕ). codes "," ++ (b.space ++ x)) (e2 ∙ ap (λ (x : List ℕ). spelling ++ x) tail) in
+    let nested : bytes ≡ codes "(" ++ (decimal s ++ (codes "," ++ (b.space ++ (spelling ++ (codes "," ++ (d.space ++ (decimal t ++ (codes ")" ++ 10 ∷ r7)))))))) =
+    past-takes 40 bytes r0 e0 ∙ ap (λ (x : List ℕ). codes "(" ++ x) (source.1 ∙ ap (λ (x : List ℕ). decimal s ++ x) middle) in
+    record {
+      line = spelled_line s b.space spelling d.space t;
+      whole = nested ∙ simp append_assoc;
+      spelled = (decimal s, spelling, decimal t, (source.0, refl), label, (target.0, refl), spaced_line (decimal s) b.space spelling d.space (decimal t) b.blank d.blank);
+      one = spelled_line-one s t b.space d.space spelling a source.0 target.0 b.seen d.seen label;
+      short = spelled_line-short s t b.space d.space spelling a source.0 target.0 b.short d.short label;
+    }
+
+-- the cutter behind that line
+abbrev pub behind : {bytes : List ℕ} {s : ℕ} {a : List ℕ} {t : ℕ} {rest : List ℕ} → BeginsWithTransition bytes s a t rest → Cutting
+behind {rest = rest} front = record { line = front.line; ahead = rest; over = false }
+
+-- no bytes are got to cut it
+pub cuts_in_front : (bytes : List ℕ) (s : ℕ) (a : List ℕ) (t : ℕ) (rest : List ℕ) → (front : BeginsWithTransition bytes s a t rest) → CutsLine (bytes ++ []) (behind front)
+cuts_in_front bytes s a t rest front = record { one = front.one; short = front.short; behind = inl (refl, append-nil bytes ∙ front.whole) }
+
+-- the source has not come to its end
+pub goes_on_in_front : (bytes : List ℕ) (s : ℕ) (a : List ℕ) (t : ℕ) (rest : List ℕ) (over : Bool) → BeginsWithTransition bytes s a t rest → (over ≡ true → bytes ≡ []) → over ≡ true → ⊥
+goes_on_in_front bytes s a t rest over front ended e =
+    let none : length (front.line ++ 10 ∷ rest) ≡ 0 = ap length (sym front.whole ∙ ended e) in absurd (omega (arith, none, length-append front.line (10 ∷ rest)))

@@ -1,0 +1,19 @@
+use Rattle.std.proofs.Common.{◌∙◌, ap, List, ◌++◌, ◌∷◌, []}
+use Rattle.lts.specs.Lts.{Triple}
+use Rattle.autfmt.proofs.Holding.{Interns-known}
+use Rattle.autfmt.proofs.held.Held.add_if_label.Goals as goal
+
+pub returns-clause-added : goal.returns-clause-added
+returns-clause-added c _ =
+    let n = c.in-Some.number in
+    let numbered = rw c.in-Some.is at c.in_ok-number.ensures.number in
+    let table = rw c.in-Some.is at c.in_ok-number.ensures.table in
+    record {
+      number = n;
+      numbered = numbered;
+      keeps = c.in_ok-number.ensures.keeps;
+      known = Interns-known _ _ c.number_of.new.labels n table c.in_ok-number.ensures.keeps numbered;
+      items =
+          c.push_reserved.ensures.items
+          ∙ ap (λ (es : List Triple). es ++ (c.args.source, n, c.args.target) ∷ []) c.in_ok-make_room.ensures.items;
+    }

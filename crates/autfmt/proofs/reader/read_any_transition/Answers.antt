@@ -1,0 +1,97 @@
+use Rattle.std.proofs.Common.{◌≡◌, List, length, inl, arith}
+use Rattle.std.proofs.lemmas.Result.{err_from_is_err_and}
+use Rattle.theory.specs.System.{Transition, IsAmong}
+use Rattle.autfmt.specs.Held.{Holds}
+use Rattle.autfmt.proofs.Holding.{Holds-add}
+use Rattle.autfmt.proofs.ReaderSteps.{transition_too_long, transition_missing, transition_failed, transition_good, transition_faulty, transition_refused, goes_on, count_held}
+use Rattle.autfmt.proofs.reader.read_any_transition.Given.{Over}
+use Rattle.autfmt.proofs.reader.read_any_transition.Goals as goal
+use Rattle.autfmt.proofs.reader.read_any_transition.Goals.{After-advance, After-shown}
+
+-- as many transitions were read as triples are held
+count : (g : Over) (c : After-advance g) (es : List Transition) → Holds c.args.h.now c.args.promise.states c.args.held.now es →
+    length es ≡ c.len-found.result
+count g c es holds = count_held c.args.h.now c.args.promise.states c.args.held.now es c.len-found.result holds c.len-found.ensures
+
+pub returns-in_err-advance-clause-transition : goal.returns-in_err-advance-clause-transition
+returns-in_err-advance-clause-transition g c =
+    let at = (goal.at.returns-in_err-advance-clause-transition g c).After-advance in
+    let s = c.in_err-advance.ensures.step in
+    let p = err_from_is_err_and c.from_residual.result c.from_residual.ensures.1 in
+    let failed = c.in_err-advance.ensures.failures in (
+      s.0,
+      s.1,
+      λ bounds given es standing. let e = count g at es standing.1 in
+          rw (p.1, p.2) (transition_failed bounds given _ _ es s.0 _ _ standing.0 (omega arith) (inl (omega arith)) failed (goes_on s.2.0) s.2.1),
+    )
+
+pub returns-in-TooLong-clause-transition : goal.returns-in-TooLong-clause-transition
+returns-in-TooLong-clause-transition g c =
+    let at = (goal.at.returns-in-TooLong-clause-transition g c).After-advance in
+    let s = rw c.in-TooLong.is at c.in_ok-advance.ensures.step in
+    let sound = c.in_ok-advance.ensures.failures in (
+      s.0,
+      s.1,
+      λ bounds given es standing.
+          transition_too_long bounds given _ _ es s.0 _ _ _ standing.0 (count g at es standing.1) (omega arith) sound (goes_on s.2.0) s.2.1,
+    )
+
+pub returns-in-End-clause-transition : goal.returns-in-End-clause-transition
+returns-in-End-clause-transition g c =
+    let at = (goal.at.returns-in-End-clause-transition g c).After-advance in
+    let s = rw c.in-End.is at c.in_ok-advance.ensures.step in
+    let sound = c.in_ok-advance.ensures.failures in
+    let end = c.advance.ensures.end c.requires.end in (
+      s.0,
+      s.1,
+      λ bounds given es standing.
+          transition_missing bounds given _ _ _ es s.0 _ _ _ standing.0 (count g at es standing.1) (omega arith) sound end s.2,
+    )
+
+pub returns-in_err-source-clause-transition : goal.returns-in_err-source-clause-transition
+returns-in_err-source-clause-transition g c =
+    let at = (goal.at.returns-in_err-source-clause-transition g c).After-advance in
+    let s = rw c.in-Line.is at c.in_ok-advance.ensures.step in
+    let p = err_from_is_err_and c.from_residual-in_err-source.result c.from_residual-in_err-source.ensures.1 in
+    let bad = rw c.line.ensures at c.in_err-source.ensures.fault in (
+      s.0,
+      s.1,
+      λ bounds given es standing. rw (p.1, p.2)
+          (transition_faulty bounds given _ _ _ es s.0 _ _ _ _ standing.0 (count g at es standing.1) (omega arith)
+          c.in_ok-advance.ensures.failures (goes_on s.2.0) (c.advance.ensures.end c.requires.end) s.2.1 bad c.in_err-source.ensures.kind),
+    )
+
+pub returns-in_err-add-clause-transition : goal.returns-in_err-add-clause-transition
+returns-in_err-add-clause-transition g c =
+    let s = rw c.in-Line.is at c.in_ok-advance.ensures.step in
+    let p = err_from_is_err_and c.from_residual-in_err-add.result c.from_residual-in_err-add.ensures.1 in
+    let end = c.advance.ensures.end c.requires.end in (
+      s.0,
+      s.1,
+      λ bounds given es standing. rw (p.1, p.2)
+          (transition_refused bounds given _ _ _ es s.0 _ _ standing.0 c.in_ok-advance.ensures.failures (goes_on s.2.0) end s.2.1),
+    )
+
+-- the transition that was judged is among the states
+read : (g : Over) (c : After-shown g) → (e : Transition) × IsAmong c.args.promise.states e
+read g c = (
+  record { source = c.in_ok-source.source; label = c.in_ok-source.label.now; target = c.in_ok-source.target },
+  record {
+    source = c.in_ok-source.ensures.among.0;
+    label = c.in_ok-source.ensures.label;
+    target = c.in_ok-source.ensures.among.1;
+  },
+)
+
+pub returns-clause-transition : goal.returns-clause-transition
+unfolding read
+returns-clause-transition g c =
+    let s = rw c.in-Line.is at c.in_ok-advance.ensures.step in
+    let (e, among) = read g (goal.at.returns-clause-transition g c).After-shown in
+    let good = rw c.line.ensures at c.in_ok-source.ensures.good in (
+      s.0,
+      s.1,
+      λ bounds given es standing.
+          let so_far = transition_good bounds given _ _ _ es s.0 e standing.0 (goes_on s.2.0) s.2.1 good among in
+          (e, (so_far, Holds-add _ _ _ _ es e standing.1 among (rw c.shown.ensures.shown at c.in_ok-add.ensures.added))),
+    )
