@@ -2,21 +2,27 @@
 use Rattle.std.proofs.Common.{◌≡◌, ◌⊎◌, ℕ, List, ◌++◌, Option, Some, None, IfSome, inl, inr, ap, refl, sym, subst, arith}
 use Rattle.std.specs.Io.KnownBytes.{Consumes}
 use Rattle.lts.specs.Meter.{Counts}
+use Rattle.theory.specs.System.{System}
 use Rattle.autfmt.specs.Bounds.{Bounds}
 use Rattle.autfmt.specs.declared.fault.Fault.{Fault}
 use Rattle.autfmt.specs.declared.fault.Fault.TheVariants.{Device, Memory}
 use Rattle.autfmt.specs.Faults.{FirstFault}
+use Rattle.autfmt.specs.HideLists.{FirstHideFault, HideReads}
+use Rattle.autfmt.specs.HideOutcomes.{HideRefuses}
+use Rattle.autfmt.specs.HideOutcomes.HideRefuses.{faulty_text as list_fault, failed_source as list_lost, no_memory as list_memory}
 use Rattle.autfmt.specs.Outcomes.{Refuses}
 use Rattle.autfmt.specs.Outcomes.Refuses.{faulty_text, failed_source, no_memory}
 use Rattle.autfmt.specs.Readers.{IsTextFault}
+use Rattle.autfmt.specs.Texts.{Reads}
 use Rattle.autbis.specs.declared.compare.CmpFault.{CmpFault}
 use Rattle.autbis.specs.declared.compare.Side.TheVariants.{First}
-use Rattle.autbis.specs.Comparisons.{BeginsVerdict, CmpFails, HasFaultySide, IsReadable}
+use Rattle.autbis.specs.Comparisons.{BeginsVerdict, CmpFails, HasFaultySide}
 use Rattle.autbis.specs.Comparisons.CmpFails.{first_side, after_first}
 use Rattle.autbis.specs.Comparisons.FailsAfterFirst.{second_side, run_side}
 use Rattle.autbis.specs.Comparisons.NoLine.{no_memory as no_room, failed_sink}
+use Rattle.autbis.specs.Jobs.{IsFaultyList}
 use Rattle.autbis.specs.Reports.{status_of}
-use Rattle.autbis.specs.Runs.{BeginsQuotient, IsFaulty, OfText, Request, RunFails, Used}
+use Rattle.autbis.specs.Runs.{BeginsQuotient, IsFaulty, IsReadable, OfText, Request, RunFails, Used}
 use Rattle.autbis.specs.Runs.RunFails.{not_read, out_of_memory, not_written}
 use Rattle.autbis.proofs.Carried.{all_taken, of_all}
 
@@ -27,11 +33,15 @@ told_whole P given None rest took first = tt
 told_whole P given (Some text) None took first = absurd took
 told_whole P given (Some text) (Some more) took first = subst P (sym took) first
 
--- a text of which this is a fault, and the first one, is faulty
-is_faulty : (bounds : Bounds) (fault : Fault) (told : Option (List ℕ)) → IsTextFault fault → IfSome told (λ text. FirstFault bounds text fault) →
+-- the law that no text reads and has a fault
+abbrev pub NotBoth : Bounds → Type 0
+NotBoth bounds = (text : List ℕ) (A : System) (f : Fault) → Reads bounds text A → ¬ FirstFault bounds text f
+
+-- a text that has a first fault is faulty
+is_faulty : (bounds : Bounds) → NotBoth bounds → (fault : Fault) (told : Option (List ℕ)) → IfSome told (λ text. FirstFault bounds text fault) →
     IfSome told (IsFaulty bounds)
-is_faulty bounds fault None of_text first = tt
-is_faulty bounds fault (Some text) of_text first = (fault, of_text, first)
+is_faulty bounds law fault None first = tt
+is_faulty bounds law fault (Some text) first = λ (A, reads). law text A fault reads first
 
 -- a fault of a text has the status 2
 text_status : (fault : Fault) → IsTextFault fault → status_of fault ≡ 2
@@ -41,12 +51,12 @@ text_status _ h = refl
 
 module _ (bounds : Bounds) (given : List ℕ) (rest : Option (List ℕ)) (failures : ℕ) (fault : Fault) where
   -- with the status 2 the text that was told has a fault
-  pub faulty_told : (told : Option (List ℕ)) → Consumes told rest given → Refuses bounds given rest failures fault →
+  pub faulty_told : NotBoth bounds → (told : Option (List ℕ)) → Consumes told rest given → Refuses bounds given rest failures fault →
       status_of fault ≡ 2 → IfSome told (IsFaulty bounds)
-  faulty_told told took (faulty_text sound of_text first) two =
-      is_faulty bounds fault told of_text (told_whole (λ text. FirstFault bounds text fault) given told rest took first)
-  faulty_told told took (failed_source failed device unknown) two = absurd (omega (arith, ap status_of device, two))
-  faulty_told told took (no_memory sound memory header) two = absurd (omega (arith, ap status_of memory, two))
+  faulty_told law told took (faulty_text sound of_text first) two =
+      is_faulty bounds law fault told (told_whole (λ text. FirstFault bounds text fault) given told rest took first)
+  faulty_told law told took (failed_source failed device unknown) two = absurd (omega (arith, ap status_of device, two))
+  faulty_told law told took (no_memory sound memory header) two = absurd (omega (arith, ap status_of memory, two))
 
   -- with the status 5 the source failed
   pub failed_with_5 : Refuses bounds given rest failures fault → status_of fault ≡ 5 → failures ≡ 1
@@ -63,17 +73,17 @@ module _ (bounds : Bounds) (given : List ℕ) (rest : Option (List ℕ)) (failur
 
 module _ {asked : Request} {first : List ℕ} {one other sink : Used} {at : Counts} {fault : CmpFault} where
   -- with the status 2 one of the texts is faulty
-  pub faulty_side : CmpFails asked first one other sink at fault → Consumes one.before one.after first → status_of fault.fault ≡ 2 →
+  pub faulty_side : NotBoth asked.bounds → CmpFails asked first one other sink at fault → Consumes one.before one.after first → status_of fault.fault ≡ 2 →
       HasFaultySide asked.bounds one.before other.before
-  faulty_side (first_side side refused sound fresh) took two =
-      inl (faulty_told asked.bounds first one.after one.failures fault.fault one.before took refused two)
-  faulty_side (after_first whole second took' (second_side side readable refused sound fresh)) took two = inr (
+  faulty_side law (first_side side refused sound fresh) took two =
+      inl (faulty_told asked.bounds first one.after one.failures fault.fault law one.before took refused two)
+  faulty_side law (after_first whole second took' (second_side side readable refused sound fresh)) took two = inr (
     all_taken one.before one.after first (IsReadable asked.bounds) took whole.at_end readable,
-    faulty_told asked.bounds second other.after other.failures fault.fault other.before took' refused two,
+    faulty_told asked.bounds second other.after other.failures fault.fault law other.before took' refused two,
   )
-  faulty_side (after_first whole second took' (run_side side whole' both counts (no_room memory sound))) took two =
+  faulty_side law (after_first whole second took' (run_side side whole' both counts (no_room memory sound))) took two =
       absurd (omega (arith, ap status_of memory, two))
-  faulty_side (after_first whole second took' (run_side side whole' both counts (failed_sink device failed same verdict begun))) took two =
+  faulty_side law (after_first whole second took' (run_side side whole' both counts (failed_sink device failed same verdict begun))) took two =
       absurd (omega (arith, ap status_of device, two))
 
   -- with 5 the first source failed, or the second one, or the sink
@@ -128,14 +138,14 @@ module _ {asked : Request} {first : List ℕ} {one other sink : Used} {at : Coun
 
 module _ {asked : Request} {given : List ℕ} {source sink : Used} {at : Counts} {fault : Fault} where
   -- with the status 2 a run's text is faulty, and its source did not fail
-  pub faulty_run : RunFails asked given source sink at fault → Consumes source.before source.after given → status_of fault ≡ 2 →
+  pub faulty_run : NotBoth asked.bounds → RunFails asked given source sink at fault → Consumes source.before source.after given → status_of fault ≡ 2 →
       (source.failures ≡ 0) × IfSome source.before (IsFaulty asked.bounds)
-  faulty_run (not_read refused sound fresh) took two = (
+  faulty_run law (not_read refused sound fresh) took two = (
     sound_with_2_or_4 asked.bounds given source.after source.failures fault refused (inl two),
-    faulty_told asked.bounds given source.after source.failures fault source.before took refused two,
+    faulty_told asked.bounds given source.after source.failures fault law source.before took refused two,
   )
-  faulty_run (out_of_memory got memory sound) took two = absurd (omega (arith, ap status_of memory, two))
-  faulty_run (not_written got device failed to begun) took two = absurd (omega (arith, ap status_of device, two))
+  faulty_run law (out_of_memory got memory sound) took two = absurd (omega (arith, ap status_of memory, two))
+  faulty_run law (not_written got device failed to begun) took two = absurd (omega (arith, ap status_of device, two))
 
   -- with 5 its source failed, or its sink
   pub failed_run : RunFails asked given source sink at fault → status_of fault ≡ 5 →
@@ -162,3 +172,20 @@ module _ {asked : Request} {given : List ℕ} {source sink : Used} {at : Counts}
   sound_run (out_of_memory got memory sound) status = (got.exhausted.sound, sound)
   sound_run (not_written got device failed to begun) (inl two) = absurd (omega (arith, ap status_of device, two))
   sound_run (not_written got device failed to begun) (inr four) = absurd (omega (arith, ap status_of device, four))
+
+-- the law that no hide list reads and has a fault
+abbrev pub NotBothOfList : Type 0
+NotBothOfList = (text : List ℕ) (H : List (List ℕ)) (f : Fault) → HideReads text H → ¬ FirstHideFault text f
+
+-- a list that has a first fault is faulty
+is_faulty_list : NotBothOfList → (fault : Fault) (told : Option (List ℕ)) → IfSome told (λ text. FirstHideFault text fault) → IfSome told IsFaultyList
+is_faulty_list law fault None first = tt
+is_faulty_list law fault (Some text) first = λ H reads. law text H fault reads first
+
+-- with the status 2 the hide list that was told is faulty
+pub faulty_list : NotBothOfList → (given : List ℕ) (told rest : Option (List ℕ)) (failures : ℕ) (fault : Fault) → Consumes told rest given →
+    HideRefuses given rest failures fault → status_of fault ≡ 2 → IfSome told IsFaultyList
+faulty_list law given told rest failures fault took (list_fault sound of_text first) two =
+    is_faulty_list law fault told (told_whole (λ text. FirstHideFault text fault) given told rest took first)
+faulty_list law given told rest failures fault took (list_lost failed device unknown) two = absurd (omega (arith, ap status_of device, two))
+faulty_list law given told rest failures fault took (list_memory sound memory) two = absurd (omega (arith, ap status_of memory, two))

@@ -13,7 +13,7 @@ use Rattle.autfmt.specs.declared.fault.Fault.{Fault}
 use Rattle.autfmt.specs.declared.fault.Fault.TheVariants.{Device, Memory}
 use Rattle.autfmt.specs.Outcomes.{Refuses}
 use Rattle.autfmt.specs.Stream.{AppendsBeginning}
-use Rattle.autbis.specs.Runs.{Gains, IsExhausted, IsFaulty, OfText, Request, Used}
+use Rattle.autbis.specs.Runs.{Gains, IsExhausted, IsFaulty, IsReadable, OfText, Request, Used}
 use Rattle.autbis.specs.declared.compare.CmpFault.{CmpFault}
 use Rattle.autbis.specs.declared.compare.Side.TheVariants.{First, Second, Run}
 
@@ -59,10 +59,6 @@ pub record ComparesTo (asked : Request) (first : List ℕ) (one other sink : Use
 abbrev pub ComparesNamed : Request → (first second old new : Option (List ℕ)) → Bool → Type 0
 ComparesNamed asked first second old new same = OfText first (λ one. OfText second (λ other.
     (both : ReadBoth asked.bounds one other) × IsVerdict asked both same × Appends old new (line_of same)))
-
--- the text is that of a system
-abbrev pub IsReadable : Bounds → List ℕ → Type 0
-IsReadable bounds text = (A : System) × Reads bounds text A
 
 -- of two texts, where they are known: the first one is faulty, or it is that of a system and the second one is faulty
 abbrev pub HasFaultySide : Bounds → Option (List ℕ) → Option (List ℕ) → Type 0

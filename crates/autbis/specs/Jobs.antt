@@ -1,14 +1,15 @@
--- A job: which files it opens, and what it does with what they hold.
-use Rattle.std.specs.Prelude.{◌≡◌, ◌⊎◌, ℕ, Bool, true, false, List, [], ◌∷◌, ◌++◌, Option, None, Some, IfSome, option_map, string_bytes}
+-- A job: which files it opens, what it asks of their texts, and what it comes to.
+use Rattle.std.specs.Prelude.{◌≡◌, ◌≢◌, ◌⊎◌, ℕ, Bool, true, false, List, [], ◌∷◌, ◌++◌, Option, None, Some, IfSome, if◌then◌else◌, option_map, string_bytes}
+use Rattle.std.specs.Io.KnownBytes.{Appends}
 use Rattle.theory.specs.declared.relation.Relation.{Relation}
-use Rattle.autfmt.specs.Bounds.{file_bounds}
-use Rattle.autfmt.specs.declared.fault.Fault.{Fault}
-use Rattle.autfmt.specs.HideLists.{FirstHideFault}
-use Rattle.autfmt.specs.HideReaders.{HidesAs, IsHideFault}
-use Rattle.autbis.specs.Comparisons.{ComparesNamed, HasFaultySide}
-use Rattle.autbis.specs.Files.{Name, Opens}
-use Rattle.autbis.specs.Reports.{IsJobStatus}
-use Rattle.autbis.specs.Runs.{IsFaulty, IsMinimised, OfText, Request, Used, asks}
+use Rattle.autfmt.specs.Bounds.{Bounds, file_bounds}
+use Rattle.autfmt.specs.HideLists.{HideReads}
+use Rattle.autfmt.specs.HideReaders.{HidesAs}
+use Rattle.autfmt.specs.Stream.{AppendsBeginning}
+use Rattle.autfmt.specs.Written.{listed}
+use Rattle.autbis.specs.Comparisons.{HasFaultySide, IsVerdict, ReadBoth, line_of}
+use Rattle.autbis.specs.Files.{FilesUsed, Name, Opens, OpensInOrder}
+use Rattle.autbis.specs.Runs.{IsFaulty, MinimisedText, OfText, Request, StreamUsed}
 use Rattle.words.specs.declared.words.Job.{Job}
 use Rattle.words.specs.declared.words.Job.TheVariants.{Min, Cmp}
 
@@ -17,87 +18,112 @@ abbrev pub given : Option Name → List Name
 given None = []
 given (Some name) = name ∷ []
 
--- the files of a job, in the order in which they are opened: its text or texts, and then its hide list
+-- the relation of a job
+abbrev pub relation_of : Job → Relation
+relation_of (Min relation stats hide file) = relation
+relation_of (Cmp relation hide first second) = relation
+
+-- the name of its hide list, if it has one
+abbrev pub hide_of : Job → Option Name
+hide_of (Min relation stats hide file) = option_map string_bytes hide
+hide_of (Cmp relation hide first second) = option_map string_bytes hide
+
+-- the names of its texts; one to minimise that has no name is standard input
+abbrev pub texts_of : Job → List Name
+texts_of (Min relation stats hide file) = given (option_map string_bytes file)
+texts_of (Cmp relation hide first second) = string_bytes first ∷ string_bytes second ∷ []
+
+-- its files, in the order in which they are opened: its texts, and then its hide list
 abbrev pub files_of : Job → List Name
-files_of (Min relation stats hide file) = given (option_map string_bytes file) ++ given (option_map string_bytes hide)
-files_of (Cmp relation hide first second) =
-    string_bytes first ∷ string_bytes second ∷ given (option_map string_bytes hide)
-
--- files are asked for in this order: all of them, or none after the first that cannot be had
-abbrev pub OpensInOrder : List Name → Option (List Name) → Option (List Name) → Type 0
-OpensInOrder files old new = (names later : List Name) × (files ≡ names ++ later) × Opens old new names
-
--- what a file holds, or standard input if none is named
-abbrev pub held_text : (Name → Option (List ℕ)) → Option (List ℕ) → Option Name → Option (List ℕ)
-held_text holds input None = input
-held_text holds input (Some name) = holds name
+files_of job = texts_of job ++ given (hide_of job)
 
 -- the labels to hide are exactly those of the hide list, and none without a list
 abbrev pub HidesNamed : (Name → Option (List ℕ)) → Option Name → List (List ℕ) → Type 0
 HidesNamed holds None H = H ≡ []
 HidesNamed holds (Some name) H = IfSome (holds name) (λ list. HidesAs list H)
 
--- P holds of what is asked by this relation, within the bounds of a file, with the labels of the hide list hidden
-abbrev pub OfRequest : (Name → Option (List ℕ)) → Relation → Option Name → (Request → Type 0) → Type 0
-OfRequest holds rel hide P = (H : List (List ℕ)) × HidesNamed holds hide H × P (asks rel file_bounds H)
+-- what a job asks: its relation, the bounds of a file, and the labels of its hide list, if that is told
+pub record IsAskedBy (holds : Name → Option (List ℕ)) (job : Job) (asked : Request) : Type 0 where
+  pub relation : asked.relation ≡ relation_of job
+  pub bounds : asked.bounds ≡ file_bounds
+  pub hidden : HidesNamed holds (hide_of job) asked.hidden
 
--- a text is minimised so, and known bytes have grown by the text of what it is minimised to
-abbrev pub MinimisesNamed : (Name → Option (List ℕ)) → Relation → Option Name → (text old new : Option (List ℕ)) → Type 0
-MinimisesNamed holds rel hide text old new =
-    OfRequest holds rel hide (λ asked. OfText text (λ bytes. IsMinimised asked bytes old new))
+-- a text to minimise, or two to compare, as far as they are told
+pub data Contents : Type 0 where
+  one : Option (List ℕ) → Contents
+  two : (first second : Option (List ℕ)) → Contents
 
--- a job of comparing ends in this verdict on its files, and known bytes have grown by its line
-abbrev pub ComparesJob : (Name → Option (List ℕ)) → Job → (old new : Option (List ℕ)) → Bool → Type 0
-ComparesJob holds (Min relation stats hide file) old new same = ⊥
-ComparesJob holds (Cmp relation hide first second) old new same = OfRequest holds relation (option_map string_bytes hide)
-    (λ asked. ComparesNamed asked (holds (string_bytes first)) (holds (string_bytes second)) old new same)
+-- a text is what is told of it
+abbrev pub Gives : (told text : Option (List ℕ)) → Type 0
+Gives told text = IfSome told (λ bytes. text ≡ Some bytes)
 
--- the job is done: of what its files and standard input hold, the known bytes have grown by what it asks for
-abbrev pub IsDone : (Name → Option (List ℕ)) → (input : Option (List ℕ)) → Job → (old new : Option (List ℕ)) → Type 0
-IsDone holds input (Min relation stats hide file) old new =
-    MinimisesNamed holds relation (option_map string_bytes hide) (held_text holds input (option_map string_bytes file)) old new
-IsDone holds input (Cmp relation hide first second) old new = ComparesJob holds (Cmp relation hide first second) old new true
+-- the contents are those of the job's texts: what its files hold, or standard input
+abbrev pub AreTextsOf : (Name → Option (List ℕ)) → (input : Option (List ℕ)) → Job → Contents → Type 0
+AreTextsOf holds input (Min relation stats hide None) (one text) = text ≡ input
+AreTextsOf holds input (Min relation stats hide (Some file)) (one text) = Gives (holds (string_bytes file)) text
+AreTextsOf holds input (Cmp relation hide first second) (two a b) =
+    Gives (holds (string_bytes first)) a × Gives (holds (string_bytes second)) b
+AreTextsOf holds input job contents = ⊥
 
--- the text is no hide list: it has a first fault
+-- the bytes are what is to be written of the contents, with this status: the text of the quotient, or the line of the verdict
+abbrev pub IsAnswer : Request → Contents → List ℕ → ℕ → Type 0
+IsAnswer asked (one text) bytes status =
+    OfText text (λ given. (to : MinimisedText asked given) × (bytes ≡ listed to.output) × (status ≡ 0))
+IsAnswer asked (two first second) bytes status = OfText first (λ given. OfText second (λ other.
+    (both : ReadBoth asked.bounds given other) × (same : Bool) × IsVerdict asked both same × (bytes ≡ line_of same)
+    × (status ≡ (if same then 0 else 1))))
+
+-- a text is faulty, if it is told; of two, the second one only if the first is not
+abbrev pub HasFaultyText : Bounds → Contents → Type 0
+HasFaultyText bounds (one text) = IfSome text (IsFaulty bounds)
+HasFaultyText bounds (two first second) = HasFaultySide bounds first second
+
+-- the text is no hide list
 abbrev pub IsFaultyList : List ℕ → Type 0
-IsFaultyList text = (f : Fault) × IsHideFault f × FirstHideFault text f
+IsFaultyList text = (H : List (List ℕ)) → ¬ HideReads text H
 
--- the hide list that is named is faulty, if it is known
+-- the hide list that is named is faulty, if it is told
 abbrev pub HasFaultyList : (Name → Option (List ℕ)) → Option Name → Type 0
 HasFaultyList holds None = ⊥
 HasFaultyList holds (Some name) = IfSome (holds name) IsFaultyList
 
--- the hide list of a job, or a text of it, is faulty, if it is known
-abbrev pub IsFaultyJob : (Name → Option (List ℕ)) → Option (List ℕ) → Job → Type 0
-IsFaultyJob holds input (Min relation stats hide file) = HasFaultyList holds (option_map string_bytes hide)
-    ⊎ IfSome (held_text holds input (option_map string_bytes file)) (IsFaulty file_bounds)
-IsFaultyJob holds input (Cmp relation hide first second) = HasFaultyList holds (option_map string_bytes hide)
-    ⊎ HasFaultySide file_bounds (holds (string_bytes first)) (holds (string_bytes second))
+-- one of these files failed while it was read
+abbrev pub HasLost : {File : Type 0} → (File → ℕ) → List Name → Type 0
+HasLost failures names = (names ≢ []) × (file : _) × (failures file ≡ 1)
 
--- a file could not be opened, or some file failed while it was read
-abbrev pub HasLostFile : {File : Type 0} → (File → ℕ) → Bool → Type 0
-HasLostFile {File} failures refused = (refused ≡ true) ⊎ ((file : File) × (failures file ≡ 1))
+-- a job was given up before its texts were read: its hide list is faulty; memory was refused; or a file could not be opened,
+-- or the hide list failed
+abbrev pub IsGivenUp : {F File : Type 0} → FilesUsed F File → Job → ℕ → Type 0
+IsGivenUp files job status = ((status ≡ 2) × HasFaultyList (files.holds files.old) (hide_of job))
+    ⊎ ((status ≡ 4)
+    ⊎ ((status ≡ 5) × ((files.failures files.new ≡ 1) ⊎ HasLost files.file_failures (given (hide_of job)))))
 
--- a file could not be opened or read, or standard input or the output failed
-abbrev pub HasFailed : {File : Type 0} → (File → ℕ) → Bool → (of_input of_output : ℕ) → Type 0
-HasFailed failures refused of_input of_output = HasLostFile failures refused ⊎ ((of_input ≡ 1) ⊎ (of_output ≡ 1))
+-- what a run came to, as its status tells: its answer was written; a text is faulty, memory was refused or a source was lost,
+-- and the output is as it was; or the output failed, and has a beginning of the answer
+pub data EndsRun {Out : Type 0} (asked : Request) (contents : Contents) (Lost : Type 0) (output : StreamUsed Out) (status : ℕ) : Type 0 where
+  answered : (bytes : List ℕ) → IsAnswer asked contents bytes status → Appends (output.tells output.old) (output.tells output.new) bytes →
+      output.failures output.new ≡ 0 → EndsRun asked contents Lost output status
+  faulty : status ≡ 2 → HasFaultyText asked.bounds contents → output.new ≡ output.old → EndsRun asked contents Lost output status
+  no_memory : status ≡ 4 → output.new ≡ output.old → EndsRun asked contents Lost output status
+  lost : status ≡ 5 → Lost → output.new ≡ output.old → EndsRun asked contents Lost output status
+  cut_short : status ≡ 5 → output.failures output.new ≡ 1 → (bytes : List ℕ) → (wanted : ℕ) → IsAnswer asked contents bytes wanted →
+      AppendsBeginning (output.tells output.old) (output.tells output.new) bytes → EndsRun asked contents Lost output status
 
--- what a job did with files: what they hold, how often each failed, and before and after which names were asked for, as far as
--- they are told, and whether one could not be opened
-pub record FilesUsed (File : Type 0) : Type 0 where
-  pub holds : Name → Option (List ℕ)
-  pub failures : File → ℕ
-  pub asked : Option (List Name)
-  pub now_asked : Option (List Name)
-  pub refused : Bool
-  pub now_refused : Bool
+-- what a job came to: it was given up, and no stream was used; or it was run
+pub data Outcome {F File In Out : Type 0}
+    (files : FilesUsed F File) (input : StreamUsed In) (output : StreamUsed Out) (job : Job) (status : ℕ) : Type 0 where
+  given_up : IsGivenUp files job status → input.new ≡ input.old → output.new ≡ output.old → Outcome files input output job status
+  ran : (asked : Request) → IsAskedBy (files.holds files.old) job asked → (contents : Contents) →
+      AreTextsOf (files.holds files.old) (input.tells input.old) job contents →
+      EndsRun asked contents ((input.failures input.new ≡ 1) ⊎ HasLost files.file_failures (texts_of job)) output status →
+      Outcome files input output job status
 
--- what a job came to, as its status tells: which files were opened, and what the output has gained, or why it has not
-pub record EndsIn {File : Type 0} (files : FilesUsed File) (input output : Used) (status : ℕ) (job : Job) : Type 0 where
-  pub known : IsJobStatus status
-  pub done : status ≡ 0 → IsDone files.holds input.before job output.before output.after
-  pub different : status ≡ 1 → ComparesJob files.holds job output.before output.after false
-  pub faulty : status ≡ 2 → IsFaultyJob files.holds input.before job
-  pub failed : status ≡ 5 → HasFailed files.failures files.now_refused input.failures output.failures
-  pub order : OpensInOrder (files_of job) files.asked files.now_asked
-  pub all_opened : (status ≡ 5) ⊎ (Opens files.asked files.now_asked (files_of job) × (files.now_refused ≡ files.refused))
+-- a job ended in this status: its outcome; the files that it opened; and that nothing failed unless the status is 5
+pub record EndsIn {F File In Out : Type 0}
+    (files : FilesUsed F File) (input : StreamUsed In) (output : StreamUsed Out) (job : Job) (status : ℕ) : Type 0 where
+  pub outcome : Outcome files input output job status
+  pub order : OpensInOrder (files_of job) (files.opened files.old) (files.opened files.new)
+  pub all_opened : files.failures files.new ≡ 0 → Opens (files.opened files.old) (files.opened files.new) (files_of job)
+  pub unread : texts_of job ≢ [] → input.new ≡ input.old
+  pub sound : (status ≡ 5)
+      ⊎ ((files.failures files.new ≡ 0) × (input.failures input.new ≡ 0) × (output.failures output.new ≡ 0))

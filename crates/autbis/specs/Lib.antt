@@ -3,4 +3,5 @@ pub mod Reports
 pub mod Runs
 pub mod Comparisons
 pub mod Jobs
+pub mod Opened
 pub mod Programs

@@ -14,9 +14,7 @@ use Rattle.autfmt.specs.Bounds.{Bounds}
 use Rattle.autfmt.specs.Texts.{Reads}
 use Rattle.autfmt.specs.declared.fault.Fault.{Fault}
 use Rattle.autfmt.specs.declared.fault.Fault.TheVariants.{Device, Memory}
-use Rattle.autfmt.specs.Faults.{FirstFault}
 use Rattle.autfmt.specs.Outcomes.{Refuses}
-use Rattle.autfmt.specs.Readers.{IsTextFault}
 use Rattle.autfmt.specs.Stream.{AppendsBeginning}
 use Rattle.autfmt.specs.Written.{listed, transition_cmp}
 use Rattle.autbis.specs.declared.run.Counts.{Counts}
@@ -36,6 +34,17 @@ pub record Used : Type 0 where
   pub before : Option (List ℕ)
   pub after : Option (List ℕ)
   pub failures : ℕ
+
+-- what a call did with a source or a sink: it before and after, the bytes that it tells, and how often it failed
+pub record StreamUsed (T : Type 0) : Type 0 where
+  pub old : T
+  pub new : T
+  pub tells : T → Option (List ℕ)
+  pub failures : T → ℕ
+
+-- what is said of a source or a sink before and after a call
+abbrev pub stream_used : {T : Type 0} → (T → Option (List ℕ)) → (T → ℕ) → (old new : T) → StreamUsed T
+stream_used tells failures old new = record { old = old; new = new; tells = tells; failures = failures }
 
 -- a source was read to its end, and did not fail
 pub record IsExhausted (source : Used) : Type 0 where
@@ -76,9 +85,13 @@ BeginsQuotient asked text old new = (to : MinimisedText asked text) × AppendsBe
 abbrev pub OfText : Option (List ℕ) → (List ℕ → Type 0) → Type 0
 OfText told P = (text : List ℕ) × IfSome told (λ bytes. bytes ≡ text) × P text
 
--- the text does not read as a system: it has a first fault
+-- the text is that of a system
+abbrev pub IsReadable : Bounds → List ℕ → Type 0
+IsReadable bounds text = (A : System) × Reads bounds text A
+
+-- the text is that of none
 abbrev pub IsFaulty : Bounds → List ℕ → Type 0
-IsFaulty bounds text = (f : Fault) × IsTextFault f × FirstFault bounds text f
+IsFaulty bounds text = ¬ IsReadable bounds text
 
 -- a run read a text to its end, wrote the text of what it is minimised to, and made the rounds that its system takes, each with
 -- a visit of every transition, and at most two visits more of each

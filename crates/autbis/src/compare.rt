@@ -9,7 +9,8 @@ ghost use Rattle.autbis.specs.Comparisons.{CmpFails, ComparesTo, line_of};
 ghost use Rattle.autbis.specs.Runs.{Request, Used};
 ghost use Rattle.autbis.specs.declared.compare.Side.TheVariants.{First, Run};
 
-use autfmt::{Fault, Hidden, Limits, Sink, Source, put_all, read_hiding};
+use crate::reports::put_whole;
+use autfmt::{Fault, Hidden, Limits, Sink, Source, read_hiding};
 use lts::{Lts, Memory, Meter};
 use quotient::{Relation, equivalent};
 use std::alloc::Global;
@@ -121,12 +122,11 @@ fn say<W: Sink>(same: bool, w: &mut W) -> Result<(), CmpFault>
     ensures failures { CountsFailure result (W.failures w.new) }
 {
     let line = if same { "TRUE\n" } else { "FALSE\n" };
-    let put = put_all(w, line.as_bytes());
-    if put.is_ok() && w.finish().is_ok() {
-        return Ok(());
+    match put_whole(line.as_bytes(), w) {
+        Ok(()) => Ok(()),
+        Err(_) => Err(CmpFault {
+            side: Side::Run,
+            fault: Fault::Device,
+        }),
     }
-    Err(CmpFault {
-        side: Side::Run,
-        fault: Fault::Device,
-    })
 }

@@ -1,10 +1,11 @@
 //! The worked examples of whole programs, over files in memory and those of the test.
 ghost use Rattle.std.specs.Prelude.{None};
 
-use super::commands::{Closed, words_of};
+use super::commands::words_of;
 use autbis::{Disk, Opener, main_program};
 use autfmt::{Broken, SliceSource, VecSink};
 use std::alloc::{AllocError, Global};
+use std::marker::Model;
 use std::test::Fail;
 use worked::{LONE_STATE_TEXT, STEP, TWO_EQUAL_TARGETS_TEXT, check};
 
@@ -21,7 +22,15 @@ const FILES: [(&str, &[u8]); 6] = [
 /// What opens these files and no others.
 #[derive(Drop)]
 struct Shelf {
-    has_refused: bool,
+    failed: bool,
+}
+
+impl Model for Shelf {
+    ghost use Rattle.std.specs.Prelude.{ℕ, if◌then◌else◌};
+
+    ghost Value = { ℕ };
+
+    ghost view = { λ shelf. if shelf.failed then 1 else 0 };
 }
 
 impl Opener for Shelf {
@@ -29,7 +38,7 @@ impl Opener for Shelf {
 
     ghost opened = { λ _. None };
 
-    ghost has_refused = { λ shelf. shelf.has_refused };
+    ghost failures = { λ shelf. shelf };
 
     ghost holds = { λ _ _. None };
 
@@ -39,7 +48,7 @@ impl Opener for Shelf {
                 return Ok(SliceSource::new(*text, None));
             }
         }
-        self.has_refused = true;
+        self.failed = true;
         Err(Broken)
     }
 }
@@ -60,7 +69,6 @@ fn ended<F: Opener>(
         files,
         &mut SliceSource::new(TWO_EQUAL_TARGETS_TEXT, None),
         &mut output,
-        &mut Closed,
         &mut said,
     );
     Ok((status, output, said))
@@ -121,7 +129,7 @@ const ENDS: [Ends; 11] = [
 /// Whether the program ends the line of words so.
 fn ends(alloc: Global, row: &Ends) -> Result<bool, AllocError> {
     let (line, status, out, message) = *row;
-    let mut shelf = Shelf { has_refused: false };
+    let mut shelf = Shelf { failed: false };
     let (found, output, said) = ended(&mut shelf, alloc, line)?;
     Ok(found == status && output.bytes() == out && said.as_slice() == message)
 }

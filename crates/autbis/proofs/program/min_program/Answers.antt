@@ -24,7 +24,7 @@ returns-else-stats-clause-sound g c done =
 pub returns-in-Err-clause-faulty : goal.returns-in-Err-clause-faulty
 returns-in-Err-clause-faulty g c two =
     let got = c.in-Err.ensures.outcome in
-    faulty_run got.outcome got.took (sym c.report.ensures.status ∙ two)
+    faulty_run (c.a_text_reads_or_has_a_fault.ensures.not_both c.args.lim.now) got.outcome got.took (sym c.report.ensures.status ∙ two)
 
 pub returns-in-Err-clause-device : goal.returns-in-Err-clause-device
 returns-in-Err-clause-device g c five = elim (failed_run c.in-Err.ensures.outcome.outcome (sym c.report.ensures.status ∙ five)) [
