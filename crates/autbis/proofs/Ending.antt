@@ -1,72 +1,157 @@
--- What a run or a comparison comes to, as its exit status tells.
-use Rattle.std.proofs.Common.{◌≡◌, ◌≢◌, ◌⊎◌, ℕ, Bool, true, false, List, [], ◌∷◌, length, Option, IfSome, if◌then◌else◌, inl, inr, ap, refl, arith}
+-- What a run or a comparison comes to: its answer, which text is faulty, or what failed.
+use Rattle.std.proofs.Common.{◌≡◌, ◌⊎◌, ℕ, Bool, List, ◌∷◌, ◌++◌, length, Option, Some, None, IfSome, if◌then◌else◌, inl, inr, ap, refl, sym, subst, arith}
+use Rattle.std.specs.Io.KnownBytes.{Consumes}
+use Rattle.lts.specs.Meter.{Counts}
+use Rattle.theory.specs.System.{System}
+use Rattle.autfmt.specs.Bounds.{Bounds}
+use Rattle.autfmt.specs.declared.fault.Fault.{Fault}
+use Rattle.autfmt.specs.declared.fault.Fault.TheVariants.{Device, Memory}
+use Rattle.autfmt.specs.Faults.{FirstFault}
+use Rattle.autfmt.specs.HideLists.{FirstHideFault, HideReads}
+use Rattle.autfmt.specs.HideOutcomes.{HideRefuses}
+use Rattle.autfmt.specs.HideOutcomes.HideRefuses.{faulty_text as list_fault, failed_source as list_lost, no_memory as list_memory}
+use Rattle.autfmt.specs.Outcomes.{Refuses}
+use Rattle.autfmt.specs.Outcomes.Refuses.{faulty_text, failed_source, no_memory as refused_memory}
+use Rattle.autfmt.specs.Readers.{IsTextFault}
+use Rattle.autfmt.specs.Texts.{Reads}
 use Rattle.autfmt.specs.Written.{listed}
-use Rattle.autbis.specs.Comparisons.{BeginsVerdict, ComparesNamed, HasFaultySide, line_of}
+use Rattle.autbis.specs.declared.compare.CmpFault.{CmpFault}
+use Rattle.autbis.specs.declared.compare.Side.TheVariants.{First}
+use Rattle.autbis.specs.Comparisons.{CmpFails, ComparesTo, line_of}
+use Rattle.autbis.specs.Comparisons.CmpFails.{first_side, after_first}
+use Rattle.autbis.specs.Comparisons.FailsAfterFirst.{second_side, run_side}
+use Rattle.autbis.specs.Comparisons.NoLine.{no_memory as no_room, failed_sink}
+use Rattle.autbis.specs.Ends.{Contents, EndsRun, HasFaultyText, StreamUsed}
+use Rattle.autbis.specs.Ends.Contents.{one, two}
+use Rattle.autbis.specs.Ends.EndsRun.{answered, faulty, no_memory, lost, cut_short}
 use Rattle.autbis.specs.Files.{Name}
-use Rattle.autbis.specs.Jobs.{EndsRun, HasLost}
-use Rattle.autbis.specs.Jobs.Contents.{one, two}
-use Rattle.autbis.specs.Jobs.EndsRun.{answered, faulty, no_memory, lost, cut_short}
-use Rattle.autbis.specs.Reports.{IsFaultStatus, IsJobStatus}
-use Rattle.autbis.specs.Runs.{BeginsQuotient, IsFaulty, IsMinimised, OfText, Request, StreamUsed}
+use Rattle.autbis.specs.Jobs.{HasLost, IsFaultyList}
+use Rattle.autbis.specs.Reports.{status_of}
+use Rattle.autbis.specs.Runs.{IsFaulty, IsReadable, Request, RunFails, Used}
+use Rattle.autbis.specs.Runs.RunFails.{not_read, out_of_memory, not_written}
+use Rattle.autbis.proofs.Carried.{all_taken, of_all}
+
+-- what holds of the bytes that were taken and of those that are left holds of the text that was told
+told_whole : (P : List ℕ → Type 0) (given : List ℕ) (told rest : Option (List ℕ)) → Consumes told rest given →
+    IfSome rest (λ more. P (given ++ more)) → IfSome told P
+told_whole P given None rest took first = tt
+told_whole P given (Some text) None took first = absurd took
+told_whole P given (Some text) (Some more) took first = subst P (sym took) first
+
+-- the law that no text reads and has a fault
+abbrev pub NotBoth : Bounds → Type 0
+NotBoth bounds = (text : List ℕ) (A : System) (f : Fault) → Reads bounds text A → ¬ FirstFault bounds text f
+
+-- a text that has a first fault is faulty
+is_faulty : (bounds : Bounds) → NotBoth bounds → (fault : Fault) (told : Option (List ℕ)) → IfSome told (λ text. FirstFault bounds text fault) →
+    IfSome told (IsFaulty bounds)
+is_faulty bounds law fault None first = tt
+is_faulty bounds law fault (Some text) first = λ (A, reads). law text A fault reads first
+
+-- a fault of a text has the status 2
+text_status : (fault : Fault) → IsTextFault fault → status_of fault ≡ 2
+text_status Device h = absurd h
+text_status Memory h = absurd h
+text_status _ h = refl
+
+-- the text that was told has a fault, if this one of the bytes that were taken and of those that are left is its first
+faulty_told : (bounds : Bounds) → NotBoth bounds → (given : List ℕ) (told rest : Option (List ℕ)) (fault : Fault) → Consumes told rest given →
+    IfSome rest (λ more. FirstFault bounds (given ++ more) fault) → IfSome told (IsFaulty bounds)
+faulty_told bounds law given told rest fault took first =
+    is_faulty bounds law fault told (told_whole (λ text. FirstFault bounds text fault) given told rest took first)
+
+-- what a source, a sink or a call was used for
+abbrev pub used : {T : Type 0} → StreamUsed T → Used
+used stream = record { before = stream.tells stream.old; after = stream.tells stream.new; failures = stream.failures stream.new }
+
+module _ {Out : Type 0} (asked : Request) (law : NotBoth asked.bounds) (output : StreamUsed Out) where
+  -- a run that read no system of a text
+  ends_unread : {contents : Contents} {Sound Lost : Type 0} (given : List ℕ) (told rest : Option (List ℕ)) (failures : ℕ) (fault : Fault) →
+      Consumes told rest given → output.new ≡ output.old → (failures ≡ 0 → Sound) → (failures ≡ 1 → Lost) →
+      (IfSome told (IsFaulty asked.bounds) → HasFaultyText asked.bounds contents) →
+      Refuses asked.bounds given rest failures fault → EndsRun asked contents Sound Lost output (status_of fault)
+  ends_unread given told rest failures fault took kept sound loses wrong (faulty_text zero of_text first) =
+      faulty (sound zero) (text_status fault of_text) (wrong (faulty_told asked.bounds law given told rest fault took first)) kept
+  ends_unread given told rest failures fault took kept sound loses wrong (failed_source failed device unknown) =
+      lost (loses failed) (ap status_of device) kept
+  ends_unread given told rest failures fault took kept sound loses wrong (refused_memory zero memory header) =
+      no_memory (sound zero) (ap status_of memory) kept
+
+  -- a run that failed
+  pub ends_run : {given : List ℕ} {source : Used} {at : Counts} {fault : Fault} → Consumes source.before source.after given →
+      (output.failures output.new ≡ 0 → output.new ≡ output.old) → RunFails asked given source (used output) at fault →
+      EndsRun asked (one source.before) (source.failures ≡ 0) (source.failures ≡ 1) output (status_of fault)
+  ends_run {given} {source} {at} {fault} took kept (not_read refused sound fresh) =
+      ends_unread given source.before source.after source.failures fault took (kept sound) (λ z. z) (λ z. z) (λ z. z) refused
+  ends_run took kept (out_of_memory got memory sound) = no_memory got.exhausted.sound (ap status_of memory) (kept sound)
+  ends_run {given} {source} took kept (not_written got device failed to begun) =
+      cut_short got.exhausted.sound (ap status_of device) failed (listed to.output) 0
+      (of_all source.before source.after given _ took got.exhausted.at_end (to, refl, refl)) begun
+
+  module _ {first : List ℕ} {source other : Used} {at : Counts} (took : Consumes source.before source.after first) where
+    -- a comparison that came to a verdict
+    pub ends_verdict : {same : Bool} {status : ℕ} {Lost : Type 0} → status ≡ (if same then 0 else 1) →
+        ComparesTo asked first source other (used output) at same →
+        EndsRun asked (two source.before other.before) ((source.failures ≡ 0) × (other.failures ≡ 0)) Lost output status
+    ends_verdict {same} is did = answered (did.exhausted.0.sound, did.exhausted.1.sound) (line_of same)
+        (of_all source.before source.after first _ took did.exhausted.0.at_end
+        (of_all other.before other.after did.second _ did.took did.exhausted.1.at_end (did.both, same, did.verdict, refl, is)))
+        did.written.written did.written.sound
+
+    -- one that failed
+    pub ends_cmp : {fault : CmpFault} (Unread : Type 0) → (fault.side ≡ First → Unread) → (output.failures output.new ≡ 0 → output.new ≡ output.old) →
+        CmpFails asked first source other (used output) at fault →
+        EndsRun asked (two source.before other.before) ((source.failures ≡ 0) × (other.failures ≡ 0))
+        (((source.failures ≡ 1) × Unread) ⊎ ((source.failures ≡ 0) × (other.failures ≡ 1))) output (status_of fault.fault)
+    ends_cmp {fault} Unread unread kept (first_side side refused sound fresh) =
+        ends_unread first source.before source.after source.failures fault.fault took (kept sound.1)
+        (λ zero. (zero, sound.0)) (λ failed. inl (failed, unread side)) inl refused
+    ends_cmp {fault} Unread unread kept (after_first whole second took' (second_side side readable refused sound fresh)) =
+        ends_unread second other.before other.after other.failures fault.fault took' (kept sound)
+        (λ zero. (whole.sound, zero)) (λ failed. inr (whole.sound, failed))
+        (λ wrong. inr (all_taken source.before source.after first (IsReadable asked.bounds) took whole.at_end readable, wrong)) refused
+    ends_cmp Unread unread kept (after_first whole second took' (run_side side whole' both counts (no_room memory sound))) =
+        no_memory (whole.sound, whole'.sound) (ap status_of memory) (kept sound)
+    ends_cmp Unread unread kept (after_first whole second took' (run_side side whole' both counts (failed_sink device failed same verdict begun))) =
+        cut_short (whole.sound, whole'.sound) (ap status_of device) failed (line_of same) (if same then 0 else 1)
+        (of_all source.before source.after first _ took whole.at_end
+        (of_all other.before other.after second _ took' whole'.at_end (both, same, verdict, refl, refl))) begun
+
+    -- its fault is of the first text, or that one reads as a system
+    pub first_or_readable : {fault : CmpFault} → CmpFails asked first source other (used output) at fault →
+        (fault.side ≡ First) ⊎ IfSome source.before (IsReadable asked.bounds)
+    first_or_readable (first_side side refused sound fresh) = inl side
+    first_or_readable (after_first whole second took' (second_side side readable refused sound fresh)) =
+        inr (all_taken source.before source.after first (IsReadable asked.bounds) took whole.at_end readable)
+    first_or_readable (after_first whole second took' (run_side side whole' both counts no_line)) =
+        inr (all_taken source.before source.after first (IsReadable asked.bounds) took whole.at_end (both.one, both.reads_first))
+
+-- what is said of some sources may be said of others, if what is said of those follows
+pub ends_weaker : {Out : Type 0} {asked : Request} {contents : Contents} {Sound Lost Sound' Lost' : Type 0} {output : StreamUsed Out} {status : ℕ} →
+    (Sound → Sound') → (Lost → Lost') → EndsRun asked contents Sound Lost output status → EndsRun asked contents Sound' Lost' output status
+ends_weaker sound loses (answered zero bytes is appends kept) = answered (sound zero) bytes is appends kept
+ends_weaker sound loses (faulty zero is wrong kept) = faulty (sound zero) is wrong kept
+ends_weaker sound loses (no_memory zero is kept) = no_memory (sound zero) is kept
+ends_weaker sound loses (cut_short zero is failed bytes wanted answer begun) = cut_short (sound zero) is failed bytes wanted answer begun
+ends_weaker sound loses (lost failed is kept) = lost (loses failed) is kept
 
 -- a file that has failed is one of those that are named
 pub lost_one : {File : Type 0} (failures : File → ℕ) (name : Name) (more : List Name) (file : File) → failures file ≡ 1 → HasLost failures (name ∷ more)
 lost_one failures name more file failed = (λ none. absurd (omega (arith, ap length none)), file, failed)
 
-module _ {Out : Type 0} (asked : Request) (Lost : Type 0) (output : StreamUsed Out) (status : ℕ) where
-  abbrev before : Option (List ℕ)
-  before = output.tells output.old
+-- the law that no hide list reads and has a fault
+abbrev pub NotBothOfList : Type 0
+NotBothOfList = (text : List ℕ) (H : List (List ℕ)) (f : Fault) → HideReads text H → ¬ FirstHideFault text f
 
-  abbrev after : Option (List ℕ)
-  after = output.tells output.new
+-- a list that has a first fault is faulty
+is_faulty_list : NotBothOfList → (fault : Fault) (told : Option (List ℕ)) → IfSome told (λ text. FirstHideFault text fault) → IfSome told IsFaultyList
+is_faulty_list law fault None first = tt
+is_faulty_list law fault (Some text) first = λ H reads. law text H fault reads first
 
-  pub ends_min : (told : Option (List ℕ)) (failed : ℕ) → (failed ≡ 1 → Lost) → (status ≡ 0) ⊎ IsFaultStatus status
-      → (status ≡ 0 → OfText told (λ text. IsMinimised asked text before after))
-      → (status ≡ 2 → (failed ≡ 0) × IfSome told (IsFaulty asked.bounds))
-      → (status ≡ 5 → ((failed ≡ 1) × (output.new ≡ output.old)) ⊎ ((failed ≡ 0) × (output.failures output.new ≡ 1)))
-      → (status ≡ 5 → failed ≡ 0 → OfText told (λ text. BeginsQuotient asked text before after))
-      → (status ≡ 0 → (failed ≡ 0) × (output.failures output.new ≡ 0))
-      → ((status ≡ 2) ⊎ (status ≡ 4) → (failed ≡ 0) × (output.new ≡ output.old)) → EndsRun asked (one told) Lost output status
-  ends_min told failed loses (inl zero) done wrong device begun sound kept =
-      let got = done zero in
-      answered (listed got.2.0.output) (got.0, got.1, (got.2.0, refl, zero)) got.2.1 (sound zero).1
-  ends_min told failed loses (inr (inl status)) done wrong device begun sound kept = faulty status (wrong status).1 (kept (inl status)).1
-  ends_min told failed loses (inr (inr (inl status))) done wrong device begun sound kept = no_memory status (kept (inr status)).1
-  ends_min told failed loses (inr (inr (inr five))) done wrong device begun sound kept = elim (device five) [
-    | inl source ↦ lost five (loses source.0) source.1
-    | inr sink ↦
-        let got = begun five sink.0 in
-        cut_short five sink.1 (listed got.2.0.output) 0 (got.0, got.1, (got.2.0, refl, refl)) got.2.1
-  ]
-
-  pub ends_cmp : (first second : Option (List ℕ)) (failed failed' : ℕ) (Kept : Type 0) → ((failed ≡ 1) ⊎ (failed' ≡ 1) → Lost) → IsJobStatus status
-      → (status ≡ 0 → ComparesNamed asked first second before after true)
-      → (status ≡ 1 → ComparesNamed asked first second before after false)
-      → (status ≡ 2 → HasFaultySide asked.bounds first second)
-      → (status ≡ 5 → ((failed ≡ 1) × Kept × (output.new ≡ output.old))
-          ⊎ (((failed ≡ 0) × (failed' ≡ 1) × (output.new ≡ output.old))
-          ⊎ ((failed ≡ 0) × (failed' ≡ 0) × (output.failures output.new ≡ 1))))
-      → (status ≡ 5 → failed ≡ 0 → failed' ≡ 0 → BeginsVerdict asked first second before after)
-      → ((status ≡ 0) ⊎ (status ≡ 1) → (failed ≡ 0) × (failed' ≡ 0) × (output.failures output.new ≡ 0))
-      → ((status ≡ 2) ⊎ (status ≡ 4) → (failed ≡ 0) × (failed' ≡ 0) × (output.new ≡ output.old))
-      → EndsRun asked (two first second) Lost output status
-  ends_cmp first second failed failed' Kept loses (inl zero) same different wrong device begun sound kept =
-      let got = same zero in
-      answered (line_of true) (got.0, got.1, (got.2.0, got.2.1, (got.2.2.0, true, got.2.2.1, refl, zero))) got.2.2.2 (sound (inl zero)).2
-  ends_cmp first second failed failed' Kept loses (inr (inl is)) same different wrong device begun sound kept =
-      let got = different is in
-      answered (line_of false) (got.0, got.1, (got.2.0, got.2.1, (got.2.2.0, false, got.2.2.1, refl, is))) got.2.2.2 (sound (inr is)).2
-  ends_cmp first second failed failed' Kept loses (inr (inr (inl status))) same different wrong device begun sound kept =
-      faulty status (wrong status) (kept (inl status)).2
-  ends_cmp first second failed failed' Kept loses (inr (inr (inr (inl status)))) same different wrong device begun sound kept =
-      no_memory status (kept (inr status)).2
-  ends_cmp first second failed failed' Kept loses (inr (inr (inr (inr five)))) same different wrong device begun sound kept = elim (device five) [
-    | inl source ↦ lost five (loses (inl source.0)) source.2
-    | inr later ↦ elim later [
-      | inl source ↦ lost five (loses (inr source.1)) source.2
-      | inr sink ↦
-          let got = begun five sink.0 sink.1 in
-          cut_short five sink.2 (line_of got.2.2.1) (if got.2.2.1 then 0 else 1)
-          (got.0, got.1, (got.2.0, got.2.1, (got.2.2.0, got.2.2.1, got.2.2.2, refl, refl))) got.2.2.3
-    ]
-  ]
+-- with the status 2 the hide list that was told is faulty
+pub faulty_list : NotBothOfList → (given : List ℕ) (told rest : Option (List ℕ)) (failures : ℕ) (fault : Fault) → Consumes told rest given →
+    HideRefuses given rest failures fault → status_of fault ≡ 2 → IfSome told IsFaultyList
+faulty_list law given told rest failures fault took (list_fault sound of_text first) is =
+    is_faulty_list law fault told (told_whole (λ text. FirstHideFault text fault) given told rest took first)
+faulty_list law given told rest failures fault took (list_lost failed device unknown) is = absurd (omega (arith, ap status_of device, is))
+faulty_list law given told rest failures fault took (list_memory sound memory) is = absurd (omega (arith, ap status_of memory, is))

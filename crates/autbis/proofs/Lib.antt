@@ -1,5 +1,4 @@
 pub mod Carried
 pub mod InOrder
 pub mod Comparing
-pub mod Failing
 pub mod Ending

@@ -1,15 +1,13 @@
 -- A job: which files it opens, what it asks of their texts, and what it comes to.
-use Rattle.std.specs.Prelude.{◌≡◌, ◌≢◌, ◌⊎◌, ℕ, Bool, true, false, List, [], ◌∷◌, ◌++◌, Option, None, Some, IfSome, if◌then◌else◌, option_map, string_bytes}
-use Rattle.std.specs.Io.KnownBytes.{Appends}
+use Rattle.std.specs.Prelude.{◌≡◌, ◌≢◌, ◌⊎◌, ℕ, List, [], ◌∷◌, ◌++◌, Option, None, Some, IfSome, option_map, string_bytes}
 use Rattle.theory.specs.declared.relation.Relation.{Relation}
-use Rattle.autfmt.specs.Bounds.{Bounds, file_bounds}
+use Rattle.autfmt.specs.Bounds.{file_bounds}
 use Rattle.autfmt.specs.HideLists.{HideReads}
 use Rattle.autfmt.specs.HideReaders.{HidesAs}
-use Rattle.autfmt.specs.Stream.{AppendsBeginning}
-use Rattle.autfmt.specs.Written.{listed}
-use Rattle.autbis.specs.Comparisons.{HasFaultySide, IsVerdict, ReadBoth, line_of}
+use Rattle.autbis.specs.Ends.{Contents, EndsRun, StreamUsed}
+use Rattle.autbis.specs.Ends.Contents.{one, two}
 use Rattle.autbis.specs.Files.{FilesUsed, Name, Opens, OpensInOrder}
-use Rattle.autbis.specs.Runs.{IsFaulty, MinimisedText, OfText, Request, StreamUsed}
+use Rattle.autbis.specs.Runs.{Request}
 use Rattle.words.specs.declared.words.Job.{Job}
 use Rattle.words.specs.declared.words.Job.TheVariants.{Min, Cmp}
 
@@ -48,11 +46,6 @@ pub record IsAskedBy (holds : Name → Option (List ℕ)) (job : Job) (asked : R
   pub bounds : asked.bounds ≡ file_bounds
   pub hidden : HidesNamed holds (hide_of job) asked.hidden
 
--- a text to minimise, or two to compare, as far as they are told
-pub data Contents : Type 0 where
-  one : Option (List ℕ) → Contents
-  two : (first second : Option (List ℕ)) → Contents
-
 -- a text is what is told of it
 abbrev pub Gives : (told text : Option (List ℕ)) → Type 0
 Gives told text = IfSome told (λ bytes. text ≡ Some bytes)
@@ -64,19 +57,6 @@ AreTextsOf holds input (Min relation stats hide (Some file)) (one text) = Gives 
 AreTextsOf holds input (Cmp relation hide first second) (two a b) =
     Gives (holds (string_bytes first)) a × Gives (holds (string_bytes second)) b
 AreTextsOf holds input job contents = ⊥
-
--- the bytes are what is to be written of the contents, with this status: the text of the quotient, or the line of the verdict
-abbrev pub IsAnswer : Request → Contents → List ℕ → ℕ → Type 0
-IsAnswer asked (one text) bytes status =
-    OfText text (λ given. (to : MinimisedText asked given) × (bytes ≡ listed to.output) × (status ≡ 0))
-IsAnswer asked (two first second) bytes status = OfText first (λ given. OfText second (λ other.
-    (both : ReadBoth asked.bounds given other) × (same : Bool) × IsVerdict asked both same × (bytes ≡ line_of same)
-    × (status ≡ (if same then 0 else 1))))
-
--- a text is faulty, if it is told; of two, the second one only if the first is not
-abbrev pub HasFaultyText : Bounds → Contents → Type 0
-HasFaultyText bounds (one text) = IfSome text (IsFaulty bounds)
-HasFaultyText bounds (two first second) = HasFaultySide bounds first second
 
 -- the text is no hide list
 abbrev pub IsFaultyList : List ℕ → Type 0
@@ -98,32 +78,22 @@ IsGivenUp files job status = ((status ≡ 2) × HasFaultyList (files.holds files
     ⊎ ((status ≡ 4)
     ⊎ ((status ≡ 5) × ((files.failures files.new ≡ 1) ⊎ HasLost files.file_failures (given (hide_of job)))))
 
--- what a run came to, as its status tells: its answer was written; a text is faulty, memory was refused or a source was lost,
--- and the output is as it was; or the output failed, and has a beginning of the answer
-pub data EndsRun {Out : Type 0} (asked : Request) (contents : Contents) (Lost : Type 0) (output : StreamUsed Out) (status : ℕ) : Type 0 where
-  answered : (bytes : List ℕ) → IsAnswer asked contents bytes status → Appends (output.tells output.old) (output.tells output.new) bytes →
-      output.failures output.new ≡ 0 → EndsRun asked contents Lost output status
-  faulty : status ≡ 2 → HasFaultyText asked.bounds contents → output.new ≡ output.old → EndsRun asked contents Lost output status
-  no_memory : status ≡ 4 → output.new ≡ output.old → EndsRun asked contents Lost output status
-  lost : status ≡ 5 → Lost → output.new ≡ output.old → EndsRun asked contents Lost output status
-  cut_short : status ≡ 5 → output.failures output.new ≡ 1 → (bytes : List ℕ) → (wanted : ℕ) → IsAnswer asked contents bytes wanted →
-      AppendsBeginning (output.tells output.old) (output.tells output.new) bytes → EndsRun asked contents Lost output status
-
--- what a job came to: it was given up, and no stream was used; or it was run
+-- what a job came to: it was given up, and no stream was used; or its texts were run
 pub data Outcome {F File In Out : Type 0}
     (files : FilesUsed F File) (input : StreamUsed In) (output : StreamUsed Out) (job : Job) (status : ℕ) : Type 0 where
   given_up : IsGivenUp files job status → input.new ≡ input.old → output.new ≡ output.old → Outcome files input output job status
   ran : (asked : Request) → IsAskedBy (files.holds files.old) job asked → (contents : Contents) →
       AreTextsOf (files.holds files.old) (input.tells input.old) job contents →
-      EndsRun asked contents ((input.failures input.new ≡ 1) ⊎ HasLost files.file_failures (texts_of job)) output status →
+      EndsRun asked contents (input.failures input.new ≡ 0)
+      ((input.failures input.new ≡ 1) ⊎ HasLost files.file_failures (texts_of job)) output status →
       Outcome files input output job status
 
--- a job ended in this status: its outcome; the files that it opened; and that nothing failed unless the status is 5
+-- a job ended in this status: its outcome, and the files that it asked for; if none was refused, all of them, and if one was, the
+-- status is 5; standard input is read only if no text is named
 pub record EndsIn {F File In Out : Type 0}
     (files : FilesUsed F File) (input : StreamUsed In) (output : StreamUsed Out) (job : Job) (status : ℕ) : Type 0 where
   pub outcome : Outcome files input output job status
   pub order : OpensInOrder (files_of job) (files.opened files.old) (files.opened files.new)
   pub all_opened : files.failures files.new ≡ 0 → Opens (files.opened files.old) (files.opened files.new) (files_of job)
+  pub sound : (status ≡ 5) ⊎ (files.failures files.new ≡ 0)
   pub unread : texts_of job ≢ [] → input.new ≡ input.old
-  pub sound : (status ≡ 5)
-      ⊎ ((files.failures files.new ≡ 0) × (input.failures input.new ≡ 0) × (output.failures output.new ≡ 0))

@@ -1,8 +1,9 @@
 -- What a job names, once it is open.
 use Rattle.std.specs.Prelude.{◌≡◌, ℕ, List, [], ◌∷◌, Option, ⊤}
+use Rattle.autbis.specs.Ends.{Contents}
+use Rattle.autbis.specs.Ends.Contents.{one, two}
 use Rattle.autbis.specs.Files.{Name}
-use Rattle.autbis.specs.Jobs.{AreTextsOf, Contents, HidesNamed, hide_of, relation_of, texts_of}
-use Rattle.autbis.specs.Jobs.Contents.{one, two}
+use Rattle.autbis.specs.Jobs.{AreTextsOf, HidesNamed, hide_of, relation_of, texts_of}
 use Rattle.autbis.specs.declared.opening.Opened.{Opened}
 use Rattle.autbis.specs.declared.opening.Texts.{Texts}
 use Rattle.autbis.specs.declared.opening.Texts.TheVariants.{Input, One, Two}

@@ -5,10 +5,10 @@ use Rattle.std.specs.IoError.{error_kind}
 use Rattle.std.specs.declared.io.Error.{Error}
 use Rattle.std.specs.declared.io.ErrorKind.TheVariants.{OutOfMemory}
 use Rattle.autfmt.specs.Stream.{AppendsBeginning}
+use Rattle.autbis.specs.Ends.{StreamUsed}
 use Rattle.autbis.specs.Files.{FilesUsed}
 use Rattle.autbis.specs.Jobs.{EndsIn}
 use Rattle.autbis.specs.Reports.{word_status}
-use Rattle.autbis.specs.Runs.{StreamUsed}
 use Rattle.words.specs.declared.words.Job.{Job}
 use Rattle.words.specs.declared.words.WordFault.{WordFault}
 use Rattle.words.specs.declared.words.WordFault.TheVariants as fault

@@ -16,10 +16,6 @@ status_of _ = 2
 abbrev pub IsFaultStatus : ℕ → Type 0
 IsFaultStatus status = (status ≡ 2) ⊎ ((status ≡ 4) ⊎ (status ≡ 5))
 
--- the exit status of a job: 1 only if it compared two systems that are not equivalent
-abbrev pub IsJobStatus : ℕ → Type 0
-IsJobStatus status = (status ≡ 0) ⊎ ((status ≡ 1) ⊎ IsFaultStatus status)
-
 -- the exit status of a fault of the words: 3 if they ask for no job, 4 for memory; help is none
 abbrev pub word_status : WordFault → ℕ
 word_status (word.Usage text) = 3

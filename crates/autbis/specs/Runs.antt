@@ -35,17 +35,6 @@ pub record Used : Type 0 where
   pub after : Option (List ℕ)
   pub failures : ℕ
 
--- what a call did with a source or a sink: it before and after, the bytes that it tells, and how often it failed
-pub record StreamUsed (T : Type 0) : Type 0 where
-  pub old : T
-  pub new : T
-  pub tells : T → Option (List ℕ)
-  pub failures : T → ℕ
-
--- what is said of a source or a sink before and after a call
-abbrev pub stream_used : {T : Type 0} → (T → Option (List ℕ)) → (T → ℕ) → (old new : T) → StreamUsed T
-stream_used tells failures old new = record { old = old; new = new; tells = tells; failures = failures }
-
 -- a source was read to its end, and did not fail
 pub record IsExhausted (source : Used) : Type 0 where
   pub at_end : IsAtEnd source.after
@@ -72,18 +61,6 @@ pub record MinimisedText (asked : Request) (text : List ℕ) : Type 0 where
   pub minimises : Minimises asked.relation (Hide asked.hidden input) output
   pub sorted : IsSorted transition_cmp output.transitions
   pub read_again : Reads asked.bounds (listed output) output
-
--- known bytes have grown by the text of what the text is minimised to
-abbrev pub IsMinimised : Request → List ℕ → (old new : Option (List ℕ)) → Type 0
-IsMinimised asked text old new = (to : MinimisedText asked text) × Appends old new (listed to.output)
-
--- known bytes have grown by a beginning of the text of what the text is minimised to
-abbrev pub BeginsQuotient : Request → List ℕ → (old new : Option (List ℕ)) → Type 0
-BeginsQuotient asked text old new = (to : MinimisedText asked text) × AppendsBeginning old new (listed to.output)
-
--- P holds of a text: the one that a source tells, or some text if it tells none
-abbrev pub OfText : Option (List ℕ) → (List ℕ → Type 0) → Type 0
-OfText told P = (text : List ℕ) × IfSome told (λ bytes. bytes ≡ text) × P text
 
 -- the text is that of a system
 abbrev pub IsReadable : Bounds → List ℕ → Type 0

@@ -1,11 +1,12 @@
 //! A job from its words to its exit status, over any files and streams.
 ghost use Rattle.std.specs.Prelude.{◌≡◌, ◌≢◌, ◌⊎◌, [], IfOk, IfErr, IsErrAnd, map, string_bytes};
 ghost use Rattle.autfmt.specs.Bounds.{file_bounds};
+ghost use Rattle.autbis.specs.Ends.{EndsRun, stream_used};
 ghost use Rattle.autbis.specs.Files.{files_used};
-ghost use Rattle.autbis.specs.Jobs.{EndsIn, EndsRun, HasLost};
+ghost use Rattle.autbis.specs.Jobs.{EndsIn, HasLost};
 ghost use Rattle.autbis.specs.Opened.{AreSound, contents_of, names_of};
 ghost use Rattle.autbis.specs.Programs.{AnswersWords, IsUnread};
-ghost use Rattle.autbis.specs.Runs.{asks, stream_used};
+ghost use Rattle.autbis.specs.Runs.{asks};
 ghost use Rattle.words.specs.Words.{IsFaultOf, IsJobOf};
 
 use crate::opener::Opener;
@@ -102,11 +103,10 @@ fn run<T: Source + Drop, R: Source, W: Sink, E: Write>(
     requires output { W.failures w.old ≡ 0 }
     ensures ends { EndsRun (asks opened.old.relation file_bounds opened.old.hidden)
         (contents_of T.rest (R.rest input.old) opened.old.texts)
+        (AreSound T.failures opened.new.texts × (R.failures input.new ≡ 0))
         ((R.failures input.new ≡ 1) ⊎ HasLost T.failures (names_of opened.old.texts))
         (stream_used W.written W.failures w.old w.new) result }
     ensures unread { names_of opened.old.texts ≢ [] → input.new ≡ input.old }
-    ensures sound { (result ≡ 5)
-        ⊎ (AreSound T.failures opened.new.texts × (R.failures input.new ≡ 0) × (W.failures w.new ≡ 0)) }
 {
     let (rel, stats) = (opened.relation, opened.stats);
     let (lim, h) = (&Limits::file(), &opened.hidden);

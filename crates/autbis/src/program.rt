@@ -1,9 +1,9 @@
 //! A run or a comparison, and what is said of it.
-ghost use Rattle.std.specs.Prelude.{◌≡◌, ◌≤◌, ◌⊎◌, true, false, IfSome};
-ghost use Rattle.autbis.specs.Comparisons.{BeginsVerdict, ComparesNamed, HasFaultySide};
+ghost use Rattle.std.specs.Prelude.{◌≡◌, ◌≤◌, ◌⊎◌, IfSome};
 ghost use Rattle.autbis.specs.declared.compare.Side.TheVariants.{First, Second};
-ghost use Rattle.autbis.specs.Reports.{IsFaultStatus};
-ghost use Rattle.autbis.specs.Runs.{BeginsQuotient, IsFaulty, IsMinimised, IsReadable, OfText, asks};
+ghost use Rattle.autbis.specs.Ends.{EndsRun, stream_used};
+ghost use Rattle.autbis.specs.Ends.Contents.{one, two};
+ghost use Rattle.autbis.specs.Runs.{IsReadable, asks};
 ghost use Rattle.theory.specs.Quotient.{allowance};
 
 use crate::compare::{CmpFault, Side, run_cmp};
@@ -31,20 +31,8 @@ pub fn min_program<R: Source, W: Sink, E: Write>(
 ) -> u8
     requires source { R.failures r.old ≡ 0 }
     requires sink { W.failures w.old ≡ 0 }
-
-    // What each status means.
-    ensures status { (result ≡ 0) ⊎ IsFaultStatus result }
-    ensures minimised { result ≡ 0 → OfText (R.rest r.old) (λ text.
-        IsMinimised (asks rel lim.now h.now) text (W.written w.old) (W.written w.new)) }
-    ensures faulty { result ≡ 2 → (R.failures r.new ≡ 0) × IfSome (R.rest r.old) (IsFaulty lim.now) }
-    ensures device { result ≡ 5 →
-        ((R.failures r.new ≡ 1) × (w.new ≡ w.old)) ⊎ ((R.failures r.new ≡ 0) × (W.failures w.new ≡ 1)) }
-    ensures begun { result ≡ 5 → R.failures r.new ≡ 0 → OfText (R.rest r.old) (λ text.
-        BeginsQuotient (asks rel lim.now h.now) text (W.written w.old) (W.written w.new)) }
-
-    // What is left.
-    ensures sound { result ≡ 0 → (R.failures r.new ≡ 0) × (W.failures w.new ≡ 0) }
-    ensures untouched { (result ≡ 2) ⊎ (result ≡ 4) → (R.failures r.new ≡ 0) × (w.new ≡ w.old) }
+    ensures ends { EndsRun (asks rel lim.now h.now) (one (R.rest r.old)) (R.failures r.new ≡ 0) (R.failures r.new ≡ 1)
+        (stream_used W.written W.failures w.old w.new) result }
 {
     autfmt::a_text_reads_or_has_a_fault();
     let mut meter = Counter::new();
@@ -78,27 +66,11 @@ pub fn cmp_program<R1: Source, R2: Source, W: Sink, E: Write>(
     requires first { R1.failures a.old ≡ 0 }
     requires second { R2.failures b.old ≡ 0 }
     requires sink { W.failures w.old ≡ 0 }
-
-    // What each status means.
-    ensures status { (result ≡ 0) ⊎ ((result ≡ 1) ⊎ IsFaultStatus result) }
-    ensures same { result ≡ 0 → ComparesNamed (asks rel lim.now h.now) (R1.rest a.old) (R2.rest b.old)
-        (W.written w.old) (W.written w.new) true }
-    ensures different { result ≡ 1 → ComparesNamed (asks rel lim.now h.now) (R1.rest a.old) (R2.rest b.old)
-        (W.written w.old) (W.written w.new) false }
-    ensures faulty { result ≡ 2 → HasFaultySide lim.now (R1.rest a.old) (R2.rest b.old) }
-    ensures device { result ≡ 5 →
-        ((R1.failures a.new ≡ 1) × (b.new ≡ b.old) × (w.new ≡ w.old))
-        ⊎ (((R1.failures a.new ≡ 0) × (R2.failures b.new ≡ 1) × (w.new ≡ w.old))
-        ⊎ ((R1.failures a.new ≡ 0) × (R2.failures b.new ≡ 0) × (W.failures w.new ≡ 1))) }
-    ensures begun { result ≡ 5 → R1.failures a.new ≡ 0 → R2.failures b.new ≡ 0 →
-        BeginsVerdict (asks rel lim.now h.now) (R1.rest a.old) (R2.rest b.old) (W.written w.old) (W.written w.new) }
-
-    // What is left.
+    ensures ends { EndsRun (asks rel lim.now h.now) (two (R1.rest a.old) (R2.rest b.old))
+        ((R1.failures a.new ≡ 0) × (R2.failures b.new ≡ 0))
+        (((R1.failures a.new ≡ 1) × (b.new ≡ b.old)) ⊎ ((R1.failures a.new ≡ 0) × (R2.failures b.new ≡ 1)))
+        (stream_used W.written W.failures w.old w.new) result }
     ensures unread { result ≡ 2 → (b.new ≡ b.old) ⊎ IfSome (R1.rest a.old) (IsReadable lim.now) }
-    ensures sound { (result ≡ 0) ⊎ (result ≡ 1) →
-        (R1.failures a.new ≡ 0) × (R2.failures b.new ≡ 0) × (W.failures w.new ≡ 0) }
-    ensures untouched { (result ≡ 2) ⊎ (result ≡ 4) →
-        (R1.failures a.new ≡ 0) × (R2.failures b.new ≡ 0) × (w.new ≡ w.old) }
 {
     autfmt::a_text_reads_or_has_a_fault();
     match run_cmp(alloc, a, b, w, rel, lim, h, &mut Counter::new()) {

@@ -2,9 +2,9 @@
 ghost use Rattle.std.specs.Prelude.{◌≡◌, OnOk, OnErr};
 ghost use Rattle.std.specs.Io.KnownBytes.{Appends};
 ghost use Rattle.autfmt.specs.Stream.{AppendsBeginning, CountsFailure};
+ghost use Rattle.autbis.specs.Ends.{stream_used};
 ghost use Rattle.autbis.specs.Programs.{EndsWords};
 ghost use Rattle.autbis.specs.Reports.{IsWordStatus, status_of, word_status};
-ghost use Rattle.autbis.specs.Runs.{stream_used};
 
 use autfmt::{Broken, Fault, Sink, put_all};
 use std::io::Write;

@@ -1,8 +1,9 @@
-use Rattle.std.proofs.Common.{◌∙◌, inl, inr, refl, sym}
+use Rattle.std.proofs.Common.{◌∙◌, inr, refl, sym}
 use Rattle.autfmt.specs.Bounds.{file_bounds}
 use Rattle.autbis.specs.Jobs.Outcome.{given_up, ran}
 use Rattle.autbis.specs.Opened.{contents_of}
 use Rattle.autbis.specs.Runs.{asks}
+use Rattle.autbis.proofs.Ending.{ends_weaker}
 use Rattle.autbis.proofs.job.do_job.Goals as goal
 
 pub returns-in-Ok : goal.returns-in-Ok
@@ -14,14 +15,11 @@ returns-in-Ok g c =
         outcome = ran (asks c.in-Ok.opened.relation file_bounds c.in-Ok.opened.hidden)
             (record { relation = is.relation; bounds = refl; hidden = is.hidden })
             (contents_of g.F.File.Source.rest input c.in-Ok.opened.texts) (is.texts.contents input)
-            (rw (← is.texts.names) c.run.ensures.ends);
+            (rw (← is.texts.names) (ends_weaker (λ sound. sound.1) (λ lost. lost) c.run.ensures.ends));
         order = c.in-Ok.ensures.order;
         all_opened = c.in-Ok.ensures.all_opened;
         unread = λ named. c.run.ensures.unread (λ none. named (sym is.texts.names ∙ none));
-        sound = elim c.run.ensures.sound [
-          | inl five ↦ inl five
-          | inr sound ↦ inr (c.in-Ok.ensures.sound, sound.1, sound.2)
-        ];
+        sound = inr c.in-Ok.ensures.sound;
       };
     }
 
@@ -32,9 +30,6 @@ returns-in-Err g c = record {
     order = c.in-Err.ensures.order;
     all_opened = c.in-Err.ensures.all_opened;
     unread = λ named. refl;
-    sound = elim c.in-Err.ensures.sound [
-      | inl five ↦ inl five
-      | inr sound ↦ inr (sound, c.requires.input, c.requires.output)
-    ];
+    sound = c.in-Err.ensures.sound;
   };
 }

@@ -1,5 +1,5 @@
 use Rattle.std.proofs.Common.{sym, ◌∙◌}
-use Rattle.autbis.proofs.Failing.{faulty_list}
+use Rattle.autbis.proofs.Ending.{faulty_list}
 use Rattle.autbis.proofs.InOrder.{told_then}
 use Rattle.autbis.proofs.opening.hidden_of.Goals as goal
 
