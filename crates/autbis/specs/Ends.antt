@@ -1,11 +1,16 @@
 -- What a run or a comparison comes to, as its exit status tells.
-use Rattle.std.specs.Prelude.{◌≡◌, ◌⊎◌, ℕ, Bool, List, Option, IfSome, if◌then◌else◌}
+use Rattle.std.specs.Prelude.{◌≡◌, ◌↔◌, ◌⊎◌, ℕ, Bool, IsTrue, List, Option, IfSome, if◌then◌else◌}
 use Rattle.std.specs.Io.KnownBytes.{Appends}
+use Rattle.std.specs.List.Sorted.{IsSorted}
+use Rattle.theory.specs.System.{System, Hide}
+use Rattle.theory.specs.Bisimulation.{Equivalent}
+use Rattle.theory.specs.Quotient.{Quotient}
 use Rattle.autfmt.specs.Bounds.{Bounds}
 use Rattle.autfmt.specs.Stream.{AppendsBeginning}
-use Rattle.autfmt.specs.Written.{listed}
-use Rattle.autbis.specs.Comparisons.{IsVerdict, ReadBoth, line_of}
-use Rattle.autbis.specs.Runs.{IsFaulty, IsReadable, MinimisedText, Request}
+use Rattle.autfmt.specs.Texts.{Reads}
+use Rattle.autfmt.specs.Written.{listed, transition_cmp}
+use Rattle.autbis.specs.Comparisons.{line_of}
+use Rattle.autbis.specs.Runs.{IsFaulty, Request}
 
 -- what a call did with a sink: it before and after, the bytes that it tells, and how often it failed
 pub record StreamUsed (T : Type 0) : Type 0 where
@@ -27,19 +32,21 @@ pub data Contents : Type 0 where
   one : Option (List ℕ) → Contents
   two : (first second : Option (List ℕ)) → Contents
 
--- the bytes are what is to be written of the contents, with this status: the text of the quotient, or the line of the verdict
+-- the bytes are what is to be written of the contents, with this status: the text of the quotient, its transitions in order, or the
+-- line of the verdict; both of what is read, the labels to hide hidden
 abbrev pub IsAnswer : Request → Contents → List ℕ → ℕ → Type 0
-IsAnswer asked (one text) bytes status =
-    OfText text (λ given. (to : MinimisedText asked given) × (bytes ≡ listed to.output) × (status ≡ 0))
+IsAnswer asked (one text) bytes status = OfText text (λ given. (A Q : System) × Reads asked.bounds given A
+    × Quotient asked.relation (Hide asked.hidden A) Q × IsSorted transition_cmp Q.transitions × (bytes ≡ listed Q) × (status ≡ 0))
 IsAnswer asked (two first second) bytes status = OfText first (λ given. OfText second (λ other.
-    (both : ReadBoth asked.bounds given other) × (same : Bool) × IsVerdict asked both same × (bytes ≡ line_of same)
-    × (status ≡ (if same then 0 else 1))))
+    (A B : System) × Reads asked.bounds given A × Reads asked.bounds other B × (same : Bool)
+    × (IsTrue same ↔ Equivalent asked.relation (Hide asked.hidden A) (Hide asked.hidden B))
+    × (bytes ≡ line_of same) × (status ≡ (if same then 0 else 1))))
 
 -- a text is faulty, if it is told; of two, the second one only if the first is not
 abbrev pub HasFaultyText : Bounds → Contents → Type 0
 HasFaultyText bounds (one text) = IfSome text (IsFaulty bounds)
 HasFaultyText bounds (two first second) =
-    IfSome first (IsFaulty bounds) ⊎ (IfSome first (IsReadable bounds) × IfSome second (IsFaulty bounds))
+    IfSome first (IsFaulty bounds) ⊎ (IfSome first (λ given. (A : System) × Reads bounds given A) × IfSome second (IsFaulty bounds))
 
 -- what a run came to, as its status tells. No source failed, and its answer was written; or a text is faulty, or memory was
 -- refused, and the output is as it was; or the output failed, and has a beginning of the answer. Or a source was lost, and the

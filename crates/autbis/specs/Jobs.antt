@@ -7,7 +7,7 @@ use Rattle.autfmt.specs.HideReaders.{HidesAs}
 use Rattle.autbis.specs.Ends.{Contents, EndsRun, StreamUsed}
 use Rattle.autbis.specs.Ends.Contents.{one, two}
 use Rattle.autbis.specs.Files.{FilesUsed, Name, Opens, OpensInOrder}
-use Rattle.autbis.specs.Runs.{Request}
+use Rattle.autbis.specs.Runs.{asks}
 use Rattle.words.specs.declared.words.Job.{Job}
 use Rattle.words.specs.declared.words.Job.TheVariants.{Min, Cmp}
 
@@ -40,12 +40,6 @@ abbrev pub HidesNamed : (Name → Option (List ℕ)) → Option Name → List (L
 HidesNamed holds None H = H ≡ []
 HidesNamed holds (Some name) H = IfSome (holds name) (λ list. HidesAs list H)
 
--- what a job asks: its relation, the bounds of a file, and the labels of its hide list, if that is told
-pub record IsAskedBy (holds : Name → Option (List ℕ)) (job : Job) (asked : Request) : Type 0 where
-  pub relation : asked.relation ≡ relation_of job
-  pub bounds : asked.bounds ≡ file_bounds
-  pub hidden : HidesNamed holds (hide_of job) asked.hidden
-
 -- a text is what is told of it
 abbrev pub Gives : (told text : Option (List ℕ)) → Type 0
 Gives told text = IfSome told (λ bytes. text ≡ Some bytes)
@@ -58,40 +52,31 @@ AreTextsOf holds input (Cmp relation hide first second) (two a b) =
     Gives (holds (string_bytes first)) a × Gives (holds (string_bytes second)) b
 AreTextsOf holds input job contents = ⊥
 
--- the text is no hide list
-abbrev pub IsFaultyList : List ℕ → Type 0
-IsFaultyList text = (H : List (List ℕ)) → ¬ HideReads text H
-
--- the hide list that is named is faulty, if it is told
+-- a hide list that is named is faulty, if it is told: it is one of no labels
 abbrev pub HasFaultyList : (Name → Option (List ℕ)) → Option Name → Type 0
 HasFaultyList holds None = ⊥
-HasFaultyList holds (Some name) = IfSome (holds name) IsFaultyList
-
--- one of these files failed while it was read
-abbrev pub HasLost : {File : Type 0} → (File → ℕ) → List Name → Type 0
-HasLost failures names = (names ≢ []) × (file : _) × (failures file ≡ 1)
+HasFaultyList holds (Some name) = IfSome (holds name) (λ list. (H : List (List ℕ)) → ¬ HideReads list H)
 
 -- a job was given up before its texts were read: its hide list is faulty; memory was refused; or a file could not be opened,
 -- or the hide list failed
-abbrev pub IsGivenUp : {F File : Type 0} → FilesUsed F File → Job → ℕ → Type 0
+abbrev pub IsGivenUp : {F : Type 0} → FilesUsed F → Job → ℕ → Type 0
 IsGivenUp files job status = ((status ≡ 2) × HasFaultyList (files.holds files.old) (hide_of job))
-    ⊎ ((status ≡ 4)
-    ⊎ ((status ≡ 5) × ((files.failures files.new ≡ 1) ⊎ HasLost files.file_failures (given (hide_of job)))))
+    ⊎ ((status ≡ 4) ⊎ ((status ≡ 5) × ((files.failures files.new ≡ 1) ⊎ (hide_of job ≢ None))))
 
--- what a job came to: it was given up, and no stream was used; or its texts were run
-pub data Outcome {F File In Out : Type 0}
-    (files : FilesUsed F File) (input : StreamUsed In) (output : StreamUsed Out) (job : Job) (status : ℕ) : Type 0 where
+-- what a job came to: it was given up, and no stream was used; or its texts were run, of which standard input, or a file, may have
+-- failed
+pub data Outcome {F In Out : Type 0}
+    (files : FilesUsed F) (input : StreamUsed In) (output : StreamUsed Out) (job : Job) (status : ℕ) : Type 0 where
   given_up : IsGivenUp files job status → input.new ≡ input.old → output.new ≡ output.old → Outcome files input output job status
-  ran : (asked : Request) → IsAskedBy (files.holds files.old) job asked → (contents : Contents) →
-      AreTextsOf (files.holds files.old) (input.tells input.old) job contents →
-      EndsRun asked contents (input.failures input.new ≡ 0)
-      ((input.failures input.new ≡ 1) ⊎ HasLost files.file_failures (texts_of job)) output status →
-      Outcome files input output job status
+  ran : (H : List (List ℕ)) → HidesNamed (files.holds files.old) (hide_of job) H →
+      (contents : Contents) → AreTextsOf (files.holds files.old) (input.tells input.old) job contents →
+      EndsRun (asks (relation_of job) file_bounds H) contents (input.failures input.new ≡ 0)
+      ((input.failures input.new ≡ 1) ⊎ (texts_of job ≢ [])) output status → Outcome files input output job status
 
 -- a job ended in this status: its outcome, and the files that it asked for; if none was refused, all of them, and if one was, the
 -- status is 5; standard input is read only if no text is named
-pub record EndsIn {F File In Out : Type 0}
-    (files : FilesUsed F File) (input : StreamUsed In) (output : StreamUsed Out) (job : Job) (status : ℕ) : Type 0 where
+pub record EndsIn {F In Out : Type 0}
+    (files : FilesUsed F) (input : StreamUsed In) (output : StreamUsed Out) (job : Job) (status : ℕ) : Type 0 where
   pub outcome : Outcome files input output job status
   pub order : OpensInOrder (files_of job) (files.opened files.old) (files.opened files.new)
   pub all_opened : files.failures files.new ≡ 0 → Opens (files.opened files.old) (files.opened files.new) (files_of job)

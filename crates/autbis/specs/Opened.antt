@@ -1,5 +1,5 @@
 -- What a job names, once it is open.
-use Rattle.std.specs.Prelude.{◌≡◌, ℕ, List, [], ◌∷◌, Option, ⊤}
+use Rattle.std.specs.Prelude.{◌≡◌, ◌≢◌, ◌↔◌, ℕ, List, [], Option, ⊤}
 use Rattle.autbis.specs.Ends.{Contents}
 use Rattle.autbis.specs.Ends.Contents.{one, two}
 use Rattle.autbis.specs.Files.{Name}
@@ -15,11 +15,10 @@ contents_of rest input Input = one input
 contents_of rest input (One text) = one (rest text.file)
 contents_of rest input (Two both) = two (rest both.first.file) (rest both.second.file)
 
--- the names that they were opened by
-abbrev pub names_of : {File : Type 0} → Texts File → List Name
-names_of Input = []
-names_of (One text) = text.name.now ∷ []
-names_of (Two both) = both.first.name.now ∷ both.second.name.now ∷ []
+-- they are files
+abbrev pub AreFiles : {File : Type 0} → Texts File → Type 0
+AreFiles Input = ⊥
+AreFiles _ = ⊤
 
 -- none of them has failed
 abbrev pub AreSound : {File : Type 0} → (File → ℕ) → Texts File → Type 0
@@ -31,7 +30,7 @@ AreSound failures (Two both) = (failures both.first.file ≡ 0) × (failures bot
 pub record AreOpened {File : Type 0}
     (rest : File → Option (List ℕ)) (failures : File → ℕ) (holds : Name → Option (List ℕ)) (job : Job) (texts : Texts File) : Type 0 where
   pub contents : (input : Option (List ℕ)) → AreTextsOf holds input job (contents_of rest input texts)
-  pub names : names_of texts ≡ texts_of job
+  pub files : AreFiles texts ↔ (texts_of job ≢ [])
   pub sound : AreSound failures texts
 
 -- and so was its hide list

@@ -68,7 +68,7 @@ IsReadable bounds text = (A : System) × Reads bounds text A
 
 -- the text is that of none
 abbrev pub IsFaulty : Bounds → List ℕ → Type 0
-IsFaulty bounds text = ¬ IsReadable bounds text
+IsFaulty bounds text = (A : System) → ¬ Reads bounds text A
 
 -- a run read a text to its end, wrote the text of what it is minimised to, and made the rounds that its system takes, each with
 -- a visit of every transition, and at most two visits more of each

@@ -4,20 +4,20 @@ use Rattle.autbis.specs.Ends.{stream_used}
 use Rattle.autbis.specs.Ends.EndsRun.{answered}
 use Rattle.autbis.specs.Runs.{asks}
 use Rattle.autbis.proofs.Carried.{of_all}
-use Rattle.autbis.proofs.Ending.{ends_run}
+use Rattle.autbis.proofs.Ending.{ends_run, minimised}
 use Rattle.autbis.proofs.program.min_program.Goals as goal
 
 pub returns-then-stats : goal.returns-then-stats
 returns-then-stats g c =
     let got = c.in-Ok.ensures.outcome in
     let ran = got.outcome in
-    record { ends = answered ran.exhausted.sound (listed ran.to.output) (of_all _ _ got.given _ got.took ran.exhausted.at_end (ran.to, refl, refl)) ran.written.written ran.written.sound }
+    record { ends = answered ran.exhausted.sound (listed ran.to.output) (of_all _ _ got.given _ got.took ran.exhausted.at_end (minimised ran.to refl)) ran.written.written ran.written.sound }
 
 pub returns-else-stats : goal.returns-else-stats
 returns-else-stats g c =
     let got = c.in-Ok.ensures.outcome in
     let ran = got.outcome in
-    record { ends = answered ran.exhausted.sound (listed ran.to.output) (of_all _ _ got.given _ got.took ran.exhausted.at_end (ran.to, refl, refl)) ran.written.written ran.written.sound }
+    record { ends = answered ran.exhausted.sound (listed ran.to.output) (of_all _ _ got.given _ got.took ran.exhausted.at_end (minimised ran.to refl)) ran.written.written ran.written.sound }
 
 pub returns-in-Err : goal.returns-in-Err
 returns-in-Err g c =
