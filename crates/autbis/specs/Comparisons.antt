@@ -33,6 +33,7 @@ pub record ReadBoth (bounds : Bounds) (first second : List ℕ) : Type 0 where
 abbrev pub states_of : {bounds : Bounds} {first second : List ℕ} → ReadBoth bounds first second → ℕ
 states_of both = both.one.states + both.other.states
 
+-- and how many transitions
 abbrev pub transitions_of : {bounds : Bounds} {first second : List ℕ} → ReadBoth bounds first second → ℕ
 transitions_of both = length both.one.transitions + length both.other.transitions
 
