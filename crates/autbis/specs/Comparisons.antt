@@ -1,6 +1,6 @@
 -- A whole comparison: its verdict on two texts, and why there is none.
-use Rattle.std.specs.Prelude.{◌≡◌, ◌↔◌, ◌⊎◌, ℕ, ◌+◌, ◌*◌, Bool, true, false, IsTrue, List, [], ◌∷◌, ◌++◌, length, codes, Option}
-use Rattle.std.specs.Io.KnownBytes.{Appends, Consumes}
+use Rattle.std.specs.Prelude.{◌≡◌, ◌↔◌, ℕ, ◌+◌, ◌*◌, Bool, true, false, IsTrue, List, [], ◌∷◌, ◌++◌, length, codes}
+use Rattle.std.specs.Io.KnownBytes.{Consumes}
 use Rattle.theory.specs.System.{System, Hide}
 use Rattle.theory.specs.Bisimulation.{Equivalent}
 use Rattle.theory.specs.Blocks.{Turns}
