@@ -1,7 +1,6 @@
 //! What a job names, opened in its order: its texts, and then its hide list.
 ghost use Rattle.std.specs.Prelude.{◌≡◌, ◌≢◌, ◌⊎◌, [], ◌∷◌, None, Some, IfSome, IfOk, IfErr, MatchResult, option_map, string_bytes};
-ghost use Rattle.autfmt.specs.Stream.{CountsFailure};
-ghost use Rattle.autbis.specs.Files.{FilesUsed, Name, Opens, OpensInOrder, files_used};
+ghost use Rattle.autbis.specs.Files.{Name, Opens, OpensInOrder, files_used};
 ghost use Rattle.autbis.specs.Jobs.{HasFaultyList, HidesNamed, IsGivenUp, files_of, given, hide_of, relation_of, texts_of};
 ghost use Rattle.autbis.specs.Opened.{AreOpened, IsOpened};
 ghost use Rattle.autbis.specs.Reports.{IsFaultStatus};
@@ -116,7 +115,8 @@ fn open_texts<'a, F: Opener, E: Write>(
     match job {
         Job::Min { file: None, .. } => Ok(Texts::Input),
         Job::Min {
-            file: Some(name), ..
+            file: Some(name),
+            ..
         } => Ok(Texts::One(open_named(files, name.as_str(), e)?)),
         Job::Cmp { first, second, .. } => {
             let first = open_named(files, first.as_str(), e)?;
