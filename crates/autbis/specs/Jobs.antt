@@ -41,15 +41,15 @@ HidesNamed holds None H = H ≡ []
 HidesNamed holds (Some name) H = IfSome (holds name) (λ list. HidesAs list H)
 
 -- a text is what is told of it
-abbrev pub Gives : (told text : Option (List ℕ)) → Type 0
-Gives told text = IfSome told (λ bytes. text ≡ Some bytes)
+abbrev pub IsAsTold : (told text : Option (List ℕ)) → Type 0
+IsAsTold told text = IfSome told (λ bytes. text ≡ Some bytes)
 
 -- the contents are those of the job's texts: what its files hold, or standard input
 abbrev pub AreTextsOf : (Name → Option (List ℕ)) → (input : Option (List ℕ)) → Job → Contents → Type 0
 AreTextsOf holds input (Min relation stats hide None) (one text) = text ≡ input
-AreTextsOf holds input (Min relation stats hide (Some file)) (one text) = Gives (holds (string_bytes file)) text
+AreTextsOf holds input (Min relation stats hide (Some file)) (one text) = IsAsTold (holds (string_bytes file)) text
 AreTextsOf holds input (Cmp relation hide first second) (two a b) =
-    Gives (holds (string_bytes first)) a × Gives (holds (string_bytes second)) b
+    IsAsTold (holds (string_bytes first)) a × IsAsTold (holds (string_bytes second)) b
 AreTextsOf holds input job contents = ⊥
 
 -- a hide list that is named is faulty, if it is told: it is one of no labels

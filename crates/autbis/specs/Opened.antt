@@ -21,17 +21,17 @@ AreFiles Input = ⊥
 AreFiles _ = ⊤
 
 -- none of them has failed
-abbrev pub AreSound : {File : Type 0} → (File → ℕ) → Texts File → Type 0
-AreSound failures Input = ⊤
-AreSound failures (One text) = failures text.file ≡ 0
-AreSound failures (Two both) = (failures both.first.file ≡ 0) × (failures both.second.file ≡ 0)
+abbrev pub HaveNotFailed : {File : Type 0} → (File → ℕ) → Texts File → Type 0
+HaveNotFailed failures Input = ⊤
+HaveNotFailed failures (One text) = failures text.file ≡ 0
+HaveNotFailed failures (Two both) = (failures both.first.file ≡ 0) × (failures both.second.file ≡ 0)
 
 -- the texts of a job were opened
 pub record AreOpened {File : Type 0}
     (rest : File → Option (List ℕ)) (failures : File → ℕ) (holds : Name → Option (List ℕ)) (job : Job) (texts : Texts File) : Type 0 where
   pub contents : (input : Option (List ℕ)) → AreTextsOf holds input job (contents_of rest input texts)
   pub files : AreFiles texts ↔ (texts_of job ≢ [])
-  pub sound : AreSound failures texts
+  pub sound : HaveNotFailed failures texts
 
 -- and so was its hide list
 pub record IsOpened {File : Type 0}

@@ -4,7 +4,7 @@ ghost use Rattle.autfmt.specs.Bounds.{file_bounds};
 ghost use Rattle.autbis.specs.Ends.{EndsRun, stream_used};
 ghost use Rattle.autbis.specs.Files.{files_used};
 ghost use Rattle.autbis.specs.Jobs.{EndsIn};
-ghost use Rattle.autbis.specs.Opened.{AreFiles, AreSound, contents_of};
+ghost use Rattle.autbis.specs.Opened.{AreFiles, HaveNotFailed, contents_of};
 ghost use Rattle.autbis.specs.Programs.{AnswersWords, IsUnread};
 ghost use Rattle.autbis.specs.Runs.{asks};
 ghost use Rattle.words.specs.Words.{IsFaultOf, IsJobOf};
@@ -98,12 +98,12 @@ fn run<T: Source + Drop, R: Source, W: Sink, E: Write>(
     w: &mut W,
     e: &mut E,
 ) -> u8
-    requires texts { AreSound T.failures opened.old.texts }
+    requires texts { HaveNotFailed T.failures opened.old.texts }
     requires input { R.failures input.old ≡ 0 }
     requires output { W.failures w.old ≡ 0 }
     ensures ends { EndsRun (asks opened.old.relation file_bounds opened.old.hidden)
         (contents_of T.rest (R.rest input.old) opened.old.texts)
-        (AreSound T.failures opened.new.texts × (R.failures input.new ≡ 0))
+        (HaveNotFailed T.failures opened.new.texts × (R.failures input.new ≡ 0))
         ((R.failures input.new ≡ 1) ⊎ AreFiles opened.old.texts)
         (stream_used W.written W.failures w.old w.new) result }
     ensures unread { AreFiles opened.old.texts → input.new ≡ input.old }
