@@ -13,12 +13,12 @@ from pathlib import Path
 TOP = Path(__file__).resolve().parent.parent
 PAGE = TOP / "docs" / "reading.md"
 BEGIN, END = "<!-- made by tools/reading.py -->", "<!-- up to here -->"
-CONTRACTS = ["run_min", "run_cmp", "main_program"]
+# Each call has its crate; a call rests on all that its clauses cite but the words of the calls that stand after it.
+CONTRACTS = [("autbis", "run_min", []), ("autbis", "run_cmp", []), ("words", "command", []), ("autbis", "main_program", ["command"])]
 TRAITS = [("autfmt", "Source"), ("autfmt", "Sink"), ("lts", "Meter"), ("autbis", "Opener")]
 VIEWS = [("autfmt", "Limits"), ("autfmt", "Hidden")]
 USE = re.compile(r"^(?:pub )?(?:ghost )?use Rattle\.([\w.]+)(?:\.\{(.*?)\}| as (\S+))?;?$")
 HEAD = re.compile(r"^(?:abbrev|unfoldable|data|record|pub)\s+(?:(?:pub|data|record)\s+)*(\S+)")
-RUST = re.compile(r"^\s*pub (?:enum|struct|const|trait) (\w+)")
 
 
 def crates():
@@ -155,11 +155,12 @@ def imports(lines):
     return names, modules
 
 
-def contract(name):
-    path, lines, at = source_of("autbis", name, "pub fn")
+def contract(crate, name):
+    path, lines, at = source_of(crate, name, "pub fn")
     end = lines.index("{", at)
     clauses = "\n".join(line for line in lines[at:end] if not line.strip().startswith("//"))
-    return path, closure(cited(clauses[clauses.index("    requires") :], *imports(lines)))
+    first = re.search(r"^    (?:requires|ensures) ", clauses, re.M).start()
+    return path, closure(cited(clauses[first:], *imports(lines)))
 
 
 def place(path):
@@ -201,16 +202,20 @@ def table_of(definitions, code):
 
 
 def count(definitions):
-    lines = sum(len(MODULES[m].definitions[d][1]) for m, d in definitions)
-    return f"{len(definitions)} definitions, {lines} lines in {len({m for m, _ in definitions})} files"
+    lines, files = sum(len(MODULES[m].definitions[d][1]) for m, d in definitions), len({m for m, _ in definitions})
+    return f"{len(definitions)} definitions, {lines} lines in {files} {'file' if files == 1 else 'files'}"
 
 
 def lists():
-    out, known, known_code = [], set(), []
-    for name in CONTRACTS:
-        path, (definitions, code) = contract(name)
-        said = f"The contract in {place(path)} rests on {count(definitions)}, without comments and blanks."
-        out += [f"## `{name}`", "", *wrapped(said)]
+    out, known, known_code, words_of = [], set(), [], {}
+    for crate, name, above in CONTRACTS:
+        path, (definitions, code) = contract(crate, name)
+        words_of[name] = definitions
+        for other in above:
+            definitions = definitions - words_of[other]
+        said = f"The contract in {place(path)} rests on {count(definitions)}, without comments and blanks"
+        said += "".join(f", and on what `{other}` rests on" for other in above)
+        out += [f"## `{name}`", "", *wrapped(said + ".")]
         new, new_code = definitions - known, [item for item in code if item not in known_code]
         if known:
             out += ["", "Of the lists above:", ""]

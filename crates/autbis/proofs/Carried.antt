@@ -1,13 +1,10 @@
 -- What a run carries on: the error of a call, and what follows from the reading of its text.
-use Rattle.std.proofs.Common.{◌≡◌, ℕ, Bool, ◌*◌, List, Option, Some, None, IfSome, Result, Err, IfErr, subst, append-nil, arith}
+use Rattle.std.proofs.Common.{◌≡◌, ℕ, ◌*◌, List, Option, Some, None, IfSome, Result, Err, IfErr, append-nil, arith}
 use Rattle.std.specs.Io.KnownBytes.{Consumes, IsAtEnd}
-use Rattle.theory.specs.declared.relation.Relation.{Relation}
 use Rattle.lts.specs.Meter.{Counts}
 use Rattle.quotient.specs.Visits.{KeepsTo}
-use Rattle.autfmt.specs.Bounds.{Bounds}
 use Rattle.autfmt.specs.Outcomes.{Takes}
-use Rattle.autbis.specs.Comparisons.{ComparesNamed, ComparesTo}
-use Rattle.autbis.specs.Runs.{IsMinimised, OfText, Request, Used, asks}
+use Rattle.autbis.specs.Ends.{OfText}
 
 -- the answer is the error e
 abbrev pub IsError : {T E : Type 0} → Result T E → E → Type 0
@@ -38,14 +35,6 @@ of_all None new given P took at_end h = (given, tt, h)
 of_all (Some text) None given P took at_end h = elim took [ ]
 of_all (Some text) (Some rest) given P took at_end h = (given, rw (took, at_end) (append-nil given), h)
 
--- a comparison of what was read is one of the texts that were told
-pub compared_named : {asked : Request} {first : List ℕ} {one other sink : Used} {at : Counts} {same : Bool} →
-    ComparesTo asked first one other sink at same → Consumes one.before one.after first →
-    ComparesNamed asked one.before other.before sink.before sink.after same
-compared_named {first = first} {one = one} {other = other} did took =
-    of_all one.before one.after first _ took did.exhausted.0.at_end
-    (of_all other.before other.after did.second _ did.took did.exhausted.1.at_end (did.both, did.verdict, did.written.written))
-
 module _ (n k m j : ℕ) (at : Counts) (states : n ≡ k) (transitions : m ≡ j) where
   -- a success keeps to the size of another system of this size
   pub keeps_whole : KeepsTo n m 2 at (at.rounds * m) → KeepsTo k j 2 at (at.rounds * j)
@@ -58,8 +47,3 @@ module _ (n k m j : ℕ) (at : Counts) (states : n ≡ k) (transitions : m ≡ j
     at_least = omega arith;
     at_most = rw (← transitions) keeps.at_most;
   }
-
--- what is minimised is so within equal bounds
-pub at_bounds : (rel : Relation) (bounds other : Bounds) (H : List (List ℕ)) (told old new : Option (List ℕ)) → bounds ≡ other →
-    OfText told (λ text. IsMinimised (asks rel bounds H) text old new) → OfText told (λ text. IsMinimised (asks rel other H) text old new)
-at_bounds rel bounds other H told old new same is = subst (λ b. OfText told (λ text. IsMinimised (asks rel b H) text old new)) same is

@@ -1,5 +1,4 @@
 pub mod Carried
-pub mod Opening
+pub mod InOrder
 pub mod Comparing
-pub mod Naming
-pub mod Failing
+pub mod Ending

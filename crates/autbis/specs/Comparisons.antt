@@ -1,6 +1,6 @@
 -- A whole comparison: its verdict on two texts, and why there is none.
-use Rattle.std.specs.Prelude.{◌≡◌, ◌↔◌, ◌⊎◌, ℕ, ◌+◌, ◌*◌, Bool, true, false, IsTrue, List, [], ◌∷◌, ◌++◌, length, codes, Option, IfSome}
-use Rattle.std.specs.Io.KnownBytes.{Appends, Consumes}
+use Rattle.std.specs.Prelude.{◌≡◌, ◌↔◌, ℕ, ◌+◌, ◌*◌, Bool, true, false, IsTrue, List, [], ◌∷◌, ◌++◌, length, codes}
+use Rattle.std.specs.Io.KnownBytes.{Consumes}
 use Rattle.theory.specs.System.{System, Hide}
 use Rattle.theory.specs.Bisimulation.{Equivalent}
 use Rattle.theory.specs.Blocks.{Turns}
@@ -13,7 +13,7 @@ use Rattle.autfmt.specs.declared.fault.Fault.{Fault}
 use Rattle.autfmt.specs.declared.fault.Fault.TheVariants.{Device, Memory}
 use Rattle.autfmt.specs.Outcomes.{Refuses}
 use Rattle.autfmt.specs.Stream.{AppendsBeginning}
-use Rattle.autbis.specs.Runs.{Gains, IsExhausted, IsFaulty, OfText, Request, Used}
+use Rattle.autbis.specs.Runs.{Gains, IsExhausted, IsReadable, Request, Used}
 use Rattle.autbis.specs.declared.compare.CmpFault.{CmpFault}
 use Rattle.autbis.specs.declared.compare.Side.TheVariants.{First, Second, Run}
 
@@ -33,6 +33,7 @@ pub record ReadBoth (bounds : Bounds) (first second : List ℕ) : Type 0 where
 abbrev pub states_of : {bounds : Bounds} {first second : List ℕ} → ReadBoth bounds first second → ℕ
 states_of both = both.one.states + both.other.states
 
+-- and how many transitions
 abbrev pub transitions_of : {bounds : Bounds} {first second : List ℕ} → ReadBoth bounds first second → ℕ
 transitions_of both = length both.one.transitions + length both.other.transitions
 
@@ -54,25 +55,6 @@ pub record ComparesTo (asked : Request) (first : List ℕ) (one other sink : Use
   pub verdict : IsVerdict asked both same
   pub written : Gains sink (line_of same)
   pub counts : CountsUnion asked both at
-
--- of two texts: they read as systems, the verdict on these is so, and known bytes have grown by its line
-abbrev pub ComparesNamed : Request → (first second old new : Option (List ℕ)) → Bool → Type 0
-ComparesNamed asked first second old new same = OfText first (λ one. OfText second (λ other.
-    (both : ReadBoth asked.bounds one other) × IsVerdict asked both same × Appends old new (line_of same)))
-
--- the text is that of a system
-abbrev pub IsReadable : Bounds → List ℕ → Type 0
-IsReadable bounds text = (A : System) × Reads bounds text A
-
--- of two texts, where they are known: the first one is faulty, or it is that of a system and the second one is faulty
-abbrev pub HasFaultySide : Bounds → Option (List ℕ) → Option (List ℕ) → Type 0
-HasFaultySide bounds first second =
-    IfSome first (IsFaulty bounds) ⊎ (IfSome first (IsReadable bounds) × IfSome second (IsFaulty bounds))
-
--- of two texts: they read as systems, and known bytes have grown by a beginning of the line of the verdict on these
-abbrev pub BeginsVerdict : Request → (first second old new : Option (List ℕ)) → Type 0
-BeginsVerdict asked first second old new = OfText first (λ one. OfText second (λ other.
-    (both : ReadBoth asked.bounds one other) × (same : Bool) × IsVerdict asked both same × AppendsBeginning old new (line_of same)))
 
 -- a fresh meter counted no more than a comparison of the texts may take
 abbrev pub CountsComparison : {bounds : Bounds} {first second : List ℕ} → ReadBoth bounds first second → Counts → Type 0

@@ -1,5 +1,5 @@
 -- The files of a job: which are opened, and what they hold.
-use Rattle.std.specs.Prelude.{◌≡◌, ℕ, Bool, true, List, ◌++◌, Option, None, Some, Result, MatchResult, ⊤}
+use Rattle.std.specs.Prelude.{◌≡◌, ℕ, List, ◌++◌, Option, None, Some, ⊤}
 
 -- the name of a file, as bytes
 abbrev pub Name : Type 0
@@ -10,6 +10,20 @@ abbrev pub Opens : Option (List Name) → Option (List Name) → List Name → T
 Opens None new names = ⊤
 Opens (Some old) new names = new ≡ Some (old ++ names)
 
--- whether a file could not be opened so far, after one more was asked for
-abbrev pub NotesRefusal : {T E : Type 0} → Bool → Bool → Result T E → Type 0
-NotesRefusal old new result = MatchResult result (λ _. new ≡ old) (λ _. new ≡ true)
+-- names are asked for in this order: all of them, or none after one of them
+abbrev pub OpensInOrder : List Name → Option (List Name) → Option (List Name) → Type 0
+OpensInOrder names old new = (asked later : List Name) × (names ≡ asked ++ later) × Opens old new asked
+
+-- what a call did with files: these before and after, what each holds and which names were asked for, as far as that is told,
+-- and how often one could not be opened
+pub record FilesUsed (F : Type 0) : Type 0 where
+  pub old : F
+  pub new : F
+  pub holds : F → Name → Option (List ℕ)
+  pub opened : F → Option (List Name)
+  pub failures : F → ℕ
+
+-- what is said of files before and after a call
+abbrev pub files_used : {F : Type 0} → (F → Name → Option (List ℕ)) → (F → Option (List Name)) → (F → ℕ) → (old new : F) → FilesUsed F
+files_used holds opened failures old new =
+    record { old = old; new = new; holds = holds; opened = opened; failures = failures }

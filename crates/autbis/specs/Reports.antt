@@ -16,13 +16,14 @@ status_of _ = 2
 abbrev pub IsFaultStatus : ℕ → Type 0
 IsFaultStatus status = (status ≡ 2) ⊎ ((status ≡ 4) ⊎ (status ≡ 5))
 
--- the exit status of a job: 1 only if it compared two systems that are not equivalent
-abbrev pub IsJobStatus : ℕ → Type 0
-IsJobStatus status = (status ≡ 0) ⊎ ((status ≡ 1) ⊎ IsFaultStatus status)
+-- the exit status of a fault of the words: 3 if they ask for no job, 4 for memory; help is none
+abbrev pub word_status : WordFault → ℕ
+word_status (word.Usage text) = 3
+word_status (word.Relation named) = 3
+word_status (word.Help text) = 0
+word_status word.Memory = 4
 
 -- the exit status of words that give no job: with 0 the output has gained the text of help, with 5 it could not be written
 abbrev pub IsWordStatus : (old new : Option (List ℕ)) → WordFault → ℕ → Type 0
-IsWordStatus old new (word.Usage text) status = status ≡ 3
-IsWordStatus old new (word.Relation named) status = status ≡ 3
 IsWordStatus old new (word.Help text) status = ((status ≡ 0) × Appends old new (string_bytes text)) ⊎ (status ≡ 5)
-IsWordStatus old new word.Memory status = status ≡ 4
+IsWordStatus old new fault status = status ≡ word_status fault

@@ -1,5 +1,5 @@
 -- A whole run: what it does with the system that a text reads as, and why it does not.
-use Rattle.std.specs.Prelude.{◌≡◌, ℕ, ◌*◌, ◌≤◌, List, length, Option, IfSome}
+use Rattle.std.specs.Prelude.{◌≡◌, ℕ, ◌*◌, ◌≤◌, List, length, Option}
 use Rattle.std.specs.List.Sorted.{IsSorted}
 use Rattle.std.specs.Io.KnownBytes.{Appends, IsAtEnd}
 use Rattle.theory.specs.System.{System, IsSystem, Hide}
@@ -14,9 +14,7 @@ use Rattle.autfmt.specs.Bounds.{Bounds}
 use Rattle.autfmt.specs.Texts.{Reads}
 use Rattle.autfmt.specs.declared.fault.Fault.{Fault}
 use Rattle.autfmt.specs.declared.fault.Fault.TheVariants.{Device, Memory}
-use Rattle.autfmt.specs.Faults.{FirstFault}
 use Rattle.autfmt.specs.Outcomes.{Refuses}
-use Rattle.autfmt.specs.Readers.{IsTextFault}
 use Rattle.autfmt.specs.Stream.{AppendsBeginning}
 use Rattle.autfmt.specs.Written.{listed, transition_cmp}
 use Rattle.autbis.specs.declared.run.Counts.{Counts}
@@ -64,21 +62,13 @@ pub record MinimisedText (asked : Request) (text : List ℕ) : Type 0 where
   pub sorted : IsSorted transition_cmp output.transitions
   pub read_again : Reads asked.bounds (listed output) output
 
--- known bytes have grown by the text of what the text is minimised to
-abbrev pub IsMinimised : Request → List ℕ → (old new : Option (List ℕ)) → Type 0
-IsMinimised asked text old new = (to : MinimisedText asked text) × Appends old new (listed to.output)
+-- the text is that of a system
+abbrev pub IsReadable : Bounds → List ℕ → Type 0
+IsReadable bounds text = (A : System) × Reads bounds text A
 
--- known bytes have grown by a beginning of the text of what the text is minimised to
-abbrev pub BeginsQuotient : Request → List ℕ → (old new : Option (List ℕ)) → Type 0
-BeginsQuotient asked text old new = (to : MinimisedText asked text) × AppendsBeginning old new (listed to.output)
-
--- P holds of a text: the one that a source tells, or some text if it tells none
-abbrev pub OfText : Option (List ℕ) → (List ℕ → Type 0) → Type 0
-OfText told P = (text : List ℕ) × IfSome told (λ bytes. bytes ≡ text) × P text
-
--- the text does not read as a system: it has a first fault
+-- the text is that of none
 abbrev pub IsFaulty : Bounds → List ℕ → Type 0
-IsFaulty bounds text = (f : Fault) × IsTextFault f × FirstFault bounds text f
+IsFaulty bounds text = (A : System) → ¬ Reads bounds text A
 
 -- a run read a text to its end, wrote the text of what it is minimised to, and made the rounds that its system takes, each with
 -- a visit of every transition, and at most two visits more of each

@@ -1,7 +1,13 @@
 //! One comparison, from the bytes of two texts to a verdict.
-ghost use Rattle.std.specs.Prelude.{◌≡◌, IfErr, OnOk, OnErr};
+ghost use Rattle.std.specs.Prelude.{◌≡◌, ◌↔◌, ◌+◌, ◌*◌, IsTrue, length, IfOk, IfErr, OnOk, OnErr};
 ghost use Rattle.std.specs.Io.KnownBytes.{Appends};
-ghost use Rattle.lts.specs.Meter.{IsFresh};
+ghost use Rattle.theory.specs.Bisimulation.{Equivalent};
+ghost use Rattle.theory.specs.Blocks.{Turns};
+ghost use Rattle.theory.specs.Union.{union_of};
+ghost use Rattle.lts.specs.Lts.{system_of};
+ghost use Rattle.lts.specs.Meter.{IsFresh, on_ok};
+ghost use Rattle.lts.specs.Union.{FitTogether};
+ghost use Rattle.quotient.specs.Visits.{KeepsTo};
 ghost use Rattle.autfmt.specs.Outcomes.{ReadsTo, Refuses, Takes};
 ghost use Rattle.autfmt.specs.Stream.{AppendsBeginning, CountsFailure};
 ghost use Rattle.autfmt.specs.declared.fault.Fault.TheVariants.{Device, Memory};
@@ -9,7 +15,8 @@ ghost use Rattle.autbis.specs.Comparisons.{CmpFails, ComparesTo, line_of};
 ghost use Rattle.autbis.specs.Runs.{Request, Used};
 ghost use Rattle.autbis.specs.declared.compare.Side.TheVariants.{First, Run};
 
-use autfmt::{Fault, Hidden, Limits, Sink, Source, put_all, read_hiding};
+use crate::reports::put_whole;
+use autfmt::{Fault, Hidden, Limits, Sink, Source, read_hiding};
 use lts::{Lts, Memory, Meter};
 use quotient::{Relation, equivalent};
 use std::alloc::Global;
@@ -88,7 +95,7 @@ pub fn run_cmp<M: Meter, R1: Source, R2: Source, W: Sink>(
     let _ = lim.transitions();
     let first: Lts<M> = read_side(alloc, a, lim, h, Side::First)?;
     let second: Lts<M> = read_side(alloc, b, lim, h, Side::Second)?;
-    let same = equivalent(alloc, &first, &second, rel, m)?;
+    let same = compared(alloc, &first, &second, rel, m)?;
     say(same, w)?;
     Ok(same)
 }
@@ -112,6 +119,26 @@ fn read_side<M: Meter, R: Source>(
     }
 }
 
+/// Whether two systems that were read are equivalent. From here on a refusal is one of the run, and of no text.
+fn compared<M: Meter>(
+    alloc: Global,
+    a: &Lts<M>,
+    b: &Lts<M>,
+    rel: Relation,
+    m: &mut M,
+) -> Result<bool, CmpFault>
+    requires fresh { IsFresh (M.counted m.old) }
+    requires fit { FitTogether a.now b.now }
+    ensures verdict { IfOk result (λ same. IsTrue same ↔ Equivalent rel (system_of a.now) (system_of b.now)) }
+    ensures turns { let both = union_of (system_of a.now) (system_of b.now) in
+        OnOk result (Turns rel both (M.counted m.new).rounds) }
+    ensures keeps { let at = M.counted m.new in let k = length a.now.places + length b.now.places in
+        KeepsTo (a.now.states + b.now.states) k 1 at (on_ok result ((at.rounds + 1) * k)) }
+    ensures fault { IfErr result (λ f. f ≡ record { side = Run; fault = Fault.Memory }) }
+{
+    Ok(equivalent(alloc, a, b, rel, m)?)
+}
+
 /// Puts the line of the verdict, and finishes the sink once.
 fn say<W: Sink>(same: bool, w: &mut W) -> Result<(), CmpFault>
     requires { W.failures w.old ≡ 0 }
@@ -121,12 +148,11 @@ fn say<W: Sink>(same: bool, w: &mut W) -> Result<(), CmpFault>
     ensures failures { CountsFailure result (W.failures w.new) }
 {
     let line = if same { "TRUE\n" } else { "FALSE\n" };
-    let put = put_all(w, line.as_bytes());
-    if put.is_ok() && w.finish().is_ok() {
-        return Ok(());
+    match put_whole(line.as_bytes(), w) {
+        Ok(()) => Ok(()),
+        Err(_) => Err(CmpFault {
+            side: Side::Run,
+            fault: Fault::Device,
+        }),
     }
-    Err(CmpFault {
-        side: Side::Run,
-        fault: Fault::Device,
-    })
 }

@@ -5,6 +5,7 @@
 mod compare;
 mod job;
 mod opener;
+mod opening;
 mod program;
 mod reports;
 mod run;

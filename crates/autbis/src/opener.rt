@@ -1,35 +1,38 @@
 //! Where files are opened by their names: a trait, and the file system.
-ghost use Rattle.std.specs.Prelude.{◌≡◌, ℕ, Bool, List, [], ◌∷◌, None, Some, Option, IfSome, IfOk};
-ghost use Rattle.autbis.specs.Files.{Name, NotesRefusal, Opens};
+ghost use Rattle.std.specs.Prelude.{◌≡◌, ℕ, List, [], ◌∷◌, None, Some, Option, IfSome, IfOk};
+ghost use Rattle.autfmt.specs.Stream.{CountsFailure};
+ghost use Rattle.autbis.specs.Files.{Name, Opens};
 
 use autfmt::{Broken, FromRead, Source};
 use std::fs;
+use std::marker::Model;
 use std::rt::Files;
 
-/// Opens files by their names, each to be read from its beginning.
+/// Opens files by their names, each to be read from its beginning. One failure ends it.
 pub trait Opener {
     /// A file that was opened.
     type File: Source + Drop;
 
-    // The names that were asked for so far, where the opener tells them.
+    // The names that were asked for so far, if the opener tells them.
     ghost opened: { Self → Option (List Name) };
 
-    // Whether a file could not be opened so far.
-    ghost has_refused: { Self → Bool };
+    // How often a file could not be opened.
+    ghost failures: { Self → ℕ };
 
-    // What the file of a name holds, where the opener tells it.
+    // What the file of a name holds, if the opener tells it.
     ghost holds: { Self → Name → Option (List ℕ) };
 
     /// Opens the file of this name.
     ///
     /// # Errors
-    /// `Broken` if it cannot be opened.
+    /// `Broken` if it cannot be opened, and `failures` is 1 from then on.
     fn open(&mut self, name: &str) -> Result<Self::File, Broken>
-        ensures sound { IfOk result (λ file. Self.File.failures file ≡ 0) }
+        requires sound { failures self.old ≡ 0 }
+        ensures unread { IfOk result (λ file. Self.File.failures file ≡ 0) }
         ensures bytes { IfSome (holds self.old name.now) (λ text.
             IfOk result (λ file. Self.File.rest file ≡ Some text)) }
         ensures opened { Opens (opened self.old) (opened self.new) (name.now ∷ []) }
-        ensures refused { NotesRefusal (has_refused self.old) (has_refused self.new) result }
+        ensures failures { CountsFailure result (failures self.new) }
         ensures others { (other : Name) → holds self.new other ≡ holds self.old other };
 }
 
@@ -37,15 +40,25 @@ pub trait Opener {
 #[derive(Drop)]
 pub struct Disk<'a, R> {
     files: &'a R,
-    has_refused: bool,
+    failed: bool,
+}
+
+impl<'a, R> Model for Disk<'a, R> {
+    ghost use Rattle.std.specs.Prelude.{ℕ, if◌then◌else◌};
+
+    ghost Value = { ℕ };
+
+    ghost view = { λ disk. if disk.failed then 1 else 0 };
 }
 
 impl<'a, R: Files> Disk<'a, R> {
-    /// The files that `files` opens.
-    pub fn new(files: &'a R) -> Disk<'a, R> {
+    /// The files that `files` opens. None has been refused so far.
+    pub fn new(files: &'a R) -> Disk<'a, R>
+        ensures { result ≡ 0 }
+    {
         Disk {
             files,
-            has_refused: false,
+            failed: false,
         }
     }
 }
@@ -55,7 +68,7 @@ impl<'a, R: Files> Opener for Disk<'a, R> {
 
     ghost opened = { λ _. None };
 
-    ghost has_refused = { λ disk. disk.has_refused };
+    ghost failures = { λ disk. disk };
 
     ghost holds = { λ _ _. None };
 
@@ -63,7 +76,7 @@ impl<'a, R: Files> Opener for Disk<'a, R> {
         match fs::open(self.files, name) {
             Ok(file) => Ok(FromRead::new(file)),
             Err(_) => {
-                self.has_refused = true;
+                self.failed = true;
                 Err(Broken)
             }
         }

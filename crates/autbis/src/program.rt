@@ -1,70 +1,19 @@
-//! A job done: the files opened, the run, and what is said of it.
-ghost use Rattle.std.specs.Prelude.{◌≡◌, ◌≤◌, ◌⊎◌, [], ◌∷◌, true, false, Some, IfSome, IfOk, IfErr, MatchResult, option_map, string_bytes};
-ghost use Rattle.autbis.specs.Comparisons.{BeginsVerdict, ComparesNamed, HasFaultySide, IsReadable};
+//! A run or a comparison, and what is said of it.
+ghost use Rattle.std.specs.Prelude.{◌≡◌, ◌≤◌, ◌⊎◌, IfSome};
 ghost use Rattle.autbis.specs.declared.compare.Side.TheVariants.{First, Second};
-ghost use Rattle.autbis.specs.Files.{Name, NotesRefusal, Opens};
-ghost use Rattle.autbis.specs.Jobs.{HasFaultyList, HasLostFile, HidesNamed, given};
-ghost use Rattle.autbis.specs.Reports.{IsFaultStatus};
-ghost use Rattle.autbis.specs.Runs.{BeginsQuotient, IsMinimised, IsFaulty, OfText, asks};
+ghost use Rattle.autbis.specs.Ends.{EndsRun, stream_used};
+ghost use Rattle.autbis.specs.Ends.Contents.{one, two};
+ghost use Rattle.autbis.specs.Runs.{IsReadable, asks};
 ghost use Rattle.theory.specs.Quotient.{allowance};
 
 use crate::compare::{CmpFault, Side, run_cmp};
-use crate::opener::Opener;
-use crate::reports::{cannot_open, report};
+use crate::reports::report;
 use crate::run::{Counts, run_min};
-use autfmt::{Hidden, Limits, Sink, Source, read_hidden};
+use autfmt::{Hidden, Limits, Sink, Source};
 use lts::{Counter, Meter};
 use quotient::Relation;
 use std::alloc::Global;
 use std::io::Write;
-
-/// Opens the file `name`.
-///
-/// # Errors
-/// The exit status, 5, if it cannot be opened. That is said on `e`.
-pub fn open<F: Opener, E: Write>(files: &mut F, name: &str, e: &mut E) -> Result<F::File, u8>
-    ensures sound { IfOk result (λ file. F.File.failures file ≡ 0) }
-    ensures bytes { IfSome (F.holds files.old name.now) (λ text.
-        IfOk result (λ file. F.File.rest file ≡ Some text)) }
-    ensures status { IfErr result (λ status. status ≡ 5) }
-    ensures opened { Opens (F.opened files.old) (F.opened files.new) (name.now ∷ []) }
-    ensures refused { NotesRefusal (F.has_refused files.old) (F.has_refused files.new) result }
-    ensures others { (other : Name) → F.holds files.new other ≡ F.holds files.old other }
-{
-    match files.open(name) {
-        Ok(file) => Ok(file),
-        Err(_) => Err(cannot_open(name, e)),
-    }
-}
-
-/// Opens and reads the hide list, and returns its labels; none if there is no list.
-///
-/// # Errors
-/// The exit status: 2 if the list is faulty, 4 for want of memory, 5 if it cannot be opened or read. That is said on `e`.
-pub fn hidden_of<F: Opener, E: Write>(
-    alloc: Global,
-    files: &mut F,
-    hide: &Option<String>,
-    e: &mut E,
-) -> Result<Hidden, u8>
-    ensures labels { IfOk result (HidesNamed (F.holds files.old) (option_map string_bytes hide.now)) }
-    ensures status { IfErr result IsFaultStatus }
-    ensures faulty { IfErr result (λ status. status ≡ 2 →
-        HasFaultyList (F.holds files.old) (option_map string_bytes hide.now)) }
-    ensures failed { IfErr result (λ status. status ≡ 5 → HasLostFile F.File.failures (F.has_refused files.new)) }
-    ensures opened { Opens (F.opened files.old) (F.opened files.new) (given (option_map string_bytes hide.now)) }
-    ensures refused { MatchResult result (λ _. F.has_refused files.new ≡ F.has_refused files.old)
-        (λ status. (status ≡ 5) ⊎ (F.has_refused files.new ≡ F.has_refused files.old)) }
-{
-    let Some(name) = hide else {
-        return Ok(Hidden::none(alloc));
-    };
-    let mut list = open(files, name.as_str(), e)?;
-    match read_hidden(alloc, &mut list) {
-        Ok(hidden) => Ok(hidden),
-        Err(fault) => Err(report(&fault, name.as_str(), e)),
-    }
-}
 
 /// Minimises the text of `r` to `w`, once, and returns the exit status: 0 if it is done, 2 if the text is faulty, 4 for want of
 /// memory, 5 if the source or the sink failed. With 2 and 4 nothing failed and nothing was written. A fault goes to `report`
@@ -82,21 +31,10 @@ pub fn min_program<R: Source, W: Sink, E: Write>(
 ) -> u8
     requires source { R.failures r.old ≡ 0 }
     requires sink { W.failures w.old ≡ 0 }
-
-    // What each status means.
-    ensures status { (result ≡ 0) ⊎ IsFaultStatus result }
-    ensures minimised { result ≡ 0 → OfText (R.rest r.old) (λ text.
-        IsMinimised (asks rel lim.now h.now) text (W.written w.old) (W.written w.new)) }
-    ensures faulty { result ≡ 2 → (R.failures r.new ≡ 0) × IfSome (R.rest r.old) (IsFaulty lim.now) }
-    ensures device { result ≡ 5 →
-        ((R.failures r.new ≡ 1) × (w.new ≡ w.old)) ⊎ ((R.failures r.new ≡ 0) × (W.failures w.new ≡ 1)) }
-    ensures begun { result ≡ 5 → R.failures r.new ≡ 0 → OfText (R.rest r.old) (λ text.
-        BeginsQuotient (asks rel lim.now h.now) text (W.written w.old) (W.written w.new)) }
-
-    // What is left.
-    ensures sound { result ≡ 0 → (R.failures r.new ≡ 0) × (W.failures w.new ≡ 0) }
-    ensures untouched { (result ≡ 2) ⊎ (result ≡ 4) → (R.failures r.new ≡ 0) × (w.new ≡ w.old) }
+    ensures ends { EndsRun (asks rel lim.now h.now) (one (R.rest r.old)) (R.failures r.new ≡ 0) (R.failures r.new ≡ 1)
+        (stream_used W.written W.failures w.old w.new) result }
 {
+    autfmt::a_text_reads_or_has_a_fault();
     let mut meter = Counter::new();
     match run_min(alloc, r, w, rel, lim, h, &mut meter) {
         Ok(counts) => {
@@ -128,28 +66,13 @@ pub fn cmp_program<R1: Source, R2: Source, W: Sink, E: Write>(
     requires first { R1.failures a.old ≡ 0 }
     requires second { R2.failures b.old ≡ 0 }
     requires sink { W.failures w.old ≡ 0 }
-
-    // What each status means.
-    ensures status { (result ≡ 0) ⊎ ((result ≡ 1) ⊎ IsFaultStatus result) }
-    ensures same { result ≡ 0 → ComparesNamed (asks rel lim.now h.now) (R1.rest a.old) (R2.rest b.old)
-        (W.written w.old) (W.written w.new) true }
-    ensures different { result ≡ 1 → ComparesNamed (asks rel lim.now h.now) (R1.rest a.old) (R2.rest b.old)
-        (W.written w.old) (W.written w.new) false }
-    ensures faulty { result ≡ 2 → HasFaultySide lim.now (R1.rest a.old) (R2.rest b.old) }
-    ensures device { result ≡ 5 →
-        ((R1.failures a.new ≡ 1) × (b.new ≡ b.old) × (w.new ≡ w.old))
-        ⊎ (((R1.failures a.new ≡ 0) × (R2.failures b.new ≡ 1) × (w.new ≡ w.old))
-        ⊎ ((R1.failures a.new ≡ 0) × (R2.failures b.new ≡ 0) × (W.failures w.new ≡ 1))) }
-    ensures begun { result ≡ 5 → R1.failures a.new ≡ 0 → R2.failures b.new ≡ 0 →
-        BeginsVerdict (asks rel lim.now h.now) (R1.rest a.old) (R2.rest b.old) (W.written w.old) (W.written w.new) }
-
-    // What is left.
+    ensures ends { EndsRun (asks rel lim.now h.now) (two (R1.rest a.old) (R2.rest b.old))
+        ((R1.failures a.new ≡ 0) × (R2.failures b.new ≡ 0))
+        (((R1.failures a.new ≡ 1) × (b.new ≡ b.old)) ⊎ ((R1.failures a.new ≡ 0) × (R2.failures b.new ≡ 1)))
+        (stream_used W.written W.failures w.old w.new) result }
     ensures unread { result ≡ 2 → (b.new ≡ b.old) ⊎ IfSome (R1.rest a.old) (IsReadable lim.now) }
-    ensures sound { (result ≡ 0) ⊎ (result ≡ 1) →
-        (R1.failures a.new ≡ 0) × (R2.failures b.new ≡ 0) × (W.failures w.new ≡ 0) }
-    ensures untouched { (result ≡ 2) ⊎ (result ≡ 4) →
-        (R1.failures a.new ≡ 0) × (R2.failures b.new ≡ 0) × (w.new ≡ w.old) }
 {
+    autfmt::a_text_reads_or_has_a_fault();
     match run_cmp(alloc, a, b, w, rel, lim, h, &mut Counter::new()) {
         Ok(true) => 0,
         Ok(false) => 1,

@@ -1,13 +1,17 @@
 //! What is said of a fault, and the exit status that stands for it.
-ghost use Rattle.std.specs.Prelude.{◌≡◌};
-ghost use Rattle.autbis.specs.Reports.{IsWordStatus, status_of};
+ghost use Rattle.std.specs.Prelude.{◌≡◌, OnOk, OnErr};
+ghost use Rattle.std.specs.Io.KnownBytes.{Appends};
+ghost use Rattle.autfmt.specs.Stream.{AppendsBeginning, CountsFailure};
+ghost use Rattle.autbis.specs.Ends.{stream_used};
+ghost use Rattle.autbis.specs.Programs.{EndsWords};
+ghost use Rattle.autbis.specs.Reports.{IsWordStatus, status_of, word_status};
 
-use autfmt::Fault;
+use autfmt::{Broken, Fault, Sink, put_all};
 use std::io::Write;
 use words::WordFault;
 
 /// Says the fault on `e`, and answers its exit status: 5 for `Device`, 4 for `Memory`, else 2. The
-/// line names `name`, the file or hide list, where the fault is of its text.
+/// line names `name`, the file or hide list, if the fault is of its text.
 pub fn report<E: Write>(f: &Fault, name: &str, e: &mut E) -> u8
     ensures status { result ≡ status_of f.now }
 {
@@ -38,9 +42,36 @@ pub fn cannot_open<E: Write>(name: &str, e: &mut E) -> u8
 }
 
 /// Says why the words ask for no job, on `e`, and answers the exit status: 3 for a usage fault or an
-/// unknown relation, 4 for want of memory. Help goes to `o`, with 0, or 5 where it cannot be written.
+/// unknown relation, 4 for want of memory. Help goes to `o`, with 0, or 5 if it cannot be written.
 pub fn report_words<O: Write, E: Write>(f: &WordFault, o: &mut O, e: &mut E) -> u8
     ensures status { IsWordStatus (O.contents o.old) (O.contents o.new) f.now result }
+{
+    match f {
+        WordFault::Help(text) => match o.write_all(text.as_bytes()) {
+            Ok(()) => 0,
+            Err(_) => report(&Fault::Device, "", e),
+        },
+        _ => say_words(f, e),
+    }
+}
+
+/// The same for a sink, which is finished once after help.
+pub fn answer_words<W: Sink, E: Write>(f: &WordFault, w: &mut W, e: &mut E) -> u8
+    requires { W.failures w.old ≡ 0 }
+    ensures ends { EndsWords (stream_used W.written W.failures w.old w.new) f.now result }
+{
+    match f {
+        WordFault::Help(text) => match put_whole(text.as_bytes(), w) {
+            Ok(()) => 0,
+            Err(_) => report(&Fault::Device, "", e),
+        },
+        _ => say_words(f, e),
+    }
+}
+
+/// Says why the words ask for no job, and answers the exit status. Of help nothing is said.
+fn say_words<E: Write>(f: &WordFault, e: &mut E) -> u8
+    ensures status { result ≡ word_status f.now }
 {
     match f {
         WordFault::Usage(text) => {
@@ -51,10 +82,21 @@ pub fn report_words<O: Write, E: Write>(f: &WordFault, o: &mut O, e: &mut E) -> 
             let _ = writeln!(e, "autbis: unknown relation: {word}");
             3
         }
-        WordFault::Help(text) => match o.write_all(text.as_bytes()) {
-            Ok(()) => 0,
-            Err(_) => report(&Fault::Device, "", e),
-        },
+        WordFault::Help(_) => 0,
         WordFault::Memory => report(&Fault::Memory, "", e),
     }
+}
+
+/// Puts all of `b`, and finishes the sink once.
+///
+/// # Errors
+/// `Broken` if the sink fails; a beginning of `b` was put.
+pub fn put_whole<W: Sink>(b: &[u8], w: &mut W) -> Result<(), Broken>
+    requires { W.failures w.old ≡ 0 }
+    ensures ok { OnOk result (Appends (W.written w.old) (W.written w.new) b.now) }
+    ensures err { OnErr result (AppendsBeginning (W.written w.old) (W.written w.new) b.now) }
+    ensures failures { CountsFailure result (W.failures w.new) }
+{
+    put_all(w, b)?;
+    w.finish()
 }

@@ -12,14 +12,12 @@ fn main(rt: HostRuntime) -> ExitCode {
         &mut FromRead::new(rt.stdin()),
         &mut ToWrite::new(rt.stdout()),
     );
-    let (help, errors) = (&mut rt.stdout(), &mut rt.stderr());
     ExitCode::from(main_program(
         rt.alloc(),
         words,
         &mut Disk::new(&rt),
         input,
         output,
-        help,
-        errors,
+        &mut rt.stderr(),
     ))
 }

@@ -1,10 +1,11 @@
 //! The worked examples of whole programs, over files in memory and those of the test.
-ghost use Rattle.std.specs.Prelude.{None};
+ghost use Rattle.std.specs.Prelude.{◌≡◌, None};
 
-use super::commands::{Closed, words_of};
+use super::commands::words_of;
 use autbis::{Disk, Opener, main_program};
 use autfmt::{Broken, SliceSource, VecSink};
 use std::alloc::{AllocError, Global};
+use std::marker::Model;
 use std::test::Fail;
 use worked::{LONE_STATE_TEXT, STEP, TWO_EQUAL_TARGETS_TEXT, check};
 
@@ -21,7 +22,15 @@ const FILES: [(&str, &[u8]); 6] = [
 /// What opens these files and no others.
 #[derive(Drop)]
 struct Shelf {
-    has_refused: bool,
+    failed: bool,
+}
+
+impl Model for Shelf {
+    ghost use Rattle.std.specs.Prelude.{ℕ, if◌then◌else◌};
+
+    ghost Value = { ℕ };
+
+    ghost view = { λ shelf. if shelf.failed then 1 else 0 };
 }
 
 impl Opener for Shelf {
@@ -29,7 +38,7 @@ impl Opener for Shelf {
 
     ghost opened = { λ _. None };
 
-    ghost has_refused = { λ shelf. shelf.has_refused };
+    ghost failures = { λ shelf. shelf };
 
     ghost holds = { λ _ _. None };
 
@@ -39,20 +48,23 @@ impl Opener for Shelf {
                 return Ok(SliceSource::new(*text, None));
             }
         }
-        self.has_refused = true;
+        self.failed = true;
         Err(Broken)
     }
 }
 
 /// How the program ends a line of words over these files: the exit status, and what it wrote and said. Standard input is
-/// the text of `two-equal-targets`.
+/// the text of `two-equal-targets`, and the output fails after so many bytes, if it does.
 fn ended<F: Opener>(
     files: &mut F,
     alloc: Global,
     line: &str,
-) -> Result<(u8, VecSink, Vec<u8>), AllocError> {
+    room: Option<usize>,
+) -> Result<(u8, VecSink, Vec<u8>), AllocError>
+    requires { F.failures files.old ≡ 0 }
+{
     let words = words_of(alloc, line, '/')?;
-    let mut output = VecSink::new(alloc, None);
+    let mut output = VecSink::new(alloc, room);
     let mut said = Vec::new(alloc);
     let status = main_program(
         alloc,
@@ -60,7 +72,6 @@ fn ended<F: Opener>(
         files,
         &mut SliceSource::new(TWO_EQUAL_TARGETS_TEXT, None),
         &mut output,
-        &mut Closed,
         &mut said,
     );
     Ok((status, output, said))
@@ -69,7 +80,8 @@ fn ended<F: Opener>(
 /// A line of words, the exit status, and what is written and said.
 type Ends = (&'static str, u8, &'static [u8], &'static [u8]);
 
-const ENDS: [Ends; 11] = [
+const ENDS: [Ends; 12] = [
+    ("autbis/--version", 0, b"autbis 0.1.0\n", b""),
     ("autbis/min", 0, STEP, b""),
     ("autbis/min/two.aut", 0, STEP, b""),
     (
@@ -121,8 +133,8 @@ const ENDS: [Ends; 11] = [
 /// Whether the program ends the line of words so.
 fn ends(alloc: Global, row: &Ends) -> Result<bool, AllocError> {
     let (line, status, out, message) = *row;
-    let mut shelf = Shelf { has_refused: false };
-    let (found, output, said) = ended(&mut shelf, alloc, line)?;
+    let mut shelf = Shelf { failed: false };
+    let (found, output, said) = ended(&mut shelf, alloc, line, None)?;
     Ok(found == status && output.bytes() == out && said.as_slice() == message)
 }
 
@@ -130,6 +142,25 @@ fn ends(alloc: Global, row: &Ends) -> Result<bool, AllocError> {
 fn files_in_memory(rt: HostRuntime) -> Result<(), Fail> {
     for row in &ENDS {
         check(row.0, ends(rt.alloc(), row)?)?;
+    }
+    Ok(())
+}
+
+/// Words after which something is written, and its first three bytes, for which there is room.
+const FULL: [(&str, &[u8]); 4] = [
+    ("autbis/--help", b"Min"),
+    ("autbis/--version", b"aut"),
+    ("autbis/min/two.aut", b"des"),
+    ("autbis/cmp/two.aut/two.aut", b"TRU"),
+];
+
+#[test]
+fn full_output(rt: HostRuntime) -> Result<(), Fail> {
+    for (line, written) in &FULL {
+        let mut shelf = Shelf { failed: false };
+        let (status, output, said) = ended(&mut shelf, rt.alloc(), line, Some(3))?;
+        let is_said = said.as_slice() == b"autbis: read or write failed\n".as_slice();
+        check(line, output.bytes() == *written && status == 5 && is_said)?;
     }
     Ok(())
 }
@@ -153,7 +184,7 @@ const NO_FILE: [(&str, &str); 3] = [
 #[test]
 fn no_file(rt: HostRuntime) -> Result<(), Fail> {
     for (line, message) in &NO_FILE {
-        let (status, output, said) = ended(&mut Disk::new(&rt), rt.alloc(), line)?;
+        let (status, output, said) = ended(&mut Disk::new(&rt), rt.alloc(), line, None)?;
         let is_said = said.as_slice() == message.as_bytes();
         check(line, output.bytes().is_empty() && status == 5 && is_said)?;
     }
@@ -163,7 +194,7 @@ fn no_file(rt: HostRuntime) -> Result<(), Fail> {
 /// A folder may be opened, and is then not read; or it cannot be opened.
 #[test]
 fn folder(rt: HostRuntime) -> Result<(), Fail> {
-    let (status, output, said) = ended(&mut Disk::new(&rt), rt.alloc(), "autbis/min/.")?;
+    let (status, output, said) = ended(&mut Disk::new(&rt), rt.alloc(), "autbis/min/.", None)?;
     let said = said.as_slice();
     let unread = said == b"autbis: read or write failed\n".as_slice();
     let unopened = said == b"autbis: .: cannot open\n".as_slice();

@@ -1,22 +1,21 @@
-use Rattle.std.proofs.Common.{◌↔◌, ◌+◌, ◌*◌, Bool, IsTrue, List, ℕ, length, refl, arith}
+use Rattle.std.proofs.Common.{◌↔◌, ◌+◌, ◌*◌, Bool, IsTrue, List, ℕ, length, ap, arith}
 use Rattle.std.proofs.lemmas.Result.{err_from_is_err_and}
 use Rattle.theory.specs.Bisimulation.{Equivalent}
 use Rattle.theory.specs.Blocks.{Turns}
 use Rattle.theory.specs.Union.{union_of}
 use Rattle.lts.specs.Lts.{system_of}
 use Rattle.quotient.specs.Visits.{KeepsTo}
-use Rattle.autfmt.specs.declared.fault.Fault.TheVariants.{Memory}
 use Rattle.autbis.specs.Comparisons.{CountsComparison, CountsUnion, IsVerdict, ReadBoth}
 use Rattle.autbis.specs.Comparisons.CmpFails.{first_side, after_first}
 use Rattle.autbis.specs.Comparisons.FailsAfterFirst.{second_side, run_side}
 use Rattle.autbis.specs.Comparisons.NoLine.{no_memory, failed_sink}
 use Rattle.autbis.specs.Runs.{Request, asks}
-use Rattle.autbis.specs.declared.compare.Side.TheVariants.{Run}
+use Rattle.autbis.specs.declared.compare.CmpFault.{CmpFault}
 use Rattle.autbis.proofs.Carried.{at_error, takes_error}
 use Rattle.autbis.proofs.Comparing.{OrderLaws, both_read, counted_part, counted_whole, verdict_of}
 use Rattle.autbis.proofs.compare.run_cmp.Given.{Over}
 use Rattle.autbis.proofs.compare.run_cmp.Goals as goal
-use Rattle.autbis.proofs.compare.run_cmp.Goals.{After-equivalent}
+use Rattle.autbis.proofs.compare.run_cmp.Goals.{After-compared}
 
 pub returns-in_err-first-clause-outcome : goal.returns-in_err-first-clause-outcome
 returns-in_err-first-clause-outcome g c =
@@ -35,7 +34,7 @@ returns-in_err-second-clause-outcome g c =
     (second_side got.outcome.0 (one.outcome.read.0, one.outcome.read.1) got.outcome.1 c.requires.sink c.requires.fresh))
 
 -- both texts were read, and their systems compared
-module _ (g : Over) (c : After-equivalent g) where
+module _ (g : Over) (c : After-compared g) where
   abbrev first : List ℕ
   first = c.in_ok-first.ensures.outcome.given
 
@@ -63,39 +62,40 @@ module _ (g : Over) (c : After-equivalent g) where
       c.in_ok-first.ensures.outcome.outcome.read c.in_ok-second.ensures.outcome.outcome.read law
 
   -- the meter shows what the union of the texts takes
-  counted : (let at = g.M.Meter.counted c.equivalent.new.m in
+  counted : (let at = g.M.Meter.counted c.compared.new.m in
       let k = length c.in_ok-first.first.places + length c.in_ok-second.second.places in
       Turns c.args.rel (union_of (system_of c.in_ok-first.first) (system_of c.in_ok-second.second)) at.rounds →
       KeepsTo (c.in_ok-first.first.states + c.in_ok-second.second.states) k 1 at ((at.rounds + 1) * k) → CountsUnion asked both at)
   counted = counted_whole asked first second c.in_ok-first.first c.in_ok-second.second
-      c.in_ok-first.ensures.outcome.outcome.read c.in_ok-second.ensures.outcome.outcome.read (g.M.Meter.counted c.equivalent.new.m)
+      c.in_ok-first.ensures.outcome.outcome.read c.in_ok-second.ensures.outcome.outcome.read (g.M.Meter.counted c.compared.new.m)
       c.in_ok-first.ensures.outcome.outcome.as_many c.in_ok-second.ensures.outcome.outcome.as_many law
 
   -- or keeps to it
-  part : CountsComparison both (g.M.Meter.counted c.equivalent.new.m)
+  part : CountsComparison both (g.M.Meter.counted c.compared.new.m)
   part = counted_part asked first second c.in_ok-first.first c.in_ok-second.second
-      c.in_ok-first.ensures.outcome.outcome.read c.in_ok-second.ensures.outcome.outcome.read (g.M.Meter.counted c.equivalent.new.m)
-      c.in_ok-first.ensures.outcome.outcome.as_many c.in_ok-second.ensures.outcome.outcome.as_many _ c.equivalent.ensures.keeps
+      c.in_ok-first.ensures.outcome.outcome.read c.in_ok-second.ensures.outcome.outcome.read (g.M.Meter.counted c.compared.new.m)
+      c.in_ok-first.ensures.outcome.outcome.as_many c.in_ok-second.ensures.outcome.outcome.as_many _ c.compared.ensures.keeps
 
 pub returns-in_err-same-clause-outcome : goal.returns-in_err-same-clause-outcome
 returns-in_err-same-clause-outcome g c =
-    let at = (goal.at.returns-in_err-same-clause-outcome g c).After-equivalent in
+    let at = (goal.at.returns-in_err-same-clause-outcome g c).After-compared in
     let one = c.in_ok-first.ensures.outcome in
     let other = c.in_ok-second.ensures.outcome in
     let exit = err_from_is_err_and c.from_residual-in_err-same.result c.from_residual-in_err-same.ensures.1 in
-    takes_error _ _ _ _ c.from_residual-in_err-same.result (record { side = Run; fault = Memory }) one.given exit one.took
+    let fault = c.in_err-same.ensures.fault in
+    takes_error _ _ _ _ c.from_residual-in_err-same.result c.in_err-same.field-0.0 one.given exit one.took
     (after_first (record { at_end = one.outcome.at_end; sound = one.outcome.sound }) other.given other.took
-    (run_side refl (record { at_end = other.outcome.at_end; sound = other.outcome.sound }) (both g at) (part g at)
-    (no_memory refl c.requires.sink)))
+    (run_side (ap (λ (f : CmpFault). f.side) fault) (record { at_end = other.outcome.at_end; sound = other.outcome.sound }) (both g at) (part g at)
+    (no_memory (ap (λ (f : CmpFault). f.fault) fault) c.requires.sink)))
 
 pub returns-in_err-say-clause-outcome : goal.returns-in_err-say-clause-outcome
 returns-in_err-say-clause-outcome g c =
-    let at = (goal.at.returns-in_err-say-clause-outcome g c).After-equivalent in
+    let at = (goal.at.returns-in_err-say-clause-outcome g c).After-compared in
     let one = c.in_ok-first.ensures.outcome in
     let other = c.in_ok-second.ensures.outcome in
     let is = c.in_err-say.ensures in
     let exit = err_from_is_err_and c.from_residual-in_err-say.result c.from_residual-in_err-say.ensures.1 in
-    let compared = rw c.in_ok-same.was at c.equivalent.ensures in
+    let compared = rw c.in_ok-same.was at c.compared.ensures in
     takes_error _ _ _ _ c.from_residual-in_err-say.result c.in_err-say.field-0.0 one.given exit one.took
     (after_first (record { at_end = one.outcome.at_end; sound = one.outcome.sound }) other.given other.took
     (run_side is.fault.0 (record { at_end = other.outcome.at_end; sound = other.outcome.sound }) (both g at) (part g at)
@@ -109,10 +109,10 @@ returns-in_err-say-clause-untouched g c =
 
 pub returns-clause-outcome : goal.returns-clause-outcome
 returns-clause-outcome g c =
-    let at = (goal.at.returns-clause-outcome g c).After-equivalent in
+    let at = (goal.at.returns-clause-outcome g c).After-compared in
     let one = c.in_ok-first.ensures.outcome in
     let other = c.in_ok-second.ensures.outcome in
-    let is = rw c.in_ok-same.was at c.equivalent.ensures in
+    let is = rw c.in_ok-same.was at c.compared.ensures in
     record {
       given = one.given;
       took = one.took;

@@ -1,21 +1,19 @@
 use Rattle.std.proofs.Common.{refl}
-use Rattle.std.proofs.lemmas.Result.{IfOk-weaker}
+use Rattle.std.proofs.lemmas.Result.{IfErr-weaker, IfOk-weaker}
 use Rattle.autbis.specs.Programs.AnswersWords.{job, no_job}
 use Rattle.autbis.proofs.job.main_program.Goals as goal
 
 pub returns-in-Ok-clause-answer : goal.returns-in-Ok-clause-answer
 returns-in-Ok-clause-answer g c =
-    let did = c.do_job.ensures in
-    IfOk-weaker c.args.words _ _ (λ words asks. job c.in-Ok.job asks (record {
-      known = did.status;
-      done = did.done;
-      different = did.different;
-      faulty = did.faulty;
-      failed = did.failed;
-      order = did.order;
-      all_opened = did.opened;
-    })) c.in-Ok.ensures.job
+    IfOk-weaker c.args.words _ _ (λ words asks. job c.in-Ok.job asks c.do_job.ensures.ends) c.in-Ok.ensures.job
 
 pub returns-in-Err-clause-answer : goal.returns-in-Err-clause-answer
-returns-in-Err-clause-answer g c =
-    IfOk-weaker c.args.words _ _ (λ words asks. no_job c.in-Err.fault asks (refl, refl, refl) c.report_words.ensures.status) c.in-Err.ensures.fault
+returns-in-Err-clause-answer g c = IfOk-weaker c.args.words _ _
+    (λ words asks. no_job c.in-Err.fault asks refl refl c.answer_words.ensures.ends) c.in-Err.ensures.fault
+
+pub returns-in-Ok-clause-unread : goal.returns-in-Ok-clause-unread
+returns-in-Ok-clause-unread g c = IfErr-weaker c.args.words _ _ (λ error none. absurd none) c.in-Ok.ensures.unread
+
+pub returns-in-Err-clause-unread : goal.returns-in-Err-clause-unread
+returns-in-Err-clause-unread g c = IfErr-weaker c.args.words _ _
+    (λ error fault. no_job c.in-Err.fault fault refl refl c.answer_words.ensures.ends) c.in-Err.ensures.unread

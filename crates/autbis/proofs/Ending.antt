@@ -1,0 +1,166 @@
+-- What a run or a comparison comes to: its answer, which text is faulty, or what failed.
+use Rattle.std.proofs.Common.{◌≡◌, ◌↔◌, ◌⊎◌, ℕ, Bool, IsTrue, List, ◌++◌, Option, Some, None, IfSome, if◌then◌else◌, inl, inr, ap, refl, sym, subst, arith}
+use Rattle.std.specs.Io.KnownBytes.{Consumes}
+use Rattle.lts.specs.Meter.{Counts}
+use Rattle.std.specs.List.Sorted.{IsSorted}
+use Rattle.theory.specs.Bisimulation.{Equivalent}
+use Rattle.theory.specs.Quotient.{Quotient}
+use Rattle.theory.specs.System.{System, Hide}
+use Rattle.autfmt.specs.Bounds.{Bounds}
+use Rattle.autfmt.specs.declared.fault.Fault.{Fault}
+use Rattle.autfmt.specs.declared.fault.Fault.TheVariants.{Device, Memory}
+use Rattle.autfmt.specs.Faults.{FirstFault}
+use Rattle.autfmt.specs.HideLists.{FirstHideFault, HideReads}
+use Rattle.autfmt.specs.HideOutcomes.{HideRefuses}
+use Rattle.autfmt.specs.HideOutcomes.HideRefuses.{faulty_text as list_fault, failed_source as list_lost, no_memory as list_memory}
+use Rattle.autfmt.specs.Outcomes.{Refuses}
+use Rattle.autfmt.specs.Outcomes.Refuses.{faulty_text, failed_source, no_memory as refused_memory}
+use Rattle.autfmt.specs.Readers.{IsTextFault}
+use Rattle.autfmt.specs.Texts.{Reads}
+use Rattle.autfmt.specs.Written.{listed, transition_cmp}
+use Rattle.autbis.specs.declared.compare.CmpFault.{CmpFault}
+use Rattle.autbis.specs.declared.compare.Side.TheVariants.{First}
+use Rattle.autbis.specs.Comparisons.{CmpFails, ComparesTo, IsVerdict, ReadBoth, line_of}
+use Rattle.autbis.specs.Comparisons.CmpFails.{first_side, after_first}
+use Rattle.autbis.specs.Comparisons.FailsAfterFirst.{second_side, run_side}
+use Rattle.autbis.specs.Comparisons.NoLine.{no_memory as no_room, failed_sink}
+use Rattle.autbis.specs.Ends.{Contents, EndsRun, HasFaultyText, StreamUsed}
+use Rattle.autbis.specs.Ends.Contents.{one, two}
+use Rattle.autbis.specs.Ends.EndsRun.{answered, faulty, no_memory, lost, cut_short}
+use Rattle.autbis.specs.Reports.{status_of}
+use Rattle.autbis.specs.Runs.{IsFaulty, IsReadable, MinimisedText, Request, RunFails, Used}
+use Rattle.autbis.specs.Runs.RunFails.{not_read, out_of_memory, not_written}
+use Rattle.autbis.proofs.Carried.{all_taken, of_all}
+
+-- what holds of the bytes that were taken and of those that are left holds of the text that was told
+told_whole : (P : List ℕ → Type 0) (given : List ℕ) (told rest : Option (List ℕ)) → Consumes told rest given →
+    IfSome rest (λ more. P (given ++ more)) → IfSome told P
+told_whole P given None rest took first = tt
+told_whole P given (Some text) None took first = absurd took
+told_whole P given (Some text) (Some more) took first = subst P (sym took) first
+
+-- the law that no text reads and has a fault
+abbrev pub NotBoth : Bounds → Type 0
+NotBoth bounds = (text : List ℕ) (A : System) (f : Fault) → Reads bounds text A → ¬ FirstFault bounds text f
+
+-- a text that has a first fault is faulty
+is_faulty : (bounds : Bounds) → NotBoth bounds → (fault : Fault) (told : Option (List ℕ)) → IfSome told (λ text. FirstFault bounds text fault) →
+    IfSome told (IsFaulty bounds)
+is_faulty bounds law fault None first = tt
+is_faulty bounds law fault (Some text) first = λ A reads. law text A fault reads first
+
+-- a fault of a text has the status 2
+text_status : (fault : Fault) → IsTextFault fault → status_of fault ≡ 2
+text_status Device h = absurd h
+text_status Memory h = absurd h
+text_status _ h = refl
+
+-- the text that was told has a fault, if this one of the bytes that were taken and of those that are left is its first
+faulty_told : (bounds : Bounds) → NotBoth bounds → (given : List ℕ) (told rest : Option (List ℕ)) (fault : Fault) → Consumes told rest given →
+    IfSome rest (λ more. FirstFault bounds (given ++ more) fault) → IfSome told (IsFaulty bounds)
+faulty_told bounds law given told rest fault took first =
+    is_faulty bounds law fault told (told_whole (λ text. FirstFault bounds text fault) given told rest took first)
+
+-- what a text is minimised to is its answer
+pub minimised : {asked : Request} {text : List ℕ} {status : ℕ} (to : MinimisedText asked text) → status ≡ 0 →
+    (A Q : System) × Reads asked.bounds text A × Quotient asked.relation (Hide asked.hidden A) Q × IsSorted transition_cmp Q.transitions
+    × (listed to.output ≡ listed Q) × (status ≡ 0)
+minimised to is = (to.input, to.output, to.read, to.minimises.quotient, to.sorted, refl, is)
+
+-- and a verdict is that of two
+compared : (asked : Request) {first second : List ℕ} {same : Bool} {status : ℕ} (both : ReadBoth asked.bounds first second) → IsVerdict asked both same →
+    status ≡ (if same then 0 else 1) → (A B : System) × Reads asked.bounds first A × Reads asked.bounds second B × (x : Bool)
+    × (IsTrue x ↔ Equivalent asked.relation (Hide asked.hidden A) (Hide asked.hidden B)) × (line_of same ≡ line_of x) × (status ≡ (if x then 0 else 1))
+compared asked {same = same} both verdict is = (both.one, both.other, both.reads_first, both.reads_second, same, verdict, refl, is)
+
+-- what a source, a sink or a call was used for
+abbrev pub used : {T : Type 0} → StreamUsed T → Used
+used stream = record { before = stream.tells stream.old; after = stream.tells stream.new; failures = stream.failures stream.new }
+
+module _ {Out : Type 0} (asked : Request) (law : NotBoth asked.bounds) (output : StreamUsed Out) where
+  -- a run that read no system of a text
+  ends_unread : {contents : Contents} {Sound Lost : Type 0} (given : List ℕ) (told rest : Option (List ℕ)) (failures : ℕ) (fault : Fault) →
+      Consumes told rest given → output.new ≡ output.old → (failures ≡ 0 → Sound) → (failures ≡ 1 → Lost) →
+      (IfSome told (IsFaulty asked.bounds) → HasFaultyText asked.bounds contents) →
+      Refuses asked.bounds given rest failures fault → EndsRun asked contents Sound Lost output (status_of fault)
+  ends_unread given told rest failures fault took kept sound loses wrong (faulty_text zero of_text first) =
+      faulty (sound zero) (text_status fault of_text) (wrong (faulty_told asked.bounds law given told rest fault took first)) kept
+  ends_unread given told rest failures fault took kept sound loses wrong (failed_source failed device unknown) =
+      lost (loses failed) (ap status_of device) kept
+  ends_unread given told rest failures fault took kept sound loses wrong (refused_memory zero memory header) =
+      no_memory (sound zero) (ap status_of memory) kept
+
+  -- a run that failed
+  pub ends_run : {given : List ℕ} {source : Used} {at : Counts} {fault : Fault} → Consumes source.before source.after given →
+      (output.failures output.new ≡ 0 → output.new ≡ output.old) → RunFails asked given source (used output) at fault →
+      EndsRun asked (one source.before) (source.failures ≡ 0) (source.failures ≡ 1) output (status_of fault)
+  ends_run {given} {source} {at} {fault} took kept (not_read refused sound fresh) =
+      ends_unread given source.before source.after source.failures fault took (kept sound) (λ z. z) (λ z. z) (λ z. z) refused
+  ends_run took kept (out_of_memory got memory sound) = no_memory got.exhausted.sound (ap status_of memory) (kept sound)
+  ends_run {given} {source} took kept (not_written got device failed to begun) =
+      cut_short got.exhausted.sound (ap status_of device) failed (listed to.output) 0
+      (of_all source.before source.after given _ took got.exhausted.at_end (minimised to refl)) begun
+
+  module _ {first : List ℕ} {source other : Used} {at : Counts} (took : Consumes source.before source.after first) where
+    -- a comparison that came to a verdict
+    pub ends_verdict : {same : Bool} {status : ℕ} {Lost : Type 0} → status ≡ (if same then 0 else 1) →
+        ComparesTo asked first source other (used output) at same →
+        EndsRun asked (two source.before other.before) ((source.failures ≡ 0) × (other.failures ≡ 0)) Lost output status
+    ends_verdict {same} is did = answered (did.exhausted.0.sound, did.exhausted.1.sound) (line_of same)
+        (of_all source.before source.after first _ took did.exhausted.0.at_end
+        (of_all other.before other.after did.second _ did.took did.exhausted.1.at_end (compared asked did.both did.verdict is)))
+        did.written.written did.written.sound
+
+    -- one that failed
+    pub ends_cmp : {fault : CmpFault} (Unread : Type 0) → (fault.side ≡ First → Unread) → (output.failures output.new ≡ 0 → output.new ≡ output.old) →
+        CmpFails asked first source other (used output) at fault →
+        EndsRun asked (two source.before other.before) ((source.failures ≡ 0) × (other.failures ≡ 0))
+        (((source.failures ≡ 1) × Unread) ⊎ ((source.failures ≡ 0) × (other.failures ≡ 1))) output (status_of fault.fault)
+    ends_cmp {fault} Unread unread kept (first_side side refused sound fresh) =
+        ends_unread first source.before source.after source.failures fault.fault took (kept sound.1)
+        (λ zero. (zero, sound.0)) (λ failed. inl (failed, unread side)) inl refused
+    ends_cmp {fault} Unread unread kept (after_first whole second took' (second_side side readable refused sound fresh)) =
+        ends_unread second other.before other.after other.failures fault.fault took' (kept sound)
+        (λ zero. (whole.sound, zero)) (λ failed. inr (whole.sound, failed))
+        (λ wrong. inr (all_taken source.before source.after first (IsReadable asked.bounds) took whole.at_end readable, wrong)) refused
+    ends_cmp Unread unread kept (after_first whole second took' (run_side side whole' both counts (no_room memory sound))) =
+        no_memory (whole.sound, whole'.sound) (ap status_of memory) (kept sound)
+    ends_cmp Unread unread kept (after_first whole second took' (run_side side whole' both counts (failed_sink device failed same verdict begun))) =
+        cut_short (whole.sound, whole'.sound) (ap status_of device) failed (line_of same) (if same then 0 else 1)
+        (of_all source.before source.after first _ took whole.at_end
+        (of_all other.before other.after second _ took' whole'.at_end (compared asked both verdict refl))) begun
+
+    -- its fault is of the first text, or that one reads as a system
+    pub first_or_readable : {fault : CmpFault} → CmpFails asked first source other (used output) at fault →
+        (fault.side ≡ First) ⊎ IfSome source.before (IsReadable asked.bounds)
+    first_or_readable (first_side side refused sound fresh) = inl side
+    first_or_readable (after_first whole second took' (second_side side readable refused sound fresh)) =
+        inr (all_taken source.before source.after first (IsReadable asked.bounds) took whole.at_end readable)
+    first_or_readable (after_first whole second took' (run_side side whole' both counts no_line)) =
+        inr (all_taken source.before source.after first (IsReadable asked.bounds) took whole.at_end (both.one, both.reads_first))
+
+-- what is said of some sources may be said of others, if what is said of those follows
+pub ends_weaker : {Out : Type 0} {asked : Request} {contents : Contents} {Sound Lost Sound' Lost' : Type 0} {output : StreamUsed Out} {status : ℕ} →
+    (Sound → Sound') → (Lost → Lost') → EndsRun asked contents Sound Lost output status → EndsRun asked contents Sound' Lost' output status
+ends_weaker sound loses (answered zero bytes is appends kept) = answered (sound zero) bytes is appends kept
+ends_weaker sound loses (faulty zero is wrong kept) = faulty (sound zero) is wrong kept
+ends_weaker sound loses (no_memory zero is kept) = no_memory (sound zero) is kept
+ends_weaker sound loses (cut_short zero is failed bytes wanted answer begun) = cut_short (sound zero) is failed bytes wanted answer begun
+ends_weaker sound loses (lost failed is kept) = lost (loses failed) is kept
+
+-- the law that no hide list reads and has a fault
+abbrev pub NotBothOfList : Type 0
+NotBothOfList = (text : List ℕ) (H : List (List ℕ)) (f : Fault) → HideReads text H → ¬ FirstHideFault text f
+
+-- a list that has a first fault is faulty
+is_faulty_list : NotBothOfList → (fault : Fault) (told : Option (List ℕ)) → IfSome told (λ text. FirstHideFault text fault) → IfSome told (λ list. (H : List (List ℕ)) → ¬ HideReads list H)
+is_faulty_list law fault None first = tt
+is_faulty_list law fault (Some text) first = λ H reads. law text H fault reads first
+
+-- with the status 2 the hide list that was told is faulty
+pub faulty_list : NotBothOfList → (given : List ℕ) (told rest : Option (List ℕ)) (failures : ℕ) (fault : Fault) → Consumes told rest given →
+    HideRefuses given rest failures fault → status_of fault ≡ 2 → IfSome told (λ list. (H : List (List ℕ)) → ¬ HideReads list H)
+faulty_list law given told rest failures fault took (list_fault sound of_text first) is =
+    is_faulty_list law fault told (told_whole (λ text. FirstHideFault text fault) given told rest took first)
+faulty_list law given told rest failures fault took (list_lost failed device unknown) is = absurd (omega (arith, ap status_of device, is))
+faulty_list law given told rest failures fault took (list_memory sound memory) is = absurd (omega (arith, ap status_of memory, is))
