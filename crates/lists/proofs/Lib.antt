@@ -13,3 +13,5 @@ pub mod Hashing
 pub mod Searching
 pub mod Halving
 pub mod Uniting
+pub mod Joining
+pub mod Noting

@@ -16,7 +16,7 @@ use Rattle.lists.proofs.Merging.{merged_has, merged_rises}
 use Rattle.lists.proofs.Pairs.{pair_total}
 use Rattle.lists.proofs.Rising.{rising_fewer}
 
-none_in : (list : List (ℕ × ℕ)) → list ≡ [] → (z : ℕ × ℕ) → Contains list z → ⊥
+pub none_in : (list : List (ℕ × ℕ)) → list ≡ [] → (z : ℕ × ℕ) → Contains list z → ⊥
 none_in list e z d = let none = ap length e in let k = d.1 in omega arith
 
 -- a list in two at a place that suits it

@@ -14,3 +14,7 @@ IsNone z = z ≡ ((0, 0), 0)
 pub record HasPlaces (count : ℕ) : Type 0 where
   pub some : 0 < count
   pub few : count < 2 ^ 32
+
+-- what stands where no union was noted
+abbrev pub none : Union
+none = record { first = 0; second = 0; union = 0 }

@@ -1,7 +1,7 @@
 //! The unions that `unions` has made, so that few are made twice.
 ghost use Rattle.std.specs.Prelude.{◌≡◌, ◌⊎◌, ℕ, ◌<◌, map, length, IfOk, IfSome};
 ghost use Rattle.std.specs.List.{All, Contains};
-ghost use Rattle.lists.specs.Known.{union_of, HasPlaces, IsNone};
+ghost use Rattle.lists.specs.Known.{none, union_of, HasPlaces, IsNone};
 
 use crate::hashed::bucket;
 use crate::span::{hash, mix};
@@ -23,7 +23,9 @@ pub(crate) struct Union {
 }
 
 /// The union of the empty list with itself, which stands where none was noted.
-fn no_union() -> Union {
+fn no_union() -> Union
+    ensures { result ≡ none }
+{
     Union {
         first: 0,
         second: 0,

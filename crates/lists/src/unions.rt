@@ -1,9 +1,9 @@
 //! Lists that are made of pairs, of a list and pairs, and of two lists.
-ghost use Rattle.std.specs.Prelude.{◌≡◌, ℕ, ◌<◌, List, length, IfOk};
+ghost use Rattle.std.specs.Prelude.{◌≡◌, ℕ, ◌++◌, ◌<◌, List, length, IfOk, IfSome};
 ghost use Rattle.std.specs.List.Sorted.{IsStrictlySortedBy};
 ghost use Rattle.lists.specs.Lists.{pair_cmp, list_at, Grow};
 ghost use Rattle.lists.specs.Cuts.{Fit, IsAlike, IsParted};
-ghost use Rattle.lists.specs.Nodes.{AreStored, IsHalved};
+ghost use Rattle.lists.specs.Nodes.{AreStored, IsHalved, AreIn};
 ghost use Rattle.lists.specs.Unions.{Unites, AreUnions, IsSplit};
 
 use crate::cut::{cut, key};
@@ -135,6 +135,36 @@ fn with_list(
     with(lists, &mut scratch.merged, k, &scratch.held)
 }
 
+/// The number of the list that has the pairs of both lists, if it was noted.
+fn noted(lists: &Distinct, known: &Known, j: u32, k: u32) -> Option<u32>
+    requires { AreUnions lists.now known.now }
+    ensures within { IfSome result (λ i. i < length lists.now) }
+    ensures exactly { IfSome result (λ i. Unites (list_at lists.now i) (list_at lists.now j) (list_at lists.now k)) }
+{
+    let _ = lists;
+    known.find(j.min(k), j.max(k))
+}
+
+/// The number of the list of these halves, which has the pairs of both lists: it is noted.
+///
+/// Fails if there is no memory for it. The lists that there were are as they were.
+fn note(lists: &mut Distinct, known: &mut Known, j: u32, k: u32, halves: Halves) -> Result<u32, Memory>
+    requires unions { AreUnions lists.old known.old }
+    requires first { j < length lists.old }
+    requires second { k < length lists.old }
+    requires halves { AreIn lists.old halves }
+    requires union { Unites (list_at lists.old halves.below ++ list_at lists.old halves.above) (list_at lists.old j) (list_at lists.old k) }
+    ensures unions { AreUnions lists.new known.new }
+    ensures within { IfOk result (λ i. i < length lists.new) }
+    ensures exactly { IfOk result (λ i. Unites (list_at lists.new i) (list_at lists.old j) (list_at lists.old k)) }
+    ensures grow { Grow lists.old lists.new }
+{
+    lists.known();
+    let i = lists.number(Shape::Halved(halves))?;
+    known.note(j.min(k), j.max(k), i)?;
+    Ok(i)
+}
+
 /// The number of the list that has the pairs of both lists. What is made is noted.
 ///
 /// Fails if there is no memory for it. The lists that there were are as they were.
@@ -162,7 +192,7 @@ pub(crate) fn both(
         Shape::Halved(first) => match lists.shape(k) {
             Shape::Whole(_) => with_list(lists, scratch, k, j),
             Shape::Halved(second) => {
-                if let Some(i) = known.find(j.min(k), j.max(k)) {
+                if let Some(i) = noted(lists, known, j, k) {
                     return Ok(i);
                 }
                 let cut = cut(first.cut.min(second.cut) - 1, first.cut.max(second.cut));
@@ -171,13 +201,12 @@ pub(crate) fn both(
                 let lower = both(lists, known, scratch, below, under)?;
                 let upper = both(lists, known, scratch, above, over)?;
                 lists.known();
-                let i = lists.number(Shape::Halved(Halves {
+                let halves = Halves {
                     below: lower,
                     above: upper,
                     cut,
-                }))?;
-                known.note(j.min(k), j.max(k), i)?;
-                Ok(i)
+                };
+                note(lists, known, j, k, halves)
             }
         },
     }
