@@ -1,13 +1,12 @@
 -- Lists cut in two: of pairs in rising order, the first and the last one give the cut; two lists that are numbered make one with halves.
-use Rattle.std.proofs.Common.{◌≡◌, ◌∙◌, ◌⊎◌, ◌↔◌, ℕ, ◌+◌, ◌-◌, ◌<◌, ◌≤◌, List, [], ◌∷◌, ◌++◌, length, get_or, Contains, ap, sym, subst, inl, inr, arith}
+use Rattle.std.proofs.Common.{◌≡◌, ◌∙◌, ℕ, ◌-◌, ◌<◌, ◌≤◌, List, length, get_or, Contains, ap, sym, subst, arith}
 use Rattle.std.specs.List.Sorted.{IsStrictlySortedBy}
-use Rattle.std.proofs.lemmas.Bool.{cases_lt, cases_eq}
 use Rattle.std.proofs.lemmas.List.{length-append, get_or_default}
 use Rattle.std.proofs.lemmas.List.Elements.{Contains-get_or}
 use Rattle.lists.specs.declared.nodes.Halves.{Halves}
 use Rattle.lists.specs.declared.nodes.TheConstants.{FEW}
 use Rattle.lists.specs.Lists.{pair_cmp, list_at, Grow}
-use Rattle.lists.specs.Cuts.{key_of, Fit, IsPlace, IsAlike, IsCut, IsUnder, IsOver, IsParted}
+use Rattle.lists.specs.Cuts.{key_of, Fit, IsPlace, IsCut, IsParted}
 use Rattle.lists.specs.Nodes.{AreHalves, AreIn}
 use Rattle.lists.proofs.Cuts.{alike_within}
 use Rattle.lists.proofs.Keys.{rising_keys, key_from_less}

@@ -1,5 +1,5 @@
 -- The order of pairs is that of their keys, if they fit; what stands below a cut and what stands from it on rise together.
-use Rattle.std.proofs.Common.{◌≡◌, ◌∙◌, ◌↔◌, ◌⊎◌, ℕ, ◌+◌, ◌^◌, ◌<◌, ◌≤◌, List, [], ◌∷◌, ◌++◌, length, get_or, take, drop, Bool, true, false, ltb, Contains, Less, Equal, Greater, ap, sym, subst, inl, inr, arith}
+use Rattle.std.proofs.Common.{◌≡◌, ◌∙◌, ◌↔◌, ◌⊎◌, ℕ, ◌+◌, ◌^◌, ◌<◌, ◌≤◌, List, [], ◌∷◌, ◌++◌, length, get_or, take, drop, true, false, ltb, Contains, Less, Equal, ap, sym, subst, inl, inr, arith}
 use Rattle.std.specs.List.Sorted.{IsStrictlySortedBy, IsNonDecreasingBy, IsPartitionedBy, IsPartitionPoint}
 use Rattle.std.proofs.lemmas.List.Sorted.{IsPartitionedBy-ltb}
 use Rattle.std.specs.Ordering.{nat_cmp, ordering_then}
@@ -11,7 +11,7 @@ use Rattle.std.proofs.lemmas.Bool.Decides.{Decides-ltb, not_from_Decides}
 use Rattle.lists.specs.Cuts.{key_of, Fit, IsUnder, IsOver, IsCut, IsParted}
 use Rattle.lists.specs.Lists.{pair_cmp}
 use Rattle.lists.proofs.Pairs.{pair_total}
-use Rattle.lists.proofs.Rising.{not_both, here, there, here_or_there, rising_cons, rising_first, rising_unique, rising_before, rising_none}
+use Rattle.lists.proofs.Rising.{not_both, here, there, rising_cons, rising_first, rising_unique, rising_before, rising_none}
 use Rattle.std.proofs.lemmas.Map.Keys.{sorted_tail}
 
 module _ (x y : ℕ × ℕ) (small : x.1 < 2 ^ 32) (fits : y.1 < 2 ^ 32) where

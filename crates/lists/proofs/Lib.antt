@@ -15,3 +15,4 @@ pub mod Halving
 pub mod Uniting
 pub mod Joining
 pub mod Noting
+pub mod Listing

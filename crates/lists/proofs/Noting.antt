@@ -1,12 +1,12 @@
 -- Unions at their places: none at all, one that is noted, and what they are of.
-use Rattle.std.proofs.Common.{◌≡◌, ◌∙◌, ◌⊎◌, ◌↔◌, ℕ, zero, suc, ◌<◌, List, [], ◌∷◌, ◌++◌, length, map, set, replicate, min, max, Contains, ap, sym, subst, refl, Option, Some, None, inl, inr, arith}
+use Rattle.std.proofs.Common.{◌≡◌, ◌∙◌, ◌⊎◌, ℕ, zero, suc, ◌<◌, List, [], ◌∷◌, ◌++◌, length, map, set, take, replicate, min, max, Contains, ap, sym, subst, refl, Option, Some, None, inl, inr, arith}
 use Rattle.std.specs.List.{All}
 use Rattle.std.specs.Option.{IfSome}
 use Rattle.std.proofs.lemmas.Bool.{cases_lt}
+use Rattle.std.proofs.lemmas.List.{take_all}
 use Rattle.std.proofs.lemmas.List.Elements.{All-contains}
 use Rattle.lists.specs.declared.known.Union.{Union}
 use Rattle.lists.specs.Lists.{list_at, Grow}
-use Rattle.lists.specs.Nodes.{AreStored}
 use Rattle.lists.specs.Known.{union_of, IsNone, none}
 use Rattle.lists.specs.Unions.{Unites, IsUnion, AreUnions}
 use Rattle.lists.proofs.Rising.{here, there, here_or_there}
@@ -23,6 +23,12 @@ all_none (suc n) (suc k) d h = all_none n k d (omega arith)
 
 pub none_noted : (unions : List Union) (n : ℕ) → unions ≡ replicate n none → All IsNone (map union_of unions)
 none_noted unions n e = subst (λ us. All IsNone (map union_of us)) (sym e) (all_none n)
+
+pub none_first : (unions taken : List Union) (n : ℕ) (u : Union) → unions ≡ take 1024 taken ++ replicate n u → taken ≡ [] → u ≡ none
+    → All IsNone (map union_of unions)
+none_first unions taken n u e t v =
+    none_noted unions n
+    (e ∙ (λ i. take 1024 (t i) ++ replicate n (v i)) ∙ ap (λ l. l ++ replicate n none) (take_all {A = Union} 1024 [] (omega arith)))
 
 pub none_contained : (unions : List Union) (n : ℕ) → unions ≡ replicate n none → (z : (ℕ × ℕ) × ℕ) → Contains (map union_of unions) z → IsNone z
 none_contained unions n e z d = All-contains IsNone (map union_of unions) z (none_noted unions n e) d

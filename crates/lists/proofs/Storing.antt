@@ -1,5 +1,5 @@
 -- Lists that are kept as nodes: what each is, and one list more.
-use Rattle.std.proofs.Common.{◌≡◌, ◌∙◌, ℕ, zero, suc, ◌+◌, ◌^◌, ◌<◌, ◌≤◌, List, [], ◌∷◌, ◌++◌, length, Contains, take, ap, sym, subst, refl, inl, inr, arith}
+use Rattle.std.proofs.Common.{◌≡◌, ◌∙◌, ℕ, zero, suc, ◌+◌, ◌<◌, ◌≤◌, List, [], ◌∷◌, ◌++◌, length, Contains, take, ap, sym, subst, refl, inl, inr, arith}
 use Rattle.std.specs.List.{All, slice_range}
 use Rattle.std.specs.List.Sorted.{IsStrictlySortedBy}
 use Rattle.std.proofs.lemmas.Bool.{cases_lt}
@@ -207,6 +207,7 @@ AreStored-first = record {
   halved = λ k low long. absurd (none_long k long);
   first = refl;
 }
+
 pub AreNodes-first : AreNodes [] (Whole 0 0 ∷ [])
 AreNodes-first = record {
   stored = subst AreStored (sym lists-first) AreStored-first;

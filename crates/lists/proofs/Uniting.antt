@@ -1,18 +1,18 @@
 -- Unions by halves: a list in two at another place, the cut of a union, and the union of two lists from those of their halves.
 use Rattle.std.proofs.Common.{◌≡◌, ◌∙◌, ◌⊎◌, ◌↔◌, ℕ, ◌+◌, ◌-◌, ◌<◌, ◌≤◌, min, max, List, [], ◌∷◌, ◌++◌, length, get_or, Contains, ap, sym, subst, refl, inl, inr, arith}
 use Rattle.std.specs.List.Sorted.{IsStrictlySortedBy}
-use Rattle.std.proofs.lemmas.Bool.{cases_lt, cases_eq}
+use Rattle.std.proofs.lemmas.Bool.{cases_lt}
 use Rattle.std.proofs.lemmas.List.{length-append, append-nil}
 use Rattle.lists.specs.declared.nodes.Halves.{Halves}
 use Rattle.lists.specs.declared.nodes.TheConstants.{FEW}
 use Rattle.lists.specs.Lists.{pair_cmp, list_at, merged, Grow}
 use Rattle.lists.specs.Cuts.{key_of, Fit, IsPlace, IsAlike, IsCut, IsUnder, IsOver, IsParted}
-use Rattle.lists.specs.Nodes.{AreHalves, IsHalved, AreStored, AreIn}
+use Rattle.lists.specs.Nodes.{IsHalved, AreStored, AreIn}
 use Rattle.lists.specs.Unions.{Unites, IsSplit}
 use Rattle.lists.proofs.Cuts.{alike_wider, alike_within, all_under, all_over}
 use Rattle.lists.proofs.Keys.{halves_has, halves_rise, parts_has}
 use Rattle.lists.proofs.Halving.{keys_between, has_first, has_last}
-use Rattle.lists.proofs.Merging.{merged_has, merged_rises}
+use Rattle.lists.proofs.Merging.{merged_has}
 use Rattle.lists.proofs.Pairs.{pair_total}
 use Rattle.lists.proofs.Rising.{rising_fewer}
 
@@ -120,8 +120,7 @@ AreIn-united lists new h xs ys below above below' above' stored grow lower_in lo
     let rises =
     halves_rise (list_at new h.below) (list_at new h.above) h.cut (stored.rise h.below [] low_in) (stored.rise h.above [] upper_in)
     (stored.fit h.below) (stored.fit h.above) under over in
-    let fewer = rising_fewer pair_total ys (list_at new h.below ++ list_at new h.above) rise rises (λ z d. (all z).1 (inr d)) in
-    (
+    let fewer = rising_fewer pair_total ys (list_at new h.below ++ list_at new h.above) rise rises (λ z d. (all z).1 (inr d)) in (
       record {
         below = low_in;
         above = upper_in;

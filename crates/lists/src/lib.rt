@@ -20,9 +20,11 @@ mod known;
 mod lists;
 mod nodes;
 mod ordered;
+mod parts;
 mod span;
 mod unions;
 
 pub use lists::{EMPTY, Lists, MOST_LISTS};
 pub use ordered::order;
+pub use parts::Parts;
 pub use span::hash;

@@ -151,11 +151,7 @@ fn put_whole(
 /// Puts a list at the end of the nodes that has these two as its halves, and returns its number.
 ///
 /// Fails if there is no memory for it. The lists are then as they were.
-fn put_halved(
-    pairs: &Vec<(u32, u32)>,
-    nodes: &mut Vec<Node>,
-    halves: Halves,
-) -> Result<u32, Memory>
+fn put_halved(pairs: &Vec<(u32, u32)>, nodes: &mut Vec<Node>, halves: Halves) -> Result<u32, Memory>
     requires nodes { AreNodes pairs.now.items nodes.old.items }
     requires few { length nodes.old.items < MOST_LISTS }
     requires halves { AreIn (lists_of pairs.now.items nodes.old.items) halves }

@@ -19,10 +19,7 @@ pub(crate) struct Span {
 pub(crate) fn empty_span() -> Span
     ensures { result ≡ no_pairs }
 {
-    Span {
-        start: 0,
-        end: 0,
-    }
+    Span { start: 0, end: 0 }
 }
 
 /// The list that the span has.

@@ -117,12 +117,7 @@ pub(crate) struct Scratch {
 /// whole.
 ///
 /// Fails if there is no memory for it. The lists that there were are as they were.
-fn with_list(
-    lists: &mut Distinct,
-    scratch: &mut Scratch,
-    few: u32,
-    k: u32,
-) -> Result<u32, Memory>
+fn with_list(lists: &mut Distinct, scratch: &mut Scratch, few: u32, k: u32) -> Result<u32, Memory>
     requires few { few < length lists.old }
     requires list { k < length lists.old }
     ensures within { IfOk result (λ i. i < length lists.new) }
@@ -148,7 +143,13 @@ fn noted(lists: &Distinct, known: &Known, j: u32, k: u32) -> Option<u32>
 /// The number of the list of these halves, which has the pairs of both lists: it is noted.
 ///
 /// Fails if there is no memory for it. The lists that there were are as they were.
-fn note(lists: &mut Distinct, known: &mut Known, j: u32, k: u32, halves: Halves) -> Result<u32, Memory>
+fn note(
+    lists: &mut Distinct,
+    known: &mut Known,
+    j: u32,
+    k: u32,
+    halves: Halves,
+) -> Result<u32, Memory>
     requires unions { AreUnions lists.old known.old }
     requires first { j < length lists.old }
     requires second { k < length lists.old }

@@ -1,8 +1,7 @@
-use Rattle.std.proofs.Common.{◌≡◌, ◌∙◌, ℕ, ◌<◌, length, ap, sym, arith}
+use Rattle.std.proofs.Common.{◌≡◌, ◌∙◌, ◌<◌, sym, arith}
 use Rattle.std.proofs.lemmas.Bool.{both_ways}
 use Rattle.lists.specs.Lists.{list_at}
 use Rattle.lists.specs.Nodes.{list_of_shape}
-use Rattle.lists.specs.Hashed.{entry_at}
 use Rattle.lists.proofs.Searching.{none-above-before, none-above-last}
 use Rattle.lists.proofs.Tags.{tag_shape}
 use Rattle.lists.proofs.hashed.find.Goals as goal

@@ -1,7 +1,6 @@
 use Rattle.std.proofs.Common.{◌≡◌, ◌∙◌, ℕ, [], ◌∷◌, ◌++◌, List, length, set, ap, sym, subst, arith}
 use Rattle.std.proofs.lemmas.List.{get_or_read}
 use Rattle.lists.specs.declared.hashed.Entry.{Entry}
-use Rattle.lists.specs.Lists.{list_at}
 use Rattle.lists.specs.Nodes.{list_of_shape}
 use Rattle.lists.specs.Hashed.{bucket_of_tag, IsTag, IsHashed}
 use Rattle.lists.proofs.Tags.{IsTag-new, shape_some}

@@ -1,4 +1,4 @@
-use Rattle.std.proofs.Common.{◌≡◌, ◌∙◌, ℕ, ◌<◌, ◌^◌, ◌++◌, List, length, take, drop, ap, sym, subst, arith}
+use Rattle.std.proofs.Common.{◌≡◌, length, drop, ap, sym, subst, arith}
 use Rattle.lists.specs.Hashed.{IsHashed}
 use Rattle.lists.proofs.Rechaining.{put_back, IsHashed-rechained}
 use Rattle.lists.proofs.hashed.widen.Goals as goal

@@ -1,4 +1,4 @@
-use Rattle.std.proofs.Common.{◌≡◌, ◌∙◌, ◌⊎◌, ap, inl, inr}
+use Rattle.std.proofs.Common.{◌∙◌, ap, inr}
 use Rattle.std.proofs.Common.{replicate}
 use Rattle.lists.proofs.Noting.{none_contained}
 use Rattle.lists.proofs.known.widen.Goals as goal

@@ -1,4 +1,3 @@
-use Rattle.std.proofs.Common.{length, ap, arith}
 use Rattle.lists.proofs.Storing.{AreNodes-halved, lists-halved}
 use Rattle.lists.proofs.nodes.put_halved.Goals as goal
 

@@ -1,4 +1,4 @@
-use Rattle.std.proofs.Common.{◌≡◌, ◌∙◌, ℕ, ◌<◌, ◌^◌, length, Contains, get_or, ap, sym, subst, refl, arith, rules}
+use Rattle.std.proofs.Common.{refl, arith}
 use Rattle.lists.proofs.Storing.{AreNodes-whole, lists-whole}
 use Rattle.lists.proofs.nodes.put_whole.Goals as goal
 

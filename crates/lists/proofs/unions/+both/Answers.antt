@@ -1,12 +1,11 @@
-use Rattle.std.proofs.Common.{◌≡◌, ◌∙◌, ◌⊎◌, ◌↔◌, ◌<◌, ◌≤◌, ◌+◌, ◌-◌, ℕ, List, ◌++◌, length, min, max, Contains, ap, sym, subst, inl, inr, arith}
+use Rattle.std.proofs.Common.{◌≡◌, ◌<◌, ◌+◌, ◌-◌, ℕ, List, ◌++◌, length, min, ap, sym, subst, arith}
 use Rattle.std.proofs.lemmas.List.{length-append}
 use Rattle.std.proofs.lemmas.Result.{IfOk-weaker}
 use Rattle.lists.specs.declared.nodes.Halves.{Halves}
-use Rattle.lists.specs.declared.nodes.TheConstants.{FEW}
 use Rattle.lists.specs.Lists.{list_at, Grow}
-use Rattle.lists.specs.Cuts.{IsAlike, IsCut, IsParted}
+use Rattle.lists.specs.Cuts.{IsCut, IsParted}
 use Rattle.lists.specs.Nodes.{AreIn}
-use Rattle.lists.specs.Unions.{Unites, AreUnions, IsSplit}
+use Rattle.lists.specs.Unions.{Unites, IsSplit}
 use Rattle.lists.proofs.Uniting.{alike_first, alike_second, both_cut, both_cut_both, both_below, both_above, AreIn-united}
 use Rattle.lists.proofs.Joining.{AreUnions-grow, Grow-twice, or_swap}
 use Rattle.lists.proofs.Noting.{unites_back, unites_forth}
@@ -96,7 +95,7 @@ united_in : (t : ℕ) (c : After-known-in-Halved-shape t)
     → let h : Halves = record { below = c.in_ok-lower-in-Halved-shape.lower; above = c.in_ok-upper-in-Halved-shape.upper; cut = c.cut-cut.result } in
     AreIn c.both-in-Halved-shape.new.lists h
     × Unites (list_at c.both-in-Halved-shape.new.lists h.below ++ list_at c.both-in-Halved-shape.new.lists h.above)
-      (list_at c.args.lists.now c.args.j) (list_at c.args.lists.now c.args.k)
+    (list_at c.args.lists.now c.args.j) (list_at c.args.lists.now c.args.k)
 united_in t c =
     let at = (goal.at.After-known-in-Halved-shape t c).After-split-under in
     let lists = c.args.lists.now in

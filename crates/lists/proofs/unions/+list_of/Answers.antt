@@ -1,4 +1,4 @@
-use Rattle.std.proofs.Common.{◌≡◌, ◌∙◌, ◌<◌, ℕ, length, get_or, ap, sym, arith}
+use Rattle.std.proofs.Common.{ℕ, arith}
 use Rattle.lists.specs.Cuts.{IsCut}
 use Rattle.lists.proofs.Keys.{parts_rise, parts_fit, parts_shorter}
 use Rattle.lists.proofs.Halving.{first_before_last, IsCut-place, AreIn-parts}

@@ -1,12 +1,11 @@
-use Rattle.std.proofs.Common.{◌≡◌, ◌∙◌, ◌⊎◌, ◌↔◌, ◌<◌, ◌≤◌, ◌+◌, ℕ, List, ◌++◌, length, Contains, ap, sym, subst, inl, inr, arith}
+use Rattle.std.proofs.Common.{◌≡◌, ◌∙◌, ◌<◌, ◌+◌, ℕ, List, ◌++◌, length, Contains, ap, sym, subst, inl, inr, arith}
 use Rattle.std.specs.List.Sorted.{IsStrictlySortedBy}
 use Rattle.std.proofs.lemmas.List.{length-append}
 use Rattle.std.proofs.lemmas.Bool.Decides.{Decides-eqb, not_from_Decides}
 use Rattle.std.proofs.lemmas.Result.{IfOk-weaker}
 use Rattle.lists.specs.declared.nodes.Halves.{Halves}
-use Rattle.lists.specs.declared.nodes.TheConstants.{FEW}
 use Rattle.lists.specs.Lists.{pair_cmp, list_at, merged}
-use Rattle.lists.specs.Cuts.{IsAlike, IsCut, IsParted}
+use Rattle.lists.specs.Cuts.{IsCut, IsParted}
 use Rattle.lists.specs.Nodes.{AreIn}
 use Rattle.lists.specs.Unions.{Unites, IsSplit}
 use Rattle.lists.proofs.Keys.{parts_rise, parts_fit}
@@ -85,8 +84,7 @@ with-requires t c =
     let d = c.decreases in
     let less = falls_first t at in
     let first = (is_split t at).first in
-    let low = c.requires.list in
-    (
+    let low = c.requires.list in (
       omega arith,
       (
         omega arith,
@@ -101,8 +99,7 @@ with-requires-in-Halved t c =
     let less = falls_second t at in
     let second = (is_split t at).second in
     let low = c.requires.list in
-    let longer = c.with.ensures.grow.longer in
-    (
+    let longer = c.with.ensures.grow.longer in (
       omega arith,
       (
         omega arith,

@@ -1,7 +1,5 @@
-use Rattle.std.proofs.Common.{◌≡◌, ◌∙◌, ◌⊎◌, ℕ, ◌<◌, ◌++◌, length, min, max, Contains, ap, sym, subst, arith}
-use Rattle.std.proofs.lemmas.Result.{IfOk-weaker}
+use Rattle.std.proofs.Common.{max, sym, subst, arith}
 use Rattle.lists.specs.Lists.{list_at}
-use Rattle.lists.specs.Known.{IsNone}
 use Rattle.lists.specs.Unions.{Unites, AreUnions, IsUnion}
 use Rattle.lists.proofs.Joining.{AreUnions-grow}
 use Rattle.lists.proofs.Noting.{AreUnions-note, IsUnion-in_order, unites_forth}

@@ -1,4 +1,4 @@
-use Rattle.std.proofs.Common.{◌≡◌, ◌<◌, length, min, max, subst}
+use Rattle.std.proofs.Common.{min, subst}
 use Rattle.lists.specs.Lists.{list_at}
 use Rattle.lists.specs.Unions.{Unites}
 use Rattle.lists.proofs.Joining.{unites_in_order}

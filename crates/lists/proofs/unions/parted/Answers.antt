@@ -1,6 +1,6 @@
-use Rattle.std.proofs.Common.{◌≡◌, ℕ, List, take, drop, ltb, sym, rules}
+use Rattle.std.proofs.Common.{ltb, rules}
 use Rattle.std.proofs.lemmas.List.Sorted.{IsPartitionPoint-from_clause}
-use Rattle.lists.specs.Cuts.{key_of, IsParted}
+use Rattle.lists.specs.Cuts.{key_of}
 use Rattle.lists.proofs.Keys.{partitioned_keys, parted_is}
 use Rattle.lists.proofs.unions.parted.Goals as goal
 

@@ -1,4 +1,4 @@
-use Rattle.std.proofs.Common.{◌≡◌, arith}
+use Rattle.std.proofs.Common.{arith}
 use Rattle.lists.proofs.Uniting.{split_under, split_over, split_own}
 use Rattle.lists.proofs.unions.split.Goals as goal
 

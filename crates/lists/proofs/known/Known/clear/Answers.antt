@@ -1,4 +1,4 @@
-use Rattle.std.proofs.Common.{◌≡◌, ◌∙◌, ap, replicate}
+use Rattle.std.proofs.Common.{◌∙◌, ap, replicate}
 use Rattle.lists.proofs.Noting.{none_noted}
 use Rattle.lists.proofs.known.Known.clear.Goals as goal
 

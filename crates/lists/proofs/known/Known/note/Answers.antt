@@ -1,4 +1,4 @@
-use Rattle.std.proofs.Common.{◌≡◌, ◌⊎◌, Contains, subst, inl, inr}
+use Rattle.std.proofs.Common.{Contains, subst, inl, inr}
 use Rattle.lists.proofs.Noting.{written}
 use Rattle.lists.proofs.known.Known.note.Goals as goal
 

@@ -1,4 +1,4 @@
-use Rattle.std.proofs.Common.{◌≡◌, ◌∙◌, ◌<◌, ◌≤◌, ◌+◌, length, ap, sym, subst, refl, arith}
+use Rattle.std.proofs.Common.{◌≡◌, ◌∙◌, ◌<◌, ◌+◌, length, ap, sym, subst, arith}
 use Rattle.std.specs.List.{slice_range}
 use Rattle.std.proofs.lemmas.List.{get_or_read}
 use Rattle.lists.specs.declared.nodes.Node.TheVariants.{Whole, Halved}
@@ -30,10 +30,9 @@ returns-in-Whole c =
     omega (arith, c.requires, length-lists c.self.inside.pairs.items c.self.inside.nodes.items, ap length c.self.view_is) in
     let at : node_at c.self.inside.nodes.items c.args.k ≡ Whole c.in-Whole.start c.in-Whole.count =
     sym (get_or_read c.self.inside.nodes.items _ _ low c.index.ensures (Whole 0 0)) ∙ c.in-Whole.is in
-    let few = (c.self.invariant.whole c.args.k _ _ low at).1 in
-    (
+    let few = (c.self.invariant.whole c.args.k _ _ low at).1 in (
       c.part.ensures ∙ ap (λ l. slice_range l c.in-Whole.start (c.in-Whole.start + c.in-Whole.count)) c.deref.ensures.value
-      ∙ sym (list_whole c.self.inside.pairs.items c.self.inside.nodes.items c.args.k _ _ low at) ∙ ap (λ l. list_at l c.args.k) c.self.view_is,
+          ∙ sym (list_whole c.self.inside.pairs.items c.self.inside.nodes.items c.args.k _ _ low at) ∙ ap (λ l. list_at l c.args.k) c.self.view_is,
       omega (arith, ap length c.part.ensures, length-part c.deref.result.now c.in-Whole.start c.in-Whole.count),
     )
 
