@@ -6,8 +6,9 @@ use Rattle.theory.specs.declared.relation.Relation.{Relation}
 use Rattle.theory.specs.declared.relation.Relation.TheVariants.{Branching}
 use Rattle.theory.specs.Blocks.{Signature}
 use Rattle.lts.specs.Labels.{text_of}
-use Rattle.lts.specs.Lts.{Grouped, Triple, label_of, target_of, system_of}
+use Rattle.lts.specs.Lts.{Grouped, Triple, label_of, target_of, row_of, system_of}
 use Rattle.lists.specs.Lists.{pair_cmp}
+use Rattle.partition.specs.Blocks.{IsOne}
 
 -- the pair of the label number k and the block b is in the signature of s
 abbrev pub HasPair : Relation → Grouped → List ℕ → ℕ → ℕ → ℕ → Type 0
@@ -29,3 +30,7 @@ IsKnownAlone blocks alone s = IsTrue (slice_index_or alone (slice_index blocks s
 -- the list of s: its branching signature, or no pairs if it is known to be alone in its block
 abbrev pub IsListOf : Grouped → List ℕ → List Bool → ℕ → List (ℕ × ℕ) → Type 0
 IsListOf l blocks alone s pairs = IsSignature Branching l blocks s pairs ⊎ (IsKnownAlone blocks alone s × (pairs ≡ []))
+
+-- a state that is none of these has no transition
+abbrev pub HaveRows : Grouped → List ℕ → Type 0
+HaveRows l live = (s : ℕ) → s < l.states → IsOne live s ⊎ (row_of s l.places ≡ [])

@@ -4,7 +4,8 @@ ghost use Rattle.theory.specs.declared.relation.Relation.TheVariants.{Branching}
 ghost use Rattle.lts.specs.Meter.{HasRoomFor, Costs, Visits};
 ghost use Rattle.lts.specs.Lts.{row_of};
 ghost use Rattle.lists.specs.Lists.{list_at, AreNumbers};
-ghost use Rattle.inert.specs.Signed.{IsSignature, IsKnownAlone, IsListOf};
+ghost use Rattle.partition.specs.Blocks.{IsOne, AreLive, HaveNone};
+ghost use Rattle.inert.specs.Signed.{IsSignature, IsKnownAlone, IsListOf, HaveRows};
 ghost use Rattle.inert.specs.Steps.{Sees};
 ghost use Rattle.inert.specs.Search.{stage_at, IsReady, HasItsList};
 ghost use Rattle.inert.specs.Ahead.{unread, HasSeen};
@@ -14,6 +15,7 @@ ghost use Rattle.inert.specs.declared.walk.Stage.TheVariants.{Unseen, Finished};
 use crate::walk::{Stage, Walk};
 use lists::{EMPTY, Lists};
 use lts::{Lts, Memory, Meter, visit_row};
+use partition::Blocks;
 use std::alloc::Global;
 use std::marker::Model;
 
@@ -70,31 +72,45 @@ impl Signer {
     }
 
     /// Puts the branching signature of each state into `lists`, and its number there into `numbers`: no pairs for a state of a
-    /// block that is known to be of one state alone. `alone` tells it of each block; a block that is past its end is not known.
+    /// block that is known to be of one state alone. The states that a round does not look at have no transition, and the number
+    /// of the empty list already.
     ///
     /// Fails if there is no memory for it. It is open then which lists there are.
     pub fn sign_each<M: Meter>(
         &mut self,
         alloc: Global,
         l: &Lts<M>,
-        blocks: &[u32],
-        alone: &[bool],
+        blocks: &Blocks,
         lists: &mut Lists,
         numbers: &mut [u32],
         m: &mut M,
     ) -> Result<(), Memory>
-        requires blocks { length blocks.now ≡ l.now.states }
+        requires blocks { length blocks.now.of ≡ l.now.states }
+        requires rows { HaveRows l.now blocks.now.live }
         requires lists { lists.old ≡ [] ∷ [] }
-        requires numbers { AreNumbers lists.old numbers.old }
-        requires size { length numbers.old ≡ l.now.states }
+        requires numbers { (length numbers.old ≡ l.now.states) × HaveNone blocks.now.live numbers.old }
         requires room { HasRoomFor (M.counted m.old) 0 (length l.now.places) }
+
+        // Once it is done
         ensures signed { OnOk result ((s : ℕ) → s < l.now.states →
-            IsListOf l.now blocks.now alone.now s (list_at lists.new (slice_index numbers.new s))) }
+            IsListOf l.now blocks.now.of blocks.now.alone s (list_at lists.new (slice_index numbers.new s))) }
+        ensures numbers { OnOk result (AreNumbers lists.new numbers.new) }
+
+        // In either case
         ensures visits { let n = length l.now.places in Visits M.counted m.old m.new result n n }
-        ensures numbers { AreNumbers lists.new numbers.new }
+        ensures others { HaveNone blocks.now.live numbers.new }
     {
         self.walk.prepare(alloc, l.states())?;
-        let done = sign_all(&mut self.walk, l, blocks, alone, lists, numbers, m);
+        let done = sign_all(
+            &mut self.walk,
+            l,
+            blocks.of(),
+            blocks.alone(),
+            blocks.live(),
+            lists,
+            numbers,
+            m,
+        );
         self.walk.reset();
         done?;
         Ok(())
@@ -137,7 +153,7 @@ fn sign_one<M: Meter>(
     Ok(list)
 }
 
-/// Walks from each state that was not seen, and numbers the lists of all.
+/// Walks from each of the states in `live` that was not seen, and numbers the lists of all. The others have no transition.
 ///
 /// Fails if there is no memory for it.
 fn sign_all<M: Meter>(
@@ -145,28 +161,33 @@ fn sign_all<M: Meter>(
     l: &Lts<M>,
     blocks: &[u32],
     alone: &[bool],
+    live: &[u32],
     lists: &mut Lists,
     numbers: &mut [u32],
     m: &mut M,
 ) -> Result<(), Memory>
     requires ready { IsReady l.now.states walk.old }
     requires blocks { length blocks.now ≡ l.now.states }
+    requires live { AreLive l.now.states live.now × HaveRows l.now live.now }
     requires lists { lists.old ≡ [] ∷ [] }
-    requires numbers { (length numbers.old ≡ l.now.states) × AreNumbers lists.old numbers.old }
+    requires numbers { (length numbers.old ≡ l.now.states) × HaveNone live.now numbers.old }
     requires room { HasRoomFor (M.counted m.old) 0 (length l.now.places) }
     ensures signed { OnOk result ((s : ℕ) → s < l.now.states → IsListOf l.now blocks.now alone.now s (list_at lists.new (slice_index numbers.new s))) }
-    ensures numbers { AreNumbers lists.new numbers.new }
+    ensures numbers { OnOk result (AreNumbers lists.new numbers.new) }
+    ensures others { HaveNone live.now numbers.new }
     ensures visits { let n = length l.now.places in Visits M.counted m.old m.new result n n }
 {
-    let done = walk_all(walk, l, blocks, alone, lists, m);
+    theory::inert_steps_pass_signatures_back();
+    lts::rows_are_steps();
+    let done = walk_all(walk, l, blocks, alone, live, lists, m);
     lists.known();
     done?;
-    number(walk, blocks, alone, numbers);
+    number(walk, blocks, alone, live, numbers);
     Ok(())
 }
 
-/// Finishes all states, from the last one on: where states were numbered as they were found, most steps then lead to
-/// finished ones, and rows are read in the order in which they stand in memory.
+/// Finishes these states, from the last one on: where states were numbered as they were found, most steps then lead to
+/// finished ones, and rows are read in the order in which they stand in memory. The others have no transition.
 ///
 /// Fails if there is no memory for it.
 fn walk_all<M: Meter>(
@@ -174,20 +195,24 @@ fn walk_all<M: Meter>(
     l: &Lts<M>,
     blocks: &[u32],
     alone: &[bool],
+    live: &[u32],
     lists: &mut Lists,
     m: &mut M,
 ) -> Result<(), Memory>
     requires ready { IsReady l.now.states walk.old }
     requires blocks { length blocks.now ≡ l.now.states }
+    requires live { AreLive l.now.states live.now × HaveRows l.now live.now }
     requires lists { lists.old ≡ [] ∷ [] }
     requires room { HasRoomFor (M.counted m.old) 0 (length l.now.places) }
     ensures rests { OnOk result (Rests l.now blocks.now alone.now lists.new walk.new) }
-    ensures all { OnOk result ((s : ℕ) → s < l.now.states → ¬ (stage_at walk.new.stages s ≡ Unseen)) }
+    ensures all { OnOk result ((i : ℕ) → i < length live.now → ¬ (stage_at walk.new.stages (slice_index live.now i) ≡ Unseen)) }
     ensures visits { let n = length l.now.places in Visits M.counted m.old m.new result n n }
 {
     l.known();
+    lts::rows_are_steps();
     let internal = l.labels().internal();
-    for s in (0..l.states()).rev() {
+    for i in (0..live.len()).rev() {
+        let s = live[i];
         if !walk.is_unseen(s) {
             continue;
         }
@@ -243,15 +268,19 @@ fn pass<M: Meter>(walk: &mut Walk, l: &Lts<M>, s: u32, m: &mut M) -> Result<(), 
     Ok(())
 }
 
-/// Puts the number of the list of each state, all of which are finished, in its place: that of the empty one for a state that
-/// is known to be alone.
-fn number(walk: &Walk, blocks: &[u32], alone: &[bool], numbers: &mut [u32])
+/// Puts the number of the list of each of these states, all of which are finished, in its place: that of the empty one for a
+/// state that is known to be alone.
+fn number(walk: &Walk, blocks: &[u32], alone: &[bool], live: &[u32], numbers: &mut [u32])
     requires size { length numbers.old ≡ length walk.now.stages }
     requires blocks { length blocks.now ≡ length walk.now.stages }
-    requires finished { (s : ℕ) → s < length walk.now.stages → (k : ℕ) × (stage_at walk.now.stages s ≡ Finished k) }
-    ensures { (s : ℕ) → s < length numbers.new → HasItsList blocks.now alone.now walk.now.stages s (slice_index numbers.new s) }
+    requires live { AreLive (length walk.now.stages) live.now }
+    requires finished { (i : ℕ) → i < length live.now → (k : ℕ) × (stage_at walk.now.stages (slice_index live.now i) ≡ Finished k) }
+    ensures live { (i : ℕ) → i < length live.now →
+        let s = slice_index live.now i in HasItsList blocks.now alone.now walk.now.stages s (slice_index numbers.new s) }
+    ensures others { (s : ℕ) → IsOne live.now s ⊎ (slice_index numbers.new s ≡ slice_index numbers.old s) }
 {
-    for s in 0..numbers.len() {
+    for i in 0..live.len() {
+        let s = live[i] as usize;
         numbers[s] = number_of(walk, blocks, alone, s);
     }
 }

@@ -4,7 +4,9 @@ use Rattle.std.proofs.lemmas.Bool.{cases_lt, cases_eq}
 use Rattle.std.proofs.lemmas.List.{length-set, length_push, get_or_append_left, get_or_push}
 use Rattle.lists.specs.declared.hashed.Entry.{Entry}
 use Rattle.lists.specs.Lists.{list_at}
-use Rattle.lists.specs.Hashed.{tag_of, bucket_of_tag, entry_bucket, entry_before, entry_at, IsChained, IsHashed, IsNewList}
+use Rattle.lists.specs.Hashed.{IsTag, bucket_of_tag, entry_bucket, entry_before, entry_at, IsChained, IsHashed, IsNewList}
+use Rattle.lists.proofs.Storing.{list-old, list-new}
+use Rattle.lists.proofs.Tags.{IsTag-old}
 use Rattle.lists.proofs.Chains.{IsChained-push}
 
 -- entries with one more at the end
@@ -15,17 +17,10 @@ module _ (entries : List Entry) (new : Entry) where
   entry-new : (r : ℕ) → r ≡ length entries → entry_at (entries ++ new ∷ []) r ≡ new
   entry-new r e = get_or_push entries new _ r (sym e)
 
-module _ (lists : List (List (ℕ × ℕ))) (list : List (ℕ × ℕ)) where
-  pub list-old : (r : ℕ) → r < length lists → list_at (lists ++ list ∷ []) r ≡ list_at lists r
-  list-old r h = get_or_append_left lists (list ∷ []) [] r h
-
-  pub list-new : (r : ℕ) → r ≡ length lists → list_at (lists ++ list ∷ []) r ≡ list
-  list-new r e = get_or_push lists list [] r (sym e)
-
 -- the new list
 module _ (lists : List (List (ℕ × ℕ))) (heads : List ℕ) (entries : List Entry) (list : List (ℕ × ℕ)) (new : Entry) (b : ℕ)
     (is : IsHashed lists heads entries) (some : 0 < length lists) (first : list_at lists 0 ≡ list → ⊥) (absent : IsNewList lists list)
-    (tag : new.tag ≡ tag_of list) (at_b : b ≡ bucket_of_tag (length heads) new.tag) (below : b < length heads)
+    (tag : IsTag (lists ++ list ∷ []) (length lists) new.tag) (at_b : b ≡ bucket_of_tag (length heads) new.tag) (below : b < length heads)
     (before : new.before ≡ get_or heads b 0) where
   IsChained-new : IsChained (length lists + 1) (entry_bucket (entries ++ new ∷ []) (set heads b (length lists))) (entry_before (entries ++ new ∷ []))
       (set heads b (length lists))
@@ -41,16 +36,17 @@ module _ (lists : List (List (ℕ × ℕ))) (heads : List ℕ) (entries : List E
       ∙ ap (λ x. bucket_of_tag (length heads) x.tag) (entry-new entries new (length lists) (sym count)) ∙ sym at_b)
       (ap (λ x. x.before) (entry-new entries new (length lists) (sym count)) ∙ before)
 
-  tags-push : (r : ℕ) → 0 < r → r < length (lists ++ list ∷ [])
-      → (entry_at (entries ++ new ∷ []) r).tag ≡ tag_of (list_at (lists ++ list ∷ []) r)
+  tags-push : (r : ℕ) → 0 < r → r < length (lists ++ list ∷ []) → IsTag (lists ++ list ∷ []) r (entry_at (entries ++ new ∷ []) r).tag
   tags-push r p h =
       let longer = length_push lists list in
       let count = is.size in
       elim (cases_lt r (length lists)) [
-        | inl o ↦ ap (λ x. x.tag) (entry-old entries new r (omega arith)) ∙ is.tags r p o ∙ ap tag_of (sym (list-old lists list r o))
+        | inl o ↦
+            subst (IsTag (lists ++ list ∷ []) r) (sym (ap (λ x. x.tag) (entry-old entries new r (omega arith)))) (IsTag-old lists list r _ o (is.tags r p o))
         | inr n ↦
-            let last : r ≡ length lists = omega arith in
-            ap (λ x. x.tag) (entry-new entries new r (last ∙ sym count)) ∙ tag ∙ ap tag_of (sym (list-new lists list r last))
+            let last : length lists ≡ r = omega arith in
+            subst (IsTag (lists ++ list ∷ []) r) (sym (ap (λ x. x.tag) (entry-new entries new r (sym last ∙ sym count))))
+            (subst (λ m. IsTag (lists ++ list ∷ []) m new.tag) last tag)
       ]
 
   -- no old list is the new one

@@ -1,19 +1,16 @@
 -- The lists of spans: the empty one alone, and one list more at the end of the buffer.
-use Rattle.std.proofs.Common.{◌≡◌, ◌∙◌, ℕ, zero, suc, ◌+◌, ◌-◌, ◌<◌, ◌≤◌, List, [], ◌∷◌, ◌++◌, length, take, ap, refl, sym, subst, arith}
+use Rattle.std.proofs.Common.{◌≡◌, ◌∙◌, ℕ, ◌+◌, ◌-◌, ◌<◌, ◌≤◌, List, [], ◌∷◌, ◌++◌, length, take, ap, refl, sym, subst, arith}
 use Rattle.std.specs.List.{All, slice_range}
 use Rattle.std.specs.List.Sorted.{IsStrictlySortedBy}
 use Rattle.std.proofs.lemmas.List.{length-append, map-append, get_or_append_left, take_all, drop_all}
 use Rattle.std.proofs.lemmas.List.Elements.{All-head, All-tail, All-append, All-weaker}
 use Rattle.lists.specs.declared.span.Span.{Span}
 use Rattle.lists.specs.declared.lists.TheConstants.{MOST_LISTS}
-use Rattle.lists.specs.Spans.{no_pairs, list_in, fingerprint_of, IsSpan, lists_of, AreSpans}
+use Rattle.lists.specs.Spans.{no_pairs, list_in, IsSpan, lists_of, AreSpans}
 use Rattle.lists.specs.Lists.{pair_cmp}
 use Rattle.lists.proofs.Rising.{rising_none}
+use Rattle.lists.proofs.Storing.{All-only}
 use Rattle.lists.proofs.Spans.{slice_range-append, slice_range-last}
-
-pub All-only : {X : Type 0} (P : X → Type 0) (x : X) → P x → All P (x ∷ [])
-All-only P x p zero d h = p
-All-only P x p (suc k) d h = absurd (omega arith)
 
 list_in-nil : (x : Span) → list_in [] x ≡ []
 list_in-nil x = ap (take (x.end - x.start)) (drop_all {X = ℕ × ℕ} x.start [] (omega arith)) ∙ take_all {A = ℕ × ℕ} (x.end - x.start) [] (omega arith)
@@ -21,7 +18,7 @@ list_in-nil x = ap (take (x.end - x.start)) (drop_all {X = ℕ × ℕ} x.start [
 -- the span of no pairs alone
 pub AreSpans-first : AreSpans [] (no_pairs ∷ [])
 AreSpans-first = record {
-  each = All-only (IsSpan []) no_pairs (record { forward = omega arith; within = omega arith; rising = rising_none pair_cmp; fingerprint = refl });
+  each = All-only (IsSpan []) no_pairs (record { forward = omega arith; within = omega arith; rising = rising_none pair_cmp });
   some = omega arith;
   few = omega arith;
   first = refl;
@@ -36,7 +33,7 @@ pub AreSpans-cleared : (pairs : List (ℕ × ℕ)) (spans : List Span) → AreSp
 AreSpans-cleared pairs [] are = absurd (let some = are.some in omega arith)
 AreSpans-cleared pairs (x ∷ xs) are = record {
   each = All-only (IsSpan []) x
-      (subst (IsSpan []) (sym are.first) (record { forward = omega arith; within = omega arith; rising = rising_none pair_cmp; fingerprint = refl }));
+      (subst (IsSpan []) (sym are.first) (record { forward = omega arith; within = omega arith; rising = rising_none pair_cmp }));
   some = omega arith;
   few = omega arith;
   first = are.first;
@@ -52,7 +49,6 @@ module _ (pairs more : List (ℕ × ℕ)) where
     forward = is.forward;
     within = let old = is.within in omega (arith, length-append pairs more);
     rising = subst (IsStrictlySortedBy pair_cmp) (sym (list_in-more x is)) is.rising;
-    fingerprint = is.fingerprint ∙ ap fingerprint_of (sym (list_in-more x is));
   }
 
   lists_of-each : (spans : List Span) → All (IsSpan pairs) spans → lists_of (pairs ++ more) spans ≡ lists_of pairs spans
@@ -74,8 +70,7 @@ module _ (pairs more : List (ℕ × ℕ)) where
 
 -- the span of a list that goes last in the buffer goes last among the spans
 module _ (pairs list : List (ℕ × ℕ)) (spans : List Span) (new : Span) (are : AreSpans pairs spans)
-    (start : new.start ≡ length pairs) (end : new.end ≡ length pairs + length list) (rising : IsStrictlySortedBy pair_cmp list)
-    (same : new.fingerprint ≡ fingerprint_of list) where
+    (start : new.start ≡ length pairs) (end : new.end ≡ length pairs + length list) (rising : IsStrictlySortedBy pair_cmp list) where
   list-new : list_in (pairs ++ list) new ≡ list
   list-new = ap (λ i. slice_range (pairs ++ list) i new.end) start ∙ slice_range-last pairs list new.end end
 
@@ -84,7 +79,6 @@ module _ (pairs list : List (ℕ × ℕ)) (spans : List Span) (new : Span) (are 
     forward = omega arith;
     within = omega (arith, length-append pairs list);
     rising = subst (IsStrictlySortedBy pair_cmp) (sym list-new) rising;
-    fingerprint = same ∙ ap fingerprint_of (sym list-new);
   }
 
   pub lists_of-push : lists_of (pairs ++ list) (spans ++ new ∷ []) ≡ lists_of pairs spans ++ list ∷ []

@@ -1,44 +1,103 @@
--- Entries under keys: what a look-up finds, and what is there after one more.
-use Rattle.std.proofs.Common.{◌≡◌, ◌∙◌, ◌⊎◌, ℕ, Bool, true, false, cond, eqb, List, [], ◌∷◌, Some, Contains, ap, sym, subst, refl, inl, inr, eqb-true, ◌&&◌}
-use Rattle.std.specs.Map.{lookup}
-use Rattle.indexmap.specs.IndexMap.{insert_entry}
+-- Unions at their places: none at all, one that is noted, and what they are of.
+use Rattle.std.proofs.Common.{◌≡◌, ◌∙◌, ◌⊎◌, ℕ, zero, suc, ◌<◌, List, [], ◌∷◌, ◌++◌, length, map, set, take, replicate, min, max, Contains, ap, sym, subst, refl, Option, Some, None, inl, inr, arith}
+use Rattle.std.specs.List.{All}
+use Rattle.std.specs.Option.{IfSome}
+use Rattle.std.proofs.lemmas.Bool.{cases_lt}
+use Rattle.std.proofs.lemmas.List.{take_all}
+use Rattle.std.proofs.lemmas.List.Elements.{All-contains}
+use Rattle.lists.specs.declared.known.Union.{Union}
+use Rattle.lists.specs.Lists.{list_at, Grow}
+use Rattle.lists.specs.Known.{union_of, IsNone, none}
+use Rattle.lists.specs.Unions.{Unites, IsUnion, AreUnions}
 use Rattle.lists.proofs.Rising.{here, there, here_or_there}
+use Rattle.lists.proofs.Joining.{AreUnions-grow, or_swap}
 
-module _ {K : Type 0} (eq : K → K → Bool) (same : (x y : K) → eq x y ≡ true → x ≡ y) (key : K) where
-  pub found : (es : List (K × ℕ)) (k : ℕ) → lookup (eq key) es ≡ Some k → Contains es (key, k)
-  found [] k e = absurd cc
-  found (x ∷ es) k e = by_test (eq key x.0) refl (found es k) e
-    where
-      by_test : (b : Bool) → eq key x.0 ≡ b → (lookup (eq key) es ≡ Some k → Contains es (key, k)) → cond b (Some x.1) (lookup (eq key) es) ≡ Some k → Contains (x ∷ es) (key, k)
-      by_test true t rest e =
-          let number : x.1 ≡ k = cc in
-          let is = same key x.0 t in
-          subst (Contains (x ∷ es)) (λ i. (sym is i, number i)) (here x es)
-      by_test false t rest e = there x es (key, k) (rest e)
+pub if_some : (o : Option ℕ) (P Q : ℕ → Type 0) → ((i : ℕ) → P i → Q i) → IfSome o P → IfSome o Q
+if_some None P Q f h = h
+if_some (Some i) P Q f h = f i h
 
-  pub noted : (n : ℕ) (es : List (K × ℕ)) (z : K × ℕ) → Contains (insert_entry eq es key n) z → Contains es z ⊎ (z ≡ (key, n))
-  noted n [] z c = elim (here_or_there (key, n) [] z c) [ inl e ↦ inr (sym e) | inr d ↦ inl d ]
-  noted n (x ∷ es) z c = by_test (eq key x.0) refl (noted n es z) c
-    where
-      by_test : (b : Bool) → eq key x.0 ≡ b → (Contains (insert_entry eq es key n) z → Contains es z ⊎ (z ≡ (key, n)))
-          → Contains (cond b ((x.0, n) ∷ es) (x ∷ insert_entry eq es key n)) z → Contains (x ∷ es) z ⊎ (z ≡ (key, n))
-      by_test true t rest c = elim (here_or_there (x.0, n) es z c) [
-        | inl e ↦ inr (sym e ∙ ap (λ l. (l, n)) (sym (same key x.0 t)))
-        | inr d ↦ inl (there x es z d)
-      ]
-      by_test false t rest c = elim (here_or_there x (insert_entry eq es key n) z c) [
-        | inl e ↦ inl (subst (Contains (x ∷ es)) e (here x es))
-        | inr d ↦ elim (rest d) [
-          | inl o ↦ inl (there x es z o)
-          | inr e ↦ inr e
-        ]
-      ]
+pub all_none : (n : ℕ) → All IsNone (map union_of (replicate n none))
+all_none zero k d h = absurd (omega arith)
+all_none (suc n) zero d h = refl
+all_none (suc n) (suc k) d h = all_none n k d (omega arith)
 
--- pairs whose numbers are tested to be equal
-pub pair_same : (p q : ℕ × ℕ) → (eqb p.0 q.0 && eqb p.1 q.1) ≡ true → p ≡ q
-pair_same p q t = by_test (eqb p.0 q.0) (eqb p.1 q.1) refl refl t
-  where
-    by_test : (a b : Bool) → eqb p.0 q.0 ≡ a → eqb p.1 q.1 ≡ b → (a && b) ≡ true → p ≡ q
-    by_test true true first second t = λ i. (eqb-true p.0 q.0 first i, eqb-true p.1 q.1 second i)
-    by_test true false first second t = absurd cc
-    by_test false b first second t = absurd cc
+pub none_noted : (unions : List Union) (n : ℕ) → unions ≡ replicate n none → All IsNone (map union_of unions)
+none_noted unions n e = subst (λ us. All IsNone (map union_of us)) (sym e) (all_none n)
+
+pub none_first : (unions taken : List Union) (n : ℕ) (u : Union) → unions ≡ take 1024 taken ++ replicate n u → taken ≡ [] → u ≡ none
+    → All IsNone (map union_of unions)
+none_first unions taken n u e t v =
+    none_noted unions n
+    (e ∙ (λ i. take 1024 (t i) ++ replicate n (v i)) ∙ ap (λ l. l ++ replicate n none) (take_all {A = Union} 1024 [] (omega arith)))
+
+pub none_contained : (unions : List Union) (n : ℕ) → unions ≡ replicate n none → (z : (ℕ × ℕ) × ℕ) → Contains (map union_of unions) z → IsNone z
+none_contained unions n e z d = All-contains IsNone (map union_of unions) z (none_noted unions n e) d
+
+-- one place is written
+pub written : (unions : List Union) (p : ℕ) (u : Union) (z : (ℕ × ℕ) × ℕ) → Contains (map union_of (set unions p u)) z
+    → Contains (map union_of unions) z ⊎ (z ≡ union_of u)
+written [] p u z d = let low = d.1 in absurd (omega arith)
+written (x ∷ xs) zero u z d = elim (here_or_there (union_of u) (map union_of xs) z d) [
+  | inl e ↦ inr (sym e)
+  | inr o ↦ inl (there (union_of x) (map union_of xs) z o)
+]
+written (x ∷ xs) (suc p) u z d = elim (here_or_there (union_of x) (map union_of (set xs p u)) z d) [
+  | inl e ↦ inl (subst (Contains (map union_of (x ∷ xs))) e (here (union_of x) (map union_of xs)))
+  | inr o ↦ elim (written xs p u z o) [
+    | inl a ↦ inl (there (union_of x) (map union_of xs) z a)
+    | inr b ↦ inr b
+  ]
+]
+
+-- the empty list with itself
+pub IsUnion-none : (lists : List (List (ℕ × ℕ))) → 0 < length lists → IsUnion lists (0, 0) 0
+IsUnion-none lists some = record {
+  within = some;
+  first = some;
+  second = some;
+  exactly = λ z. (λ d. inl d, λ o. elim o [ inl d ↦ d | inr d ↦ d ]);
+}
+
+pub AreUnions-none : (lists : List (List (ℕ × ℕ))) (unions : List ((ℕ × ℕ) × ℕ)) → lists ≡ [] ∷ [] → All IsNone unions → AreUnions lists unions
+AreUnions-none lists unions e none z d =
+    let size = ap length e in
+    subst (λ w. IsUnion lists w.0 w.1) (sym (All-contains IsNone unions z none d)) (IsUnion-none lists (omega arith))
+
+-- a union of two lists, whichever has the lower number
+pub IsUnion-in_order : (lists : List (List (ℕ × ℕ))) (j k i : ℕ) → i < length lists → j < length lists → k < length lists
+    → Unites (list_at lists i) (list_at lists j) (list_at lists k) → IsUnion lists (min j k, max j k) i
+IsUnion-in_order lists j k i within first second exactly = elim (cases_lt j k) [
+  | inl less ↦
+      let low : j ≡ min j k = omega arith in
+      let high : k ≡ max j k = omega arith in
+      subst (λ n. IsUnion lists (min j k, n) i) high (subst (λ n. IsUnion lists (n, k) i) low
+      (record { within = within; first = first; second = second; exactly = exactly }))
+  | inr more ↦
+      let low : k ≡ min j k = omega arith in
+      let high : j ≡ max j k = omega arith in
+      subst (λ n. IsUnion lists (min j k, n) i) high (subst (λ n. IsUnion lists (n, j) i) low
+      (record { within = within; first = second; second = first; exactly = λ z. or_swap (exactly z) }))
+]
+
+-- one union more, and maybe some forgotten
+pub AreUnions-note : (old new : List (List (ℕ × ℕ))) (unions noted : List ((ℕ × ℕ) × ℕ)) (key : ℕ × ℕ) (i : ℕ) → AreUnions old unions → Grow old new
+    → 0 < length old → IsUnion new key i
+    → ((z : (ℕ × ℕ) × ℕ) → Contains noted z → Contains unions z ⊎ IsNone z ⊎ (z ≡ (key, i))) → AreUnions new noted
+AreUnions-note old new unions noted key i are grow some is from = λ z d. elim (from z d) [
+  | inl o ↦ AreUnions-grow grow unions are z o
+  | inr n ↦ elim n [
+    | inl e ↦ let longer = grow.longer in subst (λ w. IsUnion new w.0 w.1) (sym e) (IsUnion-none new (omega arith))
+    | inr e ↦ subst (λ w. IsUnion new w.0 w.1) (sym e) is
+  ]
+]
+
+-- lists that both grow into
+pub unites_back : (old new : List (List (ℕ × ℕ))) (list : List (ℕ × ℕ)) (j k : ℕ) → Grow old new → j < length old → k < length old
+    → Unites list (list_at new j) (list_at new k) → Unites list (list_at old j) (list_at old k)
+unites_back old new list j k grow first second h =
+    subst (λ l. Unites list (list_at old j) l) (grow.same k second) (subst (λ l. Unites list l (list_at new k)) (grow.same j first) h)
+
+pub unites_forth : (old new : List (List (ℕ × ℕ))) (list : List (ℕ × ℕ)) (j k : ℕ) → Grow old new → j < length old → k < length old
+    → Unites list (list_at old j) (list_at old k) → Unites list (list_at new j) (list_at new k)
+unites_forth old new list j k grow first second h =
+    subst (λ l. Unites list (list_at new j) l) (sym (grow.same k second)) (subst (λ l. Unites list l (list_at old k)) (sym (grow.same j first)) h)

@@ -1,9 +1,9 @@
 -- All lists are chained anew, over other buckets: those up to some number are, with the tags that they had.
-use Rattle.std.proofs.Common.{◌≡◌, ◌≢◌, ◌∙◌, ℕ, ◌+◌, ◌^◌, ◌<◌, List, [], ◌∷◌, length, get_or, set, ap, sym, inl, inr, arith}
+use Rattle.std.proofs.Common.{◌≡◌, ◌≢◌, ◌∙◌, ℕ, ◌+◌, ◌^◌, ◌<◌, List, [], ◌∷◌, ◌++◌, length, get_or, set, take, ap, sym, subst, inl, inr, arith}
 use Rattle.std.proofs.lemmas.Bool.{cases_eq}
-use Rattle.std.proofs.lemmas.List.{length-set, get_or-set_same, get_or-set_other}
+use Rattle.std.proofs.lemmas.List.{length-set, get_or-set_same, get_or-set_other, take-append-le, take_all}
 use Rattle.lists.specs.declared.hashed.Entry.{Entry}
-use Rattle.lists.specs.Hashed.{bucket_of_tag, entry_bucket, entry_before, entry_at, IsChained, IsHashed}
+use Rattle.lists.specs.Hashed.{bucket_of_tag, entry_bucket, entry_before, entry_at, IsChained, IsTag, IsHashed}
 use Rattle.lists.proofs.Chains.{IsChained-push}
 
 -- the entries below the number r are in the buckets
@@ -65,4 +65,22 @@ IsHashed-first heads entries some few none one = record {
     before_fit = λ r p h q. absurd (omega arith);
     before_last = λ q r p l h e. absurd (omega arith);
   };
+}
+
+-- what was read back from a slice of the same length
+pub put_back : (xs ys : List ℕ) (n : ℕ) → n ≡ length xs → take n (xs ++ ys) ≡ xs
+put_back xs ys n e = take-append-le n xs ys (omega arith) ∙ take_all n xs (omega arith)
+
+-- other buckets serve the lists as well
+pub IsHashed-rechained : (lists : List (List (ℕ × ℕ))) (heads heads' : List ℕ) (entries entries' : List Entry) → IsHashed lists heads entries
+    → 0 < length heads' → length heads' < 2 ^ 32 → length entries' ≡ length entries
+    → ((r : ℕ) → (entry_at entries' r).tag ≡ (entry_at entries r).tag)
+    → IsChained (length entries') (entry_bucket entries' heads') (entry_before entries') heads' → IsHashed lists heads' entries'
+IsHashed-rechained lists heads heads' entries entries' is some few size tags chained = record {
+  some_buckets = some;
+  few_buckets = few;
+  size = size ∙ is.size;
+  tags = λ r p l. subst (IsTag lists r) (sym (tags r)) (is.tags r p l);
+  different = is.different;
+  chained = subst (λ n. IsChained n (entry_bucket entries' heads') (entry_before entries') heads') (size ∙ is.size) chained;
 }

@@ -1,19 +1,20 @@
 -- A search for a list: from the last number of its bucket down, no list above is the one.
-use Rattle.std.proofs.Common.{◌≡◌, ◌∙◌, ℕ, ◌<◌, List, length, ap, sym, subst, inl, inr, arith}
+use Rattle.std.proofs.Common.{◌≡◌, ◌∙◌, ℕ, ◌<◌, List, length, slice_index, ap, sym, subst, refl, inl, inr, arith}
 use Rattle.std.proofs.lemmas.Bool.{cases_order}
 use Rattle.lists.specs.declared.hashed.Entry.{Entry}
 use Rattle.lists.specs.Lists.{list_at}
-use Rattle.lists.specs.Hashed.{tag_of, bucket_of_tag, entry_bucket, entry_before, IsHashed}
+use Rattle.lists.specs.Hashed.{bucket_of_tag, entry_at, entry_bucket, entry_before, IsHashed}
 
 -- no list with a number above r is this one
 abbrev pub NoneAbove : List (List (ℕ × ℕ)) → List (ℕ × ℕ) → ℕ → Type 0
 NoneAbove lists list r = (q : ℕ) → r < q → q < length lists → list_at lists q ≡ list → ⊥
 
 module _ (lists : List (List (ℕ × ℕ))) (heads : List ℕ) (entries : List Entry) (list : List (ℕ × ℕ)) (tag : ℕ)
-    (is : IsHashed lists heads entries) (same : tag ≡ tag_of list) where
+    (is : IsHashed lists heads entries)
+    (tags : (q : ℕ) → 0 < q → q < length lists → list_at lists q ≡ list → (entry_at entries q).tag ≡ tag) where
   -- a list that is this one is in the bucket of the tag
   fits : (q : ℕ) → 0 < q → q < length lists → list_at lists q ≡ list → entry_bucket entries heads q ≡ bucket_of_tag (length heads) tag
-  fits q p l a = ap (bucket_of_tag (length heads)) (is.tags q p l ∙ ap tag_of a ∙ sym same)
+  fits q p l a = ap (bucket_of_tag (length heads)) (tags q p l a)
 
   pub none-above-before : (r : ℕ) → 0 < r → r < length lists → entry_bucket entries heads r ≡ bucket_of_tag (length heads) tag
       → (list_at lists r ≡ list → ⊥) → NoneAbove lists list r → NoneAbove lists list (entry_before entries r)
@@ -24,3 +25,11 @@ module _ (lists : List (List (ℕ × ℕ))) (heads : List ℕ) (entries : List E
       | inr high ↦ none q high k a
     ]
   ]
+
+  -- and none stands above the last one of its bucket
+  pub none-above-last : (b : ℕ) → b ≡ bucket_of_tag (length heads) tag → NoneAbove lists list (slice_index heads b)
+  none-above-last b e q h k a =
+      let some : 0 < q = omega arith in
+      let last = is.chained.heads_last q some (subst (λ n. q < n) refl k) in
+      let at = ap (slice_index heads) (fits q some k a ∙ sym e) in
+      omega arith

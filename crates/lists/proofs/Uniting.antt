@@ -1,172 +1,288 @@
--- Unions of lists: of two as the one with what it lacks of the other, and of several in turn.
-use Rattle.std.proofs.Common.{◌≡◌, ◌∙◌, ◌⊎◌, ◌↔◌, ℕ, ◌+◌, ◌<◌, List, [], length, slice_index, Contains, sym, subst, refl, inl, inr, arith}
-use Rattle.std.proofs.lemmas.Bool.{cases_eq}
-use Rattle.lists.specs.Lists.{list_at, merged, Apart, Grow, HasOne}
-use Rattle.lists.specs.Unions.{IsUnion, AreUnions}
-use Rattle.lists.proofs.Merging.{merged_has, has_or_lacks}
+-- Unions by halves: a list in two at another place, the cut of a union, and the union of two lists from those of their halves.
+use Rattle.std.proofs.Common.{◌≡◌, ◌∙◌, ◌⊎◌, ◌↔◌, ℕ, ◌+◌, ◌-◌, ◌<◌, ◌≤◌, min, max, List, [], ◌∷◌, ◌++◌, length, get_or, Contains, ap, sym, subst, refl, inl, inr, arith}
+use Rattle.std.specs.List.Sorted.{IsStrictlySortedBy}
+use Rattle.std.proofs.lemmas.Bool.{cases_lt}
+use Rattle.std.proofs.lemmas.List.{length-append, append-nil}
+use Rattle.lists.specs.declared.nodes.Halves.{Halves}
+use Rattle.lists.specs.declared.nodes.TheConstants.{FEW}
+use Rattle.lists.specs.Lists.{pair_cmp, list_at, merged, Grow}
+use Rattle.lists.specs.Cuts.{key_of, Fit, IsPlace, IsAlike, IsCut, IsUnder, IsOver, IsParted}
+use Rattle.lists.specs.Nodes.{IsHalved, AreStored, AreIn}
+use Rattle.lists.specs.Unions.{Unites, IsSplit}
+use Rattle.lists.proofs.Cuts.{alike_wider, alike_within, all_under, all_over}
+use Rattle.lists.proofs.Keys.{halves_has, halves_rise, parts_has}
+use Rattle.lists.proofs.Halving.{keys_between, has_first, has_last}
+use Rattle.lists.proofs.Merging.{merged_has}
+use Rattle.lists.proofs.Pairs.{pair_total}
+use Rattle.lists.proofs.Rising.{rising_fewer}
 
--- the list that the base and what it lacks of another one are
-module _ (base other pairs : List (ℕ × ℕ)) (has : (z : ℕ × ℕ) → Contains pairs z ↔ (Contains other z × ¬ Contains base z)) where
-  pub missing_apart : Apart base pairs
-  missing_apart z c d = ((has z).0 d).1 c
+pub none_in : (list : List (ℕ × ℕ)) → list ≡ [] → (z : ℕ × ℕ) → Contains list z → ⊥
+none_in list e z d = let none = ap length e in let k = d.1 in omega arith
 
-  pub united_has : (z : ℕ × ℕ) → Contains (merged base pairs) z ↔ (Contains base z ⊎ Contains other z)
-  united_has z = (
-    λ c. elim ((merged_has z base pairs).0 c) [
-      | inl b ↦ inl b
-      | inr m ↦ inr ((has z).0 m).0
-    ],
-    λ o. (merged_has z base pairs).1 (elim o [
-      | inl b ↦ inl b
-      | inr h ↦ elim (has_or_lacks base z) [
-        | inl b ↦ inl b
-        | inr lacks ↦ inr ((has z).1 (h, lacks))
-      ]
-    ]),
-  )
+-- a list in two at a place that suits it
+module _ (lists : List (List (ℕ × ℕ))) (stored : AreStored lists) (k c : ℕ) (h : Halves) (is : IsHalved lists k h) (bit : ℕ)
+    (alike : IsAlike bit (list_at lists k) c) where
+  own : IsCut (list_at lists k) h.cut
+  own = subst (λ l. IsCut l h.cut) (sym is.list) is.halves.at_cut
 
-pub or_swap : {A B C : Type 0} → A ↔ (B ⊎ C) → A ↔ (C ⊎ B)
-or_swap f = (
-  λ a. elim (f.0 a) [ inl b ↦ inr b | inr c ↦ inl c ],
-  λ o. f.1 (elim o [ inl c ↦ inr c | inr b ↦ inl b ]),
-)
-
--- the pair is in one of the lists of the first i of these numbers
-abbrev pub HasUpTo : List (List (ℕ × ℕ)) → List ℕ → ℕ → ℕ × ℕ → Type 0
-HasUpTo lists numbers i z = (j : ℕ) × (j < i) × Contains (list_at lists (slice_index numbers j)) z
-
--- the first i lists are part of this one, which has no pair that none of the lists has
-pub record IsUpTo (lists : List (List (ℕ × ℕ))) (numbers : List ℕ) (i : ℕ) (list : List (ℕ × ℕ)) : Type 0 where
-  pub all : (z : ℕ × ℕ) → HasUpTo lists numbers i z → Contains list z
-  pub sound : (z : ℕ × ℕ) → Contains list z → HasOne lists numbers z
-
-module _ (lists : List (List (ℕ × ℕ))) (numbers : List ℕ) where
-  pub IsUpTo-none : (list : List (ℕ × ℕ)) → ((z : ℕ × ℕ) → Contains list z → HasOne lists numbers z) → IsUpTo lists numbers 0 list
-  IsUpTo-none list sound = record { all = λ z h. let low = h.1 in absurd (omega (arith, low)); sound = sound }
-
-  pub IsUpTo-more : (i : ℕ) (old more new : List (ℕ × ℕ)) → i < length numbers → IsUpTo lists numbers i old
-      → more ≡ list_at lists (slice_index numbers i) → ((z : ℕ × ℕ) → Contains new z ↔ (Contains old z ⊎ Contains more z))
-      → IsUpTo lists numbers (i + 1) new
-  IsUpTo-more i old more new below before is both = record {
-    all = λ z h. let (j, low, has) = h in (both z).1 (elim (cases_eq j i) [
-      | inl e ↦ inr (subst (λ l. Contains l z) (sym is) (subst (λ x. Contains (list_at lists (slice_index numbers x)) z) e has))
-      | inr d ↦ inl (before.all z (j, omega (arith, low, d), has))
-    ]);
-    sound = λ z c. elim ((both z).0 c) [
-      | inl o ↦ before.sound z o
-      | inr m ↦ (i, below, subst (λ l. Contains l z) is m)
-    ];
+  pub split_under : h.cut < c → IsSplit lists k c k 0
+  split_under less = record {
+    first = omega arith;
+    second = omega arith;
+    parted = record {
+      joined = sym (ap (λ l. list_at lists k ++ l) stored.first ∙ append-nil (list_at lists k));
+      under = all_under (list_at lists k) bit c h.cut alike own less;
+      over = λ z d. absurd (none_in _ stored.first z d);
+    };
   }
 
-  pub IsUpTo-all : (i : ℕ) (list : List (ℕ × ℕ)) → i ≡ length numbers → IsUpTo lists numbers i list
-      → (z : ℕ × ℕ) → Contains list z ↔ HasOne lists numbers z
-  IsUpTo-all i list end is z = (
-    λ c. is.sound z c,
-    λ h. let (j, low, has) = h in is.all z (j, omega (arith, low, end), has),
+  pub split_over : c < h.cut → IsSplit lists k c 0 k
+  split_over less = record {
+    first = omega arith;
+    second = omega arith;
+    parted = record {
+      joined = sym (ap (λ l. l ++ list_at lists k) stored.first);
+      under = λ z d. absurd (none_in _ stored.first z d);
+      over = all_over (list_at lists k) bit c h.cut alike own less;
+    };
+  }
+
+  pub split_own : h.cut ≡ c → IsSplit lists k c h.below h.above
+  split_own same = record {
+    first = let b = is.below in omega arith;
+    second = let a = is.above in omega arith;
+    parted = record {
+      joined = is.list;
+      under = subst (IsUnder (list_at lists h.below)) same is.halves.under;
+      over = subst (IsOver (list_at lists h.above)) same is.halves.over;
+    };
+  }
+
+-- the cut of a union
+module _ (list xs ys : List (ℕ × ℕ)) (unites : Unites list xs ys) (bit c : ℕ) (first : IsAlike bit xs c) (second : IsAlike bit ys c) where
+  pub union_cut : (y z : ℕ × ℕ) → Contains xs y ⊎ Contains ys y → key_of y < c → Contains xs z ⊎ Contains ys z → c ≤ key_of z → IsCut list c
+  union_cut y z in_y low in_z high = record {
+    bit = bit;
+    alike = record {
+      multiple = first.multiple;
+      alike = λ w d. elim ((unites w).0 d) [ inl a ↦ first.alike w a | inr b ↦ second.alike w b ];
+    };
+    below = (y, (unites y).1 in_y, low);
+    above = (z, (unites z).1 in_z, high);
+  }
+
+-- two lists in two at one place, and the unions of their parts
+module _ (xs ys below above below' above' lower upper : List (ℕ × ℕ)) (c : ℕ) (first : IsParted xs c below above) (second : IsParted ys c below' above')
+    (low : Unites lower below below') (high : Unites upper above above') where
+  pub united : Unites (lower ++ upper) xs ys
+  united z = (
+    λ d. elim ((halves_has lower upper c z).0 d) [
+      | inl a ↦ elim ((low z).0 a) [
+        | inl x ↦ inl ((parts_has xs below above c first z).1 (inl x))
+        | inr y ↦ inr ((parts_has ys below' above' c second z).1 (inl y))
+      ]
+      | inr b ↦ elim ((high z).0 b) [
+        | inl x ↦ inl ((parts_has xs below above c first z).1 (inr x))
+        | inr y ↦ inr ((parts_has ys below' above' c second z).1 (inr y))
+      ]
+    ],
+    λ d. elim d [
+      | inl x ↦ elim ((parts_has xs below above c first z).0 x) [
+        | inl a ↦ (halves_has lower upper c z).1 (inl ((low z).1 (inl a)))
+        | inr b ↦ (halves_has lower upper c z).1 (inr ((high z).1 (inl b)))
+      ]
+      | inr y ↦ elim ((parts_has ys below' above' c second z).0 y) [
+        | inl a ↦ (halves_has lower upper c z).1 (inl ((low z).1 (inr a)))
+        | inr b ↦ (halves_has lower upper c z).1 (inr ((high z).1 (inr b)))
+      ]
+    ],
   )
 
--- lists that grow twice
-pub Grow-same : (lists : List (List (ℕ × ℕ))) → Grow lists lists
-Grow-same lists = record { longer = omega arith; same = λ k h. refl }
+  pub united_under : IsUnder lower c
+  united_under z d = elim ((low z).0 d) [ inl a ↦ first.under z a | inr b ↦ second.under z b ]
 
-pub Grow-twice : {a b c : List (List (ℕ × ℕ))} → Grow a b → Grow b c → Grow a c
-Grow-twice first second =
-    let longer = first.longer in
-    record {
-      longer = let more = second.longer in omega arith;
-      same = λ k h. second.same k (omega arith) ∙ first.same k h;
-    }
+  pub united_over : IsOver upper c
+  united_over z d = elim ((high z).0 d) [ inl a ↦ first.over z a | inr b ↦ second.over z b ]
 
-pub same_as : {A B C : Type 0} → A ↔ B → B ↔ C → A ↔ C
-same_as f g = (λ a. g.0 (f.0 a), λ c. f.1 (g.1 c))
-
-pub or_same : {A P B C : Type 0} → A ↔ (P ⊎ B) → B ↔ C → A ↔ (P ⊎ C)
-or_same f g = (
-  λ a. elim (f.0 a) [ inl p ↦ inl p | inr b ↦ inr (g.0 b) ],
-  λ o. f.1 (elim o [ inl p ↦ inl p | inr c ↦ inr (g.1 c) ]),
-)
-
--- unions stay so as the lists grow
-module _ {old new : List (List (ℕ × ℕ))} (grow : Grow old new) where
-  either-grow : (j k : ℕ) → j < length old → k < length old → (z : ℕ × ℕ)
-      → (Contains (list_at old j) z ⊎ Contains (list_at old k) z) ↔ (Contains (list_at new j) z ⊎ Contains (list_at new k) z)
-  either-grow j k first second z =
-      rw (grow.same j first, grow.same k second) (λ o. o, λ o. o)
-
-  pub IsUnion-grow : (key : ℕ × ℕ) (i : ℕ) → IsUnion old key i → IsUnion new key i
-  IsUnion-grow key i is =
-      let longer = grow.longer in
+-- the unions of the parts are the halves of the union
+pub AreIn-united : (lists new : List (List (ℕ × ℕ))) (h : Halves) (xs ys below above below' above' : List (ℕ × ℕ)) → AreStored new → Grow lists new
+    → h.below < length lists → Unites (list_at lists h.below) below below' → h.above < length new → Unites (list_at new h.above) above above'
+    → IsParted xs h.cut below above → IsParted ys h.cut below' above' → IsStrictlySortedBy pair_cmp ys → FEW < length ys
+    → ((list : List (ℕ × ℕ)) → Unites list xs ys → IsCut list h.cut)
+    → AreIn new h × Unites (list_at new h.below ++ list_at new h.above) xs ys
+AreIn-united lists new h xs ys below above below' above' stored grow lower_in lower upper_in upper first second rise long cut =
+    let low : Unites (list_at new h.below) below below' = subst (λ l. Unites l below below') (sym (grow.same h.below lower_in)) lower in
+    let longer = grow.longer in
+    let low_in : h.below < length new = omega arith in
+    let all = united xs ys below above below' above' _ _ h.cut first second low upper in
+    let under = united_under xs ys below above below' above' _ _ h.cut first second low upper in
+    let over = united_over xs ys below above below' above' _ _ h.cut first second low upper in
+    let rises =
+    halves_rise (list_at new h.below) (list_at new h.above) h.cut (stored.rise h.below [] low_in) (stored.rise h.above [] upper_in)
+    (stored.fit h.below) (stored.fit h.above) under over in
+    let fewer = rising_fewer pair_total ys (list_at new h.below ++ list_at new h.above) rise rises (λ z d. (all z).1 (inr d)) in (
       record {
-        within = let within = is.within in omega arith;
-        first = let first = is.first in omega arith;
-        second = let second = is.second in omega arith;
-        exactly = λ z. subst (λ l. Contains l z ↔ (Contains (list_at new key.0) z ⊎ Contains (list_at new key.1) z)) (sym (grow.same i is.within))
-            (same_as (is.exactly z) (either-grow key.0 key.1 is.first is.second z));
-      }
+        below = low_in;
+        above = upper_in;
+        halves = record {
+          long = omega (arith, length-append (list_at new h.below) (list_at new h.above));
+          at_cut = cut (list_at new h.below ++ list_at new h.above) all;
+          under = under;
+          over = over;
+        };
+      },
+      all,
+    )
 
-  pub AreUnions-grow : (unions : List ((ℕ × ℕ) × ℕ)) → AreUnions old unions → AreUnions new unions
-  AreUnions-grow unions are z c = IsUnion-grow z.0 z.1 (are z c)
+empty_of : (list : List (ℕ × ℕ)) → length list ≡ 0 → list ≡ []
+empty_of [] e = refl
+empty_of (x ∷ xs) e = absurd (omega arith)
 
-  -- a union that was made
-  pub IsUnion-made : (j k i : ℕ) → j < length old → k < length old → i < length new
-      → ((z : ℕ × ℕ) → Contains (list_at new i) z ↔ (Contains (list_at old j) z ⊎ Contains (list_at old k) z)) → IsUnion new (j, k) i
-  IsUnion-made j k i first second within has =
-      let longer = grow.longer in
-      record {
-        within = within;
-        first = omega arith;
-        second = omega arith;
-        exactly = λ z. same_as (has z) (either-grow j k first second z);
-      }
+-- not all pairs of two lists are on one side of the cut of both
+module _ (xs ys below above below' above' : List (ℕ × ℕ)) (c : ℕ) (first : IsParted xs c below above) (second : IsParted ys c below' above')
+    (cut : IsCut (xs ++ ys) c) where
+  not_all_below : below ≡ xs → below' ≡ ys → ⊥
+  not_all_below e f =
+      let z = cut.above.0 in
+      let high = cut.above.2 in
+      elim ((halves_has xs ys c z).0 cut.above.1) [
+        | inl d ↦ let low = first.under z (subst (λ l. Contains l z) (sym e) d) in omega arith
+        | inr d ↦ let low = second.under z (subst (λ l. Contains l z) (sym f) d) in omega arith
+      ]
 
--- one more is noted
-pub AreUnions-noted : (lists : List (List (ℕ × ℕ))) (old new : List ((ℕ × ℕ) × ℕ)) (key : ℕ × ℕ) (i : ℕ) → AreUnions lists old → IsUnion lists key i
-    → ((z : (ℕ × ℕ) × ℕ) → Contains new z → Contains old z ⊎ (z ≡ (key, i))) → AreUnions lists new
-AreUnions-noted lists old new key i are is more z c = elim (more z c) [
-  | inl o ↦ are z o
-  | inr e ↦ subst (λ x. IsUnion lists x.0 x.1) (sym e) is
-]
+  not_all_above : above ≡ xs → above' ≡ ys → ⊥
+  not_all_above e f =
+      let z = cut.below.0 in
+      let low = cut.below.2 in
+      elim ((halves_has xs ys c z).0 cut.below.1) [
+        | inl d ↦ let high = first.over z (subst (λ l. Contains l z) (sym e) d) in omega arith
+        | inr d ↦ let high = second.over z (subst (λ l. Contains l z) (sym f) d) in omega arith
+      ]
 
--- those of some pairs that a list lacks
-pub lacked : (z : ℕ × ℕ) (old new ordered pairs list : List (ℕ × ℕ)) → old ≡ []
-    → Contains new z ↔ (Contains old z ⊎ (Contains pairs z × ¬ Contains list z)) → Contains ordered z ↔ Contains new z
-    → Contains ordered z ↔ (Contains pairs z × ¬ Contains list z)
-lacked z old new ordered pairs list none has same = (
-  λ c. elim (has.0 (same.0 c)) [
-    | inl o ↦
-        let (k, low, e) : Contains {X = ℕ × ℕ} [] z = subst (λ l. Contains l z) none o in
-        absurd (omega (arith, low))
-    | inr m ↦ m
-  ],
-  λ m. same.1 (has.1 (inr m)),
-)
+  -- so the work gets less: of a list's number and the length of a slice
+  pub falls_below : (k part : ℕ) → part ≤ k → (part ≡ k → below' ≡ ys) → part + length below < k + length xs
+  falls_below k part few same =
+      let size = ap length first.joined in
+      let both = length-append below above in
+      elim (cases_lt (part + length below) (k + length xs)) [
+        | inl h ↦ h
+        | inr h ↦
+            let none = empty_of above (omega arith) in
+            absurd (not_all_below (sym (first.joined ∙ ap (λ l. below ++ l) none ∙ append-nil below)) (same (omega arith)))
+      ]
 
--- with them the list has all the pairs
-pub with_lacked : (z : ℕ × ℕ) (before after own missing pairs all : List (ℕ × ℕ)) → after ≡ before → own ≡ missing
-    → Contains missing z ↔ (Contains pairs z × ¬ Contains before z) → Contains all z ↔ (Contains after z ⊎ Contains own z)
-    → Contains all z ↔ (Contains pairs z ⊎ Contains before z)
-with_lacked z before after own missing pairs all same is has both = (
-  λ c. elim (both.0 c) [
-    | inl a ↦ inr (subst (λ l. Contains l z) same a)
-    | inr o ↦ inl (has.0 (subst (λ l. Contains l z) is o)).0
-  ],
-  λ o. both.1 (elim o [
-    | inl p ↦ elim (has_or_lacks before z) [
-      | inl b ↦ inl (subst (λ l. Contains l z) (sym same) b)
-      | inr lacks ↦ inr (subst (λ l. Contains l z) (sym is) (has.1 (p, lacks)))
-    ]
-    | inr b ↦ inl (subst (λ l. Contains l z) (sym same) b)
-  ]),
-)
+  pub falls_above : (k part : ℕ) → part ≤ k → (part ≡ k → above' ≡ ys) → part + length above < k + length xs
+  falls_above k part few same =
+      let size = ap length first.joined in
+      let both = length-append below above in
+      elim (cases_lt (part + length above) (k + length xs)) [
+        | inl h ↦ h
+        | inr h ↦
+            let none = empty_of below (omega arith) in
+            absurd (not_all_above (sym (first.joined ∙ ap (λ l. l ++ above) none)) (same (omega arith)))
+      ]
 
--- an empty list with pairs
-pub with_none : (z : ℕ × ℕ) (before pairs all : List (ℕ × ℕ)) → before ≡ [] → all ≡ pairs → Contains all z ↔ (Contains pairs z ⊎ Contains before z)
-with_none z before pairs all none is = (
-  λ c. inl (subst (λ l. Contains l z) is c),
-  λ o. elim o [
-    | inl p ↦ subst (λ l. Contains l z) (sym is) p
-    | inr b ↦
-        let (k, low, e) : Contains {X = ℕ × ℕ} [] z = subst (λ l. Contains l z) none b in
-        absurd (omega (arith, low))
-  ],
-)
+  -- and of the numbers of two lists
+  pub both_below : (j k part part' : ℕ) → part ≤ j → part' ≤ k → (part ≡ j → below ≡ xs) → (part' ≡ k → below' ≡ ys) → part + part' < j + k
+  both_below j k part part' few few' same same' = elim (cases_lt (part + part') (j + k)) [
+    | inl h ↦ h
+    | inr h ↦ absurd (not_all_below (same (omega arith)) (same' (omega arith)))
+  ]
+
+  pub both_above : (j k part part' : ℕ) → part ≤ j → part' ≤ k → (part ≡ j → above ≡ xs) → (part' ≡ k → above' ≡ ys) → part + part' < j + k
+  both_above j k part part' few few' same same' = elim (cases_lt (part + part') (j + k)) [
+    | inl h ↦ h
+    | inr h ↦ absurd (not_all_above (same (omega arith)) (same' (omega arith)))
+  ]
+
+-- the place for some pairs and a long list
+module _ (xs ys : List (ℕ × ℕ)) (rise : IsStrictlySortedBy pair_cmp xs) (fit : Fit xs) (some : 0 < length xs) (first last low high own bit c : ℕ)
+    (first_is : first ≡ key_of (get_or xs 0 (0, 0))) (last_is : last ≡ key_of (get_or xs (length xs - 1) (0, 0)))
+    (low_is : low ≡ min first (own - 1)) (high_is : high ≡ max last own) (cut : IsCut ys own) (place : IsPlace bit low high c) where
+  pub alike_pairs : IsAlike bit xs c
+  alike_pairs = alike_within xs bit low high c place (λ z d.
+      let between = keys_between xs rise fit some first last first_is last_is z d in
+      (omega arith, omega arith))
+
+  pub alike_list : IsAlike bit ys c
+  alike_list = let h = cut.below.2 in alike_wider ys bit low high c own place cut (omega arith) (omega arith)
+
+  pub with_cut : (list : List (ℕ × ℕ)) → Unites list xs ys → IsCut list c
+  with_cut list unites =
+      let after = place.after in
+      let within = place.within in
+      let under = cut.below.2 in
+      let over = cut.above.2 in
+      let is_first : first ≡ key_of (get_or xs 0 (0, 0)) = first_is in
+      elim (cases_lt first (own - 1)) [
+        | inl less ↦ elim (cases_lt own last) [
+          | inl more ↦
+              union_cut list xs ys unites bit c alike_pairs alike_list (get_or xs 0 (0, 0)) (get_or xs (length xs - 1) (0, 0))
+              (inl (has_first xs rise fit some first last first_is last_is)) (omega arith) (inl (has_last xs rise fit some first last first_is last_is)) (omega arith)
+          | inr more ↦
+              union_cut list xs ys unites bit c alike_pairs alike_list (get_or xs 0 (0, 0)) cut.above.0
+              (inl (has_first xs rise fit some first last first_is last_is)) (omega arith) (inr cut.above.1) (omega arith)
+        ]
+        | inr less ↦ elim (cases_lt own last) [
+          | inl more ↦
+              union_cut list xs ys unites bit c alike_pairs alike_list cut.below.0 (get_or xs (length xs - 1) (0, 0))
+              (inr cut.below.1) (omega arith) (inl (has_last xs rise fit some first last first_is last_is)) (omega arith)
+          | inr more ↦
+              union_cut list xs ys unites bit c alike_pairs alike_list cut.below.0 cut.above.0 (inr cut.below.1) (omega arith) (inr cut.above.1) (omega arith)
+        ]
+      ]
+
+  pub with_cut_both : IsCut (xs ++ ys) c
+  with_cut_both = with_cut (xs ++ ys) (halves_has xs ys c)
+
+-- the place for two long lists
+module _ (xs ys : List (ℕ × ℕ)) (low high own own' bit c : ℕ) (low_is : low ≡ min own own' - 1) (high_is : high ≡ max own own')
+    (cut : IsCut xs own) (cut' : IsCut ys own') (place : IsPlace bit low high c) where
+  pub alike_first : IsAlike bit xs c
+  alike_first = let h = cut.below.2 in let g = cut'.below.2 in alike_wider xs bit low high c own place cut (omega arith) (omega arith)
+
+  pub alike_second : IsAlike bit ys c
+  alike_second = let h = cut.below.2 in let g = cut'.below.2 in alike_wider ys bit low high c own' place cut' (omega arith) (omega arith)
+
+  pub both_cut : (list : List (ℕ × ℕ)) → Unites list xs ys → IsCut list c
+  both_cut list unites =
+      let after = place.after in
+      let within = place.within in
+      let under = cut.below.2 in
+      let over = cut.above.2 in
+      let under' = cut'.below.2 in
+      let over' = cut'.above.2 in
+      elim (cases_lt own own') [
+        | inl less ↦ union_cut list xs ys unites bit c alike_first alike_second cut.below.0 cut'.above.0 (inl cut.below.1) (omega arith) (inr cut'.above.1) (omega arith)
+        | inr more ↦ union_cut list xs ys unites bit c alike_first alike_second cut'.below.0 cut.above.0 (inr cut'.below.1) (omega arith) (inl cut.above.1) (omega arith)
+      ]
+
+  pub both_cut_both : IsCut (xs ++ ys) c
+  both_cut_both = both_cut (xs ++ ys) (halves_has xs ys c)
+
+-- both as one list in rising order
+pub unites_merged : (list xs ys : List (ℕ × ℕ)) → list ≡ merged xs ys → Unites list ys xs
+unites_merged list xs ys e = subst (λ l. Unites l ys xs) (sym e) (λ z. (
+  λ d. elim ((merged_has z xs ys).0 d) [ inl a ↦ inr a | inr b ↦ inl b ],
+  λ d. elim d [ inl b ↦ (merged_has z xs ys).1 (inr b) | inr a ↦ (merged_has z xs ys).1 (inl a) ],
+))
+
+-- a pair of a list with halves is on its own side of the cut
+module _ (lists : List (List (ℕ × ℕ))) (k : ℕ) (h : Halves) (is : IsHalved lists k h) (z : ℕ × ℕ) where
+  pub has_below : key_of z < h.cut → Contains (list_at lists k) z ↔ Contains (list_at lists h.below) z
+  has_below low = (
+    λ d. elim ((halves_has (list_at lists h.below) (list_at lists h.above) h.cut z).0 (subst (λ l. Contains l z) is.list d)) [
+      | inl a ↦ a
+      | inr b ↦ let high = is.halves.over z b in absurd (omega arith)
+    ],
+    λ a. subst (λ l. Contains l z) (sym is.list) ((halves_has (list_at lists h.below) (list_at lists h.above) h.cut z).1 (inl a)),
+  )
+
+  pub has_above : h.cut ≤ key_of z → Contains (list_at lists k) z ↔ Contains (list_at lists h.above) z
+  has_above high = (
+    λ d. elim ((halves_has (list_at lists h.below) (list_at lists h.above) h.cut z).0 (subst (λ l. Contains l z) is.list d)) [
+      | inl a ↦ let low = is.halves.under z a in absurd (omega arith)
+      | inr b ↦ b
+    ],
+    λ b. subst (λ l. Contains l z) (sym is.list) ((halves_has (list_at lists h.below) (list_at lists h.above) h.cut z).1 (inr b)),
+  )

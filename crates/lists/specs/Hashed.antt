@@ -1,12 +1,23 @@
 -- How different lists are found: by tags, which equal lists share. Those in one bucket are chained, from the last one down.
 use Rattle.std.specs.Prelude.{◌≡◌, ℕ, ◌*◌, ◌/◌, ◌^◌, ◌<◌, ◌≤◌, List, length, slice_index, slice_index_or}
 use Rattle.lists.specs.declared.hashed.Entry.{Entry}
-use Rattle.lists.specs.Spans.{fingerprint_of}
-use Rattle.lists.specs.Lists.{list_at, merged, IsAddition}
+use Rattle.lists.specs.declared.nodes.Halves.{Halves}
+use Rattle.lists.specs.declared.nodes.Shape.{Shape}
+use Rattle.lists.specs.declared.nodes.Shape.TheVariants.{Whole, Halved}
+use Rattle.lists.specs.declared.nodes.TheConstants.{FEW}
+use Rattle.lists.specs.Spans.{hash_of, fingerprint_of, mixed}
+use Rattle.lists.specs.Lists.{list_at}
+use Rattle.lists.specs.Nodes.{IsHalved}
 
--- the tag of a list: the upper half of its fingerprint
-abbrev pub tag_of : List (ℕ × ℕ) → ℕ
-tag_of list = fingerprint_of list / 2 ^ 32
+-- the tag of a list of a shape
+abbrev pub tag_of : Shape → ℕ
+tag_of (Whole list) = mixed (fingerprint_of list.now)
+tag_of (Halved h) = mixed (hash_of (h.below, h.above))
+
+-- the tag of the list number k
+pub record IsTag (lists : List (List (ℕ × ℕ))) (k tag : ℕ) : Type 0 where
+  pub whole : length (list_at lists k) ≤ FEW → tag ≡ mixed (fingerprint_of (list_at lists k))
+  pub halved : (h : Halves) → IsHalved lists k h → tag ≡ mixed (hash_of (h.below, h.above))
 
 -- the bucket of a tag, of so many buckets
 abbrev pub bucket_of_tag : ℕ → ℕ → ℕ
@@ -33,20 +44,18 @@ entry_bucket entries heads r = bucket_of_tag (length heads) (entry_at entries r)
 abbrev pub entry_before : List Entry → ℕ → ℕ
 entry_before entries r = (entry_at entries r).before
 
+-- no list stands under two numbers
+abbrev pub AreDifferent : List (List (ℕ × ℕ)) → Type 0
+AreDifferent lists = (j k : ℕ) → j < length lists → k < length lists → list_at lists j ≡ list_at lists k → j ≡ k
+
 -- different lists, each of which but the first is found by its tag
 pub record IsHashed (lists : List (List (ℕ × ℕ))) (heads : List ℕ) (entries : List Entry) : Type 0 where
   pub some_buckets : 0 < length heads
   pub few_buckets : length heads < 2 ^ 32
   pub size : length entries ≡ length lists
-  pub tags : (r : ℕ) → 0 < r → r < length lists → (entry_at entries r).tag ≡ tag_of (list_at lists r)
-  pub different : (j k : ℕ) → j < length lists → k < length lists → list_at lists j ≡ list_at lists k → j ≡ k
+  pub tags : (r : ℕ) → 0 < r → r < length lists → IsTag lists r (entry_at entries r).tag
+  pub different : AreDifferent lists
   pub chained : IsChained (length lists) (entry_bucket entries heads) (entry_before entries) heads
-
--- the list that is looked for: the list number k with these pairs, some, which it lacks; it has this tag
-pub record IsSought (lists : List (List (ℕ × ℕ))) (k : ℕ) (pairs : List (ℕ × ℕ)) (tag : ℕ) : Type 0 where
-  pub addition : IsAddition lists k pairs
-  pub some : 0 < length pairs
-  pub tag_is : tag ≡ tag_of (merged (list_at lists k) pairs)
 
 -- none of the lists from number 1 is this one
 abbrev pub IsNewList : List (List (ℕ × ℕ)) → List (ℕ × ℕ) → Type 0

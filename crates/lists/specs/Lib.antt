@@ -1,6 +1,7 @@
 pub mod Lists
+pub mod Cuts
 pub mod Spans
-pub mod Links
+pub mod Nodes
 pub mod Hashed
 pub mod Unions
-pub mod Differences
+pub mod Known

@@ -19,16 +19,6 @@ list_at lists k = slice_index_or lists k []
 abbrev pub merged : List (ℕ × ℕ) → List (ℕ × ℕ) → List (ℕ × ℕ)
 merged = sorted_merge pair_cmp true
 
--- no pair is in both lists
-abbrev pub Apart : List (ℕ × ℕ) → List (ℕ × ℕ) → Type 0
-Apart xs ys = (z : ℕ × ℕ) → Contains xs z → ¬ Contains ys z
-
--- the list number k is there, and lacks these pairs, which are in strictly rising order
-pub record IsAddition (lists : List (List (ℕ × ℕ))) (k : ℕ) (pairs : List (ℕ × ℕ)) : Type 0 where
-  pub within : k < length lists
-  pub rising : IsStrictlySortedBy pair_cmp pairs
-  pub apart : Apart (list_at lists k) pairs
-
 -- different lists in strictly rising order, the first of which is empty, and not too many for their numbers
 pub record AreLists (lists : List (List (ℕ × ℕ))) : Type 0 where
   pub rise : All (IsStrictlySortedBy pair_cmp) lists

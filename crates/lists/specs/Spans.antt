@@ -1,11 +1,11 @@
--- How `Parts` keeps its lists: as spans of one buffer, each with a fingerprint.
+-- How `Parts` keeps its lists: as spans of one buffer. Hashes of pairs and of lists.
 use Rattle.std.specs.Prelude.{◌≡◌, ℕ, ◌+◌, ◌*◌, ◌/◌, ◌%◌, ◌^◌, ◌≤◌, List, length, map}
 use Rattle.std.specs.Int.Bits.{bit_xor}
 use Rattle.std.specs.List.{All, slice_range, slice_index_or, sum_by}
 use Rattle.std.specs.List.Sorted.{IsStrictlySortedBy}
 use Rattle.lists.specs.Lists.{pair_cmp}
 use Rattle.lists.specs.declared.span.Span.{Span}
-use Rattle.lists.specs.declared.span.TheConstants.{FIRST_FACTOR, SUM_FACTOR}
+use Rattle.lists.specs.declared.span.TheConstants.{FIRST_FACTOR, SUM_FACTOR, TAG_FACTOR}
 use Rattle.lists.specs.declared.lists.TheConstants.{MOST_LISTS}
 
 -- the hash of two numbers: both halves of a product, one put over the other
@@ -16,20 +16,23 @@ hash_of p = let product = (p.0 * FIRST_FACTOR % 2 ^ 64 + p.1) % 2 ^ 64 * SUM_FAC
 abbrev pub fingerprint_of : List (ℕ × ℕ) → ℕ
 fingerprint_of list = sum_by hash_of list % 2 ^ 64
 
+-- the upper half of one more product
+abbrev pub mixed : ℕ → ℕ
+mixed number = number * TAG_FACTOR % 2 ^ 64 / 2 ^ 32
+
 -- the span of no pairs
 abbrev pub no_pairs : Span
-no_pairs = record { start = 0; end = 0; fingerprint = 0 }
+no_pairs = record { start = 0; end = 0 }
 
 -- the list that the span has
 abbrev pub list_in : List (ℕ × ℕ) → Span → List (ℕ × ℕ)
 list_in pairs x = slice_range pairs x.start x.end
 
--- it is a span of the pairs, its list is in rising order, and it has the fingerprint of its list
+-- it is a span of the pairs, and its list is in rising order
 pub record IsSpan (pairs : List (ℕ × ℕ)) (x : Span) : Type 0 where
   pub forward : x.start ≤ x.end
   pub within : x.end ≤ length pairs
   pub rising : IsStrictlySortedBy pair_cmp (list_in pairs x)
-  pub fingerprint : x.fingerprint ≡ fingerprint_of (list_in pairs x)
 
 -- the list of each of the spans
 abbrev pub lists_of : List (ℕ × ℕ) → List Span → List (List (ℕ × ℕ))

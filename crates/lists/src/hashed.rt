@@ -1,22 +1,22 @@
 //! The table that `distinct` finds its lists in (hash-consing): each list has an entry, and those of one bucket are chained.
-ghost use Rattle.std.specs.Prelude.{◌≡◌, ℕ, ◌/◌, ◌*◌, ◌^◌, ◌++◌, ◌∷◌, ◌<◌, ◌≤◌, List, [], length, slice_index, IfOk, OnOk, OnErr, MatchOption};
-ghost use Rattle.lists.specs.Lists.{list_at, merged};
-ghost use Rattle.lists.specs.Hashed.{bucket_of_tag, entry_at, entry_bucket, entry_before, IsChained, IsHashed, IsSought, IsNewList, IsNumberOf};
-ghost use Rattle.lists.specs.Differences.{AreDifferences};
+ghost use Rattle.std.specs.Prelude.{◌≡◌, ℕ, ◌/◌, ◌*◌, ◌^◌, ◌++◌, ◌∷◌, ◌<◌, ◌≤◌, List, [], length, slice_index, IfOk, OnOk, OnErr, IsTrue, ◌↔◌, MatchOption};
+ghost use Rattle.lists.specs.Lists.{list_at};
+ghost use Rattle.lists.specs.Nodes.{list_of_shape, Suits};
+ghost use Rattle.lists.specs.Hashed.{tag_of, bucket_of_tag, entry_at, entry_bucket, entry_before, IsChained, AreDifferent, IsHashed, IsNewList, IsNumberOf};
 ghost use Rattle.lists.specs.declared.lists.TheConstants.{MOST_LISTS};
 
-use crate::chained::Chained;
-use crate::differences::Differences;
 use crate::lists::EMPTY;
+use crate::nodes::{Nodes, Shape};
+use crate::span::{are_same, fingerprint, hash, mix};
 use growth::Memory;
 
 /// The most buckets that lists are looked up in.
-pub(crate) const MOST_BUCKETS: usize = 1 << 20;
+pub(crate) const MOST_BUCKETS: usize = 1 << 26;
 
 /// How a list is found.
 #[derive(Clone, Copy)]
 pub(crate) struct Entry {
-    /// The upper half of the fingerprint of the list.
+    /// A number that equal lists share, and different lists seldom.
     pub tag: u32,
     /// The number of the list before this one in the same bucket, or 0 if there is none.
     pub before: u32,
@@ -28,7 +28,7 @@ pub(crate) fn first_entry() -> Entry {
 }
 
 /// The bucket of a tag, if there are so many buckets.
-fn bucket(tag: u32, buckets: usize) -> usize
+pub(crate) fn bucket(tag: u32, buckets: usize) -> usize
     requires some { 0 < buckets }
     requires few { buckets < 2 ^ 32 }
     ensures value { result ≡ bucket_of_tag buckets tag }
@@ -37,58 +37,84 @@ fn bucket(tag: u32, buckets: usize) -> usize
     (u64::from(tag) * buckets as u64 / 0x1_0000_0000) as usize
 }
 
-/// The number of the list that is the list number `k` with these pairs, if there is one.
-///
-/// Fails if there is no memory to compare lists.
+/// The tag of a list of this shape: of its pairs, or of the numbers of its halves.
+pub(crate) fn tag(shape: Shape<'_>) -> u32
+    ensures { result ≡ tag_of shape.entry }
+{
+    match shape {
+        Shape::Whole(list) => mix(fingerprint(list)),
+        Shape::Halved(halves) => mix(hash(halves.below, u64::from(halves.above))),
+    }
+}
+
+/// Whether the list number `k` is the one of this shape.
+fn is(nodes: &Nodes, k: u32, shape: Shape<'_>) -> bool
+    requires list { k < length nodes.now }
+    requires suits { Suits nodes.now shape }
+    requires different { AreDifferent nodes.now }
+    ensures { IsTrue result ↔ (list_at nodes.now k ≡ list_of_shape nodes.now shape.entry) }
+{
+    nodes.known();
+    match nodes.shape(k) {
+        Shape::Whole(list) => match shape {
+            Shape::Whole(other) => are_same(list, other),
+            Shape::Halved(_) => false,
+        },
+        Shape::Halved(halves) => match shape {
+            Shape::Whole(_) => false,
+            Shape::Halved(other) => halves == other,
+        },
+    }
+}
+
+/// The number of the list of this shape, if there is one.
 pub(crate) fn find(
-    lists: &Chained,
+    nodes: &Nodes,
     heads: &[u32],
     entries: &[Entry],
-    k: u32,
-    pairs: &[(u32, u32)],
+    shape: Shape<'_>,
     tag: u32,
-    differences: &Differences,
-) -> Result<Option<u32>, Memory>
-    requires differences { AreDifferences lists.now differences.now.numbers differences.now.pairs }
-    requires hashed { IsHashed lists.now heads.now entries.now }
-    requires sought { IsSought lists.now k pairs.now tag }
-    ensures { let list = merged (list_at lists.now k) pairs.now in
-        IfOk result (λ r. MatchOption r (IsNewList lists.now list) (IsNumberOf lists.now list)) }
+) -> Option<u32>
+    requires hashed { IsHashed nodes.now heads.now entries.now }
+    requires suits { Suits nodes.now shape }
+    requires tag { tag ≡ tag_of shape }
+    ensures { let list = list_of_shape nodes.now shape.entry in MatchOption result (IsNewList nodes.now list) (IsNumberOf nodes.now list) }
 {
+    nodes.known();
     let mut r = heads[bucket(tag, heads.len())];
     while r != 0 {
         let entry = &entries[r as usize];
-        if entry.tag == tag && lists.is_extended(r, k, pairs, differences)? {
-            return Ok(Some(r));
+        if entry.tag == tag && is(nodes, r, shape) {
+            return Some(r);
         }
         r = entry.before;
     }
-    Ok(None)
+    None
 }
 
-/// Appends a list that is not there, the list number `k` with these pairs, and returns its number.
+/// Appends a list that is not there, of this shape, and returns its number.
 ///
 /// Fails if there is no memory for it. The lists are then as they were.
 pub(crate) fn put(
-    lists: &mut Chained,
+    nodes: &mut Nodes,
     heads: &mut Vec<u32>,
     entries: &mut Vec<Entry>,
-    k: u32,
-    pairs: &[(u32, u32)],
+    shape: Shape<'_>,
     tag: u32,
 ) -> Result<u32, Memory>
-    requires hashed { IsHashed lists.old heads.old.items entries.old.items }
-    requires few { length lists.old < MOST_LISTS }
-    requires sought { IsSought lists.old k pairs.now tag }
-    requires absent { IsNewList lists.old (merged (list_at lists.old k) pairs.now) }
-    ensures hashed { IsHashed lists.new heads.new.items entries.new.items }
-    ensures added { OnOk result (lists.new ≡ lists.old ++ merged (list_at lists.old k) pairs.now ∷ []) }
-    ensures number { IfOk result (λ j. j ≡ length lists.old) }
-    ensures err { OnErr result (lists.new ≡ lists.old) }
+    requires hashed { IsHashed nodes.old heads.old.items entries.old.items }
+    requires few { length nodes.old < MOST_LISTS }
+    requires suits { Suits nodes.old shape }
+    requires tag { tag ≡ tag_of shape }
+    requires absent { IsNewList nodes.old (list_of_shape nodes.old shape) }
+    ensures hashed { IsHashed nodes.new heads.new.items entries.new.items }
+    ensures added { OnOk result (nodes.new ≡ nodes.old ++ list_of_shape nodes.old shape.entry ∷ []) }
+    ensures number { IfOk result (λ j. j ≡ length nodes.old) }
+    ensures err { OnErr result (nodes.new ≡ nodes.old) }
 {
-    lists.known();
+    nodes.known();
     entries.reserve(1)?;
-    let number = lists.add(k, pairs)?;
+    let number = nodes.push(shape)?;
     let b = bucket(tag, heads.len());
     entries.push_reserved(Entry {
         tag,
@@ -98,8 +124,7 @@ pub(crate) fn put(
     Ok(number)
 }
 
-/// Makes four times as many buckets, as far as there is room for them, and chains all lists anew, if there are more lists than
-/// buckets. So few lists have few buckets, which stay near in memory.
+/// Makes four times as many buckets, up to the most, and chains all lists anew, if there are more lists than buckets. So few lists have few buckets, which stay near in memory.
 ///
 /// Fails if there is no memory for them. The buckets are then as they were.
 pub(crate) fn widen(heads: &mut Vec<u32>, entries: &mut [Entry]) -> Result<(), Memory>
@@ -107,11 +132,10 @@ pub(crate) fn widen(heads: &mut Vec<u32>, entries: &mut [Entry]) -> Result<(), M
     requires few { (0 < length entries.old) × (length entries.old ≤ MOST_LISTS) }
     ensures { (lists : List (List (ℕ × ℕ))) → IsHashed lists heads.old.items entries.old → IsHashed lists heads.new.items entries.new }
 {
-    let most = heads.capacity().min(MOST_BUCKETS);
-    if entries.len() <= heads.len() || most <= heads.len() {
+    if entries.len() <= heads.len() || MOST_BUCKETS <= heads.len() {
         return Ok(());
     }
-    heads.resize(most.min(4 * heads.len()), EMPTY)?;
+    heads.resize(MOST_BUCKETS.min(4 * heads.len()), EMPTY)?;
     heads.fill(EMPTY);
     chain(heads, entries);
     Ok(())

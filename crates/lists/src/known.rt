@@ -1,58 +1,130 @@
-//! The unions that `lists` has made, so that none is made twice.
-ghost use Rattle.std.specs.Prelude.{◌≡◌, ◌⊎◌, ℕ, [], IfSome};
-ghost use Rattle.std.specs.List.{Contains};
+//! The unions that `unions` has made, so that few are made twice.
+ghost use Rattle.std.specs.Prelude.{◌≡◌, ◌⊎◌, ℕ, ◌<◌, map, length, IfOk, IfSome};
+ghost use Rattle.std.specs.List.{All, Contains};
+ghost use Rattle.lists.specs.Known.{none, union_of, HasPlaces, IsNone};
 
+use crate::hashed::bucket;
+use crate::span::{hash, mix};
 use growth::Memory;
-use indexmap::IndexMap;
 use std::alloc::Global;
 use std::marker::Model;
 
+/// How many places there are at first, and at most.
+const FIRST_PLACES: usize = 1 << 10;
+
+const MOST_PLACES: usize = 1 << 26;
+
 /// Numbers of two lists, and the number of their union.
+#[derive(Clone, Copy)]
+pub(crate) struct Union {
+    first: u32,
+    second: u32,
+    union: u32,
+}
+
+/// The union of the empty list with itself, which stands where none was noted.
+fn no_union() -> Union
+    ensures { result ≡ none }
+{
+    Union {
+        first: 0,
+        second: 0,
+        union: 0,
+    }
+}
+
+/// Unions, each at a place that its two lists decide: a later one takes the place of an earlier one.
 #[derive(Drop)]
 pub(crate) struct Known {
-    unions: IndexMap<(u32, u32), u32>,
+    unions: Vec<Union>,
+    /// How many unions were noted.
+    noted: usize,
 }
 
 impl Model for Known {
-    ghost use Rattle.std.specs.Prelude.{ℕ, List};
+    ghost use Rattle.std.specs.Prelude.{ℕ, List, map, length};
 
     ghost Value = { List ((ℕ × ℕ) × ℕ) };
 
-    ghost view = { λ x. x.unions.entries };
+    ghost use Rattle.lists.specs.Known.{union_of, HasPlaces};
+
+    ghost view = { λ x. map union_of x.unions.items };
+
+    ghost invariant = { λ x. HasPlaces (length x.unions.items) };
 }
 
 impl Known {
     /// No union.
-    pub fn new(alloc: Global) -> Known
-        ensures { result ≡ [] }
+    ///
+    /// Fails if there is no memory for the places.
+    pub fn new(alloc: Global) -> Result<Known, Memory>
+        ensures { IfOk result (All IsNone) }
     {
-        Known {
-            unions: IndexMap::new(alloc),
-        }
+        let mut unions = Vec::new(alloc);
+        unions.resize(FIRST_PLACES, no_union())?;
+        Ok(Known { unions, noted: 0 })
     }
 
     /// The number of the union of both lists, if it is known.
     pub fn find(&self, j: u32, k: u32) -> Option<u32>
         ensures { IfSome result (λ i. Contains self.now ((j, k), i)) }
     {
-        let i = self.unions.get(&(j, k))?;
-        Some(*i)
+        let found = &self.unions[place(j, k, self.unions.len())];
+        if found.first == j && found.second == k {
+            return Some(found.union);
+        }
+        None
     }
 
     /// Notes that the list number `i` is the union of both lists.
     ///
     /// Fails if there is no memory for it.
     pub fn note(&mut self, j: u32, k: u32, i: u32) -> Result<(), Memory>
-        ensures { (z : (ℕ × ℕ) × ℕ) → Contains self.new z → Contains self.old z ⊎ (z ≡ ((j, k), i)) }
+        ensures { (z : (ℕ × ℕ) × ℕ) → Contains self.new z → Contains self.old z ⊎ IsNone z ⊎ (z ≡ ((j, k), i)) }
     {
-        self.unions.insert((j, k), i)?;
+        widen(&mut self.unions, self.noted)?;
+        self.noted = self.noted.saturating_add(1);
+        let at = place(j, k, self.unions.len());
+        self.unions[at] = Union {
+            first: j,
+            second: k,
+            union: i,
+        };
         Ok(())
     }
 
     /// Forgets all unions, and keeps the memory.
     pub fn clear(&mut self)
-        ensures { self.new ≡ [] }
+        ensures { All IsNone self.new }
     {
-        self.unions.clear();
+        // Places as for unions as many as now: a round mostly makes no more than the last one.
+        let places = FIRST_PLACES.max(self.noted);
+        self.unions.truncate(places);
+        self.unions.fill(no_union());
+        self.noted = 0;
     }
+}
+
+/// The place of the union of both lists, of so many places.
+fn place(j: u32, k: u32, places: usize) -> usize
+    requires { HasPlaces places }
+    ensures { result < places }
+{
+    bucket(mix(hash(j, u64::from(k))), places)
+}
+
+/// Makes four times as many places, up to the most, and forgets all unions, if more were noted than there are places.
+///
+/// Fails if there is no memory for them. The unions are then as they were.
+fn widen(unions: &mut Vec<Union>, noted: usize) -> Result<(), Memory>
+    requires { HasPlaces (length unions.old.items) }
+    ensures places { HasPlaces (length unions.new.items) }
+    ensures same { (z : (ℕ × ℕ) × ℕ) → Contains (map union_of unions.new.items) z → Contains (map union_of unions.old.items) z ⊎ IsNone z }
+{
+    if noted <= unions.len() || MOST_PLACES <= unions.len() {
+        return Ok(());
+    }
+    unions.resize(MOST_PLACES.min(4 * unions.len()), no_union())?;
+    unions.fill(no_union());
+    Ok(())
 }

@@ -1,37 +1,28 @@
 //! Different lists of pairs of numbers: each in rising order without repeats, kept once and from then on named by its number,
-//! so that lists are equal if their numbers are. There are four layers, each seen by its contracts alone:
+//! so that lists are equal if their numbers are. A short list is kept as it is, and a long one as the numbers of its two halves,
+//! which are lists themselves. There are four layers, each seen by its contracts alone:
 //!
 //! ```text
-//! Lists         unions of lists are asked for by number, and made once       lists, known
-//!   Distinct    a list that is asked for again has the number that it had    distinct, hashed, differences
-//!     Chained   a list is kept as what it adds to an earlier one             chained, links, ordered
-//!       Parts   lists stand one after the other in one buffer                parts, span
+//! Lists         what the crates above see                                   lists
+//!   unions      lists made of pairs, of a list and pairs, and of two lists  unions, known, cut, ordered
+//!     Distinct  a list that is asked for again has the number that it had   distinct, hashed
+//!       Nodes   how each list is kept                                       nodes, span
 //! ```
 //!
-//! A list is made from another one by pairs that it lacks. As long as the other one's own addition is less than twice as
-//! long, both are merged, as in a binary counter, so that chains are short. A long list that stands alone is not merged, so
-//! that all lists made from it share it:
-//!
-//! ```text
-//! number   base   adds          the whole list
-//! 0                             (empty)
-//! 1        0      a b c d e f   a b c d e f
-//! 2        1      x             a b c d e f x
-//! 3        1      x y           a b c d e f x y        made from 2: the addition of 2 is merged with y
-//! 4        0      b c           b c                    a list that stands alone
-//! ```
+//! A list is cut at the number between its first and its last pair that the highest power of two divides, if a pair is read
+//! as one number. So the list alone decides its halves, and lists that differ in few places share all other halves.
 #![tactic(auto)]
 
-mod chained;
-mod differences;
+mod cut;
 mod distinct;
 mod hashed;
 mod known;
-mod links;
 mod lists;
+mod nodes;
 mod ordered;
 mod parts;
 mod span;
+mod unions;
 
 pub use lists::{EMPTY, Lists, MOST_LISTS};
 pub use ordered::order;

@@ -1,12 +1,14 @@
 //! Different lists of pairs and their unions, asked for by number: the top layer, which the crates above see.
-ghost use Rattle.std.specs.Prelude.{◌≡◌, ◌⊎◌, ◌↔◌, ℕ, ◌+◌, ◌++◌, ◌∷◌, ◌<◌, ◌≤◌, [], length, IfOk, OnOk, OnErr, IsTrue};
+ghost use Rattle.std.specs.Prelude.{◌≡◌, ◌⊎◌, ◌↔◌, ℕ, ◌++◌, ◌∷◌, ◌<◌, [], length, IfOk, OnOk, OnErr, IsTrue};
 ghost use Rattle.std.specs.List.{Contains};
 ghost use Rattle.std.specs.List.Sorted.{IsStrictlySortedBy};
 ghost use Rattle.lists.specs.Lists.{pair_cmp, list_at, AreLists, AreNumbers, Grow, HasOne};
+ghost use Rattle.lists.specs.Unions.{Unites};
 
+use crate::cut::fit;
 use crate::distinct::Distinct;
 use crate::known::Known;
-use crate::ordered::order;
+use crate::unions::{Scratch, both, list_of, with};
 use growth::Memory;
 use std::alloc::Global;
 use std::marker::Model;
@@ -14,18 +16,17 @@ use std::marker::Model;
 /// The number of the empty list.
 pub const EMPTY: u32 = 0;
 
-/// The most lists: the empty one, one for each of 20,000,000 transitions, and two for each of 2,000,000 states.
-pub const MOST_LISTS: usize = 24_000_001;
+/// The most lists, so that each has a number.
+pub const MOST_LISTS: usize = 0xFFFF_FFFF;
 
 /// Different lists of pairs in strictly rising order, so that equal lists have equal numbers. The list number `EMPTY` is the
 /// empty one.
 #[derive(Drop)]
 pub struct Lists {
     lists: Distinct,
-    /// Where the pairs are put together that a union adds to the longest of its lists.
-    missing: Vec<(u32, u32)>,
     /// The unions that were made.
     known: Known,
+    scratch: Scratch,
 }
 
 impl Model for Lists {
@@ -49,8 +50,11 @@ impl Lists {
     {
         Ok(Lists {
             lists: Distinct::new(alloc, room)?,
-            missing: Vec::new(alloc),
-            known: Known::new(alloc),
+            known: Known::new(alloc)?,
+            scratch: Scratch {
+                held: Vec::new(alloc),
+                merged: Vec::new(alloc),
+            },
         })
     }
 
@@ -83,14 +87,13 @@ impl Lists {
     ///
     /// Fails if there is no memory for it. The lists that there were are as they were.
     pub fn push(&mut self, pairs: &[(u32, u32)]) -> Result<u32, Memory>
-        requires few { length self.old < MOST_LISTS }
-        requires rising { IsStrictlySortedBy pair_cmp pairs.now }
+        requires { IsStrictlySortedBy pair_cmp pairs.now }
         ensures within { IfOk result (λ k. k < length self.new) }
         ensures list { IfOk result (λ k. list_at self.new k ≡ pairs.now) }
         ensures grow { Grow self.old self.new }
-        ensures few { length self.new ≤ length self.old + 1 }
     {
-        self.lists.push(pairs)
+        fit(pairs);
+        list_of(&mut self.lists, pairs)
     }
 
     /// Whether the list number `k` has the pair.
@@ -105,7 +108,6 @@ impl Lists {
     ///
     /// Fails if there is no memory for it. The lists that there were are as they were, and unions that were made until then stay.
     pub fn join(&mut self, lists: &[u32], pairs: &[(u32, u32)]) -> Result<u32, Memory>
-        requires few { length self.old + length lists.now + 2 ≤ MOST_LISTS }
         requires lists { AreNumbers self.old lists.now }
         requires rising { IsStrictlySortedBy pair_cmp pairs.now }
 
@@ -115,7 +117,6 @@ impl Lists {
 
         // In either case
         ensures grow { Grow self.old self.new }
-        ensures few { length self.new ≤ length self.old + length lists.now + 2 }
     {
         let union = self.union(lists)?;
         self.with(union, pairs)
@@ -125,108 +126,44 @@ impl Lists {
     ///
     /// Fails if there is no memory for it.
     fn with(&mut self, k: u32, pairs: &[(u32, u32)]) -> Result<u32, Memory>
-        requires few { length self.old < MOST_LISTS }
         requires list { k < length self.old }
         requires rising { IsStrictlySortedBy pair_cmp pairs.now }
         ensures within { IfOk result (λ i. i < length self.new) }
-        ensures exactly { IfOk result (λ i. (z : ℕ × ℕ) → Contains (list_at self.new i) z
-            ↔ (Contains pairs.now z ⊎ Contains (list_at self.old k) z)) }
+        ensures exactly { IfOk result (λ i. Unites (list_at self.new i) pairs.now (list_at self.old k)) }
         ensures grow { Grow self.old self.new }
-        ensures few { length self.new ≤ length self.old + 1 }
     {
-        self.known();
-        if k == EMPTY {
-            return self.push(pairs);
-        }
-        lack(&self.lists, k, pairs, &mut self.missing)?;
-        self.lists.add(k, &self.missing)
+        fit(pairs);
+        with(&mut self.lists, &mut self.scratch.merged, k, pairs)
     }
 
-    /// The number of the list that has the pairs of these lists: of the longest and each other one in turn.
+    /// The number of the list that has the pairs of these lists.
     ///
     /// Fails if there is no memory for it.
     fn union(&mut self, numbers: &[u32]) -> Result<u32, Memory>
-        requires few { length self.old + length numbers.now ≤ MOST_LISTS }
-        requires numbers { AreNumbers self.old numbers.now }
+        requires { AreNumbers self.old numbers.now }
         ensures within { IfOk result (λ k. k < length self.new) }
         ensures exactly { IfOk result (λ k. (z : ℕ × ℕ) → Contains (list_at self.new k) z ↔ HasOne self.old numbers.now z) }
         ensures grow { Grow self.old self.new }
-        ensures few { length self.new ≤ length self.old + length numbers.now }
     {
-        if let [only] = numbers {
-            return Ok(*only);
-        }
-        let mut union = self.longest(numbers);
+        self.known();
+        let mut union = EMPTY;
         for k in numbers {
             union = self.both(union, *k)?;
         }
         Ok(union)
     }
 
-    /// The number of a longest one of these lists.
-    fn longest(&self, numbers: &[u32]) -> u32
-        requires { AreNumbers self.now numbers.now }
-        ensures within { result < length self.now }
-        ensures one { (z : ℕ × ℕ) → Contains (list_at self.now result) z → HasOne self.now numbers.now z }
-    {
-        self.known();
-        let mut longest = EMPTY;
-        for k in numbers {
-            if self.lists.size(longest) < self.lists.size(*k) {
-                longest = *k;
-            }
-        }
-        longest
-    }
-
     /// The number of the list that has the pairs of both lists.
     ///
     /// Fails if there is no memory for it.
     fn both(&mut self, j: u32, k: u32) -> Result<u32, Memory>
-        requires few { length self.old < MOST_LISTS }
         requires first { j < length self.old }
         requires second { k < length self.old }
         ensures within { IfOk result (λ i. i < length self.new) }
-        ensures exactly { IfOk result (λ i. (z : ℕ × ℕ) → Contains (list_at self.new i) z
-            ↔ (Contains (list_at self.old j) z ⊎ Contains (list_at self.old k) z)) }
+        ensures exactly { IfOk result (λ i. Unites (list_at self.new i) (list_at self.old j) (list_at self.old k)) }
         ensures grow { Grow self.old self.new }
-        ensures few { length self.new ≤ length self.old + 1 }
     {
-        self.known();
-        if j == k {
-            return Ok(k);
-        }
-        if j == EMPTY {
-            return Ok(k);
-        }
-        if k == EMPTY {
-            return Ok(j);
-        }
-        if k < j {
-            return self.known_or_made(k, j);
-        }
-        self.known_or_made(j, k)
-    }
-
-    /// The number of the list that has the pairs of both lists, as it was noted or else made now.
-    ///
-    /// Fails if there is no memory for it.
-    fn known_or_made(&mut self, j: u32, k: u32) -> Result<u32, Memory>
-        requires few { length self.old < MOST_LISTS }
-        requires first { j < length self.old }
-        requires second { k < length self.old }
-        ensures within { IfOk result (λ i. i < length self.new) }
-        ensures exactly { IfOk result (λ i. (z : ℕ × ℕ) → Contains (list_at self.new i) z
-            ↔ (Contains (list_at self.old j) z ⊎ Contains (list_at self.old k) z)) }
-        ensures grow { Grow self.old self.new }
-        ensures few { length self.new ≤ length self.old + 1 }
-    {
-        if let Some(i) = self.known.find(j, k) {
-            return Ok(i);
-        }
-        let i = unite(&mut self.lists, &mut self.missing, j, k)?;
-        self.known.note(j, k, i)?;
-        Ok(i)
+        both(&mut self.lists, &mut self.known, &mut self.scratch, j, k)
     }
 
     /// Forgets all lists but the empty one, and keeps the memory.
@@ -236,69 +173,4 @@ impl Lists {
         self.lists.clear();
         self.known.clear();
     }
-}
-
-/// Makes `missing` the list of those of the pairs that the list number `k` lacks, in rising order.
-///
-/// Fails if there is no memory for them.
-fn lack(
-    lists: &Distinct,
-    k: u32,
-    pairs: &[(u32, u32)],
-    missing: &mut Vec<(u32, u32)>,
-) -> Result<(), Memory>
-    requires list { k < length lists.now }
-    requires pairs { IsStrictlySortedBy pair_cmp pairs.now }
-    ensures rising { OnOk result (IsStrictlySortedBy pair_cmp missing.new.items) }
-    ensures exactly { OnOk result ((z : ℕ × ℕ) → Contains missing.new.items z
-        ↔ (Contains pairs.now z × ¬ Contains (list_at lists.now k) z)) }
-{
-    missing.clear();
-    lists.append_new(pairs, k, missing)?;
-    order(missing);
-    Ok(())
-}
-
-/// The number of the list that has the pairs of both lists: the longer one with what it lacks.
-///
-/// Fails if there is no memory for it.
-fn unite(lists: &mut Distinct, missing: &mut Vec<(u32, u32)>, j: u32, k: u32) -> Result<u32, Memory>
-    requires few { length lists.old < MOST_LISTS }
-    requires first { j < length lists.old }
-    requires second { k < length lists.old }
-    ensures within { IfOk result (λ i. i < length lists.new) }
-    ensures exactly { IfOk result (λ i. (z : ℕ × ℕ) → Contains (list_at lists.new i) z
-        ↔ (Contains (list_at lists.old j) z ⊎ Contains (list_at lists.old k) z)) }
-    ensures grow { Grow lists.old lists.new }
-    ensures few { length lists.new ≤ length lists.old + 1 }
-{
-    if lists.size(j) < lists.size(k) {
-        return extended(lists, missing, k, j);
-    }
-    extended(lists, missing, j, k)
-}
-
-/// The number of the list that has the pairs of the list number `base`, and those that it lacks of the list number `other`,
-/// which are put together in `missing`.
-///
-/// Fails if there is no memory for it.
-fn extended(
-    lists: &mut Distinct,
-    missing: &mut Vec<(u32, u32)>,
-    base: u32,
-    other: u32,
-) -> Result<u32, Memory>
-    requires few { length lists.old < MOST_LISTS }
-    requires first { base < length lists.old }
-    requires second { other < length lists.old }
-    ensures within { IfOk result (λ i. i < length lists.new) }
-    ensures exactly { IfOk result (λ i. (z : ℕ × ℕ) → Contains (list_at lists.new i) z
-        ↔ (Contains (list_at lists.old base) z ⊎ Contains (list_at lists.old other) z)) }
-    ensures grow { Grow lists.old lists.new }
-    ensures few { length lists.new ≤ length lists.old + 1 }
-{
-    missing.clear();
-    lists.append_missing(other, base, missing)?;
-    order(missing);
-    lists.add(base, missing)
 }

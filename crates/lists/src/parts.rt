@@ -1,11 +1,11 @@
-//! Lists of pairs, one after the other in one buffer: the lowest layer.
+//! Lists of pairs, one after the other in one buffer, where each is to be read whole.
 ghost use Rattle.std.specs.Prelude.{◌≡◌, ◌++◌, ◌∷◌, ◌<◌, [], length, IfOk, OnOk, OnErr};
 ghost use Rattle.std.specs.List.Sorted.{IsStrictlySortedBy};
 ghost use Rattle.lists.specs.Lists.{pair_cmp, list_at};
-ghost use Rattle.lists.specs.Spans.{fingerprint_of, lists_of, AreSpans};
+ghost use Rattle.lists.specs.Spans.{lists_of, AreSpans};
 ghost use Rattle.lists.specs.declared.lists.TheConstants.{MOST_LISTS};
 
-use crate::span::{Span, empty_span, fingerprint, list_of};
+use crate::span::{Span, empty_span, list_of};
 use growth::Memory;
 use std::alloc::Global;
 use std::marker::Model;
@@ -47,13 +47,6 @@ impl Parts {
         })
     }
 
-    /// How many lists there are.
-    pub(crate) fn len(&self) -> u32
-        ensures { result ≡ length self.now }
-    {
-        self.spans.len() as u32
-    }
-
     /// The list number `k`.
     pub fn of(&self, k: u32) -> &[(u32, u32)]
         requires { k < length self.now }
@@ -61,14 +54,6 @@ impl Parts {
         ensures rising { IsStrictlySortedBy pair_cmp result.now }
     {
         list_of(&self.pairs, self.spans[k as usize])
-    }
-
-    /// The fingerprint of the list number `k`.
-    pub(crate) fn fingerprint(&self, k: u32) -> u64
-        requires { k < length self.now }
-        ensures { result ≡ fingerprint_of (list_at self.now k) }
-    {
-        self.spans[k as usize].fingerprint
     }
 
     /// Appends the list and returns its number.
@@ -118,7 +103,6 @@ fn put(
     spans.push(Span {
         start,
         end: pairs.len(),
-        fingerprint: fingerprint(list),
     })?;
     Ok(number)
 }

@@ -1,28 +1,25 @@
-//! Lists of pairs as spans of one buffer, each with a fingerprint.
+//! Lists of pairs as spans of one buffer; hashes of pairs and of lists.
 ghost use Rattle.std.specs.Prelude.{◌≡◌, ◌↔◌, ◌≤◌, length, IsTrue};
-ghost use Rattle.lists.specs.Spans.{list_in, no_pairs, hash_of, fingerprint_of};
+ghost use Rattle.lists.specs.Spans.{list_in, no_pairs, hash_of, fingerprint_of, mixed};
 
 const FIRST_FACTOR: u64 = 0x9E37_79B9_7F4A_7C15;
 
 const SUM_FACTOR: u64 = 0xD6E8_FEB8_6659_FD93;
 
-/// The list of the pairs from `start` up to `end`, and its fingerprint.
+const TAG_FACTOR: u64 = 0xC2B2_AE3D_27D4_EB4F;
+
+/// The list of the pairs from `start` up to `end`.
 #[derive(Clone, Copy)]
 pub(crate) struct Span {
     pub start: usize,
     pub end: usize,
-    pub fingerprint: u64,
 }
 
 /// The span of no pairs.
 pub(crate) fn empty_span() -> Span
     ensures { result ≡ no_pairs }
 {
-    Span {
-        start: 0,
-        end: 0,
-        fingerprint: 0,
-    }
+    Span { start: 0, end: 0 }
 }
 
 /// The list that the span has.
@@ -46,8 +43,7 @@ pub fn hash(first: u32, second: u64) -> u64
     (product % 0x1_0000_0000_0000_0000) as u64 ^ (product >> 64) as u64
 }
 
-/// A number that equal lists share, and different lists seldom: the sum of the hashes of the pairs, so that it can be added up
-/// from parts.
+/// A number that equal lists share, and different lists seldom: the sum of the hashes of the pairs.
 pub(crate) fn fingerprint(list: &[(u32, u32)]) -> u64
     ensures { result ≡ fingerprint_of list.now }
 {
@@ -56,6 +52,14 @@ pub(crate) fn fingerprint(list: &[(u32, u32)]) -> u64
         sum = sum.wrapping_add(hash(*first, u64::from(*second)));
     }
     sum
+}
+
+/// The upper half of one more product: the upper halves of fingerprints alone lie close where lists differ in few numbers.
+#[inline(always)]
+pub(crate) fn mix(number: u64) -> u32
+    ensures { result ≡ mixed number }
+{
+    (number.wrapping_mul(TAG_FACTOR) / 0x1_0000_0000) as u32
 }
 
 /// Whether the two lists are the same.

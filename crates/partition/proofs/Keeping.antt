@@ -1,67 +1,107 @@
 -- For each block the number of a list that one of its states has.
-use Rattle.std.proofs.Common.{◌≡◌, ◌⊎◌, ◌∙◌, ℕ, ◌+◌, ◌<◌, List, length, slice_index, set, ap, sym, inl, inr, arith}
-use Rattle.std.proofs.lemmas.Bool.{cases_lt, cases_eq}
+use Rattle.std.proofs.Common.{◌≡◌, ◌⊎◌, ◌∙◌, ℕ, ◌+◌, ◌<◌, List, length, slice_index, set, Option, None, Some, IsSome, ap, sym, inl, inr, arith}
+use Rattle.std.proofs.lemmas.Bool.{cases_lt, cases_eq, false≢true}
 use Rattle.std.proofs.lemmas.List.{length-set, get_or-set_same, get_or-set_other}
+use Rattle.partition.specs.Blocks.{AreIdle, HaveNone}
+use Rattle.partition.specs.Representatives.{AreKeepers}
 
 -- the block of the state t has a state of that list
 abbrev pub IsKept : List ℕ → List ℕ → List ℕ → ℕ → Type 0
 IsKept old numbers keepers t =
     (u : ℕ) × (u < length old) × (slice_index old u ≡ slice_index old t) × (slice_index keepers (slice_index old t) ≡ slice_index numbers u)
 
--- so far for the blocks of the states below i, and for each block that has votes
-pub record KeptUpTo (old numbers : List ℕ) (i : ℕ) (keepers votes : List ℕ) : Type 0 where
+-- t is one of the first i states that are looked at
+abbrev pub IsBefore : List ℕ → ℕ → ℕ → Type 0
+IsBefore live i t = (j : ℕ) × (j < i) × (slice_index live j ≡ t)
+
+-- so far for the blocks of these states, and for each block that has votes
+pub record KeptUpTo (old numbers live : List ℕ) (i : ℕ) (keepers votes : List ℕ) : Type 0 where
   pub room : (s : ℕ) → s < length old → slice_index old s < length keepers
   pub votes_room : (s : ℕ) → s < length old → slice_index old s < length votes
-  pub keeps : (t : ℕ) → t < length old → (t < i) ⊎ (0 < slice_index votes (slice_index old t)) → IsKept old numbers keepers t
+  pub keeps : (t : ℕ) → t < length old → IsBefore live i t ⊎ (0 < slice_index votes (slice_index old t)) → IsKept old numbers keepers t
 
-module _ (old numbers : List ℕ) (s : ℕ) (keepers votes : List ℕ) (inside : s < length old) (up : KeptUpTo old numbers s keepers votes) where
+module _ (old numbers live : List ℕ) (i : ℕ) (keepers votes : List ℕ) (inside : slice_index live i < length old) (up : KeptUpTo old numbers live i keepers votes) where
+  abbrev s : ℕ
+  s = slice_index live i
+
   abbrev b : ℕ
   b = slice_index old s
 
   -- a state before the next one, or that one
-  earlier : (t : ℕ) → t < s + 1 → (t < s) ⊎ (t ≡ s)
-  earlier t h = elim (cases_lt t s) [ inl low ↦ inl low | inr last ↦ inr (omega (arith, h, last)) ]
+  earlier : (t : ℕ) → IsBefore live (i + 1) t → IsBefore live i t ⊎ (t ≡ s)
+  earlier t h = elim (cases_lt h.0 i) [
+    | inl low ↦ inl (h.0, low, h.2)
+    | inr last ↦ let here : h.0 ≡ i = omega (arith, h.1, last) in inr (sym h.2 ∙ ap (slice_index live) here)
+  ]
 
   -- the votes of another block are as they were
   others : (v t : ℕ) → ¬ (slice_index old t ≡ b) → slice_index (set votes b v) (slice_index old t) ≡ slice_index votes (slice_index old t)
   others v t d = get_or-set_other votes b (slice_index old t) v 0 d
 
+  -- a state of another block was before the next one, or its block had votes
+  before : (v t : ℕ) → ¬ (slice_index old t ≡ b) → IsBefore live (i + 1) t ⊎ (0 < slice_index (set votes b v) (slice_index old t))
+      → IsBefore live i t ⊎ (0 < slice_index votes (slice_index old t))
+  before v t d h = elim h [
+    | inl low ↦ elim (earlier t low) [ inl less ↦ inl less | inr here ↦ absurd (d (ap (slice_index old) here)) ]
+    | inr m ↦ inr (rw (sym (others v t d)) m)
+  ]
+
   -- the block had votes, and keeps its list
-  pub kept_old : (v : ℕ) → 0 < slice_index votes b → KeptUpTo old numbers (s + 1) keepers (set votes b v)
+  pub kept_old : (v : ℕ) → 0 < slice_index votes b → KeptUpTo old numbers live (i + 1) keepers (set votes b v)
   kept_old v some = record {
     room = up.room;
     votes_room = λ t h. omega (arith, up.votes_room t h, length-set votes b v);
     keeps = λ t ht h. elim (cases_eq (slice_index old t) b) [
       | inl e ↦ up.keeps t ht (inr (rw e some))
-      | inr d ↦ elim h [
-        | inl low ↦ elim (earlier t low) [
-          | inl less ↦ up.keeps t ht (inl less)
-          | inr here ↦ absurd (d (ap (slice_index old) here))
-        ]
-        | inr m ↦ up.keeps t ht (inr (rw (sym (others v t d)) m))
-      ]
+      | inr d ↦ up.keeps t ht (before v t d h)
     ];
   }
 
   abbrev keepers' : List ℕ
   keepers' = set keepers b (slice_index numbers s)
 
-  keeps-now : (v t : ℕ) → t < length old → (t < s + 1) ⊎ (0 < slice_index (set votes b v) (slice_index old t)) → IsKept old numbers keepers' t
+  keeps-now : (v t : ℕ) → t < length old → IsBefore live (i + 1) t ⊎ (0 < slice_index (set votes b v) (slice_index old t)) → IsKept old numbers keepers' t
   keeps-now v t ht h = elim (cases_eq (slice_index old t) b) [
     | inl e ↦ (s, inside, sym e, ap (slice_index keepers') e ∙ get_or-set_same keepers b (slice_index numbers s) 0 (up.room s inside))
     | inr d ↦
-        let before : (t < s) ⊎ (0 < slice_index votes (slice_index old t)) = elim h [
-          | inl low ↦ elim (earlier t low) [ inl less ↦ inl less | inr here ↦ absurd (d (ap (slice_index old) here)) ]
-          | inr m ↦ inr (rw (sym (others v t d)) m)
-        ] in
-        let g = up.keeps t ht before in
+        let g = up.keeps t ht (before v t d h) in
         (g.0, g.1, g.2, get_or-set_other keepers b (slice_index old t) (slice_index numbers s) 0 d ∙ g.3)
   ]
 
   -- the list of the state stands for its block from now on
-  pub kept_new : (v : ℕ) → KeptUpTo old numbers (s + 1) keepers' (set votes b v)
+  pub kept_new : (v : ℕ) → KeptUpTo old numbers live (i + 1) keepers' (set votes b v)
   kept_new v = record {
     room = λ t h. omega (arith, up.room t h, length-set keepers b (slice_index numbers s));
     votes_room = λ t h. omega (arith, up.votes_room t h, length-set votes b v);
     keeps = keeps-now v;
   }
+
+-- when all that are looked at have voted
+module _ (old numbers live keepers votes : List ℕ) (up : KeptUpTo old numbers live (length live) keepers votes) where
+  -- there are no others
+  pub keepers_none : (idle : Option ℕ) → AreIdle old live idle → ¬ IsSome idle → AreKeepers old numbers idle keepers
+  keepers_none idle others none = record {
+    room = up.room;
+    keeps = λ t h. elim (others.first t h) [ inl one ↦ up.keeps t h (inl one) | inr x ↦ absurd (none x.1) ];
+    beside = λ some. absurd (none some);
+  }
+
+  -- or they keep block 0
+  pub keepers_some : (idle : Option ℕ) → AreIdle old live idle → HaveNone live numbers → length numbers ≡ length old → IsSome idle
+      → AreKeepers old numbers idle (set keepers 0 0)
+  keepers_some None others zeros size some = absurd (false≢true some)
+  keepers_some (Some w) others zeros size some =
+      let room : 0 < length keepers = omega (arith, up.room w others.one.0) in
+      let zero : slice_index numbers w ≡ 0 = elim (zeros w (omega (arith, others.one.0, size))) [ inl one ↦ absurd (others.one.2 one) | inr e ↦ e ] in
+      record {
+        room = λ t h. omega (arith, up.room t h, length-set keepers 0 0);
+        keeps = λ t h. elim (cases_eq (slice_index old t) 0) [
+          | inl e ↦
+              (w, others.one.0, others.one.1 ∙ sym e, ap (slice_index (set keepers 0 0)) e ∙ get_or-set_same keepers 0 0 0 room ∙ sym zero)
+          | inr d ↦ elim (others.first t h) [
+            | inl one ↦ let g = up.keeps t h (inl one) in (g.0, g.1, g.2, get_or-set_other keepers 0 (slice_index old t) 0 0 d ∙ g.3)
+            | inr x ↦ absurd (d x.0)
+          ]
+        ];
+        beside = λ _. get_or-set_same keepers 0 0 0 room;
+      }

@@ -4,3 +4,5 @@ pub mod Keeping
 pub mod Searching
 pub mod Representatives
 pub mod Meeting
+pub mod Living
+pub mod Parting

@@ -1,3 +1,4 @@
 pub mod Partition
 pub mod Splitting
+pub mod Blocks
 pub mod Representatives

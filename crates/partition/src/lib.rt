@@ -2,8 +2,10 @@
 //! at the end the blocks are numbered in the order of their least members.
 #![tactic(auto)]
 
+mod blocks;
 mod partition;
 mod splitter;
 
+pub use blocks::Blocks;
 pub use partition::Partition;
-pub use splitter::{Blocks, alone, one_block, renumber, split};
+pub use splitter::renumber;

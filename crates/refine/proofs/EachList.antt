@@ -1,9 +1,7 @@
--- The lists of the states by their numbers: one list more, for one state.
-use Rattle.std.proofs.Common.{◌≡◌, ◌∙◌, ℕ, zero, suc, ◌+◌, ◌<◌, List, [], ◌∷◌, length, get_or, slice_index, set, ap, sym, subst, refl, inl, inr, arith}
-use Rattle.std.proofs.lemmas.Bool.{cases_eq}
-use Rattle.std.proofs.lemmas.List.{get_or-map, get_or-set_same, get_or-set_other}
-use Rattle.std.proofs.lemmas.List.Elements.{All-set, All-weaker}
-use Rattle.lists.specs.Lists.{list_at, AreLists, AreNumbers, Grow}
+-- The lists of the states by their numbers.
+use Rattle.std.proofs.Common.{◌≡◌, ◌∙◌, ℕ, zero, suc, ◌<◌, List, [], ◌∷◌, length, get_or, slice_index, ap, refl, arith}
+use Rattle.std.proofs.lemmas.List.{get_or-map}
+use Rattle.lists.specs.Lists.{list_at, AreLists, AreNumbers}
 use Rattle.refine.specs.EachList.{list_of, each_list}
 use Rattle.refine.specs.Signed.{signature_at}
 use Rattle.partition.specs.Splitting.{Splits}
@@ -22,25 +20,6 @@ signature_at-none lists numbers s only h =
     at : (k : ℕ) → list_at ([] ∷ []) k ≡ []
     at zero = refl
     at (suc k) = refl
-
--- lists that grow, with a number for one state more
-module _ (lists lists' : List (List (ℕ × ℕ))) (numbers : List ℕ) (s k : ℕ) (grow : Grow lists lists') (are : AreNumbers lists numbers) where
-  pub AreNumbers-put : k < length lists' → AreNumbers lists' (set numbers s k)
-  AreNumbers-put h =
-      let longer = grow.longer in
-      All-set (λ j. j < length lists') numbers s k h (All-weaker (λ j. j < length lists) (λ j. j < length lists') (λ j h. omega arith) numbers are)
-
-  pub each_put : (P : ℕ → List (ℕ × ℕ) → Type 0) → s < length numbers → ((t : ℕ) → t < s → P t (list_of lists numbers t)) → P s (list_at lists' k)
-      → (t : ℕ) → t < s + 1 → P t (list_of lists' (set numbers s k) t)
-  each_put P inside before this t low = elim (cases_eq t s) [
-    | inl e ↦
-        subst (λ x. P x (list_of lists' (set numbers s k) x)) (sym e)
-        (subst (P s) (sym (ap (list_at lists') (get_or-set_same numbers s k 0 inside))) this)
-    | inr d ↦
-        let same =
-        ap (list_at lists') (get_or-set_other numbers s t k 0 d) ∙ grow.same (get_or numbers t 0) (are t 0 (omega (arith, low, d, inside))) in
-        subst (P t) (sym same) (before t (omega (arith, low, d)))
-  ]
 
 -- blocks that are split by the numbers of lists are split by the lists, which are all different
 pub Splits-lists : (lists : List (List (ℕ × ℕ))) (numbers old : List ℕ) (count : ℕ) (new : List ℕ) (more : ℕ) → AreLists lists → AreNumbers lists numbers

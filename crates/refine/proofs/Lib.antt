@@ -3,3 +3,4 @@ pub mod Settling
 pub mod Spending
 pub mod StrongRow
 pub mod EachList
+pub mod Living

@@ -1,7 +1,6 @@
 -- States that no new number can be seen from keep what they have in common.
-use Rattle.std.proofs.Common.{◌≡◌, ◌⊎◌, ◌↔◌, ◌∙◌, ℕ, zero, suc, ◌<◌, ◌≤◌, Bool, false, IsTrue, List, [], length, slice_index, slice_index_or, Contains, ap, sym, subst, refl, inl, inr, arith}
-use Rattle.std.proofs.lemmas.Bool.{cases_lt, false≢true}
-use Rattle.std.proofs.lemmas.List.{get_or_past}
+use Rattle.std.proofs.Common.{◌≡◌, ◌⊎◌, ◌↔◌, ◌∙◌, ℕ, zero, suc, ◌<◌, Bool, false, IsTrue, List, [], length, slice_index, slice_index_or, Contains, ap, sym, subst, refl, inl, inr, arith}
+use Rattle.std.proofs.lemmas.Bool.{false≢true}
 use Rattle.std.specs.List.Sorted.{IsStrictlySortedBy}
 use Rattle.theory.specs.System.{System, IsSystem, Step}
 use Rattle.theory.specs.declared.relation.Relation.{Relation}
@@ -169,23 +168,6 @@ module _ (rel : Relation) (l : Grouped) (sys : IsSystem (system_of l)) (labelled
     same = same;
     parted = parted;
   }
-
--- it is told of the block whether it is alone
-told_of : (alone : List Bool) (b : ℕ) → IsTrue (slice_index_or alone b false) → b < length alone
-told_of alone b told = elim (cases_lt b (length alone)) [
-  | inl within ↦ within
-  | inr past ↦ absurd (false≢true (sym (get_or_past alone b false past) ∙ told))
-]
-
--- a block that keeps its number stays alone
-pub AreAlone-next : (rel : Relation) (l : Grouped) (p : List ℕ) (count : ℕ) (q : List ℕ) (more : ℕ) (alone : List Bool)
-    → length p ≡ l.states → length alone ≤ count → IsNext rel l p count q more → AreAlone p alone → AreAlone q alone
-AreAlone-next rel l p count q more alone states fewer next known s ls told t lt together =
-    let here : s < l.states = omega (arith, ls, next.states) in
-    let there : t < l.states = omega (arith, lt, next.states) in
-    let same = next.stays s here (omega (arith, told_of alone _ told, fewer)) in
-    known s (omega (arith, here, states)) (subst (λ b. IsTrue (slice_index_or alone b false)) same told) t
-    (omega (arith, there, states)) ((next.split t s there here).0 together).0
 
 rises_empty : IsStrictlySortedBy pair_cmp []
 unfolding IsStrictlySortedBy

@@ -6,7 +6,7 @@ use crate::marks::Marks;
 use crate::sense::Sense;
 use lists::Lists;
 use lts::{Lts, Memory, Meter};
-use partition::Partition;
+use partition::{Blocks, Partition};
 use std::alloc::Global;
 
 /// Branching bisimulation (van Glabbeek and Weijland 1996).
@@ -37,16 +37,12 @@ impl Sense for Branching {
     fn sign_each<M: Meter>(
         alloc: Global,
         l: &Lts<M>,
-        p: &[u32],
-        low: u32,
-        alone: &[bool],
+        blocks: &Blocks,
         marks: &mut Marks,
         lists: &mut Lists,
         numbers: &mut [u32],
         m: &mut M,
     ) -> Result<(), Memory> {
-        marks
-            .signer
-            .sign_each(alloc, l, p, alone, lists, numbers, m)
+        marks.signer.sign_each(alloc, l, blocks, lists, numbers, m)
     }
 }

@@ -1,11 +1,12 @@
 //! Rounds of refinement, up to the one that splits nothing.
-ghost use Rattle.std.specs.Prelude.{◌≡◌, ◌↔◌, ℕ, ◌*◌, ◌≤◌, length, slice_index, IfOk, OnOk, OnErr};
+ghost use Rattle.std.specs.Prelude.{◌≡◌, ◌↔◌, ℕ, ◌*◌, ◌<◌, ◌≤◌, length, slice_index, IfOk, OnOk, OnErr};
 ghost use Rattle.theory.specs.Bisimulation.{Bisimilar};
 ghost use Rattle.theory.specs.Blocks.{Split, Turns, EachTwo};
 ghost use Rattle.lts.specs.Meter.{HasRoomFor, Costs, CostsUpTo};
 ghost use Rattle.lts.specs.Lts.{system_of};
-ghost use Rattle.partition.specs.Partition.{AreBlocks, IsSomePartition};
-ghost use Rattle.partition.specs.Splitting.{AreAlone};
+ghost use Rattle.partition.specs.Partition.{IsSomePartition};
+ghost use Rattle.partition.specs.Blocks.{AreLive, HaveNone};
+ghost use Rattle.inert.specs.Signed.{HaveRows};
 ghost use Rattle.refine.specs.Settled.{Settled};
 ghost use Rattle.refine.specs.Rounds.{IsNext};
 
@@ -14,7 +15,7 @@ use crate::round_signatures::RoundSignatures;
 use crate::sense::Sense;
 use crate::signatures::Signatures;
 use lts::{Lts, Memory, Meter};
-use partition::{Blocks, Partition, alone, one_block, renumber};
+use partition::{Blocks, Partition, renumber};
 use std::alloc::Global;
 
 /// One round: the Split of the blocks by the signatures that the states have under them. Each transition is visited
@@ -111,7 +112,7 @@ fn refine_in<S: Sense, M: Meter>(
     m: &mut M,
 ) -> Result<Partition, Memory>
     requires marks { marks.old ≡ l.now.states }
-    requires signatures { length signatures.old.numbers ≡ l.now.states }
+    requires signatures { (length signatures.old.numbers ≡ l.now.states) × ((s : ℕ) → s < l.now.states → slice_index signatures.old.numbers s ≡ 0) }
     requires room { HasRoomFor (M.counted m.old) l.now.states (l.now.states * length l.now.places) }
 
     // Once it is done
@@ -125,64 +126,63 @@ fn refine_in<S: Sense, M: Meter>(
     // After a refusal
     ensures err { OnErr result (CostsUpTo (M.counted m.old) (M.counted m.new) l.now.states (length l.now.places)) }
 {
-    let mut blocks = one_block(alloc, l.states())?;
-    let mut count = 1;
-    let mut low = 0;
-    let mut alone = Vec::new(alloc);
+    let live = with_rows(alloc, l)?;
+    let mut blocks = Blocks::one(alloc, l.states(), live)?;
     theory::refinement_goes_on();
     theory::final_blocks_are_bisimilarity();
     loop {
-        alone = known_alone(alloc, &blocks, count, alone)?;
-        let next = next_round::<S, M>(l, &blocks, count, low, &alone, marks, signatures, m)?;
-        if next.count == count {
-            return renumber(alloc, &next.of, next.count);
+        let before = blocks.renew(alloc)?;
+        let count = before.count();
+        let next = next_round::<S, M>(l, before, marks, signatures, m)?;
+        let more = next.count();
+        if more == count {
+            return renumber(alloc, next.of(), more);
         }
-        low = count;
-        count = next.count;
-        blocks = next.of;
+        blocks = next;
     }
 }
 
-/// The blocks that are known to be of one state alone. Those `found` in an earlier round still are, since blocks keep their
-/// numbers. They are all found anew once there are over an eighth more blocks.
+/// The states that have a transition: a header can promise states for nothing, and rounds need not look at them.
 ///
 /// Fails if there is no memory for it.
-fn known_alone(alloc: Global, p: &[u32], count: u32, found: Vec<bool>) -> Result<Vec<bool>, Memory>
-    requires blocks { AreBlocks p.now count }
-    requires alone { AreAlone p.now found.items }
-    requires fewer { length found.items ≤ count }
-    ensures alone { IfOk result (λ v. AreAlone p.now v.items) }
-    ensures fewer { IfOk result (λ v. length v.items ≤ count) }
+fn with_rows<M: Meter>(alloc: Global, l: &Lts<M>) -> Result<Vec<u32>, Memory>
+    ensures rising { IfOk result (λ v. AreLive l.now.states v.items) }
+    ensures rows { IfOk result (λ v. HaveRows l.now v.items) }
 {
-    let more = count as usize - found.len();
-    if more <= found.len() / 8 {
-        return Ok(found);
+    let mut live = Vec::with_capacity(alloc, l.states() as usize)?;
+    for s in 0..l.states() {
+        let (start, end) = l.row(s);
+        if start == end {
+            continue;
+        }
+        live.push(s)?;
     }
-    alone(alloc, p, count)
+    Ok(live)
 }
 
 /// One round in marks and lists that are used again, of which `RoundSignatures` has what a round keeps and none whole: the Split
-/// of `count` blocks, those that are numbered from `low` on being new and those in `alone` of one state.
+/// of these blocks.
+///
+/// Fails if there is no memory for it.
 fn next_round<S: Sense, M: Meter>(
     l: &Lts<M>,
-    p: &[u32],
-    count: u32,
-    low: u32,
-    alone: &[bool],
+    blocks: Blocks,
     marks: &mut Marks,
     signatures: &mut RoundSignatures,
     m: &mut M,
 ) -> Result<Blocks, Memory>
-    requires states { length p.now ≡ l.now.states }
-    requires blocks { AreBlocks p.now count }
-    requires settled { Settled S.relation (system_of l.now) (slice_index p.now) low }
-    requires alone { AreAlone p.now alone.now }
+    requires states { length blocks.of ≡ l.now.states }
+    requires settled { Settled S.relation (system_of l.now) (slice_index blocks.of) blocks.low }
+    requires rows { HaveRows l.now blocks.live }
     requires marks { marks.old ≡ l.now.states }
-    requires signatures { length signatures.old.numbers ≡ l.now.states }
+    requires signatures { (length signatures.old.numbers ≡ l.now.states) × HaveNone blocks.live signatures.old.numbers }
     requires room { HasRoomFor (M.counted m.old) 1 (length l.now.places) }
 
     // Once it is done
-    ensures next { IfOk result (λ q. IsNext S.relation l.now p.now count q.of.items q.count) }
+    ensures next { IfOk result (λ q. IsNext S.relation l.now blocks.of blocks.count q.of q.count) }
+    ensures low { IfOk result (λ q. q.low ≡ blocks.count) }
+    ensures live { IfOk result (λ q. q.live ≡ blocks.live) }
+    ensures none { OnOk result (HaveNone blocks.live signatures.new.numbers) }
     ensures costs { let n = length l.now.places in OnOk result (Costs (M.counted m.old) (M.counted m.new) 1 n n) }
 
     // After a refusal
@@ -194,7 +194,9 @@ fn next_round<S: Sense, M: Meter>(
 {
     lts::rows_are_steps();
     l.known();
+    // For its contract: what is said to be alone is.
+    blocks.alone();
     m.start_round();
-    signatures.sign::<S, M>(l, p, low, alone, marks, m)?;
-    signatures.split(p, count)
+    signatures.sign::<S, M>(l, &blocks, marks, m)?;
+    signatures.split(blocks)
 }

@@ -1,16 +1,18 @@
 //! What a round keeps of the signatures of the states.
-ghost use Rattle.std.specs.Prelude.{◌≡◌, ◌<◌, ◌≤◌, [], ◌∷◌, length, slice_index, IfOk, OnOk};
+ghost use Rattle.std.specs.Prelude.{◌≡◌, ℕ, ◌<◌, ◌≤◌, [], ◌∷◌, length, slice_index, IfOk, OnOk};
 ghost use Rattle.lts.specs.Meter.{HasRoomFor, Visits};
-ghost use Rattle.partition.specs.Partition.{AreBlocks};
+ghost use Rattle.lists.specs.Lists.{AreNumbers};
+ghost use Rattle.partition.specs.Blocks.{HaveNone};
+ghost use Rattle.inert.specs.Signed.{HaveRows};
 ghost use Rattle.refine.specs.EachList.{list_of};
 ghost use Rattle.refine.specs.Settled.{ArePut};
 ghost use Rattle.partition.specs.Splitting.{Splits};
 
 use crate::marks::Marks;
 use crate::sense::Sense;
-use lists::Lists;
+use lists::{EMPTY, Lists};
 use lts::{Lts, Memory, Meter};
-use partition::{Blocks, split};
+use partition::Blocks;
 use std::alloc::Global;
 use std::marker::Model;
 
@@ -51,12 +53,13 @@ impl RoundSignatures {
         requires few { states ≤ 2000000 }
         ensures lists { IfOk result (λ r. r.lists ≡ [] ∷ []) }
         ensures states { IfOk result (λ r. length r.numbers ≡ states) }
+        ensures none { IfOk result (λ r. (s : ℕ) → s < states → slice_index r.numbers s ≡ 0) }
     {
         // The numbers first: where the second cannot be made the first is dropped, and numbers have one part where lists
         // have many.
         Ok(RoundSignatures {
             alloc,
-            numbers: vec![in alloc; 0u32; states as usize]?,
+            numbers: no_numbers(alloc, states)?,
             lists: Lists::new(alloc, states)?,
         })
     }
@@ -89,59 +92,87 @@ impl RoundSignatures {
         ensures lists { self.new.lists ≡ [] ∷ [] }
         ensures states { length self.new.numbers ≡ length self.old.numbers }
     {
-        self.lists.clear();
-        self.numbers.fill(0);
+        clear(&mut self.lists, &mut self.numbers);
     }
 
-    /// Takes the signature of each state under the blocks `p`: no pairs for a state of a block that is known to be of one
-    /// state alone, and for one that no number from `low` on can be seen from. Each transition is visited once.
+    /// Takes the signature of each state under these blocks: no pairs for a state of a block that is known to be of one state
+    /// alone, and for one that no new block can be seen from. Each transition is visited once.
     ///
     /// Fails if there is no memory for it. It is open then which the signatures are.
     pub fn sign<S: Sense, M: Meter>(
         &mut self,
         l: &Lts<M>,
-        p: &[u32],
-        low: u32,
-        alone: &[bool],
+        blocks: &Blocks,
         marks: &mut Marks,
         m: &mut M,
     ) -> Result<(), Memory>
-        requires blocks { length p.now ≡ l.now.states }
+        requires blocks { length blocks.now.of ≡ l.now.states }
+        requires rows { HaveRows l.now blocks.now.live }
         requires marks { marks.old ≡ l.now.states }
         requires states { length self.old.numbers ≡ l.now.states }
+        requires none { HaveNone blocks.now.live self.old.numbers }
         requires room { HasRoomFor (M.counted m.old) 0 (length l.now.places) }
 
         // Once it is done
-        ensures signed { OnOk result (ArePut S.relation l.now p.now low alone.now (list_of self.new.lists self.new.numbers)) }
+        ensures signed { OnOk result (ArePut S.relation l.now blocks.now.of blocks.now.low blocks.now.alone
+            (list_of self.new.lists self.new.numbers)) }
+        ensures none { OnOk result (HaveNone blocks.now.live self.new.numbers) }
 
         // In either case
         ensures visits { let n = length l.now.places in Visits M.counted m.old m.new result n n }
         ensures marks { marks.new ≡ marks.old }
         ensures states { length self.new.numbers ≡ length self.old.numbers }
     {
-        self.clear();
-        S::sign_each(
+        self.lists.clear();
+        let done = S::sign_each(
             self.alloc,
             l,
-            p,
-            low,
-            alone,
+            blocks,
             marks,
             &mut self.lists,
             &mut self.numbers,
             m,
-        )
+        );
+        if let Err(refusal) = done {
+            clear(&mut self.lists, &mut self.numbers);
+            return Err(refusal);
+        }
+        Ok(())
     }
 
     /// Splits these blocks: two states stay together if their signatures are equal.
     ///
     /// Fails if there is no memory for it.
-    pub fn split(&self, p: &[u32], count: u32) -> Result<Blocks, Memory>
-        requires blocks { AreBlocks p.now count }
-        requires states { length p.now ≡ length self.now.numbers }
-        ensures { IfOk result (λ q. Splits p.now count (list_of self.now.lists self.now.numbers) q.of.items q.count) }
+    pub fn split(&self, blocks: Blocks) -> Result<Blocks, Memory>
+        requires states { length blocks.of ≡ length self.now.numbers }
+        requires none { HaveNone blocks.live self.now.numbers }
+        ensures splits { IfOk result (λ q. Splits blocks.of blocks.count (list_of self.now.lists self.now.numbers) q.of q.count) }
+        ensures low { IfOk result (λ q. q.low ≡ blocks.count) }
+        ensures live { IfOk result (λ q. q.live ≡ blocks.live) }
     {
         self.lists.known();
-        split(self.alloc, p, count, self.lists.len(), &self.numbers)
+        blocks.split(self.alloc, self.lists.len(), &self.numbers)
     }
+}
+
+/// The number of the empty list for each of so many states.
+///
+/// Fails if there is no memory for them.
+fn no_numbers(alloc: Global, states: u32) -> Result<Vec<u32>, Memory>
+    ensures states { IfOk result (λ v. length v.items ≡ states) }
+    ensures none { IfOk result (λ v. (s : ℕ) → s < states → slice_index v.items s ≡ 0) }
+    ensures numbers { IfOk result (λ v. AreNumbers ([] ∷ []) v.items) }
+{
+    let numbers = vec![in alloc; EMPTY; states as usize]?;
+    Ok(numbers)
+}
+
+/// Makes each signature empty.
+fn clear(lists: &mut Lists, numbers: &mut Vec<u32>)
+    ensures lists { lists.new ≡ [] ∷ [] }
+    ensures states { length numbers.new.items ≡ length numbers.old.items }
+    ensures numbers { AreNumbers lists.new numbers.new.items }
+{
+    lists.clear();
+    numbers.fill(EMPTY);
 }

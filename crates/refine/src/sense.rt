@@ -4,6 +4,8 @@ ghost use Rattle.theory.specs.declared.relation.Relation.{Relation};
 ghost use Rattle.lts.specs.Meter.{HasRoomFor, Visits};
 ghost use Rattle.lts.specs.Lts.{row_of};
 ghost use Rattle.lists.specs.Lists.{AreNumbers};
+ghost use Rattle.partition.specs.Blocks.{HaveNone};
+ghost use Rattle.inert.specs.Signed.{HaveRows};
 ghost use Rattle.refine.specs.EachList.{list_of};
 ghost use Rattle.refine.specs.Signed.{Extends, Appends, most_visits};
 ghost use Rattle.refine.specs.Settled.{ArePut};
@@ -11,7 +13,7 @@ ghost use Rattle.refine.specs.Settled.{ArePut};
 use crate::marks::Marks;
 use lists::Lists;
 use lts::{Lts, Memory, Meter};
-use partition::Partition;
+use partition::{Blocks, Partition};
 use std::alloc::Global;
 
 /// A relation whose signatures can be computed. Its definitions (the bisimulations, the signature, and what blocks keep)
@@ -48,34 +50,33 @@ pub trait Sense {
             Visits M.counted m.old m.new result row (most_visits relation l.now s) }
         ensures marks { marks.new ≡ marks.old };
 
-    /// Puts the signature of each state under the blocks `p` into `lists`, and its number there into `numbers`: no pairs
-    /// for a state of a block that is known to be of one state alone, and for one that no number from `low` on can be seen
-    /// from. States with equal signatures share a list. Each transition is visited once.
+    /// Puts the signature of each state under `blocks` into `lists`, and its number there into `numbers`: no pairs for a state of
+    /// a block that is known to be of one state alone, and for one that no new block can be seen from. States with equal
+    /// signatures share a list. The states that the round does not look at have no transition, and the number of the empty list
+    /// already. Each transition is visited once.
     ///
     /// Fails if there is no memory for it. It is open then which lists there are.
     fn sign_each<M: Meter>(
         alloc: Global,
         l: &Lts<M>,
-        p: &[u32],
-        low: u32,
-        alone: &[bool],
+        blocks: &Blocks,
         marks: &mut Marks,
         lists: &mut Lists,
         numbers: &mut [u32],
         m: &mut M,
     ) -> Result<(), Memory>
-        requires states { length p.now ≡ l.now.states }
+        requires states { length blocks.now.of ≡ l.now.states }
+        requires rows { HaveRows l.now blocks.now.live }
         requires marks { marks.old ≡ l.now.states }
         requires lists { lists.old ≡ [] ∷ [] }
-        requires numbers { AreNumbers lists.old numbers.old }
-        requires size { length numbers.old ≡ l.now.states }
+        requires numbers { (length numbers.old ≡ l.now.states) × HaveNone blocks.now.live numbers.old }
         requires room { HasRoomFor (M.counted m.old) 0 (length l.now.places) }
 
         // Once it is done
-        ensures signed { OnOk result (ArePut relation l.now p.now low alone.now (list_of lists.new numbers.new)) }
+        ensures signed { OnOk result (ArePut relation l.now blocks.now.of blocks.now.low blocks.now.alone (list_of lists.new numbers.new)) }
+        ensures numbers { OnOk result (AreNumbers lists.new numbers.new × HaveNone blocks.now.live numbers.new) }
 
         // In either case
         ensures visits { let n = length l.now.places in Visits M.counted m.old m.new result n n }
-        ensures marks { marks.new ≡ marks.old }
-        ensures numbers { AreNumbers lists.new numbers.new };
+        ensures marks { marks.new ≡ marks.old };
 }

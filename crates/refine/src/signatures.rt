@@ -10,7 +10,7 @@ use crate::round_signatures::RoundSignatures;
 use crate::sense::Sense;
 use lists::{Lists, Parts};
 use lts::{Lts, Memory, Meter};
-use partition::{Partition, renumber};
+use partition::{Blocks, Partition, renumber};
 use std::alloc::Global;
 use std::marker::Model;
 
@@ -91,7 +91,8 @@ impl Signatures {
         ensures marks { marks.new ≡ marks.old }
         ensures signatures { length self.new ≡ length self.old }
     {
-        if let Err(refusal) = self.round.sign::<S, M>(l, p.blocks(), 0, &[], marks, m) {
+        let blocks = Blocks::copied(self.alloc, p)?;
+        if let Err(refusal) = self.round.sign::<S, M>(l, &blocks, marks, m) {
             self.round.clear();
             self.whole.clear();
             return Err(refusal);
@@ -115,8 +116,9 @@ impl Signatures {
             ↔ ((slice_index p.now s ≡ slice_index p.now t) × (signature_at self.now s ≡ signature_at self.now t))) }
         ensures numbered { IfOk result IsSomePartition }
     {
-        let parts = self.round.split(p.blocks(), p.count())?;
-        renumber(self.alloc, &parts.of, parts.count)
+        let blocks = Blocks::copied(self.alloc, p)?;
+        let parts = self.round.split(blocks)?;
+        renumber(self.alloc, parts.of(), parts.count())
     }
 }
 

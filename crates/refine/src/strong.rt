@@ -4,17 +4,19 @@ ghost use Rattle.std.specs.Vec.{vec_len, vec_capacity};
 ghost use Rattle.theory.specs.declared.relation.Relation.TheVariants.{Strong as strong};
 ghost use Rattle.lts.specs.Meter.{HasRoomFor, Visits};
 ghost use Rattle.lts.specs.Lts.{row_of};
-ghost use Rattle.lists.specs.Lists.{list_at, Grow};
+ghost use Rattle.lists.specs.Lists.{list_at, AreNumbers, Grow};
 ghost use Rattle.lists.specs.declared.lists.TheConstants.{MOST_LISTS};
-ghost use Rattle.inert.specs.Signed.{IsSignature, pair_under};
-ghost use Rattle.refine.specs.Settled.{HasFrom, IsPut};
+ghost use Rattle.partition.specs.Blocks.{AreLive, HaveNone};
+ghost use Rattle.inert.specs.Signed.{IsSignature, HaveRows, pair_under};
+ghost use Rattle.refine.specs.EachList.{list_of};
+ghost use Rattle.refine.specs.Settled.{HasFrom, IsPut, ArePut};
 
 use crate::marks::Marks;
 use crate::sense::Sense;
 use inert::is_alone;
 use lists::{EMPTY, Lists, order};
 use lts::{Lts, Memory, Meter, visit_row};
-use partition::Partition;
+use partition::{Blocks, Partition};
 use std::alloc::Global;
 
 /// Strong bisimulation (Milner 1989).
@@ -40,21 +42,60 @@ impl Sense for Strong {
     fn sign_each<M: Meter>(
         alloc: Global,
         l: &Lts<M>,
-        p: &[u32],
-        low: u32,
-        alone: &[bool],
+        blocks: &Blocks,
         marks: &mut Marks,
         lists: &mut Lists,
         numbers: &mut [u32],
         m: &mut M,
     ) -> Result<(), Memory> {
-        lts::rows_follow();
-        for s in 0..l.states() {
-            let known = is_alone(alone, p[s as usize]);
-            numbers[s as usize] = put(l, p, low, known, s, &mut marks.pairs, lists, m)?;
-        }
-        Ok(())
+        sign_live(
+            l,
+            blocks.of(),
+            blocks.low(),
+            blocks.alone(),
+            blocks.live(),
+            &mut marks.pairs,
+            lists,
+            numbers,
+            m,
+        )
     }
+}
+
+/// Puts the strong signatures of the states in `live` into `lists`, and their numbers there into `numbers`. The others have no
+/// transition.
+///
+/// Fails if there is no memory for it.
+fn sign_live<M: Meter>(
+    l: &Lts<M>,
+    p: &[u32],
+    low: u32,
+    alone: &[bool],
+    live: &[u32],
+    pairs: &mut Vec<(u32, u32)>,
+    lists: &mut Lists,
+    numbers: &mut [u32],
+    m: &mut M,
+) -> Result<(), Memory>
+    requires states { length p.now ≡ l.now.states }
+    requires live { AreLive l.now.states live.now × HaveRows l.now live.now }
+    requires lists { lists.old ≡ [] ∷ [] }
+    requires numbers { (length numbers.old ≡ l.now.states) × HaveNone live.now numbers.old }
+    requires room { HasRoomFor (M.counted m.old) 0 (length l.now.places) }
+    ensures signed { OnOk result (ArePut strong l.now p.now low alone.now (list_of lists.new numbers.new)) }
+    ensures numbers { OnOk result (AreNumbers lists.new numbers.new × HaveNone live.now numbers.new) }
+    ensures visits { let n = length l.now.places in Visits M.counted m.old m.new result n n }
+{
+    lts::rows_follow();
+    lts::rows_are_steps();
+    l.known();
+    for i in 0..live.len() {
+        let s = live[i];
+        let known = is_alone(alone, p[s as usize]);
+        numbers[s as usize] = put(l, p, low, known, s, pairs, lists, m)?;
+    }
+    lists.known();
+    Ok(())
 }
 
 /// Puts the strong signature of `s` into `lists` and returns its number there, or that of the empty list where `s` is alone

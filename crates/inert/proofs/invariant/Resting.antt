@@ -2,10 +2,10 @@
 use Rattle.std.proofs.Common.{◌≡◌, ℕ, ◌+◌, ◌<◌, ◌≤◌, Bool, List, [], length, Contains, refl, sym, ◌∙◌, ap, subst, inl, inr, arith, slice_index}
 use Rattle.std.proofs.lemmas.Bool.{cases_eq}
 use Rattle.std.proofs.lemmas.Grind.{common_steps}
-use Rattle.std.proofs.lemmas.List.{get_or-set_same, get_or-set_other, length-set, nil_from_length, get_or_default}
+use Rattle.std.proofs.lemmas.List.{get_or-set_same, get_or-set_other, length-set, nil_from_length}
 use Rattle.std.proofs.lemmas.List.Sums.{count_by-le-length}
 use Rattle.lts.specs.Lts.{Grouped, row_of}
-use Rattle.lists.specs.Lists.{list_at, AreNumbers}
+use Rattle.lists.specs.Lists.{list_at}
 use Rattle.inert.specs.Signed.{IsKnownAlone, IsListOf}
 use Rattle.inert.specs.Search.{Search, nothing, stage_at, no_root, IsIdle, IsSigned, Walks, Unseen, Open, Finished, HasItsList, Stage}
 use Rattle.inert.specs.Moves.{skipped, FitsLists, Rests}
@@ -86,15 +86,15 @@ module _ {l : Grouped} {blocks : List ℕ} {alone : List Bool} {lists : List (Li
   finished s = seen_finished (stage_at w.stages s) (rests.shut s)
 
   -- the numbers are of lists that are there, each of its state
-  module _ (numbers : List ℕ) (are : (s : ℕ) → s < length numbers → HasItsList blocks alone w.stages s (slice_index numbers s)) where
-    pub numbered : AreNumbers lists numbers
-    numbered s d h = subst (λ x. x < length lists) (get_or_default numbers s 0 d h) (elim (are s h) [
+  module _ (numbers : List ℕ) (s : ℕ) (has : HasItsList blocks alone w.stages s (slice_index numbers s)) where
+    pub number_within : slice_index numbers s < length lists
+    number_within = elim has [
       | inl (known, zero) ↦ let some = rests.numbers.some in omega (arith, zero, some)
       | inr (company, is) ↦ (rests.signed s (slice_index numbers s) is).within
-    ])
+    ]
 
-    pub numbered_signed : list_at lists 0 ≡ [] → (s : ℕ) → s < length numbers → IsListOf l blocks alone s (list_at lists (slice_index numbers s))
-    numbered_signed first s h = elim (are s h) [
+    pub number_signed : list_at lists 0 ≡ [] → IsListOf l blocks alone s (list_at lists (slice_index numbers s))
+    number_signed first = elim has [
       | inl (known, zero) ↦ inr (known, ap (list_at lists) zero ∙ first)
       | inr (company, is) ↦ elim (rests.signed s (slice_index numbers s) is).whole [
         | inl signature ↦ inl signature

@@ -1,13 +1,14 @@
 -- What a walk has still to read: how it shrinks as states are entered and their rows are read.
-use Rattle.std.proofs.Common.{◌≡◌, ◌∙◌, ℕ, ◌+◌, ◌-◌, ◌<◌, ◌≤◌, Bool, false, cond, eqb, List, [], ◌∷◌, ◌++◌, length, set, take, map, get_or, ap, refl, sym, arith}
+use Rattle.std.proofs.Common.{◌≡◌, ◌∙◌, ℕ, ◌+◌, ◌-◌, ◌<◌, ◌≤◌, ◌↔◌, Bool, false, cond, eqb, List, [], ◌∷◌, ◌++◌, length, set, take, map, get_or, Contains, ap, refl, sym, subst, inl, inr, arith}
 use Rattle.std.specs.List.{sum, sum_by}
 use Rattle.std.proofs.lemmas.Grind.{common_steps}
 use Rattle.std.proofs.lemmas.Bool.Decides.{nat_tests}
-use Rattle.std.proofs.lemmas.List.{ext_get_or, get_or-map, length-map, take_all}
+use Rattle.std.proofs.lemmas.List.{ext_get_or, get_or-map, length-map, take_all, get_or_default}
 use Rattle.std.proofs.lemmas.List.Elements.{filter_agree}
 use Rattle.std.proofs.lemmas.List.Sums.{length-filter, sum-map, sum_by-cons, sum_by-le, sum_by_more, sum_by_push, sum_by-set}
 use Rattle.lts.specs.Lts.{Grouped, Triple, source_of, row_of, IsLts}
 use Rattle.lts.proofs.Filters.{filter-none, filter-whole}
+use Rattle.inert.specs.Signed.{HaveRows}
 use Rattle.inert.specs.Ahead.{is_unseen, unseen, unread, rest}
 use Rattle.inert.specs.Search.{stage_at, frame_at, no_frame, top, Stage, Unseen, Open, Finished, Frame}
 
@@ -80,10 +81,19 @@ seen Unseen f = absurd (f refl)
 seen (Open p) f = refl
 seen (Finished k) f = refl
 
--- all was seen, so nothing is still to be read
-pub unread-none : {l : Grouped} → IsLts l → (stages : List Stage) → ((s : ℕ) → s < l.states → ¬ (stage_at stages s ≡ Unseen)) → unread l.places stages ≡ 0
-unread-none {l = l} lts stages all =
-    ap length (filter-none (λ e. is_unseen (stage_at stages (source_of e))) l.places (λ k d h. seen _ (all _ (lts.in_range.each k d h).source)))
+-- all that have a transition were seen
+pub unread-left : {l : Grouped} → IsLts l → ((s : ℕ) (e : Triple) → Contains (row_of s l.places) e ↔ (Contains l.places e × (source_of e ≡ s))) → (live : List ℕ)
+    → HaveRows l live → (stages : List Stage) → ((i : ℕ) → i < length live → ¬ (stage_at stages (get_or live i 0) ≡ Unseen)) → unread l.places stages ≡ 0
+unread-left {l = l} lts sources live rows stages all =
+    ap length (filter-none (λ e. is_unseen (stage_at stages (source_of e))) l.places (λ k d h.
+    let e = get_or l.places k d in
+    seen _ (elim (rows (source_of e) (lts.in_range.each k d h).source) [
+      | inl one ↦ subst (λ s. ¬ (stage_at stages s ≡ Unseen)) one.2 (all one.0 one.1)
+      | inr empty ↦
+          let there : Contains l.places e = (k, h, get_or_default l.places k e d h) in
+          let has = subst (λ xs. Contains xs e) empty ((sources (source_of e) e).1 (there, refl)) in
+          absurd (omega (arith, has.1))
+    ])))
 
 -- the row of a state that was seen is not among what is still to be read
 pub unread-seen : (places : List Triple) (stages : List Stage) (s : ℕ) → ¬ (stage_at stages s ≡ Unseen) →

@@ -1,19 +1,37 @@
-use Rattle.std.proofs.Common.{◌≡◌, ◌∙◌, ◌<◌, ap, sym, arith}
+use Rattle.std.proofs.Common.{◌≡◌, ◌∙◌, ◌<◌, sym, arith}
 use Rattle.std.proofs.lemmas.Bool.{both_ways}
-use Rattle.lists.specs.Lists.{list_at, merged}
-use Rattle.lists.specs.Hashed.{tag_of}
-use Rattle.lists.proofs.Searching.{none-above-before}
+use Rattle.lists.specs.Lists.{list_at}
+use Rattle.lists.specs.Nodes.{list_of_shape}
+use Rattle.lists.proofs.Searching.{none-above-before, none-above-last}
+use Rattle.lists.proofs.Tags.{tag_shape}
 use Rattle.lists.proofs.hashed.find.Goals as goal
-use Rattle.lists.proofs.hashed.find.Goals.{else-entry-tag-via-then-entry-tag+in_ok-is_extended+else-branch, else-entry-tag-via-else-entry-tag}
+use Rattle.lists.proofs.hashed.find.Goals.{else-entry-tag-via-then-entry-tag+else-is, else-entry-tag-via-else-entry-tag}
 
 -- the list that was looked at is another one
-other : (c : goal.Joined-else-entry-tag) → list_at c.args.lists.now c.loop-r.r ≡ merged (list_at c.args.lists.now c.args.k) c.args.pairs.now → ⊥
+other : (c : goal.Joined-else-entry-tag) → list_at c.args.nodes.now c.loop-r.r ≡ list_of_shape c.args.nodes.now c.args.shape → ⊥
 other c a = elim c.else-entry-tag.branch [
-  | else-entry-tag-via-then-entry-tag+in_ok-is_extended+else-branch w ↦ both_ways _ w.if-branch.false (w.in_ok-is_extended.ensures.1 a)
+  | else-entry-tag-via-then-entry-tag+else-is w ↦ both_ways _ w.if-is.false (w.is.ensures.1 a)
   | else-entry-tag-via-else-entry-tag w ↦
       let some : 0 < c.loop-r.r = let h = c.loop-r-test.true in omega arith in
-      w.if-entry-tag.false (c.requires.hashed.tags c.loop-r.r some c.loop-r.invariant.below ∙ ap tag_of a ∙ sym c.requires.sought.tag_is)
+      w.if-entry-tag.false
+      (tag_shape c.args.nodes.now c.known.ensures c.requires.hashed.different c.args.shape c.loop-r.r _ c.requires.suits c.loop-r.invariant.below a
+      (c.requires.hashed.tags c.loop-r.r some c.loop-r.invariant.below)
+      ∙ sym c.requires.tag)
 ]
+
+pub loop-r-init : goal.loop-r-init
+loop-r-init c =
+    let chained = c.requires.hashed.chained in
+    record {
+      below = chained.heads_below c.bucket.result c.bucket.ensures.below;
+      fits = λ p. chained.heads_fit c.bucket.result c.bucket.ensures.below p ∙ c.bucket.ensures.value;
+      above =
+          none-above-last c.args.nodes.now c.args.heads.now c.args.entries.now _ c.args.tag c.requires.hashed
+          (λ q p l a.
+          tag_shape c.args.nodes.now c.known.ensures c.requires.hashed.different c.args.shape q _ c.requires.suits l a (c.requires.hashed.tags q p l)
+          ∙ sym c.requires.tag)
+          c.bucket.result c.bucket.ensures.value;
+    }
 
 pub loop-r-preserved : goal.loop-r-preserved
 loop-r-preserved c =
@@ -25,6 +43,9 @@ loop-r-preserved c =
       below = let h = c.loop-r.invariant.below in omega arith;
       fits = λ p. chained.before_fit r some c.loop-r.invariant.below p ∙ c.loop-r.invariant.fits some;
       above =
-          none-above-before c.args.lists.now c.args.heads.now c.args.entries.now _ c.args.tag c.requires.hashed c.requires.sought.tag_is
+          none-above-before c.args.nodes.now c.args.heads.now c.args.entries.now _ c.args.tag c.requires.hashed
+          (λ q p l a.
+          tag_shape c.args.nodes.now c.known.ensures c.requires.hashed.different c.args.shape q _ c.requires.suits l a (c.requires.hashed.tags q p l)
+          ∙ sym c.requires.tag)
           r some c.loop-r.invariant.below (c.loop-r.invariant.fits some) (other c) c.loop-r.invariant.above;
     }

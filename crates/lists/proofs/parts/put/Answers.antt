@@ -20,12 +20,11 @@ returns-clause-spans c =
     rw (c.in_ok-extend_from_slice.ensures.items, c.in_ok-push.ensures.items)
     (AreSpans-push c.args.pairs.now.items c.args.list.now c.args.spans.now.items _ c.requires.spans
     (omega (arith, c.len-start.ensures, c.args.pairs.now.ok.0))
-    (omega (arith, c.len.ensures, c.in_ok-extend_from_slice.ensures.len, c.args.pairs.now.ok.0)) c.requires.rising c.fingerprint.ensures
-    c.requires.few)
+    (omega (arith, c.len.ensures, c.in_ok-extend_from_slice.ensures.len, c.args.pairs.now.ok.0)) c.requires.rising c.requires.few)
 
 pub returns-clause-put : goal.returns-clause-put
 returns-clause-put c =
     rw (c.in_ok-extend_from_slice.ensures.items, c.in_ok-push.ensures.items)
     (lists_of-push c.args.pairs.now.items c.args.list.now c.args.spans.now.items _ c.requires.spans
     (omega (arith, c.len-start.ensures, c.args.pairs.now.ok.0))
-    (omega (arith, c.len.ensures, c.in_ok-extend_from_slice.ensures.len, c.args.pairs.now.ok.0)) c.requires.rising c.fingerprint.ensures)
+    (omega (arith, c.len.ensures, c.in_ok-extend_from_slice.ensures.len, c.args.pairs.now.ok.0)) c.requires.rising)

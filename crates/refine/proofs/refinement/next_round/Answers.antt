@@ -2,7 +2,7 @@ use Rattle.std.proofs.Common.{rules}
 use Rattle.std.proofs.lemmas.Result.{IfOk-weaker}
 use Rattle.refine.specs.EachList.{list_of}
 use Rattle.refine.proofs.Settling.{IsNext-from}
-use Rattle.refine.proofs.Spending.{begun_up_to}
+use Rattle.refine.proofs.Spending.{begun_up_to, on_ok_from}
 use Rattle.refine.proofs.refinement.next_round.Goals as goal
 
 pub returns-in_err-sign-clause-err : goal.returns-in_err-sign-clause-err
@@ -14,8 +14,11 @@ returns-clause-err g c = let most = begun_up_to _ _ _ _ _ c.start_round.ensures 
 pub returns-clause-next : goal.returns-clause-next
 returns-clause-next g c =
     let l = c.args.l.now in
-    let p = c.args.p.now in
+    let blocks = c.args.blocks in
     let list = list_of c.sign.new.self.lists c.sign.new.self.numbers in
     IfOk-weaker c.split.result _ _
-    (λ q splits. IsNext-from g.S.Sense.relation l c.known.ensures.system (λ s a t. c.rows_are_steps.ensures.numbered l s a t c.known.ensures) p c.args.count
-    c.args.low c.requires.states c.requires.settled c.args.alone.now c.requires.alone list c.in_ok-sign.ensures.signed q.of.items q.count splits) c.split.ensures
+    (λ q splits. IsNext-from g.S.Sense.relation l c.known.ensures.system (λ s a t. c.rows_are_steps.ensures.numbered l s a t c.known.ensures) blocks.of blocks.count
+    blocks.low c.requires.states c.requires.settled blocks.alone c.alone.ensures.known list c.in_ok-sign.ensures.signed q.of q.count splits) c.split.ensures.splits
+
+pub returns-clause-none : goal.returns-clause-none
+returns-clause-none g c = on_ok_from c.split.result c.in_ok-sign.ensures.none

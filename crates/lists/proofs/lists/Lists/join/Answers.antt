@@ -1,5 +1,5 @@
 use Rattle.std.proofs.lemmas.Result.{IfOk-weaker}
-use Rattle.lists.proofs.Uniting.{or_same}
+use Rattle.lists.proofs.Joining.{or_same}
 use Rattle.lists.proofs.lists.Lists.join.Goals as goal
 
 pub returns-clause-exactly : goal.returns-clause-exactly

@@ -1,5 +1,5 @@
-use Rattle.lists.proofs.Uniting.{AreUnions-grow}
+use Rattle.lists.proofs.Joining.{AreUnions-grow}
 use Rattle.lists.proofs.lists.Lists.push.Goals as goal
 
 pub invariant_of-self : goal.invariant_of-self
-invariant_of-self c = AreUnions-grow c.push.ensures.grow c.self.inside.known c.self.invariant
+invariant_of-self c = AreUnions-grow c.list_of.ensures.grow c.self.inside.known c.self.invariant

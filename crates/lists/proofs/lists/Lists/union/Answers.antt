@@ -1,14 +1,14 @@
 use Rattle.std.proofs.Common.{slice_index, arith}
 use Rattle.lists.specs.Lists.{list_at}
-use Rattle.lists.proofs.Uniting.{Grow-same, Grow-twice, IsUpTo-none, IsUpTo-more, IsUpTo-all}
+use Rattle.lists.proofs.Joining.{Grow-same, Grow-twice, IsUpTo-none, IsUpTo-more, IsUpTo-all}
+use Rattle.lists.proofs.Uniting.{none_in}
 use Rattle.lists.proofs.lists.Lists.union.Goals as goal
 
 pub loop-k-init : goal.loop-k-init
 loop-k-init c = record {
-  within = c.longest-union.ensures.within;
+  within = c.known.ensures.some;
   grow = Grow-same c.args.self.now;
-  few = omega arith;
-  joined = IsUpTo-none c.args.self.now c.args.numbers.now (list_at c.args.self.now c.longest-union.result) c.longest-union.ensures.one;
+  joined = IsUpTo-none c.args.self.now c.args.numbers.now (list_at c.args.self.now 0) (λ z d. absurd (none_in _ c.known.ensures.first z d));
 }
 
 pub loop-k-preserved : goal.loop-k-preserved
@@ -18,11 +18,10 @@ loop-k-preserved c =
     let i = c.loop-k.k-index in
     let below = c.loop-k-test.true in
     let before = c.loop-k.invariant in
-    let known = c.requires.numbers i 0 below in
+    let known = c.requires i 0 below in
     record {
       within = c.in_ok-union.ensures.within;
       grow = Grow-twice before.grow c.in_ok-union.ensures.grow;
-      few = let few = before.few in let more = c.in_ok-union.ensures.few in omega (arith, few, more);
       joined = IsUpTo-more old numbers i (list_at c.loop-k.self c.loop-k.union) (list_at c.loop-k.self (slice_index numbers i))
           (list_at c.both.new.self c.in_ok-union.union) below before.joined (before.grow.same (slice_index numbers i) known) c.in_ok-union.ensures.exactly;
     }

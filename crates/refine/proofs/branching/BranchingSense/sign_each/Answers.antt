@@ -10,3 +10,6 @@ returns-clause-signed g c =
       | inr (known, empty) ↦ inr (empty, inr known)
     ])
     c.sign_each.ensures.signed
+
+pub returns-clause-numbers : goal.returns-clause-numbers
+returns-clause-numbers g c = on_ok_weaker c.sign_each.result (λ are. (are, c.sign_each.ensures.others)) c.sign_each.ensures.numbers

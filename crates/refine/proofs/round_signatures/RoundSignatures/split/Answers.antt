@@ -5,15 +5,16 @@ use Rattle.refine.specs.EachList.{list_of}
 use Rattle.refine.proofs.EachList.{Splits-lists}
 use Rattle.refine.proofs.round_signatures.RoundSignatures.split.Goals as goal
 
-pub returns : goal.returns
-returns c =
-    let old = c.args.p.now in
+pub returns-clause-splits : goal.returns-clause-splits
+returns-clause-splits c =
+    let old = c.args.blocks.of in
+    let count = c.args.blocks.count in
     let lists = c.self.inside.lists in
     let numbers = c.self.inside.numbers.items in
     let is = c.self.view_is in
-    subst (λ r. IfOk c.split.result (λ q. Splits old c.args.count (list_of r.lists r.numbers) q.of.items q.count)) is
+    subst (λ r. IfOk c.split.result (λ q. Splits old count (list_of r.lists r.numbers) q.of q.count)) is
     (IfOk-weaker c.split.result _ _
-    (λ q splits. Splits-lists lists numbers old c.args.count q.of.items q.count c.known.ensures c.self.invariant.each
+    (λ q splits. Splits-lists lists numbers old count q.of q.count c.known.ensures c.self.invariant.each
     (c.requires.states ∙ sym (ap (λ r. length r.numbers) is))
-    (subst (λ ns. Splits old c.args.count (slice_index ns) q.of.items q.count) c.deref.ensures.value splits))
-    c.split.ensures)
+    (subst (λ ns. Splits old count (slice_index ns) q.of q.count) c.deref.ensures.value splits))
+    c.split.ensures.splits)

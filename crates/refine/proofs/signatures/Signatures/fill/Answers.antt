@@ -1,4 +1,4 @@
-use Rattle.std.proofs.Common.{◌≡◌, ◌∙◌, IsTrue, false, [], slice_index, slice_index_or, length, ap, sym, subst, arith}
+use Rattle.std.proofs.Common.{◌≡◌, ◌∙◌, IsTrue, false, slice_index, slice_index_or, length, ap, sym, subst, inl, arith}
 use Rattle.std.proofs.lemmas.List.{length-map}
 use Rattle.lists.specs.Lists.{list_at}
 use Rattle.refine.specs.EachList.{list_of}
@@ -10,14 +10,29 @@ use Rattle.refine.proofs.signatures.Signatures.fill.Goals as goal
 
 pub returns-clause-signed : goal.returns-clause-signed
 returns-clause-signed g c s ls =
+    let rel = g.S.Sense.relation in
+    let l = c.args.l.now in
+    let p = c.args.p.now in
     let whole = c.make_whole.new.whole in
     let numbers = c.sign.new.self.numbers in
     let states : length c.self.inside.round.numbers ≡ c.args.l.now.states =
     sym (length-map c.self.inside.round.numbers (list_at c.self.inside.whole)) ∙ ap length c.self.view_is ∙ c.requires.signatures in
+    let list = list_of c.sign.new.self.lists numbers s in
     subst (IsSignature g.S.Sense.relation c.args.l.now c.args.p.now s)
     (sym (signature_at-list whole numbers s (omega (arith, ls, states, c.sign.ensures.states))
     ∙ ap (λ xs. list_of xs numbers s) (c.in_default-make_whole.ensures ∙ c.lists.ensures)))
     (put_whole g.S.Sense.relation c.args.l.now c.args.p.now s (list_of c.sign.new.self.lists numbers s) _
     (none_alone (slice_index c.args.p.now s))
-    (subst (λ p. IsPut g.S.Sense.relation c.args.l.now p 0 (IsTrue (slice_index_or [] (slice_index p s) false)) s
-    (list_of c.sign.new.self.lists numbers s)) c.blocks-2.ensures.blocks (c.in_default.ensures.signed s ls)))
+    (subst (λ alone. IsPut rel l p 0 (IsTrue (slice_index_or alone (slice_index p s) false)) s list) c.in_ok-blocks.ensures.count.1
+    (subst (λ low. IsPut rel l p low (IsTrue (slice_index_or c.in_ok-blocks.blocks.alone (slice_index p s) false)) s list) c.in_ok-blocks.ensures.count.0
+    (subst (λ of. IsPut rel l of c.in_ok-blocks.blocks.low (IsTrue (slice_index_or c.in_ok-blocks.blocks.alone (slice_index of s) false)) s list) c.in_ok-blocks.ensures.of
+    (c.in_default.ensures.signed s ls)))))
+
+pub sign-requires-clause-rows : goal.sign-requires-clause-rows
+sign-requires-clause-rows g c s h = inl (c.in_ok-blocks.ensures.live s (omega (arith, h, c.requires.states)))
+
+pub sign-requires-clause-none : goal.sign-requires-clause-none
+sign-requires-clause-none g c s h =
+    let states : length c.self.inside.round.numbers ≡ c.args.l.now.states =
+    sym (length-map c.self.inside.round.numbers (list_at c.self.inside.whole)) ∙ ap length c.self.view_is ∙ c.requires.signatures in
+    inl (c.in_ok-blocks.ensures.live s (omega (arith, h, states, c.requires.states)))

@@ -1,27 +1,35 @@
-use Rattle.std.proofs.Common.{ℕ, IsTrue, false, slice_index, slice_index_or, subst, arith, rules}
+use Rattle.std.proofs.Common.{OnOk, sym, subst, subst₂}
 use Rattle.theory.specs.declared.relation.Relation.TheVariants.{Strong}
-use Rattle.lists.specs.Lists.{list_at}
-use Rattle.refine.specs.Settled.{IsPut}
-use Rattle.refine.proofs.EachList.{AreNumbers-put, each_put}
+use Rattle.lists.specs.Lists.{AreNumbers}
+use Rattle.partition.specs.Blocks.{AreLive, HaveNone}
+use Rattle.inert.specs.Signed.{HaveRows}
+use Rattle.refine.specs.EachList.{list_of}
+use Rattle.refine.specs.Settled.{ArePut}
 use Rattle.refine.proofs.strong.StrongSense.sign_each.Goals as goal
 
-pub loop-s-preserved : goal.loop-s-preserved
-loop-s-preserved g c =
+pub sign_live-requires-clause-live : goal.sign_live-requires-clause-live
+sign_live-requires-clause-live g c = (
+  subst₂ AreLive c.requires.states (sym c.live.ensures.live) c.live.ensures.rising,
+  subst (HaveRows c.args.l.now) (sym c.live.ensures.live) c.requires.rows,
+)
+
+pub sign_live-requires-clause-numbers : goal.sign_live-requires-clause-numbers
+sign_live-requires-clause-numbers g c = (
+  c.requires.numbers.0,
+  subst (λ xs. HaveNone xs c.args.numbers.now) (sym c.live.ensures.live) c.requires.numbers.1,
+)
+
+pub returns-clause-signed : goal.returns-clause-signed
+returns-clause-signed g c =
     let l = c.args.l.now in
-    let p = c.args.p.now in
-    let s = c.loop-s.s in
-    let next = c.rows_follow.ensures.next s l.places in
-    let k = c.in_ok-numbers.field-0 in
-    let Put : ℕ → Type 0 = λ t. IsTrue (slice_index_or c.args.alone.now (slice_index p t) false) in
-    let this = subst (λ known. IsPut Strong l p c.args.low (IsTrue known) s (list_at c.put.new.lists k)) c.is_alone-known.ensures c.in_ok-numbers.ensures.put in
-    let grow = c.put.ensures.grow in
-    record {
-      put =
-          each_put c.loop-s.lists c.put.new.lists c.loop-s.numbers s k grow c.loop-s.invariant.numbers
-          (λ t list. IsPut Strong l p c.args.low (Put t) t list)
-          (omega (arith, c.loop-s-test.true, c.loop-s.auto.numbers, c.requires.size, c.states-s-end.ensures.value)) c.loop-s.invariant.put this;
-      lists = omega (arith, c.put.ensures.few, c.loop-s.invariant.lists);
-      numbers = AreNumbers-put c.loop-s.lists c.put.new.lists c.loop-s.numbers s k grow c.loop-s.invariant.numbers c.in_ok-numbers.ensures.within;
-      marks = c.loop-s.invariant.marks;
-      visits = search rules;
-    }
+    let b = c.args.blocks.now in
+    let result = c.sign_live.result in
+    let list = list_of c.sign_live.new.lists c.sign_live.new.numbers in
+    subst (λ alone. OnOk result (ArePut Strong l b.of b.low alone list)) c.alone.ensures.alone
+    (subst (λ low. OnOk result (ArePut Strong l b.of low c.alone.result.now list)) c.low.ensures
+    (subst (λ of. OnOk result (ArePut Strong l of c.low.result c.alone.result.now list)) c.of.ensures.of c.sign_live.ensures.signed))
+
+pub returns-clause-numbers : goal.returns-clause-numbers
+returns-clause-numbers g c =
+    let numbers = c.sign_live.new.numbers in
+    subst (λ live. OnOk c.sign_live.result (AreNumbers c.sign_live.new.lists numbers × HaveNone live numbers)) c.live.ensures.live c.sign_live.ensures.numbers

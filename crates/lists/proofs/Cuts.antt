@@ -1,0 +1,104 @@
+-- Cuts: a list has one at most, and a cut of more pairs that lies inside a list is the list's own.
+use Rattle.std.proofs.Common.{◌≡◌, ◌∙◌, ℕ, ◌+◌, ◌-◌, ◌*◌, ◌/◌, ◌%◌, ◌^◌, ◌<◌, ◌≤◌, List, Contains, ap, sym, inl, inr, arith}
+use Rattle.std.proofs.Math.Pow.{shr_mono}
+use Rattle.std.proofs.lemmas.Bool.{cases_lt, cases_order}
+use Rattle.std.proofs.lemmas.Nat.{pow_pos, shr-shr, div_below, div-add-mod'}
+use Rattle.lists.specs.Cuts.{key_of, IsPlace, IsAlike, IsCut, IsUnder, IsOver}
+
+-- what agrees above a bit agrees above each later one
+lift : (a b m n : ℕ) → m ≤ n → a / 2 ^ m ≡ b / 2 ^ m → a / 2 ^ n ≡ b / 2 ^ n
+lift a b m n h e =
+    let s : n ≡ m + (n - m) = omega arith in
+    ap (λ k. a / 2 ^ k) s ∙ sym (shr-shr a m (n - m)) ∙ ap (λ x. x / 2 ^ (n - m)) e ∙ shr-shr b m (n - m) ∙ ap (λ k. b / 2 ^ k) (sym s)
+
+-- a multiple of a power of two lies between a number below it and one that is not
+between : (bit z c y : ℕ) → c % 2 ^ bit ≡ 0 → z < c → c ≤ y → (z / 2 ^ bit < c / 2 ^ bit) × (c / 2 ^ bit ≤ y / 2 ^ bit)
+between bit z c y multiple below above =
+    (div_below z (2 ^ bit) (c / 2 ^ bit) (pow_pos bit) (omega (arith, div-add-mod' c (2 ^ bit))), shr_mono bit above)
+
+-- the multiple is odd if both numbers agree above that power
+odd : (bit z c y q : ℕ) → c % 2 ^ bit ≡ 0 → z < c → c ≤ y → z / 2 ^ (bit + 1) ≡ q → y / 2 ^ (bit + 1) ≡ q → c ≡ (2 * q + 1) * 2 ^ bit
+odd bit z c y q multiple below above first second =
+    let parts = between bit z c y multiple below above in
+    let lower : z / 2 ^ bit / 2 ≡ q = shr-shr z bit 1 ∙ first in
+    let upper : y / 2 ^ bit / 2 ≡ q = shr-shr y bit 1 ∙ second in
+    let m : c / 2 ^ bit ≡ 2 * q + 1 = omega arith in
+    sym (omega (arith, div-add-mod' c (2 ^ bit), multiple)) ∙ ap (λ m. m * 2 ^ bit) m
+
+module _ (list : List (ℕ × ℕ)) where
+  -- no multiple of a later power lies between two pairs
+  none_later : (bit later c d : ℕ) → IsAlike bit list c → bit < later → d % 2 ^ later ≡ 0
+      → (z y : ℕ × ℕ) → Contains list z → Contains list y → key_of z < d → d ≤ key_of y → ⊥
+  none_later bit later c d is more multiple z y in_z in_y below above =
+      let parts = between later (key_of z) d (key_of y) multiple below above in
+      let same = lift (key_of z) (key_of y) (bit + 1) later (omega arith) (is.alike z in_z ∙ sym (is.alike y in_y)) in
+      omega (arith, parts, same)
+
+  pub cut_unique : (c d : ℕ) → IsCut list c → IsCut list d → c ≡ d
+  cut_unique c d first second = elim (cases_order first.bit second.bit) [
+    | inl e ↦
+        let z = first.below.0 in
+        let p : c ≡ (2 * (c / 2 ^ (first.bit + 1)) + 1) * 2 ^ first.bit =
+        odd first.bit (key_of z) c (key_of first.above.0) _ first.alike.multiple first.below.2 first.above.2
+        (first.alike.alike z first.below.1) (first.alike.alike _ first.above.1) in
+        let q : d ≡ (2 * (d / 2 ^ (second.bit + 1)) + 1) * 2 ^ second.bit =
+        odd second.bit (key_of second.below.0) d (key_of second.above.0) _ second.alike.multiple second.below.2 second.above.2
+        (second.alike.alike _ second.below.1) (second.alike.alike _ second.above.1) in
+        let same : c / 2 ^ (first.bit + 1) ≡ d / 2 ^ (second.bit + 1) =
+        sym (first.alike.alike z first.below.1) ∙ ap (λ b. key_of z / 2 ^ (b + 1)) e ∙ second.alike.alike z first.below.1 in
+        p ∙ (λ i. (2 * same i + 1) * 2 ^ e i) ∙ sym q
+    | inr order ↦ elim order [
+      | inl low ↦
+          absurd (none_later first.bit second.bit c d first.alike low second.alike.multiple second.below.0 second.above.0 second.below.1 second.above.1
+          second.below.2 second.above.2)
+      | inr high ↦
+          absurd (none_later second.bit first.bit d c second.alike high first.alike.multiple first.below.0 first.above.0 first.below.1 first.above.1
+          first.below.2 first.above.2)
+    ]
+  ]
+
+  -- a place that is found from the list's own cut suits the list
+  pub alike_wider : (bit low high c d : ℕ) → IsPlace bit low high c → IsCut list d → low < d → d ≤ high → IsAlike bit list c
+  alike_wider bit low high c d place own after within = record {
+    multiple = place.multiple;
+    alike = λ z in_z. elim (cases_lt bit own.bit) [
+      | inl later ↦
+          let parts = between own.bit low d high own.alike.multiple after within in
+          let same = lift low high (bit + 1) own.bit (omega arith) (place.low_alike ∙ sym place.high_alike) in
+          absurd (omega (arith, parts, same))
+      | inr earlier ↦
+          let down = shr_mono {a = low} {b = d} (bit + 1) (omega arith) in
+          let up = shr_mono {a = d} {b = high} (bit + 1) within in
+          lift (key_of z) d (own.bit + 1) (bit + 1) (omega arith) (own.alike.alike z in_z) ∙ omega (arith, place.low_alike, place.high_alike)
+    ];
+  }
+
+  -- another place than the list's own cut has the whole list on one side
+  pub all_under : (bit c d : ℕ) → IsAlike bit list c → IsCut list d → d < c → IsUnder list c
+  all_under bit c d is own less z in_z = elim (cases_lt (key_of z) c) [
+    | inl h ↦ h
+    | inr h ↦
+        let low = own.below.2 in
+        let same = cut_unique c d (record { bit = bit; alike = is; below = (own.below.0, own.below.1, omega (arith, low)); above = (z, in_z, h) }) own in
+        absurd (omega arith)
+  ]
+
+  pub all_over : (bit c d : ℕ) → IsAlike bit list c → IsCut list d → c < d → IsOver list c
+  all_over bit c d is own more z in_z = elim (cases_lt (key_of z) c) [
+    | inl h ↦
+        let high = own.above.2 in
+        let same = cut_unique c d (record { bit = bit; alike = is; below = (z, in_z, h); above = (own.above.0, own.above.1, omega (arith, high)) }) own in
+        absurd (omega arith)
+    | inr h ↦ h
+  ]
+
+  -- a place in a range suits all pairs in the range
+  pub alike_within : (bit low high c : ℕ) → IsPlace bit low high c → ((z : ℕ × ℕ) → Contains list z → (low ≤ key_of z) × (key_of z ≤ high))
+      → IsAlike bit list c
+  alike_within bit low high c place range = record {
+    multiple = place.multiple;
+    alike = λ z in_z.
+        let down = shr_mono {a = low} {b = key_of z} (bit + 1) ((range z in_z).0) in
+        let up = shr_mono {a = key_of z} {b = high} (bit + 1) ((range z in_z).1) in
+        omega (arith, place.low_alike, place.high_alike);
+  }

@@ -1,0 +1,69 @@
+-- Lists cut in two: of pairs in rising order, the first and the last one give the cut; two lists that are numbered make one with halves.
+use Rattle.std.proofs.Common.{◌≡◌, ◌∙◌, ℕ, ◌-◌, ◌<◌, ◌≤◌, List, length, get_or, Contains, ap, sym, subst, arith}
+use Rattle.std.specs.List.Sorted.{IsStrictlySortedBy}
+use Rattle.std.proofs.lemmas.List.{length-append, get_or_default}
+use Rattle.std.proofs.lemmas.List.Elements.{Contains-get_or}
+use Rattle.lists.specs.declared.nodes.Halves.{Halves}
+use Rattle.lists.specs.declared.nodes.TheConstants.{FEW}
+use Rattle.lists.specs.Lists.{pair_cmp, list_at, Grow}
+use Rattle.lists.specs.Cuts.{key_of, Fit, IsPlace, IsCut, IsParted}
+use Rattle.lists.specs.Nodes.{AreHalves, AreIn}
+use Rattle.lists.proofs.Cuts.{alike_within}
+use Rattle.lists.proofs.Keys.{rising_keys, key_from_less}
+use Rattle.lists.proofs.Pairs.{pair_total}
+use Rattle.lists.proofs.Rising.{rising_before}
+
+-- the first and the last pair of some
+module _ (list : List (ℕ × ℕ)) (rise : IsStrictlySortedBy pair_cmp list) (fit : Fit list) (some : 0 < length list) (low high : ℕ)
+    (low_is : low ≡ key_of (get_or list 0 (0, 0))) (high_is : high ≡ key_of (get_or list (length list - 1) (0, 0))) where
+  pub has_first : Contains list (get_or list 0 (0, 0))
+  has_first = Contains-get_or list 0 (0, 0) some
+
+  pub has_last : Contains list (get_or list (length list - 1) (0, 0))
+  has_last = Contains-get_or list (length list - 1) (0, 0) (omega arith)
+
+  pub keys_between : (z : ℕ × ℕ) → Contains list z → (low ≤ key_of z) × (key_of z ≤ high)
+  keys_between z d =
+      let keys = rising_keys list rise fit in
+      let k = d.1 in
+      let same = ap key_of d.2 in
+      let first = keys 0 d.0 z (omega arith) k in
+      let last = keys d.0 (length list - 1) z (omega arith) (omega arith) in
+      let at_first : key_of (get_or list 0 z) ≡ low = ap key_of (get_or_default list 0 z (0, 0) some) ∙ sym low_is in
+      let at_last : key_of (get_or list (length list - 1) z) ≡ high =
+      ap key_of (get_or_default list (length list - 1) z (0, 0) (omega arith)) ∙ sym high_is in
+      (omega arith, omega arith)
+
+  pub first_before_last : 1 < length list → low < high
+  first_before_last many =
+      let key =
+      key_from_less (get_or list 0 (0, 0)) (get_or list (length list - 1) (0, 0)) (fit _ has_first) (fit _ has_last)
+      (rising_before pair_total list rise 0 (length list - 1) (0, 0) (omega arith) (omega arith)) in
+      omega arith
+
+  pub IsCut-place : (bit c : ℕ) → IsPlace bit low high c → IsCut list c
+  IsCut-place bit c place = record {
+    bit = bit;
+    alike = alike_within list bit low high c place keys_between;
+    below = (get_or list 0 (0, 0), has_first, let h = place.after in omega arith);
+    above = (get_or list (length list - 1) (0, 0), has_last, let h = place.within in omega arith);
+  }
+
+-- two numbered lists are the halves of a list
+pub AreIn-parts : (lists new : List (List (ℕ × ℕ))) (h : Halves) (list below above : List (ℕ × ℕ)) → Grow lists new
+    → h.below < length lists → list_at lists h.below ≡ below → h.above < length new → list_at new h.above ≡ above
+    → IsParted list h.cut below above → IsCut list h.cut → FEW < length list → AreIn new h
+AreIn-parts lists new h list below above grow low below_is high above_is parted cut long =
+    let first : below ≡ list_at new h.below = sym (grow.same h.below low ∙ below_is) in
+    let longer = grow.longer in
+    let size = ap length parted.joined in
+    record {
+      below = omega arith;
+      above = high;
+      halves = subst (λ b. AreHalves b (list_at new h.above) h.cut) first (subst (λ a. AreHalves below a h.cut) (sym above_is) (record {
+        long = omega (arith, length-append below above);
+        at_cut = subst (λ l. IsCut l h.cut) parted.joined cut;
+        under = parted.under;
+        over = parted.over;
+      }));
+    }

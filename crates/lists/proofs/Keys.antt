@@ -1,0 +1,164 @@
+-- The order of pairs is that of their keys, if they fit; what stands below a cut and what stands from it on rise together.
+use Rattle.std.proofs.Common.{◌≡◌, ◌∙◌, ◌↔◌, ◌⊎◌, ℕ, ◌+◌, ◌^◌, ◌<◌, ◌≤◌, List, [], ◌∷◌, ◌++◌, length, get_or, take, drop, true, false, ltb, Contains, Less, Equal, ap, sym, subst, inl, inr, arith}
+use Rattle.std.specs.List.Sorted.{IsStrictlySortedBy, IsNonDecreasingBy, IsPartitionedBy, IsPartitionPoint}
+use Rattle.std.proofs.lemmas.List.Sorted.{IsPartitionedBy-ltb}
+use Rattle.std.specs.Ordering.{nat_cmp, ordering_then}
+use Rattle.std.specs.Cmp.{nat_cmp_is}
+use Rattle.std.proofs.lemmas.Bool.{cases_lt, cases_order, cases_eq}
+use Rattle.std.proofs.lemmas.List.Elements.{Contains-append_cases, Contains-append_left, Contains-append_right, Contains-get_or}
+use Rattle.std.proofs.lemmas.List.{take-append-drop, length-take, length-drop, length-append, get_or-take, get_or-drop}
+use Rattle.std.proofs.lemmas.Bool.Decides.{Decides-ltb, not_from_Decides}
+use Rattle.lists.specs.Cuts.{key_of, Fit, IsUnder, IsOver, IsCut, IsParted}
+use Rattle.lists.specs.Lists.{pair_cmp}
+use Rattle.lists.proofs.Pairs.{pair_total}
+use Rattle.lists.proofs.Rising.{not_both, here, there, rising_cons, rising_first, rising_unique, rising_before, rising_none}
+use Rattle.std.proofs.lemmas.Map.Keys.{sorted_tail}
+
+module _ (x y : ℕ × ℕ) (small : x.1 < 2 ^ 32) (fits : y.1 < 2 ^ 32) where
+  pub less_from_key : key_of x < key_of y → pair_cmp x y ≡ Less
+  less_from_key h = elim (cases_order x.0 y.0) [
+    | inl e ↦
+        let first : nat_cmp x.0 y.0 ≡ Equal = sym (nat_cmp_is x.0 y.0 Equal e) in
+        let second : nat_cmp x.1 y.1 ≡ Less = sym (nat_cmp_is x.1 y.1 Less (omega arith)) in
+        (λ i. ordering_then (first i) (second i))
+    | inr order ↦ elim order [
+      | inl low ↦ let first : nat_cmp x.0 y.0 ≡ Less = sym (nat_cmp_is x.0 y.0 Less low) in (λ i. ordering_then (first i) (nat_cmp x.1 y.1))
+      | inr high ↦ absurd (omega arith)
+    ]
+  ]
+
+pub key_from_less : (x y : ℕ × ℕ) → x.1 < 2 ^ 32 → y.1 < 2 ^ 32 → pair_cmp x y ≡ Less → key_of x < key_of y
+key_from_less x y small fits h = elim (cases_lt (key_of x) (key_of y)) [
+  | inl less ↦ less
+  | inr more ↦ elim (cases_eq (key_of y) (key_of x)) [
+    | inl e ↦
+        let first : nat_cmp x.0 y.0 ≡ Equal = sym (nat_cmp_is x.0 y.0 Equal (omega arith)) in
+        let second : nat_cmp x.1 y.1 ≡ Equal = sym (nat_cmp_is x.1 y.1 Equal (omega arith)) in
+        let tie : pair_cmp x y ≡ Equal = (λ i. ordering_then (first i) (second i)) in
+        absurd (cc)
+    | inr other ↦ absurd (not_both pair_total x y h (less_from_key y x fits small (omega (arith, other))))
+  ]
+]
+
+-- what rises below a place and from it on
+module _ (below above : List (ℕ × ℕ)) (c : ℕ) where
+  pub halves_has : (z : ℕ × ℕ) → Contains (below ++ above) z ↔ (Contains below z ⊎ Contains above z)
+  halves_has z = (
+    Contains-append_cases below above z,
+    λ s. elim s [ inl a ↦ Contains-append_left below above z a | inr b ↦ Contains-append_right below above z b ],
+  )
+
+pub halves_rise : (below above : List (ℕ × ℕ)) (c : ℕ) → IsStrictlySortedBy pair_cmp below → IsStrictlySortedBy pair_cmp above
+    → Fit below → Fit above
+    → IsUnder below c → IsOver above c → IsStrictlySortedBy pair_cmp (below ++ above)
+halves_rise [] above c rise_below rise_above fit_below fit_above under over = rise_above
+halves_rise (x ∷ xs) above c rise_below rise_above fit_below fit_above under over =
+    rising_cons pair_total x (xs ++ above) (λ y d. elim (Contains-append_cases xs above y d) [
+      | inl a ↦ rising_first pair_total x xs rise_below y a
+      | inr b ↦
+          let low = under x (here x xs) in
+          let high = over y b in
+          less_from_key x y (fit_below x (here x xs)) (fit_above y b) (omega arith)
+    ])
+    (halves_rise xs above c (sorted_tail pair_cmp x xs rise_below) rise_above (λ z d. fit_below z (there x xs z d)) fit_above
+    (λ z d. under z (there x xs z d)) over)
+
+-- the halves of one list at one place are the same
+module _ (list below above below' above' : List (ℕ × ℕ)) (c : ℕ) (is : list ≡ below ++ above) (is' : list ≡ below' ++ above')
+    (under : IsUnder below c) (over : IsOver above c) (under' : IsUnder below' c) (over' : IsOver above' c) where
+  lower : (z : ℕ × ℕ) → Contains below z → Contains below' z
+  lower z d = elim (Contains-append_cases below' above' z (subst (λ l. Contains l z) (sym is ∙ is') (Contains-append_left below above z d))) [
+    | inl a ↦ a
+    | inr b ↦ let low = under z d in let high = over' z b in absurd (omega arith)
+  ]
+
+  upper : (z : ℕ × ℕ) → Contains above z → Contains above' z
+  upper z d = elim (Contains-append_cases below' above' z (subst (λ l. Contains l z) (sym is ∙ is') (Contains-append_right below above z d))) [
+    | inl a ↦ let low = under' z a in let high = over z d in absurd (omega arith)
+    | inr b ↦ b
+  ]
+
+module _ (list below above below' above' : List (ℕ × ℕ)) (c : ℕ) (is : list ≡ below ++ above) (is' : list ≡ below' ++ above')
+    (under : IsUnder below c) (over : IsOver above c) (under' : IsUnder below' c) (over' : IsOver above' c) where
+  pub same_below : IsStrictlySortedBy pair_cmp below → IsStrictlySortedBy pair_cmp below' → below ≡ below'
+  same_below rise rise' = rising_unique pair_total below below' rise rise'
+      (λ z. (lower list below above below' above' c is is' under over under' over' z, lower list below' above' below above c is' is under' over' under over z))
+
+  pub same_above : IsStrictlySortedBy pair_cmp above → IsStrictlySortedBy pair_cmp above' → above ≡ above'
+  same_above rise rise' = rising_unique pair_total above above' rise rise'
+      (λ z. (upper list below above below' above' c is is' under over under' over' z, upper list below' above' below above c is' is under' over' under over z))
+
+-- keys rise with the pairs
+pub rising_keys : (list : List (ℕ × ℕ)) → IsStrictlySortedBy pair_cmp list → Fit list → IsNonDecreasingBy key_of list
+rising_keys list rise fit i j d low high = elim (cases_lt i j) [
+  | inl less ↦
+      let first = Contains-get_or list i d (omega arith) in
+      let second = Contains-get_or list j d high in
+      let key = key_from_less (get_or list i d) (get_or list j d) (fit _ first) (fit _ second) (rising_before pair_total list rise i j d less high) in
+      omega arith
+  | inr more ↦ let e : i ≡ j = omega arith in let same = ap (λ n. key_of (get_or list n d)) e in omega arith
+]
+
+pub partitioned_keys : (list : List (ℕ × ℕ)) (c : ℕ) → IsStrictlySortedBy pair_cmp list → Fit list → IsPartitionedBy (λ z. ltb (key_of z) c) list
+partitioned_keys list c rise fit = IsPartitionedBy-ltb key_of list c (rising_keys list rise fit)
+
+-- a list in two where a search found the place
+pub parted_is : (list : List (ℕ × ℕ)) (c i : ℕ) → i ≤ length list
+    → IsPartitionPoint (λ z. ltb (key_of z) c ≡ true) (λ z. ltb (key_of z) c ≡ false) list i → IsParted list c (take i list) (drop i list)
+parted_is list c i within point = record {
+  joined = sym (take-append-drop i list);
+  under = λ z d.
+      let low = length-take i list in
+      let l = d.1 in
+      let test = point.0 d.0 z (omega arith) (omega arith) in
+      (Decides-ltb (key_of z) c).0 (subst (λ w. ltb (key_of w) c ≡ true) (sym (get_or-take i list d.0 z (omega arith)) ∙ d.2) test);
+  over = λ z d.
+      let high = length-drop i list in
+      let l = d.1 in
+      let test = point.1 (i + d.0) z (omega arith) (omega arith) in
+      let other = not_from_Decides _ (Decides-ltb (key_of z) c) (subst (λ w. ltb (key_of w) c ≡ false) (sym (get_or-drop i list d.0 z) ∙ d.2) test) in
+      elim (cases_lt (key_of z) c) [ inl h ↦ absurd (other h) | inr h ↦ h ];
+}
+
+-- both parts of what rises rise
+pub rising_right : (xs ys : List (ℕ × ℕ)) → IsStrictlySortedBy pair_cmp (xs ++ ys) → IsStrictlySortedBy pair_cmp ys
+rising_right [] ys rise = rise
+rising_right (x ∷ xs) ys rise = rising_right xs ys (sorted_tail pair_cmp x (xs ++ ys) rise)
+
+pub rising_left : (xs ys : List (ℕ × ℕ)) → IsStrictlySortedBy pair_cmp (xs ++ ys) → IsStrictlySortedBy pair_cmp xs
+rising_left [] ys rise = rising_none pair_cmp
+rising_left (x ∷ xs) ys rise =
+    rising_cons pair_total x xs (λ y d. rising_first pair_total x (xs ++ ys) rise y (Contains-append_left xs ys y d))
+    (rising_left xs ys (sorted_tail pair_cmp x (xs ++ ys) rise))
+
+-- the parts of a list as such lists
+module _ (list below above : List (ℕ × ℕ)) (c : ℕ) (parted : IsParted list c below above) where
+  pub parts_rise : IsStrictlySortedBy pair_cmp list → IsStrictlySortedBy pair_cmp below × IsStrictlySortedBy pair_cmp above
+  parts_rise rise =
+      let both = subst (IsStrictlySortedBy pair_cmp) parted.joined rise in
+      (rising_left below above both, rising_right below above both)
+
+  pub parts_fit : Fit list → Fit below × Fit above
+  parts_fit fit =
+      let both = subst Fit parted.joined fit in
+      (λ z d. both z (Contains-append_left below above z d), λ z d. both z (Contains-append_right below above z d))
+
+  pub parts_has : (z : ℕ × ℕ) → Contains list z ↔ (Contains below z ⊎ Contains above z)
+  parts_has z = subst (λ l. Contains l z ↔ (Contains below z ⊎ Contains above z)) (sym parted.joined) (halves_has below above c z)
+
+  -- neither part is all of it if there are pairs on both sides
+  pub parts_shorter : IsCut list c → (length below < length list) × (length above < length list)
+  parts_shorter cut =
+      let low = cut.below.2 in
+      let high = cut.above.2 in
+      let size = ap length parted.joined in
+      let both = length-append below above in
+      let first : 0 < length below = elim ((parts_has cut.below.0).0 cut.below.1) [
+        | inl d ↦ let k = d.1 in omega arith
+        | inr d ↦ let over = parted.over cut.below.0 d in absurd (omega arith)
+      ] in
+      let second : 0 < length above = elim ((parts_has cut.above.0).0 cut.above.1) [
+        | inl d ↦ let under = parted.under cut.above.0 d in absurd (omega arith)
+        | inr d ↦ let k = d.1 in omega arith
+      ] in
+      (omega arith, omega arith)

@@ -1,0 +1,20 @@
+-- How `Known` keeps unions: each at a place of its own.
+use Rattle.std.specs.Prelude.{◌≡◌, ℕ, ◌^◌, ◌<◌}
+use Rattle.lists.specs.declared.known.Union.{Union}
+
+-- the numbers of both lists, and that of their union
+abbrev pub union_of : Union → (ℕ × ℕ) × ℕ
+union_of u = ((u.first, u.second), u.union)
+
+-- the union of the empty list with itself
+abbrev pub IsNone : (ℕ × ℕ) × ℕ → Type 0
+IsNone z = z ≡ ((0, 0), 0)
+
+-- there are places, and not too many for a tag to tell them apart
+pub record HasPlaces (count : ℕ) : Type 0 where
+  pub some : 0 < count
+  pub few : count < 2 ^ 32
+
+-- what stands where no union was noted
+abbrev pub none : Union
+none = record { first = 0; second = 0; union = 0 }

@@ -1,0 +1,89 @@
+-- How `Nodes` keeps its lists: each as a range of one buffer, or as the numbers of its two halves, which are earlier lists.
+use Rattle.std.specs.Prelude.{◌≡◌, ℕ, zero, suc, ◌+◌, ◌<◌, ◌≤◌, List, [], ◌∷◌, ◌++◌, length}
+use Rattle.std.specs.List.{All, slice_range, slice_index_or}
+use Rattle.std.specs.List.Sorted.{IsStrictlySortedBy}
+use Rattle.lists.specs.Lists.{pair_cmp, list_at}
+use Rattle.lists.specs.Cuts.{Fit, IsCut, IsUnder, IsOver}
+use Rattle.lists.specs.declared.lists.TheConstants.{MOST_LISTS}
+use Rattle.lists.specs.declared.nodes.TheConstants.{FEW}
+use Rattle.lists.specs.declared.nodes.Halves.{Halves}
+use Rattle.lists.specs.declared.nodes.Node.{Node}
+use Rattle.lists.specs.declared.nodes.Node.TheVariants.{Whole, Halved}
+use Rattle.lists.specs.declared.nodes.Shape.{Shape}
+use Rattle.lists.specs.declared.nodes.Shape.TheVariants.{Whole as Pairs, Halved as Cut}
+
+-- two lists are the halves of a long one, which is cut here
+pub record AreHalves (below above : List (ℕ × ℕ)) (cut : ℕ) : Type 0 where
+  pub long : FEW < length below + length above
+  pub at_cut : IsCut (below ++ above) cut
+  pub under : IsUnder below cut
+  pub over : IsOver above cut
+
+-- the list number k has these halves, which are earlier lists
+pub record IsHalved (lists : List (List (ℕ × ℕ))) (k : ℕ) (h : Halves) : Type 0 where
+  pub below : h.below < k
+  pub above : h.above < k
+  pub list : list_at lists k ≡ list_at lists h.below ++ list_at lists h.above
+  pub halves : AreHalves (list_at lists h.below) (list_at lists h.above) h.cut
+
+-- the node number k
+abbrev pub node_at : List Node → ℕ → Node
+node_at nodes k = slice_index_or nodes k (Whole 0 0)
+
+-- the list of a node, from the lists before it
+abbrev pub list_of : List (ℕ × ℕ) → List (List (ℕ × ℕ)) → Node → List (ℕ × ℕ)
+list_of pairs lists (Whole start count) = slice_range pairs start (start + count)
+list_of pairs lists (Halved h) = list_at lists h.below ++ list_at lists h.above
+
+-- the first n lists, each from those before it
+unfoldable pub lists_to : List (ℕ × ℕ) → List Node → ℕ → List (List (ℕ × ℕ))
+lists_to pairs nodes zero = []
+lists_to pairs nodes (suc n) = lists_to pairs nodes n ++ list_of pairs (lists_to pairs nodes n) (node_at nodes n) ∷ []
+
+-- all lists
+abbrev pub lists_of : List (ℕ × ℕ) → List Node → List (List (ℕ × ℕ))
+lists_of pairs nodes = lists_to pairs nodes (length nodes)
+
+-- lists in strictly rising order of pairs that fit, the first of which is empty, and not too many for their numbers
+pub record AreStored (lists : List (List (ℕ × ℕ))) : Type 0 where
+  pub rise : All (IsStrictlySortedBy pair_cmp) lists
+  pub fit : (k : ℕ) → Fit (list_at lists k)
+  pub halved : (k : ℕ) → k < length lists → FEW < length (list_at lists k) → (h : Halves) × IsHalved lists k h
+  pub some : 1 ≤ length lists
+  pub few : length lists ≤ MOST_LISTS
+  pub first : list_at lists 0 ≡ []
+
+-- each node is a range of few pairs, or has halves
+pub record AreNodes (pairs : List (ℕ × ℕ)) (nodes : List Node) : Type 0 where
+  pub stored : AreStored (lists_of pairs nodes)
+  pub empty : node_at nodes 0 ≡ Whole 0 0
+  pub whole : (k start count : ℕ) → k < length nodes → node_at nodes k ≡ Whole start count → (start + count ≤ length pairs) × (count ≤ FEW)
+  pub halved : (k : ℕ) (h : Halves) → k < length nodes → node_at nodes k ≡ Halved h → IsHalved (lists_of pairs nodes) k h
+
+-- the list number k is kept so
+abbrev pub IsShape : List (List (ℕ × ℕ)) → ℕ → Shape → Type 0
+IsShape lists k (Pairs list) = (list.now ≡ list_at lists k) × (length list.now ≤ FEW)
+IsShape lists k (Cut h) = IsHalved lists k h
+
+-- the list that has a shape
+abbrev pub list_of_shape : List (List (ℕ × ℕ)) → Shape → List (ℕ × ℕ)
+list_of_shape lists (Pairs list) = list.now
+list_of_shape lists (Cut h) = list_at lists h.below ++ list_at lists h.above
+
+-- a list that is kept as it is
+pub record IsFew (list : List (ℕ × ℕ)) : Type 0 where
+  pub some : 0 < length list
+  pub few : length list ≤ FEW
+  pub rising : IsStrictlySortedBy pair_cmp list
+  pub fit : Fit list
+
+-- the halves are two of the lists
+pub record AreIn (lists : List (List (ℕ × ℕ))) (h : Halves) : Type 0 where
+  pub below : h.below < length lists
+  pub above : h.above < length lists
+  pub halves : AreHalves (list_at lists h.below) (list_at lists h.above) h.cut
+
+-- a list of this shape can be put after these lists
+abbrev pub Suits : List (List (ℕ × ℕ)) → Shape → Type 0
+Suits lists (Pairs list) = IsFew list.now
+Suits lists (Cut h) = AreIn lists h

@@ -1,0 +1,31 @@
+//! Where a list is cut into two halves.
+ghost use Rattle.std.specs.Prelude.{◌≡◌, ℕ, ◌*◌, ◌+◌, ◌^◌, ◌<◌};
+ghost use Rattle.lists.specs.Cuts.{key_of, Fit, IsPlace};
+
+/// The pair as one number, in the order of pairs.
+#[inline(always)]
+pub(crate) fn key(pair: (u32, u32)) -> u64
+    ensures { result ≡ key_of pair }
+{
+    u64::from(pair.0) * 0x1_0000_0000 + u64::from(pair.1)
+}
+
+/// Does nothing when it runs: its contract says what the type says of all pairs.
+#[inline(always)]
+pub(crate) fn fit(pairs: &[(u32, u32)])
+    ensures { Fit pairs.now }
+{
+    for (_, second) in pairs {
+        let _number = *second;
+    }
+}
+
+/// The number above `low`, up to `high`, that the highest power of two divides.
+#[inline(always)]
+pub(crate) fn cut(low: u64, high: u64) -> u64
+    requires { low < high }
+    ensures { (bit : ℕ) × IsPlace bit low high result }
+{
+    let bit = 63 - (low ^ high).leading_zeros();
+    (high >> bit) << bit
+}
