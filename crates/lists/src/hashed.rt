@@ -103,7 +103,6 @@ pub(crate) fn put(
     tag: u32,
 ) -> Result<u32, Memory>
     requires hashed { IsHashed nodes.old heads.old.items entries.old.items }
-    requires few { length nodes.old < MOST_LISTS }
     requires suits { Suits nodes.old shape }
     requires tag { tag ≡ tag_of shape }
     requires absent { IsNewList nodes.old (list_of_shape nodes.old shape) }
