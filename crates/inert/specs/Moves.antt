@@ -5,7 +5,7 @@ use Rattle.std.specs.List.Sorted.{IsStrictlySortedBy}
 use Rattle.lts.specs.Lts.{Grouped, Triple, IsRow}
 use Rattle.lists.specs.Lists.{list_at, pair_cmp, Grow}
 use Rattle.inert.specs.Search.{Search, nothing, stage_at, top, root_at, Gives, AreSigned, Walks, Stage, Unseen, Open, Finished, Root, Item, Pair, Listed}
-use Rattle.inert.specs.Ahead.{unseen, unread, rest, KeepsSeen, HasStages}
+use Rattle.inert.specs.Ahead.{unread, rest, KeepsSeen, HasStages}
 use Rattle.inert.specs.declared.step.Step.{Step}
 use Rattle.inert.specs.declared.step.Step.TheVariants.{Inert, Shows}
 
@@ -63,13 +63,11 @@ IsIn lists k (Listed j) = j ≡ k
 pub record AreCollected (items : List Item) (numbers : List ℕ) (pairs : List (ℕ × ℕ)) : Type 0 where
   pub named : (k : ℕ) → Contains numbers k ↔ Contains items (Listed k)
   pub own : (a b : ℕ) → Contains pairs (a, b) ↔ Contains items (Pair a b)
-  pub few : length numbers ≤ length items
 
 -- among the lists after, an old one or a new one, is that of what these items give
 pub record IsListed (items : List Item) (before after : List (List (ℕ × ℕ))) (k : ℕ) : Type 0 where
   pub within : k < length after
   pub grow : Grow before after
-  pub few : length after ≤ length before + length items + 2
   pub exactly : (z : ℕ × ℕ) → Contains (list_at after k) z ↔ IsGiven before items z
   pub rising : IsStrictlySortedBy pair_cmp (list_at after k)
 
@@ -108,15 +106,6 @@ pub record Ends (s : ℕ) (before after : List (List (ℕ × ℕ))) (old new : S
 abbrev pub ahead : Grouped → Search → ℕ
 ahead l w = unread l.places w.stages + rest w.frames
 
--- how many lists a walk makes at most of what it has seen: one for each item, and for each frame that is to come back with
--- one, and two for each state that is not finished
-abbrev pub weight : Search → ℕ
-weight w = 2 * (unseen w.stages + length w.stack) + length w.items + (length w.frames - 1)
-
--- there is room for these, and for one for each transition that is still to be read
-abbrev pub FitsLists : Grouped → ℕ → Search → Type 0
-FitsLists l lists w = weight w + ahead l w + lists ≤ 2 * l.states + length l.places + 1
-
 -- how many steps a walk makes at most
 abbrev pub steps : Grouped → Search → ℕ
 steps l w = 2 * ahead l w + length w.frames
@@ -125,16 +114,14 @@ steps l w = 2 * ahead l w + length w.frames
 abbrev pub HasRead : Search → Type 0
 HasRead w = (top w.frames).next ≡ (top w.frames).end
 
--- a walk is under way: what holds between its steps, with room for its lists and a row to read
+-- a walk is under way: what holds between its steps, with a row to read
 pub record IsUnderWay (l : Grouped) (blocks : List ℕ) (alone : List Bool) (lists : List (List (ℕ × ℕ))) (w : Search) : Type 0 where
   pub walks : Walks l blocks alone lists w
-  pub fits : FitsLists l (length lists) w
   pub some : 0 < length w.frames
 
 -- a walk goes on
 pub record GoesOn (l : Grouped) (blocks : List ℕ) (alone : List Bool) (lists : List (List (ℕ × ℕ))) (old new : Search) : Type 0 where
   pub walks : Walks l blocks alone lists new
-  pub fits : FitsLists l (length lists) new
   pub seen : KeepsSeen old.stages new.stages
 
 -- fewer steps are ahead after a state was entered, and else no more, where the row is read
@@ -148,4 +135,3 @@ pub record Rests (l : Grouped) (blocks : List ℕ) (alone : List Bool) (lists : 
   pub numbers : HasStages l.states (length lists) 0 w.stages
   pub shut : (s p : ℕ) → ¬ (stage_at w.stages s ≡ Open p)
   pub signed : AreSigned l blocks alone lists w.stages
-  pub fits : FitsLists l (length lists) w

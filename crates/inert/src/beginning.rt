@@ -1,7 +1,6 @@
 //! The beginning of a walk: the row of its first state is read without a frame.
 ghost use Rattle.std.specs.Prelude.{◌≡◌, ◌+◌, ◌<◌, ◌≤◌, length, OnOk};
 ghost use Rattle.lts.specs.Meter.{HasRoomFor, Costs};
-ghost use Rattle.lists.specs.declared.lists.TheConstants.{MOST_LISTS};
 ghost use Rattle.inert.specs.Steps.{Sees};
 ghost use Rattle.inert.specs.Search.{stage_at, AreThere};
 ghost use Rattle.inert.specs.Moves.{Ends, ahead, GoesOn, Rests};
@@ -62,7 +61,6 @@ impl Walk {
     fn end(&mut self, s: u32, lists: &mut Lists) -> Result<(), Memory>
         requires state { s < length self.old.stages }
         requires there { AreThere lists.old self.old.items }
-        requires few { length lists.old + length self.old.items + 2 ≤ MOST_LISTS }
         ensures { OnOk result (Ends s lists.old lists.new self.old self.new) }
     {
         let list = list_from(&self.items, lists, &mut self.numbers, &mut self.pairs)?;

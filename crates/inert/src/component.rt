@@ -1,7 +1,6 @@
 //! The list of a component: the pairs that it has collected, and those of the lists that it leads to.
 ghost use Rattle.std.specs.Prelude.{◌↔◌, ℕ, ◌+◌, ◌<◌, ◌≤◌, length, IfOk, IfSome, IsTrue, OnOk};
 ghost use Rattle.std.specs.List.{All, Contains};
-ghost use Rattle.lists.specs.declared.lists.TheConstants.{MOST_LISTS};
 ghost use Rattle.inert.specs.Search.{AreThere};
 ghost use Rattle.inert.specs.Moves.{IsListed, AreCollected, IsIn};
 ghost use Rattle.inert.specs.Search.{Listed};
@@ -19,8 +18,7 @@ pub(crate) fn list_from(
     numbers: &mut Vec<u32>,
     pairs: &mut Vec<(u32, u32)>,
 ) -> Result<u32, Memory>
-    requires there { AreThere lists.old items.now }
-    requires few { length lists.old + length items.now + 2 ≤ MOST_LISTS }
+    requires { AreThere lists.old items.now }
     ensures { IfOk result (IsListed items.now lists.old lists.new) }
 {
     if let Some(list) = lone(items, lists) {
@@ -103,8 +101,7 @@ fn collect(
 
 /// Puts the numbers in rising order, each once.
 fn order_numbers(numbers: &mut Vec<u32>)
-    ensures same { (k : ℕ) → Contains numbers.new.items k ↔ Contains numbers.old.items k }
-    ensures few { length numbers.new.items ≤ length numbers.old.items }
+    ensures { (k : ℕ) → Contains numbers.new.items k ↔ Contains numbers.old.items k }
 {
     numbers.sort_unstable();
     numbers.dedup();

@@ -2,7 +2,6 @@
 ghost use Rattle.std.specs.Prelude.{◌≡◌, ℕ, ◌+◌, ◌-◌, ◌<◌, ◌≤◌, length, IfOk, OnOk};
 ghost use Rattle.std.specs.List.{All};
 ghost use Rattle.lts.specs.Meter.{HasRoomFor, Costs};
-ghost use Rattle.lists.specs.declared.lists.TheConstants.{MOST_LISTS};
 ghost use Rattle.inert.specs.Steps.{Sees};
 ghost use Rattle.inert.specs.Search.{stage_at, AreOpen, AreThere, Laws};
 ghost use Rattle.inert.specs.Moves.{Closes, Finishes, ahead, HasRead, IsUnderWay, GoesOn, Rests, ComesNearer};
@@ -122,7 +121,6 @@ impl Walk {
         requires height { root.height ≤ length self.old.stack }
         requires items { root.items ≤ length self.old.items }
         requires there { AreThere lists.old self.old.items }
-        requires few { length lists.old + (length self.old.items - root.items) + 2 ≤ MOST_LISTS }
         ensures { OnOk result (Closes root lists.old lists.new self.old self.new) }
     {
         let list = list_from(

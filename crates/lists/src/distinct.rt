@@ -8,7 +8,7 @@ ghost use Rattle.lists.specs.Hashed.{AreDifferent};
 
 use crate::cut::key;
 use crate::hashed::{Entry, MOST_BUCKETS, find, first_entry, put, tag, widen};
-use crate::lists::{EMPTY, MOST_LISTS};
+use crate::lists::EMPTY;
 use crate::nodes::{Nodes, Shape};
 use crate::ordered::has;
 use growth::Memory;
@@ -91,12 +91,10 @@ impl Distinct {
         ensures list { IfOk result (λ k. list_at self.new k ≡ list_of_shape self.old shape.entry) }
         ensures grow { Grow self.old self.new }
     {
+        self.nodes.known();
         let tag = tag(shape);
         if let Some(number) = find(&self.nodes, &self.heads, &self.entries, shape, tag) {
             return Ok(number);
-        }
-        if self.nodes.len() as usize >= MOST_LISTS {
-            return Err(Memory);
         }
         widen(&mut self.heads, &mut self.entries)?;
         let number = put(

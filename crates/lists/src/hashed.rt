@@ -1,6 +1,7 @@
 //! The table that `distinct` finds its lists in (hash-consing): each list has an entry, and those of one bucket are chained.
 ghost use Rattle.std.specs.Prelude.{◌≡◌, ℕ, ◌/◌, ◌*◌, ◌^◌, ◌++◌, ◌∷◌, ◌<◌, ◌≤◌, List, [], length, slice_index, IfOk, OnOk, OnErr, IsTrue, ◌↔◌, MatchOption};
 ghost use Rattle.lists.specs.Lists.{list_at};
+ghost use Rattle.lists.specs.Spans.{fingerprint_of, mixed};
 ghost use Rattle.lists.specs.Nodes.{list_of_shape, Suits};
 ghost use Rattle.lists.specs.Hashed.{tag_of, bucket_of_tag, entry_at, entry_bucket, entry_before, IsChained, AreDifferent, IsHashed, IsNewList, IsNumberOf};
 ghost use Rattle.lists.specs.declared.lists.TheConstants.{MOST_LISTS};
@@ -35,6 +36,17 @@ pub(crate) fn bucket(tag: u32, buckets: usize) -> usize
     ensures below { result < buckets }
 {
     (u64::from(tag) * buckets as u64 / 0x1_0000_0000) as usize
+}
+
+/// The bucket that a list which is kept as it is is looked up in, if there are so many buckets: a test tells by it how evenly
+/// lists are spread.
+pub fn list_bucket(list: &[(u32, u32)], buckets: usize) -> usize
+    requires some { 0 < buckets }
+    requires few { buckets < 2 ^ 32 }
+    ensures value { result ≡ bucket_of_tag buckets (mixed (fingerprint_of list.now)) }
+    ensures below { result < buckets }
+{
+    bucket(mix(fingerprint(list)), buckets)
 }
 
 /// The tag of a list of this shape: of its pairs, or of the numbers of its halves.
@@ -103,7 +115,6 @@ pub(crate) fn put(
     tag: u32,
 ) -> Result<u32, Memory>
     requires hashed { IsHashed nodes.old heads.old.items entries.old.items }
-    requires few { length nodes.old < MOST_LISTS }
     requires suits { Suits nodes.old shape }
     requires tag { tag ≡ tag_of shape }
     requires absent { IsNewList nodes.old (list_of_shape nodes.old shape) }

@@ -24,6 +24,7 @@ mod parts;
 mod span;
 mod unions;
 
+pub use hashed::list_bucket;
 pub use lists::{EMPTY, Lists, MOST_LISTS};
 pub use ordered::order;
 pub use parts::Parts;

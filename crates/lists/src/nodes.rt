@@ -1,10 +1,12 @@
 //! Lists of pairs, each kept as it is, or as the numbers of its two halves: the lowest layer.
 ghost use Rattle.std.specs.Prelude.{◌≡◌, ◌++◌, ◌∷◌, ◌+◌, ◌<◌, ◌≤◌, [], length, IfOk, OnOk, OnErr};
 ghost use Rattle.std.specs.List.{slice_range};
+ghost use Rattle.std.specs.Vec.{vec_len, vec_capacity};
 ghost use Rattle.lists.specs.Lists.{list_at};
 ghost use Rattle.lists.specs.Nodes.{IsFew, AreIn, list_of_shape, Suits, IsShape, AreStored, lists_of, AreNodes};
 ghost use Rattle.lists.specs.declared.lists.TheConstants.{MOST_LISTS};
 
+use crate::lists::MOST_LISTS;
 use growth::Memory;
 use std::alloc::Global;
 use std::marker::Model;
@@ -100,8 +102,7 @@ impl Nodes {
     ///
     /// Fails if there is no memory for it. The lists are then as they were.
     pub fn push(&mut self, shape: Shape<'_>) -> Result<u32, Memory>
-        requires few { length self.old < MOST_LISTS }
-        requires suits { Suits self.old shape }
+        requires { Suits self.old shape }
         ensures pushed { OnOk result (self.new ≡ self.old ++ list_of_shape self.old shape.entry ∷ []) }
         ensures number { IfOk result (λ k. k ≡ length self.old) }
         ensures err { OnErr result (self.new ≡ self.old) }
@@ -130,14 +131,13 @@ fn put_whole(
     list: &[(u32, u32)],
 ) -> Result<u32, Memory>
     requires nodes { AreNodes pairs.old.items nodes.old.items }
-    requires few { length nodes.old.items < MOST_LISTS }
     requires list { IsFew list.now }
     ensures nodes { AreNodes pairs.new.items nodes.new.items }
     ensures put { OnOk result (lists_of pairs.new.items nodes.new.items ≡ lists_of pairs.old.items nodes.old.items ++ list.now ∷ []) }
     ensures number { IfOk result (λ k. k ≡ length nodes.old.items) }
     ensures err { OnErr result (lists_of pairs.new.items nodes.new.items ≡ lists_of pairs.old.items nodes.old.items) }
 {
-    nodes.reserve(1)?;
+    make_room(nodes)?;
     let number = nodes.len() as u32;
     let start = pairs.len();
     pairs.extend_from_slice(list)?;
@@ -153,7 +153,6 @@ fn put_whole(
 /// Fails if there is no memory for it. The lists are then as they were.
 fn put_halved(pairs: &Vec<(u32, u32)>, nodes: &mut Vec<Node>, halves: Halves) -> Result<u32, Memory>
     requires nodes { AreNodes pairs.now.items nodes.old.items }
-    requires few { length nodes.old.items < MOST_LISTS }
     requires halves { AreIn (lists_of pairs.now.items nodes.old.items) halves }
     ensures nodes { AreNodes pairs.now.items nodes.new.items }
     ensures put { let lists = lists_of pairs.now.items nodes.old.items in
@@ -161,9 +160,27 @@ fn put_halved(pairs: &Vec<(u32, u32)>, nodes: &mut Vec<Node>, halves: Halves) ->
     ensures number { IfOk result (λ k. k ≡ length nodes.old.items) }
     ensures err { OnErr result (lists_of pairs.now.items nodes.new.items ≡ lists_of pairs.now.items nodes.old.items) }
 {
+    make_room(nodes)?;
     let number = nodes.len() as u32;
-    nodes.push(Node::Halved(halves))?;
+    nodes.push_reserved(Node::Halved(halves));
     Ok(number)
+}
+
+/// Makes room for one list more. Once each number has its list, what is asked for is more than any memory has.
+///
+/// Fails if there is no memory for it. The lists are then as they were.
+fn make_room(nodes: &mut Vec<Node>) -> Result<(), Memory>
+    ensures same { nodes.new.items ≡ nodes.old.items }
+    ensures number { OnOk result (length nodes.new.items < MOST_LISTS) }
+    ensures room { OnOk result (vec_len nodes.new < vec_capacity nodes.new) }
+{
+    let more = if nodes.len() < MOST_LISTS {
+        1
+    } else {
+        usize::MAX
+    };
+    nodes.reserve(more)?;
+    Ok(())
 }
 
 /// So many pairs from the start on.

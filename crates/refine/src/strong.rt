@@ -1,11 +1,10 @@
 //! Strong bisimulation: a state's signature has what its transitions show, and the blocks that they lead to.
-ghost use Rattle.std.specs.Prelude.{◌≡◌, ◌↔◌, ℕ, ◌+◌, ◌++◌, ◌∷◌, ◌<◌, ◌≤◌, [], length, map, slice_index, IsTrue, IfOk, OnOk};
+ghost use Rattle.std.specs.Prelude.{◌≡◌, ◌↔◌, ℕ, ◌+◌, ◌++◌, ◌∷◌, ◌<◌, [], length, map, slice_index, IsTrue, IfOk, OnOk};
 ghost use Rattle.std.specs.Vec.{vec_len, vec_capacity};
 ghost use Rattle.theory.specs.declared.relation.Relation.TheVariants.{Strong as strong};
 ghost use Rattle.lts.specs.Meter.{HasRoomFor, Visits};
 ghost use Rattle.lts.specs.Lts.{row_of};
 ghost use Rattle.lists.specs.Lists.{list_at, AreNumbers, Grow};
-ghost use Rattle.lists.specs.declared.lists.TheConstants.{MOST_LISTS};
 ghost use Rattle.partition.specs.Blocks.{AreLive, HaveNone};
 ghost use Rattle.inert.specs.Signed.{IsSignature, HaveRows, pair_under};
 ghost use Rattle.refine.specs.EachList.{list_of};
@@ -114,12 +113,10 @@ fn put<M: Meter>(
 ) -> Result<u32, Memory>
     requires states { length p.now ≡ l.now.states }
     requires state { s < l.now.states }
-    requires few { length lists.old < MOST_LISTS }
     requires room { HasRoomFor (M.counted m.old) 0 (length (row_of s l.now.places)) }
     ensures within { IfOk result (λ k. k < length lists.new) }
     ensures put { IfOk result (λ k. IsPut strong l.now p.now low (IsTrue alone) s (list_at lists.new k)) }
     ensures grow { Grow lists.old lists.new }
-    ensures few { length lists.new ≤ length lists.old + 1 }
     ensures visits { let n = length (row_of s l.now.places) in Visits M.counted m.old m.new result n n }
 {
     lts::rows_are_steps();

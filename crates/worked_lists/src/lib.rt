@@ -3,4 +3,6 @@
 #![tactic(auto)]
 
 #[cfg(test)]
+mod spread;
+#[cfg(test)]
 mod tests;

@@ -4,15 +4,14 @@ ghost use Rattle.std.specs.List.Sorted.{IsStrictlySortedBy};
 ghost use Rattle.lists.specs.Lists.{pair_cmp};
 
 use growth::Memory;
-use lists::{EMPTY, Lists, MOST_LISTS, order};
+use lists::{EMPTY, Lists, list_bucket, order};
 use std::alloc::Global;
 use std::test::Fail;
 use worked::check;
 
 type Pairs = &'static [(u32, u32)];
 
-/// What two lists have, whether they are one list, and the pairs of both. Lists of equal tags have sums of hashes with the same
-/// upper half, by which the table looks for them.
+/// What two lists have, whether they are one list, and the pairs of both. Lists of equal tags are looked for in the same place.
 type Row = (&'static str, Pairs, Pairs, bool, Pairs);
 
 const ROWS: [Row; 8] = [
@@ -48,19 +47,34 @@ const ROWS: [Row; 8] = [
     ),
     (
         "equal tags, one pair",
-        &[(51, 317)],
-        &[(160, 433)],
+        &[(42, 423)],
+        &[(132, 397)],
         false,
-        &[(51, 317), (160, 433)],
+        &[(42, 423), (132, 397)],
     ),
     (
         "equal tags, two pairs",
-        &[(1, 8), (2, 15)],
-        &[(1, 174), (2, 430)],
+        &[(1, 52), (2, 145)],
+        &[(1, 115), (2, 109)],
         false,
-        &[(1, 8), (1, 174), (2, 15), (2, 430)],
+        &[(1, 52), (1, 115), (2, 109), (2, 145)],
     ),
 ];
+
+/// Whether the two lists have equal tags: of so many buckets each tag but the first has its own.
+fn have_one_tag(first: Pairs, second: Pairs) -> bool {
+    let buckets = u32::MAX as usize;
+    list_bucket(first, buckets) == list_bucket(second, buckets)
+}
+
+#[test]
+fn rows_of_equal_tags_have_them() -> Result<(), Fail> {
+    check("one pair", have_one_tag(&[(42, 423)], &[(132, 397)]))?;
+    check(
+        "two pairs",
+        have_one_tag(&[(1, 52), (2, 145)], &[(1, 115), (2, 109)]),
+    )
+}
 
 /// These pairs in rising order, each once.
 fn ordered(alloc: Global, pairs: &[(u32, u32)]) -> Result<Vec<(u32, u32)>, Memory>
@@ -74,9 +88,6 @@ fn ordered(alloc: Global, pairs: &[(u32, u32)]) -> Result<Vec<(u32, u32)>, Memor
 /// The number of the list of these pairs.
 fn number_of(alloc: Global, lists: &mut Lists, pairs: &[(u32, u32)]) -> Result<u32, Fail> {
     let list = ordered(alloc, pairs)?;
-    if lists.len() as usize >= MOST_LISTS {
-        return Err(Fail::new("too many lists"));
-    }
     Ok(lists.push(&list)?)
 }
 
@@ -90,8 +101,8 @@ fn union_of(
 ) -> Result<u32, Fail> {
     let own = ordered(alloc, pairs)?;
     let count = lists.len();
-    if count as usize + 4 > MOST_LISTS || j >= count || k >= count {
-        return Err(Fail::new("too many lists, or too few"));
+    if j >= count || k >= count {
+        return Err(Fail::new("too few lists"));
     }
     Ok(lists.join(&[j, k], &own)?)
 }
@@ -151,11 +162,11 @@ fn equal_lists_have_one_number(rt: HostRuntime) -> Result<(), Fail> {
     check_rows(rt.alloc(), &mut lists)
 }
 
-/// Fails if a list that gets a pair more again and again, so that additions are merged, lacks one of them.
+/// Fails if a list that gets a pair more again and again, until it is kept as halves of halves, lacks one of them.
 fn check_growth(alloc: Global, lists: &mut Lists) -> Result<(), Fail> {
     let mut whole = Vec::new(alloc);
     let mut last = EMPTY;
-    for number in 0..20u32 {
+    for number in 0..200u32 {
         whole.push((number, 0))?;
         last = union_of(alloc, lists, EMPTY, last, &[(number, 0)])?;
         check_list(alloc, "as many as were added", lists, last, &whole)?;

@@ -8,10 +8,10 @@ use Rattle.lts.specs.Lts.{Grouped, row_of}
 use Rattle.lists.specs.Lists.{list_at}
 use Rattle.inert.specs.Signed.{IsKnownAlone, IsListOf}
 use Rattle.inert.specs.Search.{Search, nothing, stage_at, no_root, IsIdle, IsSigned, Walks, Unseen, Open, Finished, HasItsList, Stage}
-use Rattle.inert.specs.Moves.{skipped, FitsLists, Rests}
+use Rattle.inert.specs.Moves.{skipped, Rests}
 use Rattle.inert.specs.Ahead.{is_unseen, unseen, unread, HasSeen}
 use Rattle.inert.proofs.parts.Stages.{seen_more}
-use Rattle.inert.proofs.parts.Counting.{unseen-set, unread-set, unread-all}
+use Rattle.inert.proofs.parts.Counting.{unseen-set, unread-set}
 use Rattle.inert.proofs.invariant.Standing.{frames_some, root_low}
 
 -- nothing was seen yet
@@ -24,7 +24,6 @@ idle_rests l blocks alone lists {w = w} idle size one =
       numbers = record { size = size; some = omega (arith, one); numbers = omega (arith, few, size) };
       shut = λ s p is. cc (is, idle.none s);
       signed = λ s k is. absurd (cc (is, idle.none s));
-      fits = subst (FitsLists l (length lists)) (sym idle.empty) (omega (arith, few, unread-all l.places w.stages idle.none, size, one));
     }
 
 seen_finished : (m : Stage) → ((p : ℕ) → ¬ (m ≡ Open p)) → ¬ (m ≡ Unseen) → (k : ℕ) × (m ≡ Finished k)
@@ -78,7 +77,6 @@ module _ {l : Grouped} {blocks : List ℕ} {alone : List Bool} {lists : List (Li
                 })
             | inr d ↦ rests.signed t k (sym (get_or-set_other w.stages s t (Finished 0) Unseen d) ∙ is)
           ];
-          fits = omega (arith, rests.fits, fewer, row_unread);
         }
 
   -- a state that was seen is finished
@@ -104,8 +102,8 @@ module _ {l : Grouped} {blocks : List ℕ} {alone : List Bool} {lists : List (Li
 
 -- a walk rests when no row is being read
 pub walk_rests : {l : Grouped} {blocks : List ℕ} {alone : List Bool} {lists : List (List (ℕ × ℕ))} {w : Search} → Walks l blocks alone lists w → length w.frames ≡ 0
-    → FitsLists l (length lists) w → Rests l blocks alone lists w
-walk_rests {w = w} walks none fits =
+    → Rests l blocks alone lists w
+walk_rests {w = w} walks none =
     let stack : length w.stack ≡ 0 = grind (arith, frames_some walks, none) in
     let roots : length w.roots ≡ 0 = grind (arith, root_low walks 0 no_root, stack) in
     let of_some : 0 < length w.items → 0 < length w.stack = λ h. let sound = walks.sound 0 h in omega (arith, sound.1) in
@@ -121,5 +119,4 @@ walk_rests {w = w} walks none fits =
       numbers = let few = walks.numbers.numbers in record { size = walks.numbers.size; some = walks.numbers.some; numbers = omega (arith, few) };
       shut = λ s p is. let was = walks.opened.only s p is in omega (arith, was.0, stack);
       signed = walks.signed;
-      fits = fits;
     }

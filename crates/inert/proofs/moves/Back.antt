@@ -3,13 +3,13 @@ use Rattle.std.proofs.Common.{◌≡◌, ◌≢◌, ◌⊎◌, ℕ, ◌+◌, ◌
 use Rattle.std.specs.List.{All}
 use Rattle.std.proofs.lemmas.Bool.{cases_eq, cases_lt}
 use Rattle.std.proofs.lemmas.Grind.{common_steps, elements}
-use Rattle.std.proofs.lemmas.List.{get_or_default, get_or-take, length-take-le, length-append, get_or_append_left, get_or_push, length_push, append-nil, length-drop}
+use Rattle.std.proofs.lemmas.List.{get_or_default, get_or-take, length-take-le, length-append, get_or_append_left, get_or_push, length_push, append-nil}
 use Rattle.std.proofs.lemmas.List.Elements.{All-take, All-nil, All-cons, All-append}
 use Rattle.theory.specs.declared.relation.Relation.TheVariants.{Branching}
 use Rattle.lts.specs.Lts.{Grouped, source_of, place_at, IsLts}
 use Rattle.lists.specs.Lists.{list_at}
 use Rattle.inert.specs.Search.{Search, stage_at, frame_at, no_frame, here, last, no_root, IsFrame, IsAhead, IsEntered, IsFollowed, Walks, Laws, root_at, item_at, Ties, IsOf, IsBefore, IsRoot, IsThere, Gives, HoldsPair, AreOpen, IsSigned, IsSound, AreSound, Stage, Item, Pair, Listed}
-use Rattle.inert.specs.Moves.{popped, HasRead, Finishes, weight, Closes, ahead, FitsLists, GoesOn}
+use Rattle.inert.specs.Moves.{popped, HasRead, Finishes, Closes, ahead, GoesOn}
 use Rattle.inert.specs.Signed.{HasPair}
 use Rattle.inert.specs.Ahead.{is_unseen, rest, KeepsSeen}
 use Rattle.inert.proofs.parts.Rising.{AllPairs-take, All-from_take}
@@ -243,12 +243,6 @@ module _ (laws : Laws) {l : Grouped} {blocks : List ℕ} {alone : List Bool} {li
             ((exact q (omega arith) low_q).sound z (subst (λ x. Gives lists x z) (item_new more).1 g))),
       ))
 
-  -- it is lighter by two, and by the items of the component
-  lighter : weight Closed + (length w.items - c0) + 2 ≤ weight w
-  lighter =
-      let same = unseen-same w.stages new_stages same_unseen stages.size in
-      grind (arith, same, size, few, popped_size walks, low_q, item_new, no_item, led)
-
   Walks-closed : Walks l blocks alone lists Closed
   Walks-closed = record {
     numbers = record {
@@ -301,8 +295,8 @@ module _ (laws : Laws) {l : Grouped} {blocks : List ℕ} {alone : List Bool} {li
         (λ (i, li, is, ahead). inl (popped_ahead_still walks p k i (not_last walks i li (omega (arith, is, low, height))) is ahead)) (entered_still p);
   }
 
--- the walk goes on from there: what is ahead is the same, and there is room for its lists
-module _ {l : Grouped} {blocks : List ℕ} {alone : List Bool} {lists : List (List (ℕ × ℕ))} {w : Search} (walks : Walks l blocks alone lists w) (fits : FitsLists l (length lists) w)
+-- the walk goes on from there: what is ahead is the same
+module _ {l : Grouped} {blocks : List ℕ} {alone : List Bool} {lists : List (List (ℕ × ℕ))} {w : Search} (walks : Walks l blocks alone lists w)
     (some : 0 < length w.frames) (read : HasRead w) where
   popped_rest : rest (popped w).frames ≡ rest w.frames
   popped_rest = rest-cut w.frames some read
@@ -314,7 +308,6 @@ module _ {l : Grouped} {blocks : List ℕ} {alone : List Bool} {lists : List (Li
   pub popped_on : (last w.roots).height ≢ here w → GoesOn l blocks alone lists w (popped w)
   popped_on apart = record {
     walks = Walks-pop walks some read apart;
-    fits = omega (arith, fits, popped_size walks, popped_ahead);
     seen = λ s h. h;
   }
 
@@ -336,9 +329,6 @@ module _ {l : Grouped} {blocks : List ℕ} {alone : List Bool} {lists : List (Li
         subst Returns (λ i. record { stages = new.stages; stack = sym closes.stack i; frames = sym closes.frames i; roots = sym closes.roots i; items = sym items i }) (
           record {
             walks = Walks-closed laws walks' some height closes.stages signed led;
-            fits =
-                let less = lighter laws walks' some height closes.stages signed led in
-                omega (arith, fits, less, closes.listed.few, length-drop (last w.roots).items w.items, same);
             seen = λ s is. closed_seen laws walks' some height closes.stages signed led s is;
           },
           same,

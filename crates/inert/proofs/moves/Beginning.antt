@@ -6,12 +6,12 @@ use Rattle.std.proofs.lemmas.List.{get_or-set_same, get_or-set_other, length-set
 use Rattle.lts.specs.Lts.{Grouped, place_at, IsLts, IsRow}
 use Rattle.inert.specs.Steps.{IsStep}
 use Rattle.inert.specs.Search.{Search, Laws, nothing, stage_at, frame_at, no_frame, Stage, Unseen, Open, Finished, Frame, Item, Pair, Listed}
-use Rattle.inert.specs.Moves.{with_stage, with_item, entered, LeadsOn, TakesStep, Finishes, Ends, FitsLists, ahead, popped, Closes, IsUnderWay, GoesOn, Rests}
+use Rattle.inert.specs.Moves.{with_stage, with_item, entered, LeadsOn, TakesStep, Finishes, Ends, ahead, popped, Closes, IsUnderWay, GoesOn, Rests}
 use Rattle.inert.specs.Ahead.{unread}
 use Rattle.inert.specs.declared.step.Step.{Step}
 use Rattle.inert.specs.declared.step.Step.TheVariants.{Inert as Goes, Shows}
 use Rattle.inert.proofs.parts.Stages.{seen_more}
-use Rattle.inert.proofs.parts.Counting.{unseen-set, unread-set}
+use Rattle.inert.proofs.parts.Counting.{unread-set}
 use Rattle.inert.proofs.invariant.Resting.{idle_walks, within}
 use Rattle.inert.proofs.moves.Forward.{Walks-enter}
 use Rattle.inert.proofs.moves.Reading.{reads_none, read_more}
@@ -38,13 +38,11 @@ pub begins : {l : Grouped} {blocks : List ℕ} {alone : List Bool} {lists : List
 begins {l = l} {blocks = blocks} {alone = alone} {lists = lists} {w = w} {s = s} {start = start} {end = end} laws rests inside none row =
     let low = within rests inside none in
     let rows = unread-set w.stages s (Open 0) refl low none l.places in
-    let fits : FitsLists l (length lists) (nothing w.stages) = subst (FitsLists l (length lists)) rests.empty rests.fits in
     let none_collected : [] ≡ w.items = ap (λ x. x.items) (sym rests.empty) in (
       rests.empty ∙ ap (collecting w.stages) none_collected,
       subst (λ items. Begins l blocks alone lists w s start start (framed s start end w.stages items)) none_collected (record {
         on = record {
           walks = Walks-enter (idle_walks rests) laws low none row (λ some. absurd (omega (arith, some)));
-          fits = omega (arith, unseen-set w.stages s (Open 0) refl low none, rows, row.count, fits);
           seen = seen_more w.stages s (Open 0) (λ e. cc) low;
         };
         found = λ is. cc (is, get_or-set_same w.stages s (Open 0) Unseen low);
@@ -58,7 +56,7 @@ module _ (laws : Laws) {l : Grouped} (lts : IsLts l) {blocks : List ℕ} {alone 
   Framed = framed s k end old.stages w.items
 
   way : IsUnderWay l blocks alone lists Framed
-  way = record { walks = begun.on.walks; fits = begun.on.fits; some = omega arith }
+  way = record { walks = begun.on.walks; some = omega arith }
 
   -- a transition more is read
   module _ (more : k < end) where
@@ -74,7 +72,7 @@ module _ (laws : Laws) {l : Grouped} (lts : IsLts l) {blocks : List ℕ} {alone 
         let x : Frame = record (frame_at m.frames 0) { next = k + 1 } in
         let one = read_more (reads_none way) (record { size = refl; stack = refl }) way.some laws lts more (slice_index blocks s) refl step is_step m enters takes 0 refl x refl in
         record {
-          on = record { walks = one.on.walks; fits = one.on.fits; seen = λ t h. begun.on.seen t (one.on.seen t h) };
+          on = record { walks = one.on.walks; seen = λ t h. begun.on.seen t (one.on.seen t h) };
           found = λ is. begun.found (one.on.seen s is);
           less = omega (arith, one.less, begun.less);
         }
@@ -133,10 +131,10 @@ module _ (laws : Laws) {l : Grouped} (lts : IsLts l) {blocks : List ℕ} {alone 
     pub begun_ends : Begins l blocks alone lists' old s start k new
     begun_ends =
         let most = (begun.on.walks.frames.each 0 no_frame (omega arith)).most in
-        let (on, left) = closed begun.on.walks begun.on.fits (omega arith) (omega (arith, most, over)) laws lts refl closes in
+        let (on, left) = closed begun.on.walks (omega arith) (omega (arith, most, over)) laws lts refl closes in
         let is : new ≡ Ended = ends.is ∙ ap (λ x. with_stage s (Finished ends.number) (record x { items = [] })) same in
         subst (Begins l blocks alone lists' old s start k) (sym is) (record {
-          on = record { walks = on.walks; fits = on.fits; seen = λ t h. begun.on.seen t (on.seen t h) };
+          on = record { walks = on.walks; seen = λ t h. begun.on.seen t (on.seen t h) };
           found = λ none. begun.found (on.seen s none);
           less = omega (arith, left, begun.less);
         })

@@ -11,12 +11,12 @@ use Rattle.lts.specs.Lts.{Grouped, Triple, source_of, label_of, target_of, place
 use Rattle.inert.specs.Signed.{HasPair, pair_under}
 use Rattle.inert.specs.Steps.{IsInert, IsStep}
 use Rattle.inert.specs.Search.{Search, Laws, stage_at, frame_at, no_frame, top, here, IsFrame, Accounted, Walks, Unseen, Open, Finished, Frame, Root, Item, Pair, Listed}
-use Rattle.inert.specs.Moves.{entered, with_item, TakesStep, CutsRoots, ahead, weight, HasRead, IsUnderWay, GoesOn}
+use Rattle.inert.specs.Moves.{entered, with_item, TakesStep, CutsRoots, ahead, HasRead, IsUnderWay, GoesOn}
 use Rattle.inert.specs.Ahead.{KeepsSeen}
 use Rattle.inert.specs.declared.step.Step.{Step as TakenStep}
 use Rattle.inert.specs.declared.step.Step.TheVariants.{Inert as Goes, Shows}
 use Rattle.inert.proofs.parts.Stages.{seen_more}
-use Rattle.inert.proofs.parts.Counting.{unseen-set, unread-set, rest-push, rest-next}
+use Rattle.inert.proofs.parts.Counting.{unread-set, rest-push, rest-next}
 use Rattle.inert.proofs.invariant.Standing.{pair_before}
 use Rattle.inert.proofs.signatures.Exact.{place_step}
 use Rattle.inert.proofs.moves.Forward.{Walks-collect, collected_holds, Walks-join, joined_here, Walks-enter, entered_met, Walks-next}
@@ -60,19 +60,17 @@ module _ (laws : Laws) {l : Grouped} (lts : IsLts l) {blocks : List ℕ} {alone 
     pub done : Accounted l blocks lists m (here w) e
     pub seen : KeepsSeen w.stages m.stages
     pub same_ahead : ahead l m ≡ ahead l w
-    pub heavier : weight m ≤ weight w + 1
     pub same_frame : frame_at m.frames (length w.frames - 1) ≡ top w.frames
     pub still : ¬ IsTrue enters → (m.frames ≡ w.frames) × (m.stack ≡ w.stack)
     pub longer : IsTrue enters → length m.frames ≡ length w.frames + 1
 
   stayed : (roots : List Root) (items : List Item) (enters : Bool) → let m : Search = record w { roots = roots; items = items } in
-      Walks l blocks alone lists m → Accounted l blocks lists m (here w) e → length items ≤ length w.items + 1 → ¬ IsTrue enters → Taken m enters
-  stayed roots items enters after done most stay = record {
+      Walks l blocks alone lists m → Accounted l blocks lists m (here w) e → ¬ IsTrue enters → Taken m enters
+  stayed roots items enters after done stay = record {
     after = after;
     done = done;
     seen = λ s h. h;
     same_ahead = refl;
-    heavier = omega (arith, most);
     same_frame = refl;
     still = λ _. (refl, refl);
     longer = λ went. absurd (stay went);
@@ -85,7 +83,6 @@ module _ (laws : Laws) {l : Grouped} (lts : IsLts l) {blocks : List ℕ} {alone 
       (Walks-collect walks (Pair a b) some (λ j e'. absurd (cc))
       (λ z g. subst (λ (x : ℕ × ℕ). HasPair Branching l blocks (slice_index w.stack (here w)) x.0 x.1) (sym is ∙ g) (own_pair other)))
       (record { shown = λ _. collected_holds walks (Pair a b) (pair_under blocks e) is; followed = λ inert. absurd (other inert) })
-      (omega (arith, length_push w.items (Pair a b)))
 
   module _ (inert : IsInert l blocks (slice_index blocks (source_of e)) e) where
     taken_finished : (number : ℕ) (enters : Bool) → stage_at w.stages (target_of e) ≡ Finished number → ¬ IsTrue enters → Taken (with_item (Listed number) w) enters
@@ -100,7 +97,6 @@ module _ (laws : Laws) {l : Grouped} (lts : IsLts l) {blocks : List ℕ} {alone 
           shown = λ other. absurd (other inert);
           followed = λ _. inr (inl (number, stage, λ z c. collected_holds walks (Listed number) z c));
         })
-        (omega (arith, length_push w.items (Listed number)))
 
     taken_joined : (q : ℕ) (roots : List Root) (enters : Bool) → stage_at w.stages (target_of e) ≡ Open q → CutsRoots q w.roots roots → ¬ IsTrue enters
         → Taken (record w { roots = roots }) enters
@@ -109,7 +105,6 @@ module _ (laws : Laws) {l : Grouped} (lts : IsLts l) {blocks : List ℕ} {alone 
         stayed roots w.items enters
         (Walks-join walks laws cuts was.0 (subst (Inert (system_of l) (slice_index blocks) (slice_index w.stack (here w))) (sym was.1) (inert_step inert)))
         (record { shown = λ other. absurd (other inert); followed = λ _. inl (joined_here walks laws cuts (target_of e) stage) })
-        (omega arith)
 
     taken_entered : (start end : ℕ) (enters : Bool) → IsRow l.places (target_of e) start end → stage_at w.stages (target_of e) ≡ Unseen → IsTrue enters
         → Taken (entered (target_of e) start end (length w.items) w) enters
@@ -122,7 +117,6 @@ module _ (laws : Laws) {l : Grouped} (lts : IsLts l) {blocks : List ℕ} {alone 
           done = record { shown = λ other. absurd (other inert); followed = λ _. inr (inr (entered_met walks laws within unseen row some)) };
           seen = seen_more w.stages (target_of e) (Open (length w.stack)) (λ e. cc) within;
           same_ahead = omega (arith, unread-set w.stages (target_of e) (Open (length w.stack)) refl within unseen l.places, rest-push w.frames x, row.count);
-          heavier = omega (arith, unseen-set w.stages (target_of e) (Open (length w.stack)) refl within unseen, length_push w.stack (target_of e), frames);
           same_frame = get_or_append_left w.frames (x ∷ []) _ (length w.frames - 1) (omega (arith, some));
           still = λ stay. absurd (stay went);
           longer = λ _. frames;
@@ -155,7 +149,7 @@ pub record Stays (old new : Search) : Type 0 where
 
 pub reads_none : {l : Grouped} {blocks : List ℕ} {alone : List Bool} {lists : List (List (ℕ × ℕ))} {w : Search} → IsUnderWay l blocks alone lists w
     → Reads l blocks alone lists w w (top w.frames).next
-reads_none way = record { on = record { walks = way.walks; fits = way.fits; seen = λ s h. h }; here = refl; forward = omega arith; less = refl }
+reads_none way = record { on = record { walks = way.walks; seen = λ s h. h }; here = refl; forward = omega arith; less = refl }
 
 module _ {l : Grouped} {blocks : List ℕ} {alone : List Bool} {lists : List (List (ℕ × ℕ))} {first w : Search} {k : ℕ} (reads : Reads l blocks alone lists first w k)
     (stays : Stays first w) (some : 0 < length first.frames) where
@@ -221,7 +215,6 @@ module _ {l : Grouped} {blocks : List ℕ} {alone : List Bool} {lists : List (Li
           read_more = record {
             on = record {
               walks = Walks-next took.after still_there is next left done;
-              fits = omega (arith, reads.on.fits, moved_ahead, took.heavier, length-set m.frames i x);
               seen = λ s h. reads.on.seen s (took.seen s h);
             };
             here =

@@ -1,6 +1,6 @@
 -- The list of what items give: that of the lists that they name, and of the pairs that they are.
 use Rattle.std.proofs.Common.{true, false, ◌≡◌, ◌⊎◌, ◌↔◌, ℕ, Bool, ◌+◌, ◌<◌, ◌≤◌, List, [], ◌∷◌, ◌++◌, length, slice_index, Contains, nat_eq, refl, sym, ◌∙◌, ap, subst, inl, inr, arith}
-use Rattle.std.specs.List.{dedup, items_where_true}
+use Rattle.std.specs.List.{dedup}
 use Rattle.std.specs.List.Retain.{IsFiltered, DiffersFromLast}
 use Rattle.std.specs.List.Sorted.{IsPermutation}
 use Rattle.std.proofs.lemmas.Bool.{eqb-true}
@@ -9,7 +9,7 @@ use Rattle.std.proofs.lemmas.List.{get_or_default, length_push}
 use Rattle.std.proofs.lemmas.List.Elements.{All-contains, All-from_get_or, Contains-append_left, Contains-get_or, Contains-push, Contains-push_cases}
 use Rattle.std.proofs.lemmas.List.Filters.{dedup_is}
 use Rattle.std.proofs.lemmas.List.Kept.{Contains-dedup, Contains-from_dedup}
-use Rattle.std.proofs.lemmas.List.Sorted.{Contains-permutation, IsPermutation-sym, length_permutation}
+use Rattle.std.proofs.lemmas.List.Sorted.{Contains-permutation, IsPermutation-sym}
 use Rattle.lists.specs.Lists.{list_at, AreLists, AreNumbers, Grow, HasOne}
 use Rattle.inert.specs.Search.{IsThere, AreThere, Gives, Item, Pair, Listed}
 use Rattle.inert.specs.Moves.{IsGiven, AreCollected, IsListed}
@@ -19,7 +19,6 @@ pub taken_none : AreCollected [] [] []
 taken_none = record {
   named = λ k. (λ c. absurd (omega (arith, c.1)), λ c. absurd (omega (arith, c.1)));
   own = λ a b. (λ c. absurd (omega (arith, c.1)), λ c. absurd (omega (arith, c.1)));
-  few = omega arith;
 }
 
 -- an element more at the end of two lists, which have the same of what they had
@@ -42,7 +41,6 @@ module _ (items : List Item) (numbers : List ℕ) (pairs : List (ℕ × ℕ)) (t
       more pairs items (taken.own x y).0 (λ e. ap (λ z. Pair z.0 z.1) e),
       more items pairs (taken.own x y).1 (λ e. let (left, right) : (a ≡ x) × (b ≡ y) = (cc, cc) in λ i. (left i, right i)),
     );
-    few = omega (arith, taken.few, length_push items (Pair a b));
   }
 
   pub taken_list : (j : ℕ) → AreCollected (items ++ Listed j ∷ []) (numbers ++ j ∷ []) pairs
@@ -52,7 +50,6 @@ module _ (items : List Item) (numbers : List ℕ) (pairs : List (ℕ × ℕ)) (t
       λ c. Contains-append_left items (Listed j ∷ []) (Pair x y) ((taken.own x y).0 c),
       λ c. (taken.own x y).1 (fewer items (λ e. cc) c),
     );
-    few = omega (arith, taken.few, length_push items (Listed j), length_push numbers j);
   }
 
 -- numbers that are sorted and freed of repeats
@@ -63,25 +60,13 @@ numbers_have xs ys zs same filtered k =
       λ c. subst (λ l. Contains l k) (sym freed) (Contains-dedup nat_eq_equiv eqb-true ys k (Contains-permutation xs ys k same c)),
     )
 
-picked_few : (bs : List Bool) (xs : List ℕ) → length (items_where_true bs xs) ≤ length xs
-picked_few [] xs = omega arith
-picked_few (b ∷ bs) [] = omega arith
-picked_few (true ∷ bs) (x ∷ xs) = let rest = picked_few bs xs in omega (arith, rest)
-picked_few (false ∷ bs) (x ∷ xs) = let rest = picked_few bs xs in omega (arith, rest)
-
-pub numbers_few : (xs ys zs : List ℕ) → IsPermutation xs ys → IsFiltered (DiffersFromLast nat_eq) [] ys zs → length zs ≤ length xs
-numbers_few xs ys zs same filtered =
-    let (bs, q, size, returns, is) = filtered in
-    omega (arith, picked_few bs ys, length_permutation xs ys same, ap length is)
-
 -- numbers and pairs in another order
 pub taken_ordered : (items : List Item) (ns numbers : List ℕ) (ps pairs : List (ℕ × ℕ)) → AreCollected items ns ps
-    → ((k : ℕ) → Contains numbers k ↔ Contains ns k) → length numbers ≤ length ns → ((z : ℕ × ℕ) → Contains pairs z ↔ Contains ps z)
+    → ((k : ℕ) → Contains numbers k ↔ Contains ns k) → ((z : ℕ × ℕ) → Contains pairs z ↔ Contains ps z)
     → AreCollected items numbers pairs
-taken_ordered items ns numbers ps pairs taken named fewer own = record {
+taken_ordered items ns numbers ps pairs taken named own = record {
   named = λ k. (λ c. (taken.named k).0 ((named k).0 c), λ c. (named k).1 ((taken.named k).1 c));
   own = λ a b. (λ c. (taken.own a b).0 ((own (a, b)).0 c), λ c. (own (a, b)).1 ((taken.own a b).1 c));
-  few = omega (arith, taken.few, fewer);
 }
 
 module _ (items : List Item) (lists : List (List (ℕ × ℕ))) (numbers : List ℕ) (pairs : List (ℕ × ℕ)) (taken : AreCollected items numbers pairs) where
@@ -104,12 +89,11 @@ module _ (items : List Item) (lists : List (List (ℕ × ℕ))) (numbers : List 
   given z (inl c) = (Pair z.0 z.1, (taken.own z.0 z.1).0 c, refl)
   given z (inr (i, li, c)) = (Listed (slice_index numbers i), listed_at i li, c)
 
-  pub listed : (lists' : List (List (ℕ × ℕ))) (k : ℕ) → AreLists lists' → k < length lists' → Grow lists lists' → length lists' ≤ length lists + length numbers + 2
+  pub listed : (lists' : List (List (ℕ × ℕ))) (k : ℕ) → AreLists lists' → k < length lists' → Grow lists lists'
       → ((z : ℕ × ℕ) → Contains (list_at lists' k) z ↔ (Contains pairs z ⊎ HasOne lists numbers z)) → IsListed items lists lists' k
-  listed lists' k are within grow few exactly = record {
+  listed lists' k are within grow exactly = record {
     within = within;
     grow = grow;
-    few = omega (arith, taken.few, few);
     exactly = λ z. (
       λ c. given z ((exactly z).0 c),
       λ (x, c, g). (exactly z).1 (gives z x c g),

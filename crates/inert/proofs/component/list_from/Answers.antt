@@ -8,13 +8,13 @@ taken : (c : goal.After-deref-2) → AreCollected c.args.items.now c.deref.resul
 taken c =
     rw (c.deref.ensures.value, c.deref-2.ensures.value)
     (taken_ordered c.args.items.now c.collect.new.numbers.items c.order_numbers.new.numbers.items c.collect.new.pairs.items c.order.new.pairs.items
-    c.in_ok-collect.ensures c.order_numbers.ensures.same c.order_numbers.ensures.few c.order.ensures.same)
+    c.in_ok-collect.ensures c.order_numbers.ensures c.order.ensures.same)
 
 pub join-requires-clause-lists : goal.join-requires-clause-lists
-join-requires-clause-lists c = numbers_there c.args.items.now c.args.lists.now c.deref.result.now c.deref-2.result.now (taken c) c.requires.there
+join-requires-clause-lists c = numbers_there c.args.items.now c.args.lists.now c.deref.result.now c.deref-2.result.now (taken c) c.requires
 
 pub returns : goal.returns
 returns c =
     let join = c.in_ok-list.ensures in
     listed c.args.items.now c.args.lists.now c.deref.result.now c.deref-2.result.now (taken (goal.at.returns c).After-deref-2) c.join.new.self c.in_ok-list.list
-    c.known.ensures join.within join.grow join.few join.exactly
+    c.known.ensures join.within join.grow join.exactly

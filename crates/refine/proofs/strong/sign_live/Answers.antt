@@ -17,7 +17,6 @@ loop-i-init g c = record {
   within = omega arith;
   put = λ j h. absurd (omega (arith, h));
   none = c.requires.numbers.1;
-  lists = omega (arith, ap length c.requires.lists);
   some = omega (arith, ap length c.requires.lists);
   visits = record {
     rounds = omega arith;
@@ -107,7 +106,6 @@ loop-i-preserved g c =
         | inl e ↦ inl (i, more, sym e)
         | inr d ↦ elim (inv.none t (omega (arith, h, length-set c.loop-i.numbers s k))) [ inl one ↦ inl one | inr zero ↦ inr (get_or-set_other c.loop-i.numbers s t k 0 d ∙ zero) ]
       ];
-      lists = omega (arith, c.put.ensures.few, inv.lists);
       some = omega (arith, inv.some, grow.longer);
       visits = record {
         rounds = omega (arith, inv.visits.rounds, visits.rounds);

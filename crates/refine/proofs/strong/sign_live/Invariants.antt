@@ -1,4 +1,4 @@
-use Rattle.std.proofs.Common.{ℕ, ◌+◌, ◌<◌, ◌≤◌, IsTrue, false, length, slice_index, slice_index_or}
+use Rattle.std.proofs.Common.{ℕ, ◌<◌, ◌≤◌, IsTrue, false, length, slice_index, slice_index_or}
 use Rattle.theory.specs.declared.relation.Relation.TheVariants.{Strong}
 use Rattle.lts.specs.Meter.{Costs}
 use Rattle.lts.specs.Lts.{before}
@@ -17,7 +17,6 @@ invariant-loop-i g l = record {
       × IsPut Strong l.l l.p l.low (IsTrue (slice_index_or l.alone (slice_index l.p (slice_index l.live j)) false)) (slice_index l.live j)
       (list_at l.lists (slice_index l.numbers (slice_index l.live j)));
   none : HaveNone l.live l.numbers;
-  lists : length l.lists ≤ l.i + 1;
   some : 1 ≤ length l.lists;
   visits : Costs (g.M.Meter.counted l.fn.m) (g.M.Meter.counted l.m) 0 (before next l.l.places) (before next l.l.places);
 }

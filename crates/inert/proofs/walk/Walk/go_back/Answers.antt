@@ -50,15 +50,8 @@ module _ (g : Over) (c : After-index-root g) where
         (closes : Closes c.index-root.result.now c.args.lists.now lists' (left 1) new) where
       closing : GoesOn c.args.l.now c.args.blocks.now c.args.alone.now lists' W new × (ahead c.args.l.now new ≡ ahead c.args.l.now W)
       closing =
-          closed c.requires.way.walks c.requires.way.fits c.requires.way.some c.requires.read c.laws.ensures c.known.ensures
+          closed c.requires.way.walks c.requires.way.some c.requires.read c.laws.ensures c.known.ensures
           (ap (λ r. r.height) (sym root) ∙ same ∙ ap (λ x. x.height) frame) (subst₂ (λ r w. Closes r c.args.lists.now lists' w new) root (sym left) closes)
-
-pub close-requires-clause-few : goal.close-requires-clause-few
-close-requires-clause-few g c =
-    let d = (goal.at.close-requires-clause-few g c).After-index-root in
-    let room = c.requires.way.fits in
-    let range = c.known.ensures.in_range in
-    omega (arith, room, stack_some c.requires.way.walks c.requires.way.some, range.few_states, range.few_transitions, few g d, ap (λ w. length w.items) c.self.view_is)
 
 pub close-requires-clause-items : goal.close-requires-clause-items
 close-requires-clause-items g c = omega (arith, few g (goal.at.close-requires-clause-items g c).After-index-root, ap (λ w. length w.items) c.self.view_is)
@@ -69,7 +62,7 @@ returns-else-root-frame-clause-on g c =
     let apart : (last c.args.self.now.roots).height ≢ here c.args.self.now =
     λ e. c.if-root-frame.false (ap (λ r. r.height) (root g d) ∙ e ∙ ap (λ x. x.height) (sym (frame g d))) in
     subst (GoesOn c.args.l.now c.args.blocks.now c.args.alone.now c.args.lists.now c.args.self.now) (left g d c.pop.ensures.rest)
-    (popped_on c.requires.way.walks c.requires.way.fits c.requires.way.some c.requires.read apart)
+    (popped_on c.requires.way.walks c.requires.way.some c.requires.read apart)
 
 pub returns-in_ok-close-clause-on : goal.returns-in_ok-close-clause-on
 returns-in_ok-close-clause-on g c =

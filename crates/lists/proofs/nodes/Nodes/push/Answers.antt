@@ -1,17 +1,7 @@
-use Rattle.std.proofs.Common.{◌∙◌, length, ap, sym, arith}
+use Rattle.std.proofs.Common.{◌∙◌, length, ap, sym}
 use Rattle.std.proofs.lemmas.Result.{IfOk-weaker}
 use Rattle.lists.proofs.Storing.{length-lists}
 use Rattle.lists.proofs.nodes.Nodes.push.Goals as goal
-
-pub put_whole-requires-clause-few : goal.put_whole-requires-clause-few
-put_whole-requires-clause-few c =
-    let few = c.requires.few in
-    omega (arith, length-lists c.self.inside.pairs.items c.self.inside.nodes.items, ap length c.self.view_is)
-
-pub put_halved-requires-clause-few : goal.put_halved-requires-clause-few
-put_halved-requires-clause-few c =
-    let few = c.requires.few in
-    omega (arith, length-lists c.self.inside.pairs.items c.self.inside.nodes.items, ap length c.self.view_is)
 
 pub returns-in-Whole-clause-number : goal.returns-in-Whole-clause-number
 returns-in-Whole-clause-number c =

@@ -1,0 +1,54 @@
+//! How evenly lists are spread over the buckets that they are looked up in.
+ghost use Rattle.std.specs.Prelude.{◌≡◌, ◌<◌, ◌^◌, length};
+
+use lists::list_bucket;
+use std::test::Fail;
+use worked::check;
+
+/// The first labels, any two of which are tried.
+const LABELS: u32 = 40;
+
+/// How many lists there are, and how many buckets.
+const LISTS: u32 = 1 << 16;
+
+/// How many lists are passed in all, if each of the lists `{(first, x), (second, x)}` is looked up in turn, and then put in its
+/// bucket. `counts` is for how many lists each bucket has.
+fn passed(counts: &mut [u32], first: u32, second: u32) -> u64
+    requires some { 0 < length counts.old }
+    requires few { length counts.old < 2 ^ 32 }
+    ensures { length counts.new ≡ length counts.old }
+{
+    counts.fill(0);
+    let mut passed: u64 = 0;
+    for x in 0..LISTS {
+        let bucket = list_bucket(&[(first, x), (second, x)], counts.len());
+        passed = passed.saturating_add(u64::from(counts[bucket]));
+        counts[bucket] = counts[bucket].saturating_add(1);
+    }
+    passed
+}
+
+/// Fails if for a label before the one of this number a look-up passes more than one list on the mean; half a one is chance.
+fn check_label(counts: &mut [u32], second: u32) -> Result<(), Fail>
+    requires some { 0 < length counts.old }
+    requires few { length counts.old < 2 ^ 32 }
+    ensures { length counts.new ≡ length counts.old }
+{
+    for first in 0..second {
+        check(
+            "lists of two labels",
+            passed(counts, first, second) <= u64::from(LISTS),
+        )?;
+    }
+    Ok(())
+}
+
+#[test]
+fn lists_of_two_labels_are_spread(rt: HostRuntime) -> Result<(), Fail> {
+    let mut counts = Vec::new(rt.alloc());
+    counts.resize(LISTS as usize, 0u32)?;
+    for second in 0..LABELS {
+        check_label(&mut counts, second)?;
+    }
+    Ok(())
+}
