@@ -22,8 +22,8 @@ EndsWords output (fault.Help text) status =
 EndsWords output fault status = (status ≡ word_status fault) × (output.new ≡ output.old)
 
 -- the words ask for a job, which came to its end; or they give none, and no file and no input was used
-pub data AnswersWords {F In Out : Type 0} (IsJob : Job → Type 0) (IsFault : WordFault → Type 0)
-    (files : FilesUsed F) (input : StreamUsed In) (output : StreamUsed Out) (status : ℕ) : Type 0 where
+pub data AnswersWords {F File In Out : Type 0} (IsJob : Job → Type 0) (IsFault : WordFault → Type 0)
+    (files : FilesUsed F File) (input : StreamUsed In) (output : StreamUsed Out) (status : ℕ) : Type 0 where
   job : (job : Job) → IsJob job → EndsIn files input output job status → AnswersWords IsJob IsFault files input output status
   no_job : (fault : WordFault) → IsFault fault → files.new ≡ files.old → input.new ≡ input.old → EndsWords output fault status →
       AnswersWords IsJob IsFault files input output status
