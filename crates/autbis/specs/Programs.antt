@@ -1,5 +1,5 @@
 -- The whole program: the exit status that its words end in, and what is done by then.
-use Rattle.std.specs.Prelude.{◌≡◌, ◌≢◌, ◌⊎◌, ℕ, string_bytes}
+use Rattle.std.specs.Prelude.{◌≡◌, ◌≢◌, ◌⊎◌, ℕ, string_bytes, ⊤}
 use Rattle.std.specs.Io.KnownBytes.{Appends}
 use Rattle.std.specs.IoError.{error_kind}
 use Rattle.std.specs.declared.io.Error.{Error}
@@ -28,6 +28,8 @@ pub data AnswersWords {F File In Out : Type 0} (IsJob : Job → Type 0) (IsFault
   no_job : (fault : WordFault) → IsFault fault → files.new ≡ files.old → input.new ≡ input.old → EndsWords output fault status →
       AnswersWords IsJob IsFault files input output status
 
--- the fault of words that cannot be had: a usage fault only if memory was not refused
+-- the fault of words that cannot be had: want of memory; or a usage fault, only if memory was not refused
 abbrev pub IsUnread : Error → WordFault → Type 0
-IsUnread error fault = (word_status fault ≡ 4) ⊎ ((word_status fault ≡ 3) × (error_kind error ≢ OutOfMemory))
+IsUnread error fault.Memory = ⊤
+IsUnread error (fault.Usage text) = error_kind error ≢ OutOfMemory
+IsUnread error _ = ⊥
