@@ -64,8 +64,8 @@ faulty_told bounds law given told rest fault took first =
 -- what a text is minimised to is its answer
 pub minimised : {asked : Request} {text : List ℕ} {status : ℕ} (to : MinimisedText asked text) → status ≡ 0 →
     (A Q : System) × Reads asked.bounds text A × Quotient asked.relation (Hide asked.hidden A) Q × IsSorted transition_cmp Q.transitions
-    × (listed to.output ≡ listed Q) × (status ≡ 0)
-minimised to is = (to.input, to.output, to.read, to.minimises.quotient, to.sorted, refl, is)
+    × (listed to.output ≡ listed Q) × Reads asked.bounds (listed to.output) Q × (status ≡ 0)
+minimised to is = (to.input, to.output, to.read, to.minimises.quotient, to.sorted, refl, to.read_again, is)
 
 -- and a verdict is that of two
 compared : (asked : Request) {first second : List ℕ} {same : Bool} {status : ℕ} (both : ReadBoth asked.bounds first second) → IsVerdict asked both same →

@@ -29,11 +29,11 @@ pub record ReadBoth (bounds : Bounds) (first second : List ℕ) : Type 0 where
   pub reads_first : Reads bounds first one
   pub reads_second : Reads bounds second other
 
--- how many states and transitions both systems have
+-- how many states both systems have
 abbrev pub states_of : {bounds : Bounds} {first second : List ℕ} → ReadBoth bounds first second → ℕ
 states_of both = both.one.states + both.other.states
 
--- and how many transitions
+-- how many transitions both systems have
 abbrev pub transitions_of : {bounds : Bounds} {first second : List ℕ} → ReadBoth bounds first second → ℕ
 transitions_of both = length both.one.transitions + length both.other.transitions
 

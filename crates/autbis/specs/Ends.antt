@@ -12,7 +12,7 @@ use Rattle.autfmt.specs.Written.{listed, transition_cmp}
 use Rattle.autbis.specs.Comparisons.{line_of}
 use Rattle.autbis.specs.Runs.{IsFaulty, Request}
 
--- what a call did with a sink: it before and after, the bytes that it tells, and how often it failed
+-- what a call did with a source or a sink: it before and after, the bytes that it tells, and how often it failed
 pub record StreamUsed (T : Type 0) : Type 0 where
   pub old : T
   pub new : T
@@ -32,11 +32,12 @@ pub data Contents : Type 0 where
   one : Option (List ℕ) → Contents
   two : (first second : Option (List ℕ)) → Contents
 
--- the bytes are what is to be written of the contents, with this status: the text of the quotient, its transitions in order, or the
--- line of the verdict; both of what is read, the labels to hide hidden
+-- the bytes are what is to be written of the contents, with this status: the text of the quotient, its transitions in order, which
+-- reads again within the same limits, or the line of the verdict; both of what is read, the labels to hide hidden
 abbrev pub IsAnswer : Request → Contents → List ℕ → ℕ → Type 0
 IsAnswer asked (one text) bytes status = OfText text (λ given. (A Q : System) × Reads asked.bounds given A
-    × Quotient asked.relation (Hide asked.hidden A) Q × IsSorted transition_cmp Q.transitions × (bytes ≡ listed Q) × (status ≡ 0))
+    × Quotient asked.relation (Hide asked.hidden A) Q × IsSorted transition_cmp Q.transitions × (bytes ≡ listed Q)
+    × Reads asked.bounds bytes Q × (status ≡ 0))
 IsAnswer asked (two first second) bytes status = OfText first (λ given. OfText second (λ other.
     (A B : System) × Reads asked.bounds given A × Reads asked.bounds other B × (same : Bool)
     × (IsTrue same ↔ Equivalent asked.relation (Hide asked.hidden A) (Hide asked.hidden B))
@@ -48,9 +49,9 @@ HasFaultyText bounds (one text) = IfSome text (IsFaulty bounds)
 HasFaultyText bounds (two first second) =
     IfSome first (IsFaulty bounds) ⊎ (IfSome first (λ given. (A : System) × Reads bounds given A) × IfSome second (IsFaulty bounds))
 
--- what a run came to, as its status tells. No source failed, and its answer was written; or a text is faulty, or memory was
--- refused, and the output is as it was; or the output failed, and has a beginning of the answer. Or a source was lost, and the
--- output is as it was.
+-- what a run came to, as its status tells; Sound says that no source failed, and Lost which one did. With Sound, its answer was
+-- written; or a text is faulty, or memory was refused, and the output is as it was; or the output failed, and has a beginning of
+-- the answer. With Lost, the output is as it was.
 pub data EndsRun {Out : Type 0}
     (asked : Request) (contents : Contents) (Sound Lost : Type 0) (output : StreamUsed Out) (status : ℕ) : Type 0 where
   answered : Sound → (bytes : List ℕ) → IsAnswer asked contents bytes status →

@@ -15,15 +15,20 @@ abbrev pub OpensInOrder : List Name → Option (List Name) → Option (List Name
 OpensInOrder names old new = (asked later : List Name) × (names ≡ asked ++ later) × Opens old new asked
 
 -- what a call did with files: these before and after, what each holds and which names were asked for, as far as that is told,
--- and how often one could not be opened
-pub record FilesUsed (F : Type 0) : Type 0 where
+-- and how often one could not be opened, or failed
+pub record FilesUsed (F File : Type 0) : Type 0 where
   pub old : F
   pub new : F
   pub holds : F → Name → Option (List ℕ)
   pub opened : F → Option (List Name)
   pub failures : F → ℕ
+  pub file_failures : File → ℕ
 
 -- what is said of files before and after a call
-abbrev pub files_used : {F : Type 0} → (F → Name → Option (List ℕ)) → (F → Option (List Name)) → (F → ℕ) → (old new : F) → FilesUsed F
-files_used holds opened failures old new =
-    record { old = old; new = new; holds = holds; opened = opened; failures = failures }
+abbrev pub files_used : {F File : Type 0} → (F → Name → Option (List ℕ)) → (F → Option (List Name)) → (F → ℕ) → (File → ℕ) → (old new : F) → FilesUsed F File
+files_used holds opened failures file_failures old new =
+    record { old = old; new = new; holds = holds; opened = opened; failures = failures; file_failures = file_failures }
+
+-- a file that was opened has failed
+abbrev pub HasLost : {File : Type 0} → (File → ℕ) → Type 0
+HasLost failures = (file : _) × (failures file ≡ 1)

@@ -1,20 +1,15 @@
 -- A job: which files it opens, what it asks of their texts, and what it comes to.
-use Rattle.std.specs.Prelude.{◌≡◌, ◌≢◌, ◌⊎◌, ℕ, List, [], ◌∷◌, ◌++◌, Option, None, Some, IfSome, option_map, string_bytes}
+use Rattle.std.specs.Prelude.{◌≡◌, ◌≢◌, ◌⊎◌, ℕ, List, [], ◌∷◌, ◌++◌, Option, None, Some, IfSome, IsSomeAnd, option_map, option_to_list, string_bytes}
 use Rattle.theory.specs.declared.relation.Relation.{Relation}
 use Rattle.autfmt.specs.Bounds.{file_bounds}
 use Rattle.autfmt.specs.HideLists.{HideReads}
 use Rattle.autfmt.specs.HideReaders.{HidesAs}
 use Rattle.autbis.specs.Ends.{Contents, EndsRun, StreamUsed}
 use Rattle.autbis.specs.Ends.Contents.{one, two}
-use Rattle.autbis.specs.Files.{FilesUsed, Name, Opens, OpensInOrder}
+use Rattle.autbis.specs.Files.{FilesUsed, HasLost, Name, Opens, OpensInOrder}
 use Rattle.autbis.specs.Runs.{asks}
 use Rattle.words.specs.declared.words.Job.{Job}
 use Rattle.words.specs.declared.words.Job.TheVariants.{Min, Cmp}
-
--- the name that is given, if there is one
-abbrev pub given : Option Name → List Name
-given None = []
-given (Some name) = name ∷ []
 
 -- the relation of a job
 abbrev pub relation_of : Job → Relation
@@ -28,12 +23,12 @@ hide_of (Cmp relation hide first second) = option_map string_bytes hide
 
 -- the names of its texts; one to minimise that has no name is standard input
 abbrev pub texts_of : Job → List Name
-texts_of (Min relation stats hide file) = given (option_map string_bytes file)
+texts_of (Min relation stats hide file) = option_to_list (option_map string_bytes file)
 texts_of (Cmp relation hide first second) = string_bytes first ∷ string_bytes second ∷ []
 
 -- its files, in the order in which they are opened: its texts, and then its hide list
 abbrev pub files_of : Job → List Name
-files_of job = texts_of job ++ given (hide_of job)
+files_of job = texts_of job ++ option_to_list (hide_of job)
 
 -- the labels to hide are exactly those of the hide list, and none without a list
 abbrev pub HidesNamed : (Name → Option (List ℕ)) → Option Name → List (List ℕ) → Type 0
@@ -54,29 +49,28 @@ AreTextsOf holds input job contents = ⊥
 
 -- a hide list that is named is faulty, if it is told: it is one of no labels
 abbrev pub HasFaultyList : (Name → Option (List ℕ)) → Option Name → Type 0
-HasFaultyList holds None = ⊥
-HasFaultyList holds (Some name) = IfSome (holds name) (λ list. (H : List (List ℕ)) → ¬ HideReads list H)
+HasFaultyList holds hide = IsSomeAnd hide (λ name. IfSome (holds name) (λ list. (H : List (List ℕ)) → ¬ HideReads list H))
 
 -- a job was given up before its texts were read: its hide list is faulty; memory was refused; or a file could not be opened,
 -- or the hide list failed
-abbrev pub IsGivenUp : {F : Type 0} → FilesUsed F → Job → ℕ → Type 0
+abbrev pub IsGivenUp : {F File : Type 0} → FilesUsed F File → Job → ℕ → Type 0
 IsGivenUp files job status = ((status ≡ 2) × HasFaultyList (files.holds files.old) (hide_of job))
-    ⊎ ((status ≡ 4) ⊎ ((status ≡ 5) × ((files.failures files.new ≡ 1) ⊎ (hide_of job ≢ None))))
+    ⊎ ((status ≡ 4) ⊎ ((status ≡ 5) × ((files.failures files.new ≡ 1) ⊎ ((hide_of job ≢ None) × HasLost files.file_failures))))
 
--- what a job came to: it was given up, and no stream was used; or its texts were run, of which standard input, or a file, may have
--- failed
-pub data Outcome {F In Out : Type 0}
-    (files : FilesUsed F) (input : StreamUsed In) (output : StreamUsed Out) (job : Job) (status : ℕ) : Type 0 where
+-- what a job came to: it was given up, and no stream was used; or its texts were run, and one is lost only if standard input
+-- failed, or texts are named and a file failed
+pub data Outcome {F File In Out : Type 0}
+    (files : FilesUsed F File) (input : StreamUsed In) (output : StreamUsed Out) (job : Job) (status : ℕ) : Type 0 where
   given_up : IsGivenUp files job status → input.new ≡ input.old → output.new ≡ output.old → Outcome files input output job status
   ran : (H : List (List ℕ)) → HidesNamed (files.holds files.old) (hide_of job) H →
       (contents : Contents) → AreTextsOf (files.holds files.old) (input.tells input.old) job contents →
       EndsRun (asks (relation_of job) file_bounds H) contents (input.failures input.new ≡ 0)
-      ((input.failures input.new ≡ 1) ⊎ (texts_of job ≢ [])) output status → Outcome files input output job status
+      ((input.failures input.new ≡ 1) ⊎ ((texts_of job ≢ []) × HasLost files.file_failures)) output status → Outcome files input output job status
 
 -- a job ended in this status: its outcome, and the files that it asked for; if none was refused, all of them, and if one was, the
 -- status is 5; standard input is read only if no text is named
-pub record EndsIn {F In Out : Type 0}
-    (files : FilesUsed F) (input : StreamUsed In) (output : StreamUsed Out) (job : Job) (status : ℕ) : Type 0 where
+pub record EndsIn {F File In Out : Type 0}
+    (files : FilesUsed F File) (input : StreamUsed In) (output : StreamUsed Out) (job : Job) (status : ℕ) : Type 0 where
   pub outcome : Outcome files input output job status
   pub order : OpensInOrder (files_of job) (files.opened files.old) (files.opened files.new)
   pub all_opened : files.failures files.new ≡ 0 → Opens (files.opened files.old) (files.opened files.new) (files_of job)

@@ -1,5 +1,5 @@
 -- The whole program: the exit status that its words end in, and what is done by then.
-use Rattle.std.specs.Prelude.{◌≡◌, ◌≢◌, ◌⊎◌, ℕ, string_bytes}
+use Rattle.std.specs.Prelude.{◌≡◌, ◌≢◌, ◌⊎◌, ℕ, string_bytes, ⊤}
 use Rattle.std.specs.Io.KnownBytes.{Appends}
 use Rattle.std.specs.IoError.{error_kind}
 use Rattle.std.specs.declared.io.Error.{Error}
@@ -22,12 +22,14 @@ EndsWords output (fault.Help text) status =
 EndsWords output fault status = (status ≡ word_status fault) × (output.new ≡ output.old)
 
 -- the words ask for a job, which came to its end; or they give none, and no file and no input was used
-pub data AnswersWords {F In Out : Type 0} (IsJob : Job → Type 0) (IsFault : WordFault → Type 0)
-    (files : FilesUsed F) (input : StreamUsed In) (output : StreamUsed Out) (status : ℕ) : Type 0 where
+pub data AnswersWords {F File In Out : Type 0} (IsJob : Job → Type 0) (IsFault : WordFault → Type 0)
+    (files : FilesUsed F File) (input : StreamUsed In) (output : StreamUsed Out) (status : ℕ) : Type 0 where
   job : (job : Job) → IsJob job → EndsIn files input output job status → AnswersWords IsJob IsFault files input output status
   no_job : (fault : WordFault) → IsFault fault → files.new ≡ files.old → input.new ≡ input.old → EndsWords output fault status →
       AnswersWords IsJob IsFault files input output status
 
--- the fault of words that cannot be had: a usage fault only if memory was not refused
+-- the fault of words that cannot be had: want of memory; or a usage fault, only if memory was not refused
 abbrev pub IsUnread : Error → WordFault → Type 0
-IsUnread error fault = (word_status fault ≡ 4) ⊎ ((word_status fault ≡ 3) × (error_kind error ≢ OutOfMemory))
+IsUnread error fault.Memory = ⊤
+IsUnread error (fault.Usage text) = error_kind error ≢ OutOfMemory
+IsUnread error _ = ⊥

@@ -2,7 +2,7 @@
 ghost use Rattle.std.specs.Prelude.{◌≡◌, ◌⊎◌, IfOk, IfErr, IsErrAnd, map, string_bytes};
 ghost use Rattle.autfmt.specs.Bounds.{file_bounds};
 ghost use Rattle.autbis.specs.Ends.{EndsRun, stream_used};
-ghost use Rattle.autbis.specs.Files.{files_used};
+ghost use Rattle.autbis.specs.Files.{HasLost, files_used};
 ghost use Rattle.autbis.specs.Jobs.{EndsIn};
 ghost use Rattle.autbis.specs.Opened.{AreFiles, HaveNotFailed, contents_of};
 ghost use Rattle.autbis.specs.Programs.{AnswersWords, IsUnread};
@@ -40,10 +40,10 @@ pub fn main_program<F: Opener, R: Source, W: Sink, E: Write>(
     requires output { W.failures output.old ≡ 0 }
     ensures answer { IfOk words (λ words. let words = map string_bytes words.items in
         AnswersWords (IsJobOf words) (IsFaultOf words)
-        (files_used F.holds F.opened F.failures files.old files.new)
+        (files_used F.holds F.opened F.failures F.File.failures files.old files.new)
         (stream_used R.rest R.failures input.old input.new) (stream_used W.written W.failures output.old output.new) result) }
     ensures unread { IfErr words (λ error. AnswersWords (λ _. ⊥) (IsUnread error)
-        (files_used F.holds F.opened F.failures files.old files.new)
+        (files_used F.holds F.opened F.failures F.File.failures files.old files.new)
         (stream_used R.rest R.failures input.old input.new) (stream_used W.written W.failures output.old output.new) result) }
 {
     match asked(alloc, words) {
@@ -80,7 +80,7 @@ pub fn do_job<F: Opener, R: Source, W: Sink, E: Write>(
     requires files { F.failures files.old ≡ 0 }
     requires input { R.failures input.old ≡ 0 }
     requires output { W.failures output.old ≡ 0 }
-    ensures ends { EndsIn (files_used F.holds F.opened F.failures files.old files.new)
+    ensures ends { EndsIn (files_used F.holds F.opened F.failures F.File.failures files.old files.new)
         (stream_used R.rest R.failures input.old input.new) (stream_used W.written W.failures output.old output.new)
         job.now result }
 {
@@ -104,7 +104,7 @@ fn run<T: Source + Drop, R: Source, W: Sink, E: Write>(
     ensures ends { EndsRun (asks opened.old.relation file_bounds opened.old.hidden)
         (contents_of T.rest (R.rest input.old) opened.old.texts)
         (HaveNotFailed T.failures opened.new.texts × (R.failures input.new ≡ 0))
-        ((R.failures input.new ≡ 1) ⊎ AreFiles opened.old.texts)
+        ((R.failures input.new ≡ 1) ⊎ (AreFiles opened.old.texts × HasLost T.failures))
         (stream_used W.written W.failures w.old w.new) result }
     ensures unread { AreFiles opened.old.texts → input.new ≡ input.old }
 {

@@ -1,7 +1,7 @@
 //! What a job names, opened in its order: its texts, and then its hide list.
-ghost use Rattle.std.specs.Prelude.{◌≡◌, ◌≢◌, ◌⊎◌, [], ◌∷◌, None, Some, IfSome, IfOk, IfErr, MatchResult, option_map, string_bytes};
-ghost use Rattle.autbis.specs.Files.{Name, Opens, OpensInOrder, files_used};
-ghost use Rattle.autbis.specs.Jobs.{HasFaultyList, HidesNamed, IsGivenUp, files_of, given, hide_of, relation_of, texts_of};
+ghost use Rattle.std.specs.Prelude.{◌≡◌, ◌≢◌, ◌⊎◌, [], ◌∷◌, None, Some, IfSome, IfOk, IfErr, MatchResult, option_map, option_to_list, string_bytes};
+ghost use Rattle.autbis.specs.Files.{HasLost, Name, Opens, OpensInOrder, files_used};
+ghost use Rattle.autbis.specs.Jobs.{HasFaultyList, HidesNamed, IsGivenUp, files_of, hide_of, relation_of, texts_of};
 ghost use Rattle.autbis.specs.Opened.{AreOpened, IsOpened};
 ghost use Rattle.autbis.specs.Reports.{IsFaultStatus};
 
@@ -62,7 +62,7 @@ pub fn open_job<'a, F: Opener, E: Write>(
     requires sound { F.failures files.old ≡ 0 }
     ensures opened { IfOk result (IsOpened F.File.rest F.File.failures (F.holds files.old) job.now) }
     ensures given_up { IfErr result
-        (IsGivenUp (files_used F.holds F.opened F.failures files.old files.new) job.now) }
+        (IsGivenUp (files_used F.holds F.opened F.failures F.File.failures files.old files.new) job.now) }
     ensures order { OpensInOrder (files_of job.now) (F.opened files.old) (F.opened files.new) }
     ensures all_opened { F.failures files.new ≡ 0 → Opens (F.opened files.old) (F.opened files.new) (files_of job.now) }
     ensures sound { MatchResult result (λ _. F.failures files.new ≡ 0)
@@ -166,8 +166,8 @@ fn hidden_of<F: Opener, E: Write>(
     ensures faulty { IfErr result (λ status. status ≡ 2 →
         HasFaultyList (F.holds files.old) (option_map string_bytes hide.now)) }
     ensures failed { IfErr result (λ status. status ≡ 5 →
-        (F.failures files.new ≡ 1) ⊎ (option_map string_bytes hide.now ≢ None)) }
-    ensures opened { Opens (F.opened files.old) (F.opened files.new) (given (option_map string_bytes hide.now)) }
+        (F.failures files.new ≡ 1) ⊎ ((option_map string_bytes hide.now ≢ None) × HasLost F.File.failures)) }
+    ensures opened { Opens (F.opened files.old) (F.opened files.new) (option_to_list (option_map string_bytes hide.now)) }
     ensures sound { MatchResult result (λ _. F.failures files.new ≡ 0)
         (λ status. (status ≡ 5) ⊎ (F.failures files.new ≡ 0)) }
 {

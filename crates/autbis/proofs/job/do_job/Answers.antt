@@ -11,7 +11,7 @@ returns-in-Ok g c =
     record {
       ends = record {
         outcome = ran c.in-Ok.opened.hidden is.hidden (contents_of g.F.File.Source.rest input c.in-Ok.opened.texts) (is.texts.contents input)
-            (rw (← is.relation) (ends_weaker (λ sound. sound.1) (λ lost. elim lost [ inl read ↦ inl read | inr files ↦ inr (is.texts.files.0 files) ]) c.run.ensures.ends));
+            (rw (← is.relation) (ends_weaker (λ sound. sound.1) (λ lost. elim lost [ inl read ↦ inl read | inr (files, failed) ↦ inr (is.texts.files.0 files, failed) ]) c.run.ensures.ends));
         order = c.in-Ok.ensures.order;
         all_opened = c.in-Ok.ensures.all_opened;
         sound = inr c.in-Ok.ensures.sound;

@@ -1,6 +1,6 @@
-use Rattle.std.proofs.Common.{[], append-nil, subst, sym}
+use Rattle.std.proofs.Common.{[], append-nil, option_to_list, subst, sym}
 use Rattle.autbis.specs.Files.{Opens}
-use Rattle.autbis.specs.Jobs.{files_of, given, texts_of}
+use Rattle.autbis.specs.Jobs.{files_of, texts_of}
 use Rattle.autbis.proofs.InOrder.{opens_then, order_then}
 use Rattle.autbis.proofs.opening.open_job.Given.{Over}
 use Rattle.autbis.proofs.opening.open_job.Goals as goal
@@ -11,7 +11,7 @@ all : (g : Over) (c : After-hidden_of g) →
     Opens (g.F.Opener.opened c.args.files.now) (g.F.Opener.opened c.hidden_of.new.files) (files_of c.args.job.now)
 all g c = opens_then (g.F.Opener.opened c.args.files.now) (g.F.Opener.opened c.open_texts.new.files) (g.F.Opener.opened c.hidden_of.new.files)
     (texts_of c.args.job.now) _ (c.open_texts.ensures.all_opened c.in_ok-texts.ensures.status)
-    (subst (λ hide. Opens (g.F.Opener.opened c.open_texts.new.files) (g.F.Opener.opened c.hidden_of.new.files) (given hide))
+    (subst (λ hide. Opens (g.F.Opener.opened c.open_texts.new.files) (g.F.Opener.opened c.hidden_of.new.files) (option_to_list hide))
     c.asked_by-relation.ensures.hide c.hidden_of.ensures.opened)
 
 pub returns-in_err-texts-clause-order : goal.returns-in_err-texts-clause-order
