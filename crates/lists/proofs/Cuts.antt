@@ -3,7 +3,7 @@ use Rattle.std.proofs.Common.{◌≡◌, ◌∙◌, ℕ, ◌+◌, ◌-◌, ◌*�
 use Rattle.std.proofs.Math.Pow.{shr_mono}
 use Rattle.std.proofs.lemmas.Bool.{cases_lt, cases_order}
 use Rattle.std.proofs.lemmas.Nat.{pow_pos, shr-shr, div_below, div-add-mod'}
-use Rattle.lists.specs.Cuts.{key_of, IsPlace, IsAlike, IsCut, IsUnder, IsOver}
+use Rattle.lists.specs.Cuts.{as_number, IsPlace, IsAlike, IsCut, IsUnder, IsOver}
 
 -- what agrees above a bit agrees above each later one
 lift : (a b m n : ℕ) → m ≤ n → a / 2 ^ m ≡ b / 2 ^ m → a / 2 ^ n ≡ b / 2 ^ n
@@ -28,10 +28,10 @@ odd bit z c y q multiple below above first second =
 module _ (list : List (ℕ × ℕ)) where
   -- no multiple of a later power lies between two pairs
   none_later : (bit later c d : ℕ) → IsAlike bit list c → bit < later → d % 2 ^ later ≡ 0
-      → (z y : ℕ × ℕ) → Contains list z → Contains list y → key_of z < d → d ≤ key_of y → ⊥
+      → (z y : ℕ × ℕ) → Contains list z → Contains list y → as_number z < d → d ≤ as_number y → ⊥
   none_later bit later c d is more multiple z y in_z in_y below above =
-      let parts = between later (key_of z) d (key_of y) multiple below above in
-      let same = lift (key_of z) (key_of y) (bit + 1) later (omega arith) (is.alike z in_z ∙ sym (is.alike y in_y)) in
+      let parts = between later (as_number z) d (as_number y) multiple below above in
+      let same = lift (as_number z) (as_number y) (bit + 1) later (omega arith) (is.alike z in_z ∙ sym (is.alike y in_y)) in
       omega (arith, parts, same)
 
   pub cut_unique : (c d : ℕ) → IsCut list c → IsCut list d → c ≡ d
@@ -39,13 +39,13 @@ module _ (list : List (ℕ × ℕ)) where
     | inl e ↦
         let z = first.below.0 in
         let p : c ≡ (2 * (c / 2 ^ (first.bit + 1)) + 1) * 2 ^ first.bit =
-        odd first.bit (key_of z) c (key_of first.above.0) _ first.alike.multiple first.below.2 first.above.2
+        odd first.bit (as_number z) c (as_number first.above.0) _ first.alike.multiple first.below.2 first.above.2
         (first.alike.alike z first.below.1) (first.alike.alike _ first.above.1) in
         let q : d ≡ (2 * (d / 2 ^ (second.bit + 1)) + 1) * 2 ^ second.bit =
-        odd second.bit (key_of second.below.0) d (key_of second.above.0) _ second.alike.multiple second.below.2 second.above.2
+        odd second.bit (as_number second.below.0) d (as_number second.above.0) _ second.alike.multiple second.below.2 second.above.2
         (second.alike.alike _ second.below.1) (second.alike.alike _ second.above.1) in
         let same : c / 2 ^ (first.bit + 1) ≡ d / 2 ^ (second.bit + 1) =
-        sym (first.alike.alike z first.below.1) ∙ ap (λ b. key_of z / 2 ^ (b + 1)) e ∙ second.alike.alike z first.below.1 in
+        sym (first.alike.alike z first.below.1) ∙ ap (λ b. as_number z / 2 ^ (b + 1)) e ∙ second.alike.alike z first.below.1 in
         p ∙ (λ i. (2 * same i + 1) * 2 ^ e i) ∙ sym q
     | inr order ↦ elim order [
       | inl low ↦
@@ -69,13 +69,13 @@ module _ (list : List (ℕ × ℕ)) where
       | inr earlier ↦
           let down = shr_mono {a = low} {b = d} (bit + 1) (omega arith) in
           let up = shr_mono {a = d} {b = high} (bit + 1) within in
-          lift (key_of z) d (own.bit + 1) (bit + 1) (omega arith) (own.alike.alike z in_z) ∙ omega (arith, place.low_alike, place.high_alike)
+          lift (as_number z) d (own.bit + 1) (bit + 1) (omega arith) (own.alike.alike z in_z) ∙ omega (arith, place.low_alike, place.high_alike)
     ];
   }
 
   -- another place than the list's own cut has the whole list on one side
   pub all_under : (bit c d : ℕ) → IsAlike bit list c → IsCut list d → d < c → IsUnder list c
-  all_under bit c d is own less z in_z = elim (cases_lt (key_of z) c) [
+  all_under bit c d is own less z in_z = elim (cases_lt (as_number z) c) [
     | inl h ↦ h
     | inr h ↦
         let low = own.below.2 in
@@ -84,7 +84,7 @@ module _ (list : List (ℕ × ℕ)) where
   ]
 
   pub all_over : (bit c d : ℕ) → IsAlike bit list c → IsCut list d → c < d → IsOver list c
-  all_over bit c d is own more z in_z = elim (cases_lt (key_of z) c) [
+  all_over bit c d is own more z in_z = elim (cases_lt (as_number z) c) [
     | inl h ↦
         let high = own.above.2 in
         let same = cut_unique c d (record { bit = bit; alike = is; below = (z, in_z, h); above = (own.above.0, own.above.1, omega (arith, high)) }) own in
@@ -93,12 +93,12 @@ module _ (list : List (ℕ × ℕ)) where
   ]
 
   -- a place in a range suits all pairs in the range
-  pub alike_within : (bit low high c : ℕ) → IsPlace bit low high c → ((z : ℕ × ℕ) → Contains list z → (low ≤ key_of z) × (key_of z ≤ high))
+  pub alike_within : (bit low high c : ℕ) → IsPlace bit low high c → ((z : ℕ × ℕ) → Contains list z → (low ≤ as_number z) × (as_number z ≤ high))
       → IsAlike bit list c
   alike_within bit low high c place range = record {
     multiple = place.multiple;
     alike = λ z in_z.
-        let down = shr_mono {a = low} {b = key_of z} (bit + 1) ((range z in_z).0) in
-        let up = shr_mono {a = key_of z} {b = high} (bit + 1) ((range z in_z).1) in
+        let down = shr_mono {a = low} {b = as_number z} (bit + 1) ((range z in_z).0) in
+        let up = shr_mono {a = as_number z} {b = high} (bit + 1) ((range z in_z).1) in
         omega (arith, place.low_alike, place.high_alike);
   }

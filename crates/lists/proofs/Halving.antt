@@ -6,7 +6,7 @@ use Rattle.std.proofs.lemmas.List.Elements.{Contains-get_or}
 use Rattle.lists.specs.declared.nodes.Halves.{Halves}
 use Rattle.lists.specs.declared.nodes.TheConstants.{FEW}
 use Rattle.lists.specs.Lists.{pair_cmp, list_at, Grow}
-use Rattle.lists.specs.Cuts.{key_of, Fit, IsPlace, IsCut, IsParted}
+use Rattle.lists.specs.Cuts.{as_number, Fit, IsPlace, IsCut, IsParted}
 use Rattle.lists.specs.Nodes.{AreHalves, AreIn}
 use Rattle.lists.proofs.Cuts.{alike_within}
 use Rattle.lists.proofs.Keys.{rising_keys, key_from_less}
@@ -15,23 +15,23 @@ use Rattle.lists.proofs.Rising.{rising_before}
 
 -- the first and the last pair of some
 module _ (list : List (ℕ × ℕ)) (rise : IsStrictlySortedBy pair_cmp list) (fit : Fit list) (some : 0 < length list) (low high : ℕ)
-    (low_is : low ≡ key_of (get_or list 0 (0, 0))) (high_is : high ≡ key_of (get_or list (length list - 1) (0, 0))) where
+    (low_is : low ≡ as_number (get_or list 0 (0, 0))) (high_is : high ≡ as_number (get_or list (length list - 1) (0, 0))) where
   pub has_first : Contains list (get_or list 0 (0, 0))
   has_first = Contains-get_or list 0 (0, 0) some
 
   pub has_last : Contains list (get_or list (length list - 1) (0, 0))
   has_last = Contains-get_or list (length list - 1) (0, 0) (omega arith)
 
-  pub keys_between : (z : ℕ × ℕ) → Contains list z → (low ≤ key_of z) × (key_of z ≤ high)
+  pub keys_between : (z : ℕ × ℕ) → Contains list z → (low ≤ as_number z) × (as_number z ≤ high)
   keys_between z d =
       let keys = rising_keys list rise fit in
       let k = d.1 in
-      let same = ap key_of d.2 in
+      let same = ap as_number d.2 in
       let first = keys 0 d.0 z (omega arith) k in
       let last = keys d.0 (length list - 1) z (omega arith) (omega arith) in
-      let at_first : key_of (get_or list 0 z) ≡ low = ap key_of (get_or_default list 0 z (0, 0) some) ∙ sym low_is in
-      let at_last : key_of (get_or list (length list - 1) z) ≡ high =
-      ap key_of (get_or_default list (length list - 1) z (0, 0) (omega arith)) ∙ sym high_is in
+      let at_first : as_number (get_or list 0 z) ≡ low = ap as_number (get_or_default list 0 z (0, 0) some) ∙ sym low_is in
+      let at_last : as_number (get_or list (length list - 1) z) ≡ high =
+      ap as_number (get_or_default list (length list - 1) z (0, 0) (omega arith)) ∙ sym high_is in
       (omega arith, omega arith)
 
   pub first_before_last : 1 < length list → low < high

@@ -8,14 +8,14 @@ use Rattle.std.proofs.lemmas.Bool.{cases_lt, cases_order, cases_eq}
 use Rattle.std.proofs.lemmas.List.Elements.{Contains-append_cases, Contains-append_left, Contains-append_right, Contains-get_or}
 use Rattle.std.proofs.lemmas.List.{take-append-drop, length-take, length-drop, length-append, get_or-take, get_or-drop}
 use Rattle.std.proofs.lemmas.Bool.Decides.{Decides-ltb, not_from_Decides}
-use Rattle.lists.specs.Cuts.{key_of, Fit, IsUnder, IsOver, IsCut, IsParted}
+use Rattle.lists.specs.Cuts.{as_number, Fit, IsUnder, IsOver, IsCut, IsParted}
 use Rattle.lists.specs.Lists.{pair_cmp}
 use Rattle.lists.proofs.Pairs.{pair_total}
 use Rattle.lists.proofs.Rising.{not_both, here, there, rising_cons, rising_first, rising_unique, rising_before, rising_none}
 use Rattle.std.proofs.lemmas.Map.Keys.{sorted_tail}
 
 module _ (x y : ℕ × ℕ) (small : x.1 < 2 ^ 32) (fits : y.1 < 2 ^ 32) where
-  pub less_from_key : key_of x < key_of y → pair_cmp x y ≡ Less
+  pub less_from_key : as_number x < as_number y → pair_cmp x y ≡ Less
   less_from_key h = elim (cases_order x.0 y.0) [
     | inl e ↦
         let first : nat_cmp x.0 y.0 ≡ Equal = sym (nat_cmp_is x.0 y.0 Equal e) in
@@ -27,10 +27,10 @@ module _ (x y : ℕ × ℕ) (small : x.1 < 2 ^ 32) (fits : y.1 < 2 ^ 32) where
     ]
   ]
 
-pub key_from_less : (x y : ℕ × ℕ) → x.1 < 2 ^ 32 → y.1 < 2 ^ 32 → pair_cmp x y ≡ Less → key_of x < key_of y
-key_from_less x y small fits h = elim (cases_lt (key_of x) (key_of y)) [
+pub key_from_less : (x y : ℕ × ℕ) → x.1 < 2 ^ 32 → y.1 < 2 ^ 32 → pair_cmp x y ≡ Less → as_number x < as_number y
+key_from_less x y small fits h = elim (cases_lt (as_number x) (as_number y)) [
   | inl less ↦ less
-  | inr more ↦ elim (cases_eq (key_of y) (key_of x)) [
+  | inr more ↦ elim (cases_eq (as_number y) (as_number x)) [
     | inl e ↦
         let first : nat_cmp x.0 y.0 ≡ Equal = sym (nat_cmp_is x.0 y.0 Equal (omega arith)) in
         let second : nat_cmp x.1 y.1 ≡ Equal = sym (nat_cmp_is x.1 y.1 Equal (omega arith)) in
@@ -89,35 +89,35 @@ module _ (list below above below' above' : List (ℕ × ℕ)) (c : ℕ) (is : li
       (λ z. (upper list below above below' above' c is is' under over under' over' z, upper list below' above' below above c is' is under' over' under over z))
 
 -- keys rise with the pairs
-pub rising_keys : (list : List (ℕ × ℕ)) → IsStrictlySortedBy pair_cmp list → Fit list → IsNonDecreasingBy key_of list
+pub rising_keys : (list : List (ℕ × ℕ)) → IsStrictlySortedBy pair_cmp list → Fit list → IsNonDecreasingBy as_number list
 rising_keys list rise fit i j d low high = elim (cases_lt i j) [
   | inl less ↦
       let first = Contains-get_or list i d (omega arith) in
       let second = Contains-get_or list j d high in
       let key = key_from_less (get_or list i d) (get_or list j d) (fit _ first) (fit _ second) (rising_before pair_total list rise i j d less high) in
       omega arith
-  | inr more ↦ let e : i ≡ j = omega arith in let same = ap (λ n. key_of (get_or list n d)) e in omega arith
+  | inr more ↦ let e : i ≡ j = omega arith in let same = ap (λ n. as_number (get_or list n d)) e in omega arith
 ]
 
-pub partitioned_keys : (list : List (ℕ × ℕ)) (c : ℕ) → IsStrictlySortedBy pair_cmp list → Fit list → IsPartitionedBy (λ z. ltb (key_of z) c) list
-partitioned_keys list c rise fit = IsPartitionedBy-ltb key_of list c (rising_keys list rise fit)
+pub partitioned_keys : (list : List (ℕ × ℕ)) (c : ℕ) → IsStrictlySortedBy pair_cmp list → Fit list → IsPartitionedBy (λ z. ltb (as_number z) c) list
+partitioned_keys list c rise fit = IsPartitionedBy-ltb as_number list c (rising_keys list rise fit)
 
 -- a list in two where a search found the place
 pub parted_is : (list : List (ℕ × ℕ)) (c i : ℕ) → i ≤ length list
-    → IsPartitionPoint (λ z. ltb (key_of z) c ≡ true) (λ z. ltb (key_of z) c ≡ false) list i → IsParted list c (take i list) (drop i list)
+    → IsPartitionPoint (λ z. ltb (as_number z) c ≡ true) (λ z. ltb (as_number z) c ≡ false) list i → IsParted list c (take i list) (drop i list)
 parted_is list c i within point = record {
   joined = sym (take-append-drop i list);
   under = λ z d.
       let low = length-take i list in
       let l = d.1 in
       let test = point.0 d.0 z (omega arith) (omega arith) in
-      (Decides-ltb (key_of z) c).0 (subst (λ w. ltb (key_of w) c ≡ true) (sym (get_or-take i list d.0 z (omega arith)) ∙ d.2) test);
+      (Decides-ltb (as_number z) c).0 (subst (λ w. ltb (as_number w) c ≡ true) (sym (get_or-take i list d.0 z (omega arith)) ∙ d.2) test);
   over = λ z d.
       let high = length-drop i list in
       let l = d.1 in
       let test = point.1 (i + d.0) z (omega arith) (omega arith) in
-      let other = not_from_Decides _ (Decides-ltb (key_of z) c) (subst (λ w. ltb (key_of w) c ≡ false) (sym (get_or-drop i list d.0 z) ∙ d.2) test) in
-      elim (cases_lt (key_of z) c) [ inl h ↦ absurd (other h) | inr h ↦ h ];
+      let other = not_from_Decides _ (Decides-ltb (as_number z) c) (subst (λ w. ltb (as_number w) c ≡ false) (sym (get_or-drop i list d.0 z) ∙ d.2) test) in
+      elim (cases_lt (as_number z) c) [ inl h ↦ absurd (other h) | inr h ↦ h ];
 }
 
 -- both parts of what rises rise

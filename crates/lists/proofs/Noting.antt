@@ -7,7 +7,7 @@ use Rattle.std.proofs.lemmas.List.{take_all}
 use Rattle.std.proofs.lemmas.List.Elements.{All-contains}
 use Rattle.lists.specs.declared.known.Union.{Union}
 use Rattle.lists.specs.Lists.{list_at, Grow}
-use Rattle.lists.specs.Known.{union_of, IsNone, none}
+use Rattle.lists.specs.Known.{noted_union, IsNone, no_entry}
 use Rattle.lists.specs.Unions.{Unites, IsUnion, AreUnions}
 use Rattle.lists.proofs.Rising.{here, there, here_or_there}
 use Rattle.lists.proofs.Joining.{AreUnions-grow, or_swap}
@@ -16,35 +16,35 @@ pub if_some : (o : Option ℕ) (P Q : ℕ → Type 0) → ((i : ℕ) → P i →
 if_some None P Q f h = h
 if_some (Some i) P Q f h = f i h
 
-pub all_none : (n : ℕ) → All IsNone (map union_of (replicate n none))
+pub all_none : (n : ℕ) → All IsNone (map noted_union (replicate n no_entry))
 all_none zero k d h = absurd (omega arith)
 all_none (suc n) zero d h = refl
 all_none (suc n) (suc k) d h = all_none n k d (omega arith)
 
-pub none_noted : (unions : List Union) (n : ℕ) → unions ≡ replicate n none → All IsNone (map union_of unions)
-none_noted unions n e = subst (λ us. All IsNone (map union_of us)) (sym e) (all_none n)
+pub none_noted : (unions : List Union) (n : ℕ) → unions ≡ replicate n no_entry → All IsNone (map noted_union unions)
+none_noted unions n e = subst (λ us. All IsNone (map noted_union us)) (sym e) (all_none n)
 
-pub none_first : (unions taken : List Union) (n : ℕ) (u : Union) → unions ≡ take 1024 taken ++ replicate n u → taken ≡ [] → u ≡ none
-    → All IsNone (map union_of unions)
+pub none_first : (unions taken : List Union) (n : ℕ) (u : Union) → unions ≡ take 1024 taken ++ replicate n u → taken ≡ [] → u ≡ no_entry
+    → All IsNone (map noted_union unions)
 none_first unions taken n u e t v =
     none_noted unions n
-    (e ∙ (λ i. take 1024 (t i) ++ replicate n (v i)) ∙ ap (λ l. l ++ replicate n none) (take_all {A = Union} 1024 [] (omega arith)))
+    (e ∙ (λ i. take 1024 (t i) ++ replicate n (v i)) ∙ ap (λ l. l ++ replicate n no_entry) (take_all {A = Union} 1024 [] (omega arith)))
 
-pub none_contained : (unions : List Union) (n : ℕ) → unions ≡ replicate n none → (z : (ℕ × ℕ) × ℕ) → Contains (map union_of unions) z → IsNone z
-none_contained unions n e z d = All-contains IsNone (map union_of unions) z (none_noted unions n e) d
+pub none_contained : (unions : List Union) (n : ℕ) → unions ≡ replicate n no_entry → (z : (ℕ × ℕ) × ℕ) → Contains (map noted_union unions) z → IsNone z
+none_contained unions n e z d = All-contains IsNone (map noted_union unions) z (none_noted unions n e) d
 
 -- one place is written
-pub written : (unions : List Union) (p : ℕ) (u : Union) (z : (ℕ × ℕ) × ℕ) → Contains (map union_of (set unions p u)) z
-    → Contains (map union_of unions) z ⊎ (z ≡ union_of u)
+pub written : (unions : List Union) (p : ℕ) (u : Union) (z : (ℕ × ℕ) × ℕ) → Contains (map noted_union (set unions p u)) z
+    → Contains (map noted_union unions) z ⊎ (z ≡ noted_union u)
 written [] p u z d = let low = d.1 in absurd (omega arith)
-written (x ∷ xs) zero u z d = elim (here_or_there (union_of u) (map union_of xs) z d) [
+written (x ∷ xs) zero u z d = elim (here_or_there (noted_union u) (map noted_union xs) z d) [
   | inl e ↦ inr (sym e)
-  | inr o ↦ inl (there (union_of x) (map union_of xs) z o)
+  | inr o ↦ inl (there (noted_union x) (map noted_union xs) z o)
 ]
-written (x ∷ xs) (suc p) u z d = elim (here_or_there (union_of x) (map union_of (set xs p u)) z d) [
-  | inl e ↦ inl (subst (Contains (map union_of (x ∷ xs))) e (here (union_of x) (map union_of xs)))
+written (x ∷ xs) (suc p) u z d = elim (here_or_there (noted_union x) (map noted_union (set xs p u)) z d) [
+  | inl e ↦ inl (subst (Contains (map noted_union (x ∷ xs))) e (here (noted_union x) (map noted_union xs)))
   | inr o ↦ elim (written xs p u z o) [
-    | inl a ↦ inl (there (union_of x) (map union_of xs) z a)
+    | inl a ↦ inl (there (noted_union x) (map noted_union xs) z a)
     | inr b ↦ inr b
   ]
 ]
@@ -57,11 +57,6 @@ IsUnion-none lists some = record {
   second = some;
   exactly = λ z. (λ d. inl d, λ o. elim o [ inl d ↦ d | inr d ↦ d ]);
 }
-
-pub AreUnions-none : (lists : List (List (ℕ × ℕ))) (unions : List ((ℕ × ℕ) × ℕ)) → lists ≡ [] ∷ [] → All IsNone unions → AreUnions lists unions
-AreUnions-none lists unions e none z d =
-    let size = ap length e in
-    subst (λ w. IsUnion lists w.0 w.1) (sym (All-contains IsNone unions z none d)) (IsUnion-none lists (omega arith))
 
 -- a union of two lists, whichever has the lower number
 pub IsUnion-in_order : (lists : List (List (ℕ × ℕ))) (j k i : ℕ) → i < length lists → j < length lists → k < length lists

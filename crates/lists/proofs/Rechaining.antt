@@ -48,25 +48,6 @@ module _ (old : List Entry) (buckets r : ℕ) (heads : List ℕ) (entries : List
             (ap (λ x. x.before) same ∙ before);
       }
 
--- the empty list alone is in no bucket
-pub IsHashed-first : (heads : List ℕ) (entries : List Entry) → 0 < length heads → length heads < 2 ^ 32 → ((b : ℕ) → get_or heads b 0 ≡ 0)
-    → length entries ≡ 1 → IsHashed ([] ∷ []) heads entries
-IsHashed-first heads entries some few none one = record {
-  some_buckets = some;
-  few_buckets = few;
-  size = one;
-  tags = λ r p h. absurd (omega arith);
-  different = λ j k g h e. omega arith;
-  chained = record {
-    heads_below = λ b h. let e = none b in omega arith;
-    heads_fit = λ b h p. let e = none b in absurd (omega arith);
-    heads_last = λ r p h. absurd (omega arith);
-    before_below = λ r p h. absurd (omega arith);
-    before_fit = λ r p h q. absurd (omega arith);
-    before_last = λ q r p l h e. absurd (omega arith);
-  };
-}
-
 -- what was read back from a slice of the same length
 pub put_back : (xs ys : List ℕ) (n : ℕ) → n ≡ length xs → take n (xs ++ ys) ≡ xs
 put_back xs ys n e = take-append-le n xs ys (omega arith) ∙ take_all n xs (omega arith)

@@ -15,7 +15,7 @@ use Rattle.lists.proofs.Keys.{halves_rise}
 use Rattle.lists.proofs.Spans.{slice_range-append, slice_range-last}
 use Rattle.lists.specs.Lists.{pair_cmp, list_at, Grow}
 use Rattle.lists.specs.Cuts.{Fit}
-use Rattle.lists.specs.Nodes.{AreHalves, IsHalved, IsFew, AreIn, node_at, list_of, lists_to, lists_of, AreStored, AreNodes}
+use Rattle.lists.specs.Nodes.{AreHalves, IsHalved, IsFew, AreIn, node_at, kept_list, lists_to, kept_lists, AreStored, AreNodes}
 
 pub All-only : {X : Type 0} (P : X → Type 0) (x : X) → P x → All P (x ∷ [])
 All-only P x p zero d h = p
@@ -100,13 +100,13 @@ module _ (pairs : List (ℕ × ℕ)) (nodes : List Node) where
   unfolding lists_to
   length-to zero = refl
   length-to (suc n) =
-      omega (arith, length-to n, length_push (lists_to pairs nodes n) (list_of pairs (lists_to pairs nodes n) (node_at nodes n)))
+      omega (arith, length-to n, length_push (lists_to pairs nodes n) (kept_list pairs (lists_to pairs nodes n) (node_at nodes n)))
 
-  pub length-lists : length (lists_of pairs nodes) ≡ length nodes
+  pub length-lists : length (kept_lists pairs nodes) ≡ length nodes
   length-lists = length-to (length nodes)
 
   -- each is made from those before it
-  to_at : (n k : ℕ) → k < n → list_at (lists_to pairs nodes n) k ≡ list_of pairs (lists_to pairs nodes k) (node_at nodes k)
+  to_at : (n k : ℕ) → k < n → list_at (lists_to pairs nodes n) k ≡ kept_list pairs (lists_to pairs nodes k) (node_at nodes k)
   unfolding lists_to
   to_at zero k low = absurd (omega arith)
   to_at (suc n) k low = elim (cases_lt k n) [
@@ -114,18 +114,18 @@ module _ (pairs : List (ℕ × ℕ)) (nodes : List Node) where
     | inr h ↦
         let e : k ≡ n = omega arith in
         get_or_push (lists_to pairs nodes n) _ [] k (omega (arith, length-to n))
-        ∙ ap (λ m. list_of pairs (lists_to pairs nodes m) (node_at nodes m)) (sym e)
+        ∙ ap (λ m. kept_list pairs (lists_to pairs nodes m) (node_at nodes m)) (sym e)
   ]
 
   pub list_whole : (k start count : ℕ) → k < length nodes → node_at nodes k ≡ Whole start count
-      → list_at (lists_of pairs nodes) k ≡ slice_range pairs start (start + count)
-  list_whole k start count low e = to_at (length nodes) k low ∙ ap (list_of pairs (lists_to pairs nodes k)) e
+      → list_at (kept_lists pairs nodes) k ≡ slice_range pairs start (start + count)
+  list_whole k start count low e = to_at (length nodes) k low ∙ ap (kept_list pairs (lists_to pairs nodes k)) e
 
 -- one node more, and maybe more pairs
 module _ (pairs pairs' : List (ℕ × ℕ)) (nodes : List Node) (new : Node) (are : AreNodes pairs nodes)
     (keeps : (start end : ℕ) → start ≤ end → end ≤ length pairs → slice_range pairs' start end ≡ slice_range pairs start end) where
   same_list : (node : Node) → ((start count : ℕ) → node ≡ Whole start count → start + count ≤ length pairs) → (lists : List (List (ℕ × ℕ)))
-      → list_of pairs' lists node ≡ list_of pairs lists node
+      → kept_list pairs' lists node ≡ kept_list pairs lists node
   same_list (Whole start count) within lists = keeps start (start + count) (omega arith) (within start count refl)
   same_list (Halved h) within lists = refl
 
@@ -141,26 +141,26 @@ module _ (pairs pairs' : List (ℕ × ℕ)) (nodes : List Node) (new : Node) (ar
   to_agree (suc n) low =
       let before = to_agree n (omega arith) in
       let node = node-old n (omega arith) in
-      (λ i. before i ++ list_of pairs' (before i) (node i) ∷ [])
+      (λ i. before i ++ kept_list pairs' (before i) (node i) ∷ [])
       ∙ ap (λ l. lists_to pairs nodes n ++ l ∷ [])
       (same_list (node_at nodes n) (λ start count e. (are.whole n start count (omega arith) e).0) (lists_to pairs nodes n))
 
-  pub lists-push : (list : List (ℕ × ℕ)) → list_of pairs' (lists_of pairs nodes) new ≡ list
-      → lists_of pairs' (nodes ++ new ∷ []) ≡ lists_of pairs nodes ++ list ∷ []
+  pub lists-push : (list : List (ℕ × ℕ)) → kept_list pairs' (kept_lists pairs nodes) new ≡ list
+      → kept_lists pairs' (nodes ++ new ∷ []) ≡ kept_lists pairs nodes ++ list ∷ []
   unfolding lists_to
   lists-push list is =
       let n = length nodes in
       let longer : length (nodes ++ new ∷ []) ≡ suc n = omega (arith, length_push nodes new) in
       let old = to_agree n (omega arith) in
       let last = node-new n refl in
-      ap (lists_to pairs' (nodes ++ new ∷ [])) longer ∙ (λ i. old i ++ list_of pairs' (old i) (last i) ∷ []) ∙ ap (λ l. lists_of pairs nodes ++ l ∷ []) is
+      ap (lists_to pairs' (nodes ++ new ∷ [])) longer ∙ (λ i. old i ++ kept_list pairs' (old i) (last i) ∷ []) ∙ ap (λ l. kept_lists pairs nodes ++ l ∷ []) is
 
   -- the nodes with the new one
-  pub AreNodes-push : (list : List (ℕ × ℕ)) → list_of pairs' (lists_of pairs nodes) new ≡ list → length pairs ≤ length pairs' → length nodes < MOST_LISTS
+  pub AreNodes-push : (list : List (ℕ × ℕ)) → kept_list pairs' (kept_lists pairs nodes) new ≡ list → length pairs ≤ length pairs' → length nodes < MOST_LISTS
       → IsStrictlySortedBy pair_cmp list → Fit list
-      → (FEW < length list → (h : Halves) × IsHalved (lists_of pairs nodes ++ list ∷ []) (length (lists_of pairs nodes)) h)
+      → (FEW < length list → (h : Halves) × IsHalved (kept_lists pairs nodes ++ list ∷ []) (length (kept_lists pairs nodes)) h)
       → ((start count : ℕ) → new ≡ Whole start count → (start + count ≤ length pairs') × (count ≤ FEW))
-      → ((h : Halves) → new ≡ Halved h → IsHalved (lists_of pairs nodes ++ list ∷ []) (length nodes) h)
+      → ((h : Halves) → new ≡ Halved h → IsHalved (kept_lists pairs nodes ++ list ∷ []) (length nodes) h)
       → AreNodes pairs' (nodes ++ new ∷ [])
   AreNodes-push list is longer few rising fits long whole halved =
       let more = length_push nodes new in
@@ -168,7 +168,7 @@ module _ (pairs pairs' : List (ℕ × ℕ)) (nodes : List Node) (new : Node) (ar
       let some = are.stored.some in
       let view = lists-push list is in
       record {
-        stored = subst AreStored (sym view) (AreStored-push (lists_of pairs nodes) list are.stored (omega arith) rising fits long);
+        stored = subst AreStored (sym view) (AreStored-push (kept_lists pairs nodes) list are.stored (omega arith) rising fits long);
         empty = node-old 0 (omega arith) ∙ are.empty;
         whole = λ k start count low e. elim (cases_lt k (length nodes)) [
           | inl o ↦ let old = are.whole k start count o (sym (node-old k o) ∙ e) in (omega arith, old.1)
@@ -177,16 +177,16 @@ module _ (pairs pairs' : List (ℕ × ℕ)) (nodes : List Node) (new : Node) (ar
         halved = λ k h low e. elim (cases_lt k (length nodes)) [
           | inl o ↦
               subst (λ l. IsHalved l k h) (sym view)
-              (IsHalved-grow (lists_of pairs nodes) _ k h (Grow-push (lists_of pairs nodes) list) (omega arith) (are.halved k h o (sym (node-old k o) ∙ e)))
+              (IsHalved-grow (kept_lists pairs nodes) _ k h (Grow-push (kept_lists pairs nodes) list) (omega arith) (are.halved k h o (sym (node-old k o) ∙ e)))
           | inr n ↦
               let last : length nodes ≡ k = omega arith in
               subst (λ l. IsHalved l k h) (sym view)
-              (subst (λ m. IsHalved (lists_of pairs nodes ++ list ∷ []) m h) last (halved h (sym (node-new k (sym last)) ∙ e)))
+              (subst (λ m. IsHalved (kept_lists pairs nodes ++ list ∷ []) m h) last (halved h (sym (node-new k (sym last)) ∙ e)))
         ];
       }
 
 -- the empty list alone
-pub lists-first : lists_of [] (Whole 0 0 ∷ []) ≡ [] ∷ []
+pub lists-first : kept_lists [] (Whole 0 0 ∷ []) ≡ [] ∷ []
 unfolding lists_to
 lists-first = refl
 
@@ -233,10 +233,10 @@ module _ (pairs list : List (ℕ × ℕ)) (nodes : List Node) (start count : ℕ
   keeps-more : (s e : ℕ) → s ≤ e → e ≤ length pairs → slice_range (pairs ++ list) s e ≡ slice_range pairs s e
   keeps-more s e h k = slice_range-append pairs list s e h k
 
-  whole_is : list_of (pairs ++ list) (lists_of pairs nodes) (Whole start count) ≡ list
+  whole_is : kept_list (pairs ++ list) (kept_lists pairs nodes) (Whole start count) ≡ list
   whole_is = ap (λ s. slice_range (pairs ++ list) s (s + count)) at ∙ slice_range-last pairs list (length pairs + count) (omega arith)
 
-  pub lists-whole : lists_of (pairs ++ list) (nodes ++ Whole start count ∷ []) ≡ lists_of pairs nodes ++ list ∷ []
+  pub lists-whole : kept_lists (pairs ++ list) (nodes ++ Whole start count ∷ []) ≡ kept_lists pairs nodes ++ list ∷ []
   lists-whole = lists-push pairs (pairs ++ list) nodes (Whole start count) are keeps-more list whole_is
 
   pub AreNodes-whole : length nodes < MOST_LISTS → IsFew list → AreNodes (pairs ++ list) (nodes ++ Whole start count ∷ [])
@@ -250,12 +250,12 @@ module _ (pairs list : List (ℕ × ℕ)) (nodes : List Node) (start count : ℕ
 
 -- one list more that has halves
 module _ (pairs : List (ℕ × ℕ)) (nodes : List Node) (h : Halves) (are : AreNodes pairs nodes) where
-  pub lists-halved : lists_of pairs (nodes ++ Halved h ∷ []) ≡ lists_of pairs nodes ++ (list_at (lists_of pairs nodes) h.below ++ list_at (lists_of pairs nodes) h.above) ∷ []
+  pub lists-halved : kept_lists pairs (nodes ++ Halved h ∷ []) ≡ kept_lists pairs nodes ++ (list_at (kept_lists pairs nodes) h.below ++ list_at (kept_lists pairs nodes) h.above) ∷ []
   lists-halved = lists-push pairs pairs nodes (Halved h) are (λ s e l m. refl) _ refl
 
-  pub AreNodes-halved : length nodes < MOST_LISTS → AreIn (lists_of pairs nodes) h → AreNodes pairs (nodes ++ Halved h ∷ [])
+  pub AreNodes-halved : length nodes < MOST_LISTS → AreIn (kept_lists pairs nodes) h → AreNodes pairs (nodes ++ Halved h ∷ [])
   AreNodes-halved few in' =
-      let lists = lists_of pairs nodes in
+      let lists = kept_lists pairs nodes in
       let size = length-lists pairs nodes in
       let stored = are.stored in
       let new = IsHalved-new lists h in'.below in'.above in'.halves in

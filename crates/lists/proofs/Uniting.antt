@@ -6,7 +6,7 @@ use Rattle.std.proofs.lemmas.List.{length-append, append-nil}
 use Rattle.lists.specs.declared.nodes.Halves.{Halves}
 use Rattle.lists.specs.declared.nodes.TheConstants.{FEW}
 use Rattle.lists.specs.Lists.{pair_cmp, list_at, merged, Grow}
-use Rattle.lists.specs.Cuts.{key_of, Fit, IsPlace, IsAlike, IsCut, IsUnder, IsOver, IsParted}
+use Rattle.lists.specs.Cuts.{as_number, Fit, IsPlace, IsAlike, IsCut, IsUnder, IsOver, IsParted}
 use Rattle.lists.specs.Nodes.{IsHalved, AreStored, AreIn}
 use Rattle.lists.specs.Unions.{Unites, IsSplit}
 use Rattle.lists.proofs.Cuts.{alike_wider, alike_within, all_under, all_over}
@@ -60,7 +60,7 @@ module _ (lists : List (List (ℕ × ℕ))) (stored : AreStored lists) (k c : �
 
 -- the cut of a union
 module _ (list xs ys : List (ℕ × ℕ)) (unites : Unites list xs ys) (bit c : ℕ) (first : IsAlike bit xs c) (second : IsAlike bit ys c) where
-  pub union_cut : (y z : ℕ × ℕ) → Contains xs y ⊎ Contains ys y → key_of y < c → Contains xs z ⊎ Contains ys z → c ≤ key_of z → IsCut list c
+  pub union_cut : (y z : ℕ × ℕ) → Contains xs y ⊎ Contains ys y → as_number y < c → Contains xs z ⊎ Contains ys z → c ≤ as_number z → IsCut list c
   union_cut y z in_y low in_z high = record {
     bit = bit;
     alike = record {
@@ -197,7 +197,7 @@ module _ (xs ys below above below' above' : List (ℕ × ℕ)) (c : ℕ) (first 
 
 -- the place for some pairs and a long list
 module _ (xs ys : List (ℕ × ℕ)) (rise : IsStrictlySortedBy pair_cmp xs) (fit : Fit xs) (some : 0 < length xs) (first last low high own bit c : ℕ)
-    (first_is : first ≡ key_of (get_or xs 0 (0, 0))) (last_is : last ≡ key_of (get_or xs (length xs - 1) (0, 0)))
+    (first_is : first ≡ as_number (get_or xs 0 (0, 0))) (last_is : last ≡ as_number (get_or xs (length xs - 1) (0, 0)))
     (low_is : low ≡ min first (own - 1)) (high_is : high ≡ max last own) (cut : IsCut ys own) (place : IsPlace bit low high c) where
   pub alike_pairs : IsAlike bit xs c
   alike_pairs = alike_within xs bit low high c place (λ z d.
@@ -213,7 +213,7 @@ module _ (xs ys : List (ℕ × ℕ)) (rise : IsStrictlySortedBy pair_cmp xs) (fi
       let within = place.within in
       let under = cut.below.2 in
       let over = cut.above.2 in
-      let is_first : first ≡ key_of (get_or xs 0 (0, 0)) = first_is in
+      let is_first : first ≡ as_number (get_or xs 0 (0, 0)) = first_is in
       elim (cases_lt first (own - 1)) [
         | inl less ↦ elim (cases_lt own last) [
           | inl more ↦
@@ -269,7 +269,7 @@ unites_merged list xs ys e = subst (λ l. Unites l ys xs) (sym e) (λ z. (
 
 -- a pair of a list with halves is on its own side of the cut
 module _ (lists : List (List (ℕ × ℕ))) (k : ℕ) (h : Halves) (is : IsHalved lists k h) (z : ℕ × ℕ) where
-  pub has_below : key_of z < h.cut → Contains (list_at lists k) z ↔ Contains (list_at lists h.below) z
+  pub has_below : as_number z < h.cut → Contains (list_at lists k) z ↔ Contains (list_at lists h.below) z
   has_below low = (
     λ d. elim ((halves_has (list_at lists h.below) (list_at lists h.above) h.cut z).0 (subst (λ l. Contains l z) is.list d)) [
       | inl a ↦ a
@@ -278,7 +278,7 @@ module _ (lists : List (List (ℕ × ℕ))) (k : ℕ) (h : Halves) (is : IsHalve
     λ a. subst (λ l. Contains l z) (sym is.list) ((halves_has (list_at lists h.below) (list_at lists h.above) h.cut z).1 (inl a)),
   )
 
-  pub has_above : h.cut ≤ key_of z → Contains (list_at lists k) z ↔ Contains (list_at lists h.above) z
+  pub has_above : h.cut ≤ as_number z → Contains (list_at lists k) z ↔ Contains (list_at lists h.above) z
   has_above high = (
     λ d. elim ((halves_has (list_at lists h.below) (list_at lists h.above) h.cut z).0 (subst (λ l. Contains l z) is.list d)) [
       | inl a ↦ let low = is.halves.under z a in absurd (omega arith)

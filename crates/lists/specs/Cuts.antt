@@ -3,8 +3,8 @@ use Rattle.std.specs.Prelude.{◌≡◌, ℕ, ◌+◌, ◌*◌, ◌/◌, ◌%◌
 use Rattle.std.specs.List.{Contains}
 
 -- a pair as one number
-abbrev pub key_of : ℕ × ℕ → ℕ
-key_of z = z.0 * 2 ^ 32 + z.1
+abbrev pub as_number : ℕ × ℕ → ℕ
+as_number z = z.0 * 2 ^ 32 + z.1
 
 -- pairs of numbers of 32 bits: the second ones do not reach into the first ones
 abbrev pub Fit : List (ℕ × ℕ) → Type 0
@@ -21,21 +21,21 @@ pub record IsPlace (bit low high c : ℕ) : Type 0 where
 -- c is a multiple of a power of two, and all pairs agree with it above that
 pub record IsAlike (bit : ℕ) (list : List (ℕ × ℕ)) (c : ℕ) : Type 0 where
   pub multiple : c % 2 ^ bit ≡ 0
-  pub alike : (z : ℕ × ℕ) → Contains list z → key_of z / 2 ^ (bit + 1) ≡ c / 2 ^ (bit + 1)
+  pub alike : (z : ℕ × ℕ) → Contains list z → as_number z / 2 ^ (bit + 1) ≡ c / 2 ^ (bit + 1)
 
 -- all pairs are below c, or from it on
 abbrev pub IsUnder : List (ℕ × ℕ) → ℕ → Type 0
-IsUnder list c = (z : ℕ × ℕ) → Contains list z → key_of z < c
+IsUnder list c = (z : ℕ × ℕ) → Contains list z → as_number z < c
 
 abbrev pub IsOver : List (ℕ × ℕ) → ℕ → Type 0
-IsOver list c = (z : ℕ × ℕ) → Contains list z → c ≤ key_of z
+IsOver list c = (z : ℕ × ℕ) → Contains list z → c ≤ as_number z
 
 -- and some pairs are below it, and some from it on
 pub record IsCut (list : List (ℕ × ℕ)) (c : ℕ) : Type 0 where
   pub bit : ℕ
   pub alike : IsAlike bit list c
-  pub below : (z : ℕ × ℕ) × Contains list z × (key_of z < c)
-  pub above : (z : ℕ × ℕ) × Contains list z × (c ≤ key_of z)
+  pub below : (z : ℕ × ℕ) × Contains list z × (as_number z < c)
+  pub above : (z : ℕ × ℕ) × Contains list z × (c ≤ as_number z)
 
 -- a list in two at c
 pub record IsParted (list : List (ℕ × ℕ)) (c : ℕ) (below above : List (ℕ × ℕ)) : Type 0 where

@@ -3,8 +3,8 @@ use Rattle.std.specs.Prelude.{◌≡◌, ℕ, ◌^◌, ◌<◌}
 use Rattle.lists.specs.declared.known.Union.{Union}
 
 -- the numbers of both lists, and that of their union
-abbrev pub union_of : Union → (ℕ × ℕ) × ℕ
-union_of u = ((u.first, u.second), u.union)
+abbrev pub noted_union : Union → (ℕ × ℕ) × ℕ
+noted_union u = ((u.first, u.second), u.union)
 
 -- the union of the empty list with itself
 abbrev pub IsNone : (ℕ × ℕ) × ℕ → Type 0
@@ -16,5 +16,5 @@ pub record HasPlaces (count : ℕ) : Type 0 where
   pub few : count < 2 ^ 32
 
 -- what stands where no union was noted
-abbrev pub none : Union
-none = record { first = 0; second = 0; union = 0 }
+abbrev pub no_entry : Union
+no_entry = record { first = 0; second = 0; union = 0 }

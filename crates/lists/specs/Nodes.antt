@@ -31,18 +31,18 @@ abbrev pub node_at : List Node → ℕ → Node
 node_at nodes k = slice_index_or nodes k (Whole 0 0)
 
 -- the list of a node, from the lists before it
-abbrev pub list_of : List (ℕ × ℕ) → List (List (ℕ × ℕ)) → Node → List (ℕ × ℕ)
-list_of pairs lists (Whole start count) = slice_range pairs start (start + count)
-list_of pairs lists (Halved h) = list_at lists h.below ++ list_at lists h.above
+abbrev pub kept_list : List (ℕ × ℕ) → List (List (ℕ × ℕ)) → Node → List (ℕ × ℕ)
+kept_list pairs lists (Whole start count) = slice_range pairs start (start + count)
+kept_list pairs lists (Halved h) = list_at lists h.below ++ list_at lists h.above
 
 -- the first n lists, each from those before it
 unfoldable pub lists_to : List (ℕ × ℕ) → List Node → ℕ → List (List (ℕ × ℕ))
 lists_to pairs nodes zero = []
-lists_to pairs nodes (suc n) = lists_to pairs nodes n ++ list_of pairs (lists_to pairs nodes n) (node_at nodes n) ∷ []
+lists_to pairs nodes (suc n) = lists_to pairs nodes n ++ kept_list pairs (lists_to pairs nodes n) (node_at nodes n) ∷ []
 
 -- all lists
-abbrev pub lists_of : List (ℕ × ℕ) → List Node → List (List (ℕ × ℕ))
-lists_of pairs nodes = lists_to pairs nodes (length nodes)
+abbrev pub kept_lists : List (ℕ × ℕ) → List Node → List (List (ℕ × ℕ))
+kept_lists pairs nodes = lists_to pairs nodes (length nodes)
 
 -- lists in strictly rising order of pairs that fit, the first of which is empty, and not too many for their numbers
 pub record AreStored (lists : List (List (ℕ × ℕ))) : Type 0 where
@@ -55,10 +55,10 @@ pub record AreStored (lists : List (List (ℕ × ℕ))) : Type 0 where
 
 -- each node is a range of few pairs, or has halves
 pub record AreNodes (pairs : List (ℕ × ℕ)) (nodes : List Node) : Type 0 where
-  pub stored : AreStored (lists_of pairs nodes)
+  pub stored : AreStored (kept_lists pairs nodes)
   pub empty : node_at nodes 0 ≡ Whole 0 0
   pub whole : (k start count : ℕ) → k < length nodes → node_at nodes k ≡ Whole start count → (start + count ≤ length pairs) × (count ≤ FEW)
-  pub halved : (k : ℕ) (h : Halves) → k < length nodes → node_at nodes k ≡ Halved h → IsHalved (lists_of pairs nodes) k h
+  pub halved : (k : ℕ) (h : Halves) → k < length nodes → node_at nodes k ≡ Halved h → IsHalved (kept_lists pairs nodes) k h
 
 -- the list number k is kept so
 abbrev pub IsShape : List (List (ℕ × ℕ)) → ℕ → Shape → Type 0

@@ -1,11 +1,11 @@
 //! Where a list is cut into two halves.
 ghost use Rattle.std.specs.Prelude.{◌≡◌, ℕ, ◌*◌, ◌+◌, ◌^◌, ◌<◌};
-ghost use Rattle.lists.specs.Cuts.{key_of, Fit, IsPlace};
+ghost use Rattle.lists.specs.Cuts.{as_number, Fit, IsPlace};
 
 /// The pair as one number, in the order of pairs.
 #[inline(always)]
 pub(crate) fn key(pair: (u32, u32)) -> u64
-    ensures { result ≡ key_of pair }
+    ensures { result ≡ as_number pair }
 {
     u64::from(pair.0) * 0x1_0000_0000 + u64::from(pair.1)
 }

@@ -1,7 +1,7 @@
 //! The unions that `unions` has made, so that few are made twice.
 ghost use Rattle.std.specs.Prelude.{◌≡◌, ◌⊎◌, ℕ, ◌<◌, map, length, IfOk, IfSome};
 ghost use Rattle.std.specs.List.{All, Contains};
-ghost use Rattle.lists.specs.Known.{none, union_of, HasPlaces, IsNone};
+ghost use Rattle.lists.specs.Known.{no_entry, noted_union, HasPlaces, IsNone};
 
 use crate::hashed::bucket;
 use crate::span::{hash, mix};
@@ -24,7 +24,7 @@ pub(crate) struct Union {
 
 /// The union of the empty list with itself, which stands where none was noted.
 fn no_union() -> Union
-    ensures { result ≡ none }
+    ensures { result ≡ no_entry }
 {
     Union {
         first: 0,
@@ -46,9 +46,9 @@ impl Model for Known {
 
     ghost Value = { List ((ℕ × ℕ) × ℕ) };
 
-    ghost use Rattle.lists.specs.Known.{union_of, HasPlaces};
+    ghost use Rattle.lists.specs.Known.{noted_union, HasPlaces};
 
-    ghost view = { λ x. map union_of x.unions.items };
+    ghost view = { λ x. map noted_union x.unions.items };
 
     ghost invariant = { λ x. HasPlaces (length x.unions.items) };
 }
@@ -119,7 +119,7 @@ fn place(j: u32, k: u32, places: usize) -> usize
 fn widen(unions: &mut Vec<Union>, noted: usize) -> Result<(), Memory>
     requires { HasPlaces (length unions.old.items) }
     ensures places { HasPlaces (length unions.new.items) }
-    ensures same { (z : (ℕ × ℕ) × ℕ) → Contains (map union_of unions.new.items) z → Contains (map union_of unions.old.items) z ⊎ IsNone z }
+    ensures same { (z : (ℕ × ℕ) × ℕ) → Contains (map noted_union unions.new.items) z → Contains (map noted_union unions.old.items) z ⊎ IsNone z }
 {
     if noted <= unions.len() || MOST_PLACES <= unions.len() {
         return Ok(());

@@ -3,7 +3,7 @@ ghost use Rattle.std.specs.Prelude.{◌≡◌, ◌++◌, ◌∷◌, ◌+◌, ◌
 ghost use Rattle.std.specs.List.{slice_range};
 ghost use Rattle.std.specs.Vec.{vec_len, vec_capacity};
 ghost use Rattle.lists.specs.Lists.{list_at};
-ghost use Rattle.lists.specs.Nodes.{IsFew, AreIn, list_of_shape, Suits, IsShape, AreStored, lists_of, AreNodes};
+ghost use Rattle.lists.specs.Nodes.{IsFew, AreIn, list_of_shape, Suits, IsShape, AreStored, kept_lists, AreNodes};
 ghost use Rattle.lists.specs.declared.lists.TheConstants.{MOST_LISTS};
 
 use crate::lists::MOST_LISTS;
@@ -51,9 +51,9 @@ impl Model for Nodes {
 
     ghost Value = { List (List (ℕ × ℕ)) };
 
-    ghost use Rattle.lists.specs.Nodes.{lists_of, AreNodes};
+    ghost use Rattle.lists.specs.Nodes.{kept_lists, AreNodes};
 
-    ghost view = { λ x. lists_of x.pairs.items x.nodes.items };
+    ghost view = { λ x. kept_lists x.pairs.items x.nodes.items };
 
     ghost invariant = { λ x. AreNodes x.pairs.items x.nodes.items };
 }
@@ -133,9 +133,9 @@ fn put_whole(
     requires nodes { AreNodes pairs.old.items nodes.old.items }
     requires list { IsFew list.now }
     ensures nodes { AreNodes pairs.new.items nodes.new.items }
-    ensures put { OnOk result (lists_of pairs.new.items nodes.new.items ≡ lists_of pairs.old.items nodes.old.items ++ list.now ∷ []) }
+    ensures put { OnOk result (kept_lists pairs.new.items nodes.new.items ≡ kept_lists pairs.old.items nodes.old.items ++ list.now ∷ []) }
     ensures number { IfOk result (λ k. k ≡ length nodes.old.items) }
-    ensures err { OnErr result (lists_of pairs.new.items nodes.new.items ≡ lists_of pairs.old.items nodes.old.items) }
+    ensures err { OnErr result (kept_lists pairs.new.items nodes.new.items ≡ kept_lists pairs.old.items nodes.old.items) }
 {
     make_room(nodes)?;
     let number = nodes.len() as u32;
@@ -153,12 +153,12 @@ fn put_whole(
 /// Fails if there is no memory for it. The lists are then as they were.
 fn put_halved(pairs: &Vec<(u32, u32)>, nodes: &mut Vec<Node>, halves: Halves) -> Result<u32, Memory>
     requires nodes { AreNodes pairs.now.items nodes.old.items }
-    requires halves { AreIn (lists_of pairs.now.items nodes.old.items) halves }
+    requires halves { AreIn (kept_lists pairs.now.items nodes.old.items) halves }
     ensures nodes { AreNodes pairs.now.items nodes.new.items }
-    ensures put { let lists = lists_of pairs.now.items nodes.old.items in
-        OnOk result (lists_of pairs.now.items nodes.new.items ≡ lists ++ (list_at lists halves.below ++ list_at lists halves.above) ∷ []) }
+    ensures put { let lists = kept_lists pairs.now.items nodes.old.items in
+        OnOk result (kept_lists pairs.now.items nodes.new.items ≡ lists ++ (list_at lists halves.below ++ list_at lists halves.above) ∷ []) }
     ensures number { IfOk result (λ k. k ≡ length nodes.old.items) }
-    ensures err { OnErr result (lists_of pairs.now.items nodes.new.items ≡ lists_of pairs.now.items nodes.old.items) }
+    ensures err { OnErr result (kept_lists pairs.now.items nodes.new.items ≡ kept_lists pairs.now.items nodes.old.items) }
 {
     make_room(nodes)?;
     let number = nodes.len() as u32;

@@ -301,9 +301,6 @@ module _ {l : Grouped} {blocks : List ℕ} {alone : List Bool} {lists : List (Li
   popped_rest : rest (popped w).frames ≡ rest w.frames
   popped_rest = rest-cut w.frames some read
 
-  pub popped_ahead : ahead l (popped w) ≡ ahead l w
-  popped_ahead = omega (arith, popped_rest)
-
   -- its state is no root
   pub popped_on : (last w.roots).height ≢ here w → GoesOn l blocks alone lists w (popped w)
   popped_on apart = record {
