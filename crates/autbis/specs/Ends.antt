@@ -49,7 +49,7 @@ HasFaultyText bounds (one text) = IfSome text (IsFaulty bounds)
 HasFaultyText bounds (two first second) =
     IfSome first (IsFaulty bounds) ⊎ (IfSome first (λ given. (A : System) × Reads bounds given A) × IfSome second (IsFaulty bounds))
 
--- what a run came to, as its status tells; Sound says that no source failed, and Lost which one did. With Sound, its answer was
+-- what a run came to, as its status tells; Sound says that no source failed, and Lost that one did. With Sound, its answer was
 -- written; or a text is faulty, or memory was refused, and the output is as it was; or the output failed, and has a beginning of
 -- the answer. With Lost, the output is as it was.
 pub data EndsRun {Out : Type 0}

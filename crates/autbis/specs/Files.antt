@@ -1,5 +1,5 @@
 -- The files of a job: which are opened, and what they hold.
-use Rattle.std.specs.Prelude.{◌≡◌, ℕ, List, ◌++◌, Option, None, Some, ⊤}
+use Rattle.std.specs.Prelude.{◌≡◌, ℕ, List, ◌++◌, Option, Some, IfSome}
 
 -- the name of a file, as bytes
 abbrev pub Name : Type 0
@@ -7,8 +7,7 @@ Name = List ℕ
 
 -- known names grow by those that were asked for
 abbrev pub Opens : Option (List Name) → Option (List Name) → List Name → Type 0
-Opens None new names = ⊤
-Opens (Some old) new names = new ≡ Some (old ++ names)
+Opens old new names = IfSome old (λ known. new ≡ Some (known ++ names))
 
 -- names are asked for in this order: all of them, or none after one of them
 abbrev pub OpensInOrder : List Name → Option (List Name) → Option (List Name) → Type 0
