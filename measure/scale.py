@@ -62,7 +62,7 @@ KINDS = {  # what systems of a name are; a number after it is k or n
     "chain": "a line of n states with one label",
 }
 SIZES = 8_000, 16_000, 32_000
-MADE = {  # rows of the second table: what the systems are, and their families
+MADE = {  # rows of the third table: what the systems are, and their families
     "six others: cycles and lines of N inert steps with N labels, and N states that share N labels, nearly or not at all":
         ("inert-cycle", "inert-line", "line-over-hub", "hubs", "halves", "own-labels"),
     "two states with N labels and one more; N states that lead to each, and show the other's one and a new label": ("twins",),

@@ -1,5 +1,5 @@
 #!/usr/bin/env python3
-"""Builds the crates below `quotient` as plain Rust, their contracts stripped, with the yardstick's reader and writer
+"""Builds the crates up to `quotient` as plain Rust, their contracts stripped, with the yardstick's reader and writer
 around: a form of the code can be tried in half a minute, before anything is proved.
 
 usage: measure/plain/strip.py                   makes measure/out/plain anew, and builds it
