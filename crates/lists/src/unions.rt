@@ -84,6 +84,9 @@ pub(crate) fn with(
     if pairs.is_empty() {
         return Ok(k);
     }
+    if k == EMPTY {
+        return list_of(lists, pairs);
+    }
     match lists.shape(k) {
         Shape::Whole(list) => {
             merged.clear();
@@ -187,8 +190,11 @@ pub(crate) fn both(
     ensures grow { Grow lists.old lists.new }
 {
     lists.known();
-    if j == k {
+    if j == k || k == EMPTY {
         return Ok(j);
+    }
+    if j == EMPTY {
+        return Ok(k);
     }
     match lists.shape(j) {
         Shape::Whole(_) => with_list(lists, scratch, j, k),

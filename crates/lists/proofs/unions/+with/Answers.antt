@@ -19,15 +19,15 @@ both_are : (t : ℕ) (c : After-deref t) → c.deref.result.now ≡ merged (list
 both_are t c =
     c.deref.ensures.value ∙ c.in_ok-append_merged-in-Whole.ensures ∙ (λ i. c.clear.ensures.items i ++ merged (c.in-Whole.ensures.0 i) c.args.pairs.now)
 
-pub list_of-requires-clause-rising : goal.list_of-requires-clause-rising
-list_of-requires-clause-rising t c =
-    subst (IsStrictlySortedBy pair_cmp) (sym (both_are t ((goal.at.list_of-requires-clause-rising t c).After-deref)))
+pub list_of-requires-in-Whole-clause-rising : goal.list_of-requires-in-Whole-clause-rising
+list_of-requires-in-Whole-clause-rising t c =
+    subst (IsStrictlySortedBy pair_cmp) (sym (both_are t ((goal.at.list_of-requires-in-Whole-clause-rising t c).After-deref)))
     (merged_rises _ _ (c.known.ensures.stored.rise c.args.k _ c.requires.list) c.requires.rising)
 
-pub list_of-requires-clause-fit : goal.list_of-requires-clause-fit
-list_of-requires-clause-fit t c = λ z d.
+pub list_of-requires-in-Whole-clause-fit : goal.list_of-requires-in-Whole-clause-fit
+list_of-requires-in-Whole-clause-fit t c = λ z d.
     elim ((merged_has z (list_at c.args.lists.now c.args.k) c.args.pairs.now).0
-    (subst (λ l. Contains l z) (both_are t ((goal.at.list_of-requires-clause-fit t c).After-deref)) d)) [
+    (subst (λ l. Contains l z) (both_are t ((goal.at.list_of-requires-in-Whole-clause-fit t c).After-deref)) d)) [
       | inl a ↦ c.known.ensures.stored.fit c.args.k z a
       | inr b ↦ c.requires.fit z b
     ]
@@ -35,7 +35,7 @@ list_of-requires-clause-fit t c = λ z d.
 pub returns-in_ok-append_merged-in-Whole-clause-exactly : goal.returns-in_ok-append_merged-in-Whole-clause-exactly
 returns-in_ok-append_merged-in-Whole-clause-exactly t c =
     let both = both_are t ((goal.at.returns-in_ok-append_merged-in-Whole-clause-exactly t c).After-deref) in
-    IfOk-weaker c.list_of.result _ _ (λ i e. unites_merged _ (list_at c.args.lists.now c.args.k) c.args.pairs.now (e ∙ both)) c.list_of.ensures.list
+    IfOk-weaker c.list_of-in-Whole.result _ _ (λ i e. unites_merged _ (list_at c.args.lists.now c.args.k) c.args.pairs.now (e ∙ both)) c.list_of-in-Whole.ensures.list
 
 -- a long list and some pairs are parted at one place
 module _ (t : ℕ) (c : After-parted t) where
