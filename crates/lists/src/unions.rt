@@ -102,6 +102,9 @@ pub(crate) fn with(
             let lower = with(lists, merged, below, few)?;
             let upper = with(lists, merged, above, more)?;
             lists.known();
+            if lower == below && upper == above {
+                return Ok(k);
+            }
             lists.number(Shape::Halved(Halves {
                 below: lower,
                 above: upper,
