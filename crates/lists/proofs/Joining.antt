@@ -14,34 +14,43 @@ or_swap f = (
 abbrev pub HasUpTo : List (List (ℕ × ℕ)) → List ℕ → ℕ → ℕ × ℕ → Type 0
 HasUpTo lists numbers i z = (j : ℕ) × (j < i) × Contains (list_at lists (slice_index numbers j)) z
 
--- the first i lists are part of this one, which has no pair that none of the lists has
-pub record IsUpTo (lists : List (List (ℕ × ℕ))) (numbers : List ℕ) (i : ℕ) (list : List (ℕ × ℕ)) : Type 0 where
+-- the pairs and the first i lists are part of this one, which has no pair that is neither one of the pairs nor in one of the lists
+pub record IsUpTo (lists : List (List (ℕ × ℕ))) (numbers : List ℕ) (pairs : List (ℕ × ℕ)) (i : ℕ) (list : List (ℕ × ℕ)) : Type 0 where
+  pub pairs_in : (z : ℕ × ℕ) → Contains pairs z → Contains list z
   pub all : (z : ℕ × ℕ) → HasUpTo lists numbers i z → Contains list z
-  pub sound : (z : ℕ × ℕ) → Contains list z → HasOne lists numbers z
+  pub sound : (z : ℕ × ℕ) → Contains list z → Contains pairs z ⊎ HasOne lists numbers z
 
-module _ (lists : List (List (ℕ × ℕ))) (numbers : List ℕ) where
-  pub IsUpTo-none : (list : List (ℕ × ℕ)) → ((z : ℕ × ℕ) → Contains list z → HasOne lists numbers z) → IsUpTo lists numbers 0 list
-  IsUpTo-none list sound = record { all = λ z h. let low = h.1 in absurd (omega (arith, low)); sound = sound }
+module _ (lists : List (List (ℕ × ℕ))) (numbers : List ℕ) (pairs : List (ℕ × ℕ)) where
+  pub IsUpTo-none : (list : List (ℕ × ℕ)) → list ≡ pairs → IsUpTo lists numbers pairs 0 list
+  IsUpTo-none list e = record {
+    pairs_in = λ z c. subst (λ l. Contains l z) (sym e) c;
+    all = λ z h. let low = h.1 in absurd (omega (arith, low));
+    sound = λ z c. inl (subst (λ l. Contains l z) e c);
+  }
 
-  pub IsUpTo-more : (i : ℕ) (old more new : List (ℕ × ℕ)) → i < length numbers → IsUpTo lists numbers i old
+  pub IsUpTo-more : (i : ℕ) (old more new : List (ℕ × ℕ)) → i < length numbers → IsUpTo lists numbers pairs i old
       → more ≡ list_at lists (slice_index numbers i) → ((z : ℕ × ℕ) → Contains new z ↔ (Contains old z ⊎ Contains more z))
-      → IsUpTo lists numbers (i + 1) new
+      → IsUpTo lists numbers pairs (i + 1) new
   IsUpTo-more i old more new below before is both = record {
+    pairs_in = λ z c. (both z).1 (inl (before.pairs_in z c));
     all = λ z h. let (j, low, has) = h in (both z).1 (elim (cases_eq j i) [
       | inl e ↦ inr (subst (λ l. Contains l z) (sym is) (subst (λ x. Contains (list_at lists (slice_index numbers x)) z) e has))
       | inr d ↦ inl (before.all z (j, omega (arith, low, d), has))
     ]);
     sound = λ z c. elim ((both z).0 c) [
       | inl o ↦ before.sound z o
-      | inr m ↦ (i, below, subst (λ l. Contains l z) is m)
+      | inr m ↦ inr (i, below, subst (λ l. Contains l z) is m)
     ];
   }
 
-  pub IsUpTo-all : (i : ℕ) (list : List (ℕ × ℕ)) → i ≡ length numbers → IsUpTo lists numbers i list
-      → (z : ℕ × ℕ) → Contains list z ↔ HasOne lists numbers z
+  pub IsUpTo-all : (i : ℕ) (list : List (ℕ × ℕ)) → i ≡ length numbers → IsUpTo lists numbers pairs i list
+      → (z : ℕ × ℕ) → Contains list z ↔ (Contains pairs z ⊎ HasOne lists numbers z)
   IsUpTo-all i list end is z = (
     λ c. is.sound z c,
-    λ h. let (j, low, has) = h in is.all z (j, omega (arith, low, end), has),
+    λ o. elim o [
+      | inl c ↦ is.pairs_in z c
+      | inr h ↦ let (j, low, has) = h in is.all z (j, omega (arith, low, end), has)
+    ],
   )
 
 -- lists that grow twice
@@ -58,12 +67,6 @@ Grow-twice first second =
 
 pub same_as : {A B C : Type 0} → A ↔ B → B ↔ C → A ↔ C
 same_as f g = (λ a. g.0 (f.0 a), λ c. f.1 (g.1 c))
-
-pub or_same : {A P B C : Type 0} → A ↔ (P ⊎ B) → B ↔ C → A ↔ (P ⊎ C)
-or_same f g = (
-  λ a. elim (f.0 a) [ inl p ↦ inl p | inr b ↦ inr (g.0 b) ],
-  λ o. f.1 (elim o [ inl p ↦ inl p | inr c ↦ inr (g.1 c) ]),
-)
 
 -- unions stay so as the lists grow
 module _ {old new : List (List (ℕ × ℕ))} (grow : Grow old new) where

@@ -3,12 +3,11 @@ ghost use Rattle.std.specs.Prelude.{◌≡◌, ◌⊎◌, ◌↔◌, ℕ, ◌++�
 ghost use Rattle.std.specs.List.{Contains};
 ghost use Rattle.std.specs.List.Sorted.{IsStrictlySortedBy};
 ghost use Rattle.lists.specs.Lists.{pair_cmp, list_at, AreLists, AreNumbers, Grow, HasOne};
-ghost use Rattle.lists.specs.Unions.{Unites};
 
 use crate::cut::fit;
 use crate::distinct::Distinct;
 use crate::known::Known;
-use crate::unions::{Scratch, both, list_of, with};
+use crate::unions::{Scratch, join, list_of};
 use growth::Memory;
 use std::alloc::Global;
 use std::marker::Model;
@@ -27,6 +26,8 @@ pub struct Lists {
     /// The unions that were made.
     known: Known,
     scratch: Scratch,
+    /// The pairs of lists that are kept whole, while lists are joined.
+    few: Vec<(u32, u32)>,
 }
 
 impl Model for Lists {
@@ -55,6 +56,7 @@ impl Lists {
                 held: Vec::new(alloc),
                 merged: Vec::new(alloc),
             },
+            few: Vec::new(alloc),
         })
     }
 
@@ -118,52 +120,15 @@ impl Lists {
         // In either case
         ensures grow { Grow self.old self.new }
     {
-        let union = self.union(lists)?;
-        self.with(union, pairs)
-    }
-
-    /// The number of the list that has the pairs of the list number `k` and these.
-    ///
-    /// Fails if there is no memory for it.
-    fn with(&mut self, k: u32, pairs: &[(u32, u32)]) -> Result<u32, Memory>
-        requires list { k < length self.old }
-        requires rising { IsStrictlySortedBy pair_cmp pairs.now }
-        ensures within { IfOk result (λ i. i < length self.new) }
-        ensures exactly { IfOk result (λ i. Unites (list_at self.new i) pairs.now (list_at self.old k)) }
-        ensures grow { Grow self.old self.new }
-    {
         fit(pairs);
-        with(&mut self.lists, &mut self.scratch.merged, k, pairs)
-    }
-
-    /// The number of the list that has the pairs of these lists.
-    ///
-    /// Fails if there is no memory for it.
-    fn union(&mut self, numbers: &[u32]) -> Result<u32, Memory>
-        requires { AreNumbers self.old numbers.now }
-        ensures within { IfOk result (λ k. k < length self.new) }
-        ensures exactly { IfOk result (λ k. (z : ℕ × ℕ) → Contains (list_at self.new k) z ↔ HasOne self.old numbers.now z) }
-        ensures grow { Grow self.old self.new }
-    {
-        self.known();
-        let mut union = EMPTY;
-        for k in numbers {
-            union = self.both(union, *k)?;
-        }
-        Ok(union)
-    }
-
-    /// The number of the list that has the pairs of both lists.
-    ///
-    /// Fails if there is no memory for it.
-    fn both(&mut self, j: u32, k: u32) -> Result<u32, Memory>
-        requires first { j < length self.old }
-        requires second { k < length self.old }
-        ensures within { IfOk result (λ i. i < length self.new) }
-        ensures exactly { IfOk result (λ i. Unites (list_at self.new i) (list_at self.old j) (list_at self.old k)) }
-        ensures grow { Grow self.old self.new }
-    {
-        both(&mut self.lists, &mut self.known, &mut self.scratch, j, k)
+        join(
+            &mut self.lists,
+            &mut self.known,
+            &mut self.scratch,
+            &mut self.few,
+            lists,
+            pairs,
+        )
     }
 
     /// Forgets all lists but the empty one, and keeps the memory.

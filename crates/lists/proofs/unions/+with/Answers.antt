@@ -8,6 +8,7 @@ use Rattle.lists.specs.Lists.{pair_cmp, list_at, merged}
 use Rattle.lists.specs.Cuts.{IsCut, IsParted}
 use Rattle.lists.specs.Nodes.{AreIn}
 use Rattle.lists.specs.Unions.{Unites, IsSplit}
+use Rattle.lists.proofs.Joining.{Grow-twice}
 use Rattle.lists.proofs.Keys.{parts_rise, parts_fit}
 use Rattle.lists.proofs.Merging.{merged_has, merged_rises}
 use Rattle.lists.proofs.Uniting.{alike_list, with_cut, with_cut_both, falls_below, falls_above, AreIn-united, unites_merged}
@@ -19,15 +20,15 @@ both_are : (t : ℕ) (c : After-deref t) → c.deref.result.now ≡ merged (list
 both_are t c =
     c.deref.ensures.value ∙ c.in_ok-append_merged-in-Whole.ensures ∙ (λ i. c.clear.ensures.items i ++ merged (c.in-Whole.ensures.0 i) c.args.pairs.now)
 
-pub list_of-requires-clause-rising : goal.list_of-requires-clause-rising
-list_of-requires-clause-rising t c =
-    subst (IsStrictlySortedBy pair_cmp) (sym (both_are t ((goal.at.list_of-requires-clause-rising t c).After-deref)))
+pub list_of-requires-in-Whole-clause-rising : goal.list_of-requires-in-Whole-clause-rising
+list_of-requires-in-Whole-clause-rising t c =
+    subst (IsStrictlySortedBy pair_cmp) (sym (both_are t ((goal.at.list_of-requires-in-Whole-clause-rising t c).After-deref)))
     (merged_rises _ _ (c.known.ensures.stored.rise c.args.k _ c.requires.list) c.requires.rising)
 
-pub list_of-requires-clause-fit : goal.list_of-requires-clause-fit
-list_of-requires-clause-fit t c = λ z d.
+pub list_of-requires-in-Whole-clause-fit : goal.list_of-requires-in-Whole-clause-fit
+list_of-requires-in-Whole-clause-fit t c = λ z d.
     elim ((merged_has z (list_at c.args.lists.now c.args.k) c.args.pairs.now).0
-    (subst (λ l. Contains l z) (both_are t ((goal.at.list_of-requires-clause-fit t c).After-deref)) d)) [
+    (subst (λ l. Contains l z) (both_are t ((goal.at.list_of-requires-in-Whole-clause-fit t c).After-deref)) d)) [
       | inl a ↦ c.known.ensures.stored.fit c.args.k z a
       | inr b ↦ c.requires.fit z b
     ]
@@ -35,7 +36,7 @@ list_of-requires-clause-fit t c = λ z d.
 pub returns-in_ok-append_merged-in-Whole-clause-exactly : goal.returns-in_ok-append_merged-in-Whole-clause-exactly
 returns-in_ok-append_merged-in-Whole-clause-exactly t c =
     let both = both_are t ((goal.at.returns-in_ok-append_merged-in-Whole-clause-exactly t c).After-deref) in
-    IfOk-weaker c.list_of.result _ _ (λ i e. unites_merged _ (list_at c.args.lists.now c.args.k) c.args.pairs.now (e ∙ both)) c.list_of.ensures.list
+    IfOk-weaker c.list_of-in-Whole.result _ _ (λ i e. unites_merged _ (list_at c.args.lists.now c.args.k) c.args.pairs.now (e ∙ both)) c.list_of-in-Whole.ensures.list
 
 -- a long list and some pairs are parted at one place
 module _ (t : ℕ) (c : After-parted t) where
@@ -131,10 +132,27 @@ united_in t c =
     (sym (c.with.ensures.grow.same c.split-below.result.1 (omega arith))) is.parted)
     (c.known.ensures.stored.rise c.args.k _ low) (omega arith) (union t at)
 
+pub returns-then-upper-above-clause-exactly : goal.returns-then-upper-above-clause-exactly
+returns-then-upper-above-clause-exactly t c =
+    let at = (goal.at.returns-then-upper-above-clause-exactly t c).After-known-in-Halved in
+    let lists = c.args.lists.now in
+    let is = is_split t ((goal.at.returns-then-upper-above-clause-exactly t c).After-parted) in
+    let grow = Grow-twice c.with.ensures.grow c.with-in-Halved.ensures.grow in
+    let new = c.with-in-Halved.new.lists in
+    let first = is.first in
+    let second = is.second in
+    let low = c.requires.list in
+    let lower : c.in_ok-lower-in-Halved.lower ≡ c.split-below.result.0 = omega (arith, c.if-lower-below.true) in
+    let upper : c.in_ok-upper-in-Halved.upper ≡ c.split-below.result.1 = omega (arith, c.if-upper-above.true) in
+    subst (λ l. Unites l c.args.pairs.now (list_at lists c.args.k))
+    ((λ i. list_at new (lower i) ++ list_at new (upper i))
+    ∙ (λ i. grow.same c.split-below.result.0 (omega arith) i ++ grow.same c.split-below.result.1 (omega arith) i)
+    ∙ sym is.parted.joined ∙ sym (grow.same c.args.k low)) (united_in t at).1
+
 pub number-requires : goal.number-requires
 number-requires t c = (united_in t ((goal.at.number-requires t c).After-known-in-Halved)).0
 
-pub returns-in_ok-upper-in-Halved-clause-exactly : goal.returns-in_ok-upper-in-Halved-clause-exactly
-returns-in_ok-upper-in-Halved-clause-exactly t c =
-    let both = (united_in t ((goal.at.returns-in_ok-upper-in-Halved-clause-exactly t c).After-known-in-Halved)).1 in
+pub returns-else-lower-below-clause-exactly : goal.returns-else-lower-below-clause-exactly
+returns-else-lower-below-clause-exactly t c =
+    let both = (united_in t ((goal.at.returns-else-lower-below-clause-exactly t c).After-known-in-Halved)).1 in
     IfOk-weaker c.number.result _ _ (λ i e. subst (λ l. Unites l c.args.pairs.now (list_at c.args.lists.now c.args.k)) (sym e) both) c.number.ensures.list

@@ -1,7 +1,9 @@
-use Rattle.std.proofs.lemmas.Result.{IfOk-weaker}
-use Rattle.lists.proofs.Joining.{or_same}
+use Rattle.std.specs.Prelude.{◌⊎◌, ◌↔◌, IfOk, ℕ}
+use Rattle.std.proofs.Common.{subst, Contains}
+use Rattle.lists.specs.Lists.{list_at, HasOne}
 use Rattle.lists.proofs.lists.Lists.join.Goals as goal
 
 pub returns-clause-exactly : goal.returns-clause-exactly
 returns-clause-exactly c =
-    IfOk-weaker c.with.result _ _ (λ k h z. or_same (h z) (c.in_ok-union.ensures.exactly z)) c.with.ensures.exactly
+    subst (λ l. IfOk c.join.result (λ k. (z : ℕ × ℕ) → Contains (list_at c.join.new.lists k) z ↔ (Contains c.args.pairs.now z ⊎ HasOne l c.args.lists.now z)))
+    c.self.view_is c.join.ensures.exactly
