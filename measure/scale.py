@@ -306,7 +306,7 @@ class Panel:
     def named(self, words, across, up, colour, taken):
         """Words beside a point, where nothing else is, and notes their room in `taken`."""
         x, y, wide = self.x(across), self.y(up), 6.6 * len(words)
-        lefts = x + 7, x - 7 - wide, x - wide / 2, x + 20, x - 20 - wide
+        lefts = x + 7, x - 7 - wide, max(x - wide / 2, self.left + 3), x + 20, x - 20 - wide
         middles = (y + down for down in (0, -13, 13, -26, 26, -39, 39))
         rooms = [(left, middle - 6, left + wide, middle + 6) for middle in middles for left in lefts]
         meets = lambda a, b: a[0] < b[2] and b[0] < a[2] and a[1] < b[3] and b[1] < a[3]
