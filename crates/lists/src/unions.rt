@@ -12,7 +12,7 @@ use crate::distinct::Distinct;
 use crate::known::Known;
 use crate::lists::EMPTY;
 use crate::nodes::{FEW, Halves, Shape};
-use crate::ordered::append_merged;
+use crate::ordered::{append_merged, has_all};
 use growth::Memory;
 use std::mem::swap;
 
@@ -89,6 +89,9 @@ pub(crate) fn with(
     }
     match lists.shape(k) {
         Shape::Whole(list) => {
+            if has_all(list, pairs) {
+                return Ok(k);
+            }
             merged.clear();
             append_merged(list, pairs, merged)?;
             list_of(lists, merged)

@@ -38,6 +38,11 @@ returns-in_ok-append_merged-in-Whole-clause-exactly t c =
     let both = both_are t ((goal.at.returns-in_ok-append_merged-in-Whole-clause-exactly t c).After-deref) in
     IfOk-weaker c.list_of-in-Whole.result _ _ (λ i e. unites_merged _ (list_at c.args.lists.now c.args.k) c.args.pairs.now (e ∙ both)) c.list_of-in-Whole.ensures.list
 
+pub returns-then-has_all-clause-exactly : goal.returns-then-has_all-clause-exactly
+returns-then-has_all-clause-exactly t c =
+    unites_merged (list_at c.args.lists.now c.args.k) (list_at c.args.lists.now c.args.k) c.args.pairs.now
+    (sym (subst (λ l. merged l c.args.pairs.now ≡ l) c.in-Whole.ensures.0 (c.has_all.ensures.0 c.if-has_all.true)))
+
 -- a long list and some pairs are parted at one place
 module _ (t : ℕ) (c : After-parted t) where
   some : 0 < length c.args.pairs.now
