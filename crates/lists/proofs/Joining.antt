@@ -1,7 +1,7 @@
 -- Unions of several lists in turn, and unions that stay so as lists grow.
-use Rattle.std.proofs.Common.{◌≡◌, ◌∙◌, ◌⊎◌, ◌↔◌, ℕ, ◌+◌, ◌<◌, List, length, slice_index, min, max, Contains, sym, subst, refl, inl, inr, arith}
+use Rattle.std.proofs.Common.{◌≡◌, ◌∙◌, ◌⊎◌, ◌↔◌, ℕ, ◌+◌, ◌<◌, List, [], length, slice_index, min, max, Contains, sym, subst, refl, inl, inr, arith}
 use Rattle.std.proofs.lemmas.Bool.{cases_eq, cases_lt}
-use Rattle.lists.specs.Lists.{list_at, Grow, HasOne}
+use Rattle.lists.specs.Lists.{list_at, Grow}
 use Rattle.lists.specs.Unions.{Unites, IsUnion, AreUnions}
 
 pub or_swap : {A B C : Type 0} → A ↔ (B ⊎ C) → A ↔ (C ⊎ B)
@@ -14,43 +14,25 @@ or_swap f = (
 abbrev pub HasUpTo : List (List (ℕ × ℕ)) → List ℕ → ℕ → ℕ × ℕ → Type 0
 HasUpTo lists numbers i z = (j : ℕ) × (j < i) × Contains (list_at lists (slice_index numbers j)) z
 
--- the pairs and the first i lists are part of this one, which has no pair that is neither one of the pairs nor in one of the lists
-pub record IsUpTo (lists : List (List (ℕ × ℕ))) (numbers : List ℕ) (pairs : List (ℕ × ℕ)) (i : ℕ) (list : List (ℕ × ℕ)) : Type 0 where
-  pub pairs_in : (z : ℕ × ℕ) → Contains pairs z → Contains list z
-  pub all : (z : ℕ × ℕ) → HasUpTo lists numbers i z → Contains list z
-  pub sound : (z : ℕ × ℕ) → Contains list z → Contains pairs z ⊎ HasOne lists numbers z
+-- one list more is united with those up to it
+module _ (lists : List (List (ℕ × ℕ))) (numbers : List ℕ) where
+  pub up_to_none : (list : List (ℕ × ℕ)) → list ≡ [] → (z : ℕ × ℕ) → Contains list z ↔ HasUpTo lists numbers 0 z
+  up_to_none list e z = (
+    λ c. let d = subst (λ l. Contains l z) e c in absurd (omega (arith, d.1)),
+    λ h. absurd (omega (arith, h.1)),
+  )
 
-module _ (lists : List (List (ℕ × ℕ))) (numbers : List ℕ) (pairs : List (ℕ × ℕ)) where
-  pub IsUpTo-none : (list : List (ℕ × ℕ)) → list ≡ pairs → IsUpTo lists numbers pairs 0 list
-  IsUpTo-none list e = record {
-    pairs_in = λ z c. subst (λ l. Contains l z) (sym e) c;
-    all = λ z h. let low = h.1 in absurd (omega (arith, low));
-    sound = λ z c. inl (subst (λ l. Contains l z) e c);
-  }
-
-  pub IsUpTo-more : (i : ℕ) (old more new : List (ℕ × ℕ)) → i < length numbers → IsUpTo lists numbers pairs i old
-      → more ≡ list_at lists (slice_index numbers i) → ((z : ℕ × ℕ) → Contains new z ↔ (Contains old z ⊎ Contains more z))
-      → IsUpTo lists numbers pairs (i + 1) new
-  IsUpTo-more i old more new below before is both = record {
-    pairs_in = λ z c. (both z).1 (inl (before.pairs_in z c));
-    all = λ z h. let (j, low, has) = h in (both z).1 (elim (cases_eq j i) [
-      | inl e ↦ inr (subst (λ l. Contains l z) (sym is) (subst (λ x. Contains (list_at lists (slice_index numbers x)) z) e has))
-      | inr d ↦ inl (before.all z (j, omega (arith, low, d), has))
-    ]);
-    sound = λ z c. elim ((both z).0 c) [
-      | inl o ↦ before.sound z o
-      | inr m ↦ inr (i, below, subst (λ l. Contains l z) is m)
-    ];
-  }
-
-  pub IsUpTo-all : (i : ℕ) (list : List (ℕ × ℕ)) → i ≡ length numbers → IsUpTo lists numbers pairs i list
-      → (z : ℕ × ℕ) → Contains list z ↔ (Contains pairs z ⊎ HasOne lists numbers z)
-  IsUpTo-all i list end is z = (
-    λ c. is.sound z c,
-    λ o. elim o [
-      | inl c ↦ is.pairs_in z c
-      | inr h ↦ let (j, low, has) = h in is.all z (j, omega (arith, low, end), has)
+  pub up_to_more : (i : ℕ) (old new : List (ℕ × ℕ)) → ((z : ℕ × ℕ) → Contains old z ↔ HasUpTo lists numbers i z)
+      → Unites new old (list_at lists (slice_index numbers i)) → (z : ℕ × ℕ) → Contains new z ↔ HasUpTo lists numbers (i + 1) z
+  up_to_more i old new before both z = (
+    λ c. elim ((both z).0 c) [
+      | inl o ↦ let (j, low, has) = (before z).0 o in (j, omega (arith, low), has)
+      | inr m ↦ (i, omega arith, m)
     ],
+    λ h. let (j, low, has) = h in (both z).1 (elim (cases_eq j i) [
+      | inl e ↦ inr (subst (λ x. Contains (list_at lists (slice_index numbers x)) z) e has)
+      | inr d ↦ inl ((before z).1 (j, omega (arith, low, d), has))
+    ]),
   )
 
 -- lists that grow twice
@@ -64,6 +46,9 @@ Grow-twice first second =
       longer = let more = second.longer in omega arith;
       same = λ k h. second.same k (omega arith) ∙ first.same k h;
     }
+
+pub or_right : {A B C : Type 0} → B ↔ C → (A ⊎ B) ↔ (A ⊎ C)
+or_right f = (λ o. elim o [ inl a ↦ inl a | inr b ↦ inr (f.0 b) ], λ o. elim o [ inl a ↦ inl a | inr c ↦ inr (f.1 c) ])
 
 pub same_as : {A B C : Type 0} → A ↔ B → B ↔ C → A ↔ C
 same_as f g = (λ a. g.0 (f.0 a), λ c. f.1 (g.1 c))

@@ -6,13 +6,13 @@ use Rattle.std.proofs.lemmas.List.{length-append, append-nil}
 use Rattle.lists.specs.declared.nodes.Halves.{Halves}
 use Rattle.lists.specs.declared.nodes.TheConstants.{FEW}
 use Rattle.lists.specs.Lists.{pair_cmp, list_at, merged, Grow}
-use Rattle.lists.specs.Cuts.{as_number, Fit, IsPairs, IsPlace, IsAlike, IsCut, IsUnder, IsOver, IsParted}
+use Rattle.lists.specs.Cuts.{as_number, Fit, IsPlace, IsAlike, IsCut, IsUnder, IsOver, IsParted}
 use Rattle.lists.specs.Nodes.{IsHalved, AreStored, AreIn}
 use Rattle.lists.specs.Unions.{Unites, IsSplit}
 use Rattle.lists.proofs.Cuts.{alike_wider, alike_within, all_under, all_over}
 use Rattle.lists.proofs.Keys.{halves_has, halves_rise, parts_has}
 use Rattle.lists.proofs.Halving.{keys_between, has_first, has_last}
-use Rattle.lists.proofs.Merging.{merged_has, merged_rises}
+use Rattle.lists.proofs.Merging.{merged_has}
 use Rattle.lists.proofs.Pairs.{pair_total}
 use Rattle.lists.proofs.Rising.{rising_fewer}
 
@@ -266,44 +266,6 @@ unites_merged list xs ys e = subst (λ l. Unites l ys xs) (sym e) (λ z. (
   λ d. elim ((merged_has z xs ys).0 d) [ inl a ↦ inr a | inr b ↦ inl b ],
   λ d. elim d [ inl b ↦ (merged_has z xs ys).1 (inr b) | inr a ↦ (merged_has z xs ys).1 (inl a) ],
 ))
-
-pub pairs_merged : (list xs ys : List (ℕ × ℕ)) → list ≡ merged xs ys → IsPairs xs → IsPairs ys → IsPairs list
-pairs_merged list xs ys e first second = subst IsPairs (sym e) (record {
-  rising = merged_rises xs ys first.rising second.rising;
-  fit = λ z d. elim ((merged_has z xs ys).0 d) [ inl a ↦ first.fit z a | inr b ↦ second.fit z b ];
-})
-
--- two lists one after the other, to one of which the pairs of a third one are put
-module _ (xs ys more new : List (ℕ × ℕ)) where
-  pub unites_first : Unites new xs more → Unites (new ++ ys) (xs ++ ys) more
-  unites_first unites z = (
-    λ d. elim ((halves_has new ys 0 z).0 d) [
-      | inl a ↦ elim ((unites z).0 a) [ inl x ↦ inl ((halves_has xs ys 0 z).1 (inl x)) | inr m ↦ inr m ]
-      | inr b ↦ inl ((halves_has xs ys 0 z).1 (inr b))
-    ],
-    λ d. elim d [
-      | inl e ↦ elim ((halves_has xs ys 0 z).0 e) [
-        | inl x ↦ (halves_has new ys 0 z).1 (inl ((unites z).1 (inl x)))
-        | inr y ↦ (halves_has new ys 0 z).1 (inr y)
-      ]
-      | inr m ↦ (halves_has new ys 0 z).1 (inl ((unites z).1 (inr m)))
-    ],
-  )
-
-  pub unites_second : Unites new ys more → Unites (xs ++ new) (xs ++ ys) more
-  unites_second unites z = (
-    λ d. elim ((halves_has xs new 0 z).0 d) [
-      | inl x ↦ inl ((halves_has xs ys 0 z).1 (inl x))
-      | inr a ↦ elim ((unites z).0 a) [ inl y ↦ inl ((halves_has xs ys 0 z).1 (inr y)) | inr m ↦ inr m ]
-    ],
-    λ d. elim d [
-      | inl e ↦ elim ((halves_has xs ys 0 z).0 e) [
-        | inl x ↦ (halves_has xs new 0 z).1 (inl x)
-        | inr y ↦ (halves_has xs new 0 z).1 (inr ((unites z).1 (inl y)))
-      ]
-      | inr m ↦ (halves_has xs new 0 z).1 (inr ((unites z).1 (inr m)))
-    ],
-  )
 
 -- a pair of a list with halves is on its own side of the cut
 module _ (lists : List (List (ℕ × ℕ))) (k : ℕ) (h : Halves) (is : IsHalved lists k h) (z : ℕ × ℕ) where

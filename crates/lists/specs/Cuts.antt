@@ -1,8 +1,6 @@
 -- Where a list is cut in two: a place that the list alone decides.
 use Rattle.std.specs.Prelude.{◌≡◌, ℕ, ◌+◌, ◌*◌, ◌/◌, ◌%◌, ◌^◌, ◌<◌, ◌≤◌, List, ◌++◌}
 use Rattle.std.specs.List.{Contains}
-use Rattle.std.specs.List.Sorted.{IsStrictlySortedBy}
-use Rattle.lists.specs.Lists.{pair_cmp}
 
 -- a pair as one number
 abbrev pub as_number : ℕ × ℕ → ℕ
@@ -11,11 +9,6 @@ as_number z = z.0 * 2 ^ 32 + z.1
 -- pairs of numbers of 32 bits: the second ones do not reach into the first ones
 abbrev pub Fit : List (ℕ × ℕ) → Type 0
 Fit list = (z : ℕ × ℕ) → Contains list z → z.1 < 2 ^ 32
-
--- pairs of numbers of 32 bits in rising order
-pub record IsPairs (list : List (ℕ × ℕ)) : Type 0 where
-  pub rising : IsStrictlySortedBy pair_cmp list
-  pub fit : Fit list
 
 -- c is a multiple of a power of two above low, up to high, and there is no multiple of the next power
 pub record IsPlace (bit low high c : ℕ) : Type 0 where

@@ -26,8 +26,6 @@ pub struct Lists {
     /// The unions that were made.
     known: Known,
     scratch: Scratch,
-    /// The pairs of lists that are kept whole, while lists are joined.
-    few: Vec<(u32, u32)>,
 }
 
 impl Model for Lists {
@@ -56,7 +54,6 @@ impl Lists {
                 held: Vec::new(alloc),
                 merged: Vec::new(alloc),
             },
-            few: Vec::new(alloc),
         })
     }
 
@@ -125,7 +122,6 @@ impl Lists {
             &mut self.lists,
             &mut self.known,
             &mut self.scratch,
-            &mut self.few,
             lists,
             pairs,
         )

@@ -1,9 +1,9 @@
 //! Lists that are made of pairs, of a list and pairs, of two lists, and of several ones.
-ghost use Rattle.std.specs.Prelude.{◌≡◌, ◌⊎◌, ◌↔◌, ℕ, ◌++◌, ◌<◌, List, length, IfOk, OnOk, IfSome};
+ghost use Rattle.std.specs.Prelude.{◌≡◌, ◌⊎◌, ◌↔◌, ℕ, ◌++◌, ◌<◌, List, length, IfOk, IfSome};
 ghost use Rattle.std.specs.List.{Contains};
 ghost use Rattle.std.specs.List.Sorted.{IsStrictlySortedBy};
 ghost use Rattle.lists.specs.Lists.{pair_cmp, list_at, AreNumbers, Grow, HasOne};
-ghost use Rattle.lists.specs.Cuts.{Fit, IsPairs, IsAlike, IsParted};
+ghost use Rattle.lists.specs.Cuts.{Fit, IsAlike, IsParted};
 ghost use Rattle.lists.specs.Nodes.{AreStored, IsHalved, AreIn};
 ghost use Rattle.lists.specs.Unions.{Unites, AreUnions, IsSplit};
 
@@ -14,7 +14,6 @@ use crate::lists::EMPTY;
 use crate::nodes::{FEW, Halves, Shape};
 use crate::ordered::{append_merged, has_all};
 use growth::Memory;
-use std::mem::swap;
 
 /// The pairs below the cut, and those from it on.
 fn parted(pairs: &[(u32, u32)], cut: u64) -> (&[(u32, u32)], &[(u32, u32)])
@@ -227,66 +226,29 @@ pub(crate) fn both(
     }
 }
 
-/// Adds the pairs of the list number `k`: to `few` if it is kept whole, or else to those of the list number `union`. Returns the
-/// number of the list that has the latter ones.
-///
-/// Fails if there is no memory for it. The lists that there were are as they were.
-fn add(
-    lists: &mut Distinct,
-    known: &mut Known,
-    scratch: &mut Scratch,
-    few: &mut Vec<(u32, u32)>,
-    union: u32,
-    k: u32,
-) -> Result<u32, Memory>
-    requires unions { AreUnions lists.old known.old }
-    requires union { union < length lists.old }
-    requires list { k < length lists.old }
-    requires few { IsPairs few.old.items }
-    ensures unions { AreUnions lists.new known.new }
-    ensures within { IfOk result (λ i. i < length lists.new) }
-    ensures few { OnOk result (IsPairs few.new.items) }
-    ensures exactly { IfOk result (λ i. Unites (few.new.items ++ list_at lists.new i) (few.old.items ++ list_at lists.old union) (list_at lists.old k)) }
-    ensures grow { Grow lists.old lists.new }
-{
-    lists.known();
-    match lists.shape(k) {
-        Shape::Whole(list) => {
-            scratch.merged.clear();
-            append_merged(list, few, &mut scratch.merged)?;
-            swap(few, &mut scratch.merged);
-            Ok(union)
-        }
-        Shape::Halved(_) => both(lists, known, scratch, union, k),
-    }
-}
-
-/// The number of the list that has the pairs of these lists and these pairs, and no other one. Lists that are kept whole are put
-/// together first, in `few`, so that one list is made of them.
+/// The number of the list that has the pairs of these lists and these pairs, and no other one.
 ///
 /// Fails if there is no memory for it. The lists that there were are as they were.
 pub(crate) fn join(
     lists: &mut Distinct,
     known: &mut Known,
     scratch: &mut Scratch,
-    few: &mut Vec<(u32, u32)>,
     numbers: &[u32],
     pairs: &[(u32, u32)],
 ) -> Result<u32, Memory>
     requires unions { AreUnions lists.old known.old }
     requires lists { AreNumbers lists.old numbers.now }
-    requires pairs { IsPairs pairs.now }
+    requires rising { IsStrictlySortedBy pair_cmp pairs.now }
+    requires fit { Fit pairs.now }
     ensures unions { AreUnions lists.new known.new }
     ensures within { IfOk result (λ i. i < length lists.new) }
     ensures exactly { IfOk result (λ i. (z : ℕ × ℕ) → Contains (list_at lists.new i) z ↔ (Contains pairs.now z ⊎ HasOne lists.old numbers.now z)) }
     ensures grow { Grow lists.old lists.new }
 {
     lists.known();
-    few.clear();
-    few.extend_from_slice(pairs)?;
     let mut union = EMPTY;
     for k in numbers {
-        union = add(lists, known, scratch, few, union, *k)?;
+        union = both(lists, known, scratch, union, *k)?;
     }
-    with(lists, &mut scratch.merged, union, few)
+    with(lists, &mut scratch.merged, union, pairs)
 }

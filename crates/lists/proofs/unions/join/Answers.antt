@@ -1,58 +1,44 @@
-use Rattle.std.proofs.Common.{◌≡◌, ◌∙◌, ◌⊎◌, ◌↔◌, ◌++◌, slice_index, Contains, ap, sym, subst, arith}
-use Rattle.std.proofs.lemmas.List.{append-nil}
+use Rattle.std.proofs.Common.{◌≡◌, ◌↔◌, length, slice_index, Contains, subst, arith}
 use Rattle.std.proofs.lemmas.Result.{IfOk-weaker}
 use Rattle.lists.specs.Lists.{list_at}
-use Rattle.lists.specs.Cuts.{Fit, IsPairs}
-use Rattle.lists.proofs.Joining.{AreUnions-grow, Grow-same, Grow-twice, IsUpTo-none, IsUpTo-more, IsUpTo-all, same_as}
-use Rattle.lists.proofs.Keys.{halves_has}
+use Rattle.lists.specs.Unions.{Unites}
+use Rattle.lists.proofs.Joining.{AreUnions-grow, Grow-same, Grow-twice, HasUpTo, up_to_none, up_to_more, or_right, same_as}
 use Rattle.lists.proofs.unions.join.Goals as goal
 
 pub loop-k-init : goal.loop-k-init
 loop-k-init c =
-    let few = c.extend_from_slice.new.self.items in
-    let pairs = c.args.pairs.now in
-    let same : few ≡ pairs = c.in_ok-extend_from_slice.ensures.items ∙ ap (λ l. l ++ pairs) c.clear.ensures.items in
     let stored = c.known.ensures.stored in
     record {
       unions = c.requires.unions;
       within = stored.some;
       grow = Grow-same c.args.lists.now;
-      pairs = subst IsPairs (sym same) c.requires.pairs;
-      joined = IsUpTo-none c.args.lists.now c.args.numbers.now pairs (few ++ list_at c.args.lists.now 0)
-          (ap (λ l. few ++ l) stored.first ∙ append-nil few ∙ same);
+      joined = up_to_none c.args.lists.now c.args.numbers.now (list_at c.args.lists.now 0) stored.first;
     }
 
 pub loop-k-preserved : goal.loop-k-preserved
 loop-k-preserved c =
     let numbers = c.args.numbers.now in
     let i = c.loop-k.k-index in
-    let below = c.loop-k-test.true in
     let before = c.loop-k.invariant in
-    let known = c.requires.lists i 0 below in
-    let added = c.in_ok-union.ensures in
+    let known = c.requires.lists i 0 c.loop-k-test.true in
+    let new = list_at c.both.new.lists c.in_ok-union.union in
+    let old = list_at c.loop-k.lists c.loop-k.union in
     record {
-      unions = c.add.ensures.unions;
-      within = added.within;
-      grow = Grow-twice before.grow c.add.ensures.grow;
-      pairs = added.few;
-      joined = IsUpTo-more c.args.lists.now numbers c.args.pairs.now i (c.loop-k.few.items ++ list_at c.loop-k.lists c.loop-k.union)
-          (list_at c.loop-k.lists (slice_index numbers i)) (c.add.new.few.items ++ list_at c.add.new.lists c.in_ok-union.union) below
-          before.joined (before.grow.same (slice_index numbers i) known) added.exactly;
+      unions = c.both.ensures.unions;
+      within = c.in_ok-union.ensures.within;
+      grow = Grow-twice before.grow c.both.ensures.grow;
+      joined = up_to_more c.args.lists.now numbers i old new before.joined
+          (subst (Unites new old) (before.grow.same (slice_index numbers i) known) c.in_ok-union.ensures.exactly);
     }
-
-pub with-requires-clause-fit : goal.with-requires-clause-fit
-with-requires-clause-fit c = subst Fit (sym c.deref.ensures.value) c.loop-k.invariant.pairs.fit
 
 pub returns-clause-unions : goal.returns-clause-unions
 returns-clause-unions c = AreUnions-grow c.with.ensures.grow c.loop-k.known c.loop-k.invariant.unions
 
 pub returns-clause-exactly : goal.returns-clause-exactly
 returns-clause-exactly c =
-    let few = c.loop-k.few.items in
-    let union = list_at c.loop-k.lists c.loop-k.union in
-    let all = IsUpTo-all c.args.lists.now c.args.numbers.now c.args.pairs.now c.loop-k.k-index (few ++ union) (omega arith) c.loop-k.invariant.joined in
+    let lists = c.args.lists.now in
+    let numbers = c.args.numbers.now in
+    let end : c.loop-k.k-index ≡ length numbers = omega arith in
     IfOk-weaker c.with.result _ _ (λ i h z.
-    let halves = halves_has few union 0 z in
-    let list = list_at c.with.new.lists i in
-    same_as (subst (λ l. Contains list z ↔ (Contains l z ⊎ Contains union z)) c.deref.ensures.value (h z)) (same_as (halves.1, halves.0) (all z)))
+    same_as (h z) (or_right (subst (λ n. Contains (list_at c.loop-k.lists c.loop-k.union) z ↔ HasUpTo lists numbers n z) end (c.loop-k.invariant.joined z))))
     c.with.ensures.exactly
