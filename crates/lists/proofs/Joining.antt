@@ -1,6 +1,6 @@
 -- Unions of several lists in turn, and unions that stay so as lists grow.
-use Rattle.std.proofs.Common.{◌≡◌, ◌∙◌, ◌⊎◌, ◌↔◌, ℕ, ◌+◌, ◌<◌, List, [], length, slice_index, min, max, Contains, sym, subst, refl, inl, inr, arith}
-use Rattle.std.proofs.lemmas.Bool.{cases_eq, cases_lt}
+use Rattle.std.proofs.Common.{◌≡◌, ◌∙◌, ◌⊎◌, ◌↔◌, ℕ, ◌+◌, ◌<◌, List, [], length, slice_index, Contains, sym, subst, refl, inl, inr, arith}
+use Rattle.std.proofs.lemmas.Bool.{cases_eq}
 use Rattle.lists.specs.Lists.{list_at, Grow}
 use Rattle.lists.specs.Unions.{Unites, IsUnion, AreUnions}
 
@@ -73,17 +73,3 @@ module _ {old new : List (List (ℕ × ℕ))} (grow : Grow old new) where
 
   pub AreUnions-grow : (unions : List ((ℕ × ℕ) × ℕ)) → AreUnions old unions → AreUnions new unions
   AreUnions-grow unions are z c = IsUnion-grow z.0 z.1 (are z c)
-
--- numbers of two lists in order
-pub unites_in_order : (lists : List (List (ℕ × ℕ))) (list : List (ℕ × ℕ)) (j k : ℕ) → Unites list (list_at lists (min j k)) (list_at lists (max j k))
-    → Unites list (list_at lists j) (list_at lists k)
-unites_in_order lists list j k h = elim (cases_lt j k) [
-  | inl less ↦
-      let low : min j k ≡ j = omega arith in
-      let high : max j k ≡ k = omega arith in
-      subst (λ n. Unites list (list_at lists j) (list_at lists n)) high (subst (λ n. Unites list (list_at lists n) (list_at lists (max j k))) low h)
-  | inr more ↦
-      let low : min j k ≡ k = omega arith in
-      let high : max j k ≡ j = omega arith in
-      λ z. or_swap (subst (λ n. Unites list (list_at lists k) (list_at lists n)) high (subst (λ n. Unites list (list_at lists n) (list_at lists (max j k))) low h) z)
-]

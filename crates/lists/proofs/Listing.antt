@@ -5,7 +5,7 @@ use Rattle.std.specs.List.Sorted.{IsStrictlySortedBy}
 use Rattle.std.proofs.lemmas.List.{length-append, map-append, get_or_append_left, take_all, drop_all}
 use Rattle.std.proofs.lemmas.List.Elements.{All-head, All-tail, All-append, All-weaker}
 use Rattle.lists.specs.declared.span.Span.{Span}
-use Rattle.lists.specs.declared.lists.TheConstants.{MOST_LISTS}
+use Rattle.lists.specs.declared.nodes.TheConstants.{MOST_LISTS}
 use Rattle.lists.specs.Spans.{no_pairs, list_in, IsSpan, lists_of, AreSpans}
 use Rattle.lists.specs.Lists.{pair_cmp}
 use Rattle.lists.proofs.Rising.{rising_none}

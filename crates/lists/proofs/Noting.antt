@@ -74,6 +74,19 @@ IsUnion-in_order lists j k i within first second exactly = elim (cases_lt j k) [
       (record { within = within; first = second; second = first; exactly = λ z. or_swap (exactly z) }))
 ]
 
+pub IsUnion-out_of_order : (lists : List (List (ℕ × ℕ))) (j k i : ℕ) → IsUnion lists (min j k, max j k) i → IsUnion lists (j, k) i
+IsUnion-out_of_order lists j k i is = elim (cases_lt j k) [
+  | inl less ↦
+      let low : min j k ≡ j = omega arith in
+      let high : max j k ≡ k = omega arith in
+      subst (λ key. IsUnion lists key i) (λ i. (low i, high i)) is
+  | inr more ↦
+      let low : min j k ≡ k = omega arith in
+      let high : max j k ≡ j = omega arith in
+      let swapped = subst (λ key. IsUnion lists key i) (λ i. (low i, high i)) is in
+      record { within = swapped.within; first = swapped.second; second = swapped.first; exactly = λ z. or_swap (swapped.exactly z) }
+]
+
 -- one union more, and maybe some forgotten
 pub AreUnions-note : (old new : List (List (ℕ × ℕ))) (unions noted : List ((ℕ × ℕ) × ℕ)) (key : ℕ × ℕ) (i : ℕ) → AreUnions old unions → Grow old new
     → 0 < length old → IsUnion new key i

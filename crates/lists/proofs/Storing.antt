@@ -5,8 +5,7 @@ use Rattle.std.specs.List.Sorted.{IsStrictlySortedBy}
 use Rattle.std.proofs.lemmas.Bool.{cases_lt}
 use Rattle.std.proofs.lemmas.List.{length_push, get_or_append_left, get_or_push, get_or_past, length-append}
 use Rattle.std.proofs.lemmas.List.Elements.{All-append, Contains-append_cases}
-use Rattle.lists.specs.declared.lists.TheConstants.{MOST_LISTS}
-use Rattle.lists.specs.declared.nodes.TheConstants.{FEW}
+use Rattle.lists.specs.declared.nodes.TheConstants.{FEW, MOST_LISTS}
 use Rattle.lists.specs.declared.nodes.Halves.{Halves}
 use Rattle.lists.specs.declared.nodes.Node.{Node}
 use Rattle.lists.specs.declared.nodes.Node.TheVariants.{Whole, Halved}

@@ -1,5 +1,5 @@
 -- Unions by halves: a list in two at another place, the cut of a union, and the union of two lists from those of their halves.
-use Rattle.std.proofs.Common.{◌≡◌, ◌∙◌, ◌⊎◌, ◌↔◌, ℕ, ◌+◌, ◌-◌, ◌<◌, ◌≤◌, min, max, List, [], ◌∷◌, ◌++◌, length, get_or, Contains, ap, sym, subst, refl, inl, inr, arith}
+use Rattle.std.proofs.Common.{◌≡◌, ◌∙◌, ◌⊎◌, ◌↔◌, ℕ, ◌+◌, ◌-◌, ◌<◌, ◌≤◌, min, max, List, [], ◌++◌, length, get_or, Contains, ap, sym, subst, inl, inr, arith}
 use Rattle.std.specs.List.Sorted.{IsStrictlySortedBy}
 use Rattle.std.proofs.lemmas.Bool.{cases_lt}
 use Rattle.std.proofs.lemmas.List.{length-append, append-nil}
@@ -134,66 +134,31 @@ AreIn-united lists new h xs ys below above below' above' stored grow lower_in lo
       all,
     )
 
-empty_of : (list : List (ℕ × ℕ)) → length list ≡ 0 → list ≡ []
-empty_of [] e = refl
-empty_of (x ∷ xs) e = absurd (omega arith)
-
--- not all pairs of two lists are on one side of the cut of both
-module _ (xs ys below above below' above' : List (ℕ × ℕ)) (c : ℕ) (first : IsParted xs c below above) (second : IsParted ys c below' above')
-    (cut : IsCut (xs ++ ys) c) where
-  not_all_below : below ≡ xs → below' ≡ ys → ⊥
-  not_all_below e f =
-      let z = cut.above.0 in
-      let high = cut.above.2 in
-      elim ((halves_has xs ys c z).0 cut.above.1) [
-        | inl d ↦ let low = first.under z (subst (λ l. Contains l z) (sym e) d) in omega arith
-        | inr d ↦ let low = second.under z (subst (λ l. Contains l z) (sym f) d) in omega arith
-      ]
-
-  not_all_above : above ≡ xs → above' ≡ ys → ⊥
-  not_all_above e f =
-      let z = cut.below.0 in
-      let low = cut.below.2 in
-      elim ((halves_has xs ys c z).0 cut.below.1) [
-        | inl d ↦ let high = first.over z (subst (λ l. Contains l z) (sym e) d) in omega arith
-        | inr d ↦ let high = second.over z (subst (λ l. Contains l z) (sym f) d) in omega arith
-      ]
-
-  -- so the work gets less: of a list's number and the length of a slice
-  pub falls_below : (k part : ℕ) → part ≤ k → (part ≡ k → below' ≡ ys) → part + length below < k + length xs
-  falls_below k part few same =
-      let size = ap length first.joined in
-      let both = length-append below above in
-      elim (cases_lt (part + length below) (k + length xs)) [
-        | inl h ↦ h
-        | inr h ↦
-            let none = empty_of above (omega arith) in
-            absurd (not_all_below (sym (first.joined ∙ ap (λ l. below ++ l) none ∙ append-nil below)) (same (omega arith)))
-      ]
-
-  pub falls_above : (k part : ℕ) → part ≤ k → (part ≡ k → above' ≡ ys) → part + length above < k + length xs
-  falls_above k part few same =
-      let size = ap length first.joined in
-      let both = length-append below above in
-      elim (cases_lt (part + length above) (k + length xs)) [
-        | inl h ↦ h
-        | inr h ↦
-            let none = empty_of below (omega arith) in
-            absurd (not_all_above (sym (first.joined ∙ ap (λ l. l ++ above) none)) (same (omega arith)))
-      ]
-
-  -- and of the numbers of two lists
-  pub both_below : (j k part part' : ℕ) → part ≤ j → part' ≤ k → (part ≡ j → below ≡ xs) → (part' ≡ k → below' ≡ ys) → part + part' < j + k
-  both_below j k part part' few few' same same' = elim (cases_lt (part + part') (j + k)) [
-    | inl h ↦ h
-    | inr h ↦ absurd (not_all_below (same (omega arith)) (same' (omega arith)))
+-- the work gets less, since two lists have pairs on both sides of the cut of both
+module _ (xs ys below above below' above' : List (ℕ × ℕ)) (c : ℕ) (first : IsParted xs c below above) (second : IsParted ys c below' above') where
+  on_side : (z : ℕ × ℕ) → Contains (xs ++ ys) z
+      → (as_number z < c → 0 < length below + length below') × (c ≤ as_number z → 0 < length above + length above')
+  on_side z d = elim ((halves_has xs ys c z).0 d) [
+    | inl x ↦ elim ((parts_has xs below above c first z).0 x) [
+      | inl a ↦ let k = a.1 in let under = first.under z a in (λ low. omega arith, λ high. absurd (omega arith))
+      | inr b ↦ let k = b.1 in let over = first.over z b in (λ low. absurd (omega arith), λ high. omega arith)
+    ]
+    | inr y ↦ elim ((parts_has ys below' above' c second z).0 y) [
+      | inl a ↦ let k = a.1 in let under = second.under z a in (λ low. omega arith, λ high. absurd (omega arith))
+      | inr b ↦ let k = b.1 in let over = second.over z b in (λ low. absurd (omega arith), λ high. omega arith)
+    ]
   ]
 
-  pub both_above : (j k part part' : ℕ) → part ≤ j → part' ≤ k → (part ≡ j → above ≡ xs) → (part' ≡ k → above' ≡ ys) → part + part' < j + k
-  both_above j k part part' few few' same same' = elim (cases_lt (part + part') (j + k)) [
-    | inl h ↦ h
-    | inr h ↦ absurd (not_all_above (same (omega arith)) (same' (omega arith)))
-  ]
+  pub parts_fewer : IsCut (xs ++ ys) c
+      → (length below + length below' < length xs + length ys) × (length above + length above' < length xs + length ys)
+  parts_fewer cut =
+      let size = ap length first.joined in
+      let both = length-append below above in
+      let size' = ap length second.joined in
+      let both' = length-append below' above' in
+      let low = (on_side cut.below.0 cut.below.1).0 cut.below.2 in
+      let high = (on_side cut.above.0 cut.above.1).1 cut.above.2 in
+      (omega arith, omega arith)
 
 -- the place for some pairs and a long list
 module _ (xs ys : List (ℕ × ℕ)) (rise : IsStrictlySortedBy pair_cmp xs) (fit : Fit xs) (some : 0 < length xs) (first last low high own bit c : ℕ)

@@ -5,7 +5,7 @@ use Rattle.std.specs.List.Sorted.{IsStrictlySortedBy}
 use Rattle.std.specs.Ordering.{nat_cmp, ordering_then}
 use Rattle.std.specs.Set.{sorted_merge}
 use Rattle.std.specs.declared.cmp.Ordering.{Ordering}
-use Rattle.lists.specs.declared.lists.TheConstants.{MOST_LISTS}
+use Rattle.lists.specs.declared.nodes.TheConstants.{MOST_LISTS}
 
 -- pairs in the order of their first numbers, and of their second ones where these are equal
 abbrev pub pair_cmp : ℕ × ℕ → ℕ × ℕ → Ordering

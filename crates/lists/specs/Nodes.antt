@@ -4,8 +4,7 @@ use Rattle.std.specs.List.{All, slice_range, slice_index_or}
 use Rattle.std.specs.List.Sorted.{IsStrictlySortedBy}
 use Rattle.lists.specs.Lists.{pair_cmp, list_at}
 use Rattle.lists.specs.Cuts.{Fit, IsCut, IsUnder, IsOver}
-use Rattle.lists.specs.declared.lists.TheConstants.{MOST_LISTS}
-use Rattle.lists.specs.declared.nodes.TheConstants.{FEW}
+use Rattle.lists.specs.declared.nodes.TheConstants.{FEW, MOST_LISTS}
 use Rattle.lists.specs.declared.nodes.Halves.{Halves}
 use Rattle.lists.specs.declared.nodes.Node.{Node}
 use Rattle.lists.specs.declared.nodes.Node.TheVariants.{Whole, Halved}

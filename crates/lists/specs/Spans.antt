@@ -6,7 +6,7 @@ use Rattle.std.specs.List.Sorted.{IsStrictlySortedBy}
 use Rattle.lists.specs.Lists.{pair_cmp}
 use Rattle.lists.specs.declared.span.Span.{Span}
 use Rattle.lists.specs.declared.span.TheConstants.{FIRST_FACTOR, SUM_FACTOR, TAG_FACTOR}
-use Rattle.lists.specs.declared.lists.TheConstants.{MOST_LISTS}
+use Rattle.lists.specs.declared.nodes.TheConstants.{MOST_LISTS}
 
 -- the hash of two numbers: both halves of a product, one put over the other
 abbrev pub hash_of : ℕ × ℕ → ℕ

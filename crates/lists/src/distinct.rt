@@ -8,8 +8,7 @@ ghost use Rattle.lists.specs.Hashed.{AreDifferent};
 
 use crate::cut::key;
 use crate::hashed::{Entry, MOST_BUCKETS, find, first_entry, put, tag, widen};
-use crate::lists::EMPTY;
-use crate::nodes::{Nodes, Shape};
+use crate::nodes::{EMPTY, Nodes, Shape};
 use crate::ordered::has;
 use growth::Memory;
 use std::alloc::Global;
@@ -97,14 +96,13 @@ impl Distinct {
             return Ok(number);
         }
         widen(&mut self.heads, &mut self.entries)?;
-        let number = put(
+        put(
             &mut self.nodes,
             &mut self.heads,
             &mut self.entries,
             shape,
             tag,
-        )?;
-        Ok(number)
+        )
     }
 
     /// Whether the list number `k` has the pair.

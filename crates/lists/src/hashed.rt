@@ -4,10 +4,9 @@ ghost use Rattle.lists.specs.Lists.{list_at};
 ghost use Rattle.lists.specs.Spans.{fingerprint_of, mixed};
 ghost use Rattle.lists.specs.Nodes.{list_of_shape, Suits};
 ghost use Rattle.lists.specs.Hashed.{tag_of, bucket_of_tag, entry_at, entry_bucket, entry_before, IsChained, AreDifferent, IsHashed, IsNewList, IsNumberOf};
-ghost use Rattle.lists.specs.declared.lists.TheConstants.{MOST_LISTS};
+ghost use Rattle.lists.specs.declared.nodes.TheConstants.{MOST_LISTS};
 
-use crate::lists::EMPTY;
-use crate::nodes::{Nodes, Shape};
+use crate::nodes::{EMPTY, Nodes, Shape};
 use crate::span::{are_same, fingerprint, hash, mix};
 use growth::Memory;
 

@@ -1,12 +1,15 @@
 //! Different lists of pairs of numbers: each in rising order without repeats, kept once and from then on named by its number,
 //! so that lists are equal if their numbers are. A short list is kept as it is, and a long one as the numbers of its two halves,
-//! which are lists themselves. There are four layers, each seen by its contracts alone:
+//! which are lists themselves. Each module knows the ones below it, by their contracts alone:
 //!
 //! ```text
-//! Lists         what the crates above see                                   lists
-//!   unions      lists made of pairs, of a list and pairs, and of two lists  unions, known, cut, ordered
-//!     Distinct  a list that is asked for again has the number that it had   distinct, hashed
-//!       Nodes   how each list is kept                                       nodes, span
+//! lists          what the crates above see
+//! unions         lists made of pairs, of a list and pairs, of two lists and of several ones
+//!   known        the unions that were made
+//! distinct       a list that is asked for again has the number that it had
+//!   hashed       the table that it is found in
+//! nodes, parts   how each list is kept: with halves, or whole
+//! cut, ordered, span   where a list is cut; pairs in order; hashes, and ranges of a buffer
 //! ```
 //!
 //! A list is cut at the number between its first and its last pair that the highest power of two divides, if a pair is read
@@ -25,7 +28,8 @@ mod span;
 mod unions;
 
 pub use hashed::list_bucket;
-pub use lists::{EMPTY, Lists, MOST_LISTS};
+pub use lists::Lists;
+pub use nodes::{EMPTY, MOST_LISTS};
 pub use ordered::order;
 pub use parts::Parts;
 pub use span::hash;

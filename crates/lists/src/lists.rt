@@ -12,12 +12,6 @@ use growth::Memory;
 use std::alloc::Global;
 use std::marker::Model;
 
-/// The number of the empty list.
-pub const EMPTY: u32 = 0;
-
-/// The most lists, so that each has a number.
-pub const MOST_LISTS: usize = 0xFFFF_FFFF;
-
 /// Different lists of pairs in strictly rising order, so that equal lists have equal numbers. The list number `EMPTY` is the
 /// empty one.
 #[derive(Drop)]

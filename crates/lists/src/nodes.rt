@@ -4,12 +4,17 @@ ghost use Rattle.std.specs.List.{slice_range};
 ghost use Rattle.std.specs.Vec.{vec_len, vec_capacity};
 ghost use Rattle.lists.specs.Lists.{list_at};
 ghost use Rattle.lists.specs.Nodes.{IsFew, AreIn, list_of_shape, Suits, IsShape, AreStored, kept_lists, AreNodes};
-ghost use Rattle.lists.specs.declared.lists.TheConstants.{MOST_LISTS};
+ghost use Rattle.lists.specs.declared.nodes.TheConstants.{MOST_LISTS};
 
-use crate::lists::MOST_LISTS;
 use growth::Memory;
 use std::alloc::Global;
 use std::marker::Model;
+
+/// The number of the empty list.
+pub const EMPTY: u32 = 0;
+
+/// The most lists, so that each has a number.
+pub const MOST_LISTS: usize = 0xFFFF_FFFF;
 
 /// The most pairs of a list that is kept as it is.
 pub(crate) const FEW: usize = 64;

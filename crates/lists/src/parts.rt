@@ -3,7 +3,7 @@ ghost use Rattle.std.specs.Prelude.{◌≡◌, ◌++◌, ◌∷◌, ◌<◌, [],
 ghost use Rattle.std.specs.List.Sorted.{IsStrictlySortedBy};
 ghost use Rattle.lists.specs.Lists.{pair_cmp, list_at};
 ghost use Rattle.lists.specs.Spans.{lists_of, AreSpans};
-ghost use Rattle.lists.specs.declared.lists.TheConstants.{MOST_LISTS};
+ghost use Rattle.lists.specs.declared.nodes.TheConstants.{MOST_LISTS};
 
 use crate::span::{Span, empty_span, list_of};
 use growth::Memory;

@@ -5,13 +5,12 @@ ghost use Rattle.std.specs.List.Sorted.{IsStrictlySortedBy};
 ghost use Rattle.lists.specs.Lists.{pair_cmp, list_at, AreNumbers, Grow, HasOne};
 ghost use Rattle.lists.specs.Cuts.{Fit, IsAlike, IsParted};
 ghost use Rattle.lists.specs.Nodes.{AreStored, IsHalved, AreIn};
-ghost use Rattle.lists.specs.Unions.{Unites, AreUnions, IsSplit};
+ghost use Rattle.lists.specs.Unions.{Unites, IsUnion, AreUnions, IsSplit};
 
 use crate::cut::{cut, key};
 use crate::distinct::Distinct;
 use crate::known::Known;
-use crate::lists::EMPTY;
-use crate::nodes::{FEW, Halves, Shape};
+use crate::nodes::{EMPTY, FEW, Halves, Shape};
 use crate::ordered::{append_merged, has_all};
 use growth::Memory;
 
@@ -141,12 +140,9 @@ fn with_list(lists: &mut Distinct, scratch: &mut Scratch, few: u32, k: u32) -> R
 }
 
 /// The number of the list that has the pairs of both lists, if it was noted.
-fn noted(lists: &Distinct, known: &Known, j: u32, k: u32) -> Option<u32>
-    requires { AreUnions lists.now known.now }
-    ensures within { IfSome result (λ i. i < length lists.now) }
-    ensures exactly { IfSome result (λ i. Unites (list_at lists.now i) (list_at lists.now j) (list_at lists.now k)) }
+fn noted(known: &Known, j: u32, k: u32) -> Option<u32>
+    ensures { (lists : List (List (ℕ × ℕ))) → AreUnions lists known.now → IfSome result (IsUnion lists (j, k)) }
 {
-    let _ = lists;
     known.find(j.min(k), j.max(k))
 }
 
@@ -206,7 +202,7 @@ pub(crate) fn both(
         Shape::Halved(first) => match lists.shape(k) {
             Shape::Whole(_) => with_list(lists, scratch, k, j),
             Shape::Halved(second) => {
-                if let Some(i) = noted(lists, known, j, k) {
+                if let Some(i) = noted(known, j, k) {
                     return Ok(i);
                 }
                 let cut = cut(first.cut.min(second.cut) - 1, first.cut.max(second.cut));

@@ -1,5 +1,5 @@
 use Rattle.std.proofs.Common.{◌<◌, length, subst}
-use Rattle.lists.specs.declared.lists.TheConstants.{MOST_LISTS}
+use Rattle.lists.specs.declared.nodes.TheConstants.{MOST_LISTS}
 use Rattle.lists.proofs.Storing.{AreNodes-halved, lists-halved}
 use Rattle.lists.proofs.nodes.put_halved.Goals as goal
 

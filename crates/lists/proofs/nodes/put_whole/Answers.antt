@@ -1,5 +1,5 @@
 use Rattle.std.proofs.Common.{◌<◌, length, subst, refl, arith}
-use Rattle.lists.specs.declared.lists.TheConstants.{MOST_LISTS}
+use Rattle.lists.specs.declared.nodes.TheConstants.{MOST_LISTS}
 use Rattle.lists.proofs.Storing.{AreNodes-whole, lists-whole}
 use Rattle.lists.proofs.nodes.put_whole.Goals as goal
 

@@ -6,7 +6,7 @@ use Rattle.lists.specs.Lists.{list_at, Grow}
 use Rattle.lists.specs.Cuts.{IsCut, IsParted}
 use Rattle.lists.specs.Nodes.{AreIn}
 use Rattle.lists.specs.Unions.{Unites, IsSplit}
-use Rattle.lists.proofs.Uniting.{alike_first, alike_second, both_cut, both_cut_both, both_below, both_above, AreIn-united}
+use Rattle.lists.proofs.Uniting.{alike_first, alike_second, both_cut, both_cut_both, parts_fewer, AreIn-united}
 use Rattle.lists.proofs.Joining.{AreUnions-grow, Grow-twice, or_swap}
 use Rattle.lists.proofs.Noting.{unites_back, unites_forth}
 use Rattle.lists.proofs.unions.+both.Goals as goal
@@ -21,6 +21,10 @@ returns-in-Whole-shape-clause-unions t c = AreUnions-grow c.with_list-in-Whole-s
 
 pub returns-in-Whole-shape-clause-exactly : goal.returns-in-Whole-shape-clause-exactly
 returns-in-Whole-shape-clause-exactly t c = IfOk-weaker c.with_list-in-Whole-shape.result _ _ (λ i h z. or_swap (h z)) c.with_list-in-Whole-shape.ensures.exactly
+
+-- a union that was noted
+pub returns-in-Some-clause-exactly : goal.returns-in-Some-clause-exactly
+returns-in-Some-clause-exactly t c = (c.in-Some.ensures c.args.lists.now c.requires.unions).exactly
 
 -- two long lists are parted at one place
 module _ (t : ℕ) (c : After-split-under t) where
@@ -55,23 +59,17 @@ module _ (t : ℕ) (c : After-split-under t) where
       (alike_second (list_at c.args.lists.now c.args.j) (list_at c.args.lists.now c.args.k) (c.min.result - 1) c.max.result c.in-Halved.first.cut
       c.in-Halved-shape.second.cut c.cut-cut.ensures.0 c.cut-cut.result low c.max.ensures own own' c.cut-cut.ensures.1)
 
-  falls_first : c.split-below.result.0 + c.split-under.result.0 < c.args.j + c.args.k
-  falls_first =
-      both_below (list_at c.args.lists.now c.args.j) (list_at c.args.lists.now c.args.k) _ _ _ _ c.cut-cut.result is_first.parted is_second.parted
-      union_both c.args.j c.args.k c.split-below.result.0 c.split-under.result.0 is_first.first is_second.first
-      (λ e. ap (list_at c.args.lists.now) e) (λ e. ap (list_at c.args.lists.now) e)
-
-  falls_second : c.split-below.result.1 + c.split-under.result.1 < c.args.j + c.args.k
-  falls_second =
-      both_above (list_at c.args.lists.now c.args.j) (list_at c.args.lists.now c.args.k) _ _ _ _ c.cut-cut.result is_first.parted is_second.parted
-      union_both c.args.j c.args.k c.split-below.result.1 c.split-under.result.1 is_first.second is_second.second
-      (λ e. ap (list_at c.args.lists.now) e) (λ e. ap (list_at c.args.lists.now) e)
+  fewer : (length (list_at c.args.lists.now c.split-below.result.0) + length (list_at c.args.lists.now c.split-under.result.0)
+      < length (list_at c.args.lists.now c.args.j) + length (list_at c.args.lists.now c.args.k))
+      × (length (list_at c.args.lists.now c.split-below.result.1) + length (list_at c.args.lists.now c.split-under.result.1)
+      < length (list_at c.args.lists.now c.args.j) + length (list_at c.args.lists.now c.args.k))
+  fewer = parts_fewer _ _ _ _ _ _ c.cut-cut.result is_first.parted is_second.parted union_both
 
 pub both-requires : goal.both-requires
 both-requires t c =
     let at = (goal.at.both-requires t c).After-split-under in
     let d = c.decreases in
-    let less = falls_first t at in
+    let less = (fewer t at).0 in
     let first = (is_first t at).first in
     let second = (is_second t at).first in
     let j = c.requires.first in
@@ -82,12 +80,14 @@ pub both-requires-in-Halved-shape : goal.both-requires-in-Halved-shape
 both-requires-in-Halved-shape t c =
     let at = (goal.at.both-requires-in-Halved-shape t c).After-split-under in
     let d = c.decreases in
-    let less = falls_second t at in
+    let less = (fewer t at).1 in
     let first = (is_first t at).second in
     let second = (is_second t at).second in
     let j = c.requires.first in
     let k = c.requires.second in
     let longer = c.both.ensures.grow.longer in
+    let one = ap length (c.both.ensures.grow.same c.split-below.result.1 (omega arith)) in
+    let two = ap length (c.both.ensures.grow.same c.split-under.result.1 (omega arith)) in
     (omega arith, (c.both.ensures.unions, (omega arith, omega arith)))
 
 -- the unions of both parts are the halves of the union

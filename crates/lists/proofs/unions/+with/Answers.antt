@@ -11,7 +11,7 @@ use Rattle.lists.specs.Unions.{Unites, IsSplit}
 use Rattle.lists.proofs.Joining.{Grow-twice}
 use Rattle.lists.proofs.Keys.{parts_rise, parts_fit}
 use Rattle.lists.proofs.Merging.{merged_has, merged_rises}
-use Rattle.lists.proofs.Uniting.{alike_list, with_cut, with_cut_both, falls_below, falls_above, AreIn-united, unites_merged}
+use Rattle.lists.proofs.Uniting.{alike_list, with_cut, with_cut_both, parts_fewer, AreIn-united, unites_merged}
 use Rattle.lists.proofs.unions.+with.Goals as goal
 use Rattle.lists.proofs.unions.+with.Goals.{After-deref, After-parted, After-known-in-Halved}
 
@@ -72,23 +72,15 @@ module _ (t : ℕ) (c : After-parted t) where
       c.min-low.result c.max-high.result c.in-Halved.halves.cut c.cut-cut.ensures.0 c.cut-cut.result c.key.ensures c.key-in-Halved.ensures
       c.min-low.ensures c.max-high.ensures own c.cut-cut.ensures.1)
 
-  falls_first : c.split-below.result.0 + length c.parted.result.0.now < c.args.k + length c.args.pairs.now
-  falls_first =
-      falls_below c.args.pairs.now (list_at c.args.lists.now c.args.k) c.parted.result.0.now c.parted.result.1.now
-      (list_at c.args.lists.now c.split-below.result.0) (list_at c.args.lists.now c.split-below.result.1) c.cut-cut.result c.parted.ensures
-      is_split.parted union_both c.args.k c.split-below.result.0 is_split.first (λ e. ap (list_at c.args.lists.now) e)
-
-  falls_second : c.split-below.result.1 + length c.parted.result.1.now < c.args.k + length c.args.pairs.now
-  falls_second =
-      falls_above c.args.pairs.now (list_at c.args.lists.now c.args.k) c.parted.result.0.now c.parted.result.1.now
-      (list_at c.args.lists.now c.split-below.result.0) (list_at c.args.lists.now c.split-below.result.1) c.cut-cut.result c.parted.ensures
-      is_split.parted union_both c.args.k c.split-below.result.1 is_split.second (λ e. ap (list_at c.args.lists.now) e)
+  fewer : (length c.parted.result.0.now + length (list_at c.args.lists.now c.split-below.result.0) < length c.args.pairs.now + length (list_at c.args.lists.now c.args.k))
+      × (length c.parted.result.1.now + length (list_at c.args.lists.now c.split-below.result.1) < length c.args.pairs.now + length (list_at c.args.lists.now c.args.k))
+  fewer = parts_fewer _ _ _ _ _ _ c.cut-cut.result c.parted.ensures is_split.parted union_both
 
 pub with-requires : goal.with-requires
 with-requires t c =
     let at = (goal.at.with-requires t c).After-parted in
     let d = c.decreases in
-    let less = falls_first t at in
+    let less = (fewer t at).0 in
     let first = (is_split t at).first in
     let low = c.requires.list in (
       omega arith,
@@ -102,10 +94,11 @@ pub with-requires-in-Halved : goal.with-requires-in-Halved
 with-requires-in-Halved t c =
     let at = (goal.at.with-requires-in-Halved t c).After-parted in
     let d = c.decreases in
-    let less = falls_second t at in
+    let less = (fewer t at).1 in
     let second = (is_split t at).second in
     let low = c.requires.list in
-    let longer = c.with.ensures.grow.longer in (
+    let longer = c.with.ensures.grow.longer in
+    let same = ap length (c.with.ensures.grow.same c.split-below.result.1 (omega arith)) in (
       omega arith,
       (
         omega arith,
