@@ -68,6 +68,12 @@ Grow-twice first second =
 pub same_as : {A B C : Type 0} → A ↔ B → B ↔ C → A ↔ C
 same_as f g = (λ a. g.0 (f.0 a), λ c. f.1 (g.1 c))
 
+pub either_same : {A B C : Type 0} → A ↔ B → (A ⊎ C) ↔ (B ⊎ C)
+either_same f = (
+  λ o. elim o [ inl a ↦ inl (f.0 a) | inr c ↦ inr c ],
+  λ o. elim o [ inl b ↦ inl (f.1 b) | inr c ↦ inr c ],
+)
+
 -- unions stay so as the lists grow
 module _ {old new : List (List (ℕ × ℕ))} (grow : Grow old new) where
   either-grow : (j k : ℕ) → j < length old → k < length old → (z : ℕ × ℕ)

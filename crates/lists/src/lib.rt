@@ -18,6 +18,7 @@ mod distinct;
 mod hashed;
 mod known;
 mod lists;
+mod marked;
 mod nodes;
 mod ordered;
 mod parts;

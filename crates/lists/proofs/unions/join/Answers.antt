@@ -1,58 +1,15 @@
-use Rattle.std.proofs.Common.{◌≡◌, ◌∙◌, ◌⊎◌, ◌↔◌, ◌++◌, slice_index, Contains, ap, sym, subst, arith}
-use Rattle.std.proofs.lemmas.List.{append-nil}
+use Rattle.std.proofs.Common.{◌≡◌, subst}
 use Rattle.std.proofs.lemmas.Result.{IfOk-weaker}
-use Rattle.lists.specs.Lists.{list_at}
-use Rattle.lists.specs.Cuts.{Fit, IsPairs}
-use Rattle.lists.proofs.Joining.{AreUnions-grow, Grow-same, Grow-twice, IsUpTo-none, IsUpTo-more, IsUpTo-all, same_as}
-use Rattle.lists.proofs.Keys.{halves_has}
+use Rattle.lists.specs.Cuts.{Fit}
+use Rattle.lists.proofs.Joining.{same_as, either_same}
 use Rattle.lists.proofs.unions.join.Goals as goal
 
-pub loop-k-init : goal.loop-k-init
-loop-k-init c =
-    let few = c.extend_from_slice.new.self.items in
-    let pairs = c.args.pairs.now in
-    let same : few ≡ pairs = c.in_ok-extend_from_slice.ensures.items ∙ ap (λ l. l ++ pairs) c.clear.ensures.items in
-    let stored = c.known.ensures.stored in
-    record {
-      unions = c.requires.unions;
-      within = stored.some;
-      grow = Grow-same c.args.lists.now;
-      pairs = subst IsPairs (sym same) c.requires.pairs;
-      joined = IsUpTo-none c.args.lists.now c.args.numbers.now pairs (few ++ list_at c.args.lists.now 0)
-          (ap (λ l. few ++ l) stored.first ∙ append-nil few ∙ same);
-    }
-
-pub loop-k-preserved : goal.loop-k-preserved
-loop-k-preserved c =
-    let numbers = c.args.numbers.now in
-    let i = c.loop-k.k-index in
-    let below = c.loop-k-test.true in
-    let before = c.loop-k.invariant in
-    let known = c.requires.lists i 0 below in
-    let added = c.in_ok-union.ensures in
-    record {
-      unions = c.add.ensures.unions;
-      within = added.within;
-      grow = Grow-twice before.grow c.add.ensures.grow;
-      pairs = added.few;
-      joined = IsUpTo-more c.args.lists.now numbers c.args.pairs.now i (c.loop-k.few.items ++ list_at c.loop-k.lists c.loop-k.union)
-          (list_at c.loop-k.lists (slice_index numbers i)) (c.add.new.few.items ++ list_at c.add.new.lists c.in_ok-union.union) below
-          before.joined (before.grow.same (slice_index numbers i) known) added.exactly;
-    }
-
-pub with-requires-clause-fit : goal.with-requires-clause-fit
-with-requires-clause-fit c = subst Fit (sym c.deref.ensures.value) c.loop-k.invariant.pairs.fit
-
-pub returns-clause-unions : goal.returns-clause-unions
-returns-clause-unions c = AreUnions-grow c.with.ensures.grow c.loop-k.known c.loop-k.invariant.unions
+pub join_few-requires-clause-pairs : goal.join_few-requires-clause-pairs
+join_few-requires-clause-pairs c = record {
+  rising = c.in_ok-order_many.ensures.rising;
+  fit = subst Fit c.deref.ensures.value c.fit.ensures;
+}
 
 pub returns-clause-exactly : goal.returns-clause-exactly
 returns-clause-exactly c =
-    let few = c.loop-k.few.items in
-    let union = list_at c.loop-k.lists c.loop-k.union in
-    let all = IsUpTo-all c.args.lists.now c.args.numbers.now c.args.pairs.now c.loop-k.k-index (few ++ union) (omega arith) c.loop-k.invariant.joined in
-    IfOk-weaker c.with.result _ _ (λ i h z.
-    let halves = halves_has few union 0 z in
-    let list = list_at c.with.new.lists i in
-    same_as (subst (λ l. Contains list z ↔ (Contains l z ⊎ Contains union z)) c.deref.ensures.value (h z)) (same_as (halves.1, halves.0) (all z)))
-    c.with.ensures.exactly
+    IfOk-weaker c.join_few.result _ _ (λ i h z. same_as (h z) (either_same (c.in_ok-order_many.ensures.same z))) c.join_few.ensures.exactly
