@@ -6,7 +6,7 @@ ghost use Rattle.inert.specs.Moves.{IsListed, AreCollected, IsIn};
 ghost use Rattle.inert.specs.Search.{Listed};
 
 use crate::item::{CompactItem, Item};
-use lists::{Lists, order};
+use lists::Lists;
 use lts::Memory;
 
 /// The number of the list of what these items give.
@@ -26,7 +26,6 @@ pub(crate) fn list_from(
     }
     collect(items, numbers, pairs)?;
     order_numbers(numbers);
-    order(pairs);
     let list = lists.join(numbers, pairs)?;
     lists.known();
     Ok(list)

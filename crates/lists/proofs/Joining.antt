@@ -35,6 +35,32 @@ module _ (lists : List (List (ℕ × ℕ))) (numbers : List ℕ) where
     ]),
   )
 
+  -- the same beside pairs
+  pub with_none : (pairs list : List (ℕ × ℕ)) → list ≡ pairs → (z : ℕ × ℕ) → Contains list z ↔ (Contains pairs z ⊎ HasUpTo lists numbers 0 z)
+  with_none pairs list e z = (
+    λ c. inl (subst (λ l. Contains l z) e c),
+    λ o. elim o [ inl c ↦ subst (λ l. Contains l z) (sym e) c | inr h ↦ absurd (omega (arith, h.1)) ],
+  )
+
+  pub with_more : (i : ℕ) (pairs old new : List (ℕ × ℕ)) → ((z : ℕ × ℕ) → Contains old z ↔ (Contains pairs z ⊎ HasUpTo lists numbers i z))
+      → Unites new old (list_at lists (slice_index numbers i)) → (z : ℕ × ℕ) → Contains new z ↔ (Contains pairs z ⊎ HasUpTo lists numbers (i + 1) z)
+  with_more i pairs old new before both z = (
+    λ c. elim ((both z).0 c) [
+      | inl o ↦ elim ((before z).0 o) [
+        | inl p ↦ inl p
+        | inr h ↦ let (j, low, has) = h in inr (j, omega (arith, low), has)
+      ]
+      | inr m ↦ inr (i, omega arith, m)
+    ],
+    λ o. elim o [
+      | inl p ↦ (both z).1 (inl ((before z).1 (inl p)))
+      | inr h ↦ let (j, low, has) = h in (both z).1 (elim (cases_eq j i) [
+        | inl e ↦ inr (subst (λ x. Contains (list_at lists (slice_index numbers x)) z) e has)
+        | inr d ↦ inl ((before z).1 (inr (j, omega (arith, low, d), has)))
+      ])
+    ],
+  )
+
 -- lists that grow twice
 pub Grow-same : (lists : List (List (ℕ × ℕ))) → Grow lists lists
 Grow-same lists = record { longer = omega arith; same = λ k h. refl }
@@ -52,6 +78,12 @@ or_right f = (λ o. elim o [ inl a ↦ inl a | inr b ↦ inr (f.0 b) ], λ o. el
 
 pub same_as : {A B C : Type 0} → A ↔ B → B ↔ C → A ↔ C
 same_as f g = (λ a. g.0 (f.0 a), λ c. f.1 (g.1 c))
+
+pub either_same : {A B C : Type 0} → A ↔ B → (A ⊎ C) ↔ (B ⊎ C)
+either_same f = (
+  λ o. elim o [ inl a ↦ inl (f.0 a) | inr c ↦ inr c ],
+  λ o. elim o [ inl b ↦ inl (f.1 b) | inr c ↦ inr c ],
+)
 
 -- unions stay so as the lists grow
 module _ {old new : List (List (ℕ × ℕ))} (grow : Grow old new) where

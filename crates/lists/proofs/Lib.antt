@@ -16,3 +16,4 @@ pub mod Uniting
 pub mod Joining
 pub mod Noting
 pub mod Listing
+pub mod Marking

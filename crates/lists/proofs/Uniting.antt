@@ -232,6 +232,38 @@ unites_merged list xs ys e = subst (λ l. Unites l ys xs) (sym e) (λ z. (
   λ d. elim d [ inl b ↦ (merged_has z xs ys).1 (inr b) | inr a ↦ (merged_has z xs ys).1 (inl a) ],
 ))
 
+-- two lists one after the other, to one of which the pairs of a third one are put
+module _ (xs ys more new : List (ℕ × ℕ)) where
+  pub unites_first : Unites new xs more → Unites (new ++ ys) (xs ++ ys) more
+  unites_first unites z = (
+    λ d. elim ((halves_has new ys 0 z).0 d) [
+      | inl a ↦ elim ((unites z).0 a) [ inl x ↦ inl ((halves_has xs ys 0 z).1 (inl x)) | inr m ↦ inr m ]
+      | inr b ↦ inl ((halves_has xs ys 0 z).1 (inr b))
+    ],
+    λ d. elim d [
+      | inl e ↦ elim ((halves_has xs ys 0 z).0 e) [
+        | inl x ↦ (halves_has new ys 0 z).1 (inl ((unites z).1 (inl x)))
+        | inr y ↦ (halves_has new ys 0 z).1 (inr y)
+      ]
+      | inr m ↦ (halves_has new ys 0 z).1 (inl ((unites z).1 (inr m)))
+    ],
+  )
+
+  pub unites_second : Unites new ys more → Unites (xs ++ new) (xs ++ ys) more
+  unites_second unites z = (
+    λ d. elim ((halves_has xs new 0 z).0 d) [
+      | inl x ↦ inl ((halves_has xs ys 0 z).1 (inl x))
+      | inr a ↦ elim ((unites z).0 a) [ inl y ↦ inl ((halves_has xs ys 0 z).1 (inr y)) | inr m ↦ inr m ]
+    ],
+    λ d. elim d [
+      | inl e ↦ elim ((halves_has xs ys 0 z).0 e) [
+        | inl x ↦ (halves_has xs new 0 z).1 (inl x)
+        | inr y ↦ (halves_has xs new 0 z).1 (inr ((unites z).1 (inl y)))
+      ]
+      | inr m ↦ (halves_has xs new 0 z).1 (inr ((unites z).1 (inr m)))
+    ],
+  )
+
 -- a pair of a list with halves is on its own side of the cut
 module _ (lists : List (List (ℕ × ℕ))) (k : ℕ) (h : Halves) (is : IsHalved lists k h) (z : ℕ × ℕ) where
   pub has_below : as_number z < h.cut → Contains (list_at lists k) z ↔ Contains (list_at lists h.below) z

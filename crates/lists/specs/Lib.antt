@@ -1,4 +1,5 @@
 pub mod Lists
+pub mod Marks
 pub mod Cuts
 pub mod Spans
 pub mod Nodes

@@ -21,6 +21,7 @@ mod distinct;
 mod hashed;
 mod known;
 mod lists;
+mod marked;
 mod nodes;
 mod ordered;
 mod parts;

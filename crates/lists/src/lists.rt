@@ -47,6 +47,7 @@ impl Lists {
             scratch: Scratch {
                 held: Vec::new(alloc),
                 merged: Vec::new(alloc),
+                marks: Vec::new(alloc),
             },
         })
     }
@@ -97,21 +98,20 @@ impl Lists {
         self.lists.has(k, pair)
     }
 
-    /// The number of the list that has the pairs of these lists and these pairs, and no other one.
+    /// The number of the list that has the pairs of these lists and these pairs, which may be in any order, and no other one. It is
+    /// open what `pairs` has then.
     ///
     /// Fails if there is no memory for it. The lists that there were are as they were, and unions that were made until then stay.
-    pub fn join(&mut self, lists: &[u32], pairs: &[(u32, u32)]) -> Result<u32, Memory>
-        requires lists { AreNumbers self.old lists.now }
-        requires rising { IsStrictlySortedBy pair_cmp pairs.now }
+    pub fn join(&mut self, lists: &[u32], pairs: &mut Vec<(u32, u32)>) -> Result<u32, Memory>
+        requires { AreNumbers self.old lists.now }
 
         // Once it is done
         ensures within { IfOk result (λ k. k < length self.new) }
-        ensures exactly { IfOk result (λ k. (z : ℕ × ℕ) → Contains (list_at self.new k) z ↔ (Contains pairs.now z ⊎ HasOne self.old lists.now z)) }
+        ensures exactly { IfOk result (λ k. (z : ℕ × ℕ) → Contains (list_at self.new k) z ↔ (Contains pairs.old.items z ⊎ HasOne self.old lists.now z)) }
 
         // In either case
         ensures grow { Grow self.old self.new }
     {
-        fit(pairs);
         join(
             &mut self.lists,
             &mut self.known,

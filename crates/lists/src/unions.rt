@@ -7,12 +7,16 @@ ghost use Rattle.lists.specs.Cuts.{Fit, IsAlike, IsParted};
 ghost use Rattle.lists.specs.Nodes.{AreStored, IsHalved, AreIn};
 ghost use Rattle.lists.specs.Unions.{Unites, IsUnion, AreUnions, IsSplit};
 
-use crate::cut::{cut, key};
+use crate::cut::{cut, fit, key};
 use crate::distinct::Distinct;
 use crate::known::Known;
+use crate::marked::order_many;
 use crate::nodes::{EMPTY, FEW, Halves, Shape};
 use crate::ordered::{append_merged, has_all};
 use growth::Memory;
+
+/// The most lists that are put together with the pairs one after the other.
+const FEW_LISTS: usize = 16;
 
 /// The pairs below the cut, and those from it on.
 fn parted(pairs: &[(u32, u32)], cut: u64) -> (&[(u32, u32)], &[(u32, u32)])
@@ -120,6 +124,8 @@ pub(crate) fn with(
 pub(crate) struct Scratch {
     pub held: Vec<(u32, u32)>,
     pub merged: Vec<(u32, u32)>,
+    /// Marks that pairs are put in order by.
+    pub marks: Vec<u64>,
 }
 
 /// The number of the list that has the pairs of the list number `few` and those of the list number `k`: the first one is read
@@ -222,10 +228,41 @@ pub(crate) fn both(
     }
 }
 
-/// The number of the list that has the pairs of these lists and these pairs, and no other one.
+/// Adds the pairs of the list number `k`: after the last one of `pairs` if it is kept whole, or else to those of the list number
+/// `long`. Returns the number of the list that has the latter ones.
 ///
 /// Fails if there is no memory for it. The lists that there were are as they were.
-pub(crate) fn join(
+fn append(
+    lists: &mut Distinct,
+    known: &mut Known,
+    scratch: &mut Scratch,
+    pairs: &mut Vec<(u32, u32)>,
+    long: u32,
+    k: u32,
+) -> Result<u32, Memory>
+    requires unions { AreUnions lists.old known.old }
+    requires long { long < length lists.old }
+    requires list { k < length lists.old }
+    ensures unions { AreUnions lists.new known.new }
+    ensures within { IfOk result (λ i. i < length lists.new) }
+    ensures exactly { IfOk result (λ i. Unites (pairs.new.items ++ list_at lists.new i) (pairs.old.items ++ list_at lists.old long) (list_at lists.old k)) }
+    ensures grow { Grow lists.old lists.new }
+{
+    lists.known();
+    match lists.shape(k) {
+        Shape::Whole(list) => {
+            pairs.extend_from_slice(list)?;
+            Ok(long)
+        }
+        Shape::Halved(_) => both(lists, known, scratch, long, k),
+    }
+}
+
+/// The number of the list that has the pairs of these lists and these pairs, and no other one. The lists are united one after
+/// the other.
+///
+/// Fails if there is no memory for it. The lists that there were are as they were.
+fn join_few(
     lists: &mut Distinct,
     known: &mut Known,
     scratch: &mut Scratch,
@@ -247,4 +284,57 @@ pub(crate) fn join(
         union = both(lists, known, scratch, union, *k)?;
     }
     with(lists, &mut scratch.merged, union, pairs)
+}
+
+/// The number of the list that has the pairs of these lists and these pairs, and no other one. Lists that are kept whole are
+/// appended to the pairs, which are put in order once: so no list is made of what some of them have together.
+///
+/// Fails if there is no memory for it. The lists that there were are as they were.
+fn join_many(
+    lists: &mut Distinct,
+    known: &mut Known,
+    scratch: &mut Scratch,
+    numbers: &[u32],
+    pairs: &mut Vec<(u32, u32)>,
+) -> Result<u32, Memory>
+    requires unions { AreUnions lists.old known.old }
+    requires lists { AreNumbers lists.old numbers.now }
+    ensures unions { AreUnions lists.new known.new }
+    ensures within { IfOk result (λ i. i < length lists.new) }
+    ensures exactly { IfOk result (λ i. (z : ℕ × ℕ) → Contains (list_at lists.new i) z ↔ (Contains pairs.old.items z ⊎ HasOne lists.old numbers.now z)) }
+    ensures grow { Grow lists.old lists.new }
+{
+    lists.known();
+    let mut union = EMPTY;
+    for k in numbers {
+        union = append(lists, known, scratch, pairs, union, *k)?;
+    }
+    order_many(pairs, &mut scratch.marks)?;
+    fit(pairs);
+    with(lists, &mut scratch.merged, union, pairs)
+}
+
+/// The number of the list that has the pairs of these lists and these pairs, which may be in any order, and no other one.
+///
+/// Fails if there is no memory for it. The lists that there were are as they were.
+pub(crate) fn join(
+    lists: &mut Distinct,
+    known: &mut Known,
+    scratch: &mut Scratch,
+    numbers: &[u32],
+    pairs: &mut Vec<(u32, u32)>,
+) -> Result<u32, Memory>
+    requires unions { AreUnions lists.old known.old }
+    requires lists { AreNumbers lists.old numbers.now }
+    ensures unions { AreUnions lists.new known.new }
+    ensures within { IfOk result (λ i. i < length lists.new) }
+    ensures exactly { IfOk result (λ i. (z : ℕ × ℕ) → Contains (list_at lists.new i) z ↔ (Contains pairs.old.items z ⊎ HasOne lists.old numbers.now z)) }
+    ensures grow { Grow lists.old lists.new }
+{
+    if numbers.len() > FEW_LISTS {
+        return join_many(lists, known, scratch, numbers, pairs);
+    }
+    order_many(pairs, &mut scratch.marks)?;
+    fit(pairs);
+    join_few(lists, known, scratch, numbers, pairs)
 }

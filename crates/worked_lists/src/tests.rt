@@ -99,12 +99,12 @@ fn union_of(
     k: u32,
     pairs: &[(u32, u32)],
 ) -> Result<u32, Fail> {
-    let own = ordered(alloc, pairs)?;
+    let mut own = ordered(alloc, pairs)?;
     let count = lists.len();
     if j >= count || k >= count {
         return Err(Fail::new("too few lists"));
     }
-    Ok(lists.join(&[j, k], &own)?)
+    Ok(lists.join(&[j, k], &mut own)?)
 }
 
 /// Fails if the list number `k` is not there, or does not have exactly these pairs in this order, or says otherwise.

@@ -60,13 +60,12 @@ numbers_have xs ys zs same filtered k =
       λ c. subst (λ l. Contains l k) (sym freed) (Contains-dedup nat_eq_equiv eqb-true ys k (Contains-permutation xs ys k same c)),
     )
 
--- numbers and pairs in another order
-pub taken_ordered : (items : List Item) (ns numbers : List ℕ) (ps pairs : List (ℕ × ℕ)) → AreCollected items ns ps
-    → ((k : ℕ) → Contains numbers k ↔ Contains ns k) → ((z : ℕ × ℕ) → Contains pairs z ↔ Contains ps z)
-    → AreCollected items numbers pairs
-taken_ordered items ns numbers ps pairs taken named own = record {
+-- numbers in another order
+pub taken_ordered : (items : List Item) (ns numbers : List ℕ) (pairs : List (ℕ × ℕ)) → AreCollected items ns pairs
+    → ((k : ℕ) → Contains numbers k ↔ Contains ns k) → AreCollected items numbers pairs
+taken_ordered items ns numbers pairs taken named = record {
   named = λ k. (λ c. (taken.named k).0 ((named k).0 c), λ c. (named k).1 ((taken.named k).1 c));
-  own = λ a b. (λ c. (taken.own a b).0 ((own (a, b)).0 c), λ c. (own (a, b)).1 ((taken.own a b).1 c));
+  own = taken.own;
 }
 
 module _ (items : List Item) (lists : List (List (ℕ × ℕ))) (numbers : List ℕ) (pairs : List (ℕ × ℕ)) (taken : AreCollected items numbers pairs) where

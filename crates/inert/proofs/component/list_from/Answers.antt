@@ -1,20 +1,20 @@
 use Rattle.inert.specs.Moves.{AreCollected}
 use Rattle.inert.proofs.signatures.Listing.{taken_ordered, numbers_there, listed}
 use Rattle.inert.proofs.component.list_from.Goals as goal
-use Rattle.inert.proofs.component.list_from.Goals.{After-deref-2}
+use Rattle.inert.proofs.component.list_from.Goals.{After-deref}
 
 -- the numbers and pairs that are joined are those of the items
-taken : (c : goal.After-deref-2) → AreCollected c.args.items.now c.deref.result.now c.deref-2.result.now
+taken : (c : goal.After-deref) → AreCollected c.args.items.now c.deref.result.now c.collect.new.pairs.items
 taken c =
-    rw (c.deref.ensures.value, c.deref-2.ensures.value)
-    (taken_ordered c.args.items.now c.collect.new.numbers.items c.order_numbers.new.numbers.items c.collect.new.pairs.items c.order.new.pairs.items
-    c.in_ok-collect.ensures c.order_numbers.ensures c.order.ensures.same)
+    rw (c.deref.ensures.value)
+    (taken_ordered c.args.items.now c.collect.new.numbers.items c.order_numbers.new.numbers.items c.collect.new.pairs.items
+    c.in_ok-collect.ensures c.order_numbers.ensures)
 
-pub join-requires-clause-lists : goal.join-requires-clause-lists
-join-requires-clause-lists c = numbers_there c.args.items.now c.args.lists.now c.deref.result.now c.deref-2.result.now (taken c) c.requires
+pub join-requires : goal.join-requires
+join-requires c = numbers_there c.args.items.now c.args.lists.now c.deref.result.now c.collect.new.pairs.items (taken ((goal.at.join-requires c).After-deref)) c.requires
 
 pub returns : goal.returns
 returns c =
     let join = c.in_ok-list.ensures in
-    listed c.args.items.now c.args.lists.now c.deref.result.now c.deref-2.result.now (taken (goal.at.returns c).After-deref-2) c.join.new.self c.in_ok-list.list
+    listed c.args.items.now c.args.lists.now c.deref.result.now c.collect.new.pairs.items (taken (goal.at.returns c).After-deref) c.join.new.self c.in_ok-list.list
     c.known.ensures join.within join.grow join.exactly

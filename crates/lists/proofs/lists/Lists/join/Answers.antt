@@ -5,5 +5,5 @@ use Rattle.lists.proofs.lists.Lists.join.Goals as goal
 
 pub returns-clause-exactly : goal.returns-clause-exactly
 returns-clause-exactly c =
-    subst (λ l. IfOk c.join.result (λ k. (z : ℕ × ℕ) → Contains (list_at c.join.new.lists k) z ↔ (Contains c.args.pairs.now z ⊎ HasOne l c.args.lists.now z)))
+    subst (λ l. IfOk c.join.result (λ k. (z : ℕ × ℕ) → Contains (list_at c.join.new.lists k) z ↔ (Contains c.args.pairs.now.items z ⊎ HasOne l c.args.lists.now z)))
     c.self.view_is c.join.ensures.exactly
