@@ -16,7 +16,8 @@ use lists::Lists;
 use lts::{Lts, Memory, Meter};
 
 impl Walk {
-    /// Finishes the state `s`, which was not seen, and all states that inert steps lead to.
+    /// Finishes the state `s`, which was not seen, and all states that inert steps lead to. Those in `live` are signed; the others
+    /// are at rest. Only contracts look at `live`.
     ///
     /// Fails if there is no memory for it.
     pub fn finish<M: Meter>(

@@ -129,6 +129,7 @@ fn sign_one<M: Meter>(
 {
     let internal = l.labels().internal();
     walk.wake_all();
+    // All states are awake, and this one is to be signed.
     walk.finish(l, blocks, internal, &[s], s, lists, m)?;
     let list = walk.list(s as usize);
     Ok(list)
