@@ -1,3 +1,5 @@
 pub mod Listing
 pub mod Exact
 pub mod Idle
+pub mod Numbers
+pub mod Passing

@@ -1,6 +1,6 @@
 -- What a walk has still to read.
-use Rattle.std.specs.Prelude.{◌≡◌, ◌⊎◌, ℕ, ◌<◌, ◌+◌, ◌-◌, ◌≤◌, Bool, true, false, List, length, slice_index_or}
-use Rattle.std.specs.List.{Contains, All, filter, sum_by, count_by}
+use Rattle.std.specs.Prelude.{◌≡◌, ℕ, ◌+◌, ◌-◌, ◌≤◌, Bool, true, false, List, length, slice_index_or}
+use Rattle.std.specs.List.{filter, sum_by, count_by}
 use Rattle.lts.specs.Lts.{Triple, source_of}
 use Rattle.inert.specs.declared.walk.Stage.{Stage}
 use Rattle.inert.specs.declared.walk.Stage.TheVariants.{Unseen, Open, Finished}
@@ -24,14 +24,10 @@ unread places stages = length (filter (λ e. is_unseen (slice_index_or stages (s
 abbrev pub rest : List Frame → ℕ
 rest frames = sum_by (λ x. x.end - x.next) frames
 
--- each state that was seen is on the trail
-pub record IsTrail (stages : List Stage) (trail : List ℕ) : Type 0 where
-  pub each : All (λ s. s < length stages) trail
-  pub seen : (s : ℕ) → (slice_index_or stages s Unseen ≡ Unseen) ⊎ Contains trail s
-
--- each state that was seen is seen still
-abbrev pub KeepsSeen : List Stage → List Stage → Type 0
-KeepsSeen old new = (s : ℕ) → slice_index_or new s Unseen ≡ Unseen → slice_index_or old s Unseen ≡ Unseen
+-- each state that was seen is seen still, and each finished one has its list still
+pub record KeepsSeen (old new : List Stage) : Type 0 where
+  pub unseen : (s : ℕ) → slice_index_or new s Unseen ≡ Unseen → slice_index_or old s Unseen ≡ Unseen
+  pub finished : (s k : ℕ) → slice_index_or old s Unseen ≡ Finished k → slice_index_or new s Unseen ≡ Finished k
 
 -- and the state s is seen
 pub record HasSeen (s : ℕ) (old new : List Stage) : Type 0 where

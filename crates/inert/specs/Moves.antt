@@ -77,10 +77,6 @@ pub record Finishes (stack : List ℕ) (f number : ℕ) (old new : List Stage) :
   pub members : (p : ℕ) → f ≤ p → p < length stack → stage_at new (slice_index stack p) ≡ Finished number
   pub others : (s : ℕ) → (stage_at new s ≡ stage_at old s) ⊎ ((p : ℕ) × (f ≤ p) × (p < length stack) × (slice_index stack p ≡ s))
 
--- the state s is finished with the empty list, and nothing else changes
-abbrev pub skipped : ℕ → Search → Search
-skipped s w = with_stage s (Finished 0) w
-
 -- the walk without its last frame
 abbrev pub popped : Search → Search
 popped w = record w { frames = take (length w.frames - 1) w.frames }
@@ -115,13 +111,13 @@ abbrev pub HasRead : Search → Type 0
 HasRead w = (top w.frames).next ≡ (top w.frames).end
 
 -- a walk is under way: what holds between its steps, with a row to read
-pub record IsUnderWay (l : Grouped) (blocks : List ℕ) (alone : List Bool) (lists : List (List (ℕ × ℕ))) (w : Search) : Type 0 where
-  pub walks : Walks l blocks alone lists w
+pub record IsUnderWay (l : Grouped) (blocks : List ℕ) (live : List ℕ) (lists : List (List (ℕ × ℕ))) (w : Search) : Type 0 where
+  pub walks : Walks l blocks live lists w
   pub some : 0 < length w.frames
 
 -- a walk goes on
-pub record GoesOn (l : Grouped) (blocks : List ℕ) (alone : List Bool) (lists : List (List (ℕ × ℕ))) (old new : Search) : Type 0 where
-  pub walks : Walks l blocks alone lists new
+pub record GoesOn (l : Grouped) (blocks : List ℕ) (live : List ℕ) (lists : List (List (ℕ × ℕ))) (old new : Search) : Type 0 where
+  pub walks : Walks l blocks live lists new
   pub seen : KeepsSeen old.stages new.stages
 
 -- fewer steps are ahead after a state was entered, and else no more, where the row is read
@@ -130,8 +126,8 @@ ComesNearer l old new enters = (IsTrue enters → steps l new < steps l old)
     × (¬ IsTrue enters → HasRead new × (0 < length new.frames) × (steps l new ≤ steps l old))
 
 -- the walk rests: nothing is on the stack, and each state that was seen is finished, with its list
-pub record Rests (l : Grouped) (blocks : List ℕ) (alone : List Bool) (lists : List (List (ℕ × ℕ))) (w : Search) : Type 0 where
+pub record Rests (l : Grouped) (blocks : List ℕ) (live : List ℕ) (lists : List (List (ℕ × ℕ))) (w : Search) : Type 0 where
   pub empty : w ≡ nothing w.stages
   pub numbers : HasStages l.states (length lists) 0 w.stages
   pub shut : (s p : ℕ) → ¬ (stage_at w.stages s ≡ Open p)
-  pub signed : AreSigned l blocks alone lists w.stages
+  pub signed : AreSigned l blocks live lists w.stages

@@ -1,12 +1,13 @@
 -- A walk over inert steps: what is known of each state, the stack and its components, and what they have collected.
-use Rattle.std.specs.Prelude.{◌≡◌, ◌⊎◌, ℕ, ◌+◌, ◌-◌, ◌<◌, ◌≤◌, Bool, List, [], length, slice_index, slice_index_or}
+use Rattle.std.specs.Prelude.{◌≡◌, ◌⊎◌, ℕ, ◌+◌, ◌-◌, ◌<◌, ◌≤◌, List, [], length, slice_index, slice_index_or}
 use Rattle.std.specs.List.{All, AllPairs, Contains}
 use Rattle.theory.specs.System.{System, Leads}
 use Rattle.theory.specs.declared.relation.Relation.TheVariants.{Branching}
 use Rattle.theory.specs.Blocks.{Inert, Signature}
 use Rattle.lts.specs.Lts.{Grouped, Triple, source_of, target_of, place_at, system_of, IsRow}
 use Rattle.lists.specs.Lists.{list_at}
-use Rattle.inert.specs.Signed.{HasPair, IsSignature, IsKnownAlone, pair_under}
+use Rattle.partition.specs.Blocks.{IsOne}
+use Rattle.inert.specs.Signed.{HasPair, IsSignature, IsLeft, pair_under}
 use Rattle.inert.specs.Steps.{IsInert}
 use Rattle.inert.specs.Ahead.{HasStages}
 pub use Rattle.inert.specs.declared.walk.Stage.{Stage}
@@ -32,15 +33,21 @@ nothing stages = record { stages = stages; stack = []; frames = []; roots = []; 
 abbrev pub stage_at : List Stage → ℕ → Stage
 stage_at stages s = slice_index_or stages s Unseen
 
--- nothing was seen
+-- of so many states those that are not looked at are at rest: finished with the empty list
+abbrev pub AreAtRest : List ℕ → List Stage → Type 0
+AreAtRest live stages = (s : ℕ) → s < length stages → IsOne live s ⊎ (stage_at stages s ≡ Finished 0)
+
+-- no walk is under way, and all states are at rest
 pub record IsIdle (w : Search) : Type 0 where
   pub empty : w ≡ nothing w.stages
-  pub none : (s : ℕ) → stage_at w.stages s ≡ Unseen
+  pub rest : (s : ℕ) → s < length w.stages → stage_at w.stages s ≡ Finished 0
 
--- and there is a stage for each of so many states
-pub record IsReady (states : ℕ) (w : Search) : Type 0 where
-  pub idle : IsIdle w
+-- no walk is under way, and the states that are looked at were woken
+pub record IsWoken (states : ℕ) (live : List ℕ) (w : Search) : Type 0 where
+  pub empty : w ≡ nothing w.stages
   pub size : length w.stages ≡ states
+  pub awake : (i : ℕ) → i < length live → stage_at w.stages (slice_index live i) ≡ Unseen
+  pub rest : AreAtRest live w.stages
 
 -- the frame number i, the last one, and the height of the state where the walk is
 abbrev pub no_frame : Frame
@@ -103,20 +110,15 @@ pub record AreOpen (stages : List Stage) (stack : List ℕ) : Type 0 where
   pub placed : (p : ℕ) → p < length stack → stage_at stages (slice_index stack p) ≡ Open p
   pub only : (s p : ℕ) → stage_at stages s ≡ Open p → (p < length stack) × (slice_index stack p ≡ s)
 
--- the list of this number has only pairs of the signature of s, and all of them unless s is known to be alone in its block
-pub record IsSigned (l : Grouped) (blocks : List ℕ) (alone : List Bool) (s : ℕ) (lists : List (List (ℕ × ℕ))) (k : ℕ) : Type 0 where
+-- the list of this number has only pairs of the signature of s, and all of them unless s is alone in its block and not looked at
+pub record IsSigned (l : Grouped) (blocks : List ℕ) (live : List ℕ) (s : ℕ) (lists : List (List (ℕ × ℕ))) (k : ℕ) : Type 0 where
   pub within : k < length lists
   pub sound : (z : ℕ × ℕ) → Contains (list_at lists k) z → HasPair Branching l blocks s z.0 z.1
-  pub whole : IsSignature Branching l blocks s (list_at lists k) ⊎ IsKnownAlone blocks alone s
+  pub whole : IsSignature Branching l blocks s (list_at lists k) ⊎ IsLeft l.states blocks live s
 
 -- so is each finished state, with its list
-abbrev pub AreSigned : Grouped → List ℕ → List Bool → List (List (ℕ × ℕ)) → List Stage → Type 0
-AreSigned l blocks alone lists stages = (s k : ℕ) → stage_at stages s ≡ Finished k → IsSigned l blocks alone s lists k
-
--- a finished state has the number of its list, and that of the empty one if it is known to be alone
-abbrev pub HasItsList : List ℕ → List Bool → List Stage → ℕ → ℕ → Type 0
-HasItsList blocks alone stages s k = (IsKnownAlone blocks alone s × (k ≡ 0))
-    ⊎ (¬ IsKnownAlone blocks alone s × (stage_at stages s ≡ Finished k))
+abbrev pub AreSigned : Grouped → List ℕ → List ℕ → List (List (ℕ × ℕ)) → List Stage → Type 0
+AreSigned l blocks live lists stages = (s k : ℕ) → stage_at stages s ≡ Finished k → IsSigned l blocks live s lists k
 
 -- one component begins before another one, and so do its items
 abbrev pub IsBefore : Root → Root → Type 0
@@ -198,10 +200,10 @@ AreAccounted l blocks lists w = (p k : ℕ) → p < length w.stack → k < lengt
     IsAhead w p k ⊎ Accounted l blocks lists w p (place_at l.places k)
 
 -- what holds of a walk between its steps
-pub record Walks (l : Grouped) (blocks : List ℕ) (alone : List Bool) (lists : List (List (ℕ × ℕ))) (w : Search) : Type 0 where
+pub record Walks (l : Grouped) (blocks : List ℕ) (live : List ℕ) (lists : List (List (ℕ × ℕ))) (w : Search) : Type 0 where
   pub numbers : HasStages l.states (length lists) (length w.stack) w.stages
   pub opened : AreOpen w.stages w.stack
-  pub signed : AreSigned l blocks alone lists w.stages
+  pub signed : AreSigned l blocks live lists w.stages
   pub roots : AreRoots w
   pub frames : AreFrames l w.stack w.frames
   pub connects : Connects l blocks w

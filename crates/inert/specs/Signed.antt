@@ -1,5 +1,5 @@
 -- Signatures in memory: each state's pairs of a label number and a block, in rising order.
-use Rattle.std.specs.Prelude.{◌≡◌, ◌⊎◌, ◌↔◌, ℕ, ◌<◌, Bool, false, IsTrue, List, [], length, slice_index, slice_index_or}
+use Rattle.std.specs.Prelude.{◌≡◌, ◌⊎◌, ◌↔◌, ℕ, ◌<◌, List, [], length, slice_index}
 use Rattle.std.specs.List.{Contains}
 use Rattle.std.specs.List.Sorted.{IsStrictlySortedBy}
 use Rattle.theory.specs.declared.relation.Relation.{Relation}
@@ -8,6 +8,7 @@ use Rattle.theory.specs.Blocks.{Signature}
 use Rattle.lts.specs.Labels.{text_of}
 use Rattle.lts.specs.Lts.{Grouped, Triple, label_of, target_of, row_of, system_of}
 use Rattle.lists.specs.Lists.{pair_cmp}
+use Rattle.partition.specs.Splitting.{IsAlone}
 use Rattle.partition.specs.Blocks.{IsOne}
 
 -- the pair of the label number k and the block b is in the signature of s
@@ -23,14 +24,10 @@ pub record IsSignature (rel : Relation) (l : Grouped) (blocks : List ℕ) (s : �
 abbrev pub pair_under : List ℕ → Triple → ℕ × ℕ
 pair_under blocks e = (label_of e, slice_index blocks (target_of e))
 
--- the block of s is known to be of one state alone; alone tells it of each block
-abbrev pub IsKnownAlone : List ℕ → List Bool → ℕ → Type 0
-IsKnownAlone blocks alone s = IsTrue (slice_index_or alone (slice_index blocks s) false)
+-- s is none of the states that are looked at, and no other of so many states has its block
+abbrev pub IsLeft : ℕ → List ℕ → List ℕ → ℕ → Type 0
+IsLeft states blocks live s = ¬ IsOne live s × ((t : ℕ) → t < states → slice_index blocks t ≡ slice_index blocks s → t ≡ s)
 
--- the list of s: its branching signature, or no pairs if it is known to be alone in its block
-abbrev pub IsListOf : Grouped → List ℕ → List Bool → ℕ → List (ℕ × ℕ) → Type 0
-IsListOf l blocks alone s pairs = IsSignature Branching l blocks s pairs ⊎ (IsKnownAlone blocks alone s × (pairs ≡ []))
-
--- a state that is none of these has no transition
-abbrev pub HaveRows : Grouped → List ℕ → Type 0
-HaveRows l live = (s : ℕ) → s < l.states → IsOne live s ⊎ (row_of s l.places ≡ [])
+-- a state that is not looked at is alone in its block, or has no transition
+abbrev pub LeavesOut : Grouped → List ℕ → List ℕ → Type 0
+LeavesOut l blocks live = (s : ℕ) → s < l.states → IsOne live s ⊎ IsAlone blocks s ⊎ (row_of s l.places ≡ [])

@@ -24,16 +24,16 @@ impl Walk {
         l: &Lts<M>,
         blocks: &[u32],
         internal: Option<u32>,
-        alone: &[bool],
+        live: &[u32],
         s: u32,
         lists: &mut Lists,
         m: &mut M,
     ) -> Result<(), Memory>
         requires sees { Sees l.now blocks.now internal }
         requires state { (s < l.now.states) × (stage_at self.old.stages s ≡ Unseen) }
-        requires rests { Rests l.now blocks.now alone.now lists.old self.old }
+        requires rests { Rests l.now blocks.now live.now lists.old self.old }
         requires room { HasRoomFor (M.counted m.old) 0 (unread l.now.places self.old.stages) }
-        ensures on { OnOk result (GoesOn l.now blocks.now alone.now lists.new self.old self.new) }
+        ensures on { OnOk result (GoesOn l.now blocks.now live.now lists.new self.old self.new) }
         ensures found { OnOk result (¬ (stage_at self.new.stages s ≡ Unseen)) }
         ensures visits { OnOk result ((M.counted m.new).visits + ahead l.now self.new
             ≡ (M.counted m.old).visits + unread l.now.places self.old.stages) }
@@ -65,6 +65,7 @@ impl Walk {
     {
         let list = list_from(&self.items, lists, &mut self.numbers, &mut self.pairs)?;
         self.items.clear();
-        self.see(s, Stage::Finished(list))
+        self.see(s, Stage::Finished(list));
+        Ok(())
     }
 }

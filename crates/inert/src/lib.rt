@@ -22,7 +22,8 @@
 //! A walk begins without a frame, with nothing on the stack: its first state is put there only if an inert step leads on to a
 //! state that is not finished. Most walks are one row: in ten rounds over nine buffers, steps enter 521 of 196,830 states.
 //!
-//! A state that is alone in its block is passed: no inert step leads to it from another one, so nothing needs its list.
+//! Between walks all states are at rest, as if they were finished with the empty list. A round wakes those that it looks at. The
+//! others have no transition, so that this is their list, or are alone in their blocks, so that no inert step leads to them.
 #![tactic(auto)]
 
 mod beginning;
@@ -33,4 +34,4 @@ mod signer;
 mod step;
 mod walk;
 
-pub use signer::{Signer, is_alone};
+pub use signer::Signer;

@@ -16,7 +16,8 @@ use lists::Lists;
 use lts::{Lts, Memory, Meter};
 
 impl Walk {
-    /// Finishes the state `s`, which was not seen, and all states that inert steps lead to.
+    /// Finishes the state `s`, which was not seen, and all states that inert steps lead to. Those in `live` are signed; the others
+    /// are at rest. Only contracts look at `live`.
     ///
     /// Fails if there is no memory for it.
     pub fn finish<M: Meter>(
@@ -24,27 +25,27 @@ impl Walk {
         l: &Lts<M>,
         blocks: &[u32],
         internal: Option<u32>,
-        alone: &[bool],
+        live: &[u32],
         s: u32,
         lists: &mut Lists,
         m: &mut M,
     ) -> Result<(), Memory>
         requires sees { Sees l.now blocks.now internal }
         requires state { (s < l.now.states) × (stage_at self.old.stages s ≡ Unseen) }
-        requires rests { Rests l.now blocks.now alone.now lists.old self.old }
+        requires rests { Rests l.now blocks.now live.now lists.old self.old }
         requires room { HasRoomFor (M.counted m.old) 0 (unread l.now.places self.old.stages) }
-        ensures rests { OnOk result (Rests l.now blocks.now alone.now lists.new self.new) }
+        ensures rests { OnOk result (Rests l.now blocks.now live.now lists.new self.new) }
         ensures seen { OnOk result (HasSeen s self.old.stages self.new.stages) }
         ensures visits { OnOk result ((M.counted m.new).visits + unread l.now.places self.new.stages
             ≡ (M.counted m.old).visits + unread l.now.places self.old.stages) }
         ensures cost { Costs (M.counted m.old) (M.counted m.new) 0 0 (unread l.now.places self.old.stages) }
     {
-        self.begin(l, blocks, internal, alone, s, lists, m)?;
+        self.begin(l, blocks, internal, live, s, lists, m)?;
         while !self.frames.is_empty() {
-            if self.read(l, blocks, internal, alone, lists, m)? {
+            if self.read(l, blocks, internal, live, lists, m)? {
                 continue;
             }
-            self.go_back(l, blocks, alone, lists)?;
+            self.go_back(l, blocks, live, lists)?;
         }
         Ok(())
     }
@@ -58,14 +59,14 @@ impl Walk {
         l: &Lts<M>,
         blocks: &[u32],
         internal: Option<u32>,
-        alone: &[bool],
+        live: &[u32],
         lists: &Lists,
         m: &mut M,
     ) -> Result<bool, Memory>
         requires sees { Sees l.now blocks.now internal }
-        requires way { IsUnderWay l.now blocks.now alone.now lists.now self.old }
+        requires way { IsUnderWay l.now blocks.now live.now lists.now self.old }
         requires room { HasRoomFor (M.counted m.old) 0 (ahead l.now self.old) }
-        ensures on { OnOk result (GoesOn l.now blocks.now alone.now lists.now self.old self.new) }
+        ensures on { OnOk result (GoesOn l.now blocks.now live.now lists.now self.old self.new) }
         ensures visits { OnOk result ((M.counted m.new).visits + ahead l.now self.new ≡ (M.counted m.old).visits + ahead l.now self.old) }
         ensures steps { IfOk result (ComesNearer l.now self.old self.new) }
         ensures cost { Costs (M.counted m.old) (M.counted m.new) 0 0 (ahead l.now self.old) }
@@ -93,12 +94,12 @@ impl Walk {
         &mut self,
         l: &Lts<M>,
         blocks: &[u32],
-        alone: &[bool],
+        live: &[u32],
         lists: &mut Lists,
     ) -> Result<(), Memory>
-        requires way { IsUnderWay l.now blocks.now alone.now lists.old self.old }
+        requires way { IsUnderWay l.now blocks.now live.now lists.old self.old }
         requires read { HasRead self.old }
-        ensures on { OnOk result (GoesOn l.now blocks.now alone.now lists.new self.old self.new) }
+        ensures on { OnOk result (GoesOn l.now blocks.now live.now lists.new self.old self.new) }
         ensures ahead { OnOk result (ahead l.now self.new ≡ ahead l.now self.old) }
         ensures back { OnOk result (length self.new.frames < length self.old.frames) }
     {

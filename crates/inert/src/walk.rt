@@ -1,16 +1,17 @@
 //! A walk over inert steps (Gabow 2000): the states that lead to each other are a component, which is on the stack until all
 //! that it leads to is finished.
-ghost use Rattle.std.specs.Prelude.{◌≡◌, ◌↔◌, ℕ, ◌+◌, ◌<◌, ◌≤◌, [], length, IsTrue, IfOk, OnOk};
+ghost use Rattle.std.specs.Prelude.{◌≡◌, ◌↔◌, ℕ, ◌+◌, ◌<◌, ◌≤◌, [], length, slice_index, IsTrue, IfOk, OnOk};
 ghost use Rattle.lts.specs.declared.limits.TheConstants.{MOST_STATES};
-ghost use Rattle.inert.specs.Search.{Search, stage_at, nothing, IsIdle};
+ghost use Rattle.partition.specs.Blocks.{AreLive};
+ghost use Rattle.inert.specs.Search.{Search, stage_at, nothing, AreAtRest, IsIdle, IsWoken};
 ghost use Rattle.inert.specs.Moves.{with_stage, entered, Enters, LeadsOn, TakesStep, CutsRoots};
-ghost use Rattle.inert.specs.Ahead.{IsTrail};
 ghost use Rattle.inert.specs.declared.walk.Stage.TheVariants.{Unseen, Open, Finished};
 ghost use Rattle.inert.specs.declared.step.Step.TheVariants.{Inert, Shows};
 ghost use Rattle.inert.specs.declared.item.TheConstants.{LISTED};
 
 use crate::item::{CompactItem, Item};
 use crate::step::Step;
+use lists::EMPTY;
 use lts::{Lts, Memory, Meter};
 use std::alloc::Global;
 use std::marker::Model;
@@ -45,8 +46,6 @@ pub(crate) struct Root {
 pub(crate) struct Walk {
     /// What is known of each state.
     pub stages: Vec<Stage>,
-    /// The states that were seen since the stages were made or reset.
-    trail: Vec<u32>,
     /// The states that were seen and are not finished, as they were entered.
     pub stack: Vec<u32>,
     /// Those of them whose rows are being read, from the first to the one where the walk is.
@@ -65,8 +64,6 @@ impl Model for Walk {
 
     ghost Value = { Search };
 
-    ghost use Rattle.inert.specs.Ahead.{IsTrail};
-
     ghost view = { λ w. record {
       stages = w.stages.items;
       stack = w.stack.items;
@@ -74,18 +71,15 @@ impl Model for Walk {
       roots = w.roots.items;
       items = w.items.items;
     } };
-
-    ghost invariant = { λ w. IsTrail w.stages.items w.trail.items };
 }
 
 impl Walk {
-    /// A walk that has seen nothing, with no stages yet.
+    /// A walk that is not under way, with no stages yet.
     pub fn new(alloc: Global) -> Walk
         ensures { result ≡ nothing [] }
     {
         Walk {
             stages: Vec::new(alloc),
-            trail: Vec::new(alloc),
             stack: Vec::new(alloc),
             frames: Vec::new(alloc),
             roots: Vec::new(alloc),
@@ -106,17 +100,34 @@ impl Walk {
         if self.stages.len() == states as usize {
             return Ok(());
         }
-        self.trail.clear();
-        self.stages = vec![in alloc; Stage::Unseen; states as usize]?;
+        self.stages = vec![in alloc; Stage::Finished(EMPTY); states as usize]?;
         Ok(())
     }
 
-    /// Forgets all that was seen. It costs what was seen.
+    /// Wakes these states: from now on they are unseen.
+    pub fn wake(&mut self, live: &[u32])
+        requires idle { IsIdle self.old }
+        requires live { AreLive (length self.old.stages) live.now }
+        ensures { IsWoken (length self.old.stages) live.now self.new }
+    {
+        wake(&mut self.stages, live);
+    }
+
+    /// Wakes all states.
+    pub fn wake_all(&mut self)
+        requires idle { IsIdle self.old }
+        ensures none { self.new ≡ nothing self.new.stages }
+        ensures size { length self.new.stages ≡ length self.old.stages }
+        ensures unseen { (s : ℕ) → stage_at self.new.stages s ≡ Unseen }
+    {
+        self.stages.fill(Stage::Unseen);
+    }
+
+    /// Puts all states to rest, and ends the walk.
     pub fn reset(&mut self)
         ensures { IsIdle self.new }
     {
-        forget(&mut self.stages, &self.trail);
-        self.trail.clear();
+        self.stages.fill(Stage::Finished(EMPTY));
         self.stack.clear();
         self.frames.clear();
         self.roots.clear();
@@ -148,6 +159,18 @@ impl Walk {
         }
     }
 
+    /// The number of the list of the state `s`, which is finished, and at rest from now on.
+    pub fn rest(&mut self, s: usize) -> u32
+        requires state { s < length self.old.stages }
+        requires finished { (k : ℕ) × (stage_at self.old.stages s ≡ Finished k) }
+        ensures list { stage_at self.old.stages s ≡ Finished result }
+        ensures rests { self.new ≡ with_stage s (Finished 0) self.old }
+    {
+        let list = self.list(s);
+        self.stages[s] = Stage::Finished(EMPTY);
+        list
+    }
+
     /// Whether the step is an inert one to a state that is not finished.
     #[inline(always)]
     pub fn leads_on(&self, step: Step) -> bool
@@ -165,16 +188,12 @@ impl Walk {
     }
 
     /// Sees the state `s`: this is known of it from now on.
-    ///
-    /// Fails if there is no memory for it.
     #[inline(always)]
-    pub fn see(&mut self, s: u32, stage: Stage) -> Result<(), Memory>
+    pub fn see(&mut self, s: u32, stage: Stage)
         requires { s < length self.old.stages }
-        ensures { OnOk result (self.new ≡ with_stage s stage self.old) }
+        ensures { self.new ≡ with_stage s stage self.old }
     {
-        self.trail.push(s)?;
         self.stages[s as usize] = stage;
-        Ok(())
     }
 
     /// Puts the state `s` on the stack, as a component of its own: its items are those from `items` on, and its frame is for the
@@ -191,7 +210,8 @@ impl Walk {
         self.roots.push(Root { height, items })?;
         self.frames.push(Frame { height, next, end })?;
         self.stack.push(s)?;
-        self.see(s, Stage::Open(height))
+        self.see(s, Stage::Open(height));
+        Ok(())
     }
 
     /// Enters the state `s`: it goes on the stack, as a component of its own, and its row is read from now on.
@@ -246,13 +266,16 @@ impl Walk {
     }
 }
 
-/// Makes unseen each of these states.
-fn forget(stages: &mut Vec<Stage>, trail: &[u32])
-    requires { IsTrail stages.old.items trail.now }
-    ensures { (s : ℕ) → stage_at stages.new.items s ≡ Unseen }
+/// Makes unseen these states, while all others are at rest.
+fn wake(stages: &mut Vec<Stage>, live: &[u32])
+    requires rest { (s : ℕ) → s < length stages.old.items → stage_at stages.old.items s ≡ Finished 0 }
+    requires live { AreLive (length stages.old.items) live.now }
+    ensures size { length stages.new.items ≡ length stages.old.items }
+    ensures awake { (i : ℕ) → i < length live.now → stage_at stages.new.items (slice_index live.now i) ≡ Unseen }
+    ensures rest { AreAtRest live.now stages.new.items }
 {
-    for s in trail {
-        stages[*s as usize] = Stage::Unseen;
+    for i in 0..live.len() {
+        stages[live[i] as usize] = Stage::Unseen;
     }
 }
 

@@ -19,4 +19,4 @@ pub use limits::{MOST_LABELS, MOST_STATES, MOST_TRANSITIONS};
 pub use lts::{Lts, in_range};
 pub use meter::{Counter, Meter};
 pub use row_laws::{rows_are_steps, rows_follow};
-pub use visiting::visit_row;
+pub use visiting::visit_places;

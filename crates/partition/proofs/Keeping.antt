@@ -1,8 +1,9 @@
 -- For each block the number of a list that one of its states has.
-use Rattle.std.proofs.Common.{◌≡◌, ◌⊎◌, ◌∙◌, ℕ, ◌+◌, ◌<◌, List, length, slice_index, set, Option, None, Some, IsSome, ap, sym, inl, inr, arith}
+use Rattle.std.proofs.Common.{◌≡◌, ◌⊎◌, ◌∙◌, ℕ, ◌+◌, ◌<◌, List, length, slice_index, set, Option, None, Some, IsSome, ap, sym, refl, inl, inr, arith}
 use Rattle.std.proofs.lemmas.Bool.{cases_lt, cases_eq, false≢true}
 use Rattle.std.proofs.lemmas.List.{length-set, get_or-set_same, get_or-set_other}
-use Rattle.partition.specs.Blocks.{AreIdle, HaveNone}
+use Rattle.partition.specs.Splitting.{IsAlone}
+use Rattle.partition.specs.Blocks.{AreLive, AreIdle, HaveNone}
 use Rattle.partition.specs.Representatives.{AreKeepers}
 
 -- the block of the state t has a state of that list
@@ -14,11 +15,16 @@ IsKept old numbers keepers t =
 abbrev pub IsBefore : List ℕ → ℕ → ℕ → Type 0
 IsBefore live i t = (j : ℕ) × (j < i) × (slice_index live j ≡ t)
 
--- so far for the blocks of these states, and for each block that has votes
+-- the block of t is that of one of the first i states that are looked at
+abbrev pub IsMet : List ℕ → List ℕ → ℕ → ℕ → Type 0
+IsMet old live i t = (j : ℕ) × (j < i) × (slice_index old (slice_index live j) ≡ slice_index old t)
+
+-- so far for the blocks of these states, and for each block that has votes. The others have the empty list
 pub record KeptUpTo (old numbers live : List ℕ) (i : ℕ) (keepers votes : List ℕ) : Type 0 where
   pub room : (s : ℕ) → s < length old → slice_index old s < length keepers
   pub votes_room : (s : ℕ) → s < length old → slice_index old s < length votes
   pub keeps : (t : ℕ) → t < length old → IsBefore live i t ⊎ (0 < slice_index votes (slice_index old t)) → IsKept old numbers keepers t
+  pub unmet : (t : ℕ) → t < length old → (slice_index keepers (slice_index old t) ≡ 0) ⊎ IsMet old live i t
 
 module _ (old numbers live : List ℕ) (i : ℕ) (keepers votes : List ℕ) (inside : slice_index live i < length old) (up : KeptUpTo old numbers live i keepers votes) where
   abbrev s : ℕ
@@ -55,6 +61,7 @@ module _ (old numbers live : List ℕ) (i : ℕ) (keepers votes : List ℕ) (ins
       | inl e ↦ up.keeps t ht (inr (rw e some))
       | inr d ↦ up.keeps t ht (before v t d h)
     ];
+    unmet = λ t ht. elim (up.unmet t ht) [ inl none ↦ inl none | inr m ↦ inr (m.0, omega (arith, m.1), m.2) ];
   }
 
   abbrev keepers' : List ℕ
@@ -74,23 +81,43 @@ module _ (old numbers live : List ℕ) (i : ℕ) (keepers votes : List ℕ) (ins
     room = λ t h. omega (arith, up.room t h, length-set keepers b (slice_index numbers s));
     votes_room = λ t h. omega (arith, up.votes_room t h, length-set votes b v);
     keeps = keeps-now v;
+    unmet = λ t ht. elim (cases_eq (slice_index old t) b) [
+      | inl e ↦ inr (i, omega arith, sym e)
+      | inr d ↦ elim (up.unmet t ht) [
+        | inl none ↦ inl (get_or-set_other keepers b (slice_index old t) (slice_index numbers s) 0 d ∙ none)
+        | inr m ↦ inr (m.0, omega (arith, m.1), m.2)
+      ]
+    ];
   }
 
 -- when all that are looked at have voted
-module _ (old numbers live keepers votes : List ℕ) (up : KeptUpTo old numbers live (length live) keepers votes) where
+module _ (old numbers live keepers votes : List ℕ) (up : KeptUpTo old numbers live (length live) keepers votes) (rises : AreLive (length old) live)
+    (zeros : HaveNone live numbers) (size : length numbers ≡ length old) where
+  -- a state that is alone in its block has its list
+  alone_kept : (t : ℕ) → t < length old → IsAlone old t → IsKept old numbers keepers t
+  alone_kept t h alone = elim (zeros t (omega (arith, h, size))) [
+    | inl one ↦ up.keeps t h (inl one)
+    | inr zero ↦ elim (up.unmet t h) [
+      | inl none ↦ (t, h, refl, none ∙ sym zero)
+      | inr m ↦ up.keeps t h (inl (m.0, m.1, alone _ (rises.below m.0 m.1) m.2))
+    ]
+  ]
+
   -- there are no others
   pub keepers_none : (idle : Option ℕ) → AreIdle old live idle → ¬ IsSome idle → AreKeepers old numbers idle keepers
   keepers_none idle others none = record {
     room = up.room;
-    keeps = λ t h. elim (others.first t h) [ inl one ↦ up.keeps t h (inl one) | inr x ↦ absurd (none x.1) ];
+    keeps = λ t h. elim (others.each t h) [
+      | inl one ↦ up.keeps t h (inl one)
+      | inr x ↦ elim x [ inl alone ↦ alone_kept t h alone | inr y ↦ absurd (none y.1) ]
+    ];
     beside = λ some. absurd (none some);
   }
 
   -- or they keep block 0
-  pub keepers_some : (idle : Option ℕ) → AreIdle old live idle → HaveNone live numbers → length numbers ≡ length old → IsSome idle
-      → AreKeepers old numbers idle (set keepers 0 0)
-  keepers_some None others zeros size some = absurd (false≢true some)
-  keepers_some (Some w) others zeros size some =
+  pub keepers_some : (idle : Option ℕ) → AreIdle old live idle → IsSome idle → AreKeepers old numbers idle (set keepers 0 0)
+  keepers_some None others some = absurd (false≢true some)
+  keepers_some (Some w) others some =
       let room : 0 < length keepers = omega (arith, up.room w others.one.0) in
       let zero : slice_index numbers w ≡ 0 = elim (zeros w (omega (arith, others.one.0, size))) [ inl one ↦ absurd (others.one.2 one) | inr e ↦ e ] in
       record {
@@ -98,10 +125,12 @@ module _ (old numbers live keepers votes : List ℕ) (up : KeptUpTo old numbers 
         keeps = λ t h. elim (cases_eq (slice_index old t) 0) [
           | inl e ↦
               (w, others.one.0, others.one.1 ∙ sym e, ap (slice_index (set keepers 0 0)) e ∙ get_or-set_same keepers 0 0 0 room ∙ sym zero)
-          | inr d ↦ elim (others.first t h) [
-            | inl one ↦ let g = up.keeps t h (inl one) in (g.0, g.1, g.2, get_or-set_other keepers 0 (slice_index old t) 0 0 d ∙ g.3)
-            | inr x ↦ absurd (d x.0)
-          ]
+          | inr d ↦
+              let g : IsKept old numbers keepers t = elim (others.each t h) [
+                | inl one ↦ up.keeps t h (inl one)
+                | inr x ↦ elim x [ inl alone ↦ alone_kept t h alone | inr y ↦ absurd (d y.0) ]
+              ] in
+              (g.0, g.1, g.2, get_or-set_other keepers 0 (slice_index old t) 0 0 d ∙ g.3)
         ];
         beside = λ _. get_or-set_same keepers 0 0 0 room;
       }

@@ -5,4 +5,5 @@ pub mod Searching
 pub mod Representatives
 pub mod Meeting
 pub mod Living
+pub mod Leaving
 pub mod Parting

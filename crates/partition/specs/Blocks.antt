@@ -1,15 +1,14 @@
 -- The blocks of a round of refinement, with the states that it looks at.
-use Rattle.std.specs.Prelude.{◌≡◌, ◌⊎◌, ℕ, ◌<◌, ◌≤◌, Bool, List, length, slice_index, Option, IfSome, IsSome}
+use Rattle.std.specs.Prelude.{◌≡◌, ◌⊎◌, ℕ, ◌<◌, ◌≤◌, List, length, slice_index, Option, IfSome, IsSome}
 use Rattle.partition.specs.Partition.{AreBlocks}
-use Rattle.partition.specs.Splitting.{AreAlone}
+use Rattle.partition.specs.Splitting.{IsAlone}
 
--- the block of each state, how many blocks there are, those that are known to be of one state alone, and the states that are looked at.
--- Blocks from `low` on are new since the last split. `idle` is a state that is not looked at, if there is one.
+-- the block of each state, how many blocks there are, and the states that are looked at. Blocks from `low` on are new since the last
+-- split. `idle` is one of the states that are together in block 0 and not looked at, if there is one.
 pub record RoundBlocks : Type 0 where
   pub of : List ℕ
   pub count : ℕ
   pub low : ℕ
-  pub alone : List Bool
   pub live : List ℕ
   pub idle : Option ℕ
 
@@ -23,19 +22,27 @@ pub record AreLive (states : ℕ) (live : List ℕ) : Type 0 where
   pub below : (i : ℕ) → i < length live → slice_index live i < states
   pub rising : (i j : ℕ) → i < j → j < length live → slice_index live i < slice_index live j
 
--- the states that are not looked at are in block 0, and `idle` is one of them
+-- a state that is not looked at is alone in its block, or in block 0, as `idle` is
 pub record AreIdle (of live : List ℕ) (idle : Option ℕ) : Type 0 where
-  pub first : (s : ℕ) → s < length of → IsOne live s ⊎ ((slice_index of s ≡ 0) × IsSome idle)
+  pub each : (s : ℕ) → s < length of → IsOne live s ⊎ IsAlone of s ⊎ ((slice_index of s ≡ 0) × IsSome idle)
   pub one : IfSome idle (λ s. (s < length of) × (slice_index of s ≡ 0) × ¬ IsOne live s)
 
--- what holds of the blocks of a round
-pub record IsRound (of : List ℕ) (count : ℕ) (alone : List Bool) (live : List ℕ) (idle : Option ℕ) : Type 0 where
+-- what holds of the blocks of a round, of which there were so many when the states that are alone were left out last
+pub record IsRound (of : List ℕ) (count known : ℕ) (live : List ℕ) (idle : Option ℕ) : Type 0 where
   pub blocks : AreBlocks of count
-  pub known : AreAlone of alone
-  pub fewer : length alone ≤ count
+  pub fewer : known ≤ count
   pub rising : AreLive (length of) live
   pub others : AreIdle of live idle
 
 -- a state that is not looked at has the list number 0
 abbrev pub HaveNone : List ℕ → List ℕ → Type 0
 HaveNone live numbers = (s : ℕ) → s < length numbers → IsOne live s ⊎ (slice_index numbers s ≡ 0)
+
+-- of the states that are looked at some are left out, which are alone in their blocks
+pub record LeavesAlone (of old new : List ℕ) : Type 0 where
+  pub were : (s : ℕ) → IsOne new s → IsOne old s
+  pub are : (s : ℕ) → IsOne old s → IsOne new s ⊎ IsAlone of s
+
+-- each number is as it was, or 0
+abbrev pub AreOrNone : List ℕ → List ℕ → Type 0
+AreOrNone old new = (s : ℕ) → (slice_index new s ≡ slice_index old s) ⊎ (slice_index new s ≡ 0)

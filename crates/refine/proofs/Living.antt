@@ -1,12 +1,13 @@
--- The states that a round looks at: one more, and the rows between two of them.
-use Rattle.std.proofs.Common.{◌≡◌, ◌⊎◌, ◌↔◌, ◌∙◌, ℕ, zero, suc, ◌+◌, ◌-◌, ◌<◌, ◌≤◌, List, [], ◌∷◌, ◌++◌, length, slice_index, set, Contains, ap, sym, subst, refl, inl, inr, arith}
-use Rattle.std.proofs.lemmas.Bool.{cases_lt, cases_eq}
+-- The states that a round looks at: one more, and their lists.
+use Rattle.std.proofs.Common.{◌≡◌, ◌⊎◌, ◌↔◌, ◌∙◌, ℕ, ◌+◌, ◌<◌, ◌≤◌, List, [], ◌∷◌, ◌++◌, length, slice_index, set, Contains, ap, sym, subst, refl, inl, inr, arith}
+use Rattle.std.proofs.lemmas.Bool.{cases_lt}
 use Rattle.std.proofs.lemmas.List.{length_push, get_or_append_left, get_or_push, get_or-set_same, get_or-set_other, get_or_default}
 use Rattle.theory.specs.System.{Step}
 use Rattle.lts.specs.Labels.{text_of}
-use Rattle.lts.specs.Lts.{Grouped, Triple, label_of, target_of, row_of, before, system_of}
+use Rattle.lts.specs.Lts.{Grouped, Triple, label_of, target_of, row_of, system_of}
 use Rattle.lists.specs.Lists.{list_at, AreNumbers, Grow}
-use Rattle.partition.specs.Blocks.{AreLive, IsOne, HaveNone}
+use Rattle.partition.specs.Blocks.{AreLive, IsOne, HaveNone, LeavesAlone}
+use Rattle.inert.specs.Signed.{LeavesOut}
 
 -- none
 pub rising_none : AreLive 0 []
@@ -51,43 +52,28 @@ pub empty_row : (row : List Triple) → length row ≡ 0 → row ≡ []
 empty_row [] h = refl
 empty_row (e ∷ row) h = absurd (omega (arith, h))
 
--- no place is between states whose rows are empty
-module _ (places : List Triple) (next : (s : ℕ) → before (s + 1) places ≡ before s places + length (row_of s places)) where
-  pub nothing_between : (a k : ℕ) → ((t : ℕ) → a ≤ t → t < a + k → row_of t places ≡ []) → before (a + k) places ≡ before a places
-  nothing_between a zero none =
-      let is : a + 0 ≡ a = omega arith in
-      ap (λ n. before n places) is
-  nothing_between a (suc k) none =
-      let last = ap length (none (a + k) (omega arith) (omega arith)) in
-      let up = next (a + k) in
-      let is : a + suc k ≡ a + k + 1 = omega arith in
-      let same : before (a + k + 1) places ≡ before (a + k) places = omega (arith, up, last) in
-      ap (λ n. before n places) is ∙ same ∙ nothing_between a k (λ t l h. none t l (omega (arith, h)))
+-- what is left out may be so still when more states are
+pub left_out_still : (l : Grouped) (of live left : List ℕ) → LeavesAlone of live left → LeavesOut l of live → LeavesOut l of left
+left_out_still l of live left leaves others s h = elim (others s h) [
+  | inl one ↦ elim (leaves.are s one) [ inl is ↦ inl is | inr alone ↦ inr (inl alone) ]
+  | inr x ↦ inr x
+]
 
-  -- as they are between two that are looked at
-  pub none_between : (live : List ℕ) (i a b : ℕ) → ((t : ℕ) → t < b → IsOne live t ⊎ (row_of t places ≡ [])) → ((j : ℕ) → j < i → slice_index live j < a)
-      → ((j : ℕ) → i ≤ j → j < length live → b ≤ slice_index live j) → a ≤ b → before b places ≡ before a places
-  none_between live i a b rows low high up =
-      let is : b ≡ a + (b - a) = omega (arith, up) in
-      ap (λ n. before n places) is ∙ nothing_between a (b - a) (λ t l h. elim (rows t (omega (arith, h, up))) [
-        | inr empty ↦ empty
-        | inl one ↦ elim (cases_lt one.0 i) [
-          | inl before ↦ absurd (omega (arith, low one.0 before, one.2, l))
-          | inr after ↦ absurd (omega (arith, high one.0 after one.1, one.2, h, up))
-        ]
-      ])
-
--- a state that is looked at is up to each later one
-pub up_to : (live : List ℕ) (states i j : ℕ) → AreLive states live → i ≤ j → j < length live → slice_index live i ≤ slice_index live j
-up_to live states i j rises low h = elim (cases_eq j i) [
-  | inl e ↦ omega (arith, ap (slice_index live) e)
-  | inr d ↦ let up = rises.rising i j (omega (arith, low, d)) h in omega (arith, up)
+-- and when blocks are parted
+pub left_out_next : (l : Grouped) (of next live : List ℕ) → length of ≡ l.states → length next ≡ l.states
+    → ((s t : ℕ) → s < l.states → t < l.states → slice_index next s ≡ slice_index next t → slice_index of s ≡ slice_index of t) → LeavesOut l of live → LeavesOut l next live
+left_out_next l of next live size size' parted others s h = elim (others s h) [
+  | inl one ↦ inl one
+  | inr x ↦ elim x [
+    | inl alone ↦ inr (inl (λ t lt same. alone t (omega (arith, lt, size, size')) (parted t s (omega (arith, lt, size')) h same)))
+    | inr empty ↦ inr (inr empty)
+  ]
 ]
 
 -- no step is from a state whose row is empty
 pub no_step : (l : Grouped) (s : ℕ)
     → ((a : List ℕ) (t : ℕ) → Step (system_of l) s a t ↔ ((e : Triple) × Contains (row_of s l.places) e × (text_of l.labels (label_of e) ≡ a) × (target_of e ≡ t)))
-    → row_of s l.places ≡ [] → {P : Type 0} → (a : List ℕ) (t : ℕ) → Step (system_of l) s a t → P
+    → row_of s l.places ≡ [] → (a : List ℕ) (t : ℕ) → Step (system_of l) s a t → ⊥
 no_step l s steps empty a t step =
     let found = (steps a t).0 step in
     let has = subst (λ xs. Contains xs found.0) empty found.1 in
@@ -119,18 +105,11 @@ module _ (lists lists' : List (List (ℕ × ℕ))) (numbers live : List ℕ) (st
         )
   ]
 
--- the lists of all states: the others have no transition, and the empty list
-module _ (lists : List (List (ℕ × ℕ))) (numbers live : List ℕ) (states : ℕ) (size : length numbers ≡ states) (Idle : ℕ → Type 0)
-    (rows : (s : ℕ) → s < states → IsOne live s ⊎ Idle s) (none : HaveNone live numbers) (P : ℕ → List (ℕ × ℕ) → Type 0)
+-- the lists of all that are looked at, and the others have the empty one
+module _ (lists : List (List (ℕ × ℕ))) (numbers live : List ℕ) (none : HaveNone live numbers) (P : ℕ → List (ℕ × ℕ) → Type 0)
     (put : (j : ℕ) → j < length live → (slice_index numbers (slice_index live j) < length lists) × P (slice_index live j) (list_at lists (slice_index numbers (slice_index live j)))) where
-  pub all_put : list_at lists 0 ≡ [] → ((s : ℕ) → Idle s → P s []) → (s : ℕ) → s < states → P s (list_at lists (slice_index numbers s))
-  all_put first idle s h = elim (rows s h) [
-    | inl one ↦ subst (λ x. P x (list_at lists (slice_index numbers x))) one.2 (put one.0 one.1).1
-    | inr is ↦ elim (none s (omega (arith, h, size))) [
-      | inl one ↦ subst (λ x. P x (list_at lists (slice_index numbers x))) one.2 (put one.0 one.1).1
-      | inr nil ↦ subst (P s) (sym (ap (list_at lists) nil ∙ first)) (idle s is)
-    ]
-  ]
+  pub each_put : (s : ℕ) → IsOne live s → P s (list_at lists (slice_index numbers s))
+  each_put s one = subst (λ x. P x (list_at lists (slice_index numbers x))) one.2 (put one.0 one.1).1
 
   pub all_numbers : 1 ≤ length lists → AreNumbers lists numbers
   all_numbers some s d h = subst (λ x. x < length lists) (get_or_default numbers s 0 d h) (elim (none s h) [

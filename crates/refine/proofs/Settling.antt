@@ -1,19 +1,21 @@
 -- States that no new number can be seen from keep what they have in common.
-use Rattle.std.proofs.Common.{◌≡◌, ◌⊎◌, ◌↔◌, ◌∙◌, ℕ, zero, suc, ◌<◌, Bool, false, IsTrue, List, [], length, slice_index, slice_index_or, Contains, ap, sym, subst, refl, inl, inr, arith}
-use Rattle.std.proofs.lemmas.Bool.{false≢true}
+use Rattle.std.proofs.Common.{◌≡◌, ◌⊎◌, ◌↔◌, ◌∙◌, ℕ, ◌<◌, List, [], ◌∷◌, length, slice_index, Contains, ap, sym, subst, refl, inl, inr, arith}
 use Rattle.std.specs.List.Sorted.{IsStrictlySortedBy}
-use Rattle.theory.specs.System.{System, IsSystem, Step}
+use Rattle.theory.specs.System.{System, IsSystem, Step, Along, internal}
 use Rattle.theory.specs.declared.relation.Relation.{Relation}
 use Rattle.theory.specs.declared.relation.Relation.TheVariants.{Strong, Branching}
-use Rattle.theory.specs.Blocks.{Signature, SameSignature, SameBlocks, Split}
+use Rattle.theory.specs.Blocks.{Inert, Signature, SameSignature, SameBlocks, Split}
 use Rattle.theory.proofs.Paths.{step_below}
 use Rattle.lts.specs.Labels.{text_of}
-use Rattle.lts.specs.Lts.{Grouped, system_of}
-use Rattle.lists.specs.Lists.{pair_cmp}
-use Rattle.inert.specs.Signed.{HasPair, IsSignature}
+use Rattle.lts.specs.Lts.{Grouped, Triple, label_of, target_of, row_of, system_of}
+use Rattle.lists.specs.Lists.{list_at, pair_cmp}
+use Rattle.partition.specs.Splitting.{IsAlone, Splits}
+use Rattle.partition.specs.Blocks.{HaveNone}
+use Rattle.inert.specs.Signed.{HasPair, IsSignature, LeavesOut}
 use Rattle.refine.specs.Rounds.{IsNext}
-use Rattle.partition.specs.Splitting.{IsAlone, AreAlone, Splits}
+use Rattle.refine.specs.EachList.{list_of}
 use Rattle.refine.specs.Settled.{IsTouched, IsStill, Settled, IsPut, ArePut}
+use Rattle.refine.proofs.Living.{no_step}
 use Rattle.refine.proofs.Signing.{Labelled, equal_lists}
 
 -- before the first round every number is new
@@ -69,9 +71,8 @@ not_empty Strong l labelled blocks low s t xs touched signed still e =
 not_empty Branching l labelled blocks low s t xs touched signed still e = still
 
 module _ (rel : Relation) (l : Grouped) (labelled : Labelled l) (p : List ℕ) (low : ℕ) (states : length p ≡ l.states)
-    (settled : Settled rel (system_of l) (slice_index p) low) (signature : ℕ → List (ℕ × ℕ)) (alone : ℕ → Type 0)
-    (known : (s : ℕ) → s < l.states → alone s → IsAlone p s)
-    (put : (s : ℕ) → s < l.states → IsPut rel l p low (alone s) s (signature s)) where
+    (settled : Settled rel (system_of l) (slice_index p) low) (signature : ℕ → List (ℕ × ℕ))
+    (told : (s : ℕ) → s < l.states → IsPut rel l p low s (signature s) ⊎ IsAlone p s) where
   -- one state has one list and one signature
   of_one : (s t : ℕ) → s ≡ t → (signature s ≡ signature t) ↔ SameSignature rel (system_of l) (slice_index p) s t
   of_one s t e = (
@@ -95,26 +96,22 @@ module _ (rel : Relation) (l : Grouped) (labelled : Labelled l) (p : List ℕ) (
     λ same. sym (h.1 (λ a b. let f = same a b in (f.1, f.0))),
   )
 
+  -- of two states for which lists were put down
+  both_put : (s t : ℕ) → s < l.states → t < l.states → slice_index p s ≡ slice_index p t → IsPut rel l p low s (signature s) → IsPut rel l p low t (signature t)
+      → (signature s ≡ signature t) ↔ SameSignature rel (system_of l) (slice_index p) s t
+  both_put s t ls lt one (inl x) (inl y) = equal_lists rel l labelled p s t (signature s) (signature t) x.1 y.1
+  both_put s t ls lt one (inl x) (inr y) = mixed s t x.0 x.1 y.1 y.0
+  both_put s t ls lt one (inr x) (inl y) = turned t s (mixed t s y.0 y.1 x.1 x.0)
+  both_put s t ls lt one (inr x) (inr y) = (λ _. settled s t ls lt one x.0 y.0, λ _. x.1 ∙ sym y.1)
+
   -- in one block, two lists are equal exactly if the signatures are
   pub tells : (s t : ℕ) → s < l.states → t < l.states → slice_index p s ≡ slice_index p t
       → (signature s ≡ signature t) ↔ SameSignature rel (system_of l) (slice_index p) s t
-  tells s t ls lt one = elim (put s ls) [
-    | inl x ↦ elim (put t lt) [
-      | inl y ↦ equal_lists rel l labelled p s t (signature s) (signature t) x.1 y.1
-      | inr y ↦ elim y.1 [
-        | inl still ↦ mixed s t x.0 x.1 y.0 still
-        | inr a ↦ of_one s t (known t lt a s (omega (arith, ls, states)) one)
-      ]
-    ]
-    | inr x ↦ elim x.1 [
-      | inl still ↦ elim (put t lt) [
-        | inl y ↦ turned t s (mixed t s y.0 y.1 x.0 still)
-        | inr y ↦ elim y.1 [
-          | inl also ↦ (λ _. settled s t ls lt one still also, λ _. x.0 ∙ sym y.0)
-          | inr a ↦ of_one s t (known t lt a s (omega (arith, ls, states)) one)
-        ]
-      ]
-      | inr a ↦ of_one s t (sym (known s ls a t (omega (arith, lt, states)) (sym one)))
+  tells s t ls lt one = elim (told s ls) [
+    | inr alone ↦ of_one s t (sym (alone t (omega (arith, lt, states)) (sym one)))
+    | inl x ↦ elim (told t lt) [
+      | inr alone ↦ of_one s t (alone s (omega (arith, ls, states)) one)
+      | inl y ↦ both_put s t ls lt one x y
     ]
   ]
 
@@ -128,14 +125,36 @@ module _ (rel : Relation) (l : Grouped) (labelled : Labelled l) (p : List ℕ) (
     λ h. (parted s t ls lt).1 (h.0, (tells s t ls lt h.0).1 h.1),
   )
 
+rises_empty : IsStrictlySortedBy pair_cmp []
+unfolding IsStrictlySortedBy
+rises_empty = tt
+
+-- a state without a transition is still, or its signature is empty
+module _ (l : Grouped) (p : List ℕ) (low s : ℕ) (no_step : (a : List ℕ) (t : ℕ) → Step (system_of l) s a t → ⊥) where
+  no_pair : (us : List ℕ) (u t : ℕ) (a : List ℕ) → Along (Inert (system_of l) (slice_index p)) s us u → Step (system_of l) u a t → ⊥
+  no_pair [] u t a e step = no_step a t (subst (λ x. Step (system_of l) x a t) (sym e) step)
+  no_pair (x ∷ us) u t a (first, rest) step = no_step internal x first.0
+
+  pub put_none : (rel : Relation) (list : List (ℕ × ℕ)) → list ≡ [] → IsPut rel l p low s list
+  put_none Strong list e = inr (λ a t step. absurd (no_step a t step), e)
+  put_none Branching list e = inl (
+    tt,
+    subst (IsSignature Branching l p s) (sym e) (record {
+      exactly = λ k b. (
+        λ c. absurd (omega (arith, c.1)),
+        λ has. absurd (no_pair has.1.2.0 has.1.0 has.1.1 (text_of l.labels k) has.1.2.1 has.1.3),
+      );
+      rising = rises_empty;
+    }),
+  )
+
 -- the Split of blocks, with their numbers: those from the count on are new
 module _ (rel : Relation) (l : Grouped) (sys : IsSystem (system_of l)) (labelled : Labelled l) (p : List ℕ) (count low : ℕ) (states : length p ≡ l.states)
-    (settled : Settled rel (system_of l) (slice_index p) low) (alone : List Bool) (known : AreAlone p alone) (signature : ℕ → List (ℕ × ℕ))
-    (put : ArePut rel l p low alone signature) (q : List ℕ) (more : ℕ) (splits : Splits p count signature q more) where
+    (settled : Settled rel (system_of l) (slice_index p) low) (signature : ℕ → List (ℕ × ℕ))
+    (told : (s : ℕ) → s < l.states → IsPut rel l p low s (signature s) ⊎ IsAlone p s) (q : List ℕ) (more : ℕ) (splits : Splits p count signature q more) where
   split : Split rel (system_of l) (slice_index p) (slice_index q)
   split =
-      told_is_split rel l labelled p low states settled signature (λ s. IsTrue (slice_index_or alone (slice_index p s) false))
-      (λ s ls a. known s (omega (arith, ls, states)) a) put q
+      told_is_split rel l labelled p low states settled signature told q
       (λ s t ls lt. splits.alike s t (omega (arith, ls, states)) (omega (arith, lt, states)))
 
   kept : more ≡ count → (s : ℕ) → s < l.states → slice_index q s ≡ slice_index p s
@@ -169,25 +188,30 @@ module _ (rel : Relation) (l : Grouped) (sys : IsSystem (system_of l)) (labelled
     parted = parted;
   }
 
-rises_empty : IsStrictlySortedBy pair_cmp []
-unfolding IsStrictlySortedBy
-rises_empty = tt
-
--- where all numbers are new and nothing is known to be alone, each list is the signature
-pub put_whole : (rel : Relation) (l : Grouped) (p : List ℕ) (s : ℕ) (list : List (ℕ × ℕ)) (alone : Type 0) → (alone → ⊥) → IsPut rel l p 0 alone s list
-    → IsSignature rel l p s list
-put_whole rel l p s list alone none (inl x) = x.1
-put_whole rel l p s list alone none (inr x) = empty rel x.1
+-- where all numbers are new, each list that is put down is the signature
+pub put_whole : (rel : Relation) (l : Grouped) (p : List ℕ) (s : ℕ) (list : List (ℕ × ℕ)) → IsPut rel l p 0 s list → IsSignature rel l p s list
+put_whole rel l p s list (inl x) = x.1
+put_whole rel l p s list (inr x) = empty rel x.0
   where
-    empty : (r : Relation) → IsStill r (system_of l) (slice_index p) 0 s ⊎ alone → IsSignature r l p s list
-    empty r (inr a) = absurd (none a)
-    empty Strong (inl still) = subst (IsSignature Strong l p s) (sym x.0) (record {
+    empty : (r : Relation) → IsStill r (system_of l) (slice_index p) 0 s → IsSignature r l p s list
+    empty Strong still = subst (IsSignature Strong l p s) (sym x.1) (record {
       exactly = λ k b. (λ c. absurd (omega (arith, c.1)), λ h. absurd (omega (arith, still (text_of l.labels k) h.1.0 h.1.1)));
       rising = rises_empty;
     })
-    empty Branching (inl still) = absurd still
+    empty Branching still = absurd still
 
--- in no list is anything said to be alone
-pub none_alone : (b : ℕ) → IsTrue (slice_index_or [] b false) → ⊥
-none_alone zero h = false≢true h
-none_alone (suc k) h = false≢true h
+-- each list is put down, or its state is alone in its block
+pub all_told : (rel : Relation) (l : Grouped) (p live : List ℕ) (low : ℕ) (lists : List (List (ℕ × ℕ))) (numbers : List ℕ)
+    → ((s : ℕ) (a : List ℕ) (t : ℕ) → Step (system_of l) s a t ↔ ((e : Triple) × Contains (row_of s l.places) e × (text_of l.labels (label_of e) ≡ a) × (target_of e ≡ t)))
+    → LeavesOut l p live → HaveNone live numbers → length numbers ≡ l.states → list_at lists 0 ≡ [] → ArePut rel l p low live (list_of lists numbers)
+    → (s : ℕ) → s < l.states → IsPut rel l p low s (list_of lists numbers s) ⊎ IsAlone p s
+all_told rel l p live low lists numbers steps others none size first put s ls = elim (others s ls) [
+  | inl one ↦ inl (put s one)
+  | inr x ↦ elim x [
+    | inl alone ↦ inr alone
+    | inr empty ↦ elim (none s (omega (arith, ls, size))) [
+      | inl one ↦ inl (put s one)
+      | inr zero ↦ inl (put_none l p low s (no_step l s (steps s) empty) rel (list_of lists numbers s) (ap (list_at lists) zero ∙ first))
+    ]
+  ]
+]

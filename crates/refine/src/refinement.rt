@@ -1,12 +1,12 @@
 //! Rounds of refinement, up to the one that splits nothing.
-ghost use Rattle.std.specs.Prelude.{◌≡◌, ◌↔◌, ℕ, ◌*◌, ◌<◌, ◌≤◌, length, slice_index, IfOk, OnOk, OnErr};
+ghost use Rattle.std.specs.Prelude.{◌≡◌, ◌⊎◌, ◌↔◌, ℕ, ◌*◌, ◌<◌, ◌≤◌, [], length, slice_index, IfOk, OnOk, OnErr};
 ghost use Rattle.theory.specs.Bisimulation.{Bisimilar};
 ghost use Rattle.theory.specs.Blocks.{Split, Turns, EachTwo};
 ghost use Rattle.lts.specs.Meter.{HasRoomFor, Costs, CostsUpTo};
-ghost use Rattle.lts.specs.Lts.{system_of};
+ghost use Rattle.lts.specs.Lts.{row_of, system_of};
 ghost use Rattle.partition.specs.Partition.{IsSomePartition};
-ghost use Rattle.partition.specs.Blocks.{AreLive, HaveNone};
-ghost use Rattle.inert.specs.Signed.{HaveRows};
+ghost use Rattle.partition.specs.Blocks.{IsOne, AreLive, HaveNone};
+ghost use Rattle.inert.specs.Signed.{LeavesOut};
 ghost use Rattle.refine.specs.Settled.{Settled};
 ghost use Rattle.refine.specs.Rounds.{IsNext};
 
@@ -131,7 +131,7 @@ fn refine_in<S: Sense, M: Meter>(
     theory::refinement_goes_on();
     theory::final_blocks_are_bisimilarity();
     loop {
-        let before = blocks.renew(alloc)?;
+        let before = signatures.renew(blocks)?;
         let count = before.count();
         let next = next_round::<S, M>(l, before, marks, signatures, m)?;
         let more = next.count();
@@ -147,7 +147,7 @@ fn refine_in<S: Sense, M: Meter>(
 /// Fails if there is no memory for it.
 fn with_rows<M: Meter>(alloc: Global, l: &Lts<M>) -> Result<Vec<u32>, Memory>
     ensures rising { IfOk result (λ v. AreLive l.now.states v.items) }
-    ensures rows { IfOk result (λ v. HaveRows l.now v.items) }
+    ensures rows { IfOk result (λ v. (s : ℕ) → s < l.now.states → IsOne v.items s ⊎ (row_of s l.now.places ≡ [])) }
 {
     let mut live = Vec::with_capacity(alloc, l.states() as usize)?;
     for s in 0..l.states() {
@@ -173,7 +173,7 @@ fn next_round<S: Sense, M: Meter>(
 ) -> Result<Blocks, Memory>
     requires states { length blocks.of ≡ l.now.states }
     requires settled { Settled S.relation (system_of l.now) (slice_index blocks.of) blocks.low }
-    requires rows { HaveRows l.now blocks.live }
+    requires others { LeavesOut l.now blocks.of blocks.live }
     requires marks { marks.old ≡ l.now.states }
     requires signatures { (length signatures.old.numbers ≡ l.now.states) × HaveNone blocks.live signatures.old.numbers }
     requires room { HasRoomFor (M.counted m.old) 1 (length l.now.places) }
@@ -194,9 +194,8 @@ fn next_round<S: Sense, M: Meter>(
 {
     lts::rows_are_steps();
     l.known();
-    // For its contract: what is said to be alone is.
-    blocks.alone();
     m.start_round();
     signatures.sign::<S, M>(l, &blocks, marks, m)?;
+    signatures.lists().known();
     signatures.split(blocks)
 }

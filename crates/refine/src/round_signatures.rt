@@ -2,8 +2,8 @@
 ghost use Rattle.std.specs.Prelude.{◌≡◌, ℕ, ◌<◌, ◌≤◌, [], ◌∷◌, length, slice_index, IfOk, OnOk};
 ghost use Rattle.lts.specs.Meter.{HasRoomFor, Visits};
 ghost use Rattle.lists.specs.Lists.{AreNumbers};
-ghost use Rattle.partition.specs.Blocks.{HaveNone};
-ghost use Rattle.inert.specs.Signed.{HaveRows};
+ghost use Rattle.partition.specs.Blocks.{HaveNone, LeavesAlone};
+ghost use Rattle.inert.specs.Signed.{LeavesOut};
 ghost use Rattle.refine.specs.EachList.{list_of};
 ghost use Rattle.refine.specs.Settled.{ArePut};
 ghost use Rattle.partition.specs.Splitting.{Splits};
@@ -95,8 +95,8 @@ impl RoundSignatures {
         clear(&mut self.lists, &mut self.numbers);
     }
 
-    /// Takes the signature of each state under these blocks: no pairs for a state of a block that is known to be of one state
-    /// alone, and for one that no new block can be seen from. Each transition is visited once.
+    /// Takes the signature of each state that a round looks at: no pairs for one that no new block can be seen from. The others
+    /// have the empty list already. Each transition is visited once.
     ///
     /// Fails if there is no memory for it. It is open then which the signatures are.
     pub fn sign<S: Sense, M: Meter>(
@@ -107,14 +107,14 @@ impl RoundSignatures {
         m: &mut M,
     ) -> Result<(), Memory>
         requires blocks { length blocks.now.of ≡ l.now.states }
-        requires rows { HaveRows l.now blocks.now.live }
+        requires others { LeavesOut l.now blocks.now.of blocks.now.live }
         requires marks { marks.old ≡ l.now.states }
         requires states { length self.old.numbers ≡ l.now.states }
         requires none { HaveNone blocks.now.live self.old.numbers }
         requires room { HasRoomFor (M.counted m.old) 0 (length l.now.places) }
 
         // Once it is done
-        ensures signed { OnOk result (ArePut S.relation l.now blocks.now.of blocks.now.low blocks.now.alone
+        ensures signed { OnOk result (ArePut S.relation l.now blocks.now.of blocks.now.low blocks.now.live
             (list_of self.new.lists self.new.numbers)) }
         ensures none { OnOk result (HaveNone blocks.now.live self.new.numbers) }
 
@@ -138,6 +138,26 @@ impl RoundSignatures {
             return Err(refusal);
         }
         Ok(())
+    }
+
+    /// Leaves out the states that are alone in their blocks from what a round looks at, once there are over an eighth more blocks
+    /// than when that was done last. They have the empty list from now on.
+    ///
+    /// Fails if there is no memory for it.
+    pub fn renew(&mut self, blocks: Blocks) -> Result<Blocks, Memory>
+        requires states { length blocks.of ≡ length self.old.numbers }
+        requires none { HaveNone blocks.live self.old.numbers }
+
+        // Once it is done
+        ensures same { IfOk result (λ b. b ≡ record blocks { live = b.live }) }
+        ensures leaves { IfOk result (λ b. LeavesAlone blocks.of blocks.live b.live) }
+        ensures none { IfOk result (λ b. HaveNone b.live self.new.numbers) }
+
+        // In either case
+        ensures states { length self.new.numbers ≡ length self.old.numbers }
+    {
+        self.lists.known();
+        blocks.renew(self.alloc, &mut self.numbers)
     }
 
     /// Splits these blocks: two states stay together if their signatures are equal.

@@ -5,7 +5,7 @@ ghost use Rattle.lts.specs.Meter.{HasRoomFor, Visits};
 ghost use Rattle.lts.specs.Lts.{row_of};
 ghost use Rattle.lists.specs.Lists.{AreNumbers};
 ghost use Rattle.partition.specs.Blocks.{HaveNone};
-ghost use Rattle.inert.specs.Signed.{HaveRows};
+ghost use Rattle.inert.specs.Signed.{LeavesOut};
 ghost use Rattle.refine.specs.EachList.{list_of};
 ghost use Rattle.refine.specs.Signed.{Extends, Appends, most_visits};
 ghost use Rattle.refine.specs.Settled.{ArePut};
@@ -50,10 +50,9 @@ pub trait Sense {
             Visits M.counted m.old m.new result row (most_visits relation l.now s) }
         ensures marks { marks.new ≡ marks.old };
 
-    /// Puts the signature of each state under `blocks` into `lists`, and its number there into `numbers`: no pairs for a state of
-    /// a block that is known to be of one state alone, and for one that no new block can be seen from. States with equal
-    /// signatures share a list. The states that the round does not look at have no transition, and the number of the empty list
-    /// already. Each transition is visited once.
+    /// Puts the signature of each state that a round looks at into `lists`, and its number there into `numbers`: no pairs for one
+    /// that no new block can be seen from. States with equal signatures share a list. The others are alone in their blocks, or have
+    /// no transition, and have the number of the empty list already. Each transition is visited once.
     ///
     /// Fails if there is no memory for it. It is open then which lists there are.
     fn sign_each<M: Meter>(
@@ -66,14 +65,14 @@ pub trait Sense {
         m: &mut M,
     ) -> Result<(), Memory>
         requires states { length blocks.now.of ≡ l.now.states }
-        requires rows { HaveRows l.now blocks.now.live }
+        requires others { LeavesOut l.now blocks.now.of blocks.now.live }
         requires marks { marks.old ≡ l.now.states }
         requires lists { lists.old ≡ [] ∷ [] }
         requires numbers { (length numbers.old ≡ l.now.states) × HaveNone blocks.now.live numbers.old }
         requires room { HasRoomFor (M.counted m.old) 0 (length l.now.places) }
 
         // Once it is done
-        ensures signed { OnOk result (ArePut relation l.now blocks.now.of blocks.now.low blocks.now.alone (list_of lists.new numbers.new)) }
+        ensures signed { OnOk result (ArePut relation l.now blocks.now.of blocks.now.low blocks.now.live (list_of lists.new numbers.new)) }
         ensures numbers { OnOk result (AreNumbers lists.new numbers.new × HaveNone blocks.now.live numbers.new) }
 
         // In either case

@@ -5,16 +5,15 @@ ghost use Rattle.theory.specs.declared.relation.Relation.TheVariants.{Strong as 
 ghost use Rattle.lts.specs.Meter.{HasRoomFor, Visits};
 ghost use Rattle.lts.specs.Lts.{row_of};
 ghost use Rattle.lists.specs.Lists.{list_at, AreNumbers, Grow};
-ghost use Rattle.partition.specs.Blocks.{AreLive, HaveNone};
-ghost use Rattle.inert.specs.Signed.{IsSignature, HaveRows, pair_under};
+ghost use Rattle.partition.specs.Blocks.{HaveNone};
+ghost use Rattle.inert.specs.Signed.{IsSignature, pair_under};
 ghost use Rattle.refine.specs.EachList.{list_of};
 ghost use Rattle.refine.specs.Settled.{HasFrom, IsPut, ArePut};
 
 use crate::marks::Marks;
 use crate::sense::Sense;
-use inert::is_alone;
 use lists::{EMPTY, Lists, order};
-use lts::{Lts, Memory, Meter, visit_row};
+use lts::{Lts, Memory, Meter, visit_places};
 use partition::{Blocks, Partition};
 use std::alloc::Global;
 
@@ -47,65 +46,55 @@ impl Sense for Strong {
         numbers: &mut [u32],
         m: &mut M,
     ) -> Result<(), Memory> {
-        sign_live(
-            l,
-            blocks.of(),
-            blocks.low(),
-            blocks.alone(),
-            blocks.live(),
-            &mut marks.pairs,
-            lists,
-            numbers,
-            m,
-        )
+        sign_live(l, blocks, &mut marks.pairs, lists, numbers, m)
     }
 }
 
-/// Puts the strong signatures of the states in `live` into `lists`, and their numbers there into `numbers`. The others have no
-/// transition.
+/// Puts the strong signatures of the states that a round looks at into `lists`, and their numbers there into `numbers`. The rows of
+/// the others lie between those of two neighbours, and are visited for their count alone.
 ///
 /// Fails if there is no memory for it.
 fn sign_live<M: Meter>(
     l: &Lts<M>,
-    p: &[u32],
-    low: u32,
-    alone: &[bool],
-    live: &[u32],
+    blocks: &Blocks,
     pairs: &mut Vec<(u32, u32)>,
     lists: &mut Lists,
     numbers: &mut [u32],
     m: &mut M,
 ) -> Result<(), Memory>
-    requires states { length p.now ≡ l.now.states }
-    requires live { AreLive l.now.states live.now × HaveRows l.now live.now }
+    requires states { length blocks.now.of ≡ l.now.states }
     requires lists { lists.old ≡ [] ∷ [] }
-    requires numbers { (length numbers.old ≡ l.now.states) × HaveNone live.now numbers.old }
+    requires numbers { (length numbers.old ≡ l.now.states) × HaveNone blocks.now.live numbers.old }
     requires room { HasRoomFor (M.counted m.old) 0 (length l.now.places) }
-    ensures signed { OnOk result (ArePut strong l.now p.now low alone.now (list_of lists.new numbers.new)) }
-    ensures numbers { OnOk result (AreNumbers lists.new numbers.new × HaveNone live.now numbers.new) }
+    ensures signed { OnOk result (ArePut strong l.now blocks.now.of blocks.now.low blocks.now.live (list_of lists.new numbers.new)) }
+    ensures numbers { OnOk result (AreNumbers lists.new numbers.new × HaveNone blocks.now.live numbers.new) }
     ensures visits { let n = length l.now.places in Visits M.counted m.old m.new result n n }
 {
     lts::rows_follow();
-    lts::rows_are_steps();
     l.known();
+    let of = blocks.of();
+    let low = blocks.low();
+    let live = blocks.live();
+    let mut next = 0;
     for i in 0..live.len() {
         let s = live[i];
-        let known = is_alone(alone, p[s as usize]);
-        numbers[s as usize] = put(l, p, low, known, s, pairs, lists, m)?;
+        let (start, end) = l.row(s);
+        visit_places(l, next, start, m);
+        next = end;
+        numbers[s as usize] = put(l, of, low, s, pairs, lists, m)?;
     }
-    lists.known();
+    visit_places(l, next, l.edges(), m);
     Ok(())
 }
 
-/// Puts the strong signature of `s` into `lists` and returns its number there, or that of the empty list where `s` is alone
-/// or leads to no number from `low` on.
+/// Puts the strong signature of `s` into `lists` and returns its number there, or that of the empty list where `s` leads to no
+/// number from `low` on.
 ///
 /// Fails if there is no memory for it.
 fn put<M: Meter>(
     l: &Lts<M>,
     p: &[u32],
     low: u32,
-    alone: bool,
     s: u32,
     pairs: &mut Vec<(u32, u32)>,
     lists: &mut Lists,
@@ -115,17 +104,13 @@ fn put<M: Meter>(
     requires state { s < l.now.states }
     requires room { HasRoomFor (M.counted m.old) 0 (length (row_of s l.now.places)) }
     ensures within { IfOk result (λ k. k < length lists.new) }
-    ensures put { IfOk result (λ k. IsPut strong l.now p.now low (IsTrue alone) s (list_at lists.new k)) }
+    ensures put { IfOk result (λ k. IsPut strong l.now p.now low s (list_at lists.new k)) }
     ensures grow { Grow lists.old lists.new }
     ensures visits { let n = length (row_of s l.now.places) in Visits M.counted m.old m.new result n n }
 {
     lts::rows_are_steps();
     l.known();
     lists.known();
-    if alone {
-        visit_row(l, s, m);
-        return Ok(EMPTY);
-    }
     let touched = read(l, p, low, s, pairs, m)?;
     if !touched {
         return Ok(EMPTY);

@@ -4,7 +4,7 @@ use crate::showing::{Shown, check_row};
 use crate::texts::{append_spelled, system};
 use lts::{
     Counter, Labels, Lts, MOST_LABELS, Memory, Meter, fits_together, in_range, is_label, union,
-    visit_row,
+    visit_places,
 };
 use std::alloc::Global;
 use std::test::Fail;
@@ -143,7 +143,7 @@ fn row_visits(l: &Lts<Counter>, s: u32) -> u128 {
     }
     let (start, end) = l.row(s);
     if m.has_room(0, (end - start) as u128) {
-        visit_row(l, s, &mut m);
+        visit_places(l, start, end, &mut m);
     }
     m.visits()
 }

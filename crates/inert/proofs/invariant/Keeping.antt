@@ -4,7 +4,7 @@ use Rattle.std.specs.List.{All}
 use Rattle.theory.specs.declared.relation.Relation.TheVariants.{Branching}
 use Rattle.lts.specs.Lts.{Grouped, Triple, source_of, place_at}
 use Rattle.lists.specs.Lists.{Grow}
-use Rattle.inert.specs.Signed.{HasPair, pair_under, IsSignature, IsKnownAlone}
+use Rattle.inert.specs.Signed.{HasPair, pair_under, IsSignature, IsLeft}
 use Rattle.inert.specs.Search.{Search, stage_at, item_at, Gives, IsUpTo, IsOf, HoldsPair, IsAhead, IsEntered, IsFollowed, Accounted, IsSound, IsThere, Walks, Open, Finished, Frame, Root, Item, Pair, Listed}
 
 -- the states at places below n, their components and their items are as they were
@@ -33,7 +33,7 @@ keeps_stack w frames roots items same fewer = record {
   finished = λ s k is. is;
 }
 
-module _ {l : Grouped} {blocks : List ℕ} {alone : List Bool} {lists : List (List (ℕ × ℕ))} {w : Search} (walks : Walks l blocks alone lists w) {new : Search} {n : ℕ}
+module _ {l : Grouped} {blocks : List ℕ} {live : List ℕ} {lists : List (List (ℕ × ℕ))} {w : Search} (walks : Walks l blocks live lists w) {new : Search} {n : ℕ}
     (keeps : Keeps w new n) where
   holds_still : (p : ℕ) (z : ℕ × ℕ) → p < n → HoldsPair lists w p z → HoldsPair lists new p z
   holds_still p z h (j, low, g, of) =
@@ -85,7 +85,7 @@ module _ {lists lists' : List (List (ℕ × ℕ))} (grow : Grow lists lists') wh
   Gives-grow (Pair a b) there z = (λ g. g, λ g. g)
   Gives-grow (Listed k) there z = let same = grow.same k (there k refl) in (subst (λ xs. Contains xs z) (sym same), subst (λ xs. Contains xs z) same)
 
-  module _ {l : Grouped} {blocks : List ℕ} {alone : List Bool} {w : Search} (walks : Walks l blocks alone lists w) where
+  module _ {l : Grouped} {blocks : List ℕ} {live : List ℕ} {w : Search} (walks : Walks l blocks live lists w) where
     holds : (p : ℕ) (z : ℕ × ℕ) → HoldsPair lists w p z → HoldsPair lists' w p z
     holds p z (j, low, g, of) = (j, low, (Gives-grow (item_at w.items j) (walks.there j (Pair 0 0) low) z).0 g, of)
 
@@ -94,7 +94,7 @@ module _ {lists lists' : List (List (ℕ × ℕ))} (grow : Grow lists lists') wh
     followed p t (inr (inl (k, is, all))) = inr (inl (k, is, λ z c. holds p z (all z (subst (λ xs. Contains xs z) (grow.same k (walks.signed t k is).within) c))))
     followed p t (inr (inr entered)) = inr (inr entered)
 
-    pub Walks-grow : Walks l blocks alone lists' w
+    pub Walks-grow : Walks l blocks live lists' w
     Walks-grow = record {
       numbers = record { size = walks.numbers.size; some = omega (arith, walks.numbers.some, grow.longer); numbers = walks.numbers.numbers };
       opened = walks.opened;
@@ -104,7 +104,7 @@ module _ {lists lists' : List (List (ℕ × ℕ))} (grow : Grow lists lists') wh
           record {
             within = omega (arith, was.within, grow.longer);
             sound = λ z c. was.sound z (subst (λ xs. Contains xs z) same c);
-            whole = subst (λ xs. IsSignature Branching l blocks s xs ⊎ IsKnownAlone blocks alone s) (sym same) was.whole;
+            whole = subst (λ xs. IsSignature Branching l blocks s xs ⊎ IsLeft l.states blocks live s) (sym same) was.whole;
           };
       roots = walks.roots;
       frames = walks.frames;

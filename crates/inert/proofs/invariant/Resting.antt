@@ -1,38 +1,88 @@
--- A walk at rest: before it has begun, after it has passed a state, when it is over, and the numbers of its lists then.
-use Rattle.std.proofs.Common.{◌≡◌, ℕ, ◌+◌, ◌<◌, ◌≤◌, Bool, List, [], length, Contains, refl, sym, ◌∙◌, ap, subst, inl, inr, arith, slice_index}
-use Rattle.std.proofs.lemmas.Bool.{cases_eq}
-use Rattle.std.proofs.lemmas.Grind.{common_steps}
-use Rattle.std.proofs.lemmas.List.{get_or-set_same, get_or-set_other, length-set, nil_from_length}
+-- A walk at rest: before it has begun, and when it is over, with the signatures of its states.
+use Rattle.std.proofs.Common.{◌≡◌, ℕ, ◌<◌, ◌≤◌, List, [], length, Contains, refl, sym, ap, subst, inl, inr, arith, slice_index}
+use Rattle.std.proofs.lemmas.Bool.{cases_lt}
+use Rattle.std.proofs.lemmas.List.{get_or_past, nil_from_length}
 use Rattle.std.proofs.lemmas.List.Sums.{count_by-le-length}
+use Rattle.theory.specs.declared.relation.Relation.TheVariants.{Branching}
 use Rattle.lts.specs.Lts.{Grouped, row_of}
 use Rattle.lists.specs.Lists.{list_at}
-use Rattle.inert.specs.Signed.{IsKnownAlone, IsListOf}
-use Rattle.inert.specs.Search.{Search, nothing, stage_at, no_root, IsIdle, IsSigned, Walks, Unseen, Open, Finished, HasItsList, Stage}
-use Rattle.inert.specs.Moves.{skipped, Rests}
-use Rattle.inert.specs.Ahead.{is_unseen, unseen, unread, HasSeen}
-use Rattle.inert.proofs.parts.Stages.{seen_more}
-use Rattle.inert.proofs.parts.Counting.{unseen-set, unread-set}
+use Rattle.partition.specs.Blocks.{IsOne}
+use Rattle.inert.specs.Signed.{IsSignature, LeavesOut}
+use Rattle.inert.specs.Search.{Search, nothing, stage_at, no_root, IsWoken, IsSigned, Walks, Unseen, Open, Finished, Stage}
+use Rattle.inert.specs.Moves.{Rests}
+use Rattle.inert.specs.Ahead.{is_unseen, unseen}
 use Rattle.inert.proofs.invariant.Standing.{frames_some, root_low}
 
 -- nothing was seen yet
-pub idle_rests : (l : Grouped) (blocks : List ℕ) (alone : List Bool) (lists : List (List (ℕ × ℕ))) {w : Search} → IsIdle w → length w.stages ≡ l.states → length lists ≡ 1
-    → Rests l blocks alone lists w
-idle_rests l blocks alone lists {w = w} idle size one =
+pub unseen_rests : (l : Grouped) (blocks live : List ℕ) (lists : List (List (ℕ × ℕ))) {w : Search} → w ≡ nothing w.stages → ((s : ℕ) → stage_at w.stages s ≡ Unseen)
+    → length w.stages ≡ l.states → length lists ≡ 1 → Rests l blocks live lists w
+unseen_rests l blocks live lists {w = w} empty none size one =
     let few : unseen w.stages ≤ length w.stages = count_by-le-length is_unseen w.stages in
     record {
-      empty = idle.empty;
+      empty = empty;
       numbers = record { size = size; some = omega (arith, one); numbers = omega (arith, few, size) };
-      shut = λ s p is. cc (is, idle.none s);
-      signed = λ s k is. absurd (cc (is, idle.none s));
+      shut = λ s p is. cc (is, none s);
+      signed = λ s k is. absurd (cc (is, none s));
     }
+
+-- a state past the last one was not seen
+stage_inside : (stages : List Stage) (s k : ℕ) → stage_at stages s ≡ Finished k → s < length stages
+stage_inside stages s k is = elim (cases_lt s (length stages)) [ inl low ↦ low | inr past ↦ absurd (cc (get_or_past stages s Unseen past, is)) ]
+
+-- the states that are looked at were woken, and the others have no pairs, or are left out
+module _ (l : Grouped) (blocks live : List ℕ) (lists : List (List (ℕ × ℕ))) {w : Search} (woken : IsWoken l.states live w) (size : length blocks ≡ l.states)
+    (others : LeavesOut l blocks live) (some : 1 ≤ length lists) (first : list_at lists 0 ≡ []) (idle : (s : ℕ) → row_of s l.places ≡ [] → IsSignature Branching l blocks s []) where
+  -- no state at rest is looked at
+  not_woken : (s k : ℕ) → stage_at w.stages s ≡ Finished k → ¬ IsOne live s
+  not_woken s k is one = cc (woken.awake one.0 one.1, ap (stage_at w.stages) one.2, is)
+
+  woken_signed : (s k : ℕ) → stage_at w.stages s ≡ Finished k → IsSigned l blocks live s lists k
+  woken_signed s k is =
+      let inside = stage_inside w.stages s k is in
+      let inside' : s < l.states = omega (arith, inside, woken.size) in
+      elim (woken.rest s inside) [
+        | inl one ↦ absurd (not_woken s k is one)
+        | inr rest ↦
+            let zero : 0 ≡ k = cc (rest, is) in
+            subst (IsSigned l blocks live s lists) zero (record {
+              within = some;
+              sound = λ z c. absurd (let has = subst (λ xs. Contains xs z) first c in omega (arith, has.1));
+              whole = elim (others s inside') [
+                | inl one ↦ absurd (not_woken s k is one)
+                | inr x ↦ elim x [
+                  | inl alone ↦ inr (not_woken s k is, λ t h same. alone t (omega (arith, h, size)) same)
+                  | inr empty ↦ inl (subst (IsSignature Branching l blocks s) (sym first) (idle s empty))
+                ]
+              ];
+            })
+      ]
+
+  woken_shut : (s p : ℕ) → ¬ (stage_at w.stages s ≡ Open p)
+  woken_shut s p is = elim (cases_lt s (length w.stages)) [
+    | inr past ↦ cc (get_or_past w.stages s Unseen past, is)
+    | inl inside ↦ elim (woken.rest s inside) [
+      | inl one ↦ cc (woken.awake one.0 one.1, ap (stage_at w.stages) one.2, is)
+      | inr rest ↦ cc (rest, is)
+    ]
+  ]
+
+  pub woken_rests : Rests l blocks live lists w
+  woken_rests =
+      let few : unseen w.stages ≤ length w.stages = count_by-le-length is_unseen w.stages in
+      record {
+        empty = woken.empty;
+        numbers = record { size = woken.size; some = some; numbers = omega (arith, few, woken.size) };
+        shut = woken_shut;
+        signed = woken_signed;
+      }
 
 seen_finished : (m : Stage) → ((p : ℕ) → ¬ (m ≡ Open p)) → ¬ (m ≡ Unseen) → (k : ℕ) × (m ≡ Finished k)
 seen_finished Unseen on seen = absurd (seen refl)
 seen_finished (Open p) on seen = absurd (on p refl)
 seen_finished (Finished k) on seen = (k, refl)
 
-module _ {l : Grouped} {blocks : List ℕ} {alone : List Bool} {lists : List (List (ℕ × ℕ))} {w : Search} (rests : Rests l blocks alone lists w) where
-  pub idle_walks : Walks l blocks alone lists (nothing w.stages)
+module _ {l : Grouped} {blocks : List ℕ} {live : List ℕ} {lists : List (List (ℕ × ℕ))} {w : Search} (rests : Rests l blocks live lists w) where
+  pub idle_walks : Walks l blocks live lists (nothing w.stages)
   idle_walks = record {
     numbers = rests.numbers;
     opened = record { placed = λ p h. absurd (omega (arith, h)); only = λ s p is. absurd (rests.shut s p is) };
@@ -45,64 +95,20 @@ module _ {l : Grouped} {blocks : List ℕ} {alone : List Bool} {lists : List (Li
     accounted = λ p k h. absurd (omega (arith, h));
   }
 
-  -- the state s, which was not seen, is passed
-  module _ {s : ℕ} (inside : s < l.states) (none : stage_at w.stages s ≡ Unseen) where
-    pub within : s < length w.stages
-    within = let size = rests.numbers.size in omega (arith, size, inside)
-
-    pub skipped_seen : HasSeen s w.stages (skipped s w).stages
-    skipped_seen = record { seen = seen_more w.stages s (Finished 0) (λ e. cc) within; found = λ is. cc (is, get_or-set_same w.stages s (Finished 0) Unseen within) }
-
-    pub row_unread : unread l.places (skipped s w).stages + length (row_of s l.places) ≡ unread l.places w.stages
-    row_unread = unread-set w.stages s (Finished 0) refl within none l.places
-
-    pub skipped_rests : list_at lists 0 ≡ [] → IsKnownAlone blocks alone s → Rests l blocks alone lists (skipped s w)
-    skipped_rests first known =
-        let fewer = unseen-set w.stages s (Finished 0) refl within none in
-        record {
-          empty = ap (skipped s) rests.empty;
-          numbers = record {
-            size = length-set w.stages s (Finished 0) ∙ rests.numbers.size;
-            some = rests.numbers.some;
-            numbers = omega (arith, fewer, rests.numbers.numbers);
-          };
-          shut = λ t p is. rests.shut t p (grind (arith, common_steps, none, within, is));
-          signed = λ t k is. elim (cases_eq t s) [
-            | inl e ↦
-                let zero : 0 ≡ k = cc (get_or-set_same w.stages s (Finished 0) Unseen within, is, e) in
-                subst (IsSigned l blocks alone t lists) zero (record {
-                  within = rests.numbers.some;
-                  sound = λ z c. absurd (let has = subst (λ xs. Contains xs z) first c in omega (arith, has.1));
-                  whole = inr (subst (IsKnownAlone blocks alone) (sym e) known);
-                })
-            | inr d ↦ rests.signed t k (sym (get_or-set_other w.stages s t (Finished 0) Unseen d) ∙ is)
-          ];
-        }
+  pub within : {s : ℕ} → s < l.states → s < length w.stages
+  within inside = let size = rests.numbers.size in omega (arith, size, inside)
 
   -- a state that was seen is finished
   pub finished : (s : ℕ) → ¬ (stage_at w.stages s ≡ Unseen) → (k : ℕ) × (stage_at w.stages s ≡ Finished k)
   finished s = seen_finished (stage_at w.stages s) (rests.shut s)
 
-  -- the numbers are of lists that are there, each of its state
-  module _ (numbers : List ℕ) (s : ℕ) (has : HasItsList blocks alone w.stages s (slice_index numbers s)) where
-    pub number_within : slice_index numbers s < length lists
-    number_within = elim has [
-      | inl (known, zero) ↦ let some = rests.numbers.some in omega (arith, zero, some)
-      | inr (company, is) ↦ (rests.signed s (slice_index numbers s) is).within
-    ]
-
-    pub number_signed : list_at lists 0 ≡ [] → IsListOf l blocks alone s (list_at lists (slice_index numbers s))
-    number_signed first = elim has [
-      | inl (known, zero) ↦ inr (known, ap (list_at lists) zero ∙ first)
-      | inr (company, is) ↦ elim (rests.signed s (slice_index numbers s) is).whole [
-        | inl signature ↦ inl signature
-        | inr known ↦ absurd (company known)
-      ]
-    ]
+  -- a state that is looked at has its signature
+  pub live_signed : (s k : ℕ) → IsOne live s → stage_at w.stages s ≡ Finished k → IsSignature Branching l blocks s (list_at lists k)
+  live_signed s k one is = elim (rests.signed s k is).whole [ inl signature ↦ signature | inr left ↦ absurd (left.0 one) ]
 
 -- a walk rests when no row is being read
-pub walk_rests : {l : Grouped} {blocks : List ℕ} {alone : List Bool} {lists : List (List (ℕ × ℕ))} {w : Search} → Walks l blocks alone lists w → length w.frames ≡ 0
-    → Rests l blocks alone lists w
+pub walk_rests : {l : Grouped} {blocks : List ℕ} {live : List ℕ} {lists : List (List (ℕ × ℕ))} {w : Search} → Walks l blocks live lists w → length w.frames ≡ 0
+    → Rests l blocks live lists w
 walk_rests {w = w} walks none =
     let stack : length w.stack ≡ 0 = grind (arith, frames_some walks, none) in
     let roots : length w.roots ≡ 0 = grind (arith, root_low walks 0 no_root, stack) in

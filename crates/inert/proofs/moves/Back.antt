@@ -12,13 +12,14 @@ use Rattle.inert.specs.Search.{Search, stage_at, frame_at, no_frame, here, last,
 use Rattle.inert.specs.Moves.{popped, HasRead, Finishes, Closes, ahead, GoesOn}
 use Rattle.inert.specs.Signed.{HasPair}
 use Rattle.inert.specs.Ahead.{is_unseen, rest, KeepsSeen}
+use Rattle.inert.proofs.parts.Stages.{seen_same}
 use Rattle.inert.proofs.parts.Rising.{AllPairs-take, All-from_take}
 use Rattle.inert.proofs.parts.Counting.{unseen-same, unread-same, rest-cut}
 use Rattle.inert.proofs.invariant.Standing.{reached, not_last, last_most, none_ahead, IsFrame-moved, pair_before, stack_some, last_low, root_low}
 use Rattle.inert.proofs.invariant.Keeping.{Keeps, keeps_stack, Walks-grow, accounted_still, sound_still}
 use Rattle.inert.proofs.signatures.Exact.{exact}
 
-module _ {l : Grouped} {blocks : List ℕ} {alone : List Bool} {lists : List (List (ℕ × ℕ))} {w : Search} (walks : Walks l blocks alone lists w) where
+module _ {l : Grouped} {blocks : List ℕ} {live : List ℕ} {lists : List (List (ℕ × ℕ))} {w : Search} (walks : Walks l blocks live lists w) where
   -- the frames but the last one
   popped_size : length (popped w).frames ≡ length w.frames - 1
   popped_size = length-take-le (length w.frames - 1) w.frames (omega arith)
@@ -80,7 +81,7 @@ module _ {l : Grouped} {blocks : List ℕ} {alone : List Bool} {lists : List (Li
       | inr d ↦ popped_ahead_still p k i (omega (arith, low, d)) is ahead
     ]
 
-    Walks-pop : Walks l blocks alone lists (popped w)
+    Walks-pop : Walks l blocks live lists (popped w)
     Walks-pop = record {
       numbers = walks.numbers;
       opened = walks.opened;
@@ -101,9 +102,9 @@ module _ {l : Grouped} {blocks : List ℕ} {alone : List Bool} {lists : List (Li
     }
 
 -- its last component was finished, with its list among the lists
-module _ (laws : Laws) {l : Grouped} {blocks : List ℕ} {alone : List Bool} {lists : List (List (ℕ × ℕ))} {w : Search} (walks : Walks l blocks alone lists w)
+module _ (laws : Laws) {l : Grouped} {blocks : List ℕ} {live : List ℕ} {lists : List (List (ℕ × ℕ))} {w : Search} (walks : Walks l blocks live lists w)
     (some : 0 < length w.frames) (height : (last w.roots).height ≡ here w) {new_stages : List Stage} {number : ℕ} (stages : Finishes w.stack (last w.roots).height number w.stages new_stages)
-    (exact : (p : ℕ) → (last w.roots).height ≤ p → p < length w.stack → IsSigned l blocks alone (slice_index w.stack p) lists number)
+    (exact : (p : ℕ) → (last w.roots).height ≤ p → p < length w.stack → IsSigned l blocks live (slice_index w.stack p) lists number)
     {added : List Item} (led : ((0 < length (popped w).frames) × (added ≡ Listed number ∷ [])) ⊎ ((length (popped w).frames ≡ 0) × (added ≡ []))) where
   -- where the component begins on the stack, and its first item
   abbrev q : ℕ
@@ -141,7 +142,10 @@ module _ (laws : Laws) {l : Grouped} {blocks : List ℕ} {alone : List Bool} {li
   same_unseen s = grind (arith, stages.others s, walks.opened.placed, stages.members)
 
   closed_seen : KeepsSeen w.stages new_stages
-  closed_seen s is = grind (arith, stages.others s, stages.members, is)
+  closed_seen = record {
+    unseen = λ s is. grind (arith, stages.others s, stages.members, is);
+    finished = λ s k is. grind (arith, stages.others s, walks.opened.placed, is);
+  }
 
   -- the items before the component's
   cut_size : length (take c0 w.items) ≡ c0
@@ -243,7 +247,7 @@ module _ (laws : Laws) {l : Grouped} {blocks : List ℕ} {alone : List Bool} {li
             ((exact q (omega arith) low_q).sound z (subst (λ x. Gives lists x z) (item_new more).1 g))),
       ))
 
-  Walks-closed : Walks l blocks alone lists Closed
+  Walks-closed : Walks l blocks live lists Closed
   Walks-closed = record {
     numbers = record {
       size = stages.size ∙ walks.numbers.size;
@@ -255,7 +259,7 @@ module _ (laws : Laws) {l : Grouped} {blocks : List ℕ} {alone : List Bool} {li
       | inl e ↦ walks.signed s k (sym e ∙ is)
       | inr (m, from, high, same) ↦
           let e : number ≡ k = cc (stages.members m from high, same, is) in
-          subst₂ (λ x n. IsSigned l blocks alone x lists n) same e (exact m from high)
+          subst₂ (λ x n. IsSigned l blocks live x lists n) same e (exact m from high)
     ];
     roots = record {
       first = λ h all. walks.roots.first (stack_some walks some) (All-from_take (λ r. 0 < r.height) (length w.roots - 1) w.roots no_root all (λ i high low.
@@ -296,29 +300,29 @@ module _ (laws : Laws) {l : Grouped} {blocks : List ℕ} {alone : List Bool} {li
   }
 
 -- the walk goes on from there: what is ahead is the same
-module _ {l : Grouped} {blocks : List ℕ} {alone : List Bool} {lists : List (List (ℕ × ℕ))} {w : Search} (walks : Walks l blocks alone lists w)
+module _ {l : Grouped} {blocks : List ℕ} {live : List ℕ} {lists : List (List (ℕ × ℕ))} {w : Search} (walks : Walks l blocks live lists w)
     (some : 0 < length w.frames) (read : HasRead w) where
   popped_rest : rest (popped w).frames ≡ rest w.frames
   popped_rest = rest-cut w.frames some read
 
   -- its state is no root
-  pub popped_on : (last w.roots).height ≢ here w → GoesOn l blocks alone lists w (popped w)
+  pub popped_on : (last w.roots).height ≢ here w → GoesOn l blocks live lists w (popped w)
   popped_on apart = record {
     walks = Walks-pop walks some read apart;
-    seen = λ s h. h;
+    seen = seen_same w.stages;
   }
 
   -- its state is a root, and the component was finished
   module _ (laws : Laws) (lts : IsLts l) {lists' : List (List (ℕ × ℕ))} {new : Search} (height : (last w.roots).height ≡ here w)
       (closes : Closes (last w.roots) lists lists' (popped w) new) where
     abbrev Returns : Search → Type 0
-    Returns x = GoesOn l blocks alone lists' w x × (ahead l x ≡ ahead l w)
+    Returns x = GoesOn l blocks live lists' w x × (ahead l x ≡ ahead l w)
 
     closed_with : (added : List Item) → new.items ≡ take (last w.roots).items w.items ++ added
         → ((0 < length (popped w).frames) × (added ≡ Listed closes.number ∷ [])) ⊎ ((length (popped w).frames ≡ 0) × (added ≡ [])) → Returns new
     closed_with added items led =
         let walks' = Walks-grow closes.listed.grow walks in
-        let signed : (p : ℕ) → (last w.roots).height ≤ p → p < length w.stack → IsSigned l blocks alone (slice_index w.stack p) lists' closes.number =
+        let signed : (p : ℕ) → (last w.roots).height ≤ p → p < length w.stack → IsSigned l blocks live (slice_index w.stack p) lists' closes.number =
         λ p high. exact laws lts walks some read height closes.listed p (omega (arith, high, height)) in
         let unseen = same_unseen laws walks' some height closes.stages signed led in
         let same : ahead l (Closed laws walks' some height closes.stages signed led) ≡ ahead l w =
@@ -326,7 +330,7 @@ module _ {l : Grouped} {blocks : List ℕ} {alone : List Bool} {lists : List (Li
         subst Returns (λ i. record { stages = new.stages; stack = sym closes.stack i; frames = sym closes.frames i; roots = sym closes.roots i; items = sym items i }) (
           record {
             walks = Walks-closed laws walks' some height closes.stages signed led;
-            seen = λ s is. closed_seen laws walks' some height closes.stages signed led s is;
+            seen = closed_seen laws walks' some height closes.stages signed led;
           },
           same,
         )

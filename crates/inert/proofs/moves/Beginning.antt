@@ -10,7 +10,7 @@ use Rattle.inert.specs.Moves.{with_stage, with_item, entered, LeadsOn, TakesStep
 use Rattle.inert.specs.Ahead.{unread}
 use Rattle.inert.specs.declared.step.Step.{Step}
 use Rattle.inert.specs.declared.step.Step.TheVariants.{Inert as Goes, Shows}
-use Rattle.inert.proofs.parts.Stages.{seen_more}
+use Rattle.inert.proofs.parts.Stages.{seen_on, seen_more}
 use Rattle.inert.proofs.parts.Counting.{unread-set}
 use Rattle.inert.proofs.invariant.Resting.{idle_walks, within}
 use Rattle.inert.proofs.moves.Forward.{Walks-enter}
@@ -26,36 +26,36 @@ abbrev pub framed : ℕ → ℕ → ℕ → List Stage → List Item → Search
 framed s next end stages items = entered s next end 0 (collecting stages items)
 
 -- a walk that was at rest has begun with the state s, and its row was read from the first place up to k
-pub record Begins (l : Grouped) (blocks : List ℕ) (alone : List Bool) (lists : List (List (ℕ × ℕ))) (old : Search) (s start k : ℕ) (w : Search) : Type 0 where
-  pub on : GoesOn l blocks alone lists old w
+pub record Begins (l : Grouped) (blocks : List ℕ) (live : List ℕ) (lists : List (List (ℕ × ℕ))) (old : Search) (s start k : ℕ) (w : Search) : Type 0 where
+  pub on : GoesOn l blocks live lists old w
   pub found : ¬ (stage_at w.stages s ≡ Unseen)
   pub less : ahead l w + k ≡ unread l.places old.stages + start
 
 -- nothing of the row was read
-pub begins : {l : Grouped} {blocks : List ℕ} {alone : List Bool} {lists : List (List (ℕ × ℕ))} {w : Search} {s start end : ℕ} → Laws → Rests l blocks alone lists w
+pub begins : {l : Grouped} {blocks : List ℕ} {live : List ℕ} {lists : List (List (ℕ × ℕ))} {w : Search} {s start end : ℕ} → Laws → Rests l blocks live lists w
     → s < l.states → stage_at w.stages s ≡ Unseen → IsRow l.places s start end
-    → (w ≡ collecting w.stages w.items) × Begins l blocks alone lists w s start start (framed s start end w.stages w.items)
-begins {l = l} {blocks = blocks} {alone = alone} {lists = lists} {w = w} {s = s} {start = start} {end = end} laws rests inside none row =
-    let low = within rests inside none in
+    → (w ≡ collecting w.stages w.items) × Begins l blocks live lists w s start start (framed s start end w.stages w.items)
+begins {l = l} {blocks = blocks} {live = live} {lists = lists} {w = w} {s = s} {start = start} {end = end} laws rests inside none row =
+    let low = within rests inside in
     let rows = unread-set w.stages s (Open 0) refl low none l.places in
     let none_collected : [] ≡ w.items = ap (λ x. x.items) (sym rests.empty) in (
       rests.empty ∙ ap (collecting w.stages) none_collected,
-      subst (λ items. Begins l blocks alone lists w s start start (framed s start end w.stages items)) none_collected (record {
+      subst (λ items. Begins l blocks live lists w s start start (framed s start end w.stages items)) none_collected (record {
         on = record {
           walks = Walks-enter (idle_walks rests) laws low none row (λ some. absurd (omega (arith, some)));
-          seen = seen_more w.stages s (Open 0) (λ e. cc) low;
+          seen = seen_more w.stages s (Open 0) (λ e. cc) low none;
         };
         found = λ is. cc (is, get_or-set_same w.stages s (Open 0) Unseen low);
         less = omega (arith, rows, row.count);
       }),
     )
 
-module _ (laws : Laws) {l : Grouped} (lts : IsLts l) {blocks : List ℕ} {alone : List Bool} {lists : List (List (ℕ × ℕ))} {old w : Search} {s start end k : ℕ}
-    (same : w ≡ collecting old.stages w.items) (begun : Begins l blocks alone lists old s start k (framed s k end old.stages w.items)) where
+module _ (laws : Laws) {l : Grouped} (lts : IsLts l) {blocks : List ℕ} {live : List ℕ} {lists : List (List (ℕ × ℕ))} {old w : Search} {s start end k : ℕ}
+    (same : w ≡ collecting old.stages w.items) (begun : Begins l blocks live lists old s start k (framed s k end old.stages w.items)) where
   abbrev Framed : Search
   Framed = framed s k end old.stages w.items
 
-  way : IsUnderWay l blocks alone lists Framed
+  way : IsUnderWay l blocks live lists Framed
   way = record { walks = begun.on.walks; some = omega arith }
 
   -- a transition more is read
@@ -64,7 +64,7 @@ module _ (laws : Laws) {l : Grouped} (lts : IsLts l) {blocks : List ℕ} {alone 
     Is step = IsStep l blocks (slice_index blocks s) (place_at l.places k) step
 
     abbrev Next : Search → Type 0
-    Next m = Begins l blocks alone lists old s start (k + 1) m
+    Next m = Begins l blocks live lists old s start (k + 1) m
 
     read_marked : (step : Step) (m : Search) (enters : Bool) → Is step → TakesStep l.places step Framed m enters
         → Next (record m { frames = set m.frames 0 (record (frame_at m.frames 0) { next = k + 1 }) })
@@ -72,8 +72,8 @@ module _ (laws : Laws) {l : Grouped} (lts : IsLts l) {blocks : List ℕ} {alone 
         let x : Frame = record (frame_at m.frames 0) { next = k + 1 } in
         let one = read_more (reads_none way) (record { size = refl; stack = refl }) way.some laws lts more (slice_index blocks s) refl step is_step m enters takes 0 refl x refl in
         record {
-          on = record { walks = one.on.walks; seen = λ t h. begun.on.seen t (one.on.seen t h) };
-          found = λ is. begun.found (one.on.seen s is);
+          on = record { walks = one.on.walks; seen = seen_on begun.on.seen one.on.seen };
+          found = λ is. begun.found (one.on.seen.unseen s is);
           less = omega (arith, one.less, begun.less);
         }
 
@@ -128,13 +128,13 @@ module _ (laws : Laws) {l : Grouped} (lts : IsLts l) {blocks : List ℕ} {alone 
     closes : Closes (record { height = 0; items = 0 }) lists lists' (popped Framed) Ended
     closes = record { number = ends.number; listed = ends.listed; stages = finishes; stack = refl; frames = refl; roots = refl; led = λ h. absurd (omega (arith, h)); alone = λ h. refl }
 
-    pub begun_ends : Begins l blocks alone lists' old s start k new
+    pub begun_ends : Begins l blocks live lists' old s start k new
     begun_ends =
         let most = (begun.on.walks.frames.each 0 no_frame (omega arith)).most in
         let (on, left) = closed begun.on.walks (omega arith) (omega (arith, most, over)) laws lts refl closes in
         let is : new ≡ Ended = ends.is ∙ ap (λ x. with_stage s (Finished ends.number) (record x { items = [] })) same in
-        subst (Begins l blocks alone lists' old s start k) (sym is) (record {
-          on = record { walks = on.walks; seen = λ t h. begun.on.seen t (on.seen t h) };
-          found = λ none. begun.found (on.seen s none);
+        subst (Begins l blocks live lists' old s start k) (sym is) (record {
+          on = record { walks = on.walks; seen = seen_on begun.on.seen on.seen };
+          found = λ none. begun.found (on.seen.unseen s none);
           less = omega (arith, left, begun.less);
         })

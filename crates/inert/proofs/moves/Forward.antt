@@ -17,7 +17,7 @@ use Rattle.inert.proofs.parts.Counting.{unseen-set}
 use Rattle.inert.proofs.invariant.Standing.{reached, on_stack, ties, IsFrame-moved, frames_some, root_low}
 use Rattle.inert.proofs.invariant.Keeping.{Keeps, keeps_stack, accounted_still, sound_still, done_still}
 
-module _ {l : Grouped} {blocks : List ℕ} {alone : List Bool} {lists : List (List (ℕ × ℕ))} {w : Search} (walks : Walks l blocks alone lists w) where
+module _ {l : Grouped} {blocks : List ℕ} {live : List ℕ} {lists : List (List (ℕ × ℕ))} {w : Search} (walks : Walks l blocks live lists w) where
   -- an item more is collected
   module _ (x : Item) where
     abbrev With : Search
@@ -40,7 +40,7 @@ module _ {l : Grouped} {blocks : List ℕ} {alone : List Bool} {lists : List (Li
     collected_holds z g = (length w.items, omega (arith, length_push w.items x), subst (λ y. Gives lists y z) (sym item_last) g, of_here)
 
     pub Walks-collect : 0 < length w.frames → IsThere lists x
-        → ((z : ℕ × ℕ) → Gives lists x z → HasPair Branching l blocks (slice_index w.stack (here w)) z.0 z.1) → Walks l blocks alone lists With
+        → ((z : ℕ × ℕ) → Gives lists x z → HasPair Branching l blocks (slice_index w.stack (here w)) z.0 z.1) → Walks l blocks live lists With
     Walks-collect some there sound = record {
       numbers = walks.numbers;
       opened = walks.opened;
@@ -87,7 +87,7 @@ module _ {l : Grouped} {blocks : List ℕ} {alone : List Bool} {lists : List (Li
     joined_here t is = (q, is, λ i d h _. below i d h, λ i d h _. cut_each (λ r. r.height ≤ here w) (reached walks) i d h)
 
     pub Walks-join : q < length w.stack → Inert (system_of l) (slice_index blocks) (slice_index w.stack (here w)) (slice_index w.stack q)
-        → Walks l blocks alone lists Joined
+        → Walks l blocks live lists Joined
     Walks-join low step = record {
       numbers = walks.numbers;
       opened = walks.opened;
@@ -244,7 +244,7 @@ module _ {l : Grouped} {blocks : List ℕ} {alone : List Bool} {lists : List (Li
             (laws.here (system_of l) (slice_index blocks) (slice_index Entered.stack p))
       ]
 
-      pub Walks-enter : Walks l blocks alone lists Entered
+      pub Walks-enter : Walks l blocks live lists Entered
       Walks-enter = record {
         numbers = record {
           size = length-set w.stages t (Open n) ∙ walks.numbers.size;
@@ -299,7 +299,7 @@ module _ {l : Grouped} {blocks : List ℕ} {alone : List Bool} {lists : List (Li
             ]
       ]
 
-      pub Walks-next : Walks l blocks alone lists Moved
+      pub Walks-next : Walks l blocks live lists Moved
       Walks-next = record {
         numbers = walks.numbers;
         opened = walks.opened;

@@ -15,14 +15,14 @@ use Rattle.inert.specs.Moves.{entered, with_item, TakesStep, CutsRoots, ahead, H
 use Rattle.inert.specs.Ahead.{KeepsSeen}
 use Rattle.inert.specs.declared.step.Step.{Step as TakenStep}
 use Rattle.inert.specs.declared.step.Step.TheVariants.{Inert as Goes, Shows}
-use Rattle.inert.proofs.parts.Stages.{seen_more}
+use Rattle.inert.proofs.parts.Stages.{seen_same, seen_on, seen_more}
 use Rattle.inert.proofs.parts.Counting.{unread-set, rest-push, rest-next}
 use Rattle.inert.proofs.invariant.Standing.{pair_before}
 use Rattle.inert.proofs.signatures.Exact.{place_step}
 use Rattle.inert.proofs.moves.Forward.{Walks-collect, collected_holds, Walks-join, joined_here, Walks-enter, entered_met, Walks-next}
 
 -- the transition that is next was taken, and is not marked as read
-module _ (laws : Laws) {l : Grouped} (lts : IsLts l) {blocks : List ℕ} {alone : List Bool} {lists : List (List (ℕ × ℕ))} {w : Search} (walks : Walks l blocks alone lists w)
+module _ (laws : Laws) {l : Grouped} (lts : IsLts l) {blocks : List ℕ} {live : List ℕ} {lists : List (List (ℕ × ℕ))} {w : Search} (walks : Walks l blocks live lists w)
     (some : 0 < length w.frames) {k : ℕ} (next : (top w.frames).next ≡ k) (more : k < (top w.frames).end) where
   abbrev e : Triple
   e = place_at l.places k
@@ -56,7 +56,7 @@ module _ (laws : Laws) {l : Grouped} (lts : IsLts l) {blocks : List ℕ} {alone 
 
   -- what holds of the walk then, whether it has entered a state or not
   pub record Taken (m : Search) (enters : Bool) : Type 0 where
-    pub after : Walks l blocks alone lists m
+    pub after : Walks l blocks live lists m
     pub done : Accounted l blocks lists m (here w) e
     pub seen : KeepsSeen w.stages m.stages
     pub same_ahead : ahead l m ≡ ahead l w
@@ -65,11 +65,11 @@ module _ (laws : Laws) {l : Grouped} (lts : IsLts l) {blocks : List ℕ} {alone 
     pub longer : IsTrue enters → length m.frames ≡ length w.frames + 1
 
   stayed : (roots : List Root) (items : List Item) (enters : Bool) → let m : Search = record w { roots = roots; items = items } in
-      Walks l blocks alone lists m → Accounted l blocks lists m (here w) e → ¬ IsTrue enters → Taken m enters
+      Walks l blocks live lists m → Accounted l blocks lists m (here w) e → ¬ IsTrue enters → Taken m enters
   stayed roots items enters after done stay = record {
     after = after;
     done = done;
-    seen = λ s h. h;
+    seen = seen_same w.stages;
     same_ahead = refl;
     same_frame = refl;
     still = λ _. (refl, refl);
@@ -115,7 +115,7 @@ module _ (laws : Laws) {l : Grouped} (lts : IsLts l) {blocks : List ℕ} {alone 
         record {
           after = Walks-enter walks laws within unseen row (λ _. inert_step inert);
           done = record { shown = λ other. absurd (other inert); followed = λ _. inr (inr (entered_met walks laws within unseen row some)) };
-          seen = seen_more w.stages (target_of e) (Open (length w.stack)) (λ e. cc) within;
+          seen = seen_more w.stages (target_of e) (Open (length w.stack)) (λ e. cc) within unseen;
           same_ahead = omega (arith, unread-set w.stages (target_of e) (Open (length w.stack)) refl within unseen l.places, rest-push w.frames x, row.count);
           same_frame = get_or_append_left w.frames (x ∷ []) _ (length w.frames - 1) (omega (arith, some));
           still = λ stay. absurd (stay went);
@@ -136,8 +136,8 @@ module _ (laws : Laws) {l : Grouped} (lts : IsLts l) {blocks : List ℕ} {alone 
       subst (λ x. Taken x enters) (sym new) (taken_finished is.0 number enters (ap (stage_at w.stages) (sym is.1) ∙ stage) stay)
 
 -- from one walk to another one, the row of what was its last frame was read up to place k
-pub record Reads (l : Grouped) (blocks : List ℕ) (alone : List Bool) (lists : List (List (ℕ × ℕ))) (old new : Search) (k : ℕ) : Type 0 where
-  pub on : GoesOn l blocks alone lists old new
+pub record Reads (l : Grouped) (blocks : List ℕ) (live : List ℕ) (lists : List (List (ℕ × ℕ))) (old new : Search) (k : ℕ) : Type 0 where
+  pub on : GoesOn l blocks live lists old new
   pub here : frame_at new.frames (length old.frames - 1) ≡ record (top old.frames) { next = k }
   pub forward : (top old.frames).next ≤ k
   pub less : ahead l new + k ≡ ahead l old + (top old.frames).next
@@ -147,11 +147,11 @@ pub record Stays (old new : Search) : Type 0 where
   pub size : length new.frames ≡ length old.frames
   pub stack : new.stack ≡ old.stack
 
-pub reads_none : {l : Grouped} {blocks : List ℕ} {alone : List Bool} {lists : List (List (ℕ × ℕ))} {w : Search} → IsUnderWay l blocks alone lists w
-    → Reads l blocks alone lists w w (top w.frames).next
-reads_none way = record { on = record { walks = way.walks; seen = λ s h. h }; here = refl; forward = omega arith; less = refl }
+pub reads_none : {l : Grouped} {blocks : List ℕ} {live : List ℕ} {lists : List (List (ℕ × ℕ))} {w : Search} → IsUnderWay l blocks live lists w
+    → Reads l blocks live lists w w (top w.frames).next
+reads_none way = record { on = record { walks = way.walks; seen = seen_same _ }; here = refl; forward = omega arith; less = refl }
 
-module _ {l : Grouped} {blocks : List ℕ} {alone : List Bool} {lists : List (List (ℕ × ℕ))} {first w : Search} {k : ℕ} (reads : Reads l blocks alone lists first w k)
+module _ {l : Grouped} {blocks : List ℕ} {live : List ℕ} {lists : List (List (ℕ × ℕ))} {first w : Search} {k : ℕ} (reads : Reads l blocks live lists first w k)
     (stays : Stays first w) (some : 0 < length first.frames) where
   now_some : 0 < length w.frames
   now_some = omega (arith, stays.size, some)
@@ -211,11 +211,11 @@ module _ {l : Grouped} {blocks : List ℕ} {alone : List Bool} {lists : List (Li
               let one = rest-next m.frames i x still_there (ap (λ y. y.end) is) (ap (λ y. y.next) is ∙ ap (λ n. n + 1) (sym next)) (omega (arith, next, left)) in
               omega (arith, one, took.same_ahead)
 
-          pub read_more : Reads l blocks alone lists first New (k + 1)
+          pub read_more : Reads l blocks live lists first New (k + 1)
           read_more = record {
             on = record {
               walks = Walks-next took.after still_there is next left done;
-              seen = λ s h. reads.on.seen s (took.seen s h);
+              seen = seen_on reads.on.seen took.seen;
             };
             here =
                 ap (frame_at New.frames) (sym last) ∙ get_or-set_same m.frames i x _ still_there ∙ is

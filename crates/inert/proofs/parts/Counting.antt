@@ -1,14 +1,13 @@
 -- What a walk has still to read: how it shrinks as states are entered and their rows are read.
-use Rattle.std.proofs.Common.{◌≡◌, ◌∙◌, ℕ, ◌+◌, ◌-◌, ◌<◌, ◌≤◌, ◌↔◌, Bool, false, cond, eqb, List, [], ◌∷◌, ◌++◌, length, set, take, map, get_or, Contains, ap, refl, sym, subst, inl, inr, arith}
+use Rattle.std.proofs.Common.{◌≡◌, ◌∙◌, ℕ, zero, suc, ◌+◌, ◌-◌, ◌<◌, ◌≤◌, ◌↔◌, Bool, false, cond, eqb, List, [], ◌∷◌, ◌++◌, length, set, take, map, get_or, Contains, ap, refl, sym, subst, inl, inr, arith}
 use Rattle.std.specs.List.{sum, sum_by}
 use Rattle.std.proofs.lemmas.Grind.{common_steps}
 use Rattle.std.proofs.lemmas.Bool.Decides.{nat_tests}
 use Rattle.std.proofs.lemmas.List.{ext_get_or, get_or-map, length-map, take_all, get_or_default}
 use Rattle.std.proofs.lemmas.List.Elements.{filter_agree}
 use Rattle.std.proofs.lemmas.List.Sums.{length-filter, sum-map, sum_by-cons, sum_by-le, sum_by_more, sum_by_push, sum_by-set}
-use Rattle.lts.specs.Lts.{Grouped, Triple, source_of, row_of, IsLts}
+use Rattle.lts.specs.Lts.{Triple, source_of, row_of, place_at}
 use Rattle.lts.proofs.Filters.{filter-none, filter-whole}
-use Rattle.inert.specs.Signed.{HaveRows}
 use Rattle.inert.specs.Ahead.{is_unseen, unseen, unread, rest}
 use Rattle.inert.specs.Search.{stage_at, frame_at, no_frame, top, Stage, Unseen, Open, Finished, Frame}
 
@@ -81,19 +80,12 @@ seen Unseen f = absurd (f refl)
 seen (Open p) f = refl
 seen (Finished k) f = refl
 
--- all that have a transition were seen
-pub unread-left : {l : Grouped} → IsLts l → ((s : ℕ) (e : Triple) → Contains (row_of s l.places) e ↔ (Contains l.places e × (source_of e ≡ s))) → (live : List ℕ)
-    → HaveRows l live → (stages : List Stage) → ((i : ℕ) → i < length live → ¬ (stage_at stages (get_or live i 0) ≡ Unseen)) → unread l.places stages ≡ 0
-unread-left {l = l} lts sources live rows stages all =
-    ap length (filter-none (λ e. is_unseen (stage_at stages (source_of e))) l.places (λ k d h.
-    let e = get_or l.places k d in
-    seen _ (elim (rows (source_of e) (lts.in_range.each k d h).source) [
-      | inl one ↦ subst (λ s. ¬ (stage_at stages s ≡ Unseen)) one.2 (all one.0 one.1)
-      | inr empty ↦
-          let there : Contains l.places e = (k, h, get_or_default l.places k e d h) in
-          let has = subst (λ xs. Contains xs e) empty ((sources (source_of e) e).1 (there, refl)) in
-          absurd (omega (arith, has.1))
-    ])))
+-- no source is unseen
+pub unread-none : (places : List Triple) (stages : List Stage) → ((k : ℕ) → k < length places → ¬ (stage_at stages (source_of (place_at places k)) ≡ Unseen))
+    → unread places stages ≡ 0
+unread-none places stages all =
+    ap length (filter-none (λ e. is_unseen (stage_at stages (source_of e))) places (λ k d h.
+    seen _ (subst (λ e. ¬ (stage_at stages (source_of e) ≡ Unseen)) (get_or_default places k (0, 0, 0) d h) (all k h))))
 
 -- the row of a state that was seen is not among what is still to be read
 pub unread-seen : (places : List Triple) (stages : List Stage) (s : ℕ) → ¬ (stage_at stages s ≡ Unseen) →
@@ -104,3 +96,47 @@ unread-seen places stages s was =
     let add = sums_add (to_read stages) row (λ e. to_read stages e + row e) places (λ e. refl) in
     let all = sum_by-le (λ e. to_read stages e + row e) 1 places (λ k d h. most (get_or places k d)) in
     omega (arith, add, all, unread_sum places stages, row_sum places s)
+
+-- 1 if the source of a transition is at rest, or was seen
+abbrev pub at_rest : List Stage → Triple → ℕ
+at_rest stages e = 1 - to_read stages e
+
+-- how many of the first transitions start at such states
+abbrev pub passed : List Triple → List Stage → ℕ → ℕ
+passed places stages to = sum_by (at_rest stages) (take to places)
+
+all_counted : (stages : List Stage) (es : List Triple) → sum_by (to_read stages) es + sum_by (at_rest stages) es ≡ length es
+all_counted stages [] = refl
+all_counted stages (e ∷ es) =
+    let one : to_read stages e ≤ 1 = grind (arith, nat_tests) in
+    omega (arith, all_counted stages es, one, sum_by-cons (to_read stages) e es, sum_by-cons (at_rest stages) e es)
+
+module _ (places : List Triple) (stages : List Stage) where
+  -- all transitions start at those, or are still to be read
+  pub passed-all : unread places stages + passed places stages (length places) ≡ length places
+  passed-all =
+      let all : passed places stages (length places) ≡ sum_by (at_rest stages) places = ap (sum_by (at_rest stages)) (take_all (length places) places (omega arith)) in
+      omega (arith, all_counted stages places, unread_sum places stages, all)
+
+  passed-more : (k : ℕ) → k < length places → passed places stages (k + 1) ≡ passed places stages k + at_rest stages (place_at places k)
+  passed-more k h = sum_by_more (at_rest stages) places k (0, 0, 0) h
+
+  -- places of a row that is still to be read
+  pub passed-row : (a n : ℕ) → a + n ≤ length places → ((k : ℕ) → a ≤ k → k < a + n → stage_at stages (source_of (place_at places k)) ≡ Unseen)
+      → passed places stages (a + n) ≡ passed places stages a
+  passed-row a zero h all = let e : a + 0 ≡ a = omega arith in ap (passed places stages) e
+  passed-row a (suc n) h all =
+      let e : a + suc n ≡ a + n + 1 = omega arith in
+      let is : to_read stages (place_at places (a + n)) ≡ 1 = ap (λ m. one (is_unseen m)) (all (a + n) (omega arith) (omega arith)) in
+      let before = passed-row a n (omega (arith, h)) (λ k l u. all k l (omega (arith, u))) in
+      ap (passed places stages) e ∙ omega (arith, passed-more (a + n) (omega (arith, h)), is, before)
+
+  -- places between two rows
+  pub passed-gap : (a n : ℕ) → a + n ≤ length places → ((k : ℕ) → a ≤ k → k < a + n → ¬ (stage_at stages (source_of (place_at places k)) ≡ Unseen))
+      → passed places stages (a + n) ≡ passed places stages a + n
+  passed-gap a zero h all = let e : a + 0 ≡ a = omega arith in omega (arith, ap (passed places stages) e)
+  passed-gap a (suc n) h all =
+      let e : a + suc n ≡ a + n + 1 = omega arith in
+      let is : to_read stages (place_at places (a + n)) ≡ 0 = ap one (seen _ (all (a + n) (omega arith) (omega arith))) in
+      let before = passed-gap a n (omega (arith, h)) (λ k l u. all k l (omega (arith, u))) in
+      ap (passed places stages) e ∙ omega (arith, passed-more (a + n) (omega (arith, h)), is, before)

@@ -1,30 +1,31 @@
--- Stages that are set, and the trail, which has each state that was seen.
-use Rattle.std.proofs.Common.{◌≡◌, ◌∙◌, ℕ, ◌<◌, List, [], ◌∷◌, ◌++◌, length, set, sym, subst, refl, inl, inr, arith}
+-- Stages that are set: states that were seen stay so, and finished ones keep their lists.
+use Rattle.std.proofs.Common.{◌≡◌, ◌∙◌, ℕ, ◌<◌, List, length, slice_index, set, ap, inl, inr, arith}
 use Rattle.std.specs.List.{All}
-use Rattle.std.proofs.lemmas.Bool.{cases_eq}
+use Rattle.std.proofs.lemmas.Bool.{cases_lt}
 use Rattle.std.proofs.lemmas.Grind.{common_steps}
-use Rattle.std.proofs.lemmas.List.{get_or-set_other, length-set, length_push, get_or_append_left, get_or_push}
-use Rattle.std.proofs.lemmas.List.Elements.{All-push}
-use Rattle.inert.specs.Search.{Stage, Unseen}
-use Rattle.inert.specs.Ahead.{IsTrail, KeepsSeen}
+use Rattle.std.proofs.lemmas.List.{get_or_past, get_or-set_other}
+use Rattle.std.proofs.lemmas.List.Elements.{All-from_get_or}
+use Rattle.inert.specs.Search.{Stage, stage_at, AreOpen, Unseen, Finished}
+use Rattle.inert.specs.Ahead.{KeepsSeen}
 
--- the state t is seen, and no other is forgotten
-pub seen_more : (stages : List Stage) (t : ℕ) (m : Stage) → ¬ (m ≡ Unseen) → t < length stages → KeepsSeen stages (set stages t m)
-seen_more stages t m seen low s is = grind (arith, common_steps, seen, is)
+-- a state on the stack has a stage
+pub open_inside : (stages : List Stage) (stack : List ℕ) → AreOpen stages stack → All (λ s. s < length stages) stack
+open_inside stages stack opened = All-from_get_or (λ s. s < length stages) stack 0 (λ p h. elim (cases_lt (slice_index stack p) (length stages)) [
+  | inl low ↦ low
+  | inr past ↦ absurd (cc (get_or_past stages (slice_index stack p) Unseen past, opened.placed p h))
+])
 
--- the trail after one more is set
-pub IsTrail-set : (stages : List Stage) (trail trail' : List ℕ) (s : ℕ) (m : Stage) → s < length stages → trail' ≡ trail ++ s ∷ [] → IsTrail stages trail
-    → IsTrail (set stages s m) trail'
-IsTrail-set stages trail trail' s m low is old =
-    let size = length-set stages s m in
-    subst (IsTrail (set stages s m)) (sym is) (
-    record {
-      each = subst (λ n. All (λ x. x < n) (trail ++ s ∷ [])) (sym size) (All-push (λ x. x < length stages) trail s old.each low);
-      seen = λ x. elim (cases_eq x s) [
-        | inl e ↦ inr (length trail, omega (arith, length_push trail s), get_or_push trail s x (length trail) refl ∙ sym e)
-        | inr d ↦ elim (old.seen x) [
-          | inl none ↦ inl (get_or-set_other stages s x m Unseen d ∙ none)
-          | inr (i, below, is) ↦ inr (i, omega (arith, length_push trail s, below), get_or_append_left trail (s ∷ []) x i below ∙ is)
-        ]
-      ];
-    })
+-- nothing changes
+pub seen_same : (stages : List Stage) → KeepsSeen stages stages
+seen_same stages = record { unseen = λ s is. is; finished = λ s k is. is }
+
+-- one change after another
+pub seen_on : {old mid new : List Stage} → KeepsSeen old mid → KeepsSeen mid new → KeepsSeen old new
+seen_on first then = record { unseen = λ s is. first.unseen s (then.unseen s is); finished = λ s k is. then.finished s k (first.finished s k is) }
+
+-- the state t, which was not seen, is seen
+pub seen_more : (stages : List Stage) (t : ℕ) (m : Stage) → ¬ (m ≡ Unseen) → t < length stages → stage_at stages t ≡ Unseen → KeepsSeen stages (set stages t m)
+seen_more stages t m seen low was = record {
+  unseen = λ s is. grind (arith, common_steps, seen, is);
+  finished = λ s k is. get_or-set_other stages t s m Unseen (λ e. cc (ap (stage_at stages) e, was, is)) ∙ is;
+}

@@ -1,6 +1,5 @@
 -- If the rows of the last component are read, what it has collected is exactly the signature of each of its states.
-use Rattle.std.proofs.Common.{◌≡◌, ℕ, ◌+◌, ◌-◌, ◌<◌, ◌≤◌, Bool, List, [], ◌∷◌, length, drop, get_or, slice_index, slice_index_or, false, IsTrue, sym, ◌∙◌, ap, subst, inl, inr, arith}
-use Rattle.std.proofs.lemmas.Bool.{cases_Bool}
+use Rattle.std.proofs.Common.{◌≡◌, ℕ, ◌+◌, ◌-◌, ◌<◌, ◌≤◌, List, [], ◌∷◌, length, drop, get_or, slice_index, sym, ◌∙◌, ap, subst, inl, inr, arith}
 use Rattle.std.proofs.lemmas.List.{length-map, get_or-map, get_or-drop, get_or_default, length-drop}
 use Rattle.theory.specs.System.{Step, Along, internal}
 use Rattle.theory.specs.declared.relation.Relation.TheVariants.{Branching}
@@ -8,8 +7,8 @@ use Rattle.theory.specs.Blocks.{Inert}
 use Rattle.lts.specs.Labels.{text_of}
 use Rattle.lts.specs.Lts.{Grouped, source_of, label_of, target_of, place_at, transition_of, system_of, IsLts}
 use Rattle.lists.specs.Lists.{list_at}
-use Rattle.inert.specs.Signed.{HasPair, IsSignature, IsKnownAlone, pair_under}
-use Rattle.inert.specs.Search.{Search, Laws, here, last, no_root, item_at, Gives, HoldsPair, Accounted, IsSigned, Walks}
+use Rattle.inert.specs.Signed.{HasPair, IsSignature, pair_under}
+use Rattle.inert.specs.Search.{Search, Laws, stage_at, here, last, no_root, item_at, Gives, HoldsPair, Accounted, IsSigned, Walks}
 use Rattle.inert.specs.Moves.{IsGiven, IsListed, HasRead}
 use Rattle.inert.proofs.invariant.Standing.{pair_before, last_low, last_most, last_frame, none_ahead}
 
@@ -29,7 +28,7 @@ place_step l k h =
     let e = transition_of l.labels (place_at l.places k) in
     (k, omega (arith, h, length-map l.places (transition_of l.labels)), get_or-map (transition_of l.labels) l.places k (0, 0, 0) e h)
 
-module _ (laws : Laws) {l : Grouped} (lts : IsLts l) {blocks : List ℕ} {alone : List Bool} {lists : List (List (ℕ × ℕ))} {w : Search} (walks : Walks l blocks alone lists w)
+module _ (laws : Laws) {l : Grouped} (lts : IsLts l) {blocks : List ℕ} {live : List ℕ} {lists : List (List (ℕ × ℕ))} {w : Search} (walks : Walks l blocks live lists w)
     (some : 0 < length w.frames) (read : HasRead w) (height : (last w.roots).height ≡ here w) where
   -- where the items of the component begin, and what they give
   abbrev c0 : ℕ
@@ -65,17 +64,16 @@ module _ (laws : Laws) {l : Grouped} (lts : IsLts l) {blocks : List ℕ} {alone 
       (subst (HoldsPair lists w p) same
       ((done p k h lp lk source).shown (λ inert. other (sym label ∙ inert.0, sym block ∙ inert.1 ∙ ap (slice_index blocks) source))))
 
-  -- and what it can do at the end of inert steps, unless it is known to be alone: so are then all states of its block
+  -- and what it can do at the end of inert steps: they lead to no other state that is alone in its block
   collects : (z : ℕ × ℕ) (us : List ℕ) (p : ℕ) → here w ≤ p → p < length w.stack → (u t : ℕ)
       → Along (Inert (system_of l) (slice_index blocks)) (slice_index w.stack p) us u → Step (system_of l) u (text_of l.labels z.0) t → slice_index blocks t ≡ z.1
-      → ¬ ((text_of l.labels z.0 ≡ internal) × (z.1 ≡ slice_index blocks (slice_index w.stack p))) → z.0 < length l.labels
-      → ¬ IsKnownAlone blocks alone (slice_index w.stack p) → Collected z
-  collects z [] p h lp u t e step is other low company =
+      → ¬ ((text_of l.labels z.0 ≡ internal) × (z.1 ≡ slice_index blocks (slice_index w.stack p))) → z.0 < length l.labels → Collected z
+  collects z [] p h lp u t e step is other low =
       collects_here z p h lp t (subst (λ x. Step (system_of l) x (text_of l.labels z.0) t) (sym e) step) is other low
-  collects z (x ∷ us) p h lp u t (first, rest) step is other low company =
+  collects z (x ∷ us) p h lp u t (first, rest) step is other low =
       let (k, lk, source, label, target) = step_place l (slice_index w.stack p) x internal first.0 in
       let same : slice_index blocks (target_of (place_at l.places k)) ≡ slice_index blocks (slice_index w.stack p) = ap (slice_index blocks) target ∙ first.1 in
-      let together : ¬ IsKnownAlone blocks alone (target_of (place_at l.places k)) = λ known. company (subst (λ b. IsTrue (slice_index_or alone b false)) same known) in
+      let inside : slice_index w.stack p < l.states = omega (arith, source, (lts.in_range.each k (0, 0, 0) lk).source) in
       elim ((done p k h lp lk source).followed (label, same ∙ ap (slice_index blocks) (sym source))) [
         | inl (q, stage, up, down) ↦
             let was = walks.opened.only (target_of (place_at l.places k)) q stage in
@@ -83,14 +81,15 @@ module _ (laws : Laws) {l : Grouped} (lts : IsLts l) {blocks : List ℕ} {alone 
             collects z us q (omega (arith, height, high)) was.0 u t
             (subst (λ y. Along (Inert (system_of l) (slice_index blocks)) y us u) (sym target ∙ sym was.1) rest) step is
             (λ inert. other (inert.0, inert.1 ∙ ap (slice_index blocks) was.1 ∙ same)) low
-            (subst (λ s. ¬ IsKnownAlone blocks alone s) (sym was.1) together)
         | inr held ↦ elim held [
           | inl (number, stage, all) ↦
               let path = subst (λ y. Along (Inert (system_of l) (slice_index blocks)) y us u) (sym target) rest in
               let has : HasPair Branching l blocks (target_of (place_at l.places k)) z.0 z.1 = (low, (u, t, (us, path), step, is, λ inert. other (inert.0, inert.1 ∙ same))) in
               elim ((walks.signed (target_of (place_at l.places k)) number stage).whole) [
                 | inl signature ↦ collected_from p h z (all z ((signature.exactly z.0 z.1).1 has))
-                | inr known ↦ absurd (together known)
+                | inr left ↦
+                    let one = left.1 (slice_index w.stack p) inside (sym same) in
+                    absurd (cc (walks.opened.placed p lp, ap (stage_at w.stages) one, stage))
               ]
           | inr (i, low', is', to) ↦ let e = last_frame walks i (omega (arith, low')) (omega (arith, is', h)) in absurd (omega (arith, e, low'))
         ]
@@ -107,22 +106,18 @@ module _ (laws : Laws) {l : Grouped} (lts : IsLts l) {blocks : List ℕ} {alone 
 
   -- a list of it is the signature of each state of the component
   module _ {lists' : List (List (ℕ × ℕ))} {number : ℕ} (listed : IsListed (drop c0 w.items) lists lists' number) where
-    whole : (p : ℕ) → here w ≤ p → p < length w.stack → ¬ IsKnownAlone blocks alone (slice_index w.stack p)
-        → IsSignature Branching l blocks (slice_index w.stack p) (list_at lists' number)
-    whole p h lp company = record {
+    whole : (p : ℕ) → here w ≤ p → p < length w.stack → IsSignature Branching l blocks (slice_index w.stack p) (list_at lists' number)
+    whole p h lp = record {
       exactly = λ k b. (
         λ c. sound p h lp (k, b) ((listed.exactly (k, b)).0 c),
-        λ has. (listed.exactly (k, b)).1 (collects (k, b) has.1.2.0 p h lp has.1.0 has.1.1 has.1.2.1 has.1.3 has.1.4 has.1.5 has.0 company),
+        λ has. (listed.exactly (k, b)).1 (collects (k, b) has.1.2.0 p h lp has.1.0 has.1.1 has.1.2.1 has.1.3 has.1.4 has.1.5 has.0),
       );
       rising = listed.rising;
     }
 
-    pub exact : (p : ℕ) → here w ≤ p → p < length w.stack → IsSigned l blocks alone (slice_index w.stack p) lists' number
+    pub exact : (p : ℕ) → here w ≤ p → p < length w.stack → IsSigned l blocks live (slice_index w.stack p) lists' number
     exact p h lp = record {
       within = listed.within;
       sound = λ z c. sound p h lp z ((listed.exactly z).0 c);
-      whole = elim (cases_Bool (slice_index_or alone (slice_index blocks (slice_index w.stack p)) false)) [
-        | inl known ↦ inr known
-        | inr other ↦ inl (whole p h lp (λ known. cc (other, known)))
-      ];
+      whole = inl (whole p h lp);
     }

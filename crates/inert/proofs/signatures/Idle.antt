@@ -1,5 +1,5 @@
 -- A state without a transition: its signature has no pairs.
-use Rattle.std.proofs.Common.{◌≡◌, ◌⊎◌, ◌↔◌, ℕ, ◌<◌, Bool, List, [], length, slice_index, Contains, sym, ap, ◌∙◌, subst, inl, inr, arith}
+use Rattle.std.proofs.Common.{◌≡◌, ◌⊎◌, ◌↔◌, ℕ, ◌<◌, List, [], length, slice_index, Contains, ◌∙◌, subst, inl, inr, arith}
 use Rattle.std.proofs.lemmas.List.{get_or_default}
 use Rattle.std.specs.List.Sorted.{IsStrictlySortedBy}
 use Rattle.theory.specs.System.{Step, internal}
@@ -9,10 +9,10 @@ use Rattle.lts.specs.Lts.{Grouped, Triple, label_of, target_of, row_of, system_o
 use Rattle.lts.specs.Labels.{text_of}
 use Rattle.lists.specs.Lists.{list_at, pair_cmp, AreNumbers}
 use Rattle.partition.specs.Blocks.{IsOne, HaveNone}
-use Rattle.inert.specs.Signed.{IsSignature, IsListOf, HaveRows}
-use Rattle.inert.specs.Search.{Search, HasItsList}
+use Rattle.inert.specs.Signed.{IsSignature}
+use Rattle.inert.specs.Search.{Search, stage_at, Finished}
 use Rattle.inert.specs.Moves.{Rests}
-use Rattle.inert.proofs.invariant.Resting.{number_within, number_signed}
+use Rattle.inert.proofs.invariant.Resting.{live_signed}
 
 rises_empty : IsStrictlySortedBy pair_cmp []
 unfolding IsStrictlySortedBy
@@ -40,32 +40,25 @@ module _ (l : Grouped) (blocks : List ℕ) (s : ℕ)
   }
 
 -- the numbers of all, if those of the states that were looked at were put down
-module _ {l : Grouped} {blocks : List ℕ} {alone : List Bool} {lists : List (List (ℕ × ℕ))} {w : Search} (rests : Rests l blocks alone lists w) (live old numbers : List ℕ)
-    (rows : HaveRows l live) (none : HaveNone live old) (size : length old ≡ l.states) (size' : length numbers ≡ l.states)
-    (has : (i : ℕ) → i < length live → let s = slice_index live i in HasItsList blocks alone w.stages s (slice_index numbers s))
+module _ {l : Grouped} {blocks live : List ℕ} {lists : List (List (ℕ × ℕ))} {w : Search} (rests : Rests l blocks live lists w) (old numbers : List ℕ)
+    (none : HaveNone live old) (size : length numbers ≡ length old)
+    (has : (i : ℕ) → i < length live → let s = slice_index live i in stage_at w.stages s ≡ Finished (slice_index numbers s))
     (others : (s : ℕ) → IsOne live s ⊎ (slice_index numbers s ≡ slice_index old s)) where
-  its_list : (s : ℕ) → IsOne live s → HasItsList blocks alone w.stages s (slice_index numbers s)
-  its_list s one = subst (λ x. HasItsList blocks alone w.stages x (slice_index numbers x)) one.2 (has one.0 one.1)
+  its_list : (s : ℕ) → IsOne live s → stage_at w.stages s ≡ Finished (slice_index numbers s)
+  its_list s one = subst (λ x. stage_at w.stages x ≡ Finished (slice_index numbers x)) one.2 (has one.0 one.1)
 
   -- a state that was not looked at has the number that it had
   pub none_still : HaveNone live numbers
-  none_still s h = elim (none s (omega (arith, h, size, size'))) [
+  none_still s h = elim (none s (omega (arith, h, size))) [
     | inl one ↦ inl one
     | inr zero ↦ elim (others s) [ inl one ↦ inl one | inr same ↦ inr (same ∙ zero) ]
   ]
 
   pub all_within : AreNumbers lists numbers
   all_within s d h = subst (λ x. x < length lists) (get_or_default numbers s 0 d h) (elim (none_still s h) [
-    | inl one ↦ number_within rests numbers s (its_list s one)
+    | inl one ↦ (rests.signed s (slice_index numbers s) (its_list s one)).within
     | inr zero ↦ let some = rests.numbers.some in omega (arith, zero, some)
   ])
 
-  pub all_signed : list_at lists 0 ≡ [] → ((s : ℕ) → row_of s l.places ≡ [] → IsSignature Branching l blocks s []) → (s : ℕ) → s < l.states
-      → IsListOf l blocks alone s (list_at lists (slice_index numbers s))
-  all_signed first idle s h = elim (rows s h) [
-    | inl one ↦ number_signed rests numbers s (its_list s one) first
-    | inr empty ↦ elim (none_still s (omega (arith, h, size'))) [
-      | inl one ↦ number_signed rests numbers s (its_list s one) first
-      | inr zero ↦ inl (subst (IsSignature Branching l blocks s) (sym (ap (list_at lists) zero ∙ first)) (idle s empty))
-    ]
-  ]
+  pub all_signed : (s : ℕ) → IsOne live s → IsSignature Branching l blocks s (list_at lists (slice_index numbers s))
+  all_signed s one = live_signed rests s (slice_index numbers s) one (its_list s one)

@@ -1,36 +1,47 @@
-use Rattle.std.proofs.Common.{◌≡◌, ◌∙◌, ◌<◌, length, slice_index, set, sym, subst, inl, inr, arith}
-use Rattle.std.proofs.lemmas.Bool.{cases_eq, cases_lt}
-use Rattle.std.proofs.lemmas.List.{get_or-set_same, get_or-set_other}
-use Rattle.inert.specs.Search.{HasItsList}
+use Rattle.std.proofs.Common.{◌≡◌, ◌+◌, ◌<◌, length, slice_index, set, ap, sym, subst, arith}
+use Rattle.inert.specs.Search.{Search, nothing, Finished}
+use Rattle.inert.specs.Moves.{with_stage}
+use Rattle.inert.proofs.signatures.Numbers.{NumberedUpTo, numbered_none, next_has, numbered_more, numbered_all}
 use Rattle.inert.proofs.signer.number.Goals as goal
+
+pub loop-i-init : goal.loop-i-init
+loop-i-init c = record {
+  empty = c.requires.empty;
+  numbered = numbered_none c.args.live.now c.args.walk.now.stages c.args.numbers.now c.requires.rest c.requires.size;
+}
+
+pub rest-requires-clause-finished : goal.rest-requires-clause-finished
+rest-requires-clause-finished c =
+    next_has c.loop-i.invariant.numbered c.requires.live (omega (arith, c.loop-i-test.true, c.loop-i.auto.i-end)) c.requires.finished
 
 pub loop-i-preserved : goal.loop-i-preserved
 loop-i-preserved c =
     let live = c.args.live.now in
-    let numbers = c.loop-i.numbers in
     let i = c.loop-i.i in
     let s = slice_index live i in
-    let k = c.number_of.result in
-    let rises = c.requires.live in
+    let k = c.rest.result in
     let more : i < length live = omega (arith, c.loop-i-test.true, c.loop-i.auto.i-end) in
-    let inside : s < length numbers = omega (arith, rises.below i more, c.loop-i.auto.numbers, c.requires.size) in
+    let is = sym c.rest.ensures.rests in
     record {
-      live = λ j h. elim (cases_lt j i) [
-        | inl low ↦
-            let up = rises.rising j i low more in
-            let apart : slice_index live j ≡ s → ⊥ = λ e. omega (arith, up, e) in
-            subst (HasItsList c.args.blocks.now c.args.alone.now c.args.walk.now.stages (slice_index live j)) (sym (get_or-set_other numbers s (slice_index live j) k 0 apart))
-            (c.loop-i.invariant.live j low)
-        | inr last ↦
-            let here : i ≡ j = omega (arith, last, h) in
-            subst (λ n. HasItsList c.args.blocks.now c.args.alone.now c.args.walk.now.stages (slice_index live n) (slice_index (set numbers s k) (slice_index live n))) here
-            (subst (HasItsList c.args.blocks.now c.args.alone.now c.args.walk.now.stages s) (sym (get_or-set_same numbers s k 0 inside)) c.number_of.ensures)
-      ];
-      others = λ t. elim (cases_eq t s) [
-        | inl e ↦ inl (i, more, sym e)
-        | inr d ↦ elim (c.loop-i.invariant.others t) [
-          | inl one ↦ inl one
-          | inr same ↦ inr (get_or-set_other numbers s t k 0 d ∙ same)
-        ]
-      ];
+      empty = subst (λ (w : Search). w ≡ nothing w.stages) is (ap (with_stage s (Finished 0)) c.loop-i.invariant.empty);
+      numbered =
+          subst (λ (w : Search). NumberedUpTo live c.args.walk.now.stages c.args.numbers.now (i + 1) w.stages (set c.loop-i.numbers s k)) is
+          (numbered_more c.loop-i.invariant.numbered c.requires.live more k c.rest.ensures.list);
     }
+
+pub returns-clause-idle : goal.returns-clause-idle
+returns-clause-idle c =
+    let live = c.args.live.now in
+    let end : c.loop-i.i ≡ length live = omega (arith, c.loop-i-test.false, c.loop-i.auto.i-end) in
+    record {
+      empty = c.loop-i.invariant.empty;
+      rest =
+          numbered_all
+          (subst (λ n. NumberedUpTo live c.args.walk.now.stages c.args.numbers.now n c.loop-i.walk.stages c.loop-i.numbers) end c.loop-i.invariant.numbered);
+    }
+
+pub returns-clause-live : goal.returns-clause-live
+returns-clause-live c i h = c.loop-i.invariant.numbered.live_have i (omega (arith, h, c.loop-i-test.false, c.loop-i.auto.i-end))
+
+pub returns-clause-others : goal.returns-clause-others
+returns-clause-others c = c.loop-i.invariant.numbered.others

@@ -1,4 +1,4 @@
-use Rattle.std.proofs.Common.{◌≡◌, ◌↔◌, suc, ◌*◌, ◌<◌, length, slice_index, ap, sym, ◌∙◌, subst, subst₂, inr, arith, rules}
+use Rattle.std.proofs.Common.{◌≡◌, ◌↔◌, suc, ◌*◌, ◌<◌, length, slice_index, ap, sym, ◌∙◌, subst, subst₂, inl, inr, arith, rules}
 use Rattle.std.proofs.lemmas.Result.{IfOk-weaker}
 use Rattle.theory.specs.Blocks.{Split, SameBlocks, Turns}
 use Rattle.lts.specs.Meter.{Costs}
@@ -7,9 +7,10 @@ use Rattle.refine.specs.Settled.{Settled}
 use Rattle.refine.specs.Rounds.{Made}
 use Rattle.refine.proofs.Spending.{costs_more, costs_up_to_more, room_for_more, on_ok_from, on_err_from}
 use Rattle.partition.specs.Partition.{AreBlocks}
-use Rattle.partition.specs.Blocks.{AreLive, HaveNone}
-use Rattle.inert.specs.Signed.{HaveRows}
+use Rattle.partition.specs.Blocks.{IsOne, AreLive, HaveNone}
+use Rattle.inert.specs.Signed.{LeavesOut}
 use Rattle.partition.proofs.Renumbering.{one_block}
+use Rattle.refine.proofs.Living.{left_out_still, left_out_next}
 use Rattle.refine.proofs.Settling.{settled_first}
 use Rattle.refine.proofs.refinement.refine_in.Goals as goal
 use Rattle.refine.proofs.refinement.refine_in.Given.{Over}
@@ -26,7 +27,10 @@ loop-before-init g c =
     record {
       states = size ∙ c.states.ensures.value;
       settled = subst (Settled g.S.Sense.relation A (slice_index blocks.of)) (sym c.in_ok-blocks.ensures.count.1) (settled_first g.S.Sense.relation A (slice_index blocks.of));
-      rows = subst (HaveRows l) (sym c.in_ok-blocks.ensures.live) c.in_ok-live.ensures.rows;
+      others = λ s h. elim (c.in_ok-live.ensures.rows s h) [
+        | inl one ↦ inl (subst (λ live. IsOne live s) (sym c.in_ok-blocks.ensures.live) one)
+        | inr empty ↦ inr (inr empty)
+      ];
       marks = c.requires.marks;
       signatures = c.requires.signatures.0;
       none = λ s h. inr (c.requires.signatures.1 s (omega (arith, h, c.requires.signatures.0)));
@@ -41,19 +45,22 @@ renumber-requires g c = subst₂ AreBlocks (sym c.of.ensures.of) (sym c.count-mo
 
 pub next_round-requires-clause-settled : goal.next_round-requires-clause-settled
 next_round-requires-clause-settled g c =
-    subst (λ r. Settled g.S.Sense.relation (system_of c.args.l.now) (slice_index r.of) r.low) (sym c.in_ok-before.ensures) c.loop-before.invariant.settled
+    subst (λ r. Settled g.S.Sense.relation (system_of c.args.l.now) (slice_index r.of) r.low) (sym c.in_ok-before.ensures.same) c.loop-before.invariant.settled
 
 pub next_round-requires-clause-states : goal.next_round-requires-clause-states
-next_round-requires-clause-states g c = ap (λ r. length r.of) c.in_ok-before.ensures ∙ c.loop-before.invariant.states
+next_round-requires-clause-states g c = ap (λ r. length r.of) c.in_ok-before.ensures.same ∙ c.loop-before.invariant.states
 
-pub next_round-requires-clause-rows : goal.next_round-requires-clause-rows
-next_round-requires-clause-rows g c = subst (λ r. HaveRows c.args.l.now r.live) (sym c.in_ok-before.ensures) c.loop-before.invariant.rows
+pub next_round-requires-clause-others : goal.next_round-requires-clause-others
+next_round-requires-clause-others g c =
+    subst (λ of. LeavesOut c.args.l.now of c.in_ok-before.before.live) (sym (ap (λ r. r.of) c.in_ok-before.ensures.same))
+    (left_out_still c.args.l.now c.loop-before.blocks.of c.loop-before.blocks.live c.in_ok-before.before.live c.in_ok-before.ensures.leaves c.loop-before.invariant.others)
 
 pub next_round-requires-clause-signatures : goal.next_round-requires-clause-signatures
-next_round-requires-clause-signatures g c = (
-  c.loop-before.invariant.signatures,
-  subst (λ r. HaveNone r.live c.loop-before.signatures.numbers) (sym c.in_ok-before.ensures) c.loop-before.invariant.none,
-)
+next_round-requires-clause-signatures g c =
+    (c.renew.ensures.states ∙ c.loop-before.invariant.signatures, c.in_ok-before.ensures.none)
+
+pub renew-requires-clause-states : goal.renew-requires-clause-states
+renew-requires-clause-states g c = c.loop-before.invariant.states ∙ sym c.loop-before.invariant.signatures
 
 pub next_round-requires-clause-room : goal.next_round-requires-clause-room
 next_round-requires-clause-room g c =
@@ -81,7 +88,7 @@ turns g c =
     let A = system_of c.args.l.now in
     let made = c.loop-before.invariant.made in
     let next = c.in_ok-next.ensures.next in
-    let is = ap (λ r. r.of) c.in_ok-before.ensures in
+    let is = ap (λ r. r.of) c.in_ok-before.ensures.same in
     c.refinement_goes_on.ensures.done g.S.Sense.relation A made.rounds (slice_index c.loop-before.blocks.of) (slice_index c.in_ok-next.next.of)
     c.states.ensures.lts.system made.underway
     (subst (λ p. Split g.S.Sense.relation A (slice_index p) (slice_index c.in_ok-next.next.of)) is next.split)
@@ -117,7 +124,7 @@ returns-then-more-count-clause-bisimilar g c =
     c.states.ensures.lts.system (turns g (goal.at.returns-then-more-count-clause-bisimilar g c).Then-more-count) (
       slice_index c.loop-before.blocks.of,
       made.underway.after,
-      subst (λ p. Split g.S.Sense.relation A (slice_index p) (slice_index c.in_ok-next.next.of)) (ap (λ r. r.of) c.in_ok-before.ensures) next.split,
+      subst (λ p. Split g.S.Sense.relation A (slice_index p) (slice_index c.in_ok-next.next.of)) (ap (λ r. r.of) c.in_ok-before.ensures.same) next.split,
     ) in
     IfOk-weaker c.renumber.result _ _
     (λ q same s t ls lt.
@@ -155,7 +162,7 @@ made g c =
     let A = system_of l in
     let before = c.loop-before.invariant.made in
     let next = c.in_ok-next.ensures.next in
-    let is = ap (λ r. r.of) c.in_ok-before.ensures in
+    let is = ap (λ r. r.of) c.in_ok-before.ensures.same in
     record {
       rounds = suc before.rounds;
       underway =
@@ -170,13 +177,20 @@ made g c =
 pub loop-before-preserved : goal.loop-before-preserved
 loop-before-preserved g c =
     let next = c.in_ok-next.ensures in
-    let live = next.live ∙ ap (λ r. r.live) c.in_ok-before.ensures in
+    let l = c.args.l.now in
+    let before = c.in_ok-before.before in
+    let others =
+    subst (λ of. LeavesOut l of before.live) (sym (ap (λ r. r.of) c.in_ok-before.ensures.same))
+    (left_out_still l c.loop-before.blocks.of c.loop-before.blocks.live before.live c.in_ok-before.ensures.leaves c.loop-before.invariant.others) in
     record {
       states = next.next.states;
-      settled = subst (Settled g.S.Sense.relation (system_of c.args.l.now) (slice_index c.in_ok-next.next.of)) (sym next.low) next.next.settled;
-      rows = subst (HaveRows c.args.l.now) (sym live) c.loop-before.invariant.rows;
+      settled = subst (Settled g.S.Sense.relation (system_of l) (slice_index c.in_ok-next.next.of)) (sym next.low) next.next.settled;
+      others =
+          subst (LeavesOut l c.in_ok-next.next.of) (sym next.live)
+          (left_out_next l before.of c.in_ok-next.next.of before.live (ap (λ r. length r.of) c.in_ok-before.ensures.same ∙ c.loop-before.invariant.states) next.next.states
+          (λ s t ls lt e. ((next.next.split s t ls lt).0 e).0) others);
       marks = c.next_round.ensures.marks ∙ c.loop-before.invariant.marks;
-      signatures = c.next_round.ensures.signatures ∙ c.loop-before.invariant.signatures;
+      signatures = c.next_round.ensures.signatures ∙ c.renew.ensures.states ∙ c.loop-before.invariant.signatures;
       none = subst (λ xs. HaveNone xs c.next_round.new.signatures.numbers) (sym next.live) next.none;
       made = made g (goal.at.loop-before-preserved g c).Else-more-count;
     }

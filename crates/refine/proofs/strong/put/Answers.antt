@@ -7,18 +7,15 @@ use Rattle.refine.specs.Settled.{HasFrom}
 use Rattle.refine.proofs.StrongRow.{row_signature, row_touched, row_still}
 use Rattle.refine.proofs.strong.put.Goals as goal
 
-pub returns-then-alone-clause-put : goal.returns-then-alone-clause-put
-returns-then-alone-clause-put g c = inr (c.known-2.ensures.first, inr c.if-alone.true)
-
 pub returns-then-not-touched-clause-put : goal.returns-then-not-touched-clause-put
 returns-then-not-touched-clause-put g c =
     let l = c.args.l.now in
     inr (
-      c.known-2.ensures.first,
-      inl (row_still l c.args.p.now c.args.s c.known.ensures (c.rows_are_steps.ensures.sources c.args.s l.places)
+      row_still l c.args.p.now c.args.s c.known.ensures (c.rows_are_steps.ensures.sources c.args.s l.places)
           (c.rows_are_steps.ensures.steps l c.args.s) c.args.low
           (subst (λ xs. HasFrom c.args.low xs → ⊥) c.in_ok-touched.ensures.pairs
-          (iff_false c.in_ok-touched.ensures.touched c.if-not-touched.true))),
+          (iff_false c.in_ok-touched.ensures.touched c.if-not-touched.true)),
+      c.known-2.ensures.first,
     )
 
 pub returns-clause-put : goal.returns-clause-put

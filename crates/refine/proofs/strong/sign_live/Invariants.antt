@@ -1,4 +1,4 @@
-use Rattle.std.proofs.Common.{ℕ, ◌<◌, ◌≤◌, IsTrue, false, length, slice_index, slice_index_or}
+use Rattle.std.proofs.Common.{ℕ, ◌<◌, ◌≤◌, length, slice_index}
 use Rattle.theory.specs.declared.relation.Relation.TheVariants.{Strong}
 use Rattle.lts.specs.Meter.{Costs}
 use Rattle.lts.specs.Lts.{before}
@@ -9,14 +9,11 @@ use Rattle.refine.proofs.strong.sign_live.Given as goal
 
 abbrev pub invariant-loop-i : goal.invariant-loop-i
 invariant-loop-i g l = record {
-  next : ℕ;
-  passed : (j : ℕ) → j < l.i → slice_index l.live j < next;
-  coming : (j : ℕ) → l.i ≤ j → j < length l.live → next ≤ slice_index l.live j;
-  within : next ≤ l.l.states;
+  coming : (j : ℕ) → l.i ≤ j → j < length l.live → l.next ≤ before (slice_index l.live j) l.l.places;
+  within : l.next ≤ length l.l.places;
   put : (j : ℕ) → j < l.i → (slice_index l.numbers (slice_index l.live j) < length l.lists)
-      × IsPut Strong l.l l.p l.low (IsTrue (slice_index_or l.alone (slice_index l.p (slice_index l.live j)) false)) (slice_index l.live j)
-      (list_at l.lists (slice_index l.numbers (slice_index l.live j)));
+      × IsPut Strong l.l l.of l.low (slice_index l.live j) (list_at l.lists (slice_index l.numbers (slice_index l.live j)));
   none : HaveNone l.live l.numbers;
   some : 1 ≤ length l.lists;
-  visits : Costs (g.M.Meter.counted l.fn.m) (g.M.Meter.counted l.m) 0 (before next l.l.places) (before next l.l.places);
+  visits : Costs (g.M.Meter.counted l.fn.m) (g.M.Meter.counted l.m) 0 l.next l.next;
 }

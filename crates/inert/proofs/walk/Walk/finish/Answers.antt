@@ -1,6 +1,24 @@
-use Rattle.std.proofs.Common.{◌≡◌, length, rules}
+use Rattle.std.proofs.Common.{◌≡◌, length, arith, rules}
+use Rattle.inert.proofs.parts.Stages.{seen_on}
 use Rattle.inert.proofs.invariant.Resting.{walk_rests}
 use Rattle.inert.proofs.walk.Walk.finish.Goals as goal
+
+pub loop-internal-preserved : goal.loop-internal-preserved
+loop-internal-preserved g c =
+    let inv = c.loop-internal.invariant in
+    let read = c.in_ok-read.ensures in
+    let back = c.in_ok-go_back.ensures in
+    let seen = seen_on read.on.seen back.on.seen in
+    record {
+      on = record { walks = back.on.walks; seen = seen_on inv.on.seen seen };
+      found = λ is. inv.found (seen.unseen c.args.s is);
+      visits = omega (arith, inv.visits, read.visits, back.ahead);
+      cost = record {
+        rounds = omega (arith, inv.cost.rounds, read.cost.rounds);
+        at_least = omega (arith, inv.cost.at_least, read.cost.at_least);
+        at_most = omega (arith, inv.visits, read.visits);
+      };
+    }
 
 pub returns-clause-rests : goal.returns-clause-rests
 returns-clause-rests g c =

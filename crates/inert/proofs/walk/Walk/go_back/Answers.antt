@@ -1,6 +1,6 @@
 use Rattle.std.proofs.Common.{◌≡◌, ◌≢◌, ◌∙◌, ℕ, ◌-◌, ◌<◌, ◌≤◌, List, length, take, ap, sym, subst, subst₂, arith}
 use Rattle.std.specs.Vec.{vec_len}
-use Rattle.inert.specs.Search.{Search, top, here, no_root, last, Frame}
+use Rattle.inert.specs.Search.{Search, top, here, no_root, last, AreThere, Frame}
 use Rattle.inert.specs.Moves.{GoesOn, Closes, popped, ahead}
 use Rattle.inert.proofs.parts.Rising.{last_read}
 use Rattle.inert.proofs.invariant.Standing.{roots_some, stack_some}
@@ -48,7 +48,7 @@ module _ (g : Over) (c : After-index-root g) where
     -- the component was finished
     module _ (same : c.index-root.result.now.height ≡ c.index-frame.result.now.height) {lists' : List (List (ℕ × ℕ))} {new : Search}
         (closes : Closes c.index-root.result.now c.args.lists.now lists' (left 1) new) where
-      closing : GoesOn c.args.l.now c.args.blocks.now c.args.alone.now lists' W new × (ahead c.args.l.now new ≡ ahead c.args.l.now W)
+      closing : GoesOn c.args.l.now c.args.blocks.now c.args.live.now lists' W new × (ahead c.args.l.now new ≡ ahead c.args.l.now W)
       closing =
           closed c.requires.way.walks c.requires.way.some c.requires.read c.laws.ensures c.known.ensures
           (ap (λ r. r.height) (sym root) ∙ same ∙ ap (λ x. x.height) frame) (subst₂ (λ r w. Closes r c.args.lists.now lists' w new) root (sym left) closes)
@@ -56,12 +56,15 @@ module _ (g : Over) (c : After-index-root g) where
 pub close-requires-clause-items : goal.close-requires-clause-items
 close-requires-clause-items g c = omega (arith, few g (goal.at.close-requires-clause-items g c).After-index-root, ap (λ w. length w.items) c.self.view_is)
 
+pub close-requires-clause-there : goal.close-requires-clause-there
+close-requires-clause-there g c = subst (λ w. AreThere c.args.lists.now w.items) (sym c.self.view_is) c.requires.way.walks.there
+
 pub returns-else-root-frame-clause-on : goal.returns-else-root-frame-clause-on
 returns-else-root-frame-clause-on g c =
     let d = (goal.at.returns-else-root-frame-clause-on g c).After-index-root in
     let apart : (last c.args.self.now.roots).height ≢ here c.args.self.now =
     λ e. c.if-root-frame.false (ap (λ r. r.height) (root g d) ∙ e ∙ ap (λ x. x.height) (sym (frame g d))) in
-    subst (GoesOn c.args.l.now c.args.blocks.now c.args.alone.now c.args.lists.now c.args.self.now) (left g d c.pop.ensures.rest)
+    subst (GoesOn c.args.l.now c.args.blocks.now c.args.live.now c.args.lists.now c.args.self.now) (left g d c.pop.ensures.rest)
     (popped_on c.requires.way.walks c.requires.way.some c.requires.read apart)
 
 pub returns-in_ok-close-clause-on : goal.returns-in_ok-close-clause-on

@@ -8,6 +8,7 @@ use Rattle.inert.specs.Search.{Search, frame_at, top, here, Frame}
 use Rattle.inert.specs.Moves.{TakesStep}
 use Rattle.inert.specs.declared.step.Step.{Step}
 use Rattle.inert.proofs.parts.Rising.{last_read}
+use Rattle.inert.proofs.parts.Stages.{open_inside}
 use Rattle.inert.proofs.invariant.Standing.{on_stack}
 use Rattle.inert.proofs.moves.Reading.{Reads, Stays, reads_none, read_all, place_below, still_there, read_more, stays_more, enters_more}
 use Rattle.inert.proofs.walk.Walk.read.Given.{Over}
@@ -27,16 +28,24 @@ module _ (g : Over) (c : After-index g) where
   end : c.index-frame.result.now.end ≡ (top c.args.self.now.frames).end
   end = ap (λ x. x.end) frame
 
-  block : slice_index c.args.blocks.now c.index.result.now ≡ slice_index c.args.blocks.now (slice_index c.args.self.now.stack (here c.args.self.now))
-  block =
+  state : c.index.result.now ≡ slice_index c.args.self.now.stack (here c.args.self.now)
+  state =
       let height = ap (λ x. x.height) frame in
       let low : c.index-frame.result.now.height < length c.self.inside.stack.items = omega (arith, on_stack c.requires.way.walks c.requires.way.some, height, ap (λ w. length w.stack) c.self.view_is) in
-      ap (slice_index c.args.blocks.now)
-      (get_or_read c.self.inside.stack.items c.index-frame.result.now.height c.index.result.now low c.index.ensures 0
-      ∙ ap (λ w. slice_index w.stack c.index-frame.result.now.height) c.self.view_is ∙ ap (slice_index c.args.self.now.stack) height)
+      get_or_read c.self.inside.stack.items c.index-frame.result.now.height c.index.result.now low c.index.ensures 0
+      ∙ ap (λ w. slice_index w.stack c.index-frame.result.now.height) c.self.view_is ∙ ap (slice_index c.args.self.now.stack) height
+
+  block : slice_index c.args.blocks.now c.index.result.now ≡ slice_index c.args.blocks.now (slice_index c.args.self.now.stack (here c.args.self.now))
+  block = ap (slice_index c.args.blocks.now) state
+
+pub bounds-blocks-index : goal.bounds-blocks-index
+bounds-blocks-index g c =
+    let walks = c.requires.way.walks in
+    let inside = open_inside c.args.self.now.stages c.args.self.now.stack walks.opened (here c.args.self.now) 0 (on_stack walks c.requires.way.some) in
+    omega (arith, state g (goal.at.bounds-blocks-index g c).After-index, inside, walks.numbers.size, c.requires.sees.size)
 
 -- one transition more is read
-module _ (g : Over) (d : After-index g) {w : Search} {k : ℕ} (reads : Reads d.args.l.now d.args.blocks.now d.args.alone.now d.args.lists.now d.args.self.now w k)
+module _ (g : Over) (d : After-index g) {w : Search} {k : ℕ} (reads : Reads d.args.l.now d.args.blocks.now d.args.live.now d.args.lists.now d.args.self.now w k)
     (stays : Stays d.args.self.now w) (more : k < d.index-frame.result.now.end) (step : Step)
     (is_step : IsStep d.args.l.now d.args.blocks.now (slice_index d.args.blocks.now d.index.result.now) (place_at d.args.l.now.places k) step)
     (m : Search) (enters : Bool) (takes : TakesStep d.args.l.now.places step w m enters) where
@@ -62,9 +71,9 @@ module _ (g : Over) (d : After-index g) {w : Search} {k : ℕ} (reads : Reads d.
     abbrev With : Search → Search
     With x = record x { frames = set x.frames i (record at { next = k + 1 }) }
 
-    after : Reads d.args.l.now d.args.blocks.now d.args.alone.now d.args.lists.now d.args.self.now (With inside) (k + 1)
+    after : Reads d.args.l.now d.args.blocks.now d.args.live.now d.args.lists.now d.args.self.now (With inside) (k + 1)
     after =
-        subst (λ (x : Search). Reads d.args.l.now d.args.blocks.now d.args.alone.now d.args.lists.now d.args.self.now (With x) (k + 1)) (sym same)
+        subst (λ (x : Search). Reads d.args.l.now d.args.blocks.now d.args.live.now d.args.lists.now d.args.self.now (With x) (k + 1)) (sym same)
         (read_more reads stays d.requires.way.some d.laws.ensures d.known.ensures more_left (slice_index d.args.blocks.now d.index.result.now) (block g d) step is_step m
         enters takes i (last g d) (record at { next = k + 1 }) moved)
 
@@ -84,7 +93,7 @@ pub loop-k-init : goal.loop-k-init
 loop-k-init g c =
     let next = ap (λ x. x.next) (frame g (goal.at.loop-k-init g c).After-index) in
     record {
-      reads = subst (Reads c.args.l.now c.args.blocks.now c.args.alone.now c.args.lists.now c.args.self.now c.args.self.now) (sym next) (reads_none c.requires.way);
+      reads = subst (Reads c.args.l.now c.args.blocks.now c.args.live.now c.args.lists.now c.args.self.now c.args.self.now) (sym next) (reads_none c.requires.way);
       stays = record { size = refl; stack = refl };
       cost = record { rounds = omega arith; at_least = omega (arith, next); at_most = omega arith };
     }

@@ -1,10 +1,10 @@
-use Rattle.std.proofs.Common.{◌≡◌, ◌∙◌, IsTrue, false, slice_index, slice_index_or, length, ap, sym, subst, inl, arith}
+use Rattle.std.proofs.Common.{◌≡◌, ◌∙◌, length, ap, sym, subst, inl, arith}
 use Rattle.std.proofs.lemmas.List.{length-map}
 use Rattle.lists.specs.Lists.{list_at}
 use Rattle.refine.specs.EachList.{list_of}
 use Rattle.inert.specs.Signed.{IsSignature}
 use Rattle.refine.specs.Settled.{IsPut}
-use Rattle.refine.proofs.Settling.{put_whole, none_alone}
+use Rattle.refine.proofs.Settling.{put_whole}
 use Rattle.refine.proofs.EachList.{signature_at-list}
 use Rattle.refine.proofs.signatures.Signatures.fill.Goals as goal
 
@@ -21,15 +21,13 @@ returns-clause-signed g c s ls =
     subst (IsSignature g.S.Sense.relation c.args.l.now c.args.p.now s)
     (sym (signature_at-list whole numbers s (omega (arith, ls, states, c.sign.ensures.states))
     ∙ ap (λ xs. list_of xs numbers s) (c.in_default-make_whole.ensures ∙ c.lists.ensures)))
-    (put_whole g.S.Sense.relation c.args.l.now c.args.p.now s (list_of c.sign.new.self.lists numbers s) _
-    (none_alone (slice_index c.args.p.now s))
-    (subst (λ alone. IsPut rel l p 0 (IsTrue (slice_index_or alone (slice_index p s) false)) s list) c.in_ok-blocks.ensures.count.1
-    (subst (λ low. IsPut rel l p low (IsTrue (slice_index_or c.in_ok-blocks.blocks.alone (slice_index p s) false)) s list) c.in_ok-blocks.ensures.count.0
-    (subst (λ of. IsPut rel l of c.in_ok-blocks.blocks.low (IsTrue (slice_index_or c.in_ok-blocks.blocks.alone (slice_index of s) false)) s list) c.in_ok-blocks.ensures.of
-    (c.in_default.ensures.signed s ls)))))
+    (put_whole rel l p s list
+    (subst (λ low. IsPut rel l p low s list) c.in_ok-blocks.ensures.low
+    (subst (λ of. IsPut rel l of c.in_ok-blocks.blocks.low s list) c.in_ok-blocks.ensures.of
+    (c.in_default.ensures.signed s (c.in_ok-blocks.ensures.live s (omega (arith, ls, c.requires.states)))))))
 
-pub sign-requires-clause-rows : goal.sign-requires-clause-rows
-sign-requires-clause-rows g c s h = inl (c.in_ok-blocks.ensures.live s (omega (arith, h, c.requires.states)))
+pub sign-requires-clause-others : goal.sign-requires-clause-others
+sign-requires-clause-others g c s h = inl (c.in_ok-blocks.ensures.live s (omega (arith, h, c.requires.states)))
 
 pub sign-requires-clause-none : goal.sign-requires-clause-none
 sign-requires-clause-none g c s h =

@@ -1,0 +1,95 @@
+-- The numbers of lists are put down one after the other, and the states put to rest.
+use Rattle.std.proofs.Common.{◌≡◌, ◌⊎◌, ◌∙◌, ℕ, ◌+◌, ◌<◌, ◌≤◌, List, length, slice_index, set, ap, sym, refl, inl, inr, arith}
+use Rattle.std.proofs.lemmas.Bool.{cases_eq, cases_lt}
+use Rattle.std.proofs.lemmas.List.{get_or-set_same, get_or-set_other, length-set}
+use Rattle.partition.specs.Blocks.{IsOne, AreLive}
+use Rattle.inert.specs.Search.{Stage, stage_at, AreAtRest, Unseen, Finished}
+
+-- those of the first i states that are looked at
+pub record NumberedUpTo (live : List ℕ) (first : List Stage) (old : List ℕ) (i : ℕ) (stages : List Stage) (numbers : List ℕ) : Type 0 where
+  pub size : length stages ≡ length first
+  pub sizes : length numbers ≡ length first
+  pub done : (j : ℕ) → j < i → stage_at stages (slice_index live j) ≡ Finished 0
+  pub ahead : (j : ℕ) → i ≤ j → j < length live → stage_at stages (slice_index live j) ≡ stage_at first (slice_index live j)
+  pub rest : AreAtRest live stages
+  pub live_have : (j : ℕ) → j < i → stage_at first (slice_index live j) ≡ Finished (slice_index numbers (slice_index live j))
+  pub others : (s : ℕ) → IsOne live s ⊎ (slice_index numbers s ≡ slice_index old s)
+
+-- before the first one
+pub numbered_none : (live : List ℕ) (first : List Stage) (old : List ℕ) → AreAtRest live first → length old ≡ length first → NumberedUpTo live first old 0 first old
+numbered_none live first old rest size = record {
+  size = refl;
+  sizes = size;
+  done = λ j h. absurd (omega (arith, h));
+  ahead = λ j low h. refl;
+  rest = rest;
+  live_have = λ j h. absurd (omega (arith, h));
+  others = λ s. inr refl;
+}
+
+module _ {live : List ℕ} {first : List Stage} {old : List ℕ} {i : ℕ} {stages : List Stage} {numbers : List ℕ} (up : NumberedUpTo live first old i stages numbers)
+    (rises : AreLive (length first) live) (more : i < length live) where
+  abbrev s : ℕ
+  s = slice_index live i
+
+  inside : s < length stages
+  inside = omega (arith, up.size, rises.below i more)
+
+  -- the next one has its list still
+  pub next_has : ((j : ℕ) → j < length live → (k : ℕ) × (stage_at first (slice_index live j) ≡ Finished k)) → (k : ℕ) × (stage_at stages s ≡ Finished k)
+  next_has finished = let h = finished i more in (h.0, up.ahead i (omega arith) more ∙ h.1)
+
+  -- and gets it
+  module _ (k : ℕ) (has : stage_at stages s ≡ Finished k) where
+    abbrev stages' : List Stage
+    stages' = set stages s (Finished 0)
+
+    abbrev numbers' : List ℕ
+    numbers' = set numbers s k
+
+    rested : stage_at stages' s ≡ Finished 0
+    rested = get_or-set_same stages s (Finished 0) Unseen inside
+
+    earlier : (j : ℕ) → j < i + 1 → ((j < i) × ¬ (slice_index live j ≡ s)) ⊎ (slice_index live j ≡ s)
+    earlier j h = elim (cases_lt j i) [
+      | inl low ↦ inl (low, λ e. let up = rises.rising j i low more in omega (arith, up, e))
+      | inr last ↦ inr (let here : j ≡ i = omega (arith, h, last) in ap (slice_index live) here)
+    ]
+
+    pub numbered_more : NumberedUpTo live first old (i + 1) stages' numbers'
+    numbered_more = record {
+      size = length-set stages s (Finished 0) ∙ up.size;
+      sizes = length-set numbers s k ∙ up.sizes;
+      done = λ j h. elim (earlier j h) [
+        | inl x ↦ get_or-set_other stages s (slice_index live j) (Finished 0) Unseen x.1 ∙ up.done j x.0
+        | inr e ↦ ap (stage_at stages') e ∙ rested
+      ];
+      ahead = λ j low h.
+          let apart : ¬ (slice_index live j ≡ s) = λ e. let up = rises.rising i j (omega (arith, low)) h in omega (arith, up, e) in
+          get_or-set_other stages s (slice_index live j) (Finished 0) Unseen apart ∙ up.ahead j (omega (arith, low)) h;
+      rest = λ t h. elim (cases_eq t s) [
+        | inl e ↦ inl (i, more, sym e)
+        | inr d ↦ elim (up.rest t (omega (arith, h, length-set stages s (Finished 0)))) [
+          | inl one ↦ inl one
+          | inr rest ↦ inr (get_or-set_other stages s t (Finished 0) Unseen d ∙ rest)
+        ]
+      ];
+      live_have = λ j h. elim (earlier j h) [
+        | inl x ↦ up.live_have j x.0 ∙ ap Finished (sym (get_or-set_other numbers s (slice_index live j) k 0 x.1))
+        | inr e ↦
+            let own : slice_index numbers' s ≡ k = get_or-set_same numbers s k 0 (omega (arith, inside, up.size, up.sizes)) in
+            ap (stage_at first) e ∙ sym (up.ahead i (omega arith) more) ∙ has ∙ ap Finished (sym (ap (slice_index numbers') e ∙ own))
+      ];
+      others = λ t. elim (cases_eq t s) [
+        | inl e ↦ inl (i, more, sym e)
+        | inr d ↦ elim (up.others t) [ inl one ↦ inl one | inr same ↦ inr (get_or-set_other numbers s t k 0 d ∙ same) ]
+      ];
+    }
+
+-- after the last one all are at rest
+pub numbered_all : {live : List ℕ} {first : List Stage} {old : List ℕ} {stages : List Stage} {numbers : List ℕ} → NumberedUpTo live first old (length live) stages numbers
+    → (s : ℕ) → s < length stages → stage_at stages s ≡ Finished 0
+numbered_all {stages = stages} up s h = elim (up.rest s h) [
+  | inl one ↦ ap (stage_at stages) (sym one.2) ∙ up.done one.0 one.1
+  | inr rest ↦ rest
+]
