@@ -14,6 +14,7 @@ pub mod RisingLists
 pub mod Tally
 pub mod Counting
 pub mod Turning
+pub mod Showing
 pub mod Determined
 pub mod BothRelations
 pub mod Leaders

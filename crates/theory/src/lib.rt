@@ -19,7 +19,10 @@ pub use fixpoint::{
     bisimilarity_is_an_equivalence, final_blocks_are_bisimilarity, refinement_goes_on,
     related_to_one_state_share, split_exists, turns_exist,
 };
-pub use inert::{inert_steps_lead_on, inert_steps_pass_signatures_back};
+pub use inert::{
+    inert_steps_lead_on, inert_steps_pass_signatures_back, inert_steps_stay,
+    states_without_inert_steps_show_all,
+};
 pub use laws::{bisimulations_survive, one_block_is_kept, splitting_keeps, stable_is_bisimulation};
 pub use minimal::{
     each_state_has_a_number, leaders_are_counted, leaders_differ, no_smaller_system,

@@ -6,17 +6,17 @@ use Rattle.lts.specs.Lts.{source_of, row_of, before, transition_of, IsTriple}
 use Rattle.lts.specs.Joining.{AddsShifted}
 use Rattle.lts.proofs.Rows.{before-next, before-zero, before-all, before-le}
 use Rattle.lts.proofs.Joining.{IsJoined-weaker, AddsShifted-nil, AddsShifted-row, length-AddsShifted, length-taken, row-fits}
-use Rattle.lts.proofs.disjoint.append.Given.{Over}
-use Rattle.lts.proofs.disjoint.append.Goals as goal
+use Rattle.lts.proofs.disjoint.Joined.append.Given.{Over}
+use Rattle.lts.proofs.disjoint.Joined.append.Goals as goal
 
 pub loop-state-init : goal.loop-state-init
 loop-state-init g c =
     let none = before-zero c.args.s.now.places in
     record {
-      joined = IsJoined-weaker c.args.labels.now c.args.shift (c.args.shift + c.args.s.now.states) c.args.e.now.items (omega arith) c.requires.joined;
+      joined = IsJoined-weaker c.args.self.now.labels c.args.shift (c.args.shift + c.args.s.now.states) c.args.self.now.triples.items (omega arith) c.requires.few_states c.requires.joined;
       added =
-          subst (λ n. AddsShifted c.args.shift (map (transition_of c.args.s.now.labels) (take n c.args.s.now.places)) c.args.labels.now c.args.e.now.items c.args.labels.now c.args.e.now.items)
-          (sym none) (AddsShifted-nil c.args.shift c.args.labels.now c.args.e.now.items);
+          subst (λ n. AddsShifted c.args.shift (map (transition_of c.args.s.now.labels) (take n c.args.s.now.places)) c.args.self.now.labels c.args.self.now.triples.items c.args.self.now.labels c.args.self.now.triples.items)
+          (sym none) (AddsShifted-nil c.args.shift c.args.self.now.labels c.args.self.now.triples.items);
       visits = search rules;
     }
 
@@ -26,8 +26,8 @@ append_row-requires-clause-few g c =
     let fits = row-fits c.loop-state.state places in
     let taken = length-taken c.args.s.now.labels (before c.loop-state.state places) places (before-le c.loop-state.state places) in
     let size = length-AddsShifted c.args.shift (map (transition_of c.args.s.now.labels) (take (before c.loop-state.state places) places))
-    c.args.labels.now c.loop-state.labels c.args.e.now.items c.loop-state.e.items c.loop-state.invariant.added in
-    let few : length c.loop-state.e.items + length (row_of c.loop-state.state places) ≤ MOST_TRANSITIONS = omega (arith, c.requires.few) in
+    c.args.self.now.labels c.loop-state.self.labels c.args.self.now.triples.items c.loop-state.self.triples.items c.loop-state.invariant.added in
+    let few : length c.loop-state.self.triples.items + length (row_of c.loop-state.state places) ≤ MOST_TRANSITIONS = omega (arith, c.requires.few) in
     few
 
 pub append_row-requires-clause-room : goal.append_row-requires-clause-room
@@ -43,7 +43,7 @@ loop-state-preserved g c =
       joined = c.in_ok-append_row.ensures.joined;
       added =
           AddsShifted-row c.args.shift c.args.s.now.labels c.args.s.now.places c.loop-state.state
-          c.args.labels.now c.loop-state.labels c.append_row.new.labels c.args.e.now.items c.loop-state.e.items c.append_row.new.e.items
+          c.args.self.now.labels c.loop-state.self.labels c.append_row.new.self.labels c.args.self.now.triples.items c.loop-state.self.triples.items c.append_row.new.self.triples.items
           c.states-state-end.ensures.lts.rising c.loop-state.invariant.added c.in_ok-append_row.ensures.added;
       visits = search rules;
     }
@@ -60,7 +60,7 @@ all g c =
 pub returns-clause-added : goal.returns-clause-added
 returns-clause-added g c =
     let s = c.args.s.now in
-    subst (λ l. AddsShifted c.args.shift (map (transition_of s.labels) l) c.args.labels.now c.args.e.now.items c.loop-state.labels c.loop-state.e.items)
+    subst (λ l. AddsShifted c.args.shift (map (transition_of s.labels) l) c.args.self.now.labels c.args.self.now.triples.items c.loop-state.self.labels c.loop-state.self.triples.items)
     (ap (λ n. take n s.places) (all g c) ∙ take_all (length s.places) s.places (omega arith)) c.loop-state.invariant.added
 
 pub returns-clause-visits : goal.returns-clause-visits
