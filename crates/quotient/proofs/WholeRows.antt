@@ -1,86 +1,31 @@
 -- A row that leaves nothing out shows what each row of its number does.
-use Rattle.std.proofs.Common.{◌≡◌, ◌∙◌, ◌↔◌, ℕ, ◌<◌, Bool, true, not, Option, List, [], ◌∷◌, length, map, slice_index, Contains, refl, sym, ap, subst, arith}
+use Rattle.std.proofs.Common.{◌≡◌, ◌∙◌, ◌↔◌, ℕ, ◌<◌, Bool, true, not, Option, List, length, map, slice_index, Contains, refl, sym, ap, subst, arith}
 use Rattle.std.specs.List.{filter}
 use Rattle.std.proofs.lemmas.List.{length-map}
 use Rattle.std.proofs.lemmas.List.Elements.{All-contains}
 use Rattle.std.proofs.lemmas.List.Filters.{length-filter_both}
-use Rattle.theory.specs.System.{System, IsSystem, Step, Reachable, internal}
+use Rattle.theory.specs.System.{System, Step, Reachable}
 use Rattle.theory.specs.Bisimulation.{Bisimilar}
 use Rattle.theory.specs.declared.relation.Relation.{Relation}
 use Rattle.theory.specs.declared.relation.Relation.TheVariants.{Strong, Branching}
-use Rattle.theory.specs.Blocks.{Signature, Stable, Share}
-use Rattle.theory.specs.Quotient.{IsDropped}
-use Rattle.theory.proofs.Paths.{step_below}
-use Rattle.theory.proofs.Refinement.{blocks_after, after_stable, final_share}
-use Rattle.theory.proofs.Turning.{turns_found}
+use Rattle.theory.specs.Quotient.{IsDropped, IsInert}
 use Rattle.lts.specs.Labels.{text_of}
 use Rattle.lts.specs.Lts.{Triple, source_of, label_of, target_of, row_of, transition_of, system_of, IsTriple, Grouped}
 use Rattle.quotient.specs.Reading.{IsDroppedLabel}
 use Rattle.quotient.specs.Numbers.{IsNumbering}
 use Rattle.quotient.specs.Triples.{IsMemberBelow, Member, between_numbers, is_left_out, shown_by, LeavesNothingOut, ShowsAlso}
 use Rattle.quotient.specs.declared.numbering.Numbering.{Numbering}
-use Rattle.quotient.proofs.Lists.{has_mapped, has_filtered}
+use Rattle.lts.proofs.CallerLemmas.{contains_mapped, contains_passing}
 use Rattle.quotient.proofs.Quotients.{Laws, AreEnough, left_out_is, goes_if}
 use Rattle.quotient.proofs.Rows.{ShownPlace, place_of, shown_place}
 
--- a step from s by a to t is left out: for branching, an internal one to a bisimilar state
-abbrev pub IsInert : Relation → System → ℕ → List ℕ → ℕ → Type 0
-IsInert Strong A s a t = ⊥
-IsInert Branching A s a t = (a ≡ internal) × Bisimilar Branching A s A t
-
--- a step of s by a to a state that is bisimilar to t
-abbrev pub Makes : Relation → System → ℕ → List ℕ → ℕ → Type 0
-Makes rel A s a t = (u : ℕ) × Step A s a u × Bisimilar rel A t A u
-
-module _ (A : System) (sys : IsSystem A) (blocks : ℕ → ℕ) where
-  strong_shown : ((s t : ℕ) → Share A blocks s t ↔ Bisimilar Strong A s A t) → Stable Strong A blocks →
-      (s t : ℕ) (a : List ℕ) (u : ℕ) → Bisimilar Strong A s A t → Step A t a u → Makes Strong A s a u
-  strong_shown is stable s t a u same step =
-      let share : Share A blocks s t = (is s t).1 same in
-      let found : Signature Strong A blocks s a (blocks u) = (stable s t share.0 share.1 share.2 a (blocks u)).1 (u, step, refl) in
-      let low = (step_below A sys t a u step).1 in
-      let ends = (step_below A sys s a found.0 found.1).1 in
-      (found.0, found.1, (is u found.0).0 (low, ends, sym found.2))
-
-  branching_shown : ((s t : ℕ) → Share A blocks s t ↔ Bisimilar Branching A s A t) → Stable Branching A blocks →
-      (s t : ℕ) (a : List ℕ) (u : ℕ) → Bisimilar Branching A s A t → ((b : List ℕ) (v : ℕ) → Step A s b v → ¬ IsInert Branching A s b v) →
-      Step A t a u → ¬ IsInert Branching A t a u → Makes Branching A s a u
-  branching_shown is stable s t a u same none step leaves =
-      let share : Share A blocks s t = (is s t).1 same in
-      let low = (step_below A sys t a u step).1 in
-      let can : Signature Branching A blocks t a (blocks u) =
-      (t, u, ([], refl), step, refl, λ inert. leaves (inert.0, (is t u).0 (share.1, low, sym inert.1))) in
-      go ((stable s t share.0 share.1 share.2 a (blocks u)).1 can)
-    where
-      go : Signature Branching A blocks s a (blocks u) → Makes Branching A s a u
-      go (x, v, ([], here), there, at, shows) =
-          let own : Step A s a v = subst (λ y. Step A y a v) (sym here) there in
-          let low = (step_below A sys t a u step).1 in
-          (v, own, (is u v).0 (low, (step_below A sys s a v own).1, sym at))
-      go (x, v, (w ∷ ws, way), there, at, shows) =
-          let first = step_below A sys s internal w way.0.0 in
-          absurd (none internal w way.0.0 (refl, (is s w).0 (first.0, first.1, sym way.0.1)))
-
--- a state with no step that is left out makes the steps of its class that are not
-pub all_made : (rel : Relation) (A : System) → IsSystem A → (s t : ℕ) (a : List ℕ) (u : ℕ) → Bisimilar rel A s A t →
-    ((b : List ℕ) (v : ℕ) → Step A s b v → ¬ IsInert rel A s b v) → Step A t a u → ¬ IsInert rel A t a u → Makes rel A s a u
-all_made rel A sys s t a u same none step leaves =
-    let turns = turns_found rel A sys in
-    let after = blocks_after rel A sys turns.0 in
-    go rel after.0 (final_share rel A sys turns.0 after.0 turns.1 after.1) (after_stable rel A sys turns.0 after.0 turns.1.last after.1) same none leaves
-  where
-    go : (r : Relation) (blocks : ℕ → ℕ) → ((x y : ℕ) → Share A blocks x y ↔ Bisimilar r A x A y) → Stable r A blocks → Bisimilar r A s A t →
-        ((b : List ℕ) (v : ℕ) → Step A s b v → ¬ IsInert r A s b v) → ¬ IsInert r A t a u → Makes r A s a u
-    go Strong blocks is stable same none leaves = strong_shown A sys blocks is stable s t a u same step
-    go Branching blocks is stable same none leaves = branching_shown A sys blocks is stable s t a u same none step leaves
-
--- a step between numbers is dropped exactly where the step of the states is left out
+-- a step between numbers is dropped exactly if the step of the states is inert
 dropped_is : (rel : Relation) (A : System) (labels : List (List ℕ)) (x : Triple) (s t : ℕ) (a : List ℕ) → text_of labels (label_of x) ≡ a →
     (source_of x ≡ target_of x) ↔ Bisimilar rel A s A t → IsDropped rel (transition_of labels x) ↔ IsInert rel A s a t
 dropped_is Strong A labels x s t a label same = (λ gone. absurd gone, λ gone. absurd gone)
 dropped_is Branching A labels x s t a label same = (λ h. (sym label ∙ h.0, same.0 h.1), λ h. (label ∙ h.0, same.1 h.1))
 
--- where a row shows as many transitions as it has, none is left out
+-- if a row shows as many transitions as it has, none is left out
 whole_row : (numbers : List ℕ) (dropped : Option ℕ) (places : List Triple) (s : ℕ) → LeavesNothingOut numbers dropped places s →
     (e : Triple) → Contains (row_of s places) e → ¬ (is_left_out dropped (between_numbers numbers s e) ≡ true)
 whole_row numbers dropped places s whole e c gone =
@@ -89,12 +34,12 @@ whole_row numbers dropped places s whole e c gone =
     let out = λ (x : Triple). is_left_out dropped x in
     let counts = length-filter_both out (λ x. not (out x)) (λ x. refl) triples in
     let none : length (filter out triples) ≡ 0 = omega (arith, counts, whole, length-map row (between_numbers numbers s)) in
-    let found = has_filtered out triples (between_numbers numbers s e) (has_mapped (between_numbers numbers s) row e c) gone in
+    let found = contains_passing out triples (between_numbers numbers s e) (contains_mapped (between_numbers numbers s) row e c) gone in
     absurd (omega (arith, none, found.1))
 
 module _ (rel : Relation) (g : Grouped) (n : Numbering) (laws : Laws rel g) (num : IsNumbering rel (system_of g) n)
     (sources : List Bool) (enough : AreEnough g n.numbers.items sources) (dropped : Option ℕ) (drops : IsDroppedLabel rel g.labels dropped) where
-  -- a place of a row is left out between numbers where its step is inert
+  -- a place of a row is left out between numbers exactly if its step is inert
   out_is : (s : ℕ) (e : Triple) → Reachable (system_of g) s → Contains (row_of s g.places) e →
       (is_left_out dropped (between_numbers n.numbers.items s e) ≡ true) ↔ IsInert rel (system_of g) s (text_of g.labels (label_of e)) (target_of e)
   out_is s e way c =
@@ -125,7 +70,7 @@ module _ (rel : Relation) (g : Grouped) (n : Numbering) (laws : Laws rel g) (num
       whole_row numbers dropped g.places s whole place.0 place.1
       ((out_is s place.0 ws place.1).1 (subst (λ y. IsInert rel A s y (target_of place.0)) (sym place.2) (subst (IsInert rel A s b) (sym place.3) inert))) in
       let alike = (laws.numbers.classes s t (slice_index numbers s) (slice_index numbers t) ws wt (num.number s ws) (num.number t wt)).0 same in
-      let made = all_made rel A laws.lts.system s t a (target_of e) alike none step (λ inert. stays ((out_is t e wt from.in_row).1 inert)) in
+      let made = laws.shows_all s t a (target_of e) alike none step (λ inert. stays ((out_is t e wt from.in_row).1 inert)) in
       let place = (laws.steps s a made.0).0 made.1 in
       let f = place.0 in
       let on = laws.reached_on t a (target_of e) wt step in
