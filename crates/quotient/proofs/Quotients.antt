@@ -10,7 +10,7 @@ use Rattle.theory.specs.System.{System, Transition, Step, Reachable, internal}
 use Rattle.theory.specs.Bisimulation.{Bisimilar}
 use Rattle.theory.specs.declared.relation.Relation.{Relation}
 use Rattle.theory.specs.declared.relation.Relation.TheVariants.{Strong, Branching}
-use Rattle.theory.specs.Quotient.{Fellow, Leader, IsLeader, Number, Stands, IsDropped, IsInert, Quotient}
+use Rattle.theory.specs.Quotient.{Fellow, Leader, IsLeader, Number, Stands, IsDropped, ShowsNothing, Quotient}
 use Rattle.lts.specs.Labels.{text_of, IsTable}
 use Rattle.lts.specs.Lts.{Triple, source_of, label_of, target_of, row_of, transition_of, system_from, system_of, grouped, IsGrouping, IsTriple, InRange, IsLts, Grouped}
 use Rattle.quotient.specs.Marked.{IsMarked}
@@ -68,8 +68,8 @@ pub record Laws (rel : Relation) (g : Grouped) : Type 0 where
   pub below : (s : ℕ) → Reachable (system_of g) s → s < g.states
   pub numbers : NumberLaws rel (system_of g)
   pub shows_all : (s t : ℕ) (a : List ℕ) (u : ℕ) → Bisimilar rel (system_of g) s (system_of g) t →
-      ((b : List ℕ) (v : ℕ) → Step (system_of g) s b v → ¬ IsInert rel (system_of g) s b v) →
-      Step (system_of g) t a u → ¬ IsInert rel (system_of g) t a u → (v : ℕ) × Step (system_of g) s a v × Bisimilar rel (system_of g) u (system_of g) v
+      ((b : List ℕ) (v : ℕ) → Step (system_of g) s b v → ¬ ShowsNothing rel (system_of g) s b v) →
+      Step (system_of g) t a u → ¬ ShowsNothing rel (system_of g) t a u → (v : ℕ) × Step (system_of g) s a v × Bisimilar rel (system_of g) u (system_of g) v
   pub sources : (s : ℕ) (es : List Triple) (e : Triple) → Contains (row_of s es) e ↔ (Contains es e × (source_of e ≡ s))
   pub steps : (s : ℕ) (a : List ℕ) (t : ℕ) → Step (system_of g) s a t ↔
       ((e : Triple) × Contains (row_of s g.places) e × (text_of g.labels (label_of e) ≡ a) × (target_of e ≡ t))

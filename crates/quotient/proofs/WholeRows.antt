@@ -8,7 +8,7 @@ use Rattle.theory.specs.System.{System, Step, Reachable}
 use Rattle.theory.specs.Bisimulation.{Bisimilar}
 use Rattle.theory.specs.declared.relation.Relation.{Relation}
 use Rattle.theory.specs.declared.relation.Relation.TheVariants.{Strong, Branching}
-use Rattle.theory.specs.Quotient.{IsDropped, IsInert}
+use Rattle.theory.specs.Quotient.{IsDropped, ShowsNothing}
 use Rattle.lts.specs.Labels.{text_of}
 use Rattle.lts.specs.Lts.{Triple, source_of, label_of, target_of, row_of, transition_of, system_of, IsTriple, Grouped}
 use Rattle.quotient.specs.Reading.{IsDroppedLabel}
@@ -21,7 +21,7 @@ use Rattle.quotient.proofs.Rows.{ShownPlace, place_of, shown_place}
 
 -- a step between numbers is dropped exactly if the step of the states is inert
 dropped_is : (rel : Relation) (A : System) (labels : List (List ℕ)) (x : Triple) (s t : ℕ) (a : List ℕ) → text_of labels (label_of x) ≡ a →
-    (source_of x ≡ target_of x) ↔ Bisimilar rel A s A t → IsDropped rel (transition_of labels x) ↔ IsInert rel A s a t
+    (source_of x ≡ target_of x) ↔ Bisimilar rel A s A t → IsDropped rel (transition_of labels x) ↔ ShowsNothing rel A s a t
 dropped_is Strong A labels x s t a label same = (λ gone. absurd gone, λ gone. absurd gone)
 dropped_is Branching A labels x s t a label same = (λ h. (sym label ∙ h.0, same.0 h.1), λ h. (label ∙ h.0, same.1 h.1))
 
@@ -41,7 +41,7 @@ module _ (rel : Relation) (g : Grouped) (n : Numbering) (laws : Laws rel g) (num
     (sources : List Bool) (enough : AreEnough g n.numbers.items sources) (dropped : Option ℕ) (drops : IsDroppedLabel rel g.labels dropped) where
   -- a place of a row is left out between numbers exactly if its step is inert
   out_is : (s : ℕ) (e : Triple) → Reachable (system_of g) s → Contains (row_of s g.places) e →
-      (is_left_out dropped (between_numbers n.numbers.items s e) ≡ true) ↔ IsInert rel (system_of g) s (text_of g.labels (label_of e)) (target_of e)
+      (is_left_out dropped (between_numbers n.numbers.items s e) ≡ true) ↔ ShowsNothing rel (system_of g) s (text_of g.labels (label_of e)) (target_of e)
   out_is s e way c =
       let A = system_of g in
       let x = between_numbers n.numbers.items s e in
@@ -65,10 +65,10 @@ module _ (rel : Relation) (g : Grouped) (n : Numbering) (laws : Laws rel g) (num
       let step = (laws.steps t a (target_of e)).1 (e, from.in_row, refl, refl) in
       let stays : ¬ (is_left_out dropped (between_numbers numbers t e) ≡ true) =
       λ out. goes_if (is_left_out dropped x) from.stays (ap (is_left_out dropped) (sym from.is) ∙ out) in
-      let none : (b : List ℕ) (v : ℕ) → Step A s b v → ¬ IsInert rel A s b v = λ b v own inert.
+      let none : (b : List ℕ) (v : ℕ) → Step A s b v → ¬ ShowsNothing rel A s b v = λ b v own inert.
       let place = (laws.steps s b v).0 own in
       whole_row numbers dropped g.places s whole place.0 place.1
-      ((out_is s place.0 ws place.1).1 (subst (λ y. IsInert rel A s y (target_of place.0)) (sym place.2) (subst (IsInert rel A s b) (sym place.3) inert))) in
+      ((out_is s place.0 ws place.1).1 (subst (λ y. ShowsNothing rel A s y (target_of place.0)) (sym place.2) (subst (ShowsNothing rel A s b) (sym place.3) inert))) in
       let alike = (laws.numbers.classes s t (slice_index numbers s) (slice_index numbers t) ws wt (num.number s ws) (num.number t wt)).0 same in
       let made = laws.shows_all s t a (target_of e) alike none step (λ inert. stays ((out_is t e wt from.in_row).1 inert)) in
       let place = (laws.steps s a made.0).0 made.1 in

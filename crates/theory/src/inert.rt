@@ -6,7 +6,7 @@ ghost use Rattle.theory.specs.Bisimulation.{Bisimilar};
 ghost use Rattle.theory.specs.declared.relation.Relation.{Relation};
 ghost use Rattle.theory.specs.declared.relation.Relation.TheVariants.{Branching};
 ghost use Rattle.theory.specs.Blocks.{Inert, Signature, SameSignature};
-ghost use Rattle.theory.specs.Quotient.{IsInert};
+ghost use Rattle.theory.specs.Quotient.{ShowsNothing};
 
 /// A path of inert steps may be empty, and may be extended at either end.
 pub fn inert_steps_lead_on()
@@ -52,6 +52,6 @@ pub fn inert_steps_pass_signatures_back()
 /// A state with no inert step makes each step of a bisimilar state that is not inert.
 pub fn states_without_inert_steps_show_all()
     ensures { (rel : Relation) (A : System) (s t : ℕ) (a : List ℕ) (u : ℕ) → IsSystem A → Bisimilar rel A s A t →
-        ((b : List ℕ) (v : ℕ) → Step A s b v → ¬ IsInert rel A s b v) →
-        Step A t a u → ¬ IsInert rel A t a u → (v : ℕ) × Step A s a v × Bisimilar rel A u A v }
+        ((b : List ℕ) (v : ℕ) → Step A s b v → ¬ ShowsNothing rel A s b v) →
+        Step A t a u → ¬ ShowsNothing rel A t a u → (v : ℕ) × Step A s a v × Bisimilar rel A u A v }
 {}
