@@ -1,8 +1,9 @@
 -- What a filter and a map have.
-use Rattle.std.proofs.Common.{◌≡◌, ◌⊎◌, Bool, true, false, cond, List, [], ◌∷◌, map, filter, Contains, refl, sym, ap, ◌∙◌, subst, inl, inr, arith}
+use Rattle.std.proofs.Common.{◌≡◌, Bool, true, false, cond, List, [], ◌∷◌, map, filter, Contains, refl, sym, ap, ◌∙◌, subst, inl, inr, arith}
 use Rattle.std.proofs.lemmas.Bool.{true≢false}
 use Rattle.std.proofs.lemmas.List.{length-map, get_or-map}
-use Rattle.std.proofs.lemmas.List.Elements.{All-contains, All-contains_itself, All-weaker, All-map, All-filter, filter_passes, Contains-push, Contains-push_cases, Contains-append_left, Contains-append_right, Contains-append_cases}
+use Rattle.std.proofs.lemmas.List.Elements.{All-contains, All-contains_itself, All-weaker, All-map, All-filter, filter_passes}
+use Rattle.theory.proofs.CallerLemmas.{contains_here, contains_there, contains_cases, contains_none}
 
 -- a map has the images
 pub contains_mapped : {X Y : Type 0} (f : X → Y) (xs : List X) (x : X) → Contains xs x → Contains (map f xs) (f x)
@@ -15,21 +16,15 @@ mapped_contains {X} {Y} f xs y c =
 
 -- a filter has what passes
 pub contains_passing : {X : Type 0} (p : X → Bool) (xs : List X) (x : X) → Contains xs x → p x ≡ true → Contains (filter p xs) x
-contains_passing p [] x c h = absurd (omega (arith, c.1))
+contains_passing p [] x c h = absurd (contains_none x c)
 contains_passing p (y ∷ xs) x c h = go (λ d. contains_passing p xs x d h) (p y) refl
   where
-    here_or_there : (y ≡ x) ⊎ Contains xs x
-    here_or_there = elim (Contains-append_cases (y ∷ []) xs x c) [
-      | inl one ↦ elim (Contains-push_cases [] y x one) [ inl none ↦ absurd (omega (arith, none.1)) | inr e ↦ inl e ]
-      | inr d ↦ inr d
-    ]
-
     go : (Contains xs x → Contains (filter p xs) x) → (v : Bool) → p y ≡ v → Contains (cond v (y ∷ filter p xs) (filter p xs)) x
-    go rest true e = elim here_or_there [
-      | inl f ↦ subst (Contains (y ∷ filter p xs)) f (Contains-append_left (y ∷ []) (filter p xs) y (Contains-push [] y))
-      | inr d ↦ Contains-append_right (y ∷ []) (filter p xs) x (rest d)
+    go rest true e = elim (contains_cases y xs x c) [
+      | inl f ↦ subst (Contains (y ∷ filter p xs)) f (contains_here y (filter p xs))
+      | inr d ↦ contains_there y (filter p xs) x (rest d)
     ]
-    go rest false e = elim here_or_there [
+    go rest false e = elim (contains_cases y xs x c) [
       | inl f ↦ absurd (true≢false (sym h ∙ (ap p (sym f) ∙ e)))
       | inr d ↦ rest d
     ]

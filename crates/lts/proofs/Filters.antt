@@ -16,7 +16,7 @@ length-cond false x xs = omega arith
 pub length-filter-cons : {X : Type 0} (p : X → Bool) (x : X) (xs : List X) → length (filter p (x ∷ xs)) ≡ ones (p x) + length (filter p xs)
 length-filter-cons p x xs = length-cond (p x) x (filter p xs)
 
--- a test that passes where one of two does keeps as many as both
+-- a test that passes what one of two does keeps as many as both
 pub length-filter-sum : {X : Type 0} (p q r : X → Bool) → ((x : X) → ones (p x) ≡ ones (q x) + ones (r x)) → (xs : List X) →
     length (filter p xs) ≡ length (filter q xs) + length (filter r xs)
 length-filter-sum p q r h [] = omega arith

@@ -7,6 +7,7 @@ use Rattle.std.proofs.lemmas.List.{length-append, length-map, length_push, appen
 use Rattle.std.proofs.lemmas.List.Elements.{All-map, All-head, All-tail, All-push, All-weaker, Contains-push, Contains-append_left}
 use Rattle.theory.specs.System.{System, Transition, IsAmong}
 use Rattle.theory.specs.Union.{shifted, union_of}
+use Rattle.lts.specs.declared.limits.TheConstants.{MOST_STATES}
 use Rattle.lts.specs.Labels.{text_of, IsNumber, IsTable, Keeps, Interns}
 use Rattle.lts.specs.Lts.{Triple, source_of, label_of, target_of, row_of, before, place_at, transition_of, system_of, grouped, IsTriple, IsRow, IsLts, IsCarried, Grouped}
 use Rattle.lts.specs.Joining.{IsJoined, AddsShifted}
@@ -20,8 +21,9 @@ IsTriple-weaker labels labels' states states' l s e h =
     let c = h.target in
     record { source = omega arith; label = omega arith; target = omega arith }
 
-pub IsJoined-weaker : (labels : List (List ℕ)) (states states' : ℕ) (es : List Triple) → states ≤ states' → IsJoined labels states es → IsJoined labels states' es
-IsJoined-weaker labels states states' es h g = record {
+pub IsJoined-weaker : (labels : List (List ℕ)) (states states' : ℕ) (es : List Triple) → states ≤ states' → states' ≤ MOST_STATES → IsJoined labels states es → IsJoined labels states' es
+IsJoined-weaker labels states states' es h few g = record {
+  few_states = few;
   each =
       All-weaker (IsTriple (length labels) states) (IsTriple (length labels) states')
       (IsTriple-weaker (length labels) (length labels) states states' (omega arith) h) es g.each;
@@ -60,6 +62,7 @@ module _ (old new : List (List ℕ)) (states : ℕ) (es : List Triple) (e : Trip
 
   pub IsJoined-push : source_of e < states → target_of e < states → IsJoined new states (es ++ e ∷ [])
   IsJoined-push source target = record {
+    few_states = g.few_states;
     each =
         All-push (IsTriple (length new) states) es e
         (All-weaker (IsTriple (length old) states) (IsTriple (length new) states)
@@ -116,7 +119,8 @@ AddsShifted-place shift labels places s start end k l0 l1 l2 e0 e1 e2 r low high
     (sym (ap (map f) (row-more places s start end k r low high) ∙ map_push f part (place_at places k)))
     (AddsShifted-more shift (map f part) (f (place_at places k) ∷ []) l0 l1 l2 e0 e1 e2 a b)
 
-take-split : (i j : ℕ) (xs : List Triple) → i ≤ j → take j xs ≡ take i xs ++ take (j - i) (drop i xs)
+-- the front up to j is that up to i, and what is between
+pub take-split : {X : Type 0} (i j : ℕ) (xs : List X) → i ≤ j → take j xs ≡ take i xs ++ take (j - i) (drop i xs)
 take-split i j xs h =
     let e : i + (j - i) ≡ j = omega arith in
     sym (take-append-drop i (take j xs)) ∙ ap (λ l. l ++ drop i (take j xs)) (take-take i j xs h)

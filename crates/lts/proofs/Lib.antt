@@ -1,3 +1,4 @@
+pub mod CallerLemmas
 pub mod Table
 pub mod Contained
 pub mod Filters

@@ -42,7 +42,7 @@ IsNumber-position labels a k e =
 pub Contains-IsNumber : (labels : List (List ℕ)) (k : ℕ) (a : List ℕ) → IsNumber labels k a → Contains labels a
 Contains-IsNumber labels k a n = subst (λ t. Contains labels t) n.text (Contains-get_or labels k [] n.below)
 
--- the texts stay different where a new one goes last
+-- the texts stay different if a new one is appended
 module _ (labels : List (List ℕ)) (a : List ℕ) (new : ¬ Contains labels a) where
   text_of-old : (k : ℕ) → k < length labels → text_of (labels ++ a ∷ []) k ≡ text_of labels k
   text_of-old k h = get_or_append_left labels (a ∷ []) [] k h

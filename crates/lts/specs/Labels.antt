@@ -24,6 +24,6 @@ pub record Keeps (old new : List (List ℕ)) : Type 0 where
   pub longer : length old ≤ length new
   pub texts : (k : ℕ) → k < length old → text_of new k ≡ text_of old k
 
--- the table after the label a is put in: as it was where it has a, and else with a at the end
+-- the table after the label a is interned: as it was if it has a, else with a appended
 abbrev pub Interns : List (List ℕ) → List ℕ → List (List ℕ) → Type 0
 Interns old a new = (Contains old a × (new ≡ old)) ⊎ (¬ Contains old a × (new ≡ old ++ a ∷ []))

@@ -22,111 +22,112 @@ pub fn fits_together<M: Meter>(a: &Lts<M>, b: &Lts<M>) -> bool
 
 /// The system of `a` followed by `b`, whose states are shifted by those of `a`. Labels are joined by their bytes, and
 /// the table has only labels that transitions carry. Each transition of both is visited once.
-///
-/// Fails when there is no memory for it.
 pub fn union<M: Meter>(alloc: Global, a: &Lts<M>, b: &Lts<M>, m: &mut M) -> Result<Lts<M>, Memory>
     requires fit { FitTogether a.now b.now }
     requires room { HasRoomFor (M.counted m.old) 0 (length a.now.places + length b.now.places) }
 
-    // Ok: the union, and its table.
+    // On success: the union, and its table.
     ensures system { IfOk result (λ u. system_of u ≡ union_of (system_of a.now) (system_of b.now)) }
     ensures labels { IfOk result (λ u. (k : ℕ) → k < length u.labels → IsCarried u k) }
 
-    // Ok: as many visits as transitions. Err: no more than these.
+    // On success as many visits as transitions, on failure no more than these.
     ensures visits { let n = length a.now.places + length b.now.places in Visits M.counted m.old m.new result n n }
 {
-    let mut labels = Labels::new(alloc);
-    let mut e = Vec::with_capacity(alloc, (a.edges() + b.edges()) as usize)?;
-    append(a, 0, &mut labels, &mut e, m)?;
-    append(b, a.states(), &mut labels, &mut e, m)?;
-    Lts::build(alloc, labels, a.first(), a.states() + b.states(), e)
+    let mut joined = Joined {
+        labels: Labels::new(alloc),
+        triples: Vec::with_capacity(alloc, (a.edges() + b.edges()) as usize)?,
+    };
+    joined.append(a, 0, m)?;
+    joined.append(b, a.states(), m)?;
+    let Joined { labels, triples } = joined;
+    Lts::build(alloc, labels, a.first(), a.states() + b.states(), triples)
 }
 
-/// Puts all transitions of `s` at the end of the triples, their states shifted and their labels in the table.
-fn append<M: Meter>(
-    s: &Lts<M>,
-    shift: u32,
-    labels: &mut Labels,
-    e: &mut Vec<(u32, u32, u32)>,
-    m: &mut M,
-) -> Result<(), Memory>
-    requires few_states { shift + s.now.states ≤ MOST_STATES }
-    requires few { length e.old.items + length s.now.places ≤ MOST_TRANSITIONS }
-    requires joined { IsJoined labels.old shift e.old.items }
-    requires room { HasRoomFor (M.counted m.old) 0 (length s.now.places) }
+/// What was joined so far: triples, and a table of the labels that they carry.
+#[derive(Drop)]
+struct Joined {
+    labels: Labels,
+    triples: Vec<(u32, u32, u32)>,
+}
 
-    // Ok: the triples are joined, and stand for the transitions of `s` too.
-    ensures joined { OnOk result (IsJoined labels.new (shift + s.now.states) e.new.items) }
-    ensures added { OnOk result (
-        AddsShifted shift (system_of s.now).transitions labels.old e.old.items labels.new e.new.items) }
+impl Joined {
+    /// Appends all transitions of `s`, their states shifted.
+    fn append<M: Meter>(&mut self, s: &Lts<M>, shift: u32, m: &mut M) -> Result<(), Memory>
+        requires few_states { shift + s.now.states ≤ MOST_STATES }
+        requires few { length self.old.triples.items + length s.now.places ≤ MOST_TRANSITIONS }
+        requires joined { IsJoined self.old.labels shift self.old.triples.items }
+        requires room { HasRoomFor (M.counted m.old) 0 (length s.now.places) }
 
-    // Ok: as many visits as transitions of `s`. Err: no more than these.
-    ensures visits { let n = length s.now.places in Visits M.counted m.old m.new result n n }
-{
-    for state in 0..s.states() {
-        append_row(s, state, shift, labels, e, m)?;
+        // On success the triples are joined, and stand for the transitions of `s` too.
+        ensures joined { OnOk result (IsJoined self.new.labels (shift + s.now.states) self.new.triples.items) }
+        ensures added { let all = (system_of s.now).transitions in
+            OnOk result (AddsShifted shift all self.old.labels self.old.triples.items self.new.labels self.new.triples.items) }
+
+        // On success as many visits as transitions of `s`, on failure no more than these.
+        ensures visits { let n = length s.now.places in Visits M.counted m.old m.new result n n }
+    {
+        for state in 0..s.states() {
+            self.append_row(s, state, shift, m)?;
+        }
+        Ok(())
     }
-    Ok(())
-}
 
-/// Puts the transitions of one state of `s` at the end of the triples.
-fn append_row<M: Meter>(
-    s: &Lts<M>,
-    state: u32,
-    shift: u32,
-    labels: &mut Labels,
-    e: &mut Vec<(u32, u32, u32)>,
-    m: &mut M,
-) -> Result<(), Memory>
-    requires state { state < s.now.states }
-    requires few_states { shift + s.now.states ≤ MOST_STATES }
-    requires few { length e.old.items + length (row_of state s.now.places) ≤ MOST_TRANSITIONS }
-    requires joined { IsJoined labels.old (shift + s.now.states) e.old.items }
-    requires room { HasRoomFor (M.counted m.old) 0 (length (row_of state s.now.places)) }
+    /// Appends the transitions of one state of `s`.
+    fn append_row<M: Meter>(
+        &mut self,
+        s: &Lts<M>,
+        state: u32,
+        shift: u32,
+        m: &mut M,
+    ) -> Result<(), Memory>
+        requires state { state < s.now.states }
+        requires few { length self.old.triples.items + length (row_of state s.now.places) ≤ MOST_TRANSITIONS }
+        requires joined { IsJoined self.old.labels (shift + s.now.states) self.old.triples.items }
+        requires room { HasRoomFor (M.counted m.old) 0 (length (row_of state s.now.places)) }
 
-    // Ok: the triples are joined, and stand for the row too.
-    ensures joined { OnOk result (IsJoined labels.new (shift + s.now.states) e.new.items) }
-    ensures added { let row = map (transition_of s.now.labels) (row_of state s.now.places) in
-        OnOk result (AddsShifted shift row labels.old e.old.items labels.new e.new.items) }
+        // On success the triples are joined, and stand for the row too.
+        ensures joined { OnOk result (IsJoined self.new.labels (shift + s.now.states) self.new.triples.items) }
+        ensures added { let row = map (transition_of s.now.labels) (row_of state s.now.places) in
+            OnOk result (AddsShifted shift row self.old.labels self.old.triples.items self.new.labels self.new.triples.items) }
 
-    // Ok: as many visits as transitions of the row. Err: no more than these.
-    ensures visits { let n = length (row_of state s.now.places) in Visits M.counted m.old m.new result n n }
-{
-    let (start, end) = s.row(state);
-    for k in start..end {
-        append_place(s, state, k, shift, labels, e, m)?;
+        // On success as many visits as transitions of the row, on failure no more than these.
+        ensures visits { let n = length (row_of state s.now.places) in Visits M.counted m.old m.new result n n }
+    {
+        let (start, end) = s.row(state);
+        for k in start..end {
+            self.append_place(s, state, k, shift, m)?;
+        }
+        Ok(())
     }
-    Ok(())
-}
 
-/// Puts the transition in place `k` of `s`, which starts at `state`, at the end of the triples.
-fn append_place<M: Meter>(
-    s: &Lts<M>,
-    state: u32,
-    k: u32,
-    shift: u32,
-    labels: &mut Labels,
-    e: &mut Vec<(u32, u32, u32)>,
-    m: &mut M,
-) -> Result<(), Memory>
-    requires place { k < length s.now.places }
-    requires state { state ≡ source_of (place_at s.now.places k) }
-    requires few_states { shift + s.now.states ≤ MOST_STATES }
-    requires few { length e.old.items < MOST_TRANSITIONS }
-    requires joined { IsJoined labels.old (shift + s.now.states) e.old.items }
-    requires room { HasRoomFor (M.counted m.old) 0 1 }
+    /// Appends the transition in place `k` of `s`, which starts at `state`.
+    fn append_place<M: Meter>(
+        &mut self,
+        s: &Lts<M>,
+        state: u32,
+        k: u32,
+        shift: u32,
+        m: &mut M,
+    ) -> Result<(), Memory>
+        requires place { k < length s.now.places }
+        requires state { state ≡ source_of (place_at s.now.places k) }
+        requires few { length self.old.triples.items < MOST_TRANSITIONS }
+        requires joined { IsJoined self.old.labels (shift + s.now.states) self.old.triples.items }
+        requires room { HasRoomFor (M.counted m.old) 0 1 }
 
-    // Ok: the triples are joined, and stand for this transition too.
-    ensures joined { OnOk result (IsJoined labels.new (shift + s.now.states) e.new.items) }
-    ensures added { let one = transition_of s.now.labels (place_at s.now.places k) ∷ [] in
-        OnOk result (AddsShifted shift one labels.old e.old.items labels.new e.new.items) }
+        // On success the triples are joined, and stand for this transition too.
+        ensures joined { OnOk result (IsJoined self.new.labels (shift + s.now.states) self.new.triples.items) }
+        ensures added { let one = transition_of s.now.labels (place_at s.now.places k) ∷ [] in
+            OnOk result (AddsShifted shift one self.old.labels self.old.triples.items self.new.labels self.new.triples.items) }
 
-    // Whatever the outcome: one visit.
-    ensures visit { Costs (M.counted m.old) (M.counted m.new) 0 1 1 }
-{
-    s.known();
-    let (label, target) = s.edge(k, m);
-    let number = labels.intern(s.labels().text(label))?;
-    e.push((shift + state, number, shift + target))?;
-    Ok(())
+        // In either case: one visit.
+        ensures visit { Costs (M.counted m.old) (M.counted m.new) 0 1 1 }
+    {
+        s.known();
+        let (label, target) = s.edge(k, m);
+        let number = self.labels.intern(s.labels().text(label))?;
+        let e = &mut self.triples;
+        e.push((shift + state, number, shift + target))?;
+        Ok(())
+    }
 }

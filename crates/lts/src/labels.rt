@@ -59,21 +59,20 @@ impl Labels {
         let _ = &self.texts;
     }
 
-    /// The number of the label with these bytes, which goes last if the table lacks it.
-    ///
-    /// Fails when there is no memory to put it in; the table is then as it was.
+    /// The number of the label with these bytes, which is appended if the table lacks it. After a failure the table is as it
+    /// was.
     pub fn intern(&mut self, b: &[u8]) -> Result<u32, Memory>
         requires label { IsLabel b.now }
         requires room { length self.old < MOST_LABELS }
 
-        // Ok: the number, in a table that has grown by this label at most.
+        // On success: the number, in a table that has grown by this label at most.
         ensures number { IfOk result (λ k. IsNumber self.new k b.now) }
         ensures table { OnOk result (Interns self.old b.now self.new) }
 
-        // Err: the table is as it was.
+        // On failure the table is as it was.
         ensures err { OnErr result (self.new ≡ self.old) }
 
-        // Whatever the outcome.
+        // In either case.
         ensures keeps { Keeps self.old self.new }
         ensures is_table { IsTable self.new }
     {

@@ -65,8 +65,6 @@ impl<M: Meter> Model for Lts<M> {
 
 impl<M: Meter> Lts<M> {
     /// The system of these parts, its triples (source, label number, target) grouped by source.
-    ///
-    /// Fails when there is no memory for it.
     pub fn build(
         alloc: Global,
         l: Labels,
@@ -76,13 +74,13 @@ impl<M: Meter> Lts<M> {
     ) -> Result<Lts<M>, Memory>
         requires { InRange (length l) first states e.items }
 
-        // Ok: the parts, with the transitions in their places.
+        // On success: the parts, with the transitions in their places.
         ensures first { IfOk result (λ s. s.first ≡ first) }
         ensures states { IfOk result (λ s. s.states ≡ states) }
         ensures labels { IfOk result (λ s. s.labels ≡ l) }
         ensures places { IfOk result (λ s. s.places ≡ grouped states e.items) }
 
-        // Ok: what follows of the order of the places, and of the system.
+        // On success: what follows of the order of the places, and of the system.
         ensures grouping { IfOk result (λ s. IsGrouping e.items s.places) }
         ensures system { IfOk result (λ s. Groups (system_from first states l e.items) (system_of s)) }
     {
@@ -113,7 +111,7 @@ impl<M: Meter> Lts<M> {
         self.states
     }
 
-    /// How many transitions there are: at most `MOST_TRANSITIONS`. Each one counts, also where the same stands twice.
+    /// How many transitions there are: at most `MOST_TRANSITIONS`. Repeats count too.
     pub fn edges(&self) -> u32
         ensures value { result ≡ length self.now.places }
         ensures lts { IsLts self.now }

@@ -8,8 +8,9 @@ use Rattle.theory.specs.declared.relation.Relation.{Relation}
 use Rattle.theory.specs.Blocks.{EachTwo}
 use Rattle.theory.specs.Quotient.{HowMany, Leader, IsLeader, Number}
 use Rattle.quotient.specs.Marked.{IsMarked}
-use Rattle.quotient.specs.Numbers.{IsNumbering, BeginsClass, JoinsClass, TakesState, none}
+use Rattle.quotient.specs.Numbers.{IsNumbering, BeginsClass, JoinsClass, TakesState}
 use Rattle.quotient.specs.declared.numbering.Numbering.{Numbering}
+use Rattle.quotient.specs.declared.numbering.TheConstants.{NONE}
 use Rattle.quotient.proofs.Lists.{each_pushed}
 
 -- what the next state leaves, whatever the relation: numbers for as many blocks, and at most one number more
@@ -43,26 +44,25 @@ pub record Laws (rel : Relation) (A : System) (block : ℕ → ℕ) : Type 0 whe
   pub classes : (s t m n : ℕ) → Reachable A s → Reachable A t → Number rel A s m → Number rel A t n → (m ≡ n) ↔ Bisimilar rel A s A t
   pub counting : CountingLaws rel A
 
--- a reachable state of the block of t below s, or the first state, has the number k
-pub record Earlier (rel : Relation) (A : System) (block : ℕ → ℕ) (s t k : ℕ) : Type 0 where
+-- a reachable state of the block of t below s, or the first state, has the number k, which is below the count
+pub record Earlier (rel : Relation) (A : System) (block : ℕ → ℕ) (s t count k : ℕ) : Type 0 where
   pub member : ℕ
   pub reached : Reachable A member
   pub early : (member < s) ⊎ (member ≡ A.first)
   pub fellow : block member ≡ block t
   pub number : Number rel A member k
+  pub below : k < count
 
 -- the states below s have their numbers, and the blocks of those that are reachable
 pub record Taken (rel : Relation) (A : System) (block : ℕ → ℕ) (s : ℕ) (n : Numbering) : Type 0 where
   pub numbers_long : length n.numbers.items ≡ s
   pub leads_long : length n.leads.items ≡ s
   pub within : (t : ℕ) → t < A.states → block t < length n.by_block.items
-  pub first : slice_index n.by_block.items (block A.first) ≢ none
-  pub seen : (t : ℕ) → t < s → Reachable A t → slice_index n.by_block.items (block t) ≢ none
-  pub known : (t : ℕ) → t < A.states → slice_index n.by_block.items (block t) ≢ none →
-      Earlier rel A block s t (slice_index n.by_block.items (block t))
-  pub numbers : (t : ℕ) → t < s → Reachable A t → Number rel A t (slice_index n.numbers.items t)
-  pub known_below : (t : ℕ) → t < A.states → slice_index n.by_block.items (block t) ≢ none → slice_index n.by_block.items (block t) < n.count
-  pub below : (t : ℕ) → t < s → Reachable A t → slice_index n.numbers.items t < n.count
+  pub first : slice_index n.by_block.items (block A.first) ≢ NONE
+  pub seen : (t : ℕ) → t < s → Reachable A t → slice_index n.by_block.items (block t) ≢ NONE
+  pub known : (t : ℕ) → t < A.states → slice_index n.by_block.items (block t) ≢ NONE →
+      Earlier rel A block s t n.count (slice_index n.by_block.items (block t))
+  pub numbers : (t : ℕ) → t < s → Reachable A t → Number rel A t (slice_index n.numbers.items t) × (slice_index n.numbers.items t < n.count)
   pub leaders : (t : ℕ) → t < s → IsMarked n.leads.items t ↔ IsLeader rel A t
   pub counted : (c : ℕ) × HowMany (Other rel A s) c × (n.count ≡ 1 + c)
   pub few : n.count ≤ s + 1
@@ -108,9 +108,9 @@ module _ (rel : Relation) (A : System) (block : ℕ → ℕ) (laws : Laws rel A 
   other_reached s (t, way, inr (apart, least)) other = least.0.0
 
   -- a state with an earlier one in its block is no leader, unless it is the first state
-  not_other : (s k : ℕ) → s < A.states → Earlier rel A block s s k → ¬ (IsLeader rel A s × (s ≢ A.first))
-  not_other s k ls e ((t, way, inl (b, f)), other) = other f
-  not_other s k ls e ((t, way, inr (apart, (fellow, least))), other) =
+  not_other : (s count k : ℕ) → s < A.states → Earlier rel A block s s count k → ¬ (IsLeader rel A s × (s ≢ A.first))
+  not_other s count k ls e ((t, way, inl (b, f)), other) = other f
+  not_other s count k ls e ((t, way, inr (apart, (fellow, least))), other) =
       let lt : t < A.states = laws.below t way in
       let lu : e.member < A.states = laws.below e.member e.reached in
       let to : block t ≡ block e.member = share t s lt ls fellow.1 ∙ sym e.fellow in
@@ -119,13 +119,14 @@ module _ (rel : Relation) (A : System) (block : ℕ → ℕ) (laws : Laws rel A 
         | inr f ↦ apart (bisimilar t A.first lt laws.first (to ∙ ap block f))
       ]
 
-  earlier_on : (s t k : ℕ) → Earlier rel A block s t k → Earlier rel A block (s + 1) t k
-  earlier_on s t k e = record {
+  earlier_on : (s t k count more : ℕ) → count ≤ more → Earlier rel A block s t count k → Earlier rel A block (s + 1) t more k
+  earlier_on s t k count more up e = record {
     member = e.member;
     reached = e.reached;
     early = elim e.early [ inl l ↦ inl (omega (arith, l)) | inr f ↦ inr f ];
     fellow = e.fellow;
     number = e.number;
+    below = omega (arith, up, e.below);
   }
 
   -- the state s has an earlier one in its block
@@ -134,7 +135,7 @@ module _ (rel : Relation) (A : System) (block : ℕ → ℕ) (laws : Laws rel A 
     follows_not_other : ¬ (IsLeader rel A s × (s ≢ A.first))
     follows_not_other (lead, other) =
         let way : Reachable A s = other_reached s lead other in
-        not_other s (slice_index old.by_block.items (block s)) ls (h.known s ls (f.known (is_reached.1 way))) (lead, other)
+        not_other s old.count (slice_index old.by_block.items (block s)) ls (h.known s ls (f.known (is_reached.1 way))) (lead, other)
 
     follows_leader : IsTrue first ↔ IsLeader rel A s
     follows_leader = (
@@ -142,10 +143,10 @@ module _ (rel : Relation) (A : System) (block : ℕ → ℕ) (laws : Laws rel A 
       λ lead. elim (cases_eq s A.first) [ inl e ↦ is_first.1 e | inr d ↦ absurd (follows_not_other (lead, d)) ],
     )
 
-    follows_number : Reachable A s → Number rel A s (slice_index old.by_block.items (block s))
+    follows_number : Reachable A s → Number rel A s (slice_index old.by_block.items (block s)) × (slice_index old.by_block.items (block s) < old.count)
     follows_number way =
-        let e : Earlier rel A block s s (slice_index old.by_block.items (block s)) = h.known s ls (f.known (is_reached.1 way)) in
-        number_shared e.member s (slice_index old.by_block.items (block s)) e.reached way e.fellow e.number
+        let e : Earlier rel A block s s old.count (slice_index old.by_block.items (block s)) = h.known s ls (f.known (is_reached.1 way)) in
+        (number_shared e.member s (slice_index old.by_block.items (block s)) e.reached way e.fellow e.number, e.below)
 
     pub Taken-follows : Taken rel A block (s + 1) new
     Taken-follows = record {
@@ -154,15 +155,12 @@ module _ (rel : Relation) (A : System) (block : ℕ → ℕ) (laws : Laws rel A 
       within = rw f.by_block h.within;
       first = rw f.by_block h.first;
       seen = rw f.by_block (λ t l way. elim (cases_eq t s) [
-        | inl e ↦ subst (λ x. slice_index old.by_block.items (block x) ≢ none) (sym e) (f.known (is_reached.1 (subst (Reachable A) e way)))
+        | inl e ↦ subst (λ x. slice_index old.by_block.items (block x) ≢ NONE) (sym e) (f.known (is_reached.1 (subst (Reachable A) e way)))
         | inr d ↦ h.seen t (omega (arith, l, d)) way
       ]);
-      known = rw f.by_block (λ t l some. earlier_on s t (slice_index old.by_block.items (block t)) (h.known t l some));
-      numbers = rw f.numbers (each_pushed (λ t n. Reachable A t → Number rel A t n) old.numbers.items (slice_index old.by_block.items (block s)) 0 s
-          h.numbers_long h.numbers follows_number);
-      known_below = rw f.by_block (rw f.count h.known_below);
-      below = rw f.numbers (rw f.count (each_pushed (λ t n. Reachable A t → n < old.count) old.numbers.items (slice_index old.by_block.items (block s)) 0 s
-          h.numbers_long h.below (λ way. h.known_below s ls (f.known (is_reached.1 way)))));
+      known = rw (f.by_block, f.count) (λ t l some. earlier_on s t (slice_index old.by_block.items (block t)) old.count old.count (omega arith) (h.known t l some));
+      numbers = rw (f.numbers, f.count) (each_pushed (λ t n. Reachable A t → Number rel A t n × (n < old.count)) old.numbers.items
+          (slice_index old.by_block.items (block s)) 0 s h.numbers_long h.numbers follows_number);
       leaders = rw f.leads (each_pushed (λ t b. IsTrue b ↔ IsLeader rel A t) old.leads.items first false s h.leads_long h.leaders follows_leader);
       counted = (h.counted.0, laws.counting.kept s h.counted.0 follows_not_other h.counted.1, f.count ∙ h.counted.2);
       few = omega (arith, f.count, h.few);
@@ -171,7 +169,7 @@ module _ (rel : Relation) (A : System) (block : ℕ → ℕ) (laws : Laws rel A 
 
   -- the state s is the first one reached in its block
   module _ (s : ℕ) (old new : Numbering) (reached : Bool) (is_reached : IsTrue reached ↔ Reachable A s)
-      (ls : s < A.states) (low : s + 1 < none) (h : Taken rel A block s old) (o : BeginsClass (block s) reached old new) where
+      (ls : s < A.states) (low : s + 1 < NONE) (h : Taken rel A block s old) (o : BeginsClass (block s) reached old new) where
     opens_way : Reachable A s
     opens_way = is_reached.0 o.way
 
@@ -191,7 +189,7 @@ module _ (rel : Relation) (A : System) (block : ℕ → ℕ) (laws : Laws rel A 
     opens_number : Number rel A s old.count
     opens_number = (s, opens_leader, inr (opens_other, h.counted.0, h.counted.1, h.counted.2))
 
-    opens_some : old.count ≢ none
+    opens_some : old.count ≢ NONE
     opens_some e = absurd (omega (arith, e, h.few, h.fewer, low))
 
     opens_at : slice_index new.by_block.items (block s) ≡ old.count
@@ -203,23 +201,23 @@ module _ (rel : Relation) (A : System) (block : ℕ → ℕ) (laws : Laws rel A 
     opens_here : (t : ℕ) → block t ≡ block s → slice_index new.by_block.items (block t) ≡ old.count
     opens_here t e = ap (slice_index new.by_block.items) e ∙ opens_at
 
-    opens_known : (t : ℕ) → t < A.states → slice_index new.by_block.items (block t) ≢ none →
-        Earlier rel A block (s + 1) t (slice_index new.by_block.items (block t))
+    opens_known : (t : ℕ) → t < A.states → slice_index new.by_block.items (block t) ≢ NONE →
+        Earlier rel A block (s + 1) t new.count (slice_index new.by_block.items (block t))
     opens_known t l some = elim (cases_eq (block t) (block s)) [
-      | inl e ↦ subst (Earlier rel A block (s + 1) t) (sym (opens_here t e))
-          (record { member = s; reached = opens_way; early = inl (omega arith); fellow = sym e; number = opens_number })
-      | inr d ↦ subst (Earlier rel A block (s + 1) t) (sym (opens_elsewhere t d))
-          (earlier_on s t (slice_index old.by_block.items (block t))
+      | inl e ↦ subst (Earlier rel A block (s + 1) t new.count) (sym (opens_here t e)) (record {
+        member = s;
+        reached = opens_way;
+        early = inl (omega arith);
+        fellow = sym e;
+        number = opens_number;
+        below = omega (arith, o.count);
+      })
+      | inr d ↦ subst (Earlier rel A block (s + 1) t new.count) (sym (opens_elsewhere t d))
+          (earlier_on s t (slice_index old.by_block.items (block t)) old.count new.count (omega (arith, o.count))
           (h.known t l (λ e. some (opens_elsewhere t d ∙ e))))
     ]
 
-    opens_below_count : (t : ℕ) → t < A.states → slice_index new.by_block.items (block t) ≢ none → slice_index new.by_block.items (block t) < new.count
-    opens_below_count t l some = elim (cases_eq (block t) (block s)) [
-      | inl e ↦ omega (arith, opens_here t e, o.count)
-      | inr d ↦ omega (arith, opens_elsewhere t d, o.count, h.known_below t l (λ e. some (opens_elsewhere t d ∙ e)))
-    ]
-
-    opens_seen : (t : ℕ) → t < s + 1 → Reachable A t → slice_index new.by_block.items (block t) ≢ none
+    opens_seen : (t : ℕ) → t < s + 1 → Reachable A t → slice_index new.by_block.items (block t) ≢ NONE
     opens_seen t l way e = elim (cases_eq (block t) (block s)) [
       | inl f ↦ opens_some (sym (opens_here t f) ∙ e)
       | inr d ↦ h.seen t (opens_below t l (λ f. d (ap block f))) way (sym (opens_elsewhere t d) ∙ e)
@@ -236,10 +234,8 @@ module _ (rel : Relation) (A : System) (block : ℕ → ℕ) (laws : Laws rel A 
       first = λ e. h.first (sym (opens_elsewhere A.first opens_apart) ∙ e);
       seen = opens_seen;
       known = opens_known;
-      numbers = rw o.numbers (each_pushed (λ t n. Reachable A t → Number rel A t n) old.numbers.items old.count 0 s h.numbers_long h.numbers (λ way. opens_number));
-      known_below = opens_below_count;
-      below = rw o.numbers (each_pushed (λ t n. Reachable A t → n < new.count) old.numbers.items old.count 0 s h.numbers_long
-          (λ t l way. omega (arith, o.count, h.below t l way)) (λ way. omega (arith, o.count)));
+      numbers = rw o.numbers (each_pushed (λ t n. Reachable A t → Number rel A t n × (n < new.count)) old.numbers.items old.count 0 s h.numbers_long
+          (λ t l way. let had = h.numbers t l way in (had.0, omega (arith, o.count, had.1))) (λ way. (opens_number, omega (arith, o.count))));
       leaders = rw o.leads (each_pushed (λ t b. IsTrue b ↔ IsLeader rel A t) old.leads.items true false s h.leads_long h.leaders
           (λ x. opens_is_leader, λ x. refl));
       counted = (h.counted.0 + 1, laws.counting.one s h.counted.0 opens_is_leader opens_other h.counted.1, omega (arith, o.count, h.counted.2));
@@ -248,7 +244,7 @@ module _ (rel : Relation) (A : System) (block : ℕ → ℕ) (laws : Laws rel A 
     }
 
   -- before the first state was taken, only its block has a number
-  pub Taken-start : (count : ℕ) (n : Numbering) → ((t : ℕ) → t < A.states → block t < count) → n.by_block.items ≡ set (replicate count none) (block A.first) 0 →
+  pub Taken-start : (count : ℕ) (n : Numbering) → ((t : ℕ) → t < A.states → block t < count) → n.by_block.items ≡ set (replicate count NONE) (block A.first) 0 →
       n.numbers.items ≡ [] → n.leads.items ≡ [] → n.count ≡ 1 → Taken rel A block 0 n
   Taken-start count n within by_block numbers leads one = record {
     numbers_long = ap length numbers;
@@ -259,46 +255,45 @@ module _ (rel : Relation) (A : System) (block : ℕ → ℕ) (laws : Laws rel A 
     known = λ t l some. elim (cases_eq (block t) (block A.first)) [
       | inl e ↦
           let value : slice_index n.by_block.items (block t) ≡ 0 = ap (slice_index n.by_block.items) e ∙ rw by_block at in
-          subst (Earlier rel A block 0 t) (sym value)
-          (record { member = A.first; reached = laws.first_reached; early = inr refl; fellow = sym e; number = (A.first, first_leads, inl (refl, refl)) })
-      | inr d ↦ absurd (some (rw by_block (get_or-set_other (replicate count none) (block A.first) (block t) 0 0 d ∙ get_or-replicate count (block t) none 0 (within t l))))
+          subst (Earlier rel A block 0 t n.count) (sym value) (record {
+            member = A.first;
+            reached = laws.first_reached;
+            early = inr refl;
+            fellow = sym e;
+            number = (A.first, first_leads, inl (refl, refl));
+            below = omega (arith, one);
+          })
+      | inr d ↦ absurd (some (rw by_block (get_or-set_other (replicate count NONE) (block A.first) (block t) 0 0 d ∙ get_or-replicate count (block t) NONE 0 (within t l))))
     ];
     numbers = λ t l. absurd (omega (arith, l));
-    known_below = λ t l some. elim (cases_eq (block t) (block A.first)) [
-      | inl e ↦
-          let value : slice_index n.by_block.items (block t) ≡ 0 = ap (slice_index n.by_block.items) e ∙ rw by_block at in
-          omega (arith, value, one)
-      | inr d ↦ absurd (some (rw by_block (get_or-set_other (replicate count none) (block A.first) (block t) 0 0 d ∙ get_or-replicate count (block t) none 0 (within t l))))
-    ];
-    below = λ t l. absurd (omega (arith, l));
     leaders = λ t l. absurd (omega (arith, l));
     counted = (0, laws.counting.none, one);
     few = omega (arith, one);
     fewer = λ l. absurd (omega (arith, l));
   }
     where
-      at : get_or (set (replicate count none) (block A.first) 0) (block A.first) 0 ≡ 0
-      at = get_or-set_same (replicate count none) (block A.first) 0 0 (omega (arith, length-replicate {A = ℕ}, within A.first laws.first))
+      at : get_or (set (replicate count NONE) (block A.first) 0) (block A.first) 0 ≡ 0
+      at = get_or-set_same (replicate count NONE) (block A.first) 0 0 (omega (arith, length-replicate {A = ℕ}, within A.first laws.first))
 
   -- when all states were taken, they have their numbers
   pub Taken-end : (n : Numbering) → Taken rel A block A.states n → IsNumbering rel A n
   Taken-end n h = record {
     numbers_long = h.numbers_long;
     leads_long = h.leads_long;
-    number = λ s way. h.numbers s (laws.below s way) way;
-    below = λ s way. h.below s (laws.below s way) way;
+    number = λ s way. (h.numbers s (laws.below s way) way).0;
+    below = λ s way. (h.numbers s (laws.below s way) way).1;
     leader = h.leaders;
     counted = subst (HowMany (IsLeader rel A)) (sym h.counted.2) (laws.counting.all h.counted.0 h.counted.1);
     few = h.fewer laws.first;
   }
 
   taken_either : (s : ℕ) (old new : Numbering) (reached first : Bool) → (IsTrue first ↔ (s ≡ A.first)) → (IsTrue reached ↔ Reachable A s) →
-      s < A.states → s + 1 < none → Taken rel A block s old → TakesState (block s) reached first old new → Taken rel A block (s + 1) new
+      s < A.states → s + 1 < NONE → Taken rel A block s old → TakesState (block s) reached first old new → Taken rel A block (s + 1) new
   taken_either s old new reached first is_first is_reached ls low h (inl o) = Taken-opens s old new reached is_reached ls low h o
   taken_either s old new reached first is_first is_reached ls low h (inr f) = Taken-follows s old new reached first is_first is_reached ls h f
 
   -- one state more
   pub Taken-adds : (s b : ℕ) (old new : Numbering) (reached first : Bool) → b ≡ block s → (IsTrue first ↔ (s ≡ A.first)) → (IsTrue reached ↔ Reachable A s) →
-      s < A.states → s + 1 < none → Taken rel A block s old → TakesState b reached first old new → Taken rel A block (s + 1) new
+      s < A.states → s + 1 < NONE → Taken rel A block s old → TakesState b reached first old new → Taken rel A block (s + 1) new
   Taken-adds s b old new reached first at is_first is_reached ls low h adds =
       taken_either s old new reached first is_first is_reached ls low h (subst (λ x. TakesState x reached first old new) at adds)

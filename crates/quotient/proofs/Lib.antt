@@ -11,7 +11,7 @@ pub mod Members
 pub mod Stopping
 pub mod Copying
 pub mod Quotients
-pub mod Settled
+pub mod WholeRows
 pub mod Visits
 -- the comparison
 pub mod Unions

@@ -10,18 +10,20 @@ use Rattle.theory.specs.System.{System, Transition, Step, Reachable, internal}
 use Rattle.theory.specs.Bisimulation.{Bisimilar}
 use Rattle.theory.specs.declared.relation.Relation.{Relation}
 use Rattle.theory.specs.declared.relation.Relation.TheVariants.{Strong, Branching}
-use Rattle.theory.specs.Quotient.{Fellow, Leader, IsLeader, Number, Stands, IsDropped, Quotient}
+use Rattle.theory.specs.Quotient.{Fellow, Leader, IsLeader, Number, Stands, IsDropped, ShowsNothing, Quotient}
 use Rattle.lts.specs.Labels.{text_of, IsTable}
 use Rattle.lts.specs.Lts.{Triple, source_of, label_of, target_of, row_of, transition_of, system_from, system_of, grouped, IsGrouping, IsTriple, InRange, IsLts, Grouped}
 use Rattle.quotient.specs.Marked.{IsMarked}
 use Rattle.quotient.specs.Reading.{sources_of, IsDroppedLabel}
 use Rattle.quotient.specs.Numbers.{IsNumbering}
-use Rattle.quotient.specs.Triples.{between_numbers, is_left_out, IsShownBelow}
+use Rattle.quotient.specs.Triples.{Member, between_numbers, is_left_out, IsShownBelow, AreMembers, HasShown}
+use Rattle.quotient.proofs.Members.{members_show}
 use Rattle.quotient.specs.declared.numbering.Numbering.{Numbering}
-use Rattle.quotient.proofs.Lists.{has_mapped, mapped_has, apart_append}
+use Rattle.lts.proofs.CallerLemmas.{contains_mapped, mapped_contains}
+use Rattle.quotient.proofs.Lists.{apart_append}
 use Rattle.quotient.proofs.Rows.{ShownPlace, place_of, shown_place}
 
--- transitions of different triples differ, where their labels are in the table
+-- transitions of different triples differ, if their labels are in the table
 transitions_differ : (labels : List (List ℕ)) (es : List Triple) → IsTable labels → ((x : Triple) → Contains es x → label_of x < length labels) →
     AllPairs (λ x y. x ≢ y) es → AllPairs (λ e f. e ≢ f) (map (transition_of labels) es)
 transitions_differ labels es table within once i j d low high same =
@@ -35,7 +37,7 @@ transitions_differ labels es table within once i j d low high same =
     table.different (label_of x) (label_of y) (within x (Contains-get_or es i (0, 0, 0) li)) (within y (Contains-get_or es j (0, 0, 0) lj)) (ap (λ t. t.label) e) in
     once i j (0, 0, 0) low lj (λ k. (ap (λ t. t.source) e k, label k, ap (λ t. t.target) e k))
 
--- rows one behind the other, where a row has the transitions that start at its state
+-- rows one after the other, if a row has the transitions that start at its state
 module _ (es : List Triple) (sources : (s : ℕ) (x : Triple) → Contains (row_of s es) x ↔ (Contains es x × (source_of x ≡ s))) where
   rows_from : (a k : ℕ) (x : Triple) → Contains (flat_map (λ s. row_of s es) (range_with_len a k)) x → a ≤ source_of x
   rows_from a zero x c = absurd (omega (arith, c.1))
@@ -65,6 +67,9 @@ pub record Laws (rel : Relation) (g : Grouped) : Type 0 where
   pub reached_on : (s : ℕ) (a : List ℕ) (t : ℕ) → Reachable (system_of g) s → Step (system_of g) s a t → Reachable (system_of g) t
   pub below : (s : ℕ) → Reachable (system_of g) s → s < g.states
   pub numbers : NumberLaws rel (system_of g)
+  pub shows_all : (s t : ℕ) (a : List ℕ) (u : ℕ) → Bisimilar rel (system_of g) s (system_of g) t →
+      ((b : List ℕ) (v : ℕ) → Step (system_of g) s b v → ¬ ShowsNothing rel (system_of g) s b v) →
+      Step (system_of g) t a u → ¬ ShowsNothing rel (system_of g) t a u → (v : ℕ) × Step (system_of g) s a v × Bisimilar rel (system_of g) u (system_of g) v
   pub sources : (s : ℕ) (es : List Triple) (e : Triple) → Contains (row_of s es) e ↔ (Contains es e × (source_of e ≡ s))
   pub steps : (s : ℕ) (a : List ℕ) (t : ℕ) → Step (system_of g) s a t ↔
       ((e : Triple) × Contains (row_of s g.places) e × (text_of g.labels (label_of e) ≡ a) × (target_of e ≡ t))
@@ -178,77 +183,98 @@ pub goes_if : (b : Bool) → not b ≡ true → ¬ (b ≡ true)
 goes_if true stays out = absurd (both_ways false refl stays)
 goes_if false stays out = absurd (both_ways false refl out)
 
--- triples that are those which enough rows show, each once
-module _ (rel : Relation) (g : Grouped) (n : Numbering) (laws : Laws rel g) (num : IsNumbering rel (system_of g) n)
-    (sources : List Bool) (enough : AreEnough g n.numbers.items sources) (dropped : Option ℕ) (drops : IsDroppedLabel rel g.labels dropped)
-    (es : List Triple) (exactly : (x : Triple) → Contains es x ↔ IsShownBelow n.numbers.items sources dropped g.places g.states x)
-    (once : AllPairs (λ x y. x ≢ y) es) where
+-- what a quotient is made of: the triples that enough rows of a numbered system show, each once
+pub record Parts (rel : Relation) (g : Grouped) (n : Numbering) (sources : List Bool) (dropped : Option ℕ) (es : List Triple) : Type 0 where
+  pub laws : Laws rel g
+  pub numbering : IsNumbering rel (system_of g) n
+  pub enough : AreEnough g n.numbers.items sources
+  pub drops : IsDroppedLabel rel g.labels dropped
+  pub exactly : (x : Triple) → Contains es x ↔ IsShownBelow n.numbers.items sources dropped g.places g.states x
+  pub once : AllPairs (λ x y. x ≢ y) es
+
+-- what the rows of the members show is what those of the marked states do
+pub Parts-shown : (rel : Relation) (g : Grouped) (n : Numbering) (sources : List Bool) (dropped : Option ℕ) (es : List Triple) (members : List Member) →
+    Laws rel g → IsNumbering rel (system_of g) n → AreEnough g n.numbers.items sources → IsDroppedLabel rel g.labels dropped →
+    AreMembers n.numbers.items sources g.states members → HasShown n.numbers.items dropped g.places members es → Parts rel g n sources dropped es
+Parts-shown rel g n sources dropped es members laws numbering enough drops are has =
+    let same = members_show n.numbers.items sources dropped g.places g.states members are in
+    record {
+      laws = laws;
+      numbering = numbering;
+      enough = enough;
+      drops = drops;
+      exactly = λ x. (λ h. (same x).0 ((has.exactly x).0 h), λ h. (has.exactly x).1 ((same x).1 h));
+      once = has.once;
+    }
+
+module _ (rel : Relation) (g : Grouped) (n : Numbering) (sources : List Bool) (dropped : Option ℕ) (es : List Triple)
+    (p : Parts rel g n sources dropped es) where
   -- a triple has a label of the table
   shown_label : (x : Triple) → Contains es x → label_of x < length g.labels
   shown_label x c =
-      let h = (exactly x).0 c in
+      let h = (p.exactly x).0 c in
       let from : ShownPlace n.numbers.items dropped g.places h.0 x = place_of n.numbers.items dropped g.places h.0 x h.3 in
-      let triple = All-contains (IsTriple (length g.labels) g.states) g.places from.place laws.lts.in_range.each ((laws.sources h.0 g.places from.place).0 from.in_row).0 in
+      let triple = All-contains (IsTriple (length g.labels) g.states) g.places from.place p.laws.lts.in_range.each ((p.laws.sources h.0 g.places from.place).0 from.in_row).0 in
       subst (λ y. label_of y < length g.labels) from.is triple.label
 
   -- it stands for a step of a reachable state
   triple_stands : (x : Triple) → Contains es x → Stands rel (system_of g) (transition_of g.labels x)
   triple_stands x c =
-      let h = (exactly x).0 c in
+      let h = (p.exactly x).0 c in
       let from : ShownPlace n.numbers.items dropped g.places h.0 x = place_of n.numbers.items dropped g.places h.0 x h.3 in
-      let way : Reachable (system_of g) h.0 = enough.only h.0 h.1 h.2 in
-      let step = in_place rel g n laws num h.0 from.place from.in_row in
+      let way : Reachable (system_of g) h.0 = p.enough.only h.0 h.1 h.2 in
+      let step = in_place rel g n p.laws p.numbering h.0 from.place from.in_row in
       let on : Reachable (system_of g) (target_of from.place) =
-      laws.reached_on h.0 (text_of g.labels (label_of from.place)) (target_of from.place) way step in
+      p.laws.reached_on h.0 (text_of g.labels (label_of from.place)) (target_of from.place) way step in
       subst (λ y. Stands rel (system_of g) (transition_of g.labels y)) from.is
-      (h.0, target_of from.place, way, step, num.number h.0 way, num.number (target_of from.place) on)
+      (h.0, target_of from.place, way, step, p.numbering.number h.0 way, p.numbering.number (target_of from.place) on)
 
   -- and is not dropped
   triple_stays : (x : Triple) → Contains es x → ¬ IsDropped rel (transition_of g.labels x)
   triple_stays x c gone =
-      let h = (exactly x).0 c in
+      let h = (p.exactly x).0 c in
       let from : ShownPlace n.numbers.items dropped g.places h.0 x = place_of n.numbers.items dropped g.places h.0 x h.3 in
-      goes_if (is_left_out dropped x) from.stays ((left_out_is rel g.labels dropped laws.lts.table drops x (shown_label x c)).1 gone)
+      goes_if (is_left_out dropped x) from.stays ((left_out_is rel g.labels dropped p.laws.lts.table p.drops x (shown_label x c)).1 gone)
 
   -- what stands for a step of a reachable state and is not dropped is shown
   stands_shown : (e : Transition) → Stands rel (system_of g) e → ¬ IsDropped rel e → (x : Triple) × Contains es x × (transition_of g.labels x ≡ e)
   stands_shown e (s, t, way, step, hs, ht) stays =
-      let twin : Twin g n.numbers.items sources s e.label t = enough.each s e.label t way step in
-      let place = (laws.steps twin.source e.label twin.target).0 twin.step in
+      let twin : Twin g n.numbers.items sources s e.label t = p.enough.each s e.label t way step in
+      let place = (p.laws.steps twin.source e.label twin.target).0 twin.step in
       let x : Triple = between_numbers n.numbers.items twin.source place.0 in
-      let on : Reachable (system_of g) t = laws.reached_on s e.label t way step in
-      let source : source_of x ≡ e.source = twin.from ∙ laws.numbers.one_number s (slice_index n.numbers.items s) e.source (num.number s way) hs in
+      let on : Reachable (system_of g) t = p.laws.reached_on s e.label t way step in
+      let source : source_of x ≡ e.source = twin.from ∙ p.laws.numbers.one_number s (slice_index n.numbers.items s) e.source (p.numbering.number s way) hs in
       let target : target_of x ≡ e.target =
-      ap (slice_index n.numbers.items) place.3 ∙ twin.to ∙ laws.numbers.one_number t (slice_index n.numbers.items t) e.target (num.number t on) ht in
+      ap (slice_index n.numbers.items) place.3 ∙ twin.to ∙ p.laws.numbers.one_number t (slice_index n.numbers.items t) e.target (p.numbering.number t on) ht in
       let is : transition_of g.labels x ≡ e = λ i. record { source = source i; label = place.2 i; target = target i } in
-      let triple = All-contains (IsTriple (length g.labels) g.states) g.places place.0 laws.lts.in_range.each ((laws.sources twin.source g.places place.0).0 place.1).0 in
+      let triple = All-contains (IsTriple (length g.labels) g.states) g.places place.0 p.laws.lts.in_range.each ((p.laws.sources twin.source g.places place.0).0 place.1).0 in
       let out : ¬ (is_left_out dropped x ≡ true) =
-      λ gone. stays (subst (IsDropped rel) is ((left_out_is rel g.labels dropped laws.lts.table drops x triple.label).0 gone)) in
+      λ gone. stays (subst (IsDropped rel) is ((left_out_is rel g.labels dropped p.laws.lts.table p.drops x triple.label).0 gone)) in
       let shown = shown_place n.numbers.items dropped g.places twin.source place.0 place.1 (stays_if (is_left_out dropped x) out) in
-      (x, (exactly x).1 (twin.source, twin.low, twin.marked, shown), is)
+      (x, (p.exactly x).1 (twin.source, twin.low, twin.marked, shown), is)
 
   pub quotient_of : Quotient rel (system_of g) (system_from 0 n.count g.labels es)
   quotient_of = record {
-    states = num.counted;
+    states = p.numbering.counted;
     first = refl;
     transitions = λ e. (
       λ c.
-          let x = mapped_has (transition_of g.labels) es (0, 0, 0) e c in (
+          let x = mapped_contains (transition_of g.labels) es e c in (
             subst (Stands rel (system_of g)) x.2 (triple_stands x.0 x.1),
             subst (λ f. ¬ IsDropped rel f) x.2 (triple_stays x.0 x.1),
           ),
       λ h.
           let x = stands_shown e h.0 h.1 in
-          subst (Contains (map (transition_of g.labels) es)) x.2 (has_mapped (transition_of g.labels) es x.0 x.1),
+          subst (Contains (map (transition_of g.labels) es)) x.2 (contains_mapped (transition_of g.labels) es x.0 x.1),
     );
-    once = transitions_differ g.labels es laws.lts.table shown_label once;
+    once = transitions_differ g.labels es p.laws.lts.table shown_label p.once;
   }
 
   -- the numbers of a triple are below the count
   numbers_below : (x : Triple) → Stands rel (system_of g) (transition_of g.labels x) → (source_of x < n.count) × (target_of x < n.count)
   numbers_below x (s, t, way, step, hs, ht) = (
-    laws.numbers.below (system_from 0 n.count g.labels es) s (source_of x) quotient_of hs,
-    laws.numbers.below (system_from 0 n.count g.labels es) t (target_of x) quotient_of ht,
+    p.laws.numbers.below (system_from 0 n.count g.labels es) s (source_of x) quotient_of hs,
+    p.laws.numbers.below (system_from 0 n.count g.labels es) t (target_of x) quotient_of ht,
   )
 
   shown_triple : (x : Triple) → Contains es x → IsTriple (length g.labels) n.count x
@@ -260,31 +286,35 @@ module _ (rel : Relation) (g : Grouped) (n : Numbering) (laws : Laws rel g) (num
   pub quotient_in_range : length es ≤ length g.places → InRange (length g.labels) 0 n.count es
   quotient_in_range few =
       let low : slice_index n.numbers.items g.first < n.count =
-      laws.numbers.below (system_from 0 n.count g.labels es) g.first (slice_index n.numbers.items g.first) quotient_of (num.number g.first laws.reached_first) in
+      p.laws.numbers.below (system_from 0 n.count g.labels es) g.first (slice_index n.numbers.items g.first) quotient_of (p.numbering.number g.first p.laws.reached_first) in
       record {
         first_below = omega (arith, low);
-        few_states = omega (arith, num.few, laws.lts.in_range.few_states);
-        few_transitions = omega (arith, few, laws.lts.in_range.few_transitions);
+        few_states = omega (arith, p.numbering.few, p.laws.lts.in_range.few_states);
+        few_transitions = omega (arith, few, p.laws.lts.in_range.few_transitions);
         each = λ k d l. shown_triple (get_or es k d) (Contains-get_or es k d l);
       }
 
 -- the system that is built of them
-module _ (rel : Relation) (g : Grouped) (n : Numbering) (laws : Laws rel g) (num : IsNumbering rel (system_of g) n)
-    (sources : List Bool) (enough : AreEnough g n.numbers.items sources) (dropped : Option ℕ) (drops : IsDroppedLabel rel g.labels dropped)
-    (es : List Triple) (exactly : (x : Triple) → Contains es x ↔ IsShownBelow n.numbers.items sources dropped g.places g.states x)
-    (once : AllPairs (λ x y. x ≢ y) es) (labels : List (List ℕ)) (same : labels ≡ g.labels) where
+module _ (rel : Relation) (g : Grouped) (n : Numbering) (sources : List Bool) (dropped : Option ℕ) (es : List Triple)
+    (p : Parts rel g n sources dropped es) (labels : List (List ℕ)) (same : labels ≡ g.labels) where
   built : (q : Grouped) → q.first ≡ 0 → q.states ≡ n.count → q.labels ≡ labels → q.places ≡ grouped n.count es → IsGrouping es q.places →
       Quotient rel (system_of g) (system_of q)
   built q first states table places grouping =
-      let differ : AllPairs (λ x y. x ≢ y) q.places = subst (AllPairs (λ x y. x ≢ y)) (sym places) (rows_differ es (λ s. laws.sources s es) once 0 n.count) in
-      let is : (x : Triple) → Contains q.places x ↔ IsShownBelow n.numbers.items sources dropped g.places g.states x = λ x. (
-        λ c. (exactly x).0 (Contains-permutation q.places es x (IsPermutation-sym es q.places grouping.same) c),
-        λ h. Contains-permutation es q.places x grouping.same ((exactly x).1 h),
-      ) in
+      let regrouped : Parts rel g n sources dropped q.places = record {
+        laws = p.laws;
+        numbering = p.numbering;
+        enough = p.enough;
+        drops = p.drops;
+        exactly = λ x. (
+          λ c. (p.exactly x).0 (Contains-permutation q.places es x (IsPermutation-sym es q.places grouping.same) c),
+          λ h. Contains-permutation es q.places x grouping.same ((p.exactly x).1 h),
+        );
+        once = subst (AllPairs (λ x y. x ≢ y)) (sym places) (rows_differ es (λ s. p.laws.sources s es) p.once 0 n.count);
+      } in
       subst (λ f. Quotient rel (system_of g) (system_from f q.states q.labels q.places)) (sym first)
       (subst (λ k. Quotient rel (system_of g) (system_from 0 k q.labels q.places)) (sym states)
       (subst (λ t. Quotient rel (system_of g) (system_from 0 n.count t q.places)) (sym (table ∙ same))
-      (quotient_of rel g n laws num sources enough dropped drops q.places is differ)))
+      (quotient_of rel g n sources dropped q.places regrouped)))
 
   pub IfOk-quotient : {E : Type 0} (r : Result Grouped E) → IfOk r (λ q. q.first ≡ 0) → IfOk r (λ q. q.states ≡ n.count) →
       IfOk r (λ q. q.labels ≡ labels) → IfOk r (λ q. q.places ≡ grouped n.count es) → IfOk r (λ q. IsGrouping es q.places) →

@@ -10,7 +10,8 @@ use Rattle.theory.specs.System.{Step, Reachable}
 use Rattle.lts.specs.Labels.{text_of}
 use Rattle.lts.specs.Lts.{Triple, source_of, label_of, target_of, place_at, transition_of, row_of, Grouped, system_of, IsRow}
 use Rattle.quotient.specs.Marked.{IsMarked}
-use Rattle.quotient.proofs.Lists.{no_element, head_or_tail, at_head, in_tail}
+use Rattle.theory.proofs.CallerLemmas.{contains_here, contains_there, contains_cases, contains_none}
+use Rattle.lts.proofs.CallerLemmas.{length-filter-sum}
 use Rattle.quotient.specs.Search.{MarksState, Searches, states_ahead, places_ahead}
 
 -- marks
@@ -35,13 +36,13 @@ module _ (s : ℕ) (old : List Bool) (old_waiting : List ℕ) (new : List Bool) 
   MarksState-size : length new ≡ length old
   MarksState-size = elim marks [ inl h ↦ ap length h.1 | inr h ↦ ap length h.1 ∙ length-set old s true ]
 
-  MarksState-self : s < length old → IsMarked new s
+  pub MarksState-self : s < length old → IsMarked new s
   MarksState-self l = elim marks [
     | inl h ↦ subst (λ x. IsMarked x s) (sym h.1) h.0
     | inr h ↦ subst (λ x. IsMarked x s) (sym h.1) (get_or-set_same old s true false l)
   ]
 
-  MarksState-keeps : s < length old → (t : ℕ) → IsMarked old t → IsMarked new t
+  pub MarksState-keeps : s < length old → (t : ℕ) → IsMarked old t → IsMarked new t
   MarksState-keeps l t m = elim marks [
     | inl h ↦ subst (λ x. IsMarked x t) (sym h.1) m
     | inr h ↦ subst (λ x. IsMarked x t) (sym h.1) (elim (cases_eq t s) [
@@ -107,72 +108,50 @@ TargetsMarked-more places start k t old waiting new pushed l target marks read j
 pub Searches-below : (g : Grouped) (marked : List Bool) (s : ℕ) (queue : List ℕ) → Searches g marked (s ∷ queue) → s < g.states
 Searches-below g marked s queue search = elim (cases_lt s (length marked)) [
   | inl l ↦ omega (arith, search.size)
-  | inr l ↦ absurd (both_ways _ (get_or_past marked s false l) (search.each_waiting s (at_head s queue)))
+  | inr l ↦ absurd (both_ways _ (get_or_past marked s false l) (search.each_waiting s (contains_here s queue)))
 ]
 
--- the first state alone is marked, and waits
-pub Searches-start : (g : Grouped) (marked : List Bool) (waiting : List ℕ) → g.first < g.states → Reachable (system_of g) g.first →
-    MarksState g.first (replicate g.states false) [] marked waiting → Searches g marked waiting
-Searches-start g marked waiting l reached marks =
-    let size = length-replicate g.states false in
-    let below : g.first < length (replicate g.states false) = omega arith in
-    let new = MarksState-new g.first (replicate g.states false) [] marked waiting marks in
-    let self = MarksState-self g.first (replicate g.states false) [] marked waiting marks below in
+-- nothing is marked, and nothing waits
+pub Searches-none : (g : Grouped) → Searches g (replicate g.states false) []
+Searches-none g = record {
+  size = length-replicate g.states false;
+  only_reachable = λ s m. absurd (both_ways _ (none_marked g.states s) m);
+  each_waiting = λ s c. absurd (contains_none s c);
+  followed = λ s t a m step. absurd (both_ways _ (none_marked g.states s) m);
+}
+
+-- one reachable state more is marked, and waits
+pub Searches-mark : (g : Grouped) (t : ℕ) (old : List Bool) (waiting : List ℕ) (new : List Bool) (pushed : List ℕ) → t < length old →
+    Reachable (system_of g) t → Searches g old waiting → MarksState t old waiting new pushed → Searches g new pushed
+Searches-mark g t old waiting new pushed below reached search marks =
+    let keeps = MarksState-keeps t old waiting new pushed marks below in
+    let made = MarksState-new t old waiting new pushed marks in
     record {
-      size = MarksState-size g.first (replicate g.states false) [] marked waiting marks ∙ size;
-      first = self;
-      only_reachable = λ s m. elim (new s m) [
-        | inl h ↦ absurd (both_ways _ (none_marked g.states s) h)
+      size = MarksState-size t old waiting new pushed marks ∙ search.size;
+      only_reachable = λ u m. elim (made u m) [
+        | inl h ↦ search.only_reachable u h
         | inr h ↦ subst (Reachable (system_of g)) (sym h.0) reached
       ];
-      each_waiting = λ s c. elim (MarksState-waiting g.first (replicate g.states false) [] marked waiting marks s c) [
-        | inl e ↦ subst (IsMarked marked) e self
-        | inr d ↦ absurd (no_element s d)
+      each_waiting = λ u c. elim (MarksState-waiting t old waiting new pushed marks u c) [
+        | inl e ↦ subst (IsMarked new) e (MarksState-self t old waiting new pushed marks below)
+        | inr d ↦ keeps u (search.each_waiting u d)
       ];
-      followed = λ s t a m step. elim (new s m) [
-        | inl h ↦ absurd (both_ways _ (none_marked g.states s) h)
+      followed = λ u v a m step. elim (made u m) [
+        | inl h ↦ elim (search.followed u v a h step) [
+          | inl c ↦ inl (MarksState-waits t old waiting new pushed marks u c)
+          | inr d ↦ inr (keeps v d)
+        ]
         | inr h ↦ inl h.1
       ];
     }
 
--- a step of s leads to t, which is marked
-module _ (g : Grouped) (s t : ℕ) (old : List Bool) (queue : List ℕ) (new : List Bool) (pushed : List ℕ) (below : t < length old)
-    (search : Searches g old (s ∷ queue)) (marks : MarksState t old queue new pushed) where
-  mark_keeps : (u : ℕ) → IsMarked old u → IsMarked new u
-  mark_keeps = MarksState-keeps t old queue new pushed marks below
-
-  mark_waiting : (u : ℕ) → Contains (s ∷ pushed) u → IsMarked new u
-  mark_waiting u c = elim (head_or_tail s pushed u c) [
-    | inl e ↦ mark_keeps u (search.each_waiting u (subst (Contains (s ∷ queue)) e (at_head s queue)))
-    | inr d ↦ elim (MarksState-waiting t old queue new pushed marks u d) [
-      | inl e ↦ subst (IsMarked new) e (MarksState-self t old queue new pushed marks below)
-      | inr f ↦ mark_keeps u (search.each_waiting u (in_tail s queue u f))
-    ]
-  ]
-
-  mark_followed : (u v : ℕ) (a : List ℕ) → IsMarked new u → Step (system_of g) u a v → Contains (s ∷ pushed) u ⊎ IsMarked new v
-  mark_followed u v a m next = elim (MarksState-new t old queue new pushed marks u m) [
-    | inl h ↦ elim (search.followed u v a h next) [
-      | inl c ↦ inl (elim (head_or_tail s queue u c) [
-        | inl e ↦ subst (Contains (s ∷ pushed)) e (at_head s pushed)
-        | inr d ↦ in_tail s pushed u (MarksState-waits t old queue new pushed marks u d)
-      ])
-      | inr d ↦ inr (mark_keeps v d)
-    ]
-    | inr h ↦ inl (in_tail s pushed u h.1)
-  ]
-
-  Searches-mark : (Reachable (system_of g) s → Reachable (system_of g) t) → Searches g new (s ∷ pushed)
-  Searches-mark reached_on = record {
-    size = MarksState-size t old queue new pushed marks ∙ search.size;
-    first = mark_keeps g.first search.first;
-    only_reachable = λ u m. elim (MarksState-new t old queue new pushed marks u m) [
-      | inl h ↦ search.only_reachable u h
-      | inr h ↦ subst (Reachable (system_of g)) (sym h.0) (reached_on (search.only_reachable s (search.each_waiting s (at_head s queue))))
-    ];
-    each_waiting = mark_waiting;
-    followed = mark_followed;
-  }
+-- it waits after what waits already
+MarksState-after : (s t : ℕ) (old : List Bool) (queue : List ℕ) (new : List Bool) (pushed : List ℕ) →
+    MarksState t old queue new pushed → MarksState t old (s ∷ queue) new (s ∷ pushed)
+MarksState-after s t old queue new pushed marks = elim marks [
+  | inl h ↦ inl (h.0, h.1, ap (λ ws. s ∷ ws) h.2)
+  | inr h ↦ inr (h.0, h.1, ap (λ ws. s ∷ ws) h.2)
+]
 
 -- place k of the row of s was read, and what it leads to is marked
 pub Searches-place : (g : Grouped) (s start end k t : ℕ) (old : List Bool) (queue : List ℕ) (new : List Bool) (pushed : List ℕ) →
@@ -184,18 +163,19 @@ Searches-place g s start end k t old queue new pushed reached_on row low high ta
     let a = text_of g.labels (label_of (place_at g.places k)) in
     let from : Step (system_of g) s a (target_of (place_at g.places k)) =
     subst (λ x. Step (system_of g) x a (target_of (place_at g.places k))) ((row.exactly k below).1 (low, high)) (place_step g k below) in
-    Searches-mark g s t old queue new pushed (omega (arith, l, search.size)) search marks (λ way. reached_on a way (subst (Step (system_of g) s a) (sym target) from))
+    let way = reached_on a (search.only_reachable s (search.each_waiting s (contains_here s queue)))
+    (subst (Step (system_of g) s a) (sym target) from) in
+    Searches-mark g t old (s ∷ queue) new (s ∷ pushed) (omega (arith, l, search.size)) way search (MarksState-after s t old queue new pushed marks)
 
 -- the whole row of s was read
 pub Searches-read : (g : Grouped) (s start end : ℕ) (marked : List Bool) (queue : List ℕ) → IsRow g.places s start end →
     TargetsMarked g.places marked start end → Searches g marked (s ∷ queue) → Searches g marked queue
 Searches-read g s start end marked queue row read search = record {
   size = search.size;
-  first = search.first;
   only_reachable = search.only_reachable;
-  each_waiting = λ u c. search.each_waiting u (in_tail s queue u c);
+  each_waiting = λ u c. search.each_waiting u (contains_there s queue u c);
   followed = λ u v a m step. elim (search.followed u v a m step) [
-    | inl c ↦ elim (head_or_tail s queue u c) [
+    | inl c ↦ elim (contains_cases s queue u c) [
       | inl e ↦
           let place = step_place g u v a step in
           let within = (row.exactly place.0 place.1).0 (place.2 ∙ sym e) in
@@ -210,20 +190,13 @@ Searches-read g s start end marked queue row read search = record {
 pub Searches-end : (g : Grouped) (marked : List Bool) (waiting : List ℕ) → length waiting ≡ 0 →
     (IsMarked marked g.first → ((s : ℕ) (a : List ℕ) (t : ℕ) → IsMarked marked s → Step (system_of g) s a t → IsMarked marked t) →
     (s : ℕ) → Reachable (system_of g) s → IsMarked marked s) →
-    Searches g marked waiting → (s : ℕ) → IsMarked marked s ↔ Reachable (system_of g) s
-Searches-end g marked waiting none kept search s = (
+    IsMarked marked g.first → Searches g marked waiting → (s : ℕ) → IsMarked marked s ↔ Reachable (system_of g) s
+Searches-end g marked waiting none kept first search s = (
   search.only_reachable s,
-  kept search.first (λ u a v m step. elim (search.followed u v a m step) [ inl c ↦ absurd (omega (arith, none, c.1)) | inr h ↦ h ]) s,
+  kept first (λ u a v m step. elim (search.followed u v a m step) [ inl c ↦ absurd (omega (arith, none, c.1)) | inr h ↦ h ]) s,
 )
 
 -- what is still to be read
-
-length-filter-cons : (p : Triple → Bool) (e : Triple) (es : List Triple) → length (filter p (e ∷ es)) ≡ cond (p e) 1 0 + length (filter p es)
-length-filter-cons p e es = go (p e) (filter p es)
-  where
-    go : (b : Bool) (l : List Triple) → length (cond b (e ∷ l) l) ≡ cond b 1 0 + length l
-    go true l = omega arith
-    go false l = omega arith
 
 module _ (marked : List Bool) (t : ℕ) (unmarked : get_or marked t false ≡ false) (l : t < length marked) where
   one_mark : (s : ℕ) → cond (not (get_or marked s false)) 1 0 ≡ cond (not (get_or (set marked t true) s false)) 1 0 + cond (eqb s t) 1 0
@@ -241,14 +214,9 @@ module _ (marked : List Bool) (t : ℕ) (unmarked : get_or marked t false ≡ fa
 
   unmarked_places : (es : List Triple) → length (filter (λ e. not (get_or marked (source_of e) false)) es)
       ≡ length (filter (λ e. not (get_or (set marked t true) (source_of e) false)) es) + length (row_of t es)
-  unmarked_places [] = omega arith
-  unmarked_places (e ∷ es) =
-      let rest = unmarked_places es in
-      let before = length-filter-cons (λ e. not (get_or marked (source_of e) false)) e es in
-      let after = length-filter-cons (λ e. not (get_or (set marked t true) (source_of e) false)) e es in
-      let row = length-filter-cons (λ e. eqb (source_of e) t) e es in
-      let one = one_mark (source_of e) in
-      omega arith
+  unmarked_places es =
+      length-filter-sum (λ (e : Triple). not (get_or marked (source_of e) false)) (λ e. not (get_or (set marked t true) (source_of e) false))
+      (λ e. eqb (source_of e) t) (λ e. one_mark (source_of e)) es
 
 pub places_ahead-marks : (places : List Triple) (t : ℕ) (old : List Bool) (waiting : List ℕ) (new : List Bool) (pushed : List ℕ) → t < length old →
     MarksState t old waiting new pushed → places_ahead places new pushed ≡ places_ahead places old waiting

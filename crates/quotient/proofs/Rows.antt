@@ -6,7 +6,7 @@ use Rattle.std.proofs.lemmas.List.{length-map, map-append, append-nil, append_as
 use Rattle.std.proofs.lemmas.List.Sums.{length-filter, count_by-le-length}
 use Rattle.lts.specs.Lts.{Triple, row_of}
 use Rattle.quotient.specs.Triples.{between_numbers, is_left_out, shown_in, shown_by}
-use Rattle.quotient.proofs.Lists.{has_mapped, mapped_has, has_filtered, filtered_has, filtered_passes}
+use Rattle.lts.proofs.CallerLemmas.{contains_mapped, mapped_contains, contains_passing, passing_contains}
 
 -- what is shown stands in a place of the row, and is not left out
 pub record ShownPlace (numbers : List ℕ) (dropped : Option ℕ) (places : List Triple) (s : ℕ) (x : Triple) : Type 0 where
@@ -19,15 +19,15 @@ module _ (numbers : List ℕ) (dropped : Option ℕ) (places : List Triple) (s :
   pub place_of : (x : Triple) → Contains (shown_by numbers dropped places s) x → ShownPlace numbers dropped places s x
   place_of x c =
       let kept = λ (y : Triple). not (is_left_out dropped y) in
-      let triples = map (between_numbers numbers s) (row_of s places) in
-      let from = mapped_has (between_numbers numbers s) (row_of s places) (0, 0, 0) x (filtered_has kept triples x c) in
-      record { place = from.0; in_row = from.1; is = from.2; stays = filtered_passes kept triples x c }
+      let shows = passing_contains kept (map (between_numbers numbers s) (row_of s places)) x c in
+      let from = mapped_contains (between_numbers numbers s) (row_of s places) x shows.0 in
+      record { place = from.0; in_row = from.1; is = from.2; stays = shows.1 }
 
   pub shown_place : (e : Triple) → Contains (row_of s places) e → not (is_left_out dropped (between_numbers numbers s e)) ≡ true →
       Contains (shown_by numbers dropped places s) (between_numbers numbers s e)
   shown_place e c stays =
-      has_filtered (λ y. not (is_left_out dropped y)) (map (between_numbers numbers s) (row_of s places)) (between_numbers numbers s e)
-      (has_mapped (between_numbers numbers s) (row_of s places) e c) stays
+      contains_passing (λ y. not (is_left_out dropped y)) (map (between_numbers numbers s) (row_of s places)) (between_numbers numbers s e)
+      (contains_mapped (between_numbers numbers s) (row_of s places) e c) stays
 
   -- it is no more than the row
   pub shown_few : length (shown_by numbers dropped places s) ≤ length (row_of s places)
@@ -48,7 +48,7 @@ module _ (numbers : List ℕ) (dropped : Option ℕ) (s : ℕ) (old new : List T
       ∙ filter-append (λ y. not (is_left_out dropped y)) (map (between_numbers numbers s) old) (between_numbers numbers s e ∷ [])
       ∙ ap (λ z. shown_in numbers dropped s old ++ cond (not (is_left_out dropped z)) (z ∷ []) []) (sym is)
 
-  -- behind what the list had
+  -- after what the list had
   pub shown_left_out : (had list : List Triple) → list ≡ had ++ shown_in numbers dropped s old → is_left_out dropped x ≡ true →
       list ≡ had ++ shown_in numbers dropped s new
   shown_left_out had list h out =

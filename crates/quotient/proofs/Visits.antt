@@ -77,21 +77,19 @@ module _ (a b u : Grouped) (same : system_of u ≡ union_of (system_of a) (syste
   all : r * length u.places ≡ r * both
   all = ap (λ m. r * m) (union_places a b u same)
 
-  pub compared_keeps : Costs mid at r (r * length u.places) (r * length u.places) → KeepsTo (a.states + b.states) both 1 at ((at.rounds + 1) * both)
-  compared_keeps turns =
+  -- also if they were cut off by a refusal
+  pub compared_keeps : (visits least : ℕ) → Costs mid at r visits (r * length u.places) → least ≤ both + visits →
+      KeepsTo (a.states + b.states) both 1 at least
+  compared_keeps visits least turns low =
       let rounds : at.rounds ≡ r = omega (arith, fresh.no_rounds, union.rounds, turns.rounds) in
-      rw rounds (record {
-        few_rounds = few;
-        at_least = omega (arith, all, fresh.no_visits, union.at_least, turns.at_least);
-        at_most = omega (arith, all, fresh.no_visits, union.at_most, turns.at_most);
-      })
+      record {
+        few_rounds = omega (arith, rounds, few);
+        at_least = omega (arith, low, fresh.no_visits, union.at_least, turns.at_least);
+        at_most = rw rounds (omega (arith, all, fresh.no_visits, union.at_most, turns.at_most));
+      }
 
-  -- or a beginning of these rounds, and a refusal
-  pub refused_keeps : Costs mid at r 0 (r * length u.places) → KeepsTo (a.states + b.states) both 1 at 0
-  refused_keeps turns =
+  -- as many as the rounds that were made
+  pub rounds_keep : Costs mid at r (r * length u.places) (r * length u.places) → KeepsTo (a.states + b.states) both 1 at ((at.rounds + 1) * both)
+  rounds_keep turns =
       let rounds : at.rounds ≡ r = omega (arith, fresh.no_rounds, union.rounds, turns.rounds) in
-      rw rounds (record {
-        few_rounds = few;
-        at_least = omega arith;
-        at_most = omega (arith, all, fresh.no_visits, union.at_most, turns.at_most);
-      })
+      compared_keeps (r * length u.places) ((at.rounds + 1) * both) turns (rw rounds (omega (arith, all)))

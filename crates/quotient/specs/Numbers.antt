@@ -5,6 +5,7 @@ use Rattle.theory.specs.declared.relation.Relation.{Relation}
 use Rattle.theory.specs.Quotient.{HowMany, IsLeader, Number}
 use Rattle.quotient.specs.Marked.{IsMarked}
 use Rattle.quotient.specs.declared.numbering.Numbering.{Numbering}
+use Rattle.quotient.specs.declared.numbering.TheConstants.{NONE}
 
 -- each reachable state has its number, the leaders are marked, and there are so many
 pub record IsNumbering (rel : Relation) (A : System) (n : Numbering) : Type 0 where
@@ -16,22 +17,18 @@ pub record IsNumbering (rel : Relation) (A : System) (n : Numbering) : Type 0 wh
   pub counted : HowMany (IsLeader rel A) n.count
   pub few : n.count ≤ A.states
 
--- what stands for the number of a block that has none
-abbrev pub none : ℕ
-none = 4294967295
-
 -- the next state is the first one reached in its block b, which gets the next number
 pub record BeginsClass (b : ℕ) (reached : Bool) (old new : Numbering) : Type 0 where
   pub way : IsTrue reached
-  pub fresh : slice_index old.by_block.items b ≡ none
+  pub fresh : slice_index old.by_block.items b ≡ NONE
   pub by_block : new.by_block.items ≡ slice_set old.by_block.items b old.count
   pub numbers : new.numbers.items ≡ old.numbers.items ++ old.count ∷ []
   pub leads : new.leads.items ≡ old.leads.items ++ true ∷ []
   pub count : new.count ≡ old.count + 1
 
--- the next state has the number of its block b, if that has one, and leads where it is the first state
+-- the next state has the number of its block b, if that has one, and leads if it is the first state
 pub record JoinsClass (b : ℕ) (reached first : Bool) (old new : Numbering) : Type 0 where
-  pub known : IsTrue reached → slice_index old.by_block.items b ≢ none
+  pub known : IsTrue reached → slice_index old.by_block.items b ≢ NONE
   pub by_block : new.by_block.items ≡ old.by_block.items
   pub numbers : new.numbers.items ≡ old.numbers.items ++ slice_index old.by_block.items b ∷ []
   pub leads : new.leads.items ≡ old.leads.items ++ first ∷ []

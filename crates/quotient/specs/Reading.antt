@@ -15,7 +15,7 @@ AreClasses rel g blocks =
     EachTwo (system_of g) (λ s t. (slice_index blocks s ≡ slice_index blocks t) ↔ Bisimilar rel (system_of g) s (system_of g) t)
 
 -- whose rows are read: those of the leaders, which show for strong bisimulation what their classes do; for branching
--- bisimulation those of all reachable states, since a leader need not show what its class shows behind internal steps
+-- bisimulation those of all reachable states, since a leader need not show what its class shows after internal steps
 abbrev pub sources_of : Relation → List Bool → List Bool → List Bool
 sources_of Strong leads reached = leads
 sources_of Branching leads reached = reached

@@ -5,16 +5,15 @@ use Rattle.theory.specs.System.{Step, Reachable}
 use Rattle.lts.specs.Lts.{Triple, source_of, row_of, Grouped, system_of}
 use Rattle.quotient.specs.Marked.{IsMarked}
 
--- the state s stays as it was where it was marked, and else is marked and waits at the end
+-- the state s stays as it was if it was marked; else it is marked and waits at the end
 abbrev pub MarksState : ℕ → List Bool → List ℕ → List Bool → List ℕ → Type 0
 MarksState s old old_waiting new new_waiting =
     (IsMarked old s × (new ≡ old) × (new_waiting ≡ old_waiting))
     ⊎ (¬ IsMarked old s × (new ≡ slice_set old s true) × (new_waiting ≡ old_waiting ++ s ∷ []))
 
--- the first state is marked, what is marked is reachable, and steps of a marked state lead to marked ones unless it waits
+-- what is marked is reachable, and steps of a marked state lead to marked ones unless it waits
 pub record Searches (g : Grouped) (marked : List Bool) (waiting : List ℕ) : Type 0 where
   pub size : length marked ≡ g.states
-  pub first : IsMarked marked g.first
   pub only_reachable : (s : ℕ) → IsMarked marked s → Reachable (system_of g) s
   pub each_waiting : (s : ℕ) → Contains waiting s → IsMarked marked s
   pub followed : (s t : ℕ) (a : List ℕ) → IsMarked marked s → Step (system_of g) s a t → Contains waiting s ⊎ IsMarked marked t

@@ -37,7 +37,7 @@ abbrev pub IsShownBelow : List ℕ → List Bool → Option ℕ → List Triple 
 IsShownBelow numbers sources dropped places s x =
     (t : ℕ) × (t < s) × IsMarked sources t × Contains (shown_by numbers dropped places t) x
 
--- a state behind its number
+-- a number, and a state that has it
 abbrev pub Member : Type 0
 Member = ℕ × ℕ
 
@@ -45,7 +45,7 @@ Member = ℕ × ℕ
 abbrev pub member_at : List Member → ℕ → Member
 member_at members k = slice_index_or members k (0, 0)
 
--- p is a marked state below s, behind its number
+-- p is a marked state below s, with its number before it
 abbrev pub IsMemberBelow : List ℕ → List Bool → ℕ → Member → Type 0
 IsMemberBelow numbers sources s p = (p.1 < s) × IsMarked sources p.1 × (p.0 ≡ slice_index numbers p.1)
 
@@ -53,15 +53,15 @@ IsMemberBelow numbers sources s p = (p.1 < s) × IsMarked sources p.1 × (p.0 �
 abbrev pub AreBelow : List ℕ → List Bool → ℕ → ℕ → Type 0
 AreBelow numbers sources s count = (t : ℕ) → t < s → IsMarked sources t → slice_index numbers t < count
 
--- a member as a triple, with its number in front once more
+-- a member as a triple, with its number twice
 abbrev pub numbered_of : Member → Triple
 numbered_of p = (p.0, p.0, p.1)
 
--- what follows that
+-- the second and third number of a triple, as a member
 abbrev pub member_of : Triple → Member
 member_of x = (label_of x, target_of x)
 
--- what the rows of the members show, one row behind the other
+-- what the rows of the members show, one row after the other
 abbrev pub shown_among : List ℕ → Option ℕ → List Triple → List Member → List Triple
 shown_among numbers dropped places members = flat_map (λ p. shown_by numbers dropped places p.1) members
 
@@ -74,6 +74,11 @@ pub record AreMembers (numbers : List ℕ) (sources : List Bool) (states : ℕ) 
   pub exactly : (p : Member) → Contains members p ↔ IsMemberBelow numbers sources states p
   pub rising : IsNonDecreasingBy (λ p. p.0) members
   pub few : (places : List Triple) → places_of places members ≤ before states places
+
+-- the members are states below the count, with their numbers, by rising number
+pub record AreNumbered (numbers : List ℕ) (states : ℕ) (members : List Member) : Type 0 where
+  pub each : (p : Member) → Contains members p → (p.1 < states) × (p.0 ≡ slice_index numbers p.1)
+  pub rising : IsNonDecreasingBy (λ p. p.0) members
 
 -- the members from start up to end have one number, and the next one has a larger number
 pub record IsClass (members : List Member) (start end : ℕ) : Type 0 where

@@ -8,10 +8,9 @@ ghost use Rattle.lts.specs.Lts.{system_of};
 ghost use Rattle.lts.specs.Union.{FitTogether};
 ghost use Rattle.quotient.specs.Visits.{KeepsTo};
 
-use crate::relation;
+use crate::{Relation, relation};
 use lts::{Lts, Memory, Meter, union};
 use std::alloc::Global;
-use theory::Relation;
 
 /// Whether the first states of two systems are bisimilar. The systems have to fit together, and the meter has to be
 /// fresh.
@@ -19,7 +18,7 @@ use theory::Relation;
 /// It takes the rounds of one refinement of the union, at most as many as both have states. Each transition is visited
 /// once for the union, and once a round.
 ///
-/// Fails if there is no memory for it. There is no verdict then, and the meter keeps to the same upper bounds.
+/// After a failure the meter keeps to the same upper bounds.
 pub fn equivalent<M: Meter>(
     alloc: Global,
     a: &Lts<M>,
@@ -30,12 +29,12 @@ pub fn equivalent<M: Meter>(
     requires fresh { IsFresh (M.counted m.old) }
     requires fit { FitTogether a.now b.now }
 
-    // Ok: the verdict, and the rounds that one refinement of the union takes.
+    // On success: the verdict, and the rounds that one refinement of the union takes.
     ensures verdict { IfOk result (λ same. IsTrue same ↔ Equivalent r (system_of a.now) (system_of b.now)) }
     ensures turns { let both = union_of (system_of a.now) (system_of b.now) in
         OnOk result (Turns r both (M.counted m.new).rounds) }
 
-    // Ok: one visit of each transition for the union and for each round. Err: no more than these.
+    // On success one visit of each transition for the union and for each round, on failure no more than these.
     ensures keeps { let at = M.counted m.new in let k = length a.now.places + length b.now.places in
         KeepsTo (a.now.states + b.now.states) k 1 at (on_ok result ((at.rounds + 1) * k)) }
 {

@@ -1,5 +1,7 @@
 //! The smallest system: which states are reachable, and the quotient, with a state for each class of bisimilar states.
 //! Also whether two systems are equivalent.
+//!
+//! A call fails, with `Memory`, only if a growth is refused.
 #![tactic(auto)]
 
 mod allowance;

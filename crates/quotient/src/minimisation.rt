@@ -11,21 +11,19 @@ ghost use Rattle.quotient.specs.Marked.{IsMarked};
 ghost use Rattle.quotient.specs.Numbers.{IsNumbering};
 
 use crate::numbering::{Numbering, number};
-use crate::relation;
 use crate::search::reachable;
 use crate::table::copied;
-use crate::triples::shown_triples;
+use crate::triples::{by_number, shown_triples};
+use crate::{Relation, relation};
 use lts::{Counter, Lts, Memory, Meter};
 use std::alloc::Global;
-use theory::Relation;
 
 /// The quotient of a system: the smallest system that is equivalent to it.
 ///
 /// It has a state for each class of bisimilar reachable states. The class of the first state is numbered 0, and the
 /// others follow in the order of their least reachable members. The meter has to be fresh. It takes the rounds of one
-/// refinement; for `r` rounds and `m` transitions there are at least `r * m` visits and at most `(r + 2) * m`.
-///
-/// Fails if there is no memory for it. There is no system then, and the meter keeps to the same upper bounds.
+/// refinement; for `r` rounds and `m` transitions there are at least `r * m` visits and at most `(r + 2) * m`. After a
+/// failure the meter keeps to the same upper bounds.
 pub fn minimise<M: Meter>(
     alloc: Global,
     l: &Lts<M>,
@@ -34,7 +32,7 @@ pub fn minimise<M: Meter>(
 ) -> Result<Lts<Counter>, Memory>
     requires fresh { IsFresh (M.counted m.old) }
 
-    // Ok: the quotient, and what makes it the smallest system.
+    // On success: the quotient, and what makes it the smallest system.
     ensures quotient { IfOk result (λ q. Quotient r (system_of l.now) (system_of q)) }
     ensures equivalent { IfOk result (λ q. Equivalent r (system_of l.now) (system_of q)) }
     ensures no_two_bisimilar { IfOk result (λ q. (s t : ℕ) →
@@ -43,7 +41,7 @@ pub fn minimise<M: Meter>(
         IsSystem B → Equivalent r (system_of l.now) B → q.states ≤ B.states) }
     ensures no_larger { IfOk result (λ q. (q.states ≤ l.now.states) × (length q.places ≤ length l.now.places)) }
 
-    // Ok: the rounds of one refinement. Ok and Err: at most one for each state, and the visits that they allow.
+    // On success: the rounds of one refinement. In either case: at most one for each state, and the visits that they allow.
     ensures turns { OnOk result (Turns r (system_of l.now) (M.counted m.new).rounds) }
     ensures keeps { let at = M.counted m.new in let k = length l.now.places in
         KeepsTo l.now.states k 2 at (on_ok result (at.rounds * k)) }
@@ -60,8 +58,6 @@ pub fn minimise<M: Meter>(
 }
 
 /// The quotient, once the reachable states have their numbers.
-///
-/// Fails if there is no memory for it.
 fn quotient_of<M: Meter>(
     alloc: Global,
     l: &Lts<M>,
@@ -80,21 +76,22 @@ fn quotient_of<M: Meter>(
 {
     l.known();
     lts::rows_are_steps();
+    lts::rows_follow();
     theory::steps_keep_reachable();
     theory::each_state_has_a_number();
     theory::numbers_are_classes();
     theory::numbers_are_states();
+    theory::states_without_inert_steps_show_all();
     let sources = relation::sources(r, &numbering.leads, reached);
     let dropped = relation::dropped(r, l.labels());
-    let triples = shown_triples(
+    let members = by_number(
         alloc,
-        l,
+        l.states(),
         &numbering.numbers,
         numbering.count,
         sources,
-        dropped,
-        m,
     )?;
+    let triples = shown_triples(alloc, l, &numbering.numbers, &members, dropped, m)?;
     let labels = copied(alloc, l.labels())?;
     Lts::build(alloc, labels, 0, numbering.count, triples)
 }

@@ -28,9 +28,7 @@ pub(crate) struct Numbering {
     pub(crate) count: u32,
 }
 
-/// Numbers the reachable states: for the relation whose classes the blocks are, which nothing needs any more.
-///
-/// Fails if there is no memory for it.
+/// The numbers of the reachable states, for the relation whose classes the blocks are. The blocks are used up.
 pub(crate) fn number<M: Meter>(
     alloc: Global,
     l: &Lts<M>,
@@ -70,16 +68,16 @@ impl Numbering {
     {
         let number = self.by_block[b as usize];
         if !is_reached || number != NONE {
-            return self.push(number, is_first);
+            return self.append(number, is_first);
         }
         self.by_block[b as usize] = self.count;
-        self.push(self.count, true)?;
+        self.append(self.count, true)?;
         self.count += 1;
         Ok(())
     }
 
-    /// Puts the number and the mark of a state behind the others.
-    fn push(&mut self, number: u32, leads: bool) -> Result<(), Memory>
+    /// Appends the number and the mark of a state.
+    fn append(&mut self, number: u32, leads: bool) -> Result<(), Memory>
         ensures by_block { self.new.by_block ≡ self.old.by_block }
         ensures numbers { OnOk result (self.new.numbers.items ≡ self.old.numbers.items ++ number ∷ []) }
         ensures leads { OnOk result (self.new.leads.items ≡ self.old.leads.items ++ leads ∷ []) }

@@ -11,8 +11,6 @@ use std::alloc::Global;
 use theory::Relation;
 
 /// Blocks that two states share exactly if they are bisimilar.
-///
-/// Fails if there is no memory for them.
 pub(crate) fn blocks<M: Meter>(
     alloc: Global,
     l: &Lts<M>,
@@ -21,12 +19,12 @@ pub(crate) fn blocks<M: Meter>(
 ) -> Result<Partition, Memory>
     requires room { HasRoomFor (M.counted m.old) l.now.states (l.now.states * length l.now.places) }
 
-    // Ok: a block for each state, and the rounds that refinement takes, each of one visit of every transition.
+    // On success: a block for each state, and the rounds that refinement takes, each of one visit of every transition.
     ensures states { IfOk result (λ p. length p ≡ l.now.states) }
     ensures classes { IfOk result (λ p. AreClasses r l.now p) }
     ensures turns { OnOk result (TakesTurns r l.now (M.counted m.old) (M.counted m.new)) }
 
-    // Err: no more rounds than states, and no more visits than these cost.
+    // On failure: no more rounds than states, and no more visits than these cost.
     ensures err { OnErr result (CostsUpTo (M.counted m.old) (M.counted m.new) l.now.states (length l.now.places)) }
 {
     match r {

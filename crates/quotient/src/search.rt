@@ -12,15 +12,13 @@ use std::alloc::Global;
 use std::collections::VecDeque;
 
 /// Which states are reachable from the first state, that one included. Each transition is visited once at most.
-///
-/// Fails if there is no memory for it.
 pub fn reachable<M: Meter>(alloc: Global, l: &Lts<M>, m: &mut M) -> Result<Vec<bool>, Memory>
     requires room { HasRoomFor (M.counted m.old) 0 (length l.now.places) }
     ensures states { IfOk result (λ r. length r.items ≡ l.now.states) }
     ensures exactly { IfOk result (λ r. (s : ℕ) →
         s < l.now.states → IsMarked r.items s ↔ Reachable (system_of l.now) s) }
 
-    // Ok and Err
+    // In either case.
     ensures visits { Costs (M.counted m.old) (M.counted m.new) 0 0 (length l.now.places) }
 {
     theory::steps_keep_reachable();
@@ -43,7 +41,7 @@ struct Search {
 }
 
 impl Search {
-    /// Marks the state `s` and puts it last in the queue, unless it was marked before.
+    /// Marks the state `s` and appends it to the queue, unless it was marked before.
     fn mark(&mut self, s: u32) -> Result<(), Memory>
         requires { s < length self.old.marked.items }
         ensures { let marks = MarksState s self.old.marked.items self.old.queue.items in
@@ -61,6 +59,7 @@ impl Search {
         requires search { Searches l.now self.old.marked.items (s ∷ self.old.queue.items) }
         requires room { HasRoomFor (M.counted m.old) 0 (length (row_of s l.now.places)) }
         ensures search { OnOk result (Searches l.now self.new.marked.items self.new.queue.items) }
+        ensures kept { OnOk result ((t : ℕ) → IsMarked self.old.marked.items t → IsMarked self.new.marked.items t) }
         ensures states { let ahead = λ (s : Search). states_ahead s.marked.items s.queue.items in
             OnOk result (ahead self.new ≡ ahead self.old) }
         ensures places { let ahead = λ (s : Search). places_ahead l.now.places s.marked.items s.queue.items in

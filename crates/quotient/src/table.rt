@@ -1,4 +1,4 @@
-//! A label table for the quotient.
+//! The label table of the quotient.
 ghost use Rattle.std.specs.Prelude.{◌≡◌, IfOk};
 
 use lts::{Labels, Memory};

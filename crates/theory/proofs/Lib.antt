@@ -1,3 +1,4 @@
+pub mod CallerLemmas
 pub mod Paths
 pub mod Deciding
 pub mod Listing
@@ -13,7 +14,7 @@ pub mod RisingLists
 pub mod Tally
 pub mod Counting
 pub mod Turning
-pub mod Testing
+pub mod Showing
 pub mod Determined
 pub mod BothRelations
 pub mod Leaders

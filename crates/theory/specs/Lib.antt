@@ -2,6 +2,5 @@ pub mod System
 pub mod Bisimulation
 pub mod Blocks
 pub mod Quotient
-pub mod Examples
 pub mod Alike
 pub mod Union

@@ -42,6 +42,11 @@ abbrev pub IsDropped : Relation → Transition → Type 0
 IsDropped Strong e = ⊥
 IsDropped Branching e = (e.label ≡ internal) × (e.source ≡ e.target)
 
+-- the step from s by a to t shows in no class: for branching, an internal one to a bisimilar state
+abbrev pub ShowsNothing : Relation → System → ℕ → List ℕ → ℕ → Type 0
+ShowsNothing Strong A s a t = ⊥
+ShowsNothing Branching A s a t = (a ≡ internal) × Bisimilar Branching A s A t
+
 -- the transition e between numbers stands for a step of a reachable state
 abbrev pub Stands : Relation → System → Transition → Type 0
 Stands rel A e =

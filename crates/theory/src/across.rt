@@ -1,8 +1,9 @@
-//! Bisimilarity of states of different systems: two comparisons that hold give a third.
+//! Bisimilarity of states of different systems: two comparisons that hold give a third, and how the two relations lie to
+//! each other.
 
-ghost use Rattle.std.specs.Prelude.{ℕ, ◌<◌};
-ghost use Rattle.theory.specs.System.{System, IsSystem};
-ghost use Rattle.theory.specs.Bisimulation.{Bisimilar, Equivalent};
+ghost use Rattle.std.specs.Prelude.{ℕ, ◌<◌, List};
+ghost use Rattle.theory.specs.System.{System, IsSystem, Internal};
+ghost use Rattle.theory.specs.Bisimulation.{Strong, Branching, Bisimilar, Equivalent};
 ghost use Rattle.theory.specs.declared.relation.Relation.{Relation};
 
 /// Bisimilarity of either relation is symmetric and transitive across systems. It relates states only.
@@ -20,4 +21,13 @@ pub fn systems_are_compared()
     ensures symmetric { (rel : Relation) (A B : System) → Equivalent rel A B → Equivalent rel B A }
     ensures transitive { (rel : Relation) (A B C : System) → IsSystem A → IsSystem C →
         Equivalent rel A B → Equivalent rel B C → Equivalent rel A C }
+{}
+
+/// A strong bisimulation is a branching one, and the other way round if no step is internal.
+pub fn strong_and_branching()
+    ensures strong_is_branching { (A B : System) (pairs : List (ℕ × ℕ)) →
+        Strong A B pairs → Branching A B pairs }
+    ensures branching_is_strong { (A B : System) (pairs : List (ℕ × ℕ)) →
+        ((s t : ℕ) → ¬ Internal A s t) → ((s t : ℕ) → ¬ Internal B s t) →
+        Branching A B pairs → Strong A B pairs }
 {}

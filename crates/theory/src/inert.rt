@@ -1,12 +1,14 @@
-//! Inert steps: where they lead, and how they pass signatures back.
+//! Inert steps: where they lead, what they keep, how they pass signatures back, and what shows where there are none.
 
 ghost use Rattle.std.specs.Prelude.{◌≡◌, ◌⊎◌, ℕ, ◌<◌, Bool, IsTrue, List};
 ghost use Rattle.theory.specs.System.{System, IsSystem, Step, Leads, internal};
+ghost use Rattle.theory.specs.Bisimulation.{Bisimilar};
+ghost use Rattle.theory.specs.declared.relation.Relation.{Relation};
 ghost use Rattle.theory.specs.declared.relation.Relation.TheVariants.{Branching};
 ghost use Rattle.theory.specs.Blocks.{Inert, Signature, SameSignature};
+ghost use Rattle.theory.specs.Quotient.{ShowsNothing};
 
-/// A path of inert steps may be empty, and may be extended at either end. It stays in one block and among the states. A
-/// property that each inert step keeps holds at the end of each path that begins with it.
+/// A path of inert steps may be empty, and may be extended at either end.
 pub fn inert_steps_lead_on()
     ensures here { (A : System) (blocks : ℕ → ℕ) (s : ℕ) → Leads (Inert A blocks) s s }
     ensures step { (A : System) (blocks : ℕ → ℕ) (s t : ℕ) → Inert A blocks s t → Leads (Inert A blocks) s t }
@@ -18,8 +20,11 @@ pub fn inert_steps_lead_on()
         Leads (Inert A blocks) s t → Leads (Inert A blocks) t u → Leads (Inert A blocks) s u }
     ensures begins { (A : System) (blocks : ℕ → ℕ) (s u : ℕ) → Leads (Inert A blocks) s u →
         (s ≡ u) ⊎ ((t : ℕ) × Inert A blocks s t × Leads (Inert A blocks) t u) }
+{}
 
-    // What stays as it is on the way.
+/// A path of inert steps stays in one block and among the states. A property that each inert step keeps holds at the end of each
+/// path that begins with it.
+pub fn inert_steps_stay()
     ensures block { (A : System) (blocks : ℕ → ℕ) (s t : ℕ) → Leads (Inert A blocks) s t → blocks t ≡ blocks s }
     ensures below { (A : System) (blocks : ℕ → ℕ) (s t : ℕ) → IsSystem A →
         Leads (Inert A blocks) s t → s < A.states → t < A.states }
@@ -42,4 +47,11 @@ pub fn inert_steps_pass_signatures_back()
         ⊎ ((t : ℕ) × Inert A blocks s t × Signature Branching A blocks t a b) }
     ensures same { (A : System) (blocks : ℕ → ℕ) (s t : ℕ) → Leads (Inert A blocks) s t → Leads (Inert A blocks) t s →
         SameSignature Branching A blocks s t }
+{}
+
+/// A state with no inert step makes each step of a bisimilar state that is not inert.
+pub fn states_without_inert_steps_show_all()
+    ensures { (rel : Relation) (A : System) (s t : ℕ) (a : List ℕ) (u : ℕ) → IsSystem A → Bisimilar rel A s A t →
+        ((b : List ℕ) (v : ℕ) → Step A s b v → ¬ ShowsNothing rel A s b v) →
+        Step A t a u → ¬ ShowsNothing rel A t a u → (v : ℕ) × Step A s a v × Bisimilar rel A u A v }
 {}

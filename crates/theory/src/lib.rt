@@ -6,45 +6,31 @@
 
 mod across;
 mod alike;
-mod examples;
 mod fixpoint;
 mod inert;
 mod laws;
 mod minimal;
-mod quotients;
 mod relation;
-mod rounds;
 mod unions;
 
-pub use across::{bisimilarity_goes_across, systems_are_compared};
+pub use across::{bisimilarity_goes_across, strong_and_branching, systems_are_compared};
 pub use alike::the_order_does_not_matter;
-pub use examples::{
-    a_lost_option, a_silent_choice, a_silent_cycle, a_silent_loop, a_silent_step_in_the_middle,
-    an_unreachable_twin, another_first_state, committed_or_not, different_labels,
-    hidden_on_both_sides, moment_of_choice, reordered_lines, strong_and_branching,
-};
 pub use fixpoint::{
     bisimilarity_is_an_equivalence, final_blocks_are_bisimilarity, refinement_goes_on,
     related_to_one_state_share, split_exists, turns_exist,
 };
-pub use inert::{inert_steps_lead_on, inert_steps_pass_signatures_back};
+pub use inert::{
+    inert_steps_lead_on, inert_steps_pass_signatures_back, inert_steps_stay,
+    states_without_inert_steps_show_all,
+};
 pub use laws::{bisimulations_survive, one_block_is_kept, splitting_keeps, stable_is_bisimulation};
 pub use minimal::{
     each_state_has_a_number, leaders_are_counted, leaders_differ, no_smaller_system,
     numbers_are_classes, numbers_are_states, quotient_is_a_system, quotient_is_equivalent,
     quotient_states_differ, states_are_bisimilar_to_their_numbers, steps_keep_reachable,
-};
-pub use quotients::{
-    branching_quotients, hidden_step, not_the_quotient, quotient_of_first_leads,
-    quotient_of_silent_cycle, quotient_of_silent_detour, quotient_of_silent_loop,
-    quotient_of_unreachable_twin, strong_quotients, the_quotient_is_one,
+    the_quotient_is_one,
 };
 pub use relation::Relation;
-pub use rounds::{
-    old_blocks_count, rounds_of_chain_of_three, rounds_of_lone_state, rounds_of_not_committed,
-    rounds_of_option_behind, rounds_of_silent_beside, rounds_of_silent_chain,
-    rounds_of_silent_cycle, rounds_of_silent_detour, rounds_of_two_equal_targets,
-};
 pub use unions::{
     the_order_does_not_matter_side_by_side, the_union_decides_equivalence, the_union_is_a_system,
     the_union_keeps_bisimilarity,

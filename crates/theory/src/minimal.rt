@@ -1,8 +1,9 @@
-//! What holds of each quotient: it is equivalent to its system, no two of its states are bisimilar, and no equivalent
-//! system has fewer.
+//! What holds of each quotient: it is one system, equivalent to the one that it is of, no two of its states are
+//! bisimilar, and no equivalent system has fewer.
 
 ghost use Rattle.std.specs.Prelude.{◌≡◌, ◌≢◌, ◌↔◌, ℕ, ◌+◌, ◌<◌, ◌≤◌, Bool, IsTrue, List};
-ghost use Rattle.theory.specs.System.{System, IsSystem, Step, Reachable};
+ghost use Rattle.std.specs.List.{Contains};
+ghost use Rattle.theory.specs.System.{System, Transition, IsSystem, Step, Reachable};
 ghost use Rattle.theory.specs.Bisimulation.{Bisimilar, Equivalent};
 ghost use Rattle.theory.specs.declared.relation.Relation.{Relation};
 ghost use Rattle.theory.specs.Quotient.{HowMany, Leader, IsLeader, Number, Quotient};
@@ -58,6 +59,17 @@ pub fn numbers_are_states()
         Number rel A s n → n < Q.states }
     ensures taken { (rel : Relation) (A Q : System) (n : ℕ) → IsSystem A → Quotient rel A Q → n < Q.states →
         (s : ℕ) × Reachable A s × Number rel A s n }
+{}
+
+/// The quotient is one system, but for the order of its list.
+pub fn the_quotient_is_one()
+    ensures states { (rel : Relation) (A Q R : System) →
+        Quotient rel A Q → Quotient rel A R → Q.states ≡ R.states }
+    ensures first { (rel : Relation) (A Q R : System) →
+        Quotient rel A Q → Quotient rel A R → Q.first ≡ R.first }
+    ensures transitions { (rel : Relation) (A Q R : System) (e : Transition) →
+        Quotient rel A Q → Quotient rel A R →
+        Contains Q.transitions e ↔ Contains R.transitions e }
 {}
 
 /// The quotient of a system is a system.

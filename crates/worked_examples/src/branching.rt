@@ -70,7 +70,7 @@ fn refined_to_the_end(rt: HostRuntime) -> Result<(), Fail> {
     check_rows(rt.alloc(), Shown::Branching(Made::Refined), &REFINED)
 }
 
-/// The blocks after one round, and the signature of state 0 under them, behind one pair.
+/// The blocks after one round, and the signature of state 0 under them, after one pair.
 pub(crate) fn signed(alloc: Global, l: &Lts<Counter>) -> Result<String, Memory> {
     let one = one_block(alloc, l)?;
     let p = split::<Branching>(alloc, l, &one, &mut String::new(alloc))?;

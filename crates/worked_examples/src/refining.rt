@@ -40,7 +40,7 @@ pub(crate) fn refine_as<S: Sense>(
     }
 }
 
-/// The blocks of the states, behind how many there are.
+/// How many blocks there are, and those of the states.
 pub(crate) fn blocks(alloc: Global, p: &Partition) -> Result<String, Memory> {
     let mut text = format!(in alloc; "{}:", p.count())?;
     for s in 0..p.states() {
@@ -262,7 +262,7 @@ fn table<S: Sense>(alloc: Global, l: &Lts<Counter>, many: u32) -> Result<String,
     Ok(text)
 }
 
-/// Appends the signature of state 0 under the blocks, behind what stood.
+/// Appends the signature of state 0 under the blocks, after other pairs.
 pub(crate) fn append_signature<S: Sense, M: Meter>(
     alloc: Global,
     l: &Lts<M>,
@@ -280,7 +280,7 @@ pub(crate) fn append_signature<S: Sense, M: Meter>(
     append_signed::<S, M>(alloc, l, p, &mut marks, &mut out, m, text)
 }
 
-/// The same, in these marks and behind these pairs.
+/// The same, in these marks and after these pairs.
 fn append_signed<S: Sense, M: Meter>(
     alloc: Global,
     l: &Lts<M>,

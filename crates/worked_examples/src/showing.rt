@@ -16,9 +16,9 @@ pub(crate) enum Shown {
     Strong(Made),
     /// What refinement by branching bisimulation makes of it.
     Branching(Made),
-    /// The signature of state 0 under one block, by strong bisimulation, behind what stood, and the visits.
+    /// The signature of state 0 under one block, by strong bisimulation, after other pairs, and the visits.
     StrongSigned(&'static [(u32, u32)]),
-    /// The blocks after one branching round, and the signature of state 0 under them, behind one pair.
+    /// The blocks after one branching round, and the signature of state 0 under them, after one pair.
     BranchingSigned,
     /// The blocks after a strong round, and those that a branching round makes of them, a line each.
     StrongThenBranching,

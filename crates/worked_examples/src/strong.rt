@@ -59,7 +59,7 @@ fn chain_filled_twice(rt: HostRuntime) -> Result<(), Fail> {
     check_rows(rt.alloc(), Shown::Strong(Made::FilledTwice), &CHAIN_TWICE)
 }
 
-/// The signature of state 0 under one block, behind what stood, and the visits.
+/// The signature of state 0 under one block, after other pairs, and the visits.
 pub(crate) fn signed(
     alloc: Global,
     l: &Lts<Counter>,

@@ -2,7 +2,7 @@ use Rattle.std.proofs.Common.{◌≡◌, ◌∙◌, ◌+◌, slice_index, ap, ar
 use Rattle.std.proofs.lemmas.Result.{err_from_is_err_and}
 use Rattle.lts.specs.Lts.{system_of}
 use Rattle.quotient.proofs.Unions.{same_decides}
-use Rattle.quotient.proofs.Visits.{compared_keeps, refused_keeps}
+use Rattle.quotient.proofs.Visits.{compared_keeps, rounds_keep}
 use Rattle.quotient.proofs.comparison.equivalent.Goals as goal
 
 pub returns-clause-verdict : goal.returns-clause-verdict
@@ -22,11 +22,11 @@ returns-in_err-blocks-clause-keeps g c =
     let begun = c.in_err-blocks.ensures.err in
     let exit = err_from_is_err_and c.from_residual-in_err-blocks.result c.from_residual-in_err-blocks.ensures.1 in
     rw (exit.1)
-    (refused_keeps c.args.a.now c.args.b.now c.in_ok-both.both c.in_ok-both.ensures.system _ _ _ c.requires.fresh c.in_ok-both.ensures.visits
-    begun.0 begun.1 begun.2)
+    (compared_keeps c.args.a.now c.args.b.now c.in_ok-both.both c.in_ok-both.ensures.system _ _ _ c.requires.fresh c.in_ok-both.ensures.visits
+    begun.0 begun.1 0 0 begun.2 (omega arith))
 
 pub returns-clause-keeps : goal.returns-clause-keeps
 returns-clause-keeps g c =
     let turns = c.in_ok-blocks.ensures.turns in
-    compared_keeps c.args.a.now c.args.b.now c.in_ok-both.both c.in_ok-both.ensures.system _ _ _ c.requires.fresh c.in_ok-both.ensures.visits
+    rounds_keep c.args.a.now c.args.b.now c.in_ok-both.both c.in_ok-both.ensures.system _ _ _ c.requires.fresh c.in_ok-both.ensures.visits
     turns.0 turns.1 turns.3

@@ -1,14 +1,16 @@
-use Rattle.std.proofs.Common.{◌∙◌, ◌↔◌, ◌≤◌, length, Contains, ap, sym, subst, arith}
+use Rattle.std.proofs.Common.{◌∙◌, ◌≤◌, length, ap, sym, subst, arith}
 use Rattle.std.proofs.lemmas.List.Sorted.{length_permutation}
 use Rattle.std.proofs.lemmas.Result.{IfOk-weaker}
-use Rattle.lts.specs.Lts.{Triple, InRange, IsGrouping, system_of}
+use Rattle.lts.specs.Lts.{InRange, IsGrouping, system_of}
 use Rattle.quotient.specs.Reading.{sources_of, IsDroppedLabel}
-use Rattle.quotient.specs.Triples.{IsShownBelow}
-use Rattle.quotient.proofs.Quotients.{NumberLaws, Laws, AreEnough, rows_enough, quotient_in_range, IfOk-quotient}
-use Rattle.quotient.proofs.Settled.{members_show_also}
+use Rattle.quotient.specs.Triples.{AreMembers, HasShown, places_of}
+use Rattle.quotient.proofs.Members.{AreMembers-numbered}
+use Rattle.quotient.proofs.Quotients.{NumberLaws, Laws, AreEnough, Parts-shown, rows_enough, quotient_in_range, IfOk-quotient}
+use Rattle.quotient.proofs.WholeRows.{members_show_also}
+use Rattle.quotient.proofs.Visits.{visits_at_most}
 use Rattle.quotient.proofs.minimisation.quotient_of.Given.{Over}
 use Rattle.quotient.proofs.minimisation.quotient_of.Goals as goal
-use Rattle.quotient.proofs.minimisation.quotient_of.Goals.{After-dropped-dropped}
+use Rattle.quotient.proofs.minimisation.quotient_of.Goals.{After-dropped-dropped, In_ok-members, In_ok-triples}
 
 module _ (g : Over) (c : After-dropped-dropped g) where
   numbers : NumberLaws c.args.r (system_of c.args.l.now)
@@ -32,6 +34,7 @@ module _ (g : Over) (c : After-dropped-dropped g) where
         reached_on = λ s a t way step. c.steps_keep_reachable.ensures.step A s a t way step;
         below = λ s way. c.steps_keep_reachable.ensures.below A s c.known.ensures.system way;
         numbers = numbers;
+        shows_all = λ s t a u. c.states_without_inert_steps_show_all.ensures c.args.r A s t a u c.known.ensures.system;
         sources = c.rows_are_steps.ensures.sources;
         steps = λ s a t. c.rows_are_steps.ensures.steps c.args.l.now s a t;
       }
@@ -45,39 +48,80 @@ module _ (g : Over) (c : After-dropped-dropped g) where
   drops : IsDroppedLabel c.args.r c.args.l.now.labels c.dropped-dropped.result
   drops = subst (λ labels. IsDroppedLabel c.args.r labels c.dropped-dropped.result) c.labels.ensures c.dropped-dropped.ensures
 
+-- the members, and no more rows than all
+are : (g : Over) (c : In_ok-members g) →
+    AreMembers c.args.numbering.now.numbers.items c.sources-sources.result.now c.args.l.now.states c.in_ok-members.members.items
+are g c = rw (c.deref-2.ensures.value, c.states.ensures.value) at c.in_ok-members.ensures
+
+few : (g : Over) (c : In_ok-members g) → places_of c.args.l.now.places c.in_ok-members.members.items ≤ length c.args.l.now.places
+few g c = omega (arith, (are g c).few c.args.l.now.places, c.rows_follow.ensures.all c.args.l.now c.known.ensures)
+
+pub shown_triples-requires-clause-members : goal.shown_triples-requires-clause-members
+shown_triples-requires-clause-members g c =
+    let at = (goal.at.shown_triples-requires-clause-members g c).In_ok-members in
+    rw (c.deref-3.ensures.value, c.deref-4.ensures.value) (AreMembers-numbered _ _ _ _ (are g at))
+
 pub shown_triples-requires-clause-whole : goal.shown_triples-requires-clause-whole
 shown_triples-requires-clause-whole g c =
-    let at = (goal.at.shown_triples-requires-clause-whole g c).After-dropped-dropped in
-    rw c.deref-2.ensures.value (members_show_also c.args.r c.args.l.now c.args.numbering.now (laws g at) c.requires.numbering
-    c.sources-sources.result.now (enough g at) c.dropped-dropped.result (drops g at))
+    let goals = goal.at.shown_triples-requires-clause-whole g c in
+    let at = goals.After-dropped-dropped in
+    let is = are g goals.In_ok-members in
+    let also = members_show_also c.args.r c.args.l.now c.args.numbering.now (laws g at) c.requires.numbering
+    c.sources-sources.result.now (enough g at) c.dropped-dropped.result (drops g at) in
+    rw (c.deref-3.ensures.value, c.deref-4.ensures.value) (λ p q cp cq. also p q ((is.exactly p).0 cp) ((is.exactly q).0 cq))
+
+pub shown_triples-requires-clause-room : goal.shown_triples-requires-clause-room
+shown_triples-requires-clause-room g c =
+    let few = few g (goal.at.shown_triples-requires-clause-room g c).In_ok-members in
+    rw c.deref-4.ensures.value (record { for_rounds = c.requires.room.for_rounds; for_visits = omega (arith, few, c.requires.room.for_visits) })
+
+pub by_number-requires-clause-below : goal.by_number-requires-clause-below
+by_number-requires-clause-below g c =
+    let enough = enough g (goal.at.by_number-requires-clause-below g c).After-dropped-dropped in
+    rw (c.deref-2.ensures.value, c.states.ensures.value) (λ t l marked. c.requires.numbering.below t (enough.only t l marked))
+
+-- what was shown, over the numbers themselves
+shown : (g : Over) (c : In_ok-triples g) → HasShown c.args.numbering.now.numbers.items c.dropped-dropped.result c.args.l.now.places
+    c.in_ok-members.members.items c.in_ok-triples.triples.items
+shown g c = rw (c.deref-3.ensures.value, c.deref-4.ensures.value) at c.in_ok-triples.ensures.shown
 
 pub build-requires : goal.build-requires
 build-requires g c =
-    let l = c.args.l.now in
-    let es = c.in_ok-triples.triples.items in
-    let at = (goal.at.build-requires g c).After-dropped-dropped in
-    let exactly : (x : Triple) → Contains es x ↔ IsShownBelow c.args.numbering.now.numbers.items c.sources-sources.result.now c.dropped-dropped.result l.places l.states x =
-    subst (λ numbers. (x : Triple) → Contains es x ↔ IsShownBelow numbers c.sources-sources.result.now c.dropped-dropped.result l.places l.states x)
-    c.deref-2.ensures.value c.in_ok-triples.ensures.exactly in
-    let labels = c.in_ok-labels.ensures ∙ c.labels-2.ensures in
-    subst (λ n. InRange n 0 c.args.numbering.now.count es) (sym (ap length labels))
-    (quotient_in_range c.args.r l c.args.numbering.now (laws g at) c.requires.numbering c.sources-sources.result.now (enough g at)
-    c.dropped-dropped.result (drops g at) es exactly c.in_ok-triples.ensures.once c.in_ok-triples.ensures.few)
+    let goals = goal.at.build-requires g c in
+    let at = goals.After-dropped-dropped in
+    let has = shown g goals.In_ok-triples in
+    let less : length c.in_ok-triples.triples.items ≤ length c.args.l.now.places = omega (arith, has.few, few g goals.In_ok-members) in
+    let parts = Parts-shown c.args.r c.args.l.now c.args.numbering.now c.sources-sources.result.now c.dropped-dropped.result c.in_ok-triples.triples.items
+    c.in_ok-members.members.items (laws g at) c.requires.numbering (enough g at) (drops g at) (are g goals.In_ok-members) has in
+    subst (λ n. InRange n 0 c.args.numbering.now.count c.in_ok-triples.triples.items) (sym (ap length (c.in_ok-labels.ensures ∙ c.labels-2.ensures)))
+    (quotient_in_range _ _ _ _ _ _ parts less)
 
 pub returns-clause-quotient : goal.returns-clause-quotient
 returns-clause-quotient g c =
-    let l = c.args.l.now in
-    let es = c.in_ok-triples.triples.items in
-    let at = (goal.at.returns-clause-quotient g c).After-dropped-dropped in
-    let exactly : (x : Triple) → Contains es x ↔ IsShownBelow c.args.numbering.now.numbers.items c.sources-sources.result.now c.dropped-dropped.result l.places l.states x =
-    subst (λ numbers. (x : Triple) → Contains es x ↔ IsShownBelow numbers c.sources-sources.result.now c.dropped-dropped.result l.places l.states x)
-    c.deref-2.ensures.value c.in_ok-triples.ensures.exactly in
+    let goals = goal.at.returns-clause-quotient g c in
+    let at = goals.After-dropped-dropped in
+    let parts = Parts-shown c.args.r c.args.l.now c.args.numbering.now c.sources-sources.result.now c.dropped-dropped.result c.in_ok-triples.triples.items
+    c.in_ok-members.members.items (laws g at) c.requires.numbering (enough g at) (drops g at) (are g goals.In_ok-members) (shown g goals.In_ok-triples) in
     let built = c.build.ensures in
-    IfOk-quotient c.args.r l c.args.numbering.now (laws g at) c.requires.numbering c.sources-sources.result.now (enough g at)
-    c.dropped-dropped.result (drops g at) es exactly c.in_ok-triples.ensures.once c.in_ok-labels.labels (c.in_ok-labels.ensures ∙ c.labels-2.ensures)
+    IfOk-quotient _ _ _ _ _ _ parts c.in_ok-labels.labels (c.in_ok-labels.ensures ∙ c.labels-2.ensures)
     c.build.result built.first built.states built.labels built.places built.grouping
 
 pub returns-clause-fewer_transitions : goal.returns-clause-fewer_transitions
 returns-clause-fewer_transitions g c =
+    let goals = goal.at.returns-clause-fewer_transitions g c in
+    let all = few g goals.In_ok-members in
+    let has = shown g goals.In_ok-triples in
     IfOk-weaker c.build.result (λ q. IsGrouping c.in_ok-triples.triples.items q.places) (λ q. length q.places ≤ length c.args.l.now.places)
-    (λ q grouping. omega (arith, length_permutation c.in_ok-triples.triples.items q.places grouping.same, c.in_ok-triples.ensures.few)) c.build.ensures.grouping
+    (λ q grouping. omega (arith, length_permutation c.in_ok-triples.triples.items q.places grouping.same, has.few, all)) c.build.ensures.grouping
+
+pub returns-in_err-triples-clause-visits : goal.returns-in_err-triples-clause-visits
+returns-in_err-triples-clause-visits g c =
+    visits_at_most _ _ _ _ (few g (goal.at.returns-in_err-triples-clause-visits g c).In_ok-members) (rw c.deref-4.ensures.value at c.shown_triples.ensures.visits)
+
+pub returns-in_err-labels-clause-visits : goal.returns-in_err-labels-clause-visits
+returns-in_err-labels-clause-visits g c =
+    visits_at_most _ _ _ _ (few g (goal.at.returns-in_err-labels-clause-visits g c).In_ok-members) (rw c.deref-4.ensures.value at c.shown_triples.ensures.visits)
+
+pub returns-clause-visits : goal.returns-clause-visits
+returns-clause-visits g c =
+    visits_at_most _ _ _ _ (few g (goal.at.returns-clause-visits g c).In_ok-members) (rw c.deref-4.ensures.value at c.shown_triples.ensures.visits)

@@ -5,7 +5,7 @@ use Rattle.theory.specs.System.{System}
 use Rattle.theory.specs.declared.relation.Relation.{Relation}
 use Rattle.lts.specs.Lts.{system_of}
 use Rattle.quotient.specs.Reading.{AreClasses}
-use Rattle.quotient.specs.Numbers.{none}
+use Rattle.quotient.specs.declared.numbering.TheConstants.{NONE}
 use Rattle.quotient.proofs.Classes.{CountingLaws, Laws, Taken, Taken-start, Taken-adds, Taken-end, TakesState-within, TakesState-few}
 use Rattle.quotient.proofs.numbering.number.Given.{Over}
 use Rattle.quotient.proofs.numbering.number.Goals as goal
@@ -41,10 +41,10 @@ module _ (g : Over) (c : goal.In_ok-with_capacity-2 g) (rel : Relation) where
 
 -- at first the first state's block alone has a number
 set_first : (g : Over) (c : goal.In_ok-with_capacity-2 g) → set c.in_ok-by_block.by_block.items c.block.result 0
-    ≡ set (replicate c.count.result none) (slice_index c.args.blocks c.args.l.now.first) 0
+    ≡ set (replicate c.count.result NONE) (slice_index c.args.blocks c.args.l.now.first) 0
 set_first g c =
     ap (λ xs. set xs c.block.result 0) (c.in_ok-by_block.ensures.items_if_clones_equal (λ y e. e))
-    ∙ ap (λ b. set (replicate c.count.result none) b 0) (c.block.ensures ∙ ap (slice_index c.args.blocks) c.first-first.ensures)
+    ∙ ap (λ b. set (replicate c.count.result NONE) b 0) (c.block.ensures ∙ ap (slice_index c.args.blocks) c.first-first.ensures)
 
 pub loop-s-init : goal.loop-s-init
 loop-s-init g c =

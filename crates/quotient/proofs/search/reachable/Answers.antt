@@ -1,9 +1,9 @@
-use Rattle.std.proofs.Common.{◌≡◌, ◌∙◌, false, [], replicate, ap, arith, rules}
+use Rattle.std.proofs.Common.{◌≡◌, ◌∙◌, ◌<◌, false, [], replicate, length, ap, arith, rules}
 use Rattle.std.specs.List.{slice_index_or}
 use Rattle.std.proofs.lemmas.List.{length-replicate}
 use Rattle.lts.specs.Lts.{system_of}
 use Rattle.quotient.specs.Search.{MarksState}
-use Rattle.quotient.proofs.Reaching.{Searches-start, Searches-end, places_ahead-marks, places_ahead-first}
+use Rattle.quotient.proofs.Reaching.{MarksState-self, Searches-none, Searches-mark, Searches-end, places_ahead-marks, places_ahead-first}
 use Rattle.quotient.proofs.search.reachable.Given.{Over}
 use Rattle.quotient.proofs.search.reachable.Goals as goal
 use Rattle.quotient.proofs.search.reachable.Goals.{In_ok-mark}
@@ -22,9 +22,11 @@ loop-s-init g c =
     let none = replicate s.states false in
     let marks = first_marked g (goal.at.loop-s-init g c).In_ok-mark in
     let first = c.states.ensures.lts.in_range.first_below in
-    let kept = places_ahead-marks s.places s.first none [] _ _ (omega (arith, length-replicate s.states false, first)) marks in
+    let below : s.first < length none = omega (arith, length-replicate s.states false, first) in
+    let kept = places_ahead-marks s.places s.first none [] _ _ below marks in
     record {
-      search = Searches-start s _ _ first (c.steps_keep_reachable.ensures.first (system_of s)) marks;
+      first = MarksState-self s.first none [] _ _ marks below;
+      search = Searches-mark s s.first none [] _ _ below (c.steps_keep_reachable.ensures.first (system_of s)) (Searches-none s) marks;
       few = omega (arith, kept, places_ahead-first s.places none);
       visits = search rules;
     }
@@ -35,4 +37,4 @@ returns-clause-exactly g c s below =
     let marked = c.loop-s.search.marked.items in
     let queue = c.loop-s.search.queue in
     Searches-end l marked queue.items (omega (arith, queue.ok.0, c.in_default.ensures.cases.0))
-    (c.steps_keep_reachable.ensures.kept (system_of l) (λ x. slice_index_or marked x false)) c.loop-s.invariant.search s
+    (c.steps_keep_reachable.ensures.kept (system_of l) (λ x. slice_index_or marked x false)) c.loop-s.invariant.first c.loop-s.invariant.search s

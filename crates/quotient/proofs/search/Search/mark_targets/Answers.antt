@@ -1,7 +1,7 @@
 use Rattle.std.proofs.Common.{◌∙◌, ◌<◌, ◌∷◌, length, arith, rules}
 use Rattle.lts.specs.Lts.{system_of}
 use Rattle.quotient.specs.Search.{Searches}
-use Rattle.quotient.proofs.Reaching.{TargetsMarked-more, Searches-below, Searches-place, Searches-read, places_ahead-marks, states_ahead-marks}
+use Rattle.quotient.proofs.Reaching.{MarksState-keeps, TargetsMarked-more, Searches-below, Searches-place, Searches-read, places_ahead-marks, states_ahead-marks}
 use Rattle.quotient.proofs.search.Search.mark_targets.Given.{Over}
 use Rattle.quotient.proofs.search.Search.mark_targets.Goals as goal
 use Rattle.quotient.proofs.search.Search.mark_targets.Goals.{In_ok-mark}
@@ -34,6 +34,7 @@ loop-k-preserved g c =
     let t = c.edge-target.result.1 in
     record {
       search = goes_on g at;
+      kept = λ u m. MarksState-keeps t old.marked.items old.queue.items _ _ c.in_ok-mark.ensures (below g at) u (c.loop-k.invariant.kept u m);
       read = TargetsMarked-more c.args.l.now.places c.row-start.result.0 c.loop-k.k t old.marked.items old.queue.items _ _ (below g at)
           c.edge-target.ensures.target c.in_ok-mark.ensures c.loop-k.invariant.read;
       states = states_ahead-marks t old.marked.items old.queue.items _ _ (below g at) c.in_ok-mark.ensures ∙ c.loop-k.invariant.states;

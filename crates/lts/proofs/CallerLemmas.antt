@@ -1,0 +1,4 @@
+-- What proofs of other crates cite of this one, beside its laws: they name no other file of it.
+pub use Rattle.lts.proofs.Contained.{contains_mapped, mapped_contains, contains_passing, passing_contains}
+pub use Rattle.lts.proofs.Filters.{filter-none, filter-whole, length-filter-sum}
+pub use Rattle.lts.proofs.Joining.{take-split}

@@ -1,0 +1,8 @@
+-- What proofs of other crates cite of this one, beside the laws: they name no other file of it.
+pub use Rattle.theory.proofs.Deciding.{contains_here, contains_there, contains_cases, contains_none}
+pub use Rattle.theory.proofs.Paths.{leads_on, leads_map, step_below}
+pub use Rattle.theory.proofs.Counting.{block_count_at_most, numbered_count}
+pub use Rattle.theory.proofs.Refinement.{same_split, after_is_unique}
+pub use Rattle.theory.proofs.Leaders.{leader_unique}
+pub use Rattle.theory.proofs.Tally.{how_many_unique}
+pub use Rattle.theory.proofs.Determined.{same_states, same_transitions}

@@ -1,9 +1,0 @@
--- Each fact is a test that computes.
-use Rattle.std.proofs.Common.{[], ◌∷◌, refl}
-use Rattle.theory.specs.declared.relation.Relation.TheVariants.{Strong}
-use Rattle.theory.specs.Examples.{only_a, only_a_from_1}
-use Rattle.theory.proofs.Testing.Matching.{bisimilar_passes}
-use Rattle.theory.proofs.examples.another_first_state.Goals as goal
-
-pub returns : goal.returns
-returns _ = bisimilar_passes Strong only_a_from_1 only_a ((1, 0) ∷ (0, 1) ∷ []) 1 0 refl refl

@@ -1,9 +1,0 @@
--- Each fact is a test that computes.
-use Rattle.std.proofs.Common.{[], ◌∷◌, refl}
-use Rattle.theory.specs.declared.relation.Relation.TheVariants.{Strong}
-use Rattle.theory.specs.Examples.{chain_of_three}
-use Rattle.theory.proofs.Testing.Repeating.{refines_by}
-use Rattle.theory.proofs.rounds.rounds_of_chain_of_three.Goals as goal
-
-pub returns-clause-rounds : goal.returns-clause-rounds
-returns-clause-rounds _ = refines_by Strong chain_of_three _ _ ((0, 3) ∷ (0, 2) ∷ (0, 1) ∷ []) 3 refl refl

@@ -1,9 +1,0 @@
--- Each fact is a test that computes.
-use Rattle.std.proofs.Common.{[], ◌∷◌, refl}
-use Rattle.theory.specs.declared.relation.Relation.TheVariants.{Branching}
-use Rattle.theory.specs.Examples.{option_behind}
-use Rattle.theory.proofs.Testing.Repeating.{refines_by}
-use Rattle.theory.proofs.rounds.rounds_of_option_behind.Goals as goal
-
-pub returns : goal.returns
-returns _ = refines_by Branching option_behind _ _ ((0, 1) ∷ []) 1 refl refl

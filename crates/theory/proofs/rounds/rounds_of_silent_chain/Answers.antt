@@ -1,9 +1,0 @@
--- Each fact is a test that computes.
-use Rattle.std.proofs.Common.{[], ◌∷◌, refl}
-use Rattle.theory.specs.declared.relation.Relation.TheVariants.{Branching}
-use Rattle.theory.specs.Examples.{silent_chain}
-use Rattle.theory.proofs.Testing.Repeating.{refines_by}
-use Rattle.theory.proofs.rounds.rounds_of_silent_chain.Goals as goal
-
-pub returns-clause-rounds : goal.returns-clause-rounds
-returns-clause-rounds _ = refines_by Branching silent_chain _ _ ((0, 3) ∷ []) 1 refl refl

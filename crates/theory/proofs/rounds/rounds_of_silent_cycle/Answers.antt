@@ -1,9 +1,0 @@
--- Each fact is a test that computes.
-use Rattle.std.proofs.Common.{[], refl}
-use Rattle.theory.specs.declared.relation.Relation.TheVariants.{Branching}
-use Rattle.theory.specs.Examples.{silent_cycle}
-use Rattle.theory.proofs.Testing.Repeating.{refines_by}
-use Rattle.theory.proofs.rounds.rounds_of_silent_cycle.Goals as goal
-
-pub returns : goal.returns
-returns _ = refines_by Branching silent_cycle _ _ [] 0 refl refl

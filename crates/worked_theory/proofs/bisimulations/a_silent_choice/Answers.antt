@@ -1,0 +1,17 @@
+-- Each fact is a test that computes.
+use Rattle.std.proofs.Common.{[], ◌∷◌, refl}
+use Rattle.theory.specs.declared.relation.Relation.TheVariants.{Branching}
+use Rattle.worked_theory.specs.Examples.{silent_choice}
+use Rattle.worked_theory.proofs.Testing.Matching.{not_bisimilar}
+use Rattle.worked_theory.proofs.Testing.Systems.{system_passes}
+use Rattle.worked_theory.proofs.Testing.Repeating.{refines_by}
+use Rattle.worked_theory.proofs.bisimulations.a_silent_choice.Goals as goal
+
+pub returns-clause-system : goal.returns-clause-system
+returns-clause-system _ = system_passes silent_choice refl
+
+pub returns-clause-apart : goal.returns-clause-apart
+returns-clause-apart _ = not_bisimilar Branching silent_choice silent_choice 1 0 1 refl
+
+pub returns-clause-rounds : goal.returns-clause-rounds
+returns-clause-rounds _ = refines_by Branching silent_choice _ _ ((0, 1) ∷ []) 1 refl refl

@@ -1,0 +1,8 @@
+-- The fact is a test that computes.
+use Rattle.std.proofs.Common.{refl}
+use Rattle.worked_theory.specs.Examples.{only_a, only_b}
+use Rattle.worked_theory.proofs.Testing.Matching.{are_apart}
+use Rattle.worked_theory.proofs.bisimulations.different_labels.Goals as goal
+
+pub returns : goal.returns
+returns _ = are_apart only_a only_b 1 1 refl refl refl refl

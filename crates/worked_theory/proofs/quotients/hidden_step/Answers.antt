@@ -1,0 +1,15 @@
+-- Each fact is a test that computes.
+use Rattle.std.proofs.Common.{[], ◌∷◌, refl}
+use Rattle.theory.specs.System.{Hide}
+use Rattle.theory.specs.declared.relation.Relation.TheVariants.{Strong, Branching}
+use Rattle.worked_theory.specs.Examples.{a, a_then_b, only_b, hidden_middle_strong_quotient}
+use Rattle.worked_theory.proofs.Testing.Census.{is_quotient}
+use Rattle.worked_theory.proofs.Testing.Told.{hidden_middle_strong, hidden_middle_branching}
+use Rattle.worked_theory.proofs.quotients.hidden_step.Goals as goal
+
+pub returns-clause-goes : goal.returns-clause-goes
+returns-clause-goes _ = is_quotient Branching (Hide (a ∷ []) a_then_b) only_b hidden_middle_branching refl refl
+
+pub returns-clause-stays : goal.returns-clause-stays
+returns-clause-stays _ =
+    is_quotient Strong (Hide (a ∷ []) a_then_b) hidden_middle_strong_quotient hidden_middle_strong refl refl

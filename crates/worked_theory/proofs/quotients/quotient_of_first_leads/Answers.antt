@@ -1,0 +1,20 @@
+-- Each fact is a test that computes.
+use Rattle.std.proofs.Common.{◌≡◌, true, refl}
+use Rattle.theory.specs.declared.relation.Relation.TheVariants.{Strong}
+use Rattle.worked_theory.specs.Examples.{first_leads}
+use Rattle.worked_theory.proofs.Testing.Census.{is_census, quotient_is, leaders_are, is_no_leader}
+use Rattle.worked_theory.proofs.Testing.Told.{first_leads_strong}
+use Rattle.worked_theory.proofs.quotients.quotient_of_first_leads.Goals as goal
+
+-- what is told of the system is right, by a test that computes once
+told : is_census Strong first_leads first_leads_strong ≡ true
+told = refl
+
+pub returns-clause-quotient : goal.returns-clause-quotient
+returns-clause-quotient _ = quotient_is Strong first_leads _ _ first_leads_strong told refl refl
+
+pub returns-clause-no_leader : goal.returns-clause-no_leader
+returns-clause-no_leader _ = is_no_leader Strong first_leads 0 first_leads_strong told refl
+
+pub returns-clause-leaders : goal.returns-clause-leaders
+returns-clause-leaders _ = leaders_are Strong first_leads _ first_leads_strong told refl

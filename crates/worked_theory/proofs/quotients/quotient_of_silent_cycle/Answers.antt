@@ -1,0 +1,13 @@
+-- Each fact is a test that computes.
+use Rattle.std.proofs.Common.{refl}
+use Rattle.theory.specs.declared.relation.Relation.TheVariants.{Strong, Branching}
+use Rattle.worked_theory.specs.Examples.{silent_cycle}
+use Rattle.worked_theory.proofs.Testing.Census.{quotient_is}
+use Rattle.worked_theory.proofs.Testing.Told.{silent_cycle_branching, silent_cycle_strong}
+use Rattle.worked_theory.proofs.quotients.quotient_of_silent_cycle.Goals as goal
+
+pub returns-clause-branching : goal.returns-clause-branching
+returns-clause-branching _ = quotient_is Branching silent_cycle _ _ silent_cycle_branching refl refl refl
+
+pub returns-clause-strong : goal.returns-clause-strong
+returns-clause-strong _ = quotient_is Strong silent_cycle _ _ silent_cycle_strong refl refl refl

@@ -1,0 +1,12 @@
+-- Each fact is a test that computes.
+use Rattle.std.proofs.Common.{[], refl}
+use Rattle.theory.specs.declared.relation.Relation.TheVariants.{Strong, Branching}
+use Rattle.worked_theory.specs.Examples.{lone_state}
+use Rattle.worked_theory.proofs.Testing.Repeating.{refines_by}
+use Rattle.worked_theory.proofs.rounds.rounds_of_lone_state.Goals as goal
+
+pub returns-clause-rounds_strong : goal.returns-clause-rounds_strong
+returns-clause-rounds_strong _ = refines_by Strong lone_state _ _ [] 0 refl refl
+
+pub returns-clause-rounds_branching : goal.returns-clause-rounds_branching
+returns-clause-rounds_branching _ = refines_by Branching lone_state _ _ [] 0 refl refl

@@ -1,0 +1,9 @@
+-- Each fact is a test that computes.
+use Rattle.std.proofs.Common.{[], ◌∷◌, refl}
+use Rattle.theory.specs.declared.relation.Relation.TheVariants.{Strong}
+use Rattle.worked_theory.specs.Examples.{two_equal_targets}
+use Rattle.worked_theory.proofs.Testing.Repeating.{refines_by}
+use Rattle.worked_theory.proofs.rounds.rounds_of_two_equal_targets.Goals as goal
+
+pub returns : goal.returns
+returns _ = refines_by Strong two_equal_targets _ _ ((0, 1) ∷ []) 1 refl refl

@@ -1,0 +1,84 @@
+//! The definitions of leaders, numbers and quotients, applied to small systems.
+
+ghost use Rattle.std.specs.Prelude.{◌≡◌, ◌↔◌, List, [], ◌∷◌};
+ghost use Rattle.std.specs.List.{Contains};
+ghost use Rattle.theory.specs.System.{System, Transition, Hide, Reachable};
+ghost use Rattle.theory.specs.declared.relation.Relation.{Relation};
+ghost use Rattle.theory.specs.declared.relation.Relation.TheVariants.{Strong, Branching};
+ghost use Rattle.theory.specs.Quotient.{IsLeader, Number, Quotient};
+ghost use Rattle.worked_theory.specs.Examples.{AreQuotients, LeadersAre, QuotientIs};
+ghost use Rattle.worked_theory.specs.Examples.{a, only_a, a_then_b, only_b, loop_of_a, lone_state};
+ghost use Rattle.worked_theory.specs.Examples.{unreachable_twin, unreachable_pair, two_equal_targets, written_twice, chain_of_three};
+ghost use Rattle.worked_theory.specs.Examples.{first_leads, first_leads_quotient, first_leads_by_size, first_in_cycle, first_is_two};
+ghost use Rattle.worked_theory.specs.Examples.{silent_cycle, silent_loop, silent_choice, silent_chain, silent_beside, option_behind};
+ghost use Rattle.worked_theory.specs.Examples.{silent_middle, silent_detour, silent_detour_strong_quotient, hidden_middle_strong_quotient};
+
+/// `unreachable-twin`: state 1 is unreachable, bisimilar to 3 and no leader, so it adds no state.
+pub fn quotient_of_unreachable_twin()
+    ensures quotient { Quotient Strong unreachable_twin a_then_b }
+    ensures number_of_0 { Number Strong unreachable_twin 0 0 }
+    ensures number_of_2 { Number Strong unreachable_twin 2 1 }
+    ensures number_of_3 { Number Strong unreachable_twin 3 2 }
+    ensures unreachable { ¬ Reachable unreachable_twin 1 }
+    ensures no_leader { ¬ IsLeader Strong unreachable_twin 1 }
+{}
+
+/// `first-leads-numbering`: the first state 2 leads 0, though 0 is less, and its number 0 comes before those of 1 and
+/// 3.
+pub fn quotient_of_first_leads()
+    ensures quotient { QuotientIs Strong first_leads first_leads_quotient (0 ∷ 1 ∷ 0 ∷ 2 ∷ []) }
+    ensures leaders { LeadersAre Strong first_leads (2 ∷ 1 ∷ 2 ∷ 3 ∷ []) }
+    ensures no_leader { ¬ IsLeader Strong first_leads 0 }
+{}
+
+/// `first-in-cycle`: the two states are one. `first-is-two`: the greatest state is the first, and is numbered 0.
+/// `two-equal-targets`: a leads to two states of one class, which is one transition. `two-spellings`: a transition that is
+/// listed three times is in the quotient once. `unreachable-pair`: what is not reachable leaves nothing. `chain-of-three`:
+/// the system is its own quotient.
+pub fn strong_quotients()
+    ensures { AreQuotients Strong ((first_in_cycle, loop_of_a) ∷ (first_is_two, a_then_b) ∷ (two_equal_targets, only_a)
+        ∷ (written_twice, only_a) ∷ (unreachable_pair, lone_state) ∷ (chain_of_three, chain_of_three) ∷ []) }
+{}
+
+/// `silent-choice`: the silent step leads to another class, and stays. `silent-chain`: silent steps that give nothing up
+/// go. `silent-beside-visible`: a silent step that gives a up stays. `silent-middle`: the silent step between two others
+/// goes.
+pub fn branching_quotients()
+    ensures { AreQuotients Branching ((silent_choice, silent_choice) ∷ (silent_chain, only_a)
+        ∷ (silent_beside, option_behind) ∷ (silent_middle, a_then_b) ∷ []) }
+{}
+
+/// `silent-cycle`: one state in branching bisimulation, and the system itself in strong.
+pub fn quotient_of_silent_cycle()
+    ensures branching { QuotientIs Branching silent_cycle loop_of_a (0 ∷ 0 ∷ []) }
+    ensures strong { QuotientIs Strong silent_cycle silent_cycle (0 ∷ 1 ∷ []) }
+{}
+
+/// `silent-loop`: the silent step within a class is left out in branching bisimulation, and kept in strong.
+pub fn quotient_of_silent_loop()
+    ensures quotient_branching { Quotient Branching silent_loop lone_state }
+    ensures quotient_strong { Quotient Strong silent_loop silent_loop }
+{}
+
+/// `silent-detour`: the detour goes in branching bisimulation, and stays in strong; the states 3 and 4 are one in both.
+pub fn quotient_of_silent_detour()
+    ensures branching { QuotientIs Branching silent_detour a_then_b
+        (0 ∷ 0 ∷ 1 ∷ 1 ∷ 1 ∷ 2 ∷ []) }
+    ensures strong { QuotientIs Strong silent_detour silent_detour_strong_quotient (0 ∷ 1 ∷ 2 ∷ 3 ∷ 3 ∷ 4 ∷ []) }
+{}
+
+/// `hidden-step-goes` and `hidden-step-stays`: a hidden step goes in branching bisimulation and stays in strong.
+pub fn hidden_step()
+    ensures goes { Quotient Branching (Hide (a ∷ []) a_then_b) only_b }
+    ensures stays { Quotient Strong (Hide (a ∷ []) a_then_b) hidden_middle_strong_quotient }
+    ensures nothing_hidden { Hide [] a_then_b ≡ a_then_b }
+{}
+
+/// What is not the quotient: a system with a state too many, with a silent step within a class, with a transition
+/// twice, or with its leaders numbered by size alone.
+pub fn not_the_quotient()
+    ensures a_state_too_many { ¬ Quotient Branching silent_cycle silent_cycle }
+    ensures a_silent_step { ¬ Quotient Branching silent_loop silent_loop }
+    ensures written_twice { ¬ Quotient Strong written_twice written_twice }
+    ensures by_size { ¬ Quotient Strong first_leads first_leads_by_size }
+{}

@@ -1,0 +1,104 @@
+//! Signatures, Splits and their count: refinement, round by round. Each round is written out as the signature of each state
+//! and the blocks that it leaves.
+
+ghost use Rattle.std.specs.Prelude.{◌≡◌, List, [], ◌∷◌, slice_index};
+ghost use Rattle.theory.specs.System.{internal};
+ghost use Rattle.theory.specs.declared.relation.Relation.{Relation};
+ghost use Rattle.theory.specs.declared.relation.Relation.TheVariants.{Strong, Branching};
+ghost use Rattle.theory.specs.Blocks.{Split};
+ghost use Rattle.theory.specs.Quotient.{allowance};
+ghost use Rattle.worked_theory.specs.Examples.{SplitsBy, RefinesBy};
+ghost use Rattle.worked_theory.specs.Examples.{a, b, chain_of_three, silent_beside, silent_chain, silent_cycle};
+ghost use Rattle.worked_theory.specs.Examples.{two_equal_targets, lone_state, silent_detour, option_behind};
+ghost use Rattle.worked_theory.specs.Examples.{not_committed, loop_and_rest};
+
+/// `chain-of-three`: four Splits.
+pub fn rounds_of_chain_of_three()
+    ensures rounds { RefinesBy Strong chain_of_three (0 ∷ 0 ∷ 0 ∷ 0 ∷ [])
+        ((((a, 0) ∷ []) ∷ ((a, 0) ∷ []) ∷ ((a, 0) ∷ []) ∷ [] ∷ [], 0 ∷ 0 ∷ 0 ∷ 1 ∷ [])
+        ∷ (((a, 0) ∷ []) ∷ ((a, 0) ∷ []) ∷ ((a, 1) ∷ []) ∷ [] ∷ [], 0 ∷ 0 ∷ 1 ∷ 2 ∷ [])
+        ∷ (((a, 0) ∷ []) ∷ ((a, 1) ∷ []) ∷ ((a, 2) ∷ []) ∷ [] ∷ [], 0 ∷ 1 ∷ 2 ∷ 3 ∷ [])
+        ∷ (((a, 1) ∷ []) ∷ ((a, 2) ∷ []) ∷ ((a, 3) ∷ []) ∷ [] ∷ [], 0 ∷ 1 ∷ 2 ∷ 3 ∷ []) ∷ []) }
+    ensures allowance { allowance Strong 4 3 4 ≡ 18 }
+{}
+
+/// `silent-beside-visible`: two Splits; the silent step that gives a up is in the signature once its end is in another
+/// block.
+pub fn rounds_of_silent_beside()
+    ensures rounds { RefinesBy Branching silent_beside (0 ∷ 0 ∷ 0 ∷ 0 ∷ [])
+        ((((a, 0) ∷ (b, 0) ∷ []) ∷ ((b, 0) ∷ []) ∷ [] ∷ [] ∷ [], 0 ∷ 1 ∷ 2 ∷ 2 ∷ [])
+        ∷ (((a, 2) ∷ (internal, 1) ∷ []) ∷ ((b, 2) ∷ []) ∷ [] ∷ [] ∷ [], 0 ∷ 1 ∷ 2 ∷ 2 ∷ []) ∷ []) }
+    ensures allowance { allowance Branching 4 3 2 ≡ 30 }
+{}
+
+/// `silent-chain`: two Splits; what silent steps within the block lead to is in the signature.
+pub fn rounds_of_silent_chain()
+    ensures rounds { RefinesBy Branching silent_chain (0 ∷ 0 ∷ 0 ∷ 0 ∷ [])
+        ((((a, 0) ∷ []) ∷ ((a, 0) ∷ []) ∷ ((a, 0) ∷ []) ∷ [] ∷ [], 0 ∷ 0 ∷ 0 ∷ 1 ∷ [])
+        ∷ (((a, 1) ∷ []) ∷ ((a, 1) ∷ []) ∷ ((a, 1) ∷ []) ∷ [] ∷ [], 0 ∷ 0 ∷ 0 ∷ 1 ∷ []) ∷ []) }
+    ensures allowance { allowance Branching 4 3 2 ≡ 30 }
+{}
+
+/// `cycle-signatures`: one Split, which changes nothing.
+pub fn rounds_of_silent_cycle()
+    ensures { RefinesBy Branching silent_cycle (0 ∷ 0 ∷ []) ((((a, 0) ∷ []) ∷ ((a, 0) ∷ []) ∷ [], 0 ∷ 0 ∷ []) ∷ []) }
+{}
+
+/// `two-equal-targets`: two Splits.
+pub fn rounds_of_two_equal_targets()
+    ensures { RefinesBy Strong two_equal_targets (0 ∷ 0 ∷ 0 ∷ [])
+        ((((a, 0) ∷ []) ∷ [] ∷ [] ∷ [], 0 ∷ 1 ∷ 1 ∷ []) ∷ (((a, 1) ∷ []) ∷ [] ∷ [] ∷ [], 0 ∷ 1 ∷ 1 ∷ []) ∷ []) }
+{}
+
+/// `lone-state`: one Split is made even if there is nothing to part.
+pub fn rounds_of_lone_state()
+    ensures rounds_strong { RefinesBy Strong lone_state (0 ∷ []) (([] ∷ [], 0 ∷ []) ∷ []) }
+    ensures rounds_branching { RefinesBy Branching lone_state (0 ∷ []) (([] ∷ [], 0 ∷ []) ∷ []) }
+{}
+
+/// `silent-detour`: two Splits in either relation.
+pub fn rounds_of_silent_detour()
+    ensures rounds_branching { RefinesBy Branching silent_detour (0 ∷ 0 ∷ 0 ∷ 0 ∷ 0 ∷ 0 ∷ [])
+        ((
+          ((a, 0) ∷ []) ∷ ((a, 0) ∷ []) ∷ ((b, 0) ∷ []) ∷ ((b, 0) ∷ []) ∷ ((b, 0) ∷ []) ∷ [] ∷ [],
+          0 ∷ 0 ∷ 1 ∷ 1 ∷ 1 ∷ 2 ∷ [],
+        )
+        ∷ (
+          ((a, 1) ∷ []) ∷ ((a, 1) ∷ []) ∷ ((b, 2) ∷ []) ∷ ((b, 2) ∷ []) ∷ ((b, 2) ∷ []) ∷ [] ∷ [],
+          0 ∷ 0 ∷ 1 ∷ 1 ∷ 1 ∷ 2 ∷ [],
+        ) ∷ []) }
+    ensures rounds_strong { RefinesBy Strong silent_detour (0 ∷ 0 ∷ 0 ∷ 0 ∷ 0 ∷ 0 ∷ [])
+        ((
+          ((a, 0) ∷ (internal, 0) ∷ []) ∷ ((a, 0) ∷ []) ∷ ((internal, 0) ∷ [])
+              ∷ ((b, 0) ∷ []) ∷ ((b, 0) ∷ []) ∷ [] ∷ [],
+          0 ∷ 1 ∷ 2 ∷ 3 ∷ 3 ∷ 4 ∷ [],
+        )
+        ∷ (
+          ((a, 3) ∷ (internal, 1) ∷ []) ∷ ((a, 2) ∷ []) ∷ ((internal, 3) ∷ [])
+              ∷ ((b, 4) ∷ []) ∷ ((b, 4) ∷ []) ∷ [] ∷ [],
+          0 ∷ 1 ∷ 2 ∷ 3 ∷ 3 ∷ 4 ∷ [],
+        ) ∷ []) }
+    ensures allowance_branching { allowance Branching 6 6 2 ≡ 84 }
+    ensures allowance_strong { allowance Strong 6 6 2 ≡ 24 }
+{}
+
+/// `stays-in-block`: a silent step to another block is in the signature, and what is behind it is not.
+pub fn rounds_of_option_behind()
+    ensures { RefinesBy Branching option_behind (0 ∷ 0 ∷ 0 ∷ [])
+        ((((a, 0) ∷ (b, 0) ∷ []) ∷ ((b, 0) ∷ []) ∷ [] ∷ [], 0 ∷ 1 ∷ 2 ∷ [])
+        ∷ (((a, 2) ∷ (internal, 1) ∷ []) ∷ ((b, 2) ∷ []) ∷ [] ∷ [], 0 ∷ 1 ∷ 2 ∷ []) ∷ []) }
+{}
+
+/// `stops-at-visible`: what lies behind a step that is not silent is not in the signature.
+pub fn rounds_of_not_committed()
+    ensures { RefinesBy Branching not_committed (0 ∷ 0 ∷ 0 ∷ 0 ∷ [])
+        ((((a, 0) ∷ []) ∷ ((b, 0) ∷ []) ∷ [] ∷ [] ∷ [], 0 ∷ 1 ∷ 2 ∷ 2 ∷ [])
+        ∷ (((a, 1) ∷ []) ∷ ((b, 2) ∷ (internal, 2) ∷ []) ∷ [] ∷ [] ∷ [], 0 ∷ 1 ∷ 2 ∷ 2 ∷ []) ∷ []) }
+{}
+
+/// `old-blocks-count`: states that were apart stay apart, though their signatures are equal.
+pub fn old_blocks_count()
+    ensures strongly { Split Strong loop_and_rest (λ _. 0) (slice_index (0 ∷ 1 ∷ [])) }
+    ensures branching { SplitsBy Branching loop_and_rest (0 ∷ 1 ∷ []) ([] ∷ [] ∷ []) (0 ∷ 1 ∷ []) }
+    ensures rounds { RefinesBy Branching loop_and_rest (0 ∷ 0 ∷ []) (([] ∷ [] ∷ [], 0 ∷ 0 ∷ []) ∷ []) }
+{}
