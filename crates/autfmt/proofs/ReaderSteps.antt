@@ -17,7 +17,7 @@ use Rattle.autfmt.specs.Cutter.{Cutting, HasCut, CutsLine, CutsEnd, BeginsTooLon
 use Rattle.autfmt.specs.Held.{Holds}
 use Rattle.autfmt.specs.Readers.{IsTextFault, HasGoodHeader}
 use Rattle.autfmt.specs.Outcomes.{Refuses}
-use Rattle.autfmt.specs.ReadSoFar.{ReadSoFar, HeldSoFar}
+use Rattle.autfmt.specs.ReadSoFar.{ReadSoFar, HeldSoFar, ReadsOneMore}
 use Rattle.autfmt.specs.Outcomes.Refuses.{no_memory, failed_source, faulty_text}
 use Rattle.autfmt.proofs.Cutting.{IsNoFeed}
 use Rattle.autfmt.proofs.Lists.{AllZip-push}
@@ -189,6 +189,18 @@ transition_faulty bounds given old now p es got rest failures found fault so_far
     (append_assoc so_far.lines (now.line ∷ []) others) l in
     fault_behind bounds given old p es (given ++ got ++ more) (now.line ∷ others) found fault so_far count l' (inl (promised, bad))))
 
+-- there was no memory behind a good header and lines that were read
+pub no_memory_behind :
+    (bounds : Bounds) (given first : List ℕ) (lines : List (List ℕ)) (at : Cutting) (f m n : ℕ) (rest : Option (List ℕ))
+    (failures : ℕ) → HasCut given (first ∷ lines) at → GoodHeader bounds first f m n → failures ≡ 0 →
+    (at.over ≡ true → IsAtEnd rest) → Refuses bounds given rest failures Memory
+no_memory_behind bounds given first lines at f m n rest failures cut good sound end =
+    no_memory sound refl
+    (if_told rest (λ more. HasGoodHeader bounds (given ++ more))
+    (λ more told.
+    let (others, l) = HasCut-lines given more (first ∷ lines) at cut (λ over. none_to_come rest more told (end over)) in
+    (first, lines ++ others, f, m, n, l, good)))
+
 -- there was no memory for the transition of the next line
 pub transition_refused :
     (bounds : Bounds) (given : List ℕ) (old now : Cutting) (p : Promise) (es : List Transition) (got : List ℕ)
@@ -196,14 +208,8 @@ pub transition_refused :
     ReadSoFar bounds given old p es → failures ≡ 0 → (old.over ≡ true → ⊥) → (now.over ≡ true → IsAtEnd rest) →
     CutsLine (old.ahead ++ got) now → Refuses bounds (given ++ got) rest failures Memory
 transition_refused bounds given old now p es got rest failures so_far sound goes_on end cuts =
-    no_memory sound refl
-    (if_told rest (λ more. HasGoodHeader bounds (given ++ got ++ more))
-    (λ more told.
-    let s = HasCut-line given got (so_far.header ∷ so_far.lines) old now so_far.cut goes_on cuts in
-    let (others, l) =
-    HasCut-lines (given ++ got) more ((so_far.header ∷ so_far.lines) ++ now.line ∷ []) now s
-    (λ over. none_to_come rest more told (end over)) in
-    (so_far.header, so_far.lines ++ now.line ∷ [] ++ others, p.first, p.transitions, p.states, l, so_far.good)))
+    no_memory_behind bounds (given ++ got) so_far.header (so_far.lines ++ now.line ∷ []) now p.first p.transitions p.states rest failures
+    (HasCut-line given got (so_far.header ∷ so_far.lines) old now so_far.cut goes_on cuts) so_far.good sound end
 
 -- more stands behind the promised transitions
 pub text_behind :
@@ -244,8 +250,7 @@ pub HeldSoFar-push :
     (H : List (List ℕ)) (p : Promise) (old at now : Cutting) (held_old held_at held : Held) (before line : List ℕ) →
     ((bounds : Bounds) (given : List ℕ) → HeldSoFar bounds H given old p held_old [] →
     (es : List Transition) × HeldSoFar bounds H (given ++ before) at p held_at es) →
-    ((bounds : Bounds) (given : List ℕ) (es : List Transition) → HeldSoFar bounds H given at p held_at es →
-    (e : Transition) × HeldSoFar bounds H (given ++ line) now p held (es ++ e ∷ [])) →
+    ReadsOneMore H p line at now held_at held →
     (bounds : Bounds) (given : List ℕ) → HeldSoFar bounds H given old p held_old [] →
     (es : List Transition) × HeldSoFar bounds H (given ++ (before ++ line)) now p held es
 HeldSoFar-push H p old at now held_old held_at held before line so_far step bounds given standing =

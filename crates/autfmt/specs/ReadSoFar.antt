@@ -1,5 +1,5 @@
 -- How far the reader of a system has come.
-use Rattle.std.specs.Prelude.{ℕ, List, ◌∷◌}
+use Rattle.std.specs.Prelude.{ℕ, List, [], ◌∷◌, ◌++◌}
 use Rattle.std.specs.List.{AllZip}
 use Rattle.theory.specs.System.{Transition}
 use Rattle.autfmt.specs.declared.judge.Promise.{Promise}
@@ -20,6 +20,12 @@ pub record ReadSoFar (bounds : Bounds) (given : List ℕ) (at : Cutting) (p : Pr
 -- so far the transitions were read from the bytes given, and are held with the labels of H hidden
 abbrev pub HeldSoFar : Bounds → List (List ℕ) → List ℕ → Cutting → Promise → Held → List Transition → Type 0
 HeldSoFar bounds H given at p held es = ReadSoFar bounds given at p es × Holds H p.states held es
+
+-- one transition more was read behind any that were read before, from the bytes got, and is held
+abbrev pub ReadsOneMore : List (List ℕ) → Promise → List ℕ → Cutting → Cutting → Held → Held → Type 0
+ReadsOneMore H p got old now held_old held =
+    (bounds : Bounds) (given : List ℕ) (es : List Transition) → HeldSoFar bounds H given old p held_old es →
+    (e : Transition) × HeldSoFar bounds H (given ++ got) now p held (es ++ e ∷ [])
 
 -- the text reads as a system, which is held with the labels of H hidden
 abbrev pub HoldsText : Bounds → List (List ℕ) → List ℕ → Promise → Held → Type 0
