@@ -1,15 +1,16 @@
 -- What is known of a text from its first bytes.
-use Rattle.std.proofs.Common.{◌≡◌, ◌⊎◌, ℕ, ◌+◌, ◌<◌, ◌≤◌, List, [], ◌∷◌, ◌++◌, length, refl, subst, inl, inr, arith, All}
+use Rattle.std.proofs.Common.{◌≡◌, ◌⊎◌, ℕ, ◌+◌, ◌<◌, ◌≤◌, List, [], ◌∷◌, ◌++◌, length, refl, subst, inl, inr, arith, All, sym, ap, ◌∙◌}
 use Rattle.std.specs.List.{AllZip}
 use Rattle.std.proofs.lemmas.Bool.{cases_lt}
-use Rattle.std.proofs.lemmas.List.{append-nil}
+use Rattle.std.proofs.lemmas.List.{append_assoc, append-nil}
 use Rattle.std.proofs.lemmas.List.Elements.{All-nil, All-cons}
 use Rattle.theory.specs.System.{Transition}
 use Rattle.autfmt.specs.declared.fault.Fault.{Fault}
-use Rattle.autfmt.specs.declared.fault.Fault.TheVariants.{LineTooLong}
+use Rattle.autfmt.specs.declared.fault.Fault.TheVariants.{LineTooLong, MissingEdges}
 use Rattle.autfmt.specs.Bounds.{Bounds}
 use Rattle.autfmt.specs.Texts.{Cuts, Lines, IsShort, GoodHeader, SpellsAmong}
-use Rattle.autfmt.specs.Cutter.{IsPart}
+use Rattle.autfmt.specs.Cutter.{IsPart, with_line_feeds}
+use Rattle.autfmt.proofs.Cutting.{Lines-unique, Lines-behind, lines_of}
 use Rattle.autfmt.specs.Faults.{HeaderFault, EdgeFault, BeginsWell, FirstFault, JudgedFault}
 use Rattle.autfmt.specs.Faults.FirstFault.{no_line, header, behind}
 use Rattle.autfmt.proofs.Lists.{AllZip-firsts}
@@ -75,3 +76,35 @@ no_judged_fault bounds given line lines rest f m n es fault c good edges few sho
         ends : (length es < m) ⊎ (length rest ≡ 0) → ⊥
         ends (inl less) = omega arith
         ends (inr none) = at_end rest none c (omega arith)
+
+-- the fault of a line that has ended is known
+pub ended_known :
+    (bounds : Bounds) (given : List ℕ) (ended : List (List ℕ)) (fault : Fault) → Cuts given ended [] → FirstFault bounds given fault →
+    (ended ≡ [] → ⊥) → ((found : ℕ) → fault ≡ MissingEdges found → ⊥) → JudgedFault bounds given fault
+ended_known bounds given ended fault c first some found more = step first
+  where
+    tail : List (List ℕ)
+    tail = (lines_of more).0
+
+    longer : (lines : List (List ℕ)) → Lines given lines → Lines (given ++ more) (lines ++ tail)
+    longer lines l =
+        let all = subst (λ (ls : List (List ℕ)). Lines given ls) (append-nil ended) (ended, [], c, refl) in
+        let same = Lines-unique given ended lines all l in
+        let whole : with_line_feeds ended ++ more ≡ given ++ more =
+        ap (λ (t : List ℕ). t ++ more) (sym (append-nil (with_line_feeds ended)) ∙ sym c.whole) in
+        subst (λ (ls : List (List ℕ)). Lines (given ++ more) (ls ++ tail)) same
+        (subst (λ (t : List ℕ). Lines t (ended ++ tail)) whole (Lines-behind ended more tail c.lines (lines_of more).1))
+
+    step : FirstFault bounds given fault → FirstFault bounds (given ++ more) fault
+    step (no_line l e) =
+        let all = subst (λ (ls : List (List ℕ)). Lines given ls) (append-nil ended) (ended, [], c, refl) in
+        absurd (some (Lines-unique given ended [] all l))
+    step (header line others l bad) = header line (others ++ tail) (longer (line ∷ others) l) bad
+    step (behind m n es [] b next) = absurd (found (length es) next.1)
+    step (behind m n es (line ∷ others) b next) =
+        let l =
+        subst (λ (ls : List (List ℕ)). Lines (given ++ more) (b.header ∷ ls)) (append_assoc b.lines (line ∷ others) tail)
+        (longer (b.header ∷ b.lines ++ line ∷ others) b.whole) in
+        let b' : BeginsWell bounds (given ++ more) m n es (line ∷ (others ++ tail)) =
+        record { header = b.header; first = b.first; lines = b.lines; whole = l; good = b.good; spelled = b.spelled } in
+        behind m n es (line ∷ (others ++ tail)) b' next
