@@ -1,7 +1,7 @@
 -- A text has one cut into lines.
-use Rattle.std.proofs.Common.{◌≡◌, ◌≢◌, ◌⊎◌, ℕ, ◌≤◌, List, [], ◌∷◌, ◌++◌, length, refl, sym, ◌∙◌, ap, inl, inr, arith, All}
+use Rattle.std.proofs.Common.{◌≡◌, ◌≢◌, ◌⊎◌, ℕ, ◌≤◌, List, [], ◌∷◌, ◌++◌, length, refl, sym, ◌∙◌, ap, subst, inl, inr, arith, All}
 use Rattle.std.proofs.lemmas.Bool.{cases_eq}
-use Rattle.std.proofs.lemmas.List.{append_assoc}
+use Rattle.std.proofs.lemmas.List.{append_assoc, length-append}
 use Rattle.std.proofs.lemmas.List.Elements.{All-nil, All-cons, All-head, All-tail, All-append}
 use Rattle.autfmt.specs.Texts.{Cuts, Lines, IsOneLine, last_line}
 use Rattle.autfmt.specs.Cutter.{with_line_feeds}
@@ -170,6 +170,17 @@ pub Lines-one : (line : List ℕ) → IsOneLine line → 1 ≤ length line → L
 Lines-one [] one some = absurd (omega arith)
 Lines-one (b ∷ bs) one some =
     ([], b ∷ bs, record { whole = refl; lines = All-nil IsOneLine; one = one }, refl)
+
+-- a text whose last line, without its line feed, goes on
+pub Lines-longer :
+    (given : List ℕ) (ended : List (List ℕ)) (rest more : List ℕ) → Cuts given ended rest → IsOneLine more → 1 ≤ length more →
+    Lines (given ++ more) (ended ++ (rest ++ more) ∷ [])
+Lines-longer given ended rest more c one some =
+    let some' : 1 ≤ length (rest ++ more) = omega (arith, length-append rest more) in
+    let l = Lines-one (rest ++ more) (All-append IsNoFeed rest more c.one one) some' in
+    let whole : with_line_feeds ended ++ (rest ++ more) ≡ given ++ more =
+    sym (append_assoc (with_line_feeds ended) rest more) ∙ ap (λ (t : List ℕ). t ++ more) (sym c.whole) in
+    subst (λ (t : List ℕ). Lines t (ended ++ (rest ++ more) ∷ [])) whole (Lines-behind ended (rest ++ more) ((rest ++ more) ∷ []) c.lines l)
 
 -- where a byte without a line feed stands, the first line begins
 pub first_begins :

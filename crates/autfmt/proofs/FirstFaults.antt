@@ -1,97 +1,125 @@
--- Laws of the first fault of lines, for texts and hide lists alike: Bad says which fault a line has.
-use Rattle.std.proofs.Common.{◌≡◌, ◌⊎◌, ◌↔◌, ⊎_elim, ℕ, ◌+◌, ◌<◌, ◌≤◌, List, [], ◌∷◌, ◌++◌, length, subst, inl, inr, arith}
+-- Laws of the first line that is not good, for texts and hide lists alike: Good says what a line gives, and most how many lines may stand.
+use Rattle.std.proofs.Common.{◌≡◌, ◌⊎◌, ◌↔◌, ⊎_elim, ℕ, ◌+◌, ◌<◌, ◌≤◌, List, [], ◌∷◌, ◌++◌, length, replicate, All, refl, sym, ◌∙◌, ap, subst, inl, inr, arith}
+use Rattle.std.specs.List.{AllZip}
+use Rattle.std.proofs.lemmas.Bool.{cases_lt}
+use Rattle.std.proofs.lemmas.List.{append-nil, length-append, length-replicate}
+use Rattle.std.proofs.lemmas.List.Elements.{All-nil, All-cons, All-append, All-replicate}
 use Rattle.autfmt.specs.declared.fault.Fault.{Fault}
-use Rattle.autfmt.specs.Texts.{Lines, IsOneLine}
-use Rattle.autfmt.specs.Faults.{FaultFrom, JudgedRest}
-use Rattle.autfmt.proofs.Cutting.{Lines-unique, first_begins}
+use Rattle.autfmt.specs.declared.fault.Fault.TheVariants.{LineTooLong}
 use Rattle.autfmt.specs.declared.line.TheConstants.{LONGEST_LINE}
+use Rattle.autfmt.specs.Texts.{Cuts, Lines, IsOneLine, IsShort, last_line}
+use Rattle.autfmt.proofs.Lists.{All-between}
+use Rattle.autfmt.proofs.Cutting.{IsNoFeed, Lines-unique, Lines-longer}
 
 -- where there is a reading or a fault, and never both, there is a reading exactly if there is no fault
 pub without_fault : {X : Type 0} (P : Fault → Type 0) → X ⊎ ((f : Fault) × P f) → (X → (f : Fault) → ¬ P f) → ((f : Fault) → ¬ P f) ↔ X
 without_fault P one not_both = (λ none. ⊎_elim (λ x. x) (λ bad. absurd (none bad.0 bad.1)) one, not_both)
 
-module _ (Bad : ℕ → List ℕ → Fault → Type 0) where
-  -- none of the lines from line k on is faulty
-  abbrev pub NoneFaulty : ℕ → List (List ℕ) → Type 0
-  NoneFaulty k [] = Unit
-  NoneFaulty k (line ∷ lines) = ((f : Fault) → ¬ Bad k line f) × NoneFaulty (k + 1) lines
+module _ {X : Type 0} (Good : List ℕ → X → Type 0) (most : ℕ) where
+  -- behind the good lines found there is no line, or none may stand, or it is not good
+  abbrev pub Stops : ℕ → List (List ℕ) → Type 0
+  Stops found [] = Unit
+  Stops found (line ∷ others) = found < most → (x : X) → ¬ Good line x
 
-  -- a fault behind lines that are not faulty
-  pub FaultFrom-behind :
-      (end : ℕ → Fault → Type 0) (k : ℕ) (lines others : List (List ℕ)) (fault : Fault) → NoneFaulty k lines →
-      FaultFrom Bad end (k + length lines) others fault → FaultFrom Bad end k (lines ++ others) fault
-  FaultFrom-behind end k [] others fault none h =
-      let e : k + 0 ≡ k = omega arith in subst (λ (j : ℕ). FaultFrom Bad end j others fault) e h
-  FaultFrom-behind end k (line ∷ lines) others fault none h =
-      let e : k + length (line ∷ lines) ≡ k + 1 + length lines = omega arith in
-      inr (
-        none.0,
-        FaultFrom-behind end (k + 1) lines others fault none.1 (subst (λ (j : ℕ). FaultFrom Bad end j others fault) e h),
-      )
+  -- a good line does not stop
+  goes_on : (found : ℕ) (front lines others : List (List ℕ)) (line : List ℕ) (x : X) → found < most → Good line x →
+      front ≡ line ∷ lines ++ others → Stops found front → ⊥
+  goes_on found [] lines others line x less good e stops = cc
+  goes_on found (l ∷ front) lines others line x less good e stops =
+      let same : line ≡ l = cc in stops less x (subst (λ (t : List ℕ). Good t x) same good)
 
-  -- if no line is faulty, only the end may have a fault
-  pub FaultFrom-end :
-      (end : ℕ → Fault → Type 0) (k : ℕ) (lines : List (List ℕ)) (fault : Fault) → NoneFaulty k lines →
-      FaultFrom Bad end k lines fault → end (k + length lines) fault
-  FaultFrom-end end k [] fault none h =
-      let e : k ≡ k + 0 = omega arith in subst (λ (j : ℕ). end j fault) e h
-  FaultFrom-end end k (line ∷ lines) fault none (inl bad) = absurd (none.0 fault bad)
-  FaultFrom-end end k (line ∷ lines) fault none (inr rest) =
-      let e : k + 1 + length lines ≡ k + length (line ∷ lines) = omega arith in
-      subst (λ (j : ℕ). end j fault) e (FaultFrom-end end (k + 1) lines fault none.1 rest.1)
+  -- good lines of which the next is not are as many however they are found
+  pub one_front :
+      (found : ℕ) (lines lines' others others' : List (List ℕ)) (xs ys : List X) (i j : ℕ) → lines ++ others ≡ lines' ++ others' →
+      AllZip Good lines xs → AllZip Good lines' ys → i ≡ found + length xs → j ≡ found + length ys → i ≤ most → j ≤ most →
+      Stops i others → Stops j others' → (i ≡ j) × (others ≡ others')
+  one_front found [] [] others others' [] [] i j e a b p q few few' s s' = (omega arith, e)
+  one_front found [] lines' others others' (x ∷ xs) ys i j e a b p q few few' s s' = absurd a
+  one_front found lines [] others others' xs (y ∷ ys) i j e a b p q few few' s s' = absurd b
+  one_front found (l ∷ lines) lines' others others' [] ys i j e a b p q few few' s s' = absurd a
+  one_front found lines (l ∷ lines') others others' xs [] i j e a b p q few few' s s' = absurd b
+  one_front found [] (l ∷ lines') others others' [] (y ∷ ys) i j e a b p q few few' s s' =
+      absurd (goes_on i others lines' others' l y (omega arith) b.0 e s)
+  one_front found (l ∷ lines) [] others others' (x ∷ xs) [] i j e a b p q few few' s s' =
+      absurd (goes_on j others' lines others l x (omega arith) a.0 (sym e) s')
+  one_front found (l ∷ lines) (l' ∷ lines') others others' (x ∷ xs) (y ∷ ys) i j e a b p q few few' s s' =
+      let tail : lines ++ others ≡ lines' ++ others' = cc in
+      one_front (found + 1) lines lines' others others' xs ys i j tail a.1 b.1 (omega arith) (omega arith) few few' s s'
 
-  -- more lines behind: the fault stays, if the end's is one of the lines behind
-  pub FaultFrom-extends :
-      (end end' : ℕ → Fault → Type 0) (k : ℕ) (lines others : List (List ℕ)) (fault : Fault) →
-      ((j : ℕ) → end j fault → FaultFrom Bad end' j others fault) →
-      FaultFrom Bad end k lines fault → FaultFrom Bad end' k (lines ++ others) fault
-  FaultFrom-extends end end' k [] others fault at_end h = at_end k h
-  FaultFrom-extends end end' k (line ∷ lines) others fault at_end (inl bad) = inl bad
-  FaultFrom-extends end end' k (line ∷ lines) others fault at_end (inr rest) =
-      inr (rest.0, FaultFrom-extends end end' (k + 1) lines others fault at_end rest.1)
+  -- good lines as far as they go, and the others
+  pub record Divided (found : ℕ) (all : List (List ℕ)) : Type 0 where
+    pub lines : List (List ℕ)
+    pub others : List (List ℕ)
+    pub xs : List X
+    pub whole : all ≡ lines ++ others
+    pub good : AllZip Good lines xs
+    pub behind : (i : ℕ) → i ≡ found + length xs → (i ≤ most) × Stops i others
 
-  -- if a line has one fault at most, and the end too, there are no two
-  pub FaultFrom-unique :
-      ((k : ℕ) (line : List ℕ) (f g : Fault) → Bad k line f → Bad k line g → f ≡ g) →
-      (end : ℕ → Fault → Type 0) (k : ℕ) (lines : List (List ℕ)) (f g : Fault) →
-      ((j : ℕ) → end j f → end j g → f ≡ g) → FaultFrom Bad end k lines f → FaultFrom Bad end k lines g → f ≡ g
-  FaultFrom-unique one end k [] f g at_end a b = at_end k a b
-  FaultFrom-unique one end k (line ∷ lines) f g at_end (inl a) (inl b) = one k line f g a b
-  FaultFrom-unique one end k (line ∷ lines) f g at_end (inl a) (inr b) = absurd (b.0 f a)
-  FaultFrom-unique one end k (line ∷ lines) f g at_end (inr a) (inl b) = absurd (a.0 g b)
-  FaultFrom-unique one end k (line ∷ lines) f g at_end (inr a) (inr b) =
-      FaultFrom-unique one end (k + 1) lines f g at_end a.1 b.1
-
-  -- the unended line k is not judged, so there is no fault yet
-  pub no_judged :
-      (most k : ℕ) (lines : List (List ℕ)) (rest : List ℕ) (fault : Fault) → NoneFaulty k lines → length rest ≤ LONGEST_LINE →
-      (k + length lines ≤ most) ⊎ (length rest ≡ 0) → FaultFrom Bad (JudgedRest Bad most rest) k lines fault → ⊥
-  no_judged most k lines rest fault none short unjudged h =
-      at_rest (FaultFrom-end (JudgedRest Bad most rest) k lines fault none h) unjudged
+  pub divided :
+      ((line : List ℕ) → ((x : X) × Good line x) ⊎ ((x : X) → ¬ Good line x)) → (found : ℕ) (all : List (List ℕ)) → found ≤ most →
+      Divided found all
+  divided decide found [] few =
+      record { lines = []; others = []; xs = []; whole = refl; good = tt; behind = λ i e. (omega arith, tt) }
+  divided decide found (line ∷ all) few =
+      step (λ (less : found < most). divided decide (found + 1) all (omega arith)) (cases_lt found most) (decide line)
     where
-      at_rest : JudgedRest Bad most rest (k + length lines) fault → (k + length lines ≤ most) ⊎ (length rest ≡ 0) → ⊥
-      at_rest (inl big, bad) u = omega arith
-      at_rest (inr some, bad) (inl few) = let x = some.0 in omega arith
-      at_rest (inr some, bad) (inr none) = let x = some.1 in omega arith
+      stop : (found < most → (x : X) → ¬ Good line x) → Divided found (line ∷ all)
+      stop bad = record {
+        lines = [];
+        others = line ∷ all;
+        xs = [];
+        whole = refl;
+        good = tt;
+        behind = λ i e. (omega arith, λ less x good. bad (omega arith) x good);
+      }
 
-  -- the fault of a line that is too long, or behind the last that may stand, stays whatever follows in the line
-  abbrev pub Stays : ℕ → Type 0
-  Stays most =
-      (front tail : List ℕ) (k : ℕ) (fault : Fault) → (LONGEST_LINE < length front) ⊎ (most < k) →
-      Bad k front fault → Bad k (front ++ tail) fault
+      more : (x : X) → Good line x → Divided (found + 1) all → Divided found (line ∷ all)
+      more x good d = record {
+        lines = line ∷ d.lines;
+        others = d.others;
+        xs = x ∷ d.xs;
+        whole = ap (λ (ls : List (List ℕ)). line ∷ ls) d.whole;
+        good = (good, d.good);
+        behind = λ i e. d.behind i (omega arith);
+      }
 
-  -- then the fault of a judged unended line is that of the first line that it begins
-  pub judged_first :
-      (most : ℕ) → Stays most → (end : ℕ → Fault → Type 0) (front more : List ℕ) (others : List (List ℕ)) (k : ℕ) (fault : Fault) →
-      IsOneLine front → Lines (front ++ more) others → JudgedRest Bad most front k fault → FaultFrom Bad end k others fault
-  judged_first most stays end front more others k fault one l (judged, bad) = begun judged
-    where
-      from : 1 ≤ length front → (LONGEST_LINE < length front) ⊎ (most < k) → FaultFrom Bad end k others fault
-      from some kind =
-          let b = first_begins front more one some in
-          let same = Lines-unique (front ++ more) ((front ++ b.0) ∷ b.1) others b.2 l in
-          subst (λ (ls : List (List ℕ)). FaultFrom Bad end k ls fault) same (inl (stays front b.0 k fault kind bad))
+      step : (found < most → Divided (found + 1) all) → (found < most) ⊎ (most ≤ found) →
+          ((x : X) × Good line x) ⊎ ((x : X) → ¬ Good line x) → Divided found (line ∷ all)
+      step rest (inr full) one = stop (λ less. absurd (omega arith))
+      step rest (inl less) (inr bad) = stop (λ _. bad)
+      step rest (inl less) (inl (x, good)) = more x good (rest less)
 
-      begun : (LONGEST_LINE < length front) ⊎ ((most < k) × (1 ≤ length front)) → FaultFrom Bad end k others fault
-      begun (inl big) = from (omega arith) (inl big)
-      begun (inr behind) = from behind.1 (inr behind.0)
+-- a line of the text is too long
+abbrev pub HasLongLine : List ℕ → Type 0
+HasLongLine text = (front others : List (List ℕ)) × (line : List ℕ) × Lines text (front ++ line ∷ others) × (LONGEST_LINE < length line)
+
+short_lines : (text : List ℕ) (lines : List (List ℕ)) → Lines text lines → All IsShort lines → HasLongLine text → ⊥
+short_lines text lines l short (front, others, line, l', long) =
+    let same = Lines-unique text lines (front ++ line ∷ others) l l' in
+    let fits = All-between IsShort front line others (subst (λ (ls : List (List ℕ)). All IsShort ls) same short) in
+    omega arith
+
+short_last : (rest : List ℕ) → IsShort rest → All IsShort (last_line rest)
+short_last [] short = All-nil IsShort
+short_last (b ∷ bs) short = All-cons IsShort (b ∷ bs) [] short (All-nil IsShort)
+
+-- no fault is known yet where all lines are short, and one that is too long may follow
+pub not_known :
+    (First : List ℕ → Fault → Type 0) → ((text : List ℕ) (f g : Fault) → First text f → First text g → f ≡ g) →
+    ((text : List ℕ) (k : ℕ) → First text (LineTooLong k) → HasLongLine text) →
+    (given : List ℕ) (ended : List (List ℕ)) (rest : List ℕ) (k : ℕ) → Cuts given ended rest → All IsShort ended → IsShort rest →
+    ((line : List ℕ) → LONGEST_LINE < length line → (text : List ℕ) → Lines text (ended ++ line ∷ []) → First text (LineTooLong k)) →
+    (fault : Fault) → ((more : List ℕ) → First (given ++ more) fault) → ⊥
+not_known First unique long given ended rest k c shorts short too_long fault known = against (replicate (LONGEST_LINE + 1) 0) refl
+  where
+    against : (more : List ℕ) → more ≡ replicate (LONGEST_LINE + 1) 0 → ⊥
+    against more is =
+        let zero : ℕ = 0 in
+        let size : length more ≡ LONGEST_LINE + 1 = ap length is ∙ length-replicate (LONGEST_LINE + 1) zero in
+        let one : IsOneLine more = subst IsOneLine (sym is) (All-replicate IsNoFeed (LONGEST_LINE + 1) 0 (λ e. absurd (omega arith))) in
+        let l = Lines-longer given ended rest more c one (omega arith) in
+        let bad = too_long (rest ++ more) (omega (arith, length-append rest more)) (given ++ more) l in
+        let e : fault ≡ LineTooLong k = unique (given ++ more) fault (LineTooLong k) (known more) bad in
+        let now = subst (λ (t : List ℕ). First t (LineTooLong k)) (append-nil given) (subst (First (given ++ [])) e (known [])) in
+        short_lines given (ended ++ last_line rest) (ended, rest, c, refl)
+        (All-append IsShort ended (last_line rest) shorts (short_last rest short)) (long given k now)

@@ -1,24 +1,20 @@
 -- A hide list has one list of labels or one first fault.
-use Rattle.std.proofs.Common.{◌≡◌, ◌⊎◌, ⊎_elim, ℕ, ◌+◌, ◌<◌, ◌≤◌, List, [], ◌∷◌, ◌++◌, length, refl, sym, ◌∙◌, ap, subst, inl, inr, arith}
+use Rattle.std.proofs.Common.{◌≡◌, ◌⊎◌, ℕ, ◌+◌, ◌<◌, ◌≤◌, List, [], ◌∷◌, ◌++◌, length, refl, sym, ◌∙◌, ap, subst, inl, inr, arith}
 use Rattle.std.specs.List.{AllZip}
 use Rattle.std.proofs.lemmas.Bool.{cases_lt}
-use Rattle.std.proofs.lemmas.List.{append_assoc, length-append}
+use Rattle.std.proofs.lemmas.List.{append-nil}
+use Rattle.std.proofs.lemmas.Slice.Zip.{AllZip-long}
 use Rattle.autfmt.specs.declared.fault.Fault.{Fault}
 use Rattle.autfmt.specs.declared.fault.Fault.TheVariants.{LineTooLong, BadHide, TooManyHidden}
 use Rattle.autfmt.specs.Grammar.{HideLine}
 use Rattle.autfmt.specs.Texts.{Cuts, Lines, IsShort}
-use Rattle.autfmt.specs.Cutter.{with_line_feeds}
-use Rattle.autfmt.specs.Faults.{FaultFrom, JudgedRest}
 use Rattle.autfmt.specs.HideLists.{Hides, HideReads, HideFault, FirstHideFault, JudgedHideFault}
-use Rattle.autfmt.proofs.FirstFaults.{NoneFaulty, Stays, FaultFrom-behind, FaultFrom-end, FaultFrom-extends, FaultFrom-unique, judged_first, no_judged}
-use Rattle.autfmt.proofs.Cutting.{Cuts-unique, Lines-unique, Lines-behind, lines_of}
+use Rattle.autfmt.proofs.Lists.{AllZip-firsts}
+use Rattle.autfmt.proofs.FirstFaults.{Stops, Divided, divided, one_front, HasLongLine, not_known}
+use Rattle.autfmt.proofs.Cutting.{Lines-unique, lines_of}
 use Rattle.autfmt.proofs.Decisions.{one_hide_line, decide_hide_line}
 use Rattle.autfmt.specs.declared.line.TheConstants.{LONGEST_LINE}
 use Rattle.autfmt.specs.declared.limits.TheConstants.{MOST_LINES}
-
--- what the end of a whole hide list has: no fault
-abbrev pub no_fault : ℕ → Fault → Type 0
-no_fault k fault = ⊥
 
 -- line k is one of those that may stand, and names a label
 abbrev pub GoodHide : ℕ → List ℕ → Type 0
@@ -71,28 +67,33 @@ hide_judged k line = step (cases_lt MOST_LINES k) (cases_lt LONGEST_LINE (length
     step (inr x) (inr s) (inr none) = inr (BadHide k, (refl, x, s, none))
     step (inr x) (inr s) (inl h) = inl (x, h.0, (s, h.1))
 
--- one more line
-pub hides_push :
-    (lines H : List (List ℕ)) (line a : List ℕ) → AllZip Hides lines H → Hides line a → AllZip Hides (lines ++ line ∷ []) (H ++ a ∷ [])
-hides_push [] [] line a g h = (h, tt)
-hides_push [] (b ∷ H) line a g h = absurd g
-hides_push (l ∷ lines) [] line a g h = absurd g
-hides_push (l ∷ lines) (b ∷ H) line a g h = (g.0, hides_push lines H line a g.1 h)
-
--- none of the lines that name labels is faulty
-pub hides_none_faulty :
-    (k : ℕ) (lines H : List (List ℕ)) → AllZip Hides lines H → k + length lines ≤ MOST_LINES + 1 → NoneFaulty HideFault k lines
-hides_none_faulty k [] H g few = tt
-hides_none_faulty k (line ∷ lines) [] g few = absurd g
-hides_none_faulty k (line ∷ lines) (a ∷ H) g few =
-    (λ fault. GoodHide-no_fault k line fault (omega arith, a, g.0), hides_none_faulty (k + 1) lines H g.1 (omega arith))
+-- where a fault comes next, no label does
+hide_stops :
+    (lines labels : List (List ℕ)) (line : List ℕ) (others : List (List ℕ)) (fault : Fault) → AllZip Hides lines labels →
+    HideFault (length lines + 1) line fault → Stops Hides MOST_LINES (length labels) (line ∷ others)
+hide_stops lines labels line others fault named bad less a good =
+    let count = AllZip-long Hides lines labels named in
+    GoodHide-no_fault (length lines + 1) line fault (omega arith, a, good) bad
 
 -- a hide list has no two first faults
 pub FirstHideFault-unique : (text : List ℕ) (f g : Fault) → FirstHideFault text f → FirstHideFault text g → f ≡ g
 FirstHideFault-unique text f g a b =
-    let same = Lines-unique text b.0 a.0 b.1 a.1 in
-    FaultFrom-unique HideFault HideFault-unique no_fault 1 a.0 f g (λ j p q. absurd p) a.2
-    (subst (λ (lines : List (List ℕ)). FaultFrom HideFault no_fault 1 lines g) same b.2)
+    let whole = Lines-unique text (a.lines ++ a.line ∷ a.others) (b.lines ++ b.line ∷ b.others) a.whole b.whole in
+    let m = AllZip-long Hides a.lines a.labels a.named in
+    let n = AllZip-long Hides b.lines b.labels b.named in
+    let few = a.few in
+    let few' = b.few in
+    let same =
+    one_front Hides MOST_LINES 0 a.lines b.lines (a.line ∷ a.others) (b.line ∷ b.others) a.labels b.labels
+    (length a.labels) (length b.labels) whole a.named b.named (omega arith) (omega arith) (omega arith) (omega arith)
+    (hide_stops a.lines a.labels a.line a.others f a.named a.faulty)
+    (hide_stops b.lines b.labels b.line b.others g b.named b.faulty) in
+    let count = same.0 in
+    let others = same.1 in
+    let place : length b.lines + 1 ≡ length a.lines + 1 = omega arith in
+    let line : b.line ≡ a.line = cc in
+    HideFault-unique (length a.lines + 1) a.line f g a.faulty
+    (subst (λ (l : List ℕ). HideFault (length a.lines + 1) l g) line (subst (λ (k : ℕ). HideFault k b.line g) place b.faulty))
 
 -- lines name one list of labels
 pub hidden_unique : (lines H H' : List (List ℕ)) → AllZip Hides lines H → AllZip Hides lines H' → H ≡ H'
@@ -117,96 +118,101 @@ HideReads-unique text H H' a b =
 
 -- a hide list has no fault
 pub HideReads-no_fault : (text : List ℕ) (H : List (List ℕ)) (fault : Fault) → HideReads text H → FirstHideFault text fault → ⊥
-HideReads-no_fault text H fault r f =
-    let same = Lines-unique text f.0 r.0 f.1 r.1 in
-    let few = r.2 in
-    FaultFrom-end HideFault no_fault 1 r.0 fault (hides_none_faulty 1 r.0 H r.3 (omega arith))
-    (subst (λ (lines : List (List ℕ)). FaultFrom HideFault no_fault 1 lines fault) same f.2)
-
--- the lines from line k on name labels, or have a fault
-pub hides_judged :
-    (k : ℕ) (lines : List (List ℕ)) → k ≤ MOST_LINES + 1 →
-    ((H : List (List ℕ)) × AllZip Hides lines H × (k + length lines ≤ MOST_LINES + 1))
-    ⊎ ((fault : Fault) × FaultFrom HideFault no_fault k lines fault)
-hides_judged k [] few = inl ([], tt, omega arith)
-hides_judged k (line ∷ lines) few = step (λ x. hides_judged (k + 1) lines x) (hide_judged k line)
-  where
-    step :
-        (k + 1 ≤ MOST_LINES + 1 →
-        ((H : List (List ℕ)) × AllZip Hides lines H × (k + 1 + length lines ≤ MOST_LINES + 1))
-        ⊎ ((fault : Fault) × FaultFrom HideFault no_fault (k + 1) lines fault)) →
-        GoodHide k line ⊎ ((fault : Fault) × HideFault k line fault) →
-        ((H : List (List ℕ)) × AllZip Hides (line ∷ lines) H × (k + length (line ∷ lines) ≤ MOST_LINES + 1))
-        ⊎ ((fault : Fault) × FaultFrom HideFault no_fault k (line ∷ lines) fault)
-    step others (inr bad) = inr (bad.0, inl bad.1)
-    step others (inl good) = then (others (let x = good.0 in omega arith))
-      where
-        then :
-            ((H : List (List ℕ)) × AllZip Hides lines H × (k + 1 + length lines ≤ MOST_LINES + 1))
-            ⊎ ((fault : Fault) × FaultFrom HideFault no_fault (k + 1) lines fault) →
-            ((H : List (List ℕ)) × AllZip Hides (line ∷ lines) H × (k + length (line ∷ lines) ≤ MOST_LINES + 1))
-            ⊎ ((fault : Fault) × FaultFrom HideFault no_fault k (line ∷ lines) fault)
-        then (inr bad) = inr (bad.0, inr (λ fault. GoodHide-no_fault k line fault good, bad.1))
-        then (inl rest) = let count = rest.2 in inl (good.1 ∷ rest.0, (good.2, rest.1), omega arith)
+HideReads-no_fault text H fault (lines, l, few, named) f =
+    let whole = Lines-unique text lines (f.lines ++ f.line ∷ f.others) l f.whole in
+    let m = AllZip-long Hides lines H named in
+    let n = AllZip-long Hides f.lines f.labels f.named in
+    let few' = f.few in
+    let same =
+    one_front Hides MOST_LINES 0 lines f.lines [] (f.line ∷ f.others) H f.labels (length H) (length f.labels)
+    (append-nil lines ∙ whole) named f.named (omega arith) (omega arith) (omega arith) (omega arith) tt (hide_stops f.lines f.labels f.line f.others fault f.named f.faulty) in
+    let none = same.1 in cc
 
 -- each text is a hide list or has a fault
 pub hide_text_judged : (text : List ℕ) → ((H : List (List ℕ)) × HideReads text H) ⊎ ((fault : Fault) × FirstHideFault text fault)
-hide_text_judged text = step (hides_judged 1 (lines_of text).0 (omega arith))
+hide_text_judged text = step (lines_of text).0 (lines_of text).1
   where
-    step :
-        ((H : List (List ℕ)) × AllZip Hides (lines_of text).0 H × (1 + length (lines_of text).0 ≤ MOST_LINES + 1))
-        ⊎ ((fault : Fault) × FaultFrom HideFault no_fault 1 (lines_of text).0 fault) →
-        ((H : List (List ℕ)) × HideReads text H) ⊎ ((fault : Fault) × FirstHideFault text fault)
-    step (inl rest) =
-        let count = rest.2 in inl (rest.0, ((lines_of text).0, (lines_of text).1, omega arith, rest.1))
-    step (inr bad) = inr (bad.0, ((lines_of text).0, (lines_of text).1, bad.1))
+    decide : (line : List ℕ) → ((a : List ℕ) × Hides line a) ⊎ ((a : List ℕ) → ¬ Hides line a)
+    decide line = kind (hide_judged 1 line)
+      where
+        kind : GoodHide 1 line ⊎ ((fault : Fault) × HideFault 1 line fault) → ((a : List ℕ) × Hides line a) ⊎ ((a : List ℕ) → ¬ Hides line a)
+        kind (inl good) = inl (good.1, good.2)
+        kind (inr bad) = inr (λ a names. GoodHide-no_fault 1 line bad.0 (omega arith, a, names) bad.1)
 
--- the fault of a line that is too long, or behind the last that may stand, stays whatever follows in the line
-pub hide_stays : Stays HideFault MOST_LINES
-hide_stays front tail k fault judged h = step judged (hide_kind k front fault h)
-  where
-    step : (LONGEST_LINE < length front) ⊎ (MOST_LINES < k) → HideKind k front fault → HideFault k (front ++ tail) fault
-    step judged (extra e x) =
-        let right : HideFault k (front ++ tail) TooManyHidden = x in
-        subst (λ (f : Fault). HideFault k (front ++ tail) f) (sym e) right
-    step judged (long e x l) =
-        let right : HideFault k (front ++ tail) (LineTooLong k) = (refl, x, omega (arith, length-append front tail)) in
-        subst (λ (f : Fault). HideFault k (front ++ tail) f) (sym e) right
-    step (inl big) (unread e x s none) = absurd (omega arith)
-    step (inr behind) (unread e x s none) = absurd (omega arith)
+    step : (all : List (List ℕ)) → Lines text all → ((H : List (List ℕ)) × HideReads text H) ⊎ ((fault : Fault) × FirstHideFault text fault)
+    step all l = at (divided Hides MOST_LINES decide 0 all (omega arith))
+      where
+        at : Divided Hides MOST_LINES 0 all → ((H : List (List ℕ)) × HideReads text H) ⊎ ((fault : Fault) × FirstHideFault text fault)
+        at d =
+            let next = d.behind (length d.xs) (omega arith) in
+            behind d.others (subst (λ (ls : List (List ℕ)). Lines text ls) d.whole l) next.1
+          where
+            count : length d.lines ≤ MOST_LINES
+            count = let next = d.behind (length d.xs) (omega arith) in let few = next.0 in let size = AllZip-long Hides d.lines d.xs d.good in omega arith
 
--- a fault that is known from the first bytes is the hide list's
-pub JudgedHideFault-first :
-    (given more : List ℕ) (fault : Fault) → JudgedHideFault given fault → FirstHideFault (given ++ more) fault
-JudgedHideFault-first given more fault (ended, rest, c, h) = (
-  ended ++ (lines_of (rest ++ more)).0,
-  subst (λ (t : List ℕ). Lines t (ended ++ (lines_of (rest ++ more)).0)) whole
-      (Lines-behind ended (rest ++ more) (lines_of (rest ++ more)).0 c.lines (lines_of (rest ++ more)).1),
-  FaultFrom-extends HideFault (JudgedRest HideFault MOST_LINES rest) no_fault 1 ended (lines_of (rest ++ more)).0 fault
-      (λ k r. judged_first HideFault MOST_LINES hide_stays no_fault rest more (lines_of (rest ++ more)).0 k fault c.one
-      (lines_of (rest ++ more)).1 r) h,
-)
-  where
-    whole : with_line_feeds ended ++ (rest ++ more) ≡ given ++ more
-    whole = sym (append_assoc (with_line_feeds ended) rest more) ∙ ap (λ (t : List ℕ). t ++ more) (sym c.whole)
+            behind : (others : List (List ℕ)) → Lines text (d.lines ++ others) → Stops Hides MOST_LINES (length d.xs) others →
+                ((H : List (List ℕ)) × HideReads text H) ⊎ ((fault : Fault) × FirstHideFault text fault)
+            behind [] l' stops =
+                inl (d.xs, (d.lines, subst (λ (ls : List (List ℕ)). Lines text ls) (append-nil d.lines) l', count, d.good))
+            behind (line ∷ others) l' stops = then (hide_judged (length d.lines + 1) line)
+              where
+                then : GoodHide (length d.lines + 1) line ⊎ ((fault : Fault) × HideFault (length d.lines + 1) line fault) →
+                    ((H : List (List ℕ)) × HideReads text H) ⊎ ((fault : Fault) × FirstHideFault text fault)
+                then (inl good) =
+                    let size = AllZip-long Hides d.lines d.xs d.good in
+                    let few = good.0 in
+                    absurd (stops (omega arith) good.1 good.2)
+                then (inr bad) = inr (
+                  bad.0,
+                  record {
+                    lines = d.lines;
+                    line = line;
+                    others = others;
+                    whole = l';
+                    labels = d.xs;
+                    named = d.good;
+                    few = count;
+                    faulty = bad.1;
+                  },
+                )
 
--- where the ended lines are good, and the unended one is not judged, there is no fault yet
+-- a line that is said to be too long is one
+long_hide_line : (text : List ℕ) (k : ℕ) → FirstHideFault text (LineTooLong k) → HasLongLine text
+long_hide_line text k f = (f.lines, f.others, f.line, f.whole, f.faulty.2)
+
+-- where the ended lines are good, and one may follow that has not ended, no fault is known
 pub no_judged_hide_fault :
     (given : List ℕ) (lines : List (List ℕ)) (rest : List ℕ) (H : List (List ℕ)) (fault : Fault) →
     Cuts given lines rest → AllZip Hides lines H → length lines ≤ MOST_LINES → length rest ≤ LONGEST_LINE →
     (length lines < MOST_LINES) ⊎ (length rest ≡ 0) → JudgedHideFault given fault → ⊥
-no_judged_hide_fault given lines rest H fault c good few short unjudged j =
-    let same = Cuts-unique given j.0 lines j.1 rest j.2 c in
-    let h =
-    subst (λ (e : List (List ℕ)). FaultFrom HideFault (JudgedRest HideFault MOST_LINES rest) 1 e fault) same.0
-    (subst (λ (r : List ℕ). FaultFrom HideFault (JudgedRest HideFault MOST_LINES r) 1 j.0 fault) same.1 j.3) in
-    no_judged HideFault MOST_LINES 1 lines rest fault (hides_none_faulty 1 lines H good (omega arith)) short
-    (⊎_elim (λ less. inl (omega arith)) (λ none. inr none) unjudged) h
+no_judged_hide_fault given lines rest H fault c good few short unjudged known = step (cases_lt (length lines) MOST_LINES)
+  where
+    too_long : length lines < MOST_LINES → (long : List ℕ) → LONGEST_LINE < length long → (text : List ℕ) → Lines text (lines ++ long ∷ []) →
+        FirstHideFault text (LineTooLong (length lines + 1))
+    too_long less next big text l = record {
+      lines = lines;
+      line = next;
+      others = [];
+      whole = l;
+      labels = H;
+      named = good;
+      few = few;
+      faulty = (refl, omega arith, big);
+    }
 
--- the first fault of a hide list whose first lines are good
-pub FirstHideFault-behind :
-    (text : List ℕ) (lines others H : List (List ℕ)) (fault : Fault) →
-    Lines text (lines ++ others) → AllZip Hides lines H → length lines ≤ MOST_LINES →
-    FaultFrom HideFault no_fault (1 + length lines) others fault → FirstHideFault text fault
-FirstHideFault-behind text lines others H fault l good few h =
-    (lines ++ others, l, FaultFrom-behind HideFault no_fault 1 lines others fault (hides_none_faulty 1 lines H good (omega arith)) h)
+    at_end : (r : List ℕ) → length r ≡ 0 → Cuts given lines r → ⊥
+    at_end (b ∷ bs) none c' = absurd (omega arith)
+    at_end [] none c' =
+        let l = subst (λ (ls : List (List ℕ)). Lines given ls) (append-nil lines) (lines, [], c', refl) in
+        HideReads-no_fault given H fault (lines, l, few, good)
+        (subst (λ (t : List ℕ). FirstHideFault t fault) (append-nil given) (known []))
+
+    step : (length lines < MOST_LINES) ⊎ (MOST_LINES ≤ length lines) → ⊥
+    step (inl less) =
+        not_known FirstHideFault FirstHideFault-unique long_hide_line given lines rest (length lines + 1) c
+        (AllZip-firsts Hides IsShort (λ l a names. names.0) lines H good) short (too_long less) fault known
+    step (inr full) = ends unjudged
+      where
+        ends : (length lines < MOST_LINES) ⊎ (length rest ≡ 0) → ⊥
+        ends (inl less) = omega arith
+        ends (inr none) = at_end rest none c

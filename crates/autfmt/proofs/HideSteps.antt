@@ -1,6 +1,6 @@
 -- The steps of the reader of a hide list: what each one leaves, and why it may refuse.
 use Rattle.std.proofs.Common.{◌≡◌, ◌⊎◌, ⊎_elim, ℕ, ◌+◌, ◌<◌, ◌≤◌, true, List, [], ◌∷◌, ◌++◌, length, Option, Contains, refl, sym, ◌∙◌, ap, subst, inl, inr, arith}
-use Rattle.std.specs.List.{AllZip}
+use Rattle.std.proofs.lemmas.Slice.Zip.{AllZip-long}
 use Rattle.std.proofs.lemmas.List.{append_assoc, length_push}
 use Rattle.std.proofs.lemmas.List.Elements.{All-nil, Contains-append_left, Contains-push, Contains-push_cases}
 use Rattle.std.specs.Io.KnownBytes.{IsAtEnd}
@@ -8,7 +8,6 @@ use Rattle.lts.specs.Labels.{Interns}
 use Rattle.autfmt.specs.declared.fault.Fault.{Fault}
 use Rattle.autfmt.specs.declared.fault.Fault.TheVariants.{LineTooLong, TooManyHidden, Device}
 use Rattle.autfmt.specs.Texts.{Lines}
-use Rattle.autfmt.specs.Faults.{FaultFrom}
 use Rattle.autfmt.specs.HideLists.{Hides, HideFault, FirstHideFault}
 use Rattle.autfmt.specs.Cutter.{Cutting, CutsLine, BeginsTooLong, IsPart}
 use Rattle.autfmt.specs.HideReaders.{IsHideFault, SameLabels, HidesAs}
@@ -16,7 +15,8 @@ use Rattle.autfmt.specs.HideReadSoFar.{AddsLabel, HideReadSoFar}
 use Rattle.autfmt.specs.HideOutcomes.{HideRefuses}
 use Rattle.autfmt.specs.HideOutcomes.HideRefuses.{failed_source, faulty_text}
 use Rattle.autfmt.proofs.Cutting.{IsNoFeed}
-use Rattle.autfmt.proofs.HideLaws.{no_fault, hides_push, no_judged_hide_fault, FirstHideFault-behind}
+use Rattle.autfmt.proofs.Lists.{AllZip-push}
+use Rattle.autfmt.proofs.HideLaws.{no_judged_hide_fault}
 use Rattle.autfmt.proofs.HasCut.{HasCut-line, HasCut-lines, HasCut-too_long, HasCut-end, HasCut-more, HasCut-part}
 use Rattle.autfmt.proofs.ReaderSteps.{if_told, none_to_come, fresh, HasCut-fresh}
 use Rattle.autfmt.specs.declared.limits.TheConstants.{MOST_LINES}
@@ -53,13 +53,6 @@ SameLabels-add hidden H a now same added b = (
       (⊎_elim (λ d. inl ((same b).1 d)) (λ e. inr (sym e)) (Contains-push_cases H a b c)),
 )
 
--- as many lines as labels
-pub named_length : (lines H : List (List ℕ)) → AllZip Hides lines H → length lines ≡ length H
-named_length [] [] h = refl
-named_length [] (a ∷ H) h = absurd h
-named_length (l ∷ lines) [] h = absurd h
-named_length (l ∷ lines) (a ∷ H) h = let e = named_length lines H h.1 in cc
-
 -- nothing was read
 pub HideReadSoFar-new : (old : Cutting) (hidden : List (List ℕ)) → old ≡ fresh → hidden ≡ [] → HideReadSoFar [] old [] hidden
 HideReadSoFar-new old hidden e none = record {
@@ -69,15 +62,23 @@ HideReadSoFar-new old hidden e none = record {
   same = λ a. (λ c. subst (λ (t : List (List ℕ)). Contains t a) none c, λ c. subst (λ (t : List (List ℕ)). Contains t a) (sym none) c);
 }
 
--- a fault behind the lines read so far
+-- a fault of the line behind those read so far
 pub hide_fault_behind :
-    (given : List ℕ) (at : Cutting) (H hidden : List (List ℕ)) (whole : List ℕ) (others : List (List ℕ)) (fault : Fault) →
-    (so_far : HideReadSoFar given at H hidden) → length H ≤ MOST_LINES → Lines whole (so_far.lines ++ others) →
-    FaultFrom HideFault no_fault (1 + length H) others fault → FirstHideFault whole fault
-hide_fault_behind given at H hidden whole others fault so_far few l h =
-    let e = named_length so_far.lines H so_far.named in
-    FirstHideFault-behind whole so_far.lines others H fault l so_far.named (omega arith)
-    (subst (λ (k : ℕ). FaultFrom HideFault no_fault (1 + k) others fault) (sym e) h)
+    (given : List ℕ) (at : Cutting) (H hidden : List (List ℕ)) (whole line : List ℕ) (others : List (List ℕ)) (fault : Fault) →
+    (so_far : HideReadSoFar given at H hidden) → length H ≤ MOST_LINES → Lines whole (so_far.lines ++ line ∷ others) →
+    HideFault (length H + 1) line fault → FirstHideFault whole fault
+hide_fault_behind given at H hidden whole line others fault so_far few l bad =
+    let count = AllZip-long Hides so_far.lines H so_far.named in
+    record {
+      lines = so_far.lines;
+      line = line;
+      others = others;
+      whole = l;
+      labels = H;
+      named = so_far.named;
+      few = omega arith;
+      faulty = subst (λ (k : ℕ). HideFault (k + 1) line fault) count bad;
+    }
 
 -- the next line is too long
 pub hide_too_long :
@@ -89,15 +90,15 @@ hide_too_long given old H hidden got rest failures found so_far count few sound 
     (if_told rest (λ more. FirstHideFault (given ++ got ++ more) (LineTooLong (found + 1)))
     (λ more told.
     let (line, others, big, l) = HasCut-too_long given got more so_far.lines old so_far.cut goes_on long in
-    hide_fault_behind given old H hidden (given ++ got ++ more) (line ∷ others) (LineTooLong (found + 1)) so_far (omega arith) l
-    (inl (omega arith, omega arith, big))))
+    hide_fault_behind given old H hidden (given ++ got ++ more) line others (LineTooLong (found + 1)) so_far (omega arith) l
+    (omega arith, omega arith, big)))
 
 -- the text ends
 pub hide_ends :
     (given : List ℕ) (old : Cutting) (H hidden : List (List ℕ)) (got : List ℕ) →
     HideReadSoFar given old H hidden → length H ≤ MOST_LINES → old.ahead ++ got ≡ [] → HidesAs (given ++ got) hidden
 hide_ends given old H hidden got so_far few none =
-    let e = named_length so_far.lines H so_far.named in
+    let e = AllZip-long Hides so_far.lines H so_far.named in
     (H, (so_far.lines, HasCut-end given got so_far.lines old so_far.cut none, omega arith, so_far.named), so_far.same)
 
 -- the source failed where a line has not ended
@@ -106,11 +107,11 @@ pub hide_failed :
     HideReadSoFar given old H hidden → length H ≤ MOST_LINES → (length H < MOST_LINES) ⊎ (length (old.ahead ++ got) ≡ 0) →
     failures ≡ 1 → (old.over ≡ true → ⊥) → IsPart (old.ahead ++ got) → HideRefuses (given ++ got) rest failures Device
 hide_failed given old H hidden got rest failures so_far few unjudged failed goes_on part =
-    let e = named_length so_far.lines H so_far.named in
+    let e = AllZip-long Hides so_far.lines H so_far.named in
     let c = HasCut-part given got so_far.lines old so_far.cut goes_on part.0 in
     failed_source failed refl
     (λ f. no_judged_hide_fault (given ++ got) so_far.lines (old.ahead ++ got) H f c so_far.named (omega arith) part.1
-    (subst (λ (k : ℕ). (k < MOST_LINES) ⊎ (length (old.ahead ++ got) ≡ 0)) (sym e) unjudged))
+    (subst (λ (k : ℕ). (k < MOST_LINES) ⊎ (length (old.ahead ++ got) ≡ 0)) e unjudged))
 
 -- the next line names a label
 pub hide_good :
@@ -120,7 +121,7 @@ pub hide_good :
 hide_good given old now H hidden got a hidden' so_far goes_on cuts names added = record {
   lines = so_far.lines ++ now.line ∷ [];
   cut = HasCut-line given got so_far.lines old now so_far.cut goes_on cuts;
-  named = hides_push so_far.lines H now.line a so_far.named names;
+  named = AllZip-push Hides so_far.lines H now.line a so_far.named names;
   same = SameLabels-add hidden H a hidden' so_far.same added;
 }
 
@@ -141,9 +142,9 @@ hide_faulty given old now H hidden got rest failures found fault so_far count fe
     (λ over. none_to_come rest more told (end over)) in
     let l' =
     subst (λ (ls : List (List ℕ)). Lines (given ++ got ++ more) ls) (append_assoc so_far.lines (now.line ∷ []) others) l in
-    let k : found + 1 ≡ 1 + length H = omega arith in
-    hide_fault_behind given old H hidden (given ++ got ++ more) (now.line ∷ others) fault so_far (omega arith) l'
-    (inl (subst (λ (j : ℕ). HideFault j now.line fault) k bad))))
+    let k : found + 1 ≡ length H + 1 = omega arith in
+    hide_fault_behind given old H hidden (given ++ got ++ more) now.line others fault so_far (omega arith) l'
+    (subst (λ (j : ℕ). HideFault j now.line fault) k bad)))
 
 -- more stands behind the last line that may stand
 pub hide_behind :
@@ -155,8 +156,7 @@ hide_behind given old H hidden got rest failures so_far count sound goes_on some
     (if_told rest (λ more. FirstHideFault (given ++ got ++ more) TooManyHidden)
     (λ more told.
     let (line, others, l) = HasCut-more given got more so_far.lines old so_far.cut goes_on some in
-    hide_fault_behind given old H hidden (given ++ got ++ more) (line ∷ others) TooManyHidden so_far (omega arith) l
-    (inl (omega arith))))
+    hide_fault_behind given old H hidden (given ++ got ++ more) line others TooManyHidden so_far (omega arith) l (omega arith)))
 
 -- the source failed behind the last line that may stand
 pub hide_end_failed :

@@ -1,124 +1,110 @@
 -- What is known of a text from its first bytes.
-use Rattle.std.proofs.Common.{◌≡◌, ◌⊎◌, ⊎_elim, ℕ, ◌+◌, ◌<◌, ◌≤◌, List, [], ◌∷◌, ◌++◌, length, refl, sym, ◌∙◌, ap, subst, inl, inr, arith}
-use Rattle.std.proofs.lemmas.List.{append_assoc, length-append}
+use Rattle.std.proofs.Common.{◌≡◌, ◌⊎◌, ℕ, ◌+◌, ◌<◌, ◌≤◌, List, [], ◌∷◌, ◌++◌, length, refl, subst, inl, inr, arith, All, sym, ap, ◌∙◌}
+use Rattle.std.specs.List.{AllZip}
+use Rattle.std.proofs.lemmas.Bool.{cases_lt}
+use Rattle.std.proofs.lemmas.List.{append_assoc, append-nil}
+use Rattle.std.proofs.lemmas.List.Elements.{All-nil, All-cons}
 use Rattle.theory.specs.System.{Transition}
 use Rattle.autfmt.specs.declared.fault.Fault.{Fault}
-use Rattle.autfmt.specs.declared.fault.Fault.TheVariants.{BadHeader, LineTooLong, ExtraText}
+use Rattle.autfmt.specs.declared.fault.Fault.TheVariants.{LineTooLong, MissingEdges}
 use Rattle.autfmt.specs.Bounds.{Bounds}
-use Rattle.autfmt.specs.Texts.{Cuts, Lines, IsOneLine, GoodHeader}
-use Rattle.autfmt.specs.Cutter.{with_line_feeds}
-use Rattle.autfmt.specs.Faults.{HeaderFault, EdgeFault, FaultFrom, Missing, FaultOfLines, FirstFault, JudgedRest, JudgedFault}
-use Rattle.autfmt.proofs.Cutting.{Cuts-unique, Lines-behind, lines_of, first_begins}
-use Rattle.autfmt.proofs.FirstFaults.{Stays, FaultFrom-behind, FaultFrom-extends, judged_first, no_judged}
-use Rattle.autfmt.proofs.LineFaults.{HeaderKind, header_kind, EdgeKind, edge_kind, GoodHeader-no_fault, same_header}
-use Rattle.autfmt.proofs.LineFaults.HeaderKind.{long, unread, wrong}
-use Rattle.autfmt.proofs.FaultLaws.{GoodLines, GoodLines-none_faulty}
+use Rattle.autfmt.specs.Texts.{Cuts, Lines, IsShort, GoodHeader, SpellsAmong}
+use Rattle.autfmt.specs.Cutter.{IsPart, with_line_feeds}
+use Rattle.autfmt.proofs.Cutting.{Lines-unique, Lines-behind, lines_of}
+use Rattle.autfmt.specs.Faults.{HeaderFault, EdgeFault, BeginsWell, FirstFault, JudgedFault}
+use Rattle.autfmt.specs.Faults.FirstFault.{no_line, header, behind}
+use Rattle.autfmt.proofs.Lists.{AllZip-firsts}
+use Rattle.autfmt.proofs.FirstFaults.{HasLongLine, not_known}
+use Rattle.autfmt.proofs.FaultLaws.{FirstFault-unique, Reads-from_lines, Reads-no_fault}
 use Rattle.autfmt.specs.declared.line.TheConstants.{LONGEST_LINE}
 
--- a line that is too long stays so
-pub long_header :
-    (bounds : Bounds) (front tail : List ℕ) (fault : Fault) → LONGEST_LINE < length front → HeaderFault bounds front fault →
-    HeaderFault bounds (front ++ tail) fault
-long_header bounds front tail fault big h = step (header_kind bounds front fault h)
-  where
-    longer : LONGEST_LINE < length (front ++ tail)
-    longer = omega (arith, length-append front tail)
+-- a line that is said to be too long is one
+long_line : (bounds : Bounds) (text : List ℕ) (k : ℕ) → FirstFault bounds text (LineTooLong k) → HasLongLine text
+long_line bounds text k (no_line l e) = absurd cc
+long_line bounds text k (header line others l (HeaderFault.too_long e long)) = ([], others, line, l, long)
+long_line bounds text k (header line others l (HeaderFault.unread e short none)) = absurd cc
+long_line bounds text k (header line others l (HeaderFault.numbers f m n short h wrong)) = absurd wrong
+long_line bounds text k (behind m n es [] b next) = let e = next.1 in absurd cc
+long_line bounds text k (behind m n es (line ∷ others) b (inl (less, EdgeFault.too_long e long))) =
+    (b.header ∷ b.lines, others, line, b.whole, long)
+long_line bounds text k (behind m n es (line ∷ others) b (inl (less, EdgeFault.unread e short none))) = absurd cc
+long_line bounds text k (behind m n es (line ∷ others) b (inl (less, EdgeFault.source e d spelled high))) = absurd cc
+long_line bounds text k (behind m n es (line ∷ others) b (inl (less, EdgeFault.target e d spelled low high))) = absurd cc
+long_line bounds text k (behind m n es (line ∷ others) b (inr (full, e))) = absurd cc
 
-    step : HeaderKind bounds front fault → HeaderFault bounds (front ++ tail) fault
-    step (long e l) =
-        let right : HeaderFault bounds (front ++ tail) (LineTooLong 1) = (refl, longer) in
-        subst (λ (f : Fault). HeaderFault bounds (front ++ tail) f) (sym e) right
-    step (unread e s none) = absurd (omega arith)
-    step (wrong f m n s h' w) = absurd (omega arith)
+-- no fault is known of a line 1 that has not ended
+pub no_judged_header : (bounds : Bounds) (given : List ℕ) (fault : Fault) → IsPart given → JudgedFault bounds given fault → ⊥
+no_judged_header bounds given fault part known =
+    not_known (FirstFault bounds) (FirstFault-unique bounds) (long_line bounds) given [] given 1
+    (record { whole = refl; lines = All-nil _; one = part.0 }) (All-nil IsShort) part.1
+    (λ line long text l. header line [] l (HeaderFault.too_long refl long)) fault known
 
--- so does one behind the promised transitions
-pub edge_stays : (m n : ℕ) → Stays (EdgeFault m n) (m + 1)
-edge_stays m n front tail k fault judged h = step judged (edge_kind m n k front fault h)
-  where
-    step : (LONGEST_LINE < length front) ⊎ (m + 1 < k) → EdgeKind m n k front fault → EdgeFault m n k (front ++ tail) fault
-    step judged (EdgeKind.extra e x) =
-        let right : EdgeFault m n k (front ++ tail) (ExtraText k) = (refl, x) in
-        subst (λ (f : Fault). EdgeFault m n k (front ++ tail) f) (sym e) right
-    step judged (EdgeKind.long e x l) =
-        let right : EdgeFault m n k (front ++ tail) (LineTooLong k) = (refl, x, omega (arith, length-append front tail)) in
-        subst (λ (f : Fault). EdgeFault m n k (front ++ tail) f) (sym e) right
-    step (inl big) (EdgeKind.unread e x s none) = absurd (omega arith)
-    step (inr behind) (EdgeKind.unread e x s none) = absurd (omega arith)
-    step (inl big) (EdgeKind.wrong s t a x s' h' w) = absurd (omega arith)
-    step (inr behind) (EdgeKind.wrong s t a x s' h' w) = absurd (omega arith)
-
--- what an unended first line that is judged, and an unended later one, have
-abbrev pub JudgedFirst : Bounds → List ℕ → Fault → Type 0
-JudgedFirst bounds rest fault = (LONGEST_LINE < length rest) × HeaderFault bounds rest fault
-
-abbrev pub JudgedLater : List ℕ → ℕ → ℕ → ℕ → Fault → Type 0
-JudgedLater rest m n = JudgedRest (EdgeFault m n) (m + 1) rest
-
--- a fault that is known from the first lines, the first of them ended, is that of all
-judged_lines_first :
-    (bounds : Bounds) (line : List ℕ) (lines : List (List ℕ)) (rest more : List ℕ) (others : List (List ℕ)) (fault : Fault) →
-    IsOneLine rest → Lines (rest ++ more) others → FaultOfLines bounds (JudgedFirst bounds rest) (JudgedLater rest) (line ∷ lines) fault →
-    FaultOfLines bounds (λ f. f ≡ BadHeader) Missing ((line ∷ lines) ++ others) fault
-judged_lines_first bounds line lines rest more others fault one l (inl bad) = inl bad
-judged_lines_first bounds line lines rest more others fault one l (inr (f, m, n, good, from)) =
-    let first =
-    λ (k : ℕ) (r : JudgedLater rest m n k fault).
-    judged_first (EdgeFault m n) (m + 1) (edge_stays m n) (Missing m n) rest more others k fault one l r in
-    inr (f, m, n, good, FaultFrom-extends (EdgeFault m n) (JudgedLater rest m n) (Missing m n) 2 lines others fault first from)
-
--- a fault that is known from the first bytes is the text's
-pub JudgedFault-first :
-    (bounds : Bounds) (given more : List ℕ) (fault : Fault) → JudgedFault bounds given fault → FirstFault bounds (given ++ more) fault
-JudgedFault-first bounds given more fault ([], rest, c, h) =
-    let whole : rest ++ more ≡ given ++ more = ap (λ (t : List ℕ). t ++ more) (sym c.whole) in
-    let b = first_begins rest more c.one (let big = h.0 in omega arith) in (
-      (rest ++ b.0) ∷ b.1,
-      subst (λ (t : List ℕ). Lines t ((rest ++ b.0) ∷ b.1)) whole b.2,
-      inl (long_header bounds rest b.0 fault h.0 h.1),
-    )
-JudgedFault-first bounds given more fault (line ∷ lines, rest, c, h) =
-    let ended = line ∷ lines in
-    let others = lines_of (rest ++ more) in
-    let whole : with_line_feeds ended ++ (rest ++ more) ≡ given ++ more =
-    sym (append_assoc (with_line_feeds ended) rest more) ∙ ap (λ (t : List ℕ). t ++ more) (sym c.whole) in (
-      ended ++ others.0,
-      subst (λ (t : List ℕ). Lines t (ended ++ others.0)) whole (Lines-behind ended (rest ++ more) others.0 c.lines others.1),
-      judged_lines_first bounds line lines rest more others.0 fault c.one others.1 h,
-    )
-
--- what is judged of the bytes given, by their one cut
-judged_of :
-    (bounds : Bounds) (given : List ℕ) (ended : List (List ℕ)) (rest : List ℕ) (fault : Fault) → Cuts given ended rest →
-    JudgedFault bounds given fault → FaultOfLines bounds (JudgedFirst bounds rest) (JudgedLater rest) ended fault
-judged_of bounds given ended rest fault c j =
-    let same = Cuts-unique given j.0 ended j.1 rest j.2 c in
-    subst (λ (e : List (List ℕ)). FaultOfLines bounds (JudgedFirst bounds rest) (JudgedLater rest) e fault) same.0
-    (subst (λ (r : List ℕ). FaultOfLines bounds (JudgedFirst bounds r) (JudgedLater r) j.0 fault) same.1 j.3)
-
--- if the ended lines are good, and the unended one is not judged, there is no fault yet
+-- nor behind good lines, where a line may follow that has not ended
 pub no_judged_fault :
     (bounds : Bounds) (given line : List ℕ) (lines : List (List ℕ)) (rest : List ℕ) (f m n : ℕ) (es : List Transition)
     (fault : Fault) →
-    Cuts given (line ∷ lines) rest → GoodHeader bounds line f m n → GoodLines n lines es → length lines ≤ m →
-    length rest ≤ LONGEST_LINE → (length lines < m) ⊎ (length rest ≡ 0) → JudgedFault bounds given fault → ⊥
-no_judged_fault bounds given line lines rest f m n es fault c good edges few short unjudged j =
-    against (judged_of bounds given (line ∷ lines) rest fault c j)
+    Cuts given (line ∷ lines) rest → GoodHeader bounds line f m n → AllZip (SpellsAmong n) lines es → length es ≤ m →
+    length rest ≤ LONGEST_LINE → (length es < m) ⊎ (length rest ≡ 0) → JudgedFault bounds given fault → ⊥
+no_judged_fault bounds given line lines rest f m n es fault c good edges few short unjudged known = step (cases_lt (length es) m)
   where
-    against : FaultOfLines bounds (JudgedFirst bounds rest) (JudgedLater rest) (line ∷ lines) fault → ⊥
-    against (inl bad) = GoodHeader-no_fault bounds line f m n fault good bad
-    against (inr (f', m', n', good', from)) =
-        no_judged (EdgeFault m n) (m + 1) 2 lines rest fault (GoodLines-none_faulty m n 2 lines es edges (omega arith)) short
-        (⊎_elim (λ less. inl (omega arith)) (λ none. inr none) unjudged)
-        (same_header bounds line f' m' n' f m n (λ x y. FaultFrom (EdgeFault x y) (JudgedLater rest x y) 2 lines fault) good' good from)
+    shorts : All IsShort (line ∷ lines)
+    shorts =
+        All-cons IsShort line lines good.short
+        (AllZip-firsts (SpellsAmong n) IsShort (λ l e spelled. spelled.0.0) lines es edges)
 
--- the first fault of a text whose first lines are good
-pub FirstFault-behind :
-    (bounds : Bounds) (text line : List ℕ) (lines others : List (List ℕ)) (f m n : ℕ) (es : List Transition) (fault : Fault) →
-    Lines text ((line ∷ lines) ++ others) → GoodHeader bounds line f m n → GoodLines n lines es → length lines ≤ m →
-    FaultFrom (EdgeFault m n) (Missing m n) (2 + length lines) others fault → FirstFault bounds text fault
-FirstFault-behind bounds text line lines others f m n es fault l good edges few h =
-    let none = GoodLines-none_faulty m n 2 lines es edges (omega arith) in (
-      (line ∷ lines) ++ others,
-      l,
-      inr (f, m, n, good, FaultFrom-behind (EdgeFault m n) (Missing m n) 2 lines others fault none h),
-    )
+    too_long : length es < m → (long : List ℕ) → LONGEST_LINE < length long → (text : List ℕ) → Lines text ((line ∷ lines) ++ long ∷ []) →
+        FirstFault bounds text (LineTooLong (length es + 2))
+    too_long less long big text l =
+        let b : BeginsWell bounds text m n es (long ∷ []) =
+        record { header = line; first = f; lines = lines; whole = l; good = good; spelled = edges } in
+        behind m n es (long ∷ []) b (inl (less, EdgeFault.too_long refl big))
+
+    at_end : (r : List ℕ) → length r ≡ 0 → Cuts given (line ∷ lines) r → length es ≡ m → ⊥
+    at_end (b ∷ bs) none c' full = absurd (omega arith)
+    at_end [] none c' full =
+        let l = subst (λ (ls : List (List ℕ)). Lines given ls) (append-nil (line ∷ lines)) (line ∷ lines, [], c', refl) in
+        let read = Reads-from_lines bounds given line lines f m n es l good edges full in
+        Reads-no_fault bounds given (record { first = f; states = n; transitions = es }) fault read
+        (subst (λ (t : List ℕ). FirstFault bounds t fault) (append-nil given) (known []))
+
+    step : (length es < m) ⊎ (m ≤ length es) → ⊥
+    step (inl less) =
+        not_known (FirstFault bounds) (FirstFault-unique bounds) (long_line bounds) given (line ∷ lines) rest (length es + 2) c shorts short
+        (too_long less) fault known
+    step (inr full) = ends unjudged
+      where
+        ends : (length es < m) ⊎ (length rest ≡ 0) → ⊥
+        ends (inl less) = omega arith
+        ends (inr none) = at_end rest none c (omega arith)
+
+-- the fault of a line that has ended is known
+pub ended_known :
+    (bounds : Bounds) (given : List ℕ) (ended : List (List ℕ)) (fault : Fault) → Cuts given ended [] → FirstFault bounds given fault →
+    (ended ≡ [] → ⊥) → ((found : ℕ) → fault ≡ MissingEdges found → ⊥) → JudgedFault bounds given fault
+ended_known bounds given ended fault c first some found more = step first
+  where
+    tail : List (List ℕ)
+    tail = (lines_of more).0
+
+    longer : (lines : List (List ℕ)) → Lines given lines → Lines (given ++ more) (lines ++ tail)
+    longer lines l =
+        let all = subst (λ (ls : List (List ℕ)). Lines given ls) (append-nil ended) (ended, [], c, refl) in
+        let same = Lines-unique given ended lines all l in
+        let whole : with_line_feeds ended ++ more ≡ given ++ more =
+        ap (λ (t : List ℕ). t ++ more) (sym (append-nil (with_line_feeds ended)) ∙ sym c.whole) in
+        subst (λ (ls : List (List ℕ)). Lines (given ++ more) (ls ++ tail)) same
+        (subst (λ (t : List ℕ). Lines t (ended ++ tail)) whole (Lines-behind ended more tail c.lines (lines_of more).1))
+
+    step : FirstFault bounds given fault → FirstFault bounds (given ++ more) fault
+    step (no_line l e) =
+        let all = subst (λ (ls : List (List ℕ)). Lines given ls) (append-nil ended) (ended, [], c, refl) in
+        absurd (some (Lines-unique given ended [] all l))
+    step (header line others l bad) = header line (others ++ tail) (longer (line ∷ others) l) bad
+    step (behind m n es [] b next) = absurd (found (length es) next.1)
+    step (behind m n es (line ∷ others) b next) =
+        let l =
+        subst (λ (ls : List (List ℕ)). Lines (given ++ more) (b.header ∷ ls)) (append_assoc b.lines (line ∷ others) tail)
+        (longer (b.header ∷ b.lines ++ line ∷ others) b.whole) in
+        let b' : BeginsWell bounds (given ++ more) m n es (line ∷ (others ++ tail)) =
+        record { header = b.header; first = b.first; lines = b.lines; whole = l; good = b.good; spelled = b.spelled } in
+        behind m n es (line ∷ (others ++ tail)) b' next

@@ -1,6 +1,8 @@
 -- Lemmas on lists.
-use Rattle.std.proofs.Common.{◌≡◌, ℕ, ◌+◌, ◌-◌, ◌≤◌, List, ◌++◌, length, take, drop, sym, ◌∙◌, ap, arith}
+use Rattle.std.proofs.Common.{◌≡◌, ℕ, ◌+◌, ◌-◌, ◌≤◌, List, [], ◌∷◌, ◌++◌, All, length, take, drop, sym, ◌∙◌, ap, arith}
 use Rattle.std.proofs.lemmas.List.{append_assoc, take-append-drop, length-drop, take-take, length-take-le}
+use Rattle.std.specs.List.{AllZip}
+use Rattle.std.proofs.lemmas.List.Elements.{All-nil, All-cons, All-head, All-tail}
 use Rattle.std.proofs.Math.Seq.{take-length, take-append-add}
 
 -- the list from n on is a list of its own length
@@ -21,3 +23,25 @@ pub begins_with : {A : Type 0} → (at n : ℕ) (run old new : List A) → at �
 begins_with at n run old new room short is =
     sym (take-take (at + n) (at + length run) new (omega arith)) ∙ ap (take (at + n)) is
     ∙ ap (λ k. take (k + n) (take at old ++ run)) (sym (length-take-le at old room)) ∙ take-append-add (take at old) run n
+
+-- one pair more at the end
+pub AllZip-push :
+    {A B : Type 0} (R : A → B → Type 0) (xs : List A) (ys : List B) (x : A) (y : B) → AllZip R xs ys → R x y →
+    AllZip R (xs ++ x ∷ []) (ys ++ y ∷ [])
+AllZip-push R [] [] x y zipped r = (r, tt)
+AllZip-push R [] (b ∷ ys) x y zipped r = absurd zipped
+AllZip-push R (a ∷ xs) [] x y zipped r = absurd zipped
+AllZip-push R (a ∷ xs) (b ∷ ys) x y zipped r = (zipped.0, AllZip-push R xs ys x y zipped.1 r)
+
+-- what holds of each first one of a pair
+pub AllZip-firsts :
+    {A B : Type 0} (R : A → B → Type 0) (P : A → Type 0) → ((x : A) (y : B) → R x y → P x) → (xs : List A) (ys : List B) →
+    AllZip R xs ys → All P xs
+AllZip-firsts R P each [] ys zipped = All-nil P
+AllZip-firsts R P each (a ∷ xs) [] zipped = absurd zipped
+AllZip-firsts R P each (a ∷ xs) (b ∷ ys) zipped = All-cons P a xs (each a b zipped.0) (AllZip-firsts R P each xs ys zipped.1)
+
+-- what holds of each element holds of one between others
+pub All-between : {A : Type 0} (P : A → Type 0) (xs : List A) (x : A) (ys : List A) → All P (xs ++ x ∷ ys) → P x
+All-between P [] x ys all = All-head P x ys all
+All-between P (a ∷ xs) x ys all = All-between P xs x ys (All-tail P a (xs ++ x ∷ ys) all)

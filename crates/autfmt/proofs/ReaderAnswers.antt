@@ -1,18 +1,20 @@
 -- What the reader of a system answers of what was read.
-use Rattle.std.proofs.Common.{◌≡◌, ℕ, ◌<◌, List, ◌++◌, length, Option, None, Some, IfSome, refl, sym, ◌∙◌, ap, subst, arith}
+use Rattle.std.proofs.Common.{◌≡◌, ℕ, ◌<◌, List, ◌++◌, length, Option, None, Some, IfSome, Result, Ok, Err, IfErr, refl, sym, ◌∙◌, ap, subst, arith}
 use Rattle.std.proofs.lemmas.List.{append-nil}
 use Rattle.std.proofs.lemmas.List.Sorted.{length_permutation, Contains-permutation}
-use Rattle.std.specs.Io.KnownBytes.{IsAtEnd}
+use Rattle.std.specs.Io.KnownBytes.{Consumes, IsAtEnd}
 use Rattle.lts.specs.Lts.{Grouped, IsGrouping, IsCarried, system_from, system_of, Groups}
 use Rattle.theory.specs.System.{System}
+use Rattle.autfmt.specs.declared.fault.Fault.{Fault}
 use Rattle.autfmt.specs.declared.fault.Fault.TheVariants.{Memory}
 use Rattle.autfmt.specs.declared.judge.Promise.{Promise}
 use Rattle.autfmt.specs.declared.held.Held.{Held}
 use Rattle.autfmt.specs.Bounds.{Bounds}
 use Rattle.autfmt.specs.Texts.{Reads}
-use Rattle.autfmt.specs.Readers.{HasGoodHeader, ReadsAs}
-use Rattle.autfmt.specs.Outcomes.{Refuses, ReadsTo, IsWithin}
-use Rattle.autfmt.specs.Outcomes.Refuses.{no_memory}
+use Rattle.autfmt.specs.Faults.{FirstFault}
+use Rattle.autfmt.specs.Readers.{IsTextFault, HasGoodHeader, ReadsAs}
+use Rattle.autfmt.specs.Outcomes.{Refuses, ReadsTo, IsWithin, AnswersRead}
+use Rattle.autfmt.specs.Outcomes.Refuses.{faulty_text, failed_source, no_memory}
 use Rattle.autfmt.specs.ReadSoFar.{HoldsText}
 use Rattle.autfmt.proofs.Holding.{Holds-system, Holds-length}
 
@@ -31,6 +33,22 @@ refuses_built bounds A new got failures sound end r = no_memory sound refl (told
     told (Some more) e =
         subst (λ (t : List ℕ). HasGoodHeader bounds t) (sym (append-nil got) ∙ ap (λ (t : List ℕ). got ++ t) (sym e))
         (Reads-header bounds got A r)
+
+-- a fault of a text that its source tells is the first of the text
+pub told_fault :
+    (bounds : Bounds) (H : List (List ℕ)) (old new : Option (List ℕ)) (failures : ℕ) (result : Result Grouped Fault) →
+    AnswersRead bounds H old new failures result →
+    IfSome old (λ text. IfErr result (λ f. IsTextFault f → FirstFault bounds text f))
+told_fault bounds H None new failures result answer = tt
+told_fault bounds H (Some text) new failures (Ok s) answer = tt
+told_fault bounds H (Some text) new failures (Err f) answer = refused new answer.took answer.outcome
+  where
+    refused : (rest : Option (List ℕ)) → Consumes (Some text) rest answer.given → Refuses bounds answer.given rest failures f →
+        IsTextFault f → FirstFault bounds text f
+    refused None took why kind = absurd took
+    refused (Some more) took (faulty_text sound kind' first) kind = subst (λ (t : List ℕ). FirstFault bounds t f) (sym took) first
+    refused (Some more) took (failed_source failed is none) kind = absurd (subst IsTextFault is kind)
+    refused (Some more) took (no_memory sound is good) kind = absurd (subst IsTextFault is kind)
 
 -- the system that was built of what was read
 module _ (bounds : Bounds) (H : List (List ℕ)) (got : List ℕ) (p : Promise) (held : Held) (s : Grouped)

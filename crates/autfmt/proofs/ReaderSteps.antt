@@ -1,5 +1,5 @@
 -- The steps of the reader of a system: what each one leaves, and why it may refuse.
-use Rattle.std.proofs.Common.{◌≡◌, ◌⊎◌, ℕ, ◌+◌, ◌-◌, ◌<◌, ◌≤◌, Bool, true, false, List, [], ◌∷◌, ◌++◌, length, vec_len, Option, None, Some, IfSome, Result, Ok, Err, IfOk, IfErr, MatchResult, refl, sym, ◌∙◌, ap, subst, inl, inr, arith}
+use Rattle.std.proofs.Common.{◌≡◌, ◌⊎◌, ℕ, ◌+◌, ◌<◌, ◌≤◌, Bool, true, false, List, [], ◌∷◌, ◌++◌, length, vec_len, Option, None, Some, IfSome, Result, Ok, Err, IfOk, IfErr, MatchResult, refl, sym, ◌∙◌, ap, subst, inl, inr, arith}
 use Rattle.std.proofs.lemmas.List.{append_assoc, append-nil}
 use Rattle.std.proofs.lemmas.List.Elements.{All-nil}
 use Rattle.std.specs.Io.KnownBytes.{IsAtEnd}
@@ -10,17 +10,19 @@ use Rattle.autfmt.specs.declared.held.Held.{Held}
 use Rattle.autfmt.specs.declared.judge.Promise.{Promise}
 use Rattle.autfmt.specs.Bounds.{Bounds}
 use Rattle.autfmt.specs.Grammar.{TransitionLine}
-use Rattle.autfmt.specs.Texts.{Lines, GoodHeader, Reads}
-use Rattle.autfmt.specs.Faults.{HeaderFault, EdgeFault, FaultFrom, Missing, FirstFault}
+use Rattle.autfmt.specs.Texts.{Lines, GoodHeader, SpellsAmong, Reads}
+use Rattle.autfmt.specs.Faults.{HeaderFault, EdgeFault, BeginsWell, NextFault, FirstFault}
+use Rattle.autfmt.specs.Faults.FirstFault.{header, behind}
 use Rattle.autfmt.specs.Cutter.{Cutting, HasCut, CutsLine, CutsEnd, BeginsTooLong, IsPart}
 use Rattle.autfmt.specs.Held.{Holds}
 use Rattle.autfmt.specs.Readers.{IsTextFault, HasGoodHeader}
 use Rattle.autfmt.specs.Outcomes.{Refuses}
-use Rattle.autfmt.specs.ReadSoFar.{ReadSoFar, HeldSoFar}
+use Rattle.autfmt.specs.ReadSoFar.{ReadSoFar, HeldSoFar, ReadsOneMore}
 use Rattle.autfmt.specs.Outcomes.Refuses.{no_memory, failed_source, faulty_text}
 use Rattle.autfmt.proofs.Cutting.{IsNoFeed}
-use Rattle.autfmt.proofs.FaultLaws.{GoodLines, GoodLines-length, GoodLines-push, Reads-from_lines}
-use Rattle.autfmt.proofs.JudgedLaws.{no_judged_fault, FirstFault-behind}
+use Rattle.autfmt.proofs.Lists.{AllZip-push}
+use Rattle.autfmt.proofs.FaultLaws.{Reads-from_lines}
+use Rattle.autfmt.proofs.JudgedLaws.{no_judged_header, no_judged_fault}
 use Rattle.autfmt.proofs.Holding.{Holds-length}
 use Rattle.autfmt.proofs.HasCut.{HasCut-new, HasCut-line, HasCut-lines, HasCut-too_long, HasCut-end, HasCut-more, HasCut-part}
 
@@ -43,6 +45,14 @@ if_told (Some more) P holds = holds more refl
 pub none_to_come : (rest : Option (List ℕ)) (more : List ℕ) → rest ≡ Some more → IsAtEnd rest → more ≡ []
 none_to_come rest more e end = subst (λ (o : Option (List ℕ)). IsAtEnd o) e end
 
+-- the source failed where line 1 has not ended
+pub header_failed :
+    (bounds : Bounds) (old : Cutting) (got : List ℕ) (rest : Option (List ℕ)) (failures : ℕ) → old ≡ fresh → failures ≡ 1 →
+    IsPart (old.ahead ++ got) → Refuses bounds got rest failures Device
+header_failed bounds old got rest failures e failed part =
+    let ahead : old.ahead ≡ [] = ap (λ (c : Cutting). c.ahead) e in
+    failed_source failed refl (λ f. no_judged_header bounds got f (subst (λ (t : List ℕ). IsPart (t ++ got)) ahead part))
+
 -- line 1 is too long
 pub header_too_long :
     (bounds : Bounds) (old : Cutting) (got : List ℕ) (rest : Option (List ℕ)) (failures : ℕ) → old ≡ fresh → failures ≡ 0 →
@@ -52,7 +62,7 @@ header_too_long bounds old got rest failures e sound long =
     (if_told rest (λ more. FirstFault bounds (got ++ more) (LineTooLong 1))
     (λ more told.
     let (line, others, big, l) = HasCut-too_long [] got more [] old (HasCut-fresh old e) (fresh_goes_on old e) long in
-    (line ∷ others, l, inl (refl, big))))
+    header line others l (HeaderFault.too_long refl big)))
 
 -- line 1 is good
 pub header_good :
@@ -64,7 +74,6 @@ header_good bounds old now got p e cuts good = record {
   cut = HasCut-line [] got [] old now (HasCut-fresh old e) (fresh_goes_on old e) cuts;
   good = good;
   spelled = tt;
-  among = All-nil (IsAmong p.states);
 }
 
 -- line 1 is faulty
@@ -78,27 +87,25 @@ header_faulty bounds old now got rest failures fault e sound end cuts bad kind =
     (λ more told.
     let s = HasCut-line [] got [] old now (HasCut-fresh old e) (fresh_goes_on old e) cuts in
     let (others, l) = HasCut-lines got more (now.line ∷ []) now s (λ over. none_to_come rest more told (end over)) in
-    (now.line ∷ others, l, inl bad)))
+    header now.line others l bad))
 
--- the lines read so far are good
-pub good_lines :
-    (bounds : Bounds) (given : List ℕ) (at : Cutting) (p : Promise) (es : List Transition) →
-    (so_far : ReadSoFar bounds given at p es) → GoodLines p.states so_far.lines es
-good_lines bounds given at p es so_far = record { spelled = so_far.spelled; among = so_far.among }
-
--- the lines of a text behind those read so far
+-- the fault of what stands behind the lines read so far
 pub fault_behind :
     (bounds : Bounds) (given : List ℕ) (at : Cutting) (p : Promise) (es : List Transition) (whole : List ℕ)
-    (others : List (List ℕ)) (fault : Fault) →
-    (so_far : ReadSoFar bounds given at p es) → length es ≤ p.transitions →
-    Lines whole (so_far.header ∷ so_far.lines ++ others) →
-    FaultFrom (EdgeFault p.transitions p.states) (Missing p.transitions p.states) (2 + length es) others fault → FirstFault bounds whole fault
-fault_behind bounds given at p es whole others fault so_far few l h =
-    let edges = good_lines bounds given at p es so_far in
-    let e = GoodLines-length p.states so_far.lines es edges in
-    FirstFault-behind bounds whole so_far.header so_far.lines others p.first p.transitions p.states es fault l so_far.good edges
-    (omega arith)
-    (subst (λ (k : ℕ). FaultFrom (EdgeFault p.transitions p.states) (Missing p.transitions p.states) (2 + k) others fault) (sym e) h)
+    (others : List (List ℕ)) (found : ℕ) (fault : Fault) →
+    (so_far : ReadSoFar bounds given at p es) → length es ≡ found → Lines whole (so_far.header ∷ so_far.lines ++ others) →
+    NextFault p.transitions p.states found others fault → FirstFault bounds whole fault
+fault_behind bounds given at p es whole others found fault so_far count l next =
+    let b : BeginsWell bounds whole p.transitions p.states es others = record {
+      header = so_far.header;
+      first = p.first;
+      lines = so_far.lines;
+      whole = l;
+      good = so_far.good;
+      spelled = so_far.spelled;
+    } in
+    behind p.transitions p.states es others b
+    (subst (λ (k : ℕ). NextFault p.transitions p.states k others fault) (sym count) next)
 
 -- the next line is too long
 pub transition_too_long :
@@ -112,8 +119,8 @@ transition_too_long bounds given old p es got rest failures found so_far count p
     (λ more told.
     let (line, others, big, l) =
     HasCut-too_long given got more (so_far.header ∷ so_far.lines) old so_far.cut goes_on long in
-    fault_behind bounds given old p es (given ++ got ++ more) (line ∷ others) (LineTooLong (found + 2)) so_far (omega arith) l
-    (inl (omega arith, omega arith, big))))
+    fault_behind bounds given old p es (given ++ got ++ more) (line ∷ others) found (LineTooLong (found + 2)) so_far count l
+    (inl (promised, EdgeFault.too_long refl big))))
 
 -- transitions are missing
 pub transition_missing :
@@ -133,9 +140,7 @@ transition_missing bounds given old now p es got rest failures found so_far coun
     let l' =
     subst (λ (t : List ℕ). Lines t (so_far.header ∷ so_far.lines ++ [])) same
     (subst (λ (ls : List (List ℕ)). Lines (given ++ got) (so_far.header ∷ ls)) (sym (append-nil so_far.lines)) l) in
-    let k : found ≡ 2 + length es - 2 = omega arith in
-    fault_behind bounds given old p es (given ++ got ++ more) [] (MissingEdges found) so_far (omega arith) l'
-    (omega arith, ap MissingEdges k)))
+    fault_behind bounds given old p es (given ++ got ++ more) [] found (MissingEdges found) so_far count l' (promised, refl)))
 
 -- the source failed where a line has not ended
 pub transition_failed :
@@ -144,13 +149,10 @@ pub transition_failed :
     ReadSoFar bounds given old p es → length es ≤ p.transitions → (length es < p.transitions) ⊎ (length (old.ahead ++ got) ≡ 0) →
     failures ≡ 1 → (old.over ≡ true → ⊥) → IsPart (old.ahead ++ got) → Refuses bounds (given ++ got) rest failures Device
 transition_failed bounds given old p es got rest failures so_far few unjudged failed goes_on part =
-    let edges = good_lines bounds given old p es so_far in
-    let e = GoodLines-length p.states so_far.lines es edges in
     let c = HasCut-part given got (so_far.header ∷ so_far.lines) old so_far.cut goes_on part.0 in
     failed_source failed refl
     (λ f. no_judged_fault bounds (given ++ got) so_far.header so_far.lines (old.ahead ++ got) p.first p.transitions p.states es f
-    c so_far.good edges (omega arith) part.1
-    (subst (λ (k : ℕ). (k < p.transitions) ⊎ (length (old.ahead ++ got) ≡ 0)) (sym e) unjudged))
+    c so_far.good so_far.spelled few part.1 unjudged)
 
 -- the next line is a good transition
 pub transition_good :
@@ -158,17 +160,13 @@ pub transition_good :
     ReadSoFar bounds given old p es → (old.over ≡ true → ⊥) → CutsLine (old.ahead ++ got) now →
     TransitionLine now.line e.source e.label e.target → IsAmong p.states e →
     ReadSoFar bounds (given ++ got) now p (es ++ e ∷ [])
-transition_good bounds given old now p es got e so_far goes_on cuts spelled among =
-    let edges =
-    GoodLines-push p.states so_far.lines es now.line e (good_lines bounds given old p es so_far) (cuts.short, spelled) among in
-    record {
-      header = so_far.header;
-      lines = so_far.lines ++ now.line ∷ [];
-      cut = HasCut-line given got (so_far.header ∷ so_far.lines) old now so_far.cut goes_on cuts;
-      good = so_far.good;
-      spelled = edges.spelled;
-      among = edges.among;
-    }
+transition_good bounds given old now p es got e so_far goes_on cuts spelled among = record {
+  header = so_far.header;
+  lines = so_far.lines ++ now.line ∷ [];
+  cut = HasCut-line given got (so_far.header ∷ so_far.lines) old now so_far.cut goes_on cuts;
+  good = so_far.good;
+  spelled = AllZip-push (SpellsAmong p.states) so_far.lines es now.line e so_far.spelled ((cuts.short, spelled), among);
+}
 
 -- the next line is a faulty transition
 pub transition_faulty :
@@ -176,7 +174,7 @@ pub transition_faulty :
     (rest : Option (List ℕ)) (failures found : ℕ) (fault : Fault) →
     ReadSoFar bounds given old p es → length es ≡ found → found < p.transitions → failures ≡ 0 → (old.over ≡ true → ⊥) →
     (now.over ≡ true → IsAtEnd rest) → CutsLine (old.ahead ++ got) now →
-    EdgeFault p.transitions p.states (found + 2) now.line fault → IsTextFault fault →
+    EdgeFault p.states (found + 2) now.line fault → IsTextFault fault →
     Refuses bounds (given ++ got) rest failures fault
 transition_faulty bounds given old now p es got rest failures found fault so_far count promised sound goes_on end cuts bad kind =
     faulty_text sound kind
@@ -189,9 +187,19 @@ transition_faulty bounds given old now p es got rest failures found fault so_far
     let l' =
     subst (λ (ls : List (List ℕ)). Lines (given ++ got ++ more) (so_far.header ∷ ls))
     (append_assoc so_far.lines (now.line ∷ []) others) l in
-    let k : found + 2 ≡ 2 + length es = omega arith in
-    fault_behind bounds given old p es (given ++ got ++ more) (now.line ∷ others) fault so_far (omega arith) l'
-    (inl (subst (λ (j : ℕ). EdgeFault p.transitions p.states j now.line fault) k bad))))
+    fault_behind bounds given old p es (given ++ got ++ more) (now.line ∷ others) found fault so_far count l' (inl (promised, bad))))
+
+-- there was no memory behind a good header and lines that were read
+pub no_memory_behind :
+    (bounds : Bounds) (given first : List ℕ) (lines : List (List ℕ)) (at : Cutting) (f m n : ℕ) (rest : Option (List ℕ))
+    (failures : ℕ) → HasCut given (first ∷ lines) at → GoodHeader bounds first f m n → failures ≡ 0 →
+    (at.over ≡ true → IsAtEnd rest) → Refuses bounds given rest failures Memory
+no_memory_behind bounds given first lines at f m n rest failures cut good sound end =
+    no_memory sound refl
+    (if_told rest (λ more. HasGoodHeader bounds (given ++ more))
+    (λ more told.
+    let (others, l) = HasCut-lines given more (first ∷ lines) at cut (λ over. none_to_come rest more told (end over)) in
+    (first, lines ++ others, f, m, n, l, good)))
 
 -- there was no memory for the transition of the next line
 pub transition_refused :
@@ -200,14 +208,8 @@ pub transition_refused :
     ReadSoFar bounds given old p es → failures ≡ 0 → (old.over ≡ true → ⊥) → (now.over ≡ true → IsAtEnd rest) →
     CutsLine (old.ahead ++ got) now → Refuses bounds (given ++ got) rest failures Memory
 transition_refused bounds given old now p es got rest failures so_far sound goes_on end cuts =
-    no_memory sound refl
-    (if_told rest (λ more. HasGoodHeader bounds (given ++ got ++ more))
-    (λ more told.
-    let s = HasCut-line given got (so_far.header ∷ so_far.lines) old now so_far.cut goes_on cuts in
-    let (others, l) =
-    HasCut-lines (given ++ got) more ((so_far.header ∷ so_far.lines) ++ now.line ∷ []) now s
-    (λ over. none_to_come rest more told (end over)) in
-    (so_far.header, so_far.lines ++ now.line ∷ [] ++ others, p.first, p.transitions, p.states, l, so_far.good)))
+    no_memory_behind bounds (given ++ got) so_far.header (so_far.lines ++ now.line ∷ []) now p.first p.transitions p.states rest failures
+    (HasCut-line given got (so_far.header ∷ so_far.lines) old now so_far.cut goes_on cuts) so_far.good sound end
 
 -- more stands behind the promised transitions
 pub text_behind :
@@ -220,8 +222,8 @@ text_behind bounds given old p es got rest failures so_far count sound goes_on s
     (if_told rest (λ more. FirstFault bounds (given ++ got ++ more) (ExtraText (p.transitions + 2)))
     (λ more told.
     let (line, others, l) = HasCut-more given got more (so_far.header ∷ so_far.lines) old so_far.cut goes_on some in
-    fault_behind bounds given old p es (given ++ got ++ more) (line ∷ others) (ExtraText (p.transitions + 2)) so_far (omega arith)
-    l (inl (omega arith, omega arith))))
+    fault_behind bounds given old p es (given ++ got ++ more) (line ∷ others) p.transitions (ExtraText (p.transitions + 2)) so_far count
+    l (inr (refl, refl))))
 
 -- all promised transitions were read, and the text ends
 pub text_ends :
@@ -229,11 +231,8 @@ pub text_ends :
     ReadSoFar bounds given old p es → length es ≡ p.transitions → old.ahead ++ got ≡ [] →
     Reads bounds (given ++ got) (record { first = p.first; states = p.states; transitions = es })
 text_ends bounds given old p es got so_far count none =
-    let edges = good_lines bounds given old p es so_far in
-    let e = GoodLines-length p.states so_far.lines es edges in
     let l = HasCut-end given got (so_far.header ∷ so_far.lines) old so_far.cut none in
-    Reads-from_lines bounds (given ++ got) so_far.header so_far.lines p.first p.transitions p.states es l so_far.good edges
-    (e ∙ count)
+    Reads-from_lines bounds (given ++ got) so_far.header so_far.lines p.first p.transitions p.states es l so_far.good so_far.spelled count
 
 -- a source that goes on has not come to its end
 pub goes_on : {over : Bool} → over ≡ false → over ≡ true → ⊥
@@ -251,8 +250,7 @@ pub HeldSoFar-push :
     (H : List (List ℕ)) (p : Promise) (old at now : Cutting) (held_old held_at held : Held) (before line : List ℕ) →
     ((bounds : Bounds) (given : List ℕ) → HeldSoFar bounds H given old p held_old [] →
     (es : List Transition) × HeldSoFar bounds H (given ++ before) at p held_at es) →
-    ((bounds : Bounds) (given : List ℕ) (es : List Transition) → HeldSoFar bounds H given at p held_at es →
-    (e : Transition) × HeldSoFar bounds H (given ++ line) now p held (es ++ e ∷ [])) →
+    ReadsOneMore H p line at now held_at held →
     (bounds : Bounds) (given : List ℕ) → HeldSoFar bounds H given old p held_old [] →
     (es : List Transition) × HeldSoFar bounds H (given ++ (before ++ line)) now p held es
 HeldSoFar-push H p old at now held_old held_at held before line so_far step bounds given standing =

@@ -10,19 +10,21 @@ use Rattle.std.proofs.lemmas.Simd.{length-chunk, trailing_mask_l, run_in_chunk_s
 use Rattle.std.proofs.lemmas.Fmt.{decimal-digits_value, length-decimal-le}
 use Rattle.std.proofs.lemmas.Str.Parse.{IsNumeralModel, numerals_by_value, tells_by_index, digits_value_short}
 use Rattle.std.proofs.lemmas.List.{take-take, get_or-take, length-take-le, take-append-drop, drop_more}
-use Rattle.std.proofs.lemmas.List.Elements.{All-weaker}
+use Rattle.std.proofs.lemmas.List.Elements.{All-nil, All-append, All-weaker, All-from_recursion}
 use Rattle.std.proofs.lemmas.List.Sums.{prefix_len_passes}
 use Rattle.theory.specs.System.{IsLabel}
 use Rattle.autfmt.specs.Grammar.{Blanks, Spaced, Label, quoted}
 use Rattle.autfmt.specs.Texts.{IsOneLine, IsShort}
 use Rattle.autfmt.specs.Cutter.{Cutting, CutsLine}
 use Rattle.autfmt.specs.Reading.{past, plain_at}
-use Rattle.autfmt.specs.Usual.{AreDigitsInFront, BeginsWithNumber, FollowsComma, HasMark, BeginsWithLabel, BeginsWithTransition}
+use Rattle.autfmt.specs.Usual.{AreDigitsInFront, BeginsWithNumber, FollowsComma, FollowsLineEnd, HasMark, BeginsWithLabel, BeginsWithTransition}
+use Rattle.autfmt.proofs.Blanks.{IsBlank}
+use Rattle.autfmt.proofs.Cutting.{IsNoFeed}
 use Rattle.autfmt.proofs.Numbers.{digit-range}
 use Rattle.autfmt.proofs.Labels.{quoted-append}
 use Rattle.autfmt.proofs.PlainLabels.{IsLabel-plain, plain_at-takes}
 use Rattle.autfmt.proofs.Lines.{past-takes}
-use Rattle.autfmt.proofs.ReadBack.{Visible, one_line, visible_append, visible_decimal, literal, IsSpaced, next, none, a_space, closed}
+use Rattle.autfmt.proofs.ReadBack.{Visible, one_line, visible_append, visible_decimal, literal, IsSpaced, next, none, a_space}
 
 -- ---- numbers
 
@@ -121,6 +123,24 @@ with_space bytes between rest e room space behind =
     let parts : between ≡ 32 ∷ rest = drop_more between 0 0 room ∙ ap (λ (b : ℕ). b ∷ drop 1 between) space ∙ ap (λ (t : List ℕ). 32 ∷ t) (sym behind) in
     inr (e ∙ ap (λ (t : List ℕ). 44 ∷ t) parts)
 
+-- a line feed, before which the blanks of the end stand
+record IsEnd (bytes rest : List ℕ) : Type 0 where
+  blanks : List ℕ
+  blank : Blanks blanks
+  one : IsOneLine blanks
+  short : length blanks ≤ 1
+  parts : bytes ≡ blanks ++ 10 ∷ rest
+
+is_end : (bytes rest : List ℕ) → FollowsLineEnd bytes rest → IsEnd bytes rest
+is_end bytes rest (inl e) = record { blanks = []; blank = none; one = All-nil IsNoFeed; short = omega arith; parts = e }
+is_end bytes rest (inr e) = record {
+  blanks = 13 ∷ [];
+  blank = All-from_recursion IsBlank (13 ∷ []) (inr (inr refl), tt);
+  one = All-from_recursion IsNoFeed (13 ∷ []) (λ h. absurd (omega arith), tt);
+  short = omega arith;
+  parts = e;
+}
+
 abbrev spelled_line : ℕ → List ℕ → List ℕ → List ℕ → ℕ → List ℕ
 spelled_line s b spelling d t = codes "(" ++ decimal s ++ codes "," ++ b ++ spelling ++ codes "," ++ d ++ decimal t ++ codes ")"
 
@@ -131,38 +151,42 @@ spelled_line-one s t b d spelling a source target before between is =
     let second = visible_append (visible_append (visible_append first (seen_spelling spelling a is).0) comma) between in
     one_line _ (visible_append (visible_append second (visible_decimal t (omega arith))) (literal (codes ")") refl))
 
-spelled_line-short : (s t : ℕ) (b d spelling a : List ℕ) → s < 10 ^ 10 → t < 10 ^ 10 → length b ≤ 1 → length d ≤ 1 → Label spelling a → IsShort (spelled_line s b spelling d t)
-spelled_line-short s t b d spelling a source target before between is =
+spelled_line-short :
+    (s t : ℕ) (b d end spelling a : List ℕ) → s < 10 ^ 10 → t < 10 ^ 10 → length b ≤ 1 → length d ≤ 1 → length end ≤ 1 → Label spelling a →
+    IsShort (spelled_line s b spelling d t ++ end)
+spelled_line-short s t b d end spelling a source target before between behind is =
     simp length-append (omega (arith, length-decimal-le 10 s (omega arith) source (omega arith), length-decimal-le 10 t (omega arith) target (omega arith), (seen_spelling spelling a is).1))
 
 -- a comma, blanks and a token, and then what follows
 after_comma : {rest : List ℕ} {tokens : List (List ℕ)} (blanks token : List ℕ) → Blanks blanks → IsSpaced tokens rest → IsSpaced (codes "," ∷ token ∷ tokens) (codes "," ++ (blanks ++ token ++ rest))
 after_comma blanks token blank s = next [] (codes ",") none (next blanks token blank s)
 
-spaced_line : (s b l d t : List ℕ) → Blanks b → Blanks d
-    → Spaced (codes "(" ∷ s ∷ codes "," ∷ l ∷ codes "," ∷ t ∷ codes ")" ∷ []) (codes "(" ++ s ++ codes "," ++ b ++ l ++ codes "," ++ d ++ t ++ codes ")")
-spaced_line s b l d t before between =
-    let nested = next [] (codes "(") none (next [] s none (after_comma b l before (after_comma d t between closed))) in
+spaced_line : (s b l d t e : List ℕ) → Blanks b → Blanks d → Blanks e
+    → Spaced (codes "(" ∷ s ∷ codes "," ∷ l ∷ codes "," ∷ t ∷ codes ")" ∷ []) ((codes "(" ++ s ++ codes "," ++ b ++ l ++ codes "," ++ d ++ t ++ codes ")") ++ e)
+spaced_line s b l d t e before between behind =
+    let last = next {rest = e} {tokens = []} [] (codes ")") none (record { spaced = behind }) in
+    let nested = next [] (codes "(") none (next [] s none (after_comma b l before (after_comma d t between last))) in
     subst (Spaced (codes "(" ∷ s ∷ codes "," ∷ l ∷ codes "," ∷ t ∷ codes ")" ∷ [])) (simp append_assoc) nested.spaced
 
 -- the tokens and marks that were found one after the other
 pub transition_in_front : (bytes r0 r1 r2 r3 r4 r5 r6 r7 : List ℕ) (s : ℕ) (a : List ℕ) (t : ℕ) → past 40 bytes ≡ Some r0 → BeginsWithNumber r0 s r1 → FollowsComma r1 r2 → BeginsWithLabel r2 a r3
-    → FollowsComma r3 r4 → BeginsWithNumber r4 t r5 → past 41 r5 ≡ Some r6 → past 10 r6 ≡ Some r7 → BeginsWithTransition bytes s a t r7
+    → FollowsComma r3 r4 → BeginsWithNumber r4 t r5 → past 41 r5 ≡ Some r6 → FollowsLineEnd r6 r7 → BeginsWithTransition bytes s a t r7
 transition_in_front bytes r0 r1 r2 r3 r4 r5 r6 r7 s a t e0 source e1 (spelling, label, e2) e3 target e5 e6 =
     let b = is_comma r1 r2 e1 in
     let d = is_comma r3 r4 e3 in
-    let end : r5 ≡ codes ")" ++ 10 ∷ r7 = past-takes 41 r5 r6 e5 ∙ ap (λ (x : List ℕ). 41 ∷ x) (past-takes 10 r6 r7 e6) in
-    let tail : r3 ≡ codes "," ++ (d.space ++ (decimal t ++ (codes ")" ++ 10 ∷ r7))) = d.parts ∙ ap (λ (x : List ℕ). codes "," ++ (d.space ++ x)) (target.1 ∙ ap (λ (x : List ℕ). decimal t ++ x) end) in
-    let middle : r1 ≡ codes "," ++ (b.space ++ (spelling ++ (codes "," ++ (d.space ++ (decimal t ++ (codes ")" ++ 10 ∷ r7)))))) =
+    let z = is_end r6 r7 e6 in
+    let end : r5 ≡ codes ")" ++ (z.blanks ++ 10 ∷ r7) = past-takes 41 r5 r6 e5 ∙ ap (λ (x : List ℕ). 41 ∷ x) z.parts in
+    let tail : r3 ≡ codes "," ++ (d.space ++ (decimal t ++ (codes ")" ++ (z.blanks ++ 10 ∷ r7)))) = d.parts ∙ ap (λ (x : List ℕ). codes "," ++ (d.space ++ x)) (target.1 ∙ ap (λ (x : List ℕ). decimal t ++ x) end) in
+    let middle : r1 ≡ codes "," ++ (b.space ++ (spelling ++ (codes "," ++ (d.space ++ (decimal t ++ (codes ")" ++ (z.blanks ++ 10 ∷ r7))))))) =
     b.parts ∙ ap (λ (x : List ℕ). codes "," ++ (b.space ++ x)) (e2 ∙ ap (λ (x : List ℕ). spelling ++ x) tail) in
-    let nested : bytes ≡ codes "(" ++ (decimal s ++ (codes "," ++ (b.space ++ (spelling ++ (codes "," ++ (d.space ++ (decimal t ++ (codes ")" ++ 10 ∷ r7)))))))) =
+    let nested : bytes ≡ codes "(" ++ (decimal s ++ (codes "," ++ (b.space ++ (spelling ++ (codes "," ++ (d.space ++ (decimal t ++ (codes ")" ++ (z.blanks ++ 10 ∷ r7))))))))) =
     past-takes 40 bytes r0 e0 ∙ ap (λ (x : List ℕ). codes "(" ++ x) (source.1 ∙ ap (λ (x : List ℕ). decimal s ++ x) middle) in
     record {
-      line = spelled_line s b.space spelling d.space t;
+      line = spelled_line s b.space spelling d.space t ++ z.blanks;
       whole = nested ∙ simp append_assoc;
-      spelled = (decimal s, spelling, decimal t, (source.0, refl), label, (target.0, refl), spaced_line (decimal s) b.space spelling d.space (decimal t) b.blank d.blank);
-      one = spelled_line-one s t b.space d.space spelling a source.0 target.0 b.seen d.seen label;
-      short = spelled_line-short s t b.space d.space spelling a source.0 target.0 b.short d.short label;
+      spelled = (decimal s, spelling, decimal t, (source.0, refl), label, (target.0, refl), spaced_line (decimal s) b.space spelling d.space (decimal t) z.blanks b.blank d.blank z.blank);
+      one = All-append IsNoFeed (spelled_line s b.space spelling d.space t) z.blanks (spelled_line-one s t b.space d.space spelling a source.0 target.0 b.seen d.seen label) z.one;
+      short = spelled_line-short s t b.space d.space z.blanks spelling a source.0 target.0 b.short d.short z.short label;
     }
 
 -- the cutter behind that line

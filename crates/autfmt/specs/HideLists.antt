@@ -1,13 +1,12 @@
 -- Hide lists: the labels that they name, and their first fault.
-use Rattle.std.specs.Prelude.{◌≡◌, ℕ, ◌<◌, ◌≤◌, List, length}
+use Rattle.std.specs.Prelude.{◌≡◌, ℕ, ◌+◌, ◌<◌, ◌≤◌, List, ◌∷◌, ◌++◌, length}
 use Rattle.std.specs.List.{AllZip}
 use Rattle.autfmt.specs.declared.fault.Fault.{Fault}
 use Rattle.autfmt.specs.declared.fault.Fault.TheVariants.{LineTooLong, BadHide, TooManyHidden}
 use Rattle.autfmt.specs.declared.limits.TheConstants.{MOST_LINES}
 use Rattle.autfmt.specs.declared.line.TheConstants.{LONGEST_LINE}
 use Rattle.autfmt.specs.Grammar.{HideLine}
-use Rattle.autfmt.specs.Texts.{Lines, Cuts, IsShort}
-use Rattle.autfmt.specs.Faults.{FaultFrom, JudgedRest}
+use Rattle.autfmt.specs.Texts.{Lines, IsShort}
 
 -- the line names the label
 abbrev pub Hides : List ℕ → List ℕ → Type 0
@@ -24,12 +23,17 @@ HideFault k line (LineTooLong j) = (j ≡ k) × (k ≤ MOST_LINES) × (LONGEST_L
 HideFault k line (BadHide j) = (j ≡ k) × (k ≤ MOST_LINES) × IsShort line × ((a : List ℕ) → ¬ HideLine line a)
 HideFault k line _ = ⊥
 
--- the first fault of a hide list: the end has none
-abbrev pub FirstHideFault : List ℕ → Fault → Type 0
-FirstHideFault text fault = (lines : List (List ℕ)) × Lines text lines × FaultFrom HideFault (λ _ _. ⊥) 1 lines fault
+-- the first fault of a hide list: of the line behind those that name labels
+pub record FirstHideFault (text : List ℕ) (fault : Fault) : Type 0 where
+  pub lines : List (List ℕ)
+  pub line : List ℕ
+  pub others : List (List ℕ)
+  pub whole : Lines text (lines ++ line ∷ others)
+  pub labels : List (List ℕ)
+  pub named : AllZip Hides lines labels
+  pub few : length lines ≤ MOST_LINES
+  pub faulty : HideFault (length lines + 1) line fault
 
--- the fault that is known from the bytes that a source gave before it failed: of an ended line, or of a judged one
+-- the fault that is known from the bytes that a source gave before it failed: the first one, whatever follows them
 abbrev pub JudgedHideFault : List ℕ → Fault → Type 0
-JudgedHideFault given fault =
-    (ended : List (List ℕ)) × (rest : List ℕ) × Cuts given ended rest
-    × FaultFrom HideFault (JudgedRest HideFault MOST_LINES rest) 1 ended fault
+JudgedHideFault given fault = (more : List ℕ) → FirstHideFault (given ++ more) fault

@@ -1,11 +1,11 @@
 -- How far the reader of a system has come.
-use Rattle.std.specs.Prelude.{ℕ, List, ◌∷◌}
-use Rattle.std.specs.List.{All, AllZip}
-use Rattle.theory.specs.System.{Transition, IsAmong}
+use Rattle.std.specs.Prelude.{ℕ, List, [], ◌∷◌, ◌++◌}
+use Rattle.std.specs.List.{AllZip}
+use Rattle.theory.specs.System.{Transition}
 use Rattle.autfmt.specs.declared.judge.Promise.{Promise}
 use Rattle.autfmt.specs.declared.held.Held.{Held}
 use Rattle.autfmt.specs.Bounds.{Bounds}
-use Rattle.autfmt.specs.Texts.{GoodHeader, SpellsTransition, Reads}
+use Rattle.autfmt.specs.Texts.{GoodHeader, SpellsAmong, Reads}
 use Rattle.autfmt.specs.Cutter.{Cutting, HasCut}
 use Rattle.autfmt.specs.Held.{Holds}
 
@@ -15,12 +15,17 @@ pub record ReadSoFar (bounds : Bounds) (given : List ℕ) (at : Cutting) (p : Pr
   pub lines : List (List ℕ)
   pub cut : HasCut given (header ∷ lines) at
   pub good : GoodHeader bounds header p.first p.transitions p.states
-  pub spelled : AllZip SpellsTransition lines es
-  pub among : All (IsAmong p.states) es
+  pub spelled : AllZip (SpellsAmong p.states) lines es
 
 -- so far the transitions were read from the bytes given, and are held with the labels of H hidden
 abbrev pub HeldSoFar : Bounds → List (List ℕ) → List ℕ → Cutting → Promise → Held → List Transition → Type 0
 HeldSoFar bounds H given at p held es = ReadSoFar bounds given at p es × Holds H p.states held es
+
+-- one transition more was read behind any that were read before, from the bytes got, and is held
+abbrev pub ReadsOneMore : List (List ℕ) → Promise → List ℕ → Cutting → Cutting → Held → Held → Type 0
+ReadsOneMore H p got old now held_old held =
+    (bounds : Bounds) (given : List ℕ) (es : List Transition) → HeldSoFar bounds H given old p held_old es →
+    (e : Transition) × HeldSoFar bounds H (given ++ got) now p held (es ++ e ∷ [])
 
 -- the text reads as a system, which is held with the labels of H hidden
 abbrev pub HoldsText : Bounds → List (List ℕ) → List ℕ → Promise → Held → Type 0

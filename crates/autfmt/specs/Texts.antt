@@ -1,7 +1,7 @@
 -- Whole texts: their lines, and the system that they spell.
 use Rattle.std.specs.Prelude.{◌≡◌, ◌≢◌, ℕ, ◌<◌, ◌≤◌, List, [], ◌∷◌, ◌++◌, length}
 use Rattle.std.specs.List.{All, AllZip, flat_map}
-use Rattle.theory.specs.System.{System, Transition, IsSystem}
+use Rattle.theory.specs.System.{System, Transition, IsAmong, IsSystem}
 use Rattle.autfmt.specs.declared.line.TheConstants.{LONGEST_LINE}
 use Rattle.autfmt.specs.Bounds.{Bounds}
 use Rattle.autfmt.specs.Grammar.{Header, TransitionLine}
@@ -40,6 +40,10 @@ pub record GoodHeader (bounds : Bounds) (line : List ℕ) (f m n : ℕ) : Type 0
 -- the line spells the transition
 abbrev pub SpellsTransition : List ℕ → Transition → Type 0
 SpellsTransition line e = IsShort line × TransitionLine line e.source e.label e.target
+
+-- the line spells the transition, which is one between n states
+abbrev pub SpellsAmong : ℕ → List ℕ → Transition → Type 0
+SpellsAmong n line e = SpellsTransition line e × IsAmong n e
 
 -- the text reads as the system A, which is within the bounds: a good header, then the transitions in their order
 pub record Reads (bounds : Bounds) (text : List ℕ) (A : System) : Type 0 where

@@ -51,18 +51,17 @@ pub(crate) fn judge_header(line: &[u8], lim: &Limits) -> Result<Promise, Fault>
     })
 }
 
-/// Judges line `k`, one of the promised transitions: its source, label and target.
+/// Judges line `k`, where a transition is to stand: its source, label and target.
 pub(crate) fn judge_transition(
     line: &[u8],
     k: u32,
     promise: Promise,
 ) -> Result<(u32, &[u8], u32), Fault>
-    requires short { IsShort line.now }
-    requires promised { k ≤ promise.transitions + 1 }
+    requires { IsShort line.now }
     ensures good { IfOk result (λ x. TransitionLine line.now x.0 x.1.now x.2) }
     ensures among { IfOk result (λ x. (x.0 < promise.states) × (x.2 < promise.states)) }
     ensures label { IfOk result (λ x. IsLabel x.1.now) }
-    ensures fault { IfErr result (λ f. EdgeFault promise.transitions promise.states k line.now f) }
+    ensures fault { IfErr result (λ f. EdgeFault promise.states k line.now f) }
     ensures kind { IfErr result IsTextFault }
 {
     let Some((source, label, target)) = transition_of(line) else {

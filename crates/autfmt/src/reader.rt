@@ -8,7 +8,7 @@ ghost use Rattle.autfmt.specs.Bounds.{Bounds};
 ghost use Rattle.autfmt.specs.Cutter.{Cutting};
 ghost use Rattle.autfmt.specs.Faults.{FirstFault};
 ghost use Rattle.autfmt.specs.Readers.{IsTextFault, ReadsAs};
-ghost use Rattle.autfmt.specs.ReadSoFar.{ReadSoFar, HeldSoFar, HoldsText};
+ghost use Rattle.autfmt.specs.ReadSoFar.{ReadSoFar, HeldSoFar, ReadsOneMore, HoldsText};
 ghost use Rattle.autfmt.specs.Outcomes.{Takes, Refuses, AnswersRead};
 
 use crate::cutter::{Cutter, Step};
@@ -19,7 +19,7 @@ use crate::judge::{Promise, judge_header, judge_transition};
 use crate::limits::Limits;
 use crate::source::Source;
 use crate::usual::transition_in_front;
-use lts::{Lts, Meter};
+use lts::{Lts, Memory, Meter};
 use std::alloc::Global;
 
 /// Reads a whole text as a system: a header of three numbers, then as many transitions as it
@@ -163,42 +163,40 @@ fn read_transitions<R: Source>(
     ensures len { OnOk result (vec_len held.new.triples ≡ promise.transitions) }
 {
     for _found in 0..promise.transitions {
+        if take_usual(cutter, promise, h, held)? {
+            continue;
+        }
         read_transition(cutter, r, promise, h, held)?;
     }
     Ok(())
 }
 
-/// Reads one line more, a transition of those that were promised, and holds it. A line as programs mostly write it is
-/// read where it lies, twice as fast as others.
+/// Takes the next line, a transition of those that were promised, where it lies and holds it, if it is written as
+/// programs mostly do; false, and nothing is done, if it may be any other line. It makes reading twice as fast.
+///
+/// # Errors
+/// `Memory` if a growth is refused.
 #[inline(always)]
-fn read_transition<R: Source>(
+fn take_usual(
     cutter: &mut Cutter,
-    r: &mut R,
     promise: Promise,
     h: &Hidden,
     held: &mut Held,
-) -> Result<(), Fault>
+) -> Result<bool, Memory>
     requires file { promise.transitions ≤ FILE_TRANSITIONS }
     requires promised { vec_len held.old.triples < promise.transitions }
     requires few { length held.old.labels ≤ vec_len held.old.triples }
-    requires sound { R.failures r.old ≡ 0 }
-    requires end { IsTrue cutter.old.over → IsAtEnd (R.rest r.old) }
-    ensures transition { (got : List ℕ) × Consumes (R.rest r.old) (R.rest r.new) got ×
-        ((bounds : Bounds) (given : List ℕ) (es : List Transition) →
-        HeldSoFar bounds h.now given cutter.old promise held.old es →
-        MatchResult result
-        (λ _. (e : Transition) × HeldSoFar bounds h.now (given ++ got) cutter.new promise held.new (es ++ e ∷ []))
-        (Refuses bounds (given ++ got) (R.rest r.new) (R.failures r.new))) }
-    ensures end { OnOk result (IsTrue cutter.new.over → IsAtEnd (R.rest r.new)) }
-    ensures sound { OnOk result (R.failures r.new ≡ 0) }
-    ensures len { OnOk result (vec_len held.new.triples ≡ vec_len held.old.triples + 1) }
+    ensures taken { IfOk result (λ taken. IsTrue taken → ReadsOneMore h.now promise [] cutter.old cutter.new held.old held.new) }
+    ensures none { IfOk result (λ taken. ¬ IsTrue taken → (cutter.new ≡ cutter.old) × (held.new ≡ held.old)) }
+    ensures open { IfOk result (λ taken. IsTrue taken → cutter.new.over ≡ false) }
+    ensures len { IfOk result (λ taken. IsTrue taken → vec_len held.new.triples ≡ vec_len held.old.triples + 1) }
     ensures few { OnOk result (length held.new.labels ≤ vec_len held.new.triples) }
 {
     let Some((source, label, target, rest)) = transition_in_front(cutter.ahead()) else {
-        return read_any_transition(cutter, r, promise, h, held);
+        return Ok(false);
     };
     if source >= u64::from(promise.states) || target >= u64::from(promise.states) {
-        return read_any_transition(cutter, r, promise, h, held);
+        return Ok(false);
     }
     let left = rest.len();
     let is_added = held.add_if_label(
@@ -208,15 +206,15 @@ fn read_transition<R: Source>(
         promise.transitions,
     )?;
     if !is_added {
-        return read_any_transition(cutter, r, promise, h, held);
+        return Ok(false);
     }
     cutter.pass(left);
-    Ok(())
+    Ok(true)
 }
 
-/// The same for any line.
+/// Reads one line more, a transition of those that were promised, and holds it.
 #[inline(never)]
-fn read_any_transition<R: Source>(
+fn read_transition<R: Source>(
     cutter: &mut Cutter,
     r: &mut R,
     promise: Promise,

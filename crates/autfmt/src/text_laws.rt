@@ -1,7 +1,8 @@
 //! Laws of whole texts: a text has one cut into lines, and so one reading or one first fault.
-ghost use Rattle.std.specs.Prelude.{◌≡◌, ◌⊎◌, ◌↔◌, ℕ, List, [], ◌++◌};
+ghost use Rattle.std.specs.Prelude.{◌≡◌, ◌≢◌, ◌⊎◌, ◌↔◌, ℕ, List, [], ◌++◌};
 ghost use Rattle.theory.specs.System.{System, Hide};
 ghost use Rattle.autfmt.specs.declared.fault.Fault.{Fault};
+ghost use Rattle.autfmt.specs.declared.fault.Fault.TheVariants.{MissingEdges};
 ghost use Rattle.autfmt.specs.Bounds.{Bounds};
 ghost use Rattle.autfmt.specs.Texts.{Cuts, Lines, Reads};
 ghost use Rattle.autfmt.specs.Faults.{FirstFault, JudgedFault};
@@ -41,10 +42,14 @@ pub fn a_text_reads_or_has_a_fault()
     ensures header { (bounds : Bounds) (text : List ℕ) (A : System) → Reads bounds text A → HasGoodHeader bounds text }
 {}
 
-/// The fault that is known from the first bytes of a text is its first fault, whatever follows them.
+/// The fault that is known from the first bytes of a text is its first fault, whatever follows them. That of a line that
+/// has ended is known.
 pub fn a_judged_fault_is_the_first()
-    ensures { (bounds : Bounds) (given more : List ℕ) (f : Fault) →
+    ensures first { (bounds : Bounds) (given more : List ℕ) (f : Fault) →
         JudgedFault bounds given f → FirstFault bounds (given ++ more) f }
+    ensures ended { (bounds : Bounds) (given : List ℕ) (ended : List (List ℕ)) (f : Fault) →
+        Cuts given ended [] → FirstFault bounds given f → ended ≢ [] → ((found : ℕ) → f ≢ MissingEdges found) →
+        JudgedFault bounds given f }
 {}
 
 /// A hide list has one list of labels at most, and one first fault at most.

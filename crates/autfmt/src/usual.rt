@@ -2,7 +2,7 @@
 //! piece lies.
 ghost use Rattle.std.specs.Prelude.{IfSome};
 ghost use Rattle.theory.specs.System.{IsLabel};
-ghost use Rattle.autfmt.specs.Usual.{BeginsWithNumber, FollowsComma, HasMark, BeginsWithLabel, BeginsWithTransition};
+ghost use Rattle.autfmt.specs.Usual.{BeginsWithNumber, FollowsComma, FollowsLineEnd, HasMark, BeginsWithLabel, BeginsWithTransition};
 
 use crate::digits::digits_in_front;
 use crate::token::{past, plain_at};
@@ -21,8 +21,19 @@ pub(crate) fn transition_in_front(bytes: &[u8]) -> Option<(u64, &[u8], u64, &[u8
     let (label, rest) = label_in_front(rest)?;
     let rest = past_comma(rest)?;
     let (target, rest) = short_number(rest)?;
-    let rest = past(b'\n', past(b')', rest)?)?;
+    let rest = past_line_end(past(b')', rest)?)?;
     Some((source, label, target, rest))
+}
+
+/// What follows a line feed, or a carriage return and a line feed.
+#[inline(always)]
+fn past_line_end(bytes: &[u8]) -> Option<&[u8]>
+    ensures { IfSome result (λ rest. FollowsLineEnd bytes.now rest.now) }
+{
+    match bytes {
+        [b'\n', rest @ ..] | [b'\r', b'\n', rest @ ..] => Some(rest),
+        _ => None,
+    }
 }
 
 /// The number in front, and what follows it; None if it has no digit, an eighth one or a zero in front, or fewer than

@@ -1,5 +1,17 @@
-use Rattle.autfmt.proofs.ReaderSteps.{fresh_goes_on, header_too_long, header_answer}
+use Rattle.std.proofs.lemmas.Result.{err_from_is_err_and}
+use Rattle.autfmt.proofs.ReaderSteps.{fresh_goes_on, header_failed, header_too_long, header_answer}
 use Rattle.autfmt.proofs.reader.read_header.Goals as goal
+
+pub returns-in_err-advance-clause-header : goal.returns-in_err-advance-clause-header
+returns-in_err-advance-clause-header g c =
+    let s = c.in_err-advance.ensures.step in
+    let p = err_from_is_err_and c.from_residual.result c.from_residual.ensures.1 in
+    record {
+      given = s.0;
+      took = s.1;
+      outcome = rw (p.1, p.2)
+          (header_failed c.args.lim.now c.args.cutter.now s.0 _ _ c.requires.fresh c.in_err-advance.ensures.failures s.2.1);
+    }
 
 pub returns-in-TooLong-clause-header : goal.returns-in-TooLong-clause-header
 returns-in-TooLong-clause-header g c =

@@ -1,46 +1,97 @@
-use Rattle.std.proofs.Common.{[], IsTrue, arith, refl}
-use Rattle.std.proofs.lemmas.Bool.{both_ways}
+use Rattle.std.proofs.Common.{◌≡◌, List, length, inl, arith}
 use Rattle.std.proofs.lemmas.Result.{err_from_is_err_and}
-use Rattle.std.proofs.KnownBytes.{Consumes-nil}
 use Rattle.theory.specs.System.{Transition, IsAmong}
+use Rattle.autfmt.specs.Held.{Holds}
 use Rattle.autfmt.proofs.Holding.{Holds-add}
-use Rattle.autfmt.proofs.ReaderSteps.{transition_good, transition_refused}
-use Rattle.autfmt.proofs.UsualLines.{behind, cuts_in_front, goes_on_in_front}
+use Rattle.autfmt.proofs.ReaderSteps.{transition_too_long, transition_missing, transition_failed, transition_good, transition_faulty, transition_refused, goes_on, count_held}
+use Rattle.autfmt.proofs.reader.read_transition.Given.{Over}
 use Rattle.autfmt.proofs.reader.read_transition.Goals as goal
+use Rattle.autfmt.proofs.reader.read_transition.Goals.{After-advance, After-shown}
 
-pub returns-in_err-is_added-clause-transition : goal.returns-in_err-is_added-clause-transition
-returns-in_err-is_added-clause-transition g c =
-    let front = rw c.ahead.ensures.ahead at c.in-Some.ensures (c.shown.ensures.label c.in_err-is_added.ensures.label) in
-    let open_at = rw c.ahead.ensures.ahead at c.ahead.ensures.open in
-    let p = err_from_is_err_and c.from_residual.result c.from_residual.ensures.1 in (
-      [],
-      Consumes-nil (g.R.Source.rest c.args.r.now),
-      λ bounds given es standing. rw (p.1, p.2)
-          (transition_refused bounds given c.args.cutter.now (behind front) _ es [] _ _ standing.0 c.requires.sound (goes_on_in_front _ _ _ _ _ _ front open_at) (λ e. absurd cc)
-          (cuts_in_front _ _ _ _ _ front)),
+-- as many transitions were read as triples are held
+count : (g : Over) (c : After-advance g) (es : List Transition) → Holds c.args.h.now c.args.promise.states c.args.held.now es →
+    length es ≡ c.len-found.result
+count g c es holds = count_held c.args.h.now c.args.promise.states c.args.held.now es c.len-found.result holds c.len-found.ensures
+
+pub returns-in_err-advance-clause-transition : goal.returns-in_err-advance-clause-transition
+returns-in_err-advance-clause-transition g c =
+    let at = (goal.at.returns-in_err-advance-clause-transition g c).After-advance in
+    let s = c.in_err-advance.ensures.step in
+    let p = err_from_is_err_and c.from_residual.result c.from_residual.ensures.1 in
+    let failed = c.in_err-advance.ensures.failures in (
+      s.0,
+      s.1,
+      λ bounds given es standing. let e = count g at es standing.1 in
+          rw (p.1, p.2) (transition_failed bounds given _ _ es s.0 _ _ standing.0 (omega arith) (inl (omega arith)) failed (goes_on s.2.0) s.2.1),
     )
 
-pub returns-then-not-is_added-clause-transition : goal.returns-then-not-is_added-clause-transition
-returns-then-not-is_added-clause-transition g c =
-    let same = c.in_ok-is_added.ensures.none (both_ways _ c.if-not-is_added.true) in
-    rw same at c.read_any_transition-then-not-is_added.ensures.transition
+pub returns-in-TooLong-clause-transition : goal.returns-in-TooLong-clause-transition
+returns-in-TooLong-clause-transition g c =
+    let at = (goal.at.returns-in-TooLong-clause-transition g c).After-advance in
+    let s = rw c.in-TooLong.is at c.in_ok-advance.ensures.step in
+    let sound = c.in_ok-advance.ensures.failures in (
+      s.0,
+      s.1,
+      λ bounds given es standing.
+          transition_too_long bounds given _ _ es s.0 _ _ _ standing.0 (count g at es standing.1) (omega arith) sound (goes_on s.2.0) s.2.1,
+    )
+
+pub returns-in-End-clause-transition : goal.returns-in-End-clause-transition
+returns-in-End-clause-transition g c =
+    let at = (goal.at.returns-in-End-clause-transition g c).After-advance in
+    let s = rw c.in-End.is at c.in_ok-advance.ensures.step in
+    let sound = c.in_ok-advance.ensures.failures in
+    let end = c.advance.ensures.end c.requires.end in (
+      s.0,
+      s.1,
+      λ bounds given es standing.
+          transition_missing bounds given _ _ _ es s.0 _ _ _ standing.0 (count g at es standing.1) (omega arith) sound end s.2,
+    )
+
+pub returns-in_err-source-clause-transition : goal.returns-in_err-source-clause-transition
+returns-in_err-source-clause-transition g c =
+    let at = (goal.at.returns-in_err-source-clause-transition g c).After-advance in
+    let s = rw c.in-Line.is at c.in_ok-advance.ensures.step in
+    let p = err_from_is_err_and c.from_residual-in_err-source.result c.from_residual-in_err-source.ensures.1 in
+    let bad = rw c.line.ensures at c.in_err-source.ensures.fault in (
+      s.0,
+      s.1,
+      λ bounds given es standing. rw (p.1, p.2)
+          (transition_faulty bounds given _ _ _ es s.0 _ _ _ _ standing.0 (count g at es standing.1) (omega arith)
+          c.in_ok-advance.ensures.failures (goes_on s.2.0) (c.advance.ensures.end c.requires.end) s.2.1 bad c.in_err-source.ensures.kind),
+    )
+
+pub returns-in_err-add-clause-transition : goal.returns-in_err-add-clause-transition
+returns-in_err-add-clause-transition g c =
+    let s = rw c.in-Line.is at c.in_ok-advance.ensures.step in
+    let p = err_from_is_err_and c.from_residual-in_err-add.result c.from_residual-in_err-add.ensures.1 in
+    let end = c.advance.ensures.end c.requires.end in (
+      s.0,
+      s.1,
+      λ bounds given es standing. rw (p.1, p.2)
+          (transition_refused bounds given _ _ _ es s.0 _ _ standing.0 c.in_ok-advance.ensures.failures (goes_on s.2.0) end s.2.1),
+    )
+
+-- the transition that was judged is among the states
+read : (g : Over) (c : After-shown g) → (e : Transition) × IsAmong c.args.promise.states e
+read g c = (
+  record { source = c.in_ok-source.source; label = c.in_ok-source.label.now; target = c.in_ok-source.target },
+  record {
+    source = c.in_ok-source.ensures.among.0;
+    label = c.in_ok-source.ensures.label;
+    target = c.in_ok-source.ensures.among.1;
+  },
+)
 
 pub returns-clause-transition : goal.returns-clause-transition
+unfolding read
 returns-clause-transition g c =
-    let yes : IsTrue c.in_ok-is_added.is_added = c.if-not-is_added.false in
-    let label = c.shown.ensures.label (c.in_ok-is_added.ensures.label.0 yes) in
-    let front = rw c.ahead.ensures.ahead at c.in-Some.ensures label in
-    let open_at = rw c.ahead.ensures.ahead at c.ahead.ensures.open in
-    let e : Transition = record { source = c.in-Some.source; label = c.in-Some.label.now; target = c.in-Some.target } in
-    let among : IsAmong c.args.promise.states e = record {
-      source = omega (arith, c.if-source-from.false, c.from.ensures);
-      label = label;
-      target = omega (arith, c.if-target-from.false, c.from-else-source-from.ensures);
-    } in (
-      [],
-      Consumes-nil (g.R.Source.rest c.args.r.now),
+    let s = rw c.in-Line.is at c.in_ok-advance.ensures.step in
+    let (e, among) = read g (goal.at.returns-clause-transition g c).After-shown in
+    let good = rw c.line.ensures at c.in_ok-source.ensures.good in (
+      s.0,
+      s.1,
       λ bounds given es standing.
-          let so_far =
-          transition_good bounds given c.args.cutter.now (behind front) _ es [] e standing.0 (goes_on_in_front _ _ _ _ _ _ front open_at) (cuts_in_front _ _ _ _ _ front) front.spelled among in
-          (e, (rw (c.pass.ensures.line front.line _ front.whole refl) so_far, Holds-add _ _ _ _ es e standing.1 among (rw c.shown.ensures.shown at (c.in_ok-is_added.ensures.added yes)))),
+          let so_far = transition_good bounds given _ _ _ es s.0 e standing.0 (goes_on s.2.0) s.2.1 good among in
+          (e, (so_far, Holds-add _ _ _ _ es e standing.1 among (rw c.shown.ensures.shown at c.in_ok-add.ensures.added))),
     )

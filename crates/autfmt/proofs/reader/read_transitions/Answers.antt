@@ -1,8 +1,10 @@
-use Rattle.std.proofs.Common.{[], ◌++◌, sym, arith}
+use Rattle.std.proofs.Common.{[], ◌++◌, vec_len, sym, ap, arith}
 use Rattle.std.proofs.lemmas.List.{append_assoc, append-nil}
+use Rattle.std.proofs.lemmas.Bool.{both_ways}
 use Rattle.std.proofs.lemmas.Result.{err_from_is_err_and}
 use Rattle.std.proofs.KnownBytes.{Consumes-nil, Consumes-trans}
-use Rattle.autfmt.proofs.ReaderSteps.{Refuses-same, HeldSoFar-same, HeldSoFar-push}
+use Rattle.autfmt.specs.declared.held.Held.{Held}
+use Rattle.autfmt.proofs.ReaderSteps.{no_memory_behind, goes_on, Refuses-same, HeldSoFar-same, HeldSoFar-push}
 use Rattle.autfmt.proofs.reader.read_transitions.Goals as goal
 
 pub loop-found-init : goal.loop-found-init
@@ -21,8 +23,9 @@ loop-found-init g c = record {
 pub returns-in_err-read_transition-clause-transitions : goal.returns-in_err-read_transition-clause-transitions
 returns-in_err-read_transition-clause-transitions g c =
     let (before, taken, so_far) = c.loop-found.invariant.got in
-    let (line, took, step) = c.in_err-read_transition.ensures.transition in
-    let p = err_from_is_err_and c.from_residual.result c.from_residual.ensures.1 in (
+    let same = c.in_ok-take_usual.ensures.none (both_ways _ c.if-branch.false) in
+    let (line, took, step) = rw (same.0, same.1) at c.in_err-read_transition.ensures.transition in
+    let p = err_from_is_err_and c.from_residual-in_err-read_transition.result c.from_residual-in_err-read_transition.ensures.1 in (
       before ++ line,
       Consumes-trans _ _ _ before line taken took,
       λ bounds given standing.
@@ -31,15 +34,46 @@ returns-in_err-read_transition-clause-transitions g c =
           rw (p.1, p.2) (Refuses-same bounds _ _ _ _ _ (append_assoc given before line) refused),
     )
 
+pub returns-in_err-take_usual-clause-transitions : goal.returns-in_err-take_usual-clause-transitions
+returns-in_err-take_usual-clause-transitions g c =
+    let (before, taken, so_far) = c.loop-found.invariant.got in
+    let p = err_from_is_err_and c.from_residual.result c.from_residual.ensures.1 in (
+      before,
+      taken,
+      λ bounds given standing.
+          let now = (so_far bounds given standing).1.0 in
+          rw (p.1, p.2)
+          (no_memory_behind bounds (given ++ before) now.header now.lines c.loop-found.cutter _ _ _ _ _ now.cut now.good c.loop-found.invariant.sound
+          c.loop-found.invariant.end),
+    )
+
 pub loop-found-preserved : goal.loop-found-preserved
 loop-found-preserved g c =
     let (before, taken, so_far) = c.loop-found.invariant.got in
-    let (line, took, step) = c.in_ok-read_transition.ensures.transition in
+    let same = c.in_ok-take_usual.ensures.none (both_ways _ c.if-branch.false) in
+    let (line, took, step) = rw (same.0, same.1) at c.in_ok-read_transition.ensures.transition in
     let next = HeldSoFar-push _ _ _ _ _ _ _ _ before line so_far step in
     record {
       got = (before ++ line, Consumes-trans _ _ _ before line taken took, next);
-      len = let e = c.in_ok-read_transition.ensures.len in let i = c.loop-found.invariant.len in omega arith;
+      len =
+          let e = c.in_ok-read_transition.ensures.len in
+          let i = c.loop-found.invariant.len in
+          let f = ap (λ (h : Held). vec_len h.triples) same.1 in
+          omega arith;
       few = c.in_ok-read_transition.ensures.few;
       sound = c.in_ok-read_transition.ensures.sound;
       end = c.in_ok-read_transition.ensures.end;
+    }
+
+pub loop-found-preserved-then-branch : goal.loop-found-preserved-then-branch
+loop-found-preserved-then-branch g c =
+    let (before, taken, so_far) = c.loop-found.invariant.got in
+    let yes = c.if-branch.true in
+    let next = HeldSoFar-push _ _ _ _ _ _ _ _ before [] so_far (c.in_ok-take_usual.ensures.taken yes) in
+    record {
+      got = (before ++ [], Consumes-trans _ _ _ before [] taken (Consumes-nil _), next);
+      len = let e = c.in_ok-take_usual.ensures.len yes in let i = c.loop-found.invariant.len in omega arith;
+      few = c.in_ok-take_usual.ensures.few;
+      sound = c.loop-found.invariant.sound;
+      end = λ over. absurd (goes_on (c.in_ok-take_usual.ensures.open yes) over);
     }

@@ -18,7 +18,7 @@ append_transition-waiting-requires-clause-spelled g c =
 
 pub loop-source-preserved : goal.loop-source-preserved
 loop-source-preserved g c = (
-  line_waits c.args.first c.args.states c.args.entries.now c.args.order.now c.loop-source.source-index (0, 0, 0) (record { ref_ptr = (0, 0); now = [] }, 0) (omega arith)
+  line_waits c.args.s.now.first c.args.s.now.states c.args.entries.now c.args.order.now c.loop-source.source-index (0, 0, 0) (record { ref_ptr = (0, 0); now = [] }, 0) (omega arith)
       (c.requires.ranks c.loop-source.source-index (0, 0, 0) (omega arith)) c.loop-source.invariant.0 c.in_ok-end.ensures.ok _ (rw c.set.ensures at c.append_transition-waiting.ensures.text),
   omega (arith, c.in_ok-end.ensures.room, c.loop-source.invariant.2, c.append_transition-waiting.ensures.end),
   omega arith,
@@ -27,13 +27,13 @@ loop-source-preserved g c = (
 
 pub returns-in_err-end-clause-err : goal.returns-in_err-end-clause-err
 returns-in_err-end-clause-err g c =
-    on_err c.from_residual.result (text_begun _ c.args.first c.args.states c.args.entries.now c.args.order.now c.loop-source.source-index c.loop-source.invariant.0 c.in_err-end.ensures.err)
+    on_err c.from_residual.result (text_begun _ c.args.s.now.first c.args.s.now.states c.args.entries.now c.args.order.now c.loop-source.source-index c.loop-source.invariant.0 c.in_err-end.ensures.err)
 
 pub returns-clause-ok : goal.returns-clause-ok
 returns-clause-ok g c =
     let all : c.loop-source.source-index ≡ length c.args.order.now = omega arith in
-    on_ok_weaker c.put_last.result (text_put _ c.args.first c.args.states c.args.entries.now c.args.order.now c.loop-source.source-index all c.loop-source.invariant.0) c.put_last.ensures.ok
+    on_ok_weaker c.put_last.result (text_put _ c.args.s.now.first c.args.s.now.states c.args.entries.now c.args.order.now c.loop-source.source-index all c.loop-source.invariant.0) c.put_last.ensures.ok
 
 pub returns-clause-err : goal.returns-clause-err
 returns-clause-err g c =
-    on_err_weaker c.put_last.result (text_begun _ c.args.first c.args.states c.args.entries.now c.args.order.now c.loop-source.source-index c.loop-source.invariant.0) c.put_last.ensures.err
+    on_err_weaker c.put_last.result (text_begun _ c.args.s.now.first c.args.s.now.states c.args.entries.now c.args.order.now c.loop-source.source-index c.loop-source.invariant.0) c.put_last.ensures.err

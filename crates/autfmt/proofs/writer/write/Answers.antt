@@ -31,16 +31,16 @@ put_system-requires-clause-spelled g c =
 pub put_system-requires-clause-ranks : goal.put_system-requires-clause-ranks
 put_system-requires-clause-ranks g c =
     ranks_from_calls c.args.s.now c.labels.result.now _ _ _ _ _ _ _ c.labels.ensures c.deref.ensures.value c.deref-5.ensures.value c.deref-2.ensures.value c.deref-8.ensures.value
-    c.states.ensures.lts c.in_ok-entries.ensures.ok c.in_ok-ranks.ensures.ok c.in_ok-order.ensures.same
+    c.known.ensures c.in_ok-entries.ensures.ok c.in_ok-ranks.ensures.ok c.in_ok-order.ensures.same
 
 pub returns-in_err-put_system-clause-device : goal.returns-in_err-put_system-clause-device
 returns-in_err-put_system-clause-device g c =
-    let text = text_from_calls c.args.s.now c.labels.result.now _ _ _ _ _ _ _ c.first.result c.states.result c.labels.ensures c.deref.ensures.value c.deref-5.ensures.value c.deref-2.ensures.value c.deref-8.ensures.value c.first.ensures c.states.ensures.value
-    c.states.ensures.lts c.in_ok-entries.ensures.ok c.in_ok-ranks.ensures.ok c.in_ok-order.ensures.same c.in_ok-order.ensures.sorted in
+    let text = text_from_calls c.args.s.now c.labels.result.now _ _ _ _ _ _ _ c.labels.ensures c.deref.ensures.value c.deref-5.ensures.value c.deref-2.ensures.value c.deref-8.ensures.value
+    c.known.ensures c.in_ok-entries.ensures.ok c.in_ok-ranks.ensures.ok c.in_ok-order.ensures.same c.in_ok-order.ensures.sorted in
     on_device c.from_residual-in_err-put_system.result (text_gains_beginning _ _ text c.in_err-put_system.ensures.err)
 
 pub returns-clause-text : goal.returns-clause-text
 returns-clause-text g c =
-    let text = text_from_calls c.args.s.now c.labels.result.now _ _ _ _ _ _ _ c.first.result c.states.result c.labels.ensures c.deref.ensures.value c.deref-5.ensures.value c.deref-2.ensures.value c.deref-8.ensures.value c.first.ensures c.states.ensures.value
-    c.states.ensures.lts c.in_ok-entries.ensures.ok c.in_ok-ranks.ensures.ok c.in_ok-order.ensures.same c.in_ok-order.ensures.sorted in
+    let text = text_from_calls c.args.s.now c.labels.result.now _ _ _ _ _ _ _ c.labels.ensures c.deref.ensures.value c.deref-5.ensures.value c.deref-2.ensures.value c.deref-8.ensures.value
+    c.known.ensures c.in_ok-entries.ensures.ok c.in_ok-ranks.ensures.ok c.in_ok-order.ensures.same c.in_ok-order.ensures.sorted in
     (_, text, c.in_ok-put_system.ensures.ok)

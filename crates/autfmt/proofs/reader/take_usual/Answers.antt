@@ -1,0 +1,23 @@
+use Rattle.std.proofs.Common.{[], IsTrue, arith, refl}
+use Rattle.theory.specs.System.{Transition, IsAmong}
+use Rattle.autfmt.proofs.Holding.{Holds-add}
+use Rattle.autfmt.proofs.ReaderSteps.{transition_good}
+use Rattle.autfmt.proofs.UsualLines.{behind, cuts_in_front, goes_on_in_front}
+use Rattle.autfmt.proofs.reader.take_usual.Goals as goal
+
+pub returns-clause-taken : goal.returns-clause-taken
+returns-clause-taken c =
+    let yes : IsTrue c.in_ok-is_added.is_added = c.if-not-is_added.false in
+    let label = c.shown.ensures.label (c.in_ok-is_added.ensures.label.0 yes) in
+    let front = rw c.ahead.ensures.ahead at c.in-Some.ensures label in
+    let open_at = rw c.ahead.ensures.ahead at c.ahead.ensures.open in
+    let e : Transition = record { source = c.in-Some.source; label = c.in-Some.label.now; target = c.in-Some.target } in
+    let among : IsAmong c.args.promise.states e = record {
+      source = omega (arith, c.if-source-from.false, c.from.ensures);
+      label = label;
+      target = omega (arith, c.if-target-from.false, c.from-else-source-from.ensures);
+    } in
+    λ _ bounds given es standing.
+    let so_far =
+    transition_good bounds given c.args.cutter.now (behind front) _ es [] e standing.0 (goes_on_in_front _ _ _ _ _ _ front open_at) (cuts_in_front _ _ _ _ _ front) front.spelled among in
+    (e, (rw (c.pass.ensures.line front.line _ front.whole refl) so_far, Holds-add _ _ _ _ es e standing.1 among (rw c.shown.ensures.shown at (c.in_ok-is_added.ensures.added yes))))
