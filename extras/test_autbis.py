@@ -2,6 +2,7 @@
 
 import copy
 import doctest
+import functools
 import io
 import itertools
 import os
@@ -21,20 +22,19 @@ from concurrent.futures import ProcessPoolExecutor
 import autbis
 
 PROGRAM = os.environ.get("AUTBIS", "autbis")
-EXAMPLES = os.path.join(os.path.dirname(os.path.abspath(__file__)), "..", "examples")
+TOP = pathlib.Path(__file__).resolve().parents[1]
 EARLY = "des (0, 4, 5)\n(0, a, 1)\n(0, a, 2)\n(1, b, 3)\n(2, c, 4)\n"
 LATE = "des (0, 3, 4)\n(0, a, 1)\n(1, b, 2)\n(1, c, 3)\n"
 SILENT = "des (0, 2, 3)\n(0, tau, 1)\n(1, a, 2)\n"
 ONE_STEP = "des (0, 1, 2)\n(0, a, 1)\n"
 
 
-def example(name):
-    with open(os.path.join(EXAMPLES, name), encoding="ascii") as file:
-        return file.read()
-
-
 def path(name):
-    return pathlib.Path(EXAMPLES, name)
+    return TOP / "examples" / name
+
+
+def example(name):
+    return path(name).read_text(encoding="ascii")
 
 
 def with_module():
@@ -47,15 +47,19 @@ def raise_fault(text):
     minimise(text)
 
 
-def minimise(*args, **options):
-    return autbis.minimise(*args, program=PROGRAM, **options)
+minimise, with_counts, equivalent = (
+    functools.partial(call, program=PROGRAM) for call in (autbis.minimise, autbis.minimise_with_counts, autbis.equivalent)
+)
 
 
-def equivalent(*args, **options):
-    return autbis.equivalent(*args, program=PROGRAM, **options)
+class Test(unittest.TestCase):
+    def assert_refused(self, fault, said, call, *args, **options):
+        """The call raises this fault, which says so."""
+        with self.assertRaisesRegex(fault, said):
+            call(*args, **options)
 
 
-class InFolder(unittest.TestCase):
+class InFolder(Test):
     """Has a folder of its own."""
 
     def setUp(self):
@@ -82,10 +86,9 @@ class InFolder(unittest.TestCase):
         return reader
 
 
-class Answers(unittest.TestCase):
+class Answers(Test):
     def test_version(self):
-        with open(os.path.join(EXAMPLES, "..", "manual", "version.txt"), encoding="ascii") as file:
-            self.assertEqual(f"autbis {autbis.__version__}\n", file.read())
+        self.assertEqual(f"autbis {autbis.__version__}\n", (TOP / "manual" / "version.txt").read_text(encoding="ascii"))
 
     def test_minimise(self):
         for relation in ("strong", "branching"):
@@ -150,13 +153,11 @@ class Inputs(InFolder):
 
     def test_the_name_of_a_file_as_a_str(self):
         for name in (str(path("coffee-machine.aut")), "no-such.aut"):
-            with self.assertRaisesRegex(ValueError, "pass pathlib.Path"):
-                minimise(name)
+            self.assert_refused(ValueError, "pass pathlib.Path", minimise, name)
 
     def test_what_is_no_system(self):
         for given in (None, 3, ["des (0, 0, 1)\n"], object()):
-            with self.assertRaisesRegex(TypeError, "a system is a str, bytes, an os.PathLike or an open file"):
-                minimise(given)
+            self.assert_refused(TypeError, "a system is a str, bytes, an os.PathLike or an open file", minimise, given)
 
     def test_hide_lists(self):
         wanted = example("alternating-bit.hidden.branching.aut")
@@ -168,10 +169,8 @@ class Inputs(InFolder):
 
     def test_what_is_no_hide_list(self):
         for given in ("abc", b"a", None, 3, [None], [3]):
-            with self.assertRaises(TypeError):
-                minimise(LATE, hide=given)
-        with self.assertRaises(ValueError):
-            minimise(LATE, hide=[b"a\nb"])
+            self.assert_refused(TypeError, "", minimise, LATE, hide=given)
+        self.assert_refused(ValueError, "a label has no line feed", minimise, LATE, hide=[b"a\nb"])
 
     def test_a_path_whose_name_is_no_word(self):
         for name in (b"a\nb.aut", b"gr\xfcn.aut"):
@@ -180,8 +179,7 @@ class Inputs(InFolder):
             self.assertTrue(equivalent(named, LATE))
 
     def test_a_program_by_its_path(self):
-        program = pathlib.Path(shutil.which(PROGRAM))
-        self.assertTrue(autbis.equivalent(LATE, LATE, program=program))
+        self.assertTrue(equivalent(LATE, LATE, program=pathlib.Path(shutil.which(PROGRAM))))
 
 
 class OtherThanFiles(InFolder):
@@ -193,8 +191,7 @@ class OtherThanFiles(InFolder):
         self.assertFalse(equivalent(SILENT, ONE_STEP, "branching", hide=path_of("a\n")))
         self.assertEqual(minimise(path_of(ONE_STEP)), ONE_STEP)
         self.assertTrue(equivalent(path_of(SILENT), path_of(ONE_STEP), "branching", hide=path_of("tau\n")))
-        with self.assertRaisesRegex(autbis.TextFault, "line 2: not a label"):
-            minimise(ONE_STEP, hide=path_of("a\n\n"))
+        self.assert_refused(autbis.TextFault, "line 2: not a label", minimise, ONE_STEP, hide=path_of("a\n\n"))
 
     def test_a_named_pipe(self):
         def path_of(text):
@@ -248,9 +245,8 @@ class OtherThanFiles(InFolder):
         self.addCleanup(end.close)
         end.bind(str(self.folder / "socket"))
         for given in (self.folder, self.folder / "socket"):
-            for call in (lambda: minimise(given), lambda: minimise(LATE, hide=given)):
-                with self.assertRaises(autbis.DeviceFault):
-                    call()
+            self.assert_refused(autbis.DeviceFault, "", minimise, given)
+            self.assert_refused(autbis.DeviceFault, "", minimise, LATE, hide=given)
 
 
 class UsedBefore(InFolder):
@@ -259,8 +255,7 @@ class UsedBefore(InFolder):
     def assert_is_refused_again(self, hide, why):
         self.assertTrue(equivalent(SILENT, ONE_STEP, "branching", hide=hide))
         for _ in range(2):
-            with self.assertRaisesRegex(ValueError, why):
-                equivalent(SILENT, ONE_STEP, "branching", hide=hide)
+            self.assert_refused(ValueError, why, equivalent, SILENT, ONE_STEP, "branching", hide=hide)
 
     def test_an_open_file(self):
         for mode in ("r", "rb"):
@@ -278,9 +273,8 @@ class UsedBefore(InFolder):
             self.assert_is_refused_again(hide, "nothing comes from the iterator of labels")
 
     def test_the_system_in_the_same_open_file(self):
-        with self.assertRaisesRegex(ValueError, "nothing is left of the hide list"):
-            file = io.StringIO(LATE)
-            minimise(file, hide=file)
+        file = io.StringIO(LATE)
+        self.assert_refused(ValueError, "nothing is left of the hide list", minimise, file, hide=file)
 
     def test_what_may_be_empty(self):
         empty = self.written("")
@@ -290,21 +284,20 @@ class UsedBefore(InFolder):
                     self.assertFalse(equivalent(SILENT, ONE_STEP, "branching", hide=hide))
 
 
-class CountsOfARun(unittest.TestCase):
+class CountsOfARun(Test):
     def test_counts(self):
-        smallest, counts = autbis.minimise_with_counts(EARLY, program=PROGRAM)
+        smallest, counts = with_counts(EARLY)
         self.assertEqual(smallest, minimise(EARLY))
         self.assertEqual((counts.states, counts.transitions), (5, 4))
         self.assertEqual(counts.allowance, (counts.rounds + 2) * counts.transitions)
         self.assertLessEqual(counts.rounds * counts.transitions, counts.visits)
         self.assertLessEqual(counts.visits, counts.allowance)
-        _, counts = autbis.minimise_with_counts(EARLY, "branching", hide=["b", "c"], program=PROGRAM)
+        _, counts = with_counts(EARLY, "branching", hide=["b", "c"])
         self.assertEqual((counts.states, counts.transitions), (5, 4))
         self.assertEqual(counts.allowance, (counts.rounds * counts.states + 2) * counts.transitions)
 
     def test_a_fault(self):
-        with self.assertRaises(autbis.TextFault):
-            autbis.minimise_with_counts("x", program=PROGRAM)
+        self.assert_refused(autbis.TextFault, "bad header", with_counts, "x")
 
 
 class Pages(InFolder):
@@ -316,7 +309,7 @@ class Pages(InFolder):
                 self.assertGreater(shown.attempted, 0)
 
 
-class Faults(unittest.TestCase):
+class Faults(Test):
     def assert_fault(self, where, name, line, said, *systems, **options):
         """One system cannot be minimised, or two not compared, for a fault of the text `where`."""
         with self.assertRaises(autbis.TextFault) as caught:
@@ -339,9 +332,9 @@ class Faults(unittest.TestCase):
         self.assert_fault("hide", "hide", 2, "not a label", LATE, hide=["a", "b\t"])
 
     def test_the_faulty_file_is_named(self):
-        name = os.path.join(EXAMPLES, "verdicts")
-        self.assert_fault("first", name, None, "bad header", pathlib.Path(name), LATE)
-        self.assert_fault("second", name, None, "bad header", LATE, pathlib.Path(name))
+        system, name = path("verdicts"), str(path("verdicts"))
+        self.assert_fault("first", name, None, "bad header", system, LATE)
+        self.assert_fault("second", name, None, "bad header", LATE, system)
         with open(name, encoding="ascii") as file:
             self.assert_fault("text", name, None, "bad header", file)
         hide = path("coffee-machine.aut")
@@ -353,16 +346,14 @@ class Faults(unittest.TestCase):
         self.assert_fault("second", str(hide), None, "bad header", LATE, hide, hide=hide)
 
     def test_an_unknown_relation(self):
-        with self.assertRaisesRegex(autbis.UsageFault, "^autbis: unknown relation: weak$"):
-            minimise(LATE, "weak")
+        self.assert_refused(autbis.UsageFault, "^autbis: unknown relation: weak$", minimise, LATE, "weak")
 
     def test_a_file_that_is_not_there(self):
-        with self.assertRaisesRegex(autbis.DeviceFault, "^autbis: no-such.aut: cannot open$"):
-            minimise(pathlib.Path("no-such.aut"))
+        self.assert_refused(autbis.DeviceFault, "^autbis: no-such.aut: cannot open$", minimise, pathlib.Path("no-such.aut"))
 
     def test_no_program(self):
-        with self.assertRaisesRegex(FileNotFoundError, "the program is not installed, or not on PATH: 'no-such-autbis'"):
-            autbis.minimise(LATE, program="no-such-autbis")
+        said = "the program is not installed, or not on PATH: 'no-such-autbis'"
+        self.assert_refused(FileNotFoundError, said, minimise, LATE, program="no-such-autbis")
 
 
 class OtherPrograms(InFolder):
@@ -376,31 +367,27 @@ class OtherPrograms(InFolder):
         self.fake.write_text(f"#!/bin/sh\n{script}\n", encoding="ascii")
         self.fake.chmod(stat.S_IRWXU)
 
+    def assert_no_answer(self, fault, said, call, scripts, *systems):
+        """If the program does this, the call raises the fault."""
+        for script in scripts:
+            self.does(script)
+            self.assert_refused(fault, said, call, *systems, program=self.fake)
+
     def test_statuses_that_are_hard_to_bring_about(self):
-        for end, wanted in (("exit 4", autbis.OutOfMemory), ("exit 5", autbis.DeviceFault), ("kill -9 $$", autbis.Fault)):
-            self.does(end)
-            with self.assertRaisesRegex(wanted, "fake ended with status"):
-                autbis.equivalent(LATE, LATE, program=self.fake)
+        for script, fault in (("exit 4", autbis.OutOfMemory), ("exit 5", autbis.DeviceFault), ("kill -9 $$", autbis.Fault)):
+            self.assert_no_answer(fault, "fake ended with status", equivalent, [script], LATE, LATE)
 
     def test_no_answer_is_taken_for_one(self):
-        for end in ("", "exit 1", "echo FALSE", "echo TRUE; exit 1", "echo help"):
-            self.does(end)
-            with self.assertRaisesRegex(autbis.Fault, "no answer of autbis"):
-                autbis.equivalent(LATE, LATE, program=self.fake)
-        for end in ("", "echo help"):
-            self.does(end)
-            with self.assertRaisesRegex(autbis.Fault, "no answer of autbis"):
-                autbis.minimise(LATE, program=self.fake)
-        self.does("echo 'des (0, 0, 1)'")
-        with self.assertRaisesRegex(autbis.Fault, "no answer of autbis"):
-            autbis.minimise_with_counts(LATE, program=self.fake)
+        none = autbis.Fault, "no answer of autbis"
+        self.assert_no_answer(*none, equivalent, ("", "exit 1", "echo FALSE", "echo TRUE; exit 1", "echo help"), LATE, LATE)
+        self.assert_no_answer(*none, minimise, ("", "echo help"), LATE)
+        self.assert_no_answer(*none, with_counts, ["echo 'des (0, 0, 1)'"], LATE)
 
     def test_a_timeout_ends_the_program(self):
         number = self.fake.with_name("number")
         self.does(f"echo $$ >'{number}'\nexec sleep 60")
         begun = time.monotonic()
-        with self.assertRaisesRegex(autbis.TimedOut, "autbis: no answer in 0.5 seconds"):
-            autbis.minimise(LATE, program=self.fake, timeout=0.5)
+        self.assert_refused(autbis.TimedOut, "autbis: no answer in 0.5 seconds", minimise, LATE, program=self.fake, timeout=0.5)
         self.assertLess(time.monotonic() - begun, 30)
         with self.assertRaises(ProcessLookupError):
             os.kill(int(number.read_text(encoding="ascii")), 0)
@@ -409,7 +396,7 @@ class OtherPrograms(InFolder):
         self.assertTrue(equivalent(LATE, LATE, timeout=60))
 
 
-class Copies(unittest.TestCase):
+class Copies(Test):
     """Each exception can be pickled and copied."""
 
     FAULTS = (

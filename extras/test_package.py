@@ -50,16 +50,12 @@ class Package(InFolder):
             universal_newlines=True,
         )
 
-    def install(self, *words):
-        """Installs a copy of this folder into the folder `fresh`."""
-        shutil.copytree(HERE, self.folder / "extras")
-        pip = ("-m", "pip", "--disable-pip-version-check", "install", "--no-index", "--target", "fresh")
-        installed = self.run_in_folder(sys.executable, *pip, *words)
-        self.assertEqual(installed.returncode, 0, installed.stdout)
-
     @unittest.skipUnless(importlib.util.find_spec("pip"), "there is no pip to install with")
     def test_pip_installs_the_module(self):
-        self.install("./extras")
+        shutil.copytree(HERE, self.folder / "extras")
+        pip = ("-m", "pip", "--disable-pip-version-check", "install", "--no-index", "--target", "fresh")
+        installed = self.run_in_folder(sys.executable, *pip, "./extras")
+        self.assertEqual(installed.returncode, 0, installed.stdout)
         shutil.rmtree(self.folder / "extras")
         self.assertTrue((self.folder / "fresh" / "autbis" / "py.typed").exists())
         shown = "import autbis; print(autbis.minimise('des (0, 2, 3)\\n(0, coin, 1)\\n(0, coin, 2)\\n'), end='')"
@@ -69,13 +65,6 @@ class Package(InFolder):
         (self.folder / "autbis").symlink_to(shutil.which(PROGRAM))
         answer = self.run_in_folder(sys.executable, "-c", shown, PATH=str(self.folder), PYTHONPATH="fresh")
         self.assertEqual(answer.stdout, "des (0, 1, 2)\n(0, coin, 1)\n")
-
-    @unittest.skipUnless(importlib.util.find_spec("pip"), "there is no pip to install with")
-    def test_pip_installs_the_sources_in_place(self):
-        self.install("-e", "./extras")
-        where = "import site; site.addsitedir('fresh'); import autbis; print(autbis.__file__)"
-        found = self.run_in_folder(sys.executable, "-c", where)
-        self.assertEqual(found.stdout, f"{self.folder.resolve()}/extras/autbis/__init__.py\n")
 
     def test_two_wheels_have_the_same_bytes(self):
         shutil.copytree(HERE, self.folder / "extras")

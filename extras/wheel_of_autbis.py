@@ -4,7 +4,6 @@ import base64
 import hashlib
 import pathlib
 import re
-import tarfile
 import zipfile
 
 HERE = pathlib.Path(__file__).resolve().parent
@@ -27,15 +26,7 @@ Tag: py3-none-any
 
 def build_wheel(wheel_directory, config_settings=None, metadata_directory=None):
     """Writes the wheel into the directory, and returns its name. The same sources give the same bytes."""
-    return _write(wheel_directory, {name: (HERE / name).read_bytes() for name in FILES})
-
-
-def build_editable(wheel_directory, config_settings=None, metadata_directory=None):
-    """As build_wheel, for `pip install -e`: the wheel has the path of this folder in place of the module."""
-    return _write(wheel_directory, {"autbis.pth": f"{HERE}\n".encode("utf-8")})
-
-
-def _write(wheel_directory, contents):
+    contents = {name: (HERE / name).read_bytes() for name in FILES}
     contents[f"{NAME}.dist-info/METADATA"] = METADATA.encode("ascii")
     contents[f"{NAME}.dist-info/WHEEL"] = WHEEL.encode("ascii")
     record = f"{NAME}.dist-info/RECORD"
@@ -54,11 +45,3 @@ def _record_line(file):
     name, content = file
     digest = base64.urlsafe_b64encode(hashlib.sha256(content).digest()).rstrip(b"=").decode("ascii")
     return f"{name},sha256={digest},{len(content)}\n"
-
-
-def build_sdist(sdist_directory, config_settings=None):
-    """Writes the sources that a wheel can be built from into the directory, and returns the name of the archive."""
-    with tarfile.open(pathlib.Path(sdist_directory, f"{NAME}.tar.gz"), "w:gz", format=tarfile.PAX_FORMAT) as archive:
-        for name in (*FILES, "pyproject.toml", "wheel_of_autbis.py"):
-            archive.add(HERE / name, f"{NAME}/{name}")
-    return f"{NAME}.tar.gz"
