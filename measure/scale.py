@@ -406,8 +406,10 @@ def main():
             measure_all(program, given.runs)
         else:
             draw()
-    except (OSError, ValueError, KeyError, TypeError) as error:
-        sys.exit(f"measure/scale.py: {error!r}")
+    except OSError as error:
+        sys.exit(f"measure/scale.py: {error}")
+    except (KeyError, TypeError, ValueError) as error:
+        sys.exit(f"measure/scale.py: measure/scale.tsv does not have all rows, or others: {error!r}")
     except KeyboardInterrupt:
         sys.exit("measure/scale.py: interrupted; the same words go on")
 

@@ -514,7 +514,7 @@ def main(words):
         sys.stdout.writelines(text_of(system_of(words)) if words else listed())
         sys.stdout.flush()
     except (Wrong, OSError, MemoryError) as fault:
-        print(f"measure/systems.py: {' '.join(words)}: {fault}", file=sys.stderr, flush=True)
+        print(f"measure/systems.py: {' '.join(words) or 'the list'}: {fault}", file=sys.stderr, flush=True)
         # What is left in the buffer cannot be written.
         os._exit(1)
 
