@@ -41,20 +41,31 @@ RELATIONS = {"strong": "#2166ac", "branching": "#d6604d"}
 GREY = "#555"
 SIDE = 300  # of a plot
 FAR = 3  # times more or less than the line says, for a name
-KINDS = {  # by their names on the page, where {} is the last number: what they are, and systems, the largest last
-    "philosophers {}": ("k dining philosophers; taking and putting forks is internal", [f"philosophers {k}" for k in (6, 7, 8)]),
-    "leader election {}": ("k stations in a ring (Chang and Roberts 1979); messages are internal", [f"leader-election {k}" for k in (11, 13)]),
-    "token ring {}": ("of k stations the one with the token may enter; passing it on is internal", [f"token-ring {k}" for k in (10, 13, 15)]),
-    "lossy channels {}": ("two alternating-bit protocols in series, for k values; all but the ends is internal", [f"lossy-channels {k}" for k in (3, 6, 9)]),
-    "buffers {}": ("a row of k one-place buffers for two values; passing one on is internal", [f"buffers {k}" for k in (9, 11, 12)]),
-    "counters {}": ("k independent counters modulo 5; nothing is internal", [f"counters {k}" for k in (6, 7, 8)]),
-    "random, sparse": ("one transition a state, 20 % internal: each from a random earlier state", [f"random-system {n} {n} 20 20" for n in (100_000, 1_000_000)]),
-    "random, 5 % internal": ("", ["random-system 1000000 10000000 20 5"]),
-    "random, 20 % internal": ("", ["random-system 1000000 10000000 20 20"]),
-    "random, 30 % internal": ("", [f"random-system {n} {4 * n} 5 30" for n in (25_000, 250_000)]),
-    "internal cycle": ("a cycle of n internal steps, and from each state a visible step to the end", [f"internal-cycle {n}" for n in (5_000, 10_000)]),
-    "chain": ("a line of n states with one label", [f"chain {n}" for n in (2_000, 5_000, 10_000)]),
-}  # fmt: skip
+SYSTEMS = {  # by kind, the largest last; {} in the name of a kind is the last number
+    "philosophers {}": [f"philosophers {k}" for k in (6, 7, 8)],
+    "leader election {}": [f"leader-election {k}" for k in (11, 13)],
+    "token ring {}": [f"token-ring {k}" for k in (10, 13, 15)],
+    "lossy channels {}": [f"lossy-channels {k}" for k in (3, 6, 9)],
+    "buffers {}": [f"buffers {k}" for k in (9, 11, 12)],
+    "counters {}": [f"counters {k}" for k in (6, 7, 8)],
+    "random, sparse": [f"random-system {n} {n} 20 20" for n in (100_000, 1_000_000)],
+    "random, 5 % internal": ["random-system 1000000 10000000 20 5"],
+    "random, 20 % internal": ["random-system 1000000 10000000 20 20"],
+    "random, 30 % internal": [f"random-system {n} {4 * n} 5 30" for n in (25_000, 250_000)],
+    "internal cycle": [f"internal-cycle {n}" for n in (5_000, 10_000)],
+    "chain": [f"chain {n}" for n in (2_000, 5_000, 10_000)],
+}
+KINDS = {
+    "philosophers {}": "k dining philosophers; taking and putting forks is internal",
+    "leader election {}": "k stations in a ring (Chang and Roberts 1979); messages are internal",
+    "token ring {}": "of k stations the one with the token may enter; passing it on is internal",
+    "lossy channels {}": "two alternating-bit protocols in series, for k values; all but the ends is internal",
+    "buffers {}": "a row of k one-place buffers for two values; passing one on is internal",
+    "counters {}": "k independent counters modulo 5; nothing is internal",
+    "random, sparse": "one transition a state, 20 % internal: each from a random earlier state",
+    "internal cycle": "a cycle of n internal steps, and from each state a visible step to the end",
+    "chain": "a line of n states with one label",
+}
 IN_README = "leader election {}", "token ring {}", "lossy channels {}", "buffers {}", "random, 5 % internal"
 SIZES = 8_000, 16_000, 32_000
 MADE = {  # rows of the third table: what the systems are, and their families
@@ -184,7 +195,7 @@ def measure_all(program, runs):
 
 
 def wanted():
-    for _, systems in KINDS.values():
+    for systems in SYSTEMS.values():
         yield from ((system, relation) for system in systems for relation in RELATIONS)
     for families in MADE.values():
         yield from ((f"{family} {n}", "branching") for family in families for n in SIZES)
@@ -202,24 +213,24 @@ def write(path, text):
 
 def named(kind):
     """The name of a kind, with the number of its largest system."""
-    return kind.format(KINDS[kind][1][-1].split()[-1])
+    return kind.format(SYSTEMS[kind][-1].split()[-1])
 
 
 def of_kinds(rows):
     """The rows of the first table and of the picture, each with its kind."""
-    keys = ((kind, system, relation) for kind in KINDS for system in KINDS[kind][1] for relation in RELATIONS)
+    keys = ((kind, system, relation) for kind in SYSTEMS for system in SYSTEMS[kind] for relation in RELATIONS)
     return [(kind, rows[system, relation]) for kind, system, relation in keys if (system, relation) in rows]
 
 
 def largest(rows, kind):
-    return [rows[KINDS[kind][1][-1], relation] for relation in RELATIONS]
+    return [rows[SYSTEMS[kind][-1], relation] for relation in RELATIONS]
 
 
 def cells(row):
     """Rounds, seconds and megabytes, as a table has them."""
-    rounds = "-" if row.rounds is None else f"{row.rounds:,}"
-    seconds = f"over {LONGEST}" if row.seconds is None else f"{row.seconds:.2f}"
-    return rounds, seconds, "-" if row.megabytes is None else row.megabytes if row.megabytes > LEAST else f"under {LEAST + 1}"
+    if row.seconds is None:
+        return "-", f"over {LONGEST}", "-"
+    return f"{row.rounds:,}", f"{row.seconds:.2f}", row.megabytes if row.megabytes > LEAST else f"under {LEAST + 1}"
 
 
 def line_of(*cells):
@@ -228,11 +239,13 @@ def line_of(*cells):
 
 def table(rows):
     """The first table: a line for the largest system of each kind, with both relations."""
-    yield line_of("System", "What it is", "States", "Transitions", "Strong: rounds", "Seconds", "MB", "Branching: rounds", "Seconds", "MB")
+    found = ("Strong: rounds", "Seconds", "MB", "Branching: rounds", "Seconds", "MB")
+    yield line_of("System", "What it is", "States", "Transitions", *found)
     yield "|---|---|--:|--:|--:|--:|--:|--:|--:|--:|"
-    for kind, (about, _) in KINDS.items():
+    for kind in SYSTEMS:
         strong, branching = largest(rows, kind)
-        yield line_of(named(kind), about, f"{strong.states:,}", f"{strong.transitions:,}", *cells(strong), *cells(branching))
+        sizes = (f"{size:,}" for size in (strong.states, strong.transitions))
+        yield line_of(named(kind), KINDS.get(kind, ""), *sizes, *cells(strong), *cells(branching))
 
 
 def ratios(rows):
@@ -247,7 +260,8 @@ def ratios(rows):
                 found[row.relation].append(row.seconds / other)
         if not all(found.values()):
             return []
-        lines.append(line_of(rule, *(f"{statistics.geometric_mean(times):.2f} ({max(times):.1f})" for times in found.values())))
+        both = (f"{statistics.geometric_mean(times):.2f} ({max(times):.1f})" for times in found.values())
+        lines.append(line_of(rule, *both))
     return lines
 
 
@@ -287,13 +301,13 @@ class Panel(NamedTuple):
         return self.left + SIDE * along(across, self.across), self.top + SIDE * (1 - along(up, self.up))
 
     def axes(self):
-        yield f'<text class="name" x="{self.left}" y="{self.top - 12}">{self.title}</text>'
+        yield words_at(self.left, self.top - 12, self.title)
         for value in ticks(self.across):
             x, _ = self.place(value, self.up[0])
-            yield f'<path d="M{x:.1f} {self.top}v{SIDE}"/><text x="{x:.1f}" y="{self.top + SIDE + 16}">{spelled(value)}</text>'
+            yield f'<path d="M{x:.1f} {self.top}v{SIDE}"/>' + words_at(x, self.top + SIDE + 16, spelled(value), "middle")
         for value in ticks(self.up):
             _, y = self.place(self.across[0], value)
-            yield f'<path d="M{self.left} {y:.1f}h{SIDE}"/><text class="end" x="{self.left - 6}" y="{y + 4:.1f}">{spelled(value)}</text>'
+            yield f'<path d="M{self.left} {y:.1f}h{SIDE}"/>' + words_at(self.left - 6, y + 4, spelled(value), "end")
 
     def drawn(self, rows):
         """The elements: the axes, the line and its words, the points, and the names of those far from the line."""
@@ -301,31 +315,38 @@ class Panel(NamedTuple):
         points = [point for point in points if point[3] >= self.up[0]]
         rate = statistics.median(up / across for _, _, across, up in points if up > self.up[0])
         start, end = max(self.across[0], self.up[0] / rate), min(self.across[1], self.up[1] / rate)
-        ((x, y), (x_2, y_2)) = (self.place(across, across * rate) for across in (start, end))
+        (x, y), (x_2, y_2) = (self.place(across, across * rate) for across in (start, end))
         yield from self.axes()
         yield f'<path class="line" d="M{x:.1f} {y:.1f}L{x_2:.1f} {y_2:.1f}"/>'
         taken = [(x + part / 60 * (x_2 - x), y + part / 60 * (y_2 - y)) for part in range(61)]
-        names = {}
+        middle, names = taken[30], {}
         how_far = lambda point: abs(math.log(point[3] / point[2] / rate))
         for point in sorted(points, key=how_far):
             name, colour, across, up = point
-            taken.append(self.place(across, up))
-            yield '<circle cx="{:.1f}" cy="{:.1f}" r="4" fill="{}" fill-opacity="0.75"/>'.format(*taken[-1], colour)
+            x, y = place = self.place(across, up)
+            taken.append(place)
+            yield f'<circle cx="{x:.1f}" cy="{y:.1f}" r="4" fill="{colour}" fill-opacity="0.75"/>'
             if how_far(point) > math.log(FAR):
-                names[name, colour] = taken[-1]
-        names[self.line(rate), GREY] = (x + x_2) / 2, (y + y_2) / 2
+                names[name, colour] = place
+        names[self.line(rate), GREY] = middle
         rooms = [(x - 4, y - 4, x + 4, y + 4) for x, y in taken]
         for (words, colour), place in names.items():
-            rooms.append(self.room(words, place, rooms))
-            yield '<text class="name" x="{:.1f}" y="{:.1f}" fill="{}">{}</text>'.format(rooms[-1][0], rooms[-1][1] + 10, colour, words)
+            room = self.room(words, place, rooms)
+            rooms.append(room)
+            yield words_at(room[0], room[1] + 10, words, colour=colour)
 
     def room(self, words, place, rooms):
         """Room for words beside a place, where least is taken."""
         (x, y), wide = place, 6.6 * len(words)
-        lefts = [min(max(left, self.left + 3), self.left + SIDE + 35 - wide) for left in (x + 7, x - 7 - wide, x - wide / 2, x + 20)]
+        inside = lambda left: min(max(left, self.left + 3), self.left + SIDE + 35 - wide)
+        lefts = [inside(left) for left in (x + 7, x - 7 - wide, x - wide / 2, x + 20)]
         free = [(left, y + down - 6, left + wide, y + down + 6) for down in (0, -13, 13, -26, 26) for left in lefts]
         meets = lambda a, b: a[0] < b[2] and b[0] < a[2] and a[1] < b[3] and b[1] < a[3]
         return min(free, key=lambda one: sum(meets(one, other) for other in rooms) + 100 * (one[3] > self.top + SIDE))
+
+
+def words_at(x, y, words, kind="name", colour="black"):
+    return f'<text class="{kind}" x="{x:.1f}" y="{y:.1f}" fill="{colour}">{words}</text>'
 
 
 def ticks(ends):
@@ -340,27 +361,29 @@ def spelled(value):
 
 def drawing(rows):
     """The picture: time and memory by transitions, time by visits, and the time of one relation by the other's."""
-    least, most = ends = 0.01, 20
-    seconds = lambda row: max(row.seconds, least)
+    ends = 0.01, 20
+    seconds = lambda row: max(row.seconds, ends[0])
+    by_transitions = lambda row: (row.transitions, seconds(row))
+    megabytes = lambda row: (row.transitions, row.megabytes)
+    by_visits = lambda row: (row.transitions * row.rounds, seconds(row))
+    by_strong = lambda row: (seconds(rows[row.system, "strong"]), seconds(row))
     speed = lambda rate: f"{1e-6 / rate:.{1 if rate > 1e-7 else 0}f} M a second"
-    panels = (
-        Panel(60, 40, "seconds by transitions", (1e3, 2e7), ends, speed, lambda row: (row.transitions, seconds(row))),
-        Panel(460, 40, "MB by transitions", (5e5, 1.2e7), (LEAST + 1, 400), lambda rate: f"{rate * 1e6:.0f} bytes each", lambda row: (row.transitions, row.megabytes)),
-        Panel(60, 420, "seconds by rounds times transitions", (1e4, 5e8), ends, speed, lambda row: (row.transitions * row.rounds, seconds(row))),
-        Panel(460, 420, "seconds: branching by strong", ends, ends, lambda rate: f"{rate:.1f} times", lambda row: (seconds(rows[row.system, "strong"]), seconds(row))),
-    )  # fmt: skip
+    size = lambda rate: f"{rate * 1e6:.0f} bytes each"
+    times = lambda rate: f"{rate:.1f} times"
+    shown = [(kind, row) for kind, row in of_kinds(rows) if row.seconds is not None]
+    both = [(kind, row) for kind, row in shown if row.relation == "branching" and (row.system, "strong") in rows]
     yield '''<svg xmlns="http://www.w3.org/2000/svg" width="800" height="790" viewBox="0 0 800 790">
 <title>What min takes, by strong and by branching bisimilarity</title>
-<style>text { font: 12px sans-serif; text-anchor: middle } .name { text-anchor: start } .end { text-anchor: end }
+<style>text { font: 12px sans-serif } .middle { text-anchor: middle } .end { text-anchor: end }
 path { stroke: #ddd } .line { stroke: #555; stroke-dasharray: 4 3 }</style>
 <rect width="100%" height="100%" fill="white"/>'''
-    shown = [(kind, row) for kind, row in of_kinds(rows) if row.seconds is not None]
-    for panel in panels[:3]:
-        yield from panel.drawn(shown)
-    yield from panels[3].drawn([(kind, row) for kind, row in shown if row.relation == "branching"])
+    yield from Panel(60, 40, "seconds by transitions", (1e3, 2e7), ends, speed, by_transitions).drawn(shown)
+    yield from Panel(460, 40, "MB by transitions", (5e5, 1.2e7), (LEAST + 1, 400), size, megabytes).drawn(shown)
+    yield from Panel(60, 420, "seconds by rounds times transitions", (1e4, 5e8), ends, speed, by_visits).drawn(shown)
+    yield from Panel(460, 420, "seconds: branching by strong", ends, ends, times, by_strong).drawn(both)
     for x, (relation, colour) in zip((66, 146), RELATIONS.items()):
-        yield f'<circle cx="{x}" cy="771" r="4" fill="{colour}"/><text class="name" x="{x + 8}" y="775">{relation}</text>'
-    yield f'<text class="name" x="240" y="775">The line has slope 1, through the median. Named: {FAR} times off it or more.</text>'
+        yield f'<circle cx="{x}" cy="771" r="4" fill="{colour}"/>' + words_at(x + 8, 775, relation)
+    yield words_at(240, 775, f"The line has slope 1, through the median. Named: {FAR} times off it or more.")
     yield "</svg>"
 
 

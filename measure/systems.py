@@ -11,26 +11,41 @@ import inspect
 import itertools
 import os
 import random
+import re
 import sys
 from functools import lru_cache
-from typing import Any, NamedTuple, Optional
+from typing import Any, Callable, NamedTuple, Optional
 
 MOST_STATES, MOST_TRANSITIONS = 1_000_000, 10_000_000
 MAY_BE_NONE = {"percent", "a", "c"}
 FAMILIES = {}
 
 
+class Family(NamedTuple):
+    make: Callable
+    numbers: list  # their names
+    about: str
+
+
 class Wrong(Exception):
     """Numbers that a family does not take."""
 
 
-def family(function):
-    FAMILIES[function.__name__.replace("_", "-")] = function
-    return function
+def family(function, make=None):
+    """Has a function of numbers among the families; with `make`, that function, which has its numbers but the first."""
+    numbers = list(inspect.signature(function).parameters)[1 if make else 0 :]
+    about = " ".join(function.__doc__.split())
+    FAMILIES[function.__name__.replace("_", "-")] = Family(make or function, numbers, about)
+    return make or function
 
 
 # Models. A model is its first state and its moves: from a state, pairs of a label and the state that it leads to. The
 # label i is internal. States are numbered as they are found.
+
+
+def model(first):
+    """Makes moves, a function of a state and numbers, a family; `first` has the first state, by the same numbers."""
+    return lambda moves: family(moves, lambda *numbers: explored(first(*numbers), lambda s: moves(s, *numbers)))
 
 
 def explored(first, moves):
@@ -64,79 +79,65 @@ def put(state, changes):
     return bytes(state)
 
 
-@family
-def philosophers(k):
+@model(bytes)
+def philosophers(s, k):
     """k dining philosophers (Dijkstra 1971): each sits down, takes the left fork, then the right one, eats, and puts
     the right one back first. Sitting down and eating are visible, forks are internal."""
     thinks, sits, has_left, has_both, eats, has_left_still = range(6)
     visible = {thinks: "SIT", has_both: "EAT"}
-
-    # The phases go round: the next one is 1 more.
-    def moves(s):
-        for p, phase in enumerate(s):
-            lacks_left = phase == sits and s[(p + 1) % k] in (has_both, eats)
-            lacks_right = phase == has_left and s[p - 1] >= has_left
-            if not lacks_left and not lacks_right:
-                yield f"{visible[phase]} !{p}" if phase in visible else "i", put(s, {p: (phase + 1) % 6})
-
-    return explored(bytes(k), moves)
+    for p, phase in enumerate(s):
+        lacks_left = phase == sits and s[(p + 1) % k] in (has_both, eats)
+        lacks_right = phase == has_left and s[p - 1] >= has_left
+        if not lacks_left and not lacks_right:
+            # The phases go round.
+            yield f"{visible[phase]} !{p}" if phase in visible else "i", put(s, {p: (phase + 1) % 6})
 
 
-@family
-def leader_election(k):
+# The first k bytes are the stations; after them, byte k + p is 1 more than what is on the link from p to p + 1.
+@model(lambda k: bytes(2 * k))
+def leader_election(s, k):
     """k stations in a ring of one-place links elect the one of the greatest number (Chang and Roberts 1979). Starting,
     being elected and the leader's signal are visible, messages are internal. k is no multiple of 7."""
     if k % 7 == 0:
         raise Wrong("stations would share their numbers")
     idle, active, passive, leads = range(4)
-    names = [(7 * p + 3) % k for p in range(k)]
-
-    # The first k bytes are the stations; after them, byte k + p is 1 more than what is on the link from p to p + 1.
-    def moves(s):
-        for p in range(k):
-            before, after = k + (p - 1) % k, k + p
-            if s[p] == idle and s[after] == 0:
-                yield f"START !{p}", put(s, {p: active, after: names[p] + 1})
-            if s[p] != idle and s[before] != 0:
-                name = s[before] - 1
-                if name == names[p]:
-                    if s[p] == active:
-                        yield f"LEADER !{p}", put(s, {before: 0, p: leads})
-                elif name < names[p] and s[p] != passive:
-                    yield "i", put(s, {before: 0})
-                elif s[after] == 0:
-                    yield "i", put(s, {before: 0, after: name + 1, p: leads if s[p] == leads else passive})
-            if s[p] == leads:
-                yield f"OPEN !{p}", s
-
-    return explored(bytes(2 * k), moves)
+    for p in range(k):
+        before, after, own = k + (p - 1) % k, k + p, (7 * p + 3) % k
+        if s[p] == idle and s[after] == 0:
+            yield f"START !{p}", put(s, {p: active, after: own + 1})
+        if s[p] != idle and s[before] != 0:
+            name = s[before] - 1
+            if name == own:
+                if s[p] == active:
+                    yield f"LEADER !{p}", put(s, {before: 0, p: leads})
+            elif name < own and s[p] != passive:
+                yield "i", put(s, {before: 0})
+            elif s[after] == 0:
+                yield "i", put(s, {before: 0, after: name + 1, p: leads if s[p] == leads else passive})
+        if s[p] == leads:
+            yield f"OPEN !{p}", s
 
 
-@family
-def token_ring(k):
+# The last byte is the place of the token.
+@model(lambda k: bytes(k + 1))
+def token_ring(s, k):
     """k stations pass a token around (Le Lann 1977), and the one that has it may enter. Wishing to, entering and
     leaving are visible, passing the token on is internal."""
     idle, waits, inside = range(3)
-
-    # The last byte is the place of the token.
-    def moves(s):
-        for p in range(k):
-            here = s[k] == p
-            if s[p] == idle:
-                yield f"WANT !{p}", put(s, {p: waits})
-                if here:
-                    yield "i", put(s, {k: (p + 1) % k})
-            elif s[p] == waits and here:
-                yield f"ENTER !{p}", put(s, {p: inside})
-            elif s[p] == inside:
-                yield f"LEAVE !{p}", put(s, {p: idle})
-
-    return explored(bytes(k + 1), moves)
+    for p in range(k):
+        here = s[k] == p
+        if s[p] == idle:
+            yield f"WANT !{p}", put(s, {p: waits})
+            if here:
+                yield "i", put(s, {k: (p + 1) % k})
+        elif s[p] == waits and here:
+            yield f"ENTER !{p}", put(s, {p: inside})
+        elif s[p] == inside:
+            yield f"LEAVE !{p}", put(s, {p: idle})
 
 
 class Protocol(NamedTuple):
-    """An alternating-bit protocol (Bartlett, Scantlebury and Wilkinson 1969) over channels of one place, each of which
-    may lose what it holds."""
+    """An alternating-bit protocol over channels of one place, each of which may lose what it holds."""
 
     sending: Optional[int] = None  # the value that the sender has
     bit: int = 0  # of the sender
@@ -146,71 +147,59 @@ class Protocol(NamedTuple):
     answer: Optional[int] = None  # the channel of acknowledgements: a bit
 
 
-@family
-def lossy_channels(k):
+@model(lambda k: (Protocol(), Protocol()))
+def lossy_channels(s, k):
     """Two alternating-bit protocols (Bartlett, Scantlebury and Wilkinson 1969) in series, for k values, over one-place
     channels that can lose what is in them. Putting in and getting out are visible, all else is internal."""
-
-    def moves(s):
-        left, right = s
-        for own in s:
-            now = lambda **new: (own._replace(**new), right) if own is left else (left, own._replace(**new))
-            if own is left and own.sending is None:
-                for value in range(k):
-                    yield f"PUT !{value}", now(sending=value)
-            if own is right and own.sending is None and left.delivering is not None:
-                yield "i", (left._replace(delivering=None), right._replace(sending=left.delivering))
-            if own is right and own.delivering is not None:
-                yield f"GET !{own.delivering}", now(delivering=None)
-            if own.sending is not None and own.message is None:
-                yield "i", now(message=(own.sending, own.bit))
-            if own.message is not None:
-                yield "i", now(message=None)
-                value, bit = own.message
-                if bit == own.awaited and own.delivering is None:
-                    yield "i", now(message=None, delivering=value, awaited=1 - bit)
-                elif bit != own.awaited and own.answer is None:
-                    yield "i", now(message=None, answer=bit)
-            if own.answer is not None:
-                yield "i", now(answer=None)
-                if own.answer == own.bit and own.sending is not None:
-                    yield "i", now(answer=None, sending=None, bit=1 - own.bit)
-
-    return explored((Protocol(), Protocol()), moves)
+    left, right = s
+    for own in s:
+        now = lambda **new: (own._replace(**new), right) if own is left else (left, own._replace(**new))
+        if own is left and own.sending is None:
+            for value in range(k):
+                yield f"PUT !{value}", now(sending=value)
+        if own is right and own.sending is None and left.delivering is not None:
+            yield "i", (left._replace(delivering=None), right._replace(sending=left.delivering))
+        if own is right and own.delivering is not None:
+            yield f"GET !{own.delivering}", now(delivering=None)
+        if own.sending is not None and own.message is None:
+            yield "i", now(message=(own.sending, own.bit))
+        if own.message is not None:
+            yield "i", now(message=None)
+            value, bit = own.message
+            if bit == own.awaited and own.delivering is None:
+                yield "i", now(message=None, delivering=value, awaited=1 - bit)
+            elif bit != own.awaited and own.answer is None:
+                yield "i", now(message=None, answer=bit)
+        if own.answer is not None:
+            yield "i", now(answer=None)
+            if own.answer == own.bit and own.sending is not None:
+                yield "i", now(answer=None, sending=None, bit=1 - own.bit)
 
 
-def one_place_buffers(k, values, put_in, get_out):
-    """A row of k buffers. A byte is 1 more than the place among the values of the one that it holds, or 0."""
-
-    def moves(s):
-        if s[0] == 0:
-            for held, value in enumerate(values, 1):
-                yield f"{put_in} !{value}", put(s, {0: held})
-        for p in range(k - 1):
-            if s[p] != 0 and s[p + 1] == 0:
-                yield "i", put(s, {p: 0, p + 1: s[p]})
-        if s[-1] != 0:
-            yield f"{get_out} !{values[s[-1] - 1]}", put(s, {k - 1: 0})
-
-    return explored(bytes(k), moves)
+def moves_in_a_row(s, values, put_in, get_out):
+    """The moves of a row of one-place buffers. A byte is 1 more than the place among the values of what is held, or 0."""
+    if s[0] == 0:
+        for held, value in enumerate(values, 1):
+            yield f"{put_in} !{value}", put(s, {0: held})
+    for p in range(len(s) - 1):
+        if s[p] != 0 and s[p + 1] == 0:
+            yield "i", put(s, {p: 0, p + 1: s[p]})
+    if s[-1] != 0:
+        yield f"{get_out} !{values[s[-1] - 1]}", put(s, {len(s) - 1: 0})
 
 
-@family
-def buffers(k):
+@model(bytes)
+def buffers(s, k):
     """A row of k one-place buffers for two values (Milner 1989). Putting in and getting out are visible, passing on is
     internal."""
-    return one_place_buffers(k, (0, 1), "PUT", "GET")
+    return moves_in_a_row(s, (0, 1), "PUT", "GET")
 
 
-@family
-def counters(k):
+@model(bytes)
+def counters(s, k):
     """k independent counters modulo 5; nothing is internal."""
-
-    def moves(s):
-        for p in range(k):
-            yield f"{'WRAP' if s[p] == 4 else 'INC'} !{p}", put(s, {p: (s[p] + 1) % 5})
-
-    return explored(bytes(k), moves)
+    for p, value in enumerate(s):
+        yield f"{'WRAP' if value == 4 else 'INC'} !{p}", put(s, {p: (value + 1) % 5})
 
 
 # Made systems, by their steps. The first state is the last one, unless a family says so.
@@ -469,23 +458,18 @@ def two_labels(n, a, c):
     yield from tops(own)
 
 
-def numbers_of(function, words):
-    wanted = list(inspect.signature(function).parameters)
-    if len(words) != len(wanted) or not all(word.isascii() and word.isdigit() and len(word) < 9 for word in words):
-        raise Wrong(f"it wants the numbers {' '.join(wanted)}")
-    numbers = [int(word) for word in words]
-    if any(number == 0 and name not in MAY_BE_NONE for name, number in zip(wanted, numbers)):
-        raise Wrong("0 is too small")
-    return numbers
-
-
 def system_of(words):
     """The system that the words ask for: a family and its numbers."""
-    function = FAMILIES.get(words[0])
-    if function is None:
+    if words[0] not in FAMILIES:
         raise Wrong("there is no such family")
+    make, names, _ = FAMILIES[words[0]]
+    if len(words) - 1 != len(names) or not all(re.fullmatch("[0-9]{1,8}", word) for word in words[1:]):
+        raise Wrong(f"it wants the numbers {' '.join(names)}")
+    numbers = [int(word) for word in words[1:]]
+    if any(number == 0 and name not in MAY_BE_NONE for name, number in zip(names, numbers)):
+        raise Wrong("0 is too small")
     try:
-        system = function(*numbers_of(function, words[1:]))
+        system = make(*numbers)
         system = system if isinstance(system, tuple) else made(system)
     except (IndexError, ValueError):
         # What does not fit in a byte of a state, or in a range.
@@ -504,9 +488,8 @@ def text_of(system):
 
 def listed():
     yield __doc__ + "\n"
-    for name, function in FAMILIES.items():
-        about = " ".join(function.__doc__.split())
-        yield f"  {name} {' '.join(inspect.signature(function).parameters)}\n      {about}\n"
+    for name, (_, numbers, about) in FAMILIES.items():
+        yield f"  {name} {' '.join(numbers)}\n      {about}\n"
 
 
 def main(words):
