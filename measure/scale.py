@@ -67,6 +67,7 @@ KINDS = {
     "chain": "a line of n states with one label",
 }
 IN_README = "leader election {}", "token ring {}", "lossy channels {}", "buffers {}", "random, 5 % internal"
+SAME_RULE = "signs every state in every round", "signs only what can have changed"
 SIZES = 8_000, 16_000, 32_000
 MADE = {  # rows of the third table: what the systems are, and their families
     "six others: cycles and lines of N inert steps with N labels, and N states that share N labels, nearly or not at all":
@@ -84,12 +85,11 @@ class Row(NamedTuple):
     rounds: Optional[int]
     seconds: Optional[float]
     megabytes: Optional[int]
-    every: Optional[float]
-    changed: Optional[float]
+    others: list  # the seconds of the yardsticks, or of other programs
 
     def text(self):
         spelled = lambda cell: "-" if cell is None else f"{cell:.2f}" if isinstance(cell, float) else str(cell)
-        return "\t".join(map(spelled, self)) + "\n"
+        return "\t".join(map(spelled, [*self[:-1], *self.others])) + "\n"
 
 
 def rows_of(text):
@@ -97,8 +97,8 @@ def rows_of(text):
     rows = {}
     for line in text.splitlines():
         system, relation, *cells = line.split("\t")
-        numbers = (None if cell == "-" else float(cell) if "." in cell else int(cell) for cell in cells)
-        rows[system, relation] = Row(system, relation, *numbers)
+        numbers = [None if cell == "-" else float(cell) if "." in cell else int(cell) for cell in cells]
+        rows[system, relation] = Row(system, relation, *numbers[:5], numbers[5:])
     return rows
 
 
@@ -169,8 +169,8 @@ def measured(programs, runs, system, relation):
     first, *others = [None if None in times else min(times) for times in found]
     seconds, megabytes, said = first or (None, None, "")
     rounds = int(re.search(r"rounds (\d+)", said)[1]) if first else None
-    others = [best and best[0] for best in others] + [None, None]
-    return Row(system, relation, states, transitions, rounds, seconds, megabytes, *others[:2])
+    others = [best and best[0] for best in others] + [None] * (2 - len(others))
+    return Row(system, relation, states, transitions, rounds, seconds, megabytes, others)
 
 
 def measure_all(program, runs):
@@ -250,12 +250,11 @@ def table(rows):
 
 def ratios(rows):
     """The second table: how many times as long as each yardstick, on the mean, and at most; of what takes a while."""
-    rules = {"every": "signs every state in every round", "changed": "signs only what can have changed"}
     lines = [line_of("One that", "Strong", "Branching"), "|---|--:|--:|"]
-    for column, rule in rules.items():
+    for column, rule in enumerate(SAME_RULE):
         found = {relation: [] for relation in RELATIONS}
         for _, row in of_kinds(rows):
-            other = getattr(row, column)
+            other = row.others[column]
             if row.seconds and other and other >= 0.1:
                 found[row.relation].append(row.seconds / other)
         if not all(found.values()):
