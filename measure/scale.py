@@ -55,7 +55,7 @@ SYSTEMS = {  # by kind, the largest last; {} in the name of a kind is the last n
     "internal cycle": [f"internal-cycle {n}" for n in (5_000, 10_000)],
     "chain": [f"chain {n}" for n in (2_000, 5_000, 10_000)],
 }
-KINDS = {
+KINDS = {  # what they are, where the name does not say it
     "philosophers {}": "k dining philosophers; taking and putting forks is internal",
     "leader election {}": "k stations in a ring (Chang and Roberts 1979); messages are internal",
     "token ring {}": "of k stations the one with the token may enter; passing it on is internal",
@@ -182,8 +182,8 @@ def measure_all(program, runs):
     # What was interrupted may have ended within a line.
     lines = [line for line in lines if line.endswith("\n")] if first == about else []
     rows = rows_of("".join(lines))
-    with open(kept, "w") as out:
-        out.writelines([about, *lines])
+    write(kept, "".join([about, *lines]))
+    with open(kept, "a") as out:
         for system, relation in wanted():
             if (system, relation) not in rows:
                 rows[system, relation] = measured(programs, runs, system, relation)
