@@ -114,7 +114,9 @@ def drawn(system, look, fills):
     words = [look.engine, "-Tsvg"]
     done = subprocess.run(words, input="\n".join([*graph, "}"]), check=True, capture_output=True, text=True)
     wide, high, elements = re.search(r'<svg width="(\d+)pt" height="(\d+)pt".*?>(.*)</svg>', done.stdout, re.S).groups()
-    return int(wide), int(high), re.sub(r'<!--.*?-->\n|<title>.*?</title>\n| id="\w+"| class="\w+"', "", elements)
+    # Without names, and with a state or a step on each line.
+    elements = re.sub(r'<!--.*?-->\n|<title>.*?</title>\n| id="\w+"| class="\w+"', "", elements)
+    return int(wide), int(high), re.sub(r"\n(?!<g>)", "", elements)
 
 
 def picture(program, kind):
