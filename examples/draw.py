@@ -95,9 +95,10 @@ def matches(program, relation, system, quotient):
 
 def drawn(system, look, fills):
     """The width, the height and the elements of the picture of a system."""
+    font = f'fontname="sans-serif" fontsize={look.font or 1}'
     graph = [
-        f'digraph {{ {look.settings} node [fixedsize=true shape=circle style=filled width={look.size} fontname="sans-serif"'
-        f' fontsize={look.font or 1}] edge [arrowsize=0.6 len=0.6 fontname="sans-serif" fontsize={look.font or 1}]'
+        f"digraph {{ {look.settings} edge [arrowsize=0.6 len=0.6 {font}]",
+        f"node [fixedsize=true shape=circle style=filled width={look.size} {font}]",
     ]
     for state in range(system.states):
         width, words = 3 if state == system.first else 1, state if look.font else ""

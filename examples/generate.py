@@ -37,7 +37,7 @@ def alternating_bit(s, bits):
 
 
 def mutual_exclusion(s):
-    """Peterson's algorithm for two processes. A state: the places of both in the program, their flags, whose turn it is."""
+    """Peterson's algorithm for two processes. A state: both places in the program, both flags, whose turn it is."""
     labels = "ask", None, None, "enter", "leave", None
     raises_flag, gives_turn, waits, drops_flag = 1, 2, 3, 5
     for me, other in ((0, 1), (1, 0)):

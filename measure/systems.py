@@ -177,7 +177,7 @@ def lossy_channels(s, k):
 
 
 def moves_in_a_row(s, values, put_in, get_out):
-    """The moves of a row of one-place buffers. A byte is 1 more than the place among the values of what is held, or 0."""
+    """The moves of a row of one-place buffers. A byte is 0, or tells which of the values is held, from 1 up."""
     if s[0] == 0:
         for held, value in enumerate(values, 1):
             yield f"{put_in} !{value}", put(s, {0: held})
@@ -236,7 +236,7 @@ def tops(states):
 
 
 def collectors(first, rows):
-    """States from the first on, each with inert steps to some and some labels of its own, and a state that leads to all."""
+    """States from the first on, each with inert steps and labels of its own, and a state that leads to all of them."""
     rows = list(rows)
     for s, (targets, labels) in enumerate(rows, first):
         yield from inert(s, *targets)
@@ -266,7 +266,10 @@ def random_system(states, transitions, labels, percent):
     # A number for each transition: 10 million of them fit into memory, and are sorted soon.
     steps = [0] * transitions
     for k in range(transitions):
-        source, target = (int(draw() * (k + 1)), k + 1) if k + 1 < states else (int(draw() * states), int(draw() * states))
+        if k + 1 < states:
+            source, target = int(draw() * (k + 1)), k + 1
+        else:
+            source, target = int(draw() * states), int(draw() * states)
         label = 0 if draw() * 100 < percent else 1 + int(draw() * labels)
         steps[k] = (source << 64) + (label << 32) + target
     steps.sort()

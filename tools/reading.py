@@ -14,12 +14,17 @@ TOP = Path(__file__).resolve().parent.parent
 PAGE = TOP / "docs" / "reading.md"
 BEGIN, END = "<!-- made by tools/reading.py -->", "<!-- up to here -->"
 # Each call has its crate; a call rests on all that its clauses cite but the words of the calls that stand after it.
-CONTRACTS = [("autbis", "run_min", []), ("autbis", "run_cmp", []), ("words", "command", []), ("autbis", "main_program", ["command"])]
+CONTRACTS = [
+    ("autbis", "run_min", []),
+    ("autbis", "run_cmp", []),
+    ("words", "command", []),
+    ("autbis", "main_program", ["command"]),
+]
 TRAITS = [("autfmt", "Source"), ("autfmt", "Sink"), ("lts", "Meter"), ("autbis", "Opener")]
 VIEWS = [("autfmt", "Limits"), ("autfmt", "Hidden")]
 USE = re.compile(r"\s*(?:pub )?(?:ghost )?use Rattle\.([\w.]+)(?:\.\{(.*?)\}| as (\S+))?;?$")
 HEAD = re.compile(r"(?:abbrev|unfoldable|data|record|pub)\s+(?:(?:pub|data|record)\s+)*(\S+)")
-# What has no other documentation than a first paragraph of `///`.
+# A type or a constant, and what may stand before it.
 ITEM = r"(?:pub(?:\(crate\))? )?(?:enum|struct|const)"
 
 
@@ -70,8 +75,9 @@ class Module:
 
 def crates():
     """The crates of crates.txt, each after those that it stands on."""
-    lines = [line.split(":") for line in (TOP / "crates.txt").read_text().splitlines() if ":" in line and line[0] != "#"]
-    needs, found = {name: rest.split() for name, rest in lines}, []
+    lines = (TOP / "crates.txt").read_text().splitlines()
+    pairs = (line.split(":") for line in lines if ":" in line and line[0] != "#")
+    needs, found = {name: rest.split() for name, rest in pairs}, []
 
     def add(name):
         for other in needs[name]:
@@ -99,7 +105,7 @@ except OSError as error:
 
 
 def closure(roots):
-    """The definitions that these and those that they cite rest on, and the types and constants of the code among them."""
+    """The definitions that these rest on, with those that they cite, and the types and constants of the code."""
     seen, code, waiting = set(), {}, list(roots)
     while waiting:
         module, name = waiting.pop()
@@ -158,7 +164,8 @@ def table_of(definitions, code):
     for module in MODULES.values():
         here = [(name, said) for name, (said, _) in module.definitions.items() if (module.name, name) in definitions]
         if here:
-            out += [f"### {place(module.path)}", "", *wrapped(module.title), "", *table(("Definition", "What it says"), here)]
+            listed = table(("Definition", "What it says"), here)
+            out += [f"### {place(module.path)}", "", *wrapped(module.title), "", *listed]
     items = [(name, Item(crate, name, ITEM)) for crate, _, name in code]
     if items:
         said = [(name, f"{item.said} ({item.place})") for name, item in items]
