@@ -1,215 +1,122 @@
 #!/usr/bin/env python3
-"""Writes the example systems of this folder, each as NAME.aut, and hide lists as NAME.hide.
+"""Writes the example systems, each as NAME.aut, and hide lists as NAME.hide, into the folder of this script, or FOLDER.
 
-A system is its first state and a function from a state to its steps: pairs of a label and a state. The label i is the
-internal action.
-
-usage: generate.py
+usage: generate.py [FOLDER]
 """
 
-import pathlib
 import sys
+from pathlib import Path
 
-HERE = pathlib.Path(__file__).resolve().parent
-
-
-def alternating_bit(data=(1, 2, 3), bits=2):
-    """The alternating-bit protocol over two channels of one place, each of which may lose what it holds. With one bit
-    in place of two, 0, neither side ever turns its bit.
-
-    A state: what the sender is sending or None, its bit, the message channel, the bit that the receiver awaits, the
-    message that it is about to deliver or None, the channel of acknowledgements.
-    """
-
-    def steps(state):
-        sending, bit, message, awaited, delivering, answer = state
-        if sending is None:
-            for d in data:
-                yield f"send !{d}", (d, bit, message, awaited, delivering, answer)
-        elif message is None:
-            yield f"put !{sending} !{bit}", (sending, bit, (sending, bit), awaited, delivering, answer)
-        if message is not None:
-            yield "lose_message", (sending, bit, None, awaited, delivering, answer)
-            if delivering is None:
-                if message[1] == awaited:
-                    turned = (awaited + 1) % bits
-                    yield f"get !{message[0]} !{message[1]}", (sending, bit, None, turned, message[0], answer)
-                elif answer is None:  # seen before: say so again
-                    yield f"answer_again !{message[1]}", (sending, bit, None, awaited, None, message[1])
-        if delivering is not None and answer is None:
-            yield f"receive !{delivering}", (sending, bit, message, awaited, None, (awaited - 1) % bits)
-        if answer is not None:
-            yield "lose_answer", (sending, bit, message, awaited, delivering, None)
-            if sending is not None and answer == bit:
-                yield f"answered !{answer}", (None, (bit + 1) % bits, message, awaited, delivering, None)
-            else:  # of an earlier message
-                yield f"pass_over !{answer}", (sending, bit, message, awaited, delivering, None)
-
-    return (None, 0, None, 0, None, None), steps
+HERE = Path(__file__).resolve().parent
+sys.path.insert(0, str(HERE.parent / "measure"))
+from systems import Protocol, explored, moves_in_a_row, put, text_of  # noqa: E402
 
 
-def one_place_buffer(data=(1, 2, 3)):
-    """A buffer of one place, which is what a user of the alternating-bit protocol sees. A state: what the buffer holds or None."""
+def alternating_bit(s, bits):
+    """The alternating-bit protocol. With one bit in place of two, 0, neither side ever turns its bit."""
+    if s.sending is None:
+        for value in (1, 2, 3):
+            yield f"send !{value}", s._replace(sending=value)
+    elif s.message is None:
+        yield f"put !{s.sending} !{s.bit}", s._replace(message=(s.sending, s.bit))
+    if s.message is not None:
+        value, bit = s.message
+        yield "lose_message", s._replace(message=None)
+        if s.delivering is None and bit == s.awaited:
+            yield f"get !{value} !{bit}", s._replace(message=None, awaited=(bit + 1) % bits, delivering=value)
+        elif s.delivering is None and s.answer is None:  # seen before: say so again
+            yield f"answer_again !{bit}", s._replace(message=None, answer=bit)
+    if s.delivering is not None and s.answer is None:
+        yield f"receive !{s.delivering}", s._replace(delivering=None, answer=(s.awaited - 1) % bits)
+    if s.answer is not None:
+        yield "lose_answer", s._replace(answer=None)
+        if s.sending is not None and s.answer == s.bit:
+            yield f"answered !{s.answer}", s._replace(answer=None, sending=None, bit=(s.bit + 1) % bits)
+        else:  # of an earlier message
+            yield f"pass_over !{s.answer}", s._replace(answer=None)
 
-    def steps(held):
-        if held is None:
-            for d in data:
-                yield f"send !{d}", d
-        else:
-            yield f"receive !{held}", None
 
-    return None, steps
-
-
-def mutual_exclusion():
+def mutual_exclusion(s):
     """Peterson's algorithm for two processes. A state: both places in the program, both flags, whose turn it is."""
-
-    def steps(state):
-        places, flags, turn = state
-        for me in (0, 1):
-            put = lambda pair, value: (value, pair[1]) if me == 0 else (pair[0], value)
-            place, other = places[me], 1 - me
-            if place == "rest":
-                yield f"ask !{me}", (put(places, "flag"), flags, turn)
-            elif place == "flag":
-                yield "i", (put(places, "yield"), put(flags, True), turn)
-            elif place == "yield":
-                yield "i", (put(places, "wait"), flags, other)
-            elif place == "wait" and (not flags[other] or turn == me):
-                yield f"enter !{me}", (put(places, "inside"), flags, turn)
-            elif place == "inside":
-                yield f"leave !{me}", (put(places, "end"), flags, turn)
-            elif place == "end":
-                yield "i", (put(places, "rest"), put(flags, False), turn)
-
-    return (("rest", "rest"), (False, False), 0), steps
+    labels = "ask", None, None, "enter", "leave", None
+    raises_flag, gives_turn, waits, drops_flag = 1, 2, 3, 5
+    for me, other in ((0, 1), (1, 0)):
+        place = s[me]
+        changed = {raises_flag: {2 + me: 1}, gives_turn: {4: other}, drops_flag: {2 + me: 0}}.get(place, {})
+        if place != waits or s[2 + other] == 0 or s[4] == me:
+            # The places go round.
+            yield f"{labels[place]} !{me}" if labels[place] else "i", put(s, {me: (place + 1) % 6, **changed})
 
 
-def dining_philosophers(count=9):
-    """Philosophers at a round table, each of whom takes the left fork first. A state: what each of them does. The
-    labels do not say who it was."""
-
-    def steps(state):
-        def at(k, value):
-            return state[:k] + (value,) + state[k + 1 :]
-
-        for k in range(count):
-            left, right = state[k - 1], state[(k + 1) % count]
-            if state[k] == "thinks" and left != "eats":
-                yield "left", at(k, "waits")
-            elif state[k] == "waits" and right == "thinks":
-                yield "right", at(k, "eats")
-            elif state[k] == "eats":
-                yield "down", at(k, "thinks")
-
-    return ("thinks",) * count, steps
+def dining_philosophers(s):
+    """Philosophers at a round table, each of whom takes the left fork first. The labels do not say who it was."""
+    thinks, waits, eats = range(3)
+    for p, phase in enumerate(s):
+        if phase == thinks and s[p - 1] != eats:
+            yield "left", put(s, {p: waits})
+        elif phase == waits and s[(p + 1) % len(s)] == thinks:
+            yield "right", put(s, {p: eats})
+        elif phase == eats:
+            yield "down", put(s, {p: thinks})
 
 
-def buffer_chain(places=8):
-    """A chain of one-place buffers for the values 0 and 1. A value goes on from place to place by internal steps."""
-
-    def steps(state):
-        for value in (0, 1):
-            if state[0] is None:
-                yield f"put !{value}", (value,) + state[1:]
-        for k in range(places - 1):
-            if state[k] is not None and state[k + 1] is None:
-                yield "i", state[:k] + (None, state[k]) + state[k + 2 :]
-        if state[-1] is not None:
-            yield f"get !{state[-1]}", state[:-1] + (None,)
-
-    return (None,) * places, steps
+def coffee_machine(s, choices):
+    """A machine for coffee and tea with three cups that it goes round through. A state: the cup, and what the coin has
+    left to choose from or what is made. The coin makes one of the choices."""
+    cup, place = s
+    if place == "idle":
+        for choice in choices:
+            yield "coin", (cup, choice)
+    elif place in ("coffee", "tea"):
+        yield place, ((cup + 1) % 3, "idle")
+    else:
+        for kind in place:
+            yield f"press_{kind}", (cup, kind)
 
 
-def coffee_machine(chooses, cups=3):
-    """A machine for coffee and tea with some cups that it goes round through. The drinker chooses, or the coin does."""
-
-    def steps(state):
-        cup, place = state
-        if place == "idle" and chooses:
-            yield "coin", (cup, "paid")
-        elif place == "idle":
-            yield "coin", (cup, "for coffee")
-            yield "coin", (cup, "for tea")
-        if place in ("paid", "for coffee"):
-            yield "press_coffee", (cup, "coffee")
-        if place in ("paid", "for tea"):
-            yield "press_tea", (cup, "tea")
-        if place in ("coffee", "tea"):
-            yield place, ((cup + 1) % cups, "idle")
-
-    return (0, "idle"), steps
-
-
-def car_park(places=11):
+def car_park(s):
     """A car park. A state: which places are taken. The labels say that a car comes or goes, and not to which place."""
-
-    def steps(state):
-        for k in range(places):
-            yield "goes" if state >> k & 1 else "comes", state ^ 1 << k
-
-    return 0, steps
-
-
-def spelled(label):
-    """A label as a file has it: between quotation marks where it is no plain word."""
-    return label if label.replace("_", "").isalnum() else f'"{label}"'
-
-
-def explored(first, steps):
-    """The transitions between the states that steps reach, numbered as they are met, and how many these are."""
-    numbers, pending, transitions = {first: 0}, [first], []
-    for state in pending:
-        for label, target in steps(state):
-            if target not in numbers:
-                numbers[target] = len(numbers)
-                pending.append(target)
-            transitions.append((numbers[state], label, numbers[target]))
-    return transitions, len(numbers)
-
-
-def text_of(transitions, states):
-    """The text of the system that begins in state 0."""
-    lines = [f"({source}, {spelled(label)}, {target})\n" for source, label, target in transitions]
-    return f"des (0, {len(lines)}, {states})\n" + "".join(lines)
-
-
-def hide_list(transitions, seen):
-    """The hide list of each label that is not one of those that are seen."""
-    labels = {label for _, label, _ in transitions if label not in seen}
-    return "".join(f"{spelled(label)}\n" for label in sorted(labels))
+    for p, taken in enumerate(s):
+        yield "goes" if taken else "comes", put(s, {p: 1 - taken})
 
 
 SYSTEMS = {
-    "alternating-bit": alternating_bit(),
-    "buffer-chain": buffer_chain(),
-    "car-park": car_park(),
-    "coffee-chosen-by-coin": coffee_machine(chooses=False),
-    "coffee-machine": coffee_machine(chooses=True),
-    "dining-philosophers": dining_philosophers(),
-    "mutual-exclusion": mutual_exclusion(),
-    "one-place-buffer": one_place_buffer(),
-    "unturned-bit": alternating_bit(bits=1),
+    "alternating-bit": explored(Protocol(), lambda s: alternating_bit(s, bits=2)),
+    # A value goes on from place to place by internal steps.
+    "buffer-chain": explored(bytes(8), lambda s: moves_in_a_row(s, (0, 1), "put", "get")),
+    "car-park": explored(bytes(11), car_park),
+    "coffee-chosen-by-coin": explored((0, "idle"), lambda s: coffee_machine(s, [("coffee",), ("tea",)])),
+    "coffee-machine": explored((0, "idle"), lambda s: coffee_machine(s, [("coffee", "tea")])),
+    "dining-philosophers": explored(bytes(9), dining_philosophers),
+    "mutual-exclusion": explored(bytes(5), mutual_exclusion),
+    # What a user of the alternating-bit protocol sees.
+    "one-place-buffer": explored(bytes(1), lambda s: moves_in_a_row(s, (1, 2, 3), "send", "receive")),
+    "unturned-bit": explored(Protocol(), lambda s: alternating_bit(s, bits=1)),
 }
 
-# hide lists: their names, the system whose labels they hide, and what is still seen
+# Hide lists of the labels of the alternating-bit protocol: what is still seen.
 HIDE_LISTS = {
-    "alternating-bit": ("alternating-bit", ("send !1", "send !2", "send !3", "receive !1", "receive !2", "receive !3")),
-    "value-1": ("alternating-bit", ("send !1", "receive !1")),
+    "alternating-bit": ("send !1", "send !2", "send !3", "receive !1", "receive !2", "receive !3"),
+    "value-1": ("send !1", "receive !1"),
 }
 
 
-def write(name, text):
-    with open(HERE / name, "w", newline="\n") as out:
-        out.write(text)
+def main():
+    folder = Path(sys.argv[1]) if sys.argv[1:] else HERE
+    if len(sys.argv) > 2 or not folder.is_dir():
+        print(__doc__, file=sys.stderr)
+        sys.exit(3)
+    bare = lambda label: label.strip('"')
+    *_, rows = SYSTEMS["alternating-bit"]
+    labels = sorted({line.split(", ")[1] for row in rows for line in row.splitlines()}, key=bare)
+    try:
+        for name, system in SYSTEMS.items():
+            (folder / f"{name}.aut").write_text("".join(text_of(system)))
+        for name, seen in HIDE_LISTS.items():
+            (folder / f"{name}.hide").write_text("".join(f"{label}\n" for label in labels if bare(label) not in seen))
+    except OSError as error:
+        sys.exit(f"generate.py: {error}")
 
 
 if __name__ == "__main__":
-    if len(sys.argv) > 1:
-        print(__doc__, file=sys.stderr)
-        sys.exit(3)
-    for name, (first, steps) in SYSTEMS.items():
-        transitions, states = explored(first, steps)
-        write(f"{name}.aut", text_of(transitions, states))
-    for name, (system, seen) in HIDE_LISTS.items():
-        write(f"{name}.hide", hide_list(explored(*SYSTEMS[system])[0], seen))
+    main()

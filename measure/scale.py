@@ -1,21 +1,25 @@
 #!/usr/bin/env python3
-"""Makes systems, measures the program on them beside the yardstick, and draws what was measured for docs/scale.md.
+"""Makes systems, measures the program on them beside the yardstick, and writes what was measured into the pages.
 
-usage: measure/scale.py PROGRAM [--runs N]     all systems of the page, N times (4): writes measure/scale.tsv, and draws
+usage: measure/scale.py PROGRAM [--runs N]     all systems of docs/scale.md, N times (4): writes measure/scale.tsv, and
+                                               draws; after an interruption, a call with the same words goes on
        measure/scale.py PROGRAM.. [--runs N] SYSTEM..
                                                those systems alone, as "grid 100": prints their rows, and writes nothing
-       measure/scale.py --draw                 the tables and the picture of docs/scale.md, from measure/scale.tsv
+       measure/scale.py --draw                 the tables and the picture of docs/scale.md, and the rows of README,
+                                               from measure/scale.tsv
 
 A SYSTEM is the words of measure/systems.py, which lists them, in one word. Further programs that take the words of
-`autbis` stand in the place of the yardstick. Systems and the built yardstick are kept in measure/out.
+`autbis` stand in the place of the yardstick. Systems, the built yardstick and rows are kept in measure/out.
 
-A row of scale.tsv has the name, states, transitions, relation, rounds, seconds of processor time (the least of N runs,
-in turn with the others'), megabytes at most, and the seconds of the yardstick that signs every state in every round
-and of the one that does not. What took more than a minute has `-`, and so does a yardstick that is not built. Fewer
-megabytes than this script takes itself are not seen. All programs have to write the same.
+A row of scale.tsv has a system, the relation, states, transitions, rounds, seconds of processor time (the least of N
+runs, in turn with the others'), megabytes at most, and the seconds of the yardstick that signs every state in every
+round and of the one that does not. What took more than a minute has `-`, and so does a yardstick that is not built.
+Fewer megabytes than this script takes itself are not seen. All programs have to write the same.
 """
 
 import argparse
+import filecmp
+import hashlib
 import math
 import os
 import re
@@ -23,44 +27,47 @@ import resource
 import statistics
 import subprocess
 import sys
-import zlib
+import tempfile
+from datetime import date
 from pathlib import Path
+from typing import Callable, NamedTuple, Optional
 
 HERE = Path(__file__).resolve().parent
-ROWS, PAGE, PICTURE = HERE / "scale.tsv", HERE.parent / "docs" / "scale.md", HERE.parent / "docs" / "scale.svg"
-KEPT, YARDSTICK = HERE / "out", HERE / "yardstick"
+TOP, KEPT, ROWS = HERE.parent, HERE / "out", HERE / "scale.tsv"
+PAGE, PICTURE, README = TOP / "docs" / "scale.md", TOP / "docs" / "scale.svg", TOP / "README.md"
 LONGEST = 60  # seconds
 LEAST = 15  # megabytes, about what this script takes
 RELATIONS = {"strong": "#2166ac", "branching": "#d6604d"}
 GREY = "#555"
+SIDE = 300  # of a plot
 FAR = 3  # times more or less than the line says, for a name
-SYSTEMS = {  # the name of a system on the page, and its words for systems.py
-    **{f"philosophers {k}": f"philosophers {k}" for k in (6, 7, 8)},
-    **{f"leader election {k}": f"leader-election {k}" for k in (11, 13)},
-    **{f"token ring {k}": f"token-ring {k}" for k in (10, 13, 15)},
-    **{f"lossy channels {k}": f"lossy-channels {k}" for k in (3, 6, 9)},
-    **{f"buffers {k}": f"buffers {k}" for k in (9, 11, 12)},
-    **{f"counters {k}": f"counters {k}" for k in (6, 7, 8)},
-    "random, sparse, small": "random-system 100000 100000 20 20",
-    "random, sparse": "random-system 1000000 1000000 20 20",
-    "random, 5 % internal": "random-system 1000000 10000000 20 5",
-    "random, 20 % internal": "random-system 1000000 10000000 20 20",
-    "random, 30 % internal, small": "random-system 25000 100000 5 30",
-    "random, 30 % internal": "random-system 250000 1000000 5 30",
-    **{f"internal cycle {n}": f"internal-cycle {n}" for n in (5000, 10000)},
-    **{f"chain {n}": f"chain {n}" for n in (2000, 5000, 10000)},
+SYSTEMS = {  # by kind, the largest last; {} in the name of a kind is the last number
+    "philosophers {}": [f"philosophers {k}" for k in (6, 7, 8)],
+    "leader election {}": [f"leader-election {k}" for k in (11, 13)],
+    "token ring {}": [f"token-ring {k}" for k in (10, 13, 15)],
+    "lossy channels {}": [f"lossy-channels {k}" for k in (3, 6, 9)],
+    "buffers {}": [f"buffers {k}" for k in (9, 11, 12)],
+    "counters {}": [f"counters {k}" for k in (6, 7, 8)],
+    "random, sparse": [f"random-system {n} {n} 20 20" for n in (100_000, 1_000_000)],
+    "random, 5 % internal": ["random-system 1000000 10000000 20 5"],
+    "random, 20 % internal": ["random-system 1000000 10000000 20 20"],
+    "random, 30 % internal": [f"random-system {n} {4 * n} 5 30" for n in (25_000, 250_000)],
+    "internal cycle": [f"internal-cycle {n}" for n in (5_000, 10_000)],
+    "chain": [f"chain {n}" for n in (2_000, 5_000, 10_000)],
 }
-KINDS = {  # what systems of a name are; a number after it is k or n
-    "philosophers": "k dining philosophers; taking and putting forks is internal",
-    "leader election": "k stations in a ring (Chang and Roberts 1979); messages are internal",
-    "token ring": "of k stations the one with the token may enter; passing it on is internal",
-    "lossy channels": "two alternating-bit protocols in series, for k values; all but the ends is internal",
-    "buffers": "a row of k one-place buffers for two values; passing one on is internal",
-    "counters": "k independent counters modulo 5; nothing is internal",
+KINDS = {  # what they are, where the name does not say it
+    "philosophers {}": "k dining philosophers; taking and putting forks is internal",
+    "leader election {}": "k stations in a ring (Chang and Roberts 1979); messages are internal",
+    "token ring {}": "of k stations the one with the token may enter; passing it on is internal",
+    "lossy channels {}": "two alternating-bit protocols in series, for k values; all but the ends is internal",
+    "buffers {}": "a row of k one-place buffers for two values; passing one on is internal",
+    "counters {}": "k independent counters modulo 5; nothing is internal",
     "random, sparse": "one transition a state, 20 % internal: each from a random earlier state",
     "internal cycle": "a cycle of n internal steps, and from each state a visible step to the end",
     "chain": "a line of n states with one label",
 }
+IN_README = "leader election {}", "token ring {}", "lossy channels {}", "buffers {}", "random, 5 % internal"
+SAME_RULE = "signs every state in every round", "signs only what can have changed"
 SIZES = 8_000, 16_000, 32_000
 MADE = {  # rows of the third table: what the systems are, and their families
     "six others: cycles and lines of N inert steps with N labels, and N states that share N labels, nearly or not at all":
@@ -68,35 +75,53 @@ MADE = {  # rows of the third table: what the systems are, and their families
     "two states with N labels and one more; N states that lead to each, and show the other's one and a new label": ("twins",),
     "a line of N inert steps with a label for each state, and N states with inert steps to two states of it": ("line-by-twos",),
 }  # fmt: skip
-SAME_RULE = ("signs every state in every round", "signs only what can have changed")
 
 
-def started(words, **streams):
-    """A process that is ended after LONGEST seconds of processor time."""
+class Row(NamedTuple):
+    system: str
+    relation: str
+    states: int
+    transitions: int
+    rounds: Optional[int]
+    seconds: Optional[float]
+    megabytes: Optional[int]
+    others: list  # the seconds of the yardsticks, or of other programs
+
+    def text(self):
+        spelled = lambda cell: "-" if cell is None else f"{cell:.2f}" if isinstance(cell, float) else str(cell)
+        return "\t".join(map(spelled, [*self[:-1], *self.others])) + "\n"
+
+
+def rows_of(text):
+    """The rows in the text of a file like scale.tsv, by their systems and relations."""
+    rows = {}
+    for line in text.splitlines():
+        system, relation, *cells = line.split("\t")
+        numbers = [None if cell == "-" else float(cell) if "." in cell else int(cell) for cell in cells]
+        rows[system, relation] = Row(system, relation, *numbers[:5], numbers[5:])
+    return rows
+
+
+def run(words, out=subprocess.DEVNULL):
+    """The processor seconds, the megabytes and what was said of one run; None if it took too long."""
     bounded = lambda: resource.setrlimit(resource.RLIMIT_CPU, (LONGEST, LONGEST))
-    return subprocess.Popen(words, stdin=subprocess.DEVNULL, preexec_fn=bounded, **streams)
-
-
-def run(words):
-    """The processor seconds, the megabytes and what was said of one run; nothing if it took too long."""
-    process = started(words, stdout=subprocess.DEVNULL, stderr=subprocess.PIPE)
+    process = subprocess.Popen(words, stdin=subprocess.DEVNULL, stdout=out, stderr=subprocess.PIPE, preexec_fn=bounded)
     said = process.stderr.read().decode()
     _, status, used = os.wait4(process.pid, 0)
     process.returncode = os.waitstatus_to_exitcode(status)
     if process.returncode > 0:
-        sys.exit(f"{' '.join(words)}: {said}")
-    return () if process.returncode else (used.ru_utime + used.ru_stime, used.ru_maxrss / 1024, said)
+        sys.exit(f"measure/scale.py: {' '.join(words)}: status {process.returncode}: {said}")
+    return None if process.returncode else (used.ru_utime + used.ru_stime, round(used.ru_maxrss / 1024), said)
 
 
-def made(words):
+def made(system):
     """The file of a system, written now if it is not kept."""
-    file = KEPT / f"{words.replace(' ', '-')}.aut"
+    file = KEPT / f"{system.replace(' ', '-')}.aut"
     if not file.exists():
-        KEPT.mkdir(exist_ok=True)
         beside = file.with_suffix(".new")
         # In a process of its own, since what this one takes is the least that is seen of others.
         with open(beside, "wb") as out:
-            status = subprocess.run([sys.executable, HERE / "systems.py", *words.split()], stdout=out).returncode
+            status = subprocess.run([sys.executable, HERE / "systems.py", *system.split()], stdout=out).returncode
         if status != 0:
             beside.unlink()
             sys.exit(1)
@@ -106,280 +131,280 @@ def made(words):
 
 def yardsticks():
     """The words of the yardstick's two ways, once it is built."""
-    target = KEPT / "target"
-    cargo = "cargo", "build", "--release", "--offline", "--quiet", "--manifest-path", YARDSTICK / "Cargo.toml", "--target-dir", target
+    cargo = ["cargo", "build", "--release", "--offline", "--quiet", "--target-dir", KEPT / "target"]
     try:
-        subprocess.run(cargo, check=True)
+        subprocess.run([*cargo, "--manifest-path", HERE / "yardstick" / "Cargo.toml"], check=True)
     except (OSError, subprocess.CalledProcessError) as error:
         print(f"measure/scale.py: without a yardstick: {error}", file=sys.stderr)
         return []
-    built = str(target / "release" / "yardstick")
+    built = str(KEPT / "target" / "release" / "yardstick")
     return [[built, "min", "--every"], [built, "min"]]
 
 
-def digest(words):
-    """A checksum of what a program writes; None if that takes too long."""
-    found = 0
-    with started(words, stdout=subprocess.PIPE) as process:
-        while part := process.stdout.read(1 << 16):
-            found = zlib.crc32(part, found)
-    if process.returncode > 0:
-        sys.exit(f"measure/scale.py: {' '.join(words)}: status {process.returncode}")
-    return None if process.returncode else found
+def check_texts(system, calls):
+    """Ends if two of these write different texts."""
+    with tempfile.TemporaryDirectory(dir=KEPT) as work:
+        texts = []
+        for call in calls:
+            text = f"{work}/{len(texts)}"
+            with open(text, "wb") as out:
+                texts += [text] if run(call, out) else []
+            if texts and not filecmp.cmp(texts[0], texts[-1], shallow=False):
+                sys.exit(f"measure/scale.py: {system}: another text: {' '.join(call)}")
 
 
-def measured(programs, runs, name, file, relation):
-    """A row of scale.tsv."""
+def measured(programs, runs, system, relation):
+    file = made(system)
     with open(file) as text:
-        _, transitions, states = re.findall(r"\d+", text.readline())
+        _, transitions, states = map(int, re.findall(r"\d+", text.readline()))
     calls = [[*program, "--relation", relation, str(file)] for program in programs]
-    if len({digest(call) for call in calls} - {None}) > 1:
-        sys.exit(f"measure/scale.py: {name}, {relation}: the programs write different texts")
-    best = [None] * len(calls)
+    check_texts(system, calls)
+    calls[0].append("--stats")
+    found = [[] for _ in calls]
     for _ in range(runs):
-        for k, call in enumerate(calls):
+        for call, times in zip(calls, found):
             # Once too long, not again.
-            if best[k] != ():
-                found = run([*call, "--stats"] if k == 0 else call)
-                best[k] = found and min(best[k] or found, found)
-    return name, states, transitions, relation, *cells(best[0]), *(f"{found[0]:.2f}" if found else "-" for found in best[1:])
+            if None not in times:
+                times.append(run(call))
+    first, *others = [None if None in times else min(times) for times in found]
+    seconds, megabytes, said = first or (None, None, "")
+    rounds = int(re.search(r"rounds (\d+)", said)[1]) if first else None
+    others = [best and best[0] for best in others] + [None] * (2 - len(others))
+    return Row(system, relation, states, transitions, rounds, seconds, megabytes, others)
 
 
-def cells(found):
-    if not found:
-        return "-", "-", "-"
-    seconds, megabytes, said = found
-    return said.split()[said.split().index("rounds") + 1], f"{seconds:.2f}", f"{megabytes:.0f}"
+def measure_all(program, runs):
+    """Writes scale.tsv with rows of all systems, and draws. Each row is kept in measure/out until then, for a next call."""
+    programs = [[program, "min"], *yardsticks()]
+    kept = KEPT / "rows.tsv"
+    about = f"# {hashlib.sha256(Path(program).read_bytes()).hexdigest()} {len(programs)} programs, {runs} runs\n"
+    first, *lines = (kept.read_text() if kept.exists() else "").splitlines(keepends=True) or [""]
+    # What was interrupted may have ended within a line.
+    lines = [line for line in lines if line.endswith("\n")] if first == about else []
+    rows = rows_of("".join(lines))
+    write(kept, "".join([about, *lines]))
+    with open(kept, "a") as out:
+        for system, relation in wanted():
+            if (system, relation) not in rows:
+                rows[system, relation] = measured(programs, runs, system, relation)
+                print(rows[system, relation].text(), end="", file=out, flush=True)
+            print(rows[system, relation].text(), end="", flush=True)
+    write(ROWS, "".join(rows[key].text() for key in wanted()))
+    draw([f"Measured on {date.today()}, {runs} runs of each."])
+    kept.unlink()
 
 
-def measure(program, others, runs, wanted):
-    """The rows of systems, each name with its words, as they are measured."""
-    programs = [[program, "min"], *(others or yardsticks())]
-    for name, words in wanted.items():
-        for relation in RELATIONS if name not in MADE_SYSTEMS else ["branching"]:
-            row = [*measured(programs, runs, name, made(words), relation), *["-"] * (3 - len(programs))]
-            print("\t".join(row), flush=True)
-            yield "\t".join(row)
+def wanted():
+    for systems in SYSTEMS.values():
+        yield from ((system, relation) for system in systems for relation in RELATIONS)
+    for families in MADE.values():
+        yield from ((f"{family} {n}", "branching") for family in families for n in SIZES)
 
 
-MADE_SYSTEMS = {f"{family} {n}": f"{family} {n}" for families in MADE.values() for family in families for n in SIZES}
-
-
-def write(path, lines):
-    """Puts the lines in the file's place once all are written."""
-    beside = path.with_suffix(".new")
+def write(path, text):
+    """Puts the text in the file's place once all of it is written."""
+    beside = path.with_name(f"{path.name}.new")
     try:
-        with open(beside, "w") as out:
-            for line in lines:
-                print(line, file=out, flush=True)
+        beside.write_text(text)
         os.replace(beside, path)
     finally:
-        if beside.exists():
-            beside.unlink()
+        beside.unlink(missing_ok=True)
 
 
-def rows():
-    """The rows of scale.tsv, filled up to nine columns."""
-    with open(ROWS) as lines:
-        return [[*line.rstrip("\n").split("\t"), "-", "-"][:9] for line in lines]
+def named(kind):
+    """The name of a kind, with the number of its largest system."""
+    return kind.format(SYSTEMS[kind][-1].split()[-1])
 
 
-def page_rows():
-    return [row[:7] for row in rows() if row[0] not in MADE_SYSTEMS]
+def of_kinds(rows):
+    """The rows of the first table and of the picture, each with its kind."""
+    keys = ((kind, system, relation) for kind in SYSTEMS for system in SYSTEMS[kind] for relation in RELATIONS)
+    return [(kind, rows[system, relation]) for kind, system, relation in keys if (system, relation) in rows]
 
 
-def kind_of(name):
-    return re.sub(r"( \d+|, small)$", "", name)
+def largest(rows, kind):
+    return [rows[SYSTEMS[kind][-1], relation] for relation in RELATIONS]
 
 
-def table():
+def cells(row):
+    """Rounds, seconds and megabytes, as a table has them."""
+    if row.seconds is None:
+        return "-", f"over {LONGEST}", "-"
+    return f"{row.rounds:,}", f"{row.seconds:.2f}", row.megabytes if row.megabytes > LEAST else f"under {LEAST + 1}"
+
+
+def line_of(*cells):
+    return f"| {' | '.join(map(str, cells))} |"
+
+
+def table(rows):
     """The first table: a line for the largest system of each kind, with both relations."""
-    by_system = {}
-    for name, states, transitions, _, *found in page_rows():
-        by_system.setdefault((name, int(states), int(transitions)), []).extend(found)
-    largest = {}
-    for system in by_system:
-        largest[kind_of(system[0])] = max(system, largest.get(kind_of(system[0]), system), key=lambda one: one[2])
-    yield "| System | What it is | States | Transitions | Strong: rounds | Seconds | MB | Branching: rounds | Seconds | MB |"
+    found = ("Strong: rounds", "Seconds", "MB", "Branching: rounds", "Seconds", "MB")
+    yield line_of("System", "What it is", "States", "Transitions", *found)
     yield "|---|---|--:|--:|--:|--:|--:|--:|--:|--:|"
-    for kind, (name, *sizes) in largest.items():
-        row = [cell(k % 3, word) for k, word in enumerate(by_system[name, sizes[0], sizes[1]])]
-        yield f"| {' | '.join([name, KINDS.get(kind, ''), *(f'{size:,}' for size in sizes), *row])} |"
+    for kind in SYSTEMS:
+        strong, branching = largest(rows, kind)
+        sizes = (f"{size:,}" for size in (strong.states, strong.transitions))
+        yield line_of(named(kind), KINDS.get(kind, ""), *sizes, *cells(strong), *cells(branching))
 
 
-def cell(column, word):
-    """What the table shows of rounds, seconds or megabytes."""
-    if word == "-":
-        return f"over {LONGEST}" if column == 1 else "-"
-    return f"under {LEAST + 1}" if column == 2 and float(word) <= LEAST else word if column == 1 else f"{int(word):,}"
-
-
-def ratios():
+def ratios(rows):
     """The second table: how many times as long as each yardstick, on the mean, and at most; of what takes a while."""
-    yield "| One that | Strong | Branching |"
-    yield "|---|--:|--:|"
-    for column, rule in enumerate(SAME_RULE, 7):
+    lines = [line_of("One that", "Strong", "Branching"), "|---|--:|--:|"]
+    for column, rule in enumerate(SAME_RULE):
         found = {relation: [] for relation in RELATIONS}
-        for name, _, _, relation, _, seconds, _, *others in rows():
-            other = others[column - 7]
-            if name not in MADE_SYSTEMS and "-" not in (seconds, other) and float(other) >= 0.1:
-                found[relation].append(float(seconds) / float(other))
+        for _, row in of_kinds(rows):
+            other = row.others[column]
+            if row.seconds and other and other >= 0.1:
+                found[row.relation].append(row.seconds / other)
         if not all(found.values()):
-            return
-        words = (f"{statistics.geometric_mean(each):.2f} ({max(each):.1f})" for each in found.values())
-        yield f"| {rule} | {' | '.join(words)} |"
+            return []
+        both = (f"{statistics.geometric_mean(times):.2f} ({max(times):.1f})" for times in found.values())
+        lines.append(line_of(rule, *both))
+    return lines
 
 
-def made_table():
+def made_table(rows):
     """The third table: made systems by branching bisimilarity, the slowest of a line, and the most megabytes."""
-    found = {row[0]: row[5:7] for row in rows() if row[0] in MADE_SYSTEMS}
-    sizes = [f"N = {SIZES[0]:,}", *(f"{n:,}" for n in SIZES[1:])]
-    yield f"| Made system | {' | '.join(sizes)} | MB |"
+    yield line_of("Made system", f"N = {SIZES[0]:,}", *(f"{n:,}" for n in SIZES[1:]), "MB")
     yield "|---|" + "--:|" * (len(SIZES) + 1)
     for about, families in MADE.items():
-        lines = [[found.get(f"{family} {n}", ["-", "-"]) for family in families] for n in SIZES]
-        if any("-" in one for line in lines for one in line):
-            return
-        seconds = [f"{max(float(one[0]) for one in line):.2f}" for line in lines]
-        yield f"| {about} | {' | '.join(seconds)} | {max(int(one[1]) for line in lines for one in line)} |"
+        columns = [[rows[f"{family} {n}", "branching"] for family in families] for n in SIZES]
+        slowest = (max(row.seconds or LONGEST for row in column) for column in columns)
+        most = max(row.megabytes or 0 for column in columns for row in column)
+        yield line_of(about, *(f"{seconds:.2f}" for seconds in slowest), most)
 
 
-class Panel:
-    """One plot with two logarithmic axes, each from a value to a value, and the line of slope 1 at the median."""
+def readme_rows(rows):
+    yield "                      states transitions  strong  branching   MB"
+    for kind in IN_README:
+        name = named(kind).partition(",")[0]
+        strong, branching = largest(rows, kind)
+        seconds = f"{strong.seconds:8.1f} {branching.seconds:10.1f} {max(strong.megabytes, branching.megabytes):4}"
+        yield f"{name:18} {strong.states:9,} {strong.transitions:11,}{seconds}"
 
-    SIDE = 300
 
-    def __init__(self, left, top, title, across, up, line):
-        self.left, self.top, self.across, self.up, self.line = left, top, across, up, line
-        self.parts = [f'<text class="title" x="{left}" y="{top - 12}">{title}</text>']
-        for value in ticks(across):
-            x = self.x(value)
-            self.parts.append(f'<path d="M{x:.1f} {top}v{self.SIDE}"/>')
-            self.parts.append(f'<text x="{x:.1f}" y="{top + self.SIDE + 16}">{spelled(value)}</text>')
-        for value in ticks(up):
-            y = self.y(value)
-            self.parts.append(f'<path d="M{left} {y:.1f}h{self.SIDE}"/>')
-            self.parts.append(f'<text class="end" x="{left - 6}" y="{y + 4:.1f}">{spelled(value)}</text>')
-        self.points = []
+class Panel(NamedTuple):
+    """One plot with two logarithmic axes, each from a value to a value, and a line of slope 1 at the median."""
 
-    def x(self, value):
-        low, high = self.across
-        return self.left + self.SIDE * math.log(value / low) / math.log(high / low)
+    left: int
+    top: int
+    title: str
+    across: tuple
+    up: tuple
+    line: Callable  # what is said of the line, by its rate
+    point: Callable  # the two values of a row
 
-    def y(self, value):
-        low, high = self.up
-        return self.top + self.SIDE * math.log(high / max(value, low)) / math.log(high / low)
+    def place(self, across, up):
+        along = lambda value, ends: math.log(value / ends[0]) / math.log(ends[1] / ends[0])
+        return self.left + SIDE * along(across, self.across), self.top + SIDE * (1 - along(up, self.up))
 
-    def put(self, name, colour, across, up):
-        self.points.append((name, colour, across, up))
+    def axes(self):
+        yield words_at(self.left, self.top - 12, self.title)
+        for value in ticks(self.across):
+            x, _ = self.place(value, self.up[0])
+            yield f'<path d="M{x:.1f} {self.top}v{SIDE}"/>' + words_at(x, self.top + SIDE + 16, spelled(value), "middle")
+        for value in ticks(self.up):
+            _, y = self.place(self.across[0], value)
+            yield f'<path d="M{self.left} {y:.1f}h{SIDE}"/>' + words_at(self.left - 6, y + 4, spelled(value), "end")
 
-    def drawn(self):
-        """The elements: the line and its words, the points, and the names of those far from the line."""
-        yield from self.parts
-        rates = [up / across for _, _, across, up in self.points if up > self.up[0]]
-        if not rates:
-            return
-        rate = statistics.median(rates)
+    def drawn(self, rows):
+        """The elements: the axes, the line and its words, the points, and the names of those far from the line."""
+        points = [(kind.replace(" {}", ""), RELATIONS[row.relation], *self.point(row)) for kind, row in rows]
+        points = [point for point in points if point[3] >= self.up[0]]
+        rate = statistics.median(up / across for _, _, across, up in points if up > self.up[0])
         start, end = max(self.across[0], self.up[0] / rate), min(self.across[1], self.up[1] / rate)
-        (x, y), (x_2, y_2) = ((self.x(value), self.y(value * rate)) for value in (start, end))
+        (x, y), (x_2, y_2) = (self.place(across, across * rate) for across in (start, end))
+        yield from self.axes()
         yield f'<path class="line" d="M{x:.1f} {y:.1f}L{x_2:.1f} {y_2:.1f}"/>'
-        places = [(self.x(across), self.y(up)) for _, _, across, up in self.points]
-        for place, (_, colour, _, _) in zip(places, self.points):
-            yield f'<circle cx="{place[0]:.1f}" cy="{place[1]:.1f}" r="4" fill="{colour}" fill-opacity="0.75"/>'
-        places += [(x + part / 60 * (x_2 - x), y + part / 60 * (y_2 - y)) for part in range(61)]
-        taken = [(x - 4, y - 4, x + 4, y + 4) for x, y in places]
-        for (name, colour), (_, across, up) in self.outliers(rate).items():
-            yield self.named(name, across, up, colour, taken)
-        middle = math.sqrt(start * end)
-        yield self.named(self.line(rate), middle, middle * rate, GREY, taken)
+        taken = [(x + part / 60 * (x_2 - x), y + part / 60 * (y_2 - y)) for part in range(61)]
+        middle, names = taken[30], {}
+        how_far = lambda point: abs(math.log(point[3] / point[2] / rate))
+        for point in sorted(points, key=how_far):
+            name, colour, across, up = point
+            x, y = place = self.place(across, up)
+            taken.append(place)
+            yield f'<circle cx="{x:.1f}" cy="{y:.1f}" r="4" fill="{colour}" fill-opacity="0.75"/>'
+            if how_far(point) > math.log(FAR):
+                names[name, colour] = place
+        names[self.line(rate), GREY] = middle
+        rooms = [(x - 4, y - 4, x + 4, y + 4) for x, y in taken]
+        for (words, colour), place in names.items():
+            room = self.room(words, place, rooms)
+            rooms.append(room)
+            yield words_at(room[0], room[1] + 10, words, colour=colour)
 
-    def outliers(self, rate):
-        """For each system and relation, the point that is farthest from the line, if that is far, and how far."""
-        found = {}
-        for name, colour, across, up in self.points:
-            far = abs(math.log(max(up, self.up[0]) / across / rate))
-            key = kind_of(name), colour
-            if far > math.log(FAR) and far > found.get(key, (0,))[0]:
-                found[key] = far, across, up
-        return found
-
-    def named(self, words, across, up, colour, taken):
-        """Words beside a point, where nothing else is, and notes their room in `taken`."""
-        x, y, wide = self.x(across), self.y(up), 6.6 * len(words)
-        lefts = x + 7, x - 7 - wide, max(x - wide / 2, self.left + 3), x + 20, x - 20 - wide
-        middles = (y + down for down in (0, -13, 13, -26, 26, -39, 39))
-        rooms = [(left, middle - 6, left + wide, middle + 6) for middle in middles for left in lefts]
+    def room(self, words, place, rooms):
+        """Room for words beside a place, where least is taken."""
+        (x, y), wide = place, 6.6 * len(words)
+        inside = lambda left: min(max(left, self.left + 3), self.left + SIDE + 35 - wide)
+        lefts = [inside(left) for left in (x + 7, x - 7 - wide, x - wide / 2, x + 20)]
+        free = [(left, y + down - 6, left + wide, y + down + 6) for down in (0, -13, 13, -26, 26) for left in lefts]
         meets = lambda a, b: a[0] < b[2] and b[0] < a[2] and a[1] < b[3] and b[1] < a[3]
+        return min(free, key=lambda one: sum(meets(one, other) for other in rooms) + 100 * (one[3] > self.top + SIDE))
 
-        def badness(room):
-            outside = room[0] < self.left or room[2] > self.left + self.SIDE + 35 or room[3] > self.top + self.SIDE
-            return 100 * outside + sum(meets(room, other) for other in taken)
 
-        room = min(rooms, key=badness)
-        taken.append(room)
-        return f'<text class="name" x="{room[0]:.1f}" y="{room[1] + 10:.1f}" fill="{colour}">{words}</text>'
+def words_at(x, y, words, kind="name", colour="black"):
+    return f'<text class="{kind}" x="{x:.1f}" y="{y:.1f}" fill="{colour}">{words}</text>'
 
 
 def ticks(ends):
     """The values of an axis that get a line: the powers of ten, and on a short axis 2 and 5 times these."""
     steps = (1,) if ends[1] / ends[0] > 1000 else (1, 2, 5)
-    values = (step * 10.0**power for power in range(-2, 10) for step in steps)
-    return [value for value in values if ends[0] <= value * 1.0001 and value <= ends[1] * 1.0001]
+    return [value for power in range(-2, 9) for step in steps if ends[0] <= (value := step * 10.0**power) <= ends[1]]
 
 
 def spelled(value):
     return f"{value / 1e6:,.0f} M" if value >= 1e6 else f"{value:,.0f}" if value >= 1 else f"{value:g}"
 
 
-def drawing():
+def drawing(rows):
     """The picture: time and memory by transitions, time by visits, and the time of one relation by the other's."""
-    seconds = 0.01, 20
+    ends = 0.01, 20
+    seconds = lambda row: max(row.seconds, ends[0])
+    by_transitions = lambda row: (row.transitions, seconds(row))
+    megabytes = lambda row: (row.transitions, row.megabytes)
+    by_visits = lambda row: (row.transitions * row.rounds, seconds(row))
+    by_strong = lambda row: (seconds(rows[row.system, "strong"]), seconds(row))
     speed = lambda rate: f"{1e-6 / rate:.{1 if rate > 1e-7 else 0}f} M a second"
-    time = Panel(60, 40, "seconds by transitions", (1e3, 2e7), seconds, speed)
-    memory = Panel(460, 40, "MB by transitions", (5e5, 1.2e7), (15, 400), lambda rate: f"{rate * 1e6:.0f} bytes each")
-    work = Panel(60, 420, "seconds by rounds times transitions", (1e4, 5e8), seconds, speed)
-    both = Panel(460, 420, "seconds: branching by strong", seconds, seconds, lambda rate: f"{rate:.1f} times")
-    strong = {}
-    for name, states, transitions, relation, rounds, seconds, megabytes in page_rows():
-        if seconds == "-":
-            continue
-        colour = RELATIONS[relation]
-        time.put(name, colour, int(transitions), float(seconds))
-        if float(megabytes) > LEAST:
-            memory.put(name, colour, int(transitions), float(megabytes))
-        work.put(name, colour, int(transitions) * int(rounds), float(seconds))
-        if relation == "strong":
-            strong[name, states] = float(seconds)
-        elif (name, states) in strong:
-            both.put(name, GREY, strong[name, states], float(seconds))
-    yield '<svg xmlns="http://www.w3.org/2000/svg" width="800" height="790" viewBox="0 0 800 790">'
-    yield "<title>What min takes, by strong and by branching bisimilarity</title>"
-    yield "<style>text { font: 12px sans-serif; text-anchor: middle } .title, .name { text-anchor: start }"
-    yield ".end { text-anchor: end } path { stroke: #ddd } .line { stroke: #555; stroke-dasharray: 4 3 }</style>"
-    yield '<rect width="100%" height="100%" fill="white"/>'
-    for panel in (time, memory, work, both):
-        yield from panel.drawn()
-    for k, (relation, colour) in enumerate(RELATIONS.items()):
-        yield f'<circle cx="{66 + 80 * k}" cy="771" r="4" fill="{colour}"/>'
-        yield f'<text class="name" x="{74 + 80 * k}" y="775">{relation}</text>'
-    said = f"The line has slope 1, through the median. Named: {FAR} times off it or more."
-    yield f'<text class="name" x="240" y="775">{said}</text>'
+    size = lambda rate: f"{rate * 1e6:.0f} bytes each"
+    times = lambda rate: f"{rate:.1f} times"
+    shown = [(kind, row) for kind, row in of_kinds(rows) if row.seconds is not None]
+    both = [(kind, row) for kind, row in shown if row.relation == "branching" and (row.system, "strong") in rows]
+    yield '''<svg xmlns="http://www.w3.org/2000/svg" width="800" height="790" viewBox="0 0 800 790">
+<title>What min takes, by strong and by branching bisimilarity</title>
+<style>text { font: 12px sans-serif } .middle { text-anchor: middle } .end { text-anchor: end }
+path { stroke: #ddd } .line { stroke: #555; stroke-dasharray: 4 3 }</style>
+<rect width="100%" height="100%" fill="white"/>'''
+    yield from Panel(60, 40, "seconds by transitions", (1e3, 2e7), ends, speed, by_transitions).drawn(shown)
+    yield from Panel(460, 40, "MB by transitions", (5e5, 1.2e7), (LEAST + 1, 400), size, megabytes).drawn(shown)
+    yield from Panel(60, 420, "seconds by rounds times transitions", (1e4, 5e8), ends, speed, by_visits).drawn(shown)
+    yield from Panel(460, 420, "seconds: branching by strong", ends, ends, times, by_strong).drawn(both)
+    for x, (relation, colour) in zip((66, 146), RELATIONS.items()):
+        yield f'<circle cx="{x}" cy="771" r="4" fill="{colour}"/>' + words_at(x + 8, 775, relation)
+    yield words_at(240, 775, f"The line has slope 1, through the median. Named: {FAR} times off it or more.")
     yield "</svg>"
 
 
-def draw():
-    text = PAGE.read_text()
-    for mark, lines in (("table", table()), ("table of ratios", ratios()), ("table of made systems", made_table())):
-        begin = f"<!-- the {mark} is written by measure/scale.py -->\n"
-        if text.count(begin) != 1:
-            sys.exit(f"measure/scale.py: docs/scale.md wants one line {begin.strip()}")
-        before, rest = text.split(begin)
-        lines = list(lines)
-        # A table of which not all is measured stays as it is.
-        if len(lines) > 2:
-            text = before + begin + "\n".join(lines) + rest[rest.index("\n\n") :]
-    write(PICTURE, drawing())
-    write(PAGE, [text.rstrip("\n")])
+def replaced(text, pattern, lines):
+    """The text with lines in place of what the pattern has between its groups; as it is, if there are no lines."""
+    lines = "\n".join(lines)
+    text, count = re.subn(pattern, lambda found: found[1] + lines + found[2] if lines else found[0], text, flags=re.S)
+    if count != 1:
+        sys.exit(f"measure/scale.py: a page does not have just one place of the form {pattern}")
+    return text
+
+
+def draw(day=()):
+    rows = rows_of(ROWS.read_text())
+    tables = {"day": day, "table": table(rows), "table of ratios": ratios(rows), "table of made systems": made_table(rows)}
+    page = PAGE.read_text()
+    for mark, lines in tables.items():
+        page = replaced(page, rf"(<!-- the {mark} is written by measure/scale.py -->\n).*?(\n\n)", lines)
+    readme = replaced(README.read_text(), r"(```text\n) +states transitions.*?(\n```)", readme_rows(rows))
+    write(PICTURE, "\n".join(drawing(rows)) + "\n")
+    write(PAGE, page)
+    write(README, readme)
 
 
 def main():
@@ -388,20 +413,27 @@ def main():
     parser.add_argument("--runs", type=int, default=4)
     parser.add_argument("--draw", action="store_true")
     given = parser.parse_intermixed_args()
-    chosen = [word for word in given.words if " " in word]
+    systems = [word for word in given.words if " " in word]
     program, *others = [word for word in given.words if " " not in word] or [None]
-    if given.draw == bool(program) or given.runs < 1 or others and not chosen:
+    if given.draw == bool(program) or given.draw and systems or given.runs < 1 or others and not systems:
         parser.error("--draw is wanted, or a PROGRAM and at least one run; or programs and systems")
     try:
-        if chosen:
-            for _ in measure(program, [[other, "min"] for other in others], given.runs, {words: words for words in chosen}):
-                pass
-            return
-        if program:
-            write(ROWS, measure(program, [], given.runs, {**SYSTEMS, **MADE_SYSTEMS}))
-        draw()
+        KEPT.mkdir(exist_ok=True)
+        if systems:
+            programs = [[program, "min"], *([[other, "min"] for other in others] or yardsticks())]
+            for system in systems:
+                for relation in RELATIONS:
+                    print(measured(programs, given.runs, system, relation).text(), end="", flush=True)
+        elif program:
+            measure_all(program, given.runs)
+        else:
+            draw()
     except OSError as error:
         sys.exit(f"measure/scale.py: {error}")
+    except (KeyError, TypeError, ValueError) as error:
+        sys.exit(f"measure/scale.py: measure/scale.tsv does not have all rows, or others: {error!r}")
+    except KeyboardInterrupt:
+        sys.exit("measure/scale.py: interrupted; the same words go on")
 
 
 if __name__ == "__main__":

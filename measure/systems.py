@@ -11,28 +11,45 @@ import inspect
 import itertools
 import os
 import random
+import re
 import sys
+from functools import lru_cache
+from typing import Any, Callable, NamedTuple, Optional
 
-BYTE = [bytes([value]) for value in range(256)]
 MOST_STATES, MOST_TRANSITIONS = 1_000_000, 10_000_000
 MAY_BE_NONE = {"percent", "a", "c"}
 FAMILIES = {}
+
+
+class Family(NamedTuple):
+    make: Callable
+    numbers: list  # their names
+    about: str
 
 
 class Wrong(Exception):
     """Numbers that a family does not take."""
 
 
-def family(function):
-    FAMILIES[function.__name__.replace("_", "-")] = function
-    return function
+def family(function, make=None):
+    """Has a function of numbers among the families; with `make`, that function, which has its numbers but the first."""
+    numbers = list(inspect.signature(function).parameters)[1 if make else 0 :]
+    about = " ".join(function.__doc__.split())
+    FAMILIES[function.__name__.replace("_", "-")] = Family(make or function, numbers, about)
+    return make or function
 
 
-# Models, explored from their first state. A state is a row of bytes, and the states are numbered as they are found.
+# Models. A model is its first state and its moves: from a state, pairs of a label and the state that it leads to. The
+# label i is internal. States are numbered as they are found.
+
+
+def model(first):
+    """Makes moves, a function of a state and numbers, a family; `first` has the first state, by the same numbers."""
+    return lambda moves: family(moves, lambda *numbers: explored(first(*numbers), lambda s: moves(s, *numbers)))
 
 
 def explored(first, moves):
-    """The number of the first state, of states and of transitions, and the lines of the system with these moves."""
+    """The number of the first state, of states and of transitions, and the lines of the system."""
     number, found, lines, transitions = {first: 0}, [first], [], 0
     for source, state in enumerate(found):
         if len(found) > MOST_STATES:
@@ -42,160 +59,147 @@ def explored(first, moves):
             place = number.setdefault(target, len(found))
             if place == len(found):
                 found.append(target)
-            row.append(f"({source}, {label}, {place})\n")
+            row.append(f"({source}, {spelled(label)}, {place})\n")
         transitions += len(row)
         lines.append("".join(row))
     return 0, len(found), transitions, lines
 
 
-def put(state, place, value):
-    return state[:place] + BYTE[value] + state[place + 1 :]
+@lru_cache(maxsize=None)
+def spelled(label):
+    """A label as a file has it: between quotation marks if it is no plain word."""
+    return label if label.replace("_", "").isalnum() else f'"{label}"'
 
 
-@family
-def philosophers(k):
+def put(state, changes):
+    """A row of bytes with other values at some places."""
+    state = bytearray(state)
+    for place, value in changes.items():
+        state[place] = value
+    return bytes(state)
+
+
+@model(bytes)
+def philosophers(s, k):
     """k dining philosophers (Dijkstra 1971): each sits down, takes the left fork, then the right one, eats, and puts
     the right one back first. Sitting down and eating are visible, forks are internal."""
     thinks, sits, has_left, has_both, eats, has_left_still = range(6)
-
-    def moves(s):
-        for p, phase in enumerate(s):
-            if phase == thinks:
-                yield f'"SIT !{p}"', put(s, p, sits)
-            elif phase == sits and s[(p + 1) % k] not in (has_both, eats):
-                yield "i", put(s, p, has_left)
-            elif phase == has_left and s[p - 1] < has_left:
-                yield "i", put(s, p, has_both)
-            elif phase == has_both:
-                yield f'"EAT !{p}"', put(s, p, eats)
-            elif phase == eats:
-                yield "i", put(s, p, has_left_still)
-            elif phase == has_left_still:
-                yield "i", put(s, p, thinks)
-
-    return explored(bytes(k), moves)
+    visible = {thinks: "SIT", has_both: "EAT"}
+    for p, phase in enumerate(s):
+        lacks_left = phase == sits and s[(p + 1) % k] in (has_both, eats)
+        lacks_right = phase == has_left and s[p - 1] >= has_left
+        if not lacks_left and not lacks_right:
+            # The phases go round.
+            yield f"{visible[phase]} !{p}" if phase in visible else "i", put(s, {p: (phase + 1) % 6})
 
 
-@family
-def leader_election(k):
+# The first k bytes are the stations; after them, byte k + p is 1 more than what is on the link from p to p + 1.
+@model(lambda k: bytes(2 * k))
+def leader_election(s, k):
     """k stations in a ring of one-place links elect the one of the greatest number (Chang and Roberts 1979). Starting,
     being elected and the leader's signal are visible, messages are internal. k is no multiple of 7."""
     if k % 7 == 0:
         raise Wrong("stations would share their numbers")
     idle, active, passive, leads = range(4)
-    names = [(7 * p + 3) % k for p in range(k)]
-
-    # The first k bytes are the stations; after them, byte k + p is 1 more than what is on the link from p to p + 1.
-    def moves(s):
-        for p in range(k):
-            before, after = k + (p - 1) % k, k + p
-            if s[p] == idle and s[after] == 0:
-                yield f'"START !{p}"', put(put(s, p, active), after, names[p] + 1)
-            if s[p] != idle and s[before] != 0:
-                name, taken = s[before] - 1, put(s, before, 0)
-                if name == names[p]:
-                    if s[p] == active:
-                        yield f'"LEADER !{p}"', put(taken, p, leads)
-                elif name < names[p] and s[p] != passive:
-                    yield "i", taken
-                elif s[after] == 0:
-                    yield "i", put(put(taken, after, name + 1), p, leads if s[p] == leads else passive)
-            if s[p] == leads:
-                yield f'"OPEN !{p}"', s
-
-    return explored(bytes(2 * k), moves)
+    for p in range(k):
+        before, after, own = k + (p - 1) % k, k + p, (7 * p + 3) % k
+        if s[p] == idle and s[after] == 0:
+            yield f"START !{p}", put(s, {p: active, after: own + 1})
+        if s[p] != idle and s[before] != 0:
+            name = s[before] - 1
+            if name == own:
+                if s[p] == active:
+                    yield f"LEADER !{p}", put(s, {before: 0, p: leads})
+            elif name < own and s[p] != passive:
+                yield "i", put(s, {before: 0})
+            elif s[after] == 0:
+                yield "i", put(s, {before: 0, after: name + 1, p: leads if s[p] == leads else passive})
+        if s[p] == leads:
+            yield f"OPEN !{p}", s
 
 
-@family
-def token_ring(k):
+# The last byte is the place of the token.
+@model(lambda k: bytes(k + 1))
+def token_ring(s, k):
     """k stations pass a token around (Le Lann 1977), and the one that has it may enter. Wishing to, entering and
     leaving are visible, passing the token on is internal."""
     idle, waits, inside = range(3)
-
-    # The last byte is the place of the token.
-    def moves(s):
-        for p in range(k):
-            here = s[k] == p
-            if s[p] == idle:
-                yield f'"WANT !{p}"', put(s, p, waits)
-                if here:
-                    yield "i", put(s, k, (p + 1) % k)
-            elif s[p] == waits and here:
-                yield f'"ENTER !{p}"', put(s, p, inside)
-            elif s[p] == inside:
-                yield f'"LEAVE !{p}"', put(s, p, idle)
-
-    return explored(bytes(k + 1), moves)
+    for p in range(k):
+        here = s[k] == p
+        if s[p] == idle:
+            yield f"WANT !{p}", put(s, {p: waits})
+            if here:
+                yield "i", put(s, {k: (p + 1) % k})
+        elif s[p] == waits and here:
+            yield f"ENTER !{p}", put(s, {p: inside})
+        elif s[p] == inside:
+            yield f"LEAVE !{p}", put(s, {p: idle})
 
 
-@family
-def lossy_channels(k):
+class Protocol(NamedTuple):
+    """An alternating-bit protocol over channels of one place, each of which may lose what it holds."""
+
+    sending: Optional[int] = None  # the value that the sender has
+    bit: int = 0  # of the sender
+    message: Any = None  # the channel of messages: a value and a bit
+    awaited: int = 0  # the bit that the receiver awaits
+    delivering: Optional[int] = None  # the value that the receiver has
+    answer: Optional[int] = None  # the channel of acknowledgements: a bit
+
+
+@model(lambda k: (Protocol(), Protocol()))
+def lossy_channels(s, k):
     """Two alternating-bit protocols (Bartlett, Scantlebury and Wilkinson 1969) in series, for k values, over one-place
     channels that can lose what is in them. Putting in and getting out are visible, all else is internal."""
-    # A protocol has six bytes: the sender's bit and value, the channel, the receiver's bit and value, and the channel
-    # back. A value, and what is on a channel, is 1 more than its number, or 0 if there is none.
-    size = 6
-    bit, value, channel, wanted, taken, back = range(size)
-
-    def change(s, base, *changes):
-        for place, now in changes:
-            s = put(s, base + place, now)
-        return s
-
-    def moves(s):
-        for base in (0, size):
-            own = s[base : base + size]
-            if own[value] == 0 and base == 0:
-                for v in range(k):
-                    yield f'"PUT !{v}"', put(s, value, v + 1)
-            if own[value] == 0 and base == size and s[taken] != 0:
-                yield "i", change(put(s, taken, 0), base, (value, s[taken]))
-            if base == size and own[taken] != 0:
-                yield f'"GET !{own[taken] - 1}"', change(s, base, (taken, 0))
-            if own[value] != 0 and own[channel] == 0:
-                yield "i", change(s, base, (channel, 2 * own[value] - 1 + own[bit]))
-            if own[channel] != 0:
-                yield "i", change(s, base, (channel, 0))
-                v, sent = divmod(own[channel] - 1, 2)
-                if sent == own[wanted] and own[taken] == 0:
-                    yield "i", change(s, base, (channel, 0), (taken, v + 1), (wanted, 1 - sent))
-                elif sent != own[wanted] and own[back] == 0:
-                    yield "i", change(s, base, (channel, 0), (back, sent + 1))
-            if own[back] != 0:
-                yield "i", change(s, base, (back, 0))
-                if own[back] - 1 == own[bit] and own[value] != 0:
-                    yield "i", change(s, base, (back, 0), (value, 0), (bit, 1 - own[bit]))
-
-    return explored(bytes(2 * size), moves)
+    left, right = s
+    for own in s:
+        now = lambda **new: (own._replace(**new), right) if own is left else (left, own._replace(**new))
+        if own is left and own.sending is None:
+            for value in range(k):
+                yield f"PUT !{value}", now(sending=value)
+        if own is right and own.sending is None and left.delivering is not None:
+            yield "i", (left._replace(delivering=None), right._replace(sending=left.delivering))
+        if own is right and own.delivering is not None:
+            yield f"GET !{own.delivering}", now(delivering=None)
+        if own.sending is not None and own.message is None:
+            yield "i", now(message=(own.sending, own.bit))
+        if own.message is not None:
+            yield "i", now(message=None)
+            value, bit = own.message
+            if bit == own.awaited and own.delivering is None:
+                yield "i", now(message=None, delivering=value, awaited=1 - bit)
+            elif bit != own.awaited and own.answer is None:
+                yield "i", now(message=None, answer=bit)
+        if own.answer is not None:
+            yield "i", now(answer=None)
+            if own.answer == own.bit and own.sending is not None:
+                yield "i", now(answer=None, sending=None, bit=1 - own.bit)
 
 
-@family
-def buffers(k):
+def moves_in_a_row(s, values, put_in, get_out):
+    """The moves of a row of one-place buffers. A byte is 0, or tells which of the values is held, from 1 up."""
+    if s[0] == 0:
+        for held, value in enumerate(values, 1):
+            yield f"{put_in} !{value}", put(s, {0: held})
+    for p in range(len(s) - 1):
+        if s[p] != 0 and s[p + 1] == 0:
+            yield "i", put(s, {p: 0, p + 1: s[p]})
+    if s[-1] != 0:
+        yield f"{get_out} !{values[s[-1] - 1]}", put(s, {len(s) - 1: 0})
+
+
+@model(bytes)
+def buffers(s, k):
     """A row of k one-place buffers for two values (Milner 1989). Putting in and getting out are visible, passing on is
     internal."""
-
-    def moves(s):
-        if s[0] == 0:
-            for v in (0, 1):
-                yield f'"PUT !{v}"', put(s, 0, v + 1)
-        for p in range(k - 1):
-            if s[p] != 0 and s[p + 1] == 0:
-                yield "i", put(put(s, p + 1, s[p]), p, 0)
-        if s[-1] != 0:
-            yield f'"GET !{s[-1] - 1}"', put(s, k - 1, 0)
-
-    return explored(bytes(k), moves)
+    return moves_in_a_row(s, (0, 1), "PUT", "GET")
 
 
-@family
-def counters(k):
+@model(bytes)
+def counters(s, k):
     """k independent counters modulo 5; nothing is internal."""
-
-    def moves(s):
-        for p in range(k):
-            yield f'"{"WRAP" if s[p] == 4 else "INC"} !{p}"', put(s, p, (s[p] + 1) % 5)
-
-    return explored(bytes(k), moves)
+    for p, value in enumerate(s):
+        yield f"{'WRAP' if value == 4 else 'INC'} !{p}", put(s, {p: (value + 1) % 5})
 
 
 # Made systems, by their steps. The first state is the last one, unless a family says so.
@@ -213,6 +217,10 @@ def made(steps, states=None, first=None):
 END = 0
 
 
+def many(letter, count, first=0):
+    return [f"{letter}{k}" for k in range(first, first + count)]
+
+
 def shows(state, labels):
     """Steps to the end state."""
     return ((state, label, END) for label in labels)
@@ -227,8 +235,13 @@ def tops(states):
     return ((states[-1] + 1, "go", state) for state in states)
 
 
-def many(letter, count, first=0):
-    return [f"{letter}{k}" for k in range(first, first + count)]
+def collectors(first, rows):
+    """States from the first on, each with inert steps and labels of its own, and a state that leads to all of them."""
+    rows = list(rows)
+    for s, (targets, labels) in enumerate(rows, first):
+        yield from inert(s, *targets)
+        yield from shows(s, labels)
+    yield from tops(range(first, first + len(rows)))
 
 
 def line(n, step):
@@ -250,16 +263,19 @@ def random_system(states, transitions, labels, percent):
     if percent > 100:
         raise Wrong("that is no percentage")
     draw = random.Random(1).random
-    source_first = [0] * transitions
+    # A number for each transition: 10 million of them fit into memory, and are sorted soon.
+    steps = [0] * transitions
     for k in range(transitions):
-        source, target = (int(draw() * (k + 1)), k + 1) if k + 1 < states else (int(draw() * states), int(draw() * states))
+        if k + 1 < states:
+            source, target = int(draw() * (k + 1)), k + 1
+        else:
+            source, target = int(draw() * states), int(draw() * states)
         label = 0 if draw() * 100 < percent else 1 + int(draw() * labels)
-        source_first[k] = (source << 64) + (label << 32) + target
-    source_first.sort()
+        steps[k] = (source << 64) + (label << 32) + target
+    steps.sort()
     low = (1 << 32) - 1
     names = ["i", *many("a", labels)]
-    lines = (f"({x >> 64}, {names[x >> 32 & low]}, {x & low})\n" for x in source_first)
-    return 0, states, transitions, lines
+    return 0, states, transitions, (f"({x >> 64}, {names[x >> 32 & low]}, {x & low})\n" for x in steps)
 
 
 @family
@@ -269,17 +285,17 @@ def chain(n):
 
 
 @family
+def idle(n):
+    """A line of n steps, in a system of as many states as are allowed: those without a line cost no text."""
+    return made(((s, "a", s + 1) for s in range(n)), states=MOST_STATES, first=0)
+
+
+@family
 def internal_cycle(n):
     """A cycle of inert steps over all states but the last, and from each a step to the last by one of ten labels in
     turn: as many rounds as states, unless the steps are inert."""
     cycle = (((s, "i", (s + 1) % (n - 1)), (s, f"a{s % 10}", n - 1)) for s in range(n - 1))
     return made(itertools.chain.from_iterable(cycle), first=0)
-
-
-@family
-def idle(n):
-    """A line of n steps, in a system of as many states as are allowed: those without a line cost no text."""
-    return made(((s, "a", s + 1) for s in range(n)), states=MOST_STATES, first=0)
 
 
 @family
@@ -317,32 +333,24 @@ def line_over_hub(n):
 def line_and_hub(n):
     """A line of n inert steps with a label for each state, one state of n other labels, and n states with inert steps
     to one of the line and to that one."""
-    hub, own = n + 1, range(n + 2, 2 * n + 2)
+    hub = n + 1
     yield from line(n, -1)
     yield from shows(hub, many("h", n))
-    for j, s in enumerate(own):
-        yield from inert(s, j + 1, hub)
-    yield from tops(own)
+    yield from collectors(n + 2, (((j, hub), ()) for j in range(1, n + 1)))
 
 
 @family
 def line_by_twos(n):
     """A line of n inert steps with a label for each state, and n states with inert steps to two states of it."""
-    own = range(n + 1, 2 * n + 1)
     yield from line(n, 1)
-    for j, s in enumerate(own):
-        yield from inert(s, j + 1, n - j)
-    yield from tops(own)
+    yield from collectors(n + 1, (((j, n + 1 - j), ()) for j in range(1, n + 1)))
 
 
 def two_hubs(n, first_labels, second_labels):
     """Two states with these labels, and n states with an inert step to each."""
-    own = range(3, n + 3)
     yield from shows(1, first_labels)
     yield from shows(2, second_labels)
-    for s in own:
-        yield from inert(s, 1, 2)
-    yield from tops(own)
+    yield from collectors(3, n * [((1, 2), ())])
 
 
 @family
@@ -360,26 +368,18 @@ def halves(n):
 @family
 def own_labels(n):
     """A state with n labels, and n states with an inert step to it and one of these labels again."""
-    own = range(2, n + 2)
-    yield from shows(1, many("l", n))
-    for j, s in enumerate(own):
-        yield from inert(s, 1)
-        yield from shows(s, [f"l{j}"])
-    yield from tops(own)
+    labels = many("l", n)
+    yield from shows(1, labels)
+    yield from collectors(2, (((1,), (label,)) for label in labels))
 
 
 @family
 def twins(n):
     """Two states with n labels and one more, and n states that lead to each, with the other's one and a new label:
     equal signatures from two sources, in pairs."""
-    own = range(3, 2 * n + 3)
     yield from shows(1, [*many("l", n), "x"])
     yield from shows(2, [*many("l", n), "y"])
-    for j, s in enumerate(own):
-        hub, other = ((1, "y"), (2, "x"))[j % 2]
-        yield from inert(s, hub)
-        yield from shows(s, [other, f"z{j // 2}"])
-    yield from tops(own)
+    yield from collectors(3, (((hub,), (other, new)) for new in many("z", n) for hub, other in ((1, "y"), (2, "x"))))
 
 
 @family
@@ -389,9 +389,9 @@ def side(n):
     middle, own = range(3, n + 3), range(n + 3, 2 * n + 3)
     yield from shows(1, many("l", n + 1))
     yield from shows(2, many("m", n))
-    for j, (m, s) in enumerate(zip(middle, own)):
+    for m, s, label in zip(middle, own, many("o", n)):
         yield from inert(m, 1)
-        yield from shows(m, [f"o{j}"])
+        yield from shows(m, [label])
         yield from inert(s, m, 2)
     yield from tops(own)
 
@@ -400,13 +400,9 @@ def side(n):
 def unions_of_two(k):
     """k states with k labels of their own each, and a state with an inert step to both of each two of them: the
     signatures have k times as many pairs as the text has lines."""
-    pairs = list(itertools.combinations(range(1, k + 1), 2))
-    own = range(k + 1, k + 1 + len(pairs))
     for hub in range(1, k + 1):
         yield from shows(hub, many(f"l{hub}_", k))
-    for s, pair in zip(own, pairs):
-        yield from inert(s, *pair)
-    yield from tops(own)
+    yield from collectors(k + 1, ((pair, ()) for pair in itertools.combinations(range(1, k + 1), 2)))
 
 
 @family
@@ -450,73 +446,64 @@ def long_line(k, n):
     """A line of 63 + 2^k inert steps with a label each, and n states with an inert step to its last and a label of
     their own."""
     last = 63 + 2**k
-    own = range(last + 1, last + n + 1)
     yield from line(last, -1)
-    for j, s in enumerate(own):
-        yield from inert(s, last)
-        yield from shows(s, [f"o{j}"])
-    yield from tops(own)
+    yield from collectors(last + 1, (((last,), (label,)) for label in many("o", n)))
 
 
 @family
 def two_labels(n, a, c):
     """n states lead by the labels number a and c to one of n others, each to its own, which has a label of its own."""
     others, own = range(1, n + 1), range(n + 1, 2 * n + 1)
-    top = own[-1] + 1
-    yield from shows(top, many("l", max(a, c) + 1))
-    for j, (other, s) in enumerate(zip(others, own)):
-        yield from shows(other, [f"o{j}"])
-        yield from ((s, f"l{label}", other) for label in (a, c))
+    yield from shows(own[-1] + 1, many("l", max(a, c) + 1))
+    for other, s, label in zip(others, own, many("o", n)):
+        yield from shows(other, [label])
+        yield from ((s, f"l{number}", other) for number in (a, c))
     yield from tops(own)
 
 
-def numbers_of(function, words):
-    wanted = list(inspect.signature(function).parameters)
-    if len(words) != len(wanted) or not all(word.isascii() and word.isdigit() and len(word) < 9 for word in words):
-        raise Wrong(f"it wants the numbers {' '.join(wanted)}")
-    numbers = {name: int(word) for name, word in zip(wanted, words)}
-    if any(number == 0 and name not in MAY_BE_NONE for name, number in numbers.items()):
-        raise Wrong("0 is too small")
-    return numbers.values()
-
-
-def write(words, out):
-    """Writes the system that the words ask for: a family and its numbers."""
-    function = FAMILIES.get(words[0])
-    if function is None:
+def system_of(words):
+    """The system that the words ask for: a family and its numbers."""
+    if words[0] not in FAMILIES:
         raise Wrong("there is no such family")
+    make, names, _ = FAMILIES[words[0]]
+    if len(words) - 1 != len(names) or not all(re.fullmatch("[0-9]{1,8}", word) for word in words[1:]):
+        raise Wrong(f"it wants the numbers {' '.join(names)}")
+    numbers = [int(word) for word in words[1:]]
+    if any(number == 0 and name not in MAY_BE_NONE for name, number in zip(names, numbers)):
+        raise Wrong("0 is too small")
     try:
-        system = function(*numbers_of(function, words[1:]))
-        first, states, transitions, lines = system if isinstance(system, tuple) else made(system)
+        system = make(*numbers)
+        system = system if isinstance(system, tuple) else made(system)
     except (IndexError, ValueError):
         # What does not fit in a byte of a state, or in a range.
         raise Wrong("a number is too large") from None
+    _, states, transitions, _ = system
     if states > MOST_STATES or transitions > MOST_TRANSITIONS:
         raise Wrong(f"there are more than {MOST_STATES:,} states or {MOST_TRANSITIONS:,} transitions")
-    out.write(f"des ({first}, {transitions}, {states})\n")
-    out.writelines(lines)
+    return system
+
+
+def text_of(system):
+    first, states, transitions, lines = system
+    yield f"des ({first}, {transitions}, {states})\n"
+    yield from lines
 
 
 def listed():
-    for name, function in FAMILIES.items():
-        about = " ".join(function.__doc__.split())
-        yield f"  {name} {' '.join(inspect.signature(function).parameters)}\n      {about}"
+    yield __doc__ + "\n"
+    for name, (_, numbers, about) in FAMILIES.items():
+        yield f"  {name} {' '.join(numbers)}\n      {about}\n"
 
 
-def main():
-    if len(sys.argv) == 1:
-        print(__doc__, *listed(), sep="\n")
-        return
+def main(words):
     try:
-        write(sys.argv[1:], sys.stdout)
+        sys.stdout.writelines(text_of(system_of(words)) if words else listed())
         sys.stdout.flush()
-    except Wrong as fault:
-        sys.exit(f"measure/systems.py: {' '.join(sys.argv[1:])}: {fault}")
-    except (OSError, MemoryError) as error:
-        # What is left in the buffer cannot be written either.
-        os.dup2(os.open(os.devnull, os.O_WRONLY), sys.stdout.fileno())
-        sys.exit(f"measure/systems.py: {error}")
+    except (Wrong, OSError, MemoryError) as fault:
+        print(f"measure/systems.py: {' '.join(words) or 'the list'}: {fault}", file=sys.stderr, flush=True)
+        # What is left in the buffer cannot be written.
+        os._exit(1)
 
 
 if __name__ == "__main__":
-    main()
+    main(sys.argv[1:])

@@ -14,25 +14,74 @@ TOP = Path(__file__).resolve().parent.parent
 PAGE = TOP / "docs" / "reading.md"
 BEGIN, END = "<!-- made by tools/reading.py -->", "<!-- up to here -->"
 # Each call has its crate; a call rests on all that its clauses cite but the words of the calls that stand after it.
-CONTRACTS = [("autbis", "run_min", []), ("autbis", "run_cmp", []), ("words", "command", []), ("autbis", "main_program", ["command"])]
+CONTRACTS = [
+    ("autbis", "run_min", []),
+    ("autbis", "run_cmp", []),
+    ("words", "command", []),
+    ("autbis", "main_program", ["command"]),
+]
 TRAITS = [("autfmt", "Source"), ("autfmt", "Sink"), ("lts", "Meter"), ("autbis", "Opener")]
 VIEWS = [("autfmt", "Limits"), ("autfmt", "Hidden")]
-USE = re.compile(r"^(?:pub )?(?:ghost )?use Rattle\.([\w.]+)(?:\.\{(.*?)\}| as (\S+))?;?$")
-HEAD = re.compile(r"^(?:abbrev|unfoldable|data|record|pub)\s+(?:(?:pub|data|record)\s+)*(\S+)")
+USE = re.compile(r"\s*(?:pub )?(?:ghost )?use Rattle\.([\w.]+)(?:\.\{(.*?)\}| as (\S+))?;?$")
+HEAD = re.compile(r"(?:abbrev|unfoldable|data|record|pub)\s+(?:(?:pub|data|record)\s+)*(\S+)")
+# A type or a constant, and what may stand before it.
+ITEM = r"(?:pub(?:\(crate\))? )?(?:enum|struct|const)"
+
+
+class Scope:
+    """What a file brings in, under the names that it has there, and the definitions of its own."""
+
+    def __init__(self, lines, own="", definitions=()):
+        self.names, self.modules = {name: (own, name) for name in definitions}, {}
+        for use in filter(None, map(USE.match, lines)):
+            module, items, alias = use.groups()
+            if items is None:
+                self.modules[alias or module.rsplit(".", 1)[1]] = module
+            for item in items.split(",") if items else []:
+                item, _, local = item.strip().partition(" as ")
+                self.names[local or item] = (module, item)
+
+    def cited(self, text):
+        """What a text of antt cites: pairs of a module's name and a definition's."""
+        for word in re.split(r"[\s(){}\[\];,\\]+", re.sub(r'"[^"]*"', " ", text)):
+            first, *rest = word.split(".")
+            if first in self.modules:
+                yield self.modules[first], rest[0] if rest else ""
+            elif first in self.names:
+                yield self.names[first]
+
+
+class Module:
+    """A file of specs: its definitions in their order, each a comment and its lines."""
+
+    def __init__(self, crate, path):
+        self.path, self.name, self.definitions = path, f"{crate}.specs.{path.stem}", {}
+        front, _, rest = path.read_text().partition("\nuse ")
+        self.title = " ".join(line[3:] for line in front.splitlines() if line.startswith("-- "))
+        lines, comment, name = f"use {rest}".splitlines(), [], None
+        for line in lines:
+            head = HEAD.match(line)
+            if line.startswith("-- "):
+                comment, name = (comment if not name else []) + [line[3:]], None
+            elif head and not USE.match(line):
+                name = head.group(1)
+                self.definitions[name] = (" ".join(comment), [line])
+            elif line.strip() and name and not line.lstrip().startswith("--"):
+                self.definitions[name][1].append(line)
+            elif not line.strip():
+                comment, name = [], None
+        self.scope = Scope(lines, self.name, self.definitions)
 
 
 def crates():
     """The crates of crates.txt, each after those that it stands on."""
-    needs = {}
-    for line in (TOP / "crates.txt").read_text().splitlines():
-        name, colon, rest = line.partition(":")
-        if colon and not line.startswith("#"):
-            needs[name.split()[0]] = rest.split()
-    found = []
+    lines = (TOP / "crates.txt").read_text().splitlines()
+    pairs = (line.split(":") for line in lines if ":" in line and line[0] != "#")
+    needs, found = {name: rest.split() for name, rest in pairs}, []
 
     def add(name):
         for other in needs[name]:
-            if other in needs and other not in found:
+            if other in needs:
                 add(other)
         if name not in found:
             found.append(name)
@@ -42,86 +91,21 @@ def crates():
     return found
 
 
-class Module:
-    """A file of specs: what it brings in, and its definitions in their order, each a comment and its lines."""
-
-    def __init__(self, crate, path):
-        self.crate, self.path, self.name = crate, path, f"{crate}.specs.{path.stem}"
-        self.names, self.modules, self.definitions = {}, {}, {}
-        lines = path.read_text().splitlines()
-        front = next(k for k, line in enumerate(lines) if not line.startswith("-- "))
-        self.title = " ".join(line[3:] for line in lines[:front])
-        comment, name = [], None
-        for line in lines[front:]:
-            head = HEAD.match(line)
-            if line.startswith("-- "):
-                comment, name = (comment if not name else []) + [line[3:]], None
-            elif line.startswith(("use ", "pub use ")):
-                bring(line, self.names, self.modules)
-                comment = []
-            elif head:
-                name = head.group(1)
-                self.definitions[name] = [" ".join(comment), [line]]
-                comment = []
-            elif line.strip() and name:
-                if not line.lstrip().startswith("--"):
-                    self.definitions[name][1].append(line)
-            else:
-                comment, name = [], None
-
-
-def bring(line, names, modules):
-    """Notes what a line `use` brings in, under the names that it has from then on."""
-    use = USE.match(line)
-    if use is None:
-        return
-    module, items, alias = use.groups()
-    if items is None:
-        modules[alias or module.rsplit(".", 1)[1]] = module
-        return
-    for item in items.split(","):
-        item, _, local = item.strip().partition(" as ")
-        names[local or item] = (module, item)
-
-
 def read_modules():
-    modules = {}
     for crate in crates():
-        folder = TOP / "crates" / crate / "specs"
-        order = re.findall(r"mod (\w+)", (folder / "Lib.antt").read_text()) if (folder / "Lib.antt").exists() else []
-        for stem in order:
-            module = Module(crate, folder / f"{stem}.antt")
-            modules[module.name] = module
-    return modules
+        library = TOP / "crates" / crate / "specs" / "Lib.antt"
+        for stem in re.findall(r"mod (\w+)", library.read_text()) if library.exists() else []:
+            yield Module(crate, library.with_name(f"{stem}.antt"))
 
 
 try:
-    MODULES = read_modules()
+    MODULES = {module.name: module for module in read_modules()}
 except OSError as error:
     sys.exit(f"tools/reading.py: {error}")
 
 
-def words(text):
-    """The names in a text of antt, each with the one that follows its dot."""
-    text = re.sub(r'"[^"]*"', " ", text)
-    for word in re.split(r"[\s(){}\[\];,\\]+", text):
-        first, _, rest = word.partition(".")
-        yield first, rest.partition(".")[0]
-
-
-def cited(text, names, modules, own=None):
-    """What a text cites: pairs of a module's name and a definition's."""
-    for first, second in words(text):
-        if first in modules:
-            yield modules[first], second
-        elif first in names:
-            yield names[first]
-        elif own and first in own.definitions:
-            yield own.name, first
-
-
 def closure(roots):
-    """The definitions that these and those that they cite rest on, and the types and constants of the code among them."""
+    """The definitions that these rest on, with those that they cite, and the types and constants of the code."""
     seen, code, waiting = set(), {}, list(roots)
     while waiting:
         module, name = waiting.pop()
@@ -134,70 +118,58 @@ def closure(roots):
         elif module in MODULES and name in MODULES[module].definitions and (module, name) not in seen:
             seen.add((module, name))
             own = MODULES[module]
-            waiting += cited("\n".join(own.definitions[name][1]), own.names, own.modules, own)
+            waiting += own.scope.cited("\n".join(own.definitions[name][1]))
     return seen, sorted(code)
 
 
-def source_of(crate, item, kind):
-    """The file that has this item, and its lines from there on."""
-    for path in sorted((TOP / "crates" / crate / "src").rglob("*.rt")):
-        lines = path.read_text().splitlines()
-        for k, line in enumerate(lines):
-            if re.match(rf"\s*{kind} {item}\b", line):
-                return path, lines, k
-    sys.exit(f"tools/reading.py: crates/{crate}/src has no `{kind} {item}`")
+class Item:
+    """An item of the code: its file, what the first paragraph of its comment says, its lines, and what it can cite."""
 
-
-def imports(lines):
-    names, modules = {}, {}
-    for line in lines:
-        bring(line.strip(), names, modules)
-    return names, modules
-
-
-def contract(crate, name):
-    path, lines, at = source_of(crate, name, "pub fn")
-    end = lines.index("{", at)
-    clauses = "\n".join(line for line in lines[at:end] if not line.strip().startswith("//"))
-    first = re.search(r"^    (?:requires|ensures) ", clauses, re.M).start()
-    return path, closure(cited(clauses[first:], *imports(lines)))
+    def __init__(self, crate, name, kind, end="}"):
+        for path in sorted((TOP / "crates" / crate / "src").rglob("*.rt")):
+            lines = path.read_text().splitlines()
+            at = next((k for k, line in enumerate(lines) if re.match(rf"\s*{kind} {name}\b", line)), None)
+            if at is not None:
+                break
+        else:
+            sys.exit(f"tools/reading.py: crates/{crate}/src has no `{kind} {name}`")
+        above = re.search(r"((?: *///.*\n)*)(?: *#\[.*\n)*$", "\n".join([*lines[:at], ""])).group(1)
+        self.said = " ".join(line.strip()[3:].strip() for line in above.splitlines()).split("  ")[0]
+        self.lines = lines[at : lines.index(end, at)] if end in lines[at:] else lines[at:]
+        self.place, self.scope = place(path), Scope(lines)
 
 
 def place(path):
     return f"`{path.relative_to(TOP)}`"
 
 
-def doc_of(lines, at):
-    """The first paragraph of the comment above a line of code."""
-    found = []
-    for line in reversed(lines[:at]):
-        if line.strip().startswith("///"):
-            found.insert(0, line.strip()[3:].strip())
-        elif not line.strip().startswith("#["):
-            break
-    return " ".join(found).split("  ")[0]
-
-
-def rows(table):
-    return [f"| `{name}` | {said.replace('|', chr(92) + '|')} |" for name, said in table] + [""]
+def contract(crate, name):
+    call = Item(crate, name, "pub fn", "{")
+    clauses = "\n".join(line for line in call.lines if not line.strip().startswith("//"))
+    first = re.search(r"^    (?:requires|ensures) ", clauses, re.M).start()
+    return call.place, closure(call.scope.cited(clauses[first:]))
 
 
 def wrapped(text, indent=""):
     return textwrap.wrap(text, 118, subsequent_indent=indent, break_long_words=False, break_on_hyphens=False)
 
 
+def table(heads, rows):
+    escaped = ((name, said.replace("|", "\\|")) for name, said in rows)
+    return [f"| {' | '.join(heads)} |", "|---|---|", *(f"| `{name}` | {said} |" for name, said in escaped), ""]
+
+
 def table_of(definitions, code):
     out = []
-    for name, module in MODULES.items():
-        here = [(d, said) for d, (said, _) in module.definitions.items() if (name, d) in definitions]
+    for module in MODULES.values():
+        here = [(name, said) for name, (said, _) in module.definitions.items() if (module.name, name) in definitions]
         if here:
-            out += [f"### {place(module.path)}", "", *wrapped(module.title), "", "| Definition | What it says |", "|---|---|", *rows(here)]
-    here = []
-    for crate, _, item in code:
-        path, lines, at = source_of(crate, item, r"(?:pub(?:\(crate\))? )?(?:enum|struct|const)")
-        here.append((item, f"{doc_of(lines, at)} ({place(path)})"))
-    if here:
-        out += ["### Types and constants of the code", "", "| Item | What it is |", "|---|---|", *rows(here)]
+            listed = table(("Definition", "What it says"), here)
+            out += [f"### {place(module.path)}", "", *wrapped(module.title), "", *listed]
+    items = [(name, Item(crate, name, ITEM)) for crate, _, name in code]
+    if items:
+        said = [(name, f"{item.said} ({item.place})") for name, item in items]
+        out += ["### Types and constants of the code", "", *table(("Item", "What it is"), said)]
     return out
 
 
@@ -206,26 +178,30 @@ def count(definitions):
     return f"{len(definitions)} definitions, {lines} lines in {files} {'file' if files == 1 else 'files'}"
 
 
+def above(definitions, code):
+    """A list of what stands in the lists above."""
+    for module in MODULES.values():
+        here = [f"`{name}`" for name in module.definitions if (module.name, name) in definitions]
+        if here:
+            yield from wrapped(f"- {place(module.path)}: {', '.join(here)}", "  ")
+    if code:
+        yield from wrapped(f"- of the code: {', '.join(f'`{name}`' for _, _, name in code)}", "  ")
+
+
 def lists():
     out, known, known_code, words_of = [], set(), [], {}
-    for crate, name, above in CONTRACTS:
-        path, (definitions, code) = contract(crate, name)
+    for crate, name, others in CONTRACTS:
+        file, (definitions, code) = contract(crate, name)
         words_of[name] = definitions
-        for other in above:
-            definitions = definitions - words_of[other]
-        said = f"The contract in {place(path)} rests on {count(definitions)}, without comments and blanks"
-        said += "".join(f", and on what `{other}` rests on" for other in above)
+        definitions = definitions.difference(*(words_of[other] for other in others))
+        said = f"The contract in {file} rests on {count(definitions)}, without comments and blanks"
+        said += "".join(f", and on what `{other}` rests on" for other in others)
         out += [f"## `{name}`", "", *wrapped(said + ".")]
-        new, new_code = definitions - known, [item for item in code if item not in known_code]
         if known:
-            out += ["", "Of the lists above:", ""]
-            for module in MODULES.values():
-                here = [f"`{d}`" for d in module.definitions if (module.name, d) in definitions & known]
-                out += wrapped(f"- {place(module.path)}: {', '.join(here)}", "  ") if here else []
-            shared = [f"`{item[2]}`" for item in code if item in known_code]
-            out += wrapped(f"- of the code: {', '.join(shared)}", "  ") if shared else []
-            out += ["", "And these:"]
-        out += ["", *table_of(new, new_code)]
+            shared = above(definitions & known, [item for item in code if item in known_code])
+            out += ["", "Of the lists above:", "", *shared, "", "And these:"]
+        new_code = [item for item in code if item not in known_code]
+        out += ["", *table_of(definitions - known, new_code)]
         known, known_code = known | definitions, known_code + new_code
     return out, known
 
@@ -234,35 +210,39 @@ def variables(known):
     """The clauses of the traits that the contracts are generic in, and what a value of a type stands for."""
     out, roots = ["## What the variables stand for", ""], []
     for crate, name in TRAITS:
-        path, lines, at = source_of(crate, name, "pub trait")
-        block = lines[at : lines.index("}", at) + 1]
-        shown = [line for line in block if line.strip() and not line.strip().startswith("///")]
-        roots += cited("\n".join(block), *imports(lines))
-        out += [*wrapped(f"`{name}` ({place(path)}): {doc_of(lines, at)}"), "", "```text", *shown, "```", ""]
+        item = Item(crate, name, "pub trait")
+        roots += item.scope.cited("\n".join(item.lines))
+        shown = [line for line in item.lines if line.strip() and not line.strip().startswith("///")]
+        out += [*wrapped(f"`{name}` ({item.place}): {item.said}"), "", "```text", *shown, "}", "```", ""]
     for crate, name in VIEWS:
-        path, lines, at = source_of(crate, name, "impl Model for")
-        block = lines[at : lines.index("}", at)]
-        ghosts = re.findall(r"ghost (Value|view|invariant) = \{ (.*?) \};", "\n".join(block), re.S)
-        names, modules = imports(lines)
-        roots += cited("\n".join(text for _, text in ghosts), names, modules)
+        item = Item(crate, name, "impl Model for")
+        ghosts = re.findall(r"ghost (Value|view|invariant) = \{ (.*?) \};", "\n".join(item.lines), re.S)
+        roots += item.scope.cited("\n".join(text for _, text in ghosts))
         said = "; ".join(f"{what.lower()} `{text}`" for what, text in ghosts)
-        out += [*wrapped(f"`{name}` ({place(path)}) stands in a clause for its view: {said}."), ""]
+        out += [*wrapped(f"`{name}` ({item.place}) stands in a clause for its view: {said}."), ""]
     definitions, _ = closure(roots)
-    out += ["Apart from what the lists below have, these cite:", "", *table_of(definitions - known, [])]
-    return out
+    return [*out, "Apart from what the lists below have, these cite:", "", *table_of(definitions - known, [])]
 
 
 def fault():
-    path, lines, at = source_of("autfmt", "Fault", "pub enum")
+    item = Item("autfmt", "Fault", "pub enum")
     found, said = [], []
-    for line in lines[at + 1 : lines.index("}", at)]:
-        line = line.strip()
+    for line in map(str.strip, item.lines[1:]):
         if line.startswith("///"):
             said.append(line[3:].strip())
         elif not line.startswith("#["):
             found.append((line.rstrip(","), " ".join(said)))
             said = []
-    return [*wrapped(f"`Fault` ({place(path)}): {doc_of(lines, at)}"), "", "| Variant | When |", "|---|---|", *rows(found)]
+    return [*wrapped(f"`Fault` ({item.place}): {item.said}"), "", *table(("Variant", "When"), found)]
+
+
+def page():
+    text = PAGE.read_text()
+    if text.count(BEGIN) != 1 or text.count(END) != 1:
+        sys.exit(f"tools/reading.py: docs/reading.md wants one line {BEGIN} and one line {END}")
+    front, back = text[: text.index(BEGIN)], text[text.index(END) :]
+    made, known = lists()
+    return front + "\n".join([BEGIN, "", *variables(known), *fault(), *made]).rstrip() + "\n\n" + back
 
 
 def write(text):
@@ -276,26 +256,17 @@ def write(text):
             beside.unlink()
 
 
-def page():
-    text = PAGE.read_text()
-    if text.count(BEGIN) != 1 or text.count(END) != 1:
-        sys.exit(f"tools/reading.py: docs/reading.md wants one line {BEGIN} and one line {END}")
-    front, back = text[: text.index(BEGIN)], text[text.index(END) :]
-    made, known = lists()
-    return front + "\n".join([BEGIN, "", *variables(known), *fault(), *made]).rstrip() + "\n\n" + back
-
-
 def main():
+    if sys.argv[1:] not in ([], ["--write"]):
+        sys.exit(__doc__)
     try:
-        if sys.argv[1:] == ["--write"]:
+        if sys.argv[1:]:
             write(page())
-        elif sys.argv[1:]:
-            sys.exit(__doc__)
         else:
-            sys.stdout.write(page())
-            sys.stdout.flush()
+            print(page(), end="", flush=True)
     except OSError as error:
-        sys.stderr.write(f"tools/reading.py: {error}\n")
+        print(f"tools/reading.py: {error}", file=sys.stderr, flush=True)
+        # What is left in the buffer cannot be written.
         os._exit(1)
 
 

@@ -60,30 +60,26 @@ def stripped(text):
     return f"{text[:head]}#[allow(unused_imports)]\nuse kit::Vec;\n{text[head:]}"
 
 
-def package(folder, name, needs):
-    needs = "".join(f'{other} = {{ path = "../{other}" }}\n' for other in needs)
-    folder.mkdir(parents=True, exist_ok=True)
-    (folder / "Cargo.toml").write_text(f'[package]\nname = "{name}"\nedition = "2021"\n\n[dependencies]\n{needs}')
-
-
 def make():
+    """Writes a package for each crate, for the shim and for the tool, and a workspace around them."""
     lines = [line.split(":") for line in (TOP / "crates.txt").read_text().splitlines() if ":" in line and line[0] != "#"]
-    needs = {name.strip(): [other for other in rest.split() if other in CRATES] for name, rest in lines}
+    needs = {name: ["kit", *(other for other in rest.split() if other in CRATES)] for name, rest in lines}
+    packages = {"kit": [], **{name: needs[name] for name in CRATES}, "tool": ["kit", *CRATES]}
     shutil.rmtree(OUT, ignore_errors=True)
-    for name in CRATES:
-        package(OUT / name, name, ["kit", *needs[name]])
-        (OUT / name / "src").mkdir()
-        for file in sorted((TOP / "crates" / name / "src").glob("*.rt")):
-            (OUT / name / "src" / file.with_suffix(".rs").name).write_text(stripped(file.read_text()))
-    for name, more in (("kit", []), ("tool", ["kit", *CRATES])):
-        package(OUT / name, name, more)
-        (OUT / name / "src").mkdir()
+    for name, others in packages.items():
+        sources = OUT / name / "src"
+        sources.mkdir(parents=True)
+        others = "".join(f'{other} = {{ path = "../{other}" }}\n' for other in others)
+        manifest = f'[package]\nname = "{name}"\nedition = "2021"\n\n[dependencies]\n{others}'
+        sources.with_name("Cargo.toml").write_text(manifest)
+        for file in (TOP / "crates" / name / "src").glob("*.rt"):
+            (sources / f"{file.stem}.rs").write_text(stripped(file.read_text()))
     shutil.copy(HERE / "kit.rs", OUT / "kit" / "src" / "lib.rs")
     shutil.copy(HERE / "tool.rs", OUT / "tool" / "src" / "main.rs")
     shutil.copy(HERE.parent / "yardstick" / "src" / "text.rs", OUT / "tool" / "src")
-    members = ", ".join(f'"{name}"' for name in ("kit", *CRATES, "tool"))
-    profile = '[profile.release]\nopt-level = 3\nlto = true\ncodegen-units = 1\npanic = "abort"\ndebug = 1\n'
-    (OUT / "Cargo.toml").write_text(f'[workspace]\nresolver = "2"\nmembers = [{members}]\n\n{profile}')
+    members = ", ".join(f'"{name}"' for name in packages)
+    profile = 'opt-level = 3\nlto = true\ncodegen-units = 1\npanic = "abort"\ndebug = 1\n'
+    (OUT / "Cargo.toml").write_text(f'[workspace]\nresolver = "2"\nmembers = [{members}]\n\n[profile.release]\n{profile}')
 
 
 def main():
@@ -94,8 +90,10 @@ def main():
             make()
         cargo = "cargo", "build", "--release", "--offline", "--quiet", "--manifest-path", OUT / "Cargo.toml"
         sys.exit(subprocess.run(cargo, env={**os.environ, "RUSTFLAGS": "-Awarnings"}).returncode)
-    except (OSError, KeyError, IndexError) as error:
-        sys.exit(f"measure/plain/strip.py: {error!r}")
+    except OSError as error:
+        sys.exit(f"measure/plain/strip.py: {error}")
+    except (KeyError, IndexError) as error:
+        sys.exit(f"measure/plain/strip.py: crates.txt or a crate is not as it was: {error!r}")
 
 
 if __name__ == "__main__":

@@ -18,6 +18,7 @@ use std::io::Write;
 
 const USAGE: &str = "usage: yardstick min [--relation strong|branching] [--every] FILE";
 
+#[derive(Default)]
 struct Job {
     branching: bool,
     every: bool,
@@ -25,25 +26,22 @@ struct Job {
 }
 
 fn job(mut words: impl Iterator<Item = String>) -> Option<Job> {
-    let (mut branching, mut every, mut file) = (false, false, None);
-    if words.next()? != "min" {
-        return None;
-    }
-    while let Some(word) = words.next() {
-        match word.as_str() {
-            "--relation" => {
-                branching = match words.next()?.as_str() {
-                    "strong" => false,
-                    "branching" => true,
-                    _ => return None,
-                }
-            }
-            "--every" => every = true,
-            _ if file.is_none() && !word.starts_with('-') => file = Some(word),
-            _ => return None,
+    let mut job = Job::default();
+    words.next().filter(|word| word == "min")?;
+    loop {
+        match words.next()?.as_str() {
+            "--every" => job.every = true,
+            "--relation" => match words.next()?.as_str() {
+                "strong" => job.branching = false,
+                "branching" => job.branching = true,
+                _ => return None,
+            },
+            file => job.file = file.to_string(),
+        }
+        if !job.file.is_empty() {
+            return Some(job).filter(|job| !job.file.starts_with('-') && words.next().is_none());
         }
     }
-    Some(Job { branching, every, file: file? })
 }
 
 fn run(job: &Job) -> Result<(), String> {

@@ -2,6 +2,8 @@
 
 use crate::rows::{Step, NONE};
 use crate::text::fold;
+use std::collections::hash_map::{Entry, HashMap};
+use std::hash::{BuildHasherDefault, Hasher};
 
 /// A label, and a block or, with this mark, the number of another signature.
 const IS_SIGNATURE: u32 = 1 << 31;
@@ -10,54 +12,51 @@ fn pair(label: u32, target: u32) -> u64 {
     (label as u64) << 32 | target as u64
 }
 
-/// Lists of pairs in rising order, one after the other, found again by a table of their hashes.
+/// Lists of pairs in rising order, one after the other, found again by their hashes.
 pub struct Signatures {
     pairs: Vec<u64>,
     ends: Vec<usize>,
-    hashes: Vec<u64>,
-    slots: Vec<u32>,
+    /// The number of a list by its hash, or by one of the next numbers if others have that hash.
+    numbers: HashMap<u64, u32, BuildHasherDefault<Same>>,
     own: Vec<u64>,
     inert: Vec<u32>,
     apart: bool,
 }
 
+/// The hasher of what is a hash.
+#[derive(Default)]
+pub struct Same(u64);
+
+impl Hasher for Same {
+    fn write(&mut self, _: &[u8]) {}
+    fn write_u64(&mut self, hash: u64) {
+        self.0 = hash;
+    }
+    fn finish(&self) -> u64 {
+        self.0
+    }
+}
+
 impl Signatures {
     /// Where all states of one call of `clear` are of one block, or where those of different blocks are kept `apart`.
     pub fn new(apart: bool) -> Signatures {
-        let (pairs, hashes, own, inert) = (vec![], vec![], vec![], vec![]);
-        Signatures { pairs, ends: vec![0], hashes, slots: vec![NONE; 1024], own, inert, apart }
+        Signatures { pairs: vec![], ends: vec![0], numbers: HashMap::default(), own: vec![], inert: vec![], apart }
     }
 
     pub fn count(&self) -> u32 {
-        self.hashes.len() as u32
+        self.ends.len() as u32 - 1
     }
 
     /// Forgets all signatures but a first one that has number 0 and equals no other.
     pub fn clear(&mut self) {
-        if self.slots.len() > 8 * self.hashes.len() {
-            // Each chain of slots has begun at a hash.
-            for &hash in &self.hashes {
-                let mut slot = self.begin(hash);
-                while std::mem::replace(&mut self.slots[slot], NONE) != NONE {
-                    slot = self.after(slot);
-                }
-            }
-        } else {
-            self.slots.fill(NONE);
+        // A map takes time by its capacity.
+        if self.numbers.capacity() > 64 + 8 * self.numbers.len() {
+            self.numbers = HashMap::default();
         }
+        self.numbers.clear();
         self.pairs.clear();
         self.ends.truncate(1);
         self.ends.push(0);
-        self.hashes.clear();
-        self.hashes.push(0);
-    }
-
-    fn begin(&self, hash: u64) -> usize {
-        hash as usize & (self.slots.len() - 1)
-    }
-
-    fn after(&self, slot: usize) -> usize {
-        (slot + 1) & (self.slots.len() - 1)
     }
 
     fn list(&self, k: u32) -> &[u64] {
@@ -114,35 +113,26 @@ impl Signatures {
     }
 
     fn keep(&mut self) -> u32 {
-        let hash = self.own.iter().fold(self.own.len() as u64, |hash, &pair| fold(hash ^ pair));
-        let mut slot = self.begin(hash);
-        while self.slots[slot] != NONE {
-            let k = self.slots[slot];
-            if self.hashes[k as usize] == hash && self.list(k) == self.own {
-                return k;
+        let number = self.count();
+        let mut hash = self.own.iter().fold(self.own.len() as u64, |hash, &pair| fold(hash ^ pair));
+        loop {
+            match self.numbers.entry(hash) {
+                Entry::Vacant(free) => {
+                    free.insert(number);
+                    break;
+                }
+                Entry::Occupied(kept) => {
+                    let k = *kept.get();
+                    if self.pairs[self.ends[k as usize]..self.ends[k as usize + 1]] == self.own {
+                        return k;
+                    }
+                }
             }
-            slot = self.after(slot);
+            hash = hash.wrapping_add(1);
         }
-        let k = self.count();
-        self.slots[slot] = k;
         self.pairs.extend_from_slice(&self.own);
         self.ends.push(self.pairs.len());
-        self.hashes.push(hash);
-        if 2 * self.hashes.len() > self.slots.len() {
-            self.widen();
-        }
-        k
-    }
-
-    fn widen(&mut self) {
-        self.slots = vec![NONE; 4 * self.slots.len()];
-        for k in 1..self.hashes.len() {
-            let mut slot = self.begin(self.hashes[k]);
-            while self.slots[slot] != NONE {
-                slot = self.after(slot);
-            }
-            self.slots[slot] = k as u32;
-        }
+        number
     }
 }
 
