@@ -1,5 +1,5 @@
 -- What a run or a comparison comes to: its answer, which text is faulty, or what failed.
-use Rattle.std.proofs.Common.{◌≡◌, ◌↔◌, ◌⊎◌, ℕ, Bool, IsTrue, List, ◌++◌, Option, Some, None, IfSome, if◌then◌else◌, inl, inr, ap, refl, sym, subst, arith}
+use Rattle.std.proofs.Common.{◌≡◌, ◌↔◌, ◌⊎◌, ℕ, Bool, IsTrue, List, ◌++◌, Option, Some, None, IfSome, if◌then◌else◌, inl, inr, ap, refl, sym, subst}
 use Rattle.std.specs.Io.KnownBytes.{Consumes}
 use Rattle.lts.specs.Meter.{Counts}
 use Rattle.std.specs.List.Sorted.{IsSorted}

@@ -1,4 +1,4 @@
-use Rattle.std.proofs.Common.{◌≡◌, ap, inl, inr, sym, option_map, option_to_list, string_bytes}
+use Rattle.std.proofs.Common.{◌≡◌, ap, inl, inr, sym, option_map, string_bytes}
 use Rattle.autbis.specs.Files.{FilesUsed, files_used}
 use Rattle.autbis.specs.Jobs.{hide_of, texts_of}
 use Rattle.autbis.proofs.Carried.{passes}
