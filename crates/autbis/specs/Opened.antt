@@ -1,9 +1,10 @@
 -- What a job names, once it is open.
 use Rattle.std.specs.Prelude.{◌≡◌, ◌≢◌, ◌↔◌, ℕ, List, [], Option, Some, IfSome, ⊤}
+use Rattle.theory.specs.declared.relation.Relation.{Relation}
 use Rattle.autbis.specs.Ends.{Contents}
 use Rattle.autbis.specs.Ends.Contents.{one, two}
 use Rattle.autbis.specs.Files.{FilesUsed, HasAll, Name}
-use Rattle.autbis.specs.Jobs.{HidesNamed, files_of, hide_of, texts_of, told_of}
+use Rattle.autbis.specs.Jobs.{HidesNamed, files_of, hide_of, relation_of, texts_of, told_of}
 use Rattle.autbis.specs.declared.opening.Texts.{Texts}
 use Rattle.autbis.specs.declared.opening.Texts.TheVariants.{Input, One, Two}
 use Rattle.words.specs.declared.words.Job.{Job}
@@ -40,7 +41,8 @@ pub record AreOpened {File : Type 0}
 
 -- all that a job names was opened, and its hide list read
 pub record IsOpened {F File : Type 0}
-    (rest : File → Option (List ℕ)) (files : FilesUsed F File) (job : Job) (opened : Texts File × List (List ℕ)) : Type 0 where
+    (rest : File → Option (List ℕ)) (files : FilesUsed F File) (job : Job) (opened : Texts File × List (List ℕ) × Relation) : Type 0 where
   pub all : HasAll files (files_of job)
   pub texts : AreOpened rest files.file_failures (files.holds files.old) job opened.0
   pub hidden : HidesNamed (files.holds files.old) (hide_of job) opened.1
+  pub relation : opened.2 ≡ relation_of job

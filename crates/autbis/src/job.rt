@@ -72,10 +72,9 @@ pub fn do_job<F: Opener, R: Source, W: Sink, E: Write>(
         (used R.rest R.failures input.old input.new) (used W.written W.failures output.old output.new)
         job.now result }
 {
-    let (Job::Min { relation, .. } | Job::Cmp { relation, .. }) = job;
-    let (rel, stats) = (*relation, matches!(job, Job::Min { stats: true, .. }));
+    let stats = matches!(job, Job::Min { stats: true, .. });
     let lim = &Limits::file();
-    let (texts, h) = match open_job(alloc, job, files, e) {
+    let (texts, h, rel) = match open_job(alloc, job, files, e) {
         Ok(opened) => opened,
         Err(status) => return status,
     };

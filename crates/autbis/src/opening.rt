@@ -7,6 +7,7 @@ ghost use Rattle.autbis.specs.Opened.{AreOpened, IsOpened};
 use crate::opener::Opener;
 use crate::reports::{cannot_open, report};
 use autfmt::{Hidden, read_hidden};
+use quotient::Relation;
 use std::alloc::Global;
 use std::io::Write;
 use words::Job;
@@ -29,22 +30,22 @@ pub struct Named<'a, File> {
     pub file: File,
 }
 
-/// Opens all that the job names: its texts, and then its hide list, which is read; none after one that cannot be opened. Fails
-/// with the exit status: 2 if the list is faulty, 4 for want of memory, 5 if a file cannot be opened, or the list not read.
+/// Opens the texts of the job, and then its hide list, which is read; none after one that cannot be opened. Returns them and the
+/// job's relation. Fails with the exit status: 2 for a faulty list, 4 for want of memory, 5 for what cannot be opened or read.
 pub fn open_job<'a, F: Opener, E: Write>(
     alloc: Global,
     job: &'a Job,
     files: &mut F,
     e: &mut E,
-) -> Result<(Texts<'a, F::File>, Hidden), u8>
+) -> Result<(Texts<'a, F::File>, Hidden, Relation), u8>
     ensures opened { IfOk result (IsOpened F.File.rest
         (files_used F.holds F.opened F.failures F.File.failures files.old files.new) job.now) }
     ensures given_up { IfErr result (IsGivenUp (files_used F.holds F.opened F.failures F.File.failures files.old files.new)
         (files_of job.now) (hide_of job.now)) }
 {
     let texts = open_texts(job, files, e)?;
-    let (Job::Min { hide, .. } | Job::Cmp { hide, .. }) = job;
-    Ok((texts, hidden_of(alloc, files, hide, e)?))
+    let (Job::Min { relation, hide, .. } | Job::Cmp { relation, hide, .. }) = job;
+    Ok((texts, hidden_of(alloc, files, hide, e)?, *relation))
 }
 
 /// Opens the texts of a job. Fails with the exit status, 5, if one cannot be opened.
