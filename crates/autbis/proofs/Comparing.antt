@@ -13,7 +13,7 @@ use Rattle.lts.specs.Meter.{Counts}
 use Rattle.quotient.specs.Visits.{KeepsTo}
 use Rattle.autfmt.specs.Bounds.{Bounds}
 use Rattle.autfmt.specs.Readers.{ReadsAs}
-use Rattle.autbis.specs.Comparisons.{CountsComparison, CountsUnion, IsVerdict, ReadBoth, states_of, transitions_of}
+use Rattle.autbis.specs.Comparisons.{CountsUnion, IsVerdict, ReadBoth, states_of, transitions_of}
 use Rattle.autbis.specs.Runs.{Request}
 
 -- the laws that the comparison rests on
@@ -88,7 +88,8 @@ module _ (asked : Request) (first second : List ℕ) (s t : Grouped)
       keeps = rw (← states_are, ← transitions_are) keeps;
     }
 
-    pub counted_part : (least : ℕ) → KeepsTo (s.states + t.states) (length s.places + length t.places) 1 at least → CountsComparison both_read at
+    pub counted_part : (least : ℕ) → KeepsTo (s.states + t.states) (length s.places + length t.places) 1 at least →
+        KeepsTo (states_of both_read) (transitions_of both_read) 1 at 0
     counted_part least keeps = record {
       few_rounds = rw (← states_are) keeps.few_rounds;
       at_least = omega arith;

@@ -1,5 +1,5 @@
 -- What a run or a comparison comes to: its answer, which text is faulty, or what failed.
-use Rattle.std.proofs.Common.{◌≡◌, ◌↔◌, ◌⊎◌, ℕ, Bool, IsTrue, List, ◌++◌, Option, Some, None, IfSome, if◌then◌else◌, inl, inr, ap, refl, sym, subst, arith}
+use Rattle.std.proofs.Common.{◌≡◌, ◌↔◌, ◌⊎◌, ℕ, Bool, IsTrue, List, ◌++◌, Option, Some, None, IfSome, if◌then◌else◌, inl, inr, ap, refl, sym, subst}
 use Rattle.std.specs.Io.KnownBytes.{Consumes}
 use Rattle.lts.specs.Meter.{Counts}
 use Rattle.std.specs.List.Sorted.{IsSorted}
@@ -13,6 +13,7 @@ use Rattle.autfmt.specs.Faults.{FirstFault}
 use Rattle.autfmt.specs.HideLists.{FirstHideFault, HideReads}
 use Rattle.autfmt.specs.HideOutcomes.{HideRefuses}
 use Rattle.autfmt.specs.HideOutcomes.HideRefuses.{faulty_text as list_fault, failed_source as list_lost, no_memory as list_memory}
+use Rattle.autfmt.specs.HideReaders.{IsHideFault}
 use Rattle.autfmt.specs.Outcomes.{Refuses}
 use Rattle.autfmt.specs.Outcomes.Refuses.{faulty_text, failed_source, no_memory as refused_memory}
 use Rattle.autfmt.specs.Readers.{IsTextFault}
@@ -21,16 +22,16 @@ use Rattle.autfmt.specs.Written.{listed, transition_cmp}
 use Rattle.autbis.specs.declared.compare.CmpFault.{CmpFault}
 use Rattle.autbis.specs.declared.compare.Side.TheVariants.{First}
 use Rattle.autbis.specs.Comparisons.{CmpFails, ComparesTo, IsVerdict, ReadBoth, line_of}
-use Rattle.autbis.specs.Comparisons.CmpFails.{first_side, after_first}
-use Rattle.autbis.specs.Comparisons.FailsAfterFirst.{second_side, run_side}
-use Rattle.autbis.specs.Comparisons.NoLine.{no_memory as no_room, failed_sink}
-use Rattle.autbis.specs.Ends.{Contents, EndsRun, HasFaultyText, StreamUsed}
+use Rattle.autbis.specs.Comparisons.CmpFails.{first_not_read, second_not_read, out_of_memory as no_room, not_written as no_line}
+use Rattle.autbis.specs.Ends.{Contents, EndsRun, HasFaultyText, IsAnswer, OfText}
 use Rattle.autbis.specs.Ends.Contents.{one, two}
 use Rattle.autbis.specs.Ends.EndsRun.{answered, faulty, no_memory, lost, cut_short}
+use Rattle.autbis.specs.Opened.{AreAsTold}
 use Rattle.autbis.specs.Reports.{status_of}
 use Rattle.autbis.specs.Runs.{IsFaulty, IsReadable, MinimisedText, Request, RunFails, Used}
 use Rattle.autbis.specs.Runs.RunFails.{not_read, out_of_memory, not_written}
 use Rattle.autbis.proofs.Carried.{all_taken, of_all}
+use Rattle.autbis.proofs.InOrder.{told_then}
 
 -- what holds of the bytes that were taken and of those that are left holds of the text that was told
 told_whole : (P : List ℕ → Type 0) (given : List ℕ) (told rest : Option (List ℕ)) → Consumes told rest given →
@@ -73,11 +74,7 @@ compared : (asked : Request) {first second : List ℕ} {same : Bool} {status : �
     × (IsTrue x ↔ Equivalent asked.relation (Hide asked.hidden A) (Hide asked.hidden B)) × (line_of same ≡ line_of x) × (status ≡ (if x then 0 else 1))
 compared asked {same = same} both verdict is = (both.one, both.other, both.reads_first, both.reads_second, same, verdict, refl, is)
 
--- what a source, a sink or a call was used for
-abbrev pub used : {T : Type 0} → StreamUsed T → Used
-used stream = record { before = stream.tells stream.old; after = stream.tells stream.new; failures = stream.failures stream.new }
-
-module _ {Out : Type 0} (asked : Request) (law : NotBoth asked.bounds) (output : StreamUsed Out) where
+module _ {Out : Type 0} (asked : Request) (law : NotBoth asked.bounds) (output : Used Out) where
   -- a run that read no system of a text
   ends_unread : {contents : Contents} {Sound Lost : Type 0} (given : List ℕ) (told rest : Option (List ℕ)) (failures : ℕ) (fault : Fault) →
       Consumes told rest given → output.new ≡ output.old → (failures ≡ 0 → Sound) → (failures ≡ 1 → Lost) →
@@ -91,62 +88,89 @@ module _ {Out : Type 0} (asked : Request) (law : NotBoth asked.bounds) (output :
       no_memory (sound zero) (ap status_of memory) kept
 
   -- a run that failed
-  pub ends_run : {given : List ℕ} {source : Used} {at : Counts} {fault : Fault} → Consumes source.before source.after given →
-      (output.failures output.new ≡ 0 → output.new ≡ output.old) → RunFails asked given source (used output) at fault →
+  pub ends_run : {In : Type 0} {given : List ℕ} {source : Used In} {at : Counts} {fault : Fault} → Consumes source.before source.after given →
+      (output.failures ≡ 0 → output.new ≡ output.old) → RunFails asked given source output at fault →
       EndsRun asked (one source.before) (source.failures ≡ 0) (source.failures ≡ 1) output (status_of fault)
-  ends_run {given} {source} {at} {fault} took kept (not_read refused sound fresh) =
+  ends_run {given = given} {source = source} {fault = fault} took kept (not_read refused sound fresh) =
       ends_unread given source.before source.after source.failures fault took (kept sound) (λ z. z) (λ z. z) (λ z. z) refused
-  ends_run took kept (out_of_memory got memory sound) = no_memory got.exhausted.sound (ap status_of memory) (kept sound)
-  ends_run {given} {source} took kept (not_written got device failed to begun) =
-      cut_short got.exhausted.sound (ap status_of device) failed (listed to.output) 0
-      (of_all source.before source.after given _ took got.exhausted.at_end (minimised to refl)) begun
+  ends_run took kept (out_of_memory got memory sound) = no_memory got.0.1 (ap status_of memory) (kept sound)
+  ends_run {given = given} {source = source} took kept (not_written got device failed to begun) =
+      cut_short got.0.1 (ap status_of device) failed (listed to.output) 0
+      (of_all source.before source.after given _ took got.0.0 (minimised to refl)) begun
 
-  module _ {first : List ℕ} {source other : Used} {at : Counts} (took : Consumes source.before source.after first) where
+  module _ {A B : Type 0} {first : List ℕ} {source : Used A} {other : Used B} {at : Counts} (took : Consumes source.before source.after first) where
     -- a comparison that came to a verdict
     pub ends_verdict : {same : Bool} {status : ℕ} {Lost : Type 0} → status ≡ (if same then 0 else 1) →
-        ComparesTo asked first source other (used output) at same →
+        ComparesTo asked first source other output at same →
         EndsRun asked (two source.before other.before) ((source.failures ≡ 0) × (other.failures ≡ 0)) Lost output status
-    ends_verdict {same} is did = answered (did.exhausted.0.sound, did.exhausted.1.sound) (line_of same)
-        (of_all source.before source.after first _ took did.exhausted.0.at_end
-        (of_all other.before other.after did.second _ did.took did.exhausted.1.at_end (compared asked did.both did.verdict is)))
-        did.written.written did.written.sound
+    ends_verdict {same} is did =
+        let got = did.got in
+        answered (got.exhausted.0.1, got.exhausted.1.1) (line_of same)
+        (of_all source.before source.after first _ took got.exhausted.0.0
+        (of_all other.before other.after got.second _ got.took got.exhausted.1.0 (compared asked got.both did.verdict is)))
+        did.written.0 did.written.1
 
     -- one that failed
-    pub ends_cmp : {fault : CmpFault} (Unread : Type 0) → (fault.side ≡ First → Unread) → (output.failures output.new ≡ 0 → output.new ≡ output.old) →
-        CmpFails asked first source other (used output) at fault →
+    pub ends_cmp : {fault : CmpFault} (Unread : Type 0) → (fault.side ≡ First → Unread) → (output.failures ≡ 0 → output.new ≡ output.old) →
+        CmpFails asked first source other output at fault →
         EndsRun asked (two source.before other.before) ((source.failures ≡ 0) × (other.failures ≡ 0))
         (((source.failures ≡ 1) × Unread) ⊎ ((source.failures ≡ 0) × (other.failures ≡ 1))) output (status_of fault.fault)
-    ends_cmp {fault} Unread unread kept (first_side side refused sound fresh) =
-        ends_unread first source.before source.after source.failures fault.fault took (kept sound.1)
-        (λ zero. (zero, sound.0)) (λ failed. inl (failed, unread side)) inl refused
-    ends_cmp {fault} Unread unread kept (after_first whole second took' (second_side side readable refused sound fresh)) =
+    ends_cmp {fault} Unread unread kept (first_not_read side refused untouched sound fresh) =
+        ends_unread first source.before source.after source.failures fault.fault took (kept sound)
+        (λ zero. (zero, untouched)) (λ failed. inl (failed, unread side)) inl refused
+    ends_cmp {fault} Unread unread kept (second_not_read side whole readable second took' refused sound fresh) =
         ends_unread second other.before other.after other.failures fault.fault took' (kept sound)
-        (λ zero. (whole.sound, zero)) (λ failed. inr (whole.sound, failed))
-        (λ wrong. inr (all_taken source.before source.after first (IsReadable asked.bounds) took whole.at_end readable, wrong)) refused
-    ends_cmp Unread unread kept (after_first whole second took' (run_side side whole' both counts (no_room memory sound))) =
-        no_memory (whole.sound, whole'.sound) (ap status_of memory) (kept sound)
-    ends_cmp Unread unread kept (after_first whole second took' (run_side side whole' both counts (failed_sink device failed same verdict begun))) =
-        cut_short (whole.sound, whole'.sound) (ap status_of device) failed (line_of same) (if same then 0 else 1)
-        (of_all source.before source.after first _ took whole.at_end
-        (of_all other.before other.after second _ took' whole'.at_end (compared asked both verdict refl))) begun
+        (λ zero. (whole.1, zero)) (λ failed. inr (whole.1, failed))
+        (λ wrong. inr (all_taken source.before source.after first (IsReadable asked.bounds) took whole.0 readable, wrong)) refused
+    ends_cmp Unread unread kept (no_room side memory got sound) =
+        no_memory (got.exhausted.0.1, got.exhausted.1.1) (ap status_of memory) (kept sound)
+    ends_cmp Unread unread kept (no_line side device got failed same verdict begun) =
+        cut_short (got.exhausted.0.1, got.exhausted.1.1) (ap status_of device) failed (line_of same) (if same then 0 else 1)
+        (of_all source.before source.after first _ took got.exhausted.0.0
+        (of_all other.before other.after got.second _ got.took got.exhausted.1.0 (compared asked got.both verdict refl))) begun
 
     -- its fault is of the first text, or that one reads as a system
-    pub first_or_readable : {fault : CmpFault} → CmpFails asked first source other (used output) at fault →
+    pub first_or_readable : {fault : CmpFault} → CmpFails asked first source other output at fault →
         (fault.side ≡ First) ⊎ IfSome source.before (IsReadable asked.bounds)
-    first_or_readable (first_side side refused sound fresh) = inl side
-    first_or_readable (after_first whole second took' (second_side side readable refused sound fresh)) =
-        inr (all_taken source.before source.after first (IsReadable asked.bounds) took whole.at_end readable)
-    first_or_readable (after_first whole second took' (run_side side whole' both counts no_line)) =
-        inr (all_taken source.before source.after first (IsReadable asked.bounds) took whole.at_end (both.one, both.reads_first))
+    first_or_readable (first_not_read side refused untouched sound fresh) = inl side
+    first_or_readable (second_not_read side whole is second took' refused sound fresh) = inr (all_taken source.before source.after first (IsReadable asked.bounds) took whole.0 is)
+    first_or_readable (no_room side memory got sound) =
+        inr (all_taken source.before source.after first (IsReadable asked.bounds) took got.exhausted.0.0 (got.both.one, got.both.reads_first))
+    first_or_readable (no_line side device got failed same verdict begun) =
+        inr (all_taken source.before source.after first (IsReadable asked.bounds) took got.exhausted.0.0 (got.both.one, got.both.reads_first))
 
--- what is said of some sources may be said of others, if what is said of those follows
-pub ends_weaker : {Out : Type 0} {asked : Request} {contents : Contents} {Sound Lost Sound' Lost' : Type 0} {output : StreamUsed Out} {status : ℕ} →
-    (Sound → Sound') → (Lost → Lost') → EndsRun asked contents Sound Lost output status → EndsRun asked contents Sound' Lost' output status
-ends_weaker sound loses (answered zero bytes is appends kept) = answered (sound zero) bytes is appends kept
-ends_weaker sound loses (faulty zero is wrong kept) = faulty (sound zero) is wrong kept
-ends_weaker sound loses (no_memory zero is kept) = no_memory (sound zero) is kept
-ends_weaker sound loses (cut_short zero is failed bytes wanted answer begun) = cut_short (sound zero) is failed bytes wanted answer begun
-ends_weaker sound loses (lost failed is kept) = lost (loses failed) is kept
+-- what holds of a text holds of what is told of it
+of_told : (told text : Option (List ℕ)) {P Q : List ℕ → Type 0} → ((given : List ℕ) → P given → Q given) → IfSome told (λ bytes. text ≡ Some bytes) → OfText text P → OfText told Q
+of_told None text follows is (given, _, holds) = (given, tt, follows given holds)
+of_told (Some bytes) text follows is (given, same, holds) = (given, rw is at same, follows given holds)
+
+module _ (asked : Request) where
+  -- the answer to contents is that to what is told of them
+  answer_told : (bytes : List ℕ) (status : ℕ) (told contents : Contents) → AreAsTold told contents → IsAnswer asked contents bytes status → IsAnswer asked told bytes status
+  answer_told bytes status (one told) (one text) is answer = of_told told text (λ given h. h) is answer
+  answer_told bytes status (two told more) (two text other) (is, also) answer =
+      of_told told text (λ given. of_told more other (λ next h. h) also) is answer
+  answer_told bytes status (one told) (two text other) is answer = absurd is
+  answer_told bytes status (two told more) (one text) is answer = absurd is
+
+  -- and if contents are faulty, so is what is told of them
+  fault_told : (told contents : Contents) → AreAsTold told contents → HasFaultyText asked.bounds contents → HasFaultyText asked.bounds told
+  fault_told (one told) (one text) is wrong = told_then told text _ is wrong
+  fault_told (two told more) (two text other) (is, also) (inl wrong) = inl (told_then told text _ is wrong)
+  fault_told (two told more) (two text other) (is, also) (inr (reads, wrong)) = inr (told_then told text _ is reads, told_then more other _ also wrong)
+  fault_told (one told) (two text other) is wrong = absurd is
+  fault_told (two told more) (one text) is wrong = absurd is
+
+-- what is said of contents and some sources may be said of what is told of them, and of other sources if it follows
+pub ends_told : {Out : Type 0} {asked : Request} {told contents : Contents} {Sound Lost Sound' Lost' : Type 0} {output : Used Out} {status : ℕ} → AreAsTold told contents →
+    (Sound → Sound') → (Lost → Lost') → EndsRun asked contents Sound Lost output status → EndsRun asked told Sound' Lost' output status
+ends_told {asked = asked} {told = told} is sound loses (answered zero bytes answer appends kept) =
+    answered (sound zero) bytes (answer_told asked _ _ told _ is answer) appends kept
+ends_told {asked = asked} {told = told} is sound loses (faulty zero exit wrong kept) = faulty (sound zero) exit (fault_told asked told _ is wrong) kept
+ends_told is sound loses (no_memory zero exit kept) = no_memory (sound zero) exit kept
+ends_told {asked = asked} {told = told} is sound loses (cut_short zero exit failed bytes wanted answer begun) =
+    cut_short (sound zero) exit failed bytes wanted (answer_told asked _ _ told _ is answer) begun
+ends_told is sound loses (lost failed exit kept) = lost (loses failed) exit kept
 
 -- the law that no hide list reads and has a fault
 abbrev pub NotBothOfList : Type 0
@@ -157,10 +181,17 @@ is_faulty_list : NotBothOfList → (fault : Fault) (told : Option (List ℕ)) �
 is_faulty_list law fault None first = tt
 is_faulty_list law fault (Some text) first = λ H reads. law text H fault reads first
 
--- with the status 2 the hide list that was told is faulty
-pub faulty_list : NotBothOfList → (given : List ℕ) (told rest : Option (List ℕ)) (failures : ℕ) (fault : Fault) → Consumes told rest given →
-    HideRefuses given rest failures fault → status_of fault ≡ 2 → IfSome told (λ list. (H : List (List ℕ)) → ¬ HideReads list H)
-faulty_list law given told rest failures fault took (list_fault sound of_text first) is =
-    is_faulty_list law fault told (told_whole (λ text. FirstHideFault text fault) given told rest took first)
-faulty_list law given told rest failures fault took (list_lost failed device unknown) is = absurd (omega (arith, ap status_of device, is))
-faulty_list law given told rest failures fault took (list_memory sound memory) is = absurd (omega (arith, ap status_of memory, is))
+-- a fault of a hide list has the status 2
+list_status : (fault : Fault) → IsHideFault fault → status_of fault ≡ 2
+list_status Device h = absurd h
+list_status Memory h = absurd h
+list_status _ h = refl
+
+-- why a hide list was not read, by the status
+pub list_unread : NotBothOfList → (given : List ℕ) (told rest : Option (List ℕ)) (failures : ℕ) (fault : Fault) → Consumes told rest given →
+    HideRefuses given rest failures fault →
+    ((status_of fault ≡ 2) × IfSome told (λ list. (H : List (List ℕ)) → ¬ HideReads list H)) ⊎ ((status_of fault ≡ 4) ⊎ ((status_of fault ≡ 5) × (failures ≡ 1)))
+list_unread law given told rest failures fault took (list_fault sound of_list first) =
+    inl (list_status fault of_list, is_faulty_list law fault told (told_whole (λ text. FirstHideFault text fault) given told rest took first))
+list_unread law given told rest failures fault took (list_lost failed device unknown) = inr (inr (ap status_of device, failed))
+list_unread law given told rest failures fault took (list_memory sound memory) = inr (inl (ap status_of memory))

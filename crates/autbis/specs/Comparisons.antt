@@ -9,7 +9,6 @@ use Rattle.lts.specs.Meter.{Counts, IsFresh}
 use Rattle.quotient.specs.Visits.{KeepsTo}
 use Rattle.autfmt.specs.Bounds.{Bounds}
 use Rattle.autfmt.specs.Texts.{Reads}
-use Rattle.autfmt.specs.declared.fault.Fault.{Fault}
 use Rattle.autfmt.specs.declared.fault.Fault.TheVariants.{Device, Memory}
 use Rattle.autfmt.specs.Outcomes.{Refuses}
 use Rattle.autfmt.specs.Stream.{AppendsBeginning}
@@ -46,37 +45,31 @@ pub record CountsUnion (asked : Request) {first second : List ℕ} (both : ReadB
   pub turns : Turns asked.relation (union_of (Hide asked.hidden both.one) (Hide asked.hidden both.other)) at.rounds
   pub keeps : KeepsTo (states_of both) (transitions_of both) 1 at ((at.rounds + 1) * transitions_of both)
 
--- a comparison read both texts to their ends, a sink has gained the line of the verdict, and the meter shows what that takes
-pub record ComparesTo (asked : Request) (first : List ℕ) (one other sink : Used) (at : Counts) (same : Bool) : Type 0 where
+-- both texts were read to their ends, of the second one these bytes; a fresh meter then shows no more than a comparison may take
+pub record GotBoth {A B : Type 0} (bounds : Bounds) (first : List ℕ) (one : Used A) (other : Used B) (at : Counts) : Type 0 where
   pub second : List ℕ
   pub took : Consumes other.before other.after second
   pub exhausted : IsExhausted one × IsExhausted other
-  pub both : ReadBoth asked.bounds first second
-  pub verdict : IsVerdict asked both same
+  pub both : ReadBoth bounds first second
+  pub keeps : KeepsTo (states_of both) (transitions_of both) 1 at 0
+
+-- a comparison read both texts, a sink has gained the line of the verdict, and the meter shows what that takes
+pub record ComparesTo {A B Out : Type 0} (asked : Request) (first : List ℕ) (one : Used A) (other : Used B) (sink : Used Out) (at : Counts) (same : Bool) : Type 0 where
+  pub got : GotBoth asked.bounds first one other at
+  pub verdict : IsVerdict asked got.both same
   pub written : Gains sink (line_of same)
-  pub counts : CountsUnion asked both at
+  pub counts : CountsUnion asked got.both at
 
--- a fresh meter counted no more than a comparison of the texts may take
-abbrev pub CountsComparison : {bounds : Bounds} {first second : List ℕ} → ReadBoth bounds first second → Counts → Type 0
-CountsComparison both at = KeepsTo (states_of both) (transitions_of both) 1 at 0
-
--- why two texts that were read got no line: a growth was refused, or the sink failed
-pub data NoLine (asked : Request) {first second : List ℕ} (both : ReadBoth asked.bounds first second) (sink : Used) (fault : Fault) : Type 0 where
-  no_memory : fault ≡ Memory → sink.failures ≡ 0 → NoLine asked both sink fault
-  failed_sink : fault ≡ Device → sink.failures ≡ 1 → (same : Bool) → IsVerdict asked both same →
-      AppendsBeginning sink.before sink.after (line_of same) → NoLine asked both sink fault
-
--- why a comparison failed after its first text: the second one, of which these bytes were taken, was not read, or no line written
-pub data FailsAfterFirst (asked : Request) (first second : List ℕ) (other sink : Used) (at : Counts) (fault : CmpFault) : Type 0 where
-  second_side : fault.side ≡ Second → IsReadable asked.bounds first →
-      Refuses asked.bounds second other.after other.failures fault.fault → sink.failures ≡ 0 → IsFresh at →
-      FailsAfterFirst asked first second other sink at fault
-  run_side : fault.side ≡ Run → IsExhausted other → (both : ReadBoth asked.bounds first second) → CountsComparison both at →
-      NoLine asked both sink fault.fault → FailsAfterFirst asked first second other sink at fault
-
--- why a comparison failed: its first text, of which these bytes were taken, was not read, or what comes after it failed
-pub data CmpFails (asked : Request) (first : List ℕ) (one other sink : Used) (at : Counts) (fault : CmpFault) : Type 0 where
-  first_side : fault.side ≡ First → Refuses asked.bounds first one.after one.failures fault.fault →
-      (other.failures ≡ 0) × (sink.failures ≡ 0) → IsFresh at → CmpFails asked first one other sink at fault
-  after_first : IsExhausted one → (second : List ℕ) → Consumes other.before other.after second →
-      FailsAfterFirst asked first second other sink at fault → CmpFails asked first one other sink at fault
+-- why a comparison failed: its first text, of which these bytes were taken, was not read; or that was, and the second one not; or
+-- both were, and then a growth was refused; or the sink failed, and has a beginning of the line of the verdict
+pub data CmpFails {A B Out : Type 0} (asked : Request) (first : List ℕ) (one : Used A) (other : Used B) (sink : Used Out) (at : Counts) (fault : CmpFault) : Type 0 where
+  first_not_read : fault.side ≡ First → Refuses asked.bounds first one.after one.failures fault.fault →
+      other.failures ≡ 0 → sink.failures ≡ 0 → IsFresh at → CmpFails asked first one other sink at fault
+  second_not_read : fault.side ≡ Second → IsExhausted one → IsReadable asked.bounds first →
+      (second : List ℕ) → Consumes other.before other.after second → Refuses asked.bounds second other.after other.failures fault.fault →
+      sink.failures ≡ 0 → IsFresh at → CmpFails asked first one other sink at fault
+  out_of_memory : fault.side ≡ Run → fault.fault ≡ Memory → GotBoth asked.bounds first one other at → sink.failures ≡ 0 →
+      CmpFails asked first one other sink at fault
+  not_written : fault.side ≡ Run → fault.fault ≡ Device → (got : GotBoth asked.bounds first one other at) → sink.failures ≡ 1 →
+      (same : Bool) → IsVerdict asked got.both same → AppendsBeginning sink.before sink.after (line_of same) →
+      CmpFails asked first one other sink at fault

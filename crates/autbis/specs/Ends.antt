@@ -10,18 +10,7 @@ use Rattle.autfmt.specs.Stream.{AppendsBeginning}
 use Rattle.autfmt.specs.Texts.{Reads}
 use Rattle.autfmt.specs.Written.{listed, transition_cmp}
 use Rattle.autbis.specs.Comparisons.{line_of}
-use Rattle.autbis.specs.Runs.{IsFaulty, Request}
-
--- what a call did with a source or a sink: it before and after, the bytes that it tells, and how often it failed
-pub record StreamUsed (T : Type 0) : Type 0 where
-  pub old : T
-  pub new : T
-  pub tells : T → Option (List ℕ)
-  pub failures : T → ℕ
-
--- what is said of a source or a sink before and after a call
-abbrev pub stream_used : {T : Type 0} → (T → Option (List ℕ)) → (T → ℕ) → (old new : T) → StreamUsed T
-stream_used tells failures old new = record { old = old; new = new; tells = tells; failures = failures }
+use Rattle.autbis.specs.Runs.{IsFaulty, Request, Used}
 
 -- P holds of a text: the one that a source tells, or some text if it tells none
 abbrev pub OfText : Option (List ℕ) → (List ℕ → Type 0) → Type 0
@@ -53,14 +42,13 @@ HasFaultyText bounds (two first second) =
 -- written; or a text is faulty, or memory was refused, and the output is as it was; or the output failed, and has a beginning of
 -- the answer. With Lost, the output is as it was.
 pub data EndsRun {Out : Type 0}
-    (asked : Request) (contents : Contents) (Sound Lost : Type 0) (output : StreamUsed Out) (status : ℕ) : Type 0 where
+    (asked : Request) (contents : Contents) (Sound Lost : Type 0) (output : Used Out) (status : ℕ) : Type 0 where
   answered : Sound → (bytes : List ℕ) → IsAnswer asked contents bytes status →
-      Appends (output.tells output.old) (output.tells output.new) bytes → output.failures output.new ≡ 0 →
-      EndsRun asked contents Sound Lost output status
+      Appends output.before output.after bytes → output.failures ≡ 0 → EndsRun asked contents Sound Lost output status
   faulty : Sound → status ≡ 2 → HasFaultyText asked.bounds contents → output.new ≡ output.old →
       EndsRun asked contents Sound Lost output status
   no_memory : Sound → status ≡ 4 → output.new ≡ output.old → EndsRun asked contents Sound Lost output status
-  cut_short : Sound → status ≡ 5 → output.failures output.new ≡ 1 → (bytes : List ℕ) → (wanted : ℕ) →
-      IsAnswer asked contents bytes wanted → AppendsBeginning (output.tells output.old) (output.tells output.new) bytes →
+  cut_short : Sound → status ≡ 5 → output.failures ≡ 1 → (bytes : List ℕ) → (wanted : ℕ) →
+      IsAnswer asked contents bytes wanted → AppendsBeginning output.before output.after bytes →
       EndsRun asked contents Sound Lost output status
   lost : Lost → status ≡ 5 → output.new ≡ output.old → EndsRun asked contents Sound Lost output status

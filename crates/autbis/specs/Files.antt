@@ -9,10 +9,6 @@ Name = List ℕ
 abbrev pub Opens : Option (List Name) → Option (List Name) → List Name → Type 0
 Opens old new names = IfSome old (λ known. new ≡ Some (known ++ names))
 
--- names are asked for in this order: all of them, or none after one of them
-abbrev pub OpensInOrder : List Name → Option (List Name) → Option (List Name) → Type 0
-OpensInOrder names old new = (asked later : List Name) × (names ≡ asked ++ later) × Opens old new asked
-
 -- what a call did with files: these before and after, what each holds and which names were asked for, as far as that is told,
 -- and how often one could not be opened, or failed
 pub record FilesUsed (F File : Type 0) : Type 0 where
@@ -27,6 +23,16 @@ pub record FilesUsed (F File : Type 0) : Type 0 where
 abbrev pub files_used : {F File : Type 0} → (F → Name → Option (List ℕ)) → (F → Option (List Name)) → (F → ℕ) → (File → ℕ) → (old new : F) → FilesUsed F File
 files_used holds opened failures file_failures old new =
     record { old = old; new = new; holds = holds; opened = opened; failures = failures; file_failures = file_failures }
+
+-- files of these names were asked for, in their order, and had; what files hold is as it was
+pub data HasAll {F File : Type 0} (files : FilesUsed F File) (names : List Name) : Type 0 where
+  had : Opens (files.opened files.old) (files.opened files.new) names → files.failures files.new ≡ files.failures files.old →
+      files.holds files.new ≡ files.holds files.old → HasAll files names
+
+-- of files that are opened in this order one could not be had, and none was asked for after it; the status is then 5
+abbrev pub IsRefused : {F File : Type 0} → FilesUsed F File → List Name → (status : ℕ) → Type 0
+IsRefused files names status = (asked later : List Name) × (names ≡ asked ++ later)
+    × Opens (files.opened files.old) (files.opened files.new) asked × (files.failures files.new ≡ 1) × (status ≡ 5)
 
 -- a file that was opened has failed
 abbrev pub HasLost : {File : Type 0} → (File → ℕ) → Type 0

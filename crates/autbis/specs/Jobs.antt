@@ -4,10 +4,10 @@ use Rattle.theory.specs.declared.relation.Relation.{Relation}
 use Rattle.autfmt.specs.Bounds.{file_bounds}
 use Rattle.autfmt.specs.HideLists.{HideReads}
 use Rattle.autfmt.specs.HideReaders.{HidesAs}
-use Rattle.autbis.specs.Ends.{Contents, EndsRun, StreamUsed}
+use Rattle.autbis.specs.Ends.{Contents, EndsRun}
 use Rattle.autbis.specs.Ends.Contents.{one, two}
-use Rattle.autbis.specs.Files.{FilesUsed, HasLost, Name, Opens, OpensInOrder}
-use Rattle.autbis.specs.Runs.{asks}
+use Rattle.autbis.specs.Files.{FilesUsed, HasAll, HasLost, IsRefused, Name}
+use Rattle.autbis.specs.Runs.{Used}
 use Rattle.words.specs.declared.words.Job.{Job}
 use Rattle.words.specs.declared.words.Job.TheVariants.{Min, Cmp}
 
@@ -35,44 +35,32 @@ abbrev pub HidesNamed : (Name → Option (List ℕ)) → Option Name → List (L
 HidesNamed holds None H = H ≡ []
 HidesNamed holds (Some name) H = IfSome (holds name) (λ list. HidesAs list H)
 
--- a text is what is told of it
-abbrev pub IsAsTold : (told text : Option (List ℕ)) → Type 0
-IsAsTold told text = IfSome told (λ bytes. text ≡ Some bytes)
-
--- the contents are those of the job's texts: what its files hold, or standard input
-abbrev pub AreTextsOf : (Name → Option (List ℕ)) → (input : Option (List ℕ)) → Job → Contents → Type 0
-AreTextsOf holds input (Min relation stats hide None) (one text) = text ≡ input
-AreTextsOf holds input (Min relation stats hide (Some file)) (one text) = IsAsTold (holds (string_bytes file)) text
-AreTextsOf holds input (Cmp relation hide first second) (two a b) =
-    IsAsTold (holds (string_bytes first)) a × IsAsTold (holds (string_bytes second)) b
-AreTextsOf holds input job contents = ⊥
+-- what is told of the job's texts: what its files hold, or standard input
+abbrev pub told_of : (Name → Option (List ℕ)) → (input : Option (List ℕ)) → Job → Contents
+told_of holds input (Min relation stats hide None) = one input
+told_of holds input (Min relation stats hide (Some file)) = one (holds (string_bytes file))
+told_of holds input (Cmp relation hide first second) = two (holds (string_bytes first)) (holds (string_bytes second))
 
 -- a hide list that is named is faulty, if it is told: it is one of no labels
 abbrev pub HasFaultyList : (Name → Option (List ℕ)) → Option Name → Type 0
 HasFaultyList holds hide = IsSomeAnd hide (λ name. IfSome (holds name) (λ list. (H : List (List ℕ)) → ¬ HideReads list H))
 
--- a job was given up before its texts were read: its hide list is faulty; memory was refused; or a file could not be opened,
--- or the hide list failed
-abbrev pub IsGivenUp : {F File : Type 0} → FilesUsed F File → Job → ℕ → Type 0
-IsGivenUp files job status = ((status ≡ 2) × HasFaultyList (files.holds files.old) (hide_of job))
-    ⊎ ((status ≡ 4) ⊎ ((status ≡ 5) × ((files.failures files.new ≡ 1) ⊎ ((hide_of job ≢ None) × HasLost files.file_failures))))
+-- a hide list was not read: it is faulty, or memory was refused, or it failed
+abbrev pub IsListUnread : {F File : Type 0} → FilesUsed F File → (hide : Option Name) → (status : ℕ) → Type 0
+IsListUnread files hide status = ((status ≡ 2) × HasFaultyList (files.holds files.old) hide)
+    ⊎ ((status ≡ 4) ⊎ ((status ≡ 5) × (hide ≢ None) × HasLost files.file_failures))
 
--- what a job came to: it was given up, and no stream was used; or its texts were run, and one is lost only if standard input
--- failed, or texts are named and a file failed
-pub data Outcome {F File In Out : Type 0}
-    (files : FilesUsed F File) (input : StreamUsed In) (output : StreamUsed Out) (job : Job) (status : ℕ) : Type 0 where
-  given_up : IsGivenUp files job status → input.new ≡ input.old → output.new ≡ output.old → Outcome files input output job status
-  ran : (H : List (List ℕ)) → HidesNamed (files.holds files.old) (hide_of job) H →
-      (contents : Contents) → AreTextsOf (files.holds files.old) (input.tells input.old) job contents →
-      EndsRun (asks (relation_of job) file_bounds H) contents (input.failures input.new ≡ 0)
-      ((input.failures input.new ≡ 1) ⊎ ((texts_of job ≢ []) × HasLost files.file_failures)) output status → Outcome files input output job status
+-- files of these names were to be opened, and then the hide list read: one of them could not be had, or the list was not read
+abbrev pub IsGivenUp : {F File : Type 0} → FilesUsed F File → List Name → (hide : Option Name) → (status : ℕ) → Type 0
+IsGivenUp files names hide status = IsRefused files names status ⊎ (HasAll files names × IsListUnread files hide status)
 
--- a job ended in this status: its outcome, and the files that it asked for; if none was refused, all of them, and if one was, the
--- status is 5; standard input is read only if no text is named
-pub record EndsIn {F File In Out : Type 0}
-    (files : FilesUsed F File) (input : StreamUsed In) (output : StreamUsed Out) (job : Job) (status : ℕ) : Type 0 where
-  pub outcome : Outcome files input output job status
-  pub order : OpensInOrder (files_of job) (files.opened files.old) (files.opened files.new)
-  pub all_opened : files.failures files.new ≡ 0 → Opens (files.opened files.old) (files.opened files.new) (files_of job)
-  pub sound : (status ≡ 5) ⊎ (files.failures files.new ≡ 0)
-  pub unread : texts_of job ≢ [] → input.new ≡ input.old
+-- what a job came to: it was given up before its texts were read, and no stream was used; or all its files were had, and its
+-- texts were run. Standard input is read only if no text is named, and one is lost only if that failed, or a file that is named
+pub data EndsIn {F File In Out : Type 0} (files : FilesUsed F File) (input : Used In) (output : Used Out) (job : Job) (status : ℕ) : Type 0 where
+  given_up : IsGivenUp files (files_of job) (hide_of job) status → input.new ≡ input.old → output.new ≡ output.old →
+      EndsIn files input output job status
+  ran : HasAll files (files_of job) → (texts_of job ≢ [] → input.new ≡ input.old) →
+      (H : List (List ℕ)) → HidesNamed (files.holds files.old) (hide_of job) H →
+      EndsRun (record { relation = relation_of job; bounds = file_bounds; hidden = H })
+      (told_of (files.holds files.old) input.before job) (input.failures ≡ 0)
+      ((input.failures ≡ 1) ⊎ ((texts_of job ≢ []) × HasLost files.file_failures)) output status → EndsIn files input output job status

@@ -1,10 +1,10 @@
 -- What a job names, once it is open.
-use Rattle.std.specs.Prelude.{◌≡◌, ◌≢◌, ◌↔◌, ℕ, List, [], Option, ⊤}
+use Rattle.std.specs.Prelude.{◌≡◌, ◌≢◌, ◌↔◌, ℕ, List, [], Option, Some, IfSome, ⊤}
+use Rattle.theory.specs.declared.relation.Relation.{Relation}
 use Rattle.autbis.specs.Ends.{Contents}
 use Rattle.autbis.specs.Ends.Contents.{one, two}
-use Rattle.autbis.specs.Files.{Name}
-use Rattle.autbis.specs.Jobs.{AreTextsOf, HidesNamed, hide_of, relation_of, texts_of}
-use Rattle.autbis.specs.declared.opening.Opened.{Opened}
+use Rattle.autbis.specs.Files.{FilesUsed, HasAll, Name}
+use Rattle.autbis.specs.Jobs.{HidesNamed, files_of, hide_of, relation_of, texts_of, told_of}
 use Rattle.autbis.specs.declared.opening.Texts.{Texts}
 use Rattle.autbis.specs.declared.opening.Texts.TheVariants.{Input, One, Two}
 use Rattle.words.specs.declared.words.Job.{Job}
@@ -13,7 +13,7 @@ use Rattle.words.specs.declared.words.Job.{Job}
 abbrev pub contents_of : {File : Type 0} → (File → Option (List ℕ)) → (input : Option (List ℕ)) → Texts File → Contents
 contents_of rest input Input = one input
 contents_of rest input (One text) = one (rest text.file)
-contents_of rest input (Two both) = two (rest both.first.file) (rest both.second.file)
+contents_of rest input (Two first second) = two (rest first.file) (rest second.file)
 
 -- they are files
 abbrev pub AreFiles : {File : Type 0} → Texts File → Type 0
@@ -24,18 +24,25 @@ AreFiles _ = ⊤
 abbrev pub HaveNotFailed : {File : Type 0} → (File → ℕ) → Texts File → Type 0
 HaveNotFailed failures Input = ⊤
 HaveNotFailed failures (One text) = failures text.file ≡ 0
-HaveNotFailed failures (Two both) = (failures both.first.file ≡ 0) × (failures both.second.file ≡ 0)
+HaveNotFailed failures (Two first second) = (failures first.file ≡ 0) × (failures second.file ≡ 0)
+
+-- contents are what is told of them
+abbrev pub AreAsTold : (told contents : Contents) → Type 0
+AreAsTold (one told) (one text) = IfSome told (λ bytes. text ≡ Some bytes)
+AreAsTold (two told more) (two text other) = IfSome told (λ bytes. text ≡ Some bytes) × IfSome more (λ bytes. other ≡ Some bytes)
+AreAsTold _ _ = ⊥
 
 -- the texts of a job were opened
 pub record AreOpened {File : Type 0}
     (rest : File → Option (List ℕ)) (failures : File → ℕ) (holds : Name → Option (List ℕ)) (job : Job) (texts : Texts File) : Type 0 where
-  pub contents : (input : Option (List ℕ)) → AreTextsOf holds input job (contents_of rest input texts)
+  pub contents : (input : Option (List ℕ)) → AreAsTold (told_of holds input job) (contents_of rest input texts)
   pub files : AreFiles texts ↔ (texts_of job ≢ [])
   pub sound : HaveNotFailed failures texts
 
--- and so was its hide list
-pub record IsOpened {File : Type 0}
-    (rest : File → Option (List ℕ)) (failures : File → ℕ) (holds : Name → Option (List ℕ)) (job : Job) (opened : Opened File) : Type 0 where
-  pub texts : AreOpened rest failures holds job opened.texts
-  pub relation : opened.relation ≡ relation_of job
-  pub hidden : HidesNamed holds (hide_of job) opened.hidden
+-- all that a job names was opened, and its hide list read
+pub record IsOpened {F File : Type 0}
+    (rest : File → Option (List ℕ)) (files : FilesUsed F File) (job : Job) (opened : Texts File × List (List ℕ) × Relation) : Type 0 where
+  pub all : HasAll files (files_of job)
+  pub texts : AreOpened rest files.file_failures (files.holds files.old) job opened.0
+  pub hidden : HidesNamed (files.holds files.old) (hide_of job) opened.1
+  pub relation : opened.2 ≡ relation_of job

@@ -12,10 +12,6 @@ status_of Device = 5
 status_of Memory = 4
 status_of _ = 2
 
--- the exit status of some fault
-abbrev pub IsFaultStatus : ℕ → Type 0
-IsFaultStatus status = (status ≡ 2) ⊎ ((status ≡ 4) ⊎ (status ≡ 5))
-
 -- the exit status of a fault of the words: 3 if they ask for no job, 4 for memory; help is none
 abbrev pub word_status : WordFault → ℕ
 word_status (word.Usage text) = 3

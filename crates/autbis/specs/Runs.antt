@@ -29,21 +29,26 @@ pub record Request : Type 0 where
 abbrev pub asks : Relation → Bounds → List (List ℕ) → Request
 asks rel bounds H = record { relation = rel; bounds = bounds; hidden = H }
 
--- what a call did with a source or a sink: the bytes to come, or those written, as told before and after, and its failures
-pub record Used : Type 0 where
+-- what a call did with a source or a sink: it before and after, the bytes to come, or those written, as it then tells them, and
+-- how often it had failed
+pub record Used (T : Type 0) : Type 0 where
+  pub old : T
+  pub new : T
   pub before : Option (List ℕ)
   pub after : Option (List ℕ)
   pub failures : ℕ
 
+-- what a call did with one that tells its bytes and its failures so
+abbrev pub used : {T : Type 0} → (T → Option (List ℕ)) → (T → ℕ) → (old new : T) → Used T
+used tells failures old new = record { old = old; new = new; before = tells old; after = tells new; failures = failures new }
+
 -- a source was read to its end, and did not fail
-pub record IsExhausted (source : Used) : Type 0 where
-  pub at_end : IsAtEnd source.after
-  pub sound : source.failures ≡ 0
+abbrev pub IsExhausted : {T : Type 0} → Used T → Type 0
+IsExhausted source = IsAtEnd source.after × (source.failures ≡ 0)
 
 -- a sink gained these bytes, and did not fail
-pub record Gains (sink : Used) (bytes : List ℕ) : Type 0 where
-  pub written : Appends sink.before sink.after bytes
-  pub sound : sink.failures ≡ 0
+abbrev pub Gains : {T : Type 0} → Used T → List ℕ → Type 0
+Gains sink bytes = Appends sink.before sink.after bytes × (sink.failures ≡ 0)
 
 -- Q is the quotient of A, equivalent to A, with no two bisimilar states and the fewest of all that are equivalent
 pub record Minimises (rel : Relation) (A Q : System) : Type 0 where
@@ -72,7 +77,7 @@ IsFaulty bounds text = (A : System) → ¬ Reads bounds text A
 
 -- a run read a text to its end, wrote the text of what it is minimised to, and made the rounds that its system takes, each with
 -- a visit of every transition, and at most two visits more of each
-pub record RunsTo (asked : Request) (text : List ℕ) (source sink : Used) (at : meter.Counts) (counts : Counts) : Type 0 where
+pub record RunsTo {In Out : Type 0} (asked : Request) (text : List ℕ) (source : Used In) (sink : Used Out) (at : meter.Counts) (counts : Counts) : Type 0 where
   pub to : MinimisedText asked text
   pub sizes : counts ≡ record { states = to.input.states; transitions = length to.input.transitions }
   pub written : Gains sink (listed to.output)
@@ -81,14 +86,11 @@ pub record RunsTo (asked : Request) (text : List ℕ) (source sink : Used) (at :
   pub exhausted : IsExhausted source
 
 -- a run read a text to its end, and a fresh meter then shows no more than a run over its system may take
-pub record GotAsFar (bounds : Bounds) (text : List ℕ) (source : Used) (at : meter.Counts) : Type 0 where
-  pub input : System
-  pub read : Reads bounds text input
-  pub keeps : KeepsTo input.states (length input.transitions) 2 at 0
-  pub exhausted : IsExhausted source
+abbrev pub GotAsFar : {T : Type 0} → Bounds → List ℕ → Used T → meter.Counts → Type 0
+GotAsFar bounds text source at = IsExhausted source × (A : System) × Reads bounds text A × KeepsTo A.states (length A.transitions) 2 at 0
 
 -- why a run wrote no text: none was read from the bytes given; or one was, and then a growth was refused, or the sink failed
-pub data RunFails (asked : Request) (given : List ℕ) (source sink : Used) (at : meter.Counts) (fault : Fault) : Type 0 where
+pub data RunFails {In Out : Type 0} (asked : Request) (given : List ℕ) (source : Used In) (sink : Used Out) (at : meter.Counts) (fault : Fault) : Type 0 where
   not_read : Refuses asked.bounds given source.after source.failures fault → sink.failures ≡ 0 → IsFresh at →
       RunFails asked given source sink at fault
   out_of_memory : GotAsFar asked.bounds given source at → fault ≡ Memory → sink.failures ≡ 0 → RunFails asked given source sink at fault

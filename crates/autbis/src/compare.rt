@@ -12,7 +12,7 @@ ghost use Rattle.autfmt.specs.Outcomes.{ReadsTo, Refuses, Takes};
 ghost use Rattle.autfmt.specs.Stream.{AppendsBeginning, CountsFailure};
 ghost use Rattle.autfmt.specs.declared.fault.Fault.TheVariants.{Device, Memory};
 ghost use Rattle.autbis.specs.Comparisons.{CmpFails, ComparesTo, line_of};
-ghost use Rattle.autbis.specs.Runs.{Request, Used};
+ghost use Rattle.autbis.specs.Runs.{Request, used};
 ghost use Rattle.autbis.specs.declared.compare.Side.TheVariants.{First, Run};
 
 use crate::reports::put_whole;
@@ -79,9 +79,9 @@ pub fn run_cmp<M: Meter, R1: Source, R2: Source, W: Sink>(
     // What a verdict means, and which error comes when.
     ensures outcome { let at = M.counted m.new in
         let asked : Request = record { relation = rel; bounds = lim.now; hidden = h.now } in
-        let one : Used = record { before = R1.rest a.old; after = R1.rest a.new; failures = R1.failures a.new } in
-        let other : Used = record { before = R2.rest b.old; after = R2.rest b.new; failures = R2.failures b.new } in
-        let sink : Used = record { before = W.written w.old; after = W.written w.new; failures = W.failures w.new } in
+        let one = used R1.rest R1.failures a.old a.new in
+        let other = used R2.rest R2.failures b.old b.new in
+        let sink = used W.written W.failures w.old w.new in
         Takes one.before one.after (λ first. ComparesTo asked first one other sink at)
         (λ first. CmpFails asked first one other sink at) result }
 

@@ -1,16 +1,12 @@
 //! A job from its words to its exit status, over any files and streams.
-ghost use Rattle.std.specs.Prelude.{◌≡◌, ◌⊎◌, IfOk, IfErr, IsErrAnd, map, string_bytes};
-ghost use Rattle.autfmt.specs.Bounds.{file_bounds};
-ghost use Rattle.autbis.specs.Ends.{EndsRun, stream_used};
-ghost use Rattle.autbis.specs.Files.{HasLost, files_used};
+ghost use Rattle.std.specs.Prelude.{◌≡◌, IfOk, IfErr};
+ghost use Rattle.autbis.specs.Files.{files_used};
 ghost use Rattle.autbis.specs.Jobs.{EndsIn};
-ghost use Rattle.autbis.specs.Opened.{AreFiles, HaveNotFailed, contents_of};
-ghost use Rattle.autbis.specs.Programs.{AnswersWords, IsUnread};
-ghost use Rattle.autbis.specs.Runs.{asks};
-ghost use Rattle.words.specs.Words.{IsFaultOf, IsJobOf};
+ghost use Rattle.autbis.specs.Programs.{AnswersWords, AskFor, AskForNone};
+ghost use Rattle.autbis.specs.Runs.{used};
 
 use crate::opener::Opener;
-use crate::opening::{Opened, Texts, open_job};
+use crate::opening::{Texts, open_job};
 use crate::program::{cmp_program, min_program};
 use crate::reports::answer_words;
 use autfmt::{Limits, Sink, Source};
@@ -35,16 +31,10 @@ pub fn main_program<F: Opener, R: Source, W: Sink, E: Write>(
     output: &mut W,
     e: &mut E,
 ) -> u8
-    requires files { F.failures files.old ≡ 0 }
     requires input { R.failures input.old ≡ 0 }
     requires output { W.failures output.old ≡ 0 }
-    ensures answer { IfOk words (λ words. let words = map string_bytes words.items in
-        AnswersWords (IsJobOf words) (IsFaultOf words)
-        (files_used F.holds F.opened F.failures F.File.failures files.old files.new)
-        (stream_used R.rest R.failures input.old input.new) (stream_used W.written W.failures output.old output.new) result) }
-    ensures unread { IfErr words (λ error. AnswersWords (λ _. ⊥) (IsUnread error)
-        (files_used F.holds F.opened F.failures F.File.failures files.old files.new)
-        (stream_used R.rest R.failures input.old input.new) (stream_used W.written W.failures output.old output.new) result) }
+    ensures answer { AnswersWords words (files_used F.holds F.opened F.failures F.File.failures files.old files.new)
+        (used R.rest R.failures input.old input.new) (used W.written W.failures output.old output.new) result }
 {
     match asked(alloc, words) {
         Ok(job) => do_job(alloc, &job, files, input, output, e),
@@ -54,9 +44,8 @@ pub fn main_program<F: Opener, R: Source, W: Sink, E: Write>(
 
 /// The job that the words ask for.
 fn asked(alloc: Global, words: io::Result<Vec<String>>) -> Result<Job, WordFault>
-    ensures job { IfOk words (λ words. IfOk result (IsJobOf (map string_bytes words.items))) }
-    ensures fault { IfOk words (λ words. IfErr result (IsFaultOf (map string_bytes words.items))) }
-    ensures unread { IfErr words (λ error. IsErrAnd result (IsUnread error)) }
+    ensures job { IfOk result (AskFor words) }
+    ensures fault { IfErr result (AskForNone words) }
 {
     match words {
         Ok(words) => command(alloc, words),
@@ -77,46 +66,29 @@ pub fn do_job<F: Opener, R: Source, W: Sink, E: Write>(
     output: &mut W,
     e: &mut E,
 ) -> u8
-    requires files { F.failures files.old ≡ 0 }
     requires input { R.failures input.old ≡ 0 }
     requires output { W.failures output.old ≡ 0 }
     ensures ends { EndsIn (files_used F.holds F.opened F.failures F.File.failures files.old files.new)
-        (stream_used R.rest R.failures input.old input.new) (stream_used W.written W.failures output.old output.new)
+        (used R.rest R.failures input.old input.new) (used W.written W.failures output.old output.new)
         job.now result }
 {
-    match open_job(alloc, job, files, e) {
-        Ok(mut opened) => run(alloc, &mut opened, input, output, e),
-        Err(status) => status,
-    }
-}
-
-/// Minimises or compares the open texts, and returns the exit status.
-fn run<T: Source + Drop, R: Source, W: Sink, E: Write>(
-    alloc: Global,
-    opened: &mut Opened<'_, T>,
-    input: &mut R,
-    w: &mut W,
-    e: &mut E,
-) -> u8
-    requires texts { HaveNotFailed T.failures opened.old.texts }
-    requires input { R.failures input.old ≡ 0 }
-    requires output { W.failures w.old ≡ 0 }
-    ensures ends { EndsRun (asks opened.old.relation file_bounds opened.old.hidden)
-        (contents_of T.rest (R.rest input.old) opened.old.texts)
-        (HaveNotFailed T.failures opened.new.texts × (R.failures input.new ≡ 0))
-        ((R.failures input.new ≡ 1) ⊎ (AreFiles opened.old.texts × HasLost T.failures))
-        (stream_used W.written W.failures w.old w.new) result }
-    ensures unread { AreFiles opened.old.texts → input.new ≡ input.old }
-{
-    let (rel, stats) = (opened.relation, opened.stats);
-    let (lim, h) = (&Limits::file(), &opened.hidden);
-    match &mut opened.texts {
-        Texts::Input => min_program(alloc, input, INPUT, w, e, rel, stats, lim, h),
-        Texts::One(a) => min_program(alloc, &mut a.file, a.name, w, e, rel, stats, lim, h),
-        Texts::Two(both) => {
-            let (a, b) = (both.first.name, both.second.name);
-            let (one, other) = (&mut both.first.file, &mut both.second.file);
-            cmp_program(alloc, one, a, other, b, w, e, rel, lim, h)
+    let stats = matches!(job, Job::Min { stats: true, .. });
+    let lim = &Limits::file();
+    let (texts, h, rel) = match open_job(alloc, job, files, e) {
+        Ok(opened) => opened,
+        Err(status) => return status,
+    };
+    match texts {
+        Texts::Input => min_program(alloc, input, INPUT, output, e, rel, stats, lim, &h),
+        Texts::One(a) => {
+            let (name, mut text) = (a.name, a.file);
+            min_program(alloc, &mut text, name, output, e, rel, stats, lim, &h)
+        }
+        Texts::Two(a, b) => {
+            let (first, second) = (a.name, b.name);
+            let (mut one, mut other) = (a.file, b.file);
+            let (one, other) = (&mut one, &mut other);
+            cmp_program(alloc, one, first, other, second, output, e, rel, lim, &h)
         }
     }
 }

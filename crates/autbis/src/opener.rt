@@ -1,6 +1,5 @@
 //! Where files are opened by their names: a trait, and the file system.
-ghost use Rattle.std.specs.Prelude.{◌≡◌, ℕ, List, [], ◌∷◌, None, Some, Option, IfSome, IfOk};
-ghost use Rattle.autfmt.specs.Stream.{CountsFailure};
+ghost use Rattle.std.specs.Prelude.{◌≡◌, ℕ, List, [], ◌∷◌, None, Some, Option, IfSome, IfOk, MatchResult};
 ghost use Rattle.autbis.specs.Files.{Name, Opens};
 
 use autfmt::{Broken, FromRead, Source};
@@ -8,7 +7,7 @@ use std::fs;
 use std::marker::Model;
 use std::rt::Files;
 
-/// Opens files by their names, each to be read from its beginning. One failure ends it.
+/// Opens files by their names, each to be read from its beginning.
 pub trait Opener {
     /// A file that was opened.
     type File: Source + Drop;
@@ -16,7 +15,7 @@ pub trait Opener {
     // The names that were asked for so far, if the opener tells them.
     ghost opened: { Self → Option (List Name) };
 
-    // How often a file could not be opened.
+    // 1 once a file could not be opened.
     ghost failures: { Self → ℕ };
 
     // What the file of a name holds, if the opener tells it.
@@ -25,15 +24,14 @@ pub trait Opener {
     /// Opens the file of this name.
     ///
     /// # Errors
-    /// `Broken` if it cannot be opened, and `failures` is 1 from then on.
+    /// `Broken` if it cannot be opened, and `failures` is 1 then.
     fn open(&mut self, name: &str) -> Result<Self::File, Broken>
-        requires sound { failures self.old ≡ 0 }
         ensures unread { IfOk result (λ file. Self.File.failures file ≡ 0) }
         ensures bytes { IfSome (holds self.old name.now) (λ text.
             IfOk result (λ file. Self.File.rest file ≡ Some text)) }
         ensures opened { Opens (opened self.old) (opened self.new) (name.now ∷ []) }
-        ensures failures { CountsFailure result (failures self.new) }
-        ensures others { (other : Name) → holds self.new other ≡ holds self.old other };
+        ensures failures { MatchResult result (λ _. failures self.new ≡ failures self.old) (λ _. failures self.new ≡ 1) }
+        ensures others { holds self.new ≡ holds self.old };
 }
 
 /// The files of a runtime. They tell neither names nor bytes, but whether one could not be opened.

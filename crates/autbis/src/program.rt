@@ -1,9 +1,9 @@
 //! A run or a comparison, and what is said of it.
 ghost use Rattle.std.specs.Prelude.{◌≡◌, ◌≤◌, ◌⊎◌, IfSome};
 ghost use Rattle.autbis.specs.declared.compare.Side.TheVariants.{First, Second};
-ghost use Rattle.autbis.specs.Ends.{EndsRun, stream_used};
+ghost use Rattle.autbis.specs.Ends.{EndsRun};
 ghost use Rattle.autbis.specs.Ends.Contents.{one, two};
-ghost use Rattle.autbis.specs.Runs.{IsReadable, asks};
+ghost use Rattle.autbis.specs.Runs.{IsReadable, asks, used};
 ghost use Rattle.theory.specs.Quotient.{allowance};
 
 use crate::compare::{CmpFault, Side, run_cmp};
@@ -32,7 +32,7 @@ pub fn min_program<R: Source, W: Sink, E: Write>(
     requires source { R.failures r.old ≡ 0 }
     requires sink { W.failures w.old ≡ 0 }
     ensures ends { EndsRun (asks rel lim.now h.now) (one (R.rest r.old)) (R.failures r.new ≡ 0) (R.failures r.new ≡ 1)
-        (stream_used W.written W.failures w.old w.new) result }
+        (used W.written W.failures w.old w.new) result }
 {
     autfmt::a_text_reads_or_has_a_fault();
     let mut meter = Counter::new();
@@ -69,7 +69,7 @@ pub fn cmp_program<R1: Source, R2: Source, W: Sink, E: Write>(
     ensures ends { EndsRun (asks rel lim.now h.now) (two (R1.rest a.old) (R2.rest b.old))
         ((R1.failures a.new ≡ 0) × (R2.failures b.new ≡ 0))
         (((R1.failures a.new ≡ 1) × (b.new ≡ b.old)) ⊎ ((R1.failures a.new ≡ 0) × (R2.failures b.new ≡ 1)))
-        (stream_used W.written W.failures w.old w.new) result }
+        (used W.written W.failures w.old w.new) result }
     ensures unread { result ≡ 2 → (b.new ≡ b.old) ⊎ IfSome (R1.rest a.old) (IsReadable lim.now) }
 {
     autfmt::a_text_reads_or_has_a_fault();

@@ -2,9 +2,9 @@
 ghost use Rattle.std.specs.Prelude.{◌≡◌, OnOk, OnErr};
 ghost use Rattle.std.specs.Io.KnownBytes.{Appends};
 ghost use Rattle.autfmt.specs.Stream.{AppendsBeginning, CountsFailure};
-ghost use Rattle.autbis.specs.Ends.{stream_used};
 ghost use Rattle.autbis.specs.Programs.{EndsWords};
 ghost use Rattle.autbis.specs.Reports.{IsWordStatus, status_of, word_status};
+ghost use Rattle.autbis.specs.Runs.{used};
 
 use autfmt::{Broken, Fault, Sink, put_all};
 use std::io::Write;
@@ -58,7 +58,7 @@ pub fn report_words<O: Write, E: Write>(f: &WordFault, o: &mut O, e: &mut E) -> 
 /// The same for a sink, which is finished once after help.
 pub fn answer_words<W: Sink, E: Write>(f: &WordFault, w: &mut W, e: &mut E) -> u8
     requires { W.failures w.old ≡ 0 }
-    ensures ends { EndsWords (stream_used W.written W.failures w.old w.new) f.now result }
+    ensures ends { EndsWords (used W.written W.failures w.old w.new) f.now result }
 {
     match f {
         WordFault::Help(text) => match put_whole(text.as_bytes(), w) {

@@ -2,7 +2,7 @@
 ghost use Rattle.std.specs.Prelude.{◌≡◌, IfErr};
 ghost use Rattle.lts.specs.Meter.{IsFresh};
 ghost use Rattle.autfmt.specs.Outcomes.{Takes};
-ghost use Rattle.autbis.specs.Runs.{Request, RunFails, RunsTo, Used};
+ghost use Rattle.autbis.specs.Runs.{Request, RunFails, RunsTo, used};
 
 use autfmt::{Fault, Hidden, Limits, Sink, Source, read_hiding, write};
 use lts::{Counter, Lts, Meter};
@@ -43,8 +43,8 @@ pub fn run_min<M: Meter, R: Source, W: Sink>(
     // What a success means, and which error comes when.
     ensures outcome { let at = M.counted m.new in
         let asked : Request = record { relation = rel; bounds = lim.now; hidden = h.now } in
-        let source : Used = record { before = R.rest r.old; after = R.rest r.new; failures = R.failures r.new } in
-        let sink : Used = record { before = W.written w.old; after = W.written w.new; failures = W.failures w.new } in
+        let source = used R.rest R.failures r.old r.new in
+        let sink = used W.written W.failures w.old w.new in
         Takes source.before source.after (λ text. RunsTo asked text source sink at)
         (λ given. RunFails asked given source sink at) result }
 

@@ -11,6 +11,9 @@ use worked::check;
 /// A name, a text, and what is written of it.
 pub(crate) type Written = (&'static str, &'static [u8], &'static [u8]);
 
+/// The fault that a run ends in, if it does, and what it writes.
+pub(crate) type End<'a> = (Option<Fault>, &'a [u8]);
+
 /// What a run answers, what it writes and what it counts.
 pub(crate) type Ran = (Result<Counts, Fault>, VecSink, Counter);
 
@@ -52,17 +55,10 @@ fn run(alloc: Global, text: &[u8], hidden: &Hidden, at: Flow) -> Ran {
     (answer, sink, meter)
 }
 
-/// Whether such a run ends in this fault, or in none, and writes `out`.
-fn ends(
-    alloc: Global,
-    text: &[u8],
-    hidden: &Hidden,
-    at: Flow,
-    fault: Option<Fault>,
-    out: &[u8],
-) -> bool {
+/// Whether such a run ends so.
+fn ends(alloc: Global, text: &[u8], hidden: &Hidden, at: Flow, end: End<'_>) -> bool {
     let (answer, sink, _) = run(alloc, text, hidden, at);
-    answer.err() == fault && sink.bytes() == out
+    answer.err() == end.0 && sink.bytes() == end.1
 }
 
 /// The run on the text, with no label hidden, ends so.
@@ -75,7 +71,7 @@ pub(crate) fn check_ends(
     out: &[u8],
 ) -> Result<(), Fail> {
     let hidden = Hidden::none(alloc);
-    check(name, ends(alloc, text, &hidden, at, fault, out))
+    check(name, ends(alloc, text, &hidden, at, (fault, out)))
 }
 
 /// The run on the text, which hides these labels, ends so, of whole buffers and byte by byte.
@@ -85,12 +81,11 @@ fn check_pieces(
     text: &[u8],
     hidden: &Hidden,
     relation: Relation,
-    fault: Option<Fault>,
-    out: &[u8],
+    end: End<'_>,
 ) -> Result<(), Fail> {
     for piece in [4096, 1] {
         let at = sound(relation, piece);
-        check(name, ends(alloc, text, hidden, at, fault, out))?;
+        check(name, ends(alloc, text, hidden, at, end))?;
     }
     Ok(())
 }
@@ -102,12 +97,11 @@ pub(crate) fn check_hiding(
     text: &[u8],
     list: &[u8],
     relation: Relation,
-    fault: Option<Fault>,
-    out: &[u8],
+    end: End<'_>,
 ) -> Result<(), Fail> {
     match read_hidden(alloc, &mut SliceSource::new(list, None)) {
-        Ok(hidden) => check_pieces(alloc, name, text, &hidden, relation, fault, out),
-        Err(found) => check(name, Some(found) == fault),
+        Ok(hidden) => check_pieces(alloc, name, text, &hidden, relation, end),
+        Err(found) => check(name, Some(found) == end.0),
     }
 }
 
@@ -119,7 +113,7 @@ pub(crate) fn check_written(
     relation: Relation,
     out: &[u8],
 ) -> Result<(), Fail> {
-    check_hiding(alloc, name, text, b"", relation, None, out)
+    check_hiding(alloc, name, text, b"", relation, (None, out))
 }
 
 /// The run on the text by strong bisimulation, with no label hidden, ends in this fault and writes nothing.
@@ -129,7 +123,7 @@ pub(crate) fn check_fault(
     text: &[u8],
     fault: Fault,
 ) -> Result<(), Fail> {
-    check_hiding(alloc, name, text, b"", Relation::Strong, Some(fault), b"")
+    check_hiding(alloc, name, text, b"", Relation::Strong, (Some(fault), b""))
 }
 
 /// A run on the text, its labels of the list hidden, from a source and into a sink that do not fail.

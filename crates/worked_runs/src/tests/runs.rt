@@ -24,8 +24,7 @@ fn check_example(alloc: Global, example: &Example, relation: Relation) -> Result
         text,
         hide,
         relation,
-        None,
-        quotient(example, relation),
+        (None, quotient(example, relation)),
     )
 }
 
@@ -348,7 +347,7 @@ const HIDING: [Hiding; 7] = [
 #[test]
 fn hidden_labels(rt: HostRuntime) -> Result<(), Fail> {
     for (name, text, list, relation, fault, out) in &HIDING {
-        check_hiding(rt.alloc(), name, text, list, *relation, *fault, out)?;
+        check_hiding(rt.alloc(), name, text, list, *relation, (*fault, out))?;
     }
     Ok(())
 }
@@ -368,8 +367,7 @@ fn check_long_list(
         text,
         list.as_bytes(),
         Relation::Strong,
-        fault,
-        out,
+        (fault, out),
     )
 }
 

@@ -5,11 +5,9 @@ use Rattle.theory.specs.Blocks.{Turns}
 use Rattle.theory.specs.Union.{union_of}
 use Rattle.lts.specs.Lts.{system_of}
 use Rattle.quotient.specs.Visits.{KeepsTo}
-use Rattle.autbis.specs.Comparisons.{CountsComparison, CountsUnion, IsVerdict, ReadBoth}
-use Rattle.autbis.specs.Comparisons.CmpFails.{first_side, after_first}
-use Rattle.autbis.specs.Comparisons.FailsAfterFirst.{second_side, run_side}
-use Rattle.autbis.specs.Comparisons.NoLine.{no_memory, failed_sink}
-use Rattle.autbis.specs.Runs.{Request, asks}
+use Rattle.autbis.specs.Comparisons.{CountsUnion, GotBoth, IsVerdict, ReadBoth}
+use Rattle.autbis.specs.Comparisons.CmpFails.{first_not_read, second_not_read, out_of_memory, not_written}
+use Rattle.autbis.specs.Runs.{Request, asks, used}
 use Rattle.autbis.specs.declared.compare.CmpFault.{CmpFault}
 use Rattle.autbis.proofs.Carried.{at_error, takes_error}
 use Rattle.autbis.proofs.Comparing.{OrderLaws, both_read, counted_part, counted_whole, verdict_of}
@@ -22,7 +20,7 @@ returns-in_err-first-clause-outcome g c =
     let got = c.in_err-first.ensures.outcome in
     let exit = err_from_is_err_and c.from_residual.result c.from_residual.ensures.1 in
     takes_error _ _ _ _ c.from_residual.result c.in_err-first.field-0.0 got.given exit got.took
-    (first_side got.outcome.0 got.outcome.1 (c.requires.second, c.requires.sink) c.requires.fresh)
+    (first_not_read got.outcome.0 got.outcome.1 c.requires.second c.requires.sink c.requires.fresh)
 
 pub returns-in_err-second-clause-outcome : goal.returns-in_err-second-clause-outcome
 returns-in_err-second-clause-outcome g c =
@@ -30,8 +28,8 @@ returns-in_err-second-clause-outcome g c =
     let got = c.in_err-second.ensures.outcome in
     let exit = err_from_is_err_and c.from_residual-in_err-second.result c.from_residual-in_err-second.ensures.1 in
     takes_error _ _ _ _ c.from_residual-in_err-second.result c.in_err-second.field-0.0 one.given exit one.took
-    (after_first (record { at_end = one.outcome.at_end; sound = one.outcome.sound }) got.given got.took
-    (second_side got.outcome.0 (one.outcome.read.0, one.outcome.read.1) got.outcome.1 c.requires.sink c.requires.fresh))
+    (second_not_read got.outcome.0 (one.outcome.at_end, one.outcome.sound) (one.outcome.read.0, one.outcome.read.1)
+    got.given got.took got.outcome.1 c.requires.sink c.requires.fresh)
 
 -- both texts were read, and their systems compared
 module _ (g : Over) (c : After-compared g) where
@@ -70,36 +68,39 @@ module _ (g : Over) (c : After-compared g) where
       c.in_ok-first.ensures.outcome.outcome.read c.in_ok-second.ensures.outcome.outcome.read (g.M.Meter.counted c.compared.new.m)
       c.in_ok-first.ensures.outcome.outcome.as_many c.in_ok-second.ensures.outcome.outcome.as_many law
 
-  -- or keeps to it
-  part : CountsComparison both (g.M.Meter.counted c.compared.new.m)
-  part = counted_part asked first second c.in_ok-first.first c.in_ok-second.second
-      c.in_ok-first.ensures.outcome.outcome.read c.in_ok-second.ensures.outcome.outcome.read (g.M.Meter.counted c.compared.new.m)
-      c.in_ok-first.ensures.outcome.outcome.as_many c.in_ok-second.ensures.outcome.outcome.as_many _ c.compared.ensures.keeps
+  -- both were read to their ends, and the meter keeps to what that may take
+  abbrev got : GotBoth c.args.lim.now first (used g.R1.Source.rest g.R1.Source.failures c.args.a.now c.read_side.new.r)
+      (used g.R2.Source.rest g.R2.Source.failures c.args.b.now c.read_side-2.new.r) (g.M.Meter.counted c.compared.new.m)
+  got =
+      let one = c.in_ok-first.ensures.outcome in
+      let other = c.in_ok-second.ensures.outcome in
+      record {
+        second = second;
+        took = other.took;
+        exhausted = ((one.outcome.at_end, one.outcome.sound), (other.outcome.at_end, other.outcome.sound));
+        both = both;
+        keeps = counted_part asked first second c.in_ok-first.first c.in_ok-second.second one.outcome.read other.outcome.read
+            (g.M.Meter.counted c.compared.new.m) one.outcome.as_many other.outcome.as_many _ c.compared.ensures.keeps;
+      }
 
 pub returns-in_err-same-clause-outcome : goal.returns-in_err-same-clause-outcome
 returns-in_err-same-clause-outcome g c =
     let at = (goal.at.returns-in_err-same-clause-outcome g c).After-compared in
     let one = c.in_ok-first.ensures.outcome in
-    let other = c.in_ok-second.ensures.outcome in
     let exit = err_from_is_err_and c.from_residual-in_err-same.result c.from_residual-in_err-same.ensures.1 in
     let fault = c.in_err-same.ensures.fault in
     takes_error _ _ _ _ c.from_residual-in_err-same.result c.in_err-same.field-0.0 one.given exit one.took
-    (after_first (record { at_end = one.outcome.at_end; sound = one.outcome.sound }) other.given other.took
-    (run_side (ap (λ (f : CmpFault). f.side) fault) (record { at_end = other.outcome.at_end; sound = other.outcome.sound }) (both g at) (part g at)
-    (no_memory (ap (λ (f : CmpFault). f.fault) fault) c.requires.sink)))
+    (out_of_memory (ap (λ (f : CmpFault). f.side) fault) (ap (λ (f : CmpFault). f.fault) fault) (got g at) c.requires.sink)
 
 pub returns-in_err-say-clause-outcome : goal.returns-in_err-say-clause-outcome
 returns-in_err-say-clause-outcome g c =
     let at = (goal.at.returns-in_err-say-clause-outcome g c).After-compared in
     let one = c.in_ok-first.ensures.outcome in
-    let other = c.in_ok-second.ensures.outcome in
     let is = c.in_err-say.ensures in
     let exit = err_from_is_err_and c.from_residual-in_err-say.result c.from_residual-in_err-say.ensures.1 in
     let compared = rw c.in_ok-same.was at c.compared.ensures in
     takes_error _ _ _ _ c.from_residual-in_err-say.result c.in_err-say.field-0.0 one.given exit one.took
-    (after_first (record { at_end = one.outcome.at_end; sound = one.outcome.sound }) other.given other.took
-    (run_side is.fault.0 (record { at_end = other.outcome.at_end; sound = other.outcome.sound }) (both g at) (part g at)
-    (failed_sink is.fault.1 is.failures c.in_ok-same.same (verdict g at _ compared.verdict) is.err)))
+    (not_written is.fault.0 is.fault.1 (got g at) is.failures c.in_ok-same.same (verdict g at _ compared.verdict) is.err)
 
 pub returns-in_err-say-clause-untouched : goal.returns-in_err-say-clause-untouched
 returns-in_err-say-clause-untouched g c =
@@ -111,21 +112,14 @@ pub returns-clause-outcome : goal.returns-clause-outcome
 returns-clause-outcome g c =
     let at = (goal.at.returns-clause-outcome g c).After-compared in
     let one = c.in_ok-first.ensures.outcome in
-    let other = c.in_ok-second.ensures.outcome in
     let is = rw c.in_ok-same.was at c.compared.ensures in
     record {
       given = one.given;
       took = one.took;
       outcome = record {
-        second = other.given;
-        took = other.took;
-        exhausted = (
-          record { at_end = one.outcome.at_end; sound = one.outcome.sound },
-          record { at_end = other.outcome.at_end; sound = other.outcome.sound },
-        );
-        both = both g at;
+        got = got g at;
         verdict = verdict g at _ is.verdict;
-        written = record { written = c.in_ok-say.ensures.ok; sound = c.in_ok-say.ensures.failures };
+        written = (c.in_ok-say.ensures.ok, c.in_ok-say.ensures.failures);
         counts = counted g at is.turns is.keeps;
       };
     }

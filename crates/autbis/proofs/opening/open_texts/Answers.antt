@@ -1,24 +1,17 @@
-use Rattle.std.proofs.Common.{[], ◌∷◌, append-nil, refl, string_bytes, sym}
-use Rattle.autbis.specs.Files.{Opens}
-use Rattle.autbis.specs.Jobs.{texts_of}
-use Rattle.autbis.proofs.InOrder.{opens_then}
-use Rattle.autbis.proofs.opening.open_texts.Given.{Over}
+use Rattle.std.proofs.Common.{[], ◌∷◌, string_bytes}
+use Rattle.autbis.specs.Files.{files_used}
+use Rattle.autbis.proofs.Carried.{passes}
+use Rattle.autbis.proofs.InOrder.{refused_after, refused_then}
 use Rattle.autbis.proofs.opening.open_texts.Goals as goal
-use Rattle.autbis.proofs.opening.open_texts.Goals.{After-open_named-in-Cmp-2}
 
--- both texts were asked for
-both : (g : Over) (c : After-open_named-in-Cmp-2 g) →
-    Opens (g.F.Opener.opened c.args.files.now) (g.F.Opener.opened c.open_named-in-Cmp-2.new.files) (texts_of c.args.job.now)
-both g c = rw (c.in-Cmp.is, ← c.as_str-in-Cmp.ensures.value, ← c.as_str-in-Cmp-2.ensures.value)
-    (opens_then (g.F.Opener.opened c.args.files.now) (g.F.Opener.opened c.open_named-in-Cmp.new.files)
-    (g.F.Opener.opened c.open_named-in-Cmp-2.new.files) _ _ c.open_named-in-Cmp.ensures.opened c.open_named-in-Cmp-2.ensures.opened)
+pub returns-in_err-first-in-Cmp-clause-refused : goal.returns-in_err-first-in-Cmp-clause-refused
+returns-in_err-first-in-Cmp-clause-refused g c =
+    let files = files_used g.F.Opener.holds g.F.Opener.opened g.F.Opener.failures g.F.File.Source.failures c.args.files.now c.open_named-in-Cmp.new.files in
+    passes _ _ _ c.from_residual-in_err-first-in-Cmp.ensures.1 (rw (c.in-Cmp.is, ← c.as_str-in-Cmp.ensures.value)
+    (refused_then files (c.as_str-in-Cmp.result.now ∷ []) (string_bytes c.in-Cmp.second ∷ []) c.in_err-first-in-Cmp.ensures.refused))
 
-pub returns-in_err-first-in-Cmp-clause-order : goal.returns-in_err-first-in-Cmp-clause-order
-returns-in_err-first-in-Cmp-clause-order g c = rw (c.in-Cmp.is, ← c.as_str-in-Cmp.ensures.value)
-    (c.as_str-in-Cmp.result.now ∷ [], string_bytes c.in-Cmp.second ∷ [], refl, c.open_named-in-Cmp.ensures.opened)
-
-pub returns-in_err-second-in-Cmp-clause-order : goal.returns-in_err-second-in-Cmp-clause-order
-returns-in_err-second-in-Cmp-clause-order g c = (_, [], sym (append-nil _), both g (goal.at.returns-in_err-second-in-Cmp-clause-order g c).After-open_named-in-Cmp-2)
-
-pub returns-in_ok-second-in-Cmp-clause-order : goal.returns-in_ok-second-in-Cmp-clause-order
-returns-in_ok-second-in-Cmp-clause-order g c = (_, [], sym (append-nil _), both g (goal.at.returns-in_ok-second-in-Cmp-clause-order g c).After-open_named-in-Cmp-2)
+pub returns-in_err-second-in-Cmp-clause-refused : goal.returns-in_err-second-in-Cmp-clause-refused
+returns-in_err-second-in-Cmp-clause-refused g c =
+    let files = files_used g.F.Opener.holds g.F.Opener.opened g.F.Opener.failures g.F.File.Source.failures c.args.files.now c.open_named-in-Cmp-2.new.files in
+    passes _ _ _ c.from_residual-in_err-second-in-Cmp.ensures.1 (rw (c.in-Cmp.is, ← c.as_str-in-Cmp.ensures.value, ← c.as_str-in-Cmp-2.ensures.value)
+    (refused_after files _ _ _ c.in_ok-first-in-Cmp.ensures.all c.in_err-second-in-Cmp.ensures.refused))

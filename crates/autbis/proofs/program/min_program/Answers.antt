@@ -1,8 +1,7 @@
 use Rattle.std.proofs.Common.{refl}
 use Rattle.autfmt.specs.Written.{listed}
-use Rattle.autbis.specs.Ends.{stream_used}
 use Rattle.autbis.specs.Ends.EndsRun.{answered}
-use Rattle.autbis.specs.Runs.{asks}
+use Rattle.autbis.specs.Runs.{asks, used}
 use Rattle.autbis.proofs.Carried.{of_all}
 use Rattle.autbis.proofs.Ending.{ends_run, minimised}
 use Rattle.autbis.proofs.program.min_program.Goals as goal
@@ -11,13 +10,13 @@ pub returns-then-stats : goal.returns-then-stats
 returns-then-stats g c =
     let got = c.in-Ok.ensures.outcome in
     let ran = got.outcome in
-    record { ends = answered ran.exhausted.sound (listed ran.to.output) (of_all _ _ got.given _ got.took ran.exhausted.at_end (minimised ran.to refl)) ran.written.written ran.written.sound }
+    record { ends = answered ran.exhausted.1 (listed ran.to.output) (of_all _ _ got.given _ got.took ran.exhausted.0 (minimised ran.to refl)) ran.written.0 ran.written.1 }
 
 pub returns-else-stats : goal.returns-else-stats
 returns-else-stats g c =
     let got = c.in-Ok.ensures.outcome in
     let ran = got.outcome in
-    record { ends = answered ran.exhausted.sound (listed ran.to.output) (of_all _ _ got.given _ got.took ran.exhausted.at_end (minimised ran.to refl)) ran.written.written ran.written.sound }
+    record { ends = answered ran.exhausted.1 (listed ran.to.output) (of_all _ _ got.given _ got.took ran.exhausted.0 (minimised ran.to refl)) ran.written.0 ran.written.1 }
 
 pub returns-in-Err : goal.returns-in-Err
 returns-in-Err g c =
@@ -25,5 +24,5 @@ returns-in-Err g c =
     record {
       ends = rw c.report.ensures.status (ends_run (asks c.args.rel c.args.lim.now c.args.h.now)
           (c.a_text_reads_or_has_a_fault.ensures.not_both c.args.lim.now)
-          (stream_used g.W.Sink.written g.W.Sink.failures c.args.w.now c.run_min.new.w) got.took c.in-Err.ensures.untouched got.outcome);
+          (used g.W.Sink.written g.W.Sink.failures c.args.w.now c.run_min.new.w) got.took c.in-Err.ensures.untouched got.outcome);
     }

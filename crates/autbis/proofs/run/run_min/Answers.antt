@@ -8,12 +8,13 @@ use Rattle.theory.specs.Bisimulation.{Bisimilar}
 use Rattle.theory.specs.declared.relation.Relation.{Relation}
 use Rattle.theory.specs.Alike.{SameSteps}
 use Rattle.lts.specs.Lts.{transition_of, system_of}
+use Rattle.quotient.specs.Visits.{KeepsTo}
 use Rattle.autfmt.specs.declared.fault.Fault.TheVariants.{Memory}
 use Rattle.autfmt.specs.Stream.{AppendsBeginning}
 use Rattle.autfmt.specs.Texts.{Reads}
 use Rattle.autfmt.specs.Written.{GainsText, GainsBeginning, IsInWrittenOrder, failures_after, listed}
 use Rattle.autbis.specs.declared.run.Counts.{Counts}
-use Rattle.autbis.specs.Runs.{GotAsFar, IsExhausted, MinimisedText, Minimises, Request, RunsTo, Used, asks}
+use Rattle.autbis.specs.Runs.{IsExhausted, MinimisedText, Minimises, Request, RunsTo, Used, asks}
 use Rattle.autbis.specs.Runs.RunFails.{not_read, out_of_memory, not_written}
 use Rattle.autbis.proofs.Carried.{at_error, keeps_part, keeps_whole, takes_error}
 use Rattle.autbis.proofs.run.run_min.Given.{Over}
@@ -32,12 +33,7 @@ returns-in_err-quotient-clause-outcome g c =
     let read = got.outcome.read in
     let exit = err_from_is_err_and c.from_residual-in_err-quotient.result c.from_residual-in_err-quotient.ensures.1 in
     let part = keeps_part _ read.0.states _ (length read.0.transitions) _ read.2.states got.outcome.as_many 0 c.in_err-quotient.ensures.keeps in
-    takes_error _ _ _ _ c.from_residual-in_err-quotient.result Memory got.given exit got.took (out_of_memory (record {
-      input = read.0;
-      read = read.1;
-      keeps = part;
-      exhausted = record { at_end = got.outcome.at_end; sound = got.outcome.sound };
-    }) refl c.requires.sink)
+    takes_error _ _ _ _ c.from_residual-in_err-quotient.result Memory got.given exit got.took (out_of_memory ((got.outcome.at_end, got.outcome.sound), read.0, read.1, part) refl c.requires.sink)
 
 -- the sizes that are answered
 abbrev sizes_of : ℕ → ℕ → Counts
@@ -113,7 +109,7 @@ module _ (g : Over) (c : After-write g) where
   }
 
   -- the sink has gained its text
-  done : (source sink : Used) → IsExhausted source → GainsText (Q g c) sink.before sink.after → sink.failures ≡ 0 →
+  done : {In Out : Type 0} (source : Used In) (sink : Used Out) → IsExhausted source → GainsText (Q g c) sink.before sink.after → sink.failures ≡ 0 →
       RunsTo (asked g c) c.in_ok-system.ensures.outcome.given source sink (g.M.Meter.counted c.minimise.new.m)
       (record { states = c.states.result; transitions = c.edges.result })
   done source sink exhausted (text, (listing, order, is), gained) sound =
@@ -121,7 +117,7 @@ module _ (g : Over) (c : After-write g) where
       record {
         to = to listing order;
         sizes = ap₂ sizes_of (c.states.ensures.value ∙ got.read.2.states) (c.edges.ensures.value ∙ got.as_many);
-        written = record { written = subst (λ bytes. Appends sink.before sink.after bytes) is gained; sound = sound };
+        written = (subst (λ bytes. Appends sink.before sink.after bytes) is gained, sound);
         turns = c.the_order_does_not_matter.ensures.turns (rel g c) (A g c) (B g c) _ (same g c) c.in_ok-quotient.ensures.turns;
         keeps = keeps_whole _ _ _ _ _ (sym c.states.ensures.value) (sym c.edges.ensures.value) c.in_ok-quotient.ensures.keeps;
         exhausted = exhausted;
@@ -133,16 +129,11 @@ module _ (g : Over) (c : After-write g) where
   begun old new (front, later, (listing, order, is), gained) = (to listing order, (front, later, sym is, gained))
 
   -- the meter shows no more than a run over the system that was read may take
-  far : (source : Used) → IsExhausted source →
-      GotAsFar c.args.lim.now c.in_ok-system.ensures.outcome.given source (g.M.Meter.counted c.minimise.new.m)
-  far source exhausted =
+  far : (A : System) × Reads c.args.lim.now c.in_ok-system.ensures.outcome.given A
+      × KeepsTo A.states (length A.transitions) 2 (g.M.Meter.counted c.minimise.new.m) 0
+  far =
       let got = c.in_ok-system.ensures.outcome.outcome in
-      record {
-        input = input g c;
-        read = got.read.1;
-        keeps = keeps_part _ _ _ _ _ got.read.2.states got.as_many _ c.in_ok-quotient.ensures.keeps;
-        exhausted = exhausted;
-      }
+      (input g c, got.read.1, keeps_part _ _ _ _ _ got.read.2.states got.as_many _ c.in_ok-quotient.ensures.keeps)
 
 pub returns-in_err-write-clause-outcome : goal.returns-in_err-write-clause-outcome
 returns-in_err-write-clause-outcome g c =
@@ -152,10 +143,10 @@ returns-in_err-write-clause-outcome g c =
     let is = c.in_err-write.ensures in
     let exit = err_from_is_err_and c.from_residual-in_err-write.result c.from_residual-in_err-write.ensures.1 in
     takes_error _ _ _ _ c.from_residual-in_err-write.result e got.given exit got.took (elim is.faults [
-      | inl memory ↦ out_of_memory (far g at _ (record { at_end = got.outcome.at_end; sound = got.outcome.sound })) memory (is.failures ∙ ap (λ x. failures_after {T = Unit {0}} (Err x)) memory)
+      | inl memory ↦ out_of_memory ((got.outcome.at_end, got.outcome.sound), (far g at).0, (far g at).1, (far g at).2) memory (is.failures ∙ ap (λ x. failures_after {T = Unit {0}} (Err x)) memory)
       | inr device ↦
           let some = begun g at _ _ (is.device device) in
-          not_written (far g at _ (record { at_end = got.outcome.at_end; sound = got.outcome.sound })) device
+          not_written ((got.outcome.at_end, got.outcome.sound), (far g at).0, (far g at).1, (far g at).2) device
           (is.failures ∙ ap (λ x. failures_after {T = Unit {0}} (Err x)) device) some.0 some.1
     ])
 
@@ -177,5 +168,5 @@ returns-clause-outcome g c =
     record {
       given = got.given;
       took = got.took;
-      outcome = done g at _ _ (record { at_end = got.outcome.at_end; sound = got.outcome.sound }) c.in_ok-write.ensures.text c.in_ok-write.ensures.failures;
+      outcome = done g at _ _ (got.outcome.at_end, got.outcome.sound) c.in_ok-write.ensures.text c.in_ok-write.ensures.failures;
     }
