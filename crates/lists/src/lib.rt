@@ -4,7 +4,7 @@
 //!
 //! ```text
 //! Lists         what the crates above see                                   lists
-//!   unions      lists made of pairs, of a list and pairs, and of two lists  unions, known, cut, ordered
+//!   unions      lists made of pairs, of a list and pairs, and of two lists  unions, known, cut, ordered, marked
 //!     Distinct  a list that is asked for again has the number that it had   distinct, hashed
 //!       Nodes   how each list is kept                                       nodes, span
 //! ```
