@@ -15,7 +15,6 @@ use crate::marked::order_many;
 use crate::nodes::{FEW, Halves, Shape};
 use crate::ordered::append_merged;
 use growth::Memory;
-use std::mem::swap;
 
 /// The most lists that are put together with the pairs one after the other.
 const FEW_LISTS: usize = 16;
@@ -257,7 +256,8 @@ fn add(
         Shape::Whole(list) => {
             scratch.merged.clear();
             append_merged(list, few, &mut scratch.merged)?;
-            swap(few, &mut scratch.merged);
+            few.clear();
+            few.extend_from_slice(&scratch.merged)?;
             Ok(union)
         }
         Shape::Halved(_) => both(lists, known, scratch, union, k),

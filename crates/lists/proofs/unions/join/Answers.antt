@@ -1,4 +1,4 @@
-use Rattle.std.proofs.Common.{◌≡◌, subst}
+use Rattle.std.proofs.Common.{subst}
 use Rattle.std.proofs.lemmas.Result.{IfOk-weaker}
 use Rattle.lists.specs.Cuts.{Fit}
 use Rattle.lists.proofs.Joining.{same_as, either_same}

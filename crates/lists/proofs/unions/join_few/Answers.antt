@@ -1,8 +1,8 @@
-use Rattle.std.proofs.Common.{◌≡◌, ◌∙◌, ◌⊎◌, ◌↔◌, ◌++◌, slice_index, Contains, ap, sym, subst, arith}
+use Rattle.std.proofs.Common.{◌∙◌, ◌⊎◌, ◌↔◌, ◌++◌, slice_index, Contains, ap, sym, subst, arith}
 use Rattle.std.proofs.lemmas.List.{append-nil}
 use Rattle.std.proofs.lemmas.Result.{IfOk-weaker}
 use Rattle.lists.specs.Lists.{list_at}
-use Rattle.lists.specs.Cuts.{Fit, IsPairs}
+use Rattle.lists.specs.Cuts.{Fit}
 use Rattle.lists.proofs.Joining.{AreUnions-grow, Grow-same, Grow-twice, IsUpTo-none, IsUpTo-more, IsUpTo-all, same_as}
 use Rattle.lists.proofs.Keys.{halves_has}
 use Rattle.lists.proofs.unions.join_few.Goals as goal

@@ -1,4 +1,4 @@
-use Rattle.std.proofs.Common.{◌≡◌, ◌∙◌, ◌⊎◌, ◌↔◌, ◌++◌, slice_index, Contains, ap, sym, subst, arith}
+use Rattle.std.proofs.Common.{◌∙◌, ◌⊎◌, ◌↔◌, ◌++◌, slice_index, Contains, ap, sym, subst, arith}
 use Rattle.std.proofs.lemmas.List.{append-nil}
 use Rattle.std.proofs.lemmas.Result.{IfOk-weaker}
 use Rattle.lists.specs.Lists.{list_at}
