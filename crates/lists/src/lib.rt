@@ -9,7 +9,7 @@
 //! distinct       a list that is asked for again has the number that it had
 //!   hashed       the table that it is found in
 //! nodes, parts   how each list is kept: with halves, or whole
-//! cut, ordered, span   where a list is cut; pairs in order; hashes, and ranges of a buffer
+//! cut, ordered, marked, span   where a list is cut; pairs in order, by marks if they are many; hashes, and ranges of a buffer
 //! ```
 //!
 //! A list is cut at the number between its first and its last pair that the highest power of two divides, if a pair is read
