@@ -1,5 +1,5 @@
 -- Unions by halves: a list in two at another place, the cut of a union, and the union of two lists from those of their halves.
-use Rattle.std.proofs.Common.{◌≡◌, ◌∙◌, ◌⊎◌, ◌↔◌, ℕ, ◌+◌, ◌-◌, ◌<◌, ◌≤◌, min, max, List, [], ◌++◌, length, get_or, Contains, ap, sym, subst, inl, inr, arith}
+use Rattle.std.proofs.Common.{◌≡◌, ◌∙◌, ◌↔◌, ℕ, ◌+◌, ◌-◌, ◌<◌, ◌≤◌, min, max, List, [], ◌++◌, length, get_or, Contains, ap, sym, subst, inl, inr, arith}
 use Rattle.std.specs.List.Sorted.{IsStrictlySortedBy}
 use Rattle.std.proofs.lemmas.Bool.{cases_lt}
 use Rattle.std.proofs.lemmas.List.{length-append, append-nil}
@@ -56,19 +56,6 @@ module _ (lists : List (List (ℕ × ℕ))) (stored : AreStored lists) (k c : �
       under = subst (IsUnder (list_at lists h.below)) same is.halves.under;
       over = subst (IsOver (list_at lists h.above)) same is.halves.over;
     };
-  }
-
--- the cut of a union
-module _ (list xs ys : List (ℕ × ℕ)) (unites : Unites list xs ys) (bit c : ℕ) (first : IsAlike bit xs c) (second : IsAlike bit ys c) where
-  pub union_cut : (y z : ℕ × ℕ) → Contains xs y ⊎ Contains ys y → as_number y < c → Contains xs z ⊎ Contains ys z → c ≤ as_number z → IsCut list c
-  union_cut y z in_y low in_z high = record {
-    bit = bit;
-    alike = record {
-      multiple = first.multiple;
-      alike = λ w d. elim ((unites w).0 d) [ inl a ↦ first.alike w a | inr b ↦ second.alike w b ];
-    };
-    below = (y, (unites y).1 in_y, low);
-    above = (z, (unites z).1 in_z, high);
   }
 
 -- two lists in two at one place, and the unions of their parts
@@ -160,70 +147,60 @@ module _ (xs ys below above below' above' : List (ℕ × ℕ)) (c : ℕ) (first 
       let high = (on_side cut.above.0 cut.above.1).1 cut.above.2 in
       (omega arith, omega arith)
 
--- the place for some pairs and a long list
-module _ (xs ys : List (ℕ × ℕ)) (rise : IsStrictlySortedBy pair_cmp xs) (fit : Fit xs) (some : 0 < length xs) (first last low high own bit c : ℕ)
-    (first_is : first ≡ as_number (get_or xs 0 (0, 0))) (last_is : last ≡ as_number (get_or xs (length xs - 1) (0, 0)))
-    (low_is : low ≡ min first (own - 1)) (high_is : high ≡ max last own) (cut : IsCut ys own) (place : IsPlace bit low high c) where
-  pub alike_pairs : IsAlike bit xs c
-  alike_pairs = alike_within xs bit low high c place (λ z d.
-      let between = keys_between xs rise fit some first last first_is last_is z d in
-      (omega arith, omega arith))
+-- some pair is up to low and some pair is from high on, and all pairs are alike at a place that lies so
+pub record HasEnds (list : List (ℕ × ℕ)) (low high : ℕ) : Type 0 where
+  pub before : (z : ℕ × ℕ) × Contains list z × (as_number z ≤ low)
+  pub after : (z : ℕ × ℕ) × Contains list z × (high ≤ as_number z)
+  pub alike : (bit l h c : ℕ) → IsPlace bit l h c → l ≤ low → high ≤ h → IsAlike bit list c
 
-  pub alike_list : IsAlike bit ys c
-  alike_list = let h = cut.below.2 in alike_wider ys bit low high c own place cut (omega arith) (omega arith)
+pub ends_pairs : (list : List (ℕ × ℕ)) → IsStrictlySortedBy pair_cmp list → Fit list → 0 < length list → (low high : ℕ)
+    → low ≡ as_number (get_or list 0 (0, 0)) → high ≡ as_number (get_or list (length list - 1) (0, 0)) → HasEnds list low high
+ends_pairs list rise fit some low high low_is high_is = record {
+  before = (get_or list 0 (0, 0), has_first list rise fit some low high low_is high_is, omega (arith, low_is));
+  after = (get_or list (length list - 1) (0, 0), has_last list rise fit some low high low_is high_is, omega (arith, high_is));
+  alike = λ bit l h c place under over. alike_within list bit l h c place (λ z d.
+      let between = keys_between list rise fit some low high low_is high_is z d in
+      (omega arith, omega arith));
+}
 
-  pub with_cut : (list : List (ℕ × ℕ)) → Unites list xs ys → IsCut list c
-  with_cut list unites =
-      let after = place.after in
-      let within = place.within in
-      let under = cut.below.2 in
-      let over = cut.above.2 in
-      let is_first : first ≡ as_number (get_or xs 0 (0, 0)) = first_is in
-      elim (cases_lt first (own - 1)) [
-        | inl less ↦ elim (cases_lt own last) [
-          | inl more ↦
-              union_cut list xs ys unites bit c alike_pairs alike_list (get_or xs 0 (0, 0)) (get_or xs (length xs - 1) (0, 0))
-              (inl (has_first xs rise fit some first last first_is last_is)) (omega arith) (inl (has_last xs rise fit some first last first_is last_is)) (omega arith)
-          | inr more ↦
-              union_cut list xs ys unites bit c alike_pairs alike_list (get_or xs 0 (0, 0)) cut.above.0
-              (inl (has_first xs rise fit some first last first_is last_is)) (omega arith) (inr cut.above.1) (omega arith)
-        ]
-        | inr less ↦ elim (cases_lt own last) [
-          | inl more ↦
-              union_cut list xs ys unites bit c alike_pairs alike_list cut.below.0 (get_or xs (length xs - 1) (0, 0))
-              (inr cut.below.1) (omega arith) (inl (has_last xs rise fit some first last first_is last_is)) (omega arith)
-          | inr more ↦
-              union_cut list xs ys unites bit c alike_pairs alike_list cut.below.0 cut.above.0 (inr cut.below.1) (omega arith) (inr cut.above.1) (omega arith)
-        ]
-      ]
+pub ends_halves : (list : List (ℕ × ℕ)) (own : ℕ) → IsCut list own → HasEnds list (own - 1) own
+ends_halves list own cut =
+    let first = cut.below.2 in
+    record {
+      before = (cut.below.0, cut.below.1, omega arith);
+      after = cut.above;
+      alike = λ bit l h c place under over. alike_wider list bit l h c own place cut (omega arith) (omega arith);
+    }
 
-  pub with_cut_both : IsCut (xs ++ ys) c
-  with_cut_both = with_cut (xs ++ ys) (halves_has xs ys c)
-
--- the place for two long lists
-module _ (xs ys : List (ℕ × ℕ)) (low high own own' bit c : ℕ) (low_is : low ≡ min own own' - 1) (high_is : high ≡ max own own')
-    (cut : IsCut xs own) (cut' : IsCut ys own') (place : IsPlace bit low high c) where
-  pub alike_first : IsAlike bit xs c
-  alike_first = let h = cut.below.2 in let g = cut'.below.2 in alike_wider xs bit low high c own place cut (omega arith) (omega arith)
-
-  pub alike_second : IsAlike bit ys c
-  alike_second = let h = cut.below.2 in let g = cut'.below.2 in alike_wider ys bit low high c own' place cut' (omega arith) (omega arith)
-
-  pub both_cut : (list : List (ℕ × ℕ)) → Unites list xs ys → IsCut list c
-  both_cut list unites =
-      let after = place.after in
-      let within = place.within in
-      let under = cut.below.2 in
-      let over = cut.above.2 in
-      let under' = cut'.below.2 in
-      let over' = cut'.above.2 in
-      elim (cases_lt own own') [
-        | inl less ↦ union_cut list xs ys unites bit c alike_first alike_second cut.below.0 cut'.above.0 (inl cut.below.1) (omega arith) (inr cut'.above.1) (omega arith)
-        | inr more ↦ union_cut list xs ys unites bit c alike_first alike_second cut'.below.0 cut.above.0 (inr cut'.below.1) (omega arith) (inl cut.above.1) (omega arith)
-      ]
-
-  pub both_cut_both : IsCut (xs ++ ys) c
-  both_cut_both = both_cut (xs ++ ys) (halves_has xs ys c)
+-- the place for two lists suits both, and is the cut of their union
+pub placed : (xs ys : List (ℕ × ℕ)) (low high low' high' bit l h c : ℕ) → HasEnds xs low high → HasEnds ys low' high'
+    → l ≡ min low low' → h ≡ max high high' → IsPlace bit l h c
+    → IsAlike bit xs c × (IsAlike bit ys c × ((list : List (ℕ × ℕ)) → Unites list xs ys → IsCut list c))
+placed xs ys low high low' high' bit l h c first second l_is h_is place =
+    let one = first.alike bit l h c place (omega arith) (omega arith) in
+    let two = second.alike bit l h c place (omega arith) (omega arith) in
+    let after = place.after in
+    let within = place.within in (
+      one,
+      (
+        two,
+        λ list unites. record {
+          bit = bit;
+          alike = record {
+            multiple = one.multiple;
+            alike = λ w d. elim ((unites w).0 d) [ inl a ↦ one.alike w a | inr b ↦ two.alike w b ];
+          };
+          below = elim (cases_lt low low') [
+            | inl less ↦ let is = first.before.2 in (first.before.0, (unites first.before.0).1 (inl first.before.1), omega arith)
+            | inr more ↦ let is = second.before.2 in (second.before.0, (unites second.before.0).1 (inr second.before.1), omega arith)
+          ];
+          above = elim (cases_lt high high') [
+            | inl less ↦ let is = second.after.2 in (second.after.0, (unites second.after.0).1 (inr second.after.1), omega arith)
+            | inr more ↦ let is = first.after.2 in (first.after.0, (unites first.after.0).1 (inl first.after.1), omega arith)
+          ];
+        },
+      ),
+    )
 
 -- both as one list in rising order
 pub unites_merged : (list xs ys : List (ℕ × ℕ)) → list ≡ merged xs ys → Unites list ys xs

@@ -1,12 +1,13 @@
-use Rattle.std.proofs.Common.{◌≡◌, ◌<◌, ◌+◌, ◌-◌, ℕ, List, ◌++◌, length, min, ap, sym, subst, arith}
+use Rattle.std.proofs.Common.{◌≡◌, ◌<◌, ◌+◌, ◌-◌, ℕ, List, ◌++◌, length, ap, sym, subst, arith}
 use Rattle.std.proofs.lemmas.List.{length-append}
 use Rattle.std.proofs.lemmas.Result.{IfOk-weaker}
 use Rattle.lists.specs.declared.nodes.Halves.{Halves}
 use Rattle.lists.specs.Lists.{list_at, Grow}
-use Rattle.lists.specs.Cuts.{IsCut, IsParted}
+use Rattle.lists.specs.Cuts.{IsAlike, IsCut, IsParted}
 use Rattle.lists.specs.Nodes.{AreIn}
 use Rattle.lists.specs.Unions.{Unites, IsSplit}
-use Rattle.lists.proofs.Uniting.{alike_first, alike_second, both_cut, both_cut_both, parts_fewer, AreIn-united}
+use Rattle.lists.proofs.Keys.{halves_has}
+use Rattle.lists.proofs.Uniting.{ends_halves, placed, parts_fewer, AreIn-united}
 use Rattle.lists.proofs.Joining.{AreUnions-grow, Grow-twice, or_swap}
 use Rattle.lists.proofs.Noting.{unites_back, unites_forth}
 use Rattle.lists.proofs.unions.+both.Goals as goal
@@ -34,36 +35,23 @@ module _ (t : ℕ) (c : After-split-under t) where
   own' : IsCut (list_at c.args.lists.now c.args.k) c.in-Halved-shape.second.cut
   own' = subst (λ l. IsCut l c.in-Halved-shape.second.cut) (sym c.in-Halved-shape.ensures.list) c.in-Halved-shape.ensures.halves.at_cut
 
-  low : c.min.result - 1 ≡ min c.in-Halved.first.cut c.in-Halved-shape.second.cut - 1
-  low = ap (λ n. n - 1) c.min.ensures
-
-  union : (list : List (ℕ × ℕ)) → Unites list (list_at c.args.lists.now c.args.j) (list_at c.args.lists.now c.args.k) → IsCut list c.cut-cut.result
-  union =
-      both_cut (list_at c.args.lists.now c.args.j) (list_at c.args.lists.now c.args.k) (c.min.result - 1) c.max.result c.in-Halved.first.cut
-      c.in-Halved-shape.second.cut c.cut-cut.ensures.0 c.cut-cut.result low c.max.ensures own own' c.cut-cut.ensures.1
-
-  union_both : IsCut (list_at c.args.lists.now c.args.j ++ list_at c.args.lists.now c.args.k) c.cut-cut.result
-  union_both =
-      both_cut_both (list_at c.args.lists.now c.args.j) (list_at c.args.lists.now c.args.k) (c.min.result - 1) c.max.result c.in-Halved.first.cut
-      c.in-Halved-shape.second.cut c.cut-cut.ensures.0 c.cut-cut.result low c.max.ensures own own' c.cut-cut.ensures.1
+  place : IsAlike c.cut-cut.ensures.0 (list_at c.args.lists.now c.args.j) c.cut-cut.result × (IsAlike c.cut-cut.ensures.0 (list_at c.args.lists.now c.args.k) c.cut-cut.result
+      × ((list : List (ℕ × ℕ)) → Unites list (list_at c.args.lists.now c.args.j) (list_at c.args.lists.now c.args.k) → IsCut list c.cut-cut.result))
+  place =
+      placed _ _ _ _ _ _ c.cut-cut.ensures.0 (c.min.result - 1) c.max.result c.cut-cut.result (ends_halves _ _ own) (ends_halves _ _ own')
+      (omega (arith, c.min.ensures)) c.max.ensures c.cut-cut.ensures.1
 
   is_first : IsSplit c.args.lists.now c.args.j c.cut-cut.result c.split-below.result.0 c.split-below.result.1
-  is_first =
-      c.split-below.ensures c.args.lists.now c.known.ensures.stored c.in-Halved.ensures c.cut-cut.ensures.0
-      (alike_first (list_at c.args.lists.now c.args.j) (list_at c.args.lists.now c.args.k) (c.min.result - 1) c.max.result c.in-Halved.first.cut
-      c.in-Halved-shape.second.cut c.cut-cut.ensures.0 c.cut-cut.result low c.max.ensures own own' c.cut-cut.ensures.1)
+  is_first = c.split-below.ensures c.args.lists.now c.known.ensures.stored c.in-Halved.ensures c.cut-cut.ensures.0 place.0
 
   is_second : IsSplit c.args.lists.now c.args.k c.cut-cut.result c.split-under.result.0 c.split-under.result.1
-  is_second =
-      c.split-under.ensures c.args.lists.now c.known.ensures.stored c.in-Halved-shape.ensures c.cut-cut.ensures.0
-      (alike_second (list_at c.args.lists.now c.args.j) (list_at c.args.lists.now c.args.k) (c.min.result - 1) c.max.result c.in-Halved.first.cut
-      c.in-Halved-shape.second.cut c.cut-cut.ensures.0 c.cut-cut.result low c.max.ensures own own' c.cut-cut.ensures.1)
+  is_second = c.split-under.ensures c.args.lists.now c.known.ensures.stored c.in-Halved-shape.ensures c.cut-cut.ensures.0 place.1.0
 
   fewer : (length (list_at c.args.lists.now c.split-below.result.0) + length (list_at c.args.lists.now c.split-under.result.0)
       < length (list_at c.args.lists.now c.args.j) + length (list_at c.args.lists.now c.args.k))
       × (length (list_at c.args.lists.now c.split-below.result.1) + length (list_at c.args.lists.now c.split-under.result.1)
       < length (list_at c.args.lists.now c.args.j) + length (list_at c.args.lists.now c.args.k))
-  fewer = parts_fewer _ _ _ _ _ _ c.cut-cut.result is_first.parted is_second.parted union_both
+  fewer = parts_fewer _ _ _ _ _ _ c.cut-cut.result is_first.parted is_second.parted (place.1.1 _ (halves_has _ _ c.cut-cut.result))
 
 pub both-requires : goal.both-requires
 both-requires t c =
@@ -119,7 +107,7 @@ united_in t c =
     (sym (c.both.ensures.grow.same c.split-below.result.1 (omega arith))) first.parted)
     (subst (λ l. IsParted (list_at lists c.args.k) c.cut-cut.result (list_at lists c.split-under.result.0) l)
     (sym (c.both.ensures.grow.same c.split-under.result.1 (omega arith))) second.parted)
-    (c.known.ensures.stored.rise c.args.k _ k) (omega arith) (union t at)
+    (c.known.ensures.stored.rise c.args.k _ k) (omega arith) ((place t at).1.1)
 
 grown : (t : ℕ) (c : After-known-in-Halved-shape t) → Grow c.args.lists.now c.both-in-Halved-shape.new.lists
 grown t c = Grow-twice c.both.ensures.grow c.both-in-Halved-shape.ensures.grow

@@ -5,13 +5,13 @@ use Rattle.std.proofs.lemmas.Bool.Decides.{Decides-eqb, not_from_Decides}
 use Rattle.std.proofs.lemmas.Result.{IfOk-weaker}
 use Rattle.lists.specs.declared.nodes.Halves.{Halves}
 use Rattle.lists.specs.Lists.{pair_cmp, list_at, merged}
-use Rattle.lists.specs.Cuts.{IsCut, IsParted}
+use Rattle.lists.specs.Cuts.{IsAlike, IsCut, IsParted}
 use Rattle.lists.specs.Nodes.{AreIn}
 use Rattle.lists.specs.Unions.{Unites, IsSplit}
 use Rattle.lists.proofs.Joining.{Grow-twice}
-use Rattle.lists.proofs.Keys.{parts_rise, parts_fit}
+use Rattle.lists.proofs.Keys.{halves_has, parts_rise, parts_fit}
 use Rattle.lists.proofs.Merging.{merged_has, merged_rises}
-use Rattle.lists.proofs.Uniting.{alike_list, with_cut, with_cut_both, parts_fewer, AreIn-united, unites_merged}
+use Rattle.lists.proofs.Uniting.{ends_pairs, ends_halves, placed, parts_fewer, AreIn-united, unites_merged}
 use Rattle.lists.proofs.unions.+with.Goals as goal
 use Rattle.lists.proofs.unions.+with.Goals.{After-deref, After-parted, After-known-in-Halved}
 
@@ -53,28 +53,19 @@ module _ (t : ℕ) (c : After-parted t) where
   own : IsCut (list_at c.args.lists.now c.args.k) c.in-Halved.halves.cut
   own = subst (λ l. IsCut l c.in-Halved.halves.cut) (sym c.in-Halved.ensures.list) c.in-Halved.ensures.halves.at_cut
 
-  union : (list : List (ℕ × ℕ)) → Unites list c.args.pairs.now (list_at c.args.lists.now c.args.k) → IsCut list c.cut-cut.result
-  union =
-      with_cut c.args.pairs.now (list_at c.args.lists.now c.args.k) c.requires.rising c.requires.fit some c.key.result c.key-in-Halved.result
-      c.min-low.result c.max-high.result c.in-Halved.halves.cut c.cut-cut.ensures.0 c.cut-cut.result c.key.ensures c.key-in-Halved.ensures
-      c.min-low.ensures c.max-high.ensures own c.cut-cut.ensures.1
-
-  union_both : IsCut (c.args.pairs.now ++ list_at c.args.lists.now c.args.k) c.cut-cut.result
-  union_both =
-      with_cut_both c.args.pairs.now (list_at c.args.lists.now c.args.k) c.requires.rising c.requires.fit some c.key.result c.key-in-Halved.result
-      c.min-low.result c.max-high.result c.in-Halved.halves.cut c.cut-cut.ensures.0 c.cut-cut.result c.key.ensures c.key-in-Halved.ensures
-      c.min-low.ensures c.max-high.ensures own c.cut-cut.ensures.1
+  place : IsAlike c.cut-cut.ensures.0 c.args.pairs.now c.cut-cut.result × (IsAlike c.cut-cut.ensures.0 (list_at c.args.lists.now c.args.k) c.cut-cut.result
+      × ((list : List (ℕ × ℕ)) → Unites list c.args.pairs.now (list_at c.args.lists.now c.args.k) → IsCut list c.cut-cut.result))
+  place =
+      placed _ _ _ _ _ _ c.cut-cut.ensures.0 c.min-low.result c.max-high.result c.cut-cut.result
+      (ends_pairs c.args.pairs.now c.requires.rising c.requires.fit some c.key.result c.key-in-Halved.result c.key.ensures c.key-in-Halved.ensures)
+      (ends_halves _ _ own) c.min-low.ensures c.max-high.ensures c.cut-cut.ensures.1
 
   is_split : IsSplit c.args.lists.now c.args.k c.cut-cut.result c.split-below.result.0 c.split-below.result.1
-  is_split =
-      c.split-below.ensures c.args.lists.now c.known.ensures.stored c.in-Halved.ensures c.cut-cut.ensures.0
-      (alike_list c.args.pairs.now (list_at c.args.lists.now c.args.k) c.requires.rising c.requires.fit some c.key.result c.key-in-Halved.result
-      c.min-low.result c.max-high.result c.in-Halved.halves.cut c.cut-cut.ensures.0 c.cut-cut.result c.key.ensures c.key-in-Halved.ensures
-      c.min-low.ensures c.max-high.ensures own c.cut-cut.ensures.1)
+  is_split = c.split-below.ensures c.args.lists.now c.known.ensures.stored c.in-Halved.ensures c.cut-cut.ensures.0 place.1.0
 
   fewer : (length c.parted.result.0.now + length (list_at c.args.lists.now c.split-below.result.0) < length c.args.pairs.now + length (list_at c.args.lists.now c.args.k))
       × (length c.parted.result.1.now + length (list_at c.args.lists.now c.split-below.result.1) < length c.args.pairs.now + length (list_at c.args.lists.now c.args.k))
-  fewer = parts_fewer _ _ _ _ _ _ c.cut-cut.result c.parted.ensures is_split.parted union_both
+  fewer = parts_fewer _ _ _ _ _ _ c.cut-cut.result c.parted.ensures is_split.parted (place.1.1 _ (halves_has _ _ c.cut-cut.result))
 
 pub with-requires : goal.with-requires
 with-requires t c =
@@ -128,7 +119,7 @@ united_in t c =
     c.in_ok-upper-in-Halved.ensures.within c.in_ok-upper-in-Halved.ensures.exactly c.parted.ensures
     (subst (λ l. IsParted (list_at lists c.args.k) c.cut-cut.result (list_at lists c.split-below.result.0) l)
     (sym (c.with.ensures.grow.same c.split-below.result.1 (omega arith))) is.parted)
-    (c.known.ensures.stored.rise c.args.k _ low) (omega arith) (union t at)
+    (c.known.ensures.stored.rise c.args.k _ low) (omega arith) ((place t at).1.1)
 
 pub returns-then-upper-above-clause-exactly : goal.returns-then-upper-above-clause-exactly
 returns-then-upper-above-clause-exactly t c =
