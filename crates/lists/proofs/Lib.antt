@@ -1,3 +1,4 @@
+pub mod CallerLemmas
 pub mod Pairs
 pub mod Rising
 pub mod Merging

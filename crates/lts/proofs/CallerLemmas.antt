@@ -2,3 +2,4 @@
 pub use Rattle.lts.proofs.Contained.{contains_mapped, mapped_contains, contains_passing, passing_contains}
 pub use Rattle.lts.proofs.Filters.{filter-none, filter-whole, length-filter-sum}
 pub use Rattle.lts.proofs.Joining.{take-split}
+pub use Rattle.lts.proofs.Rows.{before-mono, IsRow-before, before-le}

@@ -5,7 +5,7 @@ use Rattle.theory.specs.System.{System, IsSystem, Step, Along, internal}
 use Rattle.theory.specs.declared.relation.Relation.{Relation}
 use Rattle.theory.specs.declared.relation.Relation.TheVariants.{Strong, Branching}
 use Rattle.theory.specs.Blocks.{Inert, Signature, SameSignature, SameBlocks, Split}
-use Rattle.theory.proofs.Paths.{step_below}
+use Rattle.theory.proofs.CallerLemmas.{step_below}
 use Rattle.lts.specs.Labels.{text_of}
 use Rattle.lts.specs.Lts.{Grouped, Triple, label_of, target_of, row_of, system_of}
 use Rattle.lists.specs.Lists.{list_at, pair_cmp}

@@ -7,8 +7,7 @@ use Rattle.theory.specs.Blocks.{Signature, SameSignature, Split}
 use Rattle.lts.specs.Labels.{text_of, IsNumber}
 use Rattle.lts.specs.Lts.{Grouped, system_of}
 use Rattle.inert.specs.Signed.{HasPair, IsSignature}
-use Rattle.lists.proofs.Pairs.{pair_total}
-use Rattle.lists.proofs.Rising.{rising_unique}
+use Rattle.lists.proofs.CallerLemmas.{pair_total, rising_unique}
 
 -- each label that a step shows is in the table
 abbrev pub Labelled : Grouped → Type 0

@@ -7,7 +7,7 @@ use Rattle.std.proofs.lemmas.List.{ext_get_or, get_or-map, length-map, take_all,
 use Rattle.std.proofs.lemmas.List.Elements.{filter_agree}
 use Rattle.std.proofs.lemmas.List.Sums.{length-filter, sum-map, sum_by-cons, sum_by-le, sum_by_more, sum_by_push, sum_by-set}
 use Rattle.lts.specs.Lts.{Triple, source_of, row_of, place_at}
-use Rattle.lts.proofs.Filters.{filter-none, filter-whole}
+use Rattle.lts.proofs.CallerLemmas.{filter-none, filter-whole}
 use Rattle.inert.specs.Ahead.{is_unseen, unseen, unread, rest}
 use Rattle.inert.specs.Search.{stage_at, frame_at, no_frame, top, Stage, Unseen, Open, Finished, Frame}
 

@@ -2,7 +2,7 @@
 use Rattle.std.proofs.Common.{◌≡◌, ◌∙◌, ℕ, ◌+◌, ◌-◌, ◌<◌, ◌≤◌, List, length, slice_index, ap, sym, inl, inr, arith}
 use Rattle.std.proofs.lemmas.Bool.{cases_lt}
 use Rattle.lts.specs.Lts.{Grouped, source_of, before, place_at, IsLts, IsRow}
-use Rattle.lts.proofs.Rows.{before-mono, IsRow-before}
+use Rattle.lts.proofs.CallerLemmas.{before-mono, IsRow-before}
 use Rattle.partition.specs.Blocks.{IsOne, AreLive}
 use Rattle.inert.specs.Search.{Search, Stage, stage_at, AreAtRest, IsWoken, Unseen, Finished}
 use Rattle.inert.specs.Ahead.{unread}

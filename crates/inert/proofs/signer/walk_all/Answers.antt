@@ -2,7 +2,7 @@ use Rattle.std.proofs.Common.{◌≡◌, ◌∙◌, ℕ, ◌+◌, ◌-◌, ◌<�
 use Rattle.std.proofs.lemmas.Bool.{cases_lt, false≢true}
 use Rattle.std.proofs.lemmas.Result.{err_from_is_err_and}
 use Rattle.lts.specs.Lts.{before, system_of}
-use Rattle.lts.proofs.Rows.{before-le}
+use Rattle.lts.proofs.CallerLemmas.{before-le}
 use Rattle.lists.specs.Lists.{list_at}
 use Rattle.inert.specs.Search.{stage_at}
 use Rattle.inert.proofs.parts.Counting.{passed, passed-all}

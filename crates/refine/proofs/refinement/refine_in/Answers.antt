@@ -9,7 +9,7 @@ use Rattle.refine.proofs.Spending.{costs_more, costs_up_to_more, room_for_more, 
 use Rattle.partition.specs.Partition.{AreBlocks}
 use Rattle.partition.specs.Blocks.{IsOne, AreLive, HaveNone}
 use Rattle.inert.specs.Signed.{LeavesOut}
-use Rattle.partition.proofs.Renumbering.{one_block}
+use Rattle.partition.proofs.CallerLemmas.{one_block}
 use Rattle.refine.proofs.Living.{left_out_still, left_out_next}
 use Rattle.refine.proofs.Settling.{settled_first}
 use Rattle.refine.proofs.refinement.refine_in.Goals as goal

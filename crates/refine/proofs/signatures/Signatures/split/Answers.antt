@@ -6,7 +6,7 @@ use Rattle.partition.specs.Splitting.{Splits}
 use Rattle.refine.specs.EachList.{list_of}
 use Rattle.refine.specs.Signed.{signature_at}
 use Rattle.refine.proofs.EachList.{signature_at-list}
-use Rattle.partition.proofs.Renumbering.{renumbered_alike}
+use Rattle.partition.proofs.CallerLemmas.{renumbered_alike}
 use Rattle.refine.proofs.signatures.Signatures.split.Goals as goal
 
 pub split-requires-clause-none : goal.split-requires-clause-none
