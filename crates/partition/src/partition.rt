@@ -1,5 +1,6 @@
 //! A partition of the states 0, 1, .. into blocks, which are numbered in the order of their least members.
 ghost use Rattle.std.specs.Prelude.{◌≡◌, ℕ, ◌<◌, ◌≤◌, length, slice_index, IfOk};
+ghost use Rattle.lts.specs.declared.limits.TheConstants.{MOST_STATES};
 ghost use Rattle.partition.specs.Partition.{IsPartition, IsSomePartition};
 
 use growth::Memory;
@@ -31,7 +32,7 @@ impl Partition {
     /// Fails where there is no memory for it.
     pub fn one(alloc: Global, states: u32) -> Result<Partition, Memory>
         requires some { 1 ≤ states }
-        requires few { states ≤ 2000000 }
+        requires few { states ≤ MOST_STATES }
         ensures states { IfOk result (λ p. length p ≡ states) }
         ensures one { IfOk result (λ p. (s : ℕ) → s < states → slice_index p s ≡ 0) }
     {

@@ -1,5 +1,6 @@
 -- The list of each state, by its number.
 use Rattle.std.specs.Prelude.{ℕ, ◌≤◌, List, length, map, slice_index}
+use Rattle.lts.specs.declared.limits.TheConstants.{MOST_STATES}
 use Rattle.lists.specs.Lists.{list_at, AreNumbers}
 
 -- the list of the state s, if the states have these numbers
@@ -14,7 +15,7 @@ each_list lists numbers = map (list_at lists) numbers
 pub record AreListsOfStates (lists : List (List (ℕ × ℕ))) (numbers : List ℕ) : Type 0 where
   pub each : AreNumbers lists numbers
   pub some : 1 ≤ length numbers
-  pub few : length numbers ≤ 2000000
+  pub few : length numbers ≤ MOST_STATES
 
 -- lists, and for each state the number of its list
 pub record Numbered : Type 0 where

@@ -1,5 +1,6 @@
 //! What signatures are put together in, used again from state to state and from round to round.
 ghost use Rattle.std.specs.Prelude.{◌≡◌, ℕ, ◌≤◌, IfOk};
+ghost use Rattle.lts.specs.declared.limits.TheConstants.{MOST_STATES};
 
 use inert::Signer;
 use lists::Lists;
@@ -45,7 +46,7 @@ impl Marks {
     /// Fails if there is no memory for them.
     pub fn new(alloc: Global, states: u32) -> Result<Marks, Memory>
         requires some { 1 ≤ states }
-        requires few { states ≤ 2000000 }
+        requires few { states ≤ MOST_STATES }
         ensures { IfOk result (λ k. k ≡ states) }
     {
         let lists = Lists::new(alloc, 1)?;

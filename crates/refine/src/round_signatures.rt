@@ -1,5 +1,6 @@
 //! What a round keeps of the signatures of the states.
 ghost use Rattle.std.specs.Prelude.{◌≡◌, ℕ, ◌<◌, ◌≤◌, [], ◌∷◌, length, slice_index, IfOk, OnOk};
+ghost use Rattle.lts.specs.declared.limits.TheConstants.{MOST_STATES};
 ghost use Rattle.lts.specs.Meter.{HasRoomFor, Visits};
 ghost use Rattle.lists.specs.Lists.{AreNumbers};
 ghost use Rattle.partition.specs.Blocks.{HaveNone, LeavesAlone};
@@ -50,7 +51,7 @@ impl RoundSignatures {
     /// Fails if there is no memory for them.
     pub fn new(alloc: Global, states: u32) -> Result<RoundSignatures, Memory>
         requires some { 1 ≤ states }
-        requires few { states ≤ 2000000 }
+        requires few { states ≤ MOST_STATES }
         ensures lists { IfOk result (λ r. r.lists ≡ [] ∷ []) }
         ensures states { IfOk result (λ r. length r.numbers ≡ states) }
         ensures none { IfOk result (λ r. (s : ℕ) → s < states → slice_index r.numbers s ≡ 0) }

@@ -1,5 +1,6 @@
 //! The signatures of the states in memory.
 ghost use Rattle.std.specs.Prelude.{◌≡◌, ◌↔◌, ℕ, ◌<◌, ◌≤◌, [], ◌∷◌, length, slice_index, IfOk, OnOk};
+ghost use Rattle.lts.specs.declared.limits.TheConstants.{MOST_STATES};
 ghost use Rattle.lts.specs.Meter.{HasRoomFor, Visits};
 ghost use Rattle.partition.specs.Partition.{IsSomePartition};
 ghost use Rattle.inert.specs.Signed.{IsSignature};
@@ -41,7 +42,7 @@ impl Signatures {
     /// Fails if there is no memory for them.
     pub fn new(alloc: Global, states: u32) -> Result<Signatures, Memory>
         requires some { 1 ≤ states }
-        requires few { states ≤ 2000000 }
+        requires few { states ≤ MOST_STATES }
         ensures states { IfOk result (λ g. length g ≡ states) }
         ensures empty { IfOk result (λ g. (s : ℕ) → s < states → signature_at g s ≡ []) }
     {
