@@ -45,7 +45,7 @@ pub record CountsUnion (asked : Request) {first second : List ℕ} (both : ReadB
   pub turns : Turns asked.relation (union_of (Hide asked.hidden both.one) (Hide asked.hidden both.other)) at.rounds
   pub keeps : KeepsTo (states_of both) (transitions_of both) 1 at ((at.rounds + 1) * transitions_of both)
 
--- both texts were read to their ends, of the second one these bytes; a fresh meter then shows no more than a comparison may take
+-- both texts were read to their ends, and `second` is what was taken of the second; a fresh meter then shows no more than a comparison may take
 pub record GotBoth {A B : Type 0} (bounds : Bounds) (first : List ℕ) (one : Used A) (other : Used B) (at : Counts) : Type 0 where
   pub second : List ℕ
   pub took : Consumes other.before other.after second

@@ -10,7 +10,7 @@ abbrev pub Opens : Option (List Name) → Option (List Name) → List Name → T
 Opens old new names = IfSome old (λ known. new ≡ Some (known ++ names))
 
 -- what a call did with files: these before and after, what each holds and which names were asked for, as far as that is told,
--- and how often one could not be opened, or failed
+-- and whether one could not be opened, or failed
 pub record FilesUsed (F File : Type 0) : Type 0 where
   pub old : F
   pub new : F

@@ -55,7 +55,8 @@ abbrev pub IsGivenUp : {F File : Type 0} → FilesUsed F File → List Name → 
 IsGivenUp files names hide status = IsRefused files names status ⊎ (HasAll files names × IsListUnread files hide status)
 
 -- what a job came to: it was given up before its texts were read, and no stream was used; or all its files were had, and its
--- texts were run. Standard input is read only if no text is named, and one is lost only if that failed, or a file that is named
+-- texts were run. Standard input is read only if no text is named. A text is lost only if standard input failed, or a file that
+-- the job names
 pub data EndsIn {F File In Out : Type 0} (files : FilesUsed F File) (input : Used In) (output : Used Out) (job : Job) (status : ℕ) : Type 0 where
   given_up : IsGivenUp files (files_of job) (hide_of job) status → input.new ≡ input.old → output.new ≡ output.old →
       EndsIn files input output job status

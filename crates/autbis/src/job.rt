@@ -31,6 +31,7 @@ pub fn main_program<F: Opener, R: Source, W: Sink, E: Write>(
     output: &mut W,
     e: &mut E,
 ) -> u8
+    requires files { F.failures files.old ≡ 0 }
     requires input { R.failures input.old ≡ 0 }
     requires output { W.failures output.old ≡ 0 }
     ensures answer { AnswersWords words (files_used F.holds F.opened F.failures F.File.failures files.old files.new)
@@ -66,6 +67,7 @@ pub fn do_job<F: Opener, R: Source, W: Sink, E: Write>(
     output: &mut W,
     e: &mut E,
 ) -> u8
+    requires files { F.failures files.old ≡ 0 }
     requires input { R.failures input.old ≡ 0 }
     requires output { W.failures output.old ≡ 0 }
     ensures ends { EndsIn (files_used F.holds F.opened F.failures F.File.failures files.old files.new)

@@ -7,7 +7,7 @@ use std::fs;
 use std::marker::Model;
 use std::rt::Files;
 
-/// Opens files by their names, each to be read from its beginning.
+/// Opens files by their names, each to be read from its beginning. One failure ends it.
 pub trait Opener {
     /// A file that was opened.
     type File: Source + Drop;
@@ -24,8 +24,9 @@ pub trait Opener {
     /// Opens the file of this name.
     ///
     /// # Errors
-    /// `Broken` if it cannot be opened, and `failures` is 1 then.
+    /// `Broken` if it cannot be opened, and `failures` is 1 from then on.
     fn open(&mut self, name: &str) -> Result<Self::File, Broken>
+        requires sound { failures self.old ≡ 0 }
         ensures unread { IfOk result (λ file. Self.File.failures file ≡ 0) }
         ensures bytes { IfSome (holds self.old name.now) (λ text.
             IfOk result (λ file. Self.File.rest file ≡ Some text)) }

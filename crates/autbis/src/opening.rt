@@ -38,6 +38,7 @@ pub fn open_job<'a, F: Opener, E: Write>(
     files: &mut F,
     e: &mut E,
 ) -> Result<(Texts<'a, F::File>, Hidden, Relation), u8>
+    requires sound { F.failures files.old ≡ 0 }
     ensures opened { IfOk result (IsOpened F.File.rest
         (files_used F.holds F.opened F.failures F.File.failures files.old files.new) job.now) }
     ensures given_up { IfErr result (IsGivenUp (files_used F.holds F.opened F.failures F.File.failures files.old files.new)
@@ -54,6 +55,7 @@ fn open_texts<'a, F: Opener, E: Write>(
     files: &mut F,
     e: &mut E,
 ) -> Result<Texts<'a, F::File>, u8>
+    requires sound { F.failures files.old ≡ 0 }
     ensures texts { IfOk result (AreOpened F.File.rest F.File.failures (F.holds files.old) job.now) }
     ensures all { OnOk result (HasAll (files_used F.holds F.opened F.failures F.File.failures files.old files.new)
         (texts_of job.now)) }
@@ -80,6 +82,7 @@ fn open_named<'a, F: Opener, E: Write>(
     name: &'a str,
     e: &mut E,
 ) -> Result<Named<'a, F::File>, u8>
+    requires sound { F.failures files.old ≡ 0 }
     ensures file { IfOk result (λ text. F.File.failures text.file ≡ 0) }
     ensures bytes { IfSome (F.holds files.old name.entry.now) (λ bytes.
         IfOk result (λ text. F.File.rest text.file ≡ Some bytes)) }
@@ -101,6 +104,7 @@ fn hidden_of<F: Opener, E: Write>(
     hide: &Option<String>,
     e: &mut E,
 ) -> Result<Hidden, u8>
+    requires sound { F.failures files.old ≡ 0 }
     ensures labels { IfOk result (HidesNamed (F.holds files.old) (option_map string_bytes hide.now)) }
     ensures all { OnOk result (HasAll (files_used F.holds F.opened F.failures F.File.failures files.old files.new)
         (option_to_list (option_map string_bytes hide.now))) }

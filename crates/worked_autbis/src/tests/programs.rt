@@ -1,5 +1,5 @@
 //! The worked examples of whole programs, over files in memory and those of the test.
-ghost use Rattle.std.specs.Prelude.{None};
+ghost use Rattle.std.specs.Prelude.{◌≡◌, None};
 
 use super::commands::words_of;
 use autbis::{Disk, Opener, main_program};
@@ -60,7 +60,9 @@ fn ended<F: Opener>(
     alloc: Global,
     line: &str,
     room: Option<usize>,
-) -> Result<(u8, VecSink, Vec<u8>), AllocError> {
+) -> Result<(u8, VecSink, Vec<u8>), AllocError>
+    requires { F.failures files.old ≡ 0 }
+{
     let words = words_of(alloc, line, '/')?;
     let mut output = VecSink::new(alloc, room);
     let mut said = Vec::new(alloc);
