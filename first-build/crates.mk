@@ -1,4 +1,4 @@
-# Proves each crate that the goal stands on, each once, and the goal: make -f first-build/crates.mk NAME, at the top of the repository.
+# Proves each crate that the goal stands on, each once, and the goal: what first-build/build runs, with what prove wants exported.
 include crates.txt
 crates := $(notdir $(wildcard crates/*))
 .PHONY: $(crates)
