@@ -49,8 +49,8 @@ impl Signer {
         }
     }
 
-    /// Puts the branching signature of the state `s` into `lists`, and returns its number there. The first call makes a stage a state;
-    /// a call after it costs what the walk reaches.
+    /// Puts the branching signature of the state `s` into `lists`, and returns its number there. The first call makes a stage a
+    /// state; a call after it costs what the walk reaches.
     ///
     /// Fails if there is no memory for it.
     pub fn sign<M: Meter>(
