@@ -37,10 +37,15 @@ stage_at stages s = slice_index_or stages s Unseen
 abbrev pub AreAtRest : List ℕ → List Stage → Type 0
 AreAtRest live stages = (s : ℕ) → s < length stages → IsOne live s ⊎ (stage_at stages s ≡ Finished 0)
 
--- no walk is under way, and all states are at rest
-pub record IsIdle (w : Search) : Type 0 where
+-- no walk is under way, and all states are at rest, with this stage
+pub record IsIdle (at_rest : Stage) (w : Search) : Type 0 where
   pub empty : w ≡ nothing w.stages
-  pub rest : (s : ℕ) → s < length w.stages → stage_at w.stages s ≡ Finished 0
+  pub rest : (s : ℕ) → s < length w.stages → stage_at w.stages s ≡ at_rest
+
+-- the trail has each state that was seen
+pub record IsTrail (stages : List Stage) (trail : List ℕ) : Type 0 where
+  pub each : All (λ s. s < length stages) trail
+  pub seen : (s : ℕ) → (stage_at stages s ≡ Unseen) ⊎ Contains trail s
 
 -- no walk is under way, and the states that are looked at were woken
 pub record IsWoken (states : ℕ) (live : List ℕ) (w : Search) : Type 0 where

@@ -23,7 +23,9 @@
 //! state that is not finished. Most walks are one row: in ten rounds over nine buffers, steps enter 521 of 196,830 states.
 //!
 //! Between walks all states are at rest, as if they were finished with the empty list. A round wakes those that it looks at. The
-//! others have no transition, so that this is their list, or are alone in their blocks, so that no inert step leads to them.
+//! others have no transition, so that this is their list, or are alone in their blocks, so that no inert step leads to them from
+//! another state. The walk from one state alone has stages of its own, where states rest as unseen ones. It keeps a trail of those
+//! that it sees, and makes them unseen again.
 #![tactic(auto)]
 
 mod beginning;

@@ -3,8 +3,8 @@ ghost use Rattle.std.specs.Prelude.{◌≡◌, ℕ, ◌+◌, ◌-◌, ◌<◌, �
 ghost use Rattle.std.specs.List.{All};
 ghost use Rattle.lts.specs.Meter.{HasRoomFor, Costs};
 ghost use Rattle.inert.specs.Steps.{Sees};
-ghost use Rattle.inert.specs.Search.{stage_at, AreOpen, AreThere, Laws};
-ghost use Rattle.inert.specs.Moves.{Closes, Finishes, ahead, HasRead, IsUnderWay, GoesOn, Rests, ComesNearer};
+ghost use Rattle.inert.specs.Search.{stage_at, AreOpen, AreThere, IsTrail, Laws};
+ghost use Rattle.inert.specs.Moves.{Closes, Finishes, ahead, HasRead, IsUnderWay, GoesOn, Rests, ComesNearer, Finds, FindsNone};
 ghost use Rattle.inert.specs.Ahead.{unread, HasSeen};
 ghost use Rattle.inert.specs.declared.walk.Stage.TheVariants.{Unseen};
 
@@ -16,8 +16,8 @@ use lists::Lists;
 use lts::{Lts, Memory, Meter};
 
 impl Walk {
-    /// Finishes the state `s`, which was not seen, and all states that inert steps lead to. Those in `live` are signed; the others
-    /// are at rest. Only contracts look at `live`.
+    /// Finishes the state `s`, which was not seen, and all states that inert steps lead to. A state that is not in `live` needs its
+    /// list only if it is not alone in its block. Only contracts look at `live`.
     ///
     /// Fails if there is no memory for it.
     pub fn finish<M: Meter>(
@@ -50,6 +50,47 @@ impl Walk {
         Ok(())
     }
 
+    /// Finishes the state `s`, and all states that inert steps lead to, where none was seen. Makes `trail` those that it sees. Only
+    /// contracts look at `live`.
+    ///
+    /// Fails if there is no memory for it.
+    pub fn finish_with_trail<M: Meter>(
+        &mut self,
+        l: &Lts<M>,
+        blocks: &[u32],
+        internal: Option<u32>,
+        live: &[u32],
+        s: u32,
+        lists: &mut Lists,
+        trail: &mut Vec<u32>,
+        m: &mut M,
+    ) -> Result<(), Memory>
+        requires sees { Sees l.now blocks.now internal }
+        requires state { s < l.now.states }
+        requires unseen { (t : ℕ) → stage_at self.old.stages t ≡ Unseen }
+        requires rests { Rests l.now blocks.now live.now lists.old self.old }
+        requires room { HasRoomFor (M.counted m.old) 0 (unread l.now.places self.old.stages) }
+        ensures rests { OnOk result (Rests l.now blocks.now live.now lists.new self.new) }
+        ensures found { OnOk result (¬ (stage_at self.new.stages s ≡ Unseen)) }
+        ensures trail { OnOk result (IsTrail self.new.stages trail.new.items) }
+        ensures visits { OnOk result ((M.counted m.new).visits + unread l.now.places self.new.stages
+            ≡ (M.counted m.old).visits + unread l.now.places self.old.stages) }
+        ensures cost { Costs (M.counted m.old) (M.counted m.new) 0 0 (unread l.now.places self.old.stages) }
+    {
+        laws();
+        trail.clear();
+        trail.push(s)?;
+        self.enter(l, s)?;
+        while !self.frames.is_empty() {
+            if self.read(l, blocks, internal, live, lists, m)? {
+                trail.push(self.stack[self.stack.len() - 1])?;
+                continue;
+            }
+            self.go_back(l, blocks, live, lists)?;
+        }
+        Ok(())
+    }
+
     /// Reads the row of the state where the walk is up to its end, or up to a step that enters a state. Returns whether it
     /// does.
     ///
@@ -69,6 +110,7 @@ impl Walk {
         ensures on { OnOk result (GoesOn l.now blocks.now live.now lists.now self.old self.new) }
         ensures visits { OnOk result ((M.counted m.new).visits + ahead l.now self.new ≡ (M.counted m.old).visits + ahead l.now self.old) }
         ensures steps { IfOk result (ComesNearer l.now self.old self.new) }
+        ensures finds { IfOk result (Finds self.old self.new) }
         ensures cost { Costs (M.counted m.old) (M.counted m.new) 0 0 (ahead l.now self.old) }
     {
         laws();
@@ -102,6 +144,7 @@ impl Walk {
         ensures on { OnOk result (GoesOn l.now blocks.now live.now lists.new self.old self.new) }
         ensures ahead { OnOk result (ahead l.now self.new ≡ ahead l.now self.old) }
         ensures back { OnOk result (length self.new.frames < length self.old.frames) }
+        ensures finds { OnOk result (FindsNone self.old self.new) }
     {
         laws();
         l.known();

@@ -1,4 +1,4 @@
-//! The two entrances to the walk: the branching signature of one state, and those of all.
+//! The two entrances to the walk: the branching signature of one state, and those of all that a round looks at.
 ghost use Rattle.std.specs.Prelude.{◌≡◌, ◌⊎◌, ℕ, ◌<◌, [], ◌∷◌, length, slice_index, IfOk, OnOk};
 ghost use Rattle.theory.specs.declared.relation.Relation.TheVariants.{Branching};
 ghost use Rattle.lts.specs.Meter.{HasRoomFor, Visits};
@@ -10,8 +10,8 @@ ghost use Rattle.inert.specs.Search.{stage_at, nothing, AreAtRest, IsIdle, IsWok
 ghost use Rattle.inert.specs.Moves.{Rests};
 ghost use Rattle.inert.specs.declared.walk.Stage.TheVariants.{Unseen, Finished};
 
-use crate::walk::Walk;
-use lists::Lists;
+use crate::walk::{Stage, Walk};
+use lists::{EMPTY, Lists};
 use lts::{Lts, Memory, Meter, visit_places};
 use partition::Blocks;
 use std::alloc::Global;
@@ -20,18 +20,23 @@ use std::marker::Model;
 /// What signs states. Nothing that an earlier call has seen is left in it.
 #[derive(Drop)]
 pub struct Signer {
+    /// The walk of rounds: states rest as finished ones.
     walk: Walk,
+    /// The walk from one state alone: states rest as unseen ones.
+    single: Walk,
+    /// The states that the walk from one state has seen.
+    trail: Vec<u32>,
 }
 
 impl Model for Signer {
     ghost use Rattle.std.specs.Prelude.{ℕ, length};
-    ghost use Rattle.inert.specs.Search.{IsIdle};
+    ghost use Rattle.inert.specs.Search.{IsIdle, Unseen, Finished};
 
     ghost Value = { ℕ };
 
     ghost view = { λ x. length x.walk.stages };
 
-    ghost invariant = { λ x. IsIdle x.walk };
+    ghost invariant = { λ x. IsIdle (Finished 0) x.walk × IsIdle Unseen x.single };
 }
 
 impl Signer {
@@ -39,10 +44,13 @@ impl Signer {
     pub fn new(alloc: Global) -> Signer {
         Signer {
             walk: Walk::new(alloc),
+            single: Walk::new(alloc),
+            trail: Vec::new(alloc),
         }
     }
 
-    /// Puts the branching signature of the state `s` into `lists`, and returns its number there.
+    /// Puts the branching signature of the state `s` into `lists`, and returns its number there. The first call makes a stage a
+    /// state; a call after it costs what the walk reaches.
     ///
     /// Fails if there is no memory for it.
     pub fn sign<M: Meter>(
@@ -62,11 +70,13 @@ impl Signer {
         ensures signature { IfOk result (λ k. IsSignature Branching l.now blocks.now s (list_at lists.new k)) }
         ensures visits { Visits M.counted m.old m.new result (length (row_of s l.now.places)) (length l.now.places) }
     {
-        self.walk.prepare(alloc, l.states())?;
-        let done = sign_one(&mut self.walk, l, blocks, s, lists, m);
-        self.walk.reset();
-        let list = done?;
-        Ok(list)
+        self.single.prepare(alloc, l.states(), Stage::Unseen)?;
+        let done = sign_one(&mut self.single, l, blocks, s, lists, &mut self.trail, m);
+        if done.is_err() {
+            // Which states were seen is open, so the next call makes the stages anew.
+            self.single = Walk::new(alloc);
+        }
+        done
     }
 
     /// Puts the branching signature of each state that a round looks at into `lists`, and its number there into `numbers`. The
@@ -97,7 +107,8 @@ impl Signer {
         ensures visits { let n = length l.now.places in Visits M.counted m.old m.new result n n }
         ensures others { HaveNone blocks.now.live numbers.new }
     {
-        self.walk.prepare(alloc, l.states())?;
+        self.walk
+            .prepare(alloc, l.states(), Stage::Finished(EMPTY))?;
         if let Err(refusal) = sign_all(&mut self.walk, l, blocks, lists, numbers, m) {
             self.walk.reset();
             return Err(refusal);
@@ -106,7 +117,7 @@ impl Signer {
     }
 }
 
-/// Walks from the state `s`, and returns the number of its signature.
+/// Walks from the state `s`, and returns the number of its signature. Forgets what it has seen, by its trail.
 ///
 /// Fails if there is no memory for it.
 fn sign_one<M: Meter>(
@@ -115,9 +126,10 @@ fn sign_one<M: Meter>(
     blocks: &[u32],
     s: u32,
     lists: &mut Lists,
+    trail: &mut Vec<u32>,
     m: &mut M,
 ) -> Result<u32, Memory>
-    requires idle { IsIdle walk.old }
+    requires idle { IsIdle Unseen walk.old }
     requires stages { length walk.old.stages ≡ l.now.states }
     requires blocks { length blocks.now ≡ l.now.states }
     requires state { s < l.now.states }
@@ -126,12 +138,13 @@ fn sign_one<M: Meter>(
     ensures within { IfOk result (λ k. k < length lists.new) }
     ensures signature { IfOk result (λ k. IsSignature Branching l.now blocks.now s (list_at lists.new k)) }
     ensures visits { Visits M.counted m.old m.new result (length (row_of s l.now.places)) (length l.now.places) }
+    ensures idle { OnOk result (IsIdle Unseen walk.new) }
 {
     let internal = l.labels().internal();
-    walk.wake_all();
-    // All states are awake, and this one is to be signed.
-    walk.finish(l, blocks, internal, &[s], s, lists, m)?;
+    // This state is to be signed.
+    walk.finish_with_trail(l, blocks, internal, &[s], s, lists, trail, m)?;
     let list = walk.list(s as usize);
+    walk.forget(trail);
     Ok(list)
 }
 
@@ -147,7 +160,7 @@ fn sign_all<M: Meter>(
     numbers: &mut [u32],
     m: &mut M,
 ) -> Result<(), Memory>
-    requires idle { IsIdle walk.old }
+    requires idle { IsIdle (Finished 0) walk.old }
     requires stages { length walk.old.stages ≡ l.now.states }
     requires blocks { length blocks.now.of ≡ l.now.states }
     requires others { LeavesOut l.now blocks.now.of blocks.now.live }
@@ -158,7 +171,7 @@ fn sign_all<M: Meter>(
         IsSignature Branching l.now blocks.now.of s (list_at lists.new (slice_index numbers.new s))) }
     ensures numbers { OnOk result (AreNumbers lists.new numbers.new) }
     ensures others { HaveNone blocks.now.live numbers.new }
-    ensures idle { OnOk result (IsIdle walk.new) }
+    ensures idle { OnOk result (IsIdle (Finished 0) walk.new) }
     ensures visits { let n = length l.now.places in Visits M.counted m.old m.new result n n }
 {
     let live = blocks.live();
@@ -170,7 +183,7 @@ fn sign_all<M: Meter>(
 
 /// Finishes these states, which are awake, from the last one on: where states were numbered as they were found, most steps then
 /// lead to finished ones, and rows are read in the order in which they stand in memory. The rows of the others are visited for
-/// their count alone: they lie between those of two neighbours, and no inert step leads to one of them from another state that has
+/// their count alone: they lie between those of two neighbours, and no inert step leads from another state to one of them that has
 /// a transition.
 ///
 /// Fails if there is no memory for it.
@@ -218,7 +231,7 @@ fn number(walk: &mut Walk, live: &[u32], numbers: &mut [u32])
     requires finished { (i : ℕ) → i < length live.now → (k : ℕ) × (stage_at walk.old.stages (slice_index live.now i) ≡ Finished k) }
     requires empty { walk.old ≡ nothing walk.old.stages }
     requires rest { AreAtRest live.now walk.old.stages }
-    ensures idle { IsIdle walk.new }
+    ensures idle { IsIdle (Finished 0) walk.new }
     ensures live { (i : ℕ) → i < length live.now →
         let s = slice_index live.now i in stage_at walk.old.stages s ≡ Finished (slice_index numbers.new s) }
     ensures others { (s : ℕ) → IsOne live.now s ⊎ (slice_index numbers.new s ≡ slice_index numbers.old s) }

@@ -3,7 +3,7 @@
 ghost use Rattle.std.specs.Prelude.{◌≡◌, ◌↔◌, ℕ, ◌+◌, ◌<◌, ◌≤◌, [], length, slice_index, IsTrue, IfOk, OnOk};
 ghost use Rattle.lts.specs.declared.limits.TheConstants.{MOST_STATES};
 ghost use Rattle.partition.specs.Blocks.{AreLive};
-ghost use Rattle.inert.specs.Search.{Search, stage_at, nothing, AreAtRest, IsIdle, IsWoken};
+ghost use Rattle.inert.specs.Search.{Search, stage_at, nothing, AreAtRest, IsIdle, IsWoken, IsTrail};
 ghost use Rattle.inert.specs.Moves.{with_stage, entered, Enters, LeadsOn, TakesStep, CutsRoots};
 ghost use Rattle.inert.specs.declared.walk.Stage.TheVariants.{Unseen, Open, Finished};
 ghost use Rattle.inert.specs.declared.step.Step.TheVariants.{Inert, Shows};
@@ -89,43 +89,42 @@ impl Walk {
         }
     }
 
-    /// Makes the stages for so many states, unless they are there.
+    /// Makes the stages for so many states, unless they are there: all states rest with this stage.
     ///
     /// Fails if there is no memory for them.
-    pub fn prepare(&mut self, alloc: Global, states: u32) -> Result<(), Memory>
-        requires idle { IsIdle self.old }
-        ensures idle { IsIdle self.new }
+    pub fn prepare(&mut self, alloc: Global, states: u32, at_rest: Stage) -> Result<(), Memory>
+        requires idle { IsIdle at_rest self.old }
+        ensures idle { IsIdle at_rest self.new }
         ensures size { OnOk result (length self.new.stages ≡ states) }
     {
         if self.stages.len() == states as usize {
             return Ok(());
         }
-        self.stages = vec![in alloc; Stage::Finished(EMPTY); states as usize]?;
+        self.stages = vec![in alloc; at_rest; states as usize]?;
         Ok(())
     }
 
     /// Wakes these states: from now on they are unseen.
     pub fn wake(&mut self, live: &[u32])
-        requires idle { IsIdle self.old }
+        requires idle { IsIdle (Finished 0) self.old }
         requires live { AreLive (length self.old.stages) live.now }
         ensures { IsWoken (length self.old.stages) live.now self.new }
     {
         wake(&mut self.stages, live);
     }
 
-    /// Wakes all states.
-    pub fn wake_all(&mut self)
-        requires idle { IsIdle self.old }
-        ensures none { self.new ≡ nothing self.new.stages }
-        ensures size { length self.new.stages ≡ length self.old.stages }
-        ensures unseen { (s : ℕ) → stage_at self.new.stages s ≡ Unseen }
+    /// Makes unseen again the states of the trail, which has all that were seen. It costs what was seen.
+    pub fn forget(&mut self, trail: &[u32])
+        requires over { self.old ≡ nothing self.old.stages }
+        requires trail { IsTrail self.old.stages trail.now }
+        ensures idle { IsIdle Unseen self.new }
     {
-        self.stages.fill(Stage::Unseen);
+        forget(&mut self.stages, trail);
     }
 
-    /// Puts all states to rest, and ends the walk.
+    /// Puts all states to rest as finished ones, and ends the walk.
     pub fn reset(&mut self)
-        ensures { IsIdle self.new }
+        ensures { IsIdle (Finished 0) self.new }
     {
         self.stages.fill(Stage::Finished(EMPTY));
         self.stack.clear();
@@ -276,6 +275,16 @@ fn wake(stages: &mut Vec<Stage>, live: &[u32])
 {
     for i in 0..live.len() {
         stages[live[i] as usize] = Stage::Unseen;
+    }
+}
+
+/// Makes unseen these states, which are all that were seen.
+fn forget(stages: &mut Vec<Stage>, trail: &[u32])
+    requires { IsTrail stages.old.items trail.now }
+    ensures { (s : ℕ) → stage_at stages.new.items s ≡ Unseen }
+{
+    for s in trail {
+        stages[*s as usize] = Stage::Unseen;
     }
 }
 

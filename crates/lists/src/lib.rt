@@ -8,7 +8,8 @@
 //!   known        the unions that were made
 //! distinct       a list that is asked for again has the number that it had
 //!   hashed       the table that it is found in
-//! nodes, parts   how each list is kept: with halves, or whole
+//! nodes          how each list is kept, whole or as halves
+//! parts          lists whole, for `Signatures`
 //! cut, ordered, marked, span   where a list is cut; pairs in order, by marks if they are many; hashes, and ranges of a buffer
 //! ```
 //!

@@ -8,7 +8,7 @@ use Rattle.lts.specs.Lts.{Grouped, row_of}
 use Rattle.lists.specs.Lists.{list_at}
 use Rattle.partition.specs.Blocks.{IsOne}
 use Rattle.inert.specs.Signed.{IsSignature, LeavesOut}
-use Rattle.inert.specs.Search.{Search, nothing, stage_at, no_root, IsWoken, IsSigned, Walks, Unseen, Open, Finished, Stage}
+use Rattle.inert.specs.Search.{Search, nothing, stage_at, no_root, IsIdle, IsWoken, IsSigned, Walks, Unseen, Open, Finished, Stage}
 use Rattle.inert.specs.Moves.{Rests}
 use Rattle.inert.specs.Ahead.{is_unseen, unseen}
 use Rattle.inert.proofs.invariant.Standing.{frames_some, root_low}
@@ -24,6 +24,10 @@ unseen_rests l blocks live lists {w = w} empty none size one =
       shut = λ s p is. cc (is, none s);
       signed = λ s k is. absurd (cc (is, none s));
     }
+
+-- if the states rest as unseen ones, none was seen
+pub idle_unseen : {w : Search} → IsIdle Unseen w → (s : ℕ) → stage_at w.stages s ≡ Unseen
+idle_unseen {w = w} idle s = elim (cases_lt s (length w.stages)) [ inl low ↦ idle.rest s low | inr past ↦ get_or_past w.stages s Unseen past ]
 
 -- a state past the last one was not seen
 stage_inside : (stages : List Stage) (s k : ℕ) → stage_at stages s ≡ Finished k → s < length stages

@@ -8,8 +8,8 @@ use Rattle.std.proofs.lemmas.List.Elements.{All-take, All-nil, All-cons, All-app
 use Rattle.theory.specs.declared.relation.Relation.TheVariants.{Branching}
 use Rattle.lts.specs.Lts.{Grouped, source_of, place_at, IsLts}
 use Rattle.lists.specs.Lists.{list_at}
-use Rattle.inert.specs.Search.{Search, stage_at, frame_at, no_frame, here, last, no_root, IsFrame, IsAhead, IsEntered, IsFollowed, Walks, Laws, root_at, item_at, Ties, IsOf, IsBefore, IsRoot, IsThere, Gives, HoldsPair, AreOpen, IsSigned, IsSound, AreSound, Stage, Item, Pair, Listed}
-use Rattle.inert.specs.Moves.{popped, HasRead, Finishes, Closes, ahead, GoesOn}
+use Rattle.inert.specs.Search.{Search, stage_at, frame_at, no_frame, here, last, no_root, IsFrame, IsAhead, IsEntered, IsFollowed, Walks, Laws, root_at, item_at, Ties, IsOf, IsBefore, IsRoot, IsThere, Gives, HoldsPair, AreOpen, IsSigned, IsSound, AreSound, Stage, Root, Item, Pair, Listed}
+use Rattle.inert.specs.Moves.{popped, HasRead, Finishes, Closes, ahead, GoesOn, FindsNone}
 use Rattle.inert.specs.Signed.{HasPair}
 use Rattle.inert.specs.Ahead.{is_unseen, rest, KeepsSeen}
 use Rattle.inert.proofs.parts.Stages.{seen_same}
@@ -342,3 +342,11 @@ module _ {l : Grouped} {blocks : List ℕ} {live : List ℕ} {lists : List (List
           let zero : length (popped w).frames ≡ 0 = omega (arith, none) in
           closed_with [] (closes.alone zero ∙ sym (append-nil (take (last w.roots).items w.items))) (inr (zero, refl))
     ]
+
+-- a component that is finished was seen
+pub closed_none : {l : Grouped} {blocks live : List ℕ} {lists lists' : List (List (ℕ × ℕ))} {w new : Search} {root : Root} → Walks l blocks live lists w
+    → Closes root lists lists' (popped w) new → FindsNone w new
+closed_none walks closes s is = elim (closes.stages.others s) [
+  | inl same ↦ same ∙ is
+  | inr (p, from, low, e) ↦ absurd (cc (walks.opened.placed p low, e, is))
+]

@@ -50,6 +50,16 @@ begins {l = l} {blocks = blocks} {live = live} {lists = lists} {w = w} {s = s} {
       }),
     )
 
+-- the state was entered, with a frame for its whole row
+pub enters_begins : {l : Grouped} {blocks : List ℕ} {live : List ℕ} {lists : List (List (ℕ × ℕ))} {w new : Search} {s start end : ℕ} → Laws
+    → Rests l blocks live lists w → s < l.states → stage_at w.stages s ≡ Unseen → IsRow l.places s start end → new ≡ entered s start end (length w.items) w
+    → Begins l blocks live lists w s start start new
+enters_begins {l = l} {blocks = blocks} {live = live} {lists = lists} {w = w} {s = s} {start = start} {end = end} laws rests inside none row is =
+    let begun = begins laws rests inside none row in
+    let no_items : length w.items ≡ 0 = ap (λ x. length x.items) rests.empty in
+    subst (Begins l blocks live lists w s start start)
+    (sym (is ∙ ap (λ n. entered s start end n w) no_items ∙ ap (entered s start end 0) begun.0)) begun.1
+
 module _ (laws : Laws) {l : Grouped} (lts : IsLts l) {blocks : List ℕ} {live : List ℕ} {lists : List (List (ℕ × ℕ))} {old w : Search} {s start end k : ℕ}
     (same : w ≡ collecting old.stages w.items) (begun : Begins l blocks live lists old s start k (framed s k end old.stages w.items)) where
   abbrev Framed : Search
@@ -70,7 +80,7 @@ module _ (laws : Laws) {l : Grouped} (lts : IsLts l) {blocks : List ℕ} {live :
         → Next (record m { frames = set m.frames 0 (record (frame_at m.frames 0) { next = k + 1 }) })
     read_marked step m enters is_step takes =
         let x : Frame = record (frame_at m.frames 0) { next = k + 1 } in
-        let one = read_more (reads_none way) (record { size = refl; stack = refl }) way.some laws lts more (slice_index blocks s) refl step is_step m enters takes 0 refl x refl in
+        let one = read_more (reads_none way) (record { size = refl; stack = refl; none = λ s is. is }) way.some laws lts more (slice_index blocks s) refl step is_step m enters takes 0 refl x refl in
         record {
           on = record { walks = one.on.walks; seen = seen_on begun.on.seen one.on.seen };
           found = λ is. begun.found (one.on.seen.unseen s is);

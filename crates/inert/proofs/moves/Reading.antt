@@ -1,8 +1,8 @@
 -- The walk while the row of its last frame is read: a step is taken, and then marked as read.
 use Rattle.std.proofs.Common.{◌≡◌, ℕ, ◌+◌, ◌-◌, ◌<◌, ◌≤◌, List, [], ◌∷◌, length, slice_index, Bool, refl, sym, ◌∙◌, ap, subst, inl, inr, arith, set}
 use Rattle.std.specs.Prelude.{IsTrue}
-use Rattle.std.proofs.lemmas.Bool.{cases_Bool}
-use Rattle.std.proofs.lemmas.List.{length_push, get_or_append_left, get_or-set_same, length-set}
+use Rattle.std.proofs.lemmas.Bool.{cases_Bool, cases_eq}
+use Rattle.std.proofs.lemmas.List.{length_push, get_or_push, get_or_append_left, get_or-set_same, get_or-set_other, length-set}
 use Rattle.theory.specs.System.{Step}
 use Rattle.theory.specs.declared.relation.Relation.TheVariants.{Branching}
 use Rattle.theory.specs.Blocks.{Inert, Signature}
@@ -11,7 +11,7 @@ use Rattle.lts.specs.Lts.{Grouped, Triple, source_of, label_of, target_of, place
 use Rattle.inert.specs.Signed.{HasPair, pair_under}
 use Rattle.inert.specs.Steps.{IsInert, IsStep}
 use Rattle.inert.specs.Search.{Search, Laws, stage_at, frame_at, no_frame, top, here, IsFrame, Accounted, Walks, Unseen, Open, Finished, Frame, Root, Item, Pair, Listed}
-use Rattle.inert.specs.Moves.{entered, with_item, TakesStep, CutsRoots, ahead, HasRead, IsUnderWay, GoesOn}
+use Rattle.inert.specs.Moves.{entered, with_item, TakesStep, CutsRoots, ahead, HasRead, IsUnderWay, GoesOn, Finds, FindsNone}
 use Rattle.inert.specs.Ahead.{KeepsSeen}
 use Rattle.inert.specs.declared.step.Step.{Step as TakenStep}
 use Rattle.inert.specs.declared.step.Step.TheVariants.{Inert as Goes, Shows}
@@ -63,6 +63,7 @@ module _ (laws : Laws) {l : Grouped} (lts : IsLts l) {blocks : List ℕ} {live :
     pub same_frame : frame_at m.frames (length w.frames - 1) ≡ top w.frames
     pub still : ¬ IsTrue enters → (m.frames ≡ w.frames) × (m.stack ≡ w.stack)
     pub longer : IsTrue enters → length m.frames ≡ length w.frames + 1
+    pub finds : Finds w m enters
 
   stayed : (roots : List Root) (items : List Item) (enters : Bool) → let m : Search = record w { roots = roots; items = items } in
       Walks l blocks live lists m → Accounted l blocks lists m (here w) e → ¬ IsTrue enters → Taken m enters
@@ -74,6 +75,7 @@ module _ (laws : Laws) {l : Grouped} (lts : IsLts l) {blocks : List ℕ} {live :
     same_frame = refl;
     still = λ _. (refl, refl);
     longer = λ went. absurd (stay went);
+    finds = record { some = λ went. absurd (stay went); found = λ s is. inl is };
   }
 
   taken_pair : (a b : ℕ) (enters : Bool) → ¬ IsInert l blocks (slice_index blocks (source_of e)) e → (a, b) ≡ pair_under blocks e → ¬ IsTrue enters
@@ -120,6 +122,13 @@ module _ (laws : Laws) {l : Grouped} (lts : IsLts l) {blocks : List ℕ} {live :
           same_frame = get_or_append_left w.frames (x ∷ []) _ (length w.frames - 1) (omega (arith, some));
           still = λ stay. absurd (stay went);
           longer = λ _. frames;
+          finds = record {
+            some = λ _. omega (arith, length_push w.stack (target_of e));
+            found = λ s is. elim (cases_eq s (target_of e)) [
+              | inl same ↦ inr (went, get_or_push w.stack (target_of e) 0 _ (omega (arith, length_push w.stack (target_of e))) ∙ sym same)
+              | inr other ↦ inl (get_or-set_other w.stages (target_of e) s (Open (length w.stack)) Unseen other ∙ is)
+            ];
+          };
         }
 
   -- whichever step it is
@@ -146,6 +155,7 @@ pub record Reads (l : Grouped) (blocks : List ℕ) (live : List ℕ) (lists : Li
 pub record Stays (old new : Search) : Type 0 where
   pub size : length new.frames ≡ length old.frames
   pub stack : new.stack ≡ old.stack
+  pub none : FindsNone old new
 
 pub reads_none : {l : Grouped} {blocks : List ℕ} {live : List ℕ} {lists : List (List (ℕ × ℕ))} {w : Search} → IsUnderWay l blocks live lists w
     → Reads l blocks live lists w w (top w.frames).next
@@ -225,7 +235,14 @@ module _ {l : Grouped} {blocks : List ℕ} {live : List ℕ} {lists : List (List
           }
 
           pub stays_more : ¬ IsTrue enters → Stays first New
-          stays_more stay = record { size = length-set m.frames i x ∙ ap length (took.still stay).0 ∙ stays.size; stack = (took.still stay).1 ∙ stays.stack }
+          stays_more stay = record {
+            size = length-set m.frames i x ∙ ap length (took.still stay).0 ∙ stays.size;
+            stack = (took.still stay).1 ∙ stays.stack;
+            none = λ s is. elim (took.finds.found s (stays.none s is)) [ inl none ↦ none | inr one ↦ absurd (stay one.0) ];
+          }
+
+          pub finds_more : Finds first New enters
+          finds_more = record { some = took.finds.some; found = λ s is. took.finds.found s (stays.none s is) }
 
           pub enters_more : IsTrue enters → length New.frames ≡ length first.frames + 1
           enters_more went = omega (arith, length-set m.frames i x, took.longer went, stays.size)

@@ -1,10 +1,10 @@
 use Rattle.std.proofs.Common.{◌≡◌, ◌≢◌, ◌∙◌, ℕ, ◌-◌, ◌<◌, ◌≤◌, List, length, take, ap, sym, subst, subst₂, arith}
 use Rattle.std.specs.Vec.{vec_len}
 use Rattle.inert.specs.Search.{Search, top, here, no_root, last, AreThere, Frame}
-use Rattle.inert.specs.Moves.{GoesOn, Closes, popped, ahead}
+use Rattle.inert.specs.Moves.{GoesOn, FindsNone, Closes, popped, ahead}
 use Rattle.inert.proofs.parts.Rising.{last_read}
 use Rattle.inert.proofs.invariant.Standing.{roots_some, stack_some}
-use Rattle.inert.proofs.moves.Back.{popped_on, closed}
+use Rattle.inert.proofs.moves.Back.{popped_on, closed, closed_none}
 use Rattle.inert.proofs.walk.Walk.go_back.Given.{Over}
 use Rattle.inert.proofs.walk.Walk.go_back.Goals as goal
 use Rattle.inert.proofs.walk.Walk.go_back.Goals.{After-index-root}
@@ -53,6 +53,9 @@ module _ (g : Over) (c : After-index-root g) where
           closed c.requires.way.walks c.requires.way.some c.requires.read c.laws.ensures c.known.ensures
           (ap (λ r. r.height) (sym root) ∙ same ∙ ap (λ x. x.height) frame) (subst₂ (λ r w. Closes r c.args.lists.now lists' w new) root (sym left) closes)
 
+      closing_none : FindsNone W new
+      closing_none = closed_none c.requires.way.walks (subst₂ (λ r w. Closes r c.args.lists.now lists' w new) root (sym left) closes)
+
 pub close-requires-clause-items : goal.close-requires-clause-items
 close-requires-clause-items g c = omega (arith, few g (goal.at.close-requires-clause-items g c).After-index-root, ap (λ w. length w.items) c.self.view_is)
 
@@ -74,3 +77,12 @@ returns-in_ok-close-clause-on g c =
 pub returns-in_ok-close-clause-ahead : goal.returns-in_ok-close-clause-ahead
 returns-in_ok-close-clause-ahead g c =
     (closing g (goal.at.returns-in_ok-close-clause-ahead g c).After-index-root c.pop.ensures.rest c.if-root-frame.true c.in_ok-close.ensures).1
+
+pub returns-else-root-frame-clause-finds : goal.returns-else-root-frame-clause-finds
+returns-else-root-frame-clause-finds g c =
+    let d = (goal.at.returns-else-root-frame-clause-finds g c).After-index-root in
+    subst (FindsNone c.args.self.now) (left g d c.pop.ensures.rest) (λ s is. is)
+
+pub returns-in_ok-close-clause-finds : goal.returns-in_ok-close-clause-finds
+returns-in_ok-close-clause-finds g c =
+    closing_none g (goal.at.returns-in_ok-close-clause-finds g c).After-index-root c.pop.ensures.rest c.if-root-frame.true c.in_ok-close.ensures

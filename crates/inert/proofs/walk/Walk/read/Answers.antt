@@ -1,16 +1,16 @@
-use Rattle.std.proofs.Common.{◌≡◌, ◌∙◌, ℕ, ◌+◌, ◌-◌, ◌<◌, length, get_or, set, slice_index, Bool, ap, sym, subst, refl, arith}
+use Rattle.std.proofs.Common.{◌≡◌, ◌∙◌, ℕ, ◌+◌, ◌-◌, ◌<◌, length, get_or, set, slice_index, Bool, ap, sym, subst, refl, inl, arith}
 use Rattle.std.specs.Prelude.{IsTrue}
 use Rattle.std.proofs.lemmas.Bool.{false≢true}
 use Rattle.std.proofs.lemmas.List.{get_or_read}
 use Rattle.lts.specs.Lts.{place_at}
 use Rattle.inert.specs.Steps.{IsStep}
 use Rattle.inert.specs.Search.{Search, frame_at, top, here, Frame}
-use Rattle.inert.specs.Moves.{TakesStep}
+use Rattle.inert.specs.Moves.{TakesStep, Finds}
 use Rattle.inert.specs.declared.step.Step.{Step}
 use Rattle.inert.proofs.parts.Rising.{last_read}
 use Rattle.inert.proofs.parts.Stages.{open_inside}
 use Rattle.inert.proofs.invariant.Standing.{on_stack}
-use Rattle.inert.proofs.moves.Reading.{Reads, Stays, reads_none, read_all, place_below, still_there, read_more, stays_more, enters_more}
+use Rattle.inert.proofs.moves.Reading.{Reads, Stays, reads_none, read_all, place_below, still_there, read_more, stays_more, enters_more, finds_more}
 use Rattle.inert.proofs.walk.Walk.read.Given.{Over}
 use Rattle.inert.proofs.walk.Walk.read.Goals as goal
 use Rattle.inert.proofs.walk.Walk.read.Goals.{After-index}
@@ -89,12 +89,18 @@ module _ (g : Over) (d : After-index g) {w : Search} {k : ℕ} (reads : Reads d.
         (enters_more reads stays d.requires.way.some d.laws.ensures d.known.ensures more_left (slice_index d.args.blocks.now d.index.result.now) (block g d) step is_step m
         enters takes i (last g d) (record at { next = k + 1 }) moved went)
 
+    finds : Finds d.args.self.now (With inside) enters
+    finds =
+        subst (λ (x : Search). Finds d.args.self.now (With x) enters) (sym same)
+        (finds_more reads stays d.requires.way.some d.laws.ensures d.known.ensures more_left (slice_index d.args.blocks.now d.index.result.now) (block g d) step is_step m
+        enters takes i (last g d) (record at { next = k + 1 }) moved)
+
 pub loop-k-init : goal.loop-k-init
 loop-k-init g c =
     let next = ap (λ x. x.next) (frame g (goal.at.loop-k-init g c).After-index) in
     record {
       reads = subst (Reads c.args.l.now c.args.blocks.now c.args.live.now c.args.lists.now c.args.self.now c.args.self.now) (sym next) (reads_none c.requires.way);
-      stays = record { size = refl; stack = refl };
+      stays = record { size = refl; stack = refl; none = λ s is. is };
       cost = record { rounds = omega arith; at_least = omega (arith, next); at_most = omega arith };
     }
 
@@ -157,6 +163,16 @@ returns-then-entered-clause-steps g c =
     c.read_step-step.result c.read_step-step.ensures.step c.take.new.self c.in_ok-entered.entered c.in_ok-entered.ensures c.self-in-loop-k.view_is
     c.index_mut.ensures.value c.if-entered.true in
     (λ _. omega (arith, e, size, c.loop-k.invariant.reads.forward), λ stay. absurd (stay refl))
+
+pub returns-then-entered-clause-finds : goal.returns-then-entered-clause-finds
+returns-then-entered-clause-finds g c =
+    let d = (goal.at.returns-then-entered-clause-finds g c).After-index in
+    subst (Finds c.args.self.now _) c.if-entered.true
+    (finds g d c.loop-k.invariant.reads c.loop-k.invariant.stays (omega (arith, c.loop-k-test.true)) c.read_step-step.result c.read_step-step.ensures.step
+    c.take.new.self c.in_ok-entered.entered c.in_ok-entered.ensures c.self-in-loop-k.view_is c.index_mut.ensures.value)
+
+pub returns-clause-finds : goal.returns-clause-finds
+returns-clause-finds g c = record { some = λ e. absurd (false≢true e); found = λ s is. inl (c.loop-k.invariant.stays.none s is) }
 
 pub returns-clause-steps : goal.returns-clause-steps
 returns-clause-steps g c =
