@@ -8,8 +8,7 @@
 //!   known        the unions that were made
 //! distinct       a list that is asked for again has the number that it had
 //!   hashed       the table that it is found in
-//! nodes          how each list is kept, whole or as halves
-//! parts          lists whole, for `Signatures`
+//! nodes, parts   how each list is kept: with halves, or whole
 //! cut, ordered, marked, span   where a list is cut; pairs in order, by marks if they are many; hashes, and ranges of a buffer
 //! ```
 //!
