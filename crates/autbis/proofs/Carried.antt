@@ -1,5 +1,5 @@
 -- What a run carries on: the error of a call, and what follows from the reading of its text.
-use Rattle.std.proofs.Common.{◌≡◌, ℕ, ◌*◌, List, Option, Some, None, IfSome, Result, Err, IfErr, IsErrAnd, append-nil, arith}
+use Rattle.std.proofs.Common.{◌≡◌, ℕ, ◌*◌, List, Option, Some, None, IfSome, Result, Err, IfErr, IsErrAnd, MatchResult, append-nil, arith}
 use Rattle.std.proofs.lemmas.Result.{err_from_is_err_and}
 use Rattle.std.specs.Io.KnownBytes.{Consumes, IsAtEnd}
 use Rattle.lts.specs.Meter.{Counts}
@@ -24,9 +24,9 @@ takes_error old new Good Bad r e given (y, is, same) took bad = record {
 pub at_error : {T E : Type 0} (Bad : E → Type 0) (r : Result T E) (e : E) → IsError r e → Bad e → IfErr r Bad
 at_error Bad r e (y, is, same) bad = rw (is, same) bad
 
--- and of one that passes it on
-pub passes : {T E : Type 0} (Bad : E → Type 0) (r : Result T E) (e : E) → IsErrAnd r (λ y. y ≡ e) → Bad e → IfErr r Bad
-passes Bad r e is bad = at_error Bad r e (err_from_is_err_and r is) bad
+-- and of one that passes it on, whatever is good
+pub passes : {T E : Type 0} (Good : T → Type 0) (Bad : E → Type 0) (r : Result T E) (e : E) → IsErrAnd r (λ y. y ≡ e) → Bad e → MatchResult r Good Bad
+passes Good Bad r e is bad = let exit = err_from_is_err_and r is in rw (exit.1, exit.2) bad
 
 -- a source that is at its end gave all that it told
 pub all_taken : (old new : Option (List ℕ)) (given : List ℕ) (P : List ℕ → Type 0) → Consumes old new given → IsAtEnd new → P given → IfSome old P

@@ -1,5 +1,6 @@
 -- What a run or a comparison comes to: its answer, which text is faulty, or what failed.
 use Rattle.std.proofs.Common.{◌≡◌, ◌↔◌, ◌⊎◌, ℕ, Bool, IsTrue, List, ◌++◌, Option, Some, None, IfSome, if◌then◌else◌, inl, inr, ap, refl, sym, subst}
+use Rattle.std.proofs.lemmas.Option.{none-some}
 use Rattle.std.specs.Io.KnownBytes.{Consumes}
 use Rattle.lts.specs.Meter.{Counts}
 use Rattle.std.specs.List.Sorted.{IsSorted}
@@ -26,6 +27,8 @@ use Rattle.autbis.specs.Comparisons.CmpFails.{first_not_read, second_not_read, o
 use Rattle.autbis.specs.Ends.{Contents, EndsRun, HasFaultyText, IsAnswer, OfText}
 use Rattle.autbis.specs.Ends.Contents.{one, two}
 use Rattle.autbis.specs.Ends.EndsRun.{answered, faulty, no_memory, lost, cut_short}
+use Rattle.autbis.specs.Files.{FilesUsed, Name}
+use Rattle.autbis.specs.Jobs.{IsListUnread}
 use Rattle.autbis.specs.Opened.{AreAsTold}
 use Rattle.autbis.specs.Reports.{status_of}
 use Rattle.autbis.specs.Runs.{IsFaulty, IsReadable, MinimisedText, Request, RunFails, Used}
@@ -187,11 +190,13 @@ list_status Device h = absurd h
 list_status Memory h = absurd h
 list_status _ h = refl
 
--- why a hide list was not read, by the status
-pub list_unread : NotBothOfList → (given : List ℕ) (told rest : Option (List ℕ)) (failures : ℕ) (fault : Fault) → Consumes told rest given →
-    HideRefuses given rest failures fault →
-    ((status_of fault ≡ 2) × IfSome told (λ list. (H : List (List ℕ)) → ¬ HideReads list H)) ⊎ ((status_of fault ≡ 4) ⊎ ((status_of fault ≡ 5) × (failures ≡ 1)))
-list_unread law given told rest failures fault took (list_fault sound of_list first) =
-    inl (list_status fault of_list, is_faulty_list law fault told (told_whole (λ text. FirstHideFault text fault) given told rest took first))
-list_unread law given told rest failures fault took (list_lost failed device unknown) = inr (inr (ap status_of device, failed))
-list_unread law given told rest failures fault took (list_memory sound memory) = inr (inl (ap status_of memory))
+-- why a hide list was not read, which was opened by this name
+pub list_unread : {F File : Type 0} (files : FilesUsed F File) (name : Name) (list : File) (told : Option (List ℕ)) {given : List ℕ} {rest : Option (List ℕ)} {fault : Fault} →
+    NotBothOfList → IfSome (files.holds files.old name) (λ bytes. told ≡ Some bytes) → Consumes told rest given →
+    HideRefuses given rest (files.file_failures list) fault → IsListUnread files (Some name) (status_of fault)
+list_unread files name list told {given} {rest} {fault} law is took (list_fault sound of_list first) =
+    let wrong = is_faulty_list law fault told (told_whole (λ text. FirstHideFault text fault) given told rest took first) in
+    inl (list_status fault of_list, told_then (files.holds files.old name) told _ is wrong)
+list_unread files name list told law is took (list_lost failed device unknown) =
+    inr (inr (ap status_of device, (λ none. none-some _ (sym none)), (list, failed)))
+list_unread files name list told law is took (list_memory sound memory) = inr (inl (ap status_of memory))

@@ -25,14 +25,15 @@ files_used holds opened failures file_failures old new =
     record { old = old; new = new; holds = holds; opened = opened; failures = failures; file_failures = file_failures }
 
 -- files of these names were asked for, in their order, and had; what files hold is as it was
-pub data HasAll {F File : Type 0} (files : FilesUsed F File) (names : List Name) : Type 0 where
-  had : Opens (files.opened files.old) (files.opened files.new) names → files.failures files.new ≡ files.failures files.old →
-      files.holds files.new ≡ files.holds files.old → HasAll files names
+pub record HasAll {F File : Type 0} (files : FilesUsed F File) (names : List Name) : Type 0 where
+  pub opens : Opens (files.opened files.old) (files.opened files.new) names
+  pub sound : files.failures files.new ≡ files.failures files.old
+  pub same : files.holds files.new ≡ files.holds files.old
 
 -- of files that are opened in this order one could not be had, and none was asked for after it; the status is then 5
-abbrev pub IsRefused : {F File : Type 0} → FilesUsed F File → List Name → (status : ℕ) → Type 0
-IsRefused files names status = (asked later : List Name) × (names ≡ asked ++ later)
-    × Opens (files.opened files.old) (files.opened files.new) asked × (files.failures files.new ≡ 1) × (status ≡ 5)
+pub data IsRefused {F File : Type 0} (files : FilesUsed F File) (names : List Name) (status : ℕ) : Type 0 where
+  refused : (asked later : List Name) × Opens (files.opened files.old) (files.opened files.new) asked × (names ≡ asked ++ later) →
+      files.failures files.new ≡ 1 → status ≡ 5 → IsRefused files names status
 
 -- a file that was opened has failed
 abbrev pub HasLost : {File : Type 0} → (File → ℕ) → Type 0

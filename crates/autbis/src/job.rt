@@ -6,7 +6,7 @@ ghost use Rattle.autbis.specs.Programs.{AnswersWords, AskFor, AskForNone};
 ghost use Rattle.autbis.specs.Runs.{used};
 
 use crate::opener::Opener;
-use crate::opening::{Texts, open_job};
+use crate::opening::{Named, Texts, open_job};
 use crate::program::{cmp_program, min_program};
 use crate::reports::answer_words;
 use autfmt::{Limits, Sink, Source};
@@ -82,13 +82,11 @@ pub fn do_job<F: Opener, R: Source, W: Sink, E: Write>(
     };
     match texts {
         Texts::Input => min_program(alloc, input, INPUT, output, e, rel, stats, lim, &h),
-        Texts::One(a) => {
-            let (name, mut text) = (a.name, a.file);
-            min_program(alloc, &mut text, name, output, e, rel, stats, lim, &h)
-        }
+        Texts::One(Named { name, mut file }) => min_program(
+            alloc, &mut file, name, output, e, rel, stats, lim, &h,
+        ),
         Texts::Two(a, b) => {
-            let (first, second) = (a.name, b.name);
-            let (mut one, mut other) = (a.file, b.file);
+            let (first, second, mut one, mut other) = (a.name, b.name, a.file, b.file);
             let (one, other) = (&mut one, &mut other);
             cmp_program(alloc, one, first, other, second, output, e, rel, lim, &h)
         }

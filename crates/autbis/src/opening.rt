@@ -1,5 +1,5 @@
 //! What a job names, opened in its order: its texts, and then its hide list.
-ghost use Rattle.std.specs.Prelude.{◌≡◌, [], ◌∷◌, IfSome, IfOk, IfErr, OnOk, Some, option_map, option_to_list, string_bytes};
+ghost use Rattle.std.specs.Prelude.{◌≡◌, [], ◌∷◌, IfSome, IfOk, IfErr, OnOk, MatchResult, Some, option_map, option_to_list, string_bytes};
 ghost use Rattle.autbis.specs.Files.{HasAll, IsRefused, files_used};
 ghost use Rattle.autbis.specs.Jobs.{HidesNamed, IsGivenUp, files_of, hide_of, texts_of};
 ghost use Rattle.autbis.specs.Opened.{AreOpened, IsOpened};
@@ -57,10 +57,8 @@ fn open_texts<'a, F: Opener, E: Write>(
 ) -> Result<Texts<'a, F::File>, u8>
     requires sound { F.failures files.old ≡ 0 }
     ensures texts { IfOk result (AreOpened F.File.rest F.File.failures (F.holds files.old) job.now) }
-    ensures all { OnOk result (HasAll (files_used F.holds F.opened F.failures F.File.failures files.old files.new)
-        (texts_of job.now)) }
-    ensures refused { IfErr result (IsRefused (files_used F.holds F.opened F.failures F.File.failures files.old files.new)
-        (texts_of job.now)) }
+    ensures order { let used = files_used F.holds F.opened F.failures F.File.failures files.old files.new in
+        MatchResult result (λ _. HasAll used (texts_of job.now)) (IsRefused used (texts_of job.now)) }
 {
     match job {
         Job::Min { file: None, .. } => Ok(Texts::Input),
@@ -86,10 +84,8 @@ fn open_named<'a, F: Opener, E: Write>(
     ensures file { IfOk result (λ text. F.File.failures text.file ≡ 0) }
     ensures bytes { IfSome (F.holds files.old name.entry.now) (λ bytes.
         IfOk result (λ text. F.File.rest text.file ≡ Some bytes)) }
-    ensures all { OnOk result (HasAll (files_used F.holds F.opened F.failures F.File.failures files.old files.new)
-        (name.entry.now ∷ [])) }
-    ensures refused { IfErr result (IsRefused (files_used F.holds F.opened F.failures F.File.failures files.old files.new)
-        (name.entry.now ∷ [])) }
+    ensures order { let used = files_used F.holds F.opened F.failures F.File.failures files.old files.new in
+        MatchResult result (λ _. HasAll used (name.entry.now ∷ [])) (IsRefused used (name.entry.now ∷ [])) }
 {
     match files.open(name) {
         Ok(file) => Ok(Named { name, file }),
