@@ -2,7 +2,7 @@
 use Rattle.std.proofs.Common.{◌≡◌, ◌⊎◌, ℕ, ◌+◌, ◌<◌, ◌≤◌, List, [], ◌∷◌, ◌++◌, length, refl, sym, ◌∙◌, ap, subst, inl, inr, arith}
 use Rattle.std.specs.List.{AllZip}
 use Rattle.std.proofs.lemmas.Bool.{cases_lt}
-use Rattle.std.proofs.lemmas.List.{append-nil}
+use Rattle.std.proofs.lemmas.List.{append_assoc, append-nil, length-append}
 use Rattle.std.proofs.lemmas.Slice.Zip.{AllZip-long}
 use Rattle.autfmt.specs.declared.fault.Fault.{Fault}
 use Rattle.autfmt.specs.declared.fault.Fault.TheVariants.{LineTooLong, BadHide, TooManyHidden}
@@ -10,6 +10,7 @@ use Rattle.autfmt.specs.Grammar.{HideLine}
 use Rattle.autfmt.specs.Texts.{Cuts, Lines, IsShort}
 use Rattle.autfmt.specs.HideLists.{Hides, HideReads, HideFault, FirstHideFault, JudgedHideFault}
 use Rattle.autfmt.proofs.Lists.{AllZip-firsts}
+use Rattle.autfmt.proofs.LongerTexts.{ended_go_on, line_grows}
 use Rattle.autfmt.proofs.FirstFaults.{Stops, Divided, divided, one_front, HasLongLine, not_known}
 use Rattle.autfmt.proofs.Cutting.{Lines-unique, lines_of}
 use Rattle.autfmt.proofs.Decisions.{one_hide_line, decide_hide_line}
@@ -179,6 +180,48 @@ hide_text_judged text = step (lines_of text).0 (lines_of text).1
 -- a line that is said to be too long is one
 long_hide_line : (text : List ℕ) (k : ℕ) → FirstHideFault text (LineTooLong k) → HasLongLine text
 long_hide_line text k f = (f.lines, f.others, f.line, f.whole, f.faulty.2)
+
+module _ (given more : List ℕ) where
+  -- a first fault of a line that may have grown, if it is one of the line that grew
+  hide_fault_stays :
+      (fault : Fault) (f : FirstHideFault given fault) →
+      ((tail : List ℕ) → HideFault (length f.lines + 1) (f.line ++ tail) fault) → FirstHideFault (given ++ more) fault
+  hide_fault_stays fault f stays =
+      let (tail, others, whole) = line_grows given more f.lines f.others f.line f.whole in
+      record {
+        lines = f.lines;
+        line = f.line ++ tail;
+        others = others;
+        whole = whole;
+        labels = f.labels;
+        named = f.named;
+        few = f.few;
+        faulty = stays tail;
+      }
+
+  -- a line that is too long is so whatever follows
+  pub long_hide_stays : (k : ℕ) → FirstHideFault given (LineTooLong k) → FirstHideFault (given ++ more) (LineTooLong k)
+  long_hide_stays k f = hide_fault_stays (LineTooLong k) f (λ tail.
+      let long = f.faulty.2 in (f.faulty.0, f.faulty.1, omega (arith, length-append f.line tail)))
+
+  -- and so is one line too many
+  pub extra_hide_stays : FirstHideFault given TooManyHidden → FirstHideFault (given ++ more) TooManyHidden
+  extra_hide_stays f = hide_fault_stays TooManyHidden f (λ tail. f.faulty)
+
+  -- and the fault of a line that has ended
+  pub ended_hide_stays : (ended : List (List ℕ)) (fault : Fault) → Cuts given ended [] → FirstHideFault given fault → FirstHideFault (given ++ more) fault
+  ended_hide_stays ended fault c f = record {
+    lines = f.lines;
+    line = f.line;
+    others = f.others ++ (lines_of more).0;
+    whole =
+        subst (λ (ls : List (List ℕ)). Lines (given ++ more) ls) (append_assoc f.lines (f.line ∷ f.others) (lines_of more).0)
+        (ended_go_on given more ended (f.lines ++ f.line ∷ f.others) c f.whole);
+    labels = f.labels;
+    named = f.named;
+    few = f.few;
+    faulty = f.faulty;
+  }
 
 -- where the ended lines are good, and one may follow that has not ended, no fault is known
 pub no_judged_hide_fault :

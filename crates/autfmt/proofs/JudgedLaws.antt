@@ -1,19 +1,20 @@
 -- What is known of a text from its first bytes.
-use Rattle.std.proofs.Common.{◌≡◌, ◌⊎◌, ℕ, ◌+◌, ◌<◌, ◌≤◌, List, [], ◌∷◌, ◌++◌, length, refl, subst, inl, inr, arith, All, sym, ap, ◌∙◌}
+use Rattle.std.proofs.Common.{◌≡◌, ◌⊎◌, ℕ, ◌+◌, ◌<◌, ◌≤◌, List, [], ◌∷◌, ◌++◌, length, refl, subst, inl, inr, arith, All}
 use Rattle.std.specs.List.{AllZip}
 use Rattle.std.proofs.lemmas.Bool.{cases_lt}
-use Rattle.std.proofs.lemmas.List.{append_assoc, append-nil}
+use Rattle.std.proofs.lemmas.List.{append_assoc, append-nil, length-append}
 use Rattle.std.proofs.lemmas.List.Elements.{All-nil, All-cons}
 use Rattle.theory.specs.System.{Transition}
 use Rattle.autfmt.specs.declared.fault.Fault.{Fault}
-use Rattle.autfmt.specs.declared.fault.Fault.TheVariants.{LineTooLong, MissingEdges}
+use Rattle.autfmt.specs.declared.fault.Fault.TheVariants.{LineTooLong, MissingEdges, ExtraText}
 use Rattle.autfmt.specs.Bounds.{Bounds}
 use Rattle.autfmt.specs.Texts.{Cuts, Lines, IsShort, GoodHeader, SpellsAmong}
-use Rattle.autfmt.specs.Cutter.{IsPart, with_line_feeds}
-use Rattle.autfmt.proofs.Cutting.{Lines-unique, Lines-behind, lines_of}
+use Rattle.autfmt.specs.Cutter.{IsPart}
+use Rattle.autfmt.proofs.Cutting.{Lines-unique, lines_of}
 use Rattle.autfmt.specs.Faults.{HeaderFault, EdgeFault, BeginsWell, FirstFault, JudgedFault}
 use Rattle.autfmt.specs.Faults.FirstFault.{no_line, header, behind}
 use Rattle.autfmt.proofs.Lists.{AllZip-firsts}
+use Rattle.autfmt.proofs.LongerTexts.{ended_go_on, line_grows}
 use Rattle.autfmt.proofs.FirstFaults.{HasLongLine, not_known}
 use Rattle.autfmt.proofs.FaultLaws.{FirstFault-unique, Reads-from_lines, Reads-no_fault}
 use Rattle.autfmt.specs.declared.line.TheConstants.{LONGEST_LINE}
@@ -77,6 +78,46 @@ no_judged_fault bounds given line lines rest f m n es fault c good edges few sho
         ends (inl less) = omega arith
         ends (inr none) = at_end rest none c (omega arith)
 
+module _ (bounds : Bounds) (given more : List ℕ) where
+  -- a text that begins well goes on to do so, and the next line may have grown
+  goes_on_well :
+      (m n : ℕ) (es : List Transition) (line : List ℕ) (others : List (List ℕ)) → BeginsWell bounds given m n es (line ∷ others) →
+      (tail : List ℕ) × (others' : List (List ℕ)) × BeginsWell bounds (given ++ more) m n es ((line ++ tail) ∷ others')
+  goes_on_well m n es line others b =
+      let (tail, others', whole) = line_grows given more (b.header ∷ b.lines) others line b.whole in
+      (tail, others', record { header = b.header; first = b.first; lines = b.lines; whole = whole; good = b.good; spelled = b.spelled })
+
+  -- a line that is too long is so whatever follows
+  pub long_stays : (k : ℕ) → FirstFault bounds given (LineTooLong k) → FirstFault bounds (given ++ more) (LineTooLong k)
+  long_stays k (no_line l e) = absurd cc
+  long_stays k (header line others l (HeaderFault.too_long e long)) =
+      let (tail, others', l') = line_grows given more [] others line l in
+      header (line ++ tail) others' l' (HeaderFault.too_long e (omega (arith, length-append line tail)))
+  long_stays k (header line others l (HeaderFault.unread e short none)) = absurd cc
+  long_stays k (header line others l (HeaderFault.numbers f m n short h wrong)) = absurd wrong
+  long_stays k (behind m n es [] b next) = let e = next.1 in absurd cc
+  long_stays k (behind m n es (line ∷ others) b (inl (less, EdgeFault.too_long e long))) =
+      let (tail, others', b') = goes_on_well m n es line others b in
+      behind m n es ((line ++ tail) ∷ others') b' (inl (less, EdgeFault.too_long e (omega (arith, length-append line tail))))
+  long_stays k (behind m n es (line ∷ others) b (inl (less, EdgeFault.unread e short none))) = absurd cc
+  long_stays k (behind m n es (line ∷ others) b (inl (less, EdgeFault.source e d spelled high))) = absurd cc
+  long_stays k (behind m n es (line ∷ others) b (inl (less, EdgeFault.target e d spelled low high))) = absurd cc
+  long_stays k (behind m n es (line ∷ others) b (inr (full, e))) = absurd cc
+
+  -- and so is one line too many
+  pub extra_stays : (k : ℕ) → FirstFault bounds given (ExtraText k) → FirstFault bounds (given ++ more) (ExtraText k)
+  extra_stays k (no_line l e) = absurd cc
+  extra_stays k (header line others l (HeaderFault.too_long e long)) = absurd cc
+  extra_stays k (header line others l (HeaderFault.unread e short none)) = absurd cc
+  extra_stays k (header line others l (HeaderFault.numbers f m n short h wrong)) = absurd wrong
+  extra_stays k (behind m n es [] b next) = let e = next.1 in absurd cc
+  extra_stays k (behind m n es (line ∷ others) b (inl (less, EdgeFault.too_long e long))) = absurd cc
+  extra_stays k (behind m n es (line ∷ others) b (inl (less, EdgeFault.unread e short none))) = absurd cc
+  extra_stays k (behind m n es (line ∷ others) b (inl (less, EdgeFault.source e d spelled high))) = absurd cc
+  extra_stays k (behind m n es (line ∷ others) b (inl (less, EdgeFault.target e d spelled low high))) = absurd cc
+  extra_stays k (behind m n es (line ∷ others) b (inr (full, e))) =
+      let (tail, others', b') = goes_on_well m n es line others b in behind m n es ((line ++ tail) ∷ others') b' (inr (full, e))
+
 -- the fault of a line that has ended is known
 pub ended_known :
     (bounds : Bounds) (given : List ℕ) (ended : List (List ℕ)) (fault : Fault) → Cuts given ended [] → FirstFault bounds given fault →
@@ -86,25 +127,16 @@ ended_known bounds given ended fault c first some found more = step first
     tail : List (List ℕ)
     tail = (lines_of more).0
 
-    longer : (lines : List (List ℕ)) → Lines given lines → Lines (given ++ more) (lines ++ tail)
-    longer lines l =
-        let all = subst (λ (ls : List (List ℕ)). Lines given ls) (append-nil ended) (ended, [], c, refl) in
-        let same = Lines-unique given ended lines all l in
-        let whole : with_line_feeds ended ++ more ≡ given ++ more =
-        ap (λ (t : List ℕ). t ++ more) (sym (append-nil (with_line_feeds ended)) ∙ sym c.whole) in
-        subst (λ (ls : List (List ℕ)). Lines (given ++ more) (ls ++ tail)) same
-        (subst (λ (t : List ℕ). Lines t (ended ++ tail)) whole (Lines-behind ended more tail c.lines (lines_of more).1))
-
     step : FirstFault bounds given fault → FirstFault bounds (given ++ more) fault
     step (no_line l e) =
         let all = subst (λ (ls : List (List ℕ)). Lines given ls) (append-nil ended) (ended, [], c, refl) in
         absurd (some (Lines-unique given ended [] all l))
-    step (header line others l bad) = header line (others ++ tail) (longer (line ∷ others) l) bad
+    step (header line others l bad) = header line (others ++ tail) (ended_go_on given more ended (line ∷ others) c l) bad
     step (behind m n es [] b next) = absurd (found (length es) next.1)
     step (behind m n es (line ∷ others) b next) =
         let l =
         subst (λ (ls : List (List ℕ)). Lines (given ++ more) (b.header ∷ ls)) (append_assoc b.lines (line ∷ others) tail)
-        (longer (b.header ∷ b.lines ++ line ∷ others) b.whole) in
+        (ended_go_on given more ended (b.header ∷ b.lines ++ line ∷ others) c b.whole) in
         let b' : BeginsWell bounds (given ++ more) m n es (line ∷ (others ++ tail)) =
         record { header = b.header; first = b.first; lines = b.lines; whole = l; good = b.good; spelled = b.spelled } in
         behind m n es (line ∷ (others ++ tail)) b' next

@@ -1,4 +1,5 @@
 pub mod Lists
+pub mod LongerTexts
 pub mod Blanks
 pub mod Numbers
 pub mod QuotedLabels

@@ -126,32 +126,38 @@ impl Cutter {
             self.from += at + 1;
             return Ok(Step::Line);
         }
-        let Cutter {
-            piece,
-            from,
-            to,
-            buffer,
-            span,
-            over,
-        } = self;
+        self.put_together(r)
+    }
+
+    /// Goes on to the next line, which does not end in the piece.
+    fn put_together<R: Source>(&mut self, r: &mut R) -> Result<Step, Broken>
+        requires open { self.old.over ≡ false }
+        requires one { IsOneLine self.old.ahead }
+        requires sound { R.failures r.old ≡ 0 }
+        ensures step { (got : List ℕ) × Consumes (R.rest r.old) (R.rest r.new) got ×
+            Advances false (self.old.ahead ++ got) result self.new }
+        ensures end { IsTrue self.new.over → IsAtEnd (R.rest r.new) }
+        ensures failures { CountsFailure result (R.failures r.new) }
+    {
+        let (from, to) = (self.from, self.to);
+        self.span = None;
+        self.from = to;
+        let Cutter { piece, buffer, .. } = self;
         buffer.clear();
-        let _fits = buffer.extend(&piece[*from..*to]);
-        *span = None;
-        *from = *to;
+        let _fits = buffer.extend(&piece[from..to]);
         match gather(piece, buffer, r)? {
             Found::Feed(at, end) => {
-                *from = at + 1;
-                *to = end;
-                return Ok(Step::Line);
+                self.from = at + 1;
+                self.to = end;
+                Ok(Step::Line)
             }
-            Found::TooLong => return Ok(Step::TooLong),
-            Found::End => {}
+            Found::TooLong => Ok(Step::TooLong),
+            Found::End => {
+                self.over = true;
+                let none = self.buffer.line().is_empty();
+                Ok(if none { Step::End } else { Step::Line })
+            }
         }
-        *over = true;
-        if buffer.line().is_empty() {
-            return Ok(Step::End);
-        }
-        Ok(Step::Line)
     }
 
     /// Whether no byte follows the line that was cut last.

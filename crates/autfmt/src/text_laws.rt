@@ -2,7 +2,7 @@
 ghost use Rattle.std.specs.Prelude.{◌≡◌, ◌≢◌, ◌⊎◌, ◌↔◌, ℕ, List, [], ◌++◌};
 ghost use Rattle.theory.specs.System.{System, Hide};
 ghost use Rattle.autfmt.specs.declared.fault.Fault.{Fault};
-ghost use Rattle.autfmt.specs.declared.fault.Fault.TheVariants.{MissingEdges};
+ghost use Rattle.autfmt.specs.declared.fault.Fault.TheVariants.{ExtraText, LineTooLong, MissingEdges, TooManyHidden};
 ghost use Rattle.autfmt.specs.Bounds.{Bounds};
 ghost use Rattle.autfmt.specs.Texts.{Cuts, Lines, Reads};
 ghost use Rattle.autfmt.specs.Faults.{FirstFault, JudgedFault};
@@ -42,14 +42,18 @@ pub fn a_text_reads_or_has_a_fault()
     ensures header { (bounds : Bounds) (text : List ℕ) (A : System) → Reads bounds text A → HasGoodHeader bounds text }
 {}
 
-/// The fault that is known from the first bytes of a text is its first fault, whatever follows them. That of a line that
-/// has ended is known.
+/// The fault that is known from the first bytes of a text is its first fault, whatever follows them. Known is that of a line
+/// that has ended, and of one that has not, that it is too long, or one too many.
 pub fn a_judged_fault_is_the_first()
     ensures first { (bounds : Bounds) (given more : List ℕ) (f : Fault) →
         JudgedFault bounds given f → FirstFault bounds (given ++ more) f }
     ensures ended { (bounds : Bounds) (given : List ℕ) (ended : List (List ℕ)) (f : Fault) →
         Cuts given ended [] → FirstFault bounds given f → ended ≢ [] → ((found : ℕ) → f ≢ MissingEdges found) →
         JudgedFault bounds given f }
+    ensures long { (bounds : Bounds) (given : List ℕ) (k : ℕ) →
+        FirstFault bounds given (LineTooLong k) → JudgedFault bounds given (LineTooLong k) }
+    ensures extra { (bounds : Bounds) (given : List ℕ) (k : ℕ) →
+        FirstFault bounds given (ExtraText k) → JudgedFault bounds given (ExtraText k) }
 {}
 
 /// A hide list has one list of labels at most, and one first fault at most.
@@ -68,9 +72,14 @@ pub fn a_hide_list_reads_or_has_a_fault()
         ((f : Fault) → ¬ FirstHideFault text f) ↔ ((H : List (List ℕ)) × HideReads text H) }
 {}
 
-/// The fault that is known from the first bytes of a hide list is its first fault, whatever follows them.
+/// The fault that is known from the first bytes of a hide list is its first fault, whatever follows them. Known is what is of
+/// a text.
 pub fn a_judged_hide_fault_is_the_first()
-    ensures { (given more : List ℕ) (f : Fault) → JudgedHideFault given f → FirstHideFault (given ++ more) f }
+    ensures first { (given more : List ℕ) (f : Fault) → JudgedHideFault given f → FirstHideFault (given ++ more) f }
+    ensures ended { (given : List ℕ) (ended : List (List ℕ)) (f : Fault) →
+        Cuts given ended [] → FirstHideFault given f → JudgedHideFault given f }
+    ensures long { (given : List ℕ) (k : ℕ) → FirstHideFault given (LineTooLong k) → JudgedHideFault given (LineTooLong k) }
+    ensures extra { (given : List ℕ) → FirstHideFault given TooManyHidden → JudgedHideFault given TooManyHidden }
 {}
 
 /// Hiding depends on which labels are in the list alone, not on their order or their repeats; an empty list hides

@@ -1,5 +1,5 @@
--- The laws are the definition and the lemma.
-use Rattle.autfmt.proofs.JudgedLaws.{ended_known}
+-- The laws are the definition and the lemmas.
+use Rattle.autfmt.proofs.JudgedLaws.{ended_known, extra_stays, long_stays}
 use Rattle.autfmt.proofs.text_laws.a_judged_fault_is_the_first.Goals as goal
 
 pub returns-clause-first : goal.returns-clause-first
@@ -7,3 +7,9 @@ returns-clause-first c = λ bounds given more f known. known more
 
 pub returns-clause-ended : goal.returns-clause-ended
 returns-clause-ended c = ended_known
+
+pub returns-clause-long : goal.returns-clause-long
+returns-clause-long c = λ bounds given k first more. long_stays bounds given more k first
+
+pub returns-clause-extra : goal.returns-clause-extra
+returns-clause-extra c = λ bounds given k first more. extra_stays bounds given more k first

@@ -1,5 +1,15 @@
--- The law is the definition.
+-- The laws are the definition and the lemmas.
+use Rattle.autfmt.proofs.HideLaws.{ended_hide_stays, extra_hide_stays, long_hide_stays}
 use Rattle.autfmt.proofs.text_laws.a_judged_hide_fault_is_the_first.Goals as goal
 
-pub returns : goal.returns
-returns c = λ given more f known. known more
+pub returns-clause-first : goal.returns-clause-first
+returns-clause-first c = λ given more f known. known more
+
+pub returns-clause-ended : goal.returns-clause-ended
+returns-clause-ended c = λ given ended f c first more. ended_hide_stays given more ended f c first
+
+pub returns-clause-long : goal.returns-clause-long
+returns-clause-long c = λ given k first more. long_hide_stays given more k first
+
+pub returns-clause-extra : goal.returns-clause-extra
+returns-clause-extra c = λ given first more. extra_hide_stays given more first
