@@ -1,6 +1,7 @@
 -- The cutter of lines: how far it is in the bytes that a source gives.
 use Rattle.std.specs.Prelude.{◌≡◌, ◌⊎◌, ℕ, ◌<◌, ◌≤◌, Bool, true, false, IsTrue, List, [], ◌∷◌, ◌++◌, length, Option, None, Some, IfSome}
 use Rattle.std.specs.List.{All, flat_map, slice_range}
+use Rattle.std.specs.Io.KnownBytes.{IsAtEnd}
 use Rattle.autfmt.specs.Texts.{Lines, IsOneLine, IsShort}
 use Rattle.autfmt.specs.declared.cutter.TheConstants.{PIECE}
 use Rattle.autfmt.specs.declared.line.TheConstants.{LONGEST_LINE}
@@ -45,6 +46,11 @@ pub record CutsEnd (bytes : List ℕ) (now : Cutting) : Type 0 where
 -- the bytes are a part of a line that is not too long
 abbrev pub IsPart : List ℕ → Type 0
 IsPart bytes = IsOneLine bytes × IsShort bytes
+
+-- the source of the cutter has not failed, and no byte of it is to come once the cutter says that it came to its end
+pub record Feeds (rest : Option (List ℕ)) (failures : ℕ) (at : Cutting) : Type 0 where
+  pub sound : failures ≡ 0
+  pub end : IsTrue at.over → IsAtEnd rest
 
 -- each line with its line feed
 abbrev pub with_line_feeds : List (List ℕ) → List ℕ

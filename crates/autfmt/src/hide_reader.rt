@@ -2,6 +2,7 @@
 ghost use Rattle.std.specs.Prelude.{◌≡◌, ◌↔◌, ℕ, ◌+◌, ◌<◌, ◌≤◌, List, [], ◌∷◌, ◌++◌, length, false, IsTrue, IfSome, Ok, Err, IfOk, IfErr, OnOk, MatchResult, MatchBool};
 ghost use Rattle.std.specs.Io.KnownBytes.{Consumes, IsAtEnd};
 ghost use Rattle.autfmt.specs.declared.limits.TheConstants.{MOST_LINES};
+ghost use Rattle.autfmt.specs.Cutter.{Feeds};
 ghost use Rattle.autfmt.specs.HideLists.{FirstHideFault};
 ghost use Rattle.autfmt.specs.HideReaders.{IsHideFault, HidesAs};
 ghost use Rattle.autfmt.specs.HideReadSoFar.{HideReadSoFar};
@@ -67,8 +68,7 @@ fn read_hide_line<R: Source>(
 ) -> Result<bool, Fault>
     requires more { found < MOST_LINES }
     requires few { length hidden.old ≤ found }
-    requires sound { R.failures r.old ≡ 0 }
-    requires end { IsTrue cutter.old.over → IsAtEnd (R.rest r.old) }
+    requires source { Feeds (R.rest r.old) (R.failures r.old) cutter.old }
     ensures line { (got : List ℕ) × Consumes (R.rest r.old) (R.rest r.new) got ×
         ((given : List ℕ) (H : List (List ℕ)) →
         HideReadSoFar given cutter.old H hidden.old → length H ≡ found →
@@ -78,9 +78,8 @@ fn read_hide_line<R: Source>(
         (HidesAs (given ++ got) hidden.new))
         (HideRefuses (given ++ got) (R.rest r.new) (R.failures r.new))) }
     ensures few { OnOk result (length hidden.new ≤ found + 1) }
-    ensures end { OnOk result (IsTrue cutter.new.over → IsAtEnd (R.rest r.new)) }
     ensures last { result ≡ Ok false → IsAtEnd (R.rest r.new) }
-    ensures sound { OnOk result (R.failures r.new ≡ 0) }
+    ensures source { OnOk result (Feeds (R.rest r.new) (R.failures r.new) cutter.new) }
 {
     match cutter.advance(r)? {
         Step::Line => {}

@@ -5,7 +5,7 @@ ghost use Rattle.theory.specs.System.{System, Transition};
 ghost use Rattle.lts.specs.Lts.{InRange};
 ghost use Rattle.autfmt.specs.declared.limits.TheConstants.{FILE_STATES, FILE_TRANSITIONS};
 ghost use Rattle.autfmt.specs.Bounds.{Bounds};
-ghost use Rattle.autfmt.specs.Cutter.{Cutting};
+ghost use Rattle.autfmt.specs.Cutter.{Cutting, Feeds};
 ghost use Rattle.autfmt.specs.Faults.{FirstFault};
 ghost use Rattle.autfmt.specs.Readers.{IsTextFault, ReadsAs};
 ghost use Rattle.autfmt.specs.ReadSoFar.{ReadSoFar, HeldSoFar, ReadsOneMore, HoldsText};
@@ -128,8 +128,7 @@ fn read_header<R: Source>(cutter: &mut Cutter, r: &mut R, lim: &Limits) -> Resul
         (λ given p. ReadSoFar lim.now given cutter.new p [])
         (λ given. Refuses lim.now given (R.rest r.new) (R.failures r.new)) result }
     ensures file { IfOk result (λ p. (p.states ≤ FILE_STATES) × (p.transitions ≤ FILE_TRANSITIONS)) }
-    ensures end { OnOk result (IsTrue cutter.new.over → IsAtEnd (R.rest r.new)) }
-    ensures sound { OnOk result (R.failures r.new ≡ 0) }
+    ensures source { OnOk result (Feeds (R.rest r.new) (R.failures r.new) cutter.new) }
 {
     match cutter.advance(r)? {
         Step::Line => {}
@@ -150,16 +149,14 @@ fn read_transitions<R: Source>(
     requires file { promise.transitions ≤ FILE_TRANSITIONS }
     requires none { vec_len held.old.triples ≡ 0 }
     requires few { length held.old.labels ≡ 0 }
-    requires sound { R.failures r.old ≡ 0 }
-    requires end { IsTrue cutter.old.over → IsAtEnd (R.rest r.old) }
+    requires source { Feeds (R.rest r.old) (R.failures r.old) cutter.old }
     ensures transitions { (got : List ℕ) × Consumes (R.rest r.old) (R.rest r.new) got ×
         ((bounds : Bounds) (given : List ℕ) →
         HeldSoFar bounds h.now given cutter.old promise held.old [] →
         MatchResult result
         (λ _. (es : List Transition) × HeldSoFar bounds h.now (given ++ got) cutter.new promise held.new es)
         (Refuses bounds (given ++ got) (R.rest r.new) (R.failures r.new))) }
-    ensures end { OnOk result (IsTrue cutter.new.over → IsAtEnd (R.rest r.new)) }
-    ensures sound { OnOk result (R.failures r.new ≡ 0) }
+    ensures source { OnOk result (Feeds (R.rest r.new) (R.failures r.new) cutter.new) }
     ensures len { OnOk result (vec_len held.new.triples ≡ promise.transitions) }
 {
     for _found in 0..promise.transitions {
@@ -224,16 +221,14 @@ fn read_transition<R: Source>(
     requires file { promise.transitions ≤ FILE_TRANSITIONS }
     requires promised { vec_len held.old.triples < promise.transitions }
     requires few { length held.old.labels ≤ vec_len held.old.triples }
-    requires sound { R.failures r.old ≡ 0 }
-    requires end { IsTrue cutter.old.over → IsAtEnd (R.rest r.old) }
+    requires source { Feeds (R.rest r.old) (R.failures r.old) cutter.old }
     ensures transition { (got : List ℕ) × Consumes (R.rest r.old) (R.rest r.new) got ×
         ((bounds : Bounds) (given : List ℕ) (es : List Transition) →
         HeldSoFar bounds h.now given cutter.old promise held.old es →
         MatchResult result
         (λ _. (e : Transition) × HeldSoFar bounds h.now (given ++ got) cutter.new promise held.new (es ++ e ∷ []))
         (Refuses bounds (given ++ got) (R.rest r.new) (R.failures r.new))) }
-    ensures end { OnOk result (IsTrue cutter.new.over → IsAtEnd (R.rest r.new)) }
-    ensures sound { OnOk result (R.failures r.new ≡ 0) }
+    ensures source { OnOk result (Feeds (R.rest r.new) (R.failures r.new) cutter.new) }
     ensures len { OnOk result (vec_len held.new.triples ≡ vec_len held.old.triples + 1) }
     ensures few { OnOk result (length held.new.labels ≤ vec_len held.new.triples) }
 {

@@ -36,7 +36,7 @@ returns-in_err-label-clause-line g c =
       s.1,
       λ given H so_far count. rw (exit.1, exit.2)
           (hide_faulty given _ _ H _ s.0 _ _ _ _ so_far count c.requires.more c.in_ok-advance.ensures.failures (goes_on s.2.0)
-          (c.advance.ensures.end c.requires.end) s.2.1 (rw c.line.ensures at c.in_err-label.ensures.fault) c.in_err-label.ensures.kind),
+          (c.advance.ensures.end c.requires.source.end) s.2.1 (rw c.line.ensures at c.in_err-label.ensures.fault) c.in_err-label.ensures.kind),
     )
 
 pub returns-clause-line : goal.returns-clause-line

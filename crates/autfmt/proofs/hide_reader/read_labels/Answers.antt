@@ -13,8 +13,7 @@ loop-found-init g c =
     record {
       got = ([], Consumes-nil (g.R.Source.rest c.args.r.now), [], none, refl);
       few = let e = ap length c.none-hidden.ensures in omega arith;
-      sound = c.requires;
-      end = λ over. absurd (fresh_goes_on c.new-cutter.result c.new-cutter.ensures over);
+      source = record { sound = c.requires; end = λ over. absurd (fresh_goes_on c.new-cutter.result c.new-cutter.ensures over) };
     }
 
 -- one label more
@@ -33,7 +32,7 @@ returns-then-not-some g c =
     let (before, taken, H, so_far, count) = c.loop-found.invariant.got in
     let (line, took, step) = rw c.if-not-some.true at c.in_ok-some.ensures.line in
     hide_reads_behind _ _ _ before line _ _ taken took (step before H so_far count)
-    (c.in_ok-some.ensures.last (ap Ok c.if-not-some.true)) c.in_ok-some.ensures.sound
+    (c.in_ok-some.ensures.last (ap Ok c.if-not-some.true)) c.in_ok-some.ensures.source.sound
 
 pub loop-found-preserved : goal.loop-found-preserved
 loop-found-preserved g c =
@@ -43,8 +42,7 @@ loop-found-preserved g c =
     record {
       got = (before ++ line, Consumes-trans _ _ _ before line taken took, H ++ a ∷ [], next, one_more H a _ count);
       few = c.in_ok-some.ensures.few;
-      sound = c.in_ok-some.ensures.sound;
-      end = c.in_ok-some.ensures.end;
+      source = c.in_ok-some.ensures.source;
     }
 
 pub returns-in_err-at_end : goal.returns-in_err-at_end
@@ -76,4 +74,4 @@ returns g c =
     let last = rw c.if-not-at_end.false at c.in_ok-at_end.ensures.look in
     hide_reads_behind _ _ _ before last.0 _ _ taken last.1
     (hide_ends before _ H _ last.0 so_far (omega arith) (last.2.2 refl))
-    (c.is_at_end.ensures.end c.loop-found.invariant.end last.2.1) c.in_ok-at_end.ensures.failures
+    (c.is_at_end.ensures.end c.loop-found.invariant.source.end last.2.1) c.in_ok-at_end.ensures.failures

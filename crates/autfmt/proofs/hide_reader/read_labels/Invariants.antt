@@ -1,5 +1,6 @@
-use Rattle.std.proofs.Common.{◌≡◌, ℕ, ◌≤◌, true, List, length}
-use Rattle.std.specs.Io.KnownBytes.{Consumes, IsAtEnd}
+use Rattle.std.proofs.Common.{◌≡◌, ℕ, ◌≤◌, List, length}
+use Rattle.std.specs.Io.KnownBytes.{Consumes}
+use Rattle.autfmt.specs.Cutter.{Feeds}
 use Rattle.autfmt.specs.HideReadSoFar.{HideReadSoFar}
 use Rattle.autfmt.proofs.hide_reader.read_labels.Given as goal
 
@@ -9,6 +10,5 @@ invariant-loop-found g l = record {
       (bs : List ℕ) × Consumes (g.R.Source.rest l.initial.r) (g.R.Source.rest l.r) bs ×
       (H : List (List ℕ)) × HideReadSoFar bs l.cutter H l.hidden × (length H ≡ l.found);
   few : length l.hidden ≤ l.found;
-  sound : g.R.Source.failures l.r ≡ 0;
-  end : l.cutter.over ≡ true → IsAtEnd (g.R.Source.rest l.r);
+  source : Feeds (g.R.Source.rest l.r) (g.R.Source.failures l.r) l.cutter;
 }

@@ -41,7 +41,7 @@ returns-in-End-clause-transition g c =
     let at = (goal.at.returns-in-End-clause-transition g c).After-advance in
     let s = rw c.in-End.is at c.in_ok-advance.ensures.step in
     let sound = c.in_ok-advance.ensures.failures in
-    let end = c.advance.ensures.end c.requires.end in (
+    let end = c.advance.ensures.end c.requires.source.end in (
       s.0,
       s.1,
       λ bounds given es standing.
@@ -58,14 +58,14 @@ returns-in_err-source-clause-transition g c =
       s.1,
       λ bounds given es standing. rw (p.1, p.2)
           (transition_faulty bounds given _ _ _ es s.0 _ _ _ _ standing.0 (count g at es standing.1) (omega arith)
-          c.in_ok-advance.ensures.failures (goes_on s.2.0) (c.advance.ensures.end c.requires.end) s.2.1 bad c.in_err-source.ensures.kind),
+          c.in_ok-advance.ensures.failures (goes_on s.2.0) (c.advance.ensures.end c.requires.source.end) s.2.1 bad c.in_err-source.ensures.kind),
     )
 
 pub returns-in_err-add-clause-transition : goal.returns-in_err-add-clause-transition
 returns-in_err-add-clause-transition g c =
     let s = rw c.in-Line.is at c.in_ok-advance.ensures.step in
     let p = err_from_is_err_and c.from_residual-in_err-add.result c.from_residual-in_err-add.ensures.1 in
-    let end = c.advance.ensures.end c.requires.end in (
+    let end = c.advance.ensures.end c.requires.source.end in (
       s.0,
       s.1,
       λ bounds given es standing. rw (p.1, p.2)

@@ -16,8 +16,7 @@ loop-found-init g c = record {
   );
   len = c.requires.none;
   few = omega arith;
-  sound = c.requires.sound;
-  end = c.requires.end;
+  source = c.requires.source;
 }
 
 pub returns-in_err-read_transition-clause-transitions : goal.returns-in_err-read_transition-clause-transitions
@@ -43,8 +42,8 @@ returns-in_err-take_usual-clause-transitions g c =
       λ bounds given standing.
           let now = (so_far bounds given standing).1.0 in
           rw (p.1, p.2)
-          (no_memory_behind bounds (given ++ before) now.header now.lines c.loop-found.cutter _ _ _ _ _ now.cut now.good c.loop-found.invariant.sound
-          c.loop-found.invariant.end),
+          (no_memory_behind bounds (given ++ before) now.header now.lines c.loop-found.cutter _ _ _ _ _ now.cut now.good c.loop-found.invariant.source.sound
+          c.loop-found.invariant.source.end),
     )
 
 pub loop-found-preserved : goal.loop-found-preserved
@@ -61,8 +60,7 @@ loop-found-preserved g c =
           let f = ap (λ (h : Held). vec_len h.triples) same.1 in
           omega arith;
       few = c.in_ok-read_transition.ensures.few;
-      sound = c.in_ok-read_transition.ensures.sound;
-      end = c.in_ok-read_transition.ensures.end;
+      source = c.in_ok-read_transition.ensures.source;
     }
 
 pub loop-found-preserved-then-branch : goal.loop-found-preserved-then-branch
@@ -74,6 +72,8 @@ loop-found-preserved-then-branch g c =
       got = (before ++ [], Consumes-trans _ _ _ before [] taken (Consumes-nil _), next);
       len = let e = c.in_ok-take_usual.ensures.len yes in let i = c.loop-found.invariant.len in omega arith;
       few = c.in_ok-take_usual.ensures.few;
-      sound = c.loop-found.invariant.sound;
-      end = λ over. absurd (goes_on (c.in_ok-take_usual.ensures.open yes) over);
+      source = record {
+        sound = c.loop-found.invariant.source.sound;
+        end = λ over. absurd (goes_on (c.in_ok-take_usual.ensures.open yes) over);
+      };
     }

@@ -1,7 +1,8 @@
-use Rattle.std.proofs.Common.{◌≡◌, ℕ, ◌≤◌, true, List, [], ◌++◌, length, vec_len}
-use Rattle.std.specs.Io.KnownBytes.{Consumes, IsAtEnd}
+use Rattle.std.proofs.Common.{◌≡◌, ℕ, ◌≤◌, List, [], ◌++◌, length, vec_len}
+use Rattle.std.specs.Io.KnownBytes.{Consumes}
 use Rattle.theory.specs.System.{Transition}
 use Rattle.autfmt.specs.Bounds.{Bounds}
+use Rattle.autfmt.specs.Cutter.{Feeds}
 use Rattle.autfmt.specs.ReadSoFar.{HeldSoFar}
 use Rattle.autfmt.proofs.reader.read_transitions.Given as goal
 
@@ -14,6 +15,5 @@ invariant-loop-found g l = record {
       (es : List Transition) × HeldSoFar bounds l.h (given ++ bs) l.cutter l.promise l.held es);
   len : vec_len l.held.triples ≡ l._found;
   few : length l.held.labels ≤ vec_len l.held.triples;
-  sound : g.R.Source.failures l.r ≡ 0;
-  end : l.cutter.over ≡ true → IsAtEnd (g.R.Source.rest l.r);
+  source : Feeds (g.R.Source.rest l.r) (g.R.Source.failures l.r) l.cutter;
 }
