@@ -241,18 +241,18 @@ goes_on open_at over = cc
 -- the same bytes by another spelling
 pub HeldSoFar-same :
     (bounds : Bounds) (H : List (List ℕ)) (given given' : List ℕ) (at : Cutting) (p : Promise) (held : Held) (es : List Transition) →
-    given ≡ given' → HeldSoFar bounds H given at p held es → HeldSoFar bounds H given' at p held es
+    given ≡ given' → HeldSoFar bounds H given p (at, held) es → HeldSoFar bounds H given' p (at, held) es
 HeldSoFar-same bounds H given given' at p held es e standing =
     (subst (λ (t : List ℕ). ReadSoFar bounds t at p es) e standing.0, standing.1)
 
 -- one transition more was read, behind those of the bytes before
 pub HeldSoFar-push :
     (H : List (List ℕ)) (p : Promise) (old at now : Cutting) (held_old held_at held : Held) (before line : List ℕ) →
-    ((bounds : Bounds) (given : List ℕ) → HeldSoFar bounds H given old p held_old [] →
-    (es : List Transition) × HeldSoFar bounds H (given ++ before) at p held_at es) →
-    ReadsOneMore H p line at now held_at held →
-    (bounds : Bounds) (given : List ℕ) → HeldSoFar bounds H given old p held_old [] →
-    (es : List Transition) × HeldSoFar bounds H (given ++ (before ++ line)) now p held es
+    ((bounds : Bounds) (given : List ℕ) → HeldSoFar bounds H given p (old, held_old) [] →
+    (es : List Transition) × HeldSoFar bounds H (given ++ before) p (at, held_at) es) →
+    ReadsOneMore H p line (at, held_at) (now, held) →
+    (bounds : Bounds) (given : List ℕ) → HeldSoFar bounds H given p (old, held_old) [] →
+    (es : List Transition) × HeldSoFar bounds H (given ++ (before ++ line)) p (now, held) es
 HeldSoFar-push H p old at now held_old held_at held before line so_far step bounds given standing =
     let (es, then) = so_far bounds given standing in
     let (e, next) = step bounds (given ++ before) es then in

@@ -17,15 +17,19 @@ pub record ReadSoFar (bounds : Bounds) (given : List ℕ) (at : Cutting) (p : Pr
   pub good : GoodHeader bounds header p.first p.transitions p.states
   pub spelled : AllZip (SpellsAmong p.states) lines es
 
+-- where a reader is: in its cutter, and with what it holds
+abbrev pub Place : Type 0
+Place = Cutting × Held
+
 -- so far the transitions were read from the bytes given, and are held with the labels of H hidden
-abbrev pub HeldSoFar : Bounds → List (List ℕ) → List ℕ → Cutting → Promise → Held → List Transition → Type 0
-HeldSoFar bounds H given at p held es = ReadSoFar bounds given at p es × Holds H p.states held es
+abbrev pub HeldSoFar : Bounds → List (List ℕ) → List ℕ → Promise → Place → List Transition → Type 0
+HeldSoFar bounds H given p at es = ReadSoFar bounds given at.0 p es × Holds H p.states at.1 es
 
 -- one transition more was read behind any that were read before, from the bytes got, and is held
-abbrev pub ReadsOneMore : List (List ℕ) → Promise → List ℕ → Cutting → Cutting → Held → Held → Type 0
-ReadsOneMore H p got old now held_old held =
-    (bounds : Bounds) (given : List ℕ) (es : List Transition) → HeldSoFar bounds H given old p held_old es →
-    (e : Transition) × HeldSoFar bounds H (given ++ got) now p held (es ++ e ∷ [])
+abbrev pub ReadsOneMore : List (List ℕ) → Promise → List ℕ → (old now : Place) → Type 0
+ReadsOneMore H p got old now =
+    (bounds : Bounds) (given : List ℕ) (es : List Transition) → HeldSoFar bounds H given p old es →
+    (e : Transition) × HeldSoFar bounds H (given ++ got) p now (es ++ e ∷ [])
 
 -- the text reads as a system, which is held with the labels of H hidden
 abbrev pub HoldsText : Bounds → List (List ℕ) → List ℕ → Promise → Held → Type 0

@@ -152,9 +152,9 @@ fn read_transitions<R: Source>(
     requires source { Feeds (R.rest r.old) (R.failures r.old) cutter.old }
     ensures transitions { (got : List ℕ) × Consumes (R.rest r.old) (R.rest r.new) got ×
         ((bounds : Bounds) (given : List ℕ) →
-        HeldSoFar bounds h.now given cutter.old promise held.old [] →
+        HeldSoFar bounds h.now given promise (cutter.old, held.old) [] →
         MatchResult result
-        (λ _. (es : List Transition) × HeldSoFar bounds h.now (given ++ got) cutter.new promise held.new es)
+        (λ _. (es : List Transition) × HeldSoFar bounds h.now (given ++ got) promise (cutter.new, held.new) es)
         (Refuses bounds (given ++ got) (R.rest r.new) (R.failures r.new))) }
     ensures source { OnOk result (Feeds (R.rest r.new) (R.failures r.new) cutter.new) }
     ensures len { OnOk result (vec_len held.new.triples ≡ promise.transitions) }
@@ -183,7 +183,8 @@ fn take_usual(
     requires file { promise.transitions ≤ FILE_TRANSITIONS }
     requires promised { vec_len held.old.triples < promise.transitions }
     requires few { length held.old.labels ≤ vec_len held.old.triples }
-    ensures taken { IfOk result (λ taken. IsTrue taken → ReadsOneMore h.now promise [] cutter.old cutter.new held.old held.new) }
+    ensures taken { IfOk result (λ taken. IsTrue taken →
+        ReadsOneMore h.now promise [] (cutter.old, held.old) (cutter.new, held.new)) }
     ensures none { IfOk result (λ taken. ¬ IsTrue taken → (cutter.new ≡ cutter.old) × (held.new ≡ held.old)) }
     ensures open { IfOk result (λ taken. IsTrue taken → cutter.new.over ≡ false) }
     ensures len { IfOk result (λ taken. IsTrue taken → vec_len held.new.triples ≡ vec_len held.old.triples + 1) }
@@ -224,9 +225,9 @@ fn read_transition<R: Source>(
     requires source { Feeds (R.rest r.old) (R.failures r.old) cutter.old }
     ensures transition { (got : List ℕ) × Consumes (R.rest r.old) (R.rest r.new) got ×
         ((bounds : Bounds) (given : List ℕ) (es : List Transition) →
-        HeldSoFar bounds h.now given cutter.old promise held.old es →
+        HeldSoFar bounds h.now given promise (cutter.old, held.old) es →
         MatchResult result
-        (λ _. (e : Transition) × HeldSoFar bounds h.now (given ++ got) cutter.new promise held.new (es ++ e ∷ []))
+        (λ _. (e : Transition) × HeldSoFar bounds h.now (given ++ got) promise (cutter.new, held.new) (es ++ e ∷ []))
         (Refuses bounds (given ++ got) (R.rest r.new) (R.failures r.new))) }
     ensures source { OnOk result (Feeds (R.rest r.new) (R.failures r.new) cutter.new) }
     ensures len { OnOk result (vec_len held.new.triples ≡ vec_len held.old.triples + 1) }

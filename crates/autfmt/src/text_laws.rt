@@ -42,8 +42,8 @@ pub fn a_text_reads_or_has_a_fault()
     ensures header { (bounds : Bounds) (text : List ℕ) (A : System) → Reads bounds text A → HasGoodHeader bounds text }
 {}
 
-/// The fault that is known from the first bytes of a text is its first fault, whatever follows them. Known is that of a line
-/// that has ended, and of one that has not, that it is too long, or one too many.
+/// The fault that is known from the first bytes of a text is its first fault, whatever follows them. That of a line that
+/// has ended is known; of one that has not it is known that it is too long, or one line too many.
 pub fn a_judged_fault_is_the_first()
     ensures first { (bounds : Bounds) (given more : List ℕ) (f : Fault) →
         JudgedFault bounds given f → FirstFault bounds (given ++ more) f }
@@ -72,13 +72,14 @@ pub fn a_hide_list_reads_or_has_a_fault()
         ((f : Fault) → ¬ FirstHideFault text f) ↔ ((H : List (List ℕ)) × HideReads text H) }
 {}
 
-/// The fault that is known from the first bytes of a hide list is its first fault, whatever follows them. Known is what is of
-/// a text.
+/// The fault that is known from the first bytes of a hide list is its first fault, whatever follows them. As much is known
+/// as of a text.
 pub fn a_judged_hide_fault_is_the_first()
     ensures first { (given more : List ℕ) (f : Fault) → JudgedHideFault given f → FirstHideFault (given ++ more) f }
     ensures ended { (given : List ℕ) (ended : List (List ℕ)) (f : Fault) →
         Cuts given ended [] → FirstHideFault given f → JudgedHideFault given f }
-    ensures long { (given : List ℕ) (k : ℕ) → FirstHideFault given (LineTooLong k) → JudgedHideFault given (LineTooLong k) }
+    ensures long { (given : List ℕ) (k : ℕ) →
+        FirstHideFault given (LineTooLong k) → JudgedHideFault given (LineTooLong k) }
     ensures extra { (given : List ℕ) → FirstHideFault given TooManyHidden → JudgedHideFault given TooManyHidden }
 {}
 

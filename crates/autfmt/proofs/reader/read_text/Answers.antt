@@ -30,7 +30,7 @@ module _ (g : Over) (c : After-is_at_end g) where
   abbrev front : List ℕ
   front = c.in_ok-promise.ensures.header.given ++ c.in_ok-read_transitions.ensures.transitions.0
 
-  transitions : (es : List Transition) × HeldSoFar c.args.lim.now c.args.h.now front c.read_transitions.new.cutter p c.read_transitions.new.held es
+  transitions : (es : List Transition) × HeldSoFar c.args.lim.now c.args.h.now front p (c.read_transitions.new.cutter, c.read_transitions.new.held) es
   transitions =
       let first = c.in_ok-promise.ensures.header in
       let held = Holds-new c.args.h.now p.states c.new-held.result c.new-held.ensures.labels c.new-held.ensures.triples in

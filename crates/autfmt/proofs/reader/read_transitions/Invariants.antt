@@ -11,8 +11,8 @@ invariant-loop-found g l = record {
   got :
       (bs : List ℕ) × Consumes (g.R.Source.rest l.initial.r) (g.R.Source.rest l.r) bs ×
       ((bounds : Bounds) (given : List ℕ) →
-      HeldSoFar bounds l.h given l.initial.cutter l.promise l.initial.held [] →
-      (es : List Transition) × HeldSoFar bounds l.h (given ++ bs) l.cutter l.promise l.held es);
+      HeldSoFar bounds l.h given l.promise (l.initial.cutter, l.initial.held) [] →
+      (es : List Transition) × HeldSoFar bounds l.h (given ++ bs) l.promise (l.cutter, l.held) es);
   len : vec_len l.held.triples ≡ l._found;
   few : length l.held.labels ≤ vec_len l.held.triples;
   source : Feeds (g.R.Source.rest l.r) (g.R.Source.failures l.r) l.cutter;
