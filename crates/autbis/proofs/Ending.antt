@@ -104,7 +104,7 @@ module _ {Out : Type 0} (asked : Request) (law : NotBoth asked.bounds) (output :
   module _ {A B : Type 0} {first : List ℕ} {source : Used A} {other : Used B} {at : Counts} (took : Consumes source.before source.after first) where
     -- a comparison that came to a verdict
     pub ends_verdict : {same : Bool} {status : ℕ} {Lost : Type 0} → status ≡ (if same then 0 else 1) →
-        ComparesTo asked first source other output at same →
+        ComparesTo asked first (source, other) output at same →
         EndsRun asked (two source.before other.before) ((source.failures ≡ 0) × (other.failures ≡ 0)) Lost output status
     ends_verdict {same} is did =
         let got = did.got in
@@ -115,7 +115,7 @@ module _ {Out : Type 0} (asked : Request) (law : NotBoth asked.bounds) (output :
 
     -- one that failed
     pub ends_cmp : {fault : CmpFault} (Unread : Type 0) → (fault.side ≡ First → Unread) → (output.failures ≡ 0 → output.new ≡ output.old) →
-        CmpFails asked first source other output at fault →
+        CmpFails asked first (source, other) output at fault →
         EndsRun asked (two source.before other.before) ((source.failures ≡ 0) × (other.failures ≡ 0))
         (((source.failures ≡ 1) × Unread) ⊎ ((source.failures ≡ 0) × (other.failures ≡ 1))) output (status_of fault.fault)
     ends_cmp {fault} Unread unread kept (first_not_read side refused untouched sound fresh) =
@@ -133,7 +133,7 @@ module _ {Out : Type 0} (asked : Request) (law : NotBoth asked.bounds) (output :
         (of_all other.before other.after got.second _ got.took got.exhausted.1.0 (compared asked got.both verdict refl))) begun
 
     -- its fault is of the first text, or that one reads as a system
-    pub first_or_readable : {fault : CmpFault} → CmpFails asked first source other output at fault →
+    pub first_or_readable : {fault : CmpFault} → CmpFails asked first (source, other) output at fault →
         (fault.side ≡ First) ⊎ IfSome source.before (IsReadable asked.bounds)
     first_or_readable (first_not_read side refused untouched sound fresh) = inl side
     first_or_readable (second_not_read side whole is second took' refused sound fresh) = inr (all_taken source.before source.after first (IsReadable asked.bounds) took whole.0 is)

@@ -82,8 +82,8 @@ pub fn run_cmp<M: Meter, R1: Source, R2: Source, W: Sink>(
         let one = used R1.rest R1.failures a.old a.new in
         let other = used R2.rest R2.failures b.old b.new in
         let sink = used W.written W.failures w.old w.new in
-        Takes one.before one.after (λ first. ComparesTo asked first one other sink at)
-        (λ first. CmpFails asked first one other sink at) result }
+        Takes one.before one.after (λ first. ComparesTo asked first (one, other) sink at)
+        (λ first. CmpFails asked first (one, other) sink at) result }
 
     // What is left.
     ensures unread { IfErr result (λ f. f.side ≡ First → b.new ≡ b.old) }

@@ -69,8 +69,10 @@ module _ (g : Over) (c : After-compared g) where
       c.in_ok-first.ensures.outcome.outcome.as_many c.in_ok-second.ensures.outcome.outcome.as_many law
 
   -- both were read to their ends, and the meter keeps to what that may take
-  abbrev got : GotBoth c.args.lim.now first (used g.R1.Source.rest g.R1.Source.failures c.args.a.now c.read_side.new.r)
-      (used g.R2.Source.rest g.R2.Source.failures c.args.b.now c.read_side-2.new.r) (g.M.Meter.counted c.compared.new.m)
+  abbrev got : GotBoth c.args.lim.now first (
+    used g.R1.Source.rest g.R1.Source.failures c.args.a.now c.read_side.new.r,
+    used g.R2.Source.rest g.R2.Source.failures c.args.b.now c.read_side-2.new.r,
+  ) (g.M.Meter.counted c.compared.new.m)
   got =
       let one = c.in_ok-first.ensures.outcome in
       let other = c.in_ok-second.ensures.outcome in
