@@ -1,3 +1,5 @@
+-- both relations
+pub mod Visible
 -- lists
 pub mod Lists
 pub mod Repeats

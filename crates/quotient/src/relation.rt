@@ -3,7 +3,7 @@
 ghost use Rattle.std.specs.Prelude.{◌≡◌, ◌*◌, length, IfOk, OnOk, OnErr};
 ghost use Rattle.lts.specs.Meter.{HasRoomFor, CostsUpTo};
 ghost use Rattle.quotient.specs.Visits.{TakesTurns};
-ghost use Rattle.quotient.specs.Reading.{AreClasses, sources_of, IsDroppedLabel};
+ghost use Rattle.quotient.specs.Reading.{AreClasses, AreRoundsOf, sources_of, IsDroppedLabel};
 
 use lts::{Labels, Lts, Memory, Meter};
 use refine::{Branching, Partition, Strong, refine};
@@ -27,9 +27,21 @@ pub(crate) fn blocks<M: Meter>(
     // On failure: no more rounds than states, and no more visits than these cost.
     ensures err { OnErr result (CostsUpTo (M.counted m.old) (M.counted m.new) l.now.states (length l.now.places)) }
 {
-    match r {
+    lts::rows_are_steps();
+    l.known();
+    match rounds_by(r, l.labels()) {
         Relation::Strong => refine::<Strong, M>(alloc, l, m),
         Relation::Branching => refine::<Branching, M>(alloc, l, m),
+    }
+}
+
+/// The relation by which refinement goes: where no label is the internal one both are the same, and strong signatures take less.
+fn rounds_by(r: Relation, labels: &Labels) -> Relation
+    ensures { AreRoundsOf r labels.now result }
+{
+    match labels.internal() {
+        Some(_) => r,
+        None => Relation::Strong,
     }
 }
 
