@@ -237,7 +237,7 @@ def main():
             os.replace(beside, PAGE)
         else:
             print(page(), end="", flush=True)
-    except OSError as error:
+    except (OSError, KeyboardInterrupt) as error:
         if beside.exists():
             beside.unlink()
         print(f"tools/reading.py: {error}", file=sys.stderr, flush=True)
