@@ -38,7 +38,8 @@ fn run(every: bool, branching: bool, file: &str) -> Result<(), String> {
 fn main() {
     let words: Vec<String> = std::env::args().skip(1).collect();
     let mut words: Vec<&str> = words.iter().map(String::as_str).collect();
-    let every = words.get(1) == Some(&"--every") && words.remove(1) == "--every";
+    let every = words.contains(&"--every");
+    words.retain(|word| *word != "--every");
     let (branching, file) = match words[..] {
         ["min", "--relation", relation @ ("strong" | "branching"), file] => (relation == "branching", file),
         ["min", file] if !file.starts_with('-') => (false, file),
