@@ -35,8 +35,7 @@ impl Blocks {
         }
         range.touched -= 1;
         let last = range.touched;
-        let other = self.members[last as usize];
-        self.put(other, place);
+        self.put(self.members[last as usize], place);
         self.put(state, last);
     }
 

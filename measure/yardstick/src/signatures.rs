@@ -11,14 +11,6 @@ fn pair(label: u32, target: u32) -> u64 {
     (label as u64) << 32 | target as u64
 }
 
-/// Puts a list in rising order, each item once.
-fn order<T: Ord>(list: &mut Vec<T>) {
-    if list.len() > 1 {
-        list.sort_unstable();
-        list.dedup();
-    }
-}
-
 /// Lists of pairs in rising order, one after the other, found again by their hashes.
 pub struct Signatures {
     pairs: Vec<u64>,
@@ -77,12 +69,14 @@ impl Signatures {
                 self.own.push(pair(step.label, target));
             }
         }
-        order(&mut self.inert);
+        self.inert.sort_unstable();
+        self.inert.dedup();
         // Only the last one to be made can show the others.
         let last = self.inert.pop();
         let named = |number: u32| pair(internal.unwrap_or(NONE), IS_SIGNATURE | number);
         self.own.extend(self.inert.iter().map(|&number| named(number)));
-        order(&mut self.own);
+        self.own.sort_unstable();
+        self.own.dedup();
         if self.apart {
             self.own.push(pair(NONE, block));
         }
