@@ -38,16 +38,6 @@ def example(name):
     return path(name).read_text(encoding="ascii")
 
 
-def with_module():
-    """The environment of another Python that finds the module."""
-    return {**os.environ, "PYTHONPATH": str(pathlib.Path(autbis.__file__).resolve().parents[1])}
-
-
-def raise_fault(text):
-    """Stands outside of all classes, as another process has to find it."""
-    minimise(text)
-
-
 minimise, with_counts, equivalent = (
     functools.partial(call, program=PROGRAM) for call in (autbis.minimise, autbis.minimise_with_counts, autbis.equivalent)
 )
@@ -220,12 +210,13 @@ class OtherThanFiles(InFolder):
         self.assert_answers(path_of)
 
     def test_standard_input_by_its_path(self):
+        found = {**os.environ, "PYTHONPATH": str(pathlib.Path(autbis.__file__).resolve().parents[1])}
         for given, systems, hide in ("tau\n", (SILENT, ONE_STEP), "hide=STDIN"), (ONE_STEP, (ONE_STEP,), "b=STDIN"):
             script = f"import autbis, pathlib; STDIN = pathlib.Path('/dev/stdin'); call = {{'relation': 'branching', 'program': {PROGRAM!r}}}"
             words = [sys.executable, "-c", f"{script}; print(autbis.equivalent(*{systems!r}, {hide}, **call))"]
             with open(self.written(given), encoding="ascii") as file:
                 for stdin in {"input": given}, {"stdin": file}:
-                    ran = subprocess.run(words, stdout=subprocess.PIPE, universal_newlines=True, env=with_module(), **stdin)
+                    ran = subprocess.run(words, stdout=subprocess.PIPE, universal_newlines=True, env=found, **stdin)
                     self.assertEqual(ran.stdout, "True\n", (hide, stdin))
 
     def test_a_folder_and_a_socket(self):
@@ -404,11 +395,11 @@ class Copies(unittest.TestCase):
     def test_a_fault_in_another_process(self):
         with ProcessPoolExecutor(1) as pool:
             with self.assertRaises(autbis.TextFault) as caught:
-                pool.submit(raise_fault, "des (0, 1, 2)\n(0, a, 2)\n").result()
+                pool.submit(minimise, "des (0, 1, 2)\n(0, a, 2)\n").result()
             fault = caught.exception
             self.assertEqual((fault.name, fault.line, fault.fault), ("text", 2, "target out of range"))
             with self.assertRaises(autbis.DeviceFault):
-                pool.submit(raise_fault, pathlib.Path("no-such.aut")).result()
+                pool.submit(minimise, pathlib.Path("no-such.aut")).result()
 
 
 if __name__ == "__main__":
