@@ -40,31 +40,25 @@ RELATIONS = {"strong": "#2166ac", "branching": "#d6604d"}
 GREY = "#555"
 SIDE = 300  # of a plot
 FAR = 3  # times more or less than the line says, for a name
-SYSTEMS = {  # by kind, the largest last; {} in the name of a kind is the last number
-    "philosophers {}": [f"philosophers {k}" for k in (6, 7, 8)],
-    "leader election {}": [f"leader-election {k}" for k in (11, 13)],
-    "token ring {}": [f"token-ring {k}" for k in (10, 13, 15)],
-    "lossy channels {}": [f"lossy-channels {k}" for k in (3, 6, 9)],
-    "buffers {}": [f"buffers {k}" for k in (9, 11, 12)],
-    "counters {}": [f"counters {k}" for k in (6, 7, 8)],
-    "random, sparse": [f"random-system {n} {n} 20 20" for n in (100_000, 1_000_000)],
-    "random, 5 % internal": ["random-system 1000000 10000000 20 5"],
-    "random, 20 % internal": ["random-system 1000000 10000000 20 20"],
-    "random, 30 % internal": [f"random-system {n} {4 * n} 5 30" for n in (25_000, 250_000)],
-    "internal cycle": [f"internal-cycle {n}" for n in (5_000, 10_000)],
-    "chain": [f"chain {n}" for n in (2_000, 5_000, 10_000)],
-}
-KINDS = {  # what they are, where the name does not say it
-    "philosophers {}": "k dining philosophers; taking and putting forks is internal",
-    "leader election {}": "k stations in a ring (Chang and Roberts 1979); messages are internal",
-    "token ring {}": "of k stations the one with the token may enter; passing it on is internal",
-    "lossy channels {}": "two alternating-bit protocols in series, for k values; all but the ends is internal",
-    "buffers {}": "a row of k one-place buffers for two values; passing one on is internal",
-    "counters {}": "k independent counters modulo 5; nothing is internal",
-    "random, sparse": "one transition a state, 20 % internal: each from a random earlier state",
-    "internal cycle": "a cycle of n internal steps, and from each state a visible step to the end",
-    "chain": "a line of n states with one label",
-}
+KINDS = (  # the name, {} being the last number; the family; the numbers, the largest last; what the name does not say
+    ("philosophers {}", "philosophers", (6, 7, 8), "k dining philosophers; taking and putting forks is internal"),
+    ("leader election {}", "leader-election", (11, 13),
+        "k stations in a ring (Chang and Roberts 1979); messages are internal"),
+    ("token ring {}", "token-ring", (10, 13, 15), "of k stations the one with the token may enter; passing it on is internal"),
+    ("lossy channels {}", "lossy-channels", (3, 6, 9),
+        "two alternating-bit protocols in series, for k values; all but the ends is internal"),
+    ("buffers {}", "buffers", (9, 11, 12), "a row of k one-place buffers for two values; passing one on is internal"),
+    ("counters {}", "counters", (6, 7, 8), "k independent counters modulo 5; nothing is internal"),
+    ("random, sparse", "random-system", ("100000 100000 20 20", "1000000 1000000 20 20"),
+        "one transition a state, 20 % internal: each from a random earlier state"),
+    ("random, 5 % internal", "random-system", ("1000000 10000000 20 5",), ""),
+    ("random, 20 % internal", "random-system", ("1000000 10000000 20 20",), ""),
+    ("random, 30 % internal", "random-system", ("25000 100000 5 30", "250000 1000000 5 30"), ""),
+    ("internal cycle", "internal-cycle", (5_000, 10_000),
+        "a cycle of n internal steps, and from each state a visible step to the end"),
+    ("chain", "chain", (2_000, 5_000, 10_000), "a line of n states with one label"),
+)  # fmt: skip
+SYSTEMS = {kind: [f"{family} {numbers}" for numbers in sizes] for kind, family, sizes, _ in KINDS}
 IN_README = "leader election {}", "token ring {}", "lossy channels {}", "buffers {}", "random, 5 % internal"
 SAME_RULE = "signs every state in every round", "signs only what can have changed"
 SIZES = 8_000, 16_000, 32_000
@@ -241,10 +235,10 @@ def table(rows):
     found = ("Strong: rounds", "Seconds", "MB", "Branching: rounds", "Seconds", "MB")
     yield line_of("System", "What it is", "States", "Transitions", *found)
     yield "|---|---|--:|--:|--:|--:|--:|--:|--:|--:|"
-    for kind in SYSTEMS:
+    for kind, _, _, about in KINDS:
         strong, branching = largest(rows, kind)
         sizes = (f"{size:,}" for size in (strong.states, strong.transitions))
-        yield line_of(named(kind), KINDS.get(kind, ""), *sizes, *cells(strong), *cells(branching))
+        yield line_of(named(kind), about, *sizes, *cells(strong), *cells(branching))
 
 
 def ratios(rows):
