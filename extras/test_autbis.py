@@ -27,6 +27,7 @@ EARLY = "des (0, 4, 5)\n(0, a, 1)\n(0, a, 2)\n(1, b, 3)\n(2, c, 4)\n"
 LATE = "des (0, 3, 4)\n(0, a, 1)\n(1, b, 2)\n(1, c, 3)\n"
 SILENT = "des (0, 2, 3)\n(0, tau, 1)\n(1, a, 2)\n"
 ONE_STEP = "des (0, 1, 2)\n(0, a, 1)\n"
+MUTUAL = TOP / "examples" / "mutual-exclusion.aut"
 
 
 def path(name):
@@ -37,29 +38,12 @@ def example(name):
     return path(name).read_text(encoding="ascii")
 
 
-def with_module():
-    """The environment of another Python that finds the module."""
-    return {**os.environ, "PYTHONPATH": str(pathlib.Path(autbis.__file__).resolve().parents[1])}
-
-
-def raise_fault(text):
-    """Stands outside of all classes, as another process has to find it."""
-    minimise(text)
-
-
 minimise, with_counts, equivalent = (
     functools.partial(call, program=PROGRAM) for call in (autbis.minimise, autbis.minimise_with_counts, autbis.equivalent)
 )
 
 
-class Test(unittest.TestCase):
-    def assert_refused(self, fault, said, call, *args, **options):
-        """The call raises this fault, which says so."""
-        with self.assertRaisesRegex(fault, said):
-            call(*args, **options)
-
-
-class InFolder(Test):
+class InFolder(unittest.TestCase):
     """Has a folder of its own."""
 
     def setUp(self):
@@ -73,7 +57,6 @@ class InFolder(Test):
         return self.folder / str(next(self.numbers))
 
     def written(self, text):
-        """A regular file that has this text."""
         file = self.new()
         file.write_text(text, encoding="ascii")
         return file
@@ -86,17 +69,16 @@ class InFolder(Test):
         return reader
 
 
-class Answers(Test):
+class Answers(unittest.TestCase):
     def test_version(self):
         self.assertEqual(f"autbis {autbis.__version__}\n", (TOP / "manual" / "version.txt").read_text(encoding="ascii"))
 
     def test_minimise(self):
         for relation in ("strong", "branching"):
-            wanted = example(f"mutual-exclusion.{relation}.aut")
-            self.assertEqual(minimise(example("mutual-exclusion.aut"), relation), wanted)
+            self.assertEqual(minimise(MUTUAL.read_text(), relation), example(f"mutual-exclusion.{relation}.aut"))
 
     def test_minimise_is_strong_by_default(self):
-        self.assertEqual(minimise(example("mutual-exclusion.aut")), example("mutual-exclusion.strong.aut"))
+        self.assertEqual(minimise(MUTUAL.read_text()), example("mutual-exclusion.strong.aut"))
 
     def test_minimise_a_system_without_transitions(self):
         self.assertEqual(minimise("des (0, 0, 1)\n"), "des (0, 0, 1)\n")
@@ -128,9 +110,8 @@ class Inputs(InFolder):
     """What a system, a hide list and a program may be."""
 
     def test_a_path(self):
-        wanted = example("mutual-exclusion.branching.aut")
-        self.assertEqual(minimise(path("mutual-exclusion.aut"), "branching"), wanted)
-        self.assertTrue(equivalent(path("mutual-exclusion.aut"), path("mutual-exclusion.branching.aut"), "branching"))
+        self.assertEqual(minimise(MUTUAL, "branching"), example("mutual-exclusion.branching.aut"))
+        self.assertTrue(equivalent(MUTUAL, path("mutual-exclusion.branching.aut"), "branching"))
         self.assertFalse(equivalent(path("coffee-machine.aut"), example("coffee-chosen-by-coin.aut")))
 
     def test_a_path_that_is_relative_begins_with_a_minus_sign_and_has_a_blank(self):
@@ -140,24 +121,22 @@ class Inputs(InFolder):
         self.assertTrue(equivalent(pathlib.Path("-a b.aut"), LATE))
 
     def test_an_open_file(self):
-        wanted = example("mutual-exclusion.branching.aut")
-        with open(path("mutual-exclusion.aut"), encoding="ascii") as text, open(path("mutual-exclusion.aut"), "rb") as binary:
-            self.assertEqual(minimise(text, "branching"), wanted)
-            self.assertEqual(minimise(binary, "branching"), wanted)
+        for mode in ("r", "rb"):
+            with open(MUTUAL, mode) as file:
+                self.assertEqual(minimise(file, "branching"), example("mutual-exclusion.branching.aut"))
         self.assertTrue(equivalent(io.StringIO(LATE), io.BytesIO(LATE.encode("ascii"))))
 
     def test_bytes(self):
-        text = ONE_STEP.encode("ascii")
-        for given in (text, bytearray(text), memoryview(text)):
-            self.assertEqual(minimise(given), ONE_STEP)
+        for kind in (bytes, bytearray, memoryview):
+            self.assertEqual(minimise(kind(ONE_STEP.encode("ascii"))), ONE_STEP)
 
     def test_the_name_of_a_file_as_a_str(self):
         for name in (str(path("coffee-machine.aut")), "no-such.aut"):
-            self.assert_refused(ValueError, "pass pathlib.Path", minimise, name)
+            self.assertRaisesRegex(ValueError, "pass pathlib.Path", minimise, name)
 
     def test_what_is_no_system(self):
         for given in (None, 3, ["des (0, 0, 1)\n"], object()):
-            self.assert_refused(TypeError, "a system is a str, bytes, an os.PathLike or an open file", minimise, given)
+            self.assertRaisesRegex(TypeError, "a system is a str, bytes, an os.PathLike or an open file", minimise, given)
 
     def test_hide_lists(self):
         wanted = example("alternating-bit.hidden.branching.aut")
@@ -169,8 +148,8 @@ class Inputs(InFolder):
 
     def test_what_is_no_hide_list(self):
         for given in ("abc", b"a", None, 3, [None], [3]):
-            self.assert_refused(TypeError, "", minimise, LATE, hide=given)
-        self.assert_refused(ValueError, "a label has no line feed", minimise, LATE, hide=[b"a\nb"])
+            self.assertRaisesRegex(TypeError, "", minimise, LATE, hide=given)
+        self.assertRaisesRegex(ValueError, "a label has no line feed", minimise, LATE, hide=[b"a\nb"])
 
     def test_a_path_whose_name_is_no_word(self):
         for name in (b"a\nb.aut", b"gr\xfcn.aut"):
@@ -191,7 +170,7 @@ class OtherThanFiles(InFolder):
         self.assertFalse(equivalent(SILENT, ONE_STEP, "branching", hide=path_of("a\n")))
         self.assertEqual(minimise(path_of(ONE_STEP)), ONE_STEP)
         self.assertTrue(equivalent(path_of(SILENT), path_of(ONE_STEP), "branching", hide=path_of("tau\n")))
-        self.assert_refused(autbis.TextFault, "line 2: not a label", minimise, ONE_STEP, hide=path_of("a\n\n"))
+        self.assertRaisesRegex(autbis.TextFault, "line 2: not a label", minimise, ONE_STEP, hide=path_of("a\n\n"))
 
     def test_a_named_pipe(self):
         def path_of(text):
@@ -213,15 +192,14 @@ class OtherThanFiles(InFolder):
             self.assert_answers(lambda text: self.path_of_descriptor(self.piped(text), folder))
 
     def test_a_descriptor_of_a_regular_file_and_of_one_that_was_removed(self):
-        for then in (lambda file: None, pathlib.Path.unlink):
+        def path_of(text, then=pathlib.Path.exists):
+            file = self.written(text)
+            path = self.path_of_descriptor(os.open(file, os.O_RDONLY))
+            then(file)
+            return path
 
-            def path_of(text):
-                file = self.written(text)
-                path = self.path_of_descriptor(os.open(file, os.O_RDONLY))
-                then(file)
-                return path
-
-            self.assert_answers(path_of)
+        self.assert_answers(path_of)
+        self.assert_answers(functools.partial(path_of, then=pathlib.Path.unlink))
 
     def test_a_link_to_a_descriptor(self):
         def path_of(text):
@@ -232,12 +210,13 @@ class OtherThanFiles(InFolder):
         self.assert_answers(path_of)
 
     def test_standard_input_by_its_path(self):
+        found = {**os.environ, "PYTHONPATH": str(pathlib.Path(autbis.__file__).resolve().parents[1])}
         for given, systems, hide in ("tau\n", (SILENT, ONE_STEP), "hide=STDIN"), (ONE_STEP, (ONE_STEP,), "b=STDIN"):
             script = f"import autbis, pathlib; STDIN = pathlib.Path('/dev/stdin'); call = {{'relation': 'branching', 'program': {PROGRAM!r}}}"
             words = [sys.executable, "-c", f"{script}; print(autbis.equivalent(*{systems!r}, {hide}, **call))"]
             with open(self.written(given), encoding="ascii") as file:
                 for stdin in {"input": given}, {"stdin": file}:
-                    ran = subprocess.run(words, stdout=subprocess.PIPE, universal_newlines=True, env=with_module(), **stdin)
+                    ran = subprocess.run(words, stdout=subprocess.PIPE, universal_newlines=True, env=found, **stdin)
                     self.assertEqual(ran.stdout, "True\n", (hide, stdin))
 
     def test_a_folder_and_a_socket(self):
@@ -245,8 +224,8 @@ class OtherThanFiles(InFolder):
         self.addCleanup(end.close)
         end.bind(str(self.folder / "socket"))
         for given in (self.folder, self.folder / "socket"):
-            self.assert_refused(autbis.DeviceFault, "", minimise, given)
-            self.assert_refused(autbis.DeviceFault, "", minimise, LATE, hide=given)
+            self.assertRaisesRegex(autbis.DeviceFault, "", minimise, given)
+            self.assertRaisesRegex(autbis.DeviceFault, "", minimise, LATE, hide=given)
 
 
 class UsedBefore(InFolder):
@@ -255,7 +234,7 @@ class UsedBefore(InFolder):
     def assert_is_refused_again(self, hide, why):
         self.assertTrue(equivalent(SILENT, ONE_STEP, "branching", hide=hide))
         for _ in range(2):
-            self.assert_refused(ValueError, why, equivalent, SILENT, ONE_STEP, "branching", hide=hide)
+            self.assertRaisesRegex(ValueError, why, equivalent, SILENT, ONE_STEP, "branching", hide=hide)
 
     def test_an_open_file(self):
         for mode in ("r", "rb"):
@@ -274,7 +253,7 @@ class UsedBefore(InFolder):
 
     def test_the_system_in_the_same_open_file(self):
         file = io.StringIO(LATE)
-        self.assert_refused(ValueError, "nothing is left of the hide list", minimise, file, hide=file)
+        self.assertRaisesRegex(ValueError, "nothing is left of the hide list", minimise, file, hide=file)
 
     def test_what_may_be_empty(self):
         empty = self.written("")
@@ -284,7 +263,7 @@ class UsedBefore(InFolder):
                     self.assertFalse(equivalent(SILENT, ONE_STEP, "branching", hide=hide))
 
 
-class CountsOfARun(Test):
+class CountsOfARun(unittest.TestCase):
     def test_counts(self):
         smallest, counts = with_counts(EARLY)
         self.assertEqual(smallest, minimise(EARLY))
@@ -297,7 +276,7 @@ class CountsOfARun(Test):
         self.assertEqual(counts.allowance, (counts.rounds * counts.states + 2) * counts.transitions)
 
     def test_a_fault(self):
-        self.assert_refused(autbis.TextFault, "bad header", with_counts, "x")
+        self.assertRaisesRegex(autbis.TextFault, "bad header", with_counts, "x")
 
 
 class Pages(InFolder):
@@ -309,7 +288,7 @@ class Pages(InFolder):
                 self.assertGreater(shown.attempted, 0)
 
 
-class Faults(Test):
+class Faults(unittest.TestCase):
     def assert_fault(self, where, name, line, said, *systems, **options):
         """One system cannot be minimised, or two not compared, for a fault of the text `where`."""
         with self.assertRaises(autbis.TextFault) as caught:
@@ -341,41 +320,34 @@ class Faults(Test):
         self.assert_fault("hide", str(hide), 1, "not a label", LATE, hide=hide)
 
     def test_of_one_path_for_two_files_the_faulty_one_is_named(self):
-        system, hide = path("mutual-exclusion.aut"), path("alternating-bit.hide")
-        self.assert_fault("hide", str(system), 1, "not a label", LATE, system, hide=system)
+        hide = path("alternating-bit.hide")
+        self.assert_fault("hide", str(MUTUAL), 1, "not a label", LATE, MUTUAL, hide=MUTUAL)
         self.assert_fault("second", str(hide), None, "bad header", LATE, hide, hide=hide)
 
     def test_an_unknown_relation(self):
-        self.assert_refused(autbis.UsageFault, "^autbis: unknown relation: weak$", minimise, LATE, "weak")
+        self.assertRaisesRegex(autbis.UsageFault, "^autbis: unknown relation: weak$", minimise, LATE, "weak")
 
     def test_a_file_that_is_not_there(self):
-        self.assert_refused(autbis.DeviceFault, "^autbis: no-such.aut: cannot open$", minimise, pathlib.Path("no-such.aut"))
+        self.assertRaisesRegex(autbis.DeviceFault, "^autbis: no-such.aut: cannot open$", minimise, pathlib.Path("no-such.aut"))
 
     def test_no_program(self):
         said = "the program is not installed, or not on PATH: 'no-such-autbis'"
-        self.assert_refused(FileNotFoundError, said, minimise, LATE, program="no-such-autbis")
+        self.assertRaisesRegex(FileNotFoundError, said, minimise, LATE, program="no-such-autbis")
 
 
 class OtherPrograms(InFolder):
     """A program that does not do what autbis does."""
 
-    def setUp(self):
-        super().setUp()
-        self.fake = self.folder / "fake"
-
-    def does(self, script):
-        self.fake.write_text(f"#!/bin/sh\n{script}\n", encoding="ascii")
-        self.fake.chmod(stat.S_IRWXU)
-
-    def assert_no_answer(self, fault, said, call, scripts, *systems):
+    def assert_no_answer(self, fault, said, call, scripts, *systems, **options):
         """If the program does this, the call raises the fault."""
         for script in scripts:
-            self.does(script)
-            self.assert_refused(fault, said, call, *systems, program=self.fake)
+            fake = self.written(f"#!/bin/sh\n{script}\n")
+            fake.chmod(stat.S_IRWXU)
+            self.assertRaisesRegex(fault, said, call, *systems, program=fake, **options)
 
     def test_statuses_that_are_hard_to_bring_about(self):
         for script, fault in (("exit 4", autbis.OutOfMemory), ("exit 5", autbis.DeviceFault), ("kill -9 $$", autbis.Fault)):
-            self.assert_no_answer(fault, "fake ended with status", equivalent, [script], LATE, LATE)
+            self.assert_no_answer(fault, r"/\d+ ended with status", equivalent, [script], LATE, LATE)
 
     def test_no_answer_is_taken_for_one(self):
         none = autbis.Fault, "no answer of autbis"
@@ -384,10 +356,9 @@ class OtherPrograms(InFolder):
         self.assert_no_answer(*none, with_counts, ["echo 'des (0, 0, 1)'"], LATE)
 
     def test_a_timeout_ends_the_program(self):
-        number = self.fake.with_name("number")
-        self.does(f"echo $$ >'{number}'\nexec sleep 60")
-        begun = time.monotonic()
-        self.assert_refused(autbis.TimedOut, "autbis: no answer in 0.5 seconds", minimise, LATE, program=self.fake, timeout=0.5)
+        number, begun = self.new(), time.monotonic()
+        late = autbis.TimedOut, "autbis: no answer in 0.5 seconds"
+        self.assert_no_answer(*late, minimise, [f"echo $$ >'{number}'\nexec sleep 60"], LATE, timeout=0.5)
         self.assertLess(time.monotonic() - begun, 30)
         with self.assertRaises(ProcessLookupError):
             os.kill(int(number.read_text(encoding="ascii")), 0)
@@ -396,7 +367,7 @@ class OtherPrograms(InFolder):
         self.assertTrue(equivalent(LATE, LATE, timeout=60))
 
 
-class Copies(Test):
+class Copies(unittest.TestCase):
     """Each exception can be pickled and copied."""
 
     FAULTS = (
@@ -424,11 +395,11 @@ class Copies(Test):
     def test_a_fault_in_another_process(self):
         with ProcessPoolExecutor(1) as pool:
             with self.assertRaises(autbis.TextFault) as caught:
-                pool.submit(raise_fault, "des (0, 1, 2)\n(0, a, 2)\n").result()
+                pool.submit(minimise, "des (0, 1, 2)\n(0, a, 2)\n").result()
             fault = caught.exception
             self.assertEqual((fault.name, fault.line, fault.fault), ("text", 2, "target out of range"))
             with self.assertRaises(autbis.DeviceFault):
-                pool.submit(raise_fault, pathlib.Path("no-such.aut")).result()
+                pool.submit(minimise, pathlib.Path("no-such.aut")).result()
 
 
 if __name__ == "__main__":

@@ -41,14 +41,8 @@ except autbis.TextFault as fault:
 
 class Package(InFolder):
     def run_in_folder(self, *words, **variables):
-        return subprocess.run(
-            list(map(str, words)),
-            cwd=self.folder,
-            env={**os.environ, **variables},
-            stdout=subprocess.PIPE,
-            stderr=subprocess.STDOUT,
-            universal_newlines=True,
-        )
+        said = {"stdout": subprocess.PIPE, "stderr": subprocess.STDOUT, "universal_newlines": True}
+        return subprocess.run(list(map(str, words)), cwd=self.folder, env={**os.environ, **variables}, **said)
 
     @unittest.skipUnless(importlib.util.find_spec("pip"), "there is no pip to install with")
     def test_pip_installs_the_module(self):

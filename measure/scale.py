@@ -8,13 +8,12 @@ usage: measure/scale.py PROGRAM [--runs N]     all systems of docs/scale.md, N t
        measure/scale.py --draw                 the tables and the picture of docs/scale.md, and the rows of README,
                                                from measure/scale.tsv
 
-A SYSTEM is the words of measure/systems.py, which lists them, in one word. Further programs that take the words of
-`autbis` stand in the place of the yardstick. Systems, the built yardstick and rows are kept in measure/out.
+A SYSTEM is the words of measure/systems.py in one word. Further programs that take the words of `autbis` stand in the
+place of the yardstick. All have to write the same. Systems, the built yardstick and rows are kept in measure/out.
 
 A row of scale.tsv has a system, the relation, states, transitions, rounds, seconds of processor time (the least of N
 runs, in turn with the others'), megabytes at most, and the seconds of the yardstick that signs every state in every
 round and of the one that does not. What took more than a minute has `-`, and so does a yardstick that is not built.
-Fewer megabytes than this script takes itself are not seen. All programs have to write the same.
 """
 
 import argparse
@@ -41,31 +40,25 @@ RELATIONS = {"strong": "#2166ac", "branching": "#d6604d"}
 GREY = "#555"
 SIDE = 300  # of a plot
 FAR = 3  # times more or less than the line says, for a name
-SYSTEMS = {  # by kind, the largest last; {} in the name of a kind is the last number
-    "philosophers {}": [f"philosophers {k}" for k in (6, 7, 8)],
-    "leader election {}": [f"leader-election {k}" for k in (11, 13)],
-    "token ring {}": [f"token-ring {k}" for k in (10, 13, 15)],
-    "lossy channels {}": [f"lossy-channels {k}" for k in (3, 6, 9)],
-    "buffers {}": [f"buffers {k}" for k in (9, 11, 12)],
-    "counters {}": [f"counters {k}" for k in (6, 7, 8)],
-    "random, sparse": [f"random-system {n} {n} 20 20" for n in (100_000, 1_000_000)],
-    "random, 5 % internal": ["random-system 1000000 10000000 20 5"],
-    "random, 20 % internal": ["random-system 1000000 10000000 20 20"],
-    "random, 30 % internal": [f"random-system {n} {4 * n} 5 30" for n in (25_000, 250_000)],
-    "internal cycle": [f"internal-cycle {n}" for n in (5_000, 10_000)],
-    "chain": [f"chain {n}" for n in (2_000, 5_000, 10_000)],
-}
-KINDS = {  # what they are, where the name does not say it
-    "philosophers {}": "k dining philosophers; taking and putting forks is internal",
-    "leader election {}": "k stations in a ring (Chang and Roberts 1979); messages are internal",
-    "token ring {}": "of k stations the one with the token may enter; passing it on is internal",
-    "lossy channels {}": "two alternating-bit protocols in series, for k values; all but the ends is internal",
-    "buffers {}": "a row of k one-place buffers for two values; passing one on is internal",
-    "counters {}": "k independent counters modulo 5; nothing is internal",
-    "random, sparse": "one transition a state, 20 % internal: each from a random earlier state",
-    "internal cycle": "a cycle of n internal steps, and from each state a visible step to the end",
-    "chain": "a line of n states with one label",
-}
+KINDS = (  # the name, {} being the last number; the family; the numbers, the largest last; what the name does not say
+    ("philosophers {}", "philosophers", (6, 7, 8), "k dining philosophers; taking and putting forks is internal"),
+    ("leader election {}", "leader-election", (11, 13),
+        "k stations in a ring (Chang and Roberts 1979); messages are internal"),
+    ("token ring {}", "token-ring", (10, 13, 15), "of k stations the one with the token may enter; passing it on is internal"),
+    ("lossy channels {}", "lossy-channels", (3, 6, 9),
+        "two alternating-bit protocols in series, for k values; all but the ends is internal"),
+    ("buffers {}", "buffers", (9, 11, 12), "a row of k one-place buffers for two values; passing one on is internal"),
+    ("counters {}", "counters", (6, 7, 8), "k independent counters modulo 5; nothing is internal"),
+    ("random, sparse", "random-system", ("100000 100000 20 20", "1000000 1000000 20 20"),
+        "one transition a state, 20 % internal: each from a random earlier state"),
+    ("random, 5 % internal", "random-system", ("1000000 10000000 20 5",), ""),
+    ("random, 20 % internal", "random-system", ("1000000 10000000 20 20",), ""),
+    ("random, 30 % internal", "random-system", ("25000 100000 5 30", "250000 1000000 5 30"), ""),
+    ("internal cycle", "internal-cycle", (5_000, 10_000),
+        "a cycle of n internal steps, and from each state a visible step to the end"),
+    ("chain", "chain", (2_000, 5_000, 10_000), "a line of n states with one label"),
+)  # fmt: skip
+SYSTEMS = {kind: [f"{family} {numbers}" for numbers in sizes] for kind, family, sizes, _ in KINDS}
 IN_README = "leader election {}", "token ring {}", "lossy channels {}", "buffers {}", "random, 5 % internal"
 SAME_RULE = "signs every state in every round", "signs only what can have changed"
 SIZES = 8_000, 16_000, 32_000
@@ -242,10 +235,10 @@ def table(rows):
     found = ("Strong: rounds", "Seconds", "MB", "Branching: rounds", "Seconds", "MB")
     yield line_of("System", "What it is", "States", "Transitions", *found)
     yield "|---|---|--:|--:|--:|--:|--:|--:|--:|--:|"
-    for kind in SYSTEMS:
+    for kind, _, _, about in KINDS:
         strong, branching = largest(rows, kind)
         sizes = (f"{size:,}" for size in (strong.states, strong.transitions))
-        yield line_of(named(kind), KINDS.get(kind, ""), *sizes, *cells(strong), *cells(branching))
+        yield line_of(named(kind), about, *sizes, *cells(strong), *cells(branching))
 
 
 def ratios(rows):
@@ -317,31 +310,19 @@ class Panel(NamedTuple):
         (x, y), (x_2, y_2) = (self.place(across, across * rate) for across in (start, end))
         yield from self.axes()
         yield f'<path class="line" d="M{x:.1f} {y:.1f}L{x_2:.1f} {y_2:.1f}"/>'
-        taken = [(x + part / 60 * (x_2 - x), y + part / 60 * (y_2 - y)) for part in range(61)]
-        middle, names = taken[30], {}
+        names = {(self.line(rate), GREY): ((x + x_2) / 2, (y + y_2) / 2)}
         how_far = lambda point: abs(math.log(point[3] / point[2] / rate))
-        for point in sorted(points, key=how_far):
-            name, colour, across, up = point
-            x, y = place = self.place(across, up)
-            taken.append(place)
+        for name, colour, across, up in sorted(points, key=how_far):
+            x, y = self.place(across, up)
             yield f'<circle cx="{x:.1f}" cy="{y:.1f}" r="4" fill="{colour}" fill-opacity="0.75"/>'
-            if how_far(point) > math.log(FAR):
-                names[name, colour] = place
-        names[self.line(rate), GREY] = middle
-        rooms = [(x - 4, y - 4, x + 4, y + 4) for x, y in taken]
-        for (words, colour), place in names.items():
-            room = self.room(words, place, rooms)
-            rooms.append(room)
-            yield words_at(room[0], room[1] + 10, words, colour=colour)
-
-    def room(self, words, place, rooms):
-        """Room for words beside a place, where least is taken."""
-        (x, y), wide = place, 6.6 * len(words)
-        inside = lambda left: min(max(left, self.left + 3), self.left + SIDE + 35 - wide)
-        lefts = [inside(left) for left in (x + 7, x - 7 - wide, x - wide / 2, x + 20)]
-        free = [(left, y + down - 6, left + wide, y + down + 6) for down in (0, -13, 13, -26, 26) for left in lefts]
-        meets = lambda a, b: a[0] < b[2] and b[0] < a[2] and a[1] < b[3] and b[1] < a[3]
-        return min(free, key=lambda one: sum(meets(one, other) for other in rooms) + 100 * (one[3] > self.top + SIDE))
+            if not 1 / FAR < up / across / rate < FAR:
+                names[name, colour] = x, y
+        beneath = self.top
+        for (words, colour), (x, y) in sorted(names.items(), key=lambda name: name[1][1]):
+            # Each beside its place, or as far below as is free.
+            beneath, wide = max(beneath + 13, y - 3), 6.6 * len(words)
+            left = x + 7 if x + wide < self.left + SIDE + 28 else x - 7 - wide
+            yield words_at(left, beneath, words, colour=colour)
 
 
 def words_at(x, y, words, kind="name", colour="black"):

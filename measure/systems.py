@@ -14,17 +14,11 @@ import random
 import re
 import sys
 from functools import lru_cache
-from typing import Any, Callable, NamedTuple, Optional
+from typing import Any, NamedTuple, Optional
 
 MOST_STATES, MOST_TRANSITIONS = 1_000_000, 10_000_000
 MAY_BE_NONE = {"percent", "a", "c"}
-FAMILIES = {}
-
-
-class Family(NamedTuple):
-    make: Callable
-    numbers: list  # their names
-    about: str
+FAMILIES = {}  # by name: what makes a system, the names of its numbers, and what it is
 
 
 class Wrong(Exception):
@@ -35,7 +29,7 @@ def family(function, make=None):
     """Has a function of numbers among the families; with `make`, that function, which has its numbers but the first."""
     numbers = list(inspect.signature(function).parameters)[1 if make else 0 :]
     about = " ".join(function.__doc__.split())
-    FAMILIES[function.__name__.replace("_", "-")] = Family(make or function, numbers, about)
+    FAMILIES[function.__name__.replace("_", "-")] = make or function, numbers, about
     return make or function
 
 
@@ -221,36 +215,26 @@ def many(letter, count, first=0):
     return [f"{letter}{k}" for k in range(first, first + count)]
 
 
-def shows(state, labels):
-    """Steps to the end state."""
-    return ((state, label, END) for label in labels)
+def row(s, targets=(), labels=(), by="i"):
+    """The steps of a state: inert ones, or by another label, to targets, and one of each of these labels to the end."""
+    yield from ((s, by, target) for target in targets)
+    yield from ((s, label, END) for label in labels)
 
 
-def inert(state, *targets):
-    return ((state, "i", target) for target in targets)
-
-
-def tops(states):
-    """A first state that leads to all of these, and is the one after them."""
-    return ((states[-1] + 1, "go", state) for state in states)
-
-
-def collectors(first, rows):
-    """States from the first on, each with inert steps and labels of its own, and a state that leads to all of them."""
+def below_top(first, rows):
+    """States from the first on, each with the targets and labels of its row, and a state that leads to all of them."""
     rows = list(rows)
-    for s, (targets, labels) in enumerate(rows, first):
-        yield from inert(s, *targets)
-        yield from shows(s, labels)
-    yield from tops(range(first, first + len(rows)))
+    states = range(first, first + len(rows))
+    for s, (targets, labels) in zip(states, rows):
+        yield from row(s, targets, labels)
+    yield from row(states[-1] + 1, states, by="go")
 
 
 def line(n, step):
     """States 1 to n, each with a label of its own and an inert step to the next one, or to the one before by -1. Which
     way decides whether a signature adds its pair in front of those of the other, or at their end."""
     for s in range(1, n + 1):
-        if 1 <= s + step <= n:
-            yield from inert(s, s + step)
-        yield from shows(s, [f"l{s}"])
+        yield from row(s, [s + step] if 1 <= s + step <= n else [], [f"l{s}"])
 
 
 @family
@@ -266,10 +250,9 @@ def random_system(states, transitions, labels, percent):
     # A number for each transition: 10 million of them fit into memory, and are sorted soon.
     steps = [0] * transitions
     for k in range(transitions):
-        if k + 1 < states:
-            source, target = int(draw() * (k + 1)), k + 1
-        else:
-            source, target = int(draw() * states), int(draw() * states)
+        is_tree = k + 1 < states
+        source = int(draw() * (k + 1 if is_tree else states))
+        target = k + 1 if is_tree else int(draw() * states)
         label = 0 if draw() * 100 < percent else 1 + int(draw() * labels)
         steps[k] = (source << 64) + (label << 32) + target
     steps.sort()
@@ -302,14 +285,13 @@ def internal_cycle(n):
 def inert_cycle(n):
     """A cycle of n inert steps, each state with a label of its own, and n states that collect the same labels from two
     others: the same signature, put together otherwise."""
-    a, b, own = n + 1, n + 2, range(n + 3, 2 * n + 3)
+    a, b = n + 1, n + 2
     for s in range(1, n + 1):
-        yield from inert(s, s % n + 1)
-        yield from shows(s, [f"l{s}"])
-        yield from shows(b if s == 1 else a, [f"l{s}"])
-    for s in own:
-        yield from inert(s, a, b)
-    yield from tops([1, a, b, *own])
+        yield from row(s, [s % n + 1], [f"l{s}"])
+        yield from row(b if s == 1 else a, [], [f"l{s}"])
+    for s in range(n + 3, 2 * n + 3):
+        yield from row(s, [a, b])
+    yield from row(2 * n + 3, [1, *range(a, 2 * n + 3)], by="go")
 
 
 @family
@@ -322,11 +304,10 @@ def inert_line(n):
 def line_over_hub(n):
     """A line of n inert steps with a label for each state, where each also leads to one state of n labels."""
     hub = n + 1
-    yield from shows(hub, many("h", n))
+    yield from row(hub, [], many("h", n))
     yield from line(n, 1)
-    for s in range(1, n + 1):
-        yield from inert(s, hub)
-    yield from tops([1, hub])
+    yield from ((s, "i", hub) for s in range(1, n + 1))
+    yield from row(hub + 1, [1, hub], by="go")
 
 
 @family
@@ -335,22 +316,22 @@ def line_and_hub(n):
     to one of the line and to that one."""
     hub = n + 1
     yield from line(n, -1)
-    yield from shows(hub, many("h", n))
-    yield from collectors(n + 2, (((j, hub), ()) for j in range(1, n + 1)))
+    yield from row(hub, [], many("h", n))
+    yield from below_top(n + 2, (((j, hub), ()) for j in range(1, n + 1)))
 
 
 @family
 def line_by_twos(n):
     """A line of n inert steps with a label for each state, and n states with inert steps to two states of it."""
     yield from line(n, 1)
-    yield from collectors(n + 1, (((j, n + 1 - j), ()) for j in range(1, n + 1)))
+    yield from below_top(n + 1, (((j, n + 1 - j), ()) for j in range(1, n + 1)))
 
 
-def two_hubs(n, first_labels, second_labels):
+def two_hubs(n, *labels):
     """Two states with these labels, and n states with an inert step to each."""
-    yield from shows(1, first_labels)
-    yield from shows(2, second_labels)
-    yield from collectors(3, n * [((1, 2), ())])
+    for hub in (1, 2):
+        yield from row(hub, [], labels[hub - 1])
+    yield from below_top(3, n * [((1, 2), ())])
 
 
 @family
@@ -368,32 +349,28 @@ def halves(n):
 @family
 def own_labels(n):
     """A state with n labels, and n states with an inert step to it and one of these labels again."""
-    labels = many("l", n)
-    yield from shows(1, labels)
-    yield from collectors(2, (((1,), (label,)) for label in labels))
+    yield from row(1, [], many("l", n))
+    yield from below_top(2, (((1,), (label,)) for label in many("l", n)))
 
 
 @family
 def twins(n):
     """Two states with n labels and one more, and n states that lead to each, with the other's one and a new label:
     equal signatures from two sources, in pairs."""
-    yield from shows(1, [*many("l", n), "x"])
-    yield from shows(2, [*many("l", n), "y"])
-    yield from collectors(3, (((hub,), (other, new)) for new in many("z", n) for hub, other in ((1, "y"), (2, "x"))))
+    yield from row(1, [], [*many("l", n), "x"])
+    yield from row(2, [], [*many("l", n), "y"])
+    yield from below_top(3, (((hub,), (other, new)) for new in many("z", n) for hub, other in ((1, "y"), (2, "x"))))
 
 
 @family
 def side(n):
     """A state with n + 1 labels and one with n others; n states with an inert step to the first and a label of their
     own, and n with inert steps to one of these and to the second."""
-    middle, own = range(3, n + 3), range(n + 3, 2 * n + 3)
-    yield from shows(1, many("l", n + 1))
-    yield from shows(2, many("m", n))
-    for m, s, label in zip(middle, own, many("o", n)):
-        yield from inert(m, 1)
-        yield from shows(m, [label])
-        yield from inert(s, m, 2)
-    yield from tops(own)
+    yield from row(1, [], many("l", n + 1))
+    yield from row(2, [], many("m", n))
+    for middle, label in enumerate(many("o", n), 3):
+        yield from row(middle, [1], [label])
+    yield from below_top(n + 3, (((middle, 2), ()) for middle in range(3, n + 3)))
 
 
 @family
@@ -401,22 +378,20 @@ def unions_of_two(k):
     """k states with k labels of their own each, and a state with an inert step to both of each two of them: the
     signatures have k times as many pairs as the text has lines."""
     for hub in range(1, k + 1):
-        yield from shows(hub, many(f"l{hub}_", k))
-    yield from collectors(k + 1, ((pair, ()) for pair in itertools.combinations(range(1, k + 1), 2)))
+        yield from row(hub, [], many(f"l{hub}_", k))
+    yield from below_top(k + 1, ((pair, ()) for pair in itertools.combinations(range(1, k + 1), 2)))
 
 
 @family
 def unions_of_all(k, n):
     """k states with n labels of their own each, and a state for each set of them: inert steps to the state of the set
     without its last member, and to that member."""
-    own = range(k + 1, k + 2**k)
     for hub in range(1, k + 1):
-        yield from shows(hub, many(f"l{hub}_", n))
-    for members, s in enumerate(own, 1):
-        last = members.bit_length()
-        rest = members - (1 << last - 1)
-        yield from inert(s, last, *([k + rest] if rest else []))
-    yield from tops(own)
+        yield from row(hub, [], many(f"l{hub}_", n))
+    last = lambda members: members.bit_length()
+    rest = lambda members: members - (1 << last(members) - 1)
+    sets = (((last(members), *([k + rest(members)] if rest(members) else [])), ()) for members in range(1, 2**k))
+    yield from below_top(k + 1, sets)
 
 
 @family
@@ -424,21 +399,15 @@ def layers(wide, high):
     """So many layers of so many states, each with a label of its own and inert steps to two of the layer below."""
     draw = random.Random(1).randrange
     for s in range(1, wide * high + 1):
-        yield from shows(s, [f"l{s}"])
-        if s > wide:
-            yield from inert(s, s - wide, (s - 1) // wide * wide - draw(wide))
-    yield from tops(range(wide * (high - 1) + 1, wide * high + 1))
+        yield from row(s, [s - wide, (s - 1) // wide * wide - draw(wide)] if s > wide else [], [f"l{s}"])
+    yield from row(wide * high + 1, range(wide * (high - 1) + 1, wide * high + 1), by="go")
 
 
 @family
 def grid(k):
     """Two parts of k inert steps each, side by side: k * k states with a label each."""
     for s in range(1, k * k + 1):
-        yield from shows(s, [f"l{s}"])
-        if s > k:
-            yield from inert(s, s - k)
-        if s % k != 1:
-            yield from inert(s, s - 1)
+        yield from row(s, [s - k] * (s > k) + [s - 1] * (s % k != 1), [f"l{s}"])
 
 
 @family
@@ -447,18 +416,17 @@ def long_line(k, n):
     their own."""
     last = 63 + 2**k
     yield from line(last, -1)
-    yield from collectors(last + 1, (((last,), (label,)) for label in many("o", n)))
+    yield from below_top(last + 1, (((last,), (label,)) for label in many("o", n)))
 
 
 @family
 def two_labels(n, a, c):
     """n states lead by the labels number a and c to one of n others, each to its own, which has a label of its own."""
-    others, own = range(1, n + 1), range(n + 1, 2 * n + 1)
-    yield from shows(own[-1] + 1, many("l", max(a, c) + 1))
-    for other, s, label in zip(others, own, many("o", n)):
-        yield from shows(other, [label])
-        yield from ((s, f"l{number}", other) for number in (a, c))
-    yield from tops(own)
+    yield from row(2 * n + 1, [], many("l", max(a, c) + 1))
+    for other, label in enumerate(many("o", n), 1):
+        yield from row(other, [], [label])
+        yield from ((n + other, f"l{number}", other) for number in (a, c))
+    yield from row(2 * n + 1, range(n + 1, 2 * n + 1), by="go")
 
 
 def system_of(words):

@@ -28,6 +28,10 @@ HEAD = re.compile(r"(?:abbrev|unfoldable|data|record|pub)\s+(?:(?:pub|data|recor
 ITEM = r"(?:pub(?:\(crate\))? )?(?:enum|struct|const)"
 
 
+def place(path):
+    return f"`{path.relative_to(TOP)}`"
+
+
 class Scope:
     """What a file brings in, under the names that it has there, and the definitions of its own."""
 
@@ -73,26 +77,12 @@ class Module:
         self.scope = Scope(lines, self.name, self.definitions)
 
 
-def crates():
-    """The crates of crates.txt, each after those that it stands on."""
-    lines = (TOP / "crates.txt").read_text().splitlines()
-    pairs = (line.split(":") for line in lines if ":" in line and line[0] != "#")
-    needs, found = {name: rest.split() for name, rest in pairs}, []
-
-    def add(name):
-        for other in needs[name]:
-            if other in needs:
-                add(other)
-        if name not in found:
-            found.append(name)
-
-    for name in needs:
-        add(name)
-    return found
-
-
 def read_modules():
-    for crate in crates():
+    """The modules of the crates of crates.txt, each crate after those that it stands on."""
+    lines = (TOP / "crates.txt").read_text().splitlines()
+    needs = {line.split(":")[0]: line.split(":")[1].split() for line in lines if ":" in line and line[0] != "#"}
+    below = lambda name: [crate for other in needs[name] if other in needs for crate in below(other)] + [name]
+    for crate in dict.fromkeys(crate for name in needs for crate in below(name)):
         library = TOP / "crates" / crate / "specs" / "Lib.antt"
         for stem in re.findall(r"mod (\w+)", library.read_text()) if library.exists() else []:
             yield Module(crate, library.with_name(f"{stem}.antt"))
@@ -139,17 +129,6 @@ class Item:
         self.place, self.scope = place(path), Scope(lines)
 
 
-def place(path):
-    return f"`{path.relative_to(TOP)}`"
-
-
-def contract(crate, name):
-    call = Item(crate, name, "pub fn", "{")
-    clauses = "\n".join(line for line in call.lines if not line.strip().startswith("//"))
-    first = re.search(r"^    (?:requires|ensures) ", clauses, re.M).start()
-    return call.place, closure(call.scope.cited(clauses[first:]))
-
-
 def wrapped(text, indent=""):
     return textwrap.wrap(text, 118, subsequent_indent=indent, break_long_words=False, break_on_hyphens=False)
 
@@ -191,10 +170,13 @@ def above(definitions, code):
 def lists():
     out, known, known_code, words_of = [], set(), [], {}
     for crate, name, others in CONTRACTS:
-        file, (definitions, code) = contract(crate, name)
+        call = Item(crate, name, "pub fn", "{")
+        lines = "\n".join(line for line in call.lines if not line.strip().startswith("//"))
+        clauses = lines[re.search(r"^    (?:requires|ensures) ", lines, re.M).start() :]
+        definitions, code = closure(call.scope.cited(clauses))
         words_of[name] = definitions
         definitions = definitions.difference(*(words_of[other] for other in others))
-        said = f"The contract in {file} rests on {count(definitions)}, without comments and blanks"
+        said = f"The contract in {call.place} rests on {count(definitions)}, without comments and blanks"
         said += "".join(f", and on what `{other}` rests on" for other in others)
         out += [f"## `{name}`", "", *wrapped(said + ".")]
         if known:
@@ -245,26 +227,19 @@ def page():
     return front + "\n".join([BEGIN, "", *variables(known), *fault(), *made]).rstrip() + "\n\n" + back
 
 
-def write(text):
-    """Puts the text in the page's place once it is written whole."""
-    beside = PAGE.with_suffix(".new")
-    try:
-        beside.write_text(text)
-        os.replace(beside, PAGE)
-    finally:
-        if beside.exists():
-            beside.unlink()
-
-
 def main():
     if sys.argv[1:] not in ([], ["--write"]):
         sys.exit(__doc__)
+    beside = PAGE.with_suffix(".new")
     try:
         if sys.argv[1:]:
-            write(page())
+            beside.write_text(page())
+            os.replace(beside, PAGE)
         else:
             print(page(), end="", flush=True)
-    except OSError as error:
+    except (OSError, KeyboardInterrupt) as error:
+        if beside.exists():
+            beside.unlink()
         print(f"tools/reading.py: {error}", file=sys.stderr, flush=True)
         # What is left in the buffer cannot be written.
         os._exit(1)

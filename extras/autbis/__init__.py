@@ -37,18 +37,8 @@ else:
 
 __version__ = "0.1.0"
 
-__all__ = [
-    "minimise",
-    "minimise_with_counts",
-    "equivalent",
-    "Counts",
-    "Fault",
-    "TextFault",
-    "UsageFault",
-    "OutOfMemory",
-    "DeviceFault",
-    "TimedOut",
-]
+__all__ = ["minimise", "minimise_with_counts", "equivalent", "Counts"]
+__all__ += ["Fault", "TextFault", "UsageFault", "OutOfMemory", "DeviceFault", "TimedOut"]
 
 
 class Readable(Protocol):
@@ -68,6 +58,7 @@ class ListOfLabels(Protocol):
 System = Union[str, bytes, "os.PathLike[str]", Readable]
 Labels = Union[ListOfLabels, Iterator[Union[str, bytes]], "os.PathLike[str]", Readable]
 Program = Union[str, "os.PathLike[str]"]
+Timeout = Optional[float]
 
 
 class Counts(NamedTuple):
@@ -85,8 +76,7 @@ class Fault(Exception):
 
     def __init__(self, status: int, message: str) -> None:
         super().__init__(status, message)
-        self.status = status
-        self.message = message
+        self.status, self.message = status, message
 
     def __str__(self) -> str:
         return self.message
@@ -105,10 +95,7 @@ class TextFault(Fault):
         super().__init__(status, message)
         # A pickled exception is made anew from these.
         self.args = (status, message, where, name, line, fault)
-        self.where = where
-        self.name = name
-        self.line = line
-        self.fault = fault
+        self.where, self.name, self.line, self.fault = where, name, line, fault
 
 
 class UsageFault(Fault):
@@ -131,11 +118,7 @@ _FAULTS = {3: UsageFault, 4: OutOfMemory, 5: DeviceFault}
 
 
 def minimise(
-    text: System,
-    relation: str = "strong",
-    hide: Labels = (),
-    program: Program = "autbis",
-    timeout: Optional[float] = None,
+    text: System, relation: str = "strong", hide: Labels = (), program: Program = "autbis", timeout: Timeout = None
 ) -> str:
     """Returns the text of the equivalent system with the fewest states.
 
@@ -145,11 +128,7 @@ def minimise(
 
 
 def minimise_with_counts(
-    text: System,
-    relation: str = "strong",
-    hide: Labels = (),
-    program: Program = "autbis",
-    timeout: Optional[float] = None,
+    text: System, relation: str = "strong", hide: Labels = (), program: Program = "autbis", timeout: Timeout = None
 ) -> Tuple[str, Counts]:
     """As `minimise`, and returns the counts of `--stats` too."""
     ran = _run(program, ["min", "--stats"], relation, hide, {"text": text}, timeout)
@@ -160,12 +139,7 @@ def minimise_with_counts(
 
 
 def equivalent(
-    a: System,
-    b: System,
-    relation: str = "strong",
-    hide: Labels = (),
-    program: Program = "autbis",
-    timeout: Optional[float] = None,
+    a: System, b: System, relation: str = "strong", hide: Labels = (), program: Program = "autbis", timeout: Timeout = None
 ) -> bool:
     """Returns whether the two systems are equivalent.
 
@@ -179,12 +153,7 @@ def equivalent(
 
 
 def _run(
-    program: Program,
-    words: List[str],
-    relation: str,
-    hide: Labels,
-    systems: Dict[str, System],
-    timeout: Optional[float],
+    program: Program, words: List[str], relation: str, hide: Labels, systems: Dict[str, System], timeout: Timeout
 ) -> subprocess.CompletedProcess[bytes]:
     """Runs the program on the systems. Raises a Fault if it ended with a status that is that of none of its answers."""
     found = shutil.which(os.fspath(program))
@@ -254,8 +223,9 @@ def _put(folder: str, where: str, source: object) -> str:
         text = _read(source, where, name)
     else:
         name, text = where, source
-    if isinstance(source, str) and "\n" not in source and (source.endswith(".aut") or _is_file(source)):
-        raise ValueError(f"a str is the text of a system, and this names a file: pass pathlib.Path({source!r})")
+    if isinstance(source, str) and "\n" not in source:
+        if source.endswith(".aut") or ("\0" not in source and os.path.isfile(source)):
+            raise ValueError(f"a str is the text of a system, and this names a file: pass pathlib.Path({source!r})")
     if not isinstance(text, (str, bytes, bytearray, memoryview)):
         raise TypeError(f"a system is a str, bytes, an os.PathLike or an open file, and not {type(source).__name__}")
     with open(place, "wb") as written:
@@ -276,10 +246,6 @@ def _is_at_its_beginning(file: object) -> bool:
         return bool(file.tell() == 0)  # type: ignore[attr-defined]
     except (AttributeError, OSError):
         return False
-
-
-def _is_file(text: str) -> bool:
-    return "\0" not in text and os.path.isfile(text)
 
 
 def _bytes(text: Union[str, bytes]) -> bytes:

@@ -6,9 +6,7 @@ usage: measure/plain/strip.py                   makes measure/out/plain anew, an
        measure/plain/strip.py --keep            builds what is there: edit measure/out/plain/CRATE/src
 then:  measure/out/plain/target/release/tool min --relation branching FILE
 
-It cannot tell what a proof would cost. It has no reader, writer and command line of the product, and asks for memory
-as Rust does. A `Vec` is indexed without a check, as in the product, but a slice with one; so compare with another tree
-built in the same way, and not with the product.
+docs/measuring.md says what it cannot do.
 """
 
 import os

@@ -5,9 +5,7 @@ use crate::signatures::Signatures;
 
 pub fn refine(rows: &Rows, internal: Option<u32>) -> Vec<u32> {
     let mut blocks = vec![0; rows.states() as usize];
-    let mut signed = blocks.clone();
-    let mut signatures = Signatures::new(true);
-    let mut count = 1;
+    let (mut signed, mut signatures, mut count) = (blocks.clone(), Signatures::new(true), 1);
     loop {
         signatures.clear();
         for s in 0..rows.states() {

@@ -13,59 +13,43 @@ mod rows;
 mod signatures;
 mod text;
 
-use rows::{Components, Rows};
+use rows::Rows;
 use std::io::Write;
 
-const USAGE: &str = "usage: yardstick min [--relation strong|branching] [--every] FILE";
-
-#[derive(Default)]
-struct Job {
-    branching: bool,
-    every: bool,
-    file: String,
-}
-
-fn job(mut words: impl Iterator<Item = String>) -> Option<Job> {
-    let mut job = Job::default();
-    words.next().filter(|word| word == "min")?;
-    loop {
-        match words.next()?.as_str() {
-            "--every" => job.every = true,
-            "--relation" => match words.next()?.as_str() {
-                "strong" => job.branching = false,
-                "branching" => job.branching = true,
-                _ => return None,
-            },
-            file => job.file = file.to_string(),
-        }
-        if !job.file.is_empty() {
-            return Some(job).filter(|job| !job.file.starts_with('-') && words.next().is_none());
-        }
-    }
-}
-
-fn run(job: &Job) -> Result<(), String> {
-    let text = std::fs::read(&job.file).map_err(|error| error.to_string())?;
+fn run(every: bool, branching: bool, file: &str) -> Result<(), String> {
+    let text = std::fs::read(file).map_err(|error| error.to_string())?;
     let system = text::read(&text)?;
     drop(text);
     let rows = Rows::of(system.states, system.steps.iter().copied());
-    let internal = system.internal().filter(|_| job.branching);
+    let internal = system.labels.iter().position(|label| branching && label == b"i").map(|k| k as u32);
     // Strong bisimilarity has no inert steps, so that each state is a component.
-    let components = Components::of(&rows, internal);
-    let contracted = internal.map(|internal| components.contract(&system.steps, internal));
-    let contracted = contracted.as_ref().unwrap_or(&rows);
-    let blocks = if job.every { every::refine(contracted, internal) } else { blocks::refine(contracted, internal) };
-    let written = quotient::written(&system, &rows, &components, contracted, &blocks);
+    let found = internal.map(|internal| {
+        let (of, count) = rows.components(internal);
+        let between = system.steps.iter().map(|step| (of[step.0 as usize], step.1, of[step.2 as usize]));
+        (Rows::of(count, between.filter(|step| step.0 != step.2 || step.1 != internal)), of)
+    });
+    let (contracted, components) = found.as_ref().map_or((&rows, None), |(rows, of)| (rows, Some(of)));
+    let blocks = if every { every::refine(contracted, internal) } else { blocks::refine(contracted, internal) };
+    let block_of = |s: u32| blocks[components.map_or(s, |of| of[s as usize]) as usize];
+    let written = quotient::written(&system, &rows, block_of, contracted, &blocks);
     std::io::stdout().write_all(&written).map_err(|error| error.to_string())
 }
 
 fn main() {
-    let Some(job) = job(std::env::args().skip(1)) else {
-        eprintln!("{USAGE}");
-        std::process::exit(3);
+    let words: Vec<String> = std::env::args().skip(1).collect();
+    let mut words: Vec<&str> = words.iter().map(String::as_str).collect();
+    let every = words.contains(&"--every");
+    words.retain(|word| *word != "--every");
+    let (branching, file) = match words[..] {
+        ["min", "--relation", relation @ ("strong" | "branching"), file] => (relation == "branching", file),
+        ["min", file] if !file.starts_with('-') => (false, file),
+        _ => {
+            eprintln!("usage: yardstick min [--every] [--relation strong|branching] FILE");
+            std::process::exit(3);
+        }
     };
-    if let Err(fault) = run(&job) {
-        eprintln!("yardstick: {}: {fault}", job.file);
+    if let Err(fault) = run(every, branching, file) {
+        eprintln!("yardstick: {file}: {fault}");
         std::process::exit(2);
     }
 }

@@ -1,9 +1,8 @@
 //! Different signatures, each kept once and known by its number.
 
 use crate::rows::{Step, NONE};
-use crate::text::fold;
-use std::collections::hash_map::{Entry, HashMap};
-use std::hash::{BuildHasherDefault, Hasher};
+use crate::text::{Fold, Map};
+use std::hash::Hasher;
 
 /// A label, and a block or, with this mark, the number of another signature.
 const IS_SIGNATURE: u32 = 1 << 31;
@@ -17,30 +16,16 @@ pub struct Signatures {
     pairs: Vec<u64>,
     ends: Vec<usize>,
     /// The number of a list by its hash, or by one of the next numbers if others have that hash.
-    numbers: HashMap<u64, u32, BuildHasherDefault<Same>>,
+    numbers: Map<u64, u32>,
     own: Vec<u64>,
     inert: Vec<u32>,
     apart: bool,
 }
 
-/// The hasher of what is a hash.
-#[derive(Default)]
-pub struct Same(u64);
-
-impl Hasher for Same {
-    fn write(&mut self, _: &[u8]) {}
-    fn write_u64(&mut self, hash: u64) {
-        self.0 = hash;
-    }
-    fn finish(&self) -> u64 {
-        self.0
-    }
-}
-
 impl Signatures {
     /// Where all states of one call of `clear` are of one block, or where those of different blocks are kept `apart`.
     pub fn new(apart: bool) -> Signatures {
-        Signatures { pairs: vec![], ends: vec![0], numbers: HashMap::default(), own: vec![], inert: vec![], apart }
+        Signatures { pairs: vec![], ends: vec![0], numbers: Map::default(), own: vec![], inert: vec![], apart }
     }
 
     pub fn count(&self) -> u32 {
@@ -51,7 +36,7 @@ impl Signatures {
     pub fn clear(&mut self) {
         // A map takes time by its capacity.
         if self.numbers.capacity() > 64 + 8 * self.numbers.len() {
-            self.numbers = HashMap::default();
+            self.numbers = Map::default();
         }
         self.numbers.clear();
         self.pairs.clear();
@@ -79,64 +64,46 @@ impl Signatures {
         for step in row {
             let target = block_of[step.target as usize];
             if Some(step.label) == internal && target == block {
-                let number = signed(step.target);
-                if self.inert.last() != Some(&number) {
-                    self.inert.push(number);
-                }
+                self.inert.push(signed(step.target));
             } else {
                 self.own.push(pair(step.label, target));
             }
         }
+        self.inert.sort_unstable();
+        self.inert.dedup();
         // Only the last one to be made can show the others.
-        if self.inert.len() > 1 {
-            self.inert.sort_unstable();
-            self.inert.dedup();
-        }
         let last = self.inert.pop();
-        let named = |number: &u32| pair(internal.unwrap_or(NONE), IS_SIGNATURE | number);
-        self.own.extend(self.inert.iter().map(named));
-        if self.own.len() > 1 {
-            self.own.sort_unstable();
-            self.own.dedup();
-        }
+        let named = |number: u32| pair(internal.unwrap_or(NONE), IS_SIGNATURE | number);
+        self.own.extend(self.inert.iter().map(|&number| named(number)));
+        self.own.sort_unstable();
+        self.own.dedup();
         if self.apart {
             self.own.push(pair(NONE, block));
         }
         if let Some(last) = last {
-            if contains(self.list(last), &self.own) {
+            let list = self.list(last);
+            if self.own.len() <= list.len() && self.own.iter().all(|pair| list.binary_search(pair).is_ok()) {
                 return last;
             }
-            let place = self.own.partition_point(|&other| other < named(&last));
-            self.own.insert(place, named(&last));
+            let place = self.own.partition_point(|&other| other < named(last));
+            self.own.insert(place, named(last));
         }
         self.keep()
     }
 
     fn keep(&mut self) -> u32 {
-        let number = self.count();
-        let mut hash = self.own.iter().fold(self.own.len() as u64, |hash, &pair| fold(hash ^ pair));
-        loop {
-            match self.numbers.entry(hash) {
-                Entry::Vacant(free) => {
-                    free.insert(number);
-                    break;
-                }
-                Entry::Occupied(kept) => {
-                    let k = *kept.get();
-                    if self.pairs[self.ends[k as usize]..self.ends[k as usize + 1]] == self.own {
-                        return k;
-                    }
-                }
-            }
+        let mut fold = Fold::default();
+        self.own.iter().for_each(|&pair| fold.write_u64(pair));
+        let (mut hash, next) = (fold.finish(), self.count());
+        let mut number = *self.numbers.entry(hash).or_insert(next);
+        while number != next && self.list(number) != self.own {
             hash = hash.wrapping_add(1);
+            number = *self.numbers.entry(hash).or_insert(next);
         }
-        self.pairs.extend_from_slice(&self.own);
-        self.ends.push(self.pairs.len());
+        if number == next {
+            self.pairs.extend_from_slice(&self.own);
+            self.ends.push(self.pairs.len());
+        }
         number
     }
-}
-
-/// Whether a list in rising order has all these pairs.
-fn contains(list: &[u64], pairs: &[u64]) -> bool {
-    pairs.len() <= list.len() && pairs.iter().all(|pair| list.binary_search(pair).is_ok())
 }

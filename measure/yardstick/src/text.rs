@@ -11,110 +11,64 @@ pub struct System {
     pub steps: Vec<(u32, u32, u32)>,
 }
 
-impl System {
-    /// The number of the label `i`, if a transition carries it.
-    pub fn internal(&self) -> Option<u32> {
-        self.labels.iter().position(|label| label == b"i").map(|k| k as u32)
-    }
-}
+/// A map with a hasher that takes eight bytes at a time; the one of the standard library takes several times as long.
+pub type Map<K, V> = HashMap<K, V, BuildHasherDefault<Fold>>;
 
-/// A hasher that takes eight bytes at a time; the one of the standard library takes several times as long.
 #[derive(Default)]
-struct Fold(u64);
+pub struct Fold(u64);
 
 impl Hasher for Fold {
     fn write(&mut self, bytes: &[u8]) {
         for part in bytes.chunks(8) {
             let mut word = [0; 8];
             word[..part.len()].copy_from_slice(part);
-            self.0 = fold(self.0 ^ u64::from_le_bytes(word));
+            self.write_u64(u64::from_le_bytes(word));
         }
     }
+
+    /// The two halves of a product, one over the other.
+    fn write_u64(&mut self, word: u64) {
+        let product = (self.0 ^ word ^ 0x243f_6a88_85a3_08d3) as u128 * 0x9e37_79b9_7f4a_7c15;
+        self.0 = (product >> 64) as u64 ^ product as u64;
+    }
+
     fn finish(&self) -> u64 {
         self.0
     }
 }
 
-/// The two halves of a product, one over the other.
-pub fn fold(word: u64) -> u64 {
-    let product = (word ^ 0x243f_6a88_85a3_08d3) as u128 * 0x9e37_79b9_7f4a_7c15;
-    (product >> 64) as u64 ^ product as u64
+fn number(text: &[u8]) -> Option<u32> {
+    let digits = text.trim_ascii();
+    let add = |number: u32, &digit: &u8| number.checked_mul(10)?.checked_add(char::from(digit).to_digit(10)?);
+    digits.iter().try_fold(0, add).filter(|_| !digits.is_empty())
 }
 
-/// What is left of a text.
-struct Text<'a>(&'a [u8]);
-
-impl<'a> Text<'a> {
-    fn blanks(&mut self) {
-        while let [b' ' | b'\t' | b'\r', rest @ ..] = self.0 {
-            self.0 = rest;
-        }
-    }
-
-    fn byte(&mut self, wanted: u8) -> Option<()> {
-        self.blanks();
-        self.0 = self.0.strip_prefix(&[wanted])?;
-        Some(())
-    }
-
-    fn number(&mut self) -> Option<u32> {
-        self.blanks();
-        let mut number = None;
-        while let [digit @ b'0'..=b'9', rest @ ..] = self.0 {
-            number = Some(number.unwrap_or(0u32).checked_mul(10)?.checked_add((digit - b'0') as u32)?);
-            self.0 = rest;
-        }
-        number
-    }
-
-    fn label(&mut self) -> Option<&'a [u8]> {
-        self.blanks();
-        let (label, rest) = if let [b'"', rest @ ..] = self.0 {
-            let line = &rest[..rest.iter().position(|&byte| byte == b'\n').unwrap_or(rest.len())];
-            let length = line.iter().rposition(|&byte| byte == b'"')?;
-            (&rest[..length], &rest[length + 1..])
-        } else {
-            let is_plain = |byte: &&u8| byte.is_ascii_alphanumeric() || **byte == b'_';
-            self.0.split_at(self.0.iter().take_while(is_plain).count())
-        };
-        self.0 = rest;
-        Some(label).filter(|label| !label.is_empty())
-    }
-
-    /// The rest of a line: a number, something else and a number, with commas between and parentheses around.
-    fn three<T>(&mut self, second: impl Fn(&mut Text<'a>) -> Option<T>) -> Option<(u32, T, u32)> {
-        self.byte(b'(')?;
-        let first = self.number()?;
-        self.byte(b',')?;
-        let second = second(self)?;
-        self.byte(b',')?;
-        let third = self.number()?;
-        self.byte(b')')?;
-        self.blanks();
-        if !self.0.is_empty() {
-            self.byte(b'\n')?;
-        }
-        Some((first, second, third))
-    }
+/// What stands between the parentheses of a line: a number, something else and a number, with commas between.
+fn three(line: &[u8]) -> Option<(u32, &[u8], u32)> {
+    let parts = line.trim_ascii().strip_prefix(b"(")?.strip_suffix(b")")?;
+    let first = parts.iter().position(|&byte| byte == b',')?;
+    let last = parts.iter().rposition(|&byte| byte == b',')?;
+    Some((number(&parts[..first])?, parts.get(first + 1..last)?.trim_ascii(), number(&parts[last + 1..])?))
 }
 
 pub fn read(text: &[u8]) -> Result<System, String> {
-    let mut text = Text(text.strip_prefix(b"des").ok_or("no header")?);
-    let (first, promised, states) =
-        text.three(Text::number).filter(|header| header.0 < header.2).ok_or("bad header")?;
-    let mut numbers: HashMap<&[u8], u32, BuildHasherDefault<Fold>> = HashMap::default();
-    let mut labels = Vec::new();
-    let mut steps = Vec::with_capacity((promised as usize).min(text.0.len()));
-    while !text.0.is_empty() {
-        let step = text.three(Text::label).filter(|step| step.0 < states && step.2 < states);
+    let mut lines = text.strip_suffix(b"\n").unwrap_or(text).split(|&byte| byte == b'\n');
+    let header = lines.next().and_then(|line| three(line.strip_prefix(b"des")?)).filter(|header| header.0 < header.2);
+    let (first, promised, states) = header.ok_or("bad header")?;
+    let promised = number(promised).ok_or("bad header")? as usize;
+    let (mut labels, mut numbers) = (Vec::new(), Map::default());
+    let mut steps = Vec::with_capacity(promised.min(text.len()));
+    for line in lines {
+        let step = three(line).filter(|step| step.0 < states && step.2 < states && !step.1.is_empty());
         let (source, label, target) = step.ok_or_else(|| format!("line {}: not a transition", steps.len() + 2))?;
-        let number = *numbers.entry(label).or_insert_with(|| {
-            labels.push(label.to_vec());
+        let bare = label.strip_prefix(b"\"").and_then(|label| label.strip_suffix(b"\"")).unwrap_or(label);
+        let number = *numbers.entry(bare).or_insert_with(|| {
+            labels.push(bare.to_vec());
             labels.len() as u32 - 1
         });
         steps.push((source, number, target));
     }
-    if steps.len() != promised as usize {
+    if steps.len() != promised {
         return Err(format!("{} transitions, where {promised} are promised", steps.len()));
     }
     Ok(System { first, states, labels, steps })
@@ -123,16 +77,17 @@ pub fn read(text: &[u8]) -> Result<System, String> {
 /// A label as it is written: plain if it can be.
 pub fn spelled(label: &[u8]) -> Vec<u8> {
     let plain = !label[0].is_ascii_digit() && label.iter().all(|byte| byte.is_ascii_alphanumeric() || *byte == b'_');
-    if plain {
-        label.to_vec()
-    } else {
-        [b"\"", label, b"\""].concat()
-    }
+    let quote: &[u8] = if plain { b"" } else { b"\"" };
+    [quote, label, quote].concat()
 }
 
 pub fn put_number(out: &mut Vec<u8>, number: u32) {
-    if number >= 10 {
-        put_number(out, number / 10);
+    let (mut digits, mut first, mut left) = ([b'0'; 10], 9, number);
+    while left >= 10 {
+        digits[first] += (left % 10) as u8;
+        left /= 10;
+        first -= 1;
     }
-    out.push(b'0' + (number % 10) as u8);
+    digits[first] += left as u8;
+    out.extend_from_slice(&digits[first..]);
 }
