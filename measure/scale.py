@@ -310,19 +310,31 @@ class Panel(NamedTuple):
         (x, y), (x_2, y_2) = (self.place(across, across * rate) for across in (start, end))
         yield from self.axes()
         yield f'<path class="line" d="M{x:.1f} {y:.1f}L{x_2:.1f} {y_2:.1f}"/>'
-        names = {(self.line(rate), GREY): ((x + x_2) / 2, (y + y_2) / 2)}
+        taken = [(x + part / 60 * (x_2 - x), y + part / 60 * (y_2 - y)) for part in range(61)]
+        middle, names = taken[30], {}
         how_far = lambda point: abs(math.log(point[3] / point[2] / rate))
-        for name, colour, across, up in sorted(points, key=how_far):
-            x, y = self.place(across, up)
+        for point in sorted(points, key=how_far):
+            name, colour, across, up = point
+            x, y = place = self.place(across, up)
+            taken.append(place)
             yield f'<circle cx="{x:.1f}" cy="{y:.1f}" r="4" fill="{colour}" fill-opacity="0.75"/>'
-            if not 1 / FAR < up / across / rate < FAR:
-                names[name, colour] = x, y
-        beneath = self.top
-        for (words, colour), (x, y) in sorted(names.items(), key=lambda name: name[1][1]):
-            # Each beside its place, or as far below as is free.
-            beneath, wide = max(beneath + 13, y - 3), 6.6 * len(words)
-            left = x + 7 if x + wide < self.left + SIDE + 28 else x - 7 - wide
-            yield words_at(left, beneath, words, colour=colour)
+            if how_far(point) > math.log(FAR):
+                names[name, colour] = place
+        names[self.line(rate), GREY] = middle
+        rooms = [(x - 4, y - 4, x + 4, y + 4) for x, y in taken]
+        for (words, colour), place in names.items():
+            room = self.room(words, place, rooms)
+            rooms.append(room)
+            yield words_at(room[0], room[1] + 10, words, colour=colour)
+
+    def room(self, words, place, rooms):
+        """Room for words beside a place, where least is taken."""
+        (x, y), wide = place, 6.6 * len(words)
+        inside = lambda left: min(max(left, self.left + 3), self.left + SIDE + 35 - wide)
+        lefts = [inside(left) for left in (x + 7, x - 7 - wide, x - wide / 2, x + 20)]
+        free = [(left, y + down - 6, left + wide, y + down + 6) for down in (0, -13, 13, -26, 26) for left in lefts]
+        meets = lambda a, b: a[0] < b[2] and b[0] < a[2] and a[1] < b[3] and b[1] < a[3]
+        return min(free, key=lambda one: sum(meets(one, other) for other in rooms) + 100 * (one[3] > self.top + SIDE))
 
 
 def words_at(x, y, words, kind="name", colour="black"):
