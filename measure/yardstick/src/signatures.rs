@@ -64,19 +64,26 @@ impl Signatures {
         for step in row {
             let target = block_of[step.target as usize];
             if Some(step.label) == internal && target == block {
-                self.inert.push(signed(step.target));
+                let number = signed(step.target);
+                if self.inert.last() != Some(&number) {
+                    self.inert.push(number);
+                }
             } else {
                 self.own.push(pair(step.label, target));
             }
         }
-        self.inert.sort_unstable();
-        self.inert.dedup();
+        if self.inert.len() > 1 {
+            self.inert.sort_unstable();
+            self.inert.dedup();
+        }
         // Only the last one to be made can show the others.
         let last = self.inert.pop();
         let named = |number: u32| pair(internal.unwrap_or(NONE), IS_SIGNATURE | number);
         self.own.extend(self.inert.iter().map(|&number| named(number)));
-        self.own.sort_unstable();
-        self.own.dedup();
+        if self.own.len() > 1 {
+            self.own.sort_unstable();
+            self.own.dedup();
+        }
         if self.apart {
             self.own.push(pair(NONE, block));
         }

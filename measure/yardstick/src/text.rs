@@ -37,38 +37,59 @@ impl Hasher for Fold {
     }
 }
 
-fn number(text: &[u8]) -> Option<u32> {
-    let digits = text.trim_ascii();
-    let add = |number: u32, &digit: &u8| number.checked_mul(10)?.checked_add(char::from(digit).to_digit(10)?);
+/// Takes a byte off the front of a text, with the blanks after it, as those below do.
+fn take(text: &mut &[u8], byte: u8) -> Option<()> {
+    *text = text.strip_prefix(&[byte])?.trim_ascii_start();
+    Some(())
+}
+
+fn take_number(text: &mut &[u8]) -> Option<u32> {
+    let (digits, rest) = text.split_at(text.iter().position(|byte| !byte.is_ascii_digit())?);
+    *text = rest.trim_ascii_start();
+    let add = |number: u32, digit: &u8| number.checked_mul(10)?.checked_add((digit - b'0').into());
     digits.iter().try_fold(0, add).filter(|_| !digits.is_empty())
 }
 
-/// What stands between the parentheses of a line: a number, something else and a number, with commas between.
-fn three(line: &[u8]) -> Option<(u32, &[u8], u32)> {
-    let parts = line.trim_ascii().strip_prefix(b"(")?.strip_suffix(b")")?;
-    let first = parts.iter().position(|&byte| byte == b',')?;
-    let last = parts.iter().rposition(|&byte| byte == b',')?;
-    Some((number(&parts[..first])?, parts.get(first + 1..last)?.trim_ascii(), number(&parts[last + 1..])?))
+fn take_label<'a>(text: &mut &'a [u8]) -> Option<&'a [u8]> {
+    let is_plain = |byte: &u8| byte.is_ascii_alphanumeric() || *byte == b'_';
+    let (label, rest) = if let Some(quoted) = text.strip_prefix(b"\"") {
+        let line = quoted.split(|&byte| byte == b'\n').next()?;
+        quoted.split_at(line.iter().rposition(|&byte| byte == b'"')?)
+    } else {
+        text.split_at(text.iter().position(|byte| !is_plain(byte))?)
+    };
+    *text = rest.strip_prefix(b"\"").unwrap_or(rest).trim_ascii_start();
+    Some(label).filter(|label| !label.is_empty())
+}
+
+/// Takes a number, something else and a number, with commas between and parentheses around.
+fn take_three<'a, T>(text: &mut &'a [u8], second: impl Fn(&mut &'a [u8]) -> Option<T>) -> Option<(u32, T, u32)> {
+    take(text, b'(')?;
+    let first = take_number(text)?;
+    take(text, b',')?;
+    let second = second(text)?;
+    take(text, b',')?;
+    let third = take_number(text)?;
+    take(text, b')')?;
+    Some((first, second, third))
 }
 
 pub fn read(text: &[u8]) -> Result<System, String> {
-    let mut lines = text.strip_suffix(b"\n").unwrap_or(text).split(|&byte| byte == b'\n');
-    let header = lines.next().and_then(|line| three(line.strip_prefix(b"des")?)).filter(|header| header.0 < header.2);
+    let mut text = text.strip_prefix(b"des").ok_or("no header")?.trim_ascii_start();
+    let header = take_three(&mut text, take_number).filter(|header| header.0 < header.2);
     let (first, promised, states) = header.ok_or("bad header")?;
-    let promised = number(promised).ok_or("bad header")? as usize;
     let (mut labels, mut numbers) = (Vec::new(), Map::default());
-    let mut steps = Vec::with_capacity(promised.min(text.len()));
-    for line in lines {
-        let step = three(line).filter(|step| step.0 < states && step.2 < states && !step.1.is_empty());
+    let mut steps = Vec::with_capacity((promised as usize).min(text.len()));
+    while !text.is_empty() {
+        let step = take_three(&mut text, take_label).filter(|step| step.0 < states && step.2 < states);
         let (source, label, target) = step.ok_or_else(|| format!("line {}: not a transition", steps.len() + 2))?;
-        let bare = label.strip_prefix(b"\"").and_then(|label| label.strip_suffix(b"\"")).unwrap_or(label);
-        let number = *numbers.entry(bare).or_insert_with(|| {
-            labels.push(bare.to_vec());
+        let number = *numbers.entry(label).or_insert_with(|| {
+            labels.push(label.to_vec());
             labels.len() as u32 - 1
         });
         steps.push((source, number, target));
     }
-    if steps.len() != promised {
+    if steps.len() != promised as usize {
         return Err(format!("{} transitions, where {promised} are promised", steps.len()));
     }
     Ok(System { first, states, labels, steps })
