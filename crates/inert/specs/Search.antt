@@ -11,7 +11,7 @@ use Rattle.inert.specs.Signed.{HasPair, IsSignature, IsLeft, pair_under}
 use Rattle.inert.specs.Steps.{IsInert}
 use Rattle.inert.specs.Ahead.{HasStages}
 pub use Rattle.inert.specs.declared.walk.Stage.{Stage}
-pub use Rattle.inert.specs.declared.walk.Stage.TheVariants.{Unseen, Open, Finished}
+pub use Rattle.inert.specs.declared.walk.Stage.TheVariants.{Unseen, Open, Finished, AtRest}
 pub use Rattle.inert.specs.declared.walk.Frame.{Frame}
 pub use Rattle.inert.specs.declared.walk.Root.{Root}
 pub use Rattle.inert.specs.declared.item.Item.{Item}
@@ -33,14 +33,20 @@ nothing stages = record { stages = stages; stack = []; frames = []; roots = []; 
 abbrev pub stage_at : List Stage → ℕ → Stage
 stage_at stages s = slice_index_or stages s Unseen
 
--- of so many states those that are not looked at are at rest: finished with the empty list
+-- of so many states those that are not looked at are at rest
 abbrev pub AreAtRest : List ℕ → List Stage → Type 0
-AreAtRest live stages = (s : ℕ) → s < length stages → IsOne live s ⊎ (stage_at stages s ≡ Finished 0)
+AreAtRest live stages = (s : ℕ) → s < length stages → IsOne live s ⊎ (stage_at stages s ≡ AtRest)
 
 -- no walk is under way, and all states are at rest, with this stage
 pub record IsIdle (at_rest : Stage) (w : Search) : Type 0 where
   pub empty : w ≡ nothing w.stages
   pub rest : (s : ℕ) → s < length w.stages → stage_at w.stages s ≡ at_rest
+
+-- the states of this list are unseen, and the others as before
+pub record AreUnseen (states : List ℕ) (old new : List Stage) : Type 0 where
+  pub size : length new ≡ length old
+  pub each : (s : ℕ) → Contains states s → stage_at new s ≡ Unseen
+  pub others : (s : ℕ) → Contains states s ⊎ (stage_at new s ≡ stage_at old s)
 
 -- the trail has each state that was seen
 pub record IsTrail (stages : List Stage) (trail : List ℕ) : Type 0 where
@@ -115,15 +121,15 @@ pub record AreOpen (stages : List Stage) (stack : List ℕ) : Type 0 where
   pub placed : (p : ℕ) → p < length stack → stage_at stages (slice_index stack p) ≡ Open p
   pub only : (s p : ℕ) → stage_at stages s ≡ Open p → (p < length stack) × (slice_index stack p ≡ s)
 
--- the list of this number has only pairs of the signature of s, and all of them unless s is alone in its block and not looked at
-pub record IsSigned (l : Grouped) (blocks : List ℕ) (live : List ℕ) (s : ℕ) (lists : List (List (ℕ × ℕ))) (k : ℕ) : Type 0 where
+-- the list of this number is the signature of s
+pub record IsSigned (l : Grouped) (blocks : List ℕ) (s : ℕ) (lists : List (List (ℕ × ℕ))) (k : ℕ) : Type 0 where
   pub within : k < length lists
-  pub sound : (z : ℕ × ℕ) → Contains (list_at lists k) z → HasPair Branching l blocks s z.0 z.1
-  pub whole : IsSignature Branching l blocks s (list_at lists k) ⊎ IsLeft l.states blocks live s
+  pub signature : IsSignature Branching l blocks s (list_at lists k)
 
--- so is each finished state, with its list
-abbrev pub AreSigned : Grouped → List ℕ → List ℕ → List (List (ℕ × ℕ)) → List Stage → Type 0
-AreSigned l blocks live lists stages = (s k : ℕ) → stage_at stages s ≡ Finished k → IsSigned l blocks live s lists k
+-- finished states have their signatures, and those at rest need none
+pub record AreSigned (l : Grouped) (blocks : List ℕ) (lists : List (List (ℕ × ℕ))) (stages : List Stage) : Type 0 where
+  pub finished : (s k : ℕ) → stage_at stages s ≡ Finished k → IsSigned l blocks s lists k
+  pub resting : (s : ℕ) → stage_at stages s ≡ AtRest → IsLeft l blocks s
 
 -- one component begins before another one, and so do its items
 abbrev pub IsBefore : Root → Root → Type 0
@@ -194,10 +200,10 @@ IsEntered w p t = (i : ℕ) × (i + 1 < length w.frames) × ((frame_at w.frames 
 abbrev pub IsFollowed : List (List (ℕ × ℕ)) → Search → ℕ → ℕ → Type 0
 IsFollowed lists w p t = IsHere w p t ⊎ IsHeld lists w p t ⊎ IsEntered w p t
 
--- a transition of the state at height p was taken into account
+-- a transition of the state at height p was taken into account: an inert one to a state at rest has nothing to show
 pub record Accounted (l : Grouped) (blocks : List ℕ) (lists : List (List (ℕ × ℕ))) (w : Search) (p : ℕ) (e : Triple) : Type 0 where
   pub shown : ¬ IsInert l blocks (slice_index blocks (source_of e)) e → HoldsPair lists w p (pair_under blocks e)
-  pub followed : IsInert l blocks (slice_index blocks (source_of e)) e → IsFollowed lists w p (target_of e)
+  pub followed : IsInert l blocks (slice_index blocks (source_of e)) e → ¬ (stage_at w.stages (target_of e) ≡ AtRest) → IsFollowed lists w p (target_of e)
 
 -- all transitions of open states were taken into account, or are still to be read
 abbrev pub AreAccounted : Grouped → List ℕ → List (List (ℕ × ℕ)) → Search → Type 0
@@ -205,10 +211,10 @@ AreAccounted l blocks lists w = (p k : ℕ) → p < length w.stack → k < lengt
     IsAhead w p k ⊎ Accounted l blocks lists w p (place_at l.places k)
 
 -- what holds of a walk between its steps
-pub record Walks (l : Grouped) (blocks : List ℕ) (live : List ℕ) (lists : List (List (ℕ × ℕ))) (w : Search) : Type 0 where
+pub record Walks (l : Grouped) (blocks : List ℕ) (lists : List (List (ℕ × ℕ))) (w : Search) : Type 0 where
   pub numbers : HasStages l.states (length lists) (length w.stack) w.stages
   pub opened : AreOpen w.stages w.stack
-  pub signed : AreSigned l blocks live lists w.stages
+  pub signed : AreSigned l blocks lists w.stages
   pub roots : AreRoots w
   pub frames : AreFrames l w.stack w.frames
   pub connects : Connects l blocks w

@@ -16,7 +16,7 @@ use lts::{Lts, Memory, Meter};
 
 impl Walk {
     /// Begins a walk at the state `s`, which was not seen: reads its row without a frame, and finishes it at the end. If an inert
-    /// step leads to a state that is not finished, `s` gets a frame for the rest of its row, and the step is taken from there.
+    /// step leads on, `s` gets a frame for the rest of its row, and the step is taken from there.
     ///
     /// Fails if there is no memory for it.
     pub fn begin<M: Meter>(
@@ -24,16 +24,15 @@ impl Walk {
         l: &Lts<M>,
         blocks: &[u32],
         internal: Option<u32>,
-        live: &[u32],
         s: u32,
         lists: &mut Lists,
         m: &mut M,
     ) -> Result<(), Memory>
         requires sees { Sees l.now blocks.now internal }
         requires state { (s < l.now.states) × (stage_at self.old.stages s ≡ Unseen) }
-        requires rests { Rests l.now blocks.now live.now lists.old self.old }
+        requires rests { Rests l.now blocks.now lists.old self.old }
         requires room { HasRoomFor (M.counted m.old) 0 (unread l.now.places self.old.stages) }
-        ensures on { OnOk result (GoesOn l.now blocks.now live.now lists.new self.old self.new) }
+        ensures on { OnOk result (GoesOn l.now blocks.now lists.new self.old self.new) }
         ensures found { OnOk result (¬ (stage_at self.new.stages s ≡ Unseen)) }
         ensures visits { OnOk result ((M.counted m.new).visits + ahead l.now self.new
             ≡ (M.counted m.old).visits + unread l.now.places self.old.stages) }

@@ -5,8 +5,8 @@ ghost use Rattle.lts.specs.Meter.{HasRoomFor, Costs};
 ghost use Rattle.inert.specs.Steps.{Sees};
 ghost use Rattle.inert.specs.Search.{stage_at, AreOpen, AreThere, IsTrail, Laws};
 ghost use Rattle.inert.specs.Moves.{Closes, Finishes, ahead, HasRead, IsUnderWay, GoesOn, Rests, ComesNearer, Finds, FindsNone};
-ghost use Rattle.inert.specs.Ahead.{unread, HasSeen};
-ghost use Rattle.inert.specs.declared.walk.Stage.TheVariants.{Unseen};
+ghost use Rattle.inert.specs.Ahead.{unread, HasFinished};
+ghost use Rattle.inert.specs.declared.walk.Stage.TheVariants.{Unseen, Finished};
 
 use crate::component::list_from;
 use crate::item::{CompactItem, Item};
@@ -16,8 +16,7 @@ use lists::Lists;
 use lts::{Lts, Memory, Meter};
 
 impl Walk {
-    /// Finishes the state `s`, which was not seen, and all states that inert steps lead to. A state that is not in `live` needs its
-    /// list only if it is not alone in its block. Only contracts look at `live`.
+    /// Finishes the state `s`, which was not seen, and all states that inert steps lead to.
     ///
     /// Fails if there is no memory for it.
     pub fn finish<M: Meter>(
@@ -25,33 +24,31 @@ impl Walk {
         l: &Lts<M>,
         blocks: &[u32],
         internal: Option<u32>,
-        live: &[u32],
         s: u32,
         lists: &mut Lists,
         m: &mut M,
     ) -> Result<(), Memory>
         requires sees { Sees l.now blocks.now internal }
         requires state { (s < l.now.states) × (stage_at self.old.stages s ≡ Unseen) }
-        requires rests { Rests l.now blocks.now live.now lists.old self.old }
+        requires rests { Rests l.now blocks.now lists.old self.old }
         requires room { HasRoomFor (M.counted m.old) 0 (unread l.now.places self.old.stages) }
-        ensures rests { OnOk result (Rests l.now blocks.now live.now lists.new self.new) }
-        ensures seen { OnOk result (HasSeen s self.old.stages self.new.stages) }
+        ensures rests { OnOk result (Rests l.now blocks.now lists.new self.new) }
+        ensures finished { OnOk result (HasFinished s self.old.stages self.new.stages) }
         ensures visits { OnOk result ((M.counted m.new).visits + unread l.now.places self.new.stages
             ≡ (M.counted m.old).visits + unread l.now.places self.old.stages) }
         ensures cost { Costs (M.counted m.old) (M.counted m.new) 0 0 (unread l.now.places self.old.stages) }
     {
-        self.begin(l, blocks, internal, live, s, lists, m)?;
+        self.begin(l, blocks, internal, s, lists, m)?;
         while !self.frames.is_empty() {
-            if self.read(l, blocks, internal, live, lists, m)? {
+            if self.read(l, blocks, internal, lists, m)? {
                 continue;
             }
-            self.go_back(l, blocks, live, lists)?;
+            self.go_back(l, blocks, lists)?;
         }
         Ok(())
     }
 
-    /// Finishes the state `s`, and all states that inert steps lead to, where none was seen. Makes `trail` those that it sees. Only
-    /// contracts look at `live`.
+    /// Finishes the state `s`, and all states that inert steps lead to, where none was seen. Makes `trail` those that it sees.
     ///
     /// Fails if there is no memory for it.
     pub fn finish_with_trail<M: Meter>(
@@ -59,7 +56,6 @@ impl Walk {
         l: &Lts<M>,
         blocks: &[u32],
         internal: Option<u32>,
-        live: &[u32],
         s: u32,
         lists: &mut Lists,
         trail: &mut Vec<u32>,
@@ -68,10 +64,10 @@ impl Walk {
         requires sees { Sees l.now blocks.now internal }
         requires state { s < l.now.states }
         requires unseen { (t : ℕ) → stage_at self.old.stages t ≡ Unseen }
-        requires rests { Rests l.now blocks.now live.now lists.old self.old }
+        requires rests { Rests l.now blocks.now lists.old self.old }
         requires room { HasRoomFor (M.counted m.old) 0 (unread l.now.places self.old.stages) }
-        ensures rests { OnOk result (Rests l.now blocks.now live.now lists.new self.new) }
-        ensures found { OnOk result (¬ (stage_at self.new.stages s ≡ Unseen)) }
+        ensures rests { OnOk result (Rests l.now blocks.now lists.new self.new) }
+        ensures finished { OnOk result ((k : ℕ) × (stage_at self.new.stages s ≡ Finished k)) }
         ensures trail { OnOk result (IsTrail self.new.stages trail.new.items) }
         ensures visits { OnOk result ((M.counted m.new).visits + unread l.now.places self.new.stages
             ≡ (M.counted m.old).visits + unread l.now.places self.old.stages) }
@@ -82,11 +78,11 @@ impl Walk {
         trail.push(s)?;
         self.enter(l, s)?;
         while !self.frames.is_empty() {
-            if self.read(l, blocks, internal, live, lists, m)? {
+            if self.read(l, blocks, internal, lists, m)? {
                 trail.push(self.stack[self.stack.len() - 1])?;
                 continue;
             }
-            self.go_back(l, blocks, live, lists)?;
+            self.go_back(l, blocks, lists)?;
         }
         Ok(())
     }
@@ -100,14 +96,13 @@ impl Walk {
         l: &Lts<M>,
         blocks: &[u32],
         internal: Option<u32>,
-        live: &[u32],
         lists: &Lists,
         m: &mut M,
     ) -> Result<bool, Memory>
         requires sees { Sees l.now blocks.now internal }
-        requires way { IsUnderWay l.now blocks.now live.now lists.now self.old }
+        requires way { IsUnderWay l.now blocks.now lists.now self.old }
         requires room { HasRoomFor (M.counted m.old) 0 (ahead l.now self.old) }
-        ensures on { OnOk result (GoesOn l.now blocks.now live.now lists.now self.old self.new) }
+        ensures on { OnOk result (GoesOn l.now blocks.now lists.now self.old self.new) }
         ensures visits { OnOk result ((M.counted m.new).visits + ahead l.now self.new ≡ (M.counted m.old).visits + ahead l.now self.old) }
         ensures steps { IfOk result (ComesNearer l.now self.old self.new) }
         ensures finds { IfOk result (Finds self.old self.new) }
@@ -136,12 +131,11 @@ impl Walk {
         &mut self,
         l: &Lts<M>,
         blocks: &[u32],
-        live: &[u32],
         lists: &mut Lists,
     ) -> Result<(), Memory>
-        requires way { IsUnderWay l.now blocks.now live.now lists.old self.old }
+        requires way { IsUnderWay l.now blocks.now lists.old self.old }
         requires read { HasRead self.old }
-        ensures on { OnOk result (GoesOn l.now blocks.now live.now lists.new self.old self.new) }
+        ensures on { OnOk result (GoesOn l.now blocks.now lists.new self.old self.new) }
         ensures ahead { OnOk result (ahead l.now self.new ≡ ahead l.now self.old) }
         ensures back { OnOk result (length self.new.frames < length self.old.frames) }
         ensures finds { OnOk result (FindsNone self.old self.new) }

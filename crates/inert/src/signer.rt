@@ -8,10 +8,10 @@ ghost use Rattle.partition.specs.Blocks.{IsOne, AreLive, HaveNone};
 ghost use Rattle.inert.specs.Signed.{IsSignature, LeavesOut};
 ghost use Rattle.inert.specs.Search.{stage_at, nothing, AreAtRest, IsIdle, IsWoken};
 ghost use Rattle.inert.specs.Moves.{Rests};
-ghost use Rattle.inert.specs.declared.walk.Stage.TheVariants.{Unseen, Finished};
+ghost use Rattle.inert.specs.declared.walk.Stage.TheVariants.{Unseen, Finished, AtRest};
 
 use crate::walk::{Stage, Walk};
-use lists::{EMPTY, Lists};
+use lists::Lists;
 use lts::{Lts, Memory, Meter, visit_places};
 use partition::Blocks;
 use std::alloc::Global;
@@ -20,7 +20,7 @@ use std::marker::Model;
 /// What signs states. Nothing that an earlier call has seen is left in it.
 #[derive(Drop)]
 pub struct Signer {
-    /// The walk of rounds: states rest as finished ones.
+    /// The walk of rounds: between them, states are at rest.
     walk: Walk,
     /// The walk from one state alone: states rest as unseen ones.
     single: Walk,
@@ -30,13 +30,13 @@ pub struct Signer {
 
 impl Model for Signer {
     ghost use Rattle.std.specs.Prelude.{ℕ, length};
-    ghost use Rattle.inert.specs.Search.{IsIdle, Unseen, Finished};
+    ghost use Rattle.inert.specs.Search.{IsIdle, Unseen, AtRest};
 
     ghost Value = { ℕ };
 
     ghost view = { λ x. length x.walk.stages };
 
-    ghost invariant = { λ x. IsIdle (Finished 0) x.walk × IsIdle Unseen x.single };
+    ghost invariant = { λ x. IsIdle AtRest x.walk × IsIdle Unseen x.single };
 }
 
 impl Signer {
@@ -64,7 +64,6 @@ impl Signer {
     ) -> Result<u32, Memory>
         requires blocks { length blocks.now ≡ l.now.states }
         requires state { s < l.now.states }
-        requires lists { lists.old ≡ [] ∷ [] }
         requires room { HasRoomFor (M.counted m.old) 0 (length l.now.places) }
         ensures within { IfOk result (λ k. k < length lists.new) }
         ensures signature { IfOk result (λ k. IsSignature Branching l.now blocks.now s (list_at lists.new k)) }
@@ -94,7 +93,6 @@ impl Signer {
     ) -> Result<(), Memory>
         requires blocks { length blocks.now.of ≡ l.now.states }
         requires others { LeavesOut l.now blocks.now.of blocks.now.live }
-        requires lists { lists.old ≡ [] ∷ [] }
         requires numbers { (length numbers.old ≡ l.now.states) × HaveNone blocks.now.live numbers.old }
         requires room { HasRoomFor (M.counted m.old) 0 (length l.now.places) }
 
@@ -107,8 +105,7 @@ impl Signer {
         ensures visits { let n = length l.now.places in Visits M.counted m.old m.new result n n }
         ensures others { HaveNone blocks.now.live numbers.new }
     {
-        self.walk
-            .prepare(alloc, l.states(), Stage::Finished(EMPTY))?;
+        self.walk.prepare(alloc, l.states(), Stage::AtRest)?;
         if let Err(refusal) = sign_all(&mut self.walk, l, blocks, lists, numbers, m) {
             self.walk.reset();
             return Err(refusal);
@@ -133,16 +130,15 @@ fn sign_one<M: Meter>(
     requires stages { length walk.old.stages ≡ l.now.states }
     requires blocks { length blocks.now ≡ l.now.states }
     requires state { s < l.now.states }
-    requires lists { lists.old ≡ [] ∷ [] }
     requires room { HasRoomFor (M.counted m.old) 0 (length l.now.places) }
     ensures within { IfOk result (λ k. k < length lists.new) }
     ensures signature { IfOk result (λ k. IsSignature Branching l.now blocks.now s (list_at lists.new k)) }
     ensures visits { Visits M.counted m.old m.new result (length (row_of s l.now.places)) (length l.now.places) }
     ensures idle { OnOk result (IsIdle Unseen walk.new) }
 {
+    lists.known();
     let internal = l.labels().internal();
-    // This state is to be signed.
-    walk.finish_with_trail(l, blocks, internal, &[s], s, lists, trail, m)?;
+    walk.finish_with_trail(l, blocks, internal, s, lists, trail, m)?;
     let list = walk.list(s as usize);
     walk.forget(trail);
     Ok(list)
@@ -160,18 +156,17 @@ fn sign_all<M: Meter>(
     numbers: &mut [u32],
     m: &mut M,
 ) -> Result<(), Memory>
-    requires idle { IsIdle (Finished 0) walk.old }
+    requires idle { IsIdle AtRest walk.old }
     requires stages { length walk.old.stages ≡ l.now.states }
     requires blocks { length blocks.now.of ≡ l.now.states }
     requires others { LeavesOut l.now blocks.now.of blocks.now.live }
-    requires lists { lists.old ≡ [] ∷ [] }
     requires numbers { (length numbers.old ≡ l.now.states) × HaveNone blocks.now.live numbers.old }
     requires room { HasRoomFor (M.counted m.old) 0 (length l.now.places) }
     ensures signed { OnOk result ((s : ℕ) → IsOne blocks.now.live s →
         IsSignature Branching l.now blocks.now.of s (list_at lists.new (slice_index numbers.new s))) }
     ensures numbers { OnOk result (AreNumbers lists.new numbers.new) }
     ensures others { HaveNone blocks.now.live numbers.new }
-    ensures idle { OnOk result (IsIdle (Finished 0) walk.new) }
+    ensures idle { OnOk result (IsIdle AtRest walk.new) }
     ensures visits { let n = length l.now.places in Visits M.counted m.old m.new result n n }
 {
     let live = blocks.live();
@@ -198,16 +193,14 @@ fn walk_all<M: Meter>(
     requires woken { IsWoken l.now.states live.now walk.old }
     requires blocks { length blocks.now ≡ l.now.states }
     requires live { AreLive l.now.states live.now × LeavesOut l.now blocks.now live.now }
-    requires lists { lists.old ≡ [] ∷ [] }
     requires room { HasRoomFor (M.counted m.old) 0 (length l.now.places) }
-    ensures rests { OnOk result (Rests l.now blocks.now live.now lists.new walk.new) }
-    ensures all { OnOk result ((i : ℕ) → i < length live.now → ¬ (stage_at walk.new.stages (slice_index live.now i) ≡ Unseen)) }
+    ensures rests { OnOk result (Rests l.now blocks.now lists.new walk.new) }
+    ensures all { OnOk result ((i : ℕ) → i < length live.now → (k : ℕ) × (stage_at walk.new.stages (slice_index live.now i) ≡ Finished k)) }
     ensures others { OnOk result (AreAtRest live.now walk.new.stages) }
     ensures visits { let n = length l.now.places in Visits M.counted m.old m.new result n n }
 {
     l.known();
-    lts::rows_are_steps();
-    theory::inert_steps_pass_signatures_back();
+    lists.known();
     let internal = l.labels().internal();
     let mut to = l.edges();
     for i in (0..live.len()).rev() {
@@ -218,7 +211,7 @@ fn walk_all<M: Meter>(
         if !walk.is_unseen(s) {
             continue;
         }
-        walk.finish(l, blocks, internal, live, s, lists, m)?;
+        walk.finish(l, blocks, internal, s, lists, m)?;
     }
     visit_places(l, 0, to, m);
     Ok(())
@@ -231,7 +224,7 @@ fn number(walk: &mut Walk, live: &[u32], numbers: &mut [u32])
     requires finished { (i : ℕ) → i < length live.now → (k : ℕ) × (stage_at walk.old.stages (slice_index live.now i) ≡ Finished k) }
     requires empty { walk.old ≡ nothing walk.old.stages }
     requires rest { AreAtRest live.now walk.old.stages }
-    ensures idle { IsIdle (Finished 0) walk.new }
+    ensures idle { IsIdle AtRest walk.new }
     ensures live { (i : ℕ) → i < length live.now →
         let s = slice_index live.now i in stage_at walk.old.stages s ≡ Finished (slice_index numbers.new s) }
     ensures others { (s : ℕ) → IsOne live.now s ⊎ (slice_index numbers.new s ≡ slice_index numbers.old s) }

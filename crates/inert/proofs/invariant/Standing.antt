@@ -1,5 +1,5 @@
 -- What follows of a walk that stands between two of its steps.
-use Rattle.std.proofs.Common.{◌≡◌, ℕ, ◌-◌, ◌<◌, ◌≤◌, Bool, List, length, slice_index, sym, ◌∙◌, ap, subst, inl, inr, arith}
+use Rattle.std.proofs.Common.{◌≡◌, ℕ, ◌-◌, ◌<◌, ◌≤◌, List, length, slice_index, sym, ◌∙◌, ap, subst, inl, inr, arith}
 use Rattle.std.specs.List.{All}
 use Rattle.std.proofs.lemmas.Bool.{cases_lt}
 use Rattle.std.proofs.lemmas.List.{get_or_default}
@@ -14,7 +14,7 @@ pub pair_before : (laws : Laws) (l : Grouped) (blocks : List ℕ) (s t : ℕ) (z
     → HasPair Branching l blocks t z.0 z.1 → HasPair Branching l blocks s z.0 z.1
 pair_before laws l blocks s t z tie has = (has.0, laws.path (system_of l) (slice_index blocks) s t _ z.1 tie has.1)
 
-module _ {l : Grouped} {blocks : List ℕ} {live : List ℕ} {lists : List (List (ℕ × ℕ))} {w : Search} (walks : Walks l blocks live lists w) where
+module _ {l : Grouped} {blocks : List ℕ} {lists : List (List (ℕ × ℕ))} {w : Search} (walks : Walks l blocks lists w) where
   pub roots_some : 0 < length w.stack → 0 < length w.roots
   roots_some some = elim (cases_lt 0 (length w.roots)) [
     | inl h ↦ h

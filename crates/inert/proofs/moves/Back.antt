@@ -1,5 +1,5 @@
 -- The moves back from the last frame, the row of which was read: the frame is popped, and its component is closed if it is the root.
-use Rattle.std.proofs.Common.{◌≡◌, ◌≢◌, ◌⊎◌, ℕ, ◌+◌, ◌-◌, ◌<◌, ◌≤◌, Bool, List, [], length, slice_index, refl, sym, ◌∙◌, ap, subst, inl, inr, arith, ◌∷◌, ◌++◌, take, Contains, subst₂}
+use Rattle.std.proofs.Common.{◌≡◌, ◌≢◌, ◌⊎◌, ℕ, ◌+◌, ◌-◌, ◌<◌, ◌≤◌, List, [], length, slice_index, refl, sym, ◌∙◌, ap, subst, inl, inr, arith, ◌∷◌, ◌++◌, take, Contains, subst₂}
 use Rattle.std.specs.List.{All}
 use Rattle.std.proofs.lemmas.Bool.{cases_eq, cases_lt}
 use Rattle.std.proofs.lemmas.Grind.{common_steps, elements}
@@ -19,7 +19,7 @@ use Rattle.inert.proofs.invariant.Standing.{reached, not_last, last_most, none_a
 use Rattle.inert.proofs.invariant.Keeping.{Keeps, keeps_stack, Walks-grow, accounted_still, sound_still}
 use Rattle.inert.proofs.signatures.Exact.{exact}
 
-module _ {l : Grouped} {blocks : List ℕ} {live : List ℕ} {lists : List (List (ℕ × ℕ))} {w : Search} (walks : Walks l blocks live lists w) where
+module _ {l : Grouped} {blocks : List ℕ} {lists : List (List (ℕ × ℕ))} {w : Search} (walks : Walks l blocks lists w) where
   -- the frames but the last one
   popped_size : length (popped w).frames ≡ length w.frames - 1
   popped_size = length-take-le (length w.frames - 1) w.frames (omega arith)
@@ -81,7 +81,7 @@ module _ {l : Grouped} {blocks : List ℕ} {live : List ℕ} {lists : List (List
       | inr d ↦ popped_ahead_still p k i (omega (arith, low, d)) is ahead
     ]
 
-    Walks-pop : Walks l blocks live lists (popped w)
+    Walks-pop : Walks l blocks lists (popped w)
     Walks-pop = record {
       numbers = walks.numbers;
       opened = walks.opened;
@@ -102,9 +102,9 @@ module _ {l : Grouped} {blocks : List ℕ} {live : List ℕ} {lists : List (List
     }
 
 -- its last component was finished, with its list among the lists
-module _ (laws : Laws) {l : Grouped} {blocks : List ℕ} {live : List ℕ} {lists : List (List (ℕ × ℕ))} {w : Search} (walks : Walks l blocks live lists w)
+module _ (laws : Laws) {l : Grouped} {blocks : List ℕ} {lists : List (List (ℕ × ℕ))} {w : Search} (walks : Walks l blocks lists w)
     (some : 0 < length w.frames) (height : (last w.roots).height ≡ here w) {new_stages : List Stage} {number : ℕ} (stages : Finishes w.stack (last w.roots).height number w.stages new_stages)
-    (exact : (p : ℕ) → (last w.roots).height ≤ p → p < length w.stack → IsSigned l blocks live (slice_index w.stack p) lists number)
+    (exact : (p : ℕ) → (last w.roots).height ≤ p → p < length w.stack → IsSigned l blocks (slice_index w.stack p) lists number)
     {added : List Item} (led : ((0 < length (popped w).frames) × (added ≡ Listed number ∷ [])) ⊎ ((length (popped w).frames ≡ 0) × (added ≡ []))) where
   -- where the component begins on the stack, and its first item
   abbrev q : ℕ
@@ -145,6 +145,7 @@ module _ (laws : Laws) {l : Grouped} {blocks : List ℕ} {live : List ℕ} {list
   closed_seen = record {
     unseen = λ s is. grind (arith, stages.others s, stages.members, is);
     finished = λ s k is. grind (arith, stages.others s, walks.opened.placed, is);
+    resting = λ s. (λ is. grind (arith, stages.others s, stages.members, is), λ is. grind (arith, stages.others s, walks.opened.placed, is));
   }
 
   -- the items before the component's
@@ -177,6 +178,7 @@ module _ (laws : Laws) {l : Grouped} {blocks : List ℕ} {live : List ℕ} {list
     items = λ j p low h of. item_same j ((of (length w.roots - 1) no_root (last_low walks some)).1 h);
     opened = λ s p low is. grind (arith, stages.others s, walks.opened.only s p, walks.opened.placed);
     finished = λ s k is. grind (arith, stages.others s, walks.opened.placed);
+    resting = closed_seen.resting;
   }
 
   -- the roots that are left were roots before the last one
@@ -244,10 +246,10 @@ module _ (laws : Laws) {l : Grouped} {blocks : List ℕ} {live : List ℕ} {list
             subst (λ s. HasPair Branching l blocks s z.0 z.1) (sym (state_same back low))
             (pair_before laws l blocks (slice_index w.stack back) (slice_index w.stack q) z
             (walks.connects back q (omega (arith, low, low_q)) low_q (λ i d h le. omega (arith, le, low)))
-            ((exact q (omega arith) low_q).sound z (subst (λ x. Gives lists x z) (item_new more).1 g))),
+            (((exact q (omega arith) low_q).signature.exactly z.0 z.1).0 (subst (λ x. Gives lists x z) (item_new more).1 g))),
       ))
 
-  Walks-closed : Walks l blocks live lists Closed
+  Walks-closed : Walks l blocks lists Closed
   Walks-closed = record {
     numbers = record {
       size = stages.size ∙ walks.numbers.size;
@@ -255,12 +257,15 @@ module _ (laws : Laws) {l : Grouped} {blocks : List ℕ} {live : List ℕ} {list
       numbers = omega (arith, unseen-same w.stages new_stages same_unseen stages.size, walks.numbers.numbers, size, low_q);
     };
     opened = opened;
-    signed = λ s k is. elim (stages.others s) [
-      | inl e ↦ walks.signed s k (sym e ∙ is)
-      | inr (m, from, high, same) ↦
-          let e : number ≡ k = cc (stages.members m from high, same, is) in
-          subst₂ (λ x n. IsSigned l blocks live x lists n) same e (exact m from high)
-    ];
+    signed = record {
+      finished = λ s k is. elim (stages.others s) [
+        | inl e ↦ walks.signed.finished s k (sym e ∙ is)
+        | inr (m, from, high, same) ↦
+            let e : number ≡ k = cc (stages.members m from high, same, is) in
+            subst₂ (λ x n. IsSigned l blocks x lists n) same e (exact m from high)
+      ];
+      resting = λ s is. walks.signed.resting s ((closed_seen.resting s).0 is);
+    };
     roots = record {
       first = λ h all. walks.roots.first (stack_some walks some) (All-from_take (λ r. 0 < r.height) (length w.roots - 1) w.roots no_root all (λ i high low.
           let e : i ≡ length w.roots - 1 = omega (arith, high, low) in
@@ -300,13 +305,13 @@ module _ (laws : Laws) {l : Grouped} {blocks : List ℕ} {live : List ℕ} {list
   }
 
 -- the walk goes on from there: what is ahead is the same
-module _ {l : Grouped} {blocks : List ℕ} {live : List ℕ} {lists : List (List (ℕ × ℕ))} {w : Search} (walks : Walks l blocks live lists w)
+module _ {l : Grouped} {blocks : List ℕ} {lists : List (List (ℕ × ℕ))} {w : Search} (walks : Walks l blocks lists w)
     (some : 0 < length w.frames) (read : HasRead w) where
   popped_rest : rest (popped w).frames ≡ rest w.frames
   popped_rest = rest-cut w.frames some read
 
   -- its state is no root
-  pub popped_on : (last w.roots).height ≢ here w → GoesOn l blocks live lists w (popped w)
+  pub popped_on : (last w.roots).height ≢ here w → GoesOn l blocks lists w (popped w)
   popped_on apart = record {
     walks = Walks-pop walks some read apart;
     seen = seen_same w.stages;
@@ -316,13 +321,13 @@ module _ {l : Grouped} {blocks : List ℕ} {live : List ℕ} {lists : List (List
   module _ (laws : Laws) (lts : IsLts l) {lists' : List (List (ℕ × ℕ))} {new : Search} (height : (last w.roots).height ≡ here w)
       (closes : Closes (last w.roots) lists lists' (popped w) new) where
     abbrev Returns : Search → Type 0
-    Returns x = GoesOn l blocks live lists' w x × (ahead l x ≡ ahead l w)
+    Returns x = GoesOn l blocks lists' w x × (ahead l x ≡ ahead l w)
 
     closed_with : (added : List Item) → new.items ≡ take (last w.roots).items w.items ++ added
         → ((0 < length (popped w).frames) × (added ≡ Listed closes.number ∷ [])) ⊎ ((length (popped w).frames ≡ 0) × (added ≡ [])) → Returns new
     closed_with added items led =
         let walks' = Walks-grow closes.listed.grow walks in
-        let signed : (p : ℕ) → (last w.roots).height ≤ p → p < length w.stack → IsSigned l blocks live (slice_index w.stack p) lists' closes.number =
+        let signed : (p : ℕ) → (last w.roots).height ≤ p → p < length w.stack → IsSigned l blocks (slice_index w.stack p) lists' closes.number =
         λ p high. exact laws lts walks some read height closes.listed p (omega (arith, high, height)) in
         let unseen = same_unseen laws walks' some height closes.stages signed led in
         let same : ahead l (Closed laws walks' some height closes.stages signed led) ≡ ahead l w =
@@ -344,7 +349,7 @@ module _ {l : Grouped} {blocks : List ℕ} {live : List ℕ} {lists : List (List
     ]
 
 -- a component that is finished was seen
-pub closed_none : {l : Grouped} {blocks live : List ℕ} {lists lists' : List (List (ℕ × ℕ))} {w new : Search} {root : Root} → Walks l blocks live lists w
+pub closed_none : {l : Grouped} {blocks : List ℕ} {lists lists' : List (List (ℕ × ℕ))} {w new : Search} {root : Root} → Walks l blocks lists w
     → Closes root lists lists' (popped w) new → FindsNone w new
 closed_none walks closes s is = elim (closes.stages.others s) [
   | inl same ↦ same ∙ is

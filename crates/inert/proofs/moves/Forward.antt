@@ -1,5 +1,5 @@
 -- The moves forward: an item is collected, components are joined, a state is entered, and a transition is marked as read.
-use Rattle.std.proofs.Common.{◌≡◌, ℕ, ◌+◌, ◌<◌, Bool, List, length, slice_index, refl, sym, subst, inl, inr, arith, ◌-◌, ◌≤◌, ◌∙◌, ap, subst₂, ◌⊎◌, set, get_or}
+use Rattle.std.proofs.Common.{◌≡◌, ℕ, ◌+◌, ◌<◌, List, length, slice_index, refl, sym, subst, inl, inr, arith, ◌-◌, ◌≤◌, ◌∙◌, ap, subst₂, ◌⊎◌, set, get_or}
 use Rattle.std.specs.List.{All, AllPairs}
 use Rattle.std.proofs.lemmas.Bool.{cases_lt, cases_eq}
 use Rattle.std.proofs.lemmas.List.{get_or_append_left, get_or_push, length_push, get_or_default, length-set, get_or-set_same, get_or-set_other}
@@ -10,14 +10,14 @@ use Rattle.theory.specs.declared.relation.Relation.TheVariants.{Branching}
 use Rattle.theory.specs.Blocks.{Inert}
 use Rattle.lts.specs.Lts.{Grouped, system_of, IsRow, place_at}
 use Rattle.inert.specs.Signed.{HasPair}
-use Rattle.inert.specs.Search.{Search, here, item_at, IsThere, IsOf, Gives, HoldsPair, IsSound, Walks, Item, Laws, stage_at, root_at, no_root, Ties, IsUpTo, IsBefore, IsRoot, IsHere, Root, Open, frame_at, no_frame, IsFrame, IsEntered, IsAhead, AreOpen, AreRoots, AreFrames, AreAccounted, Connects, Stage, Unseen, Finished, Frame, IsFollowed, Accounted}
+use Rattle.inert.specs.Search.{Search, here, item_at, IsThere, IsOf, Gives, HoldsPair, IsSound, Walks, Item, Laws, stage_at, root_at, no_root, Ties, IsUpTo, IsBefore, IsRoot, IsHere, Root, Open, frame_at, no_frame, IsFrame, IsEntered, IsAhead, AreOpen, AreRoots, AreFrames, AreAccounted, Connects, Stage, Unseen, Finished, AtRest, Frame, IsFollowed, Accounted}
 use Rattle.inert.specs.Moves.{with_item, CutsRoots, entered}
 use Rattle.inert.proofs.parts.Rising.{AllPairs-take, All-from_take}
 use Rattle.inert.proofs.parts.Counting.{unseen-set}
 use Rattle.inert.proofs.invariant.Standing.{reached, on_stack, ties, IsFrame-moved, frames_some, root_low}
 use Rattle.inert.proofs.invariant.Keeping.{Keeps, keeps_stack, accounted_still, sound_still, done_still}
 
-module _ {l : Grouped} {blocks : List ℕ} {live : List ℕ} {lists : List (List (ℕ × ℕ))} {w : Search} (walks : Walks l blocks live lists w) where
+module _ {l : Grouped} {blocks : List ℕ} {lists : List (List (ℕ × ℕ))} {w : Search} (walks : Walks l blocks lists w) where
   -- an item more is collected
   module _ (x : Item) where
     abbrev With : Search
@@ -40,7 +40,7 @@ module _ {l : Grouped} {blocks : List ℕ} {live : List ℕ} {lists : List (List
     collected_holds z g = (length w.items, omega (arith, length_push w.items x), subst (λ y. Gives lists y z) (sym item_last) g, of_here)
 
     pub Walks-collect : 0 < length w.frames → IsThere lists x
-        → ((z : ℕ × ℕ) → Gives lists x z → HasPair Branching l blocks (slice_index w.stack (here w)) z.0 z.1) → Walks l blocks live lists With
+        → ((z : ℕ × ℕ) → Gives lists x z → HasPair Branching l blocks (slice_index w.stack (here w)) z.0 z.1) → Walks l blocks lists With
     Walks-collect some there sound = record {
       numbers = walks.numbers;
       opened = walks.opened;
@@ -87,7 +87,7 @@ module _ {l : Grouped} {blocks : List ℕ} {live : List ℕ} {lists : List (List
     joined_here t is = (q, is, λ i d h _. below i d h, λ i d h _. cut_each (λ r. r.height ≤ here w) (reached walks) i d h)
 
     pub Walks-join : q < length w.stack → Inert (system_of l) (slice_index blocks) (slice_index w.stack (here w)) (slice_index w.stack q)
-        → Walks l blocks live lists Joined
+        → Walks l blocks lists Joined
     Walks-join low step = record {
       numbers = walks.numbers;
       opened = walks.opened;
@@ -160,6 +160,7 @@ module _ {l : Grouped} {blocks : List ℕ} {live : List ℕ} {lists : List (List
       items = λ j p low h of. (low, refl);
       opened = λ s p h is. stage_still s (Open p) is (λ e. cc);
       finished = λ s k is. stage_still s (Finished k) is (λ e. cc);
+      resting = λ s. (λ is. grind (arith, common_steps, unseen, within, is), λ is. stage_still s AtRest is (λ e. cc));
     }
 
     -- the walk went to the state t from where it was
@@ -244,7 +245,7 @@ module _ {l : Grouped} {blocks : List ℕ} {live : List ℕ} {lists : List (List
             (laws.here (system_of l) (slice_index blocks) (slice_index Entered.stack p))
       ]
 
-      pub Walks-enter : Walks l blocks live lists Entered
+      pub Walks-enter : Walks l blocks lists Entered
       Walks-enter = record {
         numbers = record {
           size = length-set w.stages t (Open n) ∙ walks.numbers.size;
@@ -252,7 +253,10 @@ module _ {l : Grouped} {blocks : List ℕ} {live : List ℕ} {lists : List (List
           numbers = omega (arith, unseen-set w.stages t (Open n) refl within unseen, walks.numbers.numbers, size);
         };
         opened = opened;
-        signed = λ s k is. walks.signed s k (grind (arith, common_steps, unseen, within, is));
+        signed = record {
+          finished = λ s k is. walks.signed.finished s k (grind (arith, common_steps, unseen, within, is));
+          resting = λ s is. walks.signed.resting s ((enter_keeps.resting s).0 is);
+        };
         roots = roots;
         frames = frames;
         connects = connects;
@@ -299,7 +303,7 @@ module _ {l : Grouped} {blocks : List ℕ} {live : List ℕ} {lists : List (List
             ]
       ]
 
-      pub Walks-next : Walks l blocks live lists Moved
+      pub Walks-next : Walks l blocks lists Moved
       Walks-next = record {
         numbers = walks.numbers;
         opened = walks.opened;

@@ -10,7 +10,7 @@ use Rattle.lts.specs.Labels.{text_of}
 use Rattle.lts.specs.Lts.{Grouped, Triple, source_of, label_of, target_of, place_at, system_of, IsLts, IsRow}
 use Rattle.inert.specs.Signed.{HasPair, pair_under}
 use Rattle.inert.specs.Steps.{IsInert, IsStep}
-use Rattle.inert.specs.Search.{Search, Laws, stage_at, frame_at, no_frame, top, here, IsFrame, Accounted, Walks, Unseen, Open, Finished, Frame, Root, Item, Pair, Listed}
+use Rattle.inert.specs.Search.{Search, Laws, stage_at, frame_at, no_frame, top, here, IsFrame, Accounted, Walks, Unseen, Open, Finished, AtRest, Frame, Root, Item, Pair, Listed}
 use Rattle.inert.specs.Moves.{entered, with_item, TakesStep, CutsRoots, ahead, HasRead, IsUnderWay, GoesOn, Finds, FindsNone}
 use Rattle.inert.specs.Ahead.{KeepsSeen}
 use Rattle.inert.specs.declared.step.Step.{Step as TakenStep}
@@ -22,7 +22,7 @@ use Rattle.inert.proofs.signatures.Exact.{place_step}
 use Rattle.inert.proofs.moves.Forward.{Walks-collect, collected_holds, Walks-join, joined_here, Walks-enter, entered_met, Walks-next}
 
 -- the transition that is next was taken, and is not marked as read
-module _ (laws : Laws) {l : Grouped} (lts : IsLts l) {blocks : List ℕ} {live : List ℕ} {lists : List (List (ℕ × ℕ))} {w : Search} (walks : Walks l blocks live lists w)
+module _ (laws : Laws) {l : Grouped} (lts : IsLts l) {blocks : List ℕ} {lists : List (List (ℕ × ℕ))} {w : Search} (walks : Walks l blocks lists w)
     (some : 0 < length w.frames) {k : ℕ} (next : (top w.frames).next ≡ k) (more : k < (top w.frames).end) where
   abbrev e : Triple
   e = place_at l.places k
@@ -56,7 +56,7 @@ module _ (laws : Laws) {l : Grouped} (lts : IsLts l) {blocks : List ℕ} {live :
 
   -- what holds of the walk then, whether it has entered a state or not
   pub record Taken (m : Search) (enters : Bool) : Type 0 where
-    pub after : Walks l blocks live lists m
+    pub after : Walks l blocks lists m
     pub done : Accounted l blocks lists m (here w) e
     pub seen : KeepsSeen w.stages m.stages
     pub same_ahead : ahead l m ≡ ahead l w
@@ -66,7 +66,7 @@ module _ (laws : Laws) {l : Grouped} (lts : IsLts l) {blocks : List ℕ} {live :
     pub finds : Finds w m enters
 
   stayed : (roots : List Root) (items : List Item) (enters : Bool) → let m : Search = record w { roots = roots; items = items } in
-      Walks l blocks live lists m → Accounted l blocks lists m (here w) e → ¬ IsTrue enters → Taken m enters
+      Walks l blocks lists m → Accounted l blocks lists m (here w) e → ¬ IsTrue enters → Taken m enters
   stayed roots items enters after done stay = record {
     after = after;
     done = done;
@@ -84,20 +84,20 @@ module _ (laws : Laws) {l : Grouped} (lts : IsLts l) {blocks : List ℕ} {live :
       stayed w.roots (with_item (Pair a b) w).items enters
       (Walks-collect walks (Pair a b) some (λ j e'. absurd (cc))
       (λ z g. subst (λ (x : ℕ × ℕ). HasPair Branching l blocks (slice_index w.stack (here w)) x.0 x.1) (sym is ∙ g) (own_pair other)))
-      (record { shown = λ _. collected_holds walks (Pair a b) (pair_under blocks e) is; followed = λ inert. absurd (other inert) })
+      (record { shown = λ _. collected_holds walks (Pair a b) (pair_under blocks e) is; followed = λ inert _. absurd (other inert) })
 
   module _ (inert : IsInert l blocks (slice_index blocks (source_of e)) e) where
     taken_finished : (number : ℕ) (enters : Bool) → stage_at w.stages (target_of e) ≡ Finished number → ¬ IsTrue enters → Taken (with_item (Listed number) w) enters
     taken_finished number enters stage =
-        let signed = walks.signed (target_of e) number stage in
+        let signed = walks.signed.finished (target_of e) number stage in
         let s = slice_index w.stack (here w) in
         let tie = laws.after (system_of l) (slice_index blocks) s s (target_of e) (laws.here (system_of l) (slice_index blocks) s) (inert_step inert) in
         stayed w.roots (with_item (Listed number) w).items enters
         (Walks-collect walks (Listed number) some (λ j e'. subst (λ x. x < length lists) (let same : number ≡ j = cc in same) signed.within)
-        (λ z g. pair_before laws l blocks s (target_of e) z tie (signed.sound z g)))
+        (λ z g. pair_before laws l blocks s (target_of e) z tie ((signed.signature.exactly z.0 z.1).0 g)))
         (record {
           shown = λ other. absurd (other inert);
-          followed = λ _. inr (inl (number, stage, λ z c. collected_holds walks (Listed number) z c));
+          followed = λ _ _. inr (inl (number, stage, λ z c. collected_holds walks (Listed number) z c));
         })
 
     taken_joined : (q : ℕ) (roots : List Root) (enters : Bool) → stage_at w.stages (target_of e) ≡ Open q → CutsRoots q w.roots roots → ¬ IsTrue enters
@@ -106,7 +106,12 @@ module _ (laws : Laws) {l : Grouped} (lts : IsLts l) {blocks : List ℕ} {live :
         let was = walks.opened.only (target_of e) q stage in
         stayed roots w.items enters
         (Walks-join walks laws cuts was.0 (subst (Inert (system_of l) (slice_index blocks) (slice_index w.stack (here w))) (sym was.1) (inert_step inert)))
-        (record { shown = λ other. absurd (other inert); followed = λ _. inl (joined_here walks laws cuts (target_of e) stage) })
+        (record { shown = λ other. absurd (other inert); followed = λ _ _. inl (joined_here walks laws cuts (target_of e) stage) })
+
+    -- a state at rest has nothing to show
+    taken_resting : (enters : Bool) → stage_at w.stages (target_of e) ≡ AtRest → ¬ IsTrue enters → Taken w enters
+    taken_resting enters stage =
+        stayed w.roots w.items enters walks (record { shown = λ other. absurd (other inert); followed = λ _ awake. absurd (awake stage) })
 
     taken_entered : (start end : ℕ) (enters : Bool) → IsRow l.places (target_of e) start end → stage_at w.stages (target_of e) ≡ Unseen → IsTrue enters
         → Taken (entered (target_of e) start end (length w.items) w) enters
@@ -116,8 +121,8 @@ module _ (laws : Laws) {l : Grouped} (lts : IsLts l) {blocks : List ℕ} {live :
         let frames = length_push w.frames x in
         record {
           after = Walks-enter walks laws within unseen row (λ _. inert_step inert);
-          done = record { shown = λ other. absurd (other inert); followed = λ _. inr (inr (entered_met walks laws within unseen row some)) };
-          seen = seen_more w.stages (target_of e) (Open (length w.stack)) (λ e. cc) within unseen;
+          done = record { shown = λ other. absurd (other inert); followed = λ _ _. inr (inr (entered_met walks laws within unseen row some)) };
+          seen = seen_more w.stages (target_of e) (Open (length w.stack)) (λ e. cc) (λ e. cc) within unseen;
           same_ahead = omega (arith, unread-set w.stages (target_of e) (Open (length w.stack)) refl within unseen l.places, rest-push w.frames x, row.count);
           same_frame = get_or_append_left w.frames (x ∷ []) _ (length w.frames - 1) (omega (arith, some));
           still = λ stay. absurd (stay went);
@@ -141,12 +146,14 @@ module _ (laws : Laws) {l : Grouped} (lts : IsLts l) {blocks : List ℕ} {live :
       (taken_entered is.0 start end enters (subst (λ s. IsRow l.places s start end) is.1 row) (ap (stage_at w.stages) (sym is.1) ∙ unseen) went)
   taken (Goes t) m enters is (inr (inl (q, stage, cuts, new, stay))) =
       subst (λ x. Taken x enters) (sym new) (taken_joined is.0 q m.roots enters (ap (stage_at w.stages) (sym is.1) ∙ stage) cuts stay)
-  taken (Goes t) m enters is (inr (inr (number, stage, new, stay))) =
+  taken (Goes t) m enters is (inr (inr (inl (number, stage, new, stay)))) =
       subst (λ x. Taken x enters) (sym new) (taken_finished is.0 number enters (ap (stage_at w.stages) (sym is.1) ∙ stage) stay)
+  taken (Goes t) m enters is (inr (inr (inr (stage, new, stay)))) =
+      subst (λ x. Taken x enters) (sym new) (taken_resting is.0 enters (ap (stage_at w.stages) (sym is.1) ∙ stage) stay)
 
 -- from one walk to another one, the row of what was its last frame was read up to place k
-pub record Reads (l : Grouped) (blocks : List ℕ) (live : List ℕ) (lists : List (List (ℕ × ℕ))) (old new : Search) (k : ℕ) : Type 0 where
-  pub on : GoesOn l blocks live lists old new
+pub record Reads (l : Grouped) (blocks : List ℕ) (lists : List (List (ℕ × ℕ))) (old new : Search) (k : ℕ) : Type 0 where
+  pub on : GoesOn l blocks lists old new
   pub here : frame_at new.frames (length old.frames - 1) ≡ record (top old.frames) { next = k }
   pub forward : (top old.frames).next ≤ k
   pub less : ahead l new + k ≡ ahead l old + (top old.frames).next
@@ -157,11 +164,11 @@ pub record Stays (old new : Search) : Type 0 where
   pub stack : new.stack ≡ old.stack
   pub none : FindsNone old new
 
-pub reads_none : {l : Grouped} {blocks : List ℕ} {live : List ℕ} {lists : List (List (ℕ × ℕ))} {w : Search} → IsUnderWay l blocks live lists w
-    → Reads l blocks live lists w w (top w.frames).next
+pub reads_none : {l : Grouped} {blocks : List ℕ} {lists : List (List (ℕ × ℕ))} {w : Search} → IsUnderWay l blocks lists w
+    → Reads l blocks lists w w (top w.frames).next
 reads_none way = record { on = record { walks = way.walks; seen = seen_same _ }; here = refl; forward = omega arith; less = refl }
 
-module _ {l : Grouped} {blocks : List ℕ} {live : List ℕ} {lists : List (List (ℕ × ℕ))} {first w : Search} {k : ℕ} (reads : Reads l blocks live lists first w k)
+module _ {l : Grouped} {blocks : List ℕ} {lists : List (List (ℕ × ℕ))} {first w : Search} {k : ℕ} (reads : Reads l blocks lists first w k)
     (stays : Stays first w) (some : 0 < length first.frames) where
   now_some : 0 < length w.frames
   now_some = omega (arith, stays.size, some)
@@ -221,7 +228,7 @@ module _ {l : Grouped} {blocks : List ℕ} {live : List ℕ} {lists : List (List
               let one = rest-next m.frames i x still_there (ap (λ y. y.end) is) (ap (λ y. y.next) is ∙ ap (λ n. n + 1) (sym next)) (omega (arith, next, left)) in
               omega (arith, one, took.same_ahead)
 
-          pub read_more : Reads l blocks live lists first New (k + 1)
+          pub read_more : Reads l blocks lists first New (k + 1)
           read_more = record {
             on = record {
               walks = Walks-next took.after still_there is next left done;

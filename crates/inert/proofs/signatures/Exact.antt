@@ -1,14 +1,15 @@
 -- If the rows of the last component are read, what it has collected is exactly the signature of each of its states.
-use Rattle.std.proofs.Common.{◌≡◌, ℕ, ◌+◌, ◌-◌, ◌<◌, ◌≤◌, List, [], ◌∷◌, length, drop, get_or, slice_index, sym, ◌∙◌, ap, subst, inl, inr, arith}
+use Rattle.std.proofs.Common.{◌≡◌, ℕ, ◌+◌, ◌-◌, ◌<◌, ◌≤◌, List, [], ◌∷◌, length, drop, get_or, slice_index, refl, sym, ◌∙◌, ap, subst, inl, inr, arith}
 use Rattle.std.proofs.lemmas.List.{length-map, get_or-map, get_or-drop, get_or_default, length-drop}
 use Rattle.theory.specs.System.{Step, Along, internal}
 use Rattle.theory.specs.declared.relation.Relation.TheVariants.{Branching}
 use Rattle.theory.specs.Blocks.{Inert}
 use Rattle.lts.specs.Labels.{text_of}
-use Rattle.lts.specs.Lts.{Grouped, source_of, label_of, target_of, place_at, transition_of, system_of, IsLts}
+use Rattle.lts.specs.Lts.{Grouped, source_of, label_of, target_of, place_at, transition_of, row_of, system_of, IsLts}
+use Rattle.lts.proofs.CallerLemmas.{IsRow-before}
 use Rattle.lists.specs.Lists.{list_at}
 use Rattle.inert.specs.Signed.{HasPair, IsSignature, pair_under}
-use Rattle.inert.specs.Search.{Search, Laws, stage_at, here, last, no_root, item_at, Gives, HoldsPair, Accounted, IsSigned, Walks}
+use Rattle.inert.specs.Search.{Search, Laws, stage_at, here, last, no_root, item_at, Gives, HoldsPair, Accounted, IsSigned, Walks, AtRest}
 use Rattle.inert.specs.Moves.{IsGiven, IsListed, HasRead}
 use Rattle.inert.proofs.invariant.Standing.{pair_before, last_low, last_most, last_frame, none_ahead}
 
@@ -28,7 +29,7 @@ place_step l k h =
     let e = transition_of l.labels (place_at l.places k) in
     (k, omega (arith, h, length-map l.places (transition_of l.labels)), get_or-map (transition_of l.labels) l.places k (0, 0, 0) e h)
 
-module _ (laws : Laws) {l : Grouped} (lts : IsLts l) {blocks : List ℕ} {live : List ℕ} {lists : List (List (ℕ × ℕ))} {w : Search} (walks : Walks l blocks live lists w)
+module _ (laws : Laws) {l : Grouped} (lts : IsLts l) {blocks : List ℕ} {lists : List (List (ℕ × ℕ))} {w : Search} (walks : Walks l blocks lists w)
     (some : 0 < length w.frames) (read : HasRead w) (height : (last w.roots).height ≡ here w) where
   -- where the items of the component begin, and what they give
   abbrev c0 : ℕ
@@ -51,6 +52,20 @@ module _ (laws : Laws) {l : Grouped} (lts : IsLts l) {blocks : List ℕ} {live :
     | inl (i, low, is, ahead) ↦ absurd (none_ahead walks read p k i lk source low (last_frame walks i low (omega (arith, is, h))) is ahead)
   ]
 
+  -- a source has a transition
+  row_some : (k : ℕ) → k < length l.places → ¬ (row_of (source_of (place_at l.places k)) l.places ≡ [])
+  row_some k h none =
+      let row = IsRow-before (source_of (place_at l.places k)) l.places lts.rising in
+      let inside = (row.exactly k h).0 refl in
+      omega (arith, inside, row.count, ap length none)
+
+  no_step : (s : ℕ) → row_of s l.places ≡ [] → (a : List ℕ) (t : ℕ) → ¬ Step (system_of l) s a t
+  no_step s none a t step = let (k, lk, source, label, target) = step_place l s t a step in row_some k lk (ap (λ x. row_of x l.places) source ∙ none)
+
+  no_path : (s : ℕ) → row_of s l.places ≡ [] → (us : List ℕ) (u t : ℕ) → Along (Inert (system_of l) (slice_index blocks)) s us u → (a : List ℕ) → ¬ Step (system_of l) u a t
+  no_path s none [] u t e a step = no_step s none a t (subst (λ x. Step (system_of l) x a t) (sym e) step)
+  no_path s none (x ∷ us) u t path a step = no_step s none internal x path.0.0
+
   -- what a state of the component can do was collected
   collects_here : (z : ℕ × ℕ) (p : ℕ) → here w ≤ p → p < length w.stack → (t : ℕ) → Step (system_of l) (slice_index w.stack p) (text_of l.labels z.0) t
       → slice_index blocks t ≡ z.1 → ¬ ((text_of l.labels z.0 ≡ internal) × (z.1 ≡ slice_index blocks (slice_index w.stack p)))
@@ -64,7 +79,16 @@ module _ (laws : Laws) {l : Grouped} (lts : IsLts l) {blocks : List ℕ} {live :
       (subst (HoldsPair lists w p) same
       ((done p k h lp lk source).shown (λ inert. other (sym label ∙ inert.0, sym block ∙ inert.1 ∙ ap (slice_index blocks) source))))
 
-  -- and what it can do at the end of inert steps: they lead to no other state that is alone in its block
+  -- an inert step leads to no state at rest that has a step: such a state is alone in its block
+  awake : (p : ℕ) → p < length w.stack → slice_index w.stack p < l.states → (k : ℕ) → slice_index blocks (target_of (place_at l.places k)) ≡ slice_index blocks (slice_index w.stack p)
+      → (us : List ℕ) (u t : ℕ) → Along (Inert (system_of l) (slice_index blocks)) (target_of (place_at l.places k)) us u → (a : List ℕ) → Step (system_of l) u a t
+      → ¬ (stage_at w.stages (target_of (place_at l.places k)) ≡ AtRest)
+  awake p lp inside k same us u t path a step rest = elim (walks.signed.resting (target_of (place_at l.places k)) rest) [
+    | inl alone ↦ cc (walks.opened.placed p lp, ap (stage_at w.stages) (alone (slice_index w.stack p) inside (sym same)), rest)
+    | inr none ↦ no_path (target_of (place_at l.places k)) none us u t path a step
+  ]
+
+  -- and what it can do at the end of inert steps
   collects : (z : ℕ × ℕ) (us : List ℕ) (p : ℕ) → here w ≤ p → p < length w.stack → (u t : ℕ)
       → Along (Inert (system_of l) (slice_index blocks)) (slice_index w.stack p) us u → Step (system_of l) u (text_of l.labels z.0) t → slice_index blocks t ≡ z.1
       → ¬ ((text_of l.labels z.0 ≡ internal) × (z.1 ≡ slice_index blocks (slice_index w.stack p))) → z.0 < length l.labels → Collected z
@@ -74,23 +98,18 @@ module _ (laws : Laws) {l : Grouped} (lts : IsLts l) {blocks : List ℕ} {live :
       let (k, lk, source, label, target) = step_place l (slice_index w.stack p) x internal first.0 in
       let same : slice_index blocks (target_of (place_at l.places k)) ≡ slice_index blocks (slice_index w.stack p) = ap (slice_index blocks) target ∙ first.1 in
       let inside : slice_index w.stack p < l.states = omega (arith, source, (lts.in_range.each k (0, 0, 0) lk).source) in
-      elim ((done p k h lp lk source).followed (label, same ∙ ap (slice_index blocks) (sym source))) [
+      let path = subst (λ y. Along (Inert (system_of l) (slice_index blocks)) y us u) (sym target) rest in
+      elim ((done p k h lp lk source).followed (label, same ∙ ap (slice_index blocks) (sym source)) (awake p lp inside k same us u t path (text_of l.labels z.0) step)) [
         | inl (q, stage, up, down) ↦
             let was = walks.opened.only (target_of (place_at l.places k)) q stage in
             let high = up (length w.roots - 1) no_root (last_low walks some) (omega (arith, height, h)) in
             collects z us q (omega (arith, height, high)) was.0 u t
-            (subst (λ y. Along (Inert (system_of l) (slice_index blocks)) y us u) (sym target ∙ sym was.1) rest) step is
+            (subst (λ y. Along (Inert (system_of l) (slice_index blocks)) y us u) (sym was.1) path) step is
             (λ inert. other (inert.0, inert.1 ∙ ap (slice_index blocks) was.1 ∙ same)) low
         | inr held ↦ elim held [
           | inl (number, stage, all) ↦
-              let path = subst (λ y. Along (Inert (system_of l) (slice_index blocks)) y us u) (sym target) rest in
               let has : HasPair Branching l blocks (target_of (place_at l.places k)) z.0 z.1 = (low, (u, t, (us, path), step, is, λ inert. other (inert.0, inert.1 ∙ same))) in
-              elim ((walks.signed (target_of (place_at l.places k)) number stage).whole) [
-                | inl signature ↦ collected_from p h z (all z ((signature.exactly z.0 z.1).1 has))
-                | inr left ↦
-                    let one = left.1 (slice_index w.stack p) inside (sym same) in
-                    absurd (cc (walks.opened.placed p lp, ap (stage_at w.stages) one, stage))
-              ]
+              collected_from p h z (all z (((walks.signed.finished (target_of (place_at l.places k)) number stage).signature.exactly z.0 z.1).1 has))
           | inr (i, low', is', to) ↦ let e = last_frame walks i (omega (arith, low')) (omega (arith, is', h)) in absurd (omega (arith, e, low'))
         ]
       ]
@@ -115,9 +134,5 @@ module _ (laws : Laws) {l : Grouped} (lts : IsLts l) {blocks : List ℕ} {live :
       rising = listed.rising;
     }
 
-    pub exact : (p : ℕ) → here w ≤ p → p < length w.stack → IsSigned l blocks live (slice_index w.stack p) lists' number
-    exact p h lp = record {
-      within = listed.within;
-      sound = λ z c. sound p h lp z ((listed.exactly z).0 c);
-      whole = inl (whole p h lp);
-    }
+    pub exact : (p : ℕ) → here w ≤ p → p < length w.stack → IsSigned l blocks (slice_index w.stack p) lists' number
+    exact p h lp = record { within = listed.within; signature = whole p h lp }

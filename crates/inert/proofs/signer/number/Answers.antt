@@ -1,5 +1,5 @@
 use Rattle.std.proofs.Common.{◌≡◌, ◌+◌, ◌<◌, length, slice_index, set, ap, sym, subst, arith}
-use Rattle.inert.specs.Search.{Search, nothing, Finished}
+use Rattle.inert.specs.Search.{Search, nothing, AtRest}
 use Rattle.inert.specs.Moves.{with_stage}
 use Rattle.inert.proofs.signatures.Numbers.{NumberedUpTo, numbered_none, next_has, numbered_more, numbered_all}
 use Rattle.inert.proofs.signer.number.Goals as goal
@@ -23,7 +23,7 @@ loop-i-preserved c =
     let more : i < length live = omega (arith, c.loop-i-test.true, c.loop-i.auto.i-end) in
     let is = sym c.rest.ensures.rests in
     record {
-      empty = subst (λ (w : Search). w ≡ nothing w.stages) is (ap (with_stage s (Finished 0)) c.loop-i.invariant.empty);
+      empty = subst (λ (w : Search). w ≡ nothing w.stages) is (ap (with_stage s AtRest) c.loop-i.invariant.empty);
       numbered =
           subst (λ (w : Search). NumberedUpTo live c.args.walk.now.stages c.args.numbers.now (i + 1) w.stages (set c.loop-i.numbers s k)) is
           (numbered_more c.loop-i.invariant.numbered c.requires.live more k c.rest.ensures.list);

@@ -1,11 +1,9 @@
-use Rattle.std.proofs.Common.{◌≡◌, ◌∙◌, length, slice_index, ap, sym, subst, subst₂, arith}
+use Rattle.std.proofs.Common.{◌∙◌, length, slice_index, ap, sym, subst, subst₂}
 use Rattle.theory.specs.declared.relation.Relation.TheVariants.{Branching}
 use Rattle.lists.specs.Lists.{list_at}
 use Rattle.partition.specs.Blocks.{AreLive, IsOne, HaveNone}
 use Rattle.inert.specs.Signed.{IsSignature, LeavesOut}
 use Rattle.inert.specs.Search.{IsWoken}
-use Rattle.inert.specs.Moves.{Rests}
-use Rattle.inert.proofs.invariant.Resting.{finished}
 use Rattle.inert.proofs.signatures.Idle.{none_still, all_within, all_signed}
 use Rattle.inert.proofs.signer.sign_all.Goals as goal
 
@@ -31,25 +29,22 @@ pub number-requires-clause-live : goal.number-requires-clause-live
 number-requires-clause-live g c =
     subst₂ AreLive (c.requires.blocks ∙ sym c.in_ok-walk_all.ensures.rests.numbers.size) (sym c.live-live.ensures.live) c.live-live.ensures.rising
 
-pub number-requires-clause-finished : goal.number-requires-clause-finished
-number-requires-clause-finished g c i h = finished c.in_ok-walk_all.ensures.rests _ (c.in_ok-walk_all.ensures.all i h)
-
 pub returns-clause-signed : goal.returns-clause-signed
 returns-clause-signed g c s one =
     let lists = c.walk_all.new.lists in
     let k = slice_index c.number.new.numbers s in
     subst (λ of. IsSignature Branching c.args.l.now of s (list_at lists k)) c.of.ensures.of
-    (all_signed c.in_ok-walk_all.ensures.rests c.args.numbers.now c.number.new.numbers
+    (all_signed c.in_ok-walk_all.ensures.rests c.live-live.result.now c.args.numbers.now c.number.new.numbers
     (subst (λ live. HaveNone live c.args.numbers.now) (sym c.live-live.ensures.live) c.requires.numbers.1) c.number.auto.numbers c.number.ensures.live c.number.ensures.others s
     (subst (λ live. IsOne live s) (sym c.live-live.ensures.live) one))
 
 pub returns-clause-numbers : goal.returns-clause-numbers
 returns-clause-numbers g c =
-    all_within c.in_ok-walk_all.ensures.rests c.args.numbers.now c.number.new.numbers
+    all_within c.in_ok-walk_all.ensures.rests c.live-live.result.now c.args.numbers.now c.number.new.numbers
     (subst (λ live. HaveNone live c.args.numbers.now) (sym c.live-live.ensures.live) c.requires.numbers.1) c.number.auto.numbers c.number.ensures.live c.number.ensures.others
 
 pub returns-clause-others : goal.returns-clause-others
 returns-clause-others g c =
     subst (λ live. HaveNone live c.number.new.numbers) c.live-live.ensures.live
-    (none_still c.in_ok-walk_all.ensures.rests c.args.numbers.now c.number.new.numbers
+    (none_still c.in_ok-walk_all.ensures.rests c.live-live.result.now c.args.numbers.now c.number.new.numbers
     (subst (λ live. HaveNone live c.args.numbers.now) (sym c.live-live.ensures.live) c.requires.numbers.1) c.number.auto.numbers c.number.ensures.live c.number.ensures.others)

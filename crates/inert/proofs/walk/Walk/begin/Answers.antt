@@ -36,7 +36,7 @@ loop-k-preserved g c =
 
 -- the step was taken from a frame
 module _ (g : Over) (c : In_ok-take g) where
-  went : Begins c.args.l.now c.args.blocks.now c.args.live.now c.args.lists.now c.args.self.now c.args.s c.row-start.result.0 (c.loop-k.k + 1) c.take.new.self
+  went : Begins c.args.l.now c.args.blocks.now c.args.lists.now c.args.self.now c.args.s c.row-start.result.0 (c.loop-k.k + 1) c.take.new.self
   went =
       takes_framed c.laws.ensures c.known.ensures c.loop-k.invariant.same c.loop-k.invariant.begun c.loop-k-test.true c.read_step-step.result c.put.new.self c.take.new.self
       c.in_ok-take.field-0 c.read_step-step.ensures.step c.in_ok-put.ensures c.in_ok-take.ensures
@@ -56,7 +56,7 @@ returns-then-leads_on-clause-visits g c =
 -- the state was finished at the end of its row
 module _ (g : Over) (c : After-end g) where
   ended : Ends c.args.s c.args.lists.now c.end.new.lists c.loop-k.self c.end.new.self
-      → Begins c.args.l.now c.args.blocks.now c.args.live.now c.end.new.lists c.args.self.now c.args.s c.row-start.result.0 c.loop-k.k c.end.new.self
+      → Begins c.args.l.now c.args.blocks.now c.end.new.lists c.args.self.now c.args.s c.row-start.result.0 c.loop-k.k c.end.new.self
   ended ends =
       begun_ends c.laws.ensures c.known.ensures c.loop-k.invariant.same c.loop-k.invariant.begun c.loop-k-test.false ends
       (within c.requires.rests c.requires.state.0)

@@ -1,6 +1,6 @@
 use Rattle.std.proofs.Common.{◌≡◌, length, arith, rules}
 use Rattle.inert.proofs.parts.Stages.{seen_on}
-use Rattle.inert.proofs.invariant.Resting.{walk_rests}
+use Rattle.inert.proofs.invariant.Resting.{walk_rests, finished}
 use Rattle.inert.proofs.walk.Walk.finish.Goals as goal
 
 pub loop-internal-preserved : goal.loop-internal-preserved
@@ -19,6 +19,13 @@ loop-internal-preserved g c =
         at_most = omega (arith, inv.visits, read.visits);
       };
     }
+
+pub returns-clause-finished : goal.returns-clause-finished
+returns-clause-finished g c =
+    let inv = c.loop-internal.invariant in
+    let none : length c.loop-internal.self.frames ≡ 0 = search rules in
+    let done = finished (walk_rests inv.on.walks none) c.args.s inv.on.seen c.requires.state.1 inv.found in
+    record { seen = inv.on.seen; number = done.0; finished = done.1 }
 
 pub returns-clause-rests : goal.returns-clause-rests
 returns-clause-rests g c =

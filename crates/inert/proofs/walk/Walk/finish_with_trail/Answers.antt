@@ -1,9 +1,9 @@
-use Rattle.std.proofs.Common.{◌≡◌, ◌∙◌, ◌+◌, ◌-◌, ◌<◌, ◌∷◌, ◌++◌, [], length, slice_index, ap, sym, subst, subst₂, arith, rules}
+use Rattle.std.proofs.Common.{◌≡◌, ◌∙◌, ◌-◌, ◌∷◌, ◌++◌, [], length, slice_index, ap, sym, subst, subst₂, arith, rules}
 use Rattle.std.proofs.lemmas.List.{get_or_read}
 use Rattle.inert.specs.Search.{IsTrail}
 use Rattle.inert.specs.Moves.{Finds}
 use Rattle.inert.proofs.parts.Stages.{seen_on, open_inside}
-use Rattle.inert.proofs.invariant.Resting.{walk_rests, within}
+use Rattle.inert.proofs.invariant.Resting.{walk_rests, within, finished}
 use Rattle.inert.proofs.moves.Beginning.{enters_begins}
 use Rattle.inert.proofs.moves.Trail.{trail_first, trail_more}
 use Rattle.inert.proofs.walk.Walk.finish_with_trail.Goals as goal
@@ -51,6 +51,12 @@ loop-internal-preserved-then-branch g c =
         at_most = omega (arith, inv.visits, read.visits);
       };
     }
+
+pub returns-clause-finished : goal.returns-clause-finished
+returns-clause-finished g c =
+    let inv = c.loop-internal.invariant in
+    let none : length c.loop-internal.self.frames ≡ 0 = search rules in
+    finished (walk_rests inv.on.walks none) c.args.s inv.on.seen (c.requires.unseen c.args.s) inv.found
 
 pub returns-clause-rests : goal.returns-clause-rests
 returns-clause-rests g c =

@@ -7,7 +7,7 @@ use Rattle.inert.proofs.walk.Walk.finish_with_trail.Given as goal
 
 abbrev pub invariant-loop-internal : goal.invariant-loop-internal
 invariant-loop-internal g l = record {
-  on : GoesOn l.l l.blocks l.live l.lists l.fn.self l.self;
+  on : GoesOn l.l l.blocks l.lists l.fn.self l.self;
   found : ¬ (stage_at l.self.stages l.s ≡ Unseen);
   trail : IsTrail l.self.stages l.trail.items;
   visits : (g.M.Meter.counted l.m).visits + ahead l.l l.self ≡ (g.M.Meter.counted l.fn.m).visits + unread l.l.places l.fn.self.stages;

@@ -45,7 +45,7 @@ bounds-blocks-index g c =
     omega (arith, state g (goal.at.bounds-blocks-index g c).After-index, inside, walks.numbers.size, c.requires.sees.size)
 
 -- one transition more is read
-module _ (g : Over) (d : After-index g) {w : Search} {k : ℕ} (reads : Reads d.args.l.now d.args.blocks.now d.args.live.now d.args.lists.now d.args.self.now w k)
+module _ (g : Over) (d : After-index g) {w : Search} {k : ℕ} (reads : Reads d.args.l.now d.args.blocks.now d.args.lists.now d.args.self.now w k)
     (stays : Stays d.args.self.now w) (more : k < d.index-frame.result.now.end) (step : Step)
     (is_step : IsStep d.args.l.now d.args.blocks.now (slice_index d.args.blocks.now d.index.result.now) (place_at d.args.l.now.places k) step)
     (m : Search) (enters : Bool) (takes : TakesStep d.args.l.now.places step w m enters) where
@@ -71,9 +71,9 @@ module _ (g : Over) (d : After-index g) {w : Search} {k : ℕ} (reads : Reads d.
     abbrev With : Search → Search
     With x = record x { frames = set x.frames i (record at { next = k + 1 }) }
 
-    after : Reads d.args.l.now d.args.blocks.now d.args.live.now d.args.lists.now d.args.self.now (With inside) (k + 1)
+    after : Reads d.args.l.now d.args.blocks.now d.args.lists.now d.args.self.now (With inside) (k + 1)
     after =
-        subst (λ (x : Search). Reads d.args.l.now d.args.blocks.now d.args.live.now d.args.lists.now d.args.self.now (With x) (k + 1)) (sym same)
+        subst (λ (x : Search). Reads d.args.l.now d.args.blocks.now d.args.lists.now d.args.self.now (With x) (k + 1)) (sym same)
         (read_more reads stays d.requires.way.some d.laws.ensures d.known.ensures more_left (slice_index d.args.blocks.now d.index.result.now) (block g d) step is_step m
         enters takes i (last g d) (record at { next = k + 1 }) moved)
 
@@ -99,7 +99,7 @@ pub loop-k-init : goal.loop-k-init
 loop-k-init g c =
     let next = ap (λ x. x.next) (frame g (goal.at.loop-k-init g c).After-index) in
     record {
-      reads = subst (Reads c.args.l.now c.args.blocks.now c.args.live.now c.args.lists.now c.args.self.now c.args.self.now) (sym next) (reads_none c.requires.way);
+      reads = subst (Reads c.args.l.now c.args.blocks.now c.args.lists.now c.args.self.now c.args.self.now) (sym next) (reads_none c.requires.way);
       stays = record { size = refl; stack = refl; none = λ s is. is };
       cost = record { rounds = omega arith; at_least = omega (arith, next); at_most = omega arith };
     }
