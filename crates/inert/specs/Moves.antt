@@ -5,6 +5,7 @@ use Rattle.std.specs.List.Sorted.{IsStrictlySortedBy}
 use Rattle.lts.specs.Lts.{Grouped, Triple, IsRow}
 use Rattle.lists.specs.Lists.{list_at, pair_cmp, Grow}
 use Rattle.inert.specs.Search.{Search, nothing, stage_at, top, root_at, Gives, AreSigned, Walks, Stage, Unseen, Open, Finished, AtRest, Root, Item, Pair, Listed}
+use Rattle.inert.specs.Steps.{Under}
 use Rattle.inert.specs.Ahead.{unread, rest, KeepsSeen, HasStages}
 use Rattle.inert.specs.declared.step.Step.{Step}
 use Rattle.inert.specs.declared.step.Step.TheVariants.{Inert, Shows}
@@ -126,13 +127,13 @@ abbrev pub HasRead : Search → Type 0
 HasRead w = (top w.frames).next ≡ (top w.frames).end
 
 -- a walk is under way: what holds between its steps, with a row to read
-pub record IsUnderWay (l : Grouped) (blocks : List ℕ) (lists : List (List (ℕ × ℕ))) (w : Search) : Type 0 where
-  pub walks : Walks l blocks lists w
+pub record IsUnderWay (u : Under) (lists : List (List (ℕ × ℕ))) (w : Search) : Type 0 where
+  pub walks : Walks u lists w
   pub some : 0 < length w.frames
 
 -- a walk goes on
-pub record GoesOn (l : Grouped) (blocks : List ℕ) (lists : List (List (ℕ × ℕ))) (old new : Search) : Type 0 where
-  pub walks : Walks l blocks lists new
+pub record GoesOn (u : Under) (lists : List (List (ℕ × ℕ))) (old new : Search) : Type 0 where
+  pub walks : Walks u lists new
   pub seen : KeepsSeen old.stages new.stages
 
 -- fewer steps are ahead after a state was entered, and else no more, where the row is read
@@ -141,8 +142,8 @@ ComesNearer l old new enters = (IsTrue enters → steps l new < steps l old)
     × (¬ IsTrue enters → HasRead new × (0 < length new.frames) × (steps l new ≤ steps l old))
 
 -- the walk rests: nothing is on the stack, and no state is open
-pub record Rests (l : Grouped) (blocks : List ℕ) (lists : List (List (ℕ × ℕ))) (w : Search) : Type 0 where
+pub record Rests (u : Under) (lists : List (List (ℕ × ℕ))) (w : Search) : Type 0 where
   pub empty : w ≡ nothing w.stages
-  pub numbers : HasStages l.states (length lists) 0 w.stages
+  pub numbers : HasStages u.l.states (length lists) 0 w.stages
   pub shut : (s p : ℕ) → ¬ (stage_at w.stages s ≡ Open p)
-  pub signed : AreSigned l blocks lists w.stages
+  pub signed : AreSigned u lists w.stages

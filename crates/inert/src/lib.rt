@@ -31,6 +31,7 @@
 mod beginning;
 mod component;
 mod item;
+mod lens;
 mod reading;
 mod signer;
 mod step;

@@ -12,8 +12,9 @@ ghost use Rattle.inert.specs.declared.item.Item.TheVariants.{Pair};
 ghost use Rattle.inert.specs.declared.item.TheConstants.{LISTED};
 
 use crate::item::{CompactItem, Item};
+use crate::lens::Lens;
 use crate::step::Step;
-use lts::{Lts, Memory, Meter};
+use lts::{Memory, Meter};
 use std::alloc::Global;
 use std::marker::Model;
 
@@ -223,13 +224,13 @@ impl Walk {
     ///
     /// Fails if there is no memory for it.
     #[inline(always)]
-    pub fn enter<M: Meter>(&mut self, l: &Lts<M>, s: u32) -> Result<(), Memory>
-        requires state { s < l.now.states }
-        requires stages { length self.old.stages ≡ l.now.states }
+    pub fn enter<M: Meter>(&mut self, lens: &Lens<M>, s: u32) -> Result<(), Memory>
+        requires state { s < lens.now.l.states }
+        requires stages { length self.old.stages ≡ lens.now.l.states }
         requires heights { length self.old.stack ≤ MOST_STATES }
-        ensures { OnOk result (Enters l.now.places s self.old self.new) }
+        ensures { OnOk result (Enters lens.now.l.places s self.old self.new) }
     {
-        let (next, end) = l.row(s);
+        let (next, end) = lens.row(s);
         let items = self.items.len();
         self.put(s, next, end, items)
     }
@@ -239,19 +240,19 @@ impl Walk {
     ///
     /// Fails if there is no memory for it.
     #[inline(always)]
-    pub fn take<M: Meter>(&mut self, l: &Lts<M>, step: Step) -> Result<bool, Memory>
-        requires state { (t : ℕ) → step ≡ Inert t → t < l.now.states }
+    pub fn take<M: Meter>(&mut self, lens: &Lens<M>, step: Step) -> Result<bool, Memory>
+        requires state { (t : ℕ) → step ≡ Inert t → t < lens.now.l.states }
         requires label { (a b : ℕ) → step ≡ Shows a b → a < LISTED }
-        requires stages { length self.old.stages ≡ l.now.states }
+        requires stages { length self.old.stages ≡ lens.now.l.states }
         requires heights { length self.old.stack ≤ MOST_STATES }
-        ensures { IfOk result (TakesStep l.now.places step self.old self.new) }
+        ensures { IfOk result (TakesStep lens.now.l.places step self.old self.new) }
     {
         match step {
             Step::Shows(label, block) => {
                 self.collect(Item::Pair(label, block))?;
                 Ok(false)
             }
-            Step::Inert(t) => self.follow(l, t),
+            Step::Inert(t) => self.follow(lens, t),
         }
     }
 
@@ -259,15 +260,15 @@ impl Walk {
     ///
     /// Fails if there is no memory for it.
     #[inline(always)]
-    fn follow<M: Meter>(&mut self, l: &Lts<M>, t: u32) -> Result<bool, Memory>
-        requires state { t < l.now.states }
-        requires stages { length self.old.stages ≡ l.now.states }
+    fn follow<M: Meter>(&mut self, lens: &Lens<M>, t: u32) -> Result<bool, Memory>
+        requires state { t < lens.now.l.states }
+        requires stages { length self.old.stages ≡ lens.now.l.states }
         requires heights { length self.old.stack ≤ MOST_STATES }
-        ensures { IfOk result (Follows l.now.places t self.old self.new) }
+        ensures { IfOk result (Follows lens.now.l.places t self.old self.new) }
     {
         match self.stages[t as usize] {
             Stage::Unseen => {
-                self.enter(l, t)?;
+                self.enter(lens, t)?;
                 Ok(true)
             }
             Stage::Open(height) => {

@@ -3,8 +3,8 @@ use Rattle.std.proofs.Common.{◌≡◌, ◌⊎◌, ◌∙◌, ℕ, ◌<◌, ◌
 use Rattle.std.proofs.lemmas.Bool.{cases_lt}
 use Rattle.std.proofs.lemmas.List.{get_or_past, nil_from_length}
 use Rattle.std.proofs.lemmas.List.Sums.{count_by-le-length}
-use Rattle.lts.specs.Lts.{Grouped}
 use Rattle.partition.specs.Blocks.{IsOne}
+use Rattle.inert.specs.Steps.{Under}
 use Rattle.inert.specs.Signed.{LeavesOut}
 use Rattle.inert.specs.Search.{Search, nothing, stage_at, no_root, AreAtRest, IsIdle, IsWoken, Walks, Unseen, Open, Finished, AtRest, Stage}
 use Rattle.inert.specs.Moves.{Rests}
@@ -12,9 +12,9 @@ use Rattle.inert.specs.Ahead.{is_unseen, unseen, KeepsSeen}
 use Rattle.inert.proofs.invariant.Standing.{frames_some, root_low}
 
 -- nothing was seen yet
-pub unseen_rests : (l : Grouped) (blocks : List ℕ) (lists : List (List (ℕ × ℕ))) {w : Search} → w ≡ nothing w.stages → ((s : ℕ) → stage_at w.stages s ≡ Unseen)
-    → length w.stages ≡ l.states → 1 ≤ length lists → Rests l blocks lists w
-unseen_rests l blocks lists {w = w} empty none size some =
+pub unseen_rests : (u : Under) (lists : List (List (ℕ × ℕ))) {w : Search} → w ≡ nothing w.stages → ((s : ℕ) → stage_at w.stages s ≡ Unseen)
+    → length w.stages ≡ u.l.states → 1 ≤ length lists → Rests u lists w
+unseen_rests u lists {w = w} empty none size some =
     let few : unseen w.stages ≤ length w.stages = count_by-le-length is_unseen w.stages in
     record {
       empty = empty;
@@ -39,9 +39,9 @@ module _ {states : ℕ} {live : List ℕ} {w : Search} (woken : IsWoken states l
     ]
   ]
 
-  pub woken_rests : {l : Grouped} {blocks : List ℕ} {lists : List (List (ℕ × ℕ))} → l.states ≡ states → length blocks ≡ l.states → LeavesOut l blocks live
-      → 1 ≤ length lists → Rests l blocks lists w
-  woken_rests {l = l} {blocks = blocks} all size others some =
+  pub woken_rests : {u : Under} {lists : List (List (ℕ × ℕ))} → u.l.states ≡ states → length u.blocks ≡ u.l.states → LeavesOut u.l u.blocks live
+      → 1 ≤ length lists → Rests u lists w
+  woken_rests {u = u} all size others some =
       let few : unseen w.stages ≤ length w.stages = count_by-le-length is_unseen w.stages in
       record {
         empty = woken.empty;
@@ -70,8 +70,8 @@ finished_stage (Open p) seen shut awake = absurd (shut p refl)
 finished_stage (Finished k) seen shut awake = (k, refl)
 finished_stage AtRest seen shut awake = absurd (awake refl)
 
-module _ {l : Grouped} {blocks : List ℕ} {lists : List (List (ℕ × ℕ))} {w : Search} (rests : Rests l blocks lists w) where
-  pub idle_walks : Walks l blocks lists (nothing w.stages)
+module _ {u : Under} {lists : List (List (ℕ × ℕ))} {w : Search} (rests : Rests u lists w) where
+  pub idle_walks : Walks u lists (nothing w.stages)
   idle_walks = record {
     numbers = rests.numbers;
     opened = record { placed = λ p h. absurd (omega (arith, h)); only = λ s p is. absurd (rests.shut s p is) };
@@ -84,7 +84,7 @@ module _ {l : Grouped} {blocks : List ℕ} {lists : List (List (ℕ × ℕ))} {w
     accounted = λ p k h. absurd (omega (arith, h));
   }
 
-  pub within : {s : ℕ} → s < l.states → s < length w.stages
+  pub within : {s : ℕ} → s < u.l.states → s < length w.stages
   within inside = let size = rests.numbers.size in omega (arith, size, inside)
 
   -- a state that was found is finished
@@ -93,8 +93,8 @@ module _ {l : Grouped} {blocks : List ℕ} {lists : List (List (ℕ × ℕ))} {w
   finished s seen none found = finished_stage (stage_at w.stages s) found (rests.shut s) (λ is. cc ((seen.resting s).0 is, none))
 
 -- a walk rests when no row is being read
-pub walk_rests : {l : Grouped} {blocks : List ℕ} {lists : List (List (ℕ × ℕ))} {w : Search} → Walks l blocks lists w → length w.frames ≡ 0
-    → Rests l blocks lists w
+pub walk_rests : {u : Under} {lists : List (List (ℕ × ℕ))} {w : Search} → Walks u lists w → length w.frames ≡ 0
+    → Rests u lists w
 walk_rests {w = w} walks none =
     let stack : length w.stack ≡ 0 = grind (arith, frames_some walks, none) in
     let roots : length w.roots ≡ 0 = grind (arith, root_low walks 0 no_root, stack) in

@@ -2,14 +2,14 @@
 use Rattle.std.proofs.Common.{◌≡◌, ◌⊎◌, ℕ, ◌<◌, List, length, slice_index, ◌∙◌, subst, inl, inr, arith}
 use Rattle.std.proofs.lemmas.List.{get_or_default}
 use Rattle.theory.specs.declared.relation.Relation.TheVariants.{Branching}
-use Rattle.lts.specs.Lts.{Grouped}
 use Rattle.lists.specs.Lists.{list_at, AreNumbers}
 use Rattle.partition.specs.Blocks.{IsOne, HaveNone}
 use Rattle.inert.specs.Signed.{IsSignature}
+use Rattle.inert.specs.Steps.{Under}
 use Rattle.inert.specs.Search.{Search, stage_at, Finished}
 use Rattle.inert.specs.Moves.{Rests}
 
-module _ {l : Grouped} {blocks : List ℕ} {lists : List (List (ℕ × ℕ))} {w : Search} (rests : Rests l blocks lists w) (live old numbers : List ℕ)
+module _ {u : Under} {lists : List (List (ℕ × ℕ))} {w : Search} (rests : Rests u lists w) (live old numbers : List ℕ)
     (none : HaveNone live old) (size : length numbers ≡ length old)
     (has : (i : ℕ) → i < length live → let s = slice_index live i in stage_at w.stages s ≡ Finished (slice_index numbers s))
     (others : (s : ℕ) → IsOne live s ⊎ (slice_index numbers s ≡ slice_index old s)) where
@@ -29,5 +29,5 @@ module _ {l : Grouped} {blocks : List ℕ} {lists : List (List (ℕ × ℕ))} {w
     | inr zero ↦ let some = rests.numbers.some in omega (arith, zero, some)
   ])
 
-  pub all_signed : (s : ℕ) → IsOne live s → IsSignature Branching l blocks s (list_at lists (slice_index numbers s))
+  pub all_signed : (s : ℕ) → IsOne live s → IsSignature Branching u.l u.blocks s (list_at lists (slice_index numbers s))
   all_signed s one = (rests.signed.finished s (slice_index numbers s) (its_list s one)).signature

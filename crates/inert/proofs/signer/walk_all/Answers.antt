@@ -4,7 +4,7 @@ use Rattle.std.proofs.lemmas.Result.{err_from_is_err_and}
 use Rattle.lts.proofs.CallerLemmas.{before-le}
 use Rattle.inert.specs.Search.{Stage, stage_at, Finished}
 use Rattle.inert.specs.Ahead.{KeepsSeen}
-use Rattle.inert.proofs.parts.Counting.{passed, passed-all}
+use Rattle.inert.proofs.parts.Counting.{costs_on, passed, passed-all}
 use Rattle.inert.proofs.parts.Stages.{seen_same, seen_on}
 use Rattle.inert.proofs.invariant.Resting.{woken_rests, rest_on, finished}
 use Rattle.inert.proofs.signatures.Passing.{Comes, comes, first_passed, none_unread}
@@ -20,10 +20,10 @@ module _ (g : Over) (c : After-row-start g) where
   more : i < length c.args.live.now
   more = omega (arith, c.loop-i-test.true, c.loop-i.auto.i)
 
-  next : Comes c.args.l.now c.args.live.now c.args.walk.now.stages i c.row-start.result.0 c.row-start.result.1 c.loop-i.to
+  next : Comes c.args.lens.now.l c.args.live.now c.args.walk.now.stages i c.row-start.result.0 c.row-start.result.1 c.loop-i.to
   next =
       let inv = c.loop-i.invariant in
-      comes c.known.ensures c.requires.live.0 c.requires.woken more c.row-start.ensures (λ j h. inv.behind j (omega (arith, h, c.loop-i-test.true)))
+      comes c.known.ensures.lts c.requires.live c.requires.woken more c.row-start.ensures (λ j h. inv.behind j (omega (arith, h, c.loop-i-test.true)))
       (λ j low h. inv.ahead j (omega (arith, low, c.loop-i-test.true)) h) inv.within
 
   -- those after it are finished, and so is it
@@ -38,23 +38,23 @@ module _ (g : Over) (c : After-row-start g) where
 
 pub loop-i-init : goal.loop-i-init
 loop-i-init g c =
-    let l = c.args.l.now in
+    let l = c.args.lens.now.l in
     let all = passed-all l.places c.args.walk.now.stages in
     record {
-      rests = woken_rests c.requires.woken refl c.requires.blocks c.requires.live.1 c.known-2.ensures.some;
+      rests = woken_rests c.requires.woken refl c.known.ensures.size c.requires.others c.known-2.ensures.some;
       all = λ j h below. absurd (omega (arith, h, below));
       seen = seen_same c.args.walk.now.stages;
-      behind = λ j h. omega (arith, before-le (slice_index c.args.live.now j + 1) l.places, c.edges-to.ensures.value);
+      behind = λ j h. omega (arith, before-le (slice_index c.args.live.now j + 1) l.places, c.edges-to.ensures);
       ahead = λ j h below. absurd (omega (arith, h, below));
-      within = omega (arith, c.edges-to.ensures.value);
-      visits = omega (arith, all, ap (passed l.places c.args.walk.now.stages) c.edges-to.ensures.value);
+      within = omega (arith, c.edges-to.ensures);
+      visits = omega (arith, all, ap (passed l.places c.args.walk.now.stages) c.edges-to.ensures);
       cost = record { rounds = omega arith; at_least = omega arith; at_most = omega arith };
     }
 
-pub visit_places-requires-clause-room : goal.visit_places-requires-clause-room
-visit_places-requires-clause-room g c =
+pub visit-requires-clause-room : goal.visit-requires-clause-room
+visit-requires-clause-room g c =
     let inv = c.loop-i.invariant in
-    let passes = (next g (goal.at.visit_places-requires-clause-room g c).After-row-start).passes in
+    let passes = (next g (goal.at.visit-requires-clause-room g c).After-row-start).passes in
     record { for_rounds = omega (arith, c.requires.room.for_rounds, inv.cost.rounds); for_visits = omega (arith, c.requires.room.for_visits, inv.visits, passes) }
 
 pub loop-i-preserved-then-not-is_unseen : goal.loop-i-preserved-then-not-is_unseen
@@ -62,7 +62,7 @@ loop-i-preserved-then-not-is_unseen g c =
     let d = (goal.at.loop-i-preserved-then-not-is_unseen g c).After-row-start in
     let inv = c.loop-i.invariant in
     let comes = next g d in
-    let gap = c.visit_places.ensures in
+    let gap = c.visit.ensures in
     record {
       rests = inv.rests;
       all = all_on g d (seen_same c.loop-i.walk.stages)
@@ -72,18 +72,14 @@ loop-i-preserved-then-not-is_unseen g c =
       ahead = comes.ahead;
       within = comes.within;
       visits = omega (arith, inv.visits, comes.passes, gap.at_least, gap.at_most);
-      cost = record {
-        rounds = omega (arith, inv.cost.rounds, gap.rounds);
-        at_least = omega (arith, inv.cost.at_least, gap.at_least);
-        at_most = omega (arith, inv.visits, comes.passes, gap.at_most);
-      };
+      cost = costs_on inv.cost gap (omega (arith, inv.visits, comes.passes, gap.at_most));
     }
 
 pub finish-requires-clause-room : goal.finish-requires-clause-room
 finish-requires-clause-room g c =
     let inv = c.loop-i.invariant in
     let passes = (next g (goal.at.finish-requires-clause-room g c).After-row-start).passes in
-    let gap = c.visit_places.ensures in
+    let gap = c.visit.ensures in
     record {
       for_rounds = omega (arith, c.requires.room.for_rounds, inv.cost.rounds, gap.rounds);
       for_visits = omega (arith, c.requires.room.for_visits, inv.visits, passes, gap.at_most);
@@ -94,7 +90,7 @@ loop-i-preserved g c =
     let d = (goal.at.loop-i-preserved g c).After-row-start in
     let inv = c.loop-i.invariant in
     let comes = next g d in
-    let gap = c.visit_places.ensures in
+    let gap = c.visit.ensures in
     let done = c.in_ok-finish.ensures in
     record {
       rests = done.rests;
@@ -104,31 +100,23 @@ loop-i-preserved g c =
       ahead = comes.ahead;
       within = comes.within;
       visits = omega (arith, inv.visits, comes.passes, gap.at_least, gap.at_most, done.visits);
-      cost = record {
-        rounds = omega (arith, inv.cost.rounds, gap.rounds, done.cost.rounds);
-        at_least = omega (arith, inv.cost.at_least, gap.at_least, done.cost.at_least);
-        at_most = omega (arith, inv.visits, comes.passes, gap.at_most, done.cost.at_most);
-      };
+      cost = costs_on (costs_on {most = length c.args.lens.now.l.places} inv.cost gap (omega (arith, inv.visits, comes.passes, gap.at_most))) done.cost (omega (arith, inv.visits, comes.passes, gap.at_most, done.cost.at_most));
     }
 
 pub returns-in_err-finish-clause-visits : goal.returns-in_err-finish-clause-visits
 returns-in_err-finish-clause-visits g c =
     let inv = c.loop-i.invariant in
     let passes = (next g (goal.at.returns-in_err-finish-clause-visits g c).After-row-start).passes in
-    let gap = c.visit_places.ensures in
+    let gap = c.visit.ensures in
     let cost = c.in_err-finish.ensures.cost in
     let exit = err_from_is_err_and c.from_residual.result c.from_residual.ensures.1 in
-    rw (exit.1) (record {
-      rounds = omega (arith, inv.cost.rounds, gap.rounds, cost.rounds);
-      at_least = omega (arith, inv.cost.at_least, gap.at_least, cost.at_least);
-      at_most = omega (arith, inv.visits, passes, gap.at_most, cost.at_most);
-    })
+    rw (exit.1) (costs_on (costs_on {most = length c.args.lens.now.l.places} inv.cost gap (omega (arith, inv.visits, passes, gap.at_most))) cost (omega (arith, inv.visits, passes, gap.at_most, cost.at_most)))
 
 -- the rows before that of the first one
-pub visit_places-requires-2-clause-room : goal.visit_places-requires-2-clause-room
-visit_places-requires-2-clause-room g c =
+pub visit-requires-2-clause-room : goal.visit-requires-2-clause-room
+visit-requires-2-clause-room g c =
     let inv = c.loop-i.invariant in
-    let first = first_passed c.known.ensures c.requires.live.0 c.requires.woken c.loop-i.to (λ j h. inv.ahead j (omega (arith, c.loop-i-test.false)) h) inv.within in
+    let first = first_passed c.known.ensures.lts c.requires.live c.requires.woken c.loop-i.to (λ j h. inv.ahead j (omega (arith, c.loop-i-test.false)) h) inv.within in
     record { for_rounds = omega (arith, c.requires.room.for_rounds, inv.cost.rounds); for_visits = omega (arith, c.requires.room.for_visits, inv.visits, first) }
 
 pub returns-clause-others : goal.returns-clause-others
@@ -137,12 +125,12 @@ returns-clause-others g c = rest_on c.requires.woken c.loop-i.invariant.seen c.l
 pub returns-clause-visits : goal.returns-clause-visits
 returns-clause-visits g c =
     let inv = c.loop-i.invariant in
-    let first = first_passed c.known.ensures c.requires.live.0 c.requires.woken c.loop-i.to (λ j h. inv.ahead j (omega (arith, c.loop-i-test.false)) h) inv.within in
+    let first = first_passed c.known.ensures.lts c.requires.live c.requires.woken c.loop-i.to (λ j h. inv.ahead j (omega (arith, c.loop-i-test.false)) h) inv.within in
     let none =
-    none_unread c.known.ensures c.requires.live.0 c.loop-i.walk.stages inv.rests.numbers.size
+    none_unread c.known.ensures.lts c.requires.live c.loop-i.walk.stages inv.rests.numbers.size
     (rest_on c.requires.woken inv.seen inv.rests.numbers.size)
     (λ j h. inv.all j (omega (arith, c.loop-i-test.false)) h) in
-    let visits = c.visit_places-2.ensures in
+    let visits = c.visit-2.ensures in
     record {
       rounds = omega (arith, inv.cost.rounds, visits.rounds);
       at_least = omega (arith, inv.visits, first, none, visits.at_least);

@@ -48,9 +48,9 @@ module _ (g : Over) (c : After-index-root g) where
     -- the component was finished
     module _ (same : c.index-root.result.now.height ≡ c.index-frame.result.now.height) {lists' : List (List (ℕ × ℕ))} {new : Search}
         (closes : Closes c.index-root.result.now c.args.lists.now lists' (left 1) new) where
-      closing : GoesOn c.args.l.now c.args.blocks.now lists' W new × (ahead c.args.l.now new ≡ ahead c.args.l.now W)
+      closing : GoesOn c.args.lens.now lists' W new × (ahead c.args.lens.now.l new ≡ ahead c.args.lens.now.l W)
       closing =
-          closed c.requires.way.walks c.requires.way.some c.requires.read c.laws.ensures c.known.ensures
+          closed c.requires.way.walks c.requires.way.some c.requires.read c.known.ensures.laws c.known.ensures.lts
           (ap (λ r. r.height) (sym root) ∙ same ∙ ap (λ x. x.height) frame) (subst₂ (λ r w. Closes r c.args.lists.now lists' w new) root (sym left) closes)
 
       closing_none : FindsNone W new
@@ -67,7 +67,7 @@ returns-else-root-frame-clause-on g c =
     let d = (goal.at.returns-else-root-frame-clause-on g c).After-index-root in
     let apart : (last c.args.self.now.roots).height ≢ here c.args.self.now =
     λ e. c.if-root-frame.false (ap (λ r. r.height) (root g d) ∙ e ∙ ap (λ x. x.height) (sym (frame g d))) in
-    subst (GoesOn c.args.l.now c.args.blocks.now c.args.lists.now c.args.self.now) (left g d c.pop.ensures.rest)
+    subst (GoesOn c.args.lens.now c.args.lists.now c.args.self.now) (left g d c.pop.ensures.rest)
     (popped_on c.requires.way.walks c.requires.way.some c.requires.read apart)
 
 pub returns-in_ok-close-clause-on : goal.returns-in_ok-close-clause-on
