@@ -266,6 +266,11 @@ impl Walk {
         requires heights { length self.old.stack ≤ MOST_STATES }
         ensures { IfOk result (Follows lens.now.l.places t self.old self.new) }
     {
+        // Apart from the others: a jump by four stages took 1 % more instructions where most steps are inert.
+        if let Stage::Finished(list) = self.stages[t as usize] {
+            self.collect(Item::Listed(list))?;
+            return Ok(false);
+        }
         match self.stages[t as usize] {
             Stage::Unseen => {
                 self.enter(lens, t)?;
@@ -275,10 +280,7 @@ impl Walk {
                 cut(&mut self.roots, height);
                 Ok(false)
             }
-            Stage::Finished(list) => {
-                self.collect(Item::Listed(list))?;
-                Ok(false)
-            }
+            Stage::Finished(_) => unreachable!(),
             Stage::AtRest => Ok(false),
         }
     }
