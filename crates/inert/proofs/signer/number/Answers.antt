@@ -39,9 +39,3 @@ returns-clause-idle c =
           numbered_all
           (subst (λ n. NumberedUpTo live c.args.walk.now.stages c.args.numbers.now n c.loop-i.walk.stages c.loop-i.numbers) end c.loop-i.invariant.numbered);
     }
-
-pub returns-clause-live : goal.returns-clause-live
-returns-clause-live c i h = c.loop-i.invariant.numbered.live_have i (omega (arith, h, c.loop-i-test.false, c.loop-i.auto.i-end))
-
-pub returns-clause-others : goal.returns-clause-others
-returns-clause-others c = c.loop-i.invariant.numbered.others

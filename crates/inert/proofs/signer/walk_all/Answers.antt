@@ -119,9 +119,6 @@ visit-requires-2-clause-room g c =
     let first = first_passed c.known.ensures.lts c.requires.live c.requires.woken c.loop-i.to (λ j h. inv.ahead j (omega (arith, c.loop-i-test.false)) h) inv.within in
     record { for_rounds = omega (arith, c.requires.room.for_rounds, inv.cost.rounds); for_visits = omega (arith, c.requires.room.for_visits, inv.visits, first) }
 
-pub returns-clause-others : goal.returns-clause-others
-returns-clause-others g c = rest_on c.requires.woken c.loop-i.invariant.seen c.loop-i.invariant.rests.numbers.size
-
 pub returns-clause-visits : goal.returns-clause-visits
 returns-clause-visits g c =
     let inv = c.loop-i.invariant in

@@ -4,16 +4,11 @@ use Rattle.lists.specs.Lists.{list_at}
 use Rattle.partition.specs.Blocks.{AreLive, IsOne, HaveNone}
 use Rattle.inert.specs.Signed.{IsSignature, LeavesOut}
 use Rattle.inert.specs.Steps.{Under, under}
-use Rattle.inert.specs.Search.{IsWoken}
 use Rattle.inert.proofs.signatures.Idle.{none_still, all_within, all_signed}
 use Rattle.inert.proofs.signer.Signer.sign_each.Goals as goal
 
 pub wake-requires-clause-live : goal.wake-requires-clause-live
 wake-requires-clause-live g c = subst₂ AreLive (c.requires.blocks ∙ sym (c.in_ok-prepare.ensures.size ∙ c.states.ensures.value)) (sym c.live-live.ensures.live) c.live-live.ensures.rising
-
-pub walk_all-requires-clause-woken : goal.walk_all-requires-clause-woken
-walk_all-requires-clause-woken g c =
-    subst (λ n. IsWoken n c.live-live.result.now c.wake.new.self) (c.in_ok-prepare.ensures.size ∙ c.states.ensures.value ∙ ap (λ u. u.l.states) (sym c.new-lens.ensures)) c.wake.ensures
 
 pub walk_all-requires-clause-live : goal.walk_all-requires-clause-live
 walk_all-requires-clause-live g c =
@@ -23,9 +18,6 @@ pub walk_all-requires-clause-others : goal.walk_all-requires-clause-others
 walk_all-requires-clause-others g c =
     let is : under c.args.l.now c.args.blocks.now.of ≡ c.new-lens.result = ap (under c.args.l.now) (sym c.of.ensures.of) ∙ sym c.new-lens.ensures in
     subst₂ (λ (u : Under) live. LeavesOut u.l u.blocks live) is (sym c.live-live.ensures.live) c.requires.others
-
-pub number-requires-clause-size : goal.number-requires-clause-size
-number-requires-clause-size g c = c.requires.numbers.0 ∙ sym (c.in-Ok.ensures.rests.numbers.size ∙ ap (λ u. u.l.states) c.new-lens.ensures)
 
 pub number-requires-clause-live : goal.number-requires-clause-live
 number-requires-clause-live g c =

@@ -56,9 +56,6 @@ module _ (g : Over) (c : After-index-root g) where
       closing_none : FindsNone W new
       closing_none = closed_none c.requires.way.walks (subst₂ (λ r w. Closes r c.args.lists.now lists' w new) root (sym left) closes)
 
-pub close-requires-clause-items : goal.close-requires-clause-items
-close-requires-clause-items g c = omega (arith, few g (goal.at.close-requires-clause-items g c).After-index-root, ap (λ w. length w.items) c.self.view_is)
-
 pub close-requires-clause-there : goal.close-requires-clause-there
 close-requires-clause-there g c = subst (λ w. AreThere c.args.lists.now w.items) (sym c.self.view_is) c.requires.way.walks.there
 
@@ -77,11 +74,6 @@ returns-in_ok-close-clause-on g c =
 pub returns-in_ok-close-clause-ahead : goal.returns-in_ok-close-clause-ahead
 returns-in_ok-close-clause-ahead g c =
     (closing g (goal.at.returns-in_ok-close-clause-ahead g c).After-index-root c.pop.ensures.rest c.if-root-frame.true c.in_ok-close.ensures).1
-
-pub returns-else-root-frame-clause-finds : goal.returns-else-root-frame-clause-finds
-returns-else-root-frame-clause-finds g c =
-    let d = (goal.at.returns-else-root-frame-clause-finds g c).After-index-root in
-    subst (FindsNone c.args.self.now) (left g d c.pop.ensures.rest) (λ s is. is)
 
 pub returns-in_ok-close-clause-finds : goal.returns-in_ok-close-clause-finds
 returns-in_ok-close-clause-finds g c =

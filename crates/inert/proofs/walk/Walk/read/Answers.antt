@@ -1,4 +1,4 @@
-use Rattle.std.proofs.Common.{◌≡◌, ◌∙◌, ℕ, ◌+◌, ◌-◌, ◌<◌, length, get_or, set, slice_index, Bool, ap, sym, subst, refl, inl, arith}
+use Rattle.std.proofs.Common.{◌≡◌, ◌∙◌, ℕ, ◌+◌, ◌-◌, ◌<◌, length, get_or, set, slice_index, Bool, ap, sym, subst, refl, arith}
 use Rattle.std.proofs.lemmas.Bool.{false≢true}
 use Rattle.std.proofs.lemmas.List.{get_or_read}
 use Rattle.lts.specs.Lts.{place_at}
@@ -152,9 +152,6 @@ returns-then-entered-clause-finds g c =
     marks g d i.reads i.stays (omega (arith, c.loop-k-test.true)) c.step-step.result c.step-step.ensures.step c.take.new.self c.in_ok-entered.entered
     c.in_ok-entered.ensures c.self-in-loop-k.view_is c.index_mut.ensures.value in
     subst (Finds c.args.self.now _) c.if-entered.true m.finds
-
-pub returns-clause-finds : goal.returns-clause-finds
-returns-clause-finds g c = record { some = λ e. absurd (false≢true e); found = λ s is. inl (c.loop-k.invariant.stays.none s is) }
 
 pub returns-clause-steps : goal.returns-clause-steps
 returns-clause-steps g c =

@@ -1,9 +1,9 @@
-use Rattle.std.proofs.Common.{◌≡◌, ◌∙◌, ◌-◌, ◌∷◌, ◌++◌, [], length, slice_index, ap, sym, subst, subst₂, inl, inr, arith, rules}
+use Rattle.std.proofs.Common.{◌≡◌, ◌∙◌, ◌-◌, ◌∷◌, ◌++◌, [], length, ap, sym, subst, subst₂, inl, inr, arith, rules}
 use Rattle.std.proofs.lemmas.Bool.{false≢true}
-use Rattle.std.proofs.lemmas.List.{get_or_read}
 use Rattle.inert.specs.Search.{IsTrail}
 use Rattle.inert.specs.Moves.{Finds}
 use Rattle.inert.specs.Ahead.{rest}
+use Rattle.inert.proofs.parts.Rising.{last_read}
 use Rattle.inert.proofs.parts.Stages.{seen_on, open_inside}
 use Rattle.inert.proofs.invariant.Resting.{unseen_rests, idle_unseen, walk_rests, within, finished}
 use Rattle.inert.proofs.parts.Counting.{costs_on, unread-all, unread-seen}
@@ -38,11 +38,7 @@ loop-self-preserved-then-branch g c =
     let stack = walk.inside.stack in
     let finds = subst (Finds c.loop-self.self new) c.if-branch.true read.finds in
     let some = read.finds.some c.if-branch.true in
-    let size = ap (λ w. length w.stack) walk.view_is in
-    let place : c.len.result - 1 ≡ length new.stack - 1 = omega (arith, c.len.ensures, stack.ok.0, size) in
-    let last : c.index.result.now ≡ slice_index new.stack (length new.stack - 1) =
-    get_or_read stack.items (c.len.result - 1) c.index.result.now (omega (arith, place, some, size)) c.index.ensures 0
-    ∙ ap (λ w. slice_index w.stack (c.len.result - 1)) walk.view_is ∙ ap (slice_index new.stack) place in
+    let last = last_read stack.items new.stack c.len.result c.index.result.now 0 (ap (λ w. w.stack) walk.view_is) (omega (arith, c.len.ensures, stack.ok.0)) some c.index.ensures in
     let inside = open_inside new.stages new.stack read.on.walks.opened (length new.stack - 1) 0 (omega (arith, some)) in
     record {
       on = record { walks = read.on.walks; seen = seen_on inv.on.seen read.on.seen };
@@ -69,9 +65,6 @@ loop-self-preserved g c =
       visits = omega (arith, inv.visits, read.visits, back.ahead);
       cost = costs_on inv.cost read.cost (omega (arith, inv.visits, read.visits));
     }
-
-pub list-list-requires-clause-state : goal.list-list-requires-clause-state
-list-list-requires-clause-state g c = omega (arith, c.loop-self.invariant.on.walks.numbers.size, c.requires.state)
 
 pub list-list-requires-clause-finished : goal.list-list-requires-clause-finished
 list-list-requires-clause-finished g c =
