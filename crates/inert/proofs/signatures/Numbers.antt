@@ -9,9 +9,8 @@ use Rattle.inert.specs.Search.{Stage, stage_at, AreAtRest, Unseen, Finished, AtR
 pub record NumberedUpTo (live : List ℕ) (first : List Stage) (old : List ℕ) (i : ℕ) (stages : List Stage) (numbers : List ℕ) : Type 0 where
   pub size : length stages ≡ length first
   pub sizes : length numbers ≡ length first
-  pub done : (j : ℕ) → j < i → stage_at stages (slice_index live j) ≡ AtRest
   pub ahead : (j : ℕ) → i ≤ j → j < length live → stage_at stages (slice_index live j) ≡ stage_at first (slice_index live j)
-  pub rest : AreAtRest live stages
+  pub rest : (s : ℕ) → s < length stages → ((j : ℕ) × (i ≤ j) × (j < length live) × (slice_index live j ≡ s)) ⊎ (stage_at stages s ≡ AtRest)
   pub live_have : (j : ℕ) → j < i → stage_at first (slice_index live j) ≡ Finished (slice_index numbers (slice_index live j))
   pub others : (s : ℕ) → IsOne live s ⊎ (slice_index numbers s ≡ slice_index old s)
 
@@ -20,9 +19,8 @@ pub numbered_none : (live : List ℕ) (first : List Stage) (old : List ℕ) → 
 numbered_none live first old rest size = record {
   size = refl;
   sizes = size;
-  done = λ j h. absurd (omega (arith, h));
   ahead = λ j low h. refl;
-  rest = rest;
+  rest = λ s h. elim (rest s h) [ inl (j, low, is) ↦ inl (j, omega arith, low, is) | inr still ↦ inr still ];
   live_have = λ j h. absurd (omega (arith, h));
   others = λ s. inr refl;
 }
@@ -60,17 +58,13 @@ module _ {live : List ℕ} {first : List Stage} {old : List ℕ} {i : ℕ} {stag
     numbered_more = record {
       size = length-set stages s AtRest ∙ up.size;
       sizes = length-set numbers s k ∙ up.sizes;
-      done = λ j h. elim (earlier j h) [
-        | inl x ↦ get_or-set_other stages s (slice_index live j) AtRest Unseen x.1 ∙ up.done j x.0
-        | inr e ↦ ap (stage_at stages') e ∙ rested
-      ];
       ahead = λ j low h.
           let apart : ¬ (slice_index live j ≡ s) = λ e. let up = rises.rising i j (omega (arith, low)) h in omega (arith, up, e) in
           get_or-set_other stages s (slice_index live j) AtRest Unseen apart ∙ up.ahead j (omega (arith, low)) h;
       rest = λ t h. elim (cases_eq t s) [
-        | inl e ↦ inl (i, more, sym e)
+        | inl e ↦ inr (ap (stage_at stages') e ∙ rested)
         | inr d ↦ elim (up.rest t (omega (arith, h, length-set stages s AtRest))) [
-          | inl one ↦ inl one
+          | inl (j, from, low, is) ↦ let apart : ¬ (j ≡ i) = λ e. d (sym is ∙ ap (slice_index live) e) in inl (j, omega (arith, from, apart), low, is)
           | inr rest ↦ inr (get_or-set_other stages s t AtRest Unseen d ∙ rest)
         ]
       ];
@@ -87,9 +81,6 @@ module _ {live : List ℕ} {first : List Stage} {old : List ℕ} {i : ℕ} {stag
     }
 
 -- after the last one all are at rest
-pub numbered_all : {live : List ℕ} {first : List Stage} {old : List ℕ} {stages : List Stage} {numbers : List ℕ} → NumberedUpTo live first old (length live) stages numbers
-    → (s : ℕ) → s < length stages → stage_at stages s ≡ AtRest
-numbered_all {stages = stages} up s h = elim (up.rest s h) [
-  | inl one ↦ ap (stage_at stages) (sym one.2) ∙ up.done one.0 one.1
-  | inr rest ↦ rest
-]
+pub numbered_all : {live : List ℕ} {first : List Stage} {old : List ℕ} {i : ℕ} {stages : List Stage} {numbers : List ℕ}
+    → NumberedUpTo live first old i stages numbers → ¬ (i < length live) → (s : ℕ) → s < length stages → stage_at stages s ≡ AtRest
+numbered_all up over s h = elim (up.rest s h) [ inl (j, from, low, is) ↦ absurd (omega (arith, from, low, over)) | inr rest ↦ rest ]

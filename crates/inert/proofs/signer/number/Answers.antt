@@ -30,12 +30,7 @@ loop-i-preserved c =
     }
 
 pub returns-clause-idle : goal.returns-clause-idle
-returns-clause-idle c =
-    let live = c.args.live.now in
-    let end : c.loop-i.i ≡ length live = omega (arith, c.loop-i-test.false, c.loop-i.auto.i-end) in
-    record {
-      empty = c.loop-i.invariant.empty;
-      rest =
-          numbered_all
-          (subst (λ n. NumberedUpTo live c.args.walk.now.stages c.args.numbers.now n c.loop-i.walk.stages c.loop-i.numbers) end c.loop-i.invariant.numbered);
-    }
+returns-clause-idle c = record {
+  empty = c.loop-i.invariant.empty;
+  rest = numbered_all c.loop-i.invariant.numbered (omega (arith, c.loop-i-test.false, c.loop-i.auto.i-end));
+}
