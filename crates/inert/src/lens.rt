@@ -29,6 +29,7 @@ impl<'a, M: Meter> Model for Lens<'a, M> {
 }
 
 impl<'a, M: Meter> Lens<'a, M> {
+    /// What the rows of `l` are read under, if its states have these blocks.
     pub fn new(l: &'a Lts<M>, blocks: &'a [u32]) -> Lens<'a, M>
         requires { length blocks.now ≡ l.now.states }
         ensures { result ≡ under l.now blocks.now }
