@@ -4,7 +4,8 @@ use Rattle.std.specs.List.{Contains}
 use Rattle.std.specs.List.Sorted.{IsStrictlySortedBy}
 use Rattle.lts.specs.Lts.{Grouped, Triple, IsRow}
 use Rattle.lists.specs.Lists.{list_at, pair_cmp, Grow}
-use Rattle.inert.specs.Search.{Search, nothing, stage_at, top, root_at, Gives, AreSigned, Walks, Stage, Unseen, Open, Finished, Root, Item, Pair, Listed}
+use Rattle.inert.specs.Search.{Search, nothing, stage_at, top, root_at, Gives, AreSigned, Walks, Stage, Unseen, Open, Finished, AtRest, Root, Item, Pair, Listed}
+use Rattle.inert.specs.Steps.{Under}
 use Rattle.inert.specs.Ahead.{unread, rest, KeepsSeen, HasStages}
 use Rattle.inert.specs.declared.step.Step.{Step}
 use Rattle.inert.specs.declared.step.Step.TheVariants.{Inert, Shows}
@@ -38,17 +39,22 @@ pub record CutsRoots (q : ℕ) (old new : List Root) : Type 0 where
 abbrev pub with_item : Item → Search → Search
 with_item x w = record w { items = w.items ++ x ∷ [] }
 
--- the step is an inert one, to a state that is not finished
+-- the step is an inert one, to a state that was not seen or is on the stack
 abbrev pub LeadsOn : List Stage → Step → Type 0
-LeadsOn stages step = (t : ℕ) × (step ≡ Inert t) × ((k : ℕ) → ¬ (stage_at stages t ≡ Finished k))
+LeadsOn stages step = (t : ℕ) × (step ≡ Inert t) × ((stage_at stages t ≡ Unseen) ⊎ ((q : ℕ) × (stage_at stages t ≡ Open q)))
+
+-- an inert step to the state t is followed, and enters it or not
+abbrev pub Follows : List Triple → ℕ → Search → Search → Bool → Type 0
+Follows places t old new enters =
+    ((stage_at old.stages t ≡ Unseen) × Enters places t old new × IsTrue enters)
+    ⊎ ((q : ℕ) × (stage_at old.stages t ≡ Open q) × CutsRoots q old.roots new.roots × (new ≡ record old { roots = new.roots }) × ¬ IsTrue enters)
+    ⊎ ((k : ℕ) × (stage_at old.stages t ≡ Finished k) × (new ≡ with_item (Listed k) old) × ¬ IsTrue enters)
+    ⊎ ((stage_at old.stages t ≡ AtRest) × (new ≡ old) × ¬ IsTrue enters)
 
 -- a step is taken, and enters a state or not
 abbrev pub TakesStep : List Triple → Step → Search → Search → Bool → Type 0
 TakesStep places (Shows a b) old new enters = (new ≡ with_item (Pair a b) old) × ¬ IsTrue enters
-TakesStep places (Inert t) old new enters =
-    ((stage_at old.stages t ≡ Unseen) × Enters places t old new × IsTrue enters)
-    ⊎ ((q : ℕ) × (stage_at old.stages t ≡ Open q) × CutsRoots q old.roots new.roots × (new ≡ record old { roots = new.roots }) × ¬ IsTrue enters)
-    ⊎ ((k : ℕ) × (stage_at old.stages t ≡ Finished k) × (new ≡ with_item (Listed k) old) × ¬ IsTrue enters)
+TakesStep places (Inert t) old new enters = Follows places t old new enters
 
 -- no state is found that was not seen
 abbrev pub FindsNone : Search → Search → Type 0
@@ -121,13 +127,13 @@ abbrev pub HasRead : Search → Type 0
 HasRead w = (top w.frames).next ≡ (top w.frames).end
 
 -- a walk is under way: what holds between its steps, with a row to read
-pub record IsUnderWay (l : Grouped) (blocks : List ℕ) (live : List ℕ) (lists : List (List (ℕ × ℕ))) (w : Search) : Type 0 where
-  pub walks : Walks l blocks live lists w
+pub record IsUnderWay (u : Under) (lists : List (List (ℕ × ℕ))) (w : Search) : Type 0 where
+  pub walks : Walks u lists w
   pub some : 0 < length w.frames
 
 -- a walk goes on
-pub record GoesOn (l : Grouped) (blocks : List ℕ) (live : List ℕ) (lists : List (List (ℕ × ℕ))) (old new : Search) : Type 0 where
-  pub walks : Walks l blocks live lists new
+pub record GoesOn (u : Under) (lists : List (List (ℕ × ℕ))) (old new : Search) : Type 0 where
+  pub walks : Walks u lists new
   pub seen : KeepsSeen old.stages new.stages
 
 -- fewer steps are ahead after a state was entered, and else no more, where the row is read
@@ -135,9 +141,9 @@ abbrev pub ComesNearer : Grouped → Search → Search → Bool → Type 0
 ComesNearer l old new enters = (IsTrue enters → steps l new < steps l old)
     × (¬ IsTrue enters → HasRead new × (0 < length new.frames) × (steps l new ≤ steps l old))
 
--- the walk rests: nothing is on the stack, and each state that was seen is finished, with its list
-pub record Rests (l : Grouped) (blocks : List ℕ) (live : List ℕ) (lists : List (List (ℕ × ℕ))) (w : Search) : Type 0 where
+-- the walk rests: nothing is on the stack, and no state is open
+pub record Rests (u : Under) (lists : List (List (ℕ × ℕ))) (w : Search) : Type 0 where
   pub empty : w ≡ nothing w.stages
-  pub numbers : HasStages l.states (length lists) 0 w.stages
+  pub numbers : HasStages u.l.states (length lists) 0 w.stages
   pub shut : (s p : ℕ) → ¬ (stage_at w.stages s ≡ Open p)
-  pub signed : AreSigned l blocks live lists w.stages
+  pub signed : AreSigned u lists w.stages

@@ -8,10 +8,10 @@ use Rattle.lts.specs.Lts.{Grouped, Triple, source_of, target_of, place_at, syste
 use Rattle.lists.specs.Lists.{list_at}
 use Rattle.partition.specs.Blocks.{IsOne}
 use Rattle.inert.specs.Signed.{HasPair, IsSignature, IsLeft, pair_under}
-use Rattle.inert.specs.Steps.{IsInert}
+use Rattle.inert.specs.Steps.{Under, IsInert}
 use Rattle.inert.specs.Ahead.{HasStages}
 pub use Rattle.inert.specs.declared.walk.Stage.{Stage}
-pub use Rattle.inert.specs.declared.walk.Stage.TheVariants.{Unseen, Open, Finished}
+pub use Rattle.inert.specs.declared.walk.Stage.TheVariants.{Unseen, Open, Finished, AtRest}
 pub use Rattle.inert.specs.declared.walk.Frame.{Frame}
 pub use Rattle.inert.specs.declared.walk.Root.{Root}
 pub use Rattle.inert.specs.declared.item.Item.{Item}
@@ -33,14 +33,20 @@ nothing stages = record { stages = stages; stack = []; frames = []; roots = []; 
 abbrev pub stage_at : List Stage → ℕ → Stage
 stage_at stages s = slice_index_or stages s Unseen
 
--- of so many states those that are not looked at are at rest: finished with the empty list
+-- of so many states those that are not looked at are at rest
 abbrev pub AreAtRest : List ℕ → List Stage → Type 0
-AreAtRest live stages = (s : ℕ) → s < length stages → IsOne live s ⊎ (stage_at stages s ≡ Finished 0)
+AreAtRest live stages = (s : ℕ) → s < length stages → IsOne live s ⊎ (stage_at stages s ≡ AtRest)
 
 -- no walk is under way, and all states are at rest, with this stage
 pub record IsIdle (at_rest : Stage) (w : Search) : Type 0 where
   pub empty : w ≡ nothing w.stages
   pub rest : (s : ℕ) → s < length w.stages → stage_at w.stages s ≡ at_rest
+
+-- the states of this list are unseen, and the others as before
+pub record AreUnseen (states : List ℕ) (old new : List Stage) : Type 0 where
+  pub size : length new ≡ length old
+  pub each : (s : ℕ) → Contains states s → stage_at new s ≡ Unseen
+  pub others : (s : ℕ) → Contains states s ⊎ (stage_at new s ≡ stage_at old s)
 
 -- the trail has each state that was seen
 pub record IsTrail (stages : List Stage) (trail : List ℕ) : Type 0 where
@@ -90,8 +96,8 @@ pub record Laws : Type 0 where
       Signature Branching A blocks t a b → Signature Branching A blocks s a b
 
 -- inert steps lead from s to t
-abbrev pub Ties : Grouped → List ℕ → ℕ → ℕ → Type 0
-Ties l blocks s t = Leads (Inert (system_of l) (slice_index blocks)) s t
+abbrev pub Ties : Under → ℕ → ℕ → Type 0
+Ties u s t = Leads (Inert (system_of u.l) (slice_index u.blocks)) s t
 
 -- the component at height p is that at height q, or an earlier one
 abbrev pub IsUpTo : List Root → ℕ → ℕ → Type 0
@@ -115,15 +121,15 @@ pub record AreOpen (stages : List Stage) (stack : List ℕ) : Type 0 where
   pub placed : (p : ℕ) → p < length stack → stage_at stages (slice_index stack p) ≡ Open p
   pub only : (s p : ℕ) → stage_at stages s ≡ Open p → (p < length stack) × (slice_index stack p ≡ s)
 
--- the list of this number has only pairs of the signature of s, and all of them unless s is alone in its block and not looked at
-pub record IsSigned (l : Grouped) (blocks : List ℕ) (live : List ℕ) (s : ℕ) (lists : List (List (ℕ × ℕ))) (k : ℕ) : Type 0 where
+-- the list of this number is the signature of s
+pub record IsSigned (u : Under) (s : ℕ) (lists : List (List (ℕ × ℕ))) (k : ℕ) : Type 0 where
   pub within : k < length lists
-  pub sound : (z : ℕ × ℕ) → Contains (list_at lists k) z → HasPair Branching l blocks s z.0 z.1
-  pub whole : IsSignature Branching l blocks s (list_at lists k) ⊎ IsLeft l.states blocks live s
+  pub signature : IsSignature Branching u.l u.blocks s (list_at lists k)
 
--- so is each finished state, with its list
-abbrev pub AreSigned : Grouped → List ℕ → List ℕ → List (List (ℕ × ℕ)) → List Stage → Type 0
-AreSigned l blocks live lists stages = (s k : ℕ) → stage_at stages s ≡ Finished k → IsSigned l blocks live s lists k
+-- finished states have their signatures, and those at rest need none
+pub record AreSigned (u : Under) (lists : List (List (ℕ × ℕ))) (stages : List Stage) : Type 0 where
+  pub finished : (s k : ℕ) → stage_at stages s ≡ Finished k → IsSigned u s lists k
+  pub resting : (s : ℕ) → stage_at stages s ≡ AtRest → IsLeft u.l u.blocks s
 
 -- one component begins before another one, and so do its items
 abbrev pub IsBefore : Root → Root → Type 0
@@ -154,17 +160,17 @@ pub record AreFrames (l : Grouped) (stack : List ℕ) (frames : List Frame) : Ty
   pub each : All (IsFrame l stack) frames
 
 -- inert steps lead from each state on the stack to those of its component and of later ones
-abbrev pub Connects : Grouped → List ℕ → Search → Type 0
-Connects l blocks w = (p q : ℕ) → p < length w.stack → q < length w.stack → IsUpTo w.roots p q →
-    Ties l blocks (slice_index w.stack p) (slice_index w.stack q)
+abbrev pub Connects : Under → Search → Type 0
+Connects u w = (p q : ℕ) → p < length w.stack → q < length w.stack → IsUpTo w.roots p q →
+    Ties u (slice_index w.stack p) (slice_index w.stack q)
 
 -- what the item number j gives is in the signature of some state of its component
-abbrev pub IsSound : Grouped → List ℕ → List (List (ℕ × ℕ)) → Search → ℕ → Type 0
-IsSound l blocks lists w j = (p : ℕ) × (p < length w.stack) × IsOf w.roots j p ×
-    ((z : ℕ × ℕ) → Gives lists (item_at w.items j) z → HasPair Branching l blocks (slice_index w.stack p) z.0 z.1)
+abbrev pub IsSound : Under → List (List (ℕ × ℕ)) → Search → ℕ → Type 0
+IsSound u lists w j = (p : ℕ) × (p < length w.stack) × IsOf w.roots j p ×
+    ((z : ℕ × ℕ) → Gives lists (item_at w.items j) z → HasPair Branching u.l u.blocks (slice_index w.stack p) z.0 z.1)
 
-abbrev pub AreSound : Grouped → List ℕ → List (List (ℕ × ℕ)) → Search → Type 0
-AreSound l blocks lists w = (j : ℕ) → j < length w.items → IsSound l blocks lists w j
+abbrev pub AreSound : Under → List (List (ℕ × ℕ)) → Search → Type 0
+AreSound u lists w = (j : ℕ) → j < length w.items → IsSound u lists w j
 
 -- the lists that items name are there
 abbrev pub IsThere : List (List (ℕ × ℕ)) → Item → Type 0
@@ -194,24 +200,24 @@ IsEntered w p t = (i : ℕ) × (i + 1 < length w.frames) × ((frame_at w.frames 
 abbrev pub IsFollowed : List (List (ℕ × ℕ)) → Search → ℕ → ℕ → Type 0
 IsFollowed lists w p t = IsHere w p t ⊎ IsHeld lists w p t ⊎ IsEntered w p t
 
--- a transition of the state at height p was taken into account
-pub record Accounted (l : Grouped) (blocks : List ℕ) (lists : List (List (ℕ × ℕ))) (w : Search) (p : ℕ) (e : Triple) : Type 0 where
-  pub shown : ¬ IsInert l blocks (slice_index blocks (source_of e)) e → HoldsPair lists w p (pair_under blocks e)
-  pub followed : IsInert l blocks (slice_index blocks (source_of e)) e → IsFollowed lists w p (target_of e)
+-- a transition of the state at height p was taken into account: an inert one to a state at rest has nothing to show
+pub record Accounted (u : Under) (lists : List (List (ℕ × ℕ))) (w : Search) (p : ℕ) (e : Triple) : Type 0 where
+  pub shown : ¬ IsInert u (slice_index u.blocks (source_of e)) e → HoldsPair lists w p (pair_under u.blocks e)
+  pub followed : IsInert u (slice_index u.blocks (source_of e)) e → ¬ (stage_at w.stages (target_of e) ≡ AtRest) → IsFollowed lists w p (target_of e)
 
 -- all transitions of open states were taken into account, or are still to be read
-abbrev pub AreAccounted : Grouped → List ℕ → List (List (ℕ × ℕ)) → Search → Type 0
-AreAccounted l blocks lists w = (p k : ℕ) → p < length w.stack → k < length l.places → source_of (place_at l.places k) ≡ slice_index w.stack p →
-    IsAhead w p k ⊎ Accounted l blocks lists w p (place_at l.places k)
+abbrev pub AreAccounted : Under → List (List (ℕ × ℕ)) → Search → Type 0
+AreAccounted u lists w = (p k : ℕ) → p < length w.stack → k < length u.l.places → source_of (place_at u.l.places k) ≡ slice_index w.stack p →
+    IsAhead w p k ⊎ Accounted u lists w p (place_at u.l.places k)
 
 -- what holds of a walk between its steps
-pub record Walks (l : Grouped) (blocks : List ℕ) (live : List ℕ) (lists : List (List (ℕ × ℕ))) (w : Search) : Type 0 where
-  pub numbers : HasStages l.states (length lists) (length w.stack) w.stages
+pub record Walks (u : Under) (lists : List (List (ℕ × ℕ))) (w : Search) : Type 0 where
+  pub numbers : HasStages u.l.states (length lists) (length w.stack) w.stages
   pub opened : AreOpen w.stages w.stack
-  pub signed : AreSigned l blocks live lists w.stages
+  pub signed : AreSigned u lists w.stages
   pub roots : AreRoots w
-  pub frames : AreFrames l w.stack w.frames
-  pub connects : Connects l blocks w
+  pub frames : AreFrames u.l w.stack w.frames
+  pub connects : Connects u w
   pub there : AreThere lists w.items
-  pub sound : AreSound l blocks lists w
-  pub accounted : AreAccounted l blocks lists w
+  pub sound : AreSound u lists w
+  pub accounted : AreAccounted u lists w

@@ -3,7 +3,6 @@ use Rattle.std.specs.Prelude.{◌≡◌, ◌⊎◌, ◌↔◌, ℕ, ◌<◌, Lis
 use Rattle.std.specs.List.{Contains}
 use Rattle.std.specs.List.Sorted.{IsStrictlySortedBy}
 use Rattle.theory.specs.declared.relation.Relation.{Relation}
-use Rattle.theory.specs.declared.relation.Relation.TheVariants.{Branching}
 use Rattle.theory.specs.Blocks.{Signature}
 use Rattle.lts.specs.Labels.{text_of}
 use Rattle.lts.specs.Lts.{Grouped, Triple, label_of, target_of, row_of, system_of}
@@ -24,9 +23,9 @@ pub record IsSignature (rel : Relation) (l : Grouped) (blocks : List ℕ) (s : �
 abbrev pub pair_under : List ℕ → Triple → ℕ × ℕ
 pair_under blocks e = (label_of e, slice_index blocks (target_of e))
 
--- s is none of the states that are looked at, and no other of so many states has its block
-abbrev pub IsLeft : ℕ → List ℕ → List ℕ → ℕ → Type 0
-IsLeft states blocks live s = ¬ IsOne live s × ((t : ℕ) → t < states → slice_index blocks t ≡ slice_index blocks s → t ≡ s)
+-- no other state has the block of s, or s has no transition
+abbrev pub IsLeft : Grouped → List ℕ → ℕ → Type 0
+IsLeft l blocks s = ((t : ℕ) → t < l.states → slice_index blocks t ≡ slice_index blocks s → t ≡ s) ⊎ (row_of s l.places ≡ [])
 
 -- a state that is not looked at is alone in its block, or has no transition
 abbrev pub LeavesOut : Grouped → List ℕ → List ℕ → Type 0

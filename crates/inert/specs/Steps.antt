@@ -1,4 +1,4 @@
--- What a transition is under blocks.
+-- What a row is read under, and what a transition is then.
 use Rattle.std.specs.Prelude.{◌≡◌, ℕ, List, length, Option, MatchOption}
 use Rattle.std.specs.List.{Contains}
 use Rattle.theory.specs.System.{internal}
@@ -8,16 +8,24 @@ use Rattle.inert.specs.Signed.{pair_under}
 use Rattle.inert.specs.declared.step.Step.{Step}
 use Rattle.inert.specs.declared.step.Step.TheVariants.{Inert, Shows}
 
+-- a system, and the block of each state
+pub record Under : Type 0 where
+  pub l : Grouped
+  pub blocks : List ℕ
+
+abbrev pub under : Grouped → List ℕ → Under
+under l blocks = record { l = l; blocks = blocks }
+
 -- there is a block for each state, and the number of the internal label, if a transition may have it
-pub record Sees (l : Grouped) (blocks : List ℕ) (number : Option ℕ) : Type 0 where
-  pub size : length blocks ≡ l.states
-  pub internal : MatchOption number (¬ Contains l.labels internal) (λ k. IsNumber l.labels k internal)
+pub record Sees (u : Under) (number : Option ℕ) : Type 0 where
+  pub size : length u.blocks ≡ u.l.states
+  pub internal : MatchOption number (¬ Contains u.l.labels internal) (λ k. IsNumber u.l.labels k internal)
 
 -- a transition of a state of the block is inert: it is internal, and stays in the block
-abbrev pub IsInert : Grouped → List ℕ → ℕ → Triple → Type 0
-IsInert l blocks block e = (text_of l.labels (label_of e) ≡ internal) × ((pair_under blocks e).1 ≡ block)
+abbrev pub IsInert : Under → ℕ → Triple → Type 0
+IsInert u block e = (text_of u.l.labels (label_of e) ≡ internal) × ((pair_under u.blocks e).1 ≡ block)
 
 -- a transition of a state of the block is this step
-abbrev pub IsStep : Grouped → List ℕ → ℕ → Triple → Step → Type 0
-IsStep l blocks block e (Inert t) = IsInert l blocks block e × (t ≡ target_of e)
-IsStep l blocks block e (Shows k b) = ¬ IsInert l blocks block e × ((k, b) ≡ pair_under blocks e)
+abbrev pub IsStep : Under → ℕ → Triple → Step → Type 0
+IsStep u block e (Inert t) = IsInert u block e × (t ≡ target_of e)
+IsStep u block e (Shows k b) = ¬ IsInert u block e × ((k, b) ≡ pair_under u.blocks e)

@@ -1,56 +1,49 @@
 //! The beginning of a walk: the row of its first state is read without a frame.
 ghost use Rattle.std.specs.Prelude.{◌≡◌, ◌+◌, ◌<◌, ◌≤◌, length, OnOk};
 ghost use Rattle.lts.specs.Meter.{HasRoomFor, Costs};
-ghost use Rattle.inert.specs.Steps.{Sees};
 ghost use Rattle.inert.specs.Search.{stage_at, AreThere};
 ghost use Rattle.inert.specs.Moves.{Ends, ahead, GoesOn, Rests};
 ghost use Rattle.inert.specs.Ahead.{unread};
 ghost use Rattle.inert.specs.declared.walk.Stage.TheVariants.{Unseen};
 
 use crate::component::list_from;
-use crate::reading::laws;
-use crate::step::read_step;
+use crate::lens::Lens;
 use crate::walk::{Stage, Walk};
 use lists::Lists;
-use lts::{Lts, Memory, Meter};
+use lts::{Memory, Meter};
 
 impl Walk {
     /// Begins a walk at the state `s`, which was not seen: reads its row without a frame, and finishes it at the end. If an inert
-    /// step leads to a state that is not finished, `s` gets a frame for the rest of its row, and the step is taken from there.
+    /// step leads on, `s` gets a frame for the rest of its row, and the step is taken from there.
     ///
     /// Fails if there is no memory for it.
     pub fn begin<M: Meter>(
         &mut self,
-        l: &Lts<M>,
-        blocks: &[u32],
-        internal: Option<u32>,
-        live: &[u32],
+        lens: &Lens<M>,
         s: u32,
         lists: &mut Lists,
         m: &mut M,
     ) -> Result<(), Memory>
-        requires sees { Sees l.now blocks.now internal }
-        requires state { (s < l.now.states) × (stage_at self.old.stages s ≡ Unseen) }
-        requires rests { Rests l.now blocks.now live.now lists.old self.old }
-        requires room { HasRoomFor (M.counted m.old) 0 (unread l.now.places self.old.stages) }
-        ensures on { OnOk result (GoesOn l.now blocks.now live.now lists.new self.old self.new) }
+        requires state { (s < lens.now.l.states) × (stage_at self.old.stages s ≡ Unseen) }
+        requires rests { Rests lens.now lists.old self.old }
+        requires room { HasRoomFor (M.counted m.old) 0 (unread lens.now.l.places self.old.stages) }
+        ensures on { OnOk result (GoesOn lens.now lists.new self.old self.new) }
         ensures found { OnOk result (¬ (stage_at self.new.stages s ≡ Unseen)) }
-        ensures visits { OnOk result ((M.counted m.new).visits + ahead l.now self.new
-            ≡ (M.counted m.old).visits + unread l.now.places self.old.stages) }
-        ensures cost { Costs (M.counted m.old) (M.counted m.new) 0 0 (unread l.now.places self.old.stages) }
+        ensures visits { OnOk result ((M.counted m.new).visits + ahead lens.now.l self.new
+            ≡ (M.counted m.old).visits + unread lens.now.l.places self.old.stages) }
+        ensures cost { Costs (M.counted m.old) (M.counted m.new) 0 0 (unread lens.now.l.places self.old.stages) }
     {
-        laws();
-        l.known();
-        let (start, end) = l.row(s);
-        let block = blocks[s as usize];
+        lens.known();
+        let (start, end) = lens.row(s);
+        let block = lens.blocks()[s as usize];
         for k in start..end {
-            let step = read_step(l, blocks, internal, block, k, m);
+            let step = lens.step(block, k, m);
             if self.leads_on(step) {
                 self.put(s, k + 1, end, 0)?;
-                self.take(l, step)?;
+                self.take(lens, step)?;
                 return Ok(());
             }
-            self.take(l, step)?;
+            self.take(lens, step)?;
         }
         self.end(s, lists)
     }

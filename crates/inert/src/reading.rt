@@ -2,125 +2,108 @@
 ghost use Rattle.std.specs.Prelude.{◌≡◌, ℕ, ◌+◌, ◌-◌, ◌<◌, ◌≤◌, length, IfOk, OnOk};
 ghost use Rattle.std.specs.List.{All};
 ghost use Rattle.lts.specs.Meter.{HasRoomFor, Costs};
-ghost use Rattle.inert.specs.Steps.{Sees};
-ghost use Rattle.inert.specs.Search.{stage_at, AreOpen, AreThere, IsTrail, Laws};
+ghost use Rattle.lts.specs.Lts.{row_of};
+ghost use Rattle.inert.specs.Search.{stage_at, AreOpen, AreThere, IsIdle, IsSigned};
 ghost use Rattle.inert.specs.Moves.{Closes, Finishes, ahead, HasRead, IsUnderWay, GoesOn, Rests, ComesNearer, Finds, FindsNone};
-ghost use Rattle.inert.specs.Ahead.{unread, HasSeen};
+ghost use Rattle.inert.specs.Ahead.{unread, HasFinished};
 ghost use Rattle.inert.specs.declared.walk.Stage.TheVariants.{Unseen};
 
 use crate::component::list_from;
 use crate::item::{CompactItem, Item};
-use crate::step::read_step;
+use crate::lens::Lens;
 use crate::walk::{Root, Stage, Walk};
 use lists::Lists;
-use lts::{Lts, Memory, Meter};
+use lts::{Memory, Meter};
 
 impl Walk {
-    /// Finishes the state `s`, which was not seen, and all states that inert steps lead to. A state that is not in `live` needs its
-    /// list only if it is not alone in its block. Only contracts look at `live`.
+    /// Finishes the state `s`, which was not seen, and all states that inert steps lead to.
     ///
     /// Fails if there is no memory for it.
     pub fn finish<M: Meter>(
         &mut self,
-        l: &Lts<M>,
-        blocks: &[u32],
-        internal: Option<u32>,
-        live: &[u32],
+        lens: &Lens<M>,
         s: u32,
         lists: &mut Lists,
         m: &mut M,
     ) -> Result<(), Memory>
-        requires sees { Sees l.now blocks.now internal }
-        requires state { (s < l.now.states) × (stage_at self.old.stages s ≡ Unseen) }
-        requires rests { Rests l.now blocks.now live.now lists.old self.old }
-        requires room { HasRoomFor (M.counted m.old) 0 (unread l.now.places self.old.stages) }
-        ensures rests { OnOk result (Rests l.now blocks.now live.now lists.new self.new) }
-        ensures seen { OnOk result (HasSeen s self.old.stages self.new.stages) }
-        ensures visits { OnOk result ((M.counted m.new).visits + unread l.now.places self.new.stages
-            ≡ (M.counted m.old).visits + unread l.now.places self.old.stages) }
-        ensures cost { Costs (M.counted m.old) (M.counted m.new) 0 0 (unread l.now.places self.old.stages) }
+        requires state { (s < lens.now.l.states) × (stage_at self.old.stages s ≡ Unseen) }
+        requires rests { Rests lens.now lists.old self.old }
+        requires room { HasRoomFor (M.counted m.old) 0 (unread lens.now.l.places self.old.stages) }
+        ensures rests { OnOk result (Rests lens.now lists.new self.new) }
+        ensures finished { OnOk result (HasFinished s self.old.stages self.new.stages) }
+        ensures visits { OnOk result ((M.counted m.new).visits + unread lens.now.l.places self.new.stages
+            ≡ (M.counted m.old).visits + unread lens.now.l.places self.old.stages) }
+        ensures cost { Costs (M.counted m.old) (M.counted m.new) 0 0 (unread lens.now.l.places self.old.stages) }
     {
-        self.begin(l, blocks, internal, live, s, lists, m)?;
+        self.begin(lens, s, lists, m)?;
         while !self.frames.is_empty() {
-            if self.read(l, blocks, internal, live, lists, m)? {
+            if self.read(lens, lists, m)? {
                 continue;
             }
-            self.go_back(l, blocks, live, lists)?;
+            self.go_back(lens, lists)?;
         }
         Ok(())
     }
 
-    /// Finishes the state `s`, and all states that inert steps lead to, where none was seen. Makes `trail` those that it sees. Only
-    /// contracts look at `live`.
+    /// Finishes the state `s`, and all states that inert steps lead to, and returns the number of its list. Makes `trail` those that
+    /// it sees, by which it makes them unseen again.
     ///
     /// Fails if there is no memory for it.
-    pub fn finish_with_trail<M: Meter>(
+    pub fn sign<M: Meter>(
         &mut self,
-        l: &Lts<M>,
-        blocks: &[u32],
-        internal: Option<u32>,
-        live: &[u32],
+        lens: &Lens<M>,
         s: u32,
         lists: &mut Lists,
         trail: &mut Vec<u32>,
         m: &mut M,
-    ) -> Result<(), Memory>
-        requires sees { Sees l.now blocks.now internal }
-        requires state { s < l.now.states }
-        requires unseen { (t : ℕ) → stage_at self.old.stages t ≡ Unseen }
-        requires rests { Rests l.now blocks.now live.now lists.old self.old }
-        requires room { HasRoomFor (M.counted m.old) 0 (unread l.now.places self.old.stages) }
-        ensures rests { OnOk result (Rests l.now blocks.now live.now lists.new self.new) }
-        ensures found { OnOk result (¬ (stage_at self.new.stages s ≡ Unseen)) }
-        ensures trail { OnOk result (IsTrail self.new.stages trail.new.items) }
-        ensures visits { OnOk result ((M.counted m.new).visits + unread l.now.places self.new.stages
-            ≡ (M.counted m.old).visits + unread l.now.places self.old.stages) }
-        ensures cost { Costs (M.counted m.old) (M.counted m.new) 0 0 (unread l.now.places self.old.stages) }
+    ) -> Result<u32, Memory>
+        requires idle { IsIdle Unseen self.old }
+        requires stages { length self.old.stages ≡ lens.now.l.states }
+        requires state { s < lens.now.l.states }
+        requires room { HasRoomFor (M.counted m.old) 0 (length lens.now.l.places) }
+        ensures signed { IfOk result (IsSigned lens.now s lists.new) }
+        ensures idle { OnOk result (IsIdle Unseen self.new) }
+        ensures row { OnOk result ((M.counted m.old).visits + length (row_of s lens.now.l.places) ≤ (M.counted m.new).visits) }
+        ensures cost { Costs (M.counted m.old) (M.counted m.new) 0 0 (length lens.now.l.places) }
     {
-        laws();
+        lens.known();
+        lists.known();
         trail.clear();
         trail.push(s)?;
-        self.enter(l, s)?;
+        self.enter(lens, s)?;
         while !self.frames.is_empty() {
-            if self.read(l, blocks, internal, live, lists, m)? {
+            if self.read(lens, lists, m)? {
                 trail.push(self.stack[self.stack.len() - 1])?;
                 continue;
             }
-            self.go_back(l, blocks, live, lists)?;
+            self.go_back(lens, lists)?;
         }
-        Ok(())
+        let list = self.list(s as usize);
+        self.forget(trail);
+        Ok(list)
     }
 
     /// Reads the row of the state where the walk is up to its end, or up to a step that enters a state. Returns whether it
     /// does.
     ///
     /// Fails if there is no memory for it.
-    fn read<M: Meter>(
-        &mut self,
-        l: &Lts<M>,
-        blocks: &[u32],
-        internal: Option<u32>,
-        live: &[u32],
-        lists: &Lists,
-        m: &mut M,
-    ) -> Result<bool, Memory>
-        requires sees { Sees l.now blocks.now internal }
-        requires way { IsUnderWay l.now blocks.now live.now lists.now self.old }
-        requires room { HasRoomFor (M.counted m.old) 0 (ahead l.now self.old) }
-        ensures on { OnOk result (GoesOn l.now blocks.now live.now lists.now self.old self.new) }
-        ensures visits { OnOk result ((M.counted m.new).visits + ahead l.now self.new ≡ (M.counted m.old).visits + ahead l.now self.old) }
-        ensures steps { IfOk result (ComesNearer l.now self.old self.new) }
+    fn read<M: Meter>(&mut self, lens: &Lens<M>, lists: &Lists, m: &mut M) -> Result<bool, Memory>
+        requires way { IsUnderWay lens.now lists.now self.old }
+        requires room { HasRoomFor (M.counted m.old) 0 (ahead lens.now.l self.old) }
+        ensures on { OnOk result (GoesOn lens.now lists.now self.old self.new) }
+        ensures visits { OnOk result ((M.counted m.new).visits + ahead lens.now.l self.new ≡ (M.counted m.old).visits + ahead lens.now.l self.old) }
+        ensures steps { IfOk result (ComesNearer lens.now.l self.old self.new) }
         ensures finds { IfOk result (Finds self.old self.new) }
-        ensures cost { Costs (M.counted m.old) (M.counted m.new) 0 0 (ahead l.now self.old) }
+        ensures cost { Costs (M.counted m.old) (M.counted m.new) 0 0 (ahead lens.now.l self.old) }
     {
-        laws();
-        l.known();
+        lens.known();
+        let blocks = lens.blocks();
         let last = self.frames.len() - 1;
         let frame = self.frames[last];
         let block = blocks[self.stack[frame.height as usize] as usize];
         for k in frame.next..frame.end {
-            let step = read_step(l, blocks, internal, block, k, m);
-            let entered = self.take(l, step)?;
+            let step = lens.step(block, k, m);
+            let entered = self.take(lens, step)?;
             self.frames[last].next = k + 1;
             if entered {
                 return Ok(true);
@@ -132,22 +115,15 @@ impl Walk {
     /// Goes back from the state where the walk is, whose row was read. If it is the root of a component, that is finished.
     ///
     /// Fails if there is no memory for it.
-    fn go_back<M: Meter>(
-        &mut self,
-        l: &Lts<M>,
-        blocks: &[u32],
-        live: &[u32],
-        lists: &mut Lists,
-    ) -> Result<(), Memory>
-        requires way { IsUnderWay l.now blocks.now live.now lists.old self.old }
+    fn go_back<M: Meter>(&mut self, lens: &Lens<M>, lists: &mut Lists) -> Result<(), Memory>
+        requires way { IsUnderWay lens.now lists.old self.old }
         requires read { HasRead self.old }
-        ensures on { OnOk result (GoesOn l.now blocks.now live.now lists.new self.old self.new) }
-        ensures ahead { OnOk result (ahead l.now self.new ≡ ahead l.now self.old) }
+        ensures on { OnOk result (GoesOn lens.now lists.new self.old self.new) }
+        ensures ahead { OnOk result (ahead lens.now.l self.new ≡ ahead lens.now.l self.old) }
         ensures back { OnOk result (length self.new.frames < length self.old.frames) }
         ensures finds { OnOk result (FindsNone self.old self.new) }
     {
-        laws();
-        l.known();
+        lens.known();
         let frame = self.frames[self.frames.len() - 1];
         let root = self.roots[self.roots.len() - 1];
         self.frames.pop();
@@ -193,12 +169,4 @@ fn finish_members(stages: &mut Vec<Stage>, stack: &[u32], from: usize, list: u32
     for p in from..stack.len() {
         stages[stack[p] as usize] = Stage::Finished(list);
     }
-}
-
-/// Does nothing when it runs: its contract says what inert steps lead to, and what they pass back.
-pub(crate) fn laws()
-    ensures { Laws }
-{
-    theory::inert_steps_lead_on();
-    theory::inert_steps_pass_signatures_back();
 }

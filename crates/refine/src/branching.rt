@@ -27,7 +27,7 @@ impl Sense for Branching {
         marks.lists.clear();
         let list = marks
             .signer
-            .sign(alloc, l, p.blocks(), s, &mut marks.lists, m)?;
+            .sign(l, p.blocks(), s, &mut marks.lists, m)?;
         marks.pairs.clear();
         marks.lists.append(list, &mut marks.pairs)?;
         out.extend_from_slice(&marks.pairs)?;
@@ -43,6 +43,6 @@ impl Sense for Branching {
         numbers: &mut [u32],
         m: &mut M,
     ) -> Result<(), Memory> {
-        marks.signer.sign_each(alloc, l, blocks, lists, numbers, m)
+        marks.signer.sign_each(l, blocks, lists, numbers, m)
     }
 }

@@ -1,11 +1,12 @@
 -- What a walk says of the states below a height holds still after a move that keeps them, and after lists were added.
-use Rattle.std.proofs.Common.{◌≡◌, ◌⊎◌, ℕ, ◌<◌, ◌≤◌, Bool, List, length, slice_index, refl, sym, ◌∙◌, subst, inl, inr, arith, Contains}
+use Rattle.std.proofs.Common.{◌≡◌, ◌⊎◌, ◌↔◌, ℕ, ◌<◌, ◌≤◌, List, length, slice_index, refl, sym, ◌∙◌, subst, inl, inr, arith, Contains}
 use Rattle.std.specs.List.{All}
 use Rattle.theory.specs.declared.relation.Relation.TheVariants.{Branching}
-use Rattle.lts.specs.Lts.{Grouped, Triple, source_of, place_at}
+use Rattle.lts.specs.Lts.{Triple, source_of, place_at}
 use Rattle.lists.specs.Lists.{Grow}
-use Rattle.inert.specs.Signed.{HasPair, pair_under, IsSignature, IsLeft}
-use Rattle.inert.specs.Search.{Search, stage_at, item_at, Gives, IsUpTo, IsOf, HoldsPair, IsAhead, IsEntered, IsFollowed, Accounted, IsSound, IsThere, Walks, Open, Finished, Frame, Root, Item, Pair, Listed}
+use Rattle.inert.specs.Steps.{Under}
+use Rattle.inert.specs.Signed.{HasPair, pair_under, IsSignature}
+use Rattle.inert.specs.Search.{Search, stage_at, item_at, Gives, IsUpTo, IsOf, HoldsPair, IsAhead, IsEntered, IsFollowed, Accounted, IsSound, IsThere, Walks, Open, Finished, AtRest, Frame, Root, Item, Pair, Listed}
 
 -- the states at places below n, their components and their items are as they were
 pub record Keeps (w new : Search) (n : ℕ) : Type 0 where
@@ -17,6 +18,7 @@ pub record Keeps (w new : Search) (n : ℕ) : Type 0 where
   pub items : (j p : ℕ) → j < length w.items → p < n → IsOf w.roots j p → (j < length new.items) × (item_at new.items j ≡ item_at w.items j)
   pub opened : (s p : ℕ) → p < n → stage_at w.stages s ≡ Open p → stage_at new.stages s ≡ Open p
   pub finished : (s k : ℕ) → stage_at w.stages s ≡ Finished k → stage_at new.stages s ≡ Finished k
+  pub resting : (s : ℕ) → (stage_at new.stages s ≡ AtRest) ↔ (stage_at w.stages s ≡ AtRest)
 
 -- a move that leaves the stages and the stack alone, the items that are there, and roots, unless it drops some
 pub keeps_stack : (w : Search) (frames : List Frame) (roots : List Root) (items : List Item)
@@ -31,9 +33,10 @@ keeps_stack w frames roots items same fewer = record {
   items = λ j p low h of. same j low;
   opened = λ s p h is. is;
   finished = λ s k is. is;
+  resting = λ s. (λ is. is, λ is. is);
 }
 
-module _ {l : Grouped} {blocks : List ℕ} {live : List ℕ} {lists : List (List (ℕ × ℕ))} {w : Search} (walks : Walks l blocks live lists w) {new : Search} {n : ℕ}
+module _ {u : Under} {lists : List (List (ℕ × ℕ))} {w : Search} (walks : Walks u lists w) {new : Search} {n : ℕ}
     (keeps : Keeps w new n) where
   holds_still : (p : ℕ) (z : ℕ × ℕ) → p < n → HoldsPair lists w p z → HoldsPair lists new p z
   holds_still p z h (j, low, g, of) =
@@ -47,27 +50,27 @@ module _ {l : Grouped} {blocks : List ℕ} {live : List ℕ} {lists : List (List
   followed_still p t h entered (inr (inl (k, is, all))) = inr (inl (k, keeps.finished t k is, λ z c. holds_still p z h (all z c)))
   followed_still p t h entered (inr (inr e)) = entered e
 
-  pub done_still : (p : ℕ) (e : Triple) → p < n → ((t : ℕ) → IsEntered w p t → IsFollowed lists new p t) → Accounted l blocks lists w p e
-      → Accounted l blocks lists new p e
+  pub done_still : (p : ℕ) (e : Triple) → p < n → ((t : ℕ) → IsEntered w p t → IsFollowed lists new p t) → Accounted u lists w p e
+      → Accounted u lists new p e
   done_still p e h entered done = record {
-    shown = λ other. holds_still p (pair_under blocks e) h (done.shown other);
-    followed = λ inert. followed_still p e.2 h (entered e.2) (done.followed inert);
+    shown = λ other. holds_still p (pair_under u.blocks e) h (done.shown other);
+    followed = λ inert awake. followed_still p e.2 h (entered e.2) (done.followed inert (λ is. awake ((keeps.resting e.2).1 is)));
   }
 
   -- a transition that was taken into account, or was still to be read
-  pub accounted_still : (p k : ℕ) → p < n → k < length l.places → source_of (place_at l.places k) ≡ slice_index new.stack p
-      → (IsAhead w p k → IsAhead new p k ⊎ Accounted l blocks lists new p (place_at l.places k)) → ((t : ℕ) → IsEntered w p t → IsFollowed lists new p t)
-      → IsAhead new p k ⊎ Accounted l blocks lists new p (place_at l.places k)
+  pub accounted_still : (p k : ℕ) → p < n → k < length u.l.places → source_of (place_at u.l.places k) ≡ slice_index new.stack p
+      → (IsAhead w p k → IsAhead new p k ⊎ Accounted u lists new p (place_at u.l.places k)) → ((t : ℕ) → IsEntered w p t → IsFollowed lists new p t)
+      → IsAhead new p k ⊎ Accounted u lists new p (place_at u.l.places k)
   accounted_still p k h low source ahead entered =
       let within = keeps.within in
       elim (walks.accounted p k (omega (arith, h, within)) low (source ∙ keeps.states p h)) [
         | inl a ↦ ahead a
-        | inr done ↦ inr (done_still p (place_at l.places k) h entered done)
+        | inr done ↦ inr (done_still p (place_at u.l.places k) h entered done)
       ]
 
   -- an item of a component below n
   pub sound_still : (j : ℕ) → j < length w.items → n ≤ length new.stack → ((p : ℕ) → p < length w.stack → IsOf w.roots j p → p < n)
-      → IsSound l blocks lists new j
+      → IsSound u lists new j
   sound_still j low room below =
       let (p, lp, of, all) = walks.sound j low in
       let h = below p lp of in (
@@ -75,7 +78,7 @@ module _ {l : Grouped} {blocks : List ℕ} {live : List ℕ} {lists : List (List
         omega (arith, h, room),
         keeps.of j p low h of,
         λ z g.
-            subst (λ s. HasPair Branching l blocks s z.0 z.1) (sym (keeps.states p h)) (all z (subst (λ x. Gives lists x z) (keeps.items j p low h of).1 g)),
+            subst (λ s. HasPair Branching u.l u.blocks s z.0 z.1) (sym (keeps.states p h)) (all z (subst (λ x. Gives lists x z) (keeps.items j p low h of).1 g)),
       )
 
 -- lists were added
@@ -85,27 +88,28 @@ module _ {lists lists' : List (List (ℕ × ℕ))} (grow : Grow lists lists') wh
   Gives-grow (Pair a b) there z = (λ g. g, λ g. g)
   Gives-grow (Listed k) there z = let same = grow.same k (there k refl) in (subst (λ xs. Contains xs z) (sym same), subst (λ xs. Contains xs z) same)
 
-  module _ {l : Grouped} {blocks : List ℕ} {live : List ℕ} {w : Search} (walks : Walks l blocks live lists w) where
+  module _ {u : Under} {w : Search} (walks : Walks u lists w) where
     holds : (p : ℕ) (z : ℕ × ℕ) → HoldsPair lists w p z → HoldsPair lists' w p z
     holds p z (j, low, g, of) = (j, low, (Gives-grow (item_at w.items j) (walks.there j (Pair 0 0) low) z).0 g, of)
 
     followed : (p t : ℕ) → IsFollowed lists w p t → IsFollowed lists' w p t
     followed p t (inl here) = inl here
-    followed p t (inr (inl (k, is, all))) = inr (inl (k, is, λ z c. holds p z (all z (subst (λ xs. Contains xs z) (grow.same k (walks.signed t k is).within) c))))
+    followed p t (inr (inl (k, is, all))) = inr (inl (k, is, λ z c. holds p z (all z (subst (λ xs. Contains xs z) (grow.same k (walks.signed.finished t k is).within) c))))
     followed p t (inr (inr entered)) = inr (inr entered)
 
-    pub Walks-grow : Walks l blocks live lists' w
+    pub Walks-grow : Walks u lists' w
     Walks-grow = record {
       numbers = record { size = walks.numbers.size; some = omega (arith, walks.numbers.some, grow.longer); numbers = walks.numbers.numbers };
       opened = walks.opened;
-      signed = λ s k is.
-          let was = walks.signed s k is in
-          let same = grow.same k was.within in
-          record {
-            within = omega (arith, was.within, grow.longer);
-            sound = λ z c. was.sound z (subst (λ xs. Contains xs z) same c);
-            whole = subst (λ xs. IsSignature Branching l blocks s xs ⊎ IsLeft l.states blocks live s) (sym same) was.whole;
-          };
+      signed = record {
+        finished = λ s k is.
+            let was = walks.signed.finished s k is in
+            record {
+              within = omega (arith, was.within, grow.longer);
+              signature = subst (IsSignature Branching u.l u.blocks s) (sym (grow.same k was.within)) was.signature;
+            };
+        resting = walks.signed.resting;
+      };
       roots = walks.roots;
       frames = walks.frames;
       connects = walks.connects;
@@ -113,6 +117,6 @@ module _ {lists lists' : List (List (ℕ × ℕ))} (grow : Grow lists lists') wh
       sound = λ j low. let (p, lp, of, all) = walks.sound j low in (p, lp, of, λ z g. all z ((Gives-grow (item_at w.items j) (walks.there j (Pair 0 0) low) z).1 g));
       accounted = λ p k lp lk source. elim (walks.accounted p k lp lk source) [
         | inl ahead ↦ inl ahead
-        | inr done ↦ inr (record { shown = λ other. holds p _ (done.shown other); followed = λ inert. followed p _ (done.followed inert) })
+        | inr done ↦ inr (record { shown = λ other. holds p _ (done.shown other); followed = λ inert awake. followed p _ (done.followed inert awake) })
       ];
     }

@@ -1,92 +1,77 @@
 -- A walk at rest: before it has begun, and when it is over, with the signatures of its states.
-use Rattle.std.proofs.Common.{◌≡◌, ℕ, ◌<◌, ◌≤◌, List, [], length, Contains, refl, sym, ap, subst, inl, inr, arith, slice_index}
+use Rattle.std.proofs.Common.{◌≡◌, ◌⊎◌, ◌∙◌, ℕ, ◌<◌, ◌≤◌, List, length, refl, sym, ap, inl, inr, arith}
 use Rattle.std.proofs.lemmas.Bool.{cases_lt}
 use Rattle.std.proofs.lemmas.List.{get_or_past, nil_from_length}
 use Rattle.std.proofs.lemmas.List.Sums.{count_by-le-length}
-use Rattle.theory.specs.declared.relation.Relation.TheVariants.{Branching}
-use Rattle.lts.specs.Lts.{Grouped, row_of}
-use Rattle.lists.specs.Lists.{list_at}
 use Rattle.partition.specs.Blocks.{IsOne}
-use Rattle.inert.specs.Signed.{IsSignature, LeavesOut}
-use Rattle.inert.specs.Search.{Search, nothing, stage_at, no_root, IsIdle, IsWoken, IsSigned, Walks, Unseen, Open, Finished, Stage}
+use Rattle.inert.specs.Steps.{Under}
+use Rattle.inert.specs.Signed.{LeavesOut}
+use Rattle.inert.specs.Search.{Search, nothing, stage_at, no_root, AreAtRest, IsIdle, IsWoken, Walks, Unseen, Open, Finished, AtRest, Stage}
 use Rattle.inert.specs.Moves.{Rests}
-use Rattle.inert.specs.Ahead.{is_unseen, unseen}
+use Rattle.inert.specs.Ahead.{is_unseen, unseen, KeepsSeen}
 use Rattle.inert.proofs.invariant.Standing.{frames_some, root_low}
 
 -- nothing was seen yet
-pub unseen_rests : (l : Grouped) (blocks live : List ℕ) (lists : List (List (ℕ × ℕ))) {w : Search} → w ≡ nothing w.stages → ((s : ℕ) → stage_at w.stages s ≡ Unseen)
-    → length w.stages ≡ l.states → length lists ≡ 1 → Rests l blocks live lists w
-unseen_rests l blocks live lists {w = w} empty none size one =
+pub unseen_rests : (u : Under) (lists : List (List (ℕ × ℕ))) {w : Search} → w ≡ nothing w.stages → ((s : ℕ) → stage_at w.stages s ≡ Unseen)
+    → length w.stages ≡ u.l.states → 1 ≤ length lists → Rests u lists w
+unseen_rests u lists {w = w} empty none size some =
     let few : unseen w.stages ≤ length w.stages = count_by-le-length is_unseen w.stages in
     record {
       empty = empty;
-      numbers = record { size = size; some = omega (arith, one); numbers = omega (arith, few, size) };
+      numbers = record { size = size; some = some; numbers = omega (arith, few, size) };
       shut = λ s p is. cc (is, none s);
-      signed = λ s k is. absurd (cc (is, none s));
+      signed = record { finished = λ s k is. absurd (cc (is, none s)); resting = λ s is. absurd (cc (is, none s)) };
     }
 
 -- if the states rest as unseen ones, none was seen
 pub idle_unseen : {w : Search} → IsIdle Unseen w → (s : ℕ) → stage_at w.stages s ≡ Unseen
 idle_unseen {w = w} idle s = elim (cases_lt s (length w.stages)) [ inl low ↦ idle.rest s low | inr past ↦ get_or_past w.stages s Unseen past ]
 
--- a state past the last one was not seen
-stage_inside : (stages : List Stage) (s k : ℕ) → stage_at stages s ≡ Finished k → s < length stages
-stage_inside stages s k is = elim (cases_lt s (length stages)) [ inl low ↦ low | inr past ↦ absurd (cc (get_or_past stages s Unseen past, is)) ]
-
--- the states that are looked at were woken, and the others have no pairs, or are left out
-module _ (l : Grouped) (blocks live : List ℕ) (lists : List (List (ℕ × ℕ))) {w : Search} (woken : IsWoken l.states live w) (size : length blocks ≡ l.states)
-    (others : LeavesOut l blocks live) (some : 1 ≤ length lists) (first : list_at lists 0 ≡ []) (idle : (s : ℕ) → row_of s l.places ≡ [] → IsSignature Branching l blocks s []) where
-  -- no state at rest is looked at
-  not_woken : (s k : ℕ) → stage_at w.stages s ≡ Finished k → ¬ IsOne live s
-  not_woken s k is one = cc (woken.awake one.0 one.1, ap (stage_at w.stages) one.2, is)
-
-  woken_signed : (s k : ℕ) → stage_at w.stages s ≡ Finished k → IsSigned l blocks live s lists k
-  woken_signed s k is =
-      let inside = stage_inside w.stages s k is in
-      let inside' : s < l.states = omega (arith, inside, woken.size) in
-      elim (woken.rest s inside) [
-        | inl one ↦ absurd (not_woken s k is one)
-        | inr rest ↦
-            let zero : 0 ≡ k = cc (rest, is) in
-            subst (IsSigned l blocks live s lists) zero (record {
-              within = some;
-              sound = λ z c. absurd (let has = subst (λ xs. Contains xs z) first c in omega (arith, has.1));
-              whole = elim (others s inside') [
-                | inl one ↦ absurd (not_woken s k is one)
-                | inr x ↦ elim x [
-                  | inl alone ↦ inr (not_woken s k is, λ t h same. alone t (omega (arith, h, size)) same)
-                  | inr empty ↦ inl (subst (IsSignature Branching l blocks s) (sym first) (idle s empty))
-                ]
-              ];
-            })
-      ]
-
-  woken_shut : (s p : ℕ) → ¬ (stage_at w.stages s ≡ Open p)
-  woken_shut s p is = elim (cases_lt s (length w.stages)) [
-    | inr past ↦ cc (get_or_past w.stages s Unseen past, is)
+-- the states that are looked at were woken
+module _ {states : ℕ} {live : List ℕ} {w : Search} (woken : IsWoken states live w) where
+  -- the others are at rest
+  woken_stage : (s : ℕ) → (stage_at w.stages s ≡ Unseen) ⊎ ((s < states) × ¬ IsOne live s × (stage_at w.stages s ≡ AtRest))
+  woken_stage s = elim (cases_lt s (length w.stages)) [
+    | inr past ↦ inl (get_or_past w.stages s Unseen past)
     | inl inside ↦ elim (woken.rest s inside) [
-      | inl one ↦ cc (woken.awake one.0 one.1, ap (stage_at w.stages) one.2, is)
-      | inr rest ↦ cc (rest, is)
+      | inl one ↦ inl (ap (stage_at w.stages) (sym one.2) ∙ woken.awake one.0 one.1)
+      | inr rest ↦ inr (omega (arith, inside, woken.size), λ one. cc (woken.awake one.0 one.1, ap (stage_at w.stages) one.2, rest), rest)
     ]
   ]
 
-  pub woken_rests : Rests l blocks live lists w
-  woken_rests =
+  pub woken_rests : {u : Under} {lists : List (List (ℕ × ℕ))} → u.l.states ≡ states → length u.blocks ≡ u.l.states → LeavesOut u.l u.blocks live
+      → 1 ≤ length lists → Rests u lists w
+  woken_rests {u = u} all size others some =
       let few : unseen w.stages ≤ length w.stages = count_by-le-length is_unseen w.stages in
       record {
         empty = woken.empty;
-        numbers = record { size = woken.size; some = some; numbers = omega (arith, few, woken.size) };
-        shut = woken_shut;
-        signed = woken_signed;
+        numbers = record { size = woken.size ∙ sym all; some = some; numbers = omega (arith, few, woken.size, all) };
+        shut = λ s p is. elim (woken_stage s) [ inl unseen ↦ cc (unseen, is) | inr rest ↦ cc (rest.2, is) ];
+        signed = record {
+          finished = λ s k is. elim (woken_stage s) [ inl unseen ↦ absurd (cc (unseen, is)) | inr rest ↦ absurd (cc (rest.2, is)) ];
+          resting = λ s is. elim (woken_stage s) [
+            | inl unseen ↦ absurd (cc (unseen, is))
+            | inr rest ↦ elim (others s (omega (arith, rest.0, all))) [
+              | inl one ↦ absurd (rest.1 one)
+              | inr (inl alone) ↦ inl (λ t h. alone t (omega (arith, h, size)))
+              | inr (inr empty) ↦ inr empty
+            ]
+          ];
+        };
       }
 
-seen_finished : (m : Stage) → ((p : ℕ) → ¬ (m ≡ Open p)) → ¬ (m ≡ Unseen) → (k : ℕ) × (m ≡ Finished k)
-seen_finished Unseen on seen = absurd (seen refl)
-seen_finished (Open p) on seen = absurd (on p refl)
-seen_finished (Finished k) on seen = (k, refl)
+  -- they are still, after a walk
+  pub rest_on : {stages : List Stage} → KeepsSeen w.stages stages → length stages ≡ states → AreAtRest live stages
+  rest_on seen size s h = elim (woken.rest s (omega (arith, h, size, woken.size))) [ inl one ↦ inl one | inr rest ↦ inr ((seen.resting s).1 rest) ]
 
-module _ {l : Grouped} {blocks : List ℕ} {live : List ℕ} {lists : List (List (ℕ × ℕ))} {w : Search} (rests : Rests l blocks live lists w) where
-  pub idle_walks : Walks l blocks live lists (nothing w.stages)
+finished_stage : (m : Stage) → ¬ (m ≡ Unseen) → ((p : ℕ) → ¬ (m ≡ Open p)) → ¬ (m ≡ AtRest) → (k : ℕ) × (m ≡ Finished k)
+finished_stage Unseen seen shut awake = absurd (seen refl)
+finished_stage (Open p) seen shut awake = absurd (shut p refl)
+finished_stage (Finished k) seen shut awake = (k, refl)
+finished_stage AtRest seen shut awake = absurd (awake refl)
+
+module _ {u : Under} {lists : List (List (ℕ × ℕ))} {w : Search} (rests : Rests u lists w) where
+  pub idle_walks : Walks u lists (nothing w.stages)
   idle_walks = record {
     numbers = rests.numbers;
     opened = record { placed = λ p h. absurd (omega (arith, h)); only = λ s p is. absurd (rests.shut s p is) };
@@ -99,20 +84,17 @@ module _ {l : Grouped} {blocks : List ℕ} {live : List ℕ} {lists : List (List
     accounted = λ p k h. absurd (omega (arith, h));
   }
 
-  pub within : {s : ℕ} → s < l.states → s < length w.stages
+  pub within : {s : ℕ} → s < u.l.states → s < length w.stages
   within inside = let size = rests.numbers.size in omega (arith, size, inside)
 
-  -- a state that was seen is finished
-  pub finished : (s : ℕ) → ¬ (stage_at w.stages s ≡ Unseen) → (k : ℕ) × (stage_at w.stages s ≡ Finished k)
-  finished s = seen_finished (stage_at w.stages s) (rests.shut s)
-
-  -- a state that is looked at has its signature
-  pub live_signed : (s k : ℕ) → IsOne live s → stage_at w.stages s ≡ Finished k → IsSignature Branching l blocks s (list_at lists k)
-  live_signed s k one is = elim (rests.signed s k is).whole [ inl signature ↦ signature | inr left ↦ absurd (left.0 one) ]
+  -- a state that was found is finished
+  pub finished : {old : List Stage} (s : ℕ) → KeepsSeen old w.stages → stage_at old s ≡ Unseen → ¬ (stage_at w.stages s ≡ Unseen)
+      → (k : ℕ) × (stage_at w.stages s ≡ Finished k)
+  finished s seen none found = finished_stage (stage_at w.stages s) found (rests.shut s) (λ is. cc ((seen.resting s).0 is, none))
 
 -- a walk rests when no row is being read
-pub walk_rests : {l : Grouped} {blocks : List ℕ} {live : List ℕ} {lists : List (List (ℕ × ℕ))} {w : Search} → Walks l blocks live lists w → length w.frames ≡ 0
-    → Rests l blocks live lists w
+pub walk_rests : {u : Under} {lists : List (List (ℕ × ℕ))} {w : Search} → Walks u lists w → length w.frames ≡ 0
+    → Rests u lists w
 walk_rests {w = w} walks none =
     let stack : length w.stack ≡ 0 = grind (arith, frames_some walks, none) in
     let roots : length w.roots ≡ 0 = grind (arith, root_low walks 0 no_root, stack) in

@@ -1,20 +1,21 @@
 -- What follows of a walk that stands between two of its steps.
-use Rattle.std.proofs.Common.{◌≡◌, ℕ, ◌-◌, ◌<◌, ◌≤◌, Bool, List, length, slice_index, sym, ◌∙◌, ap, subst, inl, inr, arith}
+use Rattle.std.proofs.Common.{◌≡◌, ℕ, ◌-◌, ◌<◌, ◌≤◌, List, length, slice_index, sym, ◌∙◌, ap, subst, inl, inr, arith}
 use Rattle.std.specs.List.{All}
 use Rattle.std.proofs.lemmas.Bool.{cases_lt}
 use Rattle.std.proofs.lemmas.List.{get_or_default}
 use Rattle.theory.specs.declared.relation.Relation.TheVariants.{Branching}
 use Rattle.lts.specs.Lts.{Grouped, system_of, source_of, place_at, IsRow}
+use Rattle.inert.specs.Steps.{Under}
 use Rattle.inert.specs.Moves.{HasRead}
 use Rattle.inert.specs.Signed.{HasPair}
 use Rattle.inert.specs.Search.{Search, Laws, frame_at, no_frame, here, last, no_root, Ties, IsFrame, Walks, Frame}
 
 -- the pairs of a state are those of each state that leads to it
-pub pair_before : (laws : Laws) (l : Grouped) (blocks : List ℕ) (s t : ℕ) (z : ℕ × ℕ) → Ties l blocks s t
-    → HasPair Branching l blocks t z.0 z.1 → HasPair Branching l blocks s z.0 z.1
-pair_before laws l blocks s t z tie has = (has.0, laws.path (system_of l) (slice_index blocks) s t _ z.1 tie has.1)
+pub pair_before : (laws : Laws) (u : Under) (s t : ℕ) (z : ℕ × ℕ) → Ties u s t
+    → HasPair Branching u.l u.blocks t z.0 z.1 → HasPair Branching u.l u.blocks s z.0 z.1
+pair_before laws u s t z tie has = (has.0, laws.path (system_of u.l) (slice_index u.blocks) s t _ z.1 tie has.1)
 
-module _ {l : Grouped} {blocks : List ℕ} {live : List ℕ} {lists : List (List (ℕ × ℕ))} {w : Search} (walks : Walks l blocks live lists w) where
+module _ {u : Under} {lists : List (List (ℕ × ℕ))} {w : Search} (walks : Walks u lists w) where
   pub roots_some : 0 < length w.stack → 0 < length w.roots
   roots_some some = elim (cases_lt 0 (length w.roots)) [
     | inl h ↦ h
@@ -44,7 +45,7 @@ module _ {l : Grouped} {blocks : List ℕ} {live : List ℕ} {lists : List (List
   last_frame i low high = grind (arith, walks.frames.rising i (length w.frames - 1) no_frame, low, high)
 
   -- if the row of the last frame was read, none of its transitions is ahead
-  pub none_ahead : HasRead w → (p k i : ℕ) → k < length l.places → source_of (place_at l.places k) ≡ slice_index w.stack p → i < length w.frames
+  pub none_ahead : HasRead w → (p k i : ℕ) → k < length u.l.places → source_of (place_at u.l.places k) ≡ slice_index w.stack p → i < length w.frames
       → i ≡ length w.frames - 1 → (frame_at w.frames i).height ≡ p → ¬ ((frame_at w.frames i).next ≤ k)
   none_ahead read p k i lk source low e is ahead =
       let inside = (((walks.frames.each i no_frame low).row.exactly k lk).0 (source ∙ ap (slice_index w.stack) (sym is))).1 in
@@ -66,7 +67,7 @@ module _ {l : Grouped} {blocks : List ℕ} {live : List ℕ} {lists : List (List
   last_most i d h = grind (arith, walks.roots.rising i (length w.roots - 1) d, get_or_default w.roots (length w.roots - 1) d no_root)
 
   -- inert steps lead to where the walk is from each state on the stack
-  pub ties : (p : ℕ) → p < length w.stack → Ties l blocks (slice_index w.stack p) (slice_index w.stack (here w))
+  pub ties : (p : ℕ) → p < length w.stack → Ties u (slice_index w.stack p) (slice_index w.stack (here w))
   ties p low = walks.connects p (here w) low (on_stack (frames_some (omega (arith, low)))) (λ i d h _. reached i d h)
 
 -- a frame of a state that stays at its height

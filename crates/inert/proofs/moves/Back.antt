@@ -1,13 +1,14 @@
 -- The moves back from the last frame, the row of which was read: the frame is popped, and its component is closed if it is the root.
-use Rattle.std.proofs.Common.{◌≡◌, ◌≢◌, ◌⊎◌, ℕ, ◌+◌, ◌-◌, ◌<◌, ◌≤◌, Bool, List, [], length, slice_index, refl, sym, ◌∙◌, ap, subst, inl, inr, arith, ◌∷◌, ◌++◌, take, Contains, subst₂}
+use Rattle.std.proofs.Common.{◌≡◌, ◌≢◌, ◌⊎◌, ℕ, ◌+◌, ◌-◌, ◌<◌, ◌≤◌, List, [], length, slice_index, refl, sym, ◌∙◌, ap, subst, inl, inr, arith, ◌∷◌, ◌++◌, take, Contains, subst₂}
 use Rattle.std.specs.List.{All}
 use Rattle.std.proofs.lemmas.Bool.{cases_eq, cases_lt}
 use Rattle.std.proofs.lemmas.Grind.{common_steps, elements}
 use Rattle.std.proofs.lemmas.List.{get_or_default, get_or-take, length-take-le, length-append, get_or_append_left, get_or_push, length_push, append-nil}
 use Rattle.std.proofs.lemmas.List.Elements.{All-take, All-nil, All-cons, All-append}
 use Rattle.theory.specs.declared.relation.Relation.TheVariants.{Branching}
-use Rattle.lts.specs.Lts.{Grouped, source_of, place_at, IsLts}
+use Rattle.lts.specs.Lts.{source_of, place_at, IsLts}
 use Rattle.lists.specs.Lists.{list_at}
+use Rattle.inert.specs.Steps.{Under}
 use Rattle.inert.specs.Search.{Search, stage_at, frame_at, no_frame, here, last, no_root, IsFrame, IsAhead, IsEntered, IsFollowed, Walks, Laws, root_at, item_at, Ties, IsOf, IsBefore, IsRoot, IsThere, Gives, HoldsPair, AreOpen, IsSigned, IsSound, AreSound, Stage, Root, Item, Pair, Listed}
 use Rattle.inert.specs.Moves.{popped, HasRead, Finishes, Closes, ahead, GoesOn, FindsNone}
 use Rattle.inert.specs.Signed.{HasPair}
@@ -19,7 +20,7 @@ use Rattle.inert.proofs.invariant.Standing.{reached, not_last, last_most, none_a
 use Rattle.inert.proofs.invariant.Keeping.{Keeps, keeps_stack, Walks-grow, accounted_still, sound_still}
 use Rattle.inert.proofs.signatures.Exact.{exact}
 
-module _ {l : Grouped} {blocks : List ℕ} {live : List ℕ} {lists : List (List (ℕ × ℕ))} {w : Search} (walks : Walks l blocks live lists w) where
+module _ {u : Under} {lists : List (List (ℕ × ℕ))} {w : Search} (walks : Walks u lists w) where
   -- the frames but the last one
   popped_size : length (popped w).frames ≡ length w.frames - 1
   popped_size = length-take-le (length w.frames - 1) w.frames (omega arith)
@@ -75,13 +76,13 @@ module _ {l : Grouped} {blocks : List ℕ} {live : List ℕ} {lists : List (List
           )
     ]
 
-    ahead_popped : (p k : ℕ) → k < length l.places → source_of (place_at l.places k) ≡ slice_index w.stack p → IsAhead w p k → IsAhead (popped w) p k
+    ahead_popped : (p k : ℕ) → k < length u.l.places → source_of (place_at u.l.places k) ≡ slice_index w.stack p → IsAhead w p k → IsAhead (popped w) p k
     ahead_popped p k lk source (i, low, is, ahead) = elim (cases_eq i (length w.frames - 1)) [
       | inl e ↦ absurd (none_ahead walks read p k i lk source low e is ahead)
       | inr d ↦ popped_ahead_still p k i (omega (arith, low, d)) is ahead
     ]
 
-    Walks-pop : Walks l blocks live lists (popped w)
+    Walks-pop : Walks u lists (popped w)
     Walks-pop = record {
       numbers = walks.numbers;
       opened = walks.opened;
@@ -93,7 +94,7 @@ module _ {l : Grouped} {blocks : List ℕ} {live : List ℕ} {lists : List (List
       };
       frames = record {
         rising = AllPairs-take (λ x y. x.height < y.height) (length w.frames - 1) w.frames walks.frames.rising;
-        each = All-take (IsFrame l w.stack) (length w.frames - 1) w.frames walks.frames.each;
+        each = All-take (IsFrame u.l w.stack) (length w.frames - 1) w.frames walks.frames.each;
       };
       connects = walks.connects;
       there = walks.there;
@@ -102,9 +103,9 @@ module _ {l : Grouped} {blocks : List ℕ} {live : List ℕ} {lists : List (List
     }
 
 -- its last component was finished, with its list among the lists
-module _ (laws : Laws) {l : Grouped} {blocks : List ℕ} {live : List ℕ} {lists : List (List (ℕ × ℕ))} {w : Search} (walks : Walks l blocks live lists w)
+module _ (laws : Laws) {u : Under} {lists : List (List (ℕ × ℕ))} {w : Search} (walks : Walks u lists w)
     (some : 0 < length w.frames) (height : (last w.roots).height ≡ here w) {new_stages : List Stage} {number : ℕ} (stages : Finishes w.stack (last w.roots).height number w.stages new_stages)
-    (exact : (p : ℕ) → (last w.roots).height ≤ p → p < length w.stack → IsSigned l blocks live (slice_index w.stack p) lists number)
+    (exact : (p : ℕ) → (last w.roots).height ≤ p → p < length w.stack → IsSigned u (slice_index w.stack p) lists number)
     {added : List Item} (led : ((0 < length (popped w).frames) × (added ≡ Listed number ∷ [])) ⊎ ((length (popped w).frames ≡ 0) × (added ≡ []))) where
   -- where the component begins on the stack, and its first item
   abbrev q : ℕ
@@ -145,6 +146,7 @@ module _ (laws : Laws) {l : Grouped} {blocks : List ℕ} {live : List ℕ} {list
   closed_seen = record {
     unseen = λ s is. grind (arith, stages.others s, stages.members, is);
     finished = λ s k is. grind (arith, stages.others s, walks.opened.placed, is);
+    resting = λ s. (λ is. grind (arith, stages.others s, stages.members, is), λ is. grind (arith, stages.others s, walks.opened.placed, is));
   }
 
   -- the items before the component's
@@ -177,6 +179,7 @@ module _ (laws : Laws) {l : Grouped} {blocks : List ℕ} {live : List ℕ} {list
     items = λ j p low h of. item_same j ((of (length w.roots - 1) no_root (last_low walks some)).1 h);
     opened = λ s p low is. grind (arith, stages.others s, walks.opened.only s p, walks.opened.placed);
     finished = λ s k is. grind (arith, stages.others s, walks.opened.placed);
+    resting = closed_seen.resting;
   }
 
   -- the roots that are left were roots before the last one
@@ -233,21 +236,21 @@ module _ (laws : Laws) {l : Grouped} {blocks : List ℕ} {live : List ℕ} {list
     );
   }
 
-  sound : AreSound l blocks lists Closed
-  sound = each_item (IsSound l blocks lists Closed)
+  sound : AreSound u lists Closed
+  sound = each_item (IsSound u lists Closed)
       (λ j h. sound_still walks keeps j (omega (arith, h, few)) (omega (arith, size)) (λ p lp of. let le = (of (length w.roots - 1) no_root (last_low walks some)).0 in grind (arith, le, h)))
       (λ more. let low = back_low more in (
         back,
         omega (arith, low, size),
         of_back more,
         λ z g.
-            subst (λ s. HasPair Branching l blocks s z.0 z.1) (sym (state_same back low))
-            (pair_before laws l blocks (slice_index w.stack back) (slice_index w.stack q) z
+            subst (λ s. HasPair Branching u.l u.blocks s z.0 z.1) (sym (state_same back low))
+            (pair_before laws u (slice_index w.stack back) (slice_index w.stack q) z
             (walks.connects back q (omega (arith, low, low_q)) low_q (λ i d h le. omega (arith, le, low)))
-            ((exact q (omega arith) low_q).sound z (subst (λ x. Gives lists x z) (item_new more).1 g))),
+            (((exact q (omega arith) low_q).signature.exactly z.0 z.1).0 (subst (λ x. Gives lists x z) (item_new more).1 g))),
       ))
 
-  Walks-closed : Walks l blocks live lists Closed
+  Walks-closed : Walks u lists Closed
   Walks-closed = record {
     numbers = record {
       size = stages.size ∙ walks.numbers.size;
@@ -255,12 +258,15 @@ module _ (laws : Laws) {l : Grouped} {blocks : List ℕ} {live : List ℕ} {list
       numbers = omega (arith, unseen-same w.stages new_stages same_unseen stages.size, walks.numbers.numbers, size, low_q);
     };
     opened = opened;
-    signed = λ s k is. elim (stages.others s) [
-      | inl e ↦ walks.signed s k (sym e ∙ is)
-      | inr (m, from, high, same) ↦
-          let e : number ≡ k = cc (stages.members m from high, same, is) in
-          subst₂ (λ x n. IsSigned l blocks live x lists n) same e (exact m from high)
-    ];
+    signed = record {
+      finished = λ s k is. elim (stages.others s) [
+        | inl e ↦ walks.signed.finished s k (sym e ∙ is)
+        | inr (m, from, high, same) ↦
+            let e : number ≡ k = cc (stages.members m from high, same, is) in
+            subst₂ (λ x n. IsSigned u x lists n) same e (exact m from high)
+      ];
+      resting = λ s is. walks.signed.resting s ((closed_seen.resting s).0 is);
+    };
     roots = record {
       first = λ h all. walks.roots.first (stack_some walks some) (All-from_take (λ r. 0 < r.height) (length w.roots - 1) w.roots no_root all (λ i high low.
           let e : i ≡ length w.roots - 1 = omega (arith, high, low) in
@@ -275,12 +281,12 @@ module _ (laws : Laws) {l : Grouped} {blocks : List ℕ} {live : List ℕ} {list
       rising = AllPairs-take (λ x y. x.height < y.height) (length w.frames - 1) w.frames walks.frames.rising;
       each = λ i d h.
           let low = before_last i d h in
-          IsFrame-moved (All-take (IsFrame l w.stack) (length w.frames - 1) w.frames walks.frames.each i d h) (omega (arith, low, size)) (state_same _ low);
+          IsFrame-moved (All-take (IsFrame u.l w.stack) (length w.frames - 1) w.frames walks.frames.each i d h) (omega (arith, low, size)) (state_same _ low);
     };
     connects = λ p r lp lr h.
         let low : p < q = omega (arith, lp, size) in
         let low' : r < q = omega (arith, lr, size) in
-        subst₂ (Ties l blocks) (sym (state_same p low)) (sym (state_same r low'))
+        subst₂ (Ties u) (sym (state_same p low)) (sym (state_same r low'))
         (walks.connects p r (omega (arith, low, low_q)) (omega (arith, low', low_q))
         (All-from_take (λ x. x.height ≤ p → x.height ≤ r) (length w.roots - 1) w.roots no_root h (λ i high lr le.
         let e : length w.roots - 1 ≡ i = omega (arith, high, lr) in
@@ -300,33 +306,33 @@ module _ (laws : Laws) {l : Grouped} {blocks : List ℕ} {live : List ℕ} {list
   }
 
 -- the walk goes on from there: what is ahead is the same
-module _ {l : Grouped} {blocks : List ℕ} {live : List ℕ} {lists : List (List (ℕ × ℕ))} {w : Search} (walks : Walks l blocks live lists w)
+module _ {u : Under} {lists : List (List (ℕ × ℕ))} {w : Search} (walks : Walks u lists w)
     (some : 0 < length w.frames) (read : HasRead w) where
   popped_rest : rest (popped w).frames ≡ rest w.frames
   popped_rest = rest-cut w.frames some read
 
   -- its state is no root
-  pub popped_on : (last w.roots).height ≢ here w → GoesOn l blocks live lists w (popped w)
+  pub popped_on : (last w.roots).height ≢ here w → GoesOn u lists w (popped w)
   popped_on apart = record {
     walks = Walks-pop walks some read apart;
     seen = seen_same w.stages;
   }
 
   -- its state is a root, and the component was finished
-  module _ (laws : Laws) (lts : IsLts l) {lists' : List (List (ℕ × ℕ))} {new : Search} (height : (last w.roots).height ≡ here w)
+  module _ (laws : Laws) (lts : IsLts u.l) {lists' : List (List (ℕ × ℕ))} {new : Search} (height : (last w.roots).height ≡ here w)
       (closes : Closes (last w.roots) lists lists' (popped w) new) where
     abbrev Returns : Search → Type 0
-    Returns x = GoesOn l blocks live lists' w x × (ahead l x ≡ ahead l w)
+    Returns x = GoesOn u lists' w x × (ahead u.l x ≡ ahead u.l w)
 
     closed_with : (added : List Item) → new.items ≡ take (last w.roots).items w.items ++ added
         → ((0 < length (popped w).frames) × (added ≡ Listed closes.number ∷ [])) ⊎ ((length (popped w).frames ≡ 0) × (added ≡ [])) → Returns new
     closed_with added items led =
         let walks' = Walks-grow closes.listed.grow walks in
-        let signed : (p : ℕ) → (last w.roots).height ≤ p → p < length w.stack → IsSigned l blocks live (slice_index w.stack p) lists' closes.number =
+        let signed : (p : ℕ) → (last w.roots).height ≤ p → p < length w.stack → IsSigned u (slice_index w.stack p) lists' closes.number =
         λ p high. exact laws lts walks some read height closes.listed p (omega (arith, high, height)) in
         let unseen = same_unseen laws walks' some height closes.stages signed led in
-        let same : ahead l (Closed laws walks' some height closes.stages signed led) ≡ ahead l w =
-        omega (arith, unread-same w.stages new.stages unseen l.places, popped_rest) in
+        let same : ahead u.l (Closed laws walks' some height closes.stages signed led) ≡ ahead u.l w =
+        omega (arith, unread-same w.stages new.stages unseen u.l.places, popped_rest) in
         subst Returns (λ i. record { stages = new.stages; stack = sym closes.stack i; frames = sym closes.frames i; roots = sym closes.roots i; items = sym items i }) (
           record {
             walks = Walks-closed laws walks' some height closes.stages signed led;
@@ -344,7 +350,7 @@ module _ {l : Grouped} {blocks : List ℕ} {live : List ℕ} {lists : List (List
     ]
 
 -- a component that is finished was seen
-pub closed_none : {l : Grouped} {blocks live : List ℕ} {lists lists' : List (List (ℕ × ℕ))} {w new : Search} {root : Root} → Walks l blocks live lists w
+pub closed_none : {u : Under} {lists lists' : List (List (ℕ × ℕ))} {w new : Search} {root : Root} → Walks u lists w
     → Closes root lists lists' (popped w) new → FindsNone w new
 closed_none walks closes s is = elim (closes.stages.others s) [
   | inl same ↦ same ∙ is

@@ -1,5 +1,5 @@
 -- The moves forward: an item is collected, components are joined, a state is entered, and a transition is marked as read.
-use Rattle.std.proofs.Common.{◌≡◌, ℕ, ◌+◌, ◌<◌, Bool, List, length, slice_index, refl, sym, subst, inl, inr, arith, ◌-◌, ◌≤◌, ◌∙◌, ap, subst₂, ◌⊎◌, set, get_or}
+use Rattle.std.proofs.Common.{◌≡◌, ℕ, ◌+◌, ◌<◌, List, length, slice_index, refl, sym, subst, inl, inr, arith, ◌-◌, ◌≤◌, ◌∙◌, ap, subst₂, ◌⊎◌, set, get_or}
 use Rattle.std.specs.List.{All, AllPairs}
 use Rattle.std.proofs.lemmas.Bool.{cases_lt, cases_eq}
 use Rattle.std.proofs.lemmas.List.{get_or_append_left, get_or_push, length_push, get_or_default, length-set, get_or-set_same, get_or-set_other}
@@ -8,16 +8,17 @@ use Rattle.std.proofs.lemmas.Grind.{elements, common_steps}
 use Rattle.std.proofs.lemmas.List.Quantifiers.{all_pairs_push}
 use Rattle.theory.specs.declared.relation.Relation.TheVariants.{Branching}
 use Rattle.theory.specs.Blocks.{Inert}
-use Rattle.lts.specs.Lts.{Grouped, system_of, IsRow, place_at}
+use Rattle.lts.specs.Lts.{system_of, IsRow, place_at}
+use Rattle.inert.specs.Steps.{Under}
 use Rattle.inert.specs.Signed.{HasPair}
-use Rattle.inert.specs.Search.{Search, here, item_at, IsThere, IsOf, Gives, HoldsPair, IsSound, Walks, Item, Laws, stage_at, root_at, no_root, Ties, IsUpTo, IsBefore, IsRoot, IsHere, Root, Open, frame_at, no_frame, IsFrame, IsEntered, IsAhead, AreOpen, AreRoots, AreFrames, AreAccounted, Connects, Stage, Unseen, Finished, Frame, IsFollowed, Accounted}
+use Rattle.inert.specs.Search.{Search, here, item_at, IsThere, IsOf, Gives, HoldsPair, IsSound, Walks, Item, Laws, stage_at, root_at, no_root, Ties, IsUpTo, IsBefore, IsRoot, IsHere, Root, Open, frame_at, no_frame, IsFrame, IsEntered, IsAhead, AreOpen, AreRoots, AreFrames, AreAccounted, Connects, Stage, Unseen, Finished, AtRest, Frame, IsFollowed, Accounted}
 use Rattle.inert.specs.Moves.{with_item, CutsRoots, entered}
 use Rattle.inert.proofs.parts.Rising.{AllPairs-take, All-from_take}
 use Rattle.inert.proofs.parts.Counting.{unseen-set}
 use Rattle.inert.proofs.invariant.Standing.{reached, on_stack, ties, IsFrame-moved, frames_some, root_low}
 use Rattle.inert.proofs.invariant.Keeping.{Keeps, keeps_stack, accounted_still, sound_still, done_still}
 
-module _ {l : Grouped} {blocks : List ℕ} {live : List ℕ} {lists : List (List (ℕ × ℕ))} {w : Search} (walks : Walks l blocks live lists w) where
+module _ {u : Under} {lists : List (List (ℕ × ℕ))} {w : Search} (walks : Walks u lists w) where
   -- an item more is collected
   module _ (x : Item) where
     abbrev With : Search
@@ -40,7 +41,7 @@ module _ {l : Grouped} {blocks : List ℕ} {live : List ℕ} {lists : List (List
     collected_holds z g = (length w.items, omega (arith, length_push w.items x), subst (λ y. Gives lists y z) (sym item_last) g, of_here)
 
     pub Walks-collect : 0 < length w.frames → IsThere lists x
-        → ((z : ℕ × ℕ) → Gives lists x z → HasPair Branching l blocks (slice_index w.stack (here w)) z.0 z.1) → Walks l blocks live lists With
+        → ((z : ℕ × ℕ) → Gives lists x z → HasPair Branching u.l u.blocks (slice_index w.stack (here w)) z.0 z.1) → Walks u lists With
     Walks-collect some there sound = record {
       numbers = walks.numbers;
       opened = walks.opened;
@@ -56,7 +57,7 @@ module _ {l : Grouped} {blocks : List ℕ} {live : List ℕ} {lists : List (List
       sound = λ j low. elim (cases_lt j (length w.items)) [
         | inl h ↦ sound_still walks collect_keeps j h (omega arith) (λ p low _. low)
         | inr h ↦
-            subst (IsSound l blocks lists With) (let e : length w.items ≡ j = omega (arith, low, h, length_push w.items x) in e)
+            subst (IsSound u lists With) (let e : length w.items ≡ j = omega (arith, low, h, length_push w.items x) in e)
             (here w, on_stack walks some, of_here, λ z g. sound z (subst (λ y. Gives lists y z) item_last g))
       ];
       accounted = λ p k lp lk source. accounted_still walks collect_keeps p k lp lk source (λ ahead. inl ahead) (λ t entered. inr (inr entered));
@@ -86,8 +87,8 @@ module _ {l : Grouped} {blocks : List ℕ} {live : List ℕ} {lists : List (List
     pub joined_here : (t : ℕ) → stage_at w.stages t ≡ Open q → IsHere Joined (here w) t
     joined_here t is = (q, is, λ i d h _. below i d h, λ i d h _. cut_each (λ r. r.height ≤ here w) (reached walks) i d h)
 
-    pub Walks-join : q < length w.stack → Inert (system_of l) (slice_index blocks) (slice_index w.stack (here w)) (slice_index w.stack q)
-        → Walks l blocks live lists Joined
+    pub Walks-join : q < length w.stack → Inert (system_of u.l) (slice_index u.blocks) (slice_index w.stack (here w)) (slice_index w.stack q)
+        → Walks u lists Joined
     Walks-join low step = record {
       numbers = walks.numbers;
       opened = walks.opened;
@@ -102,7 +103,7 @@ module _ {l : Grouped} {blocks : List ℕ} {live : List ℕ} {lists : List (List
         | inl before ↦ walks.connects p r lp lr (cut_back (λ x. x.height ≤ p → x.height ≤ r) h (λ x up le. absurd (omega (arith, up, le, before))))
         | inr after ↦
             let up : IsUpTo roots q r = λ i d h' le. h i d h' (omega (arith, le, after)) in
-            laws.joined (system_of l) (slice_index blocks) _ _ _ (laws.after (system_of l) (slice_index blocks) _ _ _ (ties walks p lp) step)
+            laws.joined (system_of u.l) (slice_index u.blocks) _ _ _ (laws.after (system_of u.l) (slice_index u.blocks) _ _ _ (ties walks p lp) step)
             (walks.connects q r low lr (cut_back (λ x. x.height ≤ q → x.height ≤ r) up (λ x above le. absurd (omega (arith, above, le)))))
       ];
       there = walks.there;
@@ -111,7 +112,7 @@ module _ {l : Grouped} {blocks : List ℕ} {live : List ℕ} {lists : List (List
     }
 
   -- the state t is entered
-  module _ (laws : Laws) {t start end : ℕ} (within : t < length w.stages) (unseen : stage_at w.stages t ≡ Unseen) (row : IsRow l.places t start end) where
+  module _ (laws : Laws) {t start end : ℕ} (within : t < length w.stages) (unseen : stage_at w.stages t ≡ Unseen) (row : IsRow u.l.places t start end) where
     abbrev pub Entered : Search
     Entered = entered t start end (length w.items) w
 
@@ -160,6 +161,7 @@ module _ {l : Grouped} {blocks : List ℕ} {live : List ℕ} {lists : List (List
       items = λ j p low h of. (low, refl);
       opened = λ s p h is. stage_still s (Open p) is (λ e. cc);
       finished = λ s k is. stage_still s (Finished k) is (λ e. cc);
+      resting = λ s. (λ is. grind (arith, common_steps, unseen, within, is), λ is. stage_still s AtRest is (λ e. cc));
     }
 
     -- the walk went to the state t from where it was
@@ -203,21 +205,21 @@ module _ {l : Grouped} {blocks : List ℕ} {live : List ℕ} {lists : List (List
           (record { framed = (length w.frames, omega (arith, frames_size), ap (λ x. x.height) frame_new); within = omega arith });
     }
 
-    frames : AreFrames l Entered.stack Entered.frames
+    frames : AreFrames u.l Entered.stack Entered.frames
     frames = record {
       rising = all_pairs_push (λ x y. x.height < y.height) w.frames NewFrame walks.frames.rising (λ i d h. (walks.frames.each i d h).on_stack);
-      each = All-push (IsFrame l Entered.stack) w.frames NewFrame
+      each = All-push (IsFrame u.l Entered.stack) w.frames NewFrame
           (λ i d h. let frame = walks.frames.each i d h in let low = frame.on_stack in IsFrame-moved frame (omega (arith, low, size)) (state_same _ low))
           (record {
             on_stack = omega (arith, size);
             start = start;
-            row = subst (λ s. IsRow l.places s start end) (sym state_new) row;
+            row = subst (λ s. IsRow u.l.places s start end) (sym state_new) row;
             first = omega arith;
             most = omega (arith, row.count);
           });
     }
 
-    accounted : AreAccounted l blocks lists Entered
+    accounted : AreAccounted u lists Entered
     accounted p k lp lk source = elim (cases_lt p n) [
       | inl low ↦ accounted_still walks enter_keeps p k low lk source (λ ahead. inl (ahead_still p k ahead)) (λ u e. inr (inr (entered_still p u e)))
       | inr high ↦
@@ -226,25 +228,25 @@ module _ {l : Grouped} {blocks : List ℕ} {live : List ℕ} {lists : List (List
           inl (length w.frames, omega (arith, frames_size), ap (λ y. y.height) frame_new ∙ sym e, subst (λ y. y.next ≤ k) (sym frame_new) inside)
     ]
 
-    module _ (step : 0 < length w.frames → Inert (system_of l) (slice_index blocks) (slice_index w.stack (here w)) t) where
-      connects : Connects l blocks Entered
+    module _ (step : 0 < length w.frames → Inert (system_of u.l) (slice_index u.blocks) (slice_index w.stack (here w)) t) where
+      connects : Connects u Entered
       connects p q lp lq h = elim (cases_lt p n) [
         | inl low ↦ elim (cases_lt q n) [
           | inl low' ↦
-              subst₂ (Ties l blocks) (sym (state_same p low)) (sym (state_same q low')) (walks.connects p q low low' (before_new (λ r. r.height ≤ p → r.height ≤ q) h))
+              subst₂ (Ties u) (sym (state_same p low)) (sym (state_same q low')) (walks.connects p q low low' (before_new (λ r. r.height ≤ p → r.height ≤ q) h))
           | inr high' ↦
               let e : n ≡ q = omega (arith, lq, high', size) in
-              subst₂ (Ties l blocks) (sym (state_same p low)) (sym state_new ∙ ap (slice_index Entered.stack) e)
-              (laws.after (system_of l) (slice_index blocks) _ _ _ (ties walks p low) (step (frames_some walks (omega (arith, low)))))
+              subst₂ (Ties u) (sym (state_same p low)) (sym state_new ∙ ap (slice_index Entered.stack) e)
+              (laws.after (system_of u.l) (slice_index u.blocks) _ _ _ (ties walks p low) (step (frames_some walks (omega (arith, low)))))
         ]
         | inr high ↦
             let new = get_or_push w.roots NewRoot no_root (length w.roots) refl in
             let e : p ≡ q = grind (arith, h (length w.roots) no_root, length_push w.roots NewRoot, new, lp, lq, high, size) in
-            subst (λ x. Ties l blocks (slice_index Entered.stack p) (slice_index Entered.stack x)) e
-            (laws.here (system_of l) (slice_index blocks) (slice_index Entered.stack p))
+            subst (λ x. Ties u (slice_index Entered.stack p) (slice_index Entered.stack x)) e
+            (laws.here (system_of u.l) (slice_index u.blocks) (slice_index Entered.stack p))
       ]
 
-      pub Walks-enter : Walks l blocks live lists Entered
+      pub Walks-enter : Walks u lists Entered
       Walks-enter = record {
         numbers = record {
           size = length-set w.stages t (Open n) ∙ walks.numbers.size;
@@ -252,7 +254,10 @@ module _ {l : Grouped} {blocks : List ℕ} {live : List ℕ} {lists : List (List
           numbers = omega (arith, unseen-set w.stages t (Open n) refl within unseen, walks.numbers.numbers, size);
         };
         opened = opened;
-        signed = λ s k is. walks.signed s k (grind (arith, common_steps, unseen, within, is));
+        signed = record {
+          finished = λ s k is. walks.signed.finished s k (grind (arith, common_steps, unseen, within, is));
+          resting = λ s is. walks.signed.resting s ((enter_keeps.resting s).0 is);
+        };
         roots = roots;
         frames = frames;
         connects = connects;
@@ -280,18 +285,18 @@ module _ {l : Grouped} {blocks : List ℕ} {live : List ℕ} {lists : List (List
     next_entered p t (j, lj, at, to) =
         inr (inr (j, omega (arith, lj, same_size), places_same j no_frame ∙ at, ap (slice_index w.stack) (places_same (j + 1) no_frame) ∙ to))
 
-    module _ (done : Accounted l blocks lists w (frame_at w.frames i).height (place_at l.places m)) where
+    module _ (done : Accounted u lists w (frame_at w.frames i).height (place_at u.l.places m)) where
       -- a transition that is still to be read, but for the one that was read
-      next_ahead : (p k : ℕ) → p < length w.stack → IsAhead w p k → IsAhead Moved p k ⊎ Accounted l blocks lists Moved p (place_at l.places k)
+      next_ahead : (p k : ℕ) → p < length w.stack → IsAhead w p k → IsAhead Moved p k ⊎ Accounted u lists Moved p (place_at u.l.places k)
       next_ahead p k lp (j, lj, at, ahead) = elim (cases_eq j i) [
         | inr d ↦ inl (j, omega (arith, lj, same_size), places_same j no_frame ∙ at, subst (λ y. y.next ≤ k) (sym (get_or-set_other w.frames i j x no_frame d)) ahead)
         | inl e ↦
             let at' : (frame_at w.frames i).height ≡ p = ap (λ y. (frame_at w.frames y).height) (sym e) ∙ at in
             elim (cases_eq m k) [
               | inl e' ↦
-                  inr (done_still walks next_keeps p (place_at l.places k) lp (next_entered p)
-                  (subst (λ y. Accounted l blocks lists w y (place_at l.places k)) at'
-                  (subst (λ y. Accounted l blocks lists w (frame_at w.frames i).height (place_at l.places y)) e' done)))
+                  inr (done_still walks next_keeps p (place_at u.l.places k) lp (next_entered p)
+                  (subst (λ y. Accounted u lists w y (place_at u.l.places k)) at'
+                  (subst (λ y. Accounted u lists w (frame_at w.frames i).height (place_at u.l.places y)) e' done)))
               | inr d' ↦
                   let was = ap (λ y. (frame_at w.frames y).next) e in
                   let now = ap (λ y. y.next) (get_or-set_same w.frames i x no_frame low ∙ is) in
@@ -299,7 +304,7 @@ module _ {l : Grouped} {blocks : List ℕ} {live : List ℕ} {lists : List (List
             ]
       ]
 
-      pub Walks-next : Walks l blocks live lists Moved
+      pub Walks-next : Walks u lists Moved
       Walks-next = record {
         numbers = walks.numbers;
         opened = walks.opened;
@@ -316,8 +321,8 @@ module _ {l : Grouped} {blocks : List ℕ} {live : List ℕ} {lists : List (List
           rising = λ j k d h h'. grind (arith, walks.frames.rising j k d h, places_same j d, places_same k d, same_size, h');
           each =
               let frame = walks.frames.each i no_frame low in
-              All-set (IsFrame l w.stack) w.frames i x
-              (subst (IsFrame l w.stack) (sym is) (record {
+              All-set (IsFrame u.l w.stack) w.frames i x
+              (subst (IsFrame u.l w.stack) (sym is) (record {
                 on_stack = frame.on_stack;
                 start = frame.start;
                 row = frame.row;

@@ -7,10 +7,10 @@ use Rattle.theory.specs.System.{Step}
 use Rattle.theory.specs.declared.relation.Relation.TheVariants.{Branching}
 use Rattle.theory.specs.Blocks.{Inert, Signature}
 use Rattle.lts.specs.Labels.{text_of}
-use Rattle.lts.specs.Lts.{Grouped, Triple, source_of, label_of, target_of, place_at, system_of, IsLts, IsRow}
+use Rattle.lts.specs.Lts.{Triple, source_of, label_of, target_of, place_at, system_of, IsLts, IsRow}
 use Rattle.inert.specs.Signed.{HasPair, pair_under}
-use Rattle.inert.specs.Steps.{IsInert, IsStep}
-use Rattle.inert.specs.Search.{Search, Laws, stage_at, frame_at, no_frame, top, here, IsFrame, Accounted, Walks, Unseen, Open, Finished, Frame, Root, Item, Pair, Listed}
+use Rattle.inert.specs.Steps.{Under, IsInert, IsStep}
+use Rattle.inert.specs.Search.{Search, Laws, stage_at, frame_at, no_frame, top, here, IsFrame, Accounted, Walks, Unseen, Open, Finished, AtRest, Frame, Root, Item, Pair, Listed}
 use Rattle.inert.specs.Moves.{entered, with_item, TakesStep, CutsRoots, ahead, HasRead, IsUnderWay, GoesOn, Finds, FindsNone}
 use Rattle.inert.specs.Ahead.{KeepsSeen}
 use Rattle.inert.specs.declared.step.Step.{Step as TakenStep}
@@ -22,51 +22,51 @@ use Rattle.inert.proofs.signatures.Exact.{place_step}
 use Rattle.inert.proofs.moves.Forward.{Walks-collect, collected_holds, Walks-join, joined_here, Walks-enter, entered_met, Walks-next}
 
 -- the transition that is next was taken, and is not marked as read
-module _ (laws : Laws) {l : Grouped} (lts : IsLts l) {blocks : List ℕ} {live : List ℕ} {lists : List (List (ℕ × ℕ))} {w : Search} (walks : Walks l blocks live lists w)
+module _ (laws : Laws) {u : Under} (lts : IsLts u.l) {lists : List (List (ℕ × ℕ))} {w : Search} (walks : Walks u lists w)
     (some : 0 < length w.frames) {k : ℕ} (next : (top w.frames).next ≡ k) (more : k < (top w.frames).end) where
   abbrev e : Triple
-  e = place_at l.places k
+  e = place_at u.l.places k
 
-  frame : IsFrame l w.stack (top w.frames)
+  frame : IsFrame u.l w.stack (top w.frames)
   frame = walks.frames.each (length w.frames - 1) no_frame (omega (arith, some))
 
-  pub place_low : k < length l.places
+  pub place_low : k < length u.l.places
   place_low = omega (arith, frame.row.within, more)
 
   pub source : source_of e ≡ slice_index w.stack (here w)
   source = (frame.row.exactly k place_low).1 (omega (arith, frame.first, next), more)
 
-  pub target_low : target_of e < l.states
+  pub target_low : target_of e < u.l.states
   target_low = (lts.in_range.each k (0, 0, 0) place_low).target
 
   -- an inert transition is an inert step
-  inert_step : IsInert l blocks (slice_index blocks (source_of e)) e → Inert (system_of l) (slice_index blocks) (slice_index w.stack (here w)) (target_of e)
+  inert_step : IsInert u (slice_index u.blocks (source_of e)) e → Inert (system_of u.l) (slice_index u.blocks) (slice_index w.stack (here w)) (target_of e)
   inert_step inert =
-      subst (λ s. Inert (system_of l) (slice_index blocks) s (target_of e)) source
-      (subst (λ a. Step (system_of l) (source_of e) a (target_of e)) inert.0 (place_step l k place_low), inert.1)
+      subst (λ s. Inert (system_of u.l) (slice_index u.blocks) s (target_of e)) source
+      (subst (λ a. Step (system_of u.l) (source_of e) a (target_of e)) inert.0 (place_step u.l k place_low), inert.1)
 
   -- another one gives a pair of the signature
-  own_pair : ¬ IsInert l blocks (slice_index blocks (source_of e)) e
-      → HasPair Branching l blocks (slice_index w.stack (here w)) (pair_under blocks e).0 (pair_under blocks e).1
+  own_pair : ¬ IsInert u (slice_index u.blocks (source_of e)) e
+      → HasPair Branching u.l u.blocks (slice_index w.stack (here w)) (pair_under u.blocks e).0 (pair_under u.blocks e).1
   own_pair other = (
     (lts.in_range.each k (0, 0, 0) place_low).label,
-    subst (λ s. Signature Branching (system_of l) (slice_index blocks) s (text_of l.labels (label_of e)) (slice_index blocks (target_of e))) source
-        (source_of e, target_of e, laws.here (system_of l) (slice_index blocks) (source_of e), place_step l k place_low, refl, other),
+    subst (λ s. Signature Branching (system_of u.l) (slice_index u.blocks) s (text_of u.l.labels (label_of e)) (slice_index u.blocks (target_of e))) source
+        (source_of e, target_of e, laws.here (system_of u.l) (slice_index u.blocks) (source_of e), place_step u.l k place_low, refl, other),
   )
 
   -- what holds of the walk then, whether it has entered a state or not
   pub record Taken (m : Search) (enters : Bool) : Type 0 where
-    pub after : Walks l blocks live lists m
-    pub done : Accounted l blocks lists m (here w) e
+    pub after : Walks u lists m
+    pub done : Accounted u lists m (here w) e
     pub seen : KeepsSeen w.stages m.stages
-    pub same_ahead : ahead l m ≡ ahead l w
+    pub same_ahead : ahead u.l m ≡ ahead u.l w
     pub same_frame : frame_at m.frames (length w.frames - 1) ≡ top w.frames
     pub still : ¬ IsTrue enters → (m.frames ≡ w.frames) × (m.stack ≡ w.stack)
     pub longer : IsTrue enters → length m.frames ≡ length w.frames + 1
     pub finds : Finds w m enters
 
   stayed : (roots : List Root) (items : List Item) (enters : Bool) → let m : Search = record w { roots = roots; items = items } in
-      Walks l blocks live lists m → Accounted l blocks lists m (here w) e → ¬ IsTrue enters → Taken m enters
+      Walks u lists m → Accounted u lists m (here w) e → ¬ IsTrue enters → Taken m enters
   stayed roots items enters after done stay = record {
     after = after;
     done = done;
@@ -78,26 +78,26 @@ module _ (laws : Laws) {l : Grouped} (lts : IsLts l) {blocks : List ℕ} {live :
     finds = record { some = λ went. absurd (stay went); found = λ s is. inl is };
   }
 
-  taken_pair : (a b : ℕ) (enters : Bool) → ¬ IsInert l blocks (slice_index blocks (source_of e)) e → (a, b) ≡ pair_under blocks e → ¬ IsTrue enters
+  taken_pair : (a b : ℕ) (enters : Bool) → ¬ IsInert u (slice_index u.blocks (source_of e)) e → (a, b) ≡ pair_under u.blocks e → ¬ IsTrue enters
       → Taken (with_item (Pair a b) w) enters
   taken_pair a b enters other is =
       stayed w.roots (with_item (Pair a b) w).items enters
       (Walks-collect walks (Pair a b) some (λ j e'. absurd (cc))
-      (λ z g. subst (λ (x : ℕ × ℕ). HasPair Branching l blocks (slice_index w.stack (here w)) x.0 x.1) (sym is ∙ g) (own_pair other)))
-      (record { shown = λ _. collected_holds walks (Pair a b) (pair_under blocks e) is; followed = λ inert. absurd (other inert) })
+      (λ z g. subst (λ (x : ℕ × ℕ). HasPair Branching u.l u.blocks (slice_index w.stack (here w)) x.0 x.1) (sym is ∙ g) (own_pair other)))
+      (record { shown = λ _. collected_holds walks (Pair a b) (pair_under u.blocks e) is; followed = λ inert _. absurd (other inert) })
 
-  module _ (inert : IsInert l blocks (slice_index blocks (source_of e)) e) where
+  module _ (inert : IsInert u (slice_index u.blocks (source_of e)) e) where
     taken_finished : (number : ℕ) (enters : Bool) → stage_at w.stages (target_of e) ≡ Finished number → ¬ IsTrue enters → Taken (with_item (Listed number) w) enters
     taken_finished number enters stage =
-        let signed = walks.signed (target_of e) number stage in
+        let signed = walks.signed.finished (target_of e) number stage in
         let s = slice_index w.stack (here w) in
-        let tie = laws.after (system_of l) (slice_index blocks) s s (target_of e) (laws.here (system_of l) (slice_index blocks) s) (inert_step inert) in
+        let tie = laws.after (system_of u.l) (slice_index u.blocks) s s (target_of e) (laws.here (system_of u.l) (slice_index u.blocks) s) (inert_step inert) in
         stayed w.roots (with_item (Listed number) w).items enters
         (Walks-collect walks (Listed number) some (λ j e'. subst (λ x. x < length lists) (let same : number ≡ j = cc in same) signed.within)
-        (λ z g. pair_before laws l blocks s (target_of e) z tie (signed.sound z g)))
+        (λ z g. pair_before laws u s (target_of e) z tie ((signed.signature.exactly z.0 z.1).0 g)))
         (record {
           shown = λ other. absurd (other inert);
-          followed = λ _. inr (inl (number, stage, λ z c. collected_holds walks (Listed number) z c));
+          followed = λ _ _. inr (inl (number, stage, λ z c. collected_holds walks (Listed number) z c));
         })
 
     taken_joined : (q : ℕ) (roots : List Root) (enters : Bool) → stage_at w.stages (target_of e) ≡ Open q → CutsRoots q w.roots roots → ¬ IsTrue enters
@@ -105,10 +105,15 @@ module _ (laws : Laws) {l : Grouped} (lts : IsLts l) {blocks : List ℕ} {live :
     taken_joined q roots enters stage cuts =
         let was = walks.opened.only (target_of e) q stage in
         stayed roots w.items enters
-        (Walks-join walks laws cuts was.0 (subst (Inert (system_of l) (slice_index blocks) (slice_index w.stack (here w))) (sym was.1) (inert_step inert)))
-        (record { shown = λ other. absurd (other inert); followed = λ _. inl (joined_here walks laws cuts (target_of e) stage) })
+        (Walks-join walks laws cuts was.0 (subst (Inert (system_of u.l) (slice_index u.blocks) (slice_index w.stack (here w))) (sym was.1) (inert_step inert)))
+        (record { shown = λ other. absurd (other inert); followed = λ _ _. inl (joined_here walks laws cuts (target_of e) stage) })
 
-    taken_entered : (start end : ℕ) (enters : Bool) → IsRow l.places (target_of e) start end → stage_at w.stages (target_of e) ≡ Unseen → IsTrue enters
+    -- a state at rest has nothing to show
+    taken_resting : (enters : Bool) → stage_at w.stages (target_of e) ≡ AtRest → ¬ IsTrue enters → Taken w enters
+    taken_resting enters stage =
+        stayed w.roots w.items enters walks (record { shown = λ other. absurd (other inert); followed = λ _ awake. absurd (awake stage) })
+
+    taken_entered : (start end : ℕ) (enters : Bool) → IsRow u.l.places (target_of e) start end → stage_at w.stages (target_of e) ≡ Unseen → IsTrue enters
         → Taken (entered (target_of e) start end (length w.items) w) enters
     taken_entered start end enters row unseen went =
         let within : target_of e < length w.stages = omega (arith, walks.numbers.size, target_low) in
@@ -116,9 +121,9 @@ module _ (laws : Laws) {l : Grouped} (lts : IsLts l) {blocks : List ℕ} {live :
         let frames = length_push w.frames x in
         record {
           after = Walks-enter walks laws within unseen row (λ _. inert_step inert);
-          done = record { shown = λ other. absurd (other inert); followed = λ _. inr (inr (entered_met walks laws within unseen row some)) };
-          seen = seen_more w.stages (target_of e) (Open (length w.stack)) (λ e. cc) within unseen;
-          same_ahead = omega (arith, unread-set w.stages (target_of e) (Open (length w.stack)) refl within unseen l.places, rest-push w.frames x, row.count);
+          done = record { shown = λ other. absurd (other inert); followed = λ _ _. inr (inr (entered_met walks laws within unseen row some)) };
+          seen = seen_more w.stages (target_of e) (Open (length w.stack)) (λ e. cc) (λ e. cc) within unseen;
+          same_ahead = omega (arith, unread-set w.stages (target_of e) (Open (length w.stack)) refl within unseen u.l.places, rest-push w.frames x, row.count);
           same_frame = get_or_append_left w.frames (x ∷ []) _ (length w.frames - 1) (omega (arith, some));
           still = λ stay. absurd (stay went);
           longer = λ _. frames;
@@ -132,24 +137,26 @@ module _ (laws : Laws) {l : Grouped} (lts : IsLts l) {blocks : List ℕ} {live :
         }
 
   -- whichever step it is
-  pub taken : (step : TakenStep) (m : Search) (enters : Bool) → IsStep l blocks (slice_index blocks (source_of e)) e step → TakesStep l.places step w m enters
+  pub taken : (step : TakenStep) (m : Search) (enters : Bool) → IsStep u (slice_index u.blocks (source_of e)) e step → TakesStep u.l.places step w m enters
       → Taken m enters
   taken (Shows a b) m enters is takes =
       subst (λ x. Taken x enters) (sym takes.0) (taken_pair a b enters is.0 is.1 takes.1)
   taken (Goes t) m enters is (inl (unseen, (start, end, row, new), went)) =
       subst (λ x. Taken x enters) (sym (new ∙ ap (λ s. entered s start end (length w.items) w) is.1))
-      (taken_entered is.0 start end enters (subst (λ s. IsRow l.places s start end) is.1 row) (ap (stage_at w.stages) (sym is.1) ∙ unseen) went)
+      (taken_entered is.0 start end enters (subst (λ s. IsRow u.l.places s start end) is.1 row) (ap (stage_at w.stages) (sym is.1) ∙ unseen) went)
   taken (Goes t) m enters is (inr (inl (q, stage, cuts, new, stay))) =
       subst (λ x. Taken x enters) (sym new) (taken_joined is.0 q m.roots enters (ap (stage_at w.stages) (sym is.1) ∙ stage) cuts stay)
-  taken (Goes t) m enters is (inr (inr (number, stage, new, stay))) =
+  taken (Goes t) m enters is (inr (inr (inl (number, stage, new, stay)))) =
       subst (λ x. Taken x enters) (sym new) (taken_finished is.0 number enters (ap (stage_at w.stages) (sym is.1) ∙ stage) stay)
+  taken (Goes t) m enters is (inr (inr (inr (stage, new, stay)))) =
+      subst (λ x. Taken x enters) (sym new) (taken_resting is.0 enters (ap (stage_at w.stages) (sym is.1) ∙ stage) stay)
 
 -- from one walk to another one, the row of what was its last frame was read up to place k
-pub record Reads (l : Grouped) (blocks : List ℕ) (live : List ℕ) (lists : List (List (ℕ × ℕ))) (old new : Search) (k : ℕ) : Type 0 where
-  pub on : GoesOn l blocks live lists old new
+pub record Reads (u : Under) (lists : List (List (ℕ × ℕ))) (old new : Search) (k : ℕ) : Type 0 where
+  pub on : GoesOn u lists old new
   pub here : frame_at new.frames (length old.frames - 1) ≡ record (top old.frames) { next = k }
   pub forward : (top old.frames).next ≤ k
-  pub less : ahead l new + k ≡ ahead l old + (top old.frames).next
+  pub less : ahead u.l new + k ≡ ahead u.l old + (top old.frames).next
 
 -- and no state was entered
 pub record Stays (old new : Search) : Type 0 where
@@ -157,11 +164,18 @@ pub record Stays (old new : Search) : Type 0 where
   pub stack : new.stack ≡ old.stack
   pub none : FindsNone old new
 
-pub reads_none : {l : Grouped} {blocks : List ℕ} {live : List ℕ} {lists : List (List (ℕ × ℕ))} {w : Search} → IsUnderWay l blocks live lists w
-    → Reads l blocks live lists w w (top w.frames).next
+-- a transition more was read, in place k
+pub record Marked (u : Under) (lists : List (List (ℕ × ℕ))) (old new : Search) (k : ℕ) (enters : Bool) : Type 0 where
+  pub reads : Reads u lists old new (k + 1)
+  pub stays : ¬ IsTrue enters → Stays old new
+  pub longer : IsTrue enters → length new.frames ≡ length old.frames + 1
+  pub finds : Finds old new enters
+
+pub reads_none : {u : Under} {lists : List (List (ℕ × ℕ))} {w : Search} → IsUnderWay u lists w
+    → Reads u lists w w (top w.frames).next
 reads_none way = record { on = record { walks = way.walks; seen = seen_same _ }; here = refl; forward = omega arith; less = refl }
 
-module _ {l : Grouped} {blocks : List ℕ} {live : List ℕ} {lists : List (List (ℕ × ℕ))} {first w : Search} {k : ℕ} (reads : Reads l blocks live lists first w k)
+module _ {u : Under} {lists : List (List (ℕ × ℕ))} {first w : Search} {k : ℕ} (reads : Reads u lists first w k)
     (stays : Stays first w) (some : 0 < length first.frames) where
   now_some : 0 < length w.frames
   now_some = omega (arith, stays.size, some)
@@ -176,24 +190,24 @@ module _ {l : Grouped} {blocks : List ℕ} {live : List ℕ} {lists : List (List
       omega (arith, most, ap (λ y. y.next) top_is, ap (λ y. y.end) top_is, over)
 
   -- and else a transition more is taken
-  module _ (laws : Laws) (lts : IsLts l) (more : k < (top first.frames).end) where
+  module _ (laws : Laws) (lts : IsLts u.l) (more : k < (top first.frames).end) where
     now_more : k < (top w.frames).end
     now_more = omega (arith, ap (λ y. y.end) top_is, more)
 
-    pub place_below : k < length l.places
+    pub place_below : k < length u.l.places
     place_below = place_low laws lts reads.on.walks now_some (ap (λ y. y.next) top_is) now_more
 
-    module _ (block : ℕ) (is_block : block ≡ slice_index blocks (slice_index first.stack (top first.frames).height)) (step : TakenStep)
-        (is_step : IsStep l blocks block (place_at l.places k) step) (m : Search) (enters : Bool) (takes : TakesStep l.places step w m enters) where
-      same_block : block ≡ slice_index blocks (source_of (place_at l.places k))
+    module _ (block : ℕ) (is_block : block ≡ slice_index u.blocks (slice_index first.stack (top first.frames).height)) (step : TakenStep)
+        (is_step : IsStep u block (place_at u.l.places k) step) (m : Search) (enters : Bool) (takes : TakesStep u.l.places step w m enters) where
+      same_block : block ≡ slice_index u.blocks (source_of (place_at u.l.places k))
       same_block =
-          is_block ∙ ap (slice_index blocks) (ap (slice_index first.stack) (sym (ap (λ y. y.height) top_is)) ∙ ap (λ xs. slice_index xs (top w.frames).height) (sym stays.stack)
+          is_block ∙ ap (slice_index u.blocks) (ap (slice_index first.stack) (sym (ap (λ y. y.height) top_is)) ∙ ap (λ xs. slice_index xs (top w.frames).height) (sym stays.stack)
           ∙ sym (source laws lts reads.on.walks now_some (ap (λ y. y.next) top_is) now_more))
 
       took : Taken laws lts reads.on.walks now_some (ap (λ y. y.next) top_is) now_more m enters
       took =
           taken laws lts reads.on.walks now_some (ap (λ y. y.next) top_is) now_more step m enters
-          (subst (λ b. IsStep l blocks b (place_at l.places k) step) same_block is_step) takes
+          (subst (λ b. IsStep u b (place_at u.l.places k) step) same_block is_step) takes
 
       -- it is marked as read
       module _ (i : ℕ) (last : i ≡ length first.frames - 1) where
@@ -213,36 +227,29 @@ module _ {l : Grouped} {blocks : List ℕ} {live : List ℕ} {lists : List (List
           left : k < (frame_at m.frames i).end
           left = omega (arith, more, ap (λ y. y.end) same_frame)
 
-          done : Accounted l blocks lists m (frame_at m.frames i).height (place_at l.places k)
-          done = subst (λ (y : Frame). Accounted l blocks lists m y.height (place_at l.places k)) (top_is ∙ sym same_frame) took.done
+          done : Accounted u lists m (frame_at m.frames i).height (place_at u.l.places k)
+          done = subst (λ (y : Frame). Accounted u lists m y.height (place_at u.l.places k)) (top_is ∙ sym same_frame) took.done
 
-          moved_ahead : ahead l New + 1 ≡ ahead l w
+          moved_ahead : ahead u.l New + 1 ≡ ahead u.l w
           moved_ahead =
               let one = rest-next m.frames i x still_there (ap (λ y. y.end) is) (ap (λ y. y.next) is ∙ ap (λ n. n + 1) (sym next)) (omega (arith, next, left)) in
               omega (arith, one, took.same_ahead)
 
-          pub read_more : Reads l blocks live lists first New (k + 1)
-          read_more = record {
-            on = record {
-              walks = Walks-next took.after still_there is next left done;
-              seen = seen_on reads.on.seen took.seen;
+          pub marked : Marked u lists first New k enters
+          marked = record {
+            reads = record {
+              on = record { walks = Walks-next took.after still_there is next left done; seen = seen_on reads.on.seen took.seen };
+              here =
+                  ap (frame_at New.frames) (sym last) ∙ get_or-set_same m.frames i x _ still_there ∙ is
+                  ∙ (λ j. record { height = (same_frame j).height; next = k + 1; end = (same_frame j).end });
+              forward = omega (arith, reads.forward);
+              less = omega (arith, moved_ahead, reads.less);
             };
-            here =
-                ap (frame_at New.frames) (sym last) ∙ get_or-set_same m.frames i x _ still_there ∙ is
-                ∙ (λ j. record { height = (same_frame j).height; next = k + 1; end = (same_frame j).end });
-            forward = omega (arith, reads.forward);
-            less = omega (arith, moved_ahead, reads.less);
+            stays = λ stay. record {
+              size = length-set m.frames i x ∙ ap length (took.still stay).0 ∙ stays.size;
+              stack = (took.still stay).1 ∙ stays.stack;
+              none = λ s is. elim (took.finds.found s (stays.none s is)) [ inl none ↦ none | inr one ↦ absurd (stay one.0) ];
+            };
+            longer = λ went. omega (arith, length-set m.frames i x, took.longer went, stays.size);
+            finds = record { some = took.finds.some; found = λ s is. took.finds.found s (stays.none s is) };
           }
-
-          pub stays_more : ¬ IsTrue enters → Stays first New
-          stays_more stay = record {
-            size = length-set m.frames i x ∙ ap length (took.still stay).0 ∙ stays.size;
-            stack = (took.still stay).1 ∙ stays.stack;
-            none = λ s is. elim (took.finds.found s (stays.none s is)) [ inl none ↦ none | inr one ↦ absurd (stay one.0) ];
-          }
-
-          pub finds_more : Finds first New enters
-          finds_more = record { some = took.finds.some; found = λ s is. took.finds.found s (stays.none s is) }
-
-          pub enters_more : IsTrue enters → length New.frames ≡ length first.frames + 1
-          enters_more went = omega (arith, length-set m.frames i x, took.longer went, stays.size)

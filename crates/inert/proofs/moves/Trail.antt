@@ -1,12 +1,12 @@
 -- The trail of a walk: it has each state that was seen.
-use Rattle.std.proofs.Common.{◌≡◌, ◌∙◌, ℕ, ◌-◌, ◌<◌, List, [], ◌∷◌, ◌++◌, length, set, slice_index, sym, subst, inl, inr, refl, arith, Contains}
+use Rattle.std.proofs.Common.{◌≡◌, ◌∙◌, ℕ, ◌-◌, ◌<◌, List, [], ◌∷◌, ◌++◌, length, set, slice_index, sym, subst, inl, inr, arith, Contains}
 use Rattle.std.specs.Prelude.{true}
 use Rattle.std.specs.List.{All}
 use Rattle.std.proofs.lemmas.Bool.{cases_eq}
 use Rattle.std.proofs.lemmas.List.{get_or-set_other, length-set}
 use Rattle.std.proofs.lemmas.List.Elements.{All-nil, All-push, Contains-push, Contains-append_left}
 use Rattle.inert.specs.Search.{Search, Stage, stage_at, IsTrail, Unseen}
-use Rattle.inert.specs.Moves.{Finds}
+use Rattle.inert.specs.Moves.{Finds, FindsNone}
 
 -- the first state is seen
 pub trail_first : (stages : List Stage) (s : ℕ) (m : Stage) → s < length stages → ((t : ℕ) → stage_at stages t ≡ Unseen) → IsTrail (set stages s m) (s ∷ [])
@@ -19,6 +19,13 @@ trail_first stages s m low none =
         | inr other ↦ inl (get_or-set_other stages s t m Unseen other ∙ none t)
       ];
     }
+
+-- no state is found
+pub trail_same : (old new : Search) (trail : List ℕ) → IsTrail old.stages trail → length new.stages ≡ length old.stages → FindsNone old new → IsTrail new.stages trail
+trail_same old new trail was size none = record {
+  each = subst (λ n. All (λ t. t < n) trail) (sym size) was.each;
+  seen = λ t. elim (was.seen t) [ inl unseen ↦ inl (none t unseen) | inr has ↦ inr has ];
+}
 
 -- a state more is found: the last one on the stack
 pub trail_more : {old new : Search} (trail : List ℕ) → IsTrail old.stages trail → length new.stages ≡ length old.stages → Finds old new true

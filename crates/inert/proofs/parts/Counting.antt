@@ -1,15 +1,24 @@
 -- What a walk has still to read: how it shrinks as states are entered and their rows are read.
-use Rattle.std.proofs.Common.{◌≡◌, ◌∙◌, ℕ, zero, suc, ◌+◌, ◌-◌, ◌<◌, ◌≤◌, ◌↔◌, Bool, false, cond, eqb, List, [], ◌∷◌, ◌++◌, length, set, take, map, get_or, Contains, ap, refl, sym, subst, inl, inr, arith}
+use Rattle.std.proofs.Common.{◌≡◌, ◌∙◌, ℕ, zero, suc, ◌+◌, ◌-◌, ◌<◌, ◌≤◌, Bool, false, cond, eqb, List, [], ◌∷◌, ◌++◌, length, set, take, map, get_or, ap, refl, sym, subst, arith}
 use Rattle.std.specs.List.{sum, sum_by}
 use Rattle.std.proofs.lemmas.Grind.{common_steps}
 use Rattle.std.proofs.lemmas.Bool.Decides.{nat_tests}
 use Rattle.std.proofs.lemmas.List.{ext_get_or, get_or-map, length-map, take_all, get_or_default}
 use Rattle.std.proofs.lemmas.List.Elements.{filter_agree}
 use Rattle.std.proofs.lemmas.List.Sums.{length-filter, sum-map, sum_by-cons, sum_by-le, sum_by_more, sum_by_push, sum_by-set}
+use Rattle.lts.specs.Meter.{Counts, Costs}
 use Rattle.lts.specs.Lts.{Triple, source_of, row_of, place_at}
 use Rattle.lts.proofs.CallerLemmas.{filter-none, filter-whole}
 use Rattle.inert.specs.Ahead.{is_unseen, unseen, unread, rest}
-use Rattle.inert.specs.Search.{stage_at, frame_at, no_frame, top, Stage, Unseen, Open, Finished, Frame}
+use Rattle.inert.specs.Search.{stage_at, frame_at, no_frame, top, Stage, Unseen, Open, Finished, AtRest, Frame}
+
+-- one cost after another, where no more than so much was counted in all
+pub costs_on : {a b c : Counts} {most n k least : ℕ} → Costs a b 0 0 n → Costs b c 0 least k → c.visits ≤ a.visits + most → Costs a c 0 0 most
+costs_on first then few = record {
+  rounds = omega (arith, first.rounds, then.rounds);
+  at_least = omega (arith, first.at_least, then.at_least);
+  at_most = few;
+}
 
 -- 1 for true, and 0 for false
 abbrev one : Bool → ℕ
@@ -79,6 +88,7 @@ pub seen : (m : Stage) → ¬ (m ≡ Unseen) → is_unseen m ≡ false
 seen Unseen f = absurd (f refl)
 seen (Open p) f = refl
 seen (Finished k) f = refl
+seen AtRest f = refl
 
 -- no source is unseen
 pub unread-none : (places : List Triple) (stages : List Stage) → ((k : ℕ) → k < length places → ¬ (stage_at stages (source_of (place_at places k)) ≡ Unseen))

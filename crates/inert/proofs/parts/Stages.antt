@@ -5,7 +5,7 @@ use Rattle.std.proofs.lemmas.Bool.{cases_lt}
 use Rattle.std.proofs.lemmas.Grind.{common_steps}
 use Rattle.std.proofs.lemmas.List.{get_or_past, get_or-set_other}
 use Rattle.std.proofs.lemmas.List.Elements.{All-from_get_or}
-use Rattle.inert.specs.Search.{Stage, stage_at, AreOpen, Unseen, Finished}
+use Rattle.inert.specs.Search.{Stage, stage_at, AreOpen, Unseen, AtRest}
 use Rattle.inert.specs.Ahead.{KeepsSeen}
 
 -- a state on the stack has a stage
@@ -17,15 +17,20 @@ open_inside stages stack opened = All-from_get_or (λ s. s < length stages) stac
 
 -- nothing changes
 pub seen_same : (stages : List Stage) → KeepsSeen stages stages
-seen_same stages = record { unseen = λ s is. is; finished = λ s k is. is }
+seen_same stages = record { unseen = λ s is. is; finished = λ s k is. is; resting = λ s. (λ is. is, λ is. is) }
 
 -- one change after another
 pub seen_on : {old mid new : List Stage} → KeepsSeen old mid → KeepsSeen mid new → KeepsSeen old new
-seen_on first then = record { unseen = λ s is. first.unseen s (then.unseen s is); finished = λ s k is. then.finished s k (first.finished s k is) }
+seen_on first then = record {
+  unseen = λ s is. first.unseen s (then.unseen s is);
+  finished = λ s k is. then.finished s k (first.finished s k is);
+  resting = λ s. (λ is. (first.resting s).0 ((then.resting s).0 is), λ is. (then.resting s).1 ((first.resting s).1 is));
+}
 
 -- the state t, which was not seen, is seen
-pub seen_more : (stages : List Stage) (t : ℕ) (m : Stage) → ¬ (m ≡ Unseen) → t < length stages → stage_at stages t ≡ Unseen → KeepsSeen stages (set stages t m)
-seen_more stages t m seen low was = record {
+pub seen_more : (stages : List Stage) (t : ℕ) (m : Stage) → ¬ (m ≡ Unseen) → ¬ (m ≡ AtRest) → t < length stages → stage_at stages t ≡ Unseen → KeepsSeen stages (set stages t m)
+seen_more stages t m seen awake low was = record {
   unseen = λ s is. grind (arith, common_steps, seen, is);
   finished = λ s k is. get_or-set_other stages t s m Unseen (λ e. cc (ap (stage_at stages) e, was, is)) ∙ is;
+  resting = λ s. (λ is. grind (arith, common_steps, awake, low, is), λ is. get_or-set_other stages t s m Unseen (λ e. cc (ap (stage_at stages) e, was, is)) ∙ is);
 }

@@ -1,14 +1,16 @@
 -- If the rows of the last component are read, what it has collected is exactly the signature of each of its states.
-use Rattle.std.proofs.Common.{◌≡◌, ℕ, ◌+◌, ◌-◌, ◌<◌, ◌≤◌, List, [], ◌∷◌, length, drop, get_or, slice_index, sym, ◌∙◌, ap, subst, inl, inr, arith}
+use Rattle.std.proofs.Common.{◌≡◌, ℕ, ◌+◌, ◌-◌, ◌<◌, ◌≤◌, List, [], ◌∷◌, length, drop, get_or, slice_index, refl, sym, ◌∙◌, ap, subst, inl, inr, arith}
 use Rattle.std.proofs.lemmas.List.{length-map, get_or-map, get_or-drop, get_or_default, length-drop}
 use Rattle.theory.specs.System.{Step, Along, internal}
 use Rattle.theory.specs.declared.relation.Relation.TheVariants.{Branching}
 use Rattle.theory.specs.Blocks.{Inert}
 use Rattle.lts.specs.Labels.{text_of}
-use Rattle.lts.specs.Lts.{Grouped, source_of, label_of, target_of, place_at, transition_of, system_of, IsLts}
+use Rattle.lts.specs.Lts.{Grouped, source_of, label_of, target_of, place_at, transition_of, row_of, system_of, IsLts}
+use Rattle.lts.proofs.CallerLemmas.{IsRow-before}
 use Rattle.lists.specs.Lists.{list_at}
+use Rattle.inert.specs.Steps.{Under}
 use Rattle.inert.specs.Signed.{HasPair, IsSignature, pair_under}
-use Rattle.inert.specs.Search.{Search, Laws, stage_at, here, last, no_root, item_at, Gives, HoldsPair, Accounted, IsSigned, Walks}
+use Rattle.inert.specs.Search.{Search, Laws, stage_at, here, last, no_root, item_at, Gives, HoldsPair, Accounted, IsSigned, Walks, AtRest}
 use Rattle.inert.specs.Moves.{IsGiven, IsListed, HasRead}
 use Rattle.inert.proofs.invariant.Standing.{pair_before, last_low, last_most, last_frame, none_ahead}
 
@@ -28,7 +30,7 @@ place_step l k h =
     let e = transition_of l.labels (place_at l.places k) in
     (k, omega (arith, h, length-map l.places (transition_of l.labels)), get_or-map (transition_of l.labels) l.places k (0, 0, 0) e h)
 
-module _ (laws : Laws) {l : Grouped} (lts : IsLts l) {blocks : List ℕ} {live : List ℕ} {lists : List (List (ℕ × ℕ))} {w : Search} (walks : Walks l blocks live lists w)
+module _ (laws : Laws) {u : Under} (lts : IsLts u.l) {lists : List (List (ℕ × ℕ))} {w : Search} (walks : Walks u lists w)
     (some : 0 < length w.frames) (read : HasRead w) (height : (last w.roots).height ≡ here w) where
   -- where the items of the component begin, and what they give
   abbrev c0 : ℕ
@@ -44,69 +46,87 @@ module _ (laws : Laws) {l : Grouped} (lts : IsLts l) {blocks : List ℕ} {live :
       (item_at w.items j, (j - c0, omega (arith, length-drop c0 w.items, low, from), get_or-drop c0 w.items (j - c0) _ ∙ ap (λ i. get_or w.items i (item_at w.items j)) is ∙ get_or_default w.items j _ _ low), g)
 
   -- each transition of the component was taken into account
-  done : (p k : ℕ) → here w ≤ p → p < length w.stack → k < length l.places → source_of (place_at l.places k) ≡ slice_index w.stack p
-      → Accounted l blocks lists w p (place_at l.places k)
+  done : (p k : ℕ) → here w ≤ p → p < length w.stack → k < length u.l.places → source_of (place_at u.l.places k) ≡ slice_index w.stack p
+      → Accounted u lists w p (place_at u.l.places k)
   done p k h lp lk source = elim (walks.accounted p k lp lk source) [
     | inr a ↦ a
     | inl (i, low, is, ahead) ↦ absurd (none_ahead walks read p k i lk source low (last_frame walks i low (omega (arith, is, h))) is ahead)
   ]
 
+  -- a source has a transition
+  row_some : (k : ℕ) → k < length u.l.places → ¬ (row_of (source_of (place_at u.l.places k)) u.l.places ≡ [])
+  row_some k h none =
+      let row = IsRow-before (source_of (place_at u.l.places k)) u.l.places lts.rising in
+      let inside = (row.exactly k h).0 refl in
+      omega (arith, inside, row.count, ap length none)
+
+  no_step : (s : ℕ) → row_of s u.l.places ≡ [] → (a : List ℕ) (t : ℕ) → ¬ Step (system_of u.l) s a t
+  no_step s none a t step = let (k, lk, source, label, target) = step_place u.l s t a step in row_some k lk (ap (λ x. row_of x u.l.places) source ∙ none)
+
+  no_path : (s : ℕ) → row_of s u.l.places ≡ [] → (us : List ℕ) (v t : ℕ) → Along (Inert (system_of u.l) (slice_index u.blocks)) s us v → (a : List ℕ) → ¬ Step (system_of u.l) v a t
+  no_path s none [] v t e a step = no_step s none a t (subst (λ x. Step (system_of u.l) x a t) (sym e) step)
+  no_path s none (x ∷ us) v t path a step = no_step s none internal x path.0.0
+
   -- what a state of the component can do was collected
-  collects_here : (z : ℕ × ℕ) (p : ℕ) → here w ≤ p → p < length w.stack → (t : ℕ) → Step (system_of l) (slice_index w.stack p) (text_of l.labels z.0) t
-      → slice_index blocks t ≡ z.1 → ¬ ((text_of l.labels z.0 ≡ internal) × (z.1 ≡ slice_index blocks (slice_index w.stack p)))
-      → z.0 < length l.labels → Collected z
+  collects_here : (z : ℕ × ℕ) (p : ℕ) → here w ≤ p → p < length w.stack → (t : ℕ) → Step (system_of u.l) (slice_index w.stack p) (text_of u.l.labels z.0) t
+      → slice_index u.blocks t ≡ z.1 → ¬ ((text_of u.l.labels z.0 ≡ internal) × (z.1 ≡ slice_index u.blocks (slice_index w.stack p)))
+      → z.0 < length u.l.labels → Collected z
   collects_here z p h lp t step is other low =
-      let (k, lk, source, label, target) = step_place l (slice_index w.stack p) t (text_of l.labels z.0) step in
-      let number : label_of (place_at l.places k) ≡ z.0 = lts.table.different (label_of (place_at l.places k)) z.0 (lts.in_range.each k (0, 0, 0) lk).label low label in
-      let block : slice_index blocks (target_of (place_at l.places k)) ≡ z.1 = ap (slice_index blocks) target ∙ is in
-      let same : pair_under blocks (place_at l.places k) ≡ z = λ i. (number i, block i) in
+      let (k, lk, source, label, target) = step_place u.l (slice_index w.stack p) t (text_of u.l.labels z.0) step in
+      let number : label_of (place_at u.l.places k) ≡ z.0 = lts.table.different (label_of (place_at u.l.places k)) z.0 (lts.in_range.each k (0, 0, 0) lk).label low label in
+      let block : slice_index u.blocks (target_of (place_at u.l.places k)) ≡ z.1 = ap (slice_index u.blocks) target ∙ is in
+      let same : pair_under u.blocks (place_at u.l.places k) ≡ z = λ i. (number i, block i) in
       collected_from p h z
       (subst (HoldsPair lists w p) same
-      ((done p k h lp lk source).shown (λ inert. other (sym label ∙ inert.0, sym block ∙ inert.1 ∙ ap (slice_index blocks) source))))
+      ((done p k h lp lk source).shown (λ inert. other (sym label ∙ inert.0, sym block ∙ inert.1 ∙ ap (slice_index u.blocks) source))))
 
-  -- and what it can do at the end of inert steps: they lead to no other state that is alone in its block
-  collects : (z : ℕ × ℕ) (us : List ℕ) (p : ℕ) → here w ≤ p → p < length w.stack → (u t : ℕ)
-      → Along (Inert (system_of l) (slice_index blocks)) (slice_index w.stack p) us u → Step (system_of l) u (text_of l.labels z.0) t → slice_index blocks t ≡ z.1
-      → ¬ ((text_of l.labels z.0 ≡ internal) × (z.1 ≡ slice_index blocks (slice_index w.stack p))) → z.0 < length l.labels → Collected z
-  collects z [] p h lp u t e step is other low =
-      collects_here z p h lp t (subst (λ x. Step (system_of l) x (text_of l.labels z.0) t) (sym e) step) is other low
-  collects z (x ∷ us) p h lp u t (first, rest) step is other low =
-      let (k, lk, source, label, target) = step_place l (slice_index w.stack p) x internal first.0 in
-      let same : slice_index blocks (target_of (place_at l.places k)) ≡ slice_index blocks (slice_index w.stack p) = ap (slice_index blocks) target ∙ first.1 in
-      let inside : slice_index w.stack p < l.states = omega (arith, source, (lts.in_range.each k (0, 0, 0) lk).source) in
-      elim ((done p k h lp lk source).followed (label, same ∙ ap (slice_index blocks) (sym source))) [
+  -- an inert step leads to no state at rest that has a step: such a state is alone in its block
+  awake : (p : ℕ) → p < length w.stack → slice_index w.stack p < u.l.states → (k : ℕ) → slice_index u.blocks (target_of (place_at u.l.places k)) ≡ slice_index u.blocks (slice_index w.stack p)
+      → (us : List ℕ) (v t : ℕ) → Along (Inert (system_of u.l) (slice_index u.blocks)) (target_of (place_at u.l.places k)) us v → (a : List ℕ) → Step (system_of u.l) v a t
+      → ¬ (stage_at w.stages (target_of (place_at u.l.places k)) ≡ AtRest)
+  awake p lp inside k same us v t path a step rest = elim (walks.signed.resting (target_of (place_at u.l.places k)) rest) [
+    | inl alone ↦ cc (walks.opened.placed p lp, ap (stage_at w.stages) (alone (slice_index w.stack p) inside (sym same)), rest)
+    | inr none ↦ no_path (target_of (place_at u.l.places k)) none us v t path a step
+  ]
+
+  -- and what it can do at the end of inert steps
+  collects : (z : ℕ × ℕ) (us : List ℕ) (p : ℕ) → here w ≤ p → p < length w.stack → (v t : ℕ)
+      → Along (Inert (system_of u.l) (slice_index u.blocks)) (slice_index w.stack p) us v → Step (system_of u.l) v (text_of u.l.labels z.0) t → slice_index u.blocks t ≡ z.1
+      → ¬ ((text_of u.l.labels z.0 ≡ internal) × (z.1 ≡ slice_index u.blocks (slice_index w.stack p))) → z.0 < length u.l.labels → Collected z
+  collects z [] p h lp v t e step is other low =
+      collects_here z p h lp t (subst (λ x. Step (system_of u.l) x (text_of u.l.labels z.0) t) (sym e) step) is other low
+  collects z (x ∷ us) p h lp v t (first, rest) step is other low =
+      let (k, lk, source, label, target) = step_place u.l (slice_index w.stack p) x internal first.0 in
+      let same : slice_index u.blocks (target_of (place_at u.l.places k)) ≡ slice_index u.blocks (slice_index w.stack p) = ap (slice_index u.blocks) target ∙ first.1 in
+      let inside : slice_index w.stack p < u.l.states = omega (arith, source, (lts.in_range.each k (0, 0, 0) lk).source) in
+      let path = subst (λ y. Along (Inert (system_of u.l) (slice_index u.blocks)) y us v) (sym target) rest in
+      elim ((done p k h lp lk source).followed (label, same ∙ ap (slice_index u.blocks) (sym source)) (awake p lp inside k same us v t path (text_of u.l.labels z.0) step)) [
         | inl (q, stage, up, down) ↦
-            let was = walks.opened.only (target_of (place_at l.places k)) q stage in
+            let was = walks.opened.only (target_of (place_at u.l.places k)) q stage in
             let high = up (length w.roots - 1) no_root (last_low walks some) (omega (arith, height, h)) in
-            collects z us q (omega (arith, height, high)) was.0 u t
-            (subst (λ y. Along (Inert (system_of l) (slice_index blocks)) y us u) (sym target ∙ sym was.1) rest) step is
-            (λ inert. other (inert.0, inert.1 ∙ ap (slice_index blocks) was.1 ∙ same)) low
+            collects z us q (omega (arith, height, high)) was.0 v t
+            (subst (λ y. Along (Inert (system_of u.l) (slice_index u.blocks)) y us v) (sym was.1) path) step is
+            (λ inert. other (inert.0, inert.1 ∙ ap (slice_index u.blocks) was.1 ∙ same)) low
         | inr held ↦ elim held [
           | inl (number, stage, all) ↦
-              let path = subst (λ y. Along (Inert (system_of l) (slice_index blocks)) y us u) (sym target) rest in
-              let has : HasPair Branching l blocks (target_of (place_at l.places k)) z.0 z.1 = (low, (u, t, (us, path), step, is, λ inert. other (inert.0, inert.1 ∙ same))) in
-              elim ((walks.signed (target_of (place_at l.places k)) number stage).whole) [
-                | inl signature ↦ collected_from p h z (all z ((signature.exactly z.0 z.1).1 has))
-                | inr left ↦
-                    let one = left.1 (slice_index w.stack p) inside (sym same) in
-                    absurd (cc (walks.opened.placed p lp, ap (stage_at w.stages) one, stage))
-              ]
+              let has : HasPair Branching u.l u.blocks (target_of (place_at u.l.places k)) z.0 z.1 = (low, (v, t, (us, path), step, is, λ inert. other (inert.0, inert.1 ∙ same))) in
+              collected_from p h z (all z (((walks.signed.finished (target_of (place_at u.l.places k)) number stage).signature.exactly z.0 z.1).1 has))
           | inr (i, low', is', to) ↦ let e = last_frame walks i (omega (arith, low')) (omega (arith, is', h)) in absurd (omega (arith, e, low'))
         ]
       ]
 
   -- what was collected is in the signature of each state of the component
-  sound : (p : ℕ) → here w ≤ p → p < length w.stack → (z : ℕ × ℕ) → Collected z → HasPair Branching l blocks (slice_index w.stack p) z.0 z.1
+  sound : (p : ℕ) → here w ≤ p → p < length w.stack → (z : ℕ × ℕ) → Collected z → HasPair Branching u.l u.blocks (slice_index w.stack p) z.0 z.1
   sound p h lp z (x, (i, low, at), g) =
       let low' : c0 + i < length w.items = omega (arith, low, length-drop c0 w.items) in
       let (q, lq, of, all) = walks.sound (c0 + i) low' in
       let tie = walks.connects p q lp lq (λ j d lj le. grind (arith, (last_most walks j d lj).1, (of j d lj).1)) in
-      pair_before laws l blocks (slice_index w.stack p) (slice_index w.stack q) z tie
+      pair_before laws u (slice_index w.stack p) (slice_index w.stack q) z tie
       (all z (subst (λ y. Gives lists y z) (sym at ∙ get_or-drop c0 w.items i x ∙ get_or_default w.items (c0 + i) x _ low') g))
 
   -- a list of it is the signature of each state of the component
   module _ {lists' : List (List (ℕ × ℕ))} {number : ℕ} (listed : IsListed (drop c0 w.items) lists lists' number) where
-    whole : (p : ℕ) → here w ≤ p → p < length w.stack → IsSignature Branching l blocks (slice_index w.stack p) (list_at lists' number)
+    whole : (p : ℕ) → here w ≤ p → p < length w.stack → IsSignature Branching u.l u.blocks (slice_index w.stack p) (list_at lists' number)
     whole p h lp = record {
       exactly = λ k b. (
         λ c. sound p h lp (k, b) ((listed.exactly (k, b)).0 c),
@@ -115,9 +135,5 @@ module _ (laws : Laws) {l : Grouped} (lts : IsLts l) {blocks : List ℕ} {live :
       rising = listed.rising;
     }
 
-    pub exact : (p : ℕ) → here w ≤ p → p < length w.stack → IsSigned l blocks live (slice_index w.stack p) lists' number
-    exact p h lp = record {
-      within = listed.within;
-      sound = λ z c. sound p h lp z ((listed.exactly z).0 c);
-      whole = inl (whole p h lp);
-    }
+    pub exact : (p : ℕ) → here w ≤ p → p < length w.stack → IsSigned u (slice_index w.stack p) lists' number
+    exact p h lp = record { within = listed.within; signature = whole p h lp }

@@ -3,15 +3,14 @@ use Rattle.std.proofs.Common.{◌≡◌, ◌⊎◌, ◌∙◌, ℕ, ◌+◌, ◌
 use Rattle.std.proofs.lemmas.Bool.{cases_eq, cases_lt}
 use Rattle.std.proofs.lemmas.List.{get_or-set_same, get_or-set_other, length-set}
 use Rattle.partition.specs.Blocks.{IsOne, AreLive}
-use Rattle.inert.specs.Search.{Stage, stage_at, AreAtRest, Unseen, Finished}
+use Rattle.inert.specs.Search.{Stage, stage_at, AreAtRest, Unseen, Finished, AtRest}
 
 -- those of the first i states that are looked at
 pub record NumberedUpTo (live : List ℕ) (first : List Stage) (old : List ℕ) (i : ℕ) (stages : List Stage) (numbers : List ℕ) : Type 0 where
   pub size : length stages ≡ length first
   pub sizes : length numbers ≡ length first
-  pub done : (j : ℕ) → j < i → stage_at stages (slice_index live j) ≡ Finished 0
   pub ahead : (j : ℕ) → i ≤ j → j < length live → stage_at stages (slice_index live j) ≡ stage_at first (slice_index live j)
-  pub rest : AreAtRest live stages
+  pub rest : (s : ℕ) → s < length stages → ((j : ℕ) × (i ≤ j) × (j < length live) × (slice_index live j ≡ s)) ⊎ (stage_at stages s ≡ AtRest)
   pub live_have : (j : ℕ) → j < i → stage_at first (slice_index live j) ≡ Finished (slice_index numbers (slice_index live j))
   pub others : (s : ℕ) → IsOne live s ⊎ (slice_index numbers s ≡ slice_index old s)
 
@@ -20,9 +19,8 @@ pub numbered_none : (live : List ℕ) (first : List Stage) (old : List ℕ) → 
 numbered_none live first old rest size = record {
   size = refl;
   sizes = size;
-  done = λ j h. absurd (omega (arith, h));
   ahead = λ j low h. refl;
-  rest = rest;
+  rest = λ s h. elim (rest s h) [ inl (j, low, is) ↦ inl (j, omega arith, low, is) | inr still ↦ inr still ];
   live_have = λ j h. absurd (omega (arith, h));
   others = λ s. inr refl;
 }
@@ -42,13 +40,13 @@ module _ {live : List ℕ} {first : List Stage} {old : List ℕ} {i : ℕ} {stag
   -- and gets it
   module _ (k : ℕ) (has : stage_at stages s ≡ Finished k) where
     abbrev stages' : List Stage
-    stages' = set stages s (Finished 0)
+    stages' = set stages s AtRest
 
     abbrev numbers' : List ℕ
     numbers' = set numbers s k
 
-    rested : stage_at stages' s ≡ Finished 0
-    rested = get_or-set_same stages s (Finished 0) Unseen inside
+    rested : stage_at stages' s ≡ AtRest
+    rested = get_or-set_same stages s AtRest Unseen inside
 
     earlier : (j : ℕ) → j < i + 1 → ((j < i) × ¬ (slice_index live j ≡ s)) ⊎ (slice_index live j ≡ s)
     earlier j h = elim (cases_lt j i) [
@@ -58,20 +56,16 @@ module _ {live : List ℕ} {first : List Stage} {old : List ℕ} {i : ℕ} {stag
 
     pub numbered_more : NumberedUpTo live first old (i + 1) stages' numbers'
     numbered_more = record {
-      size = length-set stages s (Finished 0) ∙ up.size;
+      size = length-set stages s AtRest ∙ up.size;
       sizes = length-set numbers s k ∙ up.sizes;
-      done = λ j h. elim (earlier j h) [
-        | inl x ↦ get_or-set_other stages s (slice_index live j) (Finished 0) Unseen x.1 ∙ up.done j x.0
-        | inr e ↦ ap (stage_at stages') e ∙ rested
-      ];
       ahead = λ j low h.
           let apart : ¬ (slice_index live j ≡ s) = λ e. let up = rises.rising i j (omega (arith, low)) h in omega (arith, up, e) in
-          get_or-set_other stages s (slice_index live j) (Finished 0) Unseen apart ∙ up.ahead j (omega (arith, low)) h;
+          get_or-set_other stages s (slice_index live j) AtRest Unseen apart ∙ up.ahead j (omega (arith, low)) h;
       rest = λ t h. elim (cases_eq t s) [
-        | inl e ↦ inl (i, more, sym e)
-        | inr d ↦ elim (up.rest t (omega (arith, h, length-set stages s (Finished 0)))) [
-          | inl one ↦ inl one
-          | inr rest ↦ inr (get_or-set_other stages s t (Finished 0) Unseen d ∙ rest)
+        | inl e ↦ inr (ap (stage_at stages') e ∙ rested)
+        | inr d ↦ elim (up.rest t (omega (arith, h, length-set stages s AtRest))) [
+          | inl (j, from, low, is) ↦ let apart : ¬ (j ≡ i) = λ e. d (sym is ∙ ap (slice_index live) e) in inl (j, omega (arith, from, apart), low, is)
+          | inr rest ↦ inr (get_or-set_other stages s t AtRest Unseen d ∙ rest)
         ]
       ];
       live_have = λ j h. elim (earlier j h) [
@@ -87,9 +81,6 @@ module _ {live : List ℕ} {first : List Stage} {old : List ℕ} {i : ℕ} {stag
     }
 
 -- after the last one all are at rest
-pub numbered_all : {live : List ℕ} {first : List Stage} {old : List ℕ} {stages : List Stage} {numbers : List ℕ} → NumberedUpTo live first old (length live) stages numbers
-    → (s : ℕ) → s < length stages → stage_at stages s ≡ Finished 0
-numbered_all {stages = stages} up s h = elim (up.rest s h) [
-  | inl one ↦ ap (stage_at stages) (sym one.2) ∙ up.done one.0 one.1
-  | inr rest ↦ rest
-]
+pub numbered_all : {live : List ℕ} {first : List Stage} {old : List ℕ} {i : ℕ} {stages : List Stage} {numbers : List ℕ}
+    → NumberedUpTo live first old i stages numbers → ¬ (i < length live) → (s : ℕ) → s < length stages → stage_at stages s ≡ AtRest
+numbered_all up over s h = elim (up.rest s h) [ inl (j, from, low, is) ↦ absurd (omega (arith, from, low, over)) | inr rest ↦ rest ]

@@ -1,5 +1,5 @@
 use Rattle.std.proofs.Common.{◌≡◌, ◌+◌, ◌<◌, length, slice_index, set, ap, sym, subst, arith}
-use Rattle.inert.specs.Search.{Search, nothing, Finished}
+use Rattle.inert.specs.Search.{Search, nothing, AtRest}
 use Rattle.inert.specs.Moves.{with_stage}
 use Rattle.inert.proofs.signatures.Numbers.{NumberedUpTo, numbered_none, next_has, numbered_more, numbered_all}
 use Rattle.inert.proofs.signer.number.Goals as goal
@@ -23,25 +23,14 @@ loop-i-preserved c =
     let more : i < length live = omega (arith, c.loop-i-test.true, c.loop-i.auto.i-end) in
     let is = sym c.rest.ensures.rests in
     record {
-      empty = subst (λ (w : Search). w ≡ nothing w.stages) is (ap (with_stage s (Finished 0)) c.loop-i.invariant.empty);
+      empty = subst (λ (w : Search). w ≡ nothing w.stages) is (ap (with_stage s AtRest) c.loop-i.invariant.empty);
       numbered =
           subst (λ (w : Search). NumberedUpTo live c.args.walk.now.stages c.args.numbers.now (i + 1) w.stages (set c.loop-i.numbers s k)) is
           (numbered_more c.loop-i.invariant.numbered c.requires.live more k c.rest.ensures.list);
     }
 
 pub returns-clause-idle : goal.returns-clause-idle
-returns-clause-idle c =
-    let live = c.args.live.now in
-    let end : c.loop-i.i ≡ length live = omega (arith, c.loop-i-test.false, c.loop-i.auto.i-end) in
-    record {
-      empty = c.loop-i.invariant.empty;
-      rest =
-          numbered_all
-          (subst (λ n. NumberedUpTo live c.args.walk.now.stages c.args.numbers.now n c.loop-i.walk.stages c.loop-i.numbers) end c.loop-i.invariant.numbered);
-    }
-
-pub returns-clause-live : goal.returns-clause-live
-returns-clause-live c i h = c.loop-i.invariant.numbered.live_have i (omega (arith, h, c.loop-i-test.false, c.loop-i.auto.i-end))
-
-pub returns-clause-others : goal.returns-clause-others
-returns-clause-others c = c.loop-i.invariant.numbered.others
+returns-clause-idle c = record {
+  empty = c.loop-i.invariant.empty;
+  rest = numbered_all c.loop-i.invariant.numbered (omega (arith, c.loop-i-test.false, c.loop-i.auto.i-end));
+}

@@ -6,6 +6,6 @@ use Rattle.inert.proofs.walk.Walk.begin.Given as goal
 abbrev pub invariant-loop-k : goal.invariant-loop-k
 invariant-loop-k g l = record {
   same : l.self ≡ collecting l.fn.self.stages l.self.items;
-  begun : Begins l.l l.blocks l.live l.lists l.fn.self l.s l.start l.k (framed l.s l.k l.end l.fn.self.stages l.self.items);
+  begun : Begins l.lens l.lists l.fn.self l.s l.start l.k (framed l.s l.k l.end l.fn.self.stages l.self.items);
   cost : Costs (g.M.Meter.counted l.fn.m) (g.M.Meter.counted l.m) 0 (l.k - l.start) (l.k - l.start);
 }

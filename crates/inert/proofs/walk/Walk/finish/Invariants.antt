@@ -5,13 +5,13 @@ use Rattle.inert.specs.Moves.{ahead, steps, GoesOn}
 use Rattle.inert.specs.Ahead.{unread}
 use Rattle.inert.proofs.walk.Walk.finish.Given as goal
 
-abbrev pub invariant-loop-internal : goal.invariant-loop-internal
-invariant-loop-internal g l = record {
-  on : GoesOn l.l l.blocks l.live l.lists l.fn.self l.self;
+abbrev pub invariant-loop-self : goal.invariant-loop-self
+invariant-loop-self g l = record {
+  on : GoesOn l.lens l.lists l.fn.self l.self;
   found : ¬ (stage_at l.self.stages l.s ≡ Unseen);
-  visits : (g.M.Meter.counted l.m).visits + ahead l.l l.self ≡ (g.M.Meter.counted l.fn.m).visits + unread l.l.places l.fn.self.stages;
-  cost : Costs (g.M.Meter.counted l.fn.m) (g.M.Meter.counted l.m) 0 0 (unread l.l.places l.fn.self.stages);
+  visits : (g.M.Meter.counted l.m).visits + ahead l.lens.l l.self ≡ (g.M.Meter.counted l.fn.m).visits + unread l.lens.l.places l.fn.self.stages;
+  cost : Costs (g.M.Meter.counted l.fn.m) (g.M.Meter.counted l.m) 0 0 (unread l.lens.l.places l.fn.self.stages);
 }
 
-abbrev pub decreases-loop-internal : goal.decreases-loop-internal
-decreases-loop-internal g l = steps l.l l.self
+abbrev pub decreases-loop-self : goal.decreases-loop-self
+decreases-loop-self g l = steps l.lens.l l.self

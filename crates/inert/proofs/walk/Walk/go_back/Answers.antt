@@ -48,16 +48,13 @@ module _ (g : Over) (c : After-index-root g) where
     -- the component was finished
     module _ (same : c.index-root.result.now.height ≡ c.index-frame.result.now.height) {lists' : List (List (ℕ × ℕ))} {new : Search}
         (closes : Closes c.index-root.result.now c.args.lists.now lists' (left 1) new) where
-      closing : GoesOn c.args.l.now c.args.blocks.now c.args.live.now lists' W new × (ahead c.args.l.now new ≡ ahead c.args.l.now W)
+      closing : GoesOn c.args.lens.now lists' W new × (ahead c.args.lens.now.l new ≡ ahead c.args.lens.now.l W)
       closing =
-          closed c.requires.way.walks c.requires.way.some c.requires.read c.laws.ensures c.known.ensures
+          closed c.requires.way.walks c.requires.way.some c.requires.read c.known.ensures.laws c.known.ensures.lts
           (ap (λ r. r.height) (sym root) ∙ same ∙ ap (λ x. x.height) frame) (subst₂ (λ r w. Closes r c.args.lists.now lists' w new) root (sym left) closes)
 
       closing_none : FindsNone W new
       closing_none = closed_none c.requires.way.walks (subst₂ (λ r w. Closes r c.args.lists.now lists' w new) root (sym left) closes)
-
-pub close-requires-clause-items : goal.close-requires-clause-items
-close-requires-clause-items g c = omega (arith, few g (goal.at.close-requires-clause-items g c).After-index-root, ap (λ w. length w.items) c.self.view_is)
 
 pub close-requires-clause-there : goal.close-requires-clause-there
 close-requires-clause-there g c = subst (λ w. AreThere c.args.lists.now w.items) (sym c.self.view_is) c.requires.way.walks.there
@@ -67,7 +64,7 @@ returns-else-root-frame-clause-on g c =
     let d = (goal.at.returns-else-root-frame-clause-on g c).After-index-root in
     let apart : (last c.args.self.now.roots).height ≢ here c.args.self.now =
     λ e. c.if-root-frame.false (ap (λ r. r.height) (root g d) ∙ e ∙ ap (λ x. x.height) (sym (frame g d))) in
-    subst (GoesOn c.args.l.now c.args.blocks.now c.args.live.now c.args.lists.now c.args.self.now) (left g d c.pop.ensures.rest)
+    subst (GoesOn c.args.lens.now c.args.lists.now c.args.self.now) (left g d c.pop.ensures.rest)
     (popped_on c.requires.way.walks c.requires.way.some c.requires.read apart)
 
 pub returns-in_ok-close-clause-on : goal.returns-in_ok-close-clause-on
@@ -77,11 +74,6 @@ returns-in_ok-close-clause-on g c =
 pub returns-in_ok-close-clause-ahead : goal.returns-in_ok-close-clause-ahead
 returns-in_ok-close-clause-ahead g c =
     (closing g (goal.at.returns-in_ok-close-clause-ahead g c).After-index-root c.pop.ensures.rest c.if-root-frame.true c.in_ok-close.ensures).1
-
-pub returns-else-root-frame-clause-finds : goal.returns-else-root-frame-clause-finds
-returns-else-root-frame-clause-finds g c =
-    let d = (goal.at.returns-else-root-frame-clause-finds g c).After-index-root in
-    subst (FindsNone c.args.self.now) (left g d c.pop.ensures.rest) (λ s is. is)
 
 pub returns-in_ok-close-clause-finds : goal.returns-in_ok-close-clause-finds
 returns-in_ok-close-clause-finds g c =

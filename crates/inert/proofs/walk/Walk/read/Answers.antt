@@ -1,5 +1,4 @@
-use Rattle.std.proofs.Common.{◌≡◌, ◌∙◌, ℕ, ◌+◌, ◌-◌, ◌<◌, length, get_or, set, slice_index, Bool, ap, sym, subst, refl, inl, arith}
-use Rattle.std.specs.Prelude.{IsTrue}
+use Rattle.std.proofs.Common.{◌≡◌, ◌∙◌, ℕ, ◌+◌, ◌-◌, ◌<◌, length, get_or, set, slice_index, Bool, ap, sym, subst, refl, arith}
 use Rattle.std.proofs.lemmas.Bool.{false≢true}
 use Rattle.std.proofs.lemmas.List.{get_or_read}
 use Rattle.lts.specs.Lts.{place_at}
@@ -10,7 +9,7 @@ use Rattle.inert.specs.declared.step.Step.{Step}
 use Rattle.inert.proofs.parts.Rising.{last_read}
 use Rattle.inert.proofs.parts.Stages.{open_inside}
 use Rattle.inert.proofs.invariant.Standing.{on_stack}
-use Rattle.inert.proofs.moves.Reading.{Reads, Stays, reads_none, read_all, place_below, still_there, read_more, stays_more, enters_more, finds_more}
+use Rattle.inert.proofs.moves.Reading.{Reads, Stays, Marked, reads_none, read_all, place_below, still_there, marked}
 use Rattle.inert.proofs.walk.Walk.read.Given.{Over}
 use Rattle.inert.proofs.walk.Walk.read.Goals as goal
 use Rattle.inert.proofs.walk.Walk.read.Goals.{After-index}
@@ -35,20 +34,20 @@ module _ (g : Over) (c : After-index g) where
       get_or_read c.self.inside.stack.items c.index-frame.result.now.height c.index.result.now low c.index.ensures 0
       ∙ ap (λ w. slice_index w.stack c.index-frame.result.now.height) c.self.view_is ∙ ap (slice_index c.args.self.now.stack) height
 
-  block : slice_index c.args.blocks.now c.index.result.now ≡ slice_index c.args.blocks.now (slice_index c.args.self.now.stack (here c.args.self.now))
-  block = ap (slice_index c.args.blocks.now) state
+  block : slice_index c.blocks-blocks.result.now c.index.result.now ≡ slice_index c.args.lens.now.blocks (slice_index c.args.self.now.stack (here c.args.self.now))
+  block = ap (λ xs. slice_index xs c.index.result.now) c.blocks-blocks.ensures ∙ ap (slice_index c.args.lens.now.blocks) state
 
 pub bounds-blocks-index : goal.bounds-blocks-index
 bounds-blocks-index g c =
     let walks = c.requires.way.walks in
     let inside = open_inside c.args.self.now.stages c.args.self.now.stack walks.opened (here c.args.self.now) 0 (on_stack walks c.requires.way.some) in
-    omega (arith, state g (goal.at.bounds-blocks-index g c).After-index, inside, walks.numbers.size, c.requires.sees.size)
+    omega (arith, state g (goal.at.bounds-blocks-index g c).After-index, inside, walks.numbers.size, c.known.ensures.size, ap length c.blocks-blocks.ensures)
 
 -- one transition more is read
-module _ (g : Over) (d : After-index g) {w : Search} {k : ℕ} (reads : Reads d.args.l.now d.args.blocks.now d.args.live.now d.args.lists.now d.args.self.now w k)
+module _ (g : Over) (d : After-index g) {w : Search} {k : ℕ} (reads : Reads d.args.lens.now d.args.lists.now d.args.self.now w k)
     (stays : Stays d.args.self.now w) (more : k < d.index-frame.result.now.end) (step : Step)
-    (is_step : IsStep d.args.l.now d.args.blocks.now (slice_index d.args.blocks.now d.index.result.now) (place_at d.args.l.now.places k) step)
-    (m : Search) (enters : Bool) (takes : TakesStep d.args.l.now.places step w m enters) where
+    (is_step : IsStep d.args.lens.now (slice_index d.blocks-blocks.result.now d.index.result.now) (place_at d.args.lens.now.l.places k) step)
+    (m : Search) (enters : Bool) (takes : TakesStep d.args.lens.now.l.places step w m enters) where
   abbrev i : ℕ
   i = d.len-last.result - 1
 
@@ -57,7 +56,7 @@ module _ (g : Over) (d : After-index g) {w : Search} {k : ℕ} (reads : Reads d.
 
   there : i < length m.frames
   there =
-      still_there reads stays d.requires.way.some d.laws.ensures d.known.ensures more_left (slice_index d.args.blocks.now d.index.result.now) (block g d) step is_step m
+      still_there reads stays d.requires.way.some d.known.ensures.laws d.known.ensures.lts more_left (slice_index d.blocks-blocks.result.now d.index.result.now) (block g d) step is_step m
       enters takes i (last g d)
 
   -- and its frame says so
@@ -71,50 +70,32 @@ module _ (g : Over) (d : After-index g) {w : Search} {k : ℕ} (reads : Reads d.
     abbrev With : Search → Search
     With x = record x { frames = set x.frames i (record at { next = k + 1 }) }
 
-    after : Reads d.args.l.now d.args.blocks.now d.args.live.now d.args.lists.now d.args.self.now (With inside) (k + 1)
-    after =
-        subst (λ (x : Search). Reads d.args.l.now d.args.blocks.now d.args.live.now d.args.lists.now d.args.self.now (With x) (k + 1)) (sym same)
-        (read_more reads stays d.requires.way.some d.laws.ensures d.known.ensures more_left (slice_index d.args.blocks.now d.index.result.now) (block g d) step is_step m
-        enters takes i (last g d) (record at { next = k + 1 }) moved)
-
-    still : ¬ IsTrue enters → Stays d.args.self.now (With inside)
-    still stay =
-        subst (λ (x : Search). Stays d.args.self.now (With x)) (sym same)
-        (stays_more reads stays d.requires.way.some d.laws.ensures d.known.ensures more_left (slice_index d.args.blocks.now d.index.result.now) (block g d) step is_step m
-        enters takes i (last g d) (record at { next = k + 1 }) moved stay)
-
-    longer : IsTrue enters → length (With inside).frames ≡ length d.args.self.now.frames + 1
-    longer went =
-        subst (λ (x : Search). length (With x).frames ≡ length d.args.self.now.frames + 1) (sym same)
-        (enters_more reads stays d.requires.way.some d.laws.ensures d.known.ensures more_left (slice_index d.args.blocks.now d.index.result.now) (block g d) step is_step m
-        enters takes i (last g d) (record at { next = k + 1 }) moved went)
-
-    finds : Finds d.args.self.now (With inside) enters
-    finds =
-        subst (λ (x : Search). Finds d.args.self.now (With x) enters) (sym same)
-        (finds_more reads stays d.requires.way.some d.laws.ensures d.known.ensures more_left (slice_index d.args.blocks.now d.index.result.now) (block g d) step is_step m
-        enters takes i (last g d) (record at { next = k + 1 }) moved)
+    marks : Marked d.args.lens.now d.args.lists.now d.args.self.now (With inside) k enters
+    marks =
+        subst (λ (x : Search). Marked d.args.lens.now d.args.lists.now d.args.self.now (With x) k enters) (sym same)
+        (marked reads stays d.requires.way.some d.known.ensures.laws d.known.ensures.lts more_left (slice_index d.blocks-blocks.result.now d.index.result.now) (block g d) step
+        is_step m enters takes i (last g d) (record at { next = k + 1 }) moved)
 
 pub loop-k-init : goal.loop-k-init
 loop-k-init g c =
     let next = ap (λ x. x.next) (frame g (goal.at.loop-k-init g c).After-index) in
     record {
-      reads = subst (Reads c.args.l.now c.args.blocks.now c.args.live.now c.args.lists.now c.args.self.now c.args.self.now) (sym next) (reads_none c.requires.way);
+      reads = subst (Reads c.args.lens.now c.args.lists.now c.args.self.now c.args.self.now) (sym next) (reads_none c.requires.way);
       stays = record { size = refl; stack = refl; none = λ s is. is };
       cost = record { rounds = omega arith; at_least = omega (arith, next); at_most = omega arith };
     }
 
-pub read_step-step-requires-clause-place : goal.read_step-step-requires-clause-place
-read_step-step-requires-clause-place g c =
+pub step-step-requires-clause-place : goal.step-step-requires-clause-place
+step-step-requires-clause-place g c =
     let i = c.loop-k.invariant in
-    place_below i.reads i.stays c.requires.way.some c.laws.ensures c.known.ensures
-    (omega (arith, c.loop-k-test.true, end g (goal.at.read_step-step-requires-clause-place g c).After-index))
+    place_below i.reads i.stays c.requires.way.some c.known.ensures.laws c.known.ensures.lts
+    (omega (arith, c.loop-k-test.true, end g (goal.at.step-step-requires-clause-place g c).After-index))
 
 pub index_mut-requires : goal.index_mut-requires
 index_mut-requires g c =
     let i = c.loop-k.invariant in
     let low =
-    there g (goal.at.index_mut-requires g c).After-index i.reads i.stays (omega (arith, c.loop-k-test.true)) c.read_step-step.result c.read_step-step.ensures.step
+    there g (goal.at.index_mut-requires g c).After-index i.reads i.stays (omega (arith, c.loop-k-test.true)) c.step-step.result c.step-step.ensures.step
     c.take.new.self c.in_ok-entered.entered c.in_ok-entered.ensures in
     omega (arith, low, ap (λ w. length w.frames) c.self-in-loop-k.view_is, c.self-in-loop-k.inside.frames.ok.0)
 
@@ -122,14 +103,13 @@ pub loop-k-preserved : goal.loop-k-preserved
 loop-k-preserved g c =
     let d = (goal.at.loop-k-preserved g c).After-index in
     let i = c.loop-k.invariant in
-    let one = c.read_step-step.ensures.visit in
+    let m =
+    marks g d i.reads i.stays (omega (arith, c.loop-k-test.true)) c.step-step.result c.step-step.ensures.step c.take.new.self c.in_ok-entered.entered
+    c.in_ok-entered.ensures c.self-in-loop-k.view_is c.index_mut.ensures.value in
+    let one = c.step-step.ensures.visit in
     record {
-      reads =
-          after g d i.reads i.stays (omega (arith, c.loop-k-test.true)) c.read_step-step.result c.read_step-step.ensures.step c.take.new.self c.in_ok-entered.entered
-          c.in_ok-entered.ensures c.self-in-loop-k.view_is c.index_mut.ensures.value;
-      stays =
-          still g d i.reads i.stays (omega (arith, c.loop-k-test.true)) c.read_step-step.result c.read_step-step.ensures.step c.take.new.self c.in_ok-entered.entered
-          c.in_ok-entered.ensures c.self-in-loop-k.view_is c.index_mut.ensures.value (λ e. false≢true (sym c.if-entered.false ∙ e));
+      reads = m.reads;
+      stays = m.stays (λ e. false≢true (sym c.if-entered.false ∙ e));
       cost = record {
         rounds = omega (arith, i.cost.rounds, one.rounds);
         at_least = omega (arith, i.cost.at_least, one.at_least, i.reads.forward);
@@ -139,40 +119,39 @@ loop-k-preserved g c =
 
 pub returns-then-entered-clause-on : goal.returns-then-entered-clause-on
 returns-then-entered-clause-on g c =
-    (after g (goal.at.returns-then-entered-clause-on g c).After-index c.loop-k.invariant.reads c.loop-k.invariant.stays (omega (arith, c.loop-k-test.true))
-    c.read_step-step.result c.read_step-step.ensures.step c.take.new.self c.in_ok-entered.entered c.in_ok-entered.ensures c.self-in-loop-k.view_is
-    c.index_mut.ensures.value).on
+    let d = (goal.at.returns-then-entered-clause-on g c).After-index in
+    let i = c.loop-k.invariant in
+    let m =
+    marks g d i.reads i.stays (omega (arith, c.loop-k-test.true)) c.step-step.result c.step-step.ensures.step c.take.new.self c.in_ok-entered.entered
+    c.in_ok-entered.ensures c.self-in-loop-k.view_is c.index_mut.ensures.value in
+    m.reads.on
 
 pub returns-then-entered-clause-visits : goal.returns-then-entered-clause-visits
 returns-then-entered-clause-visits g c =
+    let d = (goal.at.returns-then-entered-clause-visits g c).After-index in
     let i = c.loop-k.invariant in
-    let e =
-    (after g (goal.at.returns-then-entered-clause-visits g c).After-index c.loop-k.invariant.reads c.loop-k.invariant.stays (omega (arith, c.loop-k-test.true))
-    c.read_step-step.result c.read_step-step.ensures.step c.take.new.self c.in_ok-entered.entered c.in_ok-entered.ensures c.self-in-loop-k.view_is
-    c.index_mut.ensures.value).less in
-    omega (arith, e, i.reads.forward, i.cost.at_least, i.cost.at_most, c.read_step-step.ensures.visit.at_least, c.read_step-step.ensures.visit.at_most)
+    let m =
+    marks g d i.reads i.stays (omega (arith, c.loop-k-test.true)) c.step-step.result c.step-step.ensures.step c.take.new.self c.in_ok-entered.entered
+    c.in_ok-entered.ensures c.self-in-loop-k.view_is c.index_mut.ensures.value in
+    omega (arith, m.reads.less, i.reads.forward, i.cost.at_least, i.cost.at_most, c.step-step.ensures.visit.at_least, c.step-step.ensures.visit.at_most)
 
 pub returns-then-entered-clause-steps : goal.returns-then-entered-clause-steps
 returns-then-entered-clause-steps g c =
-    let e =
-    (after g (goal.at.returns-then-entered-clause-steps g c).After-index c.loop-k.invariant.reads c.loop-k.invariant.stays (omega (arith, c.loop-k-test.true))
-    c.read_step-step.result c.read_step-step.ensures.step c.take.new.self c.in_ok-entered.entered c.in_ok-entered.ensures c.self-in-loop-k.view_is
-    c.index_mut.ensures.value).less in
-    let size =
-    longer g (goal.at.returns-then-entered-clause-steps g c).After-index c.loop-k.invariant.reads c.loop-k.invariant.stays (omega (arith, c.loop-k-test.true))
-    c.read_step-step.result c.read_step-step.ensures.step c.take.new.self c.in_ok-entered.entered c.in_ok-entered.ensures c.self-in-loop-k.view_is
-    c.index_mut.ensures.value c.if-entered.true in
-    (λ _. omega (arith, e, size, c.loop-k.invariant.reads.forward), λ stay. absurd (stay refl))
+    let d = (goal.at.returns-then-entered-clause-steps g c).After-index in
+    let i = c.loop-k.invariant in
+    let m =
+    marks g d i.reads i.stays (omega (arith, c.loop-k-test.true)) c.step-step.result c.step-step.ensures.step c.take.new.self c.in_ok-entered.entered
+    c.in_ok-entered.ensures c.self-in-loop-k.view_is c.index_mut.ensures.value in
+    (λ _. omega (arith, m.reads.less, m.longer c.if-entered.true, i.reads.forward), λ stay. absurd (stay refl))
 
 pub returns-then-entered-clause-finds : goal.returns-then-entered-clause-finds
 returns-then-entered-clause-finds g c =
     let d = (goal.at.returns-then-entered-clause-finds g c).After-index in
-    subst (Finds c.args.self.now _) c.if-entered.true
-    (finds g d c.loop-k.invariant.reads c.loop-k.invariant.stays (omega (arith, c.loop-k-test.true)) c.read_step-step.result c.read_step-step.ensures.step
-    c.take.new.self c.in_ok-entered.entered c.in_ok-entered.ensures c.self-in-loop-k.view_is c.index_mut.ensures.value)
-
-pub returns-clause-finds : goal.returns-clause-finds
-returns-clause-finds g c = record { some = λ e. absurd (false≢true e); found = λ s is. inl (c.loop-k.invariant.stays.none s is) }
+    let i = c.loop-k.invariant in
+    let m =
+    marks g d i.reads i.stays (omega (arith, c.loop-k-test.true)) c.step-step.result c.step-step.ensures.step c.take.new.self c.in_ok-entered.entered
+    c.in_ok-entered.ensures c.self-in-loop-k.view_is c.index_mut.ensures.value in
+    subst (Finds c.args.self.now _) c.if-entered.true m.finds
 
 pub returns-clause-steps : goal.returns-clause-steps
 returns-clause-steps g c =
