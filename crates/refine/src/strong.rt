@@ -10,43 +10,39 @@ ghost use Rattle.inert.specs.Signed.{IsSignature, pair_under};
 ghost use Rattle.refine.specs.EachList.{list_of};
 ghost use Rattle.refine.specs.Settled.{HasFrom, IsPut, ArePut};
 
-use crate::marks::Marks;
-use crate::sense::Sense;
+use crate::scratch::Scratch;
+use crate::signed_blocks::SignedBlocks;
+use crate::signing::Signing;
 use lists::{EMPTY, Lists, order};
 use lts::{Lts, Memory, Meter, visit_places};
-use partition::{Blocks, Partition};
-use std::alloc::Global;
+use partition::Blocks;
 
 /// Strong bisimulation (Milner 1989).
 pub struct Strong;
 
-impl Sense for Strong {
+impl Signing for Strong {
     ghost relation = { strong };
 
-    fn signature<M: Meter>(
-        alloc: Global,
-        l: &Lts<M>,
-        p: &Partition,
-        s: u32,
-        marks: &mut Marks,
-        out: &mut Vec<(u32, u32)>,
-        m: &mut M,
-    ) -> Result<(), Memory> {
-        sign(l, p.blocks(), s, &mut marks.pairs, m)?;
-        out.extend_from_slice(&marks.pairs)?;
-        Ok(())
-    }
-
     fn sign_each<M: Meter>(
-        alloc: Global,
         l: &Lts<M>,
-        blocks: &Blocks,
-        marks: &mut Marks,
-        lists: &mut Lists,
-        numbers: &mut [u32],
+        round: SignedBlocks,
+        scratch: &mut Scratch,
         m: &mut M,
-    ) -> Result<(), Memory> {
-        sign_live(l, blocks, &mut marks.pairs, lists, numbers, m)
+    ) -> Result<SignedBlocks, Memory> {
+        let SignedBlocks {
+            alloc,
+            blocks,
+            mut lists,
+            mut numbers,
+        } = round;
+        lists.clear();
+        sign_live(l, &blocks, &mut scratch.pairs, &mut lists, &mut numbers, m)?;
+        Ok(SignedBlocks {
+            alloc,
+            blocks,
+            lists,
+            numbers,
+        })
     }
 }
 
@@ -120,34 +116,11 @@ fn put<M: Meter>(
     Ok(list)
 }
 
-/// Makes `pairs` the strong signature of `s`.
-///
-/// Fails if there is no memory for it.
-fn sign<M: Meter>(
-    l: &Lts<M>,
-    p: &[u32],
-    s: u32,
-    pairs: &mut Vec<(u32, u32)>,
-    m: &mut M,
-) -> Result<(), Memory>
-    requires states { length p.now ≡ l.now.states }
-    requires state { s < l.now.states }
-    requires room { HasRoomFor (M.counted m.old) 0 (length (row_of s l.now.places)) }
-    ensures signature { OnOk result (IsSignature strong l.now p.now s pairs.new.items) }
-    ensures visits { let n = length (row_of s l.now.places) in Visits M.counted m.old m.new result n n }
-{
-    lts::rows_are_steps();
-    l.known();
-    read(l, p, 0, s, pairs, m)?;
-    order(pairs);
-    Ok(())
-}
-
 /// Makes `pairs` those of the transitions of `s`, as they stand in its row. Returns whether one of them has a number from
 /// `low` on.
 ///
 /// Fails if there is no memory for it.
-fn read<M: Meter>(
+pub(crate) fn read<M: Meter>(
     l: &Lts<M>,
     p: &[u32],
     low: u32,
