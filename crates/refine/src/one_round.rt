@@ -15,7 +15,7 @@ use crate::branching::Branching;
 use crate::scratch::Scratch;
 use crate::signed_blocks::SignedBlocks;
 use crate::signing::Signing;
-use crate::strong::{Strong, read};
+use crate::strong::{Lens, Strong, read};
 use lists::{EMPTY, Lists, Parts, order};
 use lts::{Lts, Memory, Meter};
 use partition::{Blocks, Partition, renumber};
@@ -143,7 +143,8 @@ fn sign<M: Meter>(
 {
     lts::rows_are_steps();
     l.known();
-    read(l, p, 0, s, pairs, m)?;
+    let lens = Lens { l, of: p, low: 0 };
+    read(&lens, s, pairs, m)?;
     order(pairs);
     Ok(())
 }

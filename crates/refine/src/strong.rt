@@ -4,18 +4,15 @@ ghost use Rattle.std.specs.Vec.{vec_len, vec_capacity};
 ghost use Rattle.theory.specs.declared.relation.Relation.TheVariants.{Strong as strong};
 ghost use Rattle.lts.specs.Meter.{HasRoomFor, Visits};
 ghost use Rattle.lts.specs.Lts.{row_of};
-ghost use Rattle.lists.specs.Lists.{list_at, AreNumbers, Grow};
-ghost use Rattle.partition.specs.Blocks.{HaveNone};
-ghost use Rattle.inert.specs.Signed.{IsSignature, pair_under};
-ghost use Rattle.refine.specs.EachList.{list_of};
-ghost use Rattle.refine.specs.Settled.{HasFrom, IsPut, ArePut};
+ghost use Rattle.lists.specs.Lists.{list_at, Grow};
+ghost use Rattle.inert.specs.Signed.{pair_under};
+ghost use Rattle.refine.specs.Settled.{HasFrom, IsPut};
 
 use crate::scratch::Scratch;
 use crate::signed_blocks::SignedBlocks;
 use crate::signing::Signing;
 use lists::{EMPTY, Lists, order};
 use lts::{Lts, Memory, Meter, visit_places};
-use partition::Blocks;
 
 /// Strong bisimulation (Milner 1989).
 pub struct Strong;
@@ -23,12 +20,16 @@ pub struct Strong;
 impl Signing for Strong {
     ghost relation = { strong };
 
+    /// The rows of the states that the round does not look at lie between those of two neighbours, and are visited for their count
+    /// alone.
     fn sign_each<M: Meter>(
         l: &Lts<M>,
         round: SignedBlocks,
         scratch: &mut Scratch,
         m: &mut M,
     ) -> Result<SignedBlocks, Memory> {
+        lts::rows_follow();
+        l.known();
         let SignedBlocks {
             alloc,
             blocks,
@@ -36,7 +37,21 @@ impl Signing for Strong {
             mut numbers,
         } = round;
         lists.clear();
-        sign_live(l, &blocks, &mut scratch.pairs, &mut lists, &mut numbers, m)?;
+        let lens = Lens {
+            l,
+            of: blocks.of(),
+            low: blocks.low(),
+        };
+        let live = blocks.live();
+        let mut next = 0;
+        for i in 0..live.len() {
+            let s = live[i];
+            let (start, end) = l.row(s);
+            visit_places(l, next, start, m);
+            next = end;
+            numbers[s as usize] = put(&lens, s, &mut scratch.pairs, &mut lists, m)?;
+        }
+        visit_places(l, next, l.edges(), m);
         Ok(SignedBlocks {
             alloc,
             blocks,
@@ -46,41 +61,12 @@ impl Signing for Strong {
     }
 }
 
-/// Puts the strong signatures of the states that a round looks at into `lists`, and their numbers there into `numbers`. The rows of
-/// the others lie between those of two neighbours, and are visited for their count alone.
-///
-/// Fails if there is no memory for it.
-fn sign_live<M: Meter>(
-    l: &Lts<M>,
-    blocks: &Blocks,
-    pairs: &mut Vec<(u32, u32)>,
-    lists: &mut Lists,
-    numbers: &mut [u32],
-    m: &mut M,
-) -> Result<(), Memory>
-    requires states { length blocks.now.of ≡ l.now.states }
-    requires lists { lists.old ≡ [] ∷ [] }
-    requires numbers { (length numbers.old ≡ l.now.states) × HaveNone blocks.now.live numbers.old }
-    requires room { HasRoomFor (M.counted m.old) 0 (length l.now.places) }
-    ensures signed { OnOk result (ArePut strong l.now blocks.now.of blocks.now.low blocks.now.live (list_of lists.new numbers.new)) }
-    ensures numbers { OnOk result (AreNumbers lists.new numbers.new × HaveNone blocks.now.live numbers.new) }
-    ensures visits { let n = length l.now.places in Visits M.counted m.old m.new result n n }
-{
-    lts::rows_follow();
-    l.known();
-    let of = blocks.of();
-    let low = blocks.low();
-    let live = blocks.live();
-    let mut next = 0;
-    for i in 0..live.len() {
-        let s = live[i];
-        let (start, end) = l.row(s);
-        visit_places(l, next, start, m);
-        next = end;
-        numbers[s as usize] = put(l, of, low, s, pairs, lists, m)?;
-    }
-    visit_places(l, next, l.edges(), m);
-    Ok(())
+/// What a row is read under: a system, the block of each state, and from which number on blocks are new.
+#[derive(Drop)]
+pub(crate) struct Lens<'a, M: Meter> {
+    pub l: &'a Lts<M>,
+    pub of: &'a [u32],
+    pub low: u32,
 }
 
 /// Puts the strong signature of `s` into `lists` and returns its number there, or that of the empty list where `s` leads to no
@@ -88,26 +74,24 @@ fn sign_live<M: Meter>(
 ///
 /// Fails if there is no memory for it.
 fn put<M: Meter>(
-    l: &Lts<M>,
-    p: &[u32],
-    low: u32,
+    lens: &Lens<M>,
     s: u32,
     pairs: &mut Vec<(u32, u32)>,
     lists: &mut Lists,
     m: &mut M,
 ) -> Result<u32, Memory>
-    requires states { length p.now ≡ l.now.states }
-    requires state { s < l.now.states }
-    requires room { HasRoomFor (M.counted m.old) 0 (length (row_of s l.now.places)) }
+    requires states { length lens.now.of.now ≡ lens.now.l.now.states }
+    requires state { s < lens.now.l.now.states }
+    requires room { HasRoomFor (M.counted m.old) 0 (length (row_of s lens.now.l.now.places)) }
     ensures within { IfOk result (λ k. k < length lists.new) }
-    ensures put { IfOk result (λ k. IsPut strong l.now p.now low s (list_at lists.new k)) }
+    ensures put { IfOk result (λ k. IsPut strong lens.now.l.now lens.now.of.now lens.now.low s (list_at lists.new k)) }
     ensures grow { Grow lists.old lists.new }
-    ensures visits { let n = length (row_of s l.now.places) in Visits M.counted m.old m.new result n n }
+    ensures visits { let n = length (row_of s lens.now.l.now.places) in Visits M.counted m.old m.new result n n }
 {
     lts::rows_are_steps();
-    l.known();
+    lens.l.known();
     lists.known();
-    let touched = read(l, p, low, s, pairs, m)?;
+    let touched = read(lens, s, pairs, m)?;
     if !touched {
         return Ok(EMPTY);
     }
@@ -121,21 +105,20 @@ fn put<M: Meter>(
 ///
 /// Fails if there is no memory for it.
 pub(crate) fn read<M: Meter>(
-    l: &Lts<M>,
-    p: &[u32],
-    low: u32,
+    lens: &Lens<M>,
     s: u32,
     pairs: &mut Vec<(u32, u32)>,
     m: &mut M,
 ) -> Result<bool, Memory>
-    requires states { length p.now ≡ l.now.states }
-    requires state { s < l.now.states }
-    requires room { HasRoomFor (M.counted m.old) 0 (length (row_of s l.now.places)) }
-    ensures pairs { OnOk result (pairs.new.items ≡ map (pair_under p.now) (row_of s l.now.places)) }
-    ensures touched { IfOk result (λ touched. IsTrue touched ↔ HasFrom low pairs.new.items) }
-    ensures visits { let n = length (row_of s l.now.places) in Visits M.counted m.old m.new result n n }
+    requires states { length lens.now.of.now ≡ lens.now.l.now.states }
+    requires state { s < lens.now.l.now.states }
+    requires room { HasRoomFor (M.counted m.old) 0 (length (row_of s lens.now.l.now.places)) }
+    ensures pairs { OnOk result (pairs.new.items ≡ map (pair_under lens.now.of.now) (row_of s lens.now.l.now.places)) }
+    ensures touched { IfOk result (λ touched. IsTrue touched ↔ HasFrom lens.now.low pairs.new.items) }
+    ensures visits { let n = length (row_of s lens.now.l.now.places) in Visits M.counted m.old m.new result n n }
 {
     lts::rows_follow();
+    let (l, of, low) = (lens.l, lens.of, lens.low);
     l.known();
     let (start, end) = l.row(s);
     pairs.clear();
@@ -144,15 +127,15 @@ pub(crate) fn read<M: Meter>(
     let mut k = start;
     if (end - start) % 2 == 1 {
         let only = l.edge(k, m);
-        touched = collect(p, low, only, touched, pairs);
+        touched = collect(of, low, only, touched, pairs);
         k += 1;
     }
     // Two visits, then two writes: a visit after a write waits until the count has come back from memory.
     while k < end {
         let first = l.edge(k, m);
         let second = l.edge(k + 1, m);
-        touched = collect(p, low, first, touched, pairs);
-        touched = collect(p, low, second, touched, pairs);
+        touched = collect(of, low, first, touched, pairs);
+        touched = collect(of, low, second, touched, pairs);
         k += 2;
     }
     Ok(touched)
