@@ -4,15 +4,18 @@ ghost use Rattle.std.specs.Vec.{vec_len, vec_capacity};
 ghost use Rattle.theory.specs.declared.relation.Relation.TheVariants.{Strong as strong};
 ghost use Rattle.lts.specs.Meter.{HasRoomFor, Visits};
 ghost use Rattle.lts.specs.Lts.{row_of};
-ghost use Rattle.lists.specs.Lists.{list_at, Grow};
+ghost use Rattle.lists.specs.Lists.{list_at, AreNumbers, Grow};
+ghost use Rattle.partition.specs.Blocks.{HaveNone};
 ghost use Rattle.inert.specs.Signed.{pair_under};
-ghost use Rattle.refine.specs.Settled.{HasFrom, IsPut};
+ghost use Rattle.refine.specs.EachList.{list_of};
+ghost use Rattle.refine.specs.Settled.{HasFrom, IsPut, ArePut};
 
 use crate::scratch::Scratch;
 use crate::signed_blocks::SignedBlocks;
 use crate::signing::Signing;
 use lists::{EMPTY, Lists, order};
 use lts::{Lts, Memory, Meter, visit_places};
+use partition::Blocks;
 
 /// Strong bisimulation (Milner 1989).
 pub struct Strong;
@@ -20,16 +23,12 @@ pub struct Strong;
 impl Signing for Strong {
     ghost relation = { strong };
 
-    /// The rows of the states that the round does not look at lie between those of two neighbours, and are visited for their count
-    /// alone.
     fn sign_each<M: Meter>(
         l: &Lts<M>,
         round: SignedBlocks,
         scratch: &mut Scratch,
         m: &mut M,
     ) -> Result<SignedBlocks, Memory> {
-        lts::rows_follow();
-        l.known();
         let SignedBlocks {
             alloc,
             blocks,
@@ -37,21 +36,7 @@ impl Signing for Strong {
             mut numbers,
         } = round;
         lists.clear();
-        let lens = Lens {
-            l,
-            of: blocks.of(),
-            low: blocks.low(),
-        };
-        let live = blocks.live();
-        let mut next = 0;
-        for i in 0..live.len() {
-            let s = live[i];
-            let (start, end) = l.row(s);
-            visit_places(l, next, start, m);
-            next = end;
-            numbers[s as usize] = put(&lens, s, &mut scratch.pairs, &mut lists, m)?;
-        }
-        visit_places(l, next, l.edges(), m);
+        sign_live(l, &blocks, &mut scratch.pairs, &mut lists, &mut numbers, m)?;
         Ok(SignedBlocks {
             alloc,
             blocks,
@@ -59,6 +44,46 @@ impl Signing for Strong {
             numbers,
         })
     }
+}
+
+/// Puts the strong signatures of the states that a round looks at into `lists`, and their numbers there into `numbers`. The rows of
+/// the others lie between those of two neighbours, and are visited for their count alone.
+///
+/// Fails if there is no memory for it.
+fn sign_live<M: Meter>(
+    l: &Lts<M>,
+    blocks: &Blocks,
+    pairs: &mut Vec<(u32, u32)>,
+    lists: &mut Lists,
+    numbers: &mut [u32],
+    m: &mut M,
+) -> Result<(), Memory>
+    requires states { length blocks.now.of ≡ l.now.states }
+    requires lists { lists.old ≡ [] ∷ [] }
+    requires numbers { (length numbers.old ≡ l.now.states) × HaveNone blocks.now.live numbers.old }
+    requires room { HasRoomFor (M.counted m.old) 0 (length l.now.places) }
+    ensures signed { OnOk result (ArePut strong l.now blocks.now.of blocks.now.low blocks.now.live (list_of lists.new numbers.new)) }
+    ensures numbers { OnOk result (AreNumbers lists.new numbers.new × HaveNone blocks.now.live numbers.new) }
+    ensures visits { let n = length l.now.places in Visits M.counted m.old m.new result n n }
+{
+    lts::rows_follow();
+    l.known();
+    let lens = Lens {
+        l,
+        of: blocks.of(),
+        low: blocks.low(),
+    };
+    let live = blocks.live();
+    let mut next = 0;
+    for i in 0..live.len() {
+        let s = live[i];
+        let (start, end) = l.row(s);
+        visit_places(l, next, start, m);
+        next = end;
+        numbers[s as usize] = put(&lens, s, pairs, lists, m)?;
+    }
+    visit_places(l, next, l.edges(), m);
+    Ok(())
 }
 
 /// What a row is read under: a system, the block of each state, and from which number on blocks are new.

@@ -1,90 +1,23 @@
-use Rattle.std.proofs.Common.{◌≡◌, ◌∙◌, ℕ, ◌+◌, ◌<◌, List, length, slice_index, ap, sym, subst, subst₂, inl, inr, arith}
-use Rattle.std.proofs.lemmas.Bool.{cases_eq}
-use Rattle.std.proofs.lemmas.List.{get_or-set_other, length-set}
+use Rattle.std.proofs.Common.{sym, subst, arith}
+use Rattle.std.proofs.lemmas.List.{take_at}
 use Rattle.theory.specs.declared.relation.Relation.TheVariants.{Strong}
-use Rattle.partition.specs.Blocks.{AreLive, HaveNone}
-use Rattle.refine.specs.EachList.{list_of}
-use Rattle.refine.specs.Settled.{IsPut, ArePut}
-use Rattle.refine.proofs.Living.{put_more, each_put, all_numbers}
-use Rattle.refine.proofs.strong.StrongSigning.sign_each.Given.{Over}
+use Rattle.refine.specs.EachList.{HaveLists, list_of}
+use Rattle.refine.specs.Settled.{IsPut}
 use Rattle.refine.proofs.strong.StrongSigning.sign_each.Goals as goal
-use Rattle.refine.proofs.strong.StrongSigning.sign_each.Goals.{After-live-live}
-
--- how many states the blocks have
-size : (g : Over) (c : After-live-live g) → length c.round.inside.blocks.of ≡ c.args.l.now.states
-size g c = ap (λ r. length r.blocks.of) c.round.view_is ∙ c.requires.states
-
-pub loop-i-init : goal.loop-i-init
-loop-i-init g c = record {
-  coming = λ j l h. omega arith;
-  within = omega arith;
-  size = c.round.invariant.states ∙ size g (goal.at.loop-i-init g c).After-live-live;
-  put = λ j h. absurd (omega (arith, h));
-  none = subst (λ live. HaveNone live c.round.inside.numbers.items) (sym c.live-live.ensures.live) c.round.invariant.none;
-  some = omega (arith, ap length c.clear.ensures);
-  visits = record { rounds = omega arith; at_least = omega arith; at_most = omega arith };
-}
-
-pub loop-i-preserved : goal.loop-i-preserved
-loop-i-preserved g c =
-    let l = c.args.l.now in
-    let live = c.live-live.result.now in
-    let numbers = c.loop-i.numbers.items in
-    let i = c.loop-i.i in
-    let s = slice_index live i in
-    let inv = c.loop-i.invariant in
-    let rises : AreLive l.states live = subst₂ AreLive (size g (goal.at.loop-i-preserved g c).After-live-live) (sym c.live-live.ensures.live) c.live-live.ensures.rising in
-    let more : i < length live = omega (arith, c.loop-i-test.true, c.loop-i.auto.i-end) in
-    let row = c.row-start.ensures in
-    let k = c.in_ok-numbers.field-0 in
-    let P : ℕ → List (ℕ × ℕ) → Type 0 = λ t list. IsPut Strong l c.of.result.now c.low.result t list in
-    let grow = c.put.ensures.grow in
-    let gap = c.visit_places.ensures in
-    let visits = c.in_ok-numbers.ensures.visits in
-    record {
-      coming = λ j low h.
-          let up = rises.rising i j (omega (arith, low)) h in
-          let next = c.rows_follow.ensures.up (s + 1) (slice_index live j) l.places (omega (arith, up)) in
-          omega (arith, next, row.ends);
-      within = row.within;
-      size = length-set numbers s k ∙ inv.size;
-      put =
-          put_more c.loop-i.lists c.put.new.lists numbers live l.states i k grow rises inv.size more P inv.put
-          c.in_ok-numbers.ensures.within c.in_ok-numbers.ensures.put;
-      none = λ t h. elim (cases_eq t s) [
-        | inl e ↦ inl (i, more, sym e)
-        | inr d ↦ elim (inv.none t (omega (arith, h, length-set numbers s k))) [ inl one ↦ inl one | inr nil ↦ inr (get_or-set_other numbers s t k 0 d ∙ nil) ]
-      ];
-      some = omega (arith, inv.some, grow.longer);
-      visits = record {
-        rounds = omega (arith, inv.visits.rounds, gap.rounds, visits.rounds);
-        at_least = omega (arith, row.count, inv.visits.at_least, gap.at_least, visits.at_least, inv.coming i (omega arith) more, row.begins);
-        at_most = omega (arith, row.count, inv.visits.at_most, gap.at_most, visits.at_most, inv.coming i (omega arith) more, row.begins);
-      };
-    }
-
--- the list of each that was looked at
-pub returns-clause-signed : goal.returns-clause-signed
-returns-clause-signed g c =
-    let l = c.args.l.now in
-    let b = c.round.inside.blocks in
-    let inv = c.loop-i.invariant in
-    let P : ℕ → List (ℕ × ℕ) → Type 0 = λ t list. IsPut Strong l c.of.result.now c.low.result t list in
-    let list = list_of c.loop-i.lists c.loop-i.numbers.items in
-    subst (λ live. ArePut Strong l b.of b.low live list) c.live-live.ensures.live
-    (subst (λ low. ArePut Strong l b.of low c.live-live.result.now list) c.low.ensures
-    (subst (λ of. ArePut Strong l of c.low.result c.live-live.result.now list) c.of.ensures.of
-    (each_put c.loop-i.lists c.loop-i.numbers.items c.live-live.result.now inv.none P (λ j h. inv.put j (omega (arith, h, c.loop-i-test.false, c.loop-i.auto.i-end))))))
 
 pub invariant_of-result : goal.invariant_of-result
 invariant_of-result g c =
-    let numbers = c.loop-i.numbers.items in
-    let inv = c.loop-i.invariant in
-    let P : ℕ → List (ℕ × ℕ) → Type 0 = λ t list. IsPut Strong c.args.l.now c.of.result.now c.low.result t list in
-    record {
-      each =
-          all_numbers c.loop-i.lists numbers c.live-live.result.now inv.none P
-          (λ j h. inv.put j (omega (arith, h, c.loop-i-test.false, c.loop-i.auto.i-end))) inv.some;
-      states = inv.size ∙ sym (size g (goal.at.invariant_of-result g c).After-live-live);
-      none = subst (λ live. HaveNone live numbers) c.live-live.ensures.live inv.none;
-    }
+    let old = c.round.inside.blocks in
+    let numbers = c.sign_live.new.numbers in
+    let have : HaveLists old.of old.live c.sign_live.new.lists numbers = record {
+      each = c.in_ok-sign_live.ensures.numbers.0;
+      states = omega (arith, c.sign_live.auto.numbers, c.deref_mut.ensures.len, c.round.invariant.states);
+      none = c.in_ok-sign_live.ensures.numbers.1;
+    } in
+    subst (HaveLists old.of old.live c.sign_live.new.lists) (sym (take_at numbers _ _ (omega (arith, c.sign_live.auto.numbers, c.deref_mut.ensures.len)))) have
+
+pub returns-clause-signed : goal.returns-clause-signed
+returns-clause-signed g c s one =
+    let old = c.round.inside.blocks in
+    let items = take_at c.sign_live.new.numbers _ _ (omega (arith, c.sign_live.auto.numbers, c.deref_mut.ensures.len)) in
+    subst (λ ns. IsPut Strong c.args.l.now old.of old.low s (list_of c.sign_live.new.lists ns s)) (sym items) (c.in_ok-sign_live.ensures.signed s one)
