@@ -143,24 +143,23 @@ pub(crate) fn read<M: Meter>(
     ensures visits { let n = length (row_of s lens.now.l.now.places) in Visits M.counted m.old m.new result n n }
 {
     lts::rows_follow();
-    let (l, of, low) = (lens.l, lens.of, lens.low);
-    l.known();
-    let (start, end) = l.row(s);
+    lens.l.known();
+    let (start, end) = lens.l.row(s);
     pairs.clear();
     pairs.reserve((end - start) as usize)?;
     let mut touched = false;
     let mut k = start;
     if (end - start) % 2 == 1 {
-        let only = l.edge(k, m);
-        touched = collect(of, low, only, touched, pairs);
+        let only = lens.l.edge(k, m);
+        touched = collect(lens.of, lens.low, only, touched, pairs);
         k += 1;
     }
     // Two visits, then two writes: a visit after a write waits until the count has come back from memory.
     while k < end {
-        let first = l.edge(k, m);
-        let second = l.edge(k + 1, m);
-        touched = collect(of, low, first, touched, pairs);
-        touched = collect(of, low, second, touched, pairs);
+        let first = lens.l.edge(k, m);
+        let second = lens.l.edge(k + 1, m);
+        touched = collect(lens.of, lens.low, first, touched, pairs);
+        touched = collect(lens.of, lens.low, second, touched, pairs);
         k += 2;
     }
     Ok(touched)
