@@ -1,8 +1,9 @@
 -- The lists of the states by their numbers.
-use Rattle.std.proofs.Common.{◌≡◌, ◌∙◌, ℕ, zero, suc, ◌<◌, List, [], ◌∷◌, length, get_or, slice_index, ap, refl, arith}
-use Rattle.std.proofs.lemmas.List.{get_or-map}
+use Rattle.std.proofs.Common.{◌≡◌, ◌∙◌, ℕ, zero, suc, ◌<◌, ◌≤◌, List, [], ◌∷◌, length, get_or, slice_index, ap, subst, refl, inl, inr, arith}
+use Rattle.std.proofs.lemmas.List.{get_or-map, get_or_default}
 use Rattle.lists.specs.Lists.{list_at, AreLists, AreNumbers}
-use Rattle.refine.specs.EachList.{list_of, each_list}
+use Rattle.partition.specs.Blocks.{HaveNone, AreOrNone}
+use Rattle.refine.specs.EachList.{list_of, each_list, HaveLists}
 use Rattle.refine.specs.Signed.{signature_at}
 use Rattle.partition.specs.Splitting.{Splits}
 
@@ -35,4 +36,16 @@ Splits-lists lists numbers old count new more are each size splits = record {
       );
   stays = splits.stays;
   parts = splits.parts;
+}
+
+-- some states are looked at no more, and have the empty list from now on
+pub lists_left : {of live live' : List ℕ} {lists : List (List (ℕ × ℕ))} {old new : List ℕ} → 1 ≤ length lists → HaveLists of live lists old
+    → length new ≡ length old → AreOrNone old new → HaveNone live' new → HaveLists of live' lists new
+lists_left {lists = lists} {new = new} some have size each none = record {
+  each = λ s d h. subst (λ x. x < length lists) (get_or_default new s 0 d h) (elim (each s) [
+    | inl was ↦ omega (arith, was, have.each s 0 (omega (arith, h, size)))
+    | inr nil ↦ omega (arith, nil, some)
+  ]);
+  states = size ∙ have.states;
+  none = none;
 }

@@ -1,4 +1,4 @@
-pub mod Signing
+pub mod EqualLists
 pub mod Settling
 pub mod Spending
 pub mod StrongRow

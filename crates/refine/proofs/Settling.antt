@@ -10,13 +10,13 @@ use Rattle.lts.specs.Labels.{text_of}
 use Rattle.lts.specs.Lts.{Grouped, Triple, label_of, target_of, row_of, system_of}
 use Rattle.lists.specs.Lists.{list_at, pair_cmp}
 use Rattle.partition.specs.Splitting.{IsAlone, Splits}
-use Rattle.partition.specs.Blocks.{HaveNone}
+use Rattle.partition.specs.Blocks.{RoundBlocks, HaveNone}
 use Rattle.inert.specs.Signed.{HasPair, IsSignature, LeavesOut}
 use Rattle.refine.specs.Rounds.{IsNext}
 use Rattle.refine.specs.EachList.{list_of}
 use Rattle.refine.specs.Settled.{IsTouched, IsStill, Settled, IsPut, ArePut}
 use Rattle.refine.proofs.Living.{no_step}
-use Rattle.refine.proofs.Signing.{Labelled, equal_lists}
+use Rattle.refine.proofs.EqualLists.{Labelled, equal_lists}
 
 -- before the first round every number is new
 pub settled_first : (rel : Relation) (A : System) (blocks : ℕ → ℕ) → Settled rel A blocks 0
@@ -149,41 +149,44 @@ module _ (l : Grouped) (p : List ℕ) (low s : ℕ) (no_step : (a : List ℕ) (t
   )
 
 -- the Split of blocks, with their numbers: those from the count on are new
-module _ (rel : Relation) (l : Grouped) (sys : IsSystem (system_of l)) (labelled : Labelled l) (p : List ℕ) (count low : ℕ) (states : length p ≡ l.states)
-    (settled : Settled rel (system_of l) (slice_index p) low) (signature : ℕ → List (ℕ × ℕ))
-    (told : (s : ℕ) → s < l.states → IsPut rel l p low s (signature s) ⊎ IsAlone p s) (q : List ℕ) (more : ℕ) (splits : Splits p count signature q more) where
-  split : Split rel (system_of l) (slice_index p) (slice_index q)
+module _ (rel : Relation) (l : Grouped) (sys : IsSystem (system_of l)) (labelled : Labelled l) (p : RoundBlocks) (states : length p.of ≡ l.states)
+    (settled : Settled rel (system_of l) (slice_index p.of) p.low) (signature : ℕ → List (ℕ × ℕ))
+    (told : (s : ℕ) → s < l.states → IsPut rel l p.of p.low s (signature s) ⊎ IsAlone p.of s) (q : RoundBlocks) (splits : Splits p.of p.count signature q.of q.count) where
+  split : Split rel (system_of l) (slice_index p.of) (slice_index q.of)
   split =
-      told_is_split rel l labelled p low states settled signature told q
+      told_is_split rel l labelled p.of p.low states settled signature told q.of
       (λ s t ls lt. splits.alike s t (omega (arith, ls, states)) (omega (arith, lt, states)))
 
-  kept : more ≡ count → (s : ℕ) → s < l.states → slice_index q s ≡ slice_index p s
-  kept e s ls =
-      let low = splits.blocks.below s (omega (arith, ls, states, splits.states)) in
-      splits.stays s (omega (arith, ls, states)) (omega (arith, low, e))
+  stays : (s : ℕ) → s < l.states → slice_index q.of s < p.count → slice_index q.of s ≡ slice_index p.of s
+  stays s ls low = splits.stays s (omega (arith, ls, states)) low
 
-  same : more ≡ count → SameBlocks (system_of l) (slice_index p) (slice_index q)
+  kept : q.count ≡ p.count → (s : ℕ) → s < l.states → slice_index q.of s ≡ slice_index p.of s
+  kept e s ls = let low = splits.blocks.below s (omega (arith, ls, states, splits.states)) in stays s ls (omega (arith, low, e))
+
+  same : q.count ≡ p.count → SameBlocks (system_of l) (slice_index p.of) (slice_index q.of)
   same e s t ls lt = (
     λ h. sym (kept e s ls) ∙ h ∙ kept e t lt,
     λ h. kept e s ls ∙ h ∙ sym (kept e t lt),
   )
 
-  parted : ¬ (more ≡ count) → ¬ SameBlocks (system_of l) (slice_index p) (slice_index q)
+  parted : ¬ (q.count ≡ p.count) → ¬ SameBlocks (system_of l) (slice_index p.of) (slice_index q.of)
   parted d alike =
       let grows = splits.grows in
       let h = splits.parts (omega (arith, d, grows)) in
       h.5 ((alike h.0 h.1 (omega (arith, h.2, states)) (omega (arith, h.3, states))).1 h.4)
 
-  pub IsNext-from : IsNext rel l p count q more
-  IsNext-from = record {
+  pub IsNext-from : q.low ≡ p.count → q.live ≡ p.live → IsNext rel l p q
+  IsNext-from low live = record {
     states = splits.states ∙ states;
     split = split;
     blocks = splits.blocks;
+    low = low;
+    live = live;
     settled =
-        settled_next rel (system_of l) (slice_index p) (slice_index q) count (λ s a t step. (step_below (system_of l) sys s a t step).1)
-        (λ s ls low. splits.stays s (omega (arith, ls, states)) low) split;
+        subst (Settled rel (system_of l) (slice_index q.of)) (sym low) (
+        settled_next rel (system_of l) (slice_index p.of) (slice_index q.of) p.count (λ s a t step. (step_below (system_of l) sys s a t step).1) stays split);
     grows = splits.grows;
-    stays = λ s ls low. splits.stays s (omega (arith, ls, states)) low;
+    stays = stays;
     same = same;
     parted = parted;
   }

@@ -1,7 +1,8 @@
 -- The list of each state, by its number.
-use Rattle.std.specs.Prelude.{ℕ, ◌≤◌, List, length, map, slice_index}
+use Rattle.std.specs.Prelude.{◌≡◌, ℕ, ◌≤◌, List, length, map, slice_index}
 use Rattle.lts.specs.declared.limits.TheConstants.{MOST_STATES}
 use Rattle.lists.specs.Lists.{list_at, AreNumbers}
+use Rattle.partition.specs.Blocks.{RoundBlocks, HaveNone}
 
 -- the list of the state s, if the states have these numbers
 abbrev pub list_of : List (List (ℕ × ℕ)) → List ℕ → ℕ → List (ℕ × ℕ)
@@ -17,10 +18,14 @@ pub record AreListsOfStates (lists : List (List (ℕ × ℕ))) (numbers : List �
   pub some : 1 ≤ length numbers
   pub few : length numbers ≤ MOST_STATES
 
--- lists, and for each state the number of its list
-pub record Numbered : Type 0 where
+-- the blocks of a round, lists, and for each state the number of its list
+pub record Signed : Type 0 where
+  pub blocks : RoundBlocks
   pub lists : List (List (ℕ × ℕ))
   pub numbers : List ℕ
 
-abbrev pub numbered : List (List (ℕ × ℕ)) → List ℕ → Numbered
-numbered lists numbers = record { lists = lists; numbers = numbers }
+-- each state of the blocks has a list, and one that is not looked at the empty one
+pub record HaveLists (of live : List ℕ) (lists : List (List (ℕ × ℕ))) (numbers : List ℕ) : Type 0 where
+  pub each : AreNumbers lists numbers
+  pub states : length numbers ≡ length of
+  pub none : HaveNone live numbers

@@ -5,18 +5,21 @@ use Rattle.theory.specs.Blocks.{Split, SameBlocks, Underway}
 use Rattle.lts.specs.Meter.{Counts, Costs}
 use Rattle.lts.specs.Lts.{Grouped, system_of}
 use Rattle.partition.specs.Partition.{AreBlocks}
+use Rattle.partition.specs.Blocks.{RoundBlocks}
 use Rattle.refine.specs.Settled.{Settled}
 
--- the blocks q, of which there are more, are the Split of the count blocks p; their numbers from the count on are new
-pub record IsNext (rel : Relation) (l : Grouped) (p : List ℕ) (count : ℕ) (q : List ℕ) (more : ℕ) : Type 0 where
-  pub states : length q ≡ l.states
-  pub split : Split rel (system_of l) (slice_index p) (slice_index q)
-  pub blocks : AreBlocks q more
-  pub settled : Settled rel (system_of l) (slice_index q) count
-  pub grows : count ≤ more
-  pub stays : (s : ℕ) → s < l.states → slice_index q s < count → slice_index q s ≡ slice_index p s
-  pub same : more ≡ count → SameBlocks (system_of l) (slice_index p) (slice_index q)
-  pub parted : ¬ (more ≡ count) → ¬ SameBlocks (system_of l) (slice_index p) (slice_index q)
+-- the blocks q are the Split of the blocks p, and rounds look at the same states. Their numbers from the count of p on are new
+pub record IsNext (rel : Relation) (l : Grouped) (p q : RoundBlocks) : Type 0 where
+  pub states : length q.of ≡ l.states
+  pub split : Split rel (system_of l) (slice_index p.of) (slice_index q.of)
+  pub blocks : AreBlocks q.of q.count
+  pub low : q.low ≡ p.count
+  pub live : q.live ≡ p.live
+  pub settled : Settled rel (system_of l) (slice_index q.of) q.low
+  pub grows : p.count ≤ q.count
+  pub stays : (s : ℕ) → s < l.states → slice_index q.of s < p.count → slice_index q.of s ≡ slice_index p.of s
+  pub same : q.count ≡ p.count → SameBlocks (system_of l) (slice_index p.of) (slice_index q.of)
+  pub parted : ¬ (q.count ≡ p.count) → ¬ SameBlocks (system_of l) (slice_index p.of) (slice_index q.of)
 
 -- so many rounds were made from one block, each of which has split something and visited each transition once
 pub record Made (rel : Relation) (l : Grouped) (old at : Counts) (blocks : List ℕ) : Type 0 where

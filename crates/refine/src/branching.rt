@@ -2,47 +2,38 @@
 //! they lead to.
 ghost use Rattle.theory.specs.declared.relation.Relation.TheVariants.{Branching as branching};
 
-use crate::marks::Marks;
-use crate::sense::Sense;
-use lists::Lists;
+use crate::scratch::Scratch;
+use crate::signed_blocks::SignedBlocks;
+use crate::signing::Signing;
 use lts::{Lts, Memory, Meter};
-use partition::{Blocks, Partition};
-use std::alloc::Global;
 
 /// Branching bisimulation (van Glabbeek and Weijland 1996).
 pub struct Branching;
 
-impl Sense for Branching {
+impl Signing for Branching {
     ghost relation = { branching };
 
-    fn signature<M: Meter>(
-        alloc: Global,
-        l: &Lts<M>,
-        p: &Partition,
-        s: u32,
-        marks: &mut Marks,
-        out: &mut Vec<(u32, u32)>,
-        m: &mut M,
-    ) -> Result<(), Memory> {
-        marks.lists.clear();
-        let list = marks
-            .signer
-            .sign(l, p.blocks(), s, &mut marks.lists, m)?;
-        marks.pairs.clear();
-        marks.lists.append(list, &mut marks.pairs)?;
-        out.extend_from_slice(&marks.pairs)?;
-        Ok(())
-    }
-
     fn sign_each<M: Meter>(
-        alloc: Global,
         l: &Lts<M>,
-        blocks: &Blocks,
-        marks: &mut Marks,
-        lists: &mut Lists,
-        numbers: &mut [u32],
+        round: SignedBlocks,
+        scratch: &mut Scratch,
         m: &mut M,
-    ) -> Result<(), Memory> {
-        marks.signer.sign_each(l, blocks, lists, numbers, m)
+    ) -> Result<SignedBlocks, Memory> {
+        let SignedBlocks {
+            alloc,
+            blocks,
+            mut lists,
+            mut numbers,
+        } = round;
+        lists.clear();
+        scratch
+            .signer
+            .sign_each(l, &blocks, &mut lists, &mut numbers, m)?;
+        Ok(SignedBlocks {
+            alloc,
+            blocks,
+            lists,
+            numbers,
+        })
     }
 }

@@ -3,17 +3,15 @@
 #![tactic(auto)]
 
 mod branching;
-mod marks;
+mod one_round;
 mod refinement;
-mod round_signatures;
-mod sense;
-mod signatures;
+mod scratch;
+mod signed_blocks;
+mod signing;
 mod strong;
 
 pub use branching::Branching;
-pub use marks::Marks;
+pub use one_round::{Marks, Sense, Signatures, round};
 pub use partition::Partition;
-pub use refinement::{refine, round};
-pub use sense::Sense;
-pub use signatures::Signatures;
+pub use refinement::refine;
 pub use strong::Strong;

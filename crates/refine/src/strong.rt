@@ -6,47 +6,43 @@ ghost use Rattle.lts.specs.Meter.{HasRoomFor, Visits};
 ghost use Rattle.lts.specs.Lts.{row_of};
 ghost use Rattle.lists.specs.Lists.{list_at, AreNumbers, Grow};
 ghost use Rattle.partition.specs.Blocks.{HaveNone};
-ghost use Rattle.inert.specs.Signed.{IsSignature, pair_under};
+ghost use Rattle.inert.specs.Signed.{pair_under};
 ghost use Rattle.refine.specs.EachList.{list_of};
 ghost use Rattle.refine.specs.Settled.{HasFrom, IsPut, ArePut};
 
-use crate::marks::Marks;
-use crate::sense::Sense;
+use crate::scratch::Scratch;
+use crate::signed_blocks::SignedBlocks;
+use crate::signing::Signing;
 use lists::{EMPTY, Lists, order};
 use lts::{Lts, Memory, Meter, visit_places};
-use partition::{Blocks, Partition};
-use std::alloc::Global;
+use partition::Blocks;
 
 /// Strong bisimulation (Milner 1989).
 pub struct Strong;
 
-impl Sense for Strong {
+impl Signing for Strong {
     ghost relation = { strong };
 
-    fn signature<M: Meter>(
-        alloc: Global,
-        l: &Lts<M>,
-        p: &Partition,
-        s: u32,
-        marks: &mut Marks,
-        out: &mut Vec<(u32, u32)>,
-        m: &mut M,
-    ) -> Result<(), Memory> {
-        sign(l, p.blocks(), s, &mut marks.pairs, m)?;
-        out.extend_from_slice(&marks.pairs)?;
-        Ok(())
-    }
-
     fn sign_each<M: Meter>(
-        alloc: Global,
         l: &Lts<M>,
-        blocks: &Blocks,
-        marks: &mut Marks,
-        lists: &mut Lists,
-        numbers: &mut [u32],
+        round: SignedBlocks,
+        scratch: &mut Scratch,
         m: &mut M,
-    ) -> Result<(), Memory> {
-        sign_live(l, blocks, &mut marks.pairs, lists, numbers, m)
+    ) -> Result<SignedBlocks, Memory> {
+        let SignedBlocks {
+            alloc,
+            blocks,
+            mut lists,
+            mut numbers,
+        } = round;
+        lists.clear();
+        sign_live(l, &blocks, &mut scratch.pairs, &mut lists, &mut numbers, m)?;
+        Ok(SignedBlocks {
+            alloc,
+            blocks,
+            lists,
+            numbers,
+        })
     }
 }
 
@@ -72,8 +68,11 @@ fn sign_live<M: Meter>(
 {
     lts::rows_follow();
     l.known();
-    let of = blocks.of();
-    let low = blocks.low();
+    let lens = Lens {
+        l,
+        of: blocks.of(),
+        low: blocks.low(),
+    };
     let live = blocks.live();
     let mut next = 0;
     for i in 0..live.len() {
@@ -81,10 +80,18 @@ fn sign_live<M: Meter>(
         let (start, end) = l.row(s);
         visit_places(l, next, start, m);
         next = end;
-        numbers[s as usize] = put(l, of, low, s, pairs, lists, m)?;
+        numbers[s as usize] = put(&lens, s, pairs, lists, m)?;
     }
     visit_places(l, next, l.edges(), m);
     Ok(())
+}
+
+/// What a row is read under: a system, the block of each state, and from which number on blocks are new.
+#[derive(Drop)]
+pub(crate) struct Lens<'a, M: Meter> {
+    pub l: &'a Lts<M>,
+    pub of: &'a [u32],
+    pub low: u32,
 }
 
 /// Puts the strong signature of `s` into `lists` and returns its number there, or that of the empty list where `s` leads to no
@@ -92,26 +99,24 @@ fn sign_live<M: Meter>(
 ///
 /// Fails if there is no memory for it.
 fn put<M: Meter>(
-    l: &Lts<M>,
-    p: &[u32],
-    low: u32,
+    lens: &Lens<M>,
     s: u32,
     pairs: &mut Vec<(u32, u32)>,
     lists: &mut Lists,
     m: &mut M,
 ) -> Result<u32, Memory>
-    requires states { length p.now ≡ l.now.states }
-    requires state { s < l.now.states }
-    requires room { HasRoomFor (M.counted m.old) 0 (length (row_of s l.now.places)) }
+    requires states { length lens.now.of.now ≡ lens.now.l.now.states }
+    requires state { s < lens.now.l.now.states }
+    requires room { HasRoomFor (M.counted m.old) 0 (length (row_of s lens.now.l.now.places)) }
     ensures within { IfOk result (λ k. k < length lists.new) }
-    ensures put { IfOk result (λ k. IsPut strong l.now p.now low s (list_at lists.new k)) }
+    ensures put { IfOk result (λ k. IsPut strong lens.now.l.now lens.now.of.now lens.now.low s (list_at lists.new k)) }
     ensures grow { Grow lists.old lists.new }
-    ensures visits { let n = length (row_of s l.now.places) in Visits M.counted m.old m.new result n n }
+    ensures visits { let n = length (row_of s lens.now.l.now.places) in Visits M.counted m.old m.new result n n }
 {
     lts::rows_are_steps();
-    l.known();
+    lens.l.known();
     lists.known();
-    let touched = read(l, p, low, s, pairs, m)?;
+    let touched = read(lens, s, pairs, m)?;
     if !touched {
         return Ok(EMPTY);
     }
@@ -120,66 +125,41 @@ fn put<M: Meter>(
     Ok(list)
 }
 
-/// Makes `pairs` the strong signature of `s`.
-///
-/// Fails if there is no memory for it.
-fn sign<M: Meter>(
-    l: &Lts<M>,
-    p: &[u32],
-    s: u32,
-    pairs: &mut Vec<(u32, u32)>,
-    m: &mut M,
-) -> Result<(), Memory>
-    requires states { length p.now ≡ l.now.states }
-    requires state { s < l.now.states }
-    requires room { HasRoomFor (M.counted m.old) 0 (length (row_of s l.now.places)) }
-    ensures signature { OnOk result (IsSignature strong l.now p.now s pairs.new.items) }
-    ensures visits { let n = length (row_of s l.now.places) in Visits M.counted m.old m.new result n n }
-{
-    lts::rows_are_steps();
-    l.known();
-    read(l, p, 0, s, pairs, m)?;
-    order(pairs);
-    Ok(())
-}
-
 /// Makes `pairs` those of the transitions of `s`, as they stand in its row. Returns whether one of them has a number from
 /// `low` on.
 ///
 /// Fails if there is no memory for it.
-fn read<M: Meter>(
-    l: &Lts<M>,
-    p: &[u32],
-    low: u32,
+pub(crate) fn read<M: Meter>(
+    lens: &Lens<M>,
     s: u32,
     pairs: &mut Vec<(u32, u32)>,
     m: &mut M,
 ) -> Result<bool, Memory>
-    requires states { length p.now ≡ l.now.states }
-    requires state { s < l.now.states }
-    requires room { HasRoomFor (M.counted m.old) 0 (length (row_of s l.now.places)) }
-    ensures pairs { OnOk result (pairs.new.items ≡ map (pair_under p.now) (row_of s l.now.places)) }
-    ensures touched { IfOk result (λ touched. IsTrue touched ↔ HasFrom low pairs.new.items) }
-    ensures visits { let n = length (row_of s l.now.places) in Visits M.counted m.old m.new result n n }
+    requires states { length lens.now.of.now ≡ lens.now.l.now.states }
+    requires state { s < lens.now.l.now.states }
+    requires room { HasRoomFor (M.counted m.old) 0 (length (row_of s lens.now.l.now.places)) }
+    ensures pairs { OnOk result (pairs.new.items ≡ map (pair_under lens.now.of.now) (row_of s lens.now.l.now.places)) }
+    ensures touched { IfOk result (λ touched. IsTrue touched ↔ HasFrom lens.now.low pairs.new.items) }
+    ensures visits { let n = length (row_of s lens.now.l.now.places) in Visits M.counted m.old m.new result n n }
 {
     lts::rows_follow();
-    l.known();
-    let (start, end) = l.row(s);
+    lens.l.known();
+    let (start, end) = lens.l.row(s);
     pairs.clear();
     pairs.reserve((end - start) as usize)?;
     let mut touched = false;
     let mut k = start;
     if (end - start) % 2 == 1 {
-        let only = l.edge(k, m);
-        touched = collect(p, low, only, touched, pairs);
+        let only = lens.l.edge(k, m);
+        touched = collect(lens.of, lens.low, only, touched, pairs);
         k += 1;
     }
     // Two visits, then two writes: a visit after a write waits until the count has come back from memory.
     while k < end {
-        let first = l.edge(k, m);
-        let second = l.edge(k + 1, m);
-        touched = collect(p, low, first, touched, pairs);
-        touched = collect(p, low, second, touched, pairs);
+        let first = lens.l.edge(k, m);
+        let second = lens.l.edge(k + 1, m);
+        touched = collect(lens.of, lens.low, first, touched, pairs);
+        touched = collect(lens.of, lens.low, second, touched, pairs);
         k += 2;
     }
     Ok(touched)

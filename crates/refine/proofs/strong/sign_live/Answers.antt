@@ -1,9 +1,7 @@
-use Rattle.std.proofs.Common.{◌≡◌, ◌∙◌, ℕ, ◌+◌, ◌<◌, ◌≤◌, List, length, slice_index, ap, sym, subst, subst₂, inl, inr, arith}
+use Rattle.std.proofs.Common.{◌∙◌, ℕ, ◌+◌, ◌<◌, List, length, slice_index, ap, sym, subst, subst₂, inl, inr, arith}
 use Rattle.std.proofs.lemmas.Bool.{cases_eq}
 use Rattle.std.proofs.lemmas.List.{get_or-set_other, length-set}
 use Rattle.theory.specs.declared.relation.Relation.TheVariants.{Strong}
-use Rattle.lts.specs.Lts.{before}
-use Rattle.lists.specs.Lists.{list_at, AreNumbers}
 use Rattle.partition.specs.Blocks.{AreLive, HaveNone}
 use Rattle.refine.specs.EachList.{list_of}
 use Rattle.refine.specs.Settled.{IsPut, ArePut}
@@ -32,7 +30,7 @@ loop-i-preserved g c =
     let size = c.requires.numbers.0 in
     let row = c.row-start.ensures in
     let k = c.in_ok-numbers.field-0 in
-    let P : ℕ → List (ℕ × ℕ) → Type 0 = λ t list. IsPut Strong l c.of-of.result.now c.low-low.result t list in
+    let P : ℕ → List (ℕ × ℕ) → Type 0 = λ t list. IsPut Strong l c.of.result.now c.low.result t list in
     let grow = c.put.ensures.grow in
     let gap = c.visit_places.ensures in
     let visits = c.in_ok-numbers.ensures.visits in
@@ -63,18 +61,18 @@ returns-clause-signed g c =
     let l = c.args.l.now in
     let b = c.args.blocks.now in
     let inv = c.loop-i.invariant in
-    let P : ℕ → List (ℕ × ℕ) → Type 0 = λ t list. IsPut Strong l c.of-of.result.now c.low-low.result t list in
+    let P : ℕ → List (ℕ × ℕ) → Type 0 = λ t list. IsPut Strong l c.of.result.now c.low.result t list in
     let list = list_of c.loop-i.lists c.loop-i.numbers in
     subst (λ live. ArePut Strong l b.of b.low live list) c.live-live.ensures.live
-    (subst (λ low. ArePut Strong l b.of low c.live-live.result.now list) c.low-low.ensures
-    (subst (λ of. ArePut Strong l of c.low-low.result c.live-live.result.now list) c.of-of.ensures.of
+    (subst (λ low. ArePut Strong l b.of low c.live-live.result.now list) c.low.ensures
+    (subst (λ of. ArePut Strong l of c.low.result c.live-live.result.now list) c.of.ensures.of
     (each_put c.loop-i.lists c.loop-i.numbers c.live-live.result.now inv.none P (λ j h. inv.put j (omega (arith, h, c.loop-i-test.false, c.loop-i.auto.i-end))))))
 
 pub returns-clause-numbers : goal.returns-clause-numbers
 returns-clause-numbers g c =
     let l = c.args.l.now in
     let inv = c.loop-i.invariant in
-    let P : ℕ → List (ℕ × ℕ) → Type 0 = λ t list. IsPut Strong l c.of-of.result.now c.low-low.result t list in (
+    let P : ℕ → List (ℕ × ℕ) → Type 0 = λ t list. IsPut Strong l c.of.result.now c.low.result t list in (
       all_numbers c.loop-i.lists c.loop-i.numbers c.live-live.result.now inv.none P (λ j h. inv.put j (omega (arith, h, c.loop-i-test.false, c.loop-i.auto.i-end))) inv.some,
       subst (λ live. HaveNone live c.loop-i.numbers) c.live-live.ensures.live inv.none,
     )

@@ -1,0 +1,32 @@
+use Rattle.std.proofs.Common.{◌≡◌, ◌∙◌, length, ap, sym, subst, inl, arith}
+use Rattle.partition.specs.Blocks.{IsOne}
+use Rattle.inert.specs.Signed.{IsSignature}
+use Rattle.refine.specs.EachList.{list_of}
+use Rattle.refine.specs.Settled.{IsPut}
+use Rattle.refine.proofs.Settling.{put_whole}
+use Rattle.refine.proofs.EachList.{signature_at-list}
+use Rattle.refine.proofs.one_round.Signatures.fill.Goals as goal
+
+pub sign_each-requires-clause-others : goal.sign_each-requires-clause-others
+sign_each-requires-clause-others g c s h =
+    inl (subst (λ b. IsOne b.live s) (sym c.in_ok-blocks-2.ensures) (c.in_ok-blocks.ensures.live s (omega (arith, h, c.requires.states))))
+
+pub returns-clause-signed : goal.returns-clause-signed
+returns-clause-signed g c s ls =
+    let rel = g.S.Signing.relation in
+    let l = c.args.l.now in
+    let p = c.args.p.now in
+    let signed = c.in_ok-signed.signed in
+    let numbers = c.signed.inside.numbers.items in
+    let start = c.in_ok-blocks.ensures in
+    let is : signed.blocks ≡ c.in_ok-blocks.blocks = c.in_ok-signed.ensures.blocks ∙ c.in_ok-blocks-2.ensures in
+    let size : length numbers ≡ length p =
+    c.signed.invariant.states ∙ ap (λ r. length r.blocks.of) c.signed.view_is ∙ ap (λ b. length b.of) is ∙ ap length start.of in
+    let list = list_of signed.lists signed.numbers s in
+    let put : IsPut rel l c.in_ok-blocks.blocks.of c.in_ok-blocks.blocks.low s list =
+    subst (λ b. IsPut rel l b.of b.low s list) is
+    (c.in_ok-signed.ensures.signed s (subst (λ b. IsOne b.live s) (sym is) (start.live s (omega (arith, ls, c.requires.states))))) in
+    subst (IsSignature rel l p s)
+    (sym (signature_at-list c.in_ok-whole.whole numbers s (omega (arith, ls, size, c.requires.states))
+    ∙ ap (λ xs. list_of xs numbers s) c.in_ok-whole.ensures ∙ ap (λ r. list_of r.lists r.numbers s) c.signed.view_is))
+    (put_whole rel l p s list (subst (λ low. IsPut rel l p low s list) start.low (subst (λ of. IsPut rel l of c.in_ok-blocks.blocks.low s list) start.of put)))

@@ -1,0 +1,122 @@
+//! The blocks of a round, and the signature of each state under them.
+ghost use Rattle.std.specs.Prelude.{◌≡◌, IfOk};
+ghost use Rattle.lists.specs.Lists.{AreLists};
+ghost use Rattle.partition.specs.Partition.{AreBlocks};
+ghost use Rattle.partition.specs.Blocks.{LeavesAlone};
+ghost use Rattle.partition.specs.Splitting.{Splits};
+ghost use Rattle.refine.specs.EachList.{HaveLists, list_of};
+
+use lists::{EMPTY, Lists};
+use lts::Memory;
+use partition::Blocks;
+use std::alloc::Global;
+use std::marker::Model;
+
+/// The blocks of a round, and the signatures: lists, and the number of each state's list. A state that the round does not look
+/// at has the empty one.
+#[derive(Drop)]
+pub struct SignedBlocks {
+    pub(crate) alloc: Global,
+    pub(crate) blocks: Blocks,
+    pub(crate) lists: Lists,
+    pub(crate) numbers: Vec<u32>,
+}
+
+impl Model for SignedBlocks {
+    ghost use Rattle.refine.specs.EachList.{Signed, HaveLists};
+
+    ghost Value = { Signed };
+
+    ghost view = { λ r. record { blocks = r.blocks; lists = r.lists; numbers = r.numbers.items } };
+
+    ghost invariant = { λ r. HaveLists r.blocks.of r.blocks.live r.lists r.numbers.items };
+}
+
+impl SignedBlocks {
+    /// These blocks, with empty signatures.
+    ///
+    /// Fails if there is no memory for them.
+    pub fn new(alloc: Global, blocks: Blocks) -> Result<SignedBlocks, Memory>
+        ensures { IfOk result (λ r. r.blocks ≡ blocks) }
+    {
+        let states = blocks.of().len();
+        Ok(SignedBlocks {
+            alloc,
+            blocks,
+            numbers: vec![in alloc; EMPTY; states]?,
+            lists: Lists::new(alloc, states as u32)?,
+        })
+    }
+
+    /// The block of each state.
+    pub fn of(&self) -> &[u32]
+        ensures of { result.now ≡ self.now.blocks.of }
+        ensures blocks { AreBlocks self.now.blocks.of self.now.blocks.count }
+    {
+        self.blocks.of()
+    }
+
+    /// How many blocks there are.
+    pub fn count(&self) -> u32
+        ensures { result ≡ self.now.blocks.count }
+    {
+        self.blocks.count()
+    }
+
+    /// Returns nothing: what holds of the lists of the states.
+    pub fn known(&self)
+        ensures lists { AreLists self.now.lists }
+        ensures have { HaveLists self.now.blocks.of self.now.blocks.live self.now.lists self.now.numbers }
+    {
+        self.lists.known();
+    }
+
+    /// Leaves out the states that are alone in their blocks from what a round looks at, once there are over an eighth more blocks
+    /// than when that was done last. They have the empty list from now on.
+    ///
+    /// Fails if there is no memory for it.
+    pub fn renew(self) -> Result<SignedBlocks, Memory>
+        ensures same { IfOk result (λ r. r.blocks ≡ record self.blocks { live = r.blocks.live }) }
+        ensures leaves { IfOk result (λ r. LeavesAlone self.blocks.of self.blocks.live r.blocks.live) }
+    {
+        let SignedBlocks {
+            alloc,
+            blocks,
+            lists,
+            mut numbers,
+        } = self;
+        lists.known();
+        let blocks = blocks.renew(alloc, &mut numbers)?;
+        Ok(SignedBlocks {
+            alloc,
+            blocks,
+            lists,
+            numbers,
+        })
+    }
+
+    /// Splits the blocks: two states stay together if their signatures are equal.
+    ///
+    /// Fails if there is no memory for it.
+    pub fn split(self) -> Result<SignedBlocks, Memory>
+        ensures splits { IfOk result (λ q. Splits self.blocks.of self.blocks.count (list_of self.lists self.numbers)
+            q.blocks.of q.blocks.count) }
+        ensures low { IfOk result (λ q. q.blocks.low ≡ self.blocks.count) }
+        ensures live { IfOk result (λ q. q.blocks.live ≡ self.blocks.live) }
+    {
+        let SignedBlocks {
+            alloc,
+            blocks,
+            lists,
+            numbers,
+        } = self;
+        lists.known();
+        let blocks = blocks.split(alloc, lists.len(), &numbers)?;
+        Ok(SignedBlocks {
+            alloc,
+            blocks,
+            lists,
+            numbers,
+        })
+    }
+}

@@ -1,0 +1,40 @@
+//! What a relation looks at in a round: the signatures of the states.
+ghost use Rattle.std.specs.Prelude.{◌≡◌, length, IfOk};
+ghost use Rattle.theory.specs.declared.relation.Relation.{Relation};
+ghost use Rattle.lts.specs.Meter.{HasRoomFor, Visits};
+ghost use Rattle.inert.specs.Signed.{LeavesOut};
+ghost use Rattle.refine.specs.EachList.{list_of};
+ghost use Rattle.refine.specs.Settled.{ArePut};
+
+use crate::scratch::Scratch;
+use crate::signed_blocks::SignedBlocks;
+use lts::{Lts, Memory, Meter};
+
+/// A relation whose rounds can be signed. Its definitions (the bisimulations, the signature, and what blocks keep) are those
+/// of its `relation`, and so are the four laws that refinement rests on.
+pub trait Signing {
+    ghost relation: { Relation };
+
+    /// Signs each state that a round looks at: no pairs for one that no new block can be seen from. States with equal signatures
+    /// share a list. The others are alone in their blocks, or have no transition, and have the empty list already. Each
+    /// transition is visited once.
+    ///
+    /// Fails if there is no memory for it.
+    fn sign_each<M: Meter>(
+        l: &Lts<M>,
+        round: SignedBlocks,
+        scratch: &mut Scratch,
+        m: &mut M,
+    ) -> Result<SignedBlocks, Memory>
+        requires states { length round.blocks.of ≡ l.now.states }
+        requires others { LeavesOut l.now round.blocks.of round.blocks.live }
+        requires room { HasRoomFor (M.counted m.old) 0 (length l.now.places) }
+
+        // Once it is done
+        ensures blocks { IfOk result (λ r. r.blocks ≡ round.blocks) }
+        ensures signed { IfOk result (λ r.
+            ArePut relation l.now r.blocks.of r.blocks.low r.blocks.live (list_of r.lists r.numbers)) }
+
+        // In either case
+        ensures visits { let n = length l.now.places in Visits M.counted m.old m.new result n n };
+}
