@@ -1,5 +1,5 @@
 -- Unions at their places: none at all, one that is noted, and what they are of.
-use Rattle.std.proofs.Common.{◌≡◌, ◌∙◌, ◌⊎◌, ℕ, zero, suc, ◌<◌, List, [], ◌∷◌, ◌++◌, length, map, set, take, replicate, min, max, Contains, ap, sym, subst, refl, Option, Some, None, inl, inr, arith}
+use Rattle.std.proofs.Common.{◌≡◌, ◌∙◌, ◌⊎◌, ◌↔◌, ℕ, zero, suc, ◌<◌, ◌≤◌, List, [], ◌∷◌, ◌++◌, length, map, set, take, replicate, min, max, Contains, ap, sym, subst, refl, Option, Some, None, inl, inr, arith}
 use Rattle.std.specs.List.{All}
 use Rattle.std.specs.Option.{IfSome}
 use Rattle.std.proofs.lemmas.Bool.{cases_lt}
@@ -10,7 +10,7 @@ use Rattle.lists.specs.Lists.{list_at, Grow}
 use Rattle.lists.specs.Known.{noted_union, IsNone, no_entry}
 use Rattle.lists.specs.Unions.{Unites, IsUnion, AreUnions}
 use Rattle.lists.proofs.Rising.{here, there, here_or_there}
-use Rattle.lists.proofs.Joining.{AreUnions-grow, or_swap}
+use Rattle.lists.proofs.Joining.{or_swap}
 
 pub if_some : (o : Option ℕ) (P Q : ℕ → Type 0) → ((i : ℕ) → P i → Q i) → IfSome o P → IfSome o Q
 if_some None P Q f h = h
@@ -59,43 +59,42 @@ IsUnion-none lists some = record {
 }
 
 -- a union of two lists, whichever has the lower number
-pub IsUnion-in_order : (lists : List (List (ℕ × ℕ))) (j k i : ℕ) → i < length lists → j < length lists → k < length lists
-    → Unites (list_at lists i) (list_at lists j) (list_at lists k) → IsUnion lists (min j k, max j k) i
-IsUnion-in_order lists j k i within first second exactly = elim (cases_lt j k) [
+pub IsUnion-swap : {lists : List (List (ℕ × ℕ))} {j k i : ℕ} → IsUnion lists (j, k) i → IsUnion lists (k, j) i
+IsUnion-swap is = record { within = is.within; first = is.second; second = is.first; exactly = λ z. or_swap (is.exactly z) }
+
+omega_min : (j k : ℕ) → j < k → j ≡ min j k
+omega_min j k less = omega arith
+
+omega_max : (j k : ℕ) → j < k → k ≡ max j k
+omega_max j k less = omega arith
+
+omega_min' : (j k : ℕ) → k ≤ j → k ≡ min j k
+omega_min' j k more = omega arith
+
+omega_max' : (j k : ℕ) → k ≤ j → j ≡ max j k
+omega_max' j k more = omega arith
+
+in_order : (P : ℕ × ℕ → Type 0) (j k : ℕ) → ((j k : ℕ) → P (j, k) → P (k, j)) → P (j, k) ↔ P (min j k, max j k)
+in_order P j k swap = elim (cases_lt j k) [
   | inl less ↦
-      let low : j ≡ min j k = omega arith in
-      let high : k ≡ max j k = omega arith in
-      subst (λ n. IsUnion lists (min j k, n) i) high (subst (λ n. IsUnion lists (n, k) i) low
-      (record { within = within; first = first; second = second; exactly = exactly }))
+      let same : (j, k) ≡ (min j k, max j k) = λ i. (omega_min j k less i, omega_max j k less i) in
+      (subst P same, subst P (sym same))
   | inr more ↦
-      let low : k ≡ min j k = omega arith in
-      let high : j ≡ max j k = omega arith in
-      subst (λ n. IsUnion lists (min j k, n) i) high (subst (λ n. IsUnion lists (n, j) i) low
-      (record { within = within; first = second; second = first; exactly = λ z. or_swap (exactly z) }))
+      let same : (k, j) ≡ (min j k, max j k) = λ i. (omega_min' j k more i, omega_max' j k more i) in
+      (λ p. subst P same (swap j k p), λ p. swap k j (subst P (sym same) p))
 ]
 
-pub IsUnion-out_of_order : (lists : List (List (ℕ × ℕ))) (j k i : ℕ) → IsUnion lists (min j k, max j k) i → IsUnion lists (j, k) i
-IsUnion-out_of_order lists j k i is = elim (cases_lt j k) [
-  | inl less ↦
-      let low : min j k ≡ j = omega arith in
-      let high : max j k ≡ k = omega arith in
-      subst (λ key. IsUnion lists key i) (λ i. (low i, high i)) is
-  | inr more ↦
-      let low : min j k ≡ k = omega arith in
-      let high : max j k ≡ j = omega arith in
-      let swapped = subst (λ key. IsUnion lists key i) (λ i. (low i, high i)) is in
-      record { within = swapped.within; first = swapped.second; second = swapped.first; exactly = λ z. or_swap (swapped.exactly z) }
-]
+pub IsUnion-in_order : (lists : List (List (ℕ × ℕ))) (j k i : ℕ) → IsUnion lists (j, k) i ↔ IsUnion lists (min j k, max j k) i
+IsUnion-in_order lists j k i = in_order (λ key. IsUnion lists key i) j k (λ j k is. IsUnion-swap is)
 
 -- one union more, and maybe some forgotten
-pub AreUnions-note : (old new : List (List (ℕ × ℕ))) (unions noted : List ((ℕ × ℕ) × ℕ)) (key : ℕ × ℕ) (i : ℕ) → AreUnions old unions → Grow old new
-    → 0 < length old → IsUnion new key i
-    → ((z : (ℕ × ℕ) × ℕ) → Contains noted z → Contains unions z ⊎ IsNone z ⊎ (z ≡ (key, i))) → AreUnions new noted
-AreUnions-note old new unions noted key i are grow some is from = λ z d. elim (from z d) [
-  | inl o ↦ AreUnions-grow grow unions are z o
+pub AreUnions-note : {lists : List (List (ℕ × ℕ))} (unions noted : List ((ℕ × ℕ) × ℕ)) (key : ℕ × ℕ) (i : ℕ) → AreUnions lists unions → IsUnion lists key i
+    → ((z : (ℕ × ℕ) × ℕ) → Contains noted z → Contains unions z ⊎ IsNone z ⊎ (z ≡ (key, i))) → AreUnions lists noted
+AreUnions-note {lists} unions noted key i are is from z d = elim (from z d) [
+  | inl o ↦ are z o
   | inr n ↦ elim n [
-    | inl e ↦ let longer = grow.longer in subst (λ w. IsUnion new w.0 w.1) (sym e) (IsUnion-none new (omega arith))
-    | inr e ↦ subst (λ w. IsUnion new w.0 w.1) (sym e) is
+    | inl e ↦ let within = is.within in subst (λ w. IsUnion lists w.0 w.1) (sym e) (IsUnion-none lists (omega arith))
+    | inr e ↦ subst (λ w. IsUnion lists w.0 w.1) (sym e) is
   ]
 ]
 
