@@ -14,7 +14,6 @@ use Rattle.lists.proofs.Keys.{halves_has, halves_rise, parts_has}
 use Rattle.lists.proofs.Halving.{keys_between, has_first, has_last}
 use Rattle.lists.proofs.Merging.{merged_has}
 use Rattle.lists.proofs.Joining.{or_swap}
-use Rattle.lists.proofs.Pairs.{pair_total}
 use Rattle.lists.proofs.Rising.{rising_fewer}
 
 pub none_in : (list : List (ℕ × ℕ)) → list ≡ [] → (z : ℕ × ℕ) → Contains list z → ⊥
@@ -76,7 +75,7 @@ module _ {xs ys below above below' above' : List (ℕ × ℕ)} {c : ℕ} (first 
   -- the unions of their parts
   module _ (lower upper : List (ℕ × ℕ)) (low : Unites lower below below') (high : Unites upper above above') where
     pub united : Unites (lower ++ upper) xs ys
-    united z = either_mixed (halves_has lower upper c z) (low z) (high z) (parts_has xs below above c first z) (parts_has ys below' above' c second z)
+    united z = either_mixed (halves_has lower upper z) (low z) (high z) (parts_has xs below above c first z) (parts_has ys below' above' c second z)
 
     pub united_under : IsUnder lower c
     united_under z d = elim ((low z).0 d) [ inl a ↦ first.under z a | inr b ↦ second.under z b ]
@@ -87,7 +86,7 @@ module _ {xs ys below above below' above' : List (ℕ × ℕ)} {c : ℕ} (first 
   -- the work gets less, since the lists have pairs on both sides of the place if it is the cut of both as one
   on_side : (z : ℕ × ℕ) → Contains (xs ++ ys) z
       → (as_number z < c → 0 < length below + length below') × (c ≤ as_number z → 0 < length above + length above')
-  on_side z d = elim ((halves_has xs ys c z).0 d) [
+  on_side z d = elim ((halves_has xs ys z).0 d) [
     | inl x ↦ elim ((parts_has xs below above c first z).0 x) [
       | inl a ↦ let k = a.1 in let under = first.under z a in (λ low. omega arith, λ high. absurd (omega arith))
       | inr b ↦ let k = b.1 in let over = first.over z b in (λ low. absurd (omega arith), λ high. omega arith)
@@ -101,7 +100,7 @@ module _ {xs ys below above below' above' : List (ℕ × ℕ)} {c : ℕ} (first 
   pub parts_fewer : ((list : List (ℕ × ℕ)) → Unites list xs ys → IsCut list c)
       → (length below + length below' < length xs + length ys) × (length above + length above' < length xs + length ys)
   parts_fewer cuts =
-      let cut = cuts (xs ++ ys) (halves_has xs ys c) in
+      let cut = cuts (xs ++ ys) (halves_has xs ys) in
       let size = ap length first.joined in
       let both = length-append below above in
       let size' = ap length second.joined in
@@ -127,7 +126,7 @@ AreIn-united lists new h {xs} {ys} {below} {above} {below'} {above'} stored grow
     let rises =
     halves_rise (list_at new h.below) (list_at new h.above) h.cut (stored.rise h.below [] low_in) (stored.rise h.above [] upper_in)
     (stored.fit h.below) (stored.fit h.above) under over in
-    let fewer = rising_fewer pair_total ys list rise rises (λ z d. (all z).1 (inr d)) in (
+    let fewer = rising_fewer ys list rise (λ z d. (all z).1 (inr d)) in (
       record {
         below = low_in;
         above = upper_in;
@@ -201,27 +200,27 @@ either_first new one old = search rules
 -- two lists one after the other, to one of which the pairs of a third one are put
 module _ (xs ys more new : List (ℕ × ℕ)) where
   pub unites_first : Unites new xs more → Unites (new ++ ys) (xs ++ ys) more
-  unites_first unites z = either_first (halves_has new ys 0 z) (unites z) (halves_has xs ys 0 z)
+  unites_first unites z = either_first (halves_has new ys z) (unites z) (halves_has xs ys z)
 
   pub unites_second : Unites new ys more → Unites (xs ++ new) (xs ++ ys) more
-  unites_second unites z = either_first (or_swap (halves_has xs new 0 z)) (unites z) (or_swap (halves_has xs ys 0 z))
+  unites_second unites z = either_first (or_swap (halves_has xs new z)) (unites z) (or_swap (halves_has xs ys z))
 
 -- a pair of a list with halves is on its own side of the cut
 module _ (lists : List (List (ℕ × ℕ))) (k : ℕ) (h : Halves) (is : IsHalved lists k h) (z : ℕ × ℕ) where
   pub has_below : as_number z < h.cut → Contains (list_at lists k) z ↔ Contains (list_at lists h.below) z
   has_below low = (
-    λ d. elim ((halves_has (list_at lists h.below) (list_at lists h.above) h.cut z).0 (subst (λ l. Contains l z) is.list d)) [
+    λ d. elim ((halves_has (list_at lists h.below) (list_at lists h.above) z).0 (subst (λ l. Contains l z) is.list d)) [
       | inl a ↦ a
       | inr b ↦ let high = is.halves.over z b in absurd (omega arith)
     ],
-    λ a. subst (λ l. Contains l z) (sym is.list) ((halves_has (list_at lists h.below) (list_at lists h.above) h.cut z).1 (inl a)),
+    λ a. subst (λ l. Contains l z) (sym is.list) ((halves_has (list_at lists h.below) (list_at lists h.above) z).1 (inl a)),
   )
 
   pub has_above : h.cut ≤ as_number z → Contains (list_at lists k) z ↔ Contains (list_at lists h.above) z
   has_above high = (
-    λ d. elim ((halves_has (list_at lists h.below) (list_at lists h.above) h.cut z).0 (subst (λ l. Contains l z) is.list d)) [
+    λ d. elim ((halves_has (list_at lists h.below) (list_at lists h.above) z).0 (subst (λ l. Contains l z) is.list d)) [
       | inl a ↦ let low = is.halves.under z a in absurd (omega arith)
       | inr b ↦ b
     ],
-    λ b. subst (λ l. Contains l z) (sym is.list) ((halves_has (list_at lists h.below) (list_at lists h.above) h.cut z).1 (inr b)),
+    λ b. subst (λ l. Contains l z) (sym is.list) ((halves_has (list_at lists h.below) (list_at lists h.above) z).1 (inr b)),
   )

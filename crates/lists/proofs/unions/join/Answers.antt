@@ -39,7 +39,7 @@ loop-k-preserved-then-branch c =
     let list = list_at c.loop-k.lists (slice_index numbers i) in
     let is : c.append.new.pairs.items ≡ pairs ++ list = c.in_ok-append.ensures ∙ ap (λ b. cond b (pairs ++ list) pairs) c.if-branch.true in
     let unites : Unites (c.append.new.pairs.items ++ union) (pairs ++ union) list =
-    unites_first pairs union list c.append.new.pairs.items (subst (λ l. Unites l pairs list) (sym is) (λ z. halves_has pairs list 0 z)) in
+    unites_first pairs union list c.append.new.pairs.items (subst (λ l. Unites l pairs list) (sym is) (halves_has pairs list)) in
     record {
       unions = before.unions;
       within = before.within;
@@ -91,7 +91,7 @@ returns-clause-exactly c =
     let union = list_at c.loop-k.lists c.loop-k.union in
     let end : c.loop-k.k-index ≡ length c.args.numbers.now = omega arith in
     IfOk-weaker c.with.result _ _ (λ i h z.
-    let halves = halves_has pairs union 0 z in
+    let halves = halves_has pairs union z in
     let list = list_at c.with.new.lists i in
     let all = subst (λ n. Contains (pairs ++ union) z ↔ (Contains c.args.pairs.now.items z ⊎ HasUpTo c.args.lists.now c.args.numbers.now n z)) end (c.loop-k.invariant.joined z) in
     let with_ordered : Contains list z ↔ (Contains c.order_many.new.pairs.items z ⊎ Contains union z) =
