@@ -125,7 +125,7 @@ AreIn-united lists new h {xs} {ys} {below} {above} {below'} {above'} stored grow
     let over = united_over first second _ _ low upper in
     let rises =
     halves_rise (list_at new h.below) (list_at new h.above) h.cut (stored.rise h.below [] low_in) (stored.rise h.above [] upper_in)
-    (stored.fit h.below) (stored.fit h.above) under over in
+    (stored.fit h.below [] low_in) (stored.fit h.above [] upper_in) under over in
     let fewer = rising_fewer ys list rise (λ z d. (all z).1 (inr d)) in (
       record {
         below = low_in;

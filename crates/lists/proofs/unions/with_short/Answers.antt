@@ -1,4 +1,4 @@
-use Rattle.std.proofs.Common.{◌≡◌, ◌∙◌, ◌++◌, Contains, sym, subst, inl, inr}
+use Rattle.std.proofs.Common.{◌≡◌, ◌∙◌, ◌++◌, [], Contains, sym, subst, inl, inr}
 use Rattle.std.specs.List.Sorted.{IsStrictlySortedBy}
 use Rattle.std.proofs.lemmas.Result.{IfOk-weaker}
 use Rattle.lists.specs.Lists.{pair_cmp, list_at, merged}
@@ -20,7 +20,7 @@ pub list_of-requires-2-clause-fit : goal.list_of-requires-2-clause-fit
 list_of-requires-2-clause-fit c = λ z d.
     elim ((merged_has z (list_at c.args.lists.now c.args.k) c.args.pairs.now).0
     (subst (λ l. Contains l z) (both_are ((goal.at.list_of-requires-2-clause-fit c).After-deref)) d)) [
-      | inl a ↦ c.known.ensures.stored.fit c.args.k z a
+      | inl a ↦ c.known.ensures.stored.fit c.args.k [] c.requires.list z a
       | inr b ↦ c.requires.fit z b
     ]
 
