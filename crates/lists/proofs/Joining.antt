@@ -1,5 +1,5 @@
 -- Unions of several lists in turn, and unions that stay so as lists grow.
-use Rattle.std.proofs.Common.{◌≡◌, ◌∙◌, ◌⊎◌, ◌↔◌, ℕ, ◌+◌, ◌<◌, List, [], length, slice_index, Contains, sym, subst, refl, inl, inr, arith, rules}
+use Rattle.std.proofs.Common.{◌≡◌, ◌∙◌, ◌⊎◌, ◌↔◌, ℕ, ◌+◌, ◌<◌, List, length, slice_index, Contains, sym, subst, refl, inl, inr, arith, rules}
 use Rattle.std.proofs.lemmas.Bool.{cases_eq}
 use Rattle.lists.specs.Lists.{list_at, Grow}
 use Rattle.lists.specs.Unions.{Unites, IsUnion, AreUnions}

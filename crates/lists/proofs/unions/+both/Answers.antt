@@ -1,9 +1,9 @@
-use Rattle.std.proofs.Common.{◌≡◌, ◌++◌, ℕ, length, ap, sym, subst, arith}
+use Rattle.std.proofs.Common.{◌++◌, ℕ, length, ap, sym, subst, arith}
 use Rattle.std.proofs.lemmas.Result.{IfOk-weaker}
 use Rattle.lists.specs.declared.nodes.Halves.{Halves}
 use Rattle.lists.specs.Lists.{list_at, Grow}
 use Rattle.lists.specs.Nodes.{AreIn}
-use Rattle.lists.specs.Unions.{Unites, AreUnions}
+use Rattle.lists.specs.Unions.{Unites}
 use Rattle.lists.proofs.Uniting.{parts_fewer, halved_long, AreIn-united}
 use Rattle.lists.proofs.Joining.{AreUnions-grow, Grow-twice, or_swap}
 use Rattle.lists.proofs.Noting.{unites_back, unites_forth}

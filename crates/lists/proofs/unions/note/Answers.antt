@@ -1,6 +1,3 @@
-use Rattle.std.proofs.Common.{subst}
-use Rattle.lists.specs.Known.{IsNone}
-use Rattle.lists.specs.Unions.{IsUnion}
 use Rattle.lists.proofs.Noting.{AreUnions-note, IsUnion-in_order}
 use Rattle.lists.proofs.unions.note.Goals as goal
 

@@ -1,4 +1,3 @@
-use Rattle.lists.specs.Unions.{IsUnion}
 use Rattle.lists.proofs.Noting.{if_some, IsUnion-in_order}
 use Rattle.lists.proofs.unions.noted.Goals as goal
 

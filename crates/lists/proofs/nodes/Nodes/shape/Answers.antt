@@ -2,7 +2,7 @@ use Rattle.std.proofs.Common.{◌≡◌, ◌∙◌, ◌<◌, ◌+◌, length, ap
 use Rattle.std.specs.List.{slice_range}
 use Rattle.std.proofs.lemmas.List.{get_or_read}
 use Rattle.lists.specs.declared.nodes.Node.{Node}
-use Rattle.lists.specs.declared.nodes.Node.TheVariants.{Whole, Halved}
+use Rattle.lists.specs.declared.nodes.Node.TheVariants.{Whole}
 use Rattle.lists.specs.Lists.{list_at}
 use Rattle.lists.specs.Nodes.{node_at, kept_lists, IsHalved, IsKept}
 use Rattle.lists.proofs.Storing.{length-lists, list_whole}
