@@ -205,22 +205,19 @@ module _ (xs ys more new : List (ℕ × ℕ)) where
   pub unites_second : Unites new ys more → Unites (xs ++ new) (xs ++ ys) more
   unites_second unites z = either_first (or_swap (halves_has xs new z)) (unites z) (or_swap (halves_has xs ys z))
 
+pub only_first : {L B A : Type 0} → L ↔ (B ⊎ A) → (A → ⊥) → L ↔ B
+only_first either none = search rules
+
+pub only_second : {L B A : Type 0} → L ↔ (B ⊎ A) → (B → ⊥) → L ↔ A
+only_second either none = search rules
+
 -- a pair of a list with halves is on its own side of the cut
 module _ (lists : List (List (ℕ × ℕ))) (k : ℕ) (h : Halves) (is : IsHalved lists k h) (z : ℕ × ℕ) where
+  in_halves : Contains (list_at lists k) z ↔ (Contains (list_at lists h.below) z ⊎ Contains (list_at lists h.above) z)
+  in_halves = parts_has _ _ _ h.cut (record { joined = is.list; under = is.halves.under; over = is.halves.over }) z
+
   pub has_below : as_number z < h.cut → Contains (list_at lists k) z ↔ Contains (list_at lists h.below) z
-  has_below low = (
-    λ d. elim ((halves_has (list_at lists h.below) (list_at lists h.above) z).0 (subst (λ l. Contains l z) is.list d)) [
-      | inl a ↦ a
-      | inr b ↦ let high = is.halves.over z b in absurd (omega arith)
-    ],
-    λ a. subst (λ l. Contains l z) (sym is.list) ((halves_has (list_at lists h.below) (list_at lists h.above) z).1 (inl a)),
-  )
+  has_below low = only_first in_halves (λ a. let high = is.halves.over z a in absurd (omega arith))
 
   pub has_above : h.cut ≤ as_number z → Contains (list_at lists k) z ↔ Contains (list_at lists h.above) z
-  has_above high = (
-    λ d. elim ((halves_has (list_at lists h.below) (list_at lists h.above) z).0 (subst (λ l. Contains l z) is.list d)) [
-      | inl a ↦ let low = is.halves.under z a in absurd (omega arith)
-      | inr b ↦ b
-    ],
-    λ b. subst (λ l. Contains l z) (sym is.list) ((halves_has (list_at lists h.below) (list_at lists h.above) z).1 (inr b)),
-  )
+  has_above high = only_second in_halves (λ b. let low = is.halves.under z b in absurd (omega arith))
