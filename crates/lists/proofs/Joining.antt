@@ -7,6 +7,19 @@ use Rattle.lists.specs.Unions.{Unites, IsUnion, AreUnions}
 pub or_swap : {A B C : Type 0} → A ↔ (B ⊎ C) → A ↔ (C ⊎ B)
 or_swap f = search rules
 
+-- what holds of one of the first numbers, and of one number more
+pub up_to_more : (P : ℕ → Type 0) (i : ℕ) → (((j : ℕ) × (j < i) × P j) ⊎ P i) ↔ ((j : ℕ) × (j < i + 1) × P j)
+up_to_more P i = (
+  λ o. elim o [ inl h ↦ let (j, low, p) = h in (j, omega (arith, low), p) | inr p ↦ (i, omega arith, p) ],
+  λ h. let (j, low, p) = h in elim (cases_eq j i) [ inl e ↦ inr (subst P e p) | inr d ↦ inl (j, omega (arith, low, d), p) ],
+)
+
+pub either_more : {N M I H E K : Type 0} → N ↔ (M ⊎ E) → M ↔ (I ⊎ H) → (H ⊎ E) ↔ K → N ↔ (I ⊎ K)
+either_more new old more = search rules
+
+pub either_end : {M I H K : Type 0} → M ↔ (I ⊎ H) → H ↔ K → M ↔ (I ⊎ K)
+either_end old all = search rules
+
 -- the pair is in one of the lists of the first i of these numbers
 abbrev pub HasUpTo : List (List (ℕ × ℕ)) → List ℕ → ℕ → ℕ × ℕ → Type 0
 HasUpTo lists numbers i z = (j : ℕ) × (j < i) × Contains (list_at lists (slice_index numbers j)) z
@@ -21,22 +34,8 @@ module _ (lists : List (List (ℕ × ℕ))) (numbers : List ℕ) where
 
   pub with_more : (i : ℕ) (pairs old new : List (ℕ × ℕ)) → ((z : ℕ × ℕ) → Contains old z ↔ (Contains pairs z ⊎ HasUpTo lists numbers i z))
       → Unites new old (list_at lists (slice_index numbers i)) → (z : ℕ × ℕ) → Contains new z ↔ (Contains pairs z ⊎ HasUpTo lists numbers (i + 1) z)
-  with_more i pairs old new before both z = (
-    λ c. elim ((both z).0 c) [
-      | inl o ↦ elim ((before z).0 o) [
-        | inl p ↦ inl p
-        | inr h ↦ let (j, low, has) = h in inr (j, omega (arith, low), has)
-      ]
-      | inr m ↦ inr (i, omega arith, m)
-    ],
-    λ o. elim o [
-      | inl p ↦ (both z).1 (inl ((before z).1 (inl p)))
-      | inr h ↦ let (j, low, has) = h in (both z).1 (elim (cases_eq j i) [
-        | inl e ↦ inr (subst (λ x. Contains (list_at lists (slice_index numbers x)) z) e has)
-        | inr d ↦ inl ((before z).1 (inr (j, omega (arith, low, d), has)))
-      ])
-    ],
-  )
+  with_more i pairs old new before both z =
+      either_more (both z) (before z) (up_to_more (λ j. Contains (list_at lists (slice_index numbers j)) z) i)
 
 -- lists that grow twice
 pub Grow-same : (lists : List (List (ℕ × ℕ))) → Grow lists lists
