@@ -67,7 +67,8 @@ fn split(k: u32, halves: Halves, cut: u64) -> (u32, u32)
     (halves.below, halves.above)
 }
 
-/// Two lists in two at one place, where a list that has the pairs of both is cut: their parts below it, and those from it on.
+/// Two lists in two at one place, where a list that has the pairs of both is cut: their parts below it, and those from
+/// it on.
 #[derive(Clone, Copy)]
 struct Pieces<T> {
     cut: u64,
@@ -265,8 +266,8 @@ pub(crate) fn both(
     Ok(i)
 }
 
-/// Appends the list number `k` to `pairs` if it is one of many and kept whole, and returns whether it did: so no list is made of
-/// what some of many short lists have together.
+/// Appends the list number `k` to `pairs` if it is one of many and kept whole, and returns whether it did: so no list is
+/// made of what some of many short lists have together.
 ///
 /// Fails if there is no memory for it.
 fn append(lists: &Distinct, k: u32, many: bool, pairs: &mut Vec<(u32, u32)>) -> Result<bool, Memory>
@@ -285,8 +286,8 @@ fn append(lists: &Distinct, k: u32, many: bool, pairs: &mut Vec<(u32, u32)>) -> 
     }
 }
 
-/// The number of the list that has the pairs of these lists and these pairs, which may be in any order, and no other one. Lists are
-/// united one after the other; of many the short ones are put in order with the pairs.
+/// The number of the list that has the pairs of these lists and these pairs, which may be in any order, and no other one.
+/// Lists are united one after the other; of many the short ones are put in order with the pairs.
 ///
 /// Fails if there is no memory for it. The lists that there were are as they were.
 pub(crate) fn join(
