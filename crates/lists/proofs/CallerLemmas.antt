@@ -1,4 +1,3 @@
 -- What proofs of other crates cite of this one: they name no other file of it.
-pub use Rattle.lists.proofs.Chains.{IsChained-push}
-pub use Rattle.lists.proofs.Pairs.{pair_total}
+pub use Rattle.lists.proofs.Chains.{AreChained-none, AreChained-push, IsSought, IsSought-first, IsSought-next}
 pub use Rattle.lists.proofs.Rising.{rising_unique}

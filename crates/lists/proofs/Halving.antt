@@ -10,8 +10,7 @@ use Rattle.lists.specs.Cuts.{as_number, Fit, IsPlace, IsCut, IsParted}
 use Rattle.lists.specs.Nodes.{AreHalves, AreIn}
 use Rattle.lists.proofs.Cuts.{alike_within}
 use Rattle.lists.proofs.Keys.{rising_keys, key_from_less}
-use Rattle.lists.proofs.Pairs.{pair_total}
-use Rattle.lists.proofs.Rising.{rising_before}
+use Rattle.std.proofs.lemmas.Map.Keys.{Less-from_sorted}
 
 -- the first and the last pair of some
 module _ (list : List (ℕ × ℕ)) (rise : IsStrictlySortedBy pair_cmp list) (fit : Fit list) (some : 0 < length list) (low high : ℕ)
@@ -38,7 +37,7 @@ module _ (list : List (ℕ × ℕ)) (rise : IsStrictlySortedBy pair_cmp list) (f
   first_before_last many =
       let key =
       key_from_less (get_or list 0 (0, 0)) (get_or list (length list - 1) (0, 0)) (fit _ has_first) (fit _ has_last)
-      (rising_before pair_total list rise 0 (length list - 1) (0, 0) (omega arith) (omega arith)) in
+      (Less-from_sorted pair_cmp list 0 (length list - 1) (0, 0) rise (omega arith) (omega arith)) in
       omega arith
 
   pub IsCut-place : (bit c : ℕ) → IsPlace bit low high c → IsCut list c

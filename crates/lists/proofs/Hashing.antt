@@ -1,13 +1,13 @@
 -- One list more in the table: it begins the chain of its bucket.
-use Rattle.std.proofs.Common.{◌≡◌, ◌∙◌, ℕ, ◌+◌, ◌<◌, List, [], ◌∷◌, ◌++◌, length, get_or, set, ap, sym, subst, inl, inr, arith}
+use Rattle.std.proofs.Common.{◌≡◌, ◌∙◌, ℕ, ◌<◌, List, [], ◌∷◌, ◌++◌, length, get_or, set, ap, sym, subst, inl, inr, arith}
 use Rattle.std.proofs.lemmas.Bool.{cases_lt, cases_eq}
 use Rattle.std.proofs.lemmas.List.{length-set, length_push, get_or_append_left, get_or_push}
 use Rattle.lists.specs.declared.hashed.Entry.{Entry}
 use Rattle.lists.specs.Lists.{list_at}
-use Rattle.lists.specs.Hashed.{IsTag, bucket_of_tag, entry_bucket, entry_before, entry_at, IsChained, IsHashed, IsNewList}
+use Rattle.lists.specs.Hashed.{IsTag, bucket_of_tag, entry_at, IsHashed, IsNewList}
 use Rattle.lists.proofs.Storing.{list-old, list-new}
 use Rattle.lists.proofs.Tags.{IsTag-old}
-use Rattle.lists.proofs.Chains.{IsChained-push}
+use Rattle.lists.proofs.Chains.{AreChained, AreChained-push}
 
 -- entries with one more at the end
 module _ (entries : List Entry) (new : Entry) where
@@ -22,20 +22,6 @@ module _ (lists : List (List (ℕ × ℕ))) (heads : List ℕ) (entries : List E
     (is : IsHashed lists heads entries) (some : 0 < length lists) (first : list_at lists 0 ≡ list → ⊥) (absent : IsNewList lists list)
     (tag : IsTag (lists ++ list ∷ []) (length lists) new.tag) (at_b : b ≡ bucket_of_tag (length heads) new.tag) (below : b < length heads)
     (before : new.before ≡ get_or heads b 0) where
-  IsChained-new : IsChained (length lists + 1) (entry_bucket (entries ++ new ∷ []) (set heads b (length lists))) (entry_before (entries ++ new ∷ []))
-      (set heads b (length lists))
-  IsChained-new =
-      let size = length-set heads b (length lists) in
-      let count = is.size in
-      IsChained-push (length lists) (entry_bucket entries heads) (entry_before entries)
-      (entry_bucket (entries ++ new ∷ []) (set heads b (length lists))) (entry_before (entries ++ new ∷ [])) heads b is.chained some below
-      (λ r h. ap (λ n. bucket_of_tag n (entry_at (entries ++ new ∷ []) r).tag) size
-      ∙ ap (λ x. bucket_of_tag (length heads) x.tag) (entry-old entries new r (omega arith)))
-      (λ r h. ap (λ x. x.before) (entry-old entries new r (omega arith)))
-      (ap (λ n. bucket_of_tag n (entry_at (entries ++ new ∷ []) (length lists)).tag) size
-      ∙ ap (λ x. bucket_of_tag (length heads) x.tag) (entry-new entries new (length lists) (sym count)) ∙ sym at_b)
-      (ap (λ x. x.before) (entry-new entries new (length lists) (sym count)) ∙ before)
-
   tags-push : (r : ℕ) → 0 < r → r < length (lists ++ list ∷ []) → IsTag (lists ++ list ∷ []) r (entry_at (entries ++ new ∷ []) r).tag
   tags-push r p h =
       let longer = length_push lists list in
@@ -86,6 +72,7 @@ module _ (lists : List (List (ℕ × ℕ))) (heads : List ℕ) (entries : List E
         tags = tags-push;
         different = different-push;
         chained =
-            subst (λ n. IsChained n (entry_bucket (entries ++ new ∷ []) (set heads b (length lists))) (entry_before (entries ++ new ∷ []))
-            (set heads b (length lists))) (sym longer) IsChained-new;
+            subst (λ n. AreChained (record { tag = 0; before = 0 }) (λ n x. bucket_of_tag n x.tag) (λ x. x.before) (entries ++ new ∷ []) (set heads b n)) count
+            (AreChained-push (record { tag = 0; before = 0 }) (λ n x. bucket_of_tag n x.tag) (λ x. x.before) entries heads new b is.chained (omega arith) below
+            at_b before);
       }

@@ -1,14 +1,24 @@
 -- Unions of several lists in turn, and unions that stay so as lists grow.
-use Rattle.std.proofs.Common.{◌≡◌, ◌∙◌, ◌⊎◌, ◌↔◌, ℕ, ◌+◌, ◌<◌, List, [], length, slice_index, Contains, sym, subst, refl, inl, inr, arith}
+use Rattle.std.proofs.Common.{◌≡◌, ◌∙◌, ◌⊎◌, ◌↔◌, ℕ, ◌+◌, ◌<◌, List, length, slice_index, Contains, sym, subst, refl, inl, inr, arith, rules}
 use Rattle.std.proofs.lemmas.Bool.{cases_eq}
 use Rattle.lists.specs.Lists.{list_at, Grow}
 use Rattle.lists.specs.Unions.{Unites, IsUnion, AreUnions}
 
 pub or_swap : {A B C : Type 0} → A ↔ (B ⊎ C) → A ↔ (C ⊎ B)
-or_swap f = (
-  λ a. elim (f.0 a) [ inl b ↦ inr b | inr c ↦ inl c ],
-  λ o. f.1 (elim o [ inl c ↦ inr c | inr b ↦ inl b ]),
+or_swap f = search rules
+
+-- what holds of one of the first numbers, and of one number more
+pub up_to_more : (P : ℕ → Type 0) (i : ℕ) → (((j : ℕ) × (j < i) × P j) ⊎ P i) ↔ ((j : ℕ) × (j < i + 1) × P j)
+up_to_more P i = (
+  λ o. elim o [ inl h ↦ let (j, low, p) = h in (j, omega (arith, low), p) | inr p ↦ (i, omega arith, p) ],
+  λ h. let (j, low, p) = h in elim (cases_eq j i) [ inl e ↦ inr (subst P e p) | inr d ↦ inl (j, omega (arith, low, d), p) ],
 )
+
+pub either_more : {N M I H E K : Type 0} → N ↔ (M ⊎ E) → M ↔ (I ⊎ H) → (H ⊎ E) ↔ K → N ↔ (I ⊎ K)
+either_more new old more = search rules
+
+pub either_end : {M I H K : Type 0} → M ↔ (I ⊎ H) → H ↔ K → M ↔ (I ⊎ K)
+either_end old all = search rules
 
 -- the pair is in one of the lists of the first i of these numbers
 abbrev pub HasUpTo : List (List (ℕ × ℕ)) → List ℕ → ℕ → ℕ × ℕ → Type 0
@@ -16,26 +26,6 @@ HasUpTo lists numbers i z = (j : ℕ) × (j < i) × Contains (list_at lists (sli
 
 -- one list more is united with those up to it
 module _ (lists : List (List (ℕ × ℕ))) (numbers : List ℕ) where
-  pub up_to_none : (list : List (ℕ × ℕ)) → list ≡ [] → (z : ℕ × ℕ) → Contains list z ↔ HasUpTo lists numbers 0 z
-  up_to_none list e z = (
-    λ c. let d = subst (λ l. Contains l z) e c in absurd (omega (arith, d.1)),
-    λ h. absurd (omega (arith, h.1)),
-  )
-
-  pub up_to_more : (i : ℕ) (old new : List (ℕ × ℕ)) → ((z : ℕ × ℕ) → Contains old z ↔ HasUpTo lists numbers i z)
-      → Unites new old (list_at lists (slice_index numbers i)) → (z : ℕ × ℕ) → Contains new z ↔ HasUpTo lists numbers (i + 1) z
-  up_to_more i old new before both z = (
-    λ c. elim ((both z).0 c) [
-      | inl o ↦ let (j, low, has) = (before z).0 o in (j, omega (arith, low), has)
-      | inr m ↦ (i, omega arith, m)
-    ],
-    λ h. let (j, low, has) = h in (both z).1 (elim (cases_eq j i) [
-      | inl e ↦ inr (subst (λ x. Contains (list_at lists (slice_index numbers x)) z) e has)
-      | inr d ↦ inl ((before z).1 (j, omega (arith, low, d), has))
-    ]),
-  )
-
-  -- the same beside pairs
   pub with_none : (pairs list : List (ℕ × ℕ)) → list ≡ pairs → (z : ℕ × ℕ) → Contains list z ↔ (Contains pairs z ⊎ HasUpTo lists numbers 0 z)
   with_none pairs list e z = (
     λ c. inl (subst (λ l. Contains l z) e c),
@@ -44,22 +34,8 @@ module _ (lists : List (List (ℕ × ℕ))) (numbers : List ℕ) where
 
   pub with_more : (i : ℕ) (pairs old new : List (ℕ × ℕ)) → ((z : ℕ × ℕ) → Contains old z ↔ (Contains pairs z ⊎ HasUpTo lists numbers i z))
       → Unites new old (list_at lists (slice_index numbers i)) → (z : ℕ × ℕ) → Contains new z ↔ (Contains pairs z ⊎ HasUpTo lists numbers (i + 1) z)
-  with_more i pairs old new before both z = (
-    λ c. elim ((both z).0 c) [
-      | inl o ↦ elim ((before z).0 o) [
-        | inl p ↦ inl p
-        | inr h ↦ let (j, low, has) = h in inr (j, omega (arith, low), has)
-      ]
-      | inr m ↦ inr (i, omega arith, m)
-    ],
-    λ o. elim o [
-      | inl p ↦ (both z).1 (inl ((before z).1 (inl p)))
-      | inr h ↦ let (j, low, has) = h in (both z).1 (elim (cases_eq j i) [
-        | inl e ↦ inr (subst (λ x. Contains (list_at lists (slice_index numbers x)) z) e has)
-        | inr d ↦ inl ((before z).1 (inr (j, omega (arith, low, d), has)))
-      ])
-    ],
-  )
+  with_more i pairs old new before both z =
+      either_more (both z) (before z) (up_to_more (λ j. Contains (list_at lists (slice_index numbers j)) z) i)
 
 -- lists that grow twice
 pub Grow-same : (lists : List (List (ℕ × ℕ))) → Grow lists lists
@@ -73,17 +49,11 @@ Grow-twice first second =
       same = λ k h. second.same k (omega arith) ∙ first.same k h;
     }
 
-pub or_right : {A B C : Type 0} → B ↔ C → (A ⊎ B) ↔ (A ⊎ C)
-or_right f = (λ o. elim o [ inl a ↦ inl a | inr b ↦ inr (f.0 b) ], λ o. elim o [ inl a ↦ inl a | inr c ↦ inr (f.1 c) ])
-
 pub same_as : {A B C : Type 0} → A ↔ B → B ↔ C → A ↔ C
-same_as f g = (λ a. g.0 (f.0 a), λ c. f.1 (g.1 c))
+same_as f g = search rules
 
 pub either_same : {A B C : Type 0} → A ↔ B → (A ⊎ C) ↔ (B ⊎ C)
-either_same f = (
-  λ o. elim o [ inl a ↦ inl (f.0 a) | inr c ↦ inr c ],
-  λ o. elim o [ inl b ↦ inl (f.1 b) | inr c ↦ inr c ],
-)
+either_same f = search rules
 
 -- unions stay so as the lists grow
 module _ {old new : List (List (ℕ × ℕ))} (grow : Grow old new) where

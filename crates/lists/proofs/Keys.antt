@@ -11,8 +11,8 @@ use Rattle.std.proofs.lemmas.Bool.Decides.{Decides-ltb, not_from_Decides}
 use Rattle.lists.specs.Cuts.{as_number, Fit, IsUnder, IsOver, IsCut, IsParted}
 use Rattle.lists.specs.Lists.{pair_cmp}
 use Rattle.lists.proofs.Pairs.{pair_total}
-use Rattle.lists.proofs.Rising.{not_both, here, there, rising_cons, rising_first, rising_unique, rising_before, rising_none}
-use Rattle.std.proofs.lemmas.Map.Keys.{sorted_tail}
+use Rattle.lists.proofs.Rising.{not_both, here, there, rising_cons, rising_first, rising_unique, rising_none}
+use Rattle.std.proofs.lemmas.Map.Keys.{sorted_tail, Less-from_sorted}
 
 module _ (x y : ℕ × ℕ) (small : x.1 < 2 ^ 32) (fits : y.1 < 2 ^ 32) where
   pub less_from_key : as_number x < as_number y → pair_cmp x y ≡ Less
@@ -40,14 +40,13 @@ key_from_less x y small fits h = elim (cases_lt (as_number x) (as_number y)) [
   ]
 ]
 
--- what rises below a place and from it on
-module _ (below above : List (ℕ × ℕ)) (c : ℕ) where
-  pub halves_has : (z : ℕ × ℕ) → Contains (below ++ above) z ↔ (Contains below z ⊎ Contains above z)
-  halves_has z = (
-    Contains-append_cases below above z,
-    λ s. elim s [ inl a ↦ Contains-append_left below above z a | inr b ↦ Contains-append_right below above z b ],
-  )
+pub halves_has : (below above : List (ℕ × ℕ)) (z : ℕ × ℕ) → Contains (below ++ above) z ↔ (Contains below z ⊎ Contains above z)
+halves_has below above z = (
+  Contains-append_cases below above z,
+  λ s. elim s [ inl a ↦ Contains-append_left below above z a | inr b ↦ Contains-append_right below above z b ],
+)
 
+-- what rises below a place and from it on
 pub halves_rise : (below above : List (ℕ × ℕ)) (c : ℕ) → IsStrictlySortedBy pair_cmp below → IsStrictlySortedBy pair_cmp above
     → Fit below → Fit above
     → IsUnder below c → IsOver above c → IsStrictlySortedBy pair_cmp (below ++ above)
@@ -81,11 +80,11 @@ module _ (list below above below' above' : List (ℕ × ℕ)) (c : ℕ) (is : li
 module _ (list below above below' above' : List (ℕ × ℕ)) (c : ℕ) (is : list ≡ below ++ above) (is' : list ≡ below' ++ above')
     (under : IsUnder below c) (over : IsOver above c) (under' : IsUnder below' c) (over' : IsOver above' c) where
   pub same_below : IsStrictlySortedBy pair_cmp below → IsStrictlySortedBy pair_cmp below' → below ≡ below'
-  same_below rise rise' = rising_unique pair_total below below' rise rise'
+  same_below rise rise' = rising_unique below below' rise rise'
       (λ z. (lower list below above below' above' c is is' under over under' over' z, lower list below' above' below above c is' is under' over' under over z))
 
   pub same_above : IsStrictlySortedBy pair_cmp above → IsStrictlySortedBy pair_cmp above' → above ≡ above'
-  same_above rise rise' = rising_unique pair_total above above' rise rise'
+  same_above rise rise' = rising_unique above above' rise rise'
       (λ z. (upper list below above below' above' c is is' under over under' over' z, upper list below' above' below above c is' is under' over' under over z))
 
 -- keys rise with the pairs
@@ -94,7 +93,7 @@ rising_keys list rise fit i j d low high = elim (cases_lt i j) [
   | inl less ↦
       let first = Contains-get_or list i d (omega arith) in
       let second = Contains-get_or list j d high in
-      let key = key_from_less (get_or list i d) (get_or list j d) (fit _ first) (fit _ second) (rising_before pair_total list rise i j d less high) in
+      let key = key_from_less (get_or list i d) (get_or list j d) (fit _ first) (fit _ second) (Less-from_sorted pair_cmp list i j d rise less high) in
       omega arith
   | inr more ↦ let e : i ≡ j = omega arith in let same = ap (λ n. as_number (get_or list n d)) e in omega arith
 ]
@@ -144,7 +143,7 @@ module _ (list below above : List (ℕ × ℕ)) (c : ℕ) (parted : IsParted lis
       (λ z d. both z (Contains-append_left below above z d), λ z d. both z (Contains-append_right below above z d))
 
   pub parts_has : (z : ℕ × ℕ) → Contains list z ↔ (Contains below z ⊎ Contains above z)
-  parts_has z = subst (λ l. Contains l z ↔ (Contains below z ⊎ Contains above z)) (sym parted.joined) (halves_has below above c z)
+  parts_has z = subst (λ l. Contains l z ↔ (Contains below z ⊎ Contains above z)) (sym parted.joined) (halves_has below above z)
 
   -- neither part is all of it if there are pairs on both sides
   pub parts_shorter : IsCut list c → (length below < length list) × (length above < length list)

@@ -11,7 +11,6 @@ pub mod Tags
 pub mod Chains
 pub mod Rechaining
 pub mod Hashing
-pub mod Searching
 pub mod Halving
 pub mod Uniting
 pub mod Joining

@@ -1,8 +1,8 @@
 -- The lists of spans: the empty one alone, and one list more at the end of the buffer.
-use Rattle.std.proofs.Common.{◌≡◌, ◌∙◌, ℕ, ◌+◌, ◌-◌, ◌<◌, ◌≤◌, List, [], ◌∷◌, ◌++◌, length, take, ap, refl, sym, subst, arith}
+use Rattle.std.proofs.Common.{◌≡◌, ◌∙◌, ℕ, ◌+◌, ◌<◌, List, [], ◌∷◌, ◌++◌, length, take, ap, refl, sym, subst, arith}
 use Rattle.std.specs.List.{All, slice_range}
 use Rattle.std.specs.List.Sorted.{IsStrictlySortedBy}
-use Rattle.std.proofs.lemmas.List.{length-append, map-append, get_or_append_left, take_all, drop_all}
+use Rattle.std.proofs.lemmas.List.{length-append, map-append, get_or_append_left}
 use Rattle.std.proofs.lemmas.List.Elements.{All-head, All-tail, All-append, All-weaker}
 use Rattle.lists.specs.declared.span.Span.{Span}
 use Rattle.lists.specs.declared.nodes.TheConstants.{MOST_LISTS}
@@ -11,9 +11,6 @@ use Rattle.lists.specs.Lists.{pair_cmp}
 use Rattle.lists.proofs.Rising.{rising_none}
 use Rattle.lists.proofs.Storing.{All-only}
 use Rattle.lists.proofs.Spans.{slice_range-append, slice_range-last}
-
-list_in-nil : (x : Span) → list_in [] x ≡ []
-list_in-nil x = ap (take (x.end - x.start)) (drop_all {X = ℕ × ℕ} x.start [] (omega arith)) ∙ take_all {A = ℕ × ℕ} (x.end - x.start) [] (omega arith)
 
 -- the span of no pairs alone
 pub AreSpans-first : AreSpans [] (no_pairs ∷ [])
@@ -24,20 +21,10 @@ AreSpans-first = record {
   first = refl;
 }
 
--- of no pairs, the first span alone has the empty list alone
-pub lists_of-cleared : (spans : List Span) → 1 ≤ length spans → lists_of [] (take 1 spans) ≡ [] ∷ []
-lists_of-cleared [] some = absurd (omega arith)
-lists_of-cleared (x ∷ xs) some = ap (λ l. l ∷ []) (list_in-nil x)
-
-pub AreSpans-cleared : (pairs : List (ℕ × ℕ)) (spans : List Span) → AreSpans pairs spans → AreSpans [] (take 1 spans)
-AreSpans-cleared pairs [] are = absurd (let some = are.some in omega arith)
-AreSpans-cleared pairs (x ∷ xs) are = record {
-  each = All-only (IsSpan []) x
-      (subst (IsSpan []) (sym are.first) (record { forward = omega arith; within = omega arith; rising = rising_none pair_cmp }));
-  some = omega arith;
-  few = omega arith;
-  first = are.first;
-}
+-- the first span is that of no pairs
+pub spans-cleared : (pairs : List (ℕ × ℕ)) (spans : List Span) → AreSpans pairs spans → take 1 spans ≡ no_pairs ∷ []
+spans-cleared pairs [] are = absurd (let some = are.some in omega arith)
+spans-cleared pairs (x ∷ xs) are = ap (λ x. x ∷ []) are.first
 
 -- more pairs at the end of the buffer change no list
 module _ (pairs more : List (ℕ × ℕ)) where

@@ -1,28 +1,24 @@
 -- Unions at their places: none at all, one that is noted, and what they are of.
-use Rattle.std.proofs.Common.{◌≡◌, ◌∙◌, ◌⊎◌, ℕ, zero, suc, ◌<◌, List, [], ◌∷◌, ◌++◌, length, map, set, take, replicate, min, max, Contains, ap, sym, subst, refl, Option, Some, None, inl, inr, arith}
+use Rattle.std.proofs.Common.{◌≡◌, ◌∙◌, ◌⊎◌, ◌↔◌, ℕ, ◌<◌, List, [], ◌++◌, length, get_or, map, set, take, replicate, min, max, Contains, ap, sym, subst, refl, Option, Some, None, inl, inr, arith}
 use Rattle.std.specs.List.{All}
 use Rattle.std.specs.Option.{IfSome}
-use Rattle.std.proofs.lemmas.Bool.{cases_lt}
-use Rattle.std.proofs.lemmas.List.{take_all}
-use Rattle.std.proofs.lemmas.List.Elements.{All-contains}
+use Rattle.std.proofs.lemmas.Bool.{cases_eq, cases_lt}
+use Rattle.std.proofs.lemmas.List.{take_all, map-set, length-set, get_or-set_same, get_or-set_other}
+use Rattle.std.proofs.lemmas.List.Elements.{All-contains, All-map, All-replicate}
 use Rattle.lists.specs.declared.known.Union.{Union}
 use Rattle.lists.specs.Lists.{list_at, Grow}
 use Rattle.lists.specs.Known.{noted_union, IsNone, no_entry}
 use Rattle.lists.specs.Unions.{Unites, IsUnion, AreUnions}
-use Rattle.lists.proofs.Rising.{here, there, here_or_there}
-use Rattle.lists.proofs.Joining.{AreUnions-grow, or_swap}
+use Rattle.lists.proofs.Joining.{or_swap}
 
 pub if_some : (o : Option ℕ) (P Q : ℕ → Type 0) → ((i : ℕ) → P i → Q i) → IfSome o P → IfSome o Q
 if_some None P Q f h = h
 if_some (Some i) P Q f h = f i h
 
-pub all_none : (n : ℕ) → All IsNone (map noted_union (replicate n no_entry))
-all_none zero k d h = absurd (omega arith)
-all_none (suc n) zero d h = refl
-all_none (suc n) (suc k) d h = all_none n k d (omega arith)
-
 pub none_noted : (unions : List Union) (n : ℕ) → unions ≡ replicate n no_entry → All IsNone (map noted_union unions)
-none_noted unions n e = subst (λ us. All IsNone (map noted_union us)) (sym e) (all_none n)
+none_noted unions n e =
+    subst (λ us. All IsNone (map noted_union us)) (sym e)
+    (All-map IsNone noted_union (replicate n no_entry) (All-replicate (λ u. IsNone (noted_union u)) n no_entry refl))
 
 pub none_first : (unions taken : List Union) (n : ℕ) (u : Union) → unions ≡ take 1024 taken ++ replicate n u → taken ≡ [] → u ≡ no_entry
     → All IsNone (map noted_union unions)
@@ -36,18 +32,14 @@ none_contained unions n e z d = All-contains IsNone (map noted_union unions) z (
 -- one place is written
 pub written : (unions : List Union) (p : ℕ) (u : Union) (z : (ℕ × ℕ) × ℕ) → Contains (map noted_union (set unions p u)) z
     → Contains (map noted_union unions) z ⊎ (z ≡ noted_union u)
-written [] p u z d = let low = d.1 in absurd (omega arith)
-written (x ∷ xs) zero u z d = elim (here_or_there (noted_union u) (map noted_union xs) z d) [
-  | inl e ↦ inr (sym e)
-  | inr o ↦ inl (there (noted_union x) (map noted_union xs) z o)
-]
-written (x ∷ xs) (suc p) u z d = elim (here_or_there (noted_union x) (map noted_union (set xs p u)) z d) [
-  | inl e ↦ inl (subst (Contains (map noted_union (x ∷ xs))) e (here (noted_union x) (map noted_union xs)))
-  | inr o ↦ elim (written xs p u z o) [
-    | inl a ↦ inl (there (noted_union x) (map noted_union xs) z a)
-    | inr b ↦ inr b
-  ]
-]
+written unions p u z has =
+    let all = map noted_union unions in
+    let (k, low, is) = subst (λ l. Contains l z) (map-set noted_union unions p u) has in
+    let within = length-set all p (noted_union u) in
+    elim (cases_eq k p) [
+      | inl at ↦ inr (sym is ∙ ap (λ i. get_or (set all p (noted_union u)) i z) at ∙ get_or-set_same all p (noted_union u) z (omega arith))
+      | inr far ↦ inl (k, omega arith, sym (get_or-set_other all p k (noted_union u) z far) ∙ is)
+    ]
 
 -- the empty list with itself
 pub IsUnion-none : (lists : List (List (ℕ × ℕ))) → 0 < length lists → IsUnion lists (0, 0) 0
@@ -59,43 +51,29 @@ IsUnion-none lists some = record {
 }
 
 -- a union of two lists, whichever has the lower number
-pub IsUnion-in_order : (lists : List (List (ℕ × ℕ))) (j k i : ℕ) → i < length lists → j < length lists → k < length lists
-    → Unites (list_at lists i) (list_at lists j) (list_at lists k) → IsUnion lists (min j k, max j k) i
-IsUnion-in_order lists j k i within first second exactly = elim (cases_lt j k) [
-  | inl less ↦
-      let low : j ≡ min j k = omega arith in
-      let high : k ≡ max j k = omega arith in
-      subst (λ n. IsUnion lists (min j k, n) i) high (subst (λ n. IsUnion lists (n, k) i) low
-      (record { within = within; first = first; second = second; exactly = exactly }))
-  | inr more ↦
-      let low : k ≡ min j k = omega arith in
-      let high : j ≡ max j k = omega arith in
-      subst (λ n. IsUnion lists (min j k, n) i) high (subst (λ n. IsUnion lists (n, j) i) low
-      (record { within = within; first = second; second = first; exactly = λ z. or_swap (exactly z) }))
-]
+pub IsUnion-swap : {lists : List (List (ℕ × ℕ))} {j k i : ℕ} → IsUnion lists (j, k) i → IsUnion lists (k, j) i
+IsUnion-swap is = record { within = is.within; first = is.second; second = is.first; exactly = λ z. or_swap (is.exactly z) }
 
-pub IsUnion-out_of_order : (lists : List (List (ℕ × ℕ))) (j k i : ℕ) → IsUnion lists (min j k, max j k) i → IsUnion lists (j, k) i
-IsUnion-out_of_order lists j k i is = elim (cases_lt j k) [
+pub IsUnion-in_order : (lists : List (List (ℕ × ℕ))) (j k i : ℕ) → IsUnion lists (j, k) i ↔ IsUnion lists (min j k, max j k) i
+IsUnion-in_order lists j k i = elim (cases_lt j k) [
   | inl less ↦
       let low : min j k ≡ j = omega arith in
       let high : max j k ≡ k = omega arith in
-      subst (λ key. IsUnion lists key i) (λ i. (low i, high i)) is
+      rw (low, high) (λ is. is, λ is. is)
   | inr more ↦
       let low : min j k ≡ k = omega arith in
       let high : max j k ≡ j = omega arith in
-      let swapped = subst (λ key. IsUnion lists key i) (λ i. (low i, high i)) is in
-      record { within = swapped.within; first = swapped.second; second = swapped.first; exactly = λ z. or_swap (swapped.exactly z) }
+      rw (low, high) (λ is. IsUnion-swap is, λ is. IsUnion-swap is)
 ]
 
 -- one union more, and maybe some forgotten
-pub AreUnions-note : (old new : List (List (ℕ × ℕ))) (unions noted : List ((ℕ × ℕ) × ℕ)) (key : ℕ × ℕ) (i : ℕ) → AreUnions old unions → Grow old new
-    → 0 < length old → IsUnion new key i
-    → ((z : (ℕ × ℕ) × ℕ) → Contains noted z → Contains unions z ⊎ IsNone z ⊎ (z ≡ (key, i))) → AreUnions new noted
-AreUnions-note old new unions noted key i are grow some is from = λ z d. elim (from z d) [
-  | inl o ↦ AreUnions-grow grow unions are z o
+pub AreUnions-note : {lists : List (List (ℕ × ℕ))} (unions noted : List ((ℕ × ℕ) × ℕ)) (key : ℕ × ℕ) (i : ℕ) → AreUnions lists unions → IsUnion lists key i
+    → ((z : (ℕ × ℕ) × ℕ) → Contains noted z → Contains unions z ⊎ IsNone z ⊎ (z ≡ (key, i))) → AreUnions lists noted
+AreUnions-note {lists} unions noted key i are is from z d = elim (from z d) [
+  | inl o ↦ are z o
   | inr n ↦ elim n [
-    | inl e ↦ let longer = grow.longer in subst (λ w. IsUnion new w.0 w.1) (sym e) (IsUnion-none new (omega arith))
-    | inr e ↦ subst (λ w. IsUnion new w.0 w.1) (sym e) is
+    | inl e ↦ let within = is.within in subst (λ w. IsUnion lists w.0 w.1) (sym e) (IsUnion-none lists (omega arith))
+    | inr e ↦ subst (λ w. IsUnion lists w.0 w.1) (sym e) is
   ]
 ]
 

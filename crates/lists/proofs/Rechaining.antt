@@ -63,5 +63,5 @@ IsHashed-rechained lists heads heads' entries entries' is some few size tags cha
   size = size ∙ is.size;
   tags = λ r p l. subst (IsTag lists r) (sym (tags r)) (is.tags r p l);
   different = is.different;
-  chained = subst (λ n. IsChained n (entry_bucket entries' heads') (entry_before entries') heads') (size ∙ is.size) chained;
+  chained = chained;
 }

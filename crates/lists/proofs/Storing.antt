@@ -1,5 +1,5 @@
 -- Lists that are kept as nodes: what each is, and one list more.
-use Rattle.std.proofs.Common.{◌≡◌, ◌∙◌, ℕ, zero, suc, ◌+◌, ◌<◌, ◌≤◌, List, [], ◌∷◌, ◌++◌, length, Contains, take, ap, sym, subst, refl, inl, inr, arith}
+use Rattle.std.proofs.Common.{◌≡◌, ◌∙◌, ℕ, zero, suc, ◌+◌, ◌<◌, ◌≤◌, List, [], ◌∷◌, ◌++◌, length, take, ap, sym, subst, refl, inl, inr, arith}
 use Rattle.std.specs.List.{All, slice_range}
 use Rattle.std.specs.List.Sorted.{IsStrictlySortedBy}
 use Rattle.std.proofs.lemmas.Bool.{cases_lt}
@@ -11,10 +11,10 @@ use Rattle.lists.specs.declared.nodes.Node.{Node}
 use Rattle.lists.specs.declared.nodes.Node.TheVariants.{Whole, Halved}
 use Rattle.lists.proofs.Rising.{rising_none}
 use Rattle.lists.proofs.Keys.{halves_rise}
-use Rattle.lists.proofs.Spans.{slice_range-append, slice_range-last}
+use Rattle.lists.proofs.Spans.{slice_range-append, slice_range-last, length-part}
 use Rattle.lists.specs.Lists.{pair_cmp, list_at, Grow}
 use Rattle.lists.specs.Cuts.{Fit}
-use Rattle.lists.specs.Nodes.{AreHalves, IsHalved, IsFew, AreIn, node_at, kept_list, lists_to, kept_lists, AreStored, AreNodes}
+use Rattle.lists.specs.Nodes.{AreHalves, IsHalved, IsFew, AreIn, node_at, IsKept, kept_list, lists_to, kept_lists, AreStored, AreNodes}
 
 pub All-only : {X : Type 0} (P : X → Type 0) (x : X) → P x → All P (x ∷ [])
 All-only P x p zero d h = p
@@ -56,13 +56,7 @@ module _ (lists : List (List (ℕ × ℕ))) (list : List (ℕ × ℕ)) where
       let some = are.some in
       record {
         rise = All-append (IsStrictlySortedBy pair_cmp) lists (list ∷ []) are.rise (All-only (IsStrictlySortedBy pair_cmp) list rising);
-        fit = λ k z d. elim (cases_lt k (length lists)) [
-          | inl o ↦ are.fit k z (subst (λ l. Contains l z) (list-old lists list k o) d)
-          | inr n ↦ elim (cases_lt (length lists) k) [
-            | inl past ↦ let none = subst (λ l. Contains l z) (get_or_past (lists ++ list ∷ []) k [] (omega arith)) d in absurd (omega (arith, none.1))
-            | inr at ↦ fits z (subst (λ l. Contains l z) (list-new lists list k (omega arith)) d)
-          ]
-        ];
+        fit = All-append Fit lists (list ∷ []) are.fit (All-only Fit list fits);
         halved = λ k low many. elim (cases_lt k (length lists)) [
           | inl o ↦
               let old = are.halved k o (subst (λ l. FEW < length l) (list-old lists list k o) many) in
@@ -120,15 +114,26 @@ module _ (pairs : List (ℕ × ℕ)) (nodes : List Node) where
       → list_at (kept_lists pairs nodes) k ≡ slice_range pairs start (start + count)
   list_whole k start count low e = to_at (length nodes) k low ∙ ap (kept_list pairs (lists_to pairs nodes k)) e
 
--- one node more, and maybe more pairs
-module _ (pairs pairs' : List (ℕ × ℕ)) (nodes : List Node) (new : Node) (are : AreNodes pairs nodes)
-    (keeps : (start end : ℕ) → start ≤ end → end ≤ length pairs → slice_range pairs' start end ≡ slice_range pairs start end) where
-  same_list : (node : Node) → ((start count : ℕ) → node ≡ Whole start count → start + count ≤ length pairs) → (lists : List (List (ℕ × ℕ)))
-      → kept_list pairs' lists node ≡ kept_list pairs lists node
-  same_list (Whole start count) within lists = keeps start (start + count) (omega arith) (within start count refl)
-  same_list (Halved h) within lists = refl
+-- what is kept stays so
+IsKept-grow : (pairs pairs' : List (ℕ × ℕ)) (lists new : List (List (ℕ × ℕ))) (k : ℕ) (node : Node) → length pairs ≤ length pairs' → Grow lists new
+    → k < length lists → IsKept pairs lists k node → IsKept pairs' new k node
+IsKept-grow pairs pairs' lists new k (Whole start count) longer grow low is = (let within = is.0 in omega arith, is.1)
+IsKept-grow pairs pairs' lists new k (Halved h) longer grow low is = IsHalved-grow lists new k h grow low is
 
-  pub node-old : (k : ℕ) → k < length nodes → node_at (nodes ++ new ∷ []) k ≡ node_at nodes k
+-- a long list is kept by its halves
+kept_long : (pairs : List (ℕ × ℕ)) (lists new : List (List (ℕ × ℕ))) (k : ℕ) (node : Node) → IsKept pairs new k node
+    → FEW < length (kept_list pairs lists node) → (h : Halves) × IsHalved new k h
+kept_long pairs lists new k (Whole start count) is long = let few = is.1 in absurd (omega (arith, length-part pairs start count))
+kept_long pairs lists new k (Halved h) is long = (h, is)
+
+-- one node more, and maybe more pairs
+module _ (pairs pairs' : List (ℕ × ℕ)) (nodes : List Node) (new : Node) (are : AreNodes pairs nodes) (longer : length pairs ≤ length pairs')
+    (keeps : (start end : ℕ) → start ≤ end → end ≤ length pairs → slice_range pairs' start end ≡ slice_range pairs start end) where
+  same_list : (lists kept : List (List (ℕ × ℕ))) (k : ℕ) (node : Node) → IsKept pairs kept k node → kept_list pairs' lists node ≡ kept_list pairs lists node
+  same_list lists kept k (Whole start count) is = keeps start (start + count) (omega arith) is.0
+  same_list lists kept k (Halved h) is = refl
+
+  node-old : (k : ℕ) → k < length nodes → node_at (nodes ++ new ∷ []) k ≡ node_at nodes k
   node-old k h = get_or_append_left nodes (new ∷ []) (Whole 0 0) k h
 
   node-new : (k : ℕ) → k ≡ length nodes → node_at (nodes ++ new ∷ []) k ≡ new
@@ -141,57 +146,48 @@ module _ (pairs pairs' : List (ℕ × ℕ)) (nodes : List Node) (new : Node) (ar
       let before = to_agree n (omega arith) in
       let node = node-old n (omega arith) in
       (λ i. before i ++ kept_list pairs' (before i) (node i) ∷ [])
-      ∙ ap (λ l. lists_to pairs nodes n ++ l ∷ [])
-      (same_list (node_at nodes n) (λ start count e. (are.whole n start count (omega arith) e).0) (lists_to pairs nodes n))
+      ∙ ap (λ l. lists_to pairs nodes n ++ l ∷ []) (same_list (lists_to pairs nodes n) _ n (node_at nodes n) (are.kept n (omega arith)))
 
-  pub lists-push : (list : List (ℕ × ℕ)) → kept_list pairs' (kept_lists pairs nodes) new ≡ list
-      → kept_lists pairs' (nodes ++ new ∷ []) ≡ kept_lists pairs nodes ++ list ∷ []
+  abbrev pub list : List (ℕ × ℕ)
+  list = kept_list pairs' (kept_lists pairs nodes) new
+
+  pub lists-push : kept_lists pairs' (nodes ++ new ∷ []) ≡ kept_lists pairs nodes ++ list ∷ []
   unfolding lists_to
-  lists-push list is =
+  lists-push =
       let n = length nodes in
       let longer : length (nodes ++ new ∷ []) ≡ suc n = omega (arith, length_push nodes new) in
       let old = to_agree n (omega arith) in
       let last = node-new n refl in
-      ap (lists_to pairs' (nodes ++ new ∷ [])) longer ∙ (λ i. old i ++ kept_list pairs' (old i) (last i) ∷ []) ∙ ap (λ l. kept_lists pairs nodes ++ l ∷ []) is
+      ap (lists_to pairs' (nodes ++ new ∷ [])) longer ∙ (λ i. old i ++ kept_list pairs' (old i) (last i) ∷ [])
 
   -- the nodes with the new one
-  pub AreNodes-push : (list : List (ℕ × ℕ)) → kept_list pairs' (kept_lists pairs nodes) new ≡ list → length pairs ≤ length pairs' → length nodes < MOST_LISTS
-      → IsStrictlySortedBy pair_cmp list → Fit list
-      → (FEW < length list → (h : Halves) × IsHalved (kept_lists pairs nodes ++ list ∷ []) (length (kept_lists pairs nodes)) h)
-      → ((start count : ℕ) → new ≡ Whole start count → (start + count ≤ length pairs') × (count ≤ FEW))
-      → ((h : Halves) → new ≡ Halved h → IsHalved (kept_lists pairs nodes ++ list ∷ []) (length nodes) h)
-      → AreNodes pairs' (nodes ++ new ∷ [])
-  AreNodes-push list is longer few rising fits long whole halved =
+  pub AreNodes-push : length nodes < MOST_LISTS → IsStrictlySortedBy pair_cmp list → Fit list
+      → IsKept pairs' (kept_lists pairs nodes ++ list ∷ []) (length nodes) new → AreNodes pairs' (nodes ++ new ∷ [])
+  AreNodes-push few rising fits kept =
       let more = length_push nodes new in
       let size = length-lists pairs nodes in
       let some = are.stored.some in
-      let view = lists-push list is in
+      let lists = kept_lists pairs nodes in
+      let long : FEW < length list → (h : Halves) × IsHalved (lists ++ list ∷ []) (length lists) h =
+      λ long. subst (λ n. (h : Halves) × IsHalved (lists ++ list ∷ []) n h) (sym size) (kept_long pairs' lists _ (length nodes) new kept long) in
       record {
-        stored = subst AreStored (sym view) (AreStored-push (kept_lists pairs nodes) list are.stored (omega arith) rising fits long);
+        stored = subst AreStored (sym lists-push) (AreStored-push lists list are.stored (omega arith) rising fits long);
         empty = node-old 0 (omega arith) ∙ are.empty;
-        whole = λ k start count low e. elim (cases_lt k (length nodes)) [
-          | inl o ↦ let old = are.whole k start count o (sym (node-old k o) ∙ e) in (omega arith, old.1)
-          | inr n ↦ whole start count (sym (node-new k (omega arith)) ∙ e)
-        ];
-        halved = λ k h low e. elim (cases_lt k (length nodes)) [
+        kept = λ k low. subst (λ l. IsKept pairs' l k (node_at (nodes ++ new ∷ []) k)) (sym lists-push) (elim (cases_lt k (length nodes)) [
           | inl o ↦
-              subst (λ l. IsHalved l k h) (sym view)
-              (IsHalved-grow (kept_lists pairs nodes) _ k h (Grow-push (kept_lists pairs nodes) list) (omega arith) (are.halved k h o (sym (node-old k o) ∙ e)))
+              subst (IsKept pairs' (lists ++ list ∷ []) k) (sym (node-old k o))
+              (IsKept-grow pairs pairs' lists _ k (node_at nodes k) longer (Grow-push lists list) (omega arith) (are.kept k o))
           | inr n ↦
               let last : length nodes ≡ k = omega arith in
-              subst (λ l. IsHalved l k h) (sym view)
-              (subst (λ m. IsHalved (kept_lists pairs nodes ++ list ∷ []) m h) last (halved h (sym (node-new k (sym last)) ∙ e)))
-        ];
+              subst (λ m. IsKept pairs' (lists ++ list ∷ []) m (node_at (nodes ++ new ∷ []) m)) last
+              (subst (IsKept pairs' (lists ++ list ∷ []) (length nodes)) (sym (node-new (length nodes) refl)) kept)
+        ]);
       }
 
 -- the empty list alone
 pub lists-first : kept_lists [] (Whole 0 0 ∷ []) ≡ [] ∷ []
 unfolding lists_to
 lists-first = refl
-
-none_first : (k : ℕ) (z : ℕ × ℕ) → Contains (list_at ([] ∷ []) k) z → ⊥
-none_first zero z d = omega (arith, d.1)
-none_first (suc k) z d = let none = subst (λ l. Contains l z) (get_or_past ([] ∷ []) (suc k) [] (omega arith)) d in omega (arith, none.1)
 
 none_long : (k : ℕ) → FEW < length (list_at ([] ∷ []) k) → ⊥
 none_long zero long = omega arith
@@ -200,7 +196,7 @@ none_long (suc k) long = let none : length (list_at ([] ∷ []) (suc k)) ≡ 0 =
 pub AreStored-first : AreStored ([] ∷ [])
 AreStored-first = record {
   rise = All-only (IsStrictlySortedBy pair_cmp) [] (rising_none pair_cmp);
-  fit = λ k z d. absurd (none_first k z d);
+  fit = All-only Fit [] (λ z d. absurd (omega (arith, d.1)));
   some = omega arith;
   few = omega arith;
   halved = λ k low long. absurd (none_long k long);
@@ -211,14 +207,9 @@ pub AreNodes-first : AreNodes [] (Whole 0 0 ∷ [])
 AreNodes-first = record {
   stored = subst AreStored (sym lists-first) AreStored-first;
   empty = refl;
-  whole = λ k start count low e.
-      let zeros : Whole 0 0 ≡ Whole start count = ap (node_at (Whole 0 0 ∷ [])) (let z : 0 ≡ k = omega arith in z) ∙ e in
-      let s : 0 ≡ start = cc in
-      let n : 0 ≡ count = cc in
-      (omega arith, omega arith);
-  halved = λ k h low e.
-      let clash : Whole 0 0 ≡ Halved h = ap (node_at (Whole 0 0 ∷ [])) (let z : 0 ≡ k = omega arith in z) ∙ e in
-      absurd (cc);
+  kept = λ k low.
+      let zero : 0 ≡ k = omega arith in
+      subst (λ k. IsKept [] (kept_lists [] (Whole 0 0 ∷ [])) k (node_at (Whole 0 0 ∷ []) k)) zero (omega arith, omega arith);
 }
 
 -- the empty list is kept first
@@ -229,45 +220,42 @@ nodes-cleared pairs (x ∷ xs) are = ap (λ n. n ∷ []) are.empty
 -- one list more that is kept as it is
 module _ (pairs list : List (ℕ × ℕ)) (nodes : List Node) (start count : ℕ) (are : AreNodes pairs nodes) (at : start ≡ length pairs)
     (size : count ≡ length list) where
-  keeps-more : (s e : ℕ) → s ≤ e → e ≤ length pairs → slice_range (pairs ++ list) s e ≡ slice_range pairs s e
-  keeps-more s e h k = slice_range-append pairs list s e h k
+  longer : length (pairs ++ list) ≡ length pairs + length list
+  longer = length-append pairs list
+
+  keeps : (s e : ℕ) → s ≤ e → e ≤ length pairs → slice_range (pairs ++ list) s e ≡ slice_range pairs s e
+  keeps = slice_range-append pairs list
 
   whole_is : kept_list (pairs ++ list) (kept_lists pairs nodes) (Whole start count) ≡ list
   whole_is = ap (λ s. slice_range (pairs ++ list) s (s + count)) at ∙ slice_range-last pairs list (length pairs + count) (omega arith)
 
   pub lists-whole : kept_lists (pairs ++ list) (nodes ++ Whole start count ∷ []) ≡ kept_lists pairs nodes ++ list ∷ []
-  lists-whole = lists-push pairs (pairs ++ list) nodes (Whole start count) are keeps-more list whole_is
+  lists-whole =
+      lists-push pairs (pairs ++ list) nodes (Whole start count) are (omega (arith, longer)) keeps ∙ ap (λ l. kept_lists pairs nodes ++ l ∷ []) whole_is
 
   pub AreNodes-whole : length nodes < MOST_LISTS → IsFew list → AreNodes (pairs ++ list) (nodes ++ Whole start count ∷ [])
-  AreNodes-whole few list_is =
-      let longer = length-append pairs list in
-      let short = list_is.few in
-      AreNodes-push pairs (pairs ++ list) nodes (Whole start count) are keeps-more list whole_is (omega arith) few list_is.rising list_is.fit
-      (λ long. absurd (omega arith))
-      (λ s n e. let same : start ≡ s = cc in let many : count ≡ n = cc in (omega arith, omega arith))
-      (λ h e. absurd (cc))
+  AreNodes-whole few is =
+      let short = is.few in
+      AreNodes-push pairs (pairs ++ list) nodes (Whole start count) are (omega (arith, longer)) keeps few
+      (subst (IsStrictlySortedBy pair_cmp) (sym whole_is) is.rising) (subst Fit (sym whole_is) is.fit) (omega (arith, longer), omega arith)
 
 -- one list more that has halves
 module _ (pairs : List (ℕ × ℕ)) (nodes : List Node) (h : Halves) (are : AreNodes pairs nodes) where
-  pub lists-halved : kept_lists pairs (nodes ++ Halved h ∷ []) ≡ kept_lists pairs nodes ++ (list_at (kept_lists pairs nodes) h.below ++ list_at (kept_lists pairs nodes) h.above) ∷ []
-  lists-halved = lists-push pairs pairs nodes (Halved h) are (λ s e l m. refl) _ refl
+  abbrev lists : List (List (ℕ × ℕ))
+  lists = kept_lists pairs nodes
 
-  pub AreNodes-halved : length nodes < MOST_LISTS → AreIn (kept_lists pairs nodes) h → AreNodes pairs (nodes ++ Halved h ∷ [])
-  AreNodes-halved few in' =
-      let lists = kept_lists pairs nodes in
-      let size = length-lists pairs nodes in
+  pub lists-halved : kept_lists pairs (nodes ++ Halved h ∷ []) ≡ lists ++ (list_at lists h.below ++ list_at lists h.above) ∷ []
+  lists-halved = lists-push pairs pairs nodes (Halved h) are (omega arith) (λ s e l m. refl)
+
+  pub AreNodes-halved : length nodes < MOST_LISTS → AreIn lists h → AreNodes pairs (nodes ++ Halved h ∷ [])
+  AreNodes-halved few is =
       let stored = are.stored in
-      let new = IsHalved-new lists h in'.below in'.above in'.halves in
-      AreNodes-push pairs pairs nodes (Halved h) are (λ s e l m. refl) (list_at lists h.below ++ list_at lists h.above) refl (omega arith) few
-      (halves_rise (list_at lists h.below) (list_at lists h.above) h.cut (stored.rise h.below [] in'.below) (stored.rise h.above [] in'.above)
-      (stored.fit h.below) (stored.fit h.above) in'.halves.under in'.halves.over)
+      AreNodes-push pairs pairs nodes (Halved h) are (omega arith) (λ s e l m. refl) few
+      (halves_rise (list_at lists h.below) (list_at lists h.above) h.cut (stored.rise h.below [] is.below) (stored.rise h.above [] is.above)
+      (stored.fit h.below [] is.below) (stored.fit h.above [] is.above) is.halves.under is.halves.over)
       (λ z d. elim (Contains-append_cases (list_at lists h.below) (list_at lists h.above) z d) [
-        | inl a ↦ stored.fit h.below z a
-        | inr b ↦ stored.fit h.above z b
+        | inl a ↦ stored.fit h.below [] is.below z a
+        | inr b ↦ stored.fit h.above [] is.above z b
       ])
-      (λ long. (h, new))
-      (λ s n e. absurd (cc))
-      (λ g e.
-      let same : h ≡ g = cc in
-      subst (λ x. IsHalved (lists ++ (list_at lists h.below ++ list_at lists h.above) ∷ []) (length nodes) x) same
-      (subst (λ m. IsHalved (lists ++ (list_at lists h.below ++ list_at lists h.above) ∷ []) m h) size new))
+      (subst (λ n. IsHalved (lists ++ (list_at lists h.below ++ list_at lists h.above) ∷ []) n h) (length-lists pairs nodes)
+      (IsHalved-new lists h is.below is.above is.halves))

@@ -1,5 +1,5 @@
 -- Unions by halves: a list in two at another place, the cut of a union, and the union of two lists from those of their halves.
-use Rattle.std.proofs.Common.{◌≡◌, ◌∙◌, ◌↔◌, ℕ, ◌+◌, ◌-◌, ◌<◌, ◌≤◌, min, max, List, [], ◌++◌, length, get_or, Contains, ap, sym, subst, inl, inr, arith}
+use Rattle.std.proofs.Common.{◌≡◌, ◌∙◌, ◌⊎◌, ◌↔◌, ℕ, ◌+◌, ◌-◌, ◌<◌, ◌≤◌, min, max, List, [], ◌++◌, length, get_or, Contains, ap, sym, subst, inl, inr, arith, rules}
 use Rattle.std.specs.List.Sorted.{IsStrictlySortedBy}
 use Rattle.std.proofs.lemmas.Bool.{cases_lt}
 use Rattle.std.proofs.lemmas.List.{length-append, append-nil}
@@ -13,17 +13,26 @@ use Rattle.lists.proofs.Cuts.{alike_wider, alike_within, all_under, all_over}
 use Rattle.lists.proofs.Keys.{halves_has, halves_rise, parts_has}
 use Rattle.lists.proofs.Halving.{keys_between, has_first, has_last}
 use Rattle.lists.proofs.Merging.{merged_has}
-use Rattle.lists.proofs.Pairs.{pair_total}
+use Rattle.lists.proofs.Joining.{or_swap}
 use Rattle.lists.proofs.Rising.{rising_fewer}
 
 pub none_in : (list : List (ℕ × ℕ)) → list ≡ [] → (z : ℕ × ℕ) → Contains list z → ⊥
 none_in list e z d = let none = ap length e in let k = d.1 in omega arith
 
+-- a list with halves is long, and cut where its halves meet
+pub halved_long : {lists : List (List (ℕ × ℕ))} {k : ℕ} {h : Halves} → IsHalved lists k h → FEW < length (list_at lists k)
+halved_long {lists} {k} {h} is =
+    let long = is.halves.long in
+    omega (arith, ap length is.list, length-append (list_at lists h.below) (list_at lists h.above))
+
+pub halved_cut : {lists : List (List (ℕ × ℕ))} {k : ℕ} {h : Halves} → IsHalved lists k h → IsCut (list_at lists k) h.cut
+halved_cut {lists} {k} {h} is = subst (λ l. IsCut l h.cut) (sym is.list) is.halves.at_cut
+
 -- a list in two at a place that suits it
 module _ (lists : List (List (ℕ × ℕ))) (stored : AreStored lists) (k c : ℕ) (h : Halves) (is : IsHalved lists k h) (bit : ℕ)
     (alike : IsAlike bit (list_at lists k) c) where
   own : IsCut (list_at lists k) h.cut
-  own = subst (λ l. IsCut l h.cut) (sym is.list) is.halves.at_cut
+  own = halved_cut is
 
   pub split_under : h.cut < c → IsSplit lists k c k 0
   split_under less = record {
@@ -58,74 +67,26 @@ module _ (lists : List (List (ℕ × ℕ))) (stored : AreStored lists) (k c : �
     };
   }
 
--- two lists in two at one place, and the unions of their parts
-module _ (xs ys below above below' above' lower upper : List (ℕ × ℕ)) (c : ℕ) (first : IsParted xs c below above) (second : IsParted ys c below' above')
-    (low : Unites lower below below') (high : Unites upper above above') where
-  pub united : Unites (lower ++ upper) xs ys
-  united z = (
-    λ d. elim ((halves_has lower upper c z).0 d) [
-      | inl a ↦ elim ((low z).0 a) [
-        | inl x ↦ inl ((parts_has xs below above c first z).1 (inl x))
-        | inr y ↦ inr ((parts_has ys below' above' c second z).1 (inl y))
-      ]
-      | inr b ↦ elim ((high z).0 b) [
-        | inl x ↦ inl ((parts_has xs below above c first z).1 (inr x))
-        | inr y ↦ inr ((parts_has ys below' above' c second z).1 (inr y))
-      ]
-    ],
-    λ d. elim d [
-      | inl x ↦ elim ((parts_has xs below above c first z).0 x) [
-        | inl a ↦ (halves_has lower upper c z).1 (inl ((low z).1 (inl a)))
-        | inr b ↦ (halves_has lower upper c z).1 (inr ((high z).1 (inl b)))
-      ]
-      | inr y ↦ elim ((parts_has ys below' above' c second z).0 y) [
-        | inl a ↦ (halves_has lower upper c z).1 (inl ((low z).1 (inr a)))
-        | inr b ↦ (halves_has lower upper c z).1 (inr ((high z).1 (inr b)))
-      ]
-    ],
-  )
+pub either_mixed : {W L U B C A D X Y : Type 0} → W ↔ (L ⊎ U) → L ↔ (B ⊎ C) → U ↔ (A ⊎ D) → X ↔ (B ⊎ A) → Y ↔ (C ⊎ D) → W ↔ (X ⊎ Y)
+either_mixed whole low high first second = search rules
 
-  pub united_under : IsUnder lower c
-  united_under z d = elim ((low z).0 d) [ inl a ↦ first.under z a | inr b ↦ second.under z b ]
+-- two lists in two at one place
+module _ {xs ys below above below' above' : List (ℕ × ℕ)} {c : ℕ} (first : IsParted xs c below above) (second : IsParted ys c below' above') where
+  -- the unions of their parts
+  module _ (lower upper : List (ℕ × ℕ)) (low : Unites lower below below') (high : Unites upper above above') where
+    pub united : Unites (lower ++ upper) xs ys
+    united z = either_mixed (halves_has lower upper z) (low z) (high z) (parts_has xs below above c first z) (parts_has ys below' above' c second z)
 
-  pub united_over : IsOver upper c
-  united_over z d = elim ((high z).0 d) [ inl a ↦ first.over z a | inr b ↦ second.over z b ]
+    pub united_under : IsUnder lower c
+    united_under z d = elim ((low z).0 d) [ inl a ↦ first.under z a | inr b ↦ second.under z b ]
 
--- the unions of the parts are the halves of the union
-pub AreIn-united : (lists new : List (List (ℕ × ℕ))) (h : Halves) (xs ys below above below' above' : List (ℕ × ℕ)) → AreStored new → Grow lists new
-    → h.below < length lists → Unites (list_at lists h.below) below below' → h.above < length new → Unites (list_at new h.above) above above'
-    → IsParted xs h.cut below above → IsParted ys h.cut below' above' → IsStrictlySortedBy pair_cmp ys → FEW < length ys
-    → ((list : List (ℕ × ℕ)) → Unites list xs ys → IsCut list h.cut)
-    → AreIn new h × Unites (list_at new h.below ++ list_at new h.above) xs ys
-AreIn-united lists new h xs ys below above below' above' stored grow lower_in lower upper_in upper first second rise long cut =
-    let low : Unites (list_at new h.below) below below' = subst (λ l. Unites l below below') (sym (grow.same h.below lower_in)) lower in
-    let longer = grow.longer in
-    let low_in : h.below < length new = omega arith in
-    let all = united xs ys below above below' above' _ _ h.cut first second low upper in
-    let under = united_under xs ys below above below' above' _ _ h.cut first second low upper in
-    let over = united_over xs ys below above below' above' _ _ h.cut first second low upper in
-    let rises =
-    halves_rise (list_at new h.below) (list_at new h.above) h.cut (stored.rise h.below [] low_in) (stored.rise h.above [] upper_in)
-    (stored.fit h.below) (stored.fit h.above) under over in
-    let fewer = rising_fewer pair_total ys (list_at new h.below ++ list_at new h.above) rise rises (λ z d. (all z).1 (inr d)) in (
-      record {
-        below = low_in;
-        above = upper_in;
-        halves = record {
-          long = omega (arith, length-append (list_at new h.below) (list_at new h.above));
-          at_cut = cut (list_at new h.below ++ list_at new h.above) all;
-          under = under;
-          over = over;
-        };
-      },
-      all,
-    )
+    pub united_over : IsOver upper c
+    united_over z d = elim ((high z).0 d) [ inl a ↦ first.over z a | inr b ↦ second.over z b ]
 
--- the work gets less, since two lists have pairs on both sides of the cut of both
-module _ (xs ys below above below' above' : List (ℕ × ℕ)) (c : ℕ) (first : IsParted xs c below above) (second : IsParted ys c below' above') where
+  -- the work gets less, since the lists have pairs on both sides of the place if it is the cut of both as one
   on_side : (z : ℕ × ℕ) → Contains (xs ++ ys) z
       → (as_number z < c → 0 < length below + length below') × (c ≤ as_number z → 0 < length above + length above')
-  on_side z d = elim ((halves_has xs ys c z).0 d) [
+  on_side z d = elim ((halves_has xs ys z).0 d) [
     | inl x ↦ elim ((parts_has xs below above c first z).0 x) [
       | inl a ↦ let k = a.1 in let under = first.under z a in (λ low. omega arith, λ high. absurd (omega arith))
       | inr b ↦ let k = b.1 in let over = first.over z b in (λ low. absurd (omega arith), λ high. omega arith)
@@ -136,9 +97,10 @@ module _ (xs ys below above below' above' : List (ℕ × ℕ)) (c : ℕ) (first 
     ]
   ]
 
-  pub parts_fewer : IsCut (xs ++ ys) c
+  pub parts_fewer : ((list : List (ℕ × ℕ)) → Unites list xs ys → IsCut list c)
       → (length below + length below' < length xs + length ys) × (length above + length above' < length xs + length ys)
-  parts_fewer cut =
+  parts_fewer cuts =
+      let cut = cuts (xs ++ ys) (halves_has xs ys) in
       let size = ap length first.joined in
       let both = length-append below above in
       let size' = ap length second.joined in
@@ -146,6 +108,32 @@ module _ (xs ys below above below' above' : List (ℕ × ℕ)) (c : ℕ) (first 
       let low = (on_side cut.below.0 cut.below.1).0 cut.below.2 in
       let high = (on_side cut.above.0 cut.above.1).1 cut.above.2 in
       (omega arith, omega arith)
+
+-- the unions of the parts are the halves of the union
+pub AreIn-united : (lists new : List (List (ℕ × ℕ))) (h : Halves) {xs ys below above below' above' : List (ℕ × ℕ)} → AreStored new → Grow lists new
+    → h.below < length lists → Unites (list_at lists h.below) below below' → h.above < length new → Unites (list_at new h.above) above above'
+    → IsParted xs h.cut below above → IsParted ys h.cut below' above' → IsStrictlySortedBy pair_cmp ys → FEW < length ys
+    → ((list : List (ℕ × ℕ)) → Unites list xs ys → IsCut list h.cut)
+    → AreIn new h × Unites (list_at new h.below ++ list_at new h.above) xs ys
+AreIn-united lists new h {xs} {ys} {below} {above} {below'} {above'} stored grow lower_in lower upper_in upper first second rise long cut =
+    let low : Unites (list_at new h.below) below below' = subst (λ l. Unites l below below') (sym (grow.same h.below lower_in)) lower in
+    let longer = grow.longer in
+    let low_in : h.below < length new = omega arith in
+    let list = list_at new h.below ++ list_at new h.above in
+    let all = united first second _ _ low upper in
+    let under = united_under first second _ _ low upper in
+    let over = united_over first second _ _ low upper in
+    let rises =
+    halves_rise (list_at new h.below) (list_at new h.above) h.cut (stored.rise h.below [] low_in) (stored.rise h.above [] upper_in)
+    (stored.fit h.below [] low_in) (stored.fit h.above [] upper_in) under over in
+    let fewer = rising_fewer ys list rise (λ z d. (all z).1 (inr d)) in (
+      record {
+        below = low_in;
+        above = upper_in;
+        halves = record { long = omega (arith, length-append (list_at new h.below) (list_at new h.above)); at_cut = cut list all; under = under; over = over };
+      },
+      all,
+    )
 
 -- some pair is up to low and some pair is from high on, and all pairs are alike at a place that lies so
 pub record HasEnds (list : List (ℕ × ℕ)) (low high : ℕ) : Type 0 where
@@ -173,10 +161,10 @@ ends_halves list own cut =
     }
 
 -- the place for two lists suits both, and is the cut of their union
-pub placed : (xs ys : List (ℕ × ℕ)) (low high low' high' bit l h c : ℕ) → HasEnds xs low high → HasEnds ys low' high'
-    → l ≡ min low low' → h ≡ max high high' → IsPlace bit l h c
+pub placed : {xs ys : List (ℕ × ℕ)} {low high low' high' bit l h c : ℕ} → IsPlace bit l h c → HasEnds xs low high → HasEnds ys low' high'
+    → l ≡ min low low' → h ≡ max high high'
     → IsAlike bit xs c × (IsAlike bit ys c × ((list : List (ℕ × ℕ)) → Unites list xs ys → IsCut list c))
-placed xs ys low high low' high' bit l h c first second l_is h_is place =
+placed {xs} {ys} {low} {high} {low'} {high'} {bit} {l} {h} {c} place first second l_is h_is =
     let one = first.alike bit l h c place (omega arith) (omega arith) in
     let two = second.alike bit l h c place (omega arith) (omega arith) in
     let after = place.after in
@@ -204,59 +192,32 @@ placed xs ys low high low' high' bit l h c first second l_is h_is place =
 
 -- both as one list in rising order
 pub unites_merged : (list xs ys : List (ℕ × ℕ)) → list ≡ merged xs ys → Unites list ys xs
-unites_merged list xs ys e = subst (λ l. Unites l ys xs) (sym e) (λ z. (
-  λ d. elim ((merged_has z xs ys).0 d) [ inl a ↦ inr a | inr b ↦ inl b ],
-  λ d. elim d [ inl b ↦ (merged_has z xs ys).1 (inr b) | inr a ↦ (merged_has z xs ys).1 (inl a) ],
-))
+unites_merged list xs ys e = subst (λ l. Unites l ys xs) (sym e) (λ z. or_swap (merged_has z xs ys))
+
+pub either_first : {N A X Y M L : Type 0} → N ↔ (A ⊎ Y) → A ↔ (X ⊎ M) → L ↔ (X ⊎ Y) → N ↔ (L ⊎ M)
+either_first new one old = search rules
 
 -- two lists one after the other, to one of which the pairs of a third one are put
 module _ (xs ys more new : List (ℕ × ℕ)) where
   pub unites_first : Unites new xs more → Unites (new ++ ys) (xs ++ ys) more
-  unites_first unites z = (
-    λ d. elim ((halves_has new ys 0 z).0 d) [
-      | inl a ↦ elim ((unites z).0 a) [ inl x ↦ inl ((halves_has xs ys 0 z).1 (inl x)) | inr m ↦ inr m ]
-      | inr b ↦ inl ((halves_has xs ys 0 z).1 (inr b))
-    ],
-    λ d. elim d [
-      | inl e ↦ elim ((halves_has xs ys 0 z).0 e) [
-        | inl x ↦ (halves_has new ys 0 z).1 (inl ((unites z).1 (inl x)))
-        | inr y ↦ (halves_has new ys 0 z).1 (inr y)
-      ]
-      | inr m ↦ (halves_has new ys 0 z).1 (inl ((unites z).1 (inr m)))
-    ],
-  )
+  unites_first unites z = either_first (halves_has new ys z) (unites z) (halves_has xs ys z)
 
   pub unites_second : Unites new ys more → Unites (xs ++ new) (xs ++ ys) more
-  unites_second unites z = (
-    λ d. elim ((halves_has xs new 0 z).0 d) [
-      | inl x ↦ inl ((halves_has xs ys 0 z).1 (inl x))
-      | inr a ↦ elim ((unites z).0 a) [ inl y ↦ inl ((halves_has xs ys 0 z).1 (inr y)) | inr m ↦ inr m ]
-    ],
-    λ d. elim d [
-      | inl e ↦ elim ((halves_has xs ys 0 z).0 e) [
-        | inl x ↦ (halves_has xs new 0 z).1 (inl x)
-        | inr y ↦ (halves_has xs new 0 z).1 (inr ((unites z).1 (inl y)))
-      ]
-      | inr m ↦ (halves_has xs new 0 z).1 (inr ((unites z).1 (inr m)))
-    ],
-  )
+  unites_second unites z = either_first (or_swap (halves_has xs new z)) (unites z) (or_swap (halves_has xs ys z))
+
+pub only_first : {L B A : Type 0} → L ↔ (B ⊎ A) → (A → ⊥) → L ↔ B
+only_first either none = search rules
+
+pub only_second : {L B A : Type 0} → L ↔ (B ⊎ A) → (B → ⊥) → L ↔ A
+only_second either none = search rules
 
 -- a pair of a list with halves is on its own side of the cut
 module _ (lists : List (List (ℕ × ℕ))) (k : ℕ) (h : Halves) (is : IsHalved lists k h) (z : ℕ × ℕ) where
+  in_halves : Contains (list_at lists k) z ↔ (Contains (list_at lists h.below) z ⊎ Contains (list_at lists h.above) z)
+  in_halves = parts_has _ _ _ h.cut (record { joined = is.list; under = is.halves.under; over = is.halves.over }) z
+
   pub has_below : as_number z < h.cut → Contains (list_at lists k) z ↔ Contains (list_at lists h.below) z
-  has_below low = (
-    λ d. elim ((halves_has (list_at lists h.below) (list_at lists h.above) h.cut z).0 (subst (λ l. Contains l z) is.list d)) [
-      | inl a ↦ a
-      | inr b ↦ let high = is.halves.over z b in absurd (omega arith)
-    ],
-    λ a. subst (λ l. Contains l z) (sym is.list) ((halves_has (list_at lists h.below) (list_at lists h.above) h.cut z).1 (inl a)),
-  )
+  has_below low = only_first in_halves (λ a. let high = is.halves.over z a in absurd (omega arith))
 
   pub has_above : h.cut ≤ as_number z → Contains (list_at lists k) z ↔ Contains (list_at lists h.above) z
-  has_above high = (
-    λ d. elim ((halves_has (list_at lists h.below) (list_at lists h.above) h.cut z).0 (subst (λ l. Contains l z) is.list d)) [
-      | inl a ↦ let low = is.halves.under z a in absurd (omega arith)
-      | inr b ↦ b
-    ],
-    λ b. subst (λ l. Contains l z) (sym is.list) ((halves_has (list_at lists h.below) (list_at lists h.above) h.cut z).1 (inr b)),
-  )
+  has_above high = only_second in_halves (λ b. let low = is.halves.under z b in absurd (omega arith))

@@ -55,7 +55,7 @@ pub record IsHashed (lists : List (List (ℕ × ℕ))) (heads : List ℕ) (entri
   pub size : length entries ≡ length lists
   pub tags : (r : ℕ) → 0 < r → r < length lists → IsTag lists r (entry_at entries r).tag
   pub different : AreDifferent lists
-  pub chained : IsChained (length lists) (entry_bucket entries heads) (entry_before entries) heads
+  pub chained : IsChained (length entries) (entry_bucket entries heads) (entry_before entries) heads
 
 -- none of the lists from number 1 is this one
 abbrev pub IsNewList : List (List (ℕ × ℕ)) → List (ℕ × ℕ) → Type 0

@@ -46,18 +46,22 @@ kept_lists pairs nodes = lists_to pairs nodes (length nodes)
 -- lists in strictly rising order of pairs that fit, the first of which is empty, and not too many for their numbers
 pub record AreStored (lists : List (List (ℕ × ℕ))) : Type 0 where
   pub rise : All (IsStrictlySortedBy pair_cmp) lists
-  pub fit : (k : ℕ) → Fit (list_at lists k)
+  pub fit : All Fit lists
   pub halved : (k : ℕ) → k < length lists → FEW < length (list_at lists k) → (h : Halves) × IsHalved lists k h
   pub some : 1 ≤ length lists
   pub few : length lists ≤ MOST_LISTS
   pub first : list_at lists 0 ≡ []
 
--- each node is a range of few pairs, or has halves
+-- a node says how the list number k is kept: as a range of few pairs, or by its halves
+abbrev pub IsKept : List (ℕ × ℕ) → List (List (ℕ × ℕ)) → ℕ → Node → Type 0
+IsKept pairs lists k (Whole start count) = (start + count ≤ length pairs) × (count ≤ FEW)
+IsKept pairs lists k (Halved h) = IsHalved lists k h
+
+-- nodes of such lists, the first of which is of no pairs
 pub record AreNodes (pairs : List (ℕ × ℕ)) (nodes : List Node) : Type 0 where
   pub stored : AreStored (kept_lists pairs nodes)
   pub empty : node_at nodes 0 ≡ Whole 0 0
-  pub whole : (k start count : ℕ) → k < length nodes → node_at nodes k ≡ Whole start count → (start + count ≤ length pairs) × (count ≤ FEW)
-  pub halved : (k : ℕ) (h : Halves) → k < length nodes → node_at nodes k ≡ Halved h → IsHalved (kept_lists pairs nodes) k h
+  pub kept : (k : ℕ) → k < length nodes → IsKept pairs (kept_lists pairs nodes) k (node_at nodes k)
 
 -- the list number k is kept so
 abbrev pub IsShape : List (List (ℕ × ℕ)) → ℕ → Shape → Type 0

@@ -2,7 +2,7 @@
 use Rattle.std.specs.Prelude.{◌⊎◌, ◌↔◌, ℕ, ◌<◌, ◌≤◌, List, length}
 use Rattle.std.specs.List.{Contains}
 use Rattle.lists.specs.Lists.{list_at}
-use Rattle.lists.specs.Cuts.{IsParted}
+use Rattle.lists.specs.Cuts.{IsCut, IsParted}
 
 -- a list has the pairs of both lists, and no other one
 abbrev pub Unites : List (ℕ × ℕ) → List (ℕ × ℕ) → List (ℕ × ℕ) → Type 0
@@ -24,3 +24,15 @@ pub record IsSplit (lists : List (List (ℕ × ℕ))) (k c below above : ℕ) : 
   pub first : below ≤ k
   pub second : above ≤ k
   pub parted : IsParted (list_at lists k) c (list_at lists below) (list_at lists above)
+
+-- the lists of two numbers in two at one place, which is the cut of each list that has the pairs of both
+pub record AreSplit (lists : List (List (ℕ × ℕ))) (two : ℕ × ℕ) (c : ℕ) (below above : ℕ × ℕ) : Type 0 where
+  pub first : IsSplit lists two.0 c below.0 above.0
+  pub second : IsSplit lists two.1 c below.1 above.1
+  pub cut : (list : List (ℕ × ℕ)) → Unites list (list_at lists two.0) (list_at lists two.1) → IsCut list c
+
+-- the list number k and some pairs in two like that
+pub record IsSplitWith (lists : List (List (ℕ × ℕ))) (k : ℕ) (some : List (ℕ × ℕ)) (c : ℕ) (below above : ℕ × List (ℕ × ℕ)) : Type 0 where
+  pub list : IsSplit lists k c below.0 above.0
+  pub pairs : IsParted some c below.1 above.1
+  pub cut : (list : List (ℕ × ℕ)) → Unites list some (list_at lists k) → IsCut list c

@@ -8,9 +8,11 @@
 //!   known        the unions that were made
 //! distinct       a list that is asked for again has the number that it had
 //!   hashed       the table that it is found in
-//! nodes, parts   how each list is kept: with halves, or whole
+//! nodes          how each list is kept: whole, or by its halves
 //! cut, ordered, marked, span   where a list is cut; pairs in order, by marks if they are many; hashes, and ranges of a buffer
 //! ```
+//!
+//! Apart from these, `parts` has lists in the order in which they come, whole in one buffer, over `span` alone.
 //!
 //! A list is cut at the number between its first and its last pair that the highest power of two divides, if a pair is read
 //! as one number. So the list alone decides its halves, and lists that differ in few places share all other halves.

@@ -10,7 +10,7 @@ use growth::Memory;
 use std::alloc::Global;
 use std::marker::Model;
 
-/// The number of the empty list.
+/// The number of the empty list: the lowest one.
 pub const EMPTY: u32 = 0;
 
 /// The most lists, so that each has a number.

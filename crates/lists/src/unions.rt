@@ -1,11 +1,12 @@
 //! Lists that are made of pairs, of a list and pairs, of two lists, and of several ones.
-ghost use Rattle.std.specs.Prelude.{◌≡◌, ◌⊎◌, ◌↔◌, ℕ, ◌++◌, ◌<◌, List, length, IfOk, IfSome};
+ghost use Rattle.std.specs.Prelude.{◌≡◌, ◌⊎◌, ◌↔◌, ℕ, ◌++◌, ◌<◌, ◌≤◌, List, length, IfOk, IfSome, if◌then◌else◌};
+ghost use Rattle.lists.specs.declared.nodes.TheConstants.{FEW};
 ghost use Rattle.std.specs.List.{Contains};
 ghost use Rattle.std.specs.List.Sorted.{IsStrictlySortedBy};
 ghost use Rattle.lists.specs.Lists.{pair_cmp, list_at, AreNumbers, Grow, HasOne};
 ghost use Rattle.lists.specs.Cuts.{Fit, IsAlike, IsParted};
-ghost use Rattle.lists.specs.Nodes.{AreStored, IsHalved, AreIn};
-ghost use Rattle.lists.specs.Unions.{Unites, IsUnion, AreUnions, IsSplit};
+ghost use Rattle.lists.specs.Nodes.{AreStored, IsHalved};
+ghost use Rattle.lists.specs.Unions.{Unites, IsUnion, AreUnions, IsSplit, AreSplit, IsSplitWith};
 
 use crate::cut::{cut, fit, key};
 use crate::distinct::Distinct;
@@ -66,6 +67,69 @@ fn split(k: u32, halves: Halves, cut: u64) -> (u32, u32)
     (halves.below, halves.above)
 }
 
+/// Two lists in two at one place, where a list that has the pairs of both is cut: their parts below it, and those from
+/// it on.
+#[derive(Clone, Copy)]
+struct Pieces<T> {
+    cut: u64,
+    below: (u32, T),
+    above: (u32, T),
+}
+
+/// The list number `k`, which has these halves, and some pairs in two.
+fn pieces_with_pairs(k: u32, halves: Halves, pairs: &[(u32, u32)]) -> Pieces<&[(u32, u32)]>
+    requires some { 0 < length pairs.now }
+    requires cut { 0 < halves.cut }
+    requires rising { IsStrictlySortedBy pair_cmp pairs.now }
+    requires fit { Fit pairs.now }
+    ensures { (lists : List (List (ℕ × ℕ))) → AreStored lists → IsHalved lists k halves
+        → IsSplitWith lists k pairs.now result.cut (result.below.0, result.below.1.now) (result.above.0, result.above.1.now) }
+{
+    let low = key(pairs[0]).min(halves.cut - 1);
+    let high = key(pairs[pairs.len() - 1]).max(halves.cut);
+    let cut = cut(low, high);
+    let (below, above) = split(k, halves, cut);
+    let (few, more) = parted(pairs, cut);
+    Pieces {
+        cut,
+        below: (below, few),
+        above: (above, more),
+    }
+}
+
+/// The number of the list that has the pairs of the list number `k`, which is kept whole, and these.
+///
+/// Fails if there is no memory for it. The lists that there were are as they were.
+#[inline(always)]
+fn with_short(
+    lists: &mut Distinct,
+    merged: &mut Vec<(u32, u32)>,
+    k: u32,
+    pairs: &[(u32, u32)],
+) -> Result<u32, Memory>
+    requires list { k < length lists.old }
+    requires short { length (list_at lists.old k) ≤ FEW }
+    requires rising { IsStrictlySortedBy pair_cmp pairs.now }
+    requires fit { Fit pairs.now }
+    ensures within { IfOk result (λ i. i < length lists.new) }
+    ensures exactly { IfOk result (λ i. Unites (list_at lists.new i) pairs.now (list_at lists.old k)) }
+    ensures grow { Grow lists.old lists.new }
+{
+    lists.known();
+    if k == EMPTY {
+        return list_of(lists, pairs);
+    }
+    let Shape::Whole(list) = lists.shape(k) else {
+        return Ok(k);
+    };
+    if has_all(list, pairs) {
+        return Ok(k);
+    }
+    merged.clear();
+    append_merged(list, pairs, merged)?;
+    list_of(lists, merged)
+}
+
 /// The number of the list that has the pairs of the list number `k` and these. Lists are put together in `merged`.
 ///
 /// Fails if there is no memory for it. The lists that there were are as they were.
@@ -86,37 +150,18 @@ pub(crate) fn with(
     if pairs.is_empty() {
         return Ok(k);
     }
-    if k == EMPTY {
-        return list_of(lists, pairs);
+    let Shape::Halved(halves) = lists.shape(k) else {
+        return with_short(lists, merged, k, pairs);
+    };
+    let pieces = pieces_with_pairs(k, halves, pairs);
+    let below = with(lists, merged, pieces.below.0, pieces.below.1)?;
+    let above = with(lists, merged, pieces.above.0, pieces.above.1)?;
+    lists.known();
+    if below == pieces.below.0 && above == pieces.above.0 {
+        return Ok(k);
     }
-    match lists.shape(k) {
-        Shape::Whole(list) => {
-            if has_all(list, pairs) {
-                return Ok(k);
-            }
-            merged.clear();
-            append_merged(list, pairs, merged)?;
-            list_of(lists, merged)
-        }
-        Shape::Halved(halves) => {
-            let low = key(pairs[0]).min(halves.cut - 1);
-            let high = key(pairs[pairs.len() - 1]).max(halves.cut);
-            let cut = cut(low, high);
-            let (below, above) = split(k, halves, cut);
-            let (few, more) = parted(pairs, cut);
-            let lower = with(lists, merged, below, few)?;
-            let upper = with(lists, merged, above, more)?;
-            lists.known();
-            if lower == below && upper == above {
-                return Ok(k);
-            }
-            lists.number(Shape::Halved(Halves {
-                below: lower,
-                above: upper,
-                cut,
-            }))
-        }
-    }
+    let cut = pieces.cut;
+    lists.number(Shape::Halved(Halves { below, above, cut }))
 }
 
 /// What unions are put together in.
@@ -152,30 +197,33 @@ fn noted(known: &Known, j: u32, k: u32) -> Option<u32>
     known.find(j.min(k), j.max(k))
 }
 
-/// The number of the list of these halves, which has the pairs of both lists: it is noted.
+/// Notes that the list number `i` has the pairs of both lists.
 ///
-/// Fails if there is no memory for it. The lists that there were are as they were.
-fn note(
-    lists: &mut Distinct,
-    known: &mut Known,
-    j: u32,
-    k: u32,
-    halves: Halves,
-) -> Result<u32, Memory>
-    requires unions { AreUnions lists.old known.old }
-    requires first { j < length lists.old }
-    requires second { k < length lists.old }
-    requires halves { AreIn lists.old halves }
-    requires union { Unites (list_at lists.old halves.below ++ list_at lists.old halves.above) (list_at lists.old j) (list_at lists.old k) }
-    ensures unions { AreUnions lists.new known.new }
-    ensures within { IfOk result (λ i. i < length lists.new) }
-    ensures exactly { IfOk result (λ i. Unites (list_at lists.new i) (list_at lists.old j) (list_at lists.old k)) }
-    ensures grow { Grow lists.old lists.new }
+/// Fails if there is no memory for it.
+fn note(lists: &Distinct, known: &mut Known, j: u32, k: u32, i: u32) -> Result<(), Memory>
+    requires unions { AreUnions lists.now known.old }
+    requires union { IsUnion lists.now (j, k) i }
+    ensures { AreUnions lists.now known.new }
 {
     lists.known();
-    let i = lists.number(Shape::Halved(halves))?;
-    known.note(j.min(k), j.max(k), i)?;
-    Ok(i)
+    known.note(j.min(k), j.max(k), i)
+}
+
+/// The lists number `j` and `k`, which have these halves, in two.
+fn pieces_of_both(j: u32, first: Halves, k: u32, second: Halves) -> Pieces<u32>
+    requires first { 0 < first.cut }
+    requires second { 0 < second.cut }
+    ensures { (lists : List (List (ℕ × ℕ))) → AreStored lists → IsHalved lists j first → IsHalved lists k second
+        → AreSplit lists (j, k) result.cut result.below result.above }
+{
+    let cut = cut(first.cut.min(second.cut) - 1, first.cut.max(second.cut));
+    let (below, above) = split(j, first, cut);
+    let (under, over) = split(k, second, cut);
+    Pieces {
+        cut,
+        below: (below, under),
+        above: (above, over),
+    }
 }
 
 /// The number of the list that has the pairs of both lists. What is made is noted.
@@ -197,124 +245,49 @@ pub(crate) fn both(
     ensures grow { Grow lists.old lists.new }
 {
     lists.known();
-    if j == k || k == EMPTY {
-        return Ok(j);
+    if j == k || j == EMPTY || k == EMPTY {
+        return Ok(j.max(k));
     }
-    if j == EMPTY {
-        return Ok(k);
+    let Shape::Halved(first) = lists.shape(j) else {
+        return with_list(lists, scratch, j, k);
+    };
+    let Shape::Halved(second) = lists.shape(k) else {
+        return with_list(lists, scratch, k, j);
+    };
+    if let Some(i) = noted(known, j, k) {
+        return Ok(i);
     }
-    match lists.shape(j) {
-        Shape::Whole(_) => with_list(lists, scratch, j, k),
-        Shape::Halved(first) => match lists.shape(k) {
-            Shape::Whole(_) => with_list(lists, scratch, k, j),
-            Shape::Halved(second) => {
-                if let Some(i) = noted(known, j, k) {
-                    return Ok(i);
-                }
-                let cut = cut(first.cut.min(second.cut) - 1, first.cut.max(second.cut));
-                let (below, above) = split(j, first, cut);
-                let (under, over) = split(k, second, cut);
-                let lower = both(lists, known, scratch, below, under)?;
-                let upper = both(lists, known, scratch, above, over)?;
-                lists.known();
-                let halves = Halves {
-                    below: lower,
-                    above: upper,
-                    cut,
-                };
-                note(lists, known, j, k, halves)
-            }
-        },
-    }
+    let Pieces { cut, below, above } = pieces_of_both(j, first, k, second);
+    let below = both(lists, known, scratch, below.0, below.1)?;
+    let above = both(lists, known, scratch, above.0, above.1)?;
+    lists.known();
+    let i = lists.number(Shape::Halved(Halves { below, above, cut }))?;
+    note(lists, known, j, k, i)?;
+    Ok(i)
 }
 
-/// Adds the pairs of the list number `k`: after the last one of `pairs` if it is kept whole, or else to those of the list number
-/// `long`. Returns the number of the list that has the latter ones.
+/// Appends the list number `k` to `pairs` if it is one of many and kept whole, and returns whether it did: so no list is
+/// made of what some of many short lists have together.
 ///
-/// Fails if there is no memory for it. The lists that there were are as they were.
-fn append(
-    lists: &mut Distinct,
-    known: &mut Known,
-    scratch: &mut Scratch,
-    pairs: &mut Vec<(u32, u32)>,
-    long: u32,
-    k: u32,
-) -> Result<u32, Memory>
-    requires unions { AreUnions lists.old known.old }
-    requires long { long < length lists.old }
-    requires list { k < length lists.old }
-    ensures unions { AreUnions lists.new known.new }
-    ensures within { IfOk result (λ i. i < length lists.new) }
-    ensures exactly { IfOk result (λ i. Unites (pairs.new.items ++ list_at lists.new i) (pairs.old.items ++ list_at lists.old long) (list_at lists.old k)) }
-    ensures grow { Grow lists.old lists.new }
+/// Fails if there is no memory for it.
+fn append(lists: &Distinct, k: u32, many: bool, pairs: &mut Vec<(u32, u32)>) -> Result<bool, Memory>
+    requires { k < length lists.now }
+    ensures { IfOk result (λ done. pairs.new.items ≡ (if done then pairs.old.items ++ list_at lists.now k else pairs.old.items)) }
 {
-    lists.known();
+    if !many {
+        return Ok(false);
+    }
     match lists.shape(k) {
         Shape::Whole(list) => {
             pairs.extend_from_slice(list)?;
-            Ok(long)
+            Ok(true)
         }
-        Shape::Halved(_) => both(lists, known, scratch, long, k),
+        Shape::Halved(_) => Ok(false),
     }
-}
-
-/// The number of the list that has the pairs of these lists and these pairs, and no other one. The lists are united one after
-/// the other.
-///
-/// Fails if there is no memory for it. The lists that there were are as they were.
-fn join_few(
-    lists: &mut Distinct,
-    known: &mut Known,
-    scratch: &mut Scratch,
-    numbers: &[u32],
-    pairs: &[(u32, u32)],
-) -> Result<u32, Memory>
-    requires unions { AreUnions lists.old known.old }
-    requires lists { AreNumbers lists.old numbers.now }
-    requires rising { IsStrictlySortedBy pair_cmp pairs.now }
-    requires fit { Fit pairs.now }
-    ensures unions { AreUnions lists.new known.new }
-    ensures within { IfOk result (λ i. i < length lists.new) }
-    ensures exactly { IfOk result (λ i. (z : ℕ × ℕ) → Contains (list_at lists.new i) z ↔ (Contains pairs.now z ⊎ HasOne lists.old numbers.now z)) }
-    ensures grow { Grow lists.old lists.new }
-{
-    lists.known();
-    let mut union = EMPTY;
-    for k in numbers {
-        union = both(lists, known, scratch, union, *k)?;
-    }
-    with(lists, &mut scratch.merged, union, pairs)
-}
-
-/// The number of the list that has the pairs of these lists and these pairs, and no other one. Lists that are kept whole are
-/// appended to the pairs, which are put in order once: so no list is made of what some of them have together.
-///
-/// Fails if there is no memory for it. The lists that there were are as they were.
-fn join_many(
-    lists: &mut Distinct,
-    known: &mut Known,
-    scratch: &mut Scratch,
-    numbers: &[u32],
-    pairs: &mut Vec<(u32, u32)>,
-) -> Result<u32, Memory>
-    requires unions { AreUnions lists.old known.old }
-    requires lists { AreNumbers lists.old numbers.now }
-    ensures unions { AreUnions lists.new known.new }
-    ensures within { IfOk result (λ i. i < length lists.new) }
-    ensures exactly { IfOk result (λ i. (z : ℕ × ℕ) → Contains (list_at lists.new i) z ↔ (Contains pairs.old.items z ⊎ HasOne lists.old numbers.now z)) }
-    ensures grow { Grow lists.old lists.new }
-{
-    lists.known();
-    let mut union = EMPTY;
-    for k in numbers {
-        union = append(lists, known, scratch, pairs, union, *k)?;
-    }
-    order_many(pairs, &mut scratch.marks)?;
-    fit(pairs);
-    with(lists, &mut scratch.merged, union, pairs)
 }
 
 /// The number of the list that has the pairs of these lists and these pairs, which may be in any order, and no other one.
+/// Lists are united one after the other; of many the short ones are put in order with the pairs.
 ///
 /// Fails if there is no memory for it. The lists that there were are as they were.
 pub(crate) fn join(
@@ -331,10 +304,16 @@ pub(crate) fn join(
     ensures exactly { IfOk result (λ i. (z : ℕ × ℕ) → Contains (list_at lists.new i) z ↔ (Contains pairs.old.items z ⊎ HasOne lists.old numbers.now z)) }
     ensures grow { Grow lists.old lists.new }
 {
-    if numbers.len() > FEW_LISTS {
-        return join_many(lists, known, scratch, numbers, pairs);
+    lists.known();
+    let many = numbers.len() > FEW_LISTS;
+    let mut union = EMPTY;
+    for k in numbers {
+        if append(lists, *k, many, pairs)? {
+            continue;
+        }
+        union = both(lists, known, scratch, union, *k)?;
     }
     order_many(pairs, &mut scratch.marks)?;
     fit(pairs);
-    join_few(lists, known, scratch, numbers, pairs)
+    with(lists, &mut scratch.merged, union, pairs)
 }

@@ -2,7 +2,6 @@ pub mod CallerLemmas
 pub mod Numbering
 pub mod Renumbering
 pub mod Keeping
-pub mod Searching
 pub mod Representatives
 pub mod Meeting
 pub mod Living

@@ -7,7 +7,7 @@ use Rattle.theory.specs.Blocks.{Signature, SameSignature, Split}
 use Rattle.lts.specs.Labels.{text_of, IsNumber}
 use Rattle.lts.specs.Lts.{Grouped, system_of}
 use Rattle.inert.specs.Signed.{HasPair, IsSignature}
-use Rattle.lists.proofs.CallerLemmas.{pair_total, rising_unique}
+use Rattle.lists.proofs.CallerLemmas.{rising_unique}
 
 -- each label that a step shows is in the table
 abbrev pub Labelled : Grouped → Type 0
@@ -34,7 +34,7 @@ module _ (rel : Relation) (l : Grouped) (labelled : Labelled l) (blocks : List �
 
   same_list : SameSignature rel (system_of l) (slice_index blocks) s t → xs ≡ ys
   same_list same =
-      rising_unique pair_total xs ys of_s.rising of_t.rising (λ z. (
+      rising_unique xs ys of_s.rising of_t.rising (λ z. (
         λ c. let h = (of_s.exactly z.0 z.1).0 c in (of_t.exactly z.0 z.1).1 (h.0, (same (text_of l.labels z.0) z.1).0 h.1),
         λ c. let h = (of_t.exactly z.0 z.1).0 c in (of_s.exactly z.0 z.1).1 (h.0, (same (text_of l.labels z.0) z.1).1 h.1),
       ))

@@ -1,10 +1,8 @@
-use Rattle.std.proofs.Common.{subst}
-use Rattle.lists.specs.Unions.{IsUnion}
-use Rattle.lists.proofs.Noting.{if_some, IsUnion-out_of_order}
+use Rattle.lists.proofs.Noting.{if_some, IsUnion-in_order}
 use Rattle.lists.proofs.unions.noted.Goals as goal
 
 pub returns : goal.returns
 returns c lists are =
     if_some c.find.result _ _
-    (λ i d. IsUnion-out_of_order lists c.args.j c.args.k i (subst (λ key. IsUnion lists key i) (λ i. (c.min.ensures i, c.max.ensures i)) (are _ d)))
+    (λ i d. (IsUnion-in_order lists c.args.j c.args.k i).1 (rw (← c.min.ensures, ← c.max.ensures) (are _ d)))
     c.find.ensures

@@ -1,4 +1,4 @@
-use Rattle.std.proofs.Common.{◌≡◌, ◌∙◌, ◌++◌, ap, sym, subst}
+use Rattle.std.proofs.Common.{◌≡◌, ◌∙◌, ◌++◌, [], ap, sym, subst}
 use Rattle.std.proofs.lemmas.Result.{IfOk-weaker}
 use Rattle.lists.specs.Lists.{list_at}
 use Rattle.lists.specs.Cuts.{Fit}
@@ -12,7 +12,7 @@ held_is c = c.deref.ensures.value ∙ c.in_ok-gather.ensures.appended ∙ ap (λ
 
 pub with-requires-clause-fit : goal.with-requires-clause-fit
 with-requires-clause-fit c =
-    subst Fit (sym (held_is ((goal.at.with-requires-clause-fit c).After-deref))) (c.known.ensures.stored.fit c.args.few)
+    subst Fit (sym (held_is ((goal.at.with-requires-clause-fit c).After-deref))) (c.known.ensures.stored.fit c.args.few [] c.requires.few)
 
 pub returns-clause-exactly : goal.returns-clause-exactly
 returns-clause-exactly c =

@@ -1,9 +1,11 @@
-use Rattle.lists.proofs.Listing.{AreSpans-cleared, lists_of-cleared}
+use Rattle.std.proofs.Common.{refl}
+use Rattle.lists.proofs.Listing.{AreSpans-first, spans-cleared}
 use Rattle.lists.proofs.parts.Parts.clear.Goals as goal
 
 pub invariant_of-self : goal.invariant_of-self
-invariant_of-self c = rw (c.clear.ensures.items, c.truncate.ensures.items)
-    (AreSpans-cleared c.self.inside.pairs.items c.self.inside.spans.items c.self.invariant)
+invariant_of-self c =
+    rw (c.clear.ensures.items, c.truncate.ensures.items, spans-cleared c.self.inside.pairs.items c.self.inside.spans.items c.self.invariant) AreSpans-first
 
 pub returns : goal.returns
-returns c = rw (c.clear.ensures.items, c.truncate.ensures.items) (lists_of-cleared c.self.inside.spans.items c.self.invariant.some)
+returns c =
+    rw (c.clear.ensures.items, c.truncate.ensures.items, spans-cleared c.self.inside.pairs.items c.self.inside.spans.items c.self.invariant) refl

@@ -2,7 +2,7 @@ use Rattle.std.proofs.Common.{◌⊎◌, ◌↔◌, ◌<◌, ℕ, ◌++◌, leng
 use Rattle.lists.specs.Lists.{list_at, Grow}
 use Rattle.lists.specs.Unions.{AreUnions}
 use Rattle.lists.proofs.Joining.{HasUpTo}
-use Rattle.lists.proofs.unions.join_many.Given as goal
+use Rattle.lists.proofs.unions.join.Given as goal
 
 abbrev pub invariant-loop-k : goal.invariant-loop-k
 invariant-loop-k l = record {
