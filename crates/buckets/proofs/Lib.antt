@@ -1,0 +1,2 @@
+pub mod Chaining
+pub mod Entries
