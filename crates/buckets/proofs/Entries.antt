@@ -1,15 +1,15 @@
 -- The entries of the numbers: their tags, one more, one less, and all chained anew over other buckets.
-use Rattle.std.proofs.Common.{◌≡◌, ◌≢◌, ◌∙◌, ℕ, ◌+◌, ◌^◌, ◌<◌, List, [], ◌∷◌, ◌++◌, length, get_or, set, take, ap, sym, subst, refl, inl, inr, arith}
+use Rattle.std.proofs.Common.{◌≡◌, ◌≢◌, ◌∙◌, ℕ, ◌+◌, ◌^◌, ◌<◌, List, [], ◌∷◌, ◌++◌, length, get_or, set, take, ap, sym, subst, inl, inr, arith}
 use Rattle.std.proofs.Math.ListN as plain
 use Rattle.std.proofs.Math.Seq.{map-set_same}
 use Rattle.std.proofs.lemmas.Bool.{cases_lt}
-use Rattle.std.proofs.lemmas.List.{length-set, length-map, length-take-le, length_push, map-append, map_more, take-map, take_all, get_or_append_left, get_or_push, get_or-take, get_or-set_same, get_or-set_other}
+use Rattle.std.proofs.lemmas.List.{length-set, length-map, length-take-le, length_push, map-append, map_more, take-map, take_all, get_or-take, get_or-set_same, get_or-set_other}
 use Rattle.std.proofs.lemmas.List.Elements.{All-push, All-take, All-same}
 use Rattle.buckets.specs.declared.chains.Entry.{Entry}
 use Rattle.buckets.specs.declared.TheConstants.{MOST}
 use Rattle.buckets.specs.Buckets.{tag_at, IsLast}
 use Rattle.buckets.specs.Chains.{tags_of, bucket_of_tag, IsChained, no_entry, entry_at, entry_bucket, entry_before, AreBuckets}
-use Rattle.buckets.proofs.Chaining.{IsChained-push, IsChained-pop}
+use Rattle.buckets.proofs.Chaining.{IsChained-push, Chained-push, IsChained-pop}
 
 pub tag_is : (entries : List Entry) (r : ℕ) → tag_at (tags_of entries) r ≡ (entry_at entries r).tag
 tag_is entries r = plain.get_or-map (λ x. x.tag) entries r no_entry
@@ -53,26 +53,16 @@ module _ {heads : List ℕ} {entries : List Entry} (is : AreBuckets heads entrie
 pub AreBuckets-push : (heads : List ℕ) (entries : List Entry) (new : Entry) (b : ℕ) → AreBuckets heads entries → length entries < MOST → b < length heads
     → new.tag < 2 ^ 32 → b ≡ bucket_of_tag (length heads) new.tag → new.before ≡ get_or heads b 0 → AreBuckets (set heads b (length entries)) (entries ++ new ∷ [])
 AreBuckets-push heads entries new b is few in' low at_b head =
-    let count = length entries in
-    let all = entries ++ new ∷ [] in
-    let size = length-set heads b count in
-    let longer : count + 1 ≡ length all = omega (arith, length_push entries new) in
-    let old : (r : ℕ) → r < count → get_or all r no_entry ≡ get_or entries r no_entry = get_or_append_left entries (new ∷ []) no_entry in
-    let last : get_or all count no_entry ≡ new = get_or_push entries new no_entry count refl in
+    let longer = length_push entries new in
+    let size = length-set heads b (length entries) in
     record {
       some_buckets = let some = is.some_buckets in omega arith;
       few_buckets = let few = is.few_buckets in omega arith;
       some = omega arith;
       few = omega arith;
-      tags = All-same (λ tag. tag < 2 ^ 32) (tags_of all) (tags_of entries ++ new.tag ∷ []) (map-append (λ x. x.tag) entries (new ∷ []))
+      tags = All-same (λ tag. tag < 2 ^ 32) (tags_of (entries ++ new ∷ [])) (tags_of entries ++ new.tag ∷ []) (map-append (λ x. x.tag) entries (new ∷ []))
           (All-push (λ tag. tag < 2 ^ 32) (tags_of entries) new.tag is.tags low);
-      chained =
-          subst (λ n. IsChained n (entry_bucket all (set heads b count)) (entry_before all) (set heads b count)) longer
-          (IsChained-push count (entry_bucket entries heads) (entry_before entries) _ _ heads b is.chained is.some in'
-          (λ r h. ap (λ n. bucket_of_tag n (entry_at all r).tag) size ∙ ap (λ x. bucket_of_tag (length heads) x.tag) (old r h))
-          (λ r h. ap (λ x. x.before) (old r h))
-          (ap (λ n. bucket_of_tag n (entry_at all count).tag) size ∙ ap (λ x. bucket_of_tag (length heads) x.tag) last ∙ sym at_b)
-          (ap (λ x. x.before) last ∙ head));
+      chained = Chained-push no_entry (λ n x. bucket_of_tag n x.tag) (λ x. x.before) entries heads new b is.chained is.some in' at_b head;
     }
 
 -- the last entry is taken out of its bucket
