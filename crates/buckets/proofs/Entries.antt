@@ -8,11 +8,11 @@ use Rattle.std.proofs.lemmas.List.Elements.{All-push, All-take, All-same}
 use Rattle.buckets.specs.declared.chains.Entry.{Entry}
 use Rattle.buckets.specs.declared.TheConstants.{MOST}
 use Rattle.buckets.specs.Buckets.{tag_at, IsLast}
-use Rattle.buckets.specs.Chains.{tags_of, bucket_of_tag, IsChained, no_entry, entry_at, entry_bucket, entry_before, AreBuckets}
+use Rattle.buckets.specs.Chains.{tags_of, bucket_of_tag, IsChained, entry_of_none, entry_at, entry_bucket, entry_before, AreBuckets}
 use Rattle.buckets.proofs.Chaining.{IsChained-push, Chained-push, IsChained-pop}
 
 pub tag_is : (entries : List Entry) (r : ℕ) → tag_at (tags_of entries) r ≡ (entry_at entries r).tag
-tag_is entries r = plain.get_or-map (λ x. x.tag) entries r no_entry
+tag_is entries r = plain.get_or-map (λ x. x.tag) entries r entry_of_none
 
 -- where no number up to an end has the tag, the last one below is the last one up to there
 pub IsLast-further : {tags : List ℕ} {tag low end r : ℕ} → IsLast tags tag (low + 1) r → (0 < end → low < end)
@@ -62,7 +62,7 @@ AreBuckets-push heads entries new b is few in' low at_b head =
       few = omega arith;
       tags = All-same (λ tag. tag < 2 ^ 32) (tags_of (entries ++ new ∷ [])) (tags_of entries ++ new.tag ∷ []) (map-append (λ x. x.tag) entries (new ∷ []))
           (All-push (λ tag. tag < 2 ^ 32) (tags_of entries) new.tag is.tags low);
-      chained = Chained-push no_entry (λ n x. bucket_of_tag n x.tag) (λ x. x.before) entries heads new b is.chained is.some in' at_b head;
+      chained = Chained-push entry_of_none (λ n x. bucket_of_tag n x.tag) (λ x. x.before) entries heads new b is.chained is.some in' at_b head;
     }
 
 -- the last entry is taken out of its bucket
@@ -73,7 +73,7 @@ AreBuckets-pop heads entries count b is one more in' at_b =
     let before = (entry_at entries count).before in
     let size = length-set heads b before in
     let shorter = length-take-le count entries (omega arith) in
-    let old : (r : ℕ) → r < count → entry_at (take count entries) r ≡ entry_at entries r = λ r h. get_or-take count entries r no_entry h in
+    let old : (r : ℕ) → r < count → entry_at (take count entries) r ≡ entry_at entries r = λ r h. get_or-take count entries r entry_of_none h in
     record {
       some_buckets = let some = is.some_buckets in omega arith;
       few_buckets = let few = is.few_buckets in omega arith;
@@ -92,7 +92,7 @@ AreBuckets-pop heads entries count b is one more in' at_b =
 pub tags_popped : (entries : List Entry) (count : ℕ) → length entries ≡ count + 1
     → tags_of entries ≡ tags_of (take count entries) ++ (entry_at entries count).tag ∷ []
 tags_popped entries count one =
-    ap tags_of (sym (take_all (count + 1) entries (omega arith))) ∙ map_more (λ x. x.tag) entries count no_entry (omega arith)
+    ap tags_of (sym (take_all (count + 1) entries (omega arith))) ∙ map_more (λ x. x.tag) entries count entry_of_none (omega arith)
 
 -- the entries below the number r are in the buckets
 pub record Rechained (old : List Entry) (buckets r : ℕ) (heads : List ℕ) (entries : List Entry) : Type 0 where
@@ -115,7 +115,7 @@ module _ (old : List Entry) (buckets r : ℕ) (heads : List ℕ) (entries : List
   pub Rechained-more : Rechained old buckets (r + 1) (set heads b r) (set entries r new)
   Rechained-more =
       let size = length-set heads b r in
-      let kept = map-set_same (λ x. x.tag) entries r new no_entry tag in
+      let kept = map-set_same (λ x. x.tag) entries r new entry_of_none tag in
       let tag-kept : (k : ℕ) → (entry_at (set entries r new) k).tag ≡ (entry_at entries k).tag =
       λ k. sym (tag_is (set entries r new) k) ∙ ap (λ tags. tag_at tags k) kept ∙ tag_is entries k in
       record {

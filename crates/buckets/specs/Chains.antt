@@ -22,12 +22,12 @@ pub record IsChained (count : ℕ) (bucket before : ℕ → ℕ) (heads : List �
   pub before_last : (q r : ℕ) → 0 < q → q < r → r < count → bucket q ≡ bucket r → q ≤ before r
 
 -- the entry of number 0, which is in no bucket
-abbrev pub no_entry : Entry
-no_entry = record { tag = 0; before = 0 }
+abbrev pub entry_of_none : Entry
+entry_of_none = record { tag = 0; before = 0 }
 
 -- the entry of the number r
 abbrev pub entry_at : List Entry → ℕ → Entry
-entry_at entries r = slice_index_or entries r no_entry
+entry_at entries r = slice_index_or entries r entry_of_none
 
 -- the bucket of the number r
 abbrev pub entry_bucket : List Entry → List ℕ → ℕ → ℕ

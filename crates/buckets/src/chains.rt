@@ -1,7 +1,7 @@
 //! The entries of the numbers: those in one bucket are chained, from the last one down.
 ghost use Rattle.std.specs.Prelude.{◌≡◌, ℕ, ◌^◌, ◌+◌, ◌++◌, ◌∷◌, ◌<◌, ◌≤◌, [], length, slice_index, OnOk, OnErr};
 ghost use Rattle.buckets.specs.Buckets.{IsLast};
-ghost use Rattle.buckets.specs.Chains.{tags_of, bucket_of_tag, no_entry, entry_bucket, AreBuckets, AreChained};
+ghost use Rattle.buckets.specs.Chains.{tags_of, bucket_of_tag, entry_of_none, entry_bucket, AreBuckets, AreChained};
 ghost use Rattle.buckets.specs.declared.TheConstants.{MOST};
 
 use crate::MOST_BUCKETS;
@@ -18,7 +18,7 @@ pub(crate) struct Entry {
 
 /// The entry of number 0, which is in no bucket.
 pub(crate) fn first_entry() -> Entry
-    ensures { result ≡ no_entry }
+    ensures { result ≡ entry_of_none }
 {
     Entry { tag: 0, before: 0 }
 }

@@ -1,54 +1,15 @@
--- Lists under their tags: one list more, and a search for a list among those of its tag.
-use Rattle.std.proofs.Common.{◌≡◌, ◌∙◌, ℕ, ◌<◌, List, [], ◌∷◌, ◌++◌, map, length, get_or, ap, sym, subst, inl, inr, arith}
+-- A search for a list among those of its tag.
+use Rattle.std.proofs.Common.{◌≡◌, ◌∙◌, ℕ, ◌<◌, List, [], map, length, ap, sym, subst, inl, inr, arith}
 use Rattle.std.proofs.Math.ListN as plain
-use Rattle.std.proofs.lemmas.Bool.{cases_lt, cases_eq, cases_order}
-use Rattle.std.proofs.lemmas.List.{length-map, length_push, map-append}
+use Rattle.std.proofs.lemmas.Bool.{cases_order}
+use Rattle.std.proofs.lemmas.List.{length-map}
 use Rattle.buckets.specs.Buckets.{tag_at, IsLast}
-use Rattle.lists.specs.Spans.{fingerprint_of}
 use Rattle.lists.specs.Lists.{list_at}
-use Rattle.lists.specs.Hashed.{tag_of, IsHashed, IsNewList}
-use Rattle.lists.proofs.Storing.{list-old, list-new}
+use Rattle.lists.specs.Hashed.{tag_of}
 
--- the tag and the fingerprint of the list number k
+-- the tag of the list number k
 pub tag_is : (lists : List (List (ℕ × ℕ))) {tags : List ℕ} → tags ≡ map tag_of lists → (k : ℕ) → tag_at tags k ≡ tag_of (list_at lists k)
 tag_is lists e k = ap (λ tags. tag_at tags k) e ∙ plain.get_or-map tag_of lists k []
-
-pub sum_is : (lists : List (List (ℕ × ℕ))) {sums : List ℕ} → sums ≡ map fingerprint_of lists → (k : ℕ) → get_or sums k 0 ≡ fingerprint_of (list_at lists k)
-sum_is lists e k = ap (λ sums. get_or sums k 0) e ∙ plain.get_or-map fingerprint_of lists k []
-
--- the new list
-module _ (lists : List (List (ℕ × ℕ))) (sums tags : List ℕ) (list : List (ℕ × ℕ)) (is : IsHashed lists sums tags)
-    (first : list_at lists 0 ≡ list → ⊥) (absent : IsNewList lists list) where
-  -- no old list is the new one
-  apart : (q r : ℕ) → q < length lists → r ≡ length lists → list_at (lists ++ list ∷ []) q ≡ list_at (lists ++ list ∷ []) r → ⊥
-  apart q r o last e =
-      let same : list_at lists q ≡ list = sym (list-old lists list q o) ∙ e ∙ list-new lists list r last in
-      elim (cases_eq q 0) [
-        | inl z ↦ first (ap (list_at lists) (sym z) ∙ same)
-        | inr p ↦ absent q (omega (arith, p)) o same
-      ]
-
-  different-push : (q r : ℕ) → q < length (lists ++ list ∷ []) → r < length (lists ++ list ∷ [])
-      → list_at (lists ++ list ∷ []) q ≡ list_at (lists ++ list ∷ []) r → q ≡ r
-  different-push q r d h e =
-      let longer = length_push lists list in
-      elim (cases_lt q (length lists)) [
-        | inl oq ↦ elim (cases_lt r (length lists)) [
-          | inl or ↦ is.different q r oq or (sym (list-old lists list q oq) ∙ e ∙ list-old lists list r or)
-          | inr nr ↦ absurd (apart q r oq (omega arith) e)
-        ]
-        | inr nq ↦ elim (cases_lt r (length lists)) [
-          | inl or ↦ absurd (apart r q or (omega arith) (sym e))
-          | inr nr ↦ omega arith
-        ]
-      ]
-
-  pub IsHashed-push : IsHashed (lists ++ list ∷ []) (sums ++ fingerprint_of list ∷ []) (tags ++ tag_of list ∷ [])
-  IsHashed-push = record {
-    are_sums = ap (λ xs. xs ++ fingerprint_of list ∷ []) is.are_sums ∙ sym (map-append fingerprint_of lists (list ∷ []));
-    are_tags = ap (λ xs. xs ++ tag_of list ∷ []) is.are_tags ∙ sym (map-append tag_of lists (list ∷ []));
-    different = different-push;
-  }
 
 -- a search for the list is at the number r of its tag: no number above is that of the list
 pub record IsReached (lists : List (List (ℕ × ℕ))) (list : List (ℕ × ℕ)) (r : ℕ) : Type 0 where

@@ -1,17 +1,14 @@
--- Fingerprints: of one pair more, and of two halves. A shape is that of one list at most.
+-- The fingerprint of one pair more. Halves are those of one list at most.
 use Rattle.std.proofs.Common.{◌≡◌, ◌∙◌, ℕ, ◌+◌, ◌%◌, ◌^◌, ◌<◌, List, [], ◌++◌, length, get_or, take, ◌&&◌, eqb, Decides, ap, sym, subst, refl, arith}
-use Rattle.std.proofs.Math.Nat.{mod-add-mod, add-mod-mod}
+use Rattle.std.proofs.Math.Nat.{mod-add-mod}
 use Rattle.std.specs.List.{sum_by}
 use Rattle.std.proofs.lemmas.Bool.Decides.{Decides-eqb, Decides-and, Decides-like}
-use Rattle.std.proofs.lemmas.List.{length-append}
-use Rattle.std.proofs.lemmas.List.Sums.{sum_by_more, sum_by-append}
+use Rattle.std.proofs.lemmas.List.Sums.{sum_by_more}
 use Rattle.lists.specs.declared.nodes.Halves.{Halves}
-use Rattle.lists.specs.declared.nodes.Shape.{Shape}
-use Rattle.lists.specs.declared.nodes.Shape.TheVariants.{Whole, Halved}
 use Rattle.lists.specs.Spans.{hash_of, fingerprint_of}
 use Rattle.lists.specs.Lists.{list_at}
 use Rattle.lists.specs.Cuts.{IsCut, IsUnder, IsOver}
-use Rattle.lists.specs.Nodes.{IsHalved, AreStored, list_of_shape, AreIn, Suits}
+use Rattle.lists.specs.Nodes.{IsHalved, AreStored, AreIn}
 use Rattle.lists.specs.Hashed.{AreDifferent}
 use Rattle.lists.proofs.Cuts.{cut_unique}
 use Rattle.lists.proofs.Keys.{same_below, same_above}
@@ -23,13 +20,6 @@ fingerprint_more list i sum hash low before is =
     ap (λ s. (s + hash) % 2 ^ 64) before ∙ mod-add-mod (sum_by hash_of (take i list)) (2 ^ 64) hash
     ∙ ap (λ w. (sum_by hash_of (take i list) + w) % 2 ^ 64) is
     ∙ ap (λ s. s % 2 ^ 64) (sym (sum_by_more hash_of list i (0, 0) low))
-
--- two halves
-pub fingerprint_halves : (below above : List (ℕ × ℕ)) → (fingerprint_of below + fingerprint_of above) % 2 ^ 64 ≡ fingerprint_of (below ++ above)
-fingerprint_halves below above =
-    mod-add-mod (sum_by hash_of below) (2 ^ 64) (fingerprint_of above)
-    ∙ add-mod-mod (sum_by hash_of below) (sum_by hash_of above) (2 ^ 64)
-    ∙ ap (λ s. s % 2 ^ 64) (sym (sum_by-append hash_of below above))
 
 -- of different lists, one has these two as its halves, and its cut is theirs
 module _ (lists : List (List (ℕ × ℕ))) (stored : AreStored lists) (different : AreDifferent lists) where
@@ -50,17 +40,6 @@ module _ (lists : List (List (ℕ × ℕ))) (stored : AreStored lists) (differen
 
   pub halves_in : (k : ℕ) (h : Halves) → k < length lists → IsHalved lists k h → AreIn lists h
   halves_in k h low is = record { below = let b = is.below in omega arith; above = let a = is.above in omega arith; halves = is.halves }
-
--- a list that has a shape is not empty
-pub shape_some : (lists : List (List (ℕ × ℕ))) (shape : Shape) → Suits lists shape → [] ≡ list_of_shape lists shape → ⊥
-shape_some lists (Whole list) suits e =
-    let some = suits.some in
-    let none : 0 ≡ length list.now = ap length e in
-    omega arith
-shape_some lists (Halved h) suits e =
-    let long = suits.halves.long in
-    let none : 0 ≡ length (list_at lists h.below ++ list_at lists h.above) = ap length e in
-    omega (arith, length-append (list_at lists h.below) (list_at lists h.above))
 
 pub halves_Decides : (g h : Halves) → Decides (eqb g.below h.below && (eqb g.above h.above && eqb g.cut h.cut)) (g ≡ h)
 halves_Decides g h =

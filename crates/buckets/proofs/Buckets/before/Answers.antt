@@ -1,7 +1,7 @@
 use Rattle.std.proofs.Common.{◌≡◌, ◌∙◌, ◌+◌, ◌<◌, length, ap, sym, subst, arith}
 use Rattle.std.proofs.lemmas.List.{length-map, get_or_read}
 use Rattle.buckets.specs.Buckets.{tag_at, IsLast}
-use Rattle.buckets.specs.Chains.{tags_of, no_entry, entry_at}
+use Rattle.buckets.specs.Chains.{tags_of, entry_of_none, entry_at}
 use Rattle.buckets.proofs.Entries.{tag_is, before_is}
 use Rattle.buckets.proofs.Buckets.before.Goals as goal
 use Rattle.buckets.proofs.Buckets.before.Goals.{After-deref-2}
@@ -11,7 +11,7 @@ module _ (c : After-deref-2) where
   low = omega (arith, c.requires.within, ap length c.self.view_is, length-map c.self.inside.entries.items (λ x. x.tag))
 
   pub entry : c.index-entry.result.now ≡ entry_at c.self.inside.entries.items c.args.r
-  entry = get_or_read c.self.inside.entries.items _ _ low c.index-entry.ensures no_entry
+  entry = get_or_read c.self.inside.entries.items _ _ low c.index-entry.ensures entry_of_none
 
 pub down-requires-clause-fits : goal.down-requires-clause-fits
 down-requires-clause-fits c =

@@ -1,6 +1,6 @@
 use Rattle.std.proofs.Common.{◌≡◌, ◌∙◌, ◌+◌, ◌-◌, length, take, set, ap, sym, subst, arith}
 use Rattle.std.proofs.lemmas.List.{get_or_read}
-use Rattle.buckets.specs.Chains.{no_entry, entry_at, bucket_of_tag, AreBuckets}
+use Rattle.buckets.specs.Chains.{entry_of_none, entry_at, bucket_of_tag, AreBuckets}
 use Rattle.buckets.proofs.Entries.{AreBuckets-pop, tags_popped}
 use Rattle.buckets.proofs.chains.take.Goals as goal
 use Rattle.buckets.proofs.chains.take.Goals.{After-truncate}
@@ -16,7 +16,7 @@ module _ (c : After-truncate) where
   one_more = omega (arith, count, c.requires.more)
 
   entry : entry_at c.args.entries.now.items (c.len.result - 1) ≡ c.index-entry.result.now
-  entry = sym (get_or_read c.args.entries.now.items _ _ (omega (arith, count, c.requires.more)) c.index-entry.ensures no_entry)
+  entry = sym (get_or_read c.args.entries.now.items _ _ (omega (arith, count, c.requires.more)) c.index-entry.ensures entry_of_none)
 
   pub left : c.truncate.new.self.items ≡ take (c.len.result - 1) c.args.entries.now.items
   left = c.truncate.ensures.items ∙ ap (λ n. take (n - 1) c.args.entries.now.items) as_many
