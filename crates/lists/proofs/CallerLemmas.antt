@@ -1,3 +1,2 @@
 -- What proofs of other crates cite of this one: they name no other file of it.
-pub use Rattle.lists.proofs.Chains.{AreChained-none, AreChained-push, IsSought, IsSought-first, IsSought-next}
 pub use Rattle.lists.proofs.Rising.{rising_unique}

@@ -1,78 +1,42 @@
--- One list more in the table: it begins the chain of its bucket.
-use Rattle.std.proofs.Common.{◌≡◌, ◌∙◌, ℕ, ◌<◌, List, [], ◌∷◌, ◌++◌, length, get_or, set, ap, sym, subst, inl, inr, arith}
-use Rattle.std.proofs.lemmas.Bool.{cases_lt, cases_eq}
-use Rattle.std.proofs.lemmas.List.{length-set, length_push, get_or_append_left, get_or_push}
-use Rattle.lists.specs.declared.hashed.Entry.{Entry}
+-- A search for a list among those of its tag.
+use Rattle.std.proofs.Common.{◌≡◌, ◌∙◌, ℕ, ◌<◌, List, [], map, length, ap, sym, subst, inl, inr, arith}
+use Rattle.std.proofs.Math.ListN as plain
+use Rattle.std.proofs.lemmas.Bool.{cases_order}
+use Rattle.std.proofs.lemmas.List.{length-map}
+use Rattle.buckets.specs.Buckets.{tag_at, IsLast}
 use Rattle.lists.specs.Lists.{list_at}
-use Rattle.lists.specs.Hashed.{IsTag, bucket_of_tag, entry_at, IsHashed, IsNewList}
-use Rattle.lists.proofs.Storing.{list-old, list-new}
-use Rattle.lists.proofs.Tags.{IsTag-old}
-use Rattle.lists.proofs.Chains.{AreChained, AreChained-push}
+use Rattle.lists.specs.Hashed.{tag_of}
 
--- entries with one more at the end
-module _ (entries : List Entry) (new : Entry) where
-  entry-old : (r : ℕ) → r < length entries → entry_at (entries ++ new ∷ []) r ≡ entry_at entries r
-  entry-old r h = get_or_append_left entries (new ∷ []) _ r h
+-- the tag of the list number k
+pub tag_is : (lists : List (List (ℕ × ℕ))) {tags : List ℕ} → tags ≡ map tag_of lists → (k : ℕ) → tag_at tags k ≡ tag_of (list_at lists k)
+tag_is lists e k = ap (λ tags. tag_at tags k) e ∙ plain.get_or-map tag_of lists k []
 
-  entry-new : (r : ℕ) → r ≡ length entries → entry_at (entries ++ new ∷ []) r ≡ new
-  entry-new r e = get_or_push entries new _ r (sym e)
+-- a search for the list is at the number r of its tag: no number above is that of the list
+pub record IsReached (lists : List (List (ℕ × ℕ))) (list : List (ℕ × ℕ)) (r : ℕ) : Type 0 where
+  pub below : 0 < length lists → r < length lists
+  pub above : (q : ℕ) → r < q → q < length lists → list_at lists q ≡ list → ⊥
+  pub tagged : 0 < r → tag_of (list_at lists r) ≡ tag_of list
 
--- the new list
-module _ (lists : List (List (ℕ × ℕ))) (heads : List ℕ) (entries : List Entry) (list : List (ℕ × ℕ)) (new : Entry) (b : ℕ)
-    (is : IsHashed lists heads entries) (some : 0 < length lists) (first : list_at lists 0 ≡ list → ⊥) (absent : IsNewList lists list)
-    (tag : IsTag (lists ++ list ∷ []) (length lists) new.tag) (at_b : b ≡ bucket_of_tag (length heads) new.tag) (below : b < length heads)
-    (before : new.before ≡ get_or heads b 0) where
-  tags-push : (r : ℕ) → 0 < r → r < length (lists ++ list ∷ []) → IsTag (lists ++ list ∷ []) r (entry_at (entries ++ new ∷ []) r).tag
-  tags-push r p h =
-      let longer = length_push lists list in
-      let count = is.size in
-      elim (cases_lt r (length lists)) [
-        | inl o ↦
-            subst (IsTag (lists ++ list ∷ []) r) (sym (ap (λ x. x.tag) (entry-old entries new r (omega arith)))) (IsTag-old lists list r _ o (is.tags r p o))
-        | inr n ↦
-            let last : length lists ≡ r = omega arith in
-            subst (IsTag (lists ++ list ∷ []) r) (sym (ap (λ x. x.tag) (entry-new entries new r (sym last ∙ sym count))))
-            (subst (λ m. IsTag (lists ++ list ∷ []) m new.tag) last tag)
-      ]
-
-  -- no old list is the new one
-  apart : (q r : ℕ) → q < length lists → r ≡ length lists → list_at (lists ++ list ∷ []) q ≡ list_at (lists ++ list ∷ []) r → ⊥
-  apart q r o last e =
-      let same : list_at lists q ≡ list = sym (list-old lists list q o) ∙ e ∙ list-new lists list r last in
-      elim (cases_eq q 0) [
-        | inl z ↦ first (ap (list_at lists) (sym z) ∙ same)
-        | inr p ↦ absent q (omega (arith, p)) o same
-      ]
-
-  different-push : (q r : ℕ) → q < length (lists ++ list ∷ []) → r < length (lists ++ list ∷ [])
-      → list_at (lists ++ list ∷ []) q ≡ list_at (lists ++ list ∷ []) r → q ≡ r
-  different-push q r d h e =
-      let longer = length_push lists list in
-      elim (cases_lt q (length lists)) [
-        | inl oq ↦ elim (cases_lt r (length lists)) [
-          | inl or ↦ is.different q r oq or (sym (list-old lists list q oq) ∙ e ∙ list-old lists list r or)
-          | inr nr ↦ absurd (apart q r oq (omega arith) e)
-        ]
-        | inr nq ↦ elim (cases_lt r (length lists)) [
-          | inl or ↦ absurd (apart r q or (omega arith) (sym e))
-          | inr nr ↦ omega arith
-        ]
-      ]
-
-  pub IsHashed-push : IsHashed (lists ++ list ∷ []) (set heads b (length lists)) (entries ++ new ∷ [])
-  IsHashed-push =
-      let longer = length_push lists list in
-      let more = length_push entries new in
-      let buckets = length-set heads b (length lists) in
-      let count = is.size in
+-- it begins at the last number of the tag, and goes down
+module _ (lists : List (List (ℕ × ℕ))) {tags : List ℕ} (list : List (ℕ × ℕ)) (are : tags ≡ map tag_of lists) where
+  pub IsReached-last : {r : ℕ} → IsLast tags (tag_of list) (length tags) r → IsReached lists list r
+  IsReached-last {r} last =
+      let count = ap length are ∙ length-map lists tag_of in
       record {
-        some_buckets = let some = is.some_buckets in omega arith;
-        few_buckets = let few = is.few_buckets in omega arith;
-        size = omega arith;
-        tags = tags-push;
-        different = different-push;
-        chained =
-            subst (λ n. AreChained (record { tag = 0; before = 0 }) (λ n x. bucket_of_tag n x.tag) (λ x. x.before) (entries ++ new ∷ []) (set heads b n)) count
-            (AreChained-push (record { tag = 0; before = 0 }) (λ n x. bucket_of_tag n x.tag) (λ x. x.before) entries heads new b is.chained (omega arith) below
-            at_b before);
+        below = λ some. omega (arith, last.below (omega (arith, count)), count);
+        above = λ q high low e. last.others q high (omega (arith, count)) (tag_is lists are q ∙ ap tag_of e);
+        tagged = λ some. sym (tag_is lists are r) ∙ last.tagged some;
       }
+
+  pub IsReached-before : {r q : ℕ} → 0 < r → (list_at lists r ≡ list → ⊥) → IsReached lists list r → IsLast tags (tag_at tags r) r q → IsReached lists list q
+  IsReached-before {r} {q} some other is last = record {
+    below = λ more. omega (arith, last.below some, is.below more);
+    above = λ p high low e. elim (cases_order p r) [
+      | inl same ↦ other (subst (λ k. list_at lists k ≡ list) same e)
+      | inr order ↦ elim order [
+        | inl less ↦ last.others p high less (tag_is lists are p ∙ ap tag_of e ∙ sym (is.tagged some) ∙ sym (tag_is lists are r))
+        | inr more ↦ is.above p more low e
+      ]
+    ];
+    tagged = λ p. sym (tag_is lists are q) ∙ last.tagged p ∙ tag_is lists are r ∙ is.tagged some;
+  }

@@ -8,8 +8,6 @@ pub mod Spans
 pub mod Keys
 pub mod Storing
 pub mod Tags
-pub mod Chains
-pub mod Rechaining
 pub mod Hashing
 pub mod Halving
 pub mod Uniting

@@ -5,26 +5,26 @@ ghost use Rattle.std.specs.List.{Contains};
 ghost use Rattle.lists.specs.Lists.{list_at, Grow};
 ghost use Rattle.lists.specs.Nodes.{AreStored, IsShape, list_of_shape, Suits};
 ghost use Rattle.lists.specs.Hashed.{AreDifferent};
+ghost use Rattle.lists.specs.Spans.{fingerprint_of};
 
 use crate::cut::key;
-use crate::hashed::{Entry, MOST_BUCKETS, find, first_entry, put, tag, widen};
-use crate::nodes::{EMPTY, Nodes, Shape};
+use crate::hashed::{find, put};
+use crate::nodes::{Nodes, Shape};
 use crate::ordered::has;
+use crate::span::{fingerprint, mix};
+use buckets::Buckets;
 use growth::Memory;
 use std::alloc::Global;
 use std::marker::Model;
-
-/// How many buckets there are at first. There are more once there are more lists.
-const FIRST_BUCKETS: usize = 1 << 12;
 
 /// Different lists of pairs in strictly rising order. The list number `EMPTY` is the empty one.
 #[derive(Drop)]
 pub(crate) struct Distinct {
     nodes: Nodes,
-    /// For each bucket the number of its last list, or `EMPTY` if there is none.
-    heads: Vec<u32>,
-    /// How each list is found.
-    entries: Vec<Entry>,
+    /// The fingerprint of each list.
+    sums: Vec<u64>,
+    /// The number of each list under its tag.
+    buckets: Buckets,
 }
 
 impl Model for Distinct {
@@ -36,7 +36,7 @@ impl Model for Distinct {
 
     ghost view = { λ x. x.nodes };
 
-    ghost invariant = { λ x. IsHashed x.nodes x.heads.items x.entries.items };
+    ghost invariant = { λ x. IsHashed x.nodes x.sums.items x.buckets };
 }
 
 impl Distinct {
@@ -46,15 +46,12 @@ impl Distinct {
     pub fn new(alloc: Global, room: u32) -> Result<Distinct, Memory>
         ensures { IfOk result (λ x. x ≡ [] ∷ []) }
     {
-        let buckets = (room as usize + 1).min(MOST_BUCKETS);
-        let mut heads = Vec::with_capacity(alloc, buckets)?;
-        heads.resize(buckets.min(FIRST_BUCKETS), EMPTY)?;
-        let mut entries = Vec::with_capacity(alloc, room as usize + 1)?;
-        entries.push(first_entry())?;
+        let mut sums = Vec::with_capacity(alloc, room as usize + 1)?;
+        sums.push(0)?;
         Ok(Distinct {
             nodes: Nodes::new(alloc, room)?,
-            heads,
-            entries,
+            sums,
+            buckets: Buckets::new(alloc, room)?,
         })
     }
 
@@ -81,6 +78,25 @@ impl Distinct {
         self.nodes.shape(k)
     }
 
+    /// The fingerprint of the list number `k`.
+    pub fn sum(&self, k: u32) -> u64
+        requires { k < length self.now }
+        ensures { result ≡ fingerprint_of (list_at self.now k) }
+    {
+        self.sums[k as usize]
+    }
+
+    /// The fingerprint of the list of this shape.
+    fn sum_of(&self, shape: Shape<'_>) -> u64
+        requires { Suits self.now shape }
+        ensures { result ≡ fingerprint_of (list_of_shape self.now shape.entry) }
+    {
+        match shape {
+            Shape::Whole(list) => fingerprint(list),
+            Shape::Halved(halves) => self.sum(halves.below).wrapping_add(self.sum(halves.above)),
+        }
+    }
+
     /// The number of the list of this shape: a new one if there was none.
     ///
     /// Fails if there is no memory for it. The lists that there were are as they were.
@@ -91,17 +107,16 @@ impl Distinct {
         ensures grow { Grow self.old self.new }
     {
         self.nodes.known();
-        let tag = tag(shape);
-        if let Some(number) = find(&self.nodes, &self.heads, &self.entries, shape, tag) {
+        let sum = self.sum_of(shape);
+        if let Some(number) = find(&self.nodes, &self.buckets, shape, mix(sum)) {
             return Ok(number);
         }
-        widen(&mut self.heads, &mut self.entries)?;
         put(
             &mut self.nodes,
-            &mut self.heads,
-            &mut self.entries,
+            &mut self.sums,
+            &mut self.buckets,
             shape,
-            tag,
+            sum,
         )
     }
 
@@ -162,12 +177,9 @@ impl Distinct {
     pub fn clear(&mut self)
         ensures { self.new ≡ [] ∷ [] }
     {
-        // Buckets as for lists as many as now: a round mostly has no more than the last one.
-        let buckets = FIRST_BUCKETS.max(self.entries.len());
         self.nodes.known();
         self.nodes.clear();
-        self.entries.truncate(1);
-        self.heads.truncate(buckets);
-        self.heads.fill(EMPTY);
+        self.sums.truncate(1);
+        self.buckets.clear();
     }
 }

@@ -7,7 +7,7 @@
 //! unions         lists made of pairs, of a list and pairs, of two lists and of several ones
 //!   known        the unions that were made
 //! distinct       a list that is asked for again has the number that it had
-//!   hashed       the table that it is found in
+//!   hashed       how it is found, by its tag
 //! nodes          how each list is kept: whole, or by its halves
 //! cut, ordered, marked, span   where a list is cut; pairs in order, by marks if they are many; hashes, and ranges of a buffer
 //! ```

@@ -3,7 +3,7 @@
 -- block. Representatives are looked up by their keys: those in one bucket are chained, from the last one down.
 use Rattle.std.specs.Prelude.{◌≡◌, ◌⊎◌, ℕ, ◌*◌, ◌/◌, ◌^◌, ◌++◌, ◌∷◌, ◌<◌, List, [], length, slice_index, slice_index_or, Option, IsSome}
 use Rattle.partition.specs.declared.splitter.Representative.{Representative}
-use Rattle.lists.specs.Hashed.{IsChained}
+use Rattle.buckets.specs.Chains.{IsChained}
 use Rattle.lists.specs.Spans.{hash_of}
 
 -- an old block and the number of a list

@@ -1,7 +1,7 @@
 use Rattle.std.proofs.Common.{refl, length, get_or, arith}
-use Rattle.lists.specs.Hashed.{entry_at}
-use Rattle.lists.proofs.Rechaining.{Rechained-more}
-use Rattle.lists.proofs.hashed.chain.Goals as goal
+use Rattle.buckets.specs.Chains.{entry_at}
+use Rattle.buckets.proofs.Entries.{Rechained-more}
+use Rattle.buckets.proofs.chains.chain.Goals as goal
 
 pub loop-r-preserved : goal.loop-r-preserved
 loop-r-preserved c =

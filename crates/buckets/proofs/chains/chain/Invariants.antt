@@ -1,6 +1,6 @@
 use Rattle.std.proofs.Common.{length}
-use Rattle.lists.proofs.Rechaining.{Rechained}
-use Rattle.lists.proofs.hashed.chain.Given as goal
+use Rattle.buckets.proofs.Entries.{Rechained}
+use Rattle.buckets.proofs.chains.chain.Given as goal
 
 abbrev pub invariant-loop-r : goal.invariant-loop-r
 invariant-loop-r l = Rechained l.initial.entries (length l.initial.heads) l.r l.heads l.entries

@@ -1,0 +1,3 @@
+pub mod CallerLemmas
+pub mod Chaining
+pub mod Entries

@@ -1,0 +1,12 @@
+use Rattle.std.specs.Prelude.{◌≡◌, ℕ, ◌<◌, List}
+use Rattle.std.specs.List.{slice_index_or}
+
+-- the tag of the number r
+abbrev pub tag_at : List ℕ → ℕ → ℕ
+tag_at tags r = slice_index_or tags r 0
+
+-- r is the last number below the end with the tag, or 0 if there is none
+pub record IsLast (tags : List ℕ) (tag end r : ℕ) : Type 0 where
+  pub below : 0 < end → r < end
+  pub others : (q : ℕ) → r < q → q < end → tag_at tags q ≡ tag → ⊥
+  pub tagged : 0 < r → tag_at tags r ≡ tag

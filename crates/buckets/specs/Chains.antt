@@ -1,0 +1,51 @@
+-- How numbers are found by their tags: those in one bucket are chained, from the last one down.
+use Rattle.std.specs.Prelude.{◌≡◌, ℕ, ◌*◌, ◌/◌, ◌^◌, ◌<◌, ◌≤◌, List, map, length, slice_index, slice_index_or}
+use Rattle.std.specs.List.{All}
+use Rattle.buckets.specs.declared.chains.Entry.{Entry}
+use Rattle.buckets.specs.declared.TheConstants.{MOST}
+
+-- the tags of the numbers
+abbrev pub tags_of : List Entry → List ℕ
+tags_of entries = map (λ x. x.tag) entries
+
+-- the bucket of a tag, of so many buckets
+abbrev pub bucket_of_tag : ℕ → ℕ → ℕ
+bucket_of_tag buckets tag = tag * buckets / 2 ^ 32
+
+-- the numbers from 1 up to the count are chained: from the last one of each bucket down to each other one in it, and then to 0
+pub record IsChained (count : ℕ) (bucket before : ℕ → ℕ) (heads : List ℕ) : Type 0 where
+  pub heads_below : (b : ℕ) → b < length heads → slice_index heads b < count
+  pub heads_fit : (b : ℕ) → b < length heads → 0 < slice_index heads b → bucket (slice_index heads b) ≡ b
+  pub heads_last : (r : ℕ) → 0 < r → r < count → r ≤ slice_index heads (bucket r)
+  pub before_below : (r : ℕ) → 0 < r → r < count → before r < r
+  pub before_fit : (r : ℕ) → 0 < r → r < count → 0 < before r → bucket (before r) ≡ bucket r
+  pub before_last : (q r : ℕ) → 0 < q → q < r → r < count → bucket q ≡ bucket r → q ≤ before r
+
+-- the entry of number 0, which is in no bucket
+abbrev pub entry_of_none : Entry
+entry_of_none = record { tag = 0; before = 0 }
+
+-- the entry of the number r
+abbrev pub entry_at : List Entry → ℕ → Entry
+entry_at entries r = slice_index_or entries r entry_of_none
+
+-- the bucket of the number r
+abbrev pub entry_bucket : List Entry → List ℕ → ℕ → ℕ
+entry_bucket entries heads r = bucket_of_tag (length heads) (entry_at entries r).tag
+
+-- the number before r in its bucket
+abbrev pub entry_before : List Entry → ℕ → ℕ
+entry_before entries r = (entry_at entries r).before
+
+-- the numbers of the entries are chained
+abbrev pub AreChained : List Entry → List ℕ → Type 0
+AreChained entries heads = IsChained (length entries) (entry_bucket entries heads) (entry_before entries) heads
+
+-- each number but 0 is found by its tag
+pub record AreBuckets (heads : List ℕ) (entries : List Entry) : Type 0 where
+  pub some_buckets : 0 < length heads
+  pub few_buckets : length heads < 2 ^ 32
+  pub some : 0 < length entries
+  pub few : length entries ≤ MOST
+  pub tags : All (λ tag. tag < 2 ^ 32) (tags_of entries)
+  pub chained : AreChained entries heads

@@ -1,0 +1,126 @@
+//! The entries of the numbers: those in one bucket are chained, from the last one down.
+ghost use Rattle.std.specs.Prelude.{◌≡◌, ℕ, ◌^◌, ◌+◌, ◌++◌, ◌∷◌, ◌<◌, ◌≤◌, [], length, slice_index, OnOk, OnErr};
+ghost use Rattle.buckets.specs.Buckets.{IsLast};
+ghost use Rattle.buckets.specs.Chains.{tags_of, bucket_of_tag, entry_of_none, entry_bucket, AreBuckets, AreChained};
+ghost use Rattle.buckets.specs.declared.TheConstants.{MOST};
+
+use crate::MOST_BUCKETS;
+use growth::Memory;
+
+/// How a number is found.
+#[derive(Clone, Copy)]
+pub(crate) struct Entry {
+    /// The tag of the number.
+    pub tag: u32,
+    /// The number before this one in the same bucket, or 0 if there is none.
+    pub before: u32,
+}
+
+/// The entry of number 0, which is in no bucket.
+pub(crate) fn first_entry() -> Entry
+    ensures { result ≡ entry_of_none }
+{
+    Entry { tag: 0, before: 0 }
+}
+
+/// The bucket of a tag, if there are so many buckets.
+#[inline(always)]
+pub fn bucket(tag: u32, buckets: usize) -> usize
+    requires some { 0 < buckets }
+    requires few { buckets < 2 ^ 32 }
+    ensures value { result ≡ bucket_of_tag buckets tag }
+    ensures below { result < buckets }
+{
+    (u64::from(tag) * buckets as u64 / 0x1_0000_0000) as usize
+}
+
+/// The last number with the tag from `first`, a number in the bucket of the tag, down, or 0 if there is none.
+#[inline(always)]
+pub(crate) fn down(heads: &[u32], entries: &[Entry], tag: u32, first: u32) -> u32
+    requires buckets { AreBuckets heads.now entries.now }
+    requires within { first < length entries.now }
+    requires fits { 0 < first → entry_bucket entries.now heads.now first ≡ bucket_of_tag (length heads.now) tag }
+    ensures { IsLast (tags_of entries.now) tag (first + 1) result }
+{
+    let _ = heads;
+    let mut r = first;
+    while r != 0 {
+        let entry = &entries[r as usize];
+        if entry.tag == tag {
+            return r;
+        }
+        r = entry.before;
+    }
+    0
+}
+
+/// Puts a number of this tag at the end, before the others of its bucket.
+///
+/// Fails if there is no memory for it. The numbers are then as they were.
+pub(crate) fn put(heads: &mut [u32], entries: &mut Vec<Entry>, tag: u32) -> Result<(), Memory>
+    requires buckets { AreBuckets heads.old entries.old.items }
+    requires few { length entries.old.items < MOST }
+    ensures buckets { AreBuckets heads.new entries.new.items }
+    ensures put { OnOk result (tags_of entries.new.items ≡ tags_of entries.old.items ++ tag ∷ []) }
+    ensures err { OnErr result (tags_of entries.new.items ≡ tags_of entries.old.items) }
+{
+    entries.reserve(1)?;
+    let number = entries.len() as u32;
+    let b = bucket(tag, heads.len());
+    entries.push_reserved(Entry {
+        tag,
+        before: heads[b],
+    });
+    heads[b] = number;
+    Ok(())
+}
+
+/// Takes the last number away.
+pub(crate) fn take(heads: &mut [u32], entries: &mut Vec<Entry>)
+    requires buckets { AreBuckets heads.old entries.old.items }
+    requires more { 1 < length entries.old.items }
+    ensures buckets { AreBuckets heads.new entries.new.items }
+    ensures taken { (tag : ℕ) × (tags_of entries.old.items ≡ tags_of entries.new.items ++ tag ∷ []) }
+{
+    let entry = entries[entries.len() - 1];
+    heads[bucket(entry.tag, heads.len())] = entry.before;
+    entries.truncate(entries.len() - 1);
+}
+
+/// Makes four times as many buckets, up to the most, and chains all numbers anew, if there are more numbers than buckets. So
+/// few numbers have few buckets, which stay near in memory.
+///
+/// Fails if there is no memory for them. The buckets are then as they were.
+pub(crate) fn widen(heads: &mut Vec<u32>, entries: &mut [Entry]) -> Result<(), Memory>
+    requires { AreBuckets heads.old.items entries.old }
+    ensures buckets { AreBuckets heads.new.items entries.new }
+    ensures tags { tags_of entries.new ≡ tags_of entries.old }
+{
+    if entries.len() <= heads.len() || MOST_BUCKETS <= heads.len() {
+        return Ok(());
+    }
+    heads.resize(MOST_BUCKETS.min(4 * heads.len()), 0)?;
+    heads.fill(0);
+    chain(heads, entries);
+    Ok(())
+}
+
+/// Puts the entries from number 1 on into the buckets, none of which has one.
+fn chain(heads: &mut [u32], entries: &mut [Entry])
+    requires buckets { (0 < length heads.old) × (length heads.old < 2 ^ 32) }
+    requires none { (b : ℕ) → b < length heads.old → slice_index heads.old b ≡ 0 }
+    requires few { (0 < length entries.old) × (length entries.old ≤ MOST) }
+    ensures buckets { length heads.new ≡ length heads.old }
+    ensures tags { tags_of entries.new ≡ tags_of entries.old }
+    ensures chained { AreChained entries.new heads.new }
+{
+    for r in 1..entries.len() {
+        let tag = entries[r].tag;
+        let b = bucket(tag, heads.len());
+        entries[r] = Entry {
+            tag,
+            before: heads[b],
+        };
+        heads[b] = r as u32;
+    }
+}

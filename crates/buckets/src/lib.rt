@@ -1,0 +1,130 @@
+//! Numbers under tags, for a table that finds what it keeps by hash: the numbers of a tag come up one by one, the last
+//! first.
+#![tactic(auto)]
+
+mod chains;
+
+ghost use Rattle.std.specs.Prelude.{◌≡◌, ℕ, ◌^◌, ◌++◌, ◌∷◌, ◌<◌, ◌≤◌, [], length, IfOk, OnOk, OnErr};
+ghost use Rattle.std.specs.List.{All};
+ghost use Rattle.buckets.specs.Buckets.{tag_at, IsLast};
+
+pub use chains::bucket;
+use chains::{Entry, down, first_entry, put, take, widen};
+use growth::Memory;
+use std::alloc::Global;
+use std::marker::Model;
+
+/// The most numbers, with number 0.
+pub const MOST: usize = 0xFFFF_FFFF;
+
+/// How many buckets there are at first. There are more once there are more numbers.
+const FIRST_BUCKETS: usize = 1 << 12;
+
+/// The most buckets.
+const MOST_BUCKETS: usize = 1 << 26;
+
+/// The numbers from 1 on, each under a tag, so that those of a tag come up one by one. Number 0 stands for none.
+#[derive(Drop)]
+pub struct Buckets {
+    /// For each bucket its last number, or 0 if there is none.
+    heads: Vec<u32>,
+    /// How each number is found.
+    entries: Vec<Entry>,
+}
+
+impl Model for Buckets {
+    ghost use Rattle.std.specs.Prelude.{ℕ, List};
+
+    ghost Value = { List ℕ };
+
+    ghost use Rattle.buckets.specs.Chains.{tags_of, AreBuckets};
+
+    ghost view = { λ x. tags_of x.entries.items };
+
+    ghost invariant = { λ x. AreBuckets x.heads.items x.entries.items };
+}
+
+impl Buckets {
+    /// Number 0 alone, with room for so many other ones, and for as many buckets.
+    ///
+    /// Fails if there is no memory for it.
+    pub fn new(alloc: Global, room: u32) -> Result<Buckets, Memory>
+        ensures { IfOk result (λ x. x ≡ 0 ∷ []) }
+    {
+        let buckets = (room as usize + 1).min(MOST_BUCKETS);
+        let mut heads = Vec::with_capacity(alloc, buckets)?;
+        heads.resize(buckets.min(FIRST_BUCKETS), 0)?;
+        let mut entries = Vec::with_capacity(alloc, room as usize + 1)?;
+        entries.push(first_entry())?;
+        Ok(Buckets { heads, entries })
+    }
+
+    /// Does nothing when it runs: its contract says what holds of all numbers.
+    pub fn known(&self)
+        ensures some { 1 ≤ length self.now }
+        ensures few { length self.now ≤ MOST }
+        ensures tags { All (λ tag. tag < 2 ^ 32) self.now }
+    {
+        let _ = &self.entries;
+    }
+
+    /// How many numbers there are, with number 0.
+    #[inline(always)]
+    pub fn len(&self) -> u32
+        ensures { result ≡ length self.now }
+    {
+        self.entries.len() as u32
+    }
+
+    /// The last number of the tag, or 0 if there is none.
+    #[inline(always)]
+    pub fn last(&self, tag: u32) -> u32
+        ensures { IsLast self.now tag (length self.now) result }
+    {
+        let first = self.heads[bucket(tag, self.heads.len())];
+        down(&self.heads, &self.entries, tag, first)
+    }
+
+    /// The number before `r` of the same tag, or 0 if there is none.
+    #[inline(always)]
+    pub fn before(&self, r: u32) -> u32
+        requires some { 0 < r }
+        requires within { r < length self.now }
+        ensures { IsLast self.now (tag_at self.now r) r result }
+    {
+        let entry = self.entries[r as usize];
+        down(&self.heads, &self.entries, entry.tag, entry.before)
+    }
+
+    /// Puts a number of this tag at the end.
+    ///
+    /// Fails if there is no memory for it. The numbers are then as they were.
+    pub fn push(&mut self, tag: u32) -> Result<(), Memory>
+        requires { length self.old < MOST }
+        ensures pushed { OnOk result (self.new ≡ self.old ++ tag ∷ []) }
+        ensures err { OnErr result (self.new ≡ self.old) }
+    {
+        widen(&mut self.heads, &mut self.entries)?;
+        put(&mut self.heads, &mut self.entries, tag)
+    }
+
+    /// Takes the last number away.
+    pub fn pop(&mut self)
+        requires { 1 < length self.old }
+        ensures { (tag : ℕ) × (self.old ≡ self.new ++ tag ∷ []) }
+    {
+        take(&mut self.heads, &mut self.entries);
+    }
+
+    /// Forgets all numbers but 0, and keeps the memory.
+    pub fn clear(&mut self)
+        ensures { self.new ≡ 0 ∷ [] }
+    {
+        // Buckets as for numbers as many as now: an owner mostly has no more the next time.
+        let buckets = FIRST_BUCKETS.max(self.entries.len());
+        self.entries.truncate(1);
+        self.entries[0] = first_entry();
+        self.heads.truncate(buckets);
+        self.heads.fill(0);
+    }
+}
