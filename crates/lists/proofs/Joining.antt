@@ -1,8 +1,8 @@
 -- Unions of several lists in turn, and unions that stay so as lists grow.
-use Rattle.std.proofs.Common.{◌≡◌, ◌∙◌, ◌⊎◌, ◌↔◌, ℕ, ◌+◌, ◌<◌, List, length, slice_index, Contains, sym, subst, refl, inl, inr, arith, rules}
+use Rattle.std.proofs.Common.{◌∙◌, ◌⊎◌, ◌↔◌, ℕ, ◌+◌, ◌<◌, List, length, Contains, sym, subst, refl, inl, inr, arith, rules}
 use Rattle.std.proofs.lemmas.Bool.{cases_eq}
 use Rattle.lists.specs.Lists.{list_at, Grow}
-use Rattle.lists.specs.Unions.{Unites, IsUnion, AreUnions}
+use Rattle.lists.specs.Unions.{IsUnion, AreUnions}
 
 pub or_swap : {A B C : Type 0} → A ↔ (B ⊎ C) → A ↔ (C ⊎ B)
 or_swap f = search rules
@@ -20,22 +20,26 @@ either_more new old more = search rules
 pub either_end : {M I H K : Type 0} → M ↔ (I ⊎ H) → H ↔ K → M ↔ (I ⊎ K)
 either_end old all = search rules
 
--- the pair is in one of the lists of the first i of these numbers
-abbrev pub HasUpTo : List (List (ℕ × ℕ)) → List ℕ → ℕ → ℕ × ℕ → Type 0
-HasUpTo lists numbers i z = (j : ℕ) × (j < i) × Contains (list_at lists (slice_index numbers j)) z
+no_more : {B C D S T : Type 0} → (C → ⊥) → B ↔ (D ⊎ S) → (S ⊎ C) ↔ T → B ↔ (D ⊎ T)
+no_more none g h = search rules
 
--- one list more is united with those up to it
-module _ (lists : List (List (ℕ × ℕ))) (numbers : List ℕ) where
-  pub with_none : (pairs list : List (ℕ × ℕ)) → list ≡ pairs → (z : ℕ × ℕ) → Contains list z ↔ (Contains pairs z ⊎ HasUpTo lists numbers 0 z)
-  with_none pairs list e z = (
-    λ c. inl (subst (λ l. Contains l z) e c),
-    λ o. elim o [ inl c ↦ subst (λ l. Contains l z) (sym e) c | inr h ↦ absurd (omega (arith, h.1)) ],
-  )
+none_yet : {B S : Type 0} → (S → ⊥) → B ↔ (B ⊎ S)
+none_yet none = search rules
 
-  pub with_more : (i : ℕ) (pairs old new : List (ℕ × ℕ)) → ((z : ℕ × ℕ) → Contains old z ↔ (Contains pairs z ⊎ HasUpTo lists numbers i z))
-      → Unites new old (list_at lists (slice_index numbers i)) → (z : ℕ × ℕ) → Contains new z ↔ (Contains pairs z ⊎ HasUpTo lists numbers (i + 1) z)
-  with_more i pairs old new before both z =
-      either_more (both z) (before z) (up_to_more (λ j. Contains (list_at lists (slice_index numbers j)) z) i)
+-- one of the numbers below i has the property
+abbrev pub SomeBelow : (ℕ → Type 0) → ℕ → Type 0
+SomeBelow P i = (j : ℕ) × (j < i) × P j
+
+-- what has come of the first i of some: none, one that adds nothing, and one more
+module _ (P : ℕ → Type 0) where
+  pub come_none : (B : Type 0) → B ↔ (B ⊎ SomeBelow P 0)
+  come_none B = none_yet (λ h. omega (arith, h.1))
+
+  pub come_skip : (B D : Type 0) (i : ℕ) → (P i → ⊥) → B ↔ (D ⊎ SomeBelow P i) → B ↔ (D ⊎ SomeBelow P (i + 1))
+  come_skip B D i none before = no_more none before (up_to_more P i)
+
+  pub come_more : (A B D : Type 0) (i : ℕ) → A ↔ (B ⊎ P i) → B ↔ (D ⊎ SomeBelow P i) → A ↔ (D ⊎ SomeBelow P (i + 1))
+  come_more A B D i now before = either_more now before (up_to_more P i)
 
 -- lists that grow twice
 pub Grow-same : (lists : List (List (ℕ × ℕ))) → Grow lists lists
@@ -51,9 +55,6 @@ Grow-twice first second =
 
 pub same_as : {A B C : Type 0} → A ↔ B → B ↔ C → A ↔ C
 same_as f g = search rules
-
-pub either_same : {A B C : Type 0} → A ↔ B → (A ⊎ C) ↔ (B ⊎ C)
-either_same f = search rules
 
 -- unions stay so as the lists grow
 module _ {old new : List (List (ℕ × ℕ))} (grow : Grow old new) where

@@ -15,3 +15,8 @@ pub mod Joining
 pub mod Noting
 pub mod Listing
 pub mod Marking
+pub mod Keeping
+pub mod Extending
+pub mod Collecting
+pub mod Numbering
+pub mod Bases

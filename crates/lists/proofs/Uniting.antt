@@ -194,17 +194,6 @@ placed {xs} {ys} {low} {high} {low'} {high'} {bit} {l} {h} {c} place first secon
 pub unites_merged : (list xs ys : List (ℕ × ℕ)) → list ≡ merged xs ys → Unites list ys xs
 unites_merged list xs ys e = subst (λ l. Unites l ys xs) (sym e) (λ z. or_swap (merged_has z xs ys))
 
-pub either_first : {N A X Y M L : Type 0} → N ↔ (A ⊎ Y) → A ↔ (X ⊎ M) → L ↔ (X ⊎ Y) → N ↔ (L ⊎ M)
-either_first new one old = search rules
-
--- two lists one after the other, to one of which the pairs of a third one are put
-module _ (xs ys more new : List (ℕ × ℕ)) where
-  pub unites_first : Unites new xs more → Unites (new ++ ys) (xs ++ ys) more
-  unites_first unites z = either_first (halves_has new ys z) (unites z) (halves_has xs ys z)
-
-  pub unites_second : Unites new ys more → Unites (xs ++ new) (xs ++ ys) more
-  unites_second unites z = either_first (or_swap (halves_has xs new z)) (unites z) (or_swap (halves_has xs ys z))
-
 pub only_first : {L B A : Type 0} → L ↔ (B ⊎ A) → (A → ⊥) → L ↔ B
 only_first either none = search rules
 

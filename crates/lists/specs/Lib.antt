@@ -6,3 +6,4 @@ pub mod Nodes
 pub mod Hashed
 pub mod Unions
 pub mod Known
+pub mod Extended

@@ -1,13 +1,20 @@
 //! Different lists of pairs and their unions, asked for by number: the top layer, which the crates above see.
-ghost use Rattle.std.specs.Prelude.{◌≡◌, ◌⊎◌, ◌↔◌, ℕ, ◌++◌, ◌∷◌, ◌<◌, [], length, IfOk, OnOk, OnErr, IsTrue};
+ghost use Rattle.std.specs.Prelude.{◌≡◌, ◌⊎◌, ◌↔◌, ℕ, ◌++◌, ◌∷◌, ◌<◌, ◌≤◌, List, [], length, IfOk, OnOk, OnErr, IsTrue};
 ghost use Rattle.std.specs.List.{Contains};
 ghost use Rattle.std.specs.List.Sorted.{IsStrictlySortedBy};
 ghost use Rattle.lists.specs.Lists.{pair_cmp, list_at, AreLists, AreNumbers, Grow, HasOne};
+ghost use Rattle.lists.specs.Extended.{parts_of, extended, IsExtension, IsSortedFrom};
 
-use crate::cut::fit;
 use crate::distinct::Distinct;
+use crate::joined::{are_many, base_of, gather, lack, merge};
+use crate::kept::{Extension, Kept};
 use crate::known::Known;
-use crate::unions::{Scratch, join, list_of};
+use crate::marked::order_many;
+use crate::nodes::EMPTY;
+use crate::numbered::number_with;
+use crate::ordered::has;
+use crate::unions::Scratch;
+use buckets::Buckets;
 use growth::Memory;
 use std::alloc::Global;
 use std::marker::Model;
@@ -16,9 +23,14 @@ use std::marker::Model;
 /// empty one.
 #[derive(Drop)]
 pub struct Lists {
-    lists: Distinct,
-    /// The unions that were made.
+    /// The bases, which are lists themselves.
+    trie: Distinct,
+    /// The unions of bases that were made.
     known: Known,
+    /// The base of each list, and the pairs beside it.
+    kept: Kept,
+    /// How each list is found.
+    buckets: Buckets,
     scratch: Scratch,
 }
 
@@ -28,10 +40,11 @@ impl Model for Lists {
     ghost Value = { List (List (ℕ × ℕ)) };
 
     ghost use Rattle.lists.specs.Unions.{AreUnions};
+    ghost use Rattle.lists.specs.Extended.{extended_lists, AreExtended};
 
-    ghost view = { λ x. x.lists };
+    ghost view = { λ x. extended_lists x.trie x.kept };
 
-    ghost invariant = { λ x. AreUnions x.lists x.known };
+    ghost invariant = { λ x. AreExtended x.trie x.kept x.buckets × AreUnions x.trie x.known };
 }
 
 impl Lists {
@@ -42,8 +55,10 @@ impl Lists {
         ensures { IfOk result (λ x. x ≡ [] ∷ []) }
     {
         Ok(Lists {
-            lists: Distinct::new(alloc, room)?,
+            trie: Distinct::new(alloc, 0)?,
             known: Known::new(alloc)?,
+            kept: Kept::new(alloc, room)?,
+            buckets: Buckets::new(alloc, room)?,
             scratch: Scratch {
                 held: Vec::new(alloc),
                 merged: Vec::new(alloc),
@@ -56,14 +71,16 @@ impl Lists {
     pub fn known(&self)
         ensures { AreLists self.now }
     {
-        self.lists.known();
+        self.trie.known();
+        self.buckets.known();
+        let _ = &self.kept;
     }
 
     /// How many lists there are.
     pub fn len(&self) -> u32
         ensures { result ≡ length self.now }
     {
-        self.lists.len()
+        self.buckets.len()
     }
 
     /// Appends the list number `k` to `pairs`.
@@ -74,7 +91,13 @@ impl Lists {
         ensures appended { OnOk result (pairs.new.items ≡ pairs.old.items ++ list_at self.now k) }
         ensures err { OnErr result (pairs.new.items ≡ pairs.old.items) }
     {
-        self.lists.append(k, pairs)
+        self.trie.known();
+        let list = self.kept.of(k);
+        if list.base == EMPTY {
+            pairs.extend_from_slice(list.few)?;
+            return Ok(());
+        }
+        append(&self.trie, list, pairs)
     }
 
     /// The number of the list that is equal to this one: a new one if there was none.
@@ -86,8 +109,15 @@ impl Lists {
         ensures list { IfOk result (λ k. list_at self.new k ≡ pairs.now) }
         ensures grow { Grow self.old self.new }
     {
-        fit(pairs);
-        list_of(&mut self.lists, pairs)
+        self.trie.known();
+        number_with(
+            &mut self.trie,
+            &mut self.scratch.merged,
+            &mut self.kept,
+            &mut self.buckets,
+            EMPTY,
+            pairs,
+        )
     }
 
     /// Whether the list number `k` has the pair.
@@ -95,7 +125,15 @@ impl Lists {
         requires { k < length self.now }
         ensures { IsTrue result ↔ Contains (list_at self.now k) pair }
     {
-        self.lists.has(k, pair)
+        let list = self.kept.of(k);
+        if has(list.few, pair) {
+            return true;
+        }
+        self.trie.known();
+        if list.base == EMPTY {
+            return false;
+        }
+        self.trie.has(list.base, pair)
     }
 
     /// The number of the list that has the pairs of these lists and these pairs, which may be in any order, and no other one. It is
@@ -112,11 +150,24 @@ impl Lists {
         // In either case
         ensures grow { Grow self.old self.new }
     {
-        join(
-            &mut self.lists,
+        let many = are_many(lists);
+        let base = base_of(
+            &mut self.trie,
             &mut self.known,
             &mut self.scratch,
+            &self.kept,
             lists,
+        )?;
+        gather(&self.kept, lists, base, many, pairs)?;
+        order_many(pairs, &mut self.scratch.marks)?;
+        lack(&self.trie, base, pairs);
+        merge(&self.kept, lists, base, many, pairs, &mut self.scratch.held)?;
+        number_with(
+            &mut self.trie,
+            &mut self.scratch.merged,
+            &mut self.kept,
+            &mut self.buckets,
+            base,
             pairs,
         )
     }
@@ -125,7 +176,52 @@ impl Lists {
     pub fn clear(&mut self)
         ensures { self.new ≡ [] ∷ [] }
     {
-        self.lists.clear();
+        self.trie.clear();
         self.known.clear();
+        self.kept.clear();
+        self.buckets.clear();
     }
+}
+
+/// Appends the pairs of the base, and those beside it, in rising order to `pairs`.
+///
+/// Fails if there is no memory for it. `pairs` has then what it had.
+fn append(trie: &Distinct, list: Extension<'_>, pairs: &mut Vec<(u32, u32)>) -> Result<(), Memory>
+    requires { IsExtension trie.now (parts_of list) }
+    ensures appended { OnOk result (pairs.new.items ≡ pairs.old.items ++ extended trie.now (parts_of list.entry)) }
+    ensures err { OnErr result (pairs.new.items ≡ pairs.old.items) }
+{
+    trie.known();
+    let had = pairs.len();
+    if append_parts(trie, list, pairs).is_err() {
+        pairs.truncate(had);
+        return Err(Memory);
+    }
+    sort_from(pairs, had);
+    Ok(())
+}
+
+/// Puts the pairs from this place on in order.
+fn sort_from(pairs: &mut [(u32, u32)], start: usize)
+    requires { start ≤ length pairs.old }
+    ensures { IsSortedFrom start pairs.old pairs.new }
+{
+    pairs[start..].sort_unstable();
+}
+
+/// Appends the pairs of the base and then those beside it to `pairs`.
+///
+/// Fails if there is no memory for it. `pairs` has then maybe some pairs more.
+fn append_parts(
+    trie: &Distinct,
+    list: Extension<'_>,
+    pairs: &mut Vec<(u32, u32)>,
+) -> Result<(), Memory>
+    requires { list.base < length trie.now }
+    ensures appended { OnOk result (pairs.new.items ≡ pairs.old.items ++ (list_at trie.now list.entry.base ++ list.entry.few.now)) }
+    ensures err { OnErr result ((more : List (ℕ × ℕ)) × (pairs.new.items ≡ pairs.old.items ++ more)) }
+{
+    trie.gather(list.base, pairs)?;
+    pairs.extend_from_slice(list.few)?;
+    Ok(())
 }

@@ -16,9 +16,6 @@ use crate::nodes::{EMPTY, FEW, Halves, Shape};
 use crate::ordered::{append_merged, has_all};
 use growth::Memory;
 
-/// The most lists that are put together with the pairs one after the other.
-const FEW_LISTS: usize = 16;
-
 /// The pairs below the cut, and those from it on.
 fn parted(pairs: &[(u32, u32)], cut: u64) -> (&[(u32, u32)], &[(u32, u32)])
     requires rising { IsStrictlySortedBy pair_cmp pairs.now }
@@ -264,56 +261,4 @@ pub(crate) fn both(
     let i = lists.number(Shape::Halved(Halves { below, above, cut }))?;
     note(lists, known, j, k, i)?;
     Ok(i)
-}
-
-/// Appends the list number `k` to `pairs` if it is one of many and kept whole, and returns whether it did: so no list is
-/// made of what some of many short lists have together.
-///
-/// Fails if there is no memory for it.
-fn append(lists: &Distinct, k: u32, many: bool, pairs: &mut Vec<(u32, u32)>) -> Result<bool, Memory>
-    requires { k < length lists.now }
-    ensures { IfOk result (λ done. pairs.new.items ≡ (if done then pairs.old.items ++ list_at lists.now k else pairs.old.items)) }
-{
-    if !many {
-        return Ok(false);
-    }
-    match lists.shape(k) {
-        Shape::Whole(list) => {
-            pairs.extend_from_slice(list)?;
-            Ok(true)
-        }
-        Shape::Halved(_) => Ok(false),
-    }
-}
-
-/// The number of the list that has the pairs of these lists and these pairs, which may be in any order, and no other one.
-/// Lists are united one after the other; of many the short ones are put in order with the pairs.
-///
-/// Fails if there is no memory for it. The lists that there were are as they were.
-pub(crate) fn join(
-    lists: &mut Distinct,
-    known: &mut Known,
-    scratch: &mut Scratch,
-    numbers: &[u32],
-    pairs: &mut Vec<(u32, u32)>,
-) -> Result<u32, Memory>
-    requires unions { AreUnions lists.old known.old }
-    requires lists { AreNumbers lists.old numbers.now }
-    ensures unions { AreUnions lists.new known.new }
-    ensures within { IfOk result (λ i. i < length lists.new) }
-    ensures exactly { IfOk result (λ i. (z : ℕ × ℕ) → Contains (list_at lists.new i) z ↔ (Contains pairs.old.items z ⊎ HasOne lists.old numbers.now z)) }
-    ensures grow { Grow lists.old lists.new }
-{
-    lists.known();
-    let many = numbers.len() > FEW_LISTS;
-    let mut union = EMPTY;
-    for k in numbers {
-        if append(lists, *k, many, pairs)? {
-            continue;
-        }
-        union = both(lists, known, scratch, union, *k)?;
-    }
-    order_many(pairs, &mut scratch.marks)?;
-    fit(pairs);
-    with(lists, &mut scratch.merged, union, pairs)
 }

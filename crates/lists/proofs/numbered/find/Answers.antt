@@ -1,0 +1,54 @@
+use Rattle.std.proofs.Common.{◌≡◌, ◌∙◌, ◌<◌, ap, sym, subst, arith}
+use Rattle.std.proofs.lemmas.Bool.{both_ways}
+use Rattle.lists.specs.Lists.{list_at}
+use Rattle.lists.specs.Extended.{parts_of, extended, extended_lists, IsExtension}
+use Rattle.lists.proofs.Joining.{Grow-same, Grow-twice}
+use Rattle.lists.proofs.Numbering.{none_last, none_before, extended_at, extended-grow, IsExtension-grow, kept_is}
+use Rattle.lists.proofs.numbered.find.Goals as goal
+use Rattle.lists.proofs.numbered.find.Goals.{After-of}
+
+pub loop-r-init : goal.loop-r-init
+loop-r-init c =
+    let size = c.requires.kept.size in
+    let some = c.requires.kept.some in
+    let below = c.last-r.ensures.below in
+    record {
+      grow = Grow-same c.args.trie.now;
+      below = omega arith;
+      tagged = c.last-r.ensures.tagged;
+      none = none_last c.requires.kept (extended c.args.trie.now (parts_of c.args.list)) c.args.tag c.requires.tag c.last-r.result c.last-r.ensures;
+    }
+
+at_r : (c : After-of) → IsExtension c.args.trie.now (parts_of c.of.result)
+at_r c = subst (IsExtension c.args.trie.now) (sym c.of.ensures) (kept_is c.args.trie.now c.args.kept.now c.requires.kept.each c.loop-r.r c.loop-r.invariant.below)
+
+pub is_same-requires-clause-one : goal.is_same-requires-clause-one
+is_same-requires-clause-one c = IsExtension-grow c.loop-r.invariant.grow (parts_of c.of.result) (at_r ((goal.at.is_same-requires-clause-one c).After-of))
+
+pub is_same-requires-clause-other : goal.is_same-requires-clause-other
+is_same-requires-clause-other c = IsExtension-grow c.loop-r.invariant.grow (parts_of c.args.list) c.requires.list
+
+-- what the comparison says of the lists as they were
+module _ (c : After-of) where
+  list_r : list_at (extended_lists c.args.trie.now c.args.kept.now) c.loop-r.r ≡ extended c.loop-r.trie (parts_of c.of.result)
+  list_r =
+      extended_at c.args.trie.now c.args.kept.now c.loop-r.r c.loop-r.invariant.below ∙ ap (extended c.args.trie.now) (sym c.of.ensures)
+      ∙ sym (extended-grow c.loop-r.invariant.grow (parts_of c.of.result) (at_r c))
+
+  list_is : extended c.loop-r.trie (parts_of c.args.list) ≡ extended c.args.trie.now (parts_of c.args.list)
+  list_is = extended-grow c.loop-r.invariant.grow (parts_of c.args.list) c.requires.list
+
+pub loop-r-preserved : goal.loop-r-preserved
+loop-r-preserved c =
+    let at = (goal.at.loop-r-preserved c).After-of in
+    let before = c.loop-r.invariant in
+    let some : 0 < c.loop-r.r = let h = c.loop-r-test.true in omega arith in
+    let less = c.before-next.ensures.below some in
+    record {
+      grow = Grow-twice before.grow c.is_same.ensures.grow;
+      below = let low = before.below in omega arith;
+      tagged = λ p. c.before-next.ensures.tagged p ∙ before.tagged some;
+      none = none_before c.requires.kept (extended c.args.trie.now (parts_of c.args.list)) c.args.tag c.requires.tag c.loop-r.r c.before-next.result
+          (before.tagged some) c.before-next.ensures (λ e. both_ways _ c.if-branch.false (c.in_ok-is_same.ensures.same.1 (sym (list_r at) ∙ e ∙ sym (list_is at))))
+          before.none;
+    }

@@ -1,0 +1,89 @@
+-- How `Lists` keeps its lists: each as a list of the trie, its base, and few pairs beside it.
+use Rattle.buckets.specs.Buckets.{tag_at}
+use Rattle.std.specs.Prelude.{◌≡◌, ℕ, Bool, false, not, ◌+◌, ◌<◌, ◌≤◌, List, [], ◌++◌, length, map, take, drop, slice_index}
+use Rattle.std.specs.List.{All, Contains, slice_range, slice_index_or}
+use Rattle.std.specs.List.Sorted.{IsStrictlySortedBy, IsSorted, IsPermutation}
+use Rattle.std.specs.Ordering.{eq_by_cmp}
+use Rattle.std.specs.Set.{is_member}
+use Rattle.lists.specs.declared.kept.Extension.{Extension}
+use Rattle.lists.specs.declared.kept.Slot.{Slot}
+use Rattle.lists.specs.Lists.{pair_cmp, list_at, merged}
+use Rattle.lists.specs.Spans.{fingerprint_of, mixed}
+use Rattle.lists.specs.Hashed.{AreDifferent}
+
+-- no pair is in both lists
+abbrev pub ShareNone : List (ℕ × ℕ) → List (ℕ × ℕ) → Type 0
+ShareNone xs ys = (z : ℕ × ℕ) → Contains xs z → Contains ys z → ⊥
+
+-- the list has not the pair
+abbrev pub is_lacking : List (ℕ × ℕ) → ℕ × ℕ → Bool
+is_lacking list z = not (is_member (eq_by_cmp pair_cmp) list z)
+
+-- the number of the base, and the pairs beside it
+abbrev pub parts_of : Extension → ℕ × List (ℕ × ℕ)
+parts_of x = (x.base, x.few.now)
+
+-- the slot of the empty list
+abbrev pub no_slot : Slot
+no_slot = record { base = 0; count = 0; start = 0 }
+
+-- what a slot has
+abbrev pub kept_in : List (ℕ × ℕ) → Slot → ℕ × List (ℕ × ℕ)
+kept_in pairs x = (x.base, slice_range pairs x.start (x.start + x.count))
+
+-- what each of the slots has
+abbrev pub all_kept : List (ℕ × ℕ) → List Slot → List (ℕ × List (ℕ × ℕ))
+all_kept pairs slots = map (kept_in pairs) slots
+
+-- slots of these pairs, the first of which is that of the empty list
+pub record AreSlots (pairs : List (ℕ × ℕ)) (slots : List Slot) : Type 0 where
+  pub within : All (λ x. x.start + x.count ≤ length pairs) slots
+  pub some : 1 ≤ length slots
+  pub first : slice_index_or slots 0 no_slot ≡ no_slot
+
+-- what is kept of the list number k
+abbrev pub kept_at : List (ℕ × List (ℕ × ℕ)) → ℕ → ℕ × List (ℕ × ℕ)
+kept_at kept k = slice_index_or kept k (0, [])
+
+-- the list that has the pairs of the base and those beside it
+abbrev pub extended : List (List (ℕ × ℕ)) → ℕ × List (ℕ × ℕ) → List (ℕ × ℕ)
+extended trie x = merged (list_at trie x.0) x.1
+
+-- the base is a list of the trie, and the pairs rise and are not in it
+pub record IsExtension (trie : List (List (ℕ × ℕ))) (x : ℕ × List (ℕ × ℕ)) : Type 0 where
+  pub base : x.0 < length trie
+  pub rising : IsStrictlySortedBy pair_cmp x.1
+  pub apart : ShareNone (list_at trie x.0) x.1
+
+-- the lists of all that is kept
+abbrev pub extended_lists : List (List (ℕ × ℕ)) → List (ℕ × List (ℕ × ℕ)) → List (List (ℕ × ℕ))
+extended_lists trie kept = map (extended trie) kept
+
+-- different lists, each of which but the first, the empty one, has the tag of its pairs
+pub record AreExtended (trie : List (List (ℕ × ℕ))) (kept : List (ℕ × List (ℕ × ℕ))) (tags : List ℕ) : Type 0 where
+  pub each : All (IsExtension trie) kept
+  pub some : 1 ≤ length kept
+  pub first : kept_at kept 0 ≡ (0, [])
+  pub different : AreDifferent (extended_lists trie kept)
+  pub size : length tags ≡ length kept
+  pub tagged : (k : ℕ) → 0 < k → k < length kept → tag_at tags k ≡ mixed (fingerprint_of (extended trie (kept_at kept k)))
+
+-- the bases of the lists of these numbers
+abbrev pub bases_of : List (ℕ × List (ℕ × ℕ)) → List ℕ → List ℕ
+bases_of kept numbers = map (λ k. (kept_at kept k).0) numbers
+
+-- the pairs beside the base are merged, since it is that of the union, and the lists are few
+abbrev pub IsOwn : ℕ → Bool → ℕ → Type 0
+IsOwn base many other = (many ≡ false) × (other ≡ base)
+
+-- the pair is beside the base of one of these numbers, for which the condition holds
+abbrev pub HasBeside : List (ℕ × List (ℕ × ℕ)) → List ℕ → (ℕ → Type 0) → ℕ × ℕ → Type 0
+HasBeside kept numbers P z =
+    (j : ℕ) × (j < length numbers) × (P (kept_at kept (slice_index numbers j)).0 × Contains (kept_at kept (slice_index numbers j)).1 z)
+
+-- the pairs from a place on are put in order
+pub record IsSortedFrom (start : ℕ) (old new : List (ℕ × ℕ)) : Type 0 where
+  pub rest : List (ℕ × ℕ)
+  pub is : new ≡ take start old ++ rest
+  pub same : IsPermutation (drop start old) rest
+  pub sorted : IsSorted pair_cmp rest

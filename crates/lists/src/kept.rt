@@ -1,0 +1,134 @@
+//! What is kept of each list: the number of its base, and few pairs beside it.
+ghost use Rattle.std.specs.Prelude.{◌≡◌, ◌++◌, ◌∷◌, ◌+◌, ◌<◌, ◌≤◌, [], length, IfOk, OnOk, OnErr};
+ghost use Rattle.lists.specs.Extended.{parts_of, no_slot, kept_in, all_kept, AreSlots, kept_at};
+ghost use Rattle.lists.specs.declared.nodes.TheConstants.{FEW};
+
+use crate::nodes::EMPTY;
+use growth::Memory;
+use std::alloc::Global;
+use std::marker::Model;
+
+/// A list as the number of its base, and the pairs that it has beside it.
+#[derive(Clone, Copy)]
+pub(crate) struct Extension<'a> {
+    pub base: u32,
+    pub few: &'a [(u32, u32)],
+}
+
+/// Where a list is kept: its base, and so many pairs from the start on.
+#[derive(Clone, Copy)]
+struct Slot {
+    base: u32,
+    count: u32,
+    start: usize,
+}
+
+/// The slot of the empty list.
+fn first_slot() -> Slot
+    ensures { result ≡ no_slot }
+{
+    Slot {
+        base: EMPTY,
+        count: 0,
+        start: 0,
+    }
+}
+
+/// For each list its base and the pairs beside it.
+#[derive(Drop)]
+pub(crate) struct Kept {
+    /// The pairs of all lists, one after the other.
+    pairs: Vec<(u32, u32)>,
+    slots: Vec<Slot>,
+}
+
+impl Model for Kept {
+    ghost use Rattle.std.specs.Prelude.{ℕ, List};
+
+    ghost Value = { List (ℕ × List (ℕ × ℕ)) };
+
+    ghost use Rattle.lists.specs.Extended.{all_kept, AreSlots};
+
+    ghost view = { λ x. all_kept x.pairs.items x.slots.items };
+
+    ghost invariant = { λ x. AreSlots x.pairs.items x.slots.items };
+}
+
+impl Kept {
+    /// The empty list alone, with room for so many other ones: growth by doubling would take up to a third more memory.
+    ///
+    /// Fails if there is no memory for it.
+    pub fn new(alloc: Global, room: u32) -> Result<Kept, Memory>
+        ensures { IfOk result (λ x. x ≡ (0, []) ∷ []) }
+    {
+        let mut slots = Vec::with_capacity(alloc, room as usize + 1)?;
+        slots.push(first_slot())?;
+        Ok(Kept {
+            pairs: Vec::new(alloc),
+            slots,
+        })
+    }
+
+    /// What is kept of the list number `k`.
+    pub fn of(&self, k: u32) -> Extension<'_>
+        requires { k < length self.now }
+        ensures { parts_of result ≡ kept_at self.now k }
+    {
+        let slot = self.slots[k as usize];
+        Extension {
+            base: slot.base,
+            few: few_of(&self.pairs, slot),
+        }
+    }
+
+    /// Keeps one list more.
+    ///
+    /// Fails if there is no memory for it. What is kept is then as it was.
+    pub fn push(&mut self, list: Extension<'_>) -> Result<(), Memory>
+        requires { length list.few.now ≤ FEW }
+        ensures pushed { OnOk result (self.new ≡ self.old ++ parts_of list.entry ∷ []) }
+        ensures err { OnErr result (self.new ≡ self.old) }
+    {
+        put(&mut self.pairs, &mut self.slots, list)
+    }
+
+    /// Forgets all lists but the empty one, and keeps the memory.
+    pub fn clear(&mut self)
+        ensures { self.new ≡ (0, []) ∷ [] }
+    {
+        self.pairs.clear();
+        self.slots.truncate(1);
+    }
+}
+
+/// The pairs of the slot.
+fn few_of(pairs: &[(u32, u32)], slot: Slot) -> &[(u32, u32)]
+    requires { slot.start + slot.count ≤ length pairs.now }
+    ensures { (slot.base, result.now) ≡ kept_in pairs.now slot }
+{
+    &pairs[slot.start..slot.start + slot.count as usize]
+}
+
+/// Puts the pairs of the list at the end of the pairs, and its slot at the end of the slots.
+///
+/// Fails if there is no memory for it. What is kept is then as it was.
+fn put(
+    pairs: &mut Vec<(u32, u32)>,
+    slots: &mut Vec<Slot>,
+    list: Extension<'_>,
+) -> Result<(), Memory>
+    requires slots { AreSlots pairs.old.items slots.old.items }
+    requires few { length list.few.now ≤ FEW }
+    ensures slots { AreSlots pairs.new.items slots.new.items }
+    ensures put { OnOk result (all_kept pairs.new.items slots.new.items ≡ all_kept pairs.old.items slots.old.items ++ parts_of list.entry ∷ []) }
+    ensures err { OnErr result (all_kept pairs.new.items slots.new.items ≡ all_kept pairs.old.items slots.old.items) }
+{
+    let start = pairs.len();
+    pairs.extend_from_slice(list.few)?;
+    slots.push(Slot {
+        base: list.base,
+        count: list.few.len() as u32,
+        start,
+    })?;
+    Ok(())
+}
