@@ -11,7 +11,6 @@ ghost use Rattle.lists.specs.Unions.{Unites, IsUnion, AreUnions, IsSplit, AreSpl
 use crate::cut::{cut, fit, key};
 use crate::distinct::Distinct;
 use crate::known::Known;
-use crate::marked::order_many;
 use crate::nodes::{EMPTY, FEW, Halves, Shape};
 use crate::ordered::{append_merged, has_all};
 use growth::Memory;
