@@ -84,7 +84,6 @@ pub trait Sense: Signing {
     ///
     /// Fails if there is no memory for it. It is open then what was appended.
     fn signature<M: Meter>(
-        alloc: Global,
         l: &Lts<M>,
         p: &Partition,
         s: u32,
@@ -111,7 +110,6 @@ pub trait Sense: Signing {
 
 impl Sense for Strong {
     fn signature<M: Meter>(
-        alloc: Global,
         l: &Lts<M>,
         p: &Partition,
         s: u32,
@@ -151,7 +149,6 @@ fn sign<M: Meter>(
 
 impl Sense for Branching {
     fn signature<M: Meter>(
-        alloc: Global,
         l: &Lts<M>,
         p: &Partition,
         s: u32,

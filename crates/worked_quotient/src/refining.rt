@@ -295,6 +295,6 @@ fn append_signed<S: Sense, M: Meter>(
     requires room { HasRoomFor (M.counted m.old) 0 (most_visits S.relation l.now 0) }
 {
     l.known();
-    S::signature(alloc, l, p, 0, marks, out, m)?;
+    S::signature(l, p, 0, marks, out, m)?;
     append_pairs(alloc, out, text)
 }
