@@ -63,13 +63,6 @@ impl Distinct {
         self.nodes.known();
     }
 
-    /// How many lists there are.
-    pub fn len(&self) -> u32
-        ensures { result ≡ length self.now }
-    {
-        self.nodes.len()
-    }
-
     /// The list number `k`, as it is kept.
     pub fn shape(&self, k: u32) -> Shape<'_>
         requires { k < length self.now }
@@ -155,22 +148,6 @@ impl Distinct {
                 self.gather(halves.above, pairs)
             }
         }
-    }
-
-    /// Appends the list number `k` to `pairs`.
-    ///
-    /// Fails if there is no memory for it. `pairs` has then what it had.
-    pub fn append(&self, k: u32, pairs: &mut Vec<(u32, u32)>) -> Result<(), Memory>
-        requires { k < length self.now }
-        ensures appended { OnOk result (pairs.new.items ≡ pairs.old.items ++ list_at self.now k) }
-        ensures err { OnErr result (pairs.new.items ≡ pairs.old.items) }
-    {
-        let had = pairs.len();
-        if self.gather(k, pairs).is_ok() {
-            return Ok(());
-        }
-        pairs.truncate(had);
-        Err(Memory)
     }
 
     /// Forgets all lists but the empty one, and keeps the memory.

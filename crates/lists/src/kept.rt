@@ -1,9 +1,9 @@
 //! What is kept of each list: the number of its base, and few pairs beside it.
 ghost use Rattle.std.specs.Prelude.{◌≡◌, ◌++◌, ◌∷◌, ◌+◌, ◌<◌, ◌≤◌, [], length, IfOk, OnOk, OnErr};
 ghost use Rattle.lists.specs.Extended.{parts_of, no_slot, kept_in, all_kept, AreSlots, kept_at};
-ghost use Rattle.lists.specs.declared.nodes.TheConstants.{FEW};
+ghost use Rattle.lists.specs.declared.nodes.TheConstants.{FEW, MOST_LISTS};
 
-use crate::nodes::EMPTY;
+use crate::nodes::{EMPTY, make_room};
 use growth::Memory;
 use std::alloc::Global;
 use std::marker::Model;
@@ -79,6 +79,16 @@ impl Kept {
             base: slot.base,
             few: few_of(&self.pairs, slot),
         }
+    }
+
+    /// Makes room for one list more, if there is a number for it.
+    ///
+    /// Fails if there is no memory for it.
+    pub fn make_room(&mut self) -> Result<(), Memory>
+        ensures same { self.new ≡ self.old }
+        ensures number { OnOk result (length self.new < MOST_LISTS) }
+    {
+        make_room(&mut self.slots)
     }
 
     /// Keeps one list more.

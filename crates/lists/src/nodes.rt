@@ -85,13 +85,6 @@ impl Nodes {
         let _ = &self.pairs;
     }
 
-    /// How many lists there are.
-    pub fn len(&self) -> u32
-        ensures { result ≡ length self.now }
-    {
-        self.nodes.len() as u32
-    }
-
     /// The list number `k`, as it is kept.
     pub fn shape(&self, k: u32) -> Shape<'_>
         requires { k < length self.now }
@@ -173,18 +166,18 @@ fn put_halved(pairs: &Vec<(u32, u32)>, nodes: &mut Vec<Node>, halves: Halves) ->
 
 /// Makes room for one list more. Once each number has its list, what is asked for is more than any memory has.
 ///
-/// Fails if there is no memory for it. The lists are then as they were.
-fn make_room(nodes: &mut Vec<Node>) -> Result<(), Memory>
-    ensures same { nodes.new.items ≡ nodes.old.items }
-    ensures number { OnOk result (length nodes.new.items < MOST_LISTS) }
-    ensures room { OnOk result (vec_len nodes.new < vec_capacity nodes.new) }
+/// Fails if there is no memory for it. What is kept is then as it was.
+pub(crate) fn make_room<T>(kept: &mut Vec<T>) -> Result<(), Memory>
+    ensures same { kept.new.items ≡ kept.old.items }
+    ensures number { OnOk result (length kept.new.items < MOST_LISTS) }
+    ensures room { OnOk result (vec_len kept.new < vec_capacity kept.new) }
 {
-    let more = if nodes.len() < MOST_LISTS {
+    let more = if kept.len() < MOST_LISTS {
         1
     } else {
         usize::MAX
     };
-    nodes.reserve(more)?;
+    kept.reserve(more)?;
     Ok(())
 }
 

@@ -13,7 +13,7 @@ use crate::kept::{Extension, Kept};
 use crate::nodes::{EMPTY, FEW};
 use crate::span::{are_same, fingerprint, mix};
 use crate::unions::with;
-use buckets::{Buckets, MOST};
+use buckets::Buckets;
 use growth::Memory;
 
 /// Whether both lists are the same: of one base, if the pairs beside it are, and else, if both have one number in the trie.
@@ -86,10 +86,8 @@ fn put(kept: &mut Kept, buckets: &mut Buckets, list: Extension<'_>, tag: u32) ->
     ensures err { OnErr result ((kept.new ≡ kept.old) × (buckets.new ≡ buckets.old)) }
 {
     buckets.known();
+    kept.make_room()?;
     let number = buckets.len();
-    if number as usize == MOST {
-        return Err(Memory);
-    }
     buckets.push(tag)?;
     if kept.push(list).is_err() {
         buckets.pop();
