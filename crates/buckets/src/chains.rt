@@ -87,8 +87,8 @@ pub(crate) fn take(heads: &mut [u32], entries: &mut Vec<Entry>)
     entries.truncate(entries.len() - 1);
 }
 
-/// Makes four times as many buckets, up to the most, and chains all numbers anew, if there are more numbers than buckets. So
-/// few numbers have few buckets, which stay near in memory.
+/// Makes four times as many buckets, up to the most, and chains all numbers anew, if there are more numbers than
+/// buckets. So few numbers have few buckets, which stay near in memory.
 ///
 /// Fails if there is no memory for them. The buckets are then as they were.
 pub(crate) fn widen(heads: &mut Vec<u32>, entries: &mut [Entry]) -> Result<(), Memory>

@@ -11,8 +11,7 @@ use crate::span::{are_same, fingerprint, mix};
 use buckets::{Buckets, MOST, bucket};
 use growth::Memory;
 
-/// The bucket that a list which is kept as it is is looked up in, if there are so many buckets: a test tells by it how evenly
-/// lists are spread.
+/// The bucket that a list is looked up in, if there are so many buckets: a test tells by it how evenly lists are spread.
 pub fn list_bucket(list: &[(u32, u32)], buckets: usize) -> usize
     requires some { 0 < buckets }
     requires few { buckets < 2 ^ 32 }
