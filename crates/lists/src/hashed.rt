@@ -6,9 +6,9 @@ ghost use Rattle.lists.specs.Nodes.{list_of_shape, Suits};
 ghost use Rattle.lists.specs.Hashed.{tag_of, AreDifferent, IsHashed, IsNewList, IsNumberOf};
 ghost use Rattle.buckets.specs.Chains.{bucket_of_tag};
 
-use crate::nodes::{Nodes, Shape};
+use crate::nodes::{Nodes, Shape, make_room};
 use crate::span::{are_same, fingerprint, mix};
-use buckets::{Buckets, MOST, bucket};
+use buckets::{Buckets, bucket};
 use growth::Memory;
 
 /// The bucket that a list is looked up in, if there are so many buckets: a test tells by it how evenly lists are spread.
@@ -80,10 +80,7 @@ pub(crate) fn put(
     ensures err { OnErr result (nodes.new ≡ nodes.old) }
 {
     nodes.known();
-    if buckets.len() as usize >= MOST {
-        return Err(Memory);
-    }
-    sums.reserve(1)?;
+    make_room(sums)?;
     buckets.push(mix(sum))?;
     match nodes.push(shape) {
         Ok(number) => {
