@@ -59,6 +59,9 @@ impl<T> Vec<T> {
     pub fn truncate(&mut self, count: usize) {
         self.0.truncate(count);
     }
+    pub fn retain(&mut self, keeps: impl FnMut(&T) -> bool) {
+        self.0.retain(keeps);
+    }
     pub fn pop(&mut self) -> Option<T> {
         self.0.pop()
     }
