@@ -21,11 +21,12 @@
 //! ```
 //!
 //! A walk begins without a frame, with nothing on the stack: its first state is put there only if an inert step leads on to a
-//! state that is not finished. Most walks are one row: in ten rounds over nine buffers, steps enter 521 of 196,830 states.
+//! state that was not seen. Most walks are one row: in ten rounds over nine buffers, steps enter 521 of 196,830 states.
 //!
-//! Between walks all states are at rest. A round wakes those that it looks at. The others have no transition, or are alone in
-//! their blocks, so that no inert step leads to them from another state. The walk from one state alone has stages of its own,
-//! where all states are unseen between walks. It keeps a trail of those that it sees, and makes them unseen again.
+//! Between walks all states are at rest. A round wakes those that it looks at. The others have no transition, and so nothing
+//! to show, or are alone in their blocks, so that no inert step leads to them from another state. The walk from one state
+//! alone has stages of its own, where all states are unseen between walks. It keeps a trail of those that it sees, and makes
+//! them unseen again.
 #![tactic(auto)]
 
 mod beginning;

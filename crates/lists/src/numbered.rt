@@ -16,6 +16,15 @@ use crate::unions::with;
 use buckets::Buckets;
 use growth::Memory;
 
+/// The fingerprint of the list.
+#[inline(always)]
+fn sum_of(trie: &Distinct, list: Extension<'_>) -> u64
+    requires { IsExtension trie.now (parts_of list) }
+    ensures { result ≡ fingerprint_of (extended trie.now (parts_of list.entry)) }
+{
+    trie.sum(list.base).wrapping_add(fingerprint(list.few))
+}
+
 /// Whether both lists are the same: of one base, if the pairs beside it are, and else, if both have one number in the trie.
 /// Lists are put together in `merged`.
 ///
@@ -34,6 +43,9 @@ fn is_same(
     trie.known();
     if one.base == other.base {
         return Ok(are_same(one.few, other.few));
+    }
+    if sum_of(trie, one) != sum_of(trie, other) {
+        return Ok(false);
     }
     fit(one.few);
     fit(other.few);
@@ -119,7 +131,7 @@ fn number(
     if list.base == EMPTY && list.few.is_empty() {
         return Ok(EMPTY);
     }
-    let tag = mix(trie.sum(list.base).wrapping_add(fingerprint(list.few)));
+    let tag = mix(sum_of(trie, list));
     if let Some(number) = find(trie, merged, kept, buckets, list, tag)? {
         return Ok(number);
     }

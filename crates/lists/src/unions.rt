@@ -1,4 +1,4 @@
-//! Lists that are made of pairs, of a list and pairs, of two lists, and of several ones.
+//! Bases that are made of pairs, of a list and pairs, and of two lists.
 ghost use Rattle.std.specs.Prelude.{◌≡◌, ◌⊎◌, ◌↔◌, ℕ, ◌++◌, ◌<◌, ◌≤◌, List, length, IfOk, IfSome, if◌then◌else◌};
 ghost use Rattle.lists.specs.declared.nodes.TheConstants.{FEW};
 ghost use Rattle.std.specs.List.{Contains};

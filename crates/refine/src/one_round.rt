@@ -77,7 +77,8 @@ impl Marks {
     }
 }
 
-/// A relation whose signatures can be computed, of one state at a time too.
+/// A relation whose signatures can be computed, of one state at a time too: `Strong` or `Branching`. What rounds ask of one is
+/// not public.
 pub trait Sense: Signing {
     /// Appends the signature of the state `s` under the blocks of `p` to `out`: its pairs of a label number and a block,
     /// in rising order, each once.

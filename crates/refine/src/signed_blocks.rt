@@ -1,5 +1,5 @@
 //! The blocks of a round, and the signature of each state under them.
-ghost use Rattle.std.specs.Prelude.{◌≡◌, IfOk};
+ghost use Rattle.std.specs.Prelude.{◌≡◌, ◌∷◌, [], IfOk};
 ghost use Rattle.lists.specs.Lists.{AreLists};
 ghost use Rattle.partition.specs.Partition.{AreBlocks};
 ghost use Rattle.partition.specs.Blocks.{LeavesAlone};
@@ -37,7 +37,8 @@ impl SignedBlocks {
     ///
     /// Fails if there is no memory for them.
     pub fn new(alloc: Global, blocks: Blocks) -> Result<SignedBlocks, Memory>
-        ensures { IfOk result (λ r. r.blocks ≡ blocks) }
+        ensures blocks { IfOk result (λ r. r.blocks ≡ blocks) }
+        ensures empty { IfOk result (λ r. r.lists ≡ [] ∷ []) }
     {
         let states = blocks.of().len();
         Ok(SignedBlocks {
@@ -63,7 +64,7 @@ impl SignedBlocks {
         self.blocks.count()
     }
 
-    /// Returns nothing: what holds of the lists of the states.
+    /// Does nothing when it runs: its contract says what holds of the lists of the states.
     pub fn known(&self)
         ensures lists { AreLists self.now.lists }
         ensures have { HaveLists self.now.blocks.of self.now.blocks.live self.now.lists self.now.numbers }

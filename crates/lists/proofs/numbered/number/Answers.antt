@@ -12,8 +12,7 @@ use Rattle.lists.proofs.numbered.number.Goals.{After-mix-tag, In_ok-number-2, el
 
 tag_is : (c : After-mix-tag) → c.mix-tag.result ≡ mixed (fingerprint_of (extended c.args.trie.now (parts_of c.args.list)))
 tag_is c =
-    c.mix-tag.ensures ∙ (λ i. mixed ((c.sum.ensures i + c.fingerprint.ensures i) % 2 ^ 64))
-    ∙ ap mixed (fingerprint_merged (list_at c.args.trie.now c.args.list.base) c.args.list.few.now c.requires.list.apart)
+    c.mix-tag.ensures ∙ ap mixed c.sum_of.ensures
 
 pub find-requires-clause-tag : goal.find-requires-clause-tag
 find-requires-clause-tag c = tag_is ((goal.at.find-requires-clause-tag c).After-mix-tag)
