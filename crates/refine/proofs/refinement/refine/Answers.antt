@@ -22,7 +22,7 @@ loop-scratch-init g c =
     let l = c.args.l.now in
     let A = system_of l in
     let blocks = c.in_ok-blocks.ensures in
-    let is = sym c.in_ok-round.ensures in
+    let is = sym c.in_ok-round.ensures.blocks in
     let one = one_block A.states c.in_ok-blocks.blocks.of c.states.result (sym c.states.ensures.value) blocks.one in
     let begun = c.refinement_goes_on.ensures.begun rel A (slice_index c.in_ok-blocks.blocks.of) c.states.ensures.lts.system one in
     record {

@@ -9,7 +9,7 @@ use Rattle.refine.proofs.one_round.Signatures.fill.Goals as goal
 
 pub sign_each-requires-clause-others : goal.sign_each-requires-clause-others
 sign_each-requires-clause-others g c s h =
-    inl (subst (λ b. IsOne b.live s) (sym c.in_ok-blocks-2.ensures) (c.in_ok-blocks.ensures.live s (omega (arith, h, c.requires.states))))
+    inl (subst (λ b. IsOne b.live s) (sym c.in_ok-blocks-2.ensures.blocks) (c.in_ok-blocks.ensures.live s (omega (arith, h, c.requires.states))))
 
 pub returns-clause-signed : goal.returns-clause-signed
 returns-clause-signed g c s ls =
@@ -19,7 +19,7 @@ returns-clause-signed g c s ls =
     let signed = c.in_ok-signed.signed in
     let numbers = c.signed.inside.numbers.items in
     let start = c.in_ok-blocks.ensures in
-    let is : signed.blocks ≡ c.in_ok-blocks.blocks = c.in_ok-signed.ensures.blocks ∙ c.in_ok-blocks-2.ensures in
+    let is : signed.blocks ≡ c.in_ok-blocks.blocks = c.in_ok-signed.ensures.blocks ∙ c.in_ok-blocks-2.ensures.blocks in
     let size : length numbers ≡ length p =
     c.signed.invariant.states ∙ ap (λ r. length r.blocks.of) c.signed.view_is ∙ ap (λ b. length b.of) is ∙ ap length start.of in
     let list = list_of signed.lists signed.numbers s in
