@@ -238,9 +238,9 @@ def main():
         else:
             print(page(), end="", flush=True)
     except (OSError, KeyboardInterrupt) as error:
-        if beside.exists():
+        if beside.is_file():
             beside.unlink()
-        print(f"tools/reading.py: {error}", file=sys.stderr, flush=True)
+        print(f"tools/reading.py: {str(error) or 'stopped'}", file=sys.stderr, flush=True)
         # What is left in the buffer cannot be written.
         os._exit(1)
 

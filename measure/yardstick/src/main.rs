@@ -35,18 +35,21 @@ fn run(every: bool, branching: bool, file: &str) -> Result<(), String> {
     std::io::stdout().write_all(&written).map_err(|error| error.to_string())
 }
 
+fn usage() -> ! {
+    eprintln!("usage: yardstick min [--every] [--relation strong|branching] FILE");
+    std::process::exit(3);
+}
+
 fn main() {
     let words: Vec<String> = std::env::args().skip(1).collect();
     let mut words: Vec<&str> = words.iter().map(String::as_str).collect();
     let every = words.contains(&"--every");
     words.retain(|word| *word != "--every");
     let (branching, file) = match words[..] {
+        ["min", .., file] if file.starts_with('-') => usage(),
         ["min", "--relation", relation @ ("strong" | "branching"), file] => (relation == "branching", file),
-        ["min", file] if !file.starts_with('-') => (false, file),
-        _ => {
-            eprintln!("usage: yardstick min [--every] [--relation strong|branching] FILE");
-            std::process::exit(3);
-        }
+        ["min", file] => (false, file),
+        _ => usage(),
     };
     if let Err(fault) = run(every, branching, file) {
         eprintln!("yardstick: {file}: {fault}");
