@@ -1,11 +1,11 @@
 //! The reader of a system's text: a header, then as many transitions as it promises, then the end.
 ghost use Rattle.std.specs.Prelude.{◌≡◌, ◌↔◌, ℕ, ◌+◌, ◌<◌, ◌≤◌, List, [], ◌∷◌, ◌++◌, length, vec_len, false, IsTrue, IfSome, Err, IfOk, IfErr, OnOk, MatchResult};
 ghost use Rattle.std.specs.Io.KnownBytes.{Consumes, IsAtEnd};
-ghost use Rattle.theory.specs.System.{System, Transition};
+ghost use Rattle.theory.specs.System.{Transition};
 ghost use Rattle.lts.specs.Lts.{InRange};
 ghost use Rattle.autfmt.specs.declared.limits.TheConstants.{FILE_STATES, FILE_TRANSITIONS};
 ghost use Rattle.autfmt.specs.Bounds.{Bounds};
-ghost use Rattle.autfmt.specs.Cutter.{Cutting, Feeds};
+ghost use Rattle.autfmt.specs.Cutter.{Feeds};
 ghost use Rattle.autfmt.specs.Faults.{FirstFault};
 ghost use Rattle.autfmt.specs.Readers.{IsTextFault, ReadsAs};
 ghost use Rattle.autfmt.specs.ReadSoFar.{ReadSoFar, HeldSoFar, ReadsOneMore, HoldsText};
