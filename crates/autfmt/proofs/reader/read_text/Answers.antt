@@ -7,7 +7,7 @@ use Rattle.autfmt.specs.declared.judge.Promise.{Promise}
 use Rattle.autfmt.specs.ReadSoFar.{HeldSoFar}
 use Rattle.autfmt.proofs.Holding.{Holds-new}
 use Rattle.autfmt.proofs.ReaderSteps.{end_failed, text_behind, text_ends, count_held}
-use Rattle.autfmt.proofs.Taking.{refuses_behind}
+use Rattle.autfmt.proofs.Taking.{takes_more}
 use Rattle.autfmt.proofs.reader.read_text.Given.{Over}
 use Rattle.autfmt.proofs.reader.read_text.Goals as goal
 use Rattle.autfmt.proofs.reader.read_text.Goals.{After-is_at_end}
@@ -20,7 +20,7 @@ returns-in_err-read_transitions-clause-whole g c =
     let exit =
     err_from_is_err_and c.from_residual-in_err-read_transitions.result c.from_residual-in_err-read_transitions.ensures.1 in
     rw (exit.1, exit.2)
-    (refuses_behind _ _ _ _ _ first.given bytes _ _ first.took took (step c.args.lim.now first.given (first.outcome, held)))
+    (takes_more _ _ _ _ _ _ first.given bytes first.took took (step c.args.lim.now first.given (first.outcome, held)))
 
 -- what was read before the look behind the transitions
 module _ (g : Over) (c : After-is_at_end g) where
@@ -57,7 +57,7 @@ returns-in_err-at_end-clause-whole g c =
       given = front g at ++ last.0;
       took = took g at last.0 last.1;
       outcome = rw (exit.1, exit.2)
-          (end_failed c.args.lim.now (front g at) _ _ _ last.0 _ _ (transitions g at).1.0 (count g at) c.in_err-at_end.ensures.failures
+          (end_failed last.0 (transitions g at).1.0 _ _ (count g at) c.in_err-at_end.ensures.failures
           (λ over. let a = c.is_at_end.ensures.over over in let b = c.in_err-at_end.was in cc) last.2);
     }
 
@@ -69,7 +69,7 @@ returns-then-not-at_end-clause-whole g c =
       given = front g at ++ last.0;
       took = took g at last.0 last.1;
       outcome =
-          text_behind c.args.lim.now (front g at) _ _ _ last.0 _ _ (transitions g at).1.0 (count g at) c.in_ok-at_end.ensures.failures
+          text_behind last.0 (transitions g at).1.0 _ _ _ (count g at) c.in_ok-at_end.ensures.failures refl
           (λ over. let a = c.is_at_end.ensures.over over in let b = c.in_ok-at_end.was in let d = c.if-not-at_end.true in cc)
           (last.2.3 refl);
     }
@@ -79,5 +79,5 @@ returns-clause-whole g c =
     let at = (goal.at.returns-clause-whole g c).After-is_at_end in
     let last = rw c.if-not-at_end.false at c.in_ok-at_end.ensures.look in
     let (es, (so_far, held)) = transitions g at in
-    let read = text_ends c.args.lim.now (front g at) _ _ es last.0 so_far (count g at) (last.2.2 refl) in
+    let read = text_ends last.0 so_far (count g at) (last.2.2 refl) in
     record { given = front g at ++ last.0; took = took g at last.0 last.1; outcome = (es, read, held) }

@@ -1,10 +1,10 @@
-use Rattle.std.proofs.Common.{[], ◌++◌, vec_len, sym, ap, arith}
+use Rattle.std.proofs.Common.{[], ◌++◌, vec_len, ap, arith}
 use Rattle.std.proofs.lemmas.List.{append_assoc, append-nil}
 use Rattle.std.proofs.lemmas.Bool.{both_ways}
 use Rattle.std.proofs.lemmas.Result.{err_from_is_err_and}
 use Rattle.std.proofs.KnownBytes.{Consumes-nil, Consumes-trans}
 use Rattle.autfmt.specs.declared.held.Held.{Held}
-use Rattle.autfmt.proofs.ReaderSteps.{no_memory_behind, goes_on, Refuses-same, HeldSoFar-same, HeldSoFar-push}
+use Rattle.autfmt.proofs.ReaderSteps.{no_memory_behind, goes_on, HeldSoFar-push}
 use Rattle.autfmt.proofs.reader.read_transitions.Goals as goal
 
 pub loop-found-init : goal.loop-found-init
@@ -12,7 +12,7 @@ loop-found-init g c = record {
   got = (
     [],
     Consumes-nil (g.R.Source.rest c.args.r.now),
-    λ bounds given standing. ([], HeldSoFar-same bounds _ given (given ++ []) _ _ _ [] (sym (append-nil given)) standing),
+    λ bounds given standing. ([], rw (append-nil given) standing),
   );
   len = c.requires.none;
   few = omega arith;
@@ -30,7 +30,7 @@ returns-in_err-read_transition-clause-transitions g c =
       λ bounds given standing.
           let now = so_far bounds given standing in
           let refused = step bounds (given ++ before) now.0 now.1 in
-          rw (p.1, p.2) (Refuses-same bounds _ _ _ _ _ (append_assoc given before line) refused),
+          rw (p.1, p.2, ← append_assoc given before line) refused,
     )
 
 pub returns-in_err-take_usual-clause-transitions : goal.returns-in_err-take_usual-clause-transitions
