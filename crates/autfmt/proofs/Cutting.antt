@@ -175,16 +175,13 @@ pub first_begins :
     (tail : List ℕ) × (others : List (List ℕ)) × Lines (front ++ more) ((front ++ tail) ∷ others)
 first_begins front more one some = step (cut more).0 (cut more).1 (cut more).2
   where
-    filled : (r : List ℕ) → last_line (front ++ r) ≡ (front ++ r) ∷ []
-    filled r = nonempty front some
-      where
-        nonempty : (f : List ℕ) → 1 ≤ length f → last_line (f ++ r) ≡ (f ++ r) ∷ []
-        nonempty [] h = absurd (omega arith)
-        nonempty (b ∷ bs) h = refl
+    filled : (f r : List ℕ) → 1 ≤ length f → last_line (f ++ r) ≡ (f ++ r) ∷ []
+    filled [] r h = absurd (omega arith)
+    filled (b ∷ bs) r h = refl
 
     step : (e : List (List ℕ)) (r : List ℕ) → Cuts more e r →
         (tail : List ℕ) × (others : List (List ℕ)) × Lines (front ++ more) ((front ++ tail) ∷ others)
-    step [] r c = (r, [], ([], front ++ r, Cuts-joined_rest front more r one c, sym (filled r)))
+    step [] r c = (r, [], ([], front ++ r, Cuts-joined_rest front more r one c, sym (filled front r some)))
     step (l ∷ ls) r c =
         (l, ls ++ last_line r, ((front ++ l) ∷ ls, r, Cuts-joined front more l ls r one c, refl))
 

@@ -137,23 +137,17 @@ pub edge_judged :
     (n k : ℕ) (line : List ℕ) → ((e : Transition) × SpellsAmong n line e) ⊎ ((fault : Fault) × EdgeFault n k line fault)
 edge_judged n k line = step (cases_lt LONGEST_LINE (length line)) (decide_transition line)
   where
-    ends : IsShort line → (s t : ℕ) (a : List ℕ) → TransitionLine line s a t → (s < n) ⊎ (n ≤ s) → (t < n) ⊎ (n ≤ t) →
+    ends : (e : Transition) → SpellsTransition line e → (e.source < n) ⊎ (n ≤ e.source) → (e.target < n) ⊎ (n ≤ e.target) →
         ((e : Transition) × SpellsAmong n line e) ⊎ ((fault : Fault) × EdgeFault n k line fault)
-    ends short s t a h p q = judged p q
-      where
-        e : Transition
-        e = record { source = s; label = a; target = t }
-
-        judged : (s < n) ⊎ (n ≤ s) → (t < n) ⊎ (n ≤ t) →
-            ((e : Transition) × SpellsAmong n line e) ⊎ ((fault : Fault) × EdgeFault n k line fault)
-        judged (inr high) q = inr (SourceRange k, EdgeFault.source refl e (short, h) high)
-        judged (inl low) (inr high) = inr (TargetRange k, EdgeFault.target refl e (short, h) low high)
-        judged (inl low) (inl low') =
-            inl (e, ((short, h), record { source = low; label = transition-label line s a t h; target = low' }))
+    ends e h (inr high) q = inr (SourceRange k, EdgeFault.source refl e h high)
+    ends e h (inl low) (inr high) = inr (TargetRange k, EdgeFault.target refl e h low high)
+    ends e h (inl low) (inl low') =
+        inl (e, (h, record { source = low; label = transition-label line e.source e.label e.target h.1; target = low' }))
 
     step : (LONGEST_LINE < length line) ⊎ (length line ≤ LONGEST_LINE) →
         ((x : ℕ × List ℕ × ℕ) × TransitionLine line x.0 x.1 x.2) ⊎ ((x : ℕ × List ℕ × ℕ) → ¬ TransitionLine line x.0 x.1 x.2) →
         ((e : Transition) × SpellsAmong n line e) ⊎ ((fault : Fault) × EdgeFault n k line fault)
     step (inl l) r = inr (LineTooLong k, EdgeFault.too_long refl l)
     step (inr s) (inr none) = inr (BadEdge k, EdgeFault.unread refl s (λ d spelled. none (d.source, d.label, d.target) spelled.1))
-    step (inr s) (inl ((source, a, target), h)) = ends s source target a h (cases_lt source n) (cases_lt target n)
+    step (inr s) (inl ((source, a, target), h)) =
+        ends (record { source = source; label = a; target = target }) (s, h) (cases_lt source n) (cases_lt target n)

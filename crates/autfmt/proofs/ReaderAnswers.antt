@@ -17,6 +17,7 @@ use Rattle.autfmt.specs.Outcomes.{Refuses, ReadsTo, IsWithin, AnswersRead}
 use Rattle.autfmt.specs.Outcomes.Refuses.{faulty_text, failed_source, no_memory}
 use Rattle.autfmt.specs.ReadSoFar.{HoldsText}
 use Rattle.autfmt.proofs.Holding.{Holds-system, Holds-length}
+use Rattle.autfmt.proofs.ReaderSteps.{if_told, none_to_come}
 
 -- a text that reads as a system has a good header
 pub Reads-header : (bounds : Bounds) (whole : List ℕ) (A : System) → Reads bounds whole A → HasGoodHeader bounds whole
@@ -26,13 +27,10 @@ Reads-header bounds whole A r = (r.header, r.lines, A.first, length A.transition
 pub refuses_built :
     (bounds : Bounds) (A : System) (new : Option (List ℕ)) (got : List ℕ) (failures : ℕ) → failures ≡ 0 → IsAtEnd new →
     Reads bounds got A → Refuses bounds got new failures Memory
-refuses_built bounds A new got failures sound end r = no_memory sound refl (told new end)
-  where
-    told : (o : Option (List ℕ)) → IsAtEnd o → IfSome o (λ more. HasGoodHeader bounds (got ++ more))
-    told None e = tt
-    told (Some more) e =
-        subst (λ (t : List ℕ). HasGoodHeader bounds t) (sym (append-nil got) ∙ ap (λ (t : List ℕ). got ++ t) (sym e))
-        (Reads-header bounds got A r)
+refuses_built bounds A new got failures sound end r =
+    no_memory sound refl
+    (if_told new (λ more. HasGoodHeader bounds (got ++ more))
+    (λ more told. rw (none_to_come new more told end, append-nil got) (Reads-header bounds got A r)))
 
 -- a fault of a text that its source tells is the first of the text
 pub told_fault :

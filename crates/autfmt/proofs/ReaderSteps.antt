@@ -169,11 +169,8 @@ module _ {bounds : Bounds} {given : List ℕ} {old : Cutting} {p : Promise} {es 
         Refuses bounds (given ++ got) rest failures (MissingEdges found)
     transition_missing now promised end cuts =
         refused_behind (MissingEdges found) tt (λ more told.
-        let none = none_to_come rest more told (end cuts.over) in
-        let l = HasCut-end given got before old so_far.cut cuts.none in
-        let same : given ++ got ≡ given ++ got ++ more =
-        sym (append-nil (given ++ got)) ∙ ap (λ (t : List ℕ). given ++ got ++ t) (sym none) in
-        ([], subst (λ (t : List ℕ). Lines t (before ++ [])) same (subst (Lines (given ++ got)) (sym (append-nil before)) l), (promised, refl)))
+        let l = subst (Lines (given ++ got)) (sym (append-nil before)) (HasCut-end given got before old so_far.cut cuts.none) in
+        ([], rw (none_to_come rest more told (end cuts.over), append-nil (given ++ got)) l, (promised, refl)))
 
     -- the next line is too long
     pub transition_too_long :
