@@ -77,7 +77,9 @@ FaultOf bounds fault (line ∷ all) =
     ⊎ ((f m n : ℕ) × GoodHeader bounds line f m n × (lines others : List (List ℕ)) × (es : List Transition)
     × (all ≡ lines ++ others) × FaultBehind m n lines es others fault)
 
-fault_of : (bounds : Bounds) (text : List ℕ) (fault : Fault) (lines : List (List ℕ)) → Lines text lines → FirstFault bounds text fault → FaultOf bounds fault lines
+fault_of :
+    (bounds : Bounds) (text : List ℕ) (fault : Fault) (lines : List (List ℕ)) → Lines text lines → FirstFault bounds text fault →
+    FaultOf bounds fault lines
 fault_of bounds text fault lines l (no_line l' e) = subst (FaultOf bounds fault) (Lines-unique text [] lines l' l) e
 fault_of bounds text fault lines l (header line others l' bad) =
     subst (FaultOf bounds fault) (Lines-unique text (line ∷ others) lines l' l) (inl bad)
@@ -131,7 +133,8 @@ Reads-no_fault bounds text A fault r first = against (fault_of bounds text fault
     against : FaultOf bounds fault (r.header ∷ r.lines) → ⊥
     against (inl bad) = GoodHeader-no_fault bounds r.header A.first (length all) A.states fault r.good bad
     against (inr (i, m, n, good, lines, others, es, e, next)) =
-        let bad = same_header bounds r.header i m n A.first (length all) A.states (λ x y. FaultBehind x y lines es others fault) good r.good next in
+        let bad =
+        same_header bounds r.header i m n A.first (length all) A.states (λ x y. FaultBehind x y lines es others fault) good r.good next in
         let stops = next_stops (length all) A.states (length es) others fault bad.1 in
         let front =
         one_front (SpellsAmong A.states) (length all) 0 r.lines lines [] others all es (length all) (length es)

@@ -93,7 +93,8 @@ FirstHideFault-unique text f g a b =
 pub HideReads-unique : (text : List ℕ) (H H' : List (List ℕ)) → HideReads text H → HideReads text H' → H ≡ H'
 HideReads-unique text H H' a b =
     let same = Lines-unique text b.0 a.0 b.1 a.1 in
-    AllZip-unique Hides (λ line x y h k. one_hide_line line x y h.1 k.1) a.0 H H' a.3 (subst (λ (lines : List (List ℕ)). AllZip Hides lines H') same b.3)
+    AllZip-unique Hides (λ line x y h k. one_hide_line line x y h.1 k.1) a.0 H H' a.3
+    (subst (λ (lines : List (List ℕ)). AllZip Hides lines H') same b.3)
 
 -- a hide list has no fault
 pub HideReads-no_fault : (text : List ℕ) (H : List (List ℕ)) (fault : Fault) → HideReads text H → FirstHideFault text fault → ⊥

@@ -90,7 +90,7 @@ module _ {given : List ℕ} {old : Cutting} {H hidden : List (List ℕ)} (got : 
     same = SameLabels-add hidden H a hidden' so_far.same added;
   }
 
-  -- its fault, if the source, which has not failed, tells it
+  -- the fault of what comes, if the source, which has not failed, tells it
   module _ (found : ℕ) (rest : Option (List ℕ)) (failures : ℕ) (count : length H ≡ found) (sound : failures ≡ 0) where
     refused_behind :
         (fault : Fault) → IsHideFault fault → found ≤ MOST_LINES →

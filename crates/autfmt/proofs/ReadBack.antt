@@ -99,7 +99,8 @@ spaced_line s b l d t e before between behind =
 spaced_header : (f m n : List ℕ)
     → Spaced (codes "des" ∷ codes "(" ∷ f ∷ codes "," ∷ m ∷ codes "," ∷ n ∷ codes ")" ∷ []) (codes "des (" ++ f ++ codes ", " ++ m ++ codes ", " ++ n ++ codes ")")
 spaced_header f m n =
-    let nested = next [] (codes "des") none (next (codes " ") (codes "(") a_space (next [] f none (after_comma (codes " ") m a_space (after_comma (codes " ") n a_space (closed {rest = []} none))))) in
+    let numbers = next [] f none (after_comma (codes " ") m a_space (after_comma (codes " ") n a_space (closed {rest = []} none))) in
+    let nested = next [] (codes "des") none (next (codes " ") (codes "(") a_space numbers) in
     subst (Spaced (codes "des" ∷ codes "(" ∷ f ∷ codes "," ∷ m ∷ codes "," ∷ n ∷ codes ")" ∷ [])) (simp append_assoc) nested.spaced
 
 -- a written line, as a reader sees it
@@ -120,7 +121,8 @@ transition_is_line n small e among =
     let blank = codes " " in
     record {
       one = spelled_line-one e.source e.target blank blank (written_label e.label) e.label source target space space spelling;
-      short = subst IsShort (append-nil (transition_line e)) (spelled_line-short e.source e.target blank blank [] (written_label e.label) e.label source target (omega arith) (omega arith) (omega arith) spelling);
+      short = subst IsShort (append-nil (transition_line e))
+          (spelled_line-short e.source e.target blank blank [] (written_label e.label) e.label source target (omega arith) (omega arith) (omega arith) spelling);
     }
 
 header_is_line : (A : System) → A.first < 10 ^ 10 → length A.transitions < 10 ^ 10 → A.states < 10 ^ 10 → IsLine (header_line A)

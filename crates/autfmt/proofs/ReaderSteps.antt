@@ -47,13 +47,13 @@ none_to_come rest more e end = subst (λ (o : Option (List ℕ)). IsAtEnd o) e e
 
 -- line 1, by a cutter that had taken nothing
 module _ (bounds : Bounds) (old : Cutting) (got : List ℕ) (rest : Option (List ℕ)) (failures : ℕ) (new : old ≡ fresh) where
-  -- the source failed where it has not ended
+  -- the source failed where line 1 has not ended
   pub header_failed : failures ≡ 1 → IsPart (old.ahead ++ got) → Refuses bounds got rest failures Device
   header_failed failed part =
       let ahead : old.ahead ≡ [] = ap (λ (c : Cutting). c.ahead) new in
       failed_source failed refl (λ f. no_judged_header bounds got f (subst (λ (t : List ℕ). IsPart (t ++ got)) ahead part))
 
-  -- it is too long
+  -- line 1 is too long
   pub header_too_long : failures ≡ 0 → BeginsTooLong (old.ahead ++ got) → Refuses bounds got rest failures (LineTooLong 1)
   header_too_long sound long =
       faulty_text sound tt
@@ -62,7 +62,7 @@ module _ (bounds : Bounds) (old : Cutting) (got : List ℕ) (rest : Option (List
       let (line, others, big, l) = HasCut-too_long [] got [] old (HasCut-fresh old new) (fresh_goes_on old new) more long in
       header line others l (HeaderFault.too_long refl big)))
 
-  -- what the judge answers of it
+  -- what the judge answers of line 1
   pub header_answer :
       (now : Cutting) (result : Result Promise Fault) → failures ≡ 0 → (now.over ≡ true → IsAtEnd rest) →
       CutsLine (old.ahead ++ got) now → IfOk result (λ p. GoodHeader bounds now.line p.first p.transitions p.states) →
@@ -148,7 +148,7 @@ module _ {bounds : Bounds} {given : List ℕ} {old : Cutting} {p : Promise} {es 
       no_memory_behind bounds (given ++ got) so_far.header (so_far.lines ++ now.line ∷ []) now p.first p.transitions p.states rest failures
       (HasCut-line given got before old so_far.cut goes_on now cuts) so_far.good sound end
 
-  -- its fault, if the source, which has not failed, tells it
+  -- the fault of what comes, if the source, which has not failed, tells it
   module _ (found : ℕ) (rest : Option (List ℕ)) (failures : ℕ) (count : length es ≡ found) (sound : failures ≡ 0) where
     refused_behind :
         (fault : Fault) → IsTextFault fault →
