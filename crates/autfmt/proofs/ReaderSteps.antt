@@ -208,13 +208,13 @@ goes_on open_at over = cc
 
 -- one transition more was read, behind those of the bytes before
 pub HeldSoFar-push :
-    (H : List (List ℕ)) (p : Promise) (old at now : Cutting) (held_old held_at held : Held) (before line : List ℕ) →
-    ((bounds : Bounds) (given : List ℕ) → HeldSoFar bounds H given p (old, held_old) [] →
+    (H : List (List ℕ)) (p : Promise) (old at now : Cutting) (held_at held : Held) (before line : List ℕ) →
+    ((bounds : Bounds) (given : List ℕ) → ReadSoFar bounds given old p [] →
     (es : List Transition) × HeldSoFar bounds H (given ++ before) p (at, held_at) es) →
     ReadsOneMore H p line (at, held_at) (now, held) →
-    (bounds : Bounds) (given : List ℕ) → HeldSoFar bounds H given p (old, held_old) [] →
+    (bounds : Bounds) (given : List ℕ) → ReadSoFar bounds given old p [] →
     (es : List Transition) × HeldSoFar bounds H (given ++ (before ++ line)) p (now, held) es
-HeldSoFar-push H p old at now held_old held_at held before line so_far step bounds given standing =
+HeldSoFar-push H p old at now held_at held before line so_far step bounds given standing =
     let (es, then) = so_far bounds given standing in
     let (e, next) = step bounds (given ++ before) es then in
     (es ++ e ∷ [], rw (← append_assoc given before line) next)
