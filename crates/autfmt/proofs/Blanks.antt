@@ -1,7 +1,8 @@
 -- Blanks before a token, and what may stand behind one.
 use Rattle.std.proofs.Common.{◌≡◌, ◌⊎◌, ℕ, Bool, true, false, List, [], ◌∷◌, ◌++◌, refl, sym, ap, ◌∙◌, inl, inr, append_assoc}
-use Rattle.std.proofs.lemmas.Bool.{cond_both, eqb-true, or_cases, and_from, and_parts}
-use Rattle.std.proofs.lemmas.List.Elements.{All-nil, All-cons, All-head, All-tail}
+use Rattle.std.proofs.lemmas.Bool.{cond_both, eqb-true, or_cases}
+use Rattle.std.proofs.lemmas.List.Elements.{All-nil, All-cons, All-head, All-tail, All-weaker}
+use Rattle.std.proofs.lemmas.List.Sums.{AllPass-from_list_all, list_all-from_AllPass}
 use Rattle.std.specs.Prelude.{◌||◌, ◌==◌}
 use Rattle.autfmt.specs.Grammar.{Blanks, Spaced}
 use Rattle.autfmt.specs.Reading.{is_blank, are_blanks, after_blanks}
@@ -83,11 +84,7 @@ Stops-mark p c tokens line fails e s =
 
 -- the test of a line's end
 pub are_blanks-from : (bs : List ℕ) → Blanks bs → are_blanks bs ≡ true
-are_blanks-from [] blanks = refl
-are_blanks-from (b ∷ bs) blanks = and_from (is_blank b) (are_blanks bs) (test-IsBlank b (All-head IsBlank b bs blanks)) (are_blanks-from bs (All-tail IsBlank b bs blanks))
+are_blanks-from bs blanks = list_all-from_AllPass is_blank bs (All-weaker IsBlank (λ b. is_blank b ≡ true) test-IsBlank bs blanks)
 
 pub Blanks-from_test : (bs : List ℕ) → are_blanks bs ≡ true → Blanks bs
-Blanks-from_test [] e = All-nil IsBlank
-Blanks-from_test (b ∷ bs) e =
-    let h = and_parts (is_blank b) (are_blanks bs) e in
-    All-cons IsBlank b bs (IsBlank-from_test b h.0) (Blanks-from_test bs h.1)
+Blanks-from_test bs e = All-weaker (λ b. is_blank b ≡ true) IsBlank IsBlank-from_test bs (AllPass-from_list_all is_blank bs e)

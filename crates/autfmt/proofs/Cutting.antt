@@ -2,6 +2,7 @@
 use Rattle.std.proofs.Common.{◌≡◌, ◌≢◌, ◌⊎◌, ℕ, ◌≤◌, List, [], ◌∷◌, ◌++◌, length, refl, sym, ◌∙◌, ap, subst, inl, inr, arith, All}
 use Rattle.std.proofs.lemmas.Bool.{cases_eq}
 use Rattle.std.proofs.lemmas.List.{append_assoc, length-append}
+use Rattle.std.proofs.lemmas.List.Concat.{flat_map-append}
 use Rattle.std.proofs.lemmas.List.Elements.{All-nil, All-cons, All-head, All-tail, All-append}
 use Rattle.autfmt.specs.Texts.{Cuts, Lines, IsOneLine, last_line}
 use Rattle.autfmt.specs.Cutter.{with_line_feeds}
@@ -15,14 +16,6 @@ pub with_line_feeds-cons :
     (line : List ℕ) (lines : List (List ℕ)) (rest : List ℕ) →
     with_line_feeds (line ∷ lines) ++ rest ≡ line ++ 10 ∷ (with_line_feeds lines ++ rest)
 with_line_feeds-cons line lines rest = simp append_assoc
-
--- lines, and lines behind them
-pub with_line_feeds-append :
-    (lines more : List (List ℕ)) → with_line_feeds (lines ++ more) ≡ with_line_feeds lines ++ with_line_feeds more
-with_line_feeds-append [] more = refl
-with_line_feeds-append (line ∷ lines) more =
-    let e = with_line_feeds-append lines more in
-    ap (λ (t : List ℕ). (line ++ 10 ∷ []) ++ t) e ∙ sym (append_assoc (line ++ 10 ∷ []) (with_line_feeds lines) (with_line_feeds more))
 
 -- a line feed does not stand in one line
 pub no_feed_inside : (line more rest : List ℕ) → IsOneLine rest → rest ≡ line ++ 10 ∷ more → ⊥
@@ -87,9 +80,7 @@ pub Cuts-behind :
     (front : List (List ℕ)) (more : List ℕ) (e : List (List ℕ)) (r : List ℕ) →
     All IsOneLine front → Cuts more e r → Cuts (with_line_feeds front ++ more) (front ++ e) r
 Cuts-behind front more e r one c = record {
-  whole =
-      ap (λ (t : List ℕ). with_line_feeds front ++ t) c.whole ∙ sym (append_assoc (with_line_feeds front) (with_line_feeds e) r)
-      ∙ ap (λ (t : List ℕ). t ++ r) (sym (with_line_feeds-append front e));
+  whole = rw (c.whole, flat_map-append (λ line. line ++ 10 ∷ []) front e) (simp append_assoc);
   lines = All-append IsOneLine front e one c.lines;
   one = c.one;
 }
@@ -99,10 +90,7 @@ pub Cuts-joined :
     (front more : List ℕ) (line : List ℕ) (e : List (List ℕ)) (r : List ℕ) →
     IsOneLine front → Cuts more (line ∷ e) r → Cuts (front ++ more) ((front ++ line) ∷ e) r
 Cuts-joined front more line e r one c = record {
-  whole =
-      ap (λ (t : List ℕ). front ++ t) (c.whole ∙ with_line_feeds-cons line e r)
-      ∙ sym (append_assoc front line (10 ∷ (with_line_feeds e ++ r)))
-      ∙ sym (with_line_feeds-cons (front ++ line) e r);
+  whole = rw c.whole (simp append_assoc);
   lines =
       All-cons IsOneLine (front ++ line) e
       (All-append IsNoFeed front line one (All-head IsOneLine line e c.lines)) (All-tail IsOneLine line e c.lines);
@@ -178,8 +166,7 @@ pub Lines-longer :
 Lines-longer given ended rest more c one some =
     let some' : 1 ≤ length (rest ++ more) = omega (arith, length-append rest more) in
     let l = Lines-one (rest ++ more) (All-append IsNoFeed rest more c.one one) some' in
-    let whole : with_line_feeds ended ++ (rest ++ more) ≡ given ++ more =
-    sym (append_assoc (with_line_feeds ended) rest more) ∙ ap (λ (t : List ℕ). t ++ more) (sym c.whole) in
+    let whole : with_line_feeds ended ++ (rest ++ more) ≡ given ++ more = rw c.whole (simp append_assoc) in
     subst (λ (t : List ℕ). Lines t (ended ++ (rest ++ more) ∷ [])) whole (Lines-behind ended (rest ++ more) ((rest ++ more) ∷ []) c.lines l)
 
 -- where a byte without a line feed stands, the first line begins
@@ -188,16 +175,13 @@ pub first_begins :
     (tail : List ℕ) × (others : List (List ℕ)) × Lines (front ++ more) ((front ++ tail) ∷ others)
 first_begins front more one some = step (cut more).0 (cut more).1 (cut more).2
   where
-    filled : (r : List ℕ) → last_line (front ++ r) ≡ (front ++ r) ∷ []
-    filled r = nonempty front some
-      where
-        nonempty : (f : List ℕ) → 1 ≤ length f → last_line (f ++ r) ≡ (f ++ r) ∷ []
-        nonempty [] h = absurd (omega arith)
-        nonempty (b ∷ bs) h = refl
+    filled : (f r : List ℕ) → 1 ≤ length f → last_line (f ++ r) ≡ (f ++ r) ∷ []
+    filled [] r h = absurd (omega arith)
+    filled (b ∷ bs) r h = refl
 
     step : (e : List (List ℕ)) (r : List ℕ) → Cuts more e r →
         (tail : List ℕ) × (others : List (List ℕ)) × Lines (front ++ more) ((front ++ tail) ∷ others)
-    step [] r c = (r, [], ([], front ++ r, Cuts-joined_rest front more r one c, sym (filled r)))
+    step [] r c = (r, [], ([], front ++ r, Cuts-joined_rest front more r one c, sym (filled front r some)))
     step (l ∷ ls) r c =
         (l, ls ++ last_line r, ((front ++ l) ∷ ls, r, Cuts-joined front more l ls r one c, refl))
 

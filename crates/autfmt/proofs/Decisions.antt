@@ -30,26 +30,26 @@ none_from view None read P e h = h e
 
 -- ---- decisions
 
-header-read : (line : List ℕ) (o : Option (ℕ × ℕ × ℕ)) → header_at line ≡ o → ((f m n : ℕ) × Header line f m n) ⊎ ((f m n : ℕ) → ¬ Header line f m n)
-header-read line (Some x) e = inl (x.0, x.1, x.2, header_at-takes line x e)
-header-read line None e = inr (no_header line e)
+-- what is read is spelled so, and what is spelled so is read: then a line is spelled in some way or in none
+decided :
+    {Y : Type 0} (read : Option Y) (P : Y → Type 0) → ((y : Y) → read ≡ Some y → P y) → ((y : Y) → P y → read ≡ Some y) →
+    ((y : Y) × P y) ⊎ ((y : Y) → ¬ P y)
+decided (Some y) P takes again = inl (y, takes y refl)
+decided None P takes again = inr (λ y h. none-some y (again y h))
 
-pub decide_header : (line : List ℕ) → ((f m n : ℕ) × Header line f m n) ⊎ ((f m n : ℕ) → ¬ Header line f m n)
-decide_header line = header-read line (header_at line) refl
+pub decide_header : (line : List ℕ) → ((x : ℕ × ℕ × ℕ) × Header line x.0 x.1 x.2) ⊎ ((x : ℕ × ℕ × ℕ) → ¬ Header line x.0 x.1 x.2)
+decide_header line = decided (header_at line) _ (header_at-takes line) (λ x. header_at-again line x.0 x.1 x.2)
 
-transition-read : (line : List ℕ) (o : Option (ℕ × List ℕ × ℕ)) → transition_at line ≡ o → ((s t : ℕ) × (a : List ℕ) × TransitionLine line s a t) ⊎ ((s t : ℕ) (a : List ℕ) → ¬ TransitionLine line s a t)
-transition-read line (Some x) e = inl (x.0, x.2, x.1, transition_at-takes line x e)
-transition-read line None e = inr (no_transition line e)
-
-pub decide_transition : (line : List ℕ) → ((s t : ℕ) × (a : List ℕ) × TransitionLine line s a t) ⊎ ((s t : ℕ) (a : List ℕ) → ¬ TransitionLine line s a t)
-decide_transition line = transition-read line (transition_at line) refl
-
-hide_line-read : (line : List ℕ) (o : Option (List ℕ)) → hide_line_at line ≡ o → ((a : List ℕ) × HideLine line a) ⊎ ((a : List ℕ) → ¬ HideLine line a)
-hide_line-read line (Some a) e = inl (a, hide_line_at-takes line a e)
-hide_line-read line None e = inr (no_hide_line line e)
+pub decide_transition : (line : List ℕ) → ((x : ℕ × List ℕ × ℕ) × TransitionLine line x.0 x.1 x.2) ⊎ ((x : ℕ × List ℕ × ℕ) → ¬ TransitionLine line x.0 x.1 x.2)
+decide_transition line = decided (transition_at line) _ (transition_at-takes line) (λ x. transition_at-again line x.0 x.1 x.2)
 
 pub decide_hide_line : (line : List ℕ) → ((a : List ℕ) × HideLine line a) ⊎ ((a : List ℕ) → ¬ HideLine line a)
-decide_hide_line line = hide_line-read line (hide_line_at line) refl
+decide_hide_line line = decided (hide_line_at line) _ (hide_line_at-takes line) (hide_line_at-again line)
+
+-- what is spelled in no way is not read
+pub unread : {Y : Type 0} (read : Option Y) (P : Y → Type 0) → ((y : Y) → read ≡ Some y → P y) → ((y : Y) → ¬ P y) → read ≡ None
+unread None P takes none = refl
+unread (Some y) P takes none = absurd (none y (takes y refl))
 
 -- ---- one reading
 

@@ -1,5 +1,5 @@
 -- A text reads as one system or has one first fault.
-use Rattle.std.proofs.Common.{◌≡◌, ◌⊎◌, ℕ, ◌+◌, ◌<◌, ◌≤◌, List, [], ◌∷◌, ◌++◌, length, refl, sym, ◌∙◌, subst, inl, inr, arith, All}
+use Rattle.std.proofs.Common.{◌≡◌, ◌⊎◌, ⊎_elim, ℕ, ◌+◌, ◌≤◌, List, [], ◌∷◌, ◌++◌, length, refl, sym, ◌∙◌, subst, inl, inr, arith, All}
 use Rattle.std.specs.List.{AllZip}
 use Rattle.std.proofs.lemmas.Bool.{cases_lt}
 use Rattle.std.proofs.lemmas.List.{append-nil}
@@ -9,10 +9,11 @@ use Rattle.autfmt.specs.declared.fault.Fault.{Fault}
 use Rattle.autfmt.specs.declared.fault.Fault.TheVariants.{BadHeader, MissingEdges, ExtraText}
 use Rattle.autfmt.specs.Bounds.{Bounds}
 use Rattle.autfmt.specs.Texts.{Lines, GoodHeader, SpellsTransition, SpellsAmong, Reads}
-use Rattle.autfmt.specs.Faults.{HeaderFault, EdgeFault, BeginsWell, NextFault, FirstFault}
+use Rattle.autfmt.specs.Faults.{HeaderFault, BeginsWell, NextFault, FirstFault}
 use Rattle.autfmt.specs.Faults.FirstFault.{no_line, header, behind}
 use Rattle.autfmt.proofs.Cutting.{Lines-unique, lines_of}
 use Rattle.autfmt.proofs.Decisions.{one_transition}
+use Rattle.autfmt.proofs.Lists.{AllZip-unique}
 use Rattle.autfmt.proofs.FirstFaults.{Stops, Divided, divided, one_front}
 use Rattle.autfmt.proofs.LineFaults.{HeaderFault-unique, GoodHeader-no_fault, GoodHeader-unique, header_judged, EdgeFault-unique, GoodEdge-no_fault, edge_judged, same_header}
 
@@ -68,83 +69,44 @@ behind_unique m n lines lines' others others' es es' f g e a b =
     (subst (λ (k : ℕ). NextFault m n k others g) (sym same.0)
     (subst (λ (ls : List (List ℕ)). NextFault m n (length es') ls g) (sym same.1) b.1))
 
--- a fault behind good lines of a text, whose header is that line
-fault_of_tail :
-    (bounds : Bounds) (text line : List ℕ) (f m n m' n' : ℕ) (es : List Transition) (others : List (List ℕ)) (fault : Fault) →
-    GoodHeader bounds line f m n → (b : BeginsWell bounds text m' n' es others) → b.header ≡ line →
-    NextFault m' n' (length es) others fault → FaultBehind m n b.lines es others fault
-fault_of_tail bounds text line f m n m' n' es others fault good b e next =
-    same_header bounds line b.first m' n' f m n (λ x y. FaultBehind x y b.lines es others fault)
-    (subst (λ (l : List ℕ). GoodHeader bounds l b.first m' n') e b.good) good (b.spelled, next)
+-- what a first fault says of the lines of its text
+abbrev FaultOf : Bounds → Fault → List (List ℕ) → Type 0
+FaultOf bounds fault [] = fault ≡ BadHeader
+FaultOf bounds fault (line ∷ all) =
+    HeaderFault bounds line fault
+    ⊎ ((f m n : ℕ) × GoodHeader bounds line f m n × (lines others : List (List ℕ)) × (es : List Transition)
+    × (all ≡ lines ++ others) × FaultBehind m n lines es others fault)
+
+fault_of :
+    (bounds : Bounds) (text : List ℕ) (fault : Fault) (lines : List (List ℕ)) → Lines text lines → FirstFault bounds text fault →
+    FaultOf bounds fault lines
+fault_of bounds text fault lines l (no_line l' e) = subst (FaultOf bounds fault) (Lines-unique text [] lines l' l) e
+fault_of bounds text fault lines l (header line others l' bad) =
+    subst (FaultOf bounds fault) (Lines-unique text (line ∷ others) lines l' l) (inl bad)
+fault_of bounds text fault lines l (behind m n es others b next) =
+    subst (FaultOf bounds fault) (Lines-unique text (b.header ∷ b.lines ++ others) lines b.whole l)
+    (inr (b.first, m, n, b.good, b.lines, others, es, refl, (b.spelled, next)))
 
 -- a text has no two first faults
 pub FirstFault-unique :
     (bounds : Bounds) (text : List ℕ) (f g : Fault) → FirstFault bounds text f → FirstFault bounds text g → f ≡ g
-FirstFault-unique bounds text f g (no_line l e) (no_line l' e') = e ∙ sym e'
-FirstFault-unique bounds text f g (no_line l e) (header line others l' bad) =
-    let same = Lines-unique text [] (line ∷ others) l l' in absurd cc
-FirstFault-unique bounds text f g (no_line l e) (behind m n es others b next) =
-    let same = Lines-unique text [] (b.header ∷ b.lines ++ others) l b.whole in absurd cc
-FirstFault-unique bounds text f g (header line others l bad) (no_line l' e) =
-    let same = Lines-unique text [] (line ∷ others) l' l in absurd cc
-FirstFault-unique bounds text f g (header line others l bad) (header line' others' l' bad') =
-    let same = Lines-unique text (line' ∷ others') (line ∷ others) l' l in
-    let e : line' ≡ line = cc in
-    HeaderFault-unique bounds line f g bad (subst (λ (h : List ℕ). HeaderFault bounds h g) e bad')
-FirstFault-unique bounds text f g (header line others l bad) (behind m n es others' b next) =
-    let same = Lines-unique text (line ∷ others) (b.header ∷ b.lines ++ others') l b.whole in
-    let e : line ≡ b.header = cc in
-    absurd (GoodHeader-no_fault bounds b.header b.first m n f b.good (subst (λ (h : List ℕ). HeaderFault bounds h f) e bad))
-FirstFault-unique bounds text f g (behind m n es others b next) (no_line l e) =
-    let same = Lines-unique text [] (b.header ∷ b.lines ++ others) l b.whole in absurd cc
-FirstFault-unique bounds text f g (behind m n es others b next) (header line others' l bad) =
-    let same = Lines-unique text (line ∷ others') (b.header ∷ b.lines ++ others) l b.whole in
-    let e : line ≡ b.header = cc in
-    absurd (GoodHeader-no_fault bounds b.header b.first m n g b.good (subst (λ (h : List ℕ). HeaderFault bounds h g) e bad))
-FirstFault-unique bounds text f g (behind m n es others b next) (behind m' n' es' others' b' next') =
-    let same = Lines-unique text (b'.header ∷ b'.lines ++ others') (b.header ∷ b.lines ++ others) b'.whole b.whole in
-    let e : b'.header ≡ b.header = cc in
-    let tail : b.lines ++ others ≡ b'.lines ++ others' = cc in
-    behind_unique m n b.lines b'.lines others others' es es' f g tail (b.spelled, next)
-    (fault_of_tail bounds text b.header b.first m n m' n' es' others' g b.good b' e next')
-
--- transitions of the same parts are the same
-pub same_transition : (d e : Transition) → d.source ≡ e.source → d.label ≡ e.label → d.target ≡ e.target → d ≡ e
-same_transition d e p q r = parts d.source d.label d.target e.source e.label e.target p q r
+FirstFault-unique bounds text f g a b =
+    let (lines, l) = lines_of text in same lines (fault_of bounds text f lines l a) (fault_of bounds text g lines l b)
   where
-    made : ℕ → List ℕ → ℕ → Transition
-    made s a t = record { source = s; label = a; target = t }
+    same : (lines : List (List ℕ)) → FaultOf bounds f lines → FaultOf bounds g lines → f ≡ g
+    same [] e e' = e ∙ sym e'
+    same (line ∷ all) (inl bad) (inl bad') = HeaderFault-unique bounds line f g bad bad'
+    same (line ∷ all) (inl bad) (inr (i, m, n, good, lines, others, es, e, next)) = absurd (GoodHeader-no_fault bounds line i m n f good bad)
+    same (line ∷ all) (inr (i, m, n, good, lines, others, es, e, next)) (inl bad) = absurd (GoodHeader-no_fault bounds line i m n g good bad)
+    same (line ∷ all) (inr (i, m, n, good, lines, others, es, e, next)) (inr (i', m', n', good', lines', others', es', e', next')) =
+        behind_unique m n lines lines' others others' es es' f g (sym e ∙ e') next
+        (same_header bounds line i' m' n' i m n (λ x y. FaultBehind x y lines' es' others' g) good' good next')
 
-    parts : (s : ℕ) (a : List ℕ) (t : ℕ) (s' : ℕ) (a' : List ℕ) (t' : ℕ) → s ≡ s' → a ≡ a' → t ≡ t' → made s a t ≡ made s' a' t'
-    parts s a t s' a' t' p q r = cc
-
--- systems of the same parts are the same
-pub same_system : (A B : System) → A.first ≡ B.first → A.states ≡ B.states → A.transitions ≡ B.transitions → A ≡ B
-same_system A B p q r = parts A.first A.states A.transitions B.first B.states B.transitions p q r
-  where
-    made : ℕ → ℕ → List Transition → System
-    made f n es = record { first = f; states = n; transitions = es }
-
-    parts :
-        (f n : ℕ) (es : List Transition) (f' n' : ℕ) (es' : List Transition) → f ≡ f' → n ≡ n' → es ≡ es' →
-        made f n es ≡ made f' n' es'
-    parts f n es f' n' es' p q r = cc
-
--- lines spell one list of transitions
-pub spelled_unique :
-    (lines : List (List ℕ)) (es es' : List Transition) → AllZip SpellsTransition lines es → AllZip SpellsTransition lines es' →
-    es ≡ es'
-spelled_unique [] [] [] a b = refl
-spelled_unique [] [] (e ∷ es') a b = absurd b
-spelled_unique [] (e ∷ es) es' a b = absurd a
-spelled_unique (line ∷ lines) [] es' a b = absurd a
-spelled_unique (line ∷ lines) (e ∷ es) [] a b = absurd b
-spelled_unique (line ∷ lines) (e ∷ es) (e' ∷ es') a b =
-    let u =
-    one_transition line e.source e.target e'.source e'.target e.label e'.label a.0.1 b.0.1 in
-    let first = same_transition e e' u.0 u.1 u.2 in
-    let others = spelled_unique lines es es' a.1 b.1 in
-    cc
+-- a line spells one transition
+one_spelled : (line : List ℕ) (d e : Transition) → SpellsTransition line d → SpellsTransition line e → d ≡ e
+one_spelled line d e a b =
+    let same = one_transition line d.source d.target e.source e.target d.label e.label a.1 b.1 in
+    λ i. record { source = same.0 i; label = same.1 i; target = same.2 i }
 
 -- a text reads as one system
 pub Reads-unique : (bounds : Bounds) (text : List ℕ) (A B : System) → Reads bounds text A → Reads bounds text B → A ≡ B
@@ -155,35 +117,33 @@ Reads-unique bounds text A B a b =
     let good =
     subst (λ (h : List ℕ). GoodHeader bounds h B.first (length B.transitions) B.states) header b.good in
     let u = GoodHeader-unique bounds a.header A.first _ A.states B.first _ B.states a.good good in
-    same_system A B u.0 u.2
-    (spelled_unique a.lines A.transitions B.transitions a.spelled
-    (subst (λ (ls : List (List ℕ)). AllZip SpellsTransition ls B.transitions) lines b.spelled))
+    let transitions =
+    AllZip-unique SpellsTransition one_spelled a.lines A.transitions B.transitions a.spelled
+    (subst (λ (ls : List (List ℕ)). AllZip SpellsTransition ls B.transitions) lines b.spelled) in
+    λ i. record { first = u.0 i; states = u.2 i; transitions = transitions i }
 
 -- a text that reads as a system has no fault
 pub Reads-no_fault :
     (bounds : Bounds) (text : List ℕ) (A : System) (fault : Fault) → Reads bounds text A → FirstFault bounds text fault → ⊥
-Reads-no_fault bounds text A fault r (no_line l e) =
-    let same = Lines-unique text [] (r.header ∷ r.lines) l r.whole in cc
-Reads-no_fault bounds text A fault r (header line others l bad) =
-    let same = Lines-unique text (line ∷ others) (r.header ∷ r.lines) l r.whole in
-    let e : line ≡ r.header = cc in
-    GoodHeader-no_fault bounds r.header A.first (length A.transitions) A.states fault r.good
-    (subst (λ (h : List ℕ). HeaderFault bounds h fault) e bad)
-Reads-no_fault bounds text A fault r (behind m n es others b next) =
-    let all = A.transitions in
-    let same = Lines-unique text (b.header ∷ b.lines ++ others) (r.header ∷ r.lines) b.whole r.whole in
-    let e : b.header ≡ r.header = cc in
-    let tail : r.lines ≡ b.lines ++ others = cc in
-    let bad = fault_of_tail bounds text r.header A.first (length all) A.states m n es others fault r.good b e next in
-    let stops = next_stops (length all) A.states (length es) others fault bad.1 in
-    let good = spelled_among A.states r.lines all r.spelled r.system.transitions in
-    let front =
-    one_front (SpellsAmong A.states) (length all) 0 r.lines b.lines [] others all es (length all) (length es)
-    (append-nil r.lines ∙ tail) good bad.0 (omega arith) (omega arith) (omega arith) stops.0 tt stops.1 in
-    let missing = subst (λ (ls : List (List ℕ)). NextFault (length all) A.states (length es) ls fault) (sym front.1) bad.1 in
-    let less = missing.0 in
-    let count = front.0 in
-    omega arith
+Reads-no_fault bounds text A fault r first = against (fault_of bounds text fault (r.header ∷ r.lines) r.whole first)
+  where
+    all : List Transition
+    all = A.transitions
+
+    against : FaultOf bounds fault (r.header ∷ r.lines) → ⊥
+    against (inl bad) = GoodHeader-no_fault bounds r.header A.first (length all) A.states fault r.good bad
+    against (inr (i, m, n, good, lines, others, es, e, next)) =
+        let bad =
+        same_header bounds r.header i m n A.first (length all) A.states (λ x y. FaultBehind x y lines es others fault) good r.good next in
+        let stops = next_stops (length all) A.states (length es) others fault bad.1 in
+        let front =
+        one_front (SpellsAmong A.states) (length all) 0 r.lines lines [] others all es (length all) (length es)
+        (append-nil r.lines ∙ e) (spelled_among A.states r.lines all r.spelled r.system.transitions) bad.0
+        (omega arith) (omega arith) (omega arith) stops.0 tt stops.1 in
+        let missing = subst (λ (ls : List (List ℕ)). NextFault (length all) A.states (length es) ls fault) (sym front.1) bad.1 in
+        let less = missing.0 in
+        let count = front.0 in
+        omega arith
 
 -- good lines are a system
 pub Reads-from_lines :
@@ -203,12 +163,8 @@ Reads-from_lines bounds text line lines f m n es l g good count =
 
 -- a transition is spelled or not
 decide_edge : (n : ℕ) (line : List ℕ) → ((e : Transition) × SpellsAmong n line e) ⊎ ((e : Transition) → ¬ SpellsAmong n line e)
-decide_edge n line = step (edge_judged n 0 line)
-  where
-    step : ((e : Transition) × SpellsAmong n line e) ⊎ ((fault : Fault) × EdgeFault n 0 line fault) →
-        ((e : Transition) × SpellsAmong n line e) ⊎ ((e : Transition) → ¬ SpellsAmong n line e)
-    step (inl good) = inl good
-    step (inr bad) = inr (λ e good. GoodEdge-no_fault n 0 line e bad.0 good bad.1)
+decide_edge n line =
+    ⊎_elim (λ good. inl good) (λ bad. inr (λ e good. GoodEdge-no_fault n 0 line e bad.0 good bad.1)) (edge_judged n 0 line)
 
 -- no line
 abbrev IsEnd : List (List ℕ) → Type 0
@@ -218,49 +174,39 @@ IsEnd lines = lines ≡ []
 next_judged :
     (m n found : ℕ) (others : List (List ℕ)) → found ≤ m → Stops (SpellsAmong n) m found others →
     ((found ≡ m) × IsEnd others) ⊎ ((fault : Fault) × NextFault m n found others fault)
-next_judged m n found [] few stops = step (cases_lt found m)
-  where
-    step : (found < m) ⊎ (m ≤ found) → ((found ≡ m) × IsEnd []) ⊎ ((fault : Fault) × NextFault m n found [] fault)
-    step (inl less) = inr (MissingEdges found, (less, refl))
-    step (inr full) = inl (omega arith, refl)
-next_judged m n found (line ∷ others) few stops = step (cases_lt found m) (edge_judged n (found + 2) line)
-  where
-    step : (found < m) ⊎ (m ≤ found) → ((e : Transition) × SpellsAmong n line e) ⊎ ((fault : Fault) × EdgeFault n (found + 2) line fault) →
-        ((found ≡ m) × IsEnd (line ∷ others)) ⊎ ((fault : Fault) × NextFault m n found (line ∷ others) fault)
-    step (inr full) one = inr (ExtraText (found + 2), inr (omega arith, refl))
-    step (inl less) (inl good) = absurd (stops less good.0 good.1)
-    step (inl less) (inr bad) = inr (bad.0, inl (less, bad.1))
+next_judged m n found [] few stops =
+    ⊎_elim (λ less. inr (MissingEdges found, (less, refl))) (λ full. inl (omega arith, refl)) (cases_lt found m)
+next_judged m n found (line ∷ others) few stops =
+    ⊎_elim
+    (λ less. ⊎_elim (λ good. absurd (stops less good.0 good.1)) (λ bad. inr (bad.0, inl (less, bad.1))) (edge_judged n (found + 2) line))
+    (λ full. inr (ExtraText (found + 2), inr (omega arith, refl)))
+    (cases_lt found m)
 
 -- each text reads as a system or has a fault
 pub text_judged :
     (bounds : Bounds) (text : List ℕ) → ((A : System) × Reads bounds text A) ⊎ ((fault : Fault) × FirstFault bounds text fault)
-text_judged bounds text = step (lines_of text).0 (lines_of text).1
+text_judged bounds text = let (lines, l) = lines_of text in step lines l
   where
+    rest : (line : List ℕ) (all : List (List ℕ)) (f m n : ℕ) → Lines text (line ∷ all) → GoodHeader bounds line f m n →
+        Divided (SpellsAmong n) m 0 all → ((A : System) × Reads bounds text A) ⊎ ((fault : Fault) × FirstFault bounds text fault)
+    rest line all f m n l good d =
+        let stop = d.behind (length d.xs) (omega arith) in
+        let whole = subst (λ (ls : List (List ℕ)). Lines text (line ∷ ls)) d.whole l in
+        ⊎_elim
+        (λ end.
+        let l' =
+        subst (λ (ls : List (List ℕ)). Lines text (line ∷ ls)) (append-nil d.lines)
+        (subst (λ (ls : List (List ℕ)). Lines text (line ∷ d.lines ++ ls)) end.1 whole) in
+        inl (record { first = f; states = n; transitions = d.xs }, Reads-from_lines bounds text line d.lines f m n d.xs l' good d.good end.0))
+        (λ bad.
+        let b : BeginsWell bounds text m n d.xs d.others =
+        record { header = line; first = f; lines = d.lines; whole = whole; good = good; spelled = d.good } in
+        inr (bad.0, behind m n d.xs d.others b bad.1))
+        (next_judged m n (length d.xs) d.others stop.0 stop.1)
+
     step : (lines : List (List ℕ)) → Lines text lines →
         ((A : System) × Reads bounds text A) ⊎ ((fault : Fault) × FirstFault bounds text fault)
     step [] l = inr (BadHeader, no_line l refl)
-    step (line ∷ all) l = first (header_judged bounds line)
-      where
-        first : ((f : ℕ) × (m : ℕ) × (n : ℕ) × GoodHeader bounds line f m n) ⊎ ((fault : Fault) × HeaderFault bounds line fault) →
-            ((A : System) × Reads bounds text A) ⊎ ((fault : Fault) × FirstFault bounds text fault)
-        first (inr bad) = inr (bad.0, header line all l bad.1)
-        first (inl (f, m, n, good)) = others (divided (SpellsAmong n) m (decide_edge n) 0 all (omega arith))
-          where
-            others : Divided (SpellsAmong n) m 0 all →
-                ((A : System) × Reads bounds text A) ⊎ ((fault : Fault) × FirstFault bounds text fault)
-            others d = let next = d.behind (length d.xs) (omega arith) in then (next_judged m n (length d.xs) d.others next.0 next.1)
-              where
-                whole : Lines text (line ∷ d.lines ++ d.others)
-                whole = subst (λ (ls : List (List ℕ)). Lines text (line ∷ ls)) d.whole l
-
-                then : ((length d.xs ≡ m) × IsEnd d.others) ⊎ ((fault : Fault) × NextFault m n (length d.xs) d.others fault) →
-                    ((A : System) × Reads bounds text A) ⊎ ((fault : Fault) × FirstFault bounds text fault)
-                then (inr (fault, next)) =
-                    let b : BeginsWell bounds text m n d.xs d.others =
-                    record { header = line; first = f; lines = d.lines; whole = whole; good = good; spelled = d.good } in
-                    inr (fault, behind m n d.xs d.others b next)
-                then (inl (count, none)) =
-                    let l' =
-                    subst (λ (ls : List (List ℕ)). Lines text (line ∷ ls)) (append-nil d.lines)
-                    (subst (λ (ls : List (List ℕ)). Lines text (line ∷ d.lines ++ ls)) none whole) in
-                    inl (record { first = f; states = n; transitions = d.xs }, Reads-from_lines bounds text line d.lines f m n d.xs l' good d.good count)
+    step (line ∷ all) l =
+        ⊎_elim (λ h. rest line all h.0 h.1 h.2 l h.3 (divided (SpellsAmong h.2) h.1 (decide_edge h.2) 0 all (omega arith)))
+        (λ bad. inr (bad.0, header line all l bad.1)) (header_judged bounds line)

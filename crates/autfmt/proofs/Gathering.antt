@@ -31,26 +31,20 @@ got_more a b c old bs buffer bytes first e second = (
 
 -- a line feed was found in the piece
 pub feed_found :
-    (a b c : Option (List ℕ)) (old bs buffer buf bytes front buffer' : List ℕ) (n at : ℕ) →
-    Consumes a b bs → buffer ≡ old ++ bs → IsPart buffer → Consumes b c (take n buf) → n ≤ length buf → bytes ≡ take n buf →
-    at < length bytes → IsOneLine (take at bytes) → drop at bytes ≡ 10 ∷ drop (at + 1) bytes → front ≡ take at bytes →
-    length buffer + length front ≤ LONGEST_LINE → buffer' ≡ buffer ++ front →
-    (x : List ℕ) × Consumes a c x × FoundIn (old ++ x) (Feed at n) buffer' buf
-feed_found a b c old bs buffer buf bytes front buffer' n at first e part second within same below one feed cut fits now =
-    let more = got_more a b c old bs buffer (take n buf) first e second in
-    let size : length bytes ≡ n = ap length same ∙ length-take-le n buf within in
-    let behind : drop (at + 1) bytes ≡ slice_range buf (at + 1) n =
-    ap (λ (t : List ℕ). drop (at + 1) t) same ∙ sym (between_is buf (at + 1) n) in
-    let split : take n buf ≡ front ++ 10 ∷ slice_range buf (at + 1) n =
-    sym same ∙ sym (take-append-drop at bytes)
-    ∙ ap (λ (t : List ℕ). take at bytes ++ t) (feed ∙ ap (λ (t : List ℕ). 10 ∷ t) behind)
-    ∙ ap (λ (t : List ℕ). t ++ 10 ∷ slice_range buf (at + 1) n) (sym cut) in
-    let whole : old ++ more.0 ≡ buffer' ++ 10 ∷ slice_range buf (at + 1) n =
-    more.2 ∙ ap (λ (t : List ℕ). buffer ++ t) split ∙ sym (append_assoc buffer front (10 ∷ slice_range buf (at + 1) n))
+    (a b c : Option (List ℕ)) (old bs buffer buf buffer' : List ℕ) (n at : ℕ) → Consumes a b bs → buffer ≡ old ++ bs →
+    IsPart buffer → Consumes b c (take n buf) → n ≤ length buf → at < length (take n buf) → IsOneLine (take at (take n buf)) →
+    drop at (take n buf) ≡ 10 ∷ drop (at + 1) (take n buf) → length buffer + length (take at (take n buf)) ≤ LONGEST_LINE →
+    buffer' ≡ buffer ++ take at (take n buf) → (x : List ℕ) × Consumes a c x × FoundIn (old ++ x) (Feed at n) buffer' buf
+feed_found a b c old bs buffer buf buffer' n at first e part second within below one feed fits now =
+    let bytes = take n buf in
+    let front = take at bytes in
+    let (x, taken, same) = got_more a b c old bs buffer bytes first e second in
+    let split : bytes ≡ front ++ 10 ∷ slice_range buf (at + 1) n =
+    sym (take-append-drop at bytes) ∙ ap (λ (t : List ℕ). front ++ t) (feed ∙ ap (λ (t : List ℕ). 10 ∷ t) (sym (between_is buf (at + 1) n))) in
+    let whole : old ++ x ≡ buffer' ++ 10 ∷ slice_range buf (at + 1) n =
+    same ∙ ap (λ (t : List ℕ). buffer ++ t) split ∙ sym (append_assoc buffer front (10 ∷ slice_range buf (at + 1) n))
     ∙ ap (λ (t : List ℕ). t ++ 10 ∷ slice_range buf (at + 1) n) (sym now) in
-    let all : IsPart (buffer ++ front) =
-    IsPart-append buffer front part (subst (λ (t : List ℕ). IsOneLine t) (sym cut) one) fits in
-    (more.0, more.1, (subst (λ (t : List ℕ). IsPart t) (sym now) all, omega arith, within, whole))
+    (x, taken, (rw now (IsPart-append buffer front part one fits), omega (arith, length-take-le n buf within), within, whole))
 
 -- the line is too long
 pub too_long :
@@ -69,14 +63,6 @@ too_long a b c old bs buffer bytes front tail first e part second split one big 
         more.2 ∙ ap (λ (t : List ℕ). buffer ++ t) split ∙ sym (append_assoc buffer front tail),
       ),
     )
-
--- the line goes on
-pub line_goes_on :
-    (a b c : Option (List ℕ)) (old bs buffer bytes buffer' : List ℕ) →
-    Consumes a b bs → buffer ≡ old ++ bs → Consumes b c bytes → buffer' ≡ buffer ++ bytes →
-    (x : List ℕ) × Consumes a c x × (buffer' ≡ old ++ x)
-line_goes_on a b c old bs buffer bytes buffer' first e second now =
-    let more = got_more a b c old bs buffer bytes first e second in (more.0, more.1, now ∙ sym more.2)
 
 -- the bytes of a slice up to an index
 slice_to :

@@ -1,7 +1,8 @@
 -- A hide list has one list of labels or one first fault.
-use Rattle.std.proofs.Common.{◌≡◌, ◌⊎◌, ℕ, ◌+◌, ◌<◌, ◌≤◌, List, [], ◌∷◌, ◌++◌, length, refl, sym, ◌∙◌, ap, subst, inl, inr, arith}
+use Rattle.std.proofs.Common.{◌≡◌, ◌⊎◌, ⊎_elim, ℕ, cond, ltb, Option, Some, None, ◌+◌, ◌<◌, ◌≤◌, List, [], ◌∷◌, ◌++◌, length, refl, sym, ◌∙◌, subst, inl, inr, arith}
 use Rattle.std.specs.List.{AllZip}
-use Rattle.std.proofs.lemmas.Bool.{cases_lt}
+use Rattle.std.proofs.lemmas.Bool.{cases_lt, lt-ltb, le-ltb}
+use Rattle.std.proofs.lemmas.Option.{same_Some, none-some}
 use Rattle.std.proofs.lemmas.List.{append_assoc, append-nil, length-append}
 use Rattle.std.proofs.lemmas.Slice.Zip.{AllZip-long}
 use Rattle.autfmt.specs.declared.fault.Fault.{Fault}
@@ -9,11 +10,13 @@ use Rattle.autfmt.specs.declared.fault.Fault.TheVariants.{LineTooLong, BadHide, 
 use Rattle.autfmt.specs.Grammar.{HideLine}
 use Rattle.autfmt.specs.Texts.{Cuts, Lines, IsShort}
 use Rattle.autfmt.specs.HideLists.{Hides, HideReads, HideFault, FirstHideFault, JudgedHideFault}
-use Rattle.autfmt.proofs.Lists.{AllZip-firsts}
+use Rattle.autfmt.proofs.Lists.{AllZip-firsts, AllZip-unique}
 use Rattle.autfmt.proofs.LongerTexts.{ended_go_on, line_grows}
 use Rattle.autfmt.proofs.FirstFaults.{Stops, Divided, divided, one_front, HasLongLine, not_known}
 use Rattle.autfmt.proofs.Cutting.{Lines-unique, lines_of}
-use Rattle.autfmt.proofs.Decisions.{one_hide_line, decide_hide_line}
+use Rattle.autfmt.specs.Reading.{hide_line_at}
+use Rattle.autfmt.proofs.Lines.{hide_line_at-takes, hide_line_at-again}
+use Rattle.autfmt.proofs.Decisions.{one_hide_line, decide_hide_line, unread}
 use Rattle.autfmt.specs.declared.line.TheConstants.{LONGEST_LINE}
 use Rattle.autfmt.specs.declared.limits.TheConstants.{MOST_LINES}
 
@@ -21,40 +24,30 @@ use Rattle.autfmt.specs.declared.limits.TheConstants.{MOST_LINES}
 abbrev pub GoodHide : ℕ → List ℕ → Type 0
 GoodHide k line = (k ≤ MOST_LINES) × (a : List ℕ) × Hides line a
 
--- the three kinds of fault of a line
-pub data HideKind (k : ℕ) (line : List ℕ) (fault : Fault) : Type 0 where
-  extra : fault ≡ TooManyHidden → MOST_LINES < k → HideKind k line fault
-  long : fault ≡ LineTooLong k → k ≤ MOST_LINES → LONGEST_LINE < length line → HideKind k line fault
-  unread : fault ≡ BadHide k → k ≤ MOST_LINES → IsShort line → ((a : List ℕ) → ¬ HideLine line a) → HideKind k line fault
+-- the fault of line k, if it has one
+abbrev hide_fault : ℕ → List ℕ → Option Fault
+hide_fault k line =
+    cond (ltb MOST_LINES k) (Some TooManyHidden)
+    (cond (ltb LONGEST_LINE (length line)) (Some (LineTooLong k)) (elim (hide_line_at line) [ None ↦ Some (BadHide k) | Some a ↦ None ]))
 
-pub hide_kind : (k : ℕ) (line : List ℕ) (fault : Fault) → HideFault k line fault → HideKind k line fault
-hide_kind k line TooManyHidden h = extra refl h
-hide_kind k line (LineTooLong j) h = long (ap LineTooLong h.0) h.1 h.2
-hide_kind k line (BadHide j) h = unread (ap BadHide h.0) h.1 h.2 h.3
-hide_kind k line _ h = absurd h
+HideFault-is : (k : ℕ) (line : List ℕ) (fault : Fault) → HideFault k line fault → hide_fault k line ≡ Some fault
+HideFault-is k line TooManyHidden extra = rw (lt-ltb MOST_LINES k extra) refl
+HideFault-is k line (LineTooLong j) (e, few, long) =
+    rw (e, le-ltb MOST_LINES k few, lt-ltb LONGEST_LINE (length line) long) refl
+HideFault-is k line (BadHide j) (e, few, short, none) =
+    let nothing = unread (hide_line_at line) (HideLine line) (hide_line_at-takes line) none in
+    rw (e, le-ltb MOST_LINES k few, le-ltb LONGEST_LINE (length line) short, nothing) refl
+HideFault-is k line _ h = absurd h
 
-pub HideFault-unique : (k : ℕ) (line : List ℕ) (f g : Fault) → HideFault k line f → HideFault k line g → f ≡ g
-HideFault-unique k line f g a b = same (hide_kind k line f a) (hide_kind k line g b)
-  where
-    same : HideKind k line f → HideKind k line g → f ≡ g
-    same (extra e x) (extra e' x') = e ∙ sym e'
-    same (extra e x) (long e' x' l) = absurd (omega arith)
-    same (extra e x) (unread e' x' s none) = absurd (omega arith)
-    same (long e x l) (extra e' x') = absurd (omega arith)
-    same (long e x l) (long e' x' l') = e ∙ sym e'
-    same (long e x l) (unread e' x' s none) = absurd (omega arith)
-    same (unread e x s none) (extra e' x') = absurd (omega arith)
-    same (unread e x s none) (long e' x' l) = absurd (omega arith)
-    same (unread e x s none) (unread e' x' s' none') = e ∙ sym e'
+HideFault-unique : (k : ℕ) (line : List ℕ) (f g : Fault) → HideFault k line f → HideFault k line g → f ≡ g
+HideFault-unique k line f g a b = same_Some f g (sym (HideFault-is k line f a) ∙ HideFault-is k line g b)
 
 -- a good line has no fault
 pub GoodHide-no_fault : (k : ℕ) (line : List ℕ) (fault : Fault) → GoodHide k line → HideFault k line fault → ⊥
-GoodHide-no_fault k line fault good h = against (hide_kind k line fault h)
-  where
-    against : HideKind k line fault → ⊥
-    against (extra e x) = let y = good.0 in omega arith
-    against (long e x l) = let s = good.2.0 in omega arith
-    against (unread e x s none) = none good.1 good.2.1
+GoodHide-no_fault k line fault (few, a, good) bad =
+    let fine : hide_fault k line ≡ None =
+    rw (le-ltb MOST_LINES k few, le-ltb LONGEST_LINE (length line) good.0, hide_line_at-again line a good.1) refl in
+    none-some fault (sym fine ∙ HideFault-is k line fault bad)
 
 -- a line is good or has a fault
 pub hide_judged : (k : ℕ) (line : List ℕ) → GoodHide k line ⊎ ((fault : Fault) × HideFault k line fault)
@@ -96,26 +89,12 @@ FirstHideFault-unique text f g a b =
     HideFault-unique (length a.lines + 1) a.line f g a.faulty
     (subst (λ (l : List ℕ). HideFault (length a.lines + 1) l g) line (subst (λ (k : ℕ). HideFault k b.line g) place b.faulty))
 
--- lines name one list of labels
-pub hidden_unique : (lines H H' : List (List ℕ)) → AllZip Hides lines H → AllZip Hides lines H' → H ≡ H'
-hidden_unique [] [] [] a b = refl
-hidden_unique [] [] (x ∷ H') a b = absurd b
-hidden_unique [] (x ∷ H) H' a b = absurd a
-hidden_unique (line ∷ lines) [] H' a b = absurd a
-hidden_unique (line ∷ lines) (x ∷ H) [] a b = absurd b
-hidden_unique (line ∷ lines) (x ∷ H) (y ∷ H') a b =
-    let p = one_hide_line line x y a.0.1 b.0.1 in
-    let q = hidden_unique lines H H' a.1 b.1 in
-    parts x y H H' p q
-  where
-    parts : (x y : List ℕ) (H H' : List (List ℕ)) → x ≡ y → H ≡ H' → (x ∷ H) ≡ (y ∷ H')
-    parts x y H H' p q = cc
-
 -- a text is one hide list
 pub HideReads-unique : (text : List ℕ) (H H' : List (List ℕ)) → HideReads text H → HideReads text H' → H ≡ H'
 HideReads-unique text H H' a b =
     let same = Lines-unique text b.0 a.0 b.1 a.1 in
-    hidden_unique a.0 H H' a.3 (subst (λ (lines : List (List ℕ)). AllZip Hides lines H') same b.3)
+    AllZip-unique Hides (λ line x y h k. one_hide_line line x y h.1 k.1) a.0 H H' a.3
+    (subst (λ (lines : List (List ℕ)). AllZip Hides lines H') same b.3)
 
 -- a hide list has no fault
 pub HideReads-no_fault : (text : List ℕ) (H : List (List ℕ)) (fault : Fault) → HideReads text H → FirstHideFault text fault → ⊥
@@ -131,51 +110,45 @@ HideReads-no_fault text H fault (lines, l, few, named) f =
 
 -- each text is a hide list or has a fault
 pub hide_text_judged : (text : List ℕ) → ((H : List (List ℕ)) × HideReads text H) ⊎ ((fault : Fault) × FirstHideFault text fault)
-hide_text_judged text = step (lines_of text).0 (lines_of text).1
+hide_text_judged text = let (all, l) = lines_of text in judged all l (divided Hides MOST_LINES decide 0 all (omega arith))
   where
     decide : (line : List ℕ) → ((a : List ℕ) × Hides line a) ⊎ ((a : List ℕ) → ¬ Hides line a)
-    decide line = kind (hide_judged 1 line)
-      where
-        kind : GoodHide 1 line ⊎ ((fault : Fault) × HideFault 1 line fault) → ((a : List ℕ) × Hides line a) ⊎ ((a : List ℕ) → ¬ Hides line a)
-        kind (inl good) = inl (good.1, good.2)
-        kind (inr bad) = inr (λ a names. GoodHide-no_fault 1 line bad.0 (omega arith, a, names) bad.1)
+    decide line =
+        ⊎_elim (λ good. inl (good.1, good.2)) (λ bad. inr (λ a names. GoodHide-no_fault 1 line bad.0 (omega arith, a, names) bad.1))
+        (hide_judged 1 line)
 
-    step : (all : List (List ℕ)) → Lines text all → ((H : List (List ℕ)) × HideReads text H) ⊎ ((fault : Fault) × FirstHideFault text fault)
-    step all l = at (divided Hides MOST_LINES decide 0 all (omega arith))
+    judged : (all : List (List ℕ)) → Lines text all → Divided Hides MOST_LINES 0 all →
+        ((H : List (List ℕ)) × HideReads text H) ⊎ ((fault : Fault) × FirstHideFault text fault)
+    judged all l d = rest d.others (subst (λ (ls : List (List ℕ)). Lines text ls) d.whole l) stop.1
       where
-        at : Divided Hides MOST_LINES 0 all → ((H : List (List ℕ)) × HideReads text H) ⊎ ((fault : Fault) × FirstHideFault text fault)
-        at d =
-            let next = d.behind (length d.xs) (omega arith) in
-            behind d.others (subst (λ (ls : List (List ℕ)). Lines text ls) d.whole l) next.1
-          where
-            count : length d.lines ≤ MOST_LINES
-            count = let next = d.behind (length d.xs) (omega arith) in let few = next.0 in let size = AllZip-long Hides d.lines d.xs d.good in omega arith
+        stop : (length d.xs ≤ MOST_LINES) × Stops Hides MOST_LINES (length d.xs) d.others
+        stop = d.behind (length d.xs) (omega arith)
 
-            behind : (others : List (List ℕ)) → Lines text (d.lines ++ others) → Stops Hides MOST_LINES (length d.xs) others →
-                ((H : List (List ℕ)) × HideReads text H) ⊎ ((fault : Fault) × FirstHideFault text fault)
-            behind [] l' stops =
-                inl (d.xs, (d.lines, subst (λ (ls : List (List ℕ)). Lines text ls) (append-nil d.lines) l', count, d.good))
-            behind (line ∷ others) l' stops = then (hide_judged (length d.lines + 1) line)
-              where
-                then : GoodHide (length d.lines + 1) line ⊎ ((fault : Fault) × HideFault (length d.lines + 1) line fault) →
-                    ((H : List (List ℕ)) × HideReads text H) ⊎ ((fault : Fault) × FirstHideFault text fault)
-                then (inl good) =
-                    let size = AllZip-long Hides d.lines d.xs d.good in
-                    let few = good.0 in
-                    absurd (stops (omega arith) good.1 good.2)
-                then (inr bad) = inr (
-                  bad.0,
-                  record {
-                    lines = d.lines;
-                    line = line;
-                    others = others;
-                    whole = l';
-                    labels = d.xs;
-                    named = d.good;
-                    few = count;
-                    faulty = bad.1;
-                  },
-                )
+        size : length d.xs ≡ length d.lines
+        size = AllZip-long Hides d.lines d.xs d.good
+
+        rest : (others : List (List ℕ)) → Lines text (d.lines ++ others) → Stops Hides MOST_LINES (length d.xs) others →
+            ((H : List (List ℕ)) × HideReads text H) ⊎ ((fault : Fault) × FirstHideFault text fault)
+        rest [] l' stops =
+            let whole = subst (λ (ls : List (List ℕ)). Lines text ls) (append-nil d.lines) l' in
+            inl (d.xs, (d.lines, whole, omega (arith, size, stop.0), d.good))
+        rest (line ∷ others) l' stops =
+            ⊎_elim
+            (λ good. absurd (stops (omega (arith, size, good.0)) good.1 good.2))
+            (λ bad. inr (
+              bad.0,
+              record {
+                lines = d.lines;
+                line = line;
+                others = others;
+                whole = l';
+                labels = d.xs;
+                named = d.good;
+                few = omega (arith, size, stop.0);
+                faulty = bad.1;
+              },
+            ))
+            (hide_judged (length d.lines + 1) line)
 
 -- a line that is said to be too long is one
 long_hide_line : (text : List ℕ) (k : ℕ) → FirstHideFault text (LineTooLong k) → HasLongLine text
@@ -254,8 +227,4 @@ no_judged_hide_fault given lines rest H fault c good few short unjudged known = 
     step (inl less) =
         not_known FirstHideFault FirstHideFault-unique long_hide_line given lines rest (length lines + 1) c
         (AllZip-firsts Hides IsShort (λ l a names. names.0) lines H good) short (too_long less) fault known
-    step (inr full) = ends unjudged
-      where
-        ends : (length lines < MOST_LINES) ⊎ (length rest ≡ 0) → ⊥
-        ends (inl less) = omega arith
-        ends (inr none) = at_end rest none c
+    step (inr full) = ⊎_elim (λ less. omega arith) (λ none. at_end rest none c) unjudged

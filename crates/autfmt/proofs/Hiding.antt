@@ -1,5 +1,5 @@
 -- Hiding: which labels are hidden, and that nothing else of the list counts.
-use Rattle.std.proofs.Common.{◌≡◌, ◌↔◌, ℕ, zero, suc, ◌<◌, true, false, List, [], ◌∷◌, length, map, get_or, Contains, refl, sym, ◌∙◌, ap, inl, inr, arith, ◌⊎◌, subst}
+use Rattle.std.proofs.Common.{◌≡◌, ◌↔◌, ℕ, zero, suc, ◌<◌, true, List, [], ◌∷◌, length, map, get_or, Contains, refl, sym, ◌∙◌, ap, ap₂, arith, ⊎_elim, subst}
 use Rattle.std.specs.List.{list_any}
 use Rattle.std.specs.Str.{bytes_eq}
 use Rattle.std.proofs.lemmas.Bool.{both_ways, or_left, or_right, cases_Bool, cond-true, cond-false}
@@ -27,40 +27,31 @@ hidden_label-hidden H a c = cond-true (list_any (bytes_eq a) H) internal a (foun
 
 -- no other label is
 pub hidden_label-shown : (H : List (List ℕ)) (a : List ℕ) → ¬ Contains H a → hidden_label H a ≡ a
-hidden_label-shown H a none = step (cases_Bool (list_any (bytes_eq a) H))
-  where
-    step : (list_any (bytes_eq a) H ≡ true) ⊎ (list_any (bytes_eq a) H ≡ false) → hidden_label H a ≡ a
-    step (inl e) = absurd (none (contains_from H a e))
-    step (inr e) = cond-false (list_any (bytes_eq a) H) internal a e
+hidden_label-shown H a none =
+    ⊎_elim (λ e. absurd (none (contains_from H a e))) (λ e. cond-false (list_any (bytes_eq a) H) internal a e)
+    (cases_Bool (list_any (bytes_eq a) H))
 
 -- lists of the same labels hide each label alike
 pub hidden_label-same :
     (H K : List (List ℕ)) → ((a : List ℕ) → Contains H a ↔ Contains K a) → (a : List ℕ) → hidden_label H a ≡ hidden_label K a
-hidden_label-same H K same a = step (cases_Bool (list_any (bytes_eq a) H))
-  where
-    step : (list_any (bytes_eq a) H ≡ true) ⊎ (list_any (bytes_eq a) H ≡ false) → hidden_label H a ≡ hidden_label K a
-    step (inl e) =
-        let c = contains_from H a e in
-        hidden_label-hidden H a c ∙ sym (hidden_label-hidden K a ((same a).0 c))
-    step (inr e) =
-        let none : ¬ Contains H a = λ c. both_ways _ e (found_from H a c) in
-        hidden_label-shown H a none ∙ sym (hidden_label-shown K a (λ c. none ((same a).1 c)))
+hidden_label-same H K same a =
+    ⊎_elim
+    (λ e. let c = contains_from H a e in hidden_label-hidden H a c ∙ sym (hidden_label-hidden K a ((same a).0 c)))
+    (λ e.
+    let none : ¬ Contains H a = λ c. both_ways _ e (found_from H a c) in
+    hidden_label-shown H a none ∙ sym (hidden_label-shown K a (λ c. none ((same a).1 c))))
+    (cases_Bool (list_any (bytes_eq a) H))
 
 -- lists of the same labels hide the same
 pub Hide-same : (H K : List (List ℕ)) (A : System) → ((a : List ℕ) → Contains H a ↔ Contains K a) → Hide H A ≡ Hide K A
-Hide-same H K A same = ap made (all A.transitions)
+Hide-same H K A same = λ i. record { first = A.first; states = A.states; transitions = all A.transitions i }
   where
-    made : List Transition → System
-    made es = record { first = A.first; states = A.states; transitions = es }
-
     one : (e : Transition) → hidden_transition H e ≡ hidden_transition K e
-    one e =
-        let f : List ℕ → Transition = λ a. record { source = e.source; label = a; target = e.target } in
-        ap f (hidden_label-same H K same e.label)
+    one e = λ i. record { source = e.source; label = hidden_label-same H K same e.label i; target = e.target }
 
     all : (es : List Transition) → map (hidden_transition H) es ≡ map (hidden_transition K) es
     all [] = refl
-    all (e ∷ es) = let p = one e in let q = all es in cc
+    all (e ∷ es) = ap₂ ◌∷◌ (one e) (all es)
 
 -- a label that has a number in the table stands in it
 pub contains_numbered : (labels : List (List ℕ)) (k : ℕ) (a : List ℕ) → IsNumber labels k a → Contains labels a
@@ -69,11 +60,8 @@ contains_numbered labels k a n =
 
 -- with no hidden label a system is itself
 pub Hide-none : (A : System) → Hide [] A ≡ A
-Hide-none A = ap made (all A.transitions)
+Hide-none A = λ i. record { first = A.first; states = A.states; transitions = all A.transitions i }
   where
-    made : List Transition → System
-    made es = record { first = A.first; states = A.states; transitions = es }
-
     all : (es : List Transition) → map (hidden_transition []) es ≡ es
     all [] = refl
     all (e ∷ es) = ap (λ (t : List Transition). e ∷ t) (all es)

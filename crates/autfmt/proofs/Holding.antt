@@ -1,9 +1,9 @@
 -- Triples over a label table, and the transitions that they stand for.
-use Rattle.std.proofs.Common.{◌≡◌, ◌⊎◌, ℕ, ◌+◌, ◌<◌, ◌≤◌, Contains, List, [], ◌∷◌, ◌++◌, length, map, refl, sym, ◌∙◌, ap, subst, inl, inr, arith, All}
+use Rattle.std.proofs.Common.{◌≡◌, ◌⊎◌, ℕ, ◌+◌, ◌<◌, ◌≤◌, Contains, List, [], ◌∷◌, ◌++◌, length, map, refl, sym, ◌∙◌, ap, ap₂, subst, inl, inr, arith, All}
 use Rattle.std.proofs.lemmas.List.{length_push, length-map, map_push}
 use Rattle.std.proofs.lemmas.Bool.{cases_lt}
 use Rattle.std.proofs.lemmas.List.Elements.{All-nil, All-head, All-tail, All-push, All-weaker, Contains-append_left, Contains-get_or, Contains-push}
-use Rattle.theory.specs.System.{System, Transition, IsAmong, Hide, hidden_label, hidden_transition}
+use Rattle.theory.specs.System.{Transition, IsAmong, Hide, hidden_label, hidden_transition}
 use Rattle.lts.specs.Labels.{Keeps, Interns, IsNumber}
 use Rattle.lts.specs.Lts.{Triple, IsTriple, transition_of, system_from, label_of}
 use Rattle.autfmt.specs.declared.held.Held.{Held}
@@ -34,10 +34,8 @@ kept_transitions n old now [] keeps all = refl
 kept_transitions n old now (e ∷ es) keeps all =
     let first = All-head (IsTriple (length old) n) e es all in
     let same = keeps.texts (label_of e) first.label in
-    let made : List ℕ → Transition = λ a. record { source = e.0; label = a; target = e.2 } in
-    let p = ap made same in
-    let q = kept_transitions n old now es keeps (All-tail (IsTriple (length old) n) e es all) in
-    cc
+    ap₂ ◌∷◌ (λ i. record { source = e.0; label = same i; target = e.2 })
+    (kept_transitions n old now es keeps (All-tail (IsTriple (length old) n) e es all))
 
 -- a triple over a table is one over a longer table
 pub kept_triples :
@@ -121,4 +119,4 @@ pub Holds-system :
     (H : List (List ℕ)) (first n : ℕ) (held : Held) (es : List Transition) → Holds H n held es →
     system_from first n held.labels held.triples.items ≡ Hide H (record { first = first; states = n; transitions = es })
 Holds-system H first n held es h =
-    let made : List Transition → System = λ ts. record { first = first; states = n; transitions = ts } in ap made h.hidden
+    λ i. record { first = first; states = n; transitions = h.hidden i }

@@ -1,5 +1,5 @@
 -- What is known of a text from its first bytes.
-use Rattle.std.proofs.Common.{◌≡◌, ◌⊎◌, ℕ, ◌+◌, ◌<◌, ◌≤◌, List, [], ◌∷◌, ◌++◌, length, refl, subst, inl, inr, arith, All}
+use Rattle.std.proofs.Common.{◌≡◌, ◌⊎◌, ⊎_elim, ℕ, ◌+◌, ◌<◌, ◌≤◌, List, [], ◌∷◌, ◌++◌, length, refl, subst, inl, inr, arith, All}
 use Rattle.std.specs.List.{AllZip}
 use Rattle.std.proofs.lemmas.Bool.{cases_lt}
 use Rattle.std.proofs.lemmas.List.{append_assoc, append-nil, length-append}
@@ -72,11 +72,7 @@ no_judged_fault bounds given line lines rest f m n es fault c good edges few sho
     step (inl less) =
         not_known (FirstFault bounds) (FirstFault-unique bounds) (long_line bounds) given (line ∷ lines) rest (length es + 2) c shorts short
         (too_long less) fault known
-    step (inr full) = ends unjudged
-      where
-        ends : (length es < m) ⊎ (length rest ≡ 0) → ⊥
-        ends (inl less) = omega arith
-        ends (inr none) = at_end rest none c (omega arith)
+    step (inr full) = ⊎_elim (λ less. omega arith) (λ none. at_end rest none c (omega arith)) unjudged
 
 module _ (bounds : Bounds) (given more : List ℕ) where
   -- a text that begins well goes on to do so, and the next line may have grown

@@ -1,5 +1,5 @@
 -- Lemmas on lists.
-use Rattle.std.proofs.Common.{◌≡◌, ℕ, ◌+◌, ◌-◌, ◌≤◌, List, [], ◌∷◌, ◌++◌, All, length, take, drop, sym, ◌∙◌, ap, arith}
+use Rattle.std.proofs.Common.{◌≡◌, ℕ, ◌+◌, ◌-◌, ◌≤◌, List, [], ◌∷◌, ◌++◌, All, length, take, drop, refl, sym, ◌∙◌, ap, ap₂, arith}
 use Rattle.std.proofs.lemmas.List.{append_assoc, take-append-drop, length-drop, take-take, length-take-le}
 use Rattle.std.specs.List.{AllZip}
 use Rattle.std.proofs.lemmas.List.Elements.{All-nil, All-cons, All-head, All-tail}
@@ -40,6 +40,17 @@ pub AllZip-firsts :
 AllZip-firsts R P each [] ys zipped = All-nil P
 AllZip-firsts R P each (a ∷ xs) [] zipped = absurd zipped
 AllZip-firsts R P each (a ∷ xs) (b ∷ ys) zipped = All-cons P a xs (each a b zipped.0) (AllZip-firsts R P each xs ys zipped.1)
+
+-- where each first one has one second one, the first ones tell the second ones
+pub AllZip-unique :
+    {A B : Type 0} (R : A → B → Type 0) → ((x : A) (y z : B) → R x y → R x z → y ≡ z) → (xs : List A) (ys zs : List B) →
+    AllZip R xs ys → AllZip R xs zs → ys ≡ zs
+AllZip-unique R one [] [] [] a b = refl
+AllZip-unique R one [] [] (z ∷ zs) a b = absurd b
+AllZip-unique R one [] (y ∷ ys) zs a b = absurd a
+AllZip-unique R one (x ∷ xs) [] zs a b = absurd a
+AllZip-unique R one (x ∷ xs) (y ∷ ys) [] a b = absurd b
+AllZip-unique R one (x ∷ xs) (y ∷ ys) (z ∷ zs) a b = ap₂ ◌∷◌ (one x y z a.0 b.0) (AllZip-unique R one xs ys zs a.1 b.1)
 
 -- what holds of each element holds of one between others
 pub All-between : {A : Type 0} (P : A → Type 0) (xs : List A) (x : A) (ys : List A) → All P (xs ++ x ∷ ys) → P x

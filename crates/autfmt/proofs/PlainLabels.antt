@@ -1,13 +1,14 @@
 -- Labels and their test; reading a plain label.
-use Rattle.std.proofs.Common.{◌≡◌, ℕ, suc, ◌+◌, ◌≤◌, true, false, cond, List, [], ◌∷◌, ◌++◌, length, take, drop, All, Option, Some, None, refl, sym, ap, subst, ◌∙◌, inl, inr, arith}
+use Rattle.std.proofs.Common.{◌≡◌, ℕ, suc, ◌+◌, ◌<◌, ◌≤◌, true, false, cond, List, [], ◌∷◌, ◌++◌, length, take, drop, All, Option, Some, None, refl, sym, ap, subst, ◌∙◌, inl, inr, arith}
 use Rattle.std.specs.Prelude.{nat_le, ◌&&◌, ◌==◌}
 use Rattle.std.specs.Char.{is_ascii_digit}
 use Rattle.std.specs.List.{list_all}
-use Rattle.std.proofs.lemmas.Bool.{cond_both, and_parts, and_from, or_left, leb-true, le-leb}
+use Rattle.std.proofs.lemmas.Bool.{and_parts, and_from, or_left, leb-true, le-leb}
 use Rattle.std.proofs.lemmas.Bool.Decides.{nat_tests, Decides-by_and}
 use Rattle.std.proofs.lemmas.Option.{cond_some}
-use Rattle.std.proofs.lemmas.List.{length-take, take_at, drop_at, take-append-drop}
-use Rattle.std.proofs.lemmas.List.Elements.{All-nil, All-cons}
+use Rattle.std.proofs.lemmas.List.{length-take, get_or-take, take_at, drop_at, take-append-drop}
+use Rattle.std.proofs.lemmas.List.Elements.{All-cons, All-weaker}
+use Rattle.std.proofs.lemmas.List.Sums.{AllPass-from_list_all, list_all-from_AllPass, prefix_len_passes}
 use Rattle.theory.specs.System.{IsLabel}
 use Rattle.autfmt.specs.Grammar.{is_letter, is_plain}
 use Rattle.autfmt.specs.Reading.{◌>>=◌, is_blank, is_word, word_len, plain_at, is_label}
@@ -61,10 +62,8 @@ blanks_no_words b (inr (inl e)) = rw e refl
 blanks_no_words b (inr (inr e)) = rw e refl
 
 words_printable : (bs : List ℕ) → list_all is_word bs ≡ true → All (λ b. (0x20 ≤ b) × (b ≤ 0x7E)) bs
-words_printable [] e = All-nil (λ b. (0x20 ≤ b) × (b ≤ 0x7E))
-words_printable (b ∷ bs) e =
-    let h = and_parts (is_word b) (list_all is_word bs) e in
-    All-cons (λ b. (0x20 ≤ b) × (b ≤ 0x7E)) b bs (word-range b h.0) (words_printable bs h.1)
+words_printable bs e =
+    All-weaker (λ b. is_word b ≡ true) (λ b. (0x20 ≤ b) × (b ≤ 0x7E)) word-range bs (AllPass-from_list_all is_word bs e)
 
 -- what a plain label is made of
 pub record Plain (b : ℕ) (bs : List ℕ) : Type 0 where
@@ -94,11 +93,10 @@ IsLabel-plain (b ∷ bs) e =
     }
 
 words_in_front : (bs : List ℕ) → list_all is_word (take (word_len bs) bs) ≡ true
-words_in_front [] = refl
-words_in_front (b ∷ bs) =
-    cond_both (is_word b) (1 + word_len bs) 0 (λ n. list_all is_word (take n (b ∷ bs)) ≡ true)
-    (λ e. let one : 1 + word_len bs ≡ suc (word_len bs) = omega arith in rw one (and_from (is_word b) (list_all is_word (take (word_len bs) bs)) e (words_in_front bs)))
-    (λ _. refl)
+words_in_front bs =
+    list_all-from_AllPass is_word (take (word_len bs) bs) (λ k d h.
+    let below : k < word_len bs = omega (arith, length-take (word_len bs) bs) in
+    ap is_word (get_or-take (word_len bs) bs k d below) ∙ prefix_len_passes is_word bs k d below)
 
 word_len-words : (bs rest : List ℕ) → list_all is_word bs ≡ true → Stops is_word rest → word_len (bs ++ rest) ≡ length bs
 word_len-words [] [] words stops = refl

@@ -60,27 +60,20 @@ last_quote-at (b ∷ a) rest h =
 abbrev HasQuoteAt : List ℕ → ℕ → Type 0
 HasQuoteAt bytes i = bytes ≡ take i bytes ++ 34 ∷ drop (i + 1) bytes
 
-HasQuoteAt-here : (b : ℕ) (bs : List ℕ) (i : ℕ) → before b None ≡ Some i → HasQuoteAt (b ∷ bs) i
-HasQuoteAt-here b bs i e =
-    let h = cond_some (b == 34) 0 i e in
-    subst (λ (n : ℕ). HasQuoteAt (b ∷ bs) n) h.1 (ap (λ (c : ℕ). c ∷ bs) (eqb-true b 34 h.0))
-
-HasQuoteAt-later : (b : ℕ) (bs : List ℕ) (j i : ℕ) → before b (Some j) ≡ Some i → HasQuoteAt bs j → HasQuoteAt (b ∷ bs) i
-HasQuoteAt-later b bs j i e h =
-    let is : suc j ≡ i = sym (add-one j) ∙ same_Some (j + 1) i e in
-    let one : suc j + 1 ≡ suc (j + 1) = omega arith in
-    let whole : HasQuoteAt (b ∷ bs) (suc j) = rw one (ap (λ (t : List ℕ). b ∷ t) h) in
-    subst (λ (n : ℕ). HasQuoteAt (b ∷ bs) n) is whole
-
-HasQuoteAt-by : (b : ℕ) (bs : List ℕ) (o : Option ℕ) (i : ℕ) → ((j : ℕ) → o ≡ Some j → HasQuoteAt bs j) → before b o ≡ Some i → HasQuoteAt (b ∷ bs) i
-HasQuoteAt-by b bs (Some j) i below e = HasQuoteAt-later b bs j i e (below j refl)
-HasQuoteAt-by b bs None i below e = HasQuoteAt-here b bs i e
-
 last_quote-cuts : (bs : List ℕ) (i : ℕ) → last_quote bs ≡ Some i → HasQuoteAt bs i
 unfolding last_quote
 last_quote-cuts [] i e = absurd cc
-last_quote-cuts (b ∷ bs) i e =
-    HasQuoteAt-by b bs (last_quote bs) i (λ j f. last_quote-cuts bs j f) (sym (last_quote-step b bs (last_quote bs) refl) ∙ e)
+last_quote-cuts (b ∷ bs) i e = by (last_quote bs) (last_quote-cuts bs) (sym (last_quote-step b bs (last_quote bs) refl) ∙ e)
+  where
+    by : (o : Option ℕ) → ((j : ℕ) → o ≡ Some j → HasQuoteAt bs j) → before b o ≡ Some i → HasQuoteAt (b ∷ bs) i
+    by (Some j) below f =
+        let is : suc j ≡ i = sym (add-one j) ∙ same_Some (j + 1) i f in
+        let one : suc j + 1 ≡ suc (j + 1) = omega arith in
+        let whole : HasQuoteAt (b ∷ bs) (suc j) = rw one (ap (λ (t : List ℕ). b ∷ t) (below j refl)) in
+        subst (λ (n : ℕ). HasQuoteAt (b ∷ bs) n) is whole
+    by None below f =
+        let h = cond_some (b == 34) 0 i f in
+        subst (λ (n : ℕ). HasQuoteAt (b ∷ bs) n) h.1 (ap (λ (c : ℕ). c ∷ bs) (eqb-true b 34 h.0))
 
 -- ---- the last quotation mark by places, as a search from the back finds it
 

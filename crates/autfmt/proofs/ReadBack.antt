@@ -1,6 +1,7 @@
 -- What is written is read again.
-use Rattle.std.proofs.Common.{◌≡◌, ◌≢◌, ℕ, leb, tests, rules, ◌+◌, ◌%◌, ◌<◌, ◌≤◌, ◌^◌, Bool, true, false, cond, List, [], ◌∷◌, ◌++◌, length, map, codes, decimal, refl, sym, ap, ◌∙◌, subst, inl, inr, arith, append_assoc, length-append}
+use Rattle.std.proofs.Common.{◌≡◌, ◌≢◌, ℕ, leb, tests, rules, ◌+◌, ◌%◌, ◌<◌, ◌≤◌, ◌^◌, true, List, [], ◌∷◌, ◌++◌, length, map, codes, decimal, refl, sym, ap, ◌∙◌, subst, inl, inr, arith, append_assoc, length-append}
 use Rattle.std.specs.List.{All, AllZip, AllByRecursion, flat_map, list_all}
+use Rattle.std.proofs.lemmas.Bool.{cond_both}
 use Rattle.std.proofs.lemmas.Fmt.{decimal_by_steps, length-decimal-le}
 use Rattle.std.proofs.lemmas.List.{append-nil}
 use Rattle.std.proofs.lemmas.List.Elements.{All-nil, All-cons, All-append, All-push, All-weaker, All-from_recursion, recursion_from_All}
@@ -9,6 +10,7 @@ use Rattle.std.proofs.lemmas.List.Sorted.{All-permutation, IsPermutation-sym, le
 use Rattle.theory.specs.System.{System, Transition, IsSystem, IsAmong, IsLabel}
 use Rattle.autfmt.specs.Bounds.{Bounds, IsWithinFile}
 use Rattle.autfmt.proofs.Blanks.{IsBlank}
+use Rattle.autfmt.proofs.PlainLabels.{IsLabel-plain}
 use Rattle.autfmt.specs.Grammar.{Blanks, Spaced, Label, is_plain, quoted}
 use Rattle.autfmt.specs.Texts.{Lines, IsOneLine, IsShort, SpellsTransition, Reads}
 use Rattle.autfmt.specs.Cutter.{with_line_feeds}
@@ -21,10 +23,6 @@ pub record Visible (bs : List ℕ) : Type 0 where
 abbrev header_line : System → List ℕ
 header_line A =
     codes "des (" ++ decimal A.first ++ codes ", " ++ decimal (length A.transitions) ++ codes ", " ++ decimal A.states ++ codes ")"
-
-abbrev transition_line : Transition → List ℕ
-transition_line e =
-    codes "(" ++ decimal e.source ++ codes ", " ++ written_label e.label ++ codes ", " ++ decimal e.target ++ codes ")"
 
 pub one_line : (bs : List ℕ) → Visible bs → IsOneLine bs
 one_line bs seen = All-weaker (λ b. 32 ≤ b) (λ b. b ≢ 10) (λ b h e. absurd (omega arith)) bs seen.each
@@ -42,25 +40,35 @@ visible_decimal n small =
     (λ n h. record { each = All-cons (λ b. 32 ≤ b) (48 + n) [] (omega arith) (All-nil (λ b. 32 ≤ b)) })
     (λ n ds h seen. record { each = All-push (λ b. 32 ≤ b) ds (48 + n % 10) seen.each (omega arith) }) n small
 
--- how a label is written
-record IsSpelling (a spelling : List ℕ) : Type 0 where
-  label : Label spelling a
-  visible : Visible spelling
-  short : length spelling ≤ 8002
+seen_label : (a : List ℕ) → IsLabel a → Visible a
+seen_label a is = record { each = All-weaker (λ b. (32 ≤ b) × (b ≤ 126)) (λ b. 32 ≤ b) (λ b h. h.0) a is.printable }
 
-spelled : (a : List ℕ) → IsLabel a → IsSpelling a (written_label a)
-spelled a is = go (is_plain a) refl
-  where
-    seen : Visible a
-    seen = record { each = All-weaker (λ b. (32 ≤ b) × (b ≤ 126)) (λ b. 32 ≤ b) (λ b h. h.0) a is.printable }
+seen_spelling : (spelling a : List ℕ) → Label spelling a → Visible spelling × (length spelling ≤ 8002)
+seen_spelling spelling a (inl h) = let is = IsLabel-plain a h.0 in rw h.1 (seen_label a is, omega (arith, is.short))
+seen_spelling spelling a (inr h) =
+    let mark = literal (codes "\"") refl in
+    rw h.1 (visible_append (visible_append mark (seen_label a h.0)) mark, omega (arith, h.0.short, length-append a (codes "\"")))
 
-    go : (b : Bool) → is_plain a ≡ b → IsSpelling a (cond b a (quoted a))
-    go true e = record { label = inl (e, refl); visible = seen; short = omega (arith, is.short) }
-    go false e = record {
-      label = inr (is, refl);
-      visible = visible_append (visible_append (literal (codes "\"") refl) seen) (literal (codes "\"") refl);
-      short = omega (arith, is.short, length-append a (codes "\""));
-    }
+-- a label is written by a spelling of it
+spells_label : (a : List ℕ) → IsLabel a → Label (written_label a) a
+spells_label a is = cond_both (is_plain a) a (quoted a) (λ spelling. Label spelling a) (λ e. inl (e, refl)) (λ _. inr (is, refl))
+
+-- the line of a transition, with b and d behind its commas
+abbrev pub spelled_line : ℕ → List ℕ → List ℕ → List ℕ → ℕ → List ℕ
+spelled_line s b spelling d t = codes "(" ++ decimal s ++ codes "," ++ b ++ spelling ++ codes "," ++ d ++ decimal t ++ codes ")"
+
+pub spelled_line-one : (s t : ℕ) (b d spelling a : List ℕ) → s < 10 ^ 10 → t < 10 ^ 10 → Visible b → Visible d → Label spelling a → IsOneLine (spelled_line s b spelling d t)
+spelled_line-one s t b d spelling a source target before between is =
+    let comma = literal (codes ",") refl in
+    let first = visible_append (visible_append (visible_append (literal (codes "(") refl) (visible_decimal s (omega arith))) comma) before in
+    let second = visible_append (visible_append (visible_append first (seen_spelling spelling a is).0) comma) between in
+    one_line _ (visible_append (visible_append second (visible_decimal t (omega arith))) (literal (codes ")") refl))
+
+pub spelled_line-short :
+    (s t : ℕ) (b d end spelling a : List ℕ) → s < 10 ^ 10 → t < 10 ^ 10 → length b ≤ 1 → length d ≤ 1 → length end ≤ 1 → Label spelling a →
+    IsShort (spelled_line s b spelling d t ++ end)
+spelled_line-short s t b d end spelling a source target before between behind is =
+    simp length-append (omega (arith, length-decimal-le 10 s (omega arith) source (omega arith), length-decimal-le 10 t (omega arith) target (omega arith), (seen_spelling spelling a is).1))
 
 -- the line is the tokens, with blanks between them
 pub record IsSpaced (tokens : List (List ℕ)) (line : List ℕ) : Type 0 where
@@ -75,23 +83,24 @@ none = All-nil IsBlank
 pub a_space : Blanks (32 ∷ [])
 a_space = All-from_recursion IsBlank (32 ∷ []) (inl refl, tt)
 
-pub closed : IsSpaced (codes ")" ∷ []) (codes ")")
-closed = next [] (codes ")") none (record { spaced = none })
+-- a comma, blanks and a token, and then what follows
+after_comma : {rest : List ℕ} {tokens : List (List ℕ)} (blanks token : List ℕ) → Blanks blanks → IsSpaced tokens rest → IsSpaced (codes "," ∷ token ∷ tokens) (codes "," ++ (blanks ++ token ++ rest))
+after_comma blanks token blank s = next [] (codes ",") none (next blanks token blank s)
 
--- a comma, a space and a token, and then what follows
-after_comma : {rest : List ℕ} {tokens : List (List ℕ)} (token : List ℕ) → IsSpaced tokens rest → IsSpaced (codes "," ∷ token ∷ tokens) (codes "," ++ (codes " " ++ token ++ rest))
-after_comma token s = next [] (codes ",") none (next (codes " ") token a_space s)
+closed : {rest : List ℕ} → Blanks rest → IsSpaced (codes ")" ∷ []) (codes ")" ++ rest)
+closed {rest} behind = next {rest = rest} {tokens = []} [] (codes ")") none (record { spaced = behind })
 
-spaced_transition : (s l t : List ℕ)
-    → Spaced (codes "(" ∷ s ∷ codes "," ∷ l ∷ codes "," ∷ t ∷ codes ")" ∷ []) (codes "(" ++ s ++ codes ", " ++ l ++ codes ", " ++ t ++ codes ")")
-spaced_transition s l t =
-    let nested = next [] (codes "(") none (next [] s none (after_comma l (after_comma t closed))) in
+pub spaced_line : (s b l d t e : List ℕ) → Blanks b → Blanks d → Blanks e
+    → Spaced (codes "(" ∷ s ∷ codes "," ∷ l ∷ codes "," ∷ t ∷ codes ")" ∷ []) ((codes "(" ++ s ++ codes "," ++ b ++ l ++ codes "," ++ d ++ t ++ codes ")") ++ e)
+spaced_line s b l d t e before between behind =
+    let nested = next [] (codes "(") none (next [] s none (after_comma b l before (after_comma d t between (closed behind)))) in
     subst (Spaced (codes "(" ∷ s ∷ codes "," ∷ l ∷ codes "," ∷ t ∷ codes ")" ∷ [])) (simp append_assoc) nested.spaced
 
 spaced_header : (f m n : List ℕ)
     → Spaced (codes "des" ∷ codes "(" ∷ f ∷ codes "," ∷ m ∷ codes "," ∷ n ∷ codes ")" ∷ []) (codes "des (" ++ f ++ codes ", " ++ m ++ codes ", " ++ n ++ codes ")")
 spaced_header f m n =
-    let nested = next [] (codes "des") none (next (codes " ") (codes "(") a_space (next [] f none (after_comma m (after_comma n closed)))) in
+    let numbers = next [] f none (after_comma (codes " ") m a_space (after_comma (codes " ") n a_space (closed {rest = []} none))) in
+    let nested = next [] (codes "des") none (next (codes " ") (codes "(") a_space numbers) in
     subst (Spaced (codes "des" ∷ codes "(" ∷ f ∷ codes "," ∷ m ∷ codes "," ∷ n ∷ codes ")" ∷ [])) (simp append_assoc) nested.spaced
 
 -- a written line, as a reader sees it
@@ -99,16 +108,21 @@ record IsLine (line : List ℕ) : Type 0 where
   one : IsOneLine line
   short : IsShort line
 
+-- a transition as it is written, without its line feed
+abbrev transition_line : Transition → List ℕ
+transition_line e = spelled_line e.source (codes " ") (written_label e.label) (codes " ") e.target
+
 transition_is_line : (n : ℕ) → n < 10 ^ 10 → (e : Transition) → IsAmong n e → IsLine (transition_line e)
 transition_is_line n small e among =
-    let spelling = spelled e.label among.label in
+    let spelling = spells_label e.label among.label in
     let source : e.source < 10 ^ 10 = omega (arith, among.source) in
     let target : e.target < 10 ^ 10 = omega (arith, among.target) in
-    let comma = literal (codes ", ") refl in
+    let space = literal (codes " ") refl in
+    let blank = codes " " in
     record {
-      one = one_line _ (visible_append (visible_append (visible_append (visible_append (visible_append (visible_append
-          (literal (codes "(") refl) (visible_decimal e.source (omega arith))) comma) spelling.visible) comma) (visible_decimal e.target (omega arith))) (literal (codes ")") refl));
-      short = simp length-append (omega (arith, length-decimal-le 10 e.source (omega arith) source (omega arith), length-decimal-le 10 e.target (omega arith) target (omega arith), spelling.short));
+      one = spelled_line-one e.source e.target blank blank (written_label e.label) e.label source target space space spelling;
+      short = subst IsShort (append-nil (transition_line e))
+          (spelled_line-short e.source e.target blank blank [] (written_label e.label) e.label source target (omega arith) (omega arith) (omega arith) spelling);
     }
 
 header_is_line : (A : System) → A.first < 10 ^ 10 → length A.transitions < 10 ^ 10 → A.states < 10 ^ 10 → IsLine (header_line A)
@@ -121,10 +135,21 @@ header_is_line A first transitions states =
     }
 
 spells_transition : (n : ℕ) → n < 10 ^ 10 → (e : Transition) → IsAmong n e → SpellsTransition (transition_line e) e
-spells_transition n small e among = (
-  (transition_is_line n small e among).short,
-  (decimal e.source, written_label e.label, decimal e.target, (omega (arith, among.source), refl), (spelled e.label among.label).label, (omega (arith, among.target), refl), spaced_transition _ _ _),
-)
+spells_transition n small e among =
+    let blank = codes " " in
+    let spaced = spaced_line (decimal e.source) blank (written_label e.label) blank (decimal e.target) [] a_space a_space none in
+    let tokens = codes "(" ∷ decimal e.source ∷ codes "," ∷ written_label e.label ∷ codes "," ∷ decimal e.target ∷ codes ")" ∷ [] in (
+      (transition_is_line n small e among).short,
+      (
+        decimal e.source,
+        written_label e.label,
+        decimal e.target,
+        (omega (arith, among.source), refl),
+        spells_label e.label among.label,
+        (omega (arith, among.target), refl),
+        subst (Spaced tokens) (append-nil (transition_line e)) spaced,
+      ),
+    )
 
 module _ (n : ℕ) (small : n < 10 ^ 10) where
   spells_transitions : (es : List Transition) → AllByRecursion (IsAmong n) es → AllZip SpellsTransition (map transition_line es) es
@@ -138,11 +163,15 @@ module _ (n : ℕ) (small : n < 10 ^ 10) where
 -- a written line is the line and its line feed
 line_and_feed : (e : Transition) → written_transition e ≡ transition_line e ++ 10 ∷ []
 line_and_feed e =
-    sym (append_assoc (codes "(" ++ decimal e.source ++ codes ", " ++ written_label e.label ++ codes ", " ++ decimal e.target) (codes ")") (10 ∷ []))
+    let front = codes "(" ++ decimal e.source in
+    let label = written_label e.label in
+    let first = sym (append_assoc front (codes ",") (codes " ")) in
+    let second = sym (append_assoc (front ++ codes "," ++ codes " " ++ label) (codes ",") (codes " ")) in
+    ap (λ bs. bs ++ label ++ codes ", " ++ decimal e.target ++ codes ")\n") first ∙ ap (λ bs. bs ++ decimal e.target ++ codes ")\n") second
+    ∙ sym (append_assoc (front ++ codes "," ++ codes " " ++ label ++ codes "," ++ codes " " ++ decimal e.target) (codes ")") (10 ∷ []))
 
 header_and_feed : (A : System) → header_of A.first (length A.transitions) A.states ≡ header_line A ++ 10 ∷ []
-header_and_feed A =
-    sym (append_assoc (codes "des (" ++ decimal A.first ++ codes ", " ++ decimal (length A.transitions) ++ codes ", " ++ decimal A.states) (codes ")") (10 ∷ []))
+header_and_feed A = simp append_assoc
 
 fed : (es : List Transition) → flat_map written_transition es ≡ with_line_feeds (map transition_line es)
 fed [] = refl

@@ -1,9 +1,9 @@
 -- What the reader of a system answers of what was read.
-use Rattle.std.proofs.Common.{◌≡◌, ℕ, ◌<◌, List, ◌++◌, length, Option, None, Some, IfSome, Result, Ok, Err, IfErr, refl, sym, ◌∙◌, ap, subst, arith}
+use Rattle.std.proofs.Common.{◌≡◌, ℕ, List, ◌++◌, length, Option, None, Some, IfSome, Result, Ok, Err, IfErr, refl, sym, ◌∙◌, ap, subst, arith}
 use Rattle.std.proofs.lemmas.List.{append-nil}
 use Rattle.std.proofs.lemmas.List.Sorted.{length_permutation, Contains-permutation}
 use Rattle.std.specs.Io.KnownBytes.{Consumes, IsAtEnd}
-use Rattle.lts.specs.Lts.{Grouped, IsGrouping, IsCarried, system_from, system_of, Groups}
+use Rattle.lts.specs.Lts.{Grouped, IsGrouping, system_from, system_of, Groups}
 use Rattle.theory.specs.System.{System}
 use Rattle.autfmt.specs.declared.fault.Fault.{Fault}
 use Rattle.autfmt.specs.declared.fault.Fault.TheVariants.{Memory}
@@ -12,11 +12,12 @@ use Rattle.autfmt.specs.declared.held.Held.{Held}
 use Rattle.autfmt.specs.Bounds.{Bounds}
 use Rattle.autfmt.specs.Texts.{Reads}
 use Rattle.autfmt.specs.Faults.{FirstFault}
-use Rattle.autfmt.specs.Readers.{IsTextFault, HasGoodHeader, ReadsAs}
-use Rattle.autfmt.specs.Outcomes.{Refuses, ReadsTo, IsWithin, AnswersRead}
+use Rattle.autfmt.specs.Readers.{IsTextFault, HasGoodHeader}
+use Rattle.autfmt.specs.Outcomes.{Refuses, ReadsTo, AnswersRead}
 use Rattle.autfmt.specs.Outcomes.Refuses.{faulty_text, failed_source, no_memory}
 use Rattle.autfmt.specs.ReadSoFar.{HoldsText}
 use Rattle.autfmt.proofs.Holding.{Holds-system, Holds-length}
+use Rattle.autfmt.proofs.ReaderSteps.{if_told, none_to_come}
 
 -- a text that reads as a system has a good header
 pub Reads-header : (bounds : Bounds) (whole : List ℕ) (A : System) → Reads bounds whole A → HasGoodHeader bounds whole
@@ -26,13 +27,10 @@ Reads-header bounds whole A r = (r.header, r.lines, A.first, length A.transition
 pub refuses_built :
     (bounds : Bounds) (A : System) (new : Option (List ℕ)) (got : List ℕ) (failures : ℕ) → failures ≡ 0 → IsAtEnd new →
     Reads bounds got A → Refuses bounds got new failures Memory
-refuses_built bounds A new got failures sound end r = no_memory sound refl (told new end)
-  where
-    told : (o : Option (List ℕ)) → IsAtEnd o → IfSome o (λ more. HasGoodHeader bounds (got ++ more))
-    told None e = tt
-    told (Some more) e =
-        subst (λ (t : List ℕ). HasGoodHeader bounds t) (sym (append-nil got) ∙ ap (λ (t : List ℕ). got ++ t) (sym e))
-        (Reads-header bounds got A r)
+refuses_built bounds A new got failures sound end r =
+    no_memory sound refl
+    (if_told new (λ more. HasGoodHeader bounds (got ++ more))
+    (λ more told. rw (none_to_come new more told end, append-nil got) (Reads-header bounds got A r)))
 
 -- a fault of a text that its source tells is the first of the text
 pub told_fault :
@@ -54,33 +52,24 @@ told_fault bounds H (Some text) new failures (Err f) answer = refused new answer
 module _ (bounds : Bounds) (H : List (List ℕ)) (got : List ℕ) (p : Promise) (held : Held) (s : Grouped)
     (text : HoldsText bounds H got p held) (labels : s.labels ≡ held.labels) (grouping : IsGrouping held.triples.items s.places)
     (groups : Groups (system_from p.first p.states held.labels held.triples.items) (system_of s)) where
-  -- groups the transitions of the one that the text reads as, with the labels of H hidden
-  abbrev read : ReadsAs bounds got H s
-  read =
-      let A : System = record { first = p.first; states = p.states; transitions = text.0 } in
-      let hides = Holds-system H p.first p.states held text.0 text.2 in
-      (A, text.1, subst (λ (B : System). Groups B (system_of s)) hides groups)
-
   as_many : length s.places ≡ length text.0
   as_many = length_permutation held.triples.items s.places grouping.same ∙ Holds-length H p.states held text.0 text.2
 
-  within : IsWithin bounds s
-  within =
-      let states = groups.states in
-      let count = as_many in
-      record { states = omega (arith, text.1.good.states); transitions = omega (arith, text.1.good.transitions) }
-
-  carried : (k : ℕ) → k < length s.labels → IsCarried s k
-  carried k below =
-      let (e, among, number) = text.2.carried k (omega (arith, ap length labels)) in
-      (e, Contains-permutation held.triples.items s.places e grouping.same among, number)
-
   pub reads_built : (rest : Option (List ℕ)) (failures : ℕ) → IsAtEnd rest → failures ≡ 0 → ReadsTo bounds H got rest failures s
   reads_built rest failures end sound = record {
-    read = read;
+    read = (
+      record { first = p.first; states = p.states; transitions = text.0 },
+      text.1,
+      subst (λ (B : System). Groups B (system_of s)) (Holds-system H p.first p.states held text.0 text.2) groups,
+    );
     as_many = as_many;
-    within = within;
-    carried = carried;
+    within = record {
+      states = omega (arith, groups.states, text.1.good.states);
+      transitions = omega (arith, as_many, text.1.good.transitions);
+    };
+    carried = λ k below.
+        let (e, among, number) = text.2.carried k (omega (arith, ap length labels)) in
+        (e, Contains-permutation held.triples.items s.places e grouping.same among, number);
     at_end = end;
     sound = sound;
   }

@@ -7,14 +7,14 @@ use lib.Lanes.{chunk, mask_l}
 use Rattle.std.specs.Str.Parse.{digits_value}
 use Rattle.std.proofs.lemmas.Bool.{cases_lt, eqb-true}
 use Rattle.std.proofs.lemmas.Simd.{length-chunk, trailing_mask_l, run_in_chunk_stops}
-use Rattle.std.proofs.lemmas.Fmt.{decimal-digits_value, length-decimal-le}
+use Rattle.std.proofs.lemmas.Fmt.{decimal-digits_value}
 use Rattle.std.proofs.lemmas.Str.Parse.{IsNumeralModel, numerals_by_value, tells_by_index, digits_value_short}
 use Rattle.std.proofs.lemmas.List.{take-take, get_or-take, length-take-le, take-append-drop, drop_more}
-use Rattle.std.proofs.lemmas.List.Elements.{All-nil, All-append, All-weaker, All-from_recursion}
+use Rattle.std.proofs.lemmas.List.Elements.{All-nil, All-append, All-from_recursion}
 use Rattle.std.proofs.lemmas.List.Sums.{prefix_len_passes}
 use Rattle.theory.specs.System.{IsLabel}
-use Rattle.autfmt.specs.Grammar.{Blanks, Spaced, Label, quoted}
-use Rattle.autfmt.specs.Texts.{IsOneLine, IsShort}
+use Rattle.autfmt.specs.Grammar.{Blanks, quoted}
+use Rattle.autfmt.specs.Texts.{IsOneLine}
 use Rattle.autfmt.specs.Cutter.{Cutting, CutsLine}
 use Rattle.autfmt.specs.Reading.{past, plain_at}
 use Rattle.autfmt.specs.Usual.{AreDigitsInFront, BeginsWithNumber, FollowsComma, FollowsLineEnd, HasMark, BeginsWithLabel, BeginsWithTransition}
@@ -22,9 +22,9 @@ use Rattle.autfmt.proofs.Blanks.{IsBlank}
 use Rattle.autfmt.proofs.Cutting.{IsNoFeed}
 use Rattle.autfmt.proofs.Numbers.{digit-range}
 use Rattle.autfmt.proofs.Labels.{quoted-append}
-use Rattle.autfmt.proofs.PlainLabels.{IsLabel-plain, plain_at-takes}
+use Rattle.autfmt.proofs.PlainLabels.{plain_at-takes}
 use Rattle.autfmt.proofs.Lines.{past-takes}
-use Rattle.autfmt.proofs.ReadBack.{Visible, one_line, visible_append, visible_decimal, literal, IsSpaced, next, none, a_space}
+use Rattle.autfmt.proofs.ReadBack.{Visible, literal, none, a_space, spelled_line, spelled_line-one, spelled_line-short, spaced_line}
 
 -- ---- numbers
 
@@ -97,15 +97,6 @@ plain_in_front bytes a rest e = let h = plain_at-takes bytes a rest e in (a, inl
 
 -- ---- whole lines
 
-seen_label : (a : List ℕ) → IsLabel a → Visible a
-seen_label a is = record { each = All-weaker (λ b. (32 ≤ b) × (b ≤ 126)) (λ b. 32 ≤ b) (λ b h. h.0) a is.printable }
-
-seen_spelling : (spelling a : List ℕ) → Label spelling a → Visible spelling × (length spelling ≤ 8002)
-seen_spelling spelling a (inl h) = let is = IsLabel-plain a h.0 in rw h.1 (seen_label a is, omega (arith, is.short))
-seen_spelling spelling a (inr h) =
-    let mark = literal (codes "\"") refl in
-    rw h.1 (visible_append (visible_append mark (seen_label a h.0)) mark, omega (arith, h.0.short, length-append a (codes "\"")))
-
 -- a comma and one space at most, after which the rest comes
 record IsComma (bytes rest : List ℕ) : Type 0 where
   space : List ℕ
@@ -140,33 +131,6 @@ is_end bytes rest (inr e) = record {
   short = omega arith;
   parts = e;
 }
-
-abbrev spelled_line : ℕ → List ℕ → List ℕ → List ℕ → ℕ → List ℕ
-spelled_line s b spelling d t = codes "(" ++ decimal s ++ codes "," ++ b ++ spelling ++ codes "," ++ d ++ decimal t ++ codes ")"
-
-spelled_line-one : (s t : ℕ) (b d spelling a : List ℕ) → s < 10 ^ 10 → t < 10 ^ 10 → Visible b → Visible d → Label spelling a → IsOneLine (spelled_line s b spelling d t)
-spelled_line-one s t b d spelling a source target before between is =
-    let comma = literal (codes ",") refl in
-    let first = visible_append (visible_append (visible_append (literal (codes "(") refl) (visible_decimal s (omega arith))) comma) before in
-    let second = visible_append (visible_append (visible_append first (seen_spelling spelling a is).0) comma) between in
-    one_line _ (visible_append (visible_append second (visible_decimal t (omega arith))) (literal (codes ")") refl))
-
-spelled_line-short :
-    (s t : ℕ) (b d end spelling a : List ℕ) → s < 10 ^ 10 → t < 10 ^ 10 → length b ≤ 1 → length d ≤ 1 → length end ≤ 1 → Label spelling a →
-    IsShort (spelled_line s b spelling d t ++ end)
-spelled_line-short s t b d end spelling a source target before between behind is =
-    simp length-append (omega (arith, length-decimal-le 10 s (omega arith) source (omega arith), length-decimal-le 10 t (omega arith) target (omega arith), (seen_spelling spelling a is).1))
-
--- a comma, blanks and a token, and then what follows
-after_comma : {rest : List ℕ} {tokens : List (List ℕ)} (blanks token : List ℕ) → Blanks blanks → IsSpaced tokens rest → IsSpaced (codes "," ∷ token ∷ tokens) (codes "," ++ (blanks ++ token ++ rest))
-after_comma blanks token blank s = next [] (codes ",") none (next blanks token blank s)
-
-spaced_line : (s b l d t e : List ℕ) → Blanks b → Blanks d → Blanks e
-    → Spaced (codes "(" ∷ s ∷ codes "," ∷ l ∷ codes "," ∷ t ∷ codes ")" ∷ []) ((codes "(" ++ s ++ codes "," ++ b ++ l ++ codes "," ++ d ++ t ++ codes ")") ++ e)
-spaced_line s b l d t e before between behind =
-    let last = next {rest = e} {tokens = []} [] (codes ")") none (record { spaced = behind }) in
-    let nested = next [] (codes "(") none (next [] s none (after_comma b l before (after_comma d t between last))) in
-    subst (Spaced (codes "(" ∷ s ∷ codes "," ∷ l ∷ codes "," ∷ t ∷ codes ")" ∷ [])) (simp append_assoc) nested.spaced
 
 -- the tokens and marks that were found one after the other
 pub transition_in_front : (bytes r0 r1 r2 r3 r4 r5 r6 r7 : List ℕ) (s : ℕ) (a : List ℕ) (t : ℕ) → past 40 bytes ≡ Some r0 → BeginsWithNumber r0 s r1 → FollowsComma r1 r2 → BeginsWithLabel r2 a r3

@@ -1,10 +1,10 @@
 //! What a source gives, cut into lines: each line is looked at where its piece lies, or put together from pieces.
-ghost use Rattle.std.specs.Prelude.{◌≡◌, ℕ, ◌+◌, ◌<◌, ◌≤◌, ◌↔◌, List, [], ◌∷◌, ◌++◌, length, take, drop, true, false, IsTrue, Some, None, Ok, IfSome, IfNone, OnOk, MatchOption, MatchResult};
+ghost use Rattle.std.specs.Prelude.{◌≡◌, ℕ, ◌+◌, ◌<◌, List, [], ◌∷◌, ◌++◌, length, take, drop, true, false, IsTrue, Some, None, Ok, IfSome, IfNone};
 ghost use Rattle.std.specs.List.{slice_range};
 ghost use Rattle.std.specs.Io.KnownBytes.{Consumes, IsAtEnd};
 ghost use Rattle.autfmt.specs.Stream.{CountsFailure};
-ghost use Rattle.autfmt.specs.Texts.{IsOneLine, IsShort};
-ghost use Rattle.autfmt.specs.Cutter.{Cutting, BeginsTooLong, CutsLine, CutsEnd, IsPart};
+ghost use Rattle.autfmt.specs.Texts.{IsOneLine};
+ghost use Rattle.autfmt.specs.Cutter.{Cutting, IsPart};
 ghost use Rattle.autfmt.specs.Gathering.{Gathers, Advances, Looks};
 
 use crate::line::LineBuffer;
@@ -50,7 +50,7 @@ pub(crate) struct Cutter {
 }
 
 impl Model for Cutter {
-    ghost use Rattle.std.specs.Prelude.{ℕ, ◌≡◌, ◌≤◌, IsTrue, IfSome};
+    ghost use Rattle.std.specs.Prelude.{ℕ, ◌≡◌, IsTrue, IfSome};
     ghost use Rattle.std.specs.List.{slice_range};
     ghost use Rattle.autfmt.specs.Cutter.{Cutting, cut_line, IsCutter};
 

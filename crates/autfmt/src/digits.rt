@@ -1,7 +1,6 @@
 //! The digits in front of some bytes, up to seven of them at once in a word. The steps are those of `core::dec2flt`,
 //! which has a loop around them for any number of digits; for numbers of states this is faster.
-ghost use Rattle.std.specs.Prelude.{◌≡◌, ℕ, ◌-◌, ◌*◌, ◌%◌, ◌^◌, ◌<◌, ◌≤◌, List, length, take, nat_le, IfSome};
-ghost use Rattle.std.specs.Str.Parse.{digits_value};
+ghost use Rattle.std.specs.Prelude.{◌≡◌, ℕ, ◌-◌, ◌*◌, ◌%◌, ◌^◌, ◌<◌, ◌≤◌, List, length, nat_le, IfSome};
 ghost use Rattle.core.specs.Int.Digits.{number_from_digits};
 ghost use Rattle.core.specs.Slice.Scan.{digits_from, flag_word, little_endian};
 ghost use Rattle.core.specs.Dec2flt.Digits.{IsEightDigits};

@@ -1,6 +1,6 @@
 //! The transitions that a reader holds: their labels in a table, and a triple of numbers for each.
-ghost use Rattle.std.specs.Prelude.{◌≡◌, ℕ, ◌+◌, ◌<◌, ◌≤◌, ◌↔◌, List, [], ◌∷◌, ◌++◌, length, vec_len, vec_capacity, IsTrue, IsSome, IfSome, IfNone, IfOk, OnOk, OnErr, MatchResult};
-ghost use Rattle.theory.specs.System.{Transition, IsLabel, IsAmong};
+ghost use Rattle.std.specs.Prelude.{◌≡◌, ◌+◌, ◌<◌, ◌≤◌, ◌↔◌, [], length, vec_len, vec_capacity, IsTrue, IsSome, IfSome, IfNone, IfOk, OnOk, MatchResult};
+ghost use Rattle.theory.specs.System.{IsLabel};
 ghost use Rattle.lts.specs.declared.limits.TheConstants.{MOST_LABELS};
 ghost use Rattle.autfmt.specs.declared.limits.TheConstants.{FILE_TRANSITIONS};
 ghost use Rattle.lts.specs.Labels.{IsNumber, Interns, Keeps};

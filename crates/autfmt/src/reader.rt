@@ -1,11 +1,11 @@
 //! The reader of a system's text: a header, then as many transitions as it promises, then the end.
 ghost use Rattle.std.specs.Prelude.{◌≡◌, ◌↔◌, ℕ, ◌+◌, ◌<◌, ◌≤◌, List, [], ◌∷◌, ◌++◌, length, vec_len, false, IsTrue, IfSome, Err, IfOk, IfErr, OnOk, MatchResult};
 ghost use Rattle.std.specs.Io.KnownBytes.{Consumes, IsAtEnd};
-ghost use Rattle.theory.specs.System.{System, Transition};
+ghost use Rattle.theory.specs.System.{Transition};
 ghost use Rattle.lts.specs.Lts.{InRange};
 ghost use Rattle.autfmt.specs.declared.limits.TheConstants.{FILE_STATES, FILE_TRANSITIONS};
 ghost use Rattle.autfmt.specs.Bounds.{Bounds};
-ghost use Rattle.autfmt.specs.Cutter.{Cutting, Feeds};
+ghost use Rattle.autfmt.specs.Cutter.{Feeds};
 ghost use Rattle.autfmt.specs.Faults.{FirstFault};
 ghost use Rattle.autfmt.specs.Readers.{IsTextFault, ReadsAs};
 ghost use Rattle.autfmt.specs.ReadSoFar.{ReadSoFar, HeldSoFar, ReadsOneMore, HoldsText};
@@ -111,8 +111,7 @@ fn read_text<R: Source>(
 {
     let mut cutter = Cutter::new();
     let promise = read_header(&mut cutter, r, lim)?;
-    let mut held = Held::new(alloc);
-    read_transitions(&mut cutter, r, promise, h, &mut held)?;
+    let held = read_transitions(alloc, &mut cutter, r, promise, h)?;
     let at_end = cutter.is_at_end(r)?;
     if !at_end {
         return Err(Fault::ExtraText(promise.transitions + 2));
@@ -140,32 +139,30 @@ fn read_header<R: Source>(cutter: &mut Cutter, r: &mut R, lim: &Limits) -> Resul
 
 /// Reads the promised transitions, and holds them.
 fn read_transitions<R: Source>(
+    alloc: Global,
     cutter: &mut Cutter,
     r: &mut R,
     promise: Promise,
     h: &Hidden,
-    held: &mut Held,
-) -> Result<(), Fault>
+) -> Result<Held, Fault>
     requires file { promise.transitions ≤ FILE_TRANSITIONS }
-    requires none { vec_len held.old.triples ≡ 0 }
-    requires few { length held.old.labels ≡ 0 }
     requires source { Feeds (R.rest r.old) (R.failures r.old) cutter.old }
     ensures transitions { (got : List ℕ) × Consumes (R.rest r.old) (R.rest r.new) got ×
-        ((bounds : Bounds) (given : List ℕ) →
-        HeldSoFar bounds h.now given promise (cutter.old, held.old) [] →
+        ((bounds : Bounds) (given : List ℕ) → ReadSoFar bounds given cutter.old promise [] →
         MatchResult result
-        (λ _. (es : List Transition) × HeldSoFar bounds h.now (given ++ got) promise (cutter.new, held.new) es)
+        (λ held. (es : List Transition) × HeldSoFar bounds h.now (given ++ got) promise (cutter.new, held) es)
         (Refuses bounds (given ++ got) (R.rest r.new) (R.failures r.new))) }
     ensures source { OnOk result (Feeds (R.rest r.new) (R.failures r.new) cutter.new) }
-    ensures len { OnOk result (vec_len held.new.triples ≡ promise.transitions) }
+    ensures len { IfOk result (λ held. vec_len held.triples ≡ promise.transitions) }
 {
+    let mut held = Held::new(alloc);
     for _found in 0..promise.transitions {
-        if take_usual(cutter, promise, h, held)? {
+        if take_usual(cutter, promise, h, &mut held)? {
             continue;
         }
-        read_transition(cutter, r, promise, h, held)?;
+        read_transition(cutter, r, promise, h, &mut held)?;
     }
-    Ok(())
+    Ok(held)
 }
 
 /// Takes the next line, a transition of those that were promised, where it lies and holds it, if it is written as

@@ -117,52 +117,51 @@ pub(crate) fn spell(label: &[u8]) -> Spelled
     }
 }
 
-/// Puts the line of a transition at `end`, and returns where it ends. `plain` says whether the label may stand without
-/// quotation marks, and `spelled` how lines have it, if it is known.
+/// A label, whether it may stand without quotation marks, and how lines have it, if that is known.
+#[derive(Clone, Copy)]
+pub(crate) struct Word<'a> {
+    pub label: &'a [u8],
+    pub plain: bool,
+    pub spelled: Option<&'a Spelled>,
+}
+
+/// Puts the line of a transition at `end`, and returns where it ends.
 pub(crate) fn append_transition(
     buffer: &mut [u8],
     end: usize,
     front: &Front,
-    label: &[u8],
-    plain: bool,
-    spelled: Option<&Spelled>,
+    word: Word<'_>,
     target: u32,
 ) -> usize
     requires room { end + LONGEST ≤ length buffer.old }
-    requires label { IsLabel label.now }
-    requires plain { plain ≡ is_plain label.now }
-    requires spelled { IfSome spelled (λ s. IsSpelled label.now s.now) }
+    requires label { IsLabel word.label.now }
+    requires plain { word.plain ≡ is_plain word.label.now }
+    requires spelled { IfSome word.spelled (λ s. IsSpelled word.label.now s.now) }
     ensures text { take result buffer.new ≡ take end buffer.old
-        ++ written_transition (record { source = front.now; label = label.now; target = target }) }
+        ++ written_transition (record { source = front.now; label = word.entry.label.now; target = target }) }
     ensures end { result ≤ end + LONGEST }
 {
     let end = front.put(buffer, end);
-    let end = append_word(buffer, end, label, plain, spelled);
+    let end = append_word(buffer, end, word);
     append_target(buffer, end, target)
 }
 
 /// Puts a label and the comma and the space after it at `end`, and returns where they end. If it is known how lines have
 /// it, all the room for that is copied, which takes no call.
-fn append_word(
-    buffer: &mut [u8],
-    end: usize,
-    label: &[u8],
-    plain: bool,
-    spelled: Option<&Spelled>,
-) -> usize
-    requires room { (end + SHORT ≤ length buffer.old) × (end + 4 + length label.now ≤ length buffer.old) }
-    requires plain { plain ≡ is_plain label.now }
-    requires spelled { IfSome spelled (λ s. IsSpelled label.now s.now) }
-    ensures text { take result buffer.new ≡ take end buffer.old ++ written_word label.now }
-    ensures end { (result ≤ end + SHORT) ⊎ (result ≤ end + 4 + length label.now) }
+fn append_word(buffer: &mut [u8], end: usize, word: Word<'_>) -> usize
+    requires room { (end + SHORT ≤ length buffer.old) × (end + 4 + length word.label.now ≤ length buffer.old) }
+    requires plain { word.plain ≡ is_plain word.label.now }
+    requires spelled { IfSome word.spelled (λ s. IsSpelled word.label.now s.now) }
+    ensures text { take result buffer.new ≡ take end buffer.old ++ written_word word.entry.label.now }
+    ensures end { (result ≤ end + SHORT) ⊎ (result ≤ end + 4 + length word.entry.label.now) }
 {
-    if let Some(spelled) = spelled {
+    if let Some(spelled) = word.spelled {
         if spelled.len > 0 {
             append(buffer, end, &spelled.bytes);
             return end + spelled.len as usize;
         }
     }
-    let end = append_label(buffer, end, label, plain);
+    let end = append_label(buffer, end, word.label, word.plain);
     append(buffer, end, b", ")
 }
 

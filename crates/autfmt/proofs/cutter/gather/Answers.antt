@@ -1,8 +1,8 @@
-use Rattle.std.proofs.Common.{[], take, drop, refl, sym, ◌∙◌, subst}
+use Rattle.std.proofs.Common.{[], take, drop, sym, ◌∙◌, subst}
 use Rattle.std.proofs.lemmas.Bool.{iff_false}
 use Rattle.std.proofs.lemmas.List.{take-append-drop, append-nil}
 use Rattle.autfmt.specs.Cutter.{IsPart}
-use Rattle.autfmt.proofs.Gathering.{feed_found, too_long, line_goes_on, IsPart-append}
+use Rattle.autfmt.proofs.Gathering.{feed_found, too_long, got_more, IsPart-append}
 use Rattle.autfmt.proofs.cutter.gather.Goals as goal
 
 pub returns-then-extend-clause-got : goal.returns-then-extend-clause-got
@@ -11,9 +11,9 @@ returns-then-extend-clause-got g c =
     let n = c.in_ok-n.n in
     let at = c.in-Some.at in
     let buf = c.take.new.buf in
-    feed_found _ _ _ c.args.buffer.now i.got.0 c.loop-n.buffer buf (take n buf) (take at (take n buf)) c.extend.new.self n at
-    i.got.1 i.got.2 i.part c.in_ok-n.ensures.bytes.0 c.in_ok-n.ensures.bound.0 refl c.in-Some.ensures.within
-    c.in-Some.ensures.line c.in-Some.ensures.feed refl (c.extend.ensures.fits.0 c.if-extend.true) c.if-extend.ensures.line
+    feed_found _ _ _ c.args.buffer.now i.got.0 c.loop-n.buffer buf c.extend.new.self n at i.got.1 i.got.2 i.part
+    c.in_ok-n.ensures.bytes.0 c.in_ok-n.ensures.bound.0 c.in-Some.ensures.within c.in-Some.ensures.line c.in-Some.ensures.feed
+    (c.extend.ensures.fits.0 c.if-extend.true) c.if-extend.ensures.line
 
 pub returns-in-Some-clause-got : goal.returns-in-Some-clause-got
 returns-in-Some-clause-got g c =
@@ -38,8 +38,9 @@ loop-n-preserved g c =
     let bytes = take c.in_ok-n.n c.take.new.buf in
     let now = c.if-not-extend.ensures.line in
     let fits = c.extend-in-None.ensures.fits.0 c.if-not-extend.false in
+    let (x, taken, same) = got_more _ _ _ c.args.buffer.now i.got.0 c.loop-n.buffer bytes i.got.1 i.got.2 c.in_ok-n.ensures.bytes.0 in
     record {
-      got = line_goes_on _ _ _ c.args.buffer.now i.got.0 c.loop-n.buffer bytes _ i.got.1 i.got.2 c.in_ok-n.ensures.bytes.0 now;
+      got = (x, taken, now ∙ sym same);
       part = subst IsPart (sym now) (IsPart-append c.loop-n.buffer bytes i.part c.in-None.ensures.none fits);
       sound = c.in_ok-n.ensures.failures;
       room = c.take.auto.buf ∙ i.room;

@@ -13,20 +13,20 @@ returns-in_err-advance-clause-line g c =
       s.0,
       s.1,
       λ given H so_far count.
-          rw (exit.1, exit.2) (hide_failed given _ H _ s.0 _ _ so_far (omega arith) (inl (omega arith)) failed (goes_on s.2.0) s.2.1),
+          rw (exit.1, exit.2) (hide_failed s.0 so_far _ _ (omega arith) (inl (omega arith)) failed (goes_on s.2.0) s.2.1),
     )
 
 pub returns-in-TooLong-clause-line : goal.returns-in-TooLong-clause-line
 returns-in-TooLong-clause-line g c =
     let s = rw c.in-TooLong.is at c.in_ok-advance.ensures.step in
     let sound = c.in_ok-advance.ensures.failures in
-    (s.0, s.1, λ given H so_far count. hide_too_long given _ H _ s.0 _ _ _ so_far count c.requires.more sound (goes_on s.2.0) s.2.1)
+    (s.0, s.1, λ given H so_far count. hide_too_long s.0 so_far _ _ _ count sound c.requires.more (goes_on s.2.0) s.2.1)
 
 pub returns-in-End-clause-line : goal.returns-in-End-clause-line
 returns-in-End-clause-line g c =
     let s = rw c.in-End.is at c.in_ok-advance.ensures.step in
     let few = c.requires.more in
-    (s.0, s.1, λ given H so_far count. hide_ends given _ H _ s.0 so_far (omega arith) s.2.none)
+    (s.0, s.1, λ given H so_far count. hide_ends s.0 so_far (omega arith) s.2.none)
 
 pub returns-in_err-label-clause-line : goal.returns-in_err-label-clause-line
 returns-in_err-label-clause-line g c =
@@ -35,7 +35,7 @@ returns-in_err-label-clause-line g c =
       s.0,
       s.1,
       λ given H so_far count. rw (exit.1, exit.2)
-          (hide_faulty given _ _ H _ s.0 _ _ _ _ so_far count c.requires.more c.in_ok-advance.ensures.failures (goes_on s.2.0)
+          (hide_faulty s.0 so_far _ _ _ count c.in_ok-advance.ensures.failures _ _ c.requires.more (goes_on s.2.0)
           (c.advance.ensures.end c.requires.source.end) s.2.1 (rw c.line.ensures at c.in_err-label.ensures.fault) c.in_err-label.ensures.kind),
     )
 
@@ -44,4 +44,4 @@ returns-clause-line g c =
     let s = rw c.in-Line.is at c.in_ok-advance.ensures.step in
     let a = c.in_ok-label.label.now in
     let good = rw c.line.ensures at c.in_ok-label.ensures.good in
-    (s.0, s.1, λ given H so_far count. (a, hide_good given _ _ H _ s.0 a _ so_far (goes_on s.2.0) s.2.1 good c.in_ok-add.ensures.added))
+    (s.0, s.1, λ given H so_far count. (a, hide_good s.0 so_far _ a _ (goes_on s.2.0) s.2.1 good c.in_ok-add.ensures.added))

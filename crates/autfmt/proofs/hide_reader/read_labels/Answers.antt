@@ -4,7 +4,7 @@ use Rattle.std.proofs.lemmas.Result.{err_from_is_err_and}
 use Rattle.std.proofs.KnownBytes.{Consumes-nil, Consumes-trans}
 use Rattle.autfmt.proofs.HideSteps.{HideReadSoFar-new, hide_ends, hide_behind, hide_end_failed}
 use Rattle.autfmt.proofs.ReaderSteps.{fresh_goes_on}
-use Rattle.autfmt.proofs.Taking.{hide_refuses_behind, hide_reads_behind}
+use Rattle.autfmt.proofs.Taking.{takes_more}
 use Rattle.autfmt.proofs.hide_reader.read_labels.Goals as goal
 
 pub loop-found-init : goal.loop-found-init
@@ -25,14 +25,15 @@ returns-in_err-some g c =
     let (before, taken, H, so_far, count) = c.loop-found.invariant.got in
     let (line, took, step) = c.in_err-some.ensures.line in
     let exit = err_from_is_err_and c.from_residual.result c.from_residual.ensures.1 in
-    rw (exit.1, exit.2) (hide_refuses_behind _ _ _ before line _ _ taken took (step before H so_far count))
+    rw (exit.1, exit.2) (takes_more _ _ _ _ _ _ before line taken took (step before H so_far count))
 
 pub returns-then-not-some : goal.returns-then-not-some
 returns-then-not-some g c =
     let (before, taken, H, so_far, count) = c.loop-found.invariant.got in
     let (line, took, step) = rw c.if-not-some.true at c.in_ok-some.ensures.line in
-    hide_reads_behind _ _ _ before line _ _ taken took (step before H so_far count)
-    (c.in_ok-some.ensures.last (ap Ok c.if-not-some.true)) c.in_ok-some.ensures.source.sound
+    let end = c.in_ok-some.ensures.last (ap Ok c.if-not-some.true) in
+    takes_more _ _ _ _ _ _ before line taken took
+    (record { read = step before H so_far count; at_end = end; sound = c.in_ok-some.ensures.source.sound })
 
 pub loop-found-preserved : goal.loop-found-preserved
 loop-found-preserved g c =
@@ -51,8 +52,8 @@ returns-in_err-at_end g c =
     let (last, took, none) = c.in_err-at_end.ensures.look in
     let exit = err_from_is_err_and c.from_residual-in_err-at_end.result c.from_residual-in_err-at_end.ensures.1 in
     rw (exit.1, exit.2)
-    (hide_refuses_behind _ _ _ before last _ _ taken took
-    (hide_end_failed before _ H _ last _ _ so_far (omega arith) c.in_err-at_end.ensures.failures
+    (takes_more _ _ _ _ _ _ before last taken took
+    (hide_end_failed last so_far _ _ (omega arith) c.in_err-at_end.ensures.failures
     (λ over. let a = c.is_at_end.ensures.over over in let b = c.in_err-at_end.was in cc) none))
 
 -- the end was found, and then it was not
@@ -63,8 +64,8 @@ pub returns-then-not-at_end : goal.returns-then-not-at_end
 returns-then-not-at_end g c =
     let (before, taken, H, so_far, count) = c.loop-found.invariant.got in
     let last = rw c.if-not-at_end.true at c.in_ok-at_end.ensures.look in
-    hide_refuses_behind _ _ _ before last.0 _ _ taken last.1
-    (hide_behind before _ H _ last.0 _ _ so_far (omega arith) c.in_ok-at_end.ensures.failures
+    takes_more _ _ _ _ _ _ before last.0 taken last.1
+    (hide_behind last.0 so_far _ _ _ count c.in_ok-at_end.ensures.failures (omega arith)
     (λ over. not_both c.is_at_end.result c.in_ok-at_end.at_end (c.is_at_end.ensures.over over) c.in_ok-at_end.was c.if-not-at_end.true)
     (last.2.3 refl))
 
@@ -72,6 +73,6 @@ pub returns : goal.returns
 returns g c =
     let (before, taken, H, so_far, count) = c.loop-found.invariant.got in
     let last = rw c.if-not-at_end.false at c.in_ok-at_end.ensures.look in
-    hide_reads_behind _ _ _ before last.0 _ _ taken last.1
-    (hide_ends before _ H _ last.0 so_far (omega arith) (last.2.2 refl))
-    (c.is_at_end.ensures.end c.loop-found.invariant.source.end last.2.1) c.in_ok-at_end.ensures.failures
+    let end = c.is_at_end.ensures.end c.loop-found.invariant.source.end last.2.1 in
+    let read = hide_ends last.0 so_far (omega arith) (last.2.2 refl) in
+    takes_more _ _ _ _ _ _ before last.0 taken last.1 (record { read = read; at_end = end; sound = c.in_ok-at_end.ensures.failures })

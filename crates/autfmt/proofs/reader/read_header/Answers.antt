@@ -10,7 +10,7 @@ returns-in_err-advance-clause-header g c =
       given = s.0;
       took = s.1;
       outcome = rw (p.1, p.2)
-          (header_failed c.args.lim.now c.args.cutter.now s.0 _ _ c.requires.fresh c.in_err-advance.ensures.failures s.2.1);
+          (header_failed _ _ s.0 _ _ c.requires.fresh c.in_err-advance.ensures.failures s.2.1);
     }
 
 pub returns-in-TooLong-clause-header : goal.returns-in-TooLong-clause-header
@@ -20,7 +20,7 @@ returns-in-TooLong-clause-header g c =
       given = s.0;
       took = s.1;
       outcome =
-          header_too_long c.args.lim.now c.args.cutter.now s.0 _ _ c.requires.fresh c.in_ok-advance.ensures.failures s.2.1;
+          header_too_long _ _ s.0 _ _ c.requires.fresh c.in_ok-advance.ensures.failures s.2.1;
     }
 
 pub returns-clause-header : goal.returns-clause-header
@@ -31,7 +31,7 @@ returns-clause-header g c =
       given = s.0;
       took = s.1;
       outcome =
-          header_answer c.args.lim.now c.args.cutter.now c.advance.new.self s.0 _ _ c.judge_header.result c.requires.fresh
+          header_answer _ _ s.0 _ _ c.requires.fresh c.advance.new.self c.judge_header.result
           c.in_ok-advance.ensures.failures end s.2.1 (rw c.line.ensures at c.judge_header.ensures.good)
           (rw c.line.ensures at c.judge_header.ensures.fault) c.judge_header.ensures.kind;
     }

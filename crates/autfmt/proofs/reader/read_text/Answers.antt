@@ -5,22 +5,19 @@ use Rattle.std.proofs.KnownBytes.{Consumes-trans}
 use Rattle.theory.specs.System.{Transition}
 use Rattle.autfmt.specs.declared.judge.Promise.{Promise}
 use Rattle.autfmt.specs.ReadSoFar.{HeldSoFar}
-use Rattle.autfmt.proofs.Holding.{Holds-new}
 use Rattle.autfmt.proofs.ReaderSteps.{end_failed, text_behind, text_ends, count_held}
-use Rattle.autfmt.proofs.Taking.{refuses_behind}
+use Rattle.autfmt.proofs.Taking.{takes_more}
 use Rattle.autfmt.proofs.reader.read_text.Given.{Over}
 use Rattle.autfmt.proofs.reader.read_text.Goals as goal
 use Rattle.autfmt.proofs.reader.read_text.Goals.{After-is_at_end}
 
-pub returns-in_err-read_transitions-clause-whole : goal.returns-in_err-read_transitions-clause-whole
-returns-in_err-read_transitions-clause-whole g c =
+pub returns-in_err-held-clause-whole : goal.returns-in_err-held-clause-whole
+returns-in_err-held-clause-whole g c =
     let first = c.in_ok-promise.ensures.header in
-    let (bytes, took, step) = c.in_err-read_transitions.ensures.transitions in
-    let held = Holds-new c.args.h.now _ c.new-held.result c.new-held.ensures.labels c.new-held.ensures.triples in
-    let exit =
-    err_from_is_err_and c.from_residual-in_err-read_transitions.result c.from_residual-in_err-read_transitions.ensures.1 in
+    let (bytes, took, step) = c.in_err-held.ensures.transitions in
+    let exit = err_from_is_err_and c.from_residual-in_err-held.result c.from_residual-in_err-held.ensures.1 in
     rw (exit.1, exit.2)
-    (refuses_behind _ _ _ _ _ first.given bytes _ _ first.took took (step c.args.lim.now first.given (first.outcome, held)))
+    (takes_more _ _ _ _ _ _ first.given bytes first.took took (step c.args.lim.now first.given first.outcome))
 
 -- what was read before the look behind the transitions
 module _ (g : Over) (c : After-is_at_end g) where
@@ -28,24 +25,23 @@ module _ (g : Over) (c : After-is_at_end g) where
   p = c.in_ok-promise.promise
 
   abbrev front : List ℕ
-  front = c.in_ok-promise.ensures.header.given ++ c.in_ok-read_transitions.ensures.transitions.0
+  front = c.in_ok-promise.ensures.header.given ++ c.in_ok-held.ensures.transitions.0
 
-  transitions : (es : List Transition) × HeldSoFar c.args.lim.now c.args.h.now front p (c.read_transitions.new.cutter, c.read_transitions.new.held) es
+  transitions : (es : List Transition) × HeldSoFar c.args.lim.now c.args.h.now front p (c.read_transitions.new.cutter, c.in_ok-held.held) es
   transitions =
       let first = c.in_ok-promise.ensures.header in
-      let held = Holds-new c.args.h.now p.states c.new-held.result c.new-held.ensures.labels c.new-held.ensures.triples in
-      c.in_ok-read_transitions.ensures.transitions.2 c.args.lim.now first.given (first.outcome, held)
+      c.in_ok-held.ensures.transitions.2 c.args.lim.now first.given first.outcome
 
   count : length transitions.0 ≡ p.transitions
   count =
-      count_held c.args.h.now p.states c.read_transitions.new.held transitions.0 p.transitions transitions.1.1
-      (sym c.in_ok-read_transitions.ensures.len)
+      count_held c.args.h.now p.states c.in_ok-held.held transitions.0 p.transitions transitions.1.1
+      (sym c.in_ok-held.ensures.len)
 
   took : (last : List ℕ) → Consumes (g.R.Source.rest c.read_transitions.new.r) (g.R.Source.rest c.is_at_end.new.r) last →
       Consumes (g.R.Source.rest c.args.r.now) (g.R.Source.rest c.is_at_end.new.r) (front ++ last)
   took last taken =
       let first = c.in_ok-promise.ensures.header in
-      let then = c.in_ok-read_transitions.ensures.transitions in
+      let then = c.in_ok-held.ensures.transitions in
       Consumes-trans _ _ _ front last (Consumes-trans _ _ _ first.given then.0 first.took then.1) taken
 
 pub returns-in_err-at_end-clause-whole : goal.returns-in_err-at_end-clause-whole
@@ -57,7 +53,7 @@ returns-in_err-at_end-clause-whole g c =
       given = front g at ++ last.0;
       took = took g at last.0 last.1;
       outcome = rw (exit.1, exit.2)
-          (end_failed c.args.lim.now (front g at) _ _ _ last.0 _ _ (transitions g at).1.0 (count g at) c.in_err-at_end.ensures.failures
+          (end_failed last.0 (transitions g at).1.0 _ _ (count g at) c.in_err-at_end.ensures.failures
           (λ over. let a = c.is_at_end.ensures.over over in let b = c.in_err-at_end.was in cc) last.2);
     }
 
@@ -69,7 +65,7 @@ returns-then-not-at_end-clause-whole g c =
       given = front g at ++ last.0;
       took = took g at last.0 last.1;
       outcome =
-          text_behind c.args.lim.now (front g at) _ _ _ last.0 _ _ (transitions g at).1.0 (count g at) c.in_ok-at_end.ensures.failures
+          text_behind last.0 (transitions g at).1.0 _ _ _ (count g at) c.in_ok-at_end.ensures.failures refl
           (λ over. let a = c.is_at_end.ensures.over over in let b = c.in_ok-at_end.was in let d = c.if-not-at_end.true in cc)
           (last.2.3 refl);
     }
@@ -79,5 +75,5 @@ returns-clause-whole g c =
     let at = (goal.at.returns-clause-whole g c).After-is_at_end in
     let last = rw c.if-not-at_end.false at c.in_ok-at_end.ensures.look in
     let (es, (so_far, held)) = transitions g at in
-    let read = text_ends c.args.lim.now (front g at) _ _ es last.0 so_far (count g at) (last.2.2 refl) in
+    let read = text_ends last.0 so_far (count g at) (last.2.2 refl) in
     record { given = front g at ++ last.0; took = took g at last.0 last.1; outcome = (es, read, held) }

@@ -22,7 +22,7 @@ returns-in_err-advance-clause-transition g c =
       s.0,
       s.1,
       λ bounds given es standing. let e = count g at es standing.1 in
-          rw (p.1, p.2) (transition_failed bounds given _ _ es s.0 _ _ standing.0 (omega arith) (inl (omega arith)) failed (goes_on s.2.0) s.2.1),
+          rw (p.1, p.2) (transition_failed s.0 standing.0 _ _ (omega arith) (inl (omega arith)) failed (goes_on s.2.0) s.2.1),
     )
 
 pub returns-in-TooLong-clause-transition : goal.returns-in-TooLong-clause-transition
@@ -33,7 +33,7 @@ returns-in-TooLong-clause-transition g c =
       s.0,
       s.1,
       λ bounds given es standing.
-          transition_too_long bounds given _ _ es s.0 _ _ _ standing.0 (count g at es standing.1) (omega arith) sound (goes_on s.2.0) s.2.1,
+          transition_too_long s.0 standing.0 _ _ _ (count g at es standing.1) sound (omega arith) (goes_on s.2.0) s.2.1,
     )
 
 pub returns-in-End-clause-transition : goal.returns-in-End-clause-transition
@@ -45,7 +45,7 @@ returns-in-End-clause-transition g c =
       s.0,
       s.1,
       λ bounds given es standing.
-          transition_missing bounds given _ _ _ es s.0 _ _ _ standing.0 (count g at es standing.1) (omega arith) sound end s.2,
+          transition_missing s.0 standing.0 _ _ _ (count g at es standing.1) sound _ (omega arith) end s.2,
     )
 
 pub returns-in_err-source-clause-transition : goal.returns-in_err-source-clause-transition
@@ -57,8 +57,8 @@ returns-in_err-source-clause-transition g c =
       s.0,
       s.1,
       λ bounds given es standing. rw (p.1, p.2)
-          (transition_faulty bounds given _ _ _ es s.0 _ _ _ _ standing.0 (count g at es standing.1) (omega arith)
-          c.in_ok-advance.ensures.failures (goes_on s.2.0) (c.advance.ensures.end c.requires.source.end) s.2.1 bad c.in_err-source.ensures.kind),
+          (transition_faulty s.0 standing.0 _ _ _ (count g at es standing.1) c.in_ok-advance.ensures.failures _ _ (omega arith)
+          (goes_on s.2.0) (c.advance.ensures.end c.requires.source.end) s.2.1 bad c.in_err-source.ensures.kind),
     )
 
 pub returns-in_err-add-clause-transition : goal.returns-in_err-add-clause-transition
@@ -69,7 +69,7 @@ returns-in_err-add-clause-transition g c =
       s.0,
       s.1,
       λ bounds given es standing. rw (p.1, p.2)
-          (transition_refused bounds given _ _ _ es s.0 _ _ standing.0 c.in_ok-advance.ensures.failures (goes_on s.2.0) end s.2.1),
+          (transition_refused s.0 standing.0 _ _ _ c.in_ok-advance.ensures.failures (goes_on s.2.0) end s.2.1),
     )
 
 -- the transition that was judged is among the states
@@ -92,6 +92,6 @@ returns-clause-transition g c =
       s.0,
       s.1,
       λ bounds given es standing.
-          let so_far = transition_good bounds given _ _ _ es s.0 e standing.0 (goes_on s.2.0) s.2.1 good among in
+          let so_far = transition_good s.0 standing.0 _ e (goes_on s.2.0) s.2.1 good among in
           (e, (so_far, Holds-add _ _ _ _ es e standing.1 among (rw c.shown.ensures.shown at c.in_ok-add.ensures.added))),
     )

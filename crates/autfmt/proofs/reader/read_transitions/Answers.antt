@@ -1,10 +1,11 @@
-use Rattle.std.proofs.Common.{[], ◌++◌, vec_len, sym, ap, arith}
+use Rattle.std.proofs.Common.{[], ◌++◌, length, vec_len, ap, arith}
 use Rattle.std.proofs.lemmas.List.{append_assoc, append-nil}
 use Rattle.std.proofs.lemmas.Bool.{both_ways}
 use Rattle.std.proofs.lemmas.Result.{err_from_is_err_and}
 use Rattle.std.proofs.KnownBytes.{Consumes-nil, Consumes-trans}
 use Rattle.autfmt.specs.declared.held.Held.{Held}
-use Rattle.autfmt.proofs.ReaderSteps.{no_memory_behind, goes_on, Refuses-same, HeldSoFar-same, HeldSoFar-push}
+use Rattle.autfmt.proofs.Holding.{Holds-new}
+use Rattle.autfmt.proofs.ReaderSteps.{no_memory_behind, goes_on, HeldSoFar-push}
 use Rattle.autfmt.proofs.reader.read_transitions.Goals as goal
 
 pub loop-found-init : goal.loop-found-init
@@ -12,10 +13,10 @@ loop-found-init g c = record {
   got = (
     [],
     Consumes-nil (g.R.Source.rest c.args.r.now),
-    λ bounds given standing. ([], HeldSoFar-same bounds _ given (given ++ []) _ _ _ [] (sym (append-nil given)) standing),
+    λ bounds given standing. ([], (rw (append-nil given) standing, Holds-new _ _ _ c.new-held.ensures.labels c.new-held.ensures.triples)),
   );
-  len = c.requires.none;
-  few = omega arith;
+  len = c.new-held.ensures.len;
+  few = omega (arith, ap length c.new-held.ensures.labels);
   source = c.requires.source;
 }
 
@@ -30,7 +31,7 @@ returns-in_err-read_transition-clause-transitions g c =
       λ bounds given standing.
           let now = so_far bounds given standing in
           let refused = step bounds (given ++ before) now.0 now.1 in
-          rw (p.1, p.2) (Refuses-same bounds _ _ _ _ _ (append_assoc given before line) refused),
+          rw (p.1, p.2, ← append_assoc given before line) refused,
     )
 
 pub returns-in_err-take_usual-clause-transitions : goal.returns-in_err-take_usual-clause-transitions
@@ -51,7 +52,7 @@ loop-found-preserved g c =
     let (before, taken, so_far) = c.loop-found.invariant.got in
     let same = c.in_ok-take_usual.ensures.none (both_ways _ c.if-branch.false) in
     let (line, took, step) = rw (same.0, same.1) at c.in_ok-read_transition.ensures.transition in
-    let next = HeldSoFar-push _ _ _ _ _ _ _ _ before line so_far step in
+    let next = HeldSoFar-push _ _ _ _ _ _ _ before line so_far step in
     record {
       got = (before ++ line, Consumes-trans _ _ _ before line taken took, next);
       len =
@@ -67,7 +68,7 @@ pub loop-found-preserved-then-branch : goal.loop-found-preserved-then-branch
 loop-found-preserved-then-branch g c =
     let (before, taken, so_far) = c.loop-found.invariant.got in
     let yes = c.if-branch.true in
-    let next = HeldSoFar-push _ _ _ _ _ _ _ _ before [] so_far (c.in_ok-take_usual.ensures.taken yes) in
+    let next = HeldSoFar-push _ _ _ _ _ _ _ before [] so_far (c.in_ok-take_usual.ensures.taken yes) in
     record {
       got = (before ++ [], Consumes-trans _ _ _ before [] taken (Consumes-nil _), next);
       len = let e = c.in_ok-take_usual.ensures.len yes in let i = c.loop-found.invariant.len in omega arith;

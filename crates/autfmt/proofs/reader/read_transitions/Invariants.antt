@@ -3,7 +3,7 @@ use Rattle.std.specs.Io.KnownBytes.{Consumes}
 use Rattle.theory.specs.System.{Transition}
 use Rattle.autfmt.specs.Bounds.{Bounds}
 use Rattle.autfmt.specs.Cutter.{Feeds}
-use Rattle.autfmt.specs.ReadSoFar.{HeldSoFar}
+use Rattle.autfmt.specs.ReadSoFar.{ReadSoFar, HeldSoFar}
 use Rattle.autfmt.proofs.reader.read_transitions.Given as goal
 
 abbrev pub invariant-loop-found : goal.invariant-loop-found
@@ -11,7 +11,7 @@ invariant-loop-found g l = record {
   got :
       (bs : List ℕ) × Consumes (g.R.Source.rest l.initial.r) (g.R.Source.rest l.r) bs ×
       ((bounds : Bounds) (given : List ℕ) →
-      HeldSoFar bounds l.h given l.promise (l.initial.cutter, l.initial.held) [] →
+      ReadSoFar bounds given l.initial.cutter l.promise [] →
       (es : List Transition) × HeldSoFar bounds l.h (given ++ bs) l.promise (l.cutter, l.held) es);
   len : vec_len l.held.triples ≡ l._found;
   few : length l.held.labels ≤ vec_len l.held.triples;

@@ -19,5 +19,5 @@ returns-clause-taken c =
     } in
     λ _ bounds given es standing.
     let so_far =
-    transition_good bounds given c.args.cutter.now (behind front) _ es [] e standing.0 (goes_on_in_front _ _ _ _ _ _ front open_at) (cuts_in_front _ _ _ _ _ front) front.spelled among in
+    transition_good [] standing.0 (behind front) e (goes_on_in_front _ _ _ _ _ _ front open_at) (cuts_in_front _ _ _ _ _ front) front.spelled among in
     (e, (rw (c.pass.ensures.line front.line _ front.whole refl) so_far, Holds-add _ _ _ _ es e standing.1 among (rw c.shown.ensures.shown at (c.in_ok-is_added.ensures.added yes))))

@@ -14,7 +14,7 @@ append_transition-waiting-requires-clause-plain g c =
 
 pub append_transition-waiting-requires-clause-spelled : goal.append_transition-waiting-requires-clause-spelled
 append_transition-waiting-requires-clause-spelled g c =
-    spelled_of_entry c.args.entries.now c.args.spelled.now _ _ c.get-spelled.result c.get-spelled.ensures.lookup (c.requires.ranks c.loop-source.source-index (0, 0, 0) (omega arith)) c.requires.spelled
+    spelled_of_entry c.args.entries.now c.args.spelled.now _ _ c.get.result c.get.ensures.lookup (c.requires.ranks c.loop-source.source-index (0, 0, 0) (omega arith)) c.requires.spelled
 
 pub loop-source-preserved : goal.loop-source-preserved
 loop-source-preserved g c = (
