@@ -2,7 +2,7 @@
 use Rattle.std.proofs.Common.{◌≡◌, ◌≢◌, ◌∙◌, ◌⊎◌, ◌↔◌, ℕ, ◌+◌, ◌<◌, ◌≤◌, Bool, true, false, IsTrue, [], length, get_or, slice_index, replicate, set, refl, sym, ap, subst, inl, inr, arith}
 use Rattle.std.proofs.lemmas.Bool.{cases_eq, cases_lt}
 use Rattle.std.proofs.lemmas.List.{get_or-set_same, get_or-set_other, get_or-replicate, length-set, length-replicate, length_push}
-use Rattle.theory.specs.System.{System, Reachable}
+use Rattle.theory.specs.System.{System, IsSystem, Reachable}
 use Rattle.theory.specs.Bisimulation.{Bisimilar}
 use Rattle.theory.specs.declared.relation.Relation.{Relation}
 use Rattle.theory.specs.Blocks.{EachTwo}
@@ -11,6 +11,7 @@ use Rattle.quotient.specs.Marked.{IsMarked}
 use Rattle.quotient.specs.Numbers.{IsNumbering, BeginsClass, JoinsClass, TakesState}
 use Rattle.quotient.specs.declared.numbering.Numbering.{Numbering}
 use Rattle.quotient.specs.declared.numbering.TheConstants.{NONE}
+use Rattle.theory.proofs.CallerLemmas.{is_leader_itself}
 use Rattle.quotient.proofs.Lists.{each_pushed}
 
 -- what the next state leaves, whatever the relation: numbers for as many blocks, and at most one number more
@@ -37,7 +38,7 @@ pub record CountingLaws (rel : Relation) (A : System) : Type 0 where
 -- what holds of a system whose blocks are the classes of bisimilar states
 pub record Laws (rel : Relation) (A : System) (block : ℕ → ℕ) : Type 0 where
   pub same : EachTwo A (λ s t. (block s ≡ block t) ↔ Bisimilar rel A s A t)
-  pub first : A.first < A.states
+  pub system : IsSystem A
   pub first_reached : Reachable A A.first
   pub below : (s : ℕ) → Reachable A s → s < A.states
   pub number : (s : ℕ) → Reachable A s → (n : ℕ) × Number rel A s n
@@ -57,7 +58,6 @@ pub record Earlier (rel : Relation) (A : System) (block : ℕ → ℕ) (s t coun
 pub record Taken (rel : Relation) (A : System) (block : ℕ → ℕ) (s : ℕ) (n : Numbering) : Type 0 where
   pub numbers_long : length n.numbers.items ≡ s
   pub leads_long : length n.leads.items ≡ s
-  pub within : (t : ℕ) → t < A.states → block t < length n.by_block.items
   pub first : slice_index n.by_block.items (block A.first) ≢ NONE
   pub seen : (t : ℕ) → t < s → Reachable A t → slice_index n.by_block.items (block t) ≢ NONE
   pub known : (t : ℕ) → t < A.states → slice_index n.by_block.items (block t) ≢ NONE →
@@ -65,15 +65,11 @@ pub record Taken (rel : Relation) (A : System) (block : ℕ → ℕ) (s : ℕ) (
   pub numbers : (t : ℕ) → t < s → Reachable A t → Number rel A t (slice_index n.numbers.items t) × (slice_index n.numbers.items t < n.count)
   pub leaders : (t : ℕ) → t < s → IsMarked n.leads.items t ↔ IsLeader rel A t
   pub counted : (c : ℕ) × HowMany (Other rel A s) c × (n.count ≡ 1 + c)
-  pub few : n.count ≤ s + 1
   pub fewer : A.first < s → n.count ≤ s
 
 module _ (rel : Relation) (A : System) (block : ℕ → ℕ) (laws : Laws rel A block) where
   bisimilar : (s t : ℕ) → s < A.states → t < A.states → block s ≡ block t → Bisimilar rel A s A t
-  bisimilar s t ls lt e = (laws.same s t ls lt).0 e
-
-  share : (s t : ℕ) → s < A.states → t < A.states → Bisimilar rel A s A t → block s ≡ block t
-  share s t ls lt b = (laws.same s t ls lt).1 b
+  bisimilar s t ls lt = (laws.same s t ls lt).0
 
   -- reachable states of one block have one number
   number_shared : (u t n : ℕ) → Reachable A u → Reachable A t → block u ≡ block t → Number rel A u n → Number rel A t n
@@ -84,7 +80,7 @@ module _ (rel : Relation) (A : System) (block : ℕ → ℕ) (laws : Laws rel A 
       subst (Number rel A t) (sym same) own.1
 
   first_leads : Leader rel A A.first A.first
-  first_leads = inl (bisimilar A.first A.first laws.first laws.first refl, refl)
+  first_leads = inl (bisimilar A.first A.first laws.system.first laws.system.first refl, refl)
 
   first_leader : IsLeader rel A A.first
   first_leader = (A.first, laws.first_reached, first_leads)
@@ -92,20 +88,15 @@ module _ (rel : Relation) (A : System) (block : ℕ → ℕ) (laws : Laws rel A 
   -- the first state reached in its block leads it
   own_leader : (s : ℕ) → Reachable A s → block A.first ≢ block s → ((u : ℕ) → u < s → Reachable A u → block u ≢ block s) → Leader rel A s s
   own_leader s way apart new = inr (
-    λ b. apart (sym (share s A.first (laws.below s way) laws.first b)),
+    λ b. apart (sym ((laws.same s A.first (laws.below s way) laws.system.first).1 b)),
     (
       (way, bisimilar s s (laws.below s way) (laws.below s way) refl),
       λ k fellow. elim (cases_lt k s) [
-        | inl l ↦ absurd (new k l fellow.0 (sym (share s k (laws.below s way) (laws.below k fellow.0) fellow.1)))
+        | inl l ↦ absurd (new k l fellow.0 (sym ((laws.same s k (laws.below s way) (laws.below k fellow.0)).1 fellow.1)))
         | inr l ↦ l
       ],
     ),
   )
-
-  -- a leader other than the first state is reachable
-  other_reached : (s : ℕ) → IsLeader rel A s → s ≢ A.first → Reachable A s
-  other_reached s (t, way, inl (b, e)) other = absurd (other e)
-  other_reached s (t, way, inr (apart, least)) other = least.0.0
 
   -- a state with an earlier one in its block is no leader, unless it is the first state
   not_other : (s count k : ℕ) → s < A.states → Earlier rel A block s s count k → ¬ (IsLeader rel A s × (s ≢ A.first))
@@ -113,10 +104,10 @@ module _ (rel : Relation) (A : System) (block : ℕ → ℕ) (laws : Laws rel A 
   not_other s count k ls e ((t, way, inr (apart, (fellow, least))), other) =
       let lt : t < A.states = laws.below t way in
       let lu : e.member < A.states = laws.below e.member e.reached in
-      let to : block t ≡ block e.member = share t s lt ls fellow.1 ∙ sym e.fellow in
+      let to : block t ≡ block e.member = (laws.same t s lt ls).1 fellow.1 ∙ sym e.fellow in
       elim e.early [
         | inl low ↦ absurd (omega (arith, low, least e.member (e.reached, bisimilar t e.member lt lu to)))
-        | inr f ↦ apart (bisimilar t A.first lt laws.first (to ∙ ap block f))
+        | inr f ↦ apart (bisimilar t A.first lt laws.system.first (to ∙ ap block f))
       ]
 
   earlier_on : (s t k count more : ℕ) → count ≤ more → Earlier rel A block s t count k → Earlier rel A block (s + 1) t more k
@@ -131,10 +122,10 @@ module _ (rel : Relation) (A : System) (block : ℕ → ℕ) (laws : Laws rel A 
 
   -- the state s has an earlier one in its block
   module _ (s : ℕ) (old new : Numbering) (reached first : Bool) (is_first : IsTrue first ↔ (s ≡ A.first)) (is_reached : IsTrue reached ↔ Reachable A s)
-      (ls : s < A.states) (h : Taken rel A block s old) (f : JoinsClass (block s) reached first old new) where
+      (ls : s < A.states) (few : old.count ≤ s + 1) (h : Taken rel A block s old) (f : JoinsClass (block s) reached first old new) where
     follows_not_other : ¬ (IsLeader rel A s × (s ≢ A.first))
     follows_not_other (lead, other) =
-        let way : Reachable A s = other_reached s lead other in
+        let way : Reachable A s = (is_leader_itself rel A laws.system s lead).0 in
         not_other s old.count (slice_index old.by_block.items (block s)) ls (h.known s ls (f.known (is_reached.1 way))) (lead, other)
 
     follows_leader : IsTrue first ↔ IsLeader rel A s
@@ -152,7 +143,6 @@ module _ (rel : Relation) (A : System) (block : ℕ → ℕ) (laws : Laws rel A 
     Taken-follows = record {
       numbers_long = rw f.numbers (omega (arith, length_push {X = ℕ}, h.numbers_long));
       leads_long = rw f.leads (omega (arith, length_push {X = Bool}, h.leads_long));
-      within = rw f.by_block h.within;
       first = rw f.by_block h.first;
       seen = rw f.by_block (λ t l way. elim (cases_eq t s) [
         | inl e ↦ subst (λ x. slice_index old.by_block.items (block x) ≢ NONE) (sym e) (f.known (is_reached.1 (subst (Reachable A) e way)))
@@ -163,13 +153,13 @@ module _ (rel : Relation) (A : System) (block : ℕ → ℕ) (laws : Laws rel A 
           (slice_index old.by_block.items (block s)) 0 s h.numbers_long h.numbers follows_number);
       leaders = rw f.leads (each_pushed (λ t b. IsTrue b ↔ IsLeader rel A t) old.leads.items first false s h.leads_long h.leaders follows_leader);
       counted = (h.counted.0, laws.counting.kept s h.counted.0 follows_not_other h.counted.1, f.count ∙ h.counted.2);
-      few = omega (arith, f.count, h.few);
-      fewer = λ l. omega (arith, f.count, h.few);
+      fewer = λ l. omega (arith, f.count, few);
     }
 
   -- the state s is the first one reached in its block
   module _ (s : ℕ) (old new : Numbering) (reached : Bool) (is_reached : IsTrue reached ↔ Reachable A s)
-      (ls : s < A.states) (low : s + 1 < NONE) (h : Taken rel A block s old) (o : BeginsClass (block s) reached old new) where
+      (ls : s < A.states) (low : s + 1 < NONE) (few : old.count ≤ s + 1) (within : block s < length old.by_block.items)
+      (h : Taken rel A block s old) (o : BeginsClass (block s) reached old new) where
     opens_way : Reachable A s
     opens_way = is_reached.0 o.way
 
@@ -190,10 +180,10 @@ module _ (rel : Relation) (A : System) (block : ℕ → ℕ) (laws : Laws rel A 
     opens_number = (s, opens_leader, inr (opens_other, h.counted.0, h.counted.1, h.counted.2))
 
     opens_some : old.count ≢ NONE
-    opens_some e = absurd (omega (arith, e, h.few, h.fewer, low))
+    opens_some e = absurd (omega (arith, e, few, h.fewer, low))
 
     opens_at : slice_index new.by_block.items (block s) ≡ old.count
-    opens_at = rw o.by_block (get_or-set_same old.by_block.items (block s) old.count 0 (h.within s ls))
+    opens_at = rw o.by_block (get_or-set_same old.by_block.items (block s) old.count 0 within)
 
     opens_elsewhere : (t : ℕ) → block t ≢ block s → slice_index new.by_block.items (block t) ≡ slice_index old.by_block.items (block t)
     opens_elsewhere t d = rw o.by_block (get_or-set_other old.by_block.items (block s) (block t) old.count 0 d)
@@ -220,17 +210,13 @@ module _ (rel : Relation) (A : System) (block : ℕ → ℕ) (laws : Laws rel A 
     opens_seen : (t : ℕ) → t < s + 1 → Reachable A t → slice_index new.by_block.items (block t) ≢ NONE
     opens_seen t l way e = elim (cases_eq (block t) (block s)) [
       | inl f ↦ opens_some (sym (opens_here t f) ∙ e)
-      | inr d ↦ h.seen t (opens_below t l (λ f. d (ap block f))) way (sym (opens_elsewhere t d) ∙ e)
+      | inr d ↦ h.seen t (let other : t ≢ s = λ f. d (ap block f) in omega (arith, l, other)) way (sym (opens_elsewhere t d) ∙ e)
     ]
-      where
-        opens_below : (t : ℕ) → t < s + 1 → t ≢ s → t < s
-        opens_below t l d = omega (arith, l, d)
 
     pub Taken-opens : Taken rel A block (s + 1) new
     Taken-opens = record {
       numbers_long = rw o.numbers (omega (arith, length_push {X = ℕ}, h.numbers_long));
       leads_long = rw o.leads (omega (arith, length_push {X = Bool}, h.leads_long));
-      within = rw o.by_block (λ t l. omega (arith, length-set {A = ℕ}, h.within t l));
       first = λ e. h.first (sym (opens_elsewhere A.first opens_apart) ∙ e);
       seen = opens_seen;
       known = opens_known;
@@ -239,7 +225,6 @@ module _ (rel : Relation) (A : System) (block : ℕ → ℕ) (laws : Laws rel A 
       leaders = rw o.leads (each_pushed (λ t b. IsTrue b ↔ IsLeader rel A t) old.leads.items true false s h.leads_long h.leaders
           (λ x. opens_is_leader, λ x. refl));
       counted = (h.counted.0 + 1, laws.counting.one s h.counted.0 opens_is_leader opens_other h.counted.1, omega (arith, o.count, h.counted.2));
-      few = omega (arith, o.count, h.few);
       fewer = λ l. omega (arith, o.count, h.fewer (let d = opens_other in omega (arith, l, d)));
     }
 
@@ -249,7 +234,6 @@ module _ (rel : Relation) (A : System) (block : ℕ → ℕ) (laws : Laws rel A 
   Taken-start count n within by_block numbers leads one = record {
     numbers_long = ap length numbers;
     leads_long = ap length leads;
-    within = rw by_block (λ t l. omega (arith, length-set {A = ℕ}, length-replicate {A = ℕ}, within t l));
     first = rw by_block (λ e. absurd (omega (arith, e, at)));
     seen = λ t l. absurd (omega (arith, l));
     known = λ t l some. elim (cases_eq (block t) (block A.first)) [
@@ -268,12 +252,11 @@ module _ (rel : Relation) (A : System) (block : ℕ → ℕ) (laws : Laws rel A 
     numbers = λ t l. absurd (omega (arith, l));
     leaders = λ t l. absurd (omega (arith, l));
     counted = (0, laws.counting.none, one);
-    few = omega (arith, one);
     fewer = λ l. absurd (omega (arith, l));
   }
     where
       at : get_or (set (replicate count NONE) (block A.first) 0) (block A.first) 0 ≡ 0
-      at = get_or-set_same (replicate count NONE) (block A.first) 0 0 (omega (arith, length-replicate {A = ℕ}, within A.first laws.first))
+      at = get_or-set_same (replicate count NONE) (block A.first) 0 0 (omega (arith, length-replicate {A = ℕ}, within A.first laws.system.first))
 
   -- when all states were taken, they have their numbers
   pub Taken-end : (n : Numbering) → Taken rel A block A.states n → IsNumbering rel A n
@@ -284,16 +267,14 @@ module _ (rel : Relation) (A : System) (block : ℕ → ℕ) (laws : Laws rel A 
     below = λ s way. (h.numbers s (laws.below s way) way).1;
     leader = h.leaders;
     counted = subst (HowMany (IsLeader rel A)) (sym h.counted.2) (laws.counting.all h.counted.0 h.counted.1);
-    few = h.fewer laws.first;
+    few = h.fewer laws.system.first;
   }
-
-  taken_either : (s : ℕ) (old new : Numbering) (reached first : Bool) → (IsTrue first ↔ (s ≡ A.first)) → (IsTrue reached ↔ Reachable A s) →
-      s < A.states → s + 1 < NONE → Taken rel A block s old → TakesState (block s) reached first old new → Taken rel A block (s + 1) new
-  taken_either s old new reached first is_first is_reached ls low h (inl o) = Taken-opens s old new reached is_reached ls low h o
-  taken_either s old new reached first is_first is_reached ls low h (inr f) = Taken-follows s old new reached first is_first is_reached ls h f
 
   -- one state more
   pub Taken-adds : (s b : ℕ) (old new : Numbering) (reached first : Bool) → b ≡ block s → (IsTrue first ↔ (s ≡ A.first)) → (IsTrue reached ↔ Reachable A s) →
-      s < A.states → s + 1 < NONE → Taken rel A block s old → TakesState b reached first old new → Taken rel A block (s + 1) new
-  Taken-adds s b old new reached first at is_first is_reached ls low h adds =
-      taken_either s old new reached first is_first is_reached ls low h (subst (λ x. TakesState x reached first old new) at adds)
+      s < A.states → s + 1 < NONE → old.count ≤ s + 1 → block s < length old.by_block.items →
+      Taken rel A block s old → TakesState b reached first old new → Taken rel A block (s + 1) new
+  Taken-adds s b old new reached first at is_first is_reached ls low few within h adds = elim (subst (λ x. TakesState x reached first old new) at adds) [
+    | inl o ↦ Taken-opens s old new reached is_reached ls low few within h o
+    | inr f ↦ Taken-follows s old new reached first is_first is_reached ls few h f
+  ]

@@ -1,9 +1,10 @@
 -- What holds of any lists: what they contain one after the other, and with one element more.
-use Rattle.std.proofs.Common.{◌≡◌, ◌≢◌, ◌∙◌, ◌↔◌, ℕ, ◌+◌, ◌-◌, ◌<◌, List, [], ◌∷◌, ◌++◌, length, get_or, Contains, refl, sym, subst, inl, inr, arith}
+use Rattle.std.proofs.Common.{◌≡◌, ◌≢◌, ◌↔◌, ℕ, suc, ◌+◌, ◌<◌, List, [], ◌∷◌, ◌++◌, length, get_or, Contains, sym, subst, inl, inr, arith}
 use Rattle.std.specs.List.{AllPairs, flat_map}
-use Rattle.std.proofs.lemmas.Bool.{cases_eq, cases_lt}
-use Rattle.std.proofs.lemmas.List.{length-append, get_or_push, get_or_append_left, get_or-append_right, get_or_default}
-use Rattle.std.proofs.lemmas.List.Elements.{Contains-append_left, Contains-append_right, Contains-append_cases}
+use Rattle.std.proofs.lemmas.Bool.{cases_eq}
+use Rattle.std.proofs.lemmas.List.{get_or_push, get_or_append_left}
+use Rattle.std.proofs.lemmas.List.Elements.{All-append, Contains-get_or, Contains-append_left, Contains-append_right, Contains-append_cases}
+use Rattle.std.proofs.lemmas.List.Kept.{AllPairs-cons}
 use Rattle.theory.proofs.CallerLemmas.{contains_here, contains_there, contains_cases, contains_none}
 
 -- the lists of a list's elements, one after the other, have what one of them has
@@ -38,25 +39,12 @@ both_append xs ys us vs x one other = (
 -- lists of different elements that have none in common, one after the other
 pub apart_append : {X : Type 0} (xs ys : List X) → AllPairs (λ x y. x ≢ y) xs → AllPairs (λ x y. x ≢ y) ys →
     ((x : X) → Contains xs x → ¬ Contains ys x) → AllPairs (λ x y. x ≢ y) (xs ++ ys)
-apart_append {X} xs ys h g apart i j d low high e = elim (cases_lt j (length xs)) [
-  | inl lj ↦ h i j d low lj (sym (get_or_append_left xs ys d i (omega (arith, low, lj))) ∙ (e ∙ get_or_append_left xs ys d j lj))
-  | inr gj ↦ elim (cases_lt i (length xs)) [
-    | inl li ↦
-        let same : get_or xs i d ≡ get_or ys (j - length xs) d =
-        sym (get_or_append_left xs ys d i li) ∙ (e ∙ get_or-append_right xs ys (length xs) j d refl gj) in
-        apart (get_or xs i d) (i, li, get_or_same xs i d li)
-        (j - length xs, omega (arith, high, gj, length-append xs ys), at_value ys (j - length xs) d (get_or xs i d) (omega (arith, high, gj, length-append xs ys)) (sym same))
-    | inr gi ↦
-        g (i - length xs) (j - length xs) d (omega (arith, low, gi)) (omega (arith, high, gj, length-append xs ys))
-        (sym (get_or-append_right xs ys (length xs) i d refl gi) ∙ (e ∙ get_or-append_right xs ys (length xs) j d refl gj))
-  ]
-]
-  where
-    get_or_same : (zs : List X) (k : ℕ) (d : X) → k < length zs → get_or zs k (get_or zs k d) ≡ get_or zs k d
-    get_or_same zs k d l = get_or_default zs k (get_or zs k d) d l
-
-    at_value : (zs : List X) (k : ℕ) (d z : X) → k < length zs → get_or zs k d ≡ z → get_or zs k z ≡ z
-    at_value zs k d z l e = get_or_default zs k z d l ∙ e
+apart_append [] ys h g apart = g
+apart_append (x ∷ xs) ys h g apart =
+    AllPairs-cons (λ y z. y ≢ z) x (xs ++ ys)
+    (All-append (λ y. x ≢ y) xs ys (λ k d l. h 0 (suc k) d (omega arith) (omega arith))
+    (λ k d l e. apart x (contains_here x xs) (subst (Contains ys) (sym e) (Contains-get_or ys k d l))))
+    (apart_append xs ys (λ i j d low high. h (suc i) (suc j) d (omega arith) (omega arith)) g (λ y c. apart y (contains_there x xs y c)))
 
 -- what holds of each element holds of each with one more
 pub each_pushed : {T : Type 0} (P : ℕ → T → Type 0) (xs : List T) (x d : T) (s : ℕ) → length xs ≡ s → ((t : ℕ) → t < s → P t (get_or xs t d)) → P s x →

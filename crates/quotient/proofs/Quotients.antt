@@ -1,26 +1,25 @@
 -- What enough rows show between numbers is the quotient.
-use Rattle.std.proofs.Common.{◌≡◌, ◌≢◌, ◌∙◌, ◌↔◌, ℕ, zero, suc, ◌+◌, ◌<◌, ◌≤◌, ◌==◌, Bool, true, false, not, Option, None, Some, List, [], length, map, get_or, slice_index, Contains, Result, Ok, Err, IfOk, refl, sym, ap, subst, inl, inr, arith}
-use Rattle.std.specs.List.{AllPairs, flat_map, range_with_len}
-use Rattle.std.proofs.lemmas.Bool.{and_parts, eqb-true, eq-eqb, both_ways}
+use Rattle.std.proofs.Common.{◌≡◌, ◌≢◌, ◌∙◌, ◌↔◌, ℕ, ◌<◌, ◌≤◌, ◌==◌, Bool, true, false, Option, None, Some, List, [], length, map, get_or, slice_index, Contains, IsPermutation, Result, Ok, Err, IfOk, refl, sym, ap, subst, arith}
+use Rattle.std.specs.List.{AllPairs}
+use Rattle.std.proofs.lemmas.Bool.{and_parts, eqb-true, eq-eqb, both_ways, not-true, not_from_false, false_from_ne_true}
 use Rattle.std.proofs.lemmas.List.{length-map, get_or-map, get_or_default}
-use Rattle.std.proofs.lemmas.List.Elements.{All-contains, Contains-get_or, Contains-append_cases}
-use Rattle.std.proofs.lemmas.List.Kept.{AllPairs-filter}
-use Rattle.std.proofs.lemmas.List.Sorted.{Contains-permutation, IsPermutation-sym}
+use Rattle.std.proofs.lemmas.List.Elements.{All-contains, Contains-get_or}
+use Rattle.std.proofs.lemmas.List.Sorted.{IsPermutation-map, IsPermutation-sym}
 use Rattle.theory.specs.System.{System, Transition, Step, Reachable, internal}
 use Rattle.theory.specs.Bisimulation.{Bisimilar}
 use Rattle.theory.specs.declared.relation.Relation.{Relation}
 use Rattle.theory.specs.declared.relation.Relation.TheVariants.{Strong, Branching}
-use Rattle.theory.specs.Quotient.{Fellow, Leader, IsLeader, Number, Stands, IsDropped, ShowsNothing, Quotient}
+use Rattle.theory.specs.Quotient.{Fellow, Leader, Number, Stands, IsDropped, ShowsNothing, Quotient}
 use Rattle.lts.specs.Labels.{text_of, IsTable}
-use Rattle.lts.specs.Lts.{Triple, source_of, label_of, target_of, row_of, transition_of, system_from, system_of, grouped, IsGrouping, IsTriple, InRange, IsLts, Grouped}
+use Rattle.lts.specs.Lts.{Triple, source_of, label_of, target_of, row_of, transition_of, system_from, system_of, IsGrouping, IsTriple, InRange, IsLts, Grouped}
 use Rattle.quotient.specs.Marked.{IsMarked}
 use Rattle.quotient.specs.Reading.{sources_of, IsDroppedLabel}
 use Rattle.quotient.specs.Numbers.{IsNumbering}
 use Rattle.quotient.specs.Triples.{Member, between_numbers, is_left_out, IsShownBelow, AreMembers, HasShown}
 use Rattle.quotient.proofs.Members.{members_show}
 use Rattle.quotient.specs.declared.numbering.Numbering.{Numbering}
+use Rattle.theory.proofs.CallerLemmas.{leader_fellow, is_leader_itself, quotient_reordered}
 use Rattle.lts.proofs.CallerLemmas.{contains_mapped, mapped_contains}
-use Rattle.quotient.proofs.Lists.{apart_append}
 use Rattle.quotient.proofs.Rows.{ShownPlace, place_of, shown_place}
 
 -- transitions of different triples differ, if their labels are in the table
@@ -37,36 +36,17 @@ transitions_differ labels es table within once i j d low high same =
     table.different (label_of x) (label_of y) (within x (Contains-get_or es i (0, 0, 0) li)) (within y (Contains-get_or es j (0, 0, 0) lj)) (ap (λ t. t.label) e) in
     once i j (0, 0, 0) low lj (λ k. (ap (λ t. t.source) e k, label k, ap (λ t. t.target) e k))
 
--- rows one after the other, if a row has the transitions that start at its state
-module _ (es : List Triple) (sources : (s : ℕ) (x : Triple) → Contains (row_of s es) x ↔ (Contains es x × (source_of x ≡ s))) where
-  rows_from : (a k : ℕ) (x : Triple) → Contains (flat_map (λ s. row_of s es) (range_with_len a k)) x → a ≤ source_of x
-  rows_from a zero x c = absurd (omega (arith, c.1))
-  rows_from a (suc k) x c = elim (Contains-append_cases (row_of a es) (flat_map (λ s. row_of s es) (range_with_len (a + 1) k)) x c) [
-    | inl d ↦ omega (arith, ((sources a x).0 d).1)
-    | inr d ↦ omega (arith, rows_from (a + 1) k x d)
-  ]
-
-  rows_differ : AllPairs (λ x y. x ≢ y) es → (a k : ℕ) → AllPairs (λ x y. x ≢ y) (flat_map (λ s. row_of s es) (range_with_len a k))
-  rows_differ once a zero = λ i j d low high. absurd (omega (arith, high))
-  rows_differ once a (suc k) =
-      apart_append (row_of a es) (flat_map (λ s. row_of s es) (range_with_len (a + 1) k))
-      (AllPairs-filter (λ x y. x ≢ y) (λ e. source_of e == a) es once) (rows_differ once (a + 1) k)
-      (λ x c d. omega (arith, ((sources a x).0 c).1, rows_from (a + 1) k x d))
-
--- the laws of the theory about leaders and numbers
-pub record NumberLaws (rel : Relation) (A : System) : Type 0 where
-  pub leader : (s : ℕ) → Reachable A s → (l : ℕ) × Leader rel A s l
-  pub one_number : (s m n : ℕ) → Number rel A s m → Number rel A s n → m ≡ n
-  pub classes : (s t m n : ℕ) → Reachable A s → Reachable A t → Number rel A s m → Number rel A t n → (m ≡ n) ↔ Bisimilar rel A s A t
-  pub below : (Q : System) (s n : ℕ) → Quotient rel A Q → Number rel A s n → n < Q.states
-
--- these, those about what is reachable, and those of rows, at this system
+-- the laws of the theory and those of rows, at this system
 pub record Laws (rel : Relation) (g : Grouped) : Type 0 where
   pub lts : IsLts g
   pub reached_first : Reachable (system_of g) g.first
   pub reached_on : (s : ℕ) (a : List ℕ) (t : ℕ) → Reachable (system_of g) s → Step (system_of g) s a t → Reachable (system_of g) t
   pub below : (s : ℕ) → Reachable (system_of g) s → s < g.states
-  pub numbers : NumberLaws rel (system_of g)
+  pub leader : (s : ℕ) → Reachable (system_of g) s → (l : ℕ) × Leader rel (system_of g) s l
+  pub one_number : (s m n : ℕ) → Number rel (system_of g) s m → Number rel (system_of g) s n → m ≡ n
+  pub classes : (s t m n : ℕ) → Reachable (system_of g) s → Reachable (system_of g) t →
+      Number rel (system_of g) s m → Number rel (system_of g) t n → (m ≡ n) ↔ Bisimilar rel (system_of g) s (system_of g) t
+  pub states : (Q : System) (s n : ℕ) → Quotient rel (system_of g) Q → Number rel (system_of g) s n → n < Q.states
   pub shows_all : (s t : ℕ) (a : List ℕ) (u : ℕ) → Bisimilar rel (system_of g) s (system_of g) t →
       ((b : List ℕ) (v : ℕ) → Step (system_of g) s b v → ¬ ShowsNothing rel (system_of g) s b v) →
       Step (system_of g) t a u → ¬ ShowsNothing rel (system_of g) t a u → (v : ℕ) × Step (system_of g) s a v × Bisimilar rel (system_of g) u (system_of g) v
@@ -90,25 +70,11 @@ pub record AreEnough (g : Grouped) (numbers : List ℕ) (sources : List Bool) : 
   pub each : (s : ℕ) (a : List ℕ) (t : ℕ) → Reachable (system_of g) s → Step (system_of g) s a t → Twin g numbers sources s a t
 
 module _ (rel : Relation) (g : Grouped) (n : Numbering) (laws : Laws rel g) (num : IsNumbering rel (system_of g) n) where
-  -- a leader is reachable
-  leader_reached : (s : ℕ) → IsLeader rel (system_of g) s → Reachable (system_of g) s
-  leader_reached s (t, way, inl (b, e)) = subst (Reachable (system_of g)) (sym e) laws.reached_first
-  leader_reached s (t, way, inr (apart, least)) = least.0.0
-
-  -- what leads s is reachable and bisimilar to s
-  leader_fellow : (s l : ℕ) → Leader rel (system_of g) s l → Fellow rel (system_of g) s l
-  leader_fellow s l (inl (b, e)) = subst (Fellow rel (system_of g) s) (sym e) (laws.reached_first, b)
-  leader_fellow s l (inr (apart, least)) = least.0
-
   -- bisimilar states have one number
   same_number : (s t : ℕ) → Reachable (system_of g) s → Reachable (system_of g) t → Bisimilar rel (system_of g) s (system_of g) t →
       slice_index n.numbers.items t ≡ slice_index n.numbers.items s
   same_number s t ws wt b =
-      sym ((laws.numbers.classes s t (slice_index n.numbers.items s) (slice_index n.numbers.items t) ws wt (num.number s ws) (num.number t wt)).1 b)
-
-  -- a place in a row is a step
-  in_place : (s : ℕ) (e : Triple) → Contains (row_of s g.places) e → Step (system_of g) s (text_of g.labels (label_of e)) (target_of e)
-  in_place s e c = (laws.steps s (text_of g.labels (label_of e)) (target_of e)).1 (e, c, refl, refl)
+      sym ((laws.classes s t (slice_index n.numbers.items s) (slice_index n.numbers.items t) ws wt (num.number s ws) (num.number t wt)).1 b)
 
   -- the reachable states are enough
   reached_enough : (reached : List Bool) → ((s : ℕ) → s < g.states → IsMarked reached s ↔ Reachable (system_of g) s) → AreEnough g n.numbers.items reached
@@ -128,10 +94,10 @@ module _ (rel : Relation) (g : Grouped) (n : Numbering) (laws : Laws rel g) (num
 -- the leaders are enough for strong bisimulation: a leader answers each step of its class
 leaders_enough : (g : Grouped) (n : Numbering) → Laws Strong g → IsNumbering Strong (system_of g) n → AreEnough g n.numbers.items n.leads.items
 leaders_enough g n laws num = record {
-  only = λ s l marked. leader_reached Strong g n laws num s ((num.leader s l).0 marked);
+  only = λ s l marked. (is_leader_itself Strong (system_of g) laws.lts.system s ((num.leader s l).0 marked)).0;
   each = λ s a t way step.
-      let found : (l : ℕ) × Leader Strong (system_of g) s l = laws.numbers.leader s way in
-      let fellow : Fellow Strong (system_of g) s found.0 = leader_fellow Strong g n laws num s found.0 found.1 in
+      let found : (l : ℕ) × Leader Strong (system_of g) s l = laws.leader s way in
+      let fellow : Fellow Strong (system_of g) s found.0 = leader_fellow Strong (system_of g) laws.lts.system s found.0 found.1 in
       let low : found.0 < g.states = laws.below found.0 fellow.0 in
       let answer = fellow.1.1.forth s found.0 fellow.1.2 a t step in
       record {
@@ -174,15 +140,6 @@ left_out_is Branching labels (Some k) table number x low = (
       rw (label, loop) refl,
 )
 
--- not true is false
-stays_if : (b : Bool) → ¬ (b ≡ true) → not b ≡ true
-stays_if true never = absurd (never refl)
-stays_if false never = refl
-
-pub goes_if : (b : Bool) → not b ≡ true → ¬ (b ≡ true)
-goes_if true stays out = absurd (both_ways false refl stays)
-goes_if false stays out = absurd (both_ways false refl out)
-
 -- what a quotient is made of: the triples that enough rows of a numbered system show, each once
 pub record Parts (rel : Relation) (g : Grouped) (n : Numbering) (sources : List Bool) (dropped : Option ℕ) (es : List Triple) : Type 0 where
   pub laws : Laws rel g
@@ -209,32 +166,24 @@ Parts-shown rel g n sources dropped es members laws numbering enough drops are h
 
 module _ (rel : Relation) (g : Grouped) (n : Numbering) (sources : List Bool) (dropped : Option ℕ) (es : List Triple)
     (p : Parts rel g n sources dropped es) where
-  -- a triple has a label of the table
-  shown_label : (x : Triple) → Contains es x → label_of x < length g.labels
-  shown_label x c =
-      let h = (p.exactly x).0 c in
-      let from : ShownPlace n.numbers.items dropped g.places h.0 x = place_of n.numbers.items dropped g.places h.0 x h.3 in
-      let triple = All-contains (IsTriple (length g.labels) g.states) g.places from.place p.laws.lts.in_range.each ((p.laws.sources h.0 g.places from.place).0 from.in_row).0 in
-      subst (λ y. label_of y < length g.labels) from.is triple.label
-
-  -- it stands for a step of a reachable state
-  triple_stands : (x : Triple) → Contains es x → Stands rel (system_of g) (transition_of g.labels x)
-  triple_stands x c =
+  -- a triple has a label of the table, stands for a step of a reachable state, and is not dropped
+  triple_is : (x : Triple) → Contains es x →
+      (label_of x < length g.labels) × Stands rel (system_of g) (transition_of g.labels x) × ¬ IsDropped rel (transition_of g.labels x)
+  triple_is x c =
       let h = (p.exactly x).0 c in
       let from : ShownPlace n.numbers.items dropped g.places h.0 x = place_of n.numbers.items dropped g.places h.0 x h.3 in
       let way : Reachable (system_of g) h.0 = p.enough.only h.0 h.1 h.2 in
-      let step = in_place rel g n p.laws p.numbering h.0 from.place from.in_row in
-      let on : Reachable (system_of g) (target_of from.place) =
-      p.laws.reached_on h.0 (text_of g.labels (label_of from.place)) (target_of from.place) way step in
-      subst (λ y. Stands rel (system_of g) (transition_of g.labels y)) from.is
-      (h.0, target_of from.place, way, step, p.numbering.number h.0 way, p.numbering.number (target_of from.place) on)
-
-  -- and is not dropped
-  triple_stays : (x : Triple) → Contains es x → ¬ IsDropped rel (transition_of g.labels x)
-  triple_stays x c gone =
-      let h = (p.exactly x).0 c in
-      let from : ShownPlace n.numbers.items dropped g.places h.0 x = place_of n.numbers.items dropped g.places h.0 x h.3 in
-      goes_if (is_left_out dropped x) from.stays ((left_out_is rel g.labels dropped p.laws.lts.table p.drops x (shown_label x c)).1 gone)
+      let label = text_of g.labels (label_of from.place) in
+      let step = (p.laws.steps h.0 label (target_of from.place)).1 (from.place, from.in_row, refl, refl) in
+      let on : Reachable (system_of g) (target_of from.place) = p.laws.reached_on h.0 label (target_of from.place) way step in
+      let stands : Stands rel (system_of g) (transition_of g.labels (between_numbers n.numbers.items h.0 from.place)) =
+      (h.0, target_of from.place, way, step, p.numbering.number h.0 way, p.numbering.number (target_of from.place) on) in
+      let triple = All-contains (IsTriple (length g.labels) g.states) g.places from.place p.laws.lts.in_range.each ((p.laws.sources h.0 g.places from.place).0 from.in_row).0 in
+      let low = subst (λ y. label_of y < length g.labels) from.is triple.label in (
+        low,
+        subst (λ y. Stands rel (system_of g) (transition_of g.labels y)) from.is stands,
+        λ gone. both_ways _ (not-true _ from.stays) ((left_out_is rel g.labels dropped p.laws.lts.table p.drops x low).1 gone),
+      )
 
   -- what stands for a step of a reachable state and is not dropped is shown
   stands_shown : (e : Transition) → Stands rel (system_of g) e → ¬ IsDropped rel e → (x : Triple) × Contains es x × (transition_of g.labels x ≡ e)
@@ -243,14 +192,14 @@ module _ (rel : Relation) (g : Grouped) (n : Numbering) (sources : List Bool) (d
       let place = (p.laws.steps twin.source e.label twin.target).0 twin.step in
       let x : Triple = between_numbers n.numbers.items twin.source place.0 in
       let on : Reachable (system_of g) t = p.laws.reached_on s e.label t way step in
-      let source : source_of x ≡ e.source = twin.from ∙ p.laws.numbers.one_number s (slice_index n.numbers.items s) e.source (p.numbering.number s way) hs in
+      let source : source_of x ≡ e.source = twin.from ∙ p.laws.one_number s (slice_index n.numbers.items s) e.source (p.numbering.number s way) hs in
       let target : target_of x ≡ e.target =
-      ap (slice_index n.numbers.items) place.3 ∙ twin.to ∙ p.laws.numbers.one_number t (slice_index n.numbers.items t) e.target (p.numbering.number t on) ht in
+      ap (slice_index n.numbers.items) place.3 ∙ twin.to ∙ p.laws.one_number t (slice_index n.numbers.items t) e.target (p.numbering.number t on) ht in
       let is : transition_of g.labels x ≡ e = λ i. record { source = source i; label = place.2 i; target = target i } in
       let triple = All-contains (IsTriple (length g.labels) g.states) g.places place.0 p.laws.lts.in_range.each ((p.laws.sources twin.source g.places place.0).0 place.1).0 in
       let out : ¬ (is_left_out dropped x ≡ true) =
       λ gone. stays (subst (IsDropped rel) is ((left_out_is rel g.labels dropped p.laws.lts.table p.drops x triple.label).0 gone)) in
-      let shown = shown_place n.numbers.items dropped g.places twin.source place.0 place.1 (stays_if (is_left_out dropped x) out) in
+      let shown = shown_place n.numbers.items dropped g.places twin.source place.0 place.1 (not_from_false _ (false_from_ne_true _ out)) in
       (x, (p.exactly x).1 (twin.source, twin.low, twin.marked, shown), is)
 
   pub quotient_of : Quotient rel (system_of g) (system_from 0 n.count g.labels es)
@@ -259,34 +208,32 @@ module _ (rel : Relation) (g : Grouped) (n : Numbering) (sources : List Bool) (d
     first = refl;
     transitions = λ e. (
       λ c.
-          let x = mapped_contains (transition_of g.labels) es e c in (
-            subst (Stands rel (system_of g)) x.2 (triple_stands x.0 x.1),
-            subst (λ f. ¬ IsDropped rel f) x.2 (triple_stays x.0 x.1),
-          ),
+          let x = mapped_contains (transition_of g.labels) es e c in
+          let is = triple_is x.0 x.1 in
+          subst (λ f. Stands rel (system_of g) f × ¬ IsDropped rel f) x.2 (is.1, is.2),
       λ h.
           let x = stands_shown e h.0 h.1 in
           subst (Contains (map (transition_of g.labels) es)) x.2 (contains_mapped (transition_of g.labels) es x.0 x.1),
     );
-    once = transitions_differ g.labels es p.laws.lts.table shown_label p.once;
+    once = transitions_differ g.labels es p.laws.lts.table (λ x c. (triple_is x c).0) p.once;
   }
 
-  -- the numbers of a triple are below the count
-  numbers_below : (x : Triple) → Stands rel (system_of g) (transition_of g.labels x) → (source_of x < n.count) × (target_of x < n.count)
-  numbers_below x (s, t, way, step, hs, ht) = (
-    p.laws.numbers.below (system_from 0 n.count g.labels es) s (source_of x) quotient_of hs,
-    p.laws.numbers.below (system_from 0 n.count g.labels es) t (target_of x) quotient_of ht,
-  )
-
+  -- its numbers are below the count
   shown_triple : (x : Triple) → Contains es x → IsTriple (length g.labels) n.count x
   shown_triple x c =
-      let low = numbers_below x (triple_stands x c) in
-      record { source = low.0; label = shown_label x c; target = low.1 }
+      let (label, (s, t, way, step, from, to), stays) = triple_is x c in
+      let Q = system_from 0 n.count g.labels es in
+      record {
+        source = p.laws.states Q s (source_of x) quotient_of from;
+        label = label;
+        target = p.laws.states Q t (target_of x) quotient_of to;
+      }
 
   -- its parts have a place in memory
   pub quotient_in_range : length es ≤ length g.places → InRange (length g.labels) 0 n.count es
   quotient_in_range few =
       let low : slice_index n.numbers.items g.first < n.count =
-      p.laws.numbers.below (system_from 0 n.count g.labels es) g.first (slice_index n.numbers.items g.first) quotient_of (p.numbering.number g.first p.laws.reached_first) in
+      p.laws.states (system_from 0 n.count g.labels es) g.first (slice_index n.numbers.items g.first) quotient_of (p.numbering.number g.first p.laws.reached_first) in
       record {
         first_below = omega (arith, low);
         few_states = omega (arith, p.numbering.few, p.laws.lts.in_range.few_states);
@@ -297,27 +244,14 @@ module _ (rel : Relation) (g : Grouped) (n : Numbering) (sources : List Bool) (d
 -- the system that is built of them
 module _ (rel : Relation) (g : Grouped) (n : Numbering) (sources : List Bool) (dropped : Option ℕ) (es : List Triple)
     (p : Parts rel g n sources dropped es) (labels : List (List ℕ)) (same : labels ≡ g.labels) where
-  built : (q : Grouped) → q.first ≡ 0 → q.states ≡ n.count → q.labels ≡ labels → q.places ≡ grouped n.count es → IsGrouping es q.places →
-      Quotient rel (system_of g) (system_of q)
-  built q first states table places grouping =
-      let regrouped : Parts rel g n sources dropped q.places = record {
-        laws = p.laws;
-        numbering = p.numbering;
-        enough = p.enough;
-        drops = p.drops;
-        exactly = λ x. (
-          λ c. (p.exactly x).0 (Contains-permutation q.places es x (IsPermutation-sym es q.places grouping.same) c),
-          λ h. Contains-permutation es q.places x grouping.same ((p.exactly x).1 h),
-        );
-        once = subst (AllPairs (λ x y. x ≢ y)) (sym places) (rows_differ es (λ s. p.laws.sources s es) p.once 0 n.count);
-      } in
-      subst (λ f. Quotient rel (system_of g) (system_from f q.states q.labels q.places)) (sym first)
-      (subst (λ k. Quotient rel (system_of g) (system_from 0 k q.labels q.places)) (sym states)
-      (subst (λ t. Quotient rel (system_of g) (system_from 0 n.count t q.places)) (sym (table ∙ same))
-      (quotient_of rel g n sources dropped q.places regrouped)))
+  built : (q : Grouped) → q.first ≡ 0 → q.states ≡ n.count → q.labels ≡ labels → IsGrouping es q.places → Quotient rel (system_of g) (system_of q)
+  built q first states table grouping =
+      let moved = IsPermutation-sym _ _ (IsPermutation-map (transition_of g.labels) es q.places grouping.same) in
+      quotient_reordered rel (system_of g) (system_from 0 n.count g.labels es) (system_of q) first states
+      (subst (λ t. IsPermutation (map (transition_of t) q.places) (map (transition_of g.labels) es)) (sym (table ∙ same)) moved)
+      (quotient_of rel g n sources dropped es p)
 
   pub IfOk-quotient : {E : Type 0} (r : Result Grouped E) → IfOk r (λ q. q.first ≡ 0) → IfOk r (λ q. q.states ≡ n.count) →
-      IfOk r (λ q. q.labels ≡ labels) → IfOk r (λ q. q.places ≡ grouped n.count es) → IfOk r (λ q. IsGrouping es q.places) →
-      IfOk r (λ q. Quotient rel (system_of g) (system_of q))
-  IfOk-quotient (Ok q) first states table places grouping = built q first states table places grouping
-  IfOk-quotient (Err e) first states table places grouping = tt
+      IfOk r (λ q. q.labels ≡ labels) → IfOk r (λ q. IsGrouping es q.places) → IfOk r (λ q. Quotient rel (system_of g) (system_of q))
+  IfOk-quotient (Ok q) first states table grouping = built q first states table grouping
+  IfOk-quotient (Err e) first states table grouping = tt

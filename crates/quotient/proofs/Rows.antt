@@ -1,6 +1,5 @@
 -- What a row shows between numbers: one place more, and what a triple that is shown stands for.
-use Rattle.std.proofs.Common.{◌≡◌, ◌∙◌, ℕ, ◌≤◌, true, false, cond, not, Option, List, [], ◌∷◌, ◌++◌, length, map, Contains, sym, ap, arith}
-use Rattle.std.specs.List.{filter}
+use Rattle.std.proofs.Common.{◌≡◌, ◌∙◌, ℕ, ◌≤◌, true, false, cond, not, Option, List, [], ◌∷◌, ◌++◌, length, map, Contains, refl, ap, arith}
 use Rattle.std.proofs.lemmas.List.Elements.{filter-append}
 use Rattle.std.proofs.lemmas.List.{length-map, map-append, append-nil, append_assoc}
 use Rattle.std.proofs.lemmas.List.Sums.{length-filter, count_by-le-length}
@@ -42,21 +41,14 @@ module _ (numbers : List ℕ) (dropped : Option ℕ) (places : List Triple) (s :
 module _ (numbers : List ℕ) (dropped : Option ℕ) (s : ℕ) (old new : List Triple) (e x : Triple) (more : new ≡ old ++ e ∷ [])
     (is : x ≡ between_numbers numbers s e) where
   shown_more : shown_in numbers dropped s new ≡ shown_in numbers dropped s old ++ cond (not (is_left_out dropped x)) (x ∷ []) []
-  shown_more =
-      ap (shown_in numbers dropped s) more
-      ∙ ap (filter (λ y. not (is_left_out dropped y))) (map-append (between_numbers numbers s) old (e ∷ []))
-      ∙ filter-append (λ y. not (is_left_out dropped y)) (map (between_numbers numbers s) old) (between_numbers numbers s e ∷ [])
-      ∙ ap (λ z. shown_in numbers dropped s old ++ cond (not (is_left_out dropped z)) (z ∷ []) []) (sym is)
+  shown_more = rw (more, map-append, filter-append, is) refl
 
   -- after what the list had
   pub shown_left_out : (had list : List Triple) → list ≡ had ++ shown_in numbers dropped s old → is_left_out dropped x ≡ true →
       list ≡ had ++ shown_in numbers dropped s new
-  shown_left_out had list h out =
-      let same = ap (λ b. shown_in numbers dropped s old ++ cond (not b) (x ∷ []) []) out in
-      h ∙ ap (λ r. had ++ r) (sym (shown_more ∙ same ∙ append-nil (shown_in numbers dropped s old)))
+  shown_left_out had list h out = rw (shown_more, out, append-nil) h
 
   pub shown_stays : (had list pushed : List Triple) → list ≡ had ++ shown_in numbers dropped s old → pushed ≡ list ++ x ∷ [] →
       is_left_out dropped x ≡ false → pushed ≡ had ++ shown_in numbers dropped s new
   shown_stays had list pushed h e stays =
-      let same = ap (λ b. shown_in numbers dropped s old ++ cond (not b) (x ∷ []) []) stays in
-      e ∙ ap (λ r. r ++ x ∷ []) h ∙ append_assoc had (shown_in numbers dropped s old) (x ∷ []) ∙ ap (λ r. had ++ r) (sym (shown_more ∙ same))
+      rw (shown_more, stays) (e ∙ ap (λ r. r ++ x ∷ []) h ∙ append_assoc had (shown_in numbers dropped s old) (x ∷ []))

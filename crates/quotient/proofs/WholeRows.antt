@@ -1,6 +1,7 @@
 -- A row that leaves nothing out shows what each row of its number does.
 use Rattle.std.proofs.Common.{◌≡◌, ◌∙◌, ◌↔◌, ℕ, ◌<◌, Bool, true, not, Option, List, length, map, slice_index, Contains, refl, sym, ap, subst, arith}
 use Rattle.std.specs.List.{filter}
+use Rattle.std.proofs.lemmas.Bool.{both_ways, not-true}
 use Rattle.std.proofs.lemmas.List.{length-map}
 use Rattle.std.proofs.lemmas.List.Elements.{All-contains}
 use Rattle.std.proofs.lemmas.List.Filters.{length-filter_both}
@@ -16,7 +17,7 @@ use Rattle.quotient.specs.Numbers.{IsNumbering}
 use Rattle.quotient.specs.Triples.{IsMemberBelow, Member, between_numbers, is_left_out, shown_by, LeavesNothingOut, ShowsAlso}
 use Rattle.quotient.specs.declared.numbering.Numbering.{Numbering}
 use Rattle.lts.proofs.CallerLemmas.{contains_mapped, contains_passing}
-use Rattle.quotient.proofs.Quotients.{Laws, AreEnough, left_out_is, goes_if}
+use Rattle.quotient.proofs.Quotients.{Laws, AreEnough, left_out_is}
 use Rattle.quotient.proofs.Rows.{ShownPlace, place_of, shown_place}
 
 -- a step between numbers is dropped exactly if the step of the states is inert
@@ -49,7 +50,7 @@ module _ (rel : Relation) (g : Grouped) (n : Numbering) (laws : Laws rel g) (num
       let on = laws.reached_on s (text_of g.labels (label_of e)) (target_of e) way step in
       let triple = All-contains (IsTriple (length g.labels) g.states) g.places e laws.lts.in_range.each ((laws.sources s g.places e).0 c).0 in
       let gone = left_out_is rel g.labels dropped laws.lts.table drops x triple.label in
-      let same = laws.numbers.classes s (target_of e) (source_of x) (target_of x) way on (num.number s way) (num.number (target_of e) on) in
+      let same = laws.classes s (target_of e) (source_of x) (target_of x) way on (num.number s way) (num.number (target_of e) on) in
       let inert = dropped_is rel A g.labels x s (target_of e) (text_of g.labels (label_of e)) refl same in
       (λ out. inert.0 (gone.0 out), λ is. gone.1 (inert.1 is))
 
@@ -64,12 +65,12 @@ module _ (rel : Relation) (g : Grouped) (n : Numbering) (laws : Laws rel g) (num
       let a = text_of g.labels (label_of e) in
       let step = (laws.steps t a (target_of e)).1 (e, from.in_row, refl, refl) in
       let stays : ¬ (is_left_out dropped (between_numbers numbers t e) ≡ true) =
-      λ out. goes_if (is_left_out dropped x) from.stays (ap (is_left_out dropped) (sym from.is) ∙ out) in
+      λ out. both_ways _ (not-true _ from.stays) (ap (is_left_out dropped) (sym from.is) ∙ out) in
       let none : (b : List ℕ) (v : ℕ) → Step A s b v → ¬ ShowsNothing rel A s b v = λ b v own inert.
       let place = (laws.steps s b v).0 own in
       whole_row numbers dropped g.places s whole place.0 place.1
       ((out_is s place.0 ws place.1).1 (subst (λ y. ShowsNothing rel A s y (target_of place.0)) (sym place.2) (subst (ShowsNothing rel A s b) (sym place.3) inert))) in
-      let alike = (laws.numbers.classes s t (slice_index numbers s) (slice_index numbers t) ws wt (num.number s ws) (num.number t wt)).0 same in
+      let alike = (laws.classes s t (slice_index numbers s) (slice_index numbers t) ws wt (num.number s ws) (num.number t wt)).0 same in
       let made = laws.shows_all s t a (target_of e) alike none step (λ inert. stays ((out_is t e wt from.in_row).1 inert)) in
       let place = (laws.steps s a made.0).0 made.1 in
       let f = place.0 in
@@ -77,7 +78,7 @@ module _ (rel : Relation) (g : Grouped) (n : Numbering) (laws : Laws rel g) (num
       let ons = laws.reached_on s a made.0 ws made.1 in
       let target : slice_index numbers (target_of f) ≡ slice_index numbers (target_of e) =
       ap (slice_index numbers) place.3
-      ∙ sym ((laws.numbers.classes (target_of e) made.0 (slice_index numbers (target_of e)) (slice_index numbers made.0) on ons
+      ∙ sym ((laws.classes (target_of e) made.0 (slice_index numbers (target_of e)) (slice_index numbers made.0) on ons
       (num.number (target_of e) on) (num.number made.0 ons)).1 made.2) in
       let label : label_of f ≡ label_of e =
       laws.lts.table.different (label_of f) (label_of e) (in_table s f place.1) (in_table t e from.in_row) place.2 in

@@ -3,8 +3,8 @@ ghost use Rattle.std.specs.Prelude.{◌↔◌, ◌+◌, ◌*◌, length, IsTrue,
 ghost use Rattle.theory.specs.Bisimulation.{Equivalent};
 ghost use Rattle.theory.specs.Blocks.{Turns};
 ghost use Rattle.theory.specs.Union.{union_of};
-ghost use Rattle.lts.specs.Meter.{IsFresh, on_ok};
 ghost use Rattle.lts.specs.Lts.{system_of};
+ghost use Rattle.lts.specs.Meter.{IsFresh, on_ok};
 ghost use Rattle.lts.specs.Union.{FitTogether};
 ghost use Rattle.quotient.specs.Visits.{KeepsTo};
 

@@ -67,6 +67,8 @@ impl Search {
         ensures visits { Costs (M.counted m.old) (M.counted m.new) 0 0 (length (row_of s l.now.places)) }
     {
         theory::steps_keep_reachable();
+        lts::rows_follow();
+        lts::rows_are_steps();
         l.known();
         let (start, end) = l.row(s);
         for k in start..end {

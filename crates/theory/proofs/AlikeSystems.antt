@@ -96,49 +96,65 @@ signature_alike Branching A B same blocks s a b (u, t, path, step, at, shown) = 
   shown,
 )
 
-same_signature_alike : (rel : Relation) (A B : System) → SameSteps A B → (blocks : ℕ → ℕ) (s t : ℕ)
-    → SameSignature rel A blocks s t → SameSignature rel B blocks s t
-same_signature_alike rel A B same blocks s t h = λ a b. (
-  λ x. there t a b ((h a b).0 (back s a b x)),
-  λ x. there s a b ((h a b).1 (back t a b x)),
-)
-  where
-    there : (u : ℕ) (a : List ℕ) (b : ℕ) → Signature rel A blocks u a b → Signature rel B blocks u a b
-    there = signature_alike rel A B same blocks
+-- by one relation on A the same is shown under any blocks as by two on B, which has as many states
+pub record SameSignatures (one two : Relation) (A B : System) : Type 0 where
+  pub states : A.states ≡ B.states
+  pub shown : (blocks : ℕ → ℕ) (s : ℕ) (a : List ℕ) (b : ℕ) → Signature one A blocks s a b ↔ Signature two B blocks s a b
 
-    back : (u : ℕ) (a : List ℕ) (b : ℕ) → Signature rel B blocks u a b → Signature rel A blocks u a b
-    back = signature_alike rel B A (same_steps_sym A B same) blocks
+signatures_alike : (rel : Relation) (A B : System) → SameSteps A B → SameSignatures rel rel A B
+signatures_alike rel A B same = record {
+  states = same.states;
+  shown = λ blocks s a b.
+      (signature_alike rel A B same blocks s a b, signature_alike rel B A (same_steps_sym A B same) blocks s a b);
+}
 
--- the same states
-each_two_alike : (A B : System) → SameSteps A B → (P : ℕ → ℕ → Type 0) → EachTwo A P → EachTwo B P
-each_two_alike A B same P h s t ls lt =
-    h s t (subst (λ n. s < n) (sym same.states) ls) (subst (λ n. t < n) (sym same.states) lt)
+turned : (one two : Relation) (A B : System) → SameSignatures one two A B → SameSignatures two one B A
+turned one two A B same = record {
+  states = sym same.states;
+  shown = λ blocks s a b. let h = same.shown blocks s a b in (h.1, h.0);
+}
+
+module _ (one two : Relation) (A B : System) (same : SameSignatures one two A B) where
+  same_signature_alike : (blocks : ℕ → ℕ) (s t : ℕ) → SameSignature one A blocks s t → SameSignature two B blocks s t
+  same_signature_alike blocks s t h = λ a b. (
+    λ x. (same.shown blocks t a b).0 ((h a b).0 ((same.shown blocks s a b).1 x)),
+    λ x. (same.shown blocks s a b).0 ((h a b).1 ((same.shown blocks t a b).1 x)),
+  )
+
+  -- the same states
+  each_two_alike : (P : ℕ → ℕ → Type 0) → EachTwo A P → EachTwo B P
+  each_two_alike P h s t ls lt = h s t (subst (λ n. s < n) (sym same.states) ls) (subst (λ n. t < n) (sym same.states) lt)
 
 -- the same Splits
-split_alike : (rel : Relation) (A B : System) → SameSteps A B → (old new : ℕ → ℕ) → Split rel A old new → Split rel B old new
-split_alike rel A B same old new split s t ls lt =
-    let h = each_two_alike A B same (λ s t. (new s ≡ new t) ↔ ((old s ≡ old t) × SameSignature rel A old s t)) split s t ls lt in (
-      λ e. ((h.0 e).0, same_signature_alike rel A B same old s t (h.0 e).1),
-      λ g. h.1 (g.0, same_signature_alike rel B A (same_steps_sym A B same) old s t g.1),
-    )
+module _ (one two : Relation) (A B : System) (same : SameSignatures one two A B) where
+  split_alike : (old new : ℕ → ℕ) → Split one A old new → Split two B old new
+  split_alike old new split s t ls lt =
+      let P = λ (s t : ℕ). (new s ≡ new t) ↔ ((old s ≡ old t) × SameSignature one A old s t) in
+      let h = each_two_alike one two A B same P split s t ls lt in (
+        λ e. ((h.0 e).0, same_signature_alike one two A B same old s t (h.0 e).1),
+        λ g. h.1 (g.0, same_signature_alike two one B A (turned one two A B same) old s t g.1),
+      )
 
-after_alike : (rel : Relation) (A B : System) → SameSteps A B → (k : ℕ) (blocks : ℕ → ℕ) → After rel A k blocks → After rel B k blocks
-after_alike rel A B same zero blocks one = each_two_alike A B same (λ s t. blocks s ≡ blocks t) one
-after_alike rel A B same (suc k) blocks (old, after, split) =
-    (old, after_alike rel A B same k old after, split_alike rel A B same old blocks split)
+  after_alike : (k : ℕ) (blocks : ℕ → ℕ) → After one A k blocks → After two B k blocks
+  after_alike zero blocks all = each_two_alike one two A B same (λ s t. blocks s ≡ blocks t) all
+  after_alike (suc k) blocks (old, after, split) = (old, after_alike k old after, split_alike old blocks split)
 
-changes_nothing_alike : (rel : Relation) (A B : System) → SameSteps A B → (k : ℕ) → ChangesNothing rel A k → ChangesNothing rel B k
-changes_nothing_alike rel A B same zero none = none
-changes_nothing_alike rel A B same (suc k) (old, new, after, split, kept) = (
-  old,
-  new,
-  after_alike rel A B same k old after,
-  split_alike rel A B same old new split,
-  each_two_alike A B same (λ s t. (new s ≡ new t) ↔ (old s ≡ old t)) kept,
-)
+  changes_nothing_alike : (k : ℕ) → ChangesNothing one A k → ChangesNothing two B k
+  changes_nothing_alike zero none = none
+  changes_nothing_alike (suc k) (old, new, after, split, kept) = (
+    old,
+    new,
+    after_alike k old after,
+    split_alike old new split,
+    each_two_alike one two A B same (λ s t. (new s ≡ new t) ↔ (old s ≡ old t)) kept,
+  )
+
+-- and as many of them
+pub same_signatures_turns : (one two : Relation) (A B : System) → SameSignatures one two A B → (k : ℕ) → Turns one A k → Turns two B k
+same_signatures_turns one two A B same k turns = record {
+  last = changes_nothing_alike one two A B same k turns.last;
+  least = λ j low none. turns.least j low (changes_nothing_alike two one B A (turned one two A B same) j none);
+}
 
 pub turns_alike : (rel : Relation) (A B : System) → SameSteps A B → (k : ℕ) → Turns rel A k → Turns rel B k
-turns_alike rel A B same k turns = record {
-  last = changes_nothing_alike rel A B same k turns.last;
-  least = λ j low none. turns.least j low (changes_nothing_alike rel B A (same_steps_sym A B same) j none);
-}
+turns_alike rel A B same = same_signatures_turns rel rel A B (signatures_alike rel A B same)

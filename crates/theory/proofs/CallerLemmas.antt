@@ -3,6 +3,9 @@ pub use Rattle.theory.proofs.Deciding.{contains_here, contains_there, contains_c
 pub use Rattle.theory.proofs.Paths.{leads_on, leads_map, step_below}
 pub use Rattle.theory.proofs.Counting.{block_count_at_most, numbered_count}
 pub use Rattle.theory.proofs.Refinement.{same_split, after_is_unique}
-pub use Rattle.theory.proofs.Leaders.{leader_unique}
+pub use Rattle.theory.proofs.Leaders.{leader_unique, leader_fellow, is_leader_itself}
 pub use Rattle.theory.proofs.Tally.{how_many_unique}
 pub use Rattle.theory.proofs.Determined.{same_states, same_transitions}
+pub use Rattle.theory.proofs.BothRelations.{strong_is_branching, branching_is_strong}
+pub use Rattle.theory.proofs.AlikeSystems.{SameSignatures, same_signatures_turns}
+pub use Rattle.theory.proofs.AlikeQuotients.{quotient_reordered}

@@ -1,41 +1,31 @@
-use Rattle.std.proofs.Common.{◌≡◌, ℕ, ◌≤◌, length, arith}
+use Rattle.std.proofs.Common.{arith}
 use Rattle.std.proofs.lemmas.Result.{IfOk-weaker}
-use Rattle.theory.specs.System.{System, IsSystem}
-use Rattle.theory.specs.Bisimulation.{Bisimilar, Equivalent}
-use Rattle.theory.specs.Quotient.{Quotient}
 use Rattle.lts.specs.Lts.{system_of}
 use Rattle.quotient.proofs.Visits.{IfOk-both, room_at_first, room_after, visits_then, turns_keep}
 use Rattle.quotient.proofs.minimisation.minimise.Goals as goal
 
 pub returns-clause-equivalent : goal.returns-clause-equivalent
 returns-clause-equivalent g c =
-    let A = system_of c.args.l.now in
-    IfOk-weaker c.quotient_of.result (λ q. Quotient c.args.r A (system_of q)) (λ q. Equivalent c.args.r A (system_of q))
-    (λ q h. c.quotient_is_equivalent.ensures c.args.r A (system_of q) c.known.ensures.system h) c.quotient_of.ensures.quotient
+    IfOk-weaker c.quotient_of.result _ _
+    (λ q h. c.quotient_is_equivalent.ensures c.args.r (system_of c.args.l.now) (system_of q) c.known.ensures.system h) c.quotient_of.ensures.quotient
 
 pub returns-clause-no_two_bisimilar : goal.returns-clause-no_two_bisimilar
 returns-clause-no_two_bisimilar g c =
-    let A = system_of c.args.l.now in
-    IfOk-weaker c.quotient_of.result (λ q. Quotient c.args.r A (system_of q))
-    (λ q. (s t : ℕ) → Bisimilar c.args.r (system_of q) s (system_of q) t → s ≡ t)
-    (λ q h s t b. c.quotient_states_differ.ensures c.args.r A (system_of q) s t c.known.ensures.system h b) c.quotient_of.ensures.quotient
+    IfOk-weaker c.quotient_of.result _ _
+    (λ q h s t b. c.quotient_states_differ.ensures c.args.r (system_of c.args.l.now) (system_of q) s t c.known.ensures.system h b) c.quotient_of.ensures.quotient
 
 pub returns-clause-smallest : goal.returns-clause-smallest
 returns-clause-smallest g c =
-    let A = system_of c.args.l.now in
-    IfOk-weaker c.quotient_of.result (λ q. Quotient c.args.r A (system_of q))
-    (λ q. (B : System) → IsSystem B → Equivalent c.args.r A B → q.states ≤ B.states)
-    (λ q h B sys same. c.no_smaller_system.ensures c.args.r A (system_of q) B c.known.ensures.system sys h same) c.quotient_of.ensures.quotient
+    IfOk-weaker c.quotient_of.result _ _
+    (λ q h B sys same. c.no_smaller_system.ensures c.args.r (system_of c.args.l.now) (system_of q) B c.known.ensures.system sys h same) c.quotient_of.ensures.quotient
 
 pub returns-clause-no_larger : goal.returns-clause-no_larger
 returns-clause-no_larger g c =
     let A = system_of c.args.l.now in
     let sys = c.known.ensures.system in
-    IfOk-both c.quotient_of.result (λ q. q.states ≤ A.states) (λ q. length q.places ≤ length c.args.l.now.places)
-    (IfOk-weaker c.quotient_of.result (λ q. Quotient c.args.r A (system_of q)) (λ q. q.states ≤ A.states)
-    (λ q h. c.no_smaller_system.ensures c.args.r A (system_of q) A sys sys h
-    (c.bisimilarity_is_an_equivalence.ensures.reflexive c.args.r A A.first sys sys.first)) c.quotient_of.ensures.quotient)
-    c.quotient_of.ensures.fewer_transitions
+    let same = c.bisimilarity_is_an_equivalence.ensures.reflexive c.args.r A A.first sys sys.first in
+    IfOk-weaker c.quotient_of.result _ _ (λ q h. (c.no_smaller_system.ensures c.args.r A (system_of q) A sys sys h.0 same, h.1))
+    (IfOk-both c.quotient_of.result _ _ c.quotient_of.ensures.quotient c.quotient_of.ensures.fewer_transitions)
 
 pub blocks-requires : goal.blocks-requires
 blocks-requires g c = record { room = room_at_first c.args.l.now c.known.ensures _ c.requires.fresh }

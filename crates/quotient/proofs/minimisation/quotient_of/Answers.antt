@@ -4,8 +4,7 @@ use Rattle.std.proofs.lemmas.Result.{IfOk-weaker}
 use Rattle.lts.specs.Lts.{InRange, IsGrouping, system_of}
 use Rattle.quotient.specs.Reading.{sources_of, IsDroppedLabel}
 use Rattle.quotient.specs.Triples.{AreMembers, HasShown, places_of}
-use Rattle.quotient.proofs.Members.{AreMembers-numbered}
-use Rattle.quotient.proofs.Quotients.{NumberLaws, Laws, AreEnough, Parts-shown, rows_enough, quotient_in_range, IfOk-quotient}
+use Rattle.quotient.proofs.Quotients.{Laws, AreEnough, Parts-shown, rows_enough, quotient_in_range, IfOk-quotient}
 use Rattle.quotient.proofs.WholeRows.{members_show_also}
 use Rattle.quotient.proofs.Visits.{visits_at_most}
 use Rattle.quotient.proofs.minimisation.quotient_of.Given.{Over}
@@ -13,28 +12,21 @@ use Rattle.quotient.proofs.minimisation.quotient_of.Goals as goal
 use Rattle.quotient.proofs.minimisation.quotient_of.Goals.{After-dropped-dropped, In_ok-members, In_ok-triples}
 
 module _ (g : Over) (c : After-dropped-dropped g) where
-  numbers : NumberLaws c.args.r (system_of c.args.l.now)
-  numbers =
+  laws : Laws c.args.r c.args.l.now
+  laws =
       let rel = c.args.r in
       let A = system_of c.args.l.now in
       let sys = c.known.ensures.system in
       record {
-        leader = λ s way. c.each_state_has_a_number.ensures.leader rel A s sys way;
-        one_number = λ s m n h k. c.each_state_has_a_number.ensures.one_number rel A s m n sys h k;
-        classes = λ s t m n ws wt h k. c.numbers_are_classes.ensures rel A s t m n sys ws wt h k;
-        below = λ Q s n quotient h. c.numbers_are_states.ensures.below rel A Q s n sys quotient h;
-      }
-
-  laws : Laws c.args.r c.args.l.now
-  laws =
-      let A = system_of c.args.l.now in
-      record {
         lts = c.known.ensures;
         reached_first = c.steps_keep_reachable.ensures.first A;
         reached_on = λ s a t way step. c.steps_keep_reachable.ensures.step A s a t way step;
-        below = λ s way. c.steps_keep_reachable.ensures.below A s c.known.ensures.system way;
-        numbers = numbers;
-        shows_all = λ s t a u. c.states_without_inert_steps_show_all.ensures c.args.r A s t a u c.known.ensures.system;
+        below = λ s way. c.steps_keep_reachable.ensures.below A s sys way;
+        leader = λ s way. c.each_state_has_a_number.ensures.leader rel A s sys way;
+        one_number = λ s m n h k. c.each_state_has_a_number.ensures.one_number rel A s m n sys h k;
+        classes = λ s t m n ws wt h k. c.numbers_are_classes.ensures rel A s t m n sys ws wt h k;
+        states = λ Q s n quotient h. c.numbers_are_states.ensures.below rel A Q s n sys quotient h;
+        shows_all = λ s t a u. c.states_without_inert_steps_show_all.ensures rel A s t a u sys;
         sources = c.rows_are_steps.ensures.sources;
         steps = λ s a t. c.rows_are_steps.ensures.steps c.args.l.now s a t;
       }
@@ -59,7 +51,8 @@ few g c = omega (arith, (are g c).few c.args.l.now.places, c.rows_follow.ensures
 pub shown_triples-requires-clause-members : goal.shown_triples-requires-clause-members
 shown_triples-requires-clause-members g c =
     let at = (goal.at.shown_triples-requires-clause-members g c).In_ok-members in
-    rw (c.deref-3.ensures.value, c.deref-4.ensures.value) (AreMembers-numbered _ _ _ _ (are g at))
+    rw (c.deref-3.ensures.value, c.deref-4.ensures.value)
+    (record { each = λ p c. let f = ((are g at).exactly p).0 c in (f.0, f.2); rising = (are g at).rising })
 
 pub shown_triples-requires-clause-whole : goal.shown_triples-requires-clause-whole
 shown_triples-requires-clause-whole g c =
@@ -104,7 +97,7 @@ returns-clause-quotient g c =
     c.in_ok-members.members.items (laws g at) c.requires.numbering (enough g at) (drops g at) (are g goals.In_ok-members) (shown g goals.In_ok-triples) in
     let built = c.build.ensures in
     IfOk-quotient _ _ _ _ _ _ parts c.in_ok-labels.labels (c.in_ok-labels.ensures ∙ c.labels-2.ensures)
-    c.build.result built.first built.states built.labels built.places built.grouping
+    c.build.result built.first built.states built.labels built.grouping
 
 pub returns-clause-fewer_transitions : goal.returns-clause-fewer_transitions
 returns-clause-fewer_transitions g c =

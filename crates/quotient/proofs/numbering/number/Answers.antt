@@ -31,7 +31,7 @@ module _ (g : Over) (c : goal.In_ok-with_capacity-2 g) (rel : Relation) where
       let lts = c.states-states.ensures.lts in
       record {
         same = classes;
-        first = lts.in_range.first_below;
+        system = lts.system;
         first_reached = c.steps_keep_reachable.ensures.first A;
         below = λ s way. c.steps_keep_reachable.ensures.below A s lts.system way;
         number = λ s way. c.each_state_has_a_number.ensures.number rel A s lts.system way;
@@ -74,7 +74,8 @@ loop-s-preserved g c =
       laws = c.loop-s.invariant.laws;
       taken = λ rel classes. Taken-adds rel (system_of l) (slice_index c.args.blocks) (c.loop-s.invariant.laws rel classes) c.loop-s.s b
           c.loop-s.numbering c.add.new.self _ _ c.block-in-loop-s.ensures (is_first c.loop-s.s c.first-first.result l.first c.first-first.ensures)
-          (c.requires.reached c.loop-s.s below) below (omega (arith, below, c.states-states.ensures.lts.in_range.few_states)) (c.loop-s.invariant.taken rel classes) c.in_ok-add.ensures;
+          (c.requires.reached c.loop-s.s below) below (omega (arith, below, c.states-states.ensures.lts.in_range.few_states))
+          c.loop-s.invariant.few (c.loop-s.invariant.within c.loop-s.s below) (c.loop-s.invariant.taken rel classes) c.in_ok-add.ensures;
     }
 
 pub returns : goal.returns

@@ -1,4 +1,3 @@
-use Rattle.std.proofs.Common.{subst}
 use Rattle.std.proofs.lemmas.Result.{IfOk-weaker, on_ok_weaker}
 use Rattle.quotient.proofs.Visible.{rounds_read, classes_by, turns_by}
 use Rattle.quotient.proofs.relation.blocks.Goals as goal
