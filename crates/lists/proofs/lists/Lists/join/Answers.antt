@@ -24,6 +24,12 @@ module _ (c : After-base_of) where
       subst (λ l. Grow l (extended_lists c.base_of.new.trie c.self.inside.kept)) c.self.view_is
       (Grow-lists c.base_of.ensures.grow c.self.inside.kept c.self.invariant.0.each)
 
+-- the last list has all
+pub returns-in-Some-clause-exactly : goal.returns-in-Some-clause-exactly
+returns-in-Some-clause-exactly c z =
+    subst (λ l. Contains (list_at c.args.self.now c.in-Some.list) z ↔ (Contains l z ⊎ HasOne c.args.self.now c.args.lists.now z)) c.deref.ensures.value
+    (c.in-Some.ensures.exactly z)
+
 pub invariant_of-self : goal.invariant_of-self
 invariant_of-self c = kept ((goal.at.invariant_of-self c).After-base_of)
 
@@ -57,7 +63,7 @@ number_with-requires-clause-list c =
     let at = (goal.at.number_with-requires-clause-list c).After-base_of in
     let trie = c.base_of.new.trie in
     let base = c.in_ok-base.base in
-    subst (λ l. IsExtension trie (base, l)) (sym c.deref.ensures.value) (record {
+    subst (λ l. IsExtension trie (base, l)) (sym c.deref-2.ensures.value) (record {
       base = c.in_ok-base.ensures.within;
       rising = c.in_ok-merge.ensures.rising;
       apart = joined_apart c.self.inside.trie trie c.self.inside.kept c.args.lists.now base c.are_many-many.result c.lack.new.pairs.items c.merge.new.pairs.items
@@ -78,7 +84,7 @@ returns-clause-exactly c =
     let numbers = c.args.lists.now in
     IfOk-weaker c.number_with.result _ _ (λ k e z.
     joined_all
-    (subst (λ l. Contains l z ↔ (Contains list z ⊎ Contains pairs z)) (sym (e ∙ ap (merged list) c.deref.ensures.value)) (merged_has z list pairs))
+    (subst (λ l. Contains l z ↔ (Contains list z ⊎ Contains pairs z)) (sym (e ∙ ap (merged list) c.deref-2.ensures.value)) (merged_has z list pairs))
     (c.in_ok-base.ensures.exactly z) (c.in_ok-gather.ensures z) (c.in_ok-order_many.ensures.same z) (c.lack.ensures.same z)
     (c.in_ok-merge.ensures.exactly z)
     (subst (λ ls. HasOne ls numbers z ↔ (HasOne c.self.inside.trie (bases_of c.self.inside.kept numbers) z
