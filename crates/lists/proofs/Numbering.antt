@@ -218,7 +218,7 @@ extended_some trie x stored different is some e =
 -- a list as the lists show it
 module _ (trie : List (List (ℕ × ℕ))) (kept : List (ℕ × List (ℕ × ℕ))) (lists : List (List (ℕ × ℕ))) (view : extended_lists trie kept ≡ lists) (k : ℕ)
     (low : k < length lists) where
-  pub shown_low : k < length kept
+  shown_low : k < length kept
   shown_low = let size = ap length view in omega (arith, extended_size trie kept)
 
   pub shown_at : (x : ℕ × List (ℕ × ℕ)) → x ≡ kept_at kept k → list_at lists k ≡ extended trie x
@@ -288,11 +288,6 @@ module _ {old new : List (List (ℕ × ℕ))} (grow : Grow old new) (kept : List
 pub more_within : (trie : List (List (ℕ × ℕ))) (kept : List (ℕ × List (ℕ × ℕ))) (x : ℕ × List (ℕ × ℕ)) (k : ℕ) → k ≡ length kept
     → k < length (extended_lists trie (kept ++ x ∷ []))
 more_within trie kept x k e = omega (arith, extended_size trie (kept ++ x ∷ []), length_push kept x)
-
-pub shown_numbers : (trie : List (List (ℕ × ℕ))) (kept : List (ℕ × List (ℕ × ℕ))) (lists : List (List (ℕ × ℕ))) → extended_lists trie kept ≡ lists
-    → (numbers : List ℕ) → All (λ k. k < length lists) numbers → All (λ k. k < length kept) numbers
-shown_numbers trie kept lists view numbers known =
-    All-weaker (λ k. k < length lists) (λ k. k < length kept) (λ k low. shown_low trie kept lists view k low) numbers known
 
 -- the empty list alone, and no union
 pub lists_first : (trie : List (List (ℕ × ℕ))) (kept : List (ℕ × List (ℕ × ℕ))) (tags : List ℕ) (unions : List ((ℕ × ℕ) × ℕ)) → trie ≡ [] ∷ []

@@ -6,10 +6,9 @@ ghost use Rattle.lists.specs.Lists.{pair_cmp, list_at, AreLists, AreNumbers, Gro
 ghost use Rattle.lists.specs.Extended.{Includes, parts_of, extended, IsExtension, IsSortedFrom};
 
 use crate::distinct::Distinct;
-use crate::joined::{are_many, base_of, gather, lack, merge};
+use crate::joined::union_of;
 use crate::kept::{Extension, Kept};
 use crate::known::Known;
-use crate::marked::order_many;
 use crate::nodes::EMPTY;
 use crate::numbered::number_with;
 use crate::ordered::{has, has_all};
@@ -155,7 +154,7 @@ impl Lists {
         ensures within { IfSome result (λ k. k < length self.now) }
         ensures exactly { IfSome result (λ k. (z : ℕ × ℕ) → Contains (list_at self.now k) z ↔ (Contains pairs.now z ⊎ HasOne self.now lists.now z)) }
     {
-        // A list alone mostly lacks one of the pairs: with those that it has, it need not be joined.
+        // A list alone mostly lacks one of the pairs, or it would not be joined.
         if lists.len() < 2 {
             return None;
         }
@@ -183,18 +182,14 @@ impl Lists {
         if let Some(list) = self.last_with_all(lists, pairs) {
             return Ok(list);
         }
-        let many = are_many(lists);
-        let base = base_of(
+        let base = union_of(
             &mut self.trie,
             &mut self.known,
             &mut self.scratch,
             &self.kept,
             lists,
+            pairs,
         )?;
-        gather(&self.kept, lists, base, many, pairs)?;
-        order_many(pairs, &mut self.scratch.marks)?;
-        lack(&self.trie, base, pairs);
-        merge(&self.kept, lists, base, many, pairs, &mut self.scratch.held)?;
         number_with(
             &mut self.trie,
             &mut self.scratch.merged,
