@@ -1,16 +1,16 @@
 -- Lists with bases: how they stay as the trie grows, which are the same, and one list more.
-use Rattle.std.proofs.Common.{◌≡◌, ◌∙◌, ◌⊎◌, ◌↔◌, ℕ, ◌<◌, ◌≤◌, List, [], ◌∷◌, ◌++◌, length, Contains, ap, sym, subst, refl, inl, inr, arith}
+use Rattle.std.proofs.Common.{◌≡◌, ◌∙◌, ◌⊎◌, ◌↔◌, ℕ, ◌<◌, ◌≤◌, List, [], ◌∷◌, ◌++◌, length, slice_index, Contains, ap, sym, subst, refl, inl, inr, arith}
 use Rattle.std.specs.List.{All}
 use Rattle.std.specs.List.Sorted.{IsStrictlySortedBy}
 use Rattle.std.proofs.lemmas.Bool.{cases_lt, cases_eq, cases_order}
 use Rattle.std.proofs.lemmas.List.{length-map, length_push, map-append, get_or-map, get_or_default, get_or_append_left, get_or_push}
 use Rattle.std.proofs.lemmas.List.Elements.{All-head, All-tail, All-append, All-weaker, All-contains}
 use Rattle.buckets.specs.Buckets.{tag_at, IsLast}
-use Rattle.lists.specs.Lists.{pair_cmp, list_at, merged, AreLists, Grow}
+use Rattle.lists.specs.Lists.{pair_cmp, list_at, merged, AreLists, Grow, HasOne}
 use Rattle.lists.specs.Nodes.{AreStored}
 use Rattle.lists.specs.Spans.{fingerprint_of, mixed}
 use Rattle.lists.specs.Hashed.{AreDifferent, IsNewList}
-use Rattle.lists.specs.Extended.{ShareNone, kept_at, extended, IsExtension, extended_lists, AreExtended}
+use Rattle.lists.specs.Extended.{ShareNone, Includes, kept_at, extended, IsExtension, extended_lists, AreExtended}
 use Rattle.lists.specs.Unions.{Unites, IsUnion, AreUnions}
 use Rattle.lists.specs.Known.{IsNone}
 use Rattle.lists.proofs.Noting.{IsUnion-none}
@@ -218,7 +218,7 @@ extended_some trie x stored different is some e =
 -- a list as the lists show it
 module _ (trie : List (List (ℕ × ℕ))) (kept : List (ℕ × List (ℕ × ℕ))) (lists : List (List (ℕ × ℕ))) (view : extended_lists trie kept ≡ lists) (k : ℕ)
     (low : k < length lists) where
-  pub shown_low : k < length kept
+  shown_low : k < length kept
   shown_low = let size = ap length view in omega (arith, extended_size trie kept)
 
   pub shown_at : (x : ℕ × List (ℕ × ℕ)) → x ≡ kept_at kept k → list_at lists k ≡ extended trie x
@@ -234,6 +234,26 @@ module _ (trie : List (List (ℕ × ℕ))) (x : ℕ × List (ℕ × ℕ)) (list 
 
   pub has_neither : x.0 ≡ 0 → list_at trie 0 ≡ [] → (Contains x.1 z → ⊥) → Contains list z → ⊥
   has_neither e none other d = other (subst (λ l. Contains l z) (is ∙ extended_none trie x e none) d)
+
+-- a list of the same base that has all pairs beside it of another one
+pub base_includes : (trie : List (List (ℕ × ℕ))) (x y : ℕ × List (ℕ × ℕ)) (list other : List (ℕ × ℕ)) → list ≡ extended trie x → other ≡ extended trie y
+    → x.0 ≡ y.0 → merged x.1 y.1 ≡ x.1 → Includes list other
+base_includes trie x y list other is is' e both z d = (has_either trie x list is z).1 (elim ((has_either trie y other is' z).0 d) [
+  | inl b ↦ inl (subst (λ b. Contains (list_at trie b) z) (sym e) b)
+  | inr f ↦ inr (subst (λ l. Contains l z) both ((merged_has z x.1 y.1).1 (inr f)))
+])
+
+-- one of several lists that has all pairs of them, and some more of its own
+pub includes_all : (lists : List (List (ℕ × ℕ))) (numbers : List ℕ) (pairs : List (ℕ × ℕ)) (i : ℕ) → i < length numbers
+    → All (λ j. Includes (list_at lists (slice_index numbers i)) (list_at lists j)) numbers → All (Contains (list_at lists (slice_index numbers i))) pairs
+    → (z : ℕ × ℕ) → Contains (list_at lists (slice_index numbers i)) z ↔ (Contains pairs z ⊎ HasOne lists numbers z)
+includes_all lists numbers pairs i low all has z = (
+  λ d. inr (i, low, d),
+  λ o. elim o [
+    | inl d ↦ All-contains (Contains (list_at lists (slice_index numbers i))) pairs z has d
+    | inr h ↦ let (j, low', d) = h in all j 0 low' z d
+  ],
+)
 
 -- one list that is short, and one that is a list of the trie
 pub IsExtension-few : (trie : List (List (ℕ × ℕ))) (pairs : List (ℕ × ℕ)) → AreStored trie → IsStrictlySortedBy pair_cmp pairs → IsExtension trie (0, pairs)
@@ -268,11 +288,6 @@ module _ {old new : List (List (ℕ × ℕ))} (grow : Grow old new) (kept : List
 pub more_within : (trie : List (List (ℕ × ℕ))) (kept : List (ℕ × List (ℕ × ℕ))) (x : ℕ × List (ℕ × ℕ)) (k : ℕ) → k ≡ length kept
     → k < length (extended_lists trie (kept ++ x ∷ []))
 more_within trie kept x k e = omega (arith, extended_size trie (kept ++ x ∷ []), length_push kept x)
-
-pub shown_numbers : (trie : List (List (ℕ × ℕ))) (kept : List (ℕ × List (ℕ × ℕ))) (lists : List (List (ℕ × ℕ))) → extended_lists trie kept ≡ lists
-    → (numbers : List ℕ) → All (λ k. k < length lists) numbers → All (λ k. k < length kept) numbers
-shown_numbers trie kept lists view numbers known =
-    All-weaker (λ k. k < length lists) (λ k. k < length kept) (λ k low. shown_low trie kept lists view k low) numbers known
 
 -- the empty list alone, and no union
 pub lists_first : (trie : List (List (ℕ × ℕ))) (kept : List (ℕ × List (ℕ × ℕ))) (tags : List ℕ) (unions : List ((ℕ × ℕ) × ℕ)) → trie ≡ [] ∷ []

@@ -15,6 +15,10 @@ use Rattle.lists.specs.Hashed.{AreDifferent}
 abbrev pub ShareNone : List (ℕ × ℕ) → List (ℕ × ℕ) → Type 0
 ShareNone xs ys = (z : ℕ × ℕ) → Contains xs z → Contains ys z → ⊥
 
+-- the first list has all pairs of the second one
+abbrev pub Includes : List (ℕ × ℕ) → List (ℕ × ℕ) → Type 0
+Includes list other = (z : ℕ × ℕ) → Contains other z → Contains list z
+
 -- the list has not the pair
 abbrev pub is_lacking : List (ℕ × ℕ) → ℕ × ℕ → Bool
 is_lacking list z = not (is_member (eq_by_cmp pair_cmp) list z)

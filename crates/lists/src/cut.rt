@@ -1,5 +1,5 @@
 //! Where a list is cut into two halves.
-ghost use Rattle.std.specs.Prelude.{◌≡◌, ℕ, ◌*◌, ◌+◌, ◌^◌, ◌<◌};
+ghost use Rattle.std.specs.Prelude.{◌≡◌, ℕ, ◌<◌};
 ghost use Rattle.lists.specs.Cuts.{as_number, Fit, IsPlace};
 
 /// The pair as one number, in the order of pairs.

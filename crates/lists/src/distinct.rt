@@ -40,18 +40,18 @@ impl Model for Distinct {
 }
 
 impl Distinct {
-    /// The empty list alone, with room for so many other ones, and for as many buckets.
+    /// The empty list alone.
     ///
     /// Fails if there is no memory for it.
-    pub fn new(alloc: Global, room: u32) -> Result<Distinct, Memory>
+    pub fn new(alloc: Global) -> Result<Distinct, Memory>
         ensures { IfOk result (λ x. x ≡ [] ∷ []) }
     {
-        let mut sums = Vec::with_capacity(alloc, room as usize + 1)?;
+        let mut sums = Vec::new(alloc);
         sums.push(0)?;
         Ok(Distinct {
-            nodes: Nodes::new(alloc, room)?,
+            nodes: Nodes::new(alloc)?,
             sums,
-            buckets: Buckets::new(alloc, room)?,
+            buckets: Buckets::new(alloc, 0)?,
         })
     }
 

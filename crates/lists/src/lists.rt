@@ -1,18 +1,17 @@
 //! Different lists of pairs and their unions, asked for by number: the top layer, which the crates above see.
-ghost use Rattle.std.specs.Prelude.{◌≡◌, ◌⊎◌, ◌↔◌, ℕ, ◌++◌, ◌∷◌, ◌<◌, ◌≤◌, List, [], length, IfOk, OnOk, OnErr, IsTrue};
-ghost use Rattle.std.specs.List.{Contains};
+ghost use Rattle.std.specs.Prelude.{◌≡◌, ◌⊎◌, ◌↔◌, ℕ, ◌++◌, ◌∷◌, ◌<◌, ◌≤◌, List, [], length, IfOk, IfSome, OnOk, OnErr, IsTrue};
+ghost use Rattle.std.specs.List.{All, Contains};
 ghost use Rattle.std.specs.List.Sorted.{IsStrictlySortedBy};
 ghost use Rattle.lists.specs.Lists.{pair_cmp, list_at, AreLists, AreNumbers, Grow, HasOne};
-ghost use Rattle.lists.specs.Extended.{parts_of, extended, IsExtension, IsSortedFrom};
+ghost use Rattle.lists.specs.Extended.{Includes, parts_of, extended, IsExtension, IsSortedFrom};
 
 use crate::distinct::Distinct;
-use crate::joined::{are_many, base_of, gather, lack, merge};
+use crate::joined::union_of;
 use crate::kept::{Extension, Kept};
 use crate::known::Known;
-use crate::marked::order_many;
 use crate::nodes::EMPTY;
 use crate::numbered::number_with;
-use crate::ordered::has;
+use crate::ordered::{has, has_all};
 use crate::unions::Scratch;
 use buckets::Buckets;
 use growth::Memory;
@@ -55,7 +54,7 @@ impl Lists {
         ensures { IfOk result (λ x. x ≡ [] ∷ []) }
     {
         Ok(Lists {
-            trie: Distinct::new(alloc, 0)?,
+            trie: Distinct::new(alloc)?,
             known: Known::new(alloc)?,
             kept: Kept::new(alloc, room)?,
             buckets: Buckets::new(alloc, room)?,
@@ -121,6 +120,7 @@ impl Lists {
     }
 
     /// Whether the list number `k` has the pair.
+    #[inline(always)]
     pub fn has(&self, k: u32, pair: (u32, u32)) -> bool
         requires { k < length self.now }
         ensures { IsTrue result ↔ Contains (list_at self.now k) pair }
@@ -134,6 +134,35 @@ impl Lists {
             return false;
         }
         self.trie.has(list.base, pair)
+    }
+
+    /// Whether the list number `k` has all pairs of the list number `j`. If it has another base, this is not found out.
+    fn has_list(&self, k: u32, j: u32) -> bool
+        requires list { k < length self.now }
+        requires other { j < length self.now }
+        ensures { IsTrue result → Includes (list_at self.now k) (list_at self.now j) }
+    {
+        let list = self.kept.of(k);
+        let other = self.kept.of(j);
+        list.base == other.base && has_all(list.few, other.few)
+    }
+
+    /// The last of several lists, if it is seen to have all pairs of the others, and these. It mostly is the last that was made, and
+    /// then nothing is put in order: philosophers take 8 % fewer instructions.
+    fn last_with_all(&self, lists: &[u32], pairs: &[(u32, u32)]) -> Option<u32>
+        requires { AreNumbers self.now lists.now }
+        ensures within { IfSome result (λ k. k < length self.now) }
+        ensures exactly { IfSome result (λ k. (z : ℕ × ℕ) → Contains (list_at self.now k) z ↔ (Contains pairs.now z ⊎ HasOne self.now lists.now z)) }
+    {
+        // A list alone mostly lacks one of the pairs, or it would not be joined.
+        if lists.len() < 2 {
+            return None;
+        }
+        let list = lists[lists.len() - 1];
+        if has_lists(self, list, lists) && has_pairs(self, list, pairs) {
+            return Some(list);
+        }
+        None
     }
 
     /// The number of the list that has the pairs of these lists and these pairs, which may be in any order, and no other one. It is
@@ -150,18 +179,17 @@ impl Lists {
         // In either case
         ensures grow { Grow self.old self.new }
     {
-        let many = are_many(lists);
-        let base = base_of(
+        if let Some(list) = self.last_with_all(lists, pairs) {
+            return Ok(list);
+        }
+        let base = union_of(
             &mut self.trie,
             &mut self.known,
             &mut self.scratch,
             &self.kept,
             lists,
+            pairs,
         )?;
-        gather(&self.kept, lists, base, many, pairs)?;
-        order_many(pairs, &mut self.scratch.marks)?;
-        lack(&self.trie, base, pairs);
-        merge(&self.kept, lists, base, many, pairs, &mut self.scratch.held)?;
         number_with(
             &mut self.trie,
             &mut self.scratch.merged,
@@ -181,6 +209,36 @@ impl Lists {
         self.kept.clear();
         self.buckets.clear();
     }
+}
+
+/// Whether the list number `k` has all pairs of the lists of these numbers. If one has another base, this is not found out.
+fn has_lists(lists: &Lists, k: u32, numbers: &[u32]) -> bool
+    requires list { k < length lists.now }
+    requires numbers { AreNumbers lists.now numbers.now }
+    ensures { IsTrue result → All (λ j. Includes (list_at lists.now k) (list_at lists.now j)) numbers.now }
+{
+    for j in numbers {
+        if *j == k {
+            continue;
+        }
+        if !lists.has_list(k, *j) {
+            return false;
+        }
+    }
+    true
+}
+
+/// Whether the list number `k` has all of these pairs.
+fn has_pairs(lists: &Lists, k: u32, pairs: &[(u32, u32)]) -> bool
+    requires { k < length lists.now }
+    ensures { IsTrue result ↔ All (Contains (list_at lists.now k)) pairs.now }
+{
+    for pair in pairs {
+        if !lists.has(k, *pair) {
+            return false;
+        }
+    }
+    true
 }
 
 /// Appends the pairs of the base, and those beside it, in rising order to `pairs`.

@@ -64,13 +64,13 @@ impl Model for Nodes {
 }
 
 impl Nodes {
-    /// The empty list alone, with room for so many other ones: growth by doubling would take up to a third more memory.
+    /// The empty list alone.
     ///
     /// Fails if there is no memory for it.
-    pub fn new(alloc: Global, room: u32) -> Result<Nodes, Memory>
+    pub fn new(alloc: Global) -> Result<Nodes, Memory>
         ensures { IfOk result (λ x. x ≡ [] ∷ []) }
     {
-        let mut nodes = Vec::with_capacity(alloc, room as usize + 1)?;
+        let mut nodes = Vec::new(alloc);
         nodes.push(Node::Whole { start: 0, count: 0 })?;
         Ok(Nodes {
             pairs: Vec::new(alloc),

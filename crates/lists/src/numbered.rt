@@ -1,10 +1,9 @@
 //! How a list with a base and pairs beside it gets its number: it is found by a tag that its pairs alone decide.
-ghost use Rattle.std.specs.Prelude.{◌≡◌, ◌↔◌, ℕ, ◌++◌, ◌∷◌, ◌<◌, ◌≤◌, List, [], length, IfOk, OnOk, OnErr, IsTrue, MatchOption};
-ghost use Rattle.std.specs.List.Sorted.{IsStrictlySortedBy};
-ghost use Rattle.lists.specs.Lists.{pair_cmp, list_at, merged, Grow};
+ghost use Rattle.std.specs.Prelude.{◌≡◌, ◌↔◌, ◌++◌, ◌∷◌, ◌<◌, ◌≤◌, [], length, IfOk, OnOk, OnErr, IsTrue, MatchOption};
+ghost use Rattle.lists.specs.Lists.{list_at, Grow};
 ghost use Rattle.lists.specs.Spans.{fingerprint_of, mixed};
 ghost use Rattle.lists.specs.Hashed.{IsNewList, IsNumberOf};
-ghost use Rattle.lists.specs.Extended.{ShareNone, parts_of, kept_at, extended, IsExtension, extended_lists, AreExtended};
+ghost use Rattle.lists.specs.Extended.{parts_of, extended, IsExtension, extended_lists, AreExtended};
 ghost use Rattle.lists.specs.declared.nodes.TheConstants.{FEW};
 
 use crate::cut::fit;

@@ -1,9 +1,8 @@
 //! Bases that are made of pairs, of a list and pairs, and of two lists.
-ghost use Rattle.std.specs.Prelude.{◌≡◌, ◌⊎◌, ◌↔◌, ℕ, ◌++◌, ◌<◌, ◌≤◌, List, length, IfOk, IfSome, if◌then◌else◌};
+ghost use Rattle.std.specs.Prelude.{◌≡◌, ℕ, ◌<◌, ◌≤◌, List, length, IfOk, IfSome};
 ghost use Rattle.lists.specs.declared.nodes.TheConstants.{FEW};
-ghost use Rattle.std.specs.List.{Contains};
 ghost use Rattle.std.specs.List.Sorted.{IsStrictlySortedBy};
-ghost use Rattle.lists.specs.Lists.{pair_cmp, list_at, AreNumbers, Grow, HasOne};
+ghost use Rattle.lists.specs.Lists.{pair_cmp, list_at, Grow};
 ghost use Rattle.lists.specs.Cuts.{Fit, IsAlike, IsParted};
 ghost use Rattle.lists.specs.Nodes.{AreStored, IsHalved};
 ghost use Rattle.lists.specs.Unions.{Unites, IsUnion, AreUnions, IsSplit, AreSplit, IsSplitWith};
