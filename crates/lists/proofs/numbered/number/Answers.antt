@@ -1,18 +1,16 @@
-use Rattle.std.proofs.Common.{◌≡◌, ◌∙◌, ◌<◌, ◌+◌, ◌%◌, ◌^◌, ◌++◌, ◌∷◌, [], length, ap, sym, subst, eq-eqb}
+use Rattle.std.proofs.Common.{◌≡◌, ◌∙◌, ◌<◌, ◌+◌, ◌++◌, ◌∷◌, [], length, ap, sym, subst, eq-eqb}
 use Rattle.std.specs.Option.{MatchOption}
 use Rattle.std.proofs.lemmas.Bool.{both_ways}
 use Rattle.lists.specs.Lists.{list_at, Grow}
 use Rattle.lists.specs.Spans.{mixed, fingerprint_of}
 use Rattle.lists.specs.Hashed.{IsNewList, IsNumberOf}
 use Rattle.lists.specs.Extended.{parts_of, extended, extended_lists, AreExtended}
-use Rattle.lists.proofs.Extending.{fingerprint_merged}
 use Rattle.lists.proofs.Numbering.{AreExtended-grow, Grow-lists, lists-grow, AreExtended-push, extended_some, Grow-more, list_more, more_within}
 use Rattle.lists.proofs.numbered.number.Goals as goal
 use Rattle.lists.proofs.numbered.number.Goals.{After-mix-tag, In_ok-number-2, else-list-eq-EMPTY-via-then-list-eq-EMPTY+else-is_empty, else-list-eq-EMPTY-via-else-list-eq-EMPTY}
 
 tag_is : (c : After-mix-tag) → c.mix-tag.result ≡ mixed (fingerprint_of (extended c.args.trie.now (parts_of c.args.list)))
-tag_is c =
-    c.mix-tag.ensures ∙ ap mixed c.sum_of.ensures
+tag_is c = c.mix-tag.ensures ∙ ap mixed c.sum_of.ensures
 
 pub find-requires-clause-tag : goal.find-requires-clause-tag
 find-requires-clause-tag c = tag_is ((goal.at.find-requires-clause-tag c).After-mix-tag)
