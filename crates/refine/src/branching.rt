@@ -20,13 +20,9 @@ impl Signing for Branching {
         m: &mut M,
     ) -> Result<SignedBlocks, Memory> {
         round.lists.clear();
-        scratch.signer.sign_each(
-            l,
-            &round.blocks,
-            &mut round.lists,
-            &mut round.numbers,
-            m,
-        )?;
+        scratch
+            .signer
+            .sign_each(l, &round.blocks, &mut round.lists, &mut round.numbers, m)?;
         Ok(round)
     }
 }
