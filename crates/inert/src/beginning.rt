@@ -1,5 +1,5 @@
 //! The beginning of a walk: the row of its first state is read without a frame.
-ghost use Rattle.std.specs.Prelude.{◌≡◌, ◌+◌, ◌<◌, ◌≤◌, length, OnOk};
+ghost use Rattle.std.specs.Prelude.{◌≡◌, ◌+◌, ◌<◌, length, OnOk};
 ghost use Rattle.lts.specs.Meter.{HasRoomFor, Costs};
 ghost use Rattle.inert.specs.Search.{stage_at, AreThere};
 ghost use Rattle.inert.specs.Moves.{Ends, ahead, GoesOn, Rests};
@@ -45,7 +45,8 @@ impl Walk {
             }
             self.take(lens, step)?;
         }
-        self.end(s, lists)
+        self.end(s, lists)?;
+        Ok(())
     }
 
     /// Finishes the state `s`, the row of which was read without a frame: all items were collected for it.

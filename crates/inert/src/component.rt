@@ -1,5 +1,5 @@
 //! The list of a component: the pairs that it has collected, and those of the lists that it leads to.
-ghost use Rattle.std.specs.Prelude.{◌↔◌, ℕ, ◌+◌, ◌<◌, ◌≤◌, length, IfOk, IfSome, IsTrue, OnOk};
+ghost use Rattle.std.specs.Prelude.{◌↔◌, ℕ, ◌<◌, length, IfOk, IfSome, IsTrue, OnOk};
 ghost use Rattle.std.specs.List.{All, Contains};
 ghost use Rattle.inert.specs.Search.{AreThere};
 ghost use Rattle.inert.specs.Moves.{IsListed, AreCollected, IsIn};

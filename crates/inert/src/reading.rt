@@ -1,10 +1,10 @@
 //! The walk over the transitions of a system: each one is read once.
-ghost use Rattle.std.specs.Prelude.{◌≡◌, ℕ, ◌+◌, ◌-◌, ◌<◌, ◌≤◌, length, IfOk, OnOk};
+ghost use Rattle.std.specs.Prelude.{◌≡◌, ◌+◌, ◌-◌, ◌<◌, ◌≤◌, length, IfOk, OnOk};
 ghost use Rattle.std.specs.List.{All};
 ghost use Rattle.lts.specs.Meter.{HasRoomFor, Costs};
 ghost use Rattle.lts.specs.Lts.{row_of};
 ghost use Rattle.inert.specs.Search.{stage_at, AreOpen, AreThere, IsIdle, IsSigned};
-ghost use Rattle.inert.specs.Moves.{Closes, Finishes, ahead, HasRead, IsUnderWay, GoesOn, Rests, ComesNearer, Finds, FindsNone};
+ghost use Rattle.inert.specs.Moves.{Closes, Finishes, ahead, steps, HasRead, IsUnderWay, GoesOn, Rests, ComesNearer, Finds, FindsNone};
 ghost use Rattle.inert.specs.Ahead.{unread, HasFinished};
 ghost use Rattle.inert.specs.declared.walk.Stage.TheVariants.{Unseen};
 
@@ -37,10 +37,7 @@ impl Walk {
     {
         self.begin(lens, s, lists, m)?;
         while !self.frames.is_empty() {
-            if self.read(lens, lists, m)? {
-                continue;
-            }
-            self.go_back(lens, lists)?;
+            self.go_on(lens, lists, m)?;
         }
         Ok(())
     }
@@ -72,15 +69,39 @@ impl Walk {
         trail.push(s)?;
         self.enter(lens, s)?;
         while !self.frames.is_empty() {
-            if self.read(lens, lists, m)? {
-                trail.push(self.stack[self.stack.len() - 1])?;
+            let entered = self.go_on(lens, lists, m)?;
+            if !entered {
                 continue;
             }
-            self.go_back(lens, lists)?;
+            trail.push(self.last_state())?;
         }
         let list = self.list(s as usize);
         self.forget(trail);
         Ok(list)
+    }
+
+    /// Reads on where the walk is, up to a step that enters a state, or else goes back from there. Returns whether it enters one.
+    ///
+    /// Fails if there is no memory for it.
+    fn go_on<M: Meter>(
+        &mut self,
+        lens: &Lens<M>,
+        lists: &mut Lists,
+        m: &mut M,
+    ) -> Result<bool, Memory>
+        requires way { IsUnderWay lens.now lists.old self.old }
+        requires room { HasRoomFor (M.counted m.old) 0 (ahead lens.now.l self.old) }
+        ensures on { OnOk result (GoesOn lens.now lists.new self.old self.new) }
+        ensures visits { OnOk result ((M.counted m.new).visits + ahead lens.now.l self.new ≡ (M.counted m.old).visits + ahead lens.now.l self.old) }
+        ensures nearer { OnOk result (steps lens.now.l self.new < steps lens.now.l self.old) }
+        ensures finds { IfOk result (Finds self.old self.new) }
+        ensures cost { Costs (M.counted m.old) (M.counted m.new) 0 0 (ahead lens.now.l self.old) }
+    {
+        if self.read(lens, lists, m)? {
+            return Ok(true);
+        }
+        self.go_back(lens, lists)?;
+        Ok(false)
     }
 
     /// Reads the row of the state where the walk is up to its end, or up to a step that enters a state. Returns whether it
@@ -98,14 +119,13 @@ impl Walk {
     {
         lens.known();
         let blocks = lens.blocks();
+        let frame = self.top_frame();
         let last = self.frames.len() - 1;
-        let frame = self.frames[last];
         let block = blocks[self.stack[frame.height as usize] as usize];
         for k in frame.next..frame.end {
             let step = lens.step(block, k, m);
-            let entered = self.take(lens, step)?;
             self.frames[last].next = k + 1;
-            if entered {
+            if self.take(lens, step)? {
                 return Ok(true);
             }
         }
@@ -124,9 +144,9 @@ impl Walk {
         ensures finds { OnOk result (FindsNone self.old self.new) }
     {
         lens.known();
-        let frame = self.frames[self.frames.len() - 1];
-        let root = self.roots[self.roots.len() - 1];
-        self.frames.pop();
+        let frame = self.top_frame();
+        let root = self.last_root();
+        self.pop_frame();
         if root.height == frame.height {
             self.close(root, lists)?;
         }

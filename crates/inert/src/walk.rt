@@ -1,11 +1,11 @@
 //! A walk over inert steps (Gabow 2000): the states that lead to each other are a component, which is on the stack until all
 //! that it leads to is finished.
-ghost use Rattle.std.specs.Prelude.{◌≡◌, ◌↔◌, ℕ, ◌+◌, ◌<◌, ◌≤◌, [], length, IsTrue, IfOk, OnOk};
+ghost use Rattle.std.specs.Prelude.{◌≡◌, ◌↔◌, ℕ, ◌-◌, ◌<◌, ◌≤◌, [], length, slice_index, IsTrue, IfOk, OnOk};
 ghost use Rattle.std.specs.List.{All};
 ghost use Rattle.lts.specs.declared.limits.TheConstants.{MOST_STATES};
 ghost use Rattle.partition.specs.Blocks.{AreLive};
-ghost use Rattle.inert.specs.Search.{Search, stage_at, nothing, IsIdle, IsWoken, IsTrail, AreUnseen};
-ghost use Rattle.inert.specs.Moves.{with_stage, entered, Enters, LeadsOn, Follows, TakesStep, with_item, CutsRoots};
+ghost use Rattle.inert.specs.Search.{Search, stage_at, nothing, top, last, IsIdle, IsWoken, IsTrail, AreUnseen};
+ghost use Rattle.inert.specs.Moves.{with_stage, entered, Enters, LeadsOn, Follows, TakesStep, with_item, popped, CutsRoots};
 ghost use Rattle.inert.specs.declared.walk.Stage.TheVariants.{Unseen, Finished, AtRest};
 ghost use Rattle.inert.specs.declared.step.Step.TheVariants.{Inert, Shows};
 ghost use Rattle.inert.specs.declared.item.Item.TheVariants.{Pair};
@@ -283,6 +283,42 @@ impl Walk {
             Stage::Finished(_) => unreachable!(),
             Stage::AtRest => Ok(false),
         }
+    }
+
+    /// The last frame: that of the state where the walk is.
+    #[inline(always)]
+    pub fn top_frame(&self) -> Frame
+        requires { 0 < length self.now.frames }
+        ensures { result ≡ top self.now.frames }
+    {
+        self.frames[self.frames.len() - 1]
+    }
+
+    /// The last root: that of the component where the walk is.
+    #[inline(always)]
+    pub fn last_root(&self) -> Root
+        requires { 0 < length self.now.roots }
+        ensures { result ≡ last self.now.roots }
+    {
+        self.roots[self.roots.len() - 1]
+    }
+
+    /// The last state on the stack: the one that was entered last.
+    #[inline(always)]
+    pub fn last_state(&self) -> u32
+        requires { 0 < length self.now.stack }
+        ensures { result ≡ slice_index self.now.stack (length self.now.stack - 1) }
+    {
+        self.stack[self.stack.len() - 1]
+    }
+
+    /// Pops the last frame.
+    #[inline(always)]
+    pub fn pop_frame(&mut self)
+        requires { 0 < length self.old.frames }
+        ensures { self.new ≡ popped self.old }
+    {
+        self.frames.pop();
     }
 
     /// Collects an item for the component where the walk is.

@@ -1,6 +1,6 @@
 -- The lists of the states by their numbers.
-use Rattle.std.proofs.Common.{◌≡◌, ◌∙◌, ℕ, zero, suc, ◌<◌, ◌≤◌, List, [], ◌∷◌, length, get_or, slice_index, ap, subst, refl, inl, inr, arith}
-use Rattle.std.proofs.lemmas.List.{get_or-map, get_or_default}
+use Rattle.std.proofs.Common.{◌≡◌, ◌∙◌, ℕ, zero, suc, ◌<◌, ◌≤◌, List, [], ◌∷◌, ◌++◌, length, take, get_or, slice_index, ap, sym, subst, refl, inl, inr, arith}
+use Rattle.std.proofs.lemmas.List.{get_or-map, get_or_default, take_at}
 use Rattle.lists.specs.Lists.{list_at, AreLists, AreNumbers}
 use Rattle.partition.specs.Blocks.{HaveNone, AreOrNone}
 use Rattle.refine.specs.EachList.{list_of, each_list, HaveLists}
@@ -21,6 +21,12 @@ signature_at-none lists numbers s only h =
     at : (k : ℕ) → list_at ([] ∷ []) k ≡ []
     at zero = refl
     at (suc k) = refl
+
+-- states of blocks have lists, if their numbers were written back through a slice of all of them
+pub written_back : (of live : List ℕ) (lists : List (List (ℕ × ℕ))) (numbers rest : List ℕ) (n : ℕ) → AreNumbers lists numbers → HaveNone live numbers
+    → length numbers ≡ length of → length numbers ≡ n → HaveLists of live lists (take n (numbers ++ rest))
+written_back of live lists numbers rest n each none states all =
+    subst (HaveLists of live lists) (sym (take_at numbers rest n all)) (record { each = each; states = states; none = none })
 
 -- blocks that are split by the numbers of lists are split by the lists, which are all different
 pub Splits-lists : (lists : List (List (ℕ × ℕ))) (numbers old : List ℕ) (count : ℕ) (new : List ℕ) (more : ℕ) → AreLists lists → AreNumbers lists numbers

@@ -15,25 +15,14 @@ impl Signing for Branching {
 
     fn sign_each<M: Meter>(
         l: &Lts<M>,
-        round: SignedBlocks,
+        mut round: SignedBlocks,
         scratch: &mut Scratch,
         m: &mut M,
     ) -> Result<SignedBlocks, Memory> {
-        let SignedBlocks {
-            alloc,
-            blocks,
-            mut lists,
-            mut numbers,
-        } = round;
-        lists.clear();
+        round.lists.clear();
         scratch
             .signer
-            .sign_each(l, &blocks, &mut lists, &mut numbers, m)?;
-        Ok(SignedBlocks {
-            alloc,
-            blocks,
-            lists,
-            numbers,
-        })
+            .sign_each(l, &round.blocks, &mut round.lists, &mut round.numbers, m)?;
+        Ok(round)
     }
 }

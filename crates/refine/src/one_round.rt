@@ -15,7 +15,7 @@ use crate::branching::Branching;
 use crate::scratch::Scratch;
 use crate::signed_blocks::SignedBlocks;
 use crate::signing::Signing;
-use crate::strong::{Lens, Strong, read};
+use crate::strong::{NewBlocks, Strong, read};
 use lists::{EMPTY, Lists, Parts, order};
 use lts::{Lts, Memory, Meter};
 use partition::{Blocks, Partition, renumber};
@@ -142,8 +142,8 @@ fn sign<M: Meter>(
 {
     lts::rows_are_steps();
     l.known();
-    let lens = Lens { l, of: p, low: 0 };
-    read(&lens, s, pairs, m)?;
+    let under = NewBlocks { l, of: p, low: 0 };
+    read(&under, s, pairs, m)?;
     order(pairs);
     Ok(())
 }

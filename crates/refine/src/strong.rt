@@ -1,5 +1,5 @@
 //! Strong bisimulation: a state's signature has what its transitions show, and the blocks that they lead to.
-ghost use Rattle.std.specs.Prelude.{◌≡◌, ◌↔◌, ℕ, ◌+◌, ◌++◌, ◌∷◌, ◌<◌, [], length, map, slice_index, IsTrue, IfOk, OnOk};
+ghost use Rattle.std.specs.Prelude.{◌≡◌, ◌↔◌, ◌+◌, ◌++◌, ◌∷◌, ◌<◌, [], length, map, slice_index, IsTrue, IfOk, OnOk};
 ghost use Rattle.std.specs.Vec.{vec_len, vec_capacity};
 ghost use Rattle.theory.specs.declared.relation.Relation.TheVariants.{Strong as strong};
 ghost use Rattle.lts.specs.Meter.{HasRoomFor, Visits};
@@ -25,24 +25,20 @@ impl Signing for Strong {
 
     fn sign_each<M: Meter>(
         l: &Lts<M>,
-        round: SignedBlocks,
+        mut round: SignedBlocks,
         scratch: &mut Scratch,
         m: &mut M,
     ) -> Result<SignedBlocks, Memory> {
-        let SignedBlocks {
-            alloc,
-            blocks,
-            mut lists,
-            mut numbers,
-        } = round;
-        lists.clear();
-        sign_live(l, &blocks, &mut scratch.pairs, &mut lists, &mut numbers, m)?;
-        Ok(SignedBlocks {
-            alloc,
-            blocks,
-            lists,
-            numbers,
-        })
+        round.lists.clear();
+        sign_live(
+            l,
+            &round.blocks,
+            &mut scratch.pairs,
+            &mut round.lists,
+            &mut round.numbers,
+            m,
+        )?;
+        Ok(round)
     }
 }
 
@@ -68,7 +64,7 @@ fn sign_live<M: Meter>(
 {
     lts::rows_follow();
     l.known();
-    let lens = Lens {
+    let under = NewBlocks {
         l,
         of: blocks.of(),
         low: blocks.low(),
@@ -80,7 +76,7 @@ fn sign_live<M: Meter>(
         let (start, end) = l.row(s);
         visit_places(l, next, start, m);
         next = end;
-        numbers[s as usize] = put(&lens, s, pairs, lists, m)?;
+        numbers[s as usize] = put(&under, s, pairs, lists, m)?;
     }
     visit_places(l, next, l.edges(), m);
     Ok(())
@@ -88,7 +84,7 @@ fn sign_live<M: Meter>(
 
 /// What a row is read under: a system, the block of each state, and from which number on blocks are new.
 #[derive(Drop)]
-pub(crate) struct Lens<'a, M: Meter> {
+pub(crate) struct NewBlocks<'a, M: Meter> {
     pub l: &'a Lts<M>,
     pub of: &'a [u32],
     pub low: u32,
@@ -99,24 +95,24 @@ pub(crate) struct Lens<'a, M: Meter> {
 ///
 /// Fails if there is no memory for it.
 fn put<M: Meter>(
-    lens: &Lens<M>,
+    under: &NewBlocks<M>,
     s: u32,
     pairs: &mut Vec<(u32, u32)>,
     lists: &mut Lists,
     m: &mut M,
 ) -> Result<u32, Memory>
-    requires states { length lens.now.of.now ≡ lens.now.l.now.states }
-    requires state { s < lens.now.l.now.states }
-    requires room { HasRoomFor (M.counted m.old) 0 (length (row_of s lens.now.l.now.places)) }
+    requires states { length under.now.of.now ≡ under.now.l.now.states }
+    requires state { s < under.now.l.now.states }
+    requires room { HasRoomFor (M.counted m.old) 0 (length (row_of s under.now.l.now.places)) }
     ensures within { IfOk result (λ k. k < length lists.new) }
-    ensures put { IfOk result (λ k. IsPut strong lens.now.l.now lens.now.of.now lens.now.low s (list_at lists.new k)) }
+    ensures put { IfOk result (λ k. IsPut strong under.now.l.now under.now.of.now under.now.low s (list_at lists.new k)) }
     ensures grow { Grow lists.old lists.new }
-    ensures visits { let n = length (row_of s lens.now.l.now.places) in Visits M.counted m.old m.new result n n }
+    ensures visits { let n = length (row_of s under.now.l.now.places) in Visits M.counted m.old m.new result n n }
 {
     lts::rows_are_steps();
-    lens.l.known();
+    under.l.known();
     lists.known();
-    let touched = read(lens, s, pairs, m)?;
+    let touched = read(under, s, pairs, m)?;
     if !touched {
         return Ok(EMPTY);
     }
@@ -130,36 +126,36 @@ fn put<M: Meter>(
 ///
 /// Fails if there is no memory for it.
 pub(crate) fn read<M: Meter>(
-    lens: &Lens<M>,
+    under: &NewBlocks<M>,
     s: u32,
     pairs: &mut Vec<(u32, u32)>,
     m: &mut M,
 ) -> Result<bool, Memory>
-    requires states { length lens.now.of.now ≡ lens.now.l.now.states }
-    requires state { s < lens.now.l.now.states }
-    requires room { HasRoomFor (M.counted m.old) 0 (length (row_of s lens.now.l.now.places)) }
-    ensures pairs { OnOk result (pairs.new.items ≡ map (pair_under lens.now.of.now) (row_of s lens.now.l.now.places)) }
-    ensures touched { IfOk result (λ touched. IsTrue touched ↔ HasFrom lens.now.low pairs.new.items) }
-    ensures visits { let n = length (row_of s lens.now.l.now.places) in Visits M.counted m.old m.new result n n }
+    requires states { length under.now.of.now ≡ under.now.l.now.states }
+    requires state { s < under.now.l.now.states }
+    requires room { HasRoomFor (M.counted m.old) 0 (length (row_of s under.now.l.now.places)) }
+    ensures pairs { OnOk result (pairs.new.items ≡ map (pair_under under.now.of.now) (row_of s under.now.l.now.places)) }
+    ensures touched { IfOk result (λ touched. IsTrue touched ↔ HasFrom under.now.low pairs.new.items) }
+    ensures visits { let n = length (row_of s under.now.l.now.places) in Visits M.counted m.old m.new result n n }
 {
     lts::rows_follow();
-    lens.l.known();
-    let (start, end) = lens.l.row(s);
+    under.l.known();
+    let (start, end) = under.l.row(s);
     pairs.clear();
     pairs.reserve((end - start) as usize)?;
     let mut touched = false;
     let mut k = start;
     if (end - start) % 2 == 1 {
-        let only = lens.l.edge(k, m);
-        touched = collect(lens.of, lens.low, only, touched, pairs);
+        let only = under.l.edge(k, m);
+        touched = collect(under.of, under.low, only, touched, pairs);
         k += 1;
     }
     // Two visits, then two writes: a visit after a write waits until the count has come back from memory.
     while k < end {
-        let first = lens.l.edge(k, m);
-        let second = lens.l.edge(k + 1, m);
-        touched = collect(lens.of, lens.low, first, touched, pairs);
-        touched = collect(lens.of, lens.low, second, touched, pairs);
+        let first = under.l.edge(k, m);
+        let second = under.l.edge(k + 1, m);
+        touched = collect(under.of, under.low, first, touched, pairs);
+        touched = collect(under.of, under.low, second, touched, pairs);
         k += 2;
     }
     Ok(touched)

@@ -6,7 +6,7 @@ use Rattle.lts.specs.Lts.{Triple, source_of, place_at}
 use Rattle.lists.specs.Lists.{Grow}
 use Rattle.inert.specs.Steps.{Under}
 use Rattle.inert.specs.Signed.{HasPair, pair_under, IsSignature}
-use Rattle.inert.specs.Search.{Search, stage_at, item_at, Gives, IsUpTo, IsOf, HoldsPair, IsAhead, IsEntered, IsFollowed, Accounted, IsSound, IsThere, Walks, Open, Finished, AtRest, Frame, Root, Item, Pair, Listed}
+use Rattle.inert.specs.Search.{Search, stage_at, item_at, Gives, IsUpTo, IsOf, HoldsPair, IsAhead, IsEntered, IsFollowed, Accounted, IsSound, IsThere, IsRoot, AreRoots, Walks, Open, Finished, AtRest, Frame, Root, Item, Pair, Listed}
 
 -- the states at places below n, their components and their items are as they were
 pub record Keeps (w new : Search) (n : ℕ) : Type 0 where
@@ -35,6 +35,10 @@ keeps_stack w frames roots items same fewer = record {
   finished = λ s k is. is;
   resting = λ s. (λ is. is, λ is. is);
 }
+
+-- components stay where they begin
+pub roots_kept : {w : Search} → AreRoots w → (frames : List Frame) (items : List Item) → All (IsRoot frames items) w.roots → AreRoots (record w { frames = frames; items = items })
+roots_kept roots frames items each = record { first = roots.first; rising = roots.rising; each = each }
 
 module _ {u : Under} {lists : List (List (ℕ × ℕ))} {w : Search} (walks : Walks u lists w) {new : Search} {n : ℕ}
     (keeps : Keeps w new n) where
@@ -99,7 +103,7 @@ module _ {lists lists' : List (List (ℕ × ℕ))} (grow : Grow lists lists') wh
 
     pub Walks-grow : Walks u lists' w
     Walks-grow = record {
-      numbers = record { size = walks.numbers.size; some = omega (arith, walks.numbers.some, grow.longer); numbers = walks.numbers.numbers };
+      numbers = omega (arith, walks.numbers, grow.longer);
       opened = walks.opened;
       signed = record {
         finished = λ s k is.

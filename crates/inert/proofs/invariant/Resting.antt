@@ -5,22 +5,25 @@ use Rattle.std.proofs.lemmas.List.{get_or_past, nil_from_length}
 use Rattle.std.proofs.lemmas.List.Sums.{count_by-le-length}
 use Rattle.partition.specs.Blocks.{IsOne}
 use Rattle.inert.specs.Steps.{Under}
-use Rattle.inert.specs.Signed.{LeavesOut}
+use Rattle.inert.specs.Signed.{IsLeft, LeavesOut}
 use Rattle.inert.specs.Search.{Search, nothing, stage_at, no_root, AreAtRest, IsIdle, IsWoken, Walks, Unseen, Open, Finished, AtRest, Stage}
 use Rattle.inert.specs.Moves.{Rests}
 use Rattle.inert.specs.Ahead.{is_unseen, unseen, KeepsSeen}
 use Rattle.inert.proofs.invariant.Standing.{frames_some, root_low}
 
--- nothing was seen yet
-pub unseen_rests : (u : Under) (lists : List (List (ℕ × ℕ))) {w : Search} → w ≡ nothing w.stages → ((s : ℕ) → stage_at w.stages s ≡ Unseen)
-    → length w.stages ≡ u.l.states → 1 ≤ length lists → Rests u lists w
-unseen_rests u lists {w = w} empty none size some =
+-- each state is unseen, or needs no signature
+pub new_rests : (u : Under) (lists : List (List (ℕ × ℕ))) {w : Search} → w ≡ nothing w.stages → length w.stages ≡ u.l.states → 1 ≤ length lists
+    → ((s : ℕ) → (stage_at w.stages s ≡ Unseen) ⊎ ((stage_at w.stages s ≡ AtRest) × IsLeft u.l u.blocks s)) → Rests u lists w
+new_rests u lists {w = w} empty size some each =
     let few : unseen w.stages ≤ length w.stages = count_by-le-length is_unseen w.stages in
     record {
       empty = empty;
-      numbers = record { size = size; some = some; numbers = omega (arith, few, size) };
-      shut = λ s p is. cc (is, none s);
-      signed = record { finished = λ s k is. absurd (cc (is, none s)); resting = λ s is. absurd (cc (is, none s)) };
+      numbers = omega (arith, few);
+      shut = λ s p is. elim (each s) [ inl none ↦ cc (none, is) | inr left ↦ cc (left.0, is) ];
+      signed = record {
+        finished = λ s k is. elim (each s) [ inl none ↦ absurd (cc (none, is)) | inr left ↦ absurd (cc (left.0, is)) ];
+        resting = λ s is. elim (each s) [ inl none ↦ absurd (cc (none, is)) | inr left ↦ left.1 ];
+      };
     }
 
 -- if the states rest as unseen ones, none was seen
@@ -29,36 +32,21 @@ idle_unseen {w = w} idle s = elim (cases_lt s (length w.stages)) [ inl low ↦ i
 
 -- the states that are looked at were woken
 module _ {states : ℕ} {live : List ℕ} {w : Search} (woken : IsWoken states live w) where
-  -- the others are at rest
-  woken_stage : (s : ℕ) → (stage_at w.stages s ≡ Unseen) ⊎ ((s < states) × ¬ IsOne live s × (stage_at w.stages s ≡ AtRest))
-  woken_stage s = elim (cases_lt s (length w.stages)) [
-    | inr past ↦ inl (get_or_past w.stages s Unseen past)
-    | inl inside ↦ elim (woken.rest s inside) [
-      | inl one ↦ inl (ap (stage_at w.stages) (sym one.2) ∙ woken.awake one.0 one.1)
-      | inr rest ↦ inr (omega (arith, inside, woken.size), λ one. cc (woken.awake one.0 one.1, ap (stage_at w.stages) one.2, rest), rest)
-    ]
-  ]
-
   pub woken_rests : {u : Under} {lists : List (List (ℕ × ℕ))} → u.l.states ≡ states → length u.blocks ≡ u.l.states → LeavesOut u.l u.blocks live
       → 1 ≤ length lists → Rests u lists w
-  woken_rests {u = u} all size others some =
-      let few : unseen w.stages ≤ length w.stages = count_by-le-length is_unseen w.stages in
-      record {
-        empty = woken.empty;
-        numbers = record { size = woken.size ∙ sym all; some = some; numbers = omega (arith, few, woken.size, all) };
-        shut = λ s p is. elim (woken_stage s) [ inl unseen ↦ cc (unseen, is) | inr rest ↦ cc (rest.2, is) ];
-        signed = record {
-          finished = λ s k is. elim (woken_stage s) [ inl unseen ↦ absurd (cc (unseen, is)) | inr rest ↦ absurd (cc (rest.2, is)) ];
-          resting = λ s is. elim (woken_stage s) [
-            | inl unseen ↦ absurd (cc (unseen, is))
-            | inr rest ↦ elim (others s (omega (arith, rest.0, all))) [
-              | inl one ↦ absurd (rest.1 one)
-              | inr (inl alone) ↦ inl (λ t h. alone t (omega (arith, h, size)))
-              | inr (inr empty) ↦ inr empty
-            ]
-          ];
-        };
-      }
+  woken_rests {u = u} {lists = lists} all size others some =
+      let awake : (s : ℕ) → IsOne live s → stage_at w.stages s ≡ Unseen = λ s one. ap (stage_at w.stages) (sym one.2) ∙ woken.awake one.0 one.1 in
+      new_rests u lists woken.empty (woken.size ∙ sym all) some (λ s. elim (cases_lt s (length w.stages)) [
+        | inr past ↦ inl (get_or_past w.stages s Unseen past)
+        | inl inside ↦ elim (woken.rest s inside) [
+          | inl one ↦ inl (awake s one)
+          | inr rest ↦ elim (others s (omega (arith, inside, woken.size, all))) [
+            | inl one ↦ inl (awake s one)
+            | inr (inl alone) ↦ inr (rest, inl (λ t h. alone t (omega (arith, h, size))))
+            | inr (inr empty) ↦ inr (rest, inr empty)
+          ]
+        ]
+      ])
 
   -- they are still, after a walk
   pub rest_on : {stages : List Stage} → KeepsSeen w.stages stages → length stages ≡ states → AreAtRest live stages
@@ -108,7 +96,7 @@ walk_rests {w = w} walks none =
         roots = nil_from_length w.roots roots i;
         items = nil_from_length w.items items i;
       };
-      numbers = let few = walks.numbers.numbers in record { size = walks.numbers.size; some = walks.numbers.some; numbers = omega (arith, few) };
+      numbers = omega (arith, walks.numbers);
       shut = λ s p is. let was = walks.opened.only s p is in omega (arith, was.0, stack);
       signed = walks.signed;
     }

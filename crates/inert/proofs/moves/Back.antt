@@ -17,12 +17,12 @@ use Rattle.inert.proofs.parts.Stages.{seen_same}
 use Rattle.inert.proofs.parts.Rising.{AllPairs-take, All-from_take}
 use Rattle.inert.proofs.parts.Counting.{unseen-same, unread-same, rest-cut}
 use Rattle.inert.proofs.invariant.Standing.{reached, not_last, last_most, none_ahead, IsFrame-moved, pair_before, stack_some, last_low, root_low}
-use Rattle.inert.proofs.invariant.Keeping.{Keeps, keeps_stack, Walks-grow, accounted_still, sound_still}
+use Rattle.inert.proofs.invariant.Keeping.{Keeps, keeps_stack, roots_kept, Walks-grow, accounted_still, sound_still}
 use Rattle.inert.proofs.signatures.Exact.{exact}
 
 module _ {u : Under} {lists : List (List (ℕ × ℕ))} {w : Search} (walks : Walks u lists w) where
   -- the frames but the last one
-  popped_size : length (popped w).frames ≡ length w.frames - 1
+  pub popped_size : length (popped w).frames ≡ length w.frames - 1
   popped_size = length-take-le (length w.frames - 1) w.frames (omega arith)
 
   popped_same : (i : ℕ) → i < length w.frames - 1 → frame_at (popped w).frames i ≡ frame_at w.frames i
@@ -87,11 +87,9 @@ module _ {u : Under} {lists : List (List (ℕ × ℕ))} {w : Search} (walks : Wa
       numbers = walks.numbers;
       opened = walks.opened;
       signed = walks.signed;
-      roots = record {
-        first = walks.roots.first;
-        rising = walks.roots.rising;
-        each = λ i d h. let root = walks.roots.each i d h in record { framed = popped_framed _ (earlier i d h) root.framed; within = root.within };
-      };
+      roots = roots_kept walks.roots (popped w).frames w.items (λ i d h.
+          let root = walks.roots.each i d h in
+          record { framed = popped_framed _ (earlier i d h) root.framed; within = root.within });
       frames = record {
         rising = AllPairs-take (λ x y. x.height < y.height) (length w.frames - 1) w.frames walks.frames.rising;
         each = All-take (IsFrame u.l w.stack) (length w.frames - 1) w.frames walks.frames.each;
@@ -252,11 +250,7 @@ module _ (laws : Laws) {u : Under} {lists : List (List (ℕ × ℕ))} {w : Searc
 
   Walks-closed : Walks u lists Closed
   Walks-closed = record {
-    numbers = record {
-      size = stages.size ∙ walks.numbers.size;
-      some = walks.numbers.some;
-      numbers = omega (arith, unseen-same w.stages new_stages same_unseen stages.size, walks.numbers.numbers, size, low_q);
-    };
+    numbers = omega (arith, stages.size, unseen-same w.stages new_stages same_unseen stages.size, walks.numbers, size, low_q);
     opened = opened;
     signed = record {
       finished = λ s k is. elim (stages.others s) [
@@ -308,15 +302,9 @@ module _ (laws : Laws) {u : Under} {lists : List (List (ℕ × ℕ))} {w : Searc
 -- the walk goes on from there: what is ahead is the same
 module _ {u : Under} {lists : List (List (ℕ × ℕ))} {w : Search} (walks : Walks u lists w)
     (some : 0 < length w.frames) (read : HasRead w) where
-  popped_rest : rest (popped w).frames ≡ rest w.frames
-  popped_rest = rest-cut w.frames some read
-
   -- its state is no root
   pub popped_on : (last w.roots).height ≢ here w → GoesOn u lists w (popped w)
-  popped_on apart = record {
-    walks = Walks-pop walks some read apart;
-    seen = seen_same w.stages;
-  }
+  popped_on apart = record { walks = Walks-pop walks some read apart; seen = seen_same w.stages }
 
   -- its state is a root, and the component was finished
   module _ (laws : Laws) (lts : IsLts u.l) {lists' : List (List (ℕ × ℕ))} {new : Search} (height : (last w.roots).height ≡ here w)
@@ -332,7 +320,7 @@ module _ {u : Under} {lists : List (List (ℕ × ℕ))} {w : Search} (walks : Wa
         λ p high. exact laws lts walks some read height closes.listed p (omega (arith, high, height)) in
         let unseen = same_unseen laws walks' some height closes.stages signed led in
         let same : ahead u.l (Closed laws walks' some height closes.stages signed led) ≡ ahead u.l w =
-        omega (arith, unread-same w.stages new.stages unseen u.l.places, popped_rest) in
+        omega (arith, unread-same w.stages new.stages unseen u.l.places, rest-cut w.frames some read) in
         subst Returns (λ i. record { stages = new.stages; stack = sym closes.stack i; frames = sym closes.frames i; roots = sym closes.roots i; items = sym items i }) (
           record {
             walks = Walks-closed laws walks' some height closes.stages signed led;

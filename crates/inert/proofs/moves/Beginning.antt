@@ -5,8 +5,8 @@ use Rattle.std.proofs.lemmas.Grind.{common_steps}
 use Rattle.std.proofs.lemmas.List.{get_or-set_same, get_or-set_other, length-set}
 use Rattle.lts.specs.Lts.{place_at, IsLts, IsRow}
 use Rattle.inert.specs.Steps.{Under, IsStep}
-use Rattle.inert.specs.Search.{Search, Laws, nothing, stage_at, frame_at, no_frame, Stage, Unseen, Open, Finished, Frame, Item, Pair, Listed}
-use Rattle.inert.specs.Moves.{with_stage, with_item, entered, LeadsOn, TakesStep, Finishes, Ends, ahead, popped, Closes, IsUnderWay, GoesOn, Rests}
+use Rattle.inert.specs.Search.{Search, Laws, nothing, stage_at, no_frame, Stage, Unseen, Open, Finished, Item}
+use Rattle.inert.specs.Moves.{with_stage, entered, LeadsOn, TakesStep, Finishes, Ends, ahead, popped, Closes, IsUnderWay, GoesOn, Rests}
 use Rattle.inert.specs.Ahead.{unread}
 use Rattle.inert.specs.declared.step.Step.{Step}
 use Rattle.inert.specs.declared.step.Step.TheVariants.{Inert as Goes, Shows}
@@ -14,7 +14,7 @@ use Rattle.inert.proofs.parts.Stages.{seen_on, seen_more}
 use Rattle.inert.proofs.parts.Counting.{unread-set}
 use Rattle.inert.proofs.invariant.Resting.{idle_walks, within}
 use Rattle.inert.proofs.moves.Forward.{Walks-enter}
-use Rattle.inert.proofs.moves.Reading.{reads_none, marked}
+use Rattle.inert.proofs.moves.Reading.{Stays, reads_none, marked}
 use Rattle.inert.proofs.moves.Back.{closed}
 
 -- nothing is on the stack, and these items were collected
@@ -33,32 +33,17 @@ pub record Begins (u : Under) (lists : List (List (ℕ × ℕ))) (old : Search) 
 
 -- nothing of the row was read
 pub begins : {u : Under} {lists : List (List (ℕ × ℕ))} {w : Search} {s start end : ℕ} → Laws → Rests u lists w
-    → s < u.l.states → stage_at w.stages s ≡ Unseen → IsRow u.l.places s start end
-    → (w ≡ collecting w.stages w.items) × Begins u lists w s start start (framed s start end w.stages w.items)
-begins {u = u} {lists = lists} {w = w} {s = s} {start = start} {end = end} laws rests inside none row =
+    → s < u.l.states → stage_at w.stages s ≡ Unseen → IsRow u.l.places s start end → Begins u lists w s start start (framed s start end w.stages [])
+begins {u = u} {w = w} {s = s} laws rests inside none row =
     let low = within rests inside in
-    let rows = unread-set w.stages s (Open 0) refl low none u.l.places in
-    let none_collected : [] ≡ w.items = ap (λ x. x.items) (sym rests.empty) in (
-      rests.empty ∙ ap (collecting w.stages) none_collected,
-      subst (λ items. Begins u lists w s start start (framed s start end w.stages items)) none_collected (record {
-        on = record {
-          walks = Walks-enter (idle_walks rests) laws low none row (λ some. absurd (omega (arith, some)));
-          seen = seen_more w.stages s (Open 0) (λ e. cc) (λ e. cc) low none;
-        };
-        found = λ is. cc (is, get_or-set_same w.stages s (Open 0) Unseen low);
-        less = omega (arith, rows, row.count);
-      }),
-    )
-
--- the state was entered, with a frame for its whole row
-pub enters_begins : {u : Under} {lists : List (List (ℕ × ℕ))} {w new : Search} {s start end : ℕ} → Laws
-    → Rests u lists w → s < u.l.states → stage_at w.stages s ≡ Unseen → IsRow u.l.places s start end → new ≡ entered s start end (length w.items) w
-    → Begins u lists w s start start new
-enters_begins {u = u} {lists = lists} {w = w} {s = s} {start = start} {end = end} laws rests inside none row is =
-    let begun = begins laws rests inside none row in
-    let no_items : length w.items ≡ 0 = ap (λ x. length x.items) rests.empty in
-    subst (Begins u lists w s start start)
-    (sym (is ∙ ap (λ n. entered s start end n w) no_items ∙ ap (entered s start end 0) begun.0)) begun.1
+    record {
+      on = record {
+        walks = Walks-enter (idle_walks rests) laws low none row (λ some. absurd (omega (arith, some)));
+        seen = seen_more w.stages s (Open 0) (λ e. cc) (λ e. cc) low none;
+      };
+      found = λ is. cc (is, get_or-set_same w.stages s (Open 0) Unseen low);
+      less = omega (arith, unread-set w.stages s (Open 0) refl low none u.l.places, row.count);
+    }
 
 module _ (laws : Laws) {u : Under} (lts : IsLts u.l) {lists : List (List (ℕ × ℕ))} {old w : Search} {s start end k : ℕ}
     (same : w ≡ collecting old.stages w.items) (begun : Begins u lists old s start k (framed s k end old.stages w.items)) where
@@ -76,53 +61,39 @@ module _ (laws : Laws) {u : Under} (lts : IsLts u.l) {lists : List (List (ℕ ×
     abbrev Next : Search → Type 0
     Next m = Begins u lists old s start (k + 1) m
 
-    read_marked : (step : Step) (m : Search) (enters : Bool) → Is step → TakesStep u.l.places step Framed m enters
-        → Next (record m { frames = set m.frames 0 (record (frame_at m.frames 0) { next = k + 1 }) })
-    read_marked step m enters is_step takes =
-        let x : Frame = record (frame_at m.frames 0) { next = k + 1 } in
-        let one = (marked (reads_none way) (record { size = refl; stack = refl; none = λ s is. is }) way.some laws lts more (slice_index u.blocks s) refl step is_step m enters takes 0 refl x refl).reads in
+    -- after the state got a frame for the places after it
+    pub takes_framed : (step : Step) {m : Search} (enters : Bool) → Is step → TakesStep u.l.places step (framed s (k + 1) end old.stages w.items) m enters → Next m
+    takes_framed step enters is takes =
+        let none : Stays Framed Framed = record { size = refl; stack = refl; none = λ s is. is } in
+        let one = (marked (reads_none way) none way.some laws lts more (slice_index u.blocks s) refl step is refl refl takes).reads in
         record {
           on = record { walks = one.on.walks; seen = seen_on begun.on.seen one.on.seen };
           found = λ is. begun.found (one.on.seen.unseen s is);
           less = omega (arith, one.less, begun.less);
         }
 
-    -- the step was taken after the state got a frame for the places after it
-    framed_takes : (step : Step) (m : Search) (enters : Bool) → Is step → TakesStep u.l.places step (framed s (k + 1) end old.stages w.items) m enters → Next m
-    framed_takes (Shows a b) m enters is (new, stay) = subst Next (sym new) (read_marked (Shows a b) (with_item (Pair a b) Framed) enters is (refl, stay))
-    framed_takes (Goes t) m enters is (inl (unseen, (next, last, row, new), went)) =
-        subst Next (sym new) (read_marked (Goes t) (entered t next last (length w.items) Framed) enters is (inl (unseen, (next, last, row, refl), went)))
-    framed_takes (Goes t) m enters is (inr (inl (q, stage, cuts, new, stay))) =
-        subst Next (sym new) (read_marked (Goes t) (record Framed { roots = m.roots }) enters is (inr (inl (q, stage, cuts, refl, stay))))
-    framed_takes (Goes t) m enters is (inr (inr (inl (number, stage, new, stay)))) =
-        subst Next (sym new) (read_marked (Goes t) (with_item (Listed number) Framed) enters is (inr (inr (inl (number, stage, refl, stay)))))
-    framed_takes (Goes t) m enters is (inr (inr (inr (stage, new, stay)))) = subst Next (sym new) (read_marked (Goes t) Framed enters is (inr (inr (inr (stage, refl, stay)))))
-
-    pub takes_framed : (step : Step) (put m : Search) (enters : Bool) → Is step → put ≡ entered s (k + 1) end 0 w → TakesStep u.l.places step put m enters → Next m
-    takes_framed step put m enters is new takes =
-        framed_takes step m enters is (subst (λ x. TakesStep u.l.places step x m enters) (new ∙ ap (entered s (k + 1) end 0) same) takes)
-
-    -- it was taken with no frame, since it does not lead on
+    -- with no frame, since it does not lead on
     module _ (none : stage_at old.stages s ≡ Unseen) where
       abbrev Collects : Search → Type 0
       Collects m = (m ≡ collecting old.stages m.items) × Next (framed s (k + 1) end old.stages m.items)
 
-      bare_takes : (step : Step) (m : Search) (enters : Bool) → Is step → ¬ LeadsOn old.stages step → TakesStep u.l.places step (collecting old.stages w.items) m enters
-          → Collects m
-      bare_takes (Shows a b) m enters is still (new, stay) =
-          subst Collects (sym new) (refl, read_marked (Shows a b) (with_item (Pair a b) Framed) enters is (refl, stay))
-      bare_takes (Goes t) m enters is still (inl (unseen, new, went)) = absurd (still (t, refl, inl unseen))
-      bare_takes (Goes t) m enters is still (inr (inl (q, stage, cuts, new, stay))) = absurd (still (t, refl, inr (q, stage)))
-      bare_takes (Goes t) m enters is still (inr (inr (inl (number, stage, new, stay)))) =
-          let apart = get_or-set_other old.stages s t (Open 0) Unseen (λ e. cc (ap (stage_at old.stages) e, none, stage)) in
-          subst Collects (sym new) (refl, read_marked (Goes t) (with_item (Listed number) Framed) enters is (inr (inr (inl (number, apart ∙ stage, refl, stay)))))
-      bare_takes (Goes t) m enters is still (inr (inr (inr (stage, new, stay)))) =
-          let apart = get_or-set_other old.stages s t (Open 0) Unseen (λ e. cc (ap (stage_at old.stages) e, none, stage)) in
-          subst Collects (sym new) (refl, read_marked (Goes t) Framed enters is (inr (inr (inr (apart ∙ stage, refl, stay)))))
+      -- the stages of the states that were seen are the same with a frame
+      apart : (t : ℕ) {stage : Stage} → stage_at old.stages t ≡ stage → ¬ (stage ≡ Unseen) → stage_at (set old.stages s (Open 0)) t ≡ stage
+      apart t is seen = get_or-set_other old.stages s t (Open 0) Unseen (λ e. seen (sym is ∙ ap (stage_at old.stages) e ∙ none)) ∙ is
 
-      pub takes_bare : (step : Step) (m : Search) (enters : Bool) → Is step → ¬ LeadsOn w.stages step → TakesStep u.l.places step w m enters → Collects m
-      takes_bare step m enters is still takes =
-          bare_takes step m enters is (subst (λ x. ¬ LeadsOn x.stages step) same still) (subst (λ x. TakesStep u.l.places step x m enters) same takes)
+      bare : {m : Search} (enters : Bool) (step : Step) → Is step → ¬ LeadsOn old.stages step → TakesStep u.l.places step (collecting old.stages w.items) m enters
+          → Collects m
+      bare enters (Shows a b) is still (new, stay) = subst Collects (sym new) (refl, takes_framed (Shows a b) enters is (refl, stay))
+      bare enters (Goes t) is still (inl (unseen, new, went)) = absurd (still (t, refl, inl unseen))
+      bare enters (Goes t) is still (inr (inl (q, stage, cuts, new, stay))) = absurd (still (t, refl, inr (q, stage)))
+      bare enters (Goes t) is still (inr (inr (inl (number, stage, new, stay)))) =
+          subst Collects (sym new) (refl, takes_framed (Goes t) enters is (inr (inr (inl (number, apart t stage (λ e. cc), refl, stay)))))
+      bare enters (Goes t) is still (inr (inr (inr (stage, new, stay)))) =
+          subst Collects (sym new) (refl, takes_framed (Goes t) enters is (inr (inr (inr (apart t stage (λ e. cc), refl, stay)))))
+
+      pub takes_bare : {m : Search} (enters : Bool) (step : Step) → Is step → ¬ LeadsOn w.stages step → TakesStep u.l.places step w m enters → Collects m
+      takes_bare {m = m} enters step is still takes =
+          bare enters step is (subst (λ x. ¬ LeadsOn x.stages step) same still) (subst (λ x. TakesStep u.l.places step x m enters) same takes)
 
   -- the row is read to its end, and the state finished
   module _ (over : end ≤ k) {lists' : List (List (ℕ × ℕ))} {new : Search} (ends : Ends s lists lists' w new) (low : s < length old.stages) where

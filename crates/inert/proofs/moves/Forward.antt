@@ -16,7 +16,7 @@ use Rattle.inert.specs.Moves.{with_item, CutsRoots, entered}
 use Rattle.inert.proofs.parts.Rising.{AllPairs-take, All-from_take}
 use Rattle.inert.proofs.parts.Counting.{unseen-set}
 use Rattle.inert.proofs.invariant.Standing.{reached, on_stack, ties, IsFrame-moved, frames_some, root_low}
-use Rattle.inert.proofs.invariant.Keeping.{Keeps, keeps_stack, accounted_still, sound_still, done_still}
+use Rattle.inert.proofs.invariant.Keeping.{Keeps, keeps_stack, roots_kept, accounted_still, sound_still, done_still}
 
 module _ {u : Under} {lists : List (List (ℕ × ℕ))} {w : Search} (walks : Walks u lists w) where
   -- an item more is collected
@@ -46,11 +46,9 @@ module _ {u : Under} {lists : List (List (ℕ × ℕ))} {w : Search} (walks : Wa
       numbers = walks.numbers;
       opened = walks.opened;
       signed = walks.signed;
-      roots = record {
-        first = walks.roots.first;
-        rising = walks.roots.rising;
-        each = λ i d h. let root = walks.roots.each i d h in record { framed = root.framed; within = omega (arith, root.within, length_push w.items x) };
-      };
+      roots = roots_kept walks.roots w.frames With.items (λ i d h.
+          let root = walks.roots.each i d h in
+          record { framed = root.framed; within = omega (arith, root.within, length_push w.items x) });
       frames = walks.frames;
       connects = walks.connects;
       there = All-push (IsThere lists) w.items x walks.there there;
@@ -248,11 +246,7 @@ module _ {u : Under} {lists : List (List (ℕ × ℕ))} {w : Search} (walks : Wa
 
       pub Walks-enter : Walks u lists Entered
       Walks-enter = record {
-        numbers = record {
-          size = length-set w.stages t (Open n) ∙ walks.numbers.size;
-          some = walks.numbers.some;
-          numbers = omega (arith, unseen-set w.stages t (Open n) refl within unseen, walks.numbers.numbers, size);
-        };
+        numbers = omega (arith, length-set w.stages t (Open n), unseen-set w.stages t (Open n) refl within unseen, walks.numbers, size);
         opened = opened;
         signed = record {
           finished = λ s k is. walks.signed.finished s k (grind (arith, common_steps, unseen, within, is));
@@ -309,14 +303,10 @@ module _ {u : Under} {lists : List (List (ℕ × ℕ))} {w : Search} (walks : Wa
         numbers = walks.numbers;
         opened = walks.opened;
         signed = walks.signed;
-        roots = record {
-          first = walks.roots.first;
-          rising = walks.roots.rising;
-          each = λ k d h.
-              let root = walks.roots.each k d h in
-              let (j, lj, at) = root.framed in
-              record { framed = (j, omega (arith, lj, same_size), places_same j no_frame ∙ at); within = root.within };
-        };
+        roots = roots_kept walks.roots Moved.frames w.items (λ k d h.
+            let root = walks.roots.each k d h in
+            let (j, lj, at) = root.framed in
+            record { framed = (j, omega (arith, lj, same_size), places_same j no_frame ∙ at); within = root.within });
         frames = record {
           rising = λ j k d h h'. grind (arith, walks.frames.rising j k d h, places_same j d, places_same k d, same_size, h');
           each =

@@ -2,16 +2,16 @@
 use Rattle.std.proofs.Common.{◌≡◌, ℕ, ◌+◌, ◌-◌, ◌<◌, ◌≤◌, List, [], ◌∷◌, length, slice_index, Bool, refl, sym, ◌∙◌, ap, subst, inl, inr, arith, set}
 use Rattle.std.specs.Prelude.{IsTrue}
 use Rattle.std.proofs.lemmas.Bool.{cases_Bool, cases_eq}
-use Rattle.std.proofs.lemmas.List.{length_push, get_or_push, get_or_append_left, get_or-set_same, get_or-set_other, length-set}
+use Rattle.std.proofs.lemmas.List.{length_push, get_or_push, get_or_append_left, get_or-set_same, get_or-set_other, length-set, set-append_left}
 use Rattle.theory.specs.System.{Step}
 use Rattle.theory.specs.declared.relation.Relation.TheVariants.{Branching}
 use Rattle.theory.specs.Blocks.{Inert, Signature}
 use Rattle.lts.specs.Labels.{text_of}
-use Rattle.lts.specs.Lts.{Triple, source_of, label_of, target_of, place_at, system_of, IsLts, IsRow}
+use Rattle.lts.specs.Lts.{Triple, source_of, label_of, target_of, place_at, system_of, IsLts}
 use Rattle.inert.specs.Signed.{HasPair, pair_under}
 use Rattle.inert.specs.Steps.{Under, IsInert, IsStep}
-use Rattle.inert.specs.Search.{Search, Laws, stage_at, frame_at, no_frame, top, here, IsFrame, Accounted, Walks, Unseen, Open, Finished, AtRest, Frame, Root, Item, Pair, Listed}
-use Rattle.inert.specs.Moves.{entered, with_item, TakesStep, CutsRoots, ahead, HasRead, IsUnderWay, GoesOn, Finds, FindsNone}
+use Rattle.inert.specs.Search.{Search, Laws, frame_at, no_frame, top, here, IsFrame, Accounted, Walks, Unseen, Open, Frame, Root, Item, Pair, Listed}
+use Rattle.inert.specs.Moves.{entered, with_item, Follows, TakesStep, ahead, HasRead, IsUnderWay, GoesOn, Finds, FindsNone}
 use Rattle.inert.specs.Ahead.{KeepsSeen}
 use Rattle.inert.specs.declared.step.Step.{Step as TakenStep}
 use Rattle.inert.specs.declared.step.Step.TheVariants.{Inert as Goes, Shows}
@@ -78,78 +78,67 @@ module _ (laws : Laws) {u : Under} (lts : IsLts u.l) {lists : List (List (ℕ ×
     finds = record { some = λ went. absurd (stay went); found = λ s is. inl is };
   }
 
-  taken_pair : (a b : ℕ) (enters : Bool) → ¬ IsInert u (slice_index u.blocks (source_of e)) e → (a, b) ≡ pair_under u.blocks e → ¬ IsTrue enters
-      → Taken (with_item (Pair a b) w) enters
-  taken_pair a b enters other is =
-      stayed w.roots (with_item (Pair a b) w).items enters
-      (Walks-collect walks (Pair a b) some (λ j e'. absurd (cc))
-      (λ z g. subst (λ (x : ℕ × ℕ). HasPair Branching u.l u.blocks (slice_index w.stack (here w)) x.0 x.1) (sym is ∙ g) (own_pair other)))
-      (record { shown = λ _. collected_holds walks (Pair a b) (pair_under u.blocks e) is; followed = λ inert _. absurd (other inert) })
-
-  module _ (inert : IsInert u (slice_index u.blocks (source_of e)) e) where
-    taken_finished : (number : ℕ) (enters : Bool) → stage_at w.stages (target_of e) ≡ Finished number → ¬ IsTrue enters → Taken (with_item (Listed number) w) enters
-    taken_finished number enters stage =
-        let signed = walks.signed.finished (target_of e) number stage in
-        let s = slice_index w.stack (here w) in
-        let tie = laws.after (system_of u.l) (slice_index u.blocks) s s (target_of e) (laws.here (system_of u.l) (slice_index u.blocks) s) (inert_step inert) in
-        stayed w.roots (with_item (Listed number) w).items enters
-        (Walks-collect walks (Listed number) some (λ j e'. subst (λ x. x < length lists) (let same : number ≡ j = cc in same) signed.within)
-        (λ z g. pair_before laws u s (target_of e) z tie ((signed.signature.exactly z.0 z.1).0 g)))
-        (record {
-          shown = λ other. absurd (other inert);
-          followed = λ _ _. inr (inl (number, stage, λ z c. collected_holds walks (Listed number) z c));
-        })
-
-    taken_joined : (q : ℕ) (roots : List Root) (enters : Bool) → stage_at w.stages (target_of e) ≡ Open q → CutsRoots q w.roots roots → ¬ IsTrue enters
-        → Taken (record w { roots = roots }) enters
-    taken_joined q roots enters stage cuts =
-        let was = walks.opened.only (target_of e) q stage in
-        stayed roots w.items enters
-        (Walks-join walks laws cuts was.0 (subst (Inert (system_of u.l) (slice_index u.blocks) (slice_index w.stack (here w))) (sym was.1) (inert_step inert)))
-        (record { shown = λ other. absurd (other inert); followed = λ _ _. inl (joined_here walks laws cuts (target_of e) stage) })
-
-    -- a state at rest has nothing to show
-    taken_resting : (enters : Bool) → stage_at w.stages (target_of e) ≡ AtRest → ¬ IsTrue enters → Taken w enters
-    taken_resting enters stage =
-        stayed w.roots w.items enters walks (record { shown = λ other. absurd (other inert); followed = λ _ awake. absurd (awake stage) })
-
-    taken_entered : (start end : ℕ) (enters : Bool) → IsRow u.l.places (target_of e) start end → stage_at w.stages (target_of e) ≡ Unseen → IsTrue enters
-        → Taken (entered (target_of e) start end (length w.items) w) enters
-    taken_entered start end enters row unseen went =
-        let within : target_of e < length w.stages = omega (arith, walks.numbers.size, target_low) in
-        let x : Frame = record { height = length w.stack; next = start; end = end } in
-        let frames = length_push w.frames x in
-        record {
-          after = Walks-enter walks laws within unseen row (λ _. inert_step inert);
-          done = record { shown = λ other. absurd (other inert); followed = λ _ _. inr (inr (entered_met walks laws within unseen row some)) };
-          seen = seen_more w.stages (target_of e) (Open (length w.stack)) (λ e. cc) (λ e. cc) within unseen;
-          same_ahead = omega (arith, unread-set w.stages (target_of e) (Open (length w.stack)) refl within unseen u.l.places, rest-push w.frames x, row.count);
-          same_frame = get_or_append_left w.frames (x ∷ []) _ (length w.frames - 1) (omega (arith, some));
-          still = λ stay. absurd (stay went);
-          longer = λ _. frames;
-          finds = record {
-            some = λ _. omega (arith, length_push w.stack (target_of e));
-            found = λ s is. elim (cases_eq s (target_of e)) [
-              | inl same ↦ inr (went, get_or_push w.stack (target_of e) 0 _ (omega (arith, length_push w.stack (target_of e))) ∙ sym same)
-              | inr other ↦ inl (get_or-set_other w.stages (target_of e) s (Open (length w.stack)) Unseen other ∙ is)
-            ];
-          };
-        }
+  -- an inert step leads to the target, whatever is known of that
+  followed : IsInert u (slice_index u.blocks (source_of e)) e → (m : Search) (enters : Bool) → Follows u.l.places (target_of e) w m enters → Taken m enters
+  followed inert m enters (inl (unseen, (start, end, row, new), went)) =
+      let within : target_of e < length w.stages = omega (arith, walks.numbers.size, target_low) in
+      let x : Frame = record { height = length w.stack; next = start; end = end } in
+      subst (λ y. Taken y enters) (sym new) (record {
+        after = Walks-enter walks laws within unseen row (λ _. inert_step inert);
+        done = record { shown = λ other. absurd (other inert); followed = λ _ _. inr (inr (entered_met walks laws within unseen row some)) };
+        seen = seen_more w.stages (target_of e) (Open (length w.stack)) (λ e. cc) (λ e. cc) within unseen;
+        same_ahead = omega (arith, unread-set w.stages (target_of e) (Open (length w.stack)) refl within unseen u.l.places, rest-push w.frames x, row.count);
+        same_frame = get_or_append_left w.frames (x ∷ []) _ (length w.frames - 1) (omega (arith, some));
+        still = λ stay. absurd (stay went);
+        longer = λ _. length_push w.frames x;
+        finds = record {
+          some = λ _. omega (arith, length_push w.stack (target_of e));
+          found = λ s is. elim (cases_eq s (target_of e)) [
+            | inl same ↦ inr (went, get_or_push w.stack (target_of e) 0 _ (omega (arith, length_push w.stack (target_of e))) ∙ sym same)
+            | inr other ↦ inl (get_or-set_other w.stages (target_of e) s (Open (length w.stack)) Unseen other ∙ is)
+          ];
+        };
+      })
+  followed inert m enters (inr (inl (q, stage, cuts, new, stay))) =
+      let was = walks.opened.only (target_of e) q stage in
+      subst (λ y. Taken y enters) (sym new) (stayed m.roots w.items enters
+      (Walks-join walks laws cuts was.0 (subst (Inert (system_of u.l) (slice_index u.blocks) (slice_index w.stack (here w))) (sym was.1) (inert_step inert)))
+      (record { shown = λ other. absurd (other inert); followed = λ _ _. inl (joined_here walks laws cuts (target_of e) stage) }) stay)
+  followed inert m enters (inr (inr (inl (number, stage, new, stay)))) =
+      let signed = walks.signed.finished (target_of e) number stage in
+      let s = slice_index w.stack (here w) in
+      let tie = laws.after (system_of u.l) (slice_index u.blocks) s s (target_of e) (laws.here (system_of u.l) (slice_index u.blocks) s) (inert_step inert) in
+      subst (λ y. Taken y enters) (sym new) (stayed w.roots (with_item (Listed number) w).items enters
+      (Walks-collect walks (Listed number) some (λ j e'. subst (λ x. x < length lists) (let same : number ≡ j = cc in same) signed.within)
+      (λ z g. pair_before laws u s (target_of e) z tie ((signed.signature.exactly z.0 z.1).0 g)))
+      (record { shown = λ other. absurd (other inert); followed = λ _ _. inr (inl (number, stage, λ z c. collected_holds walks (Listed number) z c)) }) stay)
+  -- a state at rest has nothing to show
+  followed inert m enters (inr (inr (inr (stage, new, stay)))) =
+      subst (λ y. Taken y enters) (sym new) (stayed w.roots w.items enters walks
+      (record { shown = λ other. absurd (other inert); followed = λ _ awake. absurd (awake stage) }) stay)
 
   -- whichever step it is
   pub taken : (step : TakenStep) (m : Search) (enters : Bool) → IsStep u (slice_index u.blocks (source_of e)) e step → TakesStep u.l.places step w m enters
       → Taken m enters
-  taken (Shows a b) m enters is takes =
-      subst (λ x. Taken x enters) (sym takes.0) (taken_pair a b enters is.0 is.1 takes.1)
-  taken (Goes t) m enters is (inl (unseen, (start, end, row, new), went)) =
-      subst (λ x. Taken x enters) (sym (new ∙ ap (λ s. entered s start end (length w.items) w) is.1))
-      (taken_entered is.0 start end enters (subst (λ s. IsRow u.l.places s start end) is.1 row) (ap (stage_at w.stages) (sym is.1) ∙ unseen) went)
-  taken (Goes t) m enters is (inr (inl (q, stage, cuts, new, stay))) =
-      subst (λ x. Taken x enters) (sym new) (taken_joined is.0 q m.roots enters (ap (stage_at w.stages) (sym is.1) ∙ stage) cuts stay)
-  taken (Goes t) m enters is (inr (inr (inl (number, stage, new, stay)))) =
-      subst (λ x. Taken x enters) (sym new) (taken_finished is.0 number enters (ap (stage_at w.stages) (sym is.1) ∙ stage) stay)
-  taken (Goes t) m enters is (inr (inr (inr (stage, new, stay)))) =
-      subst (λ x. Taken x enters) (sym new) (taken_resting is.0 enters (ap (stage_at w.stages) (sym is.1) ∙ stage) stay)
+  taken (Shows a b) m enters (other, is) (new, stay) =
+      subst (λ y. Taken y enters) (sym new) (stayed w.roots (with_item (Pair a b) w).items enters
+      (Walks-collect walks (Pair a b) some (λ j e'. absurd (cc))
+      (λ z g. subst (λ (x : ℕ × ℕ). HasPair Branching u.l u.blocks (slice_index w.stack (here w)) x.0 x.1) (sym is ∙ g) (own_pair other)))
+      (record { shown = λ _. collected_holds walks (Pair a b) (pair_under u.blocks e) is; followed = λ inert _. absurd (other inert) }) stay)
+  taken (Goes t) m enters (inert, is) takes = followed inert m enters (subst (λ s. Follows u.l.places s w m enters) is takes)
+
+-- a step that is taken after a frame was marked might have been taken before
+marked_first : (places : List Triple) (w : Search) {m : Search} (enters : Bool) {i : ℕ} {x : Frame} (step : TakenStep) → i < length w.frames
+    → TakesStep places step (record w { frames = set w.frames i x }) m enters
+    → (m' : Search) × TakesStep places step w m' enters × (m ≡ record m' { frames = set m'.frames i x })
+marked_first places w enters (Shows a b) low (new, stay) = (with_item (Pair a b) w, (refl, stay), new)
+marked_first places w enters {i = i} {x = x} (Goes t) low (inl (unseen, (start, end, row, new), went)) =
+    let w' = entered t start end (length w.items) w in
+    let y : Frame = record { height = length w.stack; next = start; end = end } in
+    (w', inl (unseen, (start, end, row, refl), went), new ∙ ap (λ frames. record w' { frames = frames }) (sym (set-append_left w.frames (y ∷ []) i x low)))
+marked_first places w {m = m} enters (Goes t) low (inr (inl (q, stage, cuts, new, stay))) = (record w { roots = m.roots }, inr (inl (q, stage, cuts, refl, stay)), new)
+marked_first places w enters (Goes t) low (inr (inr (inl (number, stage, new, stay)))) = (with_item (Listed number) w, inr (inr (inl (number, stage, refl, stay))), new)
+marked_first places w enters (Goes t) low (inr (inr (inr (stage, new, stay)))) = (w, inr (inr (inr (stage, refl, stay))), new)
 
 -- from one walk to another one, the row of what was its last frame was read up to place k
 pub record Reads (u : Under) (lists : List (List (ℕ × ℕ))) (old new : Search) (k : ℕ) : Type 0 where
@@ -198,58 +187,72 @@ module _ {u : Under} {lists : List (List (ℕ × ℕ))} {first w : Search} {k : 
     place_below = place_low laws lts reads.on.walks now_some (ap (λ y. y.next) top_is) now_more
 
     module _ (block : ℕ) (is_block : block ≡ slice_index u.blocks (slice_index first.stack (top first.frames).height)) (step : TakenStep)
-        (is_step : IsStep u block (place_at u.l.places k) step) (m : Search) (enters : Bool) (takes : TakesStep u.l.places step w m enters) where
+        (is_step : IsStep u block (place_at u.l.places k) step) {i : ℕ} (last : i ≡ length first.frames - 1) {x : Frame}
+        (is : x ≡ record (frame_at w.frames i) { next = k + 1 }) where
       same_block : block ≡ slice_index u.blocks (source_of (place_at u.l.places k))
       same_block =
           is_block ∙ ap (slice_index u.blocks) (ap (slice_index first.stack) (sym (ap (λ y. y.height) top_is)) ∙ ap (λ xs. slice_index xs (top w.frames).height) (sym stays.stack)
           ∙ sym (source laws lts reads.on.walks now_some (ap (λ y. y.next) top_is) now_more))
 
-      took : Taken laws lts reads.on.walks now_some (ap (λ y. y.next) top_is) now_more m enters
-      took =
-          taken laws lts reads.on.walks now_some (ap (λ y. y.next) top_is) now_more step m enters
-          (subst (λ b. IsStep u b (place_at u.l.places k) step) same_block is_step) takes
+      same_last : i ≡ length w.frames - 1
+      same_last = omega (arith, stays.size, last)
 
-      -- it is marked as read
-      module _ (i : ℕ) (last : i ≡ length first.frames - 1) where
-        pub still_there : i < length m.frames
+      -- as it would be taken before it is marked as read
+      module _ (m : Search) (enters : Bool) (takes : TakesStep u.l.places step w m enters) where
+        took : Taken laws lts reads.on.walks now_some (ap (λ y. y.next) top_is) now_more m enters
+        took =
+            taken laws lts reads.on.walks now_some (ap (λ y. y.next) top_is) now_more step m enters
+            (subst (λ b. IsStep u b (place_at u.l.places k) step) same_block is_step) takes
+
+        still_there : i < length m.frames
         still_there = grind (arith, cases_Bool enters, took.longer, took.still, stays.size, last, some)
 
         same_frame : frame_at m.frames i ≡ record (top first.frames) { next = k }
-        same_frame = ap (frame_at m.frames) (let e : i ≡ length w.frames - 1 = omega (arith, stays.size, last) in e) ∙ took.same_frame ∙ top_is
+        same_frame = ap (frame_at m.frames) same_last ∙ took.same_frame ∙ top_is
 
-        module _ (x : Frame) (is : x ≡ record (frame_at m.frames i) { next = k + 1 }) where
-          abbrev New : Search
-          New = record m { frames = set m.frames i x }
+        is_next : x ≡ record (frame_at m.frames i) { next = k + 1 }
+        is_next =
+            let frame : frame_at w.frames i ≡ frame_at m.frames i = ap (frame_at w.frames) same_last ∙ top_is ∙ sym same_frame in
+            is ∙ (λ j. record (frame j) { next = k + 1 })
 
-          next : (frame_at m.frames i).next ≡ k
-          next = ap (λ y. y.next) same_frame
+        abbrev New : Search
+        New = record m { frames = set m.frames i x }
 
-          left : k < (frame_at m.frames i).end
-          left = omega (arith, more, ap (λ y. y.end) same_frame)
+        next : (frame_at m.frames i).next ≡ k
+        next = ap (λ y. y.next) same_frame
 
-          done : Accounted u lists m (frame_at m.frames i).height (place_at u.l.places k)
-          done = subst (λ (y : Frame). Accounted u lists m y.height (place_at u.l.places k)) (top_is ∙ sym same_frame) took.done
+        left : k < (frame_at m.frames i).end
+        left = omega (arith, more, ap (λ y. y.end) same_frame)
 
-          moved_ahead : ahead u.l New + 1 ≡ ahead u.l w
-          moved_ahead =
-              let one = rest-next m.frames i x still_there (ap (λ y. y.end) is) (ap (λ y. y.next) is ∙ ap (λ n. n + 1) (sym next)) (omega (arith, next, left)) in
-              omega (arith, one, took.same_ahead)
+        done : Accounted u lists m (frame_at m.frames i).height (place_at u.l.places k)
+        done = subst (λ (y : Frame). Accounted u lists m y.height (place_at u.l.places k)) (top_is ∙ sym same_frame) took.done
 
-          pub marked : Marked u lists first New k enters
-          marked = record {
-            reads = record {
-              on = record { walks = Walks-next took.after still_there is next left done; seen = seen_on reads.on.seen took.seen };
-              here =
-                  ap (frame_at New.frames) (sym last) ∙ get_or-set_same m.frames i x _ still_there ∙ is
-                  ∙ (λ j. record { height = (same_frame j).height; next = k + 1; end = (same_frame j).end });
-              forward = omega (arith, reads.forward);
-              less = omega (arith, moved_ahead, reads.less);
-            };
-            stays = λ stay. record {
-              size = length-set m.frames i x ∙ ap length (took.still stay).0 ∙ stays.size;
-              stack = (took.still stay).1 ∙ stays.stack;
-              none = λ s is. elim (took.finds.found s (stays.none s is)) [ inl none ↦ none | inr one ↦ absurd (stay one.0) ];
-            };
-            longer = λ went. omega (arith, length-set m.frames i x, took.longer went, stays.size);
-            finds = record { some = took.finds.some; found = λ s is. took.finds.found s (stays.none s is) };
-          }
+        moved_ahead : ahead u.l New + 1 ≡ ahead u.l w
+        moved_ahead =
+            let one = rest-next m.frames i x still_there (ap (λ y. y.end) is_next) (ap (λ y. y.next) is_next ∙ ap (λ n. n + 1) (sym next)) (omega (arith, next, left)) in
+            omega (arith, one, took.same_ahead)
+
+        taken_first : Marked u lists first New k enters
+        taken_first = record {
+          reads = record {
+            on = record { walks = Walks-next took.after still_there is_next next left done; seen = seen_on reads.on.seen took.seen };
+            here =
+                ap (frame_at New.frames) (sym last) ∙ get_or-set_same m.frames i x _ still_there ∙ is_next
+                ∙ (λ j. record { height = (same_frame j).height; next = k + 1; end = (same_frame j).end });
+            forward = omega (arith, reads.forward);
+            less = omega (arith, moved_ahead, reads.less);
+          };
+          stays = λ stay. record {
+            size = length-set m.frames i x ∙ ap length (took.still stay).0 ∙ stays.size;
+            stack = (took.still stay).1 ∙ stays.stack;
+            none = λ s is. elim (took.finds.found s (stays.none s is)) [ inl none ↦ none | inr one ↦ absurd (stay one.0) ];
+          };
+          longer = λ went. omega (arith, length-set m.frames i x, took.longer went, stays.size);
+          finds = record { some = took.finds.some; found = λ s is. took.finds.found s (stays.none s is) };
+        }
+
+      -- it was marked as read, and then taken
+      pub marked : {m : Search} {enters : Bool} → TakesStep u.l.places step (record w { frames = set w.frames i x }) m enters → Marked u lists first m k enters
+      marked {enters = enters} takes =
+          let (m', takes', is_m) = marked_first u.l.places w enters step (omega (arith, same_last, now_some)) takes in
+          subst (λ y. Marked u lists first y k enters) (sym is_m) (taken_first m' enters takes')

@@ -14,11 +14,7 @@ use Rattle.inert.specs.Search.{stage_at, frame_at, no_frame, top, Stage, Unseen,
 
 -- one cost after another, where no more than so much was counted in all
 pub costs_on : {a b c : Counts} {most n k least : ℕ} → Costs a b 0 0 n → Costs b c 0 least k → c.visits ≤ a.visits + most → Costs a c 0 0 most
-costs_on first then few = record {
-  rounds = omega (arith, first.rounds, then.rounds);
-  at_least = omega (arith, first.at_least, then.at_least);
-  at_most = few;
-}
+costs_on first then few = omega arith
 
 -- 1 for true, and 0 for false
 abbrev one : Bool → ℕ
@@ -131,22 +127,25 @@ module _ (places : List Triple) (stages : List Stage) where
   passed-more : (k : ℕ) → k < length places → passed places stages (k + 1) ≡ passed places stages k + at_rest stages (place_at places k)
   passed-more k h = sum_by_more (at_rest stages) places k (0, 0, 0) h
 
+  -- the count grows as g does at each place
+  passed-run : (g : ℕ → ℕ) (a b n : ℕ) → b ≡ a + n → b ≤ length places → ((k : ℕ) → a ≤ k → k < b → at_rest stages (place_at places k) + g k ≡ g (k + 1))
+      → passed places stages b + g a ≡ passed places stages a + g b
+  passed-run g a b zero is h all = let e : b ≡ a = omega arith in omega (arith, ap (passed places stages) e, ap g e)
+  passed-run g a b (suc n) is h all =
+      let e : b ≡ a + n + 1 = omega arith in
+      let before = passed-run g a (a + n) n refl (omega arith) (λ k l u. all k l (omega arith)) in
+      omega (arith, ap (passed places stages) e, ap g e, passed-more (a + n) (omega arith), all (a + n) (omega arith) (omega arith), before)
+
   -- places of a row that is still to be read
-  pub passed-row : (a n : ℕ) → a + n ≤ length places → ((k : ℕ) → a ≤ k → k < a + n → stage_at stages (source_of (place_at places k)) ≡ Unseen)
-      → passed places stages (a + n) ≡ passed places stages a
-  passed-row a zero h all = let e : a + 0 ≡ a = omega arith in ap (passed places stages) e
-  passed-row a (suc n) h all =
-      let e : a + suc n ≡ a + n + 1 = omega arith in
-      let is : to_read stages (place_at places (a + n)) ≡ 1 = ap (λ m. one (is_unseen m)) (all (a + n) (omega arith) (omega arith)) in
-      let before = passed-row a n (omega (arith, h)) (λ k l u. all k l (omega (arith, u))) in
-      ap (passed places stages) e ∙ omega (arith, passed-more (a + n) (omega (arith, h)), is, before)
+  pub passed-row : (a b : ℕ) → a ≤ b → b ≤ length places → ((k : ℕ) → a ≤ k → k < b → stage_at stages (source_of (place_at places k)) ≡ Unseen)
+      → passed places stages b ≡ passed places stages a
+  passed-row a b order h all =
+      let run = passed-run (λ _. 0) a b (b - a) (omega arith) h (λ k l u. omega (arith, ap (λ m. one (is_unseen m)) (all k l u))) in
+      omega arith
 
   -- places between two rows
-  pub passed-gap : (a n : ℕ) → a + n ≤ length places → ((k : ℕ) → a ≤ k → k < a + n → ¬ (stage_at stages (source_of (place_at places k)) ≡ Unseen))
-      → passed places stages (a + n) ≡ passed places stages a + n
-  passed-gap a zero h all = let e : a + 0 ≡ a = omega arith in omega (arith, ap (passed places stages) e)
-  passed-gap a (suc n) h all =
-      let e : a + suc n ≡ a + n + 1 = omega arith in
-      let is : to_read stages (place_at places (a + n)) ≡ 0 = ap one (seen _ (all (a + n) (omega arith) (omega arith))) in
-      let before = passed-gap a n (omega (arith, h)) (λ k l u. all k l (omega (arith, u))) in
-      ap (passed places stages) e ∙ omega (arith, passed-more (a + n) (omega (arith, h)), is, before)
+  pub passed-gap : (a b : ℕ) → a ≤ b → b ≤ length places → ((k : ℕ) → a ≤ k → k < b → ¬ (stage_at stages (source_of (place_at places k)) ≡ Unseen))
+      → passed places stages b ≡ passed places stages a + (b - a)
+  passed-gap a b order h all =
+      let run = passed-run (λ k. k) a b (b - a) (omega arith) h (λ k l u. omega (arith, ap one (seen _ (all k l u)))) in
+      omega arith

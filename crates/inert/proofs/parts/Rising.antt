@@ -1,8 +1,7 @@
--- Lists of which each element stands in a relation to all that follow, as the roots and the frames of a walk do; and their last elements.
-use Rattle.std.proofs.Common.{◌≡◌, ℕ, ◌-◌, ◌<◌, ◌≤◌, List, length, take, get_or, ◌∙◌, ap, arith}
+-- Lists of which each element stands in a relation to all that follow, as the roots and the frames of a walk do.
+use Rattle.std.proofs.Common.{ℕ, ◌<◌, ◌≤◌, List, length, take, get_or, arith}
 use Rattle.std.specs.List.{All, AllPairs}
 use Rattle.std.proofs.lemmas.Grind.{elements}
-use Rattle.std.proofs.lemmas.List.{get_or_read}
 use Rattle.std.proofs.lemmas.List.Elements.{All-from_get_or}
 
 pub AllPairs-take : {X : Type 0} (R : X → X → Type 0) (n : ℕ) (xs : List X) → AllPairs R xs → AllPairs R (take n xs)
@@ -11,9 +10,3 @@ AllPairs-take R n xs old i j d h low = grind (arith, elements, old i j d)
 -- what holds of the first elements, and of the rest, holds of all
 pub All-from_take : {X : Type 0} (P : X → Type 0) (n : ℕ) (xs : List X) (d : X) → All P (take n xs) → ((i : ℕ) → n ≤ i → i < length xs → P (get_or xs i d)) → All P xs
 All-from_take P n xs d first rest = All-from_get_or P xs d (λ i h. grind (arith, elements, rest i, first i d))
-
--- the last element, as it is read through the length
-pub last_read : {X : Type 0} (xs ys : List X) (n : ℕ) (x d : X) → xs ≡ ys → n ≡ length xs → 0 < length ys → x ≡ get_or xs (n - 1) x → x ≡ get_or ys (length ys - 1) d
-last_read xs ys n x d same size some is =
-    get_or_read xs (n - 1) x (omega (arith, size, some, ap length same)) is d ∙ ap (λ zs. get_or zs (n - 1) d) same
-    ∙ ap (λ m. get_or ys (m - 1) d) (size ∙ ap length same)

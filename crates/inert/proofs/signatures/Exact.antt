@@ -53,15 +53,13 @@ module _ (laws : Laws) {u : Under} (lts : IsLts u.l) {lists : List (List (ℕ ×
     | inl (i, low, is, ahead) ↦ absurd (none_ahead walks read p k i lk source low (last_frame walks i low (omega (arith, is, h))) is ahead)
   ]
 
-  -- a source has a transition
-  row_some : (k : ℕ) → k < length u.l.places → ¬ (row_of (source_of (place_at u.l.places k)) u.l.places ≡ [])
-  row_some k h none =
-      let row = IsRow-before (source_of (place_at u.l.places k)) u.l.places lts.rising in
-      let inside = (row.exactly k h).0 refl in
-      omega (arith, inside, row.count, ap length none)
-
+  -- a state that has no transition has no step
   no_step : (s : ℕ) → row_of s u.l.places ≡ [] → (a : List ℕ) (t : ℕ) → ¬ Step (system_of u.l) s a t
-  no_step s none a t step = let (k, lk, source, label, target) = step_place u.l s t a step in row_some k lk (ap (λ x. row_of x u.l.places) source ∙ none)
+  no_step s none a t step =
+      let (k, lk, source, label, target) = step_place u.l s t a step in
+      let row = IsRow-before s u.l.places lts.rising in
+      let inside = (row.exactly k lk).0 source in
+      omega (arith, inside, row.count, ap length none)
 
   no_path : (s : ℕ) → row_of s u.l.places ≡ [] → (us : List ℕ) (v t : ℕ) → Along (Inert (system_of u.l) (slice_index u.blocks)) s us v → (a : List ℕ) → ¬ Step (system_of u.l) v a t
   no_path s none [] v t e a step = no_step s none a t (subst (λ x. Step (system_of u.l) x a t) (sym e) step)
@@ -126,14 +124,14 @@ module _ (laws : Laws) {u : Under} (lts : IsLts u.l) {lists : List (List (ℕ ×
 
   -- a list of it is the signature of each state of the component
   module _ {lists' : List (List (ℕ × ℕ))} {number : ℕ} (listed : IsListed (drop c0 w.items) lists lists' number) where
-    whole : (p : ℕ) → here w ≤ p → p < length w.stack → IsSignature Branching u.l u.blocks (slice_index w.stack p) (list_at lists' number)
-    whole p h lp = record {
-      exactly = λ k b. (
-        λ c. sound p h lp (k, b) ((listed.exactly (k, b)).0 c),
-        λ has. (listed.exactly (k, b)).1 (collects (k, b) has.1.2.0 p h lp has.1.0 has.1.1 has.1.2.1 has.1.3 has.1.4 has.1.5 has.0),
-      );
-      rising = listed.rising;
-    }
-
     pub exact : (p : ℕ) → here w ≤ p → p < length w.stack → IsSigned u (slice_index w.stack p) lists' number
-    exact p h lp = record { within = listed.within; signature = whole p h lp }
+    exact p h lp = record {
+      within = listed.within;
+      signature = record {
+        exactly = λ k b. (
+          λ c. sound p h lp (k, b) ((listed.exactly (k, b)).0 c),
+          λ has. (listed.exactly (k, b)).1 (collects (k, b) has.1.2.0 p h lp has.1.0 has.1.1 has.1.2.1 has.1.3 has.1.4 has.1.5 has.0),
+        );
+        rising = listed.rising;
+      };
+    }

@@ -48,12 +48,6 @@ module _ {live : List ℕ} {first : List Stage} {old : List ℕ} {i : ℕ} {stag
     rested : stage_at stages' s ≡ AtRest
     rested = get_or-set_same stages s AtRest Unseen inside
 
-    earlier : (j : ℕ) → j < i + 1 → ((j < i) × ¬ (slice_index live j ≡ s)) ⊎ (slice_index live j ≡ s)
-    earlier j h = elim (cases_lt j i) [
-      | inl low ↦ inl (low, λ e. let up = rises.rising j i low more in omega (arith, up, e))
-      | inr last ↦ inr (let here : j ≡ i = omega (arith, h, last) in ap (slice_index live) here)
-    ]
-
     pub numbered_more : NumberedUpTo live first old (i + 1) stages' numbers'
     numbered_more = record {
       size = length-set stages s AtRest ∙ up.size;
@@ -68,9 +62,12 @@ module _ {live : List ℕ} {first : List Stage} {old : List ℕ} {i : ℕ} {stag
           | inr rest ↦ inr (get_or-set_other stages s t AtRest Unseen d ∙ rest)
         ]
       ];
-      live_have = λ j h. elim (earlier j h) [
-        | inl x ↦ up.live_have j x.0 ∙ ap Finished (sym (get_or-set_other numbers s (slice_index live j) k 0 x.1))
-        | inr e ↦
+      live_have = λ j h. elim (cases_lt j i) [
+        | inl low ↦
+            let apart : ¬ (slice_index live j ≡ s) = λ e. let rise = rises.rising j i low more in omega (arith, rise, e) in
+            up.live_have j low ∙ ap Finished (sym (get_or-set_other numbers s (slice_index live j) k 0 apart))
+        | inr last ↦
+            let e : slice_index live j ≡ s = ap (slice_index live) (omega (arith, h, last)) in
             let own : slice_index numbers' s ≡ k = get_or-set_same numbers s k 0 (omega (arith, inside, up.size, up.sizes)) in
             ap (stage_at first) e ∙ sym (up.ahead i (omega arith) more) ∙ has ∙ ap Finished (sym (ap (slice_index numbers') e ∙ own))
       ];

@@ -1,4 +1,4 @@
-use Rattle.std.proofs.Common.{◌≡◌, ◌∙◌, ℕ, ◌+◌, ◌-◌, ◌<◌, ◌≤◌, List, length, slice_index, ap, sym, refl, inl, inr, arith}
+use Rattle.std.proofs.Common.{◌≡◌, ◌∙◌, ℕ, ◌+◌, ◌-◌, ◌<◌, ◌≤◌, List, length, slice_index, ap, sym, subst, refl, inl, inr, arith}
 use Rattle.std.proofs.lemmas.Bool.{cases_lt, false≢true}
 use Rattle.std.proofs.lemmas.Result.{err_from_is_err_and}
 use Rattle.lts.proofs.CallerLemmas.{before-le}
@@ -7,7 +7,7 @@ use Rattle.inert.specs.Ahead.{KeepsSeen}
 use Rattle.inert.proofs.parts.Counting.{costs_on, passed, passed-all}
 use Rattle.inert.proofs.parts.Stages.{seen_same, seen_on}
 use Rattle.inert.proofs.invariant.Resting.{woken_rests, rest_on, finished}
-use Rattle.inert.proofs.signatures.Passing.{Comes, comes, first_passed, none_unread}
+use Rattle.inert.proofs.signatures.Passing.{IsBetween, Comes, comes, first_passed, none_unread}
 use Rattle.inert.proofs.signer.walk_all.Given.{Over}
 use Rattle.inert.proofs.signer.walk_all.Goals as goal
 use Rattle.inert.proofs.signer.walk_all.Goals.{After-row-start}
@@ -22,9 +22,9 @@ module _ (g : Over) (c : After-row-start g) where
 
   next : Comes c.args.lens.now.l c.args.live.now c.args.walk.now.stages i c.row-start.result.0 c.row-start.result.1 c.loop-i.to
   next =
-      let inv = c.loop-i.invariant in
-      comes c.known.ensures.lts c.requires.live c.requires.woken more c.row-start.ensures (λ j h. inv.behind j (omega (arith, h, c.loop-i-test.true)))
-      (λ j low h. inv.ahead j (omega (arith, low, c.loop-i-test.true)) h) inv.within
+      let one : c.loop-i.i ≡ i + 1 = omega (arith, c.loop-i-test.true) in
+      comes c.known.ensures.lts c.requires.live c.requires.woken more c.row-start.ensures
+      (subst (λ n. IsBetween c.args.lens.now.l c.args.live.now n c.loop-i.to) one c.loop-i.invariant.between)
 
   -- those after it are finished, and so is it
   all_on : {stages : List Stage} → KeepsSeen c.loop-i.walk.stages stages → (k : ℕ) × (stage_at stages (slice_index c.args.live.now i) ≡ Finished k)
@@ -44,18 +44,20 @@ loop-i-init g c =
       rests = woken_rests c.requires.woken refl c.known.ensures.size c.requires.others c.known-2.ensures.some;
       all = λ j h below. absurd (omega (arith, h, below));
       seen = seen_same c.args.walk.now.stages;
-      behind = λ j h. omega (arith, before-le (slice_index c.args.live.now j + 1) l.places, c.edges-to.ensures);
-      ahead = λ j h below. absurd (omega (arith, h, below));
-      within = omega (arith, c.edges-to.ensures);
+      between = record {
+        behind = λ j h. omega (arith, before-le (slice_index c.args.live.now j + 1) l.places, c.edges-to.ensures);
+        ahead = λ j h below. absurd (omega (arith, h, below));
+        within = omega (arith, c.edges-to.ensures);
+      };
       visits = omega (arith, all, ap (passed l.places c.args.walk.now.stages) c.edges-to.ensures);
-      cost = record { rounds = omega arith; at_least = omega arith; at_most = omega arith };
+      cost = omega arith;
     }
 
 pub visit-requires-clause-room : goal.visit-requires-clause-room
 visit-requires-clause-room g c =
     let inv = c.loop-i.invariant in
     let passes = (next g (goal.at.visit-requires-clause-room g c).After-row-start).passes in
-    record { for_rounds = omega (arith, c.requires.room.for_rounds, inv.cost.rounds); for_visits = omega (arith, c.requires.room.for_visits, inv.visits, passes) }
+    omega (arith, c.requires.room, inv.cost.rounds, inv.visits, passes)
 
 pub loop-i-preserved-then-not-is_unseen : goal.loop-i-preserved-then-not-is_unseen
 loop-i-preserved-then-not-is_unseen g c =
@@ -68,9 +70,7 @@ loop-i-preserved-then-not-is_unseen g c =
       all = all_on g d (seen_same c.loop-i.walk.stages)
           (finished inv.rests (slice_index c.args.live.now (i g d)) inv.seen (c.requires.woken.awake (i g d) (more g d)) (λ is. false≢true (sym c.if-not-is_unseen.true ∙ c.is_unseen.ensures.1 is)));
       seen = inv.seen;
-      behind = comes.behind;
-      ahead = comes.ahead;
-      within = comes.within;
+      between = comes.between;
       visits = omega (arith, inv.visits, comes.passes, gap.at_least, gap.at_most);
       cost = costs_on inv.cost gap (omega (arith, inv.visits, comes.passes, gap.at_most));
     }
@@ -80,10 +80,7 @@ finish-requires-clause-room g c =
     let inv = c.loop-i.invariant in
     let passes = (next g (goal.at.finish-requires-clause-room g c).After-row-start).passes in
     let gap = c.visit.ensures in
-    record {
-      for_rounds = omega (arith, c.requires.room.for_rounds, inv.cost.rounds, gap.rounds);
-      for_visits = omega (arith, c.requires.room.for_visits, inv.visits, passes, gap.at_most);
-    }
+    omega (arith, c.requires.room, inv.cost.rounds, gap.rounds, inv.visits, passes, gap.at_most)
 
 pub loop-i-preserved : goal.loop-i-preserved
 loop-i-preserved g c =
@@ -96,9 +93,7 @@ loop-i-preserved g c =
       rests = done.rests;
       all = all_on g d done.finished.seen (done.finished.number, done.finished.finished);
       seen = seen_on inv.seen done.finished.seen;
-      behind = comes.behind;
-      ahead = comes.ahead;
-      within = comes.within;
+      between = comes.between;
       visits = omega (arith, inv.visits, comes.passes, gap.at_least, gap.at_most, done.visits);
       cost = costs_on (costs_on {most = length c.args.lens.now.l.places} inv.cost gap (omega (arith, inv.visits, comes.passes, gap.at_most))) done.cost (omega (arith, inv.visits, comes.passes, gap.at_most, done.cost.at_most));
     }
@@ -116,20 +111,15 @@ returns-in_err-finish-clause-visits g c =
 pub visit-requires-2-clause-room : goal.visit-requires-2-clause-room
 visit-requires-2-clause-room g c =
     let inv = c.loop-i.invariant in
-    let first = first_passed c.known.ensures.lts c.requires.live c.requires.woken c.loop-i.to (λ j h. inv.ahead j (omega (arith, c.loop-i-test.false)) h) inv.within in
-    record { for_rounds = omega (arith, c.requires.room.for_rounds, inv.cost.rounds); for_visits = omega (arith, c.requires.room.for_visits, inv.visits, first) }
+    let first = first_passed c.known.ensures.lts c.requires.live c.requires.woken (omega (arith, c.loop-i-test.false)) inv.between in
+    omega (arith, c.requires.room, inv.cost.rounds, inv.visits, first)
 
 pub returns-clause-visits : goal.returns-clause-visits
 returns-clause-visits g c =
     let inv = c.loop-i.invariant in
-    let first = first_passed c.known.ensures.lts c.requires.live c.requires.woken c.loop-i.to (λ j h. inv.ahead j (omega (arith, c.loop-i-test.false)) h) inv.within in
+    let first = first_passed c.known.ensures.lts c.requires.live c.requires.woken (omega (arith, c.loop-i-test.false)) inv.between in
     let none =
     none_unread c.known.ensures.lts c.requires.live c.loop-i.walk.stages inv.rests.numbers.size
     (rest_on c.requires.woken inv.seen inv.rests.numbers.size)
     (λ j h. inv.all j (omega (arith, c.loop-i-test.false)) h) in
-    let visits = c.visit-2.ensures in
-    record {
-      rounds = omega (arith, inv.cost.rounds, visits.rounds);
-      at_least = omega (arith, inv.visits, first, none, visits.at_least);
-      at_most = omega (arith, inv.visits, first, none, visits.at_most);
-    }
+    omega (arith, inv.cost.rounds, inv.visits, first, none, c.visit-2.ensures)

@@ -1,10 +1,10 @@
 use Rattle.std.proofs.Common.{◌≡◌, ℕ, ◌+◌, ◌<◌, ◌≤◌, length, slice_index}
 use Rattle.lts.specs.Meter.{Costs}
-use Rattle.lts.specs.Lts.{before}
 use Rattle.inert.specs.Search.{stage_at, Finished}
 use Rattle.inert.specs.Moves.{Rests}
 use Rattle.inert.specs.Ahead.{unread, KeepsSeen}
 use Rattle.inert.proofs.parts.Counting.{passed}
+use Rattle.inert.proofs.signatures.Passing.{IsBetween}
 use Rattle.inert.proofs.signer.walk_all.Given as goal
 
 abbrev pub invariant-loop-i : goal.invariant-loop-i
@@ -12,9 +12,7 @@ invariant-loop-i g l = record {
   rests : Rests l.lens l.lists l.walk;
   all : (j : ℕ) → l.i ≤ j → j < length l.live → (k : ℕ) × (stage_at l.walk.stages (slice_index l.live j) ≡ Finished k);
   seen : KeepsSeen l.fn.walk.stages l.walk.stages;
-  behind : (j : ℕ) → j < l.i → before (slice_index l.live j + 1) l.lens.l.places ≤ l.to;
-  ahead : (j : ℕ) → l.i ≤ j → j < length l.live → l.to ≤ before (slice_index l.live j) l.lens.l.places;
-  within : l.to ≤ length l.lens.l.places;
+  between : IsBetween l.lens.l l.live l.i l.to;
   visits : (g.M.Meter.counted l.m).visits + unread l.lens.l.places l.walk.stages + passed l.lens.l.places l.fn.walk.stages l.to
       ≡ (g.M.Meter.counted l.fn.m).visits + length l.lens.l.places;
   cost : Costs (g.M.Meter.counted l.fn.m) (g.M.Meter.counted l.m) 0 0 (length l.lens.l.places);

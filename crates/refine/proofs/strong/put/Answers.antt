@@ -9,27 +9,27 @@ use Rattle.refine.proofs.strong.put.Goals as goal
 
 pub returns-then-not-touched-clause-put : goal.returns-then-not-touched-clause-put
 returns-then-not-touched-clause-put g c =
-    let l = c.args.lens.now.l.now in
+    let l = c.args.under.now.l.now in
     inr (
-      row_still l c.args.lens.now.of.now c.args.s c.known.ensures (c.rows_are_steps.ensures.sources c.args.s l.places)
-          (c.rows_are_steps.ensures.steps l c.args.s) c.args.lens.now.low
-          (subst (λ xs. HasFrom c.args.lens.now.low xs → ⊥) c.in_ok-touched.ensures.pairs
+      row_still l c.args.under.now.of.now c.args.s c.known.ensures (c.rows_are_steps.ensures.sources c.args.s l.places)
+          (c.rows_are_steps.ensures.steps l c.args.s) c.args.under.now.low
+          (subst (λ xs. HasFrom c.args.under.now.low xs → ⊥) c.in_ok-touched.ensures.pairs
           (iff_false c.in_ok-touched.ensures.touched c.if-not-touched.true)),
       c.known-2.ensures.first,
     )
 
 pub returns-clause-put : goal.returns-clause-put
 returns-clause-put g c =
-    let l = c.args.lens.now.l.now in
+    let l = c.args.under.now.l.now in
     let pairs = c.order.new.pairs.items in
     let touched =
-    row_touched l c.args.lens.now.of.now c.args.s c.known.ensures (c.rows_are_steps.ensures.sources c.args.s l.places)
-    (c.rows_are_steps.ensures.steps l c.args.s) c.args.lens.now.low
-    (subst (HasFrom c.args.lens.now.low) c.in_ok-touched.ensures.pairs
+    row_touched l c.args.under.now.of.now c.args.s c.known.ensures (c.rows_are_steps.ensures.sources c.args.s l.places)
+    (c.rows_are_steps.ensures.steps l c.args.s) c.args.under.now.low
+    (subst (HasFrom c.args.under.now.low) c.in_ok-touched.ensures.pairs
     (c.in_ok-touched.ensures.touched.0 c.if-not-touched.false)) in
     let signed =
-    row_signature l c.args.lens.now.of.now c.args.s c.known.ensures (c.rows_are_steps.ensures.sources c.args.s l.places)
+    row_signature l c.args.under.now.of.now c.args.s c.known.ensures (c.rows_are_steps.ensures.sources c.args.s l.places)
     (c.rows_are_steps.ensures.steps l c.args.s) pairs c.order.ensures.rising
     (λ z. subst (λ xs. Contains pairs z ↔ Contains xs z) c.in_ok-touched.ensures.pairs (c.order.ensures.same z)) in
     let at : list_at c.push.new.self c.in_ok-list.list ≡ pairs = c.in_ok-list.ensures.list ∙ c.deref.ensures.value in
-    inl (touched, subst (IsSignature Strong l c.args.lens.now.of.now c.args.s) (sym at) signed)
+    inl (touched, subst (IsSignature Strong l c.args.under.now.of.now c.args.s) (sym at) signed)

@@ -11,24 +11,24 @@ use Rattle.refine.proofs.strong.read.Goals.{After-row-start, then-end-start-eq1,
 -- a pair more of the row
 module _ (g : Over) (c : After-row-start g) where
   one_more : (k next : ℕ) {label target : ℕ} {pairs new : List (ℕ × ℕ)} → next ≡ k + 1 → c.row-start.result.0 ≤ k → k < c.row-start.result.1
-      → label ≡ (place_at c.args.lens.now.l.now.places k).1 → target ≡ (place_at c.args.lens.now.l.now.places k).2
-      → pairs ≡ map (pair_under c.args.lens.now.of.now) (take (k - c.row-start.result.0) (row_of c.args.s c.args.lens.now.l.now.places))
-      → new ≡ pairs ++ (label, slice_index c.args.lens.now.of.now target) ∷ []
-      → new ≡ map (pair_under c.args.lens.now.of.now) (take (next - c.row-start.result.0) (row_of c.args.s c.args.lens.now.l.now.places))
+      → label ≡ (place_at c.args.under.now.l.now.places k).1 → target ≡ (place_at c.args.under.now.l.now.places k).2
+      → pairs ≡ map (pair_under c.args.under.now.of.now) (take (k - c.row-start.result.0) (row_of c.args.s c.args.under.now.l.now.places))
+      → new ≡ pairs ++ (label, slice_index c.args.under.now.of.now target) ∷ []
+      → new ≡ map (pair_under c.args.under.now.of.now) (take (next - c.row-start.result.0) (row_of c.args.s c.args.under.now.l.now.places))
   one_more k next {label} {target} {pairs} {new} is_next begun more is_label is_target before after =
-      let shown : (label, slice_index c.args.lens.now.of.now target) ≡ pair_under c.args.lens.now.of.now (place_at c.args.lens.now.l.now.places k) =
-      λ i. (is_label i, (ap (slice_index c.args.lens.now.of.now) is_target) i) in
-      let row = c.rows_follow.ensures.inside c.args.lens.now.l.now.places c.args.s c.row-start.result.0 c.row-start.result.1 k c.row-start.ensures begun more in
+      let shown : (label, slice_index c.args.under.now.of.now target) ≡ pair_under c.args.under.now.of.now (place_at c.args.under.now.l.now.places k) =
+      λ i. (is_label i, (ap (slice_index c.args.under.now.of.now) is_target) i) in
+      let row = c.rows_follow.ensures.inside c.args.under.now.l.now.places c.args.s c.row-start.result.0 c.row-start.result.1 k c.row-start.ensures begun more in
       grind (arith, common_steps, is_next, shown, row, before, after)
 
 pub loop-k-init : goal.loop-k-init
 loop-k-init g c =
     let d = (goal.at.loop-k-init g c).After-row-start in
     let start = c.row-start.result.0 in
-    let read : ℕ → List (ℕ × ℕ) = λ k. map (pair_under c.args.lens.now.of.now) (take (k - start) (row_of c.args.s c.args.lens.now.l.now.places)) in
+    let read : ℕ → List (ℕ × ℕ) = λ k. map (pair_under c.args.under.now.of.now) (take (k - start) (row_of c.args.s c.args.under.now.l.now.places)) in
     let zero : 0 ≡ start - start = omega arith in
     let none : c.reserve.new.self.items ≡ read start =
-    c.in_ok-reserve.ensures.items ∙ c.clear.ensures.items ∙ ap (λ n. map (pair_under c.args.lens.now.of.now) (take n (row_of c.args.s c.args.lens.now.l.now.places))) zero in
+    c.in_ok-reserve.ensures.items ∙ c.clear.ensures.items ∙ ap (λ n. map (pair_under c.args.under.now.of.now) (take n (row_of c.args.s c.args.under.now.l.now.places))) zero in
     elim c.if-end-start-eq1.branch [
       | then-end-start-eq1 w ↦ record {
         begun = omega (arith, w.k-is);
@@ -38,7 +38,7 @@ loop-k-init g c =
             ap (λ v. v.items) w.pairs-is
             ∙ one_more g d start (start + 1) refl (omega arith) (omega (arith, w.if-end-start-eq1.true)) w.edge-only.ensures.label w.edge-only.ensures.target none w.collect-touched.ensures.pairs
             ∙ ap read (sym w.k-is);
-        touched = subst₂ (λ t v. IsTrue t ↔ HasFrom c.args.lens.now.low v.items) (sym w.touched-is) (sym w.pairs-is) w.collect-touched.ensures.touched;
+        touched = subst₂ (λ t v. IsTrue t ↔ HasFrom c.args.under.now.low v.items) (sym w.touched-is) (sym w.pairs-is) w.collect-touched.ensures.touched;
         visits = search rules;
       }
       | else-end-start-eq1 w ↦ record {
@@ -68,6 +68,6 @@ loop-k-preserved g c =
 
 pub returns-clause-pairs : goal.returns-clause-pairs
 returns-clause-pairs g c =
-    let row = row_of c.args.s c.args.lens.now.l.now.places in
+    let row = row_of c.args.s c.args.under.now.l.now.places in
     let all : take (c.loop-k.k - c.row-start.result.0) row ≡ row = take_all _ row (omega (arith, c.row-start.ensures.count, c.loop-k-test.false)) in
-    c.loop-k.invariant.pairs ∙ ap (map (pair_under c.args.lens.now.of.now)) all
+    c.loop-k.invariant.pairs ∙ ap (map (pair_under c.args.under.now.of.now)) all

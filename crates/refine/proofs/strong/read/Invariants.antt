@@ -11,8 +11,8 @@ invariant-loop-k g l = record {
   begun : l.start ≤ l.k;
   by_two : (n : ℕ) × (l.end ≡ l.k + n * 2);
   room : vec_len l.pairs + l.end ≤ vec_capacity l.pairs + l.k;
-  pairs : l.pairs.items ≡ map (pair_under l.lens.of.now) (take (l.k - l.start) (row_of l.s l.lens.l.now.places));
-  touched : IsTrue l.touched ↔ HasFrom l.lens.low l.pairs.items;
+  pairs : l.pairs.items ≡ map (pair_under l.under.of.now) (take (l.k - l.start) (row_of l.s l.under.l.now.places));
+  touched : IsTrue l.touched ↔ HasFrom l.under.low l.pairs.items;
   visits : Costs (g.M.Meter.counted l.fn.m) (g.M.Meter.counted l.m) 0 (l.k - l.start) (l.k - l.start);
 }
 

@@ -1,4 +1,4 @@
-use Rattle.std.proofs.Common.{◌≡◌, ◌∙◌, slice_index, ap, sym, subst, subst₂}
+use Rattle.std.proofs.Common.{◌≡◌, ◌∙◌, slice_index, ap, sym, subst, subst₂, rules}
 use Rattle.theory.specs.declared.relation.Relation.TheVariants.{Branching}
 use Rattle.lists.specs.Lists.{list_at}
 use Rattle.partition.specs.Blocks.{AreLive, IsOne, HaveNone}
@@ -23,23 +23,20 @@ pub number-requires-clause-live : goal.number-requires-clause-live
 number-requires-clause-live g c =
     subst₂ AreLive (c.requires.blocks ∙ sym (c.in-Ok.ensures.rests.numbers.size ∙ ap (λ u. u.l.states) c.new-lens.ensures)) (sym c.live-live.ensures.live) c.live-live.ensures.rising
 
-pub returns-in-Ok-clause-signed : goal.returns-in-Ok-clause-signed
-returns-in-Ok-clause-signed g c s one =
-    let lists = c.walk_all.new.lists in
-    let k = slice_index c.number.new.numbers s in
+pub returns-in-Ok : goal.returns-in-Ok
+returns-in-Ok g c =
+    let rests = c.in-Ok.ensures.rests in
+    let live = c.live-live.result.now in
+    let old = c.args.numbers.now in
+    let new = c.number.new.numbers in
     let is : c.new-lens.result ≡ under c.args.l.now c.args.blocks.now.of = c.new-lens.ensures ∙ ap (under c.args.l.now) c.of.ensures.of in
-    subst (λ (u : Under). IsSignature Branching u.l u.blocks s (list_at lists k)) is
-    (all_signed c.in-Ok.ensures.rests c.live-live.result.now c.args.numbers.now c.number.new.numbers
-    (subst (λ live. HaveNone live c.args.numbers.now) (sym c.live-live.ensures.live) c.requires.numbers.1) c.number.auto.numbers c.number.ensures.live c.number.ensures.others s
-    (subst (λ live. IsOne live s) (sym c.live-live.ensures.live) one))
-
-pub returns-in-Ok-clause-numbers : goal.returns-in-Ok-clause-numbers
-returns-in-Ok-clause-numbers g c =
-    all_within c.in-Ok.ensures.rests c.live-live.result.now c.args.numbers.now c.number.new.numbers
-    (subst (λ live. HaveNone live c.args.numbers.now) (sym c.live-live.ensures.live) c.requires.numbers.1) c.number.auto.numbers c.number.ensures.live c.number.ensures.others
-
-pub returns-in-Ok-clause-others : goal.returns-in-Ok-clause-others
-returns-in-Ok-clause-others g c =
-    subst (λ live. HaveNone live c.number.new.numbers) c.live-live.ensures.live
-    (none_still c.in-Ok.ensures.rests c.live-live.result.now c.args.numbers.now c.number.new.numbers
-    (subst (λ live. HaveNone live c.args.numbers.now) (sym c.live-live.ensures.live) c.requires.numbers.1) c.number.auto.numbers c.number.ensures.live c.number.ensures.others)
+    let looked_at = c.live-live.ensures.live in
+    let none = subst (λ live. HaveNone live old) (sym looked_at) c.requires.numbers.1 in
+    record {
+      signed = λ s one.
+          subst (λ (u : Under). IsSignature Branching u.l u.blocks s (list_at c.walk_all.new.lists (slice_index new s))) is
+          (all_signed rests live old new none c.number.auto.numbers c.number.ensures.live c.number.ensures.others s (subst (λ live. IsOne live s) (sym looked_at) one));
+      numbers = all_within rests live old new none c.number.auto.numbers c.number.ensures.live c.number.ensures.others;
+      visits = search rules;
+      others = subst (λ live. HaveNone live new) looked_at (none_still rests live old new none c.number.auto.numbers c.number.ensures.live c.number.ensures.others);
+    }

@@ -1,4 +1,4 @@
-use Rattle.std.proofs.Common.{◌≡◌, ◌∙◌, ℕ, ◌+◌, ◌-◌, ◌<◌, length, get_or, set, slice_index, Bool, ap, sym, subst, refl, arith}
+use Rattle.std.proofs.Common.{◌≡◌, ◌∙◌, ℕ, ◌+◌, ◌-◌, ◌<◌, length, get_or, set, slice_index, Bool, ap, sym, subst, refl, arith, rules}
 use Rattle.std.proofs.lemmas.Bool.{false≢true}
 use Rattle.std.proofs.lemmas.List.{get_or_read}
 use Rattle.lts.specs.Lts.{place_at}
@@ -6,36 +6,48 @@ use Rattle.inert.specs.Steps.{IsStep}
 use Rattle.inert.specs.Search.{Search, frame_at, top, here, Frame}
 use Rattle.inert.specs.Moves.{TakesStep, Finds}
 use Rattle.inert.specs.declared.step.Step.{Step}
-use Rattle.inert.proofs.parts.Rising.{last_read}
 use Rattle.inert.proofs.parts.Stages.{open_inside}
 use Rattle.inert.proofs.invariant.Standing.{on_stack}
-use Rattle.inert.proofs.moves.Reading.{Reads, Stays, Marked, reads_none, read_all, place_below, still_there, marked}
+use Rattle.inert.proofs.moves.Reading.{Reads, Stays, Marked, reads_none, read_all, place_below, marked}
 use Rattle.inert.proofs.walk.Walk.read.Given.{Over}
 use Rattle.inert.proofs.walk.Walk.read.Goals as goal
 use Rattle.inert.proofs.walk.Walk.read.Goals.{After-index}
 
--- the frame where the walk is, and the block of its state
+-- the block of the state where the walk is
 module _ (g : Over) (c : After-index g) where
-  last : c.len-last.result - 1 ≡ length c.args.self.now.frames - 1
-  last = omega (arith, c.len-last.ensures, c.self.inside.frames.ok.0, ap (λ w. length w.frames) c.self.view_is)
-
-  frame : c.index-frame.result.now ≡ top c.args.self.now.frames
-  frame =
-      last_read c.self.inside.frames.items c.args.self.now.frames c.len-last.result c.index-frame.result.now _ (ap (λ w. w.frames) c.self.view_is)
-      (omega (arith, c.len-last.ensures, c.self.inside.frames.ok.0)) c.requires.way.some c.index-frame.ensures
-
-  end : c.index-frame.result.now.end ≡ (top c.args.self.now.frames).end
-  end = ap (λ x. x.end) frame
-
   state : c.index.result.now ≡ slice_index c.args.self.now.stack (here c.args.self.now)
   state =
-      let height = ap (λ x. x.height) frame in
-      let low : c.index-frame.result.now.height < length c.self.inside.stack.items = omega (arith, on_stack c.requires.way.walks c.requires.way.some, height, ap (λ w. length w.stack) c.self.view_is) in
-      get_or_read c.self.inside.stack.items c.index-frame.result.now.height c.index.result.now low c.index.ensures 0
-      ∙ ap (λ w. slice_index w.stack c.index-frame.result.now.height) c.self.view_is ∙ ap (slice_index c.args.self.now.stack) height
+      let height = ap (λ x. x.height) c.top_frame-frame.ensures in
+      let low : c.top_frame-frame.result.height < length c.self.inside.stack.items = omega (arith, on_stack c.requires.way.walks c.requires.way.some, height, ap (λ w. length w.stack) c.self.view_is) in
+      get_or_read c.self.inside.stack.items c.top_frame-frame.result.height c.index.result.now low c.index.ensures 0
+      ∙ ap (λ w. slice_index w.stack c.top_frame-frame.result.height) c.self.view_is ∙ ap (slice_index c.args.self.now.stack) height
 
   block : slice_index c.blocks-blocks.result.now c.index.result.now ≡ slice_index c.args.lens.now.blocks (slice_index c.args.self.now.stack (here c.args.self.now))
   block = ap (λ xs. slice_index xs c.index.result.now) c.blocks-blocks.ensures ∙ ap (slice_index c.args.lens.now.blocks) state
+
+  -- the place of its frame
+  last : c.len-last.result - 1 ≡ length c.args.self.now.frames - 1
+  last = omega (arith, c.len-last.ensures, c.self.inside.frames.ok.0, ap (λ w. length w.frames) c.self.view_is)
+
+  end : c.top_frame-frame.result.end ≡ (top c.args.self.now.frames).end
+  end = ap (λ x. x.end) c.top_frame-frame.ensures
+
+  abbrev i : ℕ
+  i = c.len-last.result - 1
+
+  -- one transition more is marked as read, and taken
+  module _ {w : Search} {k : ℕ} (reads : Reads c.args.lens.now c.args.lists.now c.args.self.now w k) (stays : Stays c.args.self.now w)
+      (more : k < c.top_frame-frame.result.end) (step : Step)
+      (is_step : IsStep c.args.lens.now (slice_index c.blocks-blocks.result.now c.index.result.now) (place_at c.args.lens.now.l.places k) step)
+      {inside : Search} (same : inside ≡ w) {at : Frame} (is_at : at ≡ get_or inside.frames i at) where
+    marks : {m : Search} (enters : Bool) → TakesStep c.args.lens.now.l.places step (record inside { frames = set inside.frames i (record at { next = k + 1 }) }) m enters
+        → Marked c.args.lens.now c.args.lists.now c.args.self.now m k enters
+    marks {m = m} enters takes =
+        let low : i < length inside.frames = omega (arith, last, stays.size, c.requires.way.some, ap (λ x. length x.frames) same) in
+        let is : at ≡ frame_at w.frames i = get_or_read inside.frames i at low is_at _ ∙ ap (λ x. frame_at x.frames i) same in
+        marked reads stays c.requires.way.some c.known.ensures.laws c.known.ensures.lts (omega (arith, more, end)) _ block step is_step last
+        (λ j. record (is j) { next = k + 1 })
+        (subst (λ (x : Search). TakesStep c.args.lens.now.l.places step (record x { frames = set x.frames i (record at { next = k + 1 }) }) m enters) same takes)
 
 pub bounds-blocks-index : goal.bounds-blocks-index
 bounds-blocks-index g c =
@@ -43,46 +55,13 @@ bounds-blocks-index g c =
     let inside = open_inside c.args.self.now.stages c.args.self.now.stack walks.opened (here c.args.self.now) 0 (on_stack walks c.requires.way.some) in
     omega (arith, state g (goal.at.bounds-blocks-index g c).After-index, inside, walks.numbers.size, c.known.ensures.size, ap length c.blocks-blocks.ensures)
 
--- one transition more is read
-module _ (g : Over) (d : After-index g) {w : Search} {k : ℕ} (reads : Reads d.args.lens.now d.args.lists.now d.args.self.now w k)
-    (stays : Stays d.args.self.now w) (more : k < d.index-frame.result.now.end) (step : Step)
-    (is_step : IsStep d.args.lens.now (slice_index d.blocks-blocks.result.now d.index.result.now) (place_at d.args.lens.now.l.places k) step)
-    (m : Search) (enters : Bool) (takes : TakesStep d.args.lens.now.l.places step w m enters) where
-  abbrev i : ℕ
-  i = d.len-last.result - 1
-
-  more_left : k < (top d.args.self.now.frames).end
-  more_left = omega (arith, more, end g d)
-
-  there : i < length m.frames
-  there =
-      still_there reads stays d.requires.way.some d.known.ensures.laws d.known.ensures.lts more_left (slice_index d.blocks-blocks.result.now d.index.result.now) (block g d) step is_step m
-      enters takes i (last g d)
-
-  -- and its frame says so
-  module _ {inside : Search} (same : inside ≡ m) {at : Frame} (is_at : at ≡ get_or inside.frames i at) where
-    moved : record at { next = k + 1 } ≡ record (frame_at m.frames i) { next = k + 1 }
-    moved =
-        let low : i < length inside.frames = omega (arith, there, ap (λ x. length x.frames) same) in
-        let here : at ≡ frame_at m.frames i = get_or_read inside.frames i at low is_at _ ∙ ap (λ x. frame_at x.frames i) same in
-        λ j. record (here j) { next = k + 1 }
-
-    abbrev With : Search → Search
-    With x = record x { frames = set x.frames i (record at { next = k + 1 }) }
-
-    marks : Marked d.args.lens.now d.args.lists.now d.args.self.now (With inside) k enters
-    marks =
-        subst (λ (x : Search). Marked d.args.lens.now d.args.lists.now d.args.self.now (With x) k enters) (sym same)
-        (marked reads stays d.requires.way.some d.known.ensures.laws d.known.ensures.lts more_left (slice_index d.blocks-blocks.result.now d.index.result.now) (block g d) step
-        is_step m enters takes i (last g d) (record at { next = k + 1 }) moved)
-
 pub loop-k-init : goal.loop-k-init
 loop-k-init g c =
-    let next = ap (λ x. x.next) (frame g (goal.at.loop-k-init g c).After-index) in
+    let next = ap (λ x. x.next) c.top_frame-frame.ensures in
     record {
       reads = subst (Reads c.args.lens.now c.args.lists.now c.args.self.now c.args.self.now) (sym next) (reads_none c.requires.way);
       stays = record { size = refl; stack = refl; none = λ s is. is };
-      cost = record { rounds = omega arith; at_least = omega (arith, next); at_most = omega arith };
+      cost = omega (arith, next);
     }
 
 pub step-step-requires-clause-place : goal.step-step-requires-clause-place
@@ -93,65 +72,35 @@ step-step-requires-clause-place g c =
 
 pub index_mut-requires : goal.index_mut-requires
 index_mut-requires g c =
-    let i = c.loop-k.invariant in
-    let low =
-    there g (goal.at.index_mut-requires g c).After-index i.reads i.stays (omega (arith, c.loop-k-test.true)) c.step-step.result c.step-step.ensures.step
-    c.take.new.self c.in_ok-entered.entered c.in_ok-entered.ensures in
-    omega (arith, low, ap (λ w. length w.frames) c.self-in-loop-k.view_is, c.self-in-loop-k.inside.frames.ok.0)
+    omega (arith, last g (goal.at.index_mut-requires g c).After-index, c.loop-k.invariant.stays.size, c.requires.way.some, ap (λ w. length w.frames) c.self-in-loop-k.view_is, c.self-in-loop-k.inside.frames.ok.0)
 
 pub loop-k-preserved : goal.loop-k-preserved
 loop-k-preserved g c =
-    let d = (goal.at.loop-k-preserved g c).After-index in
     let i = c.loop-k.invariant in
     let m =
-    marks g d i.reads i.stays (omega (arith, c.loop-k-test.true)) c.step-step.result c.step-step.ensures.step c.take.new.self c.in_ok-entered.entered
-    c.in_ok-entered.ensures c.self-in-loop-k.view_is c.index_mut.ensures.value in
+    marks g (goal.at.loop-k-preserved g c).After-index i.reads i.stays c.loop-k-test.true c.step-step.result c.step-step.ensures.step c.self-in-loop-k.view_is
+    c.index_mut.ensures.value c.in_ok-take.field-0 c.in_ok-take.ensures in
     let one = c.step-step.ensures.visit in
     record {
       reads = m.reads;
-      stays = m.stays (λ e. false≢true (sym c.if-entered.false ∙ e));
-      cost = record {
-        rounds = omega (arith, i.cost.rounds, one.rounds);
-        at_least = omega (arith, i.cost.at_least, one.at_least, i.reads.forward);
-        at_most = omega (arith, i.cost.at_most, one.at_most, i.reads.forward);
-      };
+      stays = m.stays (λ e. false≢true (sym c.if-branch.false ∙ e));
+      cost = omega (arith, i.cost, one, i.reads.forward);
     }
 
-pub returns-then-entered-clause-on : goal.returns-then-entered-clause-on
-returns-then-entered-clause-on g c =
-    let d = (goal.at.returns-then-entered-clause-on g c).After-index in
+pub returns-then-branch : goal.returns-then-branch
+returns-then-branch g c =
     let i = c.loop-k.invariant in
     let m =
-    marks g d i.reads i.stays (omega (arith, c.loop-k-test.true)) c.step-step.result c.step-step.ensures.step c.take.new.self c.in_ok-entered.entered
-    c.in_ok-entered.ensures c.self-in-loop-k.view_is c.index_mut.ensures.value in
-    m.reads.on
-
-pub returns-then-entered-clause-visits : goal.returns-then-entered-clause-visits
-returns-then-entered-clause-visits g c =
-    let d = (goal.at.returns-then-entered-clause-visits g c).After-index in
-    let i = c.loop-k.invariant in
-    let m =
-    marks g d i.reads i.stays (omega (arith, c.loop-k-test.true)) c.step-step.result c.step-step.ensures.step c.take.new.self c.in_ok-entered.entered
-    c.in_ok-entered.ensures c.self-in-loop-k.view_is c.index_mut.ensures.value in
-    omega (arith, m.reads.less, i.reads.forward, i.cost.at_least, i.cost.at_most, c.step-step.ensures.visit.at_least, c.step-step.ensures.visit.at_most)
-
-pub returns-then-entered-clause-steps : goal.returns-then-entered-clause-steps
-returns-then-entered-clause-steps g c =
-    let d = (goal.at.returns-then-entered-clause-steps g c).After-index in
-    let i = c.loop-k.invariant in
-    let m =
-    marks g d i.reads i.stays (omega (arith, c.loop-k-test.true)) c.step-step.result c.step-step.ensures.step c.take.new.self c.in_ok-entered.entered
-    c.in_ok-entered.ensures c.self-in-loop-k.view_is c.index_mut.ensures.value in
-    (λ _. omega (arith, m.reads.less, m.longer c.if-entered.true, i.reads.forward), λ stay. absurd (stay refl))
-
-pub returns-then-entered-clause-finds : goal.returns-then-entered-clause-finds
-returns-then-entered-clause-finds g c =
-    let d = (goal.at.returns-then-entered-clause-finds g c).After-index in
-    let i = c.loop-k.invariant in
-    let m =
-    marks g d i.reads i.stays (omega (arith, c.loop-k-test.true)) c.step-step.result c.step-step.ensures.step c.take.new.self c.in_ok-entered.entered
-    c.in_ok-entered.ensures c.self-in-loop-k.view_is c.index_mut.ensures.value in
-    subst (Finds c.args.self.now _) c.if-entered.true m.finds
+    marks g (goal.at.returns-then-branch g c).After-index i.reads i.stays c.loop-k-test.true c.step-step.result c.step-step.ensures.step c.self-in-loop-k.view_is
+    c.index_mut.ensures.value c.in_ok-take.field-0 c.in_ok-take.ensures in
+    let one = c.step-step.ensures.visit in
+    record {
+      on = m.reads.on;
+      visits = omega (arith, m.reads.less, i.reads.forward, i.cost.at_least, i.cost.at_most, one.at_least, one.at_most);
+      steps = (λ _. omega (arith, m.reads.less, m.longer c.if-branch.true, i.reads.forward), λ stay. absurd (stay refl));
+      finds = subst (Finds c.args.self.now _) c.if-branch.true m.finds;
+      cost = search rules;
+    }
 
 pub returns-clause-steps : goal.returns-clause-steps
 returns-clause-steps g c =

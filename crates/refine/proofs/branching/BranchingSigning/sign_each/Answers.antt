@@ -1,21 +1,17 @@
 use Rattle.std.proofs.Common.{inl, sym, subst, arith}
 use Rattle.std.proofs.lemmas.List.{take_at}
 use Rattle.theory.specs.declared.relation.Relation.TheVariants.{Branching}
-use Rattle.refine.specs.EachList.{HaveLists, list_of}
+use Rattle.refine.specs.EachList.{list_of}
 use Rattle.refine.specs.Settled.{IsPut}
 use Rattle.inert.specs.Signed.{LeavesOut}
+use Rattle.refine.proofs.EachList.{written_back}
 use Rattle.refine.proofs.branching.BranchingSigning.sign_each.Goals as goal
 
-pub invariant_of-result : goal.invariant_of-result
-invariant_of-result g c =
+pub invariant_of-round : goal.invariant_of-round
+invariant_of-round g c =
     let old = c.round.inside.blocks in
-    let numbers = c.sign_each.new.numbers in
-    let have : HaveLists old.of old.live c.sign_each.new.lists numbers = record {
-      each = c.in_ok-sign_each.ensures.numbers;
-      states = omega (arith, c.sign_each.auto.numbers, c.deref_mut.ensures.len, c.round.invariant.states);
-      none = c.sign_each.ensures.others;
-    } in
-    subst (HaveLists old.of old.live c.sign_each.new.lists) (sym (take_at numbers _ _ (omega (arith, c.sign_each.auto.numbers, c.deref_mut.ensures.len)))) have
+    written_back old.of old.live c.sign_each.new.lists c.sign_each.new.numbers _ _ c.in_ok-sign_each.ensures.numbers c.sign_each.ensures.others
+    (omega (arith, c.sign_each.auto.numbers, c.deref_mut.ensures.len, c.round.invariant.states)) (omega (arith, c.sign_each.auto.numbers, c.deref_mut.ensures.len))
 
 pub returns-clause-signed : goal.returns-clause-signed
 returns-clause-signed g c s one =
