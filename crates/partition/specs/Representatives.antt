@@ -1,9 +1,9 @@
 -- The steps of a split by numbers of lists: two states stay together if they have one key, their old block and the number of their
 -- list. Those of one key in each block keep its number. The least state with another key is a representative, whose number tells the new
 -- block. Representatives are looked up by their keys: those in one bucket are chained, from the last one down.
-use Rattle.std.specs.Prelude.{◌≡◌, ◌⊎◌, ℕ, ◌*◌, ◌/◌, ◌^◌, ◌++◌, ◌∷◌, ◌<◌, List, [], length, slice_index, slice_index_or, Option, IsSome}
+use Rattle.std.specs.Prelude.{◌≡◌, ◌⊎◌, ℕ, ◌/◌, ◌^◌, ◌++◌, ◌∷◌, ◌<◌, List, [], length, slice_index, slice_index_or, Option, IsSome}
 use Rattle.partition.specs.declared.splitter.Representative.{Representative}
-use Rattle.buckets.specs.Chains.{IsChained}
+use Rattle.buckets.specs.Chains.{bucket_of_tag, IsChained}
 use Rattle.lists.specs.Spans.{hash_of}
 
 -- an old block and the number of a list
@@ -12,7 +12,7 @@ Key = ℕ × ℕ
 
 -- the bucket of a key, of so many buckets: by the upper half of the key's hash
 abbrev pub bucket_of_key : ℕ → Key → ℕ
-bucket_of_key buckets key = hash_of key / 2 ^ 32 * buckets / 2 ^ 32
+bucket_of_key buckets key = bucket_of_tag buckets (hash_of key / 2 ^ 32)
 
 -- the representative number r
 abbrev pub representative_at : List Representative → ℕ → Representative
