@@ -4,12 +4,12 @@ use Rattle.std.proofs.lemmas.Bool.{cases_lt, cases_eq, false≢true}
 use Rattle.std.proofs.lemmas.List.{length-set, get_or-set_same, get_or-set_other}
 use Rattle.partition.specs.Splitting.{IsAlone}
 use Rattle.partition.specs.Blocks.{AreLive, AreIdle, HaveNone, IsOne}
-use Rattle.partition.specs.Representatives.{Keeps, AreKeepers}
+use Rattle.partition.specs.Representatives.{KeepsNumber, AreKeepers}
 
 -- the block of the state t has a state that keeps its number
 abbrev pub IsKept : List ℕ → List ℕ → List ℕ → ℕ → Type 0
 IsKept old numbers keepers t =
-    (u : ℕ) × (u < length old) × (slice_index old u ≡ slice_index old t) × Keeps old numbers keepers u
+    (u : ℕ) × (u < length old) × (slice_index old u ≡ slice_index old t) × KeepsNumber old numbers keepers u
 
 -- t is one of the first i states that are looked at
 abbrev pub IsBefore : List ℕ → ℕ → ℕ → Type 0
@@ -91,8 +91,8 @@ module _ (old numbers live : List ℕ) (i : ℕ) (keepers votes : List ℕ) (ins
   }
 
 -- a state that is alone in its block keeps its number, if one in the block does
-keeps_alone : (old numbers keepers : List ℕ) (t : ℕ) → IsAlone old t → IsKept old numbers keepers t → Keeps old numbers keepers t
-keeps_alone old numbers keepers t alone k = subst (Keeps old numbers keepers) (alone k.0 k.1 k.2) k.3
+keeps_alone : (old numbers keepers : List ℕ) (t : ℕ) → IsAlone old t → IsKept old numbers keepers t → KeepsNumber old numbers keepers t
+keeps_alone old numbers keepers t alone k = subst (KeepsNumber old numbers keepers) (alone k.0 k.1 k.2) k.3
 
 -- when all that are looked at have voted
 module _ (old numbers live keepers votes : List ℕ) (idle : Option ℕ) (up : KeptUpTo old numbers live (length live) keepers votes)
@@ -122,7 +122,7 @@ module _ (old numbers live keepers votes : List ℕ) (idle : Option ℕ) (up : K
   }
 
   -- or they keep block 0
-  first_keeps : (t : ℕ) → t < length old → slice_index old t ≡ 0 → slice_index numbers t ≡ 0 → Keeps old numbers (set keepers 0 0) t
+  first_keeps : (t : ℕ) → t < length old → slice_index old t ≡ 0 → slice_index numbers t ≡ 0 → KeepsNumber old numbers (set keepers 0 0) t
   first_keeps t h first zero =
       zero ∙ sym (ap (slice_index (set keepers 0 0)) first ∙ get_or-set_same keepers 0 0 0 (omega (arith, up.room t h, first)))
 

@@ -61,11 +61,11 @@ GoesTo key old new r = (HasRepresentative old key r × (new ≡ old))
     ⊎ ((r ≡ length old) × ((representative : Representative) × (new ≡ old ++ representative ∷ []) × (key_of representative ≡ key)))
 
 -- the list of the state s is the one that stands for its block, whose number the state keeps
-abbrev pub Keeps : List ℕ → List ℕ → List ℕ → ℕ → Type 0
-Keeps old numbers keepers s = slice_index numbers s ≡ slice_index keepers (slice_index old s)
+abbrev pub KeepsNumber : List ℕ → List ℕ → List ℕ → ℕ → Type 0
+KeepsNumber old numbers keepers s = slice_index numbers s ≡ slice_index keepers (slice_index old s)
 
 -- in each block a state keeps its number, and so do all that are not looked at
 pub record AreKeepers (old numbers live keepers : List ℕ) : Type 0 where
   pub room : (s : ℕ) → s < length old → slice_index old s < length keepers
-  pub keeps : (s : ℕ) → s < length old → (u : ℕ) × (u < length old) × (slice_index old u ≡ slice_index old s) × Keeps old numbers keepers u
-  pub rest : (s : ℕ) → s < length old → IsOne live s ⊎ Keeps old numbers keepers s
+  pub keeps : (s : ℕ) → s < length old → (u : ℕ) × (u < length old) × (slice_index old u ≡ slice_index old s) × KeepsNumber old numbers keepers u
+  pub rest : (s : ℕ) → s < length old → IsOne live s ⊎ KeepsNumber old numbers keepers s
