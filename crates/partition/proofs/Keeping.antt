@@ -121,7 +121,7 @@ module _ (old numbers live keepers votes : List ℕ) (idle : Option ℕ) (up : K
     ];
   }
 
-  -- or they keep block 0
+  -- or block 0 gets the empty list: who has that in it keeps its number, and so one in each block does
   first_keeps : (t : ℕ) → t < length old → slice_index old t ≡ 0 → slice_index numbers t ≡ 0 → KeepsNumber old numbers (set keepers 0 0) t
   first_keeps t h first zero =
       zero ∙ sym (ap (slice_index (set keepers 0 0)) first ∙ get_or-set_same keepers 0 0 0 (omega (arith, up.room t h, first)))
