@@ -25,7 +25,7 @@ down-requires-clause-chain c =
       c.self.inside.heads.items,
       rw (c.deref.ensures.value) c.self.invariant,
       rw (c.deref.ensures.value) (λ some. ap (entry_bucket c.self.inside.entries.items c.self.inside.heads.items) (head after)
-      ∙ c.self.invariant.chained.heads_fit c.bucket.result (low after) (omega (arith, some, head after)) ∙ at_b after),
+          ∙ c.self.invariant.chained.heads_fit c.bucket.result (low after) (omega (arith, some, head after)) ∙ at_b after),
     )
 
 pub returns : goal.returns

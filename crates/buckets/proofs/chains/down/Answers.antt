@@ -1,4 +1,4 @@
-use Rattle.std.proofs.Common.{◌∙◌, ◌<◌, length, ap, sym, arith}
+use Rattle.std.proofs.Common.{◌∙◌, length, ap, sym, arith}
 use Rattle.buckets.specs.Chains.{bucket_of_tag}
 use Rattle.buckets.proofs.Chaining.{IsSought-next}
 use Rattle.buckets.proofs.Entries.{tag_is}
