@@ -3,7 +3,7 @@ use Rattle.std.proofs.Common.{◌≡◌, ◌≢◌, ◌∙◌, ℕ, ◌+◌, ◌
 use Rattle.std.proofs.Math.ListN as plain
 use Rattle.std.proofs.Math.Seq.{map-set_same}
 use Rattle.std.proofs.lemmas.Bool.{cases_lt}
-use Rattle.std.proofs.lemmas.List.{length-set, length-map, length-take-le, length_push, map-append, map_more, take-map, take_all, get_or-take, get_or-set_same, get_or-set_other}
+use Rattle.std.proofs.lemmas.List.{length-set, length-map, length-take-le, length_push, map-append, map_more, take-map, take_all, get_or_append_left, get_or-take, get_or-set_same, get_or-set_other}
 use Rattle.std.proofs.lemmas.List.Elements.{All-push, All-take, All-same}
 use Rattle.buckets.specs.declared.chains.Entry.{Entry}
 use Rattle.buckets.specs.declared.TheConstants.{MOST}
@@ -60,6 +60,7 @@ AreBuckets-push heads entries new b is few in' low at_b head =
       few_buckets = let few = is.few_buckets in omega arith;
       some = omega arith;
       few = omega arith;
+      none = tag_is (entries ++ new ∷ []) 0 ∙ ap (λ x. x.tag) (get_or_append_left entries (new ∷ []) entry_of_none 0 is.some) ∙ sym (tag_is entries 0) ∙ is.none;
       tags = All-same (λ tag. tag < 2 ^ 32) (tags_of (entries ++ new ∷ [])) (tags_of entries ++ new.tag ∷ []) (map-append (λ x. x.tag) entries (new ∷ []))
           (All-push (λ tag. tag < 2 ^ 32) (tags_of entries) new.tag is.tags low);
       chained = Chained-push entry_of_none (λ n x. bucket_of_tag n x.tag) (λ x. x.before) entries heads new b is.chained is.some in' at_b head;
@@ -79,6 +80,7 @@ AreBuckets-pop heads entries count b is one more in' at_b =
       few_buckets = let few = is.few_buckets in omega arith;
       some = omega arith;
       few = let few = is.few in omega arith;
+      none = tag_is (take count entries) 0 ∙ ap (λ x. x.tag) (old 0 more) ∙ sym (tag_is entries 0) ∙ is.none;
       tags = All-same (λ tag. tag < 2 ^ 32) (tags_of (take count entries)) (take count (tags_of entries)) (sym (take-map (λ x. x.tag) count entries))
           (All-take (λ tag. tag < 2 ^ 32) count (tags_of entries) is.tags);
       chained =

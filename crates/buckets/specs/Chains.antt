@@ -3,6 +3,7 @@ use Rattle.std.specs.Prelude.{◌≡◌, ℕ, ◌*◌, ◌/◌, ◌^◌, ◌<◌
 use Rattle.std.specs.List.{All}
 use Rattle.buckets.specs.declared.chains.Entry.{Entry}
 use Rattle.buckets.specs.declared.TheConstants.{MOST}
+use Rattle.buckets.specs.Buckets.{tag_at}
 
 -- the tags of the numbers
 abbrev pub tags_of : List Entry → List ℕ
@@ -41,11 +42,16 @@ entry_before entries r = (entry_at entries r).before
 abbrev pub AreChained : List Entry → List ℕ → Type 0
 AreChained entries heads = IsChained (length entries) (entry_bucket entries heads) (entry_before entries) heads
 
--- each number but 0 is found by its tag
+-- each number but 0, which has the tag 0, is found by its tag
 pub record AreBuckets (heads : List ℕ) (entries : List Entry) : Type 0 where
   pub some_buckets : 0 < length heads
   pub few_buckets : length heads < 2 ^ 32
   pub some : 0 < length entries
   pub few : length entries ≤ MOST
+  pub none : tag_at (tags_of entries) 0 ≡ 0
   pub tags : All (λ tag. tag < 2 ^ 32) (tags_of entries)
   pub chained : AreChained entries heads
+
+-- there are heads under which the entries are found, and the number r, if it is one, is in the bucket of the tag
+abbrev pub IsInChain : List Entry → ℕ → ℕ → Type 0
+IsInChain entries tag r = (heads : List ℕ) × AreBuckets heads entries × (0 < r → entry_bucket entries heads r ≡ bucket_of_tag (length heads) tag)

@@ -1,7 +1,7 @@
 //! The entries of the numbers: those in one bucket are chained, from the last one down.
 ghost use Rattle.std.specs.Prelude.{◌≡◌, ℕ, ◌^◌, ◌+◌, ◌++◌, ◌∷◌, ◌<◌, ◌≤◌, [], length, slice_index, OnOk, OnErr};
 ghost use Rattle.buckets.specs.Buckets.{IsLast};
-ghost use Rattle.buckets.specs.Chains.{tags_of, bucket_of_tag, entry_of_none, entry_bucket, AreBuckets, AreChained};
+ghost use Rattle.buckets.specs.Chains.{tags_of, bucket_of_tag, entry_of_none, IsInChain, AreBuckets, AreChained};
 ghost use Rattle.buckets.specs.declared.TheConstants.{MOST};
 
 use crate::MOST_BUCKETS;
@@ -36,13 +36,11 @@ pub fn bucket(tag: u32, buckets: usize) -> usize
 
 /// The last number with the tag from `first`, a number in the bucket of the tag, down, or 0 if there is none.
 #[inline(always)]
-pub(crate) fn down(heads: &[u32], entries: &[Entry], tag: u32, first: u32) -> u32
-    requires buckets { AreBuckets heads.now entries.now }
+pub(crate) fn down(entries: &[Entry], tag: u32, first: u32) -> u32
     requires within { first < length entries.now }
-    requires fits { 0 < first → entry_bucket entries.now heads.now first ≡ bucket_of_tag (length heads.now) tag }
+    requires chain { IsInChain entries.now tag first }
     ensures { IsLast (tags_of entries.now) tag (first + 1) result }
 {
-    let _ = heads;
     let mut r = first;
     while r != 0 {
         let entry = &entries[r as usize];

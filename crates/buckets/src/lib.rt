@@ -82,7 +82,7 @@ impl Buckets {
         ensures { IsLast self.now tag (length self.now) result }
     {
         let first = self.heads[bucket(tag, self.heads.len())];
-        down(&self.heads, &self.entries, tag, first)
+        down(&self.entries, tag, first)
     }
 
     /// The number before `r` of the same tag, or 0 if there is none.
@@ -93,7 +93,7 @@ impl Buckets {
         ensures { IsLast self.now (tag_at self.now r) r result }
     {
         let entry = self.entries[r as usize];
-        down(&self.heads, &self.entries, entry.tag, entry.before)
+        down(&self.entries, entry.tag, entry.before)
     }
 
     /// Puts a number of this tag at the end.
@@ -123,7 +123,6 @@ impl Buckets {
         // Buckets as for numbers as many as now: an owner mostly has no more the next time.
         let buckets = FIRST_BUCKETS.max(self.entries.len());
         self.entries.truncate(1);
-        self.entries[0] = first_entry();
         self.heads.truncate(buckets);
         self.heads.fill(0);
     }

@@ -1,15 +1,15 @@
 -- For each block the number of a list that one of its states has.
-use Rattle.std.proofs.Common.{◌≡◌, ◌⊎◌, ◌∙◌, ℕ, ◌+◌, ◌<◌, List, length, slice_index, set, Option, None, Some, IsSome, ap, sym, refl, inl, inr, arith}
+use Rattle.std.proofs.Common.{◌≡◌, ◌⊎◌, ◌∙◌, ℕ, ◌+◌, ◌<◌, List, length, slice_index, set, Option, None, Some, IfSome, IsSome, ap, sym, subst, refl, inl, inr, arith}
 use Rattle.std.proofs.lemmas.Bool.{cases_lt, cases_eq, false≢true}
 use Rattle.std.proofs.lemmas.List.{length-set, get_or-set_same, get_or-set_other}
 use Rattle.partition.specs.Splitting.{IsAlone}
-use Rattle.partition.specs.Blocks.{AreLive, AreIdle, HaveNone}
-use Rattle.partition.specs.Representatives.{AreKeepers}
+use Rattle.partition.specs.Blocks.{AreLive, AreIdle, HaveNone, IsOne}
+use Rattle.partition.specs.Representatives.{KeepsNumber, AreKeepers}
 
--- the block of the state t has a state of that list
+-- the block of the state t has a state that keeps its number
 abbrev pub IsKept : List ℕ → List ℕ → List ℕ → ℕ → Type 0
 IsKept old numbers keepers t =
-    (u : ℕ) × (u < length old) × (slice_index old u ≡ slice_index old t) × (slice_index keepers (slice_index old t) ≡ slice_index numbers u)
+    (u : ℕ) × (u < length old) × (slice_index old u ≡ slice_index old t) × KeepsNumber old numbers keepers u
 
 -- t is one of the first i states that are looked at
 abbrev pub IsBefore : List ℕ → ℕ → ℕ → Type 0
@@ -69,10 +69,10 @@ module _ (old numbers live : List ℕ) (i : ℕ) (keepers votes : List ℕ) (ins
 
   keeps-now : (v t : ℕ) → t < length old → IsBefore live (i + 1) t ⊎ (0 < slice_index (set votes b v) (slice_index old t)) → IsKept old numbers keepers' t
   keeps-now v t ht h = elim (cases_eq (slice_index old t) b) [
-    | inl e ↦ (s, inside, sym e, ap (slice_index keepers') e ∙ get_or-set_same keepers b (slice_index numbers s) 0 (up.room s inside))
+    | inl e ↦ (s, inside, sym e, sym (get_or-set_same keepers b (slice_index numbers s) 0 (up.room s inside)))
     | inr d ↦
         let g = up.keeps t ht (before v t d h) in
-        (g.0, g.1, g.2, get_or-set_other keepers b (slice_index old t) (slice_index numbers s) 0 d ∙ g.3)
+        (g.0, g.1, g.2, g.3 ∙ sym (get_or-set_other keepers b (slice_index old g.0) (slice_index numbers s) 0 (λ e. d (sym g.2 ∙ e))))
   ]
 
   -- the list of the state stands for its block from now on
@@ -90,47 +90,67 @@ module _ (old numbers live : List ℕ) (i : ℕ) (keepers votes : List ℕ) (ins
     ];
   }
 
+-- a state that is alone in its block keeps its number, if one in the block does
+keeps_alone : (old numbers keepers : List ℕ) (t : ℕ) → IsAlone old t → IsKept old numbers keepers t → KeepsNumber old numbers keepers t
+keeps_alone old numbers keepers t alone k = subst (KeepsNumber old numbers keepers) (alone k.0 k.1 k.2) k.3
+
 -- when all that are looked at have voted
-module _ (old numbers live keepers votes : List ℕ) (up : KeptUpTo old numbers live (length live) keepers votes) (rises : AreLive (length old) live)
-    (zeros : HaveNone live numbers) (size : length numbers ≡ length old) where
+module _ (old numbers live keepers votes : List ℕ) (idle : Option ℕ) (up : KeptUpTo old numbers live (length live) keepers votes)
+    (rises : AreLive (length old) live) (others : AreIdle old live idle) (zeros : HaveNone live numbers) (size : length numbers ≡ length old) where
   -- a state that is alone in its block has its list
   alone_kept : (t : ℕ) → t < length old → IsAlone old t → IsKept old numbers keepers t
   alone_kept t h alone = elim (zeros t (omega (arith, h, size))) [
     | inl one ↦ up.keeps t h (inl one)
     | inr zero ↦ elim (up.unmet t h) [
-      | inl none ↦ (t, h, refl, none ∙ sym zero)
+      | inl none ↦ (t, h, refl, zero ∙ sym none)
       | inr m ↦ up.keeps t h (inl (m.0, m.1, alone _ (rises.below m.0 m.1) m.2))
     ]
   ]
 
   -- there are no others
-  pub keepers_none : (idle : Option ℕ) → AreIdle old live idle → ¬ IsSome idle → AreKeepers old numbers idle keepers
-  keepers_none idle others none = record {
+  pub keepers_none : ¬ IsSome idle → AreKeepers old numbers live keepers
+  keepers_none none = record {
     room = up.room;
     keeps = λ t h. elim (others.each t h) [
       | inl one ↦ up.keeps t h (inl one)
       | inr x ↦ elim x [ inl alone ↦ alone_kept t h alone | inr y ↦ absurd (none y.1) ]
     ];
-    beside = λ some. absurd (none some);
+    rest = λ t h. elim (others.each t h) [
+      | inl one ↦ inl one
+      | inr x ↦ elim x [ inl alone ↦ inr (keeps_alone old numbers keepers t alone (alone_kept t h alone)) | inr y ↦ absurd (none y.1) ]
+    ];
   }
 
-  -- or they keep block 0
-  pub keepers_some : (idle : Option ℕ) → AreIdle old live idle → IsSome idle → AreKeepers old numbers idle (set keepers 0 0)
-  keepers_some None others some = absurd (false≢true some)
-  keepers_some (Some w) others some =
-      let room : 0 < length keepers = omega (arith, up.room w others.one.0) in
-      let zero : slice_index numbers w ≡ 0 = elim (zeros w (omega (arith, others.one.0, size))) [ inl one ↦ absurd (others.one.2 one) | inr e ↦ e ] in
-      record {
-        room = λ t h. omega (arith, up.room t h, length-set keepers 0 0);
-        keeps = λ t h. elim (cases_eq (slice_index old t) 0) [
-          | inl e ↦
-              (w, others.one.0, others.one.1 ∙ sym e, ap (slice_index (set keepers 0 0)) e ∙ get_or-set_same keepers 0 0 0 room ∙ sym zero)
-          | inr d ↦
-              let g : IsKept old numbers keepers t = elim (others.each t h) [
-                | inl one ↦ up.keeps t h (inl one)
-                | inr x ↦ elim x [ inl alone ↦ alone_kept t h alone | inr y ↦ absurd (d y.0) ]
-              ] in
-              (g.0, g.1, g.2, get_or-set_other keepers 0 (slice_index old t) 0 0 d ∙ g.3)
-        ];
-        beside = λ _. get_or-set_same keepers 0 0 0 room;
-      }
+  -- or block 0 gets the empty list: who has that in it keeps its number, and so one in each block does
+  first_keeps : (t : ℕ) → t < length old → slice_index old t ≡ 0 → slice_index numbers t ≡ 0 → KeepsNumber old numbers (set keepers 0 0) t
+  first_keeps t h first zero =
+      zero ∙ sym (ap (slice_index (set keepers 0 0)) first ∙ get_or-set_same keepers 0 0 0 (omega (arith, up.room t h, first)))
+
+  kept_first : (o : Option ℕ) → IfSome o (λ s. (s < length old) × (slice_index old s ≡ 0) × ¬ IsOne live s) → IsSome o → (t : ℕ) → t < length old
+      → IsKept old numbers (set keepers 0 0) t
+  kept_first None w some t h = absurd (false≢true some)
+  kept_first (Some s) w some t h = elim (cases_eq (slice_index old t) 0) [
+    | inl e ↦ elim (zeros s (omega (arith, w.0, size))) [
+      | inl one ↦ absurd (w.2 one)
+      | inr zero ↦ (s, w.0, w.1 ∙ sym e, first_keeps s w.0 w.1 zero)
+    ]
+    | inr d ↦
+        let g : IsKept old numbers keepers t = elim (others.each t h) [
+          | inl one ↦ up.keeps t h (inl one)
+          | inr x ↦ elim x [ inl alone ↦ alone_kept t h alone | inr y ↦ absurd (d y.0) ]
+        ] in
+        (g.0, g.1, g.2, g.3 ∙ sym (get_or-set_other keepers 0 (slice_index old g.0) 0 0 (λ e. d (sym g.2 ∙ e))))
+  ]
+
+  pub keepers_some : IsSome idle → AreKeepers old numbers live (set keepers 0 0)
+  keepers_some some = record {
+    room = λ t h. omega (arith, up.room t h, length-set keepers 0 0);
+    keeps = kept_first idle others.one some;
+    rest = λ t h. elim (others.each t h) [
+      | inl one ↦ inl one
+      | inr x ↦ elim x [
+        | inl alone ↦ inr (keeps_alone old numbers (set keepers 0 0) t alone (kept_first idle others.one some t h))
+        | inr y ↦ elim (zeros t (omega (arith, h, size))) [ inl one ↦ inl one | inr zero ↦ inr (first_keeps t h y.0 zero) ]
+      ]
+    ];
+  }

@@ -1,5 +1,4 @@
 pub mod CallerLemmas
-pub mod Numbering
 pub mod Renumbering
 pub mod Keeping
 pub mod Representatives

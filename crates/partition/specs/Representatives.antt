@@ -1,9 +1,10 @@
 -- The steps of a split by numbers of lists: two states stay together if they have one key, their old block and the number of their
 -- list. Those of one key in each block keep its number. The least state with another key is a representative, whose number tells the new
 -- block. Representatives are looked up by their keys: those in one bucket are chained, from the last one down.
-use Rattle.std.specs.Prelude.{◌≡◌, ◌⊎◌, ℕ, ◌*◌, ◌/◌, ◌^◌, ◌++◌, ◌∷◌, ◌<◌, List, [], length, slice_index, slice_index_or, Option, IsSome}
+use Rattle.std.specs.Prelude.{◌≡◌, ◌⊎◌, ℕ, ◌/◌, ◌^◌, ◌++◌, ◌∷◌, ◌<◌, List, [], length, slice_index, slice_index_or}
 use Rattle.partition.specs.declared.splitter.Representative.{Representative}
-use Rattle.buckets.specs.Chains.{IsChained}
+use Rattle.partition.specs.Blocks.{IsOne}
+use Rattle.buckets.specs.Chains.{bucket_of_tag, IsChained}
 use Rattle.lists.specs.Spans.{hash_of}
 
 -- an old block and the number of a list
@@ -12,7 +13,7 @@ Key = ℕ × ℕ
 
 -- the bucket of a key, of so many buckets: by the upper half of the key's hash
 abbrev pub bucket_of_key : ℕ → Key → ℕ
-bucket_of_key buckets key = hash_of key / 2 ^ 32 * buckets / 2 ^ 32
+bucket_of_key buckets key = bucket_of_tag buckets (hash_of key / 2 ^ 32)
 
 -- the representative number r
 abbrev pub representative_at : List Representative → ℕ → Representative
@@ -59,10 +60,12 @@ abbrev pub GoesTo : Key → List Representative → List Representative → ℕ 
 GoesTo key old new r = (HasRepresentative old key r × (new ≡ old))
     ⊎ ((r ≡ length old) × ((representative : Representative) × (new ≡ old ++ representative ∷ []) × (key_of representative ≡ key)))
 
--- each block has a state whose list has the number that stands for the block, and block 0 that of the empty list beside states that are
--- not looked at
-pub record AreKeepers (old numbers : List ℕ) (idle : Option ℕ) (keepers : List ℕ) : Type 0 where
+-- the list of the state s is the one that stands for its block, whose number the state keeps
+abbrev pub KeepsNumber : List ℕ → List ℕ → List ℕ → ℕ → Type 0
+KeepsNumber old numbers keepers s = slice_index numbers s ≡ slice_index keepers (slice_index old s)
+
+-- in each block a state keeps its number, and so do all that are not looked at
+pub record AreKeepers (old numbers live keepers : List ℕ) : Type 0 where
   pub room : (s : ℕ) → s < length old → slice_index old s < length keepers
-  pub keeps : (s : ℕ) → s < length old →
-      (u : ℕ) × (u < length old) × (slice_index old u ≡ slice_index old s) × (slice_index keepers (slice_index old s) ≡ slice_index numbers u)
-  pub beside : IsSome idle → slice_index keepers 0 ≡ 0
+  pub keeps : (s : ℕ) → s < length old → (u : ℕ) × (u < length old) × (slice_index old u ≡ slice_index old s) × KeepsNumber old numbers keepers u
+  pub rest : (s : ℕ) → s < length old → IsOne live s ⊎ KeepsNumber old numbers keepers s

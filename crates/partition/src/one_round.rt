@@ -20,7 +20,7 @@ impl Partition {
         ensures one { IfOk result (λ p. (s : ℕ) → s < states → slice_index p s ≡ 0) }
     {
         let blocks = vec![in alloc; 0u32; states as usize]?;
-        Ok(Partition { blocks, count: 1 })
+        Ok(Partition::from_blocks(blocks, 1))
     }
 }
 

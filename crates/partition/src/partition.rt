@@ -7,8 +7,8 @@ use std::marker::Model;
 /// The block of each state, as a number from 0 up to the count of blocks.
 #[derive(Drop)]
 pub struct Partition {
-    pub(crate) blocks: Vec<u32>,
-    pub(crate) count: u32,
+    blocks: Vec<u32>,
+    count: u32,
 }
 
 impl Model for Partition {

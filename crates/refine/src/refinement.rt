@@ -46,7 +46,7 @@ pub fn refine<S: Sense, M: Meter>(alloc: Global, l: &Lts<M>, m: &mut M) -> Resul
     loop {
         let before = round.renew()?;
         let count = before.count();
-        let next = next_round::<S, M>(l, before, &mut scratch, m)?;
+        let next = next_round::<S, M>(before, l, &mut scratch, m)?;
         let more = next.count();
         if more == count {
             return renumber(alloc, next.of(), more);
@@ -77,8 +77,8 @@ fn with_rows<M: Meter>(alloc: Global, l: &Lts<M>) -> Result<Vec<u32>, Memory>
 ///
 /// Fails if there is no memory for it. At most one round was begun then, with at most its visits.
 fn next_round<S: Signing, M: Meter>(
-    l: &Lts<M>,
     round: SignedBlocks,
+    l: &Lts<M>,
     scratch: &mut Scratch,
     m: &mut M,
 ) -> Result<SignedBlocks, Memory>

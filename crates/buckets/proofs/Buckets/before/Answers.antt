@@ -4,28 +4,30 @@ use Rattle.buckets.specs.Buckets.{tag_at, IsLast}
 use Rattle.buckets.specs.Chains.{tags_of, entry_of_none, entry_at}
 use Rattle.buckets.proofs.Entries.{tag_is, before_is}
 use Rattle.buckets.proofs.Buckets.before.Goals as goal
-use Rattle.buckets.proofs.Buckets.before.Goals.{After-deref-2}
+use Rattle.buckets.proofs.Buckets.before.Goals.{After-deref}
 
-module _ (c : After-deref-2) where
+module _ (c : After-deref) where
   pub low : c.args.r < length c.self.inside.entries.items
   low = omega (arith, c.requires.within, ap length c.self.view_is, length-map c.self.inside.entries.items (λ x. x.tag))
 
   pub entry : c.index-entry.result.now ≡ entry_at c.self.inside.entries.items c.args.r
   entry = get_or_read c.self.inside.entries.items _ _ low c.index-entry.ensures entry_of_none
 
-pub down-requires-clause-fits : goal.down-requires-clause-fits
-down-requires-clause-fits c =
-    let after = (goal.at.down-requires-clause-fits c).After-deref-2 in
-    rw (c.deref.ensures.value, c.deref-2.ensures.value, entry after)
-    (λ some. c.self.invariant.chained.before_fit c.args.r c.requires.some (low after) some)
+pub down-requires-clause-chain : goal.down-requires-clause-chain
+down-requires-clause-chain c =
+    let after = (goal.at.down-requires-clause-chain c).After-deref in (
+      c.self.inside.heads.items,
+      rw (c.deref.ensures.value) c.self.invariant,
+      rw (c.deref.ensures.value, entry after) (λ some. c.self.invariant.chained.before_fit c.args.r c.requires.some (low after) some),
+    )
 
 pub returns : goal.returns
 returns c =
-    let after = (goal.at.returns c).After-deref-2 in
+    let after = (goal.at.returns c).After-deref in
     let tag : c.index-entry.result.now.tag ≡ tag_at (tags_of c.self.inside.entries.items) c.args.r =
     ap (λ x. x.tag) (entry after) ∙ sym (tag_is c.self.inside.entries.items c.args.r) in
     let down : IsLast (tags_of c.self.inside.entries.items) c.index-entry.result.now.tag (c.index-entry.result.now.before + 1) c.down.result =
-    subst (λ entries. IsLast (tags_of entries) c.index-entry.result.now.tag (c.index-entry.result.now.before + 1) c.down.result) c.deref-2.ensures.value c.down.ensures in
+    subst (λ entries. IsLast (tags_of entries) c.index-entry.result.now.tag (c.index-entry.result.now.before + 1) c.down.result) c.deref.ensures.value c.down.ensures in
     subst (λ tags. IsLast tags (tag_at tags c.args.r) c.args.r c.down.result) c.self.view_is
     (before_is c.self.invariant c.requires.some (low after) (ap (λ x. x.before) (entry after))
     (subst (λ tag. IsLast (tags_of c.self.inside.entries.items) tag (c.index-entry.result.now.before + 1) c.down.result) tag down))
