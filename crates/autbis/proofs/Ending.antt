@@ -164,6 +164,11 @@ module _ (asked : Request) where
   fault_told (one told) (two text other) is wrong = absurd is
   fault_told (two told more) (one text) is wrong = absurd is
 
+-- what is told is as it is told
+pub told_itself : (told : Option (List ℕ)) → IfSome told (λ bytes. told ≡ Some bytes)
+told_itself None = tt
+told_itself (Some bytes) = refl
+
 -- what is said of contents and some sources may be said of what is told of them, and of other sources if it follows
 pub ends_told : {Out : Type 0} {asked : Request} {told contents : Contents} {Sound Lost Sound' Lost' : Type 0} {output : Used Out} {status : ℕ} → AreAsTold told contents →
     (Sound → Sound') → (Lost → Lost') → EndsRun asked contents Sound Lost output status → EndsRun asked told Sound' Lost' output status

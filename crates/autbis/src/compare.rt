@@ -1,13 +1,7 @@
 //! One comparison, from the bytes of two texts to a verdict.
-ghost use Rattle.std.specs.Prelude.{◌≡◌, ◌↔◌, ◌+◌, ◌*◌, IsTrue, length, IfOk, IfErr, OnOk, OnErr};
+ghost use Rattle.std.specs.Prelude.{◌≡◌, IfErr, OnOk, OnErr};
 ghost use Rattle.std.specs.Io.KnownBytes.{Appends};
-ghost use Rattle.theory.specs.Bisimulation.{Equivalent};
-ghost use Rattle.theory.specs.Blocks.{Turns};
-ghost use Rattle.theory.specs.Union.{union_of};
-ghost use Rattle.lts.specs.Lts.{system_of};
-ghost use Rattle.lts.specs.Meter.{IsFresh, on_ok};
-ghost use Rattle.lts.specs.Union.{FitTogether};
-ghost use Rattle.quotient.specs.Visits.{KeepsTo};
+ghost use Rattle.lts.specs.Meter.{IsFresh};
 ghost use Rattle.autfmt.specs.Outcomes.{ReadsTo, Refuses, Takes};
 ghost use Rattle.autfmt.specs.Stream.{AppendsBeginning, CountsFailure};
 ghost use Rattle.autfmt.specs.declared.fault.Fault.TheVariants.{Device, Memory};
@@ -71,19 +65,17 @@ pub fn run_cmp<M: Meter, R1: Source, R2: Source, W: Sink>(
     h: &Hidden,
     m: &mut M,
 ) -> Result<bool, CmpFault>
-    requires fresh { IsFresh (M.counted m.old) }
-    requires first { R1.failures a.old ≡ 0 }
-    requires second { R2.failures b.old ≡ 0 }
+    requires sources { (R1.failures a.old ≡ 0) × (R2.failures b.old ≡ 0) }
     requires sink { W.failures w.old ≡ 0 }
+    requires fresh { IsFresh (M.counted m.old) }
 
     // What a verdict means, and which error comes when.
-    ensures outcome { let at = M.counted m.new in
-        let asked : Request = record { relation = rel; bounds = lim.now; hidden = h.now } in
+    ensures outcome { let asked : Request = record { relation = rel; bounds = lim.now; hidden = h.now } in
         let one = used R1.rest R1.failures a.old a.new in
         let other = used R2.rest R2.failures b.old b.new in
         let sink = used W.written W.failures w.old w.new in
-        Takes one.before one.after (λ first. ComparesTo asked first (one, other) sink at)
-        (λ first. CmpFails asked first (one, other) sink at) result }
+        Takes one.before one.after (λ first. ComparesTo asked first (one, other) sink (M.counted m.new))
+        (λ first. CmpFails asked first (one, other) sink (M.counted m.new)) result }
 
     // What is left.
     ensures unread { IfErr result (λ f. f.side ≡ First → b.new ≡ b.old) }
@@ -95,7 +87,7 @@ pub fn run_cmp<M: Meter, R1: Source, R2: Source, W: Sink>(
     let _ = lim.transitions();
     let first: Lts<M> = read_side(alloc, a, lim, h, Side::First)?;
     let second: Lts<M> = read_side(alloc, b, lim, h, Side::Second)?;
-    let same = compared(alloc, &first, &second, rel, m)?;
+    let same = equivalent(alloc, &first, &second, rel, m)?;
     say(same, w)?;
     Ok(same)
 }
@@ -117,26 +109,6 @@ fn read_side<M: Meter, R: Source>(
         Ok(system) => Ok(system),
         Err(fault) => Err(CmpFault { side, fault }),
     }
-}
-
-/// Whether two systems that were read are equivalent. From here on a refusal is one of the run, and of no text.
-fn compared<M: Meter>(
-    alloc: Global,
-    a: &Lts<M>,
-    b: &Lts<M>,
-    rel: Relation,
-    m: &mut M,
-) -> Result<bool, CmpFault>
-    requires fresh { IsFresh (M.counted m.old) }
-    requires fit { FitTogether a.now b.now }
-    ensures verdict { IfOk result (λ same. IsTrue same ↔ Equivalent rel (system_of a.now) (system_of b.now)) }
-    ensures turns { let both = union_of (system_of a.now) (system_of b.now) in
-        OnOk result (Turns rel both (M.counted m.new).rounds) }
-    ensures keeps { let at = M.counted m.new in let k = length a.now.places + length b.now.places in
-        KeepsTo (a.now.states + b.now.states) k 1 at (on_ok result ((at.rounds + 1) * k)) }
-    ensures fault { IfErr result (λ f. f ≡ record { side = Run; fault = Fault.Memory }) }
-{
-    Ok(equivalent(alloc, a, b, rel, m)?)
 }
 
 /// Puts the line of the verdict, and finishes the sink once.

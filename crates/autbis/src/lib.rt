@@ -11,7 +11,7 @@ mod reports;
 mod run;
 
 pub use crate::compare::{CmpFault, Side, run_cmp};
-pub use crate::job::{do_job, main_program};
+pub use crate::job::main_program;
 pub use crate::opener::{Disk, Opener};
 pub use crate::program::{cmp_program, min_program};
 pub use crate::reports::{cannot_open, report, report_words};

@@ -36,17 +36,16 @@ pub fn run_min<M: Meter, R: Source, W: Sink>(
     h: &Hidden,
     m: &mut M,
 ) -> Result<Counts, Fault>
-    requires fresh { IsFresh (M.counted m.old) }
     requires source { R.failures r.old ≡ 0 }
     requires sink { W.failures w.old ≡ 0 }
+    requires fresh { IsFresh (M.counted m.old) }
 
     // What a success means, and which error comes when.
-    ensures outcome { let at = M.counted m.new in
-        let asked : Request = record { relation = rel; bounds = lim.now; hidden = h.now } in
+    ensures outcome { let asked : Request = record { relation = rel; bounds = lim.now; hidden = h.now } in
         let source = used R.rest R.failures r.old r.new in
         let sink = used W.written W.failures w.old w.new in
-        Takes source.before source.after (λ text. RunsTo asked text source sink at)
-        (λ given. RunFails asked given source sink at) result }
+        Takes source.before source.after (λ text. RunsTo asked text source sink (M.counted m.new))
+        (λ given. RunFails asked given source sink (M.counted m.new)) result }
 
     // What is left.
     ensures untouched { IfErr result (λ _. W.failures w.new ≡ 0 → w.new ≡ w.old) }

@@ -17,7 +17,11 @@ pub struct Example {
 /// One transition: the quotient of `two-equal-targets`.
 pub const STEP: &[u8] = b"des (0, 1, 2)\n(0, a, 1)\n";
 
+/// The text of `LONE_STATE`.
 pub const LONE_STATE_TEXT: &[u8] = b"des (0,0,1)\n";
+
+/// The text of `TWO_EQUAL_TARGETS`.
+pub const TWO_EQUAL_TARGETS_TEXT: &[u8] = b"des (0, 2, 3)\n(0, a, 1)\n(0, a, 2)\n";
 
 pub const LONE_STATE: Example = Example {
     name: "lone-state",
@@ -28,8 +32,6 @@ pub const LONE_STATE: Example = Example {
     strong: b"des (0, 0, 1)\n",
     branching: b"des (0, 0, 1)\n",
 };
-
-pub const TWO_EQUAL_TARGETS_TEXT: &[u8] = b"des (0, 2, 3)\n(0, a, 1)\n(0, a, 2)\n";
 
 pub const TWO_EQUAL_TARGETS: Example = Example {
     name: "two-equal-targets",

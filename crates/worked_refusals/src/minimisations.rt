@@ -22,13 +22,12 @@ fn run(alloc: Global, text: &[u8], hidden: &Hidden, relation: Relation) -> Ran {
     let mut source = SliceSource::new(text, None).pieces(5);
     let mut sink = VecSink::new(alloc, None).pieces(4);
     let mut meter = Counter::new();
-    let lim = Limits::file();
     let answer = run_min(
         alloc,
         &mut source,
         &mut sink,
         relation,
-        &lim,
+        &Limits::file(),
         hidden,
         &mut meter,
     );

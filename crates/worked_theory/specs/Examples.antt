@@ -79,13 +79,22 @@ b = 98 ∷ []
 abbrev pub c : List ℕ
 c = 99 ∷ []
 
+-- these labels one after the other, from state s on
+abbrev pub steps_from : ℕ → List (List ℕ) → List Transition
+steps_from s [] = []
+steps_from s (x ∷ later) = edge s x (suc s) ∷ steps_from (suc s) later
+
+-- the system of these labels one after the other
+abbrev pub chain : List (List ℕ) → System
+chain labels = system 0 (suc (length labels)) (steps_from 0 labels)
+
 -- one state and no transition
 abbrev pub lone_state : System
 lone_state = system 0 1 []
 
 -- a alone
 abbrev pub only_a : System
-only_a = system 0 2 (edge 0 a 1 ∷ [])
+only_a = chain (a ∷ [])
 
 -- a alone, from the greater state
 abbrev pub only_a_from_1 : System
@@ -93,11 +102,11 @@ only_a_from_1 = system 1 2 (edge 1 a 0 ∷ [])
 
 -- b alone
 abbrev pub only_b : System
-only_b = system 0 2 (edge 0 b 1 ∷ [])
+only_b = chain (b ∷ [])
 
 -- a, and then b
 abbrev pub a_then_b : System
-a_then_b = system 0 3 (edge 0 a 1 ∷ edge 1 b 2 ∷ [])
+a_then_b = chain (a ∷ b ∷ [])
 
 -- a_then_b, its transitions in another order
 abbrev pub a_then_b_reordered : System
@@ -127,21 +136,25 @@ loop_and_rest = system 0 2 (edge 0 internal 0 ∷ [])
 abbrev pub silent_choice : System
 silent_choice = system 0 2 (edge 0 internal 1 ∷ edge 0 a 1 ∷ [])
 
+-- a silent step beside a, with b behind it alone
+abbrev pub silent_beside : System
+silent_beside = system 0 4 (edge 0 internal 1 ∷ edge 0 a 2 ∷ edge 1 b 3 ∷ [])
+
 -- a cycle of silent steps
 abbrev pub silent_cycle : System
 silent_cycle = system 0 2 (edge 0 internal 1 ∷ edge 1 internal 0 ∷ edge 1 a 1 ∷ [])
 
 -- a silent step between a and b
 abbrev pub silent_middle : System
-silent_middle = system 0 4 (edge 0 a 1 ∷ edge 1 internal 2 ∷ edge 2 b 3 ∷ [])
+silent_middle = chain (a ∷ internal ∷ b ∷ [])
 
 -- the strong quotient of a_then_b with a hidden
 abbrev pub hidden_middle_strong_quotient : System
-hidden_middle_strong_quotient = system 0 3 (edge 0 internal 1 ∷ edge 1 b 2 ∷ [])
+hidden_middle_strong_quotient = chain (internal ∷ b ∷ [])
 
 -- two silent steps before a
 abbrev pub silent_chain : System
-silent_chain = system 0 4 (edge 0 internal 1 ∷ edge 1 internal 2 ∷ edge 2 a 3 ∷ [])
+silent_chain = chain (internal ∷ internal ∷ a ∷ [])
 
 -- a silent step loses a, and b is open behind it alone
 abbrev pub option_behind : System
@@ -150,10 +163,6 @@ option_behind = system 0 3 (edge 0 a 2 ∷ edge 0 internal 1 ∷ edge 1 b 2 ∷ 
 -- the same with b open before it too
 abbrev pub option_before : System
 option_before = system 0 3 (edge 0 a 2 ∷ edge 0 b 2 ∷ edge 0 internal 1 ∷ edge 1 b 2 ∷ [])
-
--- a silent step beside a, with b behind it alone
-abbrev pub silent_beside : System
-silent_beside = system 0 4 (edge 0 internal 1 ∷ edge 0 a 2 ∷ edge 1 b 3 ∷ [])
 
 -- after a, b is open until a silent step gives it up
 abbrev pub not_committed : System
@@ -187,7 +196,7 @@ unreachable_pair = system 0 3 (edge 1 a 2 ∷ [])
 
 -- three steps by one label
 abbrev pub chain_of_three : System
-chain_of_three = system 0 4 (edge 0 a 1 ∷ edge 1 a 2 ∷ edge 2 a 3 ∷ [])
+chain_of_three = chain (a ∷ a ∷ a ∷ [])
 
 -- state 1 is unreachable, and bisimilar to the reachable 3
 abbrev pub unreachable_twin : System

@@ -7,84 +7,49 @@ use std::alloc::{AllocError, Global};
 use std::test::Fail;
 use worked::{Example, HIDDEN_QUOTED, SILENT_DETOUR, TWO_EQUAL_TARGETS_TEXT, check};
 
-/// A fault, its exit status, and what is said of it.
-type Message = (Fault, u8, &'static str);
-
-const MESSAGES: [Message; 16] = [
-    (Fault::BadHeader, 2, "autbis: a.aut: bad header\n"),
-    (
-        Fault::FirstState,
-        2,
-        "autbis: a.aut: first state out of range\n",
-    ),
-    (Fault::NoStates, 2, "autbis: a.aut: no states\n"),
-    (Fault::TooManyStates, 2, "autbis: a.aut: too many states\n"),
-    (
-        Fault::TooManyTransitions,
-        2,
-        "autbis: a.aut: too many transitions\n",
-    ),
-    (
-        Fault::LineTooLong(7),
-        2,
-        "autbis: a.aut: line 7: too long\n",
-    ),
-    (
-        Fault::BadEdge(2),
-        2,
-        "autbis: a.aut: line 2: not a transition\n",
-    ),
-    (
-        Fault::SourceRange(3),
-        2,
-        "autbis: a.aut: line 3: source out of range\n",
-    ),
-    (
-        Fault::TargetRange(4),
-        2,
-        "autbis: a.aut: line 4: target out of range\n",
-    ),
+/// The faults of a text, and what is said of each after its name.
+const MESSAGES: [(Fault, &str); 14] = [
+    (Fault::BadHeader, "bad header"),
+    (Fault::FirstState, "first state out of range"),
+    (Fault::NoStates, "no states"),
+    (Fault::TooManyStates, "too many states"),
+    (Fault::TooManyTransitions, "too many transitions"),
+    (Fault::LineTooLong(7), "line 7: too long"),
+    (Fault::BadEdge(2), "line 2: not a transition"),
+    (Fault::SourceRange(3), "line 3: source out of range"),
+    (Fault::TargetRange(4), "line 4: target out of range"),
     (
         Fault::ExtraText(10_000_002),
-        2,
-        "autbis: a.aut: line 10000002: text after the last transition\n",
+        "line 10000002: text after the last transition",
     ),
-    (
-        Fault::MissingEdges(0),
-        2,
-        "autbis: a.aut: only 0 transitions found\n",
-    ),
-    (
-        Fault::MissingEdges(1),
-        2,
-        "autbis: a.aut: only 1 transitions found\n",
-    ),
-    (Fault::Device, 5, "autbis: read or write failed\n"),
-    (Fault::Memory, 4, "autbis: out of memory\n"),
-    (Fault::BadHide(5), 2, "autbis: a.aut: line 5: not a label\n"),
-    (
-        Fault::TooManyHidden,
-        2,
-        "autbis: a.aut: too many hidden labels\n",
-    ),
+    (Fault::MissingEdges(0), "only 0 transitions found"),
+    (Fault::MissingEdges(1), "only 1 transitions found"),
+    (Fault::BadHide(5), "line 5: not a label"),
+    (Fault::TooManyHidden, "too many hidden labels"),
 ];
 
-/// Whether this is said of the fault, and its status is answered, also if nothing can be said.
-fn is_reported(alloc: Global, wanted: &Message) -> bool {
-    let (fault, status, text) = *wanted;
+/// Whether this is said of the fault, and its status is returned, also if nothing can be said.
+fn is_reported(alloc: Global, fault: Fault, status: u8, text: &[u8]) -> bool {
     let mut said = Vec::new(alloc);
     let answered = report(&fault, "a.aut", &mut said);
-    answered == status
-        && said.as_slice() == text.as_bytes()
-        && report(&fault, "a.aut", &mut Closed) == status
+    answered == status && said.as_slice() == text && report(&fault, "a.aut", &mut Closed) == status
 }
 
 #[test]
 fn messages(rt: HostRuntime) -> Result<(), Fail> {
-    for wanted in &MESSAGES {
-        check(wanted.2, is_reported(rt.alloc(), wanted))?;
+    for (fault, said) in MESSAGES {
+        let line = format!(in rt.alloc(); "autbis: a.aut: {said}\n")?;
+        check(said, is_reported(rt.alloc(), fault, 2, line.as_bytes()))?;
     }
     Ok(())
+}
+
+#[test]
+fn messages_without_a_name(rt: HostRuntime) -> Result<(), Fail> {
+    let failed = b"autbis: read or write failed\n";
+    let refused = b"autbis: out of memory\n";
+    check("device", is_reported(rt.alloc(), Fault::Device, 5, failed))?;
+    check("memory", is_reported(rt.alloc(), Fault::Memory, 4, refused))
 }
 
 #[test]

@@ -42,13 +42,12 @@ fn run(alloc: Global, text: &[u8], hidden: &Hidden, at: Flow) -> Ran {
     let mut source = SliceSource::new(text, at.source).pieces(at.piece.max(1));
     let mut sink = VecSink::new(alloc, at.sink).pieces(at.piece.max(1));
     let mut meter = Counter::new();
-    let lim = Limits::file();
     let answer = run_min(
         alloc,
         &mut source,
         &mut sink,
         at.relation,
-        &lim,
+        &Limits::file(),
         hidden,
         &mut meter,
     );

@@ -9,7 +9,8 @@ use Rattle.theory.specs.Blocks.{Share}
 use Rattle.theory.specs.Quotient.{HowMany, IsLeader, Number}
 use Rattle.worked_theory.proofs.Testing.{and_then, and_then_parts, and_then_from, not_passes}
 use Rattle.theory.proofs.CallerLemmas.{how_many_unique, leader_unique}
-use Rattle.worked_theory.proofs.Testing.Rising.{rises, rises_passes, filter_has, filter_keeps}
+use Rattle.lts.proofs.CallerLemmas.{contains_passing, passing_contains}
+use Rattle.worked_theory.proofs.Testing.Rising.{rises, rises_passes}
 use Rattle.worked_theory.proofs.Testing.Leading.{are_leaders, leader_is, leader_listed, listed_leads}
 
 -- the leaders below l other than the first state
@@ -49,7 +50,7 @@ module _ (rel : Relation) (A : System) (block lead : ℕ → ℕ) (leaders : Lis
     where
       there : (k : ℕ) → Contains (filter (is_before A l) leaders) k → IsLeader rel A k × (k < l) × (k ≢ A.first)
       there k c =
-          let found = filter_has (is_before A l) leaders k c in
+          let found = passing_contains (is_before A l) leaders k c in
           let parts = and_then_parts (ltb k l) (λ _. not (eqb k A.first)) found.1 in (
             listed_leads rel A block lead leaders same h k found.0,
             ltb-true k l parts.0,
@@ -58,7 +59,7 @@ module _ (rel : Relation) (A : System) (block lead : ℕ → ℕ) (leaders : Lis
 
       back : (k : ℕ) → IsLeader rel A k × (k < l) × (k ≢ A.first) → Contains (filter (is_before A l) leaders) k
       back k (leads, low, other) =
-          filter_keeps (is_before A l) leaders k (leader_listed rel A block lead leaders same h k leads)
+          contains_passing (is_before A l) leaders k (leader_listed rel A block lead leaders same h k leads)
           (and_then_from (ltb k l) (λ _. not (eqb k A.first)) (lt-ltb k l low)
           (not_from_false (eqb k A.first) (ne_eqb k A.first other)))
 

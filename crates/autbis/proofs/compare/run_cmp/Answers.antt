@@ -1,26 +1,27 @@
-use Rattle.std.proofs.Common.{◌↔◌, ◌+◌, ◌*◌, Bool, IsTrue, List, ℕ, length, ap, arith}
+use Rattle.std.proofs.Common.{◌↔◌, ◌+◌, ◌*◌, Bool, IsTrue, List, ℕ, length, refl, arith}
 use Rattle.std.proofs.lemmas.Result.{err_from_is_err_and}
 use Rattle.theory.specs.Bisimulation.{Equivalent}
 use Rattle.theory.specs.Blocks.{Turns}
 use Rattle.theory.specs.Union.{union_of}
 use Rattle.lts.specs.Lts.{system_of}
 use Rattle.quotient.specs.Visits.{KeepsTo}
+use Rattle.autfmt.specs.declared.fault.Fault.TheVariants.{Memory}
 use Rattle.autbis.specs.Comparisons.{CountsUnion, GotBoth, IsVerdict, ReadBoth}
 use Rattle.autbis.specs.Comparisons.CmpFails.{first_not_read, second_not_read, out_of_memory, not_written}
 use Rattle.autbis.specs.Runs.{Request, asks, used}
-use Rattle.autbis.specs.declared.compare.CmpFault.{CmpFault}
+use Rattle.autbis.specs.declared.compare.Side.TheVariants.{Run}
 use Rattle.autbis.proofs.Carried.{at_error, takes_error}
 use Rattle.autbis.proofs.Comparing.{OrderLaws, both_read, counted_part, counted_whole, verdict_of}
 use Rattle.autbis.proofs.compare.run_cmp.Given.{Over}
 use Rattle.autbis.proofs.compare.run_cmp.Goals as goal
-use Rattle.autbis.proofs.compare.run_cmp.Goals.{After-compared}
+use Rattle.autbis.proofs.compare.run_cmp.Goals.{After-equivalent}
 
 pub returns-in_err-first-clause-outcome : goal.returns-in_err-first-clause-outcome
 returns-in_err-first-clause-outcome g c =
     let got = c.in_err-first.ensures.outcome in
     let exit = err_from_is_err_and c.from_residual.result c.from_residual.ensures.1 in
     takes_error _ _ _ _ c.from_residual.result c.in_err-first.field-0.0 got.given exit got.took
-    (first_not_read got.outcome.0 got.outcome.1 c.requires.second c.requires.sink c.requires.fresh)
+    (first_not_read got.outcome.0 got.outcome.1 c.requires.sources.1 c.requires.sink c.requires.fresh)
 
 pub returns-in_err-second-clause-outcome : goal.returns-in_err-second-clause-outcome
 returns-in_err-second-clause-outcome g c =
@@ -32,7 +33,7 @@ returns-in_err-second-clause-outcome g c =
     got.given got.took got.outcome.1 c.requires.sink c.requires.fresh)
 
 -- both texts were read, and their systems compared
-module _ (g : Over) (c : After-compared g) where
+module _ (g : Over) (c : After-equivalent g) where
   abbrev first : List ℕ
   first = c.in_ok-first.ensures.outcome.given
 
@@ -60,19 +61,19 @@ module _ (g : Over) (c : After-compared g) where
       c.in_ok-first.ensures.outcome.outcome.read c.in_ok-second.ensures.outcome.outcome.read law
 
   -- the meter shows what the union of the texts takes
-  counted : (let at = g.M.Meter.counted c.compared.new.m in
+  counted : (let at = g.M.Meter.counted c.equivalent.new.m in
       let k = length c.in_ok-first.first.places + length c.in_ok-second.second.places in
       Turns c.args.rel (union_of (system_of c.in_ok-first.first) (system_of c.in_ok-second.second)) at.rounds →
       KeepsTo (c.in_ok-first.first.states + c.in_ok-second.second.states) k 1 at ((at.rounds + 1) * k) → CountsUnion asked both at)
   counted = counted_whole asked first second c.in_ok-first.first c.in_ok-second.second
-      c.in_ok-first.ensures.outcome.outcome.read c.in_ok-second.ensures.outcome.outcome.read (g.M.Meter.counted c.compared.new.m)
+      c.in_ok-first.ensures.outcome.outcome.read c.in_ok-second.ensures.outcome.outcome.read (g.M.Meter.counted c.equivalent.new.m)
       c.in_ok-first.ensures.outcome.outcome.as_many c.in_ok-second.ensures.outcome.outcome.as_many law
 
   -- both were read to their ends, and the meter keeps to what that may take
   abbrev got : GotBoth c.args.lim.now first (
     used g.R1.Source.rest g.R1.Source.failures c.args.a.now c.read_side.new.r,
     used g.R2.Source.rest g.R2.Source.failures c.args.b.now c.read_side-2.new.r,
-  ) (g.M.Meter.counted c.compared.new.m)
+  ) (g.M.Meter.counted c.equivalent.new.m)
   got =
       let one = c.in_ok-first.ensures.outcome in
       let other = c.in_ok-second.ensures.outcome in
@@ -82,25 +83,24 @@ module _ (g : Over) (c : After-compared g) where
         exhausted = ((one.outcome.at_end, one.outcome.sound), (other.outcome.at_end, other.outcome.sound));
         both = both;
         keeps = counted_part asked first second c.in_ok-first.first c.in_ok-second.second one.outcome.read other.outcome.read
-            (g.M.Meter.counted c.compared.new.m) one.outcome.as_many other.outcome.as_many _ c.compared.ensures.keeps;
+            (g.M.Meter.counted c.equivalent.new.m) one.outcome.as_many other.outcome.as_many _ c.equivalent.ensures.keeps;
       }
 
 pub returns-in_err-same-clause-outcome : goal.returns-in_err-same-clause-outcome
 returns-in_err-same-clause-outcome g c =
-    let at = (goal.at.returns-in_err-same-clause-outcome g c).After-compared in
+    let at = (goal.at.returns-in_err-same-clause-outcome g c).After-equivalent in
     let one = c.in_ok-first.ensures.outcome in
     let exit = err_from_is_err_and c.from_residual-in_err-same.result c.from_residual-in_err-same.ensures.1 in
-    let fault = c.in_err-same.ensures.fault in
-    takes_error _ _ _ _ c.from_residual-in_err-same.result c.in_err-same.field-0.0 one.given exit one.took
-    (out_of_memory (ap (λ (f : CmpFault). f.side) fault) (ap (λ (f : CmpFault). f.fault) fault) (got g at) c.requires.sink)
+    takes_error _ _ _ _ c.from_residual-in_err-same.result (record { side = Run; fault = Memory }) one.given exit one.took
+    (out_of_memory refl refl (got g at) c.requires.sink)
 
 pub returns-in_err-say-clause-outcome : goal.returns-in_err-say-clause-outcome
 returns-in_err-say-clause-outcome g c =
-    let at = (goal.at.returns-in_err-say-clause-outcome g c).After-compared in
+    let at = (goal.at.returns-in_err-say-clause-outcome g c).After-equivalent in
     let one = c.in_ok-first.ensures.outcome in
     let is = c.in_err-say.ensures in
     let exit = err_from_is_err_and c.from_residual-in_err-say.result c.from_residual-in_err-say.ensures.1 in
-    let compared = rw c.in_ok-same.was at c.compared.ensures in
+    let compared = rw c.in_ok-same.was at c.equivalent.ensures in
     takes_error _ _ _ _ c.from_residual-in_err-say.result c.in_err-say.field-0.0 one.given exit one.took
     (not_written is.fault.0 is.fault.1 (got g at) is.failures c.in_ok-same.same (verdict g at _ compared.verdict) is.err)
 
@@ -112,9 +112,9 @@ returns-in_err-say-clause-untouched g c =
 
 pub returns-clause-outcome : goal.returns-clause-outcome
 returns-clause-outcome g c =
-    let at = (goal.at.returns-clause-outcome g c).After-compared in
+    let at = (goal.at.returns-clause-outcome g c).After-equivalent in
     let one = c.in_ok-first.ensures.outcome in
-    let is = rw c.in_ok-same.was at c.compared.ensures in
+    let is = rw c.in_ok-same.was at c.equivalent.ensures in
     record {
       given = one.given;
       took = one.took;
