@@ -1,8 +1,8 @@
 -- What slots have: that of the empty list alone, and one list more at the end of the pairs.
 use Rattle.std.proofs.Common.{◌≡◌, ◌∙◌, ℕ, ◌+◌, ◌≤◌, List, [], ◌∷◌, ◌++◌, length, take, ap, refl, sym, subst, arith}
 use Rattle.std.specs.List.{All, slice_range}
-use Rattle.std.proofs.lemmas.List.{length-append, length_push, map-append, get_or_append_left}
-use Rattle.std.proofs.lemmas.List.Elements.{All-head, All-tail, All-append, All-weaker}
+use Rattle.std.proofs.lemmas.List.{map-append}
+use Rattle.std.proofs.lemmas.List.Elements.{All-head, All-tail}
 use Rattle.lists.specs.declared.kept.Slot.{Slot}
 use Rattle.lists.specs.Extended.{no_slot, kept_in, all_kept, AreSlots}
 use Rattle.lists.proofs.Storing.{All-only}
@@ -35,13 +35,6 @@ module _ (pairs more : List (ℕ × ℕ)) where
   pub kept-more : (slots : List Slot) → AreSlots pairs slots → all_kept (pairs ++ more) slots ≡ all_kept pairs slots
   kept-more slots are = kept-each slots are.within
 
-  pub AreSlots-more : (slots : List Slot) → AreSlots pairs slots → AreSlots (pairs ++ more) slots
-  AreSlots-more slots are = record {
-    within = All-weaker (IsWithin pairs) (IsWithin (pairs ++ more)) (λ x h. omega (arith, length-append pairs more)) slots are.within;
-    some = are.some;
-    first = are.first;
-  }
-
 -- the slot of a list that goes last among the pairs goes last among the slots
 module _ (pairs list : List (ℕ × ℕ)) (slots : List Slot) (new : Slot) (are : AreSlots pairs slots) (start : new.start ≡ length pairs)
     (count : new.count ≡ length list) where
@@ -55,13 +48,3 @@ module _ (pairs list : List (ℕ × ℕ)) (slots : List Slot) (new : Slot) (are 
       map-append (kept_in (pairs ++ list)) slots (new ∷ [])
       ∙ ap (λ l. l ++ kept_in (pairs ++ list) new ∷ []) (kept-more pairs list slots are)
       ∙ ap (λ x. all_kept pairs slots ++ x ∷ []) kept-new
-
-  pub AreSlots-push : AreSlots (pairs ++ list) (slots ++ new ∷ [])
-  AreSlots-push =
-      let more = AreSlots-more pairs list slots are in
-      record {
-        within = All-append (IsWithin (pairs ++ list)) slots (new ∷ []) more.within
-            (All-only (IsWithin (pairs ++ list)) new (omega (arith, length-append pairs list)));
-        some = let old = are.some in omega (arith, length_push slots new);
-        first = get_or_append_left slots (new ∷ []) no_slot 0 are.some ∙ are.first;
-      }

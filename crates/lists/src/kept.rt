@@ -1,6 +1,6 @@
 //! What is kept of each list: the number of its base, and few pairs beside it.
 ghost use Rattle.std.specs.Prelude.{◌≡◌, ◌++◌, ◌∷◌, ◌+◌, ◌<◌, ◌≤◌, [], length, IfOk, OnOk, OnErr};
-ghost use Rattle.lists.specs.Extended.{parts_of, no_slot, kept_in, all_kept, AreSlots, kept_at};
+ghost use Rattle.lists.specs.Extended.{parts_of, no_slot, kept_in, kept_at};
 ghost use Rattle.lists.specs.declared.nodes.TheConstants.{FEW, MOST_LISTS};
 
 use crate::nodes::{EMPTY, make_room};
@@ -99,7 +99,14 @@ impl Kept {
         ensures pushed { OnOk result (self.new ≡ self.old ++ parts_of list.entry ∷ []) }
         ensures err { OnErr result (self.new ≡ self.old) }
     {
-        put(&mut self.pairs, &mut self.slots, list)
+        let start = self.pairs.len();
+        self.pairs.extend_from_slice(list.few)?;
+        self.slots.push(Slot {
+            base: list.base,
+            count: list.few.len() as u32,
+            start,
+        })?;
+        Ok(())
     }
 
     /// Forgets all lists but the empty one, and keeps the memory.
@@ -117,28 +124,4 @@ fn few_of(pairs: &[(u32, u32)], slot: Slot) -> &[(u32, u32)]
     ensures { (slot.base, result.now) ≡ kept_in pairs.now slot }
 {
     &pairs[slot.start..slot.start + slot.count as usize]
-}
-
-/// Puts the pairs of the list at the end of the pairs, and its slot at the end of the slots.
-///
-/// Fails if there is no memory for it. What is kept is then as it was.
-fn put(
-    pairs: &mut Vec<(u32, u32)>,
-    slots: &mut Vec<Slot>,
-    list: Extension<'_>,
-) -> Result<(), Memory>
-    requires slots { AreSlots pairs.old.items slots.old.items }
-    requires few { length list.few.now ≤ FEW }
-    ensures slots { AreSlots pairs.new.items slots.new.items }
-    ensures put { OnOk result (all_kept pairs.new.items slots.new.items ≡ all_kept pairs.old.items slots.old.items ++ parts_of list.entry ∷ []) }
-    ensures err { OnErr result (all_kept pairs.new.items slots.new.items ≡ all_kept pairs.old.items slots.old.items) }
-{
-    let start = pairs.len();
-    pairs.extend_from_slice(list.few)?;
-    slots.push(Slot {
-        base: list.base,
-        count: list.few.len() as u32,
-        start,
-    })?;
-    Ok(())
 }
