@@ -1,266 +1,273 @@
 //! Families of systems that are hard by branching bisimulation, at sizes at which an independent program tells what is
-//! wanted. Each is there twice, the second time with its states numbered the other way round.
+//! wanted. Each is tried twice, the second time with its states numbered the other way round.
 use crate::refining::Made;
 use crate::showing::{Shown, check_row};
+use crate::texts::turned;
 use std::alloc::Global;
 use std::test::Fail;
 
-/// A name, a system, and its final blocks by strong and by branching bisimulation, with the rounds and visits that they take.
-type Family = (&'static str, &'static str, &'static str, &'static str);
+/// A name, a system, and its final blocks by strong and by branching bisimulation, with the rounds and visits that they take:
+/// first as it is, and then with its states numbered the other way round.
+type Family = (&'static str, &'static str, [&'static str; 4]);
+
+const ENTRY_4: &str =
+    "8 of 9; 0 i 1; 0 l0 6; 5 l0 6; 1 i 2; 1 l1 6; 4 l1 6; 2 i 3; 2 l2 6; 4 l2 6; 3 i 0; \
+    3 l3 6; 4 l3 6; 7 i 4; 7 i 5; 8 go 7; 0 enter 0; 4 enter 0; 5 enter 0; 7 enter 0";
+
+const ENTRIES_3: &str =
+    "9 of 10; 0 i 1; 0 l0 5; 4 l0 5; 1 i 2; 1 l1 5; 3 l1 5; 2 i 0; 2 l2 5; 3 l2 5; 6 i 3; \
+    6 i 4; 9 go 6; 7 i 3; 7 i 4; 9 go 7; 8 i 3; 8 i 4; 9 go 8; 0 enter 0; 3 enter 0; \
+    4 enter 0; 6 enter 0; 7 enter 0; 8 enter 0";
+
+const HUBS_3: &str =
+    "6 of 7; 1 l0 0; 1 l1 0; 1 l2 0; 2 l1 0; 2 l2 0; 2 l3 0; 3 i 1; 3 i 2; 6 go 3; 4 i 1; \
+    4 i 2; 6 go 4; 5 i 1; 5 i 2; 6 go 5";
+
+const HALVES_4: &str =
+    "7 of 8; 1 l0 0; 1 l1 0; 2 l2 0; 2 l3 0; 3 i 1; 3 i 2; 7 go 3; 4 i 1; 4 i 2; 7 go 4; \
+    5 i 1; 5 i 2; 7 go 5; 6 i 1; 6 i 2; 7 go 6";
+
+const PAIRS_3: &str =
+    "7 of 8; 1 l0_0 0; 1 l0_1 0; 1 l0_2 0; 2 l1_0 0; 2 l1_1 0; 2 l1_2 0; 3 l2_0 0; 3 l2_1 0; \
+    3 l2_2 0; 4 i 1; 4 i 2; 7 go 4; 5 i 1; 5 i 3; 7 go 5; 6 i 2; 6 i 3; 7 go 6";
+
+const COVER_4: &str =
+    "11 of 12; 1 l1 0; 1 l2 0; 1 l3 0; 2 l0 0; 2 l2 0; 2 l3 0; 3 l0 0; 3 l1 0; 3 l3 0; 4 l0 0; \
+    4 l1 0; 4 l2 0; 5 i 1; 5 i 2; 11 go 5; 6 i 1; 6 i 3; 11 go 6; 7 i 1; 7 i 4; 11 go 7; \
+    8 i 2; 8 i 3; 11 go 8; 9 i 2; 9 i 4; 11 go 9; 10 i 3; 10 i 4; 11 go 10";
+
+const TWINS_2: &str =
+    "7 of 8; 1 l0 0; 2 l0 0; 1 l1 0; 2 l1 0; 1 x 0; 2 y 0; 3 i 1; 3 y 0; 3 z0 0; 7 go 3; \
+    4 i 2; 4 x 0; 4 z0 0; 7 go 4; 5 i 1; 5 y 0; 5 z1 0; 7 go 5; 6 i 2; 6 x 0; 6 z1 0; 7 go 6";
+
+const VARY_4: &str =
+    "11 of 12; 1 l0 0; 1 l1 0; 2 l2 0; 2 l3 0; 3 l0 0; 7 i 1; 7 i 2; 7 i 3; 11 go 7; 4 l1 0; \
+    8 i 1; 8 i 2; 8 i 4; 11 go 8; 5 l2 0; 9 i 1; 9 i 2; 9 i 5; 11 go 9; 6 l3 0; 10 i 1; \
+    10 i 2; 10 i 6; 11 go 10";
+
+const VARYN_4: &str =
+    "11 of 12; 1 l0 0; 1 l1 0; 2 l2 0; 2 l3 0; 3 m0 0; 7 i 1; 7 i 2; 7 i 3; 11 go 7; 4 m1 0; \
+    8 i 1; 8 i 2; 8 i 4; 11 go 8; 5 m2 0; 9 i 1; 9 i 2; 9 i 5; 11 go 9; 6 m3 0; 10 i 1; \
+    10 i 2; 10 i 6; 11 go 10";
+
+const FAN_8: &str =
+    "11 of 12; 1 l0 0; 1 l1 0; 1 l2 0; 1 l3 0; 1 l4 0; 1 l5 0; 1 l6 0; 1 l7 0; 2 m0 0; 2 i 1; \
+    3 i 2; 3 z0 0; 11 go 3; 4 i 2; 4 z1 0; 11 go 4; 5 i 2; 5 z2 0; 11 go 5; 6 i 2; 6 z3 0; \
+    11 go 6; 7 i 2; 7 z4 0; 11 go 7; 8 i 2; 8 z5 0; 11 go 8; 9 i 2; 9 z6 0; 11 go 9; 10 i 2; \
+    10 z7 0; 11 go 10";
+
+const SAME_8: &str =
+    "11 of 12; 1 l0 0; 1 l1 0; 1 l2 0; 1 l3 0; 1 l4 0; 1 l5 0; 1 l6 0; 1 l7 0; 2 m0 0; 2 i 1; \
+    3 i 2; 3 z 0; 11 go 3; 4 i 2; 4 z 0; 11 go 4; 5 i 2; 5 z 0; 11 go 5; 6 i 2; 6 z 0; \
+    11 go 6; 7 i 2; 7 z 0; 11 go 7; 8 i 2; 8 z 0; 11 go 8; 9 i 2; 9 z 0; 11 go 9; 10 i 2; \
+    10 z 0; 11 go 10";
+
+const OWN_3: &str =
+    "5 of 6; 1 l0 0; 1 l1 0; 1 l2 0; 2 i 1; 2 l0 0; 5 go 2; 3 i 1; 3 l1 0; 5 go 3; 4 i 1; \
+    4 l2 0; 5 go 4";
+
+const TAIL_4: &str = "0 of 5; 0 i 1; 1 i 2; 2 i 3; 0 l0 4; 1 l1 4; 2 l2 4; 3 l3 4";
+
+const TAILHUB_3: &str =
+    "0 of 5; 4 h0 3; 4 h1 3; 4 h2 3; 0 i 1; 0 l0 3; 0 i 4; 1 i 2; 1 l1 3; 1 i 4; 2 i 4; \
+    2 l2 3; 2 i 4";
+
+const TREE_3: &str =
+    "7 of 8; 0 i 1; 1 i 2; 0 l0 3; 1 l1 3; 2 l2 3; 4 i 0; 4 i 2; 7 go 4; 5 i 1; 5 i 1; 7 go 5; \
+    6 i 2; 6 i 0; 7 go 6";
 
 /// Cycles of inert steps, and states whose signatures equal theirs but are put together otherwise.
-const CYCLES: [Family; 4] = [
+const CYCLES: [Family; 2] = [
     (
         "entry 4",
-        "8 of 9; 0 i 1; 0 l0 6; 5 l0 6; 1 i 2; 1 l1 6; 4 l1 6; 2 i 3; 2 l2 6; 4 l2 6; 3 i 0; \
-        3 l3 6; 4 l3 6; 7 i 4; 7 i 5; 8 go 7; 0 enter 0; 4 enter 0; 5 enter 0; 7 enter 0",
-        "9: 0 1 2 3 4 5 6 7 8; 2 rounds, 38 visits",
-        "6: 0 0 0 0 1 2 3 4 5; 3 rounds, 57 visits",
-    ),
-    (
-        "entry-r 4",
-        "0 of 9; 8 i 7; 8 l0 2; 3 l0 2; 7 i 6; 7 l1 2; 4 l1 2; 6 i 5; 6 l2 2; 4 l2 2; 5 i 8; \
-        5 l3 2; 4 l3 2; 1 i 4; 1 i 3; 0 go 1; 8 enter 8; 4 enter 8; 3 enter 8; 1 enter 8",
-        "9: 0 1 2 3 4 5 6 7 8; 2 rounds, 38 visits",
-        "6: 0 1 2 3 4 5 5 5 5; 3 rounds, 57 visits",
+        ENTRY_4,
+        [
+            "9: 0 1 2 3 4 5 6 7 8; 2 rounds, 38 visits",
+            "6: 0 0 0 0 1 2 3 4 5; 3 rounds, 57 visits",
+            "9: 0 1 2 3 4 5 6 7 8; 2 rounds, 38 visits",
+            "6: 0 1 2 3 4 5 5 5 5; 3 rounds, 57 visits",
+        ],
     ),
     (
         "entries 3",
-        "9 of 10; 0 i 1; 0 l0 5; 4 l0 5; 1 i 2; 1 l1 5; 3 l1 5; 2 i 0; 2 l2 5; 3 l2 5; 6 i 3; \
-        6 i 4; 9 go 6; 7 i 3; 7 i 4; 9 go 7; 8 i 3; 8 i 4; 9 go 8; 0 enter 0; 3 enter 0; \
-        4 enter 0; 6 enter 0; 7 enter 0; 8 enter 0",
-        "8: 0 1 2 3 4 5 6 6 6 7; 2 rounds, 48 visits",
-        "6: 0 0 0 1 2 3 4 4 4 5; 3 rounds, 72 visits",
-    ),
-    (
-        "entries-r 3",
-        "0 of 10; 9 i 8; 9 l0 4; 5 l0 4; 8 i 7; 8 l1 4; 6 l1 4; 7 i 9; 7 l2 4; 6 l2 4; 3 i 6; \
-        3 i 5; 0 go 3; 2 i 6; 2 i 5; 0 go 2; 1 i 6; 1 i 5; 0 go 1; 9 enter 9; 6 enter 9; \
-        5 enter 9; 3 enter 9; 2 enter 9; 1 enter 9",
-        "8: 0 1 1 1 2 3 4 5 6 7; 2 rounds, 48 visits",
-        "6: 0 1 1 1 2 3 4 5 5 5; 3 rounds, 72 visits",
+        ENTRIES_3,
+        [
+            "8: 0 1 2 3 4 5 6 6 6 7; 2 rounds, 48 visits",
+            "6: 0 0 0 1 2 3 4 4 4 5; 3 rounds, 72 visits",
+            "8: 0 1 1 1 2 3 4 5 6 7; 2 rounds, 48 visits",
+            "6: 0 1 1 1 2 3 4 5 5 5; 3 rounds, 72 visits",
+        ],
     ),
 ];
 
 /// States with inert steps to the same states: the same union of lists again and again.
-const UNIONS: [Family; 8] = [
+const UNIONS: [Family; 4] = [
     (
         "hubs 3",
-        "6 of 7; 1 l0 0; 1 l1 0; 1 l2 0; 2 l1 0; 2 l2 0; 2 l3 0; 3 i 1; 3 i 2; 6 go 3; 4 i 1; \
-        4 i 2; 6 go 4; 5 i 1; 5 i 2; 6 go 5",
-        "5: 0 1 2 3 3 3 4; 2 rounds, 30 visits",
-        "5: 0 1 2 3 3 3 4; 2 rounds, 30 visits",
-    ),
-    (
-        "hubs-r 3",
-        "0 of 7; 5 l0 6; 5 l1 6; 5 l2 6; 4 l1 6; 4 l2 6; 4 l3 6; 3 i 5; 3 i 4; 0 go 3; 2 i 5; \
-        2 i 4; 0 go 2; 1 i 5; 1 i 4; 0 go 1",
-        "5: 0 1 1 1 2 3 4; 2 rounds, 30 visits",
-        "5: 0 1 1 1 2 3 4; 2 rounds, 30 visits",
+        HUBS_3,
+        [
+            "5: 0 1 2 3 3 3 4; 2 rounds, 30 visits",
+            "5: 0 1 2 3 3 3 4; 2 rounds, 30 visits",
+            "5: 0 1 1 1 2 3 4; 2 rounds, 30 visits",
+            "5: 0 1 1 1 2 3 4; 2 rounds, 30 visits",
+        ],
     ),
     (
         "halves 4",
-        "7 of 8; 1 l0 0; 1 l1 0; 2 l2 0; 2 l3 0; 3 i 1; 3 i 2; 7 go 3; 4 i 1; 4 i 2; 7 go 4; \
-        5 i 1; 5 i 2; 7 go 5; 6 i 1; 6 i 2; 7 go 6",
-        "5: 0 1 2 3 3 3 3 4; 2 rounds, 32 visits",
-        "5: 0 1 2 3 3 3 3 4; 2 rounds, 32 visits",
-    ),
-    (
-        "halves-r 4",
-        "0 of 8; 6 l0 7; 6 l1 7; 5 l2 7; 5 l3 7; 4 i 6; 4 i 5; 0 go 4; 3 i 6; 3 i 5; 0 go 3; \
-        2 i 6; 2 i 5; 0 go 2; 1 i 6; 1 i 5; 0 go 1",
-        "5: 0 1 1 1 1 2 3 4; 2 rounds, 32 visits",
-        "5: 0 1 1 1 1 2 3 4; 2 rounds, 32 visits",
+        HALVES_4,
+        [
+            "5: 0 1 2 3 3 3 3 4; 2 rounds, 32 visits",
+            "5: 0 1 2 3 3 3 3 4; 2 rounds, 32 visits",
+            "5: 0 1 1 1 1 2 3 4; 2 rounds, 32 visits",
+            "5: 0 1 1 1 1 2 3 4; 2 rounds, 32 visits",
+        ],
     ),
     (
         "pairs 3",
-        "7 of 8; 1 l0_0 0; 1 l0_1 0; 1 l0_2 0; 2 l1_0 0; 2 l1_1 0; 2 l1_2 0; 3 l2_0 0; 3 l2_1 0; \
-        3 l2_2 0; 4 i 1; 4 i 2; 7 go 4; 5 i 1; 5 i 3; 7 go 5; 6 i 2; 6 i 3; 7 go 6",
-        "8: 0 1 2 3 4 5 6 7; 3 rounds, 54 visits",
-        "8: 0 1 2 3 4 5 6 7; 2 rounds, 36 visits",
-    ),
-    (
-        "pairs-r 3",
-        "0 of 8; 6 l0_0 7; 6 l0_1 7; 6 l0_2 7; 5 l1_0 7; 5 l1_1 7; 5 l1_2 7; 4 l2_0 7; 4 l2_1 7; \
-        4 l2_2 7; 3 i 6; 3 i 5; 0 go 3; 2 i 6; 2 i 4; 0 go 2; 1 i 5; 1 i 4; 0 go 1",
-        "8: 0 1 2 3 4 5 6 7; 3 rounds, 54 visits",
-        "8: 0 1 2 3 4 5 6 7; 2 rounds, 36 visits",
+        PAIRS_3,
+        [
+            "8: 0 1 2 3 4 5 6 7; 3 rounds, 54 visits",
+            "8: 0 1 2 3 4 5 6 7; 2 rounds, 36 visits",
+            "8: 0 1 2 3 4 5 6 7; 3 rounds, 54 visits",
+            "8: 0 1 2 3 4 5 6 7; 2 rounds, 36 visits",
+        ],
     ),
     (
         "cover 4",
-        "11 of 12; 1 l1 0; 1 l2 0; 1 l3 0; 2 l0 0; 2 l2 0; 2 l3 0; 3 l0 0; 3 l1 0; 3 l3 0; \
-        4 l0 0; 4 l1 0; 4 l2 0; 5 i 1; 5 i 2; 11 go 5; 6 i 1; 6 i 3; 11 go 6; 7 i 1; 7 i 4; \
-        11 go 7; 8 i 2; 8 i 3; 11 go 8; 9 i 2; 9 i 4; 11 go 9; 10 i 3; 10 i 4; 11 go 10",
-        "12: 0 1 2 3 4 5 6 7 8 9 10 11; 3 rounds, 90 visits",
-        "12: 0 1 2 3 4 5 6 7 8 9 10 11; 3 rounds, 90 visits",
-    ),
-    (
-        "cover-r 4",
-        "0 of 12; 10 l1 11; 10 l2 11; 10 l3 11; 9 l0 11; 9 l2 11; 9 l3 11; 8 l0 11; 8 l1 11; \
-        8 l3 11; 7 l0 11; 7 l1 11; 7 l2 11; 6 i 10; 6 i 9; 0 go 6; 5 i 10; 5 i 8; 0 go 5; \
-        4 i 10; 4 i 7; 0 go 4; 3 i 9; 3 i 8; 0 go 3; 2 i 9; 2 i 7; 0 go 2; 1 i 8; 1 i 7; 0 go 1",
-        "12: 0 1 2 3 4 5 6 7 8 9 10 11; 3 rounds, 90 visits",
-        "12: 0 1 2 3 4 5 6 7 8 9 10 11; 3 rounds, 90 visits",
+        COVER_4,
+        [
+            "12: 0 1 2 3 4 5 6 7 8 9 10 11; 3 rounds, 90 visits",
+            "12: 0 1 2 3 4 5 6 7 8 9 10 11; 3 rounds, 90 visits",
+            "12: 0 1 2 3 4 5 6 7 8 9 10 11; 3 rounds, 90 visits",
+            "12: 0 1 2 3 4 5 6 7 8 9 10 11; 3 rounds, 90 visits",
+        ],
     ),
 ];
 
 /// Unions that nearly agree, and lists that add a pair to a long one.
-const NEARLY_EQUAL: [Family; 12] = [
+const NEARLY_EQUAL: [Family; 6] = [
     (
         "twins 2",
-        "7 of 8; 1 l0 0; 2 l0 0; 1 l1 0; 2 l1 0; 1 x 0; 2 y 0; 3 i 1; 3 y 0; 3 z0 0; 7 go 3; \
-        4 i 2; 4 x 0; 4 z0 0; 7 go 4; 5 i 1; 5 y 0; 5 z1 0; 7 go 5; 6 i 2; 6 x 0; 6 z1 0; 7 go 6",
-        "8: 0 1 2 3 4 5 6 7; 2 rounds, 44 visits",
-        "8: 0 1 2 3 4 5 6 7; 3 rounds, 66 visits",
-    ),
-    (
-        "twins-r 2",
-        "0 of 8; 6 l0 7; 5 l0 7; 6 l1 7; 5 l1 7; 6 x 7; 5 y 7; 4 i 6; 4 y 7; 4 z0 7; 0 go 4; \
-        3 i 5; 3 x 7; 3 z0 7; 0 go 3; 2 i 6; 2 y 7; 2 z1 7; 0 go 2; 1 i 5; 1 x 7; 1 z1 7; 0 go 1",
-        "8: 0 1 2 3 4 5 6 7; 2 rounds, 44 visits",
-        "8: 0 1 2 3 4 5 6 7; 3 rounds, 66 visits",
+        TWINS_2,
+        [
+            "8: 0 1 2 3 4 5 6 7; 2 rounds, 44 visits",
+            "8: 0 1 2 3 4 5 6 7; 3 rounds, 66 visits",
+            "8: 0 1 2 3 4 5 6 7; 2 rounds, 44 visits",
+            "8: 0 1 2 3 4 5 6 7; 3 rounds, 66 visits",
+        ],
     ),
     (
         "vary 4",
-        "11 of 12; 1 l0 0; 1 l1 0; 2 l2 0; 2 l3 0; 3 l0 0; 7 i 1; 7 i 2; 7 i 3; 11 go 7; 4 l1 0; \
-        8 i 1; 8 i 2; 8 i 4; 11 go 8; 5 l2 0; 9 i 1; 9 i 2; 9 i 5; 11 go 9; 6 l3 0; 10 i 1; \
-        10 i 2; 10 i 6; 11 go 10",
-        "12: 0 1 2 3 4 5 6 7 8 9 10 11; 3 rounds, 72 visits",
-        "12: 0 1 2 3 4 5 6 7 8 9 10 11; 3 rounds, 72 visits",
-    ),
-    (
-        "vary-r 4",
-        "0 of 12; 10 l0 11; 10 l1 11; 9 l2 11; 9 l3 11; 8 l0 11; 4 i 10; 4 i 9; 4 i 8; 0 go 4; \
-        7 l1 11; 3 i 10; 3 i 9; 3 i 7; 0 go 3; 6 l2 11; 2 i 10; 2 i 9; 2 i 6; 0 go 2; 5 l3 11; \
-        1 i 10; 1 i 9; 1 i 5; 0 go 1",
-        "12: 0 1 2 3 4 5 6 7 8 9 10 11; 3 rounds, 72 visits",
-        "12: 0 1 2 3 4 5 6 7 8 9 10 11; 3 rounds, 72 visits",
+        VARY_4,
+        [
+            "12: 0 1 2 3 4 5 6 7 8 9 10 11; 3 rounds, 72 visits",
+            "12: 0 1 2 3 4 5 6 7 8 9 10 11; 3 rounds, 72 visits",
+            "12: 0 1 2 3 4 5 6 7 8 9 10 11; 3 rounds, 72 visits",
+            "12: 0 1 2 3 4 5 6 7 8 9 10 11; 3 rounds, 72 visits",
+        ],
     ),
     (
         "varyn 4",
-        "11 of 12; 1 l0 0; 1 l1 0; 2 l2 0; 2 l3 0; 3 m0 0; 7 i 1; 7 i 2; 7 i 3; 11 go 7; 4 m1 0; \
-        8 i 1; 8 i 2; 8 i 4; 11 go 8; 5 m2 0; 9 i 1; 9 i 2; 9 i 5; 11 go 9; 6 m3 0; 10 i 1; \
-        10 i 2; 10 i 6; 11 go 10",
-        "12: 0 1 2 3 4 5 6 7 8 9 10 11; 3 rounds, 72 visits",
-        "12: 0 1 2 3 4 5 6 7 8 9 10 11; 2 rounds, 48 visits",
-    ),
-    (
-        "varyn-r 4",
-        "0 of 12; 10 l0 11; 10 l1 11; 9 l2 11; 9 l3 11; 8 m0 11; 4 i 10; 4 i 9; 4 i 8; 0 go 4; \
-        7 m1 11; 3 i 10; 3 i 9; 3 i 7; 0 go 3; 6 m2 11; 2 i 10; 2 i 9; 2 i 6; 0 go 2; 5 m3 11; \
-        1 i 10; 1 i 9; 1 i 5; 0 go 1",
-        "12: 0 1 2 3 4 5 6 7 8 9 10 11; 3 rounds, 72 visits",
-        "12: 0 1 2 3 4 5 6 7 8 9 10 11; 2 rounds, 48 visits",
+        VARYN_4,
+        [
+            "12: 0 1 2 3 4 5 6 7 8 9 10 11; 3 rounds, 72 visits",
+            "12: 0 1 2 3 4 5 6 7 8 9 10 11; 2 rounds, 48 visits",
+            "12: 0 1 2 3 4 5 6 7 8 9 10 11; 3 rounds, 72 visits",
+            "12: 0 1 2 3 4 5 6 7 8 9 10 11; 2 rounds, 48 visits",
+        ],
     ),
     (
         "fan 8",
-        "11 of 12; 1 l0 0; 1 l1 0; 1 l2 0; 1 l3 0; 1 l4 0; 1 l5 0; 1 l6 0; 1 l7 0; 2 m0 0; \
-        2 i 1; 3 i 2; 3 z0 0; 11 go 3; 4 i 2; 4 z1 0; 11 go 4; 5 i 2; 5 z2 0; 11 go 5; 6 i 2; \
-        6 z3 0; 11 go 6; 7 i 2; 7 z4 0; 11 go 7; 8 i 2; 8 z5 0; 11 go 8; 9 i 2; 9 z6 0; \
-        11 go 9; 10 i 2; 10 z7 0; 11 go 10",
-        "12: 0 1 2 3 4 5 6 7 8 9 10 11; 2 rounds, 68 visits",
-        "12: 0 1 2 3 4 5 6 7 8 9 10 11; 2 rounds, 68 visits",
-    ),
-    (
-        "fan-r 8",
-        "0 of 12; 10 l0 11; 10 l1 11; 10 l2 11; 10 l3 11; 10 l4 11; 10 l5 11; 10 l6 11; \
-        10 l7 11; 9 m0 11; 9 i 10; 8 i 9; 8 z0 11; 0 go 8; 7 i 9; 7 z1 11; 0 go 7; 6 i 9; \
-        6 z2 11; 0 go 6; 5 i 9; 5 z3 11; 0 go 5; 4 i 9; 4 z4 11; 0 go 4; 3 i 9; 3 z5 11; \
-        0 go 3; 2 i 9; 2 z6 11; 0 go 2; 1 i 9; 1 z7 11; 0 go 1",
-        "12: 0 1 2 3 4 5 6 7 8 9 10 11; 2 rounds, 68 visits",
-        "12: 0 1 2 3 4 5 6 7 8 9 10 11; 2 rounds, 68 visits",
+        FAN_8,
+        [
+            "12: 0 1 2 3 4 5 6 7 8 9 10 11; 2 rounds, 68 visits",
+            "12: 0 1 2 3 4 5 6 7 8 9 10 11; 2 rounds, 68 visits",
+            "12: 0 1 2 3 4 5 6 7 8 9 10 11; 2 rounds, 68 visits",
+            "12: 0 1 2 3 4 5 6 7 8 9 10 11; 2 rounds, 68 visits",
+        ],
     ),
     (
         "same 8",
-        "11 of 12; 1 l0 0; 1 l1 0; 1 l2 0; 1 l3 0; 1 l4 0; 1 l5 0; 1 l6 0; 1 l7 0; 2 m0 0; \
-        2 i 1; 3 i 2; 3 z 0; 11 go 3; 4 i 2; 4 z 0; 11 go 4; 5 i 2; 5 z 0; 11 go 5; 6 i 2; \
-        6 z 0; 11 go 6; 7 i 2; 7 z 0; 11 go 7; 8 i 2; 8 z 0; 11 go 8; 9 i 2; 9 z 0; 11 go 9; \
-        10 i 2; 10 z 0; 11 go 10",
-        "5: 0 1 2 3 3 3 3 3 3 3 3 4; 2 rounds, 68 visits",
-        "5: 0 1 2 3 3 3 3 3 3 3 3 4; 2 rounds, 68 visits",
-    ),
-    (
-        "same-r 8",
-        "0 of 12; 10 l0 11; 10 l1 11; 10 l2 11; 10 l3 11; 10 l4 11; 10 l5 11; 10 l6 11; \
-        10 l7 11; 9 m0 11; 9 i 10; 8 i 9; 8 z 11; 0 go 8; 7 i 9; 7 z 11; 0 go 7; 6 i 9; 6 z 11; \
-        0 go 6; 5 i 9; 5 z 11; 0 go 5; 4 i 9; 4 z 11; 0 go 4; 3 i 9; 3 z 11; 0 go 3; 2 i 9; \
-        2 z 11; 0 go 2; 1 i 9; 1 z 11; 0 go 1",
-        "5: 0 1 1 1 1 1 1 1 1 2 3 4; 2 rounds, 68 visits",
-        "5: 0 1 1 1 1 1 1 1 1 2 3 4; 2 rounds, 68 visits",
+        SAME_8,
+        [
+            "5: 0 1 2 3 3 3 3 3 3 3 3 4; 2 rounds, 68 visits",
+            "5: 0 1 2 3 3 3 3 3 3 3 3 4; 2 rounds, 68 visits",
+            "5: 0 1 1 1 1 1 1 1 1 2 3 4; 2 rounds, 68 visits",
+            "5: 0 1 1 1 1 1 1 1 1 2 3 4; 2 rounds, 68 visits",
+        ],
     ),
     (
         "own 3",
-        "5 of 6; 1 l0 0; 1 l1 0; 1 l2 0; 2 i 1; 2 l0 0; 5 go 2; 3 i 1; 3 l1 0; 5 go 3; 4 i 1; \
-        4 l2 0; 5 go 4",
-        "6: 0 1 2 3 4 5; 2 rounds, 24 visits",
-        "3: 0 1 1 1 1 2; 2 rounds, 24 visits",
-    ),
-    (
-        "own-r 3",
-        "0 of 6; 4 l0 5; 4 l1 5; 4 l2 5; 3 i 4; 3 l0 5; 0 go 3; 2 i 4; 2 l1 5; 0 go 2; 1 i 4; \
-        1 l2 5; 0 go 1",
-        "6: 0 1 2 3 4 5; 2 rounds, 24 visits",
-        "3: 0 1 1 1 1 2; 2 rounds, 24 visits",
+        OWN_3,
+        [
+            "6: 0 1 2 3 4 5; 2 rounds, 24 visits",
+            "3: 0 1 1 1 1 2; 2 rounds, 24 visits",
+            "6: 0 1 2 3 4 5; 2 rounds, 24 visits",
+            "3: 0 1 1 1 1 2; 2 rounds, 24 visits",
+        ],
     ),
 ];
 
 /// Chains of inert steps, each state with a label of its own.
-const CHAINS: [Family; 6] = [
+const CHAINS: [Family; 3] = [
     (
         "tail 4",
-        "0 of 5; 0 i 1; 1 i 2; 2 i 3; 0 l0 4; 1 l1 4; 2 l2 4; 3 l3 4",
-        "5: 0 1 2 3 4; 2 rounds, 14 visits",
-        "5: 0 1 2 3 4; 2 rounds, 14 visits",
-    ),
-    (
-        "tail-r 4",
-        "4 of 5; 4 i 3; 3 i 2; 2 i 1; 4 l0 0; 3 l1 0; 2 l2 0; 1 l3 0",
-        "5: 0 1 2 3 4; 2 rounds, 14 visits",
-        "5: 0 1 2 3 4; 2 rounds, 14 visits",
+        TAIL_4,
+        [
+            "5: 0 1 2 3 4; 2 rounds, 14 visits",
+            "5: 0 1 2 3 4; 2 rounds, 14 visits",
+            "5: 0 1 2 3 4; 2 rounds, 14 visits",
+            "5: 0 1 2 3 4; 2 rounds, 14 visits",
+        ],
     ),
     (
         "tailhub 3",
-        "0 of 5; 4 h0 3; 4 h1 3; 4 h2 3; 0 i 1; 0 l0 3; 0 i 4; 1 i 2; 1 l1 3; 1 i 4; 2 i 4; \
-        2 l2 3; 2 i 4",
-        "5: 0 1 2 3 4; 2 rounds, 24 visits",
-        "5: 0 1 2 3 4; 2 rounds, 24 visits",
-    ),
-    (
-        "tailhub-r 3",
-        "4 of 5; 0 h0 1; 0 h1 1; 0 h2 1; 4 i 3; 4 l0 1; 4 i 0; 3 i 2; 3 l1 1; 3 i 0; 2 i 0; \
-        2 l2 1; 2 i 0",
-        "5: 0 1 2 3 4; 2 rounds, 24 visits",
-        "5: 0 1 2 3 4; 2 rounds, 24 visits",
+        TAILHUB_3,
+        [
+            "5: 0 1 2 3 4; 2 rounds, 24 visits",
+            "5: 0 1 2 3 4; 2 rounds, 24 visits",
+            "5: 0 1 2 3 4; 2 rounds, 24 visits",
+            "5: 0 1 2 3 4; 2 rounds, 24 visits",
+        ],
     ),
     (
         "tree 3",
-        "7 of 8; 0 i 1; 1 i 2; 0 l0 3; 1 l1 3; 2 l2 3; 4 i 0; 4 i 2; 7 go 4; 5 i 1; 5 i 1; \
-        7 go 5; 6 i 2; 6 i 0; 7 go 6",
-        "7: 0 1 2 3 4 5 4 6; 3 rounds, 42 visits",
-        "6: 0 1 2 3 4 1 4 5; 3 rounds, 42 visits",
-    ),
-    (
-        "tree-r 3",
-        "0 of 8; 7 i 6; 6 i 5; 7 l0 4; 6 l1 4; 5 l2 4; 3 i 7; 3 i 5; 0 go 3; 2 i 6; 2 i 6; \
-        0 go 2; 1 i 5; 1 i 7; 0 go 1",
-        "7: 0 1 2 1 3 4 5 6; 3 rounds, 42 visits",
-        "6: 0 1 2 1 3 4 2 5; 3 rounds, 42 visits",
+        TREE_3,
+        [
+            "7: 0 1 2 3 4 5 4 6; 3 rounds, 42 visits",
+            "6: 0 1 2 3 4 1 4 5; 3 rounds, 42 visits",
+            "7: 0 1 2 1 3 4 5 6; 3 rounds, 42 visits",
+            "6: 0 1 2 1 3 4 2 5; 3 rounds, 42 visits",
+        ],
     ),
 ];
 
-/// The final blocks of each are as wanted, by both relations.
+/// What refinement makes of each, either way round, is as wanted.
 fn check_families(alloc: Global, families: &[Family]) -> Result<(), Fail> {
-    for (name, text, strong, branching) in families {
-        check_row(alloc, Shown::Strong(Made::Refined), name, text, strong)?;
-        check_row(
-            alloc,
-            Shown::Branching(Made::Refined),
-            name,
-            text,
-            branching,
-        )?;
+    for (name, text, [strong, branching, turned_strong, turned_branching]) in families {
+        check_both(alloc, name, text, strong, branching)?;
+        let turned = turned(alloc, text)?;
+        check_both(alloc, name, &turned, turned_strong, turned_branching)?;
     }
     Ok(())
+}
+
+/// What refinement by each relation makes of the system that the text spells is as wanted.
+fn check_both(
+    alloc: Global,
+    name: &str,
+    text: &str,
+    strong: &str,
+    branching: &str,
+) -> Result<(), Fail> {
+    check_row(alloc, Shown::Strong(Made::Refined), name, text, strong)?;
+    check_row(
+        alloc,
+        Shown::Branching(Made::Refined),
+        name,
+        text,
+        branching,
+    )
 }
 
 #[test]

@@ -183,24 +183,7 @@ pub(crate) fn split<S: Sense>(
 {
     let mut marks = Marks::new(alloc, l.states())?;
     let mut signatures = Signatures::new(alloc, l.states())?;
-    split_in::<S>(alloc, l, p, &mut marks, &mut signatures, text)
-}
-
-/// The same, in these marks and signatures.
-fn split_in<S: Sense>(
-    alloc: Global,
-    l: &Lts<Counter>,
-    p: &Partition,
-    marks: &mut Marks,
-    signatures: &mut Signatures,
-    text: &mut String,
-) -> Result<Partition, Memory>
-    requires states { length p.now ≡ l.now.states }
-    requires marks { marks.old ≡ l.now.states }
-    requires signatures { length signatures.old ≡ l.now.states }
-    ensures { IfOk result (λ q. length q ≡ l.now.states) }
-{
-    append_filled::<S>(alloc, l, p, marks, signatures, text)?;
+    append_filled::<S>(alloc, l, p, &mut marks, &mut signatures, text)?;
     signatures.split(p)
 }
 

@@ -73,6 +73,22 @@ fn step(part: &str) -> Option<(u32, &str, u32)> {
     Some((source.parse().ok()?, label, target.parse().ok()?))
 }
 
+/// The text that spells the same system with its states numbered the other way round, or as far as the text spells one.
+pub(crate) fn turned(alloc: Global, text: &str) -> Result<String, Memory> {
+    let mut turned = String::new(alloc);
+    let mut parts = text.split("; ");
+    let Some((first, states)) = parts.next().and_then(sizes) else {
+        return Ok(turned);
+    };
+    let last = states.saturating_sub(1);
+    turned.push_str(&format!(in alloc; "{} of {states}", last.saturating_sub(first))?)?;
+    for (source, label, target) in parts.filter_map(step) {
+        let (source, target) = (last.saturating_sub(source), last.saturating_sub(target));
+        turned.push_str(&format!(in alloc; "; {source} {label} {target}")?)?;
+    }
+    Ok(turned)
+}
+
 /// Appends the text that spells the system, with its steps in the order of their sources.
 pub(crate) fn append_spelled(
     alloc: Global,
