@@ -61,7 +61,8 @@ pub fn cmp_program<R1: Source, R2: Source, W: Sink, E: Write>(
     lim: &Limits,
     h: &Hidden,
 ) -> u8
-    requires sources { (R1.failures a.old ≡ 0) × (R2.failures b.old ≡ 0) }
+    requires first { R1.failures a.old ≡ 0 }
+    requires second { R2.failures b.old ≡ 0 }
     requires sink { W.failures w.old ≡ 0 }
     ensures ends { EndsRun (asks rel lim.now h.now) (two (R1.rest a.old) (R2.rest b.old))
         ((R1.failures a.new ≡ 0) × (R2.failures b.new ≡ 0))

@@ -19,7 +19,7 @@ pub returns-in_err-first-clause-outcome : goal.returns-in_err-first-clause-outco
 returns-in_err-first-clause-outcome g c =
     let got = c.in_err-first.ensures.outcome in
     takes_error _ _ _ _ _ c.in_err-first.field-0.0 got.given c.from_residual.ensures.1 got.took
-    (first_not_read got.outcome.0 got.outcome.1 c.requires.sources.1 c.requires.sink c.requires.fresh)
+    (first_not_read got.outcome.0 got.outcome.1 c.requires.second c.requires.sink c.requires.fresh)
 
 pub returns-in_err-second-clause-outcome : goal.returns-in_err-second-clause-outcome
 returns-in_err-second-clause-outcome g c =
