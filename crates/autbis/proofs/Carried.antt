@@ -1,5 +1,5 @@
 -- What a run carries on: the error of a call, and what follows from the reading of its text.
-use Rattle.std.proofs.Common.{◌≡◌, ℕ, ◌*◌, List, Option, Some, None, IfSome, Result, Err, IfErr, IsErrAnd, MatchResult, append-nil, arith}
+use Rattle.std.proofs.Common.{◌≡◌, ℕ, ◌*◌, List, Option, Some, None, IfSome, Result, IfErr, IsErrAnd, MatchResult, append-nil, arith}
 use Rattle.std.proofs.lemmas.Result.{err_from_is_err_and}
 use Rattle.std.specs.Io.KnownBytes.{Consumes, IsAtEnd}
 use Rattle.lts.specs.Meter.{Counts}
@@ -7,22 +7,16 @@ use Rattle.quotient.specs.Visits.{KeepsTo}
 use Rattle.autfmt.specs.Outcomes.{Takes}
 use Rattle.autbis.specs.Ends.{OfText}
 
--- the answer is the error e
-abbrev pub IsError : {T E : Type 0} → Result T E → E → Type 0
-IsError {T} {E} r e = (y : E) × (r ≡ Err y) × (y ≡ e)
-
 -- an answer that is the error e takes what its call took, if what is bad of that error is so
 pub takes_error : {T E : Type 0} (old new : Option (List ℕ)) (Good : List ℕ → T → Type 0) (Bad : List ℕ → E → Type 0) (r : Result T E) (e : E) (given : List ℕ) →
-    IsError r e → Consumes old new given → Bad given e → Takes old new Good Bad r
-takes_error old new Good Bad r e given (y, is, same) took bad = record {
-  given = given;
-  took = took;
-  outcome = rw (is, same) bad;
-}
+    IsErrAnd r (λ y. y ≡ e) → Consumes old new given → Bad given e → Takes old new Good Bad r
+takes_error old new Good Bad r e given is took bad =
+    let exit = err_from_is_err_and r is in
+    record { given = given; took = took; outcome = rw (exit.1, exit.2) bad }
 
 -- what is bad of an error is so of an answer that is this error
-pub at_error : {T E : Type 0} (Bad : E → Type 0) (r : Result T E) (e : E) → IsError r e → Bad e → IfErr r Bad
-at_error Bad r e (y, is, same) bad = rw (is, same) bad
+pub at_error : {T E : Type 0} (Bad : E → Type 0) (r : Result T E) (e : E) → IsErrAnd r (λ y. y ≡ e) → Bad e → IfErr r Bad
+at_error Bad r e is bad = let exit = err_from_is_err_and r is in rw (exit.1, exit.2) bad
 
 -- and of one that passes it on, whatever is good
 pub passes : {T E : Type 0} (Good : T → Type 0) (Bad : E → Type 0) (r : Result T E) (e : E) → IsErrAnd r (λ y. y ≡ e) → Bad e → MatchResult r Good Bad

@@ -65,7 +65,8 @@ pub fn run_cmp<M: Meter, R1: Source, R2: Source, W: Sink>(
     h: &Hidden,
     m: &mut M,
 ) -> Result<bool, CmpFault>
-    requires sources { (R1.failures a.old ≡ 0) × (R2.failures b.old ≡ 0) }
+    requires first { R1.failures a.old ≡ 0 }
+    requires second { R2.failures b.old ≡ 0 }
     requires sink { W.failures w.old ≡ 0 }
     requires fresh { IsFresh (M.counted m.old) }
 

@@ -38,9 +38,7 @@ pub fn min_program<R: Source, W: Sink, E: Write>(
     let mut meter = Counter::new();
     match run_min(alloc, r, w, rel, lim, h, &mut meter) {
         Ok(counts) => {
-            if stats {
-                show_stats(counts, rel, &meter, e);
-            }
+            show_stats(stats, counts, rel, &meter, e);
             0
         }
         Err(fault) => report(&fault, name, e),
@@ -63,7 +61,8 @@ pub fn cmp_program<R1: Source, R2: Source, W: Sink, E: Write>(
     lim: &Limits,
     h: &Hidden,
 ) -> u8
-    requires sources { (R1.failures a.old ≡ 0) × (R2.failures b.old ≡ 0) }
+    requires first { R1.failures a.old ≡ 0 }
+    requires second { R2.failures b.old ≡ 0 }
     requires sink { W.failures w.old ≡ 0 }
     ensures ends { EndsRun (asks rel lim.now h.now) (two (R1.rest a.old) (R2.rest b.old))
         ((R1.failures a.new ≡ 0) × (R2.failures b.new ≡ 0))
@@ -90,10 +89,13 @@ fn named<'a>(side: Side, a_name: &'a str, b_name: &'a str) -> &'a str
     }
 }
 
-/// Says the counts of a run on `e`. A failure to write is passed over.
-fn show_stats<M: Meter, E: Write>(counts: Counts, rel: Relation, m: &M, e: &mut E)
+/// Says the counts of a run on `e`, if they are asked for. A failure to write is passed over.
+fn show_stats<M: Meter, E: Write>(asked: bool, counts: Counts, rel: Relation, m: &M, e: &mut E)
     requires { (M.counted m.now).rounds ≤ counts.states }
 {
+    if !asked {
+        return;
+    }
     let states = counts.states;
     let transitions = counts.transitions;
     let rounds = m.rounds();

@@ -1,5 +1,4 @@
 use Rattle.std.proofs.Common.{◌↔◌, ◌+◌, ◌*◌, Bool, IsTrue, List, ℕ, length, refl, arith}
-use Rattle.std.proofs.lemmas.Result.{err_from_is_err_and}
 use Rattle.theory.specs.Bisimulation.{Equivalent}
 use Rattle.theory.specs.Blocks.{Turns}
 use Rattle.theory.specs.Union.{union_of}
@@ -19,16 +18,14 @@ use Rattle.autbis.proofs.compare.run_cmp.Goals.{After-equivalent}
 pub returns-in_err-first-clause-outcome : goal.returns-in_err-first-clause-outcome
 returns-in_err-first-clause-outcome g c =
     let got = c.in_err-first.ensures.outcome in
-    let exit = err_from_is_err_and c.from_residual.result c.from_residual.ensures.1 in
-    takes_error _ _ _ _ c.from_residual.result c.in_err-first.field-0.0 got.given exit got.took
-    (first_not_read got.outcome.0 got.outcome.1 c.requires.sources.1 c.requires.sink c.requires.fresh)
+    takes_error _ _ _ _ _ c.in_err-first.field-0.0 got.given c.from_residual.ensures.1 got.took
+    (first_not_read got.outcome.0 got.outcome.1 c.requires.second c.requires.sink c.requires.fresh)
 
 pub returns-in_err-second-clause-outcome : goal.returns-in_err-second-clause-outcome
 returns-in_err-second-clause-outcome g c =
     let one = c.in_ok-first.ensures.outcome in
     let got = c.in_err-second.ensures.outcome in
-    let exit = err_from_is_err_and c.from_residual-in_err-second.result c.from_residual-in_err-second.ensures.1 in
-    takes_error _ _ _ _ c.from_residual-in_err-second.result c.in_err-second.field-0.0 one.given exit one.took
+    takes_error _ _ _ _ _ c.in_err-second.field-0.0 one.given c.from_residual-in_err-second.ensures.1 one.took
     (second_not_read got.outcome.0 (one.outcome.at_end, one.outcome.sound) (one.outcome.read.0, one.outcome.read.1)
     got.given got.took got.outcome.1 c.requires.sink c.requires.fresh)
 
@@ -90,8 +87,7 @@ pub returns-in_err-same-clause-outcome : goal.returns-in_err-same-clause-outcome
 returns-in_err-same-clause-outcome g c =
     let at = (goal.at.returns-in_err-same-clause-outcome g c).After-equivalent in
     let one = c.in_ok-first.ensures.outcome in
-    let exit = err_from_is_err_and c.from_residual-in_err-same.result c.from_residual-in_err-same.ensures.1 in
-    takes_error _ _ _ _ c.from_residual-in_err-same.result (record { side = Run; fault = Memory }) one.given exit one.took
+    takes_error _ _ _ _ _ (record { side = Run; fault = Memory }) one.given c.from_residual-in_err-same.ensures.1 one.took
     (out_of_memory refl refl (got g at) c.requires.sink)
 
 pub returns-in_err-say-clause-outcome : goal.returns-in_err-say-clause-outcome
@@ -99,15 +95,13 @@ returns-in_err-say-clause-outcome g c =
     let at = (goal.at.returns-in_err-say-clause-outcome g c).After-equivalent in
     let one = c.in_ok-first.ensures.outcome in
     let is = c.in_err-say.ensures in
-    let exit = err_from_is_err_and c.from_residual-in_err-say.result c.from_residual-in_err-say.ensures.1 in
     let compared = rw c.in_ok-same.was at c.equivalent.ensures in
-    takes_error _ _ _ _ c.from_residual-in_err-say.result c.in_err-say.field-0.0 one.given exit one.took
+    takes_error _ _ _ _ _ c.in_err-say.field-0.0 one.given c.from_residual-in_err-say.ensures.1 one.took
     (not_written is.fault.0 is.fault.1 (got g at) is.failures c.in_ok-same.same (verdict g at _ compared.verdict) is.err)
 
 pub returns-in_err-say-clause-untouched : goal.returns-in_err-say-clause-untouched
 returns-in_err-say-clause-untouched g c =
-    let exit = err_from_is_err_and c.from_residual-in_err-say.result c.from_residual-in_err-say.ensures.1 in
-    at_error _ c.from_residual-in_err-say.result c.in_err-say.field-0.0 exit
+    at_error _ _ c.in_err-say.field-0.0 c.from_residual-in_err-say.ensures.1
     (λ sound. absurd (omega (arith, sound, c.in_err-say.ensures.failures)))
 
 pub returns-clause-outcome : goal.returns-clause-outcome

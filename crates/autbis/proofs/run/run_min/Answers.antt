@@ -2,7 +2,6 @@ use Rattle.std.proofs.Common.{◌≡◌, ◌≤◌, ◌∙◌, ℕ, List, length
 use Rattle.std.specs.Io.KnownBytes.{Appends}
 use Rattle.std.proofs.lemmas.List.{length-map}
 use Rattle.std.proofs.lemmas.List.Sorted.{IsPermutation-sym}
-use Rattle.std.proofs.lemmas.Result.{err_from_is_err_and}
 use Rattle.theory.specs.System.{System, Hide}
 use Rattle.theory.specs.Bisimulation.{Bisimilar}
 use Rattle.theory.specs.declared.relation.Relation.{Relation}
@@ -24,16 +23,16 @@ use Rattle.autbis.proofs.run.run_min.Goals.{After-write}
 pub returns-in_err-system-clause-outcome : goal.returns-in_err-system-clause-outcome
 returns-in_err-system-clause-outcome g c =
     let got = c.in_err-system.ensures.outcome in
-    let exit = err_from_is_err_and c.from_residual.result c.from_residual.ensures.1 in
-    takes_error _ _ _ _ c.from_residual.result c.in_err-system.field-0.0 got.given exit got.took (not_read got.outcome c.requires.sink c.requires.fresh)
+    takes_error _ _ _ _ _ c.in_err-system.field-0.0 got.given c.from_residual.ensures.1 got.took
+    (not_read got.outcome c.requires.sink c.requires.fresh)
 
 pub returns-in_err-quotient-clause-outcome : goal.returns-in_err-quotient-clause-outcome
 returns-in_err-quotient-clause-outcome g c =
     let got = c.in_ok-system.ensures.outcome in
     let read = got.outcome.read in
-    let exit = err_from_is_err_and c.from_residual-in_err-quotient.result c.from_residual-in_err-quotient.ensures.1 in
     let part = keeps_part _ read.0.states _ (length read.0.transitions) _ read.2.states got.outcome.as_many 0 c.in_err-quotient.ensures.keeps in
-    takes_error _ _ _ _ c.from_residual-in_err-quotient.result Memory got.given exit got.took (out_of_memory ((got.outcome.at_end, got.outcome.sound), read.0, read.1, part) refl c.requires.sink)
+    takes_error _ _ _ _ _ Memory got.given c.from_residual-in_err-quotient.ensures.1 got.took
+    (out_of_memory ((got.outcome.at_end, got.outcome.sound), read.0, read.1, part) refl c.requires.sink)
 
 -- the sizes that are answered
 abbrev sizes_of : ℕ → ℕ → Counts
@@ -141,8 +140,7 @@ returns-in_err-write-clause-outcome g c =
     let got = c.in_ok-system.ensures.outcome in
     let e = c.in_err-write.field-0.0 in
     let is = c.in_err-write.ensures in
-    let exit = err_from_is_err_and c.from_residual-in_err-write.result c.from_residual-in_err-write.ensures.1 in
-    takes_error _ _ _ _ c.from_residual-in_err-write.result e got.given exit got.took (elim is.faults [
+    takes_error _ _ _ _ _ e got.given c.from_residual-in_err-write.ensures.1 got.took (elim is.faults [
       | inl memory ↦ out_of_memory ((got.outcome.at_end, got.outcome.sound), (far g at).0, (far g at).1, (far g at).2) memory (is.failures ∙ ap (λ x. failures_after {T = Unit {0}} (Err x)) memory)
       | inr device ↦
           let some = begun g at _ _ (is.device device) in
@@ -152,10 +150,9 @@ returns-in_err-write-clause-outcome g c =
 
 pub returns-in_err-write-clause-untouched : goal.returns-in_err-write-clause-untouched
 returns-in_err-write-clause-untouched g c =
-    let exit = err_from_is_err_and c.from_residual-in_err-write.result c.from_residual-in_err-write.ensures.1 in
     let e = c.in_err-write.field-0.0 in
     let is = c.in_err-write.ensures in
-    at_error _ c.from_residual-in_err-write.result e exit (λ sound. elim is.faults [
+    at_error _ _ e c.from_residual-in_err-write.ensures.1 (λ sound. elim is.faults [
       | inl memory ↦ is.memory memory
       | inr device ↦ absurd (omega (arith, sound, is.failures ∙ ap (λ x. failures_after {T = Unit {0}} (Err x)) device))
     ])
