@@ -35,6 +35,6 @@ pub data IsRefused {F File : Type 0} (files : FilesUsed F File) (names : List Na
   refused : (asked later : List Name) × Opens (files.opened files.old) (files.opened files.new) asked × (names ≡ asked ++ later) →
       files.failures files.new ≡ 1 → status ≡ 5 → IsRefused files names status
 
--- a file that was opened has failed
+-- some file can have failed; that it is one of those opened is not said
 abbrev pub HasLost : {File : Type 0} → (File → ℕ) → Type 0
 HasLost failures = (file : _) × (failures file ≡ 1)

@@ -27,7 +27,7 @@ const INPUT: &str = "standard input";
 /// streams, or what is said of words that ask for none. Returns the exit status: 0 if the job is done or help is written, 1 if
 /// it compared two systems that are not equivalent, 2 if a text or the hide list is faulty, 3 if the words ask for no job, 4 for
 /// want of memory, 5 if a file cannot be opened or a read or write failed. Help goes to `output`. Texts are opened first and then
-/// the hide list, which is read before them.
+/// the hide list, which is read before them. A job to minimise that names no file has the text of `input`.
 pub fn main_program<F: Opener, R: Source, W: Sink, E: Write>(
     alloc: Global,
     words: io::Result<Vec<String>>,

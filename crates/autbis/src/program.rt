@@ -38,7 +38,9 @@ pub fn min_program<R: Source, W: Sink, E: Write>(
     let mut meter = Counter::new();
     match run_min(alloc, r, w, rel, lim, h, &mut meter) {
         Ok(counts) => {
-            show_stats(stats, counts, rel, &meter, e);
+            if stats {
+                show_stats(counts, rel, &meter, e);
+            }
             0
         }
         Err(fault) => report(&fault, name, e),
@@ -89,13 +91,10 @@ fn named<'a>(side: Side, a_name: &'a str, b_name: &'a str) -> &'a str
     }
 }
 
-/// Says the counts of a run on `e`, if they are asked for. A failure to write is passed over.
-fn show_stats<M: Meter, E: Write>(asked: bool, counts: Counts, rel: Relation, m: &M, e: &mut E)
+/// Says the counts of a run on `e`. A failure to write is passed over.
+fn show_stats<M: Meter, E: Write>(counts: Counts, rel: Relation, m: &M, e: &mut E)
     requires { (M.counted m.now).rounds ≤ counts.states }
 {
-    if !asked {
-        return;
-    }
     let states = counts.states;
     let transitions = counts.transitions;
     let rounds = m.rounds();

@@ -303,7 +303,7 @@ impl Walk {
         self.roots[self.roots.len() - 1]
     }
 
-    /// The last state on the stack: the one that was entered last.
+    /// The last state on the stack: of those that are not finished, the one that was entered last.
     #[inline(always)]
     pub fn last_state(&self) -> u32
         requires { 0 < length self.now.stack }

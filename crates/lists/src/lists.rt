@@ -136,7 +136,7 @@ impl Lists {
         self.trie.has(list.base, pair)
     }
 
-    /// Whether the list number `k` has all pairs of the list number `j`. If it has another base, this is not found out.
+    /// Whether the list number `k` is seen to have all pairs of the list number `j`: it is not looked for if their bases differ.
     fn has_list(&self, k: u32, j: u32) -> bool
         requires list { k < length self.now }
         requires other { j < length self.now }
@@ -147,14 +147,13 @@ impl Lists {
         list.base == other.base && has_all(list.few, other.few)
     }
 
-    /// The last of several lists, if it is seen to have all pairs of the others, and these. It mostly is the last that was made, and
-    /// then nothing is put in order: philosophers take 8 % fewer instructions.
+    /// The last of several lists, if it is seen to have all pairs of the others, and these: then nothing has to be put in order.
     fn last_with_all(&self, lists: &[u32], pairs: &[(u32, u32)]) -> Option<u32>
         requires { AreNumbers self.now lists.now }
         ensures within { IfSome result (λ k. k < length self.now) }
         ensures exactly { IfSome result (λ k. (z : ℕ × ℕ) → Contains (list_at self.now k) z ↔ (Contains pairs.now z ⊎ HasOne self.now lists.now z)) }
     {
-        // A list alone mostly lacks one of the pairs, or it would not be joined.
+        // One list alone mostly lacks one of the pairs, or it would not be joined; of none there is no last.
         if lists.len() < 2 {
             return None;
         }
@@ -211,7 +210,7 @@ impl Lists {
     }
 }
 
-/// Whether the list number `k` has all pairs of the lists of these numbers. If one has another base, this is not found out.
+/// Whether the list number `k` is seen to have all pairs of the lists of these numbers, as by `has_list`.
 fn has_lists(lists: &Lists, k: u32, numbers: &[u32]) -> bool
     requires list { k < length lists.now }
     requires numbers { AreNumbers lists.now numbers.now }

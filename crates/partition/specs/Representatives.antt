@@ -64,7 +64,7 @@ GoesTo key old new r = (HasRepresentative old key r × (new ≡ old))
 abbrev pub KeepsNumber : List ℕ → List ℕ → List ℕ → ℕ → Type 0
 KeepsNumber old numbers keepers s = slice_index numbers s ≡ slice_index keepers (slice_index old s)
 
--- in each block a state keeps its number, and so do all that are not looked at
+-- in each block a state keeps the block's number, and so do all states that are not looked at
 pub record AreKeepers (old numbers live keepers : List ℕ) : Type 0 where
   pub room : (s : ℕ) → s < length old → slice_index old s < length keepers
   pub keeps : (s : ℕ) → s < length old → (u : ℕ) × (u < length old) × (slice_index old u ≡ slice_index old s) × KeepsNumber old numbers keepers u

@@ -246,8 +246,9 @@ const CHAINS: [Family; 3] = [
 fn check_families(alloc: Global, families: &[Family]) -> Result<(), Fail> {
     for (name, text, [strong, branching, turned_strong, turned_branching]) in families {
         check_both(alloc, name, text, strong, branching)?;
-        let turned = turned(alloc, text)?;
-        check_both(alloc, name, &turned, turned_strong, turned_branching)?;
+        let other = turned(alloc, text)?;
+        let name = format!(in alloc; "{name}, the other way round")?;
+        check_both(alloc, &name, &other, turned_strong, turned_branching)?;
     }
     Ok(())
 }

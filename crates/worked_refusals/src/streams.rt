@@ -7,7 +7,7 @@ use worked::STEP;
 
 const LONG: [u8; 10_000] = [b'x'; 10_000];
 
-/// How both end.
+/// How both end: `header-fault-needs-no-memory`.
 pub(crate) fn ending(alloc: Global) -> Ending {
     let long = is_fault(alloc, &LONG, Fault::LineTooLong(1));
     let none = is_fault(alloc, b"des (0,0,0)\n", Fault::NoStates);

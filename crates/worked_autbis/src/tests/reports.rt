@@ -7,7 +7,7 @@ use std::alloc::{AllocError, Global};
 use std::test::Fail;
 use worked::{Example, HIDDEN_QUOTED, SILENT_DETOUR, TWO_EQUAL_TARGETS_TEXT, check};
 
-/// The faults of a text, and what is said of each after its name.
+/// The faults of a text or a hide list, and what is said of each after the name.
 const MESSAGES: [(Fault, &str); 14] = [
     (Fault::BadHeader, "bad header"),
     (Fault::FirstState, "first state out of range"),
@@ -124,7 +124,7 @@ fn faulty_texts(rt: HostRuntime) -> Result<(), Fail> {
     Ok(())
 }
 
-/// Systems that take two rounds.
+/// Systems that take two rounds: `silent-detour-stats`, and another one.
 const COUNTED: [Example; 2] = [SILENT_DETOUR, HIDDEN_QUOTED];
 
 /// The line of `--stats` that shows so many visits of the example in two rounds.

@@ -6,8 +6,14 @@ use Rattle.autbis.proofs.Carried.{of_all}
 use Rattle.autbis.proofs.Ending.{ends_run, minimised}
 use Rattle.autbis.proofs.program.min_program.Goals as goal
 
-pub returns-in-Ok : goal.returns-in-Ok
-returns-in-Ok g c =
+pub returns-then-stats : goal.returns-then-stats
+returns-then-stats g c =
+    let got = c.in-Ok.ensures.outcome in
+    let ran = got.outcome in
+    record { ends = answered ran.exhausted.1 (listed ran.to.output) (of_all _ _ got.given _ got.took ran.exhausted.0 (minimised ran.to refl)) ran.written.0 ran.written.1 }
+
+pub returns-else-stats : goal.returns-else-stats
+returns-else-stats g c =
     let got = c.in-Ok.ensures.outcome in
     let ran = got.outcome in
     record { ends = answered ran.exhausted.1 (listed ran.to.output) (of_all _ _ got.given _ got.took ran.exhausted.0 (minimised ran.to refl)) ran.written.0 ran.written.1 }
