@@ -328,13 +328,14 @@ class Panel(NamedTuple):
             yield words_at(room[0], room[1] + 10, words, colour=colour)
 
     def room(self, words, place, rooms):
-        """Room for words beside a place, where least is taken."""
+        """Room for words beside a place, where they cover least of what is there."""
         (x, y), wide = place, 6.6 * len(words)
         inside = lambda left: min(max(left, self.left + 3), self.left + SIDE + 35 - wide)
         lefts = [inside(left) for left in (x + 7, x - 7 - wide, x - wide / 2, x + 20)]
         free = [(left, y + down - 6, left + wide, y + down + 6) for down in (0, -13, 13, -26, 26) for left in lefts]
-        meets = lambda a, b: a[0] < b[2] and b[0] < a[2] and a[1] < b[3] and b[1] < a[3]
-        return min(free, key=lambda one: sum(meets(one, other) for other in rooms) + 100 * (one[3] > self.top + SIDE))
+        shared = lambda a, b, side: max(0, min(a[side + 2], b[side + 2]) - max(a[side], b[side]))
+        covered = lambda one: sum(shared(one, other, 0) * shared(one, other, 1) for other in rooms)
+        return min(free, key=lambda one: covered(one) + SIDE * SIDE * (one[3] > self.top + SIDE))
 
 
 def words_at(x, y, words, kind="name", colour="black"):
