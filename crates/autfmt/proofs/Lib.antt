@@ -25,7 +25,8 @@ pub mod Order
 pub mod Progress
 pub mod Spelled
 pub mod Ranks
-pub mod ByRank
 pub mod Rows
+pub mod ByRank
+pub mod RowTexts
 pub mod ReadBack
 pub mod UsualLines

@@ -20,6 +20,7 @@ mod stream;
 mod text_laws;
 mod token;
 mod usual;
+mod wording;
 mod write_laws;
 mod writer;
 

@@ -1,39 +1,51 @@
-use Rattle.std.proofs.Common.{◌≡◌, [], length, arith}
-use Rattle.autfmt.proofs.Progress.{line_waits, text_begun, text_put, label_of_entry, plain_of_entry, on_err}
-use Rattle.autfmt.proofs.Spelled.{spelled_of_entry}
+use Rattle.std.proofs.Common.{◌≡◌, ◌<◌, length, sym, ap, ◌∙◌, subst, arith, rules}
+use Rattle.std.specs.List.{All}
 use Rattle.std.proofs.lemmas.Result.{on_ok_weaker, on_err_weaker}
+use Rattle.lts.specs.Lts.{before}
+use Rattle.autfmt.proofs.ByRank.{row_ranks_below}
+use Rattle.autfmt.proofs.Progress.{nothing_put, on_err}
+use Rattle.autfmt.proofs.RowTexts.{no_row, next_row, rows_begun, rows_put}
 use Rattle.autfmt.proofs.writer.put_system.Goals as goal
 
-pub append_transition-waiting-requires-clause-label : goal.append_transition-waiting-requires-clause-label
-append_transition-waiting-requires-clause-label g c =
-    label_of_entry c.args.entries.now _ _ (c.requires.ranks c.loop-source.source-index (0, 0, 0) (omega arith)) c.requires.labels
+pub loop-source-init : goal.loop-source-init
+loop-source-init g c =
+    let none = c.rows_follow.ensures.none c.args.s.now.places in
+    record {
+      rows = no_row (g.W.Sink.written c.args.w.now) none (rw (c.first.ensures, c.edges.ensures.value, c.states.ensures.value) at c.append_header-waiting.ensures.text);
+      within = omega (arith, c.append_header-waiting.ensures.end, c.append_header-waiting.auto.buffer);
+      sound = c.requires.sound;
+      capacity = search rules;
+      visits = search rules;
+    }
 
-pub append_transition-waiting-requires-clause-plain : goal.append_transition-waiting-requires-clause-plain
-append_transition-waiting-requires-clause-plain g c =
-    plain_of_entry c.args.entries.now c.args.plain.now _ _ (c.requires.ranks c.loop-source.source-index (0, 0, 0) (omega arith)) c.requires.plain
+pub put_row-requires-clause-ranks : goal.put_row-requires-clause-ranks
+put_row-requires-clause-ranks g c =
+    subst (All (λ p. p.0 < length c.args.words.now.entries.items)) (sym c.deref-in-loop-source.ensures.value)
+    (row_ranks_below c.loop-source.source c.known.ensures c.requires.words.by_bytes c.requires.words.ranks (rw c.deref.ensures.value at c.read_row.ensures.same))
 
-pub append_transition-waiting-requires-clause-spelled : goal.append_transition-waiting-requires-clause-spelled
-append_transition-waiting-requires-clause-spelled g c =
-    spelled_of_entry c.args.entries.now c.args.spelled.now _ _ c.get.result c.get.ensures.lookup (c.requires.ranks c.loop-source.source-index (0, 0, 0) (omega arith)) c.requires.spelled
+pub returns-in_err-waiting-clause-err : goal.returns-in_err-waiting-clause-err
+returns-in_err-waiting-clause-err g c =
+    let row = next_row c.known.ensures c.requires.words c.read_row.new.row.items c.loop-source.invariant.rows (rw c.deref.ensures.value at c.read_row.ensures.same) c.read_row.ensures.sorted (nothing_put _ _) in
+    on_err c.from_residual.result (rows_begun c.known.ensures c.requires.words (g.W.Sink.written c.put_row.new.w) row (rw c.deref-in-loop-source.ensures.value at c.in_err-waiting.ensures.err))
 
 pub loop-source-preserved : goal.loop-source-preserved
-loop-source-preserved g c = (
-  line_waits c.args.s.now.first c.args.s.now.states c.args.entries.now c.args.order.now c.loop-source.source-index (0, 0, 0) (record { ref_ptr = (0, 0); now = [] }, 0) (omega arith)
-      (c.requires.ranks c.loop-source.source-index (0, 0, 0) (omega arith)) c.loop-source.invariant.0 c.in_ok-end.ensures.ok _ (rw c.set.ensures at c.append_transition-waiting.ensures.text),
-  omega (arith, c.in_ok-end.ensures.room, c.loop-source.invariant.2, c.append_transition-waiting.ensures.end),
-  omega arith,
-  c.in_ok-end.ensures.failures,
-)
-
-pub returns-in_err-end-clause-err : goal.returns-in_err-end-clause-err
-returns-in_err-end-clause-err g c =
-    on_err c.from_residual.result (text_begun _ c.args.s.now.first c.args.s.now.states c.args.entries.now c.args.order.now c.loop-source.source-index c.loop-source.invariant.0 c.in_err-end.ensures.err)
+loop-source-preserved g c =
+    let next = c.rows_follow.ensures.next c.loop-source.source c.args.s.now.places in
+    record {
+      rows =
+          next_row c.known.ensures c.requires.words c.read_row.new.row.items c.loop-source.invariant.rows (rw c.deref.ensures.value at c.read_row.ensures.same) c.read_row.ensures.sorted
+          (rw c.deref-in-loop-source.ensures.value at c.in_ok-waiting.ensures.ok);
+      within = c.in_ok-waiting.ensures.waiting;
+      sound = c.in_ok-waiting.ensures.failures;
+      capacity = c.read_row.ensures.capacity ∙ c.loop-source.invariant.capacity;
+      visits = search rules;
+    }
 
 pub returns-clause-ok : goal.returns-clause-ok
 returns-clause-ok g c =
-    let all : c.loop-source.source-index ≡ length c.args.order.now = omega arith in
-    on_ok_weaker c.put_last.result (text_put _ c.args.s.now.first c.args.s.now.states c.args.entries.now c.args.order.now c.loop-source.source-index all c.loop-source.invariant.0) c.put_last.ensures.ok
+    let last : c.loop-source.source ≡ c.args.s.now.states = omega arith in
+    let all = ap (λ n. before n c.args.s.now.places) last ∙ c.rows_follow.ensures.all c.args.s.now c.known.ensures in
+    on_ok_weaker c.put_last.result (rows_put c.known.ensures c.requires.words (g.W.Sink.written c.put_last.new.w) all c.loop-source.invariant.rows) c.put_last.ensures.ok
 
 pub returns-clause-err : goal.returns-clause-err
-returns-clause-err g c =
-    on_err_weaker c.put_last.result (text_begun _ c.args.s.now.first c.args.s.now.states c.args.entries.now c.args.order.now c.loop-source.source-index c.loop-source.invariant.0) c.put_last.ensures.err
+returns-clause-err g c = on_err_weaker c.put_last.result (rows_begun c.known.ensures c.requires.words (g.W.Sink.written c.put_last.new.w) c.loop-source.invariant.rows) c.put_last.ensures.err

@@ -1,11 +1,15 @@
 use Rattle.std.proofs.Common.{◌≡◌, ◌≤◌, length, take}
-use Rattle.autfmt.specs.Progress.{Progress}
-use Rattle.autfmt.proofs.Progress.{lines_to}
+use Rattle.std.specs.Vec.{vec_capacity}
+use Rattle.lts.specs.Lts.{before}
+use Rattle.lts.specs.Meter.{Costs}
+use Rattle.autfmt.proofs.RowTexts.{RowsWait}
 use Rattle.autfmt.proofs.writer.put_system.Given as goal
 
 abbrev pub invariant-loop-source : goal.invariant-loop-source
-invariant-loop-source g l =
-    Progress (g.W.Sink.written l.fn.w) (g.W.Sink.written l.w) (take l.waiting l.buffer) (lines_to l.s.first l.s.states l.entries l.order l.source-index)
-    × (l.waiting ≤ 32768)
-    × (length l.buffer ≡ 32768)
-    × (g.W.Sink.failures l.w ≡ 0)
+invariant-loop-source g l = record {
+  rows : RowsWait l.s l.words (g.W.Sink.written l.fn.w) (g.W.Sink.written l.w) (take l.waiting l.buffer) l.source;
+  within : l.waiting ≤ length l.buffer;
+  sound : g.W.Sink.failures l.w ≡ 0;
+  capacity : vec_capacity l.row ≡ vec_capacity l.fn.row;
+  visits : Costs (g.M.Meter.counted l.fn.m) (g.M.Meter.counted l.m) 0 0 (before l.source l.s.places);
+}

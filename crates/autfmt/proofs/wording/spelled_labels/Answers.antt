@@ -1,6 +1,6 @@
 use Rattle.std.proofs.Common.{arith}
 use Rattle.autfmt.proofs.Spelled.{one_spelled_more}
-use Rattle.autfmt.proofs.writer.spelled_labels.Goals as goal
+use Rattle.autfmt.proofs.wording.spelled_labels.Goals as goal
 
 pub loop-text-preserved : goal.loop-text-preserved
 loop-text-preserved c = record {

@@ -1,7 +1,7 @@
 use Rattle.std.proofs.Common.{◌≡◌, length}
 use Rattle.autfmt.specs.Fronts.{AreSpelled}
 use Rattle.autfmt.specs.Ranks.{texts}
-use Rattle.autfmt.proofs.writer.spelled_labels.Given as goal
+use Rattle.autfmt.proofs.wording.spelled_labels.Given as goal
 
 abbrev pub invariant-loop-text : goal.invariant-loop-text
 invariant-loop-text l = record {

@@ -1,7 +1,7 @@
 use Rattle.std.proofs.Common.{◌≡◌, map, take}
 use Rattle.autfmt.specs.Grammar.{is_plain}
 use Rattle.autfmt.specs.Ranks.{texts}
-use Rattle.autfmt.proofs.writer.plain_labels.Given as goal
+use Rattle.autfmt.proofs.wording.plain_labels.Given as goal
 
 abbrev pub invariant-loop-text : goal.invariant-loop-text
 invariant-loop-text l = l.plain.items ≡ map is_plain (texts (take l.text-index l.entries))

@@ -1,0 +1,90 @@
+//! How lines have each label, by its rank in the order of the bytes: decided once, and not for each transition.
+ghost use Rattle.std.specs.Prelude.{◌≡◌, ◌<◌, length, map, IfOk, IfErr, IfSome};
+ghost use Rattle.theory.specs.System.{IsLabel};
+ghost use Rattle.lts.specs.Labels.{text_of};
+ghost use Rattle.autfmt.specs.declared.fault.Fault.TheVariants.{Memory};
+ghost use Rattle.autfmt.specs.Fronts.{AreSpelled, IsSpelled};
+ghost use Rattle.autfmt.specs.Grammar.{is_plain};
+ghost use Rattle.autfmt.specs.Ranks.{texts};
+ghost use Rattle.autfmt.specs.Words.{AreReady, AreWords};
+
+use crate::fault::Fault;
+use crate::ordering::{by_bytes, ranks};
+use crate::spelling::{Spelled, Word, is_plain, spell};
+use lts::Labels;
+use std::alloc::Global;
+
+/// How many labels are spelled beforehand, at most.
+const MOST_SPELLED: usize = 4096;
+
+/// The labels by rank, each with its number; the rank of each number; which labels may stand without quotation marks; and
+/// how lines have the first ones.
+#[derive(Drop)]
+pub(crate) struct Words<'a> {
+    pub entries: Vec<(&'a [u8], u32)>,
+    pub ranks: Vec<u32>,
+    plain: Vec<bool>,
+    spelled: Vec<Spelled>,
+}
+
+impl<'a> Words<'a> {
+    /// The words of a label table.
+    pub fn new(alloc: Global, labels: &'a Labels) -> Result<Words<'a>, Fault>
+        ensures ok { IfOk result (λ words. AreWords labels.now words) }
+        ensures err { IfErr result (λ fault. fault ≡ Memory) }
+    {
+        let entries = by_bytes(alloc, labels)?;
+        let ranks = ranks(alloc, &entries)?;
+        let plain = plain_labels(alloc, &entries)?;
+        let spelled = spelled_labels(alloc, &entries)?;
+        Ok(Words {
+            entries,
+            ranks,
+            plain,
+            spelled,
+        })
+    }
+
+    /// The label of a rank, as lines have it.
+    pub fn word(&self, rank: u32) -> Word<'_>
+        requires ready { AreReady self.now }
+        requires rank { rank < length self.now.entries.items }
+        ensures text { result.label.now ≡ text_of (texts self.now.entries.items) rank }
+        ensures label { IsLabel result.label.now }
+        ensures plain { result.plain ≡ is_plain result.label.now }
+        ensures spelled { IfSome result.spelled (λ s. IsSpelled result.label.now s.now) }
+    {
+        Word {
+            label: self.entries[rank as usize].0,
+            plain: self.plain[rank as usize],
+            spelled: self.spelled.get(rank as usize),
+        }
+    }
+}
+
+/// Which labels may stand without quotation marks.
+fn plain_labels(alloc: Global, entries: &[(&[u8], u32)]) -> Result<Vec<bool>, Fault>
+    ensures ok { IfOk result (λ plain. plain.items ≡ map is_plain (texts entries.now)) }
+    ensures err { IfErr result (λ fault. fault ≡ Memory) }
+{
+    let mut plain = Vec::with_capacity(alloc, entries.len())?;
+    for (text, _) in entries {
+        plain.push(is_plain(text))?;
+    }
+    Ok(plain)
+}
+
+/// How lines have the first labels.
+fn spelled_labels(alloc: Global, entries: &[(&[u8], u32)]) -> Result<Vec<Spelled>, Fault>
+    ensures ok { IfOk result (λ known. AreSpelled (texts entries.now) known.items) }
+    ensures err { IfErr result (λ fault. fault ≡ Memory) }
+{
+    let mut known = Vec::with_capacity(alloc, entries.len().min(MOST_SPELLED))?;
+    for (text, _) in entries {
+        if known.len() == MOST_SPELLED {
+            return Ok(known);
+        }
+        known.push(spell(text))?;
+    }
+    Ok(known)
+}
