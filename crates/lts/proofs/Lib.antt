@@ -7,3 +7,4 @@ pub mod Grouped
 pub mod Placing
 pub mod Fields
 pub mod Joining
+pub mod Ends
