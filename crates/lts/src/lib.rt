@@ -6,6 +6,7 @@
 
 mod disjoint;
 mod grouping;
+mod groups;
 mod labels;
 mod limits;
 mod lts;
@@ -17,6 +18,7 @@ mod visiting;
 
 pub use disjoint::{fits_together, union};
 pub use grouping::by_source;
+pub use groups::Groups;
 pub use growth::Memory;
 pub use labels::{Labels, is_label};
 pub use limits::{MOST_LABELS, MOST_STATES, MOST_TRANSITIONS};
