@@ -6,4 +6,5 @@ pub mod Rows
 pub mod Grouped
 pub mod Placing
 pub mod Fields
+pub mod Rising
 pub mod Joining

@@ -10,7 +10,9 @@ mod labels;
 mod limits;
 mod lts;
 mod meter;
+mod rising_rows;
 mod row_laws;
+mod transitions;
 mod visiting;
 
 pub use disjoint::{fits_together, union};
@@ -21,4 +23,5 @@ pub use limits::{MOST_LABELS, MOST_STATES, MOST_TRANSITIONS};
 pub use lts::{Lts, in_range};
 pub use meter::{Counter, Meter};
 pub use row_laws::{rows_are_steps, rows_follow};
+pub use transitions::Transitions;
 pub use visiting::visit_places;

@@ -3,10 +3,10 @@ ghost use Rattle.std.specs.Prelude.{◌≡◌, ◌↔◌, ℕ, ◌+◌, ◌<◌,
 ghost use Rattle.lts.specs.Meter.{HasRoomFor, Costs};
 ghost use Rattle.lts.specs.Lts.{label_of, target_of, place_at, system_from, system_of, grouped, IsGrouping, Groups, InRange, IsLts, IsRow};
 
-use crate::grouping::group;
 use crate::labels::Labels;
 use crate::limits::{MOST_STATES, MOST_TRANSITIONS};
 use crate::meter::Meter;
+use crate::transitions::Transitions;
 use growth::Memory;
 use std::alloc::Global;
 use std::marker::{Model, PhantomData};
@@ -84,8 +84,25 @@ impl<M: Meter> Lts<M> {
         ensures grouping { IfOk result (λ s. IsGrouping e.items s.places) }
         ensures system { IfOk result (λ s. Groups (system_from first states l e.items) (system_of s)) }
     {
+        Lts::of(l, first, states, Transitions::from_triples(alloc, e))
+    }
+
+    /// The system of these parts, its transitions grouped by source. Those that stand so already are not copied.
+    pub fn of(l: Labels, first: u32, states: u32, e: Transitions) -> Result<Lts<M>, Memory>
+        requires { InRange (length l) first states e }
+
+        // On success: the parts, with the transitions in their places.
+        ensures first { IfOk result (λ s. s.first ≡ first) }
+        ensures states { IfOk result (λ s. s.states ≡ states) }
+        ensures labels { IfOk result (λ s. s.labels ≡ l) }
+        ensures places { IfOk result (λ s. s.places ≡ grouped states e) }
+
+        // On success: what follows of the order of the places, and of the system.
+        ensures grouping { IfOk result (λ s. IsGrouping e s.places) }
+        ensures system { IfOk result (λ s. Groups (system_from first states l e) (system_of s)) }
+    {
         l.known();
-        let (ends, pairs) = group(alloc, states, &e)?;
+        let (ends, pairs) = e.group(states)?;
         Ok(Lts {
             labels: l,
             first,
