@@ -1,16 +1,12 @@
 -- Lines on their way to a sink through a buffer.
-use Rattle.std.proofs.Common.{Bool, false, Result, Ok, Err, IfErr, OnErr, ◌≡◌, ℕ, ◌+◌, ◌<◌, List, [], ◌∷◌, ◌++◌, length, map, get_or, take, drop, refl, sym, ap, ◌∙◌, subst, subst₂, Option, arith, append_assoc}
+use Rattle.std.proofs.Common.{Result, Ok, Err, OnErr, ◌≡◌, ℕ, ◌+◌, ◌<◌, List, [], ◌∷◌, ◌++◌, length, map, get_or, take, drop, refl, sym, ap, ◌∙◌, subst, subst₂, Option, append_assoc}
 use Rattle.std.specs.Io.KnownBytes.{Appends}
-use Rattle.std.specs.List.{All, flat_map}
+use Rattle.std.specs.List.{flat_map}
 use Rattle.std.proofs.KnownBytes.{Appends-nil, Appends-trans}
-use Rattle.std.proofs.lemmas.List.{append-nil, map_more, map-append, take-append-drop, get_or-map, length-map}
+use Rattle.std.proofs.lemmas.List.{append-nil, map_more, map-append, take-append-drop, get_or-map}
 use Rattle.std.proofs.lemmas.List.Concat.{flat_map-append}
-use Rattle.theory.specs.System.{IsLabel}
 use Rattle.lts.specs.Labels.{text_of}
 use Rattle.lts.specs.Lts.{Triple, transition_of}
-use Rattle.autfmt.specs.declared.fault.Fault.{Fault}
-use Rattle.autfmt.specs.declared.fault.Fault.TheVariants.{Device}
-use Rattle.autfmt.specs.Grammar.{is_plain}
 use Rattle.autfmt.specs.Progress.{Progress}
 use Rattle.autfmt.specs.Ranks.{Entry, texts}
 use Rattle.autfmt.specs.Stream.{AppendsBeginning}
@@ -92,22 +88,6 @@ module _ (entries : List Entry) (source : ℕ) (row : List (ℕ × ℕ)) where
 pub label_at : (entries : List Entry) (r : ℕ) (d : Entry) → r < length entries → (get_or entries r d).0.now ≡ text_of (texts entries) r
 label_at entries r d h = sym (get_or-map (λ e. e.0.now) entries r d [] h)
 
-pub label_of_entry : (entries : List Entry) (r : ℕ) (d : Entry) → r < length entries → All IsLabel (texts entries) → IsLabel (get_or entries r d).0.now
-label_of_entry entries r d h all =
-    let within : r < length (texts entries) = omega (arith, length-map entries (λ e. e.0.now)) in
-    subst IsLabel (sym (label_at entries r d h)) (all r [] within)
-
--- the flag at a rank tells of the label at that rank
-pub plain_of_entry : (entries : List Entry) (flags : List Bool) (r : ℕ) (d : Entry) → r < length entries → flags ≡ map is_plain (texts entries)
-    → get_or flags r false ≡ is_plain (get_or entries r d).0.now
-plain_of_entry entries flags r d h is =
-    let within : r < length (texts entries) = omega (arith, length-map entries (λ e. e.0.now)) in
-    ap (λ l. get_or l r false) is ∙ get_or-map is_plain (texts entries) r [] false within ∙ ap is_plain (sym (label_at entries r d h))
-
 pub on_err : {T E P : Type 0} (r : Result T E) → P → OnErr r P
 on_err (Ok x) p = tt
 on_err (Err e) p = p
-
-pub on_device : {T P : Type 0} (r : Result T Fault) → P → IfErr r (λ fault. fault ≡ Device → P)
-on_device (Ok x) p = tt
-on_device (Err e) p = λ _. p

@@ -6,7 +6,7 @@ use Rattle.std.proofs.lemmas.List.Sorted.{length_permutation}
 use Rattle.lts.specs.Lts.{Grouped, Triple, IsLts, before, row_of, transition_of, system_of, system_from}
 use Rattle.autfmt.specs.declared.wording.Words.{Words}
 use Rattle.autfmt.specs.Progress.{Progress}
-use Rattle.autfmt.specs.Ranks.{texts, ranked_pair, pair_cmp}
+use Rattle.autfmt.specs.Ranks.{texts, ranked_pair, rank_cmp}
 use Rattle.autfmt.specs.Stream.{AppendsBeginning}
 use Rattle.autfmt.specs.Words.{AreWords, from_source, written_lines}
 use Rattle.autfmt.specs.Written.{header_of, Text, GainsText, GainsBeginning}
@@ -50,7 +50,7 @@ module _ {g : Grouped} {words : Words} (lts : IsLts g) (are : AreWords g.labels 
   rows_put new all rows put = (text_to g words rows.order, text_from_order rows.order (all_ordered all rows.ordered) rows.ordered.sorted, everything_put new rows.progress put)
 
   -- one row more
-  pub next_row : {old mid new : Option (List ℕ)} {waiting later : List ℕ} {s : ℕ} (row : List (ℕ × ℕ)) → RowsWait g words old mid waiting s → IsPermutation (map (ranked_pair words.ranks.items) (row_of s g.places)) row → IsSorted pair_cmp row
+  pub next_row : {old mid new : Option (List ℕ)} {waiting later : List ℕ} {s : ℕ} (row : List (ℕ × ℕ)) → RowsWait g words old mid waiting s → IsPermutation (map (ranked_pair words.ranks.items) (row_of s g.places)) row → IsSorted rank_cmp row
       → Progress mid new later (waiting ++ written_lines words.entries.items (map (from_source s) row)) → RowsWait g words old new later (s + 1)
   next_row {old} {new = new} {later = later} {s = s} row rows same up put =
       let added = map (from_source s) row in

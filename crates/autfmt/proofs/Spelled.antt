@@ -1,10 +1,8 @@
 -- Labels and targets that are put with all their room.
-use Rattle.std.proofs.Common.{◌≡◌, ◌⊎◌, inl, inr, Option, Some, None, IfSome, ℕ, ◌+◌, ◌-◌, ◌<◌, ◌≤◌, List, [], ◌∷◌, ◌++◌, length, get_or, take, drop, codes, decimal, ap, ap₂, sym, subst, ◌∙◌, refl, length-append, append_assoc, arith}
+use Rattle.std.proofs.Common.{◌≡◌, ◌⊎◌, inl, inr, ℕ, ◌+◌, ◌-◌, ◌<◌, ◌≤◌, List, [], ◌∷◌, ◌++◌, length, get_or, take, drop, codes, decimal, ap, ap₂, sym, subst, ◌∙◌, refl, length-append, append_assoc, arith}
 use Rattle.std.proofs.lemmas.Bool.{cases_lt}
 use Rattle.std.proofs.lemmas.List.{get_or_append_left, get_or-append_right, take-take, length-take-le, length-drop}
 use Rattle.std.proofs.Math.Seq.{take-append-add}
-use Rattle.std.specs.Borrow.{Bor}
-use Rattle.std.specs.Slice.{IsItemAt}
 use Rattle.autfmt.specs.declared.spelling.Spelled.{Spelled}
 use Rattle.autfmt.specs.Fronts.{IsSpelled, AreSpelled}
 use Rattle.autfmt.specs.Ranks.{Entry, texts}
@@ -45,10 +43,3 @@ one_spelled_more entries known grown x i d within last are is new =
         let found : get_or (known ++ x ∷ []) k e ≡ x = get_or-append_right known (x ∷ []) (length known) k e refl p ∙ ap (λ n. get_or (x ∷ []) n e) zero in
         let label : (get_or entries i d).0.now ≡ get_or (texts entries) k [] = label_at entries i d within ∙ ap (λ n. get_or (texts entries) n []) (sym here) in
         subst (IsSpelled (get_or (texts entries) k [])) (sym found) (subst (λ l. IsSpelled l x) label is)
-
--- what is found at a rank is how lines have the label at that rank
-pub spelled_of_entry : (entries : List Entry) (known : List Spelled) (r : ℕ) (d : Entry) (found : Option (Bor Spelled)) → IsItemAt known r found → r < length entries → AreSpelled (texts entries) known
-    → IfSome found (λ s. IsSpelled (get_or entries r d).0.now s.now)
-spelled_of_entry entries known r d None _ _ _ = tt
-spelled_of_entry entries known r d (Some s) (_, is, _, within, _) h are =
-    subst (λ l. IsSpelled l s.now) (sym (label_at entries r d h)) (subst (IsSpelled (get_or (texts entries) r [])) (sym is) (are r s.now within.0))
