@@ -1,9 +1,9 @@
 -- The entries of the numbers: their tags, one more, one less, and all chained anew over other buckets.
-use Rattle.std.proofs.Common.{◌≡◌, ◌≢◌, ◌∙◌, ℕ, ◌+◌, ◌^◌, ◌<◌, List, [], ◌∷◌, ◌++◌, length, get_or, set, take, ap, sym, subst, inl, inr, arith}
+use Rattle.std.proofs.Common.{◌≡◌, ◌≢◌, ◌∙◌, ℕ, ◌+◌, ◌^◌, ◌<◌, List, [], ◌∷◌, ◌++◌, length, get_or, set, take, ap, sym, subst, refl, inl, inr, arith}
 use Rattle.std.proofs.Math.ListN as plain
 use Rattle.std.proofs.Math.Seq.{map-set_same}
 use Rattle.std.proofs.lemmas.Bool.{cases_lt}
-use Rattle.std.proofs.lemmas.List.{length-set, length-map, length-take-le, length_push, map-append, map_more, take-map, take_all, get_or_append_left, get_or-take, get_or-set_same, get_or-set_other}
+use Rattle.std.proofs.lemmas.List.{length-set, length-map, length-take-le, length_push, map-append, map_more, take-map, take_all, get_or_append_left, get_or_push, get_or-take, get_or-set_same, get_or-set_other}
 use Rattle.std.proofs.lemmas.List.Elements.{All-push, All-take, All-same}
 use Rattle.buckets.specs.declared.chains.Entry.{Entry}
 use Rattle.buckets.specs.declared.TheConstants.{MOST}
@@ -53,8 +53,10 @@ module _ {heads : List ℕ} {entries : List Entry} (is : AreBuckets heads entrie
 pub AreBuckets-push : (heads : List ℕ) (entries : List Entry) (new : Entry) (b : ℕ) → AreBuckets heads entries → length entries < MOST → b < length heads
     → new.tag < 2 ^ 32 → b ≡ bucket_of_tag (length heads) new.tag → new.before ≡ get_or heads b 0 → AreBuckets (set heads b (length entries)) (entries ++ new ∷ [])
 AreBuckets-push heads entries new b is few in' low at_b head =
+    let count = length entries in
+    let all = entries ++ new ∷ [] in
     let longer = length_push entries new in
-    let size = length-set heads b (length entries) in
+    let size = length-set heads b count in
     record {
       some_buckets = let some = is.some_buckets in omega arith;
       few_buckets = let few = is.few_buckets in omega arith;
@@ -63,7 +65,13 @@ AreBuckets-push heads entries new b is few in' low at_b head =
       none = tag_is (entries ++ new ∷ []) 0 ∙ ap (λ x. x.tag) (get_or_append_left entries (new ∷ []) entry_of_none 0 is.some) ∙ sym (tag_is entries 0) ∙ is.none;
       tags = All-same (λ tag. tag < 2 ^ 32) (tags_of (entries ++ new ∷ [])) (tags_of entries ++ new.tag ∷ []) (map-append (λ x. x.tag) entries (new ∷ []))
           (All-push (λ tag. tag < 2 ^ 32) (tags_of entries) new.tag is.tags low);
-      chained = Chained-push entry_of_none (λ n x. bucket_of_tag n x.tag) (λ x. x.before) entries heads new b is.chained is.some in' at_b head;
+      chained =
+          Chained-push entry_of_none (λ x. x.before) (entry_bucket entries heads) (entry_bucket all (set heads b count)) entries heads new b is.chained is.some in'
+          (λ r p h. ap (λ n. bucket_of_tag n (entry_at all r).tag) size
+          ∙ ap (λ x. bucket_of_tag (length heads) x.tag) (get_or_append_left entries (new ∷ []) entry_of_none r h))
+          (ap (λ n. bucket_of_tag n (entry_at all count).tag) size
+          ∙ ap (λ x. bucket_of_tag (length heads) x.tag) (get_or_push entries new entry_of_none count refl) ∙ sym at_b)
+          head;
     }
 
 -- the last entry is taken out of its bucket
@@ -128,7 +136,7 @@ module _ (old : List Entry) (buckets r : ℕ) (heads : List ℕ) (entries : List
         chained =
             IsChained-push r (entry_bucket entries heads) (entry_before entries)
             (entry_bucket (set entries r new) (set heads b r)) (entry_before (set entries r new)) heads b is.chained is.some in'
-            (λ k h. ap (λ n. bucket_of_tag n (entry_at (set entries r new) k).tag) size ∙ ap (bucket_of_tag (length heads)) (tag-kept k))
+            (λ k p h. ap (λ n. bucket_of_tag n (entry_at (set entries r new) k).tag) size ∙ ap (bucket_of_tag (length heads)) (tag-kept k))
             (λ k h. ap (λ x. x.before) (other k (λ e. absurd (omega arith))))
             (ap (λ n. bucket_of_tag n (entry_at (set entries r new) r).tag) size
             ∙ ap (λ x. bucket_of_tag (length heads) x.tag) same ∙ sym at_b)

@@ -1,7 +1,8 @@
 -- The steps of a split by numbers of lists: two states stay together if they have one key, their old block and the number of their
 -- list. Those of one key in each block keep its number. The least state with another key is a representative, whose number tells the new
--- block. Representatives are looked up by their keys: those in one bucket are chained, from the last one down.
-use Rattle.std.specs.Prelude.{◌≡◌, ◌⊎◌, ℕ, ◌/◌, ◌^◌, ◌++◌, ◌∷◌, ◌<◌, List, [], length, slice_index, slice_index_or}
+-- block. Representatives are looked up by their keys: the first
+-- one with a list is in the slot of this list, the others in buckets. Those in one bucket are chained, from the last one down.
+use Rattle.std.specs.Prelude.{◌≡◌, ◌⊎◌, ℕ, ◌+◌, ◌-◌, ◌/◌, ◌^◌, ◌++◌, ◌∷◌, ◌<◌, ◌≤◌, min, cond, eqb, List, [], length, slice_index, slice_index_or}
 use Rattle.partition.specs.declared.splitter.Representative.{Representative}
 use Rattle.partition.specs.Blocks.{IsOne}
 use Rattle.buckets.specs.Chains.{bucket_of_tag, IsChained}
@@ -11,9 +12,25 @@ use Rattle.lists.specs.Spans.{hash_of}
 abbrev pub Key : Type 0
 Key = ℕ × ℕ
 
--- the bucket of a key, of so many buckets: by the upper half of the key's hash
+-- the slot of a list, in the first half of so many heads
+abbrev pub slot_of : ℕ → ℕ → ℕ
+slot_of heads list = min list (heads / 2 - 1)
+
+-- the number of the representative in the slot of a list, or 0 if there is none
+abbrev pub in_slot : List ℕ → ℕ → ℕ
+in_slot heads list = slice_index heads (slot_of (length heads) list)
+
+-- the bucket of a key, in the second half of so many heads: by the upper half of the key's hash
 abbrev pub bucket_of_key : ℕ → Key → ℕ
-bucket_of_key buckets key = bucket_of_tag buckets (hash_of key / 2 ^ 32)
+bucket_of_key heads key = heads / 2 + bucket_of_tag (heads / 2) (hash_of key / 2 ^ 32)
+
+-- where a new representative with the key goes: to the slot of its list if that is free, or to its bucket
+abbrev pub IsPlace : List ℕ → Key → ℕ → Type 0
+IsPlace heads key b = ((b ≡ slot_of (length heads) key.1) × (in_slot heads key.1 ≡ 0)) ⊎ ((b ≡ bucket_of_key (length heads) key) × (0 < in_slot heads key.1))
+
+-- where the representative number r with the key is: in the slot of its list, if that has this number, or in its bucket
+abbrev pub place_of : List ℕ → Key → ℕ → ℕ
+place_of heads key r = cond (eqb (in_slot heads key.1) r) (slot_of (length heads) key.1) (bucket_of_key (length heads) key)
 
 -- the representative number r
 abbrev pub representative_at : List Representative → ℕ → Representative
@@ -27,9 +44,9 @@ key_of representative = (representative.old, representative.list)
 abbrev pub key_at : List Representative → ℕ → Key
 key_at chain r = key_of (representative_at chain r)
 
--- the bucket of the representative number r
-abbrev pub representative_bucket : List Representative → List ℕ → ℕ → ℕ
-representative_bucket chain heads r = bucket_of_key (length heads) (key_at chain r)
+-- the slot or bucket of the representative number r
+abbrev pub representative_place : List Representative → List ℕ → ℕ → ℕ
+representative_place chain heads r = place_of heads (key_at chain r) r
 
 -- the number before r in its bucket
 abbrev pub representative_before : List Representative → ℕ → ℕ
@@ -39,13 +56,14 @@ representative_before chain r = (representative_at chain r).before
 abbrev pub IsRepresentative : List Representative → ℕ → Type 0
 IsRepresentative chain r = (0 < r) × (r < length chain)
 
--- representatives with different keys, each of which a search by its key finds
+-- representatives with different keys, each of which a search by its key finds: where there is one, the slot of its list is taken
 pub record IsChain (heads : List ℕ) (chain : List Representative) : Type 0 where
   pub some : 0 < length chain
-  pub some_buckets : 0 < length heads
-  pub few_buckets : length heads < 2 ^ 32
+  pub some_heads : 2 ≤ length heads
+  pub few_heads : length heads < 2 ^ 32
   pub different : (q r : ℕ) → IsRepresentative chain q → IsRepresentative chain r → key_at chain q ≡ key_at chain r → q ≡ r
-  pub chained : IsChained (length chain) (representative_bucket chain heads) (representative_before chain) heads
+  pub taken : (r : ℕ) → IsRepresentative chain r → 0 < in_slot heads (key_at chain r).1
+  pub chained : IsChained (length chain) (representative_place chain heads) (representative_before chain) heads
 
 -- the representative number r has the key
 abbrev pub HasRepresentative : List Representative → Key → ℕ → Type 0
