@@ -49,16 +49,16 @@ kept_triples n old now es keeps all =
 -- each label of the table is carried, also behind one triple more
 carried_more :
     (old now : Held) (s : ℕ) (a : List ℕ) (t : ℕ) → (added : AddsTriple old now s a t) →
-    ((k : ℕ) → k < length old.labels → (x : Triple) × Contains old.triples.items x × (label_of x ≡ k)) →
-    (k : ℕ) → k < length now.labels → (x : Triple) × Contains now.triples.items x × (label_of x ≡ k)
+    ((k : ℕ) → k < length old.labels → (x : Triple) × Contains old.transitions x × (label_of x ≡ k)) →
+    (k : ℕ) → k < length now.labels → (x : Triple) × Contains now.transitions x × (label_of x ≡ k)
 carried_more old now s a t added before k below =
     let triple : Triple = (s, added.number, t) in
-    let into : (x : Triple) → Contains (old.triples.items ++ triple ∷ []) x → Contains now.triples.items x =
+    let into : (x : Triple) → Contains (old.transitions ++ triple ∷ []) x → Contains now.transitions x =
     λ x h. subst (λ (es : List Triple). Contains es x) (sym added.items) h in
     elim (added.known k below) [
       | inl known ↦
-          let (x, among, number) = before k known in (x, into x (Contains-append_left old.triples.items (triple ∷ []) x among), number)
-      | inr new ↦ (triple, into triple (Contains-push old.triples.items triple), sym new)
+          let (x, among, number) = before k known in (x, into x (Contains-append_left old.transitions (triple ∷ []) x among), number)
+      | inr new ↦ (triple, into triple (Contains-push old.transitions triple), sym new)
     ]
 
 -- the table grows by one label at most
@@ -80,43 +80,43 @@ Holds-add H n old now es e held among added =
     let triple : Triple = (e.source, added.number, e.target) in
     let made : List ℕ → Transition = λ a. record { source = e.source; label = a; target = e.target } in
     let still =
-    kept_transitions n old.labels now.labels old.triples.items added.keeps held.among in
-    let all = kept_triples n old.labels now.labels old.triples.items added.keeps held.among in
+    kept_transitions n old.labels now.labels old.transitions added.keeps held.among in
+    let all = kept_triples n old.labels now.labels old.transitions added.keeps held.among in
     let few = held.few_labels in
     let longer = one_label_more old now e.source (hidden_label H e.label) e.target added in
     record {
       hidden =
           ap (map (transition_of now.labels)) added.items
-          ∙ map_push (transition_of now.labels) old.triples.items triple
+          ∙ map_push (transition_of now.labels) old.transitions triple
           ∙ ap (λ (t : List Transition). t ++ transition_of now.labels triple ∷ []) (still ∙ held.hidden)
           ∙ ap (λ (a : List ℕ). map (hidden_transition H) es ++ made a ∷ []) added.numbered.text
           ∙ sym (map_push (hidden_transition H) es e);
       among =
           subst (λ (t : List Triple). All (IsTriple (length now.labels) n) t) (sym added.items)
-          (All-push (IsTriple (length now.labels) n) old.triples.items triple all
+          (All-push (IsTriple (length now.labels) n) old.transitions triple all
           (record { source = among.source; label = added.numbered.below; target = among.target }));
       carried = carried_more old now e.source (hidden_label H e.label) e.target added held.carried;
-      few_labels = omega (arith, ap length added.items, length_push old.triples.items triple);
+      few_labels = omega (arith, ap length added.items, length_push old.transitions triple);
     }
 
 -- nothing is held
-pub Holds-new : (H : List (List ℕ)) (n : ℕ) (held : Held) → held.labels ≡ [] → held.triples.items ≡ [] → Holds H n held []
-Holds-new H n held labels triples =
+pub Holds-new : (H : List (List ℕ)) (n : ℕ) (held : Held) → held.labels ≡ [] → held.transitions ≡ [] → Holds H n held []
+Holds-new H n held labels none =
     record {
-      hidden = ap (map (transition_of held.labels)) triples;
-      among = subst (λ (t : List Triple). All (IsTriple (length held.labels) n) t) (sym triples) (All-nil (IsTriple (length held.labels) n));
+      hidden = ap (map (transition_of held.labels)) none;
+      among = subst (λ (t : List Triple). All (IsTriple (length held.labels) n) t) (sym none) (All-nil (IsTriple (length held.labels) n));
       carried = λ k below. absurd (omega (arith, ap length labels));
       few_labels = omega (arith, ap length labels);
     }
 
 -- as many triples are held as transitions
-pub Holds-length : (H : List (List ℕ)) (n : ℕ) (held : Held) (es : List Transition) → Holds H n held es → length held.triples.items ≡ length es
+pub Holds-length : (H : List (List ℕ)) (n : ℕ) (held : Held) (es : List Transition) → Holds H n held es → length held.transitions ≡ length es
 Holds-length H n held es h =
-    sym (length-map held.triples.items (transition_of held.labels)) ∙ ap length h.hidden ∙ length-map es (hidden_transition H)
+    sym (length-map held.transitions (transition_of held.labels)) ∙ ap length h.hidden ∙ length-map es (hidden_transition H)
 
 -- the system that is held is the hidden one
 pub Holds-system :
     (H : List (List ℕ)) (first n : ℕ) (held : Held) (es : List Transition) → Holds H n held es →
-    system_from first n held.labels held.triples.items ≡ Hide H (record { first = first; states = n; transitions = es })
+    system_from first n held.labels held.transitions ≡ Hide H (record { first = first; states = n; transitions = es })
 Holds-system H first n held es h =
     λ i. record { first = first; states = n; transitions = h.hidden i }

@@ -50,10 +50,10 @@ told_fault bounds H (Some text) new failures (Err f) answer = refused new answer
 
 -- the system that was built of what was read
 module _ (bounds : Bounds) (H : List (List ℕ)) (got : List ℕ) (p : Promise) (held : Held) (s : Grouped)
-    (text : HoldsText bounds H got p held) (labels : s.labels ≡ held.labels) (grouping : IsGrouping held.triples.items s.places)
-    (groups : Groups (system_from p.first p.states held.labels held.triples.items) (system_of s)) where
+    (text : HoldsText bounds H got p held) (labels : s.labels ≡ held.labels) (grouping : IsGrouping held.transitions s.places)
+    (groups : Groups (system_from p.first p.states held.labels held.transitions) (system_of s)) where
   as_many : length s.places ≡ length text.0
-  as_many = length_permutation held.triples.items s.places grouping.same ∙ Holds-length H p.states held text.0 text.2
+  as_many = length_permutation held.transitions s.places grouping.same ∙ Holds-length H p.states held text.0 text.2
 
   pub reads_built : (rest : Option (List ℕ)) (failures : ℕ) → IsAtEnd rest → failures ≡ 0 → ReadsTo bounds H got rest failures s
   reads_built rest failures end sound = record {
@@ -69,7 +69,7 @@ module _ (bounds : Bounds) (H : List (List ℕ)) (got : List ℕ) (p : Promise) 
     };
     carried = λ k below.
         let (e, among, number) = text.2.carried k (omega (arith, ap length labels)) in
-        (e, Contains-permutation held.triples.items s.places e grouping.same among, number);
+        (e, Contains-permutation held.transitions s.places e grouping.same among, number);
     at_end = end;
     sound = sound;
   }

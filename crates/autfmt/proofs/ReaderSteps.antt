@@ -1,5 +1,5 @@
 -- The steps of the reader of a system: what each one leaves, and why it may refuse.
-use Rattle.std.proofs.Common.{◌≡◌, ◌⊎◌, ℕ, ◌+◌, ◌<◌, ◌≤◌, Bool, true, false, List, [], ◌∷◌, ◌++◌, length, vec_len, Option, None, Some, IfSome, Result, Ok, Err, IfOk, IfErr, MatchResult, refl, sym, ◌∙◌, ap, subst, inl, inr, arith}
+use Rattle.std.proofs.Common.{◌≡◌, ◌⊎◌, ℕ, ◌+◌, ◌<◌, ◌≤◌, Bool, true, false, List, [], ◌∷◌, ◌++◌, length, Option, None, Some, IfSome, Result, Ok, Err, IfOk, IfErr, MatchResult, refl, sym, ◌∙◌, ap, subst, inl, inr, arith}
 use Rattle.std.proofs.lemmas.List.{append_assoc, append-nil}
 use Rattle.std.proofs.lemmas.List.Elements.{All-nil}
 use Rattle.std.specs.Io.KnownBytes.{IsAtEnd}
@@ -222,5 +222,5 @@ HeldSoFar-push H p old at now held_at held before line so_far step bounds given 
 -- as many transitions were read as triples are held
 pub count_held :
     (H : List (List ℕ)) (n : ℕ) (held : Held) (es : List Transition) (found : ℕ) → Holds H n held es →
-    found ≡ vec_len held.triples → length es ≡ found
-count_held H n held es found holds count = sym (Holds-length H n held es holds) ∙ sym (held.triples.ok.0) ∙ sym count
+    found ≡ length held.transitions → length es ≡ found
+count_held H n held es found holds count = sym (Holds-length H n held es holds) ∙ sym count

@@ -12,11 +12,11 @@ pub record AddsTriple (old now : Held) (s : ℕ) (a : List ℕ) (t : ℕ) : Type
   pub numbered : IsNumber now.labels number a
   pub keeps : Keeps old.labels now.labels
   pub known : (k : ℕ) → k < length now.labels → (k < length old.labels) ⊎ (k ≡ number)
-  pub items : now.triples.items ≡ old.triples.items ++ (s, number, t) ∷ []
+  pub items : now.transitions ≡ old.transitions ++ (s, number, t) ∷ []
 
 -- the triples stand for the transitions among n states, with the labels of H hidden, and the table has no other labels
 pub record Holds (H : List (List ℕ)) (n : ℕ) (held : Held) (es : List Transition) : Type 0 where
-  pub hidden : map (transition_of held.labels) held.triples.items ≡ map (hidden_transition H) es
-  pub among : All (IsTriple (length held.labels) n) held.triples.items
-  pub carried : (k : ℕ) → k < length held.labels → (e : Triple) × Contains held.triples.items e × (label_of e ≡ k)
-  pub few_labels : length held.labels ≤ length held.triples.items
+  pub hidden : map (transition_of held.labels) held.transitions ≡ map (hidden_transition H) es
+  pub among : All (IsTriple (length held.labels) n) held.transitions
+  pub carried : (k : ℕ) → k < length held.labels → (e : Triple) × Contains held.transitions e × (label_of e ≡ k)
+  pub few_labels : length held.labels ≤ length held.transitions

@@ -1,5 +1,5 @@
-//! The transitions that a reader holds: their labels in a table, and a triple of numbers for each.
-ghost use Rattle.std.specs.Prelude.{◌≡◌, ◌+◌, ◌<◌, ◌≤◌, ◌↔◌, [], length, vec_len, vec_capacity, IsTrue, IsSome, IfSome, IfNone, IfOk, OnOk, MatchResult};
+//! The transitions that a reader holds: their labels in a table, and themselves by number.
+ghost use Rattle.std.specs.Prelude.{◌≡◌, ◌+◌, ◌<◌, ◌≤◌, ◌↔◌, [], length, IsTrue, IsSome, IfSome, IfNone, IfOk, OnOk, MatchResult};
 ghost use Rattle.theory.specs.System.{IsLabel};
 ghost use Rattle.lts.specs.declared.limits.TheConstants.{MOST_LABELS};
 ghost use Rattle.autfmt.specs.declared.limits.TheConstants.{FILE_TRANSITIONS};
@@ -7,8 +7,8 @@ ghost use Rattle.lts.specs.Labels.{IsNumber, Interns, Keeps};
 ghost use Rattle.autfmt.specs.Held.{AddsTriple};
 
 use crate::digits::word_in_front;
-use lts::{Labels, Memory, is_label};
-use std::alloc::{AllocError, Global};
+use lts::{Labels, Memory, Transitions, is_label};
+use std::alloc::Global;
 
 /// How many labels are guessed.
 const GUESSES: usize = 256;
@@ -23,7 +23,7 @@ const LAST_WEIGHT: u64 = 0xD1B5_4A32_D192_ED03;
 #[derive(Drop)]
 pub(crate) struct Held {
     pub(crate) labels: Labels,
-    pub(crate) triples: Vec<(u32, u32, u32)>,
+    pub(crate) transitions: Transitions,
     /// The number that a label had which came before, by its slot.
     guesses: [u32; GUESSES],
 }
@@ -32,12 +32,11 @@ impl Held {
     /// No transitions. It takes no memory.
     pub(crate) fn new(alloc: Global) -> Held
         ensures labels { result.labels ≡ [] }
-        ensures triples { result.triples.items ≡ [] }
-        ensures len { vec_len result.triples ≡ 0 }
+        ensures transitions { result.transitions ≡ [] }
     {
         Held {
             labels: Labels::new(alloc),
-            triples: Vec::new(alloc),
+            transitions: Transitions::new(alloc),
             guesses: [0; GUESSES],
         }
     }
@@ -54,12 +53,12 @@ impl Held {
         promised: u32,
     ) -> Result<(), Memory>
         requires label { IsLabel label.now }
-        requires few { length self.old.labels ≤ vec_len self.old.triples }
-        requires promised { vec_len self.old.triples < promised }
+        requires few { length self.old.labels ≤ length self.old.transitions }
+        requires promised { length self.old.transitions < promised }
         requires file { promised ≤ FILE_TRANSITIONS }
         ensures added { OnOk result (AddsTriple self.old self.new source label.now target) }
-        ensures len { OnOk result (vec_len self.new.triples ≡ vec_len self.old.triples + 1) }
-        ensures few { OnOk result (length self.new.labels ≤ vec_len self.new.triples) }
+        ensures len { OnOk result (length self.new.transitions ≡ length self.old.transitions + 1) }
+        ensures few { OnOk result (length self.new.labels ≤ length self.new.transitions) }
     {
         self.add_if_label(source, label, target, promised)?;
         Ok(())
@@ -77,20 +76,19 @@ impl Held {
         target: u32,
         promised: u32,
     ) -> Result<bool, Memory>
-        requires few { length self.old.labels ≤ vec_len self.old.triples }
-        requires promised { vec_len self.old.triples < promised }
+        requires few { length self.old.labels ≤ length self.old.transitions }
+        requires promised { length self.old.transitions < promised }
         requires file { promised ≤ FILE_TRANSITIONS }
         ensures label { MatchResult result (λ added. IsTrue added ↔ IsLabel label.now) (λ _. IsLabel label.now) }
         ensures added { IfOk result (λ added. IsTrue added → AddsTriple self.old self.new source label.now target) }
         ensures none { IfOk result (λ added. ¬ IsTrue added → self.new ≡ self.old) }
-        ensures len { IfOk result (λ added. IsTrue added → vec_len self.new.triples ≡ vec_len self.old.triples + 1) }
-        ensures few { OnOk result (length self.new.labels ≤ vec_len self.new.triples) }
+        ensures len { IfOk result (λ added. IsTrue added → length self.new.transitions ≡ length self.old.transitions + 1) }
+        ensures few { OnOk result (length self.new.labels ≤ length self.new.transitions) }
     {
         let Some(number) = number_of(&mut self.labels, &mut self.guesses, label)? else {
             return Ok(false);
         };
-        make_room(&mut self.triples, promised as usize)?;
-        self.triples.push_reserved((source, number, target));
+        self.transitions.push(source, number, target, promised)?;
         Ok(true)
     }
 }
@@ -143,19 +141,4 @@ fn guess_slot(label: &[u8]) -> usize
         [last] => usize::from(*last) % GUESSES,
         [] => 0,
     }
-}
-
-/// Makes room for one triple more: the vector grows by half, and never past what was promised.
-fn make_room(triples: &mut Vec<(u32, u32, u32)>, promised: usize) -> Result<(), AllocError>
-    requires { vec_len triples.old < promised }
-    ensures items { triples.new.items ≡ triples.old.items }
-    ensures len { vec_len triples.new ≡ vec_len triples.old }
-    ensures room { OnOk result (vec_len triples.new < vec_capacity triples.new) }
-{
-    let len = triples.len();
-    if len < triples.capacity() {
-        return Ok(());
-    }
-    triples.reserve_exact((len / 2 + 1024).min(promised - len))?;
-    Ok(())
 }

@@ -1,5 +1,5 @@
 //! The reader of a system's text: a header, then as many transitions as it promises, then the end.
-ghost use Rattle.std.specs.Prelude.{◌≡◌, ◌↔◌, ℕ, ◌+◌, ◌<◌, ◌≤◌, List, [], ◌∷◌, ◌++◌, length, vec_len, false, IsTrue, IfSome, Err, IfOk, IfErr, OnOk, MatchResult};
+ghost use Rattle.std.specs.Prelude.{◌≡◌, ◌↔◌, ℕ, ◌+◌, ◌<◌, ◌≤◌, List, [], ◌∷◌, ◌++◌, length, false, IsTrue, IfSome, Err, IfOk, IfErr, OnOk, MatchResult};
 ghost use Rattle.std.specs.Io.KnownBytes.{Consumes, IsAtEnd};
 ghost use Rattle.theory.specs.System.{Transition};
 ghost use Rattle.lts.specs.Lts.{InRange};
@@ -87,10 +87,10 @@ fn read_system<M: Meter, R: Source>(
     let (promise, held) = read_text(alloc, r, lim, h)?;
     let Held {
         labels,
-        triples,
+        transitions,
         ..
     } = held;
-    let system = Lts::build(alloc, labels, promise.first, promise.states, triples)?;
+    let system = Lts::of(labels, promise.first, promise.states, transitions)?;
     Ok(system)
 }
 
@@ -105,7 +105,7 @@ fn read_text<R: Source>(
     ensures whole { Takes (R.rest r.old) (R.rest r.new)
         (λ given x. HoldsText lim.now h.now given x.0 x.1)
         (λ given. Refuses lim.now given (R.rest r.new) (R.failures r.new)) result }
-    ensures range { IfOk result (λ x. InRange (length x.1.labels) x.0.first x.0.states x.1.triples.items) }
+    ensures range { IfOk result (λ x. InRange (length x.1.labels) x.0.first x.0.states x.1.transitions) }
     ensures end { OnOk result (IsAtEnd (R.rest r.new)) }
     ensures sound { OnOk result (R.failures r.new ≡ 0) }
 {
@@ -153,7 +153,7 @@ fn read_transitions<R: Source>(
         (λ held. (es : List Transition) × HeldSoFar bounds h.now (given ++ got) promise (cutter.new, held) es)
         (Refuses bounds (given ++ got) (R.rest r.new) (R.failures r.new))) }
     ensures source { OnOk result (Feeds (R.rest r.new) (R.failures r.new) cutter.new) }
-    ensures len { IfOk result (λ held. vec_len held.triples ≡ promise.transitions) }
+    ensures len { IfOk result (λ held. length held.transitions ≡ promise.transitions) }
 {
     let mut held = Held::new(alloc);
     for _found in 0..promise.transitions {
@@ -178,14 +178,14 @@ fn take_usual(
     held: &mut Held,
 ) -> Result<bool, Memory>
     requires file { promise.transitions ≤ FILE_TRANSITIONS }
-    requires promised { vec_len held.old.triples < promise.transitions }
-    requires few { length held.old.labels ≤ vec_len held.old.triples }
+    requires promised { length held.old.transitions < promise.transitions }
+    requires few { length held.old.labels ≤ length held.old.transitions }
     ensures taken { IfOk result (λ taken. IsTrue taken →
         ReadsOneMore h.now promise [] (cutter.old, held.old) (cutter.new, held.new)) }
     ensures none { IfOk result (λ taken. ¬ IsTrue taken → (cutter.new ≡ cutter.old) × (held.new ≡ held.old)) }
     ensures open { IfOk result (λ taken. IsTrue taken → cutter.new.over ≡ false) }
-    ensures len { IfOk result (λ taken. IsTrue taken → vec_len held.new.triples ≡ vec_len held.old.triples + 1) }
-    ensures few { OnOk result (length held.new.labels ≤ vec_len held.new.triples) }
+    ensures len { IfOk result (λ taken. IsTrue taken → length held.new.transitions ≡ length held.old.transitions + 1) }
+    ensures few { OnOk result (length held.new.labels ≤ length held.new.transitions) }
 {
     let Some((source, label, target, rest)) = transition_in_front(cutter.ahead()) else {
         return Ok(false);
@@ -217,8 +217,8 @@ fn read_transition<R: Source>(
     held: &mut Held,
 ) -> Result<(), Fault>
     requires file { promise.transitions ≤ FILE_TRANSITIONS }
-    requires promised { vec_len held.old.triples < promise.transitions }
-    requires few { length held.old.labels ≤ vec_len held.old.triples }
+    requires promised { length held.old.transitions < promise.transitions }
+    requires few { length held.old.labels ≤ length held.old.transitions }
     requires source { Feeds (R.rest r.old) (R.failures r.old) cutter.old }
     ensures transition { (got : List ℕ) × Consumes (R.rest r.old) (R.rest r.new) got ×
         ((bounds : Bounds) (given : List ℕ) (es : List Transition) →
@@ -227,10 +227,10 @@ fn read_transition<R: Source>(
         (λ _. (e : Transition) × HeldSoFar bounds h.now (given ++ got) promise (cutter.new, held.new) (es ++ e ∷ []))
         (Refuses bounds (given ++ got) (R.rest r.new) (R.failures r.new))) }
     ensures source { OnOk result (Feeds (R.rest r.new) (R.failures r.new) cutter.new) }
-    ensures len { OnOk result (vec_len held.new.triples ≡ vec_len held.old.triples + 1) }
-    ensures few { OnOk result (length held.new.labels ≤ vec_len held.new.triples) }
+    ensures len { OnOk result (length held.new.transitions ≡ length held.old.transitions + 1) }
+    ensures few { OnOk result (length held.new.labels ≤ length held.new.transitions) }
 {
-    let found = held.triples.len() as u32;
+    let found = held.transitions.len() as u32;
     match cutter.advance(r)? {
         Step::Line => {}
         Step::TooLong => return Err(Fault::LineTooLong(found + 2)),

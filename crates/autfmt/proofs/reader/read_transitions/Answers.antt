@@ -1,4 +1,4 @@
-use Rattle.std.proofs.Common.{[], ◌++◌, length, vec_len, ap, arith}
+use Rattle.std.proofs.Common.{[], ◌++◌, length, ap, arith}
 use Rattle.std.proofs.lemmas.List.{append_assoc, append-nil}
 use Rattle.std.proofs.lemmas.Bool.{both_ways}
 use Rattle.std.proofs.lemmas.Result.{err_from_is_err_and}
@@ -13,9 +13,9 @@ loop-found-init g c = record {
   got = (
     [],
     Consumes-nil (g.R.Source.rest c.args.r.now),
-    λ bounds given standing. ([], (rw (append-nil given) standing, Holds-new _ _ _ c.new-held.ensures.labels c.new-held.ensures.triples)),
+    λ bounds given standing. ([], (rw (append-nil given) standing, Holds-new _ _ _ c.new-held.ensures.labels c.new-held.ensures.transitions)),
   );
-  len = c.new-held.ensures.len;
+  len = ap length c.new-held.ensures.transitions;
   few = omega (arith, ap length c.new-held.ensures.labels);
   source = c.requires.source;
 }
@@ -58,7 +58,7 @@ loop-found-preserved g c =
       len =
           let e = c.in_ok-read_transition.ensures.len in
           let i = c.loop-found.invariant.len in
-          let f = ap (λ (h : Held). vec_len h.triples) same.1 in
+          let f = ap (λ (h : Held). length h.transitions) same.1 in
           omega arith;
       few = c.in_ok-read_transition.ensures.few;
       source = c.in_ok-read_transition.ensures.source;

@@ -1,4 +1,4 @@
-use Rattle.std.proofs.Common.{◌≡◌, ℕ, ◌≤◌, List, [], ◌++◌, length, vec_len}
+use Rattle.std.proofs.Common.{◌≡◌, ℕ, ◌≤◌, List, [], ◌++◌, length}
 use Rattle.std.specs.Io.KnownBytes.{Consumes}
 use Rattle.theory.specs.System.{Transition}
 use Rattle.autfmt.specs.Bounds.{Bounds}
@@ -13,7 +13,7 @@ invariant-loop-found g l = record {
       ((bounds : Bounds) (given : List ℕ) →
       ReadSoFar bounds given l.initial.cutter l.promise [] →
       (es : List Transition) × HeldSoFar bounds l.h (given ++ bs) l.promise (l.cutter, l.held) es);
-  len : vec_len l.held.triples ≡ l._found;
-  few : length l.held.labels ≤ vec_len l.held.triples;
+  len : length l.held.transitions ≡ l._found;
+  few : length l.held.labels ≤ length l.held.transitions;
   source : Feeds (g.R.Source.rest l.r) (g.R.Source.failures l.r) l.cutter;
 }

@@ -1,5 +1,3 @@
-use Rattle.std.proofs.Common.{◌∙◌, ap, List, ◌++◌, ◌∷◌, []}
-use Rattle.lts.specs.Lts.{Triple}
 use Rattle.autfmt.proofs.Holding.{Interns-known}
 use Rattle.autfmt.proofs.held.Held.add_if_label.Goals as goal
 
@@ -13,7 +11,5 @@ returns-clause-added c _ =
       numbered = numbered;
       keeps = c.in_ok-number.ensures.keeps;
       known = Interns-known _ _ c.number_of.new.labels n table c.in_ok-number.ensures.keeps numbered;
-      items =
-          c.push_reserved.ensures.items
-          ∙ ap (λ (es : List Triple). es ++ (c.args.source, n, c.args.target) ∷ []) c.in_ok-make_room.ensures.items;
+      items = c.in_ok-push.ensures.pushed;
     }
