@@ -13,7 +13,7 @@ ghost use Rattle.quotient.specs.Numbers.{IsNumbering};
 use crate::numbering::{Numbering, number};
 use crate::search::reachable;
 use crate::table::copied;
-use crate::triples::{by_number, shown_triples};
+use crate::triples::{by_number, shown_transitions};
 use crate::{Relation, relation};
 use lts::{Counter, Lts, Memory, Meter};
 use std::alloc::Global;
@@ -91,7 +91,7 @@ fn quotient_of<M: Meter>(
         numbering.count,
         sources,
     )?;
-    let triples = shown_triples(alloc, l, &numbering.numbers, &members, dropped, m)?;
+    let shown = shown_transitions(alloc, l, &numbering.numbers, &members, dropped, m)?;
     let labels = copied(alloc, l.labels())?;
-    Lts::build(alloc, labels, 0, numbering.count, triples)
+    Lts::of(labels, 0, numbering.count, shown)
 }

@@ -9,7 +9,7 @@ use Rattle.quotient.proofs.WholeRows.{members_show_also}
 use Rattle.quotient.proofs.Visits.{visits_at_most}
 use Rattle.quotient.proofs.minimisation.quotient_of.Given.{Over}
 use Rattle.quotient.proofs.minimisation.quotient_of.Goals as goal
-use Rattle.quotient.proofs.minimisation.quotient_of.Goals.{After-dropped-dropped, In_ok-members, In_ok-triples}
+use Rattle.quotient.proofs.minimisation.quotient_of.Goals.{After-dropped-dropped, In_ok-members, In_ok-shown}
 
 module _ (g : Over) (c : After-dropped-dropped g) where
   laws : Laws c.args.r c.args.l.now
@@ -48,25 +48,28 @@ are g c = rw (c.deref-2.ensures.value, c.states.ensures.value) at c.in_ok-member
 few : (g : Over) (c : In_ok-members g) → places_of c.args.l.now.places c.in_ok-members.members.items ≤ length c.args.l.now.places
 few g c = omega (arith, (are g c).few c.args.l.now.places, c.rows_follow.ensures.all c.args.l.now c.known.ensures)
 
-pub shown_triples-requires-clause-members : goal.shown_triples-requires-clause-members
-shown_triples-requires-clause-members g c =
-    let at = (goal.at.shown_triples-requires-clause-members g c).In_ok-members in
+pub shown_transitions-requires-clause-members : goal.shown_transitions-requires-clause-members
+shown_transitions-requires-clause-members g c =
+    let at = (goal.at.shown_transitions-requires-clause-members g c).In_ok-members in
     rw (c.deref-3.ensures.value, c.deref-4.ensures.value)
     (record { each = λ p c. let f = ((are g at).exactly p).0 c in (f.0, f.2); rising = (are g at).rising })
 
-pub shown_triples-requires-clause-whole : goal.shown_triples-requires-clause-whole
-shown_triples-requires-clause-whole g c =
-    let goals = goal.at.shown_triples-requires-clause-whole g c in
+pub shown_transitions-requires-clause-whole : goal.shown_transitions-requires-clause-whole
+shown_transitions-requires-clause-whole g c =
+    let goals = goal.at.shown_transitions-requires-clause-whole g c in
     let at = goals.After-dropped-dropped in
     let is = are g goals.In_ok-members in
     let also = members_show_also c.args.r c.args.l.now c.args.numbering.now (laws g at) c.requires.numbering
     c.sources-sources.result.now (enough g at) c.dropped-dropped.result (drops g at) in
     rw (c.deref-3.ensures.value, c.deref-4.ensures.value) (λ p q cp cq. also p q ((is.exactly p).0 cp) ((is.exactly q).0 cq))
 
-pub shown_triples-requires-clause-room : goal.shown_triples-requires-clause-room
-shown_triples-requires-clause-room g c =
-    let few = few g (goal.at.shown_triples-requires-clause-room g c).In_ok-members in
+pub shown_transitions-requires-clause-room : goal.shown_transitions-requires-clause-room
+shown_transitions-requires-clause-room g c =
+    let few = few g (goal.at.shown_transitions-requires-clause-room g c).In_ok-members in
     rw c.deref-4.ensures.value (record { for_rounds = c.requires.room.for_rounds; for_visits = omega (arith, few, c.requires.room.for_visits) })
+
+pub shown_transitions-requires-clause-few : goal.shown_transitions-requires-clause-few
+shown_transitions-requires-clause-few g c = rw c.deref-4.ensures.value (few g (goal.at.shown_transitions-requires-clause-few g c).In_ok-members)
 
 pub by_number-requires-clause-below : goal.by_number-requires-clause-below
 by_number-requires-clause-below g c =
@@ -74,47 +77,47 @@ by_number-requires-clause-below g c =
     rw (c.deref-2.ensures.value, c.states.ensures.value) (λ t l marked. c.requires.numbering.below t (enough.only t l marked))
 
 -- what was shown, over the numbers themselves
-shown : (g : Over) (c : In_ok-triples g) → HasShown c.args.numbering.now.numbers.items c.dropped-dropped.result c.args.l.now.places
-    c.in_ok-members.members.items c.in_ok-triples.triples.items
-shown g c = rw (c.deref-3.ensures.value, c.deref-4.ensures.value) at c.in_ok-triples.ensures.shown
+shown : (g : Over) (c : In_ok-shown g) → HasShown c.args.numbering.now.numbers.items c.dropped-dropped.result c.args.l.now.places
+    c.in_ok-members.members.items c.in_ok-shown.shown
+shown g c = rw (c.deref-3.ensures.value, c.deref-4.ensures.value) at c.in_ok-shown.ensures.shown
 
-pub build-requires : goal.build-requires
-build-requires g c =
-    let goals = goal.at.build-requires g c in
+pub of-requires : goal.of-requires
+of-requires g c =
+    let goals = goal.at.of-requires g c in
     let at = goals.After-dropped-dropped in
-    let has = shown g goals.In_ok-triples in
-    let less : length c.in_ok-triples.triples.items ≤ length c.args.l.now.places = omega (arith, has.few, few g goals.In_ok-members) in
-    let parts = Parts-shown c.args.r c.args.l.now c.args.numbering.now c.sources-sources.result.now c.dropped-dropped.result c.in_ok-triples.triples.items
+    let has = shown g goals.In_ok-shown in
+    let less : length c.in_ok-shown.shown ≤ length c.args.l.now.places = omega (arith, has.few, few g goals.In_ok-members) in
+    let parts = Parts-shown c.args.r c.args.l.now c.args.numbering.now c.sources-sources.result.now c.dropped-dropped.result c.in_ok-shown.shown
     c.in_ok-members.members.items (laws g at) c.requires.numbering (enough g at) (drops g at) (are g goals.In_ok-members) has in
-    subst (λ n. InRange n 0 c.args.numbering.now.count c.in_ok-triples.triples.items) (sym (ap length (c.in_ok-labels.ensures ∙ c.labels-2.ensures)))
+    subst (λ n. InRange n 0 c.args.numbering.now.count c.in_ok-shown.shown) (sym (ap length (c.in_ok-labels.ensures ∙ c.labels-2.ensures)))
     (quotient_in_range _ _ _ _ _ _ parts less)
 
 pub returns-clause-quotient : goal.returns-clause-quotient
 returns-clause-quotient g c =
     let goals = goal.at.returns-clause-quotient g c in
     let at = goals.After-dropped-dropped in
-    let parts = Parts-shown c.args.r c.args.l.now c.args.numbering.now c.sources-sources.result.now c.dropped-dropped.result c.in_ok-triples.triples.items
-    c.in_ok-members.members.items (laws g at) c.requires.numbering (enough g at) (drops g at) (are g goals.In_ok-members) (shown g goals.In_ok-triples) in
-    let built = c.build.ensures in
+    let parts = Parts-shown c.args.r c.args.l.now c.args.numbering.now c.sources-sources.result.now c.dropped-dropped.result c.in_ok-shown.shown
+    c.in_ok-members.members.items (laws g at) c.requires.numbering (enough g at) (drops g at) (are g goals.In_ok-members) (shown g goals.In_ok-shown) in
+    let built = c.of.ensures in
     IfOk-quotient _ _ _ _ _ _ parts c.in_ok-labels.labels (c.in_ok-labels.ensures ∙ c.labels-2.ensures)
-    c.build.result built.first built.states built.labels built.grouping
+    c.of.result built.first built.states built.labels built.grouping
 
 pub returns-clause-fewer_transitions : goal.returns-clause-fewer_transitions
 returns-clause-fewer_transitions g c =
     let goals = goal.at.returns-clause-fewer_transitions g c in
     let all = few g goals.In_ok-members in
-    let has = shown g goals.In_ok-triples in
-    IfOk-weaker c.build.result (λ q. IsGrouping c.in_ok-triples.triples.items q.places) (λ q. length q.places ≤ length c.args.l.now.places)
-    (λ q grouping. omega (arith, length_permutation c.in_ok-triples.triples.items q.places grouping.same, has.few, all)) c.build.ensures.grouping
+    let has = shown g goals.In_ok-shown in
+    IfOk-weaker c.of.result (λ q. IsGrouping c.in_ok-shown.shown q.places) (λ q. length q.places ≤ length c.args.l.now.places)
+    (λ q grouping. omega (arith, length_permutation c.in_ok-shown.shown q.places grouping.same, has.few, all)) c.of.ensures.grouping
 
-pub returns-in_err-triples-clause-visits : goal.returns-in_err-triples-clause-visits
-returns-in_err-triples-clause-visits g c =
-    visits_at_most _ _ _ _ (few g (goal.at.returns-in_err-triples-clause-visits g c).In_ok-members) (rw c.deref-4.ensures.value at c.shown_triples.ensures.visits)
+pub returns-in_err-shown-clause-visits : goal.returns-in_err-shown-clause-visits
+returns-in_err-shown-clause-visits g c =
+    visits_at_most _ _ _ _ (few g (goal.at.returns-in_err-shown-clause-visits g c).In_ok-members) (rw c.deref-4.ensures.value at c.shown_transitions.ensures.visits)
 
 pub returns-in_err-labels-clause-visits : goal.returns-in_err-labels-clause-visits
 returns-in_err-labels-clause-visits g c =
-    visits_at_most _ _ _ _ (few g (goal.at.returns-in_err-labels-clause-visits g c).In_ok-members) (rw c.deref-4.ensures.value at c.shown_triples.ensures.visits)
+    visits_at_most _ _ _ _ (few g (goal.at.returns-in_err-labels-clause-visits g c).In_ok-members) (rw c.deref-4.ensures.value at c.shown_transitions.ensures.visits)
 
 pub returns-clause-visits : goal.returns-clause-visits
 returns-clause-visits g c =
-    visits_at_most _ _ _ _ (few g (goal.at.returns-clause-visits g c).In_ok-members) (rw c.deref-4.ensures.value at c.shown_triples.ensures.visits)
+    visits_at_most _ _ _ _ (few g (goal.at.returns-clause-visits g c).In_ok-members) (rw c.deref-4.ensures.value at c.shown_transitions.ensures.visits)
