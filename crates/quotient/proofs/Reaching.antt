@@ -1,5 +1,5 @@
 -- What a step of the search leaves: its marks, and what is still to be read.
-use Rattle.std.proofs.Common.{◌≡◌, ◌≢◌, ◌⊎◌, ◌∙◌, ◌↔◌, ℕ, zero, suc, ◌+◌, ◌<◌, ◌≤◌, Bool, true, false, cond, not, ◌&&◌, eqb, ltb, List, [], ◌∷◌, length, get_or, set, replicate, Contains, sym, ap, subst, refl, inl, inr, arith}
+use Rattle.std.proofs.Common.{◌≡◌, ◌≢◌, ◌⊎◌, ◌∙◌, ◌↔◌, ℕ, zero, suc, ◌+◌, ◌<◌, ◌≤◌, Bool, true, false, cond, not, ◌&&◌, eqb, ltb, List, [], ◌∷◌, length, get_or, set, replicate, Contains, sym, ap, subst, refl, inl, inr, arith, rules}
 use Rattle.std.specs.List.{filter}
 use Rattle.std.proofs.lemmas.Grind.{get_or-set_at}
 use Rattle.std.proofs.lemmas.Bool.{cases_eq, cases_lt, both_ways, eq-eqb, ne_eqb, lt-ltb, le-ltb, false_from_ne_true}
@@ -118,17 +118,9 @@ Searches-mark g t next old waiting new pushed below reached search (inr h) =
 -- it waits after what waits already
 pub MarksState-after : (s t next : ℕ) (old : List Bool) (queue : List ℕ) (new : List Bool) (pushed : List ℕ) →
     MarksState t next old queue new pushed → MarksState t next old (s ∷ queue) new (s ∷ pushed)
-MarksState-after s t next old queue new pushed marks = elim marks [
-  | inl h ↦ inl (h.0, h.1, ap (λ ws. s ∷ ws) h.2)
-  | inr h ↦ inr (
-    h.0,
-    h.1,
-    elim h.2 [
-      | inl w ↦ inl (w.0, ap (λ ws. s ∷ ws) w.1)
-      | inr w ↦ inr (w.0, ap (λ ws. s ∷ ws) w.1)
-    ],
-  )
-]
+MarksState-after s t next old queue new pushed (inl h) = inl (h.0, h.1, ap (λ ws. s ∷ ws) h.2)
+MarksState-after s t next old queue new pushed (inr (unmarked, sets, inl w)) = inr (unmarked, sets, inl (w.0, ap (λ ws. s ∷ ws) w.1))
+MarksState-after s t next old queue new pushed (inr (unmarked, sets, inr w)) = inr (unmarked, sets, inr (w.0, ap (λ ws. s ∷ ws) w.1))
 
 -- the whole row of s was read
 pub Searches-read : (g : Grouped) (s next : ℕ) (marked : List Bool) (queue : List ℕ) → ((a : List ℕ) (t : ℕ) → Step (system_of g) s a t → IsMarked marked t) →
@@ -211,15 +203,8 @@ next_ahead s marked u unmarked = elim (cases_lt u s) [
 module _ (old new : ℕ → Bool) (t : ℕ) (before : old t ≡ true) (after : new t ≡ false) (elsewhere : (s : ℕ) → s ≢ t → new s ≡ old s) where
   one_less : (s : ℕ) → cond (old s) 1 0 ≡ cond (new s) 1 0 + cond (eqb s t) 1 0
   one_less s = elim (cases_eq s t) [
-    | inl e ↦
-        let then : old s ≡ true = ap old e ∙ before in
-        let now : new s ≡ false = ap new e ∙ after in
-        let here : eqb s t ≡ true = eq-eqb s t e in
-        rw (then, now, here) refl
-    | inr d ↦
-        let same : new s ≡ old s = elsewhere s d in
-        let other : eqb s t ≡ false = ne_eqb s t d in
-        rw (same, other) (omega arith)
+    | inl e ↦ rw (ap old e ∙ before, ap new e ∙ after, eq-eqb s t e) refl
+    | inr d ↦ rw (elsewhere s d, ne_eqb s t d) (omega arith)
   ]
 
   places_less : (es : List Triple) → length (filter (λ e. old (source_of e)) es) ≡ length (filter (λ e. new (source_of e)) es) + length (row_of t es)
@@ -276,31 +261,15 @@ states_ahead-marks t next old waiting new pushed l (inr h) =
 pub places_ahead-first : (places : List Triple) (next : ℕ) (marked : List Bool) → places_ahead places next marked [] ≤ length places
 places_ahead-first places next marked =
     let p = λ (e : Triple). is_ahead next marked (source_of e) in
-    let counted = length-filter p places in
-    let few = count_by-le-length p places in
-    omega arith
+    omega (arith, length-filter p places, count_by-le-length p places)
 
 -- a row more is read
 
 pub room_for_row : {old mid : Counts} {all before row : ℕ} → HasRoomFor old 0 all → ReadsOnce old mid all before → row ≤ before → HasRoomFor mid 0 row
-room_for_row room reads within = record {
-  for_rounds = omega (arith, room.for_rounds, reads.visits.rounds);
-  for_visits = omega (arith, room.for_visits, reads.few, reads.visits.at_most, within);
-}
+room_for_row room reads within = search rules
 
 pub ReadsOnce-row : {old mid new : Counts} {all before row ahead : ℕ} → ReadsOnce old mid all before → before ≡ ahead + row → Costs mid new 0 0 row → ReadsOnce old new all ahead
-ReadsOnce-row reads e costs = record {
-  few = omega (arith, reads.few, e);
-  visits = record {
-    rounds = omega (arith, reads.visits.rounds, costs.rounds);
-    at_least = omega (arith, reads.visits.at_least, costs.at_least);
-    at_most = omega (arith, reads.few, reads.visits.at_most, costs.at_most, e);
-  };
-}
+ReadsOnce-row reads e costs = record { few = omega (arith, reads.few, e); visits = search rules }
 
 pub ReadsOnce-within : {old new : Counts} {all ahead : ℕ} → ReadsOnce old new all ahead → Costs old new 0 0 all
-ReadsOnce-within reads = record {
-  rounds = reads.visits.rounds;
-  at_least = reads.visits.at_least;
-  at_most = omega (arith, reads.few, reads.visits.at_most);
-}
+ReadsOnce-within reads = search rules
