@@ -1,11 +1,11 @@
-//! Which states are reachable, by a search with a queue of the states whose rows are still to be read. Most models are numbered
-//! as such a search found their states, so the rows are read as they lie in memory.
+//! Which states are reachable. The search goes over the states in their order, so that the rows are read as they lie in memory;
+//! only what is marked behind it waits in a queue.
 ghost use Rattle.std.specs.Prelude.{◌≡◌, ◌↔◌, ℕ, ◌+◌, ◌<◌, ◌≤◌, ◌∷◌, length, IfOk, OnOk};
 ghost use Rattle.theory.specs.System.{Reachable};
 ghost use Rattle.lts.specs.Meter.{HasRoomFor, Costs};
 ghost use Rattle.lts.specs.Lts.{row_of, system_of};
 ghost use Rattle.quotient.specs.Marked.{IsMarked};
-ghost use Rattle.quotient.specs.Search.{MarksState, Searches, states_ahead, places_ahead};
+ghost use Rattle.quotient.specs.Search.{MarksState, Searches, ReadsOnce, states_ahead, places_ahead};
 
 use lts::{Lts, Memory, Meter};
 use std::alloc::Global;
@@ -22,13 +22,9 @@ pub fn reachable<M: Meter>(alloc: Global, l: &Lts<M>, m: &mut M) -> Result<Vec<b
     ensures visits { Costs (M.counted m.old) (M.counted m.new) 0 0 (length l.now.places) }
 {
     theory::steps_keep_reachable();
-    let mut search = Search {
-        marked: vec![in alloc; false; l.states() as usize]?,
-        queue: VecDeque::new(alloc),
-    };
-    search.mark(l.first())?;
+    let mut search = Search::over_states(alloc, l, m)?;
     while let Some(s) = search.queue.pop_front() {
-        search.mark_targets(l, s, m)?;
+        search.mark_targets(l, s, l.states(), m)?;
     }
     Ok(search.marked)
 }
@@ -41,28 +37,61 @@ struct Search {
 }
 
 impl Search {
-    /// Marks the state `s` and appends it to the queue, unless it was marked before.
-    fn mark(&mut self, s: u32) -> Result<(), Memory>
+    /// The search once it has gone over the states in their order: only the rows of those that wait are still to be read.
+    fn over_states<M: Meter>(alloc: Global, l: &Lts<M>, m: &mut M) -> Result<Search, Memory>
+        requires room { HasRoomFor (M.counted m.old) 0 (length l.now.places) }
+        ensures search { IfOk result (λ s. Searches l.now s.marked.items l.now.states s.queue.items) }
+        ensures reads { let ahead = λ (s : Search). places_ahead l.now.places l.now.states s.marked.items s.queue.items in
+            IfOk result (λ s. ReadsOnce (M.counted m.old) (M.counted m.new) (length l.now.places) (ahead s)) }
+
+        // In either case.
+        ensures visits { Costs (M.counted m.old) (M.counted m.new) 0 0 (length l.now.places) }
+    {
+        theory::steps_keep_reachable();
+        let mut search = Search {
+            marked: vec![in alloc; false; l.states() as usize]?,
+            queue: VecDeque::new(alloc),
+        };
+        search.marked[l.first() as usize] = true;
+        for s in 0..l.states() {
+            if !search.marked[s as usize] {
+                continue;
+            }
+            search.mark_targets(l, s, s + 1, m)?;
+        }
+        Ok(search)
+    }
+
+    /// Marks the state `s`, unless it was marked before. If the search has passed it, before `next`, it waits.
+    fn mark(&mut self, s: u32, next: u32) -> Result<(), Memory>
         requires { s < length self.old.marked.items }
-        ensures { let marks = MarksState s self.old.marked.items self.old.queue.items in
+        ensures { let marks = MarksState s next self.old.marked.items self.old.queue.items in
             OnOk result (marks self.new.marked.items self.new.queue.items) }
     {
-        if !self.marked[s as usize] {
-            self.marked[s as usize] = true;
+        if self.marked[s as usize] {
+            return Ok(());
+        }
+        self.marked[s as usize] = true;
+        if s < next {
             self.queue.push_back(s)?;
         }
         Ok(())
     }
 
-    /// Marks the states that the steps of `s` lead to.
-    fn mark_targets<M: Meter>(&mut self, l: &Lts<M>, s: u32, m: &mut M) -> Result<(), Memory>
-        requires search { Searches l.now self.old.marked.items (s ∷ self.old.queue.items) }
+    /// Marks the states that the steps of `s` lead to, when the search has passed those before `next`.
+    fn mark_targets<M: Meter>(
+        &mut self,
+        l: &Lts<M>,
+        s: u32,
+        next: u32,
+        m: &mut M,
+    ) -> Result<(), Memory>
+        requires search { Searches l.now self.old.marked.items next (s ∷ self.old.queue.items) }
         requires room { HasRoomFor (M.counted m.old) 0 (length (row_of s l.now.places)) }
-        ensures search { OnOk result (Searches l.now self.new.marked.items self.new.queue.items) }
-        ensures kept { OnOk result ((t : ℕ) → IsMarked self.old.marked.items t → IsMarked self.new.marked.items t) }
+        ensures search { OnOk result (Searches l.now self.new.marked.items next self.new.queue.items) }
         ensures states { let ahead = λ (s : Search). states_ahead s.marked.items s.queue.items in
-            OnOk result (ahead self.new ≡ ahead self.old) }
-        ensures places { let ahead = λ (s : Search). places_ahead l.now.places s.marked.items s.queue.items in
+            OnOk result (ahead self.new ≤ ahead self.old) }
+        ensures places { let ahead = λ (s : Search). places_ahead l.now.places next s.marked.items s.queue.items in
             OnOk result (ahead self.new ≡ ahead self.old) }
         ensures visits { Costs (M.counted m.old) (M.counted m.new) 0 0 (length (row_of s l.now.places)) }
     {
@@ -73,7 +102,7 @@ impl Search {
         let (start, end) = l.row(s);
         for k in start..end {
             let (_, target) = l.edge(k, m);
-            self.mark(target)?;
+            self.mark(target, next)?;
         }
         Ok(())
     }

@@ -12,7 +12,7 @@ use Rattle.quotient.proofs.search.Search.mark_targets.Goals as goal
 use Rattle.quotient.proofs.search.Search.mark_targets.Goals.{In_ok-mark}
 
 pub row-start-requires : goal.row-start-requires
-row-start-requires g c = Searches-below c.args.l.now c.args.self.now.marked.items c.args.s c.args.self.now.queue.items c.requires.search
+row-start-requires g c = Searches-below c.args.l.now c.args.self.now.marked.items c.args.next c.args.s c.args.self.now.queue.items c.requires.search
 
 -- the state that is marked is one of the system
 module _ (g : Over) (c : In_ok-mark g) where
@@ -25,7 +25,7 @@ module _ (g : Over) (c : In_ok-mark g) where
   below : c.edge-target.result.1 < length c.loop-k.self.marked.items
   below = omega (arith, state, c.loop-k.invariant.search.size)
 
-  goes_on : Searches c.args.l.now c.mark.new.self.marked.items (c.args.s ∷ c.mark.new.self.queue.items)
+  goes_on : Searches c.args.l.now c.mark.new.self.marked.items c.args.next (c.args.s ∷ c.mark.new.self.queue.items)
   goes_on =
       let l = c.args.l.now in
       let s = c.args.s in
@@ -37,9 +37,9 @@ module _ (g : Over) (c : In_ok-mark g) where
       let a = text_of l.labels (label_of e) in
       let step = (c.rows_are_steps.ensures.steps l s a c.edge-target.result.1).1 (e, in_row, refl, sym c.edge-target.ensures.target) in
       let from = c.loop-k.invariant.search.only_reachable s (c.loop-k.invariant.search.each_waiting s (contains_here s old.queue.items)) in
-      Searches-mark l c.edge-target.result.1 old.marked.items (s ∷ old.queue.items) _ _ below
+      Searches-mark l c.edge-target.result.1 c.args.next old.marked.items (s ∷ old.queue.items) _ _ below
       (c.steps_keep_reachable.ensures.step (system_of l) s a c.edge-target.result.1 from step)
-      c.loop-k.invariant.search (MarksState-after s c.edge-target.result.1 old.marked.items old.queue.items _ _ c.in_ok-mark.ensures)
+      c.loop-k.invariant.search (MarksState-after s c.edge-target.result.1 c.args.next old.marked.items old.queue.items _ _ c.in_ok-mark.ensures)
 
   -- the targets of the row up to and with this one are marked
   marks : (start end : ℕ) → IsRow c.args.l.now.places c.args.s start end → start ≤ c.loop-k.k → c.loop-k.k < end →
@@ -49,8 +49,8 @@ module _ (g : Over) (c : In_ok-mark g) where
       let t = c.edge-target.result.1 in
       let old = c.loop-k.self in
       let marked = λ (e : Triple). IsMarked c.mark.new.self.marked.items (target_of e) in
-      let keeps = MarksState-keeps t old.marked.items old.queue.items _ _ c.in_ok-mark.ensures below in
-      let now = MarksState-self t old.marked.items old.queue.items _ _ c.in_ok-mark.ensures below in
+      let keeps = MarksState-keeps t c.args.next old.marked.items old.queue.items _ _ c.in_ok-mark.ensures below in
+      let now = MarksState-self t c.args.next old.marked.items old.queue.items _ _ c.in_ok-mark.ensures below in
       subst (All marked) (sym (c.rows_follow.ensures.inside c.args.l.now.places c.args.s start end c.loop-k.k row low high))
       (All-push marked _ (place_at c.args.l.now.places c.loop-k.k) (All-weaker _ marked (λ e m. keeps (target_of e) m) _ read)
       (subst (IsMarked c.mark.new.self.marked.items) c.edge-target.ensures.target now))
@@ -62,10 +62,9 @@ loop-k-preserved g c =
     let t = c.edge-target.result.1 in
     record {
       search = goes_on g at;
-      kept = λ u m. MarksState-keeps t old.marked.items old.queue.items _ _ c.in_ok-mark.ensures (below g at) u (c.loop-k.invariant.kept u m);
       read = marks g at _ _ c.row-start.ensures (omega (arith, c.loop-k.auto.k)) (omega arith) c.loop-k.invariant.read;
-      states = states_ahead-marks t old.marked.items old.queue.items _ _ (below g at) c.in_ok-mark.ensures ∙ c.loop-k.invariant.states;
-      places = places_ahead-marks c.args.l.now.places t old.marked.items old.queue.items _ _ (below g at) c.in_ok-mark.ensures ∙ c.loop-k.invariant.places;
+      states = omega (arith, states_ahead-marks t c.args.next old.marked.items old.queue.items _ _ (below g at) c.in_ok-mark.ensures, c.loop-k.invariant.states);
+      places = places_ahead-marks c.args.l.now.places t c.args.next old.marked.items old.queue.items _ _ (below g at) c.in_ok-mark.ensures ∙ c.loop-k.invariant.places;
       visits = let range = c.loop-k.auto.k in search rules;
     }
 
@@ -76,6 +75,6 @@ returns-clause-search g c =
     let marked = λ (e : Triple). IsMarked c.loop-k.self.marked.items (target_of e) in
     let whole = take_all (c.loop-k.k - c.row-start.result.0) row (omega (arith, c.row-start.ensures.count, c.loop-k-test.false)) in
     let all : All marked row = subst (All marked) whole c.loop-k.invariant.read in
-    Searches-read l c.args.s c.loop-k.self.marked.items c.loop-k.self.queue.items
+    Searches-read l c.args.s c.args.next c.loop-k.self.marked.items c.loop-k.self.queue.items
     (λ a t step. let (e, in_row, label, target) = (c.rows_are_steps.ensures.steps l c.args.s a t).0 step in
     subst (IsMarked c.loop-k.self.marked.items) target (All-contains marked row e all in_row)) c.loop-k.invariant.search
