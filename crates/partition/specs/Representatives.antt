@@ -2,10 +2,9 @@
 -- list. Those of one key in each block keep its number. The least state with another key is a representative, whose number tells the new
 -- block. Representatives are looked up by their keys: the first
 -- one with a list is in the slot of this list, the others in buckets. Those in one bucket are chained, from the last one down.
-use Rattle.std.specs.Prelude.{◌≡◌, ◌⊎◌, ℕ, ◌+◌, ◌-◌, ◌/◌, ◌^◌, ◌++◌, ◌∷◌, ◌<◌, ◌≤◌, min, cond, eqb, Bool, false, IsTrue, List, [], length, slice_index, slice_index_or}
+use Rattle.std.specs.Prelude.{◌≡◌, ◌⊎◌, ℕ, ◌+◌, ◌-◌, ◌/◌, ◌^◌, ◌++◌, ◌∷◌, ◌<◌, ◌≤◌, min, cond, eqb, List, [], length, slice_index, slice_index_or}
 use Rattle.partition.specs.declared.splitter.Representative.{Representative}
-use Rattle.partition.specs.Splitting.{IsAlone}
-use Rattle.partition.specs.Blocks.{AreLive, IsOne, HaveNone}
+use Rattle.partition.specs.Blocks.{IsOne}
 use Rattle.buckets.specs.Chains.{bucket_of_tag, IsChained}
 use Rattle.lists.specs.Spans.{hash_of}
 
@@ -78,15 +77,6 @@ IsNewKey chain key = (r : ℕ) → IsRepresentative chain r → key_at chain r �
 abbrev pub GoesTo : Key → List Representative → List Representative → ℕ → Type 0
 GoesTo key old new r = (HasRepresentative old key r × (new ≡ old))
     ⊎ ((r ≡ length old) × ((representative : Representative) × (new ≡ old ++ representative ∷ []) × (key_of representative ≡ key)))
-
--- of the states that are looked at those that have a list: the others have the empty one, and are alone in their blocks, or in one that
--- is noted for it
-pub record AreListed (old numbers live listed : List ℕ) (empty : List Bool) : Type 0 where
-  pub rising : AreLive (length old) listed
-  pub were : (s : ℕ) → IsOne listed s → IsOne live s
-  pub none : HaveNone listed numbers
-  pub others : (s : ℕ) → s < length old → IsOne listed s ⊎ IsAlone old s ⊎ IsTrue (slice_index_or empty (slice_index old s) false)
-  pub noted : (s : ℕ) → s < length old → IsTrue (slice_index_or empty (slice_index old s) false) → (u : ℕ) × (u < length old) × (slice_index old u ≡ slice_index old s) × (slice_index numbers u ≡ 0)
 
 -- the list of the state s is the one that stands for its block, whose number the state keeps
 abbrev pub KeepsNumber : List ℕ → List ℕ → List ℕ → ℕ → Type 0
