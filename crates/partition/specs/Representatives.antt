@@ -25,8 +25,8 @@ abbrev pub bucket_of_key : ℕ → Key → ℕ
 bucket_of_key heads key = heads / 2 + bucket_of_tag (heads / 2) (hash_of key / 2 ^ 32)
 
 -- where a new representative with the key goes: to the slot of its list if that is free, or to its bucket
-abbrev pub IsPlace : List ℕ → Key → ℕ → Type 0
-IsPlace heads key b = ((b ≡ slot_of (length heads) key.1) × (in_slot heads key.1 ≡ 0)) ⊎ ((b ≡ bucket_of_key (length heads) key) × (0 < in_slot heads key.1))
+abbrev pub IsNewPlace : List ℕ → Key → ℕ → Type 0
+IsNewPlace heads key b = ((b ≡ slot_of (length heads) key.1) × (in_slot heads key.1 ≡ 0)) ⊎ ((b ≡ bucket_of_key (length heads) key) × (0 < in_slot heads key.1))
 
 -- where the representative number r with the key is: in the slot of its list, if that has this number, or in its bucket
 abbrev pub place_of : List ℕ → Key → ℕ → ℕ
