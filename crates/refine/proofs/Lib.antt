@@ -4,3 +4,4 @@ pub mod Spending
 pub mod StrongRow
 pub mod EachList
 pub mod Living
+pub mod Noting

@@ -1,7 +1,7 @@
 -- The states that a round looks at: one more, and their lists.
 use Rattle.std.proofs.Common.{◌≡◌, ◌⊎◌, ◌↔◌, ◌∙◌, ℕ, ◌+◌, ◌<◌, ◌≤◌, List, [], ◌∷◌, ◌++◌, length, slice_index, set, Contains, ap, sym, subst, refl, inl, inr, arith}
-use Rattle.std.proofs.lemmas.Bool.{cases_lt}
-use Rattle.std.proofs.lemmas.List.{length_push, get_or_append_left, get_or_push, get_or-set_same, get_or-set_other, get_or_default}
+use Rattle.std.proofs.lemmas.Bool.{cases_lt, cases_eq}
+use Rattle.std.proofs.lemmas.List.{length_push, get_or_append_left, get_or_push, get_or-set_same, get_or-set_other, get_or_default, length-set}
 use Rattle.theory.specs.System.{Step}
 use Rattle.lts.specs.Labels.{text_of}
 use Rattle.lts.specs.Lts.{Grouped, Triple, label_of, target_of, row_of, system_of}
@@ -104,6 +104,16 @@ module _ (lists lists' : List (List (ℕ × ℕ))) (numbers live : List ℕ) (st
           subst (P (slice_index live i)) (sym (ap (list_at lists') same)) this,
         )
   ]
+
+-- one of those that are looked at gets a number
+pub none_more : (numbers live : List ℕ) (i k : ℕ) → i < length live → HaveNone live numbers → HaveNone live (set numbers (slice_index live i) k)
+none_more numbers live i k more none t h = elim (cases_eq t (slice_index live i)) [
+  | inl e ↦ inl (i, more, sym e)
+  | inr d ↦ elim (none t (omega (arith, h, length-set numbers (slice_index live i) k))) [
+    | inl one ↦ inl one
+    | inr zero ↦ inr (get_or-set_other numbers (slice_index live i) t k 0 d ∙ zero)
+  ]
+]
 
 -- the lists of all that are looked at, and the others have the empty one
 module _ (lists : List (List (ℕ × ℕ))) (numbers live : List ℕ) (none : HaveNone live numbers) (P : ℕ → List (ℕ × ℕ) → Type 0)

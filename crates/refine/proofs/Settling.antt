@@ -15,6 +15,7 @@ use Rattle.inert.specs.Signed.{HasPair, IsSignature, LeavesOut}
 use Rattle.refine.specs.Rounds.{IsNext}
 use Rattle.refine.specs.EachList.{list_of}
 use Rattle.refine.specs.Settled.{IsTouched, IsStill, Settled, IsPut, ArePut}
+use Rattle.refine.specs.Noting.{Noted, Watches}
 use Rattle.refine.proofs.Living.{no_step}
 use Rattle.refine.proofs.EqualLists.{Labelled, equal_lists}
 
@@ -175,8 +176,8 @@ module _ (rel : Relation) (l : Grouped) (sys : IsSystem (system_of l)) (labelled
       let h = splits.parts (omega (arith, d, grows)) in
       h.5 ((alike h.0 h.1 (omega (arith, h.2, states)) (omega (arith, h.3, states))).1 h.4)
 
-  pub IsNext-from : q.low ≡ p.count → q.live ≡ p.live → IsNext rel l p q
-  IsNext-from low live = record {
+  pub IsNext-from : (noted : Noted) → Watches rel l q noted → q.low ≡ p.count → q.live ≡ p.live → IsNext rel l p q noted
+  IsNext-from noted watches low live = record {
     states = splits.states ∙ states;
     split = split;
     blocks = splits.blocks;
@@ -185,6 +186,7 @@ module _ (rel : Relation) (l : Grouped) (sys : IsSystem (system_of l)) (labelled
     settled =
         subst (Settled rel (system_of l) (slice_index q.of)) (sym low) (
         settled_next rel (system_of l) (slice_index p.of) (slice_index q.of) p.count (λ s a t step. (step_below (system_of l) sys s a t step).1) stays split);
+    watches = watches;
     grows = splits.grows;
     stays = stays;
     same = same;

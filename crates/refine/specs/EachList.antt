@@ -3,6 +3,7 @@ use Rattle.std.specs.Prelude.{◌≡◌, ℕ, ◌≤◌, List, length, map, slic
 use Rattle.lts.specs.declared.limits.TheConstants.{MOST_STATES}
 use Rattle.lists.specs.Lists.{list_at, AreNumbers}
 use Rattle.partition.specs.Blocks.{RoundBlocks, HaveNone}
+use Rattle.refine.specs.Noting.{Noted}
 
 -- the list of the state s, if the states have these numbers
 abbrev pub list_of : List (List (ℕ × ℕ)) → List ℕ → ℕ → List (ℕ × ℕ)
@@ -18,11 +19,12 @@ pub record AreListsOfStates (lists : List (List (ℕ × ℕ))) (numbers : List �
   pub some : 1 ≤ length numbers
   pub few : length numbers ≤ MOST_STATES
 
--- the blocks of a round, lists, and for each state the number of its list
+-- the blocks of a round, lists, for each state the number of its list, and what was noted
 pub record Signed : Type 0 where
   pub blocks : RoundBlocks
   pub lists : List (List (ℕ × ℕ))
   pub numbers : List ℕ
+  pub entering : Noted
 
 -- each state of the blocks has a list, and one that is not looked at the empty one
 pub record HaveLists (of live : List ℕ) (lists : List (List (ℕ × ℕ))) (numbers : List ℕ) : Type 0 where

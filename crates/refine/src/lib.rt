@@ -3,6 +3,7 @@
 #![tactic(auto)]
 
 mod branching;
+mod entering;
 mod one_round;
 mod refinement;
 mod scratch;

@@ -142,7 +142,13 @@ fn sign<M: Meter>(
 {
     lts::rows_are_steps();
     l.known();
-    let under = NewBlocks { l, of: p, low: 0 };
+    let under = NewBlocks {
+        l,
+        of: p,
+        low: 0,
+        marks: &[],
+        noting: false,
+    };
     read(&under, s, pairs, m)?;
     order(pairs);
     Ok(())

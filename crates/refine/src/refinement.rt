@@ -8,6 +8,7 @@ ghost use Rattle.partition.specs.Partition.{IsSomePartition};
 ghost use Rattle.partition.specs.Blocks.{IsOne, AreLive};
 ghost use Rattle.inert.specs.Signed.{LeavesOut};
 ghost use Rattle.refine.specs.Settled.{Settled};
+ghost use Rattle.refine.specs.Noting.{Watches};
 ghost use Rattle.refine.specs.Rounds.{IsNext};
 
 use crate::one_round::Sense;
@@ -85,10 +86,11 @@ fn next_round<S: Signing, M: Meter>(
     requires states { length round.blocks.of ≡ l.now.states }
     requires settled { Settled S.relation (system_of l.now) (slice_index round.blocks.of) round.blocks.low }
     requires others { LeavesOut l.now round.blocks.of round.blocks.live }
+    requires watches { Watches S.relation l.now round.blocks round.entering }
     requires room { HasRoomFor (M.counted m.old) 1 (length l.now.places) }
 
     // Once it is done
-    ensures next { IfOk result (λ q. IsNext S.relation l.now round.blocks q.blocks) }
+    ensures next { IfOk result (λ q. IsNext S.relation l.now round.blocks q.blocks q.entering) }
     ensures costs { let n = length l.now.places in OnOk result (Costs (M.counted m.old) (M.counted m.new) 1 n n) }
 
     // After a refusal

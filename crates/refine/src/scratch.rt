@@ -7,6 +7,10 @@ use std::alloc::Global;
 pub struct Scratch {
     pub(crate) pairs: Vec<(u32, u32)>,
     pub(crate) signer: Signer,
+    /// The transitions that a round notes: target, label number, source.
+    pub(crate) notes: Vec<(u32, u32, u32)>,
+    /// How many states the last round has read that lead to a new number. It decides alone when to note.
+    pub(crate) touched: u32,
 }
 
 /// Written out, so that it is dropped by one call and not by one for each part.
@@ -15,6 +19,8 @@ impl Drop for Scratch {
         let Scratch {
             pairs: _,
             signer: _,
+            notes: _,
+            touched: _,
         } = self;
     }
 }
@@ -25,6 +31,8 @@ impl Scratch {
         Scratch {
             pairs: Vec::new(alloc),
             signer: Signer::new(alloc),
+            notes: Vec::new(alloc),
+            touched: 0,
         }
     }
 }

@@ -1,25 +1,28 @@
 //! The blocks of a round, and the signature of each state under them.
-ghost use Rattle.std.specs.Prelude.{◌≡◌, ◌∷◌, [], IfOk};
+ghost use Rattle.std.specs.Prelude.{◌≡◌, ◌∷◌, [], length, IfOk};
 ghost use Rattle.lists.specs.Lists.{AreLists};
 ghost use Rattle.partition.specs.Partition.{AreBlocks};
 ghost use Rattle.partition.specs.Blocks.{LeavesAlone};
 ghost use Rattle.partition.specs.Splitting.{Splits};
 ghost use Rattle.refine.specs.EachList.{HaveLists, list_of};
+ghost use Rattle.refine.specs.Noting.{AreMarked};
 
+use crate::entering::Entering;
 use lists::{EMPTY, Lists};
 use lts::Memory;
 use partition::Blocks;
 use std::alloc::Global;
 use std::marker::Model;
 
-/// The blocks of a round, and the signatures: lists, and the number of each state's list. A state that the round does not look
-/// at has the empty one.
+/// The blocks of a round, the transitions that were noted, and the signatures: lists, and the number of each state's list. A state
+/// that the round does not look at has the empty one.
 #[derive(Drop)]
 pub struct SignedBlocks {
     pub(crate) alloc: Global,
     pub(crate) blocks: Blocks,
     pub(crate) lists: Lists,
     pub(crate) numbers: Vec<u32>,
+    pub(crate) entering: Entering,
 }
 
 impl Model for SignedBlocks {
@@ -27,7 +30,7 @@ impl Model for SignedBlocks {
 
     ghost Value = { Signed };
 
-    ghost view = { λ r. record { blocks = r.blocks; lists = r.lists; numbers = r.numbers.items } };
+    ghost view = { λ r. record { blocks = r.blocks; lists = r.lists; numbers = r.numbers.items; entering = r.entering } };
 
     ghost invariant = { λ r. HaveLists r.blocks.of r.blocks.live r.lists r.numbers.items };
 }
@@ -39,6 +42,7 @@ impl SignedBlocks {
     pub fn new(alloc: Global, blocks: Blocks) -> Result<SignedBlocks, Memory>
         ensures blocks { IfOk result (λ r. r.blocks ≡ blocks) }
         ensures empty { IfOk result (λ r. r.lists ≡ [] ∷ []) }
+        ensures nothing { IfOk result (λ r. (r.entering.groups ≡ []) × (length r.entering.marks ≡ 0)) }
     {
         let states = blocks.of().len();
         Ok(SignedBlocks {
@@ -46,6 +50,7 @@ impl SignedBlocks {
             blocks,
             numbers: vec![in alloc; EMPTY; states]?,
             lists: Lists::new(alloc, states as u32)?,
+            entering: Entering::new(alloc, 0, &[])?,
         })
     }
 
@@ -79,12 +84,14 @@ impl SignedBlocks {
     pub fn renew(self) -> Result<SignedBlocks, Memory>
         ensures same { IfOk result (λ r. r.blocks ≡ record self.blocks { live = r.blocks.live }) }
         ensures leaves { IfOk result (λ r. LeavesAlone self.blocks.of self.blocks.live r.blocks.live) }
+        ensures entering { IfOk result (λ r. r.entering ≡ self.entering) }
     {
         let SignedBlocks {
             alloc,
             blocks,
             lists,
             mut numbers,
+            entering,
         } = self;
         lists.known();
         let blocks = blocks.renew(alloc, &mut numbers)?;
@@ -93,10 +100,12 @@ impl SignedBlocks {
             blocks,
             lists,
             numbers,
+            entering,
         })
     }
 
-    /// Splits the blocks: two states stay together if their signatures are equal.
+    /// Splits the blocks: two states stay together if their signatures are equal. States that lead to new blocks are marked, if
+    /// transitions were noted.
     ///
     /// Fails if there is no memory for it.
     pub fn split(self) -> Result<SignedBlocks, Memory>
@@ -104,20 +113,24 @@ impl SignedBlocks {
             q.blocks.of q.blocks.count) }
         ensures low { IfOk result (λ q. q.blocks.low ≡ self.blocks.count) }
         ensures live { IfOk result (λ q. q.blocks.live ≡ self.blocks.live) }
+        ensures marked { IfOk result (λ q. AreMarked self.entering.groups q.blocks q.entering) }
     {
         let SignedBlocks {
             alloc,
             blocks,
             lists,
             numbers,
+            mut entering,
         } = self;
         lists.known();
         let blocks = blocks.split(alloc, lists.len(), &numbers)?;
+        entering.mark(&blocks);
         Ok(SignedBlocks {
             alloc,
             blocks,
             lists,
             numbers,
+            entering,
         })
     }
 }

@@ -1,21 +1,25 @@
 //! Strong bisimulation: a state's signature has what its transitions show, and the blocks that they lead to.
-ghost use Rattle.std.specs.Prelude.{◌≡◌, ◌↔◌, ◌+◌, ◌++◌, ◌∷◌, ◌<◌, [], length, map, slice_index, IsTrue, IfOk, OnOk};
+ghost use Rattle.std.specs.Prelude.{◌≡◌, ◌⊎◌, ◌↔◌, ◌+◌, ◌++◌, ◌∷◌, ◌<◌, ◌≤◌, [], length, map, slice_index, IsTrue, IfOk, OnOk};
+ghost use Rattle.std.specs.List.{All};
 ghost use Rattle.std.specs.Vec.{vec_len, vec_capacity};
 ghost use Rattle.theory.specs.declared.relation.Relation.TheVariants.{Strong as strong};
 ghost use Rattle.lts.specs.Meter.{HasRoomFor, Visits};
-ghost use Rattle.lts.specs.Lts.{row_of};
+ghost use Rattle.lts.specs.declared.limits.TheConstants.{MOST_TRANSITIONS};
+ghost use Rattle.lts.specs.Lts.{source_of, row_of};
 ghost use Rattle.lists.specs.Lists.{list_at, AreNumbers, Grow};
 ghost use Rattle.partition.specs.Blocks.{HaveNone};
 ghost use Rattle.inert.specs.Signed.{pair_under};
 ghost use Rattle.refine.specs.EachList.{list_of};
 ghost use Rattle.refine.specs.Settled.{HasFrom, IsPut, ArePut};
+ghost use Rattle.refine.specs.Noting.{IsMarked, IsUnder, AreNotes, turned, noted_of, groups_of};
 
+use crate::entering::Entering;
 use crate::scratch::Scratch;
 use crate::signed_blocks::SignedBlocks;
 use crate::signing::Signing;
 use lists::{EMPTY, Lists, order};
 use lts::{Lts, Memory, Meter, visit_places};
-use partition::Blocks;
+use std::alloc::Global;
 
 /// Strong bisimulation (Milner 1989).
 pub struct Strong;
@@ -29,65 +33,137 @@ impl Signing for Strong {
         scratch: &mut Scratch,
         m: &mut M,
     ) -> Result<SignedBlocks, Memory> {
+        lts::rows_are_steps();
+        let noting = begin_notes(l, &round, scratch, m)?;
         round.lists.clear();
-        sign_live(
+        let under = NewBlocks {
             l,
-            &round.blocks,
-            &mut scratch.pairs,
+            of: round.blocks.of(),
+            low: round.blocks.low(),
+            marks: round.entering.marks(),
+            noting,
+        };
+        let live = round.blocks.live();
+        sign_live(
+            &under,
+            live,
+            scratch,
             &mut round.lists,
             &mut round.numbers,
             m,
+        )?;
+        keep_notes(
+            noting,
+            l.states(),
+            &mut scratch.notes,
+            &mut round.entering,
+            round.alloc,
         )?;
         Ok(round)
     }
 }
 
-/// Puts the strong signatures of the states that a round looks at into `lists`, and their numbers there into `numbers`. The rows of
-/// the others lie between those of two neighbours, and are visited for their count alone.
+/// Whether this round notes the transitions that it reads, with room for them: once, and where the last round has read most rows for
+/// nothing. A first round does not, nor do early ones, after which there may be no more.
+///
+/// Fails if there is no memory for them.
+fn begin_notes<M: Meter>(
+    l: &Lts<M>,
+    round: &SignedBlocks,
+    scratch: &mut Scratch,
+    m: &M,
+) -> Result<bool, Memory> {
+    let few = (scratch.touched as usize) < round.blocks.live().len() / 2;
+    scratch.touched = 0;
+    if round.blocks.low() == 0 || m.rounds() < 4 || !few || !round.entering.marks().is_empty() {
+        return Ok(false);
+    }
+    scratch.notes = Vec::with_capacity(round.alloc, l.edges() as usize)?;
+    Ok(true)
+}
+
+/// Groups what a round has noted, if it has, and gives the notes' memory back.
+///
+/// Fails if there is no memory for it.
+fn keep_notes(
+    noting: bool,
+    states: u32,
+    notes: &mut Vec<(u32, u32, u32)>,
+    entering: &mut Entering,
+    alloc: Global,
+) -> Result<(), Memory>
+    requires few { length notes.old.items ≤ MOST_TRANSITIONS }
+    requires targets { All (λ x. source_of x < states) notes.old.items }
+    ensures { OnOk result ((entering.new ≡ entering.old)
+        ⊎ (IsTrue noting × (entering.new.groups ≡ groups_of states notes.old.items))) }
+{
+    if !noting {
+        return Ok(());
+    }
+    *entering = Entering::new(alloc, states, notes)?;
+    *notes = Vec::new(alloc);
+    Ok(())
+}
+
+/// Puts the strong signatures of these states into `lists`, and their numbers there into `numbers`. The rows of the other states, and
+/// of those that are not marked, lie between those of two neighbours, and are visited for their count alone.
 ///
 /// Fails if there is no memory for it.
 fn sign_live<M: Meter>(
-    l: &Lts<M>,
-    blocks: &Blocks,
-    pairs: &mut Vec<(u32, u32)>,
+    under: &NewBlocks<M>,
+    live: &[u32],
+    scratch: &mut Scratch,
     lists: &mut Lists,
     numbers: &mut [u32],
     m: &mut M,
 ) -> Result<(), Memory>
-    requires states { length blocks.now.of ≡ l.now.states }
+    requires under { IsUnder under.now.l.now under.now.of.now live.now under.now.low under.now.marks.now }
     requires lists { lists.old ≡ [] ∷ [] }
-    requires numbers { (length numbers.old ≡ l.now.states) × HaveNone blocks.now.live numbers.old }
-    requires room { HasRoomFor (M.counted m.old) 0 (length l.now.places) }
-    ensures signed { OnOk result (ArePut strong l.now blocks.now.of blocks.now.low blocks.now.live (list_of lists.new numbers.new)) }
-    ensures numbers { OnOk result (AreNumbers lists.new numbers.new × HaveNone blocks.now.live numbers.new) }
-    ensures visits { let n = length l.now.places in Visits M.counted m.old m.new result n n }
+    requires numbers { (length numbers.old ≡ under.now.l.now.states) × HaveNone live.now numbers.old }
+    requires room { HasRoomFor (M.counted m.old) 0 (length under.now.l.now.places) }
+    ensures signed { OnOk result (ArePut strong under.now.l.now under.now.of.now under.now.low live.now (list_of lists.new numbers.new)) }
+    ensures numbers { OnOk result (AreNumbers lists.new numbers.new × HaveNone live.now numbers.new) }
+    ensures notes { OnOk result (AreNotes under.now.noting under.now.l.now live.now scratch.new.notes.items) }
+    ensures visits { let n = length under.now.l.now.places in Visits M.counted m.old m.new result n n }
 {
     lts::rows_follow();
-    l.known();
-    let under = NewBlocks {
-        l,
-        of: blocks.of(),
-        low: blocks.low(),
-    };
-    let live = blocks.live();
+    lts::rows_are_steps();
+    under.l.known();
+    scratch.notes.clear();
     let mut next = 0;
     for i in 0..live.len() {
         let s = live[i];
-        let (start, end) = l.row(s);
-        visit_places(l, next, start, m);
+        if is_passed(under, s) {
+            lists.known();
+            numbers[s as usize] = EMPTY;
+            continue;
+        }
+        let (start, end) = under.l.row(s);
+        visit_places(under.l, next, start, m);
         next = end;
-        numbers[s as usize] = put(&under, s, pairs, lists, m)?;
+        numbers[s as usize] = put(under, s, scratch, lists, m)?;
     }
-    visit_places(l, next, l.edges(), m);
+    visit_places(under.l, next, under.l.edges(), m);
     Ok(())
 }
 
-/// What a row is read under: a system, the block of each state, and from which number on blocks are new.
+/// Whether the row of `s` need not be read: it leads to no new number, and is not noted.
+fn is_passed<M: Meter>(under: &NewBlocks<M>, s: u32) -> bool
+    ensures { IsTrue result → ¬ IsTrue under.now.noting × ¬ IsMarked under.now.marks.now s }
+{
+    let k = s as usize;
+    !under.noting && k < under.marks.len() && !under.marks[k]
+}
+
+/// What a row is read under: a system, the block of each state, from which number on blocks are new, the marks of the states that may
+/// lead there, and whether transitions are noted.
 #[derive(Drop)]
 pub(crate) struct NewBlocks<'a, M: Meter> {
     pub l: &'a Lts<M>,
     pub of: &'a [u32],
     pub low: u32,
+    pub marks: &'a [bool],
+    pub noting: bool,
 }
 
 /// Puts the strong signature of `s` into `lists` and returns its number there, or that of the empty list where `s` leads to no
@@ -97,7 +173,7 @@ pub(crate) struct NewBlocks<'a, M: Meter> {
 fn put<M: Meter>(
     under: &NewBlocks<M>,
     s: u32,
-    pairs: &mut Vec<(u32, u32)>,
+    scratch: &mut Scratch,
     lists: &mut Lists,
     m: &mut M,
 ) -> Result<u32, Memory>
@@ -107,18 +183,78 @@ fn put<M: Meter>(
     ensures within { IfOk result (λ k. k < length lists.new) }
     ensures put { IfOk result (λ k. IsPut strong under.now.l.now under.now.of.now under.now.low s (list_at lists.new k)) }
     ensures grow { Grow lists.old lists.new }
+    ensures notes { OnOk result (scratch.new.notes.items ≡ scratch.old.notes.items
+        ++ noted_of under.now.noting s (row_of s under.now.l.now.places)) }
     ensures visits { let n = length (row_of s under.now.l.now.places) in Visits M.counted m.old m.new result n n }
 {
     lts::rows_are_steps();
     under.l.known();
     lists.known();
-    let touched = read(under, s, pairs, m)?;
+    let touched = read_row(under, s, &mut scratch.pairs, &mut scratch.notes, m)?;
     if !touched {
         return Ok(EMPTY);
     }
-    order(pairs);
-    let list = lists.push(pairs)?;
+    scratch.touched = scratch.touched.saturating_add(1);
+    order(&mut scratch.pairs);
+    let list = lists.push(&scratch.pairs)?;
     Ok(list)
+}
+
+/// Reads the row of `s`, and notes it, if rows are noted.
+///
+/// Fails if there is no memory for it.
+#[inline(always)]
+fn read_row<M: Meter>(
+    under: &NewBlocks<M>,
+    s: u32,
+    pairs: &mut Vec<(u32, u32)>,
+    notes: &mut Vec<(u32, u32, u32)>,
+    m: &mut M,
+) -> Result<bool, Memory>
+    requires states { length under.now.of.now ≡ under.now.l.now.states }
+    requires state { s < under.now.l.now.states }
+    requires room { HasRoomFor (M.counted m.old) 0 (length (row_of s under.now.l.now.places)) }
+    ensures pairs { OnOk result (pairs.new.items ≡ map (pair_under under.now.of.now) (row_of s under.now.l.now.places)) }
+    ensures touched { IfOk result (λ touched. IsTrue touched ↔ HasFrom under.now.low pairs.new.items) }
+    ensures notes { OnOk result (notes.new.items ≡ notes.old.items ++ noted_of under.now.noting s (row_of s under.now.l.now.places)) }
+    ensures visits { let n = length (row_of s under.now.l.now.places) in Visits M.counted m.old m.new result n n }
+{
+    if under.noting {
+        return read_noting(under, s, pairs, notes, m);
+    }
+    read(under, s, pairs, m)
+}
+
+/// Makes `pairs` those of the transitions of `s`, as `read` does, and notes each of these, its target first and `s` last.
+///
+/// Fails if there is no memory for it.
+fn read_noting<M: Meter>(
+    under: &NewBlocks<M>,
+    s: u32,
+    pairs: &mut Vec<(u32, u32)>,
+    notes: &mut Vec<(u32, u32, u32)>,
+    m: &mut M,
+) -> Result<bool, Memory>
+    requires states { length under.now.of.now ≡ under.now.l.now.states }
+    requires state { s < under.now.l.now.states }
+    requires room { HasRoomFor (M.counted m.old) 0 (length (row_of s under.now.l.now.places)) }
+    ensures pairs { OnOk result (pairs.new.items ≡ map (pair_under under.now.of.now) (row_of s under.now.l.now.places)) }
+    ensures touched { IfOk result (λ touched. IsTrue touched ↔ HasFrom under.now.low pairs.new.items) }
+    ensures notes { OnOk result (notes.new.items ≡ notes.old.items ++ turned s (row_of s under.now.l.now.places)) }
+    ensures visits { let n = length (row_of s under.now.l.now.places) in Visits M.counted m.old m.new result n n }
+{
+    lts::rows_follow();
+    under.l.known();
+    let (start, end) = under.l.row(s);
+    pairs.clear();
+    pairs.reserve((end - start) as usize)?;
+    let mut touched = false;
+    for k in start..end {
+        let transition = under.l.edge(k, m);
+        notes.push((transition.1, transition.0, s))?;
+        touched = collect(under.of, under.low, transition, touched, pairs);
+    }
+    Ok(touched)
 }
 
 /// Makes `pairs` those of the transitions of `s`, as they stand in its row. Returns whether one of them has a number from

@@ -5,6 +5,8 @@ use Rattle.refine.specs.EachList.{list_of}
 use Rattle.refine.specs.Settled.{Settled}
 use Rattle.refine.specs.Rounds.{IsNext}
 use Rattle.refine.proofs.Settling.{IsNext-from, all_told}
+use Rattle.refine.proofs.Noting.{watches_next}
+use Rattle.theory.proofs.CallerLemmas.{step_below}
 use Rattle.refine.proofs.Spending.{begun_up_to}
 use Rattle.refine.proofs.refinement.next_round.Goals as goal
 
@@ -27,6 +29,10 @@ returns-clause-next g c =
     let told =
     all_told rel l signed.blocks.of signed.blocks.live signed.blocks.low signed.lists signed.numbers (c.rows_are_steps.ensures.steps l)
     (subst (λ p. LeavesOut l p.of p.live) (sym is) c.requires.others) have.none (have.states ∙ states) c.known-2.ensures.lists.first c.in_ok-signed.ensures.signed in
-    subst (λ p. IsNext rel l p c.in_ok-next.next.blocks) is
+    let q = c.in_ok-next.next in
+    let watches =
+    watches_next l (λ s a t step. (step_below (system_of l) c.known.ensures.system s a t step).1) (c.rows_are_steps.ensures.steps l) q.blocks (next.splits.states ∙ states)
+    signed.entering.groups q.entering next.marked rel signed.blocks.live next.live c.in_ok-signed.ensures.knows in
+    subst (λ p. IsNext rel l p q.blocks q.entering) is
     (IsNext-from rel l c.known.ensures.system (λ s a t. c.rows_are_steps.ensures.numbered l s a t c.known.ensures) signed.blocks states settled
-    (list_of signed.lists signed.numbers) told c.in_ok-next.next.blocks next.splits next.low next.live)
+    (list_of signed.lists signed.numbers) told q.blocks next.splits q.entering watches next.low next.live)

@@ -4,6 +4,7 @@ use Rattle.theory.specs.Blocks.{Split, SameBlocks, Turns}
 use Rattle.lts.specs.Meter.{Costs}
 use Rattle.lts.specs.Lts.{system_of}
 use Rattle.refine.specs.Settled.{Settled}
+use Rattle.refine.specs.Noting.{Watches}
 use Rattle.refine.specs.Rounds.{Made}
 use Rattle.refine.proofs.Spending.{costs_more, costs_up_to_more, room_for_more, on_ok_from, on_err_from}
 use Rattle.partition.specs.Partition.{AreBlocks}
@@ -12,6 +13,7 @@ use Rattle.inert.specs.Signed.{LeavesOut}
 use Rattle.partition.proofs.CallerLemmas.{one_block}
 use Rattle.refine.proofs.Living.{left_out_still, left_out_next}
 use Rattle.refine.proofs.Settling.{settled_first}
+use Rattle.refine.proofs.Noting.{watches_first, watches_left}
 use Rattle.refine.proofs.refinement.refine.Goals as goal
 use Rattle.refine.proofs.refinement.refine.Given.{Over}
 use Rattle.refine.proofs.refinement.refine.Goals.{In_ok-before, Then-more-count, Else-more-count}
@@ -32,6 +34,7 @@ loop-scratch-init g c =
         | inl one ↦ inl (subst (λ live. IsOne live s) (sym blocks.live) one)
         | inr empty ↦ inr (inr empty)
       ]);
+      watches = watches_first rel l c.in_ok-round.round.blocks c.in_ok-round.round.entering c.in_ok-round.ensures.nothing.0 c.in_ok-round.ensures.nothing.1;
       made = subst (λ b. Made rel l (g.M.Meter.counted c.args.m.now) (g.M.Meter.counted c.args.m.now) b.of) is (record { rounds = 0; underway = begun; costs = search rules });
     }
 
@@ -58,6 +61,13 @@ others g c =
 
 pub next_round-requires-clause-others : goal.next_round-requires-clause-others
 next_round-requires-clause-others g c = others g (goal.at.next_round-requires-clause-others g c).In_ok-before
+
+pub next_round-requires-clause-watches : goal.next_round-requires-clause-watches
+next_round-requires-clause-watches g c =
+    let was = c.loop-scratch.round in
+    let before = c.in_ok-before.before in
+    subst (Watches g.S.Signing.relation c.args.l.now before.blocks) (sym c.in_ok-before.ensures.entering)
+    (watches_left g.S.Signing.relation c.args.l.now was.blocks before.blocks was.entering c.in_ok-before.ensures.same c.in_ok-before.ensures.leaves c.loop-scratch.invariant.watches)
 
 pub next_round-requires-clause-room : goal.next_round-requires-clause-room
 next_round-requires-clause-room g c =
@@ -180,6 +190,7 @@ loop-scratch-preserved g c =
     record {
       states = next.states;
       settled = next.settled;
+      watches = next.watches;
       others =
           subst (LeavesOut l of) (sym next.live)
           (left_out_next l before.of of before.live (ap (λ b. length b.of) c.in_ok-before.ensures.same ∙ c.loop-scratch.invariant.states) next.states

@@ -1,11 +1,13 @@
-use Rattle.std.proofs.Common.{◌∙◌, ℕ, ◌+◌, ◌<◌, List, length, slice_index, ap, sym, subst, subst₂, inl, inr, arith}
-use Rattle.std.proofs.lemmas.Bool.{cases_eq}
-use Rattle.std.proofs.lemmas.List.{get_or-set_other, length-set}
+use Rattle.std.proofs.Common.{◌≡◌, ℕ, ◌+◌, ◌<◌, List, length, slice_index, Contains, ap, sym, subst, refl, inl, inr, arith}
+use Rattle.std.specs.List.{All}
+use Rattle.std.proofs.lemmas.Bool.{cases_lt}
+use Rattle.std.proofs.lemmas.List.Elements.{All-nil}
 use Rattle.theory.specs.declared.relation.Relation.TheVariants.{Strong}
-use Rattle.partition.specs.Blocks.{AreLive, HaveNone}
-use Rattle.refine.specs.EachList.{list_of}
-use Rattle.refine.specs.Settled.{IsPut, ArePut}
-use Rattle.refine.proofs.Living.{put_more, each_put, all_numbers}
+use Rattle.lts.specs.Lts.{source_of, row_of, system_of}
+use Rattle.refine.specs.Settled.{IsStill, IsPut}
+use Rattle.refine.specs.Noting.{turned}
+use Rattle.refine.proofs.Living.{put_more, each_put, all_numbers, none_more}
+use Rattle.refine.proofs.Noting.{notes_few, notes_below, notes_stay, notes_here}
 use Rattle.refine.proofs.strong.sign_live.Goals as goal
 
 pub loop-i-init : goal.loop-i-init
@@ -13,27 +15,63 @@ loop-i-init g c = record {
   coming = λ j l h. omega arith;
   within = omega arith;
   put = λ j h. absurd (omega (arith, h));
-  none = subst (λ live. HaveNone live c.args.numbers.now) (sym c.live-live.ensures.live) c.requires.numbers.1;
+  none = c.requires.numbers.1;
   some = omega (arith, ap length c.requires.lists);
+  few = omega (arith, ap length c.clear.ensures.items);
+  below = subst (All (λ x. source_of x < c.args.under.now.l.now.states)) (sym c.clear.ensures.items) (All-nil (λ x. source_of x < c.args.under.now.l.now.states));
+  noted = λ on j h. absurd (omega (arith, h));
   visits = record { rounds = omega arith; at_least = omega arith; at_most = omega arith };
 }
 
-pub loop-i-preserved : goal.loop-i-preserved
-loop-i-preserved g c =
-    let l = c.args.l.now in
-    let live = c.live-live.result.now in
+pub loop-i-preserved-then-is_passed : goal.loop-i-preserved-then-is_passed
+loop-i-preserved-then-is_passed g c =
+    let under = c.args.under.now in
+    let live = c.args.live.now in
     let i = c.loop-i.i in
     let s = slice_index live i in
     let inv = c.loop-i.invariant in
-    let rises : AreLive l.states live = subst₂ AreLive c.requires.states (sym c.live-live.ensures.live) c.live-live.ensures.rising in
+    let rises = c.requires.under.rising in
+    let more : i < length live = omega (arith, c.loop-i-test.true, c.loop-i.auto.i-end) in
+    let size = c.requires.numbers.0 in
+    let passed = c.is_passed.ensures c.if-is_passed.true in
+    let still : IsStill Strong (system_of under.l.now) (slice_index under.of.now) under.low s =
+    elim (c.requires.under.still s (i, more, refl)) [ inl marked ↦ absurd (passed.1 marked) | inr still ↦ still ] in
+    let P : ℕ → List (ℕ × ℕ) → Type 0 = λ t list. IsPut Strong under.l.now under.of.now under.low t list in
+    record {
+      coming = λ j low h. inv.coming j (omega (arith, low)) h;
+      within = inv.within;
+      put =
+          put_more c.loop-i.lists c.loop-i.lists c.loop-i.numbers live under.l.now.states i 0 (record { longer = omega arith; same = λ k h. refl }) rises
+          (omega (arith, c.loop-i.auto.numbers, size)) more P inv.put (omega (arith, inv.some)) (inr (still, c.known-then-is_passed.ensures.first));
+      none = none_more c.loop-i.numbers live i 0 more inv.none;
+      some = inv.some;
+      few = inv.few;
+      below = inv.below;
+      noted = λ on. absurd (passed.0 on);
+      visits = inv.visits;
+    }
+
+pub loop-i-preserved : goal.loop-i-preserved
+loop-i-preserved g c =
+    let under = c.args.under.now in
+    let l = under.l.now in
+    let live = c.args.live.now in
+    let i = c.loop-i.i in
+    let s = slice_index live i in
+    let inv = c.loop-i.invariant in
+    let rises = c.requires.under.rising in
     let more : i < length live = omega (arith, c.loop-i-test.true, c.loop-i.auto.i-end) in
     let size = c.requires.numbers.0 in
     let row = c.row-start.ensures in
     let k = c.in_ok-numbers.field-0 in
-    let P : ℕ → List (ℕ × ℕ) → Type 0 = λ t list. IsPut Strong l c.of.result.now c.low.result t list in
+    let P : ℕ → List (ℕ × ℕ) → Type 0 = λ t list. IsPut Strong l under.of.now under.low t list in
     let grow = c.put.ensures.grow in
     let gap = c.visit_places.ensures in
     let visits = c.in_ok-numbers.ensures.visits in
+    let notes = c.loop-i.scratch.notes.items in
+    let new = c.put.new.scratch.notes.items in
+    let is = c.in_ok-numbers.ensures.notes in
+    let more_notes = notes_few under.noting l notes new s (rises.below i more) c.known.ensures c.rows_are_steps.ensures.sources is in
     record {
       coming = λ j low h.
           let up = rises.rising i j (omega (arith, low)) h in
@@ -43,11 +81,17 @@ loop-i-preserved g c =
       put =
           put_more c.loop-i.lists c.put.new.lists c.loop-i.numbers live l.states i k grow rises (omega (arith, c.loop-i.auto.numbers, size)) more P inv.put
           c.in_ok-numbers.ensures.within c.in_ok-numbers.ensures.put;
-      none = λ t h. elim (cases_eq t s) [
-        | inl e ↦ inl (i, more, sym e)
-        | inr d ↦ elim (inv.none t (omega (arith, h, length-set c.loop-i.numbers s k))) [ inl one ↦ inl one | inr zero ↦ inr (get_or-set_other c.loop-i.numbers s t k 0 d ∙ zero) ]
-      ];
+      none = none_more c.loop-i.numbers live i k more inv.none;
       some = omega (arith, inv.some, grow.longer);
+      few = omega (arith, more_notes, inv.few, row.count, inv.coming i (omega arith) more, row.begins);
+      below = notes_below under.noting l notes new s (rises.below i more) c.known.ensures c.rows_are_steps.ensures.sources is inv.below;
+      noted = λ on j h. elim (cases_lt j i) [
+        | inl low ↦ notes_stay under.noting l notes new s (rises.below i more) c.known.ensures c.rows_are_steps.ensures.sources is _ (inv.noted on j low)
+        | inr last ↦
+            let here : i ≡ j = omega (arith, last, h) in
+            subst (λ x. All (Contains new) (turned (slice_index live x) (row_of (slice_index live x) l.places))) here
+            (notes_here under.noting l notes new s (rises.below i more) c.known.ensures c.rows_are_steps.ensures.sources is on)
+      ];
       visits = record {
         rounds = omega (arith, inv.visits.rounds, gap.rounds, visits.rounds);
         at_least = omega (arith, row.count, inv.visits.at_least, gap.at_least, visits.at_least, inv.coming i (omega arith) more, row.begins);
@@ -58,21 +102,29 @@ loop-i-preserved g c =
 -- the list of each that was looked at
 pub returns-clause-signed : goal.returns-clause-signed
 returns-clause-signed g c =
-    let l = c.args.l.now in
-    let b = c.args.blocks.now in
+    let under = c.args.under.now in
     let inv = c.loop-i.invariant in
-    let P : ℕ → List (ℕ × ℕ) → Type 0 = λ t list. IsPut Strong l c.of.result.now c.low.result t list in
-    let list = list_of c.loop-i.lists c.loop-i.numbers in
-    subst (λ live. ArePut Strong l b.of b.low live list) c.live-live.ensures.live
-    (subst (λ low. ArePut Strong l b.of low c.live-live.result.now list) c.low.ensures
-    (subst (λ of. ArePut Strong l of c.low.result c.live-live.result.now list) c.of.ensures.of
-    (each_put c.loop-i.lists c.loop-i.numbers c.live-live.result.now inv.none P (λ j h. inv.put j (omega (arith, h, c.loop-i-test.false, c.loop-i.auto.i-end))))))
+    let P : ℕ → List (ℕ × ℕ) → Type 0 = λ t list. IsPut Strong under.l.now under.of.now under.low t list in
+    each_put c.loop-i.lists c.loop-i.numbers c.args.live.now inv.none P (λ j h. inv.put j (omega (arith, h, c.loop-i-test.false, c.loop-i.auto.i-end)))
 
 pub returns-clause-numbers : goal.returns-clause-numbers
 returns-clause-numbers g c =
-    let l = c.args.l.now in
+    let under = c.args.under.now in
     let inv = c.loop-i.invariant in
-    let P : ℕ → List (ℕ × ℕ) → Type 0 = λ t list. IsPut Strong l c.of.result.now c.low.result t list in (
-      all_numbers c.loop-i.lists c.loop-i.numbers c.live-live.result.now inv.none P (λ j h. inv.put j (omega (arith, h, c.loop-i-test.false, c.loop-i.auto.i-end))) inv.some,
-      subst (λ live. HaveNone live c.loop-i.numbers) c.live-live.ensures.live inv.none,
+    let P : ℕ → List (ℕ × ℕ) → Type 0 = λ t list. IsPut Strong under.l.now under.of.now under.low t list in (
+      all_numbers c.loop-i.lists c.loop-i.numbers c.args.live.now inv.none P (λ j h. inv.put j (omega (arith, h, c.loop-i-test.false, c.loop-i.auto.i-end))) inv.some,
+      inv.none,
     )
+
+pub returns-clause-notes : goal.returns-clause-notes
+returns-clause-notes g c =
+    let inv = c.loop-i.invariant in
+    let notes = c.loop-i.scratch.notes.items in
+    let places = c.args.under.now.l.now.places in
+    record {
+      few = omega (arith, inv.few, inv.within);
+      below = inv.below;
+      each = λ on s one.
+          subst (λ x. All (Contains notes) (turned x (row_of x places))) one.2
+          (inv.noted on one.0 (omega (arith, one.1, c.loop-i-test.false, c.loop-i.auto.i-end)));
+    }

@@ -1,4 +1,4 @@
-use Rattle.std.proofs.Common.{inl, sym, subst, arith}
+use Rattle.std.proofs.Common.{◌∙◌, inl, ap, sym, subst, arith}
 use Rattle.std.proofs.lemmas.List.{take_at}
 use Rattle.theory.specs.declared.relation.Relation.TheVariants.{Branching}
 use Rattle.refine.specs.EachList.{list_of}
@@ -22,3 +22,6 @@ returns-clause-signed g c s one =
 
 pub sign_each-requires-clause-others : goal.sign_each-requires-clause-others
 sign_each-requires-clause-others g c = subst (λ r. LeavesOut c.args.l.now r.blocks.of r.blocks.live) (sym c.round.view_is) c.requires.others
+
+pub returns-clause-knows : goal.returns-clause-knows
+returns-clause-knows g c = ap (λ r. r.entering.groups) c.round.view_is ∙ c.requires.watches.knows

@@ -4,12 +4,18 @@ use Rattle.inert.specs.Signed.{IsSignature}
 use Rattle.refine.specs.EachList.{list_of}
 use Rattle.refine.specs.Settled.{IsPut}
 use Rattle.refine.proofs.Settling.{put_whole}
+use Rattle.refine.proofs.Noting.{watches_first}
 use Rattle.refine.proofs.EachList.{signature_at-list}
 use Rattle.refine.proofs.one_round.Signatures.fill.Goals as goal
 
 pub sign_each-requires-clause-others : goal.sign_each-requires-clause-others
 sign_each-requires-clause-others g c s h =
     inl (subst (λ b. IsOne b.live s) (sym c.in_ok-blocks-2.ensures.blocks) (c.in_ok-blocks.ensures.live s (omega (arith, h, c.requires.states))))
+
+pub sign_each-requires-clause-watches : goal.sign_each-requires-clause-watches
+sign_each-requires-clause-watches g c =
+    let round = c.in_ok-blocks-2.blocks in
+    watches_first g.S.Signing.relation c.args.l.now round.blocks round.entering c.in_ok-blocks-2.ensures.nothing.0 c.in_ok-blocks-2.ensures.nothing.1
 
 pub returns-clause-signed : goal.returns-clause-signed
 returns-clause-signed g c s ls =
