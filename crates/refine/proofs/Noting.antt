@@ -1,8 +1,8 @@
 -- What was noted of transitions, and marks: a state that is not marked is still.
-use Rattle.std.proofs.Common.{◌≡◌, ◌⊎◌, ◌↔◌, ◌∙◌, ℕ, ◌+◌, ◌<◌, ◌≤◌, Bool, true, IsTrue, List, [], ◌++◌, length, map, slice_index, slice_index_or, set, Contains, ap, sym, subst, refl, inl, inr, arith}
+use Rattle.std.proofs.Common.{◌≡◌, ◌⊎◌, ◌↔◌, ◌∙◌, ℕ, ◌+◌, ◌<◌, ◌≤◌, Bool, true, IsTrue, List, [], ◌++◌, length, map, slice_index, slice_index_or, Contains, ap, sym, subst, refl, inl, inr, arith}
 use Rattle.std.specs.List.{All}
-use Rattle.std.proofs.lemmas.Bool.{cases_lt, cases_eq, cases_Bool, true≢false}
-use Rattle.std.proofs.lemmas.List.{get_or_past, get_or-set_same, get_or-set_other, length-set, length-map, length-append, append-nil}
+use Rattle.std.proofs.lemmas.Bool.{cases_lt, cases_Bool, true≢false}
+use Rattle.std.proofs.lemmas.List.{get_or_past, length-map, length-append, append-nil}
 use Rattle.std.proofs.lemmas.List.Elements.{All-contains, All-contains_itself, All-weaker, All-append, All-map, Contains-append_left, Contains-append_right}
 use Rattle.std.proofs.lemmas.List.FromFn.{get_or-map-range_with_len}
 use Rattle.theory.specs.System.{Step}
@@ -13,10 +13,10 @@ use Rattle.lts.specs.Lts.{Grouped, Triple, source_of, label_of, target_of, row_o
 use Rattle.lts.proofs.CallerLemmas.{contains_mapped}
 use Rattle.partition.specs.Blocks.{RoundBlocks, AreLive, IsOne, LeavesAlone}
 use Rattle.refine.specs.Settled.{IsStill}
-use Rattle.refine.specs.Noting.{Noted, IsMarked, turned, noted_of, groups_of, AreNoted, Knows, Watches, AreMarked, IsUnder, AreNotes}
+use Rattle.refine.specs.Noting.{Noted, BearsMark, turned, noted_of, groups_of, AreNoted, Knows, Watches, AreMarked, ReadsUnder, AreNotes}
 
 -- where there are no marks each state is marked
-unmarked : (marks : List Bool) (s : ℕ) → length marks ≡ 0 → IsMarked marks s
+unmarked : (marks : List Bool) (s : ℕ) → length marks ≡ 0 → BearsMark marks s
 unmarked marks s none = get_or_past marks s true (omega (arith, none))
 
 -- before transitions are noted
@@ -45,10 +45,10 @@ watches_left rel l p q noted same leaves watches =
 module _ (l : Grouped) (inside : (s : ℕ) (a : List ℕ) (t : ℕ) → Step (system_of l) s a t → t < l.states)
     (steps : (s : ℕ) (a : List ℕ) (t : ℕ) → Step (system_of l) s a t ↔ ((e : Triple) × Contains (row_of s l.places) e × (text_of l.labels (label_of e) ≡ a) × (target_of e ≡ t)))
     (p : RoundBlocks) (states : length p.of ≡ l.states) (groups : List (List (ℕ × ℕ))) (noted : Noted) (marked : AreMarked groups p noted) where
-  all_marked : groups ≡ [] → (s : ℕ) → IsMarked noted.marks s
+  all_marked : groups ≡ [] → (s : ℕ) → BearsMark noted.marks s
   all_marked none s = unmarked noted.marks s (marked.size ∙ ap length (marked.same ∙ none))
 
-  marked_or_still : AreNoted l p.live groups → (s : ℕ) → IsOne p.live s → IsMarked noted.marks s ⊎ IsStill Strong (system_of l) (slice_index p.of) p.low s
+  marked_or_still : AreNoted l p.live groups → (s : ℕ) → IsOne p.live s → BearsMark noted.marks s ⊎ IsStill Strong (system_of l) (slice_index p.of) p.low s
   marked_or_still all s one = elim (cases_Bool (slice_index_or noted.marks s true)) [
     | inl on ↦ inl on
     | inr off ↦ inr (λ a t step. elim (cases_lt (slice_index p.of t) p.low) [
@@ -57,7 +57,7 @@ module _ (l : Grouped) (inside : (s : ℕ) (a : List ℕ) (t : ℕ) → Step (sy
           let found = (steps s a t).0 step in
           let here = subst (λ x. Contains (slice_index_or groups x []) (label_of found.0, s)) found.3 (all s one found.0 found.1) in
           let each = marked.each t (omega (arith, inside s a t step, states)) new in
-          let told = All-contains (λ x. IsMarked noted.marks x.1) (slice_index_or groups t []) (label_of found.0, s) each here in
+          let told = All-contains (λ x. BearsMark noted.marks x.1) (slice_index_or groups t []) (label_of found.0, s) each here in
           absurd (true≢false (sym told ∙ off))
     ])
   ]
@@ -84,26 +84,13 @@ notes_known l live notes groups lts sources are is s one e c =
 
 -- what a round reads rows under
 pub under : {l : Grouped} {p : RoundBlocks} {noted : Noted} {of live : List ℕ} {low : ℕ} {marks : List Bool} → length p.of ≡ l.states → AreLive (length p.of) p.live
-    → Watches Strong l p noted → of ≡ p.of → live ≡ p.live → low ≡ p.low → marks ≡ noted.marks → IsUnder l of live low marks
+    → Watches Strong l p noted → of ≡ p.of → live ≡ p.live → low ≡ p.low → marks ≡ noted.marks → ReadsUnder l of live low marks
 under {l} {p} {noted} {of} {live} {low} {marks} states rising watches of_is live_is low_is marks_is =
-    subst (IsUnder l of live low) (sym marks_is)
-    (subst (λ n. IsUnder l of live n noted.marks) (sym low_is)
-    (subst (λ xs. IsUnder l of xs p.low noted.marks) (sym live_is)
-    (subst (λ xs. IsUnder l xs p.live p.low noted.marks) (sym of_is)
+    subst (ReadsUnder l of live low) (sym marks_is)
+    (subst (λ n. ReadsUnder l of live n noted.marks) (sym low_is)
+    (subst (λ xs. ReadsUnder l of xs p.low noted.marks) (sym live_is)
+    (subst (λ xs. ReadsUnder l xs p.live p.low noted.marks) (sym of_is)
     (record { states = states; rising = subst (λ n. AreLive n p.live) states rising; still = watches.still }))))
-
--- a mark more
-pub marked_here : (marks : List Bool) (k : ℕ) → IsMarked (set marks k true) k
-marked_here marks k = elim (cases_lt k (length marks)) [
-  | inl inside ↦ get_or-set_same marks k true true inside
-  | inr past ↦ get_or_past (set marks k true) k true (omega (arith, past, length-set marks k true))
-]
-
-pub marked_still : (marks : List Bool) (k s : ℕ) → IsMarked marks s → IsMarked (set marks k true) s
-marked_still marks k s was = elim (cases_eq s k) [
-  | inl e ↦ subst (IsMarked (set marks k true)) (sym e) (marked_here marks k)
-  | inr d ↦ get_or-set_other marks k s true true d ∙ was
-]
 
 -- the notes of one row more
 module _ (noting : Bool) (l : Grouped) (notes new : List Triple) (s : ℕ) (below : s < l.states) (lts : IsLts l)

@@ -14,8 +14,8 @@ pub record Noted : Type 0 where
   pub marks : List Bool
 
 -- the state s is marked, as each is where there are no marks
-abbrev pub IsMarked : List Bool → ℕ → Type 0
-IsMarked marks s = IsTrue (slice_index_or marks s true)
+abbrev pub BearsMark : List Bool → ℕ → Type 0
+BearsMark marks s = IsTrue (slice_index_or marks s true)
 
 -- transitions of the source s, turned round: each one's target first, and s last
 abbrev pub turned : ℕ → List Triple → List Triple
@@ -42,19 +42,19 @@ Knows Branching l live groups = groups ≡ []
 -- what is noted of blocks, where a state that is not marked is still
 pub record Watches (rel : Relation) (l : Grouped) (p : RoundBlocks) (noted : Noted) : Type 0 where
   pub knows : Knows rel l p.live noted.groups
-  pub still : (s : ℕ) → IsOne p.live s → IsMarked noted.marks s ⊎ IsStill rel (system_of l) (slice_index p.of) p.low s
+  pub still : (s : ℕ) → IsOne p.live s → BearsMark noted.marks s ⊎ IsStill rel (system_of l) (slice_index p.of) p.low s
 
 -- each source that is noted at a state of a new number is marked
 pub record AreMarked (groups : List (List (ℕ × ℕ))) (p : RoundBlocks) (noted : Noted) : Type 0 where
   pub same : noted.groups ≡ groups
   pub size : length noted.marks ≡ length noted.groups
-  pub each : (t : ℕ) → t < length p.of → p.low ≤ slice_index p.of t → All (λ x. IsMarked noted.marks x.1) (slice_index_or groups t [])
+  pub each : (t : ℕ) → t < length p.of → p.low ≤ slice_index p.of t → All (λ x. BearsMark noted.marks x.1) (slice_index_or groups t [])
 
 -- what a round reads rows under: the block of each state, and of the states that are looked at those that are not marked are still
-pub record IsUnder (l : Grouped) (of live : List ℕ) (low : ℕ) (marks : List Bool) : Type 0 where
+pub record ReadsUnder (l : Grouped) (of live : List ℕ) (low : ℕ) (marks : List Bool) : Type 0 where
   pub states : length of ≡ l.states
   pub rising : AreLive l.states live
-  pub still : (s : ℕ) → IsOne live s → IsMarked marks s ⊎ IsStill Strong (system_of l) (slice_index of) low s
+  pub still : (s : ℕ) → IsOne live s → BearsMark marks s ⊎ IsStill Strong (system_of l) (slice_index of) low s
 
 -- what a round has noted of the transitions from these states: all, if it notes them
 pub record AreNotes (noting : Bool) (l : Grouped) (live : List ℕ) (notes : List Triple) : Type 0 where

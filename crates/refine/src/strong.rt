@@ -11,7 +11,7 @@ ghost use Rattle.partition.specs.Blocks.{HaveNone};
 ghost use Rattle.inert.specs.Signed.{pair_under};
 ghost use Rattle.refine.specs.EachList.{list_of};
 ghost use Rattle.refine.specs.Settled.{HasFrom, IsPut, ArePut};
-ghost use Rattle.refine.specs.Noting.{IsMarked, IsUnder, AreNotes, turned, noted_of, groups_of};
+ghost use Rattle.refine.specs.Noting.{BearsMark, ReadsUnder, AreNotes, turned, noted_of, groups_of};
 
 use crate::entering::Entering;
 use crate::scratch::Scratch;
@@ -117,7 +117,7 @@ fn sign_live<M: Meter>(
     numbers: &mut [u32],
     m: &mut M,
 ) -> Result<(), Memory>
-    requires under { IsUnder under.now.l.now under.now.of.now live.now under.now.low under.now.marks.now }
+    requires under { ReadsUnder under.now.l.now under.now.of.now live.now under.now.low under.now.marks.now }
     requires lists { lists.old ≡ [] ∷ [] }
     requires numbers { (length numbers.old ≡ under.now.l.now.states) × HaveNone live.now numbers.old }
     requires room { HasRoomFor (M.counted m.old) 0 (length under.now.l.now.places) }
@@ -149,7 +149,7 @@ fn sign_live<M: Meter>(
 
 /// Whether the row of `s` need not be read: it leads to no new number, and is not noted.
 fn is_passed<M: Meter>(under: &NewBlocks<M>, s: u32) -> bool
-    ensures { IsTrue result → ¬ IsTrue under.now.noting × ¬ IsMarked under.now.marks.now s }
+    ensures { IsTrue result → ¬ IsTrue under.now.noting × ¬ BearsMark under.now.marks.now s }
 {
     let k = s as usize;
     !under.noting && k < under.marks.len() && !under.marks[k]

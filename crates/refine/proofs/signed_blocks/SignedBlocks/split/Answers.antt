@@ -3,7 +3,7 @@ use Rattle.std.specs.List.{All}
 use Rattle.partition.specs.Splitting.{Splits}
 use Rattle.partition.specs.Blocks.{IsOne, HaveNone}
 use Rattle.refine.specs.EachList.{list_of}
-use Rattle.refine.specs.Noting.{IsMarked}
+use Rattle.refine.specs.Noting.{BearsMark}
 use Rattle.refine.proofs.EachList.{Splits-lists}
 use Rattle.refine.proofs.signed_blocks.SignedBlocks.split.Goals as goal
 
@@ -25,7 +25,7 @@ returns-clause-marked c =
       same = mark.groups ∙ ap (λ r. r.entering.groups) c.self.view_is;
       size = mark.size;
       each = λ t below new.
-          subst (λ gs. All (λ x. IsMarked c.mark.new.self.marks x.1) (slice_index_or gs t [])) (mark.groups ∙ ap (λ r. r.entering.groups) c.self.view_is)
+          subst (λ gs. All (λ x. BearsMark c.mark.new.self.marks x.1) (slice_index_or gs t [])) (mark.groups ∙ ap (λ r. r.entering.groups) c.self.view_is)
           (elim (next.others t (omega (arith, below, next.splits.states))) [
             | inl one ↦ mark.each t (subst (λ live. IsOne live t) (sym next.live) one) new
             | inr old ↦ absurd (omega (arith, old, new, next.low))
