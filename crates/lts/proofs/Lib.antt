@@ -8,4 +8,4 @@ pub mod Placing
 pub mod Fields
 pub mod Rising
 pub mod Joining
-pub mod Ends
+pub mod Pairs
