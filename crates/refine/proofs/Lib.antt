@@ -4,4 +4,5 @@ pub mod Spending
 pub mod StrongRow
 pub mod EachList
 pub mod Living
+pub mod Finding
 pub mod Noting

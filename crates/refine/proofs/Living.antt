@@ -6,6 +6,7 @@ use Rattle.theory.specs.System.{Step}
 use Rattle.lts.specs.Labels.{text_of}
 use Rattle.lts.specs.Lts.{Grouped, Triple, label_of, target_of, row_of, system_of}
 use Rattle.lists.specs.Lists.{list_at, AreNumbers, Grow}
+use Rattle.partition.specs.Splitting.{IsAlone}
 use Rattle.partition.specs.Blocks.{AreLive, IsOne, HaveNone, LeavesAlone}
 use Rattle.inert.specs.Signed.{LeavesOut}
 
@@ -59,13 +60,19 @@ left_out_still l of live left leaves others s h = elim (others s h) [
   | inr x ↦ inr x
 ]
 
--- and when blocks are parted
+-- a state that is alone is so still when blocks are parted
+pub alone_next : (l : Grouped) (of next : List ℕ) → length of ≡ l.states → length next ≡ l.states
+    → ((s t : ℕ) → s < l.states → t < l.states → slice_index next s ≡ slice_index next t → slice_index of s ≡ slice_index of t)
+    → (s : ℕ) → s < l.states → IsAlone of s → IsAlone next s
+alone_next l of next size size' parted s h alone t lt same = alone t (omega (arith, lt, size, size')) (parted t s (omega (arith, lt, size')) h same)
+
+-- and what is left out is
 pub left_out_next : (l : Grouped) (of next live : List ℕ) → length of ≡ l.states → length next ≡ l.states
     → ((s t : ℕ) → s < l.states → t < l.states → slice_index next s ≡ slice_index next t → slice_index of s ≡ slice_index of t) → LeavesOut l of live → LeavesOut l next live
 left_out_next l of next live size size' parted others s h = elim (others s h) [
   | inl one ↦ inl one
   | inr x ↦ elim x [
-    | inl alone ↦ inr (inl (λ t lt same. alone t (omega (arith, lt, size, size')) (parted t s (omega (arith, lt, size')) h same)))
+    | inl alone ↦ inr (inl (alone_next l of next size size' parted s h alone))
     | inr empty ↦ inr (inr empty)
   ]
 ]

@@ -1,123 +1,148 @@
--- What was noted of transitions, and marks: a state that is not marked is still.
-use Rattle.std.proofs.Common.{◌≡◌, ◌⊎◌, ◌↔◌, ◌∙◌, ℕ, ◌+◌, ◌<◌, ◌≤◌, Bool, true, IsTrue, List, [], ◌++◌, length, map, slice_index, slice_index_or, Contains, ap, sym, subst, refl, inl, inr, arith}
+-- What was noted of transitions: a state that a round does not look at is alone in its block, or still.
+use Rattle.std.proofs.Common.{◌≡◌, ◌⊎◌, ◌↔◌, ◌∙◌, ℕ, ◌+◌, ◌<◌, ◌≤◌, Bool, true, cond, IsTrue, Option, None, Some, List, [], ◌∷◌, ◌++◌, length, map, slice_index, slice_index_or, Contains, ap, sym, subst, refl, inl, inr, arith}
 use Rattle.std.specs.List.{All}
-use Rattle.std.proofs.lemmas.Bool.{cases_lt, cases_Bool, true≢false}
-use Rattle.std.proofs.lemmas.List.{get_or_past, length-map, length-append, append-nil}
-use Rattle.std.proofs.lemmas.List.Elements.{All-contains, All-contains_itself, All-weaker, All-append, All-map, Contains-append_left, Contains-append_right}
-use Rattle.std.proofs.lemmas.List.FromFn.{get_or-map-range_with_len}
+use Rattle.std.specs.Option.{MatchOption}
+use Rattle.std.proofs.lemmas.Bool.{cases_lt, cases_Bool}
+use Rattle.std.proofs.lemmas.List.{length-map, length-append, append-nil}
+use Rattle.std.proofs.lemmas.List.Elements.{All-nil, All-cons, All-contains, All-contains_itself, All-weaker, All-append, All-map, Contains-append_left, Contains-append_right}
+use Rattle.std.proofs.lemmas.List.FromFn.{get_or-map-range_with_len, length-map-range_with_len}
 use Rattle.theory.specs.System.{Step}
 use Rattle.theory.specs.declared.relation.Relation.{Relation}
 use Rattle.theory.specs.declared.relation.Relation.TheVariants.{Strong, Branching}
 use Rattle.lts.specs.Labels.{text_of}
 use Rattle.lts.specs.Lts.{Grouped, Triple, source_of, label_of, target_of, row_of, system_of, IsTriple, IsLts}
-use Rattle.lts.proofs.CallerLemmas.{contains_mapped}
-use Rattle.partition.specs.Blocks.{RoundBlocks, AreLive, IsOne, LeavesAlone}
+use Rattle.lts.specs.Groups.{group_of, groups_of}
+use Rattle.lts.proofs.CallerLemmas.{contains_mapped, in_group}
+use Rattle.partition.specs.Splitting.{IsAlone}
+use Rattle.partition.specs.Blocks.{RoundBlocks, IsOne, LeavesAlone}
+use Rattle.inert.specs.Signed.{LeavesOut}
 use Rattle.refine.specs.Settled.{IsStill}
-use Rattle.refine.specs.Noting.{Noted, BearsMark, turned, noted_of, groups_of, AreNoted, Knows, Watches, AreMarked, ReadsUnder, AreNotes}
-
--- where there are no marks each state is marked
-unmarked : (marks : List Bool) (s : ℕ) → length marks ≡ 0 → BearsMark marks s
-unmarked marks s none = get_or_past marks s true (omega (arith, none))
-
--- before transitions are noted
-pub watches_first : (rel : Relation) (l : Grouped) (p : RoundBlocks) (noted : Noted) → noted.groups ≡ [] → length noted.marks ≡ 0 → Watches rel l p noted
-watches_first rel l p noted none all = record { knows = knows rel; still = λ s one. inl (unmarked noted.marks s all) }
-  where
-    knows : (r : Relation) → Knows r l p.live noted.groups
-    knows Strong = inl none
-    knows Branching = none
+use Rattle.refine.specs.EachList.{HaveSources}
+use Rattle.refine.specs.Noting.{Sources, turned, noted_of, AreNotes, IsNoted, AreWatched, Watches, AreFound, LooksAtSources}
+use Rattle.refine.proofs.Living.{left_out_still, left_out_next, no_step, alone_next}
 
 -- fewer states are looked at
-pub watches_left : (rel : Relation) (l : Grouped) (p q : RoundBlocks) (noted : Noted) → q ≡ record p { live = q.live } → LeavesAlone p.of p.live q.live
-    → Watches rel l p noted → Watches rel l q noted
-watches_left rel l p q noted same leaves watches =
-    subst (λ r. Watches rel l r noted) (sym same) (record {
-      knows = knows rel watches.knows;
-      still = λ s one. watches.still s (leaves.were s one);
-    })
+pub watches_left : (entering : Option Sources) (rel : Relation) (l : Grouped) (p q : RoundBlocks) → q ≡ record p { live = q.live } → LeavesAlone p.of p.live q.live
+    → Watches entering rel l p → Watches entering rel l q
+watches_left entering rel l p q same leaves watches = subst (Watches entering rel l) (sym same) (left entering rel watches)
   where
-    knows : (r : Relation) → Knows r l p.live noted.groups → Knows r l q.live noted.groups
-    knows Strong (inl none) = inl none
-    knows Strong (inr all) = inr (λ s one. all s (leaves.were s one))
-    knows Branching none = none
+    left : (e : Option Sources) (r : Relation) → Watches e r l p → Watches e r l (record p { live = q.live })
+    left None r others = left_out_still l p.of p.live q.live leaves others
+    left (Some sources) Strong w = record {
+      noted = w.noted;
+      others = λ s h. elim (w.others s h) [
+        | inl one ↦ elim (leaves.are s one) [ inl is ↦ inl is | inr alone ↦ inr (inl alone) ]
+        | inr x ↦ inr x
+      ];
+    }
+    left (Some sources) Branching w = absurd w
 
--- blocks were parted, and states marked
-module _ (l : Grouped) (inside : (s : ℕ) (a : List ℕ) (t : ℕ) → Step (system_of l) s a t → t < l.states)
+-- a row has a transition to a new number, or it has none
+new_or_old : (of : List ℕ) (low : ℕ) (row : List Triple)
+    → ((e : Triple) × Contains row e × (low ≤ slice_index of (target_of e))) ⊎ All (λ e. slice_index of (target_of e) < low) row
+new_or_old of low [] = inr (All-nil (λ e. slice_index of (target_of e) < low))
+new_or_old of low (e ∷ row) = elim (cases_lt (slice_index of (target_of e)) low) [
+  | inl old ↦ elim (new_or_old of low row) [
+    | inl (x, c, new) ↦ inl (x, Contains-append_right (e ∷ []) row x c, new)
+    | inr all ↦ inr (All-cons (λ x. slice_index of (target_of x) < low) e row old all)
+  ]
+  | inr new ↦ inl (e, (0, omega arith, refl), new)
+]
+
+-- blocks were parted, and the next round looks at the states that lead to new numbers
+module _ (l : Grouped)
     (steps : (s : ℕ) (a : List ℕ) (t : ℕ) → Step (system_of l) s a t ↔ ((e : Triple) × Contains (row_of s l.places) e × (text_of l.labels (label_of e) ≡ a) × (target_of e ≡ t)))
-    (p : RoundBlocks) (states : length p.of ≡ l.states) (groups : List (List (ℕ × ℕ))) (noted : Noted) (marked : AreMarked groups p noted) where
-  all_marked : groups ≡ [] → (s : ℕ) → BearsMark noted.marks s
-  all_marked none s = unmarked noted.marks s (marked.size ∙ ap length (marked.same ∙ none))
-
-  marked_or_still : AreNoted l p.live groups → (s : ℕ) → IsOne p.live s → BearsMark noted.marks s ⊎ IsStill Strong (system_of l) (slice_index p.of) p.low s
-  marked_or_still all s one = elim (cases_Bool (slice_index_or noted.marks s true)) [
-    | inl on ↦ inl on
-    | inr off ↦ inr (λ a t step. elim (cases_lt (slice_index p.of t) p.low) [
-      | inl low ↦ low
-      | inr new ↦
-          let found = (steps s a t).0 step in
-          let here = subst (λ x. Contains (slice_index_or groups x []) (label_of found.0, s)) found.3 (all s one found.0 found.1) in
-          let each = marked.each t (omega (arith, inside s a t step, states)) new in
-          let told = All-contains (λ x. BearsMark noted.marks x.1) (slice_index_or groups t []) (label_of found.0, s) each here in
-          absurd (true≢false (sym told ∙ off))
-    ])
+    (p q : RoundBlocks) (size : length p.of ≡ l.states) (size' : length q.of ≡ l.states)
+    (parted : (s t : ℕ) → s < l.states → t < l.states → slice_index q.of s ≡ slice_index q.of t → slice_index p.of s ≡ slice_index p.of t)
+    (below : (s : ℕ) → s < l.states → (e : Triple) → Contains (row_of s l.places) e → target_of e < l.states) where
+  -- a state whose transitions are noted
+  looked : (sources : Sources) (s : ℕ) → s < l.states → LooksAtSources sources q → IsNoted l sources s
+      → IsOne q.live s ⊎ IsAlone q.of s ⊎ IsStill Strong (system_of l) (slice_index q.of) q.low s
+  looked sources s h looks noted = elim (new_or_old q.of q.low (row_of s l.places)) [
+    | inl (e, c, new) ↦
+        let t = target_of e in
+        let each = looks t (omega (arith, below s h e c, size')) new in
+        elim (All-contains (λ s. s < length q.of → IsOne q.live s ⊎ IsAlone q.of s) (slice_index_or sources t []) s each (noted e c) (omega (arith, h, size'))) [
+          | inl one ↦ inl one
+          | inr alone ↦ inr (inl alone)
+        ]
+    | inr old ↦ inr (inr (λ a t step.
+        let found = (steps s a t).0 step in
+        subst (λ x. slice_index q.of x < q.low) found.3 (All-contains (λ e. slice_index q.of (target_of e) < q.low) (row_of s l.places) found.0 old found.1)))
   ]
 
-  pub watches_next : (rel : Relation) (live : List ℕ) → p.live ≡ live → Knows rel l live groups → Watches rel l p noted
-  watches_next Strong live is (inl none) = record { knows = inl (marked.same ∙ none); still = λ s one. inl (all_marked none s) }
-  watches_next Strong live is (inr all) =
-      let here = subst (λ xs. AreNoted l xs groups) (sym is) all in
-      record { knows = inr (subst (AreNoted l p.live) (sym marked.same) here); still = marked_or_still here }
-  watches_next Branching live is none = record { knows = marked.same ∙ none; still = λ s one. inl (all_marked none s) }
+  pub watches_next : (entering : Option Sources) (rel : Relation) → MatchOption entering (q.live ≡ p.live) (λ sources. LooksAtSources sources q)
+      → Watches entering rel l p → Watches entering rel l q
+  watches_next None rel is others = subst (LeavesOut l q.of) (sym is) (left_out_next l p.of q.of p.live size size' parted others)
+  watches_next (Some sources) Strong looks w = record {
+    noted = λ s h. elim (w.noted s h) [
+      | inl alone ↦ inl (alone_next l p.of q.of size size' parted s h alone)
+      | inr noted ↦ inr noted
+    ];
+    others = λ s h. elim (w.noted s h) [
+      | inl alone ↦ inr (inl (alone_next l p.of q.of size size' parted s h alone))
+      | inr noted ↦ looked sources s h looks noted
+    ];
+  }
+  watches_next (Some sources) Branching looks w = absurd w
 
--- what a round has noted of all that it looks at is grouped
-pub notes_known : (l : Grouped) (live : List ℕ) (notes : List Triple) (groups : List (List (ℕ × ℕ))) → IsLts l
-    → ((s : ℕ) (places : List Triple) (e : Triple) → Contains (row_of s places) e ↔ (Contains places e × (source_of e ≡ s)))
-    → AreNotes true l live notes → groups ≡ groups_of l.states notes → AreNoted l live groups
-notes_known l live notes groups lts sources are is s one e c =
-    let t = target_of e in
-    let pair : Triple → ℕ × ℕ = λ x. (label_of x, target_of x) in
-    let noted = All-contains (Contains notes) (turned s (row_of s l.places)) (t, label_of e, s) (are.each refl s one) (contains_mapped (λ x. (target_of x, label_of x, s)) (row_of s l.places) e c) in
-    let there = contains_mapped pair (row_of t notes) (t, label_of e, s) ((sources t notes (t, label_of e, s)).1 (noted, refl)) in
-    let below = (All-contains (IsTriple (length l.labels) l.states) l.places e lts.in_range.each ((sources s l.places e).0 c).0).target in
-    let at = get_or-map-range_with_len (λ x. map pair (row_of x notes)) 0 l.states t t [] below (omega arith) in
-    subst (λ xs. Contains xs (label_of e, s)) (sym (ap (λ gs. slice_index_or gs t []) is ∙ at)) there
+-- a round that looks at all states that are not alone has noted all transitions
+module _ (l : Grouped) (p : RoundBlocks) (notes : List (ℕ × ℕ)) (lts : IsLts l)
+    (sources : (s : ℕ) (places : List Triple) (e : Triple) → Contains (row_of s places) e ↔ (Contains places e × (source_of e ≡ s)))
+    (steps : (s : ℕ) (a : List ℕ) (t : ℕ) → Step (system_of l) s a t ↔ ((e : Triple) × Contains (row_of s l.places) e × (text_of l.labels (label_of e) ≡ a) × (target_of e ≡ t)))
+    (are : AreNotes true l p.live notes) where
+  noted_at : (s : ℕ) → IsOne p.live s → IsNoted l (groups_of l.states notes) s
+  noted_at s one e c =
+      let t = target_of e in
+      let noted = All-contains (Contains notes) (turned s (row_of s l.places)) (t, s) (are.each refl s one) (contains_mapped (λ x. (target_of x, s)) (row_of s l.places) e c) in
+      let below = (All-contains (IsTriple (length l.labels) l.states) l.places e lts.in_range.each ((sources s l.places e).0 c).0).target in
+      let at = get_or-map-range_with_len (λ x. group_of x notes) 0 l.states t t [] below (omega arith) in
+      subst (λ xs. Contains xs s) (sym at) (in_group t s notes noted)
 
--- what a round reads rows under
-pub under : {l : Grouped} {p : RoundBlocks} {noted : Noted} {of live : List ℕ} {low : ℕ} {marks : List Bool} → length p.of ≡ l.states → AreLive (length p.of) p.live
-    → Watches Strong l p noted → of ≡ p.of → live ≡ p.live → low ≡ p.low → marks ≡ noted.marks → ReadsUnder l of live low marks
-under {l} {p} {noted} {of} {live} {low} {marks} states rising watches of_is live_is low_is marks_is =
-    subst (ReadsUnder l of live low) (sym marks_is)
-    (subst (λ n. ReadsUnder l of live n noted.marks) (sym low_is)
-    (subst (λ xs. ReadsUnder l of xs p.low noted.marks) (sym live_is)
-    (subst (λ xs. ReadsUnder l xs p.live p.low noted.marks) (sym of_is)
-    (record { states = states; rising = subst (λ n. AreLive n p.live) states rising; still = watches.still }))))
+  pub notes_known : LeavesOut l p.of p.live → AreWatched l p (groups_of l.states notes)
+  notes_known others = record {
+    noted = λ s h. elim (others s h) [
+      | inl one ↦ inr (noted_at s one)
+      | inr x ↦ elim x [
+        | inl alone ↦ inl alone
+        | inr empty ↦ inr (λ e c. absurd (omega (arith, (subst (λ xs. Contains xs e) empty c).1)))
+      ]
+    ];
+    others = λ s h. elim (others s h) [
+      | inl one ↦ inl one
+      | inr x ↦ elim x [
+        | inl alone ↦ inr (inl alone)
+        | inr empty ↦ inr (inr (λ a t step. absurd (no_step l s (steps s) empty a t step)))
+      ]
+    ];
+  }
 
 -- the notes of one row more
-module _ (noting : Bool) (l : Grouped) (notes new : List Triple) (s : ℕ) (below : s < l.states) (lts : IsLts l)
+module _ (noting : Bool) (l : Grouped) (notes new : List (ℕ × ℕ)) (s : ℕ) (below : s < l.states) (lts : IsLts l)
     (sources : (s : ℕ) (places : List Triple) (e : Triple) → Contains (row_of s places) e ↔ (Contains places e × (source_of e ≡ s)))
     (is : new ≡ notes ++ noted_of noting s (row_of s l.places)) where
   pub notes_few : length new ≤ length notes + length (row_of s l.places)
   notes_few = elim (cases_Bool noting) [
-    | inl on ↦ omega (arith, ap length (is ∙ ap (λ b. notes ++ noted_of b s (row_of s l.places)) on), length-append notes (turned s (row_of s l.places)), length-map {B = Triple} (row_of s l.places) (λ e. (target_of e, label_of e, s)))
+    | inl on ↦ omega (arith, ap length (is ∙ ap (λ b. notes ++ noted_of b s (row_of s l.places)) on), length-append notes (turned s (row_of s l.places)), length-map {B = ℕ × ℕ} (row_of s l.places) (λ e. (target_of e, s)))
     | inr off ↦ omega (arith, ap length (is ∙ ap (λ b. notes ++ noted_of b s (row_of s l.places)) off ∙ append-nil notes))
   ]
 
-  targets : All (λ x. source_of x < l.states) (turned s (row_of s l.places))
+  targets : All (λ x. x.0 < l.states) (turned s (row_of s l.places))
   targets =
-      All-map (λ x. source_of x < l.states) (λ e. (target_of e, label_of e, s)) (row_of s l.places)
+      All-map (λ x. x.0 < l.states) (λ e. (target_of e, s)) (row_of s l.places)
       (All-weaker (Contains (row_of s l.places)) (λ e. target_of e < l.states)
       (λ e c. (All-contains (IsTriple (length l.labels) l.states) l.places e lts.in_range.each ((sources s l.places e).0 c).0).target)
       (row_of s l.places) (All-contains_itself (row_of s l.places)))
 
-  pub notes_below : All (λ x. source_of x < l.states) notes → All (λ x. source_of x < l.states) new
+  pub notes_below : All (λ x. x.0 < l.states) notes → All (λ x. x.0 < l.states) new
   notes_below old = elim (cases_Bool noting) [
     | inl on ↦
-        subst (All (λ x. source_of x < l.states)) (sym (is ∙ ap (λ b. notes ++ noted_of b s (row_of s l.places)) on))
-        (All-append (λ x. source_of x < l.states) notes (turned s (row_of s l.places)) old targets)
-    | inr off ↦ subst (All (λ x. source_of x < l.states)) (sym (is ∙ ap (λ b. notes ++ noted_of b s (row_of s l.places)) off ∙ append-nil notes)) old
+        subst (All (λ x. x.0 < l.states)) (sym (is ∙ ap (λ b. notes ++ noted_of b s (row_of s l.places)) on))
+        (All-append (λ x. x.0 < l.states) notes (turned s (row_of s l.places)) old targets)
+    | inr off ↦ subst (All (λ x. x.0 < l.states)) (sym (is ∙ ap (λ b. notes ++ noted_of b s (row_of s l.places)) off ∙ append-nil notes)) old
   ]
 
-  pub notes_stay : (xs : List Triple) → All (Contains notes) xs → All (Contains new) xs
+  pub notes_stay : (xs : List (ℕ × ℕ)) → All (Contains notes) xs → All (Contains new) xs
   notes_stay xs old =
       All-weaker (Contains notes) (Contains new) (λ x c. subst (λ ys. Contains ys x) (sym is) (Contains-append_left notes (noted_of noting s (row_of s l.places)) x c)) xs old
 
@@ -126,3 +151,19 @@ module _ (noting : Bool) (l : Grouped) (notes new : List Triple) (s : ℕ) (belo
       subst (λ ys. All (Contains ys) (turned s (row_of s l.places))) (sym (is ∙ ap (λ b. notes ++ noted_of b s (row_of s l.places)) on))
       (All-weaker (Contains (turned s (row_of s l.places))) (Contains (notes ++ turned s (row_of s l.places)))
       (λ x c. Contains-append_right notes (turned s (row_of s l.places)) x c) (turned s (row_of s l.places)) (All-contains_itself (turned s (row_of s l.places))))
+
+-- what a round has noted is kept, if it has noted anything
+module _ (noting : Bool) (l : Grouped) (p : RoundBlocks) (notes : List (ℕ × ℕ)) (old new : Option Sources)
+    (is : new ≡ cond noting (Some (groups_of l.states notes)) old) where
+  pub sources_kept : length p.of ≡ l.states → HaveSources p.of old → HaveSources p.of new
+  sources_kept size have = subst (HaveSources p.of) (sym is) (elim (cases_Bool noting) [
+    | inl on ↦
+        subst (λ b. HaveSources p.of (cond b (Some (groups_of l.states notes)) old)) (sym on) (length-map-range_with_len (λ x. group_of x notes) 0 l.states ∙ sym size)
+    | inr off ↦ subst (λ b. HaveSources p.of (cond b (Some (groups_of l.states notes)) old)) (sym off) have
+  ])
+
+  pub watches_kept : (IsTrue noting → AreWatched l p (groups_of l.states notes)) → Watches old Strong l p → Watches new Strong l p
+  watches_kept watched watches = subst (λ e. Watches e Strong l p) (sym is) (elim (cases_Bool noting) [
+    | inl on ↦ subst (λ b. Watches (cond b (Some (groups_of l.states notes)) old) Strong l p) (sym on) (watched on)
+    | inr off ↦ subst (λ b. Watches (cond b (Some (groups_of l.states notes)) old) Strong l p) (sym off) watches
+  ])

@@ -1,5 +1,5 @@
 -- States that no new number can be seen from keep what they have in common.
-use Rattle.std.proofs.Common.{◌≡◌, ◌⊎◌, ◌↔◌, ◌∙◌, ℕ, ◌<◌, List, [], ◌∷◌, length, slice_index, Contains, ap, sym, subst, refl, inl, inr, arith}
+use Rattle.std.proofs.Common.{◌≡◌, ◌⊎◌, ◌↔◌, ◌∙◌, ℕ, ◌<◌, Option, None, Some, List, [], ◌∷◌, length, slice_index, Contains, ap, sym, subst, refl, inl, inr, arith}
 use Rattle.std.specs.List.Sorted.{IsStrictlySortedBy}
 use Rattle.theory.specs.System.{System, IsSystem, Step, Along, internal}
 use Rattle.theory.specs.declared.relation.Relation.{Relation}
@@ -11,11 +11,11 @@ use Rattle.lts.specs.Lts.{Grouped, Triple, label_of, target_of, row_of, system_o
 use Rattle.lists.specs.Lists.{list_at, pair_cmp}
 use Rattle.partition.specs.Splitting.{IsAlone, Splits}
 use Rattle.partition.specs.Blocks.{RoundBlocks, HaveNone}
-use Rattle.inert.specs.Signed.{HasPair, IsSignature, LeavesOut}
+use Rattle.inert.specs.Signed.{HasPair, IsSignature}
 use Rattle.refine.specs.Rounds.{IsNext}
 use Rattle.refine.specs.EachList.{list_of}
 use Rattle.refine.specs.Settled.{IsTouched, IsStill, Settled, IsPut, ArePut}
-use Rattle.refine.specs.Noting.{Noted, Watches}
+use Rattle.refine.specs.Noting.{Sources, Watches}
 use Rattle.refine.proofs.Living.{no_step}
 use Rattle.refine.proofs.EqualLists.{Labelled, equal_lists}
 
@@ -176,13 +176,12 @@ module _ (rel : Relation) (l : Grouped) (sys : IsSystem (system_of l)) (labelled
       let h = splits.parts (omega (arith, d, grows)) in
       h.5 ((alike h.0 h.1 (omega (arith, h.2, states)) (omega (arith, h.3, states))).1 h.4)
 
-  pub IsNext-from : (noted : Noted) → Watches rel l q noted → q.low ≡ p.count → q.live ≡ p.live → IsNext rel l p q noted
-  IsNext-from noted watches low live = record {
+  pub IsNext-from : (entering : Option Sources) → Watches entering rel l q → q.low ≡ p.count → IsNext rel l p q entering
+  IsNext-from entering watches low = record {
     states = splits.states ∙ states;
     split = split;
     blocks = splits.blocks;
     low = low;
-    live = live;
     settled =
         subst (Settled rel (system_of l) (slice_index q.of)) (sym low) (
         settled_next rel (system_of l) (slice_index p.of) (slice_index q.of) p.count (λ s a t step. (step_below (system_of l) sys s a t step).1) stays split);
@@ -206,17 +205,34 @@ put_whole rel l p s list (inr x) = empty rel x.0
     empty Branching still = absurd still
 
 -- each list is put down, or its state is alone in its block
-pub all_told : (rel : Relation) (l : Grouped) (p live : List ℕ) (low : ℕ) (lists : List (List (ℕ × ℕ))) (numbers : List ℕ)
-    → ((s : ℕ) (a : List ℕ) (t : ℕ) → Step (system_of l) s a t ↔ ((e : Triple) × Contains (row_of s l.places) e × (text_of l.labels (label_of e) ≡ a) × (target_of e ≡ t)))
-    → LeavesOut l p live → HaveNone live numbers → length numbers ≡ l.states → list_at lists 0 ≡ [] → ArePut rel l p low live (list_of lists numbers)
-    → (s : ℕ) → s < l.states → IsPut rel l p low s (list_of lists numbers s) ⊎ IsAlone p s
-all_told rel l p live low lists numbers steps others none size first put s ls = elim (others s ls) [
-  | inl one ↦ inl (put s one)
-  | inr x ↦ elim x [
-    | inl alone ↦ inr alone
-    | inr empty ↦ elim (none s (omega (arith, ls, size))) [
-      | inl one ↦ inl (put s one)
-      | inr zero ↦ inl (put_none l p low s (no_step l s (steps s) empty) rel (list_of lists numbers s) (ap (list_at lists) zero ∙ first))
+module _ (l : Grouped) (p : RoundBlocks) (lists : List (List (ℕ × ℕ))) (numbers : List ℕ)
+    (steps : (s : ℕ) (a : List ℕ) (t : ℕ) → Step (system_of l) s a t ↔ ((e : Triple) × Contains (row_of s l.places) e × (text_of l.labels (label_of e) ≡ a) × (target_of e ≡ t)))
+    (none : HaveNone p.live numbers) (size : length numbers ≡ l.states) (first : list_at lists 0 ≡ []) where
+  -- a state that is still has no other list than the empty one, if it is not looked at
+  still_put : ArePut Strong l p.of p.low p.live (list_of lists numbers) → (s : ℕ) → s < l.states
+      → IsStill Strong (system_of l) (slice_index p.of) p.low s → IsPut Strong l p.of p.low s (list_of lists numbers s)
+  still_put put s ls still = elim (none s (omega (arith, ls, size))) [
+    | inl one ↦ put s one
+    | inr zero ↦ inr (still, ap (list_at lists) zero ∙ first)
+  ]
+
+  pub all_told : (entering : Option Sources) (rel : Relation) → Watches entering rel l p → ArePut rel l p.of p.low p.live (list_of lists numbers)
+      → (s : ℕ) → s < l.states → IsPut rel l p.of p.low s (list_of lists numbers s) ⊎ IsAlone p.of s
+  all_told None rel others put s ls = elim (others s ls) [
+    | inl one ↦ inl (put s one)
+    | inr x ↦ elim x [
+      | inl alone ↦ inr alone
+      | inr empty ↦ elim (none s (omega (arith, ls, size))) [
+        | inl one ↦ inl (put s one)
+        | inr zero ↦ inl (put_none l p.of p.low s (no_step l s (steps s) empty) rel (list_of lists numbers s) (ap (list_at lists) zero ∙ first))
+      ]
     ]
   ]
-]
+  all_told (Some sources) Strong w put s ls = elim (w.others s ls) [
+    | inl one ↦ inl (put s one)
+    | inr x ↦ elim x [
+      | inl alone ↦ inr alone
+      | inr still ↦ inl (still_put put s ls still)
+    ]
+  ]
+  all_told (Some sources) Branching w put s ls = absurd w

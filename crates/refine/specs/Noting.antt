@@ -1,63 +1,65 @@
--- The transitions that lead to each state, once a round has noted them, and marks: no transition from a state that is not marked
--- leads to a new number.
-use Rattle.std.specs.Prelude.{◌≡◌, ◌⊎◌, ℕ, ◌<◌, ◌≤◌, Bool, true, cond, IsTrue, List, [], length, map, slice_index, slice_index_or}
-use Rattle.std.specs.List.{All, Contains, range_with_len}
+-- The sources of the transitions that lead to each state, once a round has noted them: which states a round then looks at.
+use Rattle.std.specs.Prelude.{◌≡◌, ◌⊎◌, ℕ, ◌<◌, ◌≤◌, Bool, false, cond, IsTrue, Option, None, Some, List, [], length, map, slice_index, slice_index_or}
+use Rattle.std.specs.List.{All, Contains}
 use Rattle.theory.specs.declared.relation.Relation.{Relation}
 use Rattle.theory.specs.declared.relation.Relation.TheVariants.{Strong, Branching}
-use Rattle.lts.specs.Lts.{Grouped, Triple, source_of, label_of, target_of, row_of, system_of}
+use Rattle.lts.specs.Lts.{Grouped, Triple, target_of, row_of, system_of}
+use Rattle.partition.specs.Splitting.{IsAlone}
 use Rattle.partition.specs.Blocks.{RoundBlocks, AreLive, IsOne}
+use Rattle.inert.specs.Signed.{LeavesOut}
 use Rattle.refine.specs.Settled.{IsStill}
 
--- for each state the label number and the source of each transition that leads to it, as far as noted; and the marks of the states
-pub record Noted : Type 0 where
-  pub groups : List (List (ℕ × ℕ))
-  pub marks : List Bool
+-- for each state the sources of the transitions that lead to it
+abbrev pub Sources : Type 0
+Sources = List (List ℕ)
 
--- the state s is marked, as each is where there are no marks
-abbrev pub BearsMark : List Bool → ℕ → Type 0
-BearsMark marks s = IsTrue (slice_index_or marks s true)
-
--- transitions of the source s, turned round: each one's target first, and s last
-abbrev pub turned : ℕ → List Triple → List Triple
-turned s row = map (λ e. (target_of e, label_of e, s)) row
+-- transitions of the source s, turned round: each one's target, and s
+abbrev pub turned : ℕ → List Triple → List (ℕ × ℕ)
+turned s row = map (λ e. (target_of e, s)) row
 
 -- what is noted of such a row, if anything is
-abbrev pub noted_of : Bool → ℕ → List Triple → List Triple
+abbrev pub noted_of : Bool → ℕ → List Triple → List (ℕ × ℕ)
 noted_of noting s row = cond noting (turned s row) []
 
--- for each of so many states the second and the third number of the triples that it is the first of
-abbrev pub groups_of : ℕ → List Triple → List (List (ℕ × ℕ))
-groups_of states notes = map (λ s. map (λ x. (label_of x, target_of x)) (row_of s notes)) (range_with_len 0 states)
+-- what a round has noted of the transitions from these states: all, if it notes them
+pub record AreNotes (noting : Bool) (l : Grouped) (live : List ℕ) (notes : List (ℕ × ℕ)) : Type 0 where
+  pub few : length notes ≤ length l.places
+  pub below : All (λ x. x.0 < l.states) notes
+  pub each : IsTrue noting → (s : ℕ) → IsOne live s → All (Contains notes) (turned s (row_of s l.places))
 
--- each transition from one of these states is noted at its target
-abbrev pub AreNoted : Grouped → List ℕ → List (List (ℕ × ℕ)) → Type 0
-AreNoted l live groups = (s : ℕ) → IsOne live s → (e : Triple) → Contains (row_of s l.places) e
-    → Contains (slice_index_or groups (target_of e) []) (label_of e, s)
+-- each transition from s is noted at its target
+abbrev pub IsNoted : Grouped → Sources → ℕ → Type 0
+IsNoted l sources s = (e : Triple) → Contains (row_of s l.places) e → Contains (slice_index_or sources (target_of e) []) s
 
--- all transitions from these states are noted, or none is (branching: none is)
-abbrev pub Knows : Relation → Grouped → List ℕ → List (List (ℕ × ℕ)) → Type 0
-Knows Strong l live groups = (groups ≡ []) ⊎ AreNoted l live groups
-Knows Branching l live groups = groups ≡ []
+-- the transitions from each state are noted, or it is alone in its block; a state that is not looked at is alone, or still
+pub record AreWatched (l : Grouped) (p : RoundBlocks) (sources : Sources) : Type 0 where
+  pub noted : (s : ℕ) → s < l.states → IsAlone p.of s ⊎ IsNoted l sources s
+  pub others : (s : ℕ) → s < l.states → IsOne p.live s ⊎ IsAlone p.of s ⊎ IsStill Strong (system_of l) (slice_index p.of) p.low s
 
--- what is noted of blocks, where a state that is not marked is still
-pub record Watches (rel : Relation) (l : Grouped) (p : RoundBlocks) (noted : Noted) : Type 0 where
-  pub knows : Knows rel l p.live noted.groups
-  pub still : (s : ℕ) → IsOne p.live s → BearsMark noted.marks s ⊎ IsStill rel (system_of l) (slice_index p.of) p.low s
+-- what is known of the states that a round does not look at, before transitions are noted and after it (branching: none are noted)
+abbrev pub Watches : Option Sources → Relation → Grouped → RoundBlocks → Type 0
+Watches None rel l p = LeavesOut l p.of p.live
+Watches (Some sources) Strong l p = AreWatched l p sources
+Watches (Some sources) Branching l p = ⊥
 
--- each source that is noted at a state of a new number is marked
-pub record AreMarked (groups : List (List (ℕ × ℕ))) (p : RoundBlocks) (noted : Noted) : Type 0 where
-  pub same : noted.groups ≡ groups
-  pub size : length noted.marks ≡ length noted.groups
-  pub each : (t : ℕ) → t < length p.of → p.low ≤ slice_index p.of t → All (λ x. BearsMark noted.marks x.1) (slice_index_or groups t [])
+-- each of these states is among those that were found, or alone in its block
+abbrev pub AreFound : List ℕ → List ℕ → List ℕ → Type 0
+AreFound of found states = All (λ s. s < length of → IsOne found s ⊎ IsAlone of s) states
 
--- what a round reads rows under: the block of each state, and of the states that are looked at those that are not marked are still
-pub record ReadsUnder (l : Grouped) (of live : List ℕ) (low : ℕ) (marks : List Bool) : Type 0 where
+-- the states from which a transition leads to a new number are looked at, if they are not alone in their blocks
+abbrev pub LooksAtSources : Sources → RoundBlocks → Type 0
+LooksAtSources sources p = (t : ℕ) → t < length p.of → p.low ≤ slice_index p.of t → AreFound p.of p.live (slice_index_or sources t [])
+
+-- no state is marked
+abbrev pub IsUnmarked : List Bool → Type 0
+IsUnmarked marks = (s : ℕ) → ¬ IsTrue (slice_index_or marks s false)
+
+-- the states that were found are those that are marked
+pub record AreMarked (marks : List Bool) (found : List ℕ) : Type 0 where
+  pub each : All (λ s. IsTrue (slice_index_or marks s false)) found
+  pub all : (s : ℕ) → IsTrue (slice_index_or marks s false) → IsOne found s
+
+-- what a round reads rows under: the block of each state, and the states that are looked at
+pub record ReadsUnder (l : Grouped) (of live : List ℕ) : Type 0 where
   pub states : length of ≡ l.states
   pub rising : AreLive l.states live
-  pub still : (s : ℕ) → IsOne live s → BearsMark marks s ⊎ IsStill Strong (system_of l) (slice_index of) low s
-
--- what a round has noted of the transitions from these states: all, if it notes them
-pub record AreNotes (noting : Bool) (l : Grouped) (live : List ℕ) (notes : List Triple) : Type 0 where
-  pub few : length notes ≤ length l.places
-  pub below : All (λ x. source_of x < l.states) notes
-  pub each : IsTrue noting → (s : ℕ) → IsOne live s → All (Contains notes) (turned s (row_of s l.places))

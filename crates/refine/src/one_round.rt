@@ -146,7 +146,6 @@ fn sign<M: Meter>(
         l,
         of: p,
         low: 0,
-        marks: &[],
         noting: false,
     };
     read(&under, s, pairs, m)?;

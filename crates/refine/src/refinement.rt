@@ -6,7 +6,6 @@ ghost use Rattle.lts.specs.Meter.{HasRoomFor, Costs, CostsUpTo};
 ghost use Rattle.lts.specs.Lts.{row_of, system_of};
 ghost use Rattle.partition.specs.Partition.{IsSomePartition};
 ghost use Rattle.partition.specs.Blocks.{IsOne, AreLive};
-ghost use Rattle.inert.specs.Signed.{LeavesOut};
 ghost use Rattle.refine.specs.Settled.{Settled};
 ghost use Rattle.refine.specs.Noting.{Watches};
 ghost use Rattle.refine.specs.Rounds.{IsNext};
@@ -85,8 +84,7 @@ fn next_round<S: Signing, M: Meter>(
 ) -> Result<SignedBlocks, Memory>
     requires states { length round.blocks.of ≡ l.now.states }
     requires settled { Settled S.relation (system_of l.now) (slice_index round.blocks.of) round.blocks.low }
-    requires others { LeavesOut l.now round.blocks.of round.blocks.live }
-    requires watches { Watches S.relation l.now round.blocks round.entering }
+    requires watches { Watches round.entering S.relation l.now round.blocks }
     requires room { HasRoomFor (M.counted m.old) 1 (length l.now.places) }
 
     // Once it is done

@@ -7,8 +7,8 @@ use std::alloc::Global;
 pub struct Scratch {
     pub(crate) pairs: Vec<(u32, u32)>,
     pub(crate) signer: Signer,
-    /// The transitions that a round notes: target, label number, source.
-    pub(crate) notes: Vec<(u32, u32, u32)>,
+    /// The transitions that a round notes: target and source.
+    pub(crate) notes: Vec<(u32, u32)>,
     /// How many states the last round has read that lead to a new number. It decides alone when to note.
     pub(crate) touched: u32,
 }

@@ -1,11 +1,11 @@
 //! The blocks of a round, and the signature of each state under them.
-ghost use Rattle.std.specs.Prelude.{◌≡◌, ◌∷◌, [], length, IfOk};
+ghost use Rattle.std.specs.Prelude.{◌≡◌, ℕ, ◌<◌, ◌∷◌, [], length, slice_index, None, IfOk, MatchOption};
 ghost use Rattle.lists.specs.Lists.{AreLists};
 ghost use Rattle.partition.specs.Partition.{AreBlocks};
-ghost use Rattle.partition.specs.Blocks.{LeavesAlone};
+ghost use Rattle.partition.specs.Blocks.{HaveNone, LeavesAlone};
 ghost use Rattle.partition.specs.Splitting.{Splits};
 ghost use Rattle.refine.specs.EachList.{HaveLists, list_of};
-ghost use Rattle.refine.specs.Noting.{AreMarked};
+ghost use Rattle.refine.specs.Noting.{LooksAtSources};
 
 use crate::entering::Entering;
 use lists::{EMPTY, Lists};
@@ -14,25 +14,25 @@ use partition::Blocks;
 use std::alloc::Global;
 use std::marker::Model;
 
-/// The blocks of a round, the transitions that were noted, and the signatures: lists, and the number of each state's list. A state
-/// that the round does not look at has the empty one.
+/// The blocks of a round, the transitions if they were noted, and the signatures: lists, and the number of each state's list. A
+/// state that the round does not look at has the empty one.
 #[derive(Drop)]
 pub struct SignedBlocks {
     pub(crate) alloc: Global,
     pub(crate) blocks: Blocks,
     pub(crate) lists: Lists,
     pub(crate) numbers: Vec<u32>,
-    pub(crate) entering: Entering,
+    pub(crate) entering: Option<Entering>,
 }
 
 impl Model for SignedBlocks {
-    ghost use Rattle.refine.specs.EachList.{Signed, HaveLists};
+    ghost use Rattle.refine.specs.EachList.{Signed, HaveLists, HaveSources};
 
     ghost Value = { Signed };
 
     ghost view = { λ r. record { blocks = r.blocks; lists = r.lists; numbers = r.numbers.items; entering = r.entering } };
 
-    ghost invariant = { λ r. HaveLists r.blocks.of r.blocks.live r.lists r.numbers.items };
+    ghost invariant = { λ r. HaveLists r.blocks.of r.blocks.live r.lists r.numbers.items × HaveSources r.blocks.of r.entering };
 }
 
 impl SignedBlocks {
@@ -42,7 +42,7 @@ impl SignedBlocks {
     pub fn new(alloc: Global, blocks: Blocks) -> Result<SignedBlocks, Memory>
         ensures blocks { IfOk result (λ r. r.blocks ≡ blocks) }
         ensures empty { IfOk result (λ r. r.lists ≡ [] ∷ []) }
-        ensures nothing { IfOk result (λ r. (r.entering.groups ≡ []) × (length r.entering.marks ≡ 0)) }
+        ensures nothing { IfOk result (λ r. r.entering ≡ None) }
     {
         let states = blocks.of().len();
         Ok(SignedBlocks {
@@ -50,7 +50,7 @@ impl SignedBlocks {
             blocks,
             numbers: vec![in alloc; EMPTY; states]?,
             lists: Lists::new(alloc, states as u32)?,
-            entering: Entering::new(alloc, 0, &[])?,
+            entering: None,
         })
     }
 
@@ -104,33 +104,59 @@ impl SignedBlocks {
         })
     }
 
-    /// Splits the blocks: two states stay together if their signatures are equal. States that lead to new blocks are marked, if
-    /// transitions were noted.
+    /// Splits the blocks: two states stay together if their signatures are equal. If transitions were noted, the next round looks at
+    /// the states that lead to new blocks.
     ///
     /// Fails if there is no memory for it.
     pub fn split(self) -> Result<SignedBlocks, Memory>
         ensures splits { IfOk result (λ q. Splits self.blocks.of self.blocks.count (list_of self.lists self.numbers)
             q.blocks.of q.blocks.count) }
         ensures low { IfOk result (λ q. q.blocks.low ≡ self.blocks.count) }
-        ensures live { IfOk result (λ q. q.blocks.live ≡ self.blocks.live) }
-        ensures marked { IfOk result (λ q. AreMarked self.entering.groups q.blocks q.entering) }
+        ensures looks { IfOk result (λ q. MatchOption self.entering (q.blocks.live ≡ self.blocks.live)
+            (λ sources. LooksAtSources sources q.blocks)) }
+        ensures entering { IfOk result (λ q. q.entering ≡ self.entering) }
     {
         let SignedBlocks {
             alloc,
             blocks,
             lists,
-            numbers,
-            mut entering,
+            mut numbers,
+            entering,
         } = self;
         lists.known();
         let blocks = blocks.split(alloc, lists.len(), &numbers)?;
-        entering.mark(&blocks);
+        let Some(entering) = entering else {
+            return Ok(SignedBlocks {
+                alloc,
+                blocks,
+                lists,
+                numbers,
+                entering: None,
+            });
+        };
+        let (entering, live) = entering.states_before(alloc, &blocks)?;
+        forget(&mut numbers, blocks.live());
+        let blocks = blocks.look_at(alloc, live)?;
         Ok(SignedBlocks {
             alloc,
             blocks,
             lists,
             numbers,
-            entering,
+            entering: Some(entering),
         })
+    }
+}
+
+/// Gives these states the number of the empty list, as the others have it.
+fn forget(numbers: &mut [u32], live: &[u32])
+    requires none { HaveNone live.now numbers.old }
+    ensures states { length numbers.new ≡ length numbers.old }
+    ensures empty { (s : ℕ) → s < length numbers.old → slice_index numbers.new s ≡ 0 }
+{
+    for i in 0..live.len() {
+        let s = live[i] as usize;
+        if s < numbers.len() {
+            numbers[s] = EMPTY;
+        }
     }
 }

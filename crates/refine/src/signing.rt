@@ -2,10 +2,9 @@
 ghost use Rattle.std.specs.Prelude.{◌≡◌, length, IfOk};
 ghost use Rattle.theory.specs.declared.relation.Relation.{Relation};
 ghost use Rattle.lts.specs.Meter.{HasRoomFor, Visits};
-ghost use Rattle.inert.specs.Signed.{LeavesOut};
 ghost use Rattle.refine.specs.EachList.{list_of};
 ghost use Rattle.refine.specs.Settled.{ArePut};
-ghost use Rattle.refine.specs.Noting.{Knows, Watches};
+ghost use Rattle.refine.specs.Noting.{Watches};
 
 use crate::scratch::Scratch;
 use crate::signed_blocks::SignedBlocks;
@@ -17,8 +16,8 @@ pub trait Signing {
     ghost relation: { Relation };
 
     /// Signs each state that a round looks at: no pairs for one that no new block can be seen from. States with equal signatures
-    /// share a list. The others are alone in their blocks, or have no transition, and have the empty list already. Each
-    /// transition is visited once, those of a state that is not marked for their count alone.
+    /// share a list. The others have the empty list already. Each transition is visited once, those of the others for their count
+    /// alone.
     ///
     /// Fails if there is no memory for it.
     fn sign_each<M: Meter>(
@@ -28,15 +27,14 @@ pub trait Signing {
         m: &mut M,
     ) -> Result<SignedBlocks, Memory>
         requires states { length round.blocks.of ≡ l.now.states }
-        requires others { LeavesOut l.now round.blocks.of round.blocks.live }
-        requires watches { Watches relation l.now round.blocks round.entering }
+        requires watches { Watches round.entering relation l.now round.blocks }
         requires room { HasRoomFor (M.counted m.old) 0 (length l.now.places) }
 
         // Once it is done
         ensures blocks { IfOk result (λ r. r.blocks ≡ round.blocks) }
         ensures signed { IfOk result (λ r.
             ArePut relation l.now r.blocks.of r.blocks.low r.blocks.live (list_of r.lists r.numbers)) }
-        ensures knows { IfOk result (λ r. Knows relation l.now r.blocks.live r.entering.groups) }
+        ensures watches { IfOk result (λ r. Watches r.entering relation l.now r.blocks) }
 
         // In either case
         ensures visits { let n = length l.now.places in Visits M.counted m.old m.new result n n };

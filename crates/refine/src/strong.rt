@@ -1,17 +1,18 @@
 //! Strong bisimulation: a state's signature has what its transitions show, and the blocks that they lead to.
-ghost use Rattle.std.specs.Prelude.{◌≡◌, ◌⊎◌, ◌↔◌, ◌+◌, ◌++◌, ◌∷◌, ◌<◌, ◌≤◌, [], length, map, slice_index, IsTrue, IfOk, OnOk};
+ghost use Rattle.std.specs.Prelude.{◌≡◌, ◌↔◌, ◌+◌, ◌++◌, ◌∷◌, ◌<◌, ◌≤◌, [], length, map, slice_index, cond, Some, None, IsTrue, IfOk, OnOk};
 ghost use Rattle.std.specs.List.{All};
 ghost use Rattle.std.specs.Vec.{vec_len, vec_capacity};
 ghost use Rattle.theory.specs.declared.relation.Relation.TheVariants.{Strong as strong};
 ghost use Rattle.lts.specs.Meter.{HasRoomFor, Visits};
 ghost use Rattle.lts.specs.declared.limits.TheConstants.{MOST_TRANSITIONS};
-ghost use Rattle.lts.specs.Lts.{source_of, row_of};
+ghost use Rattle.lts.specs.Lts.{row_of};
 ghost use Rattle.lists.specs.Lists.{list_at, AreNumbers, Grow};
 ghost use Rattle.partition.specs.Blocks.{HaveNone};
 ghost use Rattle.inert.specs.Signed.{pair_under};
 ghost use Rattle.refine.specs.EachList.{list_of};
 ghost use Rattle.refine.specs.Settled.{HasFrom, IsPut, ArePut};
-ghost use Rattle.refine.specs.Noting.{BearsMark, ReadsUnder, AreNotes, turned, noted_of, groups_of};
+ghost use Rattle.lts.specs.Groups.{groups_of};
+ghost use Rattle.refine.specs.Noting.{ReadsUnder, AreNotes, turned, noted_of};
 
 use crate::entering::Entering;
 use crate::scratch::Scratch;
@@ -40,7 +41,6 @@ impl Signing for Strong {
             l,
             of: round.blocks.of(),
             low: round.blocks.low(),
-            marks: round.entering.marks(),
             noting,
         };
         let live = round.blocks.live();
@@ -63,7 +63,7 @@ impl Signing for Strong {
     }
 }
 
-/// Whether this round notes the transitions that it reads, with room for them: once, and where the last round has read most rows for
+/// Whether this round notes the transitions that it reads, with room for them: once, and where the last round has read many rows for
 /// nothing. A first round does not, nor do early ones, after which there may be no more.
 ///
 /// Fails if there is no memory for them.
@@ -72,10 +72,15 @@ fn begin_notes<M: Meter>(
     round: &SignedBlocks,
     scratch: &mut Scratch,
     m: &M,
-) -> Result<bool, Memory> {
-    let few = (scratch.touched as usize) < round.blocks.live().len() / 2;
+) -> Result<bool, Memory>
+    ensures once { IfOk result (λ noting. IsTrue noting → round.now.entering ≡ None) }
+{
+    let few = (scratch.touched as usize) < round.blocks.live().len() / 4 * 3;
     scratch.touched = 0;
-    if round.blocks.low() == 0 || m.rounds() < 4 || !few || !round.entering.marks().is_empty() {
+    if round.entering.is_some() {
+        return Ok(false);
+    }
+    if round.blocks.low() == 0 || m.rounds() < 3 || !few {
         return Ok(false);
     }
     scratch.notes = Vec::with_capacity(round.alloc, l.edges() as usize)?;
@@ -88,25 +93,24 @@ fn begin_notes<M: Meter>(
 fn keep_notes(
     noting: bool,
     states: u32,
-    notes: &mut Vec<(u32, u32, u32)>,
-    entering: &mut Entering,
+    notes: &mut Vec<(u32, u32)>,
+    entering: &mut Option<Entering>,
     alloc: Global,
 ) -> Result<(), Memory>
     requires few { length notes.old.items ≤ MOST_TRANSITIONS }
-    requires targets { All (λ x. source_of x < states) notes.old.items }
-    ensures { OnOk result ((entering.new ≡ entering.old)
-        ⊎ (IsTrue noting × (entering.new.groups ≡ groups_of states notes.old.items))) }
+    requires targets { All (λ x. x.0 < states) notes.old.items }
+    ensures { OnOk result (entering.new ≡ cond noting (Some (groups_of states notes.old.items)) entering.old) }
 {
     if !noting {
         return Ok(());
     }
-    *entering = Entering::new(alloc, states, notes)?;
+    *entering = Some(Entering::new(alloc, states, notes)?);
     *notes = Vec::new(alloc);
     Ok(())
 }
 
-/// Puts the strong signatures of these states into `lists`, and their numbers there into `numbers`. The rows of the other states, and
-/// of those that are not marked, lie between those of two neighbours, and are visited for their count alone.
+/// Puts the strong signatures of these states into `lists`, and their numbers there into `numbers`. The rows of the other states lie
+/// between those of two neighbours, and are visited for their count alone.
 ///
 /// Fails if there is no memory for it.
 fn sign_live<M: Meter>(
@@ -117,7 +121,7 @@ fn sign_live<M: Meter>(
     numbers: &mut [u32],
     m: &mut M,
 ) -> Result<(), Memory>
-    requires under { ReadsUnder under.now.l.now under.now.of.now live.now under.now.low under.now.marks.now }
+    requires under { ReadsUnder under.now.l.now under.now.of.now live.now }
     requires lists { lists.old ≡ [] ∷ [] }
     requires numbers { (length numbers.old ≡ under.now.l.now.states) × HaveNone live.now numbers.old }
     requires room { HasRoomFor (M.counted m.old) 0 (length under.now.l.now.places) }
@@ -133,11 +137,6 @@ fn sign_live<M: Meter>(
     let mut next = 0;
     for i in 0..live.len() {
         let s = live[i];
-        if is_passed(under, s) {
-            lists.known();
-            numbers[s as usize] = EMPTY;
-            continue;
-        }
         let (start, end) = under.l.row(s);
         visit_places(under.l, next, start, m);
         next = end;
@@ -147,22 +146,13 @@ fn sign_live<M: Meter>(
     Ok(())
 }
 
-/// Whether the row of `s` need not be read: it leads to no new number, and is not noted.
-fn is_passed<M: Meter>(under: &NewBlocks<M>, s: u32) -> bool
-    ensures { IsTrue result → ¬ IsTrue under.now.noting × ¬ BearsMark under.now.marks.now s }
-{
-    let k = s as usize;
-    !under.noting && k < under.marks.len() && !under.marks[k]
-}
-
-/// What a row is read under: a system, the block of each state, from which number on blocks are new, the marks of the states that may
-/// lead there, and whether transitions are noted.
+/// What a row is read under: a system, the block of each state, from which number on blocks are new, and whether transitions are
+/// noted.
 #[derive(Drop)]
 pub(crate) struct NewBlocks<'a, M: Meter> {
     pub l: &'a Lts<M>,
     pub of: &'a [u32],
     pub low: u32,
-    pub marks: &'a [bool],
     pub noting: bool,
 }
 
@@ -208,7 +198,7 @@ fn read_row<M: Meter>(
     under: &NewBlocks<M>,
     s: u32,
     pairs: &mut Vec<(u32, u32)>,
-    notes: &mut Vec<(u32, u32, u32)>,
+    notes: &mut Vec<(u32, u32)>,
     m: &mut M,
 ) -> Result<bool, Memory>
     requires states { length under.now.of.now ≡ under.now.l.now.states }
@@ -225,14 +215,14 @@ fn read_row<M: Meter>(
     read(under, s, pairs, m)
 }
 
-/// Makes `pairs` those of the transitions of `s`, as `read` does, and notes each of these, its target first and `s` last.
+/// Makes `pairs` those of the transitions of `s`, as `read` does, and notes of each of these its target and `s`.
 ///
 /// Fails if there is no memory for it.
 fn read_noting<M: Meter>(
     under: &NewBlocks<M>,
     s: u32,
     pairs: &mut Vec<(u32, u32)>,
-    notes: &mut Vec<(u32, u32, u32)>,
+    notes: &mut Vec<(u32, u32)>,
     m: &mut M,
 ) -> Result<bool, Memory>
     requires states { length under.now.of.now ≡ under.now.l.now.states }
@@ -251,7 +241,7 @@ fn read_noting<M: Meter>(
     let mut touched = false;
     for k in start..end {
         let transition = under.l.edge(k, m);
-        notes.push((transition.1, transition.0, s))?;
+        notes.push((transition.1, s))?;
         touched = collect(under.of, under.low, transition, touched, pairs);
     }
     Ok(touched)

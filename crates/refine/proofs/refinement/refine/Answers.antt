@@ -11,9 +11,8 @@ use Rattle.partition.specs.Partition.{AreBlocks}
 use Rattle.partition.specs.Blocks.{IsOne, AreLive}
 use Rattle.inert.specs.Signed.{LeavesOut}
 use Rattle.partition.proofs.CallerLemmas.{one_block}
-use Rattle.refine.proofs.Living.{left_out_still, left_out_next}
 use Rattle.refine.proofs.Settling.{settled_first}
-use Rattle.refine.proofs.Noting.{watches_first, watches_left}
+use Rattle.refine.proofs.Noting.{watches_left}
 use Rattle.refine.proofs.refinement.refine.Goals as goal
 use Rattle.refine.proofs.refinement.refine.Given.{Over}
 use Rattle.refine.proofs.refinement.refine.Goals.{In_ok-before, Then-more-count, Else-more-count}
@@ -30,11 +29,10 @@ loop-scratch-init g c =
     record {
       states = subst (λ b. length b.of ≡ l.states) is (blocks.states ∙ c.states.ensures.value);
       settled = subst (λ b. Settled rel A (slice_index b.of) b.low) is (subst (Settled rel A (slice_index c.in_ok-blocks.blocks.of)) (sym blocks.count.1) (settled_first rel A _));
-      others = subst (λ b. LeavesOut l b.of b.live) is (λ s h. elim (c.in_ok-live.ensures.rows s h) [
+      watches = subst (λ e. Watches e rel l c.in_ok-round.round.blocks) (sym c.in_ok-round.ensures.nothing) (subst (λ b. LeavesOut l b.of b.live) is (λ s h. elim (c.in_ok-live.ensures.rows s h) [
         | inl one ↦ inl (subst (λ live. IsOne live s) (sym blocks.live) one)
         | inr empty ↦ inr (inr empty)
-      ]);
-      watches = watches_first rel l c.in_ok-round.round.blocks c.in_ok-round.round.entering c.in_ok-round.ensures.nothing.0 c.in_ok-round.ensures.nothing.1;
+      ]));
       made = subst (λ b. Made rel l (g.M.Meter.counted c.args.m.now) (g.M.Meter.counted c.args.m.now) b.of) is (record { rounds = 0; underway = begun; costs = search rules });
     }
 
@@ -51,23 +49,12 @@ next_round-requires-clause-settled g c =
 pub next_round-requires-clause-states : goal.next_round-requires-clause-states
 next_round-requires-clause-states g c = ap (λ b. length b.of) c.in_ok-before.ensures.same ∙ c.loop-scratch.invariant.states
 
--- the states that a round does not look at
-others : (g : Over) (c : In_ok-before g) → LeavesOut c.args.l.now c.in_ok-before.before.blocks.of c.in_ok-before.before.blocks.live
-others g c =
-    let was = c.loop-scratch.round.blocks in
-    let live = c.in_ok-before.before.blocks.live in
-    subst (λ of. LeavesOut c.args.l.now of live) (sym (ap (λ b. b.of) c.in_ok-before.ensures.same))
-    (left_out_still c.args.l.now was.of was.live live c.in_ok-before.ensures.leaves c.loop-scratch.invariant.others)
-
-pub next_round-requires-clause-others : goal.next_round-requires-clause-others
-next_round-requires-clause-others g c = others g (goal.at.next_round-requires-clause-others g c).In_ok-before
-
 pub next_round-requires-clause-watches : goal.next_round-requires-clause-watches
 next_round-requires-clause-watches g c =
     let was = c.loop-scratch.round in
     let before = c.in_ok-before.before in
-    subst (Watches g.S.Signing.relation c.args.l.now before.blocks) (sym c.in_ok-before.ensures.entering)
-    (watches_left g.S.Signing.relation c.args.l.now was.blocks before.blocks was.entering c.in_ok-before.ensures.same c.in_ok-before.ensures.leaves c.loop-scratch.invariant.watches)
+    subst (λ e. Watches e g.S.Signing.relation c.args.l.now before.blocks) (sym c.in_ok-before.ensures.entering)
+    (watches_left was.entering g.S.Signing.relation c.args.l.now was.blocks before.blocks c.in_ok-before.ensures.same c.in_ok-before.ensures.leaves c.loop-scratch.invariant.watches)
 
 pub next_round-requires-clause-room : goal.next_round-requires-clause-room
 next_round-requires-clause-room g c =
@@ -184,16 +171,10 @@ made g c =
 pub loop-scratch-preserved : goal.loop-scratch-preserved
 loop-scratch-preserved g c =
     let l = c.args.l.now in
-    let before = c.in_ok-before.before.blocks in
     let next = c.in_ok-next.ensures.next in
-    let of = c.in_ok-next.next.blocks.of in
     record {
       states = next.states;
       settled = next.settled;
       watches = next.watches;
-      others =
-          subst (LeavesOut l of) (sym next.live)
-          (left_out_next l before.of of before.live (ap (λ b. length b.of) c.in_ok-before.ensures.same ∙ c.loop-scratch.invariant.states) next.states
-          (λ s t ls lt e. ((next.split s t ls lt).0 e).0) (others g (goal.at.loop-scratch-preserved g c).In_ok-before));
       made = made g (goal.at.loop-scratch-preserved g c).Else-more-count;
     }

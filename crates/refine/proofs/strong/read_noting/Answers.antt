@@ -1,7 +1,7 @@
-use Rattle.std.proofs.Common.{◌≡◌, ◌∙◌, ◌++◌, map, slice_index, ap, arith, rules}
+use Rattle.std.proofs.Common.{◌≡◌, ◌∙◌, ℕ, ◌++◌, map, slice_index, ap, arith, rules}
 use Rattle.std.proofs.lemmas.Grind.{common_steps}
 use Rattle.std.proofs.lemmas.List.{take_all}
-use Rattle.lts.specs.Lts.{Triple, row_of, label_of, target_of, place_at}
+use Rattle.lts.specs.Lts.{row_of, target_of, place_at}
 use Rattle.inert.specs.Signed.{pair_under}
 use Rattle.refine.specs.Noting.{turned}
 use Rattle.refine.proofs.strong.read_noting.Goals as goal
@@ -17,8 +17,7 @@ loop-k-preserved g c =
     let edge = c.edge-transition.ensures in
     let shown : (c.edge-transition.result.0, slice_index under.of.now c.edge-transition.result.1) ≡ pair_under under.of.now e =
     λ j. (edge.label j, (ap (slice_index under.of.now) edge.target) j) in
-    let noted : ◌≡◌ {A = Triple} (c.edge-transition.result.1, c.edge-transition.result.0, c.args.s) (target_of e, label_of e, c.args.s) =
-    λ j. (edge.target j, edge.label j, c.args.s) in
+    let noted : ◌≡◌ {A = ℕ × ℕ} (c.edge-transition.result.1, c.args.s) (target_of e, c.args.s) = λ j. (edge.target j, c.args.s) in
     record {
       room = omega (arith, i.room, c.collect-touched.ensures.room);
       pairs = grind (arith, common_steps, shown, row, i.pairs, c.collect-touched.ensures.pairs);

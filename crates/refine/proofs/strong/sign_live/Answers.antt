@@ -3,8 +3,8 @@ use Rattle.std.specs.List.{All}
 use Rattle.std.proofs.lemmas.Bool.{cases_lt}
 use Rattle.std.proofs.lemmas.List.Elements.{All-nil}
 use Rattle.theory.specs.declared.relation.Relation.TheVariants.{Strong}
-use Rattle.lts.specs.Lts.{source_of, row_of, system_of}
-use Rattle.refine.specs.Settled.{IsStill, IsPut}
+use Rattle.lts.specs.Lts.{row_of}
+use Rattle.refine.specs.Settled.{IsPut}
 use Rattle.refine.specs.Noting.{turned}
 use Rattle.refine.proofs.Living.{put_more, each_put, all_numbers, none_more}
 use Rattle.refine.proofs.Noting.{notes_few, notes_below, notes_stay, notes_here}
@@ -18,38 +18,10 @@ loop-i-init g c = record {
   none = c.requires.numbers.1;
   some = omega (arith, ap length c.requires.lists);
   few = omega (arith, ap length c.clear.ensures.items);
-  below = subst (All (λ x. source_of x < c.args.under.now.l.now.states)) (sym c.clear.ensures.items) (All-nil (λ x. source_of x < c.args.under.now.l.now.states));
+  below = subst (All (λ x. x.0 < c.args.under.now.l.now.states)) (sym c.clear.ensures.items) (All-nil (λ x. x.0 < c.args.under.now.l.now.states));
   noted = λ on j h. absurd (omega (arith, h));
   visits = record { rounds = omega arith; at_least = omega arith; at_most = omega arith };
 }
-
-pub loop-i-preserved-then-is_passed : goal.loop-i-preserved-then-is_passed
-loop-i-preserved-then-is_passed g c =
-    let under = c.args.under.now in
-    let live = c.args.live.now in
-    let i = c.loop-i.i in
-    let s = slice_index live i in
-    let inv = c.loop-i.invariant in
-    let rises = c.requires.under.rising in
-    let more : i < length live = omega (arith, c.loop-i-test.true, c.loop-i.auto.i-end) in
-    let size = c.requires.numbers.0 in
-    let passed = c.is_passed.ensures c.if-is_passed.true in
-    let still : IsStill Strong (system_of under.l.now) (slice_index under.of.now) under.low s =
-    elim (c.requires.under.still s (i, more, refl)) [ inl marked ↦ absurd (passed.1 marked) | inr still ↦ still ] in
-    let P : ℕ → List (ℕ × ℕ) → Type 0 = λ t list. IsPut Strong under.l.now under.of.now under.low t list in
-    record {
-      coming = λ j low h. inv.coming j (omega (arith, low)) h;
-      within = inv.within;
-      put =
-          put_more c.loop-i.lists c.loop-i.lists c.loop-i.numbers live under.l.now.states i 0 (record { longer = omega arith; same = λ k h. refl }) rises
-          (omega (arith, c.loop-i.auto.numbers, size)) more P inv.put (omega (arith, inv.some)) (inr (still, c.known-then-is_passed.ensures.first));
-      none = none_more c.loop-i.numbers live i 0 more inv.none;
-      some = inv.some;
-      few = inv.few;
-      below = inv.below;
-      noted = λ on. absurd (passed.0 on);
-      visits = inv.visits;
-    }
 
 pub loop-i-preserved : goal.loop-i-preserved
 loop-i-preserved g c =

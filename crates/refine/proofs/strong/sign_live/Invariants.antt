@@ -2,7 +2,7 @@ use Rattle.std.proofs.Common.{ℕ, ◌<◌, ◌≤◌, IsTrue, length, slice_ind
 use Rattle.std.specs.List.{All}
 use Rattle.theory.specs.declared.relation.Relation.TheVariants.{Strong}
 use Rattle.lts.specs.Meter.{Costs}
-use Rattle.lts.specs.Lts.{before, source_of, row_of}
+use Rattle.lts.specs.Lts.{before, row_of}
 use Rattle.lists.specs.Lists.{list_at}
 use Rattle.partition.specs.Blocks.{HaveNone}
 use Rattle.refine.specs.Settled.{IsPut}
@@ -18,7 +18,7 @@ invariant-loop-i g l = record {
   none : HaveNone l.live l.numbers;
   some : 1 ≤ length l.lists;
   few : length l.scratch.notes.items ≤ l.next;
-  below : All (λ x. source_of x < l.under.l.now.states) l.scratch.notes.items;
+  below : All (λ x. x.0 < l.under.l.now.states) l.scratch.notes.items;
   noted : IsTrue l.under.noting → (j : ℕ) → j < l.i → All (Contains l.scratch.notes.items) (turned (slice_index l.live j) (row_of (slice_index l.live j) l.under.l.now.places));
   visits : Costs (g.M.Meter.counted l.fn.m) (g.M.Meter.counted l.m) 0 l.next l.next;
 }

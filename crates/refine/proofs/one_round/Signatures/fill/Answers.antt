@@ -3,19 +3,16 @@ use Rattle.partition.specs.Blocks.{IsOne}
 use Rattle.inert.specs.Signed.{IsSignature}
 use Rattle.refine.specs.EachList.{list_of}
 use Rattle.refine.specs.Settled.{IsPut}
+use Rattle.refine.specs.Noting.{Watches}
 use Rattle.refine.proofs.Settling.{put_whole}
-use Rattle.refine.proofs.Noting.{watches_first}
 use Rattle.refine.proofs.EachList.{signature_at-list}
 use Rattle.refine.proofs.one_round.Signatures.fill.Goals as goal
-
-pub sign_each-requires-clause-others : goal.sign_each-requires-clause-others
-sign_each-requires-clause-others g c s h =
-    inl (subst (λ b. IsOne b.live s) (sym c.in_ok-blocks-2.ensures.blocks) (c.in_ok-blocks.ensures.live s (omega (arith, h, c.requires.states))))
 
 pub sign_each-requires-clause-watches : goal.sign_each-requires-clause-watches
 sign_each-requires-clause-watches g c =
     let round = c.in_ok-blocks-2.blocks in
-    watches_first g.S.Signing.relation c.args.l.now round.blocks round.entering c.in_ok-blocks-2.ensures.nothing.0 c.in_ok-blocks-2.ensures.nothing.1
+    subst (λ e. Watches e g.S.Signing.relation c.args.l.now round.blocks) (sym c.in_ok-blocks-2.ensures.nothing)
+    (λ s h. inl (subst (λ b. IsOne b.live s) (sym c.in_ok-blocks-2.ensures.blocks) (c.in_ok-blocks.ensures.live s (omega (arith, h, c.requires.states)))))
 
 pub returns-clause-signed : goal.returns-clause-signed
 returns-clause-signed g c s ls =
@@ -27,7 +24,7 @@ returns-clause-signed g c s ls =
     let start = c.in_ok-blocks.ensures in
     let is : signed.blocks ≡ c.in_ok-blocks.blocks = c.in_ok-signed.ensures.blocks ∙ c.in_ok-blocks-2.ensures.blocks in
     let size : length numbers ≡ length p =
-    c.signed.invariant.states ∙ ap (λ r. length r.blocks.of) c.signed.view_is ∙ ap (λ b. length b.of) is ∙ ap length start.of in
+    c.signed.invariant.0.states ∙ ap (λ r. length r.blocks.of) c.signed.view_is ∙ ap (λ b. length b.of) is ∙ ap length start.of in
     let list = list_of signed.lists signed.numbers s in
     let put : IsPut rel l c.in_ok-blocks.blocks.of c.in_ok-blocks.blocks.low s list =
     subst (λ b. IsPut rel l b.of b.low s list) is
