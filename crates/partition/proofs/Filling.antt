@@ -3,12 +3,12 @@ use Rattle.std.proofs.Common.{◌≡◌, ◌∙◌, ◌⊎◌, ℕ, ◌+◌, ◌
 use Rattle.std.proofs.lemmas.Bool.{cases_eq, cases_lt}
 use Rattle.std.proofs.lemmas.List.{length-set, length-replicate, get_or_past, get_or-replicate, get_or-set_same, get_or-set_other}
 use Rattle.partition.specs.Partition.{AreBlocks}
-use Rattle.partition.specs.Sizes.{members}
+use Rattle.partition.specs.Sizes.{block_size}
 use Rattle.partition.specs.Blocks.{AreLive, HaveNone, IsOne}
 use Rattle.partition.specs.Representatives.{AreKeepers}
 use Rattle.partition.proofs.Living.{earlier}
 use Rattle.partition.proofs.Keeping.{IsBefore}
-use Rattle.partition.proofs.Counting.{one_same, one_other, members-set, members-some, members-find}
+use Rattle.partition.proofs.Counting.{one_same, one_other, block_size-set, block_size-some, block_size-find}
 
 -- the blocks without the first i states that are looked at, which have the block `length of` instead: each block has as many states
 -- in `rest` and as many that were met as it has in all
@@ -16,14 +16,19 @@ pub record AreMet (of live : List ℕ) (i : ℕ) (met rest : List ℕ) : Type 0 
   pub states : length rest ≡ length of
   pub each : (t : ℕ) → t < length of → (slice_index rest t ≡ slice_index of t) ⊎ IsBefore live i t
   pub gone : (j : ℕ) → j < i → slice_index rest (slice_index live j) ≡ length of
-  pub sum : (b : ℕ) → b < length of → members rest b + slice_index met b ≡ members of b
+  pub sum : (b : ℕ) → b < length of → block_size rest b + slice_index met b ≡ block_size of b
+
+-- one of the first i states that are looked at has the block of t and its keeper
+abbrev pub IsKeptBy : List ℕ → List ℕ → List ℕ → ℕ → List ℕ → ℕ → Type 0
+IsKeptBy of numbers live i keepers t =
+    (j : ℕ) × (j < i) × (slice_index of (slice_index live j) ≡ slice_index of t)
+    × (slice_index numbers (slice_index live j) ≡ slice_index keepers (slice_index of t))
 
 -- of the block of t some states were not met, and its keeper is the empty list; or all were, and one of them has its keeper
-abbrev pub IsPart : List ℕ → List ℕ → List ℕ → ℕ → List ℕ → List ℕ → ℕ → Type 0
-IsPart of numbers live i met keepers t =
-    ((slice_index keepers (slice_index of t) ≡ 0) × (slice_index met (slice_index of t) < members of (slice_index of t)))
-    ⊎ (((j : ℕ) × (j < i) × (slice_index of (slice_index live j) ≡ slice_index of t) × (slice_index numbers (slice_index live j) ≡ slice_index keepers (slice_index of t)))
-    × (members of (slice_index of t) ≤ slice_index met (slice_index of t)))
+abbrev pub FilledOrNot : List ℕ → List ℕ → List ℕ → ℕ → List ℕ → List ℕ → ℕ → Type 0
+FilledOrNot of numbers live i met keepers t =
+    ((slice_index keepers (slice_index of t) ≡ 0) × (slice_index met (slice_index of t) < block_size of (slice_index of t)))
+    ⊎ (IsKeptBy of numbers live i keepers t × (block_size of (slice_index of t) ≤ slice_index met (slice_index of t)))
 
 -- it is so for each block
 pub record FilledUpTo (of numbers live : List ℕ) (i : ℕ) (met keepers : List ℕ) : Type 0 where
@@ -31,7 +36,7 @@ pub record FilledUpTo (of numbers live : List ℕ) (i : ℕ) (met keepers : List
   pub met_room : (t : ℕ) → t < length of → slice_index of t < length met
   pub few : (b : ℕ) → slice_index met b ≤ i
   pub parts : (rest : List ℕ) × AreMet of live i met rest
-  pub each : (t : ℕ) → t < length of → IsPart of numbers live i met keepers t
+  pub each : (t : ℕ) → t < length of → FilledOrNot of numbers live i met keepers t
 
 -- before any state is met
 zero_at : (n b : ℕ) → slice_index (replicate n 0) b ≡ 0
@@ -54,7 +59,7 @@ FilledUpTo-none of numbers live count are = record {
       sum = λ b h. omega (arith, zero_at count b);
     },
   );
-  each = λ t h. inl (zero_at count (slice_index of t), omega (arith, zero_at count (slice_index of t), members-some of t h));
+  each = λ t h. inl (zero_at count (slice_index of t), omega (arith, zero_at count (slice_index of t), block_size-some of t h));
 }
 
 module _ (of numbers live : List ℕ) (i : ℕ) (met keepers : List ℕ) (rises : AreLive (length of) live) (below : (t : ℕ) → t < length of → slice_index of t < length of)
@@ -109,7 +114,7 @@ module _ (of numbers live : List ℕ) (i : ℕ) (met keepers : List ℕ) (rises 
           ]
         ];
         sum = λ k h.
-            let moved = members-set rest k s (length of) (omega (arith, inside, are.states)) in
+            let moved = block_size-set rest k s (length of) (omega (arith, inside, are.states)) in
             let out = one_other k (length of) (λ e. omega (arith, e, h)) in
             elim (cases_eq k b) [
               | inl e ↦ omega (arith, moved, out, one_same k (slice_index rest s) (here ∙ sym e), are.sum k h, ap (slice_index met') e, ap (slice_index met) e, met_same)
@@ -119,14 +124,14 @@ module _ (of numbers live : List ℕ) (i : ℕ) (met keepers : List ℕ) (rises 
 
   -- what is known of another block stays
   part_other : (keepers' : List ℕ) (t : ℕ) → ¬ (slice_index of t ≡ b) → slice_index keepers' (slice_index of t) ≡ slice_index keepers (slice_index of t)
-      → IsPart of numbers live i met keepers t → IsPart of numbers live (i + 1) met' keepers' t
+      → FilledOrNot of numbers live i met keepers t → FilledOrNot of numbers live (i + 1) met' keepers' t
   part_other keepers' t d same p = elim p [
     | inl x ↦ inl (same ∙ x.0, omega (arith, x.1, met_other (slice_index of t) d))
     | inr x ↦ inr ((x.0.0, omega (arith, x.0.1), x.0.2, x.0.3 ∙ sym same), omega (arith, x.1, met_other (slice_index of t) d))
   ]
 
   -- the last state of its block is met
-  pub FilledUpTo-last : slice_index met b + 1 ≡ members of b → FilledUpTo of numbers live (i + 1) met' (set keepers b (slice_index numbers s))
+  pub FilledUpTo-last : slice_index met b + 1 ≡ block_size of b → FilledUpTo of numbers live (i + 1) met' (set keepers b (slice_index numbers s))
   FilledUpTo-last full =
       let keepers' = set keepers b (slice_index numbers s) in
       record {
@@ -137,13 +142,13 @@ module _ (of numbers live : List ℕ) (i : ℕ) (met keepers : List ℕ) (rises 
         each = λ t h. elim (cases_eq (slice_index of t) b) [
           | inl e ↦
               let kept = get_or-set_same keepers b (slice_index numbers s) 0 (up.room s inside) in
-              inr ((i, omega arith, sym e, sym kept ∙ ap (slice_index keepers') (sym e)), omega (arith, full, ap (members of) e, ap (slice_index met') e, met_same))
+              inr ((i, omega arith, sym e, sym kept ∙ ap (slice_index keepers') (sym e)), omega (arith, full, ap (block_size of) e, ap (slice_index met') e, met_same))
           | inr d ↦ part_other keepers' t d (get_or-set_other keepers b (slice_index of t) (slice_index numbers s) 0 d) (up.each t h)
         ];
       }
 
   -- or it is not the last
-  pub FilledUpTo-more : ¬ (slice_index met b + 1 ≡ members of b) → FilledUpTo of numbers live (i + 1) met' keepers
+  pub FilledUpTo-more : ¬ (slice_index met b + 1 ≡ block_size of b) → FilledUpTo of numbers live (i + 1) met' keepers
   FilledUpTo-more part = record {
     room = up.room;
     met_room = λ t h. omega (arith, up.met_room t h, length-set met b (slice_index met b + 1));
@@ -151,7 +156,7 @@ module _ (of numbers live : List ℕ) (i : ℕ) (met keepers : List ℕ) (rises 
     parts = (set up.parts.0 s (length of), met_more up.parts.0 up.parts.1);
     each = λ t h. elim (cases_eq (slice_index of t) b) [
       | inl e ↦
-          let size = ap (members of) e in
+          let size = ap (block_size of) e in
           let now = ap (slice_index met') e in
           let was = ap (slice_index met) e in
           elim (up.each t h) [
@@ -169,11 +174,11 @@ module _ (of numbers live met keepers : List ℕ) (below : (t : ℕ) → t < len
   rest = up.parts.0
 
   -- a block of which not all were met has a state with the empty list
-  unmet : (t : ℕ) → t < length of → slice_index met (slice_index of t) < members of (slice_index of t)
+  unmet : (t : ℕ) → t < length of → slice_index met (slice_index of t) < block_size of (slice_index of t)
       → (u : ℕ) × (u < length of) × (slice_index of u ≡ slice_index of t) × (slice_index numbers u ≡ 0)
   unmet t h part =
       let are = up.parts.1 in
-      let w = members-find rest (slice_index of t) (omega (arith, part, are.sum (slice_index of t) (below t h))) in
+      let w = block_size-find rest (slice_index of t) (omega (arith, part, are.sum (slice_index of t) (below t h))) in
       let u_in : w.0 < length of = omega (arith, w.1, are.states) in
       let looked : ¬ IsOne live w.0 = λ one. omega (arith, ap (slice_index rest) one.2, are.gone one.0 one.1, w.2, below t h) in (
         w.0,
@@ -183,14 +188,14 @@ module _ (of numbers live met keepers : List ℕ) (below : (t : ℕ) → t < len
       )
 
   -- if all were met, they are looked at
-  all_met : (t : ℕ) → t < length of → members of (slice_index of t) ≤ slice_index met (slice_index of t) → IsOne live t
+  all_met : (t : ℕ) → t < length of → block_size of (slice_index of t) ≤ slice_index met (slice_index of t) → IsOne live t
   all_met t h full =
       let are = up.parts.1 in
       elim (are.each t h) [
         | inr one ↦ one
         | inl e ↦
-            let some = members-some rest t (omega (arith, h, are.states)) in
-            absurd (omega (arith, some, ap (members rest) e, are.sum (slice_index of t) (below t h), full))
+            let some = block_size-some rest t (omega (arith, h, are.states)) in
+            absurd (omega (arith, some, ap (block_size rest) e, are.sum (slice_index of t) (below t h), full))
       ]
 
   pub keepers_counted : AreKeepers of numbers live keepers

@@ -5,7 +5,7 @@ use Rattle.partition.specs.Splitting.{IsAlone}
 use Rattle.partition.specs.Sizes.{AreSizes}
 
 -- the block of each state, how many blocks there are, and the states that are looked at. Blocks from `low` on are new since the last
--- split. `idle` is one of the states that are together in block 0 and not looked at, if there is one.
+-- split. `idle` is one of the states that are together in block 0 and not looked at, if there is one and no block is counted.
 pub record RoundBlocks : Type 0 where
   pub of : List ℕ
   pub count : ℕ
@@ -28,7 +28,7 @@ pub record AreIdle (of live : List ℕ) (idle : Option ℕ) : Type 0 where
   pub each : (s : ℕ) → s < length of → IsOne live s ⊎ IsAlone of s ⊎ ((slice_index of s ≡ 0) × IsSome idle)
   pub one : IfSome idle (λ s. (s < length of) × (slice_index of s ≡ 0) × ¬ IsOne live s)
 
--- the others are so, and no block is counted, or each is: then any states may be looked at
+-- so are the others while no block is counted. Once each is, they may be any states
 abbrev pub AreOthers : List ℕ → ℕ → List ℕ → Option ℕ → List ℕ → Type 0
 AreOthers of count live idle sizes = (AreIdle of live idle × (sizes ≡ [])) ⊎ AreSizes of count sizes
 

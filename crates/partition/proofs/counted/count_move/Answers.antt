@@ -4,21 +4,22 @@ use Rattle.std.proofs.lemmas.List.{get_or_read}
 use Rattle.partition.specs.Sizes.{AreSizes}
 use Rattle.partition.proofs.Counting.{more, fewer, was_some, was_below, fewer_few, read_fewer, sizes_moved, sizes_grown}
 use Rattle.partition.proofs.counted.count_move.Goals as goal
-use Rattle.partition.proofs.counted.count_move.Goals.{Start, After-index_mut, Else-len-next}
-
-below : (c : Start) → slice_index c.args.of.now c.args.s < length c.args.sizes.now.items
-below c = was_below c.args.of.now _ c.args.s c.args.next c.args.sizes.now.items c.requires.state c.requires.sizes
+use Rattle.partition.proofs.counted.count_move.Goals.{After-index_mut, Else-len-next}
 
 pub index_mut-requires : goal.index_mut-requires
-index_mut-requires c = omega (arith, below ((goal.at.index_mut-requires c).Start), c.args.sizes.now.ok.0)
+index_mut-requires c =
+    omega (arith, was_below c.args.of.now _ c.args.s c.args.next c.args.sizes.now.items c.requires.state c.requires.sizes, c.args.sizes.now.ok.0)
 
 -- the size of the block that the state leaves
 had : (c : After-index_mut) → c.index_mut.result.now ≡ slice_index c.args.sizes.now.items (slice_index c.args.of.now c.args.s)
-had c = get_or_read _ _ _ (was_below c.args.of.now _ c.args.s c.args.next c.args.sizes.now.items c.requires.state c.requires.sizes) c.index_mut.ensures.value 0
+had c =
+    let below = was_below c.args.of.now _ c.args.s c.args.next c.args.sizes.now.items c.requires.state c.requires.sizes in
+    get_or_read _ _ _ below c.index_mut.ensures.value 0
 
 pub overflow_sub-index_mut : goal.overflow_sub-index_mut
 overflow_sub-index_mut c =
-    omega (arith, had ((goal.at.overflow_sub-index_mut c).After-index_mut), was_some c.args.of.now _ c.args.s c.args.next c.args.sizes.now.items c.requires.state c.requires.sizes)
+    let some = was_some c.args.of.now _ c.args.s c.args.next c.args.sizes.now.items c.requires.state c.requires.sizes in
+    omega (arith, had ((goal.at.overflow_sub-index_mut c).After-index_mut), some)
 
 -- the next one is one of them
 inside : (c : Else-len-next) → c.args.next < length c.args.sizes.now.items
