@@ -6,3 +6,5 @@ pub mod Meeting
 pub mod Living
 pub mod Leaving
 pub mod Parting
+pub mod Counting
+pub mod Filling

@@ -1,10 +1,11 @@
 -- The blocks of a round of refinement, with the states that it looks at.
-use Rattle.std.specs.Prelude.{◌≡◌, ◌⊎◌, ℕ, ◌<◌, ◌≤◌, List, length, slice_index, Option, IfSome, IsSome}
+use Rattle.std.specs.Prelude.{◌≡◌, ◌⊎◌, ℕ, ◌<◌, ◌≤◌, List, [], length, slice_index, Option, IfSome, IsSome}
 use Rattle.partition.specs.Partition.{AreBlocks}
 use Rattle.partition.specs.Splitting.{IsAlone}
+use Rattle.partition.specs.Sizes.{AreSizes}
 
 -- the block of each state, how many blocks there are, and the states that are looked at. Blocks from `low` on are new since the last
--- split. `idle` is one of the states that are together in block 0 and not looked at, if there is one.
+-- split. `idle` is one of the states that are together in block 0 and not looked at, if there is one and no block is counted.
 pub record RoundBlocks : Type 0 where
   pub of : List ℕ
   pub count : ℕ
@@ -27,12 +28,16 @@ pub record AreIdle (of live : List ℕ) (idle : Option ℕ) : Type 0 where
   pub each : (s : ℕ) → s < length of → IsOne live s ⊎ IsAlone of s ⊎ ((slice_index of s ≡ 0) × IsSome idle)
   pub one : IfSome idle (λ s. (s < length of) × (slice_index of s ≡ 0) × ¬ IsOne live s)
 
+-- so are the others while no block is counted. Once each is, they may be any states
+abbrev pub AreOthers : List ℕ → ℕ → List ℕ → Option ℕ → List ℕ → Type 0
+AreOthers of count live idle sizes = (AreIdle of live idle × (sizes ≡ [])) ⊎ AreSizes of count sizes
+
 -- what holds of the blocks of a round, of which there were so many when the states that are alone were left out last
-pub record IsRound (of : List ℕ) (count known : ℕ) (live : List ℕ) (idle : Option ℕ) : Type 0 where
+pub record IsRound (of : List ℕ) (count known : ℕ) (live : List ℕ) (idle : Option ℕ) (sizes : List ℕ) : Type 0 where
   pub blocks : AreBlocks of count
   pub fewer : known ≤ count
   pub rising : AreLive (length of) live
-  pub others : AreIdle of live idle
+  pub others : AreOthers of count live idle sizes
 
 -- a state that is not looked at has the list number 0
 abbrev pub HaveNone : List ℕ → List ℕ → Type 0

@@ -1,4 +1,5 @@
 pub mod Partition
 pub mod Splitting
+pub mod Sizes
 pub mod Blocks
 pub mod Representatives

@@ -3,6 +3,7 @@
 #![tactic(auto)]
 
 mod blocks;
+mod counted;
 mod one_round;
 mod partition;
 mod splitter;

@@ -43,6 +43,7 @@ impl Blocks {
             known: 0,
             live,
             idle: None,
+            sizes: Vec::new(alloc),
         })
     }
 }
