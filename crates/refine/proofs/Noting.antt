@@ -1,5 +1,5 @@
 -- What was noted of transitions: a state that a round does not look at is alone in its block, or still.
-use Rattle.std.proofs.Common.{◌≡◌, ◌⊎◌, ◌↔◌, ◌∙◌, ℕ, ◌+◌, ◌<◌, ◌≤◌, Bool, true, cond, IsTrue, Option, None, Some, List, [], ◌∷◌, ◌++◌, length, map, slice_index, slice_index_or, Contains, ap, sym, subst, refl, inl, inr, arith}
+use Rattle.std.proofs.Common.{◌≡◌, ◌⊎◌, ◌↔◌, ◌∙◌, ℕ, ◌+◌, ◌<◌, ◌≤◌, Bool, true, cond, IsTrue, Option, None, Some, List, [], ◌∷◌, ◌++◌, length, slice_index, slice_index_or, Contains, ap, sym, subst, refl, inl, inr, arith}
 use Rattle.std.specs.List.{All}
 use Rattle.std.specs.Option.{MatchOption}
 use Rattle.std.proofs.lemmas.Bool.{cases_lt, cases_Bool}
@@ -18,7 +18,7 @@ use Rattle.partition.specs.Blocks.{RoundBlocks, IsOne, LeavesAlone}
 use Rattle.inert.specs.Signed.{LeavesOut}
 use Rattle.refine.specs.Settled.{IsStill}
 use Rattle.refine.specs.EachList.{HaveSources}
-use Rattle.refine.specs.Noting.{Sources, turned, noted_of, AreNotes, IsNoted, AreWatched, Watches, AreFound, LooksAtSources}
+use Rattle.refine.specs.Noting.{Sources, turned, noted_of, AreNotes, IsNoted, AreWatched, Watches, LooksAtSources}
 use Rattle.refine.proofs.Living.{left_out_still, left_out_next, no_step, alone_next}
 
 -- fewer states are looked at

@@ -1,4 +1,4 @@
-use Rattle.std.proofs.Common.{◌∙◌, Option, None, Some, inl, ap, sym, subst, arith}
+use Rattle.std.proofs.Common.{Option, None, Some, inl, sym, subst, arith}
 use Rattle.std.proofs.lemmas.List.{take_at}
 use Rattle.theory.specs.declared.relation.Relation.TheVariants.{Branching}
 use Rattle.refine.specs.EachList.{list_of}
@@ -12,9 +12,11 @@ use Rattle.refine.proofs.branching.BranchingSigning.sign_each.Goals as goal
 
 pub invariant_of-round : goal.invariant_of-round
 invariant_of-round g c =
-    let old = c.round.inside.blocks in
-    (written_back old.of old.live c.sign_each.new.lists c.sign_each.new.numbers _ _ c.in_ok-sign_each.ensures.numbers c.sign_each.ensures.others
-    (omega (arith, c.sign_each.auto.numbers, c.deref_mut.ensures.len, c.round.invariant.0.states)) (omega (arith, c.sign_each.auto.numbers, c.deref_mut.ensures.len)), c.round.invariant.1)
+    let old = c.round.inside.blocks in (
+      written_back old.of old.live c.sign_each.new.lists c.sign_each.new.numbers _ _ c.in_ok-sign_each.ensures.numbers c.sign_each.ensures.others
+          (omega (arith, c.sign_each.auto.numbers, c.deref_mut.ensures.len, c.round.invariant.0.states)) (omega (arith, c.sign_each.auto.numbers, c.deref_mut.ensures.len)),
+      c.round.invariant.1,
+    )
 
 pub returns-clause-signed : goal.returns-clause-signed
 returns-clause-signed g c s one =

@@ -1,4 +1,4 @@
-use Rattle.std.proofs.Common.{◌≡◌, ◌∙◌, Some, [], length, slice_index, ap, sym, subst, subst₂, inl, inr, arith}
+use Rattle.std.proofs.Common.{◌≡◌, ◌∙◌, length, slice_index, ap, sym, subst, subst₂, inl, inr, arith}
 use Rattle.std.specs.Option.{MatchOption}
 use Rattle.std.proofs.lemmas.List.{get_or_default}
 use Rattle.partition.specs.Splitting.{Splits}
@@ -53,9 +53,9 @@ invariant_of-result-2 c =
     let size : length numbers ≡ length q.of = c.forget.ensures.states ∙ was ∙ c.self.invariant.0.states ∙ sym states in
     let have = subst (HaveSources c.self.inside.blocks.of) c.in-Some.is c.self.invariant.1 in (
       written_back q.of q.live c.self.inside.lists numbers _ _
-      (λ k d h. omega (arith, get_or_default numbers k d 0 h, c.forget.ensures.empty k (omega (arith, h, c.forget.ensures.states)), c.known.ensures.some))
-      (λ s h. inr (c.forget.ensures.empty s (omega (arith, h, c.forget.ensures.states)))) size
-      (omega (arith, c.forget.ensures.states, c.deref_mut.ensures.len)),
+          (λ k d h. omega (arith, get_or_default numbers k d 0 h, c.forget.ensures.empty k (omega (arith, h, c.forget.ensures.states)), c.known.ensures.some))
+          (λ s h. inr (c.forget.ensures.empty s (omega (arith, h, c.forget.ensures.states)))) size
+          (omega (arith, c.forget.ensures.states, c.deref_mut.ensures.len)),
       ap length c.in_ok-entering.ensures.same ∙ have ∙ sym states,
     )
 

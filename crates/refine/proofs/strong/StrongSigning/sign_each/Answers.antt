@@ -1,4 +1,4 @@
-use Rattle.std.proofs.Common.{◌∙◌, true, cond, Some, length, ap, sym, subst, subst₂, inl, inr, arith}
+use Rattle.std.proofs.Common.{◌∙◌, true, cond, Some, length, ap, sym, subst, subst₂, arith}
 use Rattle.std.proofs.lemmas.List.{take_at}
 use Rattle.theory.specs.declared.relation.Relation.TheVariants.{Strong}
 use Rattle.lts.specs.Groups.{groups_of}
@@ -30,10 +30,10 @@ invariant_of-round g c =
     let old = c.round.inside.blocks in
     let done = c.in_ok-sign_live.ensures.numbers in (
       written_back old.of old.live c.sign_live.new.lists c.sign_live.new.numbers _ _ done.0 (subst (λ live. HaveNone live c.sign_live.new.numbers) c.live-live.ensures.live done.1)
-      (omega (arith, c.sign_live.auto.numbers, c.deref_mut.ensures.len, c.round.invariant.0.states)) (omega (arith, c.sign_live.auto.numbers, c.deref_mut.ensures.len)),
+          (omega (arith, c.sign_live.auto.numbers, c.deref_mut.ensures.len, c.round.invariant.0.states)) (omega (arith, c.sign_live.auto.numbers, c.deref_mut.ensures.len)),
       sources_kept c.in_ok-noting.noting c.args.l.now old c.sign_live.new.scratch.notes.items c.round.inside.entering c.keep_notes.new.entering
-      (c.in_ok-keep_notes.ensures ∙ ap (λ n. cond c.in_ok-noting.noting (Some (groups_of n c.sign_live.new.scratch.notes.items)) c.round.inside.entering) c.states.ensures.value)
-      (ap (λ r. length r.blocks.of) c.round.view_is ∙ c.requires.states) c.round.invariant.1,
+          (c.in_ok-keep_notes.ensures ∙ ap (λ n. cond c.in_ok-noting.noting (Some (groups_of n c.sign_live.new.scratch.notes.items)) c.round.inside.entering) c.states.ensures.value)
+          (ap (λ r. length r.blocks.of) c.round.view_is ∙ c.requires.states) c.round.invariant.1,
     )
 
 pub returns-clause-signed : goal.returns-clause-signed
