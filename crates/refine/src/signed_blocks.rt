@@ -78,7 +78,7 @@ impl SignedBlocks {
     }
 
     /// Leaves out the states that are alone in their blocks from what a round looks at, once there are over an eighth more blocks
-    /// than when that was done last. They have the empty list from now on.
+    /// than when that was done last. They have the empty list from now on. Once transitions were noted, `split` leaves them out.
     ///
     /// Fails if there is no memory for it.
     pub fn renew(self) -> Result<SignedBlocks, Memory>
