@@ -1,6 +1,7 @@
 pub mod Lists
 pub mod Marks
 pub mod Cuts
+pub mod Inserting
 pub mod Spans
 pub mod Nodes
 pub mod Hashed

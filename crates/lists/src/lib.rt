@@ -13,7 +13,8 @@
 //! distinct       a base that is asked for again has the number that it had
 //!   hashed       how it is found, by its tag
 //! nodes          how each base is kept: whole, or by its halves
-//! cut, ordered, marked, span   where a list is cut; pairs in order, by marks if they are many; hashes, and ranges of a buffer
+//! cut, span                    where a list is cut; hashes, and ranges of a buffer
+//! ordered, inserted, marked    pairs in order, by insertion if they are few, and by marks if they are many
 //! ```
 //!
 //! Apart from these, `parts` has lists in the order in which they come, whole in one buffer, over `span` alone.
@@ -25,6 +26,7 @@
 mod cut;
 mod distinct;
 mod hashed;
+mod inserted;
 mod joined;
 mod kept;
 mod known;
