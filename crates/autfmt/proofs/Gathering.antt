@@ -3,7 +3,7 @@ use Rattle.std.proofs.Common.{◌≡◌, ℕ, ◌+◌, ◌-◌, ◌<◌, ◌≤�
 use Rattle.std.specs.List.{slice_range}
 use Rattle.std.specs.Io.KnownBytes.{Consumes}
 use Rattle.std.proofs.KnownBytes.{Consumes-trans}
-use Rattle.std.proofs.lemmas.List.{append_assoc, length-append, length-drop, length-take, length-take-le, take-append-drop, take-take, drop-take, drop-drop, take_at, drop_at}
+use Rattle.std.proofs.lemmas.List.{append_assoc, length-append, length-drop, length-take, length-take-le, take-append-drop, take-take, drop-take, drop-drop, drop_at}
 use Rattle.std.proofs.lemmas.List.Elements.{All-append}
 use Rattle.std.proofs.lemmas.Slice.{between_is}
 use Rattle.autfmt.specs.declared.cutter.Found.TheVariants.{Feed}
@@ -119,17 +119,14 @@ goes_on_ahead from to false used some = refl
 goes_on_ahead from to true used some = absurd (omega (arith, used refl))
 
 -- a line and its line feed in front of what is ahead in the piece were passed
-pub passed : (piece : List ℕ) (from to left : ℕ) (over : Bool) (line rest : List ℕ) → from ≤ to → to ≤ length piece → (over ≡ true → from ≡ to) → slice_range piece from to ≡ line ++ 10 ∷ rest
-    → left ≡ length rest → cutting (slice_range piece from (to - left - 1)) (slice_range piece (to - left) to) over ≡ cutting line rest false
-passed piece from to left over line rest ordered within used whole count =
+pub passed : (handed piece : List ℕ) (from to left : ℕ) (over : Bool) (line rest : List ℕ) → from ≤ to → to ≤ length piece → (over ≡ true → from ≡ to) → slice_range piece from to ≡ line ++ 10 ∷ rest
+    → left ≡ length rest → cutting handed (slice_range piece (to - left) to) over ≡ cutting handed rest false
+passed handed piece from to left over line rest ordered within used whole count =
     let long : length (slice_range piece from to) ≡ to - from = length-take-le (to - from) (drop from piece) (omega (arith, length-drop from piece)) in
     let size : to - from ≡ length line + suc (length rest) = sym long ∙ ap length whole ∙ length-append line (10 ∷ rest) in
-    let end : to - left - 1 ≡ from + length line = omega arith in
     let next : to - left ≡ from + (length line + 1) = omega arith in
-    let front : slice_range piece from (to - left - 1) ≡ line =
-    ap (λ (k : ℕ). slice_range piece from k) end ∙ slice_to piece from to (length line) (omega arith) ∙ ap (take (length line)) whole ∙ take_at line (10 ∷ rest) _ refl in
     let back : slice_range piece (to - left) to ≡ rest =
     ap (λ (k : ℕ). slice_range piece k to) next ∙ sym (slice_behind piece from to (length line) (omega arith) ordered) ∙ ap (drop (length line + 1)) whole
     ∙ sym (drop-drop 1 (length line) (line ++ 10 ∷ rest)) ∙ ap (drop 1) (drop_at line (10 ∷ rest) _ refl) in
     let open_at = goes_on_ahead from to over used (omega arith) in
-    λ i. cutting (front i) (back i) (open_at i)
+    λ i. cutting handed (back i) (open_at i)

@@ -36,6 +36,19 @@ HasCut-fresh old e = subst (λ (c : Cutting). HasCut [] [] c) (sym e) HasCut-new
 pub fresh_goes_on : (old : Cutting) → old ≡ fresh → old.over ≡ true → ⊥
 fresh_goes_on old e over = let f = ap (λ (c : Cutting). c.over) e in cc
 
+-- which line was handed on last does not matter
+pub whatever_line :
+    (bounds : Bounds) (given line other ahead : List ℕ) (over : Bool) (p : Promise) (es : List Transition) →
+    ReadSoFar bounds given (record { line = line; ahead = ahead; over = over }) p es →
+    ReadSoFar bounds given (record { line = other; ahead = ahead; over = over }) p es
+whatever_line bounds given line other ahead over p es so_far = record {
+  header = so_far.header;
+  lines = so_far.lines;
+  cut = so_far.cut;
+  good = so_far.good;
+  spelled = so_far.spelled;
+}
+
 -- what holds of the bytes to come, where they are told
 pub if_told : (rest : Option (List ℕ)) (P : List ℕ → Type 0) → ((more : List ℕ) → rest ≡ Some more → P more) → IfSome rest P
 if_told None P holds = tt

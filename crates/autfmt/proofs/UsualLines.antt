@@ -17,7 +17,7 @@ use Rattle.autfmt.specs.Grammar.{Blanks, quoted}
 use Rattle.autfmt.specs.Texts.{IsOneLine}
 use Rattle.autfmt.specs.Cutter.{Cutting, CutsLine}
 use Rattle.autfmt.specs.Reading.{past, plain_at}
-use Rattle.autfmt.specs.Usual.{AreDigitsInFront, BeginsWithNumber, FollowsComma, FollowsLineEnd, HasMark, BeginsWithLabel, BeginsWithTransition}
+use Rattle.autfmt.specs.Usual.{AreDigitsInFront, BeginsWithNumber, FollowsComma, FollowsEnd, HasMark, BeginsWithLabel, BeginsWithTransition}
 use Rattle.autfmt.proofs.Blanks.{IsBlank}
 use Rattle.autfmt.proofs.Cutting.{IsNoFeed}
 use Rattle.autfmt.proofs.Numbers.{digit-range}
@@ -82,12 +82,16 @@ byte_in_lanes bytes i byte mask room is some =
     let short : count_trailing_zeros 64 mask < 16 = omega (arith, first, long, lane_passes passes v some_lane) in
     (omega (arith, short), eqb-true _ _ (run_in_chunk_stops passes bytes i 16 _ 0 room first short))
 
+-- the byte at an index, and what follows it
+pub byte_at : (bytes : List ℕ) (i byte : ℕ) (rest : List ℕ) → i < length bytes → get_or bytes i 0 ≡ byte → drop (i + 1) bytes ≡ rest → drop i bytes ≡ byte ∷ rest
+byte_at bytes i byte rest room is behind = drop_more bytes i 0 room ∙ ap (λ (b : ℕ). b ∷ drop (i + 1) bytes) is ∙ ap (λ (t : List ℕ). byte ∷ t) behind
+
 -- the bytes up to a quotation mark
 pub quoted_in_front : (bytes inside a rest : List ℕ) (n : ℕ) → 0 < length bytes → get_or bytes 0 0 ≡ 34 → inside ≡ drop 1 bytes → HasMark inside n → a ≡ take n inside → rest ≡ drop (n + 1) inside
     → IsLabel a → BeginsWithLabel bytes a rest
 quoted_in_front bytes inside a rest n room mark behind (within, closed) front back label =
-    let begin : bytes ≡ 34 ∷ inside = drop_more bytes 0 0 room ∙ ap (λ (b : ℕ). b ∷ drop 1 bytes) mark ∙ ap (λ (t : List ℕ). 34 ∷ t) (sym behind) in
-    let close : drop n inside ≡ 34 ∷ rest = drop_more inside n 0 within ∙ ap (λ (b : ℕ). b ∷ drop (n + 1) inside) closed ∙ ap (λ (t : List ℕ). 34 ∷ t) (sym back) in
+    let begin : bytes ≡ 34 ∷ inside = byte_at bytes 0 34 inside room mark (sym behind) in
+    let close : drop n inside ≡ 34 ∷ rest = byte_at inside n 34 rest within closed (sym back) in
     let cut : inside ≡ a ++ 34 ∷ rest = sym (take-append-drop n inside) ∙ ap (λ (t : List ℕ). t ++ drop n inside) (sym front) ∙ ap (λ (t : List ℕ). a ++ t) close in
     (quoted a, inr (label, refl), begin ∙ ap (λ (t : List ℕ). 34 ∷ t) cut ∙ sym (quoted-append a rest))
 
@@ -109,20 +113,15 @@ is_comma : (bytes rest : List ℕ) → FollowsComma bytes rest → IsComma bytes
 is_comma bytes rest (inl e) = record { space = []; blank = none; seen = literal [] refl; short = omega arith; parts = e }
 is_comma bytes rest (inr e) = record { space = codes " "; blank = a_space; seen = literal (codes " ") refl; short = omega arith; parts = e }
 
-pub with_space : (bytes between rest : List ℕ) → bytes ≡ 44 ∷ between → 0 < length between → get_or between 0 0 ≡ 32 → rest ≡ drop 1 between → FollowsComma bytes rest
-with_space bytes between rest e room space behind =
-    let parts : between ≡ 32 ∷ rest = drop_more between 0 0 room ∙ ap (λ (b : ℕ). b ∷ drop 1 between) space ∙ ap (λ (t : List ℕ). 32 ∷ t) (sym behind) in
-    inr (e ∙ ap (λ (t : List ℕ). 44 ∷ t) parts)
-
--- a line feed, before which the blanks of the end stand
+-- a closing parenthesis and a line feed, between which the blanks of the end stand
 record IsEnd (bytes rest : List ℕ) : Type 0 where
   blanks : List ℕ
   blank : Blanks blanks
   one : IsOneLine blanks
   short : length blanks ≤ 1
-  parts : bytes ≡ blanks ++ 10 ∷ rest
+  parts : bytes ≡ codes ")" ++ (blanks ++ 10 ∷ rest)
 
-is_end : (bytes rest : List ℕ) → FollowsLineEnd bytes rest → IsEnd bytes rest
+is_end : (bytes rest : List ℕ) → FollowsEnd bytes rest → IsEnd bytes rest
 is_end bytes rest (inl e) = record { blanks = []; blank = none; one = All-nil IsNoFeed; short = omega arith; parts = e }
 is_end bytes rest (inr e) = record {
   blanks = 13 ∷ [];
@@ -133,17 +132,16 @@ is_end bytes rest (inr e) = record {
 }
 
 -- the tokens and marks that were found one after the other
-pub transition_in_front : (bytes r0 r1 r2 r3 r4 r5 r6 r7 : List ℕ) (s : ℕ) (a : List ℕ) (t : ℕ) → past 40 bytes ≡ Some r0 → BeginsWithNumber r0 s r1 → FollowsComma r1 r2 → BeginsWithLabel r2 a r3
-    → FollowsComma r3 r4 → BeginsWithNumber r4 t r5 → past 41 r5 ≡ Some r6 → FollowsLineEnd r6 r7 → BeginsWithTransition bytes s a t r7
-transition_in_front bytes r0 r1 r2 r3 r4 r5 r6 r7 s a t e0 source e1 (spelling, label, e2) e3 target e5 e6 =
+pub transition_in_front : (bytes r0 r1 r2 r3 r4 r5 r6 : List ℕ) (s : ℕ) (a : List ℕ) (t : ℕ) → past 40 bytes ≡ Some r0 → BeginsWithNumber r0 s r1 → FollowsComma r1 r2 → BeginsWithLabel r2 a r3
+    → FollowsComma r3 r4 → BeginsWithNumber r4 t r5 → FollowsEnd r5 r6 → BeginsWithTransition bytes s a t r6
+transition_in_front bytes r0 r1 r2 r3 r4 r5 r6 s a t e0 source e1 (spelling, label, e2) e3 target e5 =
     let b = is_comma r1 r2 e1 in
     let d = is_comma r3 r4 e3 in
-    let z = is_end r6 r7 e6 in
-    let end : r5 ≡ codes ")" ++ (z.blanks ++ 10 ∷ r7) = past-takes 41 r5 r6 e5 ∙ ap (λ (x : List ℕ). 41 ∷ x) z.parts in
-    let tail : r3 ≡ codes "," ++ (d.space ++ (decimal t ++ (codes ")" ++ (z.blanks ++ 10 ∷ r7)))) = d.parts ∙ ap (λ (x : List ℕ). codes "," ++ (d.space ++ x)) (target.1 ∙ ap (λ (x : List ℕ). decimal t ++ x) end) in
-    let middle : r1 ≡ codes "," ++ (b.space ++ (spelling ++ (codes "," ++ (d.space ++ (decimal t ++ (codes ")" ++ (z.blanks ++ 10 ∷ r7))))))) =
+    let z = is_end r5 r6 e5 in
+    let tail : r3 ≡ codes "," ++ (d.space ++ (decimal t ++ (codes ")" ++ (z.blanks ++ 10 ∷ r6)))) = d.parts ∙ ap (λ (x : List ℕ). codes "," ++ (d.space ++ x)) (target.1 ∙ ap (λ (x : List ℕ). decimal t ++ x) z.parts) in
+    let middle : r1 ≡ codes "," ++ (b.space ++ (spelling ++ (codes "," ++ (d.space ++ (decimal t ++ (codes ")" ++ (z.blanks ++ 10 ∷ r6))))))) =
     b.parts ∙ ap (λ (x : List ℕ). codes "," ++ (b.space ++ x)) (e2 ∙ ap (λ (x : List ℕ). spelling ++ x) tail) in
-    let nested : bytes ≡ codes "(" ++ (decimal s ++ (codes "," ++ (b.space ++ (spelling ++ (codes "," ++ (d.space ++ (decimal t ++ (codes ")" ++ (z.blanks ++ 10 ∷ r7))))))))) =
+    let nested : bytes ≡ codes "(" ++ (decimal s ++ (codes "," ++ (b.space ++ (spelling ++ (codes "," ++ (d.space ++ (decimal t ++ (codes ")" ++ (z.blanks ++ 10 ∷ r6))))))))) =
     past-takes 40 bytes r0 e0 ∙ ap (λ (x : List ℕ). codes "(" ++ x) (source.1 ∙ ap (λ (x : List ℕ). decimal s ++ x) middle) in
     record {
       line = spelled_line s b.space spelling d.space t ++ z.blanks;

@@ -6,13 +6,13 @@ use Rattle.autfmt.specs.Texts.{Lines, IsOneLine, IsShort}
 use Rattle.autfmt.specs.declared.cutter.TheConstants.{PIECE}
 use Rattle.autfmt.specs.declared.line.TheConstants.{LONGEST_LINE}
 
--- the line that was cut last, the bytes that were taken behind it, and whether the source came to its end
+-- the line that was handed on last, the bytes that were taken behind all lines that were cut, and whether the source came to its end
 pub record Cutting : Type 0 where
   pub line : List ℕ
   pub ahead : List ℕ
   pub over : Bool
 
--- the line that was cut last: a part of the piece, or what is in the buffer
+-- the line that was handed on last: a part of the piece, or what is in the buffer
 abbrev pub cut_line : Option (ℕ × ℕ) → List ℕ → List ℕ → List ℕ
 cut_line None piece buffer = buffer
 cut_line (Some span) piece buffer = slice_range piece span.0 span.1

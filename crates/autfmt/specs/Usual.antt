@@ -26,9 +26,9 @@ BeginsWithLabel bytes a rest = (spelling : List ℕ) × Label spelling a × (byt
 abbrev pub FollowsComma : List ℕ → List ℕ → Type 0
 FollowsComma bytes rest = (bytes ≡ codes "," ++ rest) ⊎ (bytes ≡ codes ", " ++ rest)
 
--- the rest follows a line feed, with a carriage return before it at most
-abbrev pub FollowsLineEnd : List ℕ → List ℕ → Type 0
-FollowsLineEnd bytes rest = (bytes ≡ codes "\n" ++ rest) ⊎ (bytes ≡ codes "\r\n" ++ rest)
+-- the rest follows a closing parenthesis and a line feed, with a carriage return between them at most
+abbrev pub FollowsEnd : List ℕ → List ℕ → Type 0
+FollowsEnd bytes rest = (bytes ≡ codes ")\n" ++ rest) ⊎ (bytes ≡ codes ")\r\n" ++ rest)
 
 -- a quotation mark stands at the index
 abbrev pub HasMark : List ℕ → ℕ → Type 0

@@ -76,7 +76,7 @@ impl Cutter {
         }
     }
 
-    /// The line that was cut last.
+    /// The line that `advance` cut last.
     pub(crate) fn line(&self) -> &[u8]
         ensures { result.now ≡ self.now.line }
     {
@@ -86,7 +86,7 @@ impl Cutter {
         }
     }
 
-    /// What was taken and lies in the piece after the line that was cut last.
+    /// What was taken and lies in the piece behind the lines that were cut.
     #[inline(always)]
     pub(crate) fn ahead(&self) -> &[u8]
         ensures ahead { result.now ≡ self.now.ahead }
@@ -95,17 +95,15 @@ impl Cutter {
         &self.piece[self.from..self.to]
     }
 
-    /// Goes on to the next line, which lies in the piece: `left` bytes follow the line feed at its end.
+    /// Passes the next line, which lies in the piece and was read there: `left` bytes follow the line feed at its end.
     #[inline(always)]
     pub(crate) fn pass(&mut self, left: usize)
         requires { left < length self.old.ahead }
-        ensures line { (line rest : List ℕ) → self.old.ahead ≡ line ++ 10 ∷ rest → left ≡ length rest
-            → self.new ≡ record { line = line; ahead = rest; over = false } }
+        ensures passed { (line rest : List ℕ) → self.old.ahead ≡ line ++ 10 ∷ rest → left ≡ length rest
+            → self.new ≡ record { line = self.old.line; ahead = rest; over = false } }
         ensures open { self.old.over ≡ false }
     {
-        let next = self.to - left;
-        self.span = Some((self.from, next - 1));
-        self.from = next;
+        self.from = self.to - left;
     }
 
     /// Goes on to the next line.

@@ -1,7 +1,7 @@
 use Rattle.std.proofs.Common.{[], IsTrue, arith, refl}
 use Rattle.theory.specs.System.{Transition, IsAmong}
 use Rattle.autfmt.proofs.Holding.{Holds-add}
-use Rattle.autfmt.proofs.ReaderSteps.{transition_good}
+use Rattle.autfmt.proofs.ReaderSteps.{transition_good, whatever_line}
 use Rattle.autfmt.proofs.UsualLines.{behind, cuts_in_front, goes_on_in_front}
 use Rattle.autfmt.proofs.reader.take_usual.Goals as goal
 
@@ -20,4 +20,5 @@ returns-clause-taken c =
     λ _ bounds given es standing.
     let so_far =
     transition_good [] standing.0 (behind front) e (goes_on_in_front _ _ _ _ _ _ front open_at) (cuts_in_front _ _ _ _ _ front) front.spelled among in
-    (e, (rw (c.pass.ensures.line front.line _ front.whole refl) so_far, Holds-add _ _ _ _ es e standing.1 among (rw c.shown.ensures.shown at (c.in_ok-is_added.ensures.added yes))))
+    let elsewhere = whatever_line _ _ front.line c.args.cutter.now.line _ _ _ _ so_far in
+    (e, (rw (c.pass.ensures.passed front.line _ front.whole refl) elsewhere, Holds-add _ _ _ _ es e standing.1 among (rw c.shown.ensures.shown at (c.in_ok-is_added.ensures.added yes))))

@@ -5,8 +5,8 @@ use Rattle.autfmt.proofs.UsualLines.{number_in_front}
 use Rattle.autfmt.proofs.usual.short_number.Goals as goal
 use Rattle.autfmt.proofs.usual.short_number.Goals.{else-count-gt1-via-then-count-gt1+else-bytes-eq48, else-count-gt1-via-else-count-gt1}
 
-pub returns : goal.returns
-returns c =
+pub returns-clause-number : goal.returns-clause-number
+returns-clause-number c =
     let bytes = c.args.bytes.now in
     let n = c.in_ok-count.count in
     let leads : 1 < n → get_or bytes 0 0 ≢ 48 =

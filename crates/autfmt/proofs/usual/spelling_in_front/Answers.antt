@@ -5,7 +5,7 @@ use Rattle.autfmt.specs.Usual.{BeginsWithLabel}
 use Rattle.autfmt.proofs.Decisions.{found_from}
 use Rattle.autfmt.proofs.Lists.{rest_of}
 use Rattle.autfmt.proofs.UsualLines.{plain_in_front, quoted_in_front}
-use Rattle.autfmt.proofs.usual.label_in_front.Goals as goal
+use Rattle.autfmt.proofs.usual.spelling_in_front.Goals as goal
 
 pub returns-in_default : goal.returns-in_default
 returns-in_default c =
