@@ -1,11 +1,13 @@
 //! The digits in front of some bytes, up to seven of them at once in a word. The steps are those of `core::dec2flt`,
 //! which has a loop around them for any number of digits; for numbers of states this is faster.
-ghost use Rattle.std.specs.Prelude.{◌≡◌, ℕ, ◌-◌, ◌*◌, ◌%◌, ◌^◌, ◌<◌, ◌≤◌, List, length, nat_le, IfSome};
+ghost use Rattle.std.specs.Prelude.{◌≡◌, ℕ, ◌-◌, ◌*◌, ◌%◌, ◌^◌, ◌<◌, ◌≤◌, List, length, take, nat_le, IfSome};
 ghost use Rattle.core.specs.Int.Digits.{number_from_digits};
-ghost use Rattle.core.specs.Slice.Scan.{digits_from, flag_word, little_endian};
+ghost use Rattle.core.specs.Slice.Scan.{digits_from, flag_word};
 ghost use Rattle.core.specs.Dec2flt.Digits.{IsEightDigits};
 ghost use Rattle.autfmt.specs.Usual.{AreDigitsInFront};
 ghost use lib.Lanes.{number_l};
+
+use std::simd::prelude::*;
 
 /// How many digits are in front, and the number that they write; None if there are none or more than seven, or if the
 /// bytes are fewer than eight.
@@ -32,11 +34,10 @@ pub(crate) fn digits_in_front(bytes: &[u8]) -> Option<(usize, u64)>
 #[inline(always)]
 pub(crate) fn word_in_front(bytes: &[u8]) -> u64
     requires { 8 ≤ length bytes.now }
-    ensures { result ≡ little_endian bytes.now 0 }
+    ensures { result ≡ number_l 256 (take 8 bytes.now) }
 {
-    u64::from_le_bytes([
-        bytes[0], bytes[1], bytes[2], bytes[3], bytes[4], bytes[5], bytes[6], bytes[7],
-    ])
+    // By a vector, since a word of eight bytes that are read one by one was not always put together by one load.
+    u64x1::from_le_bytes(u8x8::from_slice(bytes))[0]
 }
 
 /// The high bit of each byte that is 10 or more. No sum carries into the next byte.
