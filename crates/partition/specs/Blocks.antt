@@ -2,9 +2,10 @@
 use Rattle.std.specs.Prelude.{◌≡◌, ◌⊎◌, ℕ, ◌<◌, ◌≤◌, List, length, slice_index, Option, None, Some, IfSome, IsSome}
 use Rattle.partition.specs.Partition.{AreBlocks}
 use Rattle.partition.specs.Splitting.{IsAlone}
-use Rattle.partition.specs.Sizes.{AreSizes}
+use Rattle.partition.specs.Sizes.{AreCounts}
 use Rattle.partition.specs.declared.blocks.IdleStates.{IdleStates}
 use Rattle.partition.specs.declared.blocks.Others.{Others}
+use Rattle.partition.specs.declared.counted.Counts.{Counts}
 use Rattle.partition.specs.declared.blocks.Others.TheVariants.{Idle, Counted}
 
 -- the block of each state, how many blocks there are, and the states that are looked at. Blocks from `low` on are new since the last
@@ -35,10 +36,10 @@ abbrev pub idle_of : Others → Option IdleStates
 idle_of (Idle idle) = Some idle
 idle_of (Counted _) = None
 
--- the sizes of blocks, if they are counted
-abbrev pub sizes_of : Others → Option (List ℕ)
-sizes_of (Idle _) = None
-sizes_of (Counted sizes) = Some (sizes.items)
+-- what is kept of the blocks, if they are counted
+abbrev pub counts_of : Others → Option Counts
+counts_of (Idle _) = None
+counts_of (Counted counts) = Some counts
 
 -- what holds of the blocks of a round. The states that it does not look at are idle, and those that are alone were left out when there
 -- were no more blocks than now; or they may be any states, and each block is counted
@@ -46,11 +47,15 @@ pub record IsRound (of : List ℕ) (count : ℕ) (live : List ℕ) (others : Oth
   pub blocks : AreBlocks of count
   pub rising : AreLive (length of) live
   pub idle : IfSome (idle_of others) (λ idle. AreIdle of live idle.one × (idle.known ≤ count))
-  pub sizes : IfSome (sizes_of others) (AreSizes of count)
+  pub counts : IfSome (counts_of others) (AreCounts of count)
 
 -- a state that is not looked at has the list number 0
 abbrev pub HaveNone : List ℕ → List ℕ → Type 0
 HaveNone live numbers = (s : ℕ) → s < length numbers → IsOne live s ⊎ (slice_index numbers s ≡ 0)
+
+-- a state that is not looked at keeps its block
+abbrev pub StayBeside : List ℕ → List ℕ → List ℕ → Type 0
+StayBeside live old new = (s : ℕ) → s < length old → IsOne live s ⊎ (slice_index new s ≡ slice_index old s)
 
 -- of the states that are looked at some are left out, which are alone in their blocks
 pub record LeavesAlone (of old new : List ℕ) : Type 0 where
