@@ -1,22 +1,12 @@
--- Blocks all of whose states were met, and the others.
-use Rattle.std.proofs.Common.{◌≡◌, ◌∙◌, ◌⊎◌, ℕ, ◌+◌, ◌<◌, ◌≤◌, List, length, slice_index, set, replicate, ap, sym, refl, inl, inr, arith}
-use Rattle.std.proofs.lemmas.Bool.{cases_eq, cases_lt}
-use Rattle.std.proofs.lemmas.List.{length-set, length-replicate, get_or_past, get_or-replicate, get_or-set_same, get_or-set_other}
+-- States that are taken out of the sizes of their blocks, and the lists that keep the numbers of these.
+use Rattle.std.proofs.Common.{◌≡◌, ◌∙◌, ◌⊎◌, ℕ, ◌+◌, ◌-◌, ◌<◌, List, length, slice_index, set, replicate, ap, sym, refl, inl, inr, arith}
+use Rattle.std.proofs.lemmas.Bool.{cases_eq}
+use Rattle.std.proofs.lemmas.List.{length-set, length-replicate, get_or-replicate, get_or-set_same, get_or-set_other}
 use Rattle.partition.specs.Partition.{AreBlocks}
-use Rattle.partition.specs.Sizes.{block_size}
+use Rattle.partition.specs.Sizes.{AreSizes, AreOut, AreSizesWithout, block_size}
 use Rattle.partition.specs.Blocks.{AreLive, HaveNone, IsOne}
-use Rattle.partition.specs.Representatives.{AreKeepers}
-use Rattle.partition.proofs.Living.{earlier}
-use Rattle.partition.proofs.Keeping.{IsBefore}
-use Rattle.partition.proofs.Counting.{one_same, one_other, block_size-set, block_size-some, block_size-find}
-
--- the blocks without the first i states that are looked at, which have the block `length of` instead: each block has as many states
--- in `rest` and as many that were met as it has in all
-pub record AreMet (of live : List ℕ) (i : ℕ) (met rest : List ℕ) : Type 0 where
-  pub states : length rest ≡ length of
-  pub each : (t : ℕ) → t < length of → (slice_index rest t ≡ slice_index of t) ⊎ IsBefore live i t
-  pub gone : (j : ℕ) → j < i → slice_index rest (slice_index live j) ≡ length of
-  pub sum : (b : ℕ) → b < length of → block_size rest b + slice_index met b ≡ block_size of b
+use Rattle.partition.specs.Representatives.{AreKeepers, HaveKeepers}
+use Rattle.partition.proofs.Counting.{one, one_other, fewer, fewer_at, some_below, block_size-set, block_size-some, block_size-find}
 
 -- one of the first i states that are looked at has the block of t and its keeper
 abbrev pub IsKeptBy : List ℕ → List ℕ → List ℕ → ℕ → List ℕ → ℕ → Type 0
@@ -24,186 +14,160 @@ IsKeptBy of numbers live i keepers t =
     (j : ℕ) × (j < i) × (slice_index of (slice_index live j) ≡ slice_index of t)
     × (slice_index numbers (slice_index live j) ≡ slice_index keepers (slice_index of t))
 
--- of the block of t some states were not met, and its keeper is the empty list; or all were, and one of them has its keeper
+-- the block of t has states that were not taken out, and its keeper is the empty list; or all were, and one of them has its keeper
 abbrev pub FilledOrNot : List ℕ → List ℕ → List ℕ → ℕ → List ℕ → List ℕ → ℕ → Type 0
-FilledOrNot of numbers live i met keepers t =
-    ((slice_index keepers (slice_index of t) ≡ 0) × (slice_index met (slice_index of t) < block_size of (slice_index of t)))
-    ⊎ (IsKeptBy of numbers live i keepers t × (block_size of (slice_index of t) ≤ slice_index met (slice_index of t)))
+FilledOrNot of numbers live i sizes keepers t =
+    ((slice_index keepers (slice_index of t) ≡ 0) × (0 < slice_index sizes (slice_index of t)))
+    ⊎ (IsKeptBy of numbers live i keepers t × (slice_index sizes (slice_index of t) ≡ 0))
 
--- it is so for each block
-pub record FilledUpTo (of numbers live : List ℕ) (i : ℕ) (met keepers : List ℕ) : Type 0 where
+-- after the first i states: it is so for each block, by keepers that agree with those of the blocks met so far
+pub record TakenUpTo (of numbers live : List ℕ) (i : ℕ) (sizes keepers all : List ℕ) : Type 0 where
   pub room : (t : ℕ) → t < length of → slice_index of t < length keepers
-  pub met_room : (t : ℕ) → t < length of → slice_index of t < length met
-  pub few : (b : ℕ) → slice_index met b ≤ i
-  pub parts : (rest : List ℕ) × AreMet of live i met rest
-  pub each : (t : ℕ) → t < length of → FilledOrNot of numbers live i met keepers t
+  pub room_all : (t : ℕ) → t < length of → slice_index of t < length all
+  pub out : AreSizesWithout of live 0 i sizes
+  pub each : (t : ℕ) → t < length of → FilledOrNot of numbers live i sizes all t
+  pub same : (j : ℕ) → j < i → slice_index keepers (slice_index of (slice_index live j)) ≡ slice_index all (slice_index of (slice_index live j))
 
--- before any state is met
-zero_at : (n b : ℕ) → slice_index (replicate n 0) b ≡ 0
-zero_at n b = elim (cases_lt b n) [
-  | inl low ↦ get_or-replicate n b 0 0 low
-  | inr high ↦ get_or_past (replicate n 0) b 0 (omega (arith, high, length-replicate {A = ℕ} n 0))
-]
-
-pub FilledUpTo-none : (of numbers live : List ℕ) (count : ℕ) → AreBlocks of count → FilledUpTo of numbers live 0 (replicate count 0) (replicate count 0)
-FilledUpTo-none of numbers live count are = record {
-  room = λ t h. omega (arith, are.below t h, length-replicate {A = ℕ} count 0);
-  met_room = λ t h. omega (arith, are.below t h, length-replicate {A = ℕ} count 0);
-  few = λ b. omega (arith, zero_at count b);
-  parts = (
-    of,
-    record {
-      states = refl;
-      each = λ t h. inl refl;
-      gone = λ j h. absurd (omega arith);
-      sum = λ b h. omega (arith, zero_at count b);
-    },
-  );
-  each = λ t h. inl (zero_at count (slice_index of t), omega (arith, zero_at count (slice_index of t), block_size-some of t h));
+-- before any state is taken out
+pub TakenUpTo-none : (of numbers live sizes keepers : List ℕ) (count : ℕ) → AreBlocks of count → AreSizes of count sizes → length keepers ≡ count
+    → TakenUpTo of numbers live 0 sizes keepers (replicate count 0)
+TakenUpTo-none of numbers live sizes keepers count are sizes_are size = record {
+  room = λ t h. omega (arith, are.below t h, size);
+  room_all = λ t h. omega (arith, are.below t h, length-replicate {A = ℕ} count 0);
+  out = (of, record { states = refl; each = λ t h. inl refl; gone = λ j low h. absurd (omega arith); left = λ b h. sizes_are.each b });
+  each = λ t h. inl (get_or-replicate count (slice_index of t) 0 0 (are.below t h), omega (arith, sizes_are.each (slice_index of t), block_size-some of t h));
+  same = λ j h. absurd (omega arith);
 }
 
-module _ (of numbers live : List ℕ) (i : ℕ) (met keepers : List ℕ) (rises : AreLive (length of) live) (below : (t : ℕ) → t < length of → slice_index of t < length of)
-    (more : i < length live) (up : FilledUpTo of numbers live i met keepers) where
+module _ (of numbers live : List ℕ) (i : ℕ) (sizes keepers all : List ℕ) (rises : AreLive (length of) live) (below : (t : ℕ) → t < length of → slice_index of t < length of)
+    (more_live : i < length live) (up : TakenUpTo of numbers live i sizes keepers all) where
   abbrev s : ℕ
   s = slice_index live i
 
   abbrev b : ℕ
   b = slice_index of s
 
-  abbrev met' : List ℕ
-  met' = set met b (slice_index met b + 1)
+  abbrev rest : List ℕ
+  rest = up.out.0
+
+  abbrev sizes' : List ℕ
+  sizes' = fewer sizes b
 
   inside : s < length of
-  inside = rises.below i more
+  inside = rises.below i more_live
 
-  met_same : slice_index met' b ≡ slice_index met b + 1
-  met_same = get_or-set_same met b (slice_index met b + 1) 0 (up.met_room s inside)
+  -- the state in place i is not out before
+  still : slice_index rest s ≡ b
+  still = elim (up.out.1.each s inside) [ inl e ↦ e | inr w ↦ absurd (omega (arith, rises.rising w.0 i w.2 more_live, w.3)) ]
 
-  met_other : (k : ℕ) → ¬ (k ≡ b) → slice_index met' k ≡ slice_index met k
-  met_other k d = get_or-set_other met b k (slice_index met b + 1) 0 d
+  pub had : 0 < slice_index sizes b
+  had = omega (arith, up.out.1.left b (below s inside), block_size-some rest s (omega (arith, inside, up.out.1.states)), ap (block_size rest) still)
 
-  few-more : (k : ℕ) → slice_index met' k ≤ i + 1
-  few-more k = elim (cases_eq k b) [
-    | inl e ↦ omega (arith, ap (slice_index met') e, met_same, up.few b)
-    | inr d ↦ omega (arith, met_other k d, up.few k)
-  ]
+  pub had_room : b < length sizes
+  had_room = some_below sizes b had
 
-  -- a state is not met twice
-  not_before : ¬ IsBefore live i s
-  not_before w = omega (arith, rises.rising w.0 i w.1 more, w.2)
-
-  -- the state in place i is met
-  met_more : (rest : List ℕ) → AreMet of live i met rest → AreMet of live (i + 1) met' (set rest s (length of))
-  met_more rest are =
-      let here : slice_index rest s ≡ b = elim (are.each s inside) [ inl e ↦ e | inr w ↦ absurd (not_before w) ] in
-      let now : slice_index (set rest s (length of)) s ≡ length of = get_or-set_same rest s (length of) 0 (omega (arith, inside, are.states)) in
+  out_more : AreOut of live 0 (i + 1) sizes' (set rest s (length of))
+  out_more =
+      let out = up.out.1 in
+      let here : s < length rest = omega (arith, inside, out.states) in
       record {
-        states = length-set rest s (length of) ∙ are.states;
+        states = length-set rest s (length of) ∙ out.states;
         each = λ t h. elim (cases_eq t s) [
-          | inl e ↦ inr (i, omega arith, sym e)
-          | inr d ↦ elim (are.each t h) [
+          | inl e ↦ inr (i, omega arith, omega arith, sym e)
+          | inr d ↦ elim (out.each t h) [
             | inl same ↦ inl (get_or-set_other rest s t (length of) 0 d ∙ same)
-            | inr w ↦ inr (w.0, omega (arith, w.1), w.2)
+            | inr w ↦ inr (w.0, w.1, omega (arith, w.2), w.3)
           ]
         ];
-        gone = λ j h. elim (cases_eq (slice_index live j) s) [
-          | inl e ↦ ap (slice_index (set rest s (length of))) e ∙ now
-          | inr d ↦ elim (earlier i j h) [
-            | inl low ↦ get_or-set_other rest s (slice_index live j) (length of) 0 d ∙ are.gone j low
-            | inr last ↦ absurd (d (ap (slice_index live) last))
+        gone = λ j low h. elim (cases_eq (slice_index live j) s) [
+          | inl e ↦ ap (slice_index (set rest s (length of))) e ∙ get_or-set_same rest s (length of) 0 here
+          | inr d ↦ elim (cases_eq j i) [
+            | inl last ↦ absurd (d (ap (slice_index live) last))
+            | inr before ↦ get_or-set_other rest s (slice_index live j) (length of) 0 d ∙ out.gone j low (omega (arith, before, h))
           ]
         ];
-        sum = λ k h.
-            let moved = block_size-set rest k s (length of) (omega (arith, inside, are.states)) in
-            let out = one_other k (length of) (λ e. omega (arith, e, h)) in
-            elim (cases_eq k b) [
-              | inl e ↦ omega (arith, moved, out, one_same k (slice_index rest s) (here ∙ sym e), are.sum k h, ap (slice_index met') e, ap (slice_index met) e, met_same)
-              | inr d ↦ omega (arith, moved, out, one_other k (slice_index rest s) (λ e. d (sym e ∙ here)), are.sum k h, met_other k d)
-            ];
+        left = λ k h.
+            let gone = one_other k (length of) (λ e. omega (arith, e, h)) in
+            omega (arith, fewer_at sizes b k had, block_size-set rest k s (length of) here, ap (one k) still, gone, out.left k h);
       }
 
   -- what is known of another block stays
-  part_other : (keepers' : List ℕ) (t : ℕ) → ¬ (slice_index of t ≡ b) → slice_index keepers' (slice_index of t) ≡ slice_index keepers (slice_index of t)
-      → FilledOrNot of numbers live i met keepers t → FilledOrNot of numbers live (i + 1) met' keepers' t
-  part_other keepers' t d same p = elim p [
-    | inl x ↦ inl (same ∙ x.0, omega (arith, x.1, met_other (slice_index of t) d))
-    | inr x ↦ inr ((x.0.0, omega (arith, x.0.1), x.0.2, x.0.3 ∙ sym same), omega (arith, x.1, met_other (slice_index of t) d))
-  ]
+  part_other : (x t : ℕ) → ¬ (slice_index of t ≡ b) → FilledOrNot of numbers live i sizes all t → FilledOrNot of numbers live (i + 1) sizes' (set all b x) t
+  part_other x t d p =
+      let same = get_or-set_other all b (slice_index of t) x 0 d in
+      let size = get_or-set_other sizes b (slice_index of t) (slice_index sizes b - 1) 0 d in
+      elim p [
+        | inl y ↦ inl (same ∙ y.0, omega (arith, y.1, size))
+        | inr y ↦ inr ((y.0.0, omega (arith, y.0.1), y.0.2, y.0.3 ∙ sym same), size ∙ y.1)
+      ]
 
-  -- the last state of its block is met
-  pub FilledUpTo-last : slice_index met b + 1 ≡ block_size of b → FilledUpTo of numbers live (i + 1) met' (set keepers b (slice_index numbers s))
-  FilledUpTo-last full =
-      let keepers' = set keepers b (slice_index numbers s) in
+  -- the state in place i is taken out: if it was the last one, its list keeps the number
+  pub TakenUpTo-more : (x : ℕ) → ((x ≡ slice_index numbers s) × (slice_index sizes' b ≡ 0)) ⊎ ((x ≡ 0) × (0 < slice_index sizes' b))
+      → TakenUpTo of numbers live (i + 1) sizes' (set keepers b x) (set all b x)
+  TakenUpTo-more x either =
+      let now = get_or-set_same all b x 0 (up.room_all s inside) in
       record {
-        room = λ t h. omega (arith, up.room t h, length-set keepers b (slice_index numbers s));
-        met_room = λ t h. omega (arith, up.met_room t h, length-set met b (slice_index met b + 1));
-        few = few-more;
-        parts = (set up.parts.0 s (length of), met_more up.parts.0 up.parts.1);
+        room = λ t h. omega (arith, up.room t h, length-set keepers b x);
+        room_all = λ t h. omega (arith, up.room_all t h, length-set all b x);
+        out = (set rest s (length of), out_more);
         each = λ t h. elim (cases_eq (slice_index of t) b) [
           | inl e ↦
-              let kept = get_or-set_same keepers b (slice_index numbers s) 0 (up.room s inside) in
-              inr ((i, omega arith, sym e, sym kept ∙ ap (slice_index keepers') (sym e)), omega (arith, full, ap (block_size of) e, ap (slice_index met') e, met_same))
-          | inr d ↦ part_other keepers' t d (get_or-set_other keepers b (slice_index of t) (slice_index numbers s) 0 d) (up.each t h)
+              let here = ap (slice_index (set all b x)) e ∙ now in
+              let size = ap (slice_index sizes') e in
+              elim either [
+                | inl y ↦ inr ((i, omega arith, sym e, sym y.0 ∙ sym here), size ∙ y.1)
+                | inr y ↦ inl (here ∙ y.0, omega (arith, y.1, size))
+              ]
+          | inr d ↦ part_other x t d (up.each t h)
+        ];
+        same = λ j h. elim (cases_eq (slice_index of (slice_index live j)) b) [
+          | inl e ↦ ap (slice_index (set keepers b x)) e ∙ get_or-set_same keepers b x 0 (up.room s inside) ∙ sym (ap (slice_index (set all b x)) e ∙ now)
+          | inr d ↦ elim (cases_eq j i) [
+            | inl last ↦ absurd (d (ap (λ j. slice_index of (slice_index live j)) last))
+            | inr before ↦
+                let k = slice_index of (slice_index live j) in
+                get_or-set_other keepers b k x 0 d ∙ up.same j (omega (arith, before, h)) ∙ sym (get_or-set_other all b k x 0 d)
+          ]
         ];
       }
 
-  -- or it is not the last
-  pub FilledUpTo-more : ¬ (slice_index met b + 1 ≡ block_size of b) → FilledUpTo of numbers live (i + 1) met' keepers
-  FilledUpTo-more part = record {
-    room = up.room;
-    met_room = λ t h. omega (arith, up.met_room t h, length-set met b (slice_index met b + 1));
-    few = few-more;
-    parts = (set up.parts.0 s (length of), met_more up.parts.0 up.parts.1);
-    each = λ t h. elim (cases_eq (slice_index of t) b) [
-      | inl e ↦
-          let size = ap (block_size of) e in
-          let now = ap (slice_index met') e in
-          let was = ap (slice_index met) e in
-          elim (up.each t h) [
-            | inl x ↦ inl (x.0, omega (arith, x.1, size, now, was, met_same, part))
-            | inr x ↦ inr ((x.0.0, omega (arith, x.0.1), x.0.2, x.0.3), omega (arith, x.1, size, now, was, met_same))
-          ]
-      | inr d ↦ part_other keepers t d refl (up.each t h)
-    ];
-  }
+-- when all that are looked at are out
+module _ (of numbers live sizes keepers all : List ℕ) (below : (t : ℕ) → t < length of → slice_index of t < length of) (rises : AreLive (length of) live)
+    (zeros : HaveNone live numbers) (size : length numbers ≡ length of) (up : TakenUpTo of numbers live (length live) sizes keepers all) where
+  abbrev left : List ℕ
+  left = up.out.0
 
--- when all that are looked at were met
-module _ (of numbers live met keepers : List ℕ) (below : (t : ℕ) → t < length of → slice_index of t < length of) (rises : AreLive (length of) live)
-    (zeros : HaveNone live numbers) (size : length numbers ≡ length of) (up : FilledUpTo of numbers live (length live) met keepers) where
-  abbrev rest : List ℕ
-  rest = up.parts.0
-
-  -- a block of which not all were met has a state with the empty list
-  unmet : (t : ℕ) → t < length of → slice_index met (slice_index of t) < block_size of (slice_index of t)
+  -- a block that has more states has one with the empty list
+  unmet : (t : ℕ) → t < length of → 0 < slice_index sizes (slice_index of t)
       → (u : ℕ) × (u < length of) × (slice_index of u ≡ slice_index of t) × (slice_index numbers u ≡ 0)
-  unmet t h part =
-      let are = up.parts.1 in
-      let w = block_size-find rest (slice_index of t) (omega (arith, part, are.sum (slice_index of t) (below t h))) in
-      let u_in : w.0 < length of = omega (arith, w.1, are.states) in
-      let looked : ¬ IsOne live w.0 = λ one. omega (arith, ap (slice_index rest) one.2, are.gone one.0 one.1, w.2, below t h) in (
+  unmet t h some =
+      let out = up.out.1 in
+      let w = block_size-find left (slice_index of t) (omega (arith, some, out.left (slice_index of t) (below t h))) in
+      let u_in : w.0 < length of = omega (arith, w.1, out.states) in
+      let looked : ¬ IsOne live w.0 = λ one. omega (arith, ap (slice_index left) one.2, out.gone one.0 (omega arith) one.1, w.2, below t h) in (
         w.0,
         u_in,
-        elim (are.each w.0 u_in) [ inl e ↦ sym e ∙ w.2 | inr m ↦ absurd (looked m) ],
+        elim (out.each w.0 u_in) [ inl e ↦ sym e ∙ w.2 | inr m ↦ absurd (looked (m.0, m.2, m.3)) ],
         elim (zeros w.0 (omega (arith, u_in, size))) [ inl one ↦ absurd (looked one) | inr zero ↦ zero ],
       )
 
-  -- if all were met, they are looked at
-  all_met : (t : ℕ) → t < length of → block_size of (slice_index of t) ≤ slice_index met (slice_index of t) → IsOne live t
-  all_met t h full =
-      let are = up.parts.1 in
-      elim (are.each t h) [
-        | inr one ↦ one
+  -- if all are out, they are looked at
+  all_met : (t : ℕ) → t < length of → slice_index sizes (slice_index of t) ≡ 0 → IsOne live t
+  all_met t h none =
+      let out = up.out.1 in
+      elim (out.each t h) [
+        | inr w ↦ (w.0, w.2, w.3)
         | inl e ↦
-            let some = block_size-some rest t (omega (arith, h, are.states)) in
-            absurd (omega (arith, some, ap (block_size rest) e, are.sum (slice_index of t) (below t h), full))
+            let some = block_size-some left t (omega (arith, h, out.states)) in
+            absurd (omega (arith, some, ap (block_size left) e, out.left (slice_index of t) (below t h), none))
       ]
 
-  pub keepers_counted : AreKeepers of numbers live keepers
-  keepers_counted = record {
-    room = up.room;
+  keepers_all : AreKeepers of numbers live all
+  keepers_all = record {
+    room = up.room_all;
     keeps = λ t h. elim (up.each t h) [
-      | inl x ↦ let u = unmet t h x.1 in (u.0, u.1, u.2, u.3 ∙ sym x.0 ∙ ap (slice_index keepers) (sym u.2))
-      | inr x ↦ (slice_index live x.0.0, rises.below x.0.0 x.0.1, x.0.2, x.0.3 ∙ ap (slice_index keepers) (sym x.0.2))
+      | inl x ↦ let u = unmet t h x.1 in (u.0, u.1, u.2, u.3 ∙ sym x.0 ∙ ap (slice_index all) (sym u.2))
+      | inr x ↦ (slice_index live x.0.0, rises.below x.0.0 x.0.1, x.0.2, x.0.3 ∙ ap (slice_index all) (sym x.0.2))
     ];
     rest = λ t h. elim (zeros t (omega (arith, h, size))) [
       | inl one ↦ inl one
@@ -213,3 +177,6 @@ module _ (of numbers live met keepers : List ℕ) (below : (t : ℕ) → t < len
       ]
     ];
   }
+
+  pub keepers_taken : HaveKeepers of numbers live keepers
+  keepers_taken = record { room = λ i h. up.room _ (rises.below i h); same = (all, keepers_all, up.same) }

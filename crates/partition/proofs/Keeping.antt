@@ -4,7 +4,7 @@ use Rattle.std.proofs.lemmas.Bool.{cases_lt, cases_eq, false≢true}
 use Rattle.std.proofs.lemmas.List.{length-set, get_or-set_same, get_or-set_other}
 use Rattle.partition.specs.Splitting.{IsAlone}
 use Rattle.partition.specs.Blocks.{AreLive, AreIdle, HaveNone, IsOne}
-use Rattle.partition.specs.Representatives.{KeepsNumber, AreKeepers}
+use Rattle.partition.specs.Representatives.{KeepsNumber, AreKeepers, HaveKeepers}
 
 -- the block of the state t has a state that keeps its number
 abbrev pub IsKept : List ℕ → List ℕ → List ℕ → ℕ → Type 0
@@ -154,3 +154,8 @@ module _ (old numbers live keepers votes : List ℕ) (idle : Option ℕ) (up : K
       ]
     ];
   }
+
+-- what keeps the numbers of all blocks
+pub in_all_blocks : (old numbers live keepers : List ℕ) → AreLive (length old) live → AreKeepers old numbers live keepers → HaveKeepers old numbers live keepers
+in_all_blocks old numbers live keepers rises keep =
+    record { room = λ i h. keep.room _ (rises.below i h); same = (keepers, keep, λ i h. refl) }

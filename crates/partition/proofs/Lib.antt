@@ -8,3 +8,4 @@ pub mod Leaving
 pub mod Parting
 pub mod Counting
 pub mod Filling
+pub mod Refilling

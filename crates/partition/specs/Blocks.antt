@@ -1,17 +1,20 @@
 -- The blocks of a round of refinement, with the states that it looks at.
-use Rattle.std.specs.Prelude.{◌≡◌, ◌⊎◌, ℕ, ◌<◌, ◌≤◌, List, [], length, slice_index, Option, IfSome, IsSome}
+use Rattle.std.specs.Prelude.{◌≡◌, ◌⊎◌, ℕ, ◌<◌, ◌≤◌, List, length, slice_index, Option, None, Some, IfSome, IsSome}
 use Rattle.partition.specs.Partition.{AreBlocks}
 use Rattle.partition.specs.Splitting.{IsAlone}
-use Rattle.partition.specs.Sizes.{AreSizes}
+use Rattle.partition.specs.Sizes.{AreCounts}
+use Rattle.partition.specs.declared.blocks.IdleStates.{IdleStates}
+use Rattle.partition.specs.declared.blocks.Others.{Others}
+use Rattle.partition.specs.declared.counted.Counts.{Counts}
+use Rattle.partition.specs.declared.blocks.Others.TheVariants.{Idle, Counted}
 
 -- the block of each state, how many blocks there are, and the states that are looked at. Blocks from `low` on are new since the last
--- split. `idle` is one of the states that are together in block 0 and not looked at, if there is one and no block is counted.
+-- split
 pub record RoundBlocks : Type 0 where
   pub of : List ℕ
   pub count : ℕ
   pub low : ℕ
   pub live : List ℕ
-  pub idle : Option ℕ
 
 -- the state s is one of them
 abbrev pub IsOne : List ℕ → ℕ → Type 0
@@ -28,20 +31,31 @@ pub record AreIdle (of live : List ℕ) (idle : Option ℕ) : Type 0 where
   pub each : (s : ℕ) → s < length of → IsOne live s ⊎ IsAlone of s ⊎ ((slice_index of s ≡ 0) × IsSome idle)
   pub one : IfSome idle (λ s. (s < length of) × (slice_index of s ≡ 0) × ¬ IsOne live s)
 
--- so are the others while no block is counted. Once each is, they may be any states
-abbrev pub AreOthers : List ℕ → ℕ → List ℕ → Option ℕ → List ℕ → Type 0
-AreOthers of count live idle sizes = (AreIdle of live idle × (sizes ≡ [])) ⊎ AreSizes of count sizes
+-- what is known of the states that are not looked at, if they are idle
+abbrev pub idle_of : Others → Option IdleStates
+idle_of (Idle idle) = Some idle
+idle_of (Counted _) = None
 
--- what holds of the blocks of a round, of which there were so many when the states that are alone were left out last
-pub record IsRound (of : List ℕ) (count known : ℕ) (live : List ℕ) (idle : Option ℕ) (sizes : List ℕ) : Type 0 where
+-- what is kept of the blocks, if they are counted
+abbrev pub counts_of : Others → Option Counts
+counts_of (Idle _) = None
+counts_of (Counted counts) = Some counts
+
+-- what holds of the blocks of a round. The states that it does not look at are idle, and those that are alone were left out when there
+-- were no more blocks than now; or they may be any states, and each block is counted
+pub record IsRound (of : List ℕ) (count : ℕ) (live : List ℕ) (others : Others) : Type 0 where
   pub blocks : AreBlocks of count
-  pub fewer : known ≤ count
   pub rising : AreLive (length of) live
-  pub others : AreOthers of count live idle sizes
+  pub idle : IfSome (idle_of others) (λ idle. AreIdle of live idle.one × (idle.known ≤ count))
+  pub counts : IfSome (counts_of others) (AreCounts of count)
 
 -- a state that is not looked at has the list number 0
 abbrev pub HaveNone : List ℕ → List ℕ → Type 0
 HaveNone live numbers = (s : ℕ) → s < length numbers → IsOne live s ⊎ (slice_index numbers s ≡ 0)
+
+-- a state that is not looked at keeps its block
+abbrev pub StayBeside : List ℕ → List ℕ → List ℕ → Type 0
+StayBeside live old new = (s : ℕ) → s < length old → IsOne live s ⊎ (slice_index new s ≡ slice_index old s)
 
 -- of the states that are looked at some are left out, which are alone in their blocks
 pub record LeavesAlone (of old new : List ℕ) : Type 0 where

@@ -87,3 +87,9 @@ pub record AreKeepers (old numbers live keepers : List ℕ) : Type 0 where
   pub room : (s : ℕ) → s < length old → slice_index old s < length keepers
   pub keeps : (s : ℕ) → s < length old → (u : ℕ) × (u < length old) × (slice_index old u ≡ slice_index old s) × KeepsNumber old numbers keepers u
   pub rest : (s : ℕ) → s < length old → IsOne live s ⊎ KeepsNumber old numbers keepers s
+
+-- so do these, in the blocks of the states that are looked at. In other blocks they may be any
+pub record HaveKeepers (old numbers live keepers : List ℕ) : Type 0 where
+  pub room : (i : ℕ) → i < length live → slice_index old (slice_index live i) < length keepers
+  pub same : (all : List ℕ) × AreKeepers old numbers live all
+      × ((i : ℕ) → i < length live → slice_index keepers (slice_index old (slice_index live i)) ≡ slice_index all (slice_index old (slice_index live i)))

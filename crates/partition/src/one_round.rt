@@ -4,7 +4,7 @@ ghost use Rattle.std.specs.Prelude.{◌≡◌, ℕ, ◌<◌, ◌≤◌, length, 
 ghost use Rattle.lts.specs.declared.limits.TheConstants.{MOST_STATES};
 ghost use Rattle.partition.specs.Blocks.{IsOne};
 
-use crate::blocks::Blocks;
+use crate::blocks::{Blocks, IdleStates, Others};
 use crate::partition::Partition;
 use growth::Memory;
 use std::alloc::Global;
@@ -40,10 +40,11 @@ impl Blocks {
             of,
             count: p.count(),
             low: 0,
-            known: 0,
             live,
-            idle: None,
-            sizes: Vec::new(alloc),
+            others: Others::Idle(IdleStates {
+                one: None,
+                known: 0,
+            }),
         })
     }
 }

@@ -1,4 +1,5 @@
 use Rattle.std.proofs.Common.{◌≡◌, ◌∙◌, length, ap, sym, subst, inl, arith}
+use Rattle.std.proofs.lemmas.Result.{err_from_is_err_and}
 use Rattle.partition.specs.Blocks.{IsOne}
 use Rattle.inert.specs.Signed.{IsSignature}
 use Rattle.refine.specs.EachList.{list_of}
@@ -33,3 +34,6 @@ returns-clause-signed g c s ls =
     (sym (signature_at-list c.in_ok-whole.whole numbers s (omega (arith, ls, size, c.requires.states))
     ∙ ap (λ xs. list_of xs numbers s) c.in_ok-whole.ensures ∙ ap (λ r. list_of r.lists r.numbers s) c.signed.view_is))
     (put_whole rel l p s list (subst (λ low. IsPut rel l p low s list) start.low (subst (λ of. IsPut rel l of c.in_ok-blocks.blocks.low s list) start.of put)))
+
+pub returns-in_err-whole-clause-signed : goal.returns-in_err-whole-clause-signed
+returns-in_err-whole-clause-signed g c = let exit = err_from_is_err_and c.from_residual-in_err-whole.result c.from_residual-in_err-whole.ensures.1 in rw (exit.1) tt

@@ -1,4 +1,5 @@
-use Rattle.std.proofs.Common.{◌∙◌, true, cond, Some, length, ap, sym, subst, subst₂, arith}
+use Rattle.std.specs.List.{All}
+use Rattle.std.proofs.Common.{◌∙◌, ◌<◌, true, cond, Some, length, ap, sym, subst, subst₂, arith}
 use Rattle.std.proofs.lemmas.List.{take_at}
 use Rattle.theory.specs.declared.relation.Relation.TheVariants.{Strong}
 use Rattle.lts.specs.Groups.{groups_of}
@@ -60,3 +61,6 @@ returns-clause-watches g c =
     (subst (λ live. AreNotes true l live notes) c.live-live.ensures.live (subst (λ b. AreNotes b l c.live-live.result.now notes) on c.in_ok-sign_live.ensures.notes))
     (subst (λ e. Watches e Strong l old.blocks) (ap (λ r. r.entering) c.round.view_is ∙ c.in_ok-noting.ensures.once on) watches))
     watches
+
+pub keep_notes-requires-clause-targets : goal.keep_notes-requires-clause-targets
+keep_notes-requires-clause-targets g c = subst (λ n. All (λ x. x.0 < n) c.sign_live.new.scratch.notes.items) (sym c.states.ensures.value) c.in_ok-sign_live.ensures.notes.below

@@ -1,0 +1,110 @@
+-- States that are put back into the sizes of their blocks.
+use Rattle.std.proofs.Common.{◌≡◌, ◌∙◌, ℕ, ◌+◌, ◌-◌, ◌<◌, ◌≤◌, List, ◌++◌, length, slice_index, set, take, replicate, ap, sym, refl, inl, inr, arith}
+use Rattle.std.proofs.lemmas.Bool.{cases_eq, cases_lt}
+use Rattle.std.proofs.lemmas.List.{length-set, length-replicate, take_all, ext_get_or, get_or_past, get_or_append_left, get_or-append_right, get_or-replicate, get_or-set_same, get_or-set_other}
+use Rattle.partition.specs.Partition.{AreBlocks}
+use Rattle.partition.specs.Sizes.{AreSizes, AreSizesWithout, block_size}
+use Rattle.partition.specs.Blocks.{AreLive, StayBeside}
+use Rattle.partition.proofs.Counting.{one, one_other, more, more_at, block_size-le, block_size-set, block_size-find}
+
+-- the blocks of the other states are as they were
+pub without_old : (old new live sizes : List ℕ) → length new ≡ length old → StayBeside live old new → AreSizesWithout old live 0 (length live) sizes
+    → AreSizesWithout new live 0 (length live) sizes
+without_old old new live sizes states beside without =
+    let out = without.1 in (
+      without.0,
+      record {
+        states = out.states ∙ sym states;
+        each = λ t h. elim (beside t (omega (arith, h, states))) [
+          | inl one ↦ inr (one.0, omega arith, one.1, one.2)
+          | inr e ↦ elim (out.each t (omega (arith, h, states))) [ inl same ↦ inl (same ∙ sym e) | inr w ↦ inr w ]
+        ];
+        gone = λ j low h. out.gone j low h ∙ sym states;
+        left = λ b h. out.left b (omega (arith, h, states));
+      },
+    )
+
+zero_at : (n b : ℕ) → slice_index (replicate n 0) b ≡ 0
+zero_at n b = elim (cases_lt b n) [
+  | inl low ↦ get_or-replicate n b 0 0 low
+  | inr high ↦ get_or_past (replicate n 0) b 0 (omega (arith, high, length-replicate {A = ℕ} n 0))
+]
+
+-- blocks without states have the size 0
+grown_at : (sizes : List ℕ) (n b : ℕ) → slice_index (sizes ++ replicate n 0) b ≡ slice_index sizes b
+grown_at sizes n b = elim (cases_lt b (length sizes)) [
+  | inl low ↦ get_or_append_left sizes (replicate n 0) 0 b low
+  | inr high ↦ get_or-append_right sizes (replicate n 0) (length sizes) b 0 refl high ∙ zero_at n (b - length sizes) ∙ sym (get_or_past sizes b 0 high)
+]
+
+pub without_grown : (of live sizes sizes' : List ℕ) (count n : ℕ) → sizes' ≡ take count sizes ++ replicate n 0 → length sizes ≤ count
+    → AreSizesWithout of live 0 (length live) sizes → AreSizesWithout of live 0 (length live) sizes'
+without_grown of live sizes sizes' count n grown more without =
+    let out = without.1 in
+    let is = grown ∙ ap (λ xs. xs ++ replicate n 0) (take_all count sizes more) in (
+      without.0,
+      record { states = out.states; each = out.each; gone = out.gone; left = λ b h. ap (λ xs. slice_index xs b) is ∙ grown_at sizes n b ∙ out.left b h },
+    )
+
+-- the state in place i is put back
+module _ (of live : List ℕ) (i : ℕ) (sizes : List ℕ) (rises : AreLive (length of) live) (below : (t : ℕ) → t < length of → slice_index of t < length of)
+    (more_live : i < length live) (without : AreSizesWithout of live i (length live) sizes) where
+  abbrev s : ℕ
+  s = slice_index live i
+
+  abbrev b : ℕ
+  b = slice_index of s
+
+  abbrev rest : List ℕ
+  rest = without.0
+
+  inside : s < length of
+  inside = rises.below i more_live
+
+  pub few_left : slice_index sizes b ≤ length of
+  few_left = omega (arith, without.1.left b (below s inside), block_size-le rest b, without.1.states)
+
+  pub without_less : b < length sizes → AreSizesWithout of live (i + 1) (length live) (more sizes b)
+  without_less room =
+      let out = without.1 in
+      let here : s < length rest = omega (arith, inside, out.states) in (
+        set rest s b,
+        record {
+          states = length-set rest s b ∙ out.states;
+          each = λ t h. elim (cases_eq t s) [
+            | inl e ↦ inl (ap (slice_index (set rest s b)) e ∙ get_or-set_same rest s b 0 here ∙ sym (ap (slice_index of) e))
+            | inr d ↦ elim (out.each t h) [
+              | inl same ↦ inl (get_or-set_other rest s t b 0 d ∙ same)
+              | inr w ↦ elim (cases_eq w.0 i) [
+                | inl e ↦ absurd (d (sym w.3 ∙ ap (slice_index live) e))
+                | inr past ↦ inr (w.0, omega (arith, past, w.1), w.2, w.3)
+              ]
+            ]
+          ];
+          gone = λ j low h.
+              get_or-set_other rest s (slice_index live j) b 0 (λ e. omega (arith, e, rises.rising i j (omega (arith, low)) h)) ∙ out.gone j (omega (arith, low)) h;
+          left = λ k h.
+              let gone = ap (one k) (out.gone i (omega arith) more_live) ∙ one_other k (length of) (λ e. omega (arith, e, h)) in
+              omega (arith, more_at sizes b k room, block_size-set rest k s b here, gone, out.left k h);
+        },
+      )
+
+-- all are
+pub sizes_back : (of live sizes : List ℕ) (i count : ℕ) → AreBlocks of count → length sizes ≡ count → i ≡ length live → AreSizesWithout of live i (length live) sizes
+    → AreSizes of count sizes
+sizes_back of live sizes i count are size end without =
+    let out = without.1 in
+    let same : without.0 ≡ of = ext_get_or 0 without.0 of out.states (λ t h. elim (out.each t (omega (arith, h, out.states))) [
+      | inl e ↦ e
+      | inr w ↦ absurd (omega (arith, w.1, w.2, end))
+    ]) in
+    record {
+      blocks = size;
+      each = λ b. elim (cases_lt b (length of)) [
+        | inl low ↦ out.left b low ∙ ap (λ xs. block_size xs b) same
+        | inr high ↦ elim (cases_lt 0 (block_size of b)) [
+          | inl some ↦ let w = block_size-find of b some in absurd (omega (arith, w.2, are.below w.0 w.1, are.fewer, high))
+          | inr none ↦ omega (arith, none, get_or_past sizes b 0 (omega (arith, high, size, are.fewer)))
+        ]
+      ];
+    }
