@@ -77,10 +77,8 @@ fn begin_notes<M: Meter>(
 {
     let few = (scratch.touched as usize) < round.blocks.live().len() / 4 * 3;
     scratch.touched = 0;
-    if round.entering.is_some() {
-        return Ok(false);
-    }
-    if round.blocks.low() == 0 || m.rounds() < 3 || !few {
+    let early = round.blocks.low() == 0 || m.rounds() < 3;
+    if round.entering.is_some() || early || !few {
         return Ok(false);
     }
     scratch.notes = Vec::with_capacity(round.alloc, l.edges() as usize)?;
