@@ -1,9 +1,9 @@
 -- What was noted of transitions: a state that a round does not look at is alone in its block, or still.
-use Rattle.std.proofs.Common.{◌≡◌, ◌⊎◌, ◌↔◌, ◌∙◌, ℕ, ◌+◌, ◌<◌, ◌≤◌, Bool, true, cond, IsTrue, Option, None, Some, List, [], ◌∷◌, ◌++◌, length, slice_index, slice_index_or, Contains, ap, sym, subst, refl, inl, inr, arith}
+use Rattle.std.proofs.Common.{◌≡◌, ◌⊎◌, ◌↔◌, ◌∙◌, ℕ, ◌+◌, ◌<◌, ◌≤◌, Bool, true, false, cond, IsTrue, Option, None, Some, List, [], ◌∷◌, ◌++◌, length, slice_index, slice_index_or, Contains, ap, sym, subst, refl, inl, inr, arith}
 use Rattle.std.specs.List.{All}
 use Rattle.std.specs.Option.{MatchOption}
 use Rattle.std.proofs.lemmas.Bool.{cases_lt, cases_Bool}
-use Rattle.std.proofs.lemmas.List.{length-map, length-append, append-nil}
+use Rattle.std.proofs.lemmas.List.{length-map, length-append, append-nil, append_assoc, map-append}
 use Rattle.std.proofs.lemmas.List.Elements.{All-nil, All-cons, All-contains, All-contains_itself, All-weaker, All-append, All-map, Contains-append_left, Contains-append_right}
 use Rattle.std.proofs.lemmas.List.FromFn.{get_or-map-range_with_len, length-map-range_with_len}
 use Rattle.theory.specs.System.{Step}
@@ -85,6 +85,17 @@ module _ (l : Grouped)
     ];
   }
   watches_next (Some sources) Branching looks w = absurd w
+
+-- a transition more is noted, after none
+pub noted_none : (noting : Bool) (s : ℕ) (old : List (ℕ × ℕ)) → old ≡ old ++ noted_of noting s []
+noted_none true s old = sym (append-nil old)
+noted_none false s old = sym (append-nil old)
+
+pub noted_more : (noting : Bool) (s : ℕ) (xs : List Triple) (e : Triple) (old : List (ℕ × ℕ))
+    → (old ++ noted_of noting s xs) ++ cond noting ((target_of e, s) ∷ []) [] ≡ old ++ noted_of noting s (xs ++ e ∷ [])
+noted_more true s xs e old =
+    append_assoc old (turned s xs) ((target_of e, s) ∷ []) ∙ ap (λ ys. old ++ ys) (sym (map-append (λ x. (target_of x, s)) xs (e ∷ [])))
+noted_more false s xs e old = append-nil (old ++ [])
 
 -- a round that looks at all states that are not alone has noted all transitions
 module _ (l : Grouped) (p : RoundBlocks) (notes : List (ℕ × ℕ)) (lts : IsLts l)

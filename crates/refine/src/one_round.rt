@@ -118,38 +118,33 @@ impl Sense for Strong {
         out: &mut Vec<(u32, u32)>,
         m: &mut M,
     ) -> Result<(), Memory> {
-        sign(l, p.blocks(), s, &mut marks.scratch.pairs, m)?;
+        sign(l, p.blocks(), s, &mut marks.scratch, m)?;
         out.extend_from_slice(&marks.scratch.pairs)?;
         Ok(())
     }
 }
 
-/// Makes `pairs` the strong signature of `s`.
+/// Makes the pairs of `scratch` the strong signature of `s`.
 ///
 /// Fails if there is no memory for it.
 fn sign<M: Meter>(
     l: &Lts<M>,
     p: &[u32],
     s: u32,
-    pairs: &mut Vec<(u32, u32)>,
+    scratch: &mut Scratch,
     m: &mut M,
 ) -> Result<(), Memory>
     requires states { length p.now ≡ l.now.states }
     requires state { s < l.now.states }
     requires room { HasRoomFor (M.counted m.old) 0 (length (row_of s l.now.places)) }
-    ensures signature { OnOk result (IsSignature strong l.now p.now s pairs.new.items) }
+    ensures signature { OnOk result (IsSignature strong l.now p.now s scratch.new.pairs.items) }
     ensures visits { let n = length (row_of s l.now.places) in Visits M.counted m.old m.new result n n }
 {
     lts::rows_are_steps();
     l.known();
-    let under = NewBlocks {
-        l,
-        of: p,
-        low: 0,
-        noting: false,
-    };
-    read(&under, s, pairs, m)?;
-    order(pairs);
+    let under = NewBlocks { l, of: p, low: 0 };
+    read(&under, s, false, &mut scratch.pairs, &mut scratch.notes, m)?;
+    order(&mut scratch.pairs);
     Ok(())
 }
 

@@ -2,7 +2,7 @@
 ghost use Rattle.std.specs.Prelude.{◌≡◌, ℕ, ◌<◌, ◌∷◌, [], length, slice_index, None, IfOk, MatchOption};
 ghost use Rattle.lists.specs.Lists.{AreLists};
 ghost use Rattle.partition.specs.Partition.{AreBlocks};
-ghost use Rattle.partition.specs.Blocks.{HaveNone, LeavesAlone};
+ghost use Rattle.partition.specs.Blocks.{AreLive, HaveNone, LeavesAlone};
 ghost use Rattle.partition.specs.Splitting.{Splits};
 ghost use Rattle.refine.specs.EachList.{HaveLists, list_of};
 ghost use Rattle.refine.specs.Noting.{LooksAtSources};
@@ -81,34 +81,21 @@ impl SignedBlocks {
     /// than when that was done last. They have the empty list from now on. Once transitions were noted, `split` leaves them out.
     ///
     /// Fails if there is no memory for it.
-    pub fn renew(self) -> Result<SignedBlocks, Memory>
+    pub fn renew(mut self) -> Result<SignedBlocks, Memory>
         ensures same { IfOk result (λ r. r.blocks ≡ record self.blocks { live = r.blocks.live }) }
         ensures leaves { IfOk result (λ r. LeavesAlone self.blocks.of self.blocks.live r.blocks.live) }
         ensures entering { IfOk result (λ r. r.entering ≡ self.entering) }
     {
-        let SignedBlocks {
-            alloc,
-            blocks,
-            lists,
-            mut numbers,
-            entering,
-        } = self;
-        lists.known();
-        let blocks = blocks.renew(alloc, &mut numbers)?;
-        Ok(SignedBlocks {
-            alloc,
-            blocks,
-            lists,
-            numbers,
-            entering,
-        })
+        self.lists.known();
+        let blocks = self.blocks.renew(self.alloc, &mut self.numbers)?;
+        Ok(SignedBlocks { blocks, ..self })
     }
 
     /// Splits the blocks: two states stay together if their signatures are equal. If transitions were noted, the next round looks at
     /// the states that lead to new blocks.
     ///
     /// Fails if there is no memory for it.
-    pub fn split(self) -> Result<SignedBlocks, Memory>
+    pub fn split(mut self) -> Result<SignedBlocks, Memory>
         ensures splits { IfOk result (λ q. Splits self.blocks.of self.blocks.count (list_of self.lists self.numbers)
             q.blocks.of q.blocks.count) }
         ensures low { IfOk result (λ q. q.blocks.low ≡ self.blocks.count) }
@@ -116,47 +103,36 @@ impl SignedBlocks {
             (λ sources. LooksAtSources sources q.blocks)) }
         ensures entering { IfOk result (λ q. q.entering ≡ self.entering) }
     {
-        let SignedBlocks {
-            alloc,
-            blocks,
-            lists,
-            mut numbers,
-            entering,
-        } = self;
-        lists.known();
-        let blocks = blocks.split(alloc, lists.len(), &numbers)?;
+        self.lists.known();
+        let lists = self.lists.len();
+        let blocks = self.blocks.split(self.alloc, lists, &self.numbers)?;
+        let entering = self.entering;
         let Some(entering) = entering else {
             return Ok(SignedBlocks {
-                alloc,
                 blocks,
-                lists,
-                numbers,
                 entering: None,
+                ..self
             });
         };
-        let (entering, live) = entering.states_before(alloc, &blocks)?;
-        forget(&mut numbers, blocks.live());
-        let blocks = blocks.look_at(alloc, live)?;
+        let (entering, live) = entering.states_before(self.alloc, &blocks)?;
+        forget(&mut self.numbers, blocks.live());
+        let blocks = blocks.look_at(self.alloc, live)?;
         Ok(SignedBlocks {
-            alloc,
             blocks,
-            lists,
-            numbers,
             entering: Some(entering),
+            ..self
         })
     }
 }
 
 /// Gives these states the number of the empty list, as the others have it.
 fn forget(numbers: &mut [u32], live: &[u32])
+    requires live { AreLive (length numbers.old) live.now }
     requires none { HaveNone live.now numbers.old }
     ensures states { length numbers.new ≡ length numbers.old }
     ensures empty { (s : ℕ) → s < length numbers.old → slice_index numbers.new s ≡ 0 }
 {
     for i in 0..live.len() {
-        let s = live[i] as usize;
-        if s < numbers.len() {
-            numbers[s] = EMPTY;
-        }
+        numbers[live[i] as usize] = EMPTY;
     }
 }

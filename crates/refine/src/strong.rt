@@ -12,7 +12,7 @@ ghost use Rattle.inert.specs.Signed.{pair_under};
 ghost use Rattle.refine.specs.EachList.{list_of};
 ghost use Rattle.refine.specs.Settled.{HasFrom, IsPut, ArePut};
 ghost use Rattle.lts.specs.Groups.{groups_of};
-ghost use Rattle.refine.specs.Noting.{ReadsUnder, AreNotes, turned, noted_of};
+ghost use Rattle.refine.specs.Noting.{ReadsUnder, AreNotes, noted_of};
 
 use crate::entering::Entering;
 use crate::scratch::Scratch;
@@ -41,12 +41,12 @@ impl Signing for Strong {
             l,
             of: round.blocks.of(),
             low: round.blocks.low(),
-            noting,
         };
         let live = round.blocks.live();
         sign_live(
             &under,
             live,
+            noting,
             scratch,
             &mut round.lists,
             &mut round.numbers,
@@ -77,10 +77,8 @@ fn begin_notes<M: Meter>(
 {
     let few = (scratch.touched as usize) < round.blocks.live().len() / 4 * 3;
     scratch.touched = 0;
-    if round.entering.is_some() {
-        return Ok(false);
-    }
-    if round.blocks.low() == 0 || m.rounds() < 3 || !few {
+    let early = round.blocks.low() == 0 || m.rounds() < 3;
+    if round.entering.is_some() || early || !few {
         return Ok(false);
     }
     scratch.notes = Vec::with_capacity(round.alloc, l.edges() as usize)?;
@@ -116,6 +114,7 @@ fn keep_notes(
 fn sign_live<M: Meter>(
     under: &NewBlocks<M>,
     live: &[u32],
+    noting: bool,
     scratch: &mut Scratch,
     lists: &mut Lists,
     numbers: &mut [u32],
@@ -127,7 +126,7 @@ fn sign_live<M: Meter>(
     requires room { HasRoomFor (M.counted m.old) 0 (length under.now.l.now.places) }
     ensures signed { OnOk result (ArePut strong under.now.l.now under.now.of.now under.now.low live.now (list_of lists.new numbers.new)) }
     ensures numbers { OnOk result (AreNumbers lists.new numbers.new × HaveNone live.now numbers.new) }
-    ensures notes { OnOk result (AreNotes under.now.noting under.now.l.now live.now scratch.new.notes.items) }
+    ensures notes { OnOk result (AreNotes noting under.now.l.now live.now scratch.new.notes.items) }
     ensures visits { let n = length under.now.l.now.places in Visits M.counted m.old m.new result n n }
 {
     lts::rows_follow();
@@ -140,29 +139,28 @@ fn sign_live<M: Meter>(
         let (start, end) = under.l.row(s);
         visit_places(under.l, next, start, m);
         next = end;
-        numbers[s as usize] = put(under, s, scratch, lists, m)?;
+        numbers[s as usize] = put(under, s, noting, scratch, lists, m)?;
     }
     visit_places(under.l, next, under.l.edges(), m);
     Ok(())
 }
 
-/// What a row is read under: a system, the block of each state, from which number on blocks are new, and whether transitions are
-/// noted.
+/// What a row is read under: a system, the block of each state, and from which number on blocks are new.
 #[derive(Drop)]
 pub(crate) struct NewBlocks<'a, M: Meter> {
     pub l: &'a Lts<M>,
     pub of: &'a [u32],
     pub low: u32,
-    pub noting: bool,
 }
 
 /// Puts the strong signature of `s` into `lists` and returns its number there, or that of the empty list where `s` leads to no
-/// number from `low` on.
+/// number from `low` on. The transitions of `s` are noted, if `noting`.
 ///
 /// Fails if there is no memory for it.
 fn put<M: Meter>(
     under: &NewBlocks<M>,
     s: u32,
+    noting: bool,
     scratch: &mut Scratch,
     lists: &mut Lists,
     m: &mut M,
@@ -174,13 +172,18 @@ fn put<M: Meter>(
     ensures put { IfOk result (λ k. IsPut strong under.now.l.now under.now.of.now under.now.low s (list_at lists.new k)) }
     ensures grow { Grow lists.old lists.new }
     ensures notes { OnOk result (scratch.new.notes.items ≡ scratch.old.notes.items
-        ++ noted_of under.now.noting s (row_of s under.now.l.now.places)) }
+        ++ noted_of noting s (row_of s under.now.l.now.places)) }
     ensures visits { let n = length (row_of s under.now.l.now.places) in Visits M.counted m.old m.new result n n }
 {
     lts::rows_are_steps();
     under.l.known();
     lists.known();
-    let touched = read_row(under, s, &mut scratch.pairs, &mut scratch.notes, m)?;
+    // Each call has a copy of `read` of its own, so that none asks at each transition whether to note it.
+    let touched = if noting {
+        read(under, s, true, &mut scratch.pairs, &mut scratch.notes, m)?
+    } else {
+        read(under, s, false, &mut scratch.pairs, &mut scratch.notes, m)?
+    };
     if !touched {
         return Ok(EMPTY);
     }
@@ -190,71 +193,17 @@ fn put<M: Meter>(
     Ok(list)
 }
 
-/// Reads the row of `s`, and notes it, if rows are noted.
+/// Makes `pairs` those of the transitions of `s`, as they stand in its row, and notes these, if `noting`. Returns whether one of
+/// the pairs has a number from `low` on.
 ///
 /// Fails if there is no memory for it.
 #[inline(always)]
-fn read_row<M: Meter>(
-    under: &NewBlocks<M>,
-    s: u32,
-    pairs: &mut Vec<(u32, u32)>,
-    notes: &mut Vec<(u32, u32)>,
-    m: &mut M,
-) -> Result<bool, Memory>
-    requires states { length under.now.of.now ≡ under.now.l.now.states }
-    requires state { s < under.now.l.now.states }
-    requires room { HasRoomFor (M.counted m.old) 0 (length (row_of s under.now.l.now.places)) }
-    ensures pairs { OnOk result (pairs.new.items ≡ map (pair_under under.now.of.now) (row_of s under.now.l.now.places)) }
-    ensures touched { IfOk result (λ touched. IsTrue touched ↔ HasFrom under.now.low pairs.new.items) }
-    ensures notes { OnOk result (notes.new.items ≡ notes.old.items ++ noted_of under.now.noting s (row_of s under.now.l.now.places)) }
-    ensures visits { let n = length (row_of s under.now.l.now.places) in Visits M.counted m.old m.new result n n }
-{
-    if under.noting {
-        return read_noting(under, s, pairs, notes, m);
-    }
-    read(under, s, pairs, m)
-}
-
-/// Makes `pairs` those of the transitions of `s`, as `read` does, and notes of each of these its target and `s`.
-///
-/// Fails if there is no memory for it.
-fn read_noting<M: Meter>(
-    under: &NewBlocks<M>,
-    s: u32,
-    pairs: &mut Vec<(u32, u32)>,
-    notes: &mut Vec<(u32, u32)>,
-    m: &mut M,
-) -> Result<bool, Memory>
-    requires states { length under.now.of.now ≡ under.now.l.now.states }
-    requires state { s < under.now.l.now.states }
-    requires room { HasRoomFor (M.counted m.old) 0 (length (row_of s under.now.l.now.places)) }
-    ensures pairs { OnOk result (pairs.new.items ≡ map (pair_under under.now.of.now) (row_of s under.now.l.now.places)) }
-    ensures touched { IfOk result (λ touched. IsTrue touched ↔ HasFrom under.now.low pairs.new.items) }
-    ensures notes { OnOk result (notes.new.items ≡ notes.old.items ++ turned s (row_of s under.now.l.now.places)) }
-    ensures visits { let n = length (row_of s under.now.l.now.places) in Visits M.counted m.old m.new result n n }
-{
-    lts::rows_follow();
-    under.l.known();
-    let (start, end) = under.l.row(s);
-    pairs.clear();
-    pairs.reserve((end - start) as usize)?;
-    let mut touched = false;
-    for k in start..end {
-        let transition = under.l.edge(k, m);
-        notes.push((transition.1, s))?;
-        touched = collect(under.of, under.low, transition, touched, pairs);
-    }
-    Ok(touched)
-}
-
-/// Makes `pairs` those of the transitions of `s`, as they stand in its row. Returns whether one of them has a number from
-/// `low` on.
-///
-/// Fails if there is no memory for it.
 pub(crate) fn read<M: Meter>(
     under: &NewBlocks<M>,
     s: u32,
+    noting: bool,
     pairs: &mut Vec<(u32, u32)>,
+    notes: &mut Vec<(u32, u32)>,
     m: &mut M,
 ) -> Result<bool, Memory>
     requires states { length under.now.of.now ≡ under.now.l.now.states }
@@ -262,6 +211,7 @@ pub(crate) fn read<M: Meter>(
     requires room { HasRoomFor (M.counted m.old) 0 (length (row_of s under.now.l.now.places)) }
     ensures pairs { OnOk result (pairs.new.items ≡ map (pair_under under.now.of.now) (row_of s under.now.l.now.places)) }
     ensures touched { IfOk result (λ touched. IsTrue touched ↔ HasFrom under.now.low pairs.new.items) }
+    ensures notes { OnOk result (notes.new.items ≡ notes.old.items ++ noted_of noting s (row_of s under.now.l.now.places)) }
     ensures visits { let n = length (row_of s under.now.l.now.places) in Visits M.counted m.old m.new result n n }
 {
     lts::rows_follow();
@@ -274,6 +224,7 @@ pub(crate) fn read<M: Meter>(
     if (end - start) % 2 == 1 {
         let only = under.l.edge(k, m);
         touched = collect(under.of, under.low, only, touched, pairs);
+        note(only, s, noting, notes)?;
         k += 1;
     }
     // Two visits, then two writes: a visit after a write waits until the count has come back from memory.
@@ -282,6 +233,8 @@ pub(crate) fn read<M: Meter>(
         let second = under.l.edge(k + 1, m);
         touched = collect(under.of, under.low, first, touched, pairs);
         touched = collect(under.of, under.low, second, touched, pairs);
+        note(first, s, noting, notes)?;
+        note(second, s, noting, notes)?;
         k += 2;
     }
     Ok(touched)
@@ -307,4 +260,22 @@ fn collect(
     let block = p[transition.1 as usize];
     pairs.push_reserved((transition.0, block));
     touched || block >= low
+}
+
+/// Notes of a transition of the source `s` its target and `s`, if `noting`.
+///
+/// Fails if there is no memory for it.
+#[inline(always)]
+fn note(
+    transition: (u32, u32),
+    s: u32,
+    noting: bool,
+    notes: &mut Vec<(u32, u32)>,
+) -> Result<(), Memory>
+    ensures { OnOk result (notes.new.items ≡ notes.old.items ++ cond noting ((transition.1, s) ∷ []) []) }
+{
+    if noting {
+        notes.push((transition.1, s))?;
+    }
+    Ok(())
 }

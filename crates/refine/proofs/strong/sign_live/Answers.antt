@@ -43,7 +43,7 @@ loop-i-preserved g c =
     let notes = c.loop-i.scratch.notes.items in
     let new = c.put.new.scratch.notes.items in
     let is = c.in_ok-numbers.ensures.notes in
-    let more_notes = notes_few under.noting l notes new s (rises.below i more) c.known.ensures c.rows_are_steps.ensures.sources is in
+    let more_notes = notes_few c.args.noting l notes new s (rises.below i more) c.known.ensures c.rows_are_steps.ensures.sources is in
     record {
       coming = λ j low h.
           let up = rises.rising i j (omega (arith, low)) h in
@@ -56,13 +56,13 @@ loop-i-preserved g c =
       none = none_more c.loop-i.numbers live i k more inv.none;
       some = omega (arith, inv.some, grow.longer);
       few = omega (arith, more_notes, inv.few, row.count, inv.coming i (omega arith) more, row.begins);
-      below = notes_below under.noting l notes new s (rises.below i more) c.known.ensures c.rows_are_steps.ensures.sources is inv.below;
+      below = notes_below c.args.noting l notes new s (rises.below i more) c.known.ensures c.rows_are_steps.ensures.sources is inv.below;
       noted = λ on j h. elim (cases_lt j i) [
-        | inl low ↦ notes_stay under.noting l notes new s (rises.below i more) c.known.ensures c.rows_are_steps.ensures.sources is _ (inv.noted on j low)
+        | inl low ↦ notes_stay c.args.noting l notes new s (rises.below i more) c.known.ensures c.rows_are_steps.ensures.sources is _ (inv.noted on j low)
         | inr last ↦
             let here : i ≡ j = omega (arith, last, h) in
             subst (λ x. All (Contains new) (turned (slice_index live x) (row_of (slice_index live x) l.places))) here
-            (notes_here under.noting l notes new s (rises.below i more) c.known.ensures c.rows_are_steps.ensures.sources is on)
+            (notes_here c.args.noting l notes new s (rises.below i more) c.known.ensures c.rows_are_steps.ensures.sources is on)
       ];
       visits = record {
         rounds = omega (arith, inv.visits.rounds, gap.rounds, visits.rounds);

@@ -19,6 +19,6 @@ invariant-loop-i g l = record {
   some : 1 ≤ length l.lists;
   few : length l.scratch.notes.items ≤ l.next;
   below : All (λ x. x.0 < l.under.l.now.states) l.scratch.notes.items;
-  noted : IsTrue l.under.noting → (j : ℕ) → j < l.i → All (Contains l.scratch.notes.items) (turned (slice_index l.live j) (row_of (slice_index l.live j) l.under.l.now.places));
+  noted : IsTrue l.noting → (j : ℕ) → j < l.i → All (Contains l.scratch.notes.items) (turned (slice_index l.live j) (row_of (slice_index l.live j) l.under.l.now.places));
   visits : Costs (g.M.Meter.counted l.fn.m) (g.M.Meter.counted l.m) 0 l.next l.next;
 }

@@ -2,7 +2,7 @@ use Rattle.std.proofs.Common.{◌≡◌, ◌∙◌, length, slice_index, ap, sym
 use Rattle.std.specs.Option.{MatchOption}
 use Rattle.std.proofs.lemmas.List.{get_or_default}
 use Rattle.partition.specs.Splitting.{Splits}
-use Rattle.partition.specs.Blocks.{IsOne, HaveNone}
+use Rattle.partition.specs.Blocks.{AreLive, IsOne, HaveNone}
 use Rattle.refine.specs.EachList.{list_of, HaveSources}
 use Rattle.refine.specs.Noting.{LooksAtSources}
 use Rattle.refine.proofs.EachList.{Splits-lists, written_back}
@@ -41,7 +41,13 @@ invariant_of-result c =
     )
 
 pub forget-requires : goal.forget-requires
-forget-requires c = record { none = subst₂ HaveNone (sym (c.live.ensures.live ∙ c.in_ok-blocks.ensures.live)) (sym c.deref_mut.ensures.value) c.self.invariant.0.none }
+forget-requires c =
+    let value = c.deref_mut.ensures.value in
+    let have = c.self.invariant.0 in
+    record {
+      live = subst₂ AreLive (c.in_ok-blocks.ensures.splits.states ∙ sym (ap length value ∙ have.states)) (sym c.live.ensures.live) c.live.ensures.rising;
+      none = subst₂ HaveNone (sym (c.live.ensures.live ∙ c.in_ok-blocks.ensures.live)) (sym value) have.none;
+    }
 
 pub invariant_of-result-2 : goal.invariant_of-result-2
 invariant_of-result-2 c =
