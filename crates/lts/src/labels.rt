@@ -52,6 +52,11 @@ impl Labels {
         }
     }
 
+    /// The allocator that the table has.
+    pub(crate) fn allocator(&self) -> Global {
+        self.alloc
+    }
+
     /// Does nothing when it runs: its contract says what holds of every table.
     pub fn known(&self)
         ensures { IsTable self.now }

@@ -10,6 +10,7 @@ use crate::transitions::Transitions;
 use growth::Memory;
 use std::alloc::Global;
 use std::marker::{Model, PhantomData};
+use std::rc::Rc;
 
 /// Whether these parts make a system in memory: at most `MOST_STATES` states and `MOST_TRANSITIONS` transitions;
 /// first, sources and targets below `states`; label numbers below the table's length.
@@ -26,7 +27,8 @@ pub fn in_range(l: &Labels, first: u32, states: u32, e: &[(u32, u32, u32)]) -> b
 
 /// A system whose transitions are read with a meter of type `M`.
 pub struct Lts<M: Meter> {
-    labels: Labels,
+    /// One table for all systems over it.
+    labels: Rc<Labels>,
     first: u32,
     states: u32,
     /// Where the row of each state ends. It begins where the one before it ends.
@@ -57,10 +59,10 @@ impl<M: Meter> Model for Lts<M> {
 
     ghost use Rattle.lts.specs.Rows.{laid_out, IsLaidOut};
 
-    ghost view = { λ s. laid_out s.first s.states s.labels s.ends.items s.pairs.items };
+    ghost view = { λ s. laid_out s.first s.states s.labels.value s.ends.items s.pairs.items };
 
     ghost invariant = { λ s. let ends = s.ends.items in let pairs = s.pairs.items in
-        IsLaidOut (laid_out s.first s.states s.labels ends pairs) ends pairs };
+        IsLaidOut (laid_out s.first s.states s.labels.value ends pairs) ends pairs };
 }
 
 impl<M: Meter> Lts<M> {
@@ -101,10 +103,51 @@ impl<M: Meter> Lts<M> {
         ensures grouping { IfOk result (λ s. IsGrouping e s.places) }
         ensures system { IfOk result (λ s. Groups (system_from first states l e) (system_of s)) }
     {
-        l.known();
+        let labels = Rc::new(l.allocator(), l)?;
+        Lts::of_shared(labels, first, states, e)
+    }
+
+    /// The system of these parts over the label table of another system, which is not copied.
+    pub fn over<N: Meter>(
+        other: &Lts<N>,
+        first: u32,
+        states: u32,
+        e: Transitions,
+    ) -> Result<Lts<M>, Memory>
+        requires { InRange (length other.now.labels) first states e }
+
+        // On success: the parts, with the transitions in their places.
+        ensures first { IfOk result (λ s. s.first ≡ first) }
+        ensures states { IfOk result (λ s. s.states ≡ states) }
+        ensures labels { IfOk result (λ s. s.labels ≡ other.now.labels) }
+        ensures places { IfOk result (λ s. s.places ≡ grouped states e) }
+
+        // On success: what follows of the order of the places.
+        ensures grouping { IfOk result (λ s. IsGrouping e s.places) }
+    {
+        let labels = other.labels.clone()?;
+        Lts::of_shared(labels, first, states, e)
+    }
+
+    /// The same over a table that systems share.
+    fn of_shared(
+        labels: Rc<Labels>,
+        first: u32,
+        states: u32,
+        e: Transitions,
+    ) -> Result<Lts<M>, Memory>
+        requires { InRange (length labels.value) first states e }
+        ensures first { IfOk result (λ s. s.first ≡ first) }
+        ensures states { IfOk result (λ s. s.states ≡ states) }
+        ensures labels { IfOk result (λ s. s.labels ≡ labels.value) }
+        ensures places { IfOk result (λ s. s.places ≡ grouped states e) }
+        ensures grouping { IfOk result (λ s. IsGrouping e s.places) }
+        ensures system { IfOk result (λ s. Groups (system_from first states labels.value e) (system_of s)) }
+    {
+        labels.as_ref().known();
         let (ends, pairs) = e.group(states)?;
         Ok(Lts {
-            labels: l,
+            labels,
             first,
             states,
             ends,
@@ -147,7 +190,7 @@ impl<M: Meter> Lts<M> {
     pub fn labels(&self) -> &Labels
         ensures { result.now ≡ self.now.labels }
     {
-        &self.labels
+        self.labels.as_ref()
     }
 
     /// The places of the transitions with the source `s`: from the first number up to the second.

@@ -21,7 +21,7 @@ index-requires-2 g c =
 pub returns : goal.returns
 returns g c =
     let i = c.self.inside in
-    let view = laid_out i.first i.states i.labels i.ends.items i.pairs.items in
+    let view = laid_out i.first i.states i.labels.value i.ends.items i.pairs.items in
     let size = laid_out-states view i.ends.items i.pairs.items c.self.invariant in
     let below : c.args.s < view.states = omega (arith, c.requires, ap (λ l. l.states) c.self.view_is) in
     let begin : c.if-s-eq0.start ≡ before c.args.s view.places = elim c.if-s-eq0.branch [

@@ -1,30 +1,31 @@
 use Rattle.std.proofs.Common.{subst, sym}
+use Rattle.lts.specs.Labels.{IsTable}
 use Rattle.lts.specs.Lts.{IsGrouping}
 use Rattle.lts.proofs.Fields.{laid_out-places, laid_out-grouping, laid_out-groups, IsLaidOut-grouped}
-use Rattle.lts.proofs.lts.Lts.of.Goals as goal
+use Rattle.lts.proofs.lts.Lts.of_shared.Goals as goal
 
 pub invariant_of-result : goal.invariant_of-result
 invariant_of-result g c =
-    IsLaidOut-grouped c.args.l c.args.first c.args.states c.args.e c.in_ok-ends.ends.items c.in_ok-ends.pairs.items c.requires
+    IsLaidOut-grouped c.args.labels.value c.args.first c.args.states c.args.e c.in_ok-ends.ends.items c.in_ok-ends.pairs.items c.requires
     c.in_ok-ends.ensures.ends
     c.in_ok-ends.ensures.pairs
-    c.known.ensures
+    (subst IsTable c.as_ref.ensures c.known.ensures)
 
 pub returns-clause-places : goal.returns-clause-places
 returns-clause-places g c =
-    laid_out-places c.args.l c.args.first c.args.states c.args.e c.in_ok-ends.ends.items c.in_ok-ends.pairs.items c.requires
+    laid_out-places c.args.labels.value c.args.first c.args.states c.args.e c.in_ok-ends.ends.items c.in_ok-ends.pairs.items c.requires
     c.in_ok-ends.ensures.ends
     c.in_ok-ends.ensures.pairs
 
 pub returns-clause-grouping : goal.returns-clause-grouping
 returns-clause-grouping g c =
     subst (IsGrouping c.args.e) (sym (returns-clause-places g c))
-    (laid_out-grouping c.args.l c.args.first c.args.states c.args.e c.in_ok-ends.ends.items c.in_ok-ends.pairs.items c.requires
+    (laid_out-grouping c.args.labels.value c.args.first c.args.states c.args.e c.in_ok-ends.ends.items c.in_ok-ends.pairs.items c.requires
     c.in_ok-ends.ensures.ends
     c.in_ok-ends.ensures.pairs)
 
 pub returns-clause-system : goal.returns-clause-system
 returns-clause-system g c =
-    laid_out-groups c.args.l c.args.first c.args.states c.args.e c.in_ok-ends.ends.items c.in_ok-ends.pairs.items c.requires
+    laid_out-groups c.args.labels.value c.args.first c.args.states c.args.e c.in_ok-ends.ends.items c.in_ok-ends.pairs.items c.requires
     c.in_ok-ends.ensures.ends
     c.in_ok-ends.ensures.pairs
