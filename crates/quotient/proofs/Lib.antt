@@ -11,7 +11,6 @@ pub mod Classes
 pub mod Rows
 pub mod Members
 pub mod Stopping
-pub mod Copying
 pub mod Quotients
 pub mod WholeRows
 pub mod Visits

@@ -10,7 +10,6 @@ mod minimisation;
 mod numbering;
 mod relation;
 mod search;
-mod table;
 mod triples;
 
 pub use allowance::visits_are_within_the_allowance;

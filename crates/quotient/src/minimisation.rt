@@ -12,7 +12,6 @@ ghost use Rattle.quotient.specs.Numbers.{IsNumbering};
 
 use crate::numbering::{Numbering, number};
 use crate::search::reachable;
-use crate::table::copied;
 use crate::triples::{by_number, shown_transitions};
 use crate::{Relation, relation};
 use lts::{Counter, Lts, Memory, Meter};
@@ -92,6 +91,5 @@ fn quotient_of<M: Meter>(
         sources,
     )?;
     let shown = shown_transitions(alloc, l, &numbering.numbers, &members, dropped, m)?;
-    let labels = copied(alloc, l.labels())?;
-    Lts::of(labels, 0, numbering.count, shown)
+    Lts::over(l, 0, numbering.count, shown)
 }

@@ -1,7 +1,7 @@
-use Rattle.std.proofs.Common.{◌∙◌, ◌≤◌, length, ap, sym, subst, arith}
+use Rattle.std.proofs.Common.{◌∙◌, ◌≤◌, length, ap, sym, subst, refl, arith}
 use Rattle.std.proofs.lemmas.List.Sorted.{length_permutation}
 use Rattle.std.proofs.lemmas.Result.{IfOk-weaker}
-use Rattle.lts.specs.Lts.{InRange, IsGrouping, system_of}
+use Rattle.lts.specs.Lts.{IsGrouping, system_of}
 use Rattle.quotient.specs.Reading.{sources_of, IsDroppedLabel}
 use Rattle.quotient.specs.Triples.{AreMembers, HasShown, places_of}
 use Rattle.quotient.proofs.Quotients.{Laws, AreEnough, Parts-shown, rows_enough, quotient_in_range, IfOk-quotient}
@@ -81,16 +81,15 @@ shown : (g : Over) (c : In_ok-shown g) → HasShown c.args.numbering.now.numbers
     c.in_ok-members.members.items c.in_ok-shown.shown
 shown g c = rw (c.deref-3.ensures.value, c.deref-4.ensures.value) at c.in_ok-shown.ensures.shown
 
-pub of-requires : goal.of-requires
-of-requires g c =
-    let goals = goal.at.of-requires g c in
+pub over-requires : goal.over-requires
+over-requires g c =
+    let goals = goal.at.over-requires g c in
     let at = goals.After-dropped-dropped in
     let has = shown g goals.In_ok-shown in
     let less : length c.in_ok-shown.shown ≤ length c.args.l.now.places = omega (arith, has.few, few g goals.In_ok-members) in
     let parts = Parts-shown c.args.r c.args.l.now c.args.numbering.now c.sources-sources.result.now c.dropped-dropped.result c.in_ok-shown.shown
     c.in_ok-members.members.items (laws g at) c.requires.numbering (enough g at) (drops g at) (are g goals.In_ok-members) has in
-    subst (λ n. InRange n 0 c.args.numbering.now.count c.in_ok-shown.shown) (sym (ap length (c.in_ok-labels.ensures ∙ c.labels-2.ensures)))
-    (quotient_in_range _ _ _ _ _ _ parts less)
+    quotient_in_range _ _ _ _ _ _ parts less
 
 pub returns-clause-quotient : goal.returns-clause-quotient
 returns-clause-quotient g c =
@@ -98,25 +97,21 @@ returns-clause-quotient g c =
     let at = goals.After-dropped-dropped in
     let parts = Parts-shown c.args.r c.args.l.now c.args.numbering.now c.sources-sources.result.now c.dropped-dropped.result c.in_ok-shown.shown
     c.in_ok-members.members.items (laws g at) c.requires.numbering (enough g at) (drops g at) (are g goals.In_ok-members) (shown g goals.In_ok-shown) in
-    let built = c.of.ensures in
-    IfOk-quotient _ _ _ _ _ _ parts c.in_ok-labels.labels (c.in_ok-labels.ensures ∙ c.labels-2.ensures)
-    c.of.result built.first built.states built.labels built.grouping
+    let built = c.over.ensures in
+    IfOk-quotient _ _ _ _ _ _ parts c.args.l.now.labels refl
+    c.over.result built.first built.states built.labels built.grouping
 
 pub returns-clause-fewer_transitions : goal.returns-clause-fewer_transitions
 returns-clause-fewer_transitions g c =
     let goals = goal.at.returns-clause-fewer_transitions g c in
     let all = few g goals.In_ok-members in
     let has = shown g goals.In_ok-shown in
-    IfOk-weaker c.of.result (λ q. IsGrouping c.in_ok-shown.shown q.places) (λ q. length q.places ≤ length c.args.l.now.places)
-    (λ q grouping. omega (arith, length_permutation c.in_ok-shown.shown q.places grouping.same, has.few, all)) c.of.ensures.grouping
+    IfOk-weaker c.over.result (λ q. IsGrouping c.in_ok-shown.shown q.places) (λ q. length q.places ≤ length c.args.l.now.places)
+    (λ q grouping. omega (arith, length_permutation c.in_ok-shown.shown q.places grouping.same, has.few, all)) c.over.ensures.grouping
 
 pub returns-in_err-shown-clause-visits : goal.returns-in_err-shown-clause-visits
 returns-in_err-shown-clause-visits g c =
     visits_at_most _ _ _ _ (few g (goal.at.returns-in_err-shown-clause-visits g c).In_ok-members) (rw c.deref-4.ensures.value at c.shown_transitions.ensures.visits)
-
-pub returns-in_err-labels-clause-visits : goal.returns-in_err-labels-clause-visits
-returns-in_err-labels-clause-visits g c =
-    visits_at_most _ _ _ _ (few g (goal.at.returns-in_err-labels-clause-visits g c).In_ok-members) (rw c.deref-4.ensures.value at c.shown_transitions.ensures.visits)
 
 pub returns-clause-visits : goal.returns-clause-visits
 returns-clause-visits g c =
