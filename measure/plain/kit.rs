@@ -138,6 +138,22 @@ impl<'a, T> IntoIterator for &'a mut Vec<T> {
     }
 }
 
+pub struct Rc<T>(std::rc::Rc<T>);
+
+impl<T> Rc<T> {
+    pub fn new(_: Global, value: T) -> Result<Rc<T>, AllocFailed<T>> {
+        Ok(Rc(std::rc::Rc::new(value)))
+    }
+    #[allow(clippy::should_implement_trait)]
+    pub fn as_ref(&self) -> &T {
+        &self.0
+    }
+    #[allow(clippy::should_implement_trait)]
+    pub fn clone(&self) -> Grown<Rc<T>> {
+        Ok(Rc(self.0.clone()))
+    }
+}
+
 pub struct VecDeque<T>(std::collections::VecDeque<T>);
 
 impl<T> VecDeque<T> {

@@ -28,7 +28,7 @@ REPLACED = (
     (r"\b(derive\()Drop, ", r"\1"),
     (r"(<\w+|\btrait \w+): Drop\b", r"\1"),
     (r"vec!\[in alloc; ([^;]*); ([^\]]*)\]", r"kit::vec_in(\1, \2)"),
-    (r"\buse std::alloc::", "use kit::"),
+    (r"\buse std::(alloc|rc)::", "use kit::"),
     (r"\buse indexmap::", "use kit::"),
     (r"\buse std::collections::VecDeque;", "use kit::VecDeque;"),
     (r"\buse std::marker::Model;\n", ""),
