@@ -122,8 +122,9 @@ impl<M: Meter> Lts<M> {
         ensures labels { IfOk result (λ s. s.labels ≡ other.now.labels) }
         ensures places { IfOk result (λ s. s.places ≡ grouped states e) }
 
-        // On success: what follows of the order of the places.
+        // On success: what follows of the order of the places, and of the system.
         ensures grouping { IfOk result (λ s. IsGrouping e s.places) }
+        ensures system { IfOk result (λ s. Groups (system_from first states other.now.labels e) (system_of s)) }
     {
         let labels = other.labels.clone()?;
         Lts::of_shared(labels, first, states, e)
