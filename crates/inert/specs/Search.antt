@@ -4,10 +4,10 @@ use Rattle.std.specs.List.{All, AllPairs, Contains}
 use Rattle.theory.specs.System.{System, Leads}
 use Rattle.theory.specs.declared.relation.Relation.TheVariants.{Branching}
 use Rattle.theory.specs.Blocks.{Inert, Signature}
-use Rattle.lts.specs.Lts.{Grouped, Triple, source_of, target_of, place_at, system_of, IsRow}
+use Rattle.lts.specs.Lts.{Grouped, Triple, source_of, target_of, place_at, row_of, system_of, IsRow}
 use Rattle.lists.specs.Lists.{list_at}
 use Rattle.partition.specs.Blocks.{IsOne}
-use Rattle.inert.specs.Signed.{HasPair, IsSignature, IsLeft, pair_under}
+use Rattle.inert.specs.Signed.{HasPair, IsSignature, pair_under}
 use Rattle.inert.specs.Steps.{Under, IsInert}
 use Rattle.inert.specs.Ahead.{HasStages}
 pub use Rattle.inert.specs.declared.walk.Stage.{Stage}
@@ -126,10 +126,15 @@ pub record IsSigned (u : Under) (s : ℕ) (lists : List (List (ℕ × ℕ))) (k 
   pub within : k < length lists
   pub signature : IsSignature Branching u.l u.blocks s (list_at lists k)
 
--- finished states have their signatures, and those at rest need none
+-- a state in the block of one at rest is at rest too, or the one at rest has no transition
+abbrev pub RestTogether : Under → List Stage → Type 0
+RestTogether u stages = (s t : ℕ) → t < u.l.states → stage_at stages s ≡ AtRest → slice_index u.blocks t ≡ slice_index u.blocks s →
+    (stage_at stages t ≡ AtRest) ⊎ (row_of s u.l.places ≡ [])
+
+-- finished states have their signatures, and those at rest rest with their blocks
 pub record AreSigned (u : Under) (lists : List (List (ℕ × ℕ))) (stages : List Stage) : Type 0 where
   pub finished : (s k : ℕ) → stage_at stages s ≡ Finished k → IsSigned u s lists k
-  pub resting : (s : ℕ) → stage_at stages s ≡ AtRest → IsLeft u.l u.blocks s
+  pub resting : RestTogether u stages
 
 -- one component begins before another one, and so do its items
 abbrev pub IsBefore : Root → Root → Type 0

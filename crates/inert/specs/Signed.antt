@@ -23,10 +23,11 @@ pub record IsSignature (rel : Relation) (l : Grouped) (blocks : List ℕ) (s : �
 abbrev pub pair_under : List ℕ → Triple → ℕ × ℕ
 pair_under blocks e = (label_of e, slice_index blocks (target_of e))
 
--- no other state has the block of s, or s has no transition
-abbrev pub IsLeft : Grouped → List ℕ → ℕ → Type 0
-IsLeft l blocks s = ((t : ℕ) → t < l.states → slice_index blocks t ≡ slice_index blocks s → t ≡ s) ⊎ (row_of s l.places ≡ [])
-
 -- a state that is not looked at is alone in its block, or has no transition
 abbrev pub LeavesOut : Grouped → List ℕ → List ℕ → Type 0
 LeavesOut l blocks live = (s : ℕ) → s < l.states → IsOne live s ⊎ IsAlone blocks s ⊎ (row_of s l.places ≡ [])
+
+-- a state in the block of one that is looked at is looked at too, or has no transition
+abbrev pub LooksAtBlocks : Grouped → List ℕ → List ℕ → Type 0
+LooksAtBlocks l blocks live = (s t : ℕ) → s < l.states → t < l.states → slice_index blocks s ≡ slice_index blocks t →
+    IsOne live t → IsOne live s ⊎ (row_of s l.places ≡ [])

@@ -24,9 +24,9 @@
 //! state that was not seen. Most walks are one row: in ten rounds over nine buffers, steps enter 521 of 196,830 states.
 //!
 //! Between walks all states are at rest. A round wakes those that it looks at. The others have no transition, and so nothing
-//! to show, or are alone in their blocks, so that no inert step leads to them from another state. The walk from one state
-//! alone has stages of its own, where all states are unseen between walks. It keeps a trail of those that it sees, and makes
-//! them unseen again.
+//! to show, or nothing of their block is looked at, so that no inert step leads to them from a state that is. The walk from
+//! one state alone has stages of its own, where all states are unseen between walks. It keeps a trail of those that it sees,
+//! and makes them unseen again.
 #![tactic(auto)]
 
 mod beginning;

@@ -5,7 +5,7 @@ ghost use Rattle.lts.specs.Meter.{HasRoomFor, Visits};
 ghost use Rattle.lts.specs.Lts.{row_of};
 ghost use Rattle.lists.specs.Lists.{list_at, AreNumbers};
 ghost use Rattle.partition.specs.Blocks.{IsOne, AreLive, HaveNone};
-ghost use Rattle.inert.specs.Signed.{IsSignature, LeavesOut};
+ghost use Rattle.inert.specs.Signed.{IsSignature, LooksAtBlocks};
 ghost use Rattle.inert.specs.Search.{stage_at, nothing, AreAtRest, IsIdle, IsWoken};
 ghost use Rattle.inert.specs.Moves.{Rests};
 ghost use Rattle.inert.specs.declared.walk.Stage.TheVariants.{Unseen, Finished, AtRest};
@@ -82,7 +82,7 @@ impl Signer {
     }
 
     /// Puts the branching signature of each state that a round looks at into `lists`, and its number there into `numbers`. The
-    /// others are alone in their blocks, or have no transition, and have the number of the empty list already.
+    /// others have no transition, or nothing of their block is looked at, and have the number of the empty list already.
     ///
     /// Fails if there is no memory for it. It is open then which lists there are.
     pub fn sign_each<M: Meter>(
@@ -94,7 +94,7 @@ impl Signer {
         m: &mut M,
     ) -> Result<(), Memory>
         requires blocks { length blocks.now.of ≡ l.now.states }
-        requires others { LeavesOut l.now blocks.now.of blocks.now.live }
+        requires others { LooksAtBlocks l.now blocks.now.of blocks.now.live }
         requires numbers { (length numbers.old ≡ l.now.states) × HaveNone blocks.now.live numbers.old }
         requires room { HasRoomFor (M.counted m.old) 0 (length l.now.places) }
 
@@ -126,8 +126,8 @@ impl Signer {
 
 /// Finishes these states, which are awake, from the last one on: where states were numbered as they were found, most steps then
 /// lead to finished ones, and rows are read in the order in which they stand in memory. The rows of the others are visited for
-/// their count alone: they lie between those of two neighbours, and no inert step leads from another state to one of them that has
-/// a transition.
+/// their count alone: they lie between those of two neighbours, and no inert step leads from one of these states to one of the
+/// others that has a transition.
 ///
 /// Fails if there is no memory for it.
 fn walk_all<M: Meter>(
@@ -139,7 +139,7 @@ fn walk_all<M: Meter>(
 ) -> Result<(), Memory>
     requires woken { IsWoken lens.now.l.states live.now walk.old }
     requires live { AreLive lens.now.l.states live.now }
-    requires others { LeavesOut lens.now.l lens.now.blocks live.now }
+    requires others { LooksAtBlocks lens.now.l lens.now.blocks live.now }
     requires room { HasRoomFor (M.counted m.old) 0 (length lens.now.l.places) }
     ensures rests { OnOk result (Rests lens.now lists.new walk.new) }
     ensures all { OnOk result ((i : ℕ) → i < length live.now → (k : ℕ) × (stage_at walk.new.stages (slice_index live.now i) ≡ Finished k)) }

@@ -26,7 +26,7 @@ pub(crate) enum Stage {
     Open(u32),
     /// Finished: its signature is the list of this number.
     Finished(u32),
-    /// At rest: during a walk it is alone in its block, or has no transition.
+    /// At rest: during a walk it has no transition, or all states of its block are at rest.
     AtRest,
 }
 

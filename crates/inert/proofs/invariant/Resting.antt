@@ -5,24 +5,24 @@ use Rattle.std.proofs.lemmas.List.{get_or_past, nil_from_length}
 use Rattle.std.proofs.lemmas.List.Sums.{count_by-le-length}
 use Rattle.partition.specs.Blocks.{IsOne}
 use Rattle.inert.specs.Steps.{Under}
-use Rattle.inert.specs.Signed.{IsLeft, LeavesOut}
-use Rattle.inert.specs.Search.{Search, nothing, stage_at, no_root, AreAtRest, IsIdle, IsWoken, Walks, Unseen, Open, Finished, AtRest, Stage}
+use Rattle.inert.specs.Signed.{LooksAtBlocks}
+use Rattle.inert.specs.Search.{Search, nothing, stage_at, no_root, AreAtRest, RestTogether, IsIdle, IsWoken, Walks, Unseen, Open, Finished, AtRest, Stage}
 use Rattle.inert.specs.Moves.{Rests}
 use Rattle.inert.specs.Ahead.{is_unseen, unseen, KeepsSeen}
 use Rattle.inert.proofs.invariant.Standing.{frames_some, root_low}
 
--- each state is unseen, or needs no signature
+-- each state is unseen or at rest, with its block
 pub new_rests : (u : Under) (lists : List (List (ℕ × ℕ))) {w : Search} → w ≡ nothing w.stages → length w.stages ≡ u.l.states → 1 ≤ length lists
-    → ((s : ℕ) → (stage_at w.stages s ≡ Unseen) ⊎ ((stage_at w.stages s ≡ AtRest) × IsLeft u.l u.blocks s)) → Rests u lists w
-new_rests u lists {w = w} empty size some each =
+    → ((s : ℕ) → (stage_at w.stages s ≡ Unseen) ⊎ (stage_at w.stages s ≡ AtRest)) → RestTogether u w.stages → Rests u lists w
+new_rests u lists {w = w} empty size some each together =
     let few : unseen w.stages ≤ length w.stages = count_by-le-length is_unseen w.stages in
     record {
       empty = empty;
       numbers = omega (arith, few);
-      shut = λ s p is. elim (each s) [ inl none ↦ cc (none, is) | inr left ↦ cc (left.0, is) ];
+      shut = λ s p is. elim (each s) [ inl none ↦ cc (none, is) | inr rest ↦ cc (rest, is) ];
       signed = record {
-        finished = λ s k is. elim (each s) [ inl none ↦ absurd (cc (none, is)) | inr left ↦ absurd (cc (left.0, is)) ];
-        resting = λ s is. elim (each s) [ inl none ↦ absurd (cc (none, is)) | inr left ↦ left.1 ];
+        finished = λ s k is. elim (each s) [ inl none ↦ absurd (cc (none, is)) | inr rest ↦ absurd (cc (rest, is)) ];
+        resting = together;
       };
     }
 
@@ -32,23 +32,31 @@ idle_unseen {w = w} idle s = elim (cases_lt s (length w.stages)) [ inl low ↦ i
 
 -- the states that are looked at were woken
 module _ {states : ℕ} {live : List ℕ} {w : Search} (woken : IsWoken states live w) where
-  pub woken_rests : {u : Under} {lists : List (List (ℕ × ℕ))} → u.l.states ≡ states → length u.blocks ≡ u.l.states → LeavesOut u.l u.blocks live
+  awake : (s : ℕ) → IsOne live s → stage_at w.stages s ≡ Unseen
+  awake s one = ap (stage_at w.stages) (sym one.2) ∙ woken.awake one.0 one.1
+
+  -- each other state is at rest, or past the last one
+  unless_resting : (s : ℕ) → (stage_at w.stages s ≡ Unseen) ⊎ (stage_at w.stages s ≡ AtRest)
+  unless_resting s = elim (cases_lt s (length w.stages)) [
+    | inr past ↦ inl (get_or_past w.stages s Unseen past)
+    | inl inside ↦ elim (woken.rest s inside) [ inl one ↦ inl (awake s one) | inr rest ↦ inr rest ]
+  ]
+
+  rest_inside : (s : ℕ) → stage_at w.stages s ≡ AtRest → s < length w.stages
+  rest_inside s is = elim (cases_lt s (length w.stages)) [ inl inside ↦ inside | inr past ↦ absurd (cc (get_or_past w.stages s Unseen past, is)) ]
+
+  pub woken_rests : {u : Under} {lists : List (List (ℕ × ℕ))} → u.l.states ≡ states → length u.blocks ≡ u.l.states → LooksAtBlocks u.l u.blocks live
       → 1 ≤ length lists → Rests u lists w
   woken_rests {u = u} {lists = lists} all size others some =
-      let awake : (s : ℕ) → IsOne live s → stage_at w.stages s ≡ Unseen = λ s one. ap (stage_at w.stages) (sym one.2) ∙ woken.awake one.0 one.1 in
-      new_rests u lists woken.empty (woken.size ∙ sym all) some (λ s. elim (cases_lt s (length w.stages)) [
-        | inr past ↦ inl (get_or_past w.stages s Unseen past)
-        | inl inside ↦ elim (woken.rest s inside) [
-          | inl one ↦ inl (awake s one)
-          | inr rest ↦ elim (others s (omega (arith, inside, woken.size, all))) [
-            | inl one ↦ inl (awake s one)
-            | inr (inl alone) ↦ inr (rest, inl (λ t h. alone t (omega (arith, h, size))))
-            | inr (inr empty) ↦ inr (rest, inr empty)
-          ]
+      new_rests u lists woken.empty (woken.size ∙ sym all) some unless_resting (λ s t inside is same. elim (woken.rest t (omega (arith, inside, woken.size, all))) [
+        | inr rest ↦ inl rest
+        | inl one ↦ elim (others s t (omega (arith, rest_inside s is, woken.size, all)) inside (sym same) one) [
+          | inl too ↦ absurd (cc (awake s too, is))
+          | inr empty ↦ inr empty
         ]
       ])
 
-  -- they are still, after a walk
+  -- the others are at rest still, after a walk
   pub rest_on : {stages : List Stage} → KeepsSeen w.stages stages → length stages ≡ states → AreAtRest live stages
   rest_on seen size s h = elim (woken.rest s (omega (arith, h, size, woken.size))) [ inl one ↦ inl one | inr rest ↦ inr ((seen.resting s).1 rest) ]
 

@@ -12,8 +12,8 @@ use Rattle.inert.specs.Steps.{Under}
 use Rattle.inert.specs.Search.{Search, stage_at, frame_at, no_frame, here, last, no_root, IsFrame, IsAhead, IsEntered, IsFollowed, Walks, Laws, root_at, item_at, Ties, IsOf, IsBefore, IsRoot, IsThere, Gives, HoldsPair, AreOpen, IsSigned, IsSound, AreSound, Stage, Root, Item, Pair, Listed}
 use Rattle.inert.specs.Moves.{popped, HasRead, Finishes, Closes, ahead, GoesOn, FindsNone}
 use Rattle.inert.specs.Signed.{HasPair}
-use Rattle.inert.specs.Ahead.{is_unseen, rest, KeepsSeen}
-use Rattle.inert.proofs.parts.Stages.{seen_same}
+use Rattle.inert.specs.Ahead.{is_unseen, KeepsSeen}
+use Rattle.inert.proofs.parts.Stages.{seen_same, together_still}
 use Rattle.inert.proofs.parts.Rising.{AllPairs-take, All-from_take}
 use Rattle.inert.proofs.parts.Counting.{unseen-same, unread-same, rest-cut}
 use Rattle.inert.proofs.invariant.Standing.{reached, not_last, last_most, none_ahead, IsFrame-moved, pair_before, stack_some, last_low, root_low}
@@ -259,7 +259,7 @@ module _ (laws : Laws) {u : Under} {lists : List (List (ℕ × ℕ))} {w : Searc
             let e : number ≡ k = cc (stages.members m from high, same, is) in
             subst₂ (λ x n. IsSigned u x lists n) same e (exact m from high)
       ];
-      resting = λ s is. walks.signed.resting s ((closed_seen.resting s).0 is);
+      resting = together_still u w.stages new_stages closed_seen.resting walks.signed.resting;
     };
     roots = record {
       first = λ h all. walks.roots.first (stack_some walks some) (All-from_take (λ r. 0 < r.height) (length w.roots - 1) w.roots no_root all (λ i high low.

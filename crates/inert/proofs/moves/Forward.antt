@@ -15,6 +15,7 @@ use Rattle.inert.specs.Search.{Search, here, item_at, IsThere, IsOf, Gives, Hold
 use Rattle.inert.specs.Moves.{with_item, CutsRoots, entered}
 use Rattle.inert.proofs.parts.Rising.{AllPairs-take, All-from_take}
 use Rattle.inert.proofs.parts.Counting.{unseen-set}
+use Rattle.inert.proofs.parts.Stages.{together_still}
 use Rattle.inert.proofs.invariant.Standing.{reached, on_stack, ties, IsFrame-moved, frames_some, root_low}
 use Rattle.inert.proofs.invariant.Keeping.{Keeps, keeps_stack, roots_kept, accounted_still, sound_still, done_still}
 
@@ -250,7 +251,7 @@ module _ {u : Under} {lists : List (List (ℕ × ℕ))} {w : Search} (walks : Wa
         opened = opened;
         signed = record {
           finished = λ s k is. walks.signed.finished s k (grind (arith, common_steps, unseen, within, is));
-          resting = λ s is. walks.signed.resting s ((enter_keeps.resting s).0 is);
+          resting = together_still u w.stages Entered.stages enter_keeps.resting walks.signed.resting;
         };
         roots = roots;
         frames = frames;

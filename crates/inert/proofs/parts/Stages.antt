@@ -1,11 +1,12 @@
 -- Stages that are set: states that were seen stay so, and finished ones keep their lists.
-use Rattle.std.proofs.Common.{◌≡◌, ◌∙◌, ℕ, ◌<◌, List, length, slice_index, set, ap, inl, inr, arith}
+use Rattle.std.proofs.Common.{◌≡◌, ◌↔◌, ◌∙◌, ℕ, ◌<◌, List, length, slice_index, set, ap, inl, inr, arith}
 use Rattle.std.specs.List.{All}
 use Rattle.std.proofs.lemmas.Bool.{cases_lt}
 use Rattle.std.proofs.lemmas.Grind.{common_steps}
 use Rattle.std.proofs.lemmas.List.{get_or_past, get_or-set_other}
 use Rattle.std.proofs.lemmas.List.Elements.{All-from_get_or}
-use Rattle.inert.specs.Search.{Stage, stage_at, AreOpen, Unseen, AtRest}
+use Rattle.inert.specs.Search.{Stage, stage_at, AreOpen, RestTogether, Unseen, AtRest}
+use Rattle.inert.specs.Steps.{Under}
 use Rattle.inert.specs.Ahead.{KeepsSeen}
 
 -- a state on the stack has a stage
@@ -34,3 +35,8 @@ seen_more stages t m seen awake low was = record {
   finished = λ s k is. get_or-set_other stages t s m Unseen (λ e. cc (ap (stage_at stages) e, was, is)) ∙ is;
   resting = λ s. (λ is. grind (arith, common_steps, awake, low, is), λ is. get_or-set_other stages t s m Unseen (λ e. cc (ap (stage_at stages) e, was, is)) ∙ is);
 }
+
+-- the same states are at rest, with their blocks still
+pub together_still : (u : Under) (old new : List Stage) → ((s : ℕ) → (stage_at new s ≡ AtRest) ↔ (stage_at old s ≡ AtRest)) → RestTogether u old → RestTogether u new
+together_still u old new same together s t inside is block =
+    elim (together s t inside ((same s).0 is) block) [ inl rest ↦ inl ((same t).1 rest) | inr empty ↦ inr empty ]

@@ -1,5 +1,5 @@
 -- If the rows of the last component are read, what it has collected is exactly the signature of each of its states.
-use Rattle.std.proofs.Common.{◌≡◌, ℕ, ◌+◌, ◌-◌, ◌<◌, ◌≤◌, List, [], ◌∷◌, length, drop, get_or, slice_index, refl, sym, ◌∙◌, ap, subst, inl, inr, arith}
+use Rattle.std.proofs.Common.{◌≡◌, ℕ, ◌+◌, ◌-◌, ◌<◌, ◌≤◌, List, [], ◌∷◌, length, drop, get_or, slice_index, sym, ◌∙◌, ap, subst, inl, inr, arith}
 use Rattle.std.proofs.lemmas.List.{length-map, get_or-map, get_or-drop, get_or_default, length-drop}
 use Rattle.theory.specs.System.{Step, Along, internal}
 use Rattle.theory.specs.declared.relation.Relation.TheVariants.{Branching}
@@ -7,9 +7,8 @@ use Rattle.theory.specs.Blocks.{Inert}
 use Rattle.lts.specs.Labels.{text_of}
 use Rattle.lts.specs.Lts.{Grouped, source_of, label_of, target_of, place_at, transition_of, row_of, system_of, IsLts}
 use Rattle.lts.proofs.CallerLemmas.{IsRow-before}
-use Rattle.lists.specs.Lists.{list_at}
 use Rattle.inert.specs.Steps.{Under}
-use Rattle.inert.specs.Signed.{HasPair, IsSignature, pair_under}
+use Rattle.inert.specs.Signed.{HasPair, pair_under}
 use Rattle.inert.specs.Search.{Search, Laws, stage_at, here, last, no_root, item_at, Gives, HoldsPair, Accounted, IsSigned, Walks, AtRest}
 use Rattle.inert.specs.Moves.{IsGiven, IsListed, HasRead}
 use Rattle.inert.proofs.invariant.Standing.{pair_before, last_low, last_most, last_frame, none_ahead}
@@ -78,12 +77,12 @@ module _ (laws : Laws) {u : Under} (lts : IsLts u.l) {lists : List (List (ℕ ×
       (subst (HoldsPair lists w p) same
       ((done p k h lp lk source).shown (λ inert. other (sym label ∙ inert.0, sym block ∙ inert.1 ∙ ap (slice_index u.blocks) source))))
 
-  -- an inert step leads to no state at rest that has a step: such a state is alone in its block
+  -- an inert step leads to no state at rest that has a step: the open states of its block would rest too
   awake : (p : ℕ) → p < length w.stack → slice_index w.stack p < u.l.states → (k : ℕ) → slice_index u.blocks (target_of (place_at u.l.places k)) ≡ slice_index u.blocks (slice_index w.stack p)
       → (us : List ℕ) (v t : ℕ) → Along (Inert (system_of u.l) (slice_index u.blocks)) (target_of (place_at u.l.places k)) us v → (a : List ℕ) → Step (system_of u.l) v a t
       → ¬ (stage_at w.stages (target_of (place_at u.l.places k)) ≡ AtRest)
-  awake p lp inside k same us v t path a step rest = elim (walks.signed.resting (target_of (place_at u.l.places k)) rest) [
-    | inl alone ↦ cc (walks.opened.placed p lp, ap (stage_at w.stages) (alone (slice_index w.stack p) inside (sym same)), rest)
+  awake p lp inside k same us v t path a step rest = elim (walks.signed.resting (target_of (place_at u.l.places k)) (slice_index w.stack p) inside rest (sym same)) [
+    | inl too ↦ cc (walks.opened.placed p lp, too)
     | inr none ↦ no_path (target_of (place_at u.l.places k)) none us v t path a step
   ]
 

@@ -2,7 +2,7 @@ use Rattle.std.proofs.Common.{◌≡◌, ◌∙◌, slice_index, ap, sym, subst,
 use Rattle.theory.specs.declared.relation.Relation.TheVariants.{Branching}
 use Rattle.lists.specs.Lists.{list_at}
 use Rattle.partition.specs.Blocks.{AreLive, IsOne, HaveNone}
-use Rattle.inert.specs.Signed.{IsSignature, LeavesOut}
+use Rattle.inert.specs.Signed.{IsSignature, LooksAtBlocks}
 use Rattle.inert.specs.Steps.{Under, under}
 use Rattle.inert.proofs.signatures.Idle.{none_still, all_within, all_signed}
 use Rattle.inert.proofs.signer.Signer.sign_each.Goals as goal
@@ -17,7 +17,7 @@ walk_all-requires-clause-live g c =
 pub walk_all-requires-clause-others : goal.walk_all-requires-clause-others
 walk_all-requires-clause-others g c =
     let is : under c.args.l.now c.args.blocks.now.of ≡ c.new-lens.result = ap (under c.args.l.now) (sym c.of.ensures.of) ∙ sym c.new-lens.ensures in
-    subst₂ (λ (u : Under) live. LeavesOut u.l u.blocks live) is (sym c.live-live.ensures.live) c.requires.others
+    subst₂ (λ (u : Under) live. LooksAtBlocks u.l u.blocks live) is (sym c.live-live.ensures.live) c.requires.others
 
 pub number-requires-clause-live : goal.number-requires-clause-live
 number-requires-clause-live g c =

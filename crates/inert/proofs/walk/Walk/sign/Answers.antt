@@ -14,7 +14,7 @@ pub loop-self-init : goal.loop-self-init
 loop-self-init g c =
     let s = c.args.s in
     let none = idle_unseen c.requires.idle in
-    let rests = new_rests c.args.lens.now c.args.lists.now c.requires.idle.empty c.requires.stages c.known-2.ensures.some (λ t. inl (none t)) in
+    let rests = new_rests c.args.lens.now c.args.lists.now c.requires.idle.empty c.requires.stages c.known-2.ensures.some (λ t. inl (none t)) (λ t v h is. absurd (cc (none t, is))) in
     let all = unread-all c.args.lens.now.l.places c.args.self.now.stages none in
     let (start, end, row, is) = c.in_ok-enter.ensures in
     let begun =

@@ -1,4 +1,4 @@
-use Rattle.std.proofs.Common.{Option, None, Some, inl, sym, subst, arith}
+use Rattle.std.proofs.Common.{◌≡◌, length, Option, None, Some, inl, sym, subst, arith}
 use Rattle.std.proofs.lemmas.List.{take_at}
 use Rattle.theory.specs.declared.relation.Relation.TheVariants.{Branching}
 use Rattle.refine.specs.EachList.{list_of}
@@ -6,8 +6,9 @@ use Rattle.lts.specs.Lts.{Grouped}
 use Rattle.partition.specs.Blocks.{RoundBlocks}
 use Rattle.refine.specs.Settled.{IsPut}
 use Rattle.refine.specs.Noting.{Sources, Watches}
-use Rattle.inert.specs.Signed.{LeavesOut}
+use Rattle.inert.specs.Signed.{LooksAtBlocks}
 use Rattle.refine.proofs.EachList.{written_back}
+use Rattle.refine.proofs.Living.{looks_at_blocks}
 use Rattle.refine.proofs.branching.BranchingSigning.sign_each.Goals as goal
 
 pub invariant_of-round : goal.invariant_of-round
@@ -26,13 +27,14 @@ returns-clause-signed g c s one =
     (inl (tt, c.in_ok-sign_each.ensures.signed s one))
 
 -- branching notes no transitions
-left_out : (l : Grouped) (entering : Option Sources) (p : RoundBlocks) → Watches entering Branching l p → LeavesOut l p.of p.live
-left_out l None p others = others
-left_out l (Some sources) p w = absurd w
+watched : (l : Grouped) (entering : Option Sources) (p : RoundBlocks) → length p.of ≡ l.states → Watches entering Branching l p → LooksAtBlocks l p.of p.live
+watched l None p size others = looks_at_blocks l p.of p.live size others
+watched l (Some sources) p size w = absurd w
 
 pub sign_each-requires-clause-others : goal.sign_each-requires-clause-others
 sign_each-requires-clause-others g c =
-    subst (λ r. LeavesOut c.args.l.now r.blocks.of r.blocks.live) (sym c.round.view_is) (left_out c.args.l.now c.args.round.entering c.args.round.blocks c.requires.watches)
+    subst (λ r. LooksAtBlocks c.args.l.now r.blocks.of r.blocks.live) (sym c.round.view_is)
+    (watched c.args.l.now c.args.round.entering c.args.round.blocks c.requires.states c.requires.watches)
 
 pub returns-clause-watches : goal.returns-clause-watches
 returns-clause-watches g c = subst (λ r. Watches r.entering Branching c.args.l.now r.blocks) (sym c.round.view_is) c.requires.watches
