@@ -131,7 +131,7 @@ abbrev pub RestTogether : Under → List Stage → Type 0
 RestTogether u stages = (s t : ℕ) → t < u.l.states → stage_at stages s ≡ AtRest → slice_index u.blocks t ≡ slice_index u.blocks s →
     (stage_at stages t ≡ AtRest) ⊎ (row_of s u.l.places ≡ [])
 
--- finished states have their signatures, and those at rest rest with their blocks
+-- finished states have their signatures; a state at rest has no transition, or its whole block is at rest
 pub record AreSigned (u : Under) (lists : List (List (ℕ × ℕ))) (stages : List Stage) : Type 0 where
   pub finished : (s k : ℕ) → stage_at stages s ≡ Finished k → IsSigned u s lists k
   pub resting : RestTogether u stages

@@ -7,7 +7,6 @@ use Rattle.theory.specs.Blocks.{Signature}
 use Rattle.lts.specs.Labels.{text_of}
 use Rattle.lts.specs.Lts.{Grouped, Triple, label_of, target_of, row_of, system_of}
 use Rattle.lists.specs.Lists.{pair_cmp}
-use Rattle.partition.specs.Splitting.{IsAlone}
 use Rattle.partition.specs.Blocks.{IsOne}
 
 -- the pair of the label number k and the block b is in the signature of s
@@ -22,10 +21,6 @@ pub record IsSignature (rel : Relation) (l : Grouped) (blocks : List ℕ) (s : �
 -- the pair that a transition gives: its label number and the block of its target
 abbrev pub pair_under : List ℕ → Triple → ℕ × ℕ
 pair_under blocks e = (label_of e, slice_index blocks (target_of e))
-
--- a state that is not looked at is alone in its block, or has no transition
-abbrev pub LeavesOut : Grouped → List ℕ → List ℕ → Type 0
-LeavesOut l blocks live = (s : ℕ) → s < l.states → IsOne live s ⊎ IsAlone blocks s ⊎ (row_of s l.places ≡ [])
 
 -- a state in the block of one that is looked at is looked at too, or has no transition
 abbrev pub LooksAtBlocks : Grouped → List ℕ → List ℕ → Type 0

@@ -108,6 +108,8 @@ impl<M: Meter> Lts<M> {
     }
 
     /// The system of these parts over the label table of another system, which is not copied.
+    ///
+    /// Fails if there is no memory for it.
     pub fn over<N: Meter>(
         other: &Lts<N>,
         first: u32,
@@ -130,7 +132,9 @@ impl<M: Meter> Lts<M> {
         Lts::of_shared(labels, first, states, e)
     }
 
-    /// The same over a table that systems share.
+    /// The system of these parts over a table that systems share.
+    ///
+    /// Fails if there is no memory for it.
     fn of_shared(
         labels: Rc<Labels>,
         first: u32,

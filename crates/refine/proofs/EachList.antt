@@ -55,3 +55,14 @@ lists_left {lists = lists} {new = new} some have size each none = record {
   states = size ∙ have.states;
   none = none;
 }
+
+-- blocks that were split by the lists, whose numbers are read through a slice
+pub parted : (lists : List (List (ℕ × ℕ))) (numbers ns old : List ℕ) (count : ℕ) (live new : List ℕ) (more : ℕ) → AreLists lists → HaveLists old live lists numbers → ns ≡ numbers
+    → Splits old count (slice_index ns) new more → Splits old count (list_of lists numbers) new more
+parted lists numbers ns old count live new more are have is splits =
+    Splits-lists lists numbers old count new more are have.each (sym have.states) (subst (λ xs. Splits old count (slice_index xs) new more) is splits)
+
+-- the same states have their lists still
+pub lists_stay : {of of' live live' : List ℕ} {lists : List (List (ℕ × ℕ))} {numbers : List ℕ} → length of' ≡ length of → live' ≡ live → HaveLists of live lists numbers
+    → HaveLists of' live' lists numbers
+lists_stay {numbers = numbers} size is have = record { each = have.each; states = have.states ∙ sym size; none = subst (λ xs. HaveNone xs numbers) (sym is) have.none }

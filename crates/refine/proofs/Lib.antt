@@ -1,4 +1,5 @@
 pub mod EqualLists
+pub mod Knowing
 pub mod Settling
 pub mod Spending
 pub mod StrongRow
@@ -6,3 +7,4 @@ pub mod EachList
 pub mod Living
 pub mod Finding
 pub mod Noting
+pub mod BlockLists

@@ -8,7 +8,8 @@ use Rattle.lts.specs.Lts.{Grouped, Triple, label_of, target_of, row_of, system_o
 use Rattle.lists.specs.Lists.{list_at, AreNumbers, Grow}
 use Rattle.partition.specs.Splitting.{IsAlone}
 use Rattle.partition.specs.Blocks.{AreLive, IsOne, HaveNone, LeavesAlone}
-use Rattle.inert.specs.Signed.{LeavesOut, LooksAtBlocks}
+use Rattle.inert.specs.Signed.{LooksAtBlocks}
+use Rattle.refine.specs.Living.{LeavesOut}
 
 -- none
 pub rising_none : AreLive 0 []

@@ -1,7 +1,6 @@
 -- What was noted of transitions: a state that a round does not look at is alone in its block, or still.
-use Rattle.std.proofs.Common.{◌≡◌, ◌⊎◌, ◌↔◌, ◌∙◌, ℕ, ◌+◌, ◌<◌, ◌≤◌, Bool, true, false, cond, IsTrue, Option, None, Some, List, [], ◌∷◌, ◌++◌, length, slice_index, slice_index_or, Contains, ap, sym, subst, refl, inl, inr, arith}
+use Rattle.std.proofs.Common.{◌≡◌, ◌⊎◌, ◌↔◌, ◌∙◌, ℕ, ◌+◌, ◌<◌, ◌≤◌, Bool, true, false, cond, IsTrue, List, [], ◌∷◌, ◌++◌, length, slice_index, slice_index_or, Contains, ap, sym, subst, refl, inl, inr, arith}
 use Rattle.std.specs.List.{All}
-use Rattle.std.specs.Option.{MatchOption}
 use Rattle.std.proofs.lemmas.Bool.{cases_lt, cases_Bool}
 use Rattle.std.proofs.lemmas.List.{length-map, length-append, append-nil, append_assoc, map-append}
 use Rattle.std.proofs.lemmas.List.Elements.{All-nil, All-cons, All-contains, All-contains_itself, All-weaker, All-append, All-map, Contains-append_left, Contains-append_right}
@@ -14,28 +13,36 @@ use Rattle.lts.specs.Lts.{Grouped, Triple, source_of, label_of, target_of, row_o
 use Rattle.lts.specs.Groups.{group_of, groups_of}
 use Rattle.lts.proofs.CallerLemmas.{contains_mapped, in_group}
 use Rattle.partition.specs.Splitting.{IsAlone}
-use Rattle.partition.specs.Blocks.{RoundBlocks, IsOne, LeavesAlone}
-use Rattle.inert.specs.Signed.{LeavesOut}
-use Rattle.refine.specs.Settled.{IsStill}
-use Rattle.refine.specs.EachList.{HaveSources}
-use Rattle.refine.specs.Noting.{Sources, turned, noted_of, AreNotes, IsNoted, AreWatched, Watches, LooksAtSources}
+use Rattle.partition.specs.Blocks.{RoundBlocks, IsOne, AreLive, LeavesAlone}
+use Rattle.refine.specs.Living.{LeavesOut}
+use Rattle.theory.specs.Blocks.{Split}
+use Rattle.inert.specs.Signed.{IsSignature}
+use Rattle.refine.specs.Settled.{IsStill, ArePut}
+use Rattle.refine.specs.EachList.{FitsWatch, Signed, signed, list_of}
+use Rattle.refine.specs.Noting.{Sources as EachSources, turned, noted_of, AreNotes, IsNoted, AreWatched, LooksAtSources}
+use Rattle.refine.specs.Watching.{Watches, WatchesBy, StaysKnown}
+use Rattle.refine.specs.declared.signed_blocks.Watch.{Watch}
+use Rattle.refine.specs.declared.signed_blocks.Watch.TheVariants.{Nothing, Sources, Signatures}
+use Rattle.refine.proofs.Knowing.{blocks_left, watches_blocks_next}
 use Rattle.refine.proofs.Living.{left_out_still, left_out_next, no_step, alone_next}
 
 -- fewer states are looked at
-pub watches_left : (entering : Option Sources) (rel : Relation) (l : Grouped) (p q : RoundBlocks) → q ≡ record p { live = q.live } → LeavesAlone p.of p.live q.live
-    → Watches entering rel l p → Watches entering rel l q
-watches_left entering rel l p q same leaves watches = subst (Watches entering rel l) (sym same) (left entering rel watches)
+pub watches_left : (watch : Watch) (rel : Relation) (l : Grouped) (p q : RoundBlocks) → q ≡ record p { live = q.live } → LeavesAlone p.of p.live q.live
+    → Watches watch rel l p → Watches watch rel l q
+watches_left watch rel l p q same leaves watches = subst (Watches watch rel l) (sym same) (left watch rel watches)
   where
-    left : (e : Option Sources) (r : Relation) → Watches e r l p → Watches e r l (record p { live = q.live })
-    left None r others = left_out_still l p.of p.live q.live leaves others
-    left (Some sources) Strong w = record {
+    left : (e : Watch) (r : Relation) → Watches e r l p → Watches e r l (record p { live = q.live })
+    left Nothing r others = left_out_still l p.of p.live q.live leaves others
+    left (Sources sources) Strong w = record {
       noted = w.noted;
       others = λ s h. elim (w.others s h) [
         | inl one ↦ elim (leaves.are s one) [ inl is ↦ inl is | inr alone ↦ inr (inl alone) ]
         | inr x ↦ inr x
       ];
     }
-    left (Some sources) Branching w = absurd w
+    left (Sources sources) Branching w = absurd w
+    left (Signatures known) Strong w = absurd w
+    left (Signatures known) Branching w = blocks_left l p (record p { live = q.live }) known refl leaves w
 
 -- a row has a transition to a new number, or it has none
 new_or_old : (of : List ℕ) (low : ℕ) (row : List Triple)
@@ -49,14 +56,14 @@ new_or_old of low (e ∷ row) = elim (cases_lt (slice_index of (target_of e)) lo
   | inr new ↦ inl (e, (0, omega arith, refl), new)
 ]
 
--- blocks were parted, and the next round looks at the states that lead to new numbers
+-- blocks were parted, and the next round looks at the states that are found by what was noted
 module _ (l : Grouped)
     (steps : (s : ℕ) (a : List ℕ) (t : ℕ) → Step (system_of l) s a t ↔ ((e : Triple) × Contains (row_of s l.places) e × (text_of l.labels (label_of e) ≡ a) × (target_of e ≡ t)))
     (p q : RoundBlocks) (size : length p.of ≡ l.states) (size' : length q.of ≡ l.states)
     (parted : (s t : ℕ) → s < l.states → t < l.states → slice_index q.of s ≡ slice_index q.of t → slice_index p.of s ≡ slice_index p.of t)
     (below : (s : ℕ) → s < l.states → (e : Triple) → Contains (row_of s l.places) e → target_of e < l.states) where
   -- a state whose transitions are noted
-  looked : (sources : Sources) (s : ℕ) → s < l.states → LooksAtSources sources q → IsNoted l sources s
+  looked : (sources : EachSources) (s : ℕ) → s < l.states → LooksAtSources sources q → IsNoted l sources s
       → IsOne q.live s ⊎ IsAlone q.of s ⊎ IsStill Strong (system_of l) (slice_index q.of) q.low s
   looked sources s h looks noted = elim (new_or_old q.of q.low (row_of s l.places)) [
     | inl (e, c, new) ↦
@@ -71,10 +78,8 @@ module _ (l : Grouped)
         subst (λ x. slice_index q.of x < q.low) found.3 (All-contains (λ e. slice_index q.of (target_of e) < q.low) (row_of s l.places) found.0 old found.1)))
   ]
 
-  pub watches_next : (entering : Option Sources) (rel : Relation) → MatchOption entering (q.live ≡ p.live) (λ sources. LooksAtSources sources q)
-      → Watches entering rel l p → Watches entering rel l q
-  watches_next None rel is others = subst (LeavesOut l q.of) (sym is) (left_out_next l p.of q.of p.live size size' parted others)
-  watches_next (Some sources) Strong looks w = record {
+  watches_sources : (sources : EachSources) → LooksAtSources sources q → AreWatched l p sources → AreWatched l q sources
+  watches_sources sources looks w = record {
     noted = λ s h. elim (w.noted s h) [
       | inl alone ↦ inl (alone_next l p.of q.of size size' parted s h alone)
       | inr noted ↦ inr noted
@@ -84,7 +89,26 @@ module _ (l : Grouped)
       | inr noted ↦ looked sources s h looks noted
     ];
   }
-  watches_next (Some sources) Branching looks w = absurd w
+
+  -- the list that is put down for a state is its signature (branching)
+  put_signed : (signature : ℕ → List (ℕ × ℕ)) → ArePut Branching l p.of p.low p.live signature → (s : ℕ) → IsOne p.live s → IsSignature Branching l p.of s (signature s)
+  put_signed signature put s one = elim (put s one) [ inl signed ↦ signed.1 | inr still ↦ absurd still.0 ]
+
+  pub watches_next : (inside : (s : ℕ) (a : List ℕ) (t : ℕ) → Step (system_of l) s a t → t < l.states) (rising : AreLive (length p.of) p.live)
+      (lists : List (List (ℕ × ℕ))) (numbers : List ℕ) (watch : Watch) (next : Signed) → next.blocks ≡ q → (rel : Relation)
+      → WatchesBy watch (signed p lists numbers watch) next → Split rel (system_of l) (slice_index p.of) (slice_index q.of)
+      → ArePut rel l p.of p.low p.live (list_of lists numbers) → Watches watch rel l p → Watches next.watch rel l q
+  watches_next inside rising lists numbers Nothing next is rel by split put others =
+      subst (λ w. Watches w rel l q) (sym by.0)
+      (subst (LeavesOut l q.of) (sym by.1 ∙ ap (λ b. b.live) is) (left_out_next l p.of q.of p.live size size' parted others))
+  watches_next inside rising lists numbers (Sources sources) next is Strong by split put w =
+      subst (λ w. Watches w Strong l q) (sym by.0) (watches_sources sources (subst (LooksAtSources sources) is by.1) w)
+  watches_next inside rising lists numbers (Sources sources) next is Branching by split put w = absurd w
+  watches_next inside rising lists numbers (Signatures known) next is Strong by split put w = absurd w
+  watches_next inside rising lists numbers (Signatures known) next is Branching by split put w =
+      subst (λ w. Watches w Branching l q) (sym by.1)
+      (watches_blocks_next l inside p q size size' rising split (list_of lists numbers) (put_signed (list_of lists numbers) put) known by.0 w
+      (subst (λ b. StaysKnown p b (list_of lists numbers) known by.0) is by.2))
 
 -- a transition more is noted, after none
 pub noted_none : (noting : Bool) (s : ℕ) (old : List (ℕ × ℕ)) → old ≡ old ++ noted_of noting s []
@@ -164,17 +188,17 @@ module _ (noting : Bool) (l : Grouped) (notes new : List (ℕ × ℕ)) (s : ℕ)
       (λ x c. Contains-append_right notes (turned s (row_of s l.places)) x c) (turned s (row_of s l.places)) (All-contains_itself (turned s (row_of s l.places))))
 
 -- what a round has noted is kept, if it has noted anything
-module _ (noting : Bool) (l : Grouped) (p : RoundBlocks) (notes : List (ℕ × ℕ)) (old new : Option Sources)
-    (is : new ≡ cond noting (Some (groups_of l.states notes)) old) where
-  pub sources_kept : length p.of ≡ l.states → HaveSources p.of old → HaveSources p.of new
-  sources_kept size have = subst (HaveSources p.of) (sym is) (elim (cases_Bool noting) [
+module _ (noting : Bool) (l : Grouped) (p : RoundBlocks) (notes : List (ℕ × ℕ)) (old new : Watch)
+    (is : new ≡ cond noting (Sources (groups_of l.states notes)) old) where
+  pub sources_kept : length p.of ≡ l.states → FitsWatch p.of old → FitsWatch p.of new
+  sources_kept size have = subst (FitsWatch p.of) (sym is) (elim (cases_Bool noting) [
     | inl on ↦
-        subst (λ b. HaveSources p.of (cond b (Some (groups_of l.states notes)) old)) (sym on) (length-map-range_with_len (λ x. group_of x notes) 0 l.states ∙ sym size)
-    | inr off ↦ subst (λ b. HaveSources p.of (cond b (Some (groups_of l.states notes)) old)) (sym off) have
+        subst (λ b. FitsWatch p.of (cond b (Sources (groups_of l.states notes)) old)) (sym on) (length-map-range_with_len (λ x. group_of x notes) 0 l.states ∙ sym size)
+    | inr off ↦ subst (λ b. FitsWatch p.of (cond b (Sources (groups_of l.states notes)) old)) (sym off) have
   ])
 
   pub watches_kept : (IsTrue noting → AreWatched l p (groups_of l.states notes)) → Watches old Strong l p → Watches new Strong l p
   watches_kept watched watches = subst (λ e. Watches e Strong l p) (sym is) (elim (cases_Bool noting) [
-    | inl on ↦ subst (λ b. Watches (cond b (Some (groups_of l.states notes)) old) Strong l p) (sym on) (watched on)
-    | inr off ↦ subst (λ b. Watches (cond b (Some (groups_of l.states notes)) old) Strong l p) (sym off) watches
+    | inl on ↦ subst (λ b. Watches (cond b (Sources (groups_of l.states notes)) old) Strong l p) (sym on) (watched on)
+    | inr off ↦ subst (λ b. Watches (cond b (Sources (groups_of l.states notes)) old) Strong l p) (sym off) watches
   ])

@@ -1,5 +1,5 @@
 -- States that no new number can be seen from keep what they have in common.
-use Rattle.std.proofs.Common.{◌≡◌, ◌⊎◌, ◌↔◌, ◌∙◌, ℕ, ◌<◌, Option, None, Some, List, [], ◌∷◌, length, slice_index, Contains, ap, sym, subst, refl, inl, inr, arith}
+use Rattle.std.proofs.Common.{◌≡◌, ◌⊎◌, ◌↔◌, ◌∙◌, ℕ, ◌<◌, List, [], ◌∷◌, length, slice_index, Contains, ap, sym, subst, refl, inl, inr, arith}
 use Rattle.std.specs.List.Sorted.{IsStrictlySortedBy}
 use Rattle.theory.specs.System.{System, IsSystem, Step, Along, internal}
 use Rattle.theory.specs.declared.relation.Relation.{Relation}
@@ -15,9 +15,12 @@ use Rattle.inert.specs.Signed.{HasPair, IsSignature}
 use Rattle.refine.specs.Rounds.{IsNext}
 use Rattle.refine.specs.EachList.{list_of}
 use Rattle.refine.specs.Settled.{IsTouched, IsStill, Settled, IsPut, ArePut}
-use Rattle.refine.specs.Noting.{Sources, Watches}
+use Rattle.refine.specs.Watching.{Watches}
+use Rattle.refine.specs.declared.signed_blocks.Watch.{Watch}
+use Rattle.refine.specs.declared.signed_blocks.Watch.TheVariants.{Nothing, Sources, Signatures}
 use Rattle.refine.proofs.Living.{no_step}
 use Rattle.refine.proofs.EqualLists.{Labelled, equal_lists}
+use Rattle.refine.proofs.Knowing.{AgreesWithBlock, known_agrees}
 
 -- before the first round every number is new
 pub settled_first : (rel : Relation) (A : System) (blocks : ℕ → ℕ) → Settled rel A blocks 0
@@ -71,9 +74,14 @@ not_empty Strong l labelled blocks low s t xs touched signed still e =
     absurd (omega (arith, c.1))
 not_empty Branching l labelled blocks low s t xs touched signed still e = still
 
+-- the list that a state has tells its signature from those of the others of its block: it is put down for it, or no other state has the
+-- block, or all of them have the same
+abbrev pub IsTold : Relation → Grouped → List ℕ → ℕ → (ℕ → List (ℕ × ℕ)) → ℕ → Type 0
+IsTold rel l p low signature s = IsPut rel l p low s (signature s) ⊎ IsAlone p s ⊎ AgreesWithBlock rel l p signature s
+
 module _ (rel : Relation) (l : Grouped) (labelled : Labelled l) (p : List ℕ) (low : ℕ) (states : length p ≡ l.states)
     (settled : Settled rel (system_of l) (slice_index p) low) (signature : ℕ → List (ℕ × ℕ))
-    (told : (s : ℕ) → s < l.states → IsPut rel l p low s (signature s) ⊎ IsAlone p s) where
+    (told : (s : ℕ) → s < l.states → IsTold rel l p low signature s) where
   -- one state has one list and one signature
   of_one : (s t : ℕ) → s ≡ t → (signature s ≡ signature t) ↔ SameSignature rel (system_of l) (slice_index p) s t
   of_one s t e = (
@@ -105,13 +113,19 @@ module _ (rel : Relation) (l : Grouped) (labelled : Labelled l) (p : List ℕ) (
   both_put s t ls lt one (inr x) (inl y) = turned t s (mixed t s y.0 y.1 x.1 x.0)
   both_put s t ls lt one (inr x) (inr y) = (λ _. settled s t ls lt one x.0 y.0, λ _. x.1 ∙ sym y.1)
 
+  -- of a state that is alone, or agrees with its block, and another one of this block
+  with_block : (s t : ℕ) → t < l.states → slice_index p s ≡ slice_index p t → IsAlone p s ⊎ AgreesWithBlock rel l p signature s
+      → (signature s ≡ signature t) ↔ SameSignature rel (system_of l) (slice_index p) s t
+  with_block s t lt one (inl alone) = of_one s t (sym (alone t (omega (arith, lt, states)) (sym one)))
+  with_block s t lt one (inr agrees) = let same = agrees t lt (sym one) in (λ _. same.0, λ _. same.1)
+
   -- in one block, two lists are equal exactly if the signatures are
   pub tells : (s t : ℕ) → s < l.states → t < l.states → slice_index p s ≡ slice_index p t
       → (signature s ≡ signature t) ↔ SameSignature rel (system_of l) (slice_index p) s t
   tells s t ls lt one = elim (told s ls) [
-    | inr alone ↦ of_one s t (sym (alone t (omega (arith, lt, states)) (sym one)))
+    | inr x ↦ with_block s t lt one x
     | inl x ↦ elim (told t lt) [
-      | inr alone ↦ of_one s t (alone s (omega (arith, ls, states)) one)
+      | inr y ↦ turned t s (with_block t s ls (sym one) y)
       | inl y ↦ both_put s t ls lt one x y
     ]
   ]
@@ -152,7 +166,7 @@ module _ (l : Grouped) (p : List ℕ) (low s : ℕ) (no_step : (a : List ℕ) (t
 -- the Split of blocks, with their numbers: those from the count on are new
 module _ (rel : Relation) (l : Grouped) (sys : IsSystem (system_of l)) (labelled : Labelled l) (p : RoundBlocks) (states : length p.of ≡ l.states)
     (settled : Settled rel (system_of l) (slice_index p.of) p.low) (signature : ℕ → List (ℕ × ℕ))
-    (told : (s : ℕ) → s < l.states → IsPut rel l p.of p.low s (signature s) ⊎ IsAlone p.of s) (q : RoundBlocks) (splits : Splits p.of p.count signature q.of q.count) where
+    (told : (s : ℕ) → s < l.states → IsTold rel l p.of p.low signature s) (q : RoundBlocks) (splits : Splits p.of p.count signature q.of q.count) where
   split : Split rel (system_of l) (slice_index p.of) (slice_index q.of)
   split =
       told_is_split rel l labelled p.of p.low states settled signature told q.of
@@ -176,8 +190,8 @@ module _ (rel : Relation) (l : Grouped) (sys : IsSystem (system_of l)) (labelled
       let h = splits.parts (omega (arith, d, grows)) in
       h.5 ((alike h.0 h.1 (omega (arith, h.2, states)) (omega (arith, h.3, states))).1 h.4)
 
-  pub IsNext-from : (entering : Option Sources) → Watches entering rel l q → q.low ≡ p.count → IsNext rel l p q entering
-  IsNext-from entering watches low = record {
+  pub IsNext-from : (watch : Watch) → Watches watch rel l q → q.low ≡ p.count → IsNext rel l p q watch
+  IsNext-from watch watches low = record {
     states = splits.states ∙ states;
     split = split;
     blocks = splits.blocks;
@@ -204,8 +218,8 @@ put_whole rel l p s list (inr x) = empty rel x.0
     })
     empty Branching still = absurd still
 
--- each list is put down, or its state is alone in its block
-module _ (l : Grouped) (p : RoundBlocks) (lists : List (List (ℕ × ℕ))) (numbers : List ℕ)
+-- each list tells the signature of its state
+module _ (l : Grouped) (labelled : Labelled l) (p : RoundBlocks) (lists : List (List (ℕ × ℕ))) (numbers : List ℕ)
     (steps : (s : ℕ) (a : List ℕ) (t : ℕ) → Step (system_of l) s a t ↔ ((e : Triple) × Contains (row_of s l.places) e × (text_of l.labels (label_of e) ≡ a) × (target_of e ≡ t)))
     (none : HaveNone p.live numbers) (size : length numbers ≡ l.states) (first : list_at lists 0 ≡ []) where
   -- a state that is still has no other list than the empty one, if it is not looked at
@@ -216,23 +230,42 @@ module _ (l : Grouped) (p : RoundBlocks) (lists : List (List (ℕ × ℕ))) (num
     | inr zero ↦ inr (still, ap (list_at lists) zero ∙ first)
   ]
 
-  pub all_told : (entering : Option Sources) (rel : Relation) → Watches entering rel l p → ArePut rel l p.of p.low p.live (list_of lists numbers)
-      → (s : ℕ) → s < l.states → IsPut rel l p.of p.low s (list_of lists numbers s) ⊎ IsAlone p.of s
-  all_told None rel others put s ls = elim (others s ls) [
+  -- nor has a state without a transition
+  empty_put : (rel : Relation) → ArePut rel l p.of p.low p.live (list_of lists numbers) → (s : ℕ) → s < l.states
+      → row_of s l.places ≡ [] → IsPut rel l p.of p.low s (list_of lists numbers s)
+  empty_put rel put s ls empty = elim (none s (omega (arith, ls, size))) [
+    | inl one ↦ put s one
+    | inr zero ↦ put_none l p.of p.low s (no_step l s (steps s) empty) rel (list_of lists numbers s) (ap (list_at lists) zero ∙ first)
+  ]
+
+  pub all_told : (watch : Watch) (rel : Relation) → Watches watch rel l p → ArePut rel l p.of p.low p.live (list_of lists numbers)
+      → (s : ℕ) → s < l.states → IsTold rel l p.of p.low (list_of lists numbers) s
+  all_told Nothing rel others put s ls = elim (others s ls) [
     | inl one ↦ inl (put s one)
     | inr x ↦ elim x [
-      | inl alone ↦ inr alone
-      | inr empty ↦ elim (none s (omega (arith, ls, size))) [
-        | inl one ↦ inl (put s one)
-        | inr zero ↦ inl (put_none l p.of p.low s (no_step l s (steps s) empty) rel (list_of lists numbers s) (ap (list_at lists) zero ∙ first))
-      ]
+      | inl alone ↦ inr (inl alone)
+      | inr empty ↦ inl (empty_put rel put s ls empty)
     ]
   ]
-  all_told (Some sources) Strong w put s ls = elim (w.others s ls) [
+  all_told (Sources sources) Strong w put s ls = elim (w.others s ls) [
     | inl one ↦ inl (put s one)
     | inr x ↦ elim x [
-      | inl alone ↦ inr alone
+      | inl alone ↦ inr (inl alone)
       | inr still ↦ inl (still_put put s ls still)
     ]
   ]
-  all_told (Some sources) Branching w put s ls = absurd w
+  all_told (Sources sources) Branching w put s ls = absurd w
+  all_told (Signatures known) Strong w put s ls = absurd w
+  all_told (Signatures known) Branching w put s ls = elim (w.others s ls) [
+    | inl one ↦ elim (w.looks.left s one) [
+      | inl live ↦ inl (put s live)
+      | inr x ↦ elim x [
+        | inl alone ↦ inr (inl alone)
+        | inr is ↦ inr (inr (known_agrees l labelled p known w.looks w.signed lists numbers none size s ls is))
+      ]
+    ]
+    | inr x ↦ elim x [
+      | inl alone ↦ inr (inl alone)
+      | inr empty ↦ inl (empty_put Branching put s ls empty)
+    ]
+  ]

@@ -1,9 +1,10 @@
 -- The list of each state, by its number.
-use Rattle.std.specs.Prelude.{◌≡◌, ℕ, ◌≤◌, List, length, map, slice_index, Option, IfSome}
+use Rattle.std.specs.Prelude.{◌≡◌, ℕ, ◌≤◌, List, length, map, slice_index}
 use Rattle.lts.specs.declared.limits.TheConstants.{MOST_STATES}
 use Rattle.lists.specs.Lists.{list_at, AreNumbers}
-use Rattle.partition.specs.Blocks.{RoundBlocks, HaveNone}
-use Rattle.refine.specs.Noting.{Sources}
+use Rattle.partition.specs.Blocks.{RoundBlocks, HaveNone, AreLive}
+use Rattle.refine.specs.declared.signed_blocks.Watch.{Watch}
+use Rattle.refine.specs.declared.signed_blocks.Watch.TheVariants.{Nothing, Sources, Signatures}
 
 -- the list of the state s, if the states have these numbers
 abbrev pub list_of : List (List (ℕ × ℕ)) → List ℕ → ℕ → List (ℕ × ℕ)
@@ -19,12 +20,15 @@ pub record AreListsOfStates (lists : List (List (ℕ × ℕ))) (numbers : List �
   pub some : 1 ≤ length numbers
   pub few : length numbers ≤ MOST_STATES
 
--- the blocks of a round, lists, for each state the number of its list, and the sources that were noted
+-- the blocks of a round, lists, for each state the number of its list, and what was noted
 pub record Signed : Type 0 where
   pub blocks : RoundBlocks
   pub lists : List (List (ℕ × ℕ))
   pub numbers : List ℕ
-  pub entering : Option Sources
+  pub watch : Watch
+
+abbrev pub signed : RoundBlocks → List (List (ℕ × ℕ)) → List ℕ → Watch → Signed
+signed blocks lists numbers watch = record { blocks = blocks; lists = lists; numbers = numbers; watch = watch }
 
 -- each state of the blocks has a list, and one that is not looked at the empty one
 pub record HaveLists (of live : List ℕ) (lists : List (List (ℕ × ℕ))) (numbers : List ℕ) : Type 0 where
@@ -32,6 +36,8 @@ pub record HaveLists (of live : List ℕ) (lists : List (List (ℕ × ℕ))) (nu
   pub states : length numbers ≡ length of
   pub none : HaveNone live numbers
 
--- each state has its sources, if they were noted
-abbrev pub HaveSources : List ℕ → Option Sources → Type 0
-HaveSources of entering = IfSome entering (λ sources. length sources ≡ length of)
+-- what was noted fits the states: each has its sources, or some may be looked at
+abbrev pub FitsWatch : List ℕ → Watch → Type 0
+FitsWatch of Nothing = Unit {0}
+FitsWatch of (Sources sources) = length sources ≡ length of
+FitsWatch of (Signatures known) = AreLive (length of) known.states

@@ -1,12 +1,10 @@
 -- The sources of the transitions that lead to each state, once a round has noted them: which states a round then looks at.
-use Rattle.std.specs.Prelude.{◌≡◌, ◌⊎◌, ℕ, ◌<◌, ◌≤◌, Bool, false, cond, IsTrue, Option, None, Some, List, [], length, map, slice_index, slice_index_or}
+use Rattle.std.specs.Prelude.{◌≡◌, ◌⊎◌, ℕ, ◌<◌, ◌≤◌, Bool, false, cond, IsTrue, List, [], length, map, slice_index, slice_index_or}
 use Rattle.std.specs.List.{All, Contains}
-use Rattle.theory.specs.declared.relation.Relation.{Relation}
-use Rattle.theory.specs.declared.relation.Relation.TheVariants.{Strong, Branching}
+use Rattle.theory.specs.declared.relation.Relation.TheVariants.{Strong}
 use Rattle.lts.specs.Lts.{Grouped, Triple, target_of, row_of, system_of}
 use Rattle.partition.specs.Splitting.{IsAlone}
 use Rattle.partition.specs.Blocks.{RoundBlocks, AreLive, IsOne}
-use Rattle.inert.specs.Signed.{LeavesOut}
 use Rattle.refine.specs.Settled.{IsStill}
 
 -- for each state the sources of the transitions that lead to it
@@ -35,12 +33,6 @@ IsNoted l sources s = (e : Triple) → Contains (row_of s l.places) e → Contai
 pub record AreWatched (l : Grouped) (p : RoundBlocks) (sources : Sources) : Type 0 where
   pub noted : (s : ℕ) → s < l.states → IsAlone p.of s ⊎ IsNoted l sources s
   pub others : (s : ℕ) → s < l.states → IsOne p.live s ⊎ IsAlone p.of s ⊎ IsStill Strong (system_of l) (slice_index p.of) p.low s
-
--- what is known of the states that a round does not look at, before transitions are noted and after it (branching: none are noted)
-abbrev pub Watches : Option Sources → Relation → Grouped → RoundBlocks → Type 0
-Watches None rel l p = LeavesOut l p.of p.live
-Watches (Some sources) Strong l p = AreWatched l p sources
-Watches (Some sources) Branching l p = ⊥
 
 -- each of these states is among those that were found, or alone in its block
 abbrev pub AreFound : List ℕ → List ℕ → List ℕ → Type 0

@@ -1,5 +1,5 @@
 -- What a round of refinement makes of the blocks, and how far some rounds have come.
-use Rattle.std.specs.Prelude.{◌≡◌, ℕ, ◌*◌, ◌<◌, ◌≤◌, List, length, slice_index, Option}
+use Rattle.std.specs.Prelude.{◌≡◌, ℕ, ◌*◌, ◌<◌, ◌≤◌, List, length, slice_index}
 use Rattle.theory.specs.declared.relation.Relation.{Relation}
 use Rattle.theory.specs.Blocks.{Split, SameBlocks, Underway}
 use Rattle.lts.specs.Meter.{Counts, Costs}
@@ -7,17 +7,18 @@ use Rattle.lts.specs.Lts.{Grouped, system_of}
 use Rattle.partition.specs.Partition.{AreBlocks}
 use Rattle.partition.specs.Blocks.{RoundBlocks}
 use Rattle.refine.specs.Settled.{Settled}
-use Rattle.refine.specs.Noting.{Sources, Watches}
+use Rattle.refine.specs.Watching.{Watches}
+use Rattle.refine.specs.declared.signed_blocks.Watch.{Watch}
 
 -- the blocks q are the Split of the blocks p. Their numbers from the count of p on are new, and a state that the next round does not look
 -- at need not be
-pub record IsNext (rel : Relation) (l : Grouped) (p q : RoundBlocks) (entering : Option Sources) : Type 0 where
+pub record IsNext (rel : Relation) (l : Grouped) (p q : RoundBlocks) (watch : Watch) : Type 0 where
   pub states : length q.of ≡ l.states
   pub split : Split rel (system_of l) (slice_index p.of) (slice_index q.of)
   pub blocks : AreBlocks q.of q.count
   pub low : q.low ≡ p.count
   pub settled : Settled rel (system_of l) (slice_index q.of) q.low
-  pub watches : Watches entering rel l q
+  pub watches : Watches watch rel l q
   pub grows : p.count ≤ q.count
   pub stays : (s : ℕ) → s < l.states → slice_index q.of s < p.count → slice_index q.of s ≡ slice_index p.of s
   pub same : q.count ≡ p.count → SameBlocks (system_of l) (slice_index p.of) (slice_index q.of)

@@ -2,6 +2,7 @@
 //! block exactly if they are bisimilar.
 #![tactic(auto)]
 
+mod block_lists;
 mod branching;
 mod entering;
 mod one_round;

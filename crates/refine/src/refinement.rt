@@ -7,7 +7,7 @@ ghost use Rattle.lts.specs.Lts.{row_of, system_of};
 ghost use Rattle.partition.specs.Partition.{IsSomePartition};
 ghost use Rattle.partition.specs.Blocks.{IsOne, AreLive};
 ghost use Rattle.refine.specs.Settled.{Settled};
-ghost use Rattle.refine.specs.Noting.{Watches};
+ghost use Rattle.refine.specs.Watching.{Watches};
 ghost use Rattle.refine.specs.Rounds.{IsNext};
 
 use crate::one_round::Sense;
@@ -84,11 +84,11 @@ fn next_round<S: Signing, M: Meter>(
 ) -> Result<SignedBlocks, Memory>
     requires states { length round.blocks.of ≡ l.now.states }
     requires settled { Settled S.relation (system_of l.now) (slice_index round.blocks.of) round.blocks.low }
-    requires watches { Watches round.entering S.relation l.now round.blocks }
+    requires watches { Watches round.watch S.relation l.now round.blocks }
     requires room { HasRoomFor (M.counted m.old) 1 (length l.now.places) }
 
     // Once it is done
-    ensures next { IfOk result (λ q. IsNext S.relation l.now round.blocks q.blocks q.entering) }
+    ensures next { IfOk result (λ q. IsNext S.relation l.now round.blocks q.blocks q.watch) }
     ensures costs { let n = length l.now.places in OnOk result (Costs (M.counted m.old) (M.counted m.new) 1 n n) }
 
     // After a refusal

@@ -4,7 +4,7 @@ ghost use Rattle.theory.specs.declared.relation.Relation.{Relation};
 ghost use Rattle.lts.specs.Meter.{HasRoomFor, Visits};
 ghost use Rattle.refine.specs.EachList.{list_of};
 ghost use Rattle.refine.specs.Settled.{ArePut};
-ghost use Rattle.refine.specs.Noting.{Watches};
+ghost use Rattle.refine.specs.Watching.{Watches};
 
 use crate::scratch::Scratch;
 use crate::signed_blocks::SignedBlocks;
@@ -27,14 +27,14 @@ pub trait Signing {
         m: &mut M,
     ) -> Result<SignedBlocks, Memory>
         requires states { length round.blocks.of ≡ l.now.states }
-        requires watches { Watches round.entering relation l.now round.blocks }
+        requires watches { Watches round.watch relation l.now round.blocks }
         requires room { HasRoomFor (M.counted m.old) 0 (length l.now.places) }
 
         // Once it is done
         ensures blocks { IfOk result (λ r. r.blocks ≡ round.blocks) }
         ensures signed { IfOk result (λ r.
             ArePut relation l.now r.blocks.of r.blocks.low r.blocks.live (list_of r.lists r.numbers)) }
-        ensures watches { IfOk result (λ r. Watches r.entering relation l.now r.blocks) }
+        ensures watches { IfOk result (λ r. Watches r.watch relation l.now r.blocks) }
 
         // In either case
         ensures visits { let n = length l.now.places in Visits M.counted m.old m.new result n n };

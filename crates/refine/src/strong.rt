@@ -1,5 +1,5 @@
 //! Strong bisimulation: a state's signature has what its transitions show, and the blocks that they lead to.
-ghost use Rattle.std.specs.Prelude.{◌≡◌, ◌↔◌, ◌+◌, ◌++◌, ◌∷◌, ◌<◌, ◌≤◌, [], length, map, slice_index, cond, Some, None, IsTrue, IfOk, OnOk};
+ghost use Rattle.std.specs.Prelude.{◌≡◌, ◌↔◌, ◌+◌, ◌++◌, ◌∷◌, ◌<◌, ◌≤◌, [], length, map, slice_index, cond, IsTrue, IfOk, OnOk};
 ghost use Rattle.std.specs.List.{All};
 ghost use Rattle.std.specs.Vec.{vec_len, vec_capacity};
 ghost use Rattle.theory.specs.declared.relation.Relation.TheVariants.{Strong as strong};
@@ -13,10 +13,11 @@ ghost use Rattle.refine.specs.EachList.{list_of};
 ghost use Rattle.refine.specs.Settled.{HasFrom, IsPut, ArePut};
 ghost use Rattle.lts.specs.Groups.{groups_of};
 ghost use Rattle.refine.specs.Noting.{ReadsUnder, AreNotes, noted_of};
+ghost use Rattle.refine.specs.declared.signed_blocks.Watch.TheVariants.{Nothing, Sources};
 
 use crate::entering::Entering;
 use crate::scratch::Scratch;
-use crate::signed_blocks::SignedBlocks;
+use crate::signed_blocks::{SignedBlocks, Watch};
 use crate::signing::Signing;
 use lists::{EMPTY, Lists, order};
 use lts::{Lts, Memory, Meter, visit_places};
@@ -56,7 +57,7 @@ impl Signing for Strong {
             noting,
             l.states(),
             &mut scratch.notes,
-            &mut round.entering,
+            &mut round.watch,
             round.alloc,
         )?;
         Ok(round)
@@ -73,12 +74,15 @@ fn begin_notes<M: Meter>(
     scratch: &mut Scratch,
     m: &M,
 ) -> Result<bool, Memory>
-    ensures once { IfOk result (λ noting. IsTrue noting → round.now.entering ≡ None) }
+    ensures once { IfOk result (λ noting. IsTrue noting → round.now.watch ≡ Nothing) }
 {
     let few = (scratch.touched as usize) < round.blocks.live().len() / 4 * 3;
     scratch.touched = 0;
     let early = round.blocks.low() == 0 || m.rounds() < 3;
-    if round.entering.is_some() || early || !few {
+    let Watch::Nothing = &round.watch else {
+        return Ok(false);
+    };
+    if early || !few {
         return Ok(false);
     }
     scratch.notes = Vec::with_capacity(round.alloc, l.edges() as usize)?;
@@ -92,17 +96,17 @@ fn keep_notes(
     noting: bool,
     states: u32,
     notes: &mut Vec<(u32, u32)>,
-    entering: &mut Option<Entering>,
+    watch: &mut Watch,
     alloc: Global,
 ) -> Result<(), Memory>
     requires few { length notes.old.items ≤ MOST_TRANSITIONS }
     requires targets { All (λ x. x.0 < states) notes.old.items }
-    ensures { OnOk result (entering.new ≡ cond noting (Some (groups_of states notes.old.items)) entering.old) }
+    ensures { OnOk result (watch.new ≡ cond noting (Sources (groups_of states notes.old.items)) watch.old) }
 {
     if !noting {
         return Ok(());
     }
-    *entering = Some(Entering::new(alloc, states, notes)?);
+    *watch = Watch::Sources(Entering::new(alloc, states, notes)?);
     *notes = Vec::new(alloc);
     Ok(())
 }

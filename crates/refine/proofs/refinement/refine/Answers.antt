@@ -4,12 +4,12 @@ use Rattle.theory.specs.Blocks.{Split, SameBlocks, Turns}
 use Rattle.lts.specs.Meter.{Costs}
 use Rattle.lts.specs.Lts.{system_of}
 use Rattle.refine.specs.Settled.{Settled}
-use Rattle.refine.specs.Noting.{Watches}
+use Rattle.refine.specs.Watching.{Watches}
 use Rattle.refine.specs.Rounds.{Made}
 use Rattle.refine.proofs.Spending.{costs_more, costs_up_to_more, room_for_more, on_ok_from, on_err_from}
 use Rattle.partition.specs.Partition.{AreBlocks}
 use Rattle.partition.specs.Blocks.{IsOne, AreLive}
-use Rattle.inert.specs.Signed.{LeavesOut}
+use Rattle.refine.specs.Living.{LeavesOut}
 use Rattle.partition.proofs.CallerLemmas.{one_block}
 use Rattle.refine.proofs.Settling.{settled_first}
 use Rattle.refine.proofs.Noting.{watches_left}
@@ -53,8 +53,8 @@ pub next_round-requires-clause-watches : goal.next_round-requires-clause-watches
 next_round-requires-clause-watches g c =
     let was = c.loop-scratch.round in
     let before = c.in_ok-before.before in
-    subst (λ e. Watches e g.S.Signing.relation c.args.l.now before.blocks) (sym c.in_ok-before.ensures.entering)
-    (watches_left was.entering g.S.Signing.relation c.args.l.now was.blocks before.blocks c.in_ok-before.ensures.same c.in_ok-before.ensures.leaves c.loop-scratch.invariant.watches)
+    subst (λ e. Watches e g.S.Signing.relation c.args.l.now before.blocks) (sym c.in_ok-before.ensures.watch)
+    (watches_left was.watch g.S.Signing.relation c.args.l.now was.blocks before.blocks c.in_ok-before.ensures.same c.in_ok-before.ensures.leaves c.loop-scratch.invariant.watches)
 
 pub next_round-requires-clause-room : goal.next_round-requires-clause-room
 next_round-requires-clause-room g c =

@@ -1,7 +1,7 @@
 use Rattle.std.proofs.Common.{◌≡◌, ◌-◌, length, slice_index}
 use Rattle.lts.specs.Lts.{system_of}
 use Rattle.refine.specs.Settled.{Settled}
-use Rattle.refine.specs.Noting.{Watches}
+use Rattle.refine.specs.Watching.{Watches}
 use Rattle.refine.specs.Rounds.{Made}
 use Rattle.refine.proofs.refinement.refine.Given as goal
 
@@ -9,7 +9,7 @@ abbrev pub invariant-loop-scratch : goal.invariant-loop-scratch
 invariant-loop-scratch g l = record {
   states : length l.round.blocks.of ≡ l.l.states;
   settled : Settled g.S.Signing.relation (system_of l.l) (slice_index l.round.blocks.of) l.round.blocks.low;
-  watches : Watches l.round.entering g.S.Signing.relation l.l l.round.blocks;
+  watches : Watches l.round.watch g.S.Signing.relation l.l l.round.blocks;
   made : Made g.S.Signing.relation l.l (g.M.Meter.counted l.initial.m) (g.M.Meter.counted l.m) l.round.blocks.of;
 }
 

@@ -4,7 +4,7 @@ use Rattle.partition.specs.Blocks.{IsOne}
 use Rattle.inert.specs.Signed.{IsSignature}
 use Rattle.refine.specs.EachList.{list_of}
 use Rattle.refine.specs.Settled.{IsPut}
-use Rattle.refine.specs.Noting.{Watches}
+use Rattle.refine.specs.Watching.{Watches}
 use Rattle.refine.proofs.Settling.{put_whole}
 use Rattle.refine.proofs.EachList.{signature_at-list}
 use Rattle.refine.proofs.one_round.Signatures.fill.Goals as goal

@@ -1,7 +1,7 @@
 use Rattle.std.proofs.Common.{◌∙◌, length, ap, sym, subst, subst₂, arith}
 use Rattle.std.proofs.lemmas.List.{take_at}
 use Rattle.partition.specs.Blocks.{AreOrNone}
-use Rattle.refine.specs.EachList.{HaveLists, HaveSources}
+use Rattle.refine.specs.EachList.{HaveLists, FitsWatch}
 use Rattle.refine.proofs.EachList.{lists_left}
 use Rattle.refine.proofs.signed_blocks.SignedBlocks.renew.Goals as goal
 
@@ -15,4 +15,4 @@ invariant_of-result c =
     lists_left c.known.ensures.some c.self.invariant.0 (c.renew.auto.numbers ∙ ap length was) (subst (λ ns. AreOrNone ns numbers) was c.renew.ensures.numbers)
     c.in_ok-blocks.ensures.none in
     let of = sym (ap (λ b. b.of) c.in_ok-blocks.ensures.same) in
-    (subst₂ (λ of ns. HaveLists of blocks.live c.self.inside.lists ns) of (sym items) left, subst (λ of. HaveSources of c.self.inside.entering) of c.self.invariant.1)
+    (subst₂ (λ of ns. HaveLists of blocks.live c.self.inside.lists ns) of (sym items) left, subst (λ of. FitsWatch of c.self.inside.watch) of c.self.invariant.1)

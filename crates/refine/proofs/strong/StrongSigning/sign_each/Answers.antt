@@ -1,12 +1,14 @@
 use Rattle.std.specs.List.{All}
-use Rattle.std.proofs.Common.{◌∙◌, ◌<◌, true, cond, Some, length, ap, sym, subst, subst₂, arith}
+use Rattle.std.proofs.Common.{◌∙◌, ◌<◌, true, cond, length, ap, sym, subst, subst₂, arith}
 use Rattle.std.proofs.lemmas.List.{take_at}
 use Rattle.theory.specs.declared.relation.Relation.TheVariants.{Strong}
 use Rattle.lts.specs.Groups.{groups_of}
 use Rattle.partition.specs.Blocks.{AreLive, HaveNone}
 use Rattle.refine.specs.EachList.{list_of}
 use Rattle.refine.specs.Settled.{IsPut, ArePut}
-use Rattle.refine.specs.Noting.{Watches, AreNotes}
+use Rattle.refine.specs.Noting.{AreNotes}
+use Rattle.refine.specs.Watching.{Watches}
+use Rattle.refine.specs.declared.signed_blocks.Watch.TheVariants.{Sources}
 use Rattle.refine.proofs.EachList.{written_back}
 use Rattle.refine.proofs.Noting.{notes_known, sources_kept, watches_kept}
 use Rattle.refine.proofs.strong.StrongSigning.sign_each.Goals as goal
@@ -32,8 +34,8 @@ invariant_of-round g c =
     let done = c.in_ok-sign_live.ensures.numbers in (
       written_back old.of old.live c.sign_live.new.lists c.sign_live.new.numbers _ _ done.0 (subst (λ live. HaveNone live c.sign_live.new.numbers) c.live-live.ensures.live done.1)
           (omega (arith, c.sign_live.auto.numbers, c.deref_mut.ensures.len, c.round.invariant.0.states)) (omega (arith, c.sign_live.auto.numbers, c.deref_mut.ensures.len)),
-      sources_kept c.in_ok-noting.noting c.args.l.now old c.sign_live.new.scratch.notes.items c.round.inside.entering c.keep_notes.new.entering
-          (c.in_ok-keep_notes.ensures ∙ ap (λ n. cond c.in_ok-noting.noting (Some (groups_of n c.sign_live.new.scratch.notes.items)) c.round.inside.entering) c.states.ensures.value)
+      sources_kept c.in_ok-noting.noting c.args.l.now old c.sign_live.new.scratch.notes.items c.round.inside.watch c.keep_notes.new.watch
+          (c.in_ok-keep_notes.ensures ∙ ap (λ n. cond c.in_ok-noting.noting (Sources (groups_of n c.sign_live.new.scratch.notes.items)) c.round.inside.watch) c.states.ensures.value)
           (ap (λ r. length r.blocks.of) c.round.view_is ∙ c.requires.states) c.round.invariant.1,
     )
 
@@ -54,12 +56,12 @@ returns-clause-watches g c =
     let old = c.round.inside in
     let noting = c.in_ok-noting.noting in
     let notes = c.sign_live.new.scratch.notes.items in
-    let watches = subst (λ r. Watches r.entering Strong l r.blocks) (sym c.round.view_is) c.requires.watches in
-    watches_kept noting l old.blocks notes old.entering c.keep_notes.new.entering
-    (c.in_ok-keep_notes.ensures ∙ ap (λ n. cond noting (Some (groups_of n notes)) old.entering) c.states.ensures.value)
+    let watches = subst (λ r. Watches r.watch Strong l r.blocks) (sym c.round.view_is) c.requires.watches in
+    watches_kept noting l old.blocks notes old.watch c.keep_notes.new.watch
+    (c.in_ok-keep_notes.ensures ∙ ap (λ n. cond noting (Sources (groups_of n notes)) old.watch) c.states.ensures.value)
     (λ on. notes_known l old.blocks notes c.states.ensures.lts c.rows_are_steps.ensures.sources (c.rows_are_steps.ensures.steps l)
     (subst (λ live. AreNotes true l live notes) c.live-live.ensures.live (subst (λ b. AreNotes b l c.live-live.result.now notes) on c.in_ok-sign_live.ensures.notes))
-    (subst (λ e. Watches e Strong l old.blocks) (ap (λ r. r.entering) c.round.view_is ∙ c.in_ok-noting.ensures.once on) watches))
+    (subst (λ e. Watches e Strong l old.blocks) (ap (λ r. r.watch) c.round.view_is ∙ c.in_ok-noting.ensures.once on) watches))
     watches
 
 pub keep_notes-requires-clause-targets : goal.keep_notes-requires-clause-targets
