@@ -6,6 +6,7 @@ pub mod Meeting
 pub mod Living
 pub mod Leaving
 pub mod Parting
+pub mod Parents
 pub mod Counting
 pub mod Filling
 pub mod Refilling

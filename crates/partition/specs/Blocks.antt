@@ -1,7 +1,7 @@
 -- The blocks of a round of refinement, with the states that it looks at.
 use Rattle.std.specs.Prelude.{◌≡◌, ◌⊎◌, ℕ, ◌<◌, ◌≤◌, List, length, slice_index, Option, None, Some, IfSome, IsSome}
 use Rattle.partition.specs.Partition.{AreBlocks}
-use Rattle.partition.specs.Splitting.{IsAlone}
+use Rattle.partition.specs.Splitting.{IsAlone, Splits}
 use Rattle.partition.specs.Sizes.{AreCounts}
 use Rattle.partition.specs.declared.blocks.IdleStates.{IdleStates}
 use Rattle.partition.specs.declared.blocks.Others.{Others}
@@ -52,6 +52,13 @@ pub record IsRound (of : List ℕ) (count : ℕ) (live : List ℕ) (others : Oth
 -- a state that is not looked at has the list number 0
 abbrev pub HaveNone : List ℕ → List ℕ → Type 0
 HaveNone live numbers = (s : ℕ) → s < length numbers → IsOne live s ⊎ (slice_index numbers s ≡ 0)
+
+-- the blocks q of a round are the blocks p, split by the list of each state. A state that is not looked at keeps an old number
+pub record AreParted (p : RoundBlocks) (numbers : List ℕ) (q : RoundBlocks) : Type 0 where
+  pub splits : Splits p.of p.count (slice_index numbers) q.of q.count
+  pub low : q.low ≡ p.count
+  pub live : q.live ≡ p.live
+  pub others : (s : ℕ) → s < length p.of → IsOne p.live s ⊎ (slice_index q.of s < p.count)
 
 -- a state that is not looked at keeps its block
 abbrev pub StayBeside : List ℕ → List ℕ → List ℕ → Type 0

@@ -93,3 +93,17 @@ pub record HaveKeepers (old numbers live keepers : List ℕ) : Type 0 where
   pub room : (i : ℕ) → i < length live → slice_index old (slice_index live i) < length keepers
   pub same : (all : List ℕ) × AreKeepers old numbers live all
       × ((i : ℕ) → i < length live → slice_index keepers (slice_index old (slice_index live i)) ≡ slice_index all (slice_index old (slice_index live i)))
+
+-- the old block of the representative number r
+abbrev pub old_at : List Representative → ℕ → ℕ
+old_at chain r = (representative_at chain r).old
+
+-- how many blocks there are, if there were `count` before: a new one for each representative but that of number 0
+abbrev pub count_with : ℕ → List Representative → ℕ
+count_with count chain = count + length chain - 1
+
+-- the states of a new block had the old block of its representative, which its number tells
+pub record TellParents (old : List ℕ) (count : ℕ) (new : List ℕ) (chain : List Representative) : Type 0 where
+  pub some : 0 < length chain
+  pub below : (r : ℕ) → IsRepresentative chain r → old_at chain r < count
+  pub each : (s r : ℕ) → s < length old → 0 < r → slice_index new s + 1 ≡ count + r → (r < length chain) × (old_at chain r ≡ slice_index old s)

@@ -1,5 +1,5 @@
 -- Blocks that are split by what states have: two states stay together if they share a block and have the same.
-use Rattle.std.specs.Prelude.{◌≡◌, ◌↔◌, ℕ, ◌<◌, ◌≤◌, Bool, false, IsTrue, List, length, slice_index, slice_index_or}
+use Rattle.std.specs.Prelude.{◌≡◌, ◌↔◌, ℕ, ◌+◌, ◌-◌, ◌<◌, ◌≤◌, Bool, false, IsTrue, List, length, slice_index, slice_index_or}
 use Rattle.partition.specs.Partition.{AreBlocks}
 
 -- two states have one old block, and have the same
@@ -22,3 +22,10 @@ pub record Splits {X : Type 0} (old : List ℕ) (count : ℕ) (has : ℕ → X) 
   pub alike : (s t : ℕ) → s < length old → t < length old → (slice_index new s ≡ slice_index new t) ↔ Alike old has s t
   pub stays : (s : ℕ) → s < length old → slice_index new s < count → slice_index new s ≡ slice_index old s
   pub parts : count < more → (s t : ℕ) × (s < length old) × (t < length old) × (slice_index old s ≡ slice_index old t) × ¬ (slice_index new s ≡ slice_index new t)
+
+-- for each new block, of `more` together, the old block that its states had
+pub record AreParents (old : List ℕ) (count : ℕ) (new : List ℕ) (more : ℕ) (parents : List ℕ) : Type 0 where
+  pub blocks : count + length parents ≡ more
+  pub below : (i : ℕ) → i < length parents → slice_index parents i < count
+  pub each : (s : ℕ) → s < length old → ¬ (slice_index new s < count)
+      → (slice_index new s - count < length parents) × (slice_index parents (slice_index new s - count) ≡ slice_index old s)

@@ -1,12 +1,13 @@
 -- The lists of blocks that are kept, and the states of the other blocks.
-use Rattle.std.proofs.Common.{◌≡◌, ◌⊎◌, ◌∙◌, ℕ, ◌+◌, ◌-◌, ◌<◌, ◌≤◌, List, [], ◌∷◌, ◌++◌, length, slice_index, set, take, replicate, ap, sym, subst, refl, inl, inr, arith}
+use Rattle.std.proofs.Common.{◌≡◌, ◌⊎◌, ◌∙◌, ℕ, Bool, ◌+◌, ◌-◌, ◌<◌, ◌≤◌, List, [], ◌∷◌, ◌++◌, length, slice_index, set, take, replicate, ap, sym, subst, refl, inl, inr, arith}
 use Rattle.std.proofs.lemmas.Bool.{cases_lt, cases_eq}
-use Rattle.std.proofs.lemmas.List.{length_push, get_or_append_left, get_or_push, get_or_past, get_or-append_right, get_or-take, get_or-replicate, get_or-set_same, get_or-set_other, length-take, length-replicate}
+use Rattle.std.proofs.lemmas.List.{length_push, get_or_append_left, get_or_past, get_or-append_right, get_or-take, get_or-replicate, get_or-set_same, get_or-set_other, length-take, length-replicate}
 use Rattle.lists.specs.Lists.{list_at, AreNumbers, Grow}
-use Rattle.partition.specs.Splitting.{IsAlone}
-use Rattle.partition.specs.Blocks.{RoundBlocks, AreLive, IsOne}
-use Rattle.refine.specs.BlockLists.{KnownLists, IsKnown, IsUnknown, known_list, IsFrom, LooksAtUnknown, HasStayed, HasSame}
+use Rattle.partition.specs.Splitting.{IsAlone, AreParents}
+use Rattle.partition.specs.Blocks.{AreLive, IsOne}
+use Rattle.refine.specs.BlockLists.{KnownLists, IsKnown, IsUnknown, known_list, IsFrom, LooksAtUnknown, HasStayed, HasSame, ShowsUnchanged}
 use Rattle.refine.proofs.Finding.{one_stays, one_last}
+use Rattle.refine.proofs.Living.{place, at_old, at_new}
 
 -- what is true of each list that is known
 abbrev pub AllKnown : (ℕ → List (ℕ × ℕ) → Type 0) → List (List (ℕ × ℕ)) → List ℕ → Type 0
@@ -51,6 +52,20 @@ known_resized old numbers n m is b known =
     let same = ap (λ x. slice_index x b) is ∙ number_resized old.numbers n m b known' in
     (λ zero. known (same ∙ zero), ap (list_at old.lists) same)
 
+-- it was so after two steps
+pub was_before : (a b c : KnownLists) → WasKnown a b → WasKnown b c → WasKnown a c
+was_before a b c first second block known =
+    let after = second block known in
+    let before = first block after.0 in
+    (before.0, after.1 ∙ before.1)
+
+-- the lists that are still known show unchanged blocks, if all that were known did
+pub shows_before : (changed : List Bool) (old new : KnownLists) → WasKnown old new → ((b : ℕ) → IsKnown old b → ShowsUnchanged changed b (known_list old b))
+    → (b : ℕ) → IsKnown new b → ShowsUnchanged changed b (known_list new b)
+shows_before changed old new was show b known =
+    let before = was b known in
+    subst (ShowsUnchanged changed b) (sym before.1) (show b before.0)
+
 -- where a list is from, if what was known was so before
 pub from_before : (live of : List ℕ) (signature : ℕ → List (ℕ × ℕ)) (old new : KnownLists) (b : ℕ) (list : List (ℕ × ℕ)) → WasKnown old new
     → IsFrom live of signature new b list → IsFrom live of signature old b list
@@ -87,29 +102,20 @@ module _ (known : KnownLists) (of : List ℕ) (i : ℕ) (live : List ℕ) (rises
   }
 
   -- or it is
-  place : (k : ℕ) → k < length (live ++ s ∷ []) → (k < length live) ⊎ (k ≡ length live)
-  place k h = elim (cases_lt k (length live)) [ inl low ↦ inl low | inr last ↦ inr (omega (arith, h, last, length_push live s)) ]
-
-  at-old : (k : ℕ) → k < length live → slice_index (live ++ s ∷ []) k ≡ slice_index live k
-  at-old k h = get_or_append_left live (s ∷ []) 0 k h
-
-  at-new : (k : ℕ) → k ≡ length live → slice_index (live ++ s ∷ []) k ≡ s
-  at-new k h = get_or_push live s 0 k (sym h)
-
   pub looks_with : i < length known.states → IsUnknown known (slice_index of s) → LooksUpTo known of (i + 1) (live ++ s ∷ [])
   looks_with more this = record {
     few = omega (arith, up.few, length_push live s);
-    each = λ k h. elim (place k h) [
-      | inl low ↦ subst (λ x. IsOne known.states x × IsUnknown known (slice_index of x)) (sym (at-old k low)) (up.each k low)
-      | inr last ↦ subst (λ x. IsOne known.states x × IsUnknown known (slice_index of x)) (sym (at-new k last)) ((i, more, refl), this)
+    each = λ k h. elim (place live s k h) [
+      | inl low ↦ subst (λ x. IsOne known.states x × IsUnknown known (slice_index of x)) (sym (at_old live s k low)) (up.each k low)
+      | inr last ↦ subst (λ x. IsOne known.states x × IsUnknown known (slice_index of x)) (sym (at_new live s k last)) ((i, more, refl), this)
     ];
-    below = λ k j h low last. elim (place k h) [
-      | inl inside ↦ omega (arith, at-old k inside, up.below k j inside (omega (arith, low)) last)
-      | inr here ↦ omega (arith, at-new k here, rises.rising i j (omega (arith, low)) last)
+    below = λ k j h low last. elim (place live s k h) [
+      | inl inside ↦ omega (arith, at_old live s k inside, up.below k j inside (omega (arith, low)) last)
+      | inr here ↦ omega (arith, at_new live s k here, rises.rising i j (omega (arith, low)) last)
     ];
-    rising = λ j k low h. elim (place k h) [
-      | inl inside ↦ omega (arith, at-old j (omega (arith, low, inside)), at-old k inside, up.rising j k low inside)
-      | inr last ↦ omega (arith, at-old j (omega (arith, low, last)), at-new k last, up.below j i (omega (arith, low, last)) (omega arith) more)
+    rising = λ j k low h. elim (place live s k h) [
+      | inl inside ↦ omega (arith, at_old live s j (omega (arith, low, inside)), at_old live s k inside, up.rising j k low inside)
+      | inr last ↦ omega (arith, at_old live s j (omega (arith, low, last)), at_new live s k last, up.below j i (omega (arith, low, last)) (omega arith) more)
     ];
     left = λ j h. elim (cases_lt j i) [
       | inl low ↦ elim (up.left j low) [ inl one ↦ inl (one_stays live s _ one) | inr x ↦ inr x ]
@@ -127,18 +133,15 @@ module _ (known : KnownLists) (of : List ℕ) (i : ℕ) (live : List ℕ) (rises
   }
 
 -- a block that has stayed has the same states as before the split
-module _ (old was : List ℕ) (q : RoundBlocks) (before : (i : ℕ) → i < length q.live → slice_index was i ≡ slice_index old (slice_index q.live i))
-    (stays : (s : ℕ) → s < length old → slice_index q.of s < q.low → slice_index q.of s ≡ slice_index old s)
-    (others : (s : ℕ) → s < length old → IsOne q.live s ⊎ (slice_index q.of s < q.low)) where
-  below : (b s : ℕ) → HasStayed was q b → s < length old → slice_index old s ≡ b → slice_index q.of s < q.low
-  below b s stayed h e = elim (others s h) [
-    | inl one ↦
-        subst (λ x. slice_index q.of x < q.low) one.2
-        (stayed.1 one.0 one.1 (before one.0 one.1 ∙ ap (slice_index old) one.2 ∙ e))
-    | inr low ↦ low
+module _ (old parents new : List ℕ) (low more : ℕ) (are : AreParents old low new more parents)
+    (stays : (s : ℕ) → s < length old → slice_index new s < low → slice_index new s ≡ slice_index old s) where
+  below : (b s : ℕ) → HasStayed parents low b → s < length old → slice_index old s ≡ b → slice_index new s < low
+  below b s stayed h e = elim (cases_lt (slice_index new s) low) [
+    | inl low ↦ low
+    | inr past ↦ let parent = are.each s h (omega (arith, past)) in absurd (stayed.1 _ parent.0 (parent.1 ∙ e))
   ]
 
-  pub has_same : (b : ℕ) → HasStayed was q b → HasSame old q.of b
+  pub has_same : (b : ℕ) → HasStayed parents low b → HasSame old new b
   has_same b stayed s h = (
     λ e. stays s h (below b s stayed h e) ∙ e,
     λ e. sym (stays s h (omega (arith, e, stayed.0))) ∙ e,

@@ -2,9 +2,11 @@
 use Rattle.std.proofs.Common.{◌≡◌, ◌∙◌, ℕ, zero, suc, ◌<◌, ◌≤◌, List, [], ◌∷◌, ◌++◌, length, take, get_or, slice_index, ap, sym, subst, refl, inl, inr, arith}
 use Rattle.std.proofs.lemmas.List.{get_or-map, get_or_default, take_at}
 use Rattle.lists.specs.Lists.{list_at, AreLists, AreNumbers}
-use Rattle.partition.specs.Blocks.{HaveNone, AreOrNone}
-use Rattle.refine.specs.EachList.{list_of, each_list, HaveLists}
+use Rattle.partition.specs.Blocks.{RoundBlocks, AreLive, HaveNone, AreOrNone, AreParted}
+use Rattle.refine.specs.EachList.{list_of, each_list, HaveLists, FitsWatch}
 use Rattle.refine.specs.Signed.{signature_at}
+use Rattle.refine.specs.declared.signed_blocks.Watch.{Watch}
+use Rattle.refine.specs.declared.signed_blocks.Watch.TheVariants.{Nothing, Sources, Signatures}
 use Rattle.partition.specs.Splitting.{Splits}
 
 -- the list of a state is the one that its number gives
@@ -57,12 +59,23 @@ lists_left {lists = lists} {new = new} some have size each none = record {
 }
 
 -- blocks that were split by the lists, whose numbers are read through a slice
-pub parted : (lists : List (List (ℕ × ℕ))) (numbers ns old : List ℕ) (count : ℕ) (live new : List ℕ) (more : ℕ) → AreLists lists → HaveLists old live lists numbers → ns ≡ numbers
-    → Splits old count (slice_index ns) new more → Splits old count (list_of lists numbers) new more
-parted lists numbers ns old count live new more are have is splits =
-    Splits-lists lists numbers old count new more are have.each (sym have.states) (subst (λ xs. Splits old count (slice_index xs) new more) is splits)
+pub parted : (lists : List (List (ℕ × ℕ))) (numbers ns : List ℕ) (p q : RoundBlocks) → AreLists lists → HaveLists p.of p.live lists numbers → ns ≡ numbers
+    → AreParted p ns q → Splits p.of p.count (list_of lists numbers) q.of q.count
+parted lists numbers ns p q are have is split =
+    let splits = subst (λ xs. Splits p.of p.count (slice_index xs) q.of q.count) is split.splits in
+    Splits-lists lists numbers p.of p.count q.of q.count are have.each (sym have.states) splits
 
--- the same states have their lists still
-pub lists_stay : {of of' live live' : List ℕ} {lists : List (List (ℕ × ℕ))} {numbers : List ℕ} → length of' ≡ length of → live' ≡ live → HaveLists of live lists numbers
-    → HaveLists of' live' lists numbers
-lists_stay {numbers = numbers} size is have = record { each = have.each; states = have.states ∙ sym size; none = subst (λ xs. HaveNone xs numbers) (sym is) have.none }
+-- what was noted fits as many states
+fits_still : (of of' : List ℕ) (watch : Watch) → length of' ≡ length of → FitsWatch of watch → FitsWatch of' watch
+fits_still of of' Nothing size fits = tt
+fits_still of of' (Sources sources) size fits = fits ∙ sym size
+fits_still of of' (Signatures known) size fits = subst (λ n. AreLive n known.states) (sym size) fits
+
+-- when blocks were split, the states have their lists still, and what was noted fits them
+pub split_fits : (lists : List (List (ℕ × ℕ))) (numbers ns : List ℕ) (p q : RoundBlocks) (watch : Watch) → AreParted p ns q
+    → HaveLists p.of p.live lists numbers × FitsWatch p.of watch → HaveLists q.of q.live lists numbers × FitsWatch q.of watch
+split_fits lists numbers ns p q watch split (have, fits) =
+    let size = split.splits.states in (
+      record { each = have.each; states = have.states ∙ sym size; none = subst (λ xs. HaveNone xs numbers) (sym split.live) have.none },
+      fits_still p.of q.of watch size fits,
+    )

@@ -15,35 +15,30 @@ use Rattle.refine.specs.Living.{LeavesOut}
 pub rising_none : AreLive 0 []
 rising_none = record { few = omega arith; below = λ i h. absurd (omega (arith, h)); rising = λ i j low h. absurd (omega (arith, h)) }
 
--- the states below s that are looked at, with s too
-module _ (live : List ℕ) (s : ℕ) (rises : AreLive s live) where
-  place : (i : ℕ) → i < length (live ++ s ∷ []) → (i < length live) ⊎ (i ≡ length live)
+-- the places of some states, with one more
+module _ (live : List ℕ) (s : ℕ) where
+  pub place : (i : ℕ) → i < length (live ++ s ∷ []) → (i < length live) ⊎ (i ≡ length live)
   place i h = elim (cases_lt i (length live)) [ inl low ↦ inl low | inr last ↦ inr (omega (arith, h, last, length_push live s)) ]
 
-  at-old : (i : ℕ) → i < length live → slice_index (live ++ s ∷ []) i ≡ slice_index live i
-  at-old i h = get_or_append_left live (s ∷ []) 0 i h
+  pub at_old : (i : ℕ) → i < length live → slice_index (live ++ s ∷ []) i ≡ slice_index live i
+  at_old i h = get_or_append_left live (s ∷ []) 0 i h
 
-  at-new : (i : ℕ) → i ≡ length live → slice_index (live ++ s ∷ []) i ≡ s
-  at-new i h = get_or_push live s 0 i (sym h)
+  pub at_new : (i : ℕ) → i ≡ length live → slice_index (live ++ s ∷ []) i ≡ s
+  at_new i h = get_or_push live s 0 i (sym h)
 
-  pub rising_more : AreLive (s + 1) (live ++ s ∷ [])
-  rising_more = record {
+  -- the states below it rise
+  pub rising_more : AreLive s live → AreLive (s + 1) (live ++ s ∷ [])
+  rising_more rises = record {
     few = omega (arith, length_push live s, rises.few);
     below = λ i h. elim (place i h) [
-      | inl low ↦ omega (arith, at-old i low, rises.below i low)
-      | inr here ↦ omega (arith, at-new i here)
+      | inl low ↦ omega (arith, at_old i low, rises.below i low)
+      | inr here ↦ omega (arith, at_new i here)
     ];
     rising = λ i j low h. elim (place j h) [
-      | inl inside ↦ omega (arith, at-old i (omega (arith, low, inside)), at-old j inside, rises.rising i j low inside)
-      | inr here ↦ omega (arith, at-old i (omega (arith, low, here)), at-new j here, rises.below i (omega (arith, low, here)))
+      | inl inside ↦ omega (arith, at_old i (omega (arith, low, inside)), at_old j inside, rises.rising i j low inside)
+      | inr here ↦ omega (arith, at_old i (omega (arith, low, here)), at_new j here, rises.below i (omega (arith, low, here)))
     ];
   }
-
-  pub one_more : (t : ℕ) → IsOne live t → IsOne (live ++ s ∷ []) t
-  one_more t (i, h, is) = (i, omega (arith, h, length_push live s), at-old i h ∙ is)
-
-  pub one_new : IsOne (live ++ s ∷ []) s
-  one_new = (length live, omega (arith, length_push live s), at-new (length live) refl)
 
 -- or without it
 pub rising_later : (live : List ℕ) (s : ℕ) → AreLive s live → AreLive (s + 1) live

@@ -18,7 +18,7 @@ use Rattle.refine.specs.Living.{LeavesOut}
 use Rattle.theory.specs.Blocks.{Split}
 use Rattle.inert.specs.Signed.{IsSignature}
 use Rattle.refine.specs.Settled.{IsStill, ArePut}
-use Rattle.refine.specs.EachList.{FitsWatch, Signed, signed, list_of}
+use Rattle.refine.specs.EachList.{FitsWatch, Signed, list_of}
 use Rattle.refine.specs.Noting.{Sources as EachSources, turned, noted_of, AreNotes, IsNoted, AreWatched, LooksAtSources}
 use Rattle.refine.specs.Watching.{Watches, WatchesBy, StaysKnown}
 use Rattle.refine.specs.declared.signed_blocks.Watch.{Watch}
@@ -96,7 +96,8 @@ module _ (l : Grouped)
 
   pub watches_next : (inside : (s : ℕ) (a : List ℕ) (t : ℕ) → Step (system_of l) s a t → t < l.states) (rising : AreLive (length p.of) p.live)
       (lists : List (List (ℕ × ℕ))) (numbers : List ℕ) (watch : Watch) (next : Signed) → next.blocks ≡ q → (rel : Relation)
-      → WatchesBy watch (signed p lists numbers watch) next → Split rel (system_of l) (slice_index p.of) (slice_index q.of)
+      → WatchesBy watch (record { blocks = p; lists = lists; numbers = numbers; watch = watch }) next
+      → Split rel (system_of l) (slice_index p.of) (slice_index q.of)
       → ArePut rel l p.of p.low p.live (list_of lists numbers) → Watches watch rel l p → Watches next.watch rel l q
   watches_next inside rising lists numbers Nothing next is rel by split put others =
       subst (λ w. Watches w rel l q) (sym by.0)

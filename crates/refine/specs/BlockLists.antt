@@ -55,26 +55,25 @@ pub record WatchesBlocks (l : Grouped) (p : RoundBlocks) (known : KnownLists) : 
 abbrev pub HasSame : List ℕ → List ℕ → ℕ → Type 0
 HasSame old new b = (s : ℕ) → s < length old → (slice_index old s ≡ b) ↔ (slice_index new s ≡ b)
 
--- a block for each state that is looked at, none of them a new one
-pub record AreOldBlocks (was : List ℕ) (q : RoundBlocks) : Type 0 where
-  pub states : length was ≡ length q.live
-  pub below : (i : ℕ) → i < length was → slice_index was i < q.low
-
--- the block b was there before the split, and no state of it has a new one
-abbrev pub HasStayed : List ℕ → RoundBlocks → ℕ → Type 0
-HasStayed was q b = (b < q.low) × ((i : ℕ) → i < length q.live → slice_index was i ≡ b → slice_index q.of (slice_index q.live i) < q.low)
+-- the block b was there before the split, and is the parent of no new one
+abbrev pub HasStayed : List ℕ → ℕ → ℕ → Type 0
+HasStayed parents low b = (b < low) × ((i : ℕ) → i < length parents → ¬ (slice_index parents i ≡ b))
 
 -- the block b is there, and not marked as changed
 abbrev pub IsUnchanged : List Bool → ℕ → Type 0
 IsUnchanged changed b = (b < length changed) × ¬ IsTrue (slice_index_or changed b false)
+
+-- neither the block b is marked as changed, nor one that the list shows
+abbrev pub ShowsUnchanged : List Bool → ℕ → List (ℕ × ℕ) → Type 0
+ShowsUnchanged changed b list = IsUnchanged changed b × All (λ z. IsUnchanged changed z.1) list
 
 -- the list was known of the block b before, or it is that of a state that is looked at and has this block
 abbrev pub IsFrom : List ℕ → List ℕ → (ℕ → List (ℕ × ℕ)) → KnownLists → ℕ → List (ℕ × ℕ) → Type 0
 IsFrom live of signature old b list = (IsKnown old b × (list ≡ known_list old b)) ⊎ ((s : ℕ) × IsOne live s × (slice_index of s ≡ b) × (list ≡ signature s))
 
 -- after a split, a list is known only of a block that has stayed, where all blocks that it shows have stayed too
-pub record KeepsLists (was : List ℕ) (q : RoundBlocks) (signature : ℕ → List (ℕ × ℕ)) (old new : KnownLists) : Type 0 where
+pub record KeepsLists (parents : List ℕ) (q : RoundBlocks) (signature : ℕ → List (ℕ × ℕ)) (old new : KnownLists) : Type 0 where
   pub states : new.states ≡ old.states
-  pub stayed : (b : ℕ) → IsKnown new b → HasStayed was q b
-  pub show : (b : ℕ) → IsKnown new b → All (λ z. HasStayed was q z.1) (known_list new b)
+  pub stayed : (b : ℕ) → IsKnown new b → HasStayed parents q.low b
+  pub show : (b : ℕ) → IsKnown new b → All (λ z. HasStayed parents q.low z.1) (known_list new b)
   pub from : (b : ℕ) → IsKnown new b → IsFrom q.live q.of signature old b (known_list new b)

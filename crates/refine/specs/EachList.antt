@@ -27,9 +27,6 @@ pub record Signed : Type 0 where
   pub numbers : List ℕ
   pub watch : Watch
 
-abbrev pub signed : RoundBlocks → List (List (ℕ × ℕ)) → List ℕ → Watch → Signed
-signed blocks lists numbers watch = record { blocks = blocks; lists = lists; numbers = numbers; watch = watch }
-
 -- each state of the blocks has a list, and one that is not looked at the empty one
 pub record HaveLists (of live : List ℕ) (lists : List (List (ℕ × ℕ))) (numbers : List ℕ) : Type 0 where
   pub each : AreNumbers lists numbers

@@ -31,7 +31,8 @@ impl Signing for Branching {
     }
 }
 
-/// Keeps the signatures of blocks from now on, if most blocks were there before the last split: in earlier rounds nearly all change.
+/// Keeps the signatures of blocks from now on, if under an eighth of the blocks are new since the last split: in earlier rounds nearly all
+/// change.
 ///
 /// Fails if there is no memory for it.
 fn begin_lists(round: SignedBlocks) -> Result<SignedBlocks, Memory>
@@ -41,11 +42,14 @@ fn begin_lists(round: SignedBlocks) -> Result<SignedBlocks, Memory>
     let Watch::Nothing = &round.watch else {
         return Ok(round);
     };
-    if round.blocks.low() <= round.blocks.count() / 2 {
+    let count = round.blocks.count();
+    if round.blocks.low() <= count - count / 8 {
         return Ok(round);
     }
-    let known = BlockLists::new(round.alloc, round.blocks.live())?;
+    let blocks = round.blocks.counted(round.alloc)?;
+    let known = BlockLists::new(round.alloc, &blocks)?;
     Ok(SignedBlocks {
+        blocks,
         watch: Watch::Signatures(known),
         ..round
     })

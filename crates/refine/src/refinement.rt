@@ -49,7 +49,8 @@ pub fn refine<S: Sense, M: Meter>(alloc: Global, l: &Lts<M>, m: &mut M) -> Resul
         let next = next_round::<S, M>(before, l, &mut scratch, m)?;
         let more = next.count();
         if more == count {
-            return renumber(alloc, next.of(), more);
+            let blocks = next.into_blocks();
+            return renumber(alloc, blocks.of(), more);
         }
         round = next;
     }

@@ -1,9 +1,8 @@
 //! The blocks of a round, and the signature of each state under them.
 ghost use Rattle.std.specs.Prelude.{◌≡◌, ℕ, ◌<◌, ◌∷◌, [], length, slice_index, IfOk};
 ghost use Rattle.lists.specs.Lists.{AreLists};
-ghost use Rattle.partition.specs.Partition.{AreBlocks};
 ghost use Rattle.partition.specs.Blocks.{AreLive, HaveNone, LeavesAlone};
-ghost use Rattle.refine.specs.EachList.{HaveLists, FitsWatch, signed};
+ghost use Rattle.refine.specs.EachList.{HaveLists, FitsWatch};
 ghost use Rattle.refine.specs.Watching.{IsSplitOf};
 ghost use Rattle.refine.specs.declared.signed_blocks.Watch.TheVariants.{Nothing, Sources, Signatures};
 
@@ -66,19 +65,18 @@ impl SignedBlocks {
         })
     }
 
-    /// The block of each state.
-    pub fn of(&self) -> &[u32]
-        ensures of { result.now ≡ self.now.blocks.of }
-        ensures blocks { AreBlocks self.now.blocks.of self.now.blocks.count }
-    {
-        self.blocks.of()
-    }
-
     /// How many blocks there are.
     pub fn count(&self) -> u32
         ensures { result ≡ self.now.blocks.count }
     {
         self.blocks.count()
+    }
+
+    /// The blocks alone, without the memory of all else.
+    pub fn into_blocks(self) -> Blocks
+        ensures { result ≡ self.blocks }
+    {
+        self.blocks
     }
 
     /// Does nothing when it runs: its contract says what holds of the states that are looked at, and of the lists.
@@ -113,14 +111,14 @@ impl SignedBlocks {
         ensures { IfOk result (IsSplitOf self) }
     {
         let watch = self.watch;
+        let round = SignedBlocks {
+            watch: Watch::Nothing,
+            ..self
+        };
         match watch {
-            Watch::Nothing => split_all(self.alloc, self.blocks, self.lists, self.numbers),
-            Watch::Sources(sources) => {
-                split_by_sources(self.alloc, self.blocks, self.lists, self.numbers, sources)
-            }
-            Watch::Signatures(known) => {
-                split_by_signatures(self.alloc, self.blocks, self.lists, self.numbers, known)
-            }
+            Watch::Nothing => split_all(round),
+            Watch::Sources(sources) => split_by_sources(round, sources),
+            Watch::Signatures(known) => split_by_signatures(round, known),
         }
     }
 }
@@ -128,114 +126,75 @@ impl SignedBlocks {
 /// Splits the blocks. The next round looks at the same states.
 ///
 /// Fails if there is no memory for it.
-fn split_all(
-    alloc: Global,
-    blocks: Blocks,
-    lists: Lists,
-    numbers: Vec<u32>,
-) -> Result<SignedBlocks, Memory>
-    requires { HaveLists blocks.of blocks.live lists numbers.items }
-    ensures { IfOk result (IsSplitOf (signed blocks lists numbers.items Nothing)) }
+fn split_all(round: SignedBlocks) -> Result<SignedBlocks, Memory>
+    ensures { IfOk result (IsSplitOf (record round { watch = Nothing })) }
 {
-    lists.known();
-    let blocks = blocks.split(alloc, lists.len(), &numbers)?;
+    round.lists.known();
+    let blocks = round
+        .blocks
+        .split(round.alloc, round.lists.len(), &round.numbers)?;
     Ok(SignedBlocks {
-        alloc,
         blocks,
-        lists,
-        numbers,
         watch: Watch::Nothing,
+        ..round
     })
 }
 
 /// Splits the blocks. The next round looks at the states that lead to new blocks.
 ///
 /// Fails if there is no memory for it.
-fn split_by_sources(
-    alloc: Global,
-    blocks: Blocks,
-    lists: Lists,
-    numbers: Vec<u32>,
-    sources: Entering,
-) -> Result<SignedBlocks, Memory>
-    requires lists { HaveLists blocks.of blocks.live lists numbers.items }
-    requires sources { length sources ≡ length blocks.of }
-    ensures { IfOk result (IsSplitOf (signed blocks lists numbers.items (Sources sources))) }
+fn split_by_sources(round: SignedBlocks, sources: Entering) -> Result<SignedBlocks, Memory>
+    requires { length sources ≡ length round.blocks.of }
+    ensures { IfOk result (IsSplitOf (record round { watch = Sources sources })) }
 {
-    lists.known();
-    let blocks = blocks.split(alloc, lists.len(), &numbers)?;
+    round.lists.known();
+    let alloc = round.alloc;
+    let blocks = round
+        .blocks
+        .split(alloc, round.lists.len(), &round.numbers)?;
     let (sources, live) = sources.states_before(alloc, &blocks)?;
-    let watch = Watch::Sources(sources);
-    let next = look_at(alloc, blocks, live, lists, numbers, watch)?;
+    let round = SignedBlocks { blocks, ..round };
+    let next = look_at(round, live, Watch::Sources(sources))?;
     Ok(next)
 }
 
 /// Splits the blocks. The next round looks at those whose signatures are not known any more.
 ///
 /// Fails if there is no memory for it.
-fn split_by_signatures(
-    alloc: Global,
-    blocks: Blocks,
-    lists: Lists,
-    numbers: Vec<u32>,
-    known: BlockLists,
-) -> Result<SignedBlocks, Memory>
-    requires lists { HaveLists blocks.of blocks.live lists numbers.items }
-    requires states { AreLive (length blocks.of) known.states }
-    ensures { IfOk result (IsSplitOf (signed blocks lists numbers.items (Signatures known))) }
+fn split_by_signatures(round: SignedBlocks, known: BlockLists) -> Result<SignedBlocks, Memory>
+    requires { AreLive (length round.blocks.of) known.states }
+    ensures { IfOk result (IsSplitOf (record round { watch = Signatures known })) }
 {
-    lists.known();
-    let was = blocks_of(alloc, &blocks)?;
-    let blocks = blocks.split(alloc, lists.len(), &numbers)?;
-    let (known, live) = known.states_after(alloc, &was, &blocks, &lists, &numbers)?;
-    let watch = Watch::Signatures(known);
-    let next = look_at(alloc, blocks, live, lists, numbers, watch)?;
+    round.lists.known();
+    let alloc = round.alloc;
+    let (blocks, parents) = round
+        .blocks
+        .split_with_parents(alloc, round.lists.len(), &round.numbers)?;
+    let known = known.after(alloc, &parents, &blocks, &round.lists, &round.numbers)?;
+    let round = SignedBlocks { blocks, ..round };
+    // The states that this round looked at go before those of the next one are found: so both are never in memory at once.
+    let resting = look_at(round, Vec::new(alloc), Watch::Nothing)?;
+    let live = known.unknown(alloc, &resting.blocks)?;
+    let next = look_at(resting, live, Watch::Signatures(known))?;
     Ok(next)
-}
-
-/// The blocks of the states that a round looks at.
-///
-/// Fails if there is no memory for it.
-fn blocks_of(alloc: Global, blocks: &Blocks) -> Result<Vec<u32>, Memory>
-    ensures states { IfOk result (λ v. length v.items ≡ length blocks.now.live) }
-    ensures blocks { IfOk result (λ v. (i : ℕ) → i < length blocks.now.live →
-        slice_index v.items i ≡ slice_index blocks.now.of (slice_index blocks.now.live i)) }
-{
-    let of = blocks.of();
-    let live = blocks.live();
-    let mut was = Vec::with_capacity(alloc, live.len())?;
-    for i in 0..live.len() {
-        was.push(of[live[i] as usize])?;
-    }
-    Ok(was)
 }
 
 /// Looks at these states from now on. All states have the empty list then.
 ///
 /// Fails if there is no memory for it.
-fn look_at(
-    alloc: Global,
-    blocks: Blocks,
-    live: Vec<u32>,
-    lists: Lists,
-    mut numbers: Vec<u32>,
-    watch: Watch,
-) -> Result<SignedBlocks, Memory>
-    requires live { AreLive (length blocks.of) live.items }
-    requires lists { HaveLists blocks.of blocks.live lists numbers.items }
-    requires watch { FitsWatch blocks.of watch }
-    ensures blocks { IfOk result (λ r. r.blocks ≡ record blocks { live = live.items }) }
+fn look_at(mut round: SignedBlocks, live: Vec<u32>, watch: Watch) -> Result<SignedBlocks, Memory>
+    requires live { AreLive (length round.blocks.of) live.items }
+    requires watch { FitsWatch round.blocks.of watch }
+    ensures blocks { IfOk result (λ r. r.blocks ≡ record round.blocks { live = live.items }) }
     ensures watch { IfOk result (λ r. r.watch ≡ watch) }
 {
-    lists.known();
-    forget(&mut numbers, blocks.live());
-    let blocks = blocks.look_at(alloc, live)?;
+    round.lists.known();
+    forget(&mut round.numbers, round.blocks.live());
+    let blocks = round.blocks.look_at(round.alloc, live)?;
     Ok(SignedBlocks {
-        alloc,
         blocks,
-        lists,
-        numbers,
         watch,
+        ..round
     })
 }
 

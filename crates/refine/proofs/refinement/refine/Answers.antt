@@ -15,7 +15,7 @@ use Rattle.refine.proofs.Settling.{settled_first}
 use Rattle.refine.proofs.Noting.{watches_left}
 use Rattle.refine.proofs.refinement.refine.Goals as goal
 use Rattle.refine.proofs.refinement.refine.Given.{Over}
-use Rattle.refine.proofs.refinement.refine.Goals.{In_ok-before, Then-more-count, Else-more-count}
+use Rattle.refine.proofs.refinement.refine.Goals.{Then-more-count, Else-more-count}
 
 pub loop-scratch-init : goal.loop-scratch-init
 loop-scratch-init g c =
@@ -40,7 +40,8 @@ pub one-requires-clause-live : goal.one-requires-clause-live
 one-requires-clause-live g c = subst (λ n. AreLive n c.in_ok-live.live.items) (sym c.states.ensures.value) c.in_ok-live.ensures.rising
 
 pub renumber-requires : goal.renumber-requires
-renumber-requires g c = subst₂ AreBlocks (sym c.of.ensures.of) (sym c.count-more.ensures) c.of.ensures.blocks
+renumber-requires g c =
+    subst₂ AreBlocks (sym c.of.ensures.of) (ap (λ b. b.count) c.into_blocks-blocks.ensures ∙ sym c.count-more.ensures) c.of.ensures.blocks
 
 pub next_round-requires-clause-settled : goal.next_round-requires-clause-settled
 next_round-requires-clause-settled g c =
@@ -103,7 +104,7 @@ few g c =
 
 pub returns-then-more-count-clause-states : goal.returns-then-more-count-clause-states
 returns-then-more-count-clause-states g c =
-    IfOk-weaker c.renumber.result _ _ (λ q size. size ∙ ap length c.of.ensures.of ∙ c.in_ok-next.ensures.next.states)
+    IfOk-weaker c.renumber.result _ _ (λ q size. size ∙ ap length c.of.ensures.of ∙ ap (λ b. length b.of) c.into_blocks-blocks.ensures ∙ c.in_ok-next.ensures.next.states)
     c.renumber.ensures.states
 
 pub returns-then-more-count-clause-bisimilar : goal.returns-then-more-count-clause-bisimilar
@@ -111,7 +112,7 @@ returns-then-more-count-clause-bisimilar g c =
     let A = system_of c.args.l.now in
     let made = c.loop-scratch.invariant.made in
     let next = c.in_ok-next.ensures.next in
-    let value = c.of.ensures.of in
+    let value = c.of.ensures.of ∙ ap (λ b. b.of) c.into_blocks-blocks.ensures in
     let size = ap length value in
     let all =
     c.final_blocks_are_bisimilarity.ensures g.S.Signing.relation A (suc made.rounds) (slice_index c.in_ok-next.next.blocks.of)

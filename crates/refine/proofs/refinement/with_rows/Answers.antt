@@ -2,7 +2,8 @@ use Rattle.std.proofs.Common.{◌≡◌, ◌⊎◌, ◌+◌, [], ◌∷◌, ◌+
 use Rattle.std.proofs.lemmas.Bool.{cases_lt}
 use Rattle.lts.specs.Lts.{row_of}
 use Rattle.partition.specs.Blocks.{AreLive, IsOne}
-use Rattle.refine.proofs.Living.{rising_none, rising_more, rising_later, one_more, one_new, empty_row}
+use Rattle.refine.proofs.Finding.{one_stays, one_last}
+use Rattle.refine.proofs.Living.{rising_none, rising_more, rising_later, empty_row}
 use Rattle.refine.proofs.refinement.with_rows.Goals as goal
 
 pub loop-s-init : goal.loop-s-init
@@ -40,9 +41,9 @@ loop-s-preserved g c =
     record {
       rising = subst (AreLive (s + 1)) (sym is) (rising_more live s c.loop-s.invariant.rising);
       rows = λ t h. subst (λ xs. IsOne xs t ⊎ (row_of t c.args.l.now.places ≡ [])) (sym is) (elim (cases_lt t s) [
-        | inl low ↦ elim (c.loop-s.invariant.rows t low) [ inl one ↦ inl (one_more live s c.loop-s.invariant.rising t one) | inr empty ↦ inr empty ]
+        | inl low ↦ elim (c.loop-s.invariant.rows t low) [ inl one ↦ inl (one_stays live s t one) | inr empty ↦ inr empty ]
         | inr last ↦
             let here : s ≡ t = omega (arith, last, h) in
-            inl (subst (IsOne (live ++ s ∷ [])) here (one_new live s c.loop-s.invariant.rising))
+            inl (subst (IsOne (live ++ s ∷ [])) here (one_last live s))
       ]);
     }

@@ -1,4 +1,4 @@
-use Rattle.std.proofs.Common.{◌≡◌, ◌∙◌, length, ap, sym, subst, subst₂, inr, arith}
+use Rattle.std.proofs.Common.{◌≡◌, ◌∙◌, ℕ, ◌<◌, length, slice_index, ap, sym, subst, subst₂, inr, arith}
 use Rattle.std.proofs.lemmas.List.{get_or_default}
 use Rattle.partition.specs.Blocks.{HaveNone}
 use Rattle.refine.specs.EachList.{FitsWatch}
@@ -6,18 +6,20 @@ use Rattle.refine.proofs.EachList.{written_back}
 use Rattle.refine.proofs.signed_blocks.look_at.Goals as goal
 
 pub forget-requires-clause-none : goal.forget-requires-clause-none
-forget-requires-clause-none c = subst₂ HaveNone (sym c.live.ensures.live) (sym c.deref_mut.ensures.value) c.requires.lists.none
+forget-requires-clause-none c = subst₂ HaveNone (sym c.live.ensures.live) (sym c.deref_mut.ensures.value) c.round.invariant.0.none
 
 pub invariant_of-result : goal.invariant_of-result
 invariant_of-result c =
+    let r = c.round.inside in
     let q = c.in_ok-blocks.blocks in
     let numbers = c.forget.new.numbers in
+    let empty : (s : ℕ) → s < length numbers → slice_index numbers s ≡ 0 =
+    λ s h. c.forget.ensures.empty s (omega (arith, h, c.forget.ensures.states)) in
     let was = ap length c.deref_mut.ensures.value in
-    let of : q.of ≡ c.args.blocks.of = ap (λ b. b.of) c.in_ok-blocks.ensures.same in
-    let size : length numbers ≡ length q.of = c.forget.ensures.states ∙ was ∙ c.requires.lists.states ∙ sym (ap length of) in (
-      written_back q.of q.live c.args.lists numbers _ _
-          (λ k d h. omega (arith, get_or_default numbers k d 0 h, c.forget.ensures.empty k (omega (arith, h, c.forget.ensures.states)), c.known.ensures.some))
-          (λ s h. inr (c.forget.ensures.empty s (omega (arith, h, c.forget.ensures.states)))) size
+    let of : q.of ≡ r.blocks.of = ap (λ b. b.of) c.in_ok-blocks.ensures.same in
+    let size : length numbers ≡ length q.of = c.forget.ensures.states ∙ was ∙ c.round.invariant.0.states ∙ sym (ap length of) in (
+      written_back q.of q.live r.lists numbers _ _
+          (λ k d h. omega (arith, get_or_default numbers k d 0 h, empty k h, c.known.ensures.some)) (λ s h. inr (empty s h)) size
           (omega (arith, c.forget.ensures.states, c.deref_mut.ensures.len)),
-      subst (λ of. FitsWatch of c.args.watch) (sym of) c.requires.watch,
+      subst (λ of. FitsWatch of c.args.watch) (sym (of ∙ ap (λ r. r.blocks.of) c.round.view_is)) c.requires.watch,
     )

@@ -1,16 +1,21 @@
-use Rattle.std.proofs.Common.{refl}
-use Rattle.refine.proofs.EachList.{parted, lists_stay}
+use Rattle.std.proofs.Common.{◌∙◌, ap, refl, subst}
+use Rattle.partition.specs.Splitting.{Splits}
+use Rattle.refine.specs.EachList.{list_of}
+use Rattle.refine.specs.declared.signed_blocks.Watch.TheVariants.{Nothing}
+use Rattle.refine.proofs.EachList.{parted, split_fits}
 use Rattle.refine.proofs.signed_blocks.split_all.Goals as goal
 
 pub invariant_of-result : goal.invariant_of-result
-invariant_of-result c = (lists_stay c.in_ok-blocks.ensures.splits.states c.in_ok-blocks.ensures.live c.requires, tt)
+invariant_of-result c = split_fits _ _ _ _ _ Nothing c.in_ok-blocks.ensures (c.round.invariant.0, tt)
 
 pub returns : goal.returns
 returns c =
-    let p = c.args.blocks in
+    let r = c.round.inside in
     let q = c.in_ok-blocks.blocks in
+    let next = c.in_ok-blocks.ensures in
+    let splits = parted r.lists r.numbers.items _ r.blocks q c.known.ensures c.round.invariant.0 c.deref.ensures.value next in
     record {
-      splits = parted c.args.lists c.args.numbers.items c.deref.result.now p.of p.count p.live q.of q.count c.known.ensures c.requires c.deref.ensures.value c.in_ok-blocks.ensures.splits;
-      low = c.in_ok-blocks.ensures.low;
-      watches = (refl, c.in_ok-blocks.ensures.live);
+      splits = subst (λ r. Splits r.blocks.of r.blocks.count (list_of r.lists r.numbers) q.of q.count) c.round.view_is splits;
+      low = next.low ∙ ap (λ r. r.blocks.count) c.round.view_is;
+      watches = (refl, next.live ∙ ap (λ r. r.blocks.live) c.round.view_is);
     }

@@ -4,23 +4,25 @@ use Rattle.partition.specs.Splitting.{Splits}
 use Rattle.refine.specs.EachList.{list_of}
 use Rattle.refine.specs.Noting.{LooksAtSources}
 use Rattle.refine.specs.declared.signed_blocks.Watch.TheVariants.{Sources}
-use Rattle.refine.proofs.EachList.{parted, lists_stay}
+use Rattle.refine.proofs.EachList.{parted, split_fits}
 use Rattle.refine.proofs.signed_blocks.split_by_sources.Goals as goal
 
-pub look_at-requires-clause-lists : goal.look_at-requires-clause-lists
-look_at-requires-clause-lists c = lists_stay c.in_ok-blocks.ensures.splits.states c.in_ok-blocks.ensures.live c.requires.lists
+pub invariant_of-round : goal.invariant_of-round
+invariant_of-round c = split_fits _ _ _ _ _ c.round.inside.watch c.in_ok-blocks.ensures c.round.invariant
 
 pub returns : goal.returns
 returns c =
-    let p = c.args.blocks in
+    let r = c.round.inside in
+    let p = r.blocks in
     let b = c.in_ok-blocks.blocks in
     let q = c.in_ok-next.next.blocks in
     let is = c.in_ok-next.ensures.blocks in
     let next = c.in_ok-blocks.ensures in
+    let splits = parted r.lists r.numbers.items _ p b c.known.ensures c.round.invariant.0 c.deref.ensures.value next in
     record {
-      splits = subst (λ r. Splits p.of p.count (list_of c.args.lists c.args.numbers.items) r.of r.count) (sym is)
-          (parted c.args.lists c.args.numbers.items c.deref.result.now p.of p.count p.live b.of b.count c.known.ensures c.requires.lists c.deref.ensures.value next.splits);
-      low = ap (λ r. r.low) is ∙ next.low;
+      splits = subst (λ r. Splits r.blocks.of r.blocks.count (list_of r.lists r.numbers) q.of q.count) c.round.view_is
+          (subst (λ q. Splits p.of p.count (list_of r.lists r.numbers.items) q.of q.count) (sym is) splits);
+      low = ap (λ q. q.low) is ∙ next.low ∙ ap (λ r. r.blocks.count) c.round.view_is;
       watches = (
         c.in_ok-next.ensures.watch ∙ ap (λ x. Sources x) c.in_ok-sources.ensures.same,
         subst (LooksAtSources c.args.sources) (sym is) (λ t below new. elim (next.others t (omega (arith, below, next.splits.states))) [

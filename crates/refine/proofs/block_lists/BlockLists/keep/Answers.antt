@@ -1,8 +1,8 @@
-use Rattle.std.proofs.Common.{◌≡◌, ◌∙◌, ◌<◌, length, set, slice_index, ap, sym, subst, subst₂, inr, arith}
+use Rattle.std.proofs.Common.{◌≡◌, true, ◌∙◌, ◌<◌, length, set, slice_index, ap, sym, subst, subst₂, inr, arith}
 use Rattle.std.proofs.lemmas.List.{length-set}
 use Rattle.lists.specs.Lists.{AreNumbers}
 use Rattle.refine.specs.EachList.{list_of}
-use Rattle.refine.specs.BlockLists.{IsFrom}
+use Rattle.refine.specs.BlockLists.{IsFrom, ShowsUnchanged}
 use Rattle.refine.proofs.BlockLists.{AllKnown, known_more}
 use Rattle.refine.proofs.block_lists.BlockLists.keep.Goals as goal
 
@@ -25,12 +25,17 @@ loop-i-preserved c =
     omega (arith, has, c.of-of.ensures.blocks.below s (subst (λ x. x < length of) here (c.live-live.ensures.rising.below i more)), c.loop-i.invariant.size) in
     let each : AreNumbers old.lists old.numbers = subst (λ x. AreNumbers x.lists x.numbers) c.self.view_is c.self.invariant.each in
     let numbers = ap (λ x. x.numbers) after.view_is ∙ done.same.1 in
+    let lists = ap (λ x. x.lists) after.view_is in
     record {
       states = ap (λ x. x.states) after.view_is ∙ done.same.0 ∙ c.loop-i.invariant.states;
       size = omega (arith, length-set after.inside.numbers.items block k, ap length numbers, c.loop-i.invariant.size);
+      tried = omega (arith, c.loop-i.invariant.tried, length-set c.loop-i.tried.items block true);
       from =
           subst₂ (λ ls ns. AllKnown (IsFrom live of (list_of c.args.lists.now c.args.numbers.now) c.args.self.now) ls (set ns block k))
-          (sym (ap (λ x. x.lists) after.view_is)) (sym numbers)
+          (sym lists) (sym numbers)
           (known_more (IsFrom live of (list_of c.args.lists.now c.args.numbers.now) c.args.self.now) old.lists new.lists old.numbers block k done.grow each low
           (λ known. inr (s, (i, more, here), has, done.list known)) c.loop-i.invariant.from);
+      unchanged =
+          subst₂ (λ ls ns. AllKnown (ShowsUnchanged c.args.changed.now) ls (set ns block k)) (sym lists) (sym numbers)
+          (known_more (ShowsUnchanged c.args.changed.now) old.lists new.lists old.numbers block k done.grow each low (λ known. (c.is_unchanged.ensures.0 c.if-not-is_unchanged.false, done.show known)) c.loop-i.invariant.unchanged);
     }
