@@ -18,13 +18,23 @@ use std::alloc::Global;
 use std::marker::Model;
 
 /// Different lists of pairs in strictly rising order. The list number `EMPTY` is the empty one.
-#[derive(Drop)]
 pub(crate) struct Distinct {
     nodes: Nodes,
     /// The fingerprint of each list.
     sums: Vec<u64>,
     /// The number of each list under its tag.
     buckets: Buckets,
+}
+
+/// Written out, so that it is dropped by one call and not by one for each part.
+impl Drop for Distinct {
+    fn drop(self) {
+        let Distinct {
+            nodes: _,
+            sums: _,
+            buckets: _,
+        } = self;
+    }
 }
 
 impl Model for Distinct {

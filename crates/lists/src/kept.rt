@@ -35,11 +35,17 @@ fn first_slot() -> Slot
 }
 
 /// For each list its base and the pairs beside it.
-#[derive(Drop)]
 pub(crate) struct Kept {
     /// The pairs of all lists, one after the other.
     pairs: Vec<(u32, u32)>,
     slots: Vec<Slot>,
+}
+
+/// Written out, so that it is dropped by one call and not by one for each part.
+impl Drop for Kept {
+    fn drop(self) {
+        let Kept { pairs: _, slots: _ } = self;
+    }
 }
 
 impl Model for Kept {

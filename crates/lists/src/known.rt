@@ -34,11 +34,20 @@ fn no_union() -> Union
 }
 
 /// Unions, each at a place that its two lists decide: a later one takes the place of an earlier one.
-#[derive(Drop)]
 pub(crate) struct Known {
     unions: Vec<Union>,
     /// How many unions were noted.
     noted: usize,
+}
+
+/// Written out, so that it is dropped by one call and not by one for each part.
+impl Drop for Known {
+    fn drop(self) {
+        let Known {
+            unions: _,
+            noted: _,
+        } = self;
+    }
 }
 
 impl Model for Known {

@@ -20,7 +20,6 @@ use std::marker::Model;
 
 /// Different lists of pairs in strictly rising order, so that equal lists have equal numbers. The list number `EMPTY` is the
 /// empty one.
-#[derive(Drop)]
 pub struct Lists {
     /// The bases, which are lists themselves.
     trie: Distinct,
@@ -31,6 +30,19 @@ pub struct Lists {
     /// How each list is found.
     buckets: Buckets,
     scratch: Scratch,
+}
+
+/// Written out, so that it is dropped by one call and not by one for each part.
+impl Drop for Lists {
+    fn drop(self) {
+        let Lists {
+            trie: _,
+            known: _,
+            kept: _,
+            buckets: _,
+            scratch: _,
+        } = self;
+    }
 }
 
 impl Model for Lists {

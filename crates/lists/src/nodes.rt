@@ -43,12 +43,18 @@ pub(crate) enum Shape<'a> {
 
 /// Lists of pairs in strictly rising order, each under the number that a push returned for it. The list number `EMPTY` is the
 /// empty one.
-#[derive(Drop)]
 pub(crate) struct Nodes {
     /// The lists that are kept as they are, one after the other.
     pairs: Vec<(u32, u32)>,
     /// How each list is kept.
     nodes: Vec<Node>,
+}
+
+/// Written out, so that it is dropped by one call and not by one for each part.
+impl Drop for Nodes {
+    fn drop(self) {
+        let Nodes { pairs: _, nodes: _ } = self;
+    }
 }
 
 impl Model for Nodes {

@@ -160,12 +160,22 @@ pub(crate) fn with(
 }
 
 /// What unions are put together in.
-#[derive(Drop)]
 pub(crate) struct Scratch {
     pub held: Vec<(u32, u32)>,
     pub merged: Vec<(u32, u32)>,
     /// Marks that pairs are put in order by.
     pub marks: Vec<u64>,
+}
+
+/// Written out, so that it is dropped by one call and not by one for each part.
+impl Drop for Scratch {
+    fn drop(self) {
+        let Scratch {
+            held: _,
+            merged: _,
+            marks: _,
+        } = self;
+    }
 }
 
 /// The number of the list that has the pairs of the list number `few` and those of the list number `k`: the first one is read
