@@ -1,160 +1,186 @@
--- States that are taken out of the sizes of their blocks, and the lists that keep the numbers of these.
-use Rattle.std.proofs.Common.{◌≡◌, ◌∙◌, ◌⊎◌, ℕ, ◌+◌, ◌-◌, ◌<◌, List, length, slice_index, set, replicate, ap, sym, refl, inl, inr, arith}
-use Rattle.std.proofs.lemmas.Bool.{cases_eq}
-use Rattle.std.proofs.lemmas.List.{length-set, length-replicate, get_or-replicate, get_or-set_same, get_or-set_other}
-use Rattle.partition.specs.Partition.{AreBlocks}
-use Rattle.partition.specs.Sizes.{AreSizes, AreOut, AreSizesWithout, block_size}
+-- Which list keeps the number of a block, once all lists have voted: the empty one, if the block has states that are not looked at.
+use Rattle.std.proofs.Common.{◌≡◌, ◌∙◌, ◌⊎◌, ℕ, suc, ◌+◌, ◌*◌, ◌<◌, ◌≤◌, List, length, slice_index, set, replicate, ap, sym, subst, refl, inl, inr, arith}
+use Rattle.std.proofs.lemmas.Bool.{cases_lt, cases_eq}
+use Rattle.std.proofs.lemmas.List.{length-set, length-replicate, get_or_past, get_or-replicate, get_or-set_same, get_or-set_other}
+use Rattle.partition.specs.Sizes.{AreSizesWithout, block_size}
 use Rattle.partition.specs.Blocks.{AreLive, HaveNone, IsOne}
-use Rattle.partition.specs.Representatives.{AreKeepers, HaveKeepers}
-use Rattle.partition.proofs.Counting.{one, one_other, fewer, fewer_at, some_below, block_size-set, block_size-some, block_size-find}
+use Rattle.partition.specs.Representatives.{HasKeeper, HaveVoted, AreKeepers, HaveKeepers}
+use Rattle.partition.proofs.Counting.{block_size-some}
+use Rattle.partition.proofs.Taking.{left_over}
+use Rattle.partition.specs.Halving.{PartSmall, BoundVotes, ballots, votes_for}
+use Rattle.partition.proofs.Voting.{block_size-within, length-ballots, ballot_of}
+use Rattle.partition.proofs.Keeping.{IsMet}
 
--- one of the first i states that are looked at has the block of t and its keeper
-abbrev pub IsKeptBy : List ℕ → List ℕ → List ℕ → ℕ → List ℕ → ℕ → Type 0
-IsKeptBy of numbers live i keepers t =
-    (j : ℕ) × (j < i) × (slice_index of (slice_index live j) ≡ slice_index of t)
-    × (slice_index numbers (slice_index live j) ≡ slice_index keepers (slice_index of t))
+-- what keeps the number of the block b: the empty list if there are others, or else the list that was voted for
+abbrev pub IsDecided : List ℕ → List ℕ → List ℕ → List ℕ → ℕ → Type 0
+IsDecided sizes voted first keepers b =
+    ((slice_index keepers b ≡ 0) × (0 < slice_index sizes b) × ((slice_index voted b ≡ 0) ⊎ (slice_index first b ≤ slice_index sizes b)))
+    ⊎ ((slice_index keepers b ≡ slice_index voted b) × (slice_index sizes b ≡ 0))
 
--- the block of t has states that were not taken out, and its keeper is the empty list; or all were, and one of them has its keeper
-abbrev pub FilledOrNot : List ℕ → List ℕ → List ℕ → ℕ → List ℕ → List ℕ → ℕ → Type 0
-FilledOrNot of numbers live i sizes keepers t =
-    ((slice_index keepers (slice_index of t) ≡ 0) × (0 < slice_index sizes (slice_index of t)))
-    ⊎ (IsKeptBy of numbers live i keepers t × (slice_index sizes (slice_index of t) ≡ 0))
+-- so far for the blocks of the first i states that are looked at, by keepers that agree with those of these blocks
+pub record DecidedUpTo (of live : List ℕ) (i : ℕ) (sizes voted first keepers votes all : List ℕ) : Type 0 where
+  pub room : length keepers ≡ length sizes
+  pub votes_room : length votes ≡ length sizes
+  pub all_room : length all ≡ length sizes
+  pub same : (b : ℕ) → slice_index sizes b ≡ 0 → slice_index keepers b ≡ slice_index voted b
+  pub agree : (j : ℕ) → j < i → let b = slice_index of (slice_index live j) in slice_index keepers b ≡ slice_index all b
+  pub decided : (j : ℕ) → j < i → IsDecided sizes voted first keepers (slice_index of (slice_index live j))
+  pub unmet : (b : ℕ) → (slice_index all b ≡ 0) ⊎ IsMet of live i b
+  pub none : (j : ℕ) → j < i → slice_index votes (slice_index of (slice_index live j)) ≡ 0
+  pub fewer : (b : ℕ) → slice_index first b ≡ 0 → slice_index votes b ≡ 0
+  pub fresh : (b : ℕ) → ((slice_index keepers b ≡ slice_index voted b) × (slice_index votes b ≡ slice_index first b)) ⊎ IsMet of live i b
+  pub stays : (b : ℕ) → (slice_index keepers b ≡ slice_index voted b) ⊎ (slice_index keepers b ≡ 0)
 
--- after the first i states: it is so for each block, by keepers that agree with those of the blocks met so far
-pub record TakenUpTo (of numbers live : List ℕ) (i : ℕ) (sizes keepers all : List ℕ) : Type 0 where
-  pub room : (t : ℕ) → t < length of → slice_index of t < length keepers
-  pub room_all : (t : ℕ) → t < length of → slice_index of t < length all
-  pub out : AreSizesWithout of live 0 i sizes
-  pub each : (t : ℕ) → t < length of → FilledOrNot of numbers live i sizes all t
-  pub same : (j : ℕ) → j < i → slice_index keepers (slice_index of (slice_index live j)) ≡ slice_index all (slice_index of (slice_index live j))
+zeros_at : (n b : ℕ) → slice_index (replicate n 0) b ≡ 0
+zeros_at n b = elim (cases_lt b n) [
+  | inl low ↦ get_or-replicate n b 0 0 low
+  | inr high ↦ get_or_past (replicate n 0) b 0 (omega (arith, high, length-replicate {A = ℕ} n 0))
+]
 
--- before any state is taken out
-pub TakenUpTo-none : (of numbers live sizes keepers : List ℕ) (count : ℕ) → AreBlocks of count → AreSizes of count sizes → length keepers ≡ count
-    → TakenUpTo of numbers live 0 sizes keepers (replicate count 0)
-TakenUpTo-none of numbers live sizes keepers count are sizes_are size = record {
-  room = λ t h. omega (arith, are.below t h, size);
-  room_all = λ t h. omega (arith, are.below t h, length-replicate {A = ℕ} count 0);
-  out = (of, record { states = refl; each = λ t h. inl refl; gone = λ j low h. absurd (omega arith); left = λ b h. sizes_are.each b });
-  each = λ t h. inl (get_or-replicate count (slice_index of t) 0 0 (are.below t h), omega (arith, sizes_are.each (slice_index of t), block_size-some of t h));
-  same = λ j h. absurd (omega arith);
+pub DecidedUpTo-none : (of live sizes voted first : List ℕ) → length voted ≡ length sizes → length first ≡ length sizes
+    → DecidedUpTo of live 0 sizes voted first voted first (replicate (length sizes) 0)
+DecidedUpTo-none of live sizes voted first room votes_room = record {
+  room = room;
+  votes_room = votes_room;
+  all_room = length-replicate {A = ℕ} (length sizes) 0;
+  same = λ b h. refl;
+  agree = λ j h. absurd (omega (arith, h));
+  decided = λ j h. absurd (omega (arith, h));
+  unmet = λ b. inl (zeros_at (length sizes) b);
+  none = λ j h. absurd (omega (arith, h));
+  fewer = λ b h. h;
+  fresh = λ b. inl (refl, refl);
+  stays = λ b. inl refl;
 }
 
-module _ (of numbers live : List ℕ) (i : ℕ) (sizes keepers all : List ℕ) (rises : AreLive (length of) live) (below : (t : ℕ) → t < length of → slice_index of t < length of)
-    (more_live : i < length live) (up : TakenUpTo of numbers live i sizes keepers all) where
-  abbrev s : ℕ
-  s = slice_index live i
-
+module _ (of live : List ℕ) (i : ℕ) (sizes voted first keepers votes all : List ℕ) (below : slice_index of (slice_index live i) < length sizes)
+    (up : DecidedUpTo of live i sizes voted first keepers votes all) where
   abbrev b : ℕ
-  b = slice_index of s
+  b = slice_index of (slice_index live i)
 
-  abbrev rest : List ℕ
-  rest = up.out.0
+  abbrev block_at : ℕ → ℕ
+  block_at j = slice_index of (slice_index live j)
 
-  abbrev sizes' : List ℕ
-  sizes' = fewer sizes b
+  pub earlier_place : (j : ℕ) → j < i + 1 → ¬ (block_at j ≡ b) → j < i
+  earlier_place j h d = elim (cases_lt j i) [
+    | inl low ↦ low
+    | inr high ↦ let here : j ≡ i = omega (arith, h, high) in absurd (d (ap block_at here))
+  ]
 
-  inside : s < length of
-  inside = rises.below i more_live
-
-  -- the state in place i is not out before
-  still : slice_index rest s ≡ b
-  still = elim (up.out.1.each s inside) [ inl e ↦ e | inr w ↦ absurd (omega (arith, rises.rising w.0 i w.2 more_live, w.3)) ]
-
-  pub had : 0 < slice_index sizes b
-  had = omega (arith, up.out.1.left b (below s inside), block_size-some rest s (omega (arith, inside, up.out.1.states)), ap (block_size rest) still)
-
-  pub had_room : b < length sizes
-  had_room = some_below sizes b had
-
-  out_more : AreOut of live 0 (i + 1) sizes' (set rest s (length of))
-  out_more =
-      let out = up.out.1 in
-      let here : s < length rest = omega (arith, inside, out.states) in
+  -- the next block has the keeper x, which is the empty list if it has others, and else what it was
+  DecidedUpTo-more : (x : ℕ) (keepers' : List ℕ) → ((x ≡ 0) × (0 < slice_index sizes b) × ((slice_index voted b ≡ 0) ⊎ (slice_index first b ≤ slice_index sizes b))) ⊎ ((x ≡ slice_index keepers b) × (slice_index sizes b ≡ 0))
+      → length keepers' ≡ length keepers → slice_index keepers' b ≡ x → ((k : ℕ) → ¬ (k ≡ b) → slice_index keepers' k ≡ slice_index keepers k)
+      → DecidedUpTo of live (i + 1) sizes voted first keepers' (set votes b 0) (set all b x)
+  DecidedUpTo-more x keepers' either size now rest =
+      let now_all = get_or-set_same all b x 0 (omega (arith, below, up.all_room)) in
+      let now_votes = get_or-set_same votes b 0 0 (omega (arith, below, up.votes_room)) in
       record {
-        states = length-set rest s (length of) ∙ out.states;
-        each = λ t h. elim (cases_eq t s) [
-          | inl e ↦ inr (i, omega arith, omega arith, sym e)
-          | inr d ↦ elim (out.each t h) [
-            | inl same ↦ inl (get_or-set_other rest s t (length of) 0 d ∙ same)
-            | inr w ↦ inr (w.0, w.1, omega (arith, w.2), w.3)
+        room = size ∙ up.room;
+        votes_room = length-set votes b 0 ∙ up.votes_room;
+        all_room = length-set all b x ∙ up.all_room;
+        same = λ k h. elim (cases_eq k b) [
+          | inl e ↦ elim either [
+            | inl y ↦ absurd (omega (arith, y.1, ap (slice_index sizes) e, h))
+            | inr y ↦ ap (slice_index keepers') e ∙ now ∙ y.0 ∙ ap (slice_index keepers) (sym e) ∙ up.same k h
           ]
+          | inr d ↦ rest k d ∙ up.same k h
         ];
-        gone = λ j low h. elim (cases_eq (slice_index live j) s) [
-          | inl e ↦ ap (slice_index (set rest s (length of))) e ∙ get_or-set_same rest s (length of) 0 here
-          | inr d ↦ elim (cases_eq j i) [
-            | inl last ↦ absurd (d (ap (slice_index live) last))
-            | inr before ↦ get_or-set_other rest s (slice_index live j) (length of) 0 d ∙ out.gone j low (omega (arith, before, h))
-          ]
+        agree = λ j h. elim (cases_eq (block_at j) b) [
+          | inl e ↦ ap (slice_index keepers') e ∙ now ∙ sym (ap (slice_index (set all b x)) e ∙ now_all)
+          | inr d ↦ rest (block_at j) d ∙ up.agree j (earlier_place j h d) ∙ sym (get_or-set_other all b (block_at j) x 0 d)
         ];
-        left = λ k h.
-            let gone = one_other k (length of) (λ e. omega (arith, e, h)) in
-            omega (arith, fewer_at sizes b k had, block_size-set rest k s (length of) here, ap (one k) still, gone, out.left k h);
-      }
-
-  -- what is known of another block stays
-  part_other : (x t : ℕ) → ¬ (slice_index of t ≡ b) → FilledOrNot of numbers live i sizes all t → FilledOrNot of numbers live (i + 1) sizes' (set all b x) t
-  part_other x t d p =
-      let same = get_or-set_other all b (slice_index of t) x 0 d in
-      let size = get_or-set_other sizes b (slice_index of t) (slice_index sizes b - 1) 0 d in
-      elim p [
-        | inl y ↦ inl (same ∙ y.0, omega (arith, y.1, size))
-        | inr y ↦ inr ((y.0.0, omega (arith, y.0.1), y.0.2, y.0.3 ∙ sym same), size ∙ y.1)
-      ]
-
-  -- the state in place i is taken out: if it was the last one, its list keeps the number
-  pub TakenUpTo-more : (x : ℕ) → ((x ≡ slice_index numbers s) × (slice_index sizes' b ≡ 0)) ⊎ ((x ≡ 0) × (0 < slice_index sizes' b))
-      → TakenUpTo of numbers live (i + 1) sizes' (set keepers b x) (set all b x)
-  TakenUpTo-more x either =
-      let now = get_or-set_same all b x 0 (up.room_all s inside) in
-      record {
-        room = λ t h. omega (arith, up.room t h, length-set keepers b x);
-        room_all = λ t h. omega (arith, up.room_all t h, length-set all b x);
-        out = (set rest s (length of), out_more);
-        each = λ t h. elim (cases_eq (slice_index of t) b) [
+        decided = λ j h. elim (cases_eq (block_at j) b) [
           | inl e ↦
-              let here = ap (slice_index (set all b x)) e ∙ now in
-              let size = ap (slice_index sizes') e in
+              let here = ap (slice_index keepers') e ∙ now in
+              let size = ap (slice_index sizes) e in
               elim either [
-                | inl y ↦ inr ((i, omega arith, sym e, sym y.0 ∙ sym here), size ∙ y.1)
-                | inr y ↦ inl (here ∙ y.0, omega (arith, y.1, size))
+                | inl y ↦ inl (here ∙ y.0, omega (arith, y.1, size), subst (λ k. (slice_index voted k ≡ 0) ⊎ (slice_index first k ≤ slice_index sizes k)) (sym e) y.2)
+                | inr y ↦ inr (here ∙ y.0 ∙ up.same b y.1 ∙ ap (slice_index voted) (sym e), size ∙ y.1)
               ]
-          | inr d ↦ part_other x t d (up.each t h)
+          | inr d ↦
+              let was = rest (block_at j) d in
+              elim (up.decided j (earlier_place j h d)) [ inl y ↦ inl (was ∙ y.0, y.1, y.2) | inr y ↦ inr (was ∙ y.0, y.1) ]
         ];
-        same = λ j h. elim (cases_eq (slice_index of (slice_index live j)) b) [
-          | inl e ↦ ap (slice_index (set keepers b x)) e ∙ get_or-set_same keepers b x 0 (up.room s inside) ∙ sym (ap (slice_index (set all b x)) e ∙ now)
-          | inr d ↦ elim (cases_eq j i) [
-            | inl last ↦ absurd (d (ap (λ j. slice_index of (slice_index live j)) last))
-            | inr before ↦
-                let k = slice_index of (slice_index live j) in
-                get_or-set_other keepers b k x 0 d ∙ up.same j (omega (arith, before, h)) ∙ sym (get_or-set_other all b k x 0 d)
+        unmet = λ k. elim (cases_eq k b) [
+          | inl e ↦ inr (i, omega arith, sym e)
+          | inr d ↦ elim (up.unmet k) [ inl none ↦ inl (get_or-set_other all b k x 0 d ∙ none) | inr m ↦ inr (m.0, omega (arith, m.1), m.2) ]
+        ];
+        none = λ j h. elim (cases_eq (block_at j) b) [
+          | inl e ↦ ap (slice_index (set votes b 0)) e ∙ now_votes
+          | inr d ↦ get_or-set_other votes b (block_at j) 0 0 d ∙ up.none j (earlier_place j h d)
+        ];
+        fewer = λ k h. elim (cases_eq k b) [
+          | inl e ↦ ap (slice_index (set votes b 0)) e ∙ now_votes
+          | inr d ↦ get_or-set_other votes b k 0 0 d ∙ up.fewer k h
+        ];
+        fresh = λ k. elim (cases_eq k b) [
+          | inl e ↦ inr (i, omega arith, sym e)
+          | inr d ↦ elim (up.fresh k) [
+            | inl y ↦ inl (rest k d ∙ y.0, get_or-set_other votes b k 0 0 d ∙ y.1)
+            | inr m ↦ inr (m.0, omega (arith, m.1), m.2)
           ]
+        ];
+        stays = λ k. elim (cases_eq k b) [
+          | inl e ↦
+              let here = ap (slice_index keepers') e ∙ now in
+              elim either [
+                | inl y ↦ inr (here ∙ y.0)
+                | inr y ↦ inl (here ∙ y.0 ∙ up.same b y.1 ∙ ap (slice_index voted) (sym e))
+              ]
+          | inr d ↦ elim (up.stays k) [ inl same ↦ inl (rest k d ∙ same) | inr none ↦ inr (rest k d ∙ none) ]
         ];
       }
 
--- when all that are looked at are out
-module _ (of numbers live sizes keepers all : List ℕ) (below : (t : ℕ) → t < length of → slice_index of t < length of) (rises : AreLive (length of) live)
-    (zeros : HaveNone live numbers) (size : length numbers ≡ length of) (up : TakenUpTo of numbers live (length live) sizes keepers all) where
+  -- it has others
+  have_won : 0 < slice_index sizes b → (slice_index keepers b ≡ 0) ⊎ (slice_index votes b ≤ slice_index sizes b)
+      → (slice_index voted b ≡ 0) ⊎ (slice_index first b ≤ slice_index sizes b)
+  have_won some win = elim (up.fresh b) [
+    | inl y ↦ elim win [ inl none ↦ inl (sym y.0 ∙ none) | inr few ↦ inr (omega (arith, few, y.1)) ]
+    | inr m ↦ elim (up.decided m.0 m.1) [
+      | inl y ↦ subst (λ k. (slice_index voted k ≡ 0) ⊎ (slice_index first k ≤ slice_index sizes k)) m.2 y.2
+      | inr y ↦ absurd (omega (arith, y.1, ap (slice_index sizes) m.2, some))
+    ]
+  ]
+
+  pub DecidedUpTo-others : 0 < slice_index sizes b → (slice_index keepers b ≡ 0) ⊎ (slice_index votes b ≤ slice_index sizes b)
+      → DecidedUpTo of live (i + 1) sizes voted first (set keepers b 0) (set votes b 0) (set all b 0)
+  DecidedUpTo-others some win =
+      DecidedUpTo-more 0 (set keepers b 0) (inl (refl, some, have_won some win)) (length-set keepers b 0) (get_or-set_same keepers b 0 0 (omega (arith, below, up.room)))
+      (λ k d. get_or-set_other keepers b k 0 0 d)
+
+  -- or none
+  pub DecidedUpTo-voted : slice_index sizes b ≡ 0 → DecidedUpTo of live (i + 1) sizes voted first keepers (set votes b 0) (set all b (slice_index keepers b))
+  DecidedUpTo-voted none = DecidedUpTo-more (slice_index keepers b) keepers (inr (refl, none)) refl refl (λ k d. refl)
+
+-- when all blocks that are looked at are decided
+module _ (of numbers live sizes voted first keepers votes all : List ℕ) (below : (t : ℕ) → t < length of → slice_index of t < length of)
+    (inside : (t : ℕ) → t < length of → slice_index of t < length sizes) (rises : AreLive (length of) live)
+    (zeros : HaveNone live numbers) (size : length numbers ≡ length of) (without : AreSizesWithout of live 0 (length live) sizes)
+    (has : HaveVoted of numbers live voted first) (up : DecidedUpTo of live (length live) sizes voted first keepers votes all) where
   abbrev left : List ℕ
-  left = up.out.0
+  left = without.0
 
   -- a block that has more states has one with the empty list
-  unmet : (t : ℕ) → t < length of → 0 < slice_index sizes (slice_index of t)
+  others : (t : ℕ) → t < length of → 0 < slice_index sizes (slice_index of t)
       → (u : ℕ) × (u < length of) × (slice_index of u ≡ slice_index of t) × (slice_index numbers u ≡ 0)
-  unmet t h some =
-      let out = up.out.1 in
-      let w = block_size-find left (slice_index of t) (omega (arith, some, out.left (slice_index of t) (below t h))) in
-      let u_in : w.0 < length of = omega (arith, w.1, out.states) in
-      let looked : ¬ IsOne live w.0 = λ one. omega (arith, ap (slice_index left) one.2, out.gone one.0 (omega arith) one.1, w.2, below t h) in (
-        w.0,
-        u_in,
-        elim (out.each w.0 u_in) [ inl e ↦ sym e ∙ w.2 | inr m ↦ absurd (looked (m.0, m.2, m.3)) ],
-        elim (zeros w.0 (omega (arith, u_in, size))) [ inl one ↦ absurd (looked one) | inr zero ↦ zero ],
-      )
+  others t h some =
+      let u = left_over of live sizes t below h without some in
+      (u.0, u.1, u.2, elim (zeros u.0 (omega (arith, u.1, size))) [ inl one ↦ absurd (u.3 one) | inr zero ↦ zero ])
 
-  -- if all are out, they are looked at
+  -- the others have a keeper with the empty list
+  others_keep : (b : ℕ) → 0 < slice_index sizes b → slice_index all b ≡ 0
+  others_keep b some = elim (up.unmet b) [
+    | inl none ↦ none
+    | inr m ↦ elim (up.decided m.0 m.1) [
+      | inl y ↦ ap (slice_index all) (sym m.2) ∙ sym (up.agree m.0 m.1) ∙ y.0
+      | inr y ↦ absurd (omega (arith, y.1, ap (slice_index sizes) m.2, some))
+    ]
+  ]
+
+  -- if no others are left, all are looked at
   all_met : (t : ℕ) → t < length of → slice_index sizes (slice_index of t) ≡ 0 → IsOne live t
   all_met t h none =
-      let out = up.out.1 in
+      let out = without.1 in
       elim (out.each t h) [
         | inr w ↦ (w.0, w.2, w.3)
         | inl e ↦
@@ -162,21 +188,84 @@ module _ (of numbers live sizes keepers all : List ℕ) (below : (t : ℕ) → t
             absurd (omega (arith, some, ap (block_size left) e, out.left (slice_index of t) (below t h), none))
       ]
 
+  -- and one of them has the list that was voted for
+  voted_keep : (t : ℕ) → t < length of → slice_index sizes (slice_index of t) ≡ 0 → HasKeeper of numbers all t
+  voted_keep t h none =
+      let one = all_met t h none in
+      let here = ap (slice_index of) one.2 in
+      let w = has.kept one.0 one.1 in
+      let same = ap (slice_index of) (sym one.2) in
+      let voted_all : slice_index voted (slice_index of w.0) ≡ slice_index all (slice_index of w.0) =
+      sym (up.same (slice_index of w.0) (ap (slice_index sizes) (w.2 ∙ here) ∙ none)) ∙ ap (slice_index keepers) w.2 ∙ up.agree one.0 one.1 ∙ ap (slice_index all) (sym w.2) in
+      (w.0, w.1, w.2 ∙ here, w.3 ∙ voted_all)
+
   keepers_all : AreKeepers of numbers live all
   keepers_all = record {
-    room = up.room_all;
-    keeps = λ t h. elim (up.each t h) [
-      | inl x ↦ let u = unmet t h x.1 in (u.0, u.1, u.2, u.3 ∙ sym x.0 ∙ ap (slice_index all) (sym u.2))
-      | inr x ↦ (slice_index live x.0.0, rises.below x.0.0 x.0.1, x.0.2, x.0.3 ∙ ap (slice_index all) (sym x.0.2))
+    room = λ t h. omega (arith, inside t h, up.all_room);
+    keeps = λ t h. elim (cases_lt 0 (slice_index sizes (slice_index of t))) [
+      | inl some ↦
+          let u = others t h some in
+          (u.0, u.1, u.2, u.3 ∙ sym (ap (slice_index all) u.2 ∙ others_keep (slice_index of t) some))
+      | inr none ↦ voted_keep t h (omega (arith, none))
     ];
     rest = λ t h. elim (zeros t (omega (arith, h, size))) [
       | inl one ↦ inl one
-      | inr zero ↦ elim (up.each t h) [
-        | inl x ↦ inr (zero ∙ sym x.0)
-        | inr x ↦ inl (all_met t h x.1)
+      | inr zero ↦ elim (cases_lt 0 (slice_index sizes (slice_index of t))) [
+        | inl some ↦ inr (zero ∙ sym (others_keep (slice_index of t) some))
+        | inr none ↦ inl (all_met t h (omega (arith, none)))
       ]
     ];
   }
 
-  pub keepers_taken : HaveKeepers of numbers live keepers
-  keepers_taken = record { room = λ i h. up.room _ (rises.below i h); same = (all, keepers_all, up.same) }
+  pub keepers_decided : HaveKeepers of numbers live keepers
+  keepers_decided = record { room = λ i h. omega (arith, inside _ (rises.below i h), up.room); same = (all, keepers_all, up.agree) }
+
+  -- no votes are left
+  pub none_left : (b : ℕ) → slice_index votes b ≡ 0
+  none_left b = elim (has.met b) [
+    | inl none ↦ up.fewer b none
+    | inr m ↦ ap (slice_index votes) (sym m.2) ∙ up.none m.0 m.1
+  ]
+
+  module _ (bound : BoundVotes of numbers live (length live) sizes voted first) where
+    -- a list that does not keep the number has at most half of its block
+    few_votes : (j : ℕ) → j < length live → (list : ℕ) → let b = slice_index of (slice_index live j) in ¬ (list ≡ slice_index keepers b)
+        → votes_for of numbers live (length live) b list * 2 ≤ block_size of b
+    few_votes j h list other =
+        let b = slice_index of (slice_index live j) in
+        elim (up.decided j h) [
+          | inr y ↦ omega (arith, bound.others b list (λ e. other (e ∙ sym y.0)))
+          | inl y ↦ elim (cases_eq list (slice_index voted b)) [
+            | inr d ↦ omega (arith, bound.others b list d)
+            | inl e ↦ elim y.2 [
+              | inl none ↦ absurd (other (e ∙ none ∙ sym y.0))
+              | inr few ↦ omega (arith, ap (λ x. votes_for of numbers live (length live) b x) e, bound.most b, few)
+            ]
+          ]
+        ]
+
+    -- its states are looked at
+    looked_at : (j : ℕ) → j < length live → (t : ℕ) → t < length of → slice_index of t ≡ slice_index of (slice_index live j)
+        → ¬ (slice_index numbers t ≡ slice_index keepers (slice_index of (slice_index live j))) → IsOne live t
+    looked_at j h t ht same other = elim (up.decided j h) [
+      | inr y ↦ all_met t ht (ap (slice_index sizes) same ∙ y.1)
+      | inl y ↦ elim (zeros t (omega (arith, ht, size))) [ inl one ↦ one | inr zero ↦ absurd (other (zero ∙ sym y.0)) ]
+    ]
+
+    pub small_parts : PartSmall of numbers live keepers
+    small_parts s one other new states alike =
+        let b = slice_index of s in
+        let j = one.0 in
+        let here : slice_index of (slice_index live j) ≡ b = ap (slice_index of) one.2 in
+        let inside : s < length of = omega (arith, one.2, rises.below j one.1) in
+        let differs : ¬ (slice_index numbers s ≡ slice_index keepers (slice_index of (slice_index live j))) = λ e. other (e ∙ ap (slice_index keepers) here) in
+        let few : votes_for of numbers live (length live) b (slice_index numbers s) * 2 ≤ block_size of b =
+        subst (λ b. votes_for of numbers live (length live) b (slice_index numbers s) * 2 ≤ block_size of b) here (few_votes j one.1 (slice_index numbers s) differs) in
+        let within : block_size new (slice_index new s) ≤ votes_for of numbers live (length live) b (slice_index numbers s) =
+        block_size-within new (ballots of numbers live b (length live)) (slice_index new s) (suc (slice_index numbers s)) (states ∙ sym (length-ballots of numbers live b (length live))) (λ t h e.
+        let like = alike t (omega (arith, h, states)) e in
+        let ht : t < length of = omega (arith, h, states) in
+        let w = looked_at j one.1 t ht (like.0 ∙ sym here) (λ e. differs (sym like.1 ∙ e)) in
+        ap (slice_index (ballots of numbers live b (length live))) (sym w.2)
+        ∙ ballot_of of numbers live b (length live) w.0 w.1 (rises.below w.0 w.1) (ap (slice_index of) w.2 ∙ like.0) ∙ ap (λ u. suc (slice_index numbers u)) w.2 ∙ ap suc like.1) in
+        omega (arith, few, within)

@@ -2,11 +2,13 @@ pub mod CallerLemmas
 pub mod Renumbering
 pub mod Keeping
 pub mod Representatives
-pub mod Meeting
 pub mod Living
 pub mod Leaving
 pub mod Parting
-pub mod Parents
 pub mod Counting
+pub mod Taking
+pub mod Voting
 pub mod Filling
+pub mod Widening
+pub mod Hinting
 pub mod Refilling

@@ -37,6 +37,10 @@ grown_at sizes n b = elim (cases_lt b (length sizes)) [
   | inr high ↦ get_or-append_right sizes (replicate n 0) (length sizes) b 0 refl high ∙ zero_at n (b - length sizes) ∙ sym (get_or_past sizes b 0 high)
 ]
 
+pub resized_at : (sizes sizes' : List ℕ) (count n b : ℕ) → sizes' ≡ take count sizes ++ replicate n 0 → length sizes ≤ count → slice_index sizes' b ≡ slice_index sizes b
+resized_at sizes sizes' count n b grown more =
+    ap (λ xs. slice_index xs b) (grown ∙ ap (λ xs. xs ++ replicate n 0) (take_all count sizes more)) ∙ grown_at sizes n b
+
 pub without_grown : (of live sizes sizes' : List ℕ) (count n : ℕ) → sizes' ≡ take count sizes ++ replicate n 0 → length sizes ≤ count
     → AreSizesWithout of live 0 (length live) sizes → AreSizesWithout of live 0 (length live) sizes'
 without_grown of live sizes sizes' count n grown more without =

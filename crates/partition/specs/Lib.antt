@@ -3,3 +3,4 @@ pub mod Splitting
 pub mod Sizes
 pub mod Blocks
 pub mod Representatives
+pub mod Halving

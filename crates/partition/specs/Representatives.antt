@@ -1,7 +1,7 @@
 -- The steps of a split by numbers of lists: two states stay together if they have one key, their old block and the number of their
 -- list. Those of one key in each block keep its number. The least state with another key is a representative, whose number tells the new
--- block. Representatives are looked up by their keys: the first
--- one with a list is in the slot of this list, the others in buckets. Those in one bucket are chained, from the last one down.
+-- block. Representatives are looked up by their keys: the first one with a list is in the slot of this list, the others in buckets.
+-- Those in one bucket are chained, from the last one down.
 use Rattle.std.specs.Prelude.{◌≡◌, ◌⊎◌, ℕ, ◌+◌, ◌-◌, ◌/◌, ◌^◌, ◌++◌, ◌∷◌, ◌<◌, ◌≤◌, min, cond, eqb, List, [], length, slice_index, slice_index_or}
 use Rattle.partition.specs.declared.splitter.Representative.{Representative}
 use Rattle.partition.specs.Blocks.{IsOne}
@@ -82,10 +82,24 @@ GoesTo key old new r = (HasRepresentative old key r × (new ≡ old))
 abbrev pub KeepsNumber : List ℕ → List ℕ → List ℕ → ℕ → Type 0
 KeepsNumber old numbers keepers s = slice_index numbers s ≡ slice_index keepers (slice_index old s)
 
+-- the block of the state t has a state that keeps its number
+abbrev pub HasKeeper : List ℕ → List ℕ → List ℕ → ℕ → Type 0
+HasKeeper old numbers keepers t =
+    (u : ℕ) × (u < length old) × (slice_index old u ≡ slice_index old t) × KeepsNumber old numbers keepers u
+
+-- only blocks of these states have votes
+abbrev pub AreTheirVotes : List ℕ → List ℕ → List ℕ → Type 0
+AreTheirVotes old live votes = (b : ℕ) → (slice_index votes b ≡ 0) ⊎ ((j : ℕ) × (j < length live) × (slice_index old (slice_index live j) ≡ b))
+
+-- the block of each state that is looked at has a list that one of its states has, and no other block has votes
+pub record HaveVoted (old numbers live keepers votes : List ℕ) : Type 0 where
+  pub kept : (j : ℕ) → j < length live → HasKeeper old numbers keepers (slice_index live j)
+  pub met : AreTheirVotes old live votes
+
 -- in each block a state keeps the block's number, and so do all states that are not looked at
 pub record AreKeepers (old numbers live keepers : List ℕ) : Type 0 where
   pub room : (s : ℕ) → s < length old → slice_index old s < length keepers
-  pub keeps : (s : ℕ) → s < length old → (u : ℕ) × (u < length old) × (slice_index old u ≡ slice_index old s) × KeepsNumber old numbers keepers u
+  pub keeps : (s : ℕ) → s < length old → HasKeeper old numbers keepers s
   pub rest : (s : ℕ) → s < length old → IsOne live s ⊎ KeepsNumber old numbers keepers s
 
 -- so do these, in the blocks of the states that are looked at. In other blocks they may be any
@@ -94,16 +108,6 @@ pub record HaveKeepers (old numbers live keepers : List ℕ) : Type 0 where
   pub same : (all : List ℕ) × AreKeepers old numbers live all
       × ((i : ℕ) → i < length live → slice_index keepers (slice_index old (slice_index live i)) ≡ slice_index all (slice_index old (slice_index live i)))
 
--- the old block of the representative number r
-abbrev pub old_at : List Representative → ℕ → ℕ
-old_at chain r = (representative_at chain r).old
-
 -- how many blocks there are, if there were `count` before: a new one for each representative but that of number 0
 abbrev pub count_with : ℕ → List Representative → ℕ
 count_with count chain = count + length chain - 1
-
--- the states of a new block had the old block of its representative, which its number tells
-pub record TellParents (old : List ℕ) (count : ℕ) (new : List ℕ) (chain : List Representative) : Type 0 where
-  pub some : 0 < length chain
-  pub below : (r : ℕ) → IsRepresentative chain r → old_at chain r < count
-  pub each : (s r : ℕ) → s < length old → 0 < r → slice_index new s + 1 ≡ count + r → (r < length chain) × (old_at chain r ≡ slice_index old s)

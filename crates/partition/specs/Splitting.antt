@@ -1,5 +1,5 @@
 -- Blocks that are split by what states have: two states stay together if they share a block and have the same.
-use Rattle.std.specs.Prelude.{◌≡◌, ◌↔◌, ℕ, ◌+◌, ◌-◌, ◌<◌, ◌≤◌, Bool, false, IsTrue, List, length, slice_index, slice_index_or}
+use Rattle.std.specs.Prelude.{◌≡◌, ◌↔◌, ℕ, ◌+◌, ◌-◌, ◌<◌, ◌≤◌, List, length, slice_index}
 use Rattle.partition.specs.Partition.{AreBlocks}
 
 -- two states have one old block, and have the same
@@ -10,9 +10,9 @@ Alike old has s t = (slice_index old s ≡ slice_index old t) × (has s ≡ has 
 abbrev pub IsAlone : List ℕ → ℕ → Type 0
 IsAlone old s = (t : ℕ) → t < length old → slice_index old t ≡ slice_index old s → t ≡ s
 
--- what is said to be alone is
-abbrev pub AreAlone : List ℕ → List Bool → Type 0
-AreAlone blocks alone = (s : ℕ) → s < length blocks → IsTrue (slice_index_or alone (slice_index blocks s) false) → IsAlone blocks s
+-- another state has the block of the state s, and has something else
+abbrev pub HasOther : {X : Type 0} → List ℕ → (ℕ → X) → ℕ → Type 0
+HasOther old has s = (u : ℕ) × (u < length old) × (slice_index old u ≡ slice_index old s) × ¬ (has u ≡ has s)
 
 -- blocks parted by what each state has: a state keeps the number of its block, or gets a new number
 pub record Splits {X : Type 0} (old : List ℕ) (count : ℕ) (has : ℕ → X) (new : List ℕ) (more : ℕ) : Type 0 where
@@ -22,10 +22,3 @@ pub record Splits {X : Type 0} (old : List ℕ) (count : ℕ) (has : ℕ → X) 
   pub alike : (s t : ℕ) → s < length old → t < length old → (slice_index new s ≡ slice_index new t) ↔ Alike old has s t
   pub stays : (s : ℕ) → s < length old → slice_index new s < count → slice_index new s ≡ slice_index old s
   pub parts : count < more → (s t : ℕ) × (s < length old) × (t < length old) × (slice_index old s ≡ slice_index old t) × ¬ (slice_index new s ≡ slice_index new t)
-
--- for each new block, of `more` together, the old block that its states had
-pub record AreParents (old : List ℕ) (count : ℕ) (new : List ℕ) (more : ℕ) (parents : List ℕ) : Type 0 where
-  pub blocks : count + length parents ≡ more
-  pub below : (i : ℕ) → i < length parents → slice_index parents i < count
-  pub each : (s : ℕ) → s < length old → ¬ (slice_index new s < count)
-      → (slice_index new s - count < length parents) × (slice_index parents (slice_index new s - count) ≡ slice_index old s)

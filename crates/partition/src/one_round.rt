@@ -4,7 +4,8 @@ ghost use Rattle.std.specs.Prelude.{◌≡◌, ℕ, ◌<◌, ◌≤◌, length, 
 ghost use Rattle.lts.specs.declared.limits.TheConstants.{MOST_STATES};
 ghost use Rattle.partition.specs.Blocks.{IsOne};
 
-use crate::blocks::{Blocks, IdleStates, Others};
+use crate::blocks::Blocks;
+use crate::members::Members;
 use crate::partition::Partition;
 use growth::Memory;
 use std::alloc::Global;
@@ -41,10 +42,9 @@ impl Blocks {
             count: p.count(),
             low: 0,
             live,
-            others: Others::Idle(IdleStates {
-                one: None,
-                known: 0,
-            }),
+            known: 0,
+            counts: None,
+            members: Members::none(alloc),
         })
     }
 }

@@ -1,6 +1,6 @@
 use Rattle.std.proofs.Common.{◌∙◌, ℕ, ◌+◌, ◌<◌, length, slice_index, arith}
 use Rattle.std.proofs.lemmas.List.{get_or_read, length-set}
-use Rattle.partition.proofs.Refilling.{without_grown, few_left, without_less, sizes_back}
+use Rattle.partition.proofs.Refilling.{without_grown, resized_at, few_left, without_less, sizes_back}
 use Rattle.partition.proofs.counted.Counts.put_back.Goals as goal
 use Rattle.partition.proofs.counted.Counts.put_back.Goals.{Start}
 
@@ -15,6 +15,8 @@ loop-i-init c = record {
       c.requires.sizes;
   blocks = omega (arith, c.in_ok-resize.ensures.len, c.resize.new.self.ok.0);
   keepers = omega (arith, c.in_ok-resize-2.ensures.len, c.resize-2.new.self.ok.0);
+  votes = omega (arith, c.in_ok-resize-3.ensures.len, c.resize-3.new.self.ok.0);
+  none = λ b. resized_at c.args.self.now.votes.items c.resize-3.new.self.items c.args.count _ b c.in_ok-resize-3.ensures.items c.requires.votes ∙ c.requires.none b;
 }
 
 pub overflow_add-index_mut : goal.overflow_add-index_mut
@@ -45,6 +47,8 @@ loop-i-preserved c =
       sizes = without_less of live i sizes c.requires.live d more c.loop-i.invariant.sizes room;
       blocks = length-set sizes b (slice_index sizes b + 1) ∙ c.loop-i.invariant.blocks;
       keepers = c.loop-i.invariant.keepers;
+      votes = c.loop-i.invariant.votes;
+      none = c.loop-i.invariant.none;
     })
 
 pub returns : goal.returns
@@ -53,4 +57,6 @@ returns c = record {
       sizes_back c.args.of.now c.args.live.now c.loop-i.self.sizes.items c.loop-i.i c.args.count c.requires.blocks c.loop-i.invariant.blocks
       (omega (arith, c.loop-i-test.false, c.loop-i.auto.i-end)) c.loop-i.invariant.sizes;
   keepers = c.loop-i.invariant.keepers;
+  votes = c.loop-i.invariant.votes;
+  none = c.loop-i.invariant.none;
 }

@@ -1,0 +1,123 @@
+-- More states that a split looks at.
+use Rattle.std.proofs.Common.{◌≡◌, ◌∙◌, ◌⊎◌, ℕ, ◌+◌, ◌<◌, ◌≤◌, List, [], ◌∷◌, ◌++◌, length, slice_index, ap, sym, subst, refl, inl, inr, arith}
+use Rattle.std.proofs.lemmas.Bool.{cases_lt}
+use Rattle.std.proofs.lemmas.List.{length_push, get_or_append_left, get_or_push}
+use Rattle.partition.specs.Blocks.{AreLive, AreAmong, IsOne}
+use Rattle.partition.proofs.Living.{earlier}
+
+-- of the states before s: those of the first k places are among them, and the next one in place k is not before s
+pub record WideUpTo (live : List ℕ) (lose : ℕ → Type 0) (s k : ℕ) (wide : List ℕ) : Type 0 where
+  pub few : length wide ≤ s
+  pub below : (i : ℕ) → i < length wide → slice_index wide i < s
+  pub rising : (i j : ℕ) → i < j → j < length wide → slice_index wide i < slice_index wide j
+  pub are : (j : ℕ) → j < k → IsOne wide (slice_index live j)
+  pub ahead : (j : ℕ) → k ≤ j → j < length live → s ≤ slice_index live j
+  pub each : (t : ℕ) → IsOne wide t → IsOne live t ⊎ lose t
+  pub many : k ≤ length wide
+  pub more : (u : ℕ) → u < s → ¬ IsOne live u → lose u → k < length wide
+
+module _ (live : List ℕ) (states : ℕ) (lose : ℕ → Type 0) (s k : ℕ) (wide : List ℕ) (rises : AreLive states live) (up : WideUpTo live lose s k wide) where
+  abbrev wide' : List ℕ
+  wide' = wide ++ s ∷ []
+
+  at-old : (i : ℕ) → i < length wide → slice_index wide' i ≡ slice_index wide i
+  at-old i h = get_or_append_left wide (s ∷ []) 0 i h
+
+  at-new : (i : ℕ) → i ≡ length wide → slice_index wide' i ≡ s
+  at-new i h = get_or_push wide s 0 i (sym h)
+
+  pushed : (t : ℕ) → IsOne wide t → IsOne wide' t
+  pushed t one = (one.0, omega (arith, one.1, length_push wide s), at-old one.0 one.1 ∙ one.2)
+
+  old_or_new : IsOne live s ⊎ lose s → (t : ℕ) → IsOne wide' t → IsOne live t ⊎ lose t
+  old_or_new now t one = elim (earlier (length wide) one.0 (omega (arith, one.1, length_push wide s))) [
+    | inl low ↦ up.each t (one.0, low, sym (at-old one.0 low) ∙ one.2)
+    | inr last ↦
+        let here : s ≡ t = sym (at-new one.0 last) ∙ one.2 in
+        elim now [ inl is ↦ inl (is.0, is.1, is.2 ∙ here) | inr lost ↦ inr (subst lose here lost) ]
+  ]
+
+  below' : (i : ℕ) → i < length wide' → slice_index wide' i < s + 1
+  below' i h = elim (earlier (length wide) i (omega (arith, h, length_push wide s))) [
+    | inl low ↦ omega (arith, at-old i low, up.below i low)
+    | inr last ↦ omega (arith, at-new i last)
+  ]
+
+  rising' : (i j : ℕ) → i < j → j < length wide' → slice_index wide' i < slice_index wide' j
+  rising' i j low h = elim (earlier (length wide) j (omega (arith, h, length_push wide s))) [
+    | inl inside ↦ omega (arith, at-old i (omega (arith, low, inside)), at-old j inside, up.rising i j low inside)
+    | inr last ↦ omega (arith, at-old i (omega (arith, low, last)), at-new j last, up.below i (omega (arith, low, last)))
+  ]
+
+  -- s is in the next place
+  pub wide_next : k < length live → slice_index live k ≡ s → WideUpTo live lose (s + 1) (k + 1) wide'
+  wide_next inside is = record {
+    few = omega (arith, up.few, length_push wide s);
+    below = below';
+    rising = rising';
+    are = λ j h. elim (earlier k j h) [
+      | inl low ↦ pushed (slice_index live j) (up.are j low)
+      | inr last ↦ (length wide, omega (arith, length_push wide s), at-new (length wide) refl ∙ sym is ∙ ap (slice_index live) (sym last))
+    ];
+    ahead = λ j low h. omega (arith, rises.rising k j (omega (arith, low)) h, is);
+    each = old_or_new (inl (k, inside, is));
+    many = omega (arith, up.many, length_push wide s);
+    more = λ u h other lost. elim (earlier s u h) [
+      | inl low ↦ omega (arith, up.more u low other lost, length_push wide s)
+      | inr here ↦ absurd (other (k, inside, is ∙ sym here))
+    ];
+  }
+
+  -- or it is not
+  ahead' : (k < length live → ¬ (slice_index live k ≡ s)) → (j : ℕ) → k ≤ j → j < length live → s + 1 ≤ slice_index live j
+  ahead' other j low h = elim (cases_lt s (slice_index live j)) [
+    | inl above ↦ omega (arith, above)
+    | inr at ↦
+        let here : slice_index live j ≡ s = omega (arith, at, up.ahead j low h) in
+        elim (cases_lt k j) [
+          | inl past ↦ absurd (omega (arith, rises.rising k j past h, here, up.ahead k (omega arith) (omega (arith, past, h))))
+          | inr same ↦ let e : k ≡ j = omega (arith, low, same) in absurd (other (omega (arith, e, h)) (ap (slice_index live) e ∙ here))
+        ]
+  ]
+
+  pub wide_with : (k < length live → ¬ (slice_index live k ≡ s)) → lose s → WideUpTo live lose (s + 1) k wide'
+  wide_with other lost = record {
+    few = omega (arith, up.few, length_push wide s);
+    below = below';
+    rising = rising';
+    are = λ j h. pushed (slice_index live j) (up.are j h);
+    ahead = ahead' other;
+    each = old_or_new (inr lost);
+    many = omega (arith, up.many, length_push wide s);
+    more = λ u h out lost. omega (arith, up.many, length_push wide s);
+  }
+
+  pub wide_without : (k < length live → ¬ (slice_index live k ≡ s)) → ¬ lose s → WideUpTo live lose (s + 1) k wide
+  wide_without other wins = record {
+    few = omega (arith, up.few);
+    below = λ i h. omega (arith, up.below i h);
+    rising = up.rising;
+    are = up.are;
+    ahead = ahead' other;
+    each = up.each;
+    many = up.many;
+    more = λ u h out lost. elim (earlier s u h) [ inl low ↦ up.more u low out lost | inr here ↦ absurd (wins (subst lose here lost)) ];
+  }
+
+-- when all states were seen
+module _ (live : List ℕ) (states : ℕ) (lose : ℕ → Type 0) (s k : ℕ) (wide : List ℕ) (rises : AreLive states live) (up : WideUpTo live lose s k wide) (end : s ≡ states) where
+  pub wide_rising : AreLive states wide
+  wide_rising = record { few = omega (arith, up.few, end); below = λ i h. omega (arith, up.below i h, end); rising = up.rising }
+
+  pub wide_among : AreAmong live wide
+  wide_among t one = elim (cases_lt one.0 k) [
+    | inl low ↦ let w = up.are one.0 low in (w.0, w.1, w.2 ∙ one.2)
+    | inr high ↦ absurd (omega (arith, up.ahead one.0 high one.1, rises.below one.0 one.1, end))
+  ]
+
+  -- there are more, if one is not among the first
+  pub wide_more : k ≤ length live → (u : ℕ) → u < states → ¬ IsOne live u → lose u → length live < length wide
+  wide_more within u h out lost = elim (cases_lt k (length live)) [
+    | inl low ↦ absurd (omega (arith, up.ahead k (omega arith) low, rises.below k low, end))
+    | inr all ↦ omega (arith, up.more u (omega (arith, h, end)) out lost, all, within)
+  ]

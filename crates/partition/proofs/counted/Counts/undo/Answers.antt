@@ -1,0 +1,79 @@
+use Rattle.std.proofs.Common.{◌≡◌, ◌∙◌, ◌⊎◌, ℕ, ◌+◌, ◌<◌, ◌≤◌, List, length, set, slice_index, ap, sym, refl, inl, inr, arith}
+use Rattle.std.proofs.lemmas.Bool.{cases_eq}
+use Rattle.std.proofs.lemmas.List.{get_or_read, length-set, get_or-set_same, get_or-set_other}
+use Rattle.partition.proofs.Refilling.{few_left, without_less, sizes_back}
+use Rattle.partition.proofs.counted.Counts.undo.Goals as goal
+use Rattle.partition.proofs.counted.Counts.undo.Goals.{Start}
+
+-- each block is below the number of states
+below : (c : Start) (t : ℕ) → t < length c.args.of.now → slice_index c.args.of.now t < length c.args.of.now
+below c t h = omega (arith, c.requires.blocks.below t h, c.requires.blocks.fewer)
+
+-- the votes of the next block are taken away
+met_less : (of live votes : List ℕ) (i : ℕ) → let b = slice_index of (slice_index live i) in b < length votes
+    → ((k : ℕ) → (slice_index votes k ≡ 0) ⊎ ((j : ℕ) × (i ≤ j) × (j < length live) × (slice_index of (slice_index live j) ≡ k)))
+    → (k : ℕ) → (slice_index (set votes b 0) k ≡ 0) ⊎ ((j : ℕ) × (i + 1 ≤ j) × (j < length live) × (slice_index of (slice_index live j) ≡ k))
+met_less of live votes i room met k =
+    let b = slice_index of (slice_index live i) in
+    elim (cases_eq k b) [
+      | inl e ↦ inl (ap (slice_index (set votes b 0)) e ∙ get_or-set_same votes b 0 0 room)
+      | inr d ↦ elim (met k) [
+        | inl none ↦ inl (get_or-set_other votes b k 0 0 d ∙ none)
+        | inr m ↦ elim (cases_eq m.0 i) [
+          | inl here ↦ absurd (d (sym m.3 ∙ ap (λ j. slice_index of (slice_index live j)) here))
+          | inr past ↦ inr (m.0, omega (arith, past, m.1), m.2, m.3)
+        ]
+      ]
+    ]
+
+pub loop-i-init : goal.loop-i-init
+loop-i-init c = record {
+  sizes = c.requires.sizes;
+  blocks = refl;
+  keepers = c.requires.keepers;
+  votes = c.requires.votes;
+  met = λ b. elim (c.requires.met b) [ inl none ↦ inl none | inr m ↦ inr (m.0, omega arith, m.1, m.2) ];
+}
+
+pub overflow_add-index_mut : goal.overflow_add-index_mut
+overflow_add-index_mut c =
+    let of = c.args.of.now in
+    let live = c.args.live.now in
+    let i = c.loop-i.i in
+    let sizes = c.loop-i.self.sizes.items in
+    let more : i < length live = omega (arith, c.loop-i-test.true, c.loop-i.auto.i-end) in
+    let room : slice_index of (slice_index live i) < length sizes = omega (arith, c.loop-i.invariant.blocks, c.requires.blocks.below _ (c.requires.live.below i more)) in
+    let was = get_or_read sizes (slice_index of (slice_index live i)) c.index_mut.result.now room c.index_mut.ensures.value 0 in
+    let left = few_left of live i sizes c.requires.live (below ((goal.at.overflow_add-index_mut c).Start)) more c.loop-i.invariant.sizes in
+    omega (arith, was, left, c.requires.blocks.few)
+
+pub loop-i-preserved : goal.loop-i-preserved
+loop-i-preserved c =
+    let of = c.args.of.now in
+    let live = c.args.live.now in
+    let i = c.loop-i.i in
+    let sizes = c.loop-i.self.sizes.items in
+    let votes = c.loop-i.self.votes.items in
+    let b = slice_index of (slice_index live i) in
+    let more : i < length live = omega (arith, c.loop-i-test.true, c.loop-i.auto.i-end) in
+    let room : b < length sizes = omega (arith, c.loop-i.invariant.blocks, c.requires.blocks.below _ (c.requires.live.below i more)) in
+    let was = get_or_read sizes b c.index_mut.result.now room c.index_mut.ensures.value 0 in
+    let d = below ((goal.at.loop-i-preserved c).Start) in
+    rw (was)
+    (record {
+      sizes = without_less of live i sizes c.requires.live d more c.loop-i.invariant.sizes room;
+      blocks = length-set sizes b (slice_index sizes b + 1) ∙ c.loop-i.invariant.blocks;
+      keepers = c.loop-i.invariant.keepers;
+      votes = length-set votes b 0 ∙ c.loop-i.invariant.votes;
+      met = met_less of live votes i (omega (arith, room, c.loop-i.invariant.blocks, c.loop-i.invariant.votes)) c.loop-i.invariant.met;
+    })
+
+pub returns : goal.returns
+returns c =
+    let end : c.loop-i.i ≡ length c.args.live.now = omega (arith, c.loop-i-test.false, c.loop-i.auto.i-end) in
+    record {
+      sizes = sizes_back c.args.of.now c.args.live.now c.loop-i.self.sizes.items c.loop-i.i _ c.requires.blocks c.loop-i.invariant.blocks end c.loop-i.invariant.sizes;
+      keepers = c.loop-i.invariant.keepers;
+      votes = c.loop-i.invariant.votes;
+      none = λ b. elim (c.loop-i.invariant.met b) [ inl none ↦ none | inr m ↦ absurd (omega (arith, m.1, m.2, end)) ];
+    }
