@@ -9,3 +9,5 @@ pub mod Fields
 pub mod Rising
 pub mod Joining
 pub mod Pairs
+pub mod Arcs
+pub mod Indexed

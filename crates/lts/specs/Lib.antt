@@ -2,6 +2,6 @@ pub mod Labels
 pub mod Meter
 pub mod Lts
 pub mod Rows
-pub mod Groups
+pub mod Sources
 pub mod Union
 pub mod Joining

@@ -6,24 +6,24 @@
 
 mod disjoint;
 mod grouping;
-mod groups;
 mod labels;
 mod limits;
 mod lts;
 mod meter;
 mod rising_rows;
 mod row_laws;
+mod sources;
 mod transitions;
 mod visiting;
 
 pub use disjoint::{fits_together, union};
 pub use grouping::by_source;
-pub use groups::Groups;
 pub use growth::Memory;
 pub use labels::{Labels, is_label};
 pub use limits::{MOST_LABELS, MOST_STATES, MOST_TRANSITIONS};
 pub use lts::{Lts, in_range};
 pub use meter::{Counter, Meter};
 pub use row_laws::{rows_are_steps, rows_follow};
+pub use sources::Sources;
 pub use transitions::Transitions;
 pub use visiting::visit_places;

@@ -1,7 +1,8 @@
 //! A system in memory. Its transitions stand in places, grouped by source; each one that is read is counted by a meter.
-ghost use Rattle.std.specs.Prelude.{◌≡◌, ◌↔◌, ℕ, ◌+◌, ◌<◌, length, IsTrue, IfOk};
+ghost use Rattle.std.specs.Prelude.{◌≡◌, ◌↔◌, ℕ, ◌+◌, ◌<◌, length, map, IsTrue, IfOk};
 ghost use Rattle.lts.specs.Meter.{HasRoomFor, Costs};
-ghost use Rattle.lts.specs.Lts.{label_of, target_of, place_at, system_from, system_of, grouped, IsGrouping, Groups, InRange, IsLts, IsRow};
+ghost use Rattle.lts.specs.Lts.{label_of, target_of, row_of, place_at, system_from, system_of, grouped, IsGrouping, Groups, InRange, IsLts, IsRow};
+ghost use Rattle.lts.specs.Rows.{pair_of};
 
 use crate::labels::Labels;
 use crate::limits::{MOST_STATES, MOST_TRANSITIONS};
@@ -205,6 +206,15 @@ impl<M: Meter> Lts<M> {
     {
         let start = if s == 0 { 0 } else { self.ends[s as usize - 1] };
         (start, self.ends[s as usize])
+    }
+
+    /// The label number and the target of each transition with the source `s`, in the order of its row. It counts no visit.
+    pub(crate) fn pairs(&self, s: u32) -> &[(u32, u32)]
+        requires { s < self.now.states }
+        ensures { result.now ≡ map pair_of (row_of s self.now.places) }
+    {
+        let (start, end) = self.row(s);
+        &self.pairs[start as usize..end as usize]
     }
 
     /// The label number and the target of the transition in place `k`. It counts one visit.

@@ -3,8 +3,8 @@ use crate::pairing::{Paired, check_pair};
 use crate::showing::{Shown, check_row};
 use crate::texts::{append_spelled, system};
 use lts::{
-    Counter, Labels, Lts, MOST_LABELS, Memory, Meter, fits_together, in_range, is_label, union,
-    visit_places,
+    Counter, Labels, Lts, MOST_LABELS, Memory, Meter, Sources, fits_together, in_range, is_label,
+    union, visit_places,
 };
 use std::alloc::Global;
 use std::test::Fail;
@@ -155,6 +155,33 @@ fn visits_rows(rt: HostRuntime) -> Result<(), Fail> {
         check("visits", row_visits(&l, s) == wanted)?;
     }
     Ok(())
+}
+
+/// Whether these of the states 0 and 2 lead to `t`, by any transition and by an internal one; not if there are no such states.
+fn lead_to(
+    alloc: Global,
+    l: &Lts<Counter>,
+    t: u32,
+    all: &[u32],
+    internal: &[u32],
+) -> Result<bool, Memory> {
+    if l.states() <= 2 || t >= l.states() {
+        return Ok(false);
+    }
+    let any_way = Sources::of(alloc, l, &[0, 2])?;
+    let silently = Sources::internal(alloc, l, &[0, 2])?;
+    Ok(any_way.leading_to(t) == all && silently.leading_to(t) == internal)
+}
+
+#[test]
+fn knows_sources(rt: HostRuntime) -> Result<(), Fail> {
+    let l = system(
+        rt.alloc(),
+        "2 of 3; 2 a 1; 0 i 2; 2 i 0; 0 a 1; 2 a 1; 1 i 1",
+    )?;
+    check("to 0", lead_to(rt.alloc(), &l, 0, &[2], &[2])?)?;
+    check("to 1", lead_to(rt.alloc(), &l, 1, &[0, 2, 2], &[])?)?;
+    check("to 2", lead_to(rt.alloc(), &l, 2, &[0], &[0])?)
 }
 
 /// The union, and the visits that it took.
