@@ -1,9 +1,9 @@
 -- What a walk has still to read.
-use Rattle.std.specs.Prelude.{◌≡◌, ◌↔◌, ℕ, ◌+◌, ◌-◌, ◌≤◌, Bool, true, false, List, length, slice_index_or}
+use Rattle.std.specs.Prelude.{◌≡◌, ℕ, ◌+◌, ◌-◌, ◌≤◌, Bool, true, false, List, length, slice_index_or}
 use Rattle.std.specs.List.{filter, sum_by, count_by}
 use Rattle.lts.specs.Lts.{Triple, source_of}
 use Rattle.inert.specs.declared.walk.Stage.{Stage}
-use Rattle.inert.specs.declared.walk.Stage.TheVariants.{Unseen, Open, Finished, AtRest}
+use Rattle.inert.specs.declared.walk.Stage.TheVariants.{Unseen, Open, Finished}
 use Rattle.inert.specs.declared.walk.Frame.{Frame}
 
 -- whether a state with this stage was not seen
@@ -11,7 +11,6 @@ abbrev pub is_unseen : Stage → Bool
 is_unseen Unseen = true
 is_unseen (Open p) = false
 is_unseen (Finished k) = false
-is_unseen AtRest = false
 
 -- how many states were not seen
 abbrev pub unseen : List Stage → ℕ
@@ -25,11 +24,10 @@ unread places stages = length (filter (λ e. is_unseen (slice_index_or stages (s
 abbrev pub rest : List Frame → ℕ
 rest frames = sum_by (λ x. x.end - x.next) frames
 
--- each state that was seen is seen still, each finished one has its list still, and the same states are at rest
+-- each state that was seen is seen still, and each finished one has its list still
 pub record KeepsSeen (old new : List Stage) : Type 0 where
   pub unseen : (s : ℕ) → slice_index_or new s Unseen ≡ Unseen → slice_index_or old s Unseen ≡ Unseen
   pub finished : (s k : ℕ) → slice_index_or old s Unseen ≡ Finished k → slice_index_or new s Unseen ≡ Finished k
-  pub resting : (s : ℕ) → (slice_index_or new s Unseen ≡ AtRest) ↔ (slice_index_or old s Unseen ≡ AtRest)
 
 -- and the state s is finished
 pub record HasFinished (s : ℕ) (old new : List Stage) : Type 0 where

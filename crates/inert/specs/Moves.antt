@@ -4,7 +4,7 @@ use Rattle.std.specs.List.{Contains}
 use Rattle.std.specs.List.Sorted.{IsStrictlySortedBy}
 use Rattle.lts.specs.Lts.{Grouped, Triple, IsRow}
 use Rattle.lists.specs.Lists.{list_at, pair_cmp, Grow}
-use Rattle.inert.specs.Search.{Search, nothing, stage_at, top, root_at, Gives, AreSigned, Walks, Stage, Unseen, Open, Finished, AtRest, Root, Item, Pair, Listed}
+use Rattle.inert.specs.Search.{Search, nothing, stage_at, top, root_at, Gives, IsSigned, AreSigned, Walks, Stage, Unseen, Open, Finished, Root, Item, Pair, Listed}
 use Rattle.inert.specs.Steps.{Under}
 use Rattle.inert.specs.Ahead.{unread, rest, KeepsSeen, HasStages}
 use Rattle.inert.specs.declared.step.Step.{Step}
@@ -49,7 +49,6 @@ Follows places t old new enters =
     ((stage_at old.stages t ≡ Unseen) × Enters places t old new × IsTrue enters)
     ⊎ ((q : ℕ) × (stage_at old.stages t ≡ Open q) × CutsRoots q old.roots new.roots × (new ≡ record old { roots = new.roots }) × ¬ IsTrue enters)
     ⊎ ((k : ℕ) × (stage_at old.stages t ≡ Finished k) × (new ≡ with_item (Listed k) old) × ¬ IsTrue enters)
-    ⊎ ((stage_at old.stages t ≡ AtRest) × (new ≡ old) × ¬ IsTrue enters)
 
 -- a step is taken, and enters a state or not
 abbrev pub TakesStep : List Triple → Step → Search → Search → Bool → Type 0
@@ -131,10 +130,15 @@ pub record IsUnderWay (u : Under) (lists : List (List (ℕ × ℕ))) (w : Search
   pub walks : Walks u lists w
   pub some : 0 < length w.frames
 
+-- the states that are finished now and were not before have their signatures
+abbrev pub SignsMore : Under → List (List (ℕ × ℕ)) → List Stage → List Stage → Type 0
+SignsMore u lists old new = (s k : ℕ) → stage_at new s ≡ Finished k → (stage_at old s ≡ Finished k) ⊎ IsSigned u s lists k
+
 -- a walk goes on
 pub record GoesOn (u : Under) (lists : List (List (ℕ × ℕ))) (old new : Search) : Type 0 where
   pub walks : Walks u lists new
   pub seen : KeepsSeen old.stages new.stages
+  pub signs : SignsMore u lists old.stages new.stages
 
 -- fewer steps are ahead after a state was entered, and else no more, where the row is read
 abbrev pub ComesNearer : Grouped → Search → Search → Bool → Type 0

@@ -1,17 +1,17 @@
 -- A walk over inert steps: what is known of each state, the stack and its components, and what they have collected.
-use Rattle.std.specs.Prelude.{◌≡◌, ◌⊎◌, ℕ, ◌+◌, ◌-◌, ◌<◌, ◌≤◌, List, [], length, slice_index, slice_index_or}
+use Rattle.std.specs.Prelude.{◌≡◌, ◌⊎◌, ℕ, ◌+◌, ◌-◌, ◌<◌, ◌≤◌, List, [], length, slice_index, slice_index_or, map}
 use Rattle.std.specs.List.{All, AllPairs, Contains}
 use Rattle.theory.specs.System.{System, Leads}
 use Rattle.theory.specs.declared.relation.Relation.TheVariants.{Branching}
 use Rattle.theory.specs.Blocks.{Inert, Signature}
-use Rattle.lts.specs.Lts.{Grouped, Triple, source_of, target_of, place_at, row_of, system_of, IsRow}
+use Rattle.lts.specs.Lts.{Grouped, Triple, source_of, target_of, place_at, system_of, IsRow}
 use Rattle.lists.specs.Lists.{list_at}
 use Rattle.partition.specs.Blocks.{IsOne}
 use Rattle.inert.specs.Signed.{HasPair, IsSignature, pair_under}
 use Rattle.inert.specs.Steps.{Under, IsInert}
 use Rattle.inert.specs.Ahead.{HasStages}
 pub use Rattle.inert.specs.declared.walk.Stage.{Stage}
-pub use Rattle.inert.specs.declared.walk.Stage.TheVariants.{Unseen, Open, Finished, AtRest}
+pub use Rattle.inert.specs.declared.walk.Stage.TheVariants.{Unseen, Open, Finished}
 pub use Rattle.inert.specs.declared.walk.Frame.{Frame}
 pub use Rattle.inert.specs.declared.walk.Root.{Root}
 pub use Rattle.inert.specs.declared.item.Item.{Item}
@@ -33,14 +33,32 @@ nothing stages = record { stages = stages; stack = []; frames = []; roots = []; 
 abbrev pub stage_at : List Stage → ℕ → Stage
 stage_at stages s = slice_index_or stages s Unseen
 
--- of so many states those that are not looked at are at rest
-abbrev pub AreAtRest : List ℕ → List Stage → Type 0
-AreAtRest live stages = (s : ℕ) → s < length stages → IsOne live s ⊎ (stage_at stages s ≡ AtRest)
+-- the number of the list of a finished state
+abbrev pub number_of : Stage → ℕ
+number_of Unseen = 0
+number_of (Open p) = 0
+number_of (Finished k) = k
 
--- no walk is under way, and all states are at rest, with this stage
-pub record IsIdle (at_rest : Stage) (w : Search) : Type 0 where
+abbrev pub kept : List Stage → List ℕ
+kept = map number_of
+
+-- the state s is finished, with some list
+abbrev pub IsFinished : List Stage → ℕ → Type 0
+IsFinished stages s = (k : ℕ) × (stage_at stages s ≡ Finished k)
+
+-- the states that are not looked at are finished
+abbrev pub AreOthers : List ℕ → List Stage → Type 0
+AreOthers live stages = (s : ℕ) → s < length stages → IsOne live s ⊎ IsFinished stages s
+
+-- no walk is under way, and all states are finished
+pub record HasEnded (w : Search) : Type 0 where
   pub empty : w ≡ nothing w.stages
-  pub rest : (s : ℕ) → s < length w.stages → stage_at w.stages s ≡ at_rest
+  pub all : (s : ℕ) → s < length w.stages → IsFinished w.stages s
+
+-- no walk is under way, and no state was seen
+pub record IsIdle (w : Search) : Type 0 where
+  pub empty : w ≡ nothing w.stages
+  pub rest : (s : ℕ) → s < length w.stages → stage_at w.stages s ≡ Unseen
 
 -- the states of this list are unseen, and the others as before
 pub record AreUnseen (states : List ℕ) (old new : List Stage) : Type 0 where
@@ -53,12 +71,18 @@ pub record IsTrail (stages : List Stage) (trail : List ℕ) : Type 0 where
   pub each : All (λ s. s < length stages) trail
   pub seen : (s : ℕ) → (stage_at stages s ≡ Unseen) ⊎ Contains trail s
 
+-- of so many states those that are looked at are unseen, and the others finished
+pub record AreAwake (states : ℕ) (live : List ℕ) (stages : List Stage) : Type 0 where
+  pub size : length stages ≡ states
+  pub awake : (i : ℕ) → i < length live → stage_at stages (slice_index live i) ≡ Unseen
+  pub others : AreOthers live stages
+
 -- no walk is under way, and the states that are looked at were woken
-pub record IsWoken (states : ℕ) (live : List ℕ) (w : Search) : Type 0 where
+pub record IsWoken (old : List Stage) (live : List ℕ) (w : Search) : Type 0 where
   pub empty : w ≡ nothing w.stages
-  pub size : length w.stages ≡ states
+  pub size : length w.stages ≡ length old
   pub awake : (i : ℕ) → i < length live → stage_at w.stages (slice_index live i) ≡ Unseen
-  pub rest : AreAtRest live w.stages
+  pub others : (s : ℕ) → IsOne live s ⊎ (stage_at w.stages s ≡ stage_at old s)
 
 -- the frame number i, the last one, and the height of the state where the walk is
 abbrev pub no_frame : Frame
@@ -126,15 +150,15 @@ pub record IsSigned (u : Under) (s : ℕ) (lists : List (List (ℕ × ℕ))) (k 
   pub within : k < length lists
   pub signature : IsSignature Branching u.l u.blocks s (list_at lists k)
 
--- a state in the block of one at rest is at rest too, or the one at rest has no transition
-abbrev pub RestTogether : Under → List Stage → Type 0
-RestTogether u stages = (s t : ℕ) → t < u.l.states → stage_at stages s ≡ AtRest → slice_index u.blocks t ≡ slice_index u.blocks s →
-    (stage_at stages t ≡ AtRest) ⊎ (row_of s u.l.places ≡ [])
+-- the list of this number is kept for s: it is its signature, or the whole block of s is finished
+pub record IsListKept (u : Under) (s : ℕ) (lists : List (List (ℕ × ℕ))) (stages : List Stage) (k : ℕ) : Type 0 where
+  pub within : k < length lists
+  pub signature : (t : ℕ) → t < u.l.states → slice_index u.blocks t ≡ slice_index u.blocks s →
+      IsFinished stages t ⊎ IsSignature Branching u.l u.blocks s (list_at lists k)
 
--- finished states have their signatures; a state at rest has no transition, or its whole block is at rest
-pub record AreSigned (u : Under) (lists : List (List (ℕ × ℕ))) (stages : List Stage) : Type 0 where
-  pub finished : (s k : ℕ) → stage_at stages s ≡ Finished k → IsSigned u s lists k
-  pub resting : RestTogether u stages
+-- finished states have the lists that are kept for them
+abbrev pub AreSigned : Under → List (List (ℕ × ℕ)) → List Stage → Type 0
+AreSigned u lists stages = (s k : ℕ) → stage_at stages s ≡ Finished k → IsListKept u s lists stages k
 
 -- one component begins before another one, and so do its items
 abbrev pub IsBefore : Root → Root → Type 0
@@ -192,7 +216,7 @@ IsAhead w p k = (i : ℕ) × (i < length w.frames) × ((frame_at w.frames i).hei
 abbrev pub IsHere : Search → ℕ → ℕ → Type 0
 IsHere w p t = (q : ℕ) × (stage_at w.stages t ≡ Open q) × IsUpTo w.roots p q × IsUpTo w.roots q p
 
--- the state t is finished, and the component at height p holds all its pairs
+-- the state t is finished, and the component at height p holds all pairs of its list
 abbrev pub IsHeld : List (List (ℕ × ℕ)) → Search → ℕ → ℕ → Type 0
 IsHeld lists w p t = (k : ℕ) × (stage_at w.stages t ≡ Finished k) × ((z : ℕ × ℕ) → Contains (list_at lists k) z → HoldsPair lists w p z)
 
@@ -205,10 +229,10 @@ IsEntered w p t = (i : ℕ) × (i + 1 < length w.frames) × ((frame_at w.frames 
 abbrev pub IsFollowed : List (List (ℕ × ℕ)) → Search → ℕ → ℕ → Type 0
 IsFollowed lists w p t = IsHere w p t ⊎ IsHeld lists w p t ⊎ IsEntered w p t
 
--- a transition of the state at height p was taken into account: an inert one to a state at rest has nothing to show
+-- a transition of the state at height p was taken into account
 pub record Accounted (u : Under) (lists : List (List (ℕ × ℕ))) (w : Search) (p : ℕ) (e : Triple) : Type 0 where
   pub shown : ¬ IsInert u (slice_index u.blocks (source_of e)) e → HoldsPair lists w p (pair_under u.blocks e)
-  pub followed : IsInert u (slice_index u.blocks (source_of e)) e → ¬ (stage_at w.stages (target_of e) ≡ AtRest) → IsFollowed lists w p (target_of e)
+  pub followed : IsInert u (slice_index u.blocks (source_of e)) e → IsFollowed lists w p (target_of e)
 
 -- all transitions of open states were taken into account, or are still to be read
 abbrev pub AreAccounted : Under → List (List (ℕ × ℕ)) → Search → Type 0

@@ -1,12 +1,13 @@
 -- Signatures in memory: each state's pairs of a label number and a block, in rising order.
-use Rattle.std.specs.Prelude.{◌≡◌, ◌⊎◌, ◌↔◌, ℕ, ◌<◌, List, [], length, slice_index}
+use Rattle.std.specs.Prelude.{◌≡◌, ◌⊎◌, ◌↔◌, ℕ, ◌<◌, List, length, slice_index}
 use Rattle.std.specs.List.{Contains}
 use Rattle.std.specs.List.Sorted.{IsStrictlySortedBy}
 use Rattle.theory.specs.declared.relation.Relation.{Relation}
+use Rattle.theory.specs.declared.relation.Relation.TheVariants.{Branching}
 use Rattle.theory.specs.Blocks.{Signature}
 use Rattle.lts.specs.Labels.{text_of}
-use Rattle.lts.specs.Lts.{Grouped, Triple, label_of, target_of, row_of, system_of}
-use Rattle.lists.specs.Lists.{pair_cmp}
+use Rattle.lts.specs.Lts.{Grouped, Triple, label_of, target_of, system_of}
+use Rattle.lists.specs.Lists.{pair_cmp, list_at}
 use Rattle.partition.specs.Blocks.{IsOne}
 
 -- the pair of the label number k and the block b is in the signature of s
@@ -22,7 +23,11 @@ pub record IsSignature (rel : Relation) (l : Grouped) (blocks : List ℕ) (s : �
 abbrev pub pair_under : List ℕ → Triple → ℕ × ℕ
 pair_under blocks e = (label_of e, slice_index blocks (target_of e))
 
--- a state in the block of one that is looked at is looked at too, or has no transition
-abbrev pub LooksAtBlocks : Grouped → List ℕ → List ℕ → Type 0
-LooksAtBlocks l blocks live = (s t : ℕ) → s < l.states → t < l.states → slice_index blocks s ≡ slice_index blocks t →
-    IsOne live t → IsOne live s ⊎ (row_of s l.places ≡ [])
+-- in the block of a state that is looked at, each other one is looked at too, or its signature is the list that is kept for it
+abbrev pub AreSignedBeside : Grouped → List ℕ → List ℕ → List (List (ℕ × ℕ)) → List ℕ → Type 0
+AreSignedBeside l blocks live lists kept = (s t : ℕ) → s < l.states → t < l.states → slice_index blocks s ≡ slice_index blocks t → IsOne live t →
+    IsOne live s ⊎ IsSignature Branching l blocks s (list_at lists (slice_index kept s))
+
+-- of a new number what is shown: nothing if it is the old one
+abbrev pub ShowsNew : ℕ → ℕ → ℕ → Type 0
+ShowsNew old new shown = ((old ≡ new) × (shown ≡ 0)) ⊎ (¬ (old ≡ new) × (shown ≡ new))

@@ -1,6 +1,7 @@
 //! The beginning of a walk: the row of its first state is read without a frame.
 ghost use Rattle.std.specs.Prelude.{◌≡◌, ◌+◌, ◌<◌, length, OnOk};
 ghost use Rattle.lts.specs.Meter.{HasRoomFor, Costs};
+ghost use Rattle.lists.specs.Lists.{Grow};
 ghost use Rattle.inert.specs.Search.{stage_at, AreThere};
 ghost use Rattle.inert.specs.Moves.{Ends, ahead, GoesOn, Rests};
 ghost use Rattle.inert.specs.Ahead.{unread};
@@ -28,6 +29,7 @@ impl Walk {
         requires rests { Rests lens.now lists.old self.old }
         requires room { HasRoomFor (M.counted m.old) 0 (unread lens.now.l.places self.old.stages) }
         ensures on { OnOk result (GoesOn lens.now lists.new self.old self.new) }
+        ensures grow { OnOk result (Grow lists.old lists.new) }
         ensures found { OnOk result (¬ (stage_at self.new.stages s ≡ Unseen)) }
         ensures visits { OnOk result ((M.counted m.new).visits + ahead lens.now.l self.new
             ≡ (M.counted m.old).visits + unread lens.now.l.places self.old.stages) }

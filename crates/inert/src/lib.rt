@@ -2,13 +2,12 @@
 //!
 //! A step is inert if it is internal and stays in its block. A state's signature has the pairs that its other steps show, and
 //! those of the states that inert steps lead to. So states that lead to each other, a component, share one signature.
-//! The walk goes into the depth (Gabow 2000), and meets a step in one of five ways:
+//! The walk goes into the depth (Gabow 2000), and meets a step in one of four ways:
 //!
 //! - It is not inert: its pair is an item of the component.
 //! - It leads to a state that was not seen: the state is entered, as a component of its own with a frame for its row.
 //! - It leads to a state on the stack: all components from that state's on become one, so the roots above it are cut.
 //! - It leads to a finished state: the number of its list is an item of the component.
-//! - It leads to a state at rest, which has nothing to show.
 //!
 //! When a row was read, its frame is popped. If its state is the root of a component, the component is closed: the list of
 //! its items is the signature of its states, and the number of that list is an item of the component that led to it.
@@ -23,9 +22,9 @@
 //! A walk begins without a frame, with nothing on the stack: its first state is put there only if an inert step leads on to a
 //! state that was not seen. Most walks are one row: in ten rounds over nine buffers, steps enter 521 of 196,830 states.
 //!
-//! Between walks all states are at rest. A round wakes those that it looks at. The others have no transition, and so nothing
-//! to show, or nothing of their block is looked at, so that no inert step leads to them from a state that is. The walk from
-//! one state alone has stages of its own, where all states are unseen between walks. It keeps a trail of those that it sees,
+//! Between the walks of rounds all states are finished, each with the number of the list that is kept for it. A round wakes those
+//! that it looks at: they are unseen. For each other state of their blocks a list is kept that is its signature already. The walk
+//! from one state alone has stages of its own, where all states are unseen between walks. It keeps a trail of those that it sees,
 //! and makes them unseen again.
 #![tactic(auto)]
 

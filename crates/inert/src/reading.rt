@@ -3,8 +3,9 @@ ghost use Rattle.std.specs.Prelude.{◌≡◌, ◌+◌, ◌-◌, ◌<◌, ◌≤
 ghost use Rattle.std.specs.List.{All};
 ghost use Rattle.lts.specs.Meter.{HasRoomFor, Costs};
 ghost use Rattle.lts.specs.Lts.{row_of};
+ghost use Rattle.lists.specs.Lists.{Grow};
 ghost use Rattle.inert.specs.Search.{stage_at, AreOpen, AreThere, IsIdle, IsSigned};
-ghost use Rattle.inert.specs.Moves.{Closes, Finishes, ahead, steps, HasRead, IsUnderWay, GoesOn, Rests, ComesNearer, Finds, FindsNone};
+ghost use Rattle.inert.specs.Moves.{Closes, Finishes, ahead, steps, HasRead, IsUnderWay, SignsMore, GoesOn, Rests, ComesNearer, Finds, FindsNone};
 ghost use Rattle.inert.specs.Ahead.{unread, HasFinished};
 ghost use Rattle.inert.specs.declared.walk.Stage.TheVariants.{Unseen};
 
@@ -30,7 +31,9 @@ impl Walk {
         requires rests { Rests lens.now lists.old self.old }
         requires room { HasRoomFor (M.counted m.old) 0 (unread lens.now.l.places self.old.stages) }
         ensures rests { OnOk result (Rests lens.now lists.new self.new) }
+        ensures grow { OnOk result (Grow lists.old lists.new) }
         ensures finished { OnOk result (HasFinished s self.old.stages self.new.stages) }
+        ensures signs { OnOk result (SignsMore lens.now lists.new self.old.stages self.new.stages) }
         ensures visits { OnOk result ((M.counted m.new).visits + unread lens.now.l.places self.new.stages
             ≡ (M.counted m.old).visits + unread lens.now.l.places self.old.stages) }
         ensures cost { Costs (M.counted m.old) (M.counted m.new) 0 0 (unread lens.now.l.places self.old.stages) }
@@ -54,12 +57,12 @@ impl Walk {
         trail: &mut Vec<u32>,
         m: &mut M,
     ) -> Result<u32, Memory>
-        requires idle { IsIdle Unseen self.old }
+        requires idle { IsIdle self.old }
         requires stages { length self.old.stages ≡ lens.now.l.states }
         requires state { s < lens.now.l.states }
         requires room { HasRoomFor (M.counted m.old) 0 (length lens.now.l.places) }
         ensures signed { IfOk result (IsSigned lens.now s lists.new) }
-        ensures idle { OnOk result (IsIdle Unseen self.new) }
+        ensures idle { OnOk result (IsIdle self.new) }
         ensures row { OnOk result ((M.counted m.old).visits + length (row_of s lens.now.l.places) ≤ (M.counted m.new).visits) }
         ensures cost { Costs (M.counted m.old) (M.counted m.new) 0 0 (length lens.now.l.places) }
     {
@@ -92,6 +95,7 @@ impl Walk {
         requires way { IsUnderWay lens.now lists.old self.old }
         requires room { HasRoomFor (M.counted m.old) 0 (ahead lens.now.l self.old) }
         ensures on { OnOk result (GoesOn lens.now lists.new self.old self.new) }
+        ensures grow { OnOk result (Grow lists.old lists.new) }
         ensures visits { OnOk result ((M.counted m.new).visits + ahead lens.now.l self.new ≡ (M.counted m.old).visits + ahead lens.now.l self.old) }
         ensures nearer { OnOk result (steps lens.now.l self.new < steps lens.now.l self.old) }
         ensures finds { IfOk result (Finds self.old self.new) }
@@ -139,6 +143,7 @@ impl Walk {
         requires way { IsUnderWay lens.now lists.old self.old }
         requires read { HasRead self.old }
         ensures on { OnOk result (GoesOn lens.now lists.new self.old self.new) }
+        ensures grow { OnOk result (Grow lists.old lists.new) }
         ensures ahead { OnOk result (ahead lens.now.l self.new ≡ ahead lens.now.l self.old) }
         ensures back { OnOk result (length self.new.frames < length self.old.frames) }
         ensures finds { OnOk result (FindsNone self.old self.new) }

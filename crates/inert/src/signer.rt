@@ -3,42 +3,53 @@ ghost use Rattle.std.specs.Prelude.{◌≡◌, ◌⊎◌, ℕ, ◌<◌, length, 
 ghost use Rattle.theory.specs.declared.relation.Relation.TheVariants.{Branching};
 ghost use Rattle.lts.specs.Meter.{HasRoomFor, Visits};
 ghost use Rattle.lts.specs.Lts.{row_of};
-ghost use Rattle.lists.specs.Lists.{list_at, AreNumbers};
+ghost use Rattle.lists.specs.Lists.{list_at, AreNumbers, Grow};
 ghost use Rattle.partition.specs.Blocks.{IsOne, AreLive, HaveNone};
-ghost use Rattle.inert.specs.Signed.{IsSignature, LooksAtBlocks};
-ghost use Rattle.inert.specs.Search.{stage_at, nothing, AreAtRest, IsIdle, IsWoken};
-ghost use Rattle.inert.specs.Moves.{Rests};
-ghost use Rattle.inert.specs.declared.walk.Stage.TheVariants.{Unseen, Finished, AtRest};
+ghost use Rattle.inert.specs.Signed.{IsSignature, AreSignedBeside, ShowsNew};
+ghost use Rattle.inert.specs.Search.{stage_at, number_of, IsFinished, AreAwake, HasEnded};
+ghost use Rattle.inert.specs.Moves.{Rests, SignsMore};
+ghost use Rattle.inert.specs.Ahead.{KeepsSeen};
 
 use crate::lens::Lens;
 use crate::walk::{Stage, Walk};
-use lists::Lists;
+use lists::{EMPTY, Lists};
 use lts::{Lts, Memory, Meter};
 use partition::Blocks;
 use std::alloc::Global;
 use std::marker::Model;
 
-/// What signs states. Nothing that an earlier call has seen is left in it.
-#[derive(Drop)]
+/// What signs states. Its value is the number of the list that is kept for each state, from round to round.
 pub struct Signer {
     alloc: Global,
-    /// The walk of rounds: between them, states are at rest.
+    /// The walk of rounds: between them, states are finished, with the lists that are kept for them.
     walk: Walk,
-    /// The walk from one state alone: states rest as unseen ones.
+    /// The walk from one state alone: between walks no state was seen.
     single: Walk,
     /// The states that the walk from one state has seen.
     trail: Vec<u32>,
 }
 
+/// Written out, so that it is dropped by one call and not by one for each part.
+impl Drop for Signer {
+    fn drop(self) {
+        let Signer {
+            alloc: _,
+            walk: _,
+            single: _,
+            trail: _,
+        } = self;
+    }
+}
+
 impl Model for Signer {
-    ghost use Rattle.std.specs.Prelude.{ℕ, length};
-    ghost use Rattle.inert.specs.Search.{IsIdle, Unseen, AtRest};
+    ghost use Rattle.std.specs.Prelude.{ℕ, List};
+    ghost use Rattle.inert.specs.Search.{kept, IsIdle, HasEnded};
 
-    ghost Value = { ℕ };
+    ghost Value = { List ℕ };
 
-    ghost view = { λ x. length x.walk.stages };
+    ghost view = { λ x. kept x.walk.stages };
 
-    ghost invariant = { λ x. IsIdle AtRest x.walk × IsIdle Unseen x.single };
+    ghost invariant = { λ x. HasEnded x.walk × IsIdle x.single };
 }
 
 impl Signer {
@@ -71,7 +82,7 @@ impl Signer {
         ensures signature { IfOk result (λ k. IsSignature Branching l.now blocks.now s (list_at lists.new k)) }
         ensures visits { Visits M.counted m.old m.new result (length (row_of s l.now.places)) (length l.now.places) }
     {
-        self.single.prepare(self.alloc, l.states(), Stage::Unseen)?;
+        self.single.prepare(self.alloc, l.states())?;
         let lens = Lens::new(l, blocks);
         let done = self.single.sign(&lens, s, lists, &mut self.trail, m);
         if done.is_err() {
@@ -81,10 +92,22 @@ impl Signer {
         done
     }
 
-    /// Puts the branching signature of each state that a round looks at into `lists`, and its number there into `numbers`. The
-    /// others have no transition, or nothing of their block is looked at, and have the number of the empty list already.
+    /// Keeps the empty list for each of so many states.
     ///
-    /// Fails if there is no memory for it. It is open then which lists there are.
+    /// Fails if there is no memory for it.
+    pub fn forget(&mut self, states: u32) -> Result<(), Memory>
+        ensures size { OnOk result (length self.new ≡ states) }
+        ensures empty { OnOk result ((s : ℕ) → slice_index self.new s ≡ 0) }
+    {
+        self.walk.finish_all(self.alloc, states)?;
+        Ok(())
+    }
+
+    /// Puts the branching signature of each state that a round looks at into `lists`, and keeps its number there. The others keep
+    /// what is kept for them: their signatures, where something of their block is looked at. Puts the number of each that has
+    /// another list than before into `numbers`, and that of the empty list for those that have not.
+    ///
+    /// Fails if there is no memory for it. It is open then which lists there are, and what is kept.
     pub fn sign_each<M: Meter>(
         &mut self,
         l: &Lts<M>,
@@ -94,33 +117,56 @@ impl Signer {
         m: &mut M,
     ) -> Result<(), Memory>
         requires blocks { length blocks.now.of ≡ l.now.states }
-        requires others { LooksAtBlocks l.now blocks.now.of blocks.now.live }
+        requires kept { AreSignedBeside l.now blocks.now.of blocks.now.live lists.old self.old }
+        requires lists { (length self.old ≡ l.now.states) × AreNumbers lists.old self.old }
         requires numbers { (length numbers.old ≡ l.now.states) × HaveNone blocks.now.live numbers.old }
         requires room { HasRoomFor (M.counted m.old) 0 (length l.now.places) }
 
         // Once it is done
         ensures signed { OnOk result ((s : ℕ) → IsOne blocks.now.live s →
-            IsSignature Branching l.now blocks.now.of s (list_at lists.new (slice_index numbers.new s))) }
+            IsSignature Branching l.now blocks.now.of s (list_at lists.new (slice_index self.new s))) }
+        ensures changed { OnOk result ((s : ℕ) → IsOne blocks.now.live s →
+            ShowsNew (slice_index self.old s) (slice_index self.new s) (slice_index numbers.new s)) }
+        ensures still { OnOk result ((s : ℕ) → IsOne blocks.now.live s ⊎ (slice_index self.new s ≡ slice_index self.old s)) }
+        ensures lists { OnOk result ((length self.new ≡ l.now.states) × AreNumbers lists.new self.new) }
         ensures numbers { OnOk result (AreNumbers lists.new numbers.new) }
+        ensures grow { OnOk result (Grow lists.old lists.new) }
 
         // In either case
         ensures visits { let n = length l.now.places in Visits M.counted m.old m.new result n n }
         ensures others { HaveNone blocks.now.live numbers.new }
     {
-        self.walk.prepare(self.alloc, l.states(), Stage::AtRest)?;
+        lists.known();
         let live = blocks.live();
+        put_kept(&self.walk, live, numbers);
         self.walk.wake(live);
         let lens = Lens::new(l, blocks.of());
         match walk_all(&mut self.walk, &lens, live, lists, m) {
             Ok(()) => {
-                number(&mut self.walk, live, numbers);
+                number(&self.walk, live, numbers);
                 Ok(())
             }
             Err(refusal) => {
-                self.walk.reset();
+                // Which states were seen is open, so nothing is kept.
+                self.walk = Walk::new(self.alloc);
                 Err(refusal)
             }
         }
+    }
+}
+
+/// Puts the number of the list that is kept for each of these states into its place.
+fn put_kept(walk: &Walk, live: &[u32], numbers: &mut [u32])
+    requires size { length numbers.old ≡ length walk.now.stages }
+    requires live { AreLive (length walk.now.stages) live.now }
+    requires over { HasEnded walk.now }
+    ensures live { (i : ℕ) → i < length live.now →
+        let s = slice_index live.now i in slice_index numbers.new s ≡ number_of (stage_at walk.now.stages s) }
+    ensures others { (s : ℕ) → IsOne live.now s ⊎ (slice_index numbers.new s ≡ slice_index numbers.old s) }
+{
+    for i in 0..live.len() {
+        let s = live[i] as usize;
+        numbers[s] = walk.list(s);
     }
 }
 
@@ -137,17 +183,18 @@ fn walk_all<M: Meter>(
     lists: &mut Lists,
     m: &mut M,
 ) -> Result<(), Memory>
-    requires woken { IsWoken lens.now.l.states live.now walk.old }
+    requires awake { AreAwake lens.now.l.states live.now walk.old.stages }
     requires live { AreLive lens.now.l.states live.now }
-    requires others { LooksAtBlocks lens.now.l lens.now.blocks live.now }
+    requires rests { Rests lens.now lists.old walk.old }
     requires room { HasRoomFor (M.counted m.old) 0 (length lens.now.l.places) }
     ensures rests { OnOk result (Rests lens.now lists.new walk.new) }
-    ensures all { OnOk result ((i : ℕ) → i < length live.now → (k : ℕ) × (stage_at walk.new.stages (slice_index live.now i) ≡ Finished k)) }
-    ensures others { OnOk result (AreAtRest live.now walk.new.stages) }
+    ensures all { OnOk result ((i : ℕ) → i < length live.now → IsFinished walk.new.stages (slice_index live.now i)) }
+    ensures signs { OnOk result (SignsMore lens.now lists.new walk.old.stages walk.new.stages) }
+    ensures seen { OnOk result (KeepsSeen walk.old.stages walk.new.stages) }
+    ensures grow { OnOk result (Grow lists.old lists.new) }
     ensures visits { let n = length lens.now.l.places in Visits M.counted m.old m.new result n n }
 {
     lens.known();
-    lists.known();
     let mut to = lens.edges();
     for i in (0..live.len()).rev() {
         let s = live[i];
@@ -163,20 +210,19 @@ fn walk_all<M: Meter>(
     Ok(())
 }
 
-/// Puts the number of the list of each of these states, all of which are finished, in its place, and the states to rest.
-fn number(walk: &mut Walk, live: &[u32], numbers: &mut [u32])
-    requires size { length numbers.old ≡ length walk.old.stages }
-    requires live { AreLive (length walk.old.stages) live.now }
-    requires finished { (i : ℕ) → i < length live.now → (k : ℕ) × (stage_at walk.old.stages (slice_index live.now i) ≡ Finished k) }
-    requires empty { walk.old ≡ nothing walk.old.stages }
-    requires rest { AreAtRest live.now walk.old.stages }
-    ensures idle { IsIdle AtRest walk.new }
-    ensures live { (i : ℕ) → i < length live.now →
-        let s = slice_index live.now i in stage_at walk.old.stages s ≡ Finished (slice_index numbers.new s) }
+/// Where one of these states, all of which are finished, had the number of another list, puts that of the new one into its place, and
+/// else that of the empty list.
+fn number(walk: &Walk, live: &[u32], numbers: &mut [u32])
+    requires size { length numbers.old ≡ length walk.now.stages }
+    requires live { AreLive (length walk.now.stages) live.now }
+    requires finished { (i : ℕ) → i < length live.now → IsFinished walk.now.stages (slice_index live.now i) }
+    ensures live { (i : ℕ) → i < length live.now → let s = slice_index live.now i in
+        ShowsNew (slice_index numbers.old s) (number_of (stage_at walk.now.stages s)) (slice_index numbers.new s) }
     ensures others { (s : ℕ) → IsOne live.now s ⊎ (slice_index numbers.new s ≡ slice_index numbers.old s) }
 {
     for i in 0..live.len() {
         let s = live[i] as usize;
-        numbers[s] = walk.rest(s);
+        let list = walk.list(s);
+        numbers[s] = if numbers[s] == list { EMPTY } else { list };
     }
 }

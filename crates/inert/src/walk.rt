@@ -4,9 +4,9 @@ ghost use Rattle.std.specs.Prelude.{◌≡◌, ◌↔◌, ℕ, ◌-◌, ◌<◌,
 ghost use Rattle.std.specs.List.{All};
 ghost use Rattle.lts.specs.declared.limits.TheConstants.{MOST_STATES};
 ghost use Rattle.partition.specs.Blocks.{AreLive};
-ghost use Rattle.inert.specs.Search.{Search, stage_at, nothing, top, last, IsIdle, IsWoken, IsTrail, AreUnseen};
+ghost use Rattle.inert.specs.Search.{Search, stage_at, nothing, top, last, IsIdle, HasEnded, IsWoken, IsTrail, AreUnseen};
 ghost use Rattle.inert.specs.Moves.{with_stage, entered, Enters, LeadsOn, Follows, TakesStep, with_item, popped, CutsRoots};
-ghost use Rattle.inert.specs.declared.walk.Stage.TheVariants.{Unseen, Finished, AtRest};
+ghost use Rattle.inert.specs.declared.walk.Stage.TheVariants.{Unseen, Finished};
 ghost use Rattle.inert.specs.declared.step.Step.TheVariants.{Inert, Shows};
 ghost use Rattle.inert.specs.declared.item.Item.TheVariants.{Pair};
 ghost use Rattle.inert.specs.declared.item.TheConstants.{LISTED};
@@ -14,6 +14,7 @@ ghost use Rattle.inert.specs.declared.item.TheConstants.{LISTED};
 use crate::item::{CompactItem, Item};
 use crate::lens::Lens;
 use crate::step::Step;
+use lists::EMPTY;
 use lts::{Memory, Meter};
 use std::alloc::Global;
 use std::marker::Model;
@@ -24,10 +25,9 @@ pub(crate) enum Stage {
     Unseen,
     /// On the stack, at this height.
     Open(u32),
-    /// Finished: its signature is the list of this number.
+    /// Finished: its signature is the list of this number. Or it was finished in an earlier round, and all states of its block are
+    /// finished.
     Finished(u32),
-    /// At rest: during a walk it has no transition, or all states of its block are at rest.
-    AtRest,
 }
 
 /// A state whose row is being read: its height on the stack, and what is left of its row.
@@ -46,7 +46,6 @@ pub(crate) struct Root {
 }
 
 /// A walk, with what it knows and has collected.
-#[derive(Drop)]
 pub(crate) struct Walk {
     /// What is known of each state.
     pub stages: Vec<Stage>,
@@ -61,6 +60,21 @@ pub(crate) struct Walk {
     pub numbers: Vec<u32>,
     /// Where the pairs that a component has collected are put together.
     pub pairs: Vec<(u32, u32)>,
+}
+
+/// Written out, so that it is dropped by one call and not by one for each part.
+impl Drop for Walk {
+    fn drop(self) {
+        let Walk {
+            stages: _,
+            stack: _,
+            frames: _,
+            roots: _,
+            items: _,
+            numbers: _,
+            pairs: _,
+        } = self;
+    }
 }
 
 impl Model for Walk {
@@ -93,26 +107,43 @@ impl Walk {
         }
     }
 
-    /// Makes the stages for so many states, unless they are there: all states rest with this stage.
+    /// Makes the stages for so many states, unless they are there: none was seen.
     ///
     /// Fails if there is no memory for them.
-    pub fn prepare(&mut self, alloc: Global, states: u32, at_rest: Stage) -> Result<(), Memory>
-        requires idle { IsIdle at_rest self.old }
-        ensures idle { IsIdle at_rest self.new }
+    pub fn prepare(&mut self, alloc: Global, states: u32) -> Result<(), Memory>
+        requires idle { IsIdle self.old }
+        ensures idle { IsIdle self.new }
         ensures size { OnOk result (length self.new.stages ≡ states) }
     {
         if self.stages.len() == states as usize {
             return Ok(());
         }
-        self.stages = vec![in alloc; at_rest; states as usize]?;
+        self.stages = vec![in alloc; Stage::Unseen; states as usize]?;
+        Ok(())
+    }
+
+    /// Makes the stages for so many states: all are finished, with the empty list.
+    ///
+    /// Fails if there is no memory for them.
+    pub fn finish_all(&mut self, alloc: Global, states: u32) -> Result<(), Memory>
+        requires over { HasEnded self.old }
+        ensures over { HasEnded self.new }
+        ensures size { OnOk result (length self.new.stages ≡ states) }
+        ensures empty { OnOk result (All (λ stage. stage ≡ Finished 0) self.new.stages) }
+    {
+        if self.stages.len() == states as usize {
+            self.stages.fill(Stage::Finished(EMPTY));
+            return Ok(());
+        }
+        self.stages = vec![in alloc; Stage::Finished(EMPTY); states as usize]?;
         Ok(())
     }
 
     /// Wakes these states: from now on they are unseen.
     pub fn wake(&mut self, live: &[u32])
-        requires idle { IsIdle AtRest self.old }
+        requires over { HasEnded self.old }
         requires live { AreLive (length self.old.stages) live.now }
-        ensures { IsWoken (length self.old.stages) live.now self.new }
+        ensures { IsWoken self.old.stages live.now self.new }
     {
         make_unseen(&mut self.stages, live);
     }
@@ -121,20 +152,9 @@ impl Walk {
     pub fn forget(&mut self, trail: &[u32])
         requires over { self.old ≡ nothing self.old.stages }
         requires trail { IsTrail self.old.stages trail.now }
-        ensures idle { IsIdle Unseen self.new }
+        ensures idle { IsIdle self.new }
     {
         make_unseen(&mut self.stages, trail);
-    }
-
-    /// Puts all states to rest, and ends the walk.
-    pub fn reset(&mut self)
-        ensures { IsIdle AtRest self.new }
-    {
-        self.stages.fill(Stage::AtRest);
-        self.stack.clear();
-        self.frames.clear();
-        self.roots.clear();
-        self.items.clear();
     }
 
     /// Whether the state `s` was not seen.
@@ -146,7 +166,6 @@ impl Walk {
             Stage::Unseen => true,
             Stage::Open(_) => false,
             Stage::Finished(_) => false,
-            Stage::AtRest => false,
         }
     }
 
@@ -160,20 +179,7 @@ impl Walk {
             Stage::Finished(list) => list,
             Stage::Unseen => unreachable!(),
             Stage::Open(_) => unreachable!(),
-            Stage::AtRest => unreachable!(),
         }
-    }
-
-    /// The number of the list of the state `s`, which is finished, and at rest from now on.
-    pub fn rest(&mut self, s: usize) -> u32
-        requires state { s < length self.old.stages }
-        requires finished { (k : ℕ) × (stage_at self.old.stages s ≡ Finished k) }
-        ensures list { stage_at self.old.stages s ≡ Finished result }
-        ensures rests { self.new ≡ with_stage s AtRest self.old }
-    {
-        let list = self.list(s);
-        self.stages[s] = Stage::AtRest;
-        list
     }
 
     /// Whether the step is an inert one to a state that was not seen, or is on the stack.
@@ -188,7 +194,6 @@ impl Walk {
                 Stage::Unseen => true,
                 Stage::Open(_) => true,
                 Stage::Finished(_) => false,
-                Stage::AtRest => false,
             },
         }
     }
@@ -266,11 +271,6 @@ impl Walk {
         requires heights { length self.old.stack ≤ MOST_STATES }
         ensures { IfOk result (Follows lens.now.l.places t self.old self.new) }
     {
-        // Apart from the others: a jump by four stages took 1 % more instructions where most steps are inert.
-        if let Stage::Finished(list) = self.stages[t as usize] {
-            self.collect(Item::Listed(list))?;
-            return Ok(false);
-        }
         match self.stages[t as usize] {
             Stage::Unseen => {
                 self.enter(lens, t)?;
@@ -280,8 +280,10 @@ impl Walk {
                 cut(&mut self.roots, height);
                 Ok(false)
             }
-            Stage::Finished(_) => unreachable!(),
-            Stage::AtRest => Ok(false),
+            Stage::Finished(list) => {
+                self.collect(Item::Listed(list))?;
+                Ok(false)
+            }
         }
     }
 

@@ -9,6 +9,8 @@ pub mod BranchingLaws
 pub mod InertSteps
 pub mod RefinementLaws
 pub mod Signatures
+pub mod Untouched
+pub mod KeptLists
 pub mod Refinement
 pub mod RisingLists
 pub mod Tally

@@ -4,3 +4,5 @@ pub mod Blocks
 pub mod Quotient
 pub mod Alike
 pub mod Union
+pub mod Untouched
+pub mod Kept

@@ -1,12 +1,14 @@
 -- What a walk says of the states below a height holds still after a move that keeps them, and after lists were added.
-use Rattle.std.proofs.Common.{◌≡◌, ◌⊎◌, ◌↔◌, ℕ, ◌<◌, ◌≤◌, List, length, slice_index, refl, sym, ◌∙◌, subst, inl, inr, arith, Contains}
+use Rattle.std.proofs.Common.{◌≡◌, ◌⊎◌, ℕ, ◌<◌, ◌≤◌, List, length, slice_index, refl, sym, ◌∙◌, subst, inl, inr, arith, Contains}
 use Rattle.std.specs.List.{All}
 use Rattle.theory.specs.declared.relation.Relation.TheVariants.{Branching}
 use Rattle.lts.specs.Lts.{Triple, source_of, place_at}
 use Rattle.lists.specs.Lists.{Grow}
 use Rattle.inert.specs.Steps.{Under}
 use Rattle.inert.specs.Signed.{HasPair, pair_under, IsSignature}
-use Rattle.inert.specs.Search.{Search, stage_at, item_at, Gives, IsUpTo, IsOf, HoldsPair, IsAhead, IsEntered, IsFollowed, Accounted, IsSound, IsThere, IsRoot, AreRoots, Walks, Open, Finished, AtRest, Frame, Root, Item, Pair, Listed}
+use Rattle.inert.specs.Moves.{SignsMore, GoesOn}
+use Rattle.inert.proofs.parts.Stages.{seen_on}
+use Rattle.inert.specs.Search.{Search, Stage, IsSigned, stage_at, item_at, Gives, IsUpTo, IsOf, HoldsPair, IsAhead, IsEntered, IsFollowed, Accounted, IsSound, IsThere, IsRoot, AreRoots, Walks, Open, Finished, Frame, Root, Item, Pair, Listed}
 
 -- the states at places below n, their components and their items are as they were
 pub record Keeps (w new : Search) (n : ℕ) : Type 0 where
@@ -18,7 +20,6 @@ pub record Keeps (w new : Search) (n : ℕ) : Type 0 where
   pub items : (j p : ℕ) → j < length w.items → p < n → IsOf w.roots j p → (j < length new.items) × (item_at new.items j ≡ item_at w.items j)
   pub opened : (s p : ℕ) → p < n → stage_at w.stages s ≡ Open p → stage_at new.stages s ≡ Open p
   pub finished : (s k : ℕ) → stage_at w.stages s ≡ Finished k → stage_at new.stages s ≡ Finished k
-  pub resting : (s : ℕ) → (stage_at new.stages s ≡ AtRest) ↔ (stage_at w.stages s ≡ AtRest)
 
 -- a move that leaves the stages and the stack alone, the items that are there, and roots, unless it drops some
 pub keeps_stack : (w : Search) (frames : List Frame) (roots : List Root) (items : List Item)
@@ -33,7 +34,6 @@ keeps_stack w frames roots items same fewer = record {
   items = λ j p low h of. same j low;
   opened = λ s p h is. is;
   finished = λ s k is. is;
-  resting = λ s. (λ is. is, λ is. is);
 }
 
 -- components stay where they begin
@@ -58,7 +58,7 @@ module _ {u : Under} {lists : List (List (ℕ × ℕ))} {w : Search} (walks : Wa
       → Accounted u lists new p e
   done_still p e h entered done = record {
     shown = λ other. holds_still p (pair_under u.blocks e) h (done.shown other);
-    followed = λ inert awake. followed_still p e.2 h (entered e.2) (done.followed inert (λ is. awake ((keeps.resting e.2).1 is)));
+    followed = λ inert. followed_still p e.2 h (entered e.2) (done.followed inert);
   }
 
   -- a transition that was taken into account, or was still to be read
@@ -85,6 +85,35 @@ module _ {u : Under} {lists : List (List (ℕ × ℕ))} {w : Search} (walks : Wa
             subst (λ s. HasPair Branching u.l u.blocks s z.0 z.1) (sym (keeps.states p h)) (all z (subst (λ x. Gives lists x z) (keeps.items j p low h of).1 g)),
       )
 
+-- no list was added, or some and then more
+pub grow_same : (lists : List (List (ℕ × ℕ))) → Grow lists lists
+grow_same lists = record { longer = omega arith; same = λ k h. refl }
+
+pub grow_on : {first mid lists : List (List (ℕ × ℕ))} → Grow first mid → Grow mid lists → Grow first lists
+grow_on was then = record {
+  longer = omega (arith, was.longer, then.longer);
+  same = λ k h. then.same k (omega (arith, h, was.longer)) ∙ was.same k h;
+}
+
+-- a signature is there still
+signed_grow : {u : Under} {s k : ℕ} {lists lists' : List (List (ℕ × ℕ))} → Grow lists lists' → IsSigned u s lists k → IsSigned u s lists' k
+signed_grow {u = u} {s = s} {k = k} grow was = record {
+  within = omega (arith, was.within, grow.longer);
+  signature = subst (IsSignature Branching u.l u.blocks s) (sym (grow.same k was.within)) was.signature;
+}
+
+-- states are finished, and then more
+pub signs_on : (u : Under) (first lists : List (List (ℕ × ℕ))) (old mid new : List Stage) → Grow first lists → SignsMore u first old mid → SignsMore u lists mid new
+    → SignsMore u lists old new
+signs_on u first lists old mid new grow were are s k is = elim (are s k is) [
+  | inr sign ↦ inr sign
+  | inl was ↦ elim (were s k was) [ inl old ↦ inl old | inr sign ↦ inr (signed_grow grow sign) ]
+]
+
+-- a walk goes on, and then further
+pub goes_on : {u : Under} {first lists : List (List (ℕ × ℕ))} {old mid new : Search} → Grow first lists → GoesOn u first old mid → GoesOn u lists mid new → GoesOn u lists old new
+goes_on grow were are = record { walks = are.walks; seen = seen_on were.seen are.seen; signs = signs_on _ _ _ _ _ _ grow were.signs are.signs }
+
 -- lists were added
 module _ {lists lists' : List (List (ℕ × ℕ))} (grow : Grow lists lists') where
   -- an item gives the same
@@ -98,22 +127,22 @@ module _ {lists lists' : List (List (ℕ × ℕ))} (grow : Grow lists lists') wh
 
     followed : (p t : ℕ) → IsFollowed lists w p t → IsFollowed lists' w p t
     followed p t (inl here) = inl here
-    followed p t (inr (inl (k, is, all))) = inr (inl (k, is, λ z c. holds p z (all z (subst (λ xs. Contains xs z) (grow.same k (walks.signed.finished t k is).within) c))))
+    followed p t (inr (inl (k, is, all))) = inr (inl (k, is, λ z c. holds p z (all z (subst (λ xs. Contains xs z) (grow.same k (walks.signed t k is).within) c))))
     followed p t (inr (inr entered)) = inr (inr entered)
 
     pub Walks-grow : Walks u lists' w
     Walks-grow = record {
       numbers = omega (arith, walks.numbers, grow.longer);
       opened = walks.opened;
-      signed = record {
-        finished = λ s k is.
-            let was = walks.signed.finished s k is in
-            record {
-              within = omega (arith, was.within, grow.longer);
-              signature = subst (IsSignature Branching u.l u.blocks s) (sym (grow.same k was.within)) was.signature;
-            };
-        resting = walks.signed.resting;
-      };
+      signed = λ s k is.
+          let was = walks.signed s k is in
+          record {
+            within = omega (arith, was.within, grow.longer);
+            signature = λ t inside same. elim (was.signature t inside same) [
+              | inl done ↦ inl done
+              | inr sign ↦ inr (subst (IsSignature Branching u.l u.blocks s) (sym (grow.same k was.within)) sign)
+            ];
+          };
       roots = walks.roots;
       frames = walks.frames;
       connects = walks.connects;
@@ -121,6 +150,6 @@ module _ {lists lists' : List (List (ℕ × ℕ))} (grow : Grow lists lists') wh
       sound = λ j low. let (p, lp, of, all) = walks.sound j low in (p, lp, of, λ z g. all z ((Gives-grow (item_at w.items j) (walks.there j (Pair 0 0) low) z).1 g));
       accounted = λ p k lp lk source. elim (walks.accounted p k lp lk source) [
         | inl ahead ↦ inl ahead
-        | inr done ↦ inr (record { shown = λ other. holds p _ (done.shown other); followed = λ inert awake. followed p _ (done.followed inert awake) })
+        | inr done ↦ inr (record { shown = λ other. holds p _ (done.shown other); followed = λ inert. followed p _ (done.followed inert) })
       ];
     }

@@ -1,70 +1,110 @@
 -- A walk at rest: before it has begun, and when it is over, with the signatures of its states.
-use Rattle.std.proofs.Common.{◌≡◌, ◌⊎◌, ◌∙◌, ℕ, ◌<◌, ◌≤◌, List, length, refl, sym, ap, inl, inr, arith}
+use Rattle.std.proofs.Common.{◌≡◌, ◌⊎◌, ◌∙◌, ℕ, ◌<◌, ◌≤◌, List, length, slice_index, refl, sym, ap, subst, inl, inr, arith}
+use Rattle.std.specs.List.{All}
 use Rattle.std.proofs.lemmas.Bool.{cases_lt}
-use Rattle.std.proofs.lemmas.List.{get_or_past, nil_from_length}
+use Rattle.std.proofs.lemmas.List.{get_or_past, get_or-map, length-map, nil_from_length}
 use Rattle.std.proofs.lemmas.List.Sums.{count_by-le-length}
+use Rattle.theory.specs.declared.relation.Relation.TheVariants.{Branching}
+use Rattle.lists.specs.Lists.{list_at, AreNumbers}
 use Rattle.partition.specs.Blocks.{IsOne}
 use Rattle.inert.specs.Steps.{Under}
-use Rattle.inert.specs.Signed.{LooksAtBlocks}
-use Rattle.inert.specs.Search.{Search, nothing, stage_at, no_root, AreAtRest, RestTogether, IsIdle, IsWoken, Walks, Unseen, Open, Finished, AtRest, Stage}
+use Rattle.inert.specs.Signed.{AreSignedBeside, IsSignature}
+use Rattle.inert.specs.Search.{Search, nothing, stage_at, number_of, kept, no_root, AreOthers, AreAwake, AreSigned, IsFinished, HasEnded, IsIdle, IsWoken, Walks, Unseen, Open, Finished, Stage}
 use Rattle.inert.specs.Moves.{Rests}
 use Rattle.inert.specs.Ahead.{is_unseen, unseen, KeepsSeen}
 use Rattle.inert.proofs.invariant.Standing.{frames_some, root_low}
 
--- each state is unseen or at rest, with its block
+-- each state is unseen, or finished with the list that is kept for it
 pub new_rests : (u : Under) (lists : List (List (ℕ × ℕ))) {w : Search} → w ≡ nothing w.stages → length w.stages ≡ u.l.states → 1 ≤ length lists
-    → ((s : ℕ) → (stage_at w.stages s ≡ Unseen) ⊎ (stage_at w.stages s ≡ AtRest)) → RestTogether u w.stages → Rests u lists w
-new_rests u lists {w = w} empty size some each together =
+    → ((s : ℕ) → (stage_at w.stages s ≡ Unseen) ⊎ IsFinished w.stages s) → AreSigned u lists w.stages → Rests u lists w
+new_rests u lists {w = w} empty size some each kept =
     let few : unseen w.stages ≤ length w.stages = count_by-le-length is_unseen w.stages in
     record {
       empty = empty;
       numbers = omega (arith, few);
-      shut = λ s p is. elim (each s) [ inl none ↦ cc (none, is) | inr rest ↦ cc (rest, is) ];
-      signed = record {
-        finished = λ s k is. elim (each s) [ inl none ↦ absurd (cc (none, is)) | inr rest ↦ absurd (cc (rest, is)) ];
-        resting = together;
-      };
+      shut = λ s p is. elim (each s) [ inl none ↦ cc (none, is) | inr done ↦ cc (done.1, is) ];
+      signed = kept;
     }
 
--- if the states rest as unseen ones, none was seen
-pub idle_unseen : {w : Search} → IsIdle Unseen w → (s : ℕ) → stage_at w.stages s ≡ Unseen
+-- if no state was seen, none past the last one was
+pub idle_unseen : {w : Search} → IsIdle w → (s : ℕ) → stage_at w.stages s ≡ Unseen
 idle_unseen {w = w} idle s = elim (cases_lt s (length w.stages)) [ inl low ↦ idle.rest s low | inr past ↦ get_or_past w.stages s Unseen past ]
 
--- the states that are looked at were woken
-module _ {states : ℕ} {live : List ℕ} {w : Search} (woken : IsWoken states live w) where
-  awake : (s : ℕ) → IsOne live s → stage_at w.stages s ≡ Unseen
-  awake s one = ap (stage_at w.stages) (sym one.2) ∙ woken.awake one.0 one.1
+-- a state that has a stage is one
+pub finished_inside : (stages : List Stage) (s k : ℕ) → stage_at stages s ≡ Finished k → s < length stages
+finished_inside stages s k is = elim (cases_lt s (length stages)) [ inl inside ↦ inside | inr past ↦ absurd (cc (get_or_past stages s Unseen past, is)) ]
 
-  -- each other state is at rest, or past the last one
-  unless_resting : (s : ℕ) → (stage_at w.stages s ≡ Unseen) ⊎ (stage_at w.stages s ≡ AtRest)
-  unless_resting s = elim (cases_lt s (length w.stages)) [
-    | inr past ↦ inl (get_or_past w.stages s Unseen past)
-    | inl inside ↦ elim (woken.rest s inside) [ inl one ↦ inl (awake s one) | inr rest ↦ inr rest ]
+-- nothing is kept past the last state
+pub kept_past : (stages : List Stage) (s : ℕ) → length stages ≤ s → slice_index (kept stages) s ≡ 0
+kept_past stages s past = get_or_past (kept stages) s 0 (omega (arith, past, length-map stages number_of))
+
+-- the number of the list that is kept for a state
+pub kept_is : (stages : List Stage) (s : ℕ) → slice_index (kept stages) s ≡ number_of (stage_at stages s)
+kept_is stages s = elim (cases_lt s (length stages)) [
+  | inl inside ↦ get_or-map number_of stages s Unseen 0 inside
+  | inr past ↦ kept_past stages s past ∙ ap number_of (sym (get_or_past stages s Unseen past))
+]
+
+pub kept_at : (stages : List Stage) (s k : ℕ) → stage_at stages s ≡ Finished k → slice_index (kept stages) s ≡ k
+kept_at stages s k is = kept_is stages s ∙ ap number_of is
+
+-- if each state is finished with the empty list, nothing else is kept
+pub kept_empty : (stages : List Stage) → All (λ stage. stage ≡ Finished 0) stages → (s : ℕ) → slice_index (kept stages) s ≡ 0
+kept_empty stages all s = elim (cases_lt s (length stages)) [ inl inside ↦ kept_at stages s 0 (all s Unseen inside) | inr past ↦ kept_past stages s past ]
+
+-- the states that are looked at were woken, and all were finished
+pub woken_awake : {live : List ℕ} {old w : Search} → IsWoken old.stages live w → HasEnded old → AreAwake (length old.stages) live w.stages
+woken_awake woken over = record {
+  size = woken.size;
+  awake = woken.awake;
+  others = λ s h. elim (woken.others s) [
+    | inl one ↦ inl one
+    | inr same ↦ let was = over.all s (omega (arith, h, woken.size)) in inr (was.0, same ∙ was.1)
+  ];
+}
+
+module _ {states : ℕ} {live : List ℕ} {stages : List Stage} (are : AreAwake states live stages) where
+  pub awake : (s : ℕ) → IsOne live s → stage_at stages s ≡ Unseen
+  awake s one = ap (stage_at stages) (sym one.2) ∙ are.awake one.0 one.1
+
+  -- each other state is finished, or past the last one
+  unless_finished : (s : ℕ) → (stage_at stages s ≡ Unseen) ⊎ IsFinished stages s
+  unless_finished s = elim (cases_lt s (length stages)) [
+    | inr past ↦ inl (get_or_past stages s Unseen past)
+    | inl inside ↦ elim (are.others s inside) [ inl one ↦ inl (awake s one) | inr done ↦ inr done ]
   ]
 
-  rest_inside : (s : ℕ) → stage_at w.stages s ≡ AtRest → s < length w.stages
-  rest_inside s is = elim (cases_lt s (length w.stages)) [ inl inside ↦ inside | inr past ↦ absurd (cc (get_or_past w.stages s Unseen past, is)) ]
+  -- the others are finished still, after a walk
+  pub others_on : {new : List Stage} → KeepsSeen stages new → length new ≡ states → AreOthers live new
+  others_on seen size s h = elim (are.others s (omega (arith, h, size, are.size))) [ inl one ↦ inl one | inr (k, is) ↦ inr (k, seen.finished s k is) ]
 
-  pub woken_rests : {u : Under} {lists : List (List (ℕ × ℕ))} → u.l.states ≡ states → length u.blocks ≡ u.l.states → LooksAtBlocks u.l u.blocks live
-      → 1 ≤ length lists → Rests u lists w
-  woken_rests {u = u} {lists = lists} all size others some =
-      new_rests u lists woken.empty (woken.size ∙ sym all) some unless_resting (λ s t inside is same. elim (woken.rest t (omega (arith, inside, woken.size, all))) [
-        | inr rest ↦ inl rest
-        | inl one ↦ elim (others s t (omega (arith, rest_inside s is, woken.size, all)) inside (sym same) one) [
-          | inl too ↦ absurd (cc (awake s too, is))
-          | inr empty ↦ inr empty
-        ]
-      ])
+-- so a walk can begin, if lists are kept for the others
+pub woken_rests : {u : Under} {lists : List (List (ℕ × ℕ))} {live : List ℕ} {old w : Search} → IsWoken old.stages live w → HasEnded old → length old.stages ≡ u.l.states
+    → AreNumbers lists (kept old.stages) → AreSignedBeside u.l u.blocks live lists (kept old.stages) → 1 ≤ length lists → Rests u lists w
+woken_rests {u = u} {lists = lists} {live = live} {old = old} {w = w} woken over size numbers are some =
+    let awakes = woken_awake woken over in
+    new_rests u lists woken.empty (woken.size ∙ size) some (unless_finished awakes) (λ s k is.
+    let inside : s < length old.stages = omega (arith, finished_inside w.stages s k is, woken.size) in
+    elim (woken.others s) [
+      | inl one ↦ absurd (cc (awake awakes s one, is))
+      | inr same ↦
+          let number : slice_index (kept old.stages) s ≡ k = kept_at old.stages s k (sym same ∙ is) in
+          record {
+            within = subst (λ n. n < length lists) number (numbers s 0 (omega (arith, inside, length-map old.stages number_of)));
+            signature = λ t low block. elim (awakes.others t (omega (arith, low, size, woken.size))) [
+              | inr done ↦ inl done
+              | inl one ↦ elim (are s t (omega (arith, inside, size)) low (sym block) one) [
+                | inl too ↦ absurd (cc (awake awakes s too, is))
+                | inr signature ↦ inr (subst (λ n. IsSignature Branching u.l u.blocks s (list_at lists n)) number signature)
+              ]
+            ];
+          }
+    ])
 
-  -- the others are at rest still, after a walk
-  pub rest_on : {stages : List Stage} → KeepsSeen w.stages stages → length stages ≡ states → AreAtRest live stages
-  rest_on seen size s h = elim (woken.rest s (omega (arith, h, size, woken.size))) [ inl one ↦ inl one | inr rest ↦ inr ((seen.resting s).1 rest) ]
-
-finished_stage : (m : Stage) → ¬ (m ≡ Unseen) → ((p : ℕ) → ¬ (m ≡ Open p)) → ¬ (m ≡ AtRest) → (k : ℕ) × (m ≡ Finished k)
-finished_stage Unseen seen shut awake = absurd (seen refl)
-finished_stage (Open p) seen shut awake = absurd (shut p refl)
-finished_stage (Finished k) seen shut awake = (k, refl)
-finished_stage AtRest seen shut awake = absurd (awake refl)
+finished_stage : (m : Stage) → ¬ (m ≡ Unseen) → ((p : ℕ) → ¬ (m ≡ Open p)) → (k : ℕ) × (m ≡ Finished k)
+finished_stage Unseen seen shut = absurd (seen refl)
+finished_stage (Open p) seen shut = absurd (shut p refl)
+finished_stage (Finished k) seen shut = (k, refl)
 
 module _ {u : Under} {lists : List (List (ℕ × ℕ))} {w : Search} (rests : Rests u lists w) where
   pub idle_walks : Walks u lists (nothing w.stages)
@@ -84,9 +124,8 @@ module _ {u : Under} {lists : List (List (ℕ × ℕ))} {w : Search} (rests : Re
   within inside = let size = rests.numbers.size in omega (arith, size, inside)
 
   -- a state that was found is finished
-  pub finished : {old : List Stage} (s : ℕ) → KeepsSeen old w.stages → stage_at old s ≡ Unseen → ¬ (stage_at w.stages s ≡ Unseen)
-      → (k : ℕ) × (stage_at w.stages s ≡ Finished k)
-  finished s seen none found = finished_stage (stage_at w.stages s) found (rests.shut s) (λ is. cc ((seen.resting s).0 is, none))
+  pub finished : (s : ℕ) → ¬ (stage_at w.stages s ≡ Unseen) → IsFinished w.stages s
+  finished s found = finished_stage (stage_at w.stages s) found (rests.shut s)
 
 -- a walk rests when no row is being read
 pub walk_rests : {u : Under} {lists : List (List (ℕ × ℕ))} {w : Search} → Walks u lists w → length w.frames ≡ 0

@@ -8,7 +8,7 @@ use Rattle.lts.specs.Lts.{Grouped, system_of, source_of, place_at, IsRow}
 use Rattle.inert.specs.Steps.{Under}
 use Rattle.inert.specs.Moves.{HasRead}
 use Rattle.inert.specs.Signed.{HasPair}
-use Rattle.inert.specs.Search.{Search, Laws, frame_at, no_frame, here, last, no_root, Ties, IsFrame, Walks, Frame}
+use Rattle.inert.specs.Search.{Search, Laws, stage_at, frame_at, no_frame, here, last, no_root, Ties, IsFrame, IsSigned, Walks, Frame, Finished}
 
 -- the pairs of a state are those of each state that leads to it
 pub pair_before : (laws : Laws) (u : Under) (s t : ℕ) (z : ℕ × ℕ) → Ties u s t
@@ -69,6 +69,16 @@ module _ {u : Under} {lists : List (List (ℕ × ℕ))} {w : Search} (walks : Wa
   -- inert steps lead to where the walk is from each state on the stack
   pub ties : (p : ℕ) → p < length w.stack → Ties u (slice_index w.stack p) (slice_index w.stack (here w))
   ties p low = walks.connects p (here w) low (on_stack (frames_some (omega (arith, low)))) (λ i d h _. reached i d h)
+
+-- in the block of a state on the stack, the list of a finished state is its signature
+pub list_signed : {u : Under} {lists : List (List (ℕ × ℕ))} {w : Search} → Walks u lists w → (p t k : ℕ) → p < length w.stack → slice_index w.stack p < u.l.states
+    → slice_index u.blocks t ≡ slice_index u.blocks (slice_index w.stack p) → stage_at w.stages t ≡ Finished k → IsSigned u t lists k
+list_signed {w = w} walks p t k low inside same is =
+    let kept = walks.signed t k is in
+    elim (kept.signature (slice_index w.stack p) inside (sym same)) [
+      | inl (j, done) ↦ absurd (cc (walks.opened.placed p low, done))
+      | inr signature ↦ record { within = kept.within; signature = signature }
+    ]
 
 -- a frame of a state that stays at its height
 pub IsFrame-moved : {l : Grouped} {stack stack' : List ℕ} {x : Frame} → IsFrame l stack x → x.height < length stack'

@@ -10,10 +10,10 @@ use Rattle.lts.specs.Lts.{source_of, place_at, IsLts}
 use Rattle.lists.specs.Lists.{list_at}
 use Rattle.inert.specs.Steps.{Under}
 use Rattle.inert.specs.Search.{Search, stage_at, frame_at, no_frame, here, last, no_root, IsFrame, IsAhead, IsEntered, IsFollowed, Walks, Laws, root_at, item_at, Ties, IsOf, IsBefore, IsRoot, IsThere, Gives, HoldsPair, AreOpen, IsSigned, IsSound, AreSound, Stage, Root, Item, Pair, Listed}
-use Rattle.inert.specs.Moves.{popped, HasRead, Finishes, Closes, ahead, GoesOn, FindsNone}
+use Rattle.inert.specs.Moves.{popped, HasRead, Finishes, Closes, ahead, SignsMore, GoesOn, FindsNone}
 use Rattle.inert.specs.Signed.{HasPair}
 use Rattle.inert.specs.Ahead.{is_unseen, KeepsSeen}
-use Rattle.inert.proofs.parts.Stages.{seen_same, together_still}
+use Rattle.inert.proofs.parts.Stages.{seen_same, kept_still}
 use Rattle.inert.proofs.parts.Rising.{AllPairs-take, All-from_take}
 use Rattle.inert.proofs.parts.Counting.{unseen-same, unread-same, rest-cut}
 use Rattle.inert.proofs.invariant.Standing.{reached, not_last, last_most, none_ahead, IsFrame-moved, pair_before, stack_some, last_low, root_low}
@@ -144,8 +144,15 @@ module _ (laws : Laws) {u : Under} {lists : List (List (ℕ × ℕ))} {w : Searc
   closed_seen = record {
     unseen = λ s is. grind (arith, stages.others s, stages.members, is);
     finished = λ s k is. grind (arith, stages.others s, walks.opened.placed, is);
-    resting = λ s. (λ is. grind (arith, stages.others s, stages.members, is), λ is. grind (arith, stages.others s, walks.opened.placed, is));
   }
+
+  closed_signs : SignsMore u lists w.stages new_stages
+  closed_signs s k is = elim (stages.others s) [
+    | inl e ↦ inl (sym e ∙ is)
+    | inr (m, from, high, same) ↦
+        let e : number ≡ k = cc (stages.members m from high, same, is) in
+        inr (subst₂ (λ x n. IsSigned u x lists n) same e (exact m from high))
+  ]
 
   -- the items before the component's
   cut_size : length (take c0 w.items) ≡ c0
@@ -177,7 +184,6 @@ module _ (laws : Laws) {u : Under} {lists : List (List (ℕ × ℕ))} {w : Searc
     items = λ j p low h of. item_same j ((of (length w.roots - 1) no_root (last_low walks some)).1 h);
     opened = λ s p low is. grind (arith, stages.others s, walks.opened.only s p, walks.opened.placed);
     finished = λ s k is. grind (arith, stages.others s, walks.opened.placed);
-    resting = closed_seen.resting;
   }
 
   -- the roots that are left were roots before the last one
@@ -252,15 +258,10 @@ module _ (laws : Laws) {u : Under} {lists : List (List (ℕ × ℕ))} {w : Searc
   Walks-closed = record {
     numbers = omega (arith, stages.size, unseen-same w.stages new_stages same_unseen stages.size, walks.numbers, size, low_q);
     opened = opened;
-    signed = record {
-      finished = λ s k is. elim (stages.others s) [
-        | inl e ↦ walks.signed.finished s k (sym e ∙ is)
-        | inr (m, from, high, same) ↦
-            let e : number ≡ k = cc (stages.members m from high, same, is) in
-            subst₂ (λ x n. IsSigned u x lists n) same e (exact m from high)
-      ];
-      resting = together_still u w.stages new_stages closed_seen.resting walks.signed.resting;
-    };
+    signed = λ s k is. elim (closed_signs s k is) [
+      | inl was ↦ kept_still u lists w.stages new_stages closed_seen.finished s k (walks.signed s k was)
+      | inr sign ↦ record { within = sign.within; signature = λ t inside same. inr sign.signature }
+    ];
     roots = record {
       first = λ h all. walks.roots.first (stack_some walks some) (All-from_take (λ r. 0 < r.height) (length w.roots - 1) w.roots no_root all (λ i high low.
           let e : i ≡ length w.roots - 1 = omega (arith, high, low) in
@@ -304,7 +305,7 @@ module _ {u : Under} {lists : List (List (ℕ × ℕ))} {w : Search} (walks : Wa
     (some : 0 < length w.frames) (read : HasRead w) where
   -- its state is no root
   pub popped_on : (last w.roots).height ≢ here w → GoesOn u lists w (popped w)
-  popped_on apart = record { walks = Walks-pop walks some read apart; seen = seen_same w.stages }
+  popped_on apart = record { walks = Walks-pop walks some read apart; seen = seen_same w.stages; signs = λ s k is. inl is }
 
   -- its state is a root, and the component was finished
   module _ (laws : Laws) (lts : IsLts u.l) {lists' : List (List (ℕ × ℕ))} {new : Search} (height : (last w.roots).height ≡ here w)
@@ -325,6 +326,7 @@ module _ {u : Under} {lists : List (List (ℕ × ℕ))} {w : Search} (walks : Wa
           record {
             walks = Walks-closed laws walks' some height closes.stages signed led;
             seen = closed_seen laws walks' some height closes.stages signed led;
+            signs = closed_signs laws walks' some height closes.stages signed led;
           },
           same,
         )

@@ -10,7 +10,8 @@ use Rattle.inert.specs.Moves.{with_stage, entered, LeadsOn, TakesStep, Finishes,
 use Rattle.inert.specs.Ahead.{unread}
 use Rattle.inert.specs.declared.step.Step.{Step}
 use Rattle.inert.specs.declared.step.Step.TheVariants.{Inert as Goes, Shows}
-use Rattle.inert.proofs.parts.Stages.{seen_on, seen_more}
+use Rattle.inert.proofs.parts.Stages.{seen_more, signs_opened}
+use Rattle.inert.proofs.invariant.Keeping.{grow_same, goes_on}
 use Rattle.inert.proofs.parts.Counting.{unread-set}
 use Rattle.inert.proofs.invariant.Resting.{idle_walks, within}
 use Rattle.inert.proofs.moves.Forward.{Walks-enter}
@@ -34,12 +35,13 @@ pub record Begins (u : Under) (lists : List (List (ℕ × ℕ))) (old : Search) 
 -- nothing of the row was read
 pub begins : {u : Under} {lists : List (List (ℕ × ℕ))} {w : Search} {s start end : ℕ} → Laws → Rests u lists w
     → s < u.l.states → stage_at w.stages s ≡ Unseen → IsRow u.l.places s start end → Begins u lists w s start start (framed s start end w.stages [])
-begins {u = u} {w = w} {s = s} laws rests inside none row =
+begins {u = u} {lists = lists} {w = w} {s = s} laws rests inside none row =
     let low = within rests inside in
     record {
       on = record {
         walks = Walks-enter (idle_walks rests) laws low none row (λ some. absurd (omega (arith, some)));
-        seen = seen_more w.stages s (Open 0) (λ e. cc) (λ e. cc) low none;
+        seen = seen_more w.stages s (Open 0) (λ e. cc) low none;
+        signs = signs_opened u lists w.stages s (Open 0) (λ k e. cc) low;
       };
       found = λ is. cc (is, get_or-set_same w.stages s (Open 0) Unseen low);
       less = omega (arith, unread-set w.stages s (Open 0) refl low none u.l.places, row.count);
@@ -67,7 +69,7 @@ module _ (laws : Laws) {u : Under} (lts : IsLts u.l) {lists : List (List (ℕ ×
         let none : Stays Framed Framed = record { size = refl; stack = refl; none = λ s is. is } in
         let one = (marked (reads_none way) none way.some laws lts more (slice_index u.blocks s) refl step is refl refl takes).reads in
         record {
-          on = record { walks = one.on.walks; seen = seen_on begun.on.seen one.on.seen };
+          on = goes_on (grow_same lists) begun.on one.on;
           found = λ is. begun.found (one.on.seen.unseen s is);
           less = omega (arith, one.less, begun.less);
         }
@@ -86,10 +88,8 @@ module _ (laws : Laws) {u : Under} (lts : IsLts u.l) {lists : List (List (ℕ ×
       bare enters (Shows a b) is still (new, stay) = subst Collects (sym new) (refl, takes_framed (Shows a b) enters is (refl, stay))
       bare enters (Goes t) is still (inl (unseen, new, went)) = absurd (still (t, refl, inl unseen))
       bare enters (Goes t) is still (inr (inl (q, stage, cuts, new, stay))) = absurd (still (t, refl, inr (q, stage)))
-      bare enters (Goes t) is still (inr (inr (inl (number, stage, new, stay)))) =
-          subst Collects (sym new) (refl, takes_framed (Goes t) enters is (inr (inr (inl (number, apart t stage (λ e. cc), refl, stay)))))
-      bare enters (Goes t) is still (inr (inr (inr (stage, new, stay)))) =
-          subst Collects (sym new) (refl, takes_framed (Goes t) enters is (inr (inr (inr (apart t stage (λ e. cc), refl, stay)))))
+      bare enters (Goes t) is still (inr (inr (number, stage, new, stay))) =
+          subst Collects (sym new) (refl, takes_framed (Goes t) enters is (inr (inr (number, apart t stage (λ e. cc), refl, stay))))
 
       pub takes_bare : {m : Search} (enters : Bool) (step : Step) → Is step → ¬ LeadsOn w.stages step → TakesStep u.l.places step w m enters → Collects m
       takes_bare {m = m} enters step is still takes =
@@ -119,7 +119,7 @@ module _ (laws : Laws) {u : Under} (lts : IsLts u.l) {lists : List (List (ℕ ×
         let (on, left) = closed begun.on.walks (omega arith) (omega (arith, most, over)) laws lts refl closes in
         let is : new ≡ Ended = ends.is ∙ ap (λ x. with_stage s (Finished ends.number) (record x { items = [] })) same in
         subst (Begins u lists' old s start k) (sym is) (record {
-          on = record { walks = on.walks; seen = seen_on begun.on.seen on.seen };
+          on = goes_on ends.listed.grow begun.on on;
           found = λ none. begun.found (on.seen.unseen s none);
           less = omega (arith, left, begun.less);
         })

@@ -11,11 +11,11 @@ use Rattle.theory.specs.Blocks.{Inert}
 use Rattle.lts.specs.Lts.{system_of, IsRow, place_at}
 use Rattle.inert.specs.Steps.{Under}
 use Rattle.inert.specs.Signed.{HasPair}
-use Rattle.inert.specs.Search.{Search, here, item_at, IsThere, IsOf, Gives, HoldsPair, IsSound, Walks, Item, Laws, stage_at, root_at, no_root, Ties, IsUpTo, IsBefore, IsRoot, IsHere, Root, Open, frame_at, no_frame, IsFrame, IsEntered, IsAhead, AreOpen, AreRoots, AreFrames, AreAccounted, Connects, Stage, Unseen, Finished, AtRest, Frame, IsFollowed, Accounted}
+use Rattle.inert.specs.Search.{Search, here, item_at, IsThere, IsOf, Gives, HoldsPair, IsSound, Walks, Item, Laws, stage_at, root_at, no_root, Ties, IsUpTo, IsBefore, IsRoot, IsHere, Root, Open, frame_at, no_frame, IsFrame, IsEntered, IsAhead, AreOpen, AreRoots, AreFrames, AreAccounted, Connects, Stage, Unseen, Finished, Frame, IsFollowed, Accounted}
 use Rattle.inert.specs.Moves.{with_item, CutsRoots, entered}
 use Rattle.inert.proofs.parts.Rising.{AllPairs-take, All-from_take}
 use Rattle.inert.proofs.parts.Counting.{unseen-set}
-use Rattle.inert.proofs.parts.Stages.{together_still}
+use Rattle.inert.proofs.parts.Stages.{kept_still}
 use Rattle.inert.proofs.invariant.Standing.{reached, on_stack, ties, IsFrame-moved, frames_some, root_low}
 use Rattle.inert.proofs.invariant.Keeping.{Keeps, keeps_stack, roots_kept, accounted_still, sound_still, done_still}
 
@@ -160,7 +160,6 @@ module _ {u : Under} {lists : List (List (ℕ × ℕ))} {w : Search} (walks : Wa
       items = λ j p low h of. (low, refl);
       opened = λ s p h is. stage_still s (Open p) is (λ e. cc);
       finished = λ s k is. stage_still s (Finished k) is (λ e. cc);
-      resting = λ s. (λ is. grind (arith, common_steps, unseen, within, is), λ is. stage_still s AtRest is (λ e. cc));
     }
 
     -- the walk went to the state t from where it was
@@ -249,10 +248,7 @@ module _ {u : Under} {lists : List (List (ℕ × ℕ))} {w : Search} (walks : Wa
       Walks-enter = record {
         numbers = omega (arith, length-set w.stages t (Open n), unseen-set w.stages t (Open n) refl within unseen, walks.numbers, size);
         opened = opened;
-        signed = record {
-          finished = λ s k is. walks.signed.finished s k (grind (arith, common_steps, unseen, within, is));
-          resting = together_still u w.stages Entered.stages enter_keeps.resting walks.signed.resting;
-        };
+        signed = λ s k is. kept_still u lists w.stages Entered.stages enter_keeps.finished s k (walks.signed s k (grind (arith, common_steps, unseen, within, is)));
         roots = roots;
         frames = frames;
         connects = connects;

@@ -11,13 +11,14 @@ use Rattle.lts.specs.Lts.{Triple, source_of, label_of, target_of, place_at, syst
 use Rattle.inert.specs.Signed.{HasPair, pair_under}
 use Rattle.inert.specs.Steps.{Under, IsInert, IsStep}
 use Rattle.inert.specs.Search.{Search, Laws, frame_at, no_frame, top, here, IsFrame, Accounted, Walks, Unseen, Open, Frame, Root, Item, Pair, Listed}
-use Rattle.inert.specs.Moves.{entered, with_item, Follows, TakesStep, ahead, HasRead, IsUnderWay, GoesOn, Finds, FindsNone}
+use Rattle.inert.specs.Moves.{entered, with_item, Follows, TakesStep, ahead, HasRead, IsUnderWay, SignsMore, GoesOn, Finds, FindsNone}
 use Rattle.inert.specs.Ahead.{KeepsSeen}
 use Rattle.inert.specs.declared.step.Step.{Step as TakenStep}
 use Rattle.inert.specs.declared.step.Step.TheVariants.{Inert as Goes, Shows}
-use Rattle.inert.proofs.parts.Stages.{seen_same, seen_on, seen_more}
+use Rattle.inert.proofs.parts.Stages.{seen_same, seen_on, seen_more, signs_opened}
+use Rattle.inert.proofs.invariant.Keeping.{grow_same, signs_on}
 use Rattle.inert.proofs.parts.Counting.{unread-set, rest-push, rest-next}
-use Rattle.inert.proofs.invariant.Standing.{pair_before}
+use Rattle.inert.proofs.invariant.Standing.{pair_before, list_signed}
 use Rattle.inert.proofs.signatures.Exact.{place_step}
 use Rattle.inert.proofs.moves.Forward.{Walks-collect, collected_holds, Walks-join, joined_here, Walks-enter, entered_met, Walks-next}
 
@@ -59,6 +60,7 @@ module _ (laws : Laws) {u : Under} (lts : IsLts u.l) {lists : List (List (ℕ ×
     pub after : Walks u lists m
     pub done : Accounted u lists m (here w) e
     pub seen : KeepsSeen w.stages m.stages
+    pub signs : SignsMore u lists w.stages m.stages
     pub same_ahead : ahead u.l m ≡ ahead u.l w
     pub same_frame : frame_at m.frames (length w.frames - 1) ≡ top w.frames
     pub still : ¬ IsTrue enters → (m.frames ≡ w.frames) × (m.stack ≡ w.stack)
@@ -71,6 +73,7 @@ module _ (laws : Laws) {u : Under} (lts : IsLts u.l) {lists : List (List (ℕ ×
     after = after;
     done = done;
     seen = seen_same w.stages;
+    signs = λ s k is. inl is;
     same_ahead = refl;
     same_frame = refl;
     still = λ _. (refl, refl);
@@ -85,8 +88,9 @@ module _ (laws : Laws) {u : Under} (lts : IsLts u.l) {lists : List (List (ℕ ×
       let x : Frame = record { height = length w.stack; next = start; end = end } in
       subst (λ y. Taken y enters) (sym new) (record {
         after = Walks-enter walks laws within unseen row (λ _. inert_step inert);
-        done = record { shown = λ other. absurd (other inert); followed = λ _ _. inr (inr (entered_met walks laws within unseen row some)) };
-        seen = seen_more w.stages (target_of e) (Open (length w.stack)) (λ e. cc) (λ e. cc) within unseen;
+        done = record { shown = λ other. absurd (other inert); followed = λ _. inr (inr (entered_met walks laws within unseen row some)) };
+        seen = seen_more w.stages (target_of e) (Open (length w.stack)) (λ e. cc) within unseen;
+        signs = signs_opened u lists w.stages (target_of e) (Open (length w.stack)) (λ k e. cc) within;
         same_ahead = omega (arith, unread-set w.stages (target_of e) (Open (length w.stack)) refl within unseen u.l.places, rest-push w.frames x, row.count);
         same_frame = get_or_append_left w.frames (x ∷ []) _ (length w.frames - 1) (omega (arith, some));
         still = λ stay. absurd (stay went);
@@ -103,19 +107,16 @@ module _ (laws : Laws) {u : Under} (lts : IsLts u.l) {lists : List (List (ℕ ×
       let was = walks.opened.only (target_of e) q stage in
       subst (λ y. Taken y enters) (sym new) (stayed m.roots w.items enters
       (Walks-join walks laws cuts was.0 (subst (Inert (system_of u.l) (slice_index u.blocks) (slice_index w.stack (here w))) (sym was.1) (inert_step inert)))
-      (record { shown = λ other. absurd (other inert); followed = λ _ _. inl (joined_here walks laws cuts (target_of e) stage) }) stay)
-  followed inert m enters (inr (inr (inl (number, stage, new, stay)))) =
-      let signed = walks.signed.finished (target_of e) number stage in
+      (record { shown = λ other. absurd (other inert); followed = λ _. inl (joined_here walks laws cuts (target_of e) stage) }) stay)
+  followed inert m enters (inr (inr (number, stage, new, stay))) =
+      let inside : slice_index w.stack (here w) < u.l.states = omega (arith, source, (lts.in_range.each k (0, 0, 0) place_low).source) in
+      let signed = list_signed walks (here w) (target_of e) number frame.on_stack inside (inert.1 ∙ ap (slice_index u.blocks) source) stage in
       let s = slice_index w.stack (here w) in
       let tie = laws.after (system_of u.l) (slice_index u.blocks) s s (target_of e) (laws.here (system_of u.l) (slice_index u.blocks) s) (inert_step inert) in
       subst (λ y. Taken y enters) (sym new) (stayed w.roots (with_item (Listed number) w).items enters
       (Walks-collect walks (Listed number) some (λ j e'. subst (λ x. x < length lists) (let same : number ≡ j = cc in same) signed.within)
       (λ z g. pair_before laws u s (target_of e) z tie ((signed.signature.exactly z.0 z.1).0 g)))
-      (record { shown = λ other. absurd (other inert); followed = λ _ _. inr (inl (number, stage, λ z c. collected_holds walks (Listed number) z c)) }) stay)
-  -- a state at rest has nothing to show
-  followed inert m enters (inr (inr (inr (stage, new, stay)))) =
-      subst (λ y. Taken y enters) (sym new) (stayed w.roots w.items enters walks
-      (record { shown = λ other. absurd (other inert); followed = λ _ awake. absurd (awake stage) }) stay)
+      (record { shown = λ other. absurd (other inert); followed = λ _. inr (inl (number, stage, λ z c. collected_holds walks (Listed number) z c)) }) stay)
 
   -- whichever step it is
   pub taken : (step : TakenStep) (m : Search) (enters : Bool) → IsStep u (slice_index u.blocks (source_of e)) e step → TakesStep u.l.places step w m enters
@@ -124,7 +125,7 @@ module _ (laws : Laws) {u : Under} (lts : IsLts u.l) {lists : List (List (ℕ ×
       subst (λ y. Taken y enters) (sym new) (stayed w.roots (with_item (Pair a b) w).items enters
       (Walks-collect walks (Pair a b) some (λ j e'. absurd (cc))
       (λ z g. subst (λ (x : ℕ × ℕ). HasPair Branching u.l u.blocks (slice_index w.stack (here w)) x.0 x.1) (sym is ∙ g) (own_pair other)))
-      (record { shown = λ _. collected_holds walks (Pair a b) (pair_under u.blocks e) is; followed = λ inert _. absurd (other inert) }) stay)
+      (record { shown = λ _. collected_holds walks (Pair a b) (pair_under u.blocks e) is; followed = λ inert. absurd (other inert) }) stay)
   taken (Goes t) m enters (inert, is) takes = followed inert m enters (subst (λ s. Follows u.l.places s w m enters) is takes)
 
 -- a step that is taken after a frame was marked might have been taken before
@@ -137,8 +138,7 @@ marked_first places w enters {i = i} {x = x} (Goes t) low (inl (unseen, (start, 
     let y : Frame = record { height = length w.stack; next = start; end = end } in
     (w', inl (unseen, (start, end, row, refl), went), new ∙ ap (λ frames. record w' { frames = frames }) (sym (set-append_left w.frames (y ∷ []) i x low)))
 marked_first places w {m = m} enters (Goes t) low (inr (inl (q, stage, cuts, new, stay))) = (record w { roots = m.roots }, inr (inl (q, stage, cuts, refl, stay)), new)
-marked_first places w enters (Goes t) low (inr (inr (inl (number, stage, new, stay)))) = (with_item (Listed number) w, inr (inr (inl (number, stage, refl, stay))), new)
-marked_first places w enters (Goes t) low (inr (inr (inr (stage, new, stay)))) = (w, inr (inr (inr (stage, refl, stay))), new)
+marked_first places w enters (Goes t) low (inr (inr (number, stage, new, stay))) = (with_item (Listed number) w, inr (inr (number, stage, refl, stay)), new)
 
 -- from one walk to another one, the row of what was its last frame was read up to place k
 pub record Reads (u : Under) (lists : List (List (ℕ × ℕ))) (old new : Search) (k : ℕ) : Type 0 where
@@ -162,7 +162,7 @@ pub record Marked (u : Under) (lists : List (List (ℕ × ℕ))) (old new : Sear
 
 pub reads_none : {u : Under} {lists : List (List (ℕ × ℕ))} {w : Search} → IsUnderWay u lists w
     → Reads u lists w w (top w.frames).next
-reads_none way = record { on = record { walks = way.walks; seen = seen_same _ }; here = refl; forward = omega arith; less = refl }
+reads_none way = record { on = record { walks = way.walks; seen = seen_same _; signs = λ s k is. inl is }; here = refl; forward = omega arith; less = refl }
 
 module _ {u : Under} {lists : List (List (ℕ × ℕ))} {first w : Search} {k : ℕ} (reads : Reads u lists first w k)
     (stays : Stays first w) (some : 0 < length first.frames) where
@@ -235,7 +235,11 @@ module _ {u : Under} {lists : List (List (ℕ × ℕ))} {first w : Search} {k : 
         taken_first : Marked u lists first New k enters
         taken_first = record {
           reads = record {
-            on = record { walks = Walks-next took.after still_there is_next next left done; seen = seen_on reads.on.seen took.seen };
+            on = record {
+              walks = Walks-next took.after still_there is_next next left done;
+              seen = seen_on reads.on.seen took.seen;
+              signs = signs_on _ _ _ _ _ _ (grow_same lists) reads.on.signs took.signs;
+            };
             here =
                 ap (frame_at New.frames) (sym last) ∙ get_or-set_same m.frames i x _ still_there ∙ is_next
                 ∙ (λ j. record { height = (same_frame j).height; next = k + 1; end = (same_frame j).end });

@@ -10,7 +10,7 @@ use Rattle.lts.specs.Meter.{Counts, Costs}
 use Rattle.lts.specs.Lts.{Triple, source_of, row_of, place_at}
 use Rattle.lts.proofs.CallerLemmas.{filter-none, filter-whole}
 use Rattle.inert.specs.Ahead.{is_unseen, unseen, unread, rest}
-use Rattle.inert.specs.Search.{stage_at, frame_at, no_frame, top, Stage, Unseen, Open, Finished, AtRest, Frame}
+use Rattle.inert.specs.Search.{stage_at, frame_at, no_frame, top, Stage, Unseen, Open, Finished, Frame}
 
 -- one cost after another, where no more than so much was counted in all
 pub costs_on : {a b c : Counts} {most n k least : ℕ} → Costs a b 0 0 n → Costs b c 0 least k → c.visits ≤ a.visits + most → Costs a c 0 0 most
@@ -84,7 +84,6 @@ pub seen : (m : Stage) → ¬ (m ≡ Unseen) → is_unseen m ≡ false
 seen Unseen f = absurd (f refl)
 seen (Open p) f = refl
 seen (Finished k) f = refl
-seen AtRest f = refl
 
 -- no source is unseen
 pub unread-none : (places : List Triple) (stages : List Stage) → ((k : ℕ) → k < length places → ¬ (stage_at stages (source_of (place_at places k)) ≡ Unseen))

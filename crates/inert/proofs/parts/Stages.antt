@@ -1,12 +1,13 @@
 -- Stages that are set: states that were seen stay so, and finished ones keep their lists.
-use Rattle.std.proofs.Common.{◌≡◌, ◌↔◌, ◌∙◌, ℕ, ◌<◌, List, length, slice_index, set, ap, inl, inr, arith}
+use Rattle.std.proofs.Common.{◌≡◌, ◌∙◌, ℕ, ◌<◌, List, length, slice_index, set, ap, inl, inr, arith}
 use Rattle.std.specs.List.{All}
 use Rattle.std.proofs.lemmas.Bool.{cases_lt}
 use Rattle.std.proofs.lemmas.Grind.{common_steps}
 use Rattle.std.proofs.lemmas.List.{get_or_past, get_or-set_other}
 use Rattle.std.proofs.lemmas.List.Elements.{All-from_get_or}
-use Rattle.inert.specs.Search.{Stage, stage_at, AreOpen, RestTogether, Unseen, AtRest}
+use Rattle.inert.specs.Search.{Stage, stage_at, AreOpen, IsListKept, Unseen, Finished}
 use Rattle.inert.specs.Steps.{Under}
+use Rattle.inert.specs.Moves.{SignsMore}
 use Rattle.inert.specs.Ahead.{KeepsSeen}
 
 -- a state on the stack has a stage
@@ -18,25 +19,31 @@ open_inside stages stack opened = All-from_get_or (λ s. s < length stages) stac
 
 -- nothing changes
 pub seen_same : (stages : List Stage) → KeepsSeen stages stages
-seen_same stages = record { unseen = λ s is. is; finished = λ s k is. is; resting = λ s. (λ is. is, λ is. is) }
+seen_same stages = record { unseen = λ s is. is; finished = λ s k is. is }
 
 -- one change after another
 pub seen_on : {old mid new : List Stage} → KeepsSeen old mid → KeepsSeen mid new → KeepsSeen old new
 seen_on first then = record {
   unseen = λ s is. first.unseen s (then.unseen s is);
   finished = λ s k is. then.finished s k (first.finished s k is);
-  resting = λ s. (λ is. (first.resting s).0 ((then.resting s).0 is), λ is. (then.resting s).1 ((first.resting s).1 is));
 }
 
 -- the state t, which was not seen, is seen
-pub seen_more : (stages : List Stage) (t : ℕ) (m : Stage) → ¬ (m ≡ Unseen) → ¬ (m ≡ AtRest) → t < length stages → stage_at stages t ≡ Unseen → KeepsSeen stages (set stages t m)
-seen_more stages t m seen awake low was = record {
+pub seen_more : (stages : List Stage) (t : ℕ) (m : Stage) → ¬ (m ≡ Unseen) → t < length stages → stage_at stages t ≡ Unseen → KeepsSeen stages (set stages t m)
+seen_more stages t m seen low was = record {
   unseen = λ s is. grind (arith, common_steps, seen, is);
   finished = λ s k is. get_or-set_other stages t s m Unseen (λ e. cc (ap (stage_at stages) e, was, is)) ∙ is;
-  resting = λ s. (λ is. grind (arith, common_steps, awake, low, is), λ is. get_or-set_other stages t s m Unseen (λ e. cc (ap (stage_at stages) e, was, is)) ∙ is);
 }
 
--- the same states are at rest, with their blocks still
-pub together_still : (u : Under) (old new : List Stage) → ((s : ℕ) → (stage_at new s ≡ AtRest) ↔ (stage_at old s ≡ AtRest)) → RestTogether u old → RestTogether u new
-together_still u old new same together s t inside is block =
-    elim (together s t inside ((same s).0 is) block) [ inl rest ↦ inl ((same t).1 rest) | inr empty ↦ inr empty ]
+-- it is not finished, so no state is that was not
+pub signs_opened : (u : Under) (lists : List (List (ℕ × ℕ))) (stages : List Stage) (t : ℕ) (m : Stage) → ((k : ℕ) → ¬ (m ≡ Finished k)) → t < length stages
+    → SignsMore u lists stages (set stages t m)
+signs_opened u lists stages t m unless low s k is = inl (grind (arith, common_steps, unless k, low, is))
+
+-- a list is kept still, where finished states are finished still
+pub kept_still : (u : Under) (lists : List (List (ℕ × ℕ))) (old new : List Stage) → ((s k : ℕ) → stage_at old s ≡ Finished k → stage_at new s ≡ Finished k)
+    → (s k : ℕ) → IsListKept u s lists old k → IsListKept u s lists new k
+kept_still u lists old new still s k was = record {
+  within = was.within;
+  signature = λ t inside block. elim (was.signature t inside block) [ inl (j, is) ↦ inl (j, still t j is) | inr sign ↦ inr sign ];
+}

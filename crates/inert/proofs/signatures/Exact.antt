@@ -5,13 +5,12 @@ use Rattle.theory.specs.System.{Step, Along, internal}
 use Rattle.theory.specs.declared.relation.Relation.TheVariants.{Branching}
 use Rattle.theory.specs.Blocks.{Inert}
 use Rattle.lts.specs.Labels.{text_of}
-use Rattle.lts.specs.Lts.{Grouped, source_of, label_of, target_of, place_at, transition_of, row_of, system_of, IsLts}
-use Rattle.lts.proofs.CallerLemmas.{IsRow-before}
+use Rattle.lts.specs.Lts.{Grouped, source_of, label_of, target_of, place_at, transition_of, system_of, IsLts}
 use Rattle.inert.specs.Steps.{Under}
 use Rattle.inert.specs.Signed.{HasPair, pair_under}
-use Rattle.inert.specs.Search.{Search, Laws, stage_at, here, last, no_root, item_at, Gives, HoldsPair, Accounted, IsSigned, Walks, AtRest}
+use Rattle.inert.specs.Search.{Search, Laws, here, last, no_root, item_at, Gives, HoldsPair, Accounted, IsSigned, Walks}
 use Rattle.inert.specs.Moves.{IsGiven, IsListed, HasRead}
-use Rattle.inert.proofs.invariant.Standing.{pair_before, last_low, last_most, last_frame, none_ahead}
+use Rattle.inert.proofs.invariant.Standing.{pair_before, list_signed, last_low, last_most, last_frame, none_ahead}
 
 -- a step stands in some place
 pub step_place : (l : Grouped) (s t : ℕ) (a : List ℕ) → Step (system_of l) s a t →
@@ -52,18 +51,6 @@ module _ (laws : Laws) {u : Under} (lts : IsLts u.l) {lists : List (List (ℕ ×
     | inl (i, low, is, ahead) ↦ absurd (none_ahead walks read p k i lk source low (last_frame walks i low (omega (arith, is, h))) is ahead)
   ]
 
-  -- a state that has no transition has no step
-  no_step : (s : ℕ) → row_of s u.l.places ≡ [] → (a : List ℕ) (t : ℕ) → ¬ Step (system_of u.l) s a t
-  no_step s none a t step =
-      let (k, lk, source, label, target) = step_place u.l s t a step in
-      let row = IsRow-before s u.l.places lts.rising in
-      let inside = (row.exactly k lk).0 source in
-      omega (arith, inside, row.count, ap length none)
-
-  no_path : (s : ℕ) → row_of s u.l.places ≡ [] → (us : List ℕ) (v t : ℕ) → Along (Inert (system_of u.l) (slice_index u.blocks)) s us v → (a : List ℕ) → ¬ Step (system_of u.l) v a t
-  no_path s none [] v t e a step = no_step s none a t (subst (λ x. Step (system_of u.l) x a t) (sym e) step)
-  no_path s none (x ∷ us) v t path a step = no_step s none internal x path.0.0
-
   -- what a state of the component can do was collected
   collects_here : (z : ℕ × ℕ) (p : ℕ) → here w ≤ p → p < length w.stack → (t : ℕ) → Step (system_of u.l) (slice_index w.stack p) (text_of u.l.labels z.0) t
       → slice_index u.blocks t ≡ z.1 → ¬ ((text_of u.l.labels z.0 ≡ internal) × (z.1 ≡ slice_index u.blocks (slice_index w.stack p)))
@@ -77,15 +64,6 @@ module _ (laws : Laws) {u : Under} (lts : IsLts u.l) {lists : List (List (ℕ ×
       (subst (HoldsPair lists w p) same
       ((done p k h lp lk source).shown (λ inert. other (sym label ∙ inert.0, sym block ∙ inert.1 ∙ ap (slice_index u.blocks) source))))
 
-  -- an inert step leads to no state at rest that has a step: the open states of its block would rest too
-  awake : (p : ℕ) → p < length w.stack → slice_index w.stack p < u.l.states → (k : ℕ) → slice_index u.blocks (target_of (place_at u.l.places k)) ≡ slice_index u.blocks (slice_index w.stack p)
-      → (us : List ℕ) (v t : ℕ) → Along (Inert (system_of u.l) (slice_index u.blocks)) (target_of (place_at u.l.places k)) us v → (a : List ℕ) → Step (system_of u.l) v a t
-      → ¬ (stage_at w.stages (target_of (place_at u.l.places k)) ≡ AtRest)
-  awake p lp inside k same us v t path a step rest = elim (walks.signed.resting (target_of (place_at u.l.places k)) (slice_index w.stack p) inside rest (sym same)) [
-    | inl too ↦ cc (walks.opened.placed p lp, too)
-    | inr none ↦ no_path (target_of (place_at u.l.places k)) none us v t path a step
-  ]
-
   -- and what it can do at the end of inert steps
   collects : (z : ℕ × ℕ) (us : List ℕ) (p : ℕ) → here w ≤ p → p < length w.stack → (v t : ℕ)
       → Along (Inert (system_of u.l) (slice_index u.blocks)) (slice_index w.stack p) us v → Step (system_of u.l) v (text_of u.l.labels z.0) t → slice_index u.blocks t ≡ z.1
@@ -97,7 +75,7 @@ module _ (laws : Laws) {u : Under} (lts : IsLts u.l) {lists : List (List (ℕ ×
       let same : slice_index u.blocks (target_of (place_at u.l.places k)) ≡ slice_index u.blocks (slice_index w.stack p) = ap (slice_index u.blocks) target ∙ first.1 in
       let inside : slice_index w.stack p < u.l.states = omega (arith, source, (lts.in_range.each k (0, 0, 0) lk).source) in
       let path = subst (λ y. Along (Inert (system_of u.l) (slice_index u.blocks)) y us v) (sym target) rest in
-      elim ((done p k h lp lk source).followed (label, same ∙ ap (slice_index u.blocks) (sym source)) (awake p lp inside k same us v t path (text_of u.l.labels z.0) step)) [
+      elim ((done p k h lp lk source).followed (label, same ∙ ap (slice_index u.blocks) (sym source))) [
         | inl (q, stage, up, down) ↦
             let was = walks.opened.only (target_of (place_at u.l.places k)) q stage in
             let high = up (length w.roots - 1) no_root (last_low walks some) (omega (arith, height, h)) in
@@ -107,7 +85,7 @@ module _ (laws : Laws) {u : Under} (lts : IsLts u.l) {lists : List (List (ℕ ×
         | inr held ↦ elim held [
           | inl (number, stage, all) ↦
               let has : HasPair Branching u.l u.blocks (target_of (place_at u.l.places k)) z.0 z.1 = (low, (v, t, (us, path), step, is, λ inert. other (inert.0, inert.1 ∙ same))) in
-              collected_from p h z (all z (((walks.signed.finished (target_of (place_at u.l.places k)) number stage).signature.exactly z.0 z.1).1 has))
+              collected_from p h z (all z (((list_signed walks p (target_of (place_at u.l.places k)) number lp inside same stage).signature.exactly z.0 z.1).1 has))
           | inr (i, low', is', to) ↦ let e = last_frame walks i (omega (arith, low')) (omega (arith, is', h)) in absurd (omega (arith, e, low'))
         ]
       ]

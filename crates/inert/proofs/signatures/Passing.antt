@@ -1,10 +1,10 @@
--- How a walk over all states comes from row to row: what lies between two rows is of states that are at rest.
+-- How a walk over all states comes from row to row: what lies between two rows is of states that are finished.
 use Rattle.std.proofs.Common.{◌≡◌, ◌∙◌, ℕ, ◌+◌, ◌-◌, ◌<◌, ◌≤◌, List, length, slice_index, ap, sym, refl, inl, inr, arith}
 use Rattle.std.proofs.lemmas.Bool.{cases_lt}
 use Rattle.lts.specs.Lts.{Grouped, source_of, before, place_at, IsLts, IsRow}
 use Rattle.lts.proofs.CallerLemmas.{before-mono, IsRow-before}
 use Rattle.partition.specs.Blocks.{IsOne, AreLive}
-use Rattle.inert.specs.Search.{Search, Stage, stage_at, AreAtRest, IsWoken, Finished}
+use Rattle.inert.specs.Search.{Stage, stage_at, IsFinished, AreOthers, AreAwake}
 use Rattle.inert.specs.Ahead.{unread}
 use Rattle.inert.proofs.parts.Counting.{passed, passed-row, passed-gap, unread-none}
 
@@ -50,26 +50,26 @@ module _ {l : Grouped} (lts : IsLts l) {live : List ℕ} (rises : AreLive l.stat
         | inr after ↦ omega (arith, high one.0 after one.1, row.0, to)
       ]
 
-  module _ {first : Search} (woken : IsWoken l.states live first) where
+  module _ {first : List Stage} (woken : AreAwake l.states live first) where
     -- so such places were passed
-    gap_passed : (i a b : ℕ) → Behind l live i a → Ahead l live i b → a ≤ b → b ≤ length l.places → passed l.places first.stages b ≡ passed l.places first.stages a + (b - a)
-    gap_passed i a b low high order within = passed-gap l.places first.stages a b order within (λ k from to unseen.
+    gap_passed : (i a b : ℕ) → Behind l live i a → Ahead l live i b → a ≤ b → b ≤ length l.places → passed l.places first b ≡ passed l.places first a + (b - a)
+    gap_passed i a b low high order within = passed-gap l.places first a b order within (λ k from to unseen.
         let inside : k < length l.places = omega (arith, to, within) in
-        elim (woken.rest (source_of (place_at l.places k)) (omega (arith, source_low k inside, woken.size))) [
+        elim (woken.others (source_of (place_at l.places k)) (omega (arith, source_low k inside, woken.size))) [
           | inl one ↦ none_between i a b low high k inside from to one
-          | inr rest ↦ cc (rest, unseen)
+          | inr rest ↦ cc (rest.1, unseen)
         ])
 
     -- and the row of a state that is looked at was not
     row_passed : (i start end : ℕ) → i < length live → IsRow l.places (slice_index live i) start end
-        → passed l.places first.stages end ≡ passed l.places first.stages start
-    row_passed i start end more row = passed-row l.places first.stages start end (omega (arith, row.count)) row.within (λ k from to.
+        → passed l.places first end ≡ passed l.places first start
+    row_passed i start end more row = passed-row l.places first start end (omega (arith, row.count)) row.within (λ k from to.
         let source = (row.exactly k (omega (arith, to, row.within))).1 (from, to) in
-        ap (stage_at first.stages) source ∙ woken.awake i more)
+        ap (stage_at first) source ∙ woken.awake i more)
 
     -- at the beginning of the row of the state number i
     pub comes : {i start end to : ℕ} → i < length live → IsRow l.places (slice_index live i) start end → IsBetween l live (i + 1) to
-        → Comes l live first.stages i start end to
+        → Comes l live first i start end to
     comes {i = i} {start = start} {end = end} {to = to} more row at =
         let low : end ≤ to = let h = at.behind i (omega arith) in omega (arith, h, row.ends) in
         let ended : Behind l live (i + 1) end = λ j h. elim (cases_lt j i) [
@@ -94,15 +94,15 @@ module _ {l : Grouped} (lts : IsLts l) {live : List ℕ} (rises : AreLive l.stat
         }
 
     -- the places before the first row
-    pub first_passed : {i to : ℕ} → i ≡ 0 → IsBetween l live i to → passed l.places first.stages to ≡ to
+    pub first_passed : {i to : ℕ} → i ≡ 0 → IsBetween l live i to → passed l.places first to ≡ to
     first_passed {i = i} {to = to} zero at =
-        let none : passed l.places first.stages 0 ≡ 0 = refl in
+        let none : passed l.places first 0 ≡ 0 = refl in
         omega (arith, none, gap_passed i 0 to (λ j h. absurd (omega (arith, zero, h))) at.ahead (omega arith) at.within)
 
   -- when all that are looked at are finished, nothing is left to read
-  pub none_unread : (stages : List Stage) → length stages ≡ l.states → AreAtRest live stages
-      → ((i : ℕ) → i < length live → (k : ℕ) × (stage_at stages (slice_index live i) ≡ Finished k)) → unread l.places stages ≡ 0
+  pub none_unread : (stages : List Stage) → length stages ≡ l.states → AreOthers live stages
+      → ((i : ℕ) → i < length live → IsFinished stages (slice_index live i)) → unread l.places stages ≡ 0
   none_unread stages size rest all = unread-none l.places stages (λ k h unseen. elim (rest (source_of (place_at l.places k)) (omega (arith, source_low k h, size))) [
     | inl one ↦ cc ((all one.0 one.1).1, ap (stage_at stages) one.2, unseen)
-    | inr still ↦ cc (still, unseen)
+    | inr still ↦ cc (still.1, unseen)
   ])

@@ -1,36 +1,28 @@
-use Rattle.std.proofs.Common.{◌≡◌, ◌+◌, ◌<◌, length, slice_index, set, ap, sym, subst, arith}
-use Rattle.inert.specs.Search.{Search, nothing, AtRest}
-use Rattle.inert.specs.Moves.{with_stage}
-use Rattle.inert.proofs.signatures.Numbers.{NumberedUpTo, numbered_none, next_has, numbered_more, numbered_all}
+use Rattle.std.proofs.Common.{◌<◌, length, slice_index, ap, sym, subst, refl, inl, inr, arith}
+use Rattle.inert.specs.Signed.{ShowsNew}
+use Rattle.inert.specs.Search.{number_of}
+use Rattle.inert.proofs.signatures.Numbers.{numbered_more}
 use Rattle.inert.proofs.signer.number.Goals as goal
+use Rattle.inert.proofs.signer.number.Goals.{then-numbers-s, else-numbers-s}
 
 pub loop-i-init : goal.loop-i-init
 loop-i-init c = record {
-  empty = c.requires.empty;
-  numbered = numbered_none c.args.live.now c.args.walk.now.stages c.args.numbers.now c.requires.rest c.requires.size;
+  numbered = record { size = c.requires.size; ahead = λ j low h. refl; live_have = λ j h. absurd (omega (arith, h)); others = λ s. inr refl };
 }
 
-pub rest-requires-clause-finished : goal.rest-requires-clause-finished
-rest-requires-clause-finished c =
-    next_has c.loop-i.invariant.numbered c.requires.live (omega (arith, c.loop-i-test.true, c.loop-i.auto.i-end)) c.requires.finished
+-- what is shown of its new number
+shown : (c : goal.Joined-numbers-s) → ShowsNew (slice_index c.loop-i.numbers (slice_index c.args.live.now c.loop-i.i)) c.list-list.result c.if-numbers-s.numbers
+shown c = elim c.if-numbers-s.branch [
+  | then-numbers-s w ↦ inl (w.if-numbers-s.true, w.numbers-is)
+  | else-numbers-s w ↦ inr (w.if-numbers-s.false, w.numbers-is)
+]
 
 pub loop-i-preserved : goal.loop-i-preserved
 loop-i-preserved c =
     let live = c.args.live.now in
-    let i = c.loop-i.i in
-    let s = slice_index live i in
-    let k = c.rest.result in
-    let more : i < length live = omega (arith, c.loop-i-test.true, c.loop-i.auto.i-end) in
-    let is = sym c.rest.ensures.rests in
+    let more : c.loop-i.i < length live = omega (arith, c.loop-i-test.true, c.loop-i.auto.i-end) in
     record {
-      empty = subst (λ (w : Search). w ≡ nothing w.stages) is (ap (with_stage s AtRest) c.loop-i.invariant.empty);
       numbered =
-          subst (λ (w : Search). NumberedUpTo live c.args.walk.now.stages c.args.numbers.now (i + 1) w.stages (set c.loop-i.numbers s k)) is
-          (numbered_more c.loop-i.invariant.numbered c.requires.live more k c.rest.ensures.list);
+          numbered_more c.loop-i.invariant.numbered c.requires.live more c.if-numbers-s.numbers
+          (subst (λ n. ShowsNew (slice_index c.loop-i.numbers (slice_index live c.loop-i.i)) n c.if-numbers-s.numbers) (sym (ap number_of c.list-list.ensures)) (shown c));
     }
-
-pub returns-clause-idle : goal.returns-clause-idle
-returns-clause-idle c = record {
-  empty = c.loop-i.invariant.empty;
-  rest = numbered_all c.loop-i.invariant.numbered (omega (arith, c.loop-i-test.false, c.loop-i.auto.i-end));
-}

@@ -1,4 +1,4 @@
-use Rattle.std.proofs.Common.{◌≡◌, ◌∙◌, ℕ, ◌+◌, ◌-◌, ◌<◌, ◌≤◌, List, length, slice_index, ap, sym, subst, refl, inl, inr, arith}
+use Rattle.std.proofs.Common.{◌≡◌, ◌∙◌, ℕ, ◌+◌, ◌-◌, ◌<◌, ◌≤◌, List, length, slice_index, ap, sym, subst, inl, inr, arith}
 use Rattle.std.proofs.lemmas.Bool.{cases_lt, false≢true}
 use Rattle.std.proofs.lemmas.Result.{err_from_is_err_and}
 use Rattle.lts.proofs.CallerLemmas.{before-le}
@@ -6,7 +6,8 @@ use Rattle.inert.specs.Search.{Stage, stage_at, Finished}
 use Rattle.inert.specs.Ahead.{KeepsSeen}
 use Rattle.inert.proofs.parts.Counting.{costs_on, passed, passed-all}
 use Rattle.inert.proofs.parts.Stages.{seen_same, seen_on}
-use Rattle.inert.proofs.invariant.Resting.{woken_rests, rest_on, finished}
+use Rattle.inert.proofs.invariant.Keeping.{grow_same, grow_on, signs_on}
+use Rattle.inert.proofs.invariant.Resting.{others_on, finished}
 use Rattle.inert.proofs.signatures.Passing.{IsBetween, Comes, comes, first_passed, none_unread}
 use Rattle.inert.proofs.signer.walk_all.Given.{Over}
 use Rattle.inert.proofs.signer.walk_all.Goals as goal
@@ -23,7 +24,7 @@ module _ (g : Over) (c : After-row-start g) where
   next : Comes c.args.lens.now.l c.args.live.now c.args.walk.now.stages i c.row-start.result.0 c.row-start.result.1 c.loop-i.to
   next =
       let one : c.loop-i.i ≡ i + 1 = omega (arith, c.loop-i-test.true) in
-      comes c.known.ensures.lts c.requires.live c.requires.woken more c.row-start.ensures
+      comes c.known.ensures.lts c.requires.live c.requires.awake more c.row-start.ensures
       (subst (λ n. IsBetween c.args.lens.now.l c.args.live.now n c.loop-i.to) one c.loop-i.invariant.between)
 
   -- those after it are finished, and so is it
@@ -41,9 +42,11 @@ loop-i-init g c =
     let l = c.args.lens.now.l in
     let all = passed-all l.places c.args.walk.now.stages in
     record {
-      rests = woken_rests c.requires.woken refl c.known.ensures.size c.requires.others c.known-2.ensures.some;
+      rests = c.requires.rests;
       all = λ j h below. absurd (omega (arith, h, below));
       seen = seen_same c.args.walk.now.stages;
+      grow = grow_same c.args.lists.now;
+      signs = λ s k is. inl is;
       between = record {
         behind = λ j h. omega (arith, before-le (slice_index c.args.live.now j + 1) l.places, c.edges-to.ensures);
         ahead = λ j h below. absurd (omega (arith, h, below));
@@ -68,8 +71,10 @@ loop-i-preserved-then-not-is_unseen g c =
     record {
       rests = inv.rests;
       all = all_on g d (seen_same c.loop-i.walk.stages)
-          (finished inv.rests (slice_index c.args.live.now (i g d)) inv.seen (c.requires.woken.awake (i g d) (more g d)) (λ is. false≢true (sym c.if-not-is_unseen.true ∙ c.is_unseen.ensures.1 is)));
+          (finished inv.rests (slice_index c.args.live.now (i g d)) (λ is. false≢true (sym c.if-not-is_unseen.true ∙ c.is_unseen.ensures.1 is)));
       seen = inv.seen;
+      grow = inv.grow;
+      signs = inv.signs;
       between = comes.between;
       visits = omega (arith, inv.visits, comes.passes, gap.at_least, gap.at_most);
       cost = costs_on inv.cost gap (omega (arith, inv.visits, comes.passes, gap.at_most));
@@ -93,6 +98,8 @@ loop-i-preserved g c =
       rests = done.rests;
       all = all_on g d done.finished.seen (done.finished.number, done.finished.finished);
       seen = seen_on inv.seen done.finished.seen;
+      grow = grow_on inv.grow done.grow;
+      signs = signs_on _ _ _ _ _ _ done.grow inv.signs done.signs;
       between = comes.between;
       visits = omega (arith, inv.visits, comes.passes, gap.at_least, gap.at_most, done.visits);
       cost = costs_on (costs_on {most = length c.args.lens.now.l.places} inv.cost gap (omega (arith, inv.visits, comes.passes, gap.at_most))) done.cost (omega (arith, inv.visits, comes.passes, gap.at_most, done.cost.at_most));
@@ -111,15 +118,15 @@ returns-in_err-finish-clause-visits g c =
 pub visit-requires-2-clause-room : goal.visit-requires-2-clause-room
 visit-requires-2-clause-room g c =
     let inv = c.loop-i.invariant in
-    let first = first_passed c.known.ensures.lts c.requires.live c.requires.woken (omega (arith, c.loop-i-test.false)) inv.between in
+    let first = first_passed c.known.ensures.lts c.requires.live c.requires.awake (omega (arith, c.loop-i-test.false)) inv.between in
     omega (arith, c.requires.room, inv.cost.rounds, inv.visits, first)
 
 pub returns-clause-visits : goal.returns-clause-visits
 returns-clause-visits g c =
     let inv = c.loop-i.invariant in
-    let first = first_passed c.known.ensures.lts c.requires.live c.requires.woken (omega (arith, c.loop-i-test.false)) inv.between in
+    let first = first_passed c.known.ensures.lts c.requires.live c.requires.awake (omega (arith, c.loop-i-test.false)) inv.between in
     let none =
     none_unread c.known.ensures.lts c.requires.live c.loop-i.walk.stages inv.rests.numbers.size
-    (rest_on c.requires.woken inv.seen inv.rests.numbers.size)
+    (others_on c.requires.awake inv.seen inv.rests.numbers.size)
     (λ j h. inv.all j (omega (arith, c.loop-i-test.false)) h) in
     omega (arith, inv.cost.rounds, inv.visits, first, none, c.visit-2.ensures)

@@ -1,7 +1,8 @@
 use Rattle.std.proofs.Common.{◌≡◌, ℕ, ◌+◌, ◌<◌, ◌≤◌, length, slice_index}
 use Rattle.lts.specs.Meter.{Costs}
-use Rattle.inert.specs.Search.{stage_at, Finished}
-use Rattle.inert.specs.Moves.{Rests}
+use Rattle.lists.specs.Lists.{Grow}
+use Rattle.inert.specs.Search.{IsFinished}
+use Rattle.inert.specs.Moves.{Rests, SignsMore}
 use Rattle.inert.specs.Ahead.{unread, KeepsSeen}
 use Rattle.inert.proofs.parts.Counting.{passed}
 use Rattle.inert.proofs.signatures.Passing.{IsBetween}
@@ -10,8 +11,10 @@ use Rattle.inert.proofs.signer.walk_all.Given as goal
 abbrev pub invariant-loop-i : goal.invariant-loop-i
 invariant-loop-i g l = record {
   rests : Rests l.lens l.lists l.walk;
-  all : (j : ℕ) → l.i ≤ j → j < length l.live → (k : ℕ) × (stage_at l.walk.stages (slice_index l.live j) ≡ Finished k);
+  all : (j : ℕ) → l.i ≤ j → j < length l.live → IsFinished l.walk.stages (slice_index l.live j);
   seen : KeepsSeen l.fn.walk.stages l.walk.stages;
+  grow : Grow l.fn.lists l.lists;
+  signs : SignsMore l.lens l.lists l.fn.walk.stages l.walk.stages;
   between : IsBetween l.lens.l l.live l.i l.to;
   visits : (g.M.Meter.counted l.m).visits + unread l.lens.l.places l.walk.stages + passed l.lens.l.places l.fn.walk.stages l.to
       ≡ (g.M.Meter.counted l.fn.m).visits + length l.lens.l.places;

@@ -4,6 +4,7 @@ use Rattle.lts.specs.Lts.{place_at}
 use Rattle.inert.specs.Steps.{IsStep}
 use Rattle.inert.specs.Moves.{TakesStep, entered}
 use Rattle.inert.proofs.invariant.Resting.{within}
+use Rattle.inert.proofs.invariant.Keeping.{grow_same}
 use Rattle.inert.proofs.moves.Beginning.{collecting, framed, Begins, begins, takes_framed, takes_bare, begun_ends}
 use Rattle.inert.proofs.walk.Walk.begin.Given.{Over}
 use Rattle.inert.proofs.walk.Walk.begin.Goals as goal
@@ -53,6 +54,7 @@ returns-then-leads_on g c =
     (c.in_ok-put.ensures ∙ ap (entered c.args.s (c.loop-k.k + 1) c.row-start.result.1 0) i.same) c.in_ok-take.ensures) in
     record {
       on = went.on;
+      grow = grow_same c.args.lists.now;
       found = went.found;
       visits = omega (arith, went.less, i.cost.at_least, i.cost.at_most, one.at_least, one.at_most, c.loop-k.auto.k);
       cost = search rules;
@@ -66,6 +68,7 @@ returns g c =
     begun_ends c.known.ensures.laws c.known.ensures.lts i.same i.begun c.loop-k-test.false c.in_ok-end.ensures (within c.requires.rests c.requires.state.0) in
     record {
       on = ended.on;
+      grow = c.in_ok-end.ensures.listed.grow;
       found = ended.found;
       visits = omega (arith, ended.less, i.cost.at_least, i.cost.at_most, c.loop-k.auto.k);
       cost = search rules;

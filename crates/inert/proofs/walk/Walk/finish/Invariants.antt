@@ -1,5 +1,6 @@
 use Rattle.std.proofs.Common.{◌≡◌, ◌+◌}
 use Rattle.lts.specs.Meter.{Costs}
+use Rattle.lists.specs.Lists.{Grow}
 use Rattle.inert.specs.Search.{stage_at, Unseen}
 use Rattle.inert.specs.Moves.{ahead, steps, GoesOn}
 use Rattle.inert.specs.Ahead.{unread}
@@ -8,6 +9,7 @@ use Rattle.inert.proofs.walk.Walk.finish.Given as goal
 abbrev pub invariant-loop-self : goal.invariant-loop-self
 invariant-loop-self g l = record {
   on : GoesOn l.lens l.lists l.fn.self l.self;
+  grow : Grow l.fn.lists l.lists;
   found : ¬ (stage_at l.self.stages l.s ≡ Unseen);
   visits : (g.M.Meter.counted l.m).visits + ahead l.lens.l l.self ≡ (g.M.Meter.counted l.fn.m).visits + unread l.lens.l.places l.fn.self.stages;
   cost : Costs (g.M.Meter.counted l.fn.m) (g.M.Meter.counted l.m) 0 0 (unread l.lens.l.places l.fn.self.stages);

@@ -24,6 +24,7 @@ returns-in_ok-close g c =
     (ap (λ r. r.height) (sym root) ∙ c.if-root-frame.true ∙ ap (λ x. x.height) c.top_frame-frame.ensures) closes in
     record {
       on = done.0;
+      grow = closes.listed.grow;
       ahead = done.1;
       back = omega (arith, ap length closes.frames, popped_size way.walks, way.some);
       finds = closed_none way.walks closes;

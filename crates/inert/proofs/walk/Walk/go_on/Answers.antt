@@ -1,6 +1,6 @@
 use Rattle.std.proofs.Common.{◌∙◌, sym, inl, inr, arith, rules}
 use Rattle.std.proofs.lemmas.Bool.{false≢true}
-use Rattle.inert.proofs.parts.Stages.{seen_on}
+use Rattle.inert.proofs.invariant.Keeping.{goes_on}
 use Rattle.inert.proofs.walk.Walk.go_on.Goals as goal
 
 pub returns : goal.returns
@@ -8,7 +8,8 @@ returns g c =
     let read = c.in_ok-read.ensures in
     let back = c.in_ok-go_back.ensures in
     record {
-      on = record { walks = back.on.walks; seen = seen_on read.on.seen back.on.seen };
+      on = goes_on back.grow read.on back.on;
+      grow = back.grow;
       visits = omega (arith, read.visits, back.ahead);
       nearer = omega (arith, (read.steps.1 (λ e. false≢true (sym c.if-branch.false ∙ e))).2, back.ahead, back.back);
       finds = record {

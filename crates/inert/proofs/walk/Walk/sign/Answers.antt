@@ -3,7 +3,8 @@ use Rattle.std.proofs.lemmas.Bool.{false≢true}
 use Rattle.inert.specs.Search.{IsTrail}
 use Rattle.inert.specs.Moves.{Finds, entered}
 use Rattle.inert.specs.Ahead.{rest}
-use Rattle.inert.proofs.parts.Stages.{seen_on, open_inside}
+use Rattle.inert.proofs.parts.Stages.{open_inside}
+use Rattle.inert.proofs.invariant.Keeping.{goes_on}
 use Rattle.inert.proofs.invariant.Resting.{new_rests, idle_unseen, walk_rests, within, finished}
 use Rattle.inert.proofs.parts.Counting.{costs_on, unread-all, unread-seen}
 use Rattle.inert.proofs.moves.Beginning.{Begins, begins}
@@ -14,7 +15,7 @@ pub loop-self-init : goal.loop-self-init
 loop-self-init g c =
     let s = c.args.s in
     let none = idle_unseen c.requires.idle in
-    let rests = new_rests c.args.lens.now c.args.lists.now c.requires.idle.empty c.requires.stages c.known-2.ensures.some (λ t. inl (none t)) (λ t v h is. absurd (cc (none t, is))) in
+    let rests = new_rests c.args.lens.now c.args.lists.now c.requires.idle.empty c.requires.stages c.known-2.ensures.some (λ t. inl (none t)) (λ t k is. absurd (cc (none t, is))) in
     let all = unread-all c.args.lens.now.l.places c.args.self.now.stages none in
     let (start, end, row, is) = c.in_ok-enter.ensures in
     let begun =
@@ -35,7 +36,7 @@ loop-self-preserved-then-not-entered g c =
     let inv = c.loop-self.invariant in
     let gone = c.in_ok-entered.ensures in
     record {
-      on = record { walks = gone.on.walks; seen = seen_on inv.on.seen gone.on.seen };
+      on = goes_on gone.grow inv.on gone.on;
       found = λ is. inv.found (gone.on.seen.unseen c.args.s is);
       trail =
           trail_same c.loop-self.self c.go_on.new.self c.loop-self.trail.items inv.trail (gone.on.walks.numbers.size ∙ sym inv.on.walks.numbers.size)
@@ -55,7 +56,7 @@ loop-self-preserved g c =
     let finds = subst (Finds c.loop-self.self new) c.if-not-entered.false gone.finds in
     let inside = open_inside new.stages new.stack gone.on.walks.opened (length new.stack - 1) 0 (omega (arith, finds.some refl)) in
     record {
-      on = record { walks = gone.on.walks; seen = seen_on inv.on.seen gone.on.seen };
+      on = goes_on gone.grow inv.on gone.on;
       found = λ is. inv.found (gone.on.seen.unseen c.args.s is);
       trail =
           subst (IsTrail new.stages) (ap (λ t. c.loop-self.trail.items ++ t ∷ []) (sym c.last_state.ensures) ∙ sym c.in_ok-push-2.ensures.items)
@@ -66,13 +67,16 @@ loop-self-preserved g c =
 
 pub list-list-requires-clause-finished : goal.list-list-requires-clause-finished
 list-list-requires-clause-finished g c =
-    finished (walk_rests c.loop-self.invariant.on.walks (search rules)) c.args.s c.loop-self.invariant.on.seen (idle_unseen c.requires.idle c.args.s) c.loop-self.invariant.found
+    finished (walk_rests c.loop-self.invariant.on.walks (search rules)) c.args.s c.loop-self.invariant.found
 
 pub forget-requires-clause-over : goal.forget-requires-clause-over
 forget-requires-clause-over g c = (walk_rests c.loop-self.invariant.on.walks (search rules)).empty
 
 pub returns-clause-signed : goal.returns-clause-signed
-returns-clause-signed g c = c.loop-self.invariant.on.walks.signed.finished c.args.s c.list-list.result c.list-list.ensures
+returns-clause-signed g c = elim (c.loop-self.invariant.on.signs c.args.s c.list-list.result c.list-list.ensures) [
+  | inl was ↦ absurd (cc (idle_unseen c.requires.idle c.args.s, was))
+  | inr sign ↦ sign
+]
 
 pub returns-clause-row : goal.returns-clause-row
 returns-clause-row g c =

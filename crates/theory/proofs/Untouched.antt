@@ -1,0 +1,123 @@
+-- Signatures that a split leaves as they were, and the states that are to be looked at for the others.
+use Rattle.std.proofs.Common.{◌≡◌, ◌⊎◌, ℕ, ◌<◌, ◌≤◌, List, [], ◌∷◌, Contains, refl, sym, ◌∙◌, subst, inl, inr, arith}
+use Rattle.std.proofs.lemmas.Bool.{cases_eq, cases_lt}
+use Rattle.theory.specs.System.{System, IsSystem, Transition, Step, Along, Leads, internal}
+use Rattle.theory.specs.declared.relation.Relation.TheVariants.{Branching}
+use Rattle.theory.specs.Blocks.{Inert, Signature}
+use Rattle.theory.specs.Untouched.{Refines, KeepsNumbers, IsUntouched, KeepsSignature, ShowsNoPair, IsOnly, LooksBack}
+use Rattle.theory.proofs.Deciding.{both, some_in}
+use Rattle.theory.proofs.Paths.{leads_here, leads_on, leads_keeps, leads_map, step_below}
+use Rattle.theory.proofs.BranchingLaws.{inert_same}
+use Rattle.theory.proofs.Signatures.{signature_decided}
+
+at_least : (m n : ℕ) → Dec (m ≤ n)
+at_least m n = elim (cases_lt n m) [ inl l ↦ no (λ k. absurd (omega (arith, l, k))) | inr l ↦ yes l ]
+
+module _ (A : System) (sys : IsSystem A) (old new : ℕ → ℕ) (refines : Refines A old new) where
+  -- a path that is inert was inert before
+  path_was : (s u : ℕ) → Leads (Inert A new) s u → Leads (Inert A old) s u
+  path_was = leads_map (Inert A new) (Inert A old) (λ x y r.
+      let ends = step_below A sys x internal y r.0 in
+      (r.0, refines y x ends.1 ends.0 r.1))
+
+  -- a path that was inert still is, if no step on it leaves the block
+  path_is : (s u : ℕ) → ((x y : ℕ) → Leads (Inert A new) s x → Inert A old x y → new y ≡ new s)
+      → Leads (Inert A old) s u → Leads (Inert A new) s u
+  path_is s u stays way =
+      leads_keeps (Inert A old) (Leads (Inert A new) s)
+      (λ x y r h. leads_on (Inert A new) s x y h (r.0, stays x y h r ∙ sym (inert_same A new s x h))) s u way (leads_here (Inert A new) s)
+
+  -- what was shown is shown under the number that the target has now
+  shown_now : (s u : ℕ) (a : List ℕ) (t : ℕ) → s < A.states → Leads (Inert A new) s u → Step A u a t
+      → ¬ ((a ≡ internal) × (old t ≡ old s)) → Signature Branching A new s a (new t)
+  shown_now s u a t ls way step shows =
+      (u, t, way, step, refl, λ e. shows (e.0, refines t s (step_below A sys u a t step).1 ls e.1))
+
+  -- an empty signature was empty
+  pub empty_before : (s : ℕ) → s < A.states → ShowsNoPair A new s → ShowsNoPair A old s
+  empty_before s ls none a b (u, t, way, step, at, shows) =
+      none a (new t) (shown_now s u a t ls (path_is s u stays way) step (λ e. shows (e.0, sym at ∙ e.1)))
+    where
+      stays : (x y : ℕ) → Leads (Inert A new) s x → Inert A old x y → new y ≡ new s
+      stays x y h r = elim (cases_eq (new y) (new s)) [
+        | inl e ↦ e
+        | inr d ↦ absurd (none internal (new y) (x, y, h, r.0, refl, λ e. d e.1))
+      ]
+
+  -- the signature of an untouched state stays
+  module _ (low : ℕ) (keeps : KeepsNumbers A old new low) (s : ℕ) (ls : s < A.states) (still : IsUntouched A new low s) where
+    inside : (x y : ℕ) → Leads (Inert A new) s x → Inert A old x y → new y ≡ new s
+    inside x y h r = elim (cases_lt (new y) low) [
+      | inl l ↦
+          keeps y (step_below A sys x internal y r.0).1 l ∙ r.1 ∙ inert_same A old s x (path_was s x h) ∙ sym (keeps s ls still.0)
+      | inr l ↦
+          let shown = still.1 internal (new y) (x, y, h, r.0, refl, λ e. absurd (omega (arith, e.1, l, still.0))) in
+          absurd (omega (arith, shown, l))
+    ]
+
+    pub still_stays : KeepsSignature A old new s
+    still_stays a b = (to, from)
+      where
+        to : Signature Branching A old s a b → Signature Branching A new s a b
+        to (u, t, way, step, at, shows) =
+            let can = shown_now s u a t ls (path_is s u inside way) step (λ e. shows (e.0, sym at ∙ e.1)) in
+            let is = keeps t (step_below A sys u a t step).1 (still.1 a (new t) can) ∙ at in
+            subst (Signature Branching A new s a) is can
+
+        from : Signature Branching A new s a b → Signature Branching A old s a b
+        from (u, t, way, step, at, shows) =
+            let l : new t < low = subst (λ x. x < low) (sym at) (still.1 a b (u, t, way, step, at, shows)) in (
+              u,
+              t,
+              path_was s u way,
+              step,
+              sym (keeps t (step_below A sys u a t step).1 l) ∙ at,
+              λ e. shows (e.0, e.1 ∙ sym (keeps s ls still.0)),
+            )
+
+-- what a round looks at is all that is touched, but for states that are alone in their blocks
+module _ (A : System) (sys : IsSystem A) (blocks : ℕ → ℕ) (low : ℕ) (live : ℕ → Type 0) (looks : LooksBack A blocks low live) where
+  -- what leads by inert steps to a state that is looked at is looked at
+  found_back : (s : ℕ) (us : List ℕ) (u : ℕ) → blocks s < low → Along (Inert A blocks) s us u → live u → live s
+  found_back s [] u l here found = subst live (sym here) found
+  found_back s (t ∷ us) u l (first, way) found =
+      let old = subst (λ x. x < low) (sym first.1) l in
+      looks.inner s t first old (found_back t us u old way found)
+
+  -- a state that shows a new number is looked at, or alone
+  shows_new : (s : ℕ) (a : List ℕ) (b : ℕ) → s < A.states → blocks s < low → Signature Branching A blocks s a b → low ≤ b
+      → live s ⊎ IsOnly A blocks s
+  shows_new s a b ls l (u, t, way, step, at, shows) new = elim (looks.sources u a t step (omega (arith, at, new))) [
+    | inl found ↦ inl (found_back s way.0 u l way.1 found)
+    | inr only ↦ inr (subst (IsOnly A blocks) (sym (only s ls (sym (inert_same A blocks s u way)))) only)
+  ]
+
+  -- a transition gives the pair of a new number to the signature of s
+  abbrev GivesNew : ℕ → Transition → Type 0
+  GivesNew s e = Signature Branching A blocks s e.label (blocks e.target) × (low ≤ blocks e.target)
+
+  gives_new_decided : (s : ℕ) (e : Transition) → Dec (GivesNew s e)
+  gives_new_decided s e =
+      both (signature_decided A blocks Branching sys s e.label (blocks e.target)) (at_least low (blocks e.target))
+
+  -- if no transition does, no new number is shown
+  shows_old : (s : ℕ) → ¬ ((e : Transition) × Contains A.transitions e × GivesNew s e)
+      → (a : List ℕ) (b : ℕ) → Signature Branching A blocks s a b → b < low
+  shows_old s none a b (u, t, way, step, at, shows) = elim (cases_lt b low) [
+    | inl l ↦ l
+    | inr l ↦
+        let e : Transition = record { source = u; label = a; target = t } in
+        absurd (none (e, step, ((u, t, way, step, refl, λ i. shows (i.0, sym at ∙ i.1)), omega (arith, at, l))))
+  ]
+
+  pub reach_found : (s : ℕ) → s < A.states → live s ⊎ IsOnly A blocks s ⊎ IsUntouched A blocks low s
+  reach_found s ls = elim (cases_lt (blocks s) low) [
+    | inr l ↦ elim (looks.new s ls l) [ inl found ↦ inl found | inr only ↦ inr (inl only) ]
+    | inl l ↦ elim (some_in (GivesNew s) (gives_new_decided s) A.transitions) [
+      | no none ↦ inr (inr (l, shows_old s none))
+      | yes some ↦ elim (shows_new s some.0.label (blocks some.0.target) ls l some.2.0 some.2.1) [
+        | inl found ↦ inl found
+        | inr only ↦ inr (inl only)
+      ]
+    ]
+  ]
