@@ -6,7 +6,7 @@ use Rattle.partition.specs.Blocks.{RoundBlocks, AreLive, HaveNone, AreOrNone, Ar
 use Rattle.refine.specs.EachList.{list_of, each_list, HaveLists, FitsWatch}
 use Rattle.refine.specs.Signed.{signature_at}
 use Rattle.refine.specs.declared.signed_blocks.Watch.{Watch}
-use Rattle.refine.specs.declared.signed_blocks.Watch.TheVariants.{Nothing, Sources, Signatures}
+use Rattle.refine.specs.declared.signed_blocks.Watch.TheVariants.{Nothing, Sources}
 use Rattle.partition.specs.Splitting.{Splits}
 
 -- the list of a state is the one that its number gives
@@ -65,17 +65,20 @@ parted lists numbers ns p q are have is split =
     let splits = subst (λ xs. Splits p.of p.count (slice_index xs) q.of q.count) is split.splits in
     Splits-lists lists numbers p.of p.count q.of q.count are have.each (sym have.states) splits
 
--- what was noted fits as many states
+-- what is noted fits as many states
 fits_still : (of of' : List ℕ) (watch : Watch) → length of' ≡ length of → FitsWatch of watch → FitsWatch of' watch
 fits_still of of' Nothing size fits = tt
-fits_still of of' (Sources sources) size fits = fits ∙ sym size
-fits_still of of' (Signatures known) size fits = subst (λ n. AreLive n known.states) (sym size) fits
+fits_still of of' (Sources e) size fits = fits ∙ sym size
 
--- when blocks were split, the states have their lists still, and what was noted fits them
+-- when blocks were split, the states have their lists still, and what is noted fits them
 pub split_fits : (lists : List (List (ℕ × ℕ))) (numbers ns : List ℕ) (p q : RoundBlocks) (watch : Watch) → AreParted p ns q
     → HaveLists p.of p.live lists numbers × FitsWatch p.of watch → HaveLists q.of q.live lists numbers × FitsWatch q.of watch
 split_fits lists numbers ns p q watch split (have, fits) =
     let size = split.splits.states in (
-      record { each = have.each; states = have.states ∙ sym size; none = subst (λ xs. HaveNone xs numbers) (sym split.live) have.none },
+      record {
+        each = have.each;
+        states = have.states ∙ sym size;
+        none = λ s h. elim (have.none s h) [ inl one ↦ inl (split.live s one) | inr nil ↦ inr nil ];
+      },
       fits_still p.of q.of watch size fits,
     )

@@ -1,5 +1,4 @@
 pub mod EqualLists
-pub mod Knowing
 pub mod Settling
 pub mod Spending
 pub mod StrongRow
@@ -7,4 +6,6 @@ pub mod EachList
 pub mod Living
 pub mod Finding
 pub mod Noting
-pub mod BlockLists
+pub mod LookingBack
+pub mod Keeping
+pub mod Rounding

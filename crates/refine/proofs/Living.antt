@@ -8,7 +8,6 @@ use Rattle.lts.specs.Lts.{Grouped, Triple, label_of, target_of, row_of, system_o
 use Rattle.lists.specs.Lists.{list_at, AreNumbers, Grow}
 use Rattle.partition.specs.Splitting.{IsAlone}
 use Rattle.partition.specs.Blocks.{AreLive, IsOne, HaveNone, LeavesAlone}
-use Rattle.inert.specs.Signed.{LooksAtBlocks}
 use Rattle.refine.specs.Living.{LeavesOut}
 
 -- none
@@ -70,16 +69,6 @@ left_out_next l of next live size size' parted others s h = elim (others s h) [
   | inr x ↦ elim x [
     | inl alone ↦ inr (inl (alone_next l of next size size' parted s h alone))
     | inr empty ↦ inr (inr empty)
-  ]
-]
-
--- so no state is left out of a block of which another one is looked at, unless it has no transition
-pub looks_at_blocks : (l : Grouped) (of live : List ℕ) → length of ≡ l.states → LeavesOut l of live → LooksAtBlocks l of live
-looks_at_blocks l of live size others s t h inside same one = elim (others s h) [
-  | inl too ↦ inl too
-  | inr x ↦ elim x [
-    | inl alone ↦ inl (subst (IsOne live) (alone t (omega (arith, inside, size)) (sym same)) one)
-    | inr empty ↦ inr empty
   ]
 ]
 

@@ -13,14 +13,13 @@ use Rattle.partition.specs.Splitting.{IsAlone, Splits}
 use Rattle.partition.specs.Blocks.{RoundBlocks, HaveNone}
 use Rattle.inert.specs.Signed.{HasPair, IsSignature}
 use Rattle.refine.specs.Rounds.{IsNext}
-use Rattle.refine.specs.EachList.{list_of}
 use Rattle.refine.specs.Settled.{IsTouched, IsStill, Settled, IsPut, ArePut}
-use Rattle.refine.specs.Watching.{Watches}
+use Rattle.refine.specs.EachList.{Signed, list_of}
+use Rattle.refine.specs.Watching.{Notes, Watches}
 use Rattle.refine.specs.declared.signed_blocks.Watch.{Watch}
-use Rattle.refine.specs.declared.signed_blocks.Watch.TheVariants.{Nothing, Sources, Signatures}
+use Rattle.refine.specs.declared.signed_blocks.Watch.TheVariants.{Nothing, Sources}
 use Rattle.refine.proofs.Living.{no_step}
 use Rattle.refine.proofs.EqualLists.{Labelled, equal_lists}
-use Rattle.refine.proofs.Knowing.{AgreesWithBlock, known_agrees}
 
 -- before the first round every number is new
 pub settled_first : (rel : Relation) (A : System) (blocks : ℕ → ℕ) → Settled rel A blocks 0
@@ -75,9 +74,9 @@ not_empty Strong l labelled blocks low s t xs touched signed still e =
 not_empty Branching l labelled blocks low s t xs touched signed still e = still
 
 -- the list that a state has tells its signature from those of the others of its block: it is put down for it, or no other state has the
--- block, or all of them have the same
+-- block
 abbrev pub IsTold : Relation → Grouped → List ℕ → ℕ → (ℕ → List (ℕ × ℕ)) → ℕ → Type 0
-IsTold rel l p low signature s = IsPut rel l p low s (signature s) ⊎ IsAlone p s ⊎ AgreesWithBlock rel l p signature s
+IsTold rel l p low signature s = IsPut rel l p low s (signature s) ⊎ IsAlone p s
 
 module _ (rel : Relation) (l : Grouped) (labelled : Labelled l) (p : List ℕ) (low : ℕ) (states : length p ≡ l.states)
     (settled : Settled rel (system_of l) (slice_index p) low) (signature : ℕ → List (ℕ × ℕ))
@@ -113,11 +112,10 @@ module _ (rel : Relation) (l : Grouped) (labelled : Labelled l) (p : List ℕ) (
   both_put s t ls lt one (inr x) (inl y) = turned t s (mixed t s y.0 y.1 x.1 x.0)
   both_put s t ls lt one (inr x) (inr y) = (λ _. settled s t ls lt one x.0 y.0, λ _. x.1 ∙ sym y.1)
 
-  -- of a state that is alone, or agrees with its block, and another one of this block
-  with_block : (s t : ℕ) → t < l.states → slice_index p s ≡ slice_index p t → IsAlone p s ⊎ AgreesWithBlock rel l p signature s
+  -- of a state that is alone, and one of its block
+  with_block : (s t : ℕ) → t < l.states → slice_index p s ≡ slice_index p t → IsAlone p s
       → (signature s ≡ signature t) ↔ SameSignature rel (system_of l) (slice_index p) s t
-  with_block s t lt one (inl alone) = of_one s t (sym (alone t (omega (arith, lt, states)) (sym one)))
-  with_block s t lt one (inr agrees) = let same = agrees t lt (sym one) in (λ _. same.0, λ _. same.1)
+  with_block s t lt one alone = of_one s t (sym (alone t (omega (arith, lt, states)) (sym one)))
 
   -- in one block, two lists are equal exactly if the signatures are
   pub tells : (s t : ℕ) → s < l.states → t < l.states → slice_index p s ≡ slice_index p t
@@ -164,41 +162,36 @@ module _ (l : Grouped) (p : List ℕ) (low s : ℕ) (no_step : (a : List ℕ) (t
   )
 
 -- the Split of blocks, with their numbers: those from the count on are new
-module _ (rel : Relation) (l : Grouped) (sys : IsSystem (system_of l)) (labelled : Labelled l) (p : RoundBlocks) (states : length p.of ≡ l.states)
-    (settled : Settled rel (system_of l) (slice_index p.of) p.low) (signature : ℕ → List (ℕ × ℕ))
-    (told : (s : ℕ) → s < l.states → IsTold rel l p.of p.low signature s) (q : RoundBlocks) (splits : Splits p.of p.count signature q.of q.count) where
-  split : Split rel (system_of l) (slice_index p.of) (slice_index q.of)
-  split =
-      told_is_split rel l labelled p.of p.low states settled signature told q.of
-      (λ s t ls lt. splits.alike s t (omega (arith, ls, states)) (omega (arith, lt, states)))
-
-  stays : (s : ℕ) → s < l.states → slice_index q.of s < p.count → slice_index q.of s ≡ slice_index p.of s
+module _ (rel : Relation) (l : Grouped) (sys : IsSystem (system_of l)) (p : RoundBlocks) (states : length p.of ≡ l.states)
+    (signature : ℕ → List (ℕ × ℕ)) (r : Signed) (splits : Splits p.of p.count signature r.blocks.of r.blocks.count)
+    (split : Split rel (system_of l) (slice_index p.of) (slice_index r.blocks.of)) where
+  stays : (s : ℕ) → s < l.states → slice_index r.blocks.of s < p.count → slice_index r.blocks.of s ≡ slice_index p.of s
   stays s ls low = splits.stays s (omega (arith, ls, states)) low
 
-  kept : q.count ≡ p.count → (s : ℕ) → s < l.states → slice_index q.of s ≡ slice_index p.of s
+  kept : r.blocks.count ≡ p.count → (s : ℕ) → s < l.states → slice_index r.blocks.of s ≡ slice_index p.of s
   kept e s ls = let low = splits.blocks.below s (omega (arith, ls, states, splits.states)) in stays s ls (omega (arith, low, e))
 
-  same : q.count ≡ p.count → SameBlocks (system_of l) (slice_index p.of) (slice_index q.of)
+  same : r.blocks.count ≡ p.count → SameBlocks (system_of l) (slice_index p.of) (slice_index r.blocks.of)
   same e s t ls lt = (
     λ h. sym (kept e s ls) ∙ h ∙ kept e t lt,
     λ h. kept e s ls ∙ h ∙ sym (kept e t lt),
   )
 
-  parted : ¬ (q.count ≡ p.count) → ¬ SameBlocks (system_of l) (slice_index p.of) (slice_index q.of)
+  parted : ¬ (r.blocks.count ≡ p.count) → ¬ SameBlocks (system_of l) (slice_index p.of) (slice_index r.blocks.of)
   parted d alike =
       let grows = splits.grows in
       let h = splits.parts (omega (arith, d, grows)) in
       h.5 ((alike h.0 h.1 (omega (arith, h.2, states)) (omega (arith, h.3, states))).1 h.4)
 
-  pub IsNext-from : (watch : Watch) → Watches watch rel l q → q.low ≡ p.count → IsNext rel l p q watch
-  IsNext-from watch watches low = record {
+  pub IsNext-from : Watches rel l r → r.blocks.low ≡ p.count → IsNext rel l p r
+  IsNext-from watches low = record {
     states = splits.states ∙ states;
     split = split;
     blocks = splits.blocks;
     low = low;
     settled =
-        subst (Settled rel (system_of l) (slice_index q.of)) (sym low) (
-        settled_next rel (system_of l) (slice_index p.of) (slice_index q.of) p.count (λ s a t step. (step_below (system_of l) sys s a t step).1) stays split);
+        subst (Settled rel (system_of l) (slice_index r.blocks.of)) (sym low) (
+        settled_next rel (system_of l) (slice_index p.of) (slice_index r.blocks.of) p.count (λ s a t step. (step_below (system_of l) sys s a t step).1) stays split);
     watches = watches;
     grows = splits.grows;
     stays = stays;
@@ -238,34 +231,19 @@ module _ (l : Grouped) (labelled : Labelled l) (p : RoundBlocks) (lists : List (
     | inr zero ↦ put_none l p.of p.low s (no_step l s (steps s) empty) rel (list_of lists numbers s) (ap (list_at lists) zero ∙ first)
   ]
 
-  pub all_told : (watch : Watch) (rel : Relation) → Watches watch rel l p → ArePut rel l p.of p.low p.live (list_of lists numbers)
-      → (s : ℕ) → s < l.states → IsTold rel l p.of p.low (list_of lists numbers) s
-  all_told Nothing rel others put s ls = elim (others s ls) [
+  pub all_told : (watch : Watch) → Notes watch Strong l p → ArePut Strong l p.of p.low p.live (list_of lists numbers)
+      → (s : ℕ) → s < l.states → IsTold Strong l p.of p.low (list_of lists numbers) s
+  all_told Nothing others put s ls = elim (others s ls) [
     | inl one ↦ inl (put s one)
     | inr x ↦ elim x [
-      | inl alone ↦ inr (inl alone)
-      | inr empty ↦ inl (empty_put rel put s ls empty)
+      | inl alone ↦ inr alone
+      | inr empty ↦ inl (empty_put Strong put s ls empty)
     ]
   ]
-  all_told (Sources sources) Strong w put s ls = elim (w.others s ls) [
+  all_told (Sources e) w put s ls = elim (w.others s ls) [
     | inl one ↦ inl (put s one)
     | inr x ↦ elim x [
-      | inl alone ↦ inr (inl alone)
+      | inl alone ↦ inr alone
       | inr still ↦ inl (still_put put s ls still)
-    ]
-  ]
-  all_told (Sources sources) Branching w put s ls = absurd w
-  all_told (Signatures known) Strong w put s ls = absurd w
-  all_told (Signatures known) Branching w put s ls = elim (w.others s ls) [
-    | inl one ↦ elim (w.looks.left s one) [
-      | inl live ↦ inl (put s live)
-      | inr x ↦ elim x [
-        | inl alone ↦ inr (inl alone)
-        | inr is ↦ inr (inr (known_agrees l labelled p known w.looks w.signed lists numbers none size s ls is))
-      ]
-    ]
-    | inr x ↦ elim x [
-      | inl alone ↦ inr (inl alone)
-      | inr empty ↦ inl (empty_put Branching put s ls empty)
     ]
   ]

@@ -1,10 +1,10 @@
 -- The list of each state, by its number.
-use Rattle.std.specs.Prelude.{◌≡◌, ℕ, ◌≤◌, List, length, map, slice_index}
+use Rattle.std.specs.Prelude.{◌≡◌, ℕ, ◌≤◌, List, [], ◌∷◌, length, map, slice_index}
 use Rattle.lts.specs.declared.limits.TheConstants.{MOST_STATES}
 use Rattle.lists.specs.Lists.{list_at, AreNumbers}
 use Rattle.partition.specs.Blocks.{RoundBlocks, HaveNone, AreLive}
 use Rattle.refine.specs.declared.signed_blocks.Watch.{Watch}
-use Rattle.refine.specs.declared.signed_blocks.Watch.TheVariants.{Nothing, Sources, Signatures}
+use Rattle.refine.specs.declared.signed_blocks.Watch.TheVariants.{Nothing, Sources}
 
 -- the list of the state s, if the states have these numbers
 abbrev pub list_of : List (List (ℕ × ℕ)) → List ℕ → ℕ → List (ℕ × ℕ)
@@ -20,11 +20,13 @@ pub record AreListsOfStates (lists : List (List (ℕ × ℕ))) (numbers : List �
   pub some : 1 ≤ length numbers
   pub few : length numbers ≤ MOST_STATES
 
--- the blocks of a round, lists, for each state the number of its list, and what was noted
+-- the blocks of a round, lists, for each state the number of the list that the split is given and of the list that is kept for it, and
+-- what is noted
 pub record Signed : Type 0 where
   pub blocks : RoundBlocks
   pub lists : List (List (ℕ × ℕ))
   pub numbers : List ℕ
+  pub kept : List ℕ
   pub watch : Watch
 
 -- each state of the blocks has a list, and one that is not looked at the empty one
@@ -33,8 +35,13 @@ pub record HaveLists (of live : List ℕ) (lists : List (List (ℕ × ℕ))) (nu
   pub states : length numbers ≡ length of
   pub none : HaveNone live numbers
 
--- what was noted fits the states: each has its sources, or some may be looked at
+-- what is noted fits the states: each has its sources
 abbrev pub FitsWatch : List ℕ → Watch → Type 0
 FitsWatch of Nothing = Unit {0}
-FitsWatch of (Sources sources) = length sources ≡ length of
-FitsWatch of (Signatures known) = AreLive (length of) known.states
+FitsWatch of (Sources e) = length e.sources ≡ length of
+
+-- no list is known but the empty one, which is kept for each state
+pub record IsAnew (r : Signed) : Type 0 where
+  pub lists : r.lists ≡ [] ∷ []
+  pub states : length r.kept ≡ length r.blocks.of
+  pub empty : (s : ℕ) → slice_index r.kept s ≡ 0

@@ -1,55 +1,87 @@
--- The sources of the transitions that lead to each state, once a round has noted them: which states a round then looks at.
-use Rattle.std.specs.Prelude.{◌≡◌, ◌⊎◌, ℕ, ◌<◌, ◌≤◌, Bool, false, cond, IsTrue, List, [], length, map, slice_index, slice_index_or}
-use Rattle.std.specs.List.{All, Contains}
+-- The sources of the transitions that lead to each state: which states a round then looks at.
+use Rattle.std.specs.Prelude.{◌≡◌, ◌⊎◌, ℕ, ◌<◌, ◌≤◌, Bool, false, IsTrue, List, [], length, slice_index, slice_index_or, Option, None, Some}
+use Rattle.std.specs.List.{All, Contains, count_by}
+use Rattle.theory.specs.System.{internal}
 use Rattle.theory.specs.declared.relation.Relation.TheVariants.{Strong}
-use Rattle.lts.specs.Lts.{Grouped, Triple, target_of, row_of, system_of}
+use Rattle.lts.specs.Labels.{text_of}
+use Rattle.lts.specs.Lts.{Grouped, Triple, label_of, target_of, row_of, system_of}
 use Rattle.partition.specs.Splitting.{IsAlone}
 use Rattle.partition.specs.Blocks.{RoundBlocks, AreLive, IsOne}
 use Rattle.refine.specs.Settled.{IsStill}
+use Rattle.refine.specs.declared.entering.Reach.{Reach}
+use Rattle.refine.specs.declared.entering.Reach.TheVariants.{Before, Back}
 
--- for each state the sources of the transitions that lead to it
-abbrev pub Sources : Type 0
-Sources = List (List ℕ)
-
--- transitions of the source s, turned round: each one's target, and s
-abbrev pub turned : ℕ → List Triple → List (ℕ × ℕ)
-turned s row = map (λ e. (target_of e, s)) row
-
--- what is noted of such a row, if anything is
-abbrev pub noted_of : Bool → ℕ → List Triple → List (ℕ × ℕ)
-noted_of noting s row = cond noting (turned s row) []
-
--- what a round has noted of the transitions from these states: all, if it notes them
-pub record AreNotes (noting : Bool) (l : Grouped) (live : List ℕ) (notes : List (ℕ × ℕ)) : Type 0 where
-  pub few : length notes ≤ length l.places
-  pub below : All (λ x. x.0 < l.states) notes
-  pub each : IsTrue noting → (s : ℕ) → IsOne live s → All (Contains notes) (turned s (row_of s l.places))
+-- for each state the sources of the transitions that lead to it; and of the internal ones, if inert steps are followed back
+pub record Entered : Type 0 where
+  pub sources : List (List ℕ)
+  pub inner : Option (List (List ℕ))
 
 -- each transition from s is noted at its target
-abbrev pub IsNoted : Grouped → Sources → ℕ → Type 0
+abbrev pub IsNoted : Grouped → List (List ℕ) → ℕ → Type 0
 IsNoted l sources s = (e : Triple) → Contains (row_of s l.places) e → Contains (slice_index_or sources (target_of e) []) s
 
--- the transitions from each state are noted, or it is alone in its block; a state that is not looked at is alone, or still
-pub record AreWatched (l : Grouped) (p : RoundBlocks) (sources : Sources) : Type 0 where
+-- each internal transition from s is
+abbrev pub IsInternalNoted : Grouped → List (List ℕ) → ℕ → Type 0
+IsInternalNoted l inner s = (e : Triple) → Contains (row_of s l.places) e → text_of l.labels (label_of e) ≡ internal
+    → Contains (slice_index_or inner (target_of e) []) s
+
+-- the transitions from these states are noted, and the internal ones apart, if they are to be
+pub record AreEntering (l : Grouped) (reach : Reach) (live : List ℕ) (e : Entered) : Type 0 where
+  pub size : length e.sources ≡ l.states
+  pub sources : (s : ℕ) → IsOne live s → IsNoted l e.sources s
+  pub inner : reach ≡ Back → (inner : List (List ℕ)) × (e.inner ≡ Some inner) × ((s : ℕ) → IsOne live s → IsInternalNoted l inner s)
+
+-- the transitions from each state are noted, or it is alone in its block; a state that is not looked at is alone, or still (strong)
+pub record AreWatched (l : Grouped) (p : RoundBlocks) (sources : List (List ℕ)) : Type 0 where
   pub noted : (s : ℕ) → s < l.states → IsAlone p.of s ⊎ IsNoted l sources s
   pub others : (s : ℕ) → s < l.states → IsOne p.live s ⊎ IsAlone p.of s ⊎ IsStill Strong (system_of l) (slice_index p.of) p.low s
+
+-- the transitions from each state are noted, and the internal ones apart, or it is alone in its block (branching)
+pub record AreNotedBack (l : Grouped) (of : List ℕ) (e : Entered) : Type 0 where
+  pub inner : List (List ℕ)
+  pub apart : e.inner ≡ Some inner
+  pub noted : (s : ℕ) → s < l.states → IsAlone of s ⊎ (IsNoted l e.sources s × IsInternalNoted l inner s)
 
 -- each of these states is among those that were found, or alone in its block
 abbrev pub AreFound : List ℕ → List ℕ → List ℕ → Type 0
 AreFound of found states = All (λ s. s < length of → IsOne found s ⊎ IsAlone of s) states
 
 -- the states from which a transition leads to a new number are looked at, if they are not alone in their blocks
-abbrev pub LooksAtSources : Sources → RoundBlocks → Type 0
+abbrev pub LooksAtSources : List (List ℕ) → RoundBlocks → Type 0
 LooksAtSources sources p = (t : ℕ) → t < length p.of → p.low ≤ slice_index p.of t → AreFound p.of p.live (slice_index_or sources t [])
+
+-- the same of those of these states that are in the block b
+abbrev pub AreFoundWithin : ℕ → List ℕ → List ℕ → List ℕ → Type 0
+AreFoundWithin b of found states = All (λ s. s < length of → slice_index of s ≡ b → IsOne found s ⊎ IsAlone of s) states
+
+-- the states of new blocks that are looked at are found, if they are not alone in their blocks
+abbrev pub FindsNew : RoundBlocks → List ℕ → Type 0
+FindsNew p found = (t : ℕ) → IsOne p.live t → p.low ≤ slice_index p.of t → IsOne found t ⊎ IsAlone p.of t
+
+-- if the state t has an old block, the states of that block are found from which an internal transition leads to it
+abbrev pub GoesBack : List (List ℕ) → RoundBlocks → List ℕ → ℕ → Type 0
+GoesBack inner p found t = slice_index p.of t < p.low →
+    All (λ s. s < length p.of → slice_index p.of s ≡ slice_index p.of t → IsOne found s) (slice_index_or inner t [])
+
+-- what a search that follows inert steps back finds: the states of new blocks, and the sources of internal steps within an old block
+pub record FindsBack (inner : List (List ℕ)) (p : RoundBlocks) (found : List ℕ) : Type 0 where
+  pub new : FindsNew p found
+  pub back : (t : ℕ) → IsOne found t → GoesBack inner p found t
+
+-- so all states of new blocks are looked at, if they are not alone in them, and those from which inert steps lead to one that is
+pub record LooksBackBy (inner : List (List ℕ)) (p : RoundBlocks) : Type 0 where
+  pub new : (t : ℕ) → t < length p.of → p.low ≤ slice_index p.of t → IsOne p.live t ⊎ IsAlone p.of t
+  pub back : (t : ℕ) → IsOne p.live t → GoesBack inner p p.live t
 
 -- no state is marked
 abbrev pub IsUnmarked : List Bool → Type 0
 IsUnmarked marks = (s : ℕ) → ¬ IsTrue (slice_index_or marks s false)
 
--- the states that were found are those that are marked
+-- the states that were found are those that are marked, and each was found once
 pub record AreMarked (marks : List Bool) (found : List ℕ) : Type 0 where
   pub each : All (λ s. IsTrue (slice_index_or marks s false)) found
   pub all : (s : ℕ) → IsTrue (slice_index_or marks s false) → IsOne found s
+  pub once : length found ≡ count_by (λ on. on) marks
 
 -- what a round reads rows under: the block of each state, and the states that are looked at
 pub record ReadsUnder (l : Grouped) (of live : List ℕ) : Type 0 where

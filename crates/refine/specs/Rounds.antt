@@ -7,22 +7,22 @@ use Rattle.lts.specs.Lts.{Grouped, system_of}
 use Rattle.partition.specs.Partition.{AreBlocks}
 use Rattle.partition.specs.Blocks.{RoundBlocks}
 use Rattle.refine.specs.Settled.{Settled}
+use Rattle.refine.specs.EachList.{Signed}
 use Rattle.refine.specs.Watching.{Watches}
-use Rattle.refine.specs.declared.signed_blocks.Watch.{Watch}
 
--- the blocks q are the Split of the blocks p. Their numbers from the count of p on are new, and a state that the next round does not look
--- at need not be
-pub record IsNext (rel : Relation) (l : Grouped) (p q : RoundBlocks) (watch : Watch) : Type 0 where
-  pub states : length q.of ≡ l.states
-  pub split : Split rel (system_of l) (slice_index p.of) (slice_index q.of)
-  pub blocks : AreBlocks q.of q.count
-  pub low : q.low ≡ p.count
-  pub settled : Settled rel (system_of l) (slice_index q.of) q.low
-  pub watches : Watches watch rel l q
-  pub grows : p.count ≤ q.count
-  pub stays : (s : ℕ) → s < l.states → slice_index q.of s < p.count → slice_index q.of s ≡ slice_index p.of s
-  pub same : q.count ≡ p.count → SameBlocks (system_of l) (slice_index p.of) (slice_index q.of)
-  pub parted : ¬ (q.count ≡ p.count) → ¬ SameBlocks (system_of l) (slice_index p.of) (slice_index q.of)
+-- the blocks of q are the Split of the blocks p. Their numbers from the count of p on are new, and a state that the next round does not
+-- look at need not be
+pub record IsNext (rel : Relation) (l : Grouped) (p : RoundBlocks) (q : Signed) : Type 0 where
+  pub states : length q.blocks.of ≡ l.states
+  pub split : Split rel (system_of l) (slice_index p.of) (slice_index q.blocks.of)
+  pub blocks : AreBlocks q.blocks.of q.blocks.count
+  pub low : q.blocks.low ≡ p.count
+  pub settled : Settled rel (system_of l) (slice_index q.blocks.of) q.blocks.low
+  pub watches : Watches rel l q
+  pub grows : p.count ≤ q.blocks.count
+  pub stays : (s : ℕ) → s < l.states → slice_index q.blocks.of s < p.count → slice_index q.blocks.of s ≡ slice_index p.of s
+  pub same : q.blocks.count ≡ p.count → SameBlocks (system_of l) (slice_index p.of) (slice_index q.blocks.of)
+  pub parted : ¬ (q.blocks.count ≡ p.count) → ¬ SameBlocks (system_of l) (slice_index p.of) (slice_index q.blocks.of)
 
 -- so many rounds were made from one block, each of which has split something and visited each transition once
 pub record Made (rel : Relation) (l : Grouped) (old at : Counts) (blocks : List ℕ) : Type 0 where

@@ -1,11 +1,12 @@
 //! Branching bisimulation: a state's signature has what the transitions show that inert steps lead to, and the blocks that
 //! they lead to.
-ghost use Rattle.std.specs.Prelude.{◌≡◌, IfOk};
+ghost use Rattle.std.specs.Prelude.{◌≡◌, ℕ, length, slice_index, IfOk};
 ghost use Rattle.theory.specs.declared.relation.Relation.TheVariants.{Branching as branching};
-ghost use Rattle.refine.specs.Watching.{BeginsLists};
+ghost use Rattle.refine.specs.Kept.{KeepsLists};
+ghost use Rattle.refine.specs.Watching.{Notes, Watches};
+ghost use Rattle.refine.specs.declared.signed_blocks.Watch.TheVariants.{Nothing};
 
-use crate::block_lists::BlockLists;
-use crate::scratch::Scratch;
+use crate::entering::Reach;
 use crate::signed_blocks::{SignedBlocks, Watch};
 use crate::signing::Signing;
 use lts::{Lts, Memory, Meter};
@@ -18,39 +19,36 @@ impl Signing for Branching {
 
     fn sign_each<M: Meter>(
         l: &Lts<M>,
-        mut round: SignedBlocks,
-        scratch: &mut Scratch,
+        round: SignedBlocks,
         m: &mut M,
     ) -> Result<SignedBlocks, Memory> {
-        round = begin_lists(round)?;
-        round.lists.clear();
-        scratch
+        let mut round = begin(l, round)?;
+        round.known();
+        round
             .signer
             .sign_each(l, &round.blocks, &mut round.lists, &mut round.numbers, m)?;
         Ok(round)
     }
 }
 
-/// Keeps the signatures of blocks from now on, if under an eighth of the blocks are new since the last split: in earlier rounds nearly all
-/// change.
+/// Before a round: as long as nothing is noted, no list is kept from the rounds before.
 ///
 /// Fails if there is no memory for it.
-fn begin_lists(round: SignedBlocks) -> Result<SignedBlocks, Memory>
-    ensures same { IfOk result (λ r. r.blocks ≡ round.blocks) }
-    ensures begins { IfOk result (λ r. BeginsLists round.blocks.live round.watch r.watch) }
+fn begin<M: Meter>(l: &Lts<M>, round: SignedBlocks) -> Result<SignedBlocks, Memory>
+    requires states { length round.blocks.of ≡ l.now.states }
+    requires watches { Watches branching l.now round }
+    ensures blocks { IfOk result (λ r. r.blocks ≡ round.blocks) }
+    ensures notes { IfOk result (λ r. Notes r.watch branching l.now r.blocks) }
+    ensures keeps { IfOk result (λ r. KeepsLists l.now r) }
+    ensures anew { IfOk result (λ r. round.watch ≡ Nothing → (s : ℕ) → slice_index r.kept s ≡ 0) }
 {
+    lts::rows_are_steps();
+    l.known();
     let Watch::Nothing = &round.watch else {
         return Ok(round);
     };
-    let count = round.blocks.count();
-    if round.blocks.low() <= count - count / 8 {
-        return Ok(round);
-    }
-    let blocks = round.blocks.counted(round.alloc)?;
-    let known = BlockLists::new(round.alloc, &blocks)?;
-    Ok(SignedBlocks {
-        blocks,
-        watch: Watch::Signatures(known),
-        ..round
-    })
+    let round = round.anew()?;
+    round.known();
+    let round = round.begin_index(l, Reach::Back)?;
+    Ok(round)
 }

@@ -12,10 +12,10 @@ ghost use Rattle.inert.specs.Signed.{IsSignature};
 ghost use Rattle.refine.specs.Signed.{Extends, Appends, signature_at, most_visits};
 
 use crate::branching::Branching;
-use crate::scratch::Scratch;
 use crate::signed_blocks::SignedBlocks;
 use crate::signing::Signing;
 use crate::strong::{NewBlocks, Strong, read};
+use inert::Signer;
 use lists::{EMPTY, Lists, Parts, order};
 use lts::{Lts, Memory, Meter};
 use partition::{Blocks, Partition, renumber};
@@ -26,7 +26,8 @@ use std::marker::Model;
 /// earlier ones left here.
 pub struct Marks {
     states: u32,
-    scratch: Scratch,
+    pairs: Vec<(u32, u32)>,
+    signer: Signer,
     lists: Lists,
 }
 
@@ -35,7 +36,8 @@ impl Drop for Marks {
     fn drop(self) {
         let Marks {
             states: _,
-            scratch: _,
+            pairs: _,
+            signer: _,
             lists: _,
         } = self;
     }
@@ -64,7 +66,8 @@ impl Marks {
         let lists = Lists::new(alloc, 1)?;
         Ok(Marks {
             states,
-            scratch: Scratch::new(alloc),
+            pairs: Vec::new(alloc),
+            signer: Signer::new(alloc),
             lists,
         })
     }
@@ -118,33 +121,33 @@ impl Sense for Strong {
         out: &mut Vec<(u32, u32)>,
         m: &mut M,
     ) -> Result<(), Memory> {
-        sign(l, p.blocks(), s, &mut marks.scratch, m)?;
-        out.extend_from_slice(&marks.scratch.pairs)?;
+        sign(l, p.blocks(), s, &mut marks.pairs, m)?;
+        out.extend_from_slice(&marks.pairs)?;
         Ok(())
     }
 }
 
-/// Makes the pairs of `scratch` the strong signature of `s`.
+/// Makes `pairs` the strong signature of `s`.
 ///
 /// Fails if there is no memory for it.
 fn sign<M: Meter>(
     l: &Lts<M>,
     p: &[u32],
     s: u32,
-    scratch: &mut Scratch,
+    pairs: &mut Vec<(u32, u32)>,
     m: &mut M,
 ) -> Result<(), Memory>
     requires states { length p.now ≡ l.now.states }
     requires state { s < l.now.states }
     requires room { HasRoomFor (M.counted m.old) 0 (length (row_of s l.now.places)) }
-    ensures signature { OnOk result (IsSignature strong l.now p.now s scratch.new.pairs.items) }
+    ensures signature { OnOk result (IsSignature strong l.now p.now s pairs.new.items) }
     ensures visits { let n = length (row_of s l.now.places) in Visits M.counted m.old m.new result n n }
 {
     lts::rows_are_steps();
     l.known();
     let under = NewBlocks { l, of: p, low: 0 };
-    read(&under, s, false, &mut scratch.pairs, &mut scratch.notes, m)?;
-    order(&mut scratch.pairs);
+    read(&under, s, pairs, m)?;
+    order(pairs);
     Ok(())
 }
 
@@ -158,13 +161,10 @@ impl Sense for Branching {
         m: &mut M,
     ) -> Result<(), Memory> {
         marks.lists.clear();
-        let list = marks
-            .scratch
-            .signer
-            .sign(l, p.blocks(), s, &mut marks.lists, m)?;
-        marks.scratch.pairs.clear();
-        marks.lists.append(list, &mut marks.scratch.pairs)?;
-        out.extend_from_slice(&marks.scratch.pairs)?;
+        let list = marks.signer.sign(l, p.blocks(), s, &mut marks.lists, m)?;
+        marks.pairs.clear();
+        marks.lists.append(list, &mut marks.pairs)?;
+        out.extend_from_slice(&marks.pairs)?;
         Ok(())
     }
 }
@@ -251,7 +251,7 @@ impl Signatures {
     {
         let blocks = Blocks::copied(self.alloc, p)?;
         let blocks = SignedBlocks::new(self.alloc, blocks)?;
-        let signed = S::sign_each(l, blocks, &mut marks.scratch, m)?;
+        let signed = S::sign_each(l, blocks, m)?;
         signed.known();
         let SignedBlocks { lists, numbers, .. } = signed;
         let whole = made_whole(self.alloc, &lists)?;

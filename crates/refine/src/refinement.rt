@@ -11,7 +11,6 @@ ghost use Rattle.refine.specs.Watching.{Watches};
 ghost use Rattle.refine.specs.Rounds.{IsNext};
 
 use crate::one_round::Sense;
-use crate::scratch::Scratch;
 use crate::signed_blocks::SignedBlocks;
 use crate::signing::Signing;
 use lts::{Lts, Memory, Meter};
@@ -40,13 +39,12 @@ pub fn refine<S: Sense, M: Meter>(alloc: Global, l: &Lts<M>, m: &mut M) -> Resul
     let live = with_rows(alloc, l)?;
     let blocks = Blocks::one(alloc, l.states(), live)?;
     let mut round = SignedBlocks::new(alloc, blocks)?;
-    let mut scratch = Scratch::new(alloc);
     theory::refinement_goes_on();
     theory::final_blocks_are_bisimilarity();
     loop {
         let before = round.renew()?;
         let count = before.count();
-        let next = next_round::<S, M>(before, l, &mut scratch, m)?;
+        let next = next_round::<S, M>(before, l, m)?;
         let more = next.count();
         if more == count {
             let blocks = next.into_blocks();
@@ -74,22 +72,21 @@ fn with_rows<M: Meter>(alloc: Global, l: &Lts<M>) -> Result<Vec<u32>, Memory>
     Ok(live)
 }
 
-/// One round: the Split of the blocks, signed in lists and scratch that are used again.
+/// One round: the Split of the blocks.
 ///
 /// Fails if there is no memory for it. At most one round was begun then, with at most its visits.
 fn next_round<S: Signing, M: Meter>(
     round: SignedBlocks,
     l: &Lts<M>,
-    scratch: &mut Scratch,
     m: &mut M,
 ) -> Result<SignedBlocks, Memory>
     requires states { length round.blocks.of ≡ l.now.states }
     requires settled { Settled S.relation (system_of l.now) (slice_index round.blocks.of) round.blocks.low }
-    requires watches { Watches round.watch S.relation l.now round.blocks }
+    requires watches { Watches S.relation l.now round }
     requires room { HasRoomFor (M.counted m.old) 1 (length l.now.places) }
 
     // Once it is done
-    ensures next { IfOk result (λ q. IsNext S.relation l.now round.blocks q.blocks q.watch) }
+    ensures next { IfOk result (IsNext S.relation l.now round.blocks) }
     ensures costs { let n = length l.now.places in OnOk result (Costs (M.counted m.old) (M.counted m.new) 1 n n) }
 
     // After a refusal
@@ -98,8 +95,9 @@ fn next_round<S: Signing, M: Meter>(
     lts::rows_are_steps();
     l.known();
     m.start_round();
-    let signed = S::sign_each(l, round, scratch, m)?;
+    let signed = S::sign_each(l, round, m)?;
     signed.known();
     let next = signed.split()?;
+    next.known();
     Ok(next)
 }

@@ -2,11 +2,8 @@
 ghost use Rattle.std.specs.Prelude.{◌≡◌, length, IfOk};
 ghost use Rattle.theory.specs.declared.relation.Relation.{Relation};
 ghost use Rattle.lts.specs.Meter.{HasRoomFor, Visits};
-ghost use Rattle.refine.specs.EachList.{list_of};
-ghost use Rattle.refine.specs.Settled.{ArePut};
-ghost use Rattle.refine.specs.Watching.{Watches};
+ghost use Rattle.refine.specs.Watching.{Notes, Watches, SignsEach};
 
-use crate::scratch::Scratch;
 use crate::signed_blocks::SignedBlocks;
 use lts::{Lts, Memory, Meter};
 
@@ -15,26 +12,23 @@ use lts::{Lts, Memory, Meter};
 pub trait Signing {
     ghost relation: { Relation };
 
-    /// Signs each state that a round looks at: no pairs for one that no new block can be seen from. States with equal signatures
-    /// share a list. The others have the empty list already. Each transition is visited once, those of the others for their count
-    /// alone.
+    /// Signs each state that a round looks at, and gives it the number of a list by which the split tells it from others of its
+    /// block. Each transition is visited once, those of the other states for their count alone.
     ///
     /// Fails if there is no memory for it.
     fn sign_each<M: Meter>(
         l: &Lts<M>,
         round: SignedBlocks,
-        scratch: &mut Scratch,
         m: &mut M,
     ) -> Result<SignedBlocks, Memory>
         requires states { length round.blocks.of ≡ l.now.states }
-        requires watches { Watches round.watch relation l.now round.blocks }
+        requires watches { Watches relation l.now round }
         requires room { HasRoomFor (M.counted m.old) 0 (length l.now.places) }
 
         // Once it is done
         ensures blocks { IfOk result (λ r. r.blocks ≡ round.blocks) }
-        ensures signed { IfOk result (λ r.
-            ArePut relation l.now r.blocks.of r.blocks.low r.blocks.live (list_of r.lists r.numbers)) }
-        ensures watches { IfOk result (λ r. Watches r.watch relation l.now r.blocks) }
+        ensures signed { IfOk result (λ r. SignsEach relation l.now round r) }
+        ensures notes { IfOk result (λ r. Notes r.watch relation l.now r.blocks) }
 
         // In either case
         ensures visits { let n = length l.now.places in Visits M.counted m.old m.new result n n };

@@ -1,27 +1,21 @@
 //! Strong bisimulation: a state's signature has what its transitions show, and the blocks that they lead to.
-ghost use Rattle.std.specs.Prelude.{◌≡◌, ◌↔◌, ◌+◌, ◌++◌, ◌∷◌, ◌<◌, ◌≤◌, [], length, map, slice_index, cond, IsTrue, IfOk, OnOk};
-ghost use Rattle.std.specs.List.{All};
+ghost use Rattle.std.specs.Prelude.{◌≡◌, ◌↔◌, ◌+◌, ◌++◌, ◌∷◌, ◌<◌, ◌≤◌, [], length, map, slice_index, IsTrue, IfOk, OnOk};
 ghost use Rattle.std.specs.Vec.{vec_len, vec_capacity};
 ghost use Rattle.theory.specs.declared.relation.Relation.TheVariants.{Strong as strong};
 ghost use Rattle.lts.specs.Meter.{HasRoomFor, Visits};
-ghost use Rattle.lts.specs.declared.limits.TheConstants.{MOST_TRANSITIONS};
 ghost use Rattle.lts.specs.Lts.{row_of};
 ghost use Rattle.lists.specs.Lists.{list_at, AreNumbers, Grow};
 ghost use Rattle.partition.specs.Blocks.{HaveNone};
 ghost use Rattle.inert.specs.Signed.{pair_under};
 ghost use Rattle.refine.specs.EachList.{list_of};
 ghost use Rattle.refine.specs.Settled.{HasFrom, IsPut, ArePut};
-ghost use Rattle.lts.specs.Groups.{groups_of};
-ghost use Rattle.refine.specs.Noting.{ReadsUnder, AreNotes, noted_of};
-ghost use Rattle.refine.specs.declared.signed_blocks.Watch.TheVariants.{Nothing, Sources};
+ghost use Rattle.refine.specs.Noting.{ReadsUnder};
 
-use crate::entering::Entering;
-use crate::scratch::Scratch;
-use crate::signed_blocks::{SignedBlocks, Watch};
+use crate::entering::Reach;
+use crate::signed_blocks::SignedBlocks;
 use crate::signing::Signing;
 use lists::{EMPTY, Lists, order};
 use lts::{Lts, Memory, Meter, visit_places};
-use std::alloc::Global;
 
 /// Strong bisimulation (Milner 1989).
 pub struct Strong;
@@ -31,84 +25,27 @@ impl Signing for Strong {
 
     fn sign_each<M: Meter>(
         l: &Lts<M>,
-        mut round: SignedBlocks,
-        scratch: &mut Scratch,
+        round: SignedBlocks,
         m: &mut M,
     ) -> Result<SignedBlocks, Memory> {
         lts::rows_are_steps();
-        let noting = begin_notes(l, &round, scratch, m)?;
+        let mut round = round.begin_index(l, Reach::Before)?;
         round.lists.clear();
         let under = NewBlocks {
             l,
             of: round.blocks.of(),
             low: round.blocks.low(),
         };
-        let live = round.blocks.live();
         sign_live(
             &under,
-            live,
-            noting,
-            scratch,
+            round.blocks.live(),
+            &mut round.pairs,
             &mut round.lists,
             &mut round.numbers,
             m,
         )?;
-        keep_notes(
-            noting,
-            l.states(),
-            &mut scratch.notes,
-            &mut round.watch,
-            round.alloc,
-        )?;
         Ok(round)
     }
-}
-
-/// Whether this round notes the transitions that it reads, with room for them: once, and where the last round has read many rows for
-/// nothing. A first round does not, nor do early ones, after which there may be no more.
-///
-/// Fails if there is no memory for them.
-fn begin_notes<M: Meter>(
-    l: &Lts<M>,
-    round: &SignedBlocks,
-    scratch: &mut Scratch,
-    m: &M,
-) -> Result<bool, Memory>
-    ensures once { IfOk result (λ noting. IsTrue noting → round.now.watch ≡ Nothing) }
-{
-    let few = (scratch.touched as usize) < round.blocks.live().len() / 4 * 3;
-    scratch.touched = 0;
-    let early = round.blocks.low() == 0 || m.rounds() < 3;
-    let Watch::Nothing = &round.watch else {
-        return Ok(false);
-    };
-    if early || !few {
-        return Ok(false);
-    }
-    scratch.notes = Vec::with_capacity(round.alloc, l.edges() as usize)?;
-    Ok(true)
-}
-
-/// Groups what a round has noted, if it has, and gives the notes' memory back.
-///
-/// Fails if there is no memory for it.
-fn keep_notes(
-    noting: bool,
-    states: u32,
-    notes: &mut Vec<(u32, u32)>,
-    watch: &mut Watch,
-    alloc: Global,
-) -> Result<(), Memory>
-    requires few { length notes.old.items ≤ MOST_TRANSITIONS }
-    requires targets { All (λ x. x.0 < states) notes.old.items }
-    ensures { OnOk result (watch.new ≡ cond noting (Sources (groups_of states notes.old.items)) watch.old) }
-{
-    if !noting {
-        return Ok(());
-    }
-    *watch = Watch::Sources(Entering::new(alloc, states, notes)?);
-    *notes = Vec::new(alloc);
-    Ok(())
 }
 
 /// Puts the strong signatures of these states into `lists`, and their numbers there into `numbers`. The rows of the other states lie
@@ -118,8 +55,7 @@ fn keep_notes(
 fn sign_live<M: Meter>(
     under: &NewBlocks<M>,
     live: &[u32],
-    noting: bool,
-    scratch: &mut Scratch,
+    pairs: &mut Vec<(u32, u32)>,
     lists: &mut Lists,
     numbers: &mut [u32],
     m: &mut M,
@@ -130,20 +66,18 @@ fn sign_live<M: Meter>(
     requires room { HasRoomFor (M.counted m.old) 0 (length under.now.l.now.places) }
     ensures signed { OnOk result (ArePut strong under.now.l.now under.now.of.now under.now.low live.now (list_of lists.new numbers.new)) }
     ensures numbers { OnOk result (AreNumbers lists.new numbers.new × HaveNone live.now numbers.new) }
-    ensures notes { OnOk result (AreNotes noting under.now.l.now live.now scratch.new.notes.items) }
     ensures visits { let n = length under.now.l.now.places in Visits M.counted m.old m.new result n n }
 {
     lts::rows_follow();
     lts::rows_are_steps();
     under.l.known();
-    scratch.notes.clear();
     let mut next = 0;
     for i in 0..live.len() {
         let s = live[i];
         let (start, end) = under.l.row(s);
         visit_places(under.l, next, start, m);
         next = end;
-        numbers[s as usize] = put(under, s, noting, scratch, lists, m)?;
+        numbers[s as usize] = put(under, s, pairs, lists, m)?;
     }
     visit_places(under.l, next, under.l.edges(), m);
     Ok(())
@@ -158,14 +92,13 @@ pub(crate) struct NewBlocks<'a, M: Meter> {
 }
 
 /// Puts the strong signature of `s` into `lists` and returns its number there, or that of the empty list where `s` leads to no
-/// number from `low` on. The transitions of `s` are noted, if `noting`.
+/// number from `low` on.
 ///
 /// Fails if there is no memory for it.
 fn put<M: Meter>(
     under: &NewBlocks<M>,
     s: u32,
-    noting: bool,
-    scratch: &mut Scratch,
+    pairs: &mut Vec<(u32, u32)>,
     lists: &mut Lists,
     m: &mut M,
 ) -> Result<u32, Memory>
@@ -175,39 +108,28 @@ fn put<M: Meter>(
     ensures within { IfOk result (λ k. k < length lists.new) }
     ensures put { IfOk result (λ k. IsPut strong under.now.l.now under.now.of.now under.now.low s (list_at lists.new k)) }
     ensures grow { Grow lists.old lists.new }
-    ensures notes { OnOk result (scratch.new.notes.items ≡ scratch.old.notes.items
-        ++ noted_of noting s (row_of s under.now.l.now.places)) }
     ensures visits { let n = length (row_of s under.now.l.now.places) in Visits M.counted m.old m.new result n n }
 {
     lts::rows_are_steps();
     under.l.known();
     lists.known();
-    // Each call has a copy of `read` of its own, so that none asks at each transition whether to note it.
-    let touched = if noting {
-        read(under, s, true, &mut scratch.pairs, &mut scratch.notes, m)?
-    } else {
-        read(under, s, false, &mut scratch.pairs, &mut scratch.notes, m)?
-    };
-    if !touched {
+    if !read(under, s, pairs, m)? {
         return Ok(EMPTY);
     }
-    scratch.touched = scratch.touched.saturating_add(1);
-    order(&mut scratch.pairs);
-    let list = lists.push(&scratch.pairs)?;
+    order(pairs);
+    let list = lists.push(pairs)?;
     Ok(list)
 }
 
-/// Makes `pairs` those of the transitions of `s`, as they stand in its row, and notes these, if `noting`. Returns whether one of
-/// the pairs has a number from `low` on.
+/// Makes `pairs` those of the transitions of `s`, as they stand in its row. Returns whether one of the pairs has a number from `low`
+/// on.
 ///
 /// Fails if there is no memory for it.
 #[inline(always)]
 pub(crate) fn read<M: Meter>(
     under: &NewBlocks<M>,
     s: u32,
-    noting: bool,
     pairs: &mut Vec<(u32, u32)>,
-    notes: &mut Vec<(u32, u32)>,
     m: &mut M,
 ) -> Result<bool, Memory>
     requires states { length under.now.of.now ≡ under.now.l.now.states }
@@ -215,7 +137,6 @@ pub(crate) fn read<M: Meter>(
     requires room { HasRoomFor (M.counted m.old) 0 (length (row_of s under.now.l.now.places)) }
     ensures pairs { OnOk result (pairs.new.items ≡ map (pair_under under.now.of.now) (row_of s under.now.l.now.places)) }
     ensures touched { IfOk result (λ touched. IsTrue touched ↔ HasFrom under.now.low pairs.new.items) }
-    ensures notes { OnOk result (notes.new.items ≡ notes.old.items ++ noted_of noting s (row_of s under.now.l.now.places)) }
     ensures visits { let n = length (row_of s under.now.l.now.places) in Visits M.counted m.old m.new result n n }
 {
     lts::rows_follow();
@@ -228,7 +149,6 @@ pub(crate) fn read<M: Meter>(
     if (end - start) % 2 == 1 {
         let only = under.l.edge(k, m);
         touched = collect(under.of, under.low, only, touched, pairs);
-        note(only, s, noting, notes)?;
         k += 1;
     }
     // Two visits, then two writes: a visit after a write waits until the count has come back from memory.
@@ -237,8 +157,6 @@ pub(crate) fn read<M: Meter>(
         let second = under.l.edge(k + 1, m);
         touched = collect(under.of, under.low, first, touched, pairs);
         touched = collect(under.of, under.low, second, touched, pairs);
-        note(first, s, noting, notes)?;
-        note(second, s, noting, notes)?;
         k += 2;
     }
     Ok(touched)
@@ -264,22 +182,4 @@ fn collect(
     let block = p[transition.1 as usize];
     pairs.push_reserved((transition.0, block));
     touched || block >= low
-}
-
-/// Notes of a transition of the source `s` its target and `s`, if `noting`.
-///
-/// Fails if there is no memory for it.
-#[inline(always)]
-fn note(
-    transition: (u32, u32),
-    s: u32,
-    noting: bool,
-    notes: &mut Vec<(u32, u32)>,
-) -> Result<(), Memory>
-    ensures { OnOk result (notes.new.items ≡ notes.old.items ++ cond noting ((transition.1, s) ∷ []) []) }
-{
-    if noting {
-        notes.push((transition.1, s))?;
-    }
-    Ok(())
 }

@@ -5,13 +5,13 @@ use Rattle.refine.specs.Watching.{Watches}
 use Rattle.refine.specs.Rounds.{Made}
 use Rattle.refine.proofs.refinement.refine.Given as goal
 
-abbrev pub invariant-loop-scratch : goal.invariant-loop-scratch
-invariant-loop-scratch g l = record {
+abbrev pub invariant-loop-before : goal.invariant-loop-before
+invariant-loop-before g l = record {
   states : length l.round.blocks.of ≡ l.l.states;
   settled : Settled g.S.Signing.relation (system_of l.l) (slice_index l.round.blocks.of) l.round.blocks.low;
-  watches : Watches l.round.watch g.S.Signing.relation l.l l.round.blocks;
+  watches : Watches g.S.Signing.relation l.l l.round;
   made : Made g.S.Signing.relation l.l (g.M.Meter.counted l.initial.m) (g.M.Meter.counted l.m) l.round.blocks.of;
 }
 
-abbrev pub decreases-loop-scratch : goal.decreases-loop-scratch
-decreases-loop-scratch g l = l.l.states - ((g.M.Meter.counted l.m).rounds - (g.M.Meter.counted l.initial.m).rounds)
+abbrev pub decreases-loop-before : goal.decreases-loop-before
+decreases-loop-before g l = l.l.states - ((g.M.Meter.counted l.m).rounds - (g.M.Meter.counted l.initial.m).rounds)

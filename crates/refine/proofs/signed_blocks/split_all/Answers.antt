@@ -1,4 +1,5 @@
 use Rattle.std.proofs.Common.{◌∙◌, ap, refl, subst}
+use Rattle.partition.specs.Blocks.{AreAmong}
 use Rattle.partition.specs.Splitting.{Splits}
 use Rattle.refine.specs.EachList.{list_of}
 use Rattle.refine.specs.declared.signed_blocks.Watch.TheVariants.{Nothing}
@@ -17,5 +18,5 @@ returns c =
     record {
       splits = subst (λ r. Splits r.blocks.of r.blocks.count (list_of r.lists r.numbers) q.of q.count) c.round.view_is splits;
       low = next.low ∙ ap (λ r. r.blocks.count) c.round.view_is;
-      watches = (refl, next.live ∙ ap (λ r. r.blocks.live) c.round.view_is);
+      watches = (refl, subst (λ r. AreAmong r.blocks.live q.live) c.round.view_is next.live);
     }

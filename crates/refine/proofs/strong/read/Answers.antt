@@ -4,11 +4,9 @@ use Rattle.std.proofs.lemmas.List.{take_all}
 use Rattle.lts.specs.Lts.{row_of, place_at}
 use Rattle.inert.specs.Signed.{pair_under}
 use Rattle.refine.specs.Settled.{HasFrom}
-use Rattle.refine.specs.Noting.{noted_of}
-use Rattle.refine.proofs.Noting.{noted_none, noted_more}
 use Rattle.refine.proofs.strong.read.Given.{Over}
 use Rattle.refine.proofs.strong.read.Goals as goal
-use Rattle.refine.proofs.strong.read.Goals.{After-row-start, then-end-start-eq1+in_ok-note, else-end-start-eq1}
+use Rattle.refine.proofs.strong.read.Goals.{After-row-start, then-end-start-eq1, else-end-start-eq1}
 
 -- a pair more of the row
 module _ (g : Over) (c : After-row-start g) where
@@ -23,22 +21,6 @@ module _ (g : Over) (c : After-row-start g) where
       let row = c.rows_follow.ensures.inside c.args.under.now.l.now.places c.args.s c.row-start.result.0 c.row-start.result.1 k c.row-start.ensures begun more in
       grind (arith, common_steps, is_next, shown, row, before, after)
 
-  -- and one more of its notes
-  one_noted : (k next : ℕ) {target : ℕ} {notes new : List (ℕ × ℕ)} → next ≡ k + 1 → c.row-start.result.0 ≤ k → k < c.row-start.result.1
-      → target ≡ (place_at c.args.under.now.l.now.places k).2
-      → notes ≡ c.args.notes.now.items ++ noted_of c.args.noting c.args.s (take (k - c.row-start.result.0) (row_of c.args.s c.args.under.now.l.now.places))
-      → new ≡ notes ++ cond c.args.noting ((target, c.args.s) ∷ []) []
-      → new ≡ c.args.notes.now.items ++ noted_of c.args.noting c.args.s (take (next - c.row-start.result.0) (row_of c.args.s c.args.under.now.l.now.places))
-  one_noted k next is_next begun more is_target before after =
-      let places = c.args.under.now.l.now.places in
-      let old = c.args.notes.now.items in
-      let start = c.row-start.result.0 in
-      let row = c.rows_follow.ensures.inside places c.args.s start c.row-start.result.1 k c.row-start.ensures begun more in
-      after
-      ∙ ap₂ (λ xs t. xs ++ cond c.args.noting ((t, c.args.s) ∷ []) []) before is_target
-      ∙ noted_more c.args.noting c.args.s (take (k - start) (row_of c.args.s places)) (place_at places k) old
-      ∙ ap (λ xs. old ++ noted_of c.args.noting c.args.s xs) (sym row ∙ ap (λ n. take (n - start) (row_of c.args.s places)) (sym is_next))
-
 pub loop-k-init : goal.loop-k-init
 loop-k-init g c =
     let d = (goal.at.loop-k-init g c).After-row-start in
@@ -47,11 +29,8 @@ loop-k-init g c =
     let zero : 0 ≡ start - start = omega arith in
     let none : c.reserve.new.self.items ≡ read start =
     c.in_ok-reserve.ensures.items ∙ c.clear.ensures.items ∙ ap (λ n. map (pair_under c.args.under.now.of.now) (take n (row_of c.args.s c.args.under.now.l.now.places))) zero in
-    let noted : ℕ → List (ℕ × ℕ) = λ k. c.args.notes.now.items ++ noted_of c.args.noting c.args.s (take (k - start) (row_of c.args.s c.args.under.now.l.now.places)) in
-    let none_noted : c.args.notes.now.items ≡ noted start =
-    noted_none c.args.noting c.args.s c.args.notes.now.items ∙ ap (λ n. c.args.notes.now.items ++ noted_of c.args.noting c.args.s (take n (row_of c.args.s c.args.under.now.l.now.places))) zero in
     elim c.if-end-start-eq1.branch [
-      | then-end-start-eq1+in_ok-note w ↦ record {
+      | then-end-start-eq1 w ↦ record {
         begun = omega (arith, w.k-is);
         by_two = ((c.row-start.result.1 - start) / 2, omega (arith, w.k-is, w.if-end-start-eq1.true, c.row-start.ensures.count));
         room = search rules;
@@ -59,10 +38,6 @@ loop-k-init g c =
             ap (λ v. v.items) w.pairs-is
             ∙ one_more g d start (start + 1) refl (omega arith) (omega (arith, w.if-end-start-eq1.true)) w.edge-only.ensures.label w.edge-only.ensures.target none w.collect-touched.ensures.pairs
             ∙ ap read (sym w.k-is);
-        notes =
-            ap (λ v. v.items) w.notes-is
-            ∙ one_noted g d start (start + 1) refl (omega arith) (omega (arith, w.if-end-start-eq1.true)) w.edge-only.ensures.target none_noted w.in_ok-note.ensures
-            ∙ ap noted (sym w.k-is);
         touched = subst₂ (λ t v. IsTrue t ↔ HasFrom c.args.under.now.low v.items) (sym w.touched-is) (sym w.pairs-is) w.collect-touched.ensures.touched;
         visits = search rules;
       }
@@ -71,7 +46,6 @@ loop-k-init g c =
         by_two = ((c.row-start.result.1 - start) / 2, omega (arith, w.k-is, w.if-end-start-eq1.false, c.row-start.ensures.count));
         room = search rules;
         pairs = ap (λ v. v.items) w.pairs-is ∙ none ∙ ap read (sym w.k-is);
-        notes = ap (λ v. v.items) w.notes-is ∙ none_noted ∙ ap noted (sym w.k-is);
         touched = search rules;
         visits = search rules;
       }
@@ -83,13 +57,11 @@ loop-k-preserved g c =
     let i = c.loop-k.invariant in
     let more : c.loop-k.k + 1 < c.row-start.result.1 = omega (arith, i.by_two.1, c.loop-k-test.true) in
     let first = one_more g d c.loop-k.k (c.loop-k.k + 1) refl i.begun c.loop-k-test.true c.edge-first.ensures.label c.edge-first.ensures.target i.pairs c.collect-touched-in-loop-k.ensures.pairs in
-    let noted = one_noted g d c.loop-k.k (c.loop-k.k + 1) refl i.begun c.loop-k-test.true c.edge-first.ensures.target i.notes c.in_ok-note-2.ensures in
     record {
       begun = omega (arith, i.begun);
       by_two = (i.by_two.0 - 1, omega (arith, i.by_two.1, c.loop-k-test.true));
       room = omega (arith, i.room, c.collect-touched-in-loop-k.ensures.room, c.collect-touched-in-loop-k-2.ensures.room);
       pairs = one_more g d (c.loop-k.k + 1) (c.loop-k.k + 2) (omega arith) (omega (arith, i.begun)) more c.edge-second.ensures.label c.edge-second.ensures.target first c.collect-touched-in-loop-k-2.ensures.pairs;
-      notes = one_noted g d (c.loop-k.k + 1) (c.loop-k.k + 2) (omega arith) (omega (arith, i.begun)) more c.edge-second.ensures.target noted c.in_ok-note-3.ensures;
       touched = c.collect-touched-in-loop-k-2.ensures.touched;
       visits = search rules;
     }
@@ -99,9 +71,3 @@ returns-clause-pairs g c =
     let row = row_of c.args.s c.args.under.now.l.now.places in
     let all : take (c.loop-k.k - c.row-start.result.0) row ≡ row = take_all _ row (omega (arith, c.row-start.ensures.count, c.loop-k-test.false)) in
     c.loop-k.invariant.pairs ∙ ap (map (pair_under c.args.under.now.of.now)) all
-
-pub returns-clause-notes : goal.returns-clause-notes
-returns-clause-notes g c =
-    let row = row_of c.args.s c.args.under.now.l.now.places in
-    let all : take (c.loop-k.k - c.row-start.result.0) row ≡ row = take_all _ row (omega (arith, c.row-start.ensures.count, c.loop-k-test.false)) in
-    c.loop-k.invariant.notes ∙ ap (λ xs. c.args.notes.now.items ++ noted_of c.args.noting c.args.s xs) all

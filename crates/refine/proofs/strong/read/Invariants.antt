@@ -4,7 +4,6 @@ use Rattle.lts.specs.Meter.{Costs}
 use Rattle.lts.specs.Lts.{row_of}
 use Rattle.inert.specs.Signed.{pair_under}
 use Rattle.refine.specs.Settled.{HasFrom}
-use Rattle.refine.specs.Noting.{noted_of}
 use Rattle.refine.proofs.strong.read.Given as goal
 
 abbrev pub invariant-loop-k : goal.invariant-loop-k
@@ -13,7 +12,6 @@ invariant-loop-k g l = record {
   by_two : (n : ℕ) × (l.end ≡ l.k + n * 2);
   room : vec_len l.pairs + l.end ≤ vec_capacity l.pairs + l.k;
   pairs : l.pairs.items ≡ map (pair_under l.under.of.now) (take (l.k - l.start) (row_of l.s l.under.l.now.places));
-  notes : l.notes.items ≡ l.fn.notes.items ++ noted_of l.noting l.s (take (l.k - l.start) (row_of l.s l.under.l.now.places));
   touched : IsTrue l.touched ↔ HasFrom l.under.low l.pairs.items;
   visits : Costs (g.M.Meter.counted l.fn.m) (g.M.Meter.counted l.m) 0 (l.k - l.start) (l.k - l.start);
 }

@@ -1,12 +1,10 @@
-use Rattle.std.proofs.Common.{ℕ, ◌<◌, ◌≤◌, IsTrue, length, slice_index, Contains}
-use Rattle.std.specs.List.{All}
+use Rattle.std.proofs.Common.{ℕ, ◌<◌, ◌≤◌, length, slice_index}
 use Rattle.theory.specs.declared.relation.Relation.TheVariants.{Strong}
 use Rattle.lts.specs.Meter.{Costs}
 use Rattle.lts.specs.Lts.{before, row_of}
 use Rattle.lists.specs.Lists.{list_at}
 use Rattle.partition.specs.Blocks.{HaveNone}
 use Rattle.refine.specs.Settled.{IsPut}
-use Rattle.refine.specs.Noting.{turned}
 use Rattle.refine.proofs.strong.sign_live.Given as goal
 
 abbrev pub invariant-loop-i : goal.invariant-loop-i
@@ -17,8 +15,5 @@ invariant-loop-i g l = record {
       × IsPut Strong l.under.l.now l.under.of.now l.under.low (slice_index l.live j) (list_at l.lists (slice_index l.numbers (slice_index l.live j)));
   none : HaveNone l.live l.numbers;
   some : 1 ≤ length l.lists;
-  few : length l.scratch.notes.items ≤ l.next;
-  below : All (λ x. x.0 < l.under.l.now.states) l.scratch.notes.items;
-  noted : IsTrue l.noting → (j : ℕ) → j < l.i → All (Contains l.scratch.notes.items) (turned (slice_index l.live j) (row_of (slice_index l.live j) l.under.l.now.places));
   visits : Costs (g.M.Meter.counted l.fn.m) (g.M.Meter.counted l.m) 0 l.next l.next;
 }

@@ -1,42 +1,30 @@
-use Rattle.std.proofs.Common.{◌≡◌, ◌∙◌, length, ap, sym, subst, inl, inr, arith}
+use Rattle.std.proofs.Common.{◌≡◌, ◌∙◌, ◌<◌, length, slice_index, ap, sym, subst, refl, arith}
 use Rattle.std.proofs.lemmas.List.{take_at}
 use Rattle.theory.specs.declared.relation.Relation.TheVariants.{Branching}
-use Rattle.lts.specs.Lts.{Grouped}
-use Rattle.partition.specs.Blocks.{RoundBlocks}
-use Rattle.inert.specs.Signed.{LooksAtBlocks}
-use Rattle.refine.specs.EachList.{Signed, list_of}
-use Rattle.refine.specs.Settled.{IsPut}
-use Rattle.refine.specs.Watching.{Watches, BeginsLists}
-use Rattle.refine.specs.declared.signed_blocks.Watch.{Watch}
-use Rattle.refine.specs.declared.signed_blocks.Watch.TheVariants.{Nothing, Sources, Signatures}
+use Rattle.partition.specs.Blocks.{AreLive, HaveNone}
+use Rattle.refine.specs.EachList.{Signed}
+use Rattle.refine.specs.Kept.{KeepsLists, SignsLists}
+use Rattle.refine.specs.Watching.{Notes}
 use Rattle.refine.proofs.EachList.{written_back}
-use Rattle.refine.proofs.Living.{looks_at_blocks}
-use Rattle.refine.proofs.Knowing.{looks_at_known, none_known}
+use Rattle.refine.proofs.Keeping.{kept_beside, signs_lists}
 use Rattle.refine.proofs.branching.BranchingSigning.sign_each.Goals as goal
 
-begun : (l : Grouped) (was : Signed) (watch : Watch) → BeginsLists was.blocks.live was.watch watch → Watches was.watch Branching l was.blocks
-    → Watches watch Branching l was.blocks
-begun l was watch (inl is) w = subst (λ x. Watches x Branching l was.blocks) (sym is) w
-begun l was watch (inr (none, (known, is, begins))) w =
-    subst (λ x. Watches x Branching l was.blocks) (sym is)
-    (none_known l was.blocks known begins.states begins.unknown (subst (λ x. Watches x Branching l was.blocks) none w))
+pub sign_each-requires-clause-kept : goal.sign_each-requires-clause-kept
+sign_each-requires-clause-kept g c =
+    kept_beside c.args.l.now _ (subst (KeepsLists c.args.l.now) (sym c.round.view_is) c.in_ok-round.ensures.keeps)
 
-watches : (l : Grouped) (was next inside : Signed) → inside ≡ next → next.blocks ≡ was.blocks → BeginsLists was.blocks.live was.watch next.watch → Watches was.watch Branching l was.blocks
-    → Watches inside.watch Branching l inside.blocks
-watches l was next inside is same begins w =
-    subst (λ r. Watches r.watch Branching l r.blocks) (sym is) (subst (Watches next.watch Branching l) (sym same) (begun l was next.watch begins w))
+pub sign_each-requires-clause-lists : goal.sign_each-requires-clause-lists
+sign_each-requires-clause-lists g c =
+    let keeps = subst (KeepsLists c.args.l.now) (sym c.round.view_is) c.in_ok-round.ensures.keeps in
+    (keeps.states, keeps.numbers)
 
-looks : (l : Grouped) (watch : Watch) (p : RoundBlocks) → length p.of ≡ l.states → Watches watch Branching l p → LooksAtBlocks l p.of p.live
-looks l Nothing p size others = looks_at_blocks l p.of p.live size others
-looks l (Sources sources) p size w = absurd w
-looks l (Signatures known) p size w = looks_at_known l p known size w
-
-pub sign_each-requires-clause-others : goal.sign_each-requires-clause-others
-sign_each-requires-clause-others g c =
-    let next = c.in_ok-round in
-    looks c.args.l.now c.round.inside.watch c.round.inside.blocks
-    (ap (λ r. length r.blocks.of) c.round.view_is ∙ ap (λ b. length b.of) next.ensures.same ∙ c.requires.states)
-    (watches c.args.l.now c.args.round next.round _ c.round.view_is next.ensures.same next.ensures.begins c.requires.watches)
+pub sign_each-requires-clause-numbers : goal.sign_each-requires-clause-numbers
+sign_each-requires-clause-numbers g c =
+    let value = c.deref_mut.ensures.value in
+    let states = ap (λ r. length r.blocks.of) c.round.view_is ∙ ap (λ b. length b.of) c.in_ok-round.ensures.blocks ∙ c.requires.states in (
+      ap length value ∙ c.round.invariant.0.states ∙ states,
+      subst (HaveNone c.round.inside.blocks.live) (sym value) c.round.invariant.0.none,
+    )
 
 pub invariant_of-round : goal.invariant_of-round
 invariant_of-round g c =
@@ -47,13 +35,35 @@ invariant_of-round g c =
     )
 
 pub returns-clause-signed : goal.returns-clause-signed
-returns-clause-signed g c s one =
-    let old = c.round.inside.blocks in
+returns-clause-signed g c =
+    let l = c.args.l.now in
+    let inside = c.round.inside in
+    let done = c.in_ok-sign_each.ensures in
     let items = take_at c.sign_each.new.numbers _ _ (omega (arith, c.sign_each.auto.numbers, c.deref_mut.ensures.len)) in
-    subst (λ ns. IsPut Branching c.args.l.now old.of old.low s (list_of c.sign_each.new.lists ns s)) (sym items)
-    (inl (tt, c.in_ok-sign_each.ensures.signed s one))
+    let was : Signed = record {
+      blocks = inside.blocks;
+      lists = inside.lists;
+      numbers = inside.numbers.items;
+      kept = inside.signer;
+      watch = inside.watch;
+    } in
+    let r : Signed = record {
+      blocks = inside.blocks;
+      lists = c.sign_each.new.lists;
+      numbers = c.sign_each.new.numbers;
+      kept = c.sign_each.new.self;
+      watch = inside.watch;
+    } in
+    let states = ap (λ r. length r.blocks.of) c.round.view_is ∙ ap (λ b. length b.of) c.in_ok-round.ensures.blocks ∙ c.requires.states in
+    let live : AreLive (length inside.blocks.of) inside.blocks.live =
+    subst (λ x. AreLive (length x.blocks.of) x.blocks.live) (sym c.round.view_is) c.known.ensures.live in
+    subst (λ ns. SignsLists l c.args.round (record r { numbers = ns })) (sym items)
+    (signs_lists l c.args.round was r (subst (KeepsLists l) (sym c.round.view_is) c.in_ok-round.ensures.keeps) refl
+    (λ nothing s. subst (λ r. slice_index r.kept s ≡ 0) (sym c.round.view_is) (c.in_ok-round.ensures.anew nothing s))
+    done.grow done.signed done.changed done.still done.lists c.sign_each.ensures.others
+    (omega (arith, c.sign_each.auto.numbers, c.deref_mut.ensures.len, c.round.invariant.0.states, states))
+    (λ s one. omega (arith, live.below one.0 one.1, one.2, states)))
 
-pub returns-clause-watches : goal.returns-clause-watches
-returns-clause-watches g c =
-    let next = c.in_ok-round in
-    watches c.args.l.now c.args.round next.round _ c.round.view_is next.ensures.same next.ensures.begins c.requires.watches
+pub returns-clause-notes : goal.returns-clause-notes
+returns-clause-notes g c =
+    subst (λ r. Notes r.watch Branching c.args.l.now r.blocks) (sym c.round.view_is) c.in_ok-round.ensures.notes

@@ -3,17 +3,17 @@ use Rattle.std.proofs.lemmas.Result.{err_from_is_err_and}
 use Rattle.partition.specs.Blocks.{IsOne}
 use Rattle.inert.specs.Signed.{IsSignature}
 use Rattle.refine.specs.EachList.{list_of}
-use Rattle.refine.specs.Settled.{IsPut}
-use Rattle.refine.specs.Watching.{Watches}
-use Rattle.refine.proofs.Settling.{put_whole}
+use Rattle.refine.specs.Watching.{Notes, HasKept}
+use Rattle.refine.proofs.Rounding.{signs_whole}
 use Rattle.refine.proofs.EachList.{signature_at-list}
 use Rattle.refine.proofs.one_round.Signatures.fill.Goals as goal
 
 pub sign_each-requires-clause-watches : goal.sign_each-requires-clause-watches
 sign_each-requires-clause-watches g c =
+    let rel = g.S.Signing.relation in
     let round = c.in_ok-blocks-2.blocks in
-    subst (λ e. Watches e g.S.Signing.relation c.args.l.now round.blocks) (sym c.in_ok-blocks-2.ensures.nothing)
-    (λ s h. inl (subst (λ b. IsOne b.live s) (sym c.in_ok-blocks-2.ensures.blocks) (c.in_ok-blocks.ensures.live s (omega (arith, h, c.requires.states)))))
+    subst (λ w. Notes w rel c.args.l.now round.blocks × HasKept w rel c.args.l.now round) (sym c.in_ok-blocks-2.ensures.nothing)
+    (λ s h. inl (subst (λ b. IsOne b.live s) (sym c.in_ok-blocks-2.ensures.blocks) (c.in_ok-blocks.ensures.live s (omega (arith, h, c.requires.states)))), tt)
 
 pub returns-clause-signed : goal.returns-clause-signed
 returns-clause-signed g c s ls =
@@ -27,13 +27,13 @@ returns-clause-signed g c s ls =
     let size : length numbers ≡ length p =
     c.signed.invariant.0.states ∙ ap (λ r. length r.blocks.of) c.signed.view_is ∙ ap (λ b. length b.of) is ∙ ap length start.of in
     let list = list_of signed.lists signed.numbers s in
-    let put : IsPut rel l c.in_ok-blocks.blocks.of c.in_ok-blocks.blocks.low s list =
-    subst (λ b. IsPut rel l b.of b.low s list) is
-    (c.in_ok-signed.ensures.signed s (subst (λ b. IsOne b.live s) (sym is) (start.live s (omega (arith, ls, c.requires.states))))) in
+    let whole : IsSignature rel l signed.blocks.of s list =
+    signs_whole rel l c.in_ok-blocks-2.blocks signed c.in_ok-signed.ensures.signed c.in_ok-blocks-2.ensures.nothing (ap (λ b. b.low) is ∙ start.low) s
+    (subst (λ b. IsOne b.live s) (sym is) (start.live s (omega (arith, ls, c.requires.states)))) ls in
     subst (IsSignature rel l p s)
     (sym (signature_at-list c.in_ok-whole.whole numbers s (omega (arith, ls, size, c.requires.states))
     ∙ ap (λ xs. list_of xs numbers s) c.in_ok-whole.ensures ∙ ap (λ r. list_of r.lists r.numbers s) c.signed.view_is))
-    (put_whole rel l p s list (subst (λ low. IsPut rel l p low s list) start.low (subst (λ of. IsPut rel l of c.in_ok-blocks.blocks.low s list) start.of put)))
+    (subst (λ of. IsSignature rel l of s list) (ap (λ b. b.of) is ∙ start.of) whole)
 
 pub returns-in_err-whole-clause-signed : goal.returns-in_err-whole-clause-signed
 returns-in_err-whole-clause-signed g c = let exit = err_from_is_err_and c.from_residual-in_err-whole.result c.from_residual-in_err-whole.ensures.1 in rw (exit.1) tt
