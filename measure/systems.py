@@ -273,6 +273,141 @@ def idle(n):
     return made(((s, "a", s + 1) for s in range(n)), states=MOST_STATES, first=0)
 
 
+# Deep systems: each takes some n rounds, most of which part one state from many.
+
+
+@family
+def mixed_chain(n, k):
+    """A line of n states with one label, of which each k-th step is internal."""
+    return made(((s, "i" if s % k == k - 1 else "a", s + 1) for s in range(n - 1)), first=0)
+
+
+@family
+def line_with_returns(n):
+    """A line of n states with internal steps. Each third state also leads back to the first, by two labels in turn."""
+    onward = ((s, "i", s + 1) for s in range(n - 1))
+    back = ((s, "ab"[s % 2], END) for s in range(0, n, 3))
+    return made(itertools.chain(onward, back), first=0)
+
+
+@family
+def up_and_down(n):
+    """A line of n states with a label to go up and one to go down. From each an internal step leads to one that leads
+    back by a third label."""
+    steps = (((s, "up", s + 1), (s + 1, "down", s)) if s + 1 < n else () for s in range(n))
+    closing = (((s, "i", n + s), (n + s, "close", s)) for s in range(n))
+    return made(itertools.chain.from_iterable(itertools.chain(steps, closing)), first=0)
+
+
+@family
+def ladder(n):
+    """Two lines of n states, one with internal steps and one with a label, and that label from each to the other."""
+    rungs = (((s, "a", n + s), *(((s, "i", s + 1), (n + s, "a", n + s + 1)) if s + 1 < n else ())) for s in range(n))
+    return made(itertools.chain.from_iterable(rungs), first=0)
+
+
+@family
+def line_to_middle(n):
+    """A line of n steps, each state of which has a step by another label to the one in the middle."""
+    return made(((s, label, t) for s in range(n) for label, t in (("step", s + 1), ("back", n // 2))), first=0)
+
+
+TAIL = 12
+
+
+def failing(line, tail, odd=None):
+    """A line of these states, each of which may also fail into the second state of a tail, and the odd one into the
+    first. The tail leads on to the dead state behind it, as the line does."""
+    dead = tail + TAIL
+    for place, s in enumerate(line):
+        yield s, "a", line[place + 1] if place + 1 < len(line) else dead
+        yield s, "fail", tail + (s != odd)
+    yield from ((s, "b", s + 1) for s in range(tail, dead))
+    yield line[0], "off", tail
+
+
+@family
+def failing_line(n):
+    """A line of n states, each of which may fail into a tail of 12 steps: in the round in which the tail's second state
+    is told from the first, all of the line is looked at."""
+    return made(failing(range(n), n), first=0)
+
+
+@family
+def failing_line_back(n):
+    """The same line, numbered from its end."""
+    return made(failing(range(n)[::-1], n), first=n - 1)
+
+
+@family
+def failing_line_odd(n):
+    """The same line, one state of which, near its end, fails elsewhere: it is not looked at when the others are."""
+    return made(failing(range(n), n, max(n - 40, 0)), first=0)
+
+
+@family
+def failing_cycle(n, high):
+    """A cycle of n states, which never part, beside a line of `high` states with the same label: all may fail into one
+    tail."""
+    tail = n + high
+    yield from failing(range(n, tail), tail)
+    for s in range(n):
+        yield s, "a", (s + 1) % n
+        yield s, "fail", tail + 1
+    yield from row(tail + TAIL + 1, [0, n], by="go")
+
+
+@family
+def line_beside_loop(n):
+    """A line of n steps and a loop by the same label, and for each state of the line three with a label of their own:
+    two lead to it and one to the loop. In each round such a one is the smaller part of its block, and is not looked
+    at."""
+    loop, dead, three = n, n + 1, n + 2
+    yield from ((s, "a", s + 1 if s + 1 < n else dead) for s in range(n))
+    yield loop, "a", loop
+    for s in range(n):
+        yield from ((three + 3 * s + k, f"c{s}", loop if k == 2 else s) for k in range(3))
+    yield from row(three + 3 * n, [0, *range(three, three + 3 * n)], by="go")
+
+
+@family
+def chain_and_loop(n):
+    """A line of n steps with one label, and one internal step beside it."""
+    yield from ((s, "a", s + 1) for s in range(n))
+    yield n + 1, "i", n + 1
+    yield from row(n + 2, [0, n + 1], by="go")
+
+
+@family
+def trace(n):
+    """A line of n steps, of which some three in ten are internal and the others have one of three labels, as drawn."""
+    draw = random.Random(n).random
+    return made(((s, "i" if draw() < 0.3 else "abc"[int(draw() * 3)], s + 1) for s in range(n)), first=0)
+
+
+@family
+def copies_and_line(n, k, r):
+    """Two copies of n states with k steps each to drawn states, so that none is alone, an internal step, and a line of r
+    steps: rounds that part the line alone, beside many long lists."""
+    draw = random.Random(n)
+    rows = [[(draw.randrange(200), draw.randrange(n)) for _ in range(k)] for _ in range(n)]
+    for copy in (0, n):
+        yield from ((copy + s, f"l{label}", target + n * draw.randrange(2)) for s in range(n) for label, target in rows[s])
+    yield from ((2 * n + s, "l0", 2 * n + s + 1) for s in range(r))
+    yield 2 * n + r + 1, "i", 2 * n + r + 1
+    yield from row(2 * n + r + 2, [0, n, 2 * n, 2 * n + r + 1], by="go")
+
+
+@family
+def pair_and_line(k, r):
+    """Two equal states with k labels each, an internal step, and a line of r steps: rounds that part the line alone,
+    beside a list that is long."""
+    yield from ((s, f"l{label}", 2) for s in range(2) for label in range(k))
+    yield from ((3 + s, "a", 4 + s) for s in range(r))
+    yield 4 + r, "i", 4 + r
+    yield from row(5 + r, [0, 1, 3, 4 + r], by="go")
+
+
 @family
 def internal_cycle(n):
     """A cycle of inert steps over all states but the last, and from each a step to the last by one of ten labels in
@@ -392,6 +527,35 @@ def unions_of_all(k, n):
     rest = lambda members: members - (1 << last(members) - 1)
     sets = (((last(members), *([k + rest(members)] if rest(members) else [])), ()) for members in range(1, 2**k))
     yield from below_top(k + 1, sets)
+
+
+def teeth(k, n):
+    """States 1 to k with n labels each, dealt out in turn: the pairs of each lie between those of all others."""
+    return ((1 + x % k, f"l{x}", END) for x in range(k * n))
+
+
+@family
+def comb(k, n):
+    """k states with n labels each, dealt out in turn, and a state with an inert step to each of them: one union of k
+    lists, the pairs of which lie between each other."""
+    yield from teeth(k, n)
+    yield from row(k + 1, range(1, k + 1))
+
+
+@family
+def comb_but_one(k, n):
+    """The k states of a comb, and k states with inert steps to all of them but one: unions that differ from the one
+    that they leave out on."""
+    yield from teeth(k, n)
+    yield from below_top(k + 1, (([s for s in range(1, k + 1) if s != out], ()) for out in range(1, k + 1)))
+
+
+@family
+def comb_by_halves(k, n):
+    """The k states of a comb, and k states with inert steps to a drawn half of them."""
+    draw = random.Random(1).random
+    yield from teeth(k, n)
+    yield from below_top(k + 1, (([s for s in range(1, k + 1) if draw() < 0.5], ()) for _ in range(k)))
 
 
 @family

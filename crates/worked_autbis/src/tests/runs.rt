@@ -213,6 +213,33 @@ fn long_chain(rt: HostRuntime) -> Result<(), Fail> {
     )
 }
 
+/// The text of a chain of 200,000 states of which each tenth step is internal, with blanks behind its commas or with none.
+fn mixed(alloc: Global, blank: &str) -> Result<String, AllocError> {
+    let mut text = format!(in alloc; "des (0,{blank}199999,{blank}200000)\n")?;
+    for k in 0..199_999u32 {
+        let (label, next) = (if k % 10 == 9 { "i" } else { "a" }, k + 1);
+        text.push_str(&format!(in alloc; "({k},{blank}{label},{blank}{next})\n")?)?;
+    }
+    Ok(text)
+}
+
+/// If the larger part of a block got the new number, this would take two minutes, and a test has one.
+#[test]
+fn deep_chain(rt: HostRuntime) -> Result<(), Fail> {
+    let text = mixed(rt.alloc(), "")?;
+    let out = mixed(rt.alloc(), " ")?;
+    let (text, out) = (text.as_bytes(), out.as_bytes());
+    let counts = Counts {
+        states: 200_000,
+        transitions: 199_999,
+    };
+    let counted = (Relation::Strong, 199_991, 39_998_400_007);
+    check(
+        "deep-chain",
+        has_counts(rt.alloc(), text, out, counts, counted),
+    )
+}
+
 /// A long text: what stands in front, what follows it so many times, and what stands behind.
 type Long = (&'static str, &'static str, usize, &'static str);
 
