@@ -24,6 +24,6 @@ pub use limits::{MOST_LABELS, MOST_STATES, MOST_TRANSITIONS};
 pub use lts::{Lts, in_range};
 pub use meter::{Counter, Meter};
 pub use row_laws::{rows_are_steps, rows_follow};
-pub use sources::Sources;
+pub use sources::{Looks, Sources};
 pub use transitions::Transitions;
 pub use visiting::visit_places;

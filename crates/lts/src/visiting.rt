@@ -5,8 +5,8 @@ ghost use Rattle.lts.specs.Meter.{HasRoomFor, Costs};
 use crate::lts::Lts;
 use crate::meter::Meter;
 
-/// Visits each transition from the place `from` up to the place `to` once, for a caller that knows what it needs of them. `to` is
-/// at most the count of transitions, and the meter has room for these visits.
+/// Makes a visit for each place from `from` up to the place `to`, for a caller that knows what it needs of the transitions there.
+/// `to` is at most the count of transitions, and the meter has room for these visits.
 pub fn visit_places<M: Meter>(l: &Lts<M>, from: u32, to: u32, m: &mut M)
     requires order { from ≤ to }
     requires places { to ≤ length l.now.places }

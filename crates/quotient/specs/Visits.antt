@@ -5,7 +5,7 @@ use Rattle.theory.specs.Blocks.{Turns}
 use Rattle.lts.specs.Meter.{Counts, Costs}
 use Rattle.lts.specs.Lts.{Grouped, system_of}
 
--- the rounds of one refinement were made, at most one for each state, each with one visit of every transition
+-- the rounds of one refinement were made, at most one for each state, each with as many visits as there are transitions
 abbrev pub TakesTurns : Relation → Grouped → Counts → Counts → Type 0
 TakesTurns rel g old new =
     (r : ℕ) × (r ≤ g.states) × Turns rel (system_of g) r × Costs old new r (r * length g.places) (r * length g.places)

@@ -34,7 +34,7 @@ pub fn equivalent<M: Meter>(
     ensures turns { let both = union_of (system_of a.now) (system_of b.now) in
         OnOk result (Turns r both (M.counted m.new).rounds) }
 
-    // On success one visit of each transition for the union and for each round, on failure no more than these.
+    // On success as many visits as both have transitions for the union and for each round, on failure no more than these.
     ensures keeps { let at = M.counted m.new in let k = length a.now.places + length b.now.places in
         KeepsTo (a.now.states + b.now.states) k 1 at (on_ok result ((at.rounds + 1) * k)) }
 {

@@ -19,7 +19,7 @@ pub(crate) fn blocks<M: Meter>(
 ) -> Result<Partition, Memory>
     requires room { HasRoomFor (M.counted m.old) l.now.states (l.now.states * length l.now.places) }
 
-    // On success: a block for each state, and the rounds that refinement takes, each of one visit of every transition.
+    // On success: a block for each state, and the rounds that refinement takes, each of as many visits as there are transitions.
     ensures states { IfOk result (λ p. length p ≡ l.now.states) }
     ensures classes { IfOk result (λ p. AreClasses r l.now p) }
     ensures turns { OnOk result (TakesTurns r l.now (M.counted m.old) (M.counted m.new)) }

@@ -2,7 +2,7 @@
 use Rattle.std.proofs.Common.{◌≡◌, ◌∙◌, ℕ, zero, suc, ◌<◌, ◌≤◌, List, [], ◌∷◌, ◌++◌, length, take, get_or, slice_index, ap, sym, subst, refl, inl, inr, arith}
 use Rattle.std.proofs.lemmas.List.{get_or-map, get_or_default, take_at}
 use Rattle.lists.specs.Lists.{list_at, AreLists, AreNumbers}
-use Rattle.partition.specs.Blocks.{RoundBlocks, AreLive, HaveNone, AreOrNone, AreParted}
+use Rattle.partition.specs.Blocks.{RoundBlocks, HaveNone, AreOrNone, AreParted}
 use Rattle.refine.specs.EachList.{list_of, each_list, HaveLists, FitsWatch}
 use Rattle.refine.specs.Signed.{signature_at}
 use Rattle.refine.specs.declared.signed_blocks.Watch.{Watch}

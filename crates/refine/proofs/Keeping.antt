@@ -1,26 +1,21 @@
 -- Lists that are kept from round to round: what is known of them, and what a round makes of them.
-use Rattle.std.proofs.Common.{◌≡◌, ◌⊎◌, ◌↔◌, ℕ, ◌<◌, List, [], ◌∷◌, length, slice_index, Contains, ap, sym, ◌∙◌, subst, subst₂, refl, inl, inr, arith}
+use Rattle.std.proofs.Common.{◌≡◌, ◌⊎◌, ◌↔◌, ℕ, ◌<◌, List, length, slice_index, Contains, ap, sym, ◌∙◌, subst, subst₂, inl, inr, arith}
 use Rattle.std.proofs.lemmas.List.{get_or_default}
-use Rattle.theory.specs.System.{IsSystem, Step}
+use Rattle.theory.specs.System.{Step}
 use Rattle.theory.specs.declared.relation.Relation.TheVariants.{Branching}
-use Rattle.theory.specs.Blocks.{Split}
 use Rattle.theory.specs.Kept.{AreKept, IsShown}
-use Rattle.theory.specs.Untouched.{ShowsNoPair}
 use Rattle.theory.proofs.CallerLemmas.{kept_anew}
 use Rattle.lts.specs.Labels.{text_of}
 use Rattle.lts.specs.Lts.{Grouped, Triple, label_of, target_of, row_of, system_of}
 use Rattle.lists.specs.Lists.{list_at, AreLists, AreNumbers, Grow}
-use Rattle.partition.specs.Splitting.{IsAlone, Splits}
-use Rattle.partition.specs.Blocks.{IsOne, HaveNone, LeavesAlone, RoundBlocks}
+use Rattle.partition.specs.Blocks.{IsOne, HaveNone, LeavesAlone}
 use Rattle.inert.specs.Signed.{IsSignature, AreSignedBeside, ShowsNew}
-use Rattle.refine.specs.EachList.{Signed, HaveLists, list_of, IsAnew}
+use Rattle.refine.specs.EachList.{Signed, list_of, IsAnew}
 use Rattle.refine.specs.Living.{LeavesOut}
 use Rattle.refine.specs.Kept.{Names, KeepsLists, SignsLists}
-use Rattle.refine.specs.Noting.{Entered, AreNotedBack, LooksBackBy}
-use Rattle.refine.specs.Watching.{LooksOn, LooksAnew}
 use Rattle.refine.specs.declared.signed_blocks.Watch.TheVariants.{Nothing}
 use Rattle.refine.proofs.EqualLists.{Labelled}
-use Rattle.refine.proofs.LookingBack.{named_signature, names_signatures, looks_back, round_splits, round_keeps, kept_grows, kept_left, row_shows}
+use Rattle.refine.proofs.LookingBack.{named_signature, names_signatures, kept_grows, kept_left, row_shows}
 
 -- where no list is known, the empty one is kept for each state
 module _ (l : Grouped) (labelled : Labelled l)

@@ -5,6 +5,7 @@ pub mod StrongRow
 pub mod EachList
 pub mod Living
 pub mod Finding
+pub mod Looking
 pub mod Noting
 pub mod LookingBack
 pub mod Keeping

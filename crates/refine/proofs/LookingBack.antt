@@ -1,6 +1,5 @@
 -- Lists in memory name the signatures of states, and what is noted of transitions finds the states that a round has to look at.
-use Rattle.std.proofs.Common.{◌≡◌, ◌⊎◌, ◌↔◌, ℕ, ◌<◌, ◌≤◌, List, [], ◌∷◌, length, slice_index, slice_index_or, Contains, sym, ap, subst, inl, inr, arith}
-use Rattle.std.specs.List.{All}
+use Rattle.std.proofs.Common.{◌≡◌, ◌⊎◌, ◌↔◌, ℕ, ◌<◌, List, [], ◌∷◌, length, slice_index, slice_index_or, Contains, sym, ap, subst, inl, inr, arith}
 use Rattle.std.specs.List.Sorted.{IsStrictlySortedBy}
 use Rattle.std.proofs.lemmas.List.Elements.{All-contains}
 use Rattle.theory.specs.System.{IsSystem, Step, Along, internal}

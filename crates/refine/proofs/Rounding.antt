@@ -1,5 +1,5 @@
 -- A round: the states that it looks at were signed, the blocks split, and the next round looks at what was found.
-use Rattle.std.proofs.Common.{◌≡◌, ◌⊎◌, ◌↔◌, ℕ, ◌<◌, List, length, slice_index, Some, IfSome, Contains, ap, sym, ◌∙◌, subst, subst₂, refl, inl, inr, arith}
+use Rattle.std.proofs.Common.{◌≡◌, ◌↔◌, ℕ, ◌<◌, List, length, slice_index, IfSome, Contains, ap, sym, ◌∙◌, subst, subst₂, refl, inl, inr, arith}
 use Rattle.std.proofs.lemmas.List.Elements.{All-contains}
 use Rattle.theory.specs.System.{Step}
 use Rattle.theory.specs.declared.relation.Relation.{Relation}
@@ -10,15 +10,14 @@ use Rattle.theory.proofs.CallerLemmas.{step_below}
 use Rattle.lts.specs.Labels.{text_of}
 use Rattle.lts.specs.Lts.{Grouped, Triple, source_of, label_of, target_of, row_of, system_of, IsTriple, IsLts}
 use Rattle.lists.specs.Lists.{AreLists, AreNumbers, list_at}
-use Rattle.partition.specs.Splitting.{Splits}
 use Rattle.partition.specs.Blocks.{IsOne, LeavesAlone}
 use Rattle.refine.specs.EachList.{Signed, HaveLists, list_of}
 use Rattle.inert.specs.Signed.{IsSignature}
 use Rattle.refine.specs.Settled.{Settled, IsPut}
-use Rattle.refine.specs.Kept.{Names, KeepsLists, SignsLists}
-use Rattle.refine.specs.Noting.{AreNotedBack, LooksBackBy}
+use Rattle.refine.specs.Kept.{Names, SignsLists}
+use Rattle.refine.specs.Noting.{LooksBackBy}
 use Rattle.refine.specs.Rounds.{IsNext}
-use Rattle.refine.specs.Watching.{Notes, HasKept, Watches, WatchesBy, SignsEach, IsSplitOf, LooksOn, LooksAnew}
+use Rattle.refine.specs.Watching.{Notes, HasKept, Watches, WatchesBy, SignsEach, IsSplitOf}
 use Rattle.refine.specs.declared.signed_blocks.Watch.{Watch}
 use Rattle.refine.specs.declared.signed_blocks.Watch.TheVariants.{Nothing, Sources}
 use Rattle.refine.proofs.EqualLists.{Labelled}

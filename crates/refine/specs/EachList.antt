@@ -2,7 +2,7 @@
 use Rattle.std.specs.Prelude.{◌≡◌, ℕ, ◌≤◌, List, [], ◌∷◌, length, map, slice_index}
 use Rattle.lts.specs.declared.limits.TheConstants.{MOST_STATES}
 use Rattle.lists.specs.Lists.{list_at, AreNumbers}
-use Rattle.partition.specs.Blocks.{RoundBlocks, HaveNone, AreLive}
+use Rattle.partition.specs.Blocks.{RoundBlocks, HaveNone}
 use Rattle.refine.specs.declared.signed_blocks.Watch.{Watch}
 use Rattle.refine.specs.declared.signed_blocks.Watch.TheVariants.{Nothing, Sources}
 

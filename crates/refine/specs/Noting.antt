@@ -1,6 +1,6 @@
 -- The sources of the transitions that lead to each state: which states a round then looks at.
-use Rattle.std.specs.Prelude.{◌≡◌, ◌⊎◌, ℕ, ◌<◌, ◌≤◌, Bool, false, IsTrue, List, [], length, slice_index, slice_index_or, Option, None, Some}
-use Rattle.std.specs.List.{All, Contains, count_by}
+use Rattle.std.specs.Prelude.{◌≡◌, ◌⊎◌, ℕ, suc, ◌+◌, ◌<◌, ◌≤◌, Bool, false, cond, IsTrue, List, [], ◌∷◌, length, slice_index, slice_index_or, Option, Some}
+use Rattle.std.specs.List.{All, Contains, sum_by}
 use Rattle.theory.specs.System.{internal}
 use Rattle.theory.specs.declared.relation.Relation.TheVariants.{Strong}
 use Rattle.lts.specs.Labels.{text_of}
@@ -9,7 +9,7 @@ use Rattle.partition.specs.Splitting.{IsAlone}
 use Rattle.partition.specs.Blocks.{RoundBlocks, AreLive, IsOne}
 use Rattle.refine.specs.Settled.{IsStill}
 use Rattle.refine.specs.declared.entering.Reach.{Reach}
-use Rattle.refine.specs.declared.entering.Reach.TheVariants.{Before, Back}
+use Rattle.refine.specs.declared.entering.Reach.TheVariants.{Back}
 
 -- for each state the sources of the transitions that lead to it; and of the internal ones, if inert steps are followed back
 pub record Entered : Type 0 where
@@ -77,11 +77,20 @@ pub record LooksBackBy (inner : List (List ℕ)) (p : RoundBlocks) : Type 0 wher
 abbrev pub IsUnmarked : List Bool → Type 0
 IsUnmarked marks = (s : ℕ) → ¬ IsTrue (slice_index_or marks s false)
 
--- the states that were found are those that are marked, and each was found once
+-- the weight of the states that are marked, if w is that of each
+unfoldable pub marked_weight : (ℕ → ℕ) → List Bool → ℕ
+marked_weight w [] = 0
+marked_weight w (on ∷ marks) = cond on (w 0) 0 + marked_weight (λ s. w (suc s)) marks
+
+-- the states that were found are those that are marked, and each was found once: their weight is that of the marks, whatever each weighs
 pub record AreMarked (marks : List Bool) (found : List ℕ) : Type 0 where
   pub each : All (λ s. IsTrue (slice_index_or marks s false)) found
   pub all : (s : ℕ) → IsTrue (slice_index_or marks s false) → IsOne found s
-  pub once : length found ≡ count_by (λ on. on) marks
+  pub once : (w : ℕ → ℕ) → sum_by w found ≡ marked_weight w marks
+
+-- how many transitions an index has that lead to the state t
+abbrev pub leading : List (List ℕ) → ℕ → ℕ
+leading sources t = length (slice_index_or sources t [])
 
 -- what a round reads rows under: the block of each state, and the states that are looked at
 pub record ReadsUnder (l : Grouped) (of live : List ℕ) : Type 0 where

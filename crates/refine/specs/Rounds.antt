@@ -24,7 +24,7 @@ pub record IsNext (rel : Relation) (l : Grouped) (p : RoundBlocks) (q : Signed) 
   pub same : q.blocks.count ≡ p.count → SameBlocks (system_of l) (slice_index p.of) (slice_index q.blocks.of)
   pub parted : ¬ (q.blocks.count ≡ p.count) → ¬ SameBlocks (system_of l) (slice_index p.of) (slice_index q.blocks.of)
 
--- so many rounds were made from one block, each of which has split something and visited each transition once
+-- so many rounds were made from one block, each of which has split something and made as many visits as there are transitions
 pub record Made (rel : Relation) (l : Grouped) (old at : Counts) (blocks : List ℕ) : Type 0 where
   pub rounds : ℕ
   pub underway : Underway rel (system_of l) rounds (slice_index blocks)

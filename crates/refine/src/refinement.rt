@@ -18,7 +18,7 @@ use partition::{Blocks, Partition, renumber};
 use std::alloc::Global;
 
 /// Blocks that two states share exactly if they are bisimilar, made from one block by round after round. The last
-/// round, which is counted too, is the first that splits nothing. Each round visits each transition once.
+/// round, which is counted too, is the first that splits nothing. Each round makes as many visits as there are transitions.
 ///
 /// Fails if there is no memory for it. At most as many rounds as there are states were begun then, with at most their
 /// visits.

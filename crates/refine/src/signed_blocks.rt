@@ -1,5 +1,6 @@
 //! The blocks of a round, and the signature of each state under them.
-ghost use Rattle.std.specs.Prelude.{◌≡◌, ◌⊎◌, ℕ, ◌<◌, ◌≤◌, ◌∷◌, [], length, slice_index, IfOk};
+ghost use Rattle.std.specs.Prelude.{◌≡◌, ◌⊎◌, ℕ, ◌+◌, ◌*◌, ◌<◌, ◌≤◌, ◌∷◌, [], length, slice_index, IfOk};
+ghost use Rattle.lts.specs.declared.limits.TheConstants.{MOST_STATES};
 ghost use Rattle.lts.specs.Lts.{Grouped};
 ghost use Rattle.lists.specs.Lists.{AreLists};
 ghost use Rattle.partition.specs.Splitting.{IsAlone};
@@ -41,7 +42,7 @@ pub struct SignedBlocks {
     /// Where the pairs that a row shows are put together.
     pub(crate) pairs: Vec<(u32, u32)>,
     pub(crate) watch: Watch,
-    /// When there are more lists, all are forgotten: a round that looks at all states makes at most half as many.
+    /// When there are more lists, all are forgotten.
     pub(crate) most_lists: u32,
 }
 
@@ -156,7 +157,7 @@ impl SignedBlocks {
         let blocks = self.blocks.counted(self.alloc)?;
         let live = blocks.live();
         let entering = Entering::new(self.alloc, l, live, reach)?;
-        let most_lists = 2 * (live.len() as u32 + 1);
+        let most_lists = most_lists(live);
         Ok(SignedBlocks {
             blocks,
             watch: Watch::Sources(entering),
@@ -235,9 +236,17 @@ fn look_at_all(round: SignedBlocks, entering: Entering) -> Result<SignedBlocks, 
 {
     let round = round.anew()?;
     let live = not_alone(round.alloc, &round.blocks)?;
-    let most_lists = 2 * (live.len() as u32 + 1);
+    let most_lists = most_lists(&live);
     let next = look_at(round, live, Watch::Sources(entering))?;
     Ok(SignedBlocks { most_lists, ..next })
+}
+
+/// How many lists are kept at most, if a round looks at these states: twice as many as it makes at most.
+fn most_lists(live: &[u32]) -> u32
+    requires { length live.now ≤ MOST_STATES }
+    ensures { result ≡ 2 * (length live.now + 1) }
+{
+    2 * (live.len() as u32 + 1)
 }
 
 /// The states that are not seen to be alone in their blocks, in rising order.

@@ -1,4 +1,4 @@
-use Rattle.std.proofs.Common.{◌≡◌, ◌∙◌, ◌<◌, length, ap, sym, subst, subst₂, refl}
+use Rattle.std.proofs.Common.{◌∙◌, length, ap, sym, subst, subst₂}
 use Rattle.theory.specs.declared.relation.Relation.TheVariants.{Branching}
 use Rattle.lists.specs.Lists.{AreLists}
 use Rattle.refine.specs.Living.{LeavesOut}

@@ -1,6 +1,6 @@
 use Rattle.std.proofs.Common.{◌⊎◌, ◌∙◌, ◌<◌, length, ap, sym, subst}
 use Rattle.partition.specs.Splitting.{IsAlone}
-use Rattle.partition.specs.Blocks.{RoundBlocks, IsOne}
+use Rattle.partition.specs.Blocks.{IsOne}
 use Rattle.refine.proofs.signed_blocks.look_at_all.Goals as goal
 
 pub returns-clause-all : goal.returns-clause-all

@@ -1,9 +1,8 @@
-use Rattle.std.proofs.Common.{◌≡◌, ◌∙◌, ◌↔◌, IsTrue, map, Contains, ap, sym, subst, subst₂, inl, inr}
+use Rattle.std.proofs.Common.{◌≡◌, ◌∙◌, ◌↔◌, Contains, sym, subst, inl, inr}
 use Rattle.std.proofs.lemmas.Bool.{iff_false}
 use Rattle.theory.specs.declared.relation.Relation.TheVariants.{Strong}
-use Rattle.lts.specs.Lts.{row_of}
 use Rattle.lists.specs.Lists.{list_at}
-use Rattle.inert.specs.Signed.{IsSignature, pair_under}
+use Rattle.inert.specs.Signed.{IsSignature}
 use Rattle.refine.specs.Settled.{HasFrom}
 use Rattle.refine.proofs.StrongRow.{row_signature, row_touched, row_still}
 use Rattle.refine.proofs.strong.put.Goals as goal

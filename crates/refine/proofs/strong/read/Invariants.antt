@@ -1,4 +1,4 @@
-use Rattle.std.proofs.Common.{◌≡◌, ◌↔◌, ℕ, ◌+◌, ◌-◌, ◌*◌, ◌≤◌, ◌++◌, IsTrue, take, map}
+use Rattle.std.proofs.Common.{◌≡◌, ◌↔◌, ℕ, ◌+◌, ◌-◌, ◌*◌, ◌≤◌, IsTrue, take, map}
 use Rattle.std.specs.Vec.{vec_len, vec_capacity}
 use Rattle.lts.specs.Meter.{Costs}
 use Rattle.lts.specs.Lts.{row_of}

@@ -1,4 +1,4 @@
-use Rattle.std.proofs.Common.{◌≡◌, ℕ, ◌+◌, ◌<◌, List, length, slice_index, Contains, ap, sym, subst, inl, inr, arith}
+use Rattle.std.proofs.Common.{ℕ, ◌+◌, ◌<◌, List, length, slice_index, ap, arith}
 use Rattle.theory.specs.declared.relation.Relation.TheVariants.{Strong}
 use Rattle.refine.specs.Settled.{IsPut}
 use Rattle.refine.proofs.Living.{put_more, each_put, all_numbers, none_more}

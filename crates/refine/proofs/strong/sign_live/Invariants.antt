@@ -1,7 +1,7 @@
 use Rattle.std.proofs.Common.{ℕ, ◌<◌, ◌≤◌, length, slice_index}
 use Rattle.theory.specs.declared.relation.Relation.TheVariants.{Strong}
 use Rattle.lts.specs.Meter.{Costs}
-use Rattle.lts.specs.Lts.{before, row_of}
+use Rattle.lts.specs.Lts.{before}
 use Rattle.lists.specs.Lists.{list_at}
 use Rattle.partition.specs.Blocks.{HaveNone}
 use Rattle.refine.specs.Settled.{IsPut}

@@ -1,7 +1,6 @@
-use Rattle.std.proofs.Common.{◌≡◌, ◌∙◌, ℕ, ◌<◌, ◌≤◌, length, slice_index, ap, sym, subst, subst₂, inr, arith}
+use Rattle.std.proofs.Common.{◌≡◌, ◌∙◌, ℕ, ◌<◌, ◌≤◌, length, slice_index, ap, sym, subst₂, inr, arith}
 use Rattle.std.proofs.lemmas.List.{get_or_default}
-use Rattle.partition.specs.Blocks.{HaveNone, RoundBlocks}
-use Rattle.refine.specs.EachList.{HaveLists}
+use Rattle.partition.specs.Blocks.{HaveNone}
 use Rattle.refine.proofs.EachList.{written_back}
 use Rattle.refine.proofs.signed_blocks.SignedBlocks.begin_index.Goals as goal
 
