@@ -27,7 +27,7 @@ use Rattle.autbis.specs.Comparisons.CmpFails.{first_not_read, second_not_read, o
 use Rattle.autbis.specs.Ends.{Contents, EndsRun, HasFaultyText, IsAnswer, OfText}
 use Rattle.autbis.specs.Ends.Contents.{one, two}
 use Rattle.autbis.specs.Ends.EndsRun.{answered, faulty, no_memory, lost, cut_short}
-use Rattle.autbis.specs.Files.{FilesUsed, Name}
+use Rattle.autbis.specs.Files.{FilesUsed, HasLostNone, Name}
 use Rattle.autbis.specs.Jobs.{IsListUnread}
 use Rattle.autbis.specs.Opened.{AreAsTold}
 use Rattle.autbis.specs.Reports.{status_of}
@@ -195,13 +195,16 @@ list_status Device h = absurd h
 list_status Memory h = absurd h
 list_status _ h = refl
 
--- why a hide list was not read, which was opened by this name
-pub list_unread : {F File : Type 0} (files : FilesUsed F File) (name : Name) (list : File) (told : Option (List ℕ)) {given : List ℕ} {rest : Option (List ℕ)} {fault : Fault} →
+-- why a hide list was not read, which was opened by this name and closed with these failures
+pub list_unread : {F : Type 0} (files : FilesUsed F) (name : Name) (told : Option (List ℕ))
+    {given : List ℕ} {rest : Option (List ℕ)} {failures : ℕ} {fault : Fault} →
     NotBothOfList → IfSome (files.holds files.old name) (λ bytes. told ≡ Some bytes) → Consumes told rest given →
-    HideRefuses given rest (files.file_failures list) fault → IsListUnread files (Some name) (status_of fault)
-list_unread files name list told {given} {rest} {fault} law is took (list_fault sound of_list first) =
+    (failures ≡ 0 → HasLostNone files) → (failures ≡ 1 → files.lost files.new ≡ 1) →
+    HideRefuses given rest failures fault → IsListUnread files (Some name) (status_of fault)
+list_unread files name told {given} {rest} {failures} {fault} law is took none loses (list_fault sound of_list first) =
     let wrong = is_faulty_list law fault told (told_whole (λ text. FirstHideFault text fault) given told rest took first) in
-    inl (list_status fault of_list, told_then (files.holds files.old name) told _ is wrong)
-list_unread files name list told law is took (list_lost failed device unknown) =
-    inr (inr (ap status_of device, (λ none. none-some _ (sym none)), (list, failed)))
-list_unread files name list told law is took (list_memory sound memory) = inr (inl (ap status_of memory))
+    inr (none sound, inr (list_status fault of_list, told_then (files.holds files.old name) told _ is wrong))
+list_unread files name told law is took none loses (list_lost failed device unknown) =
+    inl (ap status_of device, (λ unnamed. none-some _ (sym unnamed)), loses failed)
+list_unread files name told law is took none loses (list_memory sound memory) =
+    inr (none sound, inl (ap status_of memory))

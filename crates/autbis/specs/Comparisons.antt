@@ -40,7 +40,7 @@ transitions_of both = length both.one.transitions + length both.other.transition
 abbrev pub IsVerdict : (asked : Request) {first second : List ℕ} → ReadBoth asked.bounds first second → Bool → Type 0
 IsVerdict asked both same = IsTrue same ↔ Equivalent asked.relation (Hide asked.hidden both.one) (Hide asked.hidden both.other)
 
--- the rounds that the union takes were made, with a visit of every transition for each of them and for the union
+-- the rounds that the union takes were made, with as many visits as one round more than these times the transitions
 pub record CountsUnion (asked : Request) {first second : List ℕ} (both : ReadBoth asked.bounds first second) (at : Counts) : Type 0 where
   pub turns : Turns asked.relation (union_of (Hide asked.hidden both.one) (Hide asked.hidden both.other)) at.rounds
   pub keeps : KeepsTo (states_of both) (transitions_of both) 1 at ((at.rounds + 1) * transitions_of both)

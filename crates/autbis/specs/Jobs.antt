@@ -6,7 +6,7 @@ use Rattle.autfmt.specs.HideLists.{HideReads}
 use Rattle.autfmt.specs.HideReaders.{HidesAs}
 use Rattle.autbis.specs.Ends.{Contents, EndsRun}
 use Rattle.autbis.specs.Ends.Contents.{one, two}
-use Rattle.autbis.specs.Files.{FilesUsed, HasAll, HasLost, IsRefused, Name}
+use Rattle.autbis.specs.Files.{FilesUsed, HasAll, HasLostNone, IsRefused, Name}
 use Rattle.autbis.specs.Runs.{Used}
 use Rattle.words.specs.declared.words.Job.{Job}
 use Rattle.words.specs.declared.words.Job.TheVariants.{Min, Cmp}
@@ -30,7 +30,7 @@ texts_of (Cmp relation hide first second) = string_bytes first ∷ string_bytes 
 abbrev pub files_of : Job → List Name
 files_of job = texts_of job ++ option_to_list (hide_of job)
 
--- the labels to hide are exactly those of the hide list, and none without a list
+-- the labels to hide are those of the hide list, if it is told, and none without a list
 abbrev pub HidesNamed : (Name → Option (List ℕ)) → Option Name → List (List ℕ) → Type 0
 HidesNamed holds None H = H ≡ []
 HidesNamed holds (Some name) H = IfSome (holds name) (λ list. HidesAs list H)
@@ -45,23 +45,23 @@ told_of holds input (Cmp relation hide first second) = two (holds (string_bytes 
 abbrev pub HasFaultyList : (Name → Option (List ℕ)) → Option Name → Type 0
 HasFaultyList holds hide = IsSomeAnd hide (λ name. IfSome (holds name) (λ list. (H : List (List ℕ)) → ¬ HideReads list H))
 
--- a hide list was not read: it is faulty, or memory was refused, or it failed
-abbrev pub IsListUnread : {F File : Type 0} → FilesUsed F File → (hide : Option Name) → (status : ℕ) → Type 0
-IsListUnread files hide status = ((status ≡ 2) × HasFaultyList (files.holds files.old) hide)
-    ⊎ ((status ≡ 4) ⊎ ((status ≡ 5) × (hide ≢ None) × HasLost files.file_failures))
+-- a hide list was not read: it failed; or no file failed, and memory was refused, or the list is faulty
+abbrev pub IsListUnread : {F : Type 0} → FilesUsed F → (hide : Option Name) → (status : ℕ) → Type 0
+IsListUnread files hide status = ((status ≡ 5) × (hide ≢ None) × (files.lost files.new ≡ 1))
+    ⊎ (HasLostNone files × ((status ≡ 4) ⊎ ((status ≡ 2) × HasFaultyList (files.holds files.old) hide)))
 
 -- files of these names were to be opened, and then the hide list read: one of them could not be had, or the list was not read
-abbrev pub IsGivenUp : {F File : Type 0} → FilesUsed F File → List Name → (hide : Option Name) → (status : ℕ) → Type 0
+abbrev pub IsGivenUp : {F : Type 0} → FilesUsed F → List Name → (hide : Option Name) → (status : ℕ) → Type 0
 IsGivenUp files names hide status = IsRefused files names status ⊎ (HasAll files names × IsListUnread files hide status)
 
--- what a job came to: it was given up before its texts were read, and no stream was used; or all its files were had, and its
--- texts were run. Standard input is read only if no text is named. A text is lost only if standard input failed, or a file that
--- the job names
-pub data EndsIn {F File In Out : Type 0} (files : FilesUsed F File) (input : Used In) (output : Used Out) (job : Job) (status : ℕ) : Type 0 where
+-- what a job came to: it was given up, and no stream was used; or all its files were had, and its texts were run. Standard
+-- input is read only if no text is named. A text is lost only if standard input failed, or a file that the job names, and else
+-- neither did
+pub data EndsIn {F In Out : Type 0} (files : FilesUsed F) (input : Used In) (output : Used Out) (job : Job) (status : ℕ) : Type 0 where
   given_up : IsGivenUp files (files_of job) (hide_of job) status → input.new ≡ input.old → output.new ≡ output.old →
       EndsIn files input output job status
   ran : HasAll files (files_of job) → (texts_of job ≢ [] → input.new ≡ input.old) →
       (H : List (List ℕ)) → HidesNamed (files.holds files.old) (hide_of job) H →
       EndsRun (record { relation = relation_of job; bounds = file_bounds; hidden = H })
-      (told_of (files.holds files.old) input.before job) (input.failures ≡ 0)
-      ((input.failures ≡ 1) ⊎ ((texts_of job ≢ []) × HasLost files.file_failures)) output status → EndsIn files input output job status
+      (told_of (files.holds files.old) input.before job) ((input.failures ≡ 0) × HasLostNone files)
+      ((input.failures ≡ 1) ⊎ ((texts_of job ≢ []) × (files.lost files.new ≡ 1))) output status → EndsIn files input output job status

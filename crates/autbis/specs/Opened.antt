@@ -1,10 +1,9 @@
 -- What a job names, once it is open.
-use Rattle.std.specs.Prelude.{◌≡◌, ◌≢◌, ◌↔◌, ℕ, List, [], Option, Some, IfSome, ⊤}
-use Rattle.theory.specs.declared.relation.Relation.{Relation}
+use Rattle.std.specs.Prelude.{◌≡◌, ◌≢◌, ◌↔◌, ◌⊎◌, ℕ, List, [], Option, Some, IfSome, ⊤}
 use Rattle.autbis.specs.Ends.{Contents}
 use Rattle.autbis.specs.Ends.Contents.{one, two}
-use Rattle.autbis.specs.Files.{FilesUsed, HasAll, Name}
-use Rattle.autbis.specs.Jobs.{HidesNamed, files_of, hide_of, relation_of, texts_of, told_of}
+use Rattle.autbis.specs.Files.{FilesUsed, HasAll, HasLostNone, Name}
+use Rattle.autbis.specs.Jobs.{HidesNamed, files_of, hide_of, texts_of, told_of}
 use Rattle.autbis.specs.declared.opening.Texts.{Texts}
 use Rattle.autbis.specs.declared.opening.Texts.TheVariants.{Input, One, Two}
 use Rattle.words.specs.declared.words.Job.{Job}
@@ -12,8 +11,8 @@ use Rattle.words.specs.declared.words.Job.{Job}
 -- what open texts hold: what is left of them, or of standard input
 abbrev pub contents_of : {File : Type 0} → (File → Option (List ℕ)) → (input : Option (List ℕ)) → Texts File → Contents
 contents_of rest input Input = one input
-contents_of rest input (One text) = one (rest text.file)
-contents_of rest input (Two first second) = two (rest first.file) (rest second.file)
+contents_of rest input (One file) = one (rest file)
+contents_of rest input (Two first second) = two (rest first) (rest second)
 
 -- they are files
 abbrev pub AreFiles : {File : Type 0} → Texts File → Type 0
@@ -23,8 +22,21 @@ AreFiles _ = ⊤
 -- none of them has failed
 abbrev pub HaveNotFailed : {File : Type 0} → (File → ℕ) → Texts File → Type 0
 HaveNotFailed failures Input = ⊤
-HaveNotFailed failures (One text) = failures text.file ≡ 0
-HaveNotFailed failures (Two first second) = (failures first.file ≡ 0) × (failures second.file ≡ 0)
+HaveNotFailed failures (One file) = failures file ≡ 0
+HaveNotFailed failures (Two first second) = (failures first ≡ 0) × (failures second ≡ 0)
+
+-- one of them has failed, and no other
+abbrev pub HasOneFailed : {File : Type 0} → (File → ℕ) → Texts File → Type 0
+HasOneFailed failures Input = ⊥
+HasOneFailed failures (One file) = failures file ≡ 1
+HasOneFailed failures (Two first second) =
+    ((failures first ≡ 1) × (failures second ≡ 0)) ⊎ ((failures first ≡ 0) × (failures second ≡ 1))
+
+-- how many files they are
+abbrev pub count_of : {File : Type 0} → Texts File → ℕ
+count_of Input = 0
+count_of (One file) = 1
+count_of (Two first second) = 2
 
 -- contents are what is told of them
 abbrev pub AreAsTold : (told contents : Contents) → Type 0
@@ -40,9 +52,15 @@ pub record AreOpened {File : Type 0}
   pub sound : HaveNotFailed failures texts
 
 -- all that a job names was opened, and its hide list read
-pub record IsOpened {F File : Type 0}
-    (rest : File → Option (List ℕ)) (files : FilesUsed F File) (job : Job) (opened : Texts File × List (List ℕ) × Relation) : Type 0 where
+pub record IsOpened {F File : Type 0} (rest : File → Option (List ℕ)) (failures : File → ℕ)
+    (files : FilesUsed F) (job : Job) (opened : Texts File × List (List ℕ)) : Type 0 where
   pub all : HasAll files (files_of job)
-  pub texts : AreOpened rest files.file_failures (files.holds files.old) job opened.0
+  pub none_lost : HasLostNone files
+  pub texts : AreOpened rest failures (files.holds files.old) job opened.0
   pub hidden : HidesNamed (files.holds files.old) (hide_of job) opened.1
-  pub relation : opened.2 ≡ relation_of job
+
+-- files were closed, and none was asked for
+pub record OnlyCloses {F : Type 0} (files : FilesUsed F) : Type 0 where
+  pub opened : files.opened files.new ≡ files.opened files.old
+  pub failures : files.failures files.new ≡ files.failures files.old
+  pub holds : files.holds files.new ≡ files.holds files.old

@@ -38,8 +38,8 @@ abbrev pub AskForNone : Result (Vec (String Global) Global) Error → WordFault 
 AskForNone words fault = MatchResult words (λ words. IsFaultOf (map string_bytes words.items) fault) (λ error. IsUnread error fault)
 
 -- words ask for a job, which came to its end; or for none, and no file and no input was used
-pub data AnswersWords {F File In Out : Type 0} (words : Result (Vec (String Global) Global) Error)
-    (files : FilesUsed F File) (input : Used In) (output : Used Out) (status : ℕ) : Type 0 where
+pub data AnswersWords {F In Out : Type 0} (words : Result (Vec (String Global) Global) Error)
+    (files : FilesUsed F) (input : Used In) (output : Used Out) (status : ℕ) : Type 0 where
   job : (job : Job) → AskFor words job → EndsIn files input output job status → AnswersWords words files input output status
   no_job : (fault : WordFault) → AskForNone words fault → files.new ≡ files.old → input.new ≡ input.old →
       EndsWords output fault status → AnswersWords words files input output status

@@ -1,8 +1,19 @@
--- The exit statuses.
-use Rattle.std.specs.Prelude.{◌≡◌, ◌⊎◌, ℕ, List, Option, string_bytes}
+-- The exit statuses, and what is said of a run.
+use Rattle.std.specs.Prelude.{◌≡◌, ◌⊎◌, ℕ, ◌*◌, List, ◌++◌, length, codes, decimal, Option, string_bytes}
 use Rattle.std.specs.Io.KnownBytes.{Appends}
+use Rattle.theory.specs.System.{System, Hide}
+use Rattle.theory.specs.declared.relation.Relation.{Relation}
+use Rattle.theory.specs.Blocks.{Turns}
+use Rattle.theory.specs.Quotient.{allowance}
+use Rattle.lts.specs.Meter as meter
+use Rattle.quotient.specs.Visits.{KeepsTo}
+use Rattle.autfmt.specs.Stream.{AppendsBeginning}
+use Rattle.autfmt.specs.Texts.{Reads}
 use Rattle.autfmt.specs.declared.fault.Fault.{Fault}
 use Rattle.autfmt.specs.declared.fault.Fault.TheVariants.{Device, Memory}
+use Rattle.autbis.specs.Ends.{OfText}
+use Rattle.autbis.specs.Runs.{Request}
+use Rattle.autbis.specs.declared.run.Counts.{Counts}
 use Rattle.words.specs.declared.words.WordFault.{WordFault}
 use Rattle.words.specs.declared.words.WordFault.TheVariants as word
 
@@ -23,3 +34,19 @@ word_status word.Memory = 4
 abbrev pub IsWordStatus : (old new : Option (List ℕ)) → WordFault → ℕ → Type 0
 IsWordStatus old new (word.Help text) status = ((status ≡ 0) × Appends old new (string_bytes text)) ⊎ (status ≡ 5)
 IsWordStatus old new fault status = status ≡ word_status fault
+
+-- the line of `--stats`: the sizes of a system, what a meter counted, and the visits that are allowed for that
+abbrev pub stats_line : Relation → Counts → meter.Counts → List ℕ
+stats_line rel sizes at = codes "stats: states " ++ decimal sizes.states
+    ++ codes " transitions " ++ decimal sizes.transitions
+    ++ codes " rounds " ++ decimal at.rounds ++ codes " visits " ++ decimal at.visits
+    ++ codes " allowance " ++ decimal (allowance rel sizes.states sizes.transitions at.rounds) ++ codes "\n"
+
+-- known bytes grow by a beginning of the line of the counts: the sizes of the system that the text reads as, the rounds that
+-- it takes, and visits within the bounds of a run
+abbrev pub ShowsCounts : Request → (told old new : Option (List ℕ)) → Type 0
+ShowsCounts asked told old new = OfText told (λ text. (A : System) × Reads asked.bounds text A × (at : meter.Counts)
+    × Turns asked.relation (Hide asked.hidden A) at.rounds
+    × KeepsTo A.states (length A.transitions) 2 at (at.rounds * length A.transitions)
+    × AppendsBeginning old new
+    (stats_line asked.relation (record { states = A.states; transitions = length A.transitions }) at))

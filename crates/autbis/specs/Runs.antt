@@ -75,8 +75,8 @@ IsReadable bounds text = (A : System) × Reads bounds text A
 abbrev pub IsFaulty : Bounds → List ℕ → Type 0
 IsFaulty bounds text = (A : System) → ¬ Reads bounds text A
 
--- a run read a text to its end, wrote the text of what it is minimised to, and made the rounds that its system takes, each with
--- a visit of every transition, and at most two visits more of each
+-- a run read a text to its end, wrote the text of what it is minimised to, and made the rounds that its system takes, with
+-- at least as many visits as these rounds times the transitions, and at most twice the transitions more
 pub record RunsTo {In Out : Type 0} (asked : Request) (text : List ℕ) (source : Used In) (sink : Used Out) (at : meter.Counts) (counts : Counts) : Type 0 where
   pub to : MinimisedText asked text
   pub sizes : counts ≡ record { states = to.input.states; transitions = length to.input.transitions }

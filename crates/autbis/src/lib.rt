@@ -9,6 +9,7 @@ mod opening;
 mod program;
 mod reports;
 mod run;
+mod stats;
 
 pub use crate::compare::{CmpFault, Side, run_cmp};
 pub use crate::job::main_program;

@@ -1,64 +1,68 @@
 //! What a job names, opened in its order: its texts, and then its hide list.
-ghost use Rattle.std.specs.Prelude.{◌≡◌, [], ◌∷◌, IfSome, IfOk, IfErr, OnOk, MatchResult, Some, option_map, option_to_list, string_bytes};
-ghost use Rattle.autbis.specs.Files.{HasAll, IsRefused, files_used};
+ghost use Rattle.std.specs.Prelude.{◌≡◌, ◌≤◌, ◌+◌, ◌-◌, [], ◌∷◌, IfSome, IfOk, IfErr, OnOk, MatchResult, Some, option_map, option_to_list, string_bytes};
+ghost use Rattle.autbis.specs.Files.{HasAll, HasLostNone, IsRefused, files_used};
 ghost use Rattle.autbis.specs.Jobs.{HidesNamed, IsGivenUp, files_of, hide_of, texts_of};
-ghost use Rattle.autbis.specs.Opened.{AreOpened, IsOpened};
+ghost use Rattle.autbis.specs.Opened.{AreOpened, HasOneFailed, HaveNotFailed, IsOpened, OnlyCloses, count_of};
 
 use crate::opener::Opener;
 use crate::reports::{cannot_open, report};
 use autfmt::{Hidden, read_hidden};
-use quotient::Relation;
 use std::alloc::Global;
 use std::io::Write;
 use words::Job;
 
 /// The texts of a job, open.
 #[derive(Drop)]
-pub enum Texts<'a, File> {
+pub enum Texts<File> {
     /// Standard input is minimised.
     Input,
     /// A file is minimised.
-    One(Named<'a, File>),
+    One(File),
     /// Two files are compared.
-    Two(Named<'a, File>, Named<'a, File>),
+    Two(File, File),
 }
 
-/// A file, and the name that it was opened by.
-#[derive(Drop)]
-pub struct Named<'a, File> {
-    pub name: &'a str,
-    pub file: File,
-}
-
-/// Opens the texts of the job, and then its hide list, which is read; none after one that cannot be opened. Returns them and the
-/// job's relation. Fails with the exit status: 2 for a faulty list, 4 for want of memory, 5 for what cannot be opened or read.
-pub fn open_job<'a, F: Opener, E: Write>(
+/// Opens the texts of the job, and then its hide list, which is read and closed; none after one that cannot be opened.
+/// Returns the texts and the labels of the list. Fails with the exit status, and all closed: 2 for a faulty list, 4 for want
+/// of memory, 5 for what cannot be opened or read.
+pub fn open_job<F: Opener, E: Write>(
     alloc: Global,
-    job: &'a Job,
+    job: &Job,
     files: &mut F,
     e: &mut E,
-) -> Result<(Texts<'a, F::File>, Hidden, Relation), u8>
+) -> Result<(Texts<F::File>, Hidden), u8>
     requires sound { F.failures files.old ≡ 0 }
-    ensures opened { IfOk result (IsOpened F.File.rest
-        (files_used F.holds F.opened F.failures F.File.failures files.old files.new) job.now) }
-    ensures given_up { IfErr result (IsGivenUp (files_used F.holds F.opened F.failures F.File.failures files.old files.new)
+    ensures opened { IfOk result (IsOpened F.File.rest F.File.failures
+        (files_used F.holds F.opened F.failures F.lost files.old files.new) job.now) }
+    ensures given_up { IfErr result (IsGivenUp (files_used F.holds F.opened F.failures F.lost files.old files.new)
         (files_of job.now) (hide_of job.now)) }
+    ensures unclosed { MatchResult result (λ opened. F.unclosed files.new ≤ F.unclosed files.old + count_of opened.0)
+        (λ _. F.unclosed files.new ≤ F.unclosed files.old) }
 {
     let texts = open_texts(job, files, e)?;
-    let (Job::Min { relation, hide, .. } | Job::Cmp { relation, hide, .. }) = job;
-    Ok((texts, hidden_of(alloc, files, hide, e)?, *relation))
+    let (Job::Min { hide, .. } | Job::Cmp { hide, .. }) = job;
+    match hidden_of(alloc, files, hide, e) {
+        Ok(hidden) => Ok((texts, hidden)),
+        Err(status) => {
+            close_texts(files, texts);
+            Err(status)
+        }
+    }
 }
 
-/// Opens the texts of a job. Fails with the exit status, 5, if one cannot be opened.
-fn open_texts<'a, F: Opener, E: Write>(
-    job: &'a Job,
+/// Opens the texts of a job. Fails with the exit status, 5, if one cannot be opened; the first of two is then closed.
+fn open_texts<F: Opener, E: Write>(
+    job: &Job,
     files: &mut F,
     e: &mut E,
-) -> Result<Texts<'a, F::File>, u8>
+) -> Result<Texts<F::File>, u8>
     requires sound { F.failures files.old ≡ 0 }
     ensures texts { IfOk result (AreOpened F.File.rest F.File.failures (F.holds files.old) job.now) }
-    ensures order { let used = files_used F.holds F.opened F.failures F.File.failures files.old files.new in
+    ensures order { let used = files_used F.holds F.opened F.failures F.lost files.old files.new in
         MatchResult result (λ _. HasAll used (texts_of job.now)) (IsRefused used (texts_of job.now)) }
+    ensures none_lost { F.lost files.new ≡ F.lost files.old }
+    ensures unclosed { MatchResult result (λ texts. F.unclosed files.new ≤ F.unclosed files.old + count_of texts)
+        (λ _. F.unclosed files.new ≤ F.unclosed files.old) }
 {
     match job {
         Job::Min { file: None, .. } => Ok(Texts::Input),
@@ -68,32 +72,37 @@ fn open_texts<'a, F: Opener, E: Write>(
         } => Ok(Texts::One(open_named(files, name.as_str(), e)?)),
         Job::Cmp { first, second, .. } => {
             let first = open_named(files, first.as_str(), e)?;
-            let second = open_named(files, second.as_str(), e)?;
-            Ok(Texts::Two(first, second))
+            match open_named(files, second.as_str(), e) {
+                Ok(second) => Ok(Texts::Two(first, second)),
+                Err(status) => {
+                    files.close(first);
+                    Err(status)
+                }
+            }
         }
     }
 }
 
 /// Opens the file `name`. Fails with the exit status, 5, if it cannot be opened, which is said on `e`.
-fn open_named<'a, F: Opener, E: Write>(
-    files: &mut F,
-    name: &'a str,
-    e: &mut E,
-) -> Result<Named<'a, F::File>, u8>
+fn open_named<F: Opener, E: Write>(files: &mut F, name: &str, e: &mut E) -> Result<F::File, u8>
     requires sound { F.failures files.old ≡ 0 }
-    ensures file { IfOk result (λ text. F.File.failures text.file ≡ 0) }
-    ensures bytes { IfSome (F.holds files.old name.entry.now) (λ bytes.
-        IfOk result (λ text. F.File.rest text.file ≡ Some bytes)) }
-    ensures order { let used = files_used F.holds F.opened F.failures F.File.failures files.old files.new in
-        MatchResult result (λ _. HasAll used (name.entry.now ∷ [])) (IsRefused used (name.entry.now ∷ [])) }
+    ensures file { IfOk result (λ file. F.File.failures file ≡ 0) }
+    ensures bytes { IfSome (F.holds files.old name.now) (λ bytes.
+        IfOk result (λ file. F.File.rest file ≡ Some bytes)) }
+    ensures order { let used = files_used F.holds F.opened F.failures F.lost files.old files.new in
+        MatchResult result (λ _. HasAll used (name.now ∷ [])) (IsRefused used (name.now ∷ [])) }
+    ensures none_lost { F.lost files.new ≡ F.lost files.old }
+    ensures unclosed { MatchResult result (λ _. F.unclosed files.new ≤ F.unclosed files.old + 1)
+        (λ _. F.unclosed files.new ≤ F.unclosed files.old) }
 {
     match files.open(name) {
-        Ok(file) => Ok(Named { name, file }),
+        Ok(file) => Ok(file),
         Err(_) => Err(cannot_open(name, e)),
     }
 }
 
-/// Opens and reads the hide list, and returns its labels; none if there is no list. Fails with the exit status, as `open_job`.
+/// Opens, reads and closes the hide list, and returns its labels; none if there is no list. Fails with the exit status,
+/// as `open_job`.
 fn hidden_of<F: Opener, E: Write>(
     alloc: Global,
     files: &mut F,
@@ -102,18 +111,39 @@ fn hidden_of<F: Opener, E: Write>(
 ) -> Result<Hidden, u8>
     requires sound { F.failures files.old ≡ 0 }
     ensures labels { IfOk result (HidesNamed (F.holds files.old) (option_map string_bytes hide.now)) }
-    ensures all { OnOk result (HasAll (files_used F.holds F.opened F.failures F.File.failures files.old files.new)
+    ensures all { OnOk result (HasAll (files_used F.holds F.opened F.failures F.lost files.old files.new)
         (option_to_list (option_map string_bytes hide.now))) }
-    ensures given_up { IfErr result (IsGivenUp (files_used F.holds F.opened F.failures F.File.failures files.old files.new)
+    ensures none_lost { OnOk result (F.lost files.new ≡ F.lost files.old) }
+    ensures given_up { IfErr result (IsGivenUp (files_used F.holds F.opened F.failures F.lost files.old files.new)
         (option_to_list (option_map string_bytes hide.now)) (option_map string_bytes hide.now)) }
+    ensures unclosed { F.unclosed files.new ≤ F.unclosed files.old }
 {
     autfmt::a_hide_list_reads_or_has_a_fault();
     let Some(name) = hide else {
         return Ok(Hidden::none(alloc));
     };
-    let mut list = open_named(files, name.as_str(), e)?;
-    match read_hidden(alloc, &mut list.file) {
+    let mut file = open_named(files, name.as_str(), e)?;
+    let labels = read_hidden(alloc, &mut file);
+    files.close(file);
+    match labels {
         Ok(hidden) => Ok(hidden),
-        Err(fault) => Err(report(&fault, list.name, e)),
+        Err(fault) => Err(report(&fault, name.as_str(), e)),
+    }
+}
+
+/// Closes the texts of a job.
+pub fn close_texts<F: Opener>(files: &mut F, texts: Texts<F::File>)
+    ensures sound { HaveNotFailed F.File.failures texts → F.lost files.new ≡ F.lost files.old }
+    ensures lost { HasOneFailed F.File.failures texts → F.lost files.new ≡ 1 }
+    ensures unclosed { F.unclosed files.new ≡ F.unclosed files.old - count_of texts }
+    ensures others { OnlyCloses (files_used F.holds F.opened F.failures F.lost files.old files.new) }
+{
+    match texts {
+        Texts::Input => {}
+        Texts::One(file) => files.close(file),
+        Texts::Two(first, second) => {
+            files.close(first);
+            files.close(second);
+        }
     }
 }

@@ -1,23 +1,25 @@
 //! A run or a comparison, and what is said of it.
-ghost use Rattle.std.specs.Prelude.{◌≡◌, ◌≤◌, ◌⊎◌, IfSome};
+ghost use Rattle.std.specs.Prelude.{◌≡◌, ◌⊎◌, IfSome, IsTrue, false};
 ghost use Rattle.autbis.specs.declared.compare.Side.TheVariants.{First, Second};
 ghost use Rattle.autbis.specs.Ends.{EndsRun};
 ghost use Rattle.autbis.specs.Ends.Contents.{one, two};
+ghost use Rattle.autbis.specs.Reports.{ShowsCounts};
 ghost use Rattle.autbis.specs.Runs.{IsReadable, asks, used};
-ghost use Rattle.theory.specs.Quotient.{allowance};
 
 use crate::compare::{CmpFault, Side, run_cmp};
 use crate::reports::report;
-use crate::run::{Counts, run_min};
+use crate::run::run_min;
+use crate::stats::show_stats;
 use autfmt::{Hidden, Limits, Sink, Source};
-use lts::{Counter, Meter};
+use lts::Counter;
 use quotient::Relation;
 use std::alloc::Global;
 use std::io::Write;
 
 /// Minimises the text of `r` to `w`, once, and returns the exit status: 0 if it is done, 2 if the text is faulty, 4 for want of
 /// memory, 5 if the source or the sink failed. With 2 and 4 nothing failed and nothing was written. A fault goes to `report`
-/// with the source's name. With `stats`, a line on `e` shows the counts of a run that succeeded.
+/// with the source's name. With `stats`, a line on `e` shows the counts of a run that succeeded, and without, nothing is
+/// said of it.
 pub fn min_program<R: Source, W: Sink, E: Write>(
     alloc: Global,
     r: &mut R,
@@ -33,6 +35,9 @@ pub fn min_program<R: Source, W: Sink, E: Write>(
     requires sink { W.failures w.old ≡ 0 }
     ensures ends { EndsRun (asks rel lim.now h.now) (one (R.rest r.old)) (R.failures r.new ≡ 0) (R.failures r.new ≡ 1)
         (used W.written W.failures w.old w.new) result }
+    ensures shown { result ≡ 0 → IsTrue stats → ShowsCounts (asks rel lim.now h.now) (R.rest r.old)
+        (E.contents e.old) (E.contents e.new) }
+    ensures silent { result ≡ 0 → stats ≡ false → e.new ≡ e.old }
 {
     autfmt::a_text_reads_or_has_a_fault();
     let mut meter = Counter::new();
@@ -88,33 +93,5 @@ fn named<'a>(side: Side, a_name: &'a str, b_name: &'a str) -> &'a str
     match side {
         Side::First | Side::Run => a_name,
         Side::Second => b_name,
-    }
-}
-
-/// Says the counts of a run on `e`. A failure to write is passed over.
-fn show_stats<M: Meter, E: Write>(counts: Counts, rel: Relation, m: &M, e: &mut E)
-    requires { (M.counted m.now).rounds ≤ counts.states }
-{
-    let states = counts.states;
-    let transitions = counts.transitions;
-    let rounds = m.rounds();
-    let visits = m.visits();
-    let allowance = allowed_visits(counts, rel, rounds);
-    let _ = writeln!(
-        e,
-        "stats: states {states} transitions {transitions} rounds {rounds} visits {visits} allowance {allowance}"
-    );
-}
-
-/// The most visits that a run of so many rounds may make.
-fn allowed_visits(counts: Counts, rel: Relation, rounds: u128) -> u128
-    requires { rounds ≤ counts.states }
-    ensures { result ≡ allowance rel counts.states counts.transitions rounds }
-{
-    match rel {
-        Relation::Strong => (rounds + 2) * u128::from(counts.transitions),
-        Relation::Branching => {
-            (rounds * u128::from(counts.states) + 2) * u128::from(counts.transitions)
-        }
     }
 }

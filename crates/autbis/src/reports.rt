@@ -87,6 +87,22 @@ fn say_words<E: Write>(f: &WordFault, e: &mut E) -> u8
     }
 }
 
+/// Says `b` on `e`, as far as it can be written: a failure is passed over.
+pub fn say<E: Write>(b: &[u8], e: &mut E)
+    ensures { AppendsBeginning (E.contents e.old) (E.contents e.new) b.now }
+{
+    let mut rest = b;
+    while !rest.is_empty() {
+        let Ok(n) = e.write(rest) else {
+            return;
+        };
+        if n == 0 {
+            return;
+        }
+        rest = &rest[n..];
+    }
+}
+
 /// Puts all of `b`, and finishes the sink once.
 ///
 /// # Errors

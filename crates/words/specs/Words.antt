@@ -1,6 +1,6 @@
 -- The words of the command line: what `clap` is told of them, and the job of what it found in them.
-use Rattle.std.specs.Prelude.{◌≡◌, ◌≢◌, ◌⊎◌, ⊤, IsSome, List, [], ◌∷◌, Some, None, codes, true, false, option_map, unwrap_or, string_bytes, Bool, Option}
-use Rattle.clap.specs.Words.{App, IsAmong, Row, Rule, Text, fault_of, first_of, new_app, new_rule, one_of, subcommand_of, with_rule, with_subcommand}
+use Rattle.std.specs.Prelude.{◌≡◌, ◌≢◌, ◌⊎◌, ⊤, Any, IsSome, List, [], ◌∷◌, Some, None, codes, true, false, option_map, unwrap_or, string_bytes, Bool, Option}
+use Rattle.clap.specs.Words.{App, Row, Rule, Text, fault_of, first_of, new_app, new_rule, one_of, subcommand_of, with_rule, with_subcommand}
 use Rattle.clap.specs.declared.builder.ArgAction.TheVariants.{SetTrue}
 use Rattle.clap.specs.declared.error.kind.ErrorKind.{ErrorKind}
 use Rattle.clap.specs.declared.error.kind.ErrorKind.TheVariants.{DisplayHelp, DisplayVersion}
@@ -117,28 +117,26 @@ IsFaultOfAJob (fault.Relation _) = ⊤
 IsFaultOfAJob fault.Memory = ⊤
 IsFaultOfAJob _ = ⊥
 
+-- what `clap` takes for a fault, but is none: the words ask for help, or for the version
+abbrev pub IsHelp : ErrorKind → Type 0
+IsHelp kind = (kind ≡ DisplayHelp) ⊎ (kind ≡ DisplayVersion)
+
 -- the fault of words in which `clap` finds one of this kind
 abbrev pub IsFaultOfKind : ErrorKind → WordFault → Type 0
-IsFaultOfKind kind (fault.Help text) = (kind ≡ DisplayHelp) ⊎ (kind ≡ DisplayVersion)
+IsFaultOfKind kind (fault.Help text) = IsHelp kind
+IsFaultOfKind kind (fault.Usage text) = ¬ IsHelp kind
 IsFaultOfKind kind (fault.Relation named) = ⊥
-IsFaultOfKind kind _ = ⊤
-
--- the words are taken, and what is found in them is enough for a job
-abbrev pub AskForAJob : List Text → Type 0
-AskForAJob words = AreTaken words × IsWholeIn (subcommand_of program_app words)
-
--- the words ask for help, or for the version
-abbrev pub AskForHelp : List Text → Type 0
-AskForHelp words = IsAmong DisplayHelp (fault_of program_app words) ⊎ IsAmong DisplayVersion (fault_of program_app words)
+IsFaultOfKind kind fault.Memory = ⊤
 
 -- the words are taken, and the job is that of what is found in them
 abbrev pub IsJobOf : List Text → Job → Type 0
 IsJobOf words job = AreTaken words × IsJobIn (subcommand_of program_app words) job
 
--- why words give no job: they are taken and the relation found in them is unknown; they ask for help; they do not ask for a job;
--- or memory was refused
+-- why words give no job: they are taken and the relation found in them is unknown; they ask for help; they are taken and
+-- not enough for a job, or `clap` finds a fault in them that is no request for help; or memory was refused
 abbrev pub IsFaultOf : List Text → WordFault → Type 0
 IsFaultOf words (fault.Relation named) = AreTaken words × IsFaultIn (subcommand_of program_app words) (fault.Relation named)
-IsFaultOf words (fault.Help text) = AskForHelp words
-IsFaultOf words (fault.Usage text) = ¬ AskForAJob words
+IsFaultOf words (fault.Help text) = Any IsHelp (fault_of program_app words)
+IsFaultOf words (fault.Usage text) = (AreTaken words × ¬ IsWholeIn (subcommand_of program_app words))
+    ⊎ Any (λ kind. ¬ IsHelp kind) (fault_of program_app words)
 IsFaultOf words fault.Memory = ⊤

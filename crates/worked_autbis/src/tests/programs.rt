@@ -3,34 +3,37 @@ ghost use Rattle.std.specs.Prelude.{◌≡◌, None};
 
 use super::commands::words_of;
 use autbis::{Disk, Opener, main_program};
-use autfmt::{Broken, SliceSource, VecSink};
+use autfmt::{Broken, SliceSource, Source, VecSink};
 use std::alloc::{AllocError, Global};
 use std::marker::Model;
 use std::test::Fail;
 use worked::{LONE_STATE_TEXT, STEP, TWO_EQUAL_TARGETS_TEXT, check};
 
-/// Files in memory, by their names.
-const FILES: [(&str, &[u8]); 6] = [
-    ("two.aut", TWO_EQUAL_TARGETS_TEXT),
-    ("lone.aut", LONE_STATE_TEXT),
-    ("ab.aut", b"des (0,2,3)\n(0,a,1)\n(1,b,2)\n"),
-    ("b.aut", b"des (0,1,2)\n(0,b,1)\n"),
-    ("a.hide", b"a\n"),
-    ("two.hide", b"a b\n"),
+/// Files in memory, by their names, and the place where a file fails.
+const FILES: [(&str, &[u8], Option<usize>); 8] = [
+    ("two.aut", TWO_EQUAL_TARGETS_TEXT, None),
+    ("lone.aut", LONE_STATE_TEXT, None),
+    ("ab.aut", b"des (0,2,3)\n(0,a,1)\n(1,b,2)\n", None),
+    ("b.aut", b"des (0,1,2)\n(0,b,1)\n", None),
+    ("a.hide", b"a\n", None),
+    ("two.hide", b"a b\n", None),
+    ("broken.aut", b"des (0,1,2)\n(0,b,1)\n", Some(15)),
+    ("broken.hide", b"a\n", Some(1)),
 ];
 
 /// What opens these files and no others.
 #[derive(Drop)]
 struct Shelf {
     failed: bool,
+    lost: bool,
 }
 
 impl Model for Shelf {
     ghost use Rattle.std.specs.Prelude.{ℕ, if◌then◌else◌};
 
-    ghost Value = { ℕ };
+    ghost Value = { ℕ × ℕ };
 
-    ghost view = { λ shelf. if shelf.failed then 1 else 0 };
+    ghost view = { λ shelf. (if shelf.failed then 1 else 0, if shelf.lost then 1 else 0) };
 }
 
 impl Opener for Shelf {
@@ -38,18 +41,26 @@ impl Opener for Shelf {
 
     ghost opened = { λ _. None };
 
-    ghost failures = { λ shelf. shelf };
+    ghost failures = { λ shelf. shelf.0 };
+
+    ghost lost = { λ shelf. shelf.1 };
+
+    ghost unclosed = { λ _. 0 };
 
     ghost holds = { λ _ _. None };
 
     fn open(&mut self, name: &str) -> Result<SliceSource<'static>, Broken> {
-        for (known, text) in &FILES {
+        for (known, text, place) in &FILES {
             if *known == name {
-                return Ok(SliceSource::new(*text, None));
+                return Ok(SliceSource::new(*text, *place));
             }
         }
         self.failed = true;
         Err(Broken)
+    }
+
+    fn close(&mut self, file: SliceSource<'static>) {
+        self.lost = self.lost || file.failures() > 0;
     }
 }
 
@@ -80,7 +91,10 @@ fn ended<F: Opener>(
 /// A line of words, the exit status, and what is written and said.
 type Ends = (&'static str, u8, &'static [u8], &'static [u8]);
 
-const ENDS: [Ends; 12] = [
+/// What is said of a file that failed.
+const UNREAD: &[u8] = b"autbis: read or write failed\n";
+
+const ENDS: [Ends; 17] = [
     ("autbis/--version", 0, b"autbis 0.1.0\n", b""),
     ("autbis/min", 0, STEP, b""),
     ("autbis/min/two.aut", 0, STEP, b""),
@@ -128,14 +142,33 @@ const ENDS: [Ends; 12] = [
         b"",
         b"autbis: no such file.aut: cannot open\n",
     ),
+    (
+        "autbis/min/--hide/two.hide/a.hide",
+        2,
+        b"",
+        b"autbis: two.hide: line 1: not a label\n",
+    ),
+    (
+        "autbis/cmp/a.hide/broken.aut",
+        2,
+        b"",
+        b"autbis: a.hide: bad header\n",
+    ),
+    ("autbis/min/broken.aut", 5, b"", UNREAD),
+    ("autbis/min/--hide/broken.hide/two.aut", 5, b"", UNREAD),
+    ("autbis/cmp/b.aut/broken.aut", 5, b"", UNREAD),
 ];
 
-/// Whether the program ends the line of words so.
+/// Whether the program ends the line of words so, and then has lost a file exactly if one failed.
 fn ends(alloc: Global, row: &Ends) -> Result<bool, AllocError> {
     let (line, status, out, message) = *row;
-    let mut shelf = Shelf { failed: false };
+    let mut shelf = Shelf {
+        failed: false,
+        lost: false,
+    };
     let (found, output, said) = ended(&mut shelf, alloc, line, None)?;
-    Ok(found == status && output.bytes() == out && said.as_slice() == message)
+    let is_lost = shelf.lost == (message == UNREAD);
+    Ok(found == status && output.bytes() == out && said.as_slice() == message && is_lost)
 }
 
 #[test]
@@ -157,7 +190,10 @@ const FULL: [(&str, &[u8]); 4] = [
 #[test]
 fn full_output(rt: HostRuntime) -> Result<(), Fail> {
     for (line, written) in &FULL {
-        let mut shelf = Shelf { failed: false };
+        let mut shelf = Shelf {
+            failed: false,
+            lost: false,
+        };
         let (status, output, said) = ended(&mut shelf, rt.alloc(), line, Some(3))?;
         let is_said = said.as_slice() == b"autbis: read or write failed\n".as_slice();
         check(line, output.bytes() == *written && status == 5 && is_said)?;

@@ -1,21 +1,24 @@
-use Rattle.std.proofs.Common.{inl, inr, refl}
+use Rattle.std.proofs.Common.{◌∙◌, inl, inr, refl}
 use Rattle.autbis.specs.Jobs.EndsIn.{given_up, ran}
 use Rattle.autbis.specs.Programs.AnswersWords.{job, no_job}
 use Rattle.autbis.proofs.Ending.{ends_told}
+use Rattle.autbis.proofs.InOrder.{all_closed}
 use Rattle.autbis.proofs.job.main_program.Goals as goal
 
-pub returns-in-Err : goal.returns-in-Err
-returns-in-Err g c = record { answer = no_job c.in-Err.fault c.in-Err.ensures.fault refl refl c.answer_words.ensures.ends }
+pub returns-in-Err-clause-answer : goal.returns-in-Err-clause-answer
+returns-in-Err-clause-answer g c = no_job c.in-Err.fault c.in-Err.ensures.fault refl refl c.answer_words.ensures.ends
 
-pub returns-in-Ok-open_job : goal.returns-in-Ok-open_job
-returns-in-Ok-open_job g c =
+pub returns-in-Ok-open_job-clause-answer : goal.returns-in-Ok-open_job-clause-answer
+returns-in-Ok-open_job-clause-answer g c =
     let is = c.in-Ok-open_job.ensures.opened in
     let named = is.texts.files in
-    record {
-      answer = job c.in-Ok.job c.in-Ok.ensures.job (ran is.all (λ texts. c.run_opened.ensures.unread (named.1 texts)) _ is.hidden
-          (rw (← is.relation) (ends_told (is.texts.contents _) (λ sound. sound)
-          (λ lost. elim lost [ inl input ↦ inl input | inr (are, file) ↦ inr (named.0 are, file) ]) c.run_opened.ensures.ends)));
-    }
+    let ran_to = c.run_opened-status.ensures in
+    let closed = c.close_texts.ensures in
+    job c.in-Ok.job c.in-Ok.ensures.job (ran (all_closed _ closed.others is.all)
+    (λ texts. ran_to.unread (named.1 texts)) _ is.hidden
+    (ends_told (is.texts.contents _) (λ sound. (sound.0, closed.sound sound.1 ∙ is.none_lost))
+    (λ lost. elim lost [ inl input ↦ inl input | inr (are, one) ↦ inr (named.0 are, closed.lost one) ]) ran_to.ends))
 
-pub returns : goal.returns
-returns g c = record { answer = job c.in-Ok.job c.in-Ok.ensures.job (given_up c.in-Err-open_job.ensures.given_up refl refl) }
+pub returns-clause-answer : goal.returns-clause-answer
+returns-clause-answer g c =
+    job c.in-Ok.job c.in-Ok.ensures.job (given_up c.in-Err-open_job.ensures.given_up refl refl)

@@ -1,23 +1,26 @@
-use Rattle.std.proofs.Common.{inl, inr, refl}
+use Rattle.std.proofs.Common.{◌∙◌, ap, inl, inr}
 use Rattle.autbis.proofs.Ending.{ends_told, told_itself}
 use Rattle.autbis.proofs.job.run_opened.Goals as goal
 
-pub returns-in-Input : goal.returns-in-Input
-returns-in-Input g c = record {
-  ends = rw (c.in-Input.is, ← c.file.ensures) (ends_told (told_itself _) (λ sound. sound) inl c.min_program.ensures.ends);
-  unread = λ are. absurd (rw c.in-Input.is at are);
-}
+pub returns-in-Input-clause-ends : goal.returns-in-Input-clause-ends
+returns-in-Input-clause-ends g c = rw (c.in-Input.is, ← c.relation_of-rel.ensures, ← c.file.ensures)
+    (ends_told (told_itself _) (λ sound. (sound, tt)) inl c.min_program.ensures.ends)
 
-pub returns-in-One : goal.returns-in-One
-returns-in-One g c = record {
-  ends = rw (c.in-One.is, ← c.file.ensures)
-      (ends_told (told_itself _) (λ sound. c.requires.input) (λ failed. inr (tt, (_, failed))) c.min_program-in-One.ensures.ends);
-  unread = λ are. refl;
-}
+pub returns-in-One-clause-ends : goal.returns-in-One-clause-ends
+returns-in-One-clause-ends g c = rw (c.in-One.is, ← c.relation_of-rel.ensures, ← c.file.ensures)
+    (ends_told (told_itself _) (λ sound. (c.requires.input, sound)) (λ failed. inr (tt, failed))
+    c.min_program-in-One.ensures.ends)
 
-pub returns : goal.returns
-returns g c = record {
-  ends = rw (c.in-Two.is, ← c.file.ensures) (ends_told (told_itself _, told_itself _) (λ sound. c.requires.input)
-      (λ failed. inr (tt, elim failed [ inl (first, _) ↦ (_, first) | inr (_, second) ↦ (_, second) ])) c.cmp_program.ensures.ends);
-  unread = λ are. refl;
-}
+pub returns-in-Two-clause-ends : goal.returns-in-Two-clause-ends
+returns-in-Two-clause-ends g c =
+    let sound = rw c.in-Two.is at c.requires.texts in
+    rw (c.in-Two.is, ← c.relation_of-rel.ensures, ← c.file.ensures)
+    (ends_told (told_itself _, told_itself _) (λ kept. (c.requires.input, kept))
+    (λ failed. inr (
+      tt,
+      elim failed [
+        | inl (first, same) ↦ inl (first, ap g.S.Source.failures same ∙ sound.1)
+        | inr second ↦ inr second
+      ],
+    ))
+    c.cmp_program.ensures.ends)

@@ -6,23 +6,31 @@ use Rattle.autbis.proofs.Carried.{of_all}
 use Rattle.autbis.proofs.Ending.{ends_run, minimised}
 use Rattle.autbis.proofs.program.min_program.Goals as goal
 
-pub returns-then-stats : goal.returns-then-stats
-returns-then-stats g c =
+pub returns-then-stats-clause-ends : goal.returns-then-stats-clause-ends
+returns-then-stats-clause-ends g c =
     let got = c.in-Ok.ensures.outcome in
     let ran = got.outcome in
-    record { ends = answered ran.exhausted.1 (listed ran.to.output) (of_all _ _ got.given _ got.took ran.exhausted.0 (minimised ran.to refl)) ran.written.0 ran.written.1 }
+    answered ran.exhausted.1 (listed ran.to.output)
+    (of_all _ _ got.given _ got.took ran.exhausted.0 (minimised ran.to refl)) ran.written.0 ran.written.1
 
-pub returns-else-stats : goal.returns-else-stats
-returns-else-stats g c =
+pub returns-then-stats-clause-shown : goal.returns-then-stats-clause-shown
+returns-then-stats-clause-shown g c zero asked =
     let got = c.in-Ok.ensures.outcome in
     let ran = got.outcome in
-    record { ends = answered ran.exhausted.1 (listed ran.to.output) (of_all _ _ got.given _ got.took ran.exhausted.0 (minimised ran.to refl)) ran.written.0 ran.written.1 }
+    of_all _ _ got.given _ got.took ran.exhausted.0
+    (ran.to.input, ran.to.read, _, ran.turns, rw ran.sizes at ran.keeps, rw ran.sizes at c.show_stats.ensures.line)
 
-pub returns-in-Err : goal.returns-in-Err
-returns-in-Err g c =
+pub returns-else-stats-clause-ends : goal.returns-else-stats-clause-ends
+returns-else-stats-clause-ends g c =
+    let got = c.in-Ok.ensures.outcome in
+    let ran = got.outcome in
+    answered ran.exhausted.1 (listed ran.to.output)
+    (of_all _ _ got.given _ got.took ran.exhausted.0 (minimised ran.to refl)) ran.written.0 ran.written.1
+
+pub returns-in-Err-clause-ends : goal.returns-in-Err-clause-ends
+returns-in-Err-clause-ends g c =
     let got = c.in-Err.ensures.outcome in
-    record {
-      ends = rw c.report.ensures.status (ends_run (asks c.args.rel c.args.lim.now c.args.h.now)
-          (c.a_text_reads_or_has_a_fault.ensures.not_both c.args.lim.now)
-          (used g.W.Sink.written g.W.Sink.failures c.args.w.now c.run_min.new.w) got.took c.in-Err.ensures.untouched got.outcome);
-    }
+    rw c.report.ensures.status (ends_run (asks c.args.rel c.args.lim.now c.args.h.now)
+    (c.a_text_reads_or_has_a_fault.ensures.not_both c.args.lim.now)
+    (used g.W.Sink.written g.W.Sink.failures c.args.w.now c.run_min.new.w) got.took
+    c.in-Err.ensures.untouched got.outcome)

@@ -1,13 +1,14 @@
-use Rattle.std.proofs.Common.{rules, inl, inr, ap, ap₂, List, Result, Ok, Err, IfErr, map, refl, subst, sym, ◌≡◌, ◌∙◌, true}
+use Rattle.std.proofs.Common.{rules, inl, inr, ap, ap₂, arith, suc, List, [], ◌∷◌, Any, Result, Ok, Err, IfErr, map, refl, subst, sym, ◌≡◌, ◌∙◌, true}
 use Rattle.std.specs.Prelude.{string_bytes}
 use Rattle.std.proofs.lemmas.Result.{IfOk-weaker}
 use Rattle.clap.specs.Words.{HasKind, IsAmong, Text, fault_of, is_simple, is_simple_and_free, subcommand_of}
 use Rattle.clap.specs.declared.error.Error.{Error}
+use Rattle.clap.specs.declared.error.kind.ErrorKind.{ErrorKind}
 use Rattle.clap.specs.Values.{kind_of}
 use Rattle.words.specs.declared.words.Job.{Job}
 use Rattle.words.specs.declared.words.WordFault.{WordFault}
 use Rattle.words.specs.declared.words.WordFault.TheVariants as fault
-use Rattle.words.specs.Words.{AreTaken, IsFaultIn, IsFaultOf, IsFaultOfAJob, IsFaultOfKind, IsJobIn, IsWholeIn, program_app}
+use Rattle.words.specs.Words.{AreTaken, IsFaultIn, IsFaultOf, IsFaultOfAJob, IsFaultOfKind, IsHelp, IsJobIn, IsWholeIn, program_app}
 use Rattle.words.proofs.words.command.Goals as goal
 
 -- the program's words are such that all that `clap` promises holds of them
@@ -22,7 +23,7 @@ taken_fault : (words : List Text) (f : WordFault) → AreTaken words → IsFault
     (IsWholeIn (subcommand_of program_app words) → IsFaultOfAJob f) → IsFaultOf words f
 taken_fault words (fault.Relation named) taken is asked = (taken, is)
 taken_fault words (fault.Help text) taken is asked = absurd is
-taken_fault words (fault.Usage text) taken is asked = λ a. asked a.1
+taken_fault words (fault.Usage text) taken is asked = inl (taken, asked)
 taken_fault words fault.Memory taken is asked = tt
 
 taken_error : (words : List Text) (r : Result Job WordFault) → AreTaken words → IfErr r (IsFaultIn (subcommand_of program_app words)) →
@@ -30,13 +31,21 @@ taken_error : (words : List Text) (r : Result Job WordFault) → AreTaken words 
 taken_error words (Ok job) taken is asked = tt
 taken_error words (Err f) taken is asked = taken_fault words f taken is asked
 
+-- what holds of one kind holds of one of them, if it is among them
+some_kind : (P : ErrorKind → Type 0) (kind : ErrorKind) (kinds : List ErrorKind) →
+    IsAmong kind kinds → P kind → Any P kinds
+some_kind P kind [] among holds = elim among [ ]
+some_kind P kind (first ∷ rest) (inl is) holds = (0, first, omega arith, refl, rw is at holds)
+some_kind P kind (first ∷ rest) (inr among) holds =
+    let (k, other, below, at, does) = some_kind P kind rest among holds in (suc k, other, omega arith, at, does)
+
 -- words in which `clap` finds a fault of this kind have the fault of this kind
 found_fault : (words : List Text) (e : Error) (f : WordFault) → IsAmong (kind_of e) (fault_of program_app words) → IsFaultOfKind (kind_of e) f →
     IsFaultOf words f
 found_fault words e (fault.Relation named) among is = absurd is
-found_fault words e (fault.Help text) among (inl help) = inl (subst (λ k. IsAmong k (fault_of program_app words)) help among)
-found_fault words e (fault.Help text) among (inr version) = inr (subst (λ k. IsAmong k (fault_of program_app words)) version among)
-found_fault words e (fault.Usage text) among is = λ a. subst (IsAmong (kind_of e)) a.0 among
+found_fault words e (fault.Help text) among is = some_kind IsHelp (kind_of e) (fault_of program_app words) among is
+found_fault words e (fault.Usage text) among is =
+    inr (some_kind (λ kind. ¬ IsHelp kind) (kind_of e) (fault_of program_app words) among is)
 found_fault words e fault.Memory among is = tt
 
 pub returns-in-Ok : goal.returns-in-Ok

@@ -1,7 +1,7 @@
-use Rattle.std.proofs.Common.{ap, ap₂, ◌∙◌, codes, true}
+use Rattle.std.proofs.Common.{ap, ap₂, ◌∙◌, true}
 use Rattle.std.proofs.lemmas.Result.{IfOk-weaker}
 use Rattle.clap.specs.Simple.{app_of_fields}
-use Rattle.clap.specs.Words.{App, app_of, new_app, with_subcommand}
+use Rattle.clap.specs.Words.{App, with_subcommand}
 use Rattle.words.proofs.words.described.Goals as goal
 
 pub returns : goal.returns

@@ -1,0 +1,94 @@
+//! The line of `--stats`.
+ghost use Rattle.std.specs.Prelude.{◌≡◌, ◌≤◌, ◌+◌, ◌++◌, length, take, decimal};
+ghost use Rattle.lts.specs.Meter as meter;
+ghost use Rattle.autfmt.specs.Stream.{AppendsBeginning};
+ghost use Rattle.autbis.specs.Reports.{stats_line};
+ghost use Rattle.theory.specs.Quotient.{allowance};
+
+use crate::reports::say;
+use crate::run::Counts;
+use itoa::Buffer;
+use lts::Meter;
+use quotient::Relation;
+use std::io::Write;
+
+/// Room for a count: a word of at most 16 bytes, and at most 40 digits.
+const COUNT: usize = 56;
+
+/// Room for the line: five counts and a line feed.
+const LINE: usize = 281;
+
+/// Says the counts of a run on `e`, in one line. A failure to write is passed over.
+pub fn show_stats<M: Meter, E: Write>(counts: Counts, rel: Relation, m: &M, e: &mut E)
+    requires { (M.counted m.now).rounds ≤ counts.states }
+    ensures line { AppendsBeginning (E.contents e.old) (E.contents e.new)
+        (stats_line rel counts (M.counted m.now)) }
+{
+    let mut line = [0; LINE];
+    let end = spell_stats(&mut line, counts, rel, m.rounds(), m.visits());
+    say(&line[..end], e);
+}
+
+/// Puts the line at the front of the buffer, and returns where it ends.
+fn spell_stats(
+    buffer: &mut [u8],
+    counts: Counts,
+    rel: Relation,
+    rounds: u128,
+    visits: u128,
+) -> usize
+    requires room { LINE ≤ length buffer.old }
+    requires rounds { rounds ≤ counts.states }
+    ensures text { take result buffer.new
+        ≡ stats_line rel counts (record { rounds = rounds; visits = visits }) }
+    ensures end { result ≤ LINE }
+{
+    let allowance = allowed_visits(counts, rel, rounds);
+    let end = append_count(buffer, 0, b"stats: states ", u128::from(counts.states));
+    let end = append_count(
+        buffer,
+        end,
+        b" transitions ",
+        u128::from(counts.transitions),
+    );
+    let end = append_count(buffer, end, b" rounds ", rounds);
+    let end = append_count(buffer, end, b" visits ", visits);
+    let end = append_count(buffer, end, b" allowance ", allowance);
+    append(buffer, end, b"\n")
+}
+
+/// Puts a word and a count at `end`, and returns where they end.
+fn append_count(buffer: &mut [u8], end: usize, word: &[u8], count: u128) -> usize
+    requires word { length word.now ≤ 16 }
+    requires room { end + COUNT ≤ length buffer.old }
+    ensures text { take result buffer.new ≡ take end buffer.old ++ word.now ++ decimal count }
+    ensures end { result ≤ end + COUNT }
+{
+    let mut digits = Buffer::new();
+    let end = append(buffer, end, word);
+    append(buffer, end, digits.format(count).as_bytes())
+}
+
+/// Puts bytes at `end`, and returns where they end.
+fn append(buffer: &mut [u8], end: usize, bytes: &[u8]) -> usize
+    requires { end + length bytes.now ≤ length buffer.old }
+    ensures text { take result buffer.new ≡ take end buffer.old ++ bytes.now }
+    ensures end { result ≡ end + length bytes.now }
+{
+    let new_end = end + bytes.len();
+    buffer[end..new_end].copy_from_slice(bytes);
+    new_end
+}
+
+/// The most visits that a run of so many rounds may make.
+fn allowed_visits(counts: Counts, rel: Relation, rounds: u128) -> u128
+    requires { rounds ≤ counts.states }
+    ensures { result ≡ allowance rel counts.states counts.transitions rounds }
+{
+    match rel {
+        Relation::Strong => (rounds + 2) * u128::from(counts.transitions),
+        Relation::Branching => {
+            (rounds * u128::from(counts.states) + 2) * u128::from(counts.transitions)
+        }
+    }
+}
