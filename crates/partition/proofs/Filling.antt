@@ -1,15 +1,15 @@
 -- Which list keeps the number of a block, once all lists have voted: the empty one, if the block has states that are not looked at.
 use Rattle.std.proofs.Common.{◌≡◌, ◌∙◌, ◌⊎◌, ℕ, suc, ◌+◌, ◌*◌, ◌<◌, ◌≤◌, List, length, slice_index, set, replicate, ap, sym, subst, refl, inl, inr, arith}
-use Rattle.std.proofs.lemmas.Bool.{cases_lt, cases_eq}
-use Rattle.std.proofs.lemmas.List.{length-set, length-replicate, get_or_past, get_or-replicate, get_or-set_same, get_or-set_other}
+use Rattle.std.proofs.lemmas.Bool.{cases_lt, cases_eq, cond_below, cond_above}
+use Rattle.std.proofs.lemmas.List.{length-set, length-replicate, get_or-set_same, get_or-set_other}
 use Rattle.partition.specs.Sizes.{AreSizesWithout, block_size}
 use Rattle.partition.specs.Blocks.{AreLive, HaveNone, IsOne}
 use Rattle.partition.specs.Representatives.{HasKeeper, HaveVoted, AreKeepers, HaveKeepers}
 use Rattle.partition.proofs.Counting.{block_size-some}
+use Rattle.partition.proofs.Refilling.{zero_at}
 use Rattle.partition.proofs.Taking.{left_over}
-use Rattle.partition.specs.Halving.{PartSmall, BoundVotes, ballots, votes_for}
+use Rattle.partition.specs.Halving.{PartSmall, BoundVotes, ballots, votes_for, block_at}
 use Rattle.partition.proofs.Voting.{block_size-within, length-ballots, ballot_of}
-use Rattle.partition.proofs.Keeping.{IsMet}
 
 -- what keeps the number of the block b: the empty list if there are others, or else the list that was voted for
 abbrev pub IsDecided : List ℕ → List ℕ → List ℕ → List ℕ → ℕ → Type 0
@@ -17,51 +17,46 @@ IsDecided sizes voted first keepers b =
     ((slice_index keepers b ≡ 0) × (0 < slice_index sizes b) × ((slice_index voted b ≡ 0) ⊎ (slice_index first b ≤ slice_index sizes b)))
     ⊎ ((slice_index keepers b ≡ slice_index voted b) × (slice_index sizes b ≡ 0))
 
--- so far for the blocks of the first i states that are looked at, by keepers that agree with those of these blocks
-pub record DecidedUpTo (of live : List ℕ) (i : ℕ) (sizes voted first keepers votes all : List ℕ) : Type 0 where
+-- the block b is in one of the first i places
+abbrev pub HasPlace : (ℕ → ℕ) → ℕ → ℕ → Type 0
+HasPlace block_at i b = (j : ℕ) × (j < i) × (block_at j ≡ b)
+
+-- so far for the blocks in the first i places, by keepers that agree with those of these blocks
+pub record DecidedUpTo (block_at : ℕ → ℕ) (i : ℕ) (sizes voted first keepers votes all : List ℕ) : Type 0 where
   pub room : length keepers ≡ length sizes
   pub votes_room : length votes ≡ length sizes
   pub all_room : length all ≡ length sizes
   pub same : (b : ℕ) → slice_index sizes b ≡ 0 → slice_index keepers b ≡ slice_index voted b
-  pub agree : (j : ℕ) → j < i → let b = slice_index of (slice_index live j) in slice_index keepers b ≡ slice_index all b
-  pub decided : (j : ℕ) → j < i → IsDecided sizes voted first keepers (slice_index of (slice_index live j))
-  pub unmet : (b : ℕ) → (slice_index all b ≡ 0) ⊎ IsMet of live i b
-  pub none : (j : ℕ) → j < i → slice_index votes (slice_index of (slice_index live j)) ≡ 0
+  pub agree : (j : ℕ) → j < i → slice_index keepers (block_at j) ≡ slice_index all (block_at j)
+  pub decided : (j : ℕ) → j < i → IsDecided sizes voted first keepers (block_at j)
+  pub unmet : (b : ℕ) → (slice_index all b ≡ 0) ⊎ HasPlace block_at i b
+  pub none : (j : ℕ) → j < i → slice_index votes (block_at j) ≡ 0
   pub fewer : (b : ℕ) → slice_index first b ≡ 0 → slice_index votes b ≡ 0
-  pub fresh : (b : ℕ) → ((slice_index keepers b ≡ slice_index voted b) × (slice_index votes b ≡ slice_index first b)) ⊎ IsMet of live i b
+  pub fresh : (b : ℕ) → ((slice_index keepers b ≡ slice_index voted b) × (slice_index votes b ≡ slice_index first b)) ⊎ HasPlace block_at i b
   pub stays : (b : ℕ) → (slice_index keepers b ≡ slice_index voted b) ⊎ (slice_index keepers b ≡ 0)
 
-zeros_at : (n b : ℕ) → slice_index (replicate n 0) b ≡ 0
-zeros_at n b = elim (cases_lt b n) [
-  | inl low ↦ get_or-replicate n b 0 0 low
-  | inr high ↦ get_or_past (replicate n 0) b 0 (omega (arith, high, length-replicate {A = ℕ} n 0))
-]
-
-pub DecidedUpTo-none : (of live sizes voted first : List ℕ) → length voted ≡ length sizes → length first ≡ length sizes
-    → DecidedUpTo of live 0 sizes voted first voted first (replicate (length sizes) 0)
-DecidedUpTo-none of live sizes voted first room votes_room = record {
+pub DecidedUpTo-none : (block_at : ℕ → ℕ) (sizes voted first : List ℕ) → length voted ≡ length sizes → length first ≡ length sizes
+    → DecidedUpTo block_at 0 sizes voted first voted first (replicate (length sizes) 0)
+DecidedUpTo-none block_at sizes voted first room votes_room = record {
   room = room;
   votes_room = votes_room;
   all_room = length-replicate {A = ℕ} (length sizes) 0;
   same = λ b h. refl;
   agree = λ j h. absurd (omega (arith, h));
   decided = λ j h. absurd (omega (arith, h));
-  unmet = λ b. inl (zeros_at (length sizes) b);
+  unmet = λ b. inl (zero_at (length sizes) b);
   none = λ j h. absurd (omega (arith, h));
   fewer = λ b h. h;
   fresh = λ b. inl (refl, refl);
   stays = λ b. inl refl;
 }
 
-module _ (of live : List ℕ) (i : ℕ) (sizes voted first keepers votes all : List ℕ) (below : slice_index of (slice_index live i) < length sizes)
-    (up : DecidedUpTo of live i sizes voted first keepers votes all) where
+module _ (block_at : ℕ → ℕ) (i : ℕ) (sizes voted first keepers votes all : List ℕ) (below : block_at i < length sizes)
+    (up : DecidedUpTo block_at i sizes voted first keepers votes all) where
   abbrev b : ℕ
-  b = slice_index of (slice_index live i)
+  b = block_at i
 
-  abbrev block_at : ℕ → ℕ
-  block_at j = slice_index of (slice_index live j)
-
-  pub earlier_place : (j : ℕ) → j < i + 1 → ¬ (block_at j ≡ b) → j < i
+  earlier_place : (j : ℕ) → j < i + 1 → ¬ (block_at j ≡ b) → j < i
   earlier_place j h d = elim (cases_lt j i) [
     | inl low ↦ low
     | inr high ↦ let here : j ≡ i = omega (arith, h, high) in absurd (d (ap block_at here))
@@ -70,7 +65,7 @@ module _ (of live : List ℕ) (i : ℕ) (sizes voted first keepers votes all : L
   -- the next block has the keeper x, which is the empty list if it has others, and else what it was
   DecidedUpTo-more : (x : ℕ) (keepers' : List ℕ) → ((x ≡ 0) × (0 < slice_index sizes b) × ((slice_index voted b ≡ 0) ⊎ (slice_index first b ≤ slice_index sizes b))) ⊎ ((x ≡ slice_index keepers b) × (slice_index sizes b ≡ 0))
       → length keepers' ≡ length keepers → slice_index keepers' b ≡ x → ((k : ℕ) → ¬ (k ≡ b) → slice_index keepers' k ≡ slice_index keepers k)
-      → DecidedUpTo of live (i + 1) sizes voted first keepers' (set votes b 0) (set all b x)
+      → DecidedUpTo block_at (i + 1) sizes voted first keepers' (set votes b 0) (set all b x)
   DecidedUpTo-more x keepers' either size now rest =
       let now_all = get_or-set_same all b x 0 (omega (arith, below, up.all_room)) in
       let now_votes = get_or-set_same votes b 0 0 (omega (arith, below, up.votes_room)) in
@@ -143,22 +138,42 @@ module _ (of live : List ℕ) (i : ℕ) (sizes voted first keepers votes all : L
   ]
 
   pub DecidedUpTo-others : 0 < slice_index sizes b → (slice_index keepers b ≡ 0) ⊎ (slice_index votes b ≤ slice_index sizes b)
-      → DecidedUpTo of live (i + 1) sizes voted first (set keepers b 0) (set votes b 0) (set all b 0)
+      → DecidedUpTo block_at (i + 1) sizes voted first (set keepers b 0) (set votes b 0) (set all b 0)
   DecidedUpTo-others some win =
       DecidedUpTo-more 0 (set keepers b 0) (inl (refl, some, have_won some win)) (length-set keepers b 0) (get_or-set_same keepers b 0 0 (omega (arith, below, up.room)))
       (λ k d. get_or-set_other keepers b k 0 0 d)
 
   -- or none
-  pub DecidedUpTo-voted : slice_index sizes b ≡ 0 → DecidedUpTo of live (i + 1) sizes voted first keepers (set votes b 0) (set all b (slice_index keepers b))
+  pub DecidedUpTo-voted : slice_index sizes b ≡ 0 → DecidedUpTo block_at (i + 1) sizes voted first keepers (set votes b 0) (set all b (slice_index keepers b))
   DecidedUpTo-voted none = DecidedUpTo-more (slice_index keepers b) keepers (inr (refl, none)) refl refl (λ k d. refl)
 
--- when all blocks that are looked at are decided
-module _ (of numbers live sizes voted first keepers votes all : List ℕ) (below : (t : ℕ) → t < length of → slice_index of t < length of)
+-- the block of each state that is looked at has a place
+pub has_place : (of live : List ℕ) (blocks places : ℕ) → ((k : ℕ) → k < blocks → k < length live → k < places)
+    → ((j : ℕ) → j < length live → slice_index of (slice_index live j) < blocks)
+    → (j : ℕ) → j < length live → HasPlace (block_at of live blocks) places (slice_index of (slice_index live j))
+has_place of live blocks places end below j h =
+    let b = slice_index of (slice_index live j) in
+    elim (cases_lt (length live) blocks) [
+      | inl less ↦ (j, end j (omega (arith, h, less)) h, sym (cond_below (length live) blocks b j less))
+      | inr few ↦
+          let inside = end b (below j h) (omega (arith, below j h, few)) in
+          (b, inside, sym (cond_above (length live) blocks (slice_index of (slice_index live b)) b b few refl))
+    ]
+
+-- when all are decided, that of each state that is looked at among them
+module _ (of numbers live sizes voted first keepers votes all : List ℕ) (block_at : ℕ → ℕ) (places : ℕ) (below : (t : ℕ) → t < length of → slice_index of t < length of)
     (inside : (t : ℕ) → t < length of → slice_index of t < length sizes) (rises : AreLive (length of) live)
     (zeros : HaveNone live numbers) (size : length numbers ≡ length of) (without : AreSizesWithout of live 0 (length live) sizes)
-    (has : HaveVoted of numbers live voted first) (up : DecidedUpTo of live (length live) sizes voted first keepers votes all) where
+    (has : HaveVoted of numbers live voted first) (up : DecidedUpTo block_at places sizes voted first keepers votes all)
+    (placed : (j : ℕ) → j < length live → HasPlace block_at places (slice_index of (slice_index live j))) where
   abbrev left : List ℕ
   left = without.0
+
+  decided_at : (j : ℕ) → j < length live → IsDecided sizes voted first keepers (slice_index of (slice_index live j))
+  decided_at j h = let w = placed j h in subst (IsDecided sizes voted first keepers) w.2 (up.decided w.0 w.1)
+
+  agree_at : (j : ℕ) → j < length live → let b = slice_index of (slice_index live j) in slice_index keepers b ≡ slice_index all b
+  agree_at j h = let w = placed j h in subst (λ b. slice_index keepers b ≡ slice_index all b) w.2 (up.agree w.0 w.1)
 
   -- a block that has more states has one with the empty list
   others : (t : ℕ) → t < length of → 0 < slice_index sizes (slice_index of t)
@@ -196,7 +211,7 @@ module _ (of numbers live sizes voted first keepers votes all : List ℕ) (below
       let w = has.kept one.0 one.1 in
       let same = ap (slice_index of) (sym one.2) in
       let voted_all : slice_index voted (slice_index of w.0) ≡ slice_index all (slice_index of w.0) =
-      sym (up.same (slice_index of w.0) (ap (slice_index sizes) (w.2 ∙ here) ∙ none)) ∙ ap (slice_index keepers) w.2 ∙ up.agree one.0 one.1 ∙ ap (slice_index all) (sym w.2) in
+      sym (up.same (slice_index of w.0) (ap (slice_index sizes) (w.2 ∙ here) ∙ none)) ∙ ap (slice_index keepers) w.2 ∙ agree_at one.0 one.1 ∙ ap (slice_index all) (sym w.2) in
       (w.0, w.1, w.2 ∙ here, w.3 ∙ voted_all)
 
   keepers_all : AreKeepers of numbers live all
@@ -218,13 +233,13 @@ module _ (of numbers live sizes voted first keepers votes all : List ℕ) (below
   }
 
   pub keepers_decided : HaveKeepers of numbers live keepers
-  keepers_decided = record { room = λ i h. omega (arith, inside _ (rises.below i h), up.room); same = (all, keepers_all, up.agree) }
+  keepers_decided = record { room = λ i h. omega (arith, inside _ (rises.below i h), up.room); same = (all, keepers_all, agree_at) }
 
   -- no votes are left
   pub none_left : (b : ℕ) → slice_index votes b ≡ 0
   none_left b = elim (has.met b) [
     | inl none ↦ up.fewer b none
-    | inr m ↦ ap (slice_index votes) (sym m.2) ∙ up.none m.0 m.1
+    | inr m ↦ let w = placed m.0 m.1 in ap (slice_index votes) (sym m.2 ∙ sym w.2) ∙ up.none w.0 w.1
   ]
 
   module _ (bound : BoundVotes of numbers live (length live) sizes voted first) where
@@ -233,7 +248,7 @@ module _ (of numbers live sizes voted first keepers votes all : List ℕ) (below
         → votes_for of numbers live (length live) b list * 2 ≤ block_size of b
     few_votes j h list other =
         let b = slice_index of (slice_index live j) in
-        elim (up.decided j h) [
+        elim (decided_at j h) [
           | inr y ↦ omega (arith, bound.others b list (λ e. other (e ∙ sym y.0)))
           | inl y ↦ elim (cases_eq list (slice_index voted b)) [
             | inr d ↦ omega (arith, bound.others b list d)
@@ -247,7 +262,7 @@ module _ (of numbers live sizes voted first keepers votes all : List ℕ) (below
     -- its states are looked at
     looked_at : (j : ℕ) → j < length live → (t : ℕ) → t < length of → slice_index of t ≡ slice_index of (slice_index live j)
         → ¬ (slice_index numbers t ≡ slice_index keepers (slice_index of (slice_index live j))) → IsOne live t
-    looked_at j h t ht same other = elim (up.decided j h) [
+    looked_at j h t ht same other = elim (decided_at j h) [
       | inr y ↦ all_met t ht (ap (slice_index sizes) same ∙ y.1)
       | inl y ↦ elim (zeros t (omega (arith, ht, size))) [ inl one ↦ one | inr zero ↦ absurd (other (zero ∙ sym y.0)) ]
     ]

@@ -53,13 +53,13 @@ module _ (old numbers live : List ℕ) (i : ℕ) (keepers votes : List ℕ) (ins
     | inr d ↦ elim (up.met k) [ inl none ↦ inl (get_or-set_other votes b k v 0 d ∙ none) | inr m ↦ inr (m.0, omega (arith, m.1), m.2) ]
   ]
 
-  -- the block had votes, and keeps its list
-  pub kept_old : (v : ℕ) → 0 < slice_index votes b → KeptUpTo old numbers live (i + 1) keepers (set votes b v)
-  kept_old v some = record {
+  -- the block keeps its list, which a state of it has
+  pub kept_old : (v : ℕ) → HasKeeper old numbers keepers s → KeptUpTo old numbers live (i + 1) keepers (set votes b v)
+  kept_old v has = record {
     room = up.room;
     votes_room = λ t h. omega (arith, up.votes_room t h, length-set votes b v);
     keeps = λ t ht h. elim (cases_eq (slice_index old t) b) [
-      | inl e ↦ up.keeps t ht (inr (rw e some))
+      | inl e ↦ (has.0, has.1, has.2 ∙ sym e, has.3)
       | inr d ↦ up.keeps t ht (before v t d h)
     ];
     met = met_more v;

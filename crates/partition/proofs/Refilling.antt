@@ -24,7 +24,8 @@ without_old old new live sizes states beside without =
       },
     )
 
-zero_at : (n b : ℕ) → slice_index (replicate n 0) b ≡ 0
+-- each of n zeros is 0, and what is past them too
+pub zero_at : (n b : ℕ) → slice_index (replicate n 0) b ≡ 0
 zero_at n b = elim (cases_lt b n) [
   | inl low ↦ get_or-replicate n b 0 0 low
   | inr high ↦ get_or_past (replicate n 0) b 0 (omega (arith, high, length-replicate {A = ℕ} n 0))

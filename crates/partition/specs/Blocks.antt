@@ -23,7 +23,7 @@ pub record AreLive (states : ℕ) (live : List ℕ) : Type 0 where
   pub below : (i : ℕ) → i < length live → slice_index live i < states
   pub rising : (i j : ℕ) → i < j → j < length live → slice_index live i < slice_index live j
 
--- what holds of the blocks of a round. The states that are alone were left out when there were no more blocks than now
+-- what holds of the blocks of a round. So many states were known to be alone when such states were left out
 pub record IsRound (of : List ℕ) (count : ℕ) (live : List ℕ) (known : ℕ) (kept : Option Counts) : Type 0 where
   pub blocks : AreBlocks of count
   pub rising : AreLive (length of) live

@@ -1,8 +1,8 @@
 -- Parts of at most half a block, and the votes by which they are found.
-use Rattle.std.specs.Prelude.{◌≡◌, ◌⊎◌, ℕ, zero, suc, ◌+◌, ◌*◌, ◌<◌, ◌≤◌, cond, eqb, List, length, slice_index, set, replicate}
+use Rattle.std.specs.Prelude.{◌≡◌, ◌⊎◌, ℕ, zero, suc, ◌+◌, ◌*◌, ◌<◌, ◌≤◌, cond, eqb, ltb, List, length, slice_index, set, replicate}
 use Rattle.partition.specs.Splitting.{Alike}
 use Rattle.partition.specs.Sizes.{block_size, OthersLose}
-use Rattle.partition.specs.Blocks.{IsOne}
+use Rattle.partition.specs.Blocks.{IsOne, AreLive, AreAmong}
 use Rattle.partition.specs.Representatives.{KeepsNumber}
 use Rattle.partition.specs.declared.counted.Counts.{Counts}
 
@@ -32,13 +32,19 @@ pub record BoundVotes (of numbers live : List ℕ) (i : ℕ) (sizes keepers vote
   pub others : (b list : ℕ) → ¬ (list ≡ slice_index keepers b) → votes_for of numbers live i b list * 2 + slice_index votes b + slice_index sizes b ≤ block_size of b
   pub room : (b : ℕ) → slice_index votes b + slice_index sizes b ≤ block_size of b
 
+-- the block in place i of those that are decided: of so many blocks each one, or that of each state that is looked at, if blocks are more
+abbrev pub block_at : List ℕ → List ℕ → ℕ → ℕ → ℕ
+block_at of live blocks i = cond (ltb (length live) blocks) (slice_index of (slice_index live i)) i
+
 -- in the block of a state that is looked at, those that are not lose
 abbrev pub SomeLose : List ℕ → List ℕ → Counts → Type 0
 SomeLose of live counts = (j : ℕ) × (j < length live) × OthersLose counts (slice_index of (slice_index live j))
 
--- of the states `wide` those that are not among `live` lose in their blocks
-abbrev pub AddsLosers : List ℕ → List ℕ → Counts → List ℕ → Type 0
-AddsLosers of live counts wide = (s : ℕ) → IsOne wide s → IsOne live s ⊎ OthersLose counts (slice_index of s)
+-- the states `wide` are those that are looked at, in rising order, and perhaps others that lose in their blocks
+pub record Widens (of live : List ℕ) (counts : Counts) (wide : List ℕ) : Type 0 where
+  pub rising : AreLive (length of) wide
+  pub among : AreAmong live wide
+  pub each : (s : ℕ) → IsOne wide s → IsOne live s ⊎ OthersLose counts (slice_index of s)
 
 -- there are more of them, if there is one that is not among `live` and loses
 abbrev pub AddsSome : List ℕ → List ℕ → Counts → List ℕ → Type 0

@@ -1,5 +1,5 @@
 -- Blocks that are split by what states have: two states stay together if they share a block and have the same.
-use Rattle.std.specs.Prelude.{◌≡◌, ◌↔◌, ℕ, ◌+◌, ◌-◌, ◌<◌, ◌≤◌, List, length, slice_index}
+use Rattle.std.specs.Prelude.{◌≡◌, ◌↔◌, ℕ, ◌<◌, ◌≤◌, List, length, slice_index}
 use Rattle.partition.specs.Partition.{AreBlocks}
 
 -- two states have one old block, and have the same

@@ -8,7 +8,8 @@ use growth::Memory;
 use std::alloc::Global;
 
 /// How often all states are gone over before chains are kept. A fixed number of times does not decide how the time of a run
-/// grows with its states. Most runs need no more, and chains would cost them memory and time.
+/// grows with its states. Most runs need no more, and chains would cost them memory, and up to an eighth of their time; each
+/// further time costs a pass over all states.
 const MOST_SCANS: u32 = 16;
 
 /// For each block a chain of the states that it got, from the last one down. Some may have left it. At first there are none.
@@ -162,7 +163,8 @@ impl Members {
     }
 }
 
-/// How many entries there may be, for so many states.
+/// How many entries there may be, for so many states: half as many more. When there are more, all chains go, and are begun
+/// anew once a split asks for states. With less room all states go into chains more often; each entry takes 8 bytes.
 fn most(states: usize) -> usize {
     states.saturating_add(states / 2).saturating_add(1)
 }

@@ -107,8 +107,8 @@ impl SignedBlocks {
         let _ = self.blocks.live();
     }
 
-    /// Leaves out the states that are alone in their blocks from what a round looks at, once there are over an eighth more blocks
-    /// than when that was done last. They have the empty list from now on. Once anything is noted, `split` leaves them out.
+    /// Leaves out the states that are alone in their blocks from what a round looks at, once they are more than one in 32 of these.
+    /// They have the empty list from now on. Once anything is noted, `split` leaves them out.
     ///
     /// Fails if there is no memory for it.
     pub fn renew(mut self) -> Result<SignedBlocks, Memory>

@@ -42,20 +42,19 @@ loop-s-preserved c =
       }
     ]
 
-pub returns-clause-rising : goal.returns-clause-rising
-returns-clause-rising c =
-    wide_rising c.args.live.now (length c.args.of.now) _ c.loop-s.s c.loop-s.k c.loop-s.wide.items c.requires.live c.loop-s.invariant.wide
-    (omega (arith, c.loop-s-test.false, c.loop-s.auto.s-end))
-
-pub returns-clause-among : goal.returns-clause-among
-returns-clause-among c =
-    wide_among c.args.live.now (length c.args.of.now) _ c.loop-s.s c.loop-s.k c.loop-s.wide.items c.requires.live c.loop-s.invariant.wide
-    (omega (arith, c.loop-s-test.false, c.loop-s.auto.s-end))
+pub returns-clause-widens : goal.returns-clause-widens
+returns-clause-widens c =
+    let live = c.args.live.now in
+    let wide = c.loop-s.wide.items in
+    let states = length c.args.of.now in
+    let end : c.loop-s.s ≡ states = omega (arith, c.loop-s-test.false, c.loop-s.auto.s-end) in
+    record {
+      rising = wide_rising live states _ c.loop-s.s c.loop-s.k wide c.requires.live c.loop-s.invariant.wide end;
+      among = wide_among live states _ c.loop-s.s c.loop-s.k wide c.requires.live c.loop-s.invariant.wide end;
+      each = c.loop-s.invariant.wide.each;
+    }
 
 pub returns-clause-more : goal.returns-clause-more
 returns-clause-more c =
     wide_more c.args.live.now (length c.args.of.now) _ c.loop-s.s c.loop-s.k c.loop-s.wide.items c.requires.live c.loop-s.invariant.wide
     (omega (arith, c.loop-s-test.false, c.loop-s.auto.s-end)) c.loop-s.invariant.within
-
-pub returns-clause-each : goal.returns-clause-each
-returns-clause-each c = c.loop-s.invariant.wide.each

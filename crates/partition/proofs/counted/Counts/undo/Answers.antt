@@ -2,12 +2,8 @@ use Rattle.std.proofs.Common.{◌≡◌, ◌∙◌, ◌⊎◌, ℕ, ◌+◌, ◌
 use Rattle.std.proofs.lemmas.Bool.{cases_eq}
 use Rattle.std.proofs.lemmas.List.{get_or_read, length-set, get_or-set_same, get_or-set_other}
 use Rattle.partition.proofs.Refilling.{few_left, without_less, sizes_back}
+use Rattle.partition.proofs.Living.{below_states}
 use Rattle.partition.proofs.counted.Counts.undo.Goals as goal
-use Rattle.partition.proofs.counted.Counts.undo.Goals.{Start}
-
--- each block is below the number of states
-below : (c : Start) (t : ℕ) → t < length c.args.of.now → slice_index c.args.of.now t < length c.args.of.now
-below c t h = omega (arith, c.requires.blocks.below t h, c.requires.blocks.fewer)
 
 -- the votes of the next block are taken away
 met_less : (of live votes : List ℕ) (i : ℕ) → let b = slice_index of (slice_index live i) in b < length votes
@@ -30,8 +26,8 @@ pub loop-i-init : goal.loop-i-init
 loop-i-init c = record {
   sizes = c.requires.sizes;
   blocks = refl;
-  keepers = c.requires.keepers;
-  votes = c.requires.votes;
+  keepers = c.requires.each.1;
+  votes = c.requires.each.2;
   met = λ b. elim (c.requires.met b) [ inl none ↦ inl none | inr m ↦ inr (m.0, omega arith, m.1, m.2) ];
 }
 
@@ -44,7 +40,7 @@ overflow_add-index_mut c =
     let more : i < length live = omega (arith, c.loop-i-test.true, c.loop-i.auto.i-end) in
     let room : slice_index of (slice_index live i) < length sizes = omega (arith, c.loop-i.invariant.blocks, c.requires.blocks.below _ (c.requires.live.below i more)) in
     let was = get_or_read sizes (slice_index of (slice_index live i)) c.index_mut.result.now room c.index_mut.ensures.value 0 in
-    let left = few_left of live i sizes c.requires.live (below ((goal.at.overflow_add-index_mut c).Start)) more c.loop-i.invariant.sizes in
+    let left = few_left of live i sizes c.requires.live (below_states c.requires.blocks) more c.loop-i.invariant.sizes in
     omega (arith, was, left, c.requires.blocks.few)
 
 pub loop-i-preserved : goal.loop-i-preserved
@@ -58,7 +54,7 @@ loop-i-preserved c =
     let more : i < length live = omega (arith, c.loop-i-test.true, c.loop-i.auto.i-end) in
     let room : b < length sizes = omega (arith, c.loop-i.invariant.blocks, c.requires.blocks.below _ (c.requires.live.below i more)) in
     let was = get_or_read sizes b c.index_mut.result.now room c.index_mut.ensures.value 0 in
-    let d = below ((goal.at.loop-i-preserved c).Start) in
+    let d = below_states c.requires.blocks in
     rw (was)
     (record {
       sizes = without_less of live i sizes c.requires.live d more c.loop-i.invariant.sizes room;

@@ -1,16 +1,13 @@
-use Rattle.std.proofs.Common.{◌≡◌, ◌∙◌, ℕ, ◌-◌, ◌<◌, ◌≤◌, length, set, slice_index, ap, sym, subst, refl, arith}
-use Rattle.std.proofs.lemmas.List.{get_or_read, length-set, get_or-set_same}
+use Rattle.std.proofs.Common.{◌≡◌, ◌∙◌, ◌-◌, ◌<◌, ◌≤◌, length, slice_index, sym, subst, refl, inr, arith}
+use Rattle.std.proofs.lemmas.List.{get_or_read, length-set}
 use Rattle.partition.proofs.Counting.{block_size-le}
 use Rattle.partition.proofs.Taking.{without_none, without_more, had, had_room}
 use Rattle.partition.specs.Halving.{BoundVotes}
 use Rattle.partition.proofs.Voting.{BoundVotes-none, bound_new, bound_more, bound_less}
 use Rattle.partition.proofs.Keeping.{KeptUpTo, KeptUpTo-none, kept_old, kept_new, voted_all}
+use Rattle.partition.proofs.Living.{below_states}
 use Rattle.partition.proofs.counted.Counts.vote.Goals as goal
-use Rattle.partition.proofs.counted.Counts.vote.Goals.{Start, then-votes-eq0, else-votes-eq0, then-index-list, else-index-list}
-
--- each block is below the number of states
-below : (c : Start) (t : ℕ) → t < length c.args.of.now → slice_index c.args.of.now t < length c.args.of.now
-below c t h = omega (arith, c.requires.blocks.below t h, c.requires.blocks.fewer)
+use Rattle.partition.proofs.counted.Counts.vote.Goals.{then-index-list, else-index-list+then-votes-eq0, else-index-list+else-votes-eq0}
 
 pub loop-i-init : goal.loop-i-init
 loop-i-init c =
@@ -28,7 +25,7 @@ loop-i-init c =
 
 pub overflow_sub-index_mut : goal.overflow_sub-index_mut
 overflow_sub-index_mut c =
-    let d = below ((goal.at.overflow_sub-index_mut c).Start) in
+    let d = below_states c.requires.blocks in
     let more : c.loop-i.i < length c.args.live.now = omega (arith, c.loop-i-test.true, c.loop-i.auto.i-end) in
     let room = had_room c.args.of.now c.args.live.now c.loop-i.i _ c.requires.live d more c.loop-i.invariant.out in
     let some = had c.args.of.now c.args.live.now c.loop-i.i _ c.requires.live d more c.loop-i.invariant.out in
@@ -45,7 +42,7 @@ loop-i-preserved c =
     let sizes = c.loop-i.self.sizes.items in
     let votes = c.loop-i.self.votes.items in
     let inv = c.loop-i.invariant in
-    let d = below ((goal.at.loop-i-preserved c).Start) in
+    let d = below_states c.requires.blocks in
     let more : i < length live = omega (arith, c.loop-i-test.true, c.loop-i.auto.i-end) in
     let inside = c.requires.live.below i more in
     let room = had_room of live i sizes c.requires.live d more inv.out in
@@ -54,49 +51,44 @@ loop-i-preserved c =
     let had_votes = get_or_read votes b c.index-votes.result.now (inv.kept.votes_room s inside) c.index-votes.ensures 0 in
     let size_some = had of live i sizes c.requires.live d more inv.out in
     let size_v : b < length votes = inv.kept.votes_room s inside in
-    let size_k : b < length c.loop-i.self.keepers.items = inv.kept.room s inside in
     let few_votes : slice_index votes b ≤ 2000000 = omega (arith, inv.bound.room b, block_size-le of b, c.requires.blocks.few) in
-    let keeper_read : b < length c.if-votes-eq0.self.keepers.items → c.index.result.now ≡ slice_index c.if-votes-eq0.self.keepers.items b =
-    λ h. get_or_read c.if-votes-eq0.self.keepers.items b c.index.result.now h c.index.ensures 0 in
-    elim c.if-votes-eq0.branch [
-      | then-votes-eq0 w ↦
+    let keepers = c.loop-i.self.keepers.items in
+    let size_k : b < length keepers = inv.kept.room s inside in
+    let keeper = get_or_read keepers b c.index.result.now size_k c.index.ensures 0 in
+    let blocks = length-set sizes b (slice_index sizes b - 1) ∙ inv.blocks in
+    elim c.if-index-list.branch [
+      | then-index-list w ↦
           rw (w.self-is, was)
           (record {
-            blocks = length-set sizes b (slice_index sizes b - 1) ∙ inv.blocks;
-            keepers = length-set c.loop-i.self.keepers.items b (slice_index numbers s) ∙ inv.keepers;
-            votes = length-set votes b _ ∙ inv.votes;
-            out = out;
-            kept = kept_new of numbers live i c.loop-i.self.keepers.items votes inside inv.kept _;
-            bound = elim c.if-index-list.branch [
-              | then-index-list v ↦
-                  bound_new of numbers live i inside sizes c.loop-i.self.keepers.items votes size_some inv.bound _ size_v size_k (sym had_votes ∙ w.if-votes-eq0.true)
-                  (omega (arith, v.t-45-is, v.saturating_add.ensures, w.if-votes-eq0.true))
-              | else-index-list v ↦
-                  let keepers : c.if-votes-eq0.self.keepers.items ≡ set c.loop-i.self.keepers.items b (slice_index numbers s) = ap (λ self. self.keepers.items) w.self-is in
-                  absurd (v.if-index-list.false (keeper_read (omega (arith, ap length keepers, length-set c.loop-i.self.keepers.items b (slice_index numbers s), size_k))
-                  ∙ ap (λ xs. slice_index xs b) keepers ∙ get_or-set_same c.loop-i.self.keepers.items b (slice_index numbers s) 0 size_k))
-            ];
-          })
-      | else-votes-eq0 w ↦
-          let some : 0 < slice_index votes b = omega (arith, had_votes, w.if-votes-eq0.false) in
-          rw (w.self-is, was)
-          (record {
-            blocks = length-set sizes b (slice_index sizes b - 1) ∙ inv.blocks;
+            blocks = blocks;
             keepers = inv.keepers;
             votes = length-set votes b _ ∙ inv.votes;
             out = out;
-            kept = kept_old of numbers live i c.loop-i.self.keepers.items votes inside inv.kept _ some;
-            bound =
-                let keepers : c.if-votes-eq0.self.keepers.items ≡ c.loop-i.self.keepers.items = ap (λ self. self.keepers.items) w.self-is in
-                let read = keeper_read (omega (arith, ap length keepers, size_k)) ∙ ap (λ xs. slice_index xs b) keepers in
-                elim c.if-index-list.branch [
-                  | then-index-list v ↦
-                      bound_more of numbers live i inside sizes c.loop-i.self.keepers.items votes size_some inv.bound _ size_v (sym read ∙ v.if-index-list.true)
-                      (omega (arith, v.t-45-is, v.saturating_add.ensures, had_votes, few_votes))
-                  | else-index-list v ↦
-                      bound_less of numbers live i inside sizes c.loop-i.self.keepers.items votes size_some inv.bound _ size_v (λ e. v.if-index-list.false (read ∙ e)) some
-                      (omega (arith, v.t-45-is, v.saturating_sub.ensures, had_votes, some))
-                ];
+            kept = kept_old of numbers live i keepers votes inside inv.kept _ (s, inside, refl, sym w.if-index-list.true ∙ keeper);
+            bound = bound_more of numbers live i inside sizes keepers votes size_some inv.bound _ size_v (sym keeper ∙ w.if-index-list.true)
+                (omega (arith, w.saturating_add.ensures, had_votes, few_votes));
+          })
+      | else-index-list+then-votes-eq0 w ↦
+          rw (w.self-is, was)
+          (record {
+            blocks = blocks;
+            keepers = length-set keepers b (slice_index numbers s) ∙ inv.keepers;
+            votes = length-set votes b _ ∙ inv.votes;
+            out = out;
+            kept = kept_new of numbers live i keepers votes inside inv.kept _;
+            bound = bound_new of numbers live i inside sizes keepers votes size_some inv.bound _ size_v size_k (sym had_votes ∙ w.if-votes-eq0.true) refl;
+          })
+      | else-index-list+else-votes-eq0 w ↦
+          let some : 0 < slice_index votes b = omega (arith, had_votes, w.if-votes-eq0.false) in
+          rw (w.self-is, was)
+          (record {
+            blocks = blocks;
+            keepers = inv.keepers;
+            votes = length-set votes b _ ∙ inv.votes;
+            out = out;
+            kept = kept_old of numbers live i keepers votes inside inv.kept _ (inv.kept.keeps s inside (inr some));
+            bound = bound_less of numbers live i inside sizes keepers votes size_some inv.bound _ size_v (λ e. w.if-index-list.false (keeper ∙ e)) some
+                (omega (arith, had_votes, some));
           })
     ]
 
