@@ -9,7 +9,7 @@ ghost use Rattle.quotient.specs.Reading.{AreClasses};
 ghost use Rattle.quotient.specs.Numbers.{IsNumbering, TakesState};
 
 use lts::{Lts, Memory, Meter};
-use refine::Partition;
+use rounds::Partition;
 use std::alloc::Global;
 
 /// In place of the number of a block that has none.

@@ -6,7 +6,7 @@ ghost use Rattle.quotient.specs.Visits.{TakesTurns};
 ghost use Rattle.quotient.specs.Reading.{AreClasses, AreRoundsOf, sources_of, IsDroppedLabel};
 
 use lts::{Labels, Lts, Memory, Meter};
-use refine::{Branching, Partition, Strong, refine};
+use rounds::{Branching, Partition, Strong, refine};
 use std::alloc::Global;
 use theory::Relation;
 

@@ -1,0 +1,84 @@
+-- The lists of the states by their numbers.
+use Rattle.std.proofs.Common.{◌≡◌, ◌∙◌, ℕ, zero, suc, ◌<◌, ◌≤◌, List, [], ◌∷◌, ◌++◌, length, take, get_or, slice_index, ap, sym, subst, refl, inl, inr, arith}
+use Rattle.std.proofs.lemmas.List.{get_or-map, get_or_default, take_at}
+use Rattle.lists.specs.Lists.{list_at, AreLists, AreNumbers}
+use Rattle.partition.specs.Blocks.{RoundBlocks, HaveNone, AreOrNone, AreParted}
+use Rattle.rounds.specs.EachList.{list_of, each_list, HaveLists, FitsWatch}
+use Rattle.rounds.specs.Signed.{signature_at}
+use Rattle.rounds.specs.declared.signed_blocks.Watch.{Watch}
+use Rattle.rounds.specs.declared.signed_blocks.Watch.TheVariants.{Nothing, Sources}
+use Rattle.partition.specs.Splitting.{Splits}
+
+-- the list of a state is the one that its number gives
+pub signature_at-list : (lists : List (List (ℕ × ℕ))) (numbers : List ℕ) (s : ℕ) → s < length numbers →
+    signature_at (each_list lists numbers) s ≡ list_of lists numbers s
+signature_at-list lists numbers s h = get_or-map (list_at lists) numbers s 0 [] h
+
+-- if the empty list is the only one, each state has it
+pub signature_at-none : (lists : List (List (ℕ × ℕ))) (numbers : List ℕ) (s : ℕ) → lists ≡ [] ∷ [] → s < length numbers →
+    signature_at (each_list lists numbers) s ≡ []
+signature_at-none lists numbers s only h =
+    signature_at-list lists numbers s h ∙ ap (λ xs. list_of xs numbers s) only ∙ at (get_or numbers s 0)
+  where
+    at : (k : ℕ) → list_at ([] ∷ []) k ≡ []
+    at zero = refl
+    at (suc k) = refl
+
+-- states of blocks have lists, if their numbers were written back through a slice of all of them
+pub written_back : (of live : List ℕ) (lists : List (List (ℕ × ℕ))) (numbers rest : List ℕ) (n : ℕ) → AreNumbers lists numbers → HaveNone live numbers
+    → length numbers ≡ length of → length numbers ≡ n → HaveLists of live lists (take n (numbers ++ rest))
+written_back of live lists numbers rest n each none states all =
+    subst (HaveLists of live lists) (sym (take_at numbers rest n all)) (record { each = each; states = states; none = none })
+
+-- blocks that are split by the numbers of lists are split by the lists, which are all different
+pub Splits-lists : (lists : List (List (ℕ × ℕ))) (numbers old : List ℕ) (count : ℕ) (new : List ℕ) (more : ℕ) → AreLists lists → AreNumbers lists numbers
+    → length old ≡ length numbers → Splits old count (slice_index numbers) new more → Splits old count (list_of lists numbers) new more
+Splits-lists lists numbers old count new more are each size splits = record {
+  states = splits.states;
+  blocks = splits.blocks;
+  grows = splits.grows;
+  alike = λ s t hs ht.
+      let h = splits.alike s t hs ht in (
+        λ e. let a = h.0 e in (a.0, ap (list_at lists) a.1),
+        λ a. h.1 (a.0, are.different _ _ (each s 0 (omega (arith, hs, size))) (each t 0 (omega (arith, ht, size))) a.1),
+      );
+  stays = splits.stays;
+  parts = splits.parts;
+}
+
+-- some states are looked at no more, and have the empty list from now on
+pub lists_left : {of live live' : List ℕ} {lists : List (List (ℕ × ℕ))} {old new : List ℕ} → 1 ≤ length lists → HaveLists of live lists old
+    → length new ≡ length old → AreOrNone old new → HaveNone live' new → HaveLists of live' lists new
+lists_left {lists = lists} {new = new} some have size each none = record {
+  each = λ s d h. subst (λ x. x < length lists) (get_or_default new s 0 d h) (elim (each s) [
+    | inl was ↦ omega (arith, was, have.each s 0 (omega (arith, h, size)))
+    | inr nil ↦ omega (arith, nil, some)
+  ]);
+  states = size ∙ have.states;
+  none = none;
+}
+
+-- blocks that were split by the lists, whose numbers are read through a slice
+pub parted : (lists : List (List (ℕ × ℕ))) (numbers ns : List ℕ) (p q : RoundBlocks) → AreLists lists → HaveLists p.of p.live lists numbers → ns ≡ numbers
+    → AreParted p ns q → Splits p.of p.count (list_of lists numbers) q.of q.count
+parted lists numbers ns p q are have is split =
+    let splits = subst (λ xs. Splits p.of p.count (slice_index xs) q.of q.count) is split.splits in
+    Splits-lists lists numbers p.of p.count q.of q.count are have.each (sym have.states) splits
+
+-- what is noted fits as many states
+fits_still : (of of' : List ℕ) (watch : Watch) → length of' ≡ length of → FitsWatch of watch → FitsWatch of' watch
+fits_still of of' Nothing size fits = tt
+fits_still of of' (Sources e) size fits = fits ∙ sym size
+
+-- when blocks were split, the states have their lists still, and what is noted fits them
+pub split_fits : (lists : List (List (ℕ × ℕ))) (numbers ns : List ℕ) (p q : RoundBlocks) (watch : Watch) → AreParted p ns q
+    → HaveLists p.of p.live lists numbers × FitsWatch p.of watch → HaveLists q.of q.live lists numbers × FitsWatch q.of watch
+split_fits lists numbers ns p q watch split (have, fits) =
+    let size = split.splits.states in (
+      record {
+        each = have.each;
+        states = have.states ∙ sym size;
+        none = λ s h. elim (have.none s h) [ inl one ↦ inl (split.live s one) | inr nil ↦ inr nil ];
+      },
+      fits_still p.of q.of watch size fits,
+    )

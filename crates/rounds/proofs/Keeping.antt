@@ -1,0 +1,98 @@
+-- Lists that are kept from round to round: what is known of them, and what a round makes of them.
+use Rattle.std.proofs.Common.{◌≡◌, ◌⊎◌, ◌↔◌, ℕ, ◌<◌, List, length, slice_index, Contains, ap, sym, ◌∙◌, subst, subst₂, inl, inr, arith}
+use Rattle.std.proofs.lemmas.List.{get_or_default}
+use Rattle.theory.specs.System.{Step}
+use Rattle.theory.specs.declared.relation.Relation.TheVariants.{Branching}
+use Rattle.theory.specs.Kept.{AreKept, IsShown}
+use Rattle.theory.proofs.CallerLemmas.{kept_anew}
+use Rattle.lts.specs.Labels.{text_of}
+use Rattle.lts.specs.Lts.{Grouped, Triple, label_of, target_of, row_of, system_of}
+use Rattle.lists.specs.Lists.{list_at, AreLists, AreNumbers, Grow}
+use Rattle.partition.specs.Blocks.{IsOne, HaveNone, LeavesAlone}
+use Rattle.inert.specs.Signed.{IsSignature, AreSignedBeside, ShowsNew}
+use Rattle.rounds.specs.EachList.{Signed, list_of, IsAnew}
+use Rattle.rounds.specs.Living.{LeavesOut}
+use Rattle.rounds.specs.Kept.{Names, KeepsLists, SignsLists}
+use Rattle.rounds.specs.declared.signed_blocks.Watch.TheVariants.{Nothing}
+use Rattle.rounds.proofs.EqualLists.{Labelled}
+use Rattle.rounds.proofs.LookingBack.{named_signature, names_signatures, kept_grows, kept_left, row_shows}
+
+-- where no list is known, the empty one is kept for each state
+module _ (l : Grouped) (labelled : Labelled l)
+    (steps : (s : ℕ) (a : List ℕ) (t : ℕ) → Step (system_of l) s a t ↔ ((e : Triple) × Contains (row_of s l.places) e × (text_of l.labels (label_of e) ≡ a) × (target_of e ≡ t)))
+    (r : Signed) (size : length r.blocks.of ≡ l.states) (are : AreLists r.lists) (anew : IsAnew r) where
+  zeros : slice_index r.kept ≡ (λ s. 0)
+  zeros = λ i s. anew.empty s i
+
+  pub keeps_anew : LeavesOut l r.blocks.of r.blocks.live → KeepsLists l r
+  keeps_anew others = record {
+    states = anew.states ∙ size;
+    numbers = λ s d h. subst (λ x. x < length r.lists) (get_or_default r.kept s 0 d h) (omega (arith, anew.empty s, are.some));
+    known =
+        subst (AreKept (Names l r.lists) (system_of l) (slice_index r.blocks.of) (IsOne r.blocks.live)) (sym zeros)
+        (kept_anew (Names l r.lists) (system_of l) (names_signatures l labelled r.lists are) (slice_index r.blocks.of) (IsOne r.blocks.live) (λ s h. elim (others s h) [
+          | inl one ↦ inl one
+          | inr x ↦ elim x [
+            | inl alone ↦ inr (inl (λ t k e. alone t (omega (arith, k, size)) e))
+            | inr empty ↦ inr (inr (row_shows l (λ s a t step. let found = (steps s a t).0 step in (found.0, found.1)) (slice_index r.blocks.of) s empty))
+          ]
+        ]));
+  }
+
+-- in the block of a state that is looked at, others that are not have the lists of their signatures
+pub kept_beside : (l : Grouped) (r : Signed) → KeepsLists l r → AreSignedBeside l r.blocks.of r.blocks.live r.lists r.kept
+kept_beside l r keeps s t hs ht same one = elim (keeps.known.signed s hs) [
+  | inl too ↦ inl too
+  | inr x ↦ elim x [
+    | inl only ↦ inl (subst (IsOne r.blocks.live) (only t ht (sym same)) one)
+    | inr named ↦ inr (named_signature l r.lists r.blocks.of s (slice_index r.kept s) named)
+  ]
+]
+
+-- what changes is shown
+turned : (old new shown : ℕ) → ShowsNew old new shown → IsShown old new shown
+turned old new shown (inl (same, none)) = inl (sym same, none)
+turned old new shown (inr (other, is)) = inr (λ e. other (sym e), is)
+
+-- the states that a round looks at were signed
+pub signs_lists : (l : Grouped) (p was r : Signed) → KeepsLists l was → r.blocks ≡ was.blocks
+    → (p.watch ≡ Nothing → (s : ℕ) → slice_index was.kept s ≡ 0) → Grow was.lists r.lists
+    → ((s : ℕ) → IsOne was.blocks.live s → IsSignature Branching l was.blocks.of s (list_at r.lists (slice_index r.kept s)))
+    → ((s : ℕ) → IsOne was.blocks.live s → ShowsNew (slice_index was.kept s) (slice_index r.kept s) (slice_index r.numbers s))
+    → ((s : ℕ) → IsOne was.blocks.live s ⊎ (slice_index r.kept s ≡ slice_index was.kept s))
+    → (length r.kept ≡ l.states) × AreNumbers r.lists r.kept → HaveNone was.blocks.live r.numbers → length r.numbers ≡ l.states
+    → ((s : ℕ) → IsOne was.blocks.live s → s < l.states) → SignsLists l p r
+signs_lists l p was r keeps is anew grow signed changed still lists none size below = record {
+  was = was.kept;
+  before =
+      subst (λ b. AreKept (Names l r.lists) (system_of l) (slice_index b.of) (IsOne b.live) (slice_index was.kept)) (sym is)
+      (kept_grows l was.lists r.lists grow (slice_index was.blocks.of) (IsOne was.blocks.live) (slice_index was.kept) keeps.known);
+  anew = anew;
+  signed = λ s one.
+      let here = subst (λ b. IsOne b.live s) is one in (
+        lists.1 s 0 (omega (arith, below s here, lists.0)),
+        subst (λ b. IsSignature Branching l b.of s (list_of r.lists r.kept s)) (sym is) (signed s here),
+      );
+  others = λ s h. elim (still s) [ inl one ↦ inl (subst (λ b. IsOne b.live s) (sym is) one) | inr same ↦ inr same ];
+  shows = λ s h. elim (still s) [
+    | inl one ↦ turned _ _ _ (changed s one)
+    | inr same ↦ elim (none s (omega (arith, h, size))) [
+      | inl one ↦ turned _ _ _ (changed s one)
+      | inr nil ↦ inl (same, nil)
+    ]
+  ];
+  states = lists.0;
+  numbers = lists.1;
+}
+
+-- fewer states are looked at, as those that are alone are left out
+pub keeps_left : (l : Grouped) (p q : Signed) → length p.blocks.of ≡ l.states → q.lists ≡ p.lists → q.kept ≡ p.kept
+    → q.blocks ≡ record p.blocks { live = q.blocks.live } → LeavesAlone p.blocks.of p.blocks.live q.blocks.live → KeepsLists l p → KeepsLists l q
+keeps_left l p q size lists kept is leaves keeps = record {
+  states = ap length kept ∙ keeps.states;
+  numbers = subst₂ AreNumbers (sym lists) (sym kept) keeps.numbers;
+  known =
+      subst (λ b. AreKept (Names l q.lists) (system_of l) (slice_index b.of) (IsOne b.live) (slice_index q.kept)) (sym is)
+      (subst₂ (λ xs ks. AreKept (Names l xs) (system_of l) (slice_index p.blocks.of) (IsOne q.blocks.live) (slice_index ks)) (sym lists) (sym kept)
+      (kept_left l p.lists p.blocks.of p.blocks.live q.blocks.live size leaves (slice_index p.kept) keeps.known));
+}

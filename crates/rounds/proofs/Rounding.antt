@@ -1,0 +1,116 @@
+-- A round: the states that it looks at were signed, the blocks split, and the next round looks at what was found.
+use Rattle.std.proofs.Common.{◌≡◌, ◌↔◌, ℕ, ◌<◌, List, length, slice_index, IfSome, Contains, ap, sym, ◌∙◌, subst, subst₂, refl, inl, inr, arith}
+use Rattle.std.proofs.lemmas.List.Elements.{All-contains}
+use Rattle.theory.specs.System.{Step}
+use Rattle.theory.specs.declared.relation.Relation.{Relation}
+use Rattle.theory.specs.declared.relation.Relation.TheVariants.{Strong, Branching}
+use Rattle.theory.specs.Blocks.{Split}
+use Rattle.theory.specs.Kept.{AreKept, IsShown}
+use Rattle.theory.proofs.CallerLemmas.{step_below}
+use Rattle.lts.specs.Labels.{text_of}
+use Rattle.lts.specs.Lts.{Grouped, Triple, source_of, label_of, target_of, row_of, system_of, IsTriple, IsLts}
+use Rattle.lists.specs.Lists.{AreLists, AreNumbers, list_at}
+use Rattle.partition.specs.Blocks.{IsOne, LeavesAlone}
+use Rattle.rounds.specs.EachList.{Signed, HaveLists, list_of}
+use Rattle.inert.specs.Signed.{IsSignature}
+use Rattle.rounds.specs.Settled.{Settled, IsPut}
+use Rattle.rounds.specs.Kept.{Names, SignsLists}
+use Rattle.rounds.specs.Noting.{LooksBackBy}
+use Rattle.rounds.specs.Rounds.{IsNext}
+use Rattle.rounds.specs.Watching.{Notes, HasKept, Watches, WatchesBy, SignsEach, IsSplitOf}
+use Rattle.rounds.specs.declared.signed_blocks.Watch.{Watch}
+use Rattle.rounds.specs.declared.signed_blocks.Watch.TheVariants.{Nothing, Sources}
+use Rattle.rounds.proofs.EqualLists.{Labelled}
+use Rattle.rounds.proofs.Settling.{IsNext-from, all_told, told_is_split, put_whole}
+use Rattle.rounds.proofs.Noting.{notes_left, strong_next, left_next, noted_back_next}
+use Rattle.rounds.proofs.LookingBack.{looks_back, round_splits, round_keeps}
+use Rattle.rounds.proofs.Keeping.{keeps_anew, keeps_left}
+
+module _ (l : Grouped) (lts : IsLts l) (labelled : Labelled l)
+    (sources : (s : ℕ) (places : List Triple) (e : Triple) → Contains (row_of s places) e ↔ (Contains places e × (source_of e ≡ s)))
+    (steps : (s : ℕ) (a : List ℕ) (t : ℕ) → Step (system_of l) s a t ↔ ((e : Triple) × Contains (row_of s l.places) e × (text_of l.labels (label_of e) ≡ a) × (target_of e ≡ t)))
+    (p r q : Signed) (are : AreLists r.lists) (have : HaveLists r.blocks.of r.blocks.live r.lists r.numbers) (size : length r.blocks.of ≡ l.states)
+    (next : IsSplitOf r q) (are' : AreLists q.lists) where
+  below : (s : ℕ) → s < l.states → (e : Triple) → Contains (row_of s l.places) e → target_of e < l.states
+  below s h e c = (All-contains (IsTriple (length l.labels) l.states) l.places e lts.in_range.each ((sources s l.places e).0 c).0).target
+
+  size' : length q.blocks.of ≡ l.states
+  size' = next.splits.states ∙ size
+
+  parted : (s t : ℕ) → s < l.states → t < l.states → slice_index q.blocks.of s ≡ slice_index q.blocks.of t → slice_index r.blocks.of s ≡ slice_index r.blocks.of t
+  parted s t ls lt e = ((next.splits.alike s t (omega (arith, ls, size)) (omega (arith, lt, size))).0 e).0
+
+  strong_split : Settled Strong (system_of l) (slice_index r.blocks.of) r.blocks.low → Notes r.watch Strong l r.blocks → SignsEach Strong l p r
+      → Split Strong (system_of l) (slice_index r.blocks.of) (slice_index q.blocks.of)
+  strong_split settled notes signed =
+      told_is_split Strong l labelled r.blocks.of r.blocks.low size settled (list_of r.lists r.numbers)
+      (all_told l labelled r.blocks r.lists r.numbers steps have.none (have.states ∙ size) are.first r.watch notes signed) q.blocks.of
+      (λ s t ls lt. next.splits.alike s t (omega (arith, ls, size)) (omega (arith, lt, size)))
+
+  within : (s : ℕ) → s < l.states → slice_index r.numbers s < length r.lists
+  within s h = have.each s 0 (omega (arith, h, have.states, size))
+
+  module _ (signed : SignsLists l p r) where
+    back_split : Split Branching (system_of l) (slice_index r.blocks.of) (slice_index q.blocks.of)
+    back_split =
+        round_splits l labelled r.lists are lts.system r.blocks q.blocks size signed.was r.kept r.numbers signed.before signed.signed signed.others signed.shows
+        within next.splits
+
+    back_next : (watch : Watch) → WatchesBy watch r q → Notes watch Branching l r.blocks → Watches Branching l q
+    back_next Nothing by notes = left_next l steps r.blocks q.blocks size size' parted below Nothing Branching q refl by.0 by.1 notes
+    back_next (Sources e) by notes =
+        let noted = noted_back_next l steps r.blocks q.blocks size size' parted below e notes in
+        subst (λ w. Notes w Branching l q.blocks × HasKept w Branching l q) (sym by.0) (
+          noted,
+          elim by.1 [
+            | inl on ↦
+                let back = subst (λ x. IfSome x (λ inner. LooksBackBy inner q.blocks)) noted.apart on.back in
+                let looks = looks_back l steps (λ s a t step. step_below (system_of l) lts.system s a t step) q.blocks size' e noted on.sources back in
+                record {
+                  states = ap length on.kept ∙ signed.states;
+                  numbers = subst₂ AreNumbers (sym on.lists) (sym on.kept) signed.numbers;
+                  known =
+                      subst₂ (λ xs ks. AreKept (Names l xs) (system_of l) (slice_index q.blocks.of) (IsOne q.blocks.live) (slice_index ks)) (sym on.lists) (sym on.kept)
+                      (round_keeps l labelled r.lists are lts.system r.blocks q.blocks size signed.was r.kept r.numbers signed.before signed.signed signed.others signed.shows
+                      within next.splits next.low looks);
+                }
+            | inr anew ↦ keeps_anew l labelled steps q size' are' anew.anew (λ s h. elim (anew.all s (omega (arith, h, size'))) [
+              | inl one ↦ inl one
+              | inr alone ↦ inr (inl alone)
+            ])
+          ],
+        )
+
+  pub is_next : (rel : Relation) → Settled rel (system_of l) (slice_index r.blocks.of) r.blocks.low → Notes r.watch rel l r.blocks → SignsEach rel l p r
+      → IsNext rel l r.blocks q
+  is_next Strong settled notes signed =
+      IsNext-from Strong l lts.system r.blocks size (list_of r.lists r.numbers) q next.splits (strong_split settled notes signed)
+      (strong_next l steps r.blocks q.blocks size size' parted below r.watch r q refl refl next.watches notes) next.low
+  is_next Branching settled notes signed =
+      IsNext-from Branching l lts.system r.blocks size (list_of r.lists r.numbers) q next.splits (back_split signed)
+      (back_next signed r.watch next.watches notes) next.low
+
+-- fewer states are looked at, as those that are alone are left out
+pub watches_left : (rel : Relation) (l : Grouped) (p q : Signed) → length p.blocks.of ≡ l.states → q ≡ record p { blocks = q.blocks; numbers = q.numbers }
+    → q.blocks ≡ record p.blocks { live = q.blocks.live } → LeavesAlone p.blocks.of p.blocks.live q.blocks.live → Watches rel l p → Watches rel l q
+watches_left rel l p q size same is leaves w =
+    subst (λ watch. Notes watch rel l q.blocks × HasKept watch rel l q) (sym (ap (λ r. r.watch) same))
+    (notes_left p.watch rel l p.blocks q.blocks is leaves w.0, left p.watch rel w.1)
+  where
+    left : (watch : Watch) (rel : Relation) → HasKept watch rel l p → HasKept watch rel l q
+    left Nothing rel keeps = tt
+    left (Sources e) Strong keeps = tt
+    left (Sources e) Branching keeps = keeps_left l p q size (ap (λ r. r.lists) same) (ap (λ r. r.kept) same) is leaves keeps
+
+-- where nothing is noted and all numbers are new, the split is given the signatures
+pub signs_whole : (rel : Relation) (l : Grouped) (p r : Signed) → SignsEach rel l p r → p.watch ≡ Nothing → r.blocks.low ≡ 0
+    → (s : ℕ) → IsOne r.blocks.live s → s < l.states → IsSignature rel l r.blocks.of s (list_of r.lists r.numbers s)
+signs_whole Strong l p r put nothing low s one h =
+    put_whole Strong l r.blocks.of s (list_of r.lists r.numbers s)
+    (subst (λ low. IsPut Strong l r.blocks.of low s (list_of r.lists r.numbers s)) low (put s one))
+signs_whole Branching l p r signs nothing low s one h =
+    subst (λ n. IsSignature Branching l r.blocks.of s (list_at r.lists n)) (shown (signs.shows s h)) (signs.signed s one).1
+  where
+    shown : IsShown (slice_index signs.was s) (slice_index r.kept s) (slice_index r.numbers s) → slice_index r.kept s ≡ slice_index r.numbers s
+    shown (inl (same, none)) = same ∙ signs.anew nothing s ∙ sym none
+    shown (inr (other, is)) = sym is

@@ -1,0 +1,69 @@
+use Rattle.std.proofs.Common.{◌≡◌, ◌∙◌, length, slice_index, ap, sym, subst, refl, arith}
+use Rattle.std.proofs.lemmas.List.{take_at}
+use Rattle.theory.specs.declared.relation.Relation.TheVariants.{Branching}
+use Rattle.partition.specs.Blocks.{AreLive, HaveNone}
+use Rattle.rounds.specs.EachList.{Signed}
+use Rattle.rounds.specs.Kept.{KeepsLists, SignsLists}
+use Rattle.rounds.specs.Watching.{Notes}
+use Rattle.rounds.proofs.EachList.{written_back}
+use Rattle.rounds.proofs.Keeping.{kept_beside, signs_lists}
+use Rattle.rounds.proofs.branching.BranchingSigning.sign_each.Goals as goal
+
+pub sign_each-requires-clause-kept : goal.sign_each-requires-clause-kept
+sign_each-requires-clause-kept g c =
+    kept_beside c.args.l.now _ (subst (KeepsLists c.args.l.now) (sym c.round.view_is) c.in_ok-round.ensures.keeps)
+
+pub sign_each-requires-clause-lists : goal.sign_each-requires-clause-lists
+sign_each-requires-clause-lists g c =
+    let keeps = subst (KeepsLists c.args.l.now) (sym c.round.view_is) c.in_ok-round.ensures.keeps in
+    (keeps.states, keeps.numbers)
+
+pub sign_each-requires-clause-numbers : goal.sign_each-requires-clause-numbers
+sign_each-requires-clause-numbers g c =
+    let value = c.deref_mut.ensures.value in
+    let states = ap (λ r. length r.blocks.of) c.round.view_is ∙ ap (λ b. length b.of) c.in_ok-round.ensures.blocks ∙ c.requires.states in (
+      ap length value ∙ c.round.invariant.0.states ∙ states,
+      subst (HaveNone c.round.inside.blocks.live) (sym value) c.round.invariant.0.none,
+    )
+
+pub invariant_of-round : goal.invariant_of-round
+invariant_of-round g c =
+    let old = c.round.inside.blocks in (
+      written_back old.of old.live c.sign_each.new.lists c.sign_each.new.numbers _ _ c.in_ok-sign_each.ensures.numbers c.sign_each.ensures.others
+          (omega (arith, c.sign_each.auto.numbers, c.deref_mut.ensures.len, c.round.invariant.0.states)) (omega (arith, c.sign_each.auto.numbers, c.deref_mut.ensures.len)),
+      c.round.invariant.1,
+    )
+
+pub returns-clause-signed : goal.returns-clause-signed
+returns-clause-signed g c =
+    let l = c.args.l.now in
+    let inside = c.round.inside in
+    let done = c.in_ok-sign_each.ensures in
+    let items = take_at c.sign_each.new.numbers _ _ (omega (arith, c.sign_each.auto.numbers, c.deref_mut.ensures.len)) in
+    let was : Signed = record {
+      blocks = inside.blocks;
+      lists = inside.lists;
+      numbers = inside.numbers.items;
+      kept = inside.signer;
+      watch = inside.watch;
+    } in
+    let r : Signed = record {
+      blocks = inside.blocks;
+      lists = c.sign_each.new.lists;
+      numbers = c.sign_each.new.numbers;
+      kept = c.sign_each.new.self;
+      watch = inside.watch;
+    } in
+    let states = ap (λ r. length r.blocks.of) c.round.view_is ∙ ap (λ b. length b.of) c.in_ok-round.ensures.blocks ∙ c.requires.states in
+    let live : AreLive (length inside.blocks.of) inside.blocks.live =
+    subst (λ x. AreLive (length x.blocks.of) x.blocks.live) (sym c.round.view_is) c.known.ensures.live in
+    subst (λ ns. SignsLists l c.args.round (record r { numbers = ns })) (sym items)
+    (signs_lists l c.args.round was r (subst (KeepsLists l) (sym c.round.view_is) c.in_ok-round.ensures.keeps) refl
+    (λ nothing s. subst (λ r. slice_index r.kept s ≡ 0) (sym c.round.view_is) (c.in_ok-round.ensures.anew nothing s))
+    done.grow done.signed done.changed done.still done.lists c.sign_each.ensures.others
+    (omega (arith, c.sign_each.auto.numbers, c.deref_mut.ensures.len, c.round.invariant.0.states, states))
+    (λ s one. omega (arith, live.below one.0 one.1, one.2, states)))
+
+pub returns-clause-notes : goal.returns-clause-notes
+returns-clause-notes g c =
+    subst (λ r. Notes r.watch Branching c.args.l.now r.blocks) (sym c.round.view_is) c.in_ok-round.ensures.notes

@@ -1,0 +1,183 @@
+use Rattle.std.proofs.Common.{◌≡◌, ◌↔◌, suc, ◌*◌, ◌<◌, length, slice_index, ap, sym, ◌∙◌, subst, subst₂, inl, inr, arith, rules}
+use Rattle.std.proofs.lemmas.Result.{IfOk-weaker}
+use Rattle.theory.specs.Blocks.{Split, SameBlocks, Turns}
+use Rattle.lts.specs.Meter.{Costs}
+use Rattle.lts.specs.Lts.{system_of}
+use Rattle.rounds.specs.Settled.{Settled}
+use Rattle.rounds.specs.Watching.{Notes, HasKept}
+use Rattle.rounds.specs.Rounds.{Made}
+use Rattle.rounds.proofs.Spending.{costs_more, costs_up_to_more, room_for_more, on_ok_from, on_err_from}
+use Rattle.partition.specs.Partition.{AreBlocks}
+use Rattle.partition.specs.Blocks.{IsOne, AreLive}
+use Rattle.rounds.specs.Living.{LeavesOut}
+use Rattle.partition.proofs.CallerLemmas.{one_block}
+use Rattle.rounds.proofs.Settling.{settled_first}
+use Rattle.rounds.proofs.Rounding.{watches_left}
+use Rattle.rounds.proofs.refinement.refine.Goals as goal
+use Rattle.rounds.proofs.refinement.refine.Given.{Over}
+use Rattle.rounds.proofs.refinement.refine.Goals.{Then-more-count, Else-more-count}
+
+pub loop-before-init : goal.loop-before-init
+loop-before-init g c =
+    let rel = g.S.Signing.relation in
+    let l = c.args.l.now in
+    let A = system_of l in
+    let blocks = c.in_ok-blocks.ensures in
+    let is = sym c.in_ok-round.ensures.blocks in
+    let one = one_block A.states c.in_ok-blocks.blocks.of c.states.result (sym c.states.ensures.value) blocks.one in
+    let begun = c.refinement_goes_on.ensures.begun rel A (slice_index c.in_ok-blocks.blocks.of) c.states.ensures.lts.system one in
+    record {
+      states = subst (λ b. length b.of ≡ l.states) is (blocks.states ∙ c.states.ensures.value);
+      settled = subst (λ b. Settled rel A (slice_index b.of) b.low) is (subst (Settled rel A (slice_index c.in_ok-blocks.blocks.of)) (sym blocks.count.1) (settled_first rel A _));
+      watches =
+          subst (λ w. Notes w rel l c.in_ok-round.round.blocks × HasKept w rel l c.in_ok-round.round) (sym c.in_ok-round.ensures.nothing) (
+            subst (λ b. LeavesOut l b.of b.live) is (λ s h. elim (c.in_ok-live.ensures.rows s h) [
+              | inl one ↦ inl (subst (λ live. IsOne live s) (sym blocks.live) one)
+              | inr empty ↦ inr (inr empty)
+            ]),
+            tt,
+          );
+      made = subst (λ b. Made rel l (g.M.Meter.counted c.args.m.now) (g.M.Meter.counted c.args.m.now) b.of) is (record { rounds = 0; underway = begun; costs = search rules });
+    }
+
+pub one-requires-clause-live : goal.one-requires-clause-live
+one-requires-clause-live g c = subst (λ n. AreLive n c.in_ok-live.live.items) (sym c.states.ensures.value) c.in_ok-live.ensures.rising
+
+pub renumber-requires : goal.renumber-requires
+renumber-requires g c =
+    subst₂ AreBlocks (sym c.of.ensures.of) (ap (λ b. b.count) c.into_blocks-blocks.ensures ∙ sym c.count-more.ensures) c.of.ensures.blocks
+
+pub next_round-requires-clause-settled : goal.next_round-requires-clause-settled
+next_round-requires-clause-settled g c =
+    subst (λ b. Settled g.S.Signing.relation (system_of c.args.l.now) (slice_index b.of) b.low) (sym c.in_ok-before.ensures.blocks) c.loop-before.invariant.settled
+
+pub next_round-requires-clause-states : goal.next_round-requires-clause-states
+next_round-requires-clause-states g c = ap (λ b. length b.of) c.in_ok-before.ensures.blocks ∙ c.loop-before.invariant.states
+
+pub next_round-requires-clause-watches : goal.next_round-requires-clause-watches
+next_round-requires-clause-watches g c =
+    watches_left g.S.Signing.relation c.args.l.now c.loop-before.round c.in_ok-before.before c.loop-before.invariant.states c.in_ok-before.ensures.same
+    c.in_ok-before.ensures.blocks c.in_ok-before.ensures.leaves c.loop-before.invariant.watches
+
+pub next_round-requires-clause-room : goal.next_round-requires-clause-room
+next_round-requires-clause-room g c =
+    let l = c.args.l.now in
+    let made = c.loop-before.invariant.made in
+    room_for_more (length l.places) l.states made.rounds _ _ made.costs
+    (c.refinement_goes_on.ensures.below g.S.Signing.relation (system_of l) made.rounds (slice_index c.loop-before.round.blocks.of)
+    c.states.ensures.lts.system made.underway)
+    c.requires.room
+
+pub returns-in_err-next-clause-err : goal.returns-in_err-next-clause-err
+returns-in_err-next-clause-err g c =
+    let l = c.args.l.now in
+    let made = c.loop-before.invariant.made in
+    let below =
+    c.refinement_goes_on.ensures.below g.S.Signing.relation (system_of l) made.rounds (slice_index c.loop-before.round.blocks.of)
+    c.states.ensures.lts.system made.underway in
+    let most = costs_up_to_more (length l.places) l.states made.rounds _ _ made.costs (g.M.Meter.counted c.next_round.new.m) below
+    c.in_err-next.ensures.err in
+    search rules
+
+-- the round was the last one
+turns : (g : Over) (c : Then-more-count g) → Turns g.S.Signing.relation (system_of c.args.l.now) (suc c.loop-before.invariant.made.rounds)
+turns g c =
+    let A = system_of c.args.l.now in
+    let made = c.loop-before.invariant.made in
+    let next = c.in_ok-next.ensures.next in
+    let is = ap (λ r. r.of) c.in_ok-before.ensures.blocks in
+    c.refinement_goes_on.ensures.done g.S.Signing.relation A made.rounds (slice_index c.loop-before.round.blocks.of) (slice_index c.in_ok-next.next.blocks.of)
+    c.states.ensures.lts.system made.underway
+    (subst (λ p. Split g.S.Signing.relation A (slice_index p) (slice_index c.in_ok-next.next.blocks.of)) is next.split)
+    (subst (λ p. SameBlocks A (slice_index p) (slice_index c.in_ok-next.next.blocks.of)) is (next.same (sym c.count-more.ensures ∙ c.if-more-count.true ∙ c.count-count.ensures)))
+
+costs : (g : Over) (c : Then-more-count g) → let l = c.args.l.now in let k = suc c.loop-before.invariant.made.rounds in
+    Costs (g.M.Meter.counted c.args.m.now) (g.M.Meter.counted c.next_round.new.m) k (k * length l.places) (k * length l.places)
+costs g c =
+    let l = c.args.l.now in
+    let made = c.loop-before.invariant.made in
+    costs_more (length l.places) l.states made.rounds _ _ made.costs (g.M.Meter.counted c.next_round.new.m) c.in_ok-next.ensures.costs
+
+few : (g : Over) (c : Then-more-count g) → c.loop-before.invariant.made.rounds < c.args.l.now.states
+few g c =
+    let made = c.loop-before.invariant.made in
+    c.refinement_goes_on.ensures.below g.S.Signing.relation (system_of c.args.l.now) made.rounds (slice_index c.loop-before.round.blocks.of)
+    c.states.ensures.lts.system made.underway
+
+pub returns-then-more-count-clause-states : goal.returns-then-more-count-clause-states
+returns-then-more-count-clause-states g c =
+    IfOk-weaker c.renumber.result _ _ (λ q size. size ∙ ap length c.of.ensures.of ∙ ap (λ b. length b.of) c.into_blocks-blocks.ensures ∙ c.in_ok-next.ensures.next.states)
+    c.renumber.ensures.states
+
+pub returns-then-more-count-clause-bisimilar : goal.returns-then-more-count-clause-bisimilar
+returns-then-more-count-clause-bisimilar g c =
+    let A = system_of c.args.l.now in
+    let made = c.loop-before.invariant.made in
+    let next = c.in_ok-next.ensures.next in
+    let value = c.of.ensures.of ∙ ap (λ b. b.of) c.into_blocks-blocks.ensures in
+    let size = ap length value in
+    let all =
+    c.final_blocks_are_bisimilarity.ensures g.S.Signing.relation A (suc made.rounds) (slice_index c.in_ok-next.next.blocks.of)
+    c.states.ensures.lts.system (turns g (goal.at.returns-then-more-count-clause-bisimilar g c).Then-more-count) (
+      slice_index c.loop-before.round.blocks.of,
+      made.underway.after,
+      subst (λ p. Split g.S.Signing.relation A (slice_index p) (slice_index c.in_ok-next.next.blocks.of)) (ap (λ r. r.of) c.in_ok-before.ensures.blocks) next.split,
+    ) in
+    IfOk-weaker c.renumber.result _ _
+    (λ q same s t ls lt.
+    let here = same s t (omega (arith, ls, size, next.states)) (omega (arith, lt, size, next.states)) in
+    let moved = subst (λ xs. (slice_index q s ≡ slice_index q t) ↔ (slice_index xs s ≡ slice_index xs t)) value here in
+    (λ e. (all s t ls lt).0 (moved.0 e), λ h. moved.1 ((all s t ls lt).1 h)))
+    c.renumber.ensures.same
+
+pub returns-then-more-count-clause-turns : goal.returns-then-more-count-clause-turns
+returns-then-more-count-clause-turns g c =
+    let d = (goal.at.returns-then-more-count-clause-turns g c).Then-more-count in
+    on_ok_from c.renumber.result (suc c.loop-before.invariant.made.rounds, few g d, turns g d, costs g d)
+
+pub returns-then-more-count-clause-err : goal.returns-then-more-count-clause-err
+returns-then-more-count-clause-err g c =
+    let d = (goal.at.returns-then-more-count-clause-err g c).Then-more-count in
+    let k = suc c.loop-before.invariant.made.rounds in
+    let paid = costs g d in
+    on_err_from c.renumber.result
+    (k, few g d, record { rounds = paid.rounds; at_least = omega (arith, paid.at_least); at_most = paid.at_most })
+
+pub loop-before-smaller : goal.loop-before-smaller
+loop-before-smaller g c =
+    let made = c.loop-before.invariant.made in
+    let below =
+    c.refinement_goes_on.ensures.below g.S.Signing.relation (system_of c.args.l.now) made.rounds (slice_index c.loop-before.round.blocks.of)
+    c.states.ensures.lts.system made.underway in
+    omega (arith, below, made.costs.rounds, c.in_ok-next.ensures.costs.rounds)
+
+-- a round more was made
+made : (g : Over) (c : Else-more-count g) →
+    Made g.S.Signing.relation c.args.l.now (g.M.Meter.counted c.args.m.now) (g.M.Meter.counted c.next_round.new.m) c.in_ok-next.next.blocks.of
+made g c =
+    let l = c.args.l.now in
+    let A = system_of l in
+    let before = c.loop-before.invariant.made in
+    let next = c.in_ok-next.ensures.next in
+    let is = ap (λ r. r.of) c.in_ok-before.ensures.blocks in
+    record {
+      rounds = suc before.rounds;
+      underway =
+          c.refinement_goes_on.ensures.more g.S.Signing.relation A before.rounds (slice_index c.loop-before.round.blocks.of)
+          (slice_index c.in_ok-next.next.blocks.of)
+          c.states.ensures.lts.system before.underway
+          (subst (λ p. Split g.S.Signing.relation A (slice_index p) (slice_index c.in_ok-next.next.blocks.of)) is next.split)
+          (subst (λ p. SameBlocks A (slice_index p) (slice_index c.in_ok-next.next.blocks.of) → ⊥) is (next.parted (λ e. c.if-more-count.false (c.count-more.ensures ∙ e ∙ sym c.count-count.ensures))));
+      costs = costs_more (length l.places) l.states before.rounds _ _ before.costs (g.M.Meter.counted c.next_round.new.m) c.in_ok-next.ensures.costs;
+    }
+
+pub loop-before-preserved : goal.loop-before-preserved
+loop-before-preserved g c =
+    let l = c.args.l.now in
+    let next = c.in_ok-next.ensures.next in
+    record {
+      states = next.states;
+      settled = next.settled;
+      watches = next.watches;
+      made = made g (goal.at.loop-before-preserved g c).Else-more-count;
+    }

@@ -1,0 +1,10 @@
+use Rattle.std.proofs.Common.{◌≡◌, ◌⊎◌, ℕ, ◌<◌, []}
+use Rattle.lts.specs.Lts.{row_of}
+use Rattle.partition.specs.Blocks.{AreLive, IsOne}
+use Rattle.rounds.proofs.refinement.with_rows.Given as goal
+
+abbrev pub invariant-loop-s : goal.invariant-loop-s
+invariant-loop-s g l = record {
+  rising : AreLive l.s l.live.items;
+  rows : (t : ℕ) → t < l.s → IsOne l.live.items t ⊎ (row_of t l.l.places ≡ []);
+}

@@ -1,0 +1,47 @@
+-- The list of each state, by its number.
+use Rattle.std.specs.Prelude.{◌≡◌, ℕ, ◌≤◌, List, [], ◌∷◌, length, map, slice_index}
+use Rattle.lts.specs.declared.limits.TheConstants.{MOST_STATES}
+use Rattle.lists.specs.Lists.{list_at, AreNumbers}
+use Rattle.partition.specs.Blocks.{RoundBlocks, HaveNone}
+use Rattle.rounds.specs.declared.signed_blocks.Watch.{Watch}
+use Rattle.rounds.specs.declared.signed_blocks.Watch.TheVariants.{Nothing, Sources}
+
+-- the list of the state s, if the states have these numbers
+abbrev pub list_of : List (List (ℕ × ℕ)) → List ℕ → ℕ → List (ℕ × ℕ)
+list_of lists numbers s = list_at lists (slice_index numbers s)
+
+-- the list of each state
+abbrev pub each_list : List (List (ℕ × ℕ)) → List ℕ → List (List (ℕ × ℕ))
+each_list lists numbers = map (list_at lists) numbers
+
+-- lists and their numbers for 1 to 2,000,000 states
+pub record AreListsOfStates (lists : List (List (ℕ × ℕ))) (numbers : List ℕ) : Type 0 where
+  pub each : AreNumbers lists numbers
+  pub some : 1 ≤ length numbers
+  pub few : length numbers ≤ MOST_STATES
+
+-- the blocks of a round, lists, for each state the number of the list that the split is given and of the list that is kept for it, and
+-- what is noted
+pub record Signed : Type 0 where
+  pub blocks : RoundBlocks
+  pub lists : List (List (ℕ × ℕ))
+  pub numbers : List ℕ
+  pub kept : List ℕ
+  pub watch : Watch
+
+-- each state of the blocks has a list, and one that is not looked at the empty one
+pub record HaveLists (of live : List ℕ) (lists : List (List (ℕ × ℕ))) (numbers : List ℕ) : Type 0 where
+  pub each : AreNumbers lists numbers
+  pub states : length numbers ≡ length of
+  pub none : HaveNone live numbers
+
+-- what is noted fits the states: each has its sources
+abbrev pub FitsWatch : List ℕ → Watch → Type 0
+FitsWatch of Nothing = Unit {0}
+FitsWatch of (Sources e) = length e.sources ≡ length of
+
+-- no list is known but the empty one, which is kept for each state
+pub record IsAnew (r : Signed) : Type 0 where
+  pub lists : r.lists ≡ [] ∷ []
+  pub states : length r.kept ≡ length r.blocks.of
+  pub empty : (s : ℕ) → slice_index r.kept s ≡ 0

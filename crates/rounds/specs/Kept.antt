@@ -1,0 +1,38 @@
+-- The lists that are kept for states from round to round (branching).
+use Rattle.std.specs.Prelude.{◌≡◌, ◌⊎◌, ◌↔◌, ℕ, ◌<◌, List, length, slice_index}
+use Rattle.std.specs.List.{Contains}
+use Rattle.std.specs.List.Sorted.{IsStrictlySortedBy}
+use Rattle.theory.specs.declared.relation.Relation.TheVariants.{Branching}
+use Rattle.theory.specs.Blocks.{Signature}
+use Rattle.theory.specs.Kept.{AreKept, IsShown}
+use Rattle.lts.specs.Labels.{text_of}
+use Rattle.lts.specs.Lts.{Grouped, system_of}
+use Rattle.lists.specs.Lists.{list_at, pair_cmp, AreNumbers}
+use Rattle.partition.specs.Blocks.{IsOne}
+use Rattle.inert.specs.Signed.{IsSignature}
+use Rattle.rounds.specs.EachList.{Signed, list_of}
+use Rattle.rounds.specs.declared.signed_blocks.Watch.TheVariants.{Nothing}
+
+-- the list number k has the pairs of the signature of s, by label numbers, in rising order
+abbrev pub Names : Grouped → List (List (ℕ × ℕ)) → (ℕ → ℕ) → ℕ → ℕ → Type 0
+Names l lists blocks s k = (k < length lists) × IsStrictlySortedBy pair_cmp (list_at lists k) × ((j b : ℕ) →
+    Contains (list_at lists k) (j, b) ↔ ((j < length l.labels) × Signature Branching (system_of l) blocks s (text_of l.labels j) b))
+
+-- for each state a list is kept, by its number; and what is known of them before a round
+pub record KeepsLists (l : Grouped) (r : Signed) : Type 0 where
+  pub states : length r.kept ≡ l.states
+  pub numbers : AreNumbers r.lists r.kept
+  pub known : AreKept (Names l r.lists) (system_of l) (slice_index r.blocks.of) (IsOne r.blocks.live) (slice_index r.kept)
+
+-- the states that a round looks at have the lists of their signatures, the others those that were kept for them, and the split is given
+-- the lists that have changed
+pub record SignsLists (l : Grouped) (p r : Signed) : Type 0 where
+  pub was : List ℕ
+  pub before : AreKept (Names l r.lists) (system_of l) (slice_index r.blocks.of) (IsOne r.blocks.live) (slice_index was)
+  pub anew : p.watch ≡ Nothing → (s : ℕ) → slice_index was s ≡ 0
+  pub signed : (s : ℕ) → IsOne r.blocks.live s
+      → (slice_index r.kept s < length r.lists) × IsSignature Branching l r.blocks.of s (list_of r.lists r.kept s)
+  pub others : (s : ℕ) → s < l.states → IsOne r.blocks.live s ⊎ (slice_index r.kept s ≡ slice_index was s)
+  pub shows : (s : ℕ) → s < l.states → IsShown (slice_index was s) (slice_index r.kept s) (slice_index r.numbers s)
+  pub states : length r.kept ≡ l.states
+  pub numbers : AreNumbers r.lists r.kept

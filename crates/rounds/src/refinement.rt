@@ -1,0 +1,103 @@
+//! Rounds of refinement, up to the one that splits nothing.
+ghost use Rattle.std.specs.Prelude.{◌≡◌, ◌⊎◌, ◌↔◌, ℕ, ◌*◌, ◌<◌, ◌≤◌, [], length, slice_index, IfOk, OnOk, OnErr};
+ghost use Rattle.theory.specs.Bisimulation.{Bisimilar};
+ghost use Rattle.theory.specs.Blocks.{Turns, EachTwo};
+ghost use Rattle.lts.specs.Meter.{HasRoomFor, Costs, CostsUpTo};
+ghost use Rattle.lts.specs.Lts.{row_of, system_of};
+ghost use Rattle.partition.specs.Partition.{IsSomePartition};
+ghost use Rattle.partition.specs.Blocks.{IsOne, AreLive};
+ghost use Rattle.rounds.specs.Settled.{Settled};
+ghost use Rattle.rounds.specs.Watching.{Watches};
+ghost use Rattle.rounds.specs.Rounds.{IsNext};
+
+use crate::one_round::Sense;
+use crate::signed_blocks::SignedBlocks;
+use crate::signing::Signing;
+use lts::{Lts, Memory, Meter};
+use partition::{Blocks, Partition, renumber};
+use std::alloc::Global;
+
+/// Blocks that two states share exactly if they are bisimilar, made from one block by round after round. The last
+/// round, which is counted too, is the first that splits nothing. Each round makes as many visits as there are transitions.
+///
+/// Fails if there is no memory for it. At most as many rounds as there are states were begun then, with at most their
+/// visits.
+pub fn refine<S: Sense, M: Meter>(alloc: Global, l: &Lts<M>, m: &mut M) -> Result<Partition, Memory>
+    requires room { HasRoomFor (M.counted m.old) l.now.states (l.now.states * length l.now.places) }
+
+    // Once it is done
+    ensures states { IfOk result (λ p. length p ≡ l.now.states) }
+    ensures bisimilar { let A = system_of l.now in IfOk result (λ p. EachTwo A (λ s t.
+        (slice_index p s ≡ slice_index p t) ↔ Bisimilar S.relation A s A t)) }
+    ensures numbered { IfOk result IsSomePartition }
+    ensures turns { let n = length l.now.places in OnOk result ((r : ℕ) × (r ≤ l.now.states)
+        × Turns S.relation (system_of l.now) r × Costs (M.counted m.old) (M.counted m.new) r (r * n) (r * n)) }
+
+    // After a refusal
+    ensures err { OnErr result (CostsUpTo (M.counted m.old) (M.counted m.new) l.now.states (length l.now.places)) }
+{
+    let live = with_rows(alloc, l)?;
+    let blocks = Blocks::one(alloc, l.states(), live)?;
+    let mut round = SignedBlocks::new(alloc, blocks)?;
+    theory::refinement_goes_on();
+    theory::final_blocks_are_bisimilarity();
+    loop {
+        let before = round.renew()?;
+        let count = before.count();
+        let next = next_round::<S, M>(before, l, m)?;
+        let more = next.count();
+        if more == count {
+            let blocks = next.into_blocks();
+            return renumber(alloc, blocks.of(), more);
+        }
+        round = next;
+    }
+}
+
+/// The states that have a transition: a header can promise states for nothing, and rounds need not look at them.
+///
+/// Fails if there is no memory for it.
+fn with_rows<M: Meter>(alloc: Global, l: &Lts<M>) -> Result<Vec<u32>, Memory>
+    ensures rising { IfOk result (λ v. AreLive l.now.states v.items) }
+    ensures rows { IfOk result (λ v. (s : ℕ) → s < l.now.states → IsOne v.items s ⊎ (row_of s l.now.places ≡ [])) }
+{
+    let mut live = Vec::with_capacity(alloc, l.states() as usize)?;
+    for s in 0..l.states() {
+        let (start, end) = l.row(s);
+        if start == end {
+            continue;
+        }
+        live.push(s)?;
+    }
+    Ok(live)
+}
+
+/// One round: the Split of the blocks.
+///
+/// Fails if there is no memory for it. At most one round was begun then, with at most its visits.
+fn next_round<S: Signing, M: Meter>(
+    round: SignedBlocks,
+    l: &Lts<M>,
+    m: &mut M,
+) -> Result<SignedBlocks, Memory>
+    requires states { length round.blocks.of ≡ l.now.states }
+    requires settled { Settled S.relation (system_of l.now) (slice_index round.blocks.of) round.blocks.low }
+    requires watches { Watches S.relation l.now round }
+    requires room { HasRoomFor (M.counted m.old) 1 (length l.now.places) }
+
+    // Once it is done
+    ensures next { IfOk result (IsNext S.relation l.now round.blocks) }
+    ensures costs { let n = length l.now.places in OnOk result (Costs (M.counted m.old) (M.counted m.new) 1 n n) }
+
+    // After a refusal
+    ensures err { OnErr result (CostsUpTo (M.counted m.old) (M.counted m.new) 1 (length l.now.places)) }
+{
+    lts::rows_are_steps();
+    l.known();
+    m.start_round();
+    let signed = S::sign_each(l, round, m)?;
+    signed.known();
+    let next = signed.split()?;
+    next.known();
+    Ok(next)
+}

@@ -1,0 +1,300 @@
+//! The blocks of a round, and the signature of each state under them.
+ghost use Rattle.std.specs.Prelude.{◌≡◌, ◌⊎◌, ℕ, ◌+◌, ◌*◌, ◌<◌, ◌≤◌, ◌∷◌, [], length, slice_index, IfOk};
+ghost use Rattle.lts.specs.declared.limits.TheConstants.{MOST_STATES};
+ghost use Rattle.lts.specs.Lts.{Grouped};
+ghost use Rattle.lists.specs.Lists.{AreLists};
+ghost use Rattle.partition.specs.Splitting.{IsAlone};
+ghost use Rattle.partition.specs.Blocks.{AreLive, IsOne, HaveNone, LeavesAlone};
+ghost use Rattle.rounds.specs.EachList.{HaveLists, FitsWatch, IsAnew};
+ghost use Rattle.rounds.specs.Watching.{IsSplitOf, Begins};
+ghost use Rattle.rounds.specs.declared.signed_blocks.Watch.TheVariants.{Nothing, Sources};
+
+use crate::entering::{Entering, Reach};
+use inert::Signer;
+use lists::{EMPTY, Lists};
+use lts::{Lts, Memory, Meter};
+use partition::Blocks;
+use std::alloc::Global;
+use std::marker::Model;
+
+/// Rounds look at few states once fewer than one block of so many is new: the index costs as much as a round, so it has to save one.
+const FEW_ARE_NEW: u32 = 4;
+
+/// What is noted, by which the states that the next round looks at are found.
+#[derive(Drop)]
+pub(crate) enum Watch {
+    /// Nothing: the next round looks at the same states.
+    Nothing,
+    /// Which transitions lead to each state.
+    Sources(Entering),
+}
+
+/// The blocks of a round, what is noted, and the signatures: lists, and for each state the number of a list by which the split tells
+/// it from others of its block. A state that the round does not look at has the empty one.
+#[derive(Drop)]
+pub struct SignedBlocks {
+    pub(crate) alloc: Global,
+    pub(crate) blocks: Blocks,
+    pub(crate) lists: Lists,
+    pub(crate) numbers: Vec<u32>,
+    /// What signs states by inert steps. It keeps for each state the number of its list from round to round.
+    pub(crate) signer: Signer,
+    /// Where the pairs that a row shows are put together.
+    pub(crate) pairs: Vec<(u32, u32)>,
+    pub(crate) watch: Watch,
+    /// When there are more lists, all are forgotten.
+    pub(crate) most_lists: u32,
+}
+
+impl Model for SignedBlocks {
+    ghost use Rattle.rounds.specs.EachList.{Signed, HaveLists, FitsWatch};
+
+    ghost Value = { Signed };
+
+    ghost view = { λ r. record {
+      blocks = r.blocks;
+      lists = r.lists;
+      numbers = r.numbers.items;
+      kept = r.signer;
+      watch = r.watch;
+    } };
+
+    ghost invariant = { λ r. HaveLists r.blocks.of r.blocks.live r.lists r.numbers.items × FitsWatch r.blocks.of r.watch };
+}
+
+impl SignedBlocks {
+    /// These blocks, with empty signatures.
+    ///
+    /// Fails if there is no memory for them.
+    pub fn new(alloc: Global, blocks: Blocks) -> Result<SignedBlocks, Memory>
+        ensures blocks { IfOk result (λ r. r.blocks ≡ blocks) }
+        ensures nothing { IfOk result (λ r. r.watch ≡ Nothing) }
+    {
+        let states = blocks.of().len();
+        Ok(SignedBlocks {
+            alloc,
+            blocks,
+            numbers: vec![in alloc; EMPTY; states]?,
+            lists: Lists::new(alloc, states as u32)?,
+            signer: Signer::new(alloc),
+            pairs: Vec::new(alloc),
+            watch: Watch::Nothing,
+            most_lists: u32::MAX,
+        })
+    }
+
+    /// How many blocks there are.
+    pub fn count(&self) -> u32
+        ensures { result ≡ self.now.blocks.count }
+    {
+        self.blocks.count()
+    }
+
+    /// The blocks alone, without the memory of all else.
+    pub fn into_blocks(self) -> Blocks
+        ensures { result ≡ self.blocks }
+    {
+        self.blocks
+    }
+
+    /// Does nothing when it runs: its contract says what holds of the states that are looked at, and of the lists.
+    pub fn known(&self)
+        ensures lists { AreLists self.now.lists }
+        ensures have { HaveLists self.now.blocks.of self.now.blocks.live self.now.lists self.now.numbers }
+        ensures live { AreLive (length self.now.blocks.of) self.now.blocks.live }
+    {
+        self.lists.known();
+        let _ = self.blocks.live();
+    }
+
+    /// Leaves out the states that are alone in their blocks from what a round looks at, once they are more than one in 32 of these.
+    /// They have the empty list from now on. Once anything is noted, `split` leaves them out.
+    ///
+    /// Fails if there is no memory for it.
+    pub fn renew(mut self) -> Result<SignedBlocks, Memory>
+        ensures same { IfOk result (λ r. r ≡ record self { blocks = r.blocks; numbers = r.numbers }) }
+        ensures blocks { IfOk result (λ r. r.blocks ≡ record self.blocks { live = r.blocks.live }) }
+        ensures leaves { IfOk result (λ r. LeavesAlone self.blocks.of self.blocks.live r.blocks.live) }
+    {
+        self.lists.known();
+        let blocks = self.blocks.renew(self.alloc, &mut self.numbers)?;
+        Ok(SignedBlocks { blocks, ..self })
+    }
+
+    /// Forgets all lists: each state has the empty one, and keeps it.
+    ///
+    /// Fails if there is no memory for it.
+    pub fn anew(mut self) -> Result<SignedBlocks, Memory>
+        ensures same { IfOk result (λ r. (r.blocks ≡ self.blocks) × (r.watch ≡ self.watch)) }
+        ensures anew { IfOk result IsAnew }
+    {
+        self.lists.known();
+        let states = self.blocks.of().len() as u32;
+        forget(&mut self.numbers, self.blocks.live());
+        self.lists.clear();
+        self.signer.forget(states)?;
+        Ok(self)
+    }
+
+    /// Asks the system for the index of the transitions from the states that this round looks at, unless that was done, once few blocks
+    /// are new. No list is known then.
+    ///
+    /// Fails if there is no memory for it.
+    pub fn begin_index<M: Meter>(mut self, l: &Lts<M>, reach: Reach) -> Result<SignedBlocks, Memory>
+        requires states { length self.blocks.of ≡ l.now.states }
+        ensures { IfOk result (Begins l.now reach self) }
+    {
+        let Watch::Nothing = &self.watch else {
+            return Ok(self);
+        };
+        let count = self.blocks.count();
+        if self.blocks.low() <= count - count / FEW_ARE_NEW {
+            return Ok(self);
+        }
+        forget(&mut self.numbers, self.blocks.live());
+        // The lists of the rounds before, which were more, go before there is room for the index.
+        self.lists = Lists::new(self.alloc, 1)?;
+        let blocks = self.blocks.counted(self.alloc)?;
+        let live = blocks.live();
+        let entering = Entering::new(self.alloc, l, live, reach)?;
+        let most_lists = most_lists(live);
+        Ok(SignedBlocks {
+            blocks,
+            watch: Watch::Sources(entering),
+            most_lists,
+            ..self
+        })
+    }
+
+    /// Splits the blocks: two states stay together if the split is given the same list for them. The next round looks at the states that
+    /// are found by what is noted.
+    ///
+    /// Fails if there is no memory for it.
+    pub fn split(self) -> Result<SignedBlocks, Memory>
+        ensures { IfOk result (IsSplitOf self) }
+    {
+        let watch = self.watch;
+        let round = SignedBlocks {
+            watch: Watch::Nothing,
+            ..self
+        };
+        match watch {
+            Watch::Nothing => split_all(round),
+            Watch::Sources(entering) => split_by_sources(round, entering),
+        }
+    }
+}
+
+/// Splits the blocks. The next round looks at the same states.
+///
+/// Fails if there is no memory for it.
+fn split_all(round: SignedBlocks) -> Result<SignedBlocks, Memory>
+    ensures { IfOk result (IsSplitOf (record round { watch = Nothing })) }
+{
+    round.lists.known();
+    let blocks = round
+        .blocks
+        .split(round.alloc, round.lists.len(), &round.numbers)?;
+    Ok(SignedBlocks {
+        blocks,
+        watch: Watch::Nothing,
+        ..round
+    })
+}
+
+/// Splits the blocks. The next round looks at the states that are found by their transitions, or at all, once there are too many lists.
+///
+/// Fails if there is no memory for it.
+fn split_by_sources(round: SignedBlocks, entering: Entering) -> Result<SignedBlocks, Memory>
+    requires { length entering.sources ≡ length round.blocks.of }
+    ensures { IfOk result (IsSplitOf (record round { watch = Sources entering })) }
+{
+    round.lists.known();
+    let alloc = round.alloc;
+    // A slot for each list of this round is enough: a round makes at most one for each state that it looks at.
+    let slots = round.lists.len().min(round.blocks.live().len() as u32 + 1);
+    let blocks = round.blocks.split(alloc, slots, &round.numbers)?;
+    if round.lists.len() > round.most_lists {
+        let next = look_at_all(SignedBlocks { blocks, ..round }, entering)?;
+        return Ok(next);
+    }
+    let (entering, live) = entering.states_before(alloc, &blocks)?;
+    let round = SignedBlocks { blocks, ..round };
+    let next = look_at(round, live, Watch::Sources(entering))?;
+    Ok(next)
+}
+
+/// Forgets all lists, and looks at all states from now on, but those that are seen to be alone in their blocks.
+///
+/// Fails if there is no memory for it.
+fn look_at_all(round: SignedBlocks, entering: Entering) -> Result<SignedBlocks, Memory>
+    requires { length entering.sources ≡ length round.blocks.of }
+    ensures blocks { IfOk result (λ r. r.blocks ≡ record round.blocks { live = r.blocks.live }) }
+    ensures all { IfOk result (λ r. (s : ℕ) → s < length r.blocks.of → IsOne r.blocks.live s ⊎ IsAlone r.blocks.of s) }
+    ensures anew { IfOk result IsAnew }
+    ensures watch { IfOk result (λ r. r.watch ≡ Sources entering) }
+{
+    let round = round.anew()?;
+    let live = not_alone(round.alloc, &round.blocks)?;
+    let most_lists = most_lists(&live);
+    let next = look_at(round, live, Watch::Sources(entering))?;
+    Ok(SignedBlocks { most_lists, ..next })
+}
+
+/// How many lists are kept at most, if a round looks at these states: twice as many as it makes at most.
+fn most_lists(live: &[u32]) -> u32
+    requires { length live.now ≤ MOST_STATES }
+    ensures { result ≡ 2 * (length live.now + 1) }
+{
+    2 * (live.len() as u32 + 1)
+}
+
+/// The states that are not seen to be alone in their blocks, in rising order.
+///
+/// Fails if there is no memory for it.
+fn not_alone(alloc: Global, blocks: &Blocks) -> Result<Vec<u32>, Memory>
+    ensures rising { IfOk result (λ v. AreLive (length blocks.now.of) v.items) }
+    ensures others { IfOk result (λ v. (s : ℕ) → s < length blocks.now.of → IsOne v.items s ⊎ IsAlone blocks.now.of s) }
+{
+    let states = blocks.of().len() as u32;
+    let mut live = Vec::new(alloc);
+    for s in 0..states {
+        if blocks.is_alone(s) {
+            continue;
+        }
+        live.push(s)?;
+    }
+    Ok(live)
+}
+
+/// Looks at these states from now on. All states have the empty list then.
+///
+/// Fails if there is no memory for it.
+fn look_at(mut round: SignedBlocks, live: Vec<u32>, watch: Watch) -> Result<SignedBlocks, Memory>
+    requires live { AreLive (length round.blocks.of) live.items }
+    requires watch { FitsWatch round.blocks.of watch }
+    ensures same { IfOk result (λ r. (r.lists ≡ round.lists) × (r.kept ≡ round.kept)) }
+    ensures blocks { IfOk result (λ r. r.blocks ≡ record round.blocks { live = live.items }) }
+    ensures watch { IfOk result (λ r. r.watch ≡ watch) }
+{
+    round.lists.known();
+    forget(&mut round.numbers, round.blocks.live());
+    let blocks = round.blocks.look_at(round.alloc, live)?;
+    Ok(SignedBlocks {
+        blocks,
+        watch,
+        ..round
+    })
+}
+
+/// Gives these states the number of the empty list, as the others have it.
+fn forget(numbers: &mut [u32], live: &[u32])
+    requires live { AreLive (length numbers.old) live.now }
+    requires none { HaveNone live.now numbers.old }
+    ensures states { length numbers.new ≡ length numbers.old }
+    ensures empty { (s : ℕ) → s < length numbers.old → slice_index numbers.new s ≡ 0 }
+{
+    for i in 0..live.len() {
+        numbers[live[i] as usize] = EMPTY;
+    }
+}

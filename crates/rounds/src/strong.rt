@@ -1,0 +1,185 @@
+//! Strong bisimulation: a state's signature has what its transitions show, and the blocks that they lead to.
+ghost use Rattle.std.specs.Prelude.{◌≡◌, ◌↔◌, ◌+◌, ◌++◌, ◌∷◌, ◌<◌, ◌≤◌, [], length, map, slice_index, IsTrue, IfOk, OnOk};
+ghost use Rattle.std.specs.Vec.{vec_len, vec_capacity};
+ghost use Rattle.theory.specs.declared.relation.Relation.TheVariants.{Strong as strong};
+ghost use Rattle.lts.specs.Meter.{HasRoomFor, Visits};
+ghost use Rattle.lts.specs.Lts.{row_of};
+ghost use Rattle.lists.specs.Lists.{list_at, AreNumbers, Grow};
+ghost use Rattle.partition.specs.Blocks.{HaveNone};
+ghost use Rattle.inert.specs.Signed.{pair_under};
+ghost use Rattle.rounds.specs.EachList.{list_of};
+ghost use Rattle.rounds.specs.Settled.{HasFrom, IsPut, ArePut};
+ghost use Rattle.rounds.specs.Noting.{ReadsUnder};
+
+use crate::entering::Reach;
+use crate::signed_blocks::SignedBlocks;
+use crate::signing::Signing;
+use lists::{EMPTY, Lists, order};
+use lts::{Lts, Memory, Meter, visit_places};
+
+/// Strong bisimulation (Milner 1989).
+pub struct Strong;
+
+impl Signing for Strong {
+    ghost relation = { strong };
+
+    fn sign_each<M: Meter>(
+        l: &Lts<M>,
+        round: SignedBlocks,
+        m: &mut M,
+    ) -> Result<SignedBlocks, Memory> {
+        lts::rows_are_steps();
+        let mut round = round.begin_index(l, Reach::Before)?;
+        round.lists.clear();
+        let under = NewBlocks {
+            l,
+            of: round.blocks.of(),
+            low: round.blocks.low(),
+        };
+        sign_live(
+            &under,
+            round.blocks.live(),
+            &mut round.pairs,
+            &mut round.lists,
+            &mut round.numbers,
+            m,
+        )?;
+        Ok(round)
+    }
+}
+
+/// Puts the strong signatures of these states into `lists`, and their numbers there into `numbers`. The rows of the other states lie
+/// between those of two neighbours, and are visited for their count alone.
+///
+/// Fails if there is no memory for it.
+fn sign_live<M: Meter>(
+    under: &NewBlocks<M>,
+    live: &[u32],
+    pairs: &mut Vec<(u32, u32)>,
+    lists: &mut Lists,
+    numbers: &mut [u32],
+    m: &mut M,
+) -> Result<(), Memory>
+    requires under { ReadsUnder under.now.l.now under.now.of.now live.now }
+    requires lists { lists.old ≡ [] ∷ [] }
+    requires numbers { (length numbers.old ≡ under.now.l.now.states) × HaveNone live.now numbers.old }
+    requires room { HasRoomFor (M.counted m.old) 0 (length under.now.l.now.places) }
+    ensures signed { OnOk result (ArePut strong under.now.l.now under.now.of.now under.now.low live.now (list_of lists.new numbers.new)) }
+    ensures numbers { OnOk result (AreNumbers lists.new numbers.new × HaveNone live.now numbers.new) }
+    ensures visits { let n = length under.now.l.now.places in Visits M.counted m.old m.new result n n }
+{
+    lts::rows_follow();
+    lts::rows_are_steps();
+    under.l.known();
+    let mut next = 0;
+    for i in 0..live.len() {
+        let s = live[i];
+        let (start, end) = under.l.row(s);
+        visit_places(under.l, next, start, m);
+        next = end;
+        numbers[s as usize] = put(under, s, pairs, lists, m)?;
+    }
+    visit_places(under.l, next, under.l.edges(), m);
+    Ok(())
+}
+
+/// What a row is read under: a system, the block of each state, and from which number on blocks are new.
+#[derive(Drop)]
+pub(crate) struct NewBlocks<'a, M: Meter> {
+    pub l: &'a Lts<M>,
+    pub of: &'a [u32],
+    pub low: u32,
+}
+
+/// Puts the strong signature of `s` into `lists` and returns its number there, or that of the empty list where `s` leads to no
+/// number from `low` on.
+///
+/// Fails if there is no memory for it.
+fn put<M: Meter>(
+    under: &NewBlocks<M>,
+    s: u32,
+    pairs: &mut Vec<(u32, u32)>,
+    lists: &mut Lists,
+    m: &mut M,
+) -> Result<u32, Memory>
+    requires states { length under.now.of.now ≡ under.now.l.now.states }
+    requires state { s < under.now.l.now.states }
+    requires room { HasRoomFor (M.counted m.old) 0 (length (row_of s under.now.l.now.places)) }
+    ensures within { IfOk result (λ k. k < length lists.new) }
+    ensures put { IfOk result (λ k. IsPut strong under.now.l.now under.now.of.now under.now.low s (list_at lists.new k)) }
+    ensures grow { Grow lists.old lists.new }
+    ensures visits { let n = length (row_of s under.now.l.now.places) in Visits M.counted m.old m.new result n n }
+{
+    lts::rows_are_steps();
+    under.l.known();
+    lists.known();
+    if !read(under, s, pairs, m)? {
+        return Ok(EMPTY);
+    }
+    order(pairs);
+    let list = lists.push(pairs)?;
+    Ok(list)
+}
+
+/// Makes `pairs` those of the transitions of `s`, as they stand in its row. Returns whether one of the pairs has a number from `low`
+/// on.
+///
+/// Fails if there is no memory for it.
+#[inline(always)]
+pub(crate) fn read<M: Meter>(
+    under: &NewBlocks<M>,
+    s: u32,
+    pairs: &mut Vec<(u32, u32)>,
+    m: &mut M,
+) -> Result<bool, Memory>
+    requires states { length under.now.of.now ≡ under.now.l.now.states }
+    requires state { s < under.now.l.now.states }
+    requires room { HasRoomFor (M.counted m.old) 0 (length (row_of s under.now.l.now.places)) }
+    ensures pairs { OnOk result (pairs.new.items ≡ map (pair_under under.now.of.now) (row_of s under.now.l.now.places)) }
+    ensures touched { IfOk result (λ touched. IsTrue touched ↔ HasFrom under.now.low pairs.new.items) }
+    ensures visits { let n = length (row_of s under.now.l.now.places) in Visits M.counted m.old m.new result n n }
+{
+    lts::rows_follow();
+    under.l.known();
+    let (start, end) = under.l.row(s);
+    pairs.clear();
+    pairs.reserve((end - start) as usize)?;
+    let mut touched = false;
+    let mut k = start;
+    if (end - start) % 2 == 1 {
+        let only = under.l.edge(k, m);
+        touched = collect(under.of, under.low, only, touched, pairs);
+        k += 1;
+    }
+    // Two visits, then two writes: a visit after a write waits until the count has come back from memory.
+    while k < end {
+        let first = under.l.edge(k, m);
+        let second = under.l.edge(k + 1, m);
+        touched = collect(under.of, under.low, first, touched, pairs);
+        touched = collect(under.of, under.low, second, touched, pairs);
+        k += 2;
+    }
+    Ok(touched)
+}
+
+/// Appends the pair that a transition with this label number and this target shows; there is room for it. Returns whether one
+/// of the pairs has a number from `low` on, as `touched` tells of those before.
+#[inline(always)]
+fn collect(
+    p: &[u32],
+    low: u32,
+    transition: (u32, u32),
+    touched: bool,
+    pairs: &mut Vec<(u32, u32)>,
+) -> bool
+    requires target { transition.1 < length p.now }
+    requires touched { IsTrue touched ↔ HasFrom low pairs.old.items }
+    requires room { vec_len pairs.old < vec_capacity pairs.old }
+    ensures pairs { pairs.new.items ≡ pairs.old.items ++ (transition.0, slice_index p.now transition.1) ∷ [] }
+    ensures touched { IsTrue result ↔ HasFrom low pairs.new.items }
+    ensures room { (vec_len pairs.new ≡ vec_len pairs.old + 1) × (vec_capacity pairs.new ≡ vec_capacity pairs.old) }
+{
+    let block = p[transition.1 as usize];
+    pairs.push_reserved((transition.0, block));
+    touched || block >= low
+}
