@@ -55,16 +55,6 @@ abbrev pub TakesStep : List Triple → Step → Search → Search → Bool → T
 TakesStep places (Shows a b) old new enters = (new ≡ with_item (Pair a b) old) × ¬ IsTrue enters
 TakesStep places (Inert t) old new enters = Follows places t old new enters
 
--- no state is found that was not seen
-abbrev pub FindsNone : Search → Search → Type 0
-FindsNone old new = (s : ℕ) → stage_at old.stages s ≡ Unseen → stage_at new.stages s ≡ Unseen
-
--- only the last state on the stack is found, and none if no state is entered
-pub record Finds (old new : Search) (enters : Bool) : Type 0 where
-  pub some : IsTrue enters → 0 < length new.stack
-  pub found : (s : ℕ) → stage_at old.stages s ≡ Unseen →
-      (stage_at new.stages s ≡ Unseen) ⊎ (IsTrue enters × (slice_index new.stack (length new.stack - 1) ≡ s))
-
 -- some of the items gives the pair z
 abbrev pub IsGiven : List (List (ℕ × ℕ)) → List Item → ℕ × ℕ → Type 0
 IsGiven lists items z = (x : Item) × Contains items x × Gives lists x z

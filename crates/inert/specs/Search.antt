@@ -55,21 +55,11 @@ pub record HasEnded (w : Search) : Type 0 where
   pub empty : w ≡ nothing w.stages
   pub all : (s : ℕ) → s < length w.stages → IsFinished w.stages s
 
--- no walk is under way, and no state was seen
-pub record IsIdle (w : Search) : Type 0 where
-  pub empty : w ≡ nothing w.stages
-  pub rest : (s : ℕ) → s < length w.stages → stage_at w.stages s ≡ Unseen
-
 -- the states of this list are unseen, and the others as before
 pub record AreUnseen (states : List ℕ) (old new : List Stage) : Type 0 where
   pub size : length new ≡ length old
   pub each : (s : ℕ) → Contains states s → stage_at new s ≡ Unseen
   pub others : (s : ℕ) → Contains states s ⊎ (stage_at new s ≡ stage_at old s)
-
--- the trail has each state that was seen
-pub record IsTrail (stages : List Stage) (trail : List ℕ) : Type 0 where
-  pub each : All (λ s. s < length stages) trail
-  pub seen : (s : ℕ) → (stage_at stages s ≡ Unseen) ⊎ Contains trail s
 
 -- of so many states those that are looked at are unseen, and the others finished
 pub record AreAwake (states : ℕ) (live : List ℕ) (stages : List Stage) : Type 0 where

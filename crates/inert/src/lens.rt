@@ -11,7 +11,7 @@ use std::marker::Model;
 
 /// A system, and the block of each state: which steps are inert, and what the others show, is read by it.
 #[derive(Drop)]
-pub(crate) struct Lens<'a, M: Meter> {
+pub struct Lens<'a, M: Meter> {
     l: &'a Lts<M>,
     blocks: &'a [u32],
     /// The number of the internal label, if a transition may have it.

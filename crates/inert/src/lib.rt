@@ -23,9 +23,7 @@
 //! state that was not seen. Most walks are one row: in ten rounds over nine buffers, steps enter 521 of 196,830 states.
 //!
 //! Between the walks of rounds all states are finished, each with the number of the list that is kept for it. A round wakes those
-//! that it looks at: they are unseen. For each other state of their blocks a list is kept that is its signature already. The walk
-//! from one state alone has stages of its own, where all states are unseen between walks. It keeps a trail of those that it sees,
-//! and makes them unseen again.
+//! that it looks at: they are unseen. For each other state of their blocks a list is kept that is its signature already.
 #![tactic(auto)]
 
 mod beginning;
@@ -37,4 +35,6 @@ mod signer;
 mod step;
 mod walk;
 
+pub use lens::Lens;
 pub use signer::Signer;
+pub use step::Step;

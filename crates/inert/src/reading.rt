@@ -2,10 +2,9 @@
 ghost use Rattle.std.specs.Prelude.{◌≡◌, ◌+◌, ◌-◌, ◌<◌, ◌≤◌, length, IfOk, OnOk};
 ghost use Rattle.std.specs.List.{All};
 ghost use Rattle.lts.specs.Meter.{HasRoomFor, Costs};
-ghost use Rattle.lts.specs.Lts.{row_of};
 ghost use Rattle.lists.specs.Lists.{Grow};
-ghost use Rattle.inert.specs.Search.{stage_at, AreOpen, AreThere, IsIdle, IsSigned};
-ghost use Rattle.inert.specs.Moves.{Closes, Finishes, ahead, steps, HasRead, IsUnderWay, SignsMore, GoesOn, Rests, ComesNearer, Finds, FindsNone};
+ghost use Rattle.inert.specs.Search.{stage_at, AreOpen, AreThere};
+ghost use Rattle.inert.specs.Moves.{Closes, Finishes, ahead, steps, HasRead, IsUnderWay, SignsMore, GoesOn, Rests, ComesNearer};
 ghost use Rattle.inert.specs.Ahead.{unread, HasFinished};
 ghost use Rattle.inert.specs.declared.walk.Stage.TheVariants.{Unseen};
 
@@ -45,45 +44,7 @@ impl Walk {
         Ok(())
     }
 
-    /// Finishes the state `s`, and all states that inert steps lead to, and returns the number of its list. Makes `trail` those that
-    /// it sees, by which it makes them unseen again.
-    ///
-    /// Fails if there is no memory for it.
-    pub fn sign<M: Meter>(
-        &mut self,
-        lens: &Lens<M>,
-        s: u32,
-        lists: &mut Lists,
-        trail: &mut Vec<u32>,
-        m: &mut M,
-    ) -> Result<u32, Memory>
-        requires idle { IsIdle self.old }
-        requires stages { length self.old.stages ≡ lens.now.l.states }
-        requires state { s < lens.now.l.states }
-        requires room { HasRoomFor (M.counted m.old) 0 (length lens.now.l.places) }
-        ensures signed { IfOk result (IsSigned lens.now s lists.new) }
-        ensures idle { OnOk result (IsIdle self.new) }
-        ensures row { OnOk result ((M.counted m.old).visits + length (row_of s lens.now.l.places) ≤ (M.counted m.new).visits) }
-        ensures cost { Costs (M.counted m.old) (M.counted m.new) 0 0 (length lens.now.l.places) }
-    {
-        lens.known();
-        lists.known();
-        trail.clear();
-        trail.push(s)?;
-        self.enter(lens, s)?;
-        while !self.frames.is_empty() {
-            let entered = self.go_on(lens, lists, m)?;
-            if !entered {
-                continue;
-            }
-            trail.push(self.last_state())?;
-        }
-        let list = self.list(s as usize);
-        self.forget(trail);
-        Ok(list)
-    }
-
-    /// Reads on where the walk is, up to a step that enters a state, or else goes back from there. Returns whether it enters one.
+    /// Reads on where the walk is, up to a step that enters a state, or else goes back from there.
     ///
     /// Fails if there is no memory for it.
     fn go_on<M: Meter>(
@@ -91,21 +52,20 @@ impl Walk {
         lens: &Lens<M>,
         lists: &mut Lists,
         m: &mut M,
-    ) -> Result<bool, Memory>
+    ) -> Result<(), Memory>
         requires way { IsUnderWay lens.now lists.old self.old }
         requires room { HasRoomFor (M.counted m.old) 0 (ahead lens.now.l self.old) }
         ensures on { OnOk result (GoesOn lens.now lists.new self.old self.new) }
         ensures grow { OnOk result (Grow lists.old lists.new) }
         ensures visits { OnOk result ((M.counted m.new).visits + ahead lens.now.l self.new ≡ (M.counted m.old).visits + ahead lens.now.l self.old) }
         ensures nearer { OnOk result (steps lens.now.l self.new < steps lens.now.l self.old) }
-        ensures finds { IfOk result (Finds self.old self.new) }
         ensures cost { Costs (M.counted m.old) (M.counted m.new) 0 0 (ahead lens.now.l self.old) }
     {
         if self.read(lens, lists, m)? {
-            return Ok(true);
+            return Ok(());
         }
         self.go_back(lens, lists)?;
-        Ok(false)
+        Ok(())
     }
 
     /// Reads the row of the state where the walk is up to its end, or up to a step that enters a state. Returns whether it
@@ -118,7 +78,6 @@ impl Walk {
         ensures on { OnOk result (GoesOn lens.now lists.now self.old self.new) }
         ensures visits { OnOk result ((M.counted m.new).visits + ahead lens.now.l self.new ≡ (M.counted m.old).visits + ahead lens.now.l self.old) }
         ensures steps { IfOk result (ComesNearer lens.now.l self.old self.new) }
-        ensures finds { IfOk result (Finds self.old self.new) }
         ensures cost { Costs (M.counted m.old) (M.counted m.new) 0 0 (ahead lens.now.l self.old) }
     {
         lens.known();
@@ -146,7 +105,6 @@ impl Walk {
         ensures grow { OnOk result (Grow lists.old lists.new) }
         ensures ahead { OnOk result (ahead lens.now.l self.new ≡ ahead lens.now.l self.old) }
         ensures back { OnOk result (length self.new.frames < length self.old.frames) }
-        ensures finds { OnOk result (FindsNone self.old self.new) }
     {
         lens.known();
         let frame = self.top_frame();

@@ -1,8 +1,7 @@
-//! The two entrances to the walk: the branching signature of one state, and those of all that a round looks at.
-ghost use Rattle.std.specs.Prelude.{◌≡◌, ◌⊎◌, ℕ, ◌<◌, length, slice_index, IfOk, OnOk};
+//! The entrance to the walk: the branching signatures of all states that a round looks at.
+ghost use Rattle.std.specs.Prelude.{◌≡◌, ◌⊎◌, ℕ, ◌<◌, length, slice_index, OnOk};
 ghost use Rattle.theory.specs.declared.relation.Relation.TheVariants.{Branching};
 ghost use Rattle.lts.specs.Meter.{HasRoomFor, Visits};
-ghost use Rattle.lts.specs.Lts.{row_of};
 ghost use Rattle.lists.specs.Lists.{list_at, AreNumbers, Grow};
 ghost use Rattle.partition.specs.Blocks.{IsOne, AreLive, HaveNone};
 ghost use Rattle.inert.specs.Signed.{IsSignature, AreSignedBeside, ShowsNew};
@@ -23,33 +22,24 @@ pub struct Signer {
     alloc: Global,
     /// The walk of rounds: between them, states are finished, with the lists that are kept for them.
     walk: Walk,
-    /// The walk from one state alone: between walks no state was seen.
-    single: Walk,
-    /// The states that the walk from one state has seen.
-    trail: Vec<u32>,
 }
 
 /// Written out, so that it is dropped by one call and not by one for each part.
 impl Drop for Signer {
     fn drop(self) {
-        let Signer {
-            alloc: _,
-            walk: _,
-            single: _,
-            trail: _,
-        } = self;
+        let Signer { alloc: _, walk: _ } = self;
     }
 }
 
 impl Model for Signer {
     ghost use Rattle.std.specs.Prelude.{ℕ, List};
-    ghost use Rattle.inert.specs.Search.{kept, IsIdle, HasEnded};
+    ghost use Rattle.inert.specs.Search.{kept, HasEnded};
 
     ghost Value = { List ℕ };
 
     ghost view = { λ x. kept x.walk.stages };
 
-    ghost invariant = { λ x. HasEnded x.walk × IsIdle x.single };
+    ghost invariant = { λ x. HasEnded x.walk };
 }
 
 impl Signer {
@@ -58,38 +48,7 @@ impl Signer {
         Signer {
             alloc,
             walk: Walk::new(alloc),
-            single: Walk::new(alloc),
-            trail: Vec::new(alloc),
         }
-    }
-
-    /// Puts the branching signature of the state `s` into `lists`, and returns its number there. The first call makes a stage a
-    /// state; a call after it costs what the walk reaches.
-    ///
-    /// Fails if there is no memory for it.
-    pub fn sign<M: Meter>(
-        &mut self,
-        l: &Lts<M>,
-        blocks: &[u32],
-        s: u32,
-        lists: &mut Lists,
-        m: &mut M,
-    ) -> Result<u32, Memory>
-        requires blocks { length blocks.now ≡ l.now.states }
-        requires state { s < l.now.states }
-        requires room { HasRoomFor (M.counted m.old) 0 (length l.now.places) }
-        ensures within { IfOk result (λ k. k < length lists.new) }
-        ensures signature { IfOk result (λ k. IsSignature Branching l.now blocks.now s (list_at lists.new k)) }
-        ensures visits { Visits M.counted m.old m.new result (length (row_of s l.now.places)) (length l.now.places) }
-    {
-        self.single.prepare(self.alloc, l.states())?;
-        let lens = Lens::new(l, blocks);
-        let done = self.single.sign(&lens, s, lists, &mut self.trail, m);
-        if done.is_err() {
-            // Which states were seen is open, so the next call makes the stages anew.
-            self.single = Walk::new(self.alloc);
-        }
-        done
     }
 
     /// Keeps the empty list for each of so many states.

@@ -2,7 +2,7 @@
 
 /// A transition of a state, under the blocks of the states.
 #[derive(Clone, Copy)]
-pub(crate) enum Step {
+pub enum Step {
     /// An inert step to this state.
     Inert(u32),
     /// It shows its label, by number, and the block that it leads to.

@@ -4,7 +4,7 @@ ghost use Rattle.std.specs.Prelude.{◌≡◌, ◌↔◌, ℕ, ◌-◌, ◌<◌,
 ghost use Rattle.std.specs.List.{All};
 ghost use Rattle.lts.specs.declared.limits.TheConstants.{MOST_STATES};
 ghost use Rattle.partition.specs.Blocks.{AreLive};
-ghost use Rattle.inert.specs.Search.{Search, stage_at, nothing, top, last, IsIdle, HasEnded, IsWoken, IsTrail, AreUnseen};
+ghost use Rattle.inert.specs.Search.{Search, stage_at, nothing, top, last, HasEnded, IsWoken, AreUnseen};
 ghost use Rattle.inert.specs.Moves.{with_stage, entered, Enters, LeadsOn, Follows, TakesStep, with_item, popped, CutsRoots};
 ghost use Rattle.inert.specs.declared.walk.Stage.TheVariants.{Unseen, Finished};
 ghost use Rattle.inert.specs.declared.step.Step.TheVariants.{Inert, Shows};
@@ -107,21 +107,6 @@ impl Walk {
         }
     }
 
-    /// Makes the stages for so many states, unless they are there: none was seen.
-    ///
-    /// Fails if there is no memory for them.
-    pub fn prepare(&mut self, alloc: Global, states: u32) -> Result<(), Memory>
-        requires idle { IsIdle self.old }
-        ensures idle { IsIdle self.new }
-        ensures size { OnOk result (length self.new.stages ≡ states) }
-    {
-        if self.stages.len() == states as usize {
-            return Ok(());
-        }
-        self.stages = vec![in alloc; Stage::Unseen; states as usize]?;
-        Ok(())
-    }
-
     /// Makes the stages for so many states: all are finished, with the empty list.
     ///
     /// Fails if there is no memory for them.
@@ -146,15 +131,6 @@ impl Walk {
         ensures { IsWoken self.old.stages live.now self.new }
     {
         make_unseen(&mut self.stages, live);
-    }
-
-    /// Makes unseen again the states of the trail, which has all that were seen. It costs what was seen.
-    pub fn forget(&mut self, trail: &[u32])
-        requires over { self.old ≡ nothing self.old.stages }
-        requires trail { IsTrail self.old.stages trail.now }
-        ensures idle { IsIdle self.new }
-    {
-        make_unseen(&mut self.stages, trail);
     }
 
     /// Whether the state `s` was not seen.

@@ -14,7 +14,6 @@ pub mod Halving
 pub mod Uniting
 pub mod Joining
 pub mod Noting
-pub mod Listing
 pub mod Marking
 pub mod Keeping
 pub mod Extending

@@ -8,7 +8,7 @@ use Rattle.std.proofs.lemmas.List.Elements.{All-head, All-tail, All-append, All-
 use Rattle.buckets.specs.Buckets.{tag_at, IsLast}
 use Rattle.lists.specs.Lists.{pair_cmp, list_at, merged, AreLists, Grow, HasOne}
 use Rattle.lists.specs.Nodes.{AreStored}
-use Rattle.lists.specs.Spans.{fingerprint_of, mixed}
+use Rattle.lists.specs.Hashes.{fingerprint_of, mixed}
 use Rattle.lists.specs.Hashed.{AreDifferent, IsNewList}
 use Rattle.lists.specs.Extended.{ShareNone, Includes, kept_at, extended, IsExtension, extended_lists, AreExtended}
 use Rattle.lists.specs.Unions.{Unites, IsUnion, AreUnions}

@@ -8,7 +8,7 @@ use Rattle.std.specs.Set.{is_member}
 use Rattle.lists.specs.declared.kept.Extension.{Extension}
 use Rattle.lists.specs.declared.kept.Slot.{Slot}
 use Rattle.lists.specs.Lists.{pair_cmp, list_at, merged}
-use Rattle.lists.specs.Spans.{fingerprint_of, mixed}
+use Rattle.lists.specs.Hashes.{fingerprint_of, mixed}
 use Rattle.lists.specs.Hashed.{AreDifferent}
 
 -- no pair is in both lists

@@ -1,6 +1,6 @@
 -- How different lists are found: by tags, which equal lists share.
 use Rattle.std.specs.Prelude.{◌≡◌, ℕ, ◌<◌, List, map, length}
-use Rattle.lists.specs.Spans.{fingerprint_of, mixed}
+use Rattle.lists.specs.Hashes.{fingerprint_of, mixed}
 use Rattle.lists.specs.Lists.{list_at}
 
 -- the tag of a list

@@ -2,7 +2,7 @@ pub mod Lists
 pub mod Marks
 pub mod Cuts
 pub mod Inserting
-pub mod Spans
+pub mod Hashes
 pub mod Nodes
 pub mod Hashed
 pub mod Unions

@@ -5,13 +5,13 @@ ghost use Rattle.std.specs.List.{Contains};
 ghost use Rattle.lists.specs.Lists.{list_at, Grow};
 ghost use Rattle.lists.specs.Nodes.{AreStored, IsShape, list_of_shape, Suits};
 ghost use Rattle.lists.specs.Hashed.{AreDifferent};
-ghost use Rattle.lists.specs.Spans.{fingerprint_of};
+ghost use Rattle.lists.specs.Hashes.{fingerprint_of};
 
 use crate::cut::key;
 use crate::hashed::{find, put};
+use crate::hashes::{fingerprint, mix};
 use crate::nodes::{Nodes, Shape};
 use crate::ordered::has;
-use crate::span::{fingerprint, mix};
 use buckets::Buckets;
 use growth::Memory;
 use std::alloc::Global;

@@ -1,13 +1,13 @@
 //! How `distinct` finds its lists (hash-consing): by tags, which equal lists share.
 ghost use Rattle.std.specs.Prelude.{◌≡◌, ◌^◌, ◌++◌, ◌∷◌, ◌<◌, [], length, map, IfOk, OnOk, OnErr, IsTrue, ◌↔◌, MatchOption};
 ghost use Rattle.lists.specs.Lists.{list_at};
-ghost use Rattle.lists.specs.Spans.{fingerprint_of};
+ghost use Rattle.lists.specs.Hashes.{fingerprint_of};
 ghost use Rattle.lists.specs.Nodes.{list_of_shape, Suits};
 ghost use Rattle.lists.specs.Hashed.{tag_of, AreDifferent, IsHashed, IsNewList, IsNumberOf};
 ghost use Rattle.buckets.specs.Chains.{bucket_of_tag};
 
+use crate::hashes::{are_same, fingerprint, mix};
 use crate::nodes::{Nodes, Shape, make_room};
-use crate::span::{are_same, fingerprint, mix};
 use buckets::{Buckets, bucket};
 use growth::Memory;
 

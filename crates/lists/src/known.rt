@@ -3,7 +3,7 @@ ghost use Rattle.std.specs.Prelude.{◌≡◌, ◌⊎◌, ℕ, ◌<◌, map, len
 ghost use Rattle.std.specs.List.{All, Contains};
 ghost use Rattle.lists.specs.Known.{no_entry, noted_union, HasPlaces, IsNone};
 
-use crate::span::{hash, mix};
+use crate::hashes::{hash, mix};
 use buckets::bucket;
 use growth::Memory;
 use std::alloc::Global;

@@ -13,11 +13,9 @@
 //! distinct       a base that is asked for again has the number that it had
 //!   hashed       how it is found, by its tag
 //! nodes          how each base is kept: whole, or by its halves
-//! cut, span                    where a list is cut; hashes, and ranges of a buffer
+//! cut, hashes                  where a list is cut; hashes of pairs and of lists
 //! ordered, inserted, marked    pairs in order, by insertion if they are few, and by marks if they are many
 //! ```
-//!
-//! Apart from these, `parts` has lists in the order in which they come, whole in one buffer, over `span` alone.
 //!
 //! A base is cut at the number between its first and its last pair that the highest power of two divides, if a pair is
 //! read as one number. So the base alone decides its halves, and bases that differ in few places share all other halves.
@@ -26,6 +24,7 @@
 mod cut;
 mod distinct;
 mod hashed;
+mod hashes;
 mod inserted;
 mod joined;
 mod kept;
@@ -35,13 +34,10 @@ mod marked;
 mod nodes;
 mod numbered;
 mod ordered;
-mod parts;
-mod span;
 mod unions;
 
 pub use hashed::list_bucket;
+pub use hashes::hash;
 pub use lists::Lists;
 pub use nodes::{EMPTY, MOST_LISTS};
 pub use ordered::order;
-pub use parts::Parts;
-pub use span::hash;

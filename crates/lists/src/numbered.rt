@@ -1,16 +1,16 @@
 //! How a list with a base and pairs beside it gets its number: it is found by a tag that its pairs alone decide.
 ghost use Rattle.std.specs.Prelude.{◌≡◌, ◌↔◌, ◌++◌, ◌∷◌, ◌<◌, ◌≤◌, [], length, IfOk, OnOk, OnErr, IsTrue, MatchOption};
 ghost use Rattle.lists.specs.Lists.{list_at, Grow};
-ghost use Rattle.lists.specs.Spans.{fingerprint_of, mixed};
+ghost use Rattle.lists.specs.Hashes.{fingerprint_of, mixed};
 ghost use Rattle.lists.specs.Hashed.{IsNewList, IsNumberOf};
 ghost use Rattle.lists.specs.Extended.{parts_of, extended, IsExtension, extended_lists, AreExtended};
 ghost use Rattle.lists.specs.declared.nodes.TheConstants.{FEW};
 
 use crate::cut::fit;
 use crate::distinct::Distinct;
+use crate::hashes::{are_same, fingerprint, mix};
 use crate::kept::{Extension, Kept};
 use crate::nodes::{EMPTY, FEW};
-use crate::span::{are_same, fingerprint, mix};
 use crate::unions::with;
 use buckets::Buckets;
 use growth::Memory;

@@ -1,2 +1,2 @@
 -- What proofs of other crates cite of this one: they name no other file of it.
-pub use Rattle.partition.proofs.Renumbering.{one_block, renumbered_alike}
+pub use Rattle.partition.proofs.Renumbering.{one_block}

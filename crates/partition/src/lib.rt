@@ -36,7 +36,6 @@
 mod blocks;
 mod counted;
 mod members;
-mod one_round;
 mod partition;
 mod splitter;
 

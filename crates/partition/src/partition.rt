@@ -1,7 +1,10 @@
 //! A partition of the states 0, 1, .. into blocks, which are numbered in the order of their least members.
-ghost use Rattle.std.specs.Prelude.{◌≡◌, ◌<◌, length, slice_index};
+ghost use Rattle.std.specs.Prelude.{◌≡◌, ℕ, ◌<◌, ◌≤◌, length, slice_index, IfOk};
+ghost use Rattle.lts.specs.declared.limits.TheConstants.{MOST_STATES};
 ghost use Rattle.partition.specs.Partition.{IsPartition, IsSomePartition};
 
+use growth::Memory;
+use std::alloc::Global;
 use std::marker::Model;
 
 /// The block of each state, as a number from 0 up to the count of blocks.
@@ -24,6 +27,19 @@ impl Model for Partition {
 }
 
 impl Partition {
+    /// All of 1 to 2,000,000 states in one block.
+    ///
+    /// Fails if there is no memory for it.
+    pub fn one(alloc: Global, states: u32) -> Result<Partition, Memory>
+        requires some { 1 ≤ states }
+        requires few { states ≤ MOST_STATES }
+        ensures states { IfOk result (λ p. length p ≡ states) }
+        ensures one { IfOk result (λ p. (s : ℕ) → s < states → slice_index p s ≡ 0) }
+    {
+        let blocks = vec![in alloc; 0u32; states as usize]?;
+        Ok(Partition::from_blocks(blocks, 1))
+    }
+
     /// The partition with these blocks, of which there are so many.
     pub fn from_blocks(blocks: Vec<u32>, count: u32) -> Partition
         requires { IsPartition blocks.items count }
@@ -60,5 +76,12 @@ impl Partition {
         ensures blocks { result.now ≡ self.now }
     {
         &self.blocks
+    }
+
+    /// The blocks alone.
+    pub(crate) fn into_blocks(self) -> Vec<u32>
+        ensures { result.items ≡ self }
+    {
+        self.blocks
     }
 }

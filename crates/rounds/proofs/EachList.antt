@@ -1,28 +1,12 @@
 -- The lists of the states by their numbers.
-use Rattle.std.proofs.Common.{◌≡◌, ◌∙◌, ℕ, zero, suc, ◌<◌, ◌≤◌, List, [], ◌∷◌, ◌++◌, length, take, get_or, slice_index, ap, sym, subst, refl, inl, inr, arith}
-use Rattle.std.proofs.lemmas.List.{get_or-map, get_or_default, take_at}
+use Rattle.std.proofs.Common.{◌≡◌, ◌∙◌, ℕ, ◌<◌, ◌≤◌, List, ◌++◌, length, take, slice_index, ap, sym, subst, inl, inr, arith}
+use Rattle.std.proofs.lemmas.List.{get_or_default, take_at}
 use Rattle.lists.specs.Lists.{list_at, AreLists, AreNumbers}
 use Rattle.partition.specs.Blocks.{RoundBlocks, HaveNone, AreOrNone, AreParted}
-use Rattle.rounds.specs.EachList.{list_of, each_list, HaveLists, FitsWatch}
-use Rattle.rounds.specs.Signed.{signature_at}
+use Rattle.rounds.specs.EachList.{list_of, HaveLists, FitsWatch}
 use Rattle.rounds.specs.declared.signed_blocks.Watch.{Watch}
 use Rattle.rounds.specs.declared.signed_blocks.Watch.TheVariants.{Nothing, Sources}
 use Rattle.partition.specs.Splitting.{Splits}
-
--- the list of a state is the one that its number gives
-pub signature_at-list : (lists : List (List (ℕ × ℕ))) (numbers : List ℕ) (s : ℕ) → s < length numbers →
-    signature_at (each_list lists numbers) s ≡ list_of lists numbers s
-signature_at-list lists numbers s h = get_or-map (list_at lists) numbers s 0 [] h
-
--- if the empty list is the only one, each state has it
-pub signature_at-none : (lists : List (List (ℕ × ℕ))) (numbers : List ℕ) (s : ℕ) → lists ≡ [] ∷ [] → s < length numbers →
-    signature_at (each_list lists numbers) s ≡ []
-signature_at-none lists numbers s only h =
-    signature_at-list lists numbers s h ∙ ap (λ xs. list_of xs numbers s) only ∙ at (get_or numbers s 0)
-  where
-    at : (k : ℕ) → list_at ([] ∷ []) k ≡ []
-    at zero = refl
-    at (suc k) = refl
 
 -- states of blocks have lists, if their numbers were written back through a slice of all of them
 pub written_back : (of live : List ℕ) (lists : List (List (ℕ × ℕ))) (numbers rest : List ℕ) (n : ℕ) → AreNumbers lists numbers → HaveNone live numbers

@@ -1,9 +1,9 @@
 -- Two states have equal lists as their signatures exactly where they have the same signature.
-use Rattle.std.proofs.Common.{◌≡◌, ◌↔◌, ℕ, ◌<◌, List, slice_index, Contains, sym, subst}
+use Rattle.std.proofs.Common.{◌≡◌, ◌↔◌, ℕ, List, slice_index, Contains, sym, subst}
 use Rattle.theory.specs.System.{Step}
 use Rattle.theory.specs.declared.relation.Relation.{Relation}
 use Rattle.theory.specs.declared.relation.Relation.TheVariants.{Strong, Branching}
-use Rattle.theory.specs.Blocks.{Signature, SameSignature, Split}
+use Rattle.theory.specs.Blocks.{Signature, SameSignature}
 use Rattle.lts.specs.Labels.{text_of, IsNumber}
 use Rattle.lts.specs.Lts.{Grouped, system_of}
 use Rattle.inert.specs.Signed.{HasPair, IsSignature}
@@ -47,15 +47,3 @@ module _ (rel : Relation) (l : Grouped) (labelled : Labelled l) (blocks : List �
     λ e a b. (carried rel l labelled blocks s t xs ys of_s of_t e a b, carried rel l labelled blocks t s ys xs of_t of_s (sym e) a b),
     same_list rel l labelled blocks s t xs ys of_s of_t,
   )
-
-  -- and blocks that are parted by the lists are the Split
-  pub signed_is_split : (signature : ℕ → List (ℕ × ℕ)) (new : List ℕ)
-      → ((s : ℕ) → s < l.states → IsSignature rel l blocks s (signature s))
-      → ((s t : ℕ) → s < l.states → t < l.states
-      → (slice_index new s ≡ slice_index new t) ↔ ((slice_index blocks s ≡ slice_index blocks t) × (signature s ≡ signature t)))
-      → Split rel (system_of l) (slice_index blocks) (slice_index new)
-  signed_is_split signature new signed parted s t ls lt =
-      let lists = equal_lists s t (signature s) (signature t) (signed s ls) (signed t lt) in (
-        λ e. let h = (parted s t ls lt).0 e in (h.0, lists.0 h.1),
-        λ h. (parted s t ls lt).1 (h.0, lists.1 h.1),
-      )

@@ -1,3 +1,4 @@
+pub mod CallerLemmas
 pub mod EqualLists
 pub mod Settling
 pub mod Spending

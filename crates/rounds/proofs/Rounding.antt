@@ -5,15 +5,14 @@ use Rattle.theory.specs.System.{Step}
 use Rattle.theory.specs.declared.relation.Relation.{Relation}
 use Rattle.theory.specs.declared.relation.Relation.TheVariants.{Strong, Branching}
 use Rattle.theory.specs.Blocks.{Split}
-use Rattle.theory.specs.Kept.{AreKept, IsShown}
+use Rattle.theory.specs.Kept.{AreKept}
 use Rattle.theory.proofs.CallerLemmas.{step_below}
 use Rattle.lts.specs.Labels.{text_of}
 use Rattle.lts.specs.Lts.{Grouped, Triple, source_of, label_of, target_of, row_of, system_of, IsTriple, IsLts}
-use Rattle.lists.specs.Lists.{AreLists, AreNumbers, list_at}
+use Rattle.lists.specs.Lists.{AreLists, AreNumbers}
 use Rattle.partition.specs.Blocks.{IsOne, LeavesAlone}
 use Rattle.rounds.specs.EachList.{Signed, HaveLists, list_of}
-use Rattle.inert.specs.Signed.{IsSignature}
-use Rattle.rounds.specs.Settled.{Settled, IsPut}
+use Rattle.rounds.specs.Settled.{Settled}
 use Rattle.rounds.specs.Kept.{Names, SignsLists}
 use Rattle.rounds.specs.Noting.{LooksBackBy}
 use Rattle.rounds.specs.Rounds.{IsNext}
@@ -21,7 +20,7 @@ use Rattle.rounds.specs.Watching.{Notes, HasKept, Watches, WatchesBy, SignsEach,
 use Rattle.rounds.specs.declared.signed_blocks.Watch.{Watch}
 use Rattle.rounds.specs.declared.signed_blocks.Watch.TheVariants.{Nothing, Sources}
 use Rattle.rounds.proofs.EqualLists.{Labelled}
-use Rattle.rounds.proofs.Settling.{IsNext-from, all_told, told_is_split, put_whole}
+use Rattle.rounds.proofs.Settling.{IsNext-from, all_told, told_is_split}
 use Rattle.rounds.proofs.Noting.{notes_left, strong_next, left_next, noted_back_next}
 use Rattle.rounds.proofs.LookingBack.{looks_back, round_splits, round_keeps}
 use Rattle.rounds.proofs.Keeping.{keeps_anew, keeps_left}
@@ -101,16 +100,3 @@ watches_left rel l p q size same is leaves w =
     left Nothing rel keeps = tt
     left (Sources e) Strong keeps = tt
     left (Sources e) Branching keeps = keeps_left l p q size (ap (λ r. r.lists) same) (ap (λ r. r.kept) same) is leaves keeps
-
--- where nothing is noted and all numbers are new, the split is given the signatures
-pub signs_whole : (rel : Relation) (l : Grouped) (p r : Signed) → SignsEach rel l p r → p.watch ≡ Nothing → r.blocks.low ≡ 0
-    → (s : ℕ) → IsOne r.blocks.live s → s < l.states → IsSignature rel l r.blocks.of s (list_of r.lists r.numbers s)
-signs_whole Strong l p r put nothing low s one h =
-    put_whole Strong l r.blocks.of s (list_of r.lists r.numbers s)
-    (subst (λ low. IsPut Strong l r.blocks.of low s (list_of r.lists r.numbers s)) low (put s one))
-signs_whole Branching l p r signs nothing low s one h =
-    subst (λ n. IsSignature Branching l r.blocks.of s (list_at r.lists n)) (shown (signs.shows s h)) (signs.signed s one).1
-  where
-    shown : IsShown (slice_index signs.was s) (slice_index r.kept s) (slice_index r.numbers s) → slice_index r.kept s ≡ slice_index r.numbers s
-    shown (inl (same, none)) = same ∙ signs.anew nothing s ∙ sym none
-    shown (inr (other, is)) = sym is

@@ -1,6 +1,5 @@
 -- The list of each state, by its number.
-use Rattle.std.specs.Prelude.{◌≡◌, ℕ, ◌≤◌, List, [], ◌∷◌, length, map, slice_index}
-use Rattle.lts.specs.declared.limits.TheConstants.{MOST_STATES}
+use Rattle.std.specs.Prelude.{◌≡◌, ℕ, List, [], ◌∷◌, length, slice_index}
 use Rattle.lists.specs.Lists.{list_at, AreNumbers}
 use Rattle.partition.specs.Blocks.{RoundBlocks, HaveNone}
 use Rattle.rounds.specs.declared.signed_blocks.Watch.{Watch}
@@ -9,16 +8,6 @@ use Rattle.rounds.specs.declared.signed_blocks.Watch.TheVariants.{Nothing, Sourc
 -- the list of the state s, if the states have these numbers
 abbrev pub list_of : List (List (ℕ × ℕ)) → List ℕ → ℕ → List (ℕ × ℕ)
 list_of lists numbers s = list_at lists (slice_index numbers s)
-
--- the list of each state
-abbrev pub each_list : List (List (ℕ × ℕ)) → List ℕ → List (List (ℕ × ℕ))
-each_list lists numbers = map (list_at lists) numbers
-
--- lists and their numbers for 1 to 2,000,000 states
-pub record AreListsOfStates (lists : List (List (ℕ × ℕ))) (numbers : List ℕ) : Type 0 where
-  pub each : AreNumbers lists numbers
-  pub some : 1 ≤ length numbers
-  pub few : length numbers ≤ MOST_STATES
 
 -- the blocks of a round, lists, for each state the number of the list that the split is given and of the list that is kept for it, and
 -- what is noted

@@ -1,4 +1,3 @@
-pub mod Signed
 pub mod EachList
 pub mod Settled
 pub mod Living

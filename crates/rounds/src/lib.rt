@@ -43,14 +43,14 @@
 
 mod branching;
 mod entering;
-mod one_round;
 mod refinement;
 mod signed_blocks;
 mod signing;
 mod strong;
 
 pub use branching::Branching;
-pub use one_round::{Marks, Sense, Signatures, round};
 pub use partition::Partition;
 pub use refinement::refine;
-pub use strong::Strong;
+pub use signed_blocks::SignedBlocks;
+pub use signing::Signing;
+pub use strong::{NewBlocks, Strong, read};

@@ -10,7 +10,6 @@ ghost use Rattle.rounds.specs.Settled.{Settled};
 ghost use Rattle.rounds.specs.Watching.{Watches};
 ghost use Rattle.rounds.specs.Rounds.{IsNext};
 
-use crate::one_round::Sense;
 use crate::signed_blocks::SignedBlocks;
 use crate::signing::Signing;
 use lts::{Lts, Memory, Meter};
@@ -22,7 +21,11 @@ use std::alloc::Global;
 ///
 /// Fails if there is no memory for it. At most as many rounds as there are states were begun then, with at most their
 /// visits.
-pub fn refine<S: Sense, M: Meter>(alloc: Global, l: &Lts<M>, m: &mut M) -> Result<Partition, Memory>
+pub fn refine<S: Signing, M: Meter>(
+    alloc: Global,
+    l: &Lts<M>,
+    m: &mut M,
+) -> Result<Partition, Memory>
     requires room { HasRoomFor (M.counted m.old) l.now.states (l.now.states * length l.now.places) }
 
     // Once it is done

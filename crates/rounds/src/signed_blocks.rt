@@ -90,6 +90,13 @@ impl SignedBlocks {
         self.blocks.count()
     }
 
+    /// The lists, and for each state the number of the one that the split is given, without the memory of all else.
+    pub fn into_lists(self) -> (Lists, Vec<u32>)
+        ensures { (result.0 ≡ self.lists) × (result.1.items ≡ self.numbers) }
+    {
+        (self.lists, self.numbers)
+    }
+
     /// The blocks alone, without the memory of all else.
     pub fn into_blocks(self) -> Blocks
         ensures { result ≡ self.blocks }

@@ -85,7 +85,7 @@ fn sign_live<M: Meter>(
 
 /// What a row is read under: a system, the block of each state, and from which number on blocks are new.
 #[derive(Drop)]
-pub(crate) struct NewBlocks<'a, M: Meter> {
+pub struct NewBlocks<'a, M: Meter> {
     pub l: &'a Lts<M>,
     pub of: &'a [u32],
     pub low: u32,
@@ -126,7 +126,7 @@ fn put<M: Meter>(
 ///
 /// Fails if there is no memory for it.
 #[inline(always)]
-pub(crate) fn read<M: Meter>(
+pub fn read<M: Meter>(
     under: &NewBlocks<M>,
     s: u32,
     pairs: &mut Vec<(u32, u32)>,

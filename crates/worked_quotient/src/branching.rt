@@ -5,7 +5,7 @@ use crate::named::{
 use crate::refining::{Made, append_line, append_signature, blocks, next, one_block, split};
 use crate::showing::{Row, Shown, check_rows};
 use lts::{Counter, Lts, Memory};
-use rounds::{Branching, Strong};
+use refine::{Branching, Strong};
 use std::alloc::Global;
 use std::test::Fail;
 

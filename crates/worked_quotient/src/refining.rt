@@ -1,10 +1,10 @@
 //! Rounds of refinement, and how blocks and signatures are shown.
 ghost use Rattle.std.specs.Prelude.{◌≡◌, length, IfOk};
 ghost use Rattle.lts.specs.Meter.{HasRoomFor};
-ghost use Rattle.rounds.specs.Signed.{most_visits};
+ghost use Rattle.refine.specs.Signed.{most_visits};
 
 use lts::{Counter, Lts, Memory, Meter};
-use rounds::{Marks, Partition, Sense, Signatures, refine, round};
+use refine::{Marks, Partition, Sense, Signatures, refine, round};
 use std::alloc::Global;
 
 /// What refinement makes of a system.

@@ -5,7 +5,7 @@ use crate::texts::system;
 use crate::{branching, quotients, reached, strong, systems};
 use lts::{Counter, Lts, Memory};
 use quotient::Relation;
-use rounds::{Branching, Strong};
+use refine::{Branching, Strong};
 use std::alloc::Global;
 use std::test::Fail;
 

@@ -3,7 +3,7 @@ use crate::pairing::{Paired, check_pair};
 use crate::refining::{Made, blocks, next, one_block};
 use crate::showing::{Shown, check_row};
 use lts::{Counter, Lts, Memory};
-use rounds::Strong;
+use refine::Strong;
 use std::alloc::Global;
 use std::test::Fail;
 

@@ -3,7 +3,7 @@ use crate::named::{CHAIN_OF_THREE, LABEL_ORDER, LONE_STATE, TWO_SPELLINGS};
 use crate::refining::{Made, append_signature, one_block};
 use crate::showing::{Row, Shown, check_row, check_rows};
 use lts::{Counter, Lts, Memory, Meter};
-use rounds::Strong;
+use refine::Strong;
 use std::alloc::Global;
 use std::test::Fail;
 

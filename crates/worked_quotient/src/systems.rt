@@ -170,7 +170,8 @@ fn lead_to(
     }
     let any_way = Sources::of(alloc, l, &[0, 2])?;
     let silently = Sources::internal(alloc, l, &[0, 2])?;
-    Ok(any_way.leading_to(t) == all && silently.leading_to(t) == internal)
+    let (mut looks, mut more) = (any_way.looks(), silently.looks());
+    Ok(any_way.leading_to(t, &mut looks) == all && silently.leading_to(t, &mut more) == internal)
 }
 
 #[test]

@@ -9,7 +9,7 @@ use Rattle.lists.specs.Lists.{list_at, AreNumbers}
 use Rattle.partition.specs.Blocks.{IsOne}
 use Rattle.inert.specs.Steps.{Under}
 use Rattle.inert.specs.Signed.{AreSignedBeside, IsSignature}
-use Rattle.inert.specs.Search.{Search, nothing, stage_at, number_of, kept, no_root, AreOthers, AreAwake, AreSigned, IsFinished, HasEnded, IsIdle, IsWoken, Walks, Unseen, Open, Finished, Stage}
+use Rattle.inert.specs.Search.{Search, nothing, stage_at, number_of, kept, no_root, AreOthers, AreAwake, AreSigned, IsFinished, HasEnded, IsWoken, Walks, Unseen, Open, Finished, Stage}
 use Rattle.inert.specs.Moves.{Rests}
 use Rattle.inert.specs.Ahead.{is_unseen, unseen, KeepsSeen}
 use Rattle.inert.proofs.invariant.Standing.{frames_some, root_low}
@@ -25,10 +25,6 @@ new_rests u lists {w = w} empty size some each kept =
       shut = λ s p is. elim (each s) [ inl none ↦ cc (none, is) | inr done ↦ cc (done.1, is) ];
       signed = kept;
     }
-
--- if no state was seen, none past the last one was
-pub idle_unseen : {w : Search} → IsIdle w → (s : ℕ) → stage_at w.stages s ≡ Unseen
-idle_unseen {w = w} idle s = elim (cases_lt s (length w.stages)) [ inl low ↦ idle.rest s low | inr past ↦ get_or_past w.stages s Unseen past ]
 
 -- a state that has a stage is one
 pub finished_inside : (stages : List Stage) (s k : ℕ) → stage_at stages s ≡ Finished k → s < length stages

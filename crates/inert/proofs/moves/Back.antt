@@ -9,8 +9,8 @@ use Rattle.theory.specs.declared.relation.Relation.TheVariants.{Branching}
 use Rattle.lts.specs.Lts.{source_of, place_at, IsLts}
 use Rattle.lists.specs.Lists.{list_at}
 use Rattle.inert.specs.Steps.{Under}
-use Rattle.inert.specs.Search.{Search, stage_at, frame_at, no_frame, here, last, no_root, IsFrame, IsAhead, IsEntered, IsFollowed, Walks, Laws, root_at, item_at, Ties, IsOf, IsBefore, IsRoot, IsThere, Gives, HoldsPair, AreOpen, IsSigned, IsSound, AreSound, Stage, Root, Item, Pair, Listed}
-use Rattle.inert.specs.Moves.{popped, HasRead, Finishes, Closes, ahead, SignsMore, GoesOn, FindsNone}
+use Rattle.inert.specs.Search.{Search, stage_at, frame_at, no_frame, here, last, no_root, IsFrame, IsAhead, IsEntered, IsFollowed, Walks, Laws, root_at, item_at, Ties, IsOf, IsBefore, IsRoot, IsThere, Gives, HoldsPair, AreOpen, IsSigned, IsSound, AreSound, Stage, Item, Pair, Listed}
+use Rattle.inert.specs.Moves.{popped, HasRead, Finishes, Closes, ahead, SignsMore, GoesOn}
 use Rattle.inert.specs.Signed.{HasPair}
 use Rattle.inert.specs.Ahead.{is_unseen, KeepsSeen}
 use Rattle.inert.proofs.parts.Stages.{seen_same, kept_still}
@@ -338,11 +338,3 @@ module _ {u : Under} {lists : List (List (ℕ × ℕ))} {w : Search} (walks : Wa
           let zero : length (popped w).frames ≡ 0 = omega (arith, none) in
           closed_with [] (closes.alone zero ∙ sym (append-nil (take (last w.roots).items w.items))) (inr (zero, refl))
     ]
-
--- a component that is finished was seen
-pub closed_none : {u : Under} {lists lists' : List (List (ℕ × ℕ))} {w new : Search} {root : Root} → Walks u lists w
-    → Closes root lists lists' (popped w) new → FindsNone w new
-closed_none walks closes s is = elim (closes.stages.others s) [
-  | inl same ↦ same ∙ is
-  | inr (p, from, low, e) ↦ absurd (cc (walks.opened.placed p low, e, is))
-]

@@ -66,7 +66,7 @@ module _ (laws : Laws) {u : Under} (lts : IsLts u.l) {lists : List (List (ℕ ×
     -- after the state got a frame for the places after it
     pub takes_framed : (step : Step) {m : Search} (enters : Bool) → Is step → TakesStep u.l.places step (framed s (k + 1) end old.stages w.items) m enters → Next m
     takes_framed step enters is takes =
-        let none : Stays Framed Framed = record { size = refl; stack = refl; none = λ s is. is } in
+        let none : Stays Framed Framed = record { size = refl; stack = refl } in
         let one = (marked (reads_none way) none way.some laws lts more (slice_index u.blocks s) refl step is refl refl takes).reads in
         record {
           on = goes_on (grow_same lists) begun.on one.on;

@@ -1,8 +1,8 @@
 -- The walk while the row of its last frame is read: a step is taken, and then marked as read.
 use Rattle.std.proofs.Common.{◌≡◌, ℕ, ◌+◌, ◌-◌, ◌<◌, ◌≤◌, List, [], ◌∷◌, length, slice_index, Bool, refl, sym, ◌∙◌, ap, subst, inl, inr, arith, set}
 use Rattle.std.specs.Prelude.{IsTrue}
-use Rattle.std.proofs.lemmas.Bool.{cases_Bool, cases_eq}
-use Rattle.std.proofs.lemmas.List.{length_push, get_or_push, get_or_append_left, get_or-set_same, get_or-set_other, length-set, set-append_left}
+use Rattle.std.proofs.lemmas.Bool.{cases_Bool}
+use Rattle.std.proofs.lemmas.List.{length_push, get_or_append_left, get_or-set_same, length-set, set-append_left}
 use Rattle.theory.specs.System.{Step}
 use Rattle.theory.specs.declared.relation.Relation.TheVariants.{Branching}
 use Rattle.theory.specs.Blocks.{Inert, Signature}
@@ -10,8 +10,8 @@ use Rattle.lts.specs.Labels.{text_of}
 use Rattle.lts.specs.Lts.{Triple, source_of, label_of, target_of, place_at, system_of, IsLts}
 use Rattle.inert.specs.Signed.{HasPair, pair_under}
 use Rattle.inert.specs.Steps.{Under, IsInert, IsStep}
-use Rattle.inert.specs.Search.{Search, Laws, frame_at, no_frame, top, here, IsFrame, Accounted, Walks, Unseen, Open, Frame, Root, Item, Pair, Listed}
-use Rattle.inert.specs.Moves.{entered, with_item, Follows, TakesStep, ahead, HasRead, IsUnderWay, SignsMore, GoesOn, Finds, FindsNone}
+use Rattle.inert.specs.Search.{Search, Laws, frame_at, no_frame, top, here, IsFrame, Accounted, Walks, Open, Frame, Root, Item, Pair, Listed}
+use Rattle.inert.specs.Moves.{entered, with_item, Follows, TakesStep, ahead, HasRead, IsUnderWay, SignsMore, GoesOn}
 use Rattle.inert.specs.Ahead.{KeepsSeen}
 use Rattle.inert.specs.declared.step.Step.{Step as TakenStep}
 use Rattle.inert.specs.declared.step.Step.TheVariants.{Inert as Goes, Shows}
@@ -65,7 +65,6 @@ module _ (laws : Laws) {u : Under} (lts : IsLts u.l) {lists : List (List (ℕ ×
     pub same_frame : frame_at m.frames (length w.frames - 1) ≡ top w.frames
     pub still : ¬ IsTrue enters → (m.frames ≡ w.frames) × (m.stack ≡ w.stack)
     pub longer : IsTrue enters → length m.frames ≡ length w.frames + 1
-    pub finds : Finds w m enters
 
   stayed : (roots : List Root) (items : List Item) (enters : Bool) → let m : Search = record w { roots = roots; items = items } in
       Walks u lists m → Accounted u lists m (here w) e → ¬ IsTrue enters → Taken m enters
@@ -78,7 +77,6 @@ module _ (laws : Laws) {u : Under} (lts : IsLts u.l) {lists : List (List (ℕ ×
     same_frame = refl;
     still = λ _. (refl, refl);
     longer = λ went. absurd (stay went);
-    finds = record { some = λ went. absurd (stay went); found = λ s is. inl is };
   }
 
   -- an inert step leads to the target, whatever is known of that
@@ -95,13 +93,6 @@ module _ (laws : Laws) {u : Under} (lts : IsLts u.l) {lists : List (List (ℕ ×
         same_frame = get_or_append_left w.frames (x ∷ []) _ (length w.frames - 1) (omega (arith, some));
         still = λ stay. absurd (stay went);
         longer = λ _. length_push w.frames x;
-        finds = record {
-          some = λ _. omega (arith, length_push w.stack (target_of e));
-          found = λ s is. elim (cases_eq s (target_of e)) [
-            | inl same ↦ inr (went, get_or_push w.stack (target_of e) 0 _ (omega (arith, length_push w.stack (target_of e))) ∙ sym same)
-            | inr other ↦ inl (get_or-set_other w.stages (target_of e) s (Open (length w.stack)) Unseen other ∙ is)
-          ];
-        };
       })
   followed inert m enters (inr (inl (q, stage, cuts, new, stay))) =
       let was = walks.opened.only (target_of e) q stage in
@@ -151,14 +142,12 @@ pub record Reads (u : Under) (lists : List (List (ℕ × ℕ))) (old new : Searc
 pub record Stays (old new : Search) : Type 0 where
   pub size : length new.frames ≡ length old.frames
   pub stack : new.stack ≡ old.stack
-  pub none : FindsNone old new
 
 -- a transition more was read, in place k
 pub record Marked (u : Under) (lists : List (List (ℕ × ℕ))) (old new : Search) (k : ℕ) (enters : Bool) : Type 0 where
   pub reads : Reads u lists old new (k + 1)
   pub stays : ¬ IsTrue enters → Stays old new
   pub longer : IsTrue enters → length new.frames ≡ length old.frames + 1
-  pub finds : Finds old new enters
 
 pub reads_none : {u : Under} {lists : List (List (ℕ × ℕ))} {w : Search} → IsUnderWay u lists w
     → Reads u lists w w (top w.frames).next
@@ -249,10 +238,8 @@ module _ {u : Under} {lists : List (List (ℕ × ℕ))} {first w : Search} {k : 
           stays = λ stay. record {
             size = length-set m.frames i x ∙ ap length (took.still stay).0 ∙ stays.size;
             stack = (took.still stay).1 ∙ stays.stack;
-            none = λ s is. elim (took.finds.found s (stays.none s is)) [ inl none ↦ none | inr one ↦ absurd (stay one.0) ];
           };
           longer = λ went. omega (arith, length-set m.frames i x, took.longer went, stays.size);
-          finds = record { some = took.finds.some; found = λ s is. took.finds.found s (stays.none s is) };
         }
 
       -- it was marked as read, and then taken

@@ -1,14 +1,14 @@
 -- What a walk has still to read: how it shrinks as states are entered and their rows are read.
-use Rattle.std.proofs.Common.{◌≡◌, ◌∙◌, ℕ, zero, suc, ◌+◌, ◌-◌, ◌<◌, ◌≤◌, Bool, false, cond, eqb, List, [], ◌∷◌, ◌++◌, length, set, take, map, get_or, ap, refl, sym, subst, arith}
+use Rattle.std.proofs.Common.{◌≡◌, ◌∙◌, ℕ, zero, suc, ◌+◌, ◌-◌, ◌<◌, ◌≤◌, Bool, false, cond, eqb, List, [], ◌∷◌, ◌++◌, length, set, take, map, ap, refl, sym, subst, arith}
 use Rattle.std.specs.List.{sum, sum_by}
 use Rattle.std.proofs.lemmas.Grind.{common_steps}
 use Rattle.std.proofs.lemmas.Bool.Decides.{nat_tests}
 use Rattle.std.proofs.lemmas.List.{ext_get_or, get_or-map, length-map, take_all, get_or_default}
 use Rattle.std.proofs.lemmas.List.Elements.{filter_agree}
-use Rattle.std.proofs.lemmas.List.Sums.{length-filter, sum-map, sum_by-cons, sum_by-le, sum_by_more, sum_by_push, sum_by-set}
+use Rattle.std.proofs.lemmas.List.Sums.{length-filter, sum-map, sum_by-cons, sum_by_more, sum_by_push, sum_by-set}
 use Rattle.lts.specs.Meter.{Counts, Costs}
 use Rattle.lts.specs.Lts.{Triple, source_of, row_of, place_at}
-use Rattle.lts.proofs.CallerLemmas.{filter-none, filter-whole}
+use Rattle.lts.proofs.CallerLemmas.{filter-none}
 use Rattle.inert.specs.Ahead.{is_unseen, unseen, unread, rest}
 use Rattle.inert.specs.Search.{stage_at, frame_at, no_frame, top, Stage, Unseen, Open, Finished, Frame}
 
@@ -76,10 +76,6 @@ rest-cut frames some read =
     let all : take (length frames - 1 + 1) frames ≡ frames = take_all (length frames - 1 + 1) frames (omega arith) in
     omega (arith, sum_by_more (λ y. y.end - y.next) frames (length frames - 1) no_frame (omega (arith, some)), ap rest all, read)
 
--- nothing was seen, so all is still to be read
-pub unread-all : (places : List Triple) (stages : List Stage) → ((s : ℕ) → stage_at stages s ≡ Unseen) → unread places stages ≡ length places
-unread-all places stages none = ap length (filter-whole (λ e. is_unseen (stage_at stages (source_of e))) places (λ k d h. ap is_unseen (none _)))
-
 pub seen : (m : Stage) → ¬ (m ≡ Unseen) → is_unseen m ≡ false
 seen Unseen f = absurd (f refl)
 seen (Open p) f = refl
@@ -91,16 +87,6 @@ pub unread-none : (places : List Triple) (stages : List Stage) → ((k : ℕ) �
 unread-none places stages all =
     ap length (filter-none (λ e. is_unseen (stage_at stages (source_of e))) places (λ k d h.
     seen _ (subst (λ e. ¬ (stage_at stages (source_of e) ≡ Unseen)) (get_or_default places k (0, 0, 0) d h) (all k h))))
-
--- the row of a state that was seen is not among what is still to be read
-pub unread-seen : (places : List Triple) (stages : List Stage) (s : ℕ) → ¬ (stage_at stages s ≡ Unseen) →
-    unread places stages + length (row_of s places) ≤ length places
-unread-seen places stages s was =
-    let row : Triple → ℕ = λ e. one (eqb (source_of e) s) in
-    let most : (e : Triple) → to_read stages e + row e ≤ 1 = λ e. grind (arith, nat_tests, was, seen (stage_at stages s)) in
-    let add = sums_add (to_read stages) row (λ e. to_read stages e + row e) places (λ e. refl) in
-    let all = sum_by-le (λ e. to_read stages e + row e) 1 places (λ k d h. most (get_or places k d)) in
-    omega (arith, add, all, unread_sum places stages, row_sum places s)
 
 -- 1 if the source of a transition is at rest, or was seen
 abbrev pub at_rest : List Stage → Triple → ℕ

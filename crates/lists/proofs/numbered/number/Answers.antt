@@ -2,7 +2,7 @@ use Rattle.std.proofs.Common.{◌≡◌, ◌∙◌, ◌<◌, ◌++◌, ◌∷◌
 use Rattle.std.specs.Option.{MatchOption}
 use Rattle.std.proofs.lemmas.Bool.{both_ways}
 use Rattle.lists.specs.Lists.{list_at, Grow}
-use Rattle.lists.specs.Spans.{mixed, fingerprint_of}
+use Rattle.lists.specs.Hashes.{mixed, fingerprint_of}
 use Rattle.lists.specs.Hashed.{IsNewList, IsNumberOf}
 use Rattle.lists.specs.Extended.{parts_of, extended, extended_lists, AreExtended}
 use Rattle.lists.proofs.Numbering.{AreExtended-grow, Grow-lists, lists-grow, AreExtended-push, extended_some, Grow-more, list_more, more_within}

@@ -28,14 +28,14 @@ pub walk_all-requires-clause-awake : goal.walk_all-requires-clause-awake
 walk_all-requires-clause-awake g c =
     subst (λ n. AreAwake n c.live-live.result.now c.wake.new.self.stages)
     (states g (goal.at.walk_all-requires-clause-awake g c).After-self ∙ ap (λ u. u.l.states) (sym c.new-lens.ensures))
-    (woken_awake c.wake.ensures c.self.invariant.0)
+    (woken_awake c.wake.ensures c.self.invariant)
 
 pub walk_all-requires-clause-rests : goal.walk_all-requires-clause-rests
 walk_all-requires-clause-rests g c =
     let is : under c.args.l.now c.args.blocks.now.of ≡ c.new-lens.result = ap (under c.args.l.now) (sym c.of.ensures.of) ∙ sym c.new-lens.ensures in
     let view = sym c.self.view_is in
     subst (λ u. Rests u c.args.lists.now c.wake.new.self) is
-    (woken_rests c.wake.ensures c.self.invariant.0 (states g (goal.at.walk_all-requires-clause-rests g c).After-self)
+    (woken_rests c.wake.ensures c.self.invariant (states g (goal.at.walk_all-requires-clause-rests g c).After-self)
     (subst (AreNumbers c.args.lists.now) view c.requires.lists.1)
     (subst₂ (λ live ks. AreSignedBeside c.args.l.now c.args.blocks.now.of live c.args.lists.now ks) (sym c.live-live.ensures.live) view c.requires.kept) c.known.ensures.some)
 
@@ -46,15 +46,15 @@ number-requires-clause-live g c =
 pub invariant_of-self : goal.invariant_of-self
 invariant_of-self g c =
     let done = c.in-Ok.ensures in
-    let over = c.self.invariant.0 in
+    let over = c.self.invariant in
     let size : length c.walk_all.new.walk.stages ≡ length c.self.inside.walk.stages =
     done.rests.numbers.size ∙ ap (λ u. u.l.states) c.new-lens.ensures ∙ sym (states g (goal.at.invariant_of-self g c).After-self) in
-    (over_again done.rests over c.wake.ensures done.seen size done.all (others_on (woken_awake c.wake.ensures over) done.seen size), c.self.invariant.1)
+    over_again done.rests over c.wake.ensures done.seen size done.all (others_on (woken_awake c.wake.ensures over) done.seen size)
 
 pub returns-in-Ok : goal.returns-in-Ok
 returns-in-Ok g c =
     let done = c.in-Ok.ensures in
-    let over = c.self.invariant.0 in
+    let over = c.self.invariant in
     let looked_at = c.live-live.ensures.live in
     let looks : (s : ℕ) → IsOne c.args.blocks.now.live s → IsOne c.live-live.result.now s = λ s. subst (λ xs. IsOne xs s) (sym looked_at) in
     let none = subst (λ xs. HaveNone xs c.args.numbers.now) (sym looked_at) c.requires.numbers.1 in

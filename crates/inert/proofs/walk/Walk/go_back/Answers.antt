@@ -1,7 +1,7 @@
 use Rattle.std.proofs.Common.{◌≢◌, ◌∙◌, length, ap, sym, subst, subst₂, arith}
 use Rattle.inert.specs.Search.{here, last, AreThere}
 use Rattle.inert.specs.Moves.{GoesOn, Closes}
-use Rattle.inert.proofs.moves.Back.{popped_size, popped_on, closed, closed_none}
+use Rattle.inert.proofs.moves.Back.{popped_size, popped_on, closed}
 use Rattle.inert.proofs.walk.Walk.go_back.Goals as goal
 
 pub close-requires-clause-there : goal.close-requires-clause-there
@@ -27,5 +27,4 @@ returns-in_ok-close g c =
       grow = closes.listed.grow;
       ahead = done.1;
       back = omega (arith, ap length closes.frames, popped_size way.walks, way.some);
-      finds = closed_none way.walks closes;
     }

@@ -1,4 +1,4 @@
-use Rattle.std.proofs.Common.{◌∙◌, sym, inl, inr, arith, rules}
+use Rattle.std.proofs.Common.{◌∙◌, sym, arith, rules}
 use Rattle.std.proofs.lemmas.Bool.{false≢true}
 use Rattle.inert.proofs.invariant.Keeping.{goes_on}
 use Rattle.inert.proofs.walk.Walk.go_on.Goals as goal
@@ -12,9 +12,5 @@ returns g c =
       grow = back.grow;
       visits = omega (arith, read.visits, back.ahead);
       nearer = omega (arith, (read.steps.1 (λ e. false≢true (sym c.if-branch.false ∙ e))).2, back.ahead, back.back);
-      finds = record {
-        some = λ e. absurd (false≢true e);
-        found = λ s is. elim (read.finds.found s is) [ inl none ↦ inl (back.finds s none) | inr one ↦ absurd (false≢true (sym c.if-branch.false ∙ one.0)) ];
-      };
       cost = search rules;
     }

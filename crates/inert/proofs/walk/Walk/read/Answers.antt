@@ -4,7 +4,7 @@ use Rattle.std.proofs.lemmas.List.{get_or_read}
 use Rattle.lts.specs.Lts.{place_at}
 use Rattle.inert.specs.Steps.{IsStep}
 use Rattle.inert.specs.Search.{Search, frame_at, top, here, Frame}
-use Rattle.inert.specs.Moves.{TakesStep, Finds}
+use Rattle.inert.specs.Moves.{TakesStep}
 use Rattle.inert.specs.declared.step.Step.{Step}
 use Rattle.inert.proofs.parts.Stages.{open_inside}
 use Rattle.inert.proofs.invariant.Standing.{on_stack}
@@ -60,7 +60,7 @@ loop-k-init g c =
     let next = ap (λ x. x.next) c.top_frame-frame.ensures in
     record {
       reads = subst (Reads c.args.lens.now c.args.lists.now c.args.self.now c.args.self.now) (sym next) (reads_none c.requires.way);
-      stays = record { size = refl; stack = refl; none = λ s is. is };
+      stays = record { size = refl; stack = refl };
       cost = omega (arith, next);
     }
 
@@ -98,7 +98,6 @@ returns-then-branch g c =
       on = m.reads.on;
       visits = omega (arith, m.reads.less, i.reads.forward, i.cost.at_least, i.cost.at_most, one.at_least, one.at_most);
       steps = (λ _. omega (arith, m.reads.less, m.longer c.if-branch.true, i.reads.forward), λ stay. absurd (stay refl));
-      finds = subst (Finds c.args.self.now _) c.if-branch.true m.finds;
       cost = search rules;
     }
 

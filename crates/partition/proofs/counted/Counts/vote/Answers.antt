@@ -1,4 +1,4 @@
-use Rattle.std.proofs.Common.{◌≡◌, ◌∙◌, ◌-◌, ◌<◌, ◌≤◌, length, slice_index, sym, subst, refl, inr, arith}
+use Rattle.std.proofs.Common.{◌≡◌, ◌∙◌, ◌-◌, ◌<◌, length, slice_index, sym, subst, refl, inr, arith}
 use Rattle.std.proofs.lemmas.List.{get_or_read, length-set}
 use Rattle.partition.proofs.Counting.{block_size-le}
 use Rattle.partition.proofs.Taking.{without_none, without_more, had, had_room}
@@ -31,6 +31,16 @@ overflow_sub-index_mut c =
     let some = had c.args.of.now c.args.live.now c.loop-i.i _ c.requires.live d more c.loop-i.invariant.out in
     omega (arith, get_or_read c.loop-i.self.sizes.items _ _ room c.index_mut.ensures.value 0, some)
 
+pub overflow_add-votes : goal.overflow_add-votes
+overflow_add-votes c =
+    let of = c.args.of.now in
+    let b = slice_index of (slice_index c.args.live.now c.loop-i.i) in
+    let votes = c.loop-i.self.votes.items in
+    let more : c.loop-i.i < length c.args.live.now = omega (arith, c.loop-i-test.true, c.loop-i.auto.i-end) in
+    let inv = c.loop-i.invariant in
+    let had_votes = get_or_read votes b c.index-votes.result.now (inv.kept.votes_room _ (c.requires.live.below c.loop-i.i more)) c.index-votes.ensures 0 in
+    omega (arith, had_votes, inv.bound.room b, block_size-le of b, c.requires.blocks.few)
+
 pub loop-i-preserved : goal.loop-i-preserved
 loop-i-preserved c =
     let of = c.args.of.now in
@@ -51,7 +61,6 @@ loop-i-preserved c =
     let had_votes = get_or_read votes b c.index-votes.result.now (inv.kept.votes_room s inside) c.index-votes.ensures 0 in
     let size_some = had of live i sizes c.requires.live d more inv.out in
     let size_v : b < length votes = inv.kept.votes_room s inside in
-    let few_votes : slice_index votes b ≤ 2000000 = omega (arith, inv.bound.room b, block_size-le of b, c.requires.blocks.few) in
     let keepers = c.loop-i.self.keepers.items in
     let size_k : b < length keepers = inv.kept.room s inside in
     let keeper = get_or_read keepers b c.index.result.now size_k c.index.ensures 0 in
@@ -66,7 +75,7 @@ loop-i-preserved c =
             out = out;
             kept = kept_old of numbers live i keepers votes inside inv.kept _ (s, inside, refl, sym w.if-index-list.true ∙ keeper);
             bound = bound_more of numbers live i inside sizes keepers votes size_some inv.bound _ size_v (sym keeper ∙ w.if-index-list.true)
-                (omega (arith, w.saturating_add.ensures, had_votes, few_votes));
+                (omega (arith, had_votes));
           })
       | else-index-list+then-votes-eq0 w ↦
           rw (w.self-is, was)

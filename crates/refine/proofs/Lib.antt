@@ -1,0 +1,3 @@
+pub mod Listing
+pub mod Filling
+pub mod Searching

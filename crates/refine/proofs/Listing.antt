@@ -1,0 +1,84 @@
+-- The lists of spans: the empty one alone, and one list more at the end of the buffer.
+use Rattle.std.proofs.Common.{◌≡◌, ◌∙◌, ℕ, ◌+◌, ◌<◌, List, [], ◌∷◌, ◌++◌, length, take, ap, refl, sym, subst, arith}
+use Rattle.std.specs.List.{All, slice_range}
+use Rattle.std.specs.List.Sorted.{IsStrictlySortedBy}
+use Rattle.std.proofs.lemmas.List.{length-append, map-append, get_or_append_left}
+use Rattle.std.proofs.lemmas.List.Elements.{All-head, All-tail, All-append, All-weaker}
+use Rattle.refine.specs.declared.parts.Span.{Span}
+use Rattle.lists.specs.declared.nodes.TheConstants.{MOST_LISTS}
+use Rattle.refine.specs.Spans.{no_pairs, list_in, IsSpan, lists_of, AreSpans}
+use Rattle.lists.specs.Lists.{pair_cmp}
+use Rattle.lists.proofs.CallerLemmas.{rising_none, All-only, slice_range-append, slice_range-last}
+
+-- the span of no pairs alone
+pub AreSpans-first : AreSpans [] (no_pairs ∷ [])
+AreSpans-first = record {
+  each = All-only (IsSpan []) no_pairs (record { forward = omega arith; within = omega arith; rising = rising_none pair_cmp });
+  some = omega arith;
+  few = omega arith;
+  first = refl;
+}
+
+-- the first span is that of no pairs
+pub spans-cleared : (pairs : List (ℕ × ℕ)) (spans : List Span) → AreSpans pairs spans → take 1 spans ≡ no_pairs ∷ []
+spans-cleared pairs [] are = absurd (let some = are.some in omega arith)
+spans-cleared pairs (x ∷ xs) are = ap (λ x. x ∷ []) are.first
+
+-- more pairs at the end of the buffer change no list
+module _ (pairs more : List (ℕ × ℕ)) where
+  list_in-more : (x : Span) → IsSpan pairs x → list_in (pairs ++ more) x ≡ list_in pairs x
+  list_in-more x is = slice_range-append pairs more x.start x.end is.forward is.within
+
+  IsSpan-more : (x : Span) → IsSpan pairs x → IsSpan (pairs ++ more) x
+  IsSpan-more x is = record {
+    forward = is.forward;
+    within = let old = is.within in omega (arith, length-append pairs more);
+    rising = subst (IsStrictlySortedBy pair_cmp) (sym (list_in-more x is)) is.rising;
+  }
+
+  lists_of-each : (spans : List Span) → All (IsSpan pairs) spans → lists_of (pairs ++ more) spans ≡ lists_of pairs spans
+  lists_of-each [] h = refl
+  lists_of-each (x ∷ xs) h =
+      ap (λ l. l ∷ lists_of (pairs ++ more) xs) (list_in-more x (All-head (IsSpan pairs) x xs h))
+      ∙ ap (λ l. list_in pairs x ∷ l) (lists_of-each xs (All-tail (IsSpan pairs) x xs h))
+
+  pub lists_of-more : (spans : List Span) → AreSpans pairs spans → lists_of (pairs ++ more) spans ≡ lists_of pairs spans
+  lists_of-more spans are = lists_of-each spans are.each
+
+  pub AreSpans-more : (spans : List Span) → AreSpans pairs spans → AreSpans (pairs ++ more) spans
+  AreSpans-more spans are = record {
+    each = All-weaker (IsSpan pairs) (IsSpan (pairs ++ more)) IsSpan-more spans are.each;
+    some = are.some;
+    few = are.few;
+    first = are.first;
+  }
+
+-- the span of a list that goes last in the buffer goes last among the spans
+module _ (pairs list : List (ℕ × ℕ)) (spans : List Span) (new : Span) (are : AreSpans pairs spans)
+    (start : new.start ≡ length pairs) (end : new.end ≡ length pairs + length list) (rising : IsStrictlySortedBy pair_cmp list) where
+  list-new : list_in (pairs ++ list) new ≡ list
+  list-new = ap (λ i. slice_range (pairs ++ list) i new.end) start ∙ slice_range-last pairs list new.end end
+
+  IsSpan-new : IsSpan (pairs ++ list) new
+  IsSpan-new = record {
+    forward = omega arith;
+    within = omega (arith, length-append pairs list);
+    rising = subst (IsStrictlySortedBy pair_cmp) (sym list-new) rising;
+  }
+
+  pub lists_of-push : lists_of (pairs ++ list) (spans ++ new ∷ []) ≡ lists_of pairs spans ++ list ∷ []
+  lists_of-push =
+      map-append (list_in (pairs ++ list)) spans (new ∷ [])
+      ∙ ap (λ l. l ++ list_in (pairs ++ list) new ∷ []) (lists_of-more pairs list spans are)
+      ∙ ap (λ l. lists_of pairs spans ++ l ∷ []) list-new
+
+  pub AreSpans-push : length spans < MOST_LISTS → AreSpans (pairs ++ list) (spans ++ new ∷ [])
+  AreSpans-push few =
+      let size = length-append spans (new ∷ []) in
+      let more = AreSpans-more pairs list spans are in
+      record {
+        each = All-append (IsSpan (pairs ++ list)) spans (new ∷ []) more.each (All-only (IsSpan (pairs ++ list)) new IsSpan-new);
+        some = let old = are.some in omega arith;
+        few = omega arith;
+        first = get_or_append_left spans (new ∷ []) no_pairs 0 are.some ∙ are.first;
+      }

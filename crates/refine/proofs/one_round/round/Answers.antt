@@ -1,0 +1,35 @@
+use Rattle.std.proofs.Common.{◌∙◌, arith, rules}
+use Rattle.std.proofs.lemmas.Result.{IfOk-weaker}
+use Rattle.refine.specs.Signed.{signature_at}
+use Rattle.rounds.proofs.CallerLemmas.{begun_up_to, on_ok_from, on_err_from}
+use Rattle.refine.proofs.Filling.{signed_is_split}
+use Rattle.refine.proofs.one_round.round.Goals as goal
+
+pub returns-in_err-fill-clause-err : goal.returns-in_err-fill-clause-err
+returns-in_err-fill-clause-err g c = let most = begun_up_to _ _ _ _ _ c.start_round.ensures c.fill.ensures.visits in search rules
+
+pub returns-clause-states : goal.returns-clause-states
+returns-clause-states g c = IfOk-weaker c.split.result _ _ (λ q size. size ∙ c.requires.states) c.split.ensures.states
+
+pub returns-clause-split : goal.returns-clause-split
+returns-clause-split g c =
+    let l = c.args.l.now in
+    let size = c.requires.states in
+    IfOk-weaker c.split.result _ _
+    (λ q parted.
+    signed_is_split g.S.Signing.relation l (λ s a t. c.rows_are_steps.ensures.numbered l s a t c.known.ensures) c.args.p.now (signature_at c.fill.new.self) q
+    c.in_ok-fill.ensures.signed (λ s t ls lt. parted s t (omega (arith, ls, size)) (omega (arith, lt, size))))
+    c.split.ensures.blocks
+
+pub returns-clause-costs : goal.returns-clause-costs
+returns-clause-costs g c =
+    let start = c.start_round.ensures in
+    let read = c.in_ok-fill.ensures.visits in
+    on_ok_from c.split.result (record {
+      rounds = omega (arith, start.rounds, read.rounds);
+      at_least = omega (arith, start.at_least, read.at_least);
+      at_most = omega (arith, start.at_most, read.at_most);
+    })
+
+pub returns-clause-err : goal.returns-clause-err
+returns-clause-err g c = on_err_from c.split.result (begun_up_to _ _ _ _ _ c.start_round.ensures c.fill.ensures.visits)

@@ -1,0 +1,37 @@
+use Rattle.std.proofs.Common.{◌<◌, ◌∙◌, [], length, ap, subst, arith}
+use Rattle.refine.specs.Search.{Reaches}
+use Rattle.refine.proofs.Searching.{begun, ahead_first, found_few}
+use Rattle.refine.proofs.search.Search.find.Goals as goal
+
+pub loop-i-init : goal.loop-i-init
+loop-i-init g c =
+    let u = c.args.lens.now in
+    let s = c.args.s in
+    let marked = c.args.self.now.marked in
+    let size = c.requires.clear.0 in
+    let below : s < length marked = omega (arith, size, c.requires.state) in
+    let reaches : Reaches s (record { marked = marked; states = []; pairs = [] }) c.reach.new.self =
+    subst (λ f. Reaches s f c.reach.new.self)
+    (λ i. record { marked = (ap (λ f. f.marked) c.self.view_is) i; states = c.clear.ensures.items i; pairs = c.clear-2.ensures.items i }) c.in_ok-reach.ensures.reaches in
+    let first = ahead_first u s c.known.ensures.laws marked below size c.requires.clear.1 c.reach.new.self reaches in
+    record {
+      search = begun u s c.known.ensures.laws marked below size c.requires.clear.1 c.reach.new.self reaches;
+      size = c.reach.ensures.size ∙ ap (λ f. length f.marked) c.self.view_is;
+      visits = omega (arith, first);
+      least = λ h. absurd (omega (arith, h));
+      cost = omega arith;
+    }
+
+pub loop-i-smaller : goal.loop-i-smaller
+loop-i-smaller g c =
+    let f = c.loop-i.self in
+    let search = c.loop-i.invariant.search in
+    omega (
+      arith,
+      found_few f.marked f.states search.marked,
+      search.size,
+      c.loop-i-test.true,
+      c.len.ensures,
+      c.self-in-loop-i.inside.states.ok.0,
+      ap (λ x. length x.states) c.self-in-loop-i.view_is,
+    )

@@ -1,0 +1,58 @@
+-- Private. A search from a state over inert steps: which states were found, and what their rows show.
+use Rattle.std.specs.Prelude.{◌≡◌, ◌⊎◌, ℕ, ◌+◌, ◌<◌, ◌≤◌, Bool, true, false, not, IsTrue, List, [], ◌∷◌, ◌++◌, length, drop, slice_index, slice_set}
+use Rattle.std.specs.List.{All, Contains, filter, sum_by, slice_index_or}
+use Rattle.theory.specs.declared.relation.Relation.TheVariants.{Branching}
+use Rattle.lts.specs.Lts.{Triple, source_of, target_of, row_of}
+use Rattle.inert.specs.Signed.{HasPair, pair_under}
+use Rattle.inert.specs.Steps.{Under, IsInert}
+use Rattle.inert.specs.Search.{Ties}
+use Rattle.inert.specs.declared.step.Step.{Step}
+use Rattle.inert.specs.declared.step.Step.TheVariants.{Inert, Shows}
+use Rattle.rounds.specs.Noting.{AreMarked, IsUnmarked}
+
+-- whether each state was found, the states that were, in their order, and the pairs that were collected
+pub record Found : Type 0 where
+  pub marked : List Bool
+  pub states : List ℕ
+  pub pairs : List (ℕ × ℕ)
+
+-- there is a mark for each of so many states, and none is set
+abbrev pub IsClear : ℕ → Found → Type 0
+IsClear states f = (length f.marked ≡ states) × IsUnmarked f.marked
+
+-- the state t was found
+abbrev pub WasFound : Found → ℕ → Type 0
+WasFound f t = IsTrue (slice_index_or f.marked t false)
+
+-- the state t is found, unless it was found before
+abbrev pub Reaches : ℕ → Found → Found → Type 0
+Reaches t old new = (WasFound old t × (new ≡ old))
+    ⊎ (¬ WasFound old t × (new ≡ record old { marked = slice_set old.marked t true; states = old.states ++ t ∷ [] }))
+
+-- a step is taken: an inert one is followed, and what another one shows is collected
+abbrev pub TakesUp : Step → Found → Found → Type 0
+TakesUp (Inert t) old new = Reaches t old new
+TakesUp (Shows a b) old new = new ≡ record old { pairs = old.pairs ++ (a, b) ∷ [] }
+
+-- a transition was taken by the search from s
+pub record IsTaken (u : Under) (s : ℕ) (f : Found) (e : Triple) : Type 0 where
+  pub followed : IsInert u (slice_index u.blocks s) e → WasFound f (target_of e)
+  pub shown : ¬ IsInert u (slice_index u.blocks s) e → Contains f.pairs (pair_under u.blocks e)
+
+-- a search from s: inert steps lead to what was found, what was collected is of its signature, and so many rows were read
+pub record FindsFrom (u : Under) (s : ℕ) (f : Found) (read : ℕ) : Type 0 where
+  pub size : length f.marked ≡ u.l.states
+  pub marked : AreMarked f.marked f.states
+  pub first : (0 < length f.states) × (slice_index f.states 0 ≡ s)
+  pub led : (j : ℕ) → j < length f.states → Ties u s (slice_index f.states j)
+  pub few : read ≤ length f.states
+  pub own : (z : ℕ × ℕ) → Contains f.pairs z → HasPair Branching u.l u.blocks s z.0 z.1
+  pub taken : (j : ℕ) → j < read → All (IsTaken u s f) (row_of (slice_index f.states j) u.l.places)
+
+-- how many transitions have sources that were not found
+abbrev pub apart : List Triple → List Bool → ℕ
+apart places marked = length (filter (λ e. not (slice_index_or marked (source_of e) false)) places)
+
+-- how many transitions may still be read, after so many rows
+abbrev pub places_left : List Triple → Found → ℕ → ℕ
+places_left places f read = apart places f.marked + sum_by (λ t. length (row_of t places)) (drop read f.states)

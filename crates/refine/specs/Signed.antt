@@ -1,0 +1,36 @@
+-- Signatures in memory: each state's pairs of a label number and a block, in rising order.
+use Rattle.std.specs.Prelude.{◌≡◌, ℕ, ◌≤◌, List, [], ◌++◌, length, map}
+use Rattle.std.specs.List.{slice_index_or}
+use Rattle.theory.specs.declared.relation.Relation.{Relation}
+use Rattle.theory.specs.declared.relation.Relation.TheVariants.{Strong, Branching}
+use Rattle.lts.specs.declared.limits.TheConstants.{MOST_STATES}
+use Rattle.lts.specs.Lts.{Grouped, row_of}
+use Rattle.lists.specs.Lists.{list_at, AreNumbers}
+use Rattle.inert.specs.Signed.{IsSignature}
+
+-- what was in the list before is still there, with more behind it
+abbrev pub Extends : List (ℕ × ℕ) → List (ℕ × ℕ) → Type 0
+Extends before after = (more : List (ℕ × ℕ)) × (after ≡ before ++ more)
+
+-- the signature of s was put behind what was there before
+abbrev pub Appends : Relation → Grouped → List ℕ → ℕ → List (ℕ × ℕ) → List (ℕ × ℕ) → Type 0
+Appends rel l blocks s before after = (pairs : List (ℕ × ℕ)) × IsSignature rel l blocks s pairs × (after ≡ before ++ pairs)
+
+-- of a list of signatures, that of the state s
+abbrev pub signature_at : List (List (ℕ × ℕ)) → ℕ → List (ℕ × ℕ)
+signature_at signatures s = slice_index_or signatures s []
+
+-- the most visits of one signature: of the state's transitions for strong, of all for branching
+abbrev pub most_visits : Relation → Grouped → ℕ → ℕ
+most_visits Strong l s = length (row_of s l.places)
+most_visits Branching l s = length l.places
+
+-- the list of each state
+abbrev pub each_list : List (List (ℕ × ℕ)) → List ℕ → List (List (ℕ × ℕ))
+each_list lists numbers = map (list_at lists) numbers
+
+-- lists and their numbers for 1 to 2,000,000 states
+pub record AreListsOfStates (lists : List (List (ℕ × ℕ))) (numbers : List ℕ) : Type 0 where
+  pub each : AreNumbers lists numbers
+  pub some : 1 ≤ length numbers
+  pub few : length numbers ≤ MOST_STATES

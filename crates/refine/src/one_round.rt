@@ -1,0 +1,43 @@
+//! One round on its own.
+ghost use Rattle.std.specs.Prelude.{◌≡◌, length, slice_index, IfOk, OnOk, OnErr};
+ghost use Rattle.theory.specs.Blocks.{Split};
+ghost use Rattle.lts.specs.Meter.{HasRoomFor, Costs, CostsUpTo};
+ghost use Rattle.lts.specs.Lts.{system_of};
+ghost use Rattle.partition.specs.Partition.{IsSomePartition};
+
+use crate::sense::{Marks, Sense};
+use crate::signatures::Signatures;
+use lts::{Lts, Memory, Meter};
+use partition::Partition;
+use std::alloc::Global;
+
+/// One round: the Split of the blocks by the signatures that the states have under them. Each transition is visited
+/// once.
+///
+/// Fails if there is no memory for it. At most one round was begun then, with at most its visits.
+pub fn round<S: Sense, M: Meter>(
+    alloc: Global,
+    l: &Lts<M>,
+    p: &Partition,
+    m: &mut M,
+) -> Result<Partition, Memory>
+    requires states { length p.now ≡ l.now.states }
+    requires room { HasRoomFor (M.counted m.old) 1 (length l.now.places) }
+
+    // Once it is done
+    ensures states { IfOk result (λ q. length q ≡ l.now.states) }
+    ensures split { IfOk result (λ q. Split S.relation (system_of l.now) (slice_index p.now) (slice_index q)) }
+    ensures numbered { IfOk result IsSomePartition }
+    ensures costs { let n = length l.now.places in OnOk result (Costs (M.counted m.old) (M.counted m.new) 1 n n) }
+
+    // After a refusal
+    ensures err { OnErr result (CostsUpTo (M.counted m.old) (M.counted m.new) 1 (length l.now.places)) }
+{
+    let mut signatures = Signatures::new(alloc, l.states())?;
+    let mut marks = Marks::new(alloc, l.states())?;
+    lts::rows_are_steps();
+    l.known();
+    m.start_round();
+    signatures.fill::<S, M>(l, p, &mut marks, m)?;
+    signatures.split(p)
+}

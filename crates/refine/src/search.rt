@@ -1,0 +1,200 @@
+//! The branching signature of one state, by a search from it over inert steps that reads the row of each state that it finds once.
+ghost use Rattle.std.specs.Prelude.{◌≡◌, ℕ, ◌+◌, ◌<◌, ◌≤◌, length, slice_index, IfOk, OnOk};
+ghost use Rattle.theory.specs.declared.relation.Relation.TheVariants.{Branching};
+ghost use Rattle.lts.specs.Meter.{HasRoomFor, Visits};
+ghost use Rattle.lts.specs.Lts.{row_of};
+ghost use Rattle.inert.specs.Signed.{IsSignature};
+ghost use Rattle.inert.specs.declared.step.Step.TheVariants.{Inert};
+ghost use Rattle.rounds.specs.Noting.{AreMarked, IsUnmarked};
+ghost use Rattle.refine.specs.Search.{Found, IsClear, Reaches, TakesUp, FindsFrom, places_left};
+
+use inert::{Lens, Step};
+use lists::order;
+use lts::{Lts, Memory, Meter};
+use std::alloc::Global;
+use std::marker::Model;
+
+/// What a search from one state over inert steps finds, used again from state to state. Between searches no state is marked.
+pub(crate) struct Search {
+    /// Whether each state was found.
+    marked: Vec<bool>,
+    /// The states that were found, in their order.
+    states: Vec<u32>,
+    /// What their rows show.
+    pub pairs: Vec<(u32, u32)>,
+}
+
+/// Written out, so that it is dropped by one call and not by one for each part.
+impl Drop for Search {
+    fn drop(self) {
+        let Search {
+            marked: _,
+            states: _,
+            pairs: _,
+        } = self;
+    }
+}
+
+impl Model for Search {
+    ghost use Rattle.refine.specs.Search.{Found};
+
+    ghost Value = { Found };
+
+    ghost view = { λ x. record {
+      marked = x.marked.items;
+      states = x.states.items;
+      pairs = x.pairs.items;
+    } };
+}
+
+impl Search {
+    /// A search among so many states.
+    ///
+    /// Fails if there is no memory for it.
+    pub fn new(alloc: Global, states: u32) -> Result<Search, Memory>
+        ensures { IfOk result (IsClear states) }
+    {
+        Ok(Search {
+            marked: vec![in alloc; false; states as usize]?,
+            states: Vec::new(alloc),
+            pairs: Vec::new(alloc),
+        })
+    }
+
+    /// Makes `pairs` the branching signature of `s`. It costs what the search finds, and n only after a refusal.
+    ///
+    /// Fails if there is no memory for it.
+    pub fn sign<M: Meter>(
+        &mut self,
+        l: &Lts<M>,
+        blocks: &[u32],
+        s: u32,
+        m: &mut M,
+    ) -> Result<(), Memory>
+        requires blocks { length blocks.now ≡ l.now.states }
+        requires state { s < l.now.states }
+        requires clear { IsClear l.now.states self.old }
+        requires room { HasRoomFor (M.counted m.old) 0 (length l.now.places) }
+        ensures signature { OnOk result (IsSignature Branching l.now blocks.now s self.new.pairs) }
+        ensures clear { IsClear l.now.states self.new }
+        ensures visits { Visits M.counted m.old m.new result
+            (length (row_of s l.now.places)) (length l.now.places) }
+    {
+        lts::rows_are_steps();
+        theory::inert_steps_stay();
+        let lens = Lens::new(l, blocks);
+        lens.known();
+        match self.find(&lens, s, m) {
+            Ok(()) => {
+                unmark(&mut self.marked, &self.states);
+                order(&mut self.pairs);
+                Ok(())
+            }
+            Err(refusal) => {
+                self.marked.fill(false);
+                Err(refusal)
+            }
+        }
+    }
+
+    /// Finds the states that inert steps lead to from `s`, and collects what their rows show.
+    ///
+    /// Fails if there is no memory for it.
+    fn find<M: Meter>(&mut self, lens: &Lens<M>, s: u32, m: &mut M) -> Result<(), Memory>
+        requires state { s < lens.now.l.states }
+        requires clear { IsClear lens.now.l.states self.old }
+        requires room { HasRoomFor (M.counted m.old) 0 (length lens.now.l.places) }
+        ensures found { OnOk result (FindsFrom lens.now s self.new (length self.new.states)) }
+        ensures size { length self.new.marked ≡ length self.old.marked }
+        ensures visits { Visits M.counted m.old m.new result
+            (length (row_of s lens.now.l.places)) (length lens.now.l.places) }
+    {
+        lens.known();
+        self.states.clear();
+        self.pairs.clear();
+        self.reach(s)?;
+        let mut i = 0;
+        while i < self.states.len() {
+            self.read(lens, s, i, m)?;
+            i += 1;
+        }
+        Ok(())
+    }
+
+    /// Reads the row of the state number `i` of those that the search from `s` has found.
+    ///
+    /// Fails if there is no memory for it.
+    fn read<M: Meter>(&mut self, lens: &Lens<M>, s: u32, i: usize, m: &mut M) -> Result<(), Memory>
+        requires state { s < lens.now.l.states }
+        requires found { FindsFrom lens.now s self.old i }
+        requires more { i < length self.old.states }
+        requires room { HasRoomFor (M.counted m.old) 0
+            (length (row_of (slice_index self.old.states i) lens.now.l.places)) }
+        ensures found { OnOk result (FindsFrom lens.now s self.new (i + 1)) }
+        ensures longer { OnOk result (length self.old.states ≤ length self.new.states) }
+        ensures ahead { let left = places_left lens.now.l.places in
+            OnOk result (left self.new i ≡ left self.old i) }
+        ensures same { let state = λ (f : Found). slice_index f.states i in
+            OnOk result (state self.new ≡ state self.old) }
+        ensures size { length self.new.marked ≡ length self.old.marked }
+        ensures visits { let t = slice_index self.old.states i in
+            let row = length (row_of t lens.now.l.places) in
+            Visits M.counted m.old m.new result row row }
+    {
+        lts::rows_follow();
+        lts::rows_are_steps();
+        theory::inert_steps_stay();
+        lens.known();
+        let block = lens.blocks()[s as usize];
+        let (start, end) = lens.row(self.states[i]);
+        for k in start..end {
+            let step = lens.step(block, k, m);
+            self.take(step)?;
+        }
+        Ok(())
+    }
+
+    /// Takes a step of a state that was found: follows it, if it is inert, and else collects what it shows.
+    ///
+    /// Fails if there is no memory for it.
+    fn take(&mut self, step: Step) -> Result<(), Memory>
+        requires { (t : ℕ) → step ≡ Inert t → t < length self.old.marked }
+        ensures takes { OnOk result (TakesUp step self.old self.new) }
+        ensures size { length self.new.marked ≡ length self.old.marked }
+    {
+        match step {
+            Step::Inert(t) => self.reach(t),
+            Step::Shows(label, block) => {
+                self.pairs.push((label, block))?;
+                Ok(())
+            }
+        }
+    }
+
+    /// Finds the state `t`, unless it was found before.
+    ///
+    /// Fails if there is no memory for it.
+    fn reach(&mut self, t: u32) -> Result<(), Memory>
+        requires { t < length self.old.marked }
+        ensures reaches { OnOk result (Reaches t self.old self.new) }
+        ensures size { length self.new.marked ≡ length self.old.marked }
+    {
+        if self.marked[t as usize] {
+            return Ok(());
+        }
+        self.states.push(t)?;
+        self.marked[t as usize] = true;
+        Ok(())
+    }
+}
+
+/// Takes away the marks of these states, which are all that are set.
+fn unmark(marked: &mut Vec<bool>, states: &[u32])
+    requires { AreMarked marked.old.items states.now }
+    ensures none { IsUnmarked marked.new.items }
+    ensures size { length marked.new.items ≡ length marked.old.items }
+{
+    for s in states {
+        marked[*s as usize] = false;
+    }
+}

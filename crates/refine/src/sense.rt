@@ -1,0 +1,153 @@
+//! One signature on its own, and what it is put together in.
+ghost use Rattle.std.specs.Prelude.{◌≡◌, ◌<◌, ◌≤◌, length, IfOk, OnOk, OnErr};
+ghost use Rattle.theory.specs.declared.relation.Relation.TheVariants.{Strong as strong};
+ghost use Rattle.lts.specs.declared.limits.TheConstants.{MOST_STATES};
+ghost use Rattle.lts.specs.Meter.{HasRoomFor, Visits};
+ghost use Rattle.lts.specs.Lts.{row_of};
+ghost use Rattle.inert.specs.Signed.{IsSignature};
+ghost use Rattle.refine.specs.Signed.{Extends, Appends, most_visits};
+
+use crate::search::Search;
+use lists::order;
+use lts::{Lts, Memory, Meter};
+use partition::Partition;
+use rounds::{Branching, NewBlocks, Signing, Strong, read};
+use std::alloc::Global;
+use std::marker::Model;
+
+/// What signatures are put together in, used again from state to state and from round to round. Signatures do not depend on what
+/// earlier ones left here.
+pub struct Marks {
+    states: u32,
+    search: Search,
+}
+
+/// Written out, so that marks are dropped by one call and not by one for each part.
+impl Drop for Marks {
+    fn drop(self) {
+        let Marks {
+            states: _,
+            search: _,
+        } = self;
+    }
+}
+
+impl Model for Marks {
+    ghost use Rattle.std.specs.Prelude.{ℕ, ◌≤◌};
+    ghost use Rattle.lts.specs.declared.limits.TheConstants.{MOST_STATES};
+
+    ghost Value = { ℕ };
+
+    ghost view = { λ k. k.states };
+
+    ghost use Rattle.refine.specs.Search.{IsClear};
+
+    ghost invariant = { λ k. (k.states ≤ MOST_STATES) × IsClear k.states k.search };
+}
+
+impl Marks {
+    /// Marks for so many states, 1 to 2,000,000.
+    ///
+    /// Fails if there is no memory for them.
+    pub fn new(alloc: Global, states: u32) -> Result<Marks, Memory>
+        requires some { 1 ≤ states }
+        requires few { states ≤ MOST_STATES }
+        ensures { IfOk result (λ k. k ≡ states) }
+    {
+        let search = Search::new(alloc, states)?;
+        Ok(Marks { states, search })
+    }
+
+    /// For how many states these are.
+    pub fn states(&self) -> u32
+        ensures { result ≡ self.now }
+    {
+        self.states
+    }
+}
+
+/// A relation whose signatures can be computed, of one state at a time too: `Strong` or `Branching`. What rounds ask of one is
+/// not public.
+pub trait Sense: Signing {
+    /// Appends the signature of the state `s` under the blocks of `p` to `out`: its pairs of a label number and a block,
+    /// in rising order, each once.
+    ///
+    /// Fails if there is no memory for it. It is open then what was appended.
+    fn signature<M: Meter>(
+        l: &Lts<M>,
+        p: &Partition,
+        s: u32,
+        marks: &mut Marks,
+        out: &mut Vec<(u32, u32)>,
+        m: &mut M,
+    ) -> Result<(), Memory>
+        requires states { length p.now ≡ l.now.states }
+        requires marks { marks.old ≡ l.now.states }
+        requires state { s < l.now.states }
+        requires room { HasRoomFor (M.counted m.old) 0 (most_visits Self.relation l.now s) }
+
+        // Once it is done
+        ensures appends { OnOk result (Appends Self.relation l.now p.now s out.old.items out.new.items) }
+
+        // After a refusal
+        ensures extends { OnErr result (Extends out.old.items out.new.items) }
+
+        // In either case
+        ensures visits { let row = length (row_of s l.now.places) in
+            Visits M.counted m.old m.new result row (most_visits Self.relation l.now s) }
+        ensures marks { marks.new ≡ marks.old };
+}
+
+impl Sense for Strong {
+    fn signature<M: Meter>(
+        l: &Lts<M>,
+        p: &Partition,
+        s: u32,
+        marks: &mut Marks,
+        out: &mut Vec<(u32, u32)>,
+        m: &mut M,
+    ) -> Result<(), Memory> {
+        sign(l, p.blocks(), s, &mut marks.search.pairs, m)?;
+        out.extend_from_slice(&marks.search.pairs)?;
+        Ok(())
+    }
+}
+
+/// Makes `pairs` the strong signature of `s`.
+///
+/// Fails if there is no memory for it.
+fn sign<M: Meter>(
+    l: &Lts<M>,
+    p: &[u32],
+    s: u32,
+    pairs: &mut Vec<(u32, u32)>,
+    m: &mut M,
+) -> Result<(), Memory>
+    requires states { length p.now ≡ l.now.states }
+    requires state { s < l.now.states }
+    requires room { HasRoomFor (M.counted m.old) 0 (length (row_of s l.now.places)) }
+    ensures signature { OnOk result (IsSignature strong l.now p.now s pairs.new.items) }
+    ensures visits { let n = length (row_of s l.now.places) in Visits M.counted m.old m.new result n n }
+{
+    lts::rows_are_steps();
+    l.known();
+    let under = NewBlocks { l, of: p, low: 0 };
+    read(&under, s, pairs, m)?;
+    order(pairs);
+    Ok(())
+}
+
+impl Sense for Branching {
+    fn signature<M: Meter>(
+        l: &Lts<M>,
+        p: &Partition,
+        s: u32,
+        marks: &mut Marks,
+        out: &mut Vec<(u32, u32)>,
+        m: &mut M,
+    ) -> Result<(), Memory> {
+        marks.search.sign(l, p.blocks(), s, m)?;
+        out.extend_from_slice(&marks.search.pairs)?;
+        Ok(())
+    }
+}

@@ -1,0 +1,186 @@
+//! The signatures of all states, and the blocks that they leave.
+ghost use Rattle.std.specs.Prelude.{◌≡◌, ◌↔◌, ℕ, ◌<◌, ◌≤◌, [], ◌∷◌, length, slice_index, IfOk, OnOk};
+ghost use Rattle.lts.specs.declared.limits.TheConstants.{MOST_STATES};
+ghost use Rattle.lts.specs.Meter.{HasRoomFor, Visits};
+ghost use Rattle.lists.specs.Lists.{AreNumbers};
+ghost use Rattle.partition.specs.Partition.{IsSomePartition};
+ghost use Rattle.partition.specs.Blocks.{IsOne};
+ghost use Rattle.inert.specs.Signed.{IsSignature};
+ghost use Rattle.refine.specs.Signed.{signature_at};
+
+use crate::parts::Parts;
+use crate::sense::{Marks, Sense};
+use lists::{EMPTY, Lists};
+use lts::{Lts, Memory, Meter};
+use partition::{Blocks, Partition, renumber};
+use rounds::SignedBlocks;
+use std::alloc::Global;
+use std::marker::Model;
+
+/// A list of pairs for each state, its signature: the number of a label and the number of a block.
+#[derive(Drop)]
+pub struct Signatures {
+    alloc: Global,
+    lists: Lists,
+    /// The number of each state's list.
+    numbers: Vec<u32>,
+    /// The lists, each whole.
+    whole: Parts,
+}
+
+impl Model for Signatures {
+    ghost use Rattle.std.specs.Prelude.{◌≡◌, ℕ, List};
+
+    ghost Value = { List (List (ℕ × ℕ)) };
+
+    ghost use Rattle.refine.specs.Signed.{each_list, AreListsOfStates};
+
+    ghost view = { λ g. each_list g.whole g.numbers.items };
+
+    ghost invariant = { λ g. (g.whole ≡ g.lists) × AreListsOfStates g.lists g.numbers.items };
+}
+
+impl Signatures {
+    /// Empty signatures of so many states, 1 to 2,000,000.
+    ///
+    /// Fails if there is no memory for them.
+    pub fn new(alloc: Global, states: u32) -> Result<Signatures, Memory>
+        requires some { 1 ≤ states }
+        requires few { states ≤ MOST_STATES }
+        ensures states { IfOk result (λ g. length g ≡ states) }
+        ensures empty { IfOk result (λ g. (s : ℕ) → s < states → signature_at g s ≡ []) }
+    {
+        Ok(Signatures {
+            alloc,
+            numbers: no_numbers(alloc, states)?,
+            lists: Lists::new(alloc, 1)?,
+            whole: Parts::new(alloc, 0)?,
+        })
+    }
+
+    /// How many states there are.
+    pub fn states(&self) -> u32
+        ensures { result ≡ length self.now }
+    {
+        self.numbers.len() as u32
+    }
+
+    /// The signature of the state `s`.
+    pub fn of(&self, s: u32) -> &[(u32, u32)]
+        requires { s < length self.now }
+        ensures { result.now ≡ signature_at self.now s }
+    {
+        self.whole.of(self.numbers[s as usize])
+    }
+
+    /// Takes the signature of each state under the blocks of `p`. Each transition is visited once.
+    ///
+    /// Fails if there is no memory for it. It is open then what `of` gives.
+    pub fn fill<S: Sense, M: Meter>(
+        &mut self,
+        l: &Lts<M>,
+        p: &Partition,
+        marks: &mut Marks,
+        m: &mut M,
+    ) -> Result<(), Memory>
+        requires states { length p.now ≡ l.now.states }
+        requires marks { marks.old ≡ l.now.states }
+        requires signatures { length self.old ≡ l.now.states }
+        requires room { HasRoomFor (M.counted m.old) 0 (length l.now.places) }
+
+        // Once it is done
+        ensures signed { OnOk result ((s : ℕ) → s < l.now.states →
+            IsSignature S.relation l.now p.now s (signature_at self.new s)) }
+
+        // In either case
+        ensures visits { let n = length l.now.places in Visits M.counted m.old m.new result n n }
+        ensures marks { marks.new ≡ marks.old }
+        ensures signatures { length self.new ≡ length self.old }
+    {
+        let blocks = copied(self.alloc, p)?;
+        let blocks = SignedBlocks::new(self.alloc, blocks)?;
+        let signed = S::sign_each(l, blocks, m)?;
+        signed.known();
+        let (lists, numbers) = signed.into_lists();
+        let whole = made_whole(self.alloc, &lists)?;
+        self.lists = lists;
+        self.numbers = numbers;
+        self.whole = whole;
+        Ok(())
+    }
+
+    /// Splits the blocks of `p`: two states stay together if their signatures are equal.
+    ///
+    /// Fails if there is no memory for it.
+    pub fn split(&self, p: &Partition) -> Result<Partition, Memory>
+        requires states { length p.now ≡ length self.now }
+        ensures states { IfOk result (λ q. length q ≡ length p.now) }
+        ensures blocks { IfOk result (λ q. (s t : ℕ) → s < length p.now → t < length p.now →
+            (slice_index q s ≡ slice_index q t)
+            ↔ ((slice_index p.now s ≡ slice_index p.now t) × (signature_at self.now s ≡ signature_at self.now t))) }
+        ensures numbered { IfOk result IsSomePartition }
+    {
+        let blocks = copied(self.alloc, p)?;
+        self.lists.known();
+        let parts = blocks.split(self.alloc, self.lists.len(), &self.numbers)?;
+        renumber(self.alloc, parts.of(), parts.count())
+    }
+}
+
+/// The number of the empty list for each of so many states.
+///
+/// Fails if there is no memory for them.
+fn no_numbers(alloc: Global, states: u32) -> Result<Vec<u32>, Memory>
+    ensures states { IfOk result (λ v. length v.items ≡ states) }
+    ensures none { IfOk result (λ v. (s : ℕ) → s < states → slice_index v.items s ≡ 0) }
+    ensures numbers { IfOk result (λ v. AreNumbers ([] ∷ []) v.items) }
+{
+    let numbers = vec![in alloc; EMPTY; states as usize]?;
+    Ok(numbers)
+}
+
+/// The lists, each whole.
+///
+/// Fails if there is no memory for them.
+fn made_whole(alloc: Global, lists: &Lists) -> Result<Parts, Memory>
+    ensures { IfOk result (λ whole. whole ≡ lists.now) }
+{
+    lists.known();
+    let mut whole = Parts::new(alloc, 0)?;
+    let mut list = Vec::new(alloc);
+    for k in 1..lists.len() {
+        list.clear();
+        lists.append(k, &mut list)?;
+        whole.push(&list)?;
+    }
+    Ok(whole)
+}
+
+/// A copy of the blocks of `p`, for a round that looks at all states. All blocks are new.
+///
+/// Fails if there is no memory for it.
+fn copied(alloc: Global, p: &Partition) -> Result<Blocks, Memory>
+    ensures of { IfOk result (λ b. b.of ≡ p.now) }
+    ensures low { IfOk result (λ b. b.low ≡ 0) }
+    ensures live { IfOk result (λ b. (s : ℕ) → s < length p.now → IsOne b.live s) }
+{
+    let mut of = Vec::new(alloc);
+    of.extend_from_slice(p.blocks())?;
+    let copy = Partition::from_blocks(of, p.count());
+    let live = all(alloc, p.states())?;
+    Ok(Blocks::new(alloc, copy, live))
+}
+
+/// All of so many states.
+///
+/// Fails if there is no memory for it.
+fn all(alloc: Global, states: u32) -> Result<Vec<u32>, Memory>
+    ensures states { IfOk result (λ v. length v.items ≡ states) }
+    ensures each { IfOk result (λ v. (s : ℕ) → s < states → slice_index v.items s ≡ s) }
+{
+    let mut all = Vec::with_capacity(alloc, states as usize)?;
+    for s in 0..states {
+        all.push(s)?;
+    }
+    Ok(all)
+}

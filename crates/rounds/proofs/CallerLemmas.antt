@@ -1,0 +1,6 @@
+-- What proofs of other crates cite of this one: they name no other file of it.
+pub use Rattle.rounds.proofs.EqualLists.{Labelled, equal_lists}
+pub use Rattle.rounds.proofs.Spending.{begun_up_to, on_ok_from, on_err_from}
+pub use Rattle.rounds.proofs.StrongRow.{row_signature}
+pub use Rattle.rounds.proofs.EachList.{Splits-lists}
+pub use Rattle.rounds.proofs.Finding.{one_in, in_one, none_marked, marked_more, found_below}
