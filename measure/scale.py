@@ -269,12 +269,12 @@ def made_table(rows):
 
 
 def readme_rows(rows):
-    yield "                      states transitions  strong  branching   MB"
+    yield "                        states transitions  strong  branching   MB"
     for kind in IN_README:
-        name = named(kind).partition(",")[0]
+        name = named(kind)
         strong, branching = largest(rows, kind)
         seconds = f"{strong.seconds:8.1f} {branching.seconds:10.1f} {max(strong.megabytes, branching.megabytes):4}"
-        yield f"{name:18} {strong.states:9,} {strong.transitions:11,}{seconds}"
+        yield f"{name:20} {strong.states:9,} {strong.transitions:11,}{seconds}"
 
 
 class Panel(NamedTuple):
@@ -285,6 +285,7 @@ class Panel(NamedTuple):
     title: str
     across: tuple
     up: tuple
+    least: float  # up, of which it is not known how far it is below
     line: Callable  # what is said of the line, by its rate
     point: Callable  # the two values of a row
 
@@ -304,8 +305,8 @@ class Panel(NamedTuple):
     def drawn(self, rows):
         """The elements: the axes, the line and its words, the points, and the names of those far from the line."""
         points = [(kind.replace(" {}", ""), RELATIONS[row.relation], *self.point(row)) for kind, row in rows]
-        points = [point for point in points if point[3] >= self.up[0]]
-        rate = statistics.median(up / across for _, _, across, up in points if up > self.up[0])
+        points = [point for point in points if point[3] >= self.least]
+        rate = statistics.median(up / across for _, _, across, up in points if up > self.least)
         start, end = max(self.across[0], self.up[0] / rate), min(self.across[1], self.up[1] / rate)
         (x, y), (x_2, y_2) = (self.place(across, across * rate) for across in (start, end))
         yield from self.axes()
@@ -321,21 +322,22 @@ class Panel(NamedTuple):
             if how_far(point) > math.log(FAR):
                 names[name, colour] = place
         names[self.line(rate), GREY] = middle
-        rooms = [(x - 4, y - 4, x + 4, y + 4) for x, y in taken]
+        rooms = [(x - 5, y - 5, x + 5, y + 5) for x, y in taken]
         for (words, colour), place in names.items():
             room = self.room(words, place, rooms)
             rooms.append(room)
-            yield words_at(room[0], room[1] + 10, words, colour=colour)
+            yield words_at(room[0], room[1] + 11, words, colour=colour)
 
     def room(self, words, place, rooms):
-        """Room for words beside a place, where they cover least of what is there."""
-        (x, y), wide = place, 6.6 * len(words)
+        """Room for words beside a place, the nearest where they cover least of what is there."""
+        (x, y), wide = place, 7 * len(words)
         inside = lambda left: min(max(left, self.left + 3), self.left + SIDE + 35 - wide)
         lefts = [inside(left) for left in (x + 7, x - 7 - wide, x - wide / 2, x + 20)]
-        free = [(left, y + down - 6, left + wide, y + down + 6) for down in (0, -13, 13, -26, 26) for left in lefts]
+        downs = sorted(range(-52, 53, 13), key=abs)
+        free = [(left, y + down - 7, left + wide, y + down + 7) for down in downs for left in lefts]
+        free = [one for one in free if self.top < one[1] and one[3] < self.top + SIDE]
         shared = lambda a, b, side: max(0, min(a[side + 2], b[side + 2]) - max(a[side], b[side]))
-        covered = lambda one: sum(shared(one, other, 0) * shared(one, other, 1) for other in rooms)
-        return min(free, key=lambda one: covered(one) + SIDE * SIDE * (one[3] > self.top + SIDE))
+        return min(free, key=lambda one: sum(shared(one, other, 0) * shared(one, other, 1) for other in rooms))
 
 
 def words_at(x, y, words, kind="name", colour="black"):
@@ -354,8 +356,8 @@ def spelled(value):
 
 def drawing(rows):
     """The picture: time and memory by transitions, time by visits, and the time of one relation by the other's."""
-    ends = 0.01, 20
-    seconds = lambda row: max(row.seconds, ends[0])
+    ends, least = (0.006, 20), 0.01
+    seconds = lambda row: max(row.seconds, least)
     by_transitions = lambda row: (row.transitions, seconds(row))
     megabytes = lambda row: (row.transitions, row.megabytes)
     by_visits = lambda row: (row.transitions * row.rounds, seconds(row))
@@ -370,10 +372,10 @@ def drawing(rows):
 <style>text { font: 12px sans-serif } .middle { text-anchor: middle } .end { text-anchor: end }
 path { stroke: #ddd } .line { stroke: #555; stroke-dasharray: 4 3 }</style>
 <rect width="100%" height="100%" fill="white"/>'''
-    yield from Panel(60, 40, "seconds by transitions", (1e3, 2e7), ends, speed, by_transitions).drawn(shown)
-    yield from Panel(460, 40, "MB by transitions", (5e5, 1.2e7), (LEAST + 1, 400), size, megabytes).drawn(shown)
-    yield from Panel(60, 420, "seconds by rounds times transitions", (1e4, 5e8), ends, speed, by_visits).drawn(shown)
-    yield from Panel(460, 420, "seconds: branching by strong", ends, ends, times, by_strong).drawn(both)
+    yield from Panel(60, 40, "seconds by transitions", (1e3, 2e7), ends, least, speed, by_transitions).drawn(shown)
+    yield from Panel(460, 40, "MB by transitions", (5e5, 1.2e7), (LEAST - 2, 400), LEAST + 1, size, megabytes).drawn(shown)
+    yield from Panel(60, 420, "seconds by rounds times transitions", (1e4, 5e8), ends, least, speed, by_visits).drawn(shown)
+    yield from Panel(460, 420, "seconds: branching by strong", ends, ends, least, times, by_strong).drawn(both)
     for x, (relation, colour) in zip((66, 146), RELATIONS.items()):
         yield f'<circle cx="{x}" cy="771" r="4" fill="{colour}"/>' + words_at(x + 8, 775, relation)
     yield words_at(240, 775, f"The line has slope 1, through the median. Named: {FAR} times off it or more.")

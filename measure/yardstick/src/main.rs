@@ -1,5 +1,5 @@
-//! A minimiser in plain Rust, with nothing proved: the yardstick of `docs/scale.md`. It writes, byte for byte, what
-//! `autbis min` writes for a text that reads.
+//! A minimiser in plain Rust, with nothing proved: the yardstick of `docs/scale.md`, and the second opinion of
+//! `measure/compare`. It writes, byte for byte, what `autbis min` and `autbis cmp` write for texts that read.
 //!
 //! Both give states numbers of blocks and split blocks by signatures until none splits (Blom and Orzan 2003). This one
 //! need not look at every transition in every round: it signs only states whose signature can have changed, the largest
@@ -15,44 +15,73 @@ mod text;
 
 use rows::Rows;
 use std::io::Write;
+use text::System;
 
-fn run(every: bool, branching: bool, file: &str) -> Result<(), String> {
-    let text = std::fs::read(file).map_err(|error| error.to_string())?;
-    let system = text::read(&text)?;
-    drop(text);
-    let rows = Rows::of(system.states, system.steps.iter().copied());
-    let internal = system.labels.iter().position(|label| branching && label == b"i").map(|k| k as u32);
+fn read_file<T>(file: &str, read: impl Fn(&[u8]) -> Result<T, String>) -> Result<T, String> {
+    let text = std::fs::read(file).map_err(|error| error.to_string());
+    text.and_then(|text| read(&text)).map_err(|fault| format!("{file}: {fault}"))
+}
+
+/// What is written of one system, the quotient, or of two, the verdict.
+fn answer(every: bool, branching: bool, hide: Option<&str>, files: &[&str]) -> Result<Vec<u8>, String> {
+    let hidden = hide.map_or(Ok(vec![]), |file| read_file(file, text::read_labels))?;
+    let mut system = read_file(files[0], |text| text::read(text, &hidden))?;
+    let mut second = None;
+    if let Some(file) = files.get(1) {
+        second = Some(system.add(&read_file(file, |text| text::read(text, &hidden))?));
+    }
+    let System { first, states, ref labels, ref steps } = system;
+    let rows = Rows::of(states, steps.iter().copied());
+    let internal = labels.iter().position(|label| branching && label == b"i").map(|k| k as u32);
     // Strong bisimilarity has no inert steps, so that each state is a component.
     let found = internal.map(|internal| {
         let (of, count) = rows.components(internal);
-        let between = system.steps.iter().map(|step| (of[step.0 as usize], step.1, of[step.2 as usize]));
+        let between = steps.iter().map(|step| (of[step.0 as usize], step.1, of[step.2 as usize]));
         (Rows::of(count, between.filter(|step| step.0 != step.2 || step.1 != internal)), of)
     });
     let (contracted, components) = found.as_ref().map_or((&rows, None), |(rows, of)| (rows, Some(of)));
     let blocks = if every { every::refine(contracted, internal) } else { blocks::refine(contracted, internal) };
     let block_of = |s: u32| blocks[components.map_or(s, |of| of[s as usize]) as usize];
-    let written = quotient::written(&system, &rows, block_of, contracted, &blocks);
-    std::io::stdout().write_all(&written).map_err(|error| error.to_string())
+    Ok(match second {
+        None => quotient::written(&system, &rows, block_of, contracted, &blocks),
+        Some(second) if block_of(first) == block_of(second) => b"TRUE\n".to_vec(),
+        Some(_) => b"FALSE\n".to_vec(),
+    })
 }
 
 fn usage() -> ! {
-    eprintln!("usage: yardstick min [--every] [--relation strong|branching] FILE");
+    eprintln!("usage: yardstick min [--every] [--relation strong|branching] [--hide FILE] FILE");
+    eprintln!("       yardstick cmp [--every] [--relation strong|branching] [--hide FILE] FILE FILE");
     std::process::exit(3);
 }
 
 fn main() {
     let words: Vec<String> = std::env::args().skip(1).collect();
-    let mut words: Vec<&str> = words.iter().map(String::as_str).collect();
-    let every = words.contains(&"--every");
-    words.retain(|word| *word != "--every");
-    let (branching, file) = match words[..] {
-        ["min", .., file] if file.starts_with('-') => usage(),
-        ["min", "--relation", relation @ ("strong" | "branching"), file] => (relation == "branching", file),
-        ["min", file] => (false, file),
-        _ => usage(),
-    };
-    if let Err(fault) = run(every, branching, file) {
-        eprintln!("yardstick: {file}: {fault}");
-        std::process::exit(2);
+    let mut words = words.iter().map(String::as_str);
+    let command = words.next();
+    let (mut every, mut branching, mut hide, mut files) = (false, false, None, vec![]);
+    while let Some(word) = words.next() {
+        match word {
+            "--every" => every = true,
+            "--relation" => match words.next() {
+                Some(relation @ ("strong" | "branching")) => branching = relation == "branching",
+                _ => usage(),
+            },
+            "--hide" => hide = Some(words.next().unwrap_or_else(|| usage())),
+            _ if word.starts_with('-') => usage(),
+            _ => files.push(word),
+        }
+    }
+    if !matches!((command, files.len()), (Some("min"), 1) | (Some("cmp"), 2)) {
+        usage();
+    }
+    let written = answer(every, branching, hide, &files)
+        .and_then(|text| std::io::stdout().write_all(&text).map(|()| text).map_err(|error| error.to_string()));
+    match written {
+        Ok(text) => std::process::exit((text == b"FALSE\n").into()),
+        Err(fault) => {
+            eprintln!("yardstick: {fault}");
+            std::process::exit(2);
+        }
     }
 }

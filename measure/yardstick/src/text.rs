@@ -1,6 +1,6 @@
 //! Reading and writing the Aldebaran format (`docs/format.md`), without its limits.
 
-use std::collections::HashMap;
+use std::collections::{HashMap, HashSet};
 use std::hash::{BuildHasherDefault, Hasher};
 
 /// What a text says. A step is a source, the number of a label, and a target.
@@ -9,6 +9,24 @@ pub struct System {
     pub states: u32,
     pub labels: Vec<Vec<u8>>,
     pub steps: Vec<(u32, u32, u32)>,
+}
+
+impl System {
+    /// Adds another system, whose states get the numbers after those of this one; returns that of its first state.
+    pub fn add(&mut self, other: &System) -> u32 {
+        let before = self.states;
+        let number = |label: &Vec<u8>| {
+            self.labels.iter().position(|known| known == label).unwrap_or_else(|| {
+                self.labels.push(label.clone());
+                self.labels.len() - 1
+            }) as u32
+        };
+        let numbers: Vec<u32> = other.labels.iter().map(number).collect();
+        let moved = |&(source, label, target)| (before + source, numbers[label as usize], before + target);
+        self.steps.extend(other.steps.iter().map(moved));
+        self.states += other.states;
+        before + other.first
+    }
 }
 
 /// A map with a hasher that takes eight bytes at a time; the one of the standard library takes several times as long.
@@ -74,15 +92,29 @@ fn take_three<'a, T>(text: &mut &'a [u8], second: impl Fn(&mut &'a [u8]) -> Opti
     Some((first, second, third))
 }
 
-pub fn read(text: &[u8]) -> Result<System, String> {
+/// The labels of a hide list.
+pub fn read_labels(text: &[u8]) -> Result<Vec<Vec<u8>>, String> {
+    let text = [text, b"\n"].concat();
+    let (mut text, mut labels) = (text.trim_ascii_start(), vec![]);
+    while !text.is_empty() {
+        let label = take_label(&mut text);
+        labels.push(label.ok_or_else(|| format!("line {}: not a label", labels.len() + 1))?.to_vec());
+    }
+    Ok(labels)
+}
+
+/// Reads a text, of which the labels `hidden` are internal.
+pub fn read(text: &[u8], hidden: &[Vec<u8>]) -> Result<System, String> {
     let mut text = text.strip_prefix(b"des").ok_or("no header")?.trim_ascii_start();
     let header = take_three(&mut text, take_number).filter(|header| header.0 < header.2);
     let (first, promised, states) = header.ok_or("bad header")?;
     let (mut labels, mut numbers) = (Vec::new(), Map::default());
+    let hidden: HashSet<&[u8]> = hidden.iter().map(Vec::as_slice).collect();
     let mut steps = Vec::with_capacity((promised as usize).min(text.len()));
     while !text.is_empty() {
         let step = take_three(&mut text, take_label).filter(|step| step.0 < states && step.2 < states);
         let (source, label, target) = step.ok_or_else(|| format!("line {}: not a transition", steps.len() + 2))?;
+        let label = if !hidden.is_empty() && hidden.contains(label) { b"i" } else { label };
         let number = *numbers.entry(label).or_insert_with(|| {
             labels.push(label.to_vec());
             labels.len() as u32 - 1

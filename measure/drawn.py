@@ -1,0 +1,117 @@
+#!/usr/bin/env python3
+"""Draws systems, and compares what two programs answer: what `min` writes for each, and what `cmp` says of two, by both
+relations, with and without hide lists. Both take the words of `autbis`; the second one is measure/yardstick.
+
+usage: measure/drawn.py PROGRAM SECOND [SEED]
+
+The same SEED draws the same. Ends with status 1 at the first difference, of which it keeps the files.
+"""
+
+import random
+import subprocess
+import sys
+import tempfile
+import time
+from pathlib import Path
+
+CASES = 200
+LABELS = 'a', '"a"', "b", "tau", "A_1", '"put !1"', '"x" "y"', '"0"', '"\\"', "i", '"i"'
+KEPT = Path(__file__).resolve().parent / "out" / "differing"
+
+
+def system(draw):
+    """Some states and transitions, of which a share is internal; the first state is 0."""
+    states = draw.choice((1, 2, 3, 5, 8, 13, 30, 100))
+    labels = draw.sample(LABELS, draw.randint(1, 3))
+    share, far = draw.choice((0, 0.2, 0.5, 0.8)), draw.choice((1, 3, states))
+    lines = []
+    for _ in range(int(states * draw.choice((0.7, 1.2, 2, 4)))):
+        source = draw.randrange(states)
+        label = draw.choice(("i", '"i"')) if draw.random() < share else draw.choice(labels)
+        lines.append((source, label, (source + draw.randint(-far, far)) % states))
+    return states, lines
+
+
+def doubled(draw, states, lines):
+    """Two or fewer copies of each state, each with a step to a copy wherever it had one: the same by both relations."""
+    copies, number = [], 0
+    for _ in range(states):
+        copies.append(range(number, number + draw.randint(1, 2)))
+        number = copies[-1].stop
+    pick = lambda s: draw.sample(copies[s], draw.randint(1, len(copies[s])))
+    return number, [(s, label, t) for source, label, target in lines for s in copies[source] for t in pick(target)]
+
+
+def delayed(draw, states, lines):
+    """Before some states an internal step: the same by branching bisimilarity."""
+    moved, more = [], []
+    for source, label, target in lines:
+        if draw.random() < 0.3:
+            more.append((states + len(more), "i", target))
+            target = more[-1][0]
+        moved.append((source, label, target))
+    return states + len(more), moved + more
+
+
+def altered(draw, states, lines):
+    """One transition leads elsewhere."""
+    place = draw.randrange(len(lines)) if lines else 0
+    moved = [(source, label, draw.randrange(states)) for source, label, _ in lines[place : place + 1]]
+    return states, lines[:place] + moved + lines[place + 1 :]
+
+
+def second(draw, one):
+    """A system to compare with, which often is the same, and often is nearly so."""
+    for change in (doubled, delayed, altered):
+        if draw.random() < 0.5:
+            one = change(draw, *one)
+    return one if draw.random() < 0.9 else system(draw)
+
+
+def text(draw, states, lines):
+    """The text, with states and transitions in another order; the first state has any number."""
+    numbers = draw.sample(range(states), states)
+    comma = draw.choice((",", ", ", " , "))
+    shown = [f"({numbers[source]}{comma}{label}{comma}{numbers[target]})\n" for source, label, target in lines]
+    return f"des ({numbers[0]}, {len(lines)}, {states})\n" + "".join(draw.sample(shown, len(shown)))
+
+
+def differing(seed, case, programs, folder):
+    """The words that the programs answer differently in this case, or None."""
+    draw = random.Random(f"{seed} {case}")
+    one = system(draw)
+    for name, drawn in (("one", one), ("two", second(draw, one))):
+        (folder / f"{name}.aut").write_text(text(draw, *drawn))
+    hidden = draw.sample(LABELS, draw.randint(0, 3))
+    (folder / "hide").write_text("".join(f"{label}\n" for label in hidden))
+    for relation in ("strong", "branching"):
+        for words in (["min", "one.aut"], ["min", "two.aut"], ["cmp", "one.aut", "two.aut"]):
+            words[1:1] = ["--relation", relation, *(["--hide", "hide"] if hidden else [])]
+            ends = []
+            for program in programs:
+                ended = subprocess.run([program, *words], cwd=folder, stdout=subprocess.PIPE)
+                ends.append((ended.returncode, ended.stdout))
+            if ends[0] != ends[1] or ends[0][0] > 1 or not ends[0][1]:
+                return words
+    return None
+
+
+def main():
+    if not 3 <= len(sys.argv) <= 4:
+        sys.exit(__doc__.split("\n\n")[1])
+    programs = [Path(name).resolve() for name in sys.argv[1:3]]
+    seed = sys.argv[3] if len(sys.argv) == 4 else str(time.time_ns())
+    with tempfile.TemporaryDirectory() as work:
+        folder = Path(work)
+        for case in range(CASES):
+            words = differing(seed, case, programs, folder)
+            if words:
+                KEPT.mkdir(parents=True, exist_ok=True)
+                for file in folder.iterdir():
+                    (KEPT / file.name).write_bytes(file.read_bytes())
+                sys.exit(f"seed {seed}: both answer differently, or not at all, in {KEPT}: {' '.join(words)}")
+    print(f"{CASES} drawn pairs of systems: both answer the same; seed {seed}")
+
+
+if __name__ == "__main__":
+    main()
