@@ -1,13 +1,13 @@
-# The scripts of this folder by the usual names: make, make install PREFIX=/usr/local DESTDIR=, make uninstall, make check.
+# The scripts of this folder by the usual names: make, make install PREFIX=/usr/local DESTDIR=, make uninstall, make check. GNU's `prefix` does too.
 
 all:
 	@printf 'des (0, 0, 1)\n' | ./autbis min >/dev/null
 
 install:
-	@./install $${PREFIX:+"$$PREFIX"}
+	@place=$${PREFIX:-$$prefix}; ./install $${place:+"$$place"}
 
 uninstall:
-	@./install --remove $${PREFIX:+"$$PREFIX"}
+	@place=$${PREFIX:-$$prefix}; ./install --remove $${place:+"$$place"}
 
 check:
 	@./check
