@@ -96,11 +96,7 @@ def differing(seed, case, programs, folder):
     return None
 
 
-def main():
-    if not 3 <= len(sys.argv) <= 4:
-        sys.exit(__doc__.split("\n\n")[1])
-    programs = [Path(name).resolve() for name in sys.argv[1:3]]
-    seed = sys.argv[3] if len(sys.argv) == 4 else str(time.time_ns())
+def compare(seed, programs):
     with tempfile.TemporaryDirectory() as work:
         folder = Path(work)
         for case in range(CASES):
@@ -110,7 +106,20 @@ def main():
                 for file in folder.iterdir():
                     (KEPT / file.name).write_bytes(file.read_bytes())
                 sys.exit(f"seed {seed}: both answer differently, or not at all, in {KEPT}: {' '.join(words)}")
-    print(f"{CASES} drawn pairs of systems: both answer the same; seed {seed}")
+    print(f"{CASES} drawn pairs of systems: both answer the same; seed {seed}", flush=True)
+
+
+def main():
+    if not 3 <= len(sys.argv) <= 4:
+        sys.exit(__doc__.split("\n\n")[1])
+    programs = [Path(name).resolve() for name in sys.argv[1:3]]
+    seed = sys.argv[3] if len(sys.argv) == 4 else str(time.time_ns())
+    try:
+        compare(seed, programs)
+    except OSError as error:
+        sys.exit(f"measure/drawn.py: seed {seed}: {error}")
+    except KeyboardInterrupt:
+        sys.exit(130)
 
 
 if __name__ == "__main__":
