@@ -20,15 +20,19 @@ KEPT = Path(__file__).resolve().parent / "out" / "differing"
 
 
 def system(draw):
-    """Some states and transitions, of which a share is internal; the first state is 0."""
-    states = draw.choice((1, 2, 3, 5, 8, 13, 30, 100))
-    labels = draw.sample(LABELS, draw.randint(1, 3))
+    """States, all of which can be reached from state 0, and transitions, of which a share is internal."""
+    states = draw.choice((1, 2, 5, 8, 13, 20, 40, 100))
+    labels = draw.sample(LABELS, draw.randint(1, 4))
     share, far = draw.choice((0, 0.2, 0.5, 0.8)), draw.choice((1, 3, states))
-    lines = []
-    for _ in range(int(states * draw.choice((0.7, 1.2, 2, 4)))):
+    label = lambda: draw.choice(("i", '"i"')) if draw.random() < share else draw.choice(labels)
+    lines = [(max(0, target - draw.randint(1, far)), label(), target) for target in range(1, states)]
+    # Some systems only go forward.
+    back = draw.choice((-far, -1, 0, 1))
+    for _ in range(int(states * draw.choice((0, 0.3, 1, 3)))):
         source = draw.randrange(states)
-        label = draw.choice(("i", '"i"')) if draw.random() < share else draw.choice(labels)
-        lines.append((source, label, (source + draw.randint(-far, far)) % states))
+        target = source + draw.randint(back, far)
+        if 0 <= target < states:
+            lines.append((source, label(), target))
     return states, lines
 
 
@@ -62,10 +66,10 @@ def altered(draw, states, lines):
 
 def second(draw, one):
     """A system to compare with, which often is the same, and often is nearly so."""
-    for change in (doubled, delayed, altered):
+    for change in (doubled, delayed, altered, altered):
         if draw.random() < 0.5:
             one = change(draw, *one)
-    return one if draw.random() < 0.9 else system(draw)
+    return one
 
 
 def text(draw, states, lines):
