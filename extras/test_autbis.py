@@ -2,6 +2,7 @@
 
 import copy
 import doctest
+import errno
 import functools
 import io
 import itertools
@@ -9,6 +10,7 @@ import os
 import pathlib
 import pickle
 import shutil
+import signal
 import socket
 import stat
 import subprocess
@@ -16,6 +18,7 @@ import sys
 import tempfile
 import threading
 import time
+import typing
 import unittest.mock
 from concurrent.futures import ProcessPoolExecutor
 
@@ -23,6 +26,7 @@ import autbis
 
 PROGRAM = os.environ.get("AUTBIS", "autbis")
 TOP = pathlib.Path(__file__).resolve().parents[1]
+FOUND = str(pathlib.Path(autbis.__file__).resolve().parents[1])
 EARLY = "des (0, 4, 5)\n(0, a, 1)\n(0, a, 2)\n(1, b, 3)\n(2, c, 4)\n"
 LATE = "des (0, 3, 4)\n(0, a, 1)\n(1, b, 2)\n(1, c, 3)\n"
 SILENT = "des (0, 2, 3)\n(0, tau, 1)\n(1, a, 2)\n"
@@ -96,6 +100,10 @@ class Answers(unittest.TestCase):
         text = 'des (0, 1, 2)\n(0, "say "hi"", 1)\n'
         self.assertEqual(minimise(text, "branching", hide=['say "hi"']), "des (0, 0, 1)\n")
 
+    def test_hide_a_label_with_quotation_marks_round_it(self):
+        text = 'des (0, 1, 2)\n(0, ""hi"", 1)\n'
+        self.assertEqual(minimise(text, "branching", hide=io.StringIO('""hi""\n')), "des (0, 0, 1)\n")
+
     def test_hide_from_a_generator(self):
         self.assertEqual(minimise(LATE, "branching", hide=(it for it in "abc")), "des (0, 0, 1)\n")
 
@@ -147,9 +155,21 @@ class Inputs(InFolder):
         self.assertEqual(minimise(LATE, "branching", hide=[b"a", "b", bytearray(b"c")]), "des (0, 0, 1)\n")
 
     def test_what_is_no_hide_list(self):
-        for given in ("abc", b"a", None, 3, [None], [3]):
-            self.assertRaisesRegex(TypeError, "", minimise, LATE, hide=given)
-        self.assertRaisesRegex(ValueError, "a label has no line feed", minimise, LATE, hide=[b"a\nb"])
+        for given in ("abc", b"a", None, 3):
+            said = "^hide is a list of labels, an os.PathLike or an open file, and not .*; hide=\\[\\] hides nothing$"
+            self.assertRaisesRegex(TypeError, said, minimise, LATE, hide=given)
+        for given in ([None], [3]):
+            self.assertRaisesRegex(TypeError, "a label is a str or bytes", minimise, LATE, hide=given)
+
+    def test_the_lines_of_a_hide_list(self):
+        list_of_labels = path("alternating-bit.hide")
+        said = "a line of a hide list and no label: .*: pass the list, as pathlib.Path or an open file"
+        with open(list_of_labels, encoding="ascii") as text:
+            lines = text.readlines()
+        texts, labels = list_of_labels.read_text("ascii").splitlines(), list_of_labels.read_bytes().splitlines()
+        given_each = texts, labels, lines, lines[:1], ['"tau"'], [' "tau"\r'], [bytearray(b'"tau"')], [b"a\nb"], ["tau\n"]
+        for given in given_each:
+            self.assertRaisesRegex(ValueError, said, minimise, LATE, hide=given)
 
     def test_a_path_whose_name_is_no_word(self):
         for name in (b"a\nb.aut", b"gr\xfcn.aut"):
@@ -176,9 +196,10 @@ class OtherThanFiles(InFolder):
         def path_of(text):
             pipe = self.new()
             os.mkfifo(pipe)
-            writer = threading.Thread(target=pipe.write_text, args=(text,))
+            # If a call fails, nobody reads.
+            writer = threading.Thread(target=pipe.write_text, args=(text,), daemon=True)
             writer.start()
-            self.addCleanup(writer.join)
+            self.addCleanup(writer.join, 10)
             return pipe
 
         self.assert_answers(path_of)
@@ -210,7 +231,7 @@ class OtherThanFiles(InFolder):
         self.assert_answers(path_of)
 
     def test_standard_input_by_its_path(self):
-        found = {**os.environ, "PYTHONPATH": str(pathlib.Path(autbis.__file__).resolve().parents[1])}
+        found = {**os.environ, "PYTHONPATH": FOUND}
         for given, systems, hide in ("tau\n", (SILENT, ONE_STEP), "hide=STDIN"), (ONE_STEP, (ONE_STEP,), "b=STDIN"):
             script = f"import autbis, pathlib; STDIN = pathlib.Path('/dev/stdin'); call = {{'relation': 'branching', 'program': {PROGRAM!r}}}"
             words = [sys.executable, "-c", f"{script}; print(autbis.equivalent(*{systems!r}, {hide}, **call))"]
@@ -218,6 +239,12 @@ class OtherThanFiles(InFolder):
                 for stdin in {"input": given}, {"stdin": file}:
                     ran = subprocess.run(words, stdout=subprocess.PIPE, universal_newlines=True, env=found, **stdin)
                     self.assertEqual(ran.stdout, "True\n", (hide, stdin))
+
+    def test_closed_standard_streams(self):
+        call = f"autbis.equivalent({SILENT!r}, {ONE_STEP!r}, 'branching', hide=['tau'], program={PROGRAM!r})"
+        script = f"import autbis, os, sys; os.closerange(0, 3); sys.exit(40 + {call})"
+        ran = subprocess.run([sys.executable, "-c", script], env={**os.environ, "PYTHONPATH": FOUND})
+        self.assertEqual(ran.returncode, 41)
 
     def test_a_folder_and_a_socket(self):
         end = socket.socket(socket.AF_UNIX)
@@ -229,7 +256,7 @@ class OtherThanFiles(InFolder):
 
 
 class UsedBefore(InFolder):
-    """A hide list of which nothing is left."""
+    """A hide list or a system of which nothing is left."""
 
     def assert_is_refused_again(self, hide, why):
         self.assertTrue(equivalent(SILENT, ONE_STEP, "branching", hide=hide))
@@ -254,6 +281,27 @@ class UsedBefore(InFolder):
     def test_the_system_in_the_same_open_file(self):
         file = io.StringIO(LATE)
         self.assertRaisesRegex(ValueError, "nothing is left of the hide list", minimise, file, hide=file)
+
+    def test_a_system(self):
+        for mode in ("r", "rb"):
+            with open(self.written(ONE_STEP), mode) as file:
+                self.assertEqual(minimise(file), ONE_STEP)
+                said = f"^nothing is left of the system {file.name}, which may have been read before$"
+                for call in (minimise, with_counts):
+                    self.assertRaisesRegex(ValueError, said, call, file)
+        for again in (io.StringIO(ONE_STEP), io.BytesIO(ONE_STEP.encode("ascii"))):
+            self.assertRaisesRegex(ValueError, "nothing is left of the system second", equivalent, again, again)
+            self.assertRaisesRegex(ValueError, "nothing is left of the system first", equivalent, again, ONE_STEP)
+        with open(self.piped(ONE_STEP), encoding="ascii") as pipe:
+            self.assertEqual(minimise(pipe), ONE_STEP)
+            self.assertRaisesRegex(ValueError, "nothing is left of the system", minimise, pipe)
+
+    def test_a_system_that_is_empty(self):
+        empty = self.written("")
+        with open(empty, encoding="ascii") as file:
+            for system in (io.StringIO(), io.BytesIO(), file, empty, pathlib.Path(os.devnull), "", b""):
+                for _ in range(2):
+                    self.assertRaisesRegex(autbis.TextFault, "bad header", minimise, system)
 
     def test_what_may_be_empty(self):
         empty = self.written("")
@@ -324,15 +372,36 @@ class Faults(unittest.TestCase):
         self.assert_fault("hide", str(MUTUAL), 1, "not a label", LATE, MUTUAL, hide=MUTUAL)
         self.assert_fault("second", str(hide), None, "bad header", LATE, hide, hide=hide)
 
+    @unittest.skipIf(sys.version_info < (3, 8), "typing has no Literal")
+    def test_the_relations(self):
+        self.assertEqual(typing.get_args(autbis.Relation), ("strong", "branching"))
+
     def test_an_unknown_relation(self):
         self.assertRaisesRegex(autbis.UsageFault, "^autbis: unknown relation: weak$", minimise, LATE, "weak")
 
     def test_a_file_that_is_not_there(self):
-        self.assertRaisesRegex(autbis.DeviceFault, "^autbis: no-such.aut: cannot open$", minimise, pathlib.Path("no-such.aut"))
+        none = pathlib.Path("no-such.aut")
+        for fault in (autbis.MissingFile, autbis.DeviceFault, FileNotFoundError):
+            for call in (minimise, functools.partial(equivalent, LATE), lambda none: minimise(LATE, hide=none)):
+                with self.assertRaisesRegex(fault, "^autbis: no-such.aut: cannot open$") as caught:
+                    call(none)
+                missing = caught.exception
+                self.assertEqual((missing.status, missing.errno, missing.filename), (5, errno.ENOENT, "no-such.aut"))
+
+    def test_a_file_that_cannot_be_opened(self):
+        for name in (str(MUTUAL / "a.aut"), "a" * 300, str(TOP)):
+            with self.assertRaises(autbis.DeviceFault) as caught:
+                minimise(pathlib.Path(name))
+            self.assertEqual(str(caught.exception), f"autbis: {name}: cannot open")
+            self.assertNotIsInstance(caught.exception, autbis.MissingFile)
+            self.assertIsInstance(caught.exception.__context__, OSError)
 
     def test_no_program(self):
         said = "the program is not installed, or not on PATH: 'no-such-autbis'"
-        self.assertRaisesRegex(FileNotFoundError, said, minimise, LATE, program="no-such-autbis")
+        with self.assertRaisesRegex(FileNotFoundError, said) as caught:
+            minimise(LATE, program="no-such-autbis")
+        self.assertEqual(caught.exception.filename, "no-such-autbis")
+        self.assertNotIsInstance(caught.exception, autbis.Fault)
 
 
 class OtherPrograms(InFolder):
@@ -367,6 +436,38 @@ class OtherPrograms(InFolder):
         self.assertTrue(equivalent(LATE, LATE, timeout=60))
 
 
+class Ends(InFolder):
+    """A process that waits for the program gets a signal, and neither the program nor a file is left."""
+
+    def assert_leaves_nothing(self, number, call):
+        pipe, left = self.new(), self.new()
+        os.mkfifo(pipe)
+        left.mkdir()
+        # It sleeps first: a process that is ended right after it started the program may leave it running.
+        fake = self.written(f"#!/bin/sh\nexec 3>'{pipe}'\nsleep 1\necho begun >&3\nexec sleep 60\n")
+        fake.chmod(stat.S_IRWXU)
+        script = f"import autbis, concurrent.futures, io, sys\n{call}"
+        found = {**os.environ, "PYTHONPATH": FOUND, "TMPDIR": str(left)}
+        with subprocess.Popen([sys.executable, "-c", script, str(fake)], env=found) as process:
+            with open(pipe, encoding="ascii") as said:
+                self.assertEqual(said.readline(), "begun\n")
+                now = time.monotonic()
+                process.send_signal(number)
+                # The other end is open as long as the program runs.
+                self.assertEqual(said.read(), "")
+        self.assertEqual(process.returncode, -number)
+        self.assertLess(time.monotonic() - now, 30)
+        self.assertEqual(list(left.iterdir()), [])
+
+    def test_a_signal(self):
+        for number in (signal.SIGTERM, signal.SIGHUP, signal.SIGKILL):
+            self.assert_leaves_nothing(number, "autbis.minimise('des (0, 0, 1)', hide=['a'], program=sys.argv[1])")
+
+    def test_a_signal_while_a_thread_waits(self):
+        call = "autbis.equivalent, io.StringIO('des (0, 0, 1)'), b'x', program=sys.argv[1]"
+        self.assert_leaves_nothing(signal.SIGTERM, f"concurrent.futures.ThreadPoolExecutor().submit({call}).result()")
+
+
 class Copies(unittest.TestCase):
     """Each exception can be pickled and copied."""
 
@@ -377,6 +478,7 @@ class Copies(unittest.TestCase):
         autbis.UsageFault(3, "autbis: unknown relation: weak"),
         autbis.OutOfMemory(4, "autbis: out of memory"),
         autbis.DeviceFault(5, "autbis: read or write failed"),
+        autbis.MissingFile(5, "autbis: a.aut: cannot open", "a.aut"),
         autbis.TimedOut(-9, "autbis: no answer in 1 seconds"),
     )
 
@@ -391,6 +493,8 @@ class Copies(unittest.TestCase):
             for other in (*pickled, copy.copy(fault), copy.deepcopy(fault)):
                 self.assertIs(type(other), type(fault))
                 self.assertEqual((str(other), vars(other)), (str(fault), vars(fault)))
+                for field in ("errno", "filename"):
+                    self.assertEqual(getattr(other, field, None), getattr(fault, field, None))
 
     def test_a_fault_in_another_process(self):
         with ProcessPoolExecutor(1) as pool:
@@ -398,7 +502,7 @@ class Copies(unittest.TestCase):
                 pool.submit(minimise, "des (0, 1, 2)\n(0, a, 2)\n").result()
             fault = caught.exception
             self.assertEqual((fault.name, fault.line, fault.fault), ("text", 2, "target out of range"))
-            with self.assertRaises(autbis.DeviceFault):
+            with self.assertRaises(autbis.MissingFile):
                 pool.submit(minimise, pathlib.Path("no-such.aut")).result()
 
 

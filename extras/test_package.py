@@ -28,6 +28,12 @@ autbis.minimise(io.BytesIO(), hide=io.StringIO())
 autbis.minimise("", hide="tau")  # type: ignore[arg-type]
 autbis.minimise("", hide=b"tau")  # type: ignore[arg-type]
 autbis.minimise(["tau"])  # type: ignore[arg-type]
+autbis.minimise("", hide=None)  # type: ignore[arg-type]
+autbis.minimise("", "weak")  # type: ignore[arg-type]
+autbis.minimise_with_counts("", relation="weak")  # type: ignore[arg-type]
+autbis.equivalent("", "", relation="weak")  # type: ignore[arg-type]
+relation: autbis.Relation = "branching"
+autbis.minimise("", relation)
 text_again, counts = autbis.minimise_with_counts(b"des (0, 0, 1)", hide=(label for label in "ab"))
 rounds: int = counts.rounds
 try:
@@ -36,6 +42,21 @@ except autbis.TextFault as fault:
     name: Optional[str] = fault.name
     line: Optional[int] = fault.line
     what: str = fault.fault
+try:
+    autbis.minimise(pathlib.Path("none.aut"))
+except FileNotFoundError as missing:
+    which: str = missing.filename
+"""
+FAILING = """import pathlib
+import autbis
+def test_a_fault():
+    assert autbis.minimise("x", program=PROGRAM)
+def test_a_missing_file():
+    assert autbis.minimise(pathlib.Path("none.aut"), program=PROGRAM)
+def test_a_line():
+    assert autbis.equivalent("x", "x", hide=['"tau"'], program=PROGRAM)
+def test_a_folder():
+    assert autbis.minimise_with_counts(pathlib.Path("/"), program=PROGRAM)
 """
 
 
@@ -60,6 +81,17 @@ class Package(InFolder):
         answer = self.run_in_folder(sys.executable, "-c", shown, PATH=str(self.folder), PYTHONPATH="fresh")
         self.assertEqual(answer.stdout, "des (0, 1, 2)\n(0, coin, 1)\n")
 
+    @unittest.skipUnless(importlib.util.find_spec("pip"), "there is no pip to install with")
+    def test_pip_installs_the_module_where_it_lies(self):
+        shutil.copytree(HERE, self.folder / "extras")
+        pip = ("-m", "pip", "--disable-pip-version-check", "install", "--no-index", "--target", "fresh", "-e")
+        installed = self.run_in_folder(sys.executable, *pip, "./extras")
+        self.assertEqual(installed.returncode, 0, installed.stdout)
+        module = self.folder / "extras" / "autbis" / "__init__.py"
+        module.write_text(module.read_text(encoding="utf-8") + "changed = 3\n", encoding="utf-8")
+        shown = "import site; site.addsitedir('fresh'); import autbis; print(autbis.changed)"
+        self.assertEqual(self.run_in_folder(sys.executable, "-c", shown, PYTHONPATH="").stdout, "3\n")
+
     def test_two_wheels_have_the_same_bytes(self):
         shutil.copytree(HERE, self.folder / "extras")
         wheels = []
@@ -78,6 +110,17 @@ class Package(InFolder):
         words = ("-m", "mypy", "--strict", "--cache-dir", self.folder / "cache", "use.py", HERE / "autbis")
         checked = self.run_in_folder(sys.executable, *words, MYPYPATH=str(HERE))
         self.assertEqual(checked.returncode, 0, checked.stdout)
+
+    @unittest.skipUnless(importlib.util.find_spec("pytest"), "there is no pytest that shows a failure")
+    def test_pytest_shows_the_line_of_the_caller(self):
+        failing = FAILING.replace("PROGRAM", repr(shutil.which(PROGRAM)))
+        (self.folder / "test_failing.py").write_text(failing, encoding="ascii")
+        words = ("-m", "pytest", "-p", "no:cacheprovider", "test_failing.py")
+        shown = self.run_in_folder(sys.executable, *words, PYTHONPATH=str(HERE)).stdout
+        self.assertIn("4 failed", shown)
+        for line in failing.splitlines():
+            self.assertIn(f"\n>       {line.strip()}\n" if "assert" in line else "", shown)
+        self.assertNotIn("__init__.py", shown)
 
 
 if __name__ == "__main__":

@@ -1,4 +1,4 @@
-"""Builds the module `autbis` for `pip install ./extras`, by the hooks that pyproject.toml promises. Nothing is fetched for it."""
+"""Builds the module `autbis` for `pip install ./extras`, by the hooks that pyproject.toml promises. Nothing is fetched."""
 
 import base64
 import hashlib
@@ -26,7 +26,15 @@ Tag: py3-none-any
 
 def build_wheel(wheel_directory, config_settings=None, metadata_directory=None):
     """Writes the wheel into the directory, and returns its name. The same sources give the same bytes."""
-    contents = {name: (HERE / name).read_bytes() for name in FILES}
+    return _write({name: (HERE / name).read_bytes() for name in FILES}, wheel_directory)
+
+
+def build_editable(wheel_directory, config_settings=None, metadata_directory=None):
+    """As `build_wheel`, but the wheel names the folder in which the module lies, for `pip install -e`."""
+    return _write({"autbis.pth": f"{HERE}\n".encode("utf-8")}, wheel_directory)
+
+
+def _write(contents, wheel_directory):
     contents[f"{NAME}.dist-info/METADATA"] = METADATA.encode("ascii")
     contents[f"{NAME}.dist-info/WHEEL"] = WHEEL.encode("ascii")
     record = f"{NAME}.dist-info/RECORD"
