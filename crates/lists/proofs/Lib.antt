@@ -6,7 +6,6 @@ pub mod Cuts
 pub mod Places
 pub mod Spans
 pub mod Keys
-pub mod Inserting
 pub mod Storing
 pub mod Tags
 pub mod Hashing

@@ -1,7 +1,6 @@
 pub mod Lists
 pub mod Marks
 pub mod Cuts
-pub mod Inserting
 pub mod Hashes
 pub mod Nodes
 pub mod Hashed

@@ -14,7 +14,7 @@
 //!   hashed       how it is found, by its tag
 //! nodes          how each base is kept: whole, or by its halves
 //! cut, hashes                  where a list is cut; hashes of pairs and of lists
-//! ordered, inserted, marked    pairs in order, by insertion if they are few, and by marks if they are many
+//! ordered, marked              pairs in order, by marks if they are many
 //! ```
 //!
 //! A base is cut at the number between its first and its last pair that the highest power of two divides, if a pair is
@@ -25,7 +25,6 @@ mod cut;
 mod distinct;
 mod hashed;
 mod hashes;
-mod inserted;
 mod joined;
 mod kept;
 mod known;
