@@ -71,11 +71,16 @@ pub fn run_cmp<M: Meter, R1: Source, R2: Source, W: Sink>(
     requires fresh { IsFresh (M.counted m.old) }
 
     // What a verdict means, and which error comes when.
-    ensures outcome { let asked : Request = record { relation = rel; bounds = lim.now; hidden = h.now } in
+    ensures outcome { let asked : Request = record {
+      relation = rel;
+      bounds = lim.now;
+      hidden = h.now;
+    } in
         let one = used R1.rest R1.failures a.old a.new in
         let other = used R2.rest R2.failures b.old b.new in
         let sink = used W.written W.failures w.old w.new in
-        Takes one.before one.after (λ first. ComparesTo asked first (one, other) sink (M.counted m.new))
+        Takes one.before one.after
+        (λ first. ComparesTo asked first (one, other) sink (M.counted m.new))
         (λ first. CmpFails asked first (one, other) sink (M.counted m.new)) result }
 
     // What is left.
@@ -104,7 +109,8 @@ fn read_side<M: Meter, R: Source>(
     requires { R.failures r.old ≡ 0 }
     ensures outcome { Takes (R.rest r.old) (R.rest r.new)
         (λ given. ReadsTo lim.now h.now given (R.rest r.new) (R.failures r.new))
-        (λ given f. (f.side ≡ side) × Refuses lim.now given (R.rest r.new) (R.failures r.new) f.fault) result }
+        (λ given f. (f.side ≡ side)
+        × Refuses lim.now given (R.rest r.new) (R.failures r.new) f.fault) result }
 {
     match read_hiding(alloc, r, lim, h) {
         Ok(system) => Ok(system),
@@ -116,7 +122,8 @@ fn read_side<M: Meter, R: Source>(
 fn say<W: Sink>(same: bool, w: &mut W) -> Result<(), CmpFault>
     requires { W.failures w.old ≡ 0 }
     ensures ok { OnOk result (Appends (W.written w.old) (W.written w.new) (line_of same)) }
-    ensures err { OnErr result (AppendsBeginning (W.written w.old) (W.written w.new) (line_of same)) }
+    ensures err { OnErr result
+        (AppendsBeginning (W.written w.old) (W.written w.new) (line_of same)) }
     ensures fault { IfErr result (λ f. (f.side ≡ Run) × (f.fault ≡ Device)) }
     ensures failures { CountsFailure result (W.failures w.new) }
 {

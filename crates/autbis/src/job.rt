@@ -41,8 +41,10 @@ pub fn main_program<F: Opener, R: Source, W: Sink, E: Write>(
     requires files { F.failures files.old ≡ 0 }
     requires input { R.failures input.old ≡ 0 }
     requires output { W.failures output.old ≡ 0 }
-    ensures answer { AnswersWords words (files_used F.holds F.opened F.failures F.lost files.old files.new)
-        (used R.rest R.failures input.old input.new) (used W.written W.failures output.old output.new) result }
+    ensures answer { AnswersWords words
+        (files_used F.holds F.opened F.failures F.lost files.old files.new)
+        (used R.rest R.failures input.old input.new)
+        (used W.written W.failures output.old output.new) result }
     ensures closed { F.unclosed files.new ≤ F.unclosed files.old }
 {
     let job = match asked(alloc, words) {

@@ -37,7 +37,8 @@ pub trait Opener {
         ensures bytes { IfSome (holds self.old name.now) (λ text.
             IfOk result (λ file. Self.File.rest file ≡ Some text)) }
         ensures opened { Opens (opened self.old) (opened self.new) (name.now ∷ []) }
-        ensures failures { MatchResult result (λ _. failures self.new ≡ failures self.old) (λ _. failures self.new ≡ 1) }
+        ensures failures { MatchResult result (λ _. failures self.new ≡ failures self.old)
+            (λ _. failures self.new ≡ 1) }
         ensures unclosed { MatchResult result (λ _. unclosed self.new ≤ unclosed self.old + 1)
             (λ _. unclosed self.new ≤ unclosed self.old) }
         ensures others { (lost self.new ≡ lost self.old) × (holds self.new ≡ holds self.old) };
@@ -47,7 +48,8 @@ pub trait Opener {
         ensures sound { Self.File.failures file ≡ 0 → lost self.new ≡ lost self.old }
         ensures lost { Self.File.failures file ≡ 1 → lost self.new ≡ 1 }
         ensures unclosed { unclosed self.new ≡ unclosed self.old - 1 }
-        ensures others { (opened self.new ≡ opened self.old) × (failures self.new ≡ failures self.old)
+        ensures others { (opened self.new ≡ opened self.old)
+            × (failures self.new ≡ failures self.old)
             × (holds self.new ≡ holds self.old) };
 }
 

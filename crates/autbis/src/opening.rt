@@ -34,9 +34,11 @@ pub fn open_job<F: Opener, E: Write>(
     requires sound { F.failures files.old ≡ 0 }
     ensures opened { IfOk result (IsOpened F.File.rest F.File.failures
         (files_used F.holds F.opened F.failures F.lost files.old files.new) job.now) }
-    ensures given_up { IfErr result (IsGivenUp (files_used F.holds F.opened F.failures F.lost files.old files.new)
+    ensures given_up { IfErr result
+        (IsGivenUp (files_used F.holds F.opened F.failures F.lost files.old files.new)
         (files_of job.now) (hide_of job.now)) }
-    ensures unclosed { MatchResult result (λ opened. F.unclosed files.new ≤ F.unclosed files.old + count_of opened.0)
+    ensures unclosed { MatchResult result
+        (λ opened. F.unclosed files.new ≤ F.unclosed files.old + count_of opened.0)
         (λ _. F.unclosed files.new ≤ F.unclosed files.old) }
 {
     let texts = open_texts(job, files, e)?;
@@ -57,11 +59,14 @@ fn open_texts<F: Opener, E: Write>(
     e: &mut E,
 ) -> Result<Texts<F::File>, u8>
     requires sound { F.failures files.old ≡ 0 }
-    ensures texts { IfOk result (AreOpened F.File.rest F.File.failures (F.holds files.old) job.now) }
+    ensures texts { IfOk result
+        (AreOpened F.File.rest F.File.failures (F.holds files.old) job.now) }
     ensures order { let used = files_used F.holds F.opened F.failures F.lost files.old files.new in
-        MatchResult result (λ _. HasAll used (texts_of job.now)) (IsRefused used (texts_of job.now)) }
+        MatchResult result (λ _. HasAll used (texts_of job.now))
+        (IsRefused used (texts_of job.now)) }
     ensures none_lost { F.lost files.new ≡ F.lost files.old }
-    ensures unclosed { MatchResult result (λ texts. F.unclosed files.new ≤ F.unclosed files.old + count_of texts)
+    ensures unclosed { MatchResult result
+        (λ texts. F.unclosed files.new ≤ F.unclosed files.old + count_of texts)
         (λ _. F.unclosed files.new ≤ F.unclosed files.old) }
 {
     match job {
@@ -110,11 +115,14 @@ fn hidden_of<F: Opener, E: Write>(
     e: &mut E,
 ) -> Result<Hidden, u8>
     requires sound { F.failures files.old ≡ 0 }
-    ensures labels { IfOk result (HidesNamed (F.holds files.old) (option_map string_bytes hide.now)) }
-    ensures all { OnOk result (HasAll (files_used F.holds F.opened F.failures F.lost files.old files.new)
+    ensures labels { IfOk result
+        (HidesNamed (F.holds files.old) (option_map string_bytes hide.now)) }
+    ensures all { OnOk result (HasAll
+        (files_used F.holds F.opened F.failures F.lost files.old files.new)
         (option_to_list (option_map string_bytes hide.now))) }
     ensures none_lost { OnOk result (F.lost files.new ≡ F.lost files.old) }
-    ensures given_up { IfErr result (IsGivenUp (files_used F.holds F.opened F.failures F.lost files.old files.new)
+    ensures given_up { IfErr result
+        (IsGivenUp (files_used F.holds F.opened F.failures F.lost files.old files.new)
         (option_to_list (option_map string_bytes hide.now)) (option_map string_bytes hide.now)) }
     ensures unclosed { F.unclosed files.new ≤ F.unclosed files.old }
 {
@@ -136,7 +144,8 @@ pub fn close_texts<F: Opener>(files: &mut F, texts: Texts<F::File>)
     ensures sound { HaveNotFailed F.File.failures texts → F.lost files.new ≡ F.lost files.old }
     ensures lost { HasOneFailed F.File.failures texts → F.lost files.new ≡ 1 }
     ensures unclosed { F.unclosed files.new ≡ F.unclosed files.old - count_of texts }
-    ensures others { OnlyCloses (files_used F.holds F.opened F.failures F.lost files.old files.new) }
+    ensures others { OnlyCloses
+        (files_used F.holds F.opened F.failures F.lost files.old files.new) }
 {
     match texts {
         Texts::Input => {}

@@ -33,7 +33,8 @@ pub fn min_program<R: Source, W: Sink, E: Write>(
 ) -> u8
     requires source { R.failures r.old ≡ 0 }
     requires sink { W.failures w.old ≡ 0 }
-    ensures ends { EndsRun (asks rel lim.now h.now) (one (R.rest r.old)) (R.failures r.new ≡ 0) (R.failures r.new ≡ 1)
+    ensures ends { EndsRun (asks rel lim.now h.now) (one (R.rest r.old)) (R.failures r.new ≡ 0)
+        (R.failures r.new ≡ 1)
         (used W.written W.failures w.old w.new) result }
     ensures shown { result ≡ 0 → IsTrue stats → ShowsCounts (asks rel lim.now h.now) (R.rest r.old)
         (E.contents e.old) (E.contents e.new) }
@@ -73,7 +74,8 @@ pub fn cmp_program<R1: Source, R2: Source, W: Sink, E: Write>(
     requires sink { W.failures w.old ≡ 0 }
     ensures ends { EndsRun (asks rel lim.now h.now) (two (R1.rest a.old) (R2.rest b.old))
         ((R1.failures a.new ≡ 0) × (R2.failures b.new ≡ 0))
-        (((R1.failures a.new ≡ 1) × (b.new ≡ b.old)) ⊎ ((R1.failures a.new ≡ 0) × (R2.failures b.new ≡ 1)))
+        (((R1.failures a.new ≡ 1) × (b.new ≡ b.old))
+        ⊎ ((R1.failures a.new ≡ 0) × (R2.failures b.new ≡ 1)))
         (used W.written W.failures w.old w.new) result }
     ensures unread { result ≡ 2 → (b.new ≡ b.old) ⊎ IfSome (R1.rest a.old) (IsReadable lim.now) }
 {

@@ -41,7 +41,11 @@ pub fn run_min<M: Meter, R: Source, W: Sink>(
     requires fresh { IsFresh (M.counted m.old) }
 
     // What a success means, and which error comes when.
-    ensures outcome { let asked : Request = record { relation = rel; bounds = lim.now; hidden = h.now } in
+    ensures outcome { let asked : Request = record {
+      relation = rel;
+      bounds = lim.now;
+      hidden = h.now;
+    } in
         let source = used R.rest R.failures r.old r.new in
         let sink = used W.written W.failures w.old w.new in
         Takes source.before source.after (λ text. RunsTo asked text source sink (M.counted m.new))

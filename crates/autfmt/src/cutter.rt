@@ -99,7 +99,8 @@ impl Cutter {
     #[inline(always)]
     pub(crate) fn pass(&mut self, left: usize)
         requires { left < length self.old.ahead }
-        ensures passed { (line rest : List ℕ) → self.old.ahead ≡ line ++ 10 ∷ rest → left ≡ length rest
+        ensures passed { (line rest : List ℕ) → self.old.ahead ≡ line ++ 10 ∷ rest →
+            left ≡ length rest
             → self.new ≡ record { line = self.old.line; ahead = rest; over = false } }
         ensures open { self.old.over ≡ false }
     {

@@ -62,7 +62,8 @@ fn keep_first(word: u64, count: u32) -> u64
 /// The number that eight digits write, the first of them in the lowest byte.
 #[inline(always)]
 fn value_of_eight(word: u64) -> u64
-    ensures { (ds : List ℕ) → IsEightDigits ds → word ≡ number_l 256 ds → result ≡ number_from_digits 10 ds }
+    ensures { (ds : List ℕ) → IsEightDigits ds → word ≡ number_l 256 ds →
+        result ≡ number_from_digits 10 ds }
 {
     let pairs = word.wrapping_mul(10).wrapping_add(word >> 8);
     let first = (pairs & 0x0000_00ff_0000_00ff).wrapping_mul(100 + (1_000_000 << 32));

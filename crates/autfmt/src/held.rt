@@ -79,10 +79,14 @@ impl Held {
         requires few { length self.old.labels ≤ length self.old.transitions }
         requires promised { length self.old.transitions < promised }
         requires file { promised ≤ FILE_TRANSITIONS }
-        ensures label { MatchResult result (λ added. IsTrue added ↔ IsLabel label.now) (λ _. IsLabel label.now) }
-        ensures added { IfOk result (λ added. IsTrue added → AddsTriple self.old self.new source label.now target) }
+        ensures label { MatchResult result (λ added. IsTrue added ↔ IsLabel label.now)
+            (λ _. IsLabel label.now) }
+        ensures added { IfOk result
+            (λ added. IsTrue added → AddsTriple self.old self.new source label.now target) }
         ensures none { IfOk result (λ added. ¬ IsTrue added → self.new ≡ self.old) }
-        ensures len { IfOk result (λ added. IsTrue added → length self.new.transitions ≡ length self.old.transitions + 1) }
+        ensures len { IfOk result
+            (λ added. IsTrue added →
+            length self.new.transitions ≡ length self.old.transitions + 1) }
         ensures few { OnOk result (length self.new.labels ≤ length self.new.transitions) }
     {
         let Some(number) = number_of(&mut self.labels, &mut self.guesses, label)? else {
@@ -105,10 +109,12 @@ fn number_of(
     label: &[u8],
 ) -> Result<Option<u32>, Memory>
     requires room { length labels.old < MOST_LABELS }
-    ensures label { MatchResult result (λ k. IsSome k ↔ IsLabel label.now) (λ _. IsLabel label.now) }
+    ensures label { MatchResult result (λ k. IsSome k ↔ IsLabel label.now)
+        (λ _. IsLabel label.now) }
     ensures number { IfOk result (λ n. IfSome n (λ k. IsNumber labels.new k label.now)) }
     ensures table { IfOk result (λ n. IfSome n (λ _. Interns labels.old label.now labels.new)) }
-    ensures none { IfOk result (λ n. IfNone n ((labels.new ≡ labels.old) × (guesses.new ≡ guesses.old))) }
+    ensures none { IfOk result
+        (λ n. IfNone n ((labels.new ≡ labels.old) × (guesses.new ≡ guesses.old))) }
     ensures keeps { Keeps labels.old labels.new }
 {
     let slot = guess_slot(label);

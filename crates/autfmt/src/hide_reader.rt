@@ -30,7 +30,8 @@ pub fn read_hidden<R: Source>(alloc: Global, r: &mut R) -> Result<Hidden, Fault>
 
     // The same for the whole list, if the source tells it.
     ensures labels { IfSome (R.rest r.old) (λ text. IfOk result (HidesAs text)) }
-    ensures fault { IfSome (R.rest r.old) (λ text. IfErr result (λ f. IsHideFault f → FirstHideFault text f)) }
+    ensures fault { IfSome (R.rest r.old)
+        (λ text. IfErr result (λ f. IsHideFault f → FirstHideFault text f)) }
 
     // What is left: a source that has failed exactly if the error is `Device`.
     ensures device { (result ≡ Err Fault.Device) ↔ (R.failures r.new ≡ 1) }

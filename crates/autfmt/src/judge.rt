@@ -25,7 +25,8 @@ pub(crate) struct Promise {
 pub(crate) fn judge_header(line: &[u8], lim: &Limits) -> Result<Promise, Fault>
     requires { IsShort line.now }
     ensures good { IfOk result (λ p. GoodHeader lim.now line.now p.first p.transitions p.states) }
-    ensures file { IfOk result (λ p. (p.states ≤ FILE_STATES) × (p.transitions ≤ FILE_TRANSITIONS)) }
+    ensures file { IfOk result
+        (λ p. (p.states ≤ FILE_STATES) × (p.transitions ≤ FILE_TRANSITIONS)) }
     ensures fault { IfErr result (λ f. HeaderFault lim.now line.now f) }
     ensures kind { IfErr result IsTextFault }
 {

@@ -35,11 +35,13 @@ pub fn read<M: Meter, R: Source>(alloc: Global, r: &mut R, lim: &Limits) -> Resu
     requires { R.failures r.old ≡ 0 }
 
     // What Ok means, and when each error comes, over the bytes that were taken.
-    ensures outcome { AnswersRead lim.now [] (R.rest r.old) (R.rest r.new) (R.failures r.new) result }
+    ensures outcome { AnswersRead lim.now [] (R.rest r.old) (R.rest r.new)
+        (R.failures r.new) result }
 
     // The same for the whole text, if the source tells it.
     ensures system { IfSome (R.rest r.old) (λ text. IfOk result (ReadsAs lim.now text [])) }
-    ensures fault { IfSome (R.rest r.old) (λ text. IfErr result (λ f. IsTextFault f → FirstFault lim.now text f)) }
+    ensures fault { IfSome (R.rest r.old)
+        (λ text. IfErr result (λ f. IsTextFault f → FirstFault lim.now text f)) }
 
     // What is left: a source that has failed exactly if the error is `Device`.
     ensures device { (result ≡ Err Fault.Device) ↔ (R.failures r.new ≡ 1) }
@@ -61,11 +63,13 @@ pub fn read_hiding<M: Meter, R: Source>(
     requires { R.failures r.old ≡ 0 }
 
     // What Ok means, and when each error comes, over the bytes that were taken.
-    ensures outcome { AnswersRead lim.now h.now (R.rest r.old) (R.rest r.new) (R.failures r.new) result }
+    ensures outcome { AnswersRead lim.now h.now (R.rest r.old) (R.rest r.new)
+        (R.failures r.new) result }
 
     // The same for the whole text, if the source tells it.
     ensures system { IfSome (R.rest r.old) (λ text. IfOk result (ReadsAs lim.now text h.now)) }
-    ensures fault { IfSome (R.rest r.old) (λ text. IfErr result (λ f. IsTextFault f → FirstFault lim.now text f)) }
+    ensures fault { IfSome (R.rest r.old)
+        (λ text. IfErr result (λ f. IsTextFault f → FirstFault lim.now text f)) }
 
     // What is left: a source that has failed exactly if the error is `Device`.
     ensures device { (result ≡ Err Fault.Device) ↔ (R.failures r.new ≡ 1) }
@@ -105,7 +109,8 @@ fn read_text<R: Source>(
     ensures whole { Takes (R.rest r.old) (R.rest r.new)
         (λ given x. HoldsText lim.now h.now given x.0 x.1)
         (λ given. Refuses lim.now given (R.rest r.new) (R.failures r.new)) result }
-    ensures range { IfOk result (λ x. InRange (length x.1.labels) x.0.first x.0.states x.1.transitions) }
+    ensures range { IfOk result
+        (λ x. InRange (length x.1.labels) x.0.first x.0.states x.1.transitions) }
     ensures end { OnOk result (IsAtEnd (R.rest r.new)) }
     ensures sound { OnOk result (R.failures r.new ≡ 0) }
 {
@@ -126,7 +131,8 @@ fn read_header<R: Source>(cutter: &mut Cutter, r: &mut R, lim: &Limits) -> Resul
     ensures header { Takes (R.rest r.old) (R.rest r.new)
         (λ given p. ReadSoFar lim.now given cutter.new p [])
         (λ given. Refuses lim.now given (R.rest r.new) (R.failures r.new)) result }
-    ensures file { IfOk result (λ p. (p.states ≤ FILE_STATES) × (p.transitions ≤ FILE_TRANSITIONS)) }
+    ensures file { IfOk result
+        (λ p. (p.states ≤ FILE_STATES) × (p.transitions ≤ FILE_TRANSITIONS)) }
     ensures source { OnOk result (Feeds (R.rest r.new) (R.failures r.new) cutter.new) }
 {
     match cutter.advance(r)? {
@@ -150,7 +156,8 @@ fn read_transitions<R: Source>(
     ensures transitions { (got : List ℕ) × Consumes (R.rest r.old) (R.rest r.new) got ×
         ((bounds : Bounds) (given : List ℕ) → ReadSoFar bounds given cutter.old promise [] →
         MatchResult result
-        (λ held. (es : List Transition) × HeldSoFar bounds h.now (given ++ got) promise (cutter.new, held) es)
+        (λ held. (es : List Transition)
+        × HeldSoFar bounds h.now (given ++ got) promise (cutter.new, held) es)
         (Refuses bounds (given ++ got) (R.rest r.new) (R.failures r.new))) }
     ensures source { OnOk result (Feeds (R.rest r.new) (R.failures r.new) cutter.new) }
     ensures len { IfOk result (λ held. length held.transitions ≡ promise.transitions) }
@@ -182,9 +189,11 @@ fn take_usual(
     requires few { length held.old.labels ≤ length held.old.transitions }
     ensures taken { IfOk result (λ taken. IsTrue taken →
         ReadsOneMore h.now promise [] (cutter.old, held.old) (cutter.new, held.new)) }
-    ensures none { IfOk result (λ taken. ¬ IsTrue taken → (cutter.new ≡ cutter.old) × (held.new ≡ held.old)) }
+    ensures none { IfOk result
+        (λ taken. ¬ IsTrue taken → (cutter.new ≡ cutter.old) × (held.new ≡ held.old)) }
     ensures open { IfOk result (λ taken. IsTrue taken → cutter.new.over ≡ false) }
-    ensures len { IfOk result (λ taken. IsTrue taken → length held.new.transitions ≡ length held.old.transitions + 1) }
+    ensures len { IfOk result (λ taken. IsTrue taken →
+        length held.new.transitions ≡ length held.old.transitions + 1) }
     ensures few { OnOk result (length held.new.labels ≤ length held.new.transitions) }
 {
     let Some((source, label, target, rest)) = transition_in_front(cutter.ahead()) else {
@@ -224,7 +233,8 @@ fn read_transition<R: Source>(
         ((bounds : Bounds) (given : List ℕ) (es : List Transition) →
         HeldSoFar bounds h.now given promise (cutter.old, held.old) es →
         MatchResult result
-        (λ _. (e : Transition) × HeldSoFar bounds h.now (given ++ got) promise (cutter.new, held.new) (es ++ e ∷ []))
+        (λ _. (e : Transition)
+        × HeldSoFar bounds h.now (given ++ got) promise (cutter.new, held.new) (es ++ e ∷ []))
         (Refuses bounds (given ++ got) (R.rest r.new) (R.failures r.new))) }
     ensures source { OnOk result (Feeds (R.rest r.new) (R.failures r.new) cutter.new) }
     ensures len { OnOk result (length held.new.transitions ≡ length held.old.transitions + 1) }

@@ -138,7 +138,11 @@ pub(crate) fn append_transition(
     requires plain { word.plain ≡ is_plain word.label.now }
     requires spelled { IfSome word.spelled (λ s. IsSpelled word.label.now s.now) }
     ensures text { take result buffer.new ≡ take end buffer.old
-        ++ written_transition (record { source = front.now; label = word.entry.label.now; target = target }) }
+        ++ written_transition (record {
+          source = front.now;
+          label = word.entry.label.now;
+          target = target;
+        }) }
     ensures end { result ≤ end + LONGEST }
 {
     let end = front.put(buffer, end);
@@ -149,10 +153,12 @@ pub(crate) fn append_transition(
 /// Puts a label and the comma and the space after it at `end`, and returns where they end. If it is known how lines have
 /// it, all the room for that is copied, which takes no call.
 fn append_word(buffer: &mut [u8], end: usize, word: Word<'_>) -> usize
-    requires room { (end + SHORT ≤ length buffer.old) × (end + 4 + length word.label.now ≤ length buffer.old) }
+    requires room { (end + SHORT ≤ length buffer.old)
+        × (end + 4 + length word.label.now ≤ length buffer.old) }
     requires plain { word.plain ≡ is_plain word.label.now }
     requires spelled { IfSome word.spelled (λ s. IsSpelled word.label.now s.now) }
-    ensures text { take result buffer.new ≡ take end buffer.old ++ written_word word.entry.label.now }
+    ensures text { take result buffer.new
+        ≡ take end buffer.old ++ written_word word.entry.label.now }
     ensures end { (result ≤ end + SHORT) ⊎ (result ≤ end + 4 + length word.entry.label.now) }
 {
     if let Some(spelled) = word.spelled {

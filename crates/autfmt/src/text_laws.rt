@@ -12,7 +12,8 @@ ghost use Rattle.autfmt.specs.Readers.{HasGoodHeader};
 
 /// A text has exactly one cut at its line feeds.
 pub fn a_text_has_one_cut()
-    ensures some { (text : List ℕ) → (ended : List (List ℕ)) × (rest : List ℕ) × Cuts text ended rest }
+    ensures some { (text : List ℕ) → (ended : List (List ℕ)) × (rest : List ℕ)
+        × Cuts text ended rest }
     ensures one { (text : List ℕ) (e e' : List (List ℕ)) (r r' : List ℕ) →
         Cuts text e r → Cuts text e' r' → (e ≡ e') × (r ≡ r') }
 {}
@@ -39,7 +40,8 @@ pub fn a_text_reads_or_has_a_fault()
         Reads bounds text A → ¬ FirstFault bounds text f }
     ensures none { (bounds : Bounds) (text : List ℕ) →
         ((f : Fault) → ¬ FirstFault bounds text f) ↔ ((A : System) × Reads bounds text A) }
-    ensures header { (bounds : Bounds) (text : List ℕ) (A : System) → Reads bounds text A → HasGoodHeader bounds text }
+    ensures header { (bounds : Bounds) (text : List ℕ) (A : System) → Reads bounds text A →
+        HasGoodHeader bounds text }
 {}
 
 /// The fault that is known from the first bytes of a text is its first fault, whatever follows them. That of a line that
@@ -48,7 +50,8 @@ pub fn a_judged_fault_is_the_first()
     ensures first { (bounds : Bounds) (given more : List ℕ) (f : Fault) →
         JudgedFault bounds given f → FirstFault bounds (given ++ more) f }
     ensures ended { (bounds : Bounds) (given : List ℕ) (ended : List (List ℕ)) (f : Fault) →
-        Cuts given ended [] → FirstFault bounds given f → ended ≢ [] → ((found : ℕ) → f ≢ MissingEdges found) →
+        Cuts given ended [] → FirstFault bounds given f → ended ≢ [] →
+        ((found : ℕ) → f ≢ MissingEdges found) →
         JudgedFault bounds given f }
     ensures long { (bounds : Bounds) (given : List ℕ) (k : ℕ) →
         FirstFault bounds given (LineTooLong k) → JudgedFault bounds given (LineTooLong k) }
@@ -58,8 +61,10 @@ pub fn a_judged_fault_is_the_first()
 
 /// A hide list has one list of labels at most, and one first fault at most.
 pub fn a_hide_list_has_one_reading()
-    ensures labels { (text : List ℕ) (H K : List (List ℕ)) → HideReads text H → HideReads text K → H ≡ K }
-    ensures fault { (text : List ℕ) (f g : Fault) → FirstHideFault text f → FirstHideFault text g → f ≡ g }
+    ensures labels { (text : List ℕ) (H K : List (List ℕ)) → HideReads text H →
+        HideReads text K → H ≡ K }
+    ensures fault { (text : List ℕ) (f g : Fault) → FirstHideFault text f →
+        FirstHideFault text g → f ≡ g }
 {}
 
 /// A hide list has no first fault exactly if it has some list of labels.
@@ -75,12 +80,14 @@ pub fn a_hide_list_reads_or_has_a_fault()
 /// The fault that is known from the first bytes of a hide list is its first fault, whatever follows them. As much is known
 /// as of a text.
 pub fn a_judged_hide_fault_is_the_first()
-    ensures first { (given more : List ℕ) (f : Fault) → JudgedHideFault given f → FirstHideFault (given ++ more) f }
+    ensures first { (given more : List ℕ) (f : Fault) → JudgedHideFault given f →
+        FirstHideFault (given ++ more) f }
     ensures ended { (given : List ℕ) (ended : List (List ℕ)) (f : Fault) →
         Cuts given ended [] → FirstHideFault given f → JudgedHideFault given f }
     ensures long { (given : List ℕ) (k : ℕ) →
         FirstHideFault given (LineTooLong k) → JudgedHideFault given (LineTooLong k) }
-    ensures extra { (given : List ℕ) → FirstHideFault given TooManyHidden → JudgedHideFault given TooManyHidden }
+    ensures extra { (given : List ℕ) → FirstHideFault given TooManyHidden →
+        JudgedHideFault given TooManyHidden }
 {}
 
 /// Hiding depends on which labels are in the list alone, not on their order or their repeats; an empty list hides

@@ -13,7 +13,8 @@ use std::simd::prelude::*;
 /// of the label are one is still to be seen. It makes reading twice as fast.
 #[inline(always)]
 pub(crate) fn transition_in_front(bytes: &[u8]) -> Option<(u64, &[u8], u64, &[u8])>
-    ensures { IfSome result (λ x. IsLabel x.1.now → BeginsWithTransition bytes.now x.0 x.1.now x.2 x.3.now) }
+    ensures { IfSome result (λ x. IsLabel x.1.now →
+        BeginsWithTransition bytes.now x.0 x.1.now x.2 x.3.now) }
 {
     let (source, rest) = short_number(past(b'(', bytes)?)?;
     let (label, rest) = label_in_front(past_comma(rest)?)?;
@@ -76,7 +77,8 @@ fn past_comma(bytes: &[u8]) -> Option<&[u8]>
 /// are there. Whether bytes in quotation marks are a label is not looked at.
 #[inline(always)]
 fn label_in_front(bytes: &[u8]) -> Option<(&[u8], &[u8])>
-    ensures label { IfSome result (λ x. IsLabel x.0.now → BeginsWithLabel bytes.now x.0.now x.1.now) }
+    ensures label { IfSome result
+        (λ x. IsLabel x.0.now → BeginsWithLabel bytes.now x.0.now x.1.now) }
     ensures room { IfSome result (λ x. 2 ≤ length x.1.now) }
 {
     let (label, rest) = spelling_in_front(bytes)?;

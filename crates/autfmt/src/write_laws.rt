@@ -14,6 +14,7 @@ pub fn text_is_one()
 /// with its transitions in the order in which they are written.
 pub fn text_is_read_again()
     ensures { (bounds : Bounds) (A B : System) →
-        IsWithinFile bounds → IsSystem A → A.states ≤ bounds.states → length A.transitions ≤ bounds.transitions →
+        IsWithinFile bounds → IsSystem A → A.states ≤ bounds.states →
+        length A.transitions ≤ bounds.transitions →
         IsInWrittenOrder A B → Reads bounds (listed B) B }
 {}

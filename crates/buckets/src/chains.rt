@@ -78,7 +78,8 @@ pub(crate) fn take(heads: &mut [u32], entries: &mut Vec<Entry>)
     requires buckets { AreBuckets heads.old entries.old.items }
     requires more { 1 < length entries.old.items }
     ensures buckets { AreBuckets heads.new entries.new.items }
-    ensures taken { (tag : ℕ) × (tags_of entries.old.items ≡ tags_of entries.new.items ++ tag ∷ []) }
+    ensures taken { (tag : ℕ) × (tags_of entries.old.items
+        ≡ tags_of entries.new.items ++ tag ∷ []) }
 {
     let entry = entries[entries.len() - 1];
     heads[bucket(entry.tag, heads.len())] = entry.before;

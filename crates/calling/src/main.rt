@@ -46,9 +46,11 @@ fn size_of(system: &Lts<Counter>) -> Size
 fn examine(alloc: Global, given: &Lts<Counter>, wanted: &Lts<Counter>) -> Result<Findings, Memory>
     requires fit { FitTogether given.now wanted.now }
     ensures smallest { IfOk result (λ found. (B : System) →
-        IsSystem B → Equivalent Branching (system_of given.now) B → found.smallest.states ≤ B.states) }
+        IsSystem B → Equivalent Branching (system_of given.now) B →
+        found.smallest.states ≤ B.states) }
     ensures verdict { IfOk result (λ found.
-        IsTrue found.as_wanted ↔ Equivalent Branching (system_of given.now) (system_of wanted.now)) }
+        IsTrue found.as_wanted
+        ↔ Equivalent Branching (system_of given.now) (system_of wanted.now)) }
 {
     let smallest = minimise(alloc, given, Relation::Branching, &mut Counter::new())?;
     let as_wanted = equivalent(

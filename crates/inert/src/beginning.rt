@@ -33,7 +33,8 @@ impl Walk {
         ensures found { OnOk result (¬ (stage_at self.new.stages s ≡ Unseen)) }
         ensures visits { OnOk result ((M.counted m.new).visits + ahead lens.now.l self.new
             ≡ (M.counted m.old).visits + unread lens.now.l.places self.old.stages) }
-        ensures cost { Costs (M.counted m.old) (M.counted m.new) 0 0 (unread lens.now.l.places self.old.stages) }
+        ensures cost { Costs (M.counted m.old) (M.counted m.new) 0 0
+            (unread lens.now.l.places self.old.stages) }
     {
         lens.known();
         let (start, end) = lens.row(s);

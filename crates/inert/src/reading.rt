@@ -33,9 +33,11 @@ impl Walk {
         ensures grow { OnOk result (Grow lists.old lists.new) }
         ensures finished { OnOk result (HasFinished s self.old.stages self.new.stages) }
         ensures signs { OnOk result (SignsMore lens.now lists.new self.old.stages self.new.stages) }
-        ensures visits { OnOk result ((M.counted m.new).visits + unread lens.now.l.places self.new.stages
+        ensures visits { OnOk result
+            ((M.counted m.new).visits + unread lens.now.l.places self.new.stages
             ≡ (M.counted m.old).visits + unread lens.now.l.places self.old.stages) }
-        ensures cost { Costs (M.counted m.old) (M.counted m.new) 0 0 (unread lens.now.l.places self.old.stages) }
+        ensures cost { Costs (M.counted m.old) (M.counted m.new) 0 0
+            (unread lens.now.l.places self.old.stages) }
     {
         self.begin(lens, s, lists, m)?;
         while !self.frames.is_empty() {
@@ -57,7 +59,8 @@ impl Walk {
         requires room { HasRoomFor (M.counted m.old) 0 (ahead lens.now.l self.old) }
         ensures on { OnOk result (GoesOn lens.now lists.new self.old self.new) }
         ensures grow { OnOk result (Grow lists.old lists.new) }
-        ensures visits { OnOk result ((M.counted m.new).visits + ahead lens.now.l self.new ≡ (M.counted m.old).visits + ahead lens.now.l self.old) }
+        ensures visits { OnOk result ((M.counted m.new).visits + ahead lens.now.l self.new
+            ≡ (M.counted m.old).visits + ahead lens.now.l self.old) }
         ensures nearer { OnOk result (steps lens.now.l self.new < steps lens.now.l self.old) }
         ensures cost { Costs (M.counted m.old) (M.counted m.new) 0 0 (ahead lens.now.l self.old) }
     {
@@ -76,7 +79,8 @@ impl Walk {
         requires way { IsUnderWay lens.now lists.now self.old }
         requires room { HasRoomFor (M.counted m.old) 0 (ahead lens.now.l self.old) }
         ensures on { OnOk result (GoesOn lens.now lists.now self.old self.new) }
-        ensures visits { OnOk result ((M.counted m.new).visits + ahead lens.now.l self.new ≡ (M.counted m.old).visits + ahead lens.now.l self.old) }
+        ensures visits { OnOk result ((M.counted m.new).visits + ahead lens.now.l self.new
+            ≡ (M.counted m.old).visits + ahead lens.now.l self.old) }
         ensures steps { IfOk result (ComesNearer lens.now.l self.old self.new) }
         ensures cost { Costs (M.counted m.old) (M.counted m.new) 0 0 (ahead lens.now.l self.old) }
     {

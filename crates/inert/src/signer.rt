@@ -78,16 +78,21 @@ impl Signer {
         requires blocks { length blocks.now.of ≡ l.now.states }
         requires kept { AreSignedBeside l.now blocks.now.of blocks.now.live lists.old self.old }
         requires lists { (length self.old ≡ l.now.states) × AreNumbers lists.old self.old }
-        requires numbers { (length numbers.old ≡ l.now.states) × HaveNone blocks.now.live numbers.old }
+        requires numbers { (length numbers.old ≡ l.now.states)
+            × HaveNone blocks.now.live numbers.old }
         requires room { HasRoomFor (M.counted m.old) 0 (length l.now.places) }
 
         // Once it is done
         ensures signed { OnOk result ((s : ℕ) → IsOne blocks.now.live s →
-            IsSignature Branching l.now blocks.now.of s (list_at lists.new (slice_index self.new s))) }
+            IsSignature Branching l.now blocks.now.of s
+            (list_at lists.new (slice_index self.new s))) }
         ensures changed { OnOk result ((s : ℕ) → IsOne blocks.now.live s →
-            ShowsNew (slice_index self.old s) (slice_index self.new s) (slice_index numbers.new s)) }
-        ensures still { OnOk result ((s : ℕ) → IsOne blocks.now.live s ⊎ (slice_index self.new s ≡ slice_index self.old s)) }
-        ensures lists { OnOk result ((length self.new ≡ l.now.states) × AreNumbers lists.new self.new) }
+            ShowsNew (slice_index self.old s) (slice_index self.new s)
+            (slice_index numbers.new s)) }
+        ensures still { OnOk result ((s : ℕ) → IsOne blocks.now.live s
+            ⊎ (slice_index self.new s ≡ slice_index self.old s)) }
+        ensures lists { OnOk result ((length self.new ≡ l.now.states)
+            × AreNumbers lists.new self.new) }
         ensures numbers { OnOk result (AreNumbers lists.new numbers.new) }
         ensures grow { OnOk result (Grow lists.old lists.new) }
 
@@ -120,8 +125,10 @@ fn put_kept(walk: &Walk, live: &[u32], numbers: &mut [u32])
     requires live { AreLive (length walk.now.stages) live.now }
     requires over { HasEnded walk.now }
     ensures live { (i : ℕ) → i < length live.now →
-        let s = slice_index live.now i in slice_index numbers.new s ≡ number_of (stage_at walk.now.stages s) }
-    ensures others { (s : ℕ) → IsOne live.now s ⊎ (slice_index numbers.new s ≡ slice_index numbers.old s) }
+        let s = slice_index live.now i in
+        slice_index numbers.new s ≡ number_of (stage_at walk.now.stages s) }
+    ensures others { (s : ℕ) → IsOne live.now s
+        ⊎ (slice_index numbers.new s ≡ slice_index numbers.old s) }
 {
     for i in 0..live.len() {
         let s = live[i] as usize;
@@ -147,7 +154,8 @@ fn walk_all<M: Meter>(
     requires rests { Rests lens.now lists.old walk.old }
     requires room { HasRoomFor (M.counted m.old) 0 (length lens.now.l.places) }
     ensures rests { OnOk result (Rests lens.now lists.new walk.new) }
-    ensures all { OnOk result ((i : ℕ) → i < length live.now → IsFinished walk.new.stages (slice_index live.now i)) }
+    ensures all { OnOk result ((i : ℕ) → i < length live.now →
+        IsFinished walk.new.stages (slice_index live.now i)) }
     ensures signs { OnOk result (SignsMore lens.now lists.new walk.old.stages walk.new.stages) }
     ensures seen { OnOk result (KeepsSeen walk.old.stages walk.new.stages) }
     ensures grow { OnOk result (Grow lists.old lists.new) }
@@ -174,10 +182,13 @@ fn walk_all<M: Meter>(
 fn number(walk: &Walk, live: &[u32], numbers: &mut [u32])
     requires size { length numbers.old ≡ length walk.now.stages }
     requires live { AreLive (length walk.now.stages) live.now }
-    requires finished { (i : ℕ) → i < length live.now → IsFinished walk.now.stages (slice_index live.now i) }
+    requires finished { (i : ℕ) → i < length live.now →
+        IsFinished walk.now.stages (slice_index live.now i) }
     ensures live { (i : ℕ) → i < length live.now → let s = slice_index live.now i in
-        ShowsNew (slice_index numbers.old s) (number_of (stage_at walk.now.stages s)) (slice_index numbers.new s) }
-    ensures others { (s : ℕ) → IsOne live.now s ⊎ (slice_index numbers.new s ≡ slice_index numbers.old s) }
+        ShowsNew (slice_index numbers.old s) (number_of (stage_at walk.now.stages s))
+        (slice_index numbers.new s) }
+    ensures others { (s : ℕ) → IsOne live.now s
+        ⊎ (slice_index numbers.new s ≡ slice_index numbers.old s) }
 {
     for i in 0..live.len() {
         let s = live[i] as usize;

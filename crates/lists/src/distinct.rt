@@ -146,7 +146,8 @@ impl Distinct {
     pub fn gather(&self, k: u32, pairs: &mut Vec<(u32, u32)>) -> Result<(), Memory>
         requires { k < length self.now }
         ensures appended { OnOk result (pairs.new.items ≡ pairs.old.items ++ list_at self.now k) }
-        ensures err { OnErr result ((more : List (ℕ × ℕ)) × (pairs.new.items ≡ pairs.old.items ++ more)) }
+        ensures err { OnErr result ((more : List (ℕ × ℕ))
+            × (pairs.new.items ≡ pairs.old.items ++ more)) }
     {
         match self.shape(k) {
             Shape::Whole(list) => {

@@ -47,7 +47,8 @@ pub(crate) fn find(nodes: &Nodes, buckets: &Buckets, shape: Shape<'_>, tag: u32)
     requires different { AreDifferent nodes.now }
     requires suits { Suits nodes.now shape }
     requires tag { tag ≡ tag_of (list_of_shape nodes.now shape) }
-    ensures { let list = list_of_shape nodes.now shape.entry in MatchOption result (IsNewList nodes.now list) (IsNumberOf nodes.now list) }
+    ensures { let list = list_of_shape nodes.now shape.entry in
+        MatchOption result (IsNewList nodes.now list) (IsNumberOf nodes.now list) }
 {
     nodes.known();
     let mut r = buckets.last(tag);
@@ -75,7 +76,8 @@ pub(crate) fn put(
     requires sum { sum ≡ fingerprint_of (list_of_shape nodes.old shape) }
     requires absent { IsNewList nodes.old (list_of_shape nodes.old shape) }
     ensures hashed { IsHashed nodes.new sums.new.items buckets.new }
-    ensures added { OnOk result (nodes.new ≡ nodes.old ++ list_of_shape nodes.old shape.entry ∷ []) }
+    ensures added { OnOk result
+        (nodes.new ≡ nodes.old ++ list_of_shape nodes.old shape.entry ∷ []) }
     ensures number { IfOk result (λ j. j ≡ length nodes.old) }
     ensures err { OnErr result (nodes.new ≡ nodes.old) }
 {

@@ -89,7 +89,8 @@ impl Known {
     ///
     /// Fails if there is no memory for it.
     pub fn note(&mut self, j: u32, k: u32, i: u32) -> Result<(), Memory>
-        ensures { (z : (ℕ × ℕ) × ℕ) → Contains self.new z → Contains self.old z ⊎ IsNone z ⊎ (z ≡ ((j, k), i)) }
+        ensures { (z : (ℕ × ℕ) × ℕ) → Contains self.new z → Contains self.old z ⊎ IsNone z
+            ⊎ (z ≡ ((j, k), i)) }
     {
         widen(&mut self.unions, self.noted)?;
         self.noted = self.noted.saturating_add(1);
@@ -128,7 +129,8 @@ fn place(j: u32, k: u32, places: usize) -> usize
 fn widen(unions: &mut Vec<Union>, noted: usize) -> Result<(), Memory>
     requires { HasPlaces (length unions.old.items) }
     ensures places { HasPlaces (length unions.new.items) }
-    ensures same { (z : (ℕ × ℕ) × ℕ) → Contains (map noted_union unions.new.items) z → Contains (map noted_union unions.old.items) z ⊎ IsNone z }
+    ensures same { (z : (ℕ × ℕ) × ℕ) → Contains (map noted_union unions.new.items) z →
+        Contains (map noted_union unions.old.items) z ⊎ IsNone z }
 {
     if noted <= unions.len() || MOST_PLACES <= unions.len() {
         return Ok(());

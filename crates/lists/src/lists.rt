@@ -163,7 +163,9 @@ impl Lists {
     fn last_with_all(&self, lists: &[u32], pairs: &[(u32, u32)]) -> Option<u32>
         requires { AreNumbers self.now lists.now }
         ensures within { IfSome result (λ k. k < length self.now) }
-        ensures exactly { IfSome result (λ k. (z : ℕ × ℕ) → Contains (list_at self.now k) z ↔ (Contains pairs.now z ⊎ HasOne self.now lists.now z)) }
+        ensures exactly { IfSome result
+            (λ k. (z : ℕ × ℕ) → Contains (list_at self.now k) z
+            ↔ (Contains pairs.now z ⊎ HasOne self.now lists.now z)) }
     {
         // One list alone mostly lacks one of the pairs, or it would not be joined; of none there is no last.
         if lists.len() < 2 {
@@ -185,7 +187,9 @@ impl Lists {
 
         // Once it is done
         ensures within { IfOk result (λ k. k < length self.new) }
-        ensures exactly { IfOk result (λ k. (z : ℕ × ℕ) → Contains (list_at self.new k) z ↔ (Contains pairs.old.items z ⊎ HasOne self.old lists.now z)) }
+        ensures exactly { IfOk result
+            (λ k. (z : ℕ × ℕ) → Contains (list_at self.new k) z
+            ↔ (Contains pairs.old.items z ⊎ HasOne self.old lists.now z)) }
 
         // In either case
         ensures grow { Grow self.old self.new }
@@ -226,7 +230,8 @@ impl Lists {
 fn has_lists(lists: &Lists, k: u32, numbers: &[u32]) -> bool
     requires list { k < length lists.now }
     requires numbers { AreNumbers lists.now numbers.now }
-    ensures { IsTrue result → All (λ j. Includes (list_at lists.now k) (list_at lists.now j)) numbers.now }
+    ensures { IsTrue result → All
+        (λ j. Includes (list_at lists.now k) (list_at lists.now j)) numbers.now }
 {
     for j in numbers {
         if *j == k {
@@ -257,7 +262,8 @@ fn has_pairs(lists: &Lists, k: u32, pairs: &[(u32, u32)]) -> bool
 /// Fails if there is no memory for it. `pairs` has then what it had.
 fn append(trie: &Distinct, list: Extension<'_>, pairs: &mut Vec<(u32, u32)>) -> Result<(), Memory>
     requires { IsExtension trie.now (parts_of list) }
-    ensures appended { OnOk result (pairs.new.items ≡ pairs.old.items ++ extended trie.now (parts_of list.entry)) }
+    ensures appended { OnOk result
+        (pairs.new.items ≡ pairs.old.items ++ extended trie.now (parts_of list.entry)) }
     ensures err { OnErr result (pairs.new.items ≡ pairs.old.items) }
 {
     trie.known();
@@ -287,8 +293,11 @@ fn append_parts(
     pairs: &mut Vec<(u32, u32)>,
 ) -> Result<(), Memory>
     requires { list.base < length trie.now }
-    ensures appended { OnOk result (pairs.new.items ≡ pairs.old.items ++ (list_at trie.now list.entry.base ++ list.entry.few.now)) }
-    ensures err { OnErr result ((more : List (ℕ × ℕ)) × (pairs.new.items ≡ pairs.old.items ++ more)) }
+    ensures appended { OnOk result
+        (pairs.new.items ≡ pairs.old.items
+        ++ (list_at trie.now list.entry.base ++ list.entry.few.now)) }
+    ensures err { OnErr result ((more : List (ℕ × ℕ))
+        × (pairs.new.items ≡ pairs.old.items ++ more)) }
 {
     trie.gather(list.base, pairs)?;
     pairs.extend_from_slice(list.few)?;

@@ -107,7 +107,8 @@ impl Nodes {
     /// Fails if there is no memory for it. The lists are then as they were.
     pub fn push(&mut self, shape: Shape<'_>) -> Result<u32, Memory>
         requires { Suits self.old shape }
-        ensures pushed { OnOk result (self.new ≡ self.old ++ list_of_shape self.old shape.entry ∷ []) }
+        ensures pushed { OnOk result
+            (self.new ≡ self.old ++ list_of_shape self.old shape.entry ∷ []) }
         ensures number { IfOk result (λ k. k ≡ length self.old) }
         ensures err { OnErr result (self.new ≡ self.old) }
     {
@@ -137,9 +138,11 @@ fn put_whole(
     requires nodes { AreNodes pairs.old.items nodes.old.items }
     requires list { IsFew list.now }
     ensures nodes { AreNodes pairs.new.items nodes.new.items }
-    ensures put { OnOk result (kept_lists pairs.new.items nodes.new.items ≡ kept_lists pairs.old.items nodes.old.items ++ list.now ∷ []) }
+    ensures put { OnOk result (kept_lists pairs.new.items nodes.new.items
+        ≡ kept_lists pairs.old.items nodes.old.items ++ list.now ∷ []) }
     ensures number { IfOk result (λ k. k ≡ length nodes.old.items) }
-    ensures err { OnErr result (kept_lists pairs.new.items nodes.new.items ≡ kept_lists pairs.old.items nodes.old.items) }
+    ensures err { OnErr result (kept_lists pairs.new.items nodes.new.items
+        ≡ kept_lists pairs.old.items nodes.old.items) }
 {
     make_room(nodes)?;
     let number = nodes.len() as u32;
@@ -160,9 +163,11 @@ fn put_halved(pairs: &Vec<(u32, u32)>, nodes: &mut Vec<Node>, halves: Halves) ->
     requires halves { AreIn (kept_lists pairs.now.items nodes.old.items) halves }
     ensures nodes { AreNodes pairs.now.items nodes.new.items }
     ensures put { let lists = kept_lists pairs.now.items nodes.old.items in
-        OnOk result (kept_lists pairs.now.items nodes.new.items ≡ lists ++ (list_at lists halves.below ++ list_at lists halves.above) ∷ []) }
+        OnOk result (kept_lists pairs.now.items nodes.new.items
+        ≡ lists ++ (list_at lists halves.below ++ list_at lists halves.above) ∷ []) }
     ensures number { IfOk result (λ k. k ≡ length nodes.old.items) }
-    ensures err { OnErr result (kept_lists pairs.now.items nodes.new.items ≡ kept_lists pairs.now.items nodes.old.items) }
+    ensures err { OnErr result (kept_lists pairs.now.items nodes.new.items
+        ≡ kept_lists pairs.now.items nodes.old.items) }
 {
     make_room(nodes)?;
     let number = nodes.len() as u32;

@@ -36,7 +36,9 @@ fn is_same(
 ) -> Result<bool, Memory>
     requires one { IsExtension trie.old (parts_of one) }
     requires other { IsExtension trie.old (parts_of other) }
-    ensures same { IfOk result (λ same. IsTrue same ↔ (extended trie.old (parts_of one.entry) ≡ extended trie.old (parts_of other.entry))) }
+    ensures same { IfOk result
+        (λ same. IsTrue same ↔ (extended trie.old (parts_of one.entry)
+        ≡ extended trie.old (parts_of other.entry))) }
     ensures grow { Grow trie.old trie.new }
 {
     trie.known();
@@ -68,7 +70,8 @@ fn find(
     requires kept { AreExtended trie.old kept.now buckets.now }
     requires list { IsExtension trie.old (parts_of list) }
     requires tag { tag ≡ mixed (fingerprint_of (extended trie.old (parts_of list))) }
-    ensures found { let all = extended_lists trie.old kept.now in let list = extended trie.old (parts_of list.entry) in
+    ensures found { let all = extended_lists trie.old kept.now in
+        let list = extended trie.old (parts_of list.entry) in
         IfOk result (λ found. MatchOption found (IsNewList all list) (IsNumberOf all list)) }
     ensures grow { Grow trie.old trie.new }
 {
@@ -122,7 +125,9 @@ fn number(
     requires few { length list.few.now ≤ FEW }
     ensures kept { AreExtended trie.new kept.new buckets.new }
     ensures within { IfOk result (λ k. k < length (extended_lists trie.new kept.new)) }
-    ensures list { IfOk result (λ k. list_at (extended_lists trie.new kept.new) k ≡ extended trie.old (parts_of list.entry)) }
+    ensures list { IfOk result
+        (λ k. list_at (extended_lists trie.new kept.new) k
+        ≡ extended trie.old (parts_of list.entry)) }
     ensures trie { Grow trie.old trie.new }
     ensures lists { Grow (extended_lists trie.old kept.old) (extended_lists trie.new kept.new) }
 {
@@ -154,7 +159,8 @@ pub(crate) fn number_with(
     requires list { IsExtension trie.old (base, pairs.now) }
     ensures kept { AreExtended trie.new kept.new buckets.new }
     ensures within { IfOk result (λ k. k < length (extended_lists trie.new kept.new)) }
-    ensures list { IfOk result (λ k. list_at (extended_lists trie.new kept.new) k ≡ extended trie.old (base, pairs.now)) }
+    ensures list { IfOk result
+        (λ k. list_at (extended_lists trie.new kept.new) k ≡ extended trie.old (base, pairs.now)) }
     ensures trie { Grow trie.old trie.new }
     ensures lists { Grow (extended_lists trie.old kept.old) (extended_lists trie.new kept.new) }
 {

@@ -78,7 +78,8 @@ fn pieces_with_pairs(k: u32, halves: Halves, pairs: &[(u32, u32)]) -> Pieces<&[(
     requires rising { IsStrictlySortedBy pair_cmp pairs.now }
     requires fit { Fit pairs.now }
     ensures { (lists : List (List (ℕ × ℕ))) → AreStored lists → IsHalved lists k halves
-        → IsSplitWith lists k pairs.now result.cut (result.below.0, result.below.1.now) (result.above.0, result.above.1.now) }
+        → IsSplitWith lists k pairs.now result.cut (result.below.0, result.below.1.now)
+        (result.above.0, result.above.1.now) }
 {
     let low = key(pairs[0]).min(halves.cut - 1);
     let high = key(pairs[pairs.len() - 1]).max(halves.cut);
@@ -107,7 +108,8 @@ fn with_short(
     requires rising { IsStrictlySortedBy pair_cmp pairs.now }
     requires fit { Fit pairs.now }
     ensures within { IfOk result (λ i. i < length lists.new) }
-    ensures exactly { IfOk result (λ i. Unites (list_at lists.new i) pairs.now (list_at lists.old k)) }
+    ensures exactly { IfOk result
+        (λ i. Unites (list_at lists.new i) pairs.now (list_at lists.old k)) }
     ensures grow { Grow lists.old lists.new }
 {
     lists.known();
@@ -138,7 +140,8 @@ pub(crate) fn with(
     requires rising { IsStrictlySortedBy pair_cmp pairs.now }
     requires fit { Fit pairs.now }
     ensures within { IfOk result (λ i. i < length lists.new) }
-    ensures exactly { IfOk result (λ i. Unites (list_at lists.new i) pairs.now (list_at lists.old k)) }
+    ensures exactly { IfOk result
+        (λ i. Unites (list_at lists.new i) pairs.now (list_at lists.old k)) }
     ensures grow { Grow lists.old lists.new }
 {
     lists.known();
@@ -186,7 +189,8 @@ fn with_list(lists: &mut Distinct, scratch: &mut Scratch, few: u32, k: u32) -> R
     requires few { few < length lists.old }
     requires list { k < length lists.old }
     ensures within { IfOk result (λ i. i < length lists.new) }
-    ensures exactly { IfOk result (λ i. Unites (list_at lists.new i) (list_at lists.old few) (list_at lists.old k)) }
+    ensures exactly { IfOk result
+        (λ i. Unites (list_at lists.new i) (list_at lists.old few) (list_at lists.old k)) }
     ensures grow { Grow lists.old lists.new }
 {
     lists.known();
@@ -197,7 +201,8 @@ fn with_list(lists: &mut Distinct, scratch: &mut Scratch, few: u32, k: u32) -> R
 
 /// The number of the list that has the pairs of both lists, if it was noted.
 fn noted(known: &Known, j: u32, k: u32) -> Option<u32>
-    ensures { (lists : List (List (ℕ × ℕ))) → AreUnions lists known.now → IfSome result (IsUnion lists (j, k)) }
+    ensures { (lists : List (List (ℕ × ℕ))) → AreUnions lists known.now →
+        IfSome result (IsUnion lists (j, k)) }
 {
     known.find(j.min(k), j.max(k))
 }
@@ -218,7 +223,8 @@ fn note(lists: &Distinct, known: &mut Known, j: u32, k: u32, i: u32) -> Result<(
 fn pieces_of_both(j: u32, first: Halves, k: u32, second: Halves) -> Pieces<u32>
     requires first { 0 < first.cut }
     requires second { 0 < second.cut }
-    ensures { (lists : List (List (ℕ × ℕ))) → AreStored lists → IsHalved lists j first → IsHalved lists k second
+    ensures { (lists : List (List (ℕ × ℕ))) → AreStored lists → IsHalved lists j first →
+        IsHalved lists k second
         → AreSplit lists (j, k) result.cut result.below result.above }
 {
     let cut = cut(first.cut.min(second.cut) - 1, first.cut.max(second.cut));
@@ -246,7 +252,8 @@ pub(crate) fn both(
     requires second { k < length lists.old }
     ensures unions { AreUnions lists.new known.new }
     ensures within { IfOk result (λ i. i < length lists.new) }
-    ensures exactly { IfOk result (λ i. Unites (list_at lists.new i) (list_at lists.old j) (list_at lists.old k)) }
+    ensures exactly { IfOk result
+        (λ i. Unites (list_at lists.new i) (list_at lists.old j) (list_at lists.old k)) }
     ensures grow { Grow lists.old lists.new }
 {
     lists.known();

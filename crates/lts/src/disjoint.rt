@@ -31,7 +31,8 @@ pub fn union<M: Meter>(alloc: Global, a: &Lts<M>, b: &Lts<M>, m: &mut M) -> Resu
     ensures labels { IfOk result (λ u. (k : ℕ) → k < length u.labels → IsCarried u k) }
 
     // On success as many visits as transitions, on failure no more than these.
-    ensures visits { let n = length a.now.places + length b.now.places in Visits M.counted m.old m.new result n n }
+    ensures visits { let n = length a.now.places + length b.now.places in
+        Visits M.counted m.old m.new result n n }
 {
     let mut joined = Joined {
         labels: Labels::new(alloc),
@@ -59,9 +60,11 @@ impl Joined {
         requires room { HasRoomFor (M.counted m.old) 0 (length s.now.places) }
 
         // On success the triples are joined, and stand for the transitions of `s` too.
-        ensures joined { OnOk result (IsJoined self.new.labels (shift + s.now.states) self.new.triples.items) }
+        ensures joined { OnOk result
+            (IsJoined self.new.labels (shift + s.now.states) self.new.triples.items) }
         ensures added { let all = (system_of s.now).transitions in
-            OnOk result (AddsShifted shift all self.old.labels self.old.triples.items self.new.labels self.new.triples.items) }
+            OnOk result (AddsShifted shift all self.old.labels self.old.triples.items
+            self.new.labels self.new.triples.items) }
 
         // On success as many visits as transitions of `s`, on failure no more than these.
         ensures visits { let n = length s.now.places in Visits M.counted m.old m.new result n n }
@@ -81,17 +84,21 @@ impl Joined {
         m: &mut M,
     ) -> Result<(), Memory>
         requires state { state < s.now.states }
-        requires few { length self.old.triples.items + length (row_of state s.now.places) ≤ MOST_TRANSITIONS }
+        requires few { length self.old.triples.items + length (row_of state s.now.places)
+            ≤ MOST_TRANSITIONS }
         requires joined { IsJoined self.old.labels (shift + s.now.states) self.old.triples.items }
         requires room { HasRoomFor (M.counted m.old) 0 (length (row_of state s.now.places)) }
 
         // On success the triples are joined, and stand for the row too.
-        ensures joined { OnOk result (IsJoined self.new.labels (shift + s.now.states) self.new.triples.items) }
+        ensures joined { OnOk result
+            (IsJoined self.new.labels (shift + s.now.states) self.new.triples.items) }
         ensures added { let row = map (transition_of s.now.labels) (row_of state s.now.places) in
-            OnOk result (AddsShifted shift row self.old.labels self.old.triples.items self.new.labels self.new.triples.items) }
+            OnOk result (AddsShifted shift row self.old.labels self.old.triples.items
+            self.new.labels self.new.triples.items) }
 
         // On success as many visits as transitions of the row, on failure no more than these.
-        ensures visits { let n = length (row_of state s.now.places) in Visits M.counted m.old m.new result n n }
+        ensures visits { let n = length (row_of state s.now.places) in
+            Visits M.counted m.old m.new result n n }
     {
         let (start, end) = s.row(state);
         for k in start..end {
@@ -116,9 +123,11 @@ impl Joined {
         requires room { HasRoomFor (M.counted m.old) 0 1 }
 
         // On success the triples are joined, and stand for this transition too.
-        ensures joined { OnOk result (IsJoined self.new.labels (shift + s.now.states) self.new.triples.items) }
+        ensures joined { OnOk result
+            (IsJoined self.new.labels (shift + s.now.states) self.new.triples.items) }
         ensures added { let one = transition_of s.now.labels (place_at s.now.places k) ∷ [] in
-            OnOk result (AddsShifted shift one self.old.labels self.old.triples.items self.new.labels self.new.triples.items) }
+            OnOk result (AddsShifted shift one self.old.labels self.old.triples.items
+            self.new.labels self.new.triples.items) }
 
         // In either case: one visit.
         ensures visit { Costs (M.counted m.old) (M.counted m.new) 0 1 1 }

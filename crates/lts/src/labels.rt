@@ -116,7 +116,8 @@ impl Labels {
 
     /// The number of the label of the internal action, `i`, if the table has it.
     pub fn internal(&self) -> Option<u32>
-        ensures { MatchOption result (¬ Contains self.now internal) (λ k. IsNumber self.now k internal) }
+        ensures { MatchOption result (¬ Contains self.now internal)
+            (λ k. IsNumber self.now k internal) }
     {
         self.find(b"i")
     }

@@ -85,7 +85,8 @@ impl<M: Meter> Lts<M> {
 
         // On success: what follows of the order of the places, and of the system.
         ensures grouping { IfOk result (λ s. IsGrouping e.items s.places) }
-        ensures system { IfOk result (λ s. Groups (system_from first states l e.items) (system_of s)) }
+        ensures system { IfOk result
+            (λ s. Groups (system_from first states l e.items) (system_of s)) }
     {
         Lts::of(l, first, states, Transitions::from_triples(alloc, e))
     }
@@ -127,7 +128,8 @@ impl<M: Meter> Lts<M> {
 
         // On success: what follows of the order of the places, and of the system.
         ensures grouping { IfOk result (λ s. IsGrouping e s.places) }
-        ensures system { IfOk result (λ s. Groups (system_from first states other.now.labels e) (system_of s)) }
+        ensures system { IfOk result
+            (λ s. Groups (system_from first states other.now.labels e) (system_of s)) }
     {
         let labels = other.labels.clone()?;
         Lts::of_shared(labels, first, states, e)
@@ -148,7 +150,8 @@ impl<M: Meter> Lts<M> {
         ensures labels { IfOk result (λ s. s.labels ≡ labels.value) }
         ensures places { IfOk result (λ s. s.places ≡ grouped states e) }
         ensures grouping { IfOk result (λ s. IsGrouping e s.places) }
-        ensures system { IfOk result (λ s. Groups (system_from first states labels.value e) (system_of s)) }
+        ensures system { IfOk result
+            (λ s. Groups (system_from first states labels.value e) (system_of s)) }
     {
         labels.as_ref().known();
         let (ends, pairs) = e.group(states)?;

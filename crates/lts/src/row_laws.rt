@@ -8,11 +8,14 @@ ghost use Rattle.lts.specs.Labels.{text_of, IsNumber};
 /// next to the last. Inside a row, each place adds its transition to those before it.
 pub fn rows_follow()
     ensures none { (places : List Triple) → before 0 places ≡ 0 }
-    ensures next { (s : ℕ) (places : List Triple) → before (s + 1) places ≡ before s places + length (row_of s places) }
+    ensures next { (s : ℕ) (places : List Triple) →
+        before (s + 1) places ≡ before s places + length (row_of s places) }
     ensures up { (s t : ℕ) (places : List Triple) → s ≤ t → before s places ≤ before t places }
     ensures all { (l : Grouped) → IsLts l → before l.states l.places ≡ length l.places }
-    ensures inside { (places : List Triple) (s start end k : ℕ) → IsRow places s start end → start ≤ k → k < end →
-        take ((k + 1) - start) (row_of s places) ≡ take (k - start) (row_of s places) ++ place_at places k ∷ [] }
+    ensures inside { (places : List Triple) (s start end k : ℕ) → IsRow places s start end →
+        start ≤ k → k < end →
+        take ((k + 1) - start) (row_of s places)
+        ≡ take (k - start) (row_of s places) ++ place_at places k ∷ [] }
 {}
 
 /// A row has the transitions that start at its state. They are the steps from that state, and the label of each has a
@@ -24,5 +27,6 @@ pub fn rows_are_steps()
         IsLts l → Step (system_of l) s a t → (k : ℕ) × IsNumber l.labels k a }
     ensures steps { (l : Grouped) (s : ℕ) (a : List ℕ) (t : ℕ) →
         Step (system_of l) s a t ↔
-        ((e : Triple) × Contains (row_of s l.places) e × (text_of l.labels (label_of e) ≡ a) × (target_of e ≡ t)) }
+        ((e : Triple) × Contains (row_of s l.places) e × (text_of l.labels (label_of e) ≡ a)
+        × (target_of e ≡ t)) }
 {}

@@ -30,7 +30,8 @@ pub fn equivalent<M: Meter>(
     requires fit { FitTogether a.now b.now }
 
     // On success: the verdict, and the rounds that one refinement of the union takes.
-    ensures verdict { IfOk result (λ same. IsTrue same ↔ Equivalent r (system_of a.now) (system_of b.now)) }
+    ensures verdict { IfOk result
+        (λ same. IsTrue same ↔ Equivalent r (system_of a.now) (system_of b.now)) }
     ensures turns { let both = union_of (system_of a.now) (system_of b.now) in
         OnOk result (Turns r both (M.counted m.new).rounds) }
 

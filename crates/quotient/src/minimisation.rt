@@ -38,7 +38,8 @@ pub fn minimise<M: Meter>(
         Bisimilar r (system_of q) s (system_of q) t → s ≡ t) }
     ensures smallest { IfOk result (λ q. (B : System) →
         IsSystem B → Equivalent r (system_of l.now) B → q.states ≤ B.states) }
-    ensures no_larger { IfOk result (λ q. (q.states ≤ l.now.states) × (length q.places ≤ length l.now.places)) }
+    ensures no_larger { IfOk result
+        (λ q. (q.states ≤ l.now.states) × (length q.places ≤ length l.now.places)) }
 
     // On success: the rounds of one refinement. In either case: at most one for each state, and the visits that they allow.
     ensures turns { OnOk result (Turns r (system_of l.now) (M.counted m.new).rounds) }
@@ -67,7 +68,8 @@ fn quotient_of<M: Meter>(
 ) -> Result<Lts<Counter>, Memory>
     requires numbering { IsNumbering r (system_of l.now) numbering.now }
     requires reached_long { length reached.now ≡ l.now.states }
-    requires reached { (s : ℕ) → s < l.now.states → IsMarked reached.now s ↔ Reachable (system_of l.now) s }
+    requires reached { (s : ℕ) → s < l.now.states → IsMarked reached.now s
+        ↔ Reachable (system_of l.now) s }
     requires room { HasRoomFor (M.counted m.old) 0 (length l.now.places) }
     ensures quotient { IfOk result (λ q. Quotient r (system_of l.now) (system_of q)) }
     ensures fewer_transitions { IfOk result (λ q. length q.places ≤ length l.now.places) }

@@ -37,8 +37,10 @@ pub(crate) fn number<M: Meter>(
 ) -> Result<Numbering, Memory>
     requires blocks_long { length blocks ≡ l.now.states }
     requires reached_long { length reached.now ≡ l.now.states }
-    requires reached { (s : ℕ) → s < l.now.states → IsMarked reached.now s ↔ Reachable (system_of l.now) s }
-    ensures { (rel : Relation) → AreClasses rel l.now blocks → IfOk result (IsNumbering rel (system_of l.now)) }
+    requires reached { (s : ℕ) → s < l.now.states → IsMarked reached.now s
+        ↔ Reachable (system_of l.now) s }
+    ensures { (rel : Relation) → AreClasses rel l.now blocks →
+        IfOk result (IsNumbering rel (system_of l.now)) }
 {
     theory::steps_keep_reachable();
     theory::each_state_has_a_number();
@@ -79,7 +81,8 @@ impl Numbering {
     /// Appends the number and the mark of a state.
     fn append(&mut self, number: u32, leads: bool) -> Result<(), Memory>
         ensures by_block { self.new.by_block ≡ self.old.by_block }
-        ensures numbers { OnOk result (self.new.numbers.items ≡ self.old.numbers.items ++ number ∷ []) }
+        ensures numbers { OnOk result (self.new.numbers.items
+            ≡ self.old.numbers.items ++ number ∷ []) }
         ensures leads { OnOk result (self.new.leads.items ≡ self.old.leads.items ++ leads ∷ []) }
         ensures count { self.new.count ≡ self.old.count }
     {

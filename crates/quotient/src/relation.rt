@@ -25,7 +25,8 @@ pub(crate) fn blocks<M: Meter>(
     ensures turns { OnOk result (TakesTurns r l.now (M.counted m.old) (M.counted m.new)) }
 
     // On failure: no more rounds than states, and no more visits than these cost.
-    ensures err { OnErr result (CostsUpTo (M.counted m.old) (M.counted m.new) l.now.states (length l.now.places)) }
+    ensures err { OnErr result
+        (CostsUpTo (M.counted m.old) (M.counted m.new) l.now.states (length l.now.places)) }
 {
     lts::rows_are_steps();
     l.known();

@@ -40,9 +40,12 @@ impl Search {
     /// The search once it has gone over the states in their order: only the rows of those that wait are still to be read.
     fn over_states<M: Meter>(alloc: Global, l: &Lts<M>, m: &mut M) -> Result<Search, Memory>
         requires room { HasRoomFor (M.counted m.old) 0 (length l.now.places) }
-        ensures search { IfOk result (λ s. Searches l.now s.marked.items l.now.states s.queue.items) }
-        ensures reads { let ahead = λ (s : Search). places_ahead l.now.places l.now.states s.marked.items s.queue.items in
-            IfOk result (λ s. ReadsOnce (M.counted m.old) (M.counted m.new) (length l.now.places) (ahead s)) }
+        ensures search { IfOk result
+            (λ s. Searches l.now s.marked.items l.now.states s.queue.items) }
+        ensures reads { let ahead = λ (s : Search). places_ahead l.now.places l.now.states
+            s.marked.items s.queue.items in
+            IfOk result (λ s. ReadsOnce (M.counted m.old) (M.counted m.new)
+            (length l.now.places) (ahead s)) }
 
         // In either case.
         ensures visits { Costs (M.counted m.old) (M.counted m.new) 0 0 (length l.now.places) }
@@ -88,12 +91,15 @@ impl Search {
     ) -> Result<(), Memory>
         requires search { Searches l.now self.old.marked.items next (s ∷ self.old.queue.items) }
         requires room { HasRoomFor (M.counted m.old) 0 (length (row_of s l.now.places)) }
-        ensures search { OnOk result (Searches l.now self.new.marked.items next self.new.queue.items) }
+        ensures search { OnOk result
+            (Searches l.now self.new.marked.items next self.new.queue.items) }
         ensures states { let ahead = λ (s : Search). states_ahead s.marked.items s.queue.items in
             OnOk result (ahead self.new ≤ ahead self.old) }
-        ensures places { let ahead = λ (s : Search). places_ahead l.now.places next s.marked.items s.queue.items in
+        ensures places { let ahead = λ (s : Search). places_ahead l.now.places next s.marked.items
+            s.queue.items in
             OnOk result (ahead self.new ≡ ahead self.old) }
-        ensures visits { Costs (M.counted m.old) (M.counted m.new) 0 0 (length (row_of s l.now.places)) }
+        ensures visits { Costs (M.counted m.old) (M.counted m.new) 0 0
+            (length (row_of s l.now.places)) }
     {
         theory::steps_keep_reachable();
         lts::rows_follow();

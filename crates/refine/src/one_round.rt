@@ -26,12 +26,15 @@ pub fn round<S: Sense, M: Meter>(
 
     // Once it is done
     ensures states { IfOk result (λ q. length q ≡ l.now.states) }
-    ensures split { IfOk result (λ q. Split S.relation (system_of l.now) (slice_index p.now) (slice_index q)) }
+    ensures split { IfOk result
+        (λ q. Split S.relation (system_of l.now) (slice_index p.now) (slice_index q)) }
     ensures numbered { IfOk result IsSomePartition }
-    ensures costs { let n = length l.now.places in OnOk result (Costs (M.counted m.old) (M.counted m.new) 1 n n) }
+    ensures costs { let n = length l.now.places in
+        OnOk result (Costs (M.counted m.old) (M.counted m.new) 1 n n) }
 
     // After a refusal
-    ensures err { OnErr result (CostsUpTo (M.counted m.old) (M.counted m.new) 1 (length l.now.places)) }
+    ensures err { OnErr result
+        (CostsUpTo (M.counted m.old) (M.counted m.new) 1 (length l.now.places)) }
 {
     let mut signatures = Signatures::new(alloc, l.states())?;
     let mut marks = Marks::new(alloc, l.states())?;

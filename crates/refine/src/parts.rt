@@ -100,7 +100,8 @@ fn put(
     ensures put { OnOk result (lists_of pairs.new.items spans.new.items
         ≡ lists_of pairs.old.items spans.old.items ++ list.now ∷ []) }
     ensures number { IfOk result (λ k. k ≡ length spans.old.items) }
-    ensures err { OnErr result (lists_of pairs.new.items spans.new.items ≡ lists_of pairs.old.items spans.old.items) }
+    ensures err { OnErr result (lists_of pairs.new.items spans.new.items
+        ≡ lists_of pairs.old.items spans.old.items) }
 {
     let number = spans.len() as u32;
     let start = pairs.len();

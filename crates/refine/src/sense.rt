@@ -87,7 +87,8 @@ pub trait Sense: Signing {
         requires room { HasRoomFor (M.counted m.old) 0 (most_visits Self.relation l.now s) }
 
         // Once it is done
-        ensures appends { OnOk result (Appends Self.relation l.now p.now s out.old.items out.new.items) }
+        ensures appends { OnOk result
+            (Appends Self.relation l.now p.now s out.old.items out.new.items) }
 
         // After a refusal
         ensures extends { OnErr result (Extends out.old.items out.new.items) }
@@ -127,7 +128,8 @@ fn sign<M: Meter>(
     requires state { s < l.now.states }
     requires room { HasRoomFor (M.counted m.old) 0 (length (row_of s l.now.places)) }
     ensures signature { OnOk result (IsSignature strong l.now p.now s pairs.new.items) }
-    ensures visits { let n = length (row_of s l.now.places) in Visits M.counted m.old m.new result n n }
+    ensures visits { let n = length (row_of s l.now.places) in
+        Visits M.counted m.old m.new result n n }
 {
     lts::rows_are_steps();
     l.known();

@@ -117,7 +117,8 @@ impl Signatures {
         ensures states { IfOk result (λ q. length q ≡ length p.now) }
         ensures blocks { IfOk result (λ q. (s t : ℕ) → s < length p.now → t < length p.now →
             (slice_index q s ≡ slice_index q t)
-            ↔ ((slice_index p.now s ≡ slice_index p.now t) × (signature_at self.now s ≡ signature_at self.now t))) }
+            ↔ ((slice_index p.now s ≡ slice_index p.now t)
+            × (signature_at self.now s ≡ signature_at self.now t))) }
         ensures numbered { IfOk result IsSomePartition }
     {
         let blocks = copied(self.alloc, p)?;

@@ -34,10 +34,12 @@ pub fn refine<S: Signing, M: Meter>(
         (slice_index p s ≡ slice_index p t) ↔ Bisimilar S.relation A s A t)) }
     ensures numbered { IfOk result IsSomePartition }
     ensures turns { let n = length l.now.places in OnOk result ((r : ℕ) × (r ≤ l.now.states)
-        × Turns S.relation (system_of l.now) r × Costs (M.counted m.old) (M.counted m.new) r (r * n) (r * n)) }
+        × Turns S.relation (system_of l.now) r
+        × Costs (M.counted m.old) (M.counted m.new) r (r * n) (r * n)) }
 
     // After a refusal
-    ensures err { OnErr result (CostsUpTo (M.counted m.old) (M.counted m.new) l.now.states (length l.now.places)) }
+    ensures err { OnErr result
+        (CostsUpTo (M.counted m.old) (M.counted m.new) l.now.states (length l.now.places)) }
 {
     let live = with_rows(alloc, l)?;
     let blocks = Blocks::one(alloc, l.states(), live)?;
@@ -62,7 +64,8 @@ pub fn refine<S: Signing, M: Meter>(
 /// Fails if there is no memory for it.
 fn with_rows<M: Meter>(alloc: Global, l: &Lts<M>) -> Result<Vec<u32>, Memory>
     ensures rising { IfOk result (λ v. AreLive l.now.states v.items) }
-    ensures rows { IfOk result (λ v. (s : ℕ) → s < l.now.states → IsOne v.items s ⊎ (row_of s l.now.places ≡ [])) }
+    ensures rows { IfOk result
+        (λ v. (s : ℕ) → s < l.now.states → IsOne v.items s ⊎ (row_of s l.now.places ≡ [])) }
 {
     let mut live = Vec::with_capacity(alloc, l.states() as usize)?;
     for s in 0..l.states() {
@@ -84,16 +87,19 @@ fn next_round<S: Signing, M: Meter>(
     m: &mut M,
 ) -> Result<SignedBlocks, Memory>
     requires states { length round.blocks.of ≡ l.now.states }
-    requires settled { Settled S.relation (system_of l.now) (slice_index round.blocks.of) round.blocks.low }
+    requires settled { Settled S.relation (system_of l.now)
+        (slice_index round.blocks.of) round.blocks.low }
     requires watches { Watches S.relation l.now round }
     requires room { HasRoomFor (M.counted m.old) 1 (length l.now.places) }
 
     // Once it is done
     ensures next { IfOk result (IsNext S.relation l.now round.blocks) }
-    ensures costs { let n = length l.now.places in OnOk result (Costs (M.counted m.old) (M.counted m.new) 1 n n) }
+    ensures costs { let n = length l.now.places in
+        OnOk result (Costs (M.counted m.old) (M.counted m.new) 1 n n) }
 
     // After a refusal
-    ensures err { OnErr result (CostsUpTo (M.counted m.old) (M.counted m.new) 1 (length l.now.places)) }
+    ensures err { OnErr result
+        (CostsUpTo (M.counted m.old) (M.counted m.new) 1 (length l.now.places)) }
 {
     lts::rows_are_steps();
     l.known();

@@ -107,7 +107,8 @@ impl SignedBlocks {
     /// Does nothing when it runs: its contract says what holds of the states that are looked at, and of the lists.
     pub fn known(&self)
         ensures lists { AreLists self.now.lists }
-        ensures have { HaveLists self.now.blocks.of self.now.blocks.live self.now.lists self.now.numbers }
+        ensures have { HaveLists self.now.blocks.of self.now.blocks.live self.now.lists
+            self.now.numbers }
         ensures live { AreLive (length self.now.blocks.of) self.now.blocks.live }
     {
         self.lists.known();
@@ -119,9 +120,11 @@ impl SignedBlocks {
     ///
     /// Fails if there is no memory for it.
     pub fn renew(mut self) -> Result<SignedBlocks, Memory>
-        ensures same { IfOk result (λ r. r ≡ record self { blocks = r.blocks; numbers = r.numbers }) }
+        ensures same { IfOk result
+            (λ r. r ≡ record self { blocks = r.blocks; numbers = r.numbers }) }
         ensures blocks { IfOk result (λ r. r.blocks ≡ record self.blocks { live = r.blocks.live }) }
-        ensures leaves { IfOk result (λ r. LeavesAlone self.blocks.of self.blocks.live r.blocks.live) }
+        ensures leaves { IfOk result
+            (λ r. LeavesAlone self.blocks.of self.blocks.live r.blocks.live) }
     {
         self.lists.known();
         let blocks = self.blocks.renew(self.alloc, &mut self.numbers)?;
@@ -237,7 +240,8 @@ fn split_by_sources(round: SignedBlocks, entering: Entering) -> Result<SignedBlo
 fn look_at_all(round: SignedBlocks, entering: Entering) -> Result<SignedBlocks, Memory>
     requires { length entering.sources ≡ length round.blocks.of }
     ensures blocks { IfOk result (λ r. r.blocks ≡ record round.blocks { live = r.blocks.live }) }
-    ensures all { IfOk result (λ r. (s : ℕ) → s < length r.blocks.of → IsOne r.blocks.live s ⊎ IsAlone r.blocks.of s) }
+    ensures all { IfOk result (λ r. (s : ℕ) → s < length r.blocks.of → IsOne r.blocks.live s
+        ⊎ IsAlone r.blocks.of s) }
     ensures anew { IfOk result IsAnew }
     ensures watch { IfOk result (λ r. r.watch ≡ Sources entering) }
 {
@@ -261,7 +265,8 @@ fn most_lists(live: &[u32]) -> u32
 /// Fails if there is no memory for it.
 fn not_alone(alloc: Global, blocks: &Blocks) -> Result<Vec<u32>, Memory>
     ensures rising { IfOk result (λ v. AreLive (length blocks.now.of) v.items) }
-    ensures others { IfOk result (λ v. (s : ℕ) → s < length blocks.now.of → IsOne v.items s ⊎ IsAlone blocks.now.of s) }
+    ensures others { IfOk result
+        (λ v. (s : ℕ) → s < length blocks.now.of → IsOne v.items s ⊎ IsAlone blocks.now.of s) }
 {
     let states = blocks.of().len() as u32;
     let mut live = Vec::new(alloc);

@@ -62,11 +62,16 @@ fn sign_live<M: Meter>(
 ) -> Result<(), Memory>
     requires under { ReadsUnder under.now.l.now under.now.of.now live.now }
     requires lists { lists.old ≡ [] ∷ [] }
-    requires numbers { (length numbers.old ≡ under.now.l.now.states) × HaveNone live.now numbers.old }
+    requires numbers { (length numbers.old ≡ under.now.l.now.states)
+        × HaveNone live.now numbers.old }
     requires room { HasRoomFor (M.counted m.old) 0 (length under.now.l.now.places) }
-    ensures signed { OnOk result (ArePut strong under.now.l.now under.now.of.now under.now.low live.now (list_of lists.new numbers.new)) }
-    ensures numbers { OnOk result (AreNumbers lists.new numbers.new × HaveNone live.now numbers.new) }
-    ensures visits { let n = length under.now.l.now.places in Visits M.counted m.old m.new result n n }
+    ensures signed { OnOk result
+        (ArePut strong under.now.l.now under.now.of.now under.now.low live.now
+        (list_of lists.new numbers.new)) }
+    ensures numbers { OnOk result (AreNumbers lists.new numbers.new
+        × HaveNone live.now numbers.new) }
+    ensures visits { let n = length under.now.l.now.places in
+        Visits M.counted m.old m.new result n n }
 {
     lts::rows_follow();
     lts::rows_are_steps();
@@ -106,9 +111,11 @@ fn put<M: Meter>(
     requires state { s < under.now.l.now.states }
     requires room { HasRoomFor (M.counted m.old) 0 (length (row_of s under.now.l.now.places)) }
     ensures within { IfOk result (λ k. k < length lists.new) }
-    ensures put { IfOk result (λ k. IsPut strong under.now.l.now under.now.of.now under.now.low s (list_at lists.new k)) }
+    ensures put { IfOk result (λ k. IsPut strong under.now.l.now under.now.of.now under.now.low s
+        (list_at lists.new k)) }
     ensures grow { Grow lists.old lists.new }
-    ensures visits { let n = length (row_of s under.now.l.now.places) in Visits M.counted m.old m.new result n n }
+    ensures visits { let n = length (row_of s under.now.l.now.places) in
+        Visits M.counted m.old m.new result n n }
 {
     lts::rows_are_steps();
     under.l.known();
@@ -135,9 +142,12 @@ pub fn read<M: Meter>(
     requires states { length under.now.of.now ≡ under.now.l.now.states }
     requires state { s < under.now.l.now.states }
     requires room { HasRoomFor (M.counted m.old) 0 (length (row_of s under.now.l.now.places)) }
-    ensures pairs { OnOk result (pairs.new.items ≡ map (pair_under under.now.of.now) (row_of s under.now.l.now.places)) }
-    ensures touched { IfOk result (λ touched. IsTrue touched ↔ HasFrom under.now.low pairs.new.items) }
-    ensures visits { let n = length (row_of s under.now.l.now.places) in Visits M.counted m.old m.new result n n }
+    ensures pairs { OnOk result
+        (pairs.new.items ≡ map (pair_under under.now.of.now) (row_of s under.now.l.now.places)) }
+    ensures touched { IfOk result
+        (λ touched. IsTrue touched ↔ HasFrom under.now.low pairs.new.items) }
+    ensures visits { let n = length (row_of s under.now.l.now.places) in
+        Visits M.counted m.old m.new result n n }
 {
     lts::rows_follow();
     under.l.known();
@@ -175,9 +185,11 @@ fn collect(
     requires target { transition.1 < length p.now }
     requires touched { IsTrue touched ↔ HasFrom low pairs.old.items }
     requires room { vec_len pairs.old < vec_capacity pairs.old }
-    ensures pairs { pairs.new.items ≡ pairs.old.items ++ (transition.0, slice_index p.now transition.1) ∷ [] }
+    ensures pairs { pairs.new.items
+        ≡ pairs.old.items ++ (transition.0, slice_index p.now transition.1) ∷ [] }
     ensures touched { IsTrue result ↔ HasFrom low pairs.new.items }
-    ensures room { (vec_len pairs.new ≡ vec_len pairs.old + 1) × (vec_capacity pairs.new ≡ vec_capacity pairs.old) }
+    ensures room { (vec_len pairs.new ≡ vec_len pairs.old + 1)
+        × (vec_capacity pairs.new ≡ vec_capacity pairs.old) }
 {
     let block = p[transition.1 as usize];
     pairs.push_reserved((transition.0, block));

@@ -10,7 +10,8 @@ ghost use Rattle.theory.specs.declared.relation.Relation.{Relation};
 pub fn bisimilarity_goes_across()
     ensures states { (rel : Relation) (A B : System) (s t : ℕ) → Bisimilar rel A s B t →
         (s < A.states) × (t < B.states) }
-    ensures symmetric { (rel : Relation) (A B : System) (s t : ℕ) → Bisimilar rel A s B t → Bisimilar rel B t A s }
+    ensures symmetric { (rel : Relation) (A B : System) (s t : ℕ) → Bisimilar rel A s B t →
+        Bisimilar rel B t A s }
     ensures transitive { (rel : Relation) (A B C : System) (s t u : ℕ) → IsSystem A → IsSystem C →
         Bisimilar rel A s B t → Bisimilar rel B t C u → Bisimilar rel A s C u }
 {}

@@ -18,11 +18,16 @@ pub fn the_order_does_not_matter()
     ensures repeated { (A B : System) → A.first ≡ B.first → A.states ≡ B.states →
         ((e : Transition) → Contains A.transitions e ↔ Contains B.transitions e) → SameSteps A B }
     ensures reachable { (A B : System) (s : ℕ) → SameSteps A B → Reachable A s → Reachable B s }
-    ensures bisimilar { (rel : Relation) (A B C D : System) (s t : ℕ) → SameSteps A B → SameSteps C D →
+    ensures bisimilar { (rel : Relation) (A B C D : System) (s t : ℕ) →
+        SameSteps A B → SameSteps C D →
         Bisimilar rel A s C t → Bisimilar rel B s D t }
-    ensures turns { (rel : Relation) (A B : System) (k : ℕ) → SameSteps A B → Turns rel A k → Turns rel B k }
-    ensures quotient { (rel : Relation) (A B Q : System) → SameSteps A B → Quotient rel A Q → Quotient rel B Q }
-    ensures reordered { (rel : Relation) (A Q R : System) → R.first ≡ Q.first → R.states ≡ Q.states →
+    ensures turns { (rel : Relation) (A B : System) (k : ℕ) → SameSteps A B →
+        Turns rel A k → Turns rel B k }
+    ensures quotient { (rel : Relation) (A B Q : System) → SameSteps A B → Quotient rel A Q →
+        Quotient rel B Q }
+    ensures reordered { (rel : Relation) (A Q R : System) → R.first ≡ Q.first →
+        R.states ≡ Q.states →
         IsPermutation R.transitions Q.transitions → Quotient rel A Q → Quotient rel A R }
-    ensures equivalent { (rel : Relation) (A B C : System) → SameSteps A B → Equivalent rel A C → Equivalent rel B C }
+    ensures equivalent { (rel : Relation) (A B C : System) → SameSteps A B → Equivalent rel A C →
+        Equivalent rel B C }
 {}

@@ -8,13 +8,16 @@ ghost use Rattle.theory.specs.Blocks.{OneBlock, Split, SameBlocks, After, Turns,
 
 /// All blocks have a Split.
 pub fn split_exists()
-    ensures { (rel : Relation) (A : System) (old : ℕ → ℕ) → IsSystem A → (new : ℕ → ℕ) × Split rel A old new }
+    ensures { (rel : Relation) (A : System) (old : ℕ → ℕ) → IsSystem A → (new : ℕ → ℕ)
+        × Split rel A old new }
 {}
 
 /// Some Split changes nothing, at most the n-th for n states; so the number of Splits made is one number.
 pub fn turns_exist()
-    ensures found { (rel : Relation) (A : System) → IsSystem A → (k : ℕ) × Turns rel A k × (k ≤ A.states) }
-    ensures unique { (rel : Relation) (A : System) (j k : ℕ) → Turns rel A j → Turns rel A k → j ≡ k }
+    ensures found { (rel : Relation) (A : System) → IsSystem A → (k : ℕ) × Turns rel A k
+        × (k ≤ A.states) }
+    ensures unique { (rel : Relation) (A : System) (j k : ℕ) → Turns rel A j →
+        Turns rel A k → j ≡ k }
 {}
 
 /// How refinement goes on: it begins with one block, has made fewer Splits than there are states as long as each
@@ -25,9 +28,11 @@ pub fn refinement_goes_on()
     ensures below { (rel : Relation) (A : System) (k : ℕ) (blocks : ℕ → ℕ) →
         IsSystem A → Underway rel A k blocks → k < A.states }
     ensures more { (rel : Relation) (A : System) (k : ℕ) (old new : ℕ → ℕ) →
-        IsSystem A → Underway rel A k old → Split rel A old new → ¬ SameBlocks A old new → Underway rel A (suc k) new }
+        IsSystem A → Underway rel A k old → Split rel A old new → ¬ SameBlocks A old new →
+        Underway rel A (suc k) new }
     ensures done { (rel : Relation) (A : System) (k : ℕ) (old new : ℕ → ℕ) →
-        IsSystem A → Underway rel A k old → Split rel A old new → SameBlocks A old new → Turns rel A (suc k) }
+        IsSystem A → Underway rel A k old → Split rel A old new → SameBlocks A old new →
+        Turns rel A (suc k) }
 {}
 
 /// After the first Split that changes nothing, two states share a block exactly when they are bisimilar.
@@ -39,7 +44,8 @@ pub fn final_blocks_are_bisimilarity()
 
 /// Bisimilarity of either relation is an equivalence on a system's states.
 pub fn bisimilarity_is_an_equivalence()
-    ensures reflexive { (rel : Relation) (A : System) (s : ℕ) → IsSystem A → s < A.states → Bisimilar rel A s A s }
+    ensures reflexive { (rel : Relation) (A : System) (s : ℕ) → IsSystem A → s < A.states →
+        Bisimilar rel A s A s }
     ensures symmetric { (rel : Relation) (A : System) (s t : ℕ) → IsSystem A →
         Bisimilar rel A s A t → Bisimilar rel A t A s }
     ensures transitive { (rel : Relation) (A : System) (s t u : ℕ) → IsSystem A →

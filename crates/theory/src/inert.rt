@@ -11,7 +11,8 @@ ghost use Rattle.theory.specs.Quotient.{ShowsNothing};
 /// A path of inert steps may be empty, and may be extended at either end.
 pub fn inert_steps_lead_on()
     ensures here { (A : System) (blocks : ℕ → ℕ) (s : ℕ) → Leads (Inert A blocks) s s }
-    ensures step { (A : System) (blocks : ℕ → ℕ) (s t : ℕ) → Inert A blocks s t → Leads (Inert A blocks) s t }
+    ensures step { (A : System) (blocks : ℕ → ℕ) (s t : ℕ) → Inert A blocks s t →
+        Leads (Inert A blocks) s t }
     ensures before { (A : System) (blocks : ℕ → ℕ) (s t u : ℕ) →
         Inert A blocks s t → Leads (Inert A blocks) t u → Leads (Inert A blocks) s u }
     ensures after { (A : System) (blocks : ℕ → ℕ) (s t u : ℕ) →
@@ -25,7 +26,8 @@ pub fn inert_steps_lead_on()
 /// A path of inert steps stays in one block and among the states. A property that each inert step keeps holds at the end of each
 /// path that begins with it.
 pub fn inert_steps_stay()
-    ensures block { (A : System) (blocks : ℕ → ℕ) (s t : ℕ) → Leads (Inert A blocks) s t → blocks t ≡ blocks s }
+    ensures block { (A : System) (blocks : ℕ → ℕ) (s t : ℕ) → Leads (Inert A blocks) s t →
+        blocks t ≡ blocks s }
     ensures below { (A : System) (blocks : ℕ → ℕ) (s t : ℕ) → IsSystem A →
         Leads (Inert A blocks) s t → s < A.states → t < A.states }
     ensures kept { (A : System) (blocks : ℕ → ℕ) (has : ℕ → Bool) →
@@ -38,20 +40,25 @@ pub fn inert_steps_stay()
 pub fn inert_steps_pass_signatures_back()
     ensures own { (A : System) (blocks : ℕ → ℕ) (s : ℕ) (a : List ℕ) (t : ℕ) → Step A s a t →
         ¬ ((a ≡ internal) × (blocks t ≡ blocks s)) → Signature Branching A blocks s a (blocks t) }
-    ensures step { (A : System) (blocks : ℕ → ℕ) (s t : ℕ) (a : List ℕ) (b : ℕ) → Inert A blocks s t →
+    ensures step { (A : System) (blocks : ℕ → ℕ) (s t : ℕ) (a : List ℕ) (b : ℕ) →
+        Inert A blocks s t →
         Signature Branching A blocks t a b → Signature Branching A blocks s a b }
-    ensures path { (A : System) (blocks : ℕ → ℕ) (s t : ℕ) (a : List ℕ) (b : ℕ) → Leads (Inert A blocks) s t →
+    ensures path { (A : System) (blocks : ℕ → ℕ) (s t : ℕ) (a : List ℕ) (b : ℕ) →
+        Leads (Inert A blocks) s t →
         Signature Branching A blocks t a b → Signature Branching A blocks s a b }
-    ensures only { (A : System) (blocks : ℕ → ℕ) (s : ℕ) (a : List ℕ) (b : ℕ) → Signature Branching A blocks s a b →
+    ensures only { (A : System) (blocks : ℕ → ℕ) (s : ℕ) (a : List ℕ) (b : ℕ) →
+        Signature Branching A blocks s a b →
         ((t : ℕ) × Step A s a t × (blocks t ≡ b) × ¬ ((a ≡ internal) × (b ≡ blocks s)))
         ⊎ ((t : ℕ) × Inert A blocks s t × Signature Branching A blocks t a b) }
-    ensures same { (A : System) (blocks : ℕ → ℕ) (s t : ℕ) → Leads (Inert A blocks) s t → Leads (Inert A blocks) t s →
+    ensures same { (A : System) (blocks : ℕ → ℕ) (s t : ℕ) → Leads (Inert A blocks) s t →
+        Leads (Inert A blocks) t s →
         SameSignature Branching A blocks s t }
 {}
 
 /// A state with no inert step makes each step of a bisimilar state that is not inert.
 pub fn states_without_inert_steps_show_all()
-    ensures { (rel : Relation) (A : System) (s t : ℕ) (a : List ℕ) (u : ℕ) → IsSystem A → Bisimilar rel A s A t →
+    ensures { (rel : Relation) (A : System) (s t : ℕ) (a : List ℕ) (u : ℕ) → IsSystem A →
+        Bisimilar rel A s A t →
         ((b : List ℕ) (v : ℕ) → Step A s b v → ¬ ShowsNothing rel A s b v) →
         Step A t a u → ¬ ShowsNothing rel A t a u → (v : ℕ) × Step A s a v × Bisimilar rel A u A v }
 {}

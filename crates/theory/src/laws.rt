@@ -8,7 +8,8 @@ ghost use Rattle.theory.specs.Blocks.{OneBlock, Kept, Split, Stable, Share};
 
 /// One block of all states is kept: what lies silently between two of its states is in it.
 pub fn one_block_is_kept()
-    ensures { (rel : Relation) (A : System) (blocks : ℕ → ℕ) → IsSystem A → OneBlock A blocks → Kept rel A blocks }
+    ensures { (rel : Relation) (A : System) (blocks : ℕ → ℕ) → IsSystem A → OneBlock A blocks →
+        Kept rel A blocks }
 {}
 
 /// The Split of kept blocks is kept.

@@ -12,7 +12,8 @@ ghost use Rattle.theory.specs.Quotient.{HowMany, Leader, IsLeader, Number, Quoti
 /// the first state that every step keeps holds of every reachable state.
 pub fn steps_keep_reachable()
     ensures first { (A : System) → Reachable A A.first }
-    ensures step { (A : System) (s : ℕ) (a : List ℕ) (t : ℕ) → Reachable A s → Step A s a t → Reachable A t }
+    ensures step { (A : System) (s : ℕ) (a : List ℕ) (t : ℕ) → Reachable A s →
+        Step A s a t → Reachable A t }
     ensures below { (A : System) (s : ℕ) → IsSystem A → Reachable A s → s < A.states }
     ensures kept { (A : System) (has : ℕ → Bool) → IsTrue (has A.first) →
         ((s : ℕ) (a : List ℕ) (t : ℕ) → IsTrue (has s) → Step A s a t → IsTrue (has t)) →
@@ -21,35 +22,44 @@ pub fn steps_keep_reachable()
 
 /// Two bisimilar leaders are one.
 pub fn leaders_differ()
-    ensures { (rel : Relation) (A : System) (l m : ℕ) → IsSystem A → IsLeader rel A l → IsLeader rel A m →
+    ensures { (rel : Relation) (A : System) (l m : ℕ) → IsSystem A → IsLeader rel A l →
+        IsLeader rel A m →
         Bisimilar rel A l A m → l ≡ m }
 {}
 
 /// How the leaders other than the first state are counted, state by state; with the first state they are all leaders.
 pub fn leaders_are_counted()
-    ensures none { (rel : Relation) (A : System) → HowMany (λ m. IsLeader rel A m × (m < 0) × (m ≢ A.first)) 0 }
-    ensures one { (rel : Relation) (A : System) (l c : ℕ) → IsSystem A → IsLeader rel A l → l ≢ A.first →
+    ensures none { (rel : Relation) (A : System) →
+        HowMany (λ m. IsLeader rel A m × (m < 0) × (m ≢ A.first)) 0 }
+    ensures one { (rel : Relation) (A : System) (l c : ℕ) → IsSystem A →
+        IsLeader rel A l → l ≢ A.first →
         HowMany (λ m. IsLeader rel A m × (m < l) × (m ≢ A.first)) c →
         HowMany (λ m. IsLeader rel A m × (m < l + 1) × (m ≢ A.first)) (c + 1) }
-    ensures same { (rel : Relation) (A : System) (l c : ℕ) → IsSystem A → ¬ (IsLeader rel A l × (l ≢ A.first)) →
+    ensures same { (rel : Relation) (A : System) (l c : ℕ) → IsSystem A →
+        ¬ (IsLeader rel A l × (l ≢ A.first)) →
         HowMany (λ m. IsLeader rel A m × (m < l) × (m ≢ A.first)) c →
         HowMany (λ m. IsLeader rel A m × (m < l + 1) × (m ≢ A.first)) c }
     ensures all { (rel : Relation) (A : System) (c : ℕ) → IsSystem A →
-        HowMany (λ m. IsLeader rel A m × (m < A.states) × (m ≢ A.first)) c → HowMany (IsLeader rel A) (1 + c) }
+        HowMany (λ m. IsLeader rel A m × (m < A.states) × (m ≢ A.first)) c →
+        HowMany (IsLeader rel A) (1 + c) }
 {}
 
 /// Each reachable state has a leader and a number, one of each.
 pub fn each_state_has_a_number()
-    ensures leader { (rel : Relation) (A : System) (s : ℕ) → IsSystem A → Reachable A s → (l : ℕ) × Leader rel A s l }
-    ensures one_leader { (rel : Relation) (A : System) (s l m : ℕ) → Leader rel A s l → Leader rel A s m → l ≡ m }
-    ensures number { (rel : Relation) (A : System) (s : ℕ) → IsSystem A → Reachable A s → (n : ℕ) × Number rel A s n }
+    ensures leader { (rel : Relation) (A : System) (s : ℕ) → IsSystem A → Reachable A s →
+        (l : ℕ) × Leader rel A s l }
+    ensures one_leader { (rel : Relation) (A : System) (s l m : ℕ) → Leader rel A s l →
+        Leader rel A s m → l ≡ m }
+    ensures number { (rel : Relation) (A : System) (s : ℕ) → IsSystem A → Reachable A s →
+        (n : ℕ) × Number rel A s n }
     ensures one_number { (rel : Relation) (A : System) (s m n : ℕ) → IsSystem A →
         Number rel A s m → Number rel A s n → m ≡ n }
 {}
 
 /// Two reachable states have one number exactly when they are bisimilar.
 pub fn numbers_are_classes()
-    ensures { (rel : Relation) (A : System) (s t m n : ℕ) → IsSystem A → Reachable A s → Reachable A t →
+    ensures { (rel : Relation) (A : System) (s t m n : ℕ) → IsSystem A →
+        Reachable A s → Reachable A t →
         Number rel A s m → Number rel A t n → (m ≡ n) ↔ Bisimilar rel A s A t }
 {}
 
@@ -57,7 +67,8 @@ pub fn numbers_are_classes()
 pub fn numbers_are_states()
     ensures below { (rel : Relation) (A Q : System) (s n : ℕ) → IsSystem A → Quotient rel A Q →
         Number rel A s n → n < Q.states }
-    ensures taken { (rel : Relation) (A Q : System) (n : ℕ) → IsSystem A → Quotient rel A Q → n < Q.states →
+    ensures taken { (rel : Relation) (A Q : System) (n : ℕ) → IsSystem A →
+        Quotient rel A Q → n < Q.states →
         (s : ℕ) × Reachable A s × Number rel A s n }
 {}
 
@@ -96,6 +107,7 @@ pub fn quotient_states_differ()
 
 /// No equivalent system has fewer states than the quotient.
 pub fn no_smaller_system()
-    ensures { (rel : Relation) (A Q B : System) → IsSystem A → IsSystem B → Quotient rel A Q → Equivalent rel A B →
+    ensures { (rel : Relation) (A Q B : System) → IsSystem A → IsSystem B → Quotient rel A Q →
+        Equivalent rel A B →
         Q.states ≤ B.states }
 {}

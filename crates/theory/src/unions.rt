@@ -16,15 +16,21 @@ pub fn the_union_is_a_system()
 /// States are bisimilar exactly when they are bisimilar in the union, where a state `t` of the second system is
 /// `A.states + t`. Each state is bisimilar to its place in the union.
 pub fn the_union_keeps_bisimilarity()
-    ensures across { (rel : Relation) (A B : System) (s t : ℕ) → IsSystem A → IsSystem B → s < A.states → t < B.states →
+    ensures across { (rel : Relation) (A B : System) (s t : ℕ) → IsSystem A → IsSystem B →
+        s < A.states → t < B.states →
         Bisimilar rel A s B t ↔ Bisimilar rel (union_of A B) s (union_of A B) (A.states + t) }
-    ensures first { (rel : Relation) (A B : System) (s t : ℕ) → IsSystem A → IsSystem B → s < A.states → t < A.states →
+    ensures first { (rel : Relation) (A B : System) (s t : ℕ) → IsSystem A → IsSystem B →
+        s < A.states → t < A.states →
         Bisimilar rel A s A t ↔ Bisimilar rel (union_of A B) s (union_of A B) t }
-    ensures second { (rel : Relation) (A B : System) (s t : ℕ) → IsSystem A → IsSystem B → s < B.states → t < B.states →
-        Bisimilar rel B s B t ↔ Bisimilar rel (union_of A B) (A.states + s) (union_of A B) (A.states + t) }
-    ensures in_first { (rel : Relation) (A B : System) (s : ℕ) → IsSystem A → IsSystem B → s < A.states →
+    ensures second { (rel : Relation) (A B : System) (s t : ℕ) → IsSystem A → IsSystem B →
+        s < B.states → t < B.states →
+        Bisimilar rel B s B t ↔ Bisimilar rel (union_of A B) (A.states + s) (union_of A B)
+        (A.states + t) }
+    ensures in_first { (rel : Relation) (A B : System) (s : ℕ) → IsSystem A →
+        IsSystem B → s < A.states →
         Bisimilar rel A s (union_of A B) s }
-    ensures in_second { (rel : Relation) (A B : System) (t : ℕ) → IsSystem A → IsSystem B → t < B.states →
+    ensures in_second { (rel : Relation) (A B : System) (t : ℕ) → IsSystem A →
+        IsSystem B → t < B.states →
         Bisimilar rel B t (union_of A B) (A.states + t) }
 {}
 
@@ -35,7 +41,8 @@ pub fn the_union_keeps_bisimilarity()
 pub fn the_union_decides_equivalence()
     ensures states { (A B U : System) → IsSystem A → IsSystem B → SameSteps U (union_of A B) →
         (A.first < U.states) × (A.states + B.first < U.states) }
-    ensures bisimilar { (rel : Relation) (A B U : System) → IsSystem A → IsSystem B → SameSteps U (union_of A B) →
+    ensures bisimilar { (rel : Relation) (A B U : System) → IsSystem A → IsSystem B →
+        SameSteps U (union_of A B) →
         Equivalent rel A B ↔ Bisimilar rel U A.first U (A.states + B.first) }
     ensures blocks { (rel : Relation) (A B U : System) (blocks : ℕ → ℕ) → IsSystem A → IsSystem B →
         SameSteps U (union_of A B) →
@@ -48,7 +55,8 @@ pub fn the_union_decides_equivalence()
 
 /// No property of two systems and their union here depends on the order of either list of transitions.
 pub fn the_order_does_not_matter_side_by_side()
-    ensures steps { (A B C D : System) → SameSteps A B → SameSteps C D → SameSteps (union_of A C) (union_of B D) }
+    ensures steps { (A B C D : System) → SameSteps A B → SameSteps C D →
+        SameSteps (union_of A C) (union_of B D) }
     ensures turns { (rel : Relation) (A B C D : System) (k : ℕ) → SameSteps A B → SameSteps C D →
         Turns rel (union_of A C) k → Turns rel (union_of B D) k }
     ensures equivalent { (rel : Relation) (A B C D : System) → SameSteps A B → SameSteps C D →

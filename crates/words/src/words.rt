@@ -247,8 +247,10 @@ fn min_of(alloc: Global, matches: &ArgMatches<'_>) -> Result<Job, WordFault>
 /// The job of the matches of `cmp`.
 fn cmp_of(alloc: Global, matches: &ArgMatches<'_>) -> Result<Job, WordFault>
     ensures job { IfOk result (HasMatches (codes "cmp") (rows_of (found_of matches.now))) }
-    ensures fault { let rows = rows_of (found_of matches.now) in IfErr result (IsFaultIn (Some (codes "cmp", rows))) }
-    ensures asked { IsWhole (codes "cmp") (rows_of (found_of matches.now)) → IfErr result IsFaultOfAJob }
+    ensures fault { let rows = rows_of (found_of matches.now) in
+        IfErr result (IsFaultIn (Some (codes "cmp", rows))) }
+    ensures asked { IsWhole (codes "cmp") (rows_of (found_of matches.now)) →
+        IfErr result IsFaultOfAJob }
 {
     let relation = relation_found(alloc, matches)?;
     let Some(first) = found(alloc, matches, "first")? else {
@@ -267,7 +269,8 @@ fn cmp_of(alloc: Global, matches: &ArgMatches<'_>) -> Result<Job, WordFault>
 
 /// The relation of the word that was found; `strong` if there is none.
 fn relation_found(alloc: Global, matches: &ArgMatches<'_>) -> Result<Relation, WordFault>
-    ensures ok { IfOk result (λ relation. relation_in (rows_of (found_of matches.now)) ≡ relation_word relation) }
+    ensures ok { IfOk result (λ relation. relation_in (rows_of (found_of matches.now))
+        ≡ relation_word relation) }
     ensures err { IfErr result (NamesNoRelation (relation_in (rows_of (found_of matches.now)))) }
 {
     relation_of(alloc, matches.get_str("relation").unwrap_or("strong"))
@@ -275,7 +278,8 @@ fn relation_found(alloc: Global, matches: &ArgMatches<'_>) -> Result<Relation, W
 
 /// A copy of the text that was found for `id`, if there is one.
 fn found(alloc: Global, matches: &ArgMatches<'_>, id: &str) -> Result<Option<String>, AllocError>
-    ensures { IfOk result (λ text. first_of id.now (rows_of (found_of matches.now)) ≡ option_map string_bytes text) }
+    ensures { IfOk result (λ text. first_of id.now (rows_of (found_of matches.now))
+        ≡ option_map string_bytes text) }
 {
     match matches.get_str(id) {
         Some(text) => Ok(Some(String::from_str(alloc, text)?)),

@@ -33,15 +33,20 @@ pub fn a_silent_choice()
     ensures system { IsSystem silent_choice }
     ensures apart { ¬ Bisimilar branching silent_choice 0 silent_choice 1 }
     ensures rounds { RefinesBy branching silent_choice (0 ∷ 0 ∷ [])
-        ((((a, 0) ∷ []) ∷ [] ∷ [], 0 ∷ 1 ∷ []) ∷ (((a, 1) ∷ (internal, 1) ∷ []) ∷ [] ∷ [], 0 ∷ 1 ∷ []) ∷ []) }
+        ((((a, 0) ∷ []) ∷ [] ∷ [], 0 ∷ 1 ∷ []) ∷ (
+          ((a, 1) ∷ (internal, 1) ∷ []) ∷ [] ∷ [],
+          0 ∷ 1 ∷ [],
+        ) ∷ []) }
 {}
 
 /// `silent-cycle`: the states of a cycle of silent steps are one state to branching bisimulation.
 pub fn a_silent_cycle()
     ensures system { IsSystem silent_cycle }
-    ensures branching { Branching silent_cycle silent_cycle ((0, 0) ∷ (0, 1) ∷ (1, 0) ∷ (1, 1) ∷ []) }
+    ensures branching { Branching silent_cycle silent_cycle
+        ((0, 0) ∷ (0, 1) ∷ (1, 0) ∷ (1, 1) ∷ []) }
     ensures strongly { ¬ Bisimilar strong silent_cycle 0 silent_cycle 1 }
-    ensures split { SplitsBy branching silent_cycle (0 ∷ 0 ∷ []) (((a, 0) ∷ []) ∷ ((a, 0) ∷ []) ∷ []) (0 ∷ 0 ∷ []) }
+    ensures split { SplitsBy branching silent_cycle (0 ∷ 0 ∷ [])
+        (((a, 0) ∷ []) ∷ ((a, 0) ∷ []) ∷ []) (0 ∷ 0 ∷ []) }
     ensures strong_split { SplitsBy strong silent_cycle (0 ∷ 0 ∷ [])
         (((internal, 0) ∷ []) ∷ ((internal, 0) ∷ (a, 0) ∷ []) ∷ []) (0 ∷ 1 ∷ []) }
 {}

@@ -36,8 +36,12 @@ pub fn quotient_of_first_leads()
 /// listed three times is in the quotient once. `unreachable-pair`: what is not reachable leaves nothing. `chain-of-three`:
 /// the system is its own quotient.
 pub fn strong_quotients()
-    ensures { AreQuotients Strong ((first_in_cycle, loop_of_a) ∷ (first_is_two, a_then_b) ∷ (two_equal_targets, only_a)
-        ∷ (written_twice, only_a) ∷ (unreachable_pair, lone_state) ∷ (chain_of_three, chain_of_three) ∷ []) }
+    ensures { AreQuotients Strong
+        ((first_in_cycle, loop_of_a) ∷ (first_is_two, a_then_b) ∷ (two_equal_targets, only_a)
+        ∷ (written_twice, only_a) ∷ (unreachable_pair, lone_state) ∷ (
+          chain_of_three,
+          chain_of_three,
+        ) ∷ []) }
 {}
 
 /// `silent-choice`: the silent step leads to another class, and stays. `silent-chain`: silent steps that give nothing up
@@ -64,7 +68,8 @@ pub fn quotient_of_silent_loop()
 pub fn quotient_of_silent_detour()
     ensures branching { QuotientIs Branching silent_detour a_then_b
         (0 ∷ 0 ∷ 1 ∷ 1 ∷ 1 ∷ 2 ∷ []) }
-    ensures strong { QuotientIs Strong silent_detour silent_detour_strong_quotient (0 ∷ 1 ∷ 2 ∷ 3 ∷ 3 ∷ 4 ∷ []) }
+    ensures strong { QuotientIs Strong silent_detour silent_detour_strong_quotient
+        (0 ∷ 1 ∷ 2 ∷ 3 ∷ 3 ∷ 4 ∷ []) }
 {}
 
 /// `hidden-step-goes` and `hidden-step-stays`: a hidden step goes in branching bisimulation and stays in strong.

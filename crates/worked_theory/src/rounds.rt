@@ -41,13 +41,17 @@ pub fn rounds_of_silent_chain()
 
 /// `cycle-signatures`: one Split, which changes nothing.
 pub fn rounds_of_silent_cycle()
-    ensures { RefinesBy Branching silent_cycle (0 ∷ 0 ∷ []) ((((a, 0) ∷ []) ∷ ((a, 0) ∷ []) ∷ [], 0 ∷ 0 ∷ []) ∷ []) }
+    ensures { RefinesBy Branching silent_cycle (0 ∷ 0 ∷ [])
+        ((((a, 0) ∷ []) ∷ ((a, 0) ∷ []) ∷ [], 0 ∷ 0 ∷ []) ∷ []) }
 {}
 
 /// `two-equal-targets`: two Splits.
 pub fn rounds_of_two_equal_targets()
     ensures { RefinesBy Strong two_equal_targets (0 ∷ 0 ∷ 0 ∷ [])
-        ((((a, 0) ∷ []) ∷ [] ∷ [] ∷ [], 0 ∷ 1 ∷ 1 ∷ []) ∷ (((a, 1) ∷ []) ∷ [] ∷ [] ∷ [], 0 ∷ 1 ∷ 1 ∷ []) ∷ []) }
+        ((((a, 0) ∷ []) ∷ [] ∷ [] ∷ [], 0 ∷ 1 ∷ 1 ∷ []) ∷ (
+          ((a, 1) ∷ []) ∷ [] ∷ [] ∷ [],
+          0 ∷ 1 ∷ 1 ∷ [],
+        ) ∷ []) }
 {}
 
 /// `lone-state`: one Split is made even if there is nothing to part.
@@ -100,5 +104,6 @@ pub fn rounds_of_not_committed()
 pub fn old_blocks_count()
     ensures strongly { Split Strong loop_and_rest (λ _. 0) (slice_index (0 ∷ 1 ∷ [])) }
     ensures branching { SplitsBy Branching loop_and_rest (0 ∷ 1 ∷ []) ([] ∷ [] ∷ []) (0 ∷ 1 ∷ []) }
-    ensures rounds { RefinesBy Branching loop_and_rest (0 ∷ 0 ∷ []) (([] ∷ [] ∷ [], 0 ∷ 0 ∷ []) ∷ []) }
+    ensures rounds { RefinesBy Branching loop_and_rest (0 ∷ 0 ∷ [])
+        (([] ∷ [] ∷ [], 0 ∷ 0 ∷ []) ∷ []) }
 {}
