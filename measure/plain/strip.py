@@ -18,7 +18,7 @@ from pathlib import Path
 
 HERE = Path(__file__).resolve().parent
 TOP, OUT = HERE.parents[1], HERE.parent / "out" / "plain"
-CRATES = "growth", "theory", "lts", "buckets", "lists", "inert", "partition", "rounds", "quotient"
+CRATES = "growth", "theory", "lts", "buckets", "lists", "inert", "partition", "rounds", "classes", "quotient"
 # What stands for what: the kit's words, and Rust's with the shim `kit`.
 REPLACED = (
     (r"^\s*ghost use [^;]*;\n", ""),

@@ -8,7 +8,7 @@ use theory::Relation;
 
 fn run(relation: Relation, file: &str) -> Result<(), String> {
     let bytes = std::fs::read(file).map_err(|error| error.to_string())?;
-    let system = text::read(&bytes)?;
+    let system = text::read(&bytes, &[])?;
     let mut labels = Labels::new(kit::Global);
     for label in &system.labels {
         labels.intern(label).map_err(|_| "a label that cannot be added")?;

@@ -6,7 +6,7 @@ ghost use Rattle.autfmt.specs.Outcomes.{ReadsTo, Refuses, Takes};
 ghost use Rattle.autfmt.specs.Stream.{AppendsBeginning, CountsFailure};
 ghost use Rattle.autfmt.specs.declared.fault.Fault.TheVariants.{Device, Memory};
 ghost use Rattle.autbis.specs.Comparisons.{CmpFails, ComparesTo, line_of};
-ghost use Rattle.autbis.specs.Runs.{Request, used};
+ghost use Rattle.autbis.specs.Runs.{asks, used};
 ghost use Rattle.autbis.specs.declared.compare.Side.TheVariants.{First, Run};
 
 use crate::reports::put_whole;
@@ -71,11 +71,7 @@ pub fn run_cmp<M: Meter, R1: Source, R2: Source, W: Sink>(
     requires fresh { IsFresh (M.counted m.old) }
 
     // What a verdict means, and which error comes when.
-    ensures outcome { let asked : Request = record {
-      relation = rel;
-      bounds = lim.now;
-      hidden = h.now;
-    } in
+    ensures outcome { let asked = asks rel lim.now h.now in
         let one = used R1.rest R1.failures a.old a.new in
         let other = used R2.rest R2.failures b.old b.new in
         let sink = used W.written W.failures w.old w.new in

@@ -2,7 +2,7 @@
 ghost use Rattle.std.specs.Prelude.{◌≡◌, IfErr};
 ghost use Rattle.lts.specs.Meter.{IsFresh};
 ghost use Rattle.autfmt.specs.Outcomes.{Takes};
-ghost use Rattle.autbis.specs.Runs.{Request, RunFails, RunsTo, used};
+ghost use Rattle.autbis.specs.Runs.{RunFails, RunsTo, asks, used};
 
 use autfmt::{Fault, Hidden, Limits, Sink, Source, read_hiding, write};
 use lts::{Counter, Lts, Meter};
@@ -41,11 +41,7 @@ pub fn run_min<M: Meter, R: Source, W: Sink>(
     requires fresh { IsFresh (M.counted m.old) }
 
     // What a success means, and which error comes when.
-    ensures outcome { let asked : Request = record {
-      relation = rel;
-      bounds = lim.now;
-      hidden = h.now;
-    } in
+    ensures outcome { let asked = asks rel lim.now h.now in
         let source = used R.rest R.failures r.old r.new in
         let sink = used W.written W.failures w.old w.new in
         Takes source.before source.after (λ text. RunsTo asked text source sink (M.counted m.new))

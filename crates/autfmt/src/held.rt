@@ -1,7 +1,7 @@
 //! The transitions that a reader holds: their labels in a table, and themselves by number.
 ghost use Rattle.std.specs.Prelude.{◌≡◌, ◌+◌, ◌<◌, ◌≤◌, ◌↔◌, [], length, IsTrue, IsSome, IfSome, IfNone, IfOk, OnOk, MatchResult};
 ghost use Rattle.theory.specs.System.{IsLabel};
-ghost use Rattle.lts.specs.declared.limits.TheConstants.{MOST_LABELS};
+ghost use Rattle.growth.specs.declared.limits.TheConstants.{MOST_LABELS};
 ghost use Rattle.autfmt.specs.declared.limits.TheConstants.{FILE_TRANSITIONS};
 ghost use Rattle.lts.specs.Labels.{IsNumber, Interns, Keeps};
 ghost use Rattle.autfmt.specs.Held.{AddsTriple};

@@ -1,7 +1,7 @@
 //! The labels that are to be hidden.
 ghost use Rattle.std.specs.Prelude.{◌≡◌, ℕ, ◌<◌, List, [], length, OnOk};
 ghost use Rattle.theory.specs.System.{IsLabel, hidden_label};
-ghost use Rattle.lts.specs.declared.limits.TheConstants.{MOST_LABELS};
+ghost use Rattle.growth.specs.declared.limits.TheConstants.{MOST_LABELS};
 ghost use Rattle.autfmt.specs.HideReadSoFar.{AddsLabel};
 
 use lts::{Labels, Memory};

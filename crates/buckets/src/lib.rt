@@ -3,6 +3,7 @@
 #![tactic(auto)]
 
 mod chains;
+mod hashing;
 
 ghost use Rattle.std.specs.Prelude.{◌≡◌, ℕ, ◌^◌, ◌++◌, ◌∷◌, ◌<◌, ◌≤◌, [], length, IfOk, OnOk, OnErr};
 ghost use Rattle.std.specs.List.{All};
@@ -11,8 +12,12 @@ ghost use Rattle.buckets.specs.Buckets.{tag_at, IsLast};
 pub use chains::bucket;
 use chains::{Entry, down, first_entry, put, take, widen};
 use growth::Memory;
+pub use hashing::hash;
 use std::alloc::Global;
 use std::marker::Model;
+
+/// The number that stands for none.
+pub const EMPTY: u32 = 0;
 
 /// The most numbers, with number 0.
 pub const MOST: usize = 0xFFFF_FFFF;

@@ -1,8 +1,11 @@
-//! The one error of every crate that grows something: there was no memory for it.
+//! What every crate that grows something shares: the one error, that there was no memory for it, and how far a system grows.
 #![tactic(auto)]
+
+mod limits;
 
 ghost use Rattle.std.specs.Prelude.{◌≡◌};
 
+pub use limits::{MOST_LABELS, MOST_STATES, MOST_TRANSITIONS};
 use std::alloc::{AllocError, AllocFailed};
 
 /// A growth was refused: there was no memory for it.

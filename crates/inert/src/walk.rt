@@ -2,7 +2,7 @@
 //! that it leads to is finished.
 ghost use Rattle.std.specs.Prelude.{◌≡◌, ◌↔◌, ℕ, ◌-◌, ◌<◌, ◌≤◌, [], length, slice_index, IsTrue, IfOk, OnOk};
 ghost use Rattle.std.specs.List.{All};
-ghost use Rattle.lts.specs.declared.limits.TheConstants.{MOST_STATES};
+ghost use Rattle.growth.specs.declared.limits.TheConstants.{MOST_STATES};
 ghost use Rattle.partition.specs.Blocks.{AreLive};
 ghost use Rattle.inert.specs.Search.{Search, stage_at, nothing, top, last, HasEnded, IsWoken, AreUnseen};
 ghost use Rattle.inert.specs.Moves.{with_stage, entered, Enters, LeadsOn, Follows, TakesStep, with_item, popped, CutsRoots};

@@ -12,7 +12,8 @@ use Rattle.std.proofs.lemmas.List.{append-nil, take_at, drop_at, length-append, 
 use Rattle.std.proofs.lemmas.List.Sums.{sum_by-append}
 use Rattle.std.proofs.lemmas.List.Sorted.{IsPermutation-refl, IsPermutation-cons, IsPermutation-trans, IsPermutation-middle, IsPermutation-sym, Contains-permutation, length_permutation, sum_by-IsPermutation}
 use Rattle.lists.specs.Lists.{pair_cmp, merged}
-use Rattle.lists.specs.Hashes.{hash_of, fingerprint_of}
+use Rattle.buckets.specs.Hashing.{hash_of}
+use Rattle.lists.specs.Hashes.{fingerprint_of}
 use Rattle.lists.specs.Extended.{ShareNone, IsSortedFrom}
 use Rattle.lists.specs.Unions.{Unites}
 use Rattle.lists.proofs.Pairs.{pair_total, pair_Decides}

@@ -5,7 +5,8 @@ use Rattle.std.specs.List.{sum_by}
 use Rattle.std.proofs.lemmas.Bool.Decides.{Decides-eqb, Decides-and, Decides-like}
 use Rattle.std.proofs.lemmas.List.Sums.{sum_by_more}
 use Rattle.lists.specs.declared.nodes.Halves.{Halves}
-use Rattle.lists.specs.Hashes.{hash_of, fingerprint_of}
+use Rattle.buckets.specs.Hashing.{hash_of}
+use Rattle.lists.specs.Hashes.{fingerprint_of}
 use Rattle.lists.specs.Lists.{list_at}
 use Rattle.lists.specs.Cuts.{IsCut, IsUnder, IsOver}
 use Rattle.lists.specs.Nodes.{IsHalved, AreStored, AreIn}

@@ -1,12 +1,8 @@
--- Hashes of pairs and of lists.
-use Rattle.std.specs.Prelude.{ℕ, ◌+◌, ◌*◌, ◌/◌, ◌%◌, ◌^◌, List}
-use Rattle.std.specs.Int.Bits.{bit_xor}
+-- Hashes of lists.
+use Rattle.std.specs.Prelude.{ℕ, ◌*◌, ◌/◌, ◌%◌, ◌^◌, List}
 use Rattle.std.specs.List.{sum_by}
-use Rattle.lists.specs.declared.hashes.TheConstants.{FIRST_FACTOR, SUM_FACTOR, TAG_FACTOR}
-
--- the hash of two numbers: both halves of a product, one put over the other
-abbrev pub hash_of : ℕ × ℕ → ℕ
-hash_of p = let product = (p.0 * FIRST_FACTOR % 2 ^ 64 + p.1) % 2 ^ 64 * SUM_FACTOR in bit_xor (product % 2 ^ 64) (product / 2 ^ 64)
+use Rattle.buckets.specs.Hashing.{hash_of}
+use Rattle.lists.specs.declared.hashes.TheConstants.{TAG_FACTOR}
 
 -- the fingerprint of a list: the sum of the hashes of its pairs
 abbrev pub fingerprint_of : List (ℕ × ℕ) → ℕ

@@ -3,7 +3,8 @@ ghost use Rattle.std.specs.Prelude.{◌≡◌, ◌++◌, ◌∷◌, ◌+◌, ◌
 ghost use Rattle.lists.specs.Extended.{parts_of, no_slot, kept_in, kept_at};
 ghost use Rattle.lists.specs.declared.nodes.TheConstants.{FEW, MOST_LISTS};
 
-use crate::nodes::{EMPTY, make_room};
+use crate::nodes::make_room;
+use buckets::EMPTY;
 use growth::Memory;
 use std::alloc::Global;
 use std::marker::Model;

@@ -3,8 +3,8 @@ ghost use Rattle.std.specs.Prelude.{◌≡◌, ◌⊎◌, ℕ, ◌<◌, map, len
 ghost use Rattle.std.specs.List.{All, Contains};
 ghost use Rattle.lists.specs.Known.{no_entry, noted_union, HasPlaces, IsNone};
 
-use crate::hashes::{hash, mix};
-use buckets::bucket;
+use crate::hashes::mix;
+use buckets::{bucket, hash};
 use growth::Memory;
 use std::alloc::Global;
 use std::marker::Model;

@@ -13,7 +13,7 @@
 //! distinct       a base that is asked for again has the number that it had
 //!   hashed       how it is found, by its tag
 //! nodes          how each base is kept: whole, or by its halves
-//! cut, hashes                  where a list is cut; hashes of pairs and of lists
+//! cut, hashes                  where a list is cut; hashes of lists
 //! ordered, marked              pairs in order, by marks if they are many
 //! ```
 //!
@@ -35,8 +35,8 @@ mod numbered;
 mod ordered;
 mod unions;
 
+pub use buckets::EMPTY;
 pub use hashed::list_bucket;
-pub use hashes::hash;
 pub use lists::Lists;
-pub use nodes::{EMPTY, MOST_LISTS};
+pub use nodes::MOST_LISTS;
 pub use ordered::order;

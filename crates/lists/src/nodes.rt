@@ -10,9 +10,6 @@ use growth::Memory;
 use std::alloc::Global;
 use std::marker::Model;
 
-/// The number of the empty list: the lowest one.
-pub const EMPTY: u32 = 0;
-
 /// The most lists, so that each has a number.
 pub const MOST_LISTS: usize = 0xFFFF_FFFF;
 

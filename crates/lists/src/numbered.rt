@@ -10,9 +10,9 @@ use crate::cut::fit;
 use crate::distinct::Distinct;
 use crate::hashes::{are_same, fingerprint, mix};
 use crate::kept::{Extension, Kept};
-use crate::nodes::{EMPTY, FEW};
+use crate::nodes::FEW;
 use crate::unions::with;
-use buckets::Buckets;
+use buckets::{Buckets, EMPTY};
 use growth::Memory;
 
 /// The fingerprint of the list.

@@ -10,8 +10,9 @@ ghost use Rattle.lists.specs.Unions.{Unites, IsUnion, AreUnions, IsSplit, AreSpl
 use crate::cut::{cut, fit, key};
 use crate::distinct::Distinct;
 use crate::known::Known;
-use crate::nodes::{EMPTY, FEW, Halves, Shape};
+use crate::nodes::{FEW, Halves, Shape};
 use crate::ordered::{append_merged, has_all};
+use buckets::EMPTY;
 use growth::Memory;
 
 /// The pairs below the cut, and those from it on.

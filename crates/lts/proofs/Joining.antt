@@ -7,7 +7,7 @@ use Rattle.std.proofs.lemmas.List.{length-append, length-map, length_push, appen
 use Rattle.std.proofs.lemmas.List.Elements.{All-map, All-head, All-tail, All-push, All-weaker, Contains-push, Contains-append_left}
 use Rattle.theory.specs.System.{System, Transition, IsAmong}
 use Rattle.theory.specs.Union.{shifted, union_of}
-use Rattle.lts.specs.declared.limits.TheConstants.{MOST_STATES}
+use Rattle.growth.specs.declared.limits.TheConstants.{MOST_STATES}
 use Rattle.lts.specs.Labels.{text_of, IsNumber, IsTable, Keeps, Interns}
 use Rattle.lts.specs.Lts.{Triple, source_of, label_of, target_of, row_of, before, place_at, transition_of, system_of, grouped, IsTriple, IsRow, IsLts, IsCarried, Grouped}
 use Rattle.lts.specs.Joining.{IsJoined, AddsShifted}

@@ -8,7 +8,7 @@ use Rattle.std.proofs.lemmas.List.{length-map, length_push, map_push, get_or_pus
 use Rattle.std.proofs.lemmas.List.Elements.{All-push, All-get_or, Contains-get_or}
 use Rattle.std.proofs.lemmas.List.Quantifiers.{position-Some}
 use Rattle.theory.specs.System.{IsLabel}
-use Rattle.lts.specs.declared.limits.TheConstants.{MOST_LABELS}
+use Rattle.growth.specs.declared.limits.TheConstants.{MOST_LABELS}
 use Rattle.lts.specs.Labels.{text_of, IsNumber, IsTable}
 
 -- a search in a mapped list is a search by the mapped test

@@ -2,7 +2,7 @@
 use Rattle.std.specs.Prelude.{◌≡◌, ℕ, ◌<◌, ◌≤◌, List, ◌++◌, length, map}
 use Rattle.std.specs.List.{All, Contains}
 use Rattle.theory.specs.System.{Transition}
-use Rattle.lts.specs.declared.limits.TheConstants.{MOST_STATES}
+use Rattle.growth.specs.declared.limits.TheConstants.{MOST_STATES}
 use Rattle.theory.specs.Union.{shifted}
 use Rattle.lts.specs.Lts.{Triple, label_of, transition_of, IsTriple}
 

@@ -1,7 +1,7 @@
 -- The label table: a list of texts. A label's number is its place in the list.
 use Rattle.std.specs.Prelude.{◌≡◌, ◌⊎◌, ℕ, ◌<◌, ◌≤◌, List, [], ◌∷◌, ◌++◌, length}
 use Rattle.std.specs.List.{All, Contains, slice_index_or}
-use Rattle.lts.specs.declared.limits.TheConstants.{MOST_LABELS}
+use Rattle.growth.specs.declared.limits.TheConstants.{MOST_LABELS}
 use Rattle.theory.specs.System.{IsLabel}
 
 -- the text of the label number k

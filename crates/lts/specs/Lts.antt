@@ -3,7 +3,7 @@ use Rattle.std.specs.Prelude.{◌≡◌, ◌↔◌, ℕ, ◌+◌, ◌<◌, ◌�
 use Rattle.std.specs.List.{All, Contains, slice_index_or, slice_range, filter, flat_map, range_with_len}
 use Rattle.std.specs.List.Sorted.{IsNonDecreasingBy, IsPermutation}
 use Rattle.theory.specs.System.{System, Transition, IsSystem}
-use Rattle.lts.specs.declared.limits.TheConstants.{MOST_STATES, MOST_TRANSITIONS}
+use Rattle.growth.specs.declared.limits.TheConstants.{MOST_STATES, MOST_TRANSITIONS}
 use Rattle.lts.specs.Labels.{IsTable, text_of}
 
 -- a transition by number: its source, the number of its label, its target

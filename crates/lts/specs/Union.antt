@@ -1,6 +1,6 @@
 -- Which systems can be joined in memory. Their union is a word of `theory`.
 use Rattle.std.specs.Prelude.{◌+◌, ◌≤◌, length}
-use Rattle.lts.specs.declared.limits.TheConstants.{MOST_STATES, MOST_TRANSITIONS}
+use Rattle.growth.specs.declared.limits.TheConstants.{MOST_STATES, MOST_TRANSITIONS}
 use Rattle.lts.specs.Lts.{Grouped}
 
 -- the two systems together have a place in memory

@@ -7,10 +7,9 @@ ghost use Rattle.lts.specs.Union.{FitTogether};
 ghost use Rattle.lts.specs.Joining.{IsJoined, AddsShifted};
 
 use crate::labels::Labels;
-use crate::limits::{MOST_STATES, MOST_TRANSITIONS};
 use crate::lts::Lts;
 use crate::meter::Meter;
-use growth::Memory;
+use growth::{MOST_STATES, MOST_TRANSITIONS, Memory};
 use std::alloc::Global;
 
 /// Whether the two systems together stay within the limits of a system in memory.

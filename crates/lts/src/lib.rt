@@ -7,7 +7,6 @@
 mod disjoint;
 mod grouping;
 mod labels;
-mod limits;
 mod lts;
 mod meter;
 mod rising_rows;
@@ -18,9 +17,8 @@ mod visiting;
 
 pub use disjoint::{fits_together, union};
 pub use grouping::by_source;
-pub use growth::Memory;
+pub use growth::{MOST_LABELS, MOST_STATES, MOST_TRANSITIONS, Memory};
 pub use labels::{Labels, is_label};
-pub use limits::{MOST_LABELS, MOST_STATES, MOST_TRANSITIONS};
 pub use lts::{Lts, in_range};
 pub use meter::{Counter, Meter};
 pub use row_laws::{rows_are_steps, rows_follow};

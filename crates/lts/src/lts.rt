@@ -5,10 +5,9 @@ ghost use Rattle.lts.specs.Lts.{label_of, target_of, row_of, place_at, system_fr
 ghost use Rattle.lts.specs.Rows.{pair_of};
 
 use crate::labels::Labels;
-use crate::limits::{MOST_STATES, MOST_TRANSITIONS};
 use crate::meter::Meter;
 use crate::transitions::Transitions;
-use growth::Memory;
+use growth::{MOST_STATES, MOST_TRANSITIONS, Memory};
 use std::alloc::Global;
 use std::marker::{Model, PhantomData};
 use std::rc::Rc;

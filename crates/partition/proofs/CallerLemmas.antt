@@ -1,2 +1,3 @@
 -- What proofs of other crates cite of this one: they name no other file of it.
 pub use Rattle.partition.proofs.Renumbering.{one_block}
+pub use Rattle.partition.proofs.Hinting.{one_in, in_one, one_stays, live_rising}

@@ -1,6 +1,6 @@
 -- A partition of the states 0, 1, .. into blocks: the list has the number of each state's block.
 use Rattle.std.specs.Prelude.{◌≡◌, ℕ, ◌<◌, ◌≤◌, List, length, slice_index}
-use Rattle.lts.specs.declared.limits.TheConstants.{MOST_STATES}
+use Rattle.growth.specs.declared.limits.TheConstants.{MOST_STATES}
 
 -- blocks are numbered from 0 in the order of their least members, and there are so many: each state's block is below the
 -- count, each number below it is used, and before a state stand states of every block with a smaller number

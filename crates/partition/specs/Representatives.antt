@@ -6,7 +6,7 @@ use Rattle.std.specs.Prelude.{◌≡◌, ◌⊎◌, ℕ, ◌+◌, ◌-◌, ◌/�
 use Rattle.partition.specs.declared.splitter.Representative.{Representative}
 use Rattle.partition.specs.Blocks.{IsOne}
 use Rattle.buckets.specs.Chains.{bucket_of_tag, IsChained}
-use Rattle.lists.specs.Hashes.{hash_of}
+use Rattle.buckets.specs.Hashing.{hash_of}
 
 -- an old block and the number of a list
 abbrev pub Key : Type 0

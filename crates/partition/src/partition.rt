@@ -1,6 +1,6 @@
 //! A partition of the states 0, 1, .. into blocks, which are numbered in the order of their least members.
 ghost use Rattle.std.specs.Prelude.{◌≡◌, ℕ, ◌<◌, ◌≤◌, length, slice_index, IfOk};
-ghost use Rattle.lts.specs.declared.limits.TheConstants.{MOST_STATES};
+ghost use Rattle.growth.specs.declared.limits.TheConstants.{MOST_STATES};
 ghost use Rattle.partition.specs.Partition.{IsPartition, IsSomePartition};
 
 use growth::Memory;

@@ -1,18 +1,3 @@
--- both relations
 pub mod Visible
--- lists
-pub mod Lists
-pub mod Repeats
--- reachability
-pub mod Reaching
--- numbers
-pub mod Classes
--- the quotient
-pub mod Rows
-pub mod Members
-pub mod Stopping
-pub mod Quotients
-pub mod WholeRows
 pub mod Visits
--- the comparison
 pub mod Unions

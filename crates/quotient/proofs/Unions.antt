@@ -1,6 +1,5 @@
--- The union of two systems in memory: its sizes, and what the blocks of two states tell.
-use Rattle.std.proofs.Common.{◌≡◌, ◌∙◌, ◌↔◌, ℕ, ◌+◌, eqb, IsTrue, length, map, sym, ap, arith}
-use Rattle.std.proofs.lemmas.Bool.{eqb-true, eq-eqb}
+-- The union of two systems in memory: its sizes.
+use Rattle.std.proofs.Common.{◌≡◌, ◌+◌, length, map, ap, arith}
 use Rattle.std.proofs.lemmas.List.{length-append, length-map}
 use Rattle.theory.specs.Union.{union_of, shifted}
 use Rattle.lts.specs.Lts.{Grouped, transition_of, system_of}
@@ -18,10 +17,3 @@ module _ (a b u : Grouped) (same : system_of u ≡ union_of (system_of a) (syste
       let moved = length-map (system_of b).transitions (shifted a.states) in
       let joined = length-append (system_of a).transitions in
       omega (arith, all, own, first, second, moved, joined (map (shifted a.states) (system_of b).transitions))
-
--- that two numbers are equal tells what it tells of those that they are
-pub same_decides : {P : Type 0} (x y first second : ℕ) → x ≡ first → y ≡ second → P ↔ (first ≡ second) → IsTrue (eqb x y) ↔ P
-same_decides x y first second ex ey law = (
-  λ e. law.1 (sym ex ∙ (eqb-true x y e ∙ ey)),
-  λ p. eq-eqb x y (ex ∙ (law.0 p ∙ sym ey)),
-)

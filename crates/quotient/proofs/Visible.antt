@@ -10,7 +10,8 @@ use Rattle.theory.proofs.CallerLemmas.{strong_is_branching, branching_is_strong,
 use Rattle.lts.specs.Labels.{IsNumber}
 use Rattle.lts.specs.Lts.{Grouped, system_of}
 use Rattle.lts.specs.Meter.{Counts}
-use Rattle.quotient.specs.Reading.{AreClasses, AreRoundsOf}
+use Rattle.classes.specs.Numbers.{AreClasses}
+use Rattle.quotient.specs.Rounds.{AreRoundsOf}
 use Rattle.quotient.specs.Visits.{TakesTurns}
 
 module _ (A : System) (none : (s t : ℕ) → ¬ Internal A s t) where

@@ -38,21 +38,6 @@ on_ok_le : {T E : Type 0} (result : Result T E) (n : ℕ) → on_ok result n ≤
 on_ok_le (Ok x) n = omega arith
 on_ok_le (Err e) n = omega arith
 
--- visits without a round, and others after them
-pub visits_then : (old mid new : Counts) (first second : ℕ) → Costs old mid 0 0 first → Costs mid new 0 0 second → Costs old new 0 0 (first + second)
-visits_then old mid new first second before after = record {
-  rounds = omega (arith, before.rounds, after.rounds);
-  at_least = omega (arith, before.at_least, after.at_least);
-  at_most = omega (arith, before.at_most, after.at_most);
-}
-
-pub visits_at_most : (old new : Counts) (few most : ℕ) → few ≤ most → Costs old new 0 0 few → Costs old new 0 0 most
-visits_at_most old new few most low h = record {
-  rounds = h.rounds;
-  at_least = h.at_least;
-  at_most = omega (arith, low, h.at_most);
-}
-
 -- the rounds of one refinement, and then the transitions at most twice, keep to the bounds
 pub turns_keep : {T E : Type 0} (result : Result T E) (rel : Relation) (l : Grouped) (old mid at : Counts) (more : ℕ) → more ≤ 2 * length l.places →
     IsFresh old → TakesTurns rel l old mid → Costs mid at 0 0 more → KeepsTo l.states (length l.places) 2 at (on_ok result (at.rounds * length l.places))

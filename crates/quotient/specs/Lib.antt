@@ -1,8 +1,4 @@
 -- public words
-pub mod Marked
 pub mod Visits
 -- private ones
-pub mod Search
-pub mod Reading
-pub mod Numbers
-pub mod Triples
+pub mod Rounds

@@ -1,5 +1,4 @@
-//! The smallest system: which states are reachable, and the quotient, with a state for each class of bisimilar states.
-//! Also whether two systems are equivalent.
+//! The smallest system that is equivalent to another one, and whether two systems are equivalent.
 //!
 //! A call fails, with `Memory`, only if a growth is refused.
 #![tactic(auto)]
@@ -7,13 +6,10 @@
 mod allowance;
 mod comparison;
 mod minimisation;
-mod numbering;
 mod relation;
-mod search;
-mod triples;
 
 pub use allowance::visits_are_within_the_allowance;
+pub use classes::reachable;
 pub use comparison::equivalent;
 pub use minimisation::minimise;
-pub use search::reachable;
 pub use theory::Relation;

@@ -1,19 +1,15 @@
 //! The smallest system: one state for each class of bisimilar reachable states.
-ghost use Rattle.std.specs.Prelude.{◌≡◌, ◌↔◌, ℕ, ◌*◌, ◌<◌, ◌≤◌, length, IfOk, OnOk};
-ghost use Rattle.theory.specs.System.{System, IsSystem, Reachable};
+ghost use Rattle.std.specs.Prelude.{◌≡◌, ℕ, ◌*◌, ◌≤◌, length, IfOk, OnOk};
+ghost use Rattle.theory.specs.System.{System, IsSystem};
 ghost use Rattle.theory.specs.Bisimulation.{Bisimilar, Equivalent};
 ghost use Rattle.theory.specs.Blocks.{Turns};
 ghost use Rattle.theory.specs.Quotient.{Quotient};
-ghost use Rattle.lts.specs.Meter.{IsFresh, HasRoomFor, Costs, on_ok};
+ghost use Rattle.lts.specs.Meter.{IsFresh, on_ok};
 ghost use Rattle.lts.specs.Lts.{system_of};
 ghost use Rattle.quotient.specs.Visits.{KeepsTo};
-ghost use Rattle.quotient.specs.Marked.{IsMarked};
-ghost use Rattle.quotient.specs.Numbers.{IsNumbering};
 
-use crate::numbering::{Numbering, number};
-use crate::search::reachable;
-use crate::triples::{by_number, shown_transitions};
 use crate::{Relation, relation};
+use classes::{number, quotient_of, reachable};
 use lts::{Counter, Lts, Memory, Meter};
 use std::alloc::Global;
 
@@ -55,43 +51,4 @@ pub fn minimise<M: Meter>(
     let reached = reachable(alloc, l, m)?;
     let numbering = number(alloc, l, blocks, &reached)?;
     quotient_of(alloc, l, r, &numbering, &reached, m)
-}
-
-/// The quotient, once the reachable states have their numbers.
-fn quotient_of<M: Meter>(
-    alloc: Global,
-    l: &Lts<M>,
-    r: Relation,
-    numbering: &Numbering,
-    reached: &[bool],
-    m: &mut M,
-) -> Result<Lts<Counter>, Memory>
-    requires numbering { IsNumbering r (system_of l.now) numbering.now }
-    requires reached_long { length reached.now ≡ l.now.states }
-    requires reached { (s : ℕ) → s < l.now.states → IsMarked reached.now s
-        ↔ Reachable (system_of l.now) s }
-    requires room { HasRoomFor (M.counted m.old) 0 (length l.now.places) }
-    ensures quotient { IfOk result (λ q. Quotient r (system_of l.now) (system_of q)) }
-    ensures fewer_transitions { IfOk result (λ q. length q.places ≤ length l.now.places) }
-    ensures visits { Costs (M.counted m.old) (M.counted m.new) 0 0 (length l.now.places) }
-{
-    l.known();
-    lts::rows_are_steps();
-    lts::rows_follow();
-    theory::steps_keep_reachable();
-    theory::each_state_has_a_number();
-    theory::numbers_are_classes();
-    theory::numbers_are_states();
-    theory::states_without_inert_steps_show_all();
-    let sources = relation::sources(r, &numbering.leads, reached);
-    let dropped = relation::dropped(r, l.labels());
-    let members = by_number(
-        alloc,
-        l.states(),
-        &numbering.numbers,
-        numbering.count,
-        sources,
-    )?;
-    let shown = shown_transitions(alloc, l, &numbering.numbers, &members, dropped, m)?;
-    Lts::over(l, 0, numbering.count, shown)
 }

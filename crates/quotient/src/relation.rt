@@ -1,9 +1,9 @@
-//! What differs between the two relations: the refinement, the rows that the quotient is read from, and the label that it
-//! leaves out.
+//! The refinement, by either relation.
 ghost use Rattle.std.specs.Prelude.{◌≡◌, ◌*◌, length, IfOk, OnOk, OnErr};
 ghost use Rattle.lts.specs.Meter.{HasRoomFor, CostsUpTo};
 ghost use Rattle.quotient.specs.Visits.{TakesTurns};
-ghost use Rattle.quotient.specs.Reading.{AreClasses, AreRoundsOf, sources_of, IsDroppedLabel};
+ghost use Rattle.quotient.specs.Rounds.{AreRoundsOf};
+ghost use Rattle.classes.specs.Numbers.{AreClasses};
 
 use lts::{Labels, Lts, Memory, Meter};
 use rounds::{Branching, Partition, Strong, refine};
@@ -43,26 +43,5 @@ fn rounds_by(r: Relation, labels: &Labels) -> Relation
     match labels.internal() {
         Some(_) => r,
         None => Relation::Strong,
-    }
-}
-
-/// The states whose rows show every transition of the quotient, of those that lead their classes and those that are
-/// reachable.
-pub(crate) fn sources<'a>(r: Relation, leads: &'a [bool], reached: &'a [bool]) -> &'a [bool]
-    ensures { result.now ≡ sources_of r leads.now reached.now }
-{
-    match r {
-        Relation::Strong => leads,
-        Relation::Branching => reached,
-    }
-}
-
-/// The number of the label that the quotient leaves out between equal numbers, if there is one.
-pub(crate) fn dropped(r: Relation, labels: &Labels) -> Option<u32>
-    ensures { IsDroppedLabel r labels.now result }
-{
-    match r {
-        Relation::Strong => None,
-        Relation::Branching => labels.internal(),
     }
 }

@@ -39,7 +39,7 @@ put_whole rel l p s list (inr x) = empty rel x.0
     })
     empty Branching still = absurd still
 
--- where nothing is noted and all numbers are new, the split is given the signatures
+-- where there is no index and all numbers are new, the split is given the signatures
 pub signs_whole : (rel : Relation) (l : Grouped) (p r : Signed) → SignsEach rel l p r → p.watch ≡ Nothing → r.blocks.low ≡ 0
     → (s : ℕ) → IsOne r.blocks.live s → s < l.states → IsSignature rel l r.blocks.of s (list_of r.lists r.numbers s)
 signs_whole Strong l p r put nothing low s one h =

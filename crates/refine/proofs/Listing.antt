@@ -1,5 +1,5 @@
 -- The lists of spans: the empty one alone, and one list more at the end of the buffer.
-use Rattle.std.proofs.Common.{◌≡◌, ◌∙◌, ℕ, ◌+◌, ◌<◌, List, [], ◌∷◌, ◌++◌, length, take, ap, refl, sym, subst, arith}
+use Rattle.std.proofs.Common.{◌≡◌, ◌∙◌, ℕ, ◌+◌, ◌<◌, List, [], ◌∷◌, ◌++◌, length, ap, refl, sym, subst, arith}
 use Rattle.std.specs.List.{All, slice_range}
 use Rattle.std.specs.List.Sorted.{IsStrictlySortedBy}
 use Rattle.std.proofs.lemmas.List.{length-append, map-append, get_or_append_left}
@@ -18,11 +18,6 @@ AreSpans-first = record {
   few = omega arith;
   first = refl;
 }
-
--- the first span is that of no pairs
-pub spans-cleared : (pairs : List (ℕ × ℕ)) (spans : List Span) → AreSpans pairs spans → take 1 spans ≡ no_pairs ∷ []
-spans-cleared pairs [] are = absurd (let some = are.some in omega arith)
-spans-cleared pairs (x ∷ xs) are = ap (λ x. x ∷ []) are.first
 
 -- more pairs at the end of the buffer change no list
 module _ (pairs more : List (ℕ × ℕ)) where

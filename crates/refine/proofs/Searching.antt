@@ -5,7 +5,7 @@ use Rattle.std.specs.List.Sorted.{IsStrictlySortedBy}
 use Rattle.std.proofs.lemmas.Bool.{cases_lt, cases_eq, eq-eqb, ne_eqb, false_from_ne_true}
 use Rattle.std.proofs.lemmas.List.{length-set, length_push, get_or_append_left, get_or_push, get_or-set_same, get_or-set_other, drop-append-le}
 use Rattle.std.proofs.lemmas.List.Elements.{All-weaker, All-contains, Contains-push, Contains-push_cases, Contains-append_left}
-use Rattle.std.proofs.lemmas.List.Sums.{sum_by-cons, sum_by_push}
+use Rattle.std.proofs.lemmas.List.Sums.{sum_by_push}
 use Rattle.theory.specs.System.{System, Step, Leads, internal}
 use Rattle.theory.specs.declared.relation.Relation.TheVariants.{Branching}
 use Rattle.theory.specs.Blocks.{Inert}
@@ -18,8 +18,9 @@ use Rattle.inert.specs.Steps.{Under, IsInert, IsStep}
 use Rattle.inert.specs.Search.{Ties, Laws}
 use Rattle.inert.specs.declared.step.Step.{Step as RowStep}
 use Rattle.inert.specs.declared.step.Step.TheVariants.{Inert as Goes, Shows}
-use Rattle.rounds.specs.Noting.{AreMarked, IsUnmarked, marked_weight}
-use Rattle.rounds.proofs.CallerLemmas.{none_marked, marked_more, in_one}
+use Rattle.rounds.specs.Index.{AreMarked, IsUnmarked}
+use Rattle.partition.proofs.CallerLemmas.{in_one}
+use Rattle.rounds.proofs.CallerLemmas.{none_marked, marked_more}
 use Rattle.refine.specs.Search.{Found, WasFound, Reaches, TakesUp, IsTaken, FindsFrom, apart, places_left}
 
 -- a state that was found is set: its row alone is no more apart
@@ -268,17 +269,3 @@ module _ (u : Under) (s : ℕ) (laws : Laws) (marked : List Bool) (below : s < l
   ahead_first =
       reaches_ahead u.l.places s none new below reaches 0 (omega arith)
       ∙ omega (arith, ap (λ (xs : List Triple). length xs) (filter-whole (λ (e : Triple). not (slice_index_or marked (source_of e) false)) u.l.places (λ k d h. ap not (false_from_ne_true _ (off _)))))
-
--- there are at most as many states that were found as there are marks
-ones : (found : List ℕ) → sum_by (λ s. 1) found ≡ length found
-ones [] = refl
-ones (s ∷ found) = omega (arith, sum_by-cons (λ t. 1) s found, ones found)
-
-marks_few : (marks : List Bool) → marked_weight (λ s. 1) marks ≤ length marks
-unfolding marked_weight
-marks_few [] = omega arith
-marks_few (true ∷ marks) = omega (arith, marks_few marks)
-marks_few (false ∷ marks) = omega (arith, marks_few marks)
-
-pub found_few : (marks : List Bool) (found : List ℕ) → AreMarked marks found → length found ≤ length marks
-found_few marks found are = omega (arith, are.once (λ s. 1), ones found, marks_few marks)

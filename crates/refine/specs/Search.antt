@@ -8,7 +8,7 @@ use Rattle.inert.specs.Steps.{Under, IsInert}
 use Rattle.inert.specs.Search.{Ties}
 use Rattle.inert.specs.declared.step.Step.{Step}
 use Rattle.inert.specs.declared.step.Step.TheVariants.{Inert, Shows}
-use Rattle.rounds.specs.Noting.{AreMarked, IsUnmarked}
+use Rattle.rounds.specs.Index.{AreMarked, IsUnmarked}
 
 -- whether each state was found, the states that were, in their order, and the pairs that were collected
 pub record Found : Type 0 where

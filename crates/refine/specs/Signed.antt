@@ -3,7 +3,7 @@ use Rattle.std.specs.Prelude.{◌≡◌, ℕ, ◌≤◌, List, [], ◌++◌, len
 use Rattle.std.specs.List.{slice_index_or}
 use Rattle.theory.specs.declared.relation.Relation.{Relation}
 use Rattle.theory.specs.declared.relation.Relation.TheVariants.{Strong, Branching}
-use Rattle.lts.specs.declared.limits.TheConstants.{MOST_STATES}
+use Rattle.growth.specs.declared.limits.TheConstants.{MOST_STATES}
 use Rattle.lts.specs.Lts.{Grouped, row_of}
 use Rattle.lists.specs.Lists.{list_at, AreNumbers}
 use Rattle.inert.specs.Signed.{IsSignature}

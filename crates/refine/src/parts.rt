@@ -38,13 +38,13 @@ impl Model for Parts {
 }
 
 impl Parts {
-    /// The empty list alone, with room for so many other ones: growth by doubling would take up to a third more memory.
+    /// The empty list alone.
     ///
     /// Fails if there is no memory for it.
-    pub fn new(alloc: Global, room: u32) -> Result<Parts, Memory>
+    pub fn new(alloc: Global) -> Result<Parts, Memory>
         ensures { IfOk result (λ x. x ≡ [] ∷ []) }
     {
-        let mut spans = Vec::with_capacity(alloc, room as usize + 1)?;
+        let mut spans = Vec::new(alloc);
         spans.push(empty_span())?;
         Ok(Parts {
             pairs: Vec::new(alloc),
@@ -73,14 +73,6 @@ impl Parts {
         ensures err { OnErr result (self.new ≡ self.old) }
     {
         put(&mut self.pairs, &mut self.spans, pairs)
-    }
-
-    /// Forgets all lists but the empty one, and keeps the memory.
-    pub fn clear(&mut self)
-        ensures { self.new ≡ [] ∷ [] }
-    {
-        self.pairs.clear();
-        self.spans.truncate(1);
     }
 }
 

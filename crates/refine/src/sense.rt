@@ -1,7 +1,7 @@
 //! One signature on its own, and what it is put together in.
 ghost use Rattle.std.specs.Prelude.{◌≡◌, ◌<◌, ◌≤◌, length, IfOk, OnOk, OnErr};
 ghost use Rattle.theory.specs.declared.relation.Relation.TheVariants.{Strong as strong};
-ghost use Rattle.lts.specs.declared.limits.TheConstants.{MOST_STATES};
+ghost use Rattle.growth.specs.declared.limits.TheConstants.{MOST_STATES};
 ghost use Rattle.lts.specs.Meter.{HasRoomFor, Visits};
 ghost use Rattle.lts.specs.Lts.{row_of};
 ghost use Rattle.inert.specs.Signed.{IsSignature};
@@ -34,7 +34,7 @@ impl Drop for Marks {
 
 impl Model for Marks {
     ghost use Rattle.std.specs.Prelude.{ℕ, ◌≤◌};
-    ghost use Rattle.lts.specs.declared.limits.TheConstants.{MOST_STATES};
+    ghost use Rattle.growth.specs.declared.limits.TheConstants.{MOST_STATES};
 
     ghost Value = { ℕ };
 

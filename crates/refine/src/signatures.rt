@@ -1,6 +1,6 @@
 //! The signatures of all states, and the blocks that they leave.
 ghost use Rattle.std.specs.Prelude.{◌≡◌, ◌↔◌, ℕ, ◌<◌, ◌≤◌, [], ◌∷◌, length, slice_index, IfOk, OnOk};
-ghost use Rattle.lts.specs.declared.limits.TheConstants.{MOST_STATES};
+ghost use Rattle.growth.specs.declared.limits.TheConstants.{MOST_STATES};
 ghost use Rattle.lts.specs.Meter.{HasRoomFor, Visits};
 ghost use Rattle.lists.specs.Lists.{AreNumbers};
 ghost use Rattle.partition.specs.Partition.{IsSomePartition};
@@ -54,7 +54,7 @@ impl Signatures {
             alloc,
             numbers: no_numbers(alloc, states)?,
             lists: Lists::new(alloc, 1)?,
-            whole: Parts::new(alloc, 0)?,
+            whole: Parts::new(alloc)?,
         })
     }
 
@@ -147,7 +147,7 @@ fn made_whole(alloc: Global, lists: &Lists) -> Result<Parts, Memory>
     ensures { IfOk result (λ whole. whole ≡ lists.now) }
 {
     lists.known();
-    let mut whole = Parts::new(alloc, 0)?;
+    let mut whole = Parts::new(alloc)?;
     let mut list = Vec::new(alloc);
     for k in 1..lists.len() {
         list.clear();

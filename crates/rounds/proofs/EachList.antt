@@ -49,12 +49,12 @@ parted lists numbers ns p q are have is split =
     let splits = subst (λ xs. Splits p.of p.count (slice_index xs) q.of q.count) is split.splits in
     Splits-lists lists numbers p.of p.count q.of q.count are have.each (sym have.states) splits
 
--- what is noted fits as many states
+-- the index fits as many states
 fits_still : (of of' : List ℕ) (watch : Watch) → length of' ≡ length of → FitsWatch of watch → FitsWatch of' watch
 fits_still of of' Nothing size fits = tt
 fits_still of of' (Sources e) size fits = fits ∙ sym size
 
--- when blocks were split, the states have their lists still, and what is noted fits them
+-- when blocks were split, the states have their lists still, and the index fits them
 pub split_fits : (lists : List (List (ℕ × ℕ))) (numbers ns : List ℕ) (p q : RoundBlocks) (watch : Watch) → AreParted p ns q
     → HaveLists p.of p.live lists numbers × FitsWatch p.of watch → HaveLists q.of q.live lists numbers × FitsWatch q.of watch
 split_fits lists numbers ns p q watch split (have, fits) =

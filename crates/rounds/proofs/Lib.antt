@@ -7,7 +7,7 @@ pub mod EachList
 pub mod Living
 pub mod Finding
 pub mod Looking
-pub mod Noting
+pub mod Indexing
 pub mod LookingBack
 pub mod Keeping
 pub mod Rounding

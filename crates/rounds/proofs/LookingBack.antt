@@ -1,4 +1,4 @@
--- Lists in memory name the signatures of states, and what is noted of transitions finds the states that a round has to look at.
+-- Lists in memory name the signatures of states, and the index finds the states that a round has to look at.
 use Rattle.std.proofs.Common.{◌≡◌, ◌⊎◌, ◌↔◌, ℕ, ◌<◌, List, [], ◌∷◌, length, slice_index, slice_index_or, Contains, sym, ap, subst, inl, inr, arith}
 use Rattle.std.specs.List.Sorted.{IsStrictlySortedBy}
 use Rattle.std.proofs.lemmas.List.Elements.{All-contains}
@@ -17,7 +17,7 @@ use Rattle.partition.specs.Blocks.{RoundBlocks, IsOne, LeavesAlone}
 use Rattle.inert.specs.Signed.{IsSignature}
 use Rattle.rounds.specs.EachList.{list_of}
 use Rattle.rounds.specs.Kept.{Names}
-use Rattle.rounds.specs.Noting.{Entered, AreNotedBack, LooksAtSources, LooksBackBy}
+use Rattle.rounds.specs.Index.{Entered, AreIndexedBack, LooksAtSources, LooksBackBy}
 use Rattle.rounds.proofs.EqualLists.{Labelled}
 
 -- for blocks in memory, this is the signature in memory
@@ -82,15 +82,15 @@ module _ (l : Grouped) (labelled : Labelled l) (lists : List (List (ℕ × ℕ))
 module _ (l : Grouped)
     (steps : (s : ℕ) (a : List ℕ) (t : ℕ) → Step (system_of l) s a t ↔ ((e : Triple) × Contains (row_of s l.places) e × (text_of l.labels (label_of e) ≡ a) × (target_of e ≡ t)))
     (inside : (s : ℕ) (a : List ℕ) (t : ℕ) → Step (system_of l) s a t → (s < l.states) × (t < l.states))
-    (q : RoundBlocks) (size : length q.of ≡ l.states) (e : Entered) (noted : AreNotedBack l q.of e)
-    (sources : LooksAtSources e.sources q) (back : LooksBackBy noted.inner q) where
+    (q : RoundBlocks) (size : length q.of ≡ l.states) (e : Entered) (indexed : AreIndexedBack l q.of e)
+    (sources : LooksAtSources e.sources q) (back : LooksBackBy indexed.inner q) where
   only : (s : ℕ) → IsAlone q.of s → (t : ℕ) → t < l.states → slice_index q.of t ≡ slice_index q.of s → t ≡ s
   only s alone t h e = alone t (omega (arith, h, size)) e
 
   pub looks_back : LooksBack (system_of l) (slice_index q.of) q.low (IsOne q.live)
   looks_back = record {
     new = λ t h new. elim (back.new t (omega (arith, h, size)) new) [ inl one ↦ inl one | inr alone ↦ inr (only t alone) ];
-    sources = λ s a t step new. elim (noted.noted s (inside s a t step).0) [
+    sources = λ s a t step new. elim (indexed.indexed s (inside s a t step).0) [
       | inl alone ↦ inr (only s alone)
       | inr at ↦ (
           let ends = inside s a t step in
@@ -102,12 +102,12 @@ module _ (l : Grouped)
             | inr alone ↦ inr (only s alone)
           ])
     ];
-    inner = λ s t inert old one. elim (noted.noted s (inside s internal t inert.0).0) [
+    inner = λ s t inert old one. elim (indexed.indexed s (inside s internal t inert.0).0) [
       | inl alone ↦ subst (IsOne q.live) (alone t (omega (arith, (inside s internal t inert.0).1, size)) inert.1) one
       | inr at ↦ (
           let found = (steps s internal t).0 inert.0 in
-          let is = subst (λ x. Contains (slice_index_or noted.inner x []) s) found.3 (at.1 found.0 found.1 found.2) in
-          All-contains (λ s. s < length q.of → slice_index q.of s ≡ slice_index q.of t → IsOne q.live s) (slice_index_or noted.inner t []) s
+          let is = subst (λ x. Contains (slice_index_or indexed.inner x []) s) found.3 (at.1 found.0 found.1 found.2) in
+          All-contains (λ s. s < length q.of → slice_index q.of s ≡ slice_index q.of t → IsOne q.live s) (slice_index_or indexed.inner t []) s
           (back.back t one old) is (omega (arith, (inside s internal t inert.0).0, size)) (sym inert.1))
     ];
   }

@@ -14,14 +14,14 @@ use Rattle.partition.specs.Blocks.{IsOne, LeavesAlone}
 use Rattle.rounds.specs.EachList.{Signed, HaveLists, list_of}
 use Rattle.rounds.specs.Settled.{Settled}
 use Rattle.rounds.specs.Kept.{Names, SignsLists}
-use Rattle.rounds.specs.Noting.{LooksBackBy}
+use Rattle.rounds.specs.Index.{LooksBackBy}
 use Rattle.rounds.specs.Rounds.{IsNext}
-use Rattle.rounds.specs.Watching.{Notes, HasKept, Watches, WatchesBy, SignsEach, IsSplitOf}
+use Rattle.rounds.specs.Watching.{HasIndexed, HasKept, Watches, WatchesBy, SignsEach, IsSplitOf}
 use Rattle.rounds.specs.declared.signed_blocks.Watch.{Watch}
 use Rattle.rounds.specs.declared.signed_blocks.Watch.TheVariants.{Nothing, Sources}
 use Rattle.rounds.proofs.EqualLists.{Labelled}
 use Rattle.rounds.proofs.Settling.{IsNext-from, all_told, told_is_split}
-use Rattle.rounds.proofs.Noting.{notes_left, strong_next, left_next, noted_back_next}
+use Rattle.rounds.proofs.Indexing.{indexed_left, strong_next, left_next, indexed_back_next}
 use Rattle.rounds.proofs.LookingBack.{looks_back, round_splits, round_keeps}
 use Rattle.rounds.proofs.Keeping.{keeps_anew, keeps_left}
 
@@ -39,11 +39,11 @@ module _ (l : Grouped) (lts : IsLts l) (labelled : Labelled l)
   parted : (s t : ℕ) → s < l.states → t < l.states → slice_index q.blocks.of s ≡ slice_index q.blocks.of t → slice_index r.blocks.of s ≡ slice_index r.blocks.of t
   parted s t ls lt e = ((next.splits.alike s t (omega (arith, ls, size)) (omega (arith, lt, size))).0 e).0
 
-  strong_split : Settled Strong (system_of l) (slice_index r.blocks.of) r.blocks.low → Notes r.watch Strong l r.blocks → SignsEach Strong l p r
+  strong_split : Settled Strong (system_of l) (slice_index r.blocks.of) r.blocks.low → HasIndexed r.watch Strong l r.blocks → SignsEach Strong l p r
       → Split Strong (system_of l) (slice_index r.blocks.of) (slice_index q.blocks.of)
-  strong_split settled notes signed =
+  strong_split settled index signed =
       told_is_split Strong l labelled r.blocks.of r.blocks.low size settled (list_of r.lists r.numbers)
-      (all_told l labelled r.blocks r.lists r.numbers steps have.none (have.states ∙ size) are.first r.watch notes signed) q.blocks.of
+      (all_told l labelled r.blocks r.lists r.numbers steps have.none (have.states ∙ size) are.first r.watch index signed) q.blocks.of
       (λ s t ls lt. next.splits.alike s t (omega (arith, ls, size)) (omega (arith, lt, size)))
 
   within : (s : ℕ) → s < l.states → slice_index r.numbers s < length r.lists
@@ -55,16 +55,16 @@ module _ (l : Grouped) (lts : IsLts l) (labelled : Labelled l)
         round_splits l labelled r.lists are lts.system r.blocks q.blocks size signed.was r.kept r.numbers signed.before signed.signed signed.others signed.shows
         within next.splits
 
-    back_next : (watch : Watch) → WatchesBy watch r q → Notes watch Branching l r.blocks → Watches Branching l q
-    back_next Nothing by notes = left_next l steps r.blocks q.blocks size size' parted below Nothing Branching q refl by.0 by.1 notes
-    back_next (Sources e) by notes =
-        let noted = noted_back_next l steps r.blocks q.blocks size size' parted below e notes in
-        subst (λ w. Notes w Branching l q.blocks × HasKept w Branching l q) (sym by.0) (
-          noted,
+    back_next : (watch : Watch) → WatchesBy watch r q → HasIndexed watch Branching l r.blocks → Watches Branching l q
+    back_next Nothing by index = left_next l steps r.blocks q.blocks size size' parted below Nothing Branching q refl by.0 by.1 index
+    back_next (Sources e) by index =
+        let indexed = indexed_back_next l steps r.blocks q.blocks size size' parted below e index in
+        subst (λ w. HasIndexed w Branching l q.blocks × HasKept w Branching l q) (sym by.0) (
+          indexed,
           elim by.1 [
             | inl on ↦
-                let back = subst (λ x. IfSome x (λ inner. LooksBackBy inner q.blocks)) noted.apart on.back in
-                let looks = looks_back l steps (λ s a t step. step_below (system_of l) lts.system s a t step) q.blocks size' e noted on.sources back in
+                let back = subst (λ x. IfSome x (λ inner. LooksBackBy inner q.blocks)) indexed.apart on.back in
+                let looks = looks_back l steps (λ s a t step. step_below (system_of l) lts.system s a t step) q.blocks size' e indexed on.sources back in
                 record {
                   states = ap length on.kept ∙ signed.states;
                   numbers = subst₂ AreNumbers (sym on.lists) (sym on.kept) signed.numbers;
@@ -80,21 +80,21 @@ module _ (l : Grouped) (lts : IsLts l) (labelled : Labelled l)
           ],
         )
 
-  pub is_next : (rel : Relation) → Settled rel (system_of l) (slice_index r.blocks.of) r.blocks.low → Notes r.watch rel l r.blocks → SignsEach rel l p r
+  pub is_next : (rel : Relation) → Settled rel (system_of l) (slice_index r.blocks.of) r.blocks.low → HasIndexed r.watch rel l r.blocks → SignsEach rel l p r
       → IsNext rel l r.blocks q
-  is_next Strong settled notes signed =
-      IsNext-from Strong l lts.system r.blocks size (list_of r.lists r.numbers) q next.splits (strong_split settled notes signed)
-      (strong_next l steps r.blocks q.blocks size size' parted below r.watch r q refl refl next.watches notes) next.low
-  is_next Branching settled notes signed =
+  is_next Strong settled index signed =
+      IsNext-from Strong l lts.system r.blocks size (list_of r.lists r.numbers) q next.splits (strong_split settled index signed)
+      (strong_next l steps r.blocks q.blocks size size' parted below r.watch r q refl refl next.watches index) next.low
+  is_next Branching settled index signed =
       IsNext-from Branching l lts.system r.blocks size (list_of r.lists r.numbers) q next.splits (back_split signed)
-      (back_next signed r.watch next.watches notes) next.low
+      (back_next signed r.watch next.watches index) next.low
 
 -- fewer states are looked at, as those that are alone are left out
 pub watches_left : (rel : Relation) (l : Grouped) (p q : Signed) → length p.blocks.of ≡ l.states → q ≡ record p { blocks = q.blocks; numbers = q.numbers }
     → q.blocks ≡ record p.blocks { live = q.blocks.live } → LeavesAlone p.blocks.of p.blocks.live q.blocks.live → Watches rel l p → Watches rel l q
 watches_left rel l p q size same is leaves w =
-    subst (λ watch. Notes watch rel l q.blocks × HasKept watch rel l q) (sym (ap (λ r. r.watch) same))
-    (notes_left p.watch rel l p.blocks q.blocks is leaves w.0, left p.watch rel w.1)
+    subst (λ watch. HasIndexed watch rel l q.blocks × HasKept watch rel l q) (sym (ap (λ r. r.watch) same))
+    (indexed_left p.watch rel l p.blocks q.blocks is leaves w.0, left p.watch rel w.1)
   where
     left : (watch : Watch) (rel : Relation) → HasKept watch rel l p → HasKept watch rel l q
     left Nothing rel keeps = tt

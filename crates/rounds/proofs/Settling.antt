@@ -15,7 +15,7 @@ use Rattle.inert.specs.Signed.{HasPair, IsSignature}
 use Rattle.rounds.specs.Rounds.{IsNext}
 use Rattle.rounds.specs.Settled.{IsTouched, IsStill, Settled, IsPut, ArePut}
 use Rattle.rounds.specs.EachList.{Signed, list_of}
-use Rattle.rounds.specs.Watching.{Notes, Watches}
+use Rattle.rounds.specs.Watching.{HasIndexed, Watches}
 use Rattle.rounds.specs.declared.signed_blocks.Watch.{Watch}
 use Rattle.rounds.specs.declared.signed_blocks.Watch.TheVariants.{Nothing, Sources}
 use Rattle.rounds.proofs.Living.{no_step}
@@ -231,7 +231,7 @@ module _ (l : Grouped) (labelled : Labelled l) (p : RoundBlocks) (lists : List (
     | inr zero ↦ put_none l p.of p.low s (no_step l s (steps s) empty) rel (list_of lists numbers s) (ap (list_at lists) zero ∙ first)
   ]
 
-  pub all_told : (watch : Watch) → Notes watch Strong l p → ArePut Strong l p.of p.low p.live (list_of lists numbers)
+  pub all_told : (watch : Watch) → HasIndexed watch Strong l p → ArePut Strong l p.of p.low p.live (list_of lists numbers)
       → (s : ℕ) → s < l.states → IsTold Strong l p.of p.low (list_of lists numbers) s
   all_told Nothing others put s ls = elim (others s ls) [
     | inl one ↦ inl (put s one)

@@ -10,7 +10,7 @@ abbrev pub list_of : List (List (ℕ × ℕ)) → List ℕ → ℕ → List (ℕ
 list_of lists numbers s = list_at lists (slice_index numbers s)
 
 -- the blocks of a round, lists, for each state the number of the list that the split is given and of the list that is kept for it, and
--- what is noted
+-- the index
 pub record Signed : Type 0 where
   pub blocks : RoundBlocks
   pub lists : List (List (ℕ × ℕ))
@@ -24,7 +24,7 @@ pub record HaveLists (of live : List ℕ) (lists : List (List (ℕ × ℕ))) (nu
   pub states : length numbers ≡ length of
   pub none : HaveNone live numbers
 
--- what is noted fits the states: each has its sources
+-- the index fits the states: each has its sources
 abbrev pub FitsWatch : List ℕ → Watch → Type 0
 FitsWatch of Nothing = Unit {0}
 FitsWatch of (Sources e) = length e.sources ≡ length of

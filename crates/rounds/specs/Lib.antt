@@ -1,7 +1,7 @@
 pub mod EachList
 pub mod Settled
 pub mod Living
-pub mod Noting
+pub mod Index
 pub mod Kept
 pub mod Watching
 pub mod Rounds

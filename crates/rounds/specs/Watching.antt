@@ -1,4 +1,4 @@
--- What is noted, and what is known by it of the states that a round does not look at.
+-- What the index has, and what is known by it of the states that a round does not look at.
 use Rattle.std.specs.Prelude.{◌≡◌, ◌⊎◌, ℕ, ◌<◌, [], ◌∷◌, IfSome, length}
 use Rattle.theory.specs.declared.relation.Relation.{Relation}
 use Rattle.theory.specs.declared.relation.Relation.TheVariants.{Strong, Branching}
@@ -9,18 +9,18 @@ use Rattle.rounds.specs.Living.{LeavesOut}
 use Rattle.rounds.specs.EachList.{Signed, list_of, IsAnew}
 use Rattle.rounds.specs.Settled.{ArePut}
 use Rattle.rounds.specs.Kept.{KeepsLists, SignsLists}
-use Rattle.rounds.specs.Noting.{Entered, AreEntering, AreWatched, AreNotedBack, LooksAtSources, LooksBackBy}
+use Rattle.rounds.specs.Index.{Entered, AreEntering, AreWatched, AreIndexedBack, LooksAtSources, LooksBackBy}
 use Rattle.rounds.specs.declared.entering.Reach.{Reach}
 use Rattle.rounds.specs.declared.signed_blocks.Watch.{Watch}
 use Rattle.rounds.specs.declared.signed_blocks.Watch.TheVariants.{Nothing, Sources}
 
--- what is noted of the transitions. Where nothing is, all states are looked at that are not alone and have a transition
-abbrev pub Notes : Watch → Relation → Grouped → RoundBlocks → Type 0
-Notes Nothing rel l p = LeavesOut l p.of p.live
-Notes (Sources e) Strong l p = AreWatched l p e.sources
-Notes (Sources e) Branching l p = AreNotedBack l p.of e
+-- what the index has of the transitions. Before there is one, all states are looked at that are not alone and have a transition
+abbrev pub HasIndexed : Watch → Relation → Grouped → RoundBlocks → Type 0
+HasIndexed Nothing rel l p = LeavesOut l p.of p.live
+HasIndexed (Sources e) Strong l p = AreWatched l p e.sources
+HasIndexed (Sources e) Branching l p = AreIndexedBack l p.of e
 
--- what is kept: for branching bisimilarity lists, if anything is noted
+-- what is kept: for branching bisimilarity lists, if there is an index
 abbrev pub HasKept : Watch → Relation → Grouped → Signed → Type 0
 HasKept Nothing rel l r = Unit {0}
 HasKept (Sources e) Strong l r = Unit {0}
@@ -28,9 +28,9 @@ HasKept (Sources e) Branching l r = KeepsLists l r
 
 -- what is known before a round
 abbrev pub Watches : Relation → Grouped → Signed → Type 0
-Watches rel l r = Notes r.watch rel l r.blocks × HasKept r.watch rel l r
+Watches rel l r = HasIndexed r.watch rel l r.blocks × HasKept r.watch rel l r
 
--- the transitions from the states that are looked at are noted from now on, and no list is known but the empty one
+-- the index has the transitions from the states that are looked at, and no list is known but the empty one
 pub record HasBegun (l : Grouped) (reach : Reach) (p r : Signed) : Type 0 where
   pub nothing : p.watch ≡ Nothing
   pub blocks : r.blocks ≡ p.blocks
@@ -38,7 +38,7 @@ pub record HasBegun (l : Grouped) (reach : Reach) (p r : Signed) : Type 0 where
   pub lists : r.lists ≡ [] ∷ []
   pub entered : Entered
   pub watch : r.watch ≡ Sources entered
-  pub noted : AreEntering l reach p.blocks.live entered
+  pub indexed : AreEntering l reach p.blocks.live entered
 
 -- that is so, or all is as it was
 abbrev pub Begins : Grouped → Reach → Signed → Signed → Type 0
@@ -61,7 +61,7 @@ pub record LooksAnew (q : Signed) : Type 0 where
   pub all : (s : ℕ) → s < length q.blocks.of → IsOne q.blocks.live s ⊎ IsAlone q.blocks.of s
   pub anew : IsAnew q
 
--- what was noted before a split is noted after it, and tells what the next round looks at
+-- a split leaves the index as it was, which tells what the next round looks at
 abbrev pub WatchesBy : Watch → Signed → Signed → Type 0
 WatchesBy Nothing p q = (q.watch ≡ Nothing) × AreAmong p.blocks.live q.blocks.live
 WatchesBy (Sources e) p q = (q.watch ≡ Sources e) × (LooksOn e p q ⊎ LooksAnew q)

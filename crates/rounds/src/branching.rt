@@ -3,7 +3,7 @@
 ghost use Rattle.std.specs.Prelude.{◌≡◌, ℕ, length, slice_index, IfOk};
 ghost use Rattle.theory.specs.declared.relation.Relation.TheVariants.{Branching as branching};
 ghost use Rattle.rounds.specs.Kept.{KeepsLists};
-ghost use Rattle.rounds.specs.Watching.{Notes, Watches};
+ghost use Rattle.rounds.specs.Watching.{HasIndexed, Watches};
 ghost use Rattle.rounds.specs.declared.signed_blocks.Watch.TheVariants.{Nothing};
 
 use crate::entering::Reach;
@@ -31,14 +31,14 @@ impl Signing for Branching {
     }
 }
 
-/// Before a round: as long as nothing is noted, no list is kept from the rounds before.
+/// Before a round: as long as there is no index, no list is kept from the rounds before.
 ///
 /// Fails if there is no memory for it.
 fn begin<M: Meter>(l: &Lts<M>, round: SignedBlocks) -> Result<SignedBlocks, Memory>
     requires states { length round.blocks.of ≡ l.now.states }
     requires watches { Watches branching l.now round }
     ensures blocks { IfOk result (λ r. r.blocks ≡ round.blocks) }
-    ensures notes { IfOk result (λ r. Notes r.watch branching l.now r.blocks) }
+    ensures index { IfOk result (λ r. HasIndexed r.watch branching l.now r.blocks) }
     ensures keeps { IfOk result (λ r. KeepsLists l.now r) }
     ensures anew { IfOk result (λ r. round.watch ≡ Nothing → (s : ℕ) → slice_index r.kept s ≡ 0) }
 {

@@ -1,6 +1,6 @@
 //! The blocks of a round, and the signature of each state under them.
 ghost use Rattle.std.specs.Prelude.{◌≡◌, ◌⊎◌, ℕ, ◌+◌, ◌*◌, ◌<◌, ◌≤◌, ◌∷◌, [], length, slice_index, IfOk};
-ghost use Rattle.lts.specs.declared.limits.TheConstants.{MOST_STATES};
+ghost use Rattle.growth.specs.declared.limits.TheConstants.{MOST_STATES};
 ghost use Rattle.lts.specs.Lts.{Grouped};
 ghost use Rattle.lists.specs.Lists.{AreLists};
 ghost use Rattle.partition.specs.Splitting.{IsAlone};
@@ -20,7 +20,7 @@ use std::marker::Model;
 /// Rounds look at few states once fewer than one block of so many is new: the index costs as much as a round, so it has to save one.
 const FEW_ARE_NEW: u32 = 4;
 
-/// What is noted, by which the states that the next round looks at are found.
+/// The index, once it is made, by which the states that the next round looks at are found.
 #[derive(Drop)]
 pub(crate) enum Watch {
     /// Nothing: the next round looks at the same states.
@@ -29,7 +29,7 @@ pub(crate) enum Watch {
     Sources(Entering),
 }
 
-/// The blocks of a round, what is noted, and the signatures: lists, and for each state the number of a list by which the split tells
+/// The blocks of a round, the index, and the signatures: lists, and for each state the number of a list by which the split tells
 /// it from others of its block. A state that the round does not look at has the empty one.
 #[derive(Drop)]
 pub struct SignedBlocks {
@@ -116,7 +116,7 @@ impl SignedBlocks {
     }
 
     /// Leaves out the states that are alone in their blocks from what a round looks at, once they are more than one in 32 of these.
-    /// They have the empty list from now on. Once anything is noted, `split` leaves them out.
+    /// They have the empty list from now on. Once there is an index, `split` leaves them out.
     ///
     /// Fails if there is no memory for it.
     pub fn renew(mut self) -> Result<SignedBlocks, Memory>
@@ -177,7 +177,7 @@ impl SignedBlocks {
     }
 
     /// Splits the blocks: two states stay together if the split is given the same list for them. The next round looks at the states that
-    /// are found by what is noted.
+    /// are found by the index.
     ///
     /// Fails if there is no memory for it.
     pub fn split(self) -> Result<SignedBlocks, Memory>

@@ -2,7 +2,7 @@
 ghost use Rattle.std.specs.Prelude.{◌≡◌, length, IfOk};
 ghost use Rattle.theory.specs.declared.relation.Relation.{Relation};
 ghost use Rattle.lts.specs.Meter.{HasRoomFor, Visits};
-ghost use Rattle.rounds.specs.Watching.{Notes, Watches, SignsEach};
+ghost use Rattle.rounds.specs.Watching.{HasIndexed, Watches, SignsEach};
 
 use crate::signed_blocks::SignedBlocks;
 use lts::{Lts, Memory, Meter};
@@ -28,7 +28,7 @@ pub trait Signing {
         // Once it is done
         ensures blocks { IfOk result (λ r. r.blocks ≡ round.blocks) }
         ensures signed { IfOk result (λ r. SignsEach relation l.now round r) }
-        ensures notes { IfOk result (λ r. Notes r.watch relation l.now r.blocks) }
+        ensures index { IfOk result (λ r. HasIndexed r.watch relation l.now r.blocks) }
 
         // In either case
         ensures visits { let n = length l.now.places in Visits M.counted m.old m.new result n n };

@@ -9,7 +9,7 @@ ghost use Rattle.partition.specs.Blocks.{HaveNone};
 ghost use Rattle.inert.specs.Signed.{pair_under};
 ghost use Rattle.rounds.specs.EachList.{list_of};
 ghost use Rattle.rounds.specs.Settled.{HasFrom, IsPut, ArePut};
-ghost use Rattle.rounds.specs.Noting.{ReadsUnder};
+ghost use Rattle.rounds.specs.Index.{ReadsUnder};
 
 use crate::entering::Reach;
 use crate::signed_blocks::SignedBlocks;

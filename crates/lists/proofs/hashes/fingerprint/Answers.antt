@@ -1,5 +1,5 @@
 use Rattle.std.proofs.Common.{◌∙◌, get_or, ap}
-use Rattle.lists.specs.Hashes.{hash_of}
+use Rattle.buckets.specs.Hashing.{hash_of}
 use Rattle.lists.proofs.Tags.{fingerprint_more}
 use Rattle.lists.proofs.hashes.fingerprint.Goals as goal
 

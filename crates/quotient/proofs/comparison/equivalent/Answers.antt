@@ -1,7 +1,7 @@
 use Rattle.std.proofs.Common.{◌≡◌, ◌∙◌, ◌+◌, slice_index, ap, arith}
 use Rattle.std.proofs.lemmas.Result.{err_from_is_err_and}
 use Rattle.lts.specs.Lts.{system_of}
-use Rattle.quotient.proofs.Unions.{same_decides}
+use Rattle.classes.proofs.CallerLemmas.{same_decides}
 use Rattle.quotient.proofs.Visits.{compared_keeps, rounds_keep}
 use Rattle.quotient.proofs.comparison.equivalent.Goals as goal
 

@@ -1,7 +1,8 @@
 use Rattle.std.proofs.Common.{arith}
 use Rattle.std.proofs.lemmas.Result.{IfOk-weaker}
 use Rattle.lts.specs.Lts.{system_of}
-use Rattle.quotient.proofs.Visits.{IfOk-both, room_at_first, room_after, visits_then, turns_keep}
+use Rattle.classes.proofs.CallerLemmas.{visits_then}
+use Rattle.quotient.proofs.Visits.{IfOk-both, room_at_first, room_after, turns_keep}
 use Rattle.quotient.proofs.minimisation.minimise.Goals as goal
 
 pub returns-clause-equivalent : goal.returns-clause-equivalent

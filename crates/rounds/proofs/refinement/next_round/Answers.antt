@@ -22,4 +22,4 @@ returns-clause-next g c =
     subst (λ p. IsNext rel l p c.in_ok-next.next) is
     (is_next l c.known.ensures labelled c.rows_are_steps.ensures.sources (c.rows_are_steps.ensures.steps l) c.args.round c.in_ok-signed.signed c.in_ok-next.next
     c.known-2.ensures.lists c.known-2.ensures.have (ap (λ p. length p.of) is ∙ c.requires.states) c.in_ok-next.ensures c.known-3.ensures.lists rel
-    (subst (λ p. Settled rel (system_of l) (slice_index p.of) p.low) (sym is) c.requires.settled) c.in_ok-signed.ensures.notes c.in_ok-signed.ensures.signed)
+    (subst (λ p. Settled rel (system_of l) (slice_index p.of) p.low) (sym is) c.requires.settled) c.in_ok-signed.ensures.index c.in_ok-signed.ensures.signed)

@@ -4,7 +4,7 @@ use Rattle.theory.specs.Blocks.{Split, SameBlocks, Turns}
 use Rattle.lts.specs.Meter.{Costs}
 use Rattle.lts.specs.Lts.{system_of}
 use Rattle.rounds.specs.Settled.{Settled}
-use Rattle.rounds.specs.Watching.{Notes, HasKept}
+use Rattle.rounds.specs.Watching.{HasIndexed, HasKept}
 use Rattle.rounds.specs.Rounds.{Made}
 use Rattle.rounds.proofs.Spending.{costs_more, costs_up_to_more, room_for_more, on_ok_from, on_err_from}
 use Rattle.partition.specs.Partition.{AreBlocks}
@@ -30,7 +30,7 @@ loop-before-init g c =
       states = subst (λ b. length b.of ≡ l.states) is (blocks.states ∙ c.states.ensures.value);
       settled = subst (λ b. Settled rel A (slice_index b.of) b.low) is (subst (Settled rel A (slice_index c.in_ok-blocks.blocks.of)) (sym blocks.count.1) (settled_first rel A _));
       watches =
-          subst (λ w. Notes w rel l c.in_ok-round.round.blocks × HasKept w rel l c.in_ok-round.round) (sym c.in_ok-round.ensures.nothing) (
+          subst (λ w. HasIndexed w rel l c.in_ok-round.round.blocks × HasKept w rel l c.in_ok-round.round) (sym c.in_ok-round.ensures.nothing) (
             subst (λ b. LeavesOut l b.of b.live) is (λ s h. elim (c.in_ok-live.ensures.rows s h) [
               | inl one ↦ inl (subst (λ live. IsOne live s) (sym blocks.live) one)
               | inr empty ↦ inr (inr empty)

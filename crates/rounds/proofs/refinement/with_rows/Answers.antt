@@ -2,7 +2,8 @@ use Rattle.std.proofs.Common.{◌≡◌, ◌⊎◌, ◌+◌, [], ◌∷◌, ◌+
 use Rattle.std.proofs.lemmas.Bool.{cases_lt}
 use Rattle.lts.specs.Lts.{row_of}
 use Rattle.partition.specs.Blocks.{AreLive, IsOne}
-use Rattle.rounds.proofs.Finding.{one_stays, one_last}
+use Rattle.partition.proofs.CallerLemmas.{one_stays}
+use Rattle.rounds.proofs.Finding.{one_last}
 use Rattle.rounds.proofs.Living.{rising_none, rising_more, rising_later, empty_row}
 use Rattle.rounds.proofs.refinement.with_rows.Goals as goal
 

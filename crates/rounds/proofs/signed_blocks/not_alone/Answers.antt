@@ -2,7 +2,8 @@ use Rattle.std.proofs.Common.{◌≡◌, ◌⊎◌, ◌+◌, [], ◌∷◌, ◌+
 use Rattle.std.proofs.lemmas.Bool.{cases_lt}
 use Rattle.partition.specs.Splitting.{IsAlone}
 use Rattle.partition.specs.Blocks.{AreLive, IsOne}
-use Rattle.rounds.proofs.Finding.{one_stays, one_last}
+use Rattle.partition.proofs.CallerLemmas.{one_stays}
+use Rattle.rounds.proofs.Finding.{one_last}
 use Rattle.rounds.proofs.Living.{rising_none, rising_more, rising_later}
 use Rattle.rounds.proofs.signed_blocks.not_alone.Goals as goal
 

@@ -2,7 +2,7 @@ use Rattle.std.proofs.Common.{◌∙◌, ap, sym, subst, subst₂, inl, inr, ari
 use Rattle.std.proofs.lemmas.Option.{IfSome_then}
 use Rattle.partition.specs.Splitting.{Splits}
 use Rattle.rounds.specs.EachList.{list_of}
-use Rattle.rounds.specs.Noting.{LooksAtSources, LooksBackBy}
+use Rattle.rounds.specs.Index.{LooksAtSources, LooksBackBy}
 use Rattle.rounds.specs.declared.signed_blocks.Watch.TheVariants.{Sources}
 use Rattle.rounds.proofs.EachList.{parted, split_fits}
 use Rattle.rounds.proofs.signed_blocks.split_by_sources.Goals as goal

@@ -1,7 +1,7 @@
 use Rattle.std.proofs.Common.{◌≡◌, ◌∙◌, ◌+◌, ◌<◌, ◌≤◌, length, map, take, ap, subst, sym, arith, rules}
 use Rattle.std.proofs.lemmas.List.{take_all}
 use Rattle.std.proofs.lemmas.List.Elements.{All-weaker}
-use Rattle.lts.specs.declared.limits.TheConstants.{MOST_TRANSITIONS}
+use Rattle.growth.specs.declared.limits.TheConstants.{MOST_TRANSITIONS}
 use Rattle.lts.specs.Lts.{source_of, row_of, before, transition_of, IsTriple}
 use Rattle.lts.specs.Joining.{AddsShifted}
 use Rattle.lts.proofs.Rows.{before-next, before-zero, before-all, before-le}

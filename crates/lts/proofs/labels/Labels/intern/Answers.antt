@@ -1,7 +1,7 @@
 use Rattle.std.proofs.Common.{◌≡◌, ◌∙◌, ◌<◌, length, Contains, [], ◌∷◌, ◌++◌, map, false, sym, ap, refl, inl, inr}
 use Rattle.std.specs.List.{list_any}
 use Rattle.std.specs.Str.{bytes_eq}
-use Rattle.lts.specs.declared.limits.TheConstants.{MOST_LABELS}
+use Rattle.growth.specs.declared.limits.TheConstants.{MOST_LABELS}
 use Rattle.lts.proofs.Table.{position-map, list_any-map, absent, IsNumber-position, Contains-IsNumber, IsTable-push, map-insert_key}
 use Rattle.lts.proofs.labels.Labels.intern.Goals as goal
 

@@ -1,6 +1,7 @@
 use Rattle.std.proofs.Common.{◌<◌, ◌∙◌, [], length, ap, subst, arith}
 use Rattle.refine.specs.Search.{Reaches}
-use Rattle.refine.proofs.Searching.{begun, ahead_first, found_few}
+use Rattle.rounds.proofs.CallerLemmas.{found_few}
+use Rattle.refine.proofs.Searching.{begun, ahead_first}
 use Rattle.refine.proofs.search.Search.find.Goals as goal
 
 pub loop-i-init : goal.loop-i-init

@@ -5,7 +5,7 @@ use Rattle.lists.specs.Lists.{list_at, AreNumbers}
 use Rattle.partition.specs.Blocks.{IsOne}
 use Rattle.inert.specs.Signed.{IsSignature}
 use Rattle.rounds.specs.EachList.{list_of}
-use Rattle.rounds.specs.Watching.{Notes, HasKept}
+use Rattle.rounds.specs.Watching.{HasIndexed, HasKept}
 use Rattle.refine.proofs.Filling.{signs_whole, signature_at-list}
 use Rattle.refine.proofs.signatures.Signatures.fill.Goals as goal
 
@@ -13,7 +13,7 @@ pub sign_each-requires-clause-watches : goal.sign_each-requires-clause-watches
 sign_each-requires-clause-watches g c =
     let rel = g.S.Signing.relation in
     let round = c.in_ok-blocks-2.blocks in
-    subst (λ w. Notes w rel c.args.l.now round.blocks × HasKept w rel c.args.l.now round) (sym c.in_ok-blocks-2.ensures.nothing)
+    subst (λ w. HasIndexed w rel c.args.l.now round.blocks × HasKept w rel c.args.l.now round) (sym c.in_ok-blocks-2.ensures.nothing)
     (λ s h. inl (subst (λ b. IsOne b.live s) (sym c.in_ok-blocks-2.ensures.blocks) (c.in_ok-blocks.ensures.live s (omega (arith, h, c.requires.states)))), tt)
 
 pub returns-clause-signed : goal.returns-clause-signed

@@ -4,7 +4,7 @@ use Rattle.theory.specs.declared.relation.Relation.TheVariants.{Branching}
 use Rattle.partition.specs.Blocks.{AreLive, HaveNone}
 use Rattle.rounds.specs.EachList.{Signed}
 use Rattle.rounds.specs.Kept.{KeepsLists, SignsLists}
-use Rattle.rounds.specs.Watching.{Notes}
+use Rattle.rounds.specs.Watching.{HasIndexed}
 use Rattle.rounds.proofs.EachList.{written_back}
 use Rattle.rounds.proofs.Keeping.{kept_beside, signs_lists}
 use Rattle.rounds.proofs.branching.BranchingSigning.sign_each.Goals as goal
@@ -64,6 +64,6 @@ returns-clause-signed g c =
     (omega (arith, c.sign_each.auto.numbers, c.deref_mut.ensures.len, c.round.invariant.0.states, states))
     (λ s one. omega (arith, live.below one.0 one.1, one.2, states)))
 
-pub returns-clause-notes : goal.returns-clause-notes
-returns-clause-notes g c =
-    subst (λ r. Notes r.watch Branching c.args.l.now r.blocks) (sym c.round.view_is) c.in_ok-round.ensures.notes
+pub returns-clause-index : goal.returns-clause-index
+returns-clause-index g c =
+    subst (λ r. HasIndexed r.watch Branching c.args.l.now r.blocks) (sym c.round.view_is) c.in_ok-round.ensures.index

@@ -4,9 +4,9 @@ use Rattle.theory.specs.declared.relation.Relation.TheVariants.{Strong}
 use Rattle.partition.specs.Blocks.{AreLive, HaveNone}
 use Rattle.rounds.specs.EachList.{list_of}
 use Rattle.rounds.specs.Settled.{IsPut, ArePut}
-use Rattle.rounds.specs.Watching.{Notes}
+use Rattle.rounds.specs.Watching.{HasIndexed}
 use Rattle.rounds.proofs.EachList.{written_back}
-use Rattle.rounds.proofs.Noting.{begun_strong}
+use Rattle.rounds.proofs.Indexing.{begun_strong}
 use Rattle.rounds.proofs.strong.StrongSigning.sign_each.Goals as goal
 
 pub sign_live-requires-clause-under : goal.sign_live-requires-clause-under
@@ -51,7 +51,7 @@ returns-clause-signed g c s one =
     c.in_ok-sign_live.ensures.signed)) in
     subst (λ ns. IsPut Strong c.args.l.now old.of old.low s (list_of c.sign_live.new.lists ns s)) (sym items) (put s one)
 
-pub returns-clause-notes : goal.returns-clause-notes
-returns-clause-notes g c =
-    subst (λ r. Notes r.watch Strong c.args.l.now r.blocks) (sym c.round.view_is)
+pub returns-clause-index : goal.returns-clause-index
+returns-clause-index g c =
+    subst (λ r. HasIndexed r.watch Strong c.args.l.now r.blocks) (sym c.round.view_is)
     (begun_strong c.args.l.now (c.rows_are_steps.ensures.steps c.args.l.now) c.args.round c.in_ok-round.round c.in_ok-round.ensures c.requires.watches.0).1

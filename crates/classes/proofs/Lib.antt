@@ -1,0 +1,15 @@
+pub mod CallerLemmas
+-- lists
+pub mod Lists
+pub mod Repeats
+-- reachability
+pub mod Reaching
+-- numbers
+pub mod Classes
+-- the quotient
+pub mod Rows
+pub mod Members
+pub mod Stopping
+pub mod Quotients
+pub mod WholeRows
+pub mod Visits

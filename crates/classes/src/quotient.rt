@@ -1,0 +1,75 @@
+//! The quotient, once the classes have numbers.
+ghost use Rattle.std.specs.Prelude.{◌≡◌, ◌↔◌, ℕ, ◌<◌, ◌≤◌, length, IfOk};
+ghost use Rattle.theory.specs.System.{Reachable};
+ghost use Rattle.theory.specs.Quotient.{Quotient};
+ghost use Rattle.lts.specs.Meter.{HasRoomFor, Costs};
+ghost use Rattle.lts.specs.Lts.{system_of};
+ghost use Rattle.classes.specs.Marked.{IsMarked};
+ghost use Rattle.classes.specs.Numbers.{IsNumbering};
+ghost use Rattle.classes.specs.Reading.{sources_of, IsDroppedLabel};
+
+use crate::numbering::Numbering;
+use crate::triples::{by_number, shown_transitions};
+use lts::{Counter, Labels, Lts, Memory, Meter};
+use std::alloc::Global;
+use theory::Relation;
+
+/// The quotient, once the reachable states have their numbers.
+pub fn quotient_of<M: Meter>(
+    alloc: Global,
+    l: &Lts<M>,
+    r: Relation,
+    numbering: &Numbering,
+    reached: &[bool],
+    m: &mut M,
+) -> Result<Lts<Counter>, Memory>
+    requires numbering { IsNumbering r (system_of l.now) numbering.now }
+    requires reached_long { length reached.now ≡ l.now.states }
+    requires reached { (s : ℕ) → s < l.now.states → IsMarked reached.now s
+        ↔ Reachable (system_of l.now) s }
+    requires room { HasRoomFor (M.counted m.old) 0 (length l.now.places) }
+    ensures quotient { IfOk result (λ q. Quotient r (system_of l.now) (system_of q)) }
+    ensures fewer_transitions { IfOk result (λ q. length q.places ≤ length l.now.places) }
+    ensures visits { Costs (M.counted m.old) (M.counted m.new) 0 0 (length l.now.places) }
+{
+    l.known();
+    lts::rows_are_steps();
+    lts::rows_follow();
+    theory::steps_keep_reachable();
+    theory::each_state_has_a_number();
+    theory::numbers_are_classes();
+    theory::numbers_are_states();
+    theory::states_without_inert_steps_show_all();
+    let sources = sources(r, &numbering.leads, reached);
+    let dropped = dropped(r, l.labels());
+    let members = by_number(
+        alloc,
+        l.states(),
+        &numbering.numbers,
+        numbering.count,
+        sources,
+    )?;
+    let shown = shown_transitions(alloc, l, &numbering.numbers, &members, dropped, m)?;
+    Lts::over(l, 0, numbering.count, shown)
+}
+
+/// The states whose rows show every transition of the quotient, of those that lead their classes and those that are
+/// reachable.
+fn sources<'a>(r: Relation, leads: &'a [bool], reached: &'a [bool]) -> &'a [bool]
+    ensures { result.now ≡ sources_of r leads.now reached.now }
+{
+    match r {
+        Relation::Strong => leads,
+        Relation::Branching => reached,
+    }
+}
+
+/// The number of the label that the quotient leaves out between equal numbers, if there is one.
+fn dropped(r: Relation, labels: &Labels) -> Option<u32>
+    ensures { IsDroppedLabel r labels.now result }
+{
+    match r {
+        Relation::Strong => None,
+        Relation::Branching => labels.internal(),
+    }
+}

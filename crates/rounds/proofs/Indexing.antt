@@ -1,0 +1,198 @@
+-- What the index has: a state that a round does not look at is alone in its block, or still.
+use Rattle.std.proofs.Common.{◌≡◌, ◌⊎◌, ◌↔◌, ◌∙◌, ℕ, ◌<◌, ◌≤◌, List, [], ◌∷◌, length, slice_index, slice_index_or, Contains, ap, sym, subst, subst₂, refl, inl, inr, arith}
+use Rattle.std.specs.List.{All}
+use Rattle.std.proofs.lemmas.Bool.{cases_lt}
+use Rattle.std.proofs.lemmas.List.Elements.{All-nil, All-cons, All-contains, Contains-append_right}
+use Rattle.theory.specs.System.{Step}
+use Rattle.theory.specs.declared.relation.Relation.{Relation}
+use Rattle.theory.specs.declared.relation.Relation.TheVariants.{Strong, Branching}
+use Rattle.lts.specs.Labels.{text_of}
+use Rattle.lts.specs.Lts.{Grouped, Triple, label_of, target_of, row_of, system_of}
+use Rattle.lts.specs.Sources.{IsAny, IsInternal, AreSources}
+use Rattle.lts.proofs.CallerLemmas.{is_source}
+use Rattle.partition.specs.Splitting.{IsAlone}
+use Rattle.partition.specs.Blocks.{RoundBlocks, IsOne, LeavesAlone}
+use Rattle.rounds.specs.Living.{LeavesOut}
+use Rattle.rounds.specs.Settled.{IsStill}
+use Rattle.rounds.specs.EachList.{Signed, IsAnew}
+use Rattle.rounds.specs.Index.{Entered, AreEntering, IsIndexed, IsInternalIndexed, AreWatched, AreIndexedBack, LooksAtSources}
+use Rattle.rounds.specs.Watching.{HasIndexed, HasKept, Watches, WatchesBy, LooksOn, LooksAnew, Begins}
+use Rattle.rounds.specs.declared.entering.Reach.{Reach}
+use Rattle.rounds.specs.declared.entering.Reach.TheVariants.{Before, Back}
+use Rattle.rounds.specs.declared.signed_blocks.Watch.{Watch}
+use Rattle.rounds.specs.declared.signed_blocks.Watch.TheVariants.{Nothing, Sources}
+use Rattle.rounds.proofs.Living.{left_out_still, left_out_next, no_step, alone_next}
+
+-- fewer states are looked at
+pub indexed_left : (watch : Watch) (rel : Relation) (l : Grouped) (p q : RoundBlocks) → q ≡ record p { live = q.live } → LeavesAlone p.of p.live q.live
+    → HasIndexed watch rel l p → HasIndexed watch rel l q
+indexed_left watch rel l p q same leaves index = subst (HasIndexed watch rel l) (sym same) (left watch rel index)
+  where
+    left : (e : Watch) (r : Relation) → HasIndexed e r l p → HasIndexed e r l (record p { live = q.live })
+    left Nothing r others = left_out_still l p.of p.live q.live leaves others
+    left (Sources e) Strong w = record {
+      indexed = w.indexed;
+      others = λ s h. elim (w.others s h) [
+        | inl one ↦ elim (leaves.are s one) [ inl is ↦ inl is | inr alone ↦ inr (inl alone) ]
+        | inr x ↦ inr x
+      ];
+    }
+    left (Sources e) Branching w = w
+
+-- a row has a transition to a new number, or it has none
+new_or_old : (of : List ℕ) (low : ℕ) (row : List Triple)
+    → ((e : Triple) × Contains row e × (low ≤ slice_index of (target_of e))) ⊎ All (λ e. slice_index of (target_of e) < low) row
+new_or_old of low [] = inr (All-nil (λ e. slice_index of (target_of e) < low))
+new_or_old of low (e ∷ row) = elim (cases_lt (slice_index of (target_of e)) low) [
+  | inl old ↦ elim (new_or_old of low row) [
+    | inl (x, c, new) ↦ inl (x, Contains-append_right (e ∷ []) row x c, new)
+    | inr all ↦ inr (All-cons (λ x. slice_index of (target_of x) < low) e row old all)
+  ]
+  | inr new ↦ inl (e, (0, omega arith, refl), new)
+]
+
+-- blocks were parted, and the next round looks at the states that are found by the index
+module _ (l : Grouped)
+    (steps : (s : ℕ) (a : List ℕ) (t : ℕ) → Step (system_of l) s a t ↔ ((e : Triple) × Contains (row_of s l.places) e × (text_of l.labels (label_of e) ≡ a) × (target_of e ≡ t)))
+    (p q : RoundBlocks) (size : length p.of ≡ l.states) (size' : length q.of ≡ l.states)
+    (parted : (s t : ℕ) → s < l.states → t < l.states → slice_index q.of s ≡ slice_index q.of t → slice_index p.of s ≡ slice_index p.of t)
+    (below : (s : ℕ) → s < l.states → (e : Triple) → Contains (row_of s l.places) e → target_of e < l.states) where
+  -- a state whose transitions are in the index
+  looked : (sources : List (List ℕ)) (s : ℕ) → s < l.states → LooksAtSources sources q → IsIndexed l sources s
+      → IsOne q.live s ⊎ IsAlone q.of s ⊎ IsStill Strong (system_of l) (slice_index q.of) q.low s
+  looked sources s h looks indexed = elim (new_or_old q.of q.low (row_of s l.places)) [
+    | inl (e, c, new) ↦
+        let t = target_of e in
+        let each = looks t (omega (arith, below s h e c, size')) new in
+        elim (All-contains (λ s. s < length q.of → IsOne q.live s ⊎ IsAlone q.of s) (slice_index_or sources t []) s each (indexed e c) (omega (arith, h, size'))) [
+          | inl one ↦ inl one
+          | inr alone ↦ inr (inl alone)
+        ]
+    | inr old ↦ inr (inr (λ a t step.
+        let found = (steps s a t).0 step in
+        subst (λ x. slice_index q.of x < q.low) found.3 (All-contains (λ e. slice_index q.of (target_of e) < q.low) (row_of s l.places) found.0 old found.1)))
+  ]
+
+  indexed_next : (sources : List (List ℕ)) → AreWatched l p sources → (s : ℕ) → s < l.states → IsAlone q.of s ⊎ IsIndexed l sources s
+  indexed_next sources w s h = elim (w.indexed s h) [
+    | inl alone ↦ inl (alone_next l p.of q.of size size' parted s h alone)
+    | inr indexed ↦ inr indexed
+  ]
+
+  watched_next : (e : Entered) (r next : Signed) → next.blocks ≡ q → LooksOn e r next ⊎ LooksAnew next → AreWatched l p e.sources → AreWatched l q e.sources
+  watched_next e r next is (inl on) w = record {
+    indexed = indexed_next e.sources w;
+    others = λ s h. elim (indexed_next e.sources w s h) [
+      | inl alone ↦ inr (inl alone)
+      | inr indexed ↦ looked e.sources s h (subst (LooksAtSources e.sources) is on.sources) indexed
+    ];
+  }
+  watched_next e r next is (inr anew) w = record {
+    indexed = indexed_next e.sources w;
+    others = λ s h. elim (subst (λ b. (s : ℕ) → s < length b.of → IsOne b.live s ⊎ IsAlone b.of s) is anew.all s (omega (arith, h, size'))) [
+      | inl one ↦ inl one
+      | inr alone ↦ inr (inl alone)
+    ];
+  }
+
+  -- what is left out before there is an index
+  pub left_next : (watch : Watch) (rel : Relation) (next : Signed) → next.blocks ≡ q → next.watch ≡ Nothing → ((s : ℕ) → IsOne p.live s → IsOne q.live s)
+      → LeavesOut l p.of p.live → Watches rel l next
+  left_next watch rel next is nothing among others =
+      subst (λ w. HasIndexed w rel l next.blocks × HasKept w rel l next) (sym nothing)
+      (subst (λ b. LeavesOut l b.of b.live) (sym is) (λ s h. elim (left_out_next l p.of q.of p.live size size' parted others s h) [ inl one ↦ inl (among s one) | inr x ↦ inr x ]), tt)
+
+  pub strong_next : (watch : Watch) (r next : Signed) → r.blocks ≡ p → next.blocks ≡ q → WatchesBy watch r next → HasIndexed watch Strong l p → Watches Strong l next
+  strong_next Nothing r next was is by index = left_next Nothing Strong next is by.0 (subst₂ (λ a b. (s : ℕ) → IsOne a.live s → IsOne b.live s) was is by.1) index
+  strong_next (Sources e) r next was is by w =
+      subst (λ w. HasIndexed w Strong l next.blocks × HasKept w Strong l next) (sym by.0) (subst (λ b. AreWatched l b e.sources) (sym is) (watched_next e r next is by.1 w), tt)
+
+  -- the internal transitions, which are apart
+  pub indexed_back_next : (e : Entered) → AreIndexedBack l p.of e → AreIndexedBack l q.of e
+  indexed_back_next e w = record {
+    inner = w.inner;
+    apart = w.apart;
+    indexed = λ s h. elim (w.indexed s h) [
+      | inl alone ↦ inl (alone_next l p.of q.of size size' parted s h alone)
+      | inr indexed ↦ inr indexed
+    ];
+  }
+
+-- the index of all states that are not alone has all transitions
+module _ (l : Grouped)
+    (steps : (s : ℕ) (a : List ℕ) (t : ℕ) → Step (system_of l) s a t ↔ ((e : Triple) × Contains (row_of s l.places) e × (text_of l.labels (label_of e) ≡ a) × (target_of e ≡ t)))
+    (p : RoundBlocks) (others : LeavesOut l p.of p.live) where
+  pub watched_first : (e : Entered) → AreEntering l Before p.live e → AreWatched l p e.sources
+  watched_first e are = record {
+    indexed = λ s h. elim (others s h) [
+      | inl one ↦ inr (are.sources s one)
+      | inr x ↦ elim x [
+        | inl alone ↦ inl alone
+        | inr empty ↦ inr (λ e c. absurd (omega (arith, (subst (λ xs. Contains xs e) empty c).1)))
+      ]
+    ];
+    others = λ s h. elim (others s h) [
+      | inl one ↦ inl one
+      | inr x ↦ elim x [
+        | inl alone ↦ inr (inl alone)
+        | inr empty ↦ inr (inr (λ a t step. absurd (no_step l s (steps s) empty a t step)))
+      ]
+    ];
+  }
+
+  pub indexed_back_first : (e : Entered) → AreEntering l Back p.live e → AreIndexedBack l p.of e
+  indexed_back_first e are =
+      let inner = are.inner refl in
+      record {
+        inner = inner.0;
+        apart = inner.1;
+        indexed = λ s h. elim (others s h) [
+          | inl one ↦ inr (are.sources s one, inner.2 s one)
+          | inr x ↦ elim x [
+            | inl alone ↦ inl alone
+            | inr empty ↦ inr (
+              λ e c. absurd (omega (arith, (subst (λ xs. Contains xs e) empty c).1)),
+              λ e c i. absurd (omega (arith, (subst (λ xs. Contains xs e) empty c).1)),
+            )
+          ]
+        ];
+      }
+
+-- the sources that the system tells of transitions from some states
+pub all_indexed : (l : Grouped) (live : List ℕ) (groups : List (List ℕ)) → AreSources IsAny l.places live groups → (s : ℕ) → IsOne live s → IsIndexed l groups s
+all_indexed l live groups are s one e c = is_source IsAny l.places live groups are one.0 s one.1 one.2 e c tt
+
+pub internal_indexed : (l : Grouped) (live : List ℕ) (groups : List (List ℕ)) → AreSources (IsInternal l.labels) l.places live groups
+    → (s : ℕ) → IsOne live s → IsInternalIndexed l groups s
+internal_indexed l live groups are s one e c i = is_source (IsInternal l.labels) l.places live groups are one.0 s one.1 one.2 e c i
+
+-- what the index has when it is begun, or was
+pub begun_strong : (l : Grouped)
+    → ((s : ℕ) (a : List ℕ) (t : ℕ) → Step (system_of l) s a t ↔ ((e : Triple) × Contains (row_of s l.places) e × (text_of l.labels (label_of e) ≡ a) × (target_of e ≡ t)))
+    → (p r : Signed) → Begins l Before p r → HasIndexed p.watch Strong l p.blocks → (r.blocks ≡ p.blocks) × HasIndexed r.watch Strong l r.blocks
+begun_strong l steps p r (inl same) index = (ap (λ r. r.blocks) same, subst (λ r. HasIndexed r.watch Strong l r.blocks) (sym same) index)
+begun_strong l steps p r (inr begun) index = (
+  begun.blocks,
+  subst₂ (λ w b. HasIndexed w Strong l b) (sym begun.watch) (sym begun.blocks)
+      (watched_first l steps p.blocks (subst (λ w. HasIndexed w Strong l p.blocks) begun.nothing index) begun.entered begun.indexed),
+)
+
+pub begun_back : (l : Grouped)
+    → ((s : ℕ) (a : List ℕ) (t : ℕ) → Step (system_of l) s a t ↔ ((e : Triple) × Contains (row_of s l.places) e × (text_of l.labels (label_of e) ≡ a) × (target_of e ≡ t)))
+    → (p r : Signed) → Begins l Back p r → HasIndexed p.watch Branching l p.blocks → HasIndexed r.watch Branching l r.blocks
+begun_back l steps p r (inl same) index = subst (λ r. HasIndexed r.watch Branching l r.blocks) (sym same) index
+begun_back l steps p r (inr begun) index =
+    subst₂ (λ w b. HasIndexed w Branching l b) (sym begun.watch) (sym begun.blocks)
+    (indexed_back_first l steps p.blocks (subst (λ w. HasIndexed w Branching l p.blocks) begun.nothing index) begun.entered begun.indexed)
+
+-- no list is known when that is begun, if none was known before
+pub begun_anew : (l : Grouped) (reach : Reach) (p r : Signed) → Begins l reach p r → IsAnew p → (r.blocks ≡ p.blocks) × IsAnew r
+begun_anew l reach p r (inl same) anew = (ap (λ r. r.blocks) same, subst IsAnew (sym same) anew)
+begun_anew l reach p r (inr begun) anew = (
+  begun.blocks,
+  record {
+    lists = begun.lists;
+    states = ap length begun.kept ∙ anew.states ∙ ap (λ b. length b.of) (sym begun.blocks);
+    empty = λ s. ap (λ ks. slice_index ks s) begun.kept ∙ anew.empty s;
+  },
+)
