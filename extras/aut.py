@@ -75,7 +75,7 @@ def write(words, file=None):
 
 
 def accepted(name):
-    """The open text of a system, from a file or, if the name is None, standard input, in which `autbis` finds no fault."""
+    """The open text of a system in which `autbis` finds no fault. If the name is None, it is on standard input."""
     program = path_of("autbis", "./install puts it into ~/.local/bin")
     shown = "standard input" if name is None else name
     try:
