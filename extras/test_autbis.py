@@ -446,7 +446,9 @@ class Ends(InFolder):
         # It sleeps first: a process that is ended right after it started the program may leave it running.
         fake = self.written(f"#!/bin/sh\nexec 3>'{pipe}'\nsleep 1\necho begun >&3\nexec sleep 60\n")
         fake.chmod(stat.S_IRWXU)
-        script = f"import autbis, concurrent.futures, io, sys\n{call}"
+        # Whoever runs this may have the signal ignored, as `nohup` does.
+        usual = "" if number == signal.SIGKILL else f"signal.signal({int(number)}, signal.SIG_DFL)\n"
+        script = f"import autbis, concurrent.futures, io, signal, sys\n{usual}{call}"
         found = {**os.environ, "PYTHONPATH": FOUND, "TMPDIR": str(left)}
         with subprocess.Popen([sys.executable, "-c", script, str(fake)], env=found) as process:
             with open(pipe, encoding="ascii") as said:
