@@ -31,6 +31,19 @@ hidden_label-shown H a none =
     ⊎_elim (λ e. absurd (none (contains_from H a e))) (λ e. cond-false (list_any (bytes_eq a) H) internal a e)
     (cases_Bool (list_any (bytes_eq a) H))
 
+hidden_label-internal : (H : List (List ℕ)) → hidden_label H internal ≡ internal
+hidden_label-internal H =
+    let hidden = list_any (bytes_eq internal) H in
+    ⊎_elim (λ e. cond-true hidden internal internal e) (λ e. cond-false hidden internal internal e) (cases_Bool hidden)
+
+-- what a label is shown as is not hidden
+pub hidden_label-again : (H : List (List ℕ)) (a : List ℕ) → hidden_label H (hidden_label H a) ≡ hidden_label H a
+hidden_label-again H a =
+    ⊎_elim
+    (λ e. let is = hidden_label-hidden H a (contains_from H a e) in ap (hidden_label H) is ∙ hidden_label-internal H ∙ sym is)
+    (λ e. ap (hidden_label H) (hidden_label-shown H a (λ c. both_ways _ e (found_from H a c))))
+    (cases_Bool (list_any (bytes_eq a) H))
+
 -- lists of the same labels hide each label alike
 pub hidden_label-same :
     (H K : List (List ℕ)) → ((a : List ℕ) → Contains H a ↔ Contains K a) → (a : List ℕ) → hidden_label H a ≡ hidden_label K a

@@ -1,13 +1,14 @@
 -- Triples over a label table, and the transitions that they stand for.
-use Rattle.std.proofs.Common.{◌≡◌, ◌⊎◌, ℕ, ◌+◌, ◌<◌, ◌≤◌, Contains, List, [], ◌∷◌, ◌++◌, length, map, refl, sym, ◌∙◌, ap, ap₂, subst, inl, inr, arith, All}
-use Rattle.std.proofs.lemmas.List.{length_push, length-map, map_push}
+use Rattle.std.proofs.Common.{◌≡◌, ◌⊎◌, ℕ, ◌+◌, ◌<◌, ◌≤◌, Contains, List, [], ◌∷◌, ◌++◌, length, map, get_or, refl, sym, ◌∙◌, ap, ap₂, subst, inl, inr, arith, All}
+use Rattle.std.proofs.lemmas.List.{length_push, length-map, map_push, get_or-map}
 use Rattle.std.proofs.lemmas.Bool.{cases_lt}
-use Rattle.std.proofs.lemmas.List.Elements.{All-nil, All-head, All-tail, All-push, All-weaker, Contains-append_left, Contains-get_or, Contains-push}
+use Rattle.std.proofs.lemmas.List.Elements.{All-nil, All-head, All-tail, All-push, All-weaker, All-map, All-contains, Contains-append_left, Contains-get_or, Contains-push}
 use Rattle.theory.specs.System.{Transition, IsAmong, Hide, hidden_label, hidden_transition}
-use Rattle.lts.specs.Labels.{Keeps, Interns, IsNumber}
+use Rattle.lts.specs.Labels.{text_of, Keeps, Interns, IsNumber}
 use Rattle.lts.specs.Lts.{Triple, IsTriple, transition_of, system_from, label_of}
 use Rattle.autfmt.specs.declared.held.Held.{Held}
-use Rattle.autfmt.specs.Held.{AddsTriple, Holds}
+use Rattle.autfmt.specs.Held.{AddsTriple, AreShown, Holds}
+use Rattle.autfmt.proofs.Hiding.{hidden_label-again}
 
 -- where a label is put in, each number is an old one or its own
 pub Interns-known :
@@ -98,6 +99,18 @@ Holds-add H n old now es e held among added =
       carried = carried_more old now e.source (hidden_label H e.label) e.target added held.carried;
       few_labels = omega (arith, ap length added.items, length_push old.transitions triple);
     }
+
+-- no label that is held is hidden
+pub Holds-shown : (H : List (List ℕ)) (n : ℕ) (held : Held) (es : List Transition) → Holds H n held es → AreShown H held.labels
+Holds-shown H n held es h k below =
+    let (e, among, number) = h.carried k below in
+    let made = transition_of held.labels in
+    let IsShown : Transition → Type 0 = λ t. hidden_label H t.label ≡ t.label in
+    let each = All-map IsShown (hidden_transition H) es (λ i d lt. hidden_label-again H (get_or es i d).label) in
+    let all = subst (All IsShown) (sym h.hidden) each in
+    let shown = All-contains (λ x. IsShown (made x)) held.transitions e
+    (λ i d lt. subst IsShown (get_or-map made held.transitions i d (made d) lt) (all i (made d) (omega (arith, length-map held.transitions made)))) among in
+    subst (λ i. hidden_label H (text_of held.labels i) ≡ text_of held.labels i) number shown
 
 -- nothing is held
 pub Holds-new : (H : List (List ℕ)) (n : ℕ) (held : Held) → held.labels ≡ [] → held.transitions ≡ [] → Holds H n held []

@@ -1,8 +1,8 @@
 -- What a reader holds: triples of numbers over a label table.
 use Rattle.std.specs.Prelude.{◌≡◌, ◌⊎◌, ℕ, ◌<◌, ◌≤◌, List, [], ◌∷◌, ◌++◌, length, map, Contains}
 use Rattle.std.specs.List.{All}
-use Rattle.theory.specs.System.{Transition, hidden_transition}
-use Rattle.lts.specs.Labels.{IsNumber, Keeps}
+use Rattle.theory.specs.System.{Transition, hidden_label, hidden_transition}
+use Rattle.lts.specs.Labels.{text_of, IsNumber, Keeps}
 use Rattle.lts.specs.Lts.{Triple, IsTriple, label_of, transition_of}
 use Rattle.autfmt.specs.declared.held.Held.{Held}
 
@@ -13,6 +13,10 @@ pub record AddsTriple (old now : Held) (s : ℕ) (a : List ℕ) (t : ℕ) : Type
   pub keeps : Keeps old.labels now.labels
   pub known : (k : ℕ) → k < length now.labels → (k < length old.labels) ⊎ (k ≡ number)
   pub items : now.transitions ≡ old.transitions ++ (s, number, t) ∷ []
+
+-- no label of the table is hidden
+abbrev pub AreShown : List (List ℕ) → (labels : List (List ℕ)) → Type 0
+AreShown H labels = (k : ℕ) → k < length labels → hidden_label H (text_of labels k) ≡ text_of labels k
 
 -- the triples stand for the transitions among n states, with the labels of H hidden, and the table has no other labels
 pub record Holds (H : List (List ℕ)) (n : ℕ) (held : Held) (es : List Transition) : Type 0 where

@@ -1,7 +1,8 @@
 //! The labels that are to be hidden.
-ghost use Rattle.std.specs.Prelude.{◌≡◌, ℕ, ◌<◌, List, [], length, OnOk};
-ghost use Rattle.theory.specs.System.{IsLabel, hidden_label};
+ghost use Rattle.std.specs.Prelude.{◌≡◌, ℕ, ◌<◌, List, [], length, Contains, IsSome, MatchOption, OnOk};
+ghost use Rattle.theory.specs.System.{IsLabel};
 ghost use Rattle.growth.specs.declared.limits.TheConstants.{MOST_LABELS};
+ghost use Rattle.lts.specs.Labels.{IsNumber};
 ghost use Rattle.autfmt.specs.HideReadSoFar.{AddsLabel};
 
 use lts::{Labels, Memory};
@@ -45,17 +46,15 @@ impl Hidden {
         Ok(())
     }
 
-    /// The label itself, or `i` if it is hidden.
-    pub(crate) fn shown<'a>(&self, label: &'a [u8]) -> &'a [u8]
-        ensures shown { result.now ≡ hidden_label self.now label.now }
-        ensures label { IsLabel result.now → IsLabel label.now }
+    /// The number of a label in this list, or `None` if it is not hidden. If the guess is right there is no search.
+    pub(crate) fn find(&self, label: &[u8], guess: u32) -> Option<u32>
+        ensures number { MatchOption result (¬ Contains self.now label.now)
+            (λ k. IsNumber self.now k label.now) }
+        ensures label { IsSome result → IsLabel label.now }
     {
-        if self.labels.len() == 0 {
-            return label;
+        if guess < self.labels.len() && self.labels.text(guess) == label {
+            return Some(guess);
         }
-        match self.labels.find(label) {
-            Some(_) => b"i",
-            None => label,
-        }
+        self.labels.find(label)
     }
 }

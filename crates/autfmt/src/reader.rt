@@ -203,12 +203,8 @@ fn take_usual(
         return Ok(false);
     }
     let left = rest.len();
-    let is_added = held.add_if_label(
-        source as u32,
-        h.shown(label),
-        target as u32,
-        promise.transitions,
-    )?;
+    let read = (source as u32, label, target as u32);
+    let is_added = held.add_if_label(read, promise.transitions, h)?;
     if !is_added {
         return Ok(false);
     }
@@ -246,7 +242,7 @@ fn read_transition<R: Source>(
         Step::TooLong => return Err(Fault::LineTooLong(found + 2)),
         Step::End => return Err(Fault::MissingEdges(found)),
     }
-    let (source, label, target) = judge_transition(cutter.line(), found + 2, promise)?;
-    held.add(source, h.shown(label), target, promise.transitions)?;
+    let read = judge_transition(cutter.line(), found + 2, promise)?;
+    held.add(read, promise.transitions, h)?;
     Ok(())
 }

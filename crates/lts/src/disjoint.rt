@@ -1,6 +1,9 @@
 //! The disjoint union of two systems.
 ghost use Rattle.std.specs.Prelude.{◌≡◌, ◌↔◌, ℕ, ◌+◌, ◌<◌, ◌≤◌, [], ◌∷◌, length, map, IsTrue, IfOk, OnOk};
+ghost use Rattle.theory.specs.System.{IsLabel};
 ghost use Rattle.theory.specs.Union.{union_of};
+ghost use Rattle.growth.specs.declared.limits.TheConstants.{MOST_LABELS};
+ghost use Rattle.lts.specs.Labels.{IsNumber, IsTable, Interns, Keeps};
 ghost use Rattle.lts.specs.Meter.{HasRoomFor, Costs, Visits};
 ghost use Rattle.lts.specs.Lts.{source_of, place_at, row_of, transition_of, system_of, IsCarried};
 ghost use Rattle.lts.specs.Union.{FitTogether};
@@ -25,21 +28,28 @@ pub fn union<M: Meter>(alloc: Global, a: &Lts<M>, b: &Lts<M>, m: &mut M) -> Resu
     requires fit { FitTogether a.now b.now }
     requires room { HasRoomFor (M.counted m.old) 0 (length a.now.places + length b.now.places) }
 
-    // On success: the union, and its table.
+    // Once it is done: the union, and its table.
     ensures system { IfOk result (λ u. system_of u ≡ union_of (system_of a.now) (system_of b.now)) }
     ensures labels { IfOk result (λ u. (k : ℕ) → k < length u.labels → IsCarried u k) }
 
-    // On success as many visits as transitions, on failure no more than these.
+    // Once it is done as many visits as transitions, after a refusal no more than these.
     ensures visits { let n = length a.now.places + length b.now.places in
         Visits M.counted m.old m.new result n n }
 {
+    let mut guesses = Vec::new(alloc);
+    guesses.resize(a.labels().len().max(b.labels().len()) as usize, 0)?;
     let mut joined = Joined {
         labels: Labels::new(alloc),
         triples: Vec::with_capacity(alloc, (a.edges() + b.edges()) as usize)?,
+        guesses,
     };
     joined.append(a, 0, m)?;
     joined.append(b, a.states(), m)?;
-    let Joined { labels, triples } = joined;
+    let Joined {
+        labels,
+        triples,
+        ..
+    } = joined;
     Lts::build(alloc, labels, a.first(), a.states() + b.states(), triples)
 }
 
@@ -48,6 +58,8 @@ pub fn union<M: Meter>(alloc: Global, a: &Lts<M>, b: &Lts<M>, m: &mut M) -> Resu
 struct Joined {
     labels: Labels,
     triples: Vec<(u32, u32, u32)>,
+    /// The number here that each label of the system which is appended may have, by its number there.
+    guesses: Vec<u32>,
 }
 
 impl Joined {
@@ -56,16 +68,18 @@ impl Joined {
         requires few_states { shift + s.now.states ≤ MOST_STATES }
         requires few { length self.old.triples.items + length s.now.places ≤ MOST_TRANSITIONS }
         requires joined { IsJoined self.old.labels shift self.old.triples.items }
+        requires guesses { length s.now.labels ≤ length self.old.guesses.items }
         requires room { HasRoomFor (M.counted m.old) 0 (length s.now.places) }
 
-        // On success the triples are joined, and stand for the transitions of `s` too.
+        // Once it is done the triples are joined, and stand for the transitions of `s` too.
         ensures joined { OnOk result
             (IsJoined self.new.labels (shift + s.now.states) self.new.triples.items) }
         ensures added { let all = (system_of s.now).transitions in
             OnOk result (AddsShifted shift all self.old.labels self.old.triples.items
             self.new.labels self.new.triples.items) }
+        ensures guesses { length self.new.guesses.items ≡ length self.old.guesses.items }
 
-        // On success as many visits as transitions of `s`, on failure no more than these.
+        // Once it is done as many visits as transitions of `s`, after a refusal no more than these.
         ensures visits { let n = length s.now.places in Visits M.counted m.old m.new result n n }
     {
         for state in 0..s.states() {
@@ -86,16 +100,18 @@ impl Joined {
         requires few { length self.old.triples.items + length (row_of state s.now.places)
             ≤ MOST_TRANSITIONS }
         requires joined { IsJoined self.old.labels (shift + s.now.states) self.old.triples.items }
+        requires guesses { length s.now.labels ≤ length self.old.guesses.items }
         requires room { HasRoomFor (M.counted m.old) 0 (length (row_of state s.now.places)) }
 
-        // On success the triples are joined, and stand for the row too.
+        // Once it is done the triples are joined, and stand for the row too.
         ensures joined { OnOk result
             (IsJoined self.new.labels (shift + s.now.states) self.new.triples.items) }
         ensures added { let row = map (transition_of s.now.labels) (row_of state s.now.places) in
             OnOk result (AddsShifted shift row self.old.labels self.old.triples.items
             self.new.labels self.new.triples.items) }
+        ensures guesses { length self.new.guesses.items ≡ length self.old.guesses.items }
 
-        // On success as many visits as transitions of the row, on failure no more than these.
+        // Once it is done as many visits as transitions of the row, after a refusal no more than these.
         ensures visits { let n = length (row_of state s.now.places) in
             Visits M.counted m.old m.new result n n }
     {
@@ -119,23 +135,51 @@ impl Joined {
         requires state { state ≡ source_of (place_at s.now.places k) }
         requires few { length self.old.triples.items < MOST_TRANSITIONS }
         requires joined { IsJoined self.old.labels (shift + s.now.states) self.old.triples.items }
+        requires guesses { length s.now.labels ≤ length self.old.guesses.items }
         requires room { HasRoomFor (M.counted m.old) 0 1 }
 
-        // On success the triples are joined, and stand for this transition too.
+        // Once it is done the triples are joined, and stand for this transition too.
         ensures joined { OnOk result
             (IsJoined self.new.labels (shift + s.now.states) self.new.triples.items) }
         ensures added { let one = transition_of s.now.labels (place_at s.now.places k) ∷ [] in
             OnOk result (AddsShifted shift one self.old.labels self.old.triples.items
             self.new.labels self.new.triples.items) }
+        ensures guesses { length self.new.guesses.items ≡ length self.old.guesses.items }
 
         // In either case: one visit.
         ensures visit { Costs (M.counted m.old) (M.counted m.new) 0 1 1 }
     {
         s.known();
         let (label, target) = s.edge(k, m);
-        let number = self.labels.intern(s.labels().text(label))?;
+        let number = self.number_of(s.labels().text(label), label)?;
         let e = &mut self.triples;
         e.push((shift + state, number, shift + target))?;
         Ok(())
+    }
+
+    /// The number of a label, which is appended if it is new; in the system that it comes from its number is `there`. If the
+    /// guess is right there is no search.
+    fn number_of(&mut self, label: &[u8], there: u32) -> Result<u32, Memory>
+        requires label { IsLabel label.now }
+        requires room { length self.old.labels < MOST_LABELS }
+        requires there { there < length self.old.guesses.items }
+
+        // Once it is done: the number, in a table that has grown by this label at most.
+        ensures number { IfOk result (λ k. IsNumber self.new.labels k label.now) }
+        ensures table { OnOk result (Interns self.old.labels label.now self.new.labels) }
+
+        // In either case.
+        ensures keeps { Keeps self.old.labels self.new.labels }
+        ensures is_table { IsTable self.new.labels }
+        ensures triples { self.new.triples ≡ self.old.triples }
+        ensures guesses { length self.new.guesses.items ≡ length self.old.guesses.items }
+    {
+        let guess = self.guesses[there as usize];
+        if guess < self.labels.len() && self.labels.text(guess) == label {
+            return Ok(guess);
+        }
+        let number = self.labels.intern(label)?;
+        self.guesses[there as usize] = number;
+        Ok(number)
     }
 }

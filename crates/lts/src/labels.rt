@@ -70,11 +70,11 @@ impl Labels {
         requires label { IsLabel b.now }
         requires room { length self.old < MOST_LABELS }
 
-        // On success: the number, in a table that has grown by this label at most.
+        // Once it is done: the number, in a table that has grown by this label at most.
         ensures number { IfOk result (λ k. IsNumber self.new k b.now) }
         ensures table { OnOk result (Interns self.old b.now self.new) }
 
-        // On failure the table is as it was.
+        // After a refusal the table is as it was.
         ensures err { OnErr result (self.new ≡ self.old) }
 
         // In either case.

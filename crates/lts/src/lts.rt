@@ -76,13 +76,13 @@ impl<M: Meter> Lts<M> {
     ) -> Result<Lts<M>, Memory>
         requires { InRange (length l) first states e.items }
 
-        // On success: the parts, with the transitions in their places.
+        // Once it is done: the parts, with the transitions in their places.
         ensures first { IfOk result (λ s. s.first ≡ first) }
         ensures states { IfOk result (λ s. s.states ≡ states) }
         ensures labels { IfOk result (λ s. s.labels ≡ l) }
         ensures places { IfOk result (λ s. s.places ≡ grouped states e.items) }
 
-        // On success: what follows of the order of the places, and of the system.
+        // Once it is done: what follows of the order of the places, and of the system.
         ensures grouping { IfOk result (λ s. IsGrouping e.items s.places) }
         ensures system { IfOk result
             (λ s. Groups (system_from first states l e.items) (system_of s)) }
@@ -94,13 +94,13 @@ impl<M: Meter> Lts<M> {
     pub fn of(l: Labels, first: u32, states: u32, e: Transitions) -> Result<Lts<M>, Memory>
         requires { InRange (length l) first states e }
 
-        // On success: the parts, with the transitions in their places.
+        // Once it is done: the parts, with the transitions in their places.
         ensures first { IfOk result (λ s. s.first ≡ first) }
         ensures states { IfOk result (λ s. s.states ≡ states) }
         ensures labels { IfOk result (λ s. s.labels ≡ l) }
         ensures places { IfOk result (λ s. s.places ≡ grouped states e) }
 
-        // On success: what follows of the order of the places, and of the system.
+        // Once it is done: what follows of the order of the places, and of the system.
         ensures grouping { IfOk result (λ s. IsGrouping e s.places) }
         ensures system { IfOk result (λ s. Groups (system_from first states l e) (system_of s)) }
     {
@@ -119,13 +119,13 @@ impl<M: Meter> Lts<M> {
     ) -> Result<Lts<M>, Memory>
         requires { InRange (length other.now.labels) first states e }
 
-        // On success: the parts, with the transitions in their places.
+        // Once it is done: the parts, with the transitions in their places.
         ensures first { IfOk result (λ s. s.first ≡ first) }
         ensures states { IfOk result (λ s. s.states ≡ states) }
         ensures labels { IfOk result (λ s. s.labels ≡ other.now.labels) }
         ensures places { IfOk result (λ s. s.places ≡ grouped states e) }
 
-        // On success: what follows of the order of the places, and of the system.
+        // Once it is done: what follows of the order of the places, and of the system.
         ensures grouping { IfOk result (λ s. IsGrouping e s.places) }
         ensures system { IfOk result
             (λ s. Groups (system_from first states other.now.labels e) (system_of s)) }

@@ -2,11 +2,11 @@ use Rattle.std.proofs.Common.{◌≡◌, List, length, inl, arith}
 use Rattle.std.proofs.lemmas.Result.{err_from_is_err_and}
 use Rattle.theory.specs.System.{Transition, IsAmong}
 use Rattle.autfmt.specs.Held.{Holds}
-use Rattle.autfmt.proofs.Holding.{Holds-add}
+use Rattle.autfmt.proofs.Holding.{Holds-add, Holds-shown}
 use Rattle.autfmt.proofs.ReaderSteps.{transition_too_long, transition_missing, transition_failed, transition_good, transition_faulty, transition_refused, goes_on, count_held}
 use Rattle.autfmt.proofs.reader.read_transition.Given.{Over}
 use Rattle.autfmt.proofs.reader.read_transition.Goals as goal
-use Rattle.autfmt.proofs.reader.read_transition.Goals.{After-advance, After-shown}
+use Rattle.autfmt.proofs.reader.read_transition.Goals.{After-advance, In_ok-read}
 
 -- as many transitions were read as triples are held
 count : (g : Over) (c : After-advance g) (es : List Transition) → Holds c.args.h.now c.args.promise.states c.args.held.now es →
@@ -48,17 +48,17 @@ returns-in-End-clause-transition g c =
           transition_missing s.0 standing.0 _ _ _ (count g at es standing.1) sound _ (omega arith) end s.2,
     )
 
-pub returns-in_err-source-clause-transition : goal.returns-in_err-source-clause-transition
-returns-in_err-source-clause-transition g c =
-    let at = (goal.at.returns-in_err-source-clause-transition g c).After-advance in
+pub returns-in_err-read-clause-transition : goal.returns-in_err-read-clause-transition
+returns-in_err-read-clause-transition g c =
+    let at = (goal.at.returns-in_err-read-clause-transition g c).After-advance in
     let s = rw c.in-Line.is at c.in_ok-advance.ensures.step in
-    let p = err_from_is_err_and c.from_residual-in_err-source.result c.from_residual-in_err-source.ensures.1 in
-    let bad = rw c.line.ensures at c.in_err-source.ensures.fault in (
+    let p = err_from_is_err_and c.from_residual-in_err-read.result c.from_residual-in_err-read.ensures.1 in
+    let bad = rw c.line.ensures at c.in_err-read.ensures.fault in (
       s.0,
       s.1,
       λ bounds given es standing. rw (p.1, p.2)
           (transition_faulty s.0 standing.0 _ _ _ (count g at es standing.1) c.in_ok-advance.ensures.failures _ _ (omega arith)
-          (goes_on s.2.0) (c.advance.ensures.end c.requires.source.end) s.2.1 bad c.in_err-source.ensures.kind),
+          (goes_on s.2.0) (c.advance.ensures.end c.requires.source.end) s.2.1 bad c.in_err-read.ensures.kind),
     )
 
 pub returns-in_err-add-clause-transition : goal.returns-in_err-add-clause-transition
@@ -73,13 +73,13 @@ returns-in_err-add-clause-transition g c =
     )
 
 -- the transition that was judged is among the states
-read : (g : Over) (c : After-shown g) → (e : Transition) × IsAmong c.args.promise.states e
+read : (g : Over) (c : In_ok-read g) → (e : Transition) × IsAmong c.args.promise.states e
 read g c = (
-  record { source = c.in_ok-source.source; label = c.in_ok-source.label.now; target = c.in_ok-source.target },
+  record { source = c.in_ok-read.read.0; label = c.in_ok-read.read.1.now; target = c.in_ok-read.read.2 },
   record {
-    source = c.in_ok-source.ensures.among.0;
-    label = c.in_ok-source.ensures.label;
-    target = c.in_ok-source.ensures.among.1;
+    source = c.in_ok-read.ensures.among.0;
+    label = c.in_ok-read.ensures.label;
+    target = c.in_ok-read.ensures.among.1;
   },
 )
 
@@ -87,11 +87,12 @@ pub returns-clause-transition : goal.returns-clause-transition
 unfolding read
 returns-clause-transition g c =
     let s = rw c.in-Line.is at c.in_ok-advance.ensures.step in
-    let (e, among) = read g (goal.at.returns-clause-transition g c).After-shown in
-    let good = rw c.line.ensures at c.in_ok-source.ensures.good in (
+    let (e, among) = read g (goal.at.returns-clause-transition g c).In_ok-read in
+    let good = rw c.line.ensures at c.in_ok-read.ensures.good in (
       s.0,
       s.1,
       λ bounds given es standing.
           let so_far = transition_good s.0 standing.0 _ e (goes_on s.2.0) s.2.1 good among in
-          (e, (so_far, Holds-add _ _ _ _ es e standing.1 among (rw c.shown.ensures.shown at c.in_ok-add.ensures.added))),
+          let added = c.in_ok-add.ensures.added (Holds-shown _ _ _ es standing.1) in
+          (e, (so_far, Holds-add _ _ _ _ es e standing.1 among added)),
     )

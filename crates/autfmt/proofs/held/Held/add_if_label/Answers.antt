@@ -2,10 +2,10 @@ use Rattle.autfmt.proofs.Holding.{Interns-known}
 use Rattle.autfmt.proofs.held.Held.add_if_label.Goals as goal
 
 pub returns-clause-added : goal.returns-clause-added
-returns-clause-added c _ =
+returns-clause-added c shown _ =
     let n = c.in-Some.number in
-    let numbered = rw c.in-Some.is at c.in_ok-number.ensures.number in
-    let table = rw c.in-Some.is at c.in_ok-number.ensures.table in
+    let numbered = rw c.in-Some.is at c.in_ok-number.ensures.number shown in
+    let table = rw c.in-Some.is at c.in_ok-number.ensures.table shown in
     record {
       number = n;
       numbered = numbered;

@@ -1,4 +1,4 @@
-use Rattle.std.proofs.Common.{◌≡◌, ◌∙◌, ◌+◌, ◌<◌, ◌≤◌, length, map, take, ap, subst, sym, arith, rules}
+use Rattle.std.proofs.Common.{◌≡◌, ◌∙◌, ◌+◌, ◌<◌, ◌≤◌, length, map, take, ap, subst, sym, refl, arith, rules}
 use Rattle.std.proofs.lemmas.List.{take_all}
 use Rattle.std.proofs.lemmas.List.Elements.{All-weaker}
 use Rattle.growth.specs.declared.limits.TheConstants.{MOST_TRANSITIONS}
@@ -13,6 +13,7 @@ pub loop-state-init : goal.loop-state-init
 loop-state-init g c =
     let none = before-zero c.args.s.now.places in
     record {
+      guesses = refl;
       joined = IsJoined-weaker c.args.self.now.labels c.args.shift (c.args.shift + c.args.s.now.states) c.args.self.now.triples.items (omega arith) c.requires.few_states c.requires.joined;
       added =
           subst (λ n. AddsShifted c.args.shift (map (transition_of c.args.s.now.labels) (take n c.args.s.now.places)) c.args.self.now.labels c.args.self.now.triples.items c.args.self.now.labels c.args.self.now.triples.items)
@@ -40,6 +41,7 @@ pub loop-state-preserved : goal.loop-state-preserved
 loop-state-preserved g c =
     let next = before-next c.loop-state.state c.args.s.now.places in
     record {
+      guesses = c.append_row.ensures.guesses ∙ c.loop-state.invariant.guesses;
       joined = c.in_ok-append_row.ensures.joined;
       added =
           AddsShifted-row c.args.shift c.args.s.now.labels c.args.s.now.places c.loop-state.state

@@ -1,4 +1,4 @@
-use Rattle.std.proofs.Common.{arith, rules}
+use Rattle.std.proofs.Common.{◌∙◌, arith, rules}
 use Rattle.lts.proofs.Joining.{AddsShifted-place}
 use Rattle.lts.proofs.disjoint.Joined.append_row.Goals as goal
 
@@ -6,6 +6,7 @@ pub loop-k-preserved : goal.loop-k-preserved
 loop-k-preserved g c =
     let low = c.loop-k.auto.k in
     record {
+      guesses = c.append_place.ensures.guesses ∙ c.loop-k.invariant.guesses;
       joined = c.in_ok-append_place.ensures.joined;
       added =
           AddsShifted-place c.args.shift c.args.s.now.labels c.args.s.now.places c.args.state c.row-start.result.0 c.row-start.result.1 c.loop-k.k

@@ -1,0 +1,36 @@
+use Rattle.std.proofs.Common.{◌≡◌, sym, subst}
+use Rattle.theory.specs.System.{internal, hidden_label}
+use Rattle.lts.specs.Labels.{IsNumber, Interns}
+use Rattle.autfmt.proofs.Hiding.{hidden_label-hidden, hidden_label-shown, contains_numbered}
+use Rattle.autfmt.proofs.held.number_of.Goals as goal
+use Rattle.autfmt.proofs.held.number_of.Goals.{In-Some, In_default}
+
+-- a label that is found in the list is hidden
+hidden : (c : In-Some) → hidden_label c.args.h.now c.args.label.now ≡ internal
+hidden c =
+    hidden_label-hidden c.args.h.now c.args.label.now
+    (contains_numbered c.args.h.now c.in-Some.hidden c.args.label.now c.in-Some.ensures.number)
+
+pub returns-in-Some-clause-number : goal.returns-in-Some-clause-number
+returns-in-Some-clause-number c _ =
+    subst (IsNumber c.intern.new.self c.in_ok-number.number)
+    (sym (hidden ((goal.at.returns-in-Some-clause-number c).In-Some))) c.in_ok-number.ensures.number
+
+pub returns-in-Some-clause-table : goal.returns-in-Some-clause-table
+returns-in-Some-clause-table c _ =
+    subst (λ a. Interns c.args.labels.now a c.intern.new.self)
+    (sym (hidden ((goal.at.returns-in-Some-clause-table c).In-Some))) c.in_ok-number.ensures.table
+
+-- no other is
+shown : (c : In_default) → hidden_label c.args.h.now c.args.label.now ≡ c.args.label.now
+shown c = hidden_label-shown c.args.h.now c.args.label.now c.in_default.ensures.number
+
+pub returns-clause-number : goal.returns-clause-number
+returns-clause-number c _ =
+    subst (IsNumber c.intern-2.new.self c.in_ok-number-2.number)
+    (sym (shown ((goal.at.returns-clause-number c).In_default))) c.in_ok-number-2.ensures.number
+
+pub returns-clause-table : goal.returns-clause-table
+returns-clause-table c _ =
+    subst (λ a. Interns c.args.labels.now a c.intern-2.new.self)
+    (sym (shown ((goal.at.returns-clause-table c).In_default))) c.in_ok-number-2.ensures.table
