@@ -4,6 +4,7 @@ use Rattle.autbis.specs.Ends.{Contents}
 use Rattle.autbis.specs.Ends.Contents.{one, two}
 use Rattle.autbis.specs.Files.{FilesUsed, HasAll, HasLostNone, Name}
 use Rattle.autbis.specs.Jobs.{HidesNamed, files_of, hide_of, texts_of, told_of}
+use Rattle.autbis.specs.declared.opening.Opened.{Opened}
 use Rattle.autbis.specs.declared.opening.Texts.{Texts}
 use Rattle.autbis.specs.declared.opening.Texts.TheVariants.{Input, One, Two}
 use Rattle.words.specs.declared.words.Job.{Job}
@@ -53,11 +54,11 @@ pub record AreOpened {File : Type 0}
 
 -- all that a job names was opened, and its hide list read
 pub record IsOpened {F File : Type 0} (rest : File → Option (List ℕ)) (failures : File → ℕ)
-    (files : FilesUsed F) (job : Job) (opened : Texts File × List (List ℕ)) : Type 0 where
+    (files : FilesUsed F) (job : Job) (opened : Opened File) : Type 0 where
   pub all : HasAll files (files_of job)
   pub none_lost : HasLostNone files
-  pub texts : AreOpened rest failures (files.holds files.old) job opened.0
-  pub hidden : HidesNamed (files.holds files.old) (hide_of job) opened.1
+  pub texts : AreOpened rest failures (files.holds files.old) job opened.texts
+  pub hidden : HidesNamed (files.holds files.old) (hide_of job) opened.hidden
 
 -- files were closed, and none was asked for
 pub record OnlyCloses {F : Type 0} (files : FilesUsed F) : Type 0 where

@@ -9,10 +9,10 @@ ghost use Rattle.autbis.specs.Programs.{AnswersWords, AskFor, AskForNone};
 ghost use Rattle.autbis.specs.Runs.{asks, used};
 
 use crate::opener::Opener;
-use crate::opening::{Texts, close_texts, open_job};
+use crate::opening::{Opened, Texts, close_texts, open_job};
 use crate::program::{cmp_program, min_program};
 use crate::reports::answer_words;
-use autfmt::{Hidden, Limits, Sink, Source};
+use autfmt::{Limits, Sink, Source};
 use quotient::Relation;
 use std::alloc::Global;
 use std::io::{self, ErrorKind, Write};
@@ -52,12 +52,12 @@ pub fn main_program<F: Opener, R: Source, W: Sink, E: Write>(
         Err(fault) => return answer_words(&fault, output, e),
     };
     match open_job(alloc, &job, files, e) {
-        Ok((mut texts, hidden)) => {
-            let status = run_opened(alloc, &job, &mut texts, &hidden, input, output, e);
-            close_texts(files, texts);
+        Ok(mut opened) => {
+            let status = run_opened(alloc, &job, &mut opened, input, output, e);
+            close_texts(files, opened.texts);
             status
         }
-        Err(status) => status,
+        Err(given_up) => given_up.status,
     }
 }
 
@@ -88,27 +88,27 @@ fn relation_of(job: &Job) -> Relation
 fn run_opened<S: Source, R: Source, W: Sink, E: Write>(
     alloc: Global,
     job: &Job,
-    texts: &mut Texts<S>,
-    hidden: &Hidden,
+    opened: &mut Opened<S>,
     input: &mut R,
     output: &mut W,
     e: &mut E,
 ) -> u8
-    requires texts { HaveNotFailed S.failures texts.old }
+    requires texts { HaveNotFailed S.failures opened.old.texts }
     requires input { R.failures input.old ≡ 0 }
     requires output { W.failures output.old ≡ 0 }
-    ensures ends { EndsRun (asks (relation_of job.now) file_bounds hidden.now)
-        (contents_of S.rest (R.rest input.old) texts.old)
-        ((R.failures input.new ≡ 0) × HaveNotFailed S.failures texts.new)
-        ((R.failures input.new ≡ 1) ⊎ (AreFiles texts.old × HasOneFailed S.failures texts.new))
+    ensures ends { EndsRun (asks (relation_of job.now) file_bounds opened.old.hidden)
+        (contents_of S.rest (R.rest input.old) opened.old.texts)
+        ((R.failures input.new ≡ 0) × HaveNotFailed S.failures opened.new.texts)
+        ((R.failures input.new ≡ 1)
+        ⊎ (AreFiles opened.old.texts × HasOneFailed S.failures opened.new.texts))
         (used W.written W.failures output.old output.new) result }
-    ensures unread { AreFiles texts.old → input.new ≡ input.old }
-    ensures count { count_of texts.new ≡ count_of texts.old }
+    ensures unread { AreFiles opened.old.texts → input.new ≡ input.old }
+    ensures count { count_of opened.new.texts ≡ count_of opened.old.texts }
 {
     let stats = matches!(job, Job::Min { stats: true, .. });
-    let (rel, lim, h) = (relation_of(job), &Limits::file(), hidden);
+    let (rel, lim, h) = (relation_of(job), &Limits::file(), &opened.hidden);
     let (name, next) = names_of(job);
-    match texts {
+    match &mut opened.texts {
         Texts::Input => min_program(alloc, input, name, output, e, rel, stats, lim, h),
         Texts::One(file) => min_program(alloc, file, name, output, e, rel, stats, lim, h),
         Texts::Two(a, b) => cmp_program(alloc, a, name, b, next, output, e, rel, lim, h),

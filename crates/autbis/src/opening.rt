@@ -22,48 +22,62 @@ pub enum Texts<File> {
     Two(File, File),
 }
 
+/// All that a job names, open: its texts, and the labels of its hide list, which was read.
+#[derive(Drop)]
+pub struct Opened<File> {
+    pub texts: Texts<File>,
+    pub hidden: Hidden,
+}
+
+/// The job was given up with this exit status, and why is said.
+#[derive(Clone, Copy)]
+pub struct GivenUp {
+    pub status: u8,
+}
+
 /// Opens the texts of the job, and then its hide list, which is read and closed; none after one that cannot be opened.
-/// Returns the texts and the labels of the list. Fails with the exit status, and all closed: 2 for a faulty list, 4 for want
-/// of memory, 5 for what cannot be opened or read.
+///
+/// # Errors
+/// The job is given up, and all is closed: with 2 for a faulty list, 4 for want of memory, 5 for what cannot be opened or read.
 pub fn open_job<F: Opener, E: Write>(
     alloc: Global,
     job: &Job,
     files: &mut F,
     e: &mut E,
-) -> Result<(Texts<F::File>, Hidden), u8>
+) -> Result<Opened<F::File>, GivenUp>
     requires sound { F.failures files.old ≡ 0 }
     ensures opened { IfOk result (IsOpened F.File.rest F.File.failures
         (files_used F.holds F.opened F.failures F.lost files.old files.new) job.now) }
-    ensures given_up { IfErr result
-        (IsGivenUp (files_used F.holds F.opened F.failures F.lost files.old files.new)
-        (files_of job.now) (hide_of job.now)) }
+    ensures given_up { IfErr result (λ given_up.
+        IsGivenUp (files_used F.holds F.opened F.failures F.lost files.old files.new)
+        (files_of job.now) (hide_of job.now) given_up.status) }
     ensures unclosed { MatchResult result
-        (λ opened. F.unclosed files.new ≤ F.unclosed files.old + count_of opened.0)
+        (λ opened. F.unclosed files.new ≤ F.unclosed files.old + count_of opened.texts)
         (λ _. F.unclosed files.new ≤ F.unclosed files.old) }
 {
     let texts = open_texts(job, files, e)?;
     let (Job::Min { hide, .. } | Job::Cmp { hide, .. }) = job;
     match hidden_of(alloc, files, hide, e) {
-        Ok(hidden) => Ok((texts, hidden)),
-        Err(status) => {
+        Ok(hidden) => Ok(Opened { texts, hidden }),
+        Err(given_up) => {
             close_texts(files, texts);
-            Err(status)
+            Err(given_up)
         }
     }
 }
 
-/// Opens the texts of a job. Fails with the exit status, 5, if one cannot be opened; the first of two is then closed.
+/// Opens the texts of a job. It is given up, with 5, if one cannot be opened; the first of two is then closed.
 fn open_texts<F: Opener, E: Write>(
     job: &Job,
     files: &mut F,
     e: &mut E,
-) -> Result<Texts<F::File>, u8>
+) -> Result<Texts<F::File>, GivenUp>
     requires sound { F.failures files.old ≡ 0 }
     ensures texts { IfOk result
         (AreOpened F.File.rest F.File.failures (F.holds files.old) job.now) }
     ensures order { let used = files_used F.holds F.opened F.failures F.lost files.old files.new in
         MatchResult result (λ _. HasAll used (texts_of job.now))
-        (IsRefused used (texts_of job.now)) }
+        (λ given_up. IsRefused used (texts_of job.now) given_up.status) }
     ensures none_lost { F.lost files.new ≡ F.lost files.old }
     ensures unclosed { MatchResult result
         (λ texts. F.unclosed files.new ≤ F.unclosed files.old + count_of texts)
@@ -79,41 +93,44 @@ fn open_texts<F: Opener, E: Write>(
             let first = open_named(files, first.as_str(), e)?;
             match open_named(files, second.as_str(), e) {
                 Ok(second) => Ok(Texts::Two(first, second)),
-                Err(status) => {
+                Err(given_up) => {
                     files.close(first);
-                    Err(status)
+                    Err(given_up)
                 }
             }
         }
     }
 }
 
-/// Opens the file `name`. Fails with the exit status, 5, if it cannot be opened, which is said on `e`.
-fn open_named<F: Opener, E: Write>(files: &mut F, name: &str, e: &mut E) -> Result<F::File, u8>
+/// Opens the file `name`. The job is given up, with 5, if it cannot be opened, which is said on `e`.
+fn open_named<F: Opener, E: Write>(files: &mut F, name: &str, e: &mut E) -> Result<F::File, GivenUp>
     requires sound { F.failures files.old ≡ 0 }
     ensures file { IfOk result (λ file. F.File.failures file ≡ 0) }
     ensures bytes { IfSome (F.holds files.old name.now) (λ bytes.
         IfOk result (λ file. F.File.rest file ≡ Some bytes)) }
     ensures order { let used = files_used F.holds F.opened F.failures F.lost files.old files.new in
-        MatchResult result (λ _. HasAll used (name.now ∷ [])) (IsRefused used (name.now ∷ [])) }
+        MatchResult result (λ _. HasAll used (name.now ∷ []))
+        (λ given_up. IsRefused used (name.now ∷ []) given_up.status) }
     ensures none_lost { F.lost files.new ≡ F.lost files.old }
     ensures unclosed { MatchResult result (λ _. F.unclosed files.new ≤ F.unclosed files.old + 1)
         (λ _. F.unclosed files.new ≤ F.unclosed files.old) }
 {
     match files.open(name) {
         Ok(file) => Ok(file),
-        Err(_) => Err(cannot_open(name, e)),
+        Err(_) => Err(GivenUp {
+            status: cannot_open(name, e),
+        }),
     }
 }
 
-/// Opens, reads and closes the hide list, and returns its labels; none if there is no list. Fails with the exit status,
-/// as `open_job`.
+/// Opens, reads and closes the hide list, and returns its labels; none if there is no list. The job is given up as by
+/// `open_job`.
 fn hidden_of<F: Opener, E: Write>(
     alloc: Global,
     files: &mut F,
     hide: &Option<String>,
     e: &mut E,
-) -> Result<Hidden, u8>
+) -> Result<Hidden, GivenUp>
     requires sound { F.failures files.old ≡ 0 }
     ensures labels { IfOk result
         (HidesNamed (F.holds files.old) (option_map string_bytes hide.now)) }
@@ -121,9 +138,9 @@ fn hidden_of<F: Opener, E: Write>(
         (files_used F.holds F.opened F.failures F.lost files.old files.new)
         (option_to_list (option_map string_bytes hide.now))) }
     ensures none_lost { OnOk result (F.lost files.new ≡ F.lost files.old) }
-    ensures given_up { IfErr result
-        (IsGivenUp (files_used F.holds F.opened F.failures F.lost files.old files.new)
-        (option_to_list (option_map string_bytes hide.now)) (option_map string_bytes hide.now)) }
+    ensures given_up { let name = option_map string_bytes hide.now in IfErr result (λ given_up.
+        IsGivenUp (files_used F.holds F.opened F.failures F.lost files.old files.new)
+        (option_to_list name) name given_up.status) }
     ensures unclosed { F.unclosed files.new ≤ F.unclosed files.old }
 {
     autfmt::a_hide_list_reads_or_has_a_fault();
@@ -135,7 +152,9 @@ fn hidden_of<F: Opener, E: Write>(
     files.close(file);
     match labels {
         Ok(hidden) => Ok(hidden),
-        Err(fault) => Err(report(&fault, name.as_str(), e)),
+        Err(fault) => Err(GivenUp {
+            status: report(&fault, name.as_str(), e),
+        }),
     }
 }
 

@@ -10,7 +10,7 @@ invariant-loop-alloc l = record {
   among : AreAmong l.initial.live.items l.live.items;
   more : (s : ℕ) → IsOne l.live.items s → IsOne l.initial.live.items s ⊎ HasOther l.of (slice_index l.numbers) s;
   idle : HaveNone l.live.items l.numbers;
-  counts : AreCounts l.of l.count l.counts;
+  counts : AreCounts l.of (length l.initial.counts.sizes.items) l.counts;
 }
 
 abbrev pub decreases-loop-alloc : goal.decreases-loop-alloc
