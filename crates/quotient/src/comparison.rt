@@ -29,13 +29,13 @@ pub fn equivalent<M: Meter>(
     requires fresh { IsFresh (M.counted m.old) }
     requires fit { FitTogether a.now b.now }
 
-    // On success: the verdict, and the rounds that one refinement of the union takes.
+    // Once it is done: the verdict, and the rounds that one refinement of the union takes.
     ensures verdict { IfOk result
         (λ same. IsTrue same ↔ Equivalent r (system_of a.now) (system_of b.now)) }
     ensures turns { let both = union_of (system_of a.now) (system_of b.now) in
         OnOk result (Turns r both (M.counted m.new).rounds) }
 
-    // On success as many visits as both have transitions for the union and for each round, on failure no more than these.
+    // Once it is done as many visits as both have transitions for the union and for each round, after a refusal no more than these.
     ensures keeps { let at = M.counted m.new in let k = length a.now.places + length b.now.places in
         KeepsTo (a.now.states + b.now.states) k 1 at (on_ok result ((at.rounds + 1) * k)) }
 {

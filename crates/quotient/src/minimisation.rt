@@ -27,7 +27,7 @@ pub fn minimise<M: Meter>(
 ) -> Result<Lts<Counter>, Memory>
     requires fresh { IsFresh (M.counted m.old) }
 
-    // On success: the quotient, and what makes it the smallest system.
+    // Once it is done: the quotient, and what makes it the smallest system.
     ensures quotient { IfOk result (λ q. Quotient r (system_of l.now) (system_of q)) }
     ensures equivalent { IfOk result (λ q. Equivalent r (system_of l.now) (system_of q)) }
     ensures no_two_bisimilar { IfOk result (λ q. (s t : ℕ) →
@@ -37,7 +37,7 @@ pub fn minimise<M: Meter>(
     ensures no_larger { IfOk result
         (λ q. (q.states ≤ l.now.states) × (length q.places ≤ length l.now.places)) }
 
-    // On success: the rounds of one refinement. In either case: at most one for each state, and the visits that they allow.
+    // Once it is done: the rounds of one refinement. In either case: at most one for each state, and the visits that they allow.
     ensures turns { OnOk result (Turns r (system_of l.now) (M.counted m.new).rounds) }
     ensures keeps { let at = M.counted m.new in let k = length l.now.places in
         KeepsTo l.now.states k 2 at (on_ok result (at.rounds * k)) }

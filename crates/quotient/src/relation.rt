@@ -19,12 +19,12 @@ pub(crate) fn blocks<M: Meter>(
 ) -> Result<Partition, Memory>
     requires room { HasRoomFor (M.counted m.old) l.now.states (l.now.states * length l.now.places) }
 
-    // On success: a block for each state, and the rounds that refinement takes, each of as many visits as there are transitions.
+    // Once it is done: a block for each state, and the rounds that refinement takes, each of as many visits as there are transitions.
     ensures states { IfOk result (λ p. length p ≡ l.now.states) }
     ensures classes { IfOk result (λ p. AreClasses r l.now p) }
     ensures turns { OnOk result (TakesTurns r l.now (M.counted m.old) (M.counted m.new)) }
 
-    // On failure: no more rounds than states, and no more visits than these cost.
+    // After a refusal: no more rounds than states, and no more visits than these cost.
     ensures err { OnErr result
         (CostsUpTo (M.counted m.old) (M.counted m.new) l.now.states (length l.now.places)) }
 {
