@@ -52,7 +52,11 @@ impl Hidden {
             (λ k. IsNumber self.now k label.now) }
         ensures label { IsSome result → IsLabel label.now }
     {
-        if guess < self.labels.len() && self.labels.text(guess) == label {
+        let len = self.labels.len();
+        if len == 0 {
+            return None;
+        }
+        if guess < len && self.labels.text(guess) == label {
             return Some(guess);
         }
         self.labels.find(label)
