@@ -40,34 +40,25 @@ RELATIONS = {"strong": "#2166ac", "branching": "#d6604d"}
 GREY = "#555"
 SIDE = 300  # of a plot
 FAR = 3  # times more or less than the line says, for a name
-KINDS = (  # the name, {} being the last number; the family; the numbers, the largest last; what the name does not say
-    ("philosophers {}", "philosophers", (6, 7, 8), "k dining philosophers; taking and putting forks is internal"),
-    ("leader election {}", "leader-election", (11, 13),
-        "k stations in a ring (Chang and Roberts 1979); messages are internal"),
-    ("token ring {}", "token-ring", (10, 13, 15), "of k stations the one with the token may enter; passing it on is internal"),
-    ("lossy channels {}", "lossy-channels", (3, 6, 9),
-        "two alternating-bit protocols in series, for k values; all but the ends is internal"),
-    ("buffers {}", "buffers", (9, 11, 12), "a row of k one-place buffers for two values; passing one on is internal"),
-    ("counters {}", "counters", (6, 7, 8), "k independent counters modulo 5; nothing is internal"),
-    ("random, sparse", "random-system", ("100000 100000 20 20", "1000000 1000000 20 20"),
-        "one transition a state, 20 % internal: each from a random earlier state"),
-    ("random, 5 % internal", "random-system", ("1000000 10000000 20 5",), ""),
-    ("random, 20 % internal", "random-system", ("1000000 10000000 20 20",), ""),
-    ("random, 30 % internal", "random-system", ("25000 100000 5 30", "250000 1000000 5 30"), ""),
-    ("internal cycle", "internal-cycle", (5_000, 10_000),
-        "a cycle of n internal steps, and from each state a visible step to the end"),
-    ("chain", "chain", (2_000, 5_000, 10_000), "a line of n states with one label"),
-)  # fmt: skip
-SYSTEMS = {kind: [f"{family} {numbers}" for numbers in sizes] for kind, family, sizes, _ in KINDS}
+KINDS = {  # the name, {} being the last number; the family; the numbers, the largest last
+    "philosophers {}": ("philosophers", (6, 7, 8)),
+    "leader election {}": ("leader-election", (11, 13)),
+    "token ring {}": ("token-ring", (10, 13, 15)),
+    "lossy channels {}": ("lossy-channels", (3, 6, 9)),
+    "buffers {}": ("buffers", (9, 11, 12)),
+    "counters {}": ("counters", (6, 7, 8)),
+    "random, sparse": ("random-system", ("100000 100000 20 20", "1000000 1000000 20 20")),
+    "random, 5 % internal": ("random-system", ("1000000 10000000 20 5",)),
+    "random, 20 % internal": ("random-system", ("1000000 10000000 20 20",)),
+    "random, 30 % internal": ("random-system", ("25000 100000 5 30", "250000 1000000 5 30")),
+    "internal cycle": ("internal-cycle", (5_000, 10_000)),
+    "chain": ("chain", (2_000, 5_000, 10_000)),
+}
+SYSTEMS = {kind: [f"{family} {numbers}" for numbers in sizes] for kind, (family, sizes) in KINDS.items()}
 IN_README = "leader election {}", "token ring {}", "lossy channels {}", "buffers {}", "random, 5 % internal"
 SAME_RULE = "signs every state in every round", "signs only what can have changed"
+MADE = "inert-cycle", "inert-line", "line-over-hub", "hubs", "halves", "own-labels", "twins", "line-by-twos"
 SIZES = 8_000, 16_000, 32_000
-MADE = {  # rows of the third table: what the systems are, and their families
-    "six others: cycles and lines of N inert steps with N labels, and N states that share N labels, nearly or not at all":
-        ("inert-cycle", "inert-line", "line-over-hub", "hubs", "halves", "own-labels"),
-    "two states with N labels and one more; N states that lead to each, and show the other's one and a new label": ("twins",),
-    "a line of N inert steps with a label for each state, and N states with inert steps to two states of it": ("line-by-twos",),
-}  # fmt: skip
 
 
 class Row(NamedTuple):
@@ -190,8 +181,7 @@ def measure_all(program, runs):
 def wanted():
     for systems in SYSTEMS.values():
         yield from ((system, relation) for system in systems for relation in RELATIONS)
-    for families in MADE.values():
-        yield from ((f"{family} {n}", "branching") for family in families for n in SIZES)
+    yield from ((f"{family} {n}", "branching") for family in MADE for n in SIZES)
 
 
 def write(path, text):
@@ -233,12 +223,12 @@ def line_of(*cells):
 def table(rows):
     """The first table: a line for the largest system of each kind, with both relations."""
     found = ("Strong: rounds", "Seconds", "MB", "Branching: rounds", "Seconds", "MB")
-    yield line_of("System", "What it is", "States", "Transitions", *found)
-    yield "|---|---|--:|--:|--:|--:|--:|--:|--:|--:|"
-    for kind, _, _, about in KINDS:
+    yield line_of("System", "States", "Transitions", *found)
+    yield "|---|--:|--:|--:|--:|--:|--:|--:|--:|"
+    for kind in KINDS:
         strong, branching = largest(rows, kind)
         sizes = (f"{size:,}" for size in (strong.states, strong.transitions))
-        yield line_of(named(kind), about, *sizes, *cells(strong), *cells(branching))
+        yield line_of(named(kind), *sizes, *cells(strong), *cells(branching))
 
 
 def ratios(rows):
@@ -257,15 +247,14 @@ def ratios(rows):
     return lines
 
 
-def made_table(rows):
-    """The third table: made systems by branching bisimilarity, the slowest of a line, and the most megabytes."""
-    yield line_of("Made system", f"N = {SIZES[0]:,}", *(f"{n:,}" for n in SIZES[1:]), "MB")
-    yield "|---|" + "--:|" * (len(SIZES) + 1)
-    for about, families in MADE.items():
-        columns = [[rows[f"{family} {n}", "branching"] for family in families] for n in SIZES]
-        slowest = (max(row.seconds or LONGEST for row in column) for column in columns)
-        most = max(row.megabytes or 0 for column in columns for row in column)
-        yield line_of(about, *(f"{seconds:.2f}" for seconds in slowest), most)
+def made_lines(rows):
+    """What the made systems take by branching bisimilarity: the slowest of each size, and the most megabytes."""
+    columns = [[rows[f"{family} {n}", "branching"] for family in MADE] for n in SIZES]
+    seconds = (f"{max(row.seconds or LONGEST for row in column):.2f}" for column in columns)
+    most = max(row.megabytes or 0 for column in columns for row in column)
+    sizes = ", ".join(f"{n:,}" for n in SIZES)
+    yield f"{len(MADE)} families, such as `{MADE[0]}` and `{MADE[-1]}`, of N = {sizes} take at most"
+    yield f"{', '.join(seconds)} seconds, and {most} MB."
 
 
 def readme_rows(rows):
@@ -393,10 +382,10 @@ def replaced(text, pattern, lines):
 
 def draw(day=()):
     rows = rows_of(ROWS.read_text())
-    tables = {"day": day, "table": table(rows), "table of ratios": ratios(rows), "table of made systems": made_table(rows)}
+    parts = {"day": day, "table": table(rows), "ratios": ratios(rows), "made systems": made_lines(rows)}
     page = PAGE.read_text()
-    for mark, lines in tables.items():
-        page = replaced(page, rf"(<!-- the {mark} is written by measure/scale.py -->\n).*?(\n\n)", lines)
+    for mark, lines in parts.items():
+        page = replaced(page, rf"(<!-- measure/scale.py: {mark} -->\n).*?(\n\n)", lines)
     readme = replaced(README.read_text(), r"(```text\n) +states transitions.*?(\n```)", readme_rows(rows))
     write(PICTURE, "\n".join(drawing(rows)) + "\n")
     write(PAGE, page)
