@@ -187,59 +187,33 @@ impl Hasher for Fold {
 
 type Map<K, V> = std::collections::HashMap<K, V, BuildHasherDefault<Fold>>;
 
-pub struct IndexMap<K, V>(Map<K, V>);
-
-impl<K: Eq + Hash, V> IndexMap<K, V> {
-    pub fn new(_: Global) -> IndexMap<K, V> {
-        IndexMap(Map::default())
-    }
-    pub fn get(&self, key: &K) -> Option<&V> {
-        self.0.get(key)
-    }
-    pub fn insert(&mut self, key: K, value: V) -> Grown<Option<V>> {
-        Ok(self.0.insert(key, value))
-    }
-    pub fn clear(&mut self) {
-        self.0.clear();
-    }
-}
-
 /// Byte strings by number, alone: what the label table needs.
-pub struct IndexSet<T> {
+pub struct IndexMap<K, V> {
     numbers: Map<std::vec::Vec<u8>, usize>,
-    items: std::vec::Vec<T>,
+    keys: std::vec::Vec<K>,
+    values: std::marker::PhantomData<V>,
 }
 
-impl IndexSet<Vec<u8>> {
+impl IndexMap<Vec<u8>, ()> {
     pub fn new(_: Global) -> Self {
-        IndexSet { numbers: Map::default(), items: std::vec::Vec::new() }
+        IndexMap { numbers: Map::default(), keys: std::vec::Vec::new(), values: std::marker::PhantomData }
     }
     pub fn len(&self) -> usize {
-        self.items.len()
+        self.keys.len()
     }
-    pub fn get_index_of(&self, item: &[u8]) -> Option<usize> {
-        self.numbers.get(item).copied()
+    pub fn get_index_of(&self, key: &[u8]) -> Option<usize> {
+        self.numbers.get(key).copied()
     }
-    pub fn get_index(&self, number: usize) -> Option<&Vec<u8>> {
-        self.items.get(number)
-    }
-    pub fn insert_full(&mut self, item: Vec<u8>) -> Grown<(usize, bool)> {
-        if let Some(number) = self.get_index_of(&item) {
-            return Ok((number, false));
+    pub fn insert(&mut self, key: Vec<u8>, _: ()) -> Grown<Option<()>> {
+        if self.get_index_of(&key).is_some() {
+            return Ok(Some(()));
         }
-        self.numbers.insert(item.0.clone(), self.items.len());
-        self.items.push(item);
-        Ok((self.items.len() - 1, true))
+        self.numbers.insert(key.0.clone(), self.keys.len());
+        self.keys.push(key);
+        Ok(None)
     }
-    pub fn iter(&self) -> std::slice::Iter<'_, Vec<u8>> {
-        self.items.iter()
-    }
-}
-
-impl Index<usize> for IndexSet<Vec<u8>> {
-    type Output = Vec<u8>;
-    fn index(&self, number: usize) -> &Vec<u8> {
-        &self.items[number]
+    pub fn keys(&self) -> std::slice::Iter<'_, Vec<u8>> {
+        self.keys.iter()
     }
 }
 

@@ -143,7 +143,7 @@ fn number_of(
 {
     let slot = guess_slot(label);
     let guess = guesses.shown[slot];
-    if guess < labels.len() && labels.text(guess) == label {
+    if labels.has(guess, label) {
         return Ok(Some(guess));
     }
     if let Some(hidden) = h.find(label, guesses.hidden[slot]) {

@@ -52,11 +52,10 @@ impl Hidden {
             (λ k. IsNumber self.now k label.now) }
         ensures label { IsSome result → IsLabel label.now }
     {
-        let len = self.labels.len();
-        if len == 0 {
+        if self.labels.len() == 0 {
             return None;
         }
-        if guess < len && self.labels.text(guess) == label {
+        if self.labels.has(guess, label) {
             return Some(guess);
         }
         self.labels.find(label)

@@ -1,15 +1,17 @@
 -- The label table, as a list of texts: what a look-up says, and what a new label leaves.
-use Rattle.std.proofs.Common.{◌≡◌, ◌≢◌, ◌∙◌, ℕ, zero, suc, ◌+◌, ◌<◌, ◌≤◌, Bool, true, false, cond, not, ltb, List, [], ◌∷◌, ◌++◌, length, map, get_or, Option, Some, None, Contains, sym, ap, subst, refl, inl, inr, arith}
-use Rattle.std.specs.List.{list_any, slice_get, position, position_or_len, prefix_len}
+use Rattle.std.proofs.Common.{◌≡◌, ◌≢◌, ◌∙◌, ℕ, zero, suc, ◌+◌, ◌<◌, ◌≤◌, Bool, true, false, ◌||◌, cond, not, ltb, List, [], ◌∷◌, ◌++◌, length, map, get_or, Option, Some, None, is_some, true≢false, Contains, sym, ap, subst, refl, inl, inr, arith}
+use Rattle.std.specs.List.{list_any, position, position_or_len, prefix_len}
 use Rattle.std.specs.Str.{bytes_eq}
+use Rattle.std.specs.Map.{lookup}
+use Rattle.indexmap.specs.IndexMap.{insert_entry}
 use Rattle.std.proofs.lemmas.Bool.{both_ways, or_left, or_right, cases_lt}
 use Rattle.std.proofs.lemmas.Slice.Eq.{bytes_eq-Decides}
-use Rattle.std.proofs.lemmas.List.{length-map, length_push, map_push, get_or_push, get_or_append_left}
-use Rattle.std.proofs.lemmas.List.Elements.{All-push, All-get_or, Contains-get_or}
+use Rattle.std.proofs.lemmas.List.{length-map, length_push, get_or_push, get_or_append_left}
+use Rattle.std.proofs.lemmas.List.Elements.{All-push, Contains-get_or}
 use Rattle.std.proofs.lemmas.List.Quantifiers.{position-Some}
 use Rattle.theory.specs.System.{IsLabel}
 use Rattle.growth.specs.declared.limits.TheConstants.{MOST_LABELS}
-use Rattle.lts.specs.Labels.{text_of, IsNumber, IsTable}
+use Rattle.lts.specs.Labels.{text_of, IsNumber, IsTable, Keeps}
 
 -- a search in a mapped list is a search by the mapped test
 prefix_len-map : {X Y : Type 0} (p : Y → Bool) (f : X → Y) (xs : List X) → prefix_len p (map f xs) ≡ prefix_len (λ x. p (f x)) xs
@@ -74,20 +76,38 @@ IsTable-push labels a t new is room = record {
   short = omega (arith, length_push labels a);
 }
 
--- what a read by place gives of a mapped list
-pub get_or-map-slice_get : {X : Type 0} (f : X → List ℕ) (xs : List X) (k : ℕ) (v : X) → slice_get xs k ≡ Some v → (k < length (map f xs)) × (f v ≡ get_or (map f xs) k [])
-get_or-map-slice_get f [] k v e = cc
-get_or-map-slice_get f (x ∷ xs) zero v e = (omega arith, cc)
-get_or-map-slice_get f (x ∷ xs) (suc k) v e = let at = get_or-map-slice_get f xs k v e in (omega arith, at.1)
+pub IsNumber-push : (labels : List (List ℕ)) (a : List ℕ) → IsNumber (labels ++ a ∷ []) (length labels) a
+IsNumber-push labels a = record {
+  below = omega (arith, length_push labels a);
+  text = get_or_push labels a [] (length labels) refl;
+}
 
-pub IsLabel-slice_get : {X : Type 0} (f : X → List ℕ) (xs : List X) (k : ℕ) (v : X) → IsTable (map f xs) → slice_get xs k ≡ Some v → IsLabel (f v)
-IsLabel-slice_get f xs k v t e =
-    let at = get_or-map-slice_get f xs k v e in
-    subst IsLabel (sym at.1) (All-get_or IsLabel (map f xs) k [] at.0 t.each_label)
+pub Keeps-push : (labels : List (List ℕ)) (a : List ℕ) → Keeps labels (labels ++ a ∷ [])
+Keeps-push labels a = record {
+  longer = omega (arith, length_push labels a);
+  texts = λ k h. get_or_append_left labels (a ∷ []) [] k h;
+}
 
--- the keys after an insert of v, which holds the bytes of a: they stay, or v goes last
-pub map-insert_key : {X : Type 0} (f : X → List ℕ) (xs : List X) (v : X) (a : List ℕ) → f v ≡ a → list_any (λ x. bytes_eq a (f x)) xs ≡ false →
-    map f (cond (list_any (λ x. bytes_eq (f v) (f x)) xs) xs (xs ++ v ∷ [])) ≡ map f xs ++ a ∷ []
-map-insert_key f xs v a e none =
-    ap (λ t. map f (cond (list_any (λ x. bytes_eq t (f x)) xs) xs (xs ++ v ∷ []))) e
-    ∙ ap (λ b. map f (cond b xs (xs ++ v ∷ []))) none ∙ map_push f xs v ∙ ap (λ t. map f xs ++ t ∷ []) e
+-- a look-up that finds nothing: no key passes the test
+pub none_passes : {X V : Type 0} (p : X → Bool) (es : List (X × V)) → is_some (lookup p es) ≡ false → list_any p (map (λ e. e.0) es) ≡ false
+none_passes p [] none = refl
+none_passes p (e ∷ es) none = by (none_passes p es) (p e.0) refl
+  where
+    by : (is_some (lookup p es) ≡ false → list_any p (map (λ e. e.0) es) ≡ false) → (b : Bool) → p e.0 ≡ b → list_any p (e.0 ∷ map (λ e. e.0) es) ≡ false
+    by rest true is = absurd (true≢false (sym (ap (λ b. is_some (cond b (Some e.1) (lookup p es))) is) ∙ none))
+    by rest false is =
+        ap (λ b. b || list_any p (map (λ e. e.0) es)) is
+        ∙ rest (sym (ap (λ b. is_some (cond b (Some e.1) (lookup p es))) is) ∙ none)
+
+-- the keys after an insert of one that is not there: it goes last
+pub keys-insert : {X V : Type 0} (eq : X → X → Bool) (es : List (X × V)) (x : X) (v : V) →
+    list_any (eq x) (map (λ e. e.0) es) ≡ false → map (λ e. e.0) (insert_entry eq es x v) ≡ map (λ e. e.0) es ++ x ∷ []
+keys-insert eq [] x v none = refl
+keys-insert eq (e ∷ es) x v none = by (keys-insert eq es x v) (eq x e.0) refl
+  where
+    by : (list_any (eq x) (map (λ e. e.0) es) ≡ false → map (λ e. e.0) (insert_entry eq es x v) ≡ map (λ e. e.0) es ++ x ∷ []) →
+        (b : Bool) → eq x e.0 ≡ b → map (λ e. e.0) (insert_entry eq (e ∷ es) x v) ≡ e.0 ∷ map (λ e. e.0) es ++ x ∷ []
+    by rest true is = absurd (true≢false (sym (ap (λ b. b || list_any (eq x) (map (λ e. e.0) es)) is) ∙ none))
+    by rest false is =
+        ap (λ b. map (λ e. e.0) (cond b ((e.0, v) ∷ es) (e ∷ insert_entry eq es x v))) is
+        ∙ ap (λ xs. e.0 ∷ xs) (rest (sym (ap (λ b. b || list_any (eq x) (map (λ e. e.0) es)) is) ∙ none))

@@ -175,7 +175,7 @@ impl Joined {
         ensures guesses { length self.new.guesses.items ≡ length self.old.guesses.items }
     {
         let guess = self.guesses[there as usize];
-        if guess < self.labels.len() && self.labels.text(guess) == label {
+        if self.labels.has(guess, label) {
             return Ok(guess);
         }
         let number = self.labels.intern(label)?;

@@ -5,7 +5,7 @@ ghost use Rattle.growth.specs.declared.limits.TheConstants.{MOST_LABELS};
 ghost use Rattle.lts.specs.Labels.{text_of, IsNumber, IsTable, Keeps, Interns};
 
 use growth::Memory;
-use indexmap::IndexSet;
+use indexmap::IndexMap;
 use std::alloc::Global;
 use std::marker::Model;
 
@@ -19,7 +19,8 @@ pub fn is_label(b: &[u8]) -> bool
 /// A list of different labels. The number of a label is its place in the list.
 pub struct Labels {
     alloc: Global,
-    texts: IndexSet<Vec<u8>>,
+    /// Each text, with nothing beside it: a set's statements are half as many again, and each crate above loads them.
+    texts: IndexMap<Vec<u8>, ()>,
 }
 
 /// Written out, so that labels are dropped by one call and not by one for each part.
@@ -31,14 +32,15 @@ impl Drop for Labels {
 
 impl Model for Labels {
     ghost use Rattle.std.specs.Prelude.{ℕ, List, map};
+    ghost use Rattle.indexmap.specs.IndexMap.{keys};
 
     ghost Value = { List (List ℕ) };
 
     ghost use Rattle.lts.specs.Labels.{IsTable};
 
-    ghost view = { λ t. map (λ v. v.items) t.texts.keys };
+    ghost view = { λ t. map (λ v. v.items) (keys t.texts) };
 
-    ghost invariant = { λ t. IsTable (map (λ v. v.items) t.texts.keys) };
+    ghost invariant = { λ t. IsTable (map (λ v. v.items) (keys t.texts)) };
 }
 
 impl Labels {
@@ -48,7 +50,7 @@ impl Labels {
     {
         Labels {
             alloc,
-            texts: IndexSet::new(alloc),
+            texts: IndexMap::new(alloc),
         }
     }
 
@@ -84,9 +86,10 @@ impl Labels {
         if let Some(k) = self.texts.get_index_of(b) {
             return Ok(k as u32);
         }
+        let k = self.len();
         let text = Vec::from_slice(self.alloc, b)?;
-        let (k, _) = self.texts.insert_full(text)?;
-        Ok(k as u32)
+        self.texts.insert(text, ())?;
+        Ok(k)
     }
 
     /// The number of the label with these bytes, or `None` if there is none.
@@ -103,7 +106,16 @@ impl Labels {
         ensures text { result.now ≡ text_of self.now k }
         ensures label { IsLabel result.now }
     {
-        &self.texts[k as usize]
+        &self.texts.keys().as_slice()[k as usize]
+    }
+
+    /// Whether `k` is the number of the label with these bytes.
+    #[inline(always)]
+    pub fn has(&self, k: u32, b: &[u8]) -> bool
+        ensures number { IsTrue result ↔ IsNumber self.now k b.now }
+        ensures table { IsTable self.now }
+    {
+        k < self.len() && self.text(k) == b
     }
 
     /// How many labels there are.
