@@ -9,8 +9,8 @@
 //! # Which states a round looks at
 //!
 //! Between splits a block keeps its number, and a new block gets the next one. So what a split changes is seen by numbers:
-//! those from `low` on are new. Once fewer than a quarter of the blocks are new, the system tells which transitions lead to
-//! each state (`lts::Sources`), and from then on a split is followed by a search (`entering`):
+//! those from `low` on are new. Once fewer than a quarter of the blocks were new in six rounds, the system tells which
+//! transitions lead to each state (`lts::Sources`), and from then on a split is followed by a search (`entering`):
 //!
 //! ```text
 //! block   0     0     0     0     0     2     1       low = 2: the block of the state 5 is new

@@ -17,8 +17,11 @@ use partition::Blocks;
 use std::alloc::Global;
 use std::marker::Model;
 
-/// Rounds look at few states once fewer than one block of so many is new: the index costs as much as a round, so it has to save one.
+/// A round is late if fewer than one block of so many is new: the states that it has to look at are few then.
 const FEW_ARE_NEW: u32 = 4;
+
+/// So many late rounds look at all states before the index is made, which costs as much as three: most systems have no more.
+const LATE_ROUNDS: u32 = 6;
 
 /// The index, once it is made, by which the states that the next round looks at are found.
 #[derive(Drop)]
@@ -44,6 +47,8 @@ pub struct SignedBlocks {
     pub(crate) watch: Watch,
     /// When there are more lists, all are forgotten.
     pub(crate) most_lists: u32,
+    /// How many late rounds looked at all states.
+    late_rounds: u32,
 }
 
 impl Model for SignedBlocks {
@@ -80,6 +85,7 @@ impl SignedBlocks {
             pairs: Vec::new(alloc),
             watch: Watch::Nothing,
             most_lists: u32::MAX,
+            late_rounds: 0,
         })
     }
 
@@ -147,7 +153,7 @@ impl SignedBlocks {
     }
 
     /// Asks the system for the index of the transitions from the states that this round looks at, unless that was done, once few blocks
-    /// are new. No list is known then.
+    /// were new in some rounds. No list is known then.
     ///
     /// Fails if there is no memory for it.
     pub fn begin_index<M: Meter>(mut self, l: &Lts<M>, reach: Reach) -> Result<SignedBlocks, Memory>
@@ -159,6 +165,10 @@ impl SignedBlocks {
         };
         let count = self.blocks.count();
         if self.blocks.low() <= count - count / FEW_ARE_NEW {
+            return Ok(self);
+        }
+        if self.late_rounds < LATE_ROUNDS {
+            self.late_rounds += 1;
             return Ok(self);
         }
         forget(&mut self.numbers, self.blocks.live());

@@ -1,9 +1,8 @@
-use Rattle.std.proofs.Common.{◌∙◌, ap, refl, subst}
-use Rattle.partition.specs.Blocks.{AreAmong}
-use Rattle.partition.specs.Splitting.{Splits}
-use Rattle.rounds.specs.EachList.{list_of}
+use Rattle.std.proofs.Common.{ap, refl}
+use Rattle.rounds.specs.EachList.{Signed}
 use Rattle.rounds.specs.declared.signed_blocks.Watch.TheVariants.{Nothing}
-use Rattle.rounds.proofs.EachList.{parted, split_fits}
+use Rattle.rounds.proofs.EachList.{split_fits}
+use Rattle.rounds.proofs.Rounding.{split_of}
 use Rattle.rounds.proofs.signed_blocks.split_all.Goals as goal
 
 pub invariant_of-result : goal.invariant_of-result
@@ -11,12 +10,6 @@ invariant_of-result c = split_fits _ _ _ _ _ Nothing c.in_ok-blocks.ensures (c.r
 
 pub returns : goal.returns
 returns c =
-    let r = c.round.inside in
-    let q = c.in_ok-blocks.blocks in
     let next = c.in_ok-blocks.ensures in
-    let splits = parted r.lists r.numbers.items _ r.blocks q c.known.ensures c.round.invariant.0 c.deref.ensures.value next in
-    record {
-      splits = subst (λ r. Splits r.blocks.of r.blocks.count (list_of r.lists r.numbers) q.of q.count) c.round.view_is splits;
-      low = next.low ∙ ap (λ r. r.blocks.count) c.round.view_is;
-      watches = (refl, subst (λ r. AreAmong r.blocks.live q.live) c.round.view_is next.live);
-    }
+    split_of _ _ _ _ _ _ (ap (λ (r : Signed). record r { watch = Nothing }) c.round.view_is) c.known.ensures
+    c.round.invariant.0 c.deref.ensures.value next refl (refl, next.live)
