@@ -6,9 +6,8 @@ use Rattle.std.proofs.lemmas.Bool.{cases_eq, cases_lt}
 use Rattle.std.proofs.lemmas.List.{take_all, map-set, length-set, get_or-set_same, get_or-set_other}
 use Rattle.std.proofs.lemmas.List.Elements.{All-contains, All-map, All-replicate}
 use Rattle.lists.specs.declared.known.Union.{Union}
-use Rattle.lists.specs.Lists.{list_at, Grow}
 use Rattle.lists.specs.Known.{noted_union, IsNone, no_entry}
-use Rattle.lists.specs.Unions.{Unites, IsUnion, AreUnions}
+use Rattle.lists.specs.Unions.{IsUnion, AreUnions}
 use Rattle.lists.proofs.Joining.{or_swap}
 
 pub if_some : (o : Option ℕ) (P Q : ℕ → Type 0) → ((i : ℕ) → P i → Q i) → IfSome o P → IfSome o Q
@@ -76,14 +75,3 @@ AreUnions-note {lists} unions noted key i are is from z d = elim (from z d) [
     | inr e ↦ subst (λ w. IsUnion lists w.0 w.1) (sym e) is
   ]
 ]
-
--- lists that both grow into
-pub unites_back : (old new : List (List (ℕ × ℕ))) (list : List (ℕ × ℕ)) (j k : ℕ) → Grow old new → j < length old → k < length old
-    → Unites list (list_at new j) (list_at new k) → Unites list (list_at old j) (list_at old k)
-unites_back old new list j k grow first second h =
-    subst (λ l. Unites list (list_at old j) l) (grow.same k second) (subst (λ l. Unites list l (list_at new k)) (grow.same j first) h)
-
-pub unites_forth : (old new : List (List (ℕ × ℕ))) (list : List (ℕ × ℕ)) (j k : ℕ) → Grow old new → j < length old → k < length old
-    → Unites list (list_at old j) (list_at old k) → Unites list (list_at new j) (list_at new k)
-unites_forth old new list j k grow first second h =
-    subst (λ l. Unites list (list_at new j) l) (sym (grow.same k second)) (subst (λ l. Unites list l (list_at old k)) (sym (grow.same j first)) h)

@@ -2,10 +2,12 @@
 use Rattle.std.proofs.Common.{◌≡◌, ◌∙◌, ◌⊎◌, ℕ, suc, ◌+◌, ◌*◌, ◌<◌, ◌≤◌, List, length, slice_index, set, replicate, ap, sym, subst, refl, inl, inr, arith}
 use Rattle.std.proofs.lemmas.Bool.{cases_lt, cases_eq, cond_below, cond_above}
 use Rattle.std.proofs.lemmas.List.{length-set, length-replicate, get_or-set_same, get_or-set_other}
+use Rattle.partition.specs.Partition.{AreBlocks}
 use Rattle.partition.specs.Sizes.{AreSizesWithout, block_size}
 use Rattle.partition.specs.Blocks.{AreLive, HaveNone, IsOne}
 use Rattle.partition.specs.Representatives.{HasKeeper, HaveVoted, AreKeepers, HaveKeepers}
 use Rattle.partition.proofs.Counting.{block_size-some}
+use Rattle.partition.proofs.Living.{below_states}
 use Rattle.partition.proofs.Refilling.{zero_at}
 use Rattle.partition.proofs.Taking.{left_over}
 use Rattle.partition.specs.Halving.{PartSmall, BoundVotes, ballots, votes_for, block_at}
@@ -18,11 +20,12 @@ IsDecided sizes voted first keepers b =
     ⊎ ((slice_index keepers b ≡ slice_index voted b) × (slice_index sizes b ≡ 0))
 
 -- the block b is in one of the first i places
-abbrev pub HasPlace : (ℕ → ℕ) → ℕ → ℕ → Type 0
+abbrev HasPlace : (ℕ → ℕ) → ℕ → ℕ → Type 0
 HasPlace block_at i b = (j : ℕ) × (j < i) × (block_at j ≡ b)
 
 -- so far for the blocks in the first i places, by keepers that agree with those of these blocks
-pub record DecidedUpTo (block_at : ℕ → ℕ) (i : ℕ) (sizes voted first keepers votes all : List ℕ) : Type 0 where
+pub record DecidedUpTo (block_at : ℕ → ℕ) (i : ℕ) (sizes voted first keepers votes : List ℕ) : Type 0 where
+  pub all : List ℕ
   pub room : length keepers ≡ length sizes
   pub votes_room : length votes ≡ length sizes
   pub all_room : length all ≡ length sizes
@@ -36,8 +39,9 @@ pub record DecidedUpTo (block_at : ℕ → ℕ) (i : ℕ) (sizes voted first kee
   pub stays : (b : ℕ) → (slice_index keepers b ≡ slice_index voted b) ⊎ (slice_index keepers b ≡ 0)
 
 pub DecidedUpTo-none : (block_at : ℕ → ℕ) (sizes voted first : List ℕ) → length voted ≡ length sizes → length first ≡ length sizes
-    → DecidedUpTo block_at 0 sizes voted first voted first (replicate (length sizes) 0)
+    → DecidedUpTo block_at 0 sizes voted first voted first
 DecidedUpTo-none block_at sizes voted first room votes_room = record {
+  all = replicate (length sizes) 0;
   room = room;
   votes_room = votes_room;
   all_room = length-replicate {A = ℕ} (length sizes) 0;
@@ -51,28 +55,27 @@ DecidedUpTo-none block_at sizes voted first room votes_room = record {
   stays = λ b. inl refl;
 }
 
-module _ (block_at : ℕ → ℕ) (i : ℕ) (sizes voted first keepers votes all : List ℕ) (below : block_at i < length sizes)
-    (up : DecidedUpTo block_at i sizes voted first keepers votes all) where
-  abbrev b : ℕ
-  b = block_at i
-
+-- the block b is in the place i
+module _ {block_at : ℕ → ℕ} {i b : ℕ} {sizes voted first keepers votes : List ℕ} (at : block_at i ≡ b)
+    (below : b < length sizes) (up : DecidedUpTo block_at i sizes voted first keepers votes) where
   earlier_place : (j : ℕ) → j < i + 1 → ¬ (block_at j ≡ b) → j < i
   earlier_place j h d = elim (cases_lt j i) [
     | inl low ↦ low
-    | inr high ↦ let here : j ≡ i = omega (arith, h, high) in absurd (d (ap block_at here))
+    | inr high ↦ let here : j ≡ i = omega (arith, h, high) in absurd (d (ap block_at here ∙ at))
   ]
 
   -- the next block has the keeper x, which is the empty list if it has others, and else what it was
   DecidedUpTo-more : (x : ℕ) (keepers' : List ℕ) → ((x ≡ 0) × (0 < slice_index sizes b) × ((slice_index voted b ≡ 0) ⊎ (slice_index first b ≤ slice_index sizes b))) ⊎ ((x ≡ slice_index keepers b) × (slice_index sizes b ≡ 0))
       → length keepers' ≡ length keepers → slice_index keepers' b ≡ x → ((k : ℕ) → ¬ (k ≡ b) → slice_index keepers' k ≡ slice_index keepers k)
-      → DecidedUpTo block_at (i + 1) sizes voted first keepers' (set votes b 0) (set all b x)
+      → DecidedUpTo block_at (i + 1) sizes voted first keepers' (set votes b 0)
   DecidedUpTo-more x keepers' either size now rest =
-      let now_all = get_or-set_same all b x 0 (omega (arith, below, up.all_room)) in
+      let now_all = get_or-set_same up.all b x 0 (omega (arith, below, up.all_room)) in
       let now_votes = get_or-set_same votes b 0 0 (omega (arith, below, up.votes_room)) in
       record {
+        all = set up.all b x;
         room = size ∙ up.room;
         votes_room = length-set votes b 0 ∙ up.votes_room;
-        all_room = length-set all b x ∙ up.all_room;
+        all_room = length-set up.all b x ∙ up.all_room;
         same = λ k h. elim (cases_eq k b) [
           | inl e ↦ elim either [
             | inl y ↦ absurd (omega (arith, y.1, ap (slice_index sizes) e, h))
@@ -81,8 +84,8 @@ module _ (block_at : ℕ → ℕ) (i : ℕ) (sizes voted first keepers votes all
           | inr d ↦ rest k d ∙ up.same k h
         ];
         agree = λ j h. elim (cases_eq (block_at j) b) [
-          | inl e ↦ ap (slice_index keepers') e ∙ now ∙ sym (ap (slice_index (set all b x)) e ∙ now_all)
-          | inr d ↦ rest (block_at j) d ∙ up.agree j (earlier_place j h d) ∙ sym (get_or-set_other all b (block_at j) x 0 d)
+          | inl e ↦ ap (slice_index keepers') e ∙ now ∙ sym (ap (slice_index (set up.all b x)) e ∙ now_all)
+          | inr d ↦ rest (block_at j) d ∙ up.agree j (earlier_place j h d) ∙ sym (get_or-set_other up.all b (block_at j) x 0 d)
         ];
         decided = λ j h. elim (cases_eq (block_at j) b) [
           | inl e ↦
@@ -97,8 +100,8 @@ module _ (block_at : ℕ → ℕ) (i : ℕ) (sizes voted first keepers votes all
               elim (up.decided j (earlier_place j h d)) [ inl y ↦ inl (was ∙ y.0, y.1, y.2) | inr y ↦ inr (was ∙ y.0, y.1) ]
         ];
         unmet = λ k. elim (cases_eq k b) [
-          | inl e ↦ inr (i, omega arith, sym e)
-          | inr d ↦ elim (up.unmet k) [ inl none ↦ inl (get_or-set_other all b k x 0 d ∙ none) | inr m ↦ inr (m.0, omega (arith, m.1), m.2) ]
+          | inl e ↦ inr (i, omega arith, at ∙ sym e)
+          | inr d ↦ elim (up.unmet k) [ inl none ↦ inl (get_or-set_other up.all b k x 0 d ∙ none) | inr m ↦ inr (m.0, omega (arith, m.1), m.2) ]
         ];
         none = λ j h. elim (cases_eq (block_at j) b) [
           | inl e ↦ ap (slice_index (set votes b 0)) e ∙ now_votes
@@ -109,7 +112,7 @@ module _ (block_at : ℕ → ℕ) (i : ℕ) (sizes voted first keepers votes all
           | inr d ↦ get_or-set_other votes b k 0 0 d ∙ up.fewer k h
         ];
         fresh = λ k. elim (cases_eq k b) [
-          | inl e ↦ inr (i, omega arith, sym e)
+          | inl e ↦ inr (i, omega arith, at ∙ sym e)
           | inr d ↦ elim (up.fresh k) [
             | inl y ↦ inl (rest k d ∙ y.0, get_or-set_other votes b k 0 0 d ∙ y.1)
             | inr m ↦ inr (m.0, omega (arith, m.1), m.2)
@@ -126,29 +129,38 @@ module _ (block_at : ℕ → ℕ) (i : ℕ) (sizes voted first keepers votes all
         ];
       }
 
-  -- it has others
-  have_won : 0 < slice_index sizes b → (slice_index keepers b ≡ 0) ⊎ (slice_index votes b ≤ slice_index sizes b)
-      → (slice_index voted b ≡ 0) ⊎ (slice_index first b ≤ slice_index sizes b)
+  -- it has others, which do not lose
+  abbrev Lose : Type 0
+  Lose = (0 < slice_index sizes b) × (slice_index sizes b < slice_index votes b) × ¬ (slice_index keepers b ≡ 0)
+
+  have_won : 0 < slice_index sizes b → ¬ Lose → (slice_index voted b ≡ 0) ⊎ (slice_index first b ≤ slice_index sizes b)
   have_won some win = elim (up.fresh b) [
-    | inl y ↦ elim win [ inl none ↦ inl (sym y.0 ∙ none) | inr few ↦ inr (omega (arith, few, y.1)) ]
+    | inl y ↦ elim (cases_eq (slice_index voted b) 0) [
+      | inl none ↦ inl none
+      | inr d ↦ elim (cases_lt (slice_index sizes b) (slice_index votes b)) [
+        | inl more ↦ absurd (win (some, more, λ e. d (sym y.0 ∙ e)))
+        | inr few ↦ inr (omega (arith, few, y.1))
+      ]
+    ]
     | inr m ↦ elim (up.decided m.0 m.1) [
       | inl y ↦ subst (λ k. (slice_index voted k ≡ 0) ⊎ (slice_index first k ≤ slice_index sizes k)) m.2 y.2
       | inr y ↦ absurd (omega (arith, y.1, ap (slice_index sizes) m.2, some))
     ]
   ]
 
-  pub DecidedUpTo-others : 0 < slice_index sizes b → (slice_index keepers b ≡ 0) ⊎ (slice_index votes b ≤ slice_index sizes b)
-      → DecidedUpTo block_at (i + 1) sizes voted first (set keepers b 0) (set votes b 0) (set all b 0)
+  pub DecidedUpTo-others : 0 < slice_index sizes b → ¬ Lose
+      → DecidedUpTo block_at (i + 1) sizes voted first (set keepers b 0) (set votes b 0)
   DecidedUpTo-others some win =
       DecidedUpTo-more 0 (set keepers b 0) (inl (refl, some, have_won some win)) (length-set keepers b 0) (get_or-set_same keepers b 0 0 (omega (arith, below, up.room)))
       (λ k d. get_or-set_other keepers b k 0 0 d)
 
   -- or none
-  pub DecidedUpTo-voted : slice_index sizes b ≡ 0 → DecidedUpTo block_at (i + 1) sizes voted first keepers (set votes b 0) (set all b (slice_index keepers b))
+  pub DecidedUpTo-voted : slice_index sizes b ≡ 0
+      → DecidedUpTo block_at (i + 1) sizes voted first keepers (set votes b 0)
   DecidedUpTo-voted none = DecidedUpTo-more (slice_index keepers b) keepers (inr (refl, none)) refl refl (λ k d. refl)
 
 -- the block of each state that is looked at has a place
-pub has_place : (of live : List ℕ) (blocks places : ℕ) → ((k : ℕ) → k < blocks → k < length live → k < places)
+has_place : (of live : List ℕ) (blocks places : ℕ) → ((k : ℕ) → k < blocks → k < length live → k < places)
     → ((j : ℕ) → j < length live → slice_index of (slice_index live j) < blocks)
     → (j : ℕ) → j < length live → HasPlace (block_at of live blocks) places (slice_index of (slice_index live j))
 has_place of live blocks places end below j h =
@@ -161,33 +173,37 @@ has_place of live blocks places end below j h =
     ]
 
 -- when all are decided, that of each state that is looked at among them
-module _ (of numbers live sizes voted first keepers votes all : List ℕ) (block_at : ℕ → ℕ) (places : ℕ) (below : (t : ℕ) → t < length of → slice_index of t < length of)
-    (inside : (t : ℕ) → t < length of → slice_index of t < length sizes) (rises : AreLive (length of) live)
-    (zeros : HaveNone live numbers) (size : length numbers ≡ length of) (without : AreSizesWithout of live 0 (length live) sizes)
-    (has : HaveVoted of numbers live voted first) (up : DecidedUpTo block_at places sizes voted first keepers votes all)
-    (placed : (j : ℕ) → j < length live → HasPlace block_at places (slice_index of (slice_index live j))) where
+module _ {of numbers live sizes voted first keepers votes : List ℕ} {places : ℕ} (are : AreBlocks of (length sizes))
+    (rises : AreLive (length of) live) (zeros : HaveNone live numbers) (size : length numbers ≡ length of)
+    (without : AreSizesWithout of live 0 (length live) sizes) (has : HaveVoted of numbers live voted first)
+    (up : DecidedUpTo (block_at of live (length sizes)) places sizes voted first keepers votes)
+    (end : (k : ℕ) → k < length sizes → k < length live → k < places) where
+  placed : (j : ℕ) → j < length live
+      → HasPlace (block_at of live (length sizes)) places (slice_index of (slice_index live j))
+  placed = has_place of live (length sizes) places end (λ j h. are.below _ (rises.below j h))
+
   abbrev left : List ℕ
   left = without.0
 
   decided_at : (j : ℕ) → j < length live → IsDecided sizes voted first keepers (slice_index of (slice_index live j))
   decided_at j h = let w = placed j h in subst (IsDecided sizes voted first keepers) w.2 (up.decided w.0 w.1)
 
-  agree_at : (j : ℕ) → j < length live → let b = slice_index of (slice_index live j) in slice_index keepers b ≡ slice_index all b
-  agree_at j h = let w = placed j h in subst (λ b. slice_index keepers b ≡ slice_index all b) w.2 (up.agree w.0 w.1)
+  agree_at : (j : ℕ) → j < length live → let b = slice_index of (slice_index live j) in slice_index keepers b ≡ slice_index up.all b
+  agree_at j h = let w = placed j h in subst (λ b. slice_index keepers b ≡ slice_index up.all b) w.2 (up.agree w.0 w.1)
 
   -- a block that has more states has one with the empty list
   others : (t : ℕ) → t < length of → 0 < slice_index sizes (slice_index of t)
       → (u : ℕ) × (u < length of) × (slice_index of u ≡ slice_index of t) × (slice_index numbers u ≡ 0)
   others t h some =
-      let u = left_over of live sizes t below h without some in
+      let u = left_over of live sizes t (below_states are) h without some in
       (u.0, u.1, u.2, elim (zeros u.0 (omega (arith, u.1, size))) [ inl one ↦ absurd (u.3 one) | inr zero ↦ zero ])
 
   -- the others have a keeper with the empty list
-  others_keep : (b : ℕ) → 0 < slice_index sizes b → slice_index all b ≡ 0
+  others_keep : (b : ℕ) → 0 < slice_index sizes b → slice_index up.all b ≡ 0
   others_keep b some = elim (up.unmet b) [
     | inl none ↦ none
     | inr m ↦ elim (up.decided m.0 m.1) [
-      | inl y ↦ ap (slice_index all) (sym m.2) ∙ sym (up.agree m.0 m.1) ∙ y.0
+      | inl y ↦ ap (slice_index up.all) (sym m.2) ∙ sym (up.agree m.0 m.1) ∙ y.0
       | inr y ↦ absurd (omega (arith, y.1, ap (slice_index sizes) m.2, some))
     ]
   ]
@@ -200,27 +216,27 @@ module _ (of numbers live sizes voted first keepers votes all : List ℕ) (block
         | inr w ↦ (w.0, w.2, w.3)
         | inl e ↦
             let some = block_size-some left t (omega (arith, h, out.states)) in
-            absurd (omega (arith, some, ap (block_size left) e, out.left (slice_index of t) (below t h), none))
+            absurd (omega (arith, some, ap (block_size left) e, out.left (slice_index of t) (below_states are t h), none))
       ]
 
   -- and one of them has the list that was voted for
-  voted_keep : (t : ℕ) → t < length of → slice_index sizes (slice_index of t) ≡ 0 → HasKeeper of numbers all t
+  voted_keep : (t : ℕ) → t < length of → slice_index sizes (slice_index of t) ≡ 0 → HasKeeper of numbers up.all t
   voted_keep t h none =
       let one = all_met t h none in
       let here = ap (slice_index of) one.2 in
       let w = has.kept one.0 one.1 in
       let same = ap (slice_index of) (sym one.2) in
-      let voted_all : slice_index voted (slice_index of w.0) ≡ slice_index all (slice_index of w.0) =
-      sym (up.same (slice_index of w.0) (ap (slice_index sizes) (w.2 ∙ here) ∙ none)) ∙ ap (slice_index keepers) w.2 ∙ agree_at one.0 one.1 ∙ ap (slice_index all) (sym w.2) in
+      let voted_all : slice_index voted (slice_index of w.0) ≡ slice_index up.all (slice_index of w.0) =
+      sym (up.same (slice_index of w.0) (ap (slice_index sizes) (w.2 ∙ here) ∙ none)) ∙ ap (slice_index keepers) w.2 ∙ agree_at one.0 one.1 ∙ ap (slice_index up.all) (sym w.2) in
       (w.0, w.1, w.2 ∙ here, w.3 ∙ voted_all)
 
-  keepers_all : AreKeepers of numbers live all
+  keepers_all : AreKeepers of numbers live up.all
   keepers_all = record {
-    room = λ t h. omega (arith, inside t h, up.all_room);
+    room = λ t h. omega (arith, are.below t h, up.all_room);
     keeps = λ t h. elim (cases_lt 0 (slice_index sizes (slice_index of t))) [
       | inl some ↦
           let u = others t h some in
-          (u.0, u.1, u.2, u.3 ∙ sym (ap (slice_index all) u.2 ∙ others_keep (slice_index of t) some))
+          (u.0, u.1, u.2, u.3 ∙ sym (ap (slice_index up.all) u.2 ∙ others_keep (slice_index of t) some))
       | inr none ↦ voted_keep t h (omega (arith, none))
     ];
     rest = λ t h. elim (zeros t (omega (arith, h, size))) [
@@ -233,7 +249,7 @@ module _ (of numbers live sizes voted first keepers votes all : List ℕ) (block
   }
 
   pub keepers_decided : HaveKeepers of numbers live keepers
-  keepers_decided = record { room = λ i h. omega (arith, inside _ (rises.below i h), up.room); same = (all, keepers_all, agree_at) }
+  keepers_decided = record { room = λ i h. omega (arith, are.below _ (rises.below i h), up.room); same = (up.all, keepers_all, agree_at) }
 
   -- no votes are left
   pub none_left : (b : ℕ) → slice_index votes b ≡ 0

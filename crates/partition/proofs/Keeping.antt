@@ -1,7 +1,7 @@
 -- For each block that has voted the number of a list that one of its states has.
 use Rattle.std.proofs.Common.{◌≡◌, ◌∙◌, ◌⊎◌, ℕ, ◌+◌, ◌<◌, List, length, slice_index, set, ap, sym, refl, inl, inr, arith}
 use Rattle.std.proofs.lemmas.Bool.{cases_lt, cases_eq}
-use Rattle.std.proofs.lemmas.List.{length-set, get_or-set_same, get_or-set_other}
+use Rattle.std.proofs.lemmas.List.{get_or-set_same, get_or-set_other}
 use Rattle.partition.specs.Blocks.{AreLive}
 use Rattle.partition.specs.Representatives.{HasKeeper, HaveVoted}
 
@@ -15,8 +15,6 @@ IsMet old live i b = (j : ℕ) × (j < i) × (slice_index old (slice_index live 
 
 -- so far for the blocks of these states, and for each block that has votes
 pub record KeptUpTo (old numbers live : List ℕ) (i : ℕ) (keepers votes : List ℕ) : Type 0 where
-  pub room : (s : ℕ) → s < length old → slice_index old s < length keepers
-  pub votes_room : (s : ℕ) → s < length old → slice_index old s < length votes
   pub keeps : (t : ℕ) → t < length old → IsBefore live i t ⊎ (0 < slice_index votes (slice_index old t)) → HasKeeper old numbers keepers t
   pub met : (b : ℕ) → (slice_index votes b ≡ 0) ⊎ IsMet old live i b
 
@@ -56,8 +54,6 @@ module _ (old numbers live : List ℕ) (i : ℕ) (keepers votes : List ℕ) (ins
   -- the block keeps its list, which a state of it has
   pub kept_old : (v : ℕ) → HasKeeper old numbers keepers s → KeptUpTo old numbers live (i + 1) keepers (set votes b v)
   kept_old v has = record {
-    room = up.room;
-    votes_room = λ t h. omega (arith, up.votes_room t h, length-set votes b v);
     keeps = λ t ht h. elim (cases_eq (slice_index old t) b) [
       | inl e ↦ (has.0, has.1, has.2 ∙ sym e, has.3)
       | inr d ↦ up.keeps t ht (before v t d h)
@@ -68,29 +64,23 @@ module _ (old numbers live : List ℕ) (i : ℕ) (keepers votes : List ℕ) (ins
   abbrev keepers' : List ℕ
   keepers' = set keepers b (slice_index numbers s)
 
-  keeps-now : (v t : ℕ) → t < length old → IsBefore live (i + 1) t ⊎ (0 < slice_index (set votes b v) (slice_index old t)) → HasKeeper old numbers keepers' t
-  keeps-now v t ht h = elim (cases_eq (slice_index old t) b) [
-    | inl e ↦ (s, inside, sym e, sym (get_or-set_same keepers b (slice_index numbers s) 0 (up.room s inside)))
+  keeps-now : b < length keepers → (v t : ℕ) → t < length old
+      → IsBefore live (i + 1) t ⊎ (0 < slice_index (set votes b v) (slice_index old t)) → HasKeeper old numbers keepers' t
+  keeps-now room v t ht h = elim (cases_eq (slice_index old t) b) [
+    | inl e ↦ (s, inside, sym e, sym (get_or-set_same keepers b (slice_index numbers s) 0 room))
     | inr d ↦
         let g = up.keeps t ht (before v t d h) in
         (g.0, g.1, g.2, g.3 ∙ sym (get_or-set_other keepers b (slice_index old g.0) (slice_index numbers s) 0 (λ e. d (sym g.2 ∙ e))))
   ]
 
   -- the list of the state stands for its block from now on
-  pub kept_new : (v : ℕ) → KeptUpTo old numbers live (i + 1) keepers' (set votes b v)
-  kept_new v = record {
-    room = λ t h. omega (arith, up.room t h, length-set keepers b (slice_index numbers s));
-    votes_room = λ t h. omega (arith, up.votes_room t h, length-set votes b v);
-    keeps = keeps-now v;
-    met = met_more v;
-  }
+  pub kept_new : b < length keepers → (v : ℕ) → KeptUpTo old numbers live (i + 1) keepers' (set votes b v)
+  kept_new room v = record { keeps = keeps-now room v; met = met_more v }
 
 -- before any state has voted
-pub KeptUpTo-none : (old numbers live keepers votes : List ℕ) → ((s : ℕ) → s < length old → slice_index old s < length keepers)
-    → ((s : ℕ) → s < length old → slice_index old s < length votes) → ((b : ℕ) → slice_index votes b ≡ 0) → KeptUpTo old numbers live 0 keepers votes
-KeptUpTo-none old numbers live keepers votes room votes_room none = record {
-  room = room;
-  votes_room = votes_room;
+pub KeptUpTo-none : (old numbers live keepers votes : List ℕ) → ((b : ℕ) → slice_index votes b ≡ 0)
+    → KeptUpTo old numbers live 0 keepers votes
+KeptUpTo-none old numbers live keepers votes none = record {
   keeps = λ t h x. elim x [ inl y ↦ absurd (omega (arith, y.1)) | inr some ↦ absurd (omega (arith, some, none (slice_index old t))) ];
   met = λ b. inl (none b);
 }

@@ -1,12 +1,13 @@
 -- States that are taken out of the sizes of their blocks.
-use Rattle.std.proofs.Common.{◌≡◌, ◌∙◌, ◌⊎◌, ℕ, ◌+◌, ◌<◌, List, length, slice_index, set, ap, sym, refl, inl, inr, arith}
+use Rattle.std.proofs.Common.{◌≡◌, ◌∙◌, ℕ, ◌+◌, ◌<◌, List, length, slice_index, set, ap, sym, subst, refl, inl, inr, arith}
 use Rattle.std.proofs.lemmas.Bool.{cases_eq}
 use Rattle.std.proofs.lemmas.List.{length-set, get_or-set_same, get_or-set_other}
-use Rattle.partition.specs.Sizes.{AreSizes, AreSizesWithout, block_size}
-use Rattle.partition.specs.Splitting.{HasOther}
-use Rattle.partition.specs.Blocks.{AreLive, IsOne}
+use Rattle.partition.specs.Sizes.{AreSizes, AreSizesWithout, OthersLose, block_size}
+use Rattle.partition.specs.Blocks.{AreLive, IsOne, HaveNone, AreOrNone, AddsWhereParted}
 use Rattle.partition.specs.Representatives.{HaveVoted}
-use Rattle.partition.proofs.Counting.{one, one_other, fewer, fewer_at, some_below, block_size-set, block_size-some, block_size-find}
+use Rattle.partition.specs.Halving.{SomeLose, Widens, AddsSome}
+use Rattle.partition.specs.declared.counted.Counts.{Counts}
+use Rattle.partition.proofs.Counting.{one, one_other, fewer, fewer_at, block_size-set, block_size-some, block_size-find}
 
 -- before any state is taken out
 pub without_none : (of live sizes : List ℕ) (count : ℕ) → AreSizes of count sizes → AreSizesWithout of live 0 0 sizes
@@ -33,9 +34,6 @@ module _ (of live : List ℕ) (i : ℕ) (sizes : List ℕ) (rises : AreLive (len
 
   pub had : 0 < slice_index sizes b
   had = omega (arith, without.1.left b (below s inside), block_size-some rest s (omega (arith, inside, without.1.states)), ap (block_size rest) still)
-
-  pub had_room : b < length sizes
-  had_room = some_below sizes b had
 
   -- it is taken out
   pub without_more : AreSizesWithout of live 0 (i + 1) (fewer sizes b)
@@ -76,19 +74,36 @@ left_over of live sizes t below h without some =
     let looked : ¬ IsOne live w.0 = λ one. omega (arith, ap (slice_index left) one.2, out.gone one.0 (omega arith) one.1, w.2, below t h) in
     (w.0, u_in, elim (out.each w.0 u_in) [ inl e ↦ sym e ∙ w.2 | inr m ↦ absurd (looked (m.0, m.2, m.3)) ], looked)
 
--- the lists of other states lose the vote: one of another list is in the block
-pub another : (of numbers live voted keepers first votes : List ℕ) (others s : ℕ) → HaveVoted of numbers live voted first
-    → ((slice_index keepers (slice_index of s) ≡ slice_index voted (slice_index of s)) ⊎ (slice_index keepers (slice_index of s) ≡ 0))
-    → (slice_index first (slice_index of s) ≡ 0 → slice_index votes (slice_index of s) ≡ 0)
-    → (0 < others) × (others < slice_index votes (slice_index of s)) × ¬ (slice_index keepers (slice_index of s) ≡ 0) → slice_index numbers s ≡ 0
-    → HasOther of (slice_index numbers) s
-another of numbers live voted keepers first votes others s has stays fewer lose zero = elim stays [
-  | inr none ↦ absurd (lose.2 none)
-  | inl same ↦ elim (has.met (slice_index of s)) [
-    | inl none ↦ absurd (omega (arith, lose.1, fewer none))
-    | inr m ↦
-        let w = has.kept m.0 m.1 in
-        let here = w.2 ∙ m.2 in
-        (w.0, w.1, here, λ e. lose.2 (same ∙ ap (slice_index voted) (sym here) ∙ sym w.3 ∙ e ∙ zero))
-  ]
-]
+-- states are added where those that are not looked at lose the vote: one with another list is in the block
+pub adds_parted : (of numbers start live wide voted first : List ℕ) (counts : Counts)
+    → AddsWhereParted of (slice_index numbers) start live → HaveNone live numbers → length numbers ≡ length of
+    → Widens of live counts wide → HaveVoted of numbers live voted first
+    → AreOrNone voted counts.keepers.items → ((b : ℕ) → slice_index first b ≡ 0 → slice_index counts.votes.items b ≡ 0)
+    → AddsWhereParted of (slice_index numbers) start wide
+adds_parted of numbers start live wide voted first counts adds idle states widens has stays fewer s one =
+    let b = slice_index of s in
+    elim (idle s (omega (arith, one.2, widens.rising.below one.0 one.1, states))) [
+      | inl is ↦ adds s is
+      | inr zero ↦ elim (widens.each s one) [
+        | inl is ↦ adds s is
+        | inr lose ↦ elim (stays b) [
+          | inr none ↦ absurd (lose.2 none)
+          | inl same ↦ elim (has.met b) [
+            | inl none ↦ absurd (omega (arith, lose.1, fewer b none))
+            | inr m ↦
+                let w = has.kept m.0 m.1 in
+                let here = w.2 ∙ m.2 in
+                inr (w.0, w.1, here, λ e. lose.2 (same ∙ ap (slice_index voted) (sym here) ∙ sym w.3 ∙ e ∙ zero))
+          ]
+        ]
+      ]
+    ]
+
+-- and one at least, if they lose somewhere
+pub adds_one : (of live wide : List ℕ) (counts : Counts) → ((t : ℕ) → t < length of → slice_index of t < length of)
+    → AreLive (length of) live → AreSizesWithout of live 0 (length live) counts.sizes.items → SomeLose of live counts
+    → AddsSome of live counts wide → length live < length wide
+adds_one of live wide counts below rises without lose adds =
+    let t = slice_index live lose.0 in
+    let u = left_over of live counts.sizes.items t below (rises.below lose.0 lose.1) without lose.2.0 in
+    adds u.0 u.1 u.3 (subst (OthersLose counts) (sym u.2) lose.2)

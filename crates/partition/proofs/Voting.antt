@@ -2,8 +2,13 @@
 use Rattle.std.proofs.Common.{◌≡◌, ◌∙◌, ℕ, zero, suc, ◌+◌, ◌*◌, ◌<◌, ◌≤◌, cond, eqb, List, [], ◌∷◌, length, slice_index, set, replicate, ap, sym, subst, refl, inl, inr, add-one, arith}
 use Rattle.std.proofs.lemmas.Bool.{cases_lt, cases_eq, cond-true, cond-false, eq-eqb, ne_eqb}
 use Rattle.std.proofs.lemmas.List.{length-set, length-replicate, get_or-replicate, get_or-set_same, get_or-set_other}
-use Rattle.partition.specs.Sizes.{AreSizes, block_size}
+use Rattle.partition.specs.Sizes.{AreSizes, AreSizesWithout, block_size}
 use Rattle.partition.specs.Halving.{ballots, votes_for, BoundVotes}
+use Rattle.partition.specs.Partition.{AreBlocks}
+use Rattle.partition.specs.Blocks.{AreLive}
+use Rattle.partition.proofs.Living.{below_states}
+use Rattle.partition.proofs.Taking.{had, without_more}
+use Rattle.partition.proofs.Keeping.{KeptUpTo, kept_old, kept_new}
 use Rattle.partition.proofs.Counting.{one, one_same, one_other, fewer, fewer_at, block_size-set, block_size-cons, block_size-find}
 
 pub length-ballots : (of numbers live : List ℕ) (b i : ℕ) → length (ballots of numbers live b i) ≡ length of
@@ -135,6 +140,78 @@ module _ (of numbers live : List ℕ) (i : ℕ) (inside : slice_index live i < l
           (omega (arith, for-other-list (slice_index keepers b) other, has.most b, at-b, is))
           (less-others other has_votes is)
           (omega (arith, at-b, is, has.room b)))
+
+-- after the votes of the first i states: they are out of the sizes of so many blocks
+pub record VotedUpTo (of numbers live : List ℕ) (count i : ℕ) (sizes keepers votes : List ℕ) : Type 0 where
+  pub blocks : length sizes ≡ count
+  pub keepers_room : length keepers ≡ count
+  pub votes_room : length votes ≡ count
+  pub out : AreSizesWithout of live 0 i sizes
+  pub kept : KeptUpTo of numbers live i keepers votes
+  pub bound : BoundVotes of numbers live i sizes keepers votes
+
+module _ {of numbers live : List ℕ} {count i : ℕ} {sizes keepers votes : List ℕ} (are : AreBlocks of count)
+    (rises : AreLive (length of) live) (more : i < length live)
+    (up : VotedUpTo of numbers live count i sizes keepers votes) where
+  abbrev voter : ℕ
+  voter = slice_index live i
+
+  abbrev block : ℕ
+  block = slice_index of voter
+
+  inside : voter < length of
+  inside = rises.below i more
+
+  -- the block of the next one has a state, and a place
+  pub had_one : (0 < slice_index sizes block) × (block < length sizes)
+  had_one = (had of live i sizes rises (below_states are) more up.out, omega (arith, are.below voter inside, up.blocks))
+
+  pub votes_place : block < length votes
+  votes_place = omega (arith, are.below voter inside, up.votes_room)
+
+  pub keepers_place : block < length keepers
+  keepers_place = omega (arith, are.below voter inside, up.keepers_room)
+
+  voted_next : (keepers' : List ℕ) (vote : ℕ) → length keepers' ≡ length keepers
+      → KeptUpTo of numbers live (i + 1) keepers' (set votes block vote)
+      → BoundVotes of numbers live (i + 1) (fewer sizes block) keepers' (set votes block vote)
+      → VotedUpTo of numbers live count (i + 1) (fewer sizes block) keepers' (set votes block vote)
+  voted_next keepers' vote size kept bound = record {
+    blocks = length-set sizes block _ ∙ up.blocks;
+    keepers_room = size ∙ up.keepers_room;
+    votes_room = length-set votes block vote ∙ up.votes_room;
+    out = without_more of live i sizes rises (below_states are) more up.out;
+    kept = kept;
+    bound = bound;
+  }
+
+  -- its list is the keeper, and has a vote more
+  pub voted_more : (vote : ℕ) → slice_index keepers block ≡ slice_index numbers voter
+      → vote ≡ slice_index votes block + 1
+      → VotedUpTo of numbers live count (i + 1) (fewer sizes block) keepers (set votes block vote)
+  voted_more vote same is =
+      voted_next keepers vote refl
+      (kept_old of numbers live i keepers votes inside up.kept vote (voter, inside, refl, sym same))
+      (bound_more of numbers live i inside sizes keepers votes had_one.0 up.bound vote votes_place same is)
+
+  -- or it is the keeper from now on
+  pub voted_new : slice_index votes block ≡ 0
+      → VotedUpTo of numbers live count (i + 1) (fewer sizes block) (set keepers block (slice_index numbers voter))
+      (set votes block 1)
+  voted_new none =
+      voted_next _ 1 (length-set keepers block _)
+      (kept_new of numbers live i keepers votes inside up.kept keepers_place 1)
+      (bound_new of numbers live i inside sizes keepers votes had_one.0 up.bound 1 votes_place keepers_place none refl)
+
+  -- or another one is, and loses a vote
+  pub voted_less : (vote : ℕ) → ¬ (slice_index keepers block ≡ slice_index numbers voter)
+      → ¬ (slice_index votes block ≡ 0) → vote + 1 ≡ slice_index votes block
+      → VotedUpTo of numbers live count (i + 1) (fewer sizes block) keepers (set votes block vote)
+  voted_less vote other none is =
+      let some : 0 < slice_index votes block = omega (arith, none) in
+      voted_next keepers vote refl
+      (kept_old of numbers live i keepers votes inside up.kept vote (up.kept.keeps voter inside (inr some)))
+      (bound_less of numbers live i inside sizes keepers votes had_one.0 up.bound vote votes_place other some is)
 
 -- the votes of all that are looked at
 pub ballot_of : (of numbers live : List ℕ) (b i j : ℕ) → j < i → slice_index live j < length of → slice_index of (slice_index live j) ≡ b

@@ -7,6 +7,7 @@ use Rattle.partition.proofs.Living.{earlier}
 
 -- of the states before s: those of the first k places are among them, and the next one in place k is not before s
 pub record WideUpTo (live : List ℕ) (lose : ℕ → Type 0) (s k : ℕ) (wide : List ℕ) : Type 0 where
+  pub within : k ≤ length live
   pub few : length wide ≤ s
   pub below : (i : ℕ) → i < length wide → slice_index wide i < s
   pub rising : (i j : ℕ) → i < j → j < length wide → slice_index wide i < slice_index wide j
@@ -16,7 +17,8 @@ pub record WideUpTo (live : List ℕ) (lose : ℕ → Type 0) (s k : ℕ) (wide 
   pub many : k ≤ length wide
   pub more : (u : ℕ) → u < s → ¬ IsOne live u → lose u → k < length wide
 
-module _ (live : List ℕ) (states : ℕ) (lose : ℕ → Type 0) (s k : ℕ) (wide : List ℕ) (rises : AreLive states live) (up : WideUpTo live lose s k wide) where
+module _ {live : List ℕ} {states : ℕ} {lose : ℕ → Type 0} {s k : ℕ} {wide : List ℕ}
+    (rises : AreLive states live) (up : WideUpTo live lose s k wide) where
   abbrev wide' : List ℕ
   wide' = wide ++ s ∷ []
 
@@ -52,6 +54,7 @@ module _ (live : List ℕ) (states : ℕ) (lose : ℕ → Type 0) (s k : ℕ) (w
   -- s is in the next place
   pub wide_next : k < length live → slice_index live k ≡ s → WideUpTo live lose (s + 1) (k + 1) wide'
   wide_next inside is = record {
+    within = omega (arith, inside);
     few = omega (arith, up.few, length_push wide s);
     below = below';
     rising = rising';
@@ -82,6 +85,7 @@ module _ (live : List ℕ) (states : ℕ) (lose : ℕ → Type 0) (s k : ℕ) (w
 
   pub wide_with : (k < length live → ¬ (slice_index live k ≡ s)) → lose s → WideUpTo live lose (s + 1) k wide'
   wide_with other lost = record {
+    within = up.within;
     few = omega (arith, up.few, length_push wide s);
     below = below';
     rising = rising';
@@ -94,6 +98,7 @@ module _ (live : List ℕ) (states : ℕ) (lose : ℕ → Type 0) (s k : ℕ) (w
 
   pub wide_without : (k < length live → ¬ (slice_index live k ≡ s)) → ¬ lose s → WideUpTo live lose (s + 1) k wide
   wide_without other wins = record {
+    within = up.within;
     few = omega (arith, up.few);
     below = λ i h. omega (arith, up.below i h);
     rising = up.rising;
@@ -105,7 +110,8 @@ module _ (live : List ℕ) (states : ℕ) (lose : ℕ → Type 0) (s k : ℕ) (w
   }
 
 -- when all states were seen
-module _ (live : List ℕ) (states : ℕ) (lose : ℕ → Type 0) (s k : ℕ) (wide : List ℕ) (rises : AreLive states live) (up : WideUpTo live lose s k wide) (end : s ≡ states) where
+module _ {live : List ℕ} {states : ℕ} {lose : ℕ → Type 0} {s k : ℕ} {wide : List ℕ}
+    (rises : AreLive states live) (up : WideUpTo live lose s k wide) (end : s ≡ states) where
   pub wide_rising : AreLive states wide
   wide_rising = record { few = omega (arith, up.few, end); below = λ i h. omega (arith, up.below i h, end); rising = up.rising }
 
@@ -116,8 +122,8 @@ module _ (live : List ℕ) (states : ℕ) (lose : ℕ → Type 0) (s k : ℕ) (w
   ]
 
   -- there are more, if one is not among the first
-  pub wide_more : k ≤ length live → (u : ℕ) → u < states → ¬ IsOne live u → lose u → length live < length wide
-  wide_more within u h out lost = elim (cases_lt k (length live)) [
+  pub wide_more : (u : ℕ) → u < states → ¬ IsOne live u → lose u → length live < length wide
+  wide_more u h out lost = elim (cases_lt k (length live)) [
     | inl low ↦ absurd (omega (arith, up.ahead k (omega arith) low, rises.below k low, end))
-    | inr all ↦ omega (arith, up.more u (omega (arith, h, end)) out lost, all, within)
+    | inr all ↦ omega (arith, up.more u (omega (arith, h, end)) out lost, all, up.within)
   ]

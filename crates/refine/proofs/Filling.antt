@@ -1,22 +1,22 @@
 -- The signatures of all states, and the blocks that they leave.
-use Rattle.std.proofs.Common.{◌≡◌, ◌↔◌, ◌∙◌, ℕ, zero, suc, ◌<◌, List, [], ◌∷◌, length, get_or, slice_index, ap, sym, subst, refl, inl, inr, arith}
-use Rattle.std.proofs.lemmas.List.{get_or-map}
+use Rattle.std.proofs.Common.{◌≡◌, ◌↔◌, ◌∙◌, ℕ, zero, suc, ◌<◌, List, [], ◌∷◌, length, get_or, slice_index, ap, sym, subst, subst₂, refl, inl, inr, arith}
+use Rattle.std.proofs.lemmas.List.{get_or-map, length-map}
 use Rattle.theory.specs.declared.relation.Relation.{Relation}
 use Rattle.theory.specs.declared.relation.Relation.TheVariants.{Strong, Branching}
 use Rattle.theory.specs.Blocks.{Split}
 use Rattle.theory.specs.Kept.{IsShown}
 use Rattle.lts.specs.Labels.{text_of}
 use Rattle.lts.specs.Lts.{Grouped, system_of}
-use Rattle.lists.specs.Lists.{list_at, pair_cmp}
+use Rattle.lists.specs.Lists.{list_at, pair_cmp, AreLists, AreNumbers}
 use Rattle.lists.proofs.CallerLemmas.{rising_none}
 use Rattle.partition.specs.Splitting.{Splits}
 use Rattle.partition.specs.Blocks.{IsOne, AreLive}
 use Rattle.inert.specs.Signed.{IsSignature}
 use Rattle.rounds.specs.EachList.{Signed, list_of}
-use Rattle.rounds.specs.Settled.{IsPut, IsStill}
+use Rattle.rounds.specs.Settled.{IsPut}
 use Rattle.rounds.specs.Watching.{SignsEach}
 use Rattle.rounds.specs.declared.signed_blocks.Watch.TheVariants.{Nothing}
-use Rattle.rounds.proofs.CallerLemmas.{Labelled, equal_lists}
+use Rattle.rounds.proofs.CallerLemmas.{Labelled, equal_lists, Splits-lists}
 use Rattle.refine.specs.Signed.{each_list, signature_at}
 
 -- all of so many states, in their order
@@ -28,22 +28,22 @@ all_live states live all each = record {
 }
 
 -- where all numbers are new, each list that is put down is the signature
-put_whole : (rel : Relation) (l : Grouped) (p : List ℕ) (s : ℕ) (list : List (ℕ × ℕ)) → IsPut rel l p 0 s list → IsSignature rel l p s list
-put_whole rel l p s list (inl x) = x.1
-put_whole rel l p s list (inr x) = empty rel x.0
-  where
-    empty : (r : Relation) → IsStill r (system_of l) (slice_index p) 0 s → IsSignature r l p s list
-    empty Strong still = subst (IsSignature Strong l p s) (sym x.1) (record {
-      exactly = λ k b. (λ c. absurd (omega (arith, c.1)), λ h. absurd (omega (arith, still (text_of l.labels k) h.1.0 h.1.1)));
-      rising = rising_none pair_cmp;
-    })
-    empty Branching still = absurd still
+put_whole : (l : Grouped) (p : List ℕ) (s : ℕ) (list : List (ℕ × ℕ)) → IsPut Strong l p 0 s list
+    → IsSignature Strong l p s list
+put_whole l p s list (inl x) = x.1
+put_whole l p s list (inr (still, none)) = subst (IsSignature Strong l p s) (sym none) (record {
+  exactly = λ k b. (
+    λ c. absurd (omega (arith, c.1)),
+    λ h. absurd (omega (arith, still (text_of l.labels k) h.1.0 h.1.1)),
+  );
+  rising = rising_none pair_cmp;
+})
 
 -- where there is no index and all numbers are new, the split is given the signatures
 pub signs_whole : (rel : Relation) (l : Grouped) (p r : Signed) → SignsEach rel l p r → p.watch ≡ Nothing → r.blocks.low ≡ 0
     → (s : ℕ) → IsOne r.blocks.live s → s < l.states → IsSignature rel l r.blocks.of s (list_of r.lists r.numbers s)
 signs_whole Strong l p r put nothing low s one h =
-    put_whole Strong l r.blocks.of s (list_of r.lists r.numbers s)
+    put_whole l r.blocks.of s (list_of r.lists r.numbers s)
     (subst (λ low. IsPut Strong l r.blocks.of low s (list_of r.lists r.numbers s)) low (put s one))
 signs_whole Branching l p r signs nothing low s one h =
     subst (λ n. IsSignature Branching l r.blocks.of s (list_at r.lists n)) (shown (signs.shows s h)) (signs.signed s one).1
@@ -67,16 +67,25 @@ signature_at-none lists numbers s only h =
     at zero = refl
     at (suc k) = refl
 
--- blocks that are split, and numbered by least members
-pub renumbered_alike : {X : Type 0} → (old new q : List ℕ) (count more : ℕ) (f g : ℕ → X) → Splits old count f new more
-    → ((s t : ℕ) → s < length new → t < length new → (slice_index q s ≡ slice_index q t) ↔ (slice_index new s ≡ slice_index new t))
-    → ((s : ℕ) → s < length old → g s ≡ f s)
-    → (s t : ℕ) → s < length old → t < length old → (slice_index q s ≡ slice_index q t) ↔ ((slice_index old s ≡ slice_index old t) × (g s ≡ g t))
-renumbered_alike old new q count more f g splits same is s t hs ht =
-    let here = same s t (omega (arith, hs, splits.states)) (omega (arith, ht, splits.states)) in
-    let alike = splits.alike s t hs ht in (
-      λ e. let a = alike.0 (here.0 e) in (a.0, is s hs ∙ a.1 ∙ sym (is t ht)),
-      λ a. here.1 (alike.1 (a.0, sym (is s hs) ∙ a.1 ∙ is t ht)),
+-- blocks that are split by the numbers of lists, and numbered by least members, are split by the signatures
+pub split_alike : (whole lists signatures : List (List (ℕ × ℕ))) (numbers ns p old new q : List ℕ) (count more : ℕ)
+    → each_list whole numbers ≡ signatures → whole ≡ lists → AreLists lists → AreNumbers lists numbers → ns ≡ numbers
+    → length p ≡ length signatures → old ≡ p → Splits old count (slice_index ns) new more
+    → ((s t : ℕ) → s < length new → t < length new
+    → (slice_index q s ≡ slice_index q t) ↔ (slice_index new s ≡ slice_index new t))
+    → (s t : ℕ) → s < length p → t < length p → (slice_index q s ≡ slice_index q t)
+    ↔ ((slice_index p s ≡ slice_index p t) × (signature_at signatures s ≡ signature_at signatures t))
+split_alike whole lists signed numbers ns p old new q count more view same are each given size is split alike s t h k =
+    let states : length numbers ≡ length p = sym (length-map numbers (list_at whole)) ∙ ap length view ∙ sym size in
+    let by_numbers = subst₂ (λ xs ns. Splits xs count (slice_index ns) new more) is given split in
+    let splits = Splits-lists lists numbers p count new more are each (sym states) by_numbers in
+    let here = alike s t (omega (arith, h, splits.states)) (omega (arith, k, splits.states)) in
+    let told = splits.alike s t h k in
+    let list : (s : ℕ) → s < length p → signature_at signed s ≡ list_of lists numbers s =
+    λ s h. ap (λ g. signature_at g s) (sym view) ∙ signature_at-list whole numbers s (omega (arith, h, states))
+    ∙ ap (λ xs. list_of xs numbers s) same in (
+      λ e. let a = told.0 (here.0 e) in (a.0, list s h ∙ a.1 ∙ sym (list t k)),
+      λ a. here.1 (told.1 (a.0, sym (list s h) ∙ a.1 ∙ list t k)),
     )
 
 -- blocks that are parted by the signatures are the Split

@@ -1,16 +1,17 @@
 -- A search from a state over inert steps: what a step of it leaves, and the signature that it ends with.
-use Rattle.std.proofs.Common.{◌≡◌, ◌∙◌, ◌↔◌, ℕ, ◌+◌, ◌<◌, ◌≤◌, Bool, true, false, not, cond, eqb, IsTrue, List, [], ◌∷◌, ◌++◌, length, set, drop, slice_index, slice_index_or, Contains, ap, sym, subst, refl, inl, inr, arith}
+use borrow.Author.Count.{below_more}
+use Rattle.std.proofs.Common.{◌≡◌, ◌∙◌, ◌↔◌, ℕ, ◌+◌, ◌-◌, ◌<◌, ◌≤◌, Bool, true, false, not, cond, eqb, IsTrue, List, [], ◌∷◌, ◌++◌, length, set, take, drop, slice_index, slice_index_or, Contains, ap, sym, subst, refl, inl, inr, arith}
 use Rattle.std.specs.List.{All, sum_by}
 use Rattle.std.specs.List.Sorted.{IsStrictlySortedBy}
 use Rattle.std.proofs.lemmas.Bool.{cases_lt, cases_eq, eq-eqb, ne_eqb, false_from_ne_true}
 use Rattle.std.proofs.lemmas.List.{length-set, length_push, get_or_append_left, get_or_push, get_or-set_same, get_or-set_other, drop-append-le}
-use Rattle.std.proofs.lemmas.List.Elements.{All-weaker, All-contains, Contains-push, Contains-push_cases, Contains-append_left}
+use Rattle.std.proofs.lemmas.List.Elements.{All-push, All-weaker, All-contains, Contains-get_or, Contains-push, Contains-push_cases, Contains-append_left}
 use Rattle.std.proofs.lemmas.List.Sums.{sum_by_push}
 use Rattle.theory.specs.System.{System, Step, Leads, internal}
 use Rattle.theory.specs.declared.relation.Relation.TheVariants.{Branching}
 use Rattle.theory.specs.Blocks.{Inert}
 use Rattle.lts.specs.Labels.{text_of}
-use Rattle.lts.specs.Lts.{Triple, source_of, label_of, target_of, row_of, system_of, IsTriple, IsLts}
+use Rattle.lts.specs.Lts.{Triple, source_of, label_of, target_of, place_at, row_of, system_of, IsTriple, IsLts, IsRow}
 use Rattle.lts.proofs.CallerLemmas.{length-filter-sum, filter-whole}
 use Rattle.lists.specs.Lists.{pair_cmp}
 use Rattle.inert.specs.Signed.{HasPair, IsSignature, pair_under}
@@ -70,8 +71,16 @@ module _ (places : List Triple) (t : ℕ) (old new : Found) (below : t < length 
         )
   ]
 
+-- of the row of the state number i, whose places begin at `start`, those up to the place k were read
+pub record ReadsRow (u : Under) (s : ℕ) (first : Found) (i start k : ℕ) (f : Found) : Type 0 where
+  pub search : FindsFrom u s f i
+  pub longer : length first.states ≤ length f.states
+  pub same : slice_index f.states i ≡ slice_index first.states i
+  pub taken : All (IsTaken u s f) (take (k - start) (row_of (slice_index first.states i) u.l.places))
+  pub ahead : places_left u.l.places f i ≡ places_left u.l.places first i
+
 -- what a step of the search leaves
-pub record Went (u : Under) (s : ℕ) (old new : Found) (read : ℕ) (e : Triple) : Type 0 where
+record Went (u : Under) (s : ℕ) (old new : Found) (read : ℕ) (e : Triple) : Type 0 where
   pub search : FindsFrom u s new read
   pub longer : length old.states ≤ length new.states
   pub same : (j : ℕ) → j < length old.states → slice_index new.states j ≡ slice_index old.states j
@@ -184,9 +193,33 @@ module _ (u : Under) (s : ℕ) (lts : IsLts u.l) (laws : Laws)
         })
 
     -- whichever step it is
-    pub went : (step : RowStep) (new : Found) → IsStep u (blocks s) e step → TakesUp step old new → Went u s old new read e
+    went : (step : RowStep) (new : Found) → IsStep u (blocks s) e step → TakesUp step old new → Went u s old new read e
     went (Goes t) new (inert, is) reaches = goes new inert (subst (λ t. Reaches t old new) is reaches)
     went (Shows a b) new (other, is) takes = collects (a, b) new other is takes
+
+  -- one place more of a row was read
+  pub row_more : {first old new : Found} {i start end k : ℕ} (step : RowStep) → ReadsRow u s first i start k old
+      → i < length first.states → Ties u s (slice_index first.states i)
+      → IsRow u.l.places (slice_index first.states i) start end → start ≤ k → k < end
+      → (let row = row_of (slice_index first.states i) u.l.places in
+      take ((k + 1) - start) row ≡ take (k - start) row ++ place_at u.l.places k ∷ [])
+      → IsStep u (blocks s) (place_at u.l.places k) step → TakesUp step old new → ReadsRow u s first i start (k + 1) new
+  row_more {first = first} {old = old} {new = new} {i = i} {k = k} step was more led its from below next is takes =
+      let x = slice_index first.states i in
+      let e : Triple = place_at u.l.places k in
+      let at : k < length u.l.places = omega (arith, its.within, below) in
+      let its_place = Contains-get_or u.l.places k (0, 0, 0) at in
+      let in_row = (sources x u.l.places e).1 (its_place, (its.exactly k at).1 (from, below)) in
+      let done = went old i was.search x led e in_row step new is takes in
+      let there : i < length old.states = omega (arith, more, was.longer) in
+      record {
+        search = done.search;
+        longer = omega (arith, was.longer, done.longer);
+        same = done.same i there ∙ was.same;
+        taken = subst (All (IsTaken u s new)) (sym next)
+            (All-push (IsTaken u s new) _ e (All-weaker (IsTaken u s old) _ done.keeps _ was.taken) done.now);
+        ahead = done.ahead i (omega (arith, there)) ∙ was.ahead;
+      }
 
   -- the row of one state more was read
   pub row_read : (f : Found) (read : ℕ) → FindsFrom u s f read → read < length f.states → All (IsTaken u s f) (row_of (slice_index f.states read) u.l.places)
@@ -198,10 +231,7 @@ module _ (u : Under) (s : ℕ) (lts : IsLts u.l) (laws : Laws)
     led = search.led;
     few = omega (arith, more);
     own = search.own;
-    taken = λ j h. elim (cases_lt j read) [
-      | inl before ↦ search.taken j before
-      | inr last ↦ let same : read ≡ j = omega (arith, last, h) in subst (λ i. All (IsTaken u s f) (row_of (slice_index f.states i) u.l.places)) same row
-    ];
+    taken = below_more _ read search.taken row;
   }
 
   -- when all rows were read

@@ -14,6 +14,15 @@ pub written_back : (of live : List ℕ) (lists : List (List (ℕ × ℕ))) (numb
 written_back of live lists numbers rest n each none states all =
     subst (HaveLists of live lists) (sym (take_at numbers rest n all)) (record { each = each; states = states; none = none })
 
+-- and if those were made to name the first list
+pub emptied : (of live : List ℕ) (lists : List (List (ℕ × ℕ))) (old numbers rest : List ℕ) (n : ℕ) → 1 ≤ length lists
+    → ((s : ℕ) → s < length old → slice_index numbers s ≡ 0) → length numbers ≡ length old → length old ≡ length of
+    → length numbers ≡ n → HaveLists of live lists (take n (numbers ++ rest))
+emptied of live lists old numbers rest n some empty same states all =
+    let none : (s : ℕ) → s < length numbers → slice_index numbers s ≡ 0 = λ s h. empty s (omega (arith, h, same)) in
+    written_back of live lists numbers rest n (λ k d h. omega (arith, get_or_default numbers k d 0 h, none k h, some))
+    (λ s h. inr (none s h)) (same ∙ states) all
+
 -- blocks that are split by the numbers of lists are split by the lists, which are all different
 pub Splits-lists : (lists : List (List (ℕ × ℕ))) (numbers old : List ℕ) (count : ℕ) (new : List ℕ) (more : ℕ) → AreLists lists → AreNumbers lists numbers
     → length old ≡ length numbers → Splits old count (slice_index numbers) new more → Splits old count (list_of lists numbers) new more
@@ -41,13 +50,6 @@ lists_left {lists = lists} {new = new} some have size each none = record {
   states = size ∙ have.states;
   none = none;
 }
-
--- blocks that were split by the lists, whose numbers are read through a slice
-pub parted : (lists : List (List (ℕ × ℕ))) (numbers ns : List ℕ) (p q : RoundBlocks) → AreLists lists → HaveLists p.of p.live lists numbers → ns ≡ numbers
-    → AreParted p ns q → Splits p.of p.count (list_of lists numbers) q.of q.count
-parted lists numbers ns p q are have is split =
-    let splits = subst (λ xs. Splits p.of p.count (slice_index xs) q.of q.count) is split.splits in
-    Splits-lists lists numbers p.of p.count q.of q.count are have.each (sym have.states) splits
 
 -- the index fits as many states
 fits_still : (of of' : List ℕ) (watch : Watch) → length of' ≡ length of → FitsWatch of watch → FitsWatch of' watch

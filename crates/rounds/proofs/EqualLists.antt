@@ -1,12 +1,14 @@
 -- Two states have equal lists as their signatures exactly where they have the same signature.
-use Rattle.std.proofs.Common.{◌≡◌, ◌↔◌, ℕ, List, slice_index, Contains, sym, subst}
+use Rattle.std.proofs.Common.{◌≡◌, ◌↔◌, ℕ, ◌<◌, List, length, slice_index, Contains, sym, subst}
+use Rattle.std.specs.List.Sorted.{IsStrictlySortedBy}
 use Rattle.theory.specs.System.{Step}
 use Rattle.theory.specs.declared.relation.Relation.{Relation}
 use Rattle.theory.specs.declared.relation.Relation.TheVariants.{Strong, Branching}
 use Rattle.theory.specs.Blocks.{Signature, SameSignature}
 use Rattle.lts.specs.Labels.{text_of, IsNumber}
 use Rattle.lts.specs.Lts.{Grouped, system_of}
-use Rattle.inert.specs.Signed.{HasPair, IsSignature}
+use Rattle.lists.specs.Lists.{pair_cmp}
+use Rattle.inert.specs.Signed.{IsSignature}
 use Rattle.lists.proofs.CallerLemmas.{rising_unique}
 
 -- each label that a step shows is in the table
@@ -20,30 +22,36 @@ module _ (l : Grouped) (labelled : Labelled l) (blocks : ℕ → ℕ) where
   label_number Strong s a b h = labelled s a h.0 h.1
   label_number Branching s a b h = labelled h.0 a h.1 h.3
 
-module _ (rel : Relation) (l : Grouped) (labelled : Labelled l) (blocks : List ℕ) (s t : ℕ) (xs ys : List (ℕ × ℕ))
-    (of_s : IsSignature rel l blocks s xs) (of_t : IsSignature rel l blocks t ys) where
-  carried : xs ≡ ys → (a : List ℕ) (b : ℕ) → Signature rel (system_of l) (slice_index blocks) s a b
-      → Signature rel (system_of l) (slice_index blocks) t a b
-  carried e a b h =
-      let number = label_number l labelled (slice_index blocks) rel s a b h in
-      let pair : HasPair rel l blocks s number.0 b =
-      (number.1.below, subst (λ x. Signature rel (system_of l) (slice_index blocks) s x b) (sym number.1.text) h) in
-      let there : HasPair rel l blocks t number.0 b =
-      (of_t.exactly number.0 b).0 (subst (λ zs. Contains zs (number.0, b)) e ((of_s.exactly number.0 b).1 pair)) in
-      subst (λ x. Signature rel (system_of l) (slice_index blocks) t x b) number.1.text there.1
+-- a list has the pairs of a signature, by label numbers, in rising order
+abbrev pub Signs : Relation → Grouped → (ℕ → ℕ) → ℕ → List (ℕ × ℕ) → Type 0
+Signs rel l blocks s xs = IsStrictlySortedBy pair_cmp xs
+    × ((k b : ℕ) → Contains xs (k, b)
+    ↔ ((k < length l.labels) × Signature rel (system_of l) blocks s (text_of l.labels k) b))
 
-  same_list : SameSignature rel (system_of l) (slice_index blocks) s t → xs ≡ ys
-  same_list same =
-      rising_unique xs ys of_s.rising of_t.rising (λ z. (
-        λ c. let h = (of_s.exactly z.0 z.1).0 c in (of_t.exactly z.0 z.1).1 (h.0, (same (text_of l.labels z.0) z.1).0 h.1),
-        λ c. let h = (of_t.exactly z.0 z.1).0 c in (of_s.exactly z.0 z.1).1 (h.0, (same (text_of l.labels z.0) z.1).1 h.1),
-      ))
+module _ (rel : Relation) (l : Grouped) (labelled : Labelled l) (blocks : ℕ → ℕ) where
+  carried : (s t : ℕ) (xs ys : List (ℕ × ℕ)) → Signs rel l blocks s xs → Signs rel l blocks t ys → xs ≡ ys
+      → (a : List ℕ) (b : ℕ) → Signature rel (system_of l) blocks s a b → Signature rel (system_of l) blocks t a b
+  carried s t xs ys of_s of_t e a b h =
+      let number = label_number l labelled blocks rel s a b h in
+      let its = subst (λ x. Signature rel (system_of l) blocks s x b) (sym number.1.text) h in
+      let here = (of_s.1 number.0 b).1 (number.1.below, its) in
+      let there = (of_t.1 number.0 b).0 (subst (λ zs. Contains zs (number.0, b)) e here) in
+      subst (λ x. Signature rel (system_of l) blocks t x b) number.1.text there.1
 
-module _ (rel : Relation) (l : Grouped) (labelled : Labelled l) (blocks : List ℕ) where
   -- so equal lists tell equal signatures
-  pub equal_lists : (s t : ℕ) (xs ys : List (ℕ × ℕ)) → IsSignature rel l blocks s xs → IsSignature rel l blocks t ys
-      → (xs ≡ ys) ↔ SameSignature rel (system_of l) (slice_index blocks) s t
-  equal_lists s t xs ys of_s of_t = (
-    λ e a b. (carried rel l labelled blocks s t xs ys of_s of_t e a b, carried rel l labelled blocks t s ys xs of_t of_s (sym e) a b),
-    same_list rel l labelled blocks s t xs ys of_s of_t,
+  pub equal_told : (s t : ℕ) (xs ys : List (ℕ × ℕ)) → Signs rel l blocks s xs → Signs rel l blocks t ys
+      → (xs ≡ ys) ↔ SameSignature rel (system_of l) blocks s t
+  equal_told s t xs ys of_s of_t = (
+    λ e a b. (carried s t xs ys of_s of_t e a b, carried t s ys xs of_t of_s (sym e) a b),
+    λ same. rising_unique xs ys of_s.0 of_t.0 (λ z. (
+      λ c. let h = (of_s.1 z.0 z.1).0 c in (of_t.1 z.0 z.1).1 (h.0, (same (text_of l.labels z.0) z.1).0 h.1),
+      λ c. let h = (of_t.1 z.0 z.1).0 c in (of_s.1 z.0 z.1).1 (h.0, (same (text_of l.labels z.0) z.1).1 h.1),
+    )),
   )
+
+-- the same of blocks in memory
+pub equal_lists : (rel : Relation) (l : Grouped) (labelled : Labelled l) (blocks : List ℕ) (s t : ℕ)
+    (xs ys : List (ℕ × ℕ)) → IsSignature rel l blocks s xs → IsSignature rel l blocks t ys
+    → (xs ≡ ys) ↔ SameSignature rel (system_of l) (slice_index blocks) s t
+equal_lists rel l labelled blocks s t xs ys of_s of_t =
+    equal_told rel l labelled (slice_index blocks) s t xs ys (of_s.rising, of_s.exactly) (of_t.rising, of_t.exactly)

@@ -1,6 +1,7 @@
 -- What the index has: a state that a round does not look at is alone in its block, or still.
 use Rattle.std.proofs.Common.{◌≡◌, ◌⊎◌, ◌↔◌, ◌∙◌, ℕ, ◌<◌, ◌≤◌, List, [], ◌∷◌, length, slice_index, slice_index_or, Contains, ap, sym, subst, subst₂, refl, inl, inr, arith}
 use Rattle.std.specs.List.{All}
+use Rattle.std.proofs.Math.Logic.{⊎_map}
 use Rattle.std.proofs.lemmas.Bool.{cases_lt}
 use Rattle.std.proofs.lemmas.List.Elements.{All-nil, All-cons, All-contains, Contains-append_right}
 use Rattle.theory.specs.System.{Step}
@@ -21,7 +22,7 @@ use Rattle.rounds.specs.declared.entering.Reach.{Reach}
 use Rattle.rounds.specs.declared.entering.Reach.TheVariants.{Before, Back}
 use Rattle.rounds.specs.declared.signed_blocks.Watch.{Watch}
 use Rattle.rounds.specs.declared.signed_blocks.Watch.TheVariants.{Nothing, Sources}
-use Rattle.rounds.proofs.Living.{left_out_still, left_out_next, no_step, alone_next}
+use Rattle.rounds.proofs.Living.{left_still, left_out_next, no_step, alone_next}
 
 -- fewer states are looked at
 pub indexed_left : (watch : Watch) (rel : Relation) (l : Grouped) (p q : RoundBlocks) → q ≡ record p { live = q.live } → LeavesAlone p.of p.live q.live
@@ -29,13 +30,10 @@ pub indexed_left : (watch : Watch) (rel : Relation) (l : Grouped) (p q : RoundBl
 indexed_left watch rel l p q same leaves index = subst (HasIndexed watch rel l) (sym same) (left watch rel index)
   where
     left : (e : Watch) (r : Relation) → HasIndexed e r l p → HasIndexed e r l (record p { live = q.live })
-    left Nothing r others = left_out_still l p.of p.live q.live leaves others
+    left Nothing r others = λ s h. left_still leaves s (others s h)
     left (Sources e) Strong w = record {
       indexed = w.indexed;
-      others = λ s h. elim (w.others s h) [
-        | inl one ↦ elim (leaves.are s one) [ inl is ↦ inl is | inr alone ↦ inr (inl alone) ]
-        | inr x ↦ inr x
-      ];
+      others = λ s h. left_still leaves s (w.others s h);
     }
     left (Sources e) Branching w = w
 
@@ -64,20 +62,15 @@ module _ (l : Grouped)
     | inl (e, c, new) ↦
         let t = target_of e in
         let each = looks t (omega (arith, below s h e c, size')) new in
-        elim (All-contains (λ s. s < length q.of → IsOne q.live s ⊎ IsAlone q.of s) (slice_index_or sources t []) s each (indexed e c) (omega (arith, h, size'))) [
-          | inl one ↦ inl one
-          | inr alone ↦ inr (inl alone)
-        ]
+        ⊎_map (λ one. one) inl (All-contains (λ s. s < length q.of → IsOne q.live s ⊎ IsAlone q.of s)
+        (slice_index_or sources t []) s each (indexed e c) (omega (arith, h, size')))
     | inr old ↦ inr (inr (λ a t step.
         let found = (steps s a t).0 step in
         subst (λ x. slice_index q.of x < q.low) found.3 (All-contains (λ e. slice_index q.of (target_of e) < q.low) (row_of s l.places) found.0 old found.1)))
   ]
 
   indexed_next : (sources : List (List ℕ)) → AreWatched l p sources → (s : ℕ) → s < l.states → IsAlone q.of s ⊎ IsIndexed l sources s
-  indexed_next sources w s h = elim (w.indexed s h) [
-    | inl alone ↦ inl (alone_next l p.of q.of size size' parted s h alone)
-    | inr indexed ↦ inr indexed
-  ]
+  indexed_next sources w s h = ⊎_map (alone_next l p.of q.of size size' parted s h) (λ i. i) (w.indexed s h)
 
   watched_next : (e : Entered) (r next : Signed) → next.blocks ≡ q → LooksOn e r next ⊎ LooksAnew next → AreWatched l p e.sources → AreWatched l q e.sources
   watched_next e r next is (inl on) w = record {
@@ -89,10 +82,8 @@ module _ (l : Grouped)
   }
   watched_next e r next is (inr anew) w = record {
     indexed = indexed_next e.sources w;
-    others = λ s h. elim (subst (λ b. (s : ℕ) → s < length b.of → IsOne b.live s ⊎ IsAlone b.of s) is anew.all s (omega (arith, h, size'))) [
-      | inl one ↦ inl one
-      | inr alone ↦ inr (inl alone)
-    ];
+    others = λ s h. ⊎_map (λ one. one) inl
+        (subst (λ b. s < length b.of → IsOne b.live s ⊎ IsAlone b.of s) is (anew.all s) (omega (arith, h, size')));
   }
 
   -- what is left out before there is an index
@@ -112,51 +103,61 @@ module _ (l : Grouped)
   indexed_back_next e w = record {
     inner = w.inner;
     apart = w.apart;
-    indexed = λ s h. elim (w.indexed s h) [
-      | inl alone ↦ inl (alone_next l p.of q.of size size' parted s h alone)
-      | inr indexed ↦ inr indexed
-    ];
+    indexed = λ s h. ⊎_map (alone_next l p.of q.of size size' parted s h) (λ i. i) (w.indexed s h);
   }
 
--- the index of all states that are not alone has all transitions
 module _ (l : Grouped)
-    (steps : (s : ℕ) (a : List ℕ) (t : ℕ) → Step (system_of l) s a t ↔ ((e : Triple) × Contains (row_of s l.places) e × (text_of l.labels (label_of e) ≡ a) × (target_of e ≡ t)))
-    (p : RoundBlocks) (others : LeavesOut l p.of p.live) where
-  pub watched_first : (e : Entered) → AreEntering l Before p.live e → AreWatched l p e.sources
-  watched_first e are = record {
-    indexed = λ s h. elim (others s h) [
-      | inl one ↦ inr (are.sources s one)
-      | inr x ↦ elim x [
-        | inl alone ↦ inl alone
-        | inr empty ↦ inr (λ e c. absurd (omega (arith, (subst (λ xs. Contains xs e) empty c).1)))
-      ]
-    ];
-    others = λ s h. elim (others s h) [
-      | inl one ↦ inl one
-      | inr x ↦ elim x [
-        | inl alone ↦ inr (inl alone)
-        | inr empty ↦ inr (inr (λ a t step. absurd (no_step l s (steps s) empty a t step)))
-      ]
-    ];
-  }
+    (steps : (s : ℕ) (a : List ℕ) (t : ℕ) → Step (system_of l) s a t
+    ↔ ((e : Triple) × Contains (row_of s l.places) e × (text_of l.labels (label_of e) ≡ a) × (target_of e ≡ t))) where
+  -- the index of all states that are not alone has all transitions
+  module _ (p : RoundBlocks) (others : LeavesOut l p.of p.live) where
+    no_row : (s : ℕ) → row_of s l.places ≡ [] → (e : Triple) → ¬ Contains (row_of s l.places) e
+    no_row s empty e c = absurd (omega (arith, (subst (λ xs. Contains xs e) empty c).1))
 
-  pub indexed_back_first : (e : Entered) → AreEntering l Back p.live e → AreIndexedBack l p.of e
-  indexed_back_first e are =
-      let inner = are.inner refl in
-      record {
-        inner = inner.0;
-        apart = inner.1;
-        indexed = λ s h. elim (others s h) [
-          | inl one ↦ inr (are.sources s one, inner.2 s one)
-          | inr x ↦ elim x [
-            | inl alone ↦ inl alone
-            | inr empty ↦ inr (
-              λ e c. absurd (omega (arith, (subst (λ xs. Contains xs e) empty c).1)),
-              λ e c i. absurd (omega (arith, (subst (λ xs. Contains xs e) empty c).1)),
-            )
-          ]
-        ];
-      }
+    pub watched_first : (e : Entered) → AreEntering l Before p.live e → AreWatched l p e.sources
+    watched_first e are = record {
+      indexed = λ s h. elim (others s h) [
+        | inl one ↦ inr (are.sources s one)
+        | inr x ↦ ⊎_map (λ alone. alone) (λ empty e c. absurd (no_row s empty e c)) x
+      ];
+      others = λ s h.
+          ⊎_map (λ one. one)
+          (⊎_map (λ alone. alone) (λ empty a t step. absurd (no_step l s (steps s) empty a t step))) (others s h);
+    }
+
+    pub indexed_back_first : (e : Entered) → AreEntering l Back p.live e → AreIndexedBack l p.of e
+    indexed_back_first e are =
+        let inner = are.inner refl in
+        record {
+          inner = inner.0;
+          apart = inner.1;
+          indexed = λ s h. elim (others s h) [
+            | inl one ↦ inr (are.sources s one, inner.2 s one)
+            | inr x ↦
+                ⊎_map (λ alone. alone)
+                (λ empty. (λ e c. absurd (no_row s empty e c), λ e c i. absurd (no_row s empty e c))) x
+          ];
+        }
+
+  -- what the index has when it is begun, or was
+  pub begun_strong : (p r : Signed) → Begins l Before p r → HasIndexed p.watch Strong l p.blocks
+      → (r.blocks ≡ p.blocks) × HasIndexed r.watch Strong l r.blocks
+  begun_strong p r (inl same) index =
+      (ap (λ r. r.blocks) same, subst (λ r. HasIndexed r.watch Strong l r.blocks) (sym same) index)
+  begun_strong p r (inr begun) index = (
+    begun.blocks,
+    subst₂ (λ w b. HasIndexed w Strong l b) (sym begun.watch) (sym begun.blocks)
+        (watched_first p.blocks (subst (λ w. HasIndexed w Strong l p.blocks) begun.nothing index)
+        begun.entered begun.indexed),
+  )
+
+  pub begun_back : (p r : Signed) → Begins l Back p r → HasIndexed p.watch Branching l p.blocks
+      → HasIndexed r.watch Branching l r.blocks
+  begun_back p r (inl same) index = subst (λ r. HasIndexed r.watch Branching l r.blocks) (sym same) index
+  begun_back p r (inr begun) index =
+      subst₂ (λ w b. HasIndexed w Branching l b) (sym begun.watch) (sym begun.blocks)
+      (indexed_back_first p.blocks (subst (λ w. HasIndexed w Branching l p.blocks) begun.nothing index)
+      begun.entered begun.indexed)
 
 -- the sources that the system tells of transitions from some states
 pub all_indexed : (l : Grouped) (live : List ℕ) (groups : List (List ℕ)) → AreSources IsAny l.places live groups → (s : ℕ) → IsOne live s → IsIndexed l groups s
@@ -165,25 +166,6 @@ all_indexed l live groups are s one e c = is_source IsAny l.places live groups a
 pub internal_indexed : (l : Grouped) (live : List ℕ) (groups : List (List ℕ)) → AreSources (IsInternal l.labels) l.places live groups
     → (s : ℕ) → IsOne live s → IsInternalIndexed l groups s
 internal_indexed l live groups are s one e c i = is_source (IsInternal l.labels) l.places live groups are one.0 s one.1 one.2 e c i
-
--- what the index has when it is begun, or was
-pub begun_strong : (l : Grouped)
-    → ((s : ℕ) (a : List ℕ) (t : ℕ) → Step (system_of l) s a t ↔ ((e : Triple) × Contains (row_of s l.places) e × (text_of l.labels (label_of e) ≡ a) × (target_of e ≡ t)))
-    → (p r : Signed) → Begins l Before p r → HasIndexed p.watch Strong l p.blocks → (r.blocks ≡ p.blocks) × HasIndexed r.watch Strong l r.blocks
-begun_strong l steps p r (inl same) index = (ap (λ r. r.blocks) same, subst (λ r. HasIndexed r.watch Strong l r.blocks) (sym same) index)
-begun_strong l steps p r (inr begun) index = (
-  begun.blocks,
-  subst₂ (λ w b. HasIndexed w Strong l b) (sym begun.watch) (sym begun.blocks)
-      (watched_first l steps p.blocks (subst (λ w. HasIndexed w Strong l p.blocks) begun.nothing index) begun.entered begun.indexed),
-)
-
-pub begun_back : (l : Grouped)
-    → ((s : ℕ) (a : List ℕ) (t : ℕ) → Step (system_of l) s a t ↔ ((e : Triple) × Contains (row_of s l.places) e × (text_of l.labels (label_of e) ≡ a) × (target_of e ≡ t)))
-    → (p r : Signed) → Begins l Back p r → HasIndexed p.watch Branching l p.blocks → HasIndexed r.watch Branching l r.blocks
-begun_back l steps p r (inl same) index = subst (λ r. HasIndexed r.watch Branching l r.blocks) (sym same) index
-begun_back l steps p r (inr begun) index =
-    subst₂ (λ w b. HasIndexed w Branching l b) (sym begun.watch) (sym begun.blocks)
-    (indexed_back_first l steps p.blocks (subst (λ w. HasIndexed w Branching l p.blocks) begun.nothing index) begun.entered begun.indexed)
 
 -- no list is known when that is begun, if none was known before
 pub begun_anew : (l : Grouped) (reach : Reach) (p r : Signed) → Begins l reach p r → IsAnew p → (r.blocks ≡ p.blocks) × IsAnew r

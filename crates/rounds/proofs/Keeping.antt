@@ -1,5 +1,6 @@
 -- Lists that are kept from round to round: what is known of them, and what a round makes of them.
 use Rattle.std.proofs.Common.{◌≡◌, ◌⊎◌, ◌↔◌, ℕ, ◌<◌, List, length, slice_index, Contains, ap, sym, ◌∙◌, subst, subst₂, inl, inr, arith}
+use Rattle.std.proofs.Math.Logic.{⊎_map}
 use Rattle.std.proofs.lemmas.List.{get_or_default}
 use Rattle.theory.specs.System.{Step}
 use Rattle.theory.specs.declared.relation.Relation.TheVariants.{Branching}
@@ -8,14 +9,15 @@ use Rattle.theory.proofs.CallerLemmas.{kept_anew}
 use Rattle.lts.specs.Labels.{text_of}
 use Rattle.lts.specs.Lts.{Grouped, Triple, label_of, target_of, row_of, system_of}
 use Rattle.lists.specs.Lists.{list_at, AreLists, AreNumbers, Grow}
-use Rattle.partition.specs.Blocks.{IsOne, HaveNone, LeavesAlone}
+use Rattle.partition.specs.Blocks.{AreLive, IsOne, HaveNone, LeavesAlone}
 use Rattle.inert.specs.Signed.{IsSignature, AreSignedBeside, ShowsNew}
 use Rattle.rounds.specs.EachList.{Signed, list_of, IsAnew}
 use Rattle.rounds.specs.Living.{LeavesOut}
 use Rattle.rounds.specs.Kept.{Names, KeepsLists, SignsLists}
 use Rattle.rounds.specs.declared.signed_blocks.Watch.TheVariants.{Nothing}
 use Rattle.rounds.proofs.EqualLists.{Labelled}
-use Rattle.rounds.proofs.LookingBack.{named_signature, names_signatures, kept_grows, kept_left, row_shows}
+use Rattle.rounds.proofs.Living.{no_step}
+use Rattle.rounds.proofs.LookingBack.{names_signatures, kept_grows, kept_left, row_shows}
 
 -- where no list is known, the empty one is kept for each state
 module _ (l : Grouped) (labelled : Labelled l)
@@ -30,23 +32,19 @@ module _ (l : Grouped) (labelled : Labelled l)
     numbers = λ s d h. subst (λ x. x < length r.lists) (get_or_default r.kept s 0 d h) (omega (arith, anew.empty s, are.some));
     known =
         subst (AreKept (Names l r.lists) (system_of l) (slice_index r.blocks.of) (IsOne r.blocks.live)) (sym zeros)
-        (kept_anew (Names l r.lists) (system_of l) (names_signatures l labelled r.lists are) (slice_index r.blocks.of) (IsOne r.blocks.live) (λ s h. elim (others s h) [
-          | inl one ↦ inl one
-          | inr x ↦ elim x [
-            | inl alone ↦ inr (inl (λ t k e. alone t (omega (arith, k, size)) e))
-            | inr empty ↦ inr (inr (row_shows l (λ s a t step. let found = (steps s a t).0 step in (found.0, found.1)) (slice_index r.blocks.of) s empty))
-          ]
-        ]));
+        (kept_anew (Names l r.lists) (system_of l) (names_signatures l labelled r.lists are) (slice_index r.blocks.of)
+        (IsOne r.blocks.live)
+        (λ s h. ⊎_map (λ one. one) (⊎_map (λ alone t k e. alone t (omega (arith, k, size)) e)
+        (λ empty. row_shows l (slice_index r.blocks.of) s (no_step l s (steps s) empty))) (others s h)));
   }
 
 -- in the block of a state that is looked at, others that are not have the lists of their signatures
 pub kept_beside : (l : Grouped) (r : Signed) → KeepsLists l r → AreSignedBeside l r.blocks.of r.blocks.live r.lists r.kept
 kept_beside l r keeps s t hs ht same one = elim (keeps.known.signed s hs) [
   | inl too ↦ inl too
-  | inr x ↦ elim x [
-    | inl only ↦ inl (subst (IsOne r.blocks.live) (only t ht (sym same)) one)
-    | inr named ↦ inr (named_signature l r.lists r.blocks.of s (slice_index r.kept s) named)
-  ]
+  | inr x ↦
+      ⊎_map (λ only. subst (IsOne r.blocks.live) (only t ht (sym same)) one)
+      (λ named. record { exactly = named.2; rising = named.1 }) x
 ]
 
 -- what changes is shown
@@ -55,14 +53,17 @@ turned old new shown (inl (same, none)) = inl (sym same, none)
 turned old new shown (inr (other, is)) = inr (λ e. other (sym e), is)
 
 -- the states that a round looks at were signed
-pub signs_lists : (l : Grouped) (p was r : Signed) → KeepsLists l was → r.blocks ≡ was.blocks
+pub signs_lists : (l : Grouped) (p was r : Signed) (numbers : List ℕ) → r.numbers ≡ numbers → KeepsLists l was
+    → r.blocks ≡ was.blocks
     → (p.watch ≡ Nothing → (s : ℕ) → slice_index was.kept s ≡ 0) → Grow was.lists r.lists
     → ((s : ℕ) → IsOne was.blocks.live s → IsSignature Branching l was.blocks.of s (list_at r.lists (slice_index r.kept s)))
-    → ((s : ℕ) → IsOne was.blocks.live s → ShowsNew (slice_index was.kept s) (slice_index r.kept s) (slice_index r.numbers s))
+    → ((s : ℕ) → IsOne was.blocks.live s
+    → ShowsNew (slice_index was.kept s) (slice_index r.kept s) (slice_index numbers s))
     → ((s : ℕ) → IsOne was.blocks.live s ⊎ (slice_index r.kept s ≡ slice_index was.kept s))
-    → (length r.kept ≡ l.states) × AreNumbers r.lists r.kept → HaveNone was.blocks.live r.numbers → length r.numbers ≡ l.states
-    → ((s : ℕ) → IsOne was.blocks.live s → s < l.states) → SignsLists l p r
-signs_lists l p was r keeps is anew grow signed changed still lists none size below = record {
+    → (length r.kept ≡ l.states) × AreNumbers r.lists r.kept
+    → HaveNone was.blocks.live numbers → length numbers ≡ l.states
+    → length was.blocks.of ≡ l.states → AreLive (length was.blocks.of) was.blocks.live → SignsLists l p r
+signs_lists l p was r numbers given keeps is anew grow signed changed still lists none size states live = record {
   was = was.kept;
   before =
       subst (λ b. AreKept (Names l r.lists) (system_of l) (slice_index b.of) (IsOne b.live) (slice_index was.kept)) (sym is)
@@ -70,17 +71,18 @@ signs_lists l p was r keeps is anew grow signed changed still lists none size be
   anew = anew;
   signed = λ s one.
       let here = subst (λ b. IsOne b.live s) is one in (
-        lists.1 s 0 (omega (arith, below s here, lists.0)),
+        lists.1 s 0 (omega (arith, live.below here.0 here.1, here.2, states, lists.0)),
         subst (λ b. IsSignature Branching l b.of s (list_of r.lists r.kept s)) (sym is) (signed s here),
       );
   others = λ s h. elim (still s) [ inl one ↦ inl (subst (λ b. IsOne b.live s) (sym is) one) | inr same ↦ inr same ];
-  shows = λ s h. elim (still s) [
-    | inl one ↦ turned _ _ _ (changed s one)
-    | inr same ↦ elim (none s (omega (arith, h, size))) [
-      | inl one ↦ turned _ _ _ (changed s one)
-      | inr nil ↦ inl (same, nil)
-    ]
-  ];
+  shows = λ s h. subst (λ ns. IsShown (slice_index was.kept s) (slice_index r.kept s) (slice_index ns s)) (sym given)
+      (elim (still s) [
+        | inl one ↦ turned _ _ _ (changed s one)
+        | inr same ↦ elim (none s (omega (arith, h, size))) [
+          | inl one ↦ turned _ _ _ (changed s one)
+          | inr nil ↦ inl (same, nil)
+        ]
+      ]);
   states = lists.0;
   numbers = lists.1;
 }

@@ -1,10 +1,14 @@
 -- The states that a round looks at: one more, and their lists.
-use Rattle.std.proofs.Common.{◌≡◌, ◌⊎◌, ◌↔◌, ◌∙◌, ℕ, ◌+◌, ◌<◌, ◌≤◌, List, [], ◌∷◌, ◌++◌, length, slice_index, set, Contains, ap, sym, subst, refl, inl, inr, arith}
-use Rattle.std.proofs.lemmas.Bool.{cases_lt, cases_eq}
-use Rattle.std.proofs.lemmas.List.{length_push, get_or_append_left, get_or_push, get_or-set_same, get_or-set_other, get_or_default, length-set}
+use borrow.Author.Count.{below_more}
+use Rattle.std.proofs.Common.{◌≡◌, ◌⊎◌, ◌↔◌, ◌∙◌, ℕ, ◌+◌, ◌<◌, ◌≤◌, List, [], ◌∷◌, ◌++◌, length, slice_index, set, Contains, ap, sym, subst, inl, inr, arith}
+use Rattle.std.proofs.Math.Logic.{⊎_map}
+use Rattle.std.proofs.lemmas.Grind.{common_steps}
+use borrow.Author.Count.{below_more}
+use Rattle.std.proofs.lemmas.Bool.{cases_eq}
+use Rattle.std.proofs.lemmas.List.{length_push, get_or-set_same, get_or-set_other, get_or_default, length-set}
 use Rattle.theory.specs.System.{Step}
 use Rattle.lts.specs.Labels.{text_of}
-use Rattle.lts.specs.Lts.{Grouped, Triple, label_of, target_of, row_of, system_of}
+use Rattle.lts.specs.Lts.{Grouped, Triple, label_of, target_of, before, row_of, system_of}
 use Rattle.lists.specs.Lists.{list_at, AreNumbers, Grow}
 use Rattle.partition.specs.Splitting.{IsAlone}
 use Rattle.partition.specs.Blocks.{AreLive, IsOne, HaveNone, LeavesAlone}
@@ -14,46 +18,23 @@ use Rattle.rounds.specs.Living.{LeavesOut}
 pub rising_none : AreLive 0 []
 rising_none = record { few = omega arith; below = λ i h. absurd (omega (arith, h)); rising = λ i j low h. absurd (omega (arith, h)) }
 
--- the places of some states, with one more
-module _ (live : List ℕ) (s : ℕ) where
-  pub place : (i : ℕ) → i < length (live ++ s ∷ []) → (i < length live) ⊎ (i ≡ length live)
-  place i h = elim (cases_lt i (length live)) [ inl low ↦ inl low | inr last ↦ inr (omega (arith, h, last, length_push live s)) ]
-
-  pub at_old : (i : ℕ) → i < length live → slice_index (live ++ s ∷ []) i ≡ slice_index live i
-  at_old i h = get_or_append_left live (s ∷ []) 0 i h
-
-  pub at_new : (i : ℕ) → i ≡ length live → slice_index (live ++ s ∷ []) i ≡ s
-  at_new i h = get_or_push live s 0 i (sym h)
-
-  -- the states below it rise
-  pub rising_more : AreLive s live → AreLive (s + 1) (live ++ s ∷ [])
-  rising_more rises = record {
-    few = omega (arith, length_push live s, rises.few);
-    below = λ i h. elim (place i h) [
-      | inl low ↦ omega (arith, at_old i low, rises.below i low)
-      | inr here ↦ omega (arith, at_new i here)
-    ];
-    rising = λ i j low h. elim (place j h) [
-      | inl inside ↦ omega (arith, at_old i (omega (arith, low, inside)), at_old j inside, rises.rising i j low inside)
-      | inr here ↦ omega (arith, at_old i (omega (arith, low, here)), at_new j here, rises.below i (omega (arith, low, here)))
-    ];
-  }
+-- one more of the states below it, which rise
+pub rising_more : (live : List ℕ) (s : ℕ) → AreLive s live → AreLive (s + 1) (live ++ s ∷ [])
+rising_more live s rises = record {
+  few = omega (arith, length_push live s, rises.few);
+  below = λ i h. grind (arith, common_steps, rises.below i, h);
+  rising = λ i j low h. grind (arith, common_steps, rises.rising i j low, rises.below i, low, h);
+}
 
 -- or without it
 pub rising_later : (live : List ℕ) (s : ℕ) → AreLive s live → AreLive (s + 1) live
 rising_later live s rises = record { few = omega (arith, rises.few); below = λ i h. omega (arith, rises.below i h); rising = rises.rising }
 
--- a row without a transition
-pub empty_row : (row : List Triple) → length row ≡ 0 → row ≡ []
-empty_row [] h = refl
-empty_row (e ∷ row) h = absurd (omega (arith, h))
-
 -- what is left out may be so still when more states are
-pub left_out_still : (l : Grouped) (of live left : List ℕ) → LeavesAlone of live left → LeavesOut l of live → LeavesOut l of left
-left_out_still l of live left leaves others s h = elim (others s h) [
-  | inl one ↦ elim (leaves.are s one) [ inl is ↦ inl is | inr alone ↦ inr (inl alone) ]
-  | inr x ↦ inr x
-]
+pub left_still : {R : Type 0} {of live left : List ℕ} → LeavesAlone of live left → (s : ℕ)
+    → IsOne live s ⊎ IsAlone of s ⊎ R → IsOne left s ⊎ IsAlone of s ⊎ R
+left_still leaves s (inl one) = ⊎_map (λ is. is) inl (leaves.are s one)
+left_still leaves s (inr x) = inr x
 
 -- a state that is alone is so still when blocks are parted
 pub alone_next : (l : Grouped) (of next : List ℕ) → length of ≡ l.states → length next ≡ l.states
@@ -64,13 +45,8 @@ alone_next l of next size size' parted s h alone t lt same = alone t (omega (ari
 -- and what is left out is
 pub left_out_next : (l : Grouped) (of next live : List ℕ) → length of ≡ l.states → length next ≡ l.states
     → ((s t : ℕ) → s < l.states → t < l.states → slice_index next s ≡ slice_index next t → slice_index of s ≡ slice_index of t) → LeavesOut l of live → LeavesOut l next live
-left_out_next l of next live size size' parted others s h = elim (others s h) [
-  | inl one ↦ inl one
-  | inr x ↦ elim x [
-    | inl alone ↦ inr (inl (alone_next l of next size size' parted s h alone))
-    | inr empty ↦ inr (inr empty)
-  ]
-]
+left_out_next l of next live size size' parted others s h =
+    ⊎_map (λ one. one) (⊎_map (alone_next l of next size size' parted s h) (λ empty. empty)) (others s h)
 
 -- no step is from a state whose row is empty
 pub no_step : (l : Grouped) (s : ℕ)
@@ -89,32 +65,22 @@ module _ (lists lists' : List (List (ℕ × ℕ))) (numbers live : List ℕ) (st
 
   pub put_more : ((j : ℕ) → j < i → Put lists numbers j) → k < length lists' → P (slice_index live i) (list_at lists' k) → (j : ℕ) → j < i + 1
       → Put lists' (set numbers (slice_index live i) k) j
-  put_more before within this j h = elim (cases_lt j i) [
-    | inl low ↦
-        let up = rises.rising j i low more in
-        let apart : ¬ (slice_index live j ≡ slice_index live i) = λ e. omega (arith, up, e) in
-        let same = get_or-set_other numbers (slice_index live i) (slice_index live j) k 0 apart in
-        let was = before j low in (
-          omega (arith, same, was.0, grow.longer),
-          subst (P (slice_index live j)) (sym (ap (list_at lists') same ∙ grow.same _ was.0)) was.1,
-        )
-    | inr last ↦
-        let here : i ≡ j = omega (arith, last, h) in
-        let same = get_or-set_same numbers (slice_index live i) k 0 (omega (arith, rises.below i more, size)) in
-        subst (Put lists' (set numbers (slice_index live i) k)) here (
-          omega (arith, same, within),
-          subst (P (slice_index live i)) (sym (ap (list_at lists') same)) this,
-        )
-  ]
+  put_more before within this =
+      let same = get_or-set_same numbers (slice_index live i) k 0 (omega (arith, rises.below i more, size)) in
+      below_more (Put lists' (set numbers (slice_index live i) k)) i (λ j low.
+      let up = rises.rising j i low more in
+      let same = get_or-set_other numbers (slice_index live i) (slice_index live j) k 0 (λ e. omega (arith, up, e)) in
+      let was = before j low in
+      (omega (arith, same, was.0, grow.longer), subst (P _) (sym (ap (list_at lists') same ∙ grow.same _ was.0)) was.1))
+      (omega (arith, same, within), subst (P _) (sym (ap (list_at lists') same)) this)
 
 -- one of those that are looked at gets a number
 pub none_more : (numbers live : List ℕ) (i k : ℕ) → i < length live → HaveNone live numbers → HaveNone live (set numbers (slice_index live i) k)
 none_more numbers live i k more none t h = elim (cases_eq t (slice_index live i)) [
   | inl e ↦ inl (i, more, sym e)
-  | inr d ↦ elim (none t (omega (arith, h, length-set numbers (slice_index live i) k))) [
-    | inl one ↦ inl one
-    | inr zero ↦ inr (get_or-set_other numbers (slice_index live i) t k 0 d ∙ zero)
-  ]
+  | inr d ↦
+      ⊎_map (λ one. one) (λ zero. get_or-set_other numbers (slice_index live i) t k 0 d ∙ zero)
+      (none t (omega (arith, h, length-set numbers (slice_index live i) k)))
 ]
 
 -- the lists of all that are looked at, and the others have the empty one

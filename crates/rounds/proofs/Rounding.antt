@@ -1,6 +1,8 @@
 -- A round: the states that it looks at were signed, the blocks split, and the next round looks at what was found.
-use Rattle.std.proofs.Common.{◌≡◌, ◌↔◌, ℕ, ◌<◌, List, length, slice_index, IfSome, Contains, ap, sym, ◌∙◌, subst, subst₂, refl, inl, inr, arith}
+use Rattle.std.proofs.Common.{◌≡◌, ◌⊎◌, ◌↔◌, ℕ, ◌<◌, ◌≤◌, List, [], length, slice_index, slice_index_or, IfSome, Contains, ap, sym, ◌∙◌, subst, subst₂, refl, inl, inr, arith}
+use Rattle.std.proofs.Math.Logic.{⊎_map}
 use Rattle.std.proofs.lemmas.List.Elements.{All-contains}
+use Rattle.std.proofs.lemmas.Option.{IfSome_then}
 use Rattle.theory.specs.System.{Step}
 use Rattle.theory.specs.declared.relation.Relation.{Relation}
 use Rattle.theory.specs.declared.relation.Relation.TheVariants.{Strong, Branching}
@@ -10,15 +12,17 @@ use Rattle.theory.proofs.CallerLemmas.{step_below}
 use Rattle.lts.specs.Labels.{text_of}
 use Rattle.lts.specs.Lts.{Grouped, Triple, source_of, label_of, target_of, row_of, system_of, IsTriple, IsLts}
 use Rattle.lists.specs.Lists.{AreLists, AreNumbers}
-use Rattle.partition.specs.Blocks.{IsOne, LeavesAlone}
+use Rattle.partition.specs.Splitting.{Splits}
+use Rattle.partition.specs.Blocks.{RoundBlocks, IsOne, LeavesAlone, AreParted}
 use Rattle.rounds.specs.EachList.{Signed, HaveLists, list_of}
 use Rattle.rounds.specs.Settled.{Settled}
 use Rattle.rounds.specs.Kept.{Names, SignsLists}
-use Rattle.rounds.specs.Index.{LooksBackBy}
+use Rattle.rounds.specs.Index.{Entered, AreFound, FindsBack, LooksAtSources, LooksBackBy}
 use Rattle.rounds.specs.Rounds.{IsNext}
-use Rattle.rounds.specs.Watching.{HasIndexed, HasKept, Watches, WatchesBy, SignsEach, IsSplitOf}
+use Rattle.rounds.specs.Watching.{HasIndexed, HasKept, Watches, WatchesBy, SignsEach, IsSplitOf, LooksOn}
 use Rattle.rounds.specs.declared.signed_blocks.Watch.{Watch}
 use Rattle.rounds.specs.declared.signed_blocks.Watch.TheVariants.{Nothing, Sources}
+use Rattle.rounds.proofs.EachList.{Splits-lists}
 use Rattle.rounds.proofs.EqualLists.{Labelled}
 use Rattle.rounds.proofs.Settling.{IsNext-from, all_told, told_is_split}
 use Rattle.rounds.proofs.Indexing.{indexed_left, strong_next, left_next, indexed_back_next}
@@ -42,7 +46,7 @@ module _ (l : Grouped) (lts : IsLts l) (labelled : Labelled l)
   strong_split : Settled Strong (system_of l) (slice_index r.blocks.of) r.blocks.low → HasIndexed r.watch Strong l r.blocks → SignsEach Strong l p r
       → Split Strong (system_of l) (slice_index r.blocks.of) (slice_index q.blocks.of)
   strong_split settled index signed =
-      told_is_split Strong l labelled r.blocks.of r.blocks.low size settled (list_of r.lists r.numbers)
+      told_is_split l labelled r.blocks.of r.blocks.low size settled (list_of r.lists r.numbers)
       (all_told l labelled r.blocks r.lists r.numbers steps have.none (have.states ∙ size) are.first r.watch index signed) q.blocks.of
       (λ s t ls lt. next.splits.alike s t (omega (arith, ls, size)) (omega (arith, lt, size)))
 
@@ -73,10 +77,9 @@ module _ (l : Grouped) (lts : IsLts l) (labelled : Labelled l)
                       (round_keeps l labelled r.lists are lts.system r.blocks q.blocks size signed.was r.kept r.numbers signed.before signed.signed signed.others signed.shows
                       within next.splits next.low looks);
                 }
-            | inr anew ↦ keeps_anew l labelled steps q size' are' anew.anew (λ s h. elim (anew.all s (omega (arith, h, size'))) [
-              | inl one ↦ inl one
-              | inr alone ↦ inr (inl alone)
-            ])
+            | inr anew ↦
+                keeps_anew l labelled steps q size' are' anew.anew
+                (λ s h. ⊎_map (λ one. one) inl (anew.all s (omega (arith, h, size'))))
           ],
         )
 
@@ -89,6 +92,15 @@ module _ (l : Grouped) (lts : IsLts l) (labelled : Labelled l)
       IsNext-from Branching l lts.system r.blocks size (list_of r.lists r.numbers) q next.splits (back_split signed)
       (back_next signed r.watch next.watches index) next.low
 
+-- at first there is no index, and the states are looked at that have a transition
+pub watches_first : (rel : Relation) (l : Grouped) (r : Signed) (live : List ℕ) → r.watch ≡ Nothing
+    → r.blocks.live ≡ live → ((s : ℕ) → s < l.states → IsOne live s ⊎ (row_of s l.places ≡ [])) → Watches rel l r
+watches_first rel l r live nothing is rows =
+    subst (λ w. HasIndexed w rel l r.blocks × HasKept w rel l r) (sym nothing) (
+      λ s h. ⊎_map (subst (λ xs. IsOne xs s) (sym is)) inr (rows s h),
+      tt,
+    )
+
 -- fewer states are looked at, as those that are alone are left out
 pub watches_left : (rel : Relation) (l : Grouped) (p q : Signed) → length p.blocks.of ≡ l.states → q ≡ record p { blocks = q.blocks; numbers = q.numbers }
     → q.blocks ≡ record p.blocks { live = q.blocks.live } → LeavesAlone p.blocks.of p.blocks.live q.blocks.live → Watches rel l p → Watches rel l q
@@ -100,3 +112,36 @@ watches_left rel l p q size same is leaves w =
     left Nothing rel keeps = tt
     left (Sources e) Strong keeps = tt
     left (Sources e) Branching keeps = keeps_left l p q size (ap (λ r. r.lists) same) (ap (λ r. r.kept) same) is leaves keeps
+
+-- blocks were split by the numbers of lists, which are read through a slice, and the next round looks at these states
+pub split_of : (r p q : Signed) (ns live : List ℕ) (b : RoundBlocks) → r ≡ p → AreLists r.lists
+    → HaveLists r.blocks.of r.blocks.live r.lists r.numbers → ns ≡ r.numbers → AreParted r.blocks ns b
+    → q.blocks ≡ record b { live = live } → WatchesBy r.watch r q → IsSplitOf p q
+split_of r p q ns live b is are have same split blocks watches =
+    let splits = subst (λ xs. Splits r.blocks.of r.blocks.count (slice_index xs) b.of b.count) same split.splits in
+    subst (λ r. IsSplitOf r q) is (record {
+      splits =
+          subst (λ (x : RoundBlocks). Splits r.blocks.of r.blocks.count (list_of r.lists r.numbers) x.of x.count)
+          (sym blocks) (Splits-lists r.lists r.numbers _ _ _ _ are have.each (sym have.states) splits);
+      low = ap (λ b. b.low) blocks ∙ split.low;
+      watches = watches;
+    })
+
+-- the next round looks at the states that are found by the index: those of new blocks were looked at
+pub looks_on : (e : Entered) (p q : Signed) (ns found : List ℕ) (b : RoundBlocks) → AreParted p.blocks ns b
+    → q.blocks ≡ record b { live = found }
+    → ((t : ℕ) → IsOne b.live t → b.low ≤ slice_index b.of t → AreFound b.of found (slice_index_or e.sources t []))
+    → IfSome e.inner (λ inner. FindsBack inner b found) → q.lists ≡ p.lists → q.kept ≡ p.kept → LooksOn e p q
+looks_on e p q ns found b split is at back lists kept = record {
+  sources = subst (LooksAtSources e.sources) (sym is) (λ t below new. at t (were t below new) new);
+  back = IfSome_then e.inner back (λ inner finds. subst (LooksBackBy inner) (sym is)
+      (record { new = λ t below new. finds.new t (were t below new) new; back = finds.back }));
+  lists = lists;
+  kept = kept;
+}
+  where
+    were : (t : ℕ) → t < length b.of → b.low ≤ slice_index b.of t → IsOne b.live t
+    were t below new = elim (split.others t (omega (arith, below, split.splits.states))) [
+      | inl one ↦ one
+      | inr old ↦ absurd (omega (arith, old, new, split.low))
+    ]

@@ -1,16 +1,15 @@
 -- States that no new number can be seen from keep what they have in common.
-use Rattle.std.proofs.Common.{◌≡◌, ◌⊎◌, ◌↔◌, ◌∙◌, ℕ, ◌<◌, List, [], ◌∷◌, length, slice_index, Contains, ap, sym, subst, refl, inl, inr, arith}
-use Rattle.std.specs.List.Sorted.{IsStrictlySortedBy}
-use Rattle.theory.specs.System.{System, IsSystem, Step, Along, internal}
+use Rattle.std.proofs.Common.{◌≡◌, ◌⊎◌, ◌↔◌, ◌∙◌, ℕ, ◌<◌, List, [], length, slice_index, Contains, ap, sym, subst, refl, inl, inr, arith}
+use Rattle.theory.specs.System.{System, IsSystem, Step}
 use Rattle.theory.specs.declared.relation.Relation.{Relation}
 use Rattle.theory.specs.declared.relation.Relation.TheVariants.{Strong, Branching}
-use Rattle.theory.specs.Blocks.{Inert, Signature, SameSignature, SameBlocks, Split}
+use Rattle.theory.specs.Blocks.{Signature, SameSignature, SameBlocks, Split}
 use Rattle.theory.proofs.CallerLemmas.{step_below}
 use Rattle.lts.specs.Labels.{text_of}
 use Rattle.lts.specs.Lts.{Grouped, Triple, label_of, target_of, row_of, system_of}
-use Rattle.lists.specs.Lists.{list_at, pair_cmp}
+use Rattle.lists.specs.Lists.{list_at}
 use Rattle.partition.specs.Splitting.{IsAlone, Splits}
-use Rattle.partition.specs.Blocks.{RoundBlocks, HaveNone}
+use Rattle.partition.specs.Blocks.{RoundBlocks, IsOne, HaveNone}
 use Rattle.inert.specs.Signed.{HasPair, IsSignature}
 use Rattle.rounds.specs.Rounds.{IsNext}
 use Rattle.rounds.specs.Settled.{IsTouched, IsStill, Settled, IsPut, ArePut}
@@ -41,85 +40,73 @@ module _ (A : System) (old new : ℕ → ℕ) (low : ℕ) (inside : (s : ℕ) (a
   shown_now : (s : ℕ) → IsStill Strong A new low s → (a : List ℕ) (b : ℕ) → Signature Strong A old s a b → Signature Strong A new s a b
   shown_now s still a b h = (h.0, h.1, stays h.0 (inside s a h.0 h.1) (still a h.0 h.1) ∙ h.2)
 
-  settled_strong : Split Strong A old new → Settled Strong A new low
-  settled_strong split s t ls lt e of_s of_t a b =
+  -- after each round the numbers from the count before it on are new
+  pub settled_next : (rel : Relation) → Split rel A old new → Settled rel A new low
+  settled_next Strong split s t ls lt e of_s of_t a b =
       let before = ((split s t ls lt).0 e).1 in (
         λ h. shown_now t of_t a b ((before a b).0 (shown_before s of_s a b h)),
         λ h. shown_now s of_s a b ((before a b).1 (shown_before t of_t a b h)),
       )
+  settled_next Branching split s t ls lt e of_s of_t a b = absurd of_s
 
--- after each round the numbers from the count before it on are new
-pub settled_next : (rel : Relation) (A : System) (old new : ℕ → ℕ) (low : ℕ)
-    → ((s : ℕ) (a : List ℕ) (t : ℕ) → Step A s a t → t < A.states) → Stays A old new low → Split rel A old new → Settled rel A new low
-settled_next Strong A old new low inside stays split = settled_strong A old new low inside stays split
-settled_next Branching A old new low inside stays split = λ s t ls lt e of_s of_t. absurd of_s
+-- a touched state has another signature than a still one
+differs : (A : System) (blocks : ℕ → ℕ) (low s t : ℕ) → IsTouched Strong A blocks low s → IsStill Strong A blocks low t
+    → ¬ SameSignature Strong A blocks s t
+differs A blocks low s t touched still same =
+    let h = (same touched.0 (blocks touched.1)).0 (touched.1, touched.2, refl) in
+    absurd (omega (arith, still touched.0 h.0 h.1, h.2, touched.3))
 
--- a touched state has another signature than a still one, and not an empty one
-module _ (A : System) (blocks : ℕ → ℕ) (low s t : ℕ) where
-  pub differs : (rel : Relation) → IsTouched rel A blocks low s → IsStill rel A blocks low t → SameSignature rel A blocks s t → ⊥
-  differs Strong touched still same =
-      let h = (same touched.0 (blocks touched.1)).0 (touched.1, touched.2, refl) in
-      absurd (omega (arith, still touched.0 h.0 h.1, h.2, touched.3))
-  differs Branching touched still same = still
-
--- the list of a touched state is not empty, if some state is still
-not_empty : (rel : Relation) (l : Grouped) (labelled : Labelled l) (blocks : List ℕ) (low s t : ℕ) (xs : List (ℕ × ℕ))
-    → IsTouched rel (system_of l) (slice_index blocks) low s → IsSignature rel l blocks s xs
-    → IsStill rel (system_of l) (slice_index blocks) low t → xs ≡ [] → ⊥
-not_empty Strong l labelled blocks low s t xs touched signed still e =
+-- and not an empty one
+not_empty : (l : Grouped) (labelled : Labelled l) (blocks : List ℕ) (low s : ℕ) (xs : List (ℕ × ℕ))
+    → IsTouched Strong (system_of l) (slice_index blocks) low s → IsSignature Strong l blocks s xs → ¬ (xs ≡ [])
+not_empty l labelled blocks low s xs touched signed e =
     let number = labelled s touched.0 touched.1 touched.2 in
-    let pair : HasPair Strong l blocks s number.0 (slice_index blocks touched.1) = (number.1.below, (touched.1, subst (λ a. Step (system_of l) s a touched.1) (sym number.1.text) touched.2, refl)) in
+    let pair : HasPair Strong l blocks s number.0 (slice_index blocks touched.1) =
+    (number.1.below, (touched.1, subst (λ a. Step (system_of l) s a touched.1) (sym number.1.text) touched.2, refl)) in
     let c = subst (λ zs. Contains zs (number.0, slice_index blocks touched.1)) e ((signed.exactly number.0 (slice_index blocks touched.1)).1 pair) in
     absurd (omega (arith, c.1))
-not_empty Branching l labelled blocks low s t xs touched signed still e = still
 
 -- the list that a state has tells its signature from those of the others of its block: it is put down for it, or no other state has the
 -- block
-abbrev pub IsTold : Relation → Grouped → List ℕ → ℕ → (ℕ → List (ℕ × ℕ)) → ℕ → Type 0
-IsTold rel l p low signature s = IsPut rel l p low s (signature s) ⊎ IsAlone p s
+abbrev pub IsTold : Grouped → List ℕ → ℕ → (ℕ → List (ℕ × ℕ)) → ℕ → Type 0
+IsTold l p low signature s = IsPut Strong l p low s (signature s) ⊎ IsAlone p s
 
-module _ (rel : Relation) (l : Grouped) (labelled : Labelled l) (p : List ℕ) (low : ℕ) (states : length p ≡ l.states)
-    (settled : Settled rel (system_of l) (slice_index p) low) (signature : ℕ → List (ℕ × ℕ))
-    (told : (s : ℕ) → s < l.states → IsTold rel l p low signature s) where
-  -- one state has one list and one signature
-  of_one : (s t : ℕ) → s ≡ t → (signature s ≡ signature t) ↔ SameSignature rel (system_of l) (slice_index p) s t
-  of_one s t e = (
-    λ _. subst (SameSignature rel (system_of l) (slice_index p) s) e (λ a b. (λ h. h, λ h. h)),
-    λ _. ap signature e,
-  )
+module _ (l : Grouped) (labelled : Labelled l) (p : List ℕ) (low : ℕ) (states : length p ≡ l.states)
+    (settled : Settled Strong (system_of l) (slice_index p) low) (signature : ℕ → List (ℕ × ℕ))
+    (told : (s : ℕ) → s < l.states → IsTold l p low signature s) where
+  -- the lists of two states are equal exactly if the signatures are
+  abbrev Tells : ℕ → ℕ → Type 0
+  Tells s t = (signature s ≡ signature t) ↔ SameSignature Strong (system_of l) (slice_index p) s t
 
   -- one touched, and one still
-  mixed : (s t : ℕ) → IsTouched rel (system_of l) (slice_index p) low s → IsSignature rel l p s (signature s)
-      → signature t ≡ [] → IsStill rel (system_of l) (slice_index p) low t
-      → (signature s ≡ signature t) ↔ SameSignature rel (system_of l) (slice_index p) s t
+  mixed : (s t : ℕ) → IsTouched Strong (system_of l) (slice_index p) low s → IsSignature Strong l p s (signature s)
+      → signature t ≡ [] → IsStill Strong (system_of l) (slice_index p) low t → Tells s t
   mixed s t touched signed e still = (
-    λ x. absurd (not_empty rel l labelled p low s t (signature s) touched signed still (x ∙ e)),
-    λ same. absurd (differs (system_of l) (slice_index p) low s t rel touched still same),
+    λ x. absurd (not_empty l labelled p low s (signature s) touched signed (x ∙ e)),
+    λ same. absurd (differs (system_of l) (slice_index p) low s t touched still same),
   )
 
-  turned : (s t : ℕ) → (signature s ≡ signature t) ↔ SameSignature rel (system_of l) (slice_index p) s t
-      → (signature t ≡ signature s) ↔ SameSignature rel (system_of l) (slice_index p) t s
+  turned : (s t : ℕ) → Tells s t → Tells t s
   turned s t h = (
     λ e a b. let f = h.0 (sym e) a b in (f.1, f.0),
     λ same. sym (h.1 (λ a b. let f = same a b in (f.1, f.0))),
   )
 
   -- of two states for which lists were put down
-  both_put : (s t : ℕ) → s < l.states → t < l.states → slice_index p s ≡ slice_index p t → IsPut rel l p low s (signature s) → IsPut rel l p low t (signature t)
-      → (signature s ≡ signature t) ↔ SameSignature rel (system_of l) (slice_index p) s t
-  both_put s t ls lt one (inl x) (inl y) = equal_lists rel l labelled p s t (signature s) (signature t) x.1 y.1
+  both_put : (s t : ℕ) → s < l.states → t < l.states → slice_index p s ≡ slice_index p t
+      → IsPut Strong l p low s (signature s) → IsPut Strong l p low t (signature t) → Tells s t
+  both_put s t ls lt one (inl x) (inl y) = equal_lists Strong l labelled p s t (signature s) (signature t) x.1 y.1
   both_put s t ls lt one (inl x) (inr y) = mixed s t x.0 x.1 y.1 y.0
   both_put s t ls lt one (inr x) (inl y) = turned t s (mixed t s y.0 y.1 x.1 x.0)
   both_put s t ls lt one (inr x) (inr y) = (λ _. settled s t ls lt one x.0 y.0, λ _. x.1 ∙ sym y.1)
 
-  -- of a state that is alone, and one of its block
-  with_block : (s t : ℕ) → t < l.states → slice_index p s ≡ slice_index p t → IsAlone p s
-      → (signature s ≡ signature t) ↔ SameSignature rel (system_of l) (slice_index p) s t
-  with_block s t lt one alone = of_one s t (sym (alone t (omega (arith, lt, states)) (sym one)))
+  -- of a state that is alone, and one of its block, which is that state
+  with_block : (s t : ℕ) → t < l.states → slice_index p s ≡ slice_index p t → IsAlone p s → Tells s t
+  with_block s t lt one alone =
+      subst (Tells s) (sym (alone t (omega (arith, lt, states)) (sym one))) (λ _ a b. (λ h. h, λ h. h), λ _. refl)
 
   -- in one block, two lists are equal exactly if the signatures are
-  pub tells : (s t : ℕ) → s < l.states → t < l.states → slice_index p s ≡ slice_index p t
-      → (signature s ≡ signature t) ↔ SameSignature rel (system_of l) (slice_index p) s t
+  tells : (s t : ℕ) → s < l.states → t < l.states → slice_index p s ≡ slice_index p t → Tells s t
   tells s t ls lt one = elim (told s ls) [
     | inr x ↦ with_block s t lt one x
     | inl x ↦ elim (told t lt) [
@@ -132,33 +119,10 @@ module _ (rel : Relation) (l : Grouped) (labelled : Labelled l) (p : List ℕ) (
   pub told_is_split : (q : List ℕ) →
       ((s t : ℕ) → s < l.states → t < l.states →
       (slice_index q s ≡ slice_index q t) ↔ ((slice_index p s ≡ slice_index p t) × (signature s ≡ signature t)))
-      → Split rel (system_of l) (slice_index p) (slice_index q)
+      → Split Strong (system_of l) (slice_index p) (slice_index q)
   told_is_split q parted s t ls lt = (
     λ e. let h = (parted s t ls lt).0 e in (h.0, (tells s t ls lt h.0).0 h.1),
     λ h. (parted s t ls lt).1 (h.0, (tells s t ls lt h.0).1 h.1),
-  )
-
-rises_empty : IsStrictlySortedBy pair_cmp []
-unfolding IsStrictlySortedBy
-rises_empty = tt
-
--- a state without a transition is still, or its signature is empty
-module _ (l : Grouped) (p : List ℕ) (low s : ℕ) (no_step : (a : List ℕ) (t : ℕ) → Step (system_of l) s a t → ⊥) where
-  no_pair : (us : List ℕ) (u t : ℕ) (a : List ℕ) → Along (Inert (system_of l) (slice_index p)) s us u → Step (system_of l) u a t → ⊥
-  no_pair [] u t a e step = no_step a t (subst (λ x. Step (system_of l) x a t) (sym e) step)
-  no_pair (x ∷ us) u t a (first, rest) step = no_step internal x first.0
-
-  pub put_none : (rel : Relation) (list : List (ℕ × ℕ)) → list ≡ [] → IsPut rel l p low s list
-  put_none Strong list e = inr (λ a t step. absurd (no_step a t step), e)
-  put_none Branching list e = inl (
-    tt,
-    subst (IsSignature Branching l p s) (sym e) (record {
-      exactly = λ k b. (
-        λ c. absurd (omega (arith, c.1)),
-        λ has. absurd (no_pair has.1.2.0 has.1.0 has.1.1 (text_of l.labels k) has.1.2.1 has.1.3),
-      );
-      rising = rises_empty;
-    }),
   )
 
 -- the Split of blocks, with their numbers: those from the count on are new
@@ -184,66 +148,29 @@ module _ (rel : Relation) (l : Grouped) (sys : IsSystem (system_of l)) (p : Roun
       h.5 ((alike h.0 h.1 (omega (arith, h.2, states)) (omega (arith, h.3, states))).1 h.4)
 
   pub IsNext-from : Watches rel l r → r.blocks.low ≡ p.count → IsNext rel l p r
-  IsNext-from watches low = record {
-    states = splits.states ∙ states;
-    split = split;
-    blocks = splits.blocks;
-    low = low;
-    settled =
-        subst (Settled rel (system_of l) (slice_index r.blocks.of)) (sym low) (
-        settled_next rel (system_of l) (slice_index p.of) (slice_index r.blocks.of) p.count (λ s a t step. (step_below (system_of l) sys s a t step).1) stays split);
-    watches = watches;
-    grows = splits.grows;
-    stays = stays;
-    same = same;
-    parted = parted;
-  }
-
--- where all numbers are new, each list that is put down is the signature
-pub put_whole : (rel : Relation) (l : Grouped) (p : List ℕ) (s : ℕ) (list : List (ℕ × ℕ)) → IsPut rel l p 0 s list → IsSignature rel l p s list
-put_whole rel l p s list (inl x) = x.1
-put_whole rel l p s list (inr x) = empty rel x.0
-  where
-    empty : (r : Relation) → IsStill r (system_of l) (slice_index p) 0 s → IsSignature r l p s list
-    empty Strong still = subst (IsSignature Strong l p s) (sym x.1) (record {
-      exactly = λ k b. (λ c. absurd (omega (arith, c.1)), λ h. absurd (omega (arith, still (text_of l.labels k) h.1.0 h.1.1)));
-      rising = rises_empty;
-    })
-    empty Branching still = absurd still
+  IsNext-from watches low =
+      let settled = subst (Settled rel (system_of l) (slice_index r.blocks.of)) (sym low) (
+      settled_next (system_of l) (slice_index p.of) (slice_index r.blocks.of) p.count
+      (λ s a t step. (step_below (system_of l) sys s a t step).1) stays rel split) in
+      search (arith, split, splits, low, settled, watches, stays, same, parted, splits.states ∙ states)
 
 -- each list tells the signature of its state
 module _ (l : Grouped) (labelled : Labelled l) (p : RoundBlocks) (lists : List (List (ℕ × ℕ))) (numbers : List ℕ)
     (steps : (s : ℕ) (a : List ℕ) (t : ℕ) → Step (system_of l) s a t ↔ ((e : Triple) × Contains (row_of s l.places) e × (text_of l.labels (label_of e) ≡ a) × (target_of e ≡ t)))
     (none : HaveNone p.live numbers) (size : length numbers ≡ l.states) (first : list_at lists 0 ≡ []) where
-  -- a state that is still has no other list than the empty one, if it is not looked at
-  still_put : ArePut Strong l p.of p.low p.live (list_of lists numbers) → (s : ℕ) → s < l.states
-      → IsStill Strong (system_of l) (slice_index p.of) p.low s → IsPut Strong l p.of p.low s (list_of lists numbers s)
-  still_put put s ls still = elim (none s (omega (arith, ls, size))) [
-    | inl one ↦ put s one
-    | inr zero ↦ inr (still, ap (list_at lists) zero ∙ first)
-  ]
-
-  -- nor has a state without a transition
-  empty_put : (rel : Relation) → ArePut rel l p.of p.low p.live (list_of lists numbers) → (s : ℕ) → s < l.states
-      → row_of s l.places ≡ [] → IsPut rel l p.of p.low s (list_of lists numbers s)
-  empty_put rel put s ls empty = elim (none s (omega (arith, ls, size))) [
-    | inl one ↦ put s one
-    | inr zero ↦ put_none l p.of p.low s (no_step l s (steps s) empty) rel (list_of lists numbers s) (ap (list_at lists) zero ∙ first)
+  -- a state that is not looked at is alone, or still, and then has no other list than the empty one
+  told : {R : ℕ → Type 0} → ((s : ℕ) → R s → IsStill Strong (system_of l) (slice_index p.of) p.low s)
+      → ArePut Strong l p.of p.low p.live (list_of lists numbers) → (s : ℕ) → s < l.states
+      → IsOne p.live s ⊎ IsAlone p.of s ⊎ R s → IsTold l p.of p.low (list_of lists numbers) s
+  told still put s ls (inl one) = inl (put s one)
+  told still put s ls (inr (inl alone)) = inr alone
+  told still put s ls (inr (inr x)) = elim (none s (omega (arith, ls, size))) [
+    | inl one ↦ inl (put s one)
+    | inr zero ↦ inl (inr (still s x, ap (list_at lists) zero ∙ first))
   ]
 
   pub all_told : (watch : Watch) → HasIndexed watch Strong l p → ArePut Strong l p.of p.low p.live (list_of lists numbers)
-      → (s : ℕ) → s < l.states → IsTold Strong l p.of p.low (list_of lists numbers) s
-  all_told Nothing others put s ls = elim (others s ls) [
-    | inl one ↦ inl (put s one)
-    | inr x ↦ elim x [
-      | inl alone ↦ inr alone
-      | inr empty ↦ inl (empty_put Strong put s ls empty)
-    ]
-  ]
-  all_told (Sources e) w put s ls = elim (w.others s ls) [
-    | inl one ↦ inl (put s one)
-    | inr x ↦ elim x [
-      | inl alone ↦ inr alone
-      | inr still ↦ inl (still_put put s ls still)
-    ]
-  ]
+      → (s : ℕ) → s < l.states → IsTold l p.of p.low (list_of lists numbers) s
+  all_told Nothing others put s ls =
+      told (λ s empty a t step. absurd (no_step l s (steps s) empty a t step)) put s ls (others s ls)
+  all_told (Sources e) w put s ls = told (λ s still. still) put s ls (w.others s ls)

@@ -1,54 +1,25 @@
 -- What rounds cost, of which each makes n visits.
-use Rattle.std.proofs.Common.{◌≡◌, ℕ, suc, ◌+◌, ◌*◌, ◌<◌, ◌≤◌, Result, Ok, Err, OnOk, OnErr, arith}
+use Rattle.std.proofs.Common.{ℕ, suc, ◌+◌, ◌*◌, ◌<◌, Result, Ok, Err, OnOk, OnErr, arith}
 use Rattle.std.proofs.lemmas.Nat.{mul-le}
 use Rattle.std.proofs.Math.Nat.{suc-mul, add-mul}
 use Rattle.lts.specs.Meter.{Counts, HasRoomFor, Costs, CostsUpTo}
 
 -- a round that was begun, and read so far, is at most one round
 pub begun_up_to : (old begun at : Counts) (n least : ℕ) → Costs old begun 1 0 0 → Costs begun at 0 least n → CostsUpTo old at 1 n
-begun_up_to old begun at n least start read = (
-  1,
-  omega arith,
-  record {
-    rounds = omega (arith, start.rounds, read.rounds);
-    at_least = omega (arith, start.at_least, read.at_least);
-    at_most = omega (arith, start.at_most, read.at_most);
-  },
-)
+begun_up_to old begun at n least start read = (1, omega arith, omega arith)
 
 module _ (n states k : ℕ) (old at : Counts) (made : Costs old at k (k * n) (k * n)) where
   -- a round more after k of them
   pub costs_more : (new : Counts) → Costs at new 1 n n → Costs old new (suc k) (suc k * n) (suc k * n)
-  costs_more new one =
-      let sum : suc k * n ≡ k * n + n = suc-mul k n in
-      record {
-        rounds = omega (arith, made.rounds, one.rounds);
-        at_least = omega (arith, sum, made.at_least, one.at_least);
-        at_most = omega (arith, sum, made.at_most, one.at_most);
-      }
+  costs_more new one = omega (arith, suc-mul k n)
 
   -- there is room for a round more, as long as fewer were made than states
   pub room_for_more : k < states → HasRoomFor old states (states * n) → HasRoomFor at 1 n
-  room_for_more below room =
-      let sum : suc k * n ≡ k * n + n = suc-mul k n in
-      let most : suc k * n ≤ states * n = mul-le (suc k) n states n (omega (arith, below)) (omega arith) in
-      record {
-        for_rounds = omega (arith, below, room.for_rounds, made.rounds);
-        for_visits = omega (arith, sum, most, room.for_visits, made.at_most);
-      }
+  room_for_more below room = omega (arith, suc-mul k n, mul-le (suc k) n states n (omega (arith, below)) (omega arith))
 
   -- a round that was refused costs no more than one that is made
   pub costs_up_to_more : (new : Counts) → k < states → CostsUpTo at new 1 n → CostsUpTo old new states n
-  costs_up_to_more new below (r, few, one) =
-      let sum : (k + r) * n ≡ k * n + r * n = add-mul k r n in (
-        k + r,
-        omega (arith, below, few),
-        record {
-          rounds = omega (arith, made.rounds, one.rounds);
-          at_least = omega (arith, made.at_least, one.at_least);
-          at_most = omega (arith, sum, made.at_most, one.at_most);
-        },
-      )
+  costs_up_to_more new below (r, few, one) = (k + r, omega (arith, below, few), omega (arith, add-mul k r n))
 
 -- what holds in either case
 pub on_ok_from : {T E P : Type 0} (r : Result T E) → P → OnOk r P

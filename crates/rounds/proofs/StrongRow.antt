@@ -1,13 +1,14 @@
 -- The pairs of a state's row, in rising order and each once, are its strong signature.
-use Rattle.std.proofs.Common.{◌≡◌, ◌↔◌, ℕ, List, length, map, slice_index, All, Contains, refl, ◌∙◌, ap, subst, inl, inr, arith}
+use Rattle.std.proofs.Common.{◌≡◌, ◌↔◌, ℕ, ◌+◌, ◌-◌, ◌*◌, ◌/◌, ◌%◌, List, [], ◌∷◌, ◌++◌, length, take, map, slice_index, Contains, refl, ◌∙◌, ap, subst, inl, inr, arith}
+use Rattle.std.proofs.lemmas.Grind.{common_steps}
 use Rattle.std.proofs.lemmas.Bool.{cases_lt}
-use Rattle.std.proofs.lemmas.List.{length-map, get_or-map}
-use Rattle.std.proofs.lemmas.List.Elements.{All-contains, All-contains_itself, All-map, All-weaker}
+use Rattle.std.proofs.lemmas.List.Elements.{All-contains}
 use Rattle.std.specs.List.Sorted.{IsStrictlySortedBy}
 use Rattle.theory.specs.System.{Step}
 use Rattle.theory.specs.declared.relation.Relation.TheVariants.{Strong}
 use Rattle.lts.specs.Labels.{text_of}
-use Rattle.lts.specs.Lts.{Grouped, Triple, source_of, label_of, target_of, row_of, system_of, IsTriple, IsLts}
+use Rattle.lts.specs.Lts.{Grouped, Triple, source_of, label_of, target_of, place_at, row_of, system_of, IsTriple, IsLts}
+use Rattle.lts.proofs.CallerLemmas.{contains_mapped, mapped_contains}
 use Rattle.lists.specs.Lists.{pair_cmp}
 use Rattle.inert.specs.Signed.{HasPair, IsSignature, pair_under}
 use Rattle.rounds.specs.Settled.{HasFrom, IsTouched, IsStill}
@@ -31,41 +32,26 @@ module _ (l : Grouped) (blocks : List ℕ) (s : ℕ) (h : IsLts l)
       let e : Triple = found.0 in
       let number : label_of e ≡ k = h.table.different (label_of e) k (in_range e found.1).label has.0 found.2 in
       let is : pair_under blocks e ≡ (k, b) = λ i. (number i, (ap (slice_index blocks) found.3 ∙ has.1.2) i) in
-      let place = get_or-map (pair_under blocks) row found.1.0 e (pair_under blocks e) found.1.1 ∙ ap (pair_under blocks) found.1.2 in
-      subst (Contains (map (pair_under blocks) row)) is (found.1.0, omega (arith, found.1.1, length-map row (pair_under blocks)), place)
+      subst (Contains (map (pair_under blocks) row)) is (contains_mapped (pair_under blocks) row e found.1)
+
+  has : (z : ℕ × ℕ) → Contains (map (pair_under blocks) (row_of s l.places)) z → HasPair Strong l blocks s z.0 z.1
+  has z c =
+      let (e, at, is) = mapped_contains (pair_under blocks) (row_of s l.places) z c in
+      subst (λ (z : ℕ × ℕ). HasPair Strong l blocks s z.0 z.1) is (has_pair e at)
 
   -- the row's pairs in rising order, each once
   pub row_signature : (zs : List (ℕ × ℕ)) → IsStrictlySortedBy pair_cmp zs
       → ((z : ℕ × ℕ) → Contains zs z ↔ Contains (map (pair_under blocks) (row_of s l.places)) z) → IsSignature Strong l blocks s zs
-  row_signature zs rising same =
-      let row = row_of s l.places in
-      let xs = map (pair_under blocks) row in
-      let Has : ℕ × ℕ → Type 0 = λ p. HasPair Strong l blocks s p.0 p.1 in
-      let all : All Has xs =
-      All-map Has (pair_under blocks) row (All-weaker (Contains row) (λ e. Has (pair_under blocks e)) has_pair row (All-contains_itself row)) in
-      record {
-        exactly = λ k b. (λ c. All-contains Has xs (k, b) all ((same (k, b)).0 c), λ p. (same (k, b)).1 (pair_has k b p));
-        rising = rising;
-      }
-
-  -- a transition's pair is one of the row's pairs
-  shows : (e : Triple) → Contains (row_of s l.places) e → Contains (map (pair_under blocks) (row_of s l.places)) (pair_under blocks e)
-  shows e c =
-      let row = row_of s l.places in (
-        c.0,
-        omega (arith, c.1, length-map row (pair_under blocks)),
-        get_or-map (pair_under blocks) row c.0 e (pair_under blocks e) c.1 ∙ ap (pair_under blocks) c.2,
-      )
+  row_signature zs rising same = record {
+    exactly = λ k b. (λ c. has (k, b) ((same (k, b)).0 c), λ p. (same (k, b)).1 (pair_has k b p));
+    rising = rising;
+  }
 
   -- a state whose row has a new number is touched
   pub row_touched : (low : ℕ) → HasFrom low (map (pair_under blocks) (row_of s l.places)) → IsTouched Strong (system_of l) (slice_index blocks) low s
   row_touched low h =
-      let row = row_of s l.places in
-      let Has : ℕ × ℕ → Type 0 = λ p. HasPair Strong l blocks s p.0 p.1 in
-      let all : All Has (map (pair_under blocks) row) =
-      All-map Has (pair_under blocks) row (All-weaker (Contains row) (λ e. Has (pair_under blocks e)) has_pair row (All-contains_itself row)) in
-      let has = All-contains Has (map (pair_under blocks) row) h.0 all h.1 in
-      (text_of l.labels h.0.0, has.1.0, has.1.1, omega (arith, h.2, has.1.2))
+      let its = has h.0 h.1 in
+      (text_of l.labels h.0.0, its.1.0, its.1.1, omega (arith, h.2, its.1.2))
 
   -- and one whose row has none is still
   pub row_still : (low : ℕ) → (HasFrom low (map (pair_under blocks) (row_of s l.places)) → ⊥) → IsStill Strong (system_of l) (slice_index blocks) low s
@@ -74,5 +60,31 @@ module _ (l : Grouped) (blocks : List ℕ) (s : ℕ) (h : IsLts l)
       let at : slice_index blocks (target_of found.0) ≡ slice_index blocks t = ap (slice_index blocks) found.3 in
       elim (cases_lt (slice_index blocks t) low) [
         | inl l ↦ l
-        | inr g ↦ absurd (none (pair_under blocks found.0, shows found.0 found.1, omega (arith, g, at)))
+        | inr g ↦
+            let shows = contains_mapped (pair_under blocks) (row_of s l.places) found.0 found.1 in
+            absurd (none (pair_under blocks found.0, shows, omega (arith, g, at)))
       ]
+
+-- what is left of a row is read by twos, after one transition, if their count is odd, and else after none
+pub by_two : (start end k count : ℕ) → end ≡ start + count → k ≡ start + (end - start) % 2 → (n : ℕ) × (end ≡ k + n * 2)
+by_two start end k count all is = ((end - start) / 2, omega (arith, all, is))
+
+-- the pairs of a row that begins at the place `start`, up to the place k
+module _ (blocks : List ℕ) (places : List Triple) (s start : ℕ) where
+  abbrev pub pairs_to : ℕ → List (ℕ × ℕ)
+  pairs_to k = map (pair_under blocks) (take (k - start) (row_of s places))
+
+  pub pairs_none : [] ≡ pairs_to start
+  pairs_none =
+      let zero : 0 ≡ start - start = omega arith in
+      ap (λ n. map (pair_under blocks) (take n (row_of s places))) zero
+
+  -- and that at the place k
+  pub pairs_more : (k next : ℕ) {label target : ℕ} {pairs new : List (ℕ × ℕ)}
+      → take ((k + 1) - start) (row_of s places) ≡ take (k - start) (row_of s places) ++ place_at places k ∷ []
+      → next ≡ k + 1 → label ≡ (place_at places k).1 → target ≡ (place_at places k).2 → pairs ≡ pairs_to k
+      → new ≡ pairs ++ (label, slice_index blocks target) ∷ [] → new ≡ pairs_to next
+  pairs_more k next {label = label} {target = target} row is_next is_label is_target before after =
+      let shown : (label, slice_index blocks target) ≡ pair_under blocks (place_at places k) =
+      λ i. (is_label i, (ap (slice_index blocks) is_target) i) in
+      grind (arith, common_steps, is_next, shown, row, before, after)

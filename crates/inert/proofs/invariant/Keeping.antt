@@ -1,6 +1,7 @@
 -- What a walk says of the states below a height holds still after a move that keeps them, and after lists were added.
 use Rattle.std.proofs.Common.{◌≡◌, ◌⊎◌, ℕ, ◌<◌, ◌≤◌, List, length, slice_index, refl, sym, ◌∙◌, subst, inl, inr, arith, Contains}
 use Rattle.std.specs.List.{All}
+use Rattle.std.proofs.Math.Logic.{⊎_map}
 use Rattle.theory.specs.declared.relation.Relation.TheVariants.{Branching}
 use Rattle.lts.specs.Lts.{Triple, source_of, place_at}
 use Rattle.lists.specs.Lists.{Grow}
@@ -85,16 +86,6 @@ module _ {u : Under} {lists : List (List (ℕ × ℕ))} {w : Search} (walks : Wa
             subst (λ s. HasPair Branching u.l u.blocks s z.0 z.1) (sym (keeps.states p h)) (all z (subst (λ x. Gives lists x z) (keeps.items j p low h of).1 g)),
       )
 
--- no list was added, or some and then more
-pub grow_same : (lists : List (List (ℕ × ℕ))) → Grow lists lists
-grow_same lists = record { longer = omega arith; same = λ k h. refl }
-
-pub grow_on : {first mid lists : List (List (ℕ × ℕ))} → Grow first mid → Grow mid lists → Grow first lists
-grow_on was then = record {
-  longer = omega (arith, was.longer, then.longer);
-  same = λ k h. then.same k (omega (arith, h, was.longer)) ∙ was.same k h;
-}
-
 -- a signature is there still
 signed_grow : {u : Under} {s k : ℕ} {lists lists' : List (List (ℕ × ℕ))} → Grow lists lists' → IsSigned u s lists k → IsSigned u s lists' k
 signed_grow {u = u} {s = s} {k = k} grow was = record {
@@ -105,10 +96,8 @@ signed_grow {u = u} {s = s} {k = k} grow was = record {
 -- states are finished, and then more
 pub signs_on : (u : Under) (first lists : List (List (ℕ × ℕ))) (old mid new : List Stage) → Grow first lists → SignsMore u first old mid → SignsMore u lists mid new
     → SignsMore u lists old new
-signs_on u first lists old mid new grow were are s k is = elim (are s k is) [
-  | inr sign ↦ inr sign
-  | inl was ↦ elim (were s k was) [ inl old ↦ inl old | inr sign ↦ inr (signed_grow grow sign) ]
-]
+signs_on u first lists old mid new grow were are s k is =
+    grind (arith, are s k is, were s k, signed_grow {u = u} {s = s} {k = k} grow)
 
 -- a walk goes on, and then further
 pub goes_on : {u : Under} {first lists : List (List (ℕ × ℕ))} {old mid new : Search} → Grow first lists → GoesOn u first old mid → GoesOn u lists mid new → GoesOn u lists old new
@@ -126,9 +115,9 @@ module _ {lists lists' : List (List (ℕ × ℕ))} (grow : Grow lists lists') wh
     holds p z (j, low, g, of) = (j, low, (Gives-grow (item_at w.items j) (walks.there j (Pair 0 0) low) z).0 g, of)
 
     followed : (p t : ℕ) → IsFollowed lists w p t → IsFollowed lists' w p t
-    followed p t (inl here) = inl here
-    followed p t (inr (inl (k, is, all))) = inr (inl (k, is, λ z c. holds p z (all z (subst (λ xs. Contains xs z) (grow.same k (walks.signed t k is).within) c))))
-    followed p t (inr (inr entered)) = inr (inr entered)
+    followed p t = ⊎_map (λ here. here) (⊎_map (λ (k, is, all).
+        (k, is, λ z c. holds p z (all z (subst (λ xs. Contains xs z) (grow.same k (walks.signed t k is).within) c))))
+        (λ entered. entered))
 
     pub Walks-grow : Walks u lists' w
     Walks-grow = record {
@@ -138,18 +127,19 @@ module _ {lists lists' : List (List (ℕ × ℕ))} (grow : Grow lists lists') wh
           let was = walks.signed s k is in
           record {
             within = omega (arith, was.within, grow.longer);
-            signature = λ t inside same. elim (was.signature t inside same) [
-              | inl done ↦ inl done
-              | inr sign ↦ inr (subst (IsSignature Branching u.l u.blocks s) (sym (grow.same k was.within)) sign)
-            ];
+            signature = λ t inside same.
+                ⊎_map (λ done. done) (subst (IsSignature Branching u.l u.blocks s) (sym (grow.same k was.within)))
+                (was.signature t inside same);
           };
       roots = walks.roots;
       frames = walks.frames;
       connects = walks.connects;
       there = λ j d low k is. omega (arith, walks.there j d low k is, grow.longer);
       sound = λ j low. let (p, lp, of, all) = walks.sound j low in (p, lp, of, λ z g. all z ((Gives-grow (item_at w.items j) (walks.there j (Pair 0 0) low) z).1 g));
-      accounted = λ p k lp lk source. elim (walks.accounted p k lp lk source) [
-        | inl ahead ↦ inl ahead
-        | inr done ↦ inr (record { shown = λ other. holds p _ (done.shown other); followed = λ inert. followed p _ (done.followed inert) })
-      ];
+      accounted = λ p k lp lk source. ⊎_map (λ ahead. ahead)
+          (λ done. record {
+            shown = λ other. holds p _ (done.shown other);
+            followed = λ inert. followed p _ (done.followed inert);
+          })
+          (walks.accounted p k lp lk source);
     }

@@ -1,6 +1,7 @@
 -- A walk at rest: before it has begun, and when it is over, with the signatures of its states.
 use Rattle.std.proofs.Common.{◌≡◌, ◌⊎◌, ◌∙◌, ℕ, ◌<◌, ◌≤◌, List, length, slice_index, refl, sym, ap, subst, inl, inr, arith}
 use Rattle.std.specs.List.{All}
+use Rattle.std.proofs.Math.Logic.{⊎_map}
 use Rattle.std.proofs.lemmas.Bool.{cases_lt}
 use Rattle.std.proofs.lemmas.List.{get_or_past, get_or-map, length-map, nil_from_length}
 use Rattle.std.proofs.lemmas.List.Sums.{count_by-le-length}
@@ -19,12 +20,7 @@ pub new_rests : (u : Under) (lists : List (List (ℕ × ℕ))) {w : Search} → 
     → ((s : ℕ) → (stage_at w.stages s ≡ Unseen) ⊎ IsFinished w.stages s) → AreSigned u lists w.stages → Rests u lists w
 new_rests u lists {w = w} empty size some each kept =
     let few : unseen w.stages ≤ length w.stages = count_by-le-length is_unseen w.stages in
-    record {
-      empty = empty;
-      numbers = omega (arith, few);
-      shut = λ s p is. elim (each s) [ inl none ↦ cc (none, is) | inr done ↦ cc (done.1, is) ];
-      signed = kept;
-    }
+    grind (arith, empty, size, some, few, each, kept)
 
 -- a state that has a stage is one
 pub finished_inside : (stages : List Stage) (s k : ℕ) → stage_at stages s ≡ Finished k → s < length stages
@@ -53,10 +49,8 @@ pub woken_awake : {live : List ℕ} {old w : Search} → IsWoken old.stages live
 woken_awake woken over = record {
   size = woken.size;
   awake = woken.awake;
-  others = λ s h. elim (woken.others s) [
-    | inl one ↦ inl one
-    | inr same ↦ let was = over.all s (omega (arith, h, woken.size)) in inr (was.0, same ∙ was.1)
-  ];
+  others = λ s h. let was = over.all s (omega (arith, h, woken.size)) in
+      ⊎_map (λ one. one) (λ same. (was.0, same ∙ was.1)) (woken.others s);
 }
 
 module _ {states : ℕ} {live : List ℕ} {stages : List Stage} (are : AreAwake states live stages) where
@@ -65,10 +59,7 @@ module _ {states : ℕ} {live : List ℕ} {stages : List Stage} (are : AreAwake 
 
   -- each other state is finished, or past the last one
   unless_finished : (s : ℕ) → (stage_at stages s ≡ Unseen) ⊎ IsFinished stages s
-  unless_finished s = elim (cases_lt s (length stages)) [
-    | inr past ↦ inl (get_or_past stages s Unseen past)
-    | inl inside ↦ elim (are.others s inside) [ inl one ↦ inl (awake s one) | inr done ↦ inr done ]
-  ]
+  unless_finished s = grind (arith, cases_lt s (length stages), get_or_past stages s Unseen, are.others s, awake s)
 
   -- the others are finished still, after a walk
   pub others_on : {new : List Stage} → KeepsSeen stages new → length new ≡ states → AreOthers live new
@@ -104,17 +95,7 @@ finished_stage (Finished k) seen shut = (k, refl)
 
 module _ {u : Under} {lists : List (List (ℕ × ℕ))} {w : Search} (rests : Rests u lists w) where
   pub idle_walks : Walks u lists (nothing w.stages)
-  idle_walks = record {
-    numbers = rests.numbers;
-    opened = record { placed = λ p h. absurd (omega (arith, h)); only = λ s p is. absurd (rests.shut s p is) };
-    signed = rests.signed;
-    roots = record { first = λ h. absurd (omega (arith, h)); rising = λ i j d h h'. absurd (omega (arith, h')); each = λ i d h. absurd (omega (arith, h)) };
-    frames = record { rising = λ i j d h h'. absurd (omega (arith, h')); each = λ i d h. absurd (omega (arith, h)) };
-    connects = λ p q h. absurd (omega (arith, h));
-    there = λ j d h. absurd (omega (arith, h));
-    sound = λ j h. absurd (omega (arith, h));
-    accounted = λ p k h. absurd (omega (arith, h));
-  }
+  idle_walks = grind (arith, rests.numbers, rests.shut, rests.signed)
 
   pub within : {s : ℕ} → s < u.l.states → s < length w.stages
   within inside = let size = rests.numbers.size in omega (arith, size, inside)

@@ -11,7 +11,8 @@ use Rattle.inert.specs.Ahead.{unread}
 use Rattle.inert.specs.declared.step.Step.{Step}
 use Rattle.inert.specs.declared.step.Step.TheVariants.{Inert as Goes, Shows}
 use Rattle.inert.proofs.parts.Stages.{seen_more, signs_opened}
-use Rattle.inert.proofs.invariant.Keeping.{grow_same, goes_on}
+use Rattle.lists.proofs.CallerLemmas.{Grow-same}
+use Rattle.inert.proofs.invariant.Keeping.{goes_on}
 use Rattle.inert.proofs.parts.Counting.{unread-set}
 use Rattle.inert.proofs.invariant.Resting.{idle_walks, within}
 use Rattle.inert.proofs.moves.Forward.{Walks-enter}
@@ -68,11 +69,8 @@ module _ (laws : Laws) {u : Under} (lts : IsLts u.l) {lists : List (List (ℕ ×
     takes_framed step enters is takes =
         let none : Stays Framed Framed = record { size = refl; stack = refl } in
         let one = (marked (reads_none way) none way.some laws lts more (slice_index u.blocks s) refl step is refl refl takes).reads in
-        record {
-          on = goes_on (grow_same lists) begun.on one.on;
-          found = λ is. begun.found (one.on.seen.unseen s is);
-          less = omega (arith, one.less, begun.less);
-        }
+        let on = goes_on (Grow-same lists) begun.on one.on in
+        grind (arith, on, begun.found, one.on.seen.unseen s, one.less, begun.less)
 
     -- with no frame, since it does not lead on
     module _ (none : stage_at old.stages s ≡ Unseen) where
@@ -118,8 +116,5 @@ module _ (laws : Laws) {u : Under} (lts : IsLts u.l) {lists : List (List (ℕ ×
         let most = (begun.on.walks.frames.each 0 no_frame (omega arith)).most in
         let (on, left) = closed begun.on.walks (omega arith) (omega (arith, most, over)) laws lts refl closes in
         let is : new ≡ Ended = ends.is ∙ ap (λ x. with_stage s (Finished ends.number) (record x { items = [] })) same in
-        subst (Begins u lists' old s start k) (sym is) (record {
-          on = goes_on ends.listed.grow begun.on on;
-          found = λ none. begun.found (on.seen.unseen s none);
-          less = omega (arith, left, begun.less);
-        })
+        subst (Begins u lists' old s start k) (sym is)
+        (grind (arith, goes_on ends.listed.grow begun.on on, begun.found, on.seen.unseen s, left, begun.less))

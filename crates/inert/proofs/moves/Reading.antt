@@ -16,7 +16,8 @@ use Rattle.inert.specs.Ahead.{KeepsSeen}
 use Rattle.inert.specs.declared.step.Step.{Step as TakenStep}
 use Rattle.inert.specs.declared.step.Step.TheVariants.{Inert as Goes, Shows}
 use Rattle.inert.proofs.parts.Stages.{seen_same, seen_on, seen_more, signs_opened}
-use Rattle.inert.proofs.invariant.Keeping.{grow_same, signs_on}
+use Rattle.lists.proofs.CallerLemmas.{Grow-same}
+use Rattle.inert.proofs.invariant.Keeping.{signs_on}
 use Rattle.inert.proofs.parts.Counting.{unread-set, rest-push, rest-next}
 use Rattle.inert.proofs.invariant.Standing.{pair_before, list_signed}
 use Rattle.inert.proofs.signatures.Exact.{place_step}
@@ -68,16 +69,8 @@ module _ (laws : Laws) {u : Under} (lts : IsLts u.l) {lists : List (List (ℕ ×
 
   stayed : (roots : List Root) (items : List Item) (enters : Bool) → let m : Search = record w { roots = roots; items = items } in
       Walks u lists m → Accounted u lists m (here w) e → ¬ IsTrue enters → Taken m enters
-  stayed roots items enters after done stay = record {
-    after = after;
-    done = done;
-    seen = seen_same w.stages;
-    signs = λ s k is. inl is;
-    same_ahead = refl;
-    same_frame = refl;
-    still = λ _. (refl, refl);
-    longer = λ went. absurd (stay went);
-  }
+  stayed roots items enters after done stay =
+      grind (arith, after, done, seen_same w.stages, stay)
 
   -- an inert step leads to the target, whatever is known of that
   followed : IsInert u (slice_index u.blocks (source_of e)) e → (m : Search) (enters : Bool) → Follows u.l.places (target_of e) w m enters → Taken m enters
@@ -227,7 +220,7 @@ module _ {u : Under} {lists : List (List (ℕ × ℕ))} {first w : Search} {k : 
             on = record {
               walks = Walks-next took.after still_there is_next next left done;
               seen = seen_on reads.on.seen took.seen;
-              signs = signs_on _ _ _ _ _ _ (grow_same lists) reads.on.signs took.signs;
+              signs = signs_on _ _ _ _ _ _ (Grow-same lists) reads.on.signs took.signs;
             };
             here =
                 ap (frame_at New.frames) (sym last) ∙ get_or-set_same m.frames i x _ still_there ∙ is_next

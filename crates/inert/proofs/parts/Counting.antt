@@ -6,15 +6,10 @@ use Rattle.std.proofs.lemmas.Bool.Decides.{nat_tests}
 use Rattle.std.proofs.lemmas.List.{ext_get_or, get_or-map, length-map, take_all, get_or_default}
 use Rattle.std.proofs.lemmas.List.Elements.{filter_agree}
 use Rattle.std.proofs.lemmas.List.Sums.{length-filter, sum-map, sum_by-cons, sum_by_more, sum_by_push, sum_by-set}
-use Rattle.lts.specs.Meter.{Counts, Costs}
 use Rattle.lts.specs.Lts.{Triple, source_of, row_of, place_at}
 use Rattle.lts.proofs.CallerLemmas.{filter-none}
 use Rattle.inert.specs.Ahead.{is_unseen, unseen, unread, rest}
 use Rattle.inert.specs.Search.{stage_at, frame_at, no_frame, top, Stage, Unseen, Open, Finished, Frame}
-
--- one cost after another, where no more than so much was counted in all
-pub costs_on : {a b c : Counts} {most n k least : ℕ} → Costs a b 0 0 n → Costs b c 0 least k → c.visits ≤ a.visits + most → Costs a c 0 0 most
-costs_on first then few = omega arith
 
 -- 1 for true, and 0 for false
 abbrev one : Bool → ℕ

@@ -23,10 +23,7 @@ seen_same stages = record { unseen = λ s is. is; finished = λ s k is. is }
 
 -- one change after another
 pub seen_on : {old mid new : List Stage} → KeepsSeen old mid → KeepsSeen mid new → KeepsSeen old new
-seen_on first then = record {
-  unseen = λ s is. first.unseen s (then.unseen s is);
-  finished = λ s k is. then.finished s k (first.finished s k is);
-}
+seen_on first then = grind (arith, first, then)
 
 -- the state t, which was not seen, is seen
 pub seen_more : (stages : List Stage) (t : ℕ) (m : Stage) → ¬ (m ≡ Unseen) → t < length stages → stage_at stages t ≡ Unseen → KeepsSeen stages (set stages t m)
@@ -43,7 +40,4 @@ signs_opened u lists stages t m unless low s k is = inl (grind (arith, common_st
 -- a list is kept still, where finished states are finished still
 pub kept_still : (u : Under) (lists : List (List (ℕ × ℕ))) (old new : List Stage) → ((s k : ℕ) → stage_at old s ≡ Finished k → stage_at new s ≡ Finished k)
     → (s k : ℕ) → IsListKept u s lists old k → IsListKept u s lists new k
-kept_still u lists old new still s k was = record {
-  within = was.within;
-  signature = λ t inside block. elim (was.signature t inside block) [ inl (j, is) ↦ inl (j, still t j is) | inr sign ↦ inr sign ];
-}
+kept_still u lists old new still s k was = grind (arith, was, was.signature, still)

@@ -1,25 +1,22 @@
 -- The list of what items give: that of the lists that they name, and of the pairs that they are.
-use Rattle.std.proofs.Common.{◌≡◌, ◌⊎◌, ◌↔◌, ℕ, ◌<◌, List, [], ◌∷◌, ◌++◌, length, slice_index, Contains, nat_eq, refl, sym, ◌∙◌, ap, subst, inl, inr, arith}
+use Rattle.std.proofs.Common.{◌≡◌, ◌⊎◌, ◌↔◌, ℕ, ◌+◌, ◌<◌, List, [], ◌∷◌, ◌++◌, length, take, slice_index, Contains, nat_eq, refl, sym, ◌∙◌, ap, subst, inl, inr, arith}
 use Rattle.std.specs.List.{dedup}
 use Rattle.std.specs.List.Retain.{IsFiltered, DiffersFromLast}
 use Rattle.std.specs.List.Sorted.{IsPermutation}
 use Rattle.std.proofs.lemmas.Bool.{eqb-true}
 use Rattle.std.proofs.lemmas.Cmp.{nat_eq_equiv}
-use Rattle.std.proofs.lemmas.List.{get_or_default}
+use Rattle.std.proofs.lemmas.List.{get_or_default, take_more}
 use Rattle.std.proofs.lemmas.List.Elements.{All-contains, All-from_get_or, Contains-append_left, Contains-get_or, Contains-push, Contains-push_cases}
 use Rattle.std.proofs.lemmas.List.Filters.{dedup_is}
 use Rattle.std.proofs.lemmas.List.Kept.{Contains-dedup, Contains-from_dedup}
 use Rattle.std.proofs.lemmas.List.Sorted.{Contains-permutation, IsPermutation-sym}
 use Rattle.lists.specs.Lists.{list_at, AreLists, AreNumbers, Grow, HasOne}
-use Rattle.inert.specs.Search.{IsThere, AreThere, Gives, Item, Pair, Listed}
+use Rattle.inert.specs.Search.{IsThere, AreThere, Gives, item_at, Item, Pair, Listed}
 use Rattle.inert.specs.Moves.{IsGiven, AreCollected, IsListed}
 
 -- no item names anything
 pub taken_none : AreCollected [] [] []
-taken_none = record {
-  named = λ k. (λ c. absurd (omega (arith, c.1)), λ c. absurd (omega (arith, c.1)));
-  own = λ a b. (λ c. absurd (omega (arith, c.1)), λ c. absurd (omega (arith, c.1)));
-}
+taken_none = grind arith
 
 -- an element more at the end of two lists, which have the same of what they had
 more : {X Y : Type 0} (xs : List X) (ys : List Y) {x x' : X} {y y' : Y} → (Contains xs x' → Contains ys y') → (x ≡ x' → y ≡ y')
@@ -33,24 +30,32 @@ fewer : {X : Type 0} (xs : List X) {x x' : X} → ¬ (x ≡ x') → Contains (xs
 fewer xs {x = x} {x' = x'} other c = elim (Contains-push_cases xs x x' c) [ inl was ↦ was | inr e ↦ absurd (other e) ]
 
 -- one item more
-module _ (items : List Item) (numbers : List ℕ) (pairs : List (ℕ × ℕ)) (taken : AreCollected items numbers pairs) where
-  pub taken_pair : (a b : ℕ) → AreCollected (items ++ Pair a b ∷ []) numbers (pairs ++ (a, b) ∷ [])
-  taken_pair a b = record {
-    named = λ k. (λ c. Contains-append_left items (Pair a b ∷ []) (Listed k) ((taken.named k).0 c), λ c. (taken.named k).1 (fewer items (λ e. cc) c));
-    own = λ x y. (
-      more pairs items (taken.own x y).0 (λ e. ap (λ z. Pair z.0 z.1) e),
-      more items pairs (taken.own x y).1 (λ e. let (left, right) : (a ≡ x) × (b ≡ y) = (cc, cc) in λ i. (left i, right i)),
+module _ (all : List Item) (n : ℕ) (numbers : List ℕ) (pairs : List (ℕ × ℕ)) (low : n < length all)
+    (taken : AreCollected (take n all) numbers pairs) where
+  pub taken_pair : {a b : ℕ} → item_at all n ≡ Pair a b → AreCollected (take (n + 1) all) numbers (pairs ++ (a, b) ∷ [])
+  taken_pair {a = a} {b = b} is = rw (take_more all n (Pair 0 0) low, is) (record {
+    named = λ k. (
+      λ c. Contains-append_left (take n all) (Pair a b ∷ []) (Listed k) ((taken.named k).0 c),
+      λ c. (taken.named k).1 (fewer (take n all) (λ e. cc) c),
     );
-  }
+    own = λ x y. (
+      more pairs (take n all) (taken.own x y).0 (λ e. ap (λ z. Pair z.0 z.1) e),
+      more (take n all) pairs (taken.own x y).1
+          (λ e. let (left, right) : (a ≡ x) × (b ≡ y) = (cc, cc) in λ i. (left i, right i)),
+    );
+  })
 
-  pub taken_list : (j : ℕ) → AreCollected (items ++ Listed j ∷ []) (numbers ++ j ∷ []) pairs
-  taken_list j = record {
-    named = λ k. (more numbers items (taken.named k).0 (ap Listed), more items numbers (taken.named k).1 (λ e. cc));
-    own = λ x y. (
-      λ c. Contains-append_left items (Listed j ∷ []) (Pair x y) ((taken.own x y).0 c),
-      λ c. (taken.own x y).1 (fewer items (λ e. cc) c),
+  pub taken_list : {j : ℕ} → item_at all n ≡ Listed j → AreCollected (take (n + 1) all) (numbers ++ j ∷ []) pairs
+  taken_list {j = j} is = rw (take_more all n (Pair 0 0) low, is) (record {
+    named = λ k. (
+      more numbers (take n all) (taken.named k).0 (ap Listed),
+      more (take n all) numbers (taken.named k).1 (λ e. cc),
     );
-  }
+    own = λ x y. (
+      λ c. Contains-append_left (take n all) (Listed j ∷ []) (Pair x y) ((taken.own x y).0 c),
+      λ c. (taken.own x y).1 (fewer (take n all) (λ e. cc) c),
+    );
+  })
 
 -- numbers that are sorted and freed of repeats
 pub numbers_have : (xs ys zs : List ℕ) → IsPermutation xs ys → IsFiltered (DiffersFromLast nat_eq) [] ys zs → (k : ℕ) → Contains zs k ↔ Contains xs k

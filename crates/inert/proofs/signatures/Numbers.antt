@@ -1,6 +1,7 @@
 -- What is shown of the numbers of lists is put down one after the other.
+use borrow.Author.Count.{below_more}
 use Rattle.std.proofs.Common.{◌≡◌, ◌⊎◌, ◌∙◌, ℕ, ◌+◌, ◌<◌, ◌≤◌, List, length, slice_index, set, sym, subst, subst₂, inl, inr, arith}
-use Rattle.std.proofs.lemmas.Bool.{cases_eq, cases_lt}
+use Rattle.std.proofs.lemmas.Bool.{cases_eq}
 use Rattle.std.proofs.lemmas.List.{get_or-set_same, get_or-set_other, length-set}
 use Rattle.partition.specs.Blocks.{IsOne, AreLive}
 use Rattle.inert.specs.Signed.{ShowsNew}
@@ -25,16 +26,11 @@ numbered_more {live = live} {stages = stages} {old = old} {i = i} {numbers = num
       ahead = λ j low h.
           let apart : ¬ (slice_index live j ≡ s) = λ e. let up = rises.rising i j (omega (arith, low)) h in omega (arith, up, e) in
           get_or-set_other numbers s (slice_index live j) shown 0 apart ∙ up.ahead j (omega (arith, low)) h;
-      live_have = λ j h. elim (cases_lt j i) [
-        | inl low ↦
-            let apart : ¬ (slice_index live j ≡ s) = λ e. let rise = rises.rising j i low more in omega (arith, rise, e) in
-            subst (ShowsNew _ _) (sym (get_or-set_other numbers s (slice_index live j) shown 0 apart)) (up.live_have j low)
-        | inr last ↦
-            let own : slice_index (set numbers s shown) s ≡ shown = get_or-set_same numbers s shown 0 (omega (arith, rises.below i more, up.size)) in
-            subst (λ n. let t = slice_index live n in ShowsNew (slice_index old t) (number_of (stage_at stages t)) (slice_index (set numbers s shown) t))
-            (let e : i ≡ j = omega (arith, h, last) in e)
-            (subst₂ (λ n x. ShowsNew n (number_of (stage_at stages s)) x) (up.ahead i (omega arith) more) (sym own) is)
-      ];
+      live_have = below_more _ i (λ j low.
+          let apart : ¬ (slice_index live j ≡ s) = λ e. omega (arith, rises.rising j i low more, e) in
+          subst (ShowsNew _ _) (sym (get_or-set_other numbers s _ shown 0 apart)) (up.live_have j low))
+          (subst₂ (λ n x. ShowsNew n (number_of (stage_at stages s)) x) (up.ahead i (omega arith) more)
+          (sym (get_or-set_same numbers s shown 0 (omega (arith, rises.below i more, up.size)))) is);
       others = λ t. elim (cases_eq t s) [
         | inl e ↦ inl (i, more, sym e)
         | inr d ↦ elim (up.others t) [ inl one ↦ inl one | inr same ↦ inr (get_or-set_other numbers s t shown 0 d ∙ same) ]

@@ -1,4 +1,5 @@
 -- How a walk over all states comes from row to row: what lies between two rows is of states that are finished.
+use borrow.Author.Count.{below_more}
 use Rattle.std.proofs.Common.{◌≡◌, ◌∙◌, ℕ, ◌+◌, ◌-◌, ◌<◌, ◌≤◌, List, length, slice_index, ap, sym, refl, inl, inr, arith}
 use Rattle.std.proofs.lemmas.Bool.{cases_lt}
 use Rattle.lts.specs.Lts.{Grouped, source_of, before, place_at, IsLts, IsRow}
@@ -72,12 +73,8 @@ module _ {l : Grouped} (lts : IsLts l) {live : List ℕ} (rises : AreLive l.stat
         → Comes l live first i start end to
     comes {i = i} {start = start} {end = end} {to = to} more row at =
         let low : end ≤ to = let h = at.behind i (omega arith) in omega (arith, h, row.ends) in
-        let ended : Behind l live (i + 1) end = λ j h. elim (cases_lt j i) [
-          | inl before ↦ omega (arith, rows_apart j i before more, row.begins, row.count)
-          | inr last ↦
-              let here : j ≡ i = omega (arith, h, last) in
-              omega (arith, ap (λ n. before (slice_index live n + 1) l.places) here, row.ends)
-        ] in
+        let ended : Behind l live (i + 1) end =
+        below_more _ i (λ j h. omega (arith, rows_apart j i h more, row.begins, row.count)) (omega (arith, row.ends)) in
         record {
           low = low;
           passes = omega (arith, gap_passed (i + 1) end to ended at.ahead low at.within, row_passed i start end more row);

@@ -1,7 +1,7 @@
-use Rattle.std.proofs.Common.{◌≡◌, ◌∙◌, take, subst, sym, arith, rules}
-use Rattle.std.proofs.lemmas.List.{get_or_default, take_all, take_more}
+use Rattle.std.proofs.Common.{◌≡◌, ◌∙◌, subst, sym, arith, rules}
+use Rattle.std.proofs.lemmas.List.{get_or_default, take_all}
 use Rattle.inert.specs.Moves.{AreCollected}
-use Rattle.inert.specs.Search.{item_at, Pair}
+use Rattle.inert.specs.Search.{item_at}
 use Rattle.inert.proofs.signatures.Listing.{taken_none, taken_pair, taken_list}
 use Rattle.inert.proofs.component.collect.Goals as goal
 use Rattle.inert.proofs.component.collect.Goals.{in-Pair, in-Listed}
@@ -16,25 +16,21 @@ loop-item-init c = record {
 pub loop-item-preserved : goal.loop-item-preserved
 loop-item-preserved c =
     let items = c.args.items.now in
-    let i = c.loop-item.item-index in
-    let more = take_more items i (Pair 0 0) c.loop-item-test.true in
-    let at : item_at items i ≡ c.item.result =
-    get_or_default items i _ c.item-item.result (omega (arith, c.loop-item-test.true)) ∙ sym c.item-item.is ∙ sym c.item.ensures in
+    let inv = c.loop-item.invariant in
+    let at : item_at items c.loop-item.item-index ≡ c.item.result =
+    get_or_default items _ _ _ (omega (arith, c.loop-item-test.true)) ∙ sym c.item-item.is ∙ sym c.item.ensures in
     elim c.match-item.branch [
       | in-Pair w ↦ record {
-        collected =
-            rw (more, at ∙ w.in-Pair.is, w.numbers-is, w.pairs-is, w.push_reserved.ensures.items)
-            (taken_pair (take i items) c.loop-item.numbers.items c.loop-item.pairs.items c.loop-item.invariant.collected _ _);
-        numbers_room = rw w.numbers-is (omega (arith, c.loop-item.invariant.numbers_room));
-        pairs_room = rw w.pairs-is (omega (arith, c.loop-item.invariant.pairs_room, w.push_reserved.ensures.len, w.push_reserved.ensures.capacity));
+        collected = rw (w.numbers-is, w.pairs-is, w.push_reserved.ensures.items)
+            (taken_pair items _ _ _ c.loop-item-test.true inv.collected (at ∙ w.in-Pair.is));
+        numbers_room = rw w.numbers-is (omega (arith, inv.numbers_room));
+        pairs_room = rw w.pairs-is (omega (arith, inv.pairs_room, w.push_reserved.ensures));
       }
       | in-Listed w ↦ record {
-        collected =
-            rw (more, at ∙ w.in-Listed.is, w.numbers-is, w.pairs-is, w.push_reserved-in-Listed.ensures.items)
-            (taken_list (take i items) c.loop-item.numbers.items c.loop-item.pairs.items c.loop-item.invariant.collected _);
-        numbers_room =
-            rw w.numbers-is (omega (arith, c.loop-item.invariant.numbers_room, w.push_reserved-in-Listed.ensures.len, w.push_reserved-in-Listed.ensures.capacity));
-        pairs_room = rw w.pairs-is (omega (arith, c.loop-item.invariant.pairs_room));
+        collected = rw (w.numbers-is, w.pairs-is, w.push_reserved-in-Listed.ensures.items)
+            (taken_list items _ _ _ c.loop-item-test.true inv.collected (at ∙ w.in-Listed.is));
+        numbers_room = rw w.numbers-is (omega (arith, inv.numbers_room, w.push_reserved-in-Listed.ensures));
+        pairs_room = rw w.pairs-is (omega (arith, inv.pairs_room));
       }
     ]
 

@@ -1,12 +1,14 @@
 use Rattle.std.proofs.Common.{◌≡◌, ◌∙◌, ℕ, ◌+◌, ◌-◌, ◌<◌, ◌≤◌, List, length, slice_index, ap, sym, subst, inl, inr, arith}
 use Rattle.std.proofs.lemmas.Bool.{cases_lt, false≢true}
 use Rattle.std.proofs.lemmas.Result.{err_from_is_err_and}
+use Rattle.std.proofs.lemmas.Grind.{common_steps}
 use Rattle.lts.proofs.CallerLemmas.{before-le}
 use Rattle.inert.specs.Search.{Stage, stage_at, Finished}
 use Rattle.inert.specs.Ahead.{KeepsSeen}
-use Rattle.inert.proofs.parts.Counting.{costs_on, passed, passed-all}
+use Rattle.inert.proofs.parts.Counting.{passed, passed-all}
 use Rattle.inert.proofs.parts.Stages.{seen_same, seen_on}
-use Rattle.inert.proofs.invariant.Keeping.{grow_same, grow_on, signs_on}
+use Rattle.lists.proofs.CallerLemmas.{Grow-same, Grow-twice}
+use Rattle.inert.proofs.invariant.Keeping.{signs_on}
 use Rattle.inert.proofs.invariant.Resting.{others_on, finished}
 use Rattle.inert.proofs.signatures.Passing.{IsBetween, Comes, comes, first_passed, none_unread}
 use Rattle.inert.proofs.signer.walk_all.Given.{Over}
@@ -45,7 +47,7 @@ loop-i-init g c =
       rests = c.requires.rests;
       all = λ j h below. absurd (omega (arith, h, below));
       seen = seen_same c.args.walk.now.stages;
-      grow = grow_same c.args.lists.now;
+      grow = Grow-same c.args.lists.now;
       signs = λ s k is. inl is;
       between = record {
         behind = λ j h. omega (arith, before-le (slice_index c.args.live.now j + 1) l.places, c.edges-to.ensures);
@@ -68,17 +70,10 @@ loop-i-preserved-then-not-is_unseen g c =
     let inv = c.loop-i.invariant in
     let comes = next g d in
     let gap = c.visit.ensures in
-    record {
-      rests = inv.rests;
-      all = all_on g d (seen_same c.loop-i.walk.stages)
-          (finished inv.rests (slice_index c.args.live.now (i g d)) (λ is. false≢true (sym c.if-not-is_unseen.true ∙ c.is_unseen.ensures.1 is)));
-      seen = inv.seen;
-      grow = inv.grow;
-      signs = inv.signs;
-      between = comes.between;
-      visits = omega (arith, inv.visits, comes.passes, gap.at_least, gap.at_most);
-      cost = costs_on inv.cost gap (omega (arith, inv.visits, comes.passes, gap.at_most));
-    }
+    let all =
+    all_on g d (seen_same c.loop-i.walk.stages) (finished inv.rests (slice_index c.args.live.now (i g d))
+    (λ is. false≢true (sym c.if-not-is_unseen.true ∙ c.is_unseen.ensures.1 is))) in
+    grind (arith, common_steps, all, inv, comes, gap)
 
 pub finish-requires-clause-room : goal.finish-requires-clause-room
 finish-requires-clause-room g c =
@@ -94,25 +89,17 @@ loop-i-preserved g c =
     let comes = next g d in
     let gap = c.visit.ensures in
     let done = c.in_ok-finish.ensures in
-    record {
-      rests = done.rests;
-      all = all_on g d done.finished.seen (done.finished.number, done.finished.finished);
-      seen = seen_on inv.seen done.finished.seen;
-      grow = grow_on inv.grow done.grow;
-      signs = signs_on _ _ _ _ _ _ done.grow inv.signs done.signs;
-      between = comes.between;
-      visits = omega (arith, inv.visits, comes.passes, gap.at_least, gap.at_most, done.visits);
-      cost = costs_on (costs_on {most = length c.args.lens.now.l.places} inv.cost gap (omega (arith, inv.visits, comes.passes, gap.at_most))) done.cost (omega (arith, inv.visits, comes.passes, gap.at_most, done.cost.at_most));
-    }
+    let all = all_on g d done.finished.seen (done.finished.number, done.finished.finished) in
+    let signs = signs_on _ _ _ _ _ _ done.grow inv.signs done.signs in
+    let seen = seen_on inv.seen done.finished.seen in
+    grind (arith, common_steps, done, all, seen, Grow-twice inv.grow done.grow, signs, inv, comes, gap)
 
 pub returns-in_err-finish-clause-visits : goal.returns-in_err-finish-clause-visits
 returns-in_err-finish-clause-visits g c =
     let inv = c.loop-i.invariant in
     let passes = (next g (goal.at.returns-in_err-finish-clause-visits g c).After-row-start).passes in
-    let gap = c.visit.ensures in
-    let cost = c.in_err-finish.ensures.cost in
     let exit = err_from_is_err_and c.from_residual.result c.from_residual.ensures.1 in
-    rw (exit.1) (costs_on (costs_on {most = length c.args.lens.now.l.places} inv.cost gap (omega (arith, inv.visits, passes, gap.at_most))) cost (omega (arith, inv.visits, passes, gap.at_most, cost.at_most)))
+    rw (exit.1) (omega (arith, inv.cost, c.visit.ensures, inv.visits, passes, c.in_err-finish.ensures.cost))
 
 -- the rows before that of the first one
 pub visit-requires-2-clause-room : goal.visit-requires-2-clause-room

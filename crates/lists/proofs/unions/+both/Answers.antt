@@ -1,4 +1,4 @@
-use Rattle.std.proofs.Common.{◌++◌, ℕ, length, ap, sym, subst, arith}
+use Rattle.std.proofs.Common.{◌++◌, ℕ, length, ap, sym, subst, subst₂, arith}
 use Rattle.std.proofs.lemmas.Result.{IfOk-weaker}
 use Rattle.lists.specs.declared.nodes.Halves.{Halves}
 use Rattle.lists.specs.Lists.{list_at, Grow}
@@ -6,7 +6,6 @@ use Rattle.lists.specs.Nodes.{AreIn}
 use Rattle.lists.specs.Unions.{Unites}
 use Rattle.lists.proofs.Uniting.{parts_fewer, halved_long, AreIn-united}
 use Rattle.lists.proofs.Joining.{AreUnions-grow, Grow-twice, or_swap}
-use Rattle.lists.proofs.Noting.{unites_back, unites_forth}
 use Rattle.lists.proofs.unions.+both.Goals as goal
 use Rattle.lists.proofs.unions.+both.Goals.{After-known-2, In_ok-i}
 
@@ -67,7 +66,8 @@ united_in t c =
     let k = c.requires.second in
     AreIn-united c.both.new.lists c.both-2.new.lists _ c.known-2.ensures.stored c.both-2.ensures.grow c.in_ok-below.ensures.within
     c.in_ok-below.ensures.exactly c.in_ok-above.ensures.within
-    (unites_back lists c.both.new.lists _ above.0 above.1 c.both.ensures.grow (omega arith) (omega arith) c.in_ok-above.ensures.exactly)
+    (subst₂ (Unites _) (c.both.ensures.grow.same above.0 (omega arith)) (c.both.ensures.grow.same above.1 (omega arith))
+    c.in_ok-above.ensures.exactly)
     is.first.parted is.second.parted (c.known.ensures.stored.rise c.args.k _ k) (halved_long c.in-Halved-shape.ensures) is.cut
 
 pub number-requires : goal.number-requires
@@ -100,7 +100,7 @@ note-requires-clause-union t c =
       within = c.in_ok-i.ensures.within;
       first = omega arith;
       second = omega arith;
-      exactly = unites_forth c.args.lists.now c.number.new.self _ c.args.j c.args.k grow j k (exactly t at);
+      exactly = subst₂ (Unites _) (sym (grow.same c.args.j j)) (sym (grow.same c.args.k k)) (exactly t at);
     }
 
 pub returns-in_err-note-clause-grow : goal.returns-in_err-note-clause-grow

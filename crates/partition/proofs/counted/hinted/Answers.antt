@@ -7,6 +7,12 @@ use Rattle.partition.proofs.Hinting.{was_one, is_one, left_rising}
 use Rattle.partition.proofs.counted.hinted.Goals as goal
 use Rattle.partition.proofs.counted.hinted.Goals.{then-others_lose+in_ok-take, else-others_lose}
 
+pub others_lose-requires : goal.others_lose-requires
+others_lose-requires c =
+    let below = c.requires.blocks.below _ (c.requires.live.below c.loop-i.i c.loop-i-test.true) in
+    let each = c.requires.each in
+    record { sizes = below; keepers = omega (arith, below, each.1); votes = omega (arith, below, each.2) }
+
 pub loop-i-preserved : goal.loop-i-preserved
 loop-i-preserved c =
     let inv = c.loop-i.invariant in

@@ -22,14 +22,7 @@ returns-clause-split g c =
     c.split.ensures.blocks
 
 pub returns-clause-costs : goal.returns-clause-costs
-returns-clause-costs g c =
-    let start = c.start_round.ensures in
-    let read = c.in_ok-fill.ensures.visits in
-    on_ok_from c.split.result (record {
-      rounds = omega (arith, start.rounds, read.rounds);
-      at_least = omega (arith, start.at_least, read.at_least);
-      at_most = omega (arith, start.at_most, read.at_most);
-    })
+returns-clause-costs g c = on_ok_from c.split.result (omega (arith, c.start_round.ensures, c.in_ok-fill.ensures.visits))
 
 pub returns-clause-err : goal.returns-clause-err
 returns-clause-err g c = on_err_from c.split.result (begun_up_to _ _ _ _ _ c.start_round.ensures c.fill.ensures.visits)

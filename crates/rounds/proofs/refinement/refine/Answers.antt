@@ -1,21 +1,19 @@
-use Rattle.std.proofs.Common.{◌≡◌, ◌↔◌, suc, ◌*◌, ◌<◌, length, slice_index, ap, sym, ◌∙◌, subst, subst₂, inl, inr, arith, rules}
+use Rattle.std.proofs.Common.{◌≡◌, ◌↔◌, suc, ◌*◌, ◌<◌, length, slice_index, ap, sym, ◌∙◌, subst, subst₂, arith, rules}
 use Rattle.std.proofs.lemmas.Result.{IfOk-weaker}
 use Rattle.theory.specs.Blocks.{Split, SameBlocks, Turns}
 use Rattle.lts.specs.Meter.{Costs}
 use Rattle.lts.specs.Lts.{system_of}
 use Rattle.rounds.specs.Settled.{Settled}
-use Rattle.rounds.specs.Watching.{HasIndexed, HasKept}
 use Rattle.rounds.specs.Rounds.{Made}
 use Rattle.rounds.proofs.Spending.{costs_more, costs_up_to_more, room_for_more, on_ok_from, on_err_from}
 use Rattle.partition.specs.Partition.{AreBlocks}
-use Rattle.partition.specs.Blocks.{IsOne, AreLive}
-use Rattle.rounds.specs.Living.{LeavesOut}
+use Rattle.partition.specs.Blocks.{AreLive}
 use Rattle.partition.proofs.CallerLemmas.{one_block}
 use Rattle.rounds.proofs.Settling.{settled_first}
-use Rattle.rounds.proofs.Rounding.{watches_left}
+use Rattle.rounds.proofs.Rounding.{watches_left, watches_first}
 use Rattle.rounds.proofs.refinement.refine.Goals as goal
 use Rattle.rounds.proofs.refinement.refine.Given.{Over}
-use Rattle.rounds.proofs.refinement.refine.Goals.{Then-more-count, Else-more-count}
+use Rattle.rounds.proofs.refinement.refine.Goals.{After-count-count, Then-more-count, Else-more-count}
 
 pub loop-before-init : goal.loop-before-init
 loop-before-init g c =
@@ -29,14 +27,8 @@ loop-before-init g c =
     record {
       states = subst (λ b. length b.of ≡ l.states) is (blocks.states ∙ c.states.ensures.value);
       settled = subst (λ b. Settled rel A (slice_index b.of) b.low) is (subst (Settled rel A (slice_index c.in_ok-blocks.blocks.of)) (sym blocks.count.1) (settled_first rel A _));
-      watches =
-          subst (λ w. HasIndexed w rel l c.in_ok-round.round.blocks × HasKept w rel l c.in_ok-round.round) (sym c.in_ok-round.ensures.nothing) (
-            subst (λ b. LeavesOut l b.of b.live) is (λ s h. elim (c.in_ok-live.ensures.rows s h) [
-              | inl one ↦ inl (subst (λ live. IsOne live s) (sym blocks.live) one)
-              | inr empty ↦ inr (inr empty)
-            ]),
-            tt,
-          );
+      watches = watches_first rel l c.in_ok-round.round _ c.in_ok-round.ensures.nothing
+          (ap (λ b. b.live) (sym is) ∙ blocks.live) c.in_ok-live.ensures.rows;
       made = subst (λ b. Made rel l (g.M.Meter.counted c.args.m.now) (g.M.Meter.counted c.args.m.now) b.of) is (record { rounds = 0; underway = begun; costs = search rules });
     }
 
@@ -59,22 +51,25 @@ next_round-requires-clause-watches g c =
     watches_left g.S.Signing.relation c.args.l.now c.loop-before.round c.in_ok-before.before c.loop-before.invariant.states c.in_ok-before.ensures.same
     c.in_ok-before.ensures.blocks c.in_ok-before.ensures.leaves c.loop-before.invariant.watches
 
+-- fewer rounds were made than there are states
+few : (g : Over) (c : After-count-count g) → c.loop-before.invariant.made.rounds < c.args.l.now.states
+few g c =
+    let made = c.loop-before.invariant.made in
+    c.refinement_goes_on.ensures.below g.S.Signing.relation (system_of c.args.l.now) made.rounds
+    (slice_index c.loop-before.round.blocks.of) c.states.ensures.lts.system made.underway
+
 pub next_round-requires-clause-room : goal.next_round-requires-clause-room
 next_round-requires-clause-room g c =
     let l = c.args.l.now in
     let made = c.loop-before.invariant.made in
-    room_for_more (length l.places) l.states made.rounds _ _ made.costs
-    (c.refinement_goes_on.ensures.below g.S.Signing.relation (system_of l) made.rounds (slice_index c.loop-before.round.blocks.of)
-    c.states.ensures.lts.system made.underway)
-    c.requires.room
+    let below = few g (goal.at.next_round-requires-clause-room g c).After-count-count in
+    room_for_more (length l.places) l.states made.rounds _ _ made.costs below c.requires.room
 
 pub returns-in_err-next-clause-err : goal.returns-in_err-next-clause-err
 returns-in_err-next-clause-err g c =
     let l = c.args.l.now in
     let made = c.loop-before.invariant.made in
-    let below =
-    c.refinement_goes_on.ensures.below g.S.Signing.relation (system_of l) made.rounds (slice_index c.loop-before.round.blocks.of)
-    c.states.ensures.lts.system made.underway in
+    let below = few g (goal.at.returns-in_err-next-clause-err g c).After-count-count in
     let most = costs_up_to_more (length l.places) l.states made.rounds _ _ made.costs (g.M.Meter.counted c.next_round.new.m) below
     c.in_err-next.ensures.err in
     search rules
@@ -97,12 +92,6 @@ costs g c =
     let l = c.args.l.now in
     let made = c.loop-before.invariant.made in
     costs_more (length l.places) l.states made.rounds _ _ made.costs (g.M.Meter.counted c.next_round.new.m) c.in_ok-next.ensures.costs
-
-few : (g : Over) (c : Then-more-count g) → c.loop-before.invariant.made.rounds < c.args.l.now.states
-few g c =
-    let made = c.loop-before.invariant.made in
-    c.refinement_goes_on.ensures.below g.S.Signing.relation (system_of c.args.l.now) made.rounds (slice_index c.loop-before.round.blocks.of)
-    c.states.ensures.lts.system made.underway
 
 pub returns-then-more-count-clause-states : goal.returns-then-more-count-clause-states
 returns-then-more-count-clause-states g c =
@@ -132,23 +121,21 @@ returns-then-more-count-clause-bisimilar g c =
 
 pub returns-then-more-count-clause-turns : goal.returns-then-more-count-clause-turns
 returns-then-more-count-clause-turns g c =
-    let d = (goal.at.returns-then-more-count-clause-turns g c).Then-more-count in
-    on_ok_from c.renumber.result (suc c.loop-before.invariant.made.rounds, few g d, turns g d, costs g d)
+    let at = goal.at.returns-then-more-count-clause-turns g c in
+    let d = at.Then-more-count in
+    on_ok_from c.renumber.result
+    (suc c.loop-before.invariant.made.rounds, few g at.After-count-count, turns g d, costs g d)
 
 pub returns-then-more-count-clause-err : goal.returns-then-more-count-clause-err
 returns-then-more-count-clause-err g c =
-    let d = (goal.at.returns-then-more-count-clause-err g c).Then-more-count in
-    let k = suc c.loop-before.invariant.made.rounds in
-    let paid = costs g d in
-    on_err_from c.renumber.result
-    (k, few g d, record { rounds = paid.rounds; at_least = omega (arith, paid.at_least); at_most = paid.at_most })
+    let at = goal.at.returns-then-more-count-clause-err g c in
+    let paid = costs g at.Then-more-count in
+    on_err_from c.renumber.result (suc c.loop-before.invariant.made.rounds, few g at.After-count-count, omega arith)
 
 pub loop-before-smaller : goal.loop-before-smaller
 loop-before-smaller g c =
     let made = c.loop-before.invariant.made in
-    let below =
-    c.refinement_goes_on.ensures.below g.S.Signing.relation (system_of c.args.l.now) made.rounds (slice_index c.loop-before.round.blocks.of)
-    c.states.ensures.lts.system made.underway in
+    let below = few g (goal.at.loop-before-smaller g c).After-count-count in
     omega (arith, below, made.costs.rounds, c.in_ok-next.ensures.costs.rounds)
 
 -- a round more was made
@@ -172,12 +159,4 @@ made g c =
     }
 
 pub loop-before-preserved : goal.loop-before-preserved
-loop-before-preserved g c =
-    let l = c.args.l.now in
-    let next = c.in_ok-next.ensures.next in
-    record {
-      states = next.states;
-      settled = next.settled;
-      watches = next.watches;
-      made = made g (goal.at.loop-before-preserved g c).Else-more-count;
-    }
+loop-before-preserved g c = let more = made g (goal.at.loop-before-preserved g c).Else-more-count in search rules

@@ -1,17 +1,18 @@
-use Rattle.std.proofs.Common.{◌≡◌, ◌⊎◌, ◌+◌, [], ◌∷◌, ◌++◌, sym, subst, inl, inr, arith}
-use Rattle.std.proofs.lemmas.Bool.{cases_lt}
+use borrow.Author.Count.{below_more}
+use Rattle.std.proofs.Common.{ℕ, ◌<◌, ◌≡◌, ◌⊎◌, ◌+◌, [], sym, subst, inl, inr, arith}
+use Rattle.std.proofs.lemmas.Grind.{common_steps}
+use Rattle.std.proofs.Math.Logic.{⊎_map}
+use Rattle.std.proofs.lemmas.List.{nil_from_length}
 use Rattle.lts.specs.Lts.{row_of}
 use Rattle.partition.specs.Blocks.{AreLive, IsOne}
 use Rattle.partition.proofs.CallerLemmas.{one_stays}
 use Rattle.rounds.proofs.Finding.{one_last}
-use Rattle.rounds.proofs.Living.{rising_none, rising_more, rising_later, empty_row}
+use Rattle.rounds.proofs.Living.{rising_none, rising_more, rising_later}
 use Rattle.rounds.proofs.refinement.with_rows.Goals as goal
 
 pub loop-s-init : goal.loop-s-init
-loop-s-init g c = record {
-  rising = subst (AreLive 0) (sym c.in_ok-live.ensures.items) rising_none;
-  rows = λ t h. absurd (omega (arith, h));
-}
+loop-s-init g c =
+    grind (arith, common_steps, subst (AreLive 0) (sym c.in_ok-live.ensures.items) rising_none)
 
 pub returns-clause-rising : goal.returns-clause-rising
 returns-clause-rising g c =
@@ -25,13 +26,8 @@ returns-clause-rows g c t h =
 pub loop-s-preserved-then-start-end : goal.loop-s-preserved-then-start-end
 loop-s-preserved-then-start-end g c = record {
   rising = rising_later c.loop-s.live.items c.loop-s.s c.loop-s.invariant.rising;
-  rows = λ t h. elim (cases_lt t c.loop-s.s) [
-    | inl low ↦ c.loop-s.invariant.rows t low
-    | inr last ↦
-        let here : c.loop-s.s ≡ t = omega (arith, last, h) in
-        let none = empty_row (row_of c.loop-s.s c.args.l.now.places) (omega (arith, c.row-start.ensures.count, c.if-start-end.true)) in
-        inr (subst (λ x. row_of x c.args.l.now.places ≡ []) here none)
-  ];
+  rows = below_more _ _ c.loop-s.invariant.rows
+      (inr (nil_from_length _ (omega (arith, c.row-start.ensures.count, c.if-start-end.true))));
 }
 
 pub loop-s-preserved : goal.loop-s-preserved
@@ -41,10 +37,7 @@ loop-s-preserved g c =
     let is = c.in_ok-push.ensures.items in
     record {
       rising = subst (AreLive (s + 1)) (sym is) (rising_more live s c.loop-s.invariant.rising);
-      rows = λ t h. subst (λ xs. IsOne xs t ⊎ (row_of t c.args.l.now.places ≡ [])) (sym is) (elim (cases_lt t s) [
-        | inl low ↦ elim (c.loop-s.invariant.rows t low) [ inl one ↦ inl (one_stays live s t one) | inr empty ↦ inr empty ]
-        | inr last ↦
-            let here : s ≡ t = omega (arith, last, h) in
-            inl (subst (IsOne (live ++ s ∷ [])) here (one_last live s))
-      ]);
+      rows = subst (λ xs. (t : ℕ) → t < s + 1 → IsOne xs t ⊎ (row_of t c.args.l.now.places ≡ [])) (sym is)
+          (below_more _ _ (λ t low. ⊎_map (one_stays live s t) (λ empty. empty) (c.loop-s.invariant.rows t low))
+          (inl (one_last live s)));
     }

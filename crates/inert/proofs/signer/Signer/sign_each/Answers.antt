@@ -1,14 +1,13 @@
-use Rattle.std.proofs.Common.{◌≡◌, ◌⊎◌, ◌∙◌, ℕ, length, slice_index, ap, sym, subst, subst₂, rules}
+use Rattle.std.proofs.Common.{refl, ◌≡◌, ◌∙◌, length, ap, sym, subst, subst₂, rules}
 use Rattle.std.proofs.lemmas.List.{length-map}
-use Rattle.theory.specs.declared.relation.Relation.TheVariants.{Branching}
-use Rattle.lists.specs.Lists.{list_at, AreNumbers}
-use Rattle.partition.specs.Blocks.{AreLive, IsOne, HaveNone}
-use Rattle.inert.specs.Signed.{IsSignature, ShowsNew, AreSignedBeside}
-use Rattle.inert.specs.Steps.{Under, under}
-use Rattle.inert.specs.Search.{number_of, kept, AreAwake}
+use Rattle.lists.specs.Lists.{AreNumbers}
+use Rattle.partition.specs.Blocks.{AreLive}
+use Rattle.inert.specs.Signed.{AreSignedBeside}
+use Rattle.inert.specs.Steps.{under}
+use Rattle.inert.specs.Search.{number_of, AreAwake}
 use Rattle.inert.specs.Moves.{Rests}
-use Rattle.inert.proofs.invariant.Resting.{woken_awake, woken_rests, others_on}
-use Rattle.inert.proofs.signatures.Idle.{over_again, none_still, all_within, all_signed, all_shown, all_still, kept_within}
+use Rattle.inert.proofs.invariant.Resting.{woken_awake, woken_rests}
+use Rattle.inert.proofs.signatures.Idle.{over_again, all_told}
 use Rattle.inert.proofs.signer.Signer.sign_each.Given.{Over}
 use Rattle.inert.proofs.signer.Signer.sign_each.Goals as goal
 use Rattle.inert.proofs.signer.Signer.sign_each.Goals.{After-self}
@@ -46,38 +45,15 @@ number-requires-clause-live g c =
 pub invariant_of-self : goal.invariant_of-self
 invariant_of-self g c =
     let done = c.in-Ok.ensures in
-    let over = c.self.invariant in
-    let size : length c.walk_all.new.walk.stages ≡ length c.self.inside.walk.stages =
-    done.rests.numbers.size ∙ ap (λ u. u.l.states) c.new-lens.ensures ∙ sym (states g (goal.at.invariant_of-self g c).After-self) in
-    over_again done.rests over c.wake.ensures done.seen size done.all (others_on (woken_awake c.wake.ensures over) done.seen size)
+    let is = c.new-lens.ensures ∙ ap (under c.args.l.now) c.of.ensures.of in
+    over_again is refl c.self.view_is c.requires.lists.0 done.rests c.self.invariant c.wake.ensures done.seen done.all
 
 pub returns-in-Ok : goal.returns-in-Ok
 returns-in-Ok g c =
     let done = c.in-Ok.ensures in
-    let over = c.self.invariant in
-    let looked_at = c.live-live.ensures.live in
-    let looks : (s : ℕ) → IsOne c.args.blocks.now.live s → IsOne c.live-live.result.now s = λ s. subst (λ xs. IsOne xs s) (sym looked_at) in
-    let none = subst (λ xs. HaveNone xs c.args.numbers.now) (sym looked_at) c.requires.numbers.1 in
-    let sizes : length c.number.new.numbers ≡ length c.args.numbers.now = c.number.auto.numbers ∙ c.put_kept.auto.numbers in
-    let now = c.walk_all.new.walk in
-    let states = states g (goal.at.returns-in-Ok g c).After-self in
-    let size : length now.stages ≡ length c.self.inside.walk.stages = done.rests.numbers.size ∙ ap (λ u. u.l.states) c.new-lens.ensures ∙ sym states in
-    let is : c.new-lens.result ≡ under c.args.l.now c.args.blocks.now.of = c.new-lens.ensures ∙ ap (under c.args.l.now) c.of.ensures.of in
-    let others = others_on (woken_awake c.wake.ensures over) done.seen size in
-    let view = c.self.view_is in
-    record {
-      signed = λ s one.
-          subst (λ (u : Under). IsSignature Branching u.l u.blocks s (list_at c.walk_all.new.lists (slice_index (kept now.stages) s))) is
-          (all_signed done.rests over c.wake.ensures done.seen size done.all others done.signs s (looks s one));
-      changed = λ s one.
-          subst (λ ks. ShowsNew (slice_index ks s) (slice_index (kept now.stages) s) (slice_index c.number.new.numbers s)) view
-          (all_shown done.rests over c.wake.ensures done.seen size done.all others _ _ _ none sizes c.put_kept.ensures.live c.number.ensures.live c.put_kept.ensures.others c.number.ensures.others s (looks s one));
-      still = λ s.
-          subst₂ (λ xs ks. IsOne xs s ⊎ (slice_index (kept now.stages) s ≡ slice_index ks s)) looked_at view
-          (all_still done.rests over c.wake.ensures done.seen size done.all others s);
-      lists = (length-map now.stages number_of ∙ size ∙ states, kept_within done.rests over c.wake.ensures done.seen size done.all others);
-      numbers = all_within done.rests over c.wake.ensures done.seen size done.all others _ _ _ none sizes c.put_kept.ensures.live c.number.ensures.live c.put_kept.ensures.others c.number.ensures.others;
-      grow = done.grow;
-      visits = search rules;
-      others = subst (λ xs. HaveNone xs c.number.new.numbers) looked_at (none_still done.rests over c.wake.ensures done.seen size done.all others _ _ _ none sizes c.put_kept.ensures.live c.number.ensures.live c.put_kept.ensures.others c.number.ensures.others);
-    }
+    let told =
+    all_told (c.new-lens.ensures ∙ ap (under c.args.l.now) c.of.ensures.of) c.live-live.ensures.live c.self.view_is
+    c.requires.lists.0 done.rests c.self.invariant c.wake.ensures done.seen done.all _ _ _ c.requires.numbers.1
+    (c.number.auto.numbers ∙ c.put_kept.auto.numbers) c.put_kept.ensures.live c.number.ensures.live
+    c.put_kept.ensures.others c.number.ensures.others done.signs in
+    search (rules, told)

@@ -1,10 +1,11 @@
-use Rattle.std.proofs.Common.{◌≡◌, ◌+◌, ◌∙◌, [], slice_index, ap, sym, subst, arith, rules}
+use Rattle.std.proofs.Common.{◌≡◌, ◌+◌, ◌∙◌, [], slice_index, ap, sym, subst, arith}
 use Rattle.std.proofs.lemmas.Bool.{false≢true}
+use Rattle.std.proofs.lemmas.Grind.{common_steps}
 use Rattle.lts.specs.Lts.{place_at}
 use Rattle.inert.specs.Steps.{IsStep}
 use Rattle.inert.specs.Moves.{TakesStep, entered}
 use Rattle.inert.proofs.invariant.Resting.{within}
-use Rattle.inert.proofs.invariant.Keeping.{grow_same}
+use Rattle.lists.proofs.CallerLemmas.{Grow-same}
 use Rattle.inert.proofs.moves.Beginning.{collecting, framed, Begins, begins, takes_framed, takes_bare, begun_ends}
 use Rattle.inert.proofs.walk.Walk.begin.Given.{Over}
 use Rattle.inert.proofs.walk.Walk.begin.Goals as goal
@@ -36,11 +37,7 @@ loop-k-preserved g c =
     let b =
     takes_bare c.known.ensures.laws c.known.ensures.lts i.same i.begun c.loop-k-test.true c.requires.state.1 c.in_ok-take-2.field-0 c.step-step.result
     (is_step g (goal.at.loop-k-preserved g c).After-step-step) (λ on. false≢true (sym c.if-leads_on.false ∙ c.leads_on.ensures.1 on)) c.in_ok-take-2.ensures in
-    record {
-      same = b.0;
-      begun = b.1;
-      cost = omega (arith, i.cost, one, c.loop-k.auto.k);
-    }
+    grind (arith, common_steps, b, i.cost, one)
 
 -- the step was taken from a frame
 pub returns-then-leads_on : goal.returns-then-leads_on
@@ -52,13 +49,7 @@ returns-then-leads_on g c =
     (is_step g (goal.at.returns-then-leads_on g c).After-step-step)
     (subst (λ w. TakesStep c.args.lens.now.l.places c.step-step.result w c.take.new.self c.in_ok-take.field-0)
     (c.in_ok-put.ensures ∙ ap (entered c.args.s (c.loop-k.k + 1) c.row-start.result.1 0) i.same) c.in_ok-take.ensures) in
-    record {
-      on = went.on;
-      grow = grow_same c.args.lists.now;
-      found = went.found;
-      visits = omega (arith, went.less, i.cost.at_least, i.cost.at_most, one.at_least, one.at_most, c.loop-k.auto.k);
-      cost = search rules;
-    }
+    grind (arith, common_steps, Grow-same c.args.lists.now, went, i.cost, one)
 
 -- the state was finished at the end of its row
 pub returns : goal.returns
@@ -66,10 +57,4 @@ returns g c =
     let i = c.loop-k.invariant in
     let ended =
     begun_ends c.known.ensures.laws c.known.ensures.lts i.same i.begun c.loop-k-test.false c.in_ok-end.ensures (within c.requires.rests c.requires.state.0) in
-    record {
-      on = ended.on;
-      grow = c.in_ok-end.ensures.listed.grow;
-      found = ended.found;
-      visits = omega (arith, ended.less, i.cost.at_least, i.cost.at_most, c.loop-k.auto.k);
-      cost = search rules;
-    }
+    grind (arith, common_steps, ended, i.cost)

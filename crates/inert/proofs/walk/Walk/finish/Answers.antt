@@ -1,6 +1,7 @@
 use Rattle.std.proofs.Common.{arith, rules}
-use Rattle.inert.proofs.parts.Counting.{costs_on}
-use Rattle.inert.proofs.invariant.Keeping.{grow_on, goes_on}
+use Rattle.std.proofs.lemmas.Grind.{common_steps}
+use Rattle.lists.proofs.CallerLemmas.{Grow-twice}
+use Rattle.inert.proofs.invariant.Keeping.{goes_on}
 use Rattle.inert.proofs.invariant.Resting.{walk_rests, finished}
 use Rattle.inert.proofs.walk.Walk.finish.Goals as goal
 
@@ -8,13 +9,8 @@ pub loop-self-preserved : goal.loop-self-preserved
 loop-self-preserved g c =
     let inv = c.loop-self.invariant in
     let gone = c.in_ok-go_on.ensures in
-    record {
-      on = goes_on gone.grow inv.on gone.on;
-      grow = grow_on inv.grow gone.grow;
-      found = λ is. inv.found (gone.on.seen.unseen c.args.s is);
-      visits = omega (arith, inv.visits, gone.visits);
-      cost = costs_on inv.cost gone.cost (omega (arith, inv.visits, gone.visits));
-    }
+    let on = goes_on gone.grow inv.on gone.on in
+    grind (arith, common_steps, on, Grow-twice inv.grow gone.grow, gone.on.seen.unseen c.args.s, inv, gone)
 
 pub returns-clause-finished : goal.returns-clause-finished
 returns-clause-finished g c =

@@ -1,4 +1,5 @@
 use Rattle.std.proofs.Common.{◌≢◌, ◌∙◌, length, ap, sym, subst, subst₂, arith}
+use Rattle.std.proofs.lemmas.Grind.{common_steps}
 use Rattle.inert.specs.Search.{here, last, AreThere}
 use Rattle.inert.specs.Moves.{GoesOn, Closes}
 use Rattle.inert.proofs.moves.Back.{popped_size, popped_on, closed}
@@ -22,9 +23,4 @@ returns-in_ok-close g c =
     let done =
     closed way.walks way.some c.requires.read c.known.ensures.laws c.known.ensures.lts
     (ap (λ r. r.height) (sym root) ∙ c.if-root-frame.true ∙ ap (λ x. x.height) c.top_frame-frame.ensures) closes in
-    record {
-      on = done.0;
-      grow = closes.listed.grow;
-      ahead = done.1;
-      back = omega (arith, ap length closes.frames, popped_size way.walks, way.some);
-    }
+    grind (arith, common_steps, done, closes.listed.grow, ap length closes.frames, popped_size way.walks, way.some)

@@ -7,10 +7,6 @@ pub returns : goal.returns
 returns g c =
     let read = c.in_ok-read.ensures in
     let back = c.in_ok-go_back.ensures in
-    record {
-      on = goes_on back.grow read.on back.on;
-      grow = back.grow;
-      visits = omega (arith, read.visits, back.ahead);
-      nearer = omega (arith, (read.steps.1 (λ e. false≢true (sym c.if-branch.false ∙ e))).2, back.ahead, back.back);
-      cost = search rules;
-    }
+    let on = goes_on back.grow read.on back.on in
+    let steps = read.steps.1 (λ e. false≢true (sym c.if-branch.false ∙ e)) in
+    search (rules, arith, on)

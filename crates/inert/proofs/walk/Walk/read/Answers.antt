@@ -1,6 +1,7 @@
-use Rattle.std.proofs.Common.{◌≡◌, ◌∙◌, ℕ, ◌+◌, ◌-◌, ◌<◌, length, get_or, set, slice_index, Bool, ap, sym, subst, refl, arith, rules}
+use Rattle.std.proofs.Common.{◌≡◌, ◌∙◌, ℕ, ◌+◌, ◌-◌, ◌<◌, length, get_or, set, slice_index, Bool, ap, sym, subst, arith}
 use Rattle.std.proofs.lemmas.Bool.{false≢true}
 use Rattle.std.proofs.lemmas.List.{get_or_read}
+use Rattle.std.proofs.lemmas.Grind.{common_steps}
 use Rattle.lts.specs.Lts.{place_at}
 use Rattle.inert.specs.Steps.{IsStep}
 use Rattle.inert.specs.Search.{Search, frame_at, top, here, Frame}
@@ -58,11 +59,9 @@ bounds-blocks-index g c =
 pub loop-k-init : goal.loop-k-init
 loop-k-init g c =
     let next = ap (λ x. x.next) c.top_frame-frame.ensures in
-    record {
-      reads = subst (Reads c.args.lens.now c.args.lists.now c.args.self.now c.args.self.now) (sym next) (reads_none c.requires.way);
-      stays = record { size = refl; stack = refl };
-      cost = omega (arith, next);
-    }
+    let self = c.args.self.now in
+    let reads = subst (Reads c.args.lens.now c.args.lists.now self self) (sym next) (reads_none c.requires.way) in
+    grind (arith, common_steps, reads, next)
 
 pub step-step-requires-clause-place : goal.step-step-requires-clause-place
 step-step-requires-clause-place g c =
@@ -81,11 +80,8 @@ loop-k-preserved g c =
     marks g (goal.at.loop-k-preserved g c).After-index i.reads i.stays c.loop-k-test.true c.step-step.result c.step-step.ensures.step c.self-in-loop-k.view_is
     c.index_mut.ensures.value c.in_ok-take.field-0 c.in_ok-take.ensures in
     let one = c.step-step.ensures.visit in
-    record {
-      reads = m.reads;
-      stays = m.stays (λ e. false≢true (sym c.if-branch.false ∙ e));
-      cost = omega (arith, i.cost, one, i.reads.forward);
-    }
+    let stays = m.stays (λ e. false≢true (sym c.if-branch.false ∙ e)) in
+    grind (arith, common_steps, m.reads, stays, i.cost, one)
 
 pub returns-then-branch : goal.returns-then-branch
 returns-then-branch g c =
@@ -94,12 +90,7 @@ returns-then-branch g c =
     marks g (goal.at.returns-then-branch g c).After-index i.reads i.stays c.loop-k-test.true c.step-step.result c.step-step.ensures.step c.self-in-loop-k.view_is
     c.index_mut.ensures.value c.in_ok-take.field-0 c.in_ok-take.ensures in
     let one = c.step-step.ensures.visit in
-    record {
-      on = m.reads.on;
-      visits = omega (arith, m.reads.less, i.reads.forward, i.cost.at_least, i.cost.at_most, one.at_least, one.at_most);
-      steps = (λ _. omega (arith, m.reads.less, m.longer c.if-branch.true, i.reads.forward), λ stay. absurd (stay refl));
-      cost = search rules;
-    }
+    grind (arith, common_steps, m.reads, m.longer c.if-branch.true, i.reads, i.cost, one)
 
 pub returns-clause-steps : goal.returns-clause-steps
 returns-clause-steps g c =

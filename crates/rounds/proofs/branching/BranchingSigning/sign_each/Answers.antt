@@ -2,8 +2,7 @@ use Rattle.std.proofs.Common.{◌≡◌, ◌∙◌, length, slice_index, ap, sym
 use Rattle.std.proofs.lemmas.List.{take_at}
 use Rattle.theory.specs.declared.relation.Relation.TheVariants.{Branching}
 use Rattle.partition.specs.Blocks.{AreLive, HaveNone}
-use Rattle.rounds.specs.EachList.{Signed}
-use Rattle.rounds.specs.Kept.{KeepsLists, SignsLists}
+use Rattle.rounds.specs.Kept.{KeepsLists}
 use Rattle.rounds.specs.Watching.{HasIndexed}
 use Rattle.rounds.proofs.EachList.{written_back}
 use Rattle.rounds.proofs.Keeping.{kept_beside, signs_lists}
@@ -37,32 +36,18 @@ invariant_of-round g c =
 pub returns-clause-signed : goal.returns-clause-signed
 returns-clause-signed g c =
     let l = c.args.l.now in
-    let inside = c.round.inside in
+    let at = sym c.round.view_is in
+    let begun = c.in_ok-round.ensures in
     let done = c.in_ok-sign_each.ensures in
-    let items = take_at c.sign_each.new.numbers _ _ (omega (arith, c.sign_each.auto.numbers, c.deref_mut.ensures.len)) in
-    let was : Signed = record {
-      blocks = inside.blocks;
-      lists = inside.lists;
-      numbers = inside.numbers.items;
-      kept = inside.signer;
-      watch = inside.watch;
-    } in
-    let r : Signed = record {
-      blocks = inside.blocks;
-      lists = c.sign_each.new.lists;
-      numbers = c.sign_each.new.numbers;
-      kept = c.sign_each.new.self;
-      watch = inside.watch;
-    } in
-    let states = ap (λ r. length r.blocks.of) c.round.view_is ∙ ap (λ b. length b.of) c.in_ok-round.ensures.blocks ∙ c.requires.states in
-    let live : AreLive (length inside.blocks.of) inside.blocks.live =
-    subst (λ x. AreLive (length x.blocks.of) x.blocks.live) (sym c.round.view_is) c.known.ensures.live in
-    subst (λ ns. SignsLists l c.args.round (record r { numbers = ns })) (sym items)
-    (signs_lists l c.args.round was r (subst (KeepsLists l) (sym c.round.view_is) c.in_ok-round.ensures.keeps) refl
-    (λ nothing s. subst (λ r. slice_index r.kept s ≡ 0) (sym c.round.view_is) (c.in_ok-round.ensures.anew nothing s))
+    let states =
+    ap (λ r. length r.blocks.of) c.round.view_is ∙ ap (λ b. length b.of) begun.blocks ∙ c.requires.states in
+    signs_lists l c.args.round _ _ c.sign_each.new.numbers
+    (take_at _ _ _ (omega (arith, c.sign_each.auto.numbers, c.deref_mut.ensures.len)))
+    (subst (KeepsLists l) at begun.keeps) refl
+    (λ nothing s. subst (λ r. slice_index r.kept s ≡ 0) at (begun.anew nothing s))
     done.grow done.signed done.changed done.still done.lists c.sign_each.ensures.others
-    (omega (arith, c.sign_each.auto.numbers, c.deref_mut.ensures.len, c.round.invariant.0.states, states))
-    (λ s one. omega (arith, live.below one.0 one.1, one.2, states)))
+    (omega (arith, c.sign_each.auto.numbers, c.deref_mut.ensures.len, c.round.invariant.0.states, states)) states
+    (subst (λ r. AreLive (length r.blocks.of) r.blocks.live) at c.known.ensures.live)
 
 pub returns-clause-index : goal.returns-clause-index
 returns-clause-index g c =
