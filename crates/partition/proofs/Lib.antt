@@ -12,3 +12,4 @@ pub mod Filling
 pub mod Widening
 pub mod Hinting
 pub mod Refilling
+pub mod Halving

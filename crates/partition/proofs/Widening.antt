@@ -3,14 +3,12 @@ use Rattle.std.proofs.Common.{◌≡◌, ◌∙◌, ◌⊎◌, ℕ, ◌+◌, ◌
 use Rattle.std.proofs.lemmas.Bool.{cases_lt}
 use Rattle.std.proofs.lemmas.List.{length_push, get_or_append_left, get_or_push}
 use Rattle.partition.specs.Blocks.{AreLive, AreAmong, IsOne}
-use Rattle.partition.proofs.Living.{earlier}
+use Rattle.partition.proofs.Living.{earlier, rising_more, rising_later}
 
 -- of the states before s: those of the first k places are among them, and the next one in place k is not before s
 pub record WideUpTo (live : List ℕ) (lose : ℕ → Type 0) (s k : ℕ) (wide : List ℕ) : Type 0 where
   pub within : k ≤ length live
-  pub few : length wide ≤ s
-  pub below : (i : ℕ) → i < length wide → slice_index wide i < s
-  pub rising : (i j : ℕ) → i < j → j < length wide → slice_index wide i < slice_index wide j
+  pub rises : AreLive s wide
   pub are : (j : ℕ) → j < k → IsOne wide (slice_index live j)
   pub ahead : (j : ℕ) → k ≤ j → j < length live → s ≤ slice_index live j
   pub each : (t : ℕ) → IsOne wide t → IsOne live t ⊎ lose t
@@ -39,25 +37,11 @@ module _ {live : List ℕ} {states : ℕ} {lose : ℕ → Type 0} {s k : ℕ} {w
         elim now [ inl is ↦ inl (is.0, is.1, is.2 ∙ here) | inr lost ↦ inr (subst lose here lost) ]
   ]
 
-  below' : (i : ℕ) → i < length wide' → slice_index wide' i < s + 1
-  below' i h = elim (earlier (length wide) i (omega (arith, h, length_push wide s))) [
-    | inl low ↦ omega (arith, at-old i low, up.below i low)
-    | inr last ↦ omega (arith, at-new i last)
-  ]
-
-  rising' : (i j : ℕ) → i < j → j < length wide' → slice_index wide' i < slice_index wide' j
-  rising' i j low h = elim (earlier (length wide) j (omega (arith, h, length_push wide s))) [
-    | inl inside ↦ omega (arith, at-old i (omega (arith, low, inside)), at-old j inside, up.rising i j low inside)
-    | inr last ↦ omega (arith, at-old i (omega (arith, low, last)), at-new j last, up.below i (omega (arith, low, last)))
-  ]
-
   -- s is in the next place
   pub wide_next : k < length live → slice_index live k ≡ s → WideUpTo live lose (s + 1) (k + 1) wide'
   wide_next inside is = record {
     within = omega (arith, inside);
-    few = omega (arith, up.few, length_push wide s);
-    below = below';
-    rising = rising';
+    rises = rising_more wide s up.rises;
     are = λ j h. elim (earlier k j h) [
       | inl low ↦ pushed (slice_index live j) (up.are j low)
       | inr last ↦ (length wide, omega (arith, length_push wide s), at-new (length wide) refl ∙ sym is ∙ ap (slice_index live) (sym last))
@@ -86,9 +70,7 @@ module _ {live : List ℕ} {states : ℕ} {lose : ℕ → Type 0} {s k : ℕ} {w
   pub wide_with : (k < length live → ¬ (slice_index live k ≡ s)) → lose s → WideUpTo live lose (s + 1) k wide'
   wide_with other lost = record {
     within = up.within;
-    few = omega (arith, up.few, length_push wide s);
-    below = below';
-    rising = rising';
+    rises = rising_more wide s up.rises;
     are = λ j h. pushed (slice_index live j) (up.are j h);
     ahead = ahead' other;
     each = old_or_new (inr lost);
@@ -99,9 +81,7 @@ module _ {live : List ℕ} {states : ℕ} {lose : ℕ → Type 0} {s k : ℕ} {w
   pub wide_without : (k < length live → ¬ (slice_index live k ≡ s)) → ¬ lose s → WideUpTo live lose (s + 1) k wide
   wide_without other wins = record {
     within = up.within;
-    few = omega (arith, up.few);
-    below = λ i h. omega (arith, up.below i h);
-    rising = up.rising;
+    rises = rising_later wide s up.rises;
     are = up.are;
     ahead = ahead' other;
     each = up.each;
@@ -113,7 +93,7 @@ module _ {live : List ℕ} {states : ℕ} {lose : ℕ → Type 0} {s k : ℕ} {w
 module _ {live : List ℕ} {states : ℕ} {lose : ℕ → Type 0} {s k : ℕ} {wide : List ℕ}
     (rises : AreLive states live) (up : WideUpTo live lose s k wide) (end : s ≡ states) where
   pub wide_rising : AreLive states wide
-  wide_rising = record { few = omega (arith, up.few, end); below = λ i h. omega (arith, up.below i h, end); rising = up.rising }
+  wide_rising = subst (λ n. AreLive n wide) end up.rises
 
   pub wide_among : AreAmong live wide
   wide_among t one = elim (cases_lt one.0 k) [

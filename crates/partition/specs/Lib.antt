@@ -4,3 +4,4 @@ pub mod Sizes
 pub mod Blocks
 pub mod Representatives
 pub mod Halving
+pub mod Renumberings

@@ -37,8 +37,10 @@ mod blocks;
 mod counted;
 mod members;
 mod partition;
+mod renumberings;
 mod splitter;
 
 pub use blocks::Blocks;
 pub use partition::Partition;
+pub use renumberings::renumberings_are_few;
 pub use splitter::renumber;

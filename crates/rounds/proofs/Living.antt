@@ -1,5 +1,4 @@
 -- The states that a round looks at: one more, and their lists.
-use borrow.Author.Count.{below_more}
 use Rattle.std.proofs.Common.{◌≡◌, ◌⊎◌, ◌↔◌, ◌∙◌, ℕ, ◌+◌, ◌<◌, ◌≤◌, List, [], ◌∷◌, ◌++◌, length, slice_index, set, Contains, ap, sym, subst, inl, inr, arith}
 use Rattle.std.proofs.Math.Logic.{⊎_map}
 use Rattle.std.proofs.lemmas.Grind.{common_steps}
@@ -13,22 +12,6 @@ use Rattle.lists.specs.Lists.{list_at, AreNumbers, Grow}
 use Rattle.partition.specs.Splitting.{IsAlone}
 use Rattle.partition.specs.Blocks.{AreLive, IsOne, HaveNone, LeavesAlone}
 use Rattle.rounds.specs.Living.{LeavesOut}
-
--- none
-pub rising_none : AreLive 0 []
-rising_none = record { few = omega arith; below = λ i h. absurd (omega (arith, h)); rising = λ i j low h. absurd (omega (arith, h)) }
-
--- one more of the states below it, which rise
-pub rising_more : (live : List ℕ) (s : ℕ) → AreLive s live → AreLive (s + 1) (live ++ s ∷ [])
-rising_more live s rises = record {
-  few = omega (arith, length_push live s, rises.few);
-  below = λ i h. grind (arith, common_steps, rises.below i, h);
-  rising = λ i j low h. grind (arith, common_steps, rises.rising i j low, rises.below i, low, h);
-}
-
--- or without it
-pub rising_later : (live : List ℕ) (s : ℕ) → AreLive s live → AreLive (s + 1) live
-rising_later live s rises = record { few = omega (arith, rises.few); below = λ i h. omega (arith, rises.below i h); rising = rises.rising }
 
 -- what is left out may be so still when more states are
 pub left_still : {R : Type 0} {of live left : List ℕ} → LeavesAlone of live left → (s : ℕ)

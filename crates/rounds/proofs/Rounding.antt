@@ -1,5 +1,5 @@
 -- A round: the states that it looks at were signed, the blocks split, and the next round looks at what was found.
-use Rattle.std.proofs.Common.{◌≡◌, ◌⊎◌, ◌↔◌, ℕ, ◌<◌, ◌≤◌, List, [], length, slice_index, slice_index_or, IfSome, Contains, ap, sym, ◌∙◌, subst, subst₂, refl, inl, inr, arith}
+use Rattle.std.proofs.Common.{◌≡◌, ◌⊎◌, ◌↔◌, ℕ, ◌<◌, ◌≤◌, List, [], ◌∷◌, length, slice_index, slice_index_or, IfSome, Contains, ap, sym, ◌∙◌, subst, subst₂, refl, inl, inr, arith}
 use Rattle.std.proofs.Math.Logic.{⊎_map}
 use Rattle.std.proofs.lemmas.List.Elements.{All-contains}
 use Rattle.std.proofs.lemmas.Option.{IfSome_then}
@@ -13,12 +13,15 @@ use Rattle.lts.specs.Labels.{text_of}
 use Rattle.lts.specs.Lts.{Grouped, Triple, source_of, label_of, target_of, row_of, system_of, IsTriple, IsLts}
 use Rattle.lists.specs.Lists.{AreLists, AreNumbers}
 use Rattle.partition.specs.Splitting.{Splits}
+use Rattle.partition.specs.Sizes.{Halves}
 use Rattle.partition.specs.Blocks.{RoundBlocks, IsOne, LeavesAlone, AreParted}
+use Rattle.partition.specs.Renumberings.{IsHalved, WereHalved}
+use Rattle.partition.proofs.CallerLemmas.{halved}
 use Rattle.rounds.specs.EachList.{Signed, HaveLists, list_of}
 use Rattle.rounds.specs.Settled.{Settled}
 use Rattle.rounds.specs.Kept.{Names, SignsLists}
 use Rattle.rounds.specs.Index.{Entered, AreFound, FindsBack, LooksAtSources, LooksBackBy}
-use Rattle.rounds.specs.Rounds.{IsNext}
+use Rattle.rounds.specs.Rounds.{IsNext, AreRounds}
 use Rattle.rounds.specs.Watching.{HasIndexed, HasKept, Watches, WatchesBy, SignsEach, IsSplitOf, LooksOn}
 use Rattle.rounds.specs.declared.signed_blocks.Watch.{Watch}
 use Rattle.rounds.specs.declared.signed_blocks.Watch.TheVariants.{Nothing, Sources}
@@ -87,10 +90,10 @@ module _ (l : Grouped) (lts : IsLts l) (labelled : Labelled l)
       → IsNext rel l r.blocks q
   is_next Strong settled index signed =
       IsNext-from Strong l lts.system r.blocks size (list_of r.lists r.numbers) q next.splits (strong_split settled index signed)
-      (strong_next l steps r.blocks q.blocks size size' parted below r.watch r q refl refl next.watches index) next.low
+      (strong_next l steps r.blocks q.blocks size size' parted below r.watch r q refl refl next.watches index) next.halves next.low
   is_next Branching settled index signed =
       IsNext-from Branching l lts.system r.blocks size (list_of r.lists r.numbers) q next.splits (back_split signed)
-      (back_next signed r.watch next.watches index) next.low
+      (back_next signed r.watch next.watches index) next.halves next.low
 
 -- at first there is no index, and the states are looked at that have a transition
 pub watches_first : (rel : Relation) (l : Grouped) (r : Signed) (live : List ℕ) → r.watch ≡ Nothing
@@ -123,6 +126,7 @@ split_of r p q ns live b is are have same split blocks watches =
       splits =
           subst (λ (x : RoundBlocks). Splits r.blocks.of r.blocks.count (list_of r.lists r.numbers) x.of x.count)
           (sym blocks) (Splits-lists r.lists r.numbers _ _ _ _ are have.each (sym have.states) splits);
+      halves = subst (λ (x : RoundBlocks). Halves r.blocks.of r.blocks.count x.of) (sym blocks) split.halves;
       low = ap (λ b. b.low) blocks ∙ split.low;
       watches = watches;
     })
@@ -145,3 +149,14 @@ looks_on e p q ns found b split is at back lists kept = record {
       | inl one ↦ one
       | inr old ↦ absurd (omega (arith, old, new, split.low))
     ]
+
+-- a round more, from blocks that some rounds have left
+pub one_more : (rel : Relation) (l : Grouped) (p : RoundBlocks) (of : List ℕ) (past : List (List ℕ)) (q : Signed) → p.of ≡ of → length of ≡ l.states
+    → IsNext rel l p q → AreRounds rel (system_of l) of past × WereHalved of past
+    → AreRounds rel (system_of l) q.blocks.of (of ∷ past) × WereHalved q.blocks.of (of ∷ past)
+one_more rel l p of past q is size next were =
+    let size' : length p.of ≡ l.states = ap length is ∙ size in
+    let split = subst (λ xs. Split rel (system_of l) (slice_index xs) (slice_index q.blocks.of)) is next.split in
+    let half : IsHalved p.of q.blocks.of =
+    halved p.of q.blocks.of p.count (next.states ∙ sym size') (λ s h low. next.stays s (omega (arith, h, size')) low) next.halves in
+    ((split, were.0), (subst (λ xs. IsHalved xs q.blocks.of) is half, were.1))

@@ -8,6 +8,7 @@ use Rattle.theory.proofs.CallerLemmas.{step_below}
 use Rattle.lts.specs.Labels.{text_of}
 use Rattle.lts.specs.Lts.{Grouped, Triple, label_of, target_of, row_of, system_of}
 use Rattle.lists.specs.Lists.{list_at}
+use Rattle.partition.specs.Sizes.{Halves}
 use Rattle.partition.specs.Splitting.{IsAlone, Splits}
 use Rattle.partition.specs.Blocks.{RoundBlocks, IsOne, HaveNone}
 use Rattle.inert.specs.Signed.{HasPair, IsSignature}
@@ -147,12 +148,12 @@ module _ (rel : Relation) (l : Grouped) (sys : IsSystem (system_of l)) (p : Roun
       let h = splits.parts (omega (arith, d, grows)) in
       h.5 ((alike h.0 h.1 (omega (arith, h.2, states)) (omega (arith, h.3, states))).1 h.4)
 
-  pub IsNext-from : Watches rel l r → r.blocks.low ≡ p.count → IsNext rel l p r
-  IsNext-from watches low =
+  pub IsNext-from : Watches rel l r → Halves p.of p.count r.blocks.of → r.blocks.low ≡ p.count → IsNext rel l p r
+  IsNext-from watches halves low =
       let settled = subst (Settled rel (system_of l) (slice_index r.blocks.of)) (sym low) (
       settled_next (system_of l) (slice_index p.of) (slice_index r.blocks.of) p.count
       (λ s a t step. (step_below (system_of l) sys s a t step).1) stays rel split) in
-      search (arith, split, splits, low, settled, watches, stays, same, parted, splits.states ∙ states)
+      search (arith, split, splits, halves, low, settled, watches, stays, same, parted, splits.states ∙ states)
 
 -- each list tells the signature of its state
 module _ (l : Grouped) (labelled : Labelled l) (p : RoundBlocks) (lists : List (List (ℕ × ℕ))) (numbers : List ℕ)

@@ -1,5 +1,5 @@
 -- The sources of the transitions that lead to each state: which states a round then looks at.
-use Rattle.std.specs.Prelude.{◌≡◌, ◌⊎◌, ℕ, suc, ◌+◌, ◌<◌, ◌≤◌, Bool, false, cond, IsTrue, List, [], ◌∷◌, length, slice_index, slice_index_or, Option, Some}
+use Rattle.std.specs.Prelude.{◌≡◌, ◌⊎◌, ℕ, suc, ◌+◌, ◌<◌, ◌≤◌, Bool, false, cond, IsTrue, List, [], ◌∷◌, length, slice_index, slice_index_or, Option, Some, IfSome}
 use Rattle.std.specs.List.{All, Contains, sum_by}
 use Rattle.theory.specs.System.{internal}
 use Rattle.theory.specs.declared.relation.Relation.TheVariants.{Strong}
@@ -50,9 +50,9 @@ AreFound of found states = All (λ s. s < length of → IsOne found s ⊎ IsAlon
 abbrev pub LooksAtSources : List (List ℕ) → RoundBlocks → Type 0
 LooksAtSources sources p = (t : ℕ) → t < length p.of → p.low ≤ slice_index p.of t → AreFound p.of p.live (slice_index_or sources t [])
 
--- the same of those of these states that are in the block b
-abbrev pub AreFoundWithin : ℕ → List ℕ → List ℕ → List ℕ → Type 0
-AreFoundWithin b of found states = All (λ s. s < length of → slice_index of s ≡ b → IsOne found s ⊎ IsAlone of s) states
+-- the same of those of these states that are in the block, if one is given
+abbrev pub AreFoundWithin : Option ℕ → List ℕ → List ℕ → List ℕ → Type 0
+AreFoundWithin block of found states = All (λ s. s < length of → IfSome block (λ b. slice_index of s ≡ b) → IsOne found s ⊎ IsAlone of s) states
 
 -- the states of new blocks that are looked at are found, if they are not alone in their blocks
 abbrev pub FindsNew : RoundBlocks → List ℕ → Type 0

@@ -1,11 +1,14 @@
 -- What a round of refinement makes of the blocks, and how far some rounds have come.
-use Rattle.std.specs.Prelude.{◌≡◌, ℕ, ◌*◌, ◌<◌, ◌≤◌, List, length, slice_index}
+use Rattle.std.specs.Prelude.{◌≡◌, ℕ, ◌*◌, ◌^◌, ◌<◌, ◌≤◌, List, [], ◌∷◌, length, slice_index}
 use Rattle.theory.specs.declared.relation.Relation.{Relation}
-use Rattle.theory.specs.Blocks.{Split, SameBlocks, Underway}
+use Rattle.theory.specs.System.{System}
+use Rattle.theory.specs.Blocks.{Split, SameBlocks, OneBlock, Underway}
 use Rattle.lts.specs.Meter.{Counts, Costs}
 use Rattle.lts.specs.Lts.{Grouped, system_of}
 use Rattle.partition.specs.Partition.{AreBlocks}
+use Rattle.partition.specs.Sizes.{Halves}
 use Rattle.partition.specs.Blocks.{RoundBlocks}
+use Rattle.partition.specs.Renumberings.{WereHalved, renumberings}
 use Rattle.rounds.specs.Settled.{Settled}
 use Rattle.rounds.specs.EachList.{Signed}
 use Rattle.rounds.specs.Watching.{Watches}
@@ -19,13 +22,30 @@ pub record IsNext (rel : Relation) (l : Grouped) (p : RoundBlocks) (q : Signed) 
   pub low : q.blocks.low ≡ p.count
   pub settled : Settled rel (system_of l) (slice_index q.blocks.of) q.blocks.low
   pub watches : Watches rel l q
+  pub halves : Halves p.of p.count q.blocks.of
   pub grows : p.count ≤ q.blocks.count
   pub stays : (s : ℕ) → s < l.states → slice_index q.blocks.of s < p.count → slice_index q.blocks.of s ≡ slice_index p.of s
   pub same : q.blocks.count ≡ p.count → SameBlocks (system_of l) (slice_index p.of) (slice_index q.blocks.of)
   pub parted : ¬ (q.blocks.count ≡ p.count) → ¬ SameBlocks (system_of l) (slice_index p.of) (slice_index q.blocks.of)
 
+-- these are the blocks after some rounds, and `past` those before the last one, the newest first
+abbrev pub AreRounds : Relation → System → List ℕ → List (List ℕ) → Type 0
+AreRounds rel A now [] = OneBlock A (slice_index now)
+AreRounds rel A now (old ∷ past) = Split rel A (slice_index old) (slice_index now) × AreRounds rel A old past
+
+-- the rounds that lead to these blocks number them so that each of n states gets another number at most log2 n times
+pub record RenumbersFew (rel : Relation) (A : System) (blocks : List ℕ) : Type 0 where
+  pub last : List ℕ
+  pub past : List (List ℕ)
+  pub rounds : AreRounds rel A last past
+  pub same : SameBlocks A (slice_index last) (slice_index blocks)
+  pub few : (s : ℕ) → s < A.states → 2 ^ renumberings last past s ≤ A.states
+
 -- so many rounds were made from one block, each of which has split something and made as many visits as there are transitions
 pub record Made (rel : Relation) (l : Grouped) (old at : Counts) (blocks : List ℕ) : Type 0 where
   pub rounds : ℕ
+  pub past : List (List ℕ)
+  pub were : AreRounds rel (system_of l) blocks past
+  pub halved : WereHalved blocks past
   pub underway : Underway rel (system_of l) rounds (slice_index blocks)
   pub costs : Costs old at rounds (rounds * length l.places) (rounds * length l.places)

@@ -4,6 +4,7 @@ use Rattle.theory.specs.declared.relation.Relation.{Relation}
 use Rattle.theory.specs.declared.relation.Relation.TheVariants.{Strong, Branching}
 use Rattle.lts.specs.Lts.{Grouped}
 use Rattle.partition.specs.Splitting.{IsAlone, Splits}
+use Rattle.partition.specs.Sizes.{Halves}
 use Rattle.partition.specs.Blocks.{RoundBlocks, IsOne, AreAmong}
 use Rattle.rounds.specs.Living.{LeavesOut}
 use Rattle.rounds.specs.EachList.{Signed, list_of, IsAnew}
@@ -69,5 +70,6 @@ WatchesBy (Sources e) p q = (q.watch ≡ Sources e) × (LooksOn e p q ⊎ LooksA
 -- the blocks p, split by the lists of the states, and what is known for the next round
 pub record IsSplitOf (p q : Signed) : Type 0 where
   pub splits : Splits p.blocks.of p.blocks.count (list_of p.lists p.numbers) q.blocks.of q.blocks.count
+  pub halves : Halves p.blocks.of p.blocks.count q.blocks.of
   pub low : q.blocks.low ≡ p.blocks.count
   pub watches : WatchesBy p.watch p q

@@ -9,7 +9,7 @@
 //! # Which states a round looks at
 //!
 //! Between splits a block keeps its number, and a new block gets the next one. So what a split changes is seen by numbers:
-//! those from `low` on are new. Once fewer than a quarter of the blocks were new in six rounds, the system tells which
+//! those from `low` on are new. Once fewer than a quarter of the blocks were new in some rounds, the system tells which
 //! transitions lead to each state (`lts::Sources`), and from then on a split is followed by a search (`entering`):
 //!
 //! ```text

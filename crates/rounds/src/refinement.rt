@@ -8,16 +8,17 @@ ghost use Rattle.partition.specs.Partition.{IsSomePartition};
 ghost use Rattle.partition.specs.Blocks.{IsOne, AreLive};
 ghost use Rattle.rounds.specs.Settled.{Settled};
 ghost use Rattle.rounds.specs.Watching.{Watches};
-ghost use Rattle.rounds.specs.Rounds.{IsNext};
+ghost use Rattle.rounds.specs.Rounds.{IsNext, RenumbersFew};
 
 use crate::signed_blocks::SignedBlocks;
 use crate::signing::Signing;
 use lts::{Lts, Memory, Meter};
-use partition::{Blocks, Partition, renumber};
+use partition::{Blocks, Partition, renumber, renumberings_are_few};
 use std::alloc::Global;
 
 /// Blocks that two states share exactly if they are bisimilar, made from one block by round after round. The last
-/// round, which is counted too, is the first that splits nothing. Each round makes as many visits as there are transitions.
+/// round, which is counted too, is the first that splits nothing. Each round makes as many visits as there are transitions, and
+/// a state of n gets another number in log2 n of them at most.
 ///
 /// Fails if there is no memory for it. At most as many rounds as there are states were begun then, with at most their
 /// visits.
@@ -33,6 +34,7 @@ pub fn refine<S: Signing, M: Meter>(
     ensures bisimilar { let A = system_of l.now in IfOk result (λ p. EachTwo A (λ s t.
         (slice_index p s ≡ slice_index p t) ↔ Bisimilar S.relation A s A t)) }
     ensures numbered { IfOk result IsSomePartition }
+    ensures few { IfOk result (RenumbersFew S.relation (system_of l.now)) }
     ensures turns { let n = length l.now.places in OnOk result ((r : ℕ) × (r ≤ l.now.states)
         × Turns S.relation (system_of l.now) r
         × Costs (M.counted m.old) (M.counted m.new) r (r * n) (r * n)) }
@@ -46,6 +48,7 @@ pub fn refine<S: Signing, M: Meter>(
     let mut round = SignedBlocks::new(alloc, blocks)?;
     theory::refinement_goes_on();
     theory::final_blocks_are_bisimilarity();
+    renumberings_are_few();
     loop {
         let before = round.renew()?;
         let count = before.count();

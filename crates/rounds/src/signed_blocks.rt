@@ -20,8 +20,11 @@ use std::marker::Model;
 /// A round is late if fewer than one block of so many is new: the states that it has to look at are few then.
 const FEW_ARE_NEW: u32 = 4;
 
-/// So many late rounds look at all states before the index is made, which costs as much as three: most systems have no more.
+/// At most so many late rounds look at all states before the index is made: with many transitions a state it costs as much as three.
 const LATE_ROUNDS: u32 = 6;
+
+/// With few it costs less: it is made after a late round for each so many transitions that a state has in the mean.
+const A_LATE_ROUND: u32 = 2;
 
 /// The index, once it is made, by which the states that the next round looks at are found.
 #[derive(Drop)]
@@ -153,7 +156,7 @@ impl SignedBlocks {
     }
 
     /// Asks the system for the index of the transitions from the states that this round looks at, unless that was done, once few blocks
-    /// were new in some rounds. No list is known then.
+    /// were new in some rounds: the more, the longer rows are in the mean. No list is known then.
     ///
     /// Fails if there is no memory for it.
     pub fn begin_index<M: Meter>(mut self, l: &Lts<M>, reach: Reach) -> Result<SignedBlocks, Memory>
@@ -167,7 +170,8 @@ impl SignedBlocks {
         if self.blocks.low() <= count - count / FEW_ARE_NEW {
             return Ok(self);
         }
-        if self.late_rounds < LATE_ROUNDS {
+        let mean_row = l.edges() / l.states();
+        if self.late_rounds < LATE_ROUNDS.min(mean_row / A_LATE_ROUND) {
             self.late_rounds += 1;
             return Ok(self);
         }

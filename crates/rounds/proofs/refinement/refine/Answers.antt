@@ -1,5 +1,6 @@
-use Rattle.std.proofs.Common.{◌≡◌, ◌↔◌, suc, ◌*◌, ◌<◌, length, slice_index, ap, sym, ◌∙◌, subst, subst₂, arith, rules}
+use Rattle.std.proofs.Common.{◌≡◌, ◌↔◌, ℕ, suc, ◌*◌, ◌<◌, List, [], ◌∷◌, length, slice_index, ap, sym, ◌∙◌, subst, subst₂, arith, rules}
 use Rattle.std.proofs.lemmas.Result.{IfOk-weaker}
+use Rattle.theory.specs.System.{System}
 use Rattle.theory.specs.Blocks.{Split, SameBlocks, Turns}
 use Rattle.lts.specs.Meter.{Costs}
 use Rattle.lts.specs.Lts.{system_of}
@@ -10,7 +11,7 @@ use Rattle.partition.specs.Partition.{AreBlocks}
 use Rattle.partition.specs.Blocks.{AreLive}
 use Rattle.partition.proofs.CallerLemmas.{one_block}
 use Rattle.rounds.proofs.Settling.{settled_first}
-use Rattle.rounds.proofs.Rounding.{watches_left, watches_first}
+use Rattle.rounds.proofs.Rounding.{watches_left, watches_first, one_more}
 use Rattle.rounds.proofs.refinement.refine.Goals as goal
 use Rattle.rounds.proofs.refinement.refine.Given.{Over}
 use Rattle.rounds.proofs.refinement.refine.Goals.{After-count-count, Then-more-count, Else-more-count}
@@ -29,7 +30,7 @@ loop-before-init g c =
       settled = subst (λ b. Settled rel A (slice_index b.of) b.low) is (subst (Settled rel A (slice_index c.in_ok-blocks.blocks.of)) (sym blocks.count.1) (settled_first rel A _));
       watches = watches_first rel l c.in_ok-round.round _ c.in_ok-round.ensures.nothing
           (ap (λ b. b.live) (sym is) ∙ blocks.live) c.in_ok-live.ensures.rows;
-      made = subst (λ b. Made rel l (g.M.Meter.counted c.args.m.now) (g.M.Meter.counted c.args.m.now) b.of) is (record { rounds = 0; underway = begun; costs = search rules });
+      made = subst (λ b. Made rel l (g.M.Meter.counted c.args.m.now) (g.M.Meter.counted c.args.m.now) b.of) is (record { rounds = 0; past = []; were = one; halved = tt; underway = begun; costs = search rules });
     }
 
 pub one-requires-clause-live : goal.one-requires-clause-live
@@ -98,13 +99,20 @@ returns-then-more-count-clause-states g c =
     IfOk-weaker c.renumber.result _ _ (λ q size. size ∙ ap length c.of.ensures.of ∙ ap (λ b. length b.of) c.into_blocks-blocks.ensures ∙ c.in_ok-next.ensures.next.states)
     c.renumber.ensures.states
 
+-- the blocks that are read are those of the last round
+renumbered : (A : System) (read last q : List ℕ) → read ≡ last → length last ≡ A.states
+    → ((s t : ℕ) → s < length read → t < length read → (slice_index q s ≡ slice_index q t) ↔ (slice_index read s ≡ slice_index read t))
+    → SameBlocks A (slice_index last) (slice_index q)
+renumbered A read last q is size same s t ls lt =
+    let states = ap length is ∙ size in
+    subst (λ xs. (slice_index q s ≡ slice_index q t) ↔ (slice_index xs s ≡ slice_index xs t)) is
+    (same s t (omega (arith, ls, states)) (omega (arith, lt, states)))
+
 pub returns-then-more-count-clause-bisimilar : goal.returns-then-more-count-clause-bisimilar
 returns-then-more-count-clause-bisimilar g c =
     let A = system_of c.args.l.now in
     let made = c.loop-before.invariant.made in
     let next = c.in_ok-next.ensures.next in
-    let value = c.of.ensures.of ∙ ap (λ b. b.of) c.into_blocks-blocks.ensures in
-    let size = ap length value in
     let all =
     c.final_blocks_are_bisimilarity.ensures g.S.Signing.relation A (suc made.rounds) (slice_index c.in_ok-next.next.blocks.of)
     c.states.ensures.lts.system (turns g (goal.at.returns-then-more-count-clause-bisimilar g c).Then-more-count) (
@@ -114,9 +122,26 @@ returns-then-more-count-clause-bisimilar g c =
     ) in
     IfOk-weaker c.renumber.result _ _
     (λ q same s t ls lt.
-    let here = same s t (omega (arith, ls, size, next.states)) (omega (arith, lt, size, next.states)) in
-    let moved = subst (λ xs. (slice_index q s ≡ slice_index q t) ↔ (slice_index xs s ≡ slice_index xs t)) value here in
+    let moved = renumbered A _ c.in_ok-next.next.blocks.of q (c.of.ensures.of ∙ ap (λ b. b.of) c.into_blocks-blocks.ensures) next.states same s t ls lt in
     (λ e. (all s t ls lt).0 (moved.0 e), λ h. moved.1 ((all s t ls lt).1 h)))
+    c.renumber.ensures.same
+
+pub returns-then-more-count-clause-few : goal.returns-then-more-count-clause-few
+returns-then-more-count-clause-few g c =
+    let l = c.args.l.now in
+    let made = c.loop-before.invariant.made in
+    let next = c.in_ok-next.ensures.next in
+    let old = c.loop-before.round.blocks.of in
+    let last = c.in_ok-next.next in
+    let is = ap (λ r. r.of) c.in_ok-before.ensures.blocks in
+    let were = one_more g.S.Signing.relation l _ old made.past last is c.loop-before.invariant.states next (made.were, made.halved) in
+    IfOk-weaker c.renumber.result _ _ (λ q same. record {
+      last = last.blocks.of;
+      past = old ∷ made.past;
+      rounds = were.0;
+      same = renumbered (system_of l) _ last.blocks.of q (c.of.ensures.of ∙ ap (λ b. b.of) c.into_blocks-blocks.ensures) next.states same;
+      few = λ s h. omega (arith, c.renumberings_are_few.ensures last.blocks.of (old ∷ made.past) s were.1 (omega (arith, h, next.states)), next.states);
+    })
     c.renumber.ensures.same
 
 pub returns-then-more-count-clause-turns : goal.returns-then-more-count-clause-turns
@@ -147,8 +172,12 @@ made g c =
     let before = c.loop-before.invariant.made in
     let next = c.in_ok-next.ensures.next in
     let is = ap (λ r. r.of) c.in_ok-before.ensures.blocks in
+    let were = one_more g.S.Signing.relation l _ _ before.past c.in_ok-next.next is c.loop-before.invariant.states next (before.were, before.halved) in
     record {
       rounds = suc before.rounds;
+      past = c.loop-before.round.blocks.of ∷ before.past;
+      were = were.0;
+      halved = were.1;
       underway =
           c.refinement_goes_on.ensures.more g.S.Signing.relation A before.rounds (slice_index c.loop-before.round.blocks.of)
           (slice_index c.in_ok-next.next.blocks.of)

@@ -7,7 +7,7 @@ use Rattle.lts.specs.Lts.{row_of}
 use Rattle.partition.specs.Blocks.{AreLive, IsOne}
 use Rattle.partition.proofs.CallerLemmas.{one_stays}
 use Rattle.rounds.proofs.Finding.{one_last}
-use Rattle.rounds.proofs.Living.{rising_none, rising_more, rising_later}
+use Rattle.partition.proofs.CallerLemmas.{rising_none, rising_more, rising_later}
 use Rattle.rounds.proofs.refinement.with_rows.Goals as goal
 
 pub loop-s-init : goal.loop-s-init

@@ -5,7 +5,7 @@ use Rattle.partition.specs.Blocks.{AreLive, IsOne}
 use Rattle.partition.proofs.CallerLemmas.{one_stays}
 use Rattle.std.proofs.lemmas.Grind.{common_steps}
 use Rattle.rounds.proofs.Finding.{one_last, one_or_alone}
-use Rattle.rounds.proofs.Living.{rising_none, rising_more, rising_later}
+use Rattle.partition.proofs.CallerLemmas.{rising_none, rising_more, rising_later}
 use Rattle.rounds.proofs.signed_blocks.not_alone.Goals as goal
 
 pub loop-s-init : goal.loop-s-init
