@@ -7,17 +7,17 @@ use Rattle.lts.proofs.disjoint.union.Given.{Over}
 use Rattle.lts.proofs.disjoint.union.Goals as goal
 
 joined : (g : Over) (c : goal.After-drop-joined-2 g) → IsJoined c.append-2.new.self.labels (c.args.a.now.states + c.args.b.now.states) c.append-2.new.self.triples.items
-joined g c = subst (λ n. IsJoined c.append-2.new.self.labels (n + c.args.b.now.states) c.append-2.new.self.triples.items) c.states.ensures.value c.in_ok-append-2.ensures.joined
+joined g c = subst (λ n. IsJoined c.append-2.new.self.labels (n + c.args.b.now.states) c.append-2.new.self.triples.items) c.states-shift.ensures.value c.in_ok-append-2.ensures.joined
 
 both : (g : Over) (c : goal.After-drop-joined-2 g) →
     map (transition_of c.append-2.new.self.labels) c.append-2.new.self.triples.items ≡ (union_of (system_of c.args.a.now) (system_of c.args.b.now)).transitions
 both g c =
-    AddsShifted-both c.states.result (system_of c.args.a.now).transitions (system_of c.args.b.now).transitions c.new.result c.append.new.self.labels c.append-2.new.self.labels
+    AddsShifted-both c.states-shift.result (system_of c.args.a.now).transitions (system_of c.args.b.now).transitions c.new.result c.append.new.self.labels c.append-2.new.self.labels
     c.in_ok-with_capacity.field-0.items c.append.new.self.triples.items c.append-2.new.self.triples.items c.in_ok-with_capacity.ensures.items c.in_ok-append.ensures.added c.in_ok-append-2.ensures.added
-    ∙ ap (λ n. (system_of c.args.a.now).transitions ++ map (shifted n) (system_of c.args.b.now).transitions) c.states.ensures.value
+    ∙ ap (λ n. (system_of c.args.a.now).transitions ++ map (shifted n) (system_of c.args.b.now).transitions) c.states-shift.ensures.value
 
-sum_of_states : (g : Over) (c : goal.After-drop-joined-2 g) → c.states-2.result + c.states-3.result ≡ c.args.a.now.states + c.args.b.now.states
-sum_of_states g c = let a = c.states-2.ensures.value in let b = c.states-3.ensures.value in omega arith
+sum_of_states : (g : Over) (c : goal.After-drop-joined-2 g) → c.states.result + c.states-2.result ≡ c.args.a.now.states + c.args.b.now.states
+sum_of_states g c = let a = c.states.ensures.value in let b = c.states-2.ensures.value in omega arith
 
 places : (g : Over) (c : goal.After-drop-joined-2 g) → IfOk c.build.result (λ s. s.places ≡ grouped (c.args.a.now.states + c.args.b.now.states) c.append-2.new.self.triples.items)
 places g c = subst (λ n. IfOk c.build.result (λ s. s.places ≡ grouped n c.append-2.new.self.triples.items)) (sum_of_states g c) c.build.ensures.places
