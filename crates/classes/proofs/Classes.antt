@@ -16,12 +16,14 @@ use Rattle.theory.proofs.CallerLemmas.{is_leader_itself}
 use Rattle.classes.proofs.Lists.{each_pushed}
 
 -- what the next state leaves, whatever the relation: numbers for as many blocks, and at most one number more
-pub TakesState-within : (b : ℕ) (reached first : Bool) (old new : Numbers) → TakesState b reached first old new → (states : ℕ) (block : ℕ → ℕ) →
+pub TakesState-within : (b : ℕ) (reached first : Bool) (old new : Numbers) → TakesState b reached first old new →
+    (states : ℕ) (block : ℕ → ℕ) →
     ((t : ℕ) → t < states → block t < length old.by_block.items) → (t : ℕ) → t < states → block t < length new.by_block.items
 TakesState-within b reached first old new (inl o) states block within t l = rw o.by_block (omega (arith, length-set {A = ℕ}, within t l))
 TakesState-within b reached first old new (inr f) states block within t l = rw f.by_block (within t l)
 
-pub TakesState-few : (b : ℕ) (reached first : Bool) (old new : Numbers) → TakesState b reached first old new → new.count ≤ old.count + 1
+pub TakesState-few : (b : ℕ) (reached first : Bool) (old new : Numbers) → TakesState b reached first old new →
+    new.count ≤ old.count + 1
 TakesState-few b reached first old new (inl o) = omega (arith, o.count)
 TakesState-few b reached first old new (inr f) = omega (arith, f.count)
 
@@ -122,7 +124,8 @@ module _ (rel : Relation) (A : System) (block : ℕ → ℕ) (laws : Laws rel A 
   }
 
   -- the state s has an earlier one in its block
-  module _ (s : ℕ) (old new : Numbers) (reached first : Bool) (is_first : IsTrue first ↔ (s ≡ A.first)) (is_reached : IsTrue reached ↔ Reachable A s)
+  module _ (s : ℕ) (old new : Numbers) (reached first : Bool) (is_first : IsTrue first ↔ (s ≡ A.first))
+      (is_reached : IsTrue reached ↔ Reachable A s)
       (ls : s < A.states) (few : old.count ≤ s + 1) (h : Taken rel A block s old) (f : JoinsClass (block s) reached first old new) where
     follows_not_other : ¬ (IsLeader rel A s × (s ≢ A.first))
     follows_not_other (lead, other) =
@@ -230,7 +233,8 @@ module _ (rel : Relation) (A : System) (block : ℕ → ℕ) (laws : Laws rel A 
     }
 
   -- before the first state was taken, only its block has a number
-  pub Taken-start : (count : ℕ) (n : Numbers) → ((t : ℕ) → t < A.states → block t < count) → n.by_block.items ≡ set (replicate count NONE) (block A.first) 0 →
+  pub Taken-start : (count : ℕ) (n : Numbers) → ((t : ℕ) → t < A.states → block t < count) →
+      n.by_block.items ≡ set (replicate count NONE) (block A.first) 0 →
       n.numbers.items ≡ [] → n.leads.items ≡ [] → n.count ≡ 1 → Taken rel A block 0 n
   Taken-start count n within by_block numbers leads one = record {
     numbers_long = ap length numbers;
@@ -260,11 +264,13 @@ module _ (rel : Relation) (A : System) (block : ℕ → ℕ) (laws : Laws rel A 
       at = get_or-set_same (replicate count NONE) (block A.first) 0 0 (omega (arith, length-replicate {A = ℕ}, within A.first laws.system.first))
 
   -- when all states were taken, they have their numbers
-  pub Taken-end : (n : Numbers) (made : Numbering) → made.numbers.items ≡ n.numbers.items → made.leads.items ≡ n.leads.items → made.count ≡ n.count →
+  pub Taken-end : (n : Numbers) (made : Numbering) → made.numbers.items ≡ n.numbers.items →
+      made.leads.items ≡ n.leads.items → made.count ≡ n.count →
       length made.reached.items ≡ A.states → ((s : ℕ) → s < A.states → IsMarked made.reached.items s ↔ Reachable A s) →
       Taken rel A block A.states n → IsNumbering rel A made
   Taken-end n made numbers leads count long reached h =
-      let all = subst (HowMany (IsLeader rel A)) (sym (count ∙ h.counted.2)) (laws.counting.all h.counted.0 h.counted.1) in
+      let all = subst (HowMany (IsLeader rel A)) (sym (count ∙ h.counted.2))
+      (laws.counting.all h.counted.0 h.counted.1) in
       record {
         numbers_long = ap length numbers ∙ h.numbers_long;
         leads_long = ap length leads ∙ h.leads_long;
@@ -278,7 +284,8 @@ module _ (rel : Relation) (A : System) (block : ℕ → ℕ) (laws : Laws rel A 
       }
 
   -- one state more
-  pub Taken-adds : (s b : ℕ) (old new : Numbers) (reached first : Bool) → b ≡ block s → (IsTrue first ↔ (s ≡ A.first)) → (IsTrue reached ↔ Reachable A s) →
+  pub Taken-adds : (s b : ℕ) (old new : Numbers) (reached first : Bool) → b ≡ block s →
+      (IsTrue first ↔ (s ≡ A.first)) → (IsTrue reached ↔ Reachable A s) →
       s < A.states → s + 1 < NONE → old.count ≤ s + 1 → block s < length old.by_block.items →
       Taken rel A block s old → TakesState b reached first old new → Taken rel A block (s + 1) new
   Taken-adds s b old new reached first at is_first is_reached ls low few within h adds = elim (subst (λ x. TakesState x reached first old new) at adds) [

@@ -152,7 +152,8 @@ pub record Parts (rel : Relation) (g : Grouped) (n : Numbering) (sources : List 
 -- what the rows of the members show is what those of the marked states do
 pub Parts-shown : (rel : Relation) (g : Grouped) (n : Numbering) (sources : List Bool) (dropped : Option ℕ) (es : List Triple) (members : List Member) →
     Laws rel g → IsNumbering rel (system_of g) n → AreEnough g n.numbers.items sources → IsDroppedLabel rel g.labels dropped →
-    AreMembers n.numbers.items sources g.states members → HasShown (numbered_rows g n.numbers.items dropped) members es → Parts rel g n sources dropped es
+    AreMembers n.numbers.items sources g.states members →
+    HasShown (numbered_rows g n.numbers.items dropped) members es → Parts rel g n sources dropped es
 Parts-shown rel g n sources dropped es members laws numbering enough drops are has =
     let same = members_show (numbered_rows g n.numbers.items dropped) sources members are in
     record {
@@ -171,7 +172,8 @@ module _ (rel : Relation) (g : Grouped) (n : Numbering) (sources : List Bool) (d
       (label_of x < length g.labels) × Stands rel (system_of g) (transition_of g.labels x) × ¬ IsDropped rel (transition_of g.labels x)
   triple_is x c =
       let h = (p.exactly x).0 c in
-      let from : ShownPlace (numbered_rows g n.numbers.items dropped) h.0 x = place_of (numbered_rows g n.numbers.items dropped) h.0 x h.3 in
+      let from : ShownPlace (numbered_rows g n.numbers.items dropped) h.0 x =
+      place_of (numbered_rows g n.numbers.items dropped) h.0 x h.3 in
       let way : Reachable (system_of g) h.0 = p.enough.only h.0 h.1 h.2 in
       let label = text_of g.labels (label_of from.place) in
       let step = (p.laws.steps h.0 label (target_of from.place)).1 (from.place, from.in_row, refl, refl) in
@@ -199,7 +201,8 @@ module _ (rel : Relation) (g : Grouped) (n : Numbering) (sources : List Bool) (d
       let triple = All-contains (IsTriple (length g.labels) g.states) g.places place.0 p.laws.lts.in_range.each ((p.laws.sources twin.source g.places place.0).0 place.1).0 in
       let out : ¬ (is_left_out dropped x ≡ true) =
       λ gone. stays (subst (IsDropped rel) is ((left_out_is rel g.labels dropped p.laws.lts.table p.drops x triple.label).0 gone)) in
-      let shown = shown_place (numbered_rows g n.numbers.items dropped) twin.source place.0 place.1 (not_from_false _ (false_from_ne_true _ out)) in
+      let shown = shown_place (numbered_rows g n.numbers.items dropped) twin.source place.0 place.1
+      (not_from_false _ (false_from_ne_true _ out)) in
       (x, (p.exactly x).1 (twin.source, twin.low, twin.marked, shown), is)
 
   pub quotient_of : Quotient rel (system_of g) (system_from 0 n.count g.labels es)

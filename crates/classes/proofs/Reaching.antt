@@ -123,7 +123,8 @@ MarksState-after s t next old queue new pushed (inr (unmarked, sets, inl w)) = i
 MarksState-after s t next old queue new pushed (inr (unmarked, sets, inr w)) = inr (unmarked, sets, inr (w.0, ap (λ ws. s ∷ ws) w.1))
 
 -- a state that a step of s leads to is marked
-pub Searches-step : (g : Grouped) (s t next : ℕ) (old : List Bool) (queue : List ℕ) (new : List Bool) (pushed : List ℕ) → t < length old →
+pub Searches-step : (g : Grouped) (s t next : ℕ) (old : List Bool) (queue : List ℕ) (new : List Bool)
+    (pushed : List ℕ) → t < length old →
     (Reachable (system_of g) s → Reachable (system_of g) t) → Searches g old next (s ∷ queue) →
     MarksState t next old queue new pushed → Searches g new next (s ∷ pushed)
 Searches-step g s t next old queue new pushed below on search marks =
@@ -132,8 +133,10 @@ Searches-step g s t next old queue new pushed below on search marks =
     (MarksState-after s t next old queue new pushed marks)
 
 -- then the targets of a row are marked up to and with this one
-pub targets_marked : (t next : ℕ) (old : List Bool) (queue : List ℕ) (new : List Bool) (pushed : List ℕ) → t < length old →
-    MarksState t next old queue new pushed → (row more : List Triple) (e : Triple) → more ≡ row ++ e ∷ [] → t ≡ target_of e →
+pub targets_marked : (t next : ℕ) (old : List Bool) (queue : List ℕ) (new : List Bool) (pushed : List ℕ) →
+    t < length old →
+    MarksState t next old queue new pushed → (row more : List Triple) (e : Triple) → more ≡ row ++ e ∷ [] →
+    t ≡ target_of e →
     All (λ e. IsMarked old (target_of e)) row → All (λ e. IsMarked new (target_of e)) more
 targets_marked t next old queue new pushed below marks row more e is target read =
     let marked = λ (e : Triple). IsMarked new (target_of e) in

@@ -22,10 +22,12 @@ module _ (rows : Numbered) (s : ℕ) where
       let from = mapped_contains (between_numbers rows.numbers s) (row_of s rows.l.places) x shows.0 in
       record { place = from.0; in_row = from.1; is = from.2; stays = shows.1 }
 
-  pub shown_place : (e : Triple) → Contains (row_of s rows.l.places) e → not (is_left_out rows.dropped (between_numbers rows.numbers s e)) ≡ true →
+  pub shown_place : (e : Triple) → Contains (row_of s rows.l.places) e →
+      not (is_left_out rows.dropped (between_numbers rows.numbers s e)) ≡ true →
       Contains (shown_by rows s) (between_numbers rows.numbers s e)
   shown_place e c stays =
-      contains_passing (λ y. not (is_left_out rows.dropped y)) (map (between_numbers rows.numbers s) (row_of s rows.l.places)) (between_numbers rows.numbers s e)
+      contains_passing (λ y. not (is_left_out rows.dropped y))
+      (map (between_numbers rows.numbers s) (row_of s rows.l.places)) (between_numbers rows.numbers s e)
       (contains_mapped (between_numbers rows.numbers s) (row_of s rows.l.places) e c) stays
 
   -- it is no more than the row
@@ -44,7 +46,8 @@ module _ (rows : Numbered) (s : ℕ) (old new : List Triple) (e x : Triple) (mor
   shown_more = rw (more, map-append, filter-append, is) refl
 
   -- after what the list had
-  pub shown_left_out : (had list : List Triple) → list ≡ had ++ shown_in rows s old → is_left_out rows.dropped x ≡ true →
+  pub shown_left_out : (had list : List Triple) → list ≡ had ++ shown_in rows s old →
+      is_left_out rows.dropped x ≡ true →
       list ≡ had ++ shown_in rows s new
   shown_left_out had list h out = rw (shown_more, out, append-nil) h
 

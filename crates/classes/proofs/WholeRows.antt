@@ -28,14 +28,17 @@ dropped_is Branching A labels x s t a label same = (λ h. (sym label ∙ h.0, sa
 
 -- if a row shows as many transitions as it has, none is left out
 whole_row : (rows : Numbered) (s : ℕ) → LeavesNothingOut rows s →
-    (e : Triple) → Contains (row_of s rows.l.places) e → ¬ (is_left_out rows.dropped (between_numbers rows.numbers s e) ≡ true)
+    (e : Triple) → Contains (row_of s rows.l.places) e →
+    ¬ (is_left_out rows.dropped (between_numbers rows.numbers s e) ≡ true)
 whole_row rows s whole e c gone =
     let row = row_of s rows.l.places in
     let triples : List Triple = map (between_numbers rows.numbers s) row in
     let out = λ (x : Triple). is_left_out rows.dropped x in
     let counts = length-filter_both out (λ x. not (out x)) (λ x. refl) triples in
-    let none : length (filter out triples) ≡ 0 = omega (arith, counts, whole, length-map row (between_numbers rows.numbers s)) in
-    let found = contains_passing out triples (between_numbers rows.numbers s e) (contains_mapped (between_numbers rows.numbers s) row e c) gone in
+    let long = length-map row (between_numbers rows.numbers s) in
+    let none : length (filter out triples) ≡ 0 = omega (arith, counts, whole, long) in
+    let found = contains_passing out triples (between_numbers rows.numbers s e)
+    (contains_mapped (between_numbers rows.numbers s) row e c) gone in
     absurd (omega (arith, none, found.1))
 
 module _ (rel : Relation) (g : Grouped) (n : Numbering) (laws : Laws rel g) (num : IsNumbering rel (system_of g) n)

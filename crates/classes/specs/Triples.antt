@@ -38,7 +38,8 @@ LeavesNothingOut rows s = length (shown_by rows s) ≡ length (row_of s rows.l.p
 
 -- unless a step of s is left out, the row of s shows also what that of t does
 abbrev pub ShowsAlso : Numbered → ℕ → ℕ → Type 0
-ShowsAlso rows s t = LeavesNothingOut rows s → (x : Triple) → Contains (shown_by rows t) x → Contains (shown_by rows s) x
+ShowsAlso rows s t = LeavesNothingOut rows s → (x : Triple) → Contains (shown_by rows t) x →
+    Contains (shown_by rows s) x
 
 -- the row of a marked state shows x
 abbrev pub IsShownByMarked : Numbered → List Bool → Triple → Type 0

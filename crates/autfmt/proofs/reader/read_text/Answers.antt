@@ -24,7 +24,8 @@ front g c = c.in_ok-promise.ensures.header.given ++ c.in_ok-held.ensures.transit
 
 -- the transitions in it
 transitions : (g : Over) (c : After-is_at_end g) → (es : List Transition)
-    × HeldSoFar c.args.lim.now c.args.h.now (front g c) c.in_ok-promise.promise (c.read_transitions.new.cutter, c.in_ok-held.held) es
+    × HeldSoFar c.args.lim.now c.args.h.now (front g c) c.in_ok-promise.promise
+    (c.read_transitions.new.cutter, c.in_ok-held.held) es
 transitions g c =
     let first = c.in_ok-promise.ensures.header in
     c.in_ok-held.ensures.transitions.2 c.args.lim.now first.given first.outcome
@@ -36,7 +37,8 @@ count g c =
     count_held c.args.h.now p.states c.in_ok-held.held es p.transitions so_far.1 (sym c.in_ok-held.ensures.len)
 
 -- with what the look took
-took : (g : Over) (c : After-is_at_end g) (last : List ℕ) → Consumes (g.R.Source.rest c.read_transitions.new.r) (g.R.Source.rest c.is_at_end.new.r) last →
+took : (g : Over) (c : After-is_at_end g) (last : List ℕ) →
+    Consumes (g.R.Source.rest c.read_transitions.new.r) (g.R.Source.rest c.is_at_end.new.r) last →
     Consumes (g.R.Source.rest c.args.r.now) (g.R.Source.rest c.is_at_end.new.r) (front g c ++ last)
 took g c last taken =
     let first = c.in_ok-promise.ensures.header in

@@ -26,7 +26,8 @@ put_row-requires-clause-ranks g c =
 pub returns-in_err-waiting-clause-err : goal.returns-in_err-waiting-clause-err
 returns-in_err-waiting-clause-err g c =
     let row = next_row c.known.ensures c.requires.words c.read_row.new.row.items c.loop-source.invariant.rows (rw c.deref.ensures.value at c.read_row.ensures.same) c.read_row.ensures.sorted (nothing_put _ _) in
-    on_err c.from_residual.result (rows_begun c.known.ensures c.requires.words (g.W.Sink.written c.put_row.new.w) row (rw c.deref-transitions.ensures.value at c.in_err-waiting.ensures.err))
+    on_err c.from_residual.result (rows_begun c.known.ensures c.requires.words (g.W.Sink.written c.put_row.new.w) row
+    (rw c.deref-transitions.ensures.value at c.in_err-waiting.ensures.err))
 
 pub loop-source-preserved : goal.loop-source-preserved
 loop-source-preserved g c =

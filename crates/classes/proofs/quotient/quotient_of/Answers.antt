@@ -32,13 +32,15 @@ laws g c =
     }
 
 -- the rows that are read are enough
-enough : (g : Over) (c : After-dropped-dropped g) → AreEnough c.args.l.now c.args.numbering.now.numbers.items c.sources-sources.result.now
+enough : (g : Over) (c : After-dropped-dropped g) →
+    AreEnough c.args.l.now c.args.numbering.now.numbers.items c.sources-sources.result.now
 enough g c =
     subst (AreEnough c.args.l.now c.args.numbering.now.numbers.items) (sym c.sources-sources.ensures)
     (rows_enough c.args.r c.args.l.now c.args.numbering.now (laws g c) c.requires.numbering)
 
 drops : (g : Over) (c : After-dropped-dropped g) → IsDroppedLabel c.args.r c.args.l.now.labels c.dropped-dropped.result
-drops g c = subst (λ labels. IsDroppedLabel c.args.r labels c.dropped-dropped.result) c.labels.ensures c.dropped-dropped.ensures
+drops g c = subst (λ labels. IsDroppedLabel c.args.r labels c.dropped-dropped.result) c.labels.ensures
+    c.dropped-dropped.ensures
 
 -- the members, and no more rows than all
 are : (g : Over) (c : In_ok-members g) →
@@ -64,24 +66,29 @@ shown_transitions-requires-clause-whole g c =
     let is = are g goals.In_ok-members in
     let also = members_show_also c.args.r c.args.l.now c.args.numbering.now (laws g at) c.requires.numbering
     c.sources-sources.result.now (enough g at) c.dropped-dropped.result (drops g at) in
-    rw (c.new-rows.ensures, c.deref-2.ensures.value, c.deref-3.ensures.value) (λ p q cp cq. also p q ((is.exactly p).0 cp) ((is.exactly q).0 cq))
+    rw (c.new-rows.ensures, c.deref-2.ensures.value, c.deref-3.ensures.value)
+    (λ p q cp cq. also p q ((is.exactly p).0 cp) ((is.exactly q).0 cq))
 
 pub shown_transitions-requires-clause-room : goal.shown_transitions-requires-clause-room
 shown_transitions-requires-clause-room g c =
     let few = few g (goal.at.shown_transitions-requires-clause-room g c).In_ok-members in
-    rw (c.new-rows.ensures, c.deref-3.ensures.value) (record { for_rounds = c.requires.room.for_rounds; for_visits = omega (arith, few, c.requires.room.for_visits) })
+    rw (c.new-rows.ensures, c.deref-3.ensures.value)
+    (record { for_rounds = c.requires.room.for_rounds; for_visits = omega (arith, few, c.requires.room.for_visits) })
 
 pub shown_transitions-requires-clause-few : goal.shown_transitions-requires-clause-few
 shown_transitions-requires-clause-few g c =
-    rw (c.new-rows.ensures, c.deref-3.ensures.value) (few g (goal.at.shown_transitions-requires-clause-few g c).In_ok-members)
+    let at = (goal.at.shown_transitions-requires-clause-few g c).In_ok-members in
+    rw (c.new-rows.ensures, c.deref-3.ensures.value) (few g at)
 
 pub by_number-requires-clause-below : goal.by_number-requires-clause-below
 by_number-requires-clause-below g c =
     let enough = enough g (goal.at.by_number-requires-clause-below g c).After-dropped-dropped in
-    rw (c.deref.ensures.value, c.states.ensures.value) (λ t l marked. c.requires.numbering.below t (enough.only t l marked))
+    rw (c.deref.ensures.value, c.states.ensures.value)
+    (λ t l marked. c.requires.numbering.below t (enough.only t l marked))
 
 -- what was shown, over the numbers themselves
-shown : (g : Over) (c : In_ok-shown g) → HasShown (numbered_rows c.args.l.now c.args.numbering.now.numbers.items c.dropped-dropped.result)
+shown : (g : Over) (c : In_ok-shown g) → HasShown (numbered_rows c.args.l.now c.args.numbering.now.numbers.items
+    c.dropped-dropped.result)
     c.in_ok-members.members.items c.in_ok-shown.shown
 shown g c = rw (c.new-rows.ensures, c.deref-2.ensures.value, c.deref-3.ensures.value) at c.in_ok-shown.ensures.shown
 
@@ -115,8 +122,10 @@ returns-clause-fewer_transitions g c =
 
 pub returns-in_err-shown-clause-visits : goal.returns-in_err-shown-clause-visits
 returns-in_err-shown-clause-visits g c =
-    visits_at_most _ _ _ _ (few g (goal.at.returns-in_err-shown-clause-visits g c).In_ok-members) (rw (c.new-rows.ensures, c.deref-3.ensures.value) at c.shown_transitions.ensures.visits)
+    visits_at_most _ _ _ _ (few g (goal.at.returns-in_err-shown-clause-visits g c).In_ok-members)
+    (rw (c.new-rows.ensures, c.deref-3.ensures.value) at c.shown_transitions.ensures.visits)
 
 pub returns-clause-visits : goal.returns-clause-visits
 returns-clause-visits g c =
-    visits_at_most _ _ _ _ (few g (goal.at.returns-clause-visits g c).In_ok-members) (rw (c.new-rows.ensures, c.deref-3.ensures.value) at c.shown_transitions.ensures.visits)
+    visits_at_most _ _ _ _ (few g (goal.at.returns-clause-visits g c).In_ok-members)
+    (rw (c.new-rows.ensures, c.deref-3.ensures.value) at c.shown_transitions.ensures.visits)

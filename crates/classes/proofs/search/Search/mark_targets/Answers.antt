@@ -21,7 +21,8 @@ below g c =
     omega (arith, place.target, c.edge-target.ensures.target, c.loop-k.invariant.search.size)
 
 -- a step of the state whose row is read leads to it
-led_to : (g : Over) (c : In_ok-mark g) → Reachable (system_of c.args.l.now) c.args.s → Reachable (system_of c.args.l.now) c.edge-target.result.1
+led_to : (g : Over) (c : In_ok-mark g) → Reachable (system_of c.args.l.now) c.args.s →
+    Reachable (system_of c.args.l.now) c.edge-target.result.1
 led_to g c from =
     let l = c.args.l.now in
     let s = c.args.s in
@@ -29,9 +30,11 @@ led_to g c from =
     let a = text_of l.labels (label_of e) in
     let at : c.loop-k.k < length l.places = omega (arith, c.row-start.ensures.within) in
     let own = (c.row-start.ensures.exactly c.loop-k.k at).1 (omega (arith, c.loop-k.auto.k), omega arith) in
-    let in_row = (c.rows_are_steps.ensures.sources s l.places e).1 (Contains-get_or l.places c.loop-k.k (0, 0, 0) at, own) in
+    let in_row = (c.rows_are_steps.ensures.sources s l.places e).1
+    (Contains-get_or l.places c.loop-k.k (0, 0, 0) at, own) in
     c.steps_keep_reachable.ensures.step (system_of l) s a c.edge-target.result.1 from
-    ((c.rows_are_steps.ensures.steps l s a c.edge-target.result.1).1 (e, in_row, refl, sym c.edge-target.ensures.target))
+    ((c.rows_are_steps.ensures.steps l s a c.edge-target.result.1).1
+    (e, in_row, refl, sym c.edge-target.ensures.target))
 
 pub loop-k-preserved : goal.loop-k-preserved
 loop-k-preserved g c =
@@ -40,14 +43,22 @@ loop-k-preserved g c =
     let t = c.edge-target.result.1 in
     let places = c.args.l.now.places in
     let marks = c.in_ok-mark.ensures in
-    let more = c.rows_follow.ensures.inside places c.args.s _ _ c.loop-k.k c.row-start.ensures (omega (arith, c.loop-k.auto.k)) (omega arith) in
+    let more = c.rows_follow.ensures.inside places c.args.s _ _ c.loop-k.k c.row-start.ensures
+    (omega (arith, c.loop-k.auto.k)) (omega arith) in
     record {
-      search = Searches-step c.args.l.now c.args.s t c.args.next old.marked.items old.queue.items _ _ (below g at) (led_to g at)
+      search = Searches-step c.args.l.now c.args.s t c.args.next old.marked.items old.queue.items _ _ (below g at)
+          (led_to g at)
           c.loop-k.invariant.search marks;
-      read = targets_marked t c.args.next old.marked.items old.queue.items _ _ (below g at) marks _ _ (place_at places c.loop-k.k) more
+      read = targets_marked t c.args.next old.marked.items old.queue.items _ _ (below g at) marks _ _
+          (place_at places c.loop-k.k) more
           c.edge-target.ensures.target c.loop-k.invariant.read;
-      states = omega (arith, states_ahead-marks t c.args.next old.marked.items old.queue.items _ _ (below g at) marks, c.loop-k.invariant.states);
-      places = places_ahead-marks places t c.args.next old.marked.items old.queue.items _ _ (below g at) marks ∙ c.loop-k.invariant.places;
+      states = omega (
+        arith,
+        states_ahead-marks t c.args.next old.marked.items old.queue.items _ _ (below g at) marks,
+        c.loop-k.invariant.states,
+      );
+      places = places_ahead-marks places t c.args.next old.marked.items old.queue.items _ _ (below g at) marks
+          ∙ c.loop-k.invariant.places;
       visits = let range = c.loop-k.auto.k in search rules;
     }
 
