@@ -10,17 +10,20 @@ use Rattle.theory.specs.Quotient.{HowMany, Leader, IsLeader, Number}
 use Rattle.classes.specs.Marked.{IsMarked}
 use Rattle.classes.specs.Numbers.{IsNumbering, BeginsClass, JoinsClass, TakesState}
 use Rattle.classes.specs.declared.numbering.Numbering.{Numbering}
+use Rattle.classes.specs.declared.numbering.Numbers.{Numbers}
 use Rattle.classes.specs.declared.numbering.TheConstants.{NONE}
 use Rattle.theory.proofs.CallerLemmas.{is_leader_itself}
 use Rattle.classes.proofs.Lists.{each_pushed}
 
 -- what the next state leaves, whatever the relation: numbers for as many blocks, and at most one number more
-pub TakesState-within : (b : ℕ) (reached first : Bool) (old new : Numbering) → TakesState b reached first old new → (states : ℕ) (block : ℕ → ℕ) →
+pub TakesState-within : (b : ℕ) (reached first : Bool) (old new : Numbers) → TakesState b reached first old new →
+    (states : ℕ) (block : ℕ → ℕ) →
     ((t : ℕ) → t < states → block t < length old.by_block.items) → (t : ℕ) → t < states → block t < length new.by_block.items
 TakesState-within b reached first old new (inl o) states block within t l = rw o.by_block (omega (arith, length-set {A = ℕ}, within t l))
 TakesState-within b reached first old new (inr f) states block within t l = rw f.by_block (within t l)
 
-pub TakesState-few : (b : ℕ) (reached first : Bool) (old new : Numbering) → TakesState b reached first old new → new.count ≤ old.count + 1
+pub TakesState-few : (b : ℕ) (reached first : Bool) (old new : Numbers) → TakesState b reached first old new →
+    new.count ≤ old.count + 1
 TakesState-few b reached first old new (inl o) = omega (arith, o.count)
 TakesState-few b reached first old new (inr f) = omega (arith, f.count)
 
@@ -55,7 +58,7 @@ pub record Earlier (rel : Relation) (A : System) (block : ℕ → ℕ) (s t coun
   pub below : k < count
 
 -- the states below s have their numbers, and the blocks of those that are reachable
-pub record Taken (rel : Relation) (A : System) (block : ℕ → ℕ) (s : ℕ) (n : Numbering) : Type 0 where
+pub record Taken (rel : Relation) (A : System) (block : ℕ → ℕ) (s : ℕ) (n : Numbers) : Type 0 where
   pub numbers_long : length n.numbers.items ≡ s
   pub leads_long : length n.leads.items ≡ s
   pub first : slice_index n.by_block.items (block A.first) ≢ NONE
@@ -121,7 +124,8 @@ module _ (rel : Relation) (A : System) (block : ℕ → ℕ) (laws : Laws rel A 
   }
 
   -- the state s has an earlier one in its block
-  module _ (s : ℕ) (old new : Numbering) (reached first : Bool) (is_first : IsTrue first ↔ (s ≡ A.first)) (is_reached : IsTrue reached ↔ Reachable A s)
+  module _ (s : ℕ) (old new : Numbers) (reached first : Bool) (is_first : IsTrue first ↔ (s ≡ A.first))
+      (is_reached : IsTrue reached ↔ Reachable A s)
       (ls : s < A.states) (few : old.count ≤ s + 1) (h : Taken rel A block s old) (f : JoinsClass (block s) reached first old new) where
     follows_not_other : ¬ (IsLeader rel A s × (s ≢ A.first))
     follows_not_other (lead, other) =
@@ -157,7 +161,7 @@ module _ (rel : Relation) (A : System) (block : ℕ → ℕ) (laws : Laws rel A 
     }
 
   -- the state s is the first one reached in its block
-  module _ (s : ℕ) (old new : Numbering) (reached : Bool) (is_reached : IsTrue reached ↔ Reachable A s)
+  module _ (s : ℕ) (old new : Numbers) (reached : Bool) (is_reached : IsTrue reached ↔ Reachable A s)
       (ls : s < A.states) (low : s + 1 < NONE) (few : old.count ≤ s + 1) (within : block s < length old.by_block.items)
       (h : Taken rel A block s old) (o : BeginsClass (block s) reached old new) where
     opens_way : Reachable A s
@@ -229,7 +233,8 @@ module _ (rel : Relation) (A : System) (block : ℕ → ℕ) (laws : Laws rel A 
     }
 
   -- before the first state was taken, only its block has a number
-  pub Taken-start : (count : ℕ) (n : Numbering) → ((t : ℕ) → t < A.states → block t < count) → n.by_block.items ≡ set (replicate count NONE) (block A.first) 0 →
+  pub Taken-start : (count : ℕ) (n : Numbers) → ((t : ℕ) → t < A.states → block t < count) →
+      n.by_block.items ≡ set (replicate count NONE) (block A.first) 0 →
       n.numbers.items ≡ [] → n.leads.items ≡ [] → n.count ≡ 1 → Taken rel A block 0 n
   Taken-start count n within by_block numbers leads one = record {
     numbers_long = ap length numbers;
@@ -259,19 +264,28 @@ module _ (rel : Relation) (A : System) (block : ℕ → ℕ) (laws : Laws rel A 
       at = get_or-set_same (replicate count NONE) (block A.first) 0 0 (omega (arith, length-replicate {A = ℕ}, within A.first laws.system.first))
 
   -- when all states were taken, they have their numbers
-  pub Taken-end : (n : Numbering) → Taken rel A block A.states n → IsNumbering rel A n
-  Taken-end n h = record {
-    numbers_long = h.numbers_long;
-    leads_long = h.leads_long;
-    number = λ s way. (h.numbers s (laws.below s way) way).0;
-    below = λ s way. (h.numbers s (laws.below s way) way).1;
-    leader = h.leaders;
-    counted = subst (HowMany (IsLeader rel A)) (sym h.counted.2) (laws.counting.all h.counted.0 h.counted.1);
-    few = h.fewer laws.system.first;
-  }
+  pub Taken-end : (n : Numbers) (made : Numbering) → made.numbers.items ≡ n.numbers.items →
+      made.leads.items ≡ n.leads.items → made.count ≡ n.count →
+      length made.reached.items ≡ A.states → ((s : ℕ) → s < A.states → IsMarked made.reached.items s ↔ Reachable A s) →
+      Taken rel A block A.states n → IsNumbering rel A made
+  Taken-end n made numbers leads count long reached h =
+      let all = subst (HowMany (IsLeader rel A)) (sym (count ∙ h.counted.2))
+      (laws.counting.all h.counted.0 h.counted.1) in
+      record {
+        numbers_long = ap length numbers ∙ h.numbers_long;
+        leads_long = ap length leads ∙ h.leads_long;
+        reached_long = long;
+        number = λ s way. rw numbers (h.numbers s (laws.below s way) way).0;
+        below = λ s way. rw (numbers, count) (h.numbers s (laws.below s way) way).1;
+        leader = λ s l. rw leads (h.leaders s l);
+        reached = reached;
+        counted = all;
+        few = rw count (h.fewer laws.system.first);
+      }
 
   -- one state more
-  pub Taken-adds : (s b : ℕ) (old new : Numbering) (reached first : Bool) → b ≡ block s → (IsTrue first ↔ (s ≡ A.first)) → (IsTrue reached ↔ Reachable A s) →
+  pub Taken-adds : (s b : ℕ) (old new : Numbers) (reached first : Bool) → b ≡ block s →
+      (IsTrue first ↔ (s ≡ A.first)) → (IsTrue reached ↔ Reachable A s) →
       s < A.states → s + 1 < NONE → old.count ≤ s + 1 → block s < length old.by_block.items →
       Taken rel A block s old → TakesState b reached first old new → Taken rel A block (s + 1) new
   Taken-adds s b old new reached first at is_first is_reached ls low few within h adds = elim (subst (λ x. TakesState x reached first old new) at adds) [

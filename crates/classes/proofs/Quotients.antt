@@ -15,7 +15,7 @@ use Rattle.lts.specs.Lts.{Triple, source_of, label_of, target_of, row_of, transi
 use Rattle.classes.specs.Marked.{IsMarked}
 use Rattle.classes.specs.Reading.{sources_of, IsDroppedLabel}
 use Rattle.classes.specs.Numbers.{IsNumbering}
-use Rattle.classes.specs.Triples.{Member, between_numbers, is_left_out, IsShownBelow, AreMembers, HasShown}
+use Rattle.classes.specs.Triples.{Member, numbered_rows, between_numbers, is_left_out, IsShownByMarked, AreMembers, HasShown}
 use Rattle.classes.proofs.Members.{members_show}
 use Rattle.classes.specs.declared.numbering.Numbering.{Numbering}
 use Rattle.theory.proofs.CallerLemmas.{leader_fellow, is_leader_itself, quotient_reordered}
@@ -114,10 +114,10 @@ leaders_enough g n laws num = record {
 }
 
 -- the rows that are read are enough
-pub rows_enough : (rel : Relation) (g : Grouped) (n : Numbering) (reached : List Bool) → Laws rel g → IsNumbering rel (system_of g) n →
-    ((s : ℕ) → s < g.states → IsMarked reached s ↔ Reachable (system_of g) s) → AreEnough g n.numbers.items (sources_of rel n.leads.items reached)
-rows_enough Strong g n reached laws num is = leaders_enough g n laws num
-rows_enough Branching g n reached laws num is = reached_enough Branching g n laws num reached is
+pub rows_enough : (rel : Relation) (g : Grouped) (n : Numbering) → Laws rel g → IsNumbering rel (system_of g) n →
+    AreEnough g n.numbers.items (sources_of rel n.leads.items n.reached.items)
+rows_enough Strong g n laws num = leaders_enough g n laws num
+rows_enough Branching g n laws num = reached_enough Branching g n laws num n.reached.items num.reached
 
 -- what is left out is what the relation drops
 pub left_out_is : (rel : Relation) (labels : List (List ℕ)) (dropped : Option ℕ) → IsTable labels → IsDroppedLabel rel labels dropped →
@@ -146,15 +146,16 @@ pub record Parts (rel : Relation) (g : Grouped) (n : Numbering) (sources : List 
   pub numbering : IsNumbering rel (system_of g) n
   pub enough : AreEnough g n.numbers.items sources
   pub drops : IsDroppedLabel rel g.labels dropped
-  pub exactly : (x : Triple) → Contains es x ↔ IsShownBelow n.numbers.items sources dropped g.places g.states x
+  pub exactly : (x : Triple) → Contains es x ↔ IsShownByMarked (numbered_rows g n.numbers.items dropped) sources x
   pub once : AllPairs (λ x y. x ≢ y) es
 
 -- what the rows of the members show is what those of the marked states do
 pub Parts-shown : (rel : Relation) (g : Grouped) (n : Numbering) (sources : List Bool) (dropped : Option ℕ) (es : List Triple) (members : List Member) →
     Laws rel g → IsNumbering rel (system_of g) n → AreEnough g n.numbers.items sources → IsDroppedLabel rel g.labels dropped →
-    AreMembers n.numbers.items sources g.states members → HasShown n.numbers.items dropped g.places members es → Parts rel g n sources dropped es
+    AreMembers n.numbers.items sources g.states members →
+    HasShown (numbered_rows g n.numbers.items dropped) members es → Parts rel g n sources dropped es
 Parts-shown rel g n sources dropped es members laws numbering enough drops are has =
-    let same = members_show n.numbers.items sources dropped g.places g.states members are in
+    let same = members_show (numbered_rows g n.numbers.items dropped) sources members are in
     record {
       laws = laws;
       numbering = numbering;
@@ -171,7 +172,8 @@ module _ (rel : Relation) (g : Grouped) (n : Numbering) (sources : List Bool) (d
       (label_of x < length g.labels) × Stands rel (system_of g) (transition_of g.labels x) × ¬ IsDropped rel (transition_of g.labels x)
   triple_is x c =
       let h = (p.exactly x).0 c in
-      let from : ShownPlace n.numbers.items dropped g.places h.0 x = place_of n.numbers.items dropped g.places h.0 x h.3 in
+      let from : ShownPlace (numbered_rows g n.numbers.items dropped) h.0 x =
+      place_of (numbered_rows g n.numbers.items dropped) h.0 x h.3 in
       let way : Reachable (system_of g) h.0 = p.enough.only h.0 h.1 h.2 in
       let label = text_of g.labels (label_of from.place) in
       let step = (p.laws.steps h.0 label (target_of from.place)).1 (from.place, from.in_row, refl, refl) in
@@ -199,7 +201,8 @@ module _ (rel : Relation) (g : Grouped) (n : Numbering) (sources : List Bool) (d
       let triple = All-contains (IsTriple (length g.labels) g.states) g.places place.0 p.laws.lts.in_range.each ((p.laws.sources twin.source g.places place.0).0 place.1).0 in
       let out : ¬ (is_left_out dropped x ≡ true) =
       λ gone. stays (subst (IsDropped rel) is ((left_out_is rel g.labels dropped p.laws.lts.table p.drops x triple.label).0 gone)) in
-      let shown = shown_place n.numbers.items dropped g.places twin.source place.0 place.1 (not_from_false _ (false_from_ne_true _ out)) in
+      let shown = shown_place (numbered_rows g n.numbers.items dropped) twin.source place.0 place.1
+      (not_from_false _ (false_from_ne_true _ out)) in
       (x, (p.exactly x).1 (twin.source, twin.low, twin.marked, shown), is)
 
   pub quotient_of : Quotient rel (system_of g) (system_from 0 n.count g.labels es)

@@ -1,13 +1,13 @@
 -- What a step of the search leaves: its marks, and what is still to be read.
-use Rattle.std.proofs.Common.{◌≡◌, ◌≢◌, ◌⊎◌, ◌∙◌, ◌↔◌, ℕ, zero, suc, ◌+◌, ◌<◌, ◌≤◌, Bool, true, false, cond, not, ◌&&◌, eqb, ltb, List, [], ◌∷◌, length, get_or, set, replicate, Contains, sym, ap, subst, refl, inl, inr, arith, rules}
+use Rattle.std.proofs.Common.{◌≡◌, ◌≢◌, ◌⊎◌, ◌∙◌, ◌↔◌, ℕ, zero, suc, ◌+◌, ◌<◌, ◌≤◌, Bool, true, false, cond, not, ◌&&◌, eqb, ltb, List, [], ◌∷◌, ◌++◌, length, All, get_or, set, replicate, Contains, sym, ap, subst, refl, inl, inr, arith, rules}
 use Rattle.std.specs.List.{filter}
 use Rattle.std.proofs.lemmas.Grind.{get_or-set_at}
 use Rattle.std.proofs.lemmas.Bool.{cases_eq, cases_lt, both_ways, eq-eqb, ne_eqb, lt-ltb, le-ltb, false_from_ne_true}
 use Rattle.std.proofs.lemmas.List.{get_or-set_same, get_or-set_other, length-replicate, get_or_past, length_push, length-set}
-use Rattle.std.proofs.lemmas.List.Elements.{Contains-push, Contains-push_cases, Contains-append_left, filter_agree}
+use Rattle.std.proofs.lemmas.List.Elements.{All-push, All-weaker, Contains-push, Contains-push_cases, Contains-append_left, filter_agree}
 use Rattle.std.proofs.lemmas.List.Sums.{sum_by_push, sum_by-set, length-filter, count_by-le-length}
 use Rattle.theory.specs.System.{Step, Reachable}
-use Rattle.lts.specs.Lts.{Triple, source_of, row_of, Grouped, system_of}
+use Rattle.lts.specs.Lts.{Triple, source_of, target_of, row_of, Grouped, system_of}
 use Rattle.classes.specs.Marked.{IsMarked}
 use Rattle.theory.proofs.CallerLemmas.{contains_here, contains_there, contains_cases, contains_none}
 use Rattle.lts.proofs.CallerLemmas.{length-filter-sum}
@@ -121,6 +121,29 @@ pub MarksState-after : (s t next : ℕ) (old : List Bool) (queue : List ℕ) (ne
 MarksState-after s t next old queue new pushed (inl h) = inl (h.0, h.1, ap (λ ws. s ∷ ws) h.2)
 MarksState-after s t next old queue new pushed (inr (unmarked, sets, inl w)) = inr (unmarked, sets, inl (w.0, ap (λ ws. s ∷ ws) w.1))
 MarksState-after s t next old queue new pushed (inr (unmarked, sets, inr w)) = inr (unmarked, sets, inr (w.0, ap (λ ws. s ∷ ws) w.1))
+
+-- a state that a step of s leads to is marked
+pub Searches-step : (g : Grouped) (s t next : ℕ) (old : List Bool) (queue : List ℕ) (new : List Bool)
+    (pushed : List ℕ) → t < length old →
+    (Reachable (system_of g) s → Reachable (system_of g) t) → Searches g old next (s ∷ queue) →
+    MarksState t next old queue new pushed → Searches g new next (s ∷ pushed)
+Searches-step g s t next old queue new pushed below on search marks =
+    Searches-mark g t next old (s ∷ queue) new (s ∷ pushed) below
+    (on (search.only_reachable s (search.each_waiting s (contains_here s queue)))) search
+    (MarksState-after s t next old queue new pushed marks)
+
+-- then the targets of a row are marked up to and with this one
+pub targets_marked : (t next : ℕ) (old : List Bool) (queue : List ℕ) (new : List Bool) (pushed : List ℕ) →
+    t < length old →
+    MarksState t next old queue new pushed → (row more : List Triple) (e : Triple) → more ≡ row ++ e ∷ [] →
+    t ≡ target_of e →
+    All (λ e. IsMarked old (target_of e)) row → All (λ e. IsMarked new (target_of e)) more
+targets_marked t next old queue new pushed below marks row more e is target read =
+    let marked = λ (e : Triple). IsMarked new (target_of e) in
+    let keeps = MarksState-keeps t next old queue new pushed marks below in
+    subst (All marked) (sym is)
+    (All-push marked row e (All-weaker (λ e. IsMarked old (target_of e)) marked (λ e m. keeps (target_of e) m) row read)
+    (subst (IsMarked new) target (MarksState-self t next old queue new pushed marks below)))
 
 -- the whole row of s was read
 pub Searches-read : (g : Grouped) (s next : ℕ) (marked : List Bool) (queue : List ℕ) → ((a : List ℕ) (t : ℕ) → Step (system_of g) s a t → IsMarked marked t) →

@@ -1,54 +1,57 @@
 -- What a row shows between numbers: one place more, and what a triple that is shown stands for.
-use Rattle.std.proofs.Common.{◌≡◌, ◌∙◌, ℕ, ◌≤◌, true, false, cond, not, Option, List, [], ◌∷◌, ◌++◌, length, map, Contains, refl, ap, arith}
+use Rattle.std.proofs.Common.{◌≡◌, ◌∙◌, ℕ, ◌≤◌, true, false, cond, not, List, [], ◌∷◌, ◌++◌, length, map, Contains, refl, ap, arith}
 use Rattle.std.proofs.lemmas.List.Elements.{filter-append}
 use Rattle.std.proofs.lemmas.List.{length-map, map-append, append-nil, append_assoc}
 use Rattle.std.proofs.lemmas.List.Sums.{length-filter, count_by-le-length}
 use Rattle.lts.specs.Lts.{Triple, row_of}
-use Rattle.classes.specs.Triples.{between_numbers, is_left_out, shown_in, shown_by}
+use Rattle.classes.specs.Triples.{Numbered, between_numbers, is_left_out, shown_in, shown_by}
 use Rattle.lts.proofs.CallerLemmas.{contains_mapped, mapped_contains, contains_passing, passing_contains}
 
 -- what is shown stands in a place of the row, and is not left out
-pub record ShownPlace (numbers : List ℕ) (dropped : Option ℕ) (places : List Triple) (s : ℕ) (x : Triple) : Type 0 where
+pub record ShownPlace (rows : Numbered) (s : ℕ) (x : Triple) : Type 0 where
   pub place : Triple
-  pub in_row : Contains (row_of s places) place
-  pub is : between_numbers numbers s place ≡ x
-  pub stays : not (is_left_out dropped x) ≡ true
+  pub in_row : Contains (row_of s rows.l.places) place
+  pub is : between_numbers rows.numbers s place ≡ x
+  pub stays : not (is_left_out rows.dropped x) ≡ true
 
-module _ (numbers : List ℕ) (dropped : Option ℕ) (places : List Triple) (s : ℕ) where
-  pub place_of : (x : Triple) → Contains (shown_by numbers dropped places s) x → ShownPlace numbers dropped places s x
+module _ (rows : Numbered) (s : ℕ) where
+  pub place_of : (x : Triple) → Contains (shown_by rows s) x → ShownPlace rows s x
   place_of x c =
-      let kept = λ (y : Triple). not (is_left_out dropped y) in
-      let shows = passing_contains kept (map (between_numbers numbers s) (row_of s places)) x c in
-      let from = mapped_contains (between_numbers numbers s) (row_of s places) x shows.0 in
+      let kept = λ (y : Triple). not (is_left_out rows.dropped y) in
+      let shows = passing_contains kept (map (between_numbers rows.numbers s) (row_of s rows.l.places)) x c in
+      let from = mapped_contains (between_numbers rows.numbers s) (row_of s rows.l.places) x shows.0 in
       record { place = from.0; in_row = from.1; is = from.2; stays = shows.1 }
 
-  pub shown_place : (e : Triple) → Contains (row_of s places) e → not (is_left_out dropped (between_numbers numbers s e)) ≡ true →
-      Contains (shown_by numbers dropped places s) (between_numbers numbers s e)
+  pub shown_place : (e : Triple) → Contains (row_of s rows.l.places) e →
+      not (is_left_out rows.dropped (between_numbers rows.numbers s e)) ≡ true →
+      Contains (shown_by rows s) (between_numbers rows.numbers s e)
   shown_place e c stays =
-      contains_passing (λ y. not (is_left_out dropped y)) (map (between_numbers numbers s) (row_of s places)) (between_numbers numbers s e)
-      (contains_mapped (between_numbers numbers s) (row_of s places) e c) stays
+      contains_passing (λ y. not (is_left_out rows.dropped y))
+      (map (between_numbers rows.numbers s) (row_of s rows.l.places)) (between_numbers rows.numbers s e)
+      (contains_mapped (between_numbers rows.numbers s) (row_of s rows.l.places) e c) stays
 
   -- it is no more than the row
-  pub shown_few : length (shown_by numbers dropped places s) ≤ length (row_of s places)
+  pub shown_few : length (shown_by rows s) ≤ length (row_of s rows.l.places)
   shown_few =
-      let triples : List Triple = map (between_numbers numbers s) (row_of s places) in
-      let counted = length-filter (λ (y : Triple). not (is_left_out dropped y)) triples in
-      let few = count_by-le-length (λ (y : Triple). not (is_left_out dropped y)) triples in
-      let long = length-map (row_of s places) (between_numbers numbers s) in
+      let triples : List Triple = map (between_numbers rows.numbers s) (row_of s rows.l.places) in
+      let counted = length-filter (λ (y : Triple). not (is_left_out rows.dropped y)) triples in
+      let few = count_by-le-length (λ (y : Triple). not (is_left_out rows.dropped y)) triples in
+      let long = length-map (row_of s rows.l.places) (between_numbers rows.numbers s) in
       omega arith
 
 -- what a part of a row shows, with one place more
-module _ (numbers : List ℕ) (dropped : Option ℕ) (s : ℕ) (old new : List Triple) (e x : Triple) (more : new ≡ old ++ e ∷ [])
-    (is : x ≡ between_numbers numbers s e) where
-  shown_more : shown_in numbers dropped s new ≡ shown_in numbers dropped s old ++ cond (not (is_left_out dropped x)) (x ∷ []) []
+module _ (rows : Numbered) (s : ℕ) (old new : List Triple) (e x : Triple) (more : new ≡ old ++ e ∷ [])
+    (is : x ≡ between_numbers rows.numbers s e) where
+  shown_more : shown_in rows s new ≡ shown_in rows s old ++ cond (not (is_left_out rows.dropped x)) (x ∷ []) []
   shown_more = rw (more, map-append, filter-append, is) refl
 
   -- after what the list had
-  pub shown_left_out : (had list : List Triple) → list ≡ had ++ shown_in numbers dropped s old → is_left_out dropped x ≡ true →
-      list ≡ had ++ shown_in numbers dropped s new
+  pub shown_left_out : (had list : List Triple) → list ≡ had ++ shown_in rows s old →
+      is_left_out rows.dropped x ≡ true →
+      list ≡ had ++ shown_in rows s new
   shown_left_out had list h out = rw (shown_more, out, append-nil) h
 
-  pub shown_stays : (had list pushed : List Triple) → list ≡ had ++ shown_in numbers dropped s old → pushed ≡ list ++ x ∷ [] →
-      is_left_out dropped x ≡ false → pushed ≡ had ++ shown_in numbers dropped s new
+  pub shown_stays : (had list pushed : List Triple) → list ≡ had ++ shown_in rows s old → pushed ≡ list ++ x ∷ [] →
+      is_left_out rows.dropped x ≡ false → pushed ≡ had ++ shown_in rows s new
   shown_stays had list pushed h e stays =
-      rw (shown_more, stays) (e ∙ ap (λ r. r ++ x ∷ []) h ∙ append_assoc had (shown_in numbers dropped s old) (x ∷ []))
+      rw (shown_more, stays) (e ∙ ap (λ r. r ++ x ∷ []) h ∙ append_assoc had (shown_in rows s old) (x ∷ []))

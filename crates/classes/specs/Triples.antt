@@ -2,8 +2,18 @@
 use Rattle.std.specs.Prelude.{◌≡◌, ◌≢◌, ◌↔◌, ℕ, ◌<◌, ◌≤◌, ◌==◌, ◌&&◌, Bool, false, not, Option, None, Some, List, length, map, slice_index}
 use Rattle.std.specs.List.{AllPairs, Contains, filter, flat_map, slice_index_or, sum_by}
 use Rattle.std.specs.List.Sorted.{IsNonDecreasingBy}
-use Rattle.lts.specs.Lts.{Triple, source_of, label_of, target_of, row_of, before}
+use Rattle.lts.specs.Lts.{Triple, Grouped, source_of, label_of, target_of, row_of, before}
 use Rattle.classes.specs.Marked.{IsMarked}
+
+-- a system, the number of each of its states, and the label number that is dropped between equal numbers, if there is one
+pub record Numbered : Type 0 where
+  pub l : Grouped
+  pub numbers : List ℕ
+  pub dropped : Option ℕ
+
+-- these
+abbrev pub numbered_rows : Grouped → List ℕ → Option ℕ → Numbered
+numbered_rows l numbers dropped = record { l = l; numbers = numbers; dropped = dropped }
 
 -- what the transition e of the state s is between numbers
 abbrev pub between_numbers : List ℕ → ℕ → Triple → Triple
@@ -15,27 +25,25 @@ is_left_out None x = false
 is_left_out (Some k) x = (label_of x == k) && (source_of x == target_of x)
 
 -- what transitions of the state s show between numbers
-abbrev pub shown_in : List ℕ → Option ℕ → ℕ → List Triple → List Triple
-shown_in numbers dropped s row = filter (λ x. not (is_left_out dropped x)) (map (between_numbers numbers s) row)
+abbrev pub shown_in : Numbered → ℕ → List Triple → List Triple
+shown_in rows s row = filter (λ x. not (is_left_out rows.dropped x)) (map (between_numbers rows.numbers s) row)
 
 -- what the row of the state s shows between numbers
-abbrev pub shown_by : List ℕ → Option ℕ → List Triple → ℕ → List Triple
-shown_by numbers dropped places s = shown_in numbers dropped s (row_of s places)
+abbrev pub shown_by : Numbered → ℕ → List Triple
+shown_by rows s = shown_in rows s (row_of s rows.l.places)
 
 -- no step of the state s is left out: its row shows as many transitions as it has
-abbrev pub LeavesNothingOut : List ℕ → Option ℕ → List Triple → ℕ → Type 0
-LeavesNothingOut numbers dropped places s = length (shown_by numbers dropped places s) ≡ length (row_of s places)
+abbrev pub LeavesNothingOut : Numbered → ℕ → Type 0
+LeavesNothingOut rows s = length (shown_by rows s) ≡ length (row_of s rows.l.places)
 
 -- unless a step of s is left out, the row of s shows also what that of t does
-abbrev pub ShowsAlso : List ℕ → Option ℕ → List Triple → ℕ → ℕ → Type 0
-ShowsAlso numbers dropped places s t =
-    LeavesNothingOut numbers dropped places s → (x : Triple) →
-    Contains (shown_by numbers dropped places t) x → Contains (shown_by numbers dropped places s) x
+abbrev pub ShowsAlso : Numbered → ℕ → ℕ → Type 0
+ShowsAlso rows s t = LeavesNothingOut rows s → (x : Triple) → Contains (shown_by rows t) x →
+    Contains (shown_by rows s) x
 
--- the row of a marked state below s shows x
-abbrev pub IsShownBelow : List ℕ → List Bool → Option ℕ → List Triple → ℕ → Triple → Type 0
-IsShownBelow numbers sources dropped places s x =
-    (t : ℕ) × (t < s) × IsMarked sources t × Contains (shown_by numbers dropped places t) x
+-- the row of a marked state shows x
+abbrev pub IsShownByMarked : Numbered → List Bool → Triple → Type 0
+IsShownByMarked rows sources x = (t : ℕ) × (t < rows.l.states) × IsMarked sources t × Contains (shown_by rows t) x
 
 -- a number, and a state that has it
 abbrev pub Member : Type 0
@@ -62,8 +70,8 @@ abbrev pub member_of : Triple → Member
 member_of x = (label_of x, target_of x)
 
 -- what the rows of the members show, one row after the other
-abbrev pub shown_among : List ℕ → Option ℕ → List Triple → List Member → List Triple
-shown_among numbers dropped places members = flat_map (λ p. shown_by numbers dropped places p.1) members
+abbrev pub shown_among : Numbered → List Member → List Triple
+shown_among rows members = flat_map (λ p. shown_by rows p.1) members
 
 -- how many transitions these rows have
 abbrev pub places_of : List Triple → List Member → ℕ
@@ -75,9 +83,9 @@ pub record AreMembers (numbers : List ℕ) (sources : List Bool) (states : ℕ) 
   pub rising : IsNonDecreasingBy (λ p. p.0) members
   pub few : (places : List Triple) → places_of places members ≤ before states places
 
--- the members are states below the count, with their numbers, by rising number
-pub record AreNumbered (numbers : List ℕ) (states : ℕ) (members : List Member) : Type 0 where
-  pub each : (p : Member) → Contains members p → (p.1 < states) × (p.0 ≡ slice_index numbers p.1)
+-- the members are states with their numbers, by rising number
+pub record AreNumbered (rows : Numbered) (members : List Member) : Type 0 where
+  pub each : (p : Member) → Contains members p → (p.1 < rows.l.states) × (p.0 ≡ slice_index rows.numbers p.1)
   pub rising : IsNonDecreasingBy (λ p. p.0) members
 
 -- the members from start up to end have one number, and the next one has a larger number
@@ -88,7 +96,7 @@ pub record IsClass (members : List Member) (start end : ℕ) : Type 0 where
   pub next : end < length members → (member_at members start).0 < (member_at members end).0
 
 -- the list has what the rows of the members show, each once, and is no longer than these rows
-pub record HasShown (numbers : List ℕ) (dropped : Option ℕ) (places : List Triple) (members : List Member) (class : List Triple) : Type 0 where
-  pub exactly : (x : Triple) → Contains class x ↔ Contains (shown_among numbers dropped places members) x
+pub record HasShown (rows : Numbered) (members : List Member) (class : List Triple) : Type 0 where
+  pub exactly : (x : Triple) → Contains class x ↔ Contains (shown_among rows members) x
   pub once : AllPairs (λ x y. x ≢ y) class
-  pub few : length class ≤ places_of places members
+  pub few : length class ≤ places_of rows.l.places members

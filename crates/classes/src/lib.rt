@@ -4,6 +4,7 @@
 //! A call fails, with `Memory`, only if a growth is refused.
 #![tactic(auto)]
 
+mod numbered_rows;
 mod numbering;
 mod quotient;
 mod search;

@@ -14,29 +14,39 @@ use std::alloc::Global;
 /// In place of the number of a block that has none.
 const NONE: u32 = u32::MAX;
 
-/// The numbers of the states that were taken so far, in their order.
+/// The numbers of the reachable states.
 #[derive(Drop)]
 pub struct Numbering {
-    /// The number of each block.
-    by_block: Vec<u32>,
     /// The number of each reachable state.
     pub(crate) numbers: Vec<u32>,
     /// Which states lead their class.
     pub(crate) leads: Vec<bool>,
+    /// Which states are reachable.
+    pub(crate) reached: Vec<bool>,
     /// How many classes there are.
     pub(crate) count: u32,
 }
 
-/// The numbers of the reachable states, for the relation whose classes the blocks are. The blocks are used up.
+/// The numbers of the states that were taken so far, in their order.
+#[derive(Drop)]
+struct Numbers {
+    /// The number of each block.
+    by_block: Vec<u32>,
+    numbers: Vec<u32>,
+    leads: Vec<bool>,
+    count: u32,
+}
+
+/// The numbers of the reachable states, for the relation whose classes the blocks are. The blocks and the marks of reachable states are used up.
 pub fn number<M: Meter>(
     alloc: Global,
     l: &Lts<M>,
     blocks: Partition,
-    reached: &[bool],
+    reached: Vec<bool>,
 ) -> Result<Numbering, Memory>
     requires blocks_long { length blocks ≡ l.now.states }
-    requires reached_long { length reached.now ≡ l.now.states }
-    requires reached { (s : ℕ) → s < l.now.states → IsMarked reached.now s
+    requires reached_long { length reached.items ≡ l.now.states }
+    requires reached { (s : ℕ) → s < l.now.states → IsMarked reached.items s
         ↔ Reachable (system_of l.now) s }
     ensures { (rel : Relation) → AreClasses rel l.now blocks →
         IfOk result (IsNumbering rel (system_of l.now)) }
@@ -48,19 +58,30 @@ pub fn number<M: Meter>(
     let (states, first) = (l.states(), l.first());
     let mut by_block = vec![in alloc; NONE; blocks.count() as usize]?;
     by_block[blocks.block(first) as usize] = 0;
-    let mut numbering = Numbering {
+    let mut taken = Numbers {
         by_block,
         numbers: Vec::with_capacity(alloc, states as usize)?,
         leads: Vec::with_capacity(alloc, states as usize)?,
         count: 1,
     };
     for s in 0..states {
-        numbering.add(blocks.block(s), reached[s as usize], s == first)?;
+        taken.add(blocks.block(s), reached[s as usize], s == first)?;
     }
-    Ok(numbering)
+    let Numbers {
+        numbers,
+        leads,
+        count,
+        ..
+    } = taken;
+    Ok(Numbering {
+        numbers,
+        leads,
+        reached,
+        count,
+    })
 }
 
-impl Numbering {
+impl Numbers {
     /// Takes the next state, which is in the block `b`.
     fn add(&mut self, b: u32, is_reached: bool, is_first: bool) -> Result<(), Memory>
         requires block { b < length self.old.by_block.items }

@@ -1,13 +1,12 @@
 //! The quotient, once the classes have numbers.
-ghost use Rattle.std.specs.Prelude.{◌≡◌, ◌↔◌, ℕ, ◌<◌, ◌≤◌, length, IfOk};
-ghost use Rattle.theory.specs.System.{Reachable};
+ghost use Rattle.std.specs.Prelude.{◌≡◌, ◌≤◌, length, IfOk};
 ghost use Rattle.theory.specs.Quotient.{Quotient};
 ghost use Rattle.lts.specs.Meter.{HasRoomFor, Costs};
 ghost use Rattle.lts.specs.Lts.{system_of};
-ghost use Rattle.classes.specs.Marked.{IsMarked};
 ghost use Rattle.classes.specs.Numbers.{IsNumbering};
 ghost use Rattle.classes.specs.Reading.{sources_of, IsDroppedLabel};
 
+use crate::numbered_rows::NumberedRows;
 use crate::numbering::Numbering;
 use crate::triples::{by_number, shown_transitions};
 use lts::{Counter, Labels, Lts, Memory, Meter};
@@ -20,13 +19,9 @@ pub fn quotient_of<M: Meter>(
     l: &Lts<M>,
     r: Relation,
     numbering: &Numbering,
-    reached: &[bool],
     m: &mut M,
 ) -> Result<Lts<Counter>, Memory>
     requires numbering { IsNumbering r (system_of l.now) numbering.now }
-    requires reached_long { length reached.now ≡ l.now.states }
-    requires reached { (s : ℕ) → s < l.now.states → IsMarked reached.now s
-        ↔ Reachable (system_of l.now) s }
     requires room { HasRoomFor (M.counted m.old) 0 (length l.now.places) }
     ensures quotient { IfOk result (λ q. Quotient r (system_of l.now) (system_of q)) }
     ensures fewer_transitions { IfOk result (λ q. length q.places ≤ length l.now.places) }
@@ -40,7 +35,7 @@ pub fn quotient_of<M: Meter>(
     theory::numbers_are_classes();
     theory::numbers_are_states();
     theory::states_without_inert_steps_show_all();
-    let sources = sources(r, &numbering.leads, reached);
+    let sources = sources(r, numbering);
     let dropped = dropped(r, l.labels());
     let members = by_number(
         alloc,
@@ -49,18 +44,19 @@ pub fn quotient_of<M: Meter>(
         numbering.count,
         sources,
     )?;
-    let shown = shown_transitions(alloc, l, &numbering.numbers, &members, dropped, m)?;
+    let rows = NumberedRows::new(l, &numbering.numbers, dropped);
+    let shown = shown_transitions(alloc, &rows, &members, m)?;
     Lts::over(l, 0, numbering.count, shown)
 }
 
 /// The states whose rows show every transition of the quotient, of those that lead their classes and those that are
 /// reachable.
-fn sources<'a>(r: Relation, leads: &'a [bool], reached: &'a [bool]) -> &'a [bool]
-    ensures { result.now ≡ sources_of r leads.now reached.now }
+fn sources(r: Relation, numbering: &Numbering) -> &[bool]
+    ensures { let n = numbering.now in result.now ≡ sources_of r n.leads.items n.reached.items }
 {
     match r {
-        Relation::Strong => leads,
-        Relation::Branching => reached,
+        Relation::Strong => &numbering.leads,
+        Relation::Branching => &numbering.reached,
     }
 }
 

@@ -4,13 +4,14 @@ use Rattle.std.specs.List.{All}
 use Rattle.std.specs.List.Sorted.{IsNonDecreasingBy}
 use Rattle.std.proofs.lemmas.Bool.{cases_lt}
 use Rattle.std.proofs.lemmas.List.{length-append, length-map, length_push, append-nil, append_assoc, map-append, map_push, get_or-map, get_or_push, take-append-drop, take-take, drop-take, length-take}
-use Rattle.std.proofs.lemmas.List.Elements.{All-map, All-head, All-tail, All-push, All-weaker, Contains-push, Contains-append_left}
+use Rattle.std.proofs.lemmas.List.Elements.{All-nil, All-map, All-head, All-tail, All-push, All-weaker, Contains-push, Contains-append_left}
 use Rattle.theory.specs.System.{System, Transition, IsAmong}
 use Rattle.theory.specs.Union.{shifted, union_of}
 use Rattle.growth.specs.declared.limits.TheConstants.{MOST_STATES}
 use Rattle.lts.specs.Labels.{text_of, IsNumber, IsTable, Keeps, Interns}
 use Rattle.lts.specs.Lts.{Triple, source_of, label_of, target_of, row_of, before, place_at, transition_of, system_of, grouped, IsTriple, IsRow, IsLts, IsCarried, Grouped}
 use Rattle.lts.specs.Joining.{IsJoined, AddsShifted}
+use Rattle.lts.specs.Meter.{Counts, Costs, on_ok}
 use Rattle.lts.proofs.Rows.{before-next, before-le, row-slice, row-more}
 use Rattle.lts.proofs.Grouped.{rising-append, rising-map, grouped-same}
 
@@ -229,3 +230,36 @@ pub AddsShifted-both : (n : ℕ) (ts us : List Transition) (l0 l1 l2 : List (Lis
     AddsShifted 0 ts l0 e0 l1 e1 → AddsShifted n us l1 e1 l2 e2 → map (transition_of l2) e2 ≡ ts ++ map (shifted n) us
 AddsShifted-both n ts us l0 l1 l2 e0 e1 e2 none a b =
     b ∙ ap (λ l. l ++ map (shifted n) us) (a ∙ ap (λ e. map (transition_of l0) e ++ map (shifted 0) ts) none ∙ shifted-zero ts)
+
+-- nothing was put in
+pub IsJoined-none : (labels : List (List ℕ)) (es : List Triple) → labels ≡ [] → es ≡ [] → IsJoined labels 0 es
+IsJoined-none labels es none empty = rw (none, empty) (record {
+  few_states = omega arith;
+  each = All-nil (IsTriple 0 0);
+  carried = λ k h. absurd (omega (arith, h));
+  few = omega arith;
+})
+
+-- nothing was visited
+pub no_visit : (at : Counts) → Costs at at 0 0 0
+no_visit at = record { rounds = omega arith; at_least = omega arith; at_most = omega arith }
+
+-- no more visits than all, where the last ones may have been refused
+pub refused : {T E : Type 0} (old new : Counts) (r : Result T E) (y : E) (few most : ℕ) → r ≡ Err y → few ≤ most →
+    Costs old new 0 0 few → Costs old new 0 (on_ok r most) most
+refused old new r y few most e low costs =
+    rw e (record { rounds = costs.rounds; at_least = costs.at_least; at_most = omega (arith, costs.at_most, low) })
+
+pub both_visited : {T E : Type 0} (old mid new : Counts) (r : Result T E) (first second : ℕ) →
+    Costs old mid 0 first first →
+    Costs mid new 0 second second → Costs old new 0 (on_ok r (first + second)) (first + second)
+both_visited old mid new (Ok x) first second a b = record {
+  rounds = omega (arith, a.rounds, b.rounds);
+  at_least = omega (arith, a.at_least, b.at_least);
+  at_most = omega (arith, a.at_most, b.at_most);
+}
+both_visited old mid new (Err e) first second a b = record {
+  rounds = omega (arith, a.rounds, b.rounds);
+  at_least = omega (arith, a.at_least, b.at_least);
+  at_most = omega (arith, a.at_most, b.at_most);
+}

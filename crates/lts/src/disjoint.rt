@@ -43,14 +43,22 @@ pub fn union<M: Meter>(alloc: Global, a: &Lts<M>, b: &Lts<M>, m: &mut M) -> Resu
         triples: Vec::with_capacity(alloc, (a.edges() + b.edges()) as usize)?,
         guesses,
     };
-    joined.append(a, 0, m)?;
-    joined.append(b, a.states(), m)?;
+    joined.append(&Part { l: a, shift: 0 }, m)?;
+    let shift = a.states();
+    joined.append(&Part { l: b, shift }, m)?;
     let Joined {
         labels,
         triples,
         ..
     } = joined;
     Lts::build(alloc, labels, a.first(), a.states() + b.states(), triples)
+}
+
+/// One of the two systems, and how far its states are shifted.
+#[derive(Drop)]
+struct Part<'a, M: Meter> {
+    l: &'a Lts<M>,
+    shift: u32,
 }
 
 /// What was joined so far: triples, and a table of the labels that they carry.
@@ -63,95 +71,99 @@ struct Joined {
 }
 
 impl Joined {
-    /// Appends all transitions of `s`, their states shifted.
-    fn append<M: Meter>(&mut self, s: &Lts<M>, shift: u32, m: &mut M) -> Result<(), Memory>
-        requires few_states { shift + s.now.states ≤ MOST_STATES }
-        requires few { length self.old.triples.items + length s.now.places ≤ MOST_TRANSITIONS }
-        requires joined { IsJoined self.old.labels shift self.old.triples.items }
-        requires guesses { length s.now.labels ≤ length self.old.guesses.items }
-        requires room { HasRoomFor (M.counted m.old) 0 (length s.now.places) }
+    /// Appends all transitions of a system.
+    fn append<M: Meter>(&mut self, part: &Part<M>, m: &mut M) -> Result<(), Memory>
+        requires few_states { part.now.shift + part.now.l.now.states ≤ MOST_STATES }
+        requires few { length self.old.triples.items + length part.now.l.now.places
+            ≤ MOST_TRANSITIONS }
+        requires joined { IsJoined self.old.labels part.now.shift self.old.triples.items }
+        requires guesses { length part.now.l.now.labels ≤ length self.old.guesses.items }
+        requires room { HasRoomFor (M.counted m.old) 0 (length part.now.l.now.places) }
 
-        // Once it is done the triples are joined, and stand for the transitions of `s` too.
+        // Once it is done the triples are joined, and stand for its transitions too.
         ensures joined { OnOk result
-            (IsJoined self.new.labels (shift + s.now.states) self.new.triples.items) }
-        ensures added { let all = (system_of s.now).transitions in
-            OnOk result (AddsShifted shift all self.old.labels self.old.triples.items
+            (IsJoined self.new.labels (part.now.shift + part.now.l.now.states)
+            self.new.triples.items) }
+        ensures added { let all = (system_of part.now.l.now).transitions in
+            OnOk result (AddsShifted part.now.shift all self.old.labels self.old.triples.items
             self.new.labels self.new.triples.items) }
         ensures guesses { length self.new.guesses.items ≡ length self.old.guesses.items }
 
-        // Once it is done as many visits as transitions of `s`, after a refusal no more than these.
-        ensures visits { let n = length s.now.places in Visits M.counted m.old m.new result n n }
+        // Once it is done as many visits as transitions, after a refusal no more than these.
+        ensures visits { let n = length part.now.l.now.places in
+            Visits M.counted m.old m.new result n n }
     {
-        for state in 0..s.states() {
-            self.append_row(s, state, shift, m)?;
+        for state in 0..part.l.states() {
+            self.append_row(part, state, m)?;
         }
         Ok(())
     }
 
-    /// Appends the transitions of one state of `s`.
-    fn append_row<M: Meter>(
-        &mut self,
-        s: &Lts<M>,
-        state: u32,
-        shift: u32,
-        m: &mut M,
-    ) -> Result<(), Memory>
-        requires state { state < s.now.states }
-        requires few { length self.old.triples.items + length (row_of state s.now.places)
+    /// Appends the transitions of one state.
+    fn append_row<M: Meter>(&mut self, part: &Part<M>, state: u32, m: &mut M) -> Result<(), Memory>
+        requires state { state < part.now.l.now.states }
+        requires few { length self.old.triples.items + length (row_of state part.now.l.now.places)
             ≤ MOST_TRANSITIONS }
-        requires joined { IsJoined self.old.labels (shift + s.now.states) self.old.triples.items }
-        requires guesses { length s.now.labels ≤ length self.old.guesses.items }
-        requires room { HasRoomFor (M.counted m.old) 0 (length (row_of state s.now.places)) }
+        requires joined { IsJoined self.old.labels (part.now.shift + part.now.l.now.states)
+            self.old.triples.items }
+        requires guesses { length part.now.l.now.labels ≤ length self.old.guesses.items }
+        requires room { HasRoomFor (M.counted m.old) 0
+            (length (row_of state part.now.l.now.places)) }
 
         // Once it is done the triples are joined, and stand for the row too.
         ensures joined { OnOk result
-            (IsJoined self.new.labels (shift + s.now.states) self.new.triples.items) }
-        ensures added { let row = map (transition_of s.now.labels) (row_of state s.now.places) in
-            OnOk result (AddsShifted shift row self.old.labels self.old.triples.items
+            (IsJoined self.new.labels (part.now.shift + part.now.l.now.states)
+            self.new.triples.items) }
+        ensures added { let l = part.now.l.now in
+            let row = map (transition_of l.labels) (row_of state l.places) in
+            OnOk result (AddsShifted part.now.shift row self.old.labels self.old.triples.items
             self.new.labels self.new.triples.items) }
         ensures guesses { length self.new.guesses.items ≡ length self.old.guesses.items }
 
         // Once it is done as many visits as transitions of the row, after a refusal no more than these.
-        ensures visits { let n = length (row_of state s.now.places) in
+        ensures visits { let n = length (row_of state part.now.l.now.places) in
             Visits M.counted m.old m.new result n n }
     {
-        let (start, end) = s.row(state);
+        let (start, end) = part.l.row(state);
         for k in start..end {
-            self.append_place(s, state, k, shift, m)?;
+            self.append_place(part, state, k, m)?;
         }
         Ok(())
     }
 
-    /// Appends the transition in place `k` of `s`, which starts at `state`.
+    /// Appends the transition in place `k`, which starts at `state`.
     fn append_place<M: Meter>(
         &mut self,
-        s: &Lts<M>,
+        part: &Part<M>,
         state: u32,
         k: u32,
-        shift: u32,
         m: &mut M,
     ) -> Result<(), Memory>
-        requires place { k < length s.now.places }
-        requires state { state ≡ source_of (place_at s.now.places k) }
+        requires place { k < length part.now.l.now.places }
+        requires state { state ≡ source_of (place_at part.now.l.now.places k) }
         requires few { length self.old.triples.items < MOST_TRANSITIONS }
-        requires joined { IsJoined self.old.labels (shift + s.now.states) self.old.triples.items }
-        requires guesses { length s.now.labels ≤ length self.old.guesses.items }
+        requires joined { IsJoined self.old.labels (part.now.shift + part.now.l.now.states)
+            self.old.triples.items }
+        requires guesses { length part.now.l.now.labels ≤ length self.old.guesses.items }
         requires room { HasRoomFor (M.counted m.old) 0 1 }
 
         // Once it is done the triples are joined, and stand for this transition too.
         ensures joined { OnOk result
-            (IsJoined self.new.labels (shift + s.now.states) self.new.triples.items) }
-        ensures added { let one = transition_of s.now.labels (place_at s.now.places k) ∷ [] in
-            OnOk result (AddsShifted shift one self.old.labels self.old.triples.items
+            (IsJoined self.new.labels (part.now.shift + part.now.l.now.states)
+            self.new.triples.items) }
+        ensures added { let l = part.now.l.now in
+            let one = transition_of l.labels (place_at l.places k) ∷ [] in
+            OnOk result (AddsShifted part.now.shift one self.old.labels self.old.triples.items
             self.new.labels self.new.triples.items) }
         ensures guesses { length self.new.guesses.items ≡ length self.old.guesses.items }
 
         // In either case: one visit.
         ensures visit { Costs (M.counted m.old) (M.counted m.new) 0 1 1 }
     {
-        s.known();
-        let (label, target) = s.edge(k, m);
-        let number = self.number_of(s.labels().text(label), label)?;
+        let Part { l, shift } = part;
+        l.known();
+        let (label, target) = l.edge(k, m);
+        let number = self.number_of(l.labels().text(label), label)?;
         let e = &mut self.triples;
         e.push((shift + state, number, shift + target))?;
         Ok(())

@@ -49,6 +49,6 @@ pub fn minimise<M: Meter>(
     theory::bisimilarity_is_an_equivalence();
     let blocks = relation::blocks(alloc, l, r, m)?;
     let reached = reachable(alloc, l, m)?;
-    let numbering = number(alloc, l, blocks, &reached)?;
-    quotient_of(alloc, l, r, &numbering, &reached, m)
+    let numbering = number(alloc, l, blocks, reached)?;
+    quotient_of(alloc, l, r, &numbering, m)
 }

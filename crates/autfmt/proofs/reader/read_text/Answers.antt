@@ -3,7 +3,6 @@ use Rattle.std.specs.Io.KnownBytes.{Consumes}
 use Rattle.std.proofs.lemmas.Result.{err_from_is_err_and}
 use Rattle.std.proofs.KnownBytes.{Consumes-trans}
 use Rattle.theory.specs.System.{Transition}
-use Rattle.autfmt.specs.declared.judge.Promise.{Promise}
 use Rattle.autfmt.specs.ReadSoFar.{HeldSoFar}
 use Rattle.autfmt.proofs.ReaderSteps.{end_failed, text_behind, text_ends, count_held}
 use Rattle.autfmt.proofs.Taking.{takes_more}
@@ -20,29 +19,31 @@ returns-in_err-held-clause-whole g c =
     (takes_more _ _ _ _ _ _ first.given bytes first.took took (step c.args.lim.now first.given first.outcome))
 
 -- what was read before the look behind the transitions
-module _ (g : Over) (c : After-is_at_end g) where
-  abbrev p : Promise
-  p = c.in_ok-promise.promise
+abbrev front : (g : Over) (c : After-is_at_end g) → List ℕ
+front g c = c.in_ok-promise.ensures.header.given ++ c.in_ok-held.ensures.transitions.0
 
-  abbrev front : List ℕ
-  front = c.in_ok-promise.ensures.header.given ++ c.in_ok-held.ensures.transitions.0
+-- the transitions in it
+transitions : (g : Over) (c : After-is_at_end g) → (es : List Transition)
+    × HeldSoFar c.args.lim.now c.args.h.now (front g c) c.in_ok-promise.promise
+    (c.read_transitions.new.cutter, c.in_ok-held.held) es
+transitions g c =
+    let first = c.in_ok-promise.ensures.header in
+    c.in_ok-held.ensures.transitions.2 c.args.lim.now first.given first.outcome
 
-  transitions : (es : List Transition) × HeldSoFar c.args.lim.now c.args.h.now front p (c.read_transitions.new.cutter, c.in_ok-held.held) es
-  transitions =
-      let first = c.in_ok-promise.ensures.header in
-      c.in_ok-held.ensures.transitions.2 c.args.lim.now first.given first.outcome
+count : (g : Over) (c : After-is_at_end g) → length (transitions g c).0 ≡ c.in_ok-promise.promise.transitions
+count g c =
+    let p = c.in_ok-promise.promise in
+    let (es, so_far) = transitions g c in
+    count_held c.args.h.now p.states c.in_ok-held.held es p.transitions so_far.1 (sym c.in_ok-held.ensures.len)
 
-  count : length transitions.0 ≡ p.transitions
-  count =
-      count_held c.args.h.now p.states c.in_ok-held.held transitions.0 p.transitions transitions.1.1
-      (sym c.in_ok-held.ensures.len)
-
-  took : (last : List ℕ) → Consumes (g.R.Source.rest c.read_transitions.new.r) (g.R.Source.rest c.is_at_end.new.r) last →
-      Consumes (g.R.Source.rest c.args.r.now) (g.R.Source.rest c.is_at_end.new.r) (front ++ last)
-  took last taken =
-      let first = c.in_ok-promise.ensures.header in
-      let then = c.in_ok-held.ensures.transitions in
-      Consumes-trans _ _ _ front last (Consumes-trans _ _ _ first.given then.0 first.took then.1) taken
+-- with what the look took
+took : (g : Over) (c : After-is_at_end g) (last : List ℕ) →
+    Consumes (g.R.Source.rest c.read_transitions.new.r) (g.R.Source.rest c.is_at_end.new.r) last →
+    Consumes (g.R.Source.rest c.args.r.now) (g.R.Source.rest c.is_at_end.new.r) (front g c ++ last)
+took g c last taken =
+    let first = c.in_ok-promise.ensures.header in
+    let then = c.in_ok-held.ensures.transitions in
+    Consumes-trans _ _ _ (front g c) last (Consumes-trans _ _ _ first.given then.0 first.took then.1) taken
 
 pub returns-in_err-at_end-clause-whole : goal.returns-in_err-at_end-clause-whole
 returns-in_err-at_end-clause-whole g c =

@@ -5,12 +5,16 @@ use Rattle.autfmt.proofs.writer.put_row.Goals as goal
 pub returns-in_err-start-clause-err : goal.returns-in_err-start-clause-err
 returns-in_err-start-clause-err g c =
     on_err c.from_residual.result
-    (row_begun c.args.words.now.entries.items c.args.source c.args.row.now (g.W.Sink.written c.make_room.new.w) (take c.args.waiting c.args.buffer.now) c.loop-rank.rank-index c.loop-rank.invariant.progress c.in_err-start.ensures.err)
+    (row_begun c.args.words.now.entries.items c.args.row.source c.args.row.transitions.now
+    (g.W.Sink.written c.make_room.new.w) (take c.args.waiting c.args.buffer.now) c.loop-rank.rank-index
+    c.loop-rank.invariant.progress c.in_err-start.ensures.err)
 
 pub loop-rank-preserved : goal.loop-rank-preserved
 loop-rank-preserved g c = record {
   progress =
-      line_waits c.args.words.now.entries.items c.args.source c.args.row.now (take c.args.waiting c.args.buffer.now) c.loop-rank.rank-index (0, 0) (omega arith) c.loop-rank.invariant.progress
+      line_waits c.args.words.now.entries.items c.args.row.source c.args.row.transitions.now
+      (take c.args.waiting c.args.buffer.now) c.loop-rank.rank-index (0, 0) (omega arith)
+      c.loop-rank.invariant.progress
       c.in_ok-start.ensures.ok c.word.ensures.text _ (rw c.new-front.ensures at c.append_transition-end.ensures.text);
   within = omega (arith, c.in_ok-start.ensures.room, c.append_transition-end.ensures.end, c.append_transition-end.auto.buffer);
   sound = c.in_ok-start.ensures.failures;

@@ -5,7 +5,8 @@ use Rattle.autfmt.proofs.writer.put_row.Given as goal
 
 abbrev pub invariant-loop-rank : goal.invariant-loop-rank
 invariant-loop-rank g l = record {
-  progress : Progress (g.W.Sink.written l.fn.w) (g.W.Sink.written l.w) (take l.end l.buffer) (take l.waiting l.fn.buffer ++ lines_to l.words.entries.items l.source l.row l.rank-index);
+  progress : Progress (g.W.Sink.written l.fn.w) (g.W.Sink.written l.w) (take l.end l.buffer)
+      (take l.waiting l.fn.buffer ++ lines_to l.words.entries.items l.row.source l.row.transitions.now l.rank-index);
   within : l.end ≤ length l.buffer;
   sound : g.W.Sink.failures l.w ≡ 0;
 }

@@ -20,13 +20,14 @@ loop-source-init g c =
 
 pub put_row-requires-clause-ranks : goal.put_row-requires-clause-ranks
 put_row-requires-clause-ranks g c =
-    subst (All (λ p. p.0 < length c.args.words.now.entries.items)) (sym c.deref-in-loop-source.ensures.value)
+    subst (All (λ p. p.0 < length c.args.words.now.entries.items)) (sym c.deref-transitions.ensures.value)
     (row_ranks_below c.loop-source.source c.known.ensures c.requires.words.by_bytes c.requires.words.ranks (rw c.deref.ensures.value at c.read_row.ensures.same))
 
 pub returns-in_err-waiting-clause-err : goal.returns-in_err-waiting-clause-err
 returns-in_err-waiting-clause-err g c =
     let row = next_row c.known.ensures c.requires.words c.read_row.new.row.items c.loop-source.invariant.rows (rw c.deref.ensures.value at c.read_row.ensures.same) c.read_row.ensures.sorted (nothing_put _ _) in
-    on_err c.from_residual.result (rows_begun c.known.ensures c.requires.words (g.W.Sink.written c.put_row.new.w) row (rw c.deref-in-loop-source.ensures.value at c.in_err-waiting.ensures.err))
+    on_err c.from_residual.result (rows_begun c.known.ensures c.requires.words (g.W.Sink.written c.put_row.new.w) row
+    (rw c.deref-transitions.ensures.value at c.in_err-waiting.ensures.err))
 
 pub loop-source-preserved : goal.loop-source-preserved
 loop-source-preserved g c =
@@ -34,7 +35,7 @@ loop-source-preserved g c =
     record {
       rows =
           next_row c.known.ensures c.requires.words c.read_row.new.row.items c.loop-source.invariant.rows (rw c.deref.ensures.value at c.read_row.ensures.same) c.read_row.ensures.sorted
-          (rw c.deref-in-loop-source.ensures.value at c.in_ok-waiting.ensures.ok);
+          (rw c.deref-transitions.ensures.value at c.in_ok-waiting.ensures.ok);
       within = c.in_ok-waiting.ensures.waiting;
       sound = c.in_ok-waiting.ensures.failures;
       capacity = c.read_row.ensures.capacity ∙ c.loop-source.invariant.capacity;

@@ -1,7 +1,7 @@
-use Rattle.std.proofs.Common.{◌≡◌, ◌∙◌, ◌↔◌, ℕ, ◌<◌, IsTrue, eqb, slice_index, set, replicate, ap, sym, subst, refl, arith}
+use Rattle.std.proofs.Common.{◌≡◌, ◌∙◌, ◌↔◌, ℕ, ◌<◌, false, IsTrue, eqb, slice_index, set, replicate, ap, sym, subst, refl, arith}
 use Rattle.std.proofs.lemmas.Bool.{eqb-true, eq-eqb}
-use Rattle.std.proofs.lemmas.List.{length-set, length-replicate}
-use Rattle.theory.specs.System.{System}
+use Rattle.std.proofs.lemmas.List.{get_or_read, length-set, length-replicate}
+use Rattle.theory.specs.System.{System, Reachable}
 use Rattle.theory.specs.declared.relation.Relation.{Relation}
 use Rattle.lts.specs.Lts.{system_of}
 use Rattle.classes.specs.Numbers.{AreClasses}
@@ -68,13 +68,23 @@ loop-s-preserved g c =
     let l = c.args.l.now in
     let b = c.block-in-loop-s.result in
     let below : c.loop-s.s < l.states = omega (arith, c.states-states.ensures.value) in
+    let mark = get_or_read c.args.reached.items c.loop-s.s c.index.result.now
+    (omega (arith, below, c.requires.reached_long)) c.index.ensures false in
+    let is_reached = subst (λ m. IsTrue m ↔ Reachable (system_of l) c.loop-s.s) (sym mark)
+    (c.requires.reached c.loop-s.s below) in
     record {
-      within = TakesState-within b _ _ c.loop-s.numbering c.add.new.self c.in_ok-add.ensures l.states (slice_index c.args.blocks) c.loop-s.invariant.within;
-      few = omega (arith, TakesState-few b _ _ c.loop-s.numbering c.add.new.self c.in_ok-add.ensures, c.loop-s.invariant.few);
+      within = TakesState-within b _ _ c.loop-s.taken c.add.new.self c.in_ok-add.ensures l.states
+          (slice_index c.args.blocks) c.loop-s.invariant.within;
+      few = omega (
+        arith,
+        TakesState-few b _ _ c.loop-s.taken c.add.new.self c.in_ok-add.ensures,
+        c.loop-s.invariant.few,
+      );
       laws = c.loop-s.invariant.laws;
       taken = λ rel classes. Taken-adds rel (system_of l) (slice_index c.args.blocks) (c.loop-s.invariant.laws rel classes) c.loop-s.s b
-          c.loop-s.numbering c.add.new.self _ _ c.block-in-loop-s.ensures (is_first c.loop-s.s c.first-first.result l.first c.first-first.ensures)
-          (c.requires.reached c.loop-s.s below) below (omega (arith, below, c.states-states.ensures.lts.in_range.few_states))
+          c.loop-s.taken c.add.new.self _ _ c.block-in-loop-s.ensures
+          (is_first c.loop-s.s c.first-first.result l.first c.first-first.ensures)
+          is_reached below (omega (arith, below, c.states-states.ensures.lts.in_range.few_states))
           c.loop-s.invariant.few (c.loop-s.invariant.within c.loop-s.s below) (c.loop-s.invariant.taken rel classes) c.in_ok-add.ensures;
     }
 
@@ -82,5 +92,6 @@ pub returns : goal.returns
 returns g c = λ rel classes.
     let A = system_of c.args.l.now in
     let end : c.loop-s.s ≡ A.states = omega (arith, c.states-states.ensures.value) in
-    Taken-end rel A (slice_index c.args.blocks) (c.loop-s.invariant.laws rel classes) c.loop-s.numbering
-    (subst (λ n. Taken rel A (slice_index c.args.blocks) n c.loop-s.numbering) end (c.loop-s.invariant.taken rel classes))
+    Taken-end rel A (slice_index c.args.blocks) (c.loop-s.invariant.laws rel classes) c.loop-s.taken _ refl refl refl
+    c.requires.reached_long c.requires.reached
+    (subst (λ n. Taken rel A (slice_index c.args.blocks) n c.loop-s.taken) end (c.loop-s.invariant.taken rel classes))

@@ -2,8 +2,8 @@ use Rattle.std.proofs.Common.{◌∙◌, ◌≤◌, length, ap, sym, subst, refl
 use Rattle.std.proofs.lemmas.List.Sorted.{length_permutation}
 use Rattle.std.proofs.lemmas.Result.{IfOk-weaker}
 use Rattle.lts.specs.Lts.{IsGrouping, system_of}
-use Rattle.classes.specs.Reading.{sources_of, IsDroppedLabel}
-use Rattle.classes.specs.Triples.{AreMembers, HasShown, places_of}
+use Rattle.classes.specs.Reading.{IsDroppedLabel}
+use Rattle.classes.specs.Triples.{AreMembers, HasShown, places_of, numbered_rows}
 use Rattle.classes.proofs.Quotients.{Laws, AreEnough, Parts-shown, rows_enough, quotient_in_range, IfOk-quotient}
 use Rattle.classes.proofs.WholeRows.{members_show_also}
 use Rattle.classes.proofs.Visits.{visits_at_most}
@@ -11,47 +11,52 @@ use Rattle.classes.proofs.quotient.quotient_of.Given.{Over}
 use Rattle.classes.proofs.quotient.quotient_of.Goals as goal
 use Rattle.classes.proofs.quotient.quotient_of.Goals.{After-dropped-dropped, In_ok-members, In_ok-shown}
 
-module _ (g : Over) (c : After-dropped-dropped g) where
-  laws : Laws c.args.r c.args.l.now
-  laws =
-      let rel = c.args.r in
-      let A = system_of c.args.l.now in
-      let sys = c.known.ensures.system in
-      record {
-        lts = c.known.ensures;
-        reached_first = c.steps_keep_reachable.ensures.first A;
-        reached_on = λ s a t way step. c.steps_keep_reachable.ensures.step A s a t way step;
-        below = λ s way. c.steps_keep_reachable.ensures.below A s sys way;
-        leader = λ s way. c.each_state_has_a_number.ensures.leader rel A s sys way;
-        one_number = λ s m n h k. c.each_state_has_a_number.ensures.one_number rel A s m n sys h k;
-        classes = λ s t m n ws wt h k. c.numbers_are_classes.ensures rel A s t m n sys ws wt h k;
-        states = λ Q s n quotient h. c.numbers_are_states.ensures.below rel A Q s n sys quotient h;
-        shows_all = λ s t a u. c.states_without_inert_steps_show_all.ensures rel A s t a u sys;
-        sources = c.rows_are_steps.ensures.sources;
-        steps = λ s a t. c.rows_are_steps.ensures.steps c.args.l.now s a t;
-      }
+-- the laws of the theory and those of rows, at this system
+laws : (g : Over) (c : After-dropped-dropped g) → Laws c.args.r c.args.l.now
+laws g c =
+    let rel = c.args.r in
+    let A = system_of c.args.l.now in
+    let sys = c.known.ensures.system in
+    record {
+      lts = c.known.ensures;
+      reached_first = c.steps_keep_reachable.ensures.first A;
+      reached_on = λ s a t way step. c.steps_keep_reachable.ensures.step A s a t way step;
+      below = λ s way. c.steps_keep_reachable.ensures.below A s sys way;
+      leader = λ s way. c.each_state_has_a_number.ensures.leader rel A s sys way;
+      one_number = λ s m n h k. c.each_state_has_a_number.ensures.one_number rel A s m n sys h k;
+      classes = λ s t m n ws wt h k. c.numbers_are_classes.ensures rel A s t m n sys ws wt h k;
+      states = λ Q s n quotient h. c.numbers_are_states.ensures.below rel A Q s n sys quotient h;
+      shows_all = λ s t a u. c.states_without_inert_steps_show_all.ensures rel A s t a u sys;
+      sources = c.rows_are_steps.ensures.sources;
+      steps = λ s a t. c.rows_are_steps.ensures.steps c.args.l.now s a t;
+    }
 
-  enough : AreEnough c.args.l.now c.args.numbering.now.numbers.items c.sources-sources.result.now
-  enough =
-      let leads = ap (λ marks. sources_of c.args.r marks c.args.reached.now) c.deref.ensures.value in
-      subst (AreEnough c.args.l.now c.args.numbering.now.numbers.items) (sym (c.sources-sources.ensures ∙ leads))
-      (rows_enough c.args.r c.args.l.now c.args.numbering.now c.args.reached.now laws c.requires.numbering c.requires.reached)
+-- the rows that are read are enough
+enough : (g : Over) (c : After-dropped-dropped g) →
+    AreEnough c.args.l.now c.args.numbering.now.numbers.items c.sources-sources.result.now
+enough g c =
+    subst (AreEnough c.args.l.now c.args.numbering.now.numbers.items) (sym c.sources-sources.ensures)
+    (rows_enough c.args.r c.args.l.now c.args.numbering.now (laws g c) c.requires.numbering)
 
-  drops : IsDroppedLabel c.args.r c.args.l.now.labels c.dropped-dropped.result
-  drops = subst (λ labels. IsDroppedLabel c.args.r labels c.dropped-dropped.result) c.labels.ensures c.dropped-dropped.ensures
+drops : (g : Over) (c : After-dropped-dropped g) → IsDroppedLabel c.args.r c.args.l.now.labels c.dropped-dropped.result
+drops g c = subst (λ labels. IsDroppedLabel c.args.r labels c.dropped-dropped.result) c.labels.ensures
+    c.dropped-dropped.ensures
 
 -- the members, and no more rows than all
 are : (g : Over) (c : In_ok-members g) →
     AreMembers c.args.numbering.now.numbers.items c.sources-sources.result.now c.args.l.now.states c.in_ok-members.members.items
-are g c = rw (c.deref-2.ensures.value, c.states.ensures.value) at c.in_ok-members.ensures
+are g c = rw (c.deref.ensures.value, c.states.ensures.value) at c.in_ok-members.ensures
 
 few : (g : Over) (c : In_ok-members g) → places_of c.args.l.now.places c.in_ok-members.members.items ≤ length c.args.l.now.places
 few g c = omega (arith, (are g c).few c.args.l.now.places, c.rows_follow.ensures.all c.args.l.now c.known.ensures)
 
+pub new-rows-requires : goal.new-rows-requires
+new-rows-requires g c = ap length c.deref-2.ensures.value ∙ c.requires.numbering.numbers_long
+
 pub shown_transitions-requires-clause-members : goal.shown_transitions-requires-clause-members
 shown_transitions-requires-clause-members g c =
     let at = (goal.at.shown_transitions-requires-clause-members g c).In_ok-members in
-    rw (c.deref-3.ensures.value, c.deref-4.ensures.value)
+    rw (c.new-rows.ensures, c.deref-2.ensures.value, c.deref-3.ensures.value)
     (record { each = λ p c. let f = ((are g at).exactly p).0 c in (f.0, f.2); rising = (are g at).rising })
 
 pub shown_transitions-requires-clause-whole : goal.shown_transitions-requires-clause-whole
@@ -61,25 +66,31 @@ shown_transitions-requires-clause-whole g c =
     let is = are g goals.In_ok-members in
     let also = members_show_also c.args.r c.args.l.now c.args.numbering.now (laws g at) c.requires.numbering
     c.sources-sources.result.now (enough g at) c.dropped-dropped.result (drops g at) in
-    rw (c.deref-3.ensures.value, c.deref-4.ensures.value) (λ p q cp cq. also p q ((is.exactly p).0 cp) ((is.exactly q).0 cq))
+    rw (c.new-rows.ensures, c.deref-2.ensures.value, c.deref-3.ensures.value)
+    (λ p q cp cq. also p q ((is.exactly p).0 cp) ((is.exactly q).0 cq))
 
 pub shown_transitions-requires-clause-room : goal.shown_transitions-requires-clause-room
 shown_transitions-requires-clause-room g c =
     let few = few g (goal.at.shown_transitions-requires-clause-room g c).In_ok-members in
-    rw c.deref-4.ensures.value (record { for_rounds = c.requires.room.for_rounds; for_visits = omega (arith, few, c.requires.room.for_visits) })
+    rw (c.new-rows.ensures, c.deref-3.ensures.value)
+    (record { for_rounds = c.requires.room.for_rounds; for_visits = omega (arith, few, c.requires.room.for_visits) })
 
 pub shown_transitions-requires-clause-few : goal.shown_transitions-requires-clause-few
-shown_transitions-requires-clause-few g c = rw c.deref-4.ensures.value (few g (goal.at.shown_transitions-requires-clause-few g c).In_ok-members)
+shown_transitions-requires-clause-few g c =
+    let at = (goal.at.shown_transitions-requires-clause-few g c).In_ok-members in
+    rw (c.new-rows.ensures, c.deref-3.ensures.value) (few g at)
 
 pub by_number-requires-clause-below : goal.by_number-requires-clause-below
 by_number-requires-clause-below g c =
     let enough = enough g (goal.at.by_number-requires-clause-below g c).After-dropped-dropped in
-    rw (c.deref-2.ensures.value, c.states.ensures.value) (λ t l marked. c.requires.numbering.below t (enough.only t l marked))
+    rw (c.deref.ensures.value, c.states.ensures.value)
+    (λ t l marked. c.requires.numbering.below t (enough.only t l marked))
 
 -- what was shown, over the numbers themselves
-shown : (g : Over) (c : In_ok-shown g) → HasShown c.args.numbering.now.numbers.items c.dropped-dropped.result c.args.l.now.places
+shown : (g : Over) (c : In_ok-shown g) → HasShown (numbered_rows c.args.l.now c.args.numbering.now.numbers.items
+    c.dropped-dropped.result)
     c.in_ok-members.members.items c.in_ok-shown.shown
-shown g c = rw (c.deref-3.ensures.value, c.deref-4.ensures.value) at c.in_ok-shown.ensures.shown
+shown g c = rw (c.new-rows.ensures, c.deref-2.ensures.value, c.deref-3.ensures.value) at c.in_ok-shown.ensures.shown
 
 pub over-requires : goal.over-requires
 over-requires g c =
@@ -111,8 +122,10 @@ returns-clause-fewer_transitions g c =
 
 pub returns-in_err-shown-clause-visits : goal.returns-in_err-shown-clause-visits
 returns-in_err-shown-clause-visits g c =
-    visits_at_most _ _ _ _ (few g (goal.at.returns-in_err-shown-clause-visits g c).In_ok-members) (rw c.deref-4.ensures.value at c.shown_transitions.ensures.visits)
+    visits_at_most _ _ _ _ (few g (goal.at.returns-in_err-shown-clause-visits g c).In_ok-members)
+    (rw (c.new-rows.ensures, c.deref-3.ensures.value) at c.shown_transitions.ensures.visits)
 
 pub returns-clause-visits : goal.returns-clause-visits
 returns-clause-visits g c =
-    visits_at_most _ _ _ _ (few g (goal.at.returns-clause-visits g c).In_ok-members) (rw c.deref-4.ensures.value at c.shown_transitions.ensures.visits)
+    visits_at_most _ _ _ _ (few g (goal.at.returns-clause-visits g c).In_ok-members)
+    (rw (c.new-rows.ensures, c.deref-3.ensures.value) at c.shown_transitions.ensures.visits)

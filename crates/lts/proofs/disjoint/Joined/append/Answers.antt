@@ -11,49 +11,61 @@ use Rattle.lts.proofs.disjoint.Joined.append.Goals as goal
 
 pub loop-state-init : goal.loop-state-init
 loop-state-init g c =
-    let none = before-zero c.args.s.now.places in
+    let none = before-zero c.args.part.now.l.now.places in
     record {
       guesses = refl;
-      joined = IsJoined-weaker c.args.self.now.labels c.args.shift (c.args.shift + c.args.s.now.states) c.args.self.now.triples.items (omega arith) c.requires.few_states c.requires.joined;
+      joined = IsJoined-weaker c.args.self.now.labels c.args.part.now.shift
+          (c.args.part.now.shift + c.args.part.now.l.now.states) c.args.self.now.triples.items (omega arith)
+          c.requires.few_states c.requires.joined;
       added =
-          subst (λ n. AddsShifted c.args.shift (map (transition_of c.args.s.now.labels) (take n c.args.s.now.places)) c.args.self.now.labels c.args.self.now.triples.items c.args.self.now.labels c.args.self.now.triples.items)
-          (sym none) (AddsShifted-nil c.args.shift c.args.self.now.labels c.args.self.now.triples.items);
+          subst (λ n. AddsShifted c.args.part.now.shift
+          (map (transition_of c.args.part.now.l.now.labels) (take n c.args.part.now.l.now.places))
+          c.args.self.now.labels c.args.self.now.triples.items c.args.self.now.labels c.args.self.now.triples.items)
+          (sym none) (AddsShifted-nil c.args.part.now.shift c.args.self.now.labels c.args.self.now.triples.items);
       visits = search rules;
     }
 
 pub append_row-requires-clause-few : goal.append_row-requires-clause-few
 append_row-requires-clause-few g c =
-    let places = c.args.s.now.places in
+    let places = c.args.part.now.l.now.places in
     let fits = row-fits c.loop-state.state places in
-    let taken = length-taken c.args.s.now.labels (before c.loop-state.state places) places (before-le c.loop-state.state places) in
-    let size = length-AddsShifted c.args.shift (map (transition_of c.args.s.now.labels) (take (before c.loop-state.state places) places))
+    let taken = length-taken c.args.part.now.l.now.labels (before c.loop-state.state places) places
+    (before-le c.loop-state.state places) in
+    let size = length-AddsShifted c.args.part.now.shift
+    (map (transition_of c.args.part.now.l.now.labels) (take (before c.loop-state.state places) places))
     c.args.self.now.labels c.loop-state.self.labels c.args.self.now.triples.items c.loop-state.self.triples.items c.loop-state.invariant.added in
     let few : length c.loop-state.self.triples.items + length (row_of c.loop-state.state places) ≤ MOST_TRANSITIONS = omega (arith, c.requires.few) in
     few
 
 pub append_row-requires-clause-room : goal.append_row-requires-clause-room
-append_row-requires-clause-room g c = let fits = row-fits c.loop-state.state c.args.s.now.places in search rules
+append_row-requires-clause-room g c =
+    let fits = row-fits c.loop-state.state c.args.part.now.l.now.places in
+    search rules
 
 pub returns-in_err-append_row-clause-visits : goal.returns-in_err-append_row-clause-visits
-returns-in_err-append_row-clause-visits g c = let fits = row-fits c.loop-state.state c.args.s.now.places in search rules
+returns-in_err-append_row-clause-visits g c =
+    let fits = row-fits c.loop-state.state c.args.part.now.l.now.places in
+    search rules
 
 pub loop-state-preserved : goal.loop-state-preserved
 loop-state-preserved g c =
-    let next = before-next c.loop-state.state c.args.s.now.places in
+    let next = before-next c.loop-state.state c.args.part.now.l.now.places in
     record {
       guesses = c.append_row.ensures.guesses ∙ c.loop-state.invariant.guesses;
       joined = c.in_ok-append_row.ensures.joined;
       added =
-          AddsShifted-row c.args.shift c.args.s.now.labels c.args.s.now.places c.loop-state.state
+          AddsShifted-row c.args.part.now.shift c.args.part.now.l.now.labels c.args.part.now.l.now.places
+          c.loop-state.state
           c.args.self.now.labels c.loop-state.self.labels c.append_row.new.self.labels c.args.self.now.triples.items c.loop-state.self.triples.items c.append_row.new.self.triples.items
           c.states-state-end.ensures.lts.rising c.loop-state.invariant.added c.in_ok-append_row.ensures.added;
       visits = search rules;
     }
 
 -- at the last state, all places are before it
-all : (g : Over) (c : goal.After-loop-state g) → before c.loop-state.state c.args.s.now.places ≡ length c.args.s.now.places
+all : (g : Over) (c : goal.After-loop-state g) →
+    before c.loop-state.state c.args.part.now.l.now.places ≡ length c.args.part.now.l.now.places
 all g c =
-    let s = c.args.s.now in
+    let s = c.args.part.now.l.now in
     let at : c.loop-state.state ≡ s.states = omega (arith, c.states-state-end.ensures.value) in
     ap (λ n. before n s.places) at
     ∙ before-all s.states s.places
@@ -61,8 +73,9 @@ all g c =
 
 pub returns-clause-added : goal.returns-clause-added
 returns-clause-added g c =
-    let s = c.args.s.now in
-    subst (λ l. AddsShifted c.args.shift (map (transition_of s.labels) l) c.args.self.now.labels c.args.self.now.triples.items c.loop-state.self.labels c.loop-state.self.triples.items)
+    let s = c.args.part.now.l.now in
+    subst (λ l. AddsShifted c.args.part.now.shift (map (transition_of s.labels) l) c.args.self.now.labels
+    c.args.self.now.triples.items c.loop-state.self.labels c.loop-state.self.triples.items)
     (ap (λ n. take n s.places) (all g c) ∙ take_all (length s.places) s.places (omega arith)) c.loop-state.invariant.added
 
 pub returns-clause-visits : goal.returns-clause-visits

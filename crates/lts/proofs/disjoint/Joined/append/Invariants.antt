@@ -7,7 +7,10 @@ use Rattle.lts.proofs.disjoint.Joined.append.Given as goal
 abbrev pub invariant-loop-state : goal.invariant-loop-state
 invariant-loop-state g l = record {
   guesses : length l.self.guesses.items ≡ length l.initial.self.guesses.items;
-  joined : IsJoined l.self.labels (l.shift + l.s.states) l.self.triples.items;
-  added : AddsShifted l.shift (map (transition_of l.s.labels) (take (before l.state l.s.places) l.s.places)) l.initial.self.labels l.initial.self.triples.items l.self.labels l.self.triples.items;
-  visits : Costs (g.M.Meter.counted l.initial.m) (g.M.Meter.counted l.m) 0 (before l.state l.s.places) (before l.state l.s.places);
+  joined : IsJoined l.self.labels (l.part.shift + l.part.l.now.states) l.self.triples.items;
+  added : AddsShifted l.part.shift (map (transition_of l.part.l.now.labels)
+      (take (before l.state l.part.l.now.places) l.part.l.now.places)) l.initial.self.labels
+      l.initial.self.triples.items l.self.labels l.self.triples.items;
+  visits : Costs (g.M.Meter.counted l.initial.m) (g.M.Meter.counted l.m) 0 (before l.state l.part.l.now.places)
+      (before l.state l.part.l.now.places);
 }

@@ -7,7 +7,9 @@ use Rattle.lts.proofs.disjoint.Joined.append_row.Given as goal
 abbrev pub invariant-loop-k : goal.invariant-loop-k
 invariant-loop-k g l = record {
   guesses : length l.self.guesses.items ≡ length l.initial.self.guesses.items;
-  joined : IsJoined l.self.labels (l.shift + l.s.states) l.self.triples.items;
-  added : AddsShifted l.shift (map (transition_of l.s.labels) (take (l.k - l.start) (row_of l.state l.s.places))) l.initial.self.labels l.initial.self.triples.items l.self.labels l.self.triples.items;
+  joined : IsJoined l.self.labels (l.part.shift + l.part.l.now.states) l.self.triples.items;
+  added : AddsShifted l.part.shift (map (transition_of l.part.l.now.labels)
+      (take (l.k - l.start) (row_of l.state l.part.l.now.places))) l.initial.self.labels l.initial.self.triples.items
+      l.self.labels l.self.triples.items;
   visits : Costs (g.M.Meter.counted l.initial.m) (g.M.Meter.counted l.m) 0 (l.k - l.start) (l.k - l.start);
 }
