@@ -10,11 +10,11 @@ use Rattle.lists.specs.Lists.{pair_cmp, list_at, merged, AreLists, Grow, HasOne}
 use Rattle.lists.specs.Nodes.{AreStored}
 use Rattle.lists.specs.Hashes.{fingerprint_of, mixed}
 use Rattle.lists.specs.Hashed.{AreDifferent, IsNewList}
-use Rattle.lists.specs.Extended.{ShareNone, Includes, kept_at, extended, IsExtension, extended_lists, AreExtended}
-use Rattle.lists.specs.Unions.{Unites, IsUnion, AreUnions}
-use Rattle.lists.specs.Known.{IsNone}
-use Rattle.lists.proofs.Noting.{IsUnion-none}
+use Rattle.lists.specs.Extended.{ShareNone, Includes, kept_at, extended, IsExtension, extended_lists, AreExtended, TableGrows}
+use Rattle.lists.specs.Unions.{Unites}
 use Rattle.lists.specs.declared.nodes.TheConstants.{MOST_LISTS}
+use Rattle.lists.specs.declared.numbered.Table.{Table}
+use Rattle.lists.proofs.Joining.{Grow-twice}
 use Rattle.lists.proofs.Storing.{All-only, list-old, list-new}
 use Rattle.lists.proofs.Merging.{merged_nil, merged_has, merged_rises}
 use Rattle.lists.proofs.Rising.{here, rising_none}
@@ -65,6 +65,23 @@ module _ {old new : List (List (ℕ × ℕ))} (grow : Grow old new) where
       let same = lists-grow kept each in
       let size = ap length same in
       record { longer = omega arith; same = λ k low. ap (λ ls. list_at ls k) same }
+
+  -- and so does what is kept, if the table is as it was
+  pub TableGrows-trie : (before after : Table) → after.kept ≡ before.kept → after.buckets ≡ before.buckets → AreExtended old before.kept before.buckets
+      → TableGrows old new before after
+  TableGrows-trie before after kept tags are = record {
+    are = rw (kept, tags) (AreExtended-grow before.kept before.buckets are);
+    trie = grow;
+    lists = rw kept (Grow-lists before.kept are.each);
+  }
+
+pub TableGrows-after : {a b c : List (List (ℕ × ℕ))} {before after : Table} → Grow a b → AreExtended a before.kept before.buckets → TableGrows b c before after
+    → TableGrows a c before after
+TableGrows-after {a} {b} {c} {before} grow are keeps = record {
+  are = keeps.are;
+  trie = Grow-twice grow keeps.trie;
+  lists = Grow-twice (Grow-lists grow before.kept are.each) keeps.lists;
+}
 
 -- two lists of one base
 pub same_base : (trie : List (List (ℕ × ℕ))) (x y : ℕ × List (ℕ × ℕ)) → IsExtension trie x → IsExtension trie y → x.0 ≡ y.0
@@ -271,30 +288,26 @@ IsExtension-whole trie base low = record {
 }
 
 -- the trie grows, and there is one list more
-module _ {old new : List (List (ℕ × ℕ))} (grow : Grow old new) (kept : List (ℕ × List (ℕ × ℕ))) (x : ℕ × List (ℕ × ℕ))
-    (each : All (IsExtension old) (kept ++ x ∷ [])) where
-  all_more : extended_lists new (kept ++ x ∷ []) ≡ extended_lists old kept ++ extended old x ∷ []
-  all_more = lists-grow grow (kept ++ x ∷ []) each ∙ map-append (extended old) kept (x ∷ [])
+module _ {old new : List (List (ℕ × ℕ))} (grow : Grow old new) (before after : Table) (x : ℕ × List (ℕ × ℕ)) (tag : ℕ)
+    (kept : after.kept ≡ before.kept ++ x ∷ []) (tags : after.buckets ≡ before.buckets ++ tag ∷ [])
+    (are : AreExtended old (before.kept ++ x ∷ []) (before.buckets ++ tag ∷ [])) where
+  all_more : extended_lists new after.kept ≡ extended_lists old before.kept ++ extended old x ∷ []
+  all_more = ap (extended_lists new) kept ∙ lists-grow grow (before.kept ++ x ∷ []) are.each ∙ map-append (extended old) before.kept (x ∷ [])
 
-  pub Grow-more : Grow (extended_lists old kept) (extended_lists new (kept ++ x ∷ []))
-  Grow-more = subst (Grow (extended_lists old kept)) (sym all_more) (record {
-    longer = omega (arith, length_push (extended_lists old kept) (extended old x));
-    same = list-old (extended_lists old kept) (extended old x);
-  })
+  pub TableGrows-push : TableGrows old new before after
+  TableGrows-push = record {
+    are = rw (kept, tags) (AreExtended-grow grow (before.kept ++ x ∷ []) (before.buckets ++ tag ∷ []) are);
+    trie = grow;
+    lists = rw all_more (record {
+      longer = omega (arith, length_push (extended_lists old before.kept) (extended old x));
+      same = list-old (extended_lists old before.kept) (extended old x);
+    });
+  }
 
-  pub list_more : (k : ℕ) → k ≡ length kept → list_at (extended_lists new (kept ++ x ∷ [])) k ≡ extended old x
-  list_more k e = ap (λ ls. list_at ls k) all_more ∙ list-new (extended_lists old kept) (extended old x) k (e ∙ sym (extended_size old kept))
+  pub list_more : (k : ℕ) → k ≡ length before.kept → list_at (extended_lists new after.kept) k ≡ extended old x
+  list_more k e = ap (λ ls. list_at ls k) all_more ∙ list-new (extended_lists old before.kept) (extended old x) k (e ∙ sym (extended_size old before.kept))
 
-pub more_within : (trie : List (List (ℕ × ℕ))) (kept : List (ℕ × List (ℕ × ℕ))) (x : ℕ × List (ℕ × ℕ)) (k : ℕ) → k ≡ length kept
-    → k < length (extended_lists trie (kept ++ x ∷ []))
-more_within trie kept x k e = omega (arith, extended_size trie (kept ++ x ∷ []), length_push kept x)
-
--- the empty list alone, and no union
-pub lists_first : (trie : List (List (ℕ × ℕ))) (kept : List (ℕ × List (ℕ × ℕ))) (tags : List ℕ) (unions : List ((ℕ × ℕ) × ℕ)) → trie ≡ [] ∷ []
-    → kept ≡ (0, []) ∷ [] → tags ≡ 0 ∷ [] → All IsNone unions → AreExtended trie kept tags × AreUnions trie unions
-lists_first trie kept tags unions one first tag none =
-    let some = ap length one in (
-      subst (λ t. AreExtended t kept tags) (sym one) (subst (λ k. AreExtended ([] ∷ []) k tags) (sym first)
-          (subst (AreExtended ([] ∷ []) ((0, []) ∷ [])) (sym tag) AreExtended-first)),
-      λ z d. subst (λ w. IsUnion trie w.0 w.1) (sym (All-contains IsNone unions z none d)) (IsUnion-none trie (omega arith)),
-    )
+-- the empty list alone
+pub lists_first : (trie : List (List (ℕ × ℕ))) (kept : List (ℕ × List (ℕ × ℕ))) (tags : List ℕ) → trie ≡ [] ∷ [] → kept ≡ (0, []) ∷ [] → tags ≡ 0 ∷ []
+    → AreExtended trie kept tags
+lists_first trie kept tags one first tag = rw (one, first, tag) AreExtended-first

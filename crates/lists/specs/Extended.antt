@@ -1,13 +1,14 @@
 -- How `Lists` keeps its lists: each as a list of the trie, its base, and few pairs beside it.
 use Rattle.buckets.specs.Buckets.{tag_at}
-use Rattle.std.specs.Prelude.{◌≡◌, ℕ, Bool, false, not, ◌+◌, ◌<◌, ◌≤◌, List, [], ◌++◌, length, map, take, drop, slice_index}
+use Rattle.std.specs.Prelude.{◌≡◌, ℕ, Bool, Option, Some, not, ◌+◌, ◌<◌, ◌≤◌, List, [], ◌++◌, length, map, take, drop, slice_index}
 use Rattle.std.specs.List.{All, Contains, slice_range, slice_index_or}
 use Rattle.std.specs.List.Sorted.{IsStrictlySortedBy, IsSorted, IsPermutation}
 use Rattle.std.specs.Ordering.{eq_by_cmp}
 use Rattle.std.specs.Set.{is_member}
 use Rattle.lists.specs.declared.kept.Extension.{Extension}
 use Rattle.lists.specs.declared.kept.Slot.{Slot}
-use Rattle.lists.specs.Lists.{pair_cmp, list_at, merged}
+use Rattle.lists.specs.declared.numbered.Table.{Table}
+use Rattle.lists.specs.Lists.{pair_cmp, list_at, merged, Grow}
 use Rattle.lists.specs.Hashes.{fingerprint_of, mixed}
 use Rattle.lists.specs.Hashed.{AreDifferent}
 
@@ -72,13 +73,19 @@ pub record AreExtended (trie : List (List (ℕ × ℕ))) (kept : List (ℕ × Li
   pub size : length tags ≡ length kept
   pub tagged : (k : ℕ) → 0 < k → k < length kept → tag_at tags k ≡ mixed (fingerprint_of (extended trie (kept_at kept k)))
 
+-- the trie and the table may have more lists than before, and have all that they had
+pub record TableGrows (old new : List (List (ℕ × ℕ))) (before after : Table) : Type 0 where
+  pub are : AreExtended new after.kept after.buckets
+  pub trie : Grow old new
+  pub lists : Grow (extended_lists old before.kept) (extended_lists new after.kept)
+
 -- the bases of the lists of these numbers
 abbrev pub bases_of : List (ℕ × List (ℕ × ℕ)) → List ℕ → List ℕ
 bases_of kept numbers = map (λ k. (kept_at kept k).0) numbers
 
--- the pairs beside the base are merged, since it is that of the union, and the lists are few
-abbrev pub IsOwn : ℕ → Bool → ℕ → Type 0
-IsOwn base many other = (many ≡ false) × (other ≡ base)
+-- the pairs beside the base are merged
+abbrev pub IsOwn : Option ℕ → ℕ → Type 0
+IsOwn own base = own ≡ Some base
 
 -- the pair is beside the base of one of these numbers, for which the condition holds
 abbrev pub HasBeside : List (ℕ × List (ℕ × ℕ)) → List ℕ → (ℕ → Type 0) → ℕ × ℕ → Type 0

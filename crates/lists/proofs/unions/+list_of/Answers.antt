@@ -32,6 +32,6 @@ list_of-requires-2 t c =
 
 pub number-requires-2 : goal.number-requires-2
 number-requires-2 t c =
-    AreIn-parts c.list_of.new.lists c.list_of-2.new.lists _ c.args.pairs.now c.parted.result.0.now c.parted.result.1.now c.list_of-2.ensures.grow
+    AreIn-parts c.list_of.new.trie c.list_of-2.new.trie _ c.args.pairs.now c.parted.result.0.now c.parted.result.1.now c.list_of-2.ensures.grow
     c.in_ok-below.ensures.within c.in_ok-below.ensures.list c.in_ok-above.ensures.within c.in_ok-above.ensures.list
     c.parted.ensures (at_cut t ((goal.at.number-requires-2 t c).After-parted)) (omega (arith, c.if-pairs-le-FEW.false))

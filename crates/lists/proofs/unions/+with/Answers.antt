@@ -12,7 +12,7 @@ use Rattle.lists.proofs.unions.+with.Goals.{After-known-2}
 
 pub with-requires : goal.with-requires
 with-requires t c =
-    let is = c.pieces_with_pairs-pieces.ensures c.args.lists.now c.known.ensures.stored c.in-Halved.ensures in
+    let is = c.pieces_with_pairs-pieces.ensures c.args.trie.now c.known.ensures.stored c.in-Halved.ensures in
     let less = (parts_fewer is.pairs is.list.parted is.cut).0 in
     let first = is.list.first in
     let low = c.requires.list in
@@ -21,7 +21,7 @@ with-requires t c =
 
 pub with-requires-2 : goal.with-requires-2
 with-requires-2 t c =
-    let is = c.pieces_with_pairs-pieces.ensures c.args.lists.now c.known.ensures.stored c.in-Halved.ensures in
+    let is = c.pieces_with_pairs-pieces.ensures c.args.trie.now c.known.ensures.stored c.in-Halved.ensures in
     let less = (parts_fewer is.pairs is.list.parted is.cut).1 in
     let second = is.list.second in
     let low = c.requires.list in
@@ -33,26 +33,26 @@ with-requires-2 t c =
 -- the unions of both parts are the halves of the union
 united_in : (t : ℕ) (c : After-known-2 t)
     → let h : Halves = record { below = c.in_ok-below.below; above = c.in_ok-above.above; cut = c.pieces_with_pairs-pieces.result.cut } in
-    AreIn c.with-2.new.lists h
-    × Unites (list_at c.with-2.new.lists h.below ++ list_at c.with-2.new.lists h.above) c.args.pairs.now (list_at c.args.lists.now c.args.k)
+    AreIn c.with-2.new.trie h
+    × Unites (list_at c.with-2.new.trie h.below ++ list_at c.with-2.new.trie h.above) c.args.pairs.now (list_at c.args.trie.now c.args.k)
 united_in t c =
     let pieces = c.pieces_with_pairs-pieces.result in
-    let is = c.pieces_with_pairs-pieces.ensures c.args.lists.now c.known.ensures.stored c.in-Halved.ensures in
+    let is = c.pieces_with_pairs-pieces.ensures c.args.trie.now c.known.ensures.stored c.in-Halved.ensures in
     let second = is.list.second in
     let low = c.requires.list in
-    AreIn-united c.with.new.lists c.with-2.new.lists _ c.known-2.ensures.stored c.with-2.ensures.grow c.in_ok-below.ensures.within
+    AreIn-united c.with.new.trie c.with-2.new.trie _ c.known-2.ensures.stored c.with-2.ensures.grow c.in_ok-below.ensures.within
     c.in_ok-below.ensures.exactly c.in_ok-above.ensures.within
-    (subst (Unites (list_at c.with-2.new.lists c.in_ok-above.above) pieces.above.1.now) (c.with.ensures.grow.same pieces.above.0 (omega arith))
+    (subst (Unites (list_at c.with-2.new.trie c.in_ok-above.above) pieces.above.1.now) (c.with.ensures.grow.same pieces.above.0 (omega arith))
     c.in_ok-above.ensures.exactly)
     is.pairs is.list.parted (c.known.ensures.stored.rise c.args.k _ low) (halved_long c.in-Halved.ensures) is.cut
 
 pub returns-then-above-pieces-clause-exactly : goal.returns-then-above-pieces-clause-exactly
 returns-then-above-pieces-clause-exactly t c =
-    let lists = c.args.lists.now in
+    let lists = c.args.trie.now in
     let pieces = c.pieces_with_pairs-pieces.result in
     let is = c.pieces_with_pairs-pieces.ensures lists c.known.ensures.stored c.in-Halved.ensures in
     let grow = Grow-twice c.with.ensures.grow c.with-2.ensures.grow in
-    let new = c.with-2.new.lists in
+    let new = c.with-2.new.trie in
     let first = is.list.first in
     let second = is.list.second in
     let low = c.requires.list in
@@ -69,7 +69,7 @@ number-requires t c = (united_in t ((goal.at.number-requires t c).After-known-2)
 pub returns-clause-exactly : goal.returns-clause-exactly
 returns-clause-exactly t c =
     let both = (united_in t ((goal.at.returns-clause-exactly t c).After-known-2)).1 in
-    IfOk-weaker c.number.result _ _ (λ i e. subst (λ l. Unites l c.args.pairs.now (list_at c.args.lists.now c.args.k)) (sym e) both) c.number.ensures.list
+    IfOk-weaker c.number.result _ _ (λ i e. subst (λ l. Unites l c.args.pairs.now (list_at c.args.trie.now c.args.k)) (sym e) both) c.number.ensures.list
 
 pub returns-clause-grow : goal.returns-clause-grow
 returns-clause-grow t c = Grow-twice (Grow-twice c.with.ensures.grow c.with-2.ensures.grow) c.number.ensures.grow

@@ -5,40 +5,30 @@ use Rattle.lists.specs.Lists.{list_at, Grow}
 use Rattle.lists.specs.Nodes.{AreIn}
 use Rattle.lists.specs.Unions.{Unites}
 use Rattle.lists.proofs.Uniting.{parts_fewer, halved_long, AreIn-united}
-use Rattle.lists.proofs.Joining.{AreUnions-grow, Grow-twice, or_swap}
-use Rattle.lists.proofs.unions.+both.Goals as goal
-use Rattle.lists.proofs.unions.+both.Goals.{After-known-2, In_ok-i}
+use Rattle.lists.proofs.Joining.{Grow-twice, or_swap}
+use Rattle.lists.proofs.unions.Bases.+both.Goals as goal
+use Rattle.lists.proofs.unions.Bases.+both.Goals.{After-known-2, In_ok-i}
 
 -- a list that is kept as it is
-pub returns-in_default-clause-unions : goal.returns-in_default-clause-unions
-returns-in_default-clause-unions t c = AreUnions-grow c.with_list.ensures.grow c.args.known.now c.requires.unions
-
-pub returns-in_default-shape-clause-unions : goal.returns-in_default-shape-clause-unions
-returns-in_default-shape-clause-unions t c = AreUnions-grow c.with_list-in_default-shape.ensures.grow c.args.known.now c.requires.unions
-
 pub returns-in_default-shape-clause-exactly : goal.returns-in_default-shape-clause-exactly
 returns-in_default-shape-clause-exactly t c =
     IfOk-weaker c.with_list-in_default-shape.result _ _ (λ i h z. or_swap (h z)) c.with_list-in_default-shape.ensures.exactly
 
--- a union that was noted
-pub returns-in-Some-clause-exactly : goal.returns-in-Some-clause-exactly
-returns-in-Some-clause-exactly t c = (c.in-Some.ensures c.args.lists.now c.requires.unions).exactly
-
 -- two long lists
 pub both-requires : goal.both-requires
 both-requires t c =
-    let is = c.pieces_of_both-cut.ensures c.args.lists.now c.known.ensures.stored c.in-Halved.ensures c.in-Halved-shape.ensures in
+    let is = c.pieces_of_both-cut.ensures c.args.self.now.trie c.known.ensures.stored c.in-Halved.ensures c.in-Halved-shape.ensures in
     let less = (parts_fewer is.first.parted is.second.parted is.cut).0 in
     let d = c.decreases in
     let one = is.first.first in
     let two = is.second.first in
     let j = c.requires.first in
     let k = c.requires.second in
-    (omega arith, (c.requires.unions, (omega arith, omega arith)))
+    (omega arith, (omega arith, omega arith))
 
 pub both-requires-2 : goal.both-requires-2
 both-requires-2 t c =
-    let is = c.pieces_of_both-cut.ensures c.args.lists.now c.known.ensures.stored c.in-Halved.ensures c.in-Halved-shape.ensures in
+    let is = c.pieces_of_both-cut.ensures c.args.self.now.trie c.known.ensures.stored c.in-Halved.ensures c.in-Halved-shape.ensures in
     let less = (parts_fewer is.first.parted is.second.parted is.cut).1 in
     let d = c.decreases in
     let one = is.first.second in
@@ -49,22 +39,22 @@ both-requires-2 t c =
     let longer = grow.longer in
     let same = ap length (grow.same c.pieces_of_both-cut.result.above.0 (omega arith)) in
     let same' = ap length (grow.same c.pieces_of_both-cut.result.above.1 (omega arith)) in
-    (omega arith, (c.both.ensures.unions, (omega arith, omega arith)))
+    (omega arith, (omega arith, omega arith))
 
 -- the unions of both parts are the halves of the union
 united_in : (t : ℕ) (c : After-known-2 t)
     → let h : Halves = record { below = c.in_ok-below.below; above = c.in_ok-above.above; cut = c.pieces_of_both-cut.result.cut } in
-    AreIn c.both-2.new.lists h
-    × Unites (list_at c.both-2.new.lists h.below ++ list_at c.both-2.new.lists h.above) (list_at c.args.lists.now c.args.j) (list_at c.args.lists.now c.args.k)
+    AreIn c.both-2.new.self.trie h
+    × Unites (list_at c.both-2.new.self.trie h.below ++ list_at c.both-2.new.self.trie h.above) (list_at c.args.self.now.trie c.args.j) (list_at c.args.self.now.trie c.args.k)
 united_in t c =
-    let lists = c.args.lists.now in
+    let lists = c.args.self.now.trie in
     let above = c.pieces_of_both-cut.result.above in
     let is = c.pieces_of_both-cut.ensures lists c.known.ensures.stored c.in-Halved.ensures c.in-Halved-shape.ensures in
     let one = is.first.second in
     let two = is.second.second in
     let j = c.requires.first in
     let k = c.requires.second in
-    AreIn-united c.both.new.lists c.both-2.new.lists _ c.known-2.ensures.stored c.both-2.ensures.grow c.in_ok-below.ensures.within
+    AreIn-united c.both.new.self.trie c.both-2.new.self.trie _ c.known-2.ensures.stored c.both-2.ensures.grow c.in_ok-below.ensures.within
     c.in_ok-below.ensures.exactly c.in_ok-above.ensures.within
     (subst₂ (Unites _) (c.both.ensures.grow.same above.0 (omega arith)) (c.both.ensures.grow.same above.1 (omega arith))
     c.in_ok-above.ensures.exactly)
@@ -75,23 +65,17 @@ number-requires t c = (united_in t ((goal.at.number-requires t c).After-known-2)
 
 -- the union is noted
 module _ (t : ℕ) (c : In_ok-i t) where
-  grown : Grow c.args.lists.now c.number.new.self
+  grown : Grow c.args.self.now.trie c.number.new.self
   grown = Grow-twice (Grow-twice c.both.ensures.grow c.both-2.ensures.grow) c.number.ensures.grow
 
-  exactly : Unites (list_at c.number.new.self c.in_ok-i.i) (list_at c.args.lists.now c.args.j) (list_at c.args.lists.now c.args.k)
+  exactly : Unites (list_at c.number.new.self c.in_ok-i.i) (list_at c.args.self.now.trie c.args.j) (list_at c.args.self.now.trie c.args.k)
   exactly =
-      subst (λ l. Unites l (list_at c.args.lists.now c.args.j) (list_at c.args.lists.now c.args.k)) (sym c.in_ok-i.ensures.list)
+      subst (λ l. Unites l (list_at c.args.self.now.trie c.args.j) (list_at c.args.self.now.trie c.args.k)) (sym c.in_ok-i.ensures.list)
       (united_in t ((goal.at.In_ok-i t c).After-known-2)).1
 
-pub returns-in_err-i-clause-unions : goal.returns-in_err-i-clause-unions
-returns-in_err-i-clause-unions t c = AreUnions-grow c.number.ensures.grow c.both-2.new.known c.both-2.ensures.unions
-
-pub note-requires-clause-unions : goal.note-requires-clause-unions
-note-requires-clause-unions t c = AreUnions-grow c.number.ensures.grow c.both-2.new.known c.both-2.ensures.unions
-
-pub note-requires-clause-union : goal.note-requires-clause-union
-note-requires-clause-union t c =
-    let at = (goal.at.note-requires-clause-union t c).In_ok-i in
+pub note-requires : goal.note-requires
+note-requires t c =
+    let at = (goal.at.note-requires t c).In_ok-i in
     let grow = grown t at in
     let longer = grow.longer in
     let j = c.requires.first in
@@ -104,10 +88,13 @@ note-requires-clause-union t c =
     }
 
 pub returns-in_err-note-clause-grow : goal.returns-in_err-note-clause-grow
-returns-in_err-note-clause-grow t c = grown t ((goal.at.returns-in_err-note-clause-grow t c).In_ok-i)
+returns-in_err-note-clause-grow t c = rw c.note.ensures (grown t ((goal.at.returns-in_err-note-clause-grow t c).In_ok-i))
+
+pub returns-clause-within : goal.returns-clause-within
+returns-clause-within t c = rw c.note.ensures c.in_ok-i.ensures.within
 
 pub returns-clause-exactly : goal.returns-clause-exactly
-returns-clause-exactly t c = exactly t ((goal.at.returns-clause-exactly t c).In_ok-i)
+returns-clause-exactly t c = rw c.note.ensures (exactly t ((goal.at.returns-clause-exactly t c).In_ok-i))
 
 pub returns-clause-grow : goal.returns-clause-grow
-returns-clause-grow t c = grown t ((goal.at.returns-clause-grow t c).In_ok-i)
+returns-clause-grow t c = rw c.note.ensures (grown t ((goal.at.returns-clause-grow t c).In_ok-i))

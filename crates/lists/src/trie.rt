@@ -1,15 +1,17 @@
-//! Different lists of pairs, so that a list that is asked for again has the number that it got the first time: the layer above
-//! `nodes`.
-ghost use Rattle.std.specs.Prelude.{◌≡◌, ◌↔◌, ℕ, ◌++◌, ◌∷◌, ◌<◌, List, [], length, IfOk, OnOk, OnErr, IsTrue};
+//! Different lists of pairs, so that a list that is asked for again has the number that it got the first time, and the unions of
+//! two that were made: the layer above `nodes`.
+ghost use Rattle.std.specs.Prelude.{◌≡◌, ◌↔◌, ℕ, ◌++◌, ◌∷◌, ◌<◌, List, [], length, IfOk, IfSome, OnOk, OnErr, IsTrue};
 ghost use Rattle.std.specs.List.{Contains};
 ghost use Rattle.lists.specs.Lists.{list_at, Grow};
 ghost use Rattle.lists.specs.Nodes.{AreStored, IsShape, list_of_shape, Suits};
 ghost use Rattle.lists.specs.Hashed.{AreDifferent};
 ghost use Rattle.lists.specs.Hashes.{fingerprint_of};
+ghost use Rattle.lists.specs.Unions.{IsUnion};
 
 use crate::cut::key;
 use crate::hashed::{find, put};
 use crate::hashes::{fingerprint, mix};
+use crate::known::Known;
 use crate::nodes::{Nodes, Shape};
 use crate::ordered::has;
 use buckets::Buckets;
@@ -18,50 +20,54 @@ use std::alloc::Global;
 use std::marker::Model;
 
 /// Different lists of pairs in strictly rising order. The list number `EMPTY` is the empty one.
-pub(crate) struct Distinct {
+pub(crate) struct Trie {
     nodes: Nodes,
     /// The fingerprint of each list.
     sums: Vec<u64>,
     /// The number of each list under its tag.
     buckets: Buckets,
+    known: Known,
 }
 
 /// Written out, so that it is dropped by one call and not by one for each part.
-impl Drop for Distinct {
+impl Drop for Trie {
     fn drop(self) {
-        let Distinct {
+        let Trie {
             nodes: _,
             sums: _,
             buckets: _,
+            known: _,
         } = self;
     }
 }
 
-impl Model for Distinct {
+impl Model for Trie {
     ghost use Rattle.std.specs.Prelude.{ℕ, List};
 
     ghost Value = { List (List (ℕ × ℕ)) };
 
     ghost use Rattle.lists.specs.Hashed.{IsHashed};
+    ghost use Rattle.lists.specs.Unions.{AreUnions};
 
     ghost view = { λ x. x.nodes };
 
-    ghost invariant = { λ x. IsHashed x.nodes x.sums.items x.buckets };
+    ghost invariant = { λ x. IsHashed x.nodes x.sums.items x.buckets × AreUnions x.nodes x.known };
 }
 
-impl Distinct {
+impl Trie {
     /// The empty list alone.
     ///
     /// Fails if there is no memory for it.
-    pub fn new(alloc: Global) -> Result<Distinct, Memory>
+    pub fn new(alloc: Global) -> Result<Trie, Memory>
         ensures { IfOk result (λ x. x ≡ [] ∷ []) }
     {
         let mut sums = Vec::new(alloc);
         sums.push(0)?;
-        Ok(Distinct {
+        Ok(Trie {
             nodes: Nodes::new(alloc)?,
             sums,
             buckets: Buckets::new(alloc, 0)?,
+            known: Known::new(alloc)?,
         })
     }
 
@@ -123,6 +129,23 @@ impl Distinct {
         )
     }
 
+    /// The number of the list that has the pairs of both lists, if it was noted.
+    pub fn noted(&self, j: u32, k: u32) -> Option<u32>
+        ensures { IfSome result (IsUnion self.now (j, k)) }
+    {
+        self.known.find(j.min(k), j.max(k))
+    }
+
+    /// Notes that the list number `i` has the pairs of both lists.
+    ///
+    /// Fails if there is no memory for it.
+    pub fn note(&mut self, j: u32, k: u32, i: u32) -> Result<(), Memory>
+        requires { IsUnion self.old (j, k) i }
+        ensures { self.new ≡ self.old }
+    {
+        self.known.note(j.min(k), j.max(k), i)
+    }
+
     /// Whether the list number `k` has the pair.
     pub fn has(&self, k: u32, pair: (u32, u32)) -> bool
         requires { k < length self.now }
@@ -169,5 +192,6 @@ impl Distinct {
         self.nodes.clear();
         self.sums.truncate(1);
         self.buckets.clear();
+        self.known.clear();
     }
 }

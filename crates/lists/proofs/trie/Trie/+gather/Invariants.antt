@@ -1,4 +1,4 @@
-use Rattle.lists.proofs.distinct.Distinct.+gather.Given as goal
+use Rattle.lists.proofs.trie.Trie.+gather.Given as goal
 
 abbrev pub decreases-gather : goal.decreases-gather
 decreases-gather l = l.k

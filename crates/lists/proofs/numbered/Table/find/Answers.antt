@@ -4,8 +4,8 @@ use Rattle.lists.specs.Lists.{list_at}
 use Rattle.lists.specs.Extended.{parts_of, extended, extended_lists, IsExtension}
 use Rattle.lists.proofs.Joining.{Grow-same, Grow-twice}
 use Rattle.lists.proofs.Numbering.{none_last, none_before, extended_at, extended-grow, IsExtension-grow, kept_is}
-use Rattle.lists.proofs.numbered.find.Goals as goal
-use Rattle.lists.proofs.numbered.find.Goals.{After-of}
+use Rattle.lists.proofs.numbered.Table.find.Goals as goal
+use Rattle.lists.proofs.numbered.Table.find.Goals.{After-of}
 
 pub loop-r-init : goal.loop-r-init
 loop-r-init c =
@@ -13,14 +13,14 @@ loop-r-init c =
     let some = c.requires.kept.some in
     let below = c.last-r.ensures.below in
     record {
-      grow = Grow-same c.args.trie.now;
+      grow = Grow-same c.args.bases.now.trie;
       below = omega arith;
       tagged = c.last-r.ensures.tagged;
-      none = none_last c.requires.kept (extended c.args.trie.now (parts_of c.args.list)) c.args.tag c.requires.tag c.last-r.result c.last-r.ensures;
+      none = none_last c.requires.kept (extended c.args.bases.now.trie (parts_of c.args.list)) c.args.tag c.requires.tag c.last-r.result c.last-r.ensures;
     }
 
-at_r : (c : After-of) → IsExtension c.args.trie.now (parts_of c.of.result)
-at_r c = subst (IsExtension c.args.trie.now) (sym c.of.ensures) (kept_is c.args.trie.now c.args.kept.now c.requires.kept.each c.loop-r.r c.loop-r.invariant.below)
+at_r : (c : After-of) → IsExtension c.args.bases.now.trie (parts_of c.of.result)
+at_r c = subst (IsExtension c.args.bases.now.trie) (sym c.of.ensures) (kept_is c.args.bases.now.trie c.args.self.now.kept c.requires.kept.each c.loop-r.r c.loop-r.invariant.below)
 
 pub is_same-requires-clause-one : goal.is_same-requires-clause-one
 is_same-requires-clause-one c = IsExtension-grow c.loop-r.invariant.grow (parts_of c.of.result) (at_r ((goal.at.is_same-requires-clause-one c).After-of))
@@ -30,12 +30,12 @@ is_same-requires-clause-other c = IsExtension-grow c.loop-r.invariant.grow (part
 
 -- what the comparison says of the lists as they were
 module _ (c : After-of) where
-  list_r : list_at (extended_lists c.args.trie.now c.args.kept.now) c.loop-r.r ≡ extended c.loop-r.trie (parts_of c.of.result)
+  list_r : list_at (extended_lists c.args.bases.now.trie c.args.self.now.kept) c.loop-r.r ≡ extended c.loop-r.bases.trie (parts_of c.of.result)
   list_r =
-      extended_at c.args.trie.now c.args.kept.now c.loop-r.r c.loop-r.invariant.below ∙ ap (extended c.args.trie.now) (sym c.of.ensures)
+      extended_at c.args.bases.now.trie c.args.self.now.kept c.loop-r.r c.loop-r.invariant.below ∙ ap (extended c.args.bases.now.trie) (sym c.of.ensures)
       ∙ sym (extended-grow c.loop-r.invariant.grow (parts_of c.of.result) (at_r c))
 
-  list_is : extended c.loop-r.trie (parts_of c.args.list) ≡ extended c.args.trie.now (parts_of c.args.list)
+  list_is : extended c.loop-r.bases.trie (parts_of c.args.list) ≡ extended c.args.bases.now.trie (parts_of c.args.list)
   list_is = extended-grow c.loop-r.invariant.grow (parts_of c.args.list) c.requires.list
 
 pub loop-r-preserved : goal.loop-r-preserved
@@ -48,7 +48,7 @@ loop-r-preserved c =
       grow = Grow-twice before.grow c.is_same.ensures.grow;
       below = let low = before.below in omega arith;
       tagged = λ p. c.before-next.ensures.tagged p ∙ before.tagged some;
-      none = none_before c.requires.kept (extended c.args.trie.now (parts_of c.args.list)) c.args.tag c.requires.tag c.loop-r.r c.before-next.result
+      none = none_before c.requires.kept (extended c.args.bases.now.trie (parts_of c.args.list)) c.args.tag c.requires.tag c.loop-r.r c.before-next.result
           (before.tagged some) c.before-next.ensures (λ e. both_ways _ c.if-branch.false (c.in_ok-is_same.ensures.same.1 (sym (list_r at) ∙ e ∙ sym (list_is at))))
           before.none;
     }

@@ -3,12 +3,12 @@ use Rattle.std.proofs.lemmas.Result.{IfOk-weaker}
 use Rattle.lists.specs.Lists.{list_at}
 use Rattle.lists.specs.Cuts.{Fit}
 use Rattle.lists.specs.Unions.{Unites}
-use Rattle.lists.proofs.unions.with_list.Goals as goal
-use Rattle.lists.proofs.unions.with_list.Goals.{After-deref}
+use Rattle.lists.proofs.unions.Bases.with_list.Goals as goal
+use Rattle.lists.proofs.unions.Bases.with_list.Goals.{After-deref}
 
 -- the list that is read
-held_is : (c : After-deref) → c.deref.result.now ≡ list_at c.args.lists.now c.args.few
-held_is c = c.deref.ensures.value ∙ c.in_ok-gather.ensures.appended ∙ ap (λ l. l ++ list_at c.args.lists.now c.args.few) c.clear.ensures.items
+held_is : (c : After-deref) → c.deref.result.now ≡ list_at c.args.self.now.trie c.args.few
+held_is c = c.deref.ensures.value ∙ c.in_ok-gather.ensures.appended ∙ ap (λ l. l ++ list_at c.args.self.now.trie c.args.few) c.clear.ensures.items
 
 pub with-requires-clause-fit : goal.with-requires-clause-fit
 with-requires-clause-fit c =
@@ -18,4 +18,4 @@ pub returns-clause-exactly : goal.returns-clause-exactly
 returns-clause-exactly c =
     let held = held_is ((goal.at.returns-clause-exactly c).After-deref) in
     IfOk-weaker c.with.result _ _
-    (λ i h. subst (λ l. Unites (list_at c.with.new.lists i) l (list_at c.args.lists.now c.args.k)) held h) c.with.ensures.exactly
+    (λ i h. subst (λ l. Unites (list_at c.with.new.trie i) l (list_at c.args.self.now.trie c.args.k)) held h) c.with.ensures.exactly

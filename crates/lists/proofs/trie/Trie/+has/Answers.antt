@@ -1,5 +1,5 @@
 use Rattle.lists.proofs.Uniting.{has_below, has_above}
-use Rattle.lists.proofs.distinct.Distinct.+has.Goals as goal
+use Rattle.lists.proofs.trie.Trie.+has.Goals as goal
 
 pub returns-then-key-halves : goal.returns-then-key-halves
 returns-then-key-halves t c =
