@@ -1,20 +1,19 @@
 -- Lists with bases: how they stay as the trie grows, which are the same, and one list more.
-use Rattle.std.proofs.Common.{◌≡◌, ◌∙◌, ◌⊎◌, ◌↔◌, ℕ, ◌<◌, ◌≤◌, List, [], ◌∷◌, ◌++◌, length, slice_index, Contains, ap, sym, subst, refl, inl, inr, arith}
+use Rattle.std.proofs.Common.{◌≡◌, ◌∙◌, ◌⊎◌, ◌↔◌, ℕ, ◌<◌, ◌≤◌, List, [], ◌∷◌, ◌++◌, length, map, slice_index, Contains, ap, sym, subst, refl, inl, inr, arith}
 use Rattle.std.specs.List.{All}
 use Rattle.std.specs.List.Sorted.{IsStrictlySortedBy}
-use Rattle.std.proofs.lemmas.Bool.{cases_lt, cases_eq, cases_order}
-use Rattle.std.proofs.lemmas.List.{length-map, length_push, map-append, get_or-map, get_or_default, get_or_append_left, get_or_push}
+use Rattle.std.proofs.lemmas.Bool.{cases_lt, cases_eq}
+use Rattle.std.proofs.lemmas.List.{length-map, length_push, map-append, get_or-map, get_or_default, get_or_append_left}
 use Rattle.std.proofs.lemmas.List.Elements.{All-head, All-tail, All-append, All-weaker, All-contains}
-use Rattle.buckets.specs.Buckets.{tag_at, IsLast}
 use Rattle.lists.specs.Lists.{pair_cmp, list_at, merged, AreLists, Grow, HasOne}
 use Rattle.lists.specs.Nodes.{AreStored}
-use Rattle.lists.specs.Hashes.{fingerprint_of, mixed}
-use Rattle.lists.specs.Hashed.{AreDifferent, IsNewList}
+use Rattle.lists.specs.Hashed.{tag_of, AreDifferent, IsNewList}
 use Rattle.lists.specs.Extended.{ShareNone, Includes, kept_at, extended, IsExtension, extended_lists, AreExtended, TableGrows}
 use Rattle.lists.specs.Unions.{Unites}
 use Rattle.lists.specs.declared.nodes.TheConstants.{MOST_LISTS}
 use Rattle.lists.specs.declared.numbered.Table.{Table}
 use Rattle.lists.proofs.Joining.{Grow-twice}
+use Rattle.lists.proofs.Hashing.{IsReached}
 use Rattle.lists.proofs.Storing.{All-only, list-old, list-new}
 use Rattle.lists.proofs.Merging.{merged_nil, merged_has, merged_rises}
 use Rattle.lists.proofs.Rising.{here, rising_none}
@@ -55,9 +54,7 @@ module _ {old new : List (List (ℕ × ℕ))} (grow : Grow old new) where
     some = are.some;
     first = are.first;
     different = subst AreDifferent (sym (lists-grow kept are.each)) are.different;
-    size = are.size;
-    tagged = λ k some low.
-        are.tagged k some low ∙ ap (λ l. mixed (fingerprint_of l)) (sym (extended-grow (kept_at kept k) (kept_is old kept are.each k low)));
+    tagged = are.tagged ∙ ap (map tag_of) (sym (lists-grow kept are.each));
   }
 
   pub Grow-lists : (kept : List (ℕ × List (ℕ × ℕ))) → All (IsExtension old) kept → Grow (extended_lists old kept) (extended_lists new kept)
@@ -98,35 +95,13 @@ pub whole_is : (trie new : List (List (ℕ × ℕ))) (x : ℕ × List (ℕ × �
 whole_is trie new x i stored stored' is low unites =
     unites_is_merged (list_at new i) x.1 (list_at trie x.0) (stored'.rise i [] low) is.rising (stored.rise x.0 [] is.base) unites
 
--- the lists are known by their tags
-pub tag_is : {trie : List (List (ℕ × ℕ))} {kept : List (ℕ × List (ℕ × ℕ))} {tags : List ℕ} (are : AreExtended trie kept tags) (list : List (ℕ × ℕ)) (q : ℕ)
-    → 0 < q → q < length kept → list_at (extended_lists trie kept) q ≡ list → tag_at tags q ≡ mixed (fingerprint_of list)
-tag_is {trie} {kept} are list q some low e =
-    are.tagged q some low ∙ ap (λ l. mixed (fingerprint_of l)) (sym (extended_at trie kept q low) ∙ e)
-
--- no list with a number above r is this one
-abbrev pub NoneAfter : List (List (ℕ × ℕ)) → List (ℕ × ℕ) → ℕ → Type 0
-NoneAfter lists list r = (q : ℕ) → r < q → q < length lists → list_at lists q ≡ list → ⊥
-
-module _ {trie : List (List (ℕ × ℕ))} {kept : List (ℕ × List (ℕ × ℕ))} {tags : List ℕ} (are : AreExtended trie kept tags) (list : List (ℕ × ℕ)) (tag : ℕ)
-    (tag_of : tag ≡ mixed (fingerprint_of list)) where
-  pub none_last : (r : ℕ) → IsLast tags tag (length tags) r → NoneAfter (extended_lists trie kept) list r
-  none_last r last q more low e =
-      let size = are.size in
-      let all = extended_size trie kept in
-      last.others q more (omega arith) (tag_is are list q (omega arith) (omega arith) e ∙ sym tag_of)
-
-  pub none_before : (r next : ℕ) → tag_at tags r ≡ tag → IsLast tags (tag_at tags r) r next → (list_at (extended_lists trie kept) r ≡ list → ⊥)
-      → NoneAfter (extended_lists trie kept) list r → NoneAfter (extended_lists trie kept) list next
-  none_before r next at last other none q more low e = elim (cases_order q r) [
-    | inl same ↦ other (subst (λ k. list_at (extended_lists trie kept) k ≡ list) same e)
-    | inr order ↦ elim order [
-      | inl less ↦
-          let all = extended_size trie kept in
-          last.others q more less (tag_is are list q (omega arith) (omega arith) e ∙ sym tag_of ∙ sym at)
-      | inr past ↦ none q past low e
-    ]
-  ]
+-- the number that a search has reached is that of a list
+pub reached_low : (trie : List (List (ℕ × ℕ))) (kept : List (ℕ × List (ℕ × ℕ))) (list : List (ℕ × ℕ)) (r : ℕ) → 1 ≤ length kept
+    → IsReached (extended_lists trie kept) list r → r < length kept
+reached_low trie kept list r some is =
+    let size = extended_size trie kept in
+    let low = is.below (omega arith) in
+    omega arith
 
 -- different lists with one more
 pub AreDifferent-push : (lists : List (List (ℕ × ℕ))) (list : List (ℕ × ℕ)) → AreDifferent lists
@@ -150,9 +125,6 @@ module _ (trie : List (List (ℕ × ℕ))) (kept : List (ℕ × List (ℕ × ℕ
   kept-old : (k : ℕ) → k < length kept → kept_at (kept ++ x ∷ []) k ≡ kept_at kept k
   kept-old k low = get_or_append_left kept (x ∷ []) (0, []) k low
 
-  kept-new : (k : ℕ) → k ≡ length kept → kept_at (kept ++ x ∷ []) k ≡ x
-  kept-new k e = get_or_push kept x (0, []) k (sym e)
-
   lists-push : extended_lists trie (kept ++ x ∷ []) ≡ extended_lists trie kept ++ extended trie x ∷ []
   lists-push = map-append (extended trie) kept (x ∷ [])
 
@@ -167,11 +139,9 @@ module _ (trie : List (List (ℕ × ℕ))) (kept : List (ℕ × List (ℕ × ℕ
   ]
 
   pub AreExtended-push : IsExtension trie x → list_at trie 0 ≡ [] → (extended trie x ≡ [] → ⊥) → IsNewList (extended_lists trie kept) (extended trie x)
-      → tag ≡ mixed (fingerprint_of (extended trie x)) → AreExtended trie (kept ++ x ∷ []) (tags ++ tag ∷ [])
-  AreExtended-push is none some absent tag_of =
+      → tag ≡ tag_of (extended trie x) → AreExtended trie (kept ++ x ∷ []) (tags ++ tag ∷ [])
+  AreExtended-push is none some absent tagged =
       let longer = length_push kept x in
-      let longer' = length_push tags tag in
-      let size = are.size in
       let old = are.some in
       record {
         each = All-append (IsExtension trie) kept (x ∷ []) are.each (All-only (IsExtension trie) x is);
@@ -179,15 +149,8 @@ module _ (trie : List (List (ℕ × ℕ))) (kept : List (ℕ × List (ℕ × ℕ
         first = kept-old 0 are.some ∙ are.first;
         different = subst AreDifferent (sym lists-push)
             (AreDifferent-push (extended_lists trie kept) (extended trie x) are.different (absent_all none some absent));
-        size = omega arith;
-        tagged = λ k some low. elim (cases_lt k (length kept)) [
-          | inl o ↦
-              get_or_append_left tags (tag ∷ []) 0 k (omega arith) ∙ are.tagged k some o
-              ∙ ap (λ y. mixed (fingerprint_of (extended trie y))) (sym (kept-old k o))
-          | inr n ↦
-              get_or_push tags tag 0 k (omega arith) ∙ tag_of
-              ∙ ap (λ y. mixed (fingerprint_of (extended trie y))) (sym (kept-new k (omega arith)))
-        ];
+        tagged = (λ i. are.tagged i ++ tagged i ∷ []) ∙ sym (map-append tag_of (extended_lists trie kept) (extended trie x ∷ []))
+            ∙ ap (map tag_of) (sym lists-push);
       }
 
 -- the lists as they are known
@@ -195,7 +158,7 @@ pub AreLists-extended : {trie : List (List (ℕ × ℕ))} {kept : List (ℕ × L
     → length tags ≤ MOST_LISTS → AreLists (extended_lists trie kept)
 AreLists-extended {trie} {kept} {tags} stored are few =
     let all = extended_size trie kept in
-    let size = are.size in
+    let size = ap length are.tagged ∙ length-map (extended_lists trie kept) tag_of in
     let some = are.some in
     record {
       rise = λ k d low.
@@ -216,8 +179,7 @@ AreExtended-first = record {
   some = omega arith;
   first = refl;
   different = λ j k low high e. omega arith;
-  size = refl;
-  tagged = λ k some low. absurd (omega arith);
+  tagged = refl;
 }
 
 no_pairs : (list : List (ℕ × ℕ)) → ((z : ℕ × ℕ) → Contains list z → ⊥) → list ≡ []

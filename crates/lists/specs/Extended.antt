@@ -1,5 +1,4 @@
 -- How `Lists` keeps its lists: each as a list of the trie, its base, and few pairs beside it.
-use Rattle.buckets.specs.Buckets.{tag_at}
 use Rattle.std.specs.Prelude.{◌≡◌, ℕ, Bool, Option, Some, not, ◌+◌, ◌<◌, ◌≤◌, List, [], ◌++◌, length, map, take, drop, slice_index}
 use Rattle.std.specs.List.{All, Contains, slice_range, slice_index_or}
 use Rattle.std.specs.List.Sorted.{IsStrictlySortedBy, IsSorted, IsPermutation}
@@ -7,10 +6,10 @@ use Rattle.std.specs.Ordering.{eq_by_cmp}
 use Rattle.std.specs.Set.{is_member}
 use Rattle.lists.specs.declared.kept.Extension.{Extension}
 use Rattle.lists.specs.declared.kept.Slot.{Slot}
+use Rattle.lists.specs.declared.kept.TheConstants.{NO_SLOT}
 use Rattle.lists.specs.declared.numbered.Table.{Table}
 use Rattle.lists.specs.Lists.{pair_cmp, list_at, merged, Grow}
-use Rattle.lists.specs.Hashes.{fingerprint_of, mixed}
-use Rattle.lists.specs.Hashed.{AreDifferent}
+use Rattle.lists.specs.Hashed.{tag_of, AreDifferent}
 
 -- no pair is in both lists
 abbrev pub ShareNone : List (ℕ × ℕ) → List (ℕ × ℕ) → Type 0
@@ -28,10 +27,6 @@ is_lacking list z = not (is_member (eq_by_cmp pair_cmp) list z)
 abbrev pub parts_of : Extension → ℕ × List (ℕ × ℕ)
 parts_of x = (x.base, x.few.now)
 
--- the slot of the empty list
-abbrev pub no_slot : Slot
-no_slot = record { base = 0; count = 0; start = 0 }
-
 -- what a slot has
 abbrev pub kept_in : List (ℕ × ℕ) → Slot → ℕ × List (ℕ × ℕ)
 kept_in pairs x = (x.base, slice_range pairs x.start (x.start + x.count))
@@ -44,7 +39,7 @@ all_kept pairs slots = map (kept_in pairs) slots
 pub record AreSlots (pairs : List (ℕ × ℕ)) (slots : List Slot) : Type 0 where
   pub within : All (λ x. x.start + x.count ≤ length pairs) slots
   pub some : 1 ≤ length slots
-  pub first : slice_index_or slots 0 no_slot ≡ no_slot
+  pub first : slice_index_or slots 0 NO_SLOT ≡ NO_SLOT
 
 -- what is kept of the list number k
 abbrev pub kept_at : List (ℕ × List (ℕ × ℕ)) → ℕ → ℕ × List (ℕ × ℕ)
@@ -64,14 +59,13 @@ pub record IsExtension (trie : List (List (ℕ × ℕ))) (x : ℕ × List (ℕ �
 abbrev pub extended_lists : List (List (ℕ × ℕ)) → List (ℕ × List (ℕ × ℕ)) → List (List (ℕ × ℕ))
 extended_lists trie kept = map (extended trie) kept
 
--- different lists, each of which but the first, the empty one, has the tag of its pairs
+-- different lists, the first of which is empty, and their tags
 pub record AreExtended (trie : List (List (ℕ × ℕ))) (kept : List (ℕ × List (ℕ × ℕ))) (tags : List ℕ) : Type 0 where
   pub each : All (IsExtension trie) kept
   pub some : 1 ≤ length kept
   pub first : kept_at kept 0 ≡ (0, [])
   pub different : AreDifferent (extended_lists trie kept)
-  pub size : length tags ≡ length kept
-  pub tagged : (k : ℕ) → 0 < k → k < length kept → tag_at tags k ≡ mixed (fingerprint_of (extended trie (kept_at kept k)))
+  pub tagged : tags ≡ map tag_of (extended_lists trie kept)
 
 -- the trie and the table may have more lists than before, and have all that they had
 pub record TableGrows (old new : List (List (ℕ × ℕ))) (before after : Table) : Type 0 where

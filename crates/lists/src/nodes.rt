@@ -40,18 +40,12 @@ pub(crate) enum Shape<'a> {
 
 /// Lists of pairs in strictly rising order, each under the number that a push returned for it. The list number `EMPTY` is the
 /// empty one.
+#[derive(Drop)]
 pub(crate) struct Nodes {
     /// The lists that are kept as they are, one after the other.
     pairs: Vec<(u32, u32)>,
     /// How each list is kept.
     nodes: Vec<Node>,
-}
-
-/// Written out, so that it is dropped by one call and not by one for each part.
-impl Drop for Nodes {
-    fn drop(self) {
-        let Nodes { pairs: _, nodes: _ } = self;
-    }
 }
 
 impl Model for Nodes {
@@ -190,7 +184,7 @@ pub(crate) fn make_room<T>(kept: &mut Vec<T>) -> Result<(), Memory>
 }
 
 /// So many pairs from the start on.
-fn part(pairs: &[(u32, u32)], start: usize, count: u32) -> &[(u32, u32)]
+pub(crate) fn part(pairs: &[(u32, u32)], start: usize, count: u32) -> &[(u32, u32)]
     requires { start + count ≤ length pairs.now }
     ensures { result.now ≡ slice_range pairs.now start (start + count) }
 {

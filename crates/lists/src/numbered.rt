@@ -1,8 +1,8 @@
 //! How a list with a base and pairs beside it gets its number: it is found by a tag that its pairs alone decide.
 ghost use Rattle.std.specs.Prelude.{◌≡◌, ◌↔◌, ◌++◌, ◌∷◌, ◌<◌, ◌≤◌, [], length, IfOk, OnOk, OnErr, IsTrue, MatchOption};
 ghost use Rattle.lists.specs.Lists.{list_at, Grow};
-ghost use Rattle.lists.specs.Hashes.{fingerprint_of, mixed};
-ghost use Rattle.lists.specs.Hashed.{IsNewList, IsNumberOf};
+ghost use Rattle.lists.specs.Hashes.{fingerprint_of};
+ghost use Rattle.lists.specs.Hashed.{tag_of, IsNewList, IsNumberOf};
 ghost use Rattle.lists.specs.Extended.{parts_of, extended, IsExtension, extended_lists, AreExtended, TableGrows};
 ghost use Rattle.lists.specs.declared.nodes.TheConstants.{FEW};
 
@@ -16,21 +16,12 @@ use buckets::{Buckets, EMPTY};
 use growth::Memory;
 
 /// Lists as they are kept, and how each is found.
+#[derive(Drop)]
 pub(crate) struct Table {
     /// The base of each list, and the pairs beside it.
     pub kept: Kept,
     /// The number of each list under its tag.
     pub buckets: Buckets,
-}
-
-/// Written out, so that it is dropped by one call and not by one for each part.
-impl Drop for Table {
-    fn drop(self) {
-        let Table {
-            kept: _,
-            buckets: _,
-        } = self;
-    }
 }
 
 impl Table {
@@ -91,7 +82,7 @@ impl Table {
     fn find(&self, bases: &mut Bases, list: Extension<'_>, tag: u32) -> Result<Option<u32>, Memory>
         requires kept { AreExtended bases.old.trie self.now.kept self.now.buckets }
         requires list { IsExtension bases.old.trie (parts_of list) }
-        requires tag { tag ≡ mixed (fingerprint_of (extended bases.old.trie (parts_of list))) }
+        requires tag { tag ≡ tag_of (extended bases.old.trie (parts_of list)) }
         ensures found { let all = extended_lists bases.old.trie self.now.kept in
             let list = extended bases.old.trie (parts_of list.entry) in
             IfOk result (λ found. MatchOption found (IsNewList all list) (IsNumberOf all list)) }

@@ -15,24 +15,13 @@ use buckets::EMPTY;
 use growth::Memory;
 
 /// The bases of lists, and what they are put together in.
+#[derive(Drop)]
 pub(crate) struct Bases {
     pub trie: Trie,
     pub held: Vec<(u32, u32)>,
     pub merged: Vec<(u32, u32)>,
     /// Marks that pairs are put in order by.
     pub marks: Vec<u64>,
-}
-
-/// Written out, so that it is dropped by one call and not by one for each part.
-impl Drop for Bases {
-    fn drop(self) {
-        let Bases {
-            trie: _,
-            held: _,
-            merged: _,
-            marks: _,
-        } = self;
-    }
 }
 
 impl Bases {
@@ -169,40 +158,6 @@ fn pieces_with_pairs(k: u32, halves: Halves, pairs: &[(u32, u32)]) -> Pieces<&[(
     }
 }
 
-/// The number of the list that has the pairs of the list number `k`, which is kept whole, and these.
-///
-/// Fails if there is no memory for it. The lists that there were are as they were.
-#[inline(always)]
-fn with_short(
-    trie: &mut Trie,
-    merged: &mut Vec<(u32, u32)>,
-    k: u32,
-    pairs: &[(u32, u32)],
-) -> Result<u32, Memory>
-    requires list { k < length trie.old }
-    requires short { length (list_at trie.old k) ≤ FEW }
-    requires rising { IsStrictlySortedBy pair_cmp pairs.now }
-    requires fit { Fit pairs.now }
-    ensures within { IfOk result (λ i. i < length trie.new) }
-    ensures exactly { IfOk result
-        (λ i. Unites (list_at trie.new i) pairs.now (list_at trie.old k)) }
-    ensures grow { Grow trie.old trie.new }
-{
-    trie.known();
-    if k == EMPTY {
-        return list_of(trie, pairs);
-    }
-    let Shape::Whole(list) = trie.shape(k) else {
-        return Ok(k);
-    };
-    if has_all(list, pairs) {
-        return Ok(k);
-    }
-    merged.clear();
-    append_merged(list, pairs, merged)?;
-    list_of(trie, merged)
-}
-
 /// The number of the list that has the pairs of the list number `k` and these. Lists are put together in `merged`.
 ///
 /// Fails if there is no memory for it. The lists that there were are as they were.
@@ -224,18 +179,30 @@ pub(crate) fn with(
     if pairs.is_empty() {
         return Ok(k);
     }
-    let Shape::Halved(halves) = trie.shape(k) else {
-        return with_short(trie, merged, k, pairs);
-    };
-    let pieces = pieces_with_pairs(k, halves, pairs);
-    let below = with(trie, merged, pieces.below.0, pieces.below.1)?;
-    let above = with(trie, merged, pieces.above.0, pieces.above.1)?;
-    trie.known();
-    if below == pieces.below.0 && above == pieces.above.0 {
-        return Ok(k);
+    if k == EMPTY {
+        return list_of(trie, pairs);
     }
-    let cut = pieces.cut;
-    trie.number(Shape::Halved(Halves { below, above, cut }))
+    match trie.shape(k) {
+        Shape::Whole(list) => {
+            if has_all(list, pairs) {
+                return Ok(k);
+            }
+            merged.clear();
+            append_merged(list, pairs, merged)?;
+            list_of(trie, merged)
+        }
+        Shape::Halved(halves) => {
+            let pieces = pieces_with_pairs(k, halves, pairs);
+            let below = with(trie, merged, pieces.below.0, pieces.below.1)?;
+            let above = with(trie, merged, pieces.above.0, pieces.above.1)?;
+            trie.known();
+            if below == pieces.below.0 && above == pieces.above.0 {
+                return Ok(k);
+            }
+            let cut = pieces.cut;
+            trie.number(Shape::Halved(Halves { below, above, cut }))
+        }
+    }
 }
 
 /// The lists number `j` and `k`, which have these halves, in two.

@@ -1,16 +1,12 @@
-use Rattle.std.proofs.Common.{◌≡◌, ◌<◌, length}
-use Rattle.buckets.specs.Buckets.{tag_at}
 use Rattle.lists.specs.Lists.{Grow}
 use Rattle.lists.specs.Extended.{parts_of, extended, extended_lists}
-use Rattle.lists.proofs.Numbering.{NoneAfter}
+use Rattle.lists.proofs.Hashing.{IsReached}
 use Rattle.lists.proofs.numbered.Table.find.Given as goal
 
 abbrev pub invariant-loop-r : goal.invariant-loop-r
 invariant-loop-r l = record {
   grow : Grow l.fn.bases.trie l.bases.trie;
-  below : l.r < length l.self.kept;
-  tagged : 0 < l.r → tag_at l.self.buckets l.r ≡ l.tag;
-  none : NoneAfter (extended_lists l.fn.bases.trie l.self.kept) (extended l.fn.bases.trie (parts_of l.list)) l.r;
+  reached : IsReached (extended_lists l.fn.bases.trie l.self.kept) (extended l.fn.bases.trie (parts_of l.list)) l.r;
 }
 
 abbrev pub decreases-loop-r : goal.decreases-loop-r

@@ -1,16 +1,16 @@
 use Rattle.std.proofs.Common.{◌≡◌, ◌∙◌, ◌++◌, ◌∷◌, [], length, ap, subst, refl, eq-eqb, ◌<◌, arith}
 use Rattle.std.specs.Option.{MatchOption}
 use Rattle.std.proofs.lemmas.Bool.{both_ways}
-use Rattle.std.proofs.lemmas.List.{length_push}
+use Rattle.std.proofs.lemmas.List.{length-map, length_push}
 use Rattle.lists.specs.Lists.{list_at}
-use Rattle.lists.specs.Hashes.{mixed, fingerprint_of}
-use Rattle.lists.specs.Hashed.{IsNewList, IsNumberOf}
+use Rattle.lists.specs.Hashes.{mixed}
+use Rattle.lists.specs.Hashed.{tag_of, IsNewList, IsNumberOf}
 use Rattle.lists.specs.Extended.{parts_of, extended, extended_lists, AreExtended}
 use Rattle.lists.proofs.Numbering.{TableGrows-trie, TableGrows-push, lists-grow, AreExtended-push, extended_size, extended_some, list_more}
 use Rattle.lists.proofs.numbered.Table.number.Goals as goal
 use Rattle.lists.proofs.numbered.Table.number.Goals.{After-mix-tag, In-Some, In_ok-number-2, else-list-eq-EMPTY-via-then-list-eq-EMPTY+else-is_empty, else-list-eq-EMPTY-via-else-list-eq-EMPTY}
 
-tag_is : (c : After-mix-tag) → c.mix-tag.result ≡ mixed (fingerprint_of (extended c.args.bases.now.trie (parts_of c.args.list)))
+tag_is : (c : After-mix-tag) → c.mix-tag.result ≡ tag_of (extended c.args.bases.now.trie (parts_of c.args.list))
 tag_is c = c.mix-tag.ensures ∙ ap mixed c.sum_of.ensures
 
 pub find-requires-clause-tag : goal.find-requires-clause-tag
@@ -42,6 +42,11 @@ pub returns-in-Some-clause-list : goal.returns-in-Some-clause-list
 returns-in-Some-clause-list c =
     ap (λ ls. list_at ls c.in-Some.number) (lists-grow c.find.ensures.grow c.args.self.now.kept c.requires.kept.each)
     ∙ (found ((goal.at.returns-in-Some-clause-list c).In-Some)).2
+
+pub put-requires-clause-size : goal.put-requires-clause-size
+put-requires-clause-size c =
+    ap length c.requires.kept.tagged ∙ length-map (extended_lists c.args.bases.now.trie c.args.self.now.kept) tag_of
+    ∙ extended_size c.args.bases.now.trie c.args.self.now.kept
 
 -- the list is not the empty one
 not_both : (c : In_ok-number-2) → c.args.list.base ≡ 0 → c.args.list.few.now ≡ [] → ⊥
