@@ -268,8 +268,3 @@ module _ {old new : List (List (ℕ × ℕ))} (grow : Grow old new) (before afte
 
   pub list_more : (k : ℕ) → k ≡ length before.kept → list_at (extended_lists new after.kept) k ≡ extended old x
   list_more k e = ap (λ ls. list_at ls k) all_more ∙ list-new (extended_lists old before.kept) (extended old x) k (e ∙ sym (extended_size old before.kept))
-
--- the empty list alone
-pub lists_first : (trie : List (List (ℕ × ℕ))) (kept : List (ℕ × List (ℕ × ℕ))) (tags : List ℕ) → trie ≡ [] ∷ [] → kept ≡ (0, []) ∷ [] → tags ≡ 0 ∷ []
-    → AreExtended trie kept tags
-lists_first trie kept tags one first tag = rw (one, first, tag) AreExtended-first

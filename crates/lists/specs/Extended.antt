@@ -1,7 +1,7 @@
 -- How `Lists` keeps its lists: each as a list of the trie, its base, and few pairs beside it.
-use Rattle.std.specs.Prelude.{◌≡◌, ℕ, Bool, Option, Some, not, ◌+◌, ◌<◌, ◌≤◌, List, [], ◌++◌, length, map, take, drop, slice_index}
+use Rattle.std.specs.Prelude.{◌≡◌, ℕ, Bool, Option, Some, not, ◌+◌, ◌<◌, ◌≤◌, List, [], length, map, slice_index}
 use Rattle.std.specs.List.{All, Contains, slice_range, slice_index_or}
-use Rattle.std.specs.List.Sorted.{IsStrictlySortedBy, IsSorted, IsPermutation}
+use Rattle.std.specs.List.Sorted.{IsStrictlySortedBy}
 use Rattle.std.specs.Ordering.{eq_by_cmp}
 use Rattle.std.specs.Set.{is_member}
 use Rattle.lists.specs.declared.kept.Extension.{Extension}
@@ -85,10 +85,3 @@ IsOwn own base = own ≡ Some base
 abbrev pub HasBeside : List (ℕ × List (ℕ × ℕ)) → List ℕ → (ℕ → Type 0) → ℕ × ℕ → Type 0
 HasBeside kept numbers P z =
     (j : ℕ) × (j < length numbers) × (P (kept_at kept (slice_index numbers j)).0 × Contains (kept_at kept (slice_index numbers j)).1 z)
-
--- the pairs from a place on are put in order
-pub record IsSortedFrom (start : ℕ) (old new : List (ℕ × ℕ)) : Type 0 where
-  pub rest : List (ℕ × ℕ)
-  pub is : new ≡ take start old ++ rest
-  pub same : IsPermutation (drop start old) rest
-  pub sorted : IsSorted pair_cmp rest

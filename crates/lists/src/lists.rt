@@ -1,12 +1,13 @@
 //! Different lists of pairs and their unions, asked for by number: the top layer, which the crates above see.
-ghost use Rattle.std.specs.Prelude.{◌≡◌, ◌⊎◌, ◌↔◌, ℕ, ◌++◌, ◌∷◌, ◌<◌, ◌≤◌, List, [], length, IfOk, IfSome, OnOk, OnErr, IsTrue};
+ghost use Rattle.std.specs.Prelude.{◌≡◌, ◌⊎◌, ◌↔◌, ℕ, ◌++◌, ◌∷◌, ◌<◌, List, [], length, IfOk, IfSome, OnOk, OnErr, IsTrue};
 ghost use Rattle.std.specs.List.{All, Contains};
 ghost use Rattle.std.specs.List.Sorted.{IsStrictlySortedBy};
 ghost use Rattle.lists.specs.Lists.{pair_cmp, list_at, AreLists, AreNumbers, Grow, HasOne};
-ghost use Rattle.lists.specs.Extended.{Includes, parts_of, extended, IsExtension, IsSortedFrom};
+ghost use Rattle.lists.specs.Extended.{Includes};
 
+use crate::cut::fit;
 use crate::joined::union_of;
-use crate::kept::{Extension, Kept};
+use crate::kept::Kept;
 use crate::numbered::Table;
 use crate::ordered::{has, has_all};
 use crate::trie::Trie;
@@ -89,11 +90,18 @@ impl Lists {
     {
         self.bases.trie.known();
         let list = self.table.kept.of(k);
-        if list.base == EMPTY {
-            pairs.extend_from_slice(list.few)?;
-            return Ok(());
+        fit(list.few);
+        let had = pairs.len();
+        if self
+            .bases
+            .trie
+            .append_with(list.base, list.few, pairs)
+            .is_err()
+        {
+            pairs.truncate(had);
+            return Err(Memory);
         }
-        append(&self.bases.trie, list, pairs)
+        Ok(())
     }
 
     /// The number of the list that is equal to this one: a new one if there was none.
@@ -218,47 +226,4 @@ fn has_pairs(lists: &Lists, k: u32, pairs: &[(u32, u32)]) -> bool
         }
     }
     true
-}
-
-/// Appends the pairs of the base, and those beside it, in rising order to `pairs`.
-///
-/// Fails if there is no memory for it. `pairs` has then what it had.
-fn append(trie: &Trie, list: Extension<'_>, pairs: &mut Vec<(u32, u32)>) -> Result<(), Memory>
-    requires { IsExtension trie.now (parts_of list) }
-    ensures appended { OnOk result
-        (pairs.new.items ≡ pairs.old.items ++ extended trie.now (parts_of list.entry)) }
-    ensures err { OnErr result (pairs.new.items ≡ pairs.old.items) }
-{
-    trie.known();
-    let had = pairs.len();
-    if append_parts(trie, list, pairs).is_err() {
-        pairs.truncate(had);
-        return Err(Memory);
-    }
-    sort_from(pairs, had);
-    Ok(())
-}
-
-/// Puts the pairs from this place on in order.
-fn sort_from(pairs: &mut [(u32, u32)], start: usize)
-    requires { start ≤ length pairs.old }
-    ensures { IsSortedFrom start pairs.old pairs.new }
-{
-    pairs[start..].sort_unstable();
-}
-
-/// Appends the pairs of the base and then those beside it to `pairs`.
-///
-/// Fails if there is no memory for it. `pairs` has then maybe some pairs more.
-fn append_parts(trie: &Trie, list: Extension<'_>, pairs: &mut Vec<(u32, u32)>) -> Result<(), Memory>
-    requires { list.base < length trie.now }
-    ensures appended { OnOk result
-        (pairs.new.items ≡ pairs.old.items
-        ++ (list_at trie.now list.entry.base ++ list.entry.few.now)) }
-    ensures err { OnErr result ((more : List (ℕ × ℕ))
-        × (pairs.new.items ≡ pairs.old.items ++ more)) }
-{
-    trie.gather(list.base, pairs)?;
-    pairs.extend_from_slice(list.few)?;
-    Ok(())
 }

@@ -2,18 +2,20 @@
 //! two that were made: the layer above `nodes`.
 ghost use Rattle.std.specs.Prelude.{◌≡◌, ◌↔◌, ℕ, ◌++◌, ◌∷◌, ◌<◌, List, [], length, IfOk, IfSome, OnOk, OnErr, IsTrue};
 ghost use Rattle.std.specs.List.{Contains};
-ghost use Rattle.lists.specs.Lists.{list_at, Grow};
+ghost use Rattle.std.specs.List.Sorted.{IsStrictlySortedBy};
+ghost use Rattle.lists.specs.Lists.{pair_cmp, list_at, merged, Grow};
+ghost use Rattle.lists.specs.Cuts.{Fit};
 ghost use Rattle.lists.specs.Nodes.{AreStored, IsShape, list_of_shape, Suits};
 ghost use Rattle.lists.specs.Hashed.{AreDifferent};
 ghost use Rattle.lists.specs.Hashes.{fingerprint_of};
 ghost use Rattle.lists.specs.Unions.{IsUnion};
 
-use crate::cut::key;
+use crate::cut::{key, parted};
 use crate::hashed::{find, put};
 use crate::hashes::{fingerprint, mix};
 use crate::known::Known;
 use crate::nodes::{Nodes, Shape};
-use crate::ordered::has;
+use crate::ordered::{append_merged, has};
 use buckets::Buckets;
 use growth::Memory;
 use std::alloc::Global;
@@ -163,23 +165,30 @@ impl Trie {
         }
     }
 
-    /// Appends the list number `k` to `pairs`.
+    /// Appends the list number `k` and these pairs as one, in rising order, to `out`.
     ///
-    /// Fails if there is no memory for it. `pairs` has then maybe some pairs more.
-    pub fn gather(&self, k: u32, pairs: &mut Vec<(u32, u32)>) -> Result<(), Memory>
-        requires { k < length self.now }
-        ensures appended { OnOk result (pairs.new.items ≡ pairs.old.items ++ list_at self.now k) }
+    /// Fails if there is no memory for it. `out` has then maybe some pairs more.
+    pub fn append_with(
+        &self,
+        k: u32,
+        pairs: &[(u32, u32)],
+        out: &mut Vec<(u32, u32)>,
+    ) -> Result<(), Memory>
+        requires list { k < length self.now }
+        requires rising { IsStrictlySortedBy pair_cmp pairs.now }
+        requires fit { Fit pairs.now }
+        ensures appended { OnOk result
+            (out.new.items ≡ out.old.items ++ merged (list_at self.now k) pairs.now) }
         ensures err { OnErr result ((more : List (ℕ × ℕ))
-            × (pairs.new.items ≡ pairs.old.items ++ more)) }
+            × (out.new.items ≡ out.old.items ++ more)) }
     {
+        self.known();
         match self.shape(k) {
-            Shape::Whole(list) => {
-                pairs.extend_from_slice(list)?;
-                Ok(())
-            }
+            Shape::Whole(list) => append_merged(list, pairs, out),
             Shape::Halved(halves) => {
-                self.gather(halves.below, pairs)?;
-                self.gather(halves.above, pairs)
+                let (few, more) = parted(pairs, halves.cut);
+                self.append_with(halves.below, few, out)?;
+                self.append_with(halves.above, more, out)
             }
         }
     }

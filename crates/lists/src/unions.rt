@@ -3,11 +3,11 @@ ghost use Rattle.std.specs.Prelude.{◌≡◌, ℕ, ◌<◌, ◌≤◌, List, le
 ghost use Rattle.lists.specs.declared.nodes.TheConstants.{FEW};
 ghost use Rattle.std.specs.List.Sorted.{IsStrictlySortedBy};
 ghost use Rattle.lists.specs.Lists.{pair_cmp, list_at, Grow};
-ghost use Rattle.lists.specs.Cuts.{Fit, IsAlike, IsParted};
+ghost use Rattle.lists.specs.Cuts.{Fit, IsAlike};
 ghost use Rattle.lists.specs.Nodes.{AreStored, IsHalved};
 ghost use Rattle.lists.specs.Unions.{Unites, IsSplit, AreSplit, IsSplitWith};
 
-use crate::cut::{cut, fit, key};
+use crate::cut::{cut, key, parted};
 use crate::nodes::{FEW, Halves, Shape};
 use crate::ordered::{append_merged, has_all};
 use crate::trie::Trie;
@@ -66,6 +66,7 @@ impl Bases {
     /// Fails if there is no memory for it. The lists that there were are as they were.
     fn with_list(&mut self, few: u32, k: u32) -> Result<u32, Memory>
         requires few { few < length self.old.trie }
+        requires short { length (list_at self.old.trie few) ≤ FEW }
         requires list { k < length self.old.trie }
         ensures within { IfOk result (λ i. i < length self.new.trie) }
         ensures exactly { IfOk result (λ i. Unites (list_at self.new.trie i)
@@ -73,19 +74,13 @@ impl Bases {
         ensures grow { Grow self.old.trie self.new.trie }
     {
         self.trie.known();
+        let Shape::Whole(list) = self.trie.shape(few) else {
+            return Ok(k);
+        };
         self.held.clear();
-        self.trie.gather(few, &mut self.held)?;
+        self.held.extend_from_slice(list)?;
         with(&mut self.trie, &mut self.merged, k, &self.held)
     }
-}
-
-/// The pairs below the cut, and those from it on.
-fn parted(pairs: &[(u32, u32)], cut: u64) -> (&[(u32, u32)], &[(u32, u32)])
-    requires rising { IsStrictlySortedBy pair_cmp pairs.now }
-    requires fit { Fit pairs.now }
-    ensures { IsParted pairs.now cut result.0.now result.1.now }
-{
-    pairs.split_at(pairs.partition_point(|pair| key(*pair) < cut))
 }
 
 /// The number of the list of these pairs, which are in rising order.

@@ -1,6 +1,6 @@
 use Rattle.std.proofs.Common.{ℕ, arith}
 use Rattle.lists.specs.Cuts.{IsCut}
-use Rattle.lists.proofs.Keys.{parts_rise, parts_fit, parts_shorter}
+use Rattle.lists.proofs.Keys.{parts_both, parts_shorter}
 use Rattle.lists.proofs.Halving.{first_before_last, IsCut-place, AreIn-parts}
 use Rattle.lists.proofs.unions.+list_of.Goals as goal
 use Rattle.lists.proofs.unions.+list_of.Goals.{After-parted}
@@ -21,14 +21,14 @@ list_of-requires t c =
     let parts = c.parted.ensures in
     let shorter = parts_shorter _ _ _ _ parts (at_cut t ((goal.at.list_of-requires t c).After-parted)) in
     let d = c.decreases in
-    (omega (arith, shorter.0, d), ((parts_rise _ _ _ _ parts c.requires.rising).0, (parts_fit _ _ _ _ parts c.requires.fit).0))
+    (omega (arith, shorter.0, d), (parts_both _ _ _ _ parts c.requires.rising c.requires.fit).0)
 
 pub list_of-requires-2 : goal.list_of-requires-2
 list_of-requires-2 t c =
     let parts = c.parted.ensures in
     let shorter = parts_shorter _ _ _ _ parts (at_cut t ((goal.at.list_of-requires-2 t c).After-parted)) in
     let d = c.decreases in
-    (omega (arith, shorter.1, d), ((parts_rise _ _ _ _ parts c.requires.rising).1, (parts_fit _ _ _ _ parts c.requires.fit).1))
+    (omega (arith, shorter.1, d), (parts_both _ _ _ _ parts c.requires.rising c.requires.fit).1)
 
 pub number-requires-2 : goal.number-requires-2
 number-requires-2 t c =

@@ -6,7 +6,7 @@ use Rattle.lists.specs.Lists.{pair_cmp, list_at, merged}
 use Rattle.lists.specs.Nodes.{AreIn}
 use Rattle.lists.specs.Unions.{Unites}
 use Rattle.lists.proofs.Joining.{Grow-twice}
-use Rattle.lists.proofs.Keys.{parts_rise, parts_fit}
+use Rattle.lists.proofs.Keys.{parts_both}
 use Rattle.lists.proofs.Uniting.{parts_fewer, halved_long, AreIn-united, unites_merged}
 use Rattle.lists.proofs.Merging.{merged_has, merged_rises}
 use Rattle.lists.proofs.unions.+with.Goals as goal
@@ -19,7 +19,7 @@ with-requires t c =
     let first = is.list.first in
     let low = c.requires.list in
     let d = c.decreases in
-    (omega arith, (omega arith, ((parts_rise _ _ _ _ is.pairs c.requires.rising).0, (parts_fit _ _ _ _ is.pairs c.requires.fit).0)))
+    (omega arith, (omega arith, (parts_both _ _ _ _ is.pairs c.requires.rising c.requires.fit).0))
 
 pub with-requires-in-Halved : goal.with-requires-in-Halved
 with-requires-in-Halved t c =
@@ -30,7 +30,7 @@ with-requires-in-Halved t c =
     let d = c.decreases in
     let longer = c.with.ensures.grow.longer in
     let same = ap length (c.with.ensures.grow.same c.pieces_with_pairs-pieces.result.above.0 (omega arith)) in
-    (omega arith, (omega arith, ((parts_rise _ _ _ _ is.pairs c.requires.rising).1, (parts_fit _ _ _ _ is.pairs c.requires.fit).1)))
+    (omega arith, (omega arith, (parts_both _ _ _ _ is.pairs c.requires.rising c.requires.fit).1))
 
 -- the unions of both parts are the halves of the union
 united_in : (t : ℕ) (c : After-known-in-Halved t)
@@ -78,7 +78,7 @@ returns-else-below-pieces-clause-grow t c = Grow-twice (Grow-twice c.with.ensure
 
 -- the list is put together with the pairs
 both_are : (t : ℕ) (c : After-deref t) → c.deref.result.now ≡ merged (list_at c.args.trie.now c.args.k) c.args.pairs.now
-both_are t c = c.deref.ensures.value ∙ c.in_ok-append_merged-in-Whole.ensures ∙ (λ i. c.clear.ensures.items i ++ merged (c.in-Whole.ensures.0 i) c.args.pairs.now)
+both_are t c = c.deref.ensures.value ∙ c.in_ok-append_merged-in-Whole.ensures.appended ∙ (λ i. c.clear.ensures.items i ++ merged (c.in-Whole.ensures.0 i) c.args.pairs.now)
 
 pub list_of-requires-in-Whole-clause-rising : goal.list_of-requires-in-Whole-clause-rising
 list_of-requires-in-Whole-clause-rising t c =

@@ -2,7 +2,7 @@ use Rattle.std.proofs.Common.{ltb, rules}
 use Rattle.std.proofs.lemmas.List.Sorted.{IsPartitionPoint-from_clause}
 use Rattle.lists.specs.Cuts.{as_number}
 use Rattle.lists.proofs.Keys.{partitioned_keys, parted_is}
-use Rattle.lists.proofs.unions.parted.Goals as goal
+use Rattle.lists.proofs.cut.parted.Goals as goal
 
 pub returns : goal.returns
 returns c =
