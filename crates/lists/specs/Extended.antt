@@ -73,9 +73,13 @@ pub record TableGrows (old new : List (List (ℕ × ℕ))) (before after : Table
   pub trie : Grow old new
   pub lists : Grow (extended_lists old before.kept) (extended_lists new after.kept)
 
--- the bases of the lists of these numbers
-abbrev pub bases_of : List (ℕ × List (ℕ × ℕ)) → List ℕ → List ℕ
-bases_of kept numbers = map (λ k. (kept_at kept k).0) numbers
+-- one of the numbers has the property
+abbrev pub OneHas : (ℕ → Type 0) → List ℕ → Type 0
+OneHas P numbers = (j : ℕ) × (j < length numbers) × P (slice_index numbers j)
+
+-- the pair is in the base of one of these numbers
+abbrev pub HasBase : List (List (ℕ × ℕ)) → List (ℕ × List (ℕ × ℕ)) → List ℕ → ℕ × ℕ → Type 0
+HasBase trie kept numbers z = OneHas (λ k. Contains (list_at trie (kept_at kept k).0) z) numbers
 
 -- the pairs beside the base are merged
 abbrev pub IsOwn : Option ℕ → ℕ → Type 0
@@ -83,5 +87,4 @@ IsOwn own base = own ≡ Some base
 
 -- the pair is beside the base of one of these numbers, for which the condition holds
 abbrev pub HasBeside : List (ℕ × List (ℕ × ℕ)) → List ℕ → (ℕ → Type 0) → ℕ × ℕ → Type 0
-HasBeside kept numbers P z =
-    (j : ℕ) × (j < length numbers) × (P (kept_at kept (slice_index numbers j)).0 × Contains (kept_at kept (slice_index numbers j)).1 z)
+HasBeside kept numbers P z = OneHas (λ k. P (kept_at kept k).0 × Contains (kept_at kept k).1 z) numbers
