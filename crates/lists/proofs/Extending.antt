@@ -1,24 +1,24 @@
 -- Lists as a base and pairs beside it: their hashes add up, and of one base they are the same only if the pairs are.
-use Rattle.std.proofs.Common.{◌≡◌, ◌∙◌, ℕ, ◌+◌, ◌%◌, ◌^◌, List, [], ◌∷◌, ◌++◌, length, get_or, take, drop, false, Contains, Less, Equal, Greater, ap, sym, subst, refl, inl, inr, arith}
+use Rattle.std.proofs.Common.{◌≡◌, ◌∙◌, ℕ, ◌+◌, ◌%◌, ◌^◌, List, [], ◌∷◌, ◌++◌, Contains, Less, Equal, Greater, ap, sym, subst, refl, inl, inr, arith}
 use Rattle.std.proofs.Math.Nat.{mod-add-mod}
 use Rattle.std.specs.List.{sum_by}
-use Rattle.std.specs.List.Sorted.{IsStrictlySortedBy, IsSorted, IsPermutation}
-use Rattle.std.specs.Ordering.{eq_by_cmp, is_eq, is_lt, match_ordering, ordering_reverse}
-use Rattle.std.specs.List.{IsDistinct}
-use Rattle.std.proofs.lemmas.Bool.{false≢true}
-use Rattle.std.proofs.lemmas.Map.Keys.{IsDistinct-from_sorted, IsDistinct-IsPermutation, apart_from_distinct, sorted_from_all_adjacent}
+use Rattle.std.specs.List.Sorted.{IsStrictlySortedBy, IsPermutation}
+use Rattle.std.specs.Ordering.{is_eq, match_ordering}
 use Rattle.std.specs.declared.cmp.Ordering.{Ordering}
-use Rattle.std.proofs.lemmas.List.{append-nil, take_at, drop_at, length-append, length-take, length-drop}
+use Rattle.std.proofs.lemmas.List.{append-nil}
 use Rattle.std.proofs.lemmas.List.Sums.{sum_by-append}
-use Rattle.std.proofs.lemmas.List.Sorted.{IsPermutation-refl, IsPermutation-cons, IsPermutation-trans, IsPermutation-middle, IsPermutation-sym, Contains-permutation, length_permutation, sum_by-IsPermutation}
+use Rattle.std.proofs.lemmas.List.Sorted.{IsPermutation-refl, IsPermutation-cons, IsPermutation-trans, IsPermutation-middle, sum_by-IsPermutation}
 use Rattle.lists.specs.Lists.{pair_cmp, merged}
 use Rattle.buckets.specs.Hashing.{hash_of}
 use Rattle.lists.specs.Hashes.{fingerprint_of}
-use Rattle.lists.specs.Extended.{ShareNone, IsSortedFrom}
+use Rattle.lists.specs.Cuts.{Fit, IsParted}
+use Rattle.lists.specs.Extended.{ShareNone}
 use Rattle.lists.specs.Unions.{Unites}
-use Rattle.lists.proofs.Pairs.{pair_total, pair_Decides}
-use Rattle.lists.proofs.Rising.{here, there, rising_unique, same_test}
+use Rattle.lists.proofs.Pairs.{pair_Decides}
+use Rattle.lists.proofs.Rising.{here, there, rising_unique}
 use Rattle.lists.proofs.Merging.{merged_has, merged_rises}
+use Rattle.lists.proofs.Keys.{halves_rise, parts_rise, parts_fit}
+use Rattle.lists.proofs.Uniting.{united, united_under, united_over, unites_merged}
 
 at_order : (P : List (ℕ × ℕ) → Type 0) (o : Ordering) (a b c : List (ℕ × ℕ)) → (o ≡ Less → P a) → (o ≡ Equal → P b) → (o ≡ Greater → P c)
     → P (match_ordering o a b c)
@@ -79,57 +79,20 @@ unites_is_merged list few base rise rise_few rise_base unites =
       λ d. (unites z).1 (elim ((merged_has z base few).0 d) [ inl b ↦ inr b | inr a ↦ inl a ]),
     ))
 
--- what is sorted of both lists is both as one
-rises_at : (o back : Ordering) → back ≡ ordering_reverse o → is_lt back ≡ false → is_eq o ≡ false → o ≡ Less
-rises_at Less back e low other = refl
-rises_at Equal back e low other = absurd (false≢true (sym other))
-rises_at Greater back e low other = absurd (false≢true (sym low ∙ ap is_lt e))
+pub merged_fit : (xs ys : List (ℕ × ℕ)) → Fit xs → Fit ys → Fit (merged xs ys)
+merged_fit xs ys fit fit' z d = elim ((merged_has z xs ys).0 d) [ inl a ↦ fit z a | inr b ↦ fit' z b ]
 
-flips : (x y : ℕ × ℕ) → eq_by_cmp pair_cmp x y ≡ eq_by_cmp pair_cmp y x
-flips x y = same_test _ _ (pair_Decides x y) (pair_Decides y x) ((λ e. sym e), (λ e. sym e))
-
-module _ (xs ys zs : List (ℕ × ℕ)) (apart : ShareNone xs ys) (rise : IsStrictlySortedBy pair_cmp xs) (rise' : IsStrictlySortedBy pair_cmp ys)
-    (same : IsPermutation (xs ++ ys) zs) (sorted : IsSorted pair_cmp zs) where
-  both_rise : IsStrictlySortedBy pair_cmp (merged xs ys)
-  both_rise = merged_rises xs ys rise rise'
-
-  moved : IsPermutation (merged xs ys) zs
-  moved = IsPermutation-trans _ _ _ (IsPermutation-sym _ _ (merged_permutes xs ys apart)) same
-
-  differ : IsDistinct (eq_by_cmp pair_cmp) zs
-  differ = IsDistinct-IsPermutation (eq_by_cmp pair_cmp) flips (merged xs ys) zs moved (IsDistinct-from_sorted pair_cmp (merged xs ys) both_rise)
-
-  sorted_rises : IsStrictlySortedBy pair_cmp zs
-  sorted_rises = sorted_from_all_adjacent pair_total zs (0, 0) (λ k low.
-      rises_at (pair_cmp (get_or zs k (0, 0)) (get_or zs (k + 1) (0, 0))) (pair_cmp (get_or zs (k + 1) (0, 0)) (get_or zs k (0, 0)))
-      (pair_total.antisymm (get_or zs (k + 1) (0, 0)) (get_or zs k (0, 0)))
-      (sorted k (0, 0) (omega arith) low)
-      (apart_from_distinct (eq_by_cmp pair_cmp) zs k (k + 1) (0, 0) differ (omega arith) low))
-
-  pub sorted_is_merged : zs ≡ merged xs ys
-  sorted_is_merged = rising_unique zs (merged xs ys) sorted_rises both_rise (λ z. (
-    λ d. Contains-permutation zs (merged xs ys) z (IsPermutation-sym _ _ moved) d,
-    λ d. Contains-permutation (merged xs ys) zs z moved d,
-  ))
-
-pub sorted_from_is : (old xs ys items new : List (ℕ × ℕ)) (start : ℕ) → start ≡ length old → items ≡ old ++ (xs ++ ys) → IsSortedFrom start items new
-    → ShareNone xs ys → IsStrictlySortedBy pair_cmp xs → IsStrictlySortedBy pair_cmp ys → new ≡ old ++ merged xs ys
-sorted_from_is old xs ys items new start at e is apart rise rise' =
-    let front : take start items ≡ old = ap (take start) e ∙ take_at old (xs ++ ys) start (sym at) in
-    let back : drop start items ≡ xs ++ ys = ap (drop start) e ∙ drop_at old (xs ++ ys) start (sym at) in
-    is.is ∙ ap (λ l. l ++ is.rest) front
-    ∙ ap (λ l. old ++ l) (sorted_is_merged xs ys is.rest apart rise rise' (subst (λ l. IsPermutation l is.rest) back is.same) is.sorted)
-
-pub put_back : (new items : List (ℕ × ℕ)) (n : ℕ) → n ≡ length new → take n (new ++ items) ≡ new
-put_back new items n e = take_at new items n (sym e)
-
-pub sorted_size : (start : ℕ) (items new : List (ℕ × ℕ)) → IsSortedFrom start items new → length new ≡ length items
-sorted_size start items new is =
-    omega (
-      arith,
-      ap length is.is,
-      length-append (take start items) is.rest,
-      length_permutation (drop start items) is.rest is.same,
-      length-take start items,
-      length-drop start items,
-    )
+-- the halves of both as one are the halves of the lists as one
+pub merged_halves : {list few below above below' above' : List (ℕ × ℕ)} {c : ℕ} → IsParted list c below above → IsParted few c below' above'
+    → IsStrictlySortedBy pair_cmp list → IsStrictlySortedBy pair_cmp few → Fit list → Fit few → merged below below' ++ merged above above' ≡ merged list few
+merged_halves {list} {few} {below} {above} {below'} {above'} {c} first second rise rise' fit fit' =
+    let rises = parts_rise list below above c first rise in
+    let rises' = parts_rise few below' above' c second rise' in
+    let fits = parts_fit list below above c first fit in
+    let fits' = parts_fit few below' above' c second fit' in
+    let low = unites_merged _ below below' refl in
+    let high = unites_merged _ above above' refl in
+    unites_is_merged (merged below below' ++ merged above above') few list
+    (halves_rise _ _ c (merged_rises below below' rises.0 rises'.0) (merged_rises above above' rises.1 rises'.1) (merged_fit below below' fits.0 fits'.0)
+    (merged_fit above above' fits.1 fits'.1) (united_under second first _ _ low high) (united_over second first _ _ low high))
+    rise' rise (united second first _ _ low high)

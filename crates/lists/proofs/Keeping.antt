@@ -4,7 +4,8 @@ use Rattle.std.specs.List.{All, slice_range}
 use Rattle.std.proofs.lemmas.List.{map-append}
 use Rattle.std.proofs.lemmas.List.Elements.{All-head, All-tail}
 use Rattle.lists.specs.declared.kept.Slot.{Slot}
-use Rattle.lists.specs.Extended.{no_slot, kept_in, all_kept, AreSlots}
+use Rattle.lists.specs.declared.kept.TheConstants.{NO_SLOT}
+use Rattle.lists.specs.Extended.{kept_in, all_kept, AreSlots}
 use Rattle.lists.proofs.Storing.{All-only}
 use Rattle.lists.proofs.Spans.{slice_range-append, slice_range-last}
 
@@ -12,8 +13,8 @@ abbrev IsWithin : List (ℕ × ℕ) → Slot → Type 0
 IsWithin pairs x = x.start + x.count ≤ length pairs
 
 -- the slot of the empty list alone
-pub AreSlots-first : AreSlots [] (no_slot ∷ [])
-AreSlots-first = record { within = All-only (IsWithin []) no_slot (omega arith); some = omega arith; first = refl }
+pub AreSlots-first : AreSlots [] (NO_SLOT ∷ [])
+AreSlots-first = record { within = All-only (IsWithin []) NO_SLOT (omega arith); some = omega arith; first = refl }
 
 pub kept-cleared : (pairs : List (ℕ × ℕ)) (slots : List Slot) → AreSlots pairs slots → all_kept [] (take 1 slots) ≡ (0, []) ∷ []
 kept-cleared pairs [] are = absurd (let some = are.some in omega arith)

@@ -142,6 +142,10 @@ module _ (list below above : List (ℕ × ℕ)) (c : ℕ) (parted : IsParted lis
       let both = subst Fit parted.joined fit in
       (λ z d. both z (Contains-append_left below above z d), λ z d. both z (Contains-append_right below above z d))
 
+  pub parts_both : IsStrictlySortedBy pair_cmp list → Fit list
+      → (IsStrictlySortedBy pair_cmp below × Fit below) × (IsStrictlySortedBy pair_cmp above × Fit above)
+  parts_both rise fit = (((parts_rise rise).0, (parts_fit fit).0), ((parts_rise rise).1, (parts_fit fit).1))
+
   pub parts_has : (z : ℕ × ℕ) → Contains list z ↔ (Contains below z ⊎ Contains above z)
   parts_has z = subst (λ l. Contains l z ↔ (Contains below z ⊎ Contains above z)) (sym parted.joined) (halves_has below above z)
 

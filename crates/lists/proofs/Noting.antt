@@ -6,7 +6,8 @@ use Rattle.std.proofs.lemmas.Bool.{cases_eq, cases_lt}
 use Rattle.std.proofs.lemmas.List.{take_all, map-set, length-set, get_or-set_same, get_or-set_other}
 use Rattle.std.proofs.lemmas.List.Elements.{All-contains, All-map, All-replicate}
 use Rattle.lists.specs.declared.known.Union.{Union}
-use Rattle.lists.specs.Known.{noted_union, IsNone, no_entry}
+use Rattle.lists.specs.declared.known.TheConstants.{NO_UNION}
+use Rattle.lists.specs.Known.{noted_union, IsNone}
 use Rattle.lists.specs.Unions.{IsUnion, AreUnions}
 use Rattle.lists.proofs.Joining.{or_swap}
 
@@ -14,18 +15,18 @@ pub if_some : (o : Option ℕ) (P Q : ℕ → Type 0) → ((i : ℕ) → P i →
 if_some None P Q f h = h
 if_some (Some i) P Q f h = f i h
 
-pub none_noted : (unions : List Union) (n : ℕ) → unions ≡ replicate n no_entry → All IsNone (map noted_union unions)
+pub none_noted : (unions : List Union) (n : ℕ) → unions ≡ replicate n NO_UNION → All IsNone (map noted_union unions)
 none_noted unions n e =
     subst (λ us. All IsNone (map noted_union us)) (sym e)
-    (All-map IsNone noted_union (replicate n no_entry) (All-replicate (λ u. IsNone (noted_union u)) n no_entry refl))
+    (All-map IsNone noted_union (replicate n NO_UNION) (All-replicate (λ u. IsNone (noted_union u)) n NO_UNION refl))
 
-pub none_first : (unions taken : List Union) (n : ℕ) (u : Union) → unions ≡ take 1024 taken ++ replicate n u → taken ≡ [] → u ≡ no_entry
+pub none_first : (unions taken : List Union) (n : ℕ) → unions ≡ take 1024 taken ++ replicate n NO_UNION → taken ≡ []
     → All IsNone (map noted_union unions)
-none_first unions taken n u e t v =
+none_first unions taken n e t =
     none_noted unions n
-    (e ∙ (λ i. take 1024 (t i) ++ replicate n (v i)) ∙ ap (λ l. l ++ replicate n no_entry) (take_all {A = Union} 1024 [] (omega arith)))
+    (e ∙ (λ i. take 1024 (t i) ++ replicate n NO_UNION) ∙ ap (λ l. l ++ replicate n NO_UNION) (take_all {A = Union} 1024 [] (omega arith)))
 
-pub none_contained : (unions : List Union) (n : ℕ) → unions ≡ replicate n no_entry → (z : (ℕ × ℕ) × ℕ) → Contains (map noted_union unions) z → IsNone z
+pub none_contained : (unions : List Union) (n : ℕ) → unions ≡ replicate n NO_UNION → (z : (ℕ × ℕ) × ℕ) → Contains (map noted_union unions) z → IsNone z
 none_contained unions n e z d = All-contains IsNone (map noted_union unions) z (none_noted unions n e) d
 
 -- one place is written

@@ -1,20 +1,19 @@
 -- Lists with bases: how they stay as the trie grows, which are the same, and one list more.
-use Rattle.std.proofs.Common.{◌≡◌, ◌∙◌, ◌⊎◌, ◌↔◌, ℕ, ◌<◌, ◌≤◌, List, [], ◌∷◌, ◌++◌, length, slice_index, Contains, ap, sym, subst, refl, inl, inr, arith}
+use Rattle.std.proofs.Common.{◌≡◌, ◌∙◌, ◌⊎◌, ◌↔◌, ℕ, ◌<◌, ◌≤◌, List, [], ◌∷◌, ◌++◌, length, map, slice_index, Contains, ap, sym, subst, refl, inl, inr, arith}
 use Rattle.std.specs.List.{All}
 use Rattle.std.specs.List.Sorted.{IsStrictlySortedBy}
-use Rattle.std.proofs.lemmas.Bool.{cases_lt, cases_eq, cases_order}
-use Rattle.std.proofs.lemmas.List.{length-map, length_push, map-append, get_or-map, get_or_default, get_or_append_left, get_or_push}
+use Rattle.std.proofs.lemmas.Bool.{cases_lt, cases_eq}
+use Rattle.std.proofs.lemmas.List.{length-map, length_push, map-append, get_or-map, get_or_default, get_or_append_left}
 use Rattle.std.proofs.lemmas.List.Elements.{All-head, All-tail, All-append, All-weaker, All-contains}
-use Rattle.buckets.specs.Buckets.{tag_at, IsLast}
 use Rattle.lists.specs.Lists.{pair_cmp, list_at, merged, AreLists, Grow, HasOne}
 use Rattle.lists.specs.Nodes.{AreStored}
-use Rattle.lists.specs.Hashes.{fingerprint_of, mixed}
-use Rattle.lists.specs.Hashed.{AreDifferent, IsNewList}
-use Rattle.lists.specs.Extended.{ShareNone, Includes, kept_at, extended, IsExtension, extended_lists, AreExtended}
-use Rattle.lists.specs.Unions.{Unites, IsUnion, AreUnions}
-use Rattle.lists.specs.Known.{IsNone}
-use Rattle.lists.proofs.Noting.{IsUnion-none}
+use Rattle.lists.specs.Hashed.{tag_of, AreDifferent, IsNewList}
+use Rattle.lists.specs.Extended.{ShareNone, Includes, kept_at, extended, IsExtension, extended_lists, AreExtended, TableGrows}
+use Rattle.lists.specs.Unions.{Unites}
 use Rattle.lists.specs.declared.nodes.TheConstants.{MOST_LISTS}
+use Rattle.lists.specs.declared.numbered.Table.{Table}
+use Rattle.lists.proofs.Joining.{Grow-twice}
+use Rattle.lists.proofs.Hashing.{IsReached}
 use Rattle.lists.proofs.Storing.{All-only, list-old, list-new}
 use Rattle.lists.proofs.Merging.{merged_nil, merged_has, merged_rises}
 use Rattle.lists.proofs.Rising.{here, rising_none}
@@ -55,9 +54,7 @@ module _ {old new : List (List (ℕ × ℕ))} (grow : Grow old new) where
     some = are.some;
     first = are.first;
     different = subst AreDifferent (sym (lists-grow kept are.each)) are.different;
-    size = are.size;
-    tagged = λ k some low.
-        are.tagged k some low ∙ ap (λ l. mixed (fingerprint_of l)) (sym (extended-grow (kept_at kept k) (kept_is old kept are.each k low)));
+    tagged = are.tagged ∙ ap (map tag_of) (sym (lists-grow kept are.each));
   }
 
   pub Grow-lists : (kept : List (ℕ × List (ℕ × ℕ))) → All (IsExtension old) kept → Grow (extended_lists old kept) (extended_lists new kept)
@@ -65,6 +62,23 @@ module _ {old new : List (List (ℕ × ℕ))} (grow : Grow old new) where
       let same = lists-grow kept each in
       let size = ap length same in
       record { longer = omega arith; same = λ k low. ap (λ ls. list_at ls k) same }
+
+  -- and so does what is kept, if the table is as it was
+  pub TableGrows-trie : (before after : Table) → after.kept ≡ before.kept → after.buckets ≡ before.buckets → AreExtended old before.kept before.buckets
+      → TableGrows old new before after
+  TableGrows-trie before after kept tags are = record {
+    are = rw (kept, tags) (AreExtended-grow before.kept before.buckets are);
+    trie = grow;
+    lists = rw kept (Grow-lists before.kept are.each);
+  }
+
+pub TableGrows-after : {a b c : List (List (ℕ × ℕ))} {before after : Table} → Grow a b → AreExtended a before.kept before.buckets → TableGrows b c before after
+    → TableGrows a c before after
+TableGrows-after {a} {b} {c} {before} grow are keeps = record {
+  are = keeps.are;
+  trie = Grow-twice grow keeps.trie;
+  lists = Grow-twice (Grow-lists grow before.kept are.each) keeps.lists;
+}
 
 -- two lists of one base
 pub same_base : (trie : List (List (ℕ × ℕ))) (x y : ℕ × List (ℕ × ℕ)) → IsExtension trie x → IsExtension trie y → x.0 ≡ y.0
@@ -81,35 +95,13 @@ pub whole_is : (trie new : List (List (ℕ × ℕ))) (x : ℕ × List (ℕ × �
 whole_is trie new x i stored stored' is low unites =
     unites_is_merged (list_at new i) x.1 (list_at trie x.0) (stored'.rise i [] low) is.rising (stored.rise x.0 [] is.base) unites
 
--- the lists are known by their tags
-pub tag_is : {trie : List (List (ℕ × ℕ))} {kept : List (ℕ × List (ℕ × ℕ))} {tags : List ℕ} (are : AreExtended trie kept tags) (list : List (ℕ × ℕ)) (q : ℕ)
-    → 0 < q → q < length kept → list_at (extended_lists trie kept) q ≡ list → tag_at tags q ≡ mixed (fingerprint_of list)
-tag_is {trie} {kept} are list q some low e =
-    are.tagged q some low ∙ ap (λ l. mixed (fingerprint_of l)) (sym (extended_at trie kept q low) ∙ e)
-
--- no list with a number above r is this one
-abbrev pub NoneAfter : List (List (ℕ × ℕ)) → List (ℕ × ℕ) → ℕ → Type 0
-NoneAfter lists list r = (q : ℕ) → r < q → q < length lists → list_at lists q ≡ list → ⊥
-
-module _ {trie : List (List (ℕ × ℕ))} {kept : List (ℕ × List (ℕ × ℕ))} {tags : List ℕ} (are : AreExtended trie kept tags) (list : List (ℕ × ℕ)) (tag : ℕ)
-    (tag_of : tag ≡ mixed (fingerprint_of list)) where
-  pub none_last : (r : ℕ) → IsLast tags tag (length tags) r → NoneAfter (extended_lists trie kept) list r
-  none_last r last q more low e =
-      let size = are.size in
-      let all = extended_size trie kept in
-      last.others q more (omega arith) (tag_is are list q (omega arith) (omega arith) e ∙ sym tag_of)
-
-  pub none_before : (r next : ℕ) → tag_at tags r ≡ tag → IsLast tags (tag_at tags r) r next → (list_at (extended_lists trie kept) r ≡ list → ⊥)
-      → NoneAfter (extended_lists trie kept) list r → NoneAfter (extended_lists trie kept) list next
-  none_before r next at last other none q more low e = elim (cases_order q r) [
-    | inl same ↦ other (subst (λ k. list_at (extended_lists trie kept) k ≡ list) same e)
-    | inr order ↦ elim order [
-      | inl less ↦
-          let all = extended_size trie kept in
-          last.others q more less (tag_is are list q (omega arith) (omega arith) e ∙ sym tag_of ∙ sym at)
-      | inr past ↦ none q past low e
-    ]
-  ]
+-- the number that a search has reached is that of a list
+pub reached_low : (trie : List (List (ℕ × ℕ))) (kept : List (ℕ × List (ℕ × ℕ))) (list : List (ℕ × ℕ)) (r : ℕ) → 1 ≤ length kept
+    → IsReached (extended_lists trie kept) list r → r < length kept
+reached_low trie kept list r some is =
+    let size = extended_size trie kept in
+    let low = is.below (omega arith) in
+    omega arith
 
 -- different lists with one more
 pub AreDifferent-push : (lists : List (List (ℕ × ℕ))) (list : List (ℕ × ℕ)) → AreDifferent lists
@@ -133,9 +125,6 @@ module _ (trie : List (List (ℕ × ℕ))) (kept : List (ℕ × List (ℕ × ℕ
   kept-old : (k : ℕ) → k < length kept → kept_at (kept ++ x ∷ []) k ≡ kept_at kept k
   kept-old k low = get_or_append_left kept (x ∷ []) (0, []) k low
 
-  kept-new : (k : ℕ) → k ≡ length kept → kept_at (kept ++ x ∷ []) k ≡ x
-  kept-new k e = get_or_push kept x (0, []) k (sym e)
-
   lists-push : extended_lists trie (kept ++ x ∷ []) ≡ extended_lists trie kept ++ extended trie x ∷ []
   lists-push = map-append (extended trie) kept (x ∷ [])
 
@@ -150,11 +139,9 @@ module _ (trie : List (List (ℕ × ℕ))) (kept : List (ℕ × List (ℕ × ℕ
   ]
 
   pub AreExtended-push : IsExtension trie x → list_at trie 0 ≡ [] → (extended trie x ≡ [] → ⊥) → IsNewList (extended_lists trie kept) (extended trie x)
-      → tag ≡ mixed (fingerprint_of (extended trie x)) → AreExtended trie (kept ++ x ∷ []) (tags ++ tag ∷ [])
-  AreExtended-push is none some absent tag_of =
+      → tag ≡ tag_of (extended trie x) → AreExtended trie (kept ++ x ∷ []) (tags ++ tag ∷ [])
+  AreExtended-push is none some absent tagged =
       let longer = length_push kept x in
-      let longer' = length_push tags tag in
-      let size = are.size in
       let old = are.some in
       record {
         each = All-append (IsExtension trie) kept (x ∷ []) are.each (All-only (IsExtension trie) x is);
@@ -162,15 +149,8 @@ module _ (trie : List (List (ℕ × ℕ))) (kept : List (ℕ × List (ℕ × ℕ
         first = kept-old 0 are.some ∙ are.first;
         different = subst AreDifferent (sym lists-push)
             (AreDifferent-push (extended_lists trie kept) (extended trie x) are.different (absent_all none some absent));
-        size = omega arith;
-        tagged = λ k some low. elim (cases_lt k (length kept)) [
-          | inl o ↦
-              get_or_append_left tags (tag ∷ []) 0 k (omega arith) ∙ are.tagged k some o
-              ∙ ap (λ y. mixed (fingerprint_of (extended trie y))) (sym (kept-old k o))
-          | inr n ↦
-              get_or_push tags tag 0 k (omega arith) ∙ tag_of
-              ∙ ap (λ y. mixed (fingerprint_of (extended trie y))) (sym (kept-new k (omega arith)))
-        ];
+        tagged = (λ i. are.tagged i ++ tagged i ∷ []) ∙ sym (map-append tag_of (extended_lists trie kept) (extended trie x ∷ []))
+            ∙ ap (map tag_of) (sym lists-push);
       }
 
 -- the lists as they are known
@@ -178,7 +158,7 @@ pub AreLists-extended : {trie : List (List (ℕ × ℕ))} {kept : List (ℕ × L
     → length tags ≤ MOST_LISTS → AreLists (extended_lists trie kept)
 AreLists-extended {trie} {kept} {tags} stored are few =
     let all = extended_size trie kept in
-    let size = are.size in
+    let size = ap length are.tagged ∙ length-map (extended_lists trie kept) tag_of in
     let some = are.some in
     record {
       rise = λ k d low.
@@ -199,8 +179,7 @@ AreExtended-first = record {
   some = omega arith;
   first = refl;
   different = λ j k low high e. omega arith;
-  size = refl;
-  tagged = λ k some low. absurd (omega arith);
+  tagged = refl;
 }
 
 no_pairs : (list : List (ℕ × ℕ)) → ((z : ℕ × ℕ) → Contains list z → ⊥) → list ≡ []
@@ -271,30 +250,21 @@ IsExtension-whole trie base low = record {
 }
 
 -- the trie grows, and there is one list more
-module _ {old new : List (List (ℕ × ℕ))} (grow : Grow old new) (kept : List (ℕ × List (ℕ × ℕ))) (x : ℕ × List (ℕ × ℕ))
-    (each : All (IsExtension old) (kept ++ x ∷ [])) where
-  all_more : extended_lists new (kept ++ x ∷ []) ≡ extended_lists old kept ++ extended old x ∷ []
-  all_more = lists-grow grow (kept ++ x ∷ []) each ∙ map-append (extended old) kept (x ∷ [])
+module _ {old new : List (List (ℕ × ℕ))} (grow : Grow old new) (before after : Table) (x : ℕ × List (ℕ × ℕ)) (tag : ℕ)
+    (kept : after.kept ≡ before.kept ++ x ∷ []) (tags : after.buckets ≡ before.buckets ++ tag ∷ [])
+    (are : AreExtended old (before.kept ++ x ∷ []) (before.buckets ++ tag ∷ [])) where
+  all_more : extended_lists new after.kept ≡ extended_lists old before.kept ++ extended old x ∷ []
+  all_more = ap (extended_lists new) kept ∙ lists-grow grow (before.kept ++ x ∷ []) are.each ∙ map-append (extended old) before.kept (x ∷ [])
 
-  pub Grow-more : Grow (extended_lists old kept) (extended_lists new (kept ++ x ∷ []))
-  Grow-more = subst (Grow (extended_lists old kept)) (sym all_more) (record {
-    longer = omega (arith, length_push (extended_lists old kept) (extended old x));
-    same = list-old (extended_lists old kept) (extended old x);
-  })
+  pub TableGrows-push : TableGrows old new before after
+  TableGrows-push = record {
+    are = rw (kept, tags) (AreExtended-grow grow (before.kept ++ x ∷ []) (before.buckets ++ tag ∷ []) are);
+    trie = grow;
+    lists = rw all_more (record {
+      longer = omega (arith, length_push (extended_lists old before.kept) (extended old x));
+      same = list-old (extended_lists old before.kept) (extended old x);
+    });
+  }
 
-  pub list_more : (k : ℕ) → k ≡ length kept → list_at (extended_lists new (kept ++ x ∷ [])) k ≡ extended old x
-  list_more k e = ap (λ ls. list_at ls k) all_more ∙ list-new (extended_lists old kept) (extended old x) k (e ∙ sym (extended_size old kept))
-
-pub more_within : (trie : List (List (ℕ × ℕ))) (kept : List (ℕ × List (ℕ × ℕ))) (x : ℕ × List (ℕ × ℕ)) (k : ℕ) → k ≡ length kept
-    → k < length (extended_lists trie (kept ++ x ∷ []))
-more_within trie kept x k e = omega (arith, extended_size trie (kept ++ x ∷ []), length_push kept x)
-
--- the empty list alone, and no union
-pub lists_first : (trie : List (List (ℕ × ℕ))) (kept : List (ℕ × List (ℕ × ℕ))) (tags : List ℕ) (unions : List ((ℕ × ℕ) × ℕ)) → trie ≡ [] ∷ []
-    → kept ≡ (0, []) ∷ [] → tags ≡ 0 ∷ [] → All IsNone unions → AreExtended trie kept tags × AreUnions trie unions
-lists_first trie kept tags unions one first tag none =
-    let some = ap length one in (
-      subst (λ t. AreExtended t kept tags) (sym one) (subst (λ k. AreExtended ([] ∷ []) k tags) (sym first)
-          (subst (AreExtended ([] ∷ []) ((0, []) ∷ [])) (sym tag) AreExtended-first)),
-      λ z d. subst (λ w. IsUnion trie w.0 w.1) (sym (All-contains IsNone unions z none d)) (IsUnion-none trie (omega arith)),
-    )
+  pub list_more : (k : ℕ) → k ≡ length before.kept → list_at (extended_lists new after.kept) k ≡ extended old x
+  list_more k e = ap (λ ls. list_at ls k) all_more ∙ list-new (extended_lists old before.kept) (extended old x) k (e ∙ sym (extended_size old before.kept))

@@ -9,12 +9,14 @@ use Rattle.lists.specs.declared.nodes.TheConstants.{FEW, MOST_LISTS}
 use Rattle.lists.specs.declared.nodes.Halves.{Halves}
 use Rattle.lists.specs.declared.nodes.Node.{Node}
 use Rattle.lists.specs.declared.nodes.Node.TheVariants.{Whole, Halved}
+use Rattle.lists.specs.declared.nodes.Shape.{Shape}
+use Rattle.lists.specs.declared.nodes.Shape.TheVariants.{Whole as Pairs, Halved as Cut}
 use Rattle.lists.proofs.Rising.{rising_none}
 use Rattle.lists.proofs.Keys.{halves_rise}
 use Rattle.lists.proofs.Spans.{slice_range-append, slice_range-last, length-part}
 use Rattle.lists.specs.Lists.{pair_cmp, list_at, Grow}
 use Rattle.lists.specs.Cuts.{Fit}
-use Rattle.lists.specs.Nodes.{AreHalves, IsHalved, IsFew, AreIn, node_at, IsKept, kept_list, lists_to, kept_lists, AreStored, AreNodes}
+use Rattle.lists.specs.Nodes.{AreHalves, IsHalved, IsFew, AreIn, node_at, IsKept, kept_list, lists_to, kept_lists, list_of_shape, Suits, AreStored, AreNodes}
 
 pub All-only : {X : Type 0} (P : X → Type 0) (x : X) → P x → All P (x ∷ [])
 All-only P x p zero d h = p
@@ -218,25 +220,22 @@ nodes-cleared pairs [] are = absurd (let some = are.stored.some in omega (arith,
 nodes-cleared pairs (x ∷ xs) are = ap (λ n. n ∷ []) are.empty
 
 -- one list more that is kept as it is
-module _ (pairs list : List (ℕ × ℕ)) (nodes : List Node) (start count : ℕ) (are : AreNodes pairs nodes) (at : start ≡ length pairs)
-    (size : count ≡ length list) where
+module _ (pairs list : List (ℕ × ℕ)) (nodes : List Node) (are : AreNodes pairs nodes) where
   longer : length (pairs ++ list) ≡ length pairs + length list
   longer = length-append pairs list
 
-  keeps : (s e : ℕ) → s ≤ e → e ≤ length pairs → slice_range (pairs ++ list) s e ≡ slice_range pairs s e
-  keeps = slice_range-append pairs list
+  whole_is : kept_list (pairs ++ list) (kept_lists pairs nodes) (Whole (length pairs) (length list)) ≡ list
+  whole_is = slice_range-last pairs list _ refl
 
-  whole_is : kept_list (pairs ++ list) (kept_lists pairs nodes) (Whole start count) ≡ list
-  whole_is = ap (λ s. slice_range (pairs ++ list) s (s + count)) at ∙ slice_range-last pairs list (length pairs + count) (omega arith)
-
-  pub lists-whole : kept_lists (pairs ++ list) (nodes ++ Whole start count ∷ []) ≡ kept_lists pairs nodes ++ list ∷ []
+  pub lists-whole : kept_lists (pairs ++ list) (nodes ++ Whole (length pairs) (length list) ∷ []) ≡ kept_lists pairs nodes ++ list ∷ []
   lists-whole =
-      lists-push pairs (pairs ++ list) nodes (Whole start count) are (omega (arith, longer)) keeps ∙ ap (λ l. kept_lists pairs nodes ++ l ∷ []) whole_is
+      lists-push pairs (pairs ++ list) nodes _ are (omega (arith, longer)) (slice_range-append pairs list)
+      ∙ ap (λ l. kept_lists pairs nodes ++ l ∷ []) whole_is
 
-  pub AreNodes-whole : length nodes < MOST_LISTS → IsFew list → AreNodes (pairs ++ list) (nodes ++ Whole start count ∷ [])
+  pub AreNodes-whole : length nodes < MOST_LISTS → IsFew list → AreNodes (pairs ++ list) (nodes ++ Whole (length pairs) (length list) ∷ [])
   AreNodes-whole few is =
       let short = is.few in
-      AreNodes-push pairs (pairs ++ list) nodes (Whole start count) are (omega (arith, longer)) keeps few
+      AreNodes-push pairs (pairs ++ list) nodes _ are (omega (arith, longer)) (slice_range-append pairs list) few
       (subst (IsStrictlySortedBy pair_cmp) (sym whole_is) is.rising) (subst Fit (sym whole_is) is.fit) (omega (arith, longer), omega arith)
 
 -- one list more that has halves
@@ -259,3 +258,18 @@ module _ (pairs : List (ℕ × ℕ)) (nodes : List Node) (h : Halves) (are : Are
       ])
       (subst (λ n. IsHalved (lists ++ (list_at lists h.below ++ list_at lists h.above) ∷ []) n h) (length-lists pairs nodes)
       (IsHalved-new lists h is.below is.above is.halves))
+
+-- a node that is put last, and the pairs with it, keep a list of this shape
+abbrev pub IsNext : List (ℕ × ℕ) → List (ℕ × ℕ) → Shape → Node → Type 0
+IsNext pairs new (Pairs list) node = (new ≡ pairs ++ list.now) × (node ≡ Whole (length pairs) (length list.now))
+IsNext pairs new (Cut h) node = (new ≡ pairs) × (node ≡ Halved h)
+
+pub AreNodes-next : (pairs new : List (ℕ × ℕ)) (nodes : List Node) (shape : Shape) (node : Node) → AreNodes pairs nodes → length nodes < MOST_LISTS
+    → Suits (kept_lists pairs nodes) shape → IsNext pairs new shape node → AreNodes new (nodes ++ node ∷ [])
+AreNodes-next pairs new nodes (Pairs list) node are few suits next = rw (next.0, next.1) (AreNodes-whole pairs list.now nodes are few suits)
+AreNodes-next pairs new nodes (Cut h) node are few suits next = rw (next.0, next.1) (AreNodes-halved pairs nodes h are few suits)
+
+pub lists-next : (pairs new : List (ℕ × ℕ)) (nodes : List Node) (shape : Shape) (node : Node) → AreNodes pairs nodes → IsNext pairs new shape node
+    → kept_lists new (nodes ++ node ∷ []) ≡ kept_lists pairs nodes ++ list_of_shape (kept_lists pairs nodes) shape ∷ []
+lists-next pairs new nodes (Pairs list) node are next = rw (next.0, next.1) (lists-whole pairs list.now nodes are)
+lists-next pairs new nodes (Cut h) node are next = rw (next.0, next.1) (lists-halved pairs nodes h are)

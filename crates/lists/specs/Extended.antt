@@ -1,15 +1,15 @@
 -- How `Lists` keeps its lists: each as a list of the trie, its base, and few pairs beside it.
-use Rattle.buckets.specs.Buckets.{tag_at}
-use Rattle.std.specs.Prelude.{◌≡◌, ℕ, Bool, false, not, ◌+◌, ◌<◌, ◌≤◌, List, [], ◌++◌, length, map, take, drop, slice_index}
+use Rattle.std.specs.Prelude.{◌≡◌, ℕ, Bool, Option, Some, not, ◌+◌, ◌<◌, ◌≤◌, List, [], length, map, slice_index}
 use Rattle.std.specs.List.{All, Contains, slice_range, slice_index_or}
-use Rattle.std.specs.List.Sorted.{IsStrictlySortedBy, IsSorted, IsPermutation}
+use Rattle.std.specs.List.Sorted.{IsStrictlySortedBy}
 use Rattle.std.specs.Ordering.{eq_by_cmp}
 use Rattle.std.specs.Set.{is_member}
 use Rattle.lists.specs.declared.kept.Extension.{Extension}
 use Rattle.lists.specs.declared.kept.Slot.{Slot}
-use Rattle.lists.specs.Lists.{pair_cmp, list_at, merged}
-use Rattle.lists.specs.Hashes.{fingerprint_of, mixed}
-use Rattle.lists.specs.Hashed.{AreDifferent}
+use Rattle.lists.specs.declared.kept.TheConstants.{NO_SLOT}
+use Rattle.lists.specs.declared.numbered.Table.{Table}
+use Rattle.lists.specs.Lists.{pair_cmp, list_at, merged, Grow}
+use Rattle.lists.specs.Hashed.{tag_of, AreDifferent}
 
 -- no pair is in both lists
 abbrev pub ShareNone : List (ℕ × ℕ) → List (ℕ × ℕ) → Type 0
@@ -27,10 +27,6 @@ is_lacking list z = not (is_member (eq_by_cmp pair_cmp) list z)
 abbrev pub parts_of : Extension → ℕ × List (ℕ × ℕ)
 parts_of x = (x.base, x.few.now)
 
--- the slot of the empty list
-abbrev pub no_slot : Slot
-no_slot = record { base = 0; count = 0; start = 0 }
-
 -- what a slot has
 abbrev pub kept_in : List (ℕ × ℕ) → Slot → ℕ × List (ℕ × ℕ)
 kept_in pairs x = (x.base, slice_range pairs x.start (x.start + x.count))
@@ -43,7 +39,7 @@ all_kept pairs slots = map (kept_in pairs) slots
 pub record AreSlots (pairs : List (ℕ × ℕ)) (slots : List Slot) : Type 0 where
   pub within : All (λ x. x.start + x.count ≤ length pairs) slots
   pub some : 1 ≤ length slots
-  pub first : slice_index_or slots 0 no_slot ≡ no_slot
+  pub first : slice_index_or slots 0 NO_SLOT ≡ NO_SLOT
 
 -- what is kept of the list number k
 abbrev pub kept_at : List (ℕ × List (ℕ × ℕ)) → ℕ → ℕ × List (ℕ × ℕ)
@@ -63,31 +59,32 @@ pub record IsExtension (trie : List (List (ℕ × ℕ))) (x : ℕ × List (ℕ �
 abbrev pub extended_lists : List (List (ℕ × ℕ)) → List (ℕ × List (ℕ × ℕ)) → List (List (ℕ × ℕ))
 extended_lists trie kept = map (extended trie) kept
 
--- different lists, each of which but the first, the empty one, has the tag of its pairs
+-- different lists, the first of which is empty, and their tags
 pub record AreExtended (trie : List (List (ℕ × ℕ))) (kept : List (ℕ × List (ℕ × ℕ))) (tags : List ℕ) : Type 0 where
   pub each : All (IsExtension trie) kept
   pub some : 1 ≤ length kept
   pub first : kept_at kept 0 ≡ (0, [])
   pub different : AreDifferent (extended_lists trie kept)
-  pub size : length tags ≡ length kept
-  pub tagged : (k : ℕ) → 0 < k → k < length kept → tag_at tags k ≡ mixed (fingerprint_of (extended trie (kept_at kept k)))
+  pub tagged : tags ≡ map tag_of (extended_lists trie kept)
 
--- the bases of the lists of these numbers
-abbrev pub bases_of : List (ℕ × List (ℕ × ℕ)) → List ℕ → List ℕ
-bases_of kept numbers = map (λ k. (kept_at kept k).0) numbers
+-- the trie and the table may have more lists than before, and have all that they had
+pub record TableGrows (old new : List (List (ℕ × ℕ))) (before after : Table) : Type 0 where
+  pub are : AreExtended new after.kept after.buckets
+  pub trie : Grow old new
+  pub lists : Grow (extended_lists old before.kept) (extended_lists new after.kept)
 
--- the pairs beside the base are merged, since it is that of the union, and the lists are few
-abbrev pub IsOwn : ℕ → Bool → ℕ → Type 0
-IsOwn base many other = (many ≡ false) × (other ≡ base)
+-- one of the numbers has the property
+abbrev pub OneHas : (ℕ → Type 0) → List ℕ → Type 0
+OneHas P numbers = (j : ℕ) × (j < length numbers) × P (slice_index numbers j)
+
+-- the pair is in the base of one of these numbers
+abbrev pub HasBase : List (List (ℕ × ℕ)) → List (ℕ × List (ℕ × ℕ)) → List ℕ → ℕ × ℕ → Type 0
+HasBase trie kept numbers z = OneHas (λ k. Contains (list_at trie (kept_at kept k).0) z) numbers
+
+-- the pairs beside the base are merged
+abbrev pub IsOwn : Option ℕ → ℕ → Type 0
+IsOwn own base = own ≡ Some base
 
 -- the pair is beside the base of one of these numbers, for which the condition holds
 abbrev pub HasBeside : List (ℕ × List (ℕ × ℕ)) → List ℕ → (ℕ → Type 0) → ℕ × ℕ → Type 0
-HasBeside kept numbers P z =
-    (j : ℕ) × (j < length numbers) × (P (kept_at kept (slice_index numbers j)).0 × Contains (kept_at kept (slice_index numbers j)).1 z)
-
--- the pairs from a place on are put in order
-pub record IsSortedFrom (start : ℕ) (old new : List (ℕ × ℕ)) : Type 0 where
-  pub rest : List (ℕ × ℕ)
-  pub is : new ≡ take start old ++ rest
-  pub same : IsPermutation (drop start old) rest
-  pub sorted : IsSorted pair_cmp rest
+HasBeside kept numbers P z = OneHas (λ k. P (kept_at kept k).0 × Contains (kept_at kept k).1 z) numbers

@@ -14,7 +14,3 @@ IsNone z = z ≡ ((0, 0), 0)
 pub record HasPlaces (count : ℕ) : Type 0 where
   pub some : 0 < count
   pub few : count < 2 ^ 32
-
--- what stands where no union was noted
-abbrev pub no_entry : Union
-no_entry = record { first = 0; second = 0; union = 0 }

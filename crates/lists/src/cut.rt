@@ -1,6 +1,8 @@
 //! Where a list is cut into two halves.
 ghost use Rattle.std.specs.Prelude.{◌≡◌, ℕ, ◌<◌};
-ghost use Rattle.lists.specs.Cuts.{as_number, Fit, IsPlace};
+ghost use Rattle.std.specs.List.Sorted.{IsStrictlySortedBy};
+ghost use Rattle.lists.specs.Lists.{pair_cmp};
+ghost use Rattle.lists.specs.Cuts.{as_number, Fit, IsParted, IsPlace};
 
 /// The pair as one number, in the order of pairs.
 #[inline(always)]
@@ -28,4 +30,13 @@ pub(crate) fn cut(low: u64, high: u64) -> u64
 {
     let bit = 63 - (low ^ high).leading_zeros();
     (high >> bit) << bit
+}
+
+/// The pairs below the cut, and those from it on.
+pub(crate) fn parted(pairs: &[(u32, u32)], cut: u64) -> (&[(u32, u32)], &[(u32, u32)])
+    requires rising { IsStrictlySortedBy pair_cmp pairs.now }
+    requires fit { Fit pairs.now }
+    ensures { IsParted pairs.now cut result.0.now result.1.now }
+{
+    pairs.split_at(pairs.partition_point(|pair| key(*pair) < cut))
 }

@@ -1,6 +1,6 @@
-//! How `distinct` finds its lists (hash-consing): by tags, which equal lists share.
+//! How `trie` finds its lists (hash-consing): by tags, which equal lists share.
 ghost use Rattle.std.specs.Prelude.{◌≡◌, ◌^◌, ◌++◌, ◌∷◌, ◌<◌, [], length, map, IfOk, OnOk, OnErr, IsTrue, ◌↔◌, MatchOption};
-ghost use Rattle.lists.specs.Lists.{list_at};
+ghost use Rattle.lists.specs.Lists.{list_at, Grow};
 ghost use Rattle.lists.specs.Hashes.{fingerprint_of};
 ghost use Rattle.lists.specs.Nodes.{list_of_shape, Suits};
 ghost use Rattle.lists.specs.Hashed.{tag_of, AreDifferent, IsHashed, IsNewList, IsNumberOf};
@@ -76,6 +76,7 @@ pub(crate) fn put(
     requires sum { sum ≡ fingerprint_of (list_of_shape nodes.old shape) }
     requires absent { IsNewList nodes.old (list_of_shape nodes.old shape) }
     ensures hashed { IsHashed nodes.new sums.new.items buckets.new }
+    ensures grow { Grow nodes.old nodes.new }
     ensures added { OnOk result
         (nodes.new ≡ nodes.old ++ list_of_shape nodes.old shape.entry ∷ []) }
     ensures number { IfOk result (λ j. j ≡ length nodes.old) }

@@ -1,9 +1,9 @@
 //! What is kept of each list: the number of its base, and few pairs beside it.
-ghost use Rattle.std.specs.Prelude.{◌≡◌, ◌++◌, ◌∷◌, ◌+◌, ◌<◌, ◌≤◌, [], length, IfOk, OnOk, OnErr};
-ghost use Rattle.lists.specs.Extended.{parts_of, no_slot, kept_in, kept_at};
+ghost use Rattle.std.specs.Prelude.{◌≡◌, ◌++◌, ◌∷◌, ◌<◌, ◌≤◌, [], length, IfOk, OnOk, OnErr};
+ghost use Rattle.lists.specs.Extended.{parts_of, kept_at};
 ghost use Rattle.lists.specs.declared.nodes.TheConstants.{FEW, MOST_LISTS};
 
-use crate::nodes::make_room;
+use crate::nodes::{make_room, part};
 use buckets::EMPTY;
 use growth::Memory;
 use std::alloc::Global;
@@ -25,28 +25,18 @@ struct Slot {
 }
 
 /// The slot of the empty list.
-fn first_slot() -> Slot
-    ensures { result ≡ no_slot }
-{
-    Slot {
-        base: EMPTY,
-        count: 0,
-        start: 0,
-    }
-}
+const NO_SLOT: Slot = Slot {
+    base: EMPTY,
+    count: 0,
+    start: 0,
+};
 
 /// For each list its base and the pairs beside it.
+#[derive(Drop)]
 pub(crate) struct Kept {
     /// The pairs of all lists, one after the other.
     pairs: Vec<(u32, u32)>,
     slots: Vec<Slot>,
-}
-
-/// Written out, so that it is dropped by one call and not by one for each part.
-impl Drop for Kept {
-    fn drop(self) {
-        let Kept { pairs: _, slots: _ } = self;
-    }
 }
 
 impl Model for Kept {
@@ -69,7 +59,7 @@ impl Kept {
         ensures { IfOk result (λ x. x ≡ (0, []) ∷ []) }
     {
         let mut slots = Vec::with_capacity(alloc, room as usize + 1)?;
-        slots.push(first_slot())?;
+        slots.push(NO_SLOT)?;
         Ok(Kept {
             pairs: Vec::new(alloc),
             slots,
@@ -84,7 +74,7 @@ impl Kept {
         let slot = self.slots[k as usize];
         Extension {
             base: slot.base,
-            few: few_of(&self.pairs, slot),
+            few: part(&self.pairs, slot.start, slot.count),
         }
     }
 
@@ -123,12 +113,4 @@ impl Kept {
         self.pairs.clear();
         self.slots.truncate(1);
     }
-}
-
-/// The pairs of the slot.
-fn few_of(pairs: &[(u32, u32)], slot: Slot) -> &[(u32, u32)]
-    requires { slot.start + slot.count ≤ length pairs.now }
-    ensures { (slot.base, result.now) ≡ kept_in pairs.now slot }
-{
-    &pairs[slot.start..slot.start + slot.count as usize]
 }

@@ -1,7 +1,7 @@
-//! The unions that `unions` has made, so that few are made twice.
+//! The unions that were made, so that few are made twice.
 ghost use Rattle.std.specs.Prelude.{◌≡◌, ◌⊎◌, ℕ, ◌<◌, map, length, IfOk, IfSome};
 ghost use Rattle.std.specs.List.{All, Contains};
-ghost use Rattle.lists.specs.Known.{no_entry, noted_union, HasPlaces, IsNone};
+ghost use Rattle.lists.specs.Known.{noted_union, HasPlaces, IsNone};
 
 use crate::hashes::mix;
 use buckets::{bucket, hash};
@@ -23,31 +23,18 @@ pub(crate) struct Union {
 }
 
 /// The union of the empty list with itself, which stands where none was noted.
-fn no_union() -> Union
-    ensures { result ≡ no_entry }
-{
-    Union {
-        first: 0,
-        second: 0,
-        union: 0,
-    }
-}
+const NO_UNION: Union = Union {
+    first: 0,
+    second: 0,
+    union: 0,
+};
 
 /// Unions, each at a place that its two lists decide: a later one takes the place of an earlier one.
+#[derive(Drop)]
 pub(crate) struct Known {
     unions: Vec<Union>,
     /// How many unions were noted.
     noted: usize,
-}
-
-/// Written out, so that it is dropped by one call and not by one for each part.
-impl Drop for Known {
-    fn drop(self) {
-        let Known {
-            unions: _,
-            noted: _,
-        } = self;
-    }
 }
 
 impl Model for Known {
@@ -70,7 +57,7 @@ impl Known {
         ensures { IfOk result (All IsNone) }
     {
         let mut unions = Vec::new(alloc);
-        unions.resize(FIRST_PLACES, no_union())?;
+        unions.resize(FIRST_PLACES, NO_UNION)?;
         Ok(Known { unions, noted: 0 })
     }
 
@@ -110,7 +97,7 @@ impl Known {
         // Places as for unions as many as now: a round mostly makes no more than the last one.
         let places = FIRST_PLACES.max(self.noted);
         self.unions.truncate(places);
-        self.unions.fill(no_union());
+        self.unions.fill(NO_UNION);
         self.noted = 0;
     }
 }
@@ -135,7 +122,7 @@ fn widen(unions: &mut Vec<Union>, noted: usize) -> Result<(), Memory>
     if noted <= unions.len() || MOST_PLACES <= unions.len() {
         return Ok(());
     }
-    unions.resize(MOST_PLACES.min(4 * unions.len()), no_union())?;
-    unions.fill(no_union());
+    unions.resize(MOST_PLACES.min(4 * unions.len()), NO_UNION)?;
+    unions.fill(NO_UNION);
     Ok(())
 }

@@ -9,9 +9,9 @@
 //! numbered       a list that is asked for again has the number that it had
 //!   kept         the base of each list, and the pairs beside it
 //! unions         bases made of pairs, of a list and pairs, and of two lists
-//!   known        the unions that were made
-//! distinct       a base that is asked for again has the number that it had
+//! trie           a base that is asked for again has the number that it had
 //!   hashed       how it is found, by its tag
+//!   known        the unions that were made
 //! nodes          how each base is kept: whole, or by its halves
 //! cut, hashes                  where a list is cut; hashes of lists
 //! ordered, marked              pairs in order, by marks if they are many
@@ -22,7 +22,6 @@
 #![tactic(auto)]
 
 mod cut;
-mod distinct;
 mod hashed;
 mod hashes;
 mod joined;
@@ -33,6 +32,7 @@ mod marked;
 mod nodes;
 mod numbered;
 mod ordered;
+mod trie;
 mod unions;
 
 pub use buckets::EMPTY;

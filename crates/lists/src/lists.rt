@@ -1,17 +1,17 @@
 //! Different lists of pairs and their unions, asked for by number: the top layer, which the crates above see.
-ghost use Rattle.std.specs.Prelude.{◌≡◌, ◌⊎◌, ◌↔◌, ℕ, ◌++◌, ◌∷◌, ◌<◌, ◌≤◌, List, [], length, IfOk, IfSome, OnOk, OnErr, IsTrue};
+ghost use Rattle.std.specs.Prelude.{◌≡◌, ◌⊎◌, ◌↔◌, ℕ, ◌++◌, ◌∷◌, ◌<◌, List, [], length, IfOk, IfSome, OnOk, OnErr, IsTrue};
 ghost use Rattle.std.specs.List.{All, Contains};
 ghost use Rattle.std.specs.List.Sorted.{IsStrictlySortedBy};
 ghost use Rattle.lists.specs.Lists.{pair_cmp, list_at, AreLists, AreNumbers, Grow, HasOne};
-ghost use Rattle.lists.specs.Extended.{Includes, parts_of, extended, IsExtension, IsSortedFrom};
+ghost use Rattle.lists.specs.Extended.{Includes};
 
-use crate::distinct::Distinct;
+use crate::cut::fit;
 use crate::joined::union_of;
-use crate::kept::{Extension, Kept};
-use crate::known::Known;
-use crate::numbered::number_with;
+use crate::kept::Kept;
+use crate::numbered::Table;
 use crate::ordered::{has, has_all};
-use crate::unions::Scratch;
+use crate::trie::Trie;
+use crate::unions::Bases;
 use buckets::{Buckets, EMPTY};
 use growth::Memory;
 use std::alloc::Global;
@@ -20,27 +20,14 @@ use std::marker::Model;
 /// Different lists of pairs in strictly rising order, so that equal lists have equal numbers. The list number `EMPTY` is the
 /// empty one.
 pub struct Lists {
-    /// The bases, which are lists themselves.
-    trie: Distinct,
-    /// The unions of bases that were made.
-    known: Known,
-    /// The base of each list, and the pairs beside it.
-    kept: Kept,
-    /// How each list is found.
-    buckets: Buckets,
-    scratch: Scratch,
+    bases: Bases,
+    table: Table,
 }
 
 /// Written out, so that it is dropped by one call and not by one for each part.
 impl Drop for Lists {
     fn drop(self) {
-        let Lists {
-            trie: _,
-            known: _,
-            kept: _,
-            buckets: _,
-            scratch: _,
-        } = self;
+        let Lists { bases: _, table: _ } = self;
     }
 }
 
@@ -49,12 +36,11 @@ impl Model for Lists {
 
     ghost Value = { List (List (ℕ × ℕ)) };
 
-    ghost use Rattle.lists.specs.Unions.{AreUnions};
     ghost use Rattle.lists.specs.Extended.{extended_lists, AreExtended};
 
-    ghost view = { λ x. extended_lists x.trie x.kept };
+    ghost view = { λ x. extended_lists x.bases.trie x.table.kept };
 
-    ghost invariant = { λ x. AreExtended x.trie x.kept x.buckets × AreUnions x.trie x.known };
+    ghost invariant = { λ x. AreExtended x.bases.trie x.table.kept x.table.buckets };
 }
 
 impl Lists {
@@ -65,14 +51,15 @@ impl Lists {
         ensures { IfOk result (λ x. x ≡ [] ∷ []) }
     {
         Ok(Lists {
-            trie: Distinct::new(alloc)?,
-            known: Known::new(alloc)?,
-            kept: Kept::new(alloc, room)?,
-            buckets: Buckets::new(alloc, room)?,
-            scratch: Scratch {
+            bases: Bases {
+                trie: Trie::new(alloc)?,
                 held: Vec::new(alloc),
                 merged: Vec::new(alloc),
                 marks: Vec::new(alloc),
+            },
+            table: Table {
+                kept: Kept::new(alloc, room)?,
+                buckets: Buckets::new(alloc, room)?,
             },
         })
     }
@@ -81,16 +68,16 @@ impl Lists {
     pub fn known(&self)
         ensures { AreLists self.now }
     {
-        self.trie.known();
-        self.buckets.known();
-        let _ = &self.kept;
+        self.bases.trie.known();
+        self.table.buckets.known();
+        let _ = &self.table.kept;
     }
 
     /// How many lists there are.
     pub fn len(&self) -> u32
         ensures { result ≡ length self.now }
     {
-        self.buckets.len()
+        self.table.buckets.len()
     }
 
     /// Appends the list number `k` to `pairs`.
@@ -101,13 +88,20 @@ impl Lists {
         ensures appended { OnOk result (pairs.new.items ≡ pairs.old.items ++ list_at self.now k) }
         ensures err { OnErr result (pairs.new.items ≡ pairs.old.items) }
     {
-        self.trie.known();
-        let list = self.kept.of(k);
-        if list.base == EMPTY {
-            pairs.extend_from_slice(list.few)?;
-            return Ok(());
+        self.bases.trie.known();
+        let list = self.table.kept.of(k);
+        fit(list.few);
+        let had = pairs.len();
+        if self
+            .bases
+            .trie
+            .append_with(list.base, list.few, pairs)
+            .is_err()
+        {
+            pairs.truncate(had);
+            return Err(Memory);
         }
-        append(&self.trie, list, pairs)
+        Ok(())
     }
 
     /// The number of the list that is equal to this one: a new one if there was none.
@@ -119,15 +113,8 @@ impl Lists {
         ensures list { IfOk result (λ k. list_at self.new k ≡ pairs.now) }
         ensures grow { Grow self.old self.new }
     {
-        self.trie.known();
-        number_with(
-            &mut self.trie,
-            &mut self.scratch.merged,
-            &mut self.kept,
-            &mut self.buckets,
-            EMPTY,
-            pairs,
-        )
+        self.bases.trie.known();
+        self.table.number_with(&mut self.bases, EMPTY, pairs)
     }
 
     /// Whether the list number `k` has the pair.
@@ -136,15 +123,15 @@ impl Lists {
         requires { k < length self.now }
         ensures { IsTrue result ↔ Contains (list_at self.now k) pair }
     {
-        let list = self.kept.of(k);
+        let list = self.table.kept.of(k);
         if has(list.few, pair) {
             return true;
         }
-        self.trie.known();
+        self.bases.trie.known();
         if list.base == EMPTY {
             return false;
         }
-        self.trie.has(list.base, pair)
+        self.bases.trie.has(list.base, pair)
     }
 
     /// Whether the list number `k` is seen to have all pairs of the list number `j`: it is not looked for if their bases differ.
@@ -153,8 +140,8 @@ impl Lists {
         requires other { j < length self.now }
         ensures { IsTrue result → Includes (list_at self.now k) (list_at self.now j) }
     {
-        let list = self.kept.of(k);
-        let other = self.kept.of(j);
+        let list = self.table.kept.of(k);
+        let other = self.table.kept.of(j);
         list.base == other.base && has_all(list.few, other.few)
     }
 
@@ -196,32 +183,17 @@ impl Lists {
         if let Some(list) = self.last_with_all(lists, pairs) {
             return Ok(list);
         }
-        let base = union_of(
-            &mut self.trie,
-            &mut self.known,
-            &mut self.scratch,
-            &self.kept,
-            lists,
-            pairs,
-        )?;
-        number_with(
-            &mut self.trie,
-            &mut self.scratch.merged,
-            &mut self.kept,
-            &mut self.buckets,
-            base,
-            pairs,
-        )
+        let base = union_of(&mut self.bases, &self.table.kept, lists, pairs)?;
+        self.table.number_with(&mut self.bases, base, pairs)
     }
 
     /// Forgets all lists but the empty one, and keeps the memory.
     pub fn clear(&mut self)
         ensures { self.new ≡ [] ∷ [] }
     {
-        self.trie.clear();
-        self.known.clear();
-        self.kept.clear();
-        self.buckets.clear();
+        self.bases.trie.clear();
+        self.table.kept.clear();
+        self.table.buckets.clear();
     }
 }
 
@@ -254,51 +226,4 @@ fn has_pairs(lists: &Lists, k: u32, pairs: &[(u32, u32)]) -> bool
         }
     }
     true
-}
-
-/// Appends the pairs of the base, and those beside it, in rising order to `pairs`.
-///
-/// Fails if there is no memory for it. `pairs` has then what it had.
-fn append(trie: &Distinct, list: Extension<'_>, pairs: &mut Vec<(u32, u32)>) -> Result<(), Memory>
-    requires { IsExtension trie.now (parts_of list) }
-    ensures appended { OnOk result
-        (pairs.new.items ≡ pairs.old.items ++ extended trie.now (parts_of list.entry)) }
-    ensures err { OnErr result (pairs.new.items ≡ pairs.old.items) }
-{
-    trie.known();
-    let had = pairs.len();
-    if append_parts(trie, list, pairs).is_err() {
-        pairs.truncate(had);
-        return Err(Memory);
-    }
-    sort_from(pairs, had);
-    Ok(())
-}
-
-/// Puts the pairs from this place on in order.
-fn sort_from(pairs: &mut [(u32, u32)], start: usize)
-    requires { start ≤ length pairs.old }
-    ensures { IsSortedFrom start pairs.old pairs.new }
-{
-    pairs[start..].sort_unstable();
-}
-
-/// Appends the pairs of the base and then those beside it to `pairs`.
-///
-/// Fails if there is no memory for it. `pairs` has then maybe some pairs more.
-fn append_parts(
-    trie: &Distinct,
-    list: Extension<'_>,
-    pairs: &mut Vec<(u32, u32)>,
-) -> Result<(), Memory>
-    requires { list.base < length trie.now }
-    ensures appended { OnOk result
-        (pairs.new.items ≡ pairs.old.items
-        ++ (list_at trie.now list.entry.base ++ list.entry.few.now)) }
-    ensures err { OnErr result ((more : List (ℕ × ℕ))
-        × (pairs.new.items ≡ pairs.old.items ++ more)) }
-{
-    trie.gather(list.base, pairs)?;
-    pairs.extend_from_slice(list.few)?;
-    Ok(())
 }

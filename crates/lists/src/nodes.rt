@@ -2,8 +2,7 @@
 ghost use Rattle.std.specs.Prelude.{◌≡◌, ◌++◌, ◌∷◌, ◌+◌, ◌<◌, ◌≤◌, [], length, IfOk, OnOk, OnErr};
 ghost use Rattle.std.specs.List.{slice_range};
 ghost use Rattle.std.specs.Vec.{vec_len, vec_capacity};
-ghost use Rattle.lists.specs.Lists.{list_at};
-ghost use Rattle.lists.specs.Nodes.{IsFew, AreIn, list_of_shape, Suits, IsShape, AreStored, kept_lists, AreNodes};
+ghost use Rattle.lists.specs.Nodes.{list_of_shape, Suits, IsShape, AreStored};
 ghost use Rattle.lists.specs.declared.nodes.TheConstants.{MOST_LISTS};
 
 use growth::Memory;
@@ -40,18 +39,12 @@ pub(crate) enum Shape<'a> {
 
 /// Lists of pairs in strictly rising order, each under the number that a push returned for it. The list number `EMPTY` is the
 /// empty one.
+#[derive(Drop)]
 pub(crate) struct Nodes {
     /// The lists that are kept as they are, one after the other.
     pairs: Vec<(u32, u32)>,
     /// How each list is kept.
     nodes: Vec<Node>,
-}
-
-/// Written out, so that it is dropped by one call and not by one for each part.
-impl Drop for Nodes {
-    fn drop(self) {
-        let Nodes { pairs: _, nodes: _ } = self;
-    }
 }
 
 impl Model for Nodes {
@@ -109,10 +102,21 @@ impl Nodes {
         ensures number { IfOk result (λ k. k ≡ length self.old) }
         ensures err { OnErr result (self.new ≡ self.old) }
     {
-        match shape {
-            Shape::Whole(list) => put_whole(&mut self.pairs, &mut self.nodes, list),
-            Shape::Halved(halves) => put_halved(&self.pairs, &mut self.nodes, halves),
-        }
+        make_room(&mut self.nodes)?;
+        let number = self.nodes.len() as u32;
+        let node = match shape {
+            Shape::Whole(list) => {
+                let start = self.pairs.len();
+                self.pairs.extend_from_slice(list)?;
+                Node::Whole {
+                    start,
+                    count: list.len() as u32,
+                }
+            }
+            Shape::Halved(halves) => Node::Halved(halves),
+        };
+        self.nodes.push_reserved(node);
+        Ok(number)
     }
 
     /// Forgets all lists but the empty one, and keeps the memory.
@@ -122,54 +126,6 @@ impl Nodes {
         self.pairs.clear();
         self.nodes.truncate(1);
     }
-}
-
-/// Puts the list at the end of the pairs, and its node at the end of the nodes, whose number it returns.
-///
-/// Fails if there is no memory for it. The lists are then as they were.
-fn put_whole(
-    pairs: &mut Vec<(u32, u32)>,
-    nodes: &mut Vec<Node>,
-    list: &[(u32, u32)],
-) -> Result<u32, Memory>
-    requires nodes { AreNodes pairs.old.items nodes.old.items }
-    requires list { IsFew list.now }
-    ensures nodes { AreNodes pairs.new.items nodes.new.items }
-    ensures put { OnOk result (kept_lists pairs.new.items nodes.new.items
-        ≡ kept_lists pairs.old.items nodes.old.items ++ list.now ∷ []) }
-    ensures number { IfOk result (λ k. k ≡ length nodes.old.items) }
-    ensures err { OnErr result (kept_lists pairs.new.items nodes.new.items
-        ≡ kept_lists pairs.old.items nodes.old.items) }
-{
-    make_room(nodes)?;
-    let number = nodes.len() as u32;
-    let start = pairs.len();
-    pairs.extend_from_slice(list)?;
-    nodes.push_reserved(Node::Whole {
-        start,
-        count: list.len() as u32,
-    });
-    Ok(number)
-}
-
-/// Puts a list at the end of the nodes that has these two as its halves, and returns its number.
-///
-/// Fails if there is no memory for it. The lists are then as they were.
-fn put_halved(pairs: &Vec<(u32, u32)>, nodes: &mut Vec<Node>, halves: Halves) -> Result<u32, Memory>
-    requires nodes { AreNodes pairs.now.items nodes.old.items }
-    requires halves { AreIn (kept_lists pairs.now.items nodes.old.items) halves }
-    ensures nodes { AreNodes pairs.now.items nodes.new.items }
-    ensures put { let lists = kept_lists pairs.now.items nodes.old.items in
-        OnOk result (kept_lists pairs.now.items nodes.new.items
-        ≡ lists ++ (list_at lists halves.below ++ list_at lists halves.above) ∷ []) }
-    ensures number { IfOk result (λ k. k ≡ length nodes.old.items) }
-    ensures err { OnErr result (kept_lists pairs.now.items nodes.new.items
-        ≡ kept_lists pairs.now.items nodes.old.items) }
-{
-    make_room(nodes)?;
-    let number = nodes.len() as u32;
-    nodes.push_reserved(Node::Halved(halves));
-    Ok(number)
 }
 
 /// Makes room for one list more. Once each number has its list, what is asked for is more than any memory has.
@@ -190,7 +146,7 @@ pub(crate) fn make_room<T>(kept: &mut Vec<T>) -> Result<(), Memory>
 }
 
 /// So many pairs from the start on.
-fn part(pairs: &[(u32, u32)], start: usize, count: u32) -> &[(u32, u32)]
+pub(crate) fn part(pairs: &[(u32, u32)], start: usize, count: u32) -> &[(u32, u32)]
     requires { start + count ≤ length pairs.now }
     ensures { result.now ≡ slice_range pairs.now start (start + count) }
 {

@@ -1,6 +1,6 @@
 use Rattle.std.proofs.Common.{ℕ, arith}
 use Rattle.lists.specs.Cuts.{IsCut}
-use Rattle.lists.proofs.Keys.{parts_rise, parts_fit, parts_shorter}
+use Rattle.lists.proofs.Keys.{parts_both, parts_shorter}
 use Rattle.lists.proofs.Halving.{first_before_last, IsCut-place, AreIn-parts}
 use Rattle.lists.proofs.unions.+list_of.Goals as goal
 use Rattle.lists.proofs.unions.+list_of.Goals.{After-parted}
@@ -21,17 +21,17 @@ list_of-requires t c =
     let parts = c.parted.ensures in
     let shorter = parts_shorter _ _ _ _ parts (at_cut t ((goal.at.list_of-requires t c).After-parted)) in
     let d = c.decreases in
-    (omega (arith, shorter.0, d), ((parts_rise _ _ _ _ parts c.requires.rising).0, (parts_fit _ _ _ _ parts c.requires.fit).0))
+    (omega (arith, shorter.0, d), (parts_both _ _ _ _ parts c.requires.rising c.requires.fit).0)
 
 pub list_of-requires-2 : goal.list_of-requires-2
 list_of-requires-2 t c =
     let parts = c.parted.ensures in
     let shorter = parts_shorter _ _ _ _ parts (at_cut t ((goal.at.list_of-requires-2 t c).After-parted)) in
     let d = c.decreases in
-    (omega (arith, shorter.1, d), ((parts_rise _ _ _ _ parts c.requires.rising).1, (parts_fit _ _ _ _ parts c.requires.fit).1))
+    (omega (arith, shorter.1, d), (parts_both _ _ _ _ parts c.requires.rising c.requires.fit).1)
 
 pub number-requires-2 : goal.number-requires-2
 number-requires-2 t c =
-    AreIn-parts c.list_of.new.lists c.list_of-2.new.lists _ c.args.pairs.now c.parted.result.0.now c.parted.result.1.now c.list_of-2.ensures.grow
+    AreIn-parts c.list_of.new.trie c.list_of-2.new.trie _ c.args.pairs.now c.parted.result.0.now c.parted.result.1.now c.list_of-2.ensures.grow
     c.in_ok-below.ensures.within c.in_ok-below.ensures.list c.in_ok-above.ensures.within c.in_ok-above.ensures.list
     c.parted.ensures (at_cut t ((goal.at.number-requires-2 t c).After-parted)) (omega (arith, c.if-pairs-le-FEW.false))

@@ -3,4 +3,4 @@ use Rattle.lists.specs.Lists.{list_at}
 use Rattle.lists.proofs.unions.+with.Given as goal
 
 abbrev pub decreases-with : goal.decreases-with
-decreases-with l = length l.pairs.now + length (list_at l.lists.now l.k)
+decreases-with l = length l.pairs.now + length (list_at l.trie.now l.k)

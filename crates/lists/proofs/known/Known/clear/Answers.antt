@@ -1,6 +1,5 @@
-use Rattle.std.proofs.Common.{◌∙◌, ap, replicate}
 use Rattle.lists.proofs.Noting.{none_noted}
 use Rattle.lists.proofs.known.Known.clear.Goals as goal
 
 pub returns : goal.returns
-returns c = none_noted c.fill.new.self.items _ (c.fill.ensures.items (λ y e. e) ∙ ap (replicate _) c.no_union.ensures)
+returns c = none_noted c.fill.new.self.items _ (c.fill.ensures.items (λ y e. e))

@@ -1,22 +1,16 @@
-use Rattle.std.proofs.Common.{◌≡◌, ◌∙◌, ◌++◌, ap, sym, subst}
-use Rattle.std.specs.Result.{OnOk}
+use Rattle.std.proofs.Common.{◌≡◌, ◌∙◌, ◌++◌, ap, sym, rules}
 use Rattle.lists.specs.Lists.{list_at}
 use Rattle.lists.specs.Extended.{parts_of, extended}
-use Rattle.lists.proofs.Numbering.{shown_at, extended_none}
+use Rattle.lists.proofs.Numbering.{shown_at}
 use Rattle.lists.proofs.lists.Lists.append.Goals as goal
 use Rattle.lists.proofs.lists.Lists.append.Goals.{After-of-list}
 
-list_is : (c : After-of-list) → list_at c.args.self.now c.args.k ≡ extended c.self.inside.trie (parts_of c.of-list.result)
+list_is : (c : After-of-list) → list_at c.args.self.now c.args.k ≡ extended c.self.inside.bases.trie (parts_of c.of-list.result)
 list_is c =
-    shown_at c.self.inside.trie c.self.inside.kept c.args.self.now c.self.view_is c.args.k c.requires (parts_of c.of-list.result) c.of-list.ensures
-
-pub returns-then-list-eq-EMPTY-clause-appended : goal.returns-then-list-eq-EMPTY-clause-appended
-returns-then-list-eq-EMPTY-clause-appended c =
-    c.in_ok-extend_from_slice.ensures.items
-    ∙ ap (λ l. c.args.pairs.now.items ++ l) (sym (list_is ((goal.at.returns-then-list-eq-EMPTY-clause-appended c).After-of-list)
-    ∙ extended_none c.self.inside.trie (parts_of c.of-list.result) c.if-list-eq-EMPTY.true c.known.ensures.stored.first))
+    shown_at c.self.inside.bases.trie c.self.inside.table.kept c.args.self.now c.self.view_is c.args.k c.requires (parts_of c.of-list.result) c.of-list.ensures
 
 pub returns-clause-appended : goal.returns-clause-appended
 returns-clause-appended c =
-    subst (λ l. OnOk c.append.result (c.append.new.pairs.items ≡ c.args.pairs.now.items ++ l))
-    (sym (list_is ((goal.at.returns-clause-appended c).After-of-list))) c.append.ensures.appended
+    let items : c.append_with.new.out.items ≡ c.args.pairs.now.items ++ extended c.self.inside.bases.trie (parts_of c.of-list.result) =
+    search (rules, c.append_with.ensures.appended) in
+    items ∙ ap (λ l. c.args.pairs.now.items ++ l) (sym (list_is ((goal.at.returns-clause-appended c).After-of-list)))

@@ -1,11 +1,10 @@
-use Rattle.std.proofs.Common.{◌∙◌, ◌⊎◌, ◌↔◌, Contains, ap, sym, subst}
+use Rattle.std.proofs.Common.{◌∙◌, ◌⊎◌, ◌↔◌, ◌<◌, Contains, ap, sym, subst}
 use Rattle.std.proofs.lemmas.Result.{IfOk-weaker}
 use Rattle.lists.specs.Lists.{list_at, merged, Grow, HasOne}
-use Rattle.lists.specs.Unions.{AreUnions}
 use Rattle.lists.specs.Extended.{AreExtended, IsExtension, extended_lists}
 use Rattle.lists.proofs.Merging.{merged_has}
-use Rattle.lists.proofs.Joining.{AreUnions-grow, Grow-twice, same_as}
-use Rattle.lists.proofs.Numbering.{AreExtended-grow, Grow-lists}
+use Rattle.lists.proofs.Joining.{Grow-twice, same_as}
+use Rattle.lists.proofs.Numbering.{AreExtended-grow, Grow-lists, extended_size}
 use Rattle.lists.proofs.lists.Lists.join.Goals as goal
 use Rattle.lists.proofs.lists.Lists.join.Goals.{After-union_of}
 
@@ -17,13 +16,13 @@ returns-in-Some-clause-exactly c z =
 
 -- the base of the union is there
 module _ (c : After-union_of) where
-  kept : AreExtended c.union_of.new.trie c.self.inside.kept c.self.inside.buckets × AreUnions c.union_of.new.trie c.union_of.new.known
-  kept = (AreExtended-grow c.union_of.ensures.grow c.self.inside.kept c.self.inside.buckets c.self.invariant.0, c.union_of.ensures.unions)
+  kept : AreExtended c.union_of.new.bases.trie c.self.inside.table.kept c.self.inside.table.buckets
+  kept = AreExtended-grow c.union_of.ensures.grow c.self.inside.table.kept c.self.inside.table.buckets c.self.invariant
 
-  grown : Grow c.args.self.now (extended_lists c.union_of.new.trie c.self.inside.kept)
+  grown : Grow c.args.self.now (extended_lists c.union_of.new.bases.trie c.self.inside.table.kept)
   grown =
-      subst (λ l. Grow l (extended_lists c.union_of.new.trie c.self.inside.kept)) c.self.view_is
-      (Grow-lists c.union_of.ensures.grow c.self.inside.kept c.self.invariant.0.each)
+      subst (λ l. Grow l (extended_lists c.union_of.new.bases.trie c.self.inside.table.kept)) c.self.view_is
+      (Grow-lists c.union_of.ensures.grow c.self.inside.table.kept c.self.invariant.each)
 
 pub invariant_of-self : goal.invariant_of-self
 invariant_of-self c = kept ((goal.at.invariant_of-self c).After-union_of)
@@ -33,21 +32,26 @@ returns-in_err-base-clause-grow c = grown ((goal.at.returns-in_err-base-clause-g
 
 -- the base and the pairs beside it are numbered
 pub number_with-requires-clause-kept : goal.number_with-requires-clause-kept
-number_with-requires-clause-kept c = (kept ((goal.at.number_with-requires-clause-kept c).After-union_of)).0
+number_with-requires-clause-kept c = kept ((goal.at.number_with-requires-clause-kept c).After-union_of)
 
 pub number_with-requires-clause-list : goal.number_with-requires-clause-list
 number_with-requires-clause-list c =
-    subst (λ l. IsExtension c.union_of.new.trie (c.in_ok-base.base, l)) (sym c.deref-2.ensures.value) c.in_ok-base.ensures.beside
+    subst (λ l. IsExtension c.union_of.new.bases.trie (c.in_ok-base.base, l)) (sym c.deref-2.ensures.value) c.in_ok-base.ensures.beside
 
 pub invariant_of-self-2 : goal.invariant_of-self-2
-invariant_of-self-2 c = (c.number_with.ensures.kept, AreUnions-grow c.number_with.ensures.trie c.union_of.new.known c.union_of.ensures.unions)
+invariant_of-self-2 c = c.number_with.ensures.keeps.are
+
+pub returns-clause-within : goal.returns-clause-within
+returns-clause-within c =
+    IfOk-weaker c.number_with.result _ _ (λ k low. subst (λ n. k < n) (sym (extended_size c.number_with.new.bases.trie c.number_with.new.self.kept)) low)
+    c.number_with.ensures.within
 
 pub returns-clause-grow : goal.returns-clause-grow
-returns-clause-grow c = Grow-twice (grown ((goal.at.returns-clause-grow c).After-union_of)) c.number_with.ensures.lists
+returns-clause-grow c = Grow-twice (grown ((goal.at.returns-clause-grow c).After-union_of)) c.number_with.ensures.keeps.lists
 
 pub returns-clause-exactly : goal.returns-clause-exactly
 returns-clause-exactly c =
-    let list = list_at c.union_of.new.trie c.in_ok-base.base in
+    let list = list_at c.union_of.new.bases.trie c.in_ok-base.base in
     let pairs = c.union_of.new.pairs.items in
     IfOk-weaker c.number_with.result _ _ (λ k e z.
     same_as

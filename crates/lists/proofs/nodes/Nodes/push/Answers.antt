@@ -1,14 +1,44 @@
-use Rattle.std.proofs.Common.{◌∙◌, length, ap, sym}
-use Rattle.std.proofs.lemmas.Result.{IfOk-weaker}
-use Rattle.lists.proofs.Storing.{length-lists}
+use Rattle.std.proofs.Common.{◌≡◌, ◌∙◌, ◌++◌, ◌∷◌, ◌<◌, [], length, ap, sym, subst, arith}
+use Rattle.lists.specs.declared.nodes.TheConstants.{MOST_LISTS}
+use Rattle.lists.specs.declared.nodes.Node.TheVariants.{Whole}
+use Rattle.lists.specs.Nodes.{list_of_shape, kept_lists, Suits}
+use Rattle.lists.proofs.Storing.{IsNext, AreNodes-next, lists-next, length-lists}
 use Rattle.lists.proofs.nodes.Nodes.push.Goals as goal
+use Rattle.lists.proofs.nodes.Nodes.push.Goals.{After-push_reserved, in-Whole+in_ok-extend_from_slice-in-Whole, in-Halved}
 
-pub returns-in-Whole-clause-number : goal.returns-in-Whole-clause-number
-returns-in-Whole-clause-number c =
-    IfOk-weaker c.put_whole.result _ _
-    (λ k e. e ∙ sym (length-lists c.self.inside.pairs.items c.self.inside.nodes.items) ∙ ap length c.self.view_is) c.put_whole.ensures.number
+module _ (c : After-push_reserved) where
+  next : IsNext c.self.inside.pairs.items c.match-shape.self-inside.pairs.items c.args.shape c.match-shape.node
+  next = elim c.match-shape.branch [
+    | in-Whole+in_ok-extend_from_slice-in-Whole w ↦
+        subst (λ s. IsNext c.self.inside.pairs.items c.match-shape.self-inside.pairs.items s c.match-shape.node) (sym w.in-Whole.is) (
+          ap (λ x. x.pairs.items) w.self-inside-is ∙ w.in_ok-extend_from_slice-in-Whole.ensures.items,
+          w.node-is ∙ ap (λ start. Whole start (length w.in-Whole.list.now)) (omega (arith, w.len-start.ensures, c.self.inside.pairs.ok.0)),
+        )
+    | in-Halved w ↦
+        subst (λ s. IsNext c.self.inside.pairs.items c.match-shape.self-inside.pairs.items s c.match-shape.node) (sym w.in-Halved.is)
+        (ap (λ x. x.pairs.items) w.self-inside-is, w.node-is)
+  ]
 
-pub returns-in-Halved-clause-number : goal.returns-in-Halved-clause-number
-returns-in-Halved-clause-number c =
-    IfOk-weaker c.put_halved.result _ _
-    (λ k e. e ∙ sym (length-lists c.self.inside.pairs.items c.self.inside.nodes.items) ∙ ap length c.self.view_is) c.put_halved.ensures.number
+  nodes : c.push_reserved.new.self.items ≡ c.self.inside.nodes.items ++ c.match-shape.node ∷ []
+  nodes = c.push_reserved.ensures.items ∙ ap (λ l. l ++ c.match-shape.node ∷ []) (elim c.match-shape.branch [
+    | in-Whole+in_ok-extend_from_slice-in-Whole w ↦ ap (λ x. x.nodes.items) w.self-inside-is ∙ c.make_room.ensures.same
+    | in-Halved w ↦ ap (λ x. x.nodes.items) w.self-inside-is ∙ c.make_room.ensures.same
+  ])
+
+pub invariant_of-self-2 : goal.invariant_of-self-2
+invariant_of-self-2 c =
+    let few : length c.self.inside.nodes.items < MOST_LISTS = subst (λ xs. length xs < MOST_LISTS) c.make_room.ensures.same c.in_ok-make_room.ensures.number in
+    rw (nodes c) (AreNodes-next c.self.inside.pairs.items _ c.self.inside.nodes.items c.args.shape c.match-shape.node c.self.invariant few
+    (subst (λ l. Suits l c.args.shape) (sym c.self.view_is) c.requires) (next c))
+
+pub returns-clause-pushed : goal.returns-clause-pushed
+returns-clause-pushed c =
+    ap (kept_lists c.match-shape.self-inside.pairs.items) (nodes c)
+    ∙ lists-next c.self.inside.pairs.items _ c.self.inside.nodes.items c.args.shape c.match-shape.node c.self.invariant (next c)
+    ∙ ap (λ l. l ++ list_of_shape l c.args.shape ∷ []) c.self.view_is
+
+pub returns-clause-number : goal.returns-clause-number
+returns-clause-number c =
+    let size = ap length c.make_room.ensures.same in
+    let view = ap length c.self.view_is in
+    omega (arith, c.len-number.ensures, length-lists c.self.inside.pairs.items c.self.inside.nodes.items)

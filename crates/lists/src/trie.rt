@@ -1,0 +1,206 @@
+//! Different lists of pairs, so that a list that is asked for again has the number that it got the first time, and the unions of
+//! two that were made: the layer above `nodes`.
+ghost use Rattle.std.specs.Prelude.{◌≡◌, ◌↔◌, ℕ, ◌++◌, ◌∷◌, ◌<◌, List, [], length, IfOk, IfSome, OnOk, OnErr, IsTrue};
+ghost use Rattle.std.specs.List.{Contains};
+ghost use Rattle.std.specs.List.Sorted.{IsStrictlySortedBy};
+ghost use Rattle.lists.specs.Lists.{pair_cmp, list_at, merged, Grow};
+ghost use Rattle.lists.specs.Cuts.{Fit};
+ghost use Rattle.lists.specs.Nodes.{AreStored, IsShape, list_of_shape, Suits};
+ghost use Rattle.lists.specs.Hashed.{AreDifferent};
+ghost use Rattle.lists.specs.Hashes.{fingerprint_of};
+ghost use Rattle.lists.specs.Unions.{IsUnion};
+
+use crate::cut::{key, parted};
+use crate::hashed::{find, put};
+use crate::hashes::{fingerprint, mix};
+use crate::known::Known;
+use crate::nodes::{Nodes, Shape};
+use crate::ordered::{append_merged, has};
+use buckets::Buckets;
+use growth::Memory;
+use std::alloc::Global;
+use std::marker::Model;
+
+/// Different lists of pairs in strictly rising order. The list number `EMPTY` is the empty one.
+pub(crate) struct Trie {
+    nodes: Nodes,
+    /// The fingerprint of each list.
+    sums: Vec<u64>,
+    /// The number of each list under its tag.
+    buckets: Buckets,
+    known: Known,
+}
+
+/// Written out, so that it is dropped by one call and not by one for each part.
+impl Drop for Trie {
+    fn drop(self) {
+        let Trie {
+            nodes: _,
+            sums: _,
+            buckets: _,
+            known: _,
+        } = self;
+    }
+}
+
+impl Model for Trie {
+    ghost use Rattle.std.specs.Prelude.{ℕ, List};
+
+    ghost Value = { List (List (ℕ × ℕ)) };
+
+    ghost use Rattle.lists.specs.Hashed.{IsHashed};
+    ghost use Rattle.lists.specs.Unions.{AreUnions};
+
+    ghost view = { λ x. x.nodes };
+
+    ghost invariant = { λ x. IsHashed x.nodes x.sums.items x.buckets × AreUnions x.nodes x.known };
+}
+
+impl Trie {
+    /// The empty list alone.
+    ///
+    /// Fails if there is no memory for it.
+    pub fn new(alloc: Global) -> Result<Trie, Memory>
+        ensures { IfOk result (λ x. x ≡ [] ∷ []) }
+    {
+        let mut sums = Vec::new(alloc);
+        sums.push(0)?;
+        Ok(Trie {
+            nodes: Nodes::new(alloc)?,
+            sums,
+            buckets: Buckets::new(alloc, 0)?,
+            known: Known::new(alloc)?,
+        })
+    }
+
+    /// Does nothing when it runs: its contract says what holds of all lists.
+    pub fn known(&self)
+        ensures stored { AreStored self.now }
+        ensures different { AreDifferent self.now }
+    {
+        self.nodes.known();
+    }
+
+    /// The list number `k`, as it is kept.
+    pub fn shape(&self, k: u32) -> Shape<'_>
+        requires { k < length self.now }
+        ensures { IsShape self.now k result }
+    {
+        self.nodes.shape(k)
+    }
+
+    /// The fingerprint of the list number `k`.
+    pub fn sum(&self, k: u32) -> u64
+        requires { k < length self.now }
+        ensures { result ≡ fingerprint_of (list_at self.now k) }
+    {
+        self.sums[k as usize]
+    }
+
+    /// The fingerprint of the list of this shape.
+    fn sum_of(&self, shape: Shape<'_>) -> u64
+        requires { Suits self.now shape }
+        ensures { result ≡ fingerprint_of (list_of_shape self.now shape.entry) }
+    {
+        match shape {
+            Shape::Whole(list) => fingerprint(list),
+            Shape::Halved(halves) => self.sum(halves.below).wrapping_add(self.sum(halves.above)),
+        }
+    }
+
+    /// The number of the list of this shape: a new one if there was none.
+    ///
+    /// Fails if there is no memory for it. The lists that there were are as they were.
+    pub fn number(&mut self, shape: Shape<'_>) -> Result<u32, Memory>
+        requires { Suits self.old shape }
+        ensures within { IfOk result (λ k. k < length self.new) }
+        ensures list { IfOk result (λ k. list_at self.new k ≡ list_of_shape self.old shape.entry) }
+        ensures grow { Grow self.old self.new }
+    {
+        self.nodes.known();
+        let sum = self.sum_of(shape);
+        if let Some(number) = find(&self.nodes, &self.buckets, shape, mix(sum)) {
+            return Ok(number);
+        }
+        put(
+            &mut self.nodes,
+            &mut self.sums,
+            &mut self.buckets,
+            shape,
+            sum,
+        )
+    }
+
+    /// The number of the list that has the pairs of both lists, if it was noted.
+    pub fn noted(&self, j: u32, k: u32) -> Option<u32>
+        ensures { IfSome result (IsUnion self.now (j, k)) }
+    {
+        self.known.find(j.min(k), j.max(k))
+    }
+
+    /// Notes that the list number `i` has the pairs of both lists.
+    ///
+    /// Fails if there is no memory for it.
+    pub fn note(&mut self, j: u32, k: u32, i: u32) -> Result<(), Memory>
+        requires { IsUnion self.old (j, k) i }
+        ensures { self.new ≡ self.old }
+    {
+        self.known.note(j.min(k), j.max(k), i)
+    }
+
+    /// Whether the list number `k` has the pair.
+    pub fn has(&self, k: u32, pair: (u32, u32)) -> bool
+        requires { k < length self.now }
+        ensures { IsTrue result ↔ Contains (list_at self.now k) pair }
+    {
+        self.known();
+        match self.shape(k) {
+            Shape::Whole(list) => has(list, pair),
+            Shape::Halved(halves) => {
+                if key(pair) < halves.cut {
+                    return self.has(halves.below, pair);
+                }
+                self.has(halves.above, pair)
+            }
+        }
+    }
+
+    /// Appends the list number `k` and these pairs as one, in rising order, to `out`.
+    ///
+    /// Fails if there is no memory for it. `out` has then maybe some pairs more.
+    pub fn append_with(
+        &self,
+        k: u32,
+        pairs: &[(u32, u32)],
+        out: &mut Vec<(u32, u32)>,
+    ) -> Result<(), Memory>
+        requires list { k < length self.now }
+        requires rising { IsStrictlySortedBy pair_cmp pairs.now }
+        requires fit { Fit pairs.now }
+        ensures appended { OnOk result
+            (out.new.items ≡ out.old.items ++ merged (list_at self.now k) pairs.now) }
+        ensures err { OnErr result ((more : List (ℕ × ℕ))
+            × (out.new.items ≡ out.old.items ++ more)) }
+    {
+        self.known();
+        match self.shape(k) {
+            Shape::Whole(list) => append_merged(list, pairs, out),
+            Shape::Halved(halves) => {
+                let (few, more) = parted(pairs, halves.cut);
+                self.append_with(halves.below, few, out)?;
+                self.append_with(halves.above, more, out)
+            }
+        }
+    }
+
+    /// Forgets all lists but the empty one, and keeps the memory.
+    pub fn clear(&mut self)
+        ensures { self.new ≡ [] ∷ [] }
+    {
+        self.nodes.known();
+        self.nodes.clear();
+        self.sums.truncate(1);
+        self.buckets.clear();
+        self.known.clear();
+    }
+}
