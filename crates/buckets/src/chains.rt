@@ -4,7 +4,7 @@ ghost use Rattle.buckets.specs.Buckets.{IsLast};
 ghost use Rattle.buckets.specs.Chains.{tags_of, bucket_of_tag, entry_of_none, IsInChain, AreBuckets, AreChained};
 ghost use Rattle.buckets.specs.declared.TheConstants.{MOST};
 
-use crate::MOST_BUCKETS;
+use crate::{MOST_BUCKETS, TIMES_AS_MANY};
 use growth::Memory;
 
 /// How a number is found.
@@ -86,8 +86,8 @@ pub(crate) fn take(heads: &mut [u32], entries: &mut Vec<Entry>)
     entries.truncate(entries.len() - 1);
 }
 
-/// Makes four times as many buckets, up to the most, and chains all numbers anew, if there are more numbers than
-/// buckets. So few numbers have few buckets, which stay near in memory.
+/// Makes more buckets, up to the most, and chains all numbers anew, if there are more numbers than buckets. So few numbers have
+/// few buckets, which stay near in memory.
 ///
 /// Fails if there is no memory for them. The buckets are then as they were.
 pub(crate) fn widen(heads: &mut Vec<u32>, entries: &mut [Entry]) -> Result<(), Memory>
@@ -98,7 +98,7 @@ pub(crate) fn widen(heads: &mut Vec<u32>, entries: &mut [Entry]) -> Result<(), M
     if entries.len() <= heads.len() || MOST_BUCKETS <= heads.len() {
         return Ok(());
     }
-    heads.resize(MOST_BUCKETS.min(4 * heads.len()), 0)?;
+    heads.resize(MOST_BUCKETS.min(TIMES_AS_MANY * heads.len()), 0)?;
     heads.fill(0);
     chain(heads, entries);
     Ok(())

@@ -28,6 +28,9 @@ const FIRST_BUCKETS: usize = 1 << 12;
 /// The most buckets.
 const MOST_BUCKETS: usize = 1 << 26;
 
+/// Once there are more entries than buckets, there are so many times as many buckets.
+const TIMES_AS_MANY: usize = 4;
+
 /// The numbers from 1 on, each under a tag, so that those of a tag come up one by one. Number 0 stands for none.
 #[derive(Drop)]
 pub struct Buckets {

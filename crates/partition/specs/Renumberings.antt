@@ -3,14 +3,14 @@ use Rattle.std.specs.Prelude.{◌≡◌, ◌⊎◌, ℕ, ◌+◌, ◌*◌, ◌<�
 use Rattle.partition.specs.Sizes.{block_size}
 
 -- the block of a state has not grown, and has at most half of its states if the state got another number (Hopcroft 1971)
-abbrev pub IsHalved : List ℕ → List ℕ → Type 0
-IsHalved old new = (length new ≡ length old) × ((s : ℕ) → s < length old → (block_size new (slice_index new s) ≤ block_size old (slice_index old s))
+abbrev pub SplitsByHalves : List ℕ → List ℕ → Type 0
+SplitsByHalves old new = (length new ≡ length old) × ((s : ℕ) → s < length old → (block_size new (slice_index new s) ≤ block_size old (slice_index old s))
     × ((slice_index new s ≡ slice_index old s) ⊎ (block_size new (slice_index new s) * 2 ≤ block_size old (slice_index old s))))
 
 -- so it was in each split
 abbrev pub WereHalved : List ℕ → List (List ℕ) → Type 0
 WereHalved now [] = Unit {0}
-WereHalved now (old ∷ past) = IsHalved old now × WereHalved old past
+WereHalved now (old ∷ past) = SplitsByHalves old now × WereHalved old past
 
 -- so often the state s got another number
 abbrev pub renumberings : List ℕ → List (List ℕ) → ℕ → ℕ

@@ -12,6 +12,9 @@ use std::alloc::Global;
 /// further time costs a pass over all states.
 const MOST_SCANS: u32 = 16;
 
+/// There may be one entry more than states for so many: with less room all states go into chains more often.
+const STATES_AN_ENTRY: usize = 2;
+
 /// For each block a chain of the states that it got, from the last one down. Some may have left it. At first there are none.
 pub(crate) struct Members {
     /// How often all states were gone over.
@@ -163,8 +166,9 @@ impl Members {
     }
 }
 
-/// How many entries there may be, for so many states: half as many more. When there are more, all chains go, and are begun
-/// anew once a split asks for states. With less room all states go into chains more often; each entry takes 8 bytes.
+/// How many entries there may be, for so many states. Past that all chains go, and are begun anew once a split asks for states.
 fn most(states: usize) -> usize {
-    states.saturating_add(states / 2).saturating_add(1)
+    states
+        .saturating_add(states / STATES_AN_ENTRY)
+        .saturating_add(1)
 }

@@ -15,7 +15,7 @@ use Rattle.lists.specs.Lists.{AreLists, AreNumbers}
 use Rattle.partition.specs.Splitting.{Splits}
 use Rattle.partition.specs.Sizes.{Halves}
 use Rattle.partition.specs.Blocks.{RoundBlocks, IsOne, LeavesAlone, AreParted}
-use Rattle.partition.specs.Renumberings.{IsHalved, WereHalved}
+use Rattle.partition.specs.Renumberings.{SplitsByHalves, WereHalved}
 use Rattle.partition.proofs.CallerLemmas.{halved}
 use Rattle.rounds.specs.EachList.{Signed, HaveLists, list_of}
 use Rattle.rounds.specs.Settled.{Settled}
@@ -157,6 +157,6 @@ pub one_more : (rel : Relation) (l : Grouped) (p : RoundBlocks) (of : List ℕ) 
 one_more rel l p of past q is size next were =
     let size' : length p.of ≡ l.states = ap length is ∙ size in
     let split = subst (λ xs. Split rel (system_of l) (slice_index xs) (slice_index q.blocks.of)) is next.split in
-    let half : IsHalved p.of q.blocks.of =
+    let half : SplitsByHalves p.of q.blocks.of =
     halved p.of q.blocks.of p.count (next.states ∙ sym size') (λ s h low. next.stays s (omega (arith, h, size')) low) next.halves in
-    ((split, were.0), (subst (λ xs. IsHalved xs q.blocks.of) is half, were.1))
+    ((split, were.0), (subst (λ xs. SplitsByHalves xs q.blocks.of) is half, were.1))
