@@ -65,7 +65,8 @@ pub fn number<M: Meter>(
         count: 1,
     };
     for s in 0..states {
-        taken.add(blocks.block(s), reached[s as usize], s == first)?;
+        let is_reached = reached[s as usize];
+        taken.add(blocks.block(s), is_reached, s == first)?;
     }
     let Numbers {
         numbers,
