@@ -37,7 +37,8 @@ struct Numbers {
     count: u32,
 }
 
-/// The numbers of the reachable states, for the relation whose classes the blocks are. The blocks and the marks of reachable states are used up.
+/// The numbers of the reachable states, for the relation whose classes the blocks are. The blocks are used up, and the
+/// marks of the reachable states are handed on.
 pub fn number<M: Meter>(
     alloc: Global,
     l: &Lts<M>,
