@@ -5,7 +5,7 @@ use Rattle.std.specs.List.Sorted.{IsNonDecreasingBy}
 use Rattle.lts.specs.Lts.{Triple, Grouped, source_of, label_of, target_of, row_of, before}
 use Rattle.classes.specs.Marked.{IsMarked}
 
--- a system, the number of each of its states, and the label number that is dropped between equal numbers, if there is one
+-- a system, the number of each of its states, and the label number that is dropped between equal numbers, if any
 pub record Numbered : Type 0 where
   pub l : Grouped
   pub numbers : List ℕ

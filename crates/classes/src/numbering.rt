@@ -37,7 +37,8 @@ struct Numbers {
     count: u32,
 }
 
-/// The numbers of the reachable states, for the relation whose classes the blocks are. The blocks and the marks of reachable states are used up.
+/// The numbers of the reachable states, for the relation whose classes the blocks are. The blocks are used up, and the
+/// marks of the reachable states are handed on.
 pub fn number<M: Meter>(
     alloc: Global,
     l: &Lts<M>,
@@ -65,7 +66,8 @@ pub fn number<M: Meter>(
         count: 1,
     };
     for s in 0..states {
-        taken.add(blocks.block(s), reached[s as usize], s == first)?;
+        let is_reached = reached[s as usize];
+        taken.add(blocks.block(s), is_reached, s == first)?;
     }
     let Numbers {
         numbers,

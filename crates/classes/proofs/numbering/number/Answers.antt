@@ -68,8 +68,8 @@ loop-s-preserved g c =
     let l = c.args.l.now in
     let b = c.block-in-loop-s.result in
     let below : c.loop-s.s < l.states = omega (arith, c.states-states.ensures.value) in
-    let mark = get_or_read c.args.reached.items c.loop-s.s c.index.result.now
-    (omega (arith, below, c.requires.reached_long)) c.index.ensures false in
+    let mark = get_or_read c.args.reached.items c.loop-s.s c.index-is_reached.result.now
+    (omega (arith, below, c.requires.reached_long)) c.index-is_reached.ensures false in
     let is_reached = subst (λ m. IsTrue m ↔ Reachable (system_of l) c.loop-s.s) (sym mark)
     (c.requires.reached c.loop-s.s below) in
     record {
