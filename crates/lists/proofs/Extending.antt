@@ -83,8 +83,10 @@ pub merged_fit : (xs ys : List (ℕ × ℕ)) → Fit xs → Fit ys → Fit (merg
 merged_fit xs ys fit fit' z d = elim ((merged_has z xs ys).0 d) [ inl a ↦ fit z a | inr b ↦ fit' z b ]
 
 -- the halves of both as one are the halves of the lists as one
-pub merged_halves : {list few below above below' above' : List (ℕ × ℕ)} {c : ℕ} → IsParted list c below above → IsParted few c below' above'
-    → IsStrictlySortedBy pair_cmp list → IsStrictlySortedBy pair_cmp few → Fit list → Fit few → merged below below' ++ merged above above' ≡ merged list few
+pub merged_halves : {list few below above below' above' : List (ℕ × ℕ)} {c : ℕ} → IsParted list c below above
+    → IsParted few c below' above'
+    → IsStrictlySortedBy pair_cmp list → IsStrictlySortedBy pair_cmp few → Fit list → Fit few
+    → merged below below' ++ merged above above' ≡ merged list few
 merged_halves {list} {few} {below} {above} {below'} {above'} {c} first second rise rise' fit fit' =
     let rises = parts_rise list below above c first rise in
     let rises' = parts_rise few below' above' c second rise' in
@@ -93,6 +95,8 @@ merged_halves {list} {few} {below} {above} {below'} {above'} {c} first second ri
     let low = unites_merged _ below below' refl in
     let high = unites_merged _ above above' refl in
     unites_is_merged (merged below below' ++ merged above above') few list
-    (halves_rise _ _ c (merged_rises below below' rises.0 rises'.0) (merged_rises above above' rises.1 rises'.1) (merged_fit below below' fits.0 fits'.0)
-    (merged_fit above above' fits.1 fits'.1) (united_under second first _ _ low high) (united_over second first _ _ low high))
+    (halves_rise _ _ c (merged_rises below below' rises.0 rises'.0) (merged_rises above above' rises.1 rises'.1)
+    (merged_fit below below' fits.0 fits'.0)
+    (merged_fit above above' fits.1 fits'.1) (united_under second first _ _ low high)
+    (united_over second first _ _ low high))
     rise' rise (united second first _ _ low high)

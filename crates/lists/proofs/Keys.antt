@@ -62,31 +62,6 @@ halves_rise (x ∷ xs) above c rise_below rise_above fit_below fit_above under o
     (halves_rise xs above c (sorted_tail pair_cmp x xs rise_below) rise_above (λ z d. fit_below z (there x xs z d)) fit_above
     (λ z d. under z (there x xs z d)) over)
 
--- the halves of one list at one place are the same
-module _ (list below above below' above' : List (ℕ × ℕ)) (c : ℕ) (is : list ≡ below ++ above) (is' : list ≡ below' ++ above')
-    (under : IsUnder below c) (over : IsOver above c) (under' : IsUnder below' c) (over' : IsOver above' c) where
-  lower : (z : ℕ × ℕ) → Contains below z → Contains below' z
-  lower z d = elim (Contains-append_cases below' above' z (subst (λ l. Contains l z) (sym is ∙ is') (Contains-append_left below above z d))) [
-    | inl a ↦ a
-    | inr b ↦ let low = under z d in let high = over' z b in absurd (omega arith)
-  ]
-
-  upper : (z : ℕ × ℕ) → Contains above z → Contains above' z
-  upper z d = elim (Contains-append_cases below' above' z (subst (λ l. Contains l z) (sym is ∙ is') (Contains-append_right below above z d))) [
-    | inl a ↦ let low = under' z a in let high = over z d in absurd (omega arith)
-    | inr b ↦ b
-  ]
-
-module _ (list below above below' above' : List (ℕ × ℕ)) (c : ℕ) (is : list ≡ below ++ above) (is' : list ≡ below' ++ above')
-    (under : IsUnder below c) (over : IsOver above c) (under' : IsUnder below' c) (over' : IsOver above' c) where
-  pub same_below : IsStrictlySortedBy pair_cmp below → IsStrictlySortedBy pair_cmp below' → below ≡ below'
-  same_below rise rise' = rising_unique below below' rise rise'
-      (λ z. (lower list below above below' above' c is is' under over under' over' z, lower list below' above' below above c is' is under' over' under over z))
-
-  pub same_above : IsStrictlySortedBy pair_cmp above → IsStrictlySortedBy pair_cmp above' → above ≡ above'
-  same_above rise rise' = rising_unique above above' rise rise'
-      (λ z. (upper list below above below' above' c is is' under over under' over' z, upper list below' above' below above c is' is under' over' under over z))
-
 -- keys rise with the pairs
 pub rising_keys : (list : List (ℕ × ℕ)) → IsStrictlySortedBy pair_cmp list → Fit list → IsNonDecreasingBy as_number list
 rising_keys list rise fit i j d low high = elim (cases_lt i j) [
@@ -149,6 +124,24 @@ module _ (list below above : List (ℕ × ℕ)) (c : ℕ) (parted : IsParted lis
   pub parts_has : (z : ℕ × ℕ) → Contains list z ↔ (Contains below z ⊎ Contains above z)
   parts_has z = subst (λ l. Contains l z ↔ (Contains below z ⊎ Contains above z)) (sym parted.joined) (halves_has below above z)
 
+  pub below_has : (z : ℕ × ℕ) → Contains below z ↔ (Contains list z × (as_number z < c))
+  below_has z = (
+    λ d. ((parts_has z).1 (inl d), parted.under z d),
+    λ h. elim ((parts_has z).0 h.0) [
+      | inl a ↦ a
+      | inr b ↦ let low = h.1 in let high = parted.over z b in absurd (omega arith)
+    ],
+  )
+
+  pub above_has : (z : ℕ × ℕ) → Contains above z ↔ (Contains list z × (c ≤ as_number z))
+  above_has z = (
+    λ d. ((parts_has z).1 (inr d), parted.over z d),
+    λ h. elim ((parts_has z).0 h.0) [
+      | inl a ↦ let high = h.1 in let low = parted.under z a in absurd (omega arith)
+      | inr b ↦ b
+    ],
+  )
+
   -- neither part is all of it if there are pairs on both sides
   pub parts_shorter : IsCut list c → (length below < length list) × (length above < length list)
   parts_shorter cut =
@@ -165,3 +158,17 @@ module _ (list below above : List (ℕ × ℕ)) (c : ℕ) (parted : IsParted lis
         | inr d ↦ let k = d.1 in omega arith
       ] in
       (omega arith, omega arith)
+
+-- the parts of one list at one place are the same
+same_pairs : {xs ys : List (ℕ × ℕ)} {P : ℕ × ℕ → Type 0} → IsStrictlySortedBy pair_cmp xs
+    → IsStrictlySortedBy pair_cmp ys
+    → ((z : ℕ × ℕ) → Contains xs z ↔ P z) → ((z : ℕ × ℕ) → Contains ys z ↔ P z) → xs ≡ ys
+same_pairs rise rise' f g = rising_unique _ _ rise rise' (λ z. (λ d. (g z).1 ((f z).0 d), λ d. (f z).1 ((g z).0 d)))
+
+pub parts_unique : {list below above below' above' : List (ℕ × ℕ)} {c : ℕ} → IsParted list c below above
+    → IsParted list c below' above' → IsStrictlySortedBy pair_cmp below → IsStrictlySortedBy pair_cmp below'
+    → IsStrictlySortedBy pair_cmp above → IsStrictlySortedBy pair_cmp above' → (below ≡ below') × (above ≡ above')
+parts_unique {list} {below} {above} {below'} {above'} {c} first second low low' high high' = (
+  same_pairs low low' (below_has list below above c first) (below_has list below' above' c second),
+  same_pairs high high' (above_has list below above c first) (above_has list below' above' c second),
+)

@@ -13,7 +13,6 @@ use Rattle.lists.specs.Unions.{Unites}
 use Rattle.lists.specs.declared.nodes.TheConstants.{MOST_LISTS}
 use Rattle.lists.specs.declared.numbered.Table.{Table}
 use Rattle.lists.proofs.Joining.{Grow-twice}
-use Rattle.lists.proofs.Hashing.{IsReached}
 use Rattle.lists.proofs.Storing.{All-only, list-old, list-new}
 use Rattle.lists.proofs.Merging.{merged_nil, merged_has, merged_rises}
 use Rattle.lists.proofs.Rising.{here, rising_none}
@@ -64,7 +63,8 @@ module _ {old new : List (List (ℕ × ℕ))} (grow : Grow old new) where
       record { longer = omega arith; same = λ k low. ap (λ ls. list_at ls k) same }
 
   -- and so does what is kept, if the table is as it was
-  pub TableGrows-trie : (before after : Table) → after.kept ≡ before.kept → after.buckets ≡ before.buckets → AreExtended old before.kept before.buckets
+  pub TableGrows-trie : (before after : Table) → after.kept ≡ before.kept → after.buckets ≡ before.buckets
+      → AreExtended old before.kept before.buckets
       → TableGrows old new before after
   TableGrows-trie before after kept tags are = record {
     are = rw (kept, tags) (AreExtended-grow before.kept before.buckets are);
@@ -72,7 +72,8 @@ module _ {old new : List (List (ℕ × ℕ))} (grow : Grow old new) where
     lists = rw kept (Grow-lists before.kept are.each);
   }
 
-pub TableGrows-after : {a b c : List (List (ℕ × ℕ))} {before after : Table} → Grow a b → AreExtended a before.kept before.buckets → TableGrows b c before after
+pub TableGrows-after : {a b c : List (List (ℕ × ℕ))} {before after : Table} → Grow a b
+    → AreExtended a before.kept before.buckets → TableGrows b c before after
     → TableGrows a c before after
 TableGrows-after {a} {b} {c} {before} grow are keeps = record {
   are = keeps.are;
@@ -95,13 +96,11 @@ pub whole_is : (trie new : List (List (ℕ × ℕ))) (x : ℕ × List (ℕ × �
 whole_is trie new x i stored stored' is low unites =
     unites_is_merged (list_at new i) x.1 (list_at trie x.0) (stored'.rise i [] low) is.rising (stored.rise x.0 [] is.base) unites
 
--- the number that a search has reached is that of a list
-pub reached_low : (trie : List (List (ℕ × ℕ))) (kept : List (ℕ × List (ℕ × ℕ))) (list : List (ℕ × ℕ)) (r : ℕ) → 1 ≤ length kept
-    → IsReached (extended_lists trie kept) list r → r < length kept
-reached_low trie kept list r some is =
-    let size = extended_size trie kept in
-    let low = is.below (omega arith) in
-    omega arith
+-- each list has a tag
+pub tags_size : {trie : List (List (ℕ × ℕ))} {kept : List (ℕ × List (ℕ × ℕ))} {tags : List ℕ} → AreExtended trie kept tags
+    → length tags ≡ length kept
+tags_size {trie} {kept} are = ap length are.tagged ∙ length-map (extended_lists trie kept) tag_of
+    ∙ extended_size trie kept
 
 -- different lists with one more
 pub AreDifferent-push : (lists : List (List (ℕ × ℕ))) (list : List (ℕ × ℕ)) → AreDifferent lists
@@ -149,7 +148,8 @@ module _ (trie : List (List (ℕ × ℕ))) (kept : List (ℕ × List (ℕ × ℕ
         first = kept-old 0 are.some ∙ are.first;
         different = subst AreDifferent (sym lists-push)
             (AreDifferent-push (extended_lists trie kept) (extended trie x) are.different (absent_all none some absent));
-        tagged = (λ i. are.tagged i ++ tagged i ∷ []) ∙ sym (map-append tag_of (extended_lists trie kept) (extended trie x ∷ []))
+        tagged = (λ i. are.tagged i ++ tagged i ∷ [])
+            ∙ sym (map-append tag_of (extended_lists trie kept) (extended trie x ∷ []))
             ∙ ap (map tag_of) (sym lists-push);
       }
 
@@ -158,7 +158,7 @@ pub AreLists-extended : {trie : List (List (ℕ × ℕ))} {kept : List (ℕ × L
     → length tags ≤ MOST_LISTS → AreLists (extended_lists trie kept)
 AreLists-extended {trie} {kept} {tags} stored are few =
     let all = extended_size trie kept in
-    let size = ap length are.tagged ∙ length-map (extended_lists trie kept) tag_of in
+    let size = tags_size are in
     let some = are.some in
     record {
       rise = λ k d low.
@@ -254,7 +254,8 @@ module _ {old new : List (List (ℕ × ℕ))} (grow : Grow old new) (before afte
     (kept : after.kept ≡ before.kept ++ x ∷ []) (tags : after.buckets ≡ before.buckets ++ tag ∷ [])
     (are : AreExtended old (before.kept ++ x ∷ []) (before.buckets ++ tag ∷ [])) where
   all_more : extended_lists new after.kept ≡ extended_lists old before.kept ++ extended old x ∷ []
-  all_more = ap (extended_lists new) kept ∙ lists-grow grow (before.kept ++ x ∷ []) are.each ∙ map-append (extended old) before.kept (x ∷ [])
+  all_more = ap (extended_lists new) kept ∙ lists-grow grow (before.kept ++ x ∷ []) are.each
+      ∙ map-append (extended old) before.kept (x ∷ [])
 
   pub TableGrows-push : TableGrows old new before after
   TableGrows-push = record {

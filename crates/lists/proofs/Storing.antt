@@ -264,12 +264,16 @@ abbrev pub IsNext : List (ℕ × ℕ) → List (ℕ × ℕ) → Shape → Node �
 IsNext pairs new (Pairs list) node = (new ≡ pairs ++ list.now) × (node ≡ Whole (length pairs) (length list.now))
 IsNext pairs new (Cut h) node = (new ≡ pairs) × (node ≡ Halved h)
 
-pub AreNodes-next : (pairs new : List (ℕ × ℕ)) (nodes : List Node) (shape : Shape) (node : Node) → AreNodes pairs nodes → length nodes < MOST_LISTS
+pub AreNodes-next : (pairs new : List (ℕ × ℕ)) (nodes : List Node) (shape : Shape) (node : Node)
+    → AreNodes pairs nodes → length nodes < MOST_LISTS
     → Suits (kept_lists pairs nodes) shape → IsNext pairs new shape node → AreNodes new (nodes ++ node ∷ [])
-AreNodes-next pairs new nodes (Pairs list) node are few suits next = rw (next.0, next.1) (AreNodes-whole pairs list.now nodes are few suits)
-AreNodes-next pairs new nodes (Cut h) node are few suits next = rw (next.0, next.1) (AreNodes-halved pairs nodes h are few suits)
+AreNodes-next pairs new nodes (Pairs list) node are few suits next = rw (next.0, next.1)
+    (AreNodes-whole pairs list.now nodes are few suits)
+AreNodes-next pairs new nodes (Cut h) node are few suits next = rw (next.0, next.1)
+    (AreNodes-halved pairs nodes h are few suits)
 
-pub lists-next : (pairs new : List (ℕ × ℕ)) (nodes : List Node) (shape : Shape) (node : Node) → AreNodes pairs nodes → IsNext pairs new shape node
+pub lists-next : (pairs new : List (ℕ × ℕ)) (nodes : List Node) (shape : Shape) (node : Node) → AreNodes pairs nodes
+    → IsNext pairs new shape node
     → kept_lists new (nodes ++ node ∷ []) ≡ kept_lists pairs nodes ++ list_of_shape (kept_lists pairs nodes) shape ∷ []
 lists-next pairs new nodes (Pairs list) node are next = rw (next.0, next.1) (lists-whole pairs list.now nodes are)
 lists-next pairs new nodes (Cut h) node are next = rw (next.0, next.1) (lists-halved pairs nodes h are)

@@ -8,11 +8,11 @@ use Rattle.lists.specs.declared.nodes.Halves.{Halves}
 use Rattle.buckets.specs.Hashing.{hash_of}
 use Rattle.lists.specs.Hashes.{fingerprint_of}
 use Rattle.lists.specs.Lists.{list_at}
-use Rattle.lists.specs.Cuts.{IsCut, IsUnder, IsOver}
+use Rattle.lists.specs.Cuts.{IsCut, IsParted}
 use Rattle.lists.specs.Nodes.{IsHalved, AreStored, AreIn}
 use Rattle.lists.specs.Hashed.{AreDifferent}
 use Rattle.lists.proofs.Cuts.{cut_unique}
-use Rattle.lists.proofs.Keys.{same_below, same_above}
+use Rattle.lists.proofs.Keys.{parts_unique}
 
 -- one pair more
 pub fingerprint_more : (list : List (ℕ × ℕ)) (i sum hash : ℕ) → i < length list → sum ≡ fingerprint_of (take i list)
@@ -29,14 +29,14 @@ module _ (lists : List (List (ℕ × ℕ))) (stored : AreStored lists) (differen
   halves_same g h in_g in_h e =
       let list = list_at lists g.below ++ list_at lists g.above in
       let cut : g.cut ≡ h.cut = cut_unique list g.cut h.cut in_g.halves.at_cut (subst (λ l. IsCut l h.cut) (sym e) in_h.halves.at_cut) in
-      let under = subst (IsUnder (list_at lists h.below)) (sym cut) in_h.halves.under in
-      let over = subst (IsOver (list_at lists h.above)) (sym cut) in_h.halves.over in
-      let below : g.below ≡ h.below =
-      different g.below h.below in_g.below in_h.below
-      (same_below list _ _ _ _ g.cut refl e in_g.halves.under in_g.halves.over under over (stored.rise g.below [] in_g.below) (stored.rise h.below [] in_h.below)) in
-      let above : g.above ≡ h.above =
-      different g.above h.above in_g.above in_h.above
-      (same_above list _ _ _ _ g.cut refl e in_g.halves.under in_g.halves.over under over (stored.rise g.above [] in_g.above) (stored.rise h.above [] in_h.above)) in
+      let other : IsParted list h.cut (list_at lists h.below) (list_at lists h.above) =
+      record { joined = e; under = in_h.halves.under; over = in_h.halves.over } in
+      let same = parts_unique (record { joined = refl; under = in_g.halves.under; over = in_g.halves.over })
+      (subst (λ c. IsParted list c (list_at lists h.below) (list_at lists h.above)) (sym cut) other)
+      (stored.rise g.below [] in_g.below) (stored.rise h.below [] in_h.below) (stored.rise g.above [] in_g.above)
+      (stored.rise h.above [] in_h.above) in
+      let below = different g.below h.below in_g.below in_h.below same.0 in
+      let above = different g.above h.above in_g.above in_h.above same.1 in
       (λ i. record { below = below i; above = above i; cut = cut i })
 
   pub halves_in : (k : ℕ) (h : Halves) → k < length lists → IsHalved lists k h → AreIn lists h

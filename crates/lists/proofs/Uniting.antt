@@ -28,6 +28,10 @@ halved_long {lists} {k} {h} is =
 pub halved_cut : {lists : List (List (ℕ × ℕ))} {k : ℕ} {h : Halves} → IsHalved lists k h → IsCut (list_at lists k) h.cut
 halved_cut {lists} {k} {h} is = subst (λ l. IsCut l h.cut) (sym is.list) is.halves.at_cut
 
+pub halved_parted : {lists : List (List (ℕ × ℕ))} {k : ℕ} {h : Halves} → IsHalved lists k h
+    → IsParted (list_at lists k) h.cut (list_at lists h.below) (list_at lists h.above)
+halved_parted is = record { joined = is.list; under = is.halves.under; over = is.halves.over }
+
 -- a list in two at a place that suits it
 module _ (lists : List (List (ℕ × ℕ))) (stored : AreStored lists) (k c : ℕ) (h : Halves) (is : IsHalved lists k h) (bit : ℕ)
     (alike : IsAlike bit (list_at lists k) c) where
@@ -60,11 +64,8 @@ module _ (lists : List (List (ℕ × ℕ))) (stored : AreStored lists) (k c : �
   split_own same = record {
     first = let b = is.below in omega arith;
     second = let a = is.above in omega arith;
-    parted = record {
-      joined = is.list;
-      under = subst (IsUnder (list_at lists h.below)) same is.halves.under;
-      over = subst (IsOver (list_at lists h.above)) same is.halves.over;
-    };
+    parted = subst (λ c. IsParted (list_at lists k) c (list_at lists h.below) (list_at lists h.above)) same
+        (halved_parted is);
   }
 
 pub either_mixed : {W L U B C A D X Y : Type 0} → W ↔ (L ⊎ U) → L ↔ (B ⊎ C) → U ↔ (A ⊎ D) → X ↔ (B ⊎ A) → Y ↔ (C ⊎ D) → W ↔ (X ⊎ Y)
@@ -193,20 +194,3 @@ placed {xs} {ys} {low} {high} {low'} {high'} {bit} {l} {h} {c} place first secon
 -- both as one list in rising order
 pub unites_merged : (list xs ys : List (ℕ × ℕ)) → list ≡ merged xs ys → Unites list ys xs
 unites_merged list xs ys e = subst (λ l. Unites l ys xs) (sym e) (λ z. or_swap (merged_has z xs ys))
-
-pub only_first : {L B A : Type 0} → L ↔ (B ⊎ A) → (A → ⊥) → L ↔ B
-only_first either none = search rules
-
-pub only_second : {L B A : Type 0} → L ↔ (B ⊎ A) → (B → ⊥) → L ↔ A
-only_second either none = search rules
-
--- a pair of a list with halves is on its own side of the cut
-module _ (lists : List (List (ℕ × ℕ))) (k : ℕ) (h : Halves) (is : IsHalved lists k h) (z : ℕ × ℕ) where
-  in_halves : Contains (list_at lists k) z ↔ (Contains (list_at lists h.below) z ⊎ Contains (list_at lists h.above) z)
-  in_halves = parts_has _ _ _ h.cut (record { joined = is.list; under = is.halves.under; over = is.halves.over }) z
-
-  pub has_below : as_number z < h.cut → Contains (list_at lists k) z ↔ Contains (list_at lists h.below) z
-  has_below low = only_first in_halves (λ a. let high = is.halves.over z a in absurd (omega arith))
-
-  pub has_above : h.cut ≤ as_number z → Contains (list_at lists k) z ↔ Contains (list_at lists h.above) z
-  has_above high = only_second in_halves (λ b. let low = is.halves.under z b in absurd (omega arith))

@@ -22,6 +22,7 @@ use std::alloc::Global;
 use std::marker::Model;
 
 /// Different lists of pairs in strictly rising order. The list number `EMPTY` is the empty one.
+#[derive(Drop)]
 pub(crate) struct Trie {
     nodes: Nodes,
     /// The fingerprint of each list.
@@ -29,18 +30,6 @@ pub(crate) struct Trie {
     /// The number of each list under its tag.
     buckets: Buckets,
     known: Known,
-}
-
-/// Written out, so that it is dropped by one call and not by one for each part.
-impl Drop for Trie {
-    fn drop(self) {
-        let Trie {
-            nodes: _,
-            sums: _,
-            buckets: _,
-            known: _,
-        } = self;
-    }
 }
 
 impl Model for Trie {

@@ -74,7 +74,8 @@ returns-else-below-pieces-clause-exactly t c =
     IfOk-weaker c.number.result _ _ (λ i e. subst (λ l. Unites l c.args.pairs.now (list_at c.args.trie.now c.args.k)) (sym e) both) c.number.ensures.list
 
 pub returns-else-below-pieces-clause-grow : goal.returns-else-below-pieces-clause-grow
-returns-else-below-pieces-clause-grow t c = Grow-twice (Grow-twice c.with.ensures.grow c.with-in-Halved.ensures.grow) c.number.ensures.grow
+returns-else-below-pieces-clause-grow t c = Grow-twice (Grow-twice c.with.ensures.grow c.with-in-Halved.ensures.grow)
+    c.number.ensures.grow
 
 -- the list is put together with the pairs
 both_are : (t : ℕ) (c : After-deref t) → c.deref.result.now ≡ merged (list_at c.args.trie.now c.args.k) c.args.pairs.now

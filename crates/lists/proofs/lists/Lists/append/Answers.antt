@@ -11,6 +11,7 @@ list_is c =
 
 pub returns-clause-appended : goal.returns-clause-appended
 returns-clause-appended c =
-    let items : c.append_with.new.out.items ≡ c.args.pairs.now.items ++ extended c.self.inside.bases.trie (parts_of c.of-list.result) =
+    let list = extended c.self.inside.bases.trie (parts_of c.of-list.result) in
+    let items : c.append_with.new.out.items ≡ c.args.pairs.now.items ++ list =
     search (rules, c.append_with.ensures.appended) in
     items ∙ ap (λ l. c.args.pairs.now.items ++ l) (sym (list_is ((goal.at.returns-clause-appended c).After-of-list)))

@@ -43,7 +43,8 @@ invariant_of-self-2 c = c.number_with.ensures.keeps.are
 
 pub returns-clause-within : goal.returns-clause-within
 returns-clause-within c =
-    IfOk-weaker c.number_with.result _ _ (λ k low. subst (λ n. k < n) (sym (extended_size c.number_with.new.bases.trie c.number_with.new.self.kept)) low)
+    let size = extended_size c.number_with.new.bases.trie c.number_with.new.self.kept in
+    IfOk-weaker c.number_with.result _ _ (λ k low. subst (λ n. k < n) (sym size) low)
     c.number_with.ensures.within
 
 pub returns-clause-grow : goal.returns-clause-grow

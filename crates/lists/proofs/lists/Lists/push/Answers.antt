@@ -13,7 +13,8 @@ invariant_of-self c = c.number_with.ensures.keeps.are
 
 pub returns-clause-within : goal.returns-clause-within
 returns-clause-within c =
-    IfOk-weaker c.number_with.result _ _ (λ k low. subst (λ n. k < n) (sym (extended_size c.number_with.new.bases.trie c.number_with.new.self.kept)) low)
+    let size = extended_size c.number_with.new.bases.trie c.number_with.new.self.kept in
+    IfOk-weaker c.number_with.result _ _ (λ k low. subst (λ n. k < n) (sym size) low)
     c.number_with.ensures.within
 
 pub returns-clause-list : goal.returns-clause-list

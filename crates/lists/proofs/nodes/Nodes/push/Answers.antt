@@ -10,12 +10,15 @@ module _ (c : After-push_reserved) where
   next : IsNext c.self.inside.pairs.items c.match-shape.self-inside.pairs.items c.args.shape c.match-shape.node
   next = elim c.match-shape.branch [
     | in-Whole+in_ok-extend_from_slice-in-Whole w ↦
-        subst (λ s. IsNext c.self.inside.pairs.items c.match-shape.self-inside.pairs.items s c.match-shape.node) (sym w.in-Whole.is) (
+        subst (λ s. IsNext c.self.inside.pairs.items c.match-shape.self-inside.pairs.items s c.match-shape.node)
+        (sym w.in-Whole.is) (
           ap (λ x. x.pairs.items) w.self-inside-is ∙ w.in_ok-extend_from_slice-in-Whole.ensures.items,
-          w.node-is ∙ ap (λ start. Whole start (length w.in-Whole.list.now)) (omega (arith, w.len-start.ensures, c.self.inside.pairs.ok.0)),
+          w.node-is ∙ ap (λ start. Whole start (length w.in-Whole.list.now))
+              (omega (arith, w.len-start.ensures, c.self.inside.pairs.ok.0)),
         )
     | in-Halved w ↦
-        subst (λ s. IsNext c.self.inside.pairs.items c.match-shape.self-inside.pairs.items s c.match-shape.node) (sym w.in-Halved.is)
+        subst (λ s. IsNext c.self.inside.pairs.items c.match-shape.self-inside.pairs.items s c.match-shape.node)
+        (sym w.in-Halved.is)
         (ap (λ x. x.pairs.items) w.self-inside-is, w.node-is)
   ]
 
@@ -28,13 +31,15 @@ module _ (c : After-push_reserved) where
 pub invariant_of-self-2 : goal.invariant_of-self-2
 invariant_of-self-2 c =
     let few : length c.self.inside.nodes.items < MOST_LISTS = subst (λ xs. length xs < MOST_LISTS) c.make_room.ensures.same c.in_ok-make_room.ensures.number in
-    rw (nodes c) (AreNodes-next c.self.inside.pairs.items _ c.self.inside.nodes.items c.args.shape c.match-shape.node c.self.invariant few
+    rw (nodes c) (AreNodes-next c.self.inside.pairs.items _ c.self.inside.nodes.items c.args.shape c.match-shape.node
+    c.self.invariant few
     (subst (λ l. Suits l c.args.shape) (sym c.self.view_is) c.requires) (next c))
 
 pub returns-clause-pushed : goal.returns-clause-pushed
 returns-clause-pushed c =
     ap (kept_lists c.match-shape.self-inside.pairs.items) (nodes c)
-    ∙ lists-next c.self.inside.pairs.items _ c.self.inside.nodes.items c.args.shape c.match-shape.node c.self.invariant (next c)
+    ∙ lists-next c.self.inside.pairs.items _ c.self.inside.nodes.items c.args.shape c.match-shape.node
+    c.self.invariant (next c)
     ∙ ap (λ l. l ++ list_of_shape l c.args.shape ∷ []) c.self.view_is
 
 pub returns-clause-number : goal.returns-clause-number

@@ -1,12 +1,12 @@
 use Rattle.std.proofs.Common.{◌≡◌, ◌∙◌, ◌++◌, ◌∷◌, [], length, ap, subst, refl, eq-eqb, ◌<◌, arith}
 use Rattle.std.specs.Option.{MatchOption}
 use Rattle.std.proofs.lemmas.Bool.{both_ways}
-use Rattle.std.proofs.lemmas.List.{length-map, length_push}
+use Rattle.std.proofs.lemmas.List.{length_push}
 use Rattle.lists.specs.Lists.{list_at}
 use Rattle.lists.specs.Hashes.{mixed}
 use Rattle.lists.specs.Hashed.{tag_of, IsNewList, IsNumberOf}
 use Rattle.lists.specs.Extended.{parts_of, extended, extended_lists, AreExtended}
-use Rattle.lists.proofs.Numbering.{TableGrows-trie, TableGrows-push, lists-grow, AreExtended-push, extended_size, extended_some, list_more}
+use Rattle.lists.proofs.Numbering.{TableGrows-trie, TableGrows-push, lists-grow, AreExtended-push, tags_size, extended_size, extended_some, list_more}
 use Rattle.lists.proofs.numbered.Table.number.Goals as goal
 use Rattle.lists.proofs.numbered.Table.number.Goals.{After-mix-tag, In-Some, In_ok-number-2, else-list-eq-EMPTY-via-then-list-eq-EMPTY+else-is_empty, else-list-eq-EMPTY-via-else-list-eq-EMPTY}
 
@@ -24,7 +24,8 @@ returns-in-Some-clause-keeps c = TableGrows-trie c.find.ensures.grow c.args.self
 
 pub returns-in_err-number-2-clause-keeps : goal.returns-in_err-number-2-clause-keeps
 returns-in_err-number-2-clause-keeps c =
-    TableGrows-trie c.find.ensures.grow c.args.self.now c.put.new.self c.in_err-number-2.ensures.err.0 c.in_err-number-2.ensures.err.1 c.requires.kept
+    TableGrows-trie c.find.ensures.grow c.args.self.now c.put.new.self c.in_err-number-2.ensures.err.0
+    c.in_err-number-2.ensures.err.1 c.requires.kept
 
 -- the number that was found is that of the list
 found : (c : In-Some) → let all = extended_lists c.args.bases.now.trie c.args.self.now.kept in
@@ -36,7 +37,8 @@ found c =
 
 pub returns-in-Some-clause-within : goal.returns-in-Some-clause-within
 returns-in-Some-clause-within c =
-    subst (λ n. c.in-Some.number < n) (extended_size c.args.bases.now.trie c.args.self.now.kept) (found ((goal.at.returns-in-Some-clause-within c).In-Some)).1
+    subst (λ n. c.in-Some.number < n) (extended_size c.args.bases.now.trie c.args.self.now.kept)
+    (found ((goal.at.returns-in-Some-clause-within c).In-Some)).1
 
 pub returns-in-Some-clause-list : goal.returns-in-Some-clause-list
 returns-in-Some-clause-list c =
@@ -44,9 +46,7 @@ returns-in-Some-clause-list c =
     ∙ (found ((goal.at.returns-in-Some-clause-list c).In-Some)).2
 
 pub put-requires-clause-size : goal.put-requires-clause-size
-put-requires-clause-size c =
-    ap length c.requires.kept.tagged ∙ length-map (extended_lists c.args.bases.now.trie c.args.self.now.kept) tag_of
-    ∙ extended_size c.args.bases.now.trie c.args.self.now.kept
+put-requires-clause-size c = tags_size c.requires.kept
 
 -- the list is not the empty one
 not_both : (c : In_ok-number-2) → c.args.list.base ≡ 0 → c.args.list.few.now ≡ [] → ⊥
@@ -73,15 +73,23 @@ more c =
 pub returns-clause-keeps : goal.returns-clause-keeps
 returns-clause-keeps c =
     let put = c.in_ok-number-2.ensures in
-    TableGrows-push c.find.ensures.grow c.args.self.now c.put.new.self (parts_of c.args.list) c.mix-tag.result put.kept put.tags
+    TableGrows-push c.find.ensures.grow c.args.self.now c.put.new.self (parts_of c.args.list) c.mix-tag.result
+    put.kept put.tags
     (more ((goal.at.returns-clause-keeps c).In_ok-number-2))
 
 pub returns-clause-list : goal.returns-clause-list
 returns-clause-list c =
     let put = c.in_ok-number-2.ensures in
-    list_more c.find.ensures.grow c.args.self.now c.put.new.self (parts_of c.args.list) c.mix-tag.result put.kept put.tags
+    list_more c.find.ensures.grow c.args.self.now c.put.new.self (parts_of c.args.list) c.mix-tag.result put.kept
+    put.tags
     (more ((goal.at.returns-clause-list c).In_ok-number-2)) c.in_ok-number-2.number put.number
 
 pub returns-clause-within : goal.returns-clause-within
 returns-clause-within c =
-    omega (arith, c.in_ok-number-2.ensures.number, ap length c.in_ok-number-2.ensures.kept, length_push c.args.self.now.kept (parts_of c.args.list))
+    omega (
+      arith,
+      c.in_ok-number-2.ensures.number,
+      ap length c.in_ok-number-2.ensures.kept,
+      length_push
+          c.args.self.now.kept (parts_of c.args.list),
+    )

@@ -3,6 +3,7 @@ use Rattle.std.proofs.lemmas.Result.{on_ok_weaker, on_err_weaker}
 use Rattle.lists.specs.Lists.{list_at, merged}
 use Rattle.lists.proofs.Keys.{parts_both}
 use Rattle.lists.proofs.Merging.{append_both}
+use Rattle.lists.proofs.Uniting.{halved_parted}
 use Rattle.lists.proofs.Extending.{merged_halves}
 use Rattle.lists.proofs.trie.Trie.+append_with.Goals as goal
 use Rattle.lists.proofs.trie.Trie.+append_with.Goals.{After-append_with}
@@ -32,21 +33,26 @@ module _ (t : ℕ) (c : After-append_with t) where
 
   both : first ++ second ≡ merged (list_at c.args.self.now c.args.k) c.args.pairs.now
   both =
-      let is = c.in-Halved.ensures in
       let stored = c.known.ensures.stored in
-      merged_halves (record { joined = is.list; under = is.halves.under; over = is.halves.over }) c.parted.ensures
-      (stored.rise c.args.k [] c.requires.list) c.requires.rising (stored.fit c.args.k [] c.requires.list) c.requires.fit
+      merged_halves (halved_parted c.in-Halved.ensures) c.parted.ensures
+      (stored.rise c.args.k [] c.requires.list) c.requires.rising (stored.fit c.args.k [] c.requires.list)
+      c.requires.fit
 
 pub returns-in_ok-append_with-in-Halved-clause-appended : goal.returns-in_ok-append_with-in-Halved-clause-appended
 returns-in_ok-append_with-in-Halved-clause-appended t c =
     let at = (goal.at.returns-in_ok-append_with-in-Halved-clause-appended t c).After-append_with in
     on_ok_weaker c.append_with-in-Halved.result
-    (λ e. append_both c.args.out.now.items (first t at) (second t at) c.in_ok-append_with-in-Halved.ensures.appended e ∙ ap (λ l. c.args.out.now.items ++ l) (both t at))
+    (λ e. append_both c.args.out.now.items (first t at) (second t at) c.in_ok-append_with-in-Halved.ensures.appended e
+    ∙ ap (λ l. c.args.out.now.items ++ l) (both t at))
     c.append_with-in-Halved.ensures.appended
 
 pub returns-in_ok-append_with-in-Halved-clause-err : goal.returns-in_ok-append_with-in-Halved-clause-err
 returns-in_ok-append_with-in-Halved-clause-err t c =
     let at = (goal.at.returns-in_ok-append_with-in-Halved-clause-err t c).After-append_with in
     on_err_weaker c.append_with-in-Halved.result
-    (λ h. (first t at ++ h.0, append_both c.args.out.now.items (first t at) h.0 c.in_ok-append_with-in-Halved.ensures.appended h.1))
+    (λ h. (
+      first t at ++ h.0,
+      append_both c.args.out.now.items (first t at) h.0
+          c.in_ok-append_with-in-Halved.ensures.appended h.1,
+    ))
     c.append_with-in-Halved.ensures.err

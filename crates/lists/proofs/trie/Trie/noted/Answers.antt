@@ -8,5 +8,6 @@ returns c =
     if_some c.find.result _ _
     (λ i d.
     (IsUnion-in_order c.args.self.now c.args.j c.args.k i).1
-    (rw (← c.min.ensures, ← c.max.ensures) (subst (λ l. IsUnion l (c.min.result, c.max.result) i) c.self.view_is (c.self.invariant.1 _ d))))
+    (rw (← c.min.ensures, ← c.max.ensures) (subst (λ l. IsUnion l (c.min.result, c.max.result) i) c.self.view_is
+    (c.self.invariant.1 _ d))))
     c.find.ensures

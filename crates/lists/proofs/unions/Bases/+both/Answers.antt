@@ -88,7 +88,8 @@ note-requires t c =
     }
 
 pub returns-in_err-note-clause-grow : goal.returns-in_err-note-clause-grow
-returns-in_err-note-clause-grow t c = rw c.note.ensures (grown t ((goal.at.returns-in_err-note-clause-grow t c).In_ok-i))
+returns-in_err-note-clause-grow t c = rw c.note.ensures
+    (grown t ((goal.at.returns-in_err-note-clause-grow t c).In_ok-i))
 
 pub returns-clause-within : goal.returns-clause-within
 returns-clause-within t c = rw c.note.ensures c.in_ok-i.ensures.within
