@@ -14,6 +14,9 @@ const FIRST_PLACES: usize = 1 << 10;
 
 const MOST_PLACES: usize = 1 << 26;
 
+/// Once more unions were noted than there are places, there are so many times as many.
+const TIMES_AS_MANY: usize = 4;
+
 /// Numbers of two lists, and the number of their union.
 #[derive(Clone, Copy)]
 pub(crate) struct Union {
@@ -110,7 +113,7 @@ fn place(j: u32, k: u32, places: usize) -> usize
     bucket(mix(hash(j, u64::from(k))), places)
 }
 
-/// Makes four times as many places, up to the most, and forgets all unions, if more were noted than there are places.
+/// Makes more places, up to the most, and forgets all unions, if more were noted than there are places.
 ///
 /// Fails if there is no memory for them. The unions are then as they were.
 fn widen(unions: &mut Vec<Union>, noted: usize) -> Result<(), Memory>
@@ -122,7 +125,7 @@ fn widen(unions: &mut Vec<Union>, noted: usize) -> Result<(), Memory>
     if noted <= unions.len() || MOST_PLACES <= unions.len() {
         return Ok(());
     }
-    unions.resize(MOST_PLACES.min(4 * unions.len()), NO_UNION)?;
+    unions.resize(MOST_PLACES.min(TIMES_AS_MANY * unions.len()), NO_UNION)?;
     unions.fill(NO_UNION);
     Ok(())
 }
