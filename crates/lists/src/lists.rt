@@ -88,16 +88,12 @@ impl Lists {
         ensures appended { OnOk result (pairs.new.items ≡ pairs.old.items ++ list_at self.now k) }
         ensures err { OnErr result (pairs.new.items ≡ pairs.old.items) }
     {
-        self.bases.trie.known();
+        let trie = &self.bases.trie;
+        trie.known();
         let list = self.table.kept.of(k);
         fit(list.few);
         let had = pairs.len();
-        if self
-            .bases
-            .trie
-            .append_with(list.base, list.few, pairs)
-            .is_err()
-        {
+        if trie.append_with(list.base, list.few, pairs).is_err() {
             pairs.truncate(had);
             return Err(Memory);
         }

@@ -5,7 +5,7 @@ use Rattle.lists.specs.Lists.{list_at}
 use Rattle.lists.specs.Extended.{parts_of, extended, extended_lists, IsExtension}
 use Rattle.lists.proofs.Joining.{Grow-same, Grow-twice}
 use Rattle.lists.proofs.Hashing.{IsReached-last, IsReached-before}
-use Rattle.lists.proofs.Numbering.{tags_size, extended_at, extended-grow, IsExtension-grow, kept_is}
+use Rattle.lists.proofs.Numbering.{tags_size, extended_size, extended_at, extended-grow, IsExtension-grow, kept_is}
 use Rattle.lists.proofs.numbered.Table.find.Goals as goal
 use Rattle.lists.proofs.numbered.Table.find.Goals.{After-of}
 
@@ -60,3 +60,13 @@ loop-r-preserved c =
           (λ e. both_ways _ c.if-branch.false (c.in_ok-is_same.ensures.same.1 (sym (list_r at) ∙ e ∙ sym (list_is at))))
           c.loop-r.invariant.reached c.before-next.ensures;
     }
+
+pub returns-then-branch-clause-found : goal.returns-then-branch-clause-found
+returns-then-branch-clause-found c =
+    let at = (goal.at.returns-then-branch-clause-found c).After-of in
+    let some = c.loop-r-test.true in
+    let low = c.loop-r.invariant.low in (
+      omega arith,
+      omega (arith, extended_size c.args.bases.now.trie c.args.self.now.kept),
+      list_r at ∙ c.in_ok-is_same.ensures.same.0 c.if-branch.true ∙ list_is at,
+    )
