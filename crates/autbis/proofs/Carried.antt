@@ -1,5 +1,6 @@
 -- What a run carries on: the error of a call, and what follows from the reading of its text.
-use Rattle.std.proofs.Common.{◌≡◌, ℕ, ◌*◌, List, Option, Some, None, IfSome, Result, IfErr, IsErrAnd, MatchResult, append-nil, arith}
+use Rattle.std.proofs.Common.{◌≡◌, ℕ, ◌*◌, List, Option, Some, None, IfSome, Result, IfErr, IsErrAnd, MatchResult}
+use Rattle.std.proofs.Common.{append-nil, arith}
 use Rattle.std.proofs.lemmas.Result.{err_from_is_err_and}
 use Rattle.std.specs.Io.KnownBytes.{Consumes, IsAtEnd}
 use Rattle.lts.specs.Meter.{Counts}
@@ -8,28 +9,33 @@ use Rattle.autfmt.specs.Outcomes.{Takes}
 use Rattle.autbis.specs.Ends.{OfText}
 
 -- an answer that is the error e takes what its call took, if what is bad of that error is so
-pub takes_error : {T E : Type 0} (old new : Option (List ℕ)) (Good : List ℕ → T → Type 0) (Bad : List ℕ → E → Type 0) (r : Result T E) (e : E) (given : List ℕ) →
+pub takes_error : {T E : Type 0} (old new : Option (List ℕ)) (Good : List ℕ → T → Type 0) (Bad : List ℕ → E →
+    Type 0) (r : Result T E) (e : E) (given : List ℕ) →
     IsErrAnd r (λ y. y ≡ e) → Consumes old new given → Bad given e → Takes old new Good Bad r
 takes_error old new Good Bad r e given is took bad =
     let exit = err_from_is_err_and r is in
     record { given = given; took = took; outcome = rw (exit.1, exit.2) bad }
 
 -- what is bad of an error is so of an answer that is this error
-pub at_error : {T E : Type 0} (Bad : E → Type 0) (r : Result T E) (e : E) → IsErrAnd r (λ y. y ≡ e) → Bad e → IfErr r Bad
+pub at_error : {T E : Type 0} (Bad : E → Type 0) (r : Result T E) (e : E) → IsErrAnd r (λ y. y ≡ e) →
+    Bad e → IfErr r Bad
 at_error Bad r e is bad = let exit = err_from_is_err_and r is in rw (exit.1, exit.2) bad
 
 -- and of one that passes it on, whatever is good
-pub passes : {T E : Type 0} (Good : T → Type 0) (Bad : E → Type 0) (r : Result T E) (e : E) → IsErrAnd r (λ y. y ≡ e) → Bad e → MatchResult r Good Bad
+pub passes : {T E : Type 0} (Good : T → Type 0) (Bad : E → Type 0) (r : Result T E) (e : E) → IsErrAnd r (λ y. y ≡ e) →
+    Bad e → MatchResult r Good Bad
 passes Good Bad r e is bad = let exit = err_from_is_err_and r is in rw (exit.1, exit.2) bad
 
 -- a source that is at its end gave all that it told
-pub all_taken : (old new : Option (List ℕ)) (given : List ℕ) (P : List ℕ → Type 0) → Consumes old new given → IsAtEnd new → P given → IfSome old P
+pub all_taken : (old new : Option (List ℕ)) (given : List ℕ) (P : List ℕ → Type 0) → Consumes old new given →
+    IsAtEnd new → P given → IfSome old P
 all_taken None new given P took at_end h = tt
 all_taken (Some text) None given P took at_end h = elim took [ ]
 all_taken (Some text) (Some rest) given P took at_end h = rw (took, at_end, append-nil given) h
 
 -- and what holds of the bytes given holds of the text, told or not
-pub of_all : (old new : Option (List ℕ)) (given : List ℕ) (P : List ℕ → Type 0) → Consumes old new given → IsAtEnd new → P given → OfText old P
+pub of_all : (old new : Option (List ℕ)) (given : List ℕ) (P : List ℕ → Type 0) → Consumes old new given → IsAtEnd new →
+    P given → OfText old P
 of_all None new given P took at_end h = (given, tt, h)
 of_all (Some text) None given P took at_end h = elim took [ ]
 of_all (Some text) (Some rest) given P took at_end h = (given, rw (took, at_end) (append-nil given), h)

@@ -1,4 +1,5 @@
--- What is said of two systems that were read holds of those that the texts read as: the order of their lists alone differs.
+-- What is said of two systems that were read holds of those that the texts read as: the order of their lists alone
+-- differs.
 use Rattle.std.proofs.Common.{◌≡◌, ◌↔◌, ℕ, ◌+◌, ◌*◌, Bool, IsTrue, List, length, ap₂, sym, arith}
 use Rattle.std.specs.List.Sorted.{IsPermutation}
 use Rattle.std.proofs.lemmas.List.Sorted.{IsPermutation-sym}
@@ -27,13 +28,15 @@ pub record OrderLaws : Type 0 where
 
 module _ (law : OrderLaws) (bounds : Bounds) (H : List (List ℕ)) where
   -- the system in memory has the steps of the one that its text reads as
-  pub steps_of_text : (given : List ℕ) (s : Grouped) (read : ReadsAs bounds given H s) → SameSteps (system_of s) (Hide H read.0)
+  pub steps_of_text : (given : List ℕ) (s : Grouped) (read : ReadsAs bounds given H s) →
+      SameSteps (system_of s) (Hide H read.0)
   steps_of_text given s read =
       let A : System = Hide H read.0 in
       let B : System = system_of s in
       law.permuted B A read.2.first read.2.states (IsPermutation-sym A.transitions B.transitions read.2.same)
 
-  pub steps_in_memory : (given : List ℕ) (s : Grouped) (read : ReadsAs bounds given H s) → SameSteps (Hide H read.0) (system_of s)
+  pub steps_in_memory : (given : List ℕ) (s : Grouped) (read : ReadsAs bounds given H s) →
+      SameSteps (Hide H read.0) (system_of s)
   steps_in_memory given s read =
       law.permuted (Hide H read.0) (system_of s) (sym read.2.first) (sym read.2.states) read.2.same
 
@@ -45,7 +48,8 @@ module _ (law : OrderLaws) (bounds : Bounds) (H : List (List ℕ)) where
         let A : System = Hide H one.0 in
         let B : System = Hide H other.0 in (
           law.equivalent rel (system_of s) A (system_of t) B (steps_of_text given s one) (steps_of_text given' t other),
-          law.equivalent rel A (system_of s) B (system_of t) (steps_in_memory given s one) (steps_in_memory given' t other),
+          law.equivalent rel A (system_of s) B (system_of t) (steps_in_memory given s one)
+              (steps_in_memory given' t other),
         )
 
     -- their union takes as many Splits
@@ -67,13 +71,15 @@ module _ (asked : Request) (first second : List ℕ) (s t : Grouped)
   }
 
   -- the verdict on the systems in memory is that on the texts
-  pub verdict_of : (law : OrderLaws) (same : Bool) → (IsTrue same ↔ Equivalent asked.relation (system_of s) (system_of t)) →
+  pub verdict_of : (law : OrderLaws) (same : Bool) →
+      (IsTrue same ↔ Equivalent asked.relation (system_of s) (system_of t)) →
       IsVerdict asked both_read same
   verdict_of law same is =
       let texts = compared law asked.bounds asked.hidden asked.relation first second s t one other in
       (λ yes. texts.0 (is.0 yes), λ equivalent. is.1 (texts.1 equivalent))
 
-  module _ (at : Counts) (few : length s.places ≡ length one.0.transitions) (few' : length t.places ≡ length other.0.transitions) where
+  module _ (at : Counts) (few : length s.places ≡ length one.0.transitions) (few' : length t.places
+      ≡ length other.0.transitions) where
     states_are : s.states + t.states ≡ states_of both_read
     states_are = ap₂ ◌+◌ one.2.states other.2.states
 
@@ -82,7 +88,8 @@ module _ (asked : Request) (first second : List ℕ) (s t : Grouped)
 
     -- what was counted is what the union of both texts takes
     pub counted_whole : (law : OrderLaws) → Turns asked.relation (union_of (system_of s) (system_of t)) at.rounds →
-        (let k = length s.places + length t.places in KeepsTo (s.states + t.states) k 1 at ((at.rounds + 1) * k)) → CountsUnion asked both_read at
+        (let k = length s.places + length t.places in KeepsTo (s.states + t.states) k 1 at ((at.rounds + 1) * k)) →
+        CountsUnion asked both_read at
     counted_whole law turns keeps = record {
       turns = compared_turns law asked.bounds asked.hidden asked.relation first second s t one other at.rounds turns;
       keeps = rw (← states_are, ← transitions_are) keeps;

@@ -1,5 +1,6 @@
 -- What a run or a comparison comes to: its answer, which text is faulty, or what failed.
-use Rattle.std.proofs.Common.{◌≡◌, ◌↔◌, ◌⊎◌, ℕ, Bool, IsTrue, List, ◌++◌, Option, Some, None, IfSome, if◌then◌else◌, inl, inr, ap, refl, sym, subst}
+use Rattle.std.proofs.Common.{◌≡◌, ◌↔◌, ◌⊎◌, ℕ, Bool, IsTrue, List, ◌++◌, Option, Some, None, IfSome, if◌then◌else◌}
+use Rattle.std.proofs.Common.{inl, inr, ap, refl, sym, subst}
 use Rattle.std.proofs.lemmas.Option.{none-some}
 use Rattle.std.specs.Io.KnownBytes.{Consumes}
 use Rattle.lts.specs.Meter.{Counts}
@@ -13,7 +14,8 @@ use Rattle.autfmt.specs.declared.fault.Fault.TheVariants.{Device, Memory}
 use Rattle.autfmt.specs.Faults.{FirstFault}
 use Rattle.autfmt.specs.HideLists.{FirstHideFault, HideReads}
 use Rattle.autfmt.specs.HideOutcomes.{HideRefuses}
-use Rattle.autfmt.specs.HideOutcomes.HideRefuses.{faulty_text as list_fault, failed_source as list_lost, no_memory as list_memory}
+use Rattle.autfmt.specs.HideOutcomes.HideRefuses.{faulty_text as list_fault, failed_source as list_lost}
+use Rattle.autfmt.specs.HideOutcomes.HideRefuses.{no_memory as list_memory}
 use Rattle.autfmt.specs.HideReaders.{IsHideFault}
 use Rattle.autfmt.specs.Outcomes.{Refuses}
 use Rattle.autfmt.specs.Outcomes.Refuses.{faulty_text, failed_source, no_memory as refused_memory}
@@ -23,7 +25,8 @@ use Rattle.autfmt.specs.Written.{listed, transition_cmp}
 use Rattle.autbis.specs.declared.compare.CmpFault.{CmpFault}
 use Rattle.autbis.specs.declared.compare.Side.TheVariants.{First}
 use Rattle.autbis.specs.Comparisons.{CmpFails, ComparesTo, IsVerdict, ReadBoth, line_of}
-use Rattle.autbis.specs.Comparisons.CmpFails.{first_not_read, second_not_read, out_of_memory as no_room, not_written as no_line}
+use Rattle.autbis.specs.Comparisons.CmpFails.{first_not_read, second_not_read, out_of_memory as no_room}
+use Rattle.autbis.specs.Comparisons.CmpFails.{not_written as no_line}
 use Rattle.autbis.specs.Ends.{Contents, EndsRun, HasFaultyText, IsAnswer, OfText}
 use Rattle.autbis.specs.Ends.Contents.{one, two}
 use Rattle.autbis.specs.Ends.EndsRun.{answered, faulty, no_memory, lost, cut_short}
@@ -48,7 +51,8 @@ abbrev pub NotBoth : Bounds → Type 0
 NotBoth bounds = (text : List ℕ) (A : System) (f : Fault) → Reads bounds text A → ¬ FirstFault bounds text f
 
 -- a text that has a first fault is faulty
-is_faulty : (bounds : Bounds) → NotBoth bounds → (fault : Fault) (told : Option (List ℕ)) → IfSome told (λ text. FirstFault bounds text fault) →
+is_faulty : (bounds : Bounds) → NotBoth bounds → (fault : Fault) (told : Option (List ℕ)) →
+    IfSome told (λ text. FirstFault bounds text fault) →
     IfSome told (IsFaulty bounds)
 is_faulty bounds law fault None first = tt
 is_faulty bounds law fault (Some text) first = λ A reads. law text A fault reads first
@@ -60,48 +64,59 @@ text_status Memory h = absurd h
 text_status _ h = refl
 
 -- the text that was told has a fault, if this one of the bytes that were taken and of those that are left is its first
-faulty_told : (bounds : Bounds) → NotBoth bounds → (given : List ℕ) (told rest : Option (List ℕ)) (fault : Fault) → Consumes told rest given →
+faulty_told : (bounds : Bounds) → NotBoth bounds → (given : List ℕ) (told rest : Option (List ℕ)) (fault : Fault) →
+    Consumes told rest given →
     IfSome rest (λ more. FirstFault bounds (given ++ more) fault) → IfSome told (IsFaulty bounds)
 faulty_told bounds law given told rest fault took first =
     is_faulty bounds law fault told (told_whole (λ text. FirstFault bounds text fault) given told rest took first)
 
 -- what a text is minimised to is its answer
 pub minimised : {asked : Request} {text : List ℕ} {status : ℕ} (to : MinimisedText asked text) → status ≡ 0 →
-    (A Q : System) × Reads asked.bounds text A × Quotient asked.relation (Hide asked.hidden A) Q × IsSorted transition_cmp Q.transitions
+    (A Q : System) × Reads asked.bounds text A × Quotient asked.relation (Hide asked.hidden A) Q
+    × IsSorted transition_cmp Q.transitions
     × (listed to.output ≡ listed Q) × Reads asked.bounds (listed to.output) Q × (status ≡ 0)
 minimised to is = (to.input, to.output, to.read, to.minimises.quotient, to.sorted, refl, to.read_again, is)
 
 -- and a verdict is that of two
-compared : (asked : Request) {first second : List ℕ} {same : Bool} {status : ℕ} (both : ReadBoth asked.bounds first second) → IsVerdict asked both same →
-    status ≡ (if same then 0 else 1) → (A B : System) × Reads asked.bounds first A × Reads asked.bounds second B × (x : Bool)
-    × (IsTrue x ↔ Equivalent asked.relation (Hide asked.hidden A) (Hide asked.hidden B)) × (line_of same ≡ line_of x) × (status ≡ (if x then 0 else 1))
-compared asked {same = same} both verdict is = (both.one, both.other, both.reads_first, both.reads_second, same, verdict, refl, is)
+compared : (asked : Request) {first second : List ℕ} {same : Bool} {status : ℕ}
+    (both : ReadBoth asked.bounds first second) → IsVerdict asked both same →
+    status ≡ (if same then 0 else 1) → (A B : System) × Reads asked.bounds first A
+    × Reads asked.bounds second B × (x : Bool)
+    × (IsTrue x ↔ Equivalent asked.relation (Hide asked.hidden A) (Hide asked.hidden B)) × (line_of same ≡ line_of x)
+    × (status ≡ (if x then 0 else 1))
+compared asked {same = same} both verdict is =
+    (both.one, both.other, both.reads_first, both.reads_second, same, verdict, refl, is)
 
 module _ {Out : Type 0} (asked : Request) (law : NotBoth asked.bounds) (output : Used Out) where
   -- a run that read no system of a text
-  ends_unread : {contents : Contents} {Sound Lost : Type 0} (given : List ℕ) (told rest : Option (List ℕ)) (failures : ℕ) (fault : Fault) →
+  ends_unread : {contents : Contents} {Sound Lost : Type 0} (given : List ℕ) (told rest : Option (List ℕ))
+      (failures : ℕ) (fault : Fault) →
       Consumes told rest given → output.new ≡ output.old → (failures ≡ 0 → Sound) → (failures ≡ 1 → Lost) →
       (IfSome told (IsFaulty asked.bounds) → HasFaultyText asked.bounds contents) →
       Refuses asked.bounds given rest failures fault → EndsRun asked contents Sound Lost output (status_of fault)
   ends_unread given told rest failures fault took kept sound loses wrong (faulty_text zero of_text first) =
-      faulty (sound zero) (text_status fault of_text) (wrong (faulty_told asked.bounds law given told rest fault took first)) kept
+      faulty (sound zero) (text_status fault of_text)
+      (wrong (faulty_told asked.bounds law given told rest fault took first)) kept
   ends_unread given told rest failures fault took kept sound loses wrong (failed_source failed device unknown) =
       lost (loses failed) (ap status_of device) kept
   ends_unread given told rest failures fault took kept sound loses wrong (refused_memory zero memory header) =
       no_memory (sound zero) (ap status_of memory) kept
 
   -- a run that failed
-  pub ends_run : {In : Type 0} {given : List ℕ} {source : Used In} {at : Counts} {fault : Fault} → Consumes source.before source.after given →
+  pub ends_run : {In : Type 0} {given : List ℕ} {source : Used In} {at : Counts} {fault : Fault} →
+      Consumes source.before source.after given →
       (output.failures ≡ 0 → output.new ≡ output.old) → RunFails asked given source output at fault →
       EndsRun asked (one source.before) (source.failures ≡ 0) (source.failures ≡ 1) output (status_of fault)
   ends_run {given = given} {source = source} {fault = fault} took kept (not_read refused sound fresh) =
-      ends_unread given source.before source.after source.failures fault took (kept sound) (λ z. z) (λ z. z) (λ z. z) refused
+      ends_unread given source.before source.after source.failures fault took (kept sound) (λ z. z) (λ z. z)
+      (λ z. z) refused
   ends_run took kept (out_of_memory got memory sound) = no_memory got.0.1 (ap status_of memory) (kept sound)
   ends_run {given = given} {source = source} took kept (not_written got device failed to begun) =
       cut_short got.0.1 (ap status_of device) failed (listed to.output) 0
       (of_all source.before source.after given _ took got.0.0 (minimised to refl)) begun
 
-  module _ {A B : Type 0} {first : List ℕ} {source : Used A} {other : Used B} {at : Counts} (took : Consumes source.before source.after first) where
+  module _ {A B : Type 0} {first : List ℕ} {source : Used A} {other : Used B} {at : Counts}
+      (took : Consumes source.before source.after first) where
     -- a comparison that came to a verdict
     pub ends_verdict : {same : Bool} {status : ℕ} {Lost : Type 0} → status ≡ (if same then 0 else 1) →
         ComparesTo asked first (source, other) output at same →
@@ -110,46 +125,59 @@ module _ {Out : Type 0} (asked : Request) (law : NotBoth asked.bounds) (output :
         let got = did.got in
         answered (got.exhausted.0.1, got.exhausted.1.1) (line_of same)
         (of_all source.before source.after first _ took got.exhausted.0.0
-        (of_all other.before other.after got.second _ got.took got.exhausted.1.0 (compared asked got.both did.verdict is)))
+        (of_all other.before other.after got.second _ got.took got.exhausted.1.0
+        (compared asked got.both did.verdict is)))
         did.written.0 did.written.1
 
     -- one that failed
-    pub ends_cmp : {fault : CmpFault} (Unread : Type 0) → (fault.side ≡ First → Unread) → (output.failures ≡ 0 → output.new ≡ output.old) →
+    pub ends_cmp : {fault : CmpFault} (Unread : Type 0) → (fault.side ≡ First → Unread) →
+        (output.failures ≡ 0 → output.new ≡ output.old) →
         CmpFails asked first (source, other) output at fault →
         EndsRun asked (two source.before other.before) ((source.failures ≡ 0) × (other.failures ≡ 0))
-        (((source.failures ≡ 1) × Unread) ⊎ ((source.failures ≡ 0) × (other.failures ≡ 1))) output (status_of fault.fault)
+        (((source.failures ≡ 1) × Unread) ⊎ ((source.failures ≡ 0) × (other.failures ≡ 1))) output
+        (status_of fault.fault)
     ends_cmp {fault} Unread unread kept (first_not_read side refused untouched sound fresh) =
         ends_unread first source.before source.after source.failures fault.fault took (kept sound)
         (λ zero. (zero, untouched)) (λ failed. inl (failed, unread side)) inl refused
     ends_cmp {fault} Unread unread kept (second_not_read side whole readable second took' refused sound fresh) =
         ends_unread second other.before other.after other.failures fault.fault took' (kept sound)
         (λ zero. (whole.1, zero)) (λ failed. inr (whole.1, failed))
-        (λ wrong. inr (all_taken source.before source.after first (IsReadable asked.bounds) took whole.0 readable, wrong)) refused
+        (λ wrong. inr (
+          all_taken source.before source.after first (IsReadable asked.bounds) took whole.0 readable,
+          wrong,
+        )) refused
     ends_cmp Unread unread kept (no_room side memory got sound) =
         no_memory (got.exhausted.0.1, got.exhausted.1.1) (ap status_of memory) (kept sound)
     ends_cmp Unread unread kept (no_line side device got failed same verdict begun) =
-        cut_short (got.exhausted.0.1, got.exhausted.1.1) (ap status_of device) failed (line_of same) (if same then 0 else 1)
+        cut_short (got.exhausted.0.1, got.exhausted.1.1) (ap status_of device) failed (line_of same)
+        (if same then 0 else 1)
         (of_all source.before source.after first _ took got.exhausted.0.0
-        (of_all other.before other.after got.second _ got.took got.exhausted.1.0 (compared asked got.both verdict refl))) begun
+        (of_all other.before other.after got.second _ got.took got.exhausted.1.0
+        (compared asked got.both verdict refl))) begun
 
     -- its fault is of the first text, or that one reads as a system
     pub first_or_readable : {fault : CmpFault} → CmpFails asked first (source, other) output at fault →
         (fault.side ≡ First) ⊎ IfSome source.before (IsReadable asked.bounds)
     first_or_readable (first_not_read side refused untouched sound fresh) = inl side
-    first_or_readable (second_not_read side whole is second took' refused sound fresh) = inr (all_taken source.before source.after first (IsReadable asked.bounds) took whole.0 is)
+    first_or_readable (second_not_read side whole is second took' refused sound fresh) =
+        inr (all_taken source.before source.after first (IsReadable asked.bounds) took whole.0 is)
     first_or_readable (no_room side memory got sound) =
-        inr (all_taken source.before source.after first (IsReadable asked.bounds) took got.exhausted.0.0 (got.both.one, got.both.reads_first))
+        inr (all_taken source.before source.after first (IsReadable asked.bounds) took got.exhausted.0.0
+        (got.both.one, got.both.reads_first))
     first_or_readable (no_line side device got failed same verdict begun) =
-        inr (all_taken source.before source.after first (IsReadable asked.bounds) took got.exhausted.0.0 (got.both.one, got.both.reads_first))
+        inr (all_taken source.before source.after first (IsReadable asked.bounds) took got.exhausted.0.0
+        (got.both.one, got.both.reads_first))
 
 -- what holds of a text holds of what is told of it
-of_told : (told text : Option (List ℕ)) {P Q : List ℕ → Type 0} → ((given : List ℕ) → P given → Q given) → IfSome told (λ bytes. text ≡ Some bytes) → OfText text P → OfText told Q
+of_told : (told text : Option (List ℕ)) {P Q : List ℕ → Type 0} → ((given : List ℕ) → P given → Q given) →
+    IfSome told (λ bytes. text ≡ Some bytes) → OfText text P → OfText told Q
 of_told None text follows is (given, _, holds) = (given, tt, follows given holds)
 of_told (Some bytes) text follows is (given, same, holds) = (given, rw is at same, follows given holds)
 
 module _ (asked : Request) where
   -- the answer to contents is that to what is told of them
-  answer_told : (bytes : List ℕ) (status : ℕ) (told contents : Contents) → AreAsTold told contents → IsAnswer asked contents bytes status → IsAnswer asked told bytes status
+  answer_told : (bytes : List ℕ) (status : ℕ) (told contents : Contents) → AreAsTold told contents →
+      IsAnswer asked contents bytes status → IsAnswer asked told bytes status
   answer_told bytes status (one told) (one text) is answer = of_told told text (λ given h. h) is answer
   answer_told bytes status (two told more) (two text other) (is, also) answer =
       of_told told text (λ given. of_told more other (λ next h. h) also) is answer
@@ -157,10 +185,12 @@ module _ (asked : Request) where
   answer_told bytes status (two told more) (one text) is answer = absurd is
 
   -- and if contents are faulty, so is what is told of them
-  fault_told : (told contents : Contents) → AreAsTold told contents → HasFaultyText asked.bounds contents → HasFaultyText asked.bounds told
+  fault_told : (told contents : Contents) → AreAsTold told contents → HasFaultyText asked.bounds contents →
+      HasFaultyText asked.bounds told
   fault_told (one told) (one text) is wrong = told_then told text _ is wrong
   fault_told (two told more) (two text other) (is, also) (inl wrong) = inl (told_then told text _ is wrong)
-  fault_told (two told more) (two text other) (is, also) (inr (reads, wrong)) = inr (told_then told text _ is reads, told_then more other _ also wrong)
+  fault_told (two told more) (two text other) (is, also) (inr (reads, wrong)) =
+      inr (told_then told text _ is reads, told_then more other _ also wrong)
   fault_told (one told) (two text other) is wrong = absurd is
   fault_told (two told more) (one text) is wrong = absurd is
 
@@ -170,11 +200,14 @@ told_itself None = tt
 told_itself (Some bytes) = refl
 
 -- what is said of contents and some sources may be said of what is told of them, and of other sources if it follows
-pub ends_told : {Out : Type 0} {asked : Request} {told contents : Contents} {Sound Lost Sound' Lost' : Type 0} {output : Used Out} {status : ℕ} → AreAsTold told contents →
-    (Sound → Sound') → (Lost → Lost') → EndsRun asked contents Sound Lost output status → EndsRun asked told Sound' Lost' output status
+pub ends_told : {Out : Type 0} {asked : Request} {told contents : Contents} {Sound Lost Sound' Lost' : Type 0}
+    {output : Used Out} {status : ℕ} → AreAsTold told contents →
+    (Sound → Sound') → (Lost → Lost') → EndsRun asked contents Sound Lost output status →
+    EndsRun asked told Sound' Lost' output status
 ends_told {asked = asked} {told = told} is sound loses (answered zero bytes answer appends kept) =
     answered (sound zero) bytes (answer_told asked _ _ told _ is answer) appends kept
-ends_told {asked = asked} {told = told} is sound loses (faulty zero exit wrong kept) = faulty (sound zero) exit (fault_told asked told _ is wrong) kept
+ends_told {asked = asked} {told = told} is sound loses (faulty zero exit wrong kept) =
+    faulty (sound zero) exit (fault_told asked told _ is wrong) kept
 ends_told is sound loses (no_memory zero exit kept) = no_memory (sound zero) exit kept
 ends_told {asked = asked} {told = told} is sound loses (cut_short zero exit failed bytes wanted answer begun) =
     cut_short (sound zero) exit failed bytes wanted (answer_told asked _ _ told _ is answer) begun
@@ -185,7 +218,8 @@ abbrev pub NotBothOfList : Type 0
 NotBothOfList = (text : List ℕ) (H : List (List ℕ)) (f : Fault) → HideReads text H → ¬ FirstHideFault text f
 
 -- a list that has a first fault is faulty
-is_faulty_list : NotBothOfList → (fault : Fault) (told : Option (List ℕ)) → IfSome told (λ text. FirstHideFault text fault) → IfSome told (λ list. (H : List (List ℕ)) → ¬ HideReads list H)
+is_faulty_list : NotBothOfList → (fault : Fault) (told : Option (List ℕ)) →
+    IfSome told (λ text. FirstHideFault text fault) → IfSome told (λ list. (H : List (List ℕ)) → ¬ HideReads list H)
 is_faulty_list law fault None first = tt
 is_faulty_list law fault (Some text) first = λ H reads. law text H fault reads first
 
@@ -202,7 +236,8 @@ pub list_unread : {F : Type 0} (files : FilesUsed F) (name : Name) (told : Optio
     (failures ≡ 0 → HasLostNone files) → (failures ≡ 1 → files.lost files.new ≡ 1) →
     HideRefuses given rest failures fault → IsListUnread files (Some name) (status_of fault)
 list_unread files name told {given} {rest} {failures} {fault} law is took none loses (list_fault sound of_list first) =
-    let wrong = is_faulty_list law fault told (told_whole (λ text. FirstHideFault text fault) given told rest took first) in
+    let wrong =
+    is_faulty_list law fault told (told_whole (λ text. FirstHideFault text fault) given told rest took first) in
     inr (none sound, inr (list_status fault of_list, told_then (files.holds files.old name) told _ is wrong))
 list_unread files name told law is took none loses (list_lost failed device unknown) =
     inl (ap status_of device, (λ unnamed. none-some _ (sym unnamed)), loses failed)

@@ -7,27 +7,42 @@ use Rattle.autbis.specs.Jobs.{IsGivenUp}
 use Rattle.autbis.specs.Opened.{OnlyCloses}
 
 -- what holds of the bytes that a source gives holds of those that its file is known to hold
-pub told_then : (told rest : Option (List ℕ)) (P : List ℕ → Type 0) → IfSome told (λ text. rest ≡ Some text) → IfSome rest P → IfSome told P
+pub told_then : (told rest : Option (List ℕ)) (P : List ℕ → Type 0) → IfSome told (λ text. rest ≡ Some text) →
+    IfSome rest P → IfSome told P
 told_then told rest P is h = IfSome_then told is (λ text same. rw same at h)
 
 -- some names, and then others
-opens_then : (old mid new : Option (List Name)) (first more : List Name) → Opens old mid first → Opens mid new more → Opens old new (first ++ more)
-opens_then old mid new first more a b = IfSome_then old a (λ known is. rw is at b ∙ ap Some (append_assoc known first more))
+opens_then : (old mid new : Option (List Name)) (first more : List Name) → Opens old mid first → Opens mid new more →
+    Opens old new (first ++ more)
+opens_then old mid new first more a b =
+    IfSome_then old a (λ known is. rw is at b ∙ ap Some (append_assoc known first more))
 
 -- one file was refused, and no others asked for
-pub refused_then : {F : Type 0} {files : FilesUsed F} {first : List Name} (more : List Name) {status : ℕ} → IsRefused files first status → IsRefused files (first ++ more) status
+pub refused_then : {F : Type 0} {files : FilesUsed F} {first : List Name} (more : List Name) {status : ℕ} →
+    IsRefused files first status → IsRefused files (first ++ more) status
 refused_then more (refused (asked, later, opens, is) failed five) =
     refused (asked, later ++ more, opens, ap (λ names. names ++ more) is ∙ append_assoc asked later more) failed five
 
-module _ {F : Type 0} {files : FilesUsed F} {first more : List Name} (mid : F) (all : HasAll (record files { new = mid }) first) where
+module _ {F : Type 0} {files : FilesUsed F} {first more : List Name} (mid : F)
+    (all : HasAll (record files { new = mid }) first) where
   -- files were had, and then others
   pub all_then : HasAll (record files { old = mid }) more → HasAll files (first ++ more)
-  all_then others = record { opens = opens_then _ _ _ first more all.opens others.opens; sound = others.sound ∙ all.sound; same = others.same ∙ all.same }
+  all_then others = record {
+    opens = opens_then _ _ _ first more all.opens others.opens;
+    sound = others.sound ∙ all.sound;
+    same = others.same ∙ all.same;
+  }
 
   -- or one of the others was refused
-  pub refused_after : {status : ℕ} → IsRefused (record files { old = mid }) more status → IsRefused files (first ++ more) status
+  pub refused_after : {status : ℕ} → IsRefused (record files { old = mid }) more status →
+      IsRefused files (first ++ more) status
   refused_after (refused (asked, later, opens, is) failed five) =
-      refused (first ++ asked, later, opens_then _ _ _ first asked all.opens opens, ap (λ names. first ++ names) is ∙ sym (append_assoc first asked later)) failed five
+      refused (
+        first ++ asked,
+        later,
+        opens_then _ _ _ first asked all.opens opens,
+        ap (λ names. first ++ names) is ∙ sym (append_assoc first asked later),
+      ) failed five
 
   -- or they were had, and a hide list was not read
   pub given_up_after : {hide : Option Name} {status : ℕ} → HasLostNone (record files { new = mid }) →

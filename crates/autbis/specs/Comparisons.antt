@@ -38,15 +38,19 @@ transitions_of both = length both.one.transitions + length both.other.transition
 
 -- the verdict says whether what the texts read as is equivalent, the labels to hide hidden
 abbrev pub IsVerdict : (asked : Request) {first second : List ℕ} → ReadBoth asked.bounds first second → Bool → Type 0
-IsVerdict asked both same = IsTrue same ↔ Equivalent asked.relation (Hide asked.hidden both.one) (Hide asked.hidden both.other)
+IsVerdict asked both same =
+    IsTrue same ↔ Equivalent asked.relation (Hide asked.hidden both.one) (Hide asked.hidden both.other)
 
 -- the rounds that the union takes were made, with as many visits as one round more than these times the transitions
-pub record CountsUnion (asked : Request) {first second : List ℕ} (both : ReadBoth asked.bounds first second) (at : Counts) : Type 0 where
+pub record CountsUnion (asked : Request) {first second : List ℕ} (both : ReadBoth asked.bounds first second)
+    (at : Counts) : Type 0 where
   pub turns : Turns asked.relation (union_of (Hide asked.hidden both.one) (Hide asked.hidden both.other)) at.rounds
   pub keeps : KeepsTo (states_of both) (transitions_of both) 1 at ((at.rounds + 1) * transitions_of both)
 
--- both texts were read to their ends, and `second` is what was taken of the second; a fresh meter then shows no more than a comparison may take
-pub record GotBoth {A B : Type 0} (bounds : Bounds) (first : List ℕ) (sources : Used A × Used B) (at : Counts) : Type 0 where
+-- both texts were read to their ends, and `second` is what was taken of the second; a fresh meter then shows no more
+-- than a comparison may take
+pub record GotBoth {A B : Type 0} (bounds : Bounds) (first : List ℕ) (sources : Used A × Used B)
+    (at : Counts) : Type 0 where
   pub second : List ℕ
   pub took : Consumes sources.1.before sources.1.after second
   pub exhausted : IsExhausted sources.0 × IsExhausted sources.1
@@ -54,22 +58,27 @@ pub record GotBoth {A B : Type 0} (bounds : Bounds) (first : List ℕ) (sources 
   pub keeps : KeepsTo (states_of both) (transitions_of both) 1 at 0
 
 -- a comparison read both texts, a sink has gained the line of the verdict, and the meter shows what that takes
-pub record ComparesTo {A B Out : Type 0} (asked : Request) (first : List ℕ) (sources : Used A × Used B) (sink : Used Out) (at : Counts) (same : Bool) : Type 0 where
+pub record ComparesTo {A B Out : Type 0} (asked : Request) (first : List ℕ) (sources : Used A × Used B)
+    (sink : Used Out) (at : Counts) (same : Bool) : Type 0 where
   pub got : GotBoth asked.bounds first sources at
   pub verdict : IsVerdict asked got.both same
   pub written : Gains sink (line_of same)
   pub counts : CountsUnion asked got.both at
 
--- why a comparison failed: its first text, of which these bytes were taken, was not read; or that was, and the second one not; or
--- both were, and then a growth was refused; or the sink failed, and has a beginning of the line of the verdict
-pub data CmpFails {A B Out : Type 0} (asked : Request) (first : List ℕ) (sources : Used A × Used B) (sink : Used Out) (at : Counts) (fault : CmpFault) : Type 0 where
+-- why a comparison failed: its first text, of which these bytes were taken, was not read; or that was, and the second
+-- one not; or both were, and then a growth was refused; or the sink failed, and has a beginning of the line of the
+-- verdict
+pub data CmpFails {A B Out : Type 0} (asked : Request) (first : List ℕ) (sources : Used A × Used B) (sink : Used Out)
+    (at : Counts) (fault : CmpFault) : Type 0 where
   first_not_read : fault.side ≡ First → Refuses asked.bounds first sources.0.after sources.0.failures fault.fault →
       sources.1.failures ≡ 0 → sink.failures ≡ 0 → IsFresh at → CmpFails asked first sources sink at fault
   second_not_read : fault.side ≡ Second → IsExhausted sources.0 → IsReadable asked.bounds first →
-      (second : List ℕ) → Consumes sources.1.before sources.1.after second → Refuses asked.bounds second sources.1.after sources.1.failures fault.fault →
+      (second : List ℕ) → Consumes sources.1.before sources.1.after second →
+      Refuses asked.bounds second sources.1.after sources.1.failures fault.fault →
       sink.failures ≡ 0 → IsFresh at → CmpFails asked first sources sink at fault
   out_of_memory : fault.side ≡ Run → fault.fault ≡ Memory → GotBoth asked.bounds first sources at → sink.failures ≡ 0 →
       CmpFails asked first sources sink at fault
-  not_written : fault.side ≡ Run → fault.fault ≡ Device → (got : GotBoth asked.bounds first sources at) → sink.failures ≡ 1 →
+  not_written : fault.side ≡ Run → fault.fault ≡ Device → (got : GotBoth asked.bounds first sources at) →
+      sink.failures ≡ 1 →
       (same : Bool) → IsVerdict asked got.both same → AppendsBeginning sink.before sink.after (line_of same) →
       CmpFails asked first sources sink at fault

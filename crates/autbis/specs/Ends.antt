@@ -21,8 +21,9 @@ pub data Contents : Type 0 where
   one : Option (List ℕ) → Contents
   two : (first second : Option (List ℕ)) → Contents
 
--- the bytes are what is to be written of the contents, with this status: the text of the quotient, its transitions in order, which
--- reads again within the same limits, or the line of the verdict; both of what is read, the labels to hide hidden
+-- the bytes are what is to be written of the contents, with this status: the text of the quotient, its transitions in
+-- order, which reads again within the same limits, or the line of the verdict; both of what is read, the labels to hide
+-- hidden
 abbrev pub IsAnswer : Request → Contents → List ℕ → ℕ → Type 0
 IsAnswer asked (one text) bytes status = OfText text (λ given. (A Q : System) × Reads asked.bounds given A
     × Quotient asked.relation (Hide asked.hidden A) Q × IsSorted transition_cmp Q.transitions × (bytes ≡ listed Q)
@@ -36,11 +37,12 @@ IsAnswer asked (two first second) bytes status = OfText first (λ given. OfText 
 abbrev pub HasFaultyText : Bounds → Contents → Type 0
 HasFaultyText bounds (one text) = IfSome text (IsFaulty bounds)
 HasFaultyText bounds (two first second) =
-    IfSome first (IsFaulty bounds) ⊎ (IfSome first (λ given. (A : System) × Reads bounds given A) × IfSome second (IsFaulty bounds))
+    IfSome first (IsFaulty bounds) ⊎ (IfSome first (λ given. (A : System) × Reads bounds given A)
+    × IfSome second (IsFaulty bounds))
 
--- what a run came to, as its status tells; Sound says that no source failed, and Lost that one did. With Sound, its answer was
--- written; or a text is faulty, or memory was refused, and the output is as it was; or the output failed, and has a beginning of
--- the answer. With Lost, the output is as it was.
+-- what a run came to, as its status tells; Sound says that no source failed, and Lost that one did. With Sound, its
+-- answer was written; or a text is faulty, or memory was refused, and the output is as it was; or the output failed,
+-- and has a beginning of the answer. With Lost, the output is as it was.
 pub data EndsRun {Out : Type 0}
     (asked : Request) (contents : Contents) (Sound Lost : Type 0) (output : Used Out) (status : ℕ) : Type 0 where
   answered : Sound → (bytes : List ℕ) → IsAnswer asked contents bytes status →

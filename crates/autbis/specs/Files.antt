@@ -9,8 +9,8 @@ Name = List ℕ
 abbrev pub Opens : Option (List Name) → Option (List Name) → List Name → Type 0
 Opens old new names = IfSome old (λ known. new ≡ Some (known ++ names))
 
--- what a call did with files: these before and after, what each holds and which names were asked for, as far as that is told,
--- whether one could not be opened, and whether one was closed that had failed
+-- what a call did with files: these before and after, what each holds and which names were asked for, as far as that is
+-- told, whether one could not be opened, and whether one was closed that had failed
 pub record FilesUsed (F : Type 0) : Type 0 where
   pub old : F
   pub new : F
@@ -20,7 +20,8 @@ pub record FilesUsed (F : Type 0) : Type 0 where
   pub lost : F → ℕ
 
 -- what is said of files before and after a call
-abbrev pub files_used : {F : Type 0} → (F → Name → Option (List ℕ)) → (F → Option (List Name)) → (failures lost : F → ℕ) → (old new : F) → FilesUsed F
+abbrev pub files_used : {F : Type 0} → (F → Name → Option (List ℕ)) → (F → Option (List Name)) →
+    (failures lost : F → ℕ) → (old new : F) → FilesUsed F
 files_used holds opened failures lost old new =
     record { old = old; new = new; holds = holds; opened = opened; failures = failures; lost = lost }
 
@@ -32,7 +33,8 @@ pub record HasAll {F : Type 0} (files : FilesUsed F) (names : List Name) : Type 
 
 -- of files that are opened in this order one could not be had, and none was asked for after it; the status is then 5
 pub data IsRefused {F : Type 0} (files : FilesUsed F) (names : List Name) (status : ℕ) : Type 0 where
-  refused : (asked later : List Name) × Opens (files.opened files.old) (files.opened files.new) asked × (names ≡ asked ++ later) →
+  refused : (asked later : List Name) × Opens (files.opened files.old) (files.opened files.new) asked
+      × (names ≡ asked ++ later) →
       files.failures files.new ≡ 1 → status ≡ 5 → IsRefused files names status
 
 -- no file that was closed had failed

@@ -1,5 +1,6 @@
 -- A job: which files it opens, what it asks of their texts, and what it comes to.
-use Rattle.std.specs.Prelude.{◌≡◌, ◌≢◌, ◌⊎◌, ℕ, List, [], ◌∷◌, ◌++◌, Option, None, Some, IfSome, IsSomeAnd, option_map, option_to_list, string_bytes}
+use Rattle.std.specs.Prelude.{◌≡◌, ◌≢◌, ◌⊎◌, ℕ, List, [], ◌∷◌, ◌++◌, Option, None, Some, IfSome, IsSomeAnd, option_map}
+use Rattle.std.specs.Prelude.{option_to_list, string_bytes}
 use Rattle.theory.specs.declared.relation.Relation.{Relation}
 use Rattle.autfmt.specs.Bounds.{file_bounds}
 use Rattle.autfmt.specs.HideLists.{HideReads}
@@ -43,25 +44,29 @@ told_of holds input (Cmp relation hide first second) = two (holds (string_bytes 
 
 -- a hide list that is named is faulty, if it is told: it is one of no labels
 abbrev pub HasFaultyList : (Name → Option (List ℕ)) → Option Name → Type 0
-HasFaultyList holds hide = IsSomeAnd hide (λ name. IfSome (holds name) (λ list. (H : List (List ℕ)) → ¬ HideReads list H))
+HasFaultyList holds hide =
+    IsSomeAnd hide (λ name. IfSome (holds name) (λ list. (H : List (List ℕ)) → ¬ HideReads list H))
 
 -- a hide list was not read: it failed; or no file failed, and memory was refused, or the list is faulty
 abbrev pub IsListUnread : {F : Type 0} → FilesUsed F → (hide : Option Name) → (status : ℕ) → Type 0
 IsListUnread files hide status = ((status ≡ 5) × (hide ≢ None) × (files.lost files.new ≡ 1))
     ⊎ (HasLostNone files × ((status ≡ 4) ⊎ ((status ≡ 2) × HasFaultyList (files.holds files.old) hide)))
 
--- files of these names were to be opened, and then the hide list read: one of them could not be had, or the list was not read
+-- files of these names were to be opened, and then the hide list read: one of them could not be had, or the list was
+-- not read
 abbrev pub IsGivenUp : {F : Type 0} → FilesUsed F → List Name → (hide : Option Name) → (status : ℕ) → Type 0
 IsGivenUp files names hide status = IsRefused files names status ⊎ (HasAll files names × IsListUnread files hide status)
 
--- what a job came to: it was given up, and no stream was used; or all its files were had, and its texts were run. Standard
--- input is read only if no text is named. A text is lost only if standard input failed, or a file that the job names, and else
--- neither did
-pub data EndsIn {F In Out : Type 0} (files : FilesUsed F) (input : Used In) (output : Used Out) (job : Job) (status : ℕ) : Type 0 where
+-- what a job came to: it was given up, and no stream was used; or all its files were had, and its texts were run.
+-- Standard input is read only if no text is named. A text is lost only if standard input failed, or a file that the job
+-- names, and else neither did
+pub data EndsIn {F In Out : Type 0} (files : FilesUsed F) (input : Used In) (output : Used Out) (job : Job)
+    (status : ℕ) : Type 0 where
   given_up : IsGivenUp files (files_of job) (hide_of job) status → input.new ≡ input.old → output.new ≡ output.old →
       EndsIn files input output job status
   ran : HasAll files (files_of job) → (texts_of job ≢ [] → input.new ≡ input.old) →
       (H : List (List ℕ)) → HidesNamed (files.holds files.old) (hide_of job) H →
       EndsRun (record { relation = relation_of job; bounds = file_bounds; hidden = H })
       (told_of (files.holds files.old) input.before job) ((input.failures ≡ 0) × HasLostNone files)
-      ((input.failures ≡ 1) ⊎ ((texts_of job ≢ []) × (files.lost files.new ≡ 1))) output status → EndsIn files input output job status
+      ((input.failures ≡ 1) ⊎ ((texts_of job ≢ []) × (files.lost files.new ≡ 1))) output status →
+      EndsIn files input output job status

@@ -42,12 +42,13 @@ count_of (Two first second) = 2
 -- contents are what is told of them
 abbrev pub AreAsTold : (told contents : Contents) → Type 0
 AreAsTold (one told) (one text) = IfSome told (λ bytes. text ≡ Some bytes)
-AreAsTold (two told more) (two text other) = IfSome told (λ bytes. text ≡ Some bytes) × IfSome more (λ bytes. other ≡ Some bytes)
+AreAsTold (two told more) (two text other) =
+    IfSome told (λ bytes. text ≡ Some bytes) × IfSome more (λ bytes. other ≡ Some bytes)
 AreAsTold _ _ = ⊥
 
 -- the texts of a job were opened
-pub record AreOpened {File : Type 0}
-    (rest : File → Option (List ℕ)) (failures : File → ℕ) (holds : Name → Option (List ℕ)) (job : Job) (texts : Texts File) : Type 0 where
+pub record AreOpened {File : Type 0} (rest : File → Option (List ℕ)) (failures : File → ℕ) (holds : Name →
+    Option (List ℕ)) (job : Job) (texts : Texts File) : Type 0 where
   pub contents : (input : Option (List ℕ)) → AreAsTold (told_of holds input job) (contents_of rest input texts)
   pub files : AreFiles texts ↔ (texts_of job ≢ [])
   pub sound : HaveNotFailed failures texts

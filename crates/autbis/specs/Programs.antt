@@ -15,8 +15,8 @@ use Rattle.words.specs.declared.words.Job.{Job}
 use Rattle.words.specs.declared.words.WordFault.{WordFault}
 use Rattle.words.specs.declared.words.WordFault.TheVariants as fault
 
--- what words came to that give no job: the output has gained the text of help, or it failed and has a beginning of it; else it is
--- as it was
+-- what words came to that give no job: the output has gained the text of help, or it failed and has a beginning of it;
+-- else it is as it was
 abbrev pub EndsWords : {Out : Type 0} → Used Out → WordFault → ℕ → Type 0
 EndsWords output (fault.Help text) status =
     ((status ≡ 0) × (output.failures ≡ 0) × Appends output.before output.after (string_bytes text))
@@ -35,11 +35,13 @@ AskFor words job = IsOkAnd words (λ words. IsJobOf (map string_bytes words.item
 
 -- why words ask for none
 abbrev pub AskForNone : Result (Vec (String Global) Global) Error → WordFault → Type 0
-AskForNone words fault = MatchResult words (λ words. IsFaultOf (map string_bytes words.items) fault) (λ error. IsUnread error fault)
+AskForNone words fault =
+    MatchResult words (λ words. IsFaultOf (map string_bytes words.items) fault) (λ error. IsUnread error fault)
 
 -- words ask for a job, which came to its end; or for none, and no file and no input was used
 pub data AnswersWords {F In Out : Type 0} (words : Result (Vec (String Global) Global) Error)
     (files : FilesUsed F) (input : Used In) (output : Used Out) (status : ℕ) : Type 0 where
-  job : (job : Job) → AskFor words job → EndsIn files input output job status → AnswersWords words files input output status
+  job : (job : Job) → AskFor words job → EndsIn files input output job status →
+      AnswersWords words files input output status
   no_job : (fault : WordFault) → AskForNone words fault → files.new ≡ files.old → input.new ≡ input.old →
       EndsWords output fault status → AnswersWords words files input output status

@@ -30,7 +30,8 @@ word_status (word.Relation named) = 3
 word_status (word.Help text) = 0
 word_status word.Memory = 4
 
--- the exit status of words that give no job: with 0 the output has gained the text of help, with 5 it could not be written
+-- the exit status of words that give no job: with 0 the output has gained the text of help, with 5 it could not be
+-- written
 abbrev pub IsWordStatus : (old new : Option (List ℕ)) → WordFault → ℕ → Type 0
 IsWordStatus old new (word.Help text) status = ((status ≡ 0) × Appends old new (string_bytes text)) ⊎ (status ≡ 5)
 IsWordStatus old new fault status = status ≡ word_status fault
@@ -42,8 +43,8 @@ stats_line rel sizes at = codes "stats: states " ++ decimal sizes.states
     ++ codes " rounds " ++ decimal at.rounds ++ codes " visits " ++ decimal at.visits
     ++ codes " allowance " ++ decimal (allowance rel sizes.states sizes.transitions at.rounds) ++ codes "\n"
 
--- known bytes grow by a beginning of the line of the counts: the sizes of the system that the text reads as, the rounds that
--- it takes, and visits within the bounds of a run
+-- known bytes grow by a beginning of the line of the counts: the sizes of the system that the text reads as, the rounds
+-- that it takes, and visits within the bounds of a run
 abbrev pub ShowsCounts : Request → (told old new : Option (List ℕ)) → Type 0
 ShowsCounts asked told old new = OfText told (λ text. (A : System) × Reads asked.bounds text A × (at : meter.Counts)
     × Turns asked.relation (Hide asked.hidden A) at.rounds

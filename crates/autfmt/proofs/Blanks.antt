@@ -1,5 +1,6 @@
 -- Blanks before a token, and what may stand behind one.
-use Rattle.std.proofs.Common.{◌≡◌, ◌⊎◌, ℕ, Bool, true, false, List, [], ◌∷◌, ◌++◌, refl, sym, ap, ◌∙◌, inl, inr, append_assoc}
+use Rattle.std.proofs.Common.{◌≡◌, ◌⊎◌, ℕ, Bool, true, false, List, [], ◌∷◌, ◌++◌, refl, sym, ap, ◌∙◌, inl, inr}
+use Rattle.std.proofs.Common.{append_assoc}
 use Rattle.std.proofs.lemmas.Bool.{cond_both, eqb-true, or_cases}
 use Rattle.std.proofs.lemmas.List.Elements.{All-nil, All-cons, All-head, All-tail, All-weaker}
 use Rattle.std.proofs.lemmas.List.Sums.{AllPass-from_list_all, list_all-from_AllPass}
@@ -14,7 +15,10 @@ IsBlank b = (b ≡ 0x20) ⊎ (b ≡ 0x09) ⊎ (b ≡ 0x0D)
 pub IsBlank-from_test : (b : ℕ) → is_blank b ≡ true → IsBlank b
 IsBlank-from_test b e =
     elim (or_cases ((b == 0x20) || (b == 0x09)) (b == 0x0D) e) [
-      | inl h ↦ elim (or_cases (b == 0x20) (b == 0x09) h) [ inl i ↦ inl (eqb-true b 0x20 i) | inr i ↦ inr (inl (eqb-true b 0x09 i)) ]
+      | inl h ↦ elim (or_cases (b == 0x20) (b == 0x09) h) [
+        | inl i ↦ inl (eqb-true b 0x20 i)
+        | inr i ↦ inr (inl (eqb-true b 0x09 i))
+      ]
       | inr h ↦ inr (inr (eqb-true b 0x0D h))
     ]
 
@@ -27,14 +31,19 @@ pub after_blanks-skips : (before rest : List ℕ) → Blanks before → after_bl
 unfolding after_blanks
 after_blanks-skips [] rest blanks = refl
 after_blanks-skips (b ∷ before) rest blanks =
-    rw (test-IsBlank b (All-head IsBlank b before blanks)) (after_blanks-skips before rest (All-tail IsBlank b before blanks))
+    rw (test-IsBlank b (All-head IsBlank b before blanks)) (after_blanks-skips before rest
+    (All-tail IsBlank b before blanks))
 
 pub after_blanks-cuts : (line : List ℕ) → (before : List ℕ) × Blanks before × (line ≡ before ++ after_blanks line)
 unfolding after_blanks
 after_blanks-cuts [] = ([], All-nil IsBlank, refl)
 after_blanks-cuts (b ∷ bs) =
     cond_both (is_blank b) (after_blanks bs) (b ∷ bs) (λ r. (before : List ℕ) × Blanks before × (b ∷ bs ≡ before ++ r))
-    (λ e. let h = after_blanks-cuts bs in (b ∷ h.0, All-cons IsBlank b h.0 (IsBlank-from_test b e) h.1, ap (λ (t : List ℕ). b ∷ t) h.2))
+    (λ e. let h = after_blanks-cuts bs in (
+      b ∷ h.0,
+      All-cons IsBlank b h.0 (IsBlank-from_test b e) h.1,
+      ap (λ (t : List ℕ). b ∷ t) h.2,
+    ))
     (λ _. ([], All-nil IsBlank, refl))
 
 -- ---- a token behind blanks
@@ -49,11 +58,14 @@ unfolding after_blanks
 at_token-itself [] rest h = absurd h
 at_token-itself (b ∷ bs) rest h = rw h refl
 
-pub at_token : (token : List ℕ) (tokens : List (List ℕ)) (line : List ℕ) → IsToken token → (s : Spaced (token ∷ tokens) line) → after_blanks line ≡ token ++ s.1
+pub at_token : (token : List ℕ) (tokens : List (List ℕ)) (line : List ℕ) → IsToken token →
+    (s : Spaced (token ∷ tokens) line) → after_blanks line ≡ token ++ s.1
 at_token token tokens line h s =
-    ap after_blanks (s.3 ∙ append_assoc s.0 token s.1) ∙ after_blanks-skips s.0 (token ++ s.1) s.2 ∙ at_token-itself token s.1 h
+    ap after_blanks (s.3 ∙ append_assoc s.0 token s.1) ∙ after_blanks-skips s.0 (token ++ s.1) s.2
+    ∙ at_token-itself token s.1 h
 
-pub Spaced-from : (token : List ℕ) (tokens : List (List ℕ)) (line rest : List ℕ) → after_blanks line ≡ token ++ rest → Spaced tokens rest → Spaced (token ∷ tokens) line
+pub Spaced-from : (token : List ℕ) (tokens : List (List ℕ)) (line rest : List ℕ) → after_blanks line ≡ token ++ rest →
+    Spaced tokens rest → Spaced (token ∷ tokens) line
 Spaced-from token tokens line rest e s =
     let h = after_blanks-cuts line in
     (h.0, rest, h.1, h.2 ∙ ap (λ (t : List ℕ). h.0 ++ t) e ∙ sym (append_assoc h.0 token rest), s)
@@ -73,18 +85,22 @@ pub Stops-blanks : (p : ℕ → Bool) (bs : List ℕ) → FailsBlanks p → Blan
 Stops-blanks p [] fails blanks = tt
 Stops-blanks p (b ∷ bs) fails blanks = fails b (All-head IsBlank b bs blanks)
 
-Stops-before_mark : (p : ℕ → Bool) (before : List ℕ) (c : ℕ) (rest : List ℕ) → FailsBlanks p → p c ≡ false → Blanks before → Stops p (before ++ c ∷ rest)
+Stops-before_mark : (p : ℕ → Bool) (before : List ℕ) (c : ℕ) (rest : List ℕ) → FailsBlanks p → p c ≡ false →
+    Blanks before → Stops p (before ++ c ∷ rest)
 Stops-before_mark p [] c rest fails e blanks = e
 Stops-before_mark p (b ∷ bs) c rest fails e blanks = fails b (All-head IsBlank b bs blanks)
 
-pub Stops-mark : (p : ℕ → Bool) (c : ℕ) (tokens : List (List ℕ)) (line : List ℕ) → FailsBlanks p → p c ≡ false → Spaced ((c ∷ []) ∷ tokens) line → Stops p line
+pub Stops-mark : (p : ℕ → Bool) (c : ℕ) (tokens : List (List ℕ)) (line : List ℕ) → FailsBlanks p → p c ≡ false →
+    Spaced ((c ∷ []) ∷ tokens) line → Stops p line
 Stops-mark p c tokens line fails e s =
     let whole : line ≡ s.0 ++ c ∷ s.1 = s.3 ∙ append_assoc s.0 (c ∷ []) s.1 in
     rw whole (Stops-before_mark p s.0 c s.1 fails e s.2)
 
 -- the test of a line's end
 pub are_blanks-from : (bs : List ℕ) → Blanks bs → are_blanks bs ≡ true
-are_blanks-from bs blanks = list_all-from_AllPass is_blank bs (All-weaker IsBlank (λ b. is_blank b ≡ true) test-IsBlank bs blanks)
+are_blanks-from bs blanks =
+    list_all-from_AllPass is_blank bs (All-weaker IsBlank (λ b. is_blank b ≡ true) test-IsBlank bs blanks)
 
 pub Blanks-from_test : (bs : List ℕ) → are_blanks bs ≡ true → Blanks bs
-Blanks-from_test bs e = All-weaker (λ b. is_blank b ≡ true) IsBlank IsBlank-from_test bs (AllPass-from_list_all is_blank bs e)
+Blanks-from_test bs e =
+    All-weaker (λ b. is_blank b ≡ true) IsBlank IsBlank-from_test bs (AllPass-from_list_all is_blank bs e)

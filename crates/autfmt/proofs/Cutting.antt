@@ -1,5 +1,6 @@
 -- A text has one cut into lines.
-use Rattle.std.proofs.Common.{◌≡◌, ◌≢◌, ◌⊎◌, ℕ, ◌≤◌, List, [], ◌∷◌, ◌++◌, length, refl, sym, ◌∙◌, ap, subst, inl, inr, arith, All}
+use Rattle.std.proofs.Common.{◌≡◌, ◌≢◌, ◌⊎◌, ℕ, ◌≤◌, List, [], ◌∷◌, ◌++◌, length, refl, sym, ◌∙◌, ap, subst, inl, inr}
+use Rattle.std.proofs.Common.{arith, All}
 use Rattle.std.proofs.lemmas.Bool.{cases_eq}
 use Rattle.std.proofs.lemmas.List.{append_assoc, length-append}
 use Rattle.std.proofs.lemmas.List.Concat.{flat_map-append}
@@ -65,7 +66,8 @@ pub Cuts-unique :
 Cuts-unique text e e' r r' c d = same_cut e e' r r' c.lines d.lines c.one d.one (sym c.whole ∙ d.whole)
 
 -- a text has no two lists of lines
-pub Lines-unique : (text : List ℕ) (lines lines' : List (List ℕ)) → Lines text lines → Lines text lines' → lines ≡ lines'
+pub Lines-unique : (text : List ℕ) (lines lines' : List (List ℕ)) → Lines text lines →
+    Lines text lines' → lines ≡ lines'
 Lines-unique text lines lines' c d =
     let same = Cuts-unique text c.0 d.0 c.1 d.1 c.2 d.2 in
     let p = same.0 in
@@ -117,7 +119,8 @@ cut (b ∷ text) = step (cases_eq b 10) (cut text)
   where
     byte : b ≢ 10 → (e : List (List ℕ)) (r : List ℕ) → Cuts text e r →
         (ended : List (List ℕ)) × (rest : List ℕ) × Cuts (b ∷ text) ended rest
-    byte other [] r c = ([], b ∷ r, Cuts-joined_rest (b ∷ []) text r (All-cons IsNoFeed b [] other (All-nil IsNoFeed)) c)
+    byte other [] r c =
+        ([], b ∷ r, Cuts-joined_rest (b ∷ []) text r (All-cons IsNoFeed b [] other (All-nil IsNoFeed)) c)
     byte other (l ∷ ls) r c =
         ((b ∷ l) ∷ ls, r, Cuts-joined (b ∷ []) text l ls r (All-cons IsNoFeed b [] other (All-nil IsNoFeed)) c)
 
@@ -161,13 +164,15 @@ Lines-one (b ∷ bs) one some =
 
 -- a text whose last line, without its line feed, goes on
 pub Lines-longer :
-    (given : List ℕ) (ended : List (List ℕ)) (rest more : List ℕ) → Cuts given ended rest → IsOneLine more → 1 ≤ length more →
+    (given : List ℕ) (ended : List (List ℕ)) (rest more : List ℕ) → Cuts given ended rest → IsOneLine more →
+    1 ≤ length more →
     Lines (given ++ more) (ended ++ (rest ++ more) ∷ [])
 Lines-longer given ended rest more c one some =
     let some' : 1 ≤ length (rest ++ more) = omega (arith, length-append rest more) in
     let l = Lines-one (rest ++ more) (All-append IsNoFeed rest more c.one one) some' in
     let whole : with_line_feeds ended ++ (rest ++ more) ≡ given ++ more = rw c.whole (simp append_assoc) in
-    subst (λ (t : List ℕ). Lines t (ended ++ (rest ++ more) ∷ [])) whole (Lines-behind ended (rest ++ more) ((rest ++ more) ∷ []) c.lines l)
+    subst (λ (t : List ℕ). Lines t (ended ++ (rest ++ more) ∷ [])) whole (Lines-behind ended (rest ++ more)
+    ((rest ++ more) ∷ []) c.lines l)
 
 -- where a byte without a line feed stands, the first line begins
 pub first_begins :

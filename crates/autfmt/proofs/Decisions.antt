@@ -5,7 +5,8 @@ use Rattle.std.proofs.lemmas.Option.{same_Some, none-some}
 use Rattle.autfmt.specs.Grammar.{Header, TransitionLine, HideLine}
 use Rattle.autfmt.specs.Reading.{IsSeenAs, after_blanks, header_at, transition_at, hide_line_at}
 use Rattle.autfmt.proofs.Blanks.{at_token}
-use Rattle.autfmt.proofs.Lines.{header_at-takes, header_at-again, transition_at-takes, transition_at-again, hide_line_at-takes, hide_line_at-again}
+use Rattle.autfmt.proofs.Lines.{header_at-takes, header_at-again, transition_at-takes, transition_at-again}
+use Rattle.autfmt.proofs.Lines.{hide_line_at-takes, hide_line_at-again}
 
 -- ---- where nothing is read, nothing is spelled
 
@@ -20,47 +21,56 @@ no_hide_line line e a h = none-some a (sym e ∙ hide_line_at-again line a h)
 
 -- ---- what a function that gives what is read answers
 
-pub found_from : {X Y : Type 0} (view : X → Y) (r : Option X) (read : Option Y) (P : Y → Type 0) → IsSeenAs view r read → ((y : Y) → read ≡ Some y → P y) → IfSome r (λ x. P (view x))
+pub found_from : {X Y : Type 0} (view : X → Y) (r : Option X) (read : Option Y) (P : Y → Type 0) →
+    IsSeenAs view r read → ((y : Y) → read ≡ Some y → P y) → IfSome r (λ x. P (view x))
 found_from view (Some x) read P e h = h (view x) e
 found_from view None read P e h = tt
 
-pub none_from : {X Y : Type 0} (view : X → Y) (r : Option X) (read : Option Y) (P : Type 0) → IsSeenAs view r read → (read ≡ None → P) → IfNone r P
+pub none_from : {X Y : Type 0} (view : X → Y) (r : Option X) (read : Option Y) (P : Type 0) → IsSeenAs view r read →
+    (read ≡ None → P) → IfNone r P
 none_from view (Some x) read P e h = tt
 none_from view None read P e h = h e
 
 -- ---- decisions
 
 -- what is read is spelled so, and what is spelled so is read: then a line is spelled in some way or in none
-decided :
-    {Y : Type 0} (read : Option Y) (P : Y → Type 0) → ((y : Y) → read ≡ Some y → P y) → ((y : Y) → P y → read ≡ Some y) →
+decided : {Y : Type 0} (read : Option Y) (P : Y → Type 0) → ((y : Y) → read ≡ Some y → P y) →
+    ((y : Y) → P y → read ≡ Some y) →
     ((y : Y) × P y) ⊎ ((y : Y) → ¬ P y)
 decided (Some y) P takes again = inl (y, takes y refl)
 decided None P takes again = inr (λ y h. none-some y (again y h))
 
-pub decide_header : (line : List ℕ) → ((x : ℕ × ℕ × ℕ) × Header line x.0 x.1 x.2) ⊎ ((x : ℕ × ℕ × ℕ) → ¬ Header line x.0 x.1 x.2)
+pub decide_header : (line : List ℕ) → ((x : ℕ × ℕ × ℕ) × Header line x.0 x.1 x.2) ⊎ ((x : ℕ × ℕ × ℕ) →
+    ¬ Header line x.0 x.1 x.2)
 decide_header line = decided (header_at line) _ (header_at-takes line) (λ x. header_at-again line x.0 x.1 x.2)
 
-pub decide_transition : (line : List ℕ) → ((x : ℕ × List ℕ × ℕ) × TransitionLine line x.0 x.1 x.2) ⊎ ((x : ℕ × List ℕ × ℕ) → ¬ TransitionLine line x.0 x.1 x.2)
-decide_transition line = decided (transition_at line) _ (transition_at-takes line) (λ x. transition_at-again line x.0 x.1 x.2)
+pub decide_transition : (line : List ℕ) → ((x : ℕ × List ℕ × ℕ) × TransitionLine line x.0 x.1 x.2)
+    ⊎ ((x : ℕ × List ℕ × ℕ) → ¬ TransitionLine line x.0 x.1 x.2)
+decide_transition line =
+    decided (transition_at line) _ (transition_at-takes line) (λ x. transition_at-again line x.0 x.1 x.2)
 
 pub decide_hide_line : (line : List ℕ) → ((a : List ℕ) × HideLine line a) ⊎ ((a : List ℕ) → ¬ HideLine line a)
 decide_hide_line line = decided (hide_line_at line) _ (hide_line_at-takes line) (hide_line_at-again line)
 
 -- what is spelled in no way is not read
-pub unread : {Y : Type 0} (read : Option Y) (P : Y → Type 0) → ((y : Y) → read ≡ Some y → P y) → ((y : Y) → ¬ P y) → read ≡ None
+pub unread : {Y : Type 0} (read : Option Y) (P : Y → Type 0) → ((y : Y) → read ≡ Some y → P y) →
+    ((y : Y) → ¬ P y) → read ≡ None
 unread None P takes none = refl
 unread (Some y) P takes none = absurd (none y (takes y refl))
 
 -- ---- one reading
 
-pub one_header : (line : List ℕ) (f m n f' m' n' : ℕ) → Header line f m n → Header line f' m' n' → (f ≡ f') × (m ≡ m') × (n ≡ n')
+pub one_header : (line : List ℕ) (f m n f' m' n' : ℕ) → Header line f m n → Header line f' m' n' →
+    (f ≡ f') × (m ≡ m') × (n ≡ n')
 one_header line f m n f' m' n' h k =
     let e = same_Some (f, m, n) (f', m', n') (sym (header_at-again line f m n h) ∙ header_at-again line f' m' n' k) in
     (ap (λ (x : ℕ × ℕ × ℕ). x.0) e, ap (λ (x : ℕ × ℕ × ℕ). x.1) e, ap (λ (x : ℕ × ℕ × ℕ). x.2) e)
 
-pub one_transition : (line : List ℕ) (s t s' t' : ℕ) (a a' : List ℕ) → TransitionLine line s a t → TransitionLine line s' a' t' → (s ≡ s') × (a ≡ a') × (t ≡ t')
+pub one_transition : (line : List ℕ) (s t s' t' : ℕ) (a a' : List ℕ) → TransitionLine line s a t →
+    TransitionLine line s' a' t' → (s ≡ s') × (a ≡ a') × (t ≡ t')
 one_transition line s t s' t' a a' h k =
-    let e = same_Some (s, a, t) (s', a', t') (sym (transition_at-again line s a t h) ∙ transition_at-again line s' a' t' k) in
+    let e = same_Some (s, a, t) (s', a', t') (sym (transition_at-again line s a t h)
+    ∙ transition_at-again line s' a' t' k) in
     (ap (λ (x : ℕ × List ℕ × ℕ). x.0) e, ap (λ (x : ℕ × List ℕ × ℕ). x.1) e, ap (λ (x : ℕ × List ℕ × ℕ). x.2) e)
 
 pub one_hide_line : (line a a' : List ℕ) → HideLine line a → HideLine line a' → a ≡ a'

@@ -1,5 +1,6 @@
 -- A text reads as one system or has one first fault.
-use Rattle.std.proofs.Common.{◌≡◌, ◌⊎◌, ⊎_elim, ℕ, ◌+◌, ◌≤◌, List, [], ◌∷◌, ◌++◌, length, refl, sym, ◌∙◌, subst, inl, inr, arith, All}
+use Rattle.std.proofs.Common.{◌≡◌, ◌⊎◌, ⊎_elim, ℕ, ◌+◌, ◌≤◌, List, [], ◌∷◌, ◌++◌, length, refl, sym, ◌∙◌, subst, inl}
+use Rattle.std.proofs.Common.{inr, arith, All}
 use Rattle.std.specs.List.{AllZip}
 use Rattle.std.proofs.lemmas.Bool.{cases_lt}
 use Rattle.std.proofs.lemmas.List.{append-nil}
@@ -15,7 +16,8 @@ use Rattle.autfmt.proofs.Cutting.{Lines-unique, lines_of}
 use Rattle.autfmt.proofs.Decisions.{one_transition}
 use Rattle.autfmt.proofs.Lists.{AllZip-unique}
 use Rattle.autfmt.proofs.FirstFaults.{Stops, Divided, divided, one_front}
-use Rattle.autfmt.proofs.LineFaults.{HeaderFault-unique, GoodHeader-no_fault, GoodHeader-unique, header_judged, EdgeFault-unique, GoodEdge-no_fault, edge_judged, same_header}
+use Rattle.autfmt.proofs.LineFaults.{HeaderFault-unique, GoodHeader-no_fault, GoodHeader-unique, header_judged}
+use Rattle.autfmt.proofs.LineFaults.{EdgeFault-unique, GoodEdge-no_fault, edge_judged, same_header}
 
 -- lines spell transitions, which are all among the states
 pub spelled_among :
@@ -46,8 +48,8 @@ next_stops m n found (line ∷ others) fault (inl (less, bad)) =
     (omega arith, λ _ e good. GoodEdge-no_fault n (found + 2) line e fault good bad)
 next_stops m n found (line ∷ others) fault (inr (full, e)) = (omega arith, λ less. absurd (omega arith))
 
-NextFault-unique :
-    (m n found : ℕ) (others : List (List ℕ)) (f g : Fault) → NextFault m n found others f → NextFault m n found others g → f ≡ g
+NextFault-unique : (m n found : ℕ) (others : List (List ℕ)) (f g : Fault) → NextFault m n found others f →
+    NextFault m n found others g → f ≡ g
 NextFault-unique m n found [] f g a b = a.1 ∙ sym b.1
 NextFault-unique m n found (line ∷ others) f g (inl a) (inl b) = EdgeFault-unique n (found + 2) line f g a.1 b.1
 NextFault-unique m n found (line ∷ others) f g (inl a) (inr b) = let x = a.0 in let y = b.0 in absurd (omega arith)
@@ -60,11 +62,13 @@ FaultBehind m n lines es others fault = AllZip (SpellsAmong n) lines es × NextF
 
 behind_unique :
     (m n : ℕ) (lines lines' others others' : List (List ℕ)) (es es' : List Transition) (f g : Fault) →
-    lines ++ others ≡ lines' ++ others' → FaultBehind m n lines es others f → FaultBehind m n lines' es' others' g → f ≡ g
+    lines ++ others ≡ lines' ++ others' → FaultBehind m n lines es others f →
+    FaultBehind m n lines' es' others' g → f ≡ g
 behind_unique m n lines lines' others others' es es' f g e a b =
     let p = next_stops m n (length es) others f a.1 in
     let q = next_stops m n (length es') others' g b.1 in
-    let same = one_front (SpellsAmong n) m 0 lines lines' others others' es es' (length es) (length es') e a.0 b.0 (omega arith) (omega arith) p.0 q.0 p.1 q.1 in
+    let same = one_front (SpellsAmong n) m 0 lines lines' others others' es es' (length es) (length es') e a.0 b.0
+    (omega arith) (omega arith) p.0 q.0 p.1 q.1 in
     NextFault-unique m n (length es) others f g a.1
     (subst (λ (k : ℕ). NextFault m n k others g) (sym same.0)
     (subst (λ (ls : List (List ℕ)). NextFault m n (length es') ls g) (sym same.1) b.1))
@@ -77,8 +81,8 @@ FaultOf bounds fault (line ∷ all) =
     ⊎ ((f m n : ℕ) × GoodHeader bounds line f m n × (lines others : List (List ℕ)) × (es : List Transition)
     × (all ≡ lines ++ others) × FaultBehind m n lines es others fault)
 
-fault_of :
-    (bounds : Bounds) (text : List ℕ) (fault : Fault) (lines : List (List ℕ)) → Lines text lines → FirstFault bounds text fault →
+fault_of : (bounds : Bounds) (text : List ℕ) (fault : Fault) (lines : List (List ℕ)) → Lines text lines →
+    FirstFault bounds text fault →
     FaultOf bounds fault lines
 fault_of bounds text fault lines l (no_line l' e) = subst (FaultOf bounds fault) (Lines-unique text [] lines l' l) e
 fault_of bounds text fault lines l (header line others l' bad) =
@@ -96,9 +100,12 @@ FirstFault-unique bounds text f g a b =
     same : (lines : List (List ℕ)) → FaultOf bounds f lines → FaultOf bounds g lines → f ≡ g
     same [] e e' = e ∙ sym e'
     same (line ∷ all) (inl bad) (inl bad') = HeaderFault-unique bounds line f g bad bad'
-    same (line ∷ all) (inl bad) (inr (i, m, n, good, lines, others, es, e, next)) = absurd (GoodHeader-no_fault bounds line i m n f good bad)
-    same (line ∷ all) (inr (i, m, n, good, lines, others, es, e, next)) (inl bad) = absurd (GoodHeader-no_fault bounds line i m n g good bad)
-    same (line ∷ all) (inr (i, m, n, good, lines, others, es, e, next)) (inr (i', m', n', good', lines', others', es', e', next')) =
+    same (line ∷ all) (inl bad) (inr (i, m, n, good, lines, others, es, e, next)) =
+        absurd (GoodHeader-no_fault bounds line i m n f good bad)
+    same (line ∷ all) (inr (i, m, n, good, lines, others, es, e, next)) (inl bad) =
+        absurd (GoodHeader-no_fault bounds line i m n g good bad)
+    same (line ∷ all) (inr (i, m, n, good, lines, others, es, e, next))
+        (inr (i', m', n', good', lines', others', es', e', next')) =
         behind_unique m n lines lines' others others' es es' f g (sym e ∙ e') next
         (same_header bounds line i' m' n' i m n (λ x y. FaultBehind x y lines' es' others' g) good' good next')
 
@@ -123,8 +130,8 @@ Reads-unique bounds text A B a b =
     λ i. record { first = u.0 i; states = u.2 i; transitions = transitions i }
 
 -- a text that reads as a system has no fault
-pub Reads-no_fault :
-    (bounds : Bounds) (text : List ℕ) (A : System) (fault : Fault) → Reads bounds text A → FirstFault bounds text fault → ⊥
+pub Reads-no_fault : (bounds : Bounds) (text : List ℕ) (A : System) (fault : Fault) → Reads bounds text A →
+    FirstFault bounds text fault → ⊥
 Reads-no_fault bounds text A fault r first = against (fault_of bounds text fault (r.header ∷ r.lines) r.whole first)
   where
     all : List Transition
@@ -134,13 +141,15 @@ Reads-no_fault bounds text A fault r first = against (fault_of bounds text fault
     against (inl bad) = GoodHeader-no_fault bounds r.header A.first (length all) A.states fault r.good bad
     against (inr (i, m, n, good, lines, others, es, e, next)) =
         let bad =
-        same_header bounds r.header i m n A.first (length all) A.states (λ x y. FaultBehind x y lines es others fault) good r.good next in
+        same_header bounds r.header i m n A.first (length all) A.states (λ x y. FaultBehind x y lines es others fault)
+        good r.good next in
         let stops = next_stops (length all) A.states (length es) others fault bad.1 in
         let front =
         one_front (SpellsAmong A.states) (length all) 0 r.lines lines [] others all es (length all) (length es)
         (append-nil r.lines ∙ e) (spelled_among A.states r.lines all r.spelled r.system.transitions) bad.0
         (omega arith) (omega arith) (omega arith) stops.0 tt stops.1 in
-        let missing = subst (λ (ls : List (List ℕ)). NextFault (length all) A.states (length es) ls fault) (sym front.1) bad.1 in
+        let missing =
+        subst (λ (ls : List (List ℕ)). NextFault (length all) A.states (length es) ls fault) (sym front.1) bad.1 in
         let less = missing.0 in
         let count = front.0 in
         omega arith
@@ -162,9 +171,11 @@ Reads-from_lines bounds text line lines f m n es l g good count =
     }
 
 -- a transition is spelled or not
-decide_edge : (n : ℕ) (line : List ℕ) → ((e : Transition) × SpellsAmong n line e) ⊎ ((e : Transition) → ¬ SpellsAmong n line e)
+decide_edge : (n : ℕ) (line : List ℕ) → ((e : Transition) × SpellsAmong n line e) ⊎ ((e : Transition) →
+    ¬ SpellsAmong n line e)
 decide_edge n line =
-    ⊎_elim (λ good. inl good) (λ bad. inr (λ e good. GoodEdge-no_fault n 0 line e bad.0 good bad.1)) (edge_judged n 0 line)
+    ⊎_elim (λ good. inl good) (λ bad. inr (λ e good. GoodEdge-no_fault n 0 line e bad.0 good bad.1))
+    (edge_judged n 0 line)
 
 -- no line
 abbrev IsEnd : List (List ℕ) → Type 0
@@ -178,17 +189,19 @@ next_judged m n found [] few stops =
     ⊎_elim (λ less. inr (MissingEdges found, (less, refl))) (λ full. inl (omega arith, refl)) (cases_lt found m)
 next_judged m n found (line ∷ others) few stops =
     ⊎_elim
-    (λ less. ⊎_elim (λ good. absurd (stops less good.0 good.1)) (λ bad. inr (bad.0, inl (less, bad.1))) (edge_judged n (found + 2) line))
+    (λ less. ⊎_elim (λ good. absurd (stops less good.0 good.1)) (λ bad. inr (bad.0, inl (less, bad.1)))
+    (edge_judged n (found + 2) line))
     (λ full. inr (ExtraText (found + 2), inr (omega arith, refl)))
     (cases_lt found m)
 
 -- each text reads as a system or has a fault
-pub text_judged :
-    (bounds : Bounds) (text : List ℕ) → ((A : System) × Reads bounds text A) ⊎ ((fault : Fault) × FirstFault bounds text fault)
+pub text_judged : (bounds : Bounds) (text : List ℕ) →
+    ((A : System) × Reads bounds text A) ⊎ ((fault : Fault) × FirstFault bounds text fault)
 text_judged bounds text = let (lines, l) = lines_of text in step lines l
   where
     rest : (line : List ℕ) (all : List (List ℕ)) (f m n : ℕ) → Lines text (line ∷ all) → GoodHeader bounds line f m n →
-        Divided (SpellsAmong n) m 0 all → ((A : System) × Reads bounds text A) ⊎ ((fault : Fault) × FirstFault bounds text fault)
+        Divided (SpellsAmong n) m 0 all →
+        ((A : System) × Reads bounds text A) ⊎ ((fault : Fault) × FirstFault bounds text fault)
     rest line all f m n l good d =
         let stop = d.behind (length d.xs) (omega arith) in
         let whole = subst (λ (ls : List (List ℕ)). Lines text (line ∷ ls)) d.whole l in
@@ -197,7 +210,10 @@ text_judged bounds text = let (lines, l) = lines_of text in step lines l
         let l' =
         subst (λ (ls : List (List ℕ)). Lines text (line ∷ ls)) (append-nil d.lines)
         (subst (λ (ls : List (List ℕ)). Lines text (line ∷ d.lines ++ ls)) end.1 whole) in
-        inl (record { first = f; states = n; transitions = d.xs }, Reads-from_lines bounds text line d.lines f m n d.xs l' good d.good end.0))
+        inl (
+          record { first = f; states = n; transitions = d.xs },
+          Reads-from_lines bounds text line d.lines f m n d.xs l' good d.good end.0,
+        ))
         (λ bad.
         let b : BeginsWell bounds text m n d.xs d.others =
         record { header = line; first = f; lines = d.lines; whole = whole; good = good; spelled = d.good } in
@@ -208,5 +224,6 @@ text_judged bounds text = let (lines, l) = lines_of text in step lines l
         ((A : System) × Reads bounds text A) ⊎ ((fault : Fault) × FirstFault bounds text fault)
     step [] l = inr (BadHeader, no_line l refl)
     step (line ∷ all) l =
-        ⊎_elim (λ h. rest line all h.0 h.1 h.2 l h.3 (divided (SpellsAmong h.2) h.1 (decide_edge h.2) 0 all (omega arith)))
+        ⊎_elim (λ h. rest line all h.0 h.1 h.2 l h.3 (divided (SpellsAmong h.2) h.1 (decide_edge h.2) 0
+        all (omega arith)))
         (λ bad. inr (bad.0, header line all l bad.1)) (header_judged bounds line)

@@ -1,5 +1,7 @@
--- Laws of the first line that is not good, for texts and hide lists alike: Good says what a line gives, and most how many lines may stand.
-use Rattle.std.proofs.Common.{◌≡◌, ◌⊎◌, ◌↔◌, ⊎_elim, ℕ, ◌+◌, ◌<◌, ◌≤◌, List, [], ◌∷◌, ◌++◌, length, replicate, All, refl, sym, ◌∙◌, ap, subst, inl, inr, arith}
+-- Laws of the first line that is not good, for texts and hide lists alike: Good says what a line gives, and most how
+-- many lines may stand.
+use Rattle.std.proofs.Common.{◌≡◌, ◌⊎◌, ◌↔◌, ⊎_elim, ℕ, ◌+◌, ◌<◌, ◌≤◌, List, [], ◌∷◌, ◌++◌, length, replicate, All}
+use Rattle.std.proofs.Common.{refl, sym, ◌∙◌, ap, subst, inl, inr, arith}
 use Rattle.std.specs.List.{AllZip}
 use Rattle.std.proofs.lemmas.Bool.{cases_lt}
 use Rattle.std.proofs.lemmas.List.{append-nil, length-append, length-replicate}
@@ -12,7 +14,8 @@ use Rattle.autfmt.proofs.Lists.{All-between}
 use Rattle.autfmt.proofs.Cutting.{IsNoFeed, Lines-unique, Lines-longer}
 
 -- where there is a reading or a fault, and never both, there is a reading exactly if there is no fault
-pub without_fault : {X : Type 0} (P : Fault → Type 0) → X ⊎ ((f : Fault) × P f) → (X → (f : Fault) → ¬ P f) → ((f : Fault) → ¬ P f) ↔ X
+pub without_fault : {X : Type 0} (P : Fault → Type 0) → X ⊎ ((f : Fault) × P f) → (X → (f : Fault) → ¬ P f) →
+    ((f : Fault) → ¬ P f) ↔ X
 without_fault P one not_both = (λ none. ⊎_elim (λ x. x) (λ bad. absurd (none bad.0 bad.1)) one, not_both)
 
 module _ {X : Type 0} (Good : List ℕ → X → Type 0) (most : ℕ) where
@@ -29,9 +32,10 @@ module _ {X : Type 0} (Good : List ℕ → X → Type 0) (most : ℕ) where
       let same : line ≡ l = cc in stops less x (subst (λ (t : List ℕ). Good t x) same good)
 
   -- good lines of which the next is not are as many however they are found
-  pub one_front :
-      (found : ℕ) (lines lines' others others' : List (List ℕ)) (xs ys : List X) (i j : ℕ) → lines ++ others ≡ lines' ++ others' →
-      AllZip Good lines xs → AllZip Good lines' ys → i ≡ found + length xs → j ≡ found + length ys → i ≤ most → j ≤ most →
+  pub one_front : (found : ℕ) (lines lines' others others' : List (List ℕ)) (xs ys : List X) (i j : ℕ) →
+      lines ++ others ≡ lines' ++ others' →
+      AllZip Good lines xs → AllZip Good lines' ys → i ≡ found + length xs → j ≡ found + length ys →
+      i ≤ most → j ≤ most →
       Stops i others → Stops j others' → (i ≡ j) × (others ≡ others')
   one_front found [] [] others others' [] [] i j e a b p q few few' s s' = (omega arith, e)
   one_front found [] lines' others others' (x ∷ xs) ys i j e a b p q few few' s s' = absurd a
@@ -55,8 +59,8 @@ module _ {X : Type 0} (Good : List ℕ → X → Type 0) (most : ℕ) where
     pub good : AllZip Good lines xs
     pub behind : (i : ℕ) → i ≡ found + length xs → (i ≤ most) × Stops i others
 
-  pub divided :
-      ((line : List ℕ) → ((x : X) × Good line x) ⊎ ((x : X) → ¬ Good line x)) → (found : ℕ) (all : List (List ℕ)) → found ≤ most →
+  pub divided : ((line : List ℕ) → ((x : X) × Good line x) ⊎ ((x : X) → ¬ Good line x)) →
+      (found : ℕ) (all : List (List ℕ)) → found ≤ most →
       Divided found all
   divided decide found [] few =
       record { lines = []; others = []; xs = []; whole = refl; good = tt; behind = λ i e. (omega arith, tt) }
@@ -91,7 +95,8 @@ module _ {X : Type 0} (Good : List ℕ → X → Type 0) (most : ℕ) where
 
 -- a line of the text is too long
 abbrev pub HasLongLine : List ℕ → Type 0
-HasLongLine text = (front others : List (List ℕ)) × (line : List ℕ) × Lines text (front ++ line ∷ others) × (LONGEST_LINE < length line)
+HasLongLine text = (front others : List (List ℕ)) × (line : List ℕ) × Lines text (front ++ line ∷ others)
+    × (LONGEST_LINE < length line)
 
 short_lines : (text : List ℕ) (lines : List (List ℕ)) → Lines text lines → All IsShort lines → HasLongLine text → ⊥
 short_lines text lines l short (front, others, line, l', long) =
@@ -107,19 +112,24 @@ short_last (b ∷ bs) short = All-cons IsShort (b ∷ bs) [] short (All-nil IsSh
 pub not_known :
     (First : List ℕ → Fault → Type 0) → ((text : List ℕ) (f g : Fault) → First text f → First text g → f ≡ g) →
     ((text : List ℕ) (k : ℕ) → First text (LineTooLong k) → HasLongLine text) →
-    (given : List ℕ) (ended : List (List ℕ)) (rest : List ℕ) (k : ℕ) → Cuts given ended rest → All IsShort ended → IsShort rest →
-    ((line : List ℕ) → LONGEST_LINE < length line → (text : List ℕ) → Lines text (ended ++ line ∷ []) → First text (LineTooLong k)) →
+    (given : List ℕ) (ended : List (List ℕ)) (rest : List ℕ) (k : ℕ) → Cuts given ended rest →
+    All IsShort ended → IsShort rest →
+    ((line : List ℕ) → LONGEST_LINE < length line → (text : List ℕ) → Lines text (ended ++ line ∷ []) →
+    First text (LineTooLong k)) →
     (fault : Fault) → ((more : List ℕ) → First (given ++ more) fault) → ⊥
-not_known First unique long given ended rest k c shorts short too_long fault known = against (replicate (LONGEST_LINE + 1) 0) refl
+not_known First unique long given ended rest k c shorts short too_long fault known =
+    against (replicate (LONGEST_LINE + 1) 0) refl
   where
     against : (more : List ℕ) → more ≡ replicate (LONGEST_LINE + 1) 0 → ⊥
     against more is =
         let zero : ℕ = 0 in
         let size : length more ≡ LONGEST_LINE + 1 = ap length is ∙ length-replicate (LONGEST_LINE + 1) zero in
-        let one : IsOneLine more = subst IsOneLine (sym is) (All-replicate IsNoFeed (LONGEST_LINE + 1) 0 (λ e. absurd (omega arith))) in
+        let one : IsOneLine more =
+        subst IsOneLine (sym is) (All-replicate IsNoFeed (LONGEST_LINE + 1) 0 (λ e. absurd (omega arith))) in
         let l = Lines-longer given ended rest more c one (omega arith) in
         let bad = too_long (rest ++ more) (omega (arith, length-append rest more)) (given ++ more) l in
         let e : fault ≡ LineTooLong k = unique (given ++ more) fault (LineTooLong k) (known more) bad in
-        let now = subst (λ (t : List ℕ). First t (LineTooLong k)) (append-nil given) (subst (First (given ++ [])) e (known [])) in
+        let now = subst (λ (t : List ℕ). First t (LineTooLong k)) (append-nil given)
+        (subst (First (given ++ [])) e (known [])) in
         short_lines given (ended ++ last_line rest) (ended, rest, c, refl)
         (All-append IsShort ended (last_line rest) shorts (short_last rest short)) (long given k now)

@@ -1,9 +1,11 @@
 -- Pieces that are put together to a line.
-use Rattle.std.proofs.Common.{◌≡◌, ℕ, ◌+◌, ◌-◌, ◌<◌, ◌≤◌, Bool, true, false, suc, List, ◌∷◌, ◌++◌, length, take, drop, Option, refl, sym, ◌∙◌, ap, subst, inl, arith}
+use Rattle.std.proofs.Common.{◌≡◌, ℕ, ◌+◌, ◌-◌, ◌<◌, ◌≤◌, Bool, true, false, suc, List, ◌∷◌, ◌++◌, length, take, drop}
+use Rattle.std.proofs.Common.{Option, refl, sym, ◌∙◌, ap, subst, inl, arith}
 use Rattle.std.specs.List.{slice_range}
 use Rattle.std.specs.Io.KnownBytes.{Consumes}
 use Rattle.std.proofs.KnownBytes.{Consumes-trans}
-use Rattle.std.proofs.lemmas.List.{append_assoc, length-append, length-drop, length-take, length-take-le, take-append-drop, take-take, drop-take, drop-drop, drop_at}
+use Rattle.std.proofs.lemmas.List.{append_assoc, length-append, length-drop, length-take, length-take-le}
+use Rattle.std.proofs.lemmas.List.{take-append-drop, take-take, drop-take, drop-drop, drop_at}
 use Rattle.std.proofs.lemmas.List.Elements.{All-append}
 use Rattle.std.proofs.lemmas.Slice.{between_is}
 use Rattle.autfmt.specs.declared.cutter.Found.TheVariants.{Feed}
@@ -15,13 +17,14 @@ use Rattle.autfmt.specs.declared.cutter.TheConstants.{PIECE}
 use Rattle.autfmt.specs.declared.line.TheConstants.{LONGEST_LINE}
 
 -- more of a line
-pub IsPart-append : (buffer bytes : List ℕ) → IsPart buffer → IsOneLine bytes → length buffer + length bytes ≤ LONGEST_LINE → IsPart (buffer ++ bytes)
+pub IsPart-append : (buffer bytes : List ℕ) → IsPart buffer → IsOneLine bytes →
+    length buffer + length bytes ≤ LONGEST_LINE → IsPart (buffer ++ bytes)
 IsPart-append buffer bytes part one fits =
     (All-append IsNoFeed buffer bytes part.0 one, omega (arith, length-append buffer bytes))
 
 -- bytes got behind those got before
-pub got_more :
-    (a b c : Option (List ℕ)) (old bs buffer bytes : List ℕ) → Consumes a b bs → buffer ≡ old ++ bs → Consumes b c bytes →
+pub got_more : (a b c : Option (List ℕ)) (old bs buffer bytes : List ℕ) → Consumes a b bs → buffer ≡ old ++ bs →
+    Consumes b c bytes →
     (x : List ℕ) × Consumes a c x × (old ++ x ≡ buffer ++ bytes)
 got_more a b c old bs buffer bytes first e second = (
   bs ++ bytes,
@@ -32,24 +35,37 @@ got_more a b c old bs buffer bytes first e second = (
 -- a line feed was found in the piece
 pub feed_found :
     (a b c : Option (List ℕ)) (old bs buffer buf buffer' : List ℕ) (n at : ℕ) → Consumes a b bs → buffer ≡ old ++ bs →
-    IsPart buffer → Consumes b c (take n buf) → n ≤ length buf → at < length (take n buf) → IsOneLine (take at (take n buf)) →
-    drop at (take n buf) ≡ 10 ∷ drop (at + 1) (take n buf) → length buffer + length (take at (take n buf)) ≤ LONGEST_LINE →
-    buffer' ≡ buffer ++ take at (take n buf) → (x : List ℕ) × Consumes a c x × FoundIn (old ++ x) (Feed at n) buffer' buf
+    IsPart buffer → Consumes b c (take n buf) → n ≤ length buf → at < length (take n buf) →
+    IsOneLine (take at (take n buf)) →
+    drop at (take n buf) ≡ 10 ∷ drop (at + 1) (take n buf) →
+    length buffer + length (take at (take n buf)) ≤ LONGEST_LINE →
+    buffer' ≡ buffer ++ take at (take n buf) →
+    (x : List ℕ) × Consumes a c x × FoundIn (old ++ x) (Feed at n) buffer' buf
 feed_found a b c old bs buffer buf buffer' n at first e part second within below one feed fits now =
     let bytes = take n buf in
     let front = take at bytes in
     let (x, taken, same) = got_more a b c old bs buffer bytes first e second in
     let split : bytes ≡ front ++ 10 ∷ slice_range buf (at + 1) n =
-    sym (take-append-drop at bytes) ∙ ap (λ (t : List ℕ). front ++ t) (feed ∙ ap (λ (t : List ℕ). 10 ∷ t) (sym (between_is buf (at + 1) n))) in
+    sym (take-append-drop at bytes) ∙ ap (λ (t : List ℕ). front ++ t) (feed ∙ ap (λ (t : List ℕ). 10 ∷ t)
+    (sym (between_is buf (at + 1) n))) in
     let whole : old ++ x ≡ buffer' ++ 10 ∷ slice_range buf (at + 1) n =
     same ∙ ap (λ (t : List ℕ). buffer ++ t) split ∙ sym (append_assoc buffer front (10 ∷ slice_range buf (at + 1) n))
-    ∙ ap (λ (t : List ℕ). t ++ 10 ∷ slice_range buf (at + 1) n) (sym now) in
-    (x, taken, (rw now (IsPart-append buffer front part one fits), omega (arith, length-take-le n buf within), within, whole))
+    ∙ ap (λ (t : List ℕ). t ++ 10 ∷ slice_range buf (at + 1) n) (sym now) in (
+      x,
+      taken,
+      (
+        rw now (IsPart-append buffer front part one fits),
+        omega (arith, length-take-le n buf within),
+        within,
+        whole,
+      ),
+    )
 
 -- the line is too long
 pub too_long :
     (a b c : Option (List ℕ)) (old bs buffer bytes front tail : List ℕ) →
-    Consumes a b bs → buffer ≡ old ++ bs → IsPart buffer → Consumes b c bytes → bytes ≡ front ++ tail → IsOneLine front →
+    Consumes a b bs → buffer ≡ old ++ bs → IsPart buffer → Consumes b c bytes → bytes ≡ front ++ tail →
+    IsOneLine front →
     (length buffer + length front ≤ LONGEST_LINE → ⊥) → (x : List ℕ) × Consumes a c x × BeginsTooLong (old ++ x)
 too_long a b c old bs buffer bytes front tail first e part second split one big =
     let more = got_more a b c old bs buffer bytes first e second in (
@@ -89,7 +105,8 @@ cut_at piece from to at over =
 
 -- a line lies in the piece, behind a line feed what is ahead
 pub line_in_piece :
-    (piece : List ℕ) (from to at : ℕ) (over : Bool) → over ≡ false → at < length (slice_range piece from to) → from ≤ to →
+    (piece : List ℕ) (from to at : ℕ) (over : Bool) → over ≡ false → at < length (slice_range piece from to) →
+    from ≤ to →
     to ≤ PIECE → IsOneLine (take at (slice_range piece from to)) →
     drop at (slice_range piece from to) ≡ 10 ∷ drop (at + 1) (slice_range piece from to) →
     CutsLine (slice_range piece from to) (cut_at piece from to at over)
@@ -119,14 +136,18 @@ goes_on_ahead from to false used some = refl
 goes_on_ahead from to true used some = absurd (omega (arith, used refl))
 
 -- a line and its line feed in front of what is ahead in the piece were passed
-pub passed : (handed piece : List ℕ) (from to left : ℕ) (over : Bool) (line rest : List ℕ) → from ≤ to → to ≤ length piece → (over ≡ true → from ≡ to) → slice_range piece from to ≡ line ++ 10 ∷ rest
+pub passed : (handed piece : List ℕ) (from to left : ℕ) (over : Bool) (line rest : List ℕ) → from ≤ to
+    → to ≤ length piece → (over ≡ true → from ≡ to) → slice_range piece from to ≡ line ++ 10 ∷ rest
     → left ≡ length rest → cutting handed (slice_range piece (to - left) to) over ≡ cutting handed rest false
 passed handed piece from to left over line rest ordered within used whole count =
-    let long : length (slice_range piece from to) ≡ to - from = length-take-le (to - from) (drop from piece) (omega (arith, length-drop from piece)) in
-    let size : to - from ≡ length line + suc (length rest) = sym long ∙ ap length whole ∙ length-append line (10 ∷ rest) in
+    let long : length (slice_range piece from to) ≡ to - from =
+    length-take-le (to - from) (drop from piece) (omega (arith, length-drop from piece)) in
+    let size : to - from ≡ length line + suc (length rest) = sym long ∙ ap length whole
+    ∙ length-append line (10 ∷ rest) in
     let next : to - left ≡ from + (length line + 1) = omega arith in
     let back : slice_range piece (to - left) to ≡ rest =
-    ap (λ (k : ℕ). slice_range piece k to) next ∙ sym (slice_behind piece from to (length line) (omega arith) ordered) ∙ ap (drop (length line + 1)) whole
+    ap (λ (k : ℕ). slice_range piece k to) next ∙ sym (slice_behind piece from to (length line) (omega arith) ordered)
+    ∙ ap (drop (length line + 1)) whole
     ∙ sym (drop-drop 1 (length line) (line ++ 10 ∷ rest)) ∙ ap (drop 1) (drop_at line (10 ∷ rest) _ refl) in
     let open_at = goes_on_ahead from to over used (omega arith) in
     λ i. cutting handed (back i) (open_at i)

@@ -1,11 +1,13 @@
 -- What the cutter of lines has cut, step by step.
-use Rattle.std.proofs.Common.{◌≡◌, ⊎_elim, ℕ, ◌<◌, ◌≤◌, true, false, List, [], ◌∷◌, ◌++◌, length, All, refl, sym, ◌∙◌, ap, subst, inl, inr, arith}
+use Rattle.std.proofs.Common.{◌≡◌, ⊎_elim, ℕ, ◌<◌, ◌≤◌, true, false, List, [], ◌∷◌, ◌++◌, length, All, refl, sym, ◌∙◌}
+use Rattle.std.proofs.Common.{ap, subst, inl, inr, arith}
 use Rattle.std.proofs.lemmas.List.{append_assoc, append-nil, length-append}
 use Rattle.std.proofs.lemmas.List.Concat.{flat_map-append}
 use Rattle.std.proofs.lemmas.List.Elements.{All-nil, All-push}
 use Rattle.autfmt.specs.Texts.{Cuts, Lines, IsOneLine}
 use Rattle.autfmt.specs.Cutter.{Cutting, HasCut, CutsLine, BeginsTooLong, with_line_feeds}
-use Rattle.autfmt.proofs.Cutting.{with_line_feeds-cons, Lines-behind, Lines-nil, Lines-one, lines_of, first_begins, some_line}
+use Rattle.autfmt.proofs.Cutting.{with_line_feeds-cons, Lines-behind, Lines-nil, Lines-one, lines_of, first_begins}
+use Rattle.autfmt.proofs.Cutting.{some_line}
 use Rattle.autfmt.specs.declared.line.TheConstants.{LONGEST_LINE}
 
 -- nothing was given
@@ -20,8 +22,8 @@ behind_whole given ahead more lines e =
     sym (append_assoc (with_line_feeds lines) ahead more) ∙ ap (λ (t : List ℕ). t ++ more) (sym e)
 
 -- the lines of a text whose first bytes are given
-pub HasCut-lines :
-    (given more : List ℕ) (lines : List (List ℕ)) (at : Cutting) → HasCut given lines at → (at.over ≡ true → more ≡ []) →
+pub HasCut-lines : (given more : List ℕ) (lines : List (List ℕ)) (at : Cutting) → HasCut given lines at →
+    (at.over ≡ true → more ≡ []) →
     (others : List (List ℕ)) × Lines (given ++ more) (lines ++ others)
 HasCut-lines given more lines at (inl (open_at, e, one)) end =
     let (others, l) = lines_of (at.ahead ++ more) in (
@@ -44,7 +46,8 @@ HasCut-end given got lines old (inr (over, ahead, l)) none =
     rw (e, append-nil given) l
 
 -- behind the lines that were cut, of a text that goes on
-module _ (given got : List ℕ) (lines : List (List ℕ)) (old : Cutting) (cut : HasCut given lines old) (goes_on : old.over ≡ true → ⊥) where
+module _ (given got : List ℕ) (lines : List (List ℕ)) (old : Cutting) (cut : HasCut given lines old) (goes_on : old.over
+    ≡ true → ⊥) where
   parts : (given ≡ with_line_feeds lines ++ old.ahead) × All IsOneLine lines
   parts = ⊎_elim (λ at. (at.1, at.2)) (λ over. absurd (goes_on over.0)) cut
 
@@ -52,14 +55,17 @@ module _ (given got : List ℕ) (lines : List (List ℕ)) (old : Cutting) (cut :
   whole more = behind_whole given old.ahead more lines parts.0
 
   -- one line more was cut, at its line feed or at the end of the text
-  pub HasCut-line : (now : Cutting) → CutsLine (old.ahead ++ got) now → HasCut (given ++ got) (lines ++ now.line ∷ []) now
+  pub HasCut-line : (now : Cutting) → CutsLine (old.ahead ++ got) now →
+      HasCut (given ++ got) (lines ++ now.line ∷ []) now
   HasCut-line now cuts =
       ⊎_elim
       (λ feed. inl (
         feed.0,
-        sym (whole got) ∙ ap (λ (t : List ℕ). with_line_feeds lines ++ t) (feed.1 ∙ sym (with_line_feeds-cons now.line [] now.ahead))
+        sym (whole got) ∙ ap (λ (t : List ℕ). with_line_feeds lines ++ t) (feed.1
+            ∙ sym (with_line_feeds-cons now.line [] now.ahead))
             ∙ sym (append_assoc (with_line_feeds lines) (with_line_feeds (now.line ∷ [])) now.ahead)
-            ∙ ap (λ (t : List ℕ). t ++ now.ahead) (sym (flat_map-append (λ line. line ++ 10 ∷ []) lines (now.line ∷ []))),
+            ∙ ap (λ (t : List ℕ). t ++ now.ahead)
+            (sym (flat_map-append (λ line. line ++ 10 ∷ []) lines (now.line ∷ []))),
         All-push IsOneLine lines now.line parts.1 cuts.one,
       ))
       (λ end. inr (
@@ -87,7 +93,8 @@ module _ (given got : List ℕ) (lines : List (List ℕ)) (old : Cutting) (cut :
   -- the next line is too long
   pub HasCut-too_long :
       (more : List ℕ) → BeginsTooLong (old.ahead ++ got) →
-      (line : List ℕ) × (others : List (List ℕ)) × (LONGEST_LINE < length line) × Lines (given ++ got ++ more) (lines ++ line ∷ others)
+      (line : List ℕ) × (others : List (List ℕ)) × (LONGEST_LINE < length line) × Lines (given ++ got ++ more)
+      (lines ++ line ∷ others)
   HasCut-too_long more (front, tail, one, big, b) =
       let (end, others, l) = first_begins front (tail ++ more) one (omega arith) in
       let same = sym (append_assoc front tail more) ∙ ap (λ (t : List ℕ). t ++ more) (sym b) in
@@ -98,5 +105,6 @@ module _ (given got : List ℕ) (lines : List (List ℕ)) (old : Cutting) (cut :
       (more : List ℕ) → 1 ≤ length (old.ahead ++ got) →
       (line : List ℕ) × (others : List (List ℕ)) × Lines (given ++ got ++ more) (lines ++ line ∷ others)
   HasCut-more more some =
-      let (line, others, l) = some_line (old.ahead ++ got ++ more) (omega (arith, length-append (old.ahead ++ got) more)) in
+      let (line, others, l) =
+      some_line (old.ahead ++ got ++ more) (omega (arith, length-append (old.ahead ++ got) more)) in
       (line, others, lines_behind more _ _ refl l)

@@ -1,5 +1,6 @@
 -- A hide list has one list of labels or one first fault.
-use Rattle.std.proofs.Common.{◌≡◌, ◌⊎◌, ⊎_elim, ℕ, cond, ltb, Option, Some, None, ◌+◌, ◌<◌, ◌≤◌, List, [], ◌∷◌, ◌++◌, length, refl, sym, ◌∙◌, subst, inl, inr, arith}
+use Rattle.std.proofs.Common.{◌≡◌, ◌⊎◌, ⊎_elim, ℕ, cond, ltb, Option, Some, None, ◌+◌, ◌<◌, ◌≤◌, List, [], ◌∷◌, ◌++◌}
+use Rattle.std.proofs.Common.{length, refl, sym, ◌∙◌, subst, inl, inr, arith}
 use Rattle.std.specs.List.{AllZip}
 use Rattle.std.proofs.lemmas.Bool.{cases_lt, lt-ltb, le-ltb}
 use Rattle.std.proofs.lemmas.Option.{same_Some, none-some}
@@ -28,7 +29,10 @@ GoodHide k line = (k ≤ MOST_LINES) × (a : List ℕ) × Hides line a
 abbrev hide_fault : ℕ → List ℕ → Option Fault
 hide_fault k line =
     cond (ltb MOST_LINES k) (Some TooManyHidden)
-    (cond (ltb LONGEST_LINE (length line)) (Some (LineTooLong k)) (elim (hide_line_at line) [ None ↦ Some (BadHide k) | Some a ↦ None ]))
+    (cond (ltb LONGEST_LINE (length line)) (Some (LineTooLong k)) (elim (hide_line_at line) [
+      | None ↦ Some (BadHide k)
+      | Some a ↦ None
+    ]))
 
 HideFault-is : (k : ℕ) (line : List ℕ) (fault : Fault) → HideFault k line fault → hide_fault k line ≡ Some fault
 HideFault-is k line TooManyHidden extra = rw (lt-ltb MOST_LINES k extra) refl
@@ -62,8 +66,8 @@ hide_judged k line = step (cases_lt MOST_LINES k) (cases_lt LONGEST_LINE (length
     step (inr x) (inr s) (inl h) = inl (x, h.0, (s, h.1))
 
 -- where a fault comes next, no label does
-hide_stops :
-    (lines labels : List (List ℕ)) (line : List ℕ) (others : List (List ℕ)) (fault : Fault) → AllZip Hides lines labels →
+hide_stops : (lines labels : List (List ℕ)) (line : List ℕ) (others : List (List ℕ)) (fault : Fault) →
+    AllZip Hides lines labels →
     HideFault (length lines + 1) line fault → Stops Hides MOST_LINES (length labels) (line ∷ others)
 hide_stops lines labels line others fault named bad less a good =
     let count = AllZip-long Hides lines labels named in
@@ -87,7 +91,8 @@ FirstHideFault-unique text f g a b =
     let place : length b.lines + 1 ≡ length a.lines + 1 = omega arith in
     let line : b.line ≡ a.line = cc in
     HideFault-unique (length a.lines + 1) a.line f g a.faulty
-    (subst (λ (l : List ℕ). HideFault (length a.lines + 1) l g) line (subst (λ (k : ℕ). HideFault k b.line g) place b.faulty))
+    (subst (λ (l : List ℕ). HideFault (length a.lines + 1) l g) line (subst (λ (k : ℕ). HideFault k b.line g)
+    place b.faulty))
 
 -- a text is one hide list
 pub HideReads-unique : (text : List ℕ) (H H' : List (List ℕ)) → HideReads text H → HideReads text H' → H ≡ H'
@@ -97,7 +102,8 @@ HideReads-unique text H H' a b =
     (subst (λ (lines : List (List ℕ)). AllZip Hides lines H') same b.3)
 
 -- a hide list has no fault
-pub HideReads-no_fault : (text : List ℕ) (H : List (List ℕ)) (fault : Fault) → HideReads text H → FirstHideFault text fault → ⊥
+pub HideReads-no_fault : (text : List ℕ) (H : List (List ℕ)) (fault : Fault) → HideReads text H →
+    FirstHideFault text fault → ⊥
 HideReads-no_fault text H fault (lines, l, few, named) f =
     let whole = Lines-unique text lines (f.lines ++ f.line ∷ f.others) l f.whole in
     let m = AllZip-long Hides lines H named in
@@ -105,16 +111,20 @@ HideReads-no_fault text H fault (lines, l, few, named) f =
     let few' = f.few in
     let same =
     one_front Hides MOST_LINES 0 lines f.lines [] (f.line ∷ f.others) H f.labels (length H) (length f.labels)
-    (append-nil lines ∙ whole) named f.named (omega arith) (omega arith) (omega arith) (omega arith) tt (hide_stops f.lines f.labels f.line f.others fault f.named f.faulty) in
+    (append-nil lines ∙ whole) named f.named (omega arith) (omega arith) (omega arith) (omega arith) tt
+    (hide_stops f.lines f.labels f.line f.others fault f.named f.faulty) in
     let none = same.1 in cc
 
 -- each text is a hide list or has a fault
-pub hide_text_judged : (text : List ℕ) → ((H : List (List ℕ)) × HideReads text H) ⊎ ((fault : Fault) × FirstHideFault text fault)
-hide_text_judged text = let (all, l) = lines_of text in judged all l (divided Hides MOST_LINES decide 0 all (omega arith))
+pub hide_text_judged : (text : List ℕ) → ((H : List (List ℕ)) × HideReads text H)
+    ⊎ ((fault : Fault) × FirstHideFault text fault)
+hide_text_judged text = let (all, l) = lines_of text in
+    judged all l (divided Hides MOST_LINES decide 0 all (omega arith))
   where
     decide : (line : List ℕ) → ((a : List ℕ) × Hides line a) ⊎ ((a : List ℕ) → ¬ Hides line a)
     decide line =
-        ⊎_elim (λ good. inl (good.1, good.2)) (λ bad. inr (λ a names. GoodHide-no_fault 1 line bad.0 (omega arith, a, names) bad.1))
+        ⊎_elim (λ good. inl (good.1, good.2))
+        (λ bad. inr (λ a names. GoodHide-no_fault 1 line bad.0 (omega arith, a, names) bad.1))
         (hide_judged 1 line)
 
     judged : (all : List (List ℕ)) → Lines text all → Divided Hides MOST_LINES 0 all →
@@ -182,13 +192,15 @@ module _ (given more : List ℕ) where
   extra_hide_stays f = hide_fault_stays TooManyHidden f (λ tail. f.faulty)
 
   -- and the fault of a line that has ended
-  pub ended_hide_stays : (ended : List (List ℕ)) (fault : Fault) → Cuts given ended [] → FirstHideFault given fault → FirstHideFault (given ++ more) fault
+  pub ended_hide_stays : (ended : List (List ℕ)) (fault : Fault) → Cuts given ended [] → FirstHideFault given fault →
+      FirstHideFault (given ++ more) fault
   ended_hide_stays ended fault c f = record {
     lines = f.lines;
     line = f.line;
     others = f.others ++ (lines_of more).0;
     whole =
-        subst (λ (ls : List (List ℕ)). Lines (given ++ more) ls) (append_assoc f.lines (f.line ∷ f.others) (lines_of more).0)
+        subst (λ (ls : List (List ℕ)). Lines (given ++ more) ls) (append_assoc f.lines (f.line ∷ f.others)
+        (lines_of more).0)
         (ended_go_on given more ended (f.lines ++ f.line ∷ f.others) c f.whole);
     labels = f.labels;
     named = f.named;
@@ -201,9 +213,11 @@ pub no_judged_hide_fault :
     (given : List ℕ) (lines : List (List ℕ)) (rest : List ℕ) (H : List (List ℕ)) (fault : Fault) →
     Cuts given lines rest → AllZip Hides lines H → length lines ≤ MOST_LINES → length rest ≤ LONGEST_LINE →
     (length lines < MOST_LINES) ⊎ (length rest ≡ 0) → JudgedHideFault given fault → ⊥
-no_judged_hide_fault given lines rest H fault c good few short unjudged known = step (cases_lt (length lines) MOST_LINES)
+no_judged_hide_fault given lines rest H fault c good few short unjudged known =
+    step (cases_lt (length lines) MOST_LINES)
   where
-    too_long : length lines < MOST_LINES → (long : List ℕ) → LONGEST_LINE < length long → (text : List ℕ) → Lines text (lines ++ long ∷ []) →
+    too_long : length lines < MOST_LINES → (long : List ℕ) → LONGEST_LINE < length long → (text : List ℕ) →
+        Lines text (lines ++ long ∷ []) →
         FirstHideFault text (LineTooLong (length lines + 1))
     too_long less next big text l = record {
       lines = lines;

@@ -1,5 +1,6 @@
 -- The steps of the reader of a hide list: what each one leaves, and why it may refuse.
-use Rattle.std.proofs.Common.{◌≡◌, ◌⊎◌, ◌↔◌, ⊎_elim, ℕ, ◌+◌, ◌<◌, ◌≤◌, true, List, [], ◌∷◌, ◌++◌, length, Option, Some, Contains, refl, sym, ◌∙◌, ap, subst, inl, inr, arith}
+use Rattle.std.proofs.Common.{◌≡◌, ◌⊎◌, ◌↔◌, ⊎_elim, ℕ, ◌+◌, ◌<◌, ◌≤◌, true, List, [], ◌∷◌, ◌++◌, length, Option, Some}
+use Rattle.std.proofs.Common.{Contains, refl, sym, ◌∙◌, ap, subst, inl, inr, arith}
 use Rattle.std.proofs.lemmas.Slice.Zip.{AllZip-long}
 use Rattle.std.proofs.lemmas.List.{append_assoc, length_push}
 use Rattle.std.proofs.lemmas.List.Elements.{All-nil, Contains-append_left, Contains-push, Contains-push_cases}
@@ -29,10 +30,14 @@ pushed H a b = (
 )
 
 -- a label put into the table was added
-pub AddsLabel-intern : (old : List (List ℕ)) (a : List ℕ) (now : List (List ℕ)) → Interns old a now → AddsLabel old a now
+pub AddsLabel-intern : (old : List (List ℕ)) (a : List ℕ) (now : List (List ℕ)) → Interns old a now →
+    AddsLabel old a now
 AddsLabel-intern old a now (inl (known, same)) =
     rw same
-    (record { labels = λ b. (λ c. inl c, ⊎_elim (λ c. c) (λ e. subst (Contains old) (sym e) known)); longer = omega arith })
+    (record {
+      labels = λ b. (λ c. inl c, ⊎_elim (λ c. c) (λ e. subst (Contains old) (sym e) known));
+      longer = omega arith;
+    })
 AddsLabel-intern old a now (inr (unknown, put)) =
     rw put (record { labels = pushed old a; longer = omega (arith, length_push old a) })
 
@@ -46,19 +51,24 @@ SameLabels-add hidden H a now same added b = (
 )
 
 -- nothing was read
-pub HideReadSoFar-new : (old : Cutting) (hidden : List (List ℕ)) → old ≡ fresh → hidden ≡ [] → HideReadSoFar [] old [] hidden
+pub HideReadSoFar-new : (old : Cutting) (hidden : List (List ℕ)) → old ≡ fresh → hidden ≡ [] →
+    HideReadSoFar [] old [] hidden
 HideReadSoFar-new old hidden e none =
     rw none (record { lines = []; cut = HasCut-fresh old e; named = tt; same = λ a. (λ c. c, λ c. c) })
 
 -- what comes behind the lines read so far
-module _ {given : List ℕ} {old : Cutting} {H hidden : List (List ℕ)} (got : List ℕ) (so_far : HideReadSoFar given old H hidden) where
+module _ {given : List ℕ} {old : Cutting} {H hidden : List (List ℕ)} (got : List ℕ)
+    (so_far : HideReadSoFar given old H hidden) where
   as_many : length H ≡ length so_far.lines
   as_many = AllZip-long Hides so_far.lines H so_far.named
 
   -- the text ends
   pub hide_ends : length H ≤ MOST_LINES → old.ahead ++ got ≡ [] → HidesAs (given ++ got) hidden
-  hide_ends few none =
-      (H, (so_far.lines, HasCut-end given got so_far.lines old so_far.cut none, omega (arith, as_many), so_far.named), so_far.same)
+  hide_ends few none = (
+    H,
+    (so_far.lines, HasCut-end given got so_far.lines old so_far.cut none, omega (arith, as_many), so_far.named),
+    so_far.same,
+  )
 
   -- the source failed where a line has not ended
   pub hide_failed :
@@ -68,7 +78,8 @@ module _ {given : List ℕ} {old : Cutting} {H hidden : List (List ℕ)} (got : 
   hide_failed rest failures few unjudged failed goes_on part =
       let c = HasCut-part given got so_far.lines old so_far.cut goes_on part.0 in
       failed_source failed refl
-      (λ f. no_judged_hide_fault (given ++ got) so_far.lines (old.ahead ++ got) H f c so_far.named (omega (arith, as_many)) part.1
+      (λ f. no_judged_hide_fault (given ++ got) so_far.lines (old.ahead ++ got) H f c so_far.named
+      (omega (arith, as_many)) part.1
       (subst (λ (k : ℕ). (k < MOST_LINES) ⊎ (length (old.ahead ++ got) ≡ 0)) as_many unjudged))
 
   -- the source failed behind the last line that may stand
@@ -76,7 +87,8 @@ module _ {given : List ℕ} {old : Cutting} {H hidden : List (List ℕ)} (got : 
       (rest : Option (List ℕ)) (failures : ℕ) → length H ≡ MOST_LINES → failures ≡ 1 → (old.over ≡ true → ⊥) →
       old.ahead ++ got ≡ [] → HideRefuses (given ++ got) rest failures Device
   hide_end_failed rest failures count failed goes_on none =
-      let part : IsPart (old.ahead ++ got) = subst (λ (t : List ℕ). IsPart t) (sym none) (All-nil IsNoFeed, omega arith) in
+      let part : IsPart (old.ahead ++ got) =
+      subst (λ (t : List ℕ). IsPart t) (sym none) (All-nil IsNoFeed, omega arith) in
       hide_failed rest failures (omega arith) (inr (ap length none)) failed goes_on part
 
   -- the next line names a label
@@ -132,13 +144,18 @@ module _ {given : List ℕ} {old : Cutting} {H hidden : List (List ℕ)} (got : 
         (line, others, l, omega arith))
 
     -- the next line is faulty
-    pub hide_faulty :
-        (now : Cutting) (fault : Fault) → found < MOST_LINES → (old.over ≡ true → ⊥) → (now.over ≡ true → IsAtEnd rest) →
+    pub hide_faulty : (now : Cutting) (fault : Fault) → found < MOST_LINES → (old.over ≡ true → ⊥) →
+        (now.over ≡ true → IsAtEnd rest) →
         CutsLine (old.ahead ++ got) now → HideFault (found + 1) now.line fault → IsHideFault fault →
         HideRefuses (given ++ got) rest failures fault
     hide_faulty now fault few goes_on end cuts bad kind =
         refused_behind fault kind (omega arith) (λ more told.
         let s = HasCut-line given got so_far.lines old so_far.cut goes_on now cuts in
         let (others, l) =
-        HasCut-lines (given ++ got) more (so_far.lines ++ now.line ∷ []) now s (λ over. none_to_come rest more told (end over)) in
-        (now.line, others, subst (Lines (given ++ got ++ more)) (append_assoc so_far.lines (now.line ∷ []) others) l, bad))
+        HasCut-lines (given ++ got) more (so_far.lines ++ now.line ∷ []) now s
+        (λ over. none_to_come rest more told (end over)) in (
+          now.line,
+          others,
+          subst (Lines (given ++ got ++ more)) (append_assoc so_far.lines (now.line ∷ []) others) l,
+          bad,
+        ))

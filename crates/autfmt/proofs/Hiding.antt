@@ -1,5 +1,6 @@
 -- Hiding: which labels are hidden, and that nothing else of the list counts.
-use Rattle.std.proofs.Common.{◌≡◌, ◌↔◌, ℕ, zero, suc, ◌<◌, true, List, [], ◌∷◌, length, map, get_or, Contains, refl, sym, ◌∙◌, ap, ap₂, arith, ⊎_elim, subst}
+use Rattle.std.proofs.Common.{◌≡◌, ◌↔◌, ℕ, zero, suc, ◌<◌, true, List, [], ◌∷◌, length, map, get_or, Contains, refl}
+use Rattle.std.proofs.Common.{sym, ◌∙◌, ap, ap₂, arith, ⊎_elim, subst}
 use Rattle.std.specs.List.{list_any}
 use Rattle.std.specs.Str.{bytes_eq}
 use Rattle.std.proofs.lemmas.Bool.{both_ways, or_left, or_right, cases_Bool, cond-true, cond-false}
@@ -10,7 +11,8 @@ use Rattle.lts.specs.Labels.{IsNumber}
 use Rattle.theory.specs.System.{System, Transition, internal, hidden_label, hidden_transition, Hide}
 
 -- a label of the list is found in it
-pub found_in : (H : List (List ℕ)) (a : List ℕ) (k : ℕ) → k < length H → get_or H k a ≡ a → list_any (bytes_eq a) H ≡ true
+pub found_in : (H : List (List ℕ)) (a : List ℕ) (k : ℕ) → k < length H → get_or H k a ≡ a →
+    list_any (bytes_eq a) H ≡ true
 found_in [] a k h e = absurd (omega arith)
 found_in (x ∷ xs) a zero h e = or_left (bytes_eq a x) (list_any (bytes_eq a) xs) ((bytes_eq-Decides a x).1 (sym e))
 found_in (x ∷ xs) a (suc k) h e = or_right (bytes_eq a x) (list_any (bytes_eq a) xs) (found_in xs a k (omega arith) e)
@@ -40,13 +42,14 @@ hidden_label-internal H =
 pub hidden_label-again : (H : List (List ℕ)) (a : List ℕ) → hidden_label H (hidden_label H a) ≡ hidden_label H a
 hidden_label-again H a =
     ⊎_elim
-    (λ e. let is = hidden_label-hidden H a (contains_from H a e) in ap (hidden_label H) is ∙ hidden_label-internal H ∙ sym is)
+    (λ e. let is = hidden_label-hidden H a (contains_from H a e) in ap (hidden_label H) is
+    ∙ hidden_label-internal H ∙ sym is)
     (λ e. ap (hidden_label H) (hidden_label-shown H a (λ c. both_ways _ e (found_from H a c))))
     (cases_Bool (list_any (bytes_eq a) H))
 
 -- lists of the same labels hide each label alike
-pub hidden_label-same :
-    (H K : List (List ℕ)) → ((a : List ℕ) → Contains H a ↔ Contains K a) → (a : List ℕ) → hidden_label H a ≡ hidden_label K a
+pub hidden_label-same : (H K : List (List ℕ)) → ((a : List ℕ) → Contains H a ↔ Contains K a) → (a : List ℕ) →
+    hidden_label H a ≡ hidden_label K a
 hidden_label-same H K same a =
     ⊎_elim
     (λ e. let c = contains_from H a e in hidden_label-hidden H a c ∙ sym (hidden_label-hidden K a ((same a).0 c)))

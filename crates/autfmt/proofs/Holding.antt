@@ -1,8 +1,10 @@
 -- Triples over a label table, and the transitions that they stand for.
-use Rattle.std.proofs.Common.{◌≡◌, ◌⊎◌, ℕ, ◌+◌, ◌<◌, ◌≤◌, Contains, List, [], ◌∷◌, ◌++◌, length, map, get_or, refl, sym, ◌∙◌, ap, ap₂, subst, inl, inr, arith, All}
+use Rattle.std.proofs.Common.{◌≡◌, ◌⊎◌, ℕ, ◌+◌, ◌<◌, ◌≤◌, Contains, List, [], ◌∷◌, ◌++◌, length, map, get_or, refl, sym}
+use Rattle.std.proofs.Common.{◌∙◌, ap, ap₂, subst, inl, inr, arith, All}
 use Rattle.std.proofs.lemmas.List.{length_push, length-map, map_push, get_or-map}
 use Rattle.std.proofs.lemmas.Bool.{cases_lt}
-use Rattle.std.proofs.lemmas.List.Elements.{All-nil, All-head, All-tail, All-push, All-weaker, All-map, All-contains, Contains-append_left, Contains-get_or, Contains-push}
+use Rattle.std.proofs.lemmas.List.Elements.{All-nil, All-head, All-tail, All-push, All-weaker, All-map, All-contains}
+use Rattle.std.proofs.lemmas.List.Elements.{Contains-append_left, Contains-get_or, Contains-push}
 use Rattle.theory.specs.System.{Transition, IsAmong, Hide, hidden_label, hidden_transition}
 use Rattle.lts.specs.Labels.{text_of, Keeps, Interns, IsNumber}
 use Rattle.lts.specs.Lts.{Triple, IsTriple, transition_of, system_from, label_of}
@@ -12,7 +14,8 @@ use Rattle.autfmt.proofs.Hiding.{hidden_label-again}
 
 -- where a label is put in, each number is an old one or its own
 pub Interns-known :
-    (old : List (List ℕ)) (a : List ℕ) (now : List (List ℕ)) (number : ℕ) → Interns old a now → Keeps old now → IsNumber now number a →
+    (old : List (List ℕ)) (a : List ℕ) (now : List (List ℕ)) (number : ℕ) → Interns old a now → Keeps old now →
+    IsNumber now number a →
     (k : ℕ) → k < length now → (k < length old) ⊎ (k ≡ number)
 Interns-known old a now number (inl same) keeps is k below = let e = ap length same.1 in inl (omega arith)
 Interns-known old a now number (inr new) keeps is k below =
@@ -21,8 +24,8 @@ Interns-known old a now number (inr new) keeps is k below =
     elim (cases_lt k (length old)) [
       | inl known ↦ inl known
       | inr high ↦ elim (cases_lt number (length old)) [
-        | inl low ↦
-            absurd (new.0 (subst (λ (x : List ℕ). Contains old x) (sym (keeps.texts number low) ∙ is.text) (Contains-get_or old number [] low)))
+        | inl low ↦ absurd (new.0 (subst (λ (x : List ℕ). Contains old x) (sym (keeps.texts number low) ∙ is.text)
+            (Contains-get_or old number [] low)))
         | inr same ↦ inr (omega arith)
       ]
     ]
@@ -57,8 +60,8 @@ carried_more old now s a t added before k below =
     let into : (x : Triple) → Contains (old.transitions ++ triple ∷ []) x → Contains now.transitions x =
     λ x h. subst (λ (es : List Triple). Contains es x) (sym added.items) h in
     elim (added.known k below) [
-      | inl known ↦
-          let (x, among, number) = before k known in (x, into x (Contains-append_left old.transitions (triple ∷ []) x among), number)
+      | inl known ↦ let (x, among, number) = before k known in
+          (x, into x (Contains-append_left old.transitions (triple ∷ []) x among), number)
       | inr new ↦ (triple, into triple (Contains-push old.transitions triple), sym new)
     ]
 
@@ -76,7 +79,8 @@ one_label_more old now s a t added = elim (cases_lt (length old.labels + 1) (len
 -- one transition more is held
 pub Holds-add :
     (H : List (List ℕ)) (n : ℕ) (old now : Held) (es : List Transition) (e : Transition) →
-    Holds H n old es → IsAmong n e → AddsTriple old now e.source (hidden_label H e.label) e.target → Holds H n now (es ++ e ∷ [])
+    Holds H n old es → IsAmong n e → AddsTriple old now e.source (hidden_label H e.label) e.target →
+    Holds H n now (es ++ e ∷ [])
 Holds-add H n old now es e held among added =
     let triple : Triple = (e.source, added.number, e.target) in
     let made : List ℕ → Transition = λ a. record { source = e.source; label = a; target = e.target } in
@@ -101,7 +105,8 @@ Holds-add H n old now es e held among added =
     }
 
 -- no label that is held is hidden
-pub Holds-shown : (H : List (List ℕ)) (n : ℕ) (held : Held) (es : List Transition) → Holds H n held es → AreShown H held.labels
+pub Holds-shown : (H : List (List ℕ)) (n : ℕ) (held : Held) (es : List Transition) → Holds H n held es →
+    AreShown H held.labels
 Holds-shown H n held es h k below =
     let (e, among, number) = h.carried k below in
     let made = transition_of held.labels in
@@ -109,7 +114,8 @@ Holds-shown H n held es h k below =
     let each = All-map IsShown (hidden_transition H) es (λ i d lt. hidden_label-again H (get_or es i d).label) in
     let all = subst (All IsShown) (sym h.hidden) each in
     let shown = All-contains (λ x. IsShown (made x)) held.transitions e
-    (λ i d lt. subst IsShown (get_or-map made held.transitions i d (made d) lt) (all i (made d) (omega (arith, length-map held.transitions made)))) among in
+    (λ i d lt. subst IsShown (get_or-map made held.transitions i d (made d) lt)
+    (all i (made d) (omega (arith, length-map held.transitions made)))) among in
     subst (λ i. hidden_label H (text_of held.labels i) ≡ text_of held.labels i) number shown
 
 -- nothing is held
@@ -117,15 +123,18 @@ pub Holds-new : (H : List (List ℕ)) (n : ℕ) (held : Held) → held.labels �
 Holds-new H n held labels none =
     record {
       hidden = ap (map (transition_of held.labels)) none;
-      among = subst (λ (t : List Triple). All (IsTriple (length held.labels) n) t) (sym none) (All-nil (IsTriple (length held.labels) n));
+      among = subst (λ (t : List Triple). All (IsTriple (length held.labels) n) t) (sym none)
+          (All-nil (IsTriple (length held.labels) n));
       carried = λ k below. absurd (omega (arith, ap length labels));
       few_labels = omega (arith, ap length labels);
     }
 
 -- as many triples are held as transitions
-pub Holds-length : (H : List (List ℕ)) (n : ℕ) (held : Held) (es : List Transition) → Holds H n held es → length held.transitions ≡ length es
+pub Holds-length : (H : List (List ℕ)) (n : ℕ) (held : Held) (es : List Transition) → Holds H n held es →
+    length held.transitions ≡ length es
 Holds-length H n held es h =
-    sym (length-map held.transitions (transition_of held.labels)) ∙ ap length h.hidden ∙ length-map es (hidden_transition H)
+    sym (length-map held.transitions (transition_of held.labels)) ∙ ap length h.hidden
+    ∙ length-map es (hidden_transition H)
 
 -- the system that is held is the hidden one
 pub Holds-system :

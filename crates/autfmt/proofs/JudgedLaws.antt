@@ -1,5 +1,6 @@
 -- What is known of a text from its first bytes.
-use Rattle.std.proofs.Common.{◌≡◌, ◌⊎◌, ⊎_elim, ℕ, ◌+◌, ◌<◌, ◌≤◌, List, [], ◌∷◌, ◌++◌, length, refl, subst, inl, inr, arith, All}
+use Rattle.std.proofs.Common.{◌≡◌, ◌⊎◌, ⊎_elim, ℕ, ◌+◌, ◌<◌, ◌≤◌, List, [], ◌∷◌, ◌++◌, length, refl, subst, inl, inr}
+use Rattle.std.proofs.Common.{arith, All}
 use Rattle.std.specs.List.{AllZip}
 use Rattle.std.proofs.lemmas.Bool.{cases_lt}
 use Rattle.std.proofs.lemmas.List.{append_assoc, append-nil, length-append}
@@ -30,11 +31,13 @@ long_line bounds text k (behind m n es (line ∷ others) b (inl (less, EdgeFault
     (b.header ∷ b.lines, others, line, b.whole, long)
 long_line bounds text k (behind m n es (line ∷ others) b (inl (less, EdgeFault.unread e short none))) = absurd cc
 long_line bounds text k (behind m n es (line ∷ others) b (inl (less, EdgeFault.source e d spelled high))) = absurd cc
-long_line bounds text k (behind m n es (line ∷ others) b (inl (less, EdgeFault.target e d spelled low high))) = absurd cc
+long_line bounds text k (behind m n es (line ∷ others) b (inl (less, EdgeFault.target e d spelled low high))) =
+    absurd cc
 long_line bounds text k (behind m n es (line ∷ others) b (inr (full, e))) = absurd cc
 
 -- no fault is known of a line 1 that has not ended
-pub no_judged_header : (bounds : Bounds) (given : List ℕ) (fault : Fault) → IsPart given → JudgedFault bounds given fault → ⊥
+pub no_judged_header : (bounds : Bounds) (given : List ℕ) (fault : Fault) → IsPart given →
+    JudgedFault bounds given fault → ⊥
 no_judged_header bounds given fault part known =
     not_known (FirstFault bounds) (FirstFault-unique bounds) (long_line bounds) given [] given 1
     (record { whole = refl; lines = All-nil _; one = part.0 }) (All-nil IsShort) part.1
@@ -46,14 +49,16 @@ pub no_judged_fault :
     (fault : Fault) →
     Cuts given (line ∷ lines) rest → GoodHeader bounds line f m n → AllZip (SpellsAmong n) lines es → length es ≤ m →
     length rest ≤ LONGEST_LINE → (length es < m) ⊎ (length rest ≡ 0) → JudgedFault bounds given fault → ⊥
-no_judged_fault bounds given line lines rest f m n es fault c good edges few short unjudged known = step (cases_lt (length es) m)
+no_judged_fault bounds given line lines rest f m n es fault c good edges few short unjudged known =
+    step (cases_lt (length es) m)
   where
     shorts : All IsShort (line ∷ lines)
     shorts =
         All-cons IsShort line lines good.short
         (AllZip-firsts (SpellsAmong n) IsShort (λ l e spelled. spelled.0.0) lines es edges)
 
-    too_long : length es < m → (long : List ℕ) → LONGEST_LINE < length long → (text : List ℕ) → Lines text ((line ∷ lines) ++ long ∷ []) →
+    too_long : length es < m → (long : List ℕ) → LONGEST_LINE < length long → (text : List ℕ) →
+        Lines text ((line ∷ lines) ++ long ∷ []) →
         FirstFault bounds text (LineTooLong (length es + 2))
     too_long less long big text l =
         let b : BeginsWell bounds text m n es (long ∷ []) =
@@ -63,25 +68,37 @@ no_judged_fault bounds given line lines rest f m n es fault c good edges few sho
     at_end : (r : List ℕ) → length r ≡ 0 → Cuts given (line ∷ lines) r → length es ≡ m → ⊥
     at_end (b ∷ bs) none c' full = absurd (omega arith)
     at_end [] none c' full =
-        let l = subst (λ (ls : List (List ℕ)). Lines given ls) (append-nil (line ∷ lines)) (line ∷ lines, [], c', refl) in
+        let l =
+        subst (λ (ls : List (List ℕ)). Lines given ls) (append-nil (line ∷ lines)) (line ∷ lines, [], c', refl) in
         let read = Reads-from_lines bounds given line lines f m n es l good edges full in
         Reads-no_fault bounds given (record { first = f; states = n; transitions = es }) fault read
         (subst (λ (t : List ℕ). FirstFault bounds t fault) (append-nil given) (known []))
 
     step : (length es < m) ⊎ (m ≤ length es) → ⊥
     step (inl less) =
-        not_known (FirstFault bounds) (FirstFault-unique bounds) (long_line bounds) given (line ∷ lines) rest (length es + 2) c shorts short
+        not_known (FirstFault bounds) (FirstFault-unique bounds) (long_line bounds) given (line ∷ lines) rest
+        (length es + 2) c shorts short
         (too_long less) fault known
     step (inr full) = ⊎_elim (λ less. omega arith) (λ none. at_end rest none c (omega arith)) unjudged
 
 module _ (bounds : Bounds) (given more : List ℕ) where
   -- a text that begins well goes on to do so, and the next line may have grown
-  goes_on_well :
-      (m n : ℕ) (es : List Transition) (line : List ℕ) (others : List (List ℕ)) → BeginsWell bounds given m n es (line ∷ others) →
+  goes_on_well : (m n : ℕ) (es : List Transition) (line : List ℕ) (others : List (List ℕ)) →
+      BeginsWell bounds given m n es (line ∷ others) →
       (tail : List ℕ) × (others' : List (List ℕ)) × BeginsWell bounds (given ++ more) m n es ((line ++ tail) ∷ others')
   goes_on_well m n es line others b =
-      let (tail, others', whole) = line_grows given more (b.header ∷ b.lines) others line b.whole in
-      (tail, others', record { header = b.header; first = b.first; lines = b.lines; whole = whole; good = b.good; spelled = b.spelled })
+      let (tail, others', whole) = line_grows given more (b.header ∷ b.lines) others line b.whole in (
+        tail,
+        others',
+        record {
+          header = b.header;
+          first = b.first;
+          lines = b.lines;
+          whole = whole;
+          good = b.good;
+          spelled = b.spelled;
+        },
+      )
 
   -- a line that is too long is so whatever follows
   pub long_stays : (k : ℕ) → FirstFault bounds given (LineTooLong k) → FirstFault bounds (given ++ more) (LineTooLong k)
@@ -94,7 +111,8 @@ module _ (bounds : Bounds) (given more : List ℕ) where
   long_stays k (behind m n es [] b next) = let e = next.1 in absurd cc
   long_stays k (behind m n es (line ∷ others) b (inl (less, EdgeFault.too_long e long))) =
       let (tail, others', b') = goes_on_well m n es line others b in
-      behind m n es ((line ++ tail) ∷ others') b' (inl (less, EdgeFault.too_long e (omega (arith, length-append line tail))))
+      behind m n es ((line ++ tail) ∷ others') b'
+      (inl (less, EdgeFault.too_long e (omega (arith, length-append line tail))))
   long_stays k (behind m n es (line ∷ others) b (inl (less, EdgeFault.unread e short none))) = absurd cc
   long_stays k (behind m n es (line ∷ others) b (inl (less, EdgeFault.source e d spelled high))) = absurd cc
   long_stays k (behind m n es (line ∷ others) b (inl (less, EdgeFault.target e d spelled low high))) = absurd cc
@@ -112,11 +130,12 @@ module _ (bounds : Bounds) (given more : List ℕ) where
   extra_stays k (behind m n es (line ∷ others) b (inl (less, EdgeFault.source e d spelled high))) = absurd cc
   extra_stays k (behind m n es (line ∷ others) b (inl (less, EdgeFault.target e d spelled low high))) = absurd cc
   extra_stays k (behind m n es (line ∷ others) b (inr (full, e))) =
-      let (tail, others', b') = goes_on_well m n es line others b in behind m n es ((line ++ tail) ∷ others') b' (inr (full, e))
+      let (tail, others', b') = goes_on_well m n es line others b in
+      behind m n es ((line ++ tail) ∷ others') b' (inr (full, e))
 
 -- the fault of a line that has ended is known
-pub ended_known :
-    (bounds : Bounds) (given : List ℕ) (ended : List (List ℕ)) (fault : Fault) → Cuts given ended [] → FirstFault bounds given fault →
+pub ended_known : (bounds : Bounds) (given : List ℕ) (ended : List (List ℕ)) (fault : Fault) → Cuts given ended [] →
+    FirstFault bounds given fault →
     (ended ≡ [] → ⊥) → ((found : ℕ) → fault ≡ MissingEdges found → ⊥) → JudgedFault bounds given fault
 ended_known bounds given ended fault c first some found more = step first
   where
@@ -127,11 +146,13 @@ ended_known bounds given ended fault c first some found more = step first
     step (no_line l e) =
         let all = subst (λ (ls : List (List ℕ)). Lines given ls) (append-nil ended) (ended, [], c, refl) in
         absurd (some (Lines-unique given ended [] all l))
-    step (header line others l bad) = header line (others ++ tail) (ended_go_on given more ended (line ∷ others) c l) bad
+    step (header line others l bad) =
+        header line (others ++ tail) (ended_go_on given more ended (line ∷ others) c l) bad
     step (behind m n es [] b next) = absurd (found (length es) next.1)
     step (behind m n es (line ∷ others) b next) =
         let l =
-        subst (λ (ls : List (List ℕ)). Lines (given ++ more) (b.header ∷ ls)) (append_assoc b.lines (line ∷ others) tail)
+        subst (λ (ls : List (List ℕ)). Lines (given ++ more) (b.header ∷ ls))
+        (append_assoc b.lines (line ∷ others) tail)
         (ended_go_on given more ended (b.header ∷ b.lines ++ line ∷ others) c b.whole) in
         let b' : BeginsWell bounds (given ++ more) m n es (line ∷ (others ++ tail)) =
         record { header = b.header; first = b.first; lines = b.lines; whole = l; good = b.good; spelled = b.spelled } in

@@ -6,20 +6,24 @@ use Rattle.theory.specs.System.{IsLabel}
 use Rattle.autfmt.specs.Grammar.{is_plain, quoted, Label}
 use Rattle.autfmt.specs.Reading.{is_word, plain_at, quoted_at, label_at}
 use Rattle.autfmt.proofs.Blanks.{IsToken, Stops}
-use Rattle.autfmt.proofs.PlainLabels.{IsLabel-plain, Plain-from, letter-no_quote, letter-no_blank, plain_at-takes, plain_at-again}
+use Rattle.autfmt.proofs.PlainLabels.{IsLabel-plain, Plain-from, letter-no_quote, letter-no_blank, plain_at-takes}
+use Rattle.autfmt.proofs.PlainLabels.{plain_at-again}
 use Rattle.autfmt.proofs.QuotedLabels.{HasNoQuote, quoted_at-takes, quoted_at-again}
 
 pub quoted-append : (a rest : List ℕ) → quoted a ++ rest ≡ 34 ∷ (a ++ 34 ∷ rest)
 quoted-append a rest = ap (λ (t : List ℕ). 34 ∷ t) (append_assoc a (34 ∷ []) rest)
 
-pub label_at-takes : (bytes a rest : List ℕ) → label_at bytes ≡ Some (a, rest) → (spelling : List ℕ) × Label spelling a × (bytes ≡ spelling ++ rest)
+pub label_at-takes : (bytes a rest : List ℕ) → label_at bytes ≡ Some (a, rest) →
+    (spelling : List ℕ) × Label spelling a × (bytes ≡ spelling ++ rest)
 unfolding label_at
 label_at-takes [] a rest e = absurd cc
 label_at-takes (b ∷ bs) a rest e =
-    cond_both (b == 34) (quoted_at bs) (plain_at (b ∷ bs)) (λ r. r ≡ Some (a, rest) → (spelling : List ℕ) × Label spelling a × (b ∷ bs ≡ spelling ++ rest))
+    cond_both (b == 34) (quoted_at bs) (plain_at (b ∷ bs)) (λ r. r ≡ Some (a, rest) →
+    (spelling : List ℕ) × Label spelling a × (b ∷ bs ≡ spelling ++ rest))
     (λ mark f.
     let h = quoted_at-takes bs a rest f in
-    let whole : b ∷ bs ≡ quoted a ++ rest = rw (eqb-true b 34 mark) (ap (λ (t : List ℕ). 34 ∷ t) h.1) ∙ sym (quoted-append a rest) in
+    let whole : b ∷ bs ≡ quoted a ++ rest = rw (eqb-true b 34 mark) (ap (λ (t : List ℕ). 34 ∷ t) h.1)
+    ∙ sym (quoted-append a rest) in
     (quoted a, inr (h.0, refl), whole))
     (λ _ f. let h = plain_at-takes (b ∷ bs) a rest f in (a, inl (h.0, refl), h.1))
     e
@@ -33,11 +37,13 @@ label_at-quoted : (bytes : List ℕ) → label_at (34 ∷ bytes) ≡ quoted_at b
 unfolding label_at
 label_at-quoted bytes = refl
 
-pub label_at-again : (spelling a rest : List ℕ) → Label spelling a → Stops is_word rest → HasNoQuote rest → label_at (spelling ++ rest) ≡ Some (a, rest)
+pub label_at-again : (spelling a rest : List ℕ) → Label spelling a → Stops is_word rest → HasNoQuote rest →
+    label_at (spelling ++ rest) ≡ Some (a, rest)
 label_at-again spelling a rest (inl h) stops none =
     ap (λ (t : List ℕ). label_at (t ++ rest)) h.1 ∙ label_at-plain a rest h.0 ∙ plain_at-again a rest h.0 stops
 label_at-again spelling a rest (inr h) stops none =
-    ap (λ (t : List ℕ). label_at (t ++ rest)) h.1 ∙ ap label_at (quoted-append a rest) ∙ label_at-quoted (a ++ 34 ∷ rest) ∙ quoted_at-again a rest h.0 none
+    ap (λ (t : List ℕ). label_at (t ++ rest)) h.1 ∙ ap label_at (quoted-append a rest)
+    ∙ label_at-quoted (a ++ 34 ∷ rest) ∙ quoted_at-again a rest h.0 none
 
 -- ---- what a label looks like
 

@@ -1,16 +1,20 @@
 -- A line of a system's text is good or has one fault.
-use Rattle.std.proofs.Common.{◌≡◌, ◌⊎◌, ℕ, ◌<◌, ◌≤◌, cond, eqb, ltb, leb, List, length, Option, None, Some, refl, sym, ◌∙◌, subst, inl, inr, arith}
+use Rattle.std.proofs.Common.{◌≡◌, ◌⊎◌, ℕ, ◌<◌, ◌≤◌, cond, eqb, ltb, leb, List, length, Option, None, Some, refl, sym}
+use Rattle.std.proofs.Common.{◌∙◌, subst, inl, inr, arith}
 use Rattle.std.proofs.lemmas.Bool.{cases_lt, cases_eq, lt-ltb, le-ltb}
 use Rattle.std.proofs.lemmas.Option.{same_Some, none-some}
 use Rattle.std.proofs.lemmas.Bool.Decides.{nat_tests}
 use Rattle.autfmt.specs.declared.fault.Fault.{Fault}
-use Rattle.autfmt.specs.declared.fault.Fault.TheVariants.{BadHeader, FirstState, NoStates, TooManyStates, TooManyTransitions, LineTooLong, BadEdge, SourceRange, TargetRange}
+use Rattle.autfmt.specs.declared.fault.Fault.TheVariants.{BadHeader, FirstState, NoStates, TooManyStates}
+use Rattle.autfmt.specs.declared.fault.Fault.TheVariants.{TooManyTransitions, LineTooLong, BadEdge, SourceRange}
+use Rattle.autfmt.specs.declared.fault.Fault.TheVariants.{TargetRange}
 use Rattle.theory.specs.System.{Transition}
 use Rattle.autfmt.specs.Bounds.{Bounds}
 use Rattle.autfmt.specs.Grammar.{Header, TransitionLine}
 use Rattle.autfmt.specs.Texts.{IsShort, GoodHeader, SpellsTransition, SpellsAmong}
 use Rattle.autfmt.specs.Faults.{NumbersFault, HeaderFault, EdgeFault}
-use Rattle.autfmt.proofs.Lines.{header_at-takes, header_at-again, transition_at-takes, transition_at-again, transition-label}
+use Rattle.autfmt.proofs.Lines.{header_at-takes, header_at-again, transition_at-takes, transition_at-again}
+use Rattle.autfmt.proofs.Lines.{transition-label}
 use Rattle.autfmt.specs.Reading.{header_at, transition_at}
 use Rattle.autfmt.proofs.Decisions.{one_header, decide_header, decide_transition, unread}
 use Rattle.autfmt.specs.declared.line.TheConstants.{LONGEST_LINE}
@@ -23,15 +27,18 @@ wrong_numbers bounds f m n =
     (cond (ltb bounds.states n) (Some TooManyStates) (cond (ltb bounds.transitions m) (Some TooManyTransitions) None)))
 
 -- the fault of a header's numbers is the one that they have
-numbers_wrong : (bounds : Bounds) (f m n : ℕ) (fault : Fault) → NumbersFault bounds f m n fault → wrong_numbers bounds f m n ≡ Some fault
+numbers_wrong : (bounds : Bounds) (f m n : ℕ) (fault : Fault) → NumbersFault bounds f m n fault →
+    wrong_numbers bounds f m n ≡ Some fault
 numbers_wrong bounds f m n NoStates h = grind (arith, nat_tests)
 numbers_wrong bounds f m n FirstState h = let low = h.0 in let high = h.1 in grind (arith, nat_tests)
 numbers_wrong bounds f m n TooManyStates h = let low = h.0 in let high = h.1 in grind (arith, nat_tests)
-numbers_wrong bounds f m n TooManyTransitions h = let low = h.0 in let few = h.1 in let high = h.2 in grind (arith, nat_tests)
+numbers_wrong bounds f m n TooManyTransitions h =
+    let low = h.0 in let few = h.1 in let high = h.2 in grind (arith, nat_tests)
 numbers_wrong bounds f m n _ h = absurd h
 
 -- the numbers of a good header are not wrong
-pub good_numbers : (bounds : Bounds) (line : List ℕ) (f m n : ℕ) → GoodHeader bounds line f m n → wrong_numbers bounds f m n ≡ None
+pub good_numbers : (bounds : Bounds) (line : List ℕ) (f m n : ℕ) → GoodHeader bounds line f m n →
+    wrong_numbers bounds f m n ≡ None
 good_numbers bounds line f m n g =
     let first = g.first in let states = g.states in let transitions = g.transitions in grind (arith, nat_tests)
 
@@ -41,27 +48,32 @@ header_fault bounds line =
     cond (ltb LONGEST_LINE (length line)) (Some (LineTooLong 1))
     (elim (header_at line) [ None ↦ Some BadHeader | Some x ↦ wrong_numbers bounds x.0 x.1 x.2 ])
 
-HeaderFault-is : (bounds : Bounds) (line : List ℕ) (fault : Fault) → HeaderFault bounds line fault → header_fault bounds line ≡ Some fault
+HeaderFault-is : (bounds : Bounds) (line : List ℕ) (fault : Fault) → HeaderFault bounds line fault →
+    header_fault bounds line ≡ Some fault
 HeaderFault-is bounds line fault (HeaderFault.too_long e l) = rw (e, lt-ltb LONGEST_LINE (length line) l) refl
 HeaderFault-is bounds line fault (HeaderFault.unread e s none) =
-    let nothing = unread (header_at line) (λ x. Header line x.0 x.1 x.2) (header_at-takes line) (λ x. none x.0 x.1 x.2) in
+    let nothing =
+    unread (header_at line) (λ x. Header line x.0 x.1 x.2) (header_at-takes line) (λ x. none x.0 x.1 x.2) in
     rw (e, le-ltb LONGEST_LINE (length line) s, nothing) refl
 HeaderFault-is bounds line fault (HeaderFault.numbers f m n s h w) =
     rw (le-ltb LONGEST_LINE (length line) s, header_at-again line f m n h) (numbers_wrong bounds f m n fault w)
 
-pub HeaderFault-unique : (bounds : Bounds) (line : List ℕ) (f g : Fault) → HeaderFault bounds line f → HeaderFault bounds line g → f ≡ g
-HeaderFault-unique bounds line f g a b = same_Some f g (sym (HeaderFault-is bounds line f a) ∙ HeaderFault-is bounds line g b)
+pub HeaderFault-unique : (bounds : Bounds) (line : List ℕ) (f g : Fault) → HeaderFault bounds line f →
+    HeaderFault bounds line g → f ≡ g
+HeaderFault-unique bounds line f g a b =
+    same_Some f g (sym (HeaderFault-is bounds line f a) ∙ HeaderFault-is bounds line g b)
 
 -- a good header has no fault
-pub GoodHeader-no_fault :
-    (bounds : Bounds) (line : List ℕ) (f m n : ℕ) (fault : Fault) → GoodHeader bounds line f m n → HeaderFault bounds line fault → ⊥
+pub GoodHeader-no_fault : (bounds : Bounds) (line : List ℕ) (f m n : ℕ) (fault : Fault) → GoodHeader bounds line f m n →
+    HeaderFault bounds line fault → ⊥
 GoodHeader-no_fault bounds line f m n fault good bad =
     let fine : header_fault bounds line ≡ None =
-    rw (le-ltb LONGEST_LINE (length line) good.short, header_at-again line f m n good.header) (good_numbers bounds line f m n good) in
+    rw (le-ltb LONGEST_LINE (length line) good.short, header_at-again line f m n good.header)
+    (good_numbers bounds line f m n good) in
     none-some fault (sym fine ∙ HeaderFault-is bounds line fault bad)
 
-pub GoodHeader-unique :
-    (bounds : Bounds) (line : List ℕ) (f m n f' m' n' : ℕ) → GoodHeader bounds line f m n → GoodHeader bounds line f' m' n' →
+pub GoodHeader-unique : (bounds : Bounds) (line : List ℕ) (f m n f' m' n' : ℕ) → GoodHeader bounds line f m n →
+    GoodHeader bounds line f' m' n' →
     (f ≡ f') × (m ≡ m') × (n ≡ n')
 GoodHeader-unique bounds line f m n f' m' n' g g' = one_header line f m n f' m' n' g.header g'.header
 
@@ -84,9 +96,12 @@ header_judged bounds line = step (cases_lt LONGEST_LINE (length line)) (decide_h
         (bounds.transitions < m) ⊎ (m ≤ bounds.transitions) →
         ((f : ℕ) × (m : ℕ) × (n : ℕ) × GoodHeader bounds line f m n) ⊎ ((fault : Fault) × HeaderFault bounds line fault)
     numbers f m n s h (inl e) below states transitions = inr (NoStates, HeaderFault.numbers f m n s h e)
-    numbers f m n s h (inr some) (inr high) states transitions = inr (FirstState, HeaderFault.numbers f m n s h (omega arith, high))
-    numbers f m n s h (inr some) (inl low) (inl many) transitions = inr (TooManyStates, HeaderFault.numbers f m n s h (low, many))
-    numbers f m n s h (inr some) (inl low) (inr few) (inl many) = inr (TooManyTransitions, HeaderFault.numbers f m n s h (low, few, many))
+    numbers f m n s h (inr some) (inr high) states transitions =
+        inr (FirstState, HeaderFault.numbers f m n s h (omega arith, high))
+    numbers f m n s h (inr some) (inl low) (inl many) transitions =
+        inr (TooManyStates, HeaderFault.numbers f m n s h (low, many))
+    numbers f m n s h (inr some) (inl low) (inr few) (inl many) =
+        inr (TooManyTransitions, HeaderFault.numbers f m n s h (low, few, many))
     numbers f m n s h (inr some) (inl low) (inr few) (inr few') =
         inl (f, m, n, record { short = s; header = h; first = low; states = few; transitions = few' })
 
@@ -111,7 +126,8 @@ edge_fault n k line =
 module _ (n k : ℕ) (line : List ℕ) where
   -- where a transition is read, the line has the fault of its numbers
   spelled_fault : (e : Transition) → SpellsTransition line e → edge_fault n k line ≡ wrong_ends n k e.source e.target
-  spelled_fault e (s, h) = rw (le-ltb LONGEST_LINE (length line) s, transition_at-again line e.source e.label e.target h) refl
+  spelled_fault e (s, h) =
+      rw (le-ltb LONGEST_LINE (length line) s, transition_at-again line e.source e.label e.target h) refl
 
   EdgeFault-is : (fault : Fault) → EdgeFault n k line fault → edge_fault n k line ≡ Some fault
   EdgeFault-is fault (EdgeFault.too_long e l) = rw (e, lt-ltb LONGEST_LINE (length line) l) refl
@@ -137,17 +153,30 @@ pub edge_judged :
     (n k : ℕ) (line : List ℕ) → ((e : Transition) × SpellsAmong n line e) ⊎ ((fault : Fault) × EdgeFault n k line fault)
 edge_judged n k line = step (cases_lt LONGEST_LINE (length line)) (decide_transition line)
   where
-    ends : (e : Transition) → SpellsTransition line e → (e.source < n) ⊎ (n ≤ e.source) → (e.target < n) ⊎ (n ≤ e.target) →
+    ends : (e : Transition) → SpellsTransition line e → (e.source < n) ⊎ (n ≤ e.source) →
+        (e.target < n) ⊎ (n ≤ e.target) →
         ((e : Transition) × SpellsAmong n line e) ⊎ ((fault : Fault) × EdgeFault n k line fault)
     ends e h (inr high) q = inr (SourceRange k, EdgeFault.source refl e h high)
     ends e h (inl low) (inr high) = inr (TargetRange k, EdgeFault.target refl e h low high)
     ends e h (inl low) (inl low') =
-        inl (e, (h, record { source = low; label = transition-label line e.source e.label e.target h.1; target = low' }))
+        inl (
+          e,
+          (
+            h,
+            record {
+              source = low;
+              label = transition-label line e.source e.label e.target h.1;
+              target = low';
+            },
+          ),
+        )
 
     step : (LONGEST_LINE < length line) ⊎ (length line ≤ LONGEST_LINE) →
-        ((x : ℕ × List ℕ × ℕ) × TransitionLine line x.0 x.1 x.2) ⊎ ((x : ℕ × List ℕ × ℕ) → ¬ TransitionLine line x.0 x.1 x.2) →
+        ((x : ℕ × List ℕ × ℕ) × TransitionLine line x.0 x.1 x.2) ⊎ ((x : ℕ × List ℕ × ℕ) →
+        ¬ TransitionLine line x.0 x.1 x.2) →
         ((e : Transition) × SpellsAmong n line e) ⊎ ((fault : Fault) × EdgeFault n k line fault)
     step (inl l) r = inr (LineTooLong k, EdgeFault.too_long refl l)
-    step (inr s) (inr none) = inr (BadEdge k, EdgeFault.unread refl s (λ d spelled. none (d.source, d.label, d.target) spelled.1))
+    step (inr s) (inr none) =
+        inr (BadEdge k, EdgeFault.unread refl s (λ d spelled. none (d.source, d.label, d.target) spelled.1))
     step (inr s) (inl ((source, a, target), h)) =
         ends (record { source = source; label = a; target = target }) (s, h) (cases_lt source n) (cases_lt target n)

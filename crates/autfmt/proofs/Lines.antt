@@ -1,5 +1,6 @@
 -- Reading a line: what is read is spelled so, and what is spelled so is read.
-use Rattle.std.proofs.Common.{◌≡◌, ℕ, ◌+◌, ◌<◌, ◌^◌, ◌%◌, true, false, cond, List, [], ◌∷◌, ◌++◌, Option, Some, None, refl, sym, ap, subst, ◌∙◌, arith}
+use Rattle.std.proofs.Common.{◌≡◌, ℕ, ◌+◌, ◌<◌, ◌^◌, ◌%◌, true, false, cond, List, [], ◌∷◌, ◌++◌, Option, Some, None}
+use Rattle.std.proofs.Common.{refl, sym, ap, subst, ◌∙◌, arith}
 use Rattle.std.specs.Prelude.{codes, decimal, ◌==◌}
 use Rattle.std.specs.Char.{is_ascii_digit}
 use Rattle.std.proofs.lemmas.Bool.{eqb-true, ne_eqb}
@@ -7,8 +8,10 @@ use Rattle.std.proofs.lemmas.Fmt.{decimal_by_steps}
 use Rattle.std.proofs.lemmas.Option.{cond_some, same_Some}
 use Rattle.theory.specs.System.{IsLabel}
 use Rattle.autfmt.specs.Grammar.{Spaced, IsDecimal, Label, Header, TransitionLine, HideLine}
-use Rattle.autfmt.specs.Reading.{◌>>=◌, is_blank, is_word, are_blanks, after_blanks, past, past_des, number_at, number_then, label_at, header_at, ending_at, transition_at, hide_line_at}
-use Rattle.autfmt.proofs.Blanks.{at_token, Spaced-from, Stops, Stops-blanks, Stops-mark, are_blanks-from, Blanks-from_test}
+use Rattle.autfmt.specs.Reading.{◌>>=◌, is_blank, is_word, are_blanks, after_blanks, past, past_des, number_at}
+use Rattle.autfmt.specs.Reading.{number_then, label_at, header_at, ending_at, transition_at, hide_line_at}
+use Rattle.autfmt.proofs.Blanks.{at_token, Spaced-from, Stops, Stops-blanks, Stops-mark, are_blanks-from}
+use Rattle.autfmt.proofs.Blanks.{Blanks-from_test}
 use Rattle.autfmt.proofs.Numbers.{blanks_no_digits, IsToken-number, number_at-takes, number_at-again}
 use Rattle.autfmt.proofs.PlainLabels.{bind_some, blanks_no_words}
 use Rattle.autfmt.proofs.QuotedLabels.{HasNoQuote, HasNoQuote-append, HasNoQuote-blanks, HasNoQuote-spaced}
@@ -37,31 +40,40 @@ des-takes bytes rest e =
 
 des-again : (rest : List ℕ) → past_des (codes "des" ++ rest) ≡ Some rest
 unfolding past_des
-des-again rest = rw (past-again 100 (101 ∷ 115 ∷ rest) refl, past-again 101 (115 ∷ rest) refl, past-again 115 rest refl) refl
+des-again rest =
+    rw (past-again 100 (101 ∷ 115 ∷ rest) refl, past-again 101 (115 ∷ rest) refl, past-again 115 rest refl) refl
 
 -- a mark and what follows it
-mark-takes : (c : ℕ) (tokens : List (List ℕ)) (line rest : List ℕ) → past c (after_blanks line) ≡ Some rest → Spaced tokens rest → Spaced ((c ∷ []) ∷ tokens) line
+mark-takes : (c : ℕ) (tokens : List (List ℕ)) (line rest : List ℕ) → past c (after_blanks line) ≡ Some rest →
+    Spaced tokens rest → Spaced ((c ∷ []) ∷ tokens) line
 mark-takes c tokens line rest e s = Spaced-from (c ∷ []) tokens line rest (past-takes c (after_blanks line) rest e) s
 
-mark-again : (c : ℕ) (tokens : List (List ℕ)) (line : List ℕ) → is_blank c ≡ false → (c == c) ≡ true → (s : Spaced ((c ∷ []) ∷ tokens) line) → past c (after_blanks line) ≡ Some s.1
+mark-again : (c : ℕ) (tokens : List (List ℕ)) (line : List ℕ) → is_blank c ≡ false → (c == c) ≡ true →
+    (s : Spaced ((c ∷ []) ∷ tokens) line) → past c (after_blanks line) ≡ Some s.1
 mark-again c tokens line h e s = ap (past c) (at_token (c ∷ []) tokens line h s) ∙ past-again c s.1 e
 
 -- ---- a number and the mark after it
 
-number_then-takes : (c : ℕ) (tokens : List (List ℕ)) (line : List ℕ) (x : ℕ × List ℕ) → number_then c line ≡ Some x → Spaced tokens x.1
+number_then-takes : (c : ℕ) (tokens : List (List ℕ)) (line : List ℕ) (x : ℕ × List ℕ) → number_then c line ≡ Some x
+    → Spaced tokens x.1
     → (digits : List ℕ) × IsDecimal digits x.0 × Spaced (digits ∷ (c ∷ []) ∷ tokens) line
 unfolding number_then
 number_then-takes c tokens line x e s =
-    let a = bind_some (number_at (after_blanks line)) (λ n. past c (after_blanks n.1) >>= λ rest. Some (n.0, rest)) x e in
+    let a =
+    bind_some (number_at (after_blanks line)) (λ n. past c (after_blanks n.1) >>= λ rest. Some (n.0, rest)) x e in
     let b = bind_some (past c (after_blanks a.0.1)) (λ rest. Some (a.0.0, rest)) x a.2 in
     let t = number_at-takes (after_blanks line) a.0.0 a.0.1 a.1 in
     let pair : (a.0.0, b.0) ≡ x = same_Some (a.0.0, b.0) x b.2 in
     let value : a.0.0 ≡ x.0 = ap (λ (p : ℕ × List ℕ). p.0) pair in
     let rest : b.0 ≡ x.1 = ap (λ (p : ℕ × List ℕ). p.1) pair in
-    let behind : Spaced tokens b.0 = subst (Spaced tokens) (sym rest) s in
-    (t.0, subst (IsDecimal t.0) value t.1, Spaced-from t.0 ((c ∷ []) ∷ tokens) line a.0.1 t.2 (mark-takes c tokens a.0.1 b.0 b.1 behind))
+    let behind : Spaced tokens b.0 = subst (Spaced tokens) (sym rest) s in (
+      t.0,
+      subst (IsDecimal t.0) value t.1,
+      Spaced-from t.0 ((c ∷ []) ∷ tokens) line a.0.1 t.2 (mark-takes c tokens a.0.1 b.0 b.1 behind),
+    )
 
-number_then-again : (c : ℕ) (tokens : List (List ℕ)) (line digits : List ℕ) (n : ℕ) → is_blank c ≡ false → (c == c) ≡ true → is_ascii_digit c ≡ false → IsDecimal digits n
+number_then-again : (c : ℕ) (tokens : List (List ℕ)) (line digits : List ℕ) (n : ℕ) → is_blank c ≡ false
+    → (c == c) ≡ true → is_ascii_digit c ≡ false → IsDecimal digits n
     → (s : Spaced (digits ∷ (c ∷ []) ∷ tokens) line) → number_then c line ≡ Some (n, s.4.1)
 unfolding number_then
 number_then-again c tokens line digits n h e d number s =
@@ -72,16 +84,19 @@ number_then-again c tokens line digits n h e d number s =
 
 -- ---- a label
 
-label-takes : (tokens : List (List ℕ)) (line : List ℕ) (x : List ℕ × List ℕ) → label_at (after_blanks line) ≡ Some x → Spaced tokens x.1
+label-takes : (tokens : List (List ℕ)) (line : List ℕ) (x : List ℕ × List ℕ) → label_at (after_blanks line) ≡ Some x
+    → Spaced tokens x.1
     → (spelling : List ℕ) × Label spelling x.0 × Spaced (spelling ∷ tokens) line
 label-takes tokens line x e s =
     let t = label_at-takes (after_blanks line) x.0 x.1 e in
     (t.0, t.1, Spaced-from t.0 tokens line x.1 t.2 s)
 
-label-again : (tokens : List (List ℕ)) (line spelling a : List ℕ) → Label spelling a → (s : Spaced (spelling ∷ tokens) line) → Stops is_word s.1 → HasNoQuote s.1
+label-again : (tokens : List (List ℕ)) (line spelling a : List ℕ) → Label spelling a
+    → (s : Spaced (spelling ∷ tokens) line) → Stops is_word s.1 → HasNoQuote s.1
     → label_at (after_blanks line) ≡ Some (a, s.1)
 label-again tokens line spelling a label s stops none =
-    ap label_at (at_token spelling tokens line (IsToken-label spelling a label) s) ∙ label_at-again spelling a s.1 label stops none
+    ap label_at (at_token spelling tokens line (IsToken-label spelling a label) s)
+    ∙ label_at-again spelling a s.1 label stops none
 
 -- ---- a header
 
@@ -97,19 +112,25 @@ with_end-again rest x s = rw (are_blanks-from rest s) refl
 pub header_at-takes : (line : List ℕ) (x : ℕ × ℕ × ℕ) → header_at line ≡ Some x → Header line x.0 x.1 x.2
 unfolding header_at
 header_at-takes line x e =
-    let a = bind_some (past_des (after_blanks line)) (λ r. past 40 (after_blanks r) >>= λ r. number_then 44 r >>= λ f. number_then 44 f.1 >>= λ m. number_then 41 m.1 >>= λ n. with_end n.1 (f.0, m.0, n.0)) x e in
-    let b = bind_some (past 40 (after_blanks a.0)) (λ r. number_then 44 r >>= λ f. number_then 44 f.1 >>= λ m. number_then 41 m.1 >>= λ n. with_end n.1 (f.0, m.0, n.0)) x a.2 in
-    let f = bind_some (number_then 44 b.0) (λ f. number_then 44 f.1 >>= λ m. number_then 41 m.1 >>= λ n. with_end n.1 (f.0, m.0, n.0)) x b.2 in
+    let a = bind_some (past_des (after_blanks line)) (λ r. past 40 (after_blanks r) >>= λ r. number_then 44 r >>= λ f.
+    number_then 44 f.1 >>= λ m. number_then 41 m.1 >>= λ n. with_end n.1 (f.0, m.0, n.0)) x e in
+    let b = bind_some (past 40 (after_blanks a.0)) (λ r. number_then 44 r >>= λ f. number_then 44 f.1 >>= λ m.
+    number_then 41 m.1 >>= λ n. with_end n.1 (f.0, m.0, n.0)) x a.2 in
+    let f = bind_some (number_then 44 b.0) (λ f. number_then 44 f.1 >>= λ m. number_then 41 m.1 >>= λ n. with_end n.1
+    (f.0, m.0, n.0)) x b.2 in
     let m = bind_some (number_then 44 f.0.1) (λ m. number_then 41 m.1 >>= λ n. with_end n.1 (f.0.0, m.0, n.0)) x f.2 in
     let n = bind_some (number_then 41 m.0.1) (λ n. with_end n.1 (f.0.0, m.0.0, n.0)) x m.2 in
     let end = with_end-takes n.0.1 (f.0.0, m.0.0, n.0.0) x n.2 in
     let states = number_then-takes 41 [] m.0.1 n.0 n.1 end.0 in
     let transitions = number_then-takes 44 (states.0 ∷ codes ")" ∷ []) f.0.1 m.0 m.1 states.2 in
-    let first = number_then-takes 44 (transitions.0 ∷ codes "," ∷ states.0 ∷ codes ")" ∷ []) b.0 f.0 f.1 transitions.2 in
+    let first =
+    number_then-takes 44 (transitions.0 ∷ codes "," ∷ states.0 ∷ codes ")" ∷ []) b.0 f.0 f.1 transitions.2 in
     let tokens = first.0 ∷ codes "," ∷ transitions.0 ∷ codes "," ∷ states.0 ∷ codes ")" ∷ [] in
     let bracket = mark-takes 40 tokens a.0 b.0 b.1 first.2 in
-    let whole = Spaced-from (codes "des") (codes "(" ∷ tokens) line a.0 (des-takes (after_blanks line) a.0 a.1) bracket in
-    let found : Header line f.0.0 m.0.0 n.0.0 = (first.0, transitions.0, states.0, first.1, transitions.1, states.1, whole) in
+    let whole =
+    Spaced-from (codes "des") (codes "(" ∷ tokens) line a.0 (des-takes (after_blanks line) a.0 a.1) bracket in
+    let found : Header line f.0.0 m.0.0 n.0.0 =
+    (first.0, transitions.0, states.0, first.1, transitions.1, states.1, whole) in
     subst (λ (y : ℕ × ℕ × ℕ). Header line y.0 y.1 y.2) end.1 found
 
 pub header_at-again : (line : List ℕ) (f m n : ℕ) → Header line f m n → header_at line ≡ Some (f, m, n)
@@ -121,7 +142,8 @@ header_at-again line f m n h =
     let transitions = first.4.4 in
     let states = transitions.4.4 in
     let tokens = h.0 ∷ codes "," ∷ h.1 ∷ codes "," ∷ h.2 ∷ codes ")" ∷ [] in
-    let at_des : past_des (after_blanks line) ≡ Some des.1 = ap past_des (at_token (codes "des") (codes "(" ∷ tokens) line refl des) ∙ des-again des.1 in
+    let at_des : past_des (after_blanks line) ≡ Some des.1 =
+    ap past_des (at_token (codes "des") (codes "(" ∷ tokens) line refl des) ∙ des-again des.1 in
     rw (
       at_des,
       mark-again 40 tokens des.1 refl refl bracket,
@@ -135,12 +157,14 @@ header_at-again line f m n h =
 
 -- a label and a target, with blanks before, between and after them
 abbrev Ending : List ℕ → List ℕ → ℕ → Type 0
-Ending line a t = (label target : List ℕ) × Label label a × IsDecimal target t × Spaced (label ∷ codes "," ∷ target ∷ codes ")" ∷ []) line
+Ending line a t = (label target : List ℕ) × Label label a × IsDecimal target t
+    × Spaced (label ∷ codes "," ∷ target ∷ codes ")" ∷ []) line
 
 ending_at-takes : (line : List ℕ) (x : List ℕ × ℕ) → ending_at (after_blanks line) ≡ Some x → Ending line x.0 x.1
 unfolding ending_at
 ending_at-takes line x e =
-    let a = bind_some (label_at (after_blanks line)) (λ a. past 44 (after_blanks a.1) >>= λ r. number_then 41 r >>= λ t. with_end t.1 (a.0, t.0)) x e in
+    let a = bind_some (label_at (after_blanks line)) (λ a. past 44 (after_blanks a.1) >>= λ r. number_then 41 r >>= λ t.
+    with_end t.1 (a.0, t.0)) x e in
     let c = bind_some (past 44 (after_blanks a.0.1)) (λ r. number_then 41 r >>= λ t. with_end t.1 (a.0.0, t.0)) x a.2 in
     let t = bind_some (number_then 41 c.0) (λ t. with_end t.1 (a.0.0, t.0)) x c.2 in
     let end = with_end-takes t.0.1 (a.0.0, t.0.0) x t.2 in
@@ -155,7 +179,8 @@ HasNoQuote-number digits n number =
     let digit : (d : ℕ) → d < 10 → HasNoQuote ((48 + d) ∷ []) = λ d _. (ne_eqb (48 + d) 34 (λ e. omega arith), tt) in
     let h : HasNoQuote (decimal n) =
     decimal_by_steps (λ _ ds. HasNoQuote ds) digit
-    (λ k ds _ before. HasNoQuote-append ds ((48 + k % 10) ∷ []) before (digit (k % 10) (omega arith))) n (omega (arith, number.0)) in
+    (λ k ds _ before. HasNoQuote-append ds ((48 + k % 10) ∷ []) before (digit (k % 10) (omega arith))) n
+    (omega (arith, number.0)) in
     rw number.1 h
 
 ending_at-again : (line a : List ℕ) (t : ℕ) → Ending line a t → ending_at (after_blanks line) ≡ Some (a, t)
@@ -166,7 +191,8 @@ ending_at-again line a t h =
     let target = comma.4 in
     let behind = h.1 ∷ codes ")" ∷ [] in
     let stops = Stops-mark is_word 44 behind label.1 blanks_no_words refl comma in
-    let none = HasNoQuote-spaced (codes "," ∷ behind) label.1 ((refl, tt), (HasNoQuote-number h.1 t h.3, ((refl, tt), tt))) comma in
+    let none = HasNoQuote-spaced (codes "," ∷ behind) label.1
+    ((refl, tt), (HasNoQuote-number h.1 t h.3, ((refl, tt), tt))) comma in
     rw (
       label-again (codes "," ∷ behind) line h.0 a h.2 label stops none,
       mark-again 44 behind label.1 refl refl comma,
@@ -176,20 +202,25 @@ ending_at-again line a t h =
 
 -- ---- a transition
 
-pub transition_at-takes : (line : List ℕ) (x : ℕ × List ℕ × ℕ) → transition_at line ≡ Some x → TransitionLine line x.0 x.1 x.2
+pub transition_at-takes : (line : List ℕ) (x : ℕ × List ℕ × ℕ) → transition_at line ≡ Some x →
+    TransitionLine line x.0 x.1 x.2
 unfolding transition_at
 transition_at-takes line x e =
-    let b = bind_some (past 40 (after_blanks line)) (λ r. number_then 44 r >>= λ s. ending_at (after_blanks s.1) >>= λ n. Some (s.0, n.0, n.1)) x e in
+    let b = bind_some (past 40 (after_blanks line)) (λ r. number_then 44 r >>= λ s. ending_at (after_blanks s.1) >>=
+    λ n. Some (s.0, n.0, n.1)) x e in
     let s = bind_some (number_then 44 b.0) (λ s. ending_at (after_blanks s.1) >>= λ n. Some (s.0, n.0, n.1)) x b.2 in
     let n = bind_some (ending_at (after_blanks s.0.1)) (λ n. Some (s.0.0, n.0, n.1)) x s.2 in
     let ending = ending_at-takes s.0.1 n.0 n.1 in
     let tokens = ending.0 ∷ codes "," ∷ ending.1 ∷ codes ")" ∷ [] in
     let source = number_then-takes 44 tokens b.0 s.0 s.1 ending.4 in
     let whole = mark-takes 40 (source.0 ∷ codes "," ∷ tokens) line b.0 b.1 source.2 in
-    let found : TransitionLine line s.0.0 n.0.0 n.0.1 = (source.0, ending.0, ending.1, source.1, ending.2, ending.3, whole) in
-    subst (λ (y : ℕ × List ℕ × ℕ). TransitionLine line y.0 y.1 y.2) {x = (s.0.0, n.0.0, n.0.1)} (same_Some (s.0.0, n.0.0, n.0.1) x n.2) found
+    let found : TransitionLine line s.0.0 n.0.0 n.0.1 =
+    (source.0, ending.0, ending.1, source.1, ending.2, ending.3, whole) in
+    subst (λ (y : ℕ × List ℕ × ℕ). TransitionLine line y.0 y.1 y.2) {x = (s.0.0, n.0.0, n.0.1)}
+    (same_Some (s.0.0, n.0.0, n.0.1) x n.2) found
 
-pub transition_at-again : (line : List ℕ) (s : ℕ) (a : List ℕ) (t : ℕ) → TransitionLine line s a t → transition_at line ≡ Some (s, a, t)
+pub transition_at-again : (line : List ℕ) (s : ℕ) (a : List ℕ) (t : ℕ) → TransitionLine line s a t →
+    transition_at line ≡ Some (s, a, t)
 unfolding transition_at
 transition_at-again line s a t h =
     let bracket = h.6 in
@@ -215,7 +246,8 @@ pub hide_line_at-again : (line a : List ℕ) → HideLine line a → hide_line_a
 unfolding hide_line_at
 hide_line_at-again line a h =
     let rest = h.2.1 in
-    rw (label-again [] line h.0 a h.1 h.2 (Stops-blanks is_word rest blanks_no_words h.2.4) (HasNoQuote-blanks rest h.2.4))
+    rw (label-again [] line h.0 a h.1 h.2 (Stops-blanks is_word rest blanks_no_words h.2.4)
+    (HasNoQuote-blanks rest h.2.4))
     (with_end-again rest a h.2.4)
 
 -- ---- what a line gives
@@ -223,7 +255,8 @@ hide_line_at-again line a h =
 pub transition-label : (line : List ℕ) (s : ℕ) (a : List ℕ) (t : ℕ) → TransitionLine line s a t → IsLabel a
 transition-label line s a t h = IsLabel-spelled h.1 a h.4
 
-pub transition-numbers : (line : List ℕ) (s : ℕ) (a : List ℕ) (t : ℕ) → TransitionLine line s a t → (s < 10 ^ 10) × (t < 10 ^ 10)
+pub transition-numbers : (line : List ℕ) (s : ℕ) (a : List ℕ) (t : ℕ) → TransitionLine line s a t →
+    (s < 10 ^ 10) × (t < 10 ^ 10)
 transition-numbers line s a t h = (h.3.0, h.5.0)
 
 pub hide_line-label : (line a : List ℕ) → HideLine line a → IsLabel a

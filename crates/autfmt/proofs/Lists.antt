@@ -1,5 +1,6 @@
 -- Lemmas on lists.
-use Rattle.std.proofs.Common.{◌≡◌, ℕ, ◌+◌, ◌-◌, ◌≤◌, List, [], ◌∷◌, ◌++◌, All, length, take, drop, refl, sym, ◌∙◌, ap, ap₂, arith}
+use Rattle.std.proofs.Common.{◌≡◌, ℕ, ◌+◌, ◌-◌, ◌≤◌, List, [], ◌∷◌, ◌++◌, All, length, take, drop, refl, sym, ◌∙◌, ap}
+use Rattle.std.proofs.Common.{ap₂, arith}
 use Rattle.std.proofs.lemmas.List.{append_assoc, take-append-drop, length-drop, take-take, length-take-le}
 use Rattle.std.specs.List.{AllZip}
 use Rattle.std.proofs.lemmas.List.Elements.{All-nil, All-cons, All-head, All-tail}
@@ -22,7 +23,8 @@ pub begins_with : {A : Type 0} → (at n : ℕ) (run old new : List A) → at �
     take (at + length run) new ≡ take at old ++ run → take (at + n) new ≡ take at old ++ take n run
 begins_with at n run old new room short is =
     sym (take-take (at + n) (at + length run) new (omega arith)) ∙ ap (take (at + n)) is
-    ∙ ap (λ k. take (k + n) (take at old ++ run)) (sym (length-take-le at old room)) ∙ take-append-add (take at old) run n
+    ∙ ap (λ k. take (k + n) (take at old ++ run)) (sym (length-take-le at old room))
+    ∙ take-append-add (take at old) run n
 
 -- one pair more at the end
 pub AllZip-push :
@@ -34,12 +36,13 @@ AllZip-push R (a ∷ xs) [] x y zipped r = absurd zipped
 AllZip-push R (a ∷ xs) (b ∷ ys) x y zipped r = (zipped.0, AllZip-push R xs ys x y zipped.1 r)
 
 -- what holds of each first one of a pair
-pub AllZip-firsts :
-    {A B : Type 0} (R : A → B → Type 0) (P : A → Type 0) → ((x : A) (y : B) → R x y → P x) → (xs : List A) (ys : List B) →
+pub AllZip-firsts : {A B : Type 0} (R : A → B → Type 0) (P : A → Type 0) → ((x : A) (y : B) → R x y → P x) →
+    (xs : List A) (ys : List B) →
     AllZip R xs ys → All P xs
 AllZip-firsts R P each [] ys zipped = All-nil P
 AllZip-firsts R P each (a ∷ xs) [] zipped = absurd zipped
-AllZip-firsts R P each (a ∷ xs) (b ∷ ys) zipped = All-cons P a xs (each a b zipped.0) (AllZip-firsts R P each xs ys zipped.1)
+AllZip-firsts R P each (a ∷ xs) (b ∷ ys) zipped =
+    All-cons P a xs (each a b zipped.0) (AllZip-firsts R P each xs ys zipped.1)
 
 -- where each first one has one second one, the first ones tell the second ones
 pub AllZip-unique :

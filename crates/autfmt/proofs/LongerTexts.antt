@@ -15,7 +15,8 @@ ended_go_on given more ended lines c l =
     let whole : with_line_feeds ended ++ more ≡ given ++ more =
     ap (λ (t : List ℕ). t ++ more) (sym (append-nil (with_line_feeds ended)) ∙ sym c.whole) in
     subst (λ (ls : List (List ℕ)). Lines (given ++ more) (ls ++ (lines_of more).0)) same
-    (subst (λ (t : List ℕ). Lines t (ended ++ (lines_of more).0)) whole (Lines-behind ended more (lines_of more).0 c.lines (lines_of more).1))
+    (subst (λ (t : List ℕ). Lines t (ended ++ (lines_of more).0)) whole (Lines-behind ended more (lines_of more).0
+    c.lines (lines_of more).1))
 
 -- of lines of which the last one grows each stays, and may have grown
 line_stays :
@@ -23,8 +24,11 @@ line_stays :
     (t : List ℕ) × (os : List (List ℕ)) × (ended ++ (rest ++ tail) ∷ more ≡ front ++ (line ++ t) ∷ os)
 line_stays [] [] others more line rest tail e = let same : rest ≡ line = cc in (tail, more, cc)
 line_stays [] (l ∷ ended) others more line rest tail e =
-    let same : l ≡ line = cc in
-    ([], ended ++ (rest ++ tail) ∷ more, ap (λ (x : List ℕ). x ∷ (ended ++ (rest ++ tail) ∷ more)) (same ∙ sym (append-nil line)))
+    let same : l ≡ line = cc in (
+      [],
+      ended ++ (rest ++ tail) ∷ more,
+      ap (λ (x : List ℕ). x ∷ (ended ++ (rest ++ tail) ∷ more)) (same ∙ sym (append-nil line)),
+    )
 line_stays (f ∷ []) [] others more line rest tail e = absurd cc
 line_stays (f ∷ g ∷ front) [] others more line rest tail e = absurd cc
 line_stays (f ∷ front) (l ∷ ended) others more line rest tail e =
@@ -45,7 +49,8 @@ line_grows given more front others line (ended, rest, c, is) = step rest c is
         let tail = (lines_of more).0 in
         let l = ended_go_on given more ended (front ++ line ∷ others) c (ended, [], c, is) in
         let same : (front ++ line ∷ others) ++ tail ≡ front ++ (line ++ []) ∷ (others ++ tail) =
-        append_assoc front (line ∷ others) tail ∙ ap (λ (x : List ℕ). front ++ x ∷ (others ++ tail)) (sym (append-nil line)) in
+        append_assoc front (line ∷ others) tail ∙ ap (λ (x : List ℕ). front ++ x ∷ (others ++ tail))
+        (sym (append-nil line)) in
         ([], others ++ tail, subst (λ (ls : List (List ℕ)). Lines (given ++ more) ls) same l)
     step (b ∷ bs) c is =
         let (tail, behind, l) = first_begins (b ∷ bs) more c.one (omega arith) in

@@ -1,5 +1,6 @@
 -- Reading a number: what is read is the decimal of its value, and each decimal of at most ten digits is read.
-use Rattle.std.proofs.Common.{◌≡◌, ℕ, ◌+◌, ◌-◌, ◌*◌, ◌/◌, ◌%◌, ◌^◌, ◌<◌, ◌≤◌, true, false, cond, List, [], ◌∷◌, ◌++◌, Option, Some, None, refl, sym, ap, ◌∙◌, inl, inr, append_assoc, arith}
+use Rattle.std.proofs.Common.{◌≡◌, ℕ, ◌+◌, ◌-◌, ◌*◌, ◌/◌, ◌%◌, ◌^◌, ◌<◌, ◌≤◌, true, false, cond, List, [], ◌∷◌, ◌++◌}
+use Rattle.std.proofs.Common.{Option, Some, None, refl, sym, ap, ◌∙◌, inl, inr, append_assoc, arith}
 use Rattle.std.specs.Prelude.{decimal, nat_lt}
 use Rattle.std.specs.Char.{is_ascii_digit}
 use Rattle.std.proofs.lemmas.Bool.{cond_both, and_parts, and_from, ltb-true, lt-ltb}
@@ -41,12 +42,19 @@ record Took (v : ℕ) (bytes : List ℕ) (n : ℕ) (rest : List ℕ) : Type 0 wh
   value : decimal n ≡ decimal v ++ digits
   small : n < 10 ^ 10
 
-more_digits-done : (v : ℕ) (bytes : List ℕ) (n : ℕ) (rest : List ℕ) → v < 10 ^ 10 → ◌≡◌ {A = Option (ℕ × List ℕ)} (Some (v, bytes)) (Some (n, rest)) → Took v bytes n rest
+more_digits-done : (v : ℕ) (bytes : List ℕ) (n : ℕ) (rest : List ℕ) → v < 10 ^ 10 →
+    ◌≡◌ {A = Option (ℕ × List ℕ)} (Some (v, bytes)) (Some (n, rest)) → Took v bytes n rest
 more_digits-done v bytes n rest small e =
     let p = some_pair_parts v n bytes rest e in
-    record { digits = []; parts = p.1; value = ap decimal (sym p.0) ∙ sym (append-nil (decimal v)); small = omega (arith, p.0) }
+    record {
+      digits = [];
+      parts = p.1;
+      value = ap decimal (sym p.0) ∙ sym (append-nil (decimal v));
+      small = omega (arith, p.0);
+    }
 
-more_digits-one : (v d : ℕ) (b : ℕ) (bytes : List ℕ) (n : ℕ) (rest : List ℕ) → b ≡ 48 + d → decimal (10 * v + d) ≡ decimal v ++ ((48 + d) ∷ []) → Took (10 * v + d) bytes n rest → Took v (b ∷ bytes) n rest
+more_digits-one : (v d : ℕ) (b : ℕ) (bytes : List ℕ) (n : ℕ) (rest : List ℕ) → b ≡ 48 + d →
+    decimal (10 * v + d) ≡ decimal v ++ ((48 + d) ∷ []) → Took (10 * v + d) bytes n rest → Took v (b ∷ bytes) n rest
 more_digits-one v d b bytes n rest is step t =
     record {
       digits = (48 + d) ∷ t.digits;
@@ -55,12 +63,15 @@ more_digits-one v d b bytes n rest is step t =
       small = t.small;
     }
 
-more_digits-takes : (v : ℕ) (bytes : List ℕ) (n : ℕ) (rest : List ℕ) → v < 10 ^ 10 → more_digits v bytes ≡ Some (n, rest) → Took v bytes n rest
+more_digits-takes : (v : ℕ) (bytes : List ℕ) (n : ℕ) (rest : List ℕ) → v < 10 ^ 10 →
+    more_digits v bytes ≡ Some (n, rest) → Took v bytes n rest
 unfolding more_digits
 more_digits-takes v [] n rest small e = more_digits-done v [] n rest small e
 more_digits-takes v (b ∷ bytes) n rest small e =
-    cond_both (is_ascii_digit b) (cond (grows v) (more_digits (10 * v + (b - 48)) bytes) None) (Some (v, b ∷ bytes)) (λ r. r ≡ Some (n, rest) → Took v (b ∷ bytes) n rest)
-    (λ digit. cond_both (grows v) (more_digits (10 * v + (b - 48)) bytes) None (λ r. r ≡ Some (n, rest) → Took v (b ∷ bytes) n rest)
+    cond_both (is_ascii_digit b) (cond (grows v) (more_digits (10 * v + (b - 48)) bytes) None) (Some (v, b ∷ bytes))
+    (λ r. r ≡ Some (n, rest) → Took v (b ∷ bytes) n rest)
+    (λ digit. cond_both (grows v) (more_digits (10 * v + (b - 48)) bytes) None (λ r. r ≡ Some (n, rest) →
+    Took v (b ∷ bytes) n rest)
     (λ may f.
     let h = and_parts (nat_lt 0 v) (nat_lt v (10 ^ 9)) may in
     let low : 0 < v = ltb-true 0 v h.0 in
@@ -72,16 +83,19 @@ more_digits-takes v (b ∷ bytes) n rest small e =
     (λ _ f. more_digits-done v (b ∷ bytes) n rest small f)
     e
 
-pub number_at-takes : (bytes : List ℕ) (n : ℕ) (rest : List ℕ) → number_at bytes ≡ Some (n, rest) → (digits : List ℕ) × IsDecimal digits n × (bytes ≡ digits ++ rest)
+pub number_at-takes : (bytes : List ℕ) (n : ℕ) (rest : List ℕ) → number_at bytes ≡ Some (n, rest) →
+    (digits : List ℕ) × IsDecimal digits n × (bytes ≡ digits ++ rest)
 unfolding number_at
 number_at-takes [] n rest e = absurd cc
 number_at-takes (b ∷ bytes) n rest e =
-    cond_both (is_ascii_digit b) (more_digits (b - 48) bytes) None (λ r. r ≡ Some (n, rest) → (digits : List ℕ) × IsDecimal digits n × (b ∷ bytes ≡ digits ++ rest))
+    cond_both (is_ascii_digit b) (more_digits (b - 48) bytes) None (λ r. r ≡ Some (n, rest) →
+    (digits : List ℕ) × IsDecimal digits n × (b ∷ bytes ≡ digits ++ rest))
     (λ digit f.
     let range = digit-range b digit in
     let t = more_digits-takes (b - 48) bytes n rest (omega arith) f in
     let is : 48 + (b - 48) ≡ b = omega arith in
-    let value : decimal n ≡ b ∷ t.digits = t.value ∙ ap (λ (x : List ℕ). x ++ t.digits) (decimal_digit (b - 48) (omega arith)) ∙ ap (λ (x : ℕ). x ∷ t.digits) is in
+    let value : decimal n ≡ b ∷ t.digits = t.value ∙ ap (λ (x : List ℕ). x ++ t.digits)
+    (decimal_digit (b - 48) (omega arith)) ∙ ap (λ (x : ℕ). x ∷ t.digits) is in
     (b ∷ t.digits, (t.small, sym value), ap (λ (x : List ℕ). b ∷ x) t.parts))
     (λ _ f. absurd cc)
     e
@@ -103,7 +117,8 @@ unfolding more_digits
 Leads-more n digits h before small tail =
     let digit : n % 10 < 10 = omega arith in
     let value : 10 * (n / 10) + (48 + n % 10 - 48) ≡ n = omega arith in
-    let may : grows (n / 10) ≡ true = and_from (nat_lt 0 (n / 10)) (nat_lt (n / 10) (10 ^ 9)) (lt-ltb 0 (n / 10) (omega arith)) (lt-ltb (n / 10) (10 ^ 9) (omega arith)) in
+    let may : grows (n / 10) ≡ true = and_from (nat_lt 0 (n / 10)) (nat_lt (n / 10) (10 ^ 9))
+    (lt-ltb 0 (n / 10) (omega arith)) (lt-ltb (n / 10) (10 ^ 9) (omega arith)) in
     ap number_at (append_assoc digits ((48 + n % 10) ∷ []) tail) ∙ before (omega arith) ((48 + n % 10) ∷ tail)
     ∙ rw (digit-test (n % 10) digit, may, value) refl
 
@@ -112,7 +127,8 @@ unfolding more_digits
 more_digits-stops n [] h = refl
 more_digits-stops n (b ∷ rest) h = rw h refl
 
-pub number_at-again : (digits : List ℕ) (n : ℕ) (rest : List ℕ) → IsDecimal digits n → Stops is_ascii_digit rest → number_at (digits ++ rest) ≡ Some (n, rest)
+pub number_at-again : (digits : List ℕ) (n : ℕ) (rest : List ℕ) → IsDecimal digits n → Stops is_ascii_digit rest →
+    number_at (digits ++ rest) ≡ Some (n, rest)
 number_at-again digits n rest number stops =
     let leads : Leads n (decimal n) = decimal_by_steps Leads Leads-one Leads-more n (omega (arith, number.0)) in
     ap (λ (x : List ℕ). number_at (x ++ rest)) number.1 ∙ leads number.0 rest ∙ more_digits-stops n rest stops
@@ -125,5 +141,6 @@ IsToken-append (b ∷ bs) tail h = h
 
 pub IsToken-number : (digits : List ℕ) (n : ℕ) → IsDecimal digits n → IsToken digits
 IsToken-number digits n number =
-    let h : IsToken (decimal n) = decimal_by_steps (λ _ ds. IsToken ds) (λ k _. digit-not_blank k) (λ k ds _ before. IsToken-append ds ((48 + k % 10) ∷ []) before) n (omega (arith, number.0)) in
+    let h : IsToken (decimal n) = decimal_by_steps (λ _ ds. IsToken ds) (λ k _. digit-not_blank k)
+    (λ k ds _ before. IsToken-append ds ((48 + k % 10) ∷ []) before) n (omega (arith, number.0)) in
     rw number.1 h

@@ -1,5 +1,6 @@
 -- Labels and their test; reading a plain label.
-use Rattle.std.proofs.Common.{◌≡◌, ℕ, suc, ◌+◌, ◌<◌, ◌≤◌, true, false, cond, List, [], ◌∷◌, ◌++◌, length, take, drop, All, Option, Some, None, refl, sym, ap, subst, ◌∙◌, inl, inr, arith}
+use Rattle.std.proofs.Common.{◌≡◌, ℕ, suc, ◌+◌, ◌<◌, ◌≤◌, true, false, cond, List, [], ◌∷◌, ◌++◌, length, take, drop}
+use Rattle.std.proofs.Common.{All, Option, Some, None, refl, sym, ap, subst, ◌∙◌, inl, inr, arith}
 use Rattle.std.specs.Prelude.{nat_le, ◌&&◌, ◌==◌}
 use Rattle.std.specs.Char.{is_ascii_digit}
 use Rattle.std.specs.List.{list_all}
@@ -15,15 +16,19 @@ use Rattle.autfmt.specs.Reading.{◌>>=◌, is_blank, is_word, word_len, plain_a
 use Rattle.autfmt.proofs.Blanks.{Stops, FailsBlanks}
 
 -- the value of a step that did not fail
-pub bind_some : {A B : Type 0} (r : Option A) (f : A → Option B) (y : B) → (r >>= f) ≡ Some y → (x : A) × (r ≡ Some x) × (f x ≡ Some y)
+pub bind_some : {A B : Type 0} (r : Option A) (f : A → Option B) (y : B) → (r >>= f) ≡ Some y →
+    (x : A) × (r ≡ Some x) × (f x ≡ Some y)
 bind_some (Some x) f y e = (x, refl, e)
 bind_some None f y e = absurd cc
 
 -- ---- labels and their test
 
-is_printable-decides : (a : List ℕ) → (list_all (λ b. nat_le 0x20 b && nat_le b 0x7E) a ≡ true → All (λ b. (0x20 ≤ b) × (b ≤ 0x7E)) a) × (All (λ b. (0x20 ≤ b) × (b ≤ 0x7E)) a → list_all (λ b. nat_le 0x20 b && nat_le b 0x7E) a ≡ true)
+is_printable-decides : (a : List ℕ) → (list_all (λ b. nat_le 0x20 b && nat_le b 0x7E) a ≡ true →
+    All (λ b. (0x20 ≤ b) × (b ≤ 0x7E)) a) × (All (λ b. (0x20 ≤ b) × (b ≤ 0x7E)) a →
+    list_all (λ b. nat_le 0x20 b && nat_le b 0x7E) a ≡ true)
 is_printable-decides a =
-    Decides-by_and (λ b. nat_le 0x20 b && nat_le b 0x7E) (λ b. (0x20 ≤ b) × (b ≤ 0x7E)) (list_all (λ b. nat_le 0x20 b && nat_le b 0x7E))
+    Decides-by_and (λ b. nat_le 0x20 b && nat_le b 0x7E) (λ b. (0x20 ≤ b) × (b ≤ 0x7E))
+    (list_all (λ b. nat_le 0x20 b && nat_le b 0x7E))
     (λ b. (
       λ e. let h = and_parts (nat_le 0x20 b) (nat_le b 0x7E) e in (leb-true 0x20 b h.0, leb-true b 0x7E h.1),
       λ h. and_from (nat_le 0x20 b) (nat_le b 0x7E) (le-leb 0x20 b h.0) (le-leb b 0x7E h.1),
@@ -32,14 +37,20 @@ is_printable-decides a =
 
 pub IsLabel-from_test : (a : List ℕ) → is_label a ≡ true → IsLabel a
 IsLabel-from_test a e =
-    let h = and_parts (nat_le 1 (length a) && nat_le (length a) 8000) (list_all (λ b. nat_le 0x20 b && nat_le b 0x7E) a) e in
+    let h = and_parts (nat_le 1 (length a) && nat_le (length a) 8000) (list_all (λ b. nat_le 0x20 b && nat_le b 0x7E) a)
+    e in
     let k = and_parts (nat_le 1 (length a)) (nat_le (length a) 8000) h.0 in
-    record { not_empty = leb-true 1 (length a) k.0; short = leb-true (length a) 8000 k.1; printable = (is_printable-decides a).0 h.1 }
+    record {
+      not_empty = leb-true 1 (length a) k.0;
+      short = leb-true (length a) 8000 k.1;
+      printable = (is_printable-decides a).0 h.1;
+    }
 
 pub test-IsLabel : (a : List ℕ) → IsLabel a → is_label a ≡ true
 test-IsLabel a h =
     and_from (nat_le 1 (length a) && nat_le (length a) 8000) (list_all (λ b. nat_le 0x20 b && nat_le b 0x7E) a)
-    (and_from (nat_le 1 (length a)) (nat_le (length a) 8000) (le-leb 1 (length a) h.not_empty) (le-leb (length a) 8000 h.short))
+    (and_from (nat_le 1 (length a)) (nat_le (length a) 8000) (le-leb 1 (length a) h.not_empty)
+    (le-leb (length a) 8000 h.short))
     ((is_printable-decides a).1 h.printable)
 
 -- ---- plain labels
@@ -89,7 +100,8 @@ IsLabel-plain (b ∷ bs) e =
     record {
       not_empty = omega arith;
       short = p.short;
-      printable = All-cons (λ b. (0x20 ≤ b) × (b ≤ 0x7E)) b bs (word-range b (letter-word b p.letter)) (words_printable bs p.words);
+      printable = All-cons (λ b. (0x20 ≤ b) × (b ≤ 0x7E)) b bs (word-range b (letter-word b p.letter))
+          (words_printable bs p.words);
     }
 
 words_in_front : (bs : List ℕ) → list_all is_word (take (word_len bs) bs) ≡ true
@@ -98,7 +110,8 @@ words_in_front bs =
     let below : k < word_len bs = omega (arith, length-take (word_len bs) bs) in
     ap is_word (get_or-take (word_len bs) bs k d below) ∙ prefix_len_passes is_word bs k d below)
 
-word_len-words : (bs rest : List ℕ) → list_all is_word bs ≡ true → Stops is_word rest → word_len (bs ++ rest) ≡ length bs
+word_len-words : (bs rest : List ℕ) → list_all is_word bs ≡ true → Stops is_word rest →
+    word_len (bs ++ rest) ≡ length bs
 word_len-words [] [] words stops = refl
 word_len-words [] (c ∷ rest) words stops = rw stops refl
 word_len-words (b ∷ bs) rest words stops =
@@ -107,7 +120,8 @@ word_len-words (b ∷ bs) rest words stops =
     let one : 1 + word_len (bs ++ rest) ≡ suc (length bs) = omega (arith, more) in
     rw h.0 one
 
-pub plain_at-takes : (bytes a rest : List ℕ) → plain_at bytes ≡ Some (a, rest) → (is_plain a ≡ true) × (bytes ≡ a ++ rest)
+pub plain_at-takes : (bytes a rest : List ℕ) → plain_at bytes ≡ Some (a, rest) →
+    (is_plain a ≡ true) × (bytes ≡ a ++ rest)
 unfolding plain_at
 plain_at-takes [] a rest e = absurd cc
 plain_at-takes (b ∷ bs) a rest e =
@@ -121,7 +135,8 @@ plain_at-takes (b ∷ bs) a rest e =
     let label : b ∷ take (word_len bs) bs ≡ a = ap (λ (m : ℕ). take m (b ∷ bs)) (sym len) ∙ front in
     let small : n ≤ 8000 = leb-true n 8000 k.1 in
     let short : length (b ∷ take (word_len bs) bs) ≤ 8000 = omega (arith, length-take (word_len bs) bs) in (
-      ap is_plain (sym label) ∙ plain-test b (take (word_len bs) bs) (record { letter = k.0; words = words_in_front bs; short = short }),
+      ap is_plain (sym label) ∙ plain-test b (take (word_len bs) bs)
+          (record { letter = k.0; words = words_in_front bs; short = short }),
       rw (← front, ← behind) (sym (take-append-drop n (b ∷ bs))),
     )
 
@@ -130,9 +145,13 @@ unfolding plain_at
 plain_at-again [] rest e stops = absurd cc
 plain_at-again (b ∷ bs) rest e stops =
     let p = Plain-from b bs e in
-    let words : list_all is_word (b ∷ bs) ≡ true = and_from (is_word b) (list_all is_word bs) (letter-word b p.letter) p.words in
+    let words : list_all is_word (b ∷ bs) ≡ true =
+    and_from (is_word b) (list_all is_word bs) (letter-word b p.letter) p.words in
     let len : word_len (b ∷ bs ++ rest) ≡ length (b ∷ bs) = word_len-words (b ∷ bs) rest words stops in
-    let P : ℕ → Type 0 = λ n. cond {A = Option (List ℕ × List ℕ)} (is_letter b && nat_le n 8000) (Some (take n (b ∷ bs ++ rest), drop n (b ∷ bs ++ rest))) None ≡ Some (b ∷ bs, rest) in
-    let test : (is_letter b && nat_le (length (b ∷ bs)) 8000) ≡ true = and_from (is_letter b) (nat_le (length (b ∷ bs)) 8000) p.letter (le-leb (length (b ∷ bs)) 8000 p.short) in
-    let whole : P (length (b ∷ bs)) = rw (test, take_at (b ∷ bs) rest (length (b ∷ bs)) refl, drop_at (b ∷ bs) rest (length (b ∷ bs)) refl) refl in
+    let P : ℕ → Type 0 = λ n. cond {A = Option (List ℕ × List ℕ)} (is_letter b && nat_le n 8000)
+    (Some (take n (b ∷ bs ++ rest), drop n (b ∷ bs ++ rest))) None ≡ Some (b ∷ bs, rest) in
+    let test : (is_letter b && nat_le (length (b ∷ bs)) 8000) ≡ true =
+    and_from (is_letter b) (nat_le (length (b ∷ bs)) 8000) p.letter (le-leb (length (b ∷ bs)) 8000 p.short) in
+    let whole : P (length (b ∷ bs)) =
+    rw (test, take_at (b ∷ bs) rest (length (b ∷ bs)) refl, drop_at (b ∷ bs) rest (length (b ∷ bs)) refl) refl in
     subst P (sym len) whole

@@ -1,5 +1,6 @@
 -- Reading a quoted label: it ends at the last quotation mark.
-use Rattle.std.proofs.Common.{◌≡◌, ◌≢◌, ℕ, zero, suc, ◌+◌, ◌<◌, false, cond, List, [], ◌∷◌, ◌++◌, length, get_or, take, drop, Option, Some, None, refl, sym, ap, subst, ◌∙◌, append_assoc, add-one, arith}
+use Rattle.std.proofs.Common.{◌≡◌, ◌≢◌, ℕ, zero, suc, ◌+◌, ◌<◌, false, cond, List, [], ◌∷◌, ◌++◌, length, get_or, take}
+use Rattle.std.proofs.Common.{drop, Option, Some, None, refl, sym, ap, subst, ◌∙◌, append_assoc, add-one, arith}
 use Rattle.std.specs.Prelude.{◌==◌}
 use Rattle.std.specs.List.{AllByRecursion}
 use Rattle.std.proofs.lemmas.Bool.{eqb-true, eq-eqb, ne_eqb}
@@ -25,13 +26,16 @@ blank-no_quote b h = ne_eqb b 34 (λ e. grind arith)
 
 pub HasNoQuote-blanks : (bs : List ℕ) → Blanks bs → HasNoQuote bs
 HasNoQuote-blanks [] h = tt
-HasNoQuote-blanks (b ∷ bs) h = (blank-no_quote b (All-head IsBlank b bs h), HasNoQuote-blanks bs (All-tail IsBlank b bs h))
+HasNoQuote-blanks (b ∷ bs) h =
+    (blank-no_quote b (All-head IsBlank b bs h), HasNoQuote-blanks bs (All-tail IsBlank b bs h))
 
 -- tokens without one make a line without one
-pub HasNoQuote-spaced : (tokens : List (List ℕ)) (line : List ℕ) → AllByRecursion HasNoQuote tokens → Spaced tokens line → HasNoQuote line
+pub HasNoQuote-spaced : (tokens : List (List ℕ)) (line : List ℕ) → AllByRecursion HasNoQuote tokens →
+    Spaced tokens line → HasNoQuote line
 HasNoQuote-spaced [] line none s = HasNoQuote-blanks line s
 HasNoQuote-spaced (token ∷ tokens) line none s =
-    rw s.3 (HasNoQuote-append (s.0 ++ token) s.1 (HasNoQuote-append s.0 token (HasNoQuote-blanks s.0 s.2) none.0) (HasNoQuote-spaced tokens s.1 none.1 s.4))
+    rw s.3 (HasNoQuote-append (s.0 ++ token) s.1 (HasNoQuote-append s.0 token (HasNoQuote-blanks s.0 s.2) none.0)
+    (HasNoQuote-spaced tokens s.1 none.1 s.4))
 
 -- ---- the last quotation mark
 
@@ -63,7 +67,8 @@ HasQuoteAt bytes i = bytes ≡ take i bytes ++ 34 ∷ drop (i + 1) bytes
 last_quote-cuts : (bs : List ℕ) (i : ℕ) → last_quote bs ≡ Some i → HasQuoteAt bs i
 unfolding last_quote
 last_quote-cuts [] i e = absurd cc
-last_quote-cuts (b ∷ bs) i e = by (last_quote bs) (last_quote-cuts bs) (sym (last_quote-step b bs (last_quote bs) refl) ∙ e)
+last_quote-cuts (b ∷ bs) i e =
+    by (last_quote bs) (last_quote-cuts bs) (sym (last_quote-step b bs (last_quote bs) refl) ∙ e)
   where
     by : (o : Option ℕ) → ((j : ℕ) → o ≡ Some j → HasQuoteAt bs j) → before b o ≡ Some i → HasQuoteAt (b ∷ bs) i
     by (Some j) below f =
@@ -84,7 +89,8 @@ last_quote-none_at (b ∷ bs) h =
     let here : (b == 34) ≡ false = ne_eqb b 34 (h 0 (omega arith)) in
     last_quote-step b bs None (last_quote-none_at bs (λ k lt. h (suc k) (omega arith))) ∙ rw here refl
 
-pub last_quote-is : (bs : List ℕ) (i : ℕ) → i < length bs → get_or bs i 0 ≡ 34 → ((k : ℕ) → i < k → k < length bs → get_or bs k 0 ≢ 34) → last_quote bs ≡ Some i
+pub last_quote-is : (bs : List ℕ) (i : ℕ) → i < length bs → get_or bs i 0 ≡ 34 → ((k : ℕ) → i < k → k < length bs →
+    get_or bs k 0 ≢ 34) → last_quote bs ≡ Some i
 last_quote-is [] i lt here after = absurd (omega arith)
 last_quote-is (b ∷ bs) zero lt here after =
     let none = last_quote-none_at bs (λ k lt. after (suc k) (omega arith) (omega arith)) in
@@ -98,16 +104,20 @@ last_quote-is (b ∷ bs) (suc i) lt here after =
 pub quoted_at-takes : (bytes a rest : List ℕ) → quoted_at bytes ≡ Some (a, rest) → IsLabel a × (bytes ≡ a ++ 34 ∷ rest)
 unfolding quoted_at
 quoted_at-takes bytes a rest e =
-    let h = bind_some (last_quote bytes) (λ i. cond {A = Option (List ℕ × List ℕ)} (is_label (take i bytes)) (Some (take i bytes, drop (i + 1) bytes)) None) (a, rest) e in
+    let h = bind_some (last_quote bytes) (λ i. cond {A = Option (List ℕ × List ℕ)} (is_label (take i bytes))
+    (Some (take i bytes, drop (i + 1) bytes)) None) (a, rest) e in
     let k = cond_some (is_label (take h.0 bytes)) (take h.0 bytes, drop (h.0 + 1) bytes) (a, rest) h.2 in
     let front : take h.0 bytes ≡ a = ap (λ (p : List ℕ × List ℕ). p.0) k.1 in
-    let behind : drop (h.0 + 1) bytes ≡ rest = ap (λ (p : List ℕ × List ℕ). p.1) k.1 in
-    (subst IsLabel front (IsLabel-from_test (take h.0 bytes) k.0), last_quote-cuts bytes h.0 h.1 ∙ rw (front, behind) refl)
+    let behind : drop (h.0 + 1) bytes ≡ rest = ap (λ (p : List ℕ × List ℕ). p.1) k.1 in (
+      subst IsLabel front (IsLabel-from_test (take h.0 bytes) k.0),
+      last_quote-cuts bytes h.0 h.1 ∙ rw (front, behind) refl,
+    )
 
 pub quoted_at-again : (a rest : List ℕ) → IsLabel a → HasNoQuote rest → quoted_at (a ++ 34 ∷ rest) ≡ Some (a, rest)
 unfolding quoted_at
 quoted_at-again a rest h none =
-    let behind : drop (length a + 1) (a ++ 34 ∷ rest) ≡ rest = ap (λ (t : List ℕ). drop (length a + 1) t) (sym (append_assoc a (34 ∷ []) rest)) ∙ drop_at (a ++ 34 ∷ []) rest (length a + 1) (length_push a 34) in
+    let behind : drop (length a + 1) (a ++ 34 ∷ rest) ≡ rest = ap (λ (t : List ℕ). drop (length a + 1) t)
+    (sym (append_assoc a (34 ∷ []) rest)) ∙ drop_at (a ++ 34 ∷ []) rest (length a + 1) (length_push a 34) in
     rw (last_quote-at a rest none, take_at a (34 ∷ rest) (length a) refl, test-IsLabel a h, behind) refl
 
 pub quoted_at-none : (bytes : List ℕ) → ((k : ℕ) → k < length bytes → get_or bytes k 0 ≢ 34) → quoted_at bytes ≡ None
@@ -115,7 +125,9 @@ unfolding quoted_at
 quoted_at-none bytes none = rw (last_quote-none_at bytes none) refl
 
 -- what is answered where the last mark is at i
-pub quoted_at-found : (bytes : List ℕ) (i : ℕ) → i < length bytes → get_or bytes i 0 ≡ 34 → ((k : ℕ) → i < k → k < length bytes → get_or bytes k 0 ≢ 34)
-    → quoted_at bytes ≡ cond {A = Option (List ℕ × List ℕ)} (is_label (take i bytes)) (Some (take i bytes, drop (i + 1) bytes)) None
+pub quoted_at-found : (bytes : List ℕ) (i : ℕ) → i < length bytes → get_or bytes i 0 ≡ 34
+    → ((k : ℕ) → i < k → k < length bytes → get_or bytes k 0 ≢ 34)
+    → quoted_at bytes ≡ cond {A = Option (List ℕ × List ℕ)} (is_label (take i bytes))
+    (Some (take i bytes, drop (i + 1) bytes)) None
 unfolding quoted_at
 quoted_at-found bytes i lt here after = rw (last_quote-is bytes i lt here after) refl

@@ -1,10 +1,13 @@
 -- What is written is read again.
-use Rattle.std.proofs.Common.{◌≡◌, ◌≢◌, ℕ, leb, tests, rules, ◌+◌, ◌%◌, ◌<◌, ◌≤◌, ◌^◌, true, List, [], ◌∷◌, ◌++◌, length, map, codes, decimal, refl, sym, ap, ◌∙◌, subst, inl, inr, arith, append_assoc, length-append}
+use Rattle.std.proofs.Common.{◌≡◌, ◌≢◌, ℕ, leb, tests, rules, ◌+◌, ◌%◌, ◌<◌, ◌≤◌, ◌^◌, true, List, [], ◌∷◌, ◌++◌}
+use Rattle.std.proofs.Common.{length, map, codes, decimal, refl, sym, ap, ◌∙◌, subst, inl, inr, arith, append_assoc}
+use Rattle.std.proofs.Common.{length-append}
 use Rattle.std.specs.List.{All, AllZip, AllByRecursion, flat_map, list_all}
 use Rattle.std.proofs.lemmas.Bool.{cond_both}
 use Rattle.std.proofs.lemmas.Fmt.{decimal_by_steps, length-decimal-le}
 use Rattle.std.proofs.lemmas.List.{append-nil}
-use Rattle.std.proofs.lemmas.List.Elements.{All-nil, All-cons, All-append, All-push, All-weaker, All-from_recursion, recursion_from_All}
+use Rattle.std.proofs.lemmas.List.Elements.{All-nil, All-cons, All-append, All-push, All-weaker, All-from_recursion}
+use Rattle.std.proofs.lemmas.List.Elements.{recursion_from_All}
 use Rattle.std.proofs.lemmas.List.Sums.{AllPass-from_list_all}
 use Rattle.std.proofs.lemmas.List.Sorted.{All-permutation, IsPermutation-sym, length_permutation}
 use Rattle.theory.specs.System.{System, Transition, IsSystem, IsAmong, IsLabel}
@@ -22,7 +25,8 @@ pub record Visible (bs : List ℕ) : Type 0 where
 
 abbrev header_line : System → List ℕ
 header_line A =
-    codes "des (" ++ decimal A.first ++ codes ", " ++ decimal (length A.transitions) ++ codes ", " ++ decimal A.states ++ codes ")"
+    codes "des (" ++ decimal A.first ++ codes ", " ++ decimal (length A.transitions) ++ codes ", "
+    ++ decimal A.states ++ codes ")"
 
 pub one_line : (bs : List ℕ) → Visible bs → IsOneLine bs
 one_line bs seen = All-weaker (λ b. 32 ≤ b) (λ b. b ≢ 10) (λ b h e. absurd (omega arith)) bs seen.each
@@ -32,7 +36,10 @@ visible_append a b = record { each = All-append (λ b. 32 ≤ b) _ _ a.each b.ea
 
 -- a literal of the grammar
 pub literal : (bs : List ℕ) → list_all (λ b. leb 32 b) bs ≡ true → Visible bs
-literal bs h = record { each = All-weaker (λ b. leb 32 b ≡ true) (λ b. 32 ≤ b) (λ b k. search (rules, tests)) bs (AllPass-from_list_all (λ b. leb 32 b) bs h) }
+literal bs h = record {
+  each = All-weaker (λ b. leb 32 b ≡ true) (λ b. 32 ≤ b) (λ b k. search (rules, tests)) bs
+      (AllPass-from_list_all (λ b. leb 32 b) bs h);
+}
 
 pub visible_decimal : (n : ℕ) → n < 2 ^ 64 → Visible (decimal n)
 visible_decimal n small =
@@ -47,34 +54,48 @@ seen_spelling : (spelling a : List ℕ) → Label spelling a → Visible spellin
 seen_spelling spelling a (inl h) = let is = IsLabel-plain a h.0 in rw h.1 (seen_label a is, omega (arith, is.short))
 seen_spelling spelling a (inr h) =
     let mark = literal (codes "\"") refl in
-    rw h.1 (visible_append (visible_append mark (seen_label a h.0)) mark, omega (arith, h.0.short, length-append a (codes "\"")))
+    rw h.1 (
+      visible_append (visible_append mark (seen_label a h.0)) mark,
+      omega (arith, h.0.short, length-append a (codes "\"")),
+    )
 
 -- a label is written by a spelling of it
 spells_label : (a : List ℕ) → IsLabel a → Label (written_label a) a
-spells_label a is = cond_both (is_plain a) a (quoted a) (λ spelling. Label spelling a) (λ e. inl (e, refl)) (λ _. inr (is, refl))
+spells_label a is =
+    cond_both (is_plain a) a (quoted a) (λ spelling. Label spelling a) (λ e. inl (e, refl)) (λ _. inr (is, refl))
 
 -- the line of a transition, with b and d behind its commas
 abbrev pub spelled_line : ℕ → List ℕ → List ℕ → List ℕ → ℕ → List ℕ
-spelled_line s b spelling d t = codes "(" ++ decimal s ++ codes "," ++ b ++ spelling ++ codes "," ++ d ++ decimal t ++ codes ")"
+spelled_line s b spelling d t =
+    codes "(" ++ decimal s ++ codes "," ++ b ++ spelling ++ codes "," ++ d ++ decimal t ++ codes ")"
 
-pub spelled_line-one : (s t : ℕ) (b d spelling a : List ℕ) → s < 10 ^ 10 → t < 10 ^ 10 → Visible b → Visible d → Label spelling a → IsOneLine (spelled_line s b spelling d t)
+pub spelled_line-one : (s t : ℕ) (b d spelling a : List ℕ) → s < 10 ^ 10 → t < 10 ^ 10 → Visible b → Visible d →
+    Label spelling a → IsOneLine (spelled_line s b spelling d t)
 spelled_line-one s t b d spelling a source target before between is =
     let comma = literal (codes ",") refl in
-    let first = visible_append (visible_append (visible_append (literal (codes "(") refl) (visible_decimal s (omega arith))) comma) before in
+    let first = visible_append
+    (visible_append (visible_append (literal (codes "(") refl) (visible_decimal s (omega arith))) comma) before in
     let second = visible_append (visible_append (visible_append first (seen_spelling spelling a is).0) comma) between in
     one_line _ (visible_append (visible_append second (visible_decimal t (omega arith))) (literal (codes ")") refl))
 
 pub spelled_line-short :
-    (s t : ℕ) (b d end spelling a : List ℕ) → s < 10 ^ 10 → t < 10 ^ 10 → length b ≤ 1 → length d ≤ 1 → length end ≤ 1 → Label spelling a →
+    (s t : ℕ) (b d end spelling a : List ℕ) → s < 10 ^ 10 → t < 10 ^ 10 → length b ≤ 1 → length d ≤ 1 → length end ≤ 1 →
+    Label spelling a →
     IsShort (spelled_line s b spelling d t ++ end)
 spelled_line-short s t b d end spelling a source target before between behind is =
-    simp length-append (omega (arith, length-decimal-le 10 s (omega arith) source (omega arith), length-decimal-le 10 t (omega arith) target (omega arith), (seen_spelling spelling a is).1))
+    simp length-append (omega (
+      arith,
+      length-decimal-le 10 s (omega arith) source (omega arith),
+      length-decimal-le 10 t (omega arith) target (omega arith),
+      (seen_spelling spelling a is).1,
+    ))
 
 -- the line is the tokens, with blanks between them
 pub record IsSpaced (tokens : List (List ℕ)) (line : List ℕ) : Type 0 where
   pub spaced : Spaced tokens line
 
-pub next : {rest : List ℕ} {tokens : List (List ℕ)} (before token : List ℕ) → Blanks before → IsSpaced tokens rest → IsSpaced (token ∷ tokens) (before ++ token ++ rest)
+pub next : {rest : List ℕ} {tokens : List (List ℕ)} (before token : List ℕ) → Blanks before → IsSpaced tokens rest →
+    IsSpaced (token ∷ tokens) (before ++ token ++ rest)
 next {rest} before token blank s = record { spaced = (before, rest, blank, refl, s.spaced) }
 
 pub none : Blanks []
@@ -84,24 +105,29 @@ pub a_space : Blanks (32 ∷ [])
 a_space = All-from_recursion IsBlank (32 ∷ []) (inl refl, tt)
 
 -- a comma, blanks and a token, and then what follows
-after_comma : {rest : List ℕ} {tokens : List (List ℕ)} (blanks token : List ℕ) → Blanks blanks → IsSpaced tokens rest → IsSpaced (codes "," ∷ token ∷ tokens) (codes "," ++ (blanks ++ token ++ rest))
+after_comma : {rest : List ℕ} {tokens : List (List ℕ)} (blanks token : List ℕ) → Blanks blanks → IsSpaced tokens rest →
+    IsSpaced (codes "," ∷ token ∷ tokens) (codes "," ++ (blanks ++ token ++ rest))
 after_comma blanks token blank s = next [] (codes ",") none (next blanks token blank s)
 
 closed : {rest : List ℕ} → Blanks rest → IsSpaced (codes ")" ∷ []) (codes ")" ++ rest)
 closed {rest} behind = next {rest = rest} {tokens = []} [] (codes ")") none (record { spaced = behind })
 
 pub spaced_line : (s b l d t e : List ℕ) → Blanks b → Blanks d → Blanks e
-    → Spaced (codes "(" ∷ s ∷ codes "," ∷ l ∷ codes "," ∷ t ∷ codes ")" ∷ []) ((codes "(" ++ s ++ codes "," ++ b ++ l ++ codes "," ++ d ++ t ++ codes ")") ++ e)
+    → Spaced (codes "(" ∷ s ∷ codes "," ∷ l ∷ codes "," ∷ t ∷ codes ")" ∷ [])
+    ((codes "(" ++ s ++ codes "," ++ b ++ l ++ codes "," ++ d ++ t ++ codes ")") ++ e)
 spaced_line s b l d t e before between behind =
-    let nested = next [] (codes "(") none (next [] s none (after_comma b l before (after_comma d t between (closed behind)))) in
+    let nested =
+    next [] (codes "(") none (next [] s none (after_comma b l before (after_comma d t between (closed behind)))) in
     subst (Spaced (codes "(" ∷ s ∷ codes "," ∷ l ∷ codes "," ∷ t ∷ codes ")" ∷ [])) (simp append_assoc) nested.spaced
 
-spaced_header : (f m n : List ℕ)
-    → Spaced (codes "des" ∷ codes "(" ∷ f ∷ codes "," ∷ m ∷ codes "," ∷ n ∷ codes ")" ∷ []) (codes "des (" ++ f ++ codes ", " ++ m ++ codes ", " ++ n ++ codes ")")
+spaced_header : (f m n : List ℕ) → Spaced (codes "des" ∷ codes "(" ∷ f ∷ codes "," ∷ m ∷ codes "," ∷ n ∷ codes ")" ∷ [])
+    (codes "des (" ++ f ++ codes ", " ++ m ++ codes ", " ++ n ++ codes ")")
 spaced_header f m n =
-    let numbers = next [] f none (after_comma (codes " ") m a_space (after_comma (codes " ") n a_space (closed {rest = []} none))) in
+    let numbers = next [] f none (after_comma (codes " ") m a_space (after_comma (codes " ") n a_space
+    (closed {rest = []} none))) in
     let nested = next [] (codes "des") none (next (codes " ") (codes "(") a_space numbers) in
-    subst (Spaced (codes "des" ∷ codes "(" ∷ f ∷ codes "," ∷ m ∷ codes "," ∷ n ∷ codes ")" ∷ [])) (simp append_assoc) nested.spaced
+    subst (Spaced (codes "des" ∷ codes "(" ∷ f ∷ codes "," ∷ m ∷ codes "," ∷ n ∷ codes ")" ∷ []))
+    (simp append_assoc) nested.spaced
 
 -- a written line, as a reader sees it
 record IsLine (line : List ℕ) : Type 0 where
@@ -120,25 +146,37 @@ transition_is_line n small e among =
     let space = literal (codes " ") refl in
     let blank = codes " " in
     record {
-      one = spelled_line-one e.source e.target blank blank (written_label e.label) e.label source target space space spelling;
+      one = spelled_line-one e.source e.target blank blank (written_label e.label) e.label source target
+          space space spelling;
       short = subst IsShort (append-nil (transition_line e))
-          (spelled_line-short e.source e.target blank blank [] (written_label e.label) e.label source target (omega arith) (omega arith) (omega arith) spelling);
+          (spelled_line-short e.source e.target blank blank [] (written_label e.label) e.label source target
+          (omega arith) (omega arith) (omega arith) spelling);
     }
 
-header_is_line : (A : System) → A.first < 10 ^ 10 → length A.transitions < 10 ^ 10 → A.states < 10 ^ 10 → IsLine (header_line A)
+header_is_line : (A : System) → A.first < 10 ^ 10 → length A.transitions < 10 ^ 10 → A.states < 10 ^ 10 →
+    IsLine (header_line A)
 header_is_line A first transitions states =
     let comma = literal (codes ", ") refl in
     record {
       one = one_line _ (visible_append (visible_append (visible_append (visible_append (visible_append (visible_append
-          (literal (codes "des (") refl) (visible_decimal A.first (omega arith))) comma) (visible_decimal (length A.transitions) (omega arith))) comma) (visible_decimal A.states (omega arith))) (literal (codes ")") refl));
-      short = simp length-append (omega (arith, length-decimal-le 10 A.first (omega arith) first (omega arith), length-decimal-le 10 (length A.transitions) (omega arith) transitions (omega arith), length-decimal-le 10 A.states (omega arith) states (omega arith)));
+          (literal (codes "des (") refl) (visible_decimal A.first (omega arith))) comma)
+          (visible_decimal (length A.transitions) (omega arith))) comma) (visible_decimal A.states (omega arith)))
+          (literal (codes ")") refl));
+      short = simp length-append (omega (
+        arith,
+        length-decimal-le 10 A.first (omega arith) first (omega arith),
+        length-decimal-le 10 (length A.transitions) (omega arith) transitions (omega arith),
+        length-decimal-le 10 A.states (omega arith) states (omega arith),
+      ));
     }
 
 spells_transition : (n : ℕ) → n < 10 ^ 10 → (e : Transition) → IsAmong n e → SpellsTransition (transition_line e) e
 spells_transition n small e among =
     let blank = codes " " in
-    let spaced = spaced_line (decimal e.source) blank (written_label e.label) blank (decimal e.target) [] a_space a_space none in
-    let tokens = codes "(" ∷ decimal e.source ∷ codes "," ∷ written_label e.label ∷ codes "," ∷ decimal e.target ∷ codes ")" ∷ [] in (
+    let spaced =
+    spaced_line (decimal e.source) blank (written_label e.label) blank (decimal e.target) [] a_space a_space none in
+    let tokens = codes "(" ∷ decimal e.source ∷ codes "," ∷ written_label e.label ∷ codes "," ∷ decimal e.target
+    ∷ codes ")" ∷ [] in (
       (transition_is_line n small e among).short,
       (
         decimal e.source,
@@ -152,7 +190,8 @@ spells_transition n small e among =
     )
 
 module _ (n : ℕ) (small : n < 10 ^ 10) where
-  spells_transitions : (es : List Transition) → AllByRecursion (IsAmong n) es → AllZip SpellsTransition (map transition_line es) es
+  spells_transitions : (es : List Transition) → AllByRecursion (IsAmong n) es →
+      AllZip SpellsTransition (map transition_line es) es
   spells_transitions [] among = tt
   spells_transitions (e ∷ es) among = (spells_transition n small e among.0, spells_transitions es among.1)
 
@@ -167,8 +206,10 @@ line_and_feed e =
     let label = written_label e.label in
     let first = sym (append_assoc front (codes ",") (codes " ")) in
     let second = sym (append_assoc (front ++ codes "," ++ codes " " ++ label) (codes ",") (codes " ")) in
-    ap (λ bs. bs ++ label ++ codes ", " ++ decimal e.target ++ codes ")\n") first ∙ ap (λ bs. bs ++ decimal e.target ++ codes ")\n") second
-    ∙ sym (append_assoc (front ++ codes "," ++ codes " " ++ label ++ codes "," ++ codes " " ++ decimal e.target) (codes ")") (10 ∷ []))
+    ap (λ bs. bs ++ label ++ codes ", " ++ decimal e.target ++ codes ")\n") first
+    ∙ ap (λ bs. bs ++ decimal e.target ++ codes ")\n") second
+    ∙ sym (append_assoc (front ++ codes "," ++ codes " " ++ label ++ codes "," ++ codes " " ++ decimal e.target)
+    (codes ")") (10 ∷ []))
 
 header_and_feed : (A : System) → header_of A.first (length A.transitions) A.states ≡ header_line A ++ 10 ∷ []
 header_and_feed A = simp append_assoc
@@ -176,13 +217,15 @@ header_and_feed A = simp append_assoc
 fed : (es : List Transition) → flat_map written_transition es ≡ with_line_feeds (map transition_line es)
 fed [] = refl
 fed (e ∷ es) =
-    ap (λ bs. bs ++ flat_map written_transition es) (line_and_feed e) ∙ ap (λ bs. (transition_line e ++ 10 ∷ []) ++ bs) (fed es)
+    ap (λ bs. bs ++ flat_map written_transition es) (line_and_feed e)
+    ∙ ap (λ bs. (transition_line e ++ 10 ∷ []) ++ bs) (fed es)
 
 -- what is listed is the lines of a text
 listed_lines : (B : System) → listed B ≡ with_line_feeds (header_line B ∷ map transition_line B.transitions) ++ []
 listed_lines B =
     let es = B.transitions in
-    ap (λ bs. bs ++ flat_map written_transition es) (header_and_feed B) ∙ ap (λ bs. (header_line B ++ 10 ∷ []) ++ bs) (fed es) ∙ sym (append-nil _)
+    ap (λ bs. bs ++ flat_map written_transition es) (header_and_feed B) ∙ ap (λ bs. (header_line B ++ 10 ∷ []) ++ bs)
+    (fed es) ∙ sym (append-nil _)
 
 -- the first state and the counts of a system within the limits of a file have ten digits at most
 pub record IsSmall (B : System) : Type 0 where
@@ -190,7 +233,8 @@ pub record IsSmall (B : System) : Type 0 where
   pub transitions : length B.transitions < 10 ^ 10
   pub states : B.states < 10 ^ 10
 
-small_in_file : (bounds : Bounds) (B : System) → IsWithinFile bounds → IsSystem B → B.states ≤ bounds.states → length B.transitions ≤ bounds.transitions → IsSmall B
+small_in_file : (bounds : Bounds) (B : System) → IsWithinFile bounds → IsSystem B → B.states ≤ bounds.states →
+    length B.transitions ≤ bounds.transitions → IsSmall B
 small_in_file bounds B within system states transitions = record {
   first = omega (arith, within.states, system.first);
   transitions = omega (arith, within.transitions);
@@ -198,7 +242,8 @@ small_in_file bounds B within system states transitions = record {
 }
 
 -- what is listed has these lines
-listed_whole : (B : System) → IsSystem B → IsSmall B → Lines (listed B) (header_line B ∷ map transition_line B.transitions)
+listed_whole : (B : System) → IsSystem B → IsSmall B →
+    Lines (listed B) (header_line B ∷ map transition_line B.transitions)
 listed_whole B system small =
     let es = B.transitions in
     let each = recursion_from_All (IsAmong B.states) es system.transitions in
@@ -211,7 +256,8 @@ listed_whole B system small =
     )
 
 -- a system within the limits of a file is read again from what is listed
-listed_reads : (bounds : Bounds) (B : System) → IsWithinFile bounds → IsSystem B → B.states ≤ bounds.states → length B.transitions ≤ bounds.transitions
+listed_reads : (bounds : Bounds) (B : System) → IsWithinFile bounds → IsSystem B → B.states ≤ bounds.states
+    → length B.transitions ≤ bounds.transitions
     → Reads bounds (listed B) B
 listed_reads bounds B within system states transitions =
     let small = small_in_file bounds B within system states transitions in
@@ -221,22 +267,35 @@ listed_reads bounds B within system states transitions =
       whole = listed_whole B system small;
       good = record {
         short = (header_is_line B small.first small.transitions small.states).short;
-        header = (decimal B.first, decimal (length B.transitions), decimal B.states, (small.first, refl), (small.transitions, refl), (small.states, refl), spaced_header _ _ _);
+        header = (
+          decimal B.first,
+          decimal (length B.transitions),
+          decimal B.states,
+          (small.first, refl),
+          (small.transitions, refl),
+          (small.states, refl),
+          spaced_header _ _ _,
+        );
         first = system.first;
         states = states;
         transitions = transitions;
       };
-      spelled = spells_transitions B.states small.states B.transitions (recursion_from_All (IsAmong B.states) B.transitions system.transitions);
+      spelled = spells_transitions B.states small.states B.transitions (recursion_from_All (IsAmong B.states)
+          B.transitions system.transitions);
       system = system;
     }
 
-pub text_is_read_again : (bounds : Bounds) (A B : System) → IsWithinFile bounds → IsSystem A → A.states ≤ bounds.states → length A.transitions ≤ bounds.transitions
+pub text_is_read_again : (bounds : Bounds) (A B : System) → IsWithinFile bounds → IsSystem A → A.states ≤ bounds.states
+    → length A.transitions ≤ bounds.transitions
     → IsInWrittenOrder A B → Reads bounds (listed B) B
 text_is_read_again bounds A B within system states transitions order =
     let first = order.first in
     let count = order.states in
-    let as_many : length A.transitions ≡ length B.transitions = length_permutation B.transitions A.transitions order.same in
+    let as_many : length A.transitions ≡ length B.transitions =
+    length_permutation B.transitions A.transitions order.same in
     let among =
     subst (λ n. All (IsAmong n) B.transitions) (sym count)
-    (All-permutation (IsAmong A.states) A.transitions B.transitions (IsPermutation-sym _ _ order.same) system.transitions) in
-    listed_reads bounds B within (record { first = omega (arith, system.first); transitions = among }) (omega arith) (omega arith)
+    (All-permutation (IsAmong A.states) A.transitions B.transitions (IsPermutation-sym _ _ order.same)
+    system.transitions) in
+    listed_reads bounds B within (record { first = omega (arith, system.first); transitions = among })
+    (omega arith) (omega arith)

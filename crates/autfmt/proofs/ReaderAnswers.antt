@@ -1,5 +1,6 @@
 -- What the reader of a system answers of what was read.
-use Rattle.std.proofs.Common.{◌≡◌, ℕ, List, ◌++◌, length, Option, None, Some, IfSome, Result, Ok, Err, IfErr, refl, sym, ◌∙◌, ap, subst, arith}
+use Rattle.std.proofs.Common.{◌≡◌, ℕ, List, ◌++◌, length, Option, None, Some, IfSome, Result, Ok, Err, IfErr, refl, sym}
+use Rattle.std.proofs.Common.{◌∙◌, ap, subst, arith}
 use Rattle.std.proofs.lemmas.List.{append-nil}
 use Rattle.std.proofs.lemmas.List.Sorted.{length_permutation, Contains-permutation}
 use Rattle.std.specs.Io.KnownBytes.{Consumes, IsAtEnd}
@@ -41,21 +42,25 @@ told_fault bounds H None new failures result answer = tt
 told_fault bounds H (Some text) new failures (Ok s) answer = tt
 told_fault bounds H (Some text) new failures (Err f) answer = refused new answer.took answer.outcome
   where
-    refused : (rest : Option (List ℕ)) → Consumes (Some text) rest answer.given → Refuses bounds answer.given rest failures f →
+    refused : (rest : Option (List ℕ)) → Consumes (Some text) rest answer.given →
+        Refuses bounds answer.given rest failures f →
         IsTextFault f → FirstFault bounds text f
     refused None took why kind = absurd took
-    refused (Some more) took (faulty_text sound kind' first) kind = subst (λ (t : List ℕ). FirstFault bounds t f) (sym took) first
+    refused (Some more) took (faulty_text sound kind' first) kind =
+        subst (λ (t : List ℕ). FirstFault bounds t f) (sym took) first
     refused (Some more) took (failed_source failed is none) kind = absurd (subst IsTextFault is kind)
     refused (Some more) took (no_memory sound is good) kind = absurd (subst IsTextFault is kind)
 
 -- the system that was built of what was read
 module _ (bounds : Bounds) (H : List (List ℕ)) (got : List ℕ) (p : Promise) (held : Held) (s : Grouped)
-    (text : HoldsText bounds H got p held) (labels : s.labels ≡ held.labels) (grouping : IsGrouping held.transitions s.places)
+    (text : HoldsText bounds H got p held) (labels : s.labels ≡ held.labels)
+    (grouping : IsGrouping held.transitions s.places)
     (groups : Groups (system_from p.first p.states held.labels held.transitions) (system_of s)) where
   as_many : length s.places ≡ length text.0
   as_many = length_permutation held.transitions s.places grouping.same ∙ Holds-length H p.states held text.0 text.2
 
-  pub reads_built : (rest : Option (List ℕ)) (failures : ℕ) → IsAtEnd rest → failures ≡ 0 → ReadsTo bounds H got rest failures s
+  pub reads_built : (rest : Option (List ℕ)) (failures : ℕ) → IsAtEnd rest → failures ≡ 0 →
+      ReadsTo bounds H got rest failures s
   reads_built rest failures end sound = record {
     read = (
       record { first = p.first; states = p.states; transitions = text.0 },

@@ -1,5 +1,7 @@
 -- The steps of the reader of a system: what each one leaves, and why it may refuse.
-use Rattle.std.proofs.Common.{◌≡◌, ◌⊎◌, ℕ, ◌+◌, ◌<◌, ◌≤◌, Bool, true, false, List, [], ◌∷◌, ◌++◌, length, Option, None, Some, IfSome, Result, Ok, Err, IfOk, IfErr, MatchResult, refl, sym, ◌∙◌, ap, subst, inl, inr, arith}
+use Rattle.std.proofs.Common.{◌≡◌, ◌⊎◌, ℕ, ◌+◌, ◌<◌, ◌≤◌, Bool, true, false, List, [], ◌∷◌, ◌++◌, length, Option, None}
+use Rattle.std.proofs.Common.{Some, IfSome, Result, Ok, Err, IfOk, IfErr, MatchResult, refl, sym, ◌∙◌, ap, subst, inl}
+use Rattle.std.proofs.Common.{inr, arith}
 use Rattle.std.proofs.lemmas.List.{append_assoc, append-nil}
 use Rattle.std.proofs.lemmas.List.Elements.{All-nil}
 use Rattle.std.specs.Io.KnownBytes.{IsAtEnd}
@@ -24,7 +26,8 @@ use Rattle.autfmt.proofs.Lists.{AllZip-push}
 use Rattle.autfmt.proofs.FaultLaws.{Reads-from_lines}
 use Rattle.autfmt.proofs.JudgedLaws.{no_judged_header, no_judged_fault}
 use Rattle.autfmt.proofs.Holding.{Holds-length}
-use Rattle.autfmt.proofs.HasCut.{HasCut-new, HasCut-line, HasCut-lines, HasCut-too_long, HasCut-end, HasCut-more, HasCut-part}
+use Rattle.autfmt.proofs.HasCut.{HasCut-new, HasCut-line, HasCut-lines, HasCut-too_long, HasCut-end, HasCut-more}
+use Rattle.autfmt.proofs.HasCut.{HasCut-part}
 
 -- a cutter that has taken nothing
 abbrev pub fresh : Cutting
@@ -50,7 +53,8 @@ whatever_line bounds given line other ahead over p es so_far = record {
 }
 
 -- what holds of the bytes to come, where they are told
-pub if_told : (rest : Option (List ℕ)) (P : List ℕ → Type 0) → ((more : List ℕ) → rest ≡ Some more → P more) → IfSome rest P
+pub if_told : (rest : Option (List ℕ)) (P : List ℕ → Type 0) → ((more : List ℕ) → rest ≡ Some more → P more) →
+    IfSome rest P
 if_told None P holds = tt
 if_told (Some more) P holds = holds more refl
 
@@ -59,20 +63,24 @@ pub none_to_come : (rest : Option (List ℕ)) (more : List ℕ) → rest ≡ Som
 none_to_come rest more e end = subst (λ (o : Option (List ℕ)). IsAtEnd o) e end
 
 -- line 1, by a cutter that had taken nothing
-module _ (bounds : Bounds) (old : Cutting) (got : List ℕ) (rest : Option (List ℕ)) (failures : ℕ) (new : old ≡ fresh) where
+module _ (bounds : Bounds) (old : Cutting) (got : List ℕ) (rest : Option (List ℕ)) (failures : ℕ)
+    (new : old ≡ fresh) where
   -- the source failed where line 1 has not ended
   pub header_failed : failures ≡ 1 → IsPart (old.ahead ++ got) → Refuses bounds got rest failures Device
   header_failed failed part =
       let ahead : old.ahead ≡ [] = ap (λ (c : Cutting). c.ahead) new in
-      failed_source failed refl (λ f. no_judged_header bounds got f (subst (λ (t : List ℕ). IsPart (t ++ got)) ahead part))
+      failed_source failed refl (λ f. no_judged_header bounds got f
+      (subst (λ (t : List ℕ). IsPart (t ++ got)) ahead part))
 
   -- line 1 is too long
-  pub header_too_long : failures ≡ 0 → BeginsTooLong (old.ahead ++ got) → Refuses bounds got rest failures (LineTooLong 1)
+  pub header_too_long : failures ≡ 0 → BeginsTooLong (old.ahead ++ got) →
+      Refuses bounds got rest failures (LineTooLong 1)
   header_too_long sound long =
       faulty_text sound tt
       (if_told rest (λ more. FirstFault bounds (got ++ more) (LineTooLong 1))
       (λ more told.
-      let (line, others, big, l) = HasCut-too_long [] got [] old (HasCut-fresh old new) (fresh_goes_on old new) more long in
+      let (line, others, big, l) =
+      HasCut-too_long [] got [] old (HasCut-fresh old new) (fresh_goes_on old new) more long in
       header line others l (HeaderFault.too_long refl big)))
 
   -- what the judge answers of line 1
@@ -120,7 +128,8 @@ module _ {bounds : Bounds} {given : List ℕ} {old : Cutting} {p : Promise} {es 
       Reads bounds (given ++ got) (record { first = p.first; states = p.states; transitions = es })
   text_ends count none =
       let l = HasCut-end given got before old so_far.cut none in
-      Reads-from_lines bounds (given ++ got) so_far.header so_far.lines p.first p.transitions p.states es l so_far.good so_far.spelled count
+      Reads-from_lines bounds (given ++ got) so_far.header so_far.lines p.first p.transitions p.states es l so_far.good
+      so_far.spelled count
 
   -- the source failed where a line has not ended
   pub transition_failed :
@@ -130,7 +139,8 @@ module _ {bounds : Bounds} {given : List ℕ} {old : Cutting} {p : Promise} {es 
   transition_failed rest failures few unjudged failed goes_on part =
       let c = HasCut-part given got before old so_far.cut goes_on part.0 in
       failed_source failed refl
-      (λ f. no_judged_fault bounds (given ++ got) so_far.header so_far.lines (old.ahead ++ got) p.first p.transitions p.states es f
+      (λ f. no_judged_fault bounds (given ++ got) so_far.header so_far.lines (old.ahead ++ got) p.first
+      p.transitions p.states es f
       c so_far.good so_far.spelled few part.1 unjudged)
 
   -- the source failed behind the promised transitions
@@ -138,27 +148,32 @@ module _ {bounds : Bounds} {given : List ℕ} {old : Cutting} {p : Promise} {es 
       (rest : Option (List ℕ)) (failures : ℕ) → length es ≡ p.transitions → failures ≡ 1 → (old.over ≡ true → ⊥) →
       old.ahead ++ got ≡ [] → Refuses bounds (given ++ got) rest failures Device
   end_failed rest failures count failed goes_on none =
-      let part : IsPart (old.ahead ++ got) = subst (λ (t : List ℕ). IsPart t) (sym none) (All-nil IsNoFeed, omega arith) in
+      let part : IsPart (old.ahead ++ got) =
+      subst (λ (t : List ℕ). IsPart t) (sym none) (All-nil IsNoFeed, omega arith) in
       transition_failed rest failures (omega arith) (inr (ap length none)) failed goes_on part
 
   -- the next line is a good transition
   pub transition_good :
       (now : Cutting) (e : Transition) → (old.over ≡ true → ⊥) → CutsLine (old.ahead ++ got) now →
-      TransitionLine now.line e.source e.label e.target → IsAmong p.states e → ReadSoFar bounds (given ++ got) now p (es ++ e ∷ [])
+      TransitionLine now.line e.source e.label e.target → IsAmong p.states e →
+      ReadSoFar bounds (given ++ got) now p (es ++ e ∷ [])
   transition_good now e goes_on cuts spelled among = record {
     header = so_far.header;
     lines = so_far.lines ++ now.line ∷ [];
     cut = HasCut-line given got before old so_far.cut goes_on now cuts;
     good = so_far.good;
-    spelled = AllZip-push (SpellsAmong p.states) so_far.lines es now.line e so_far.spelled ((cuts.short, spelled), among);
+    spelled =
+        AllZip-push (SpellsAmong p.states) so_far.lines es now.line e so_far.spelled ((cuts.short, spelled), among);
   }
 
   -- there was no memory for the transition of the next line
   pub transition_refused :
       (now : Cutting) (rest : Option (List ℕ)) (failures : ℕ) → failures ≡ 0 → (old.over ≡ true → ⊥) →
-      (now.over ≡ true → IsAtEnd rest) → CutsLine (old.ahead ++ got) now → Refuses bounds (given ++ got) rest failures Memory
+      (now.over ≡ true → IsAtEnd rest) → CutsLine (old.ahead ++ got) now →
+      Refuses bounds (given ++ got) rest failures Memory
   transition_refused now rest failures sound goes_on end cuts =
-      no_memory_behind bounds (given ++ got) so_far.header (so_far.lines ++ now.line ∷ []) now p.first p.transitions p.states rest failures
+      no_memory_behind bounds (given ++ got) so_far.header (so_far.lines ++ now.line ∷ []) now p.first p.transitions
+      p.states rest failures
       (HasCut-line given got before old so_far.cut goes_on now cuts) so_far.good sound end
 
   -- the fault of what comes, if the source, which has not failed, tells it
@@ -173,7 +188,14 @@ module _ {bounds : Bounds} {given : List ℕ} {old : Cutting} {p : Promise} {es 
         (λ more told.
         let (others, l, bad) = next more told in
         behind p.transitions p.states es others
-        (record { header = so_far.header; first = p.first; lines = so_far.lines; whole = l; good = so_far.good; spelled = so_far.spelled })
+        (record {
+          header = so_far.header;
+          first = p.first;
+          lines = so_far.lines;
+          whole = l;
+          good = so_far.good;
+          spelled = so_far.spelled;
+        })
         (subst (λ (k : ℕ). NextFault p.transitions p.states k others fault) (sym count) bad)))
 
     -- transitions are missing
@@ -182,7 +204,8 @@ module _ {bounds : Bounds} {given : List ℕ} {old : Cutting} {p : Promise} {es 
         Refuses bounds (given ++ got) rest failures (MissingEdges found)
     transition_missing now promised end cuts =
         refused_behind (MissingEdges found) tt (λ more told.
-        let l = subst (Lines (given ++ got)) (sym (append-nil before)) (HasCut-end given got before old so_far.cut cuts.none) in
+        let l = subst (Lines (given ++ got)) (sym (append-nil before))
+        (HasCut-end given got before old so_far.cut cuts.none) in
         ([], rw (none_to_come rest more told (end cuts.over), append-nil (given ++ got)) l, (promised, refl)))
 
     -- the next line is too long
@@ -204,16 +227,20 @@ module _ {bounds : Bounds} {given : List ℕ} {old : Cutting} {p : Promise} {es 
         (line ∷ others, l, inr (all, refl)))
 
     -- the next line is a faulty transition
-    pub transition_faulty :
-        (now : Cutting) (fault : Fault) → found < p.transitions → (old.over ≡ true → ⊥) → (now.over ≡ true → IsAtEnd rest) →
+    pub transition_faulty : (now : Cutting) (fault : Fault) → found < p.transitions → (old.over ≡ true → ⊥) →
+        (now.over ≡ true → IsAtEnd rest) →
         CutsLine (old.ahead ++ got) now → EdgeFault p.states (found + 2) now.line fault → IsTextFault fault →
         Refuses bounds (given ++ got) rest failures fault
     transition_faulty now fault promised goes_on end cuts bad kind =
         refused_behind fault kind (λ more told.
         let s = HasCut-line given got before old so_far.cut goes_on now cuts in
         let (others, l) =
-        HasCut-lines (given ++ got) more (before ++ now.line ∷ []) now s (λ over. none_to_come rest more told (end over)) in
-        (now.line ∷ others, subst (Lines (given ++ got ++ more)) (append_assoc before (now.line ∷ []) others) l, inl (promised, bad)))
+        HasCut-lines (given ++ got) more (before ++ now.line ∷ []) now s
+        (λ over. none_to_come rest more told (end over)) in (
+          now.line ∷ others,
+          subst (Lines (given ++ got ++ more)) (append_assoc before (now.line ∷ []) others) l,
+          inl (promised, bad),
+        ))
 
 -- a source that goes on has not come to its end
 pub goes_on : {over : Bool} → over ≡ false → over ≡ true → ⊥

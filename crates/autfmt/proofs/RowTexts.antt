@@ -1,5 +1,6 @@
 -- The text of a system, row by row.
-use Rattle.std.proofs.Common.{◌≡◌, ℕ, ◌+◌, Option, List, [], ◌++◌, length, map, IsPermutation, IsSorted, sym, ap, ◌∙◌, subst, append_assoc}
+use Rattle.std.proofs.Common.{◌≡◌, ℕ, ◌+◌, Option, List, [], ◌++◌, length, map, IsPermutation, IsSorted, sym, ap, ◌∙◌}
+use Rattle.std.proofs.Common.{subst, append_assoc}
 use Rattle.std.specs.Io.KnownBytes.{Appends}
 use Rattle.std.proofs.lemmas.List.{append-nil, length-map}
 use Rattle.std.proofs.lemmas.List.Sorted.{length_permutation}
@@ -25,33 +26,46 @@ pub record RowsWait (g : Grouped) (words : Words) (old new : Option (List ℕ)) 
   pub progress : Progress old new waiting (text_to g words order)
 
 module _ {g : Grouped} {words : Words} (lts : IsLts g) (are : AreWords g.labels words) where
-  text_from_order : (order : List Triple) → IsPermutation (map (ranked words.ranks.items) g.places) order → IsSorted triple_cmp order → Text (system_of g) (text_to g words order)
+  text_from_order : (order : List Triple) → IsPermutation (map (ranked words.ranks.items) g.places) order →
+      IsSorted triple_cmp order → Text (system_of g) (text_to g words order)
   text_from_order order same up =
       let T = transition_of (texts words.entries.items) in
       let long : length g.places ≡ length (map T order) =
-      sym (length-map order T ∙ length_permutation (map (ranked words.ranks.items) g.places) order same ∙ length-map g.places (ranked words.ranks.items)) in (
+      sym (length-map order T ∙ length_permutation (map (ranked words.ranks.items) g.places) order same
+      ∙ length-map g.places (ranked words.ranks.items)) in (
         system_from g.first g.states (texts words.entries.items) order,
         written_order_from_ranks g words.entries.items words.ranks.items order lts are.by_bytes are.ranks same up,
         ap (λ n. header_of g.first n g.states ++ written_lines words.entries.items order) long,
       )
 
   -- what a failure leaves, and what a success does
-  pub rows_begun : {old mid : Option (List ℕ)} {waiting : List ℕ} {s : ℕ} (new : Option (List ℕ)) → RowsWait g words old mid waiting s → AppendsBeginning mid new waiting → GainsBeginning (system_of g) old new
+  pub rows_begun : {old mid : Option (List ℕ)} {waiting : List ℕ} {s : ℕ} (new : Option (List ℕ)) →
+      RowsWait g words old mid waiting s → AppendsBeginning mid new waiting → GainsBeginning (system_of g) old new
   rows_begun {old} {s = s} new rows put =
       let (rest, same, up) = rest_ordered words.ranks.items g.places lts.rising s rows.order rows.ordered in
       let lines = written_lines words.entries.items in
       let head = header_of g.first (length g.places) g.states in
       let (front, back, is, begun) = longer old new (lines rest) (beginning_put new rows.progress put) in
       let whole : text_to g words (rows.order ++ rest) ≡ front ++ back =
-      ap (λ l. head ++ l) (lines-append words.entries.items rows.order rest) ∙ sym (append_assoc head (lines rows.order) (lines rest)) ∙ is in
+      ap (λ l. head ++ l) (lines-append words.entries.items rows.order rest)
+      ∙ sym (append_assoc head (lines rows.order) (lines rest)) ∙ is in
       (front, back, subst (Text (system_of g)) whole (text_from_order (rows.order ++ rest) same up), begun)
 
-  pub rows_put : {old mid : Option (List ℕ)} {waiting : List ℕ} {s : ℕ} (new : Option (List ℕ)) → before s g.places ≡ length g.places → RowsWait g words old mid waiting s → Appends mid new waiting → GainsText (system_of g) old new
-  rows_put new all rows put = (text_to g words rows.order, text_from_order rows.order (all_ordered all rows.ordered) rows.ordered.sorted, everything_put new rows.progress put)
+  pub rows_put : {old mid : Option (List ℕ)} {waiting : List ℕ} {s : ℕ} (new : Option (List ℕ)) →
+      before s g.places ≡ length g.places → RowsWait g words old mid waiting s → Appends mid new waiting →
+      GainsText (system_of g) old new
+  rows_put new all rows put = (
+    text_to g words rows.order,
+    text_from_order rows.order (all_ordered all rows.ordered) rows.ordered.sorted,
+    everything_put new rows.progress put,
+  )
 
   -- one row more
-  pub next_row : {old mid new : Option (List ℕ)} {waiting later : List ℕ} {s : ℕ} (row : List (ℕ × ℕ)) → RowsWait g words old mid waiting s → IsPermutation (map (ranked_pair words.ranks.items) (row_of s g.places)) row → IsSorted rank_cmp row
-      → Progress mid new later (waiting ++ written_lines words.entries.items (map (from_source s) row)) → RowsWait g words old new later (s + 1)
+  pub next_row : {old mid new : Option (List ℕ)} {waiting later : List ℕ} {s : ℕ} (row : List (ℕ × ℕ))
+      → RowsWait g words old mid waiting s → IsPermutation (map (ranked_pair words.ranks.items) (row_of s g.places)) row
+      → IsSorted rank_cmp row
+      → Progress mid new later (waiting ++ written_lines words.entries.items (map (from_source s) row))
+      → RowsWait g words old new later (s + 1)
   next_row {old} {new = new} {later = later} {s = s} row rows same up put =
       let added = map (from_source s) row in
       let lines = written_lines words.entries.items in
@@ -59,12 +73,17 @@ module _ {g : Grouped} {words : Words} (lts : IsLts g) (are : AreWords g.labels 
       record {
         order = rows.order ++ added;
         ordered = one_row_more words.ranks.items g.places lts.rising s rows.order rows.ordered row same up;
-        progress = subst (Progress old new later)
-            (append_assoc head (lines rows.order) (lines added) ∙ ap (λ l. head ++ l) (sym (lines-append words.entries.items rows.order added)))
+        progress = subst (Progress old new later) (append_assoc head (lines rows.order) (lines added)
+            ∙ ap (λ l. head ++ l) (sym (lines-append words.entries.items rows.order added)))
             (goes_on (waits_too (lines added) rows.progress) put);
       }
 
 -- before the first source the header waits
-pub no_row : {g : Grouped} {words : Words} {header : List ℕ} (w : Option (List ℕ)) → before 0 g.places ≡ 0 → header ≡ header_of g.first (length g.places) g.states → RowsWait g words w w header 0
+pub no_row : {g : Grouped} {words : Words} {header : List ℕ} (w : Option (List ℕ)) → before 0 g.places ≡ 0 →
+    header ≡ header_of g.first (length g.places) g.states → RowsWait g words w w header 0
 no_row {g} {words} {header} w first is =
-    record { order = []; ordered = none_ordered words.ranks.items g.places first; progress = subst (Progress w w header) (is ∙ sym (append-nil _)) (nothing_put w header) }
+    record {
+      order = [];
+      ordered = none_ordered words.ranks.items g.places first;
+      progress = subst (Progress w w header) (is ∙ sym (append-nil _)) (nothing_put w header);
+    }

@@ -6,7 +6,8 @@ use Rattle.autfmt.specs.Outcomes.{Takes}
 
 pub takes_more :
     {T E : Type 0} (Good : List ℕ → T → Type 0) (Bad : List ℕ → E → Type 0) (result : Result T E)
-    (old between new : Option (List ℕ)) (before bytes : List ℕ) → Consumes old between before → Consumes between new bytes →
+    (old between new : Option (List ℕ)) (before bytes : List ℕ) → Consumes old between before →
+    Consumes between new bytes →
     MatchResult result (Good (before ++ bytes)) (Bad (before ++ bytes)) → Takes old new Good Bad result
 takes_more Good Bad result old between new before bytes first next outcome =
     record { given = before ++ bytes; took = Consumes-trans old between new before bytes first next; outcome = outcome }

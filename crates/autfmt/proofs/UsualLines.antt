@@ -1,5 +1,7 @@
 -- A transition line as programs mostly write it, in front of other bytes.
-use Rattle.std.proofs.Common.{◌≡◌, ◌≢◌, ℕ, suc, ◌+◌, ◌*◌, ◌^◌, ◌<◌, ◌≤◌, true, false, not, cond, eqb, List, [], ◌∷◌, ◌++◌, length, get_or, take, drop, map, codes, decimal, Some, refl, sym, ap, subst, ◌∙◌, inl, inr, append_assoc, append-nil, length-append, Bool, arith}
+use Rattle.std.proofs.Common.{◌≡◌, ◌≢◌, ℕ, suc, ◌+◌, ◌*◌, ◌^◌, ◌<◌, ◌≤◌, true, false, not, cond, eqb, List, [], ◌∷◌}
+use Rattle.std.proofs.Common.{◌++◌, length, get_or, take, drop, map, codes, decimal, Some, refl, sym, ap, subst, ◌∙◌}
+use Rattle.std.proofs.Common.{inl, inr, append_assoc, append-nil, length-append, Bool, arith}
 use Rattle.std.specs.Char.{is_ascii_digit}
 use Rattle.std.specs.List.{prefix_len}
 use lib.Count.{count_trailing_zeros}
@@ -17,14 +19,16 @@ use Rattle.autfmt.specs.Grammar.{Blanks, quoted}
 use Rattle.autfmt.specs.Texts.{IsOneLine}
 use Rattle.autfmt.specs.Cutter.{Cutting, CutsLine}
 use Rattle.autfmt.specs.Reading.{past, plain_at}
-use Rattle.autfmt.specs.Usual.{AreDigitsInFront, BeginsWithNumber, FollowsComma, FollowsEnd, HasMark, BeginsWithLabel, BeginsWithTransition}
+use Rattle.autfmt.specs.Usual.{AreDigitsInFront, BeginsWithNumber, FollowsComma, FollowsEnd, HasMark, BeginsWithLabel}
+use Rattle.autfmt.specs.Usual.{BeginsWithTransition}
 use Rattle.autfmt.proofs.Blanks.{IsBlank}
 use Rattle.autfmt.proofs.Cutting.{IsNoFeed}
 use Rattle.autfmt.proofs.Numbers.{digit-range}
 use Rattle.autfmt.proofs.Labels.{quoted-append}
 use Rattle.autfmt.proofs.PlainLabels.{plain_at-takes}
 use Rattle.autfmt.proofs.Lines.{past-takes}
-use Rattle.autfmt.proofs.ReadBack.{Visible, literal, none, a_space, spelled_line, spelled_line-one, spelled_line-short, spaced_line}
+use Rattle.autfmt.proofs.ReadBack.{Visible, literal, none, a_space, spelled_line, spelled_line-one, spelled_line-short}
+use Rattle.autfmt.proofs.ReadBack.{spaced_line}
 
 -- ---- numbers
 
@@ -34,7 +38,8 @@ AreDigits ds = (i : ℕ) → i < length ds → (48 ≤ get_or ds i 0) × (get_or
 numerals : IsNumeralModel AreDigits (digits_value 10)
 numerals = numerals_by_value AreDigits tells_by_index
 
-digits_in_front : (n : ℕ) (bytes : List ℕ) → n ≤ length bytes → n ≤ prefix_len is_ascii_digit bytes → AreDigits (take n bytes)
+digits_in_front : (n : ℕ) (bytes : List ℕ) → n ≤ length bytes → n ≤ prefix_len is_ascii_digit bytes →
+    AreDigits (take n bytes)
 digits_in_front n bytes within digits i h =
     let below : i < n = omega (arith, length-take-le n bytes within) in
     let e = get_or-take n bytes i 0 below in
@@ -42,7 +47,8 @@ digits_in_front n bytes within digits i h =
     (omega (arith, e, range.0), omega (arith, e, range.1))
 
 -- the digits that were found in the first eight bytes
-pub number_in_front : (bytes : List ℕ) (n v : ℕ) → AreDigitsInFront bytes n v → (1 < n → get_or bytes 0 0 ≢ 48) → BeginsWithNumber bytes v (drop n bytes)
+pub number_in_front : (bytes : List ℕ) (n v : ℕ) → AreDigitsInFront bytes n v → (1 < n → get_or bytes 0 0 ≢ 48) →
+    BeginsWithNumber bytes v (drop n bytes)
 number_in_front bytes n v found leads =
     let count = found.count in
     let few = found.few in
@@ -53,25 +59,32 @@ number_in_front bytes n v found leads =
     let small : digits_value 10 ds < 10 ^ 7 = digits_value_short numerals ds 7 digits (omega arith) in
     let is : v ≡ digits_value 10 ds = found.value in
     let same : ds ≡ take n bytes = take-take n 8 bytes (omega arith) in
-    let first : get_or ds 0 0 ≡ get_or bytes 0 0 = ap (λ (t : List ℕ). get_or t 0 0) same ∙ get_or-take n bytes 0 0 found.some in
+    let first : get_or ds 0 0 ≡ get_or bytes 0 0 = ap (λ (t : List ℕ). get_or t 0 0) same
+    ∙ get_or-take n bytes 0 0 found.some in
     let lone : get_or ds 0 0 ≡ 48 → length ds ≡ 1 =
     λ e. elim (cases_lt 1 n) [ inl l ↦ absurd (leads l (sym first ∙ e)) | inr g ↦ omega arith ] in
-    let written : decimal (digits_value 10 ds) ≡ ds = decimal-digits_value numerals ds digits (omega (arith, found.some)) lone (omega arith) in
-    (omega (arith, is), sym (take-append-drop n bytes) ∙ ap (λ (t : List ℕ). t ++ drop n bytes) (sym same ∙ sym written ∙ ap decimal (sym is)))
+    let written : decimal (digits_value 10 ds) ≡ ds =
+    decimal-digits_value numerals ds digits (omega (arith, found.some)) lone (omega arith) in (
+      omega (arith, is),
+      sym (take-append-drop n bytes) ∙ ap (λ (t : List ℕ). t ++ drop n bytes) (sym same ∙ sym written
+          ∙ ap decimal (sym is)),
+    )
 
 -- ---- labels
 
 -- a mask with a bit set: a lane passes the test
 lane_passes : (p : ℕ → Bool) (xs : List ℕ) → 0 < mask_l (map p xs) → prefix_len (λ x. not (p x)) xs < length xs
 lane_passes p [] some = absurd (omega arith)
-lane_passes p (x ∷ xs) some = step (p x) (mask_l (map p xs)) (prefix_len (λ y. not (p y)) xs) (length xs) some (lane_passes p xs)
+lane_passes p (x ∷ xs) some =
+    step (p x) (mask_l (map p xs)) (prefix_len (λ y. not (p y)) xs) (length xs) some (lane_passes p xs)
   where
     step : (b : Bool) (n t l : ℕ) → 0 < cond b 1 0 + 2 * n → (0 < n → t < l) → cond (not b) (1 + t) 0 < suc l
     step true n t l some f = omega arith
     step false n t l some f = omega (arith, f (omega arith))
 
 -- the lowest bit of a comparison of sixteen bytes: one of them is the byte there
-pub byte_in_lanes : (bytes : List ℕ) (i byte mask : ℕ) → i + 16 ≤ length bytes → mask ≡ mask_l (map (λ x. eqb x byte) (chunk i 16 bytes)) → 0 < mask
+pub byte_in_lanes : (bytes : List ℕ) (i byte mask : ℕ) → i + 16 ≤ length bytes
+    → mask ≡ mask_l (map (λ x. eqb x byte) (chunk i 16 bytes)) → 0 < mask
     → (i + count_trailing_zeros 64 mask < length bytes) × (get_or bytes (i + count_trailing_zeros 64 mask) 0 ≡ byte)
 byte_in_lanes bytes i byte mask room is some =
     let v = chunk i 16 bytes in
@@ -83,16 +96,20 @@ byte_in_lanes bytes i byte mask room is some =
     (omega (arith, short), eqb-true _ _ (run_in_chunk_stops passes bytes i 16 _ 0 room first short))
 
 -- the byte at an index, and what follows it
-pub byte_at : (bytes : List ℕ) (i byte : ℕ) (rest : List ℕ) → i < length bytes → get_or bytes i 0 ≡ byte → drop (i + 1) bytes ≡ rest → drop i bytes ≡ byte ∷ rest
-byte_at bytes i byte rest room is behind = drop_more bytes i 0 room ∙ ap (λ (b : ℕ). b ∷ drop (i + 1) bytes) is ∙ ap (λ (t : List ℕ). byte ∷ t) behind
+pub byte_at : (bytes : List ℕ) (i byte : ℕ) (rest : List ℕ) → i < length bytes → get_or bytes i 0 ≡ byte →
+    drop (i + 1) bytes ≡ rest → drop i bytes ≡ byte ∷ rest
+byte_at bytes i byte rest room is behind = drop_more bytes i 0 room ∙ ap (λ (b : ℕ). b ∷ drop (i + 1) bytes) is
+    ∙ ap (λ (t : List ℕ). byte ∷ t) behind
 
 -- the bytes up to a quotation mark
-pub quoted_in_front : (bytes inside a rest : List ℕ) (n : ℕ) → 0 < length bytes → get_or bytes 0 0 ≡ 34 → inside ≡ drop 1 bytes → HasMark inside n → a ≡ take n inside → rest ≡ drop (n + 1) inside
+pub quoted_in_front : (bytes inside a rest : List ℕ) (n : ℕ) → 0 < length bytes → get_or bytes 0 0 ≡ 34
+    → inside ≡ drop 1 bytes → HasMark inside n → a ≡ take n inside → rest ≡ drop (n + 1) inside
     → IsLabel a → BeginsWithLabel bytes a rest
 quoted_in_front bytes inside a rest n room mark behind (within, closed) front back label =
     let begin : bytes ≡ 34 ∷ inside = byte_at bytes 0 34 inside room mark (sym behind) in
     let close : drop n inside ≡ 34 ∷ rest = byte_at inside n 34 rest within closed (sym back) in
-    let cut : inside ≡ a ++ 34 ∷ rest = sym (take-append-drop n inside) ∙ ap (λ (t : List ℕ). t ++ drop n inside) (sym front) ∙ ap (λ (t : List ℕ). a ++ t) close in
+    let cut : inside ≡ a ++ 34 ∷ rest = sym (take-append-drop n inside) ∙ ap (λ (t : List ℕ). t ++ drop n inside)
+    (sym front) ∙ ap (λ (t : List ℕ). a ++ t) close in
     (quoted a, inr (label, refl), begin ∙ ap (λ (t : List ℕ). 34 ∷ t) cut ∙ sym (quoted-append a rest))
 
 -- the same of a plain one
@@ -110,8 +127,10 @@ record IsComma (bytes rest : List ℕ) : Type 0 where
   parts : bytes ≡ codes "," ++ (space ++ rest)
 
 is_comma : (bytes rest : List ℕ) → FollowsComma bytes rest → IsComma bytes rest
-is_comma bytes rest (inl e) = record { space = []; blank = none; seen = literal [] refl; short = omega arith; parts = e }
-is_comma bytes rest (inr e) = record { space = codes " "; blank = a_space; seen = literal (codes " ") refl; short = omega arith; parts = e }
+is_comma bytes rest (inl e) =
+    record { space = []; blank = none; seen = literal [] refl; short = omega arith; parts = e }
+is_comma bytes rest (inr e) =
+    record { space = codes " "; blank = a_space; seen = literal (codes " ") refl; short = omega arith; parts = e }
 
 -- a closing parenthesis and a line feed, between which the blanks of the end stand
 record IsEnd (bytes rest : List ℕ) : Type 0 where
@@ -132,34 +151,55 @@ is_end bytes rest (inr e) = record {
 }
 
 -- the tokens and marks that were found one after the other
-pub transition_in_front : (bytes r0 r1 r2 r3 r4 r5 r6 : List ℕ) (s : ℕ) (a : List ℕ) (t : ℕ) → past 40 bytes ≡ Some r0 → BeginsWithNumber r0 s r1 → FollowsComma r1 r2 → BeginsWithLabel r2 a r3
+pub transition_in_front : (bytes r0 r1 r2 r3 r4 r5 r6 : List ℕ) (s : ℕ) (a : List ℕ) (t : ℕ) → past 40 bytes ≡ Some r0
+    → BeginsWithNumber r0 s r1 → FollowsComma r1 r2 → BeginsWithLabel r2 a r3
     → FollowsComma r3 r4 → BeginsWithNumber r4 t r5 → FollowsEnd r5 r6 → BeginsWithTransition bytes s a t r6
 transition_in_front bytes r0 r1 r2 r3 r4 r5 r6 s a t e0 source e1 (spelling, label, e2) e3 target e5 =
     let b = is_comma r1 r2 e1 in
     let d = is_comma r3 r4 e3 in
     let z = is_end r5 r6 e5 in
-    let tail : r3 ≡ codes "," ++ (d.space ++ (decimal t ++ (codes ")" ++ (z.blanks ++ 10 ∷ r6)))) = d.parts ∙ ap (λ (x : List ℕ). codes "," ++ (d.space ++ x)) (target.1 ∙ ap (λ (x : List ℕ). decimal t ++ x) z.parts) in
-    let middle : r1 ≡ codes "," ++ (b.space ++ (spelling ++ (codes "," ++ (d.space ++ (decimal t ++ (codes ")" ++ (z.blanks ++ 10 ∷ r6))))))) =
+    let tail : r3 ≡ codes "," ++ (d.space ++ (decimal t ++ (codes ")" ++ (z.blanks ++ 10 ∷ r6)))) = d.parts
+    ∙ ap (λ (x : List ℕ). codes "," ++ (d.space ++ x)) (target.1 ∙ ap (λ (x : List ℕ). decimal t ++ x) z.parts) in
+    let middle : r1 ≡ codes ","
+    ++ (b.space ++ (spelling ++ (codes "," ++ (d.space ++ (decimal t ++ (codes ")" ++ (z.blanks ++ 10 ∷ r6))))))) =
     b.parts ∙ ap (λ (x : List ℕ). codes "," ++ (b.space ++ x)) (e2 ∙ ap (λ (x : List ℕ). spelling ++ x) tail) in
-    let nested : bytes ≡ codes "(" ++ (decimal s ++ (codes "," ++ (b.space ++ (spelling ++ (codes "," ++ (d.space ++ (decimal t ++ (codes ")" ++ (z.blanks ++ 10 ∷ r6))))))))) =
-    past-takes 40 bytes r0 e0 ∙ ap (λ (x : List ℕ). codes "(" ++ x) (source.1 ∙ ap (λ (x : List ℕ). decimal s ++ x) middle) in
+    let nested : bytes ≡ codes "("
+    ++ (decimal s ++ (codes "," ++
+    (b.space ++ (spelling ++ (codes "," ++ (d.space ++ (decimal t ++ (codes ")" ++ (z.blanks ++ 10 ∷ r6))))))))) =
+    past-takes 40 bytes r0 e0 ∙ ap (λ (x : List ℕ). codes "(" ++ x) (source.1
+    ∙ ap (λ (x : List ℕ). decimal s ++ x) middle) in
     record {
       line = spelled_line s b.space spelling d.space t ++ z.blanks;
       whole = nested ∙ simp append_assoc;
-      spelled = (decimal s, spelling, decimal t, (source.0, refl), label, (target.0, refl), spaced_line (decimal s) b.space spelling d.space (decimal t) z.blanks b.blank d.blank z.blank);
-      one = All-append IsNoFeed (spelled_line s b.space spelling d.space t) z.blanks (spelled_line-one s t b.space d.space spelling a source.0 target.0 b.seen d.seen label) z.one;
-      short = spelled_line-short s t b.space d.space z.blanks spelling a source.0 target.0 b.short d.short z.short label;
+      spelled = (
+        decimal s,
+        spelling,
+        decimal t,
+        (source.0, refl),
+        label,
+        (target.0, refl),
+        spaced_line (decimal s) b.space spelling d.space (decimal t) z.blanks b.blank d.blank z.blank,
+      );
+      one = All-append IsNoFeed (spelled_line s b.space spelling d.space t) z.blanks
+          (spelled_line-one s t b.space d.space spelling a source.0 target.0 b.seen d.seen label) z.one;
+      short =
+          spelled_line-short s t b.space d.space z.blanks spelling a source.0 target.0 b.short d.short z.short label;
     }
 
 -- the cutter behind that line
-abbrev pub behind : {bytes : List ℕ} {s : ℕ} {a : List ℕ} {t : ℕ} {rest : List ℕ} → BeginsWithTransition bytes s a t rest → Cutting
+abbrev pub behind : {bytes : List ℕ} {s : ℕ} {a : List ℕ} {t : ℕ} {rest : List ℕ} →
+    BeginsWithTransition bytes s a t rest → Cutting
 behind {rest = rest} front = record { line = front.line; ahead = rest; over = false }
 
 -- no bytes are got to cut it
-pub cuts_in_front : (bytes : List ℕ) (s : ℕ) (a : List ℕ) (t : ℕ) (rest : List ℕ) → (front : BeginsWithTransition bytes s a t rest) → CutsLine (bytes ++ []) (behind front)
-cuts_in_front bytes s a t rest front = record { one = front.one; short = front.short; behind = inl (refl, append-nil bytes ∙ front.whole) }
+pub cuts_in_front : (bytes : List ℕ) (s : ℕ) (a : List ℕ) (t : ℕ) (rest : List ℕ) →
+    (front : BeginsWithTransition bytes s a t rest) → CutsLine (bytes ++ []) (behind front)
+cuts_in_front bytes s a t rest front =
+    record { one = front.one; short = front.short; behind = inl (refl, append-nil bytes ∙ front.whole) }
 
 -- the source has not come to its end
-pub goes_on_in_front : (bytes : List ℕ) (s : ℕ) (a : List ℕ) (t : ℕ) (rest : List ℕ) (over : Bool) → BeginsWithTransition bytes s a t rest → (over ≡ true → bytes ≡ []) → over ≡ true → ⊥
+pub goes_on_in_front : (bytes : List ℕ) (s : ℕ) (a : List ℕ) (t : ℕ) (rest : List ℕ) (over : Bool) →
+    BeginsWithTransition bytes s a t rest → (over ≡ true → bytes ≡ []) → over ≡ true → ⊥
 goes_on_in_front bytes s a t rest over front ended e =
-    let none : length (front.line ++ 10 ∷ rest) ≡ 0 = ap length (sym front.whole ∙ ended e) in absurd (omega (arith, none, length-append front.line (10 ∷ rest)))
+    let none : length (front.line ++ 10 ∷ rest) ≡ 0 = ap length (sym front.whole ∙ ended e) in
+    absurd (omega (arith, none, length-append front.line (10 ∷ rest)))

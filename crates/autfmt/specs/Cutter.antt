@@ -1,12 +1,14 @@
 -- The cutter of lines: how far it is in the bytes that a source gives.
-use Rattle.std.specs.Prelude.{◌≡◌, ◌⊎◌, ℕ, ◌<◌, ◌≤◌, Bool, true, false, IsTrue, List, [], ◌∷◌, ◌++◌, length, Option, None, Some, IfSome}
+use Rattle.std.specs.Prelude.{◌≡◌, ◌⊎◌, ℕ, ◌<◌, ◌≤◌, Bool, true, false, IsTrue, List, [], ◌∷◌, ◌++◌, length, Option}
+use Rattle.std.specs.Prelude.{None, Some, IfSome}
 use Rattle.std.specs.List.{All, flat_map, slice_range}
 use Rattle.std.specs.Io.KnownBytes.{IsAtEnd}
 use Rattle.autfmt.specs.Texts.{Lines, IsOneLine, IsShort}
 use Rattle.autfmt.specs.declared.cutter.TheConstants.{PIECE}
 use Rattle.autfmt.specs.declared.line.TheConstants.{LONGEST_LINE}
 
--- the line that was handed on last, the bytes that were taken behind all lines that were cut, and whether the source came to its end
+-- the line that was handed on last, the bytes that were taken behind all lines that were cut, and whether the source
+-- came to its end
 pub record Cutting : Type 0 where
   pub line : List ℕ
   pub ahead : List ℕ

@@ -2,7 +2,9 @@
 use Rattle.std.specs.Prelude.{◌≡◌, ◌⊎◌, ℕ, ◌+◌, ◌<◌, ◌≤◌, List, [], ◌∷◌, ◌++◌, length}
 use Rattle.std.specs.List.{AllZip}
 use Rattle.autfmt.specs.declared.fault.Fault.{Fault}
-use Rattle.autfmt.specs.declared.fault.Fault.TheVariants.{BadHeader, FirstState, NoStates, TooManyStates, TooManyTransitions, LineTooLong, BadEdge, SourceRange, TargetRange, ExtraText, MissingEdges}
+use Rattle.autfmt.specs.declared.fault.Fault.TheVariants.{BadHeader, FirstState, NoStates, TooManyStates}
+use Rattle.autfmt.specs.declared.fault.Fault.TheVariants.{TooManyTransitions, LineTooLong, BadEdge, SourceRange}
+use Rattle.autfmt.specs.declared.fault.Fault.TheVariants.{TargetRange, ExtraText, MissingEdges}
 use Rattle.autfmt.specs.declared.line.TheConstants.{LONGEST_LINE}
 use Rattle.autfmt.specs.Bounds.{Bounds}
 use Rattle.theory.specs.System.{Transition}
@@ -21,17 +23,21 @@ NumbersFault bounds f m n _ = ⊥
 pub data HeaderFault (bounds : Bounds) (line : List ℕ) (fault : Fault) : Type 0 where
   too_long : fault ≡ LineTooLong 1 → LONGEST_LINE < length line → HeaderFault bounds line fault
   unread : fault ≡ BadHeader → IsShort line → ((f m n : ℕ) → ¬ Header line f m n) → HeaderFault bounds line fault
-  numbers : (f m n : ℕ) → IsShort line → Header line f m n → NumbersFault bounds f m n fault → HeaderFault bounds line fault
+  numbers : (f m n : ℕ) → IsShort line → Header line f m n → NumbersFault bounds f m n fault →
+      HeaderFault bounds line fault
 
 -- the fault of line k, where a transition between n states is to stand
 pub data EdgeFault (n k : ℕ) (line : List ℕ) (fault : Fault) : Type 0 where
   too_long : fault ≡ LineTooLong k → LONGEST_LINE < length line → EdgeFault n k line fault
   unread : fault ≡ BadEdge k → IsShort line → ((e : Transition) → ¬ SpellsTransition line e) → EdgeFault n k line fault
   source : fault ≡ SourceRange k → (e : Transition) → SpellsTransition line e → n ≤ e.source → EdgeFault n k line fault
-  target : fault ≡ TargetRange k → (e : Transition) → SpellsTransition line e → e.source < n → n ≤ e.target → EdgeFault n k line fault
+  target : fault ≡ TargetRange k → (e : Transition) → SpellsTransition line e → e.source < n → n ≤ e.target →
+      EdgeFault n k line fault
 
--- the text begins with a good header, of m transitions and n states, and lines that spell the transitions es; others follow
-pub record BeginsWell (bounds : Bounds) (text : List ℕ) (m n : ℕ) (es : List Transition) (others : List (List ℕ)) : Type 0 where
+-- the text begins with a good header, of m transitions and n states, and lines that spell the transitions es; others
+-- follow
+pub record BeginsWell (bounds : Bounds) (text : List ℕ) (m n : ℕ) (es : List Transition) (others : List (List ℕ)) :
+    Type 0 where
   pub header : List ℕ
   pub first : ℕ
   pub lines : List (List ℕ)
@@ -39,7 +45,8 @@ pub record BeginsWell (bounds : Bounds) (text : List ℕ) (m n : ℕ) (es : List
   pub good : GoodHeader bounds header first m n
   pub spelled : AllZip (SpellsAmong n) lines es
 
--- behind found transitions of the m promised ones: the fault of the next line, or, if there is none, that some are missing
+-- behind found transitions of the m promised ones: the fault of the next line, or, if there is none, that some are
+-- missing
 abbrev pub NextFault : ℕ → ℕ → ℕ → List (List ℕ) → Fault → Type 0
 NextFault m n found [] fault = (found < m) × (fault ≡ MissingEdges found)
 NextFault m n found (line ∷ others) fault =
@@ -48,7 +55,8 @@ NextFault m n found (line ∷ others) fault =
 -- the first fault of a text
 pub data FirstFault (bounds : Bounds) (text : List ℕ) (fault : Fault) : Type 0 where
   no_line : Lines text [] → fault ≡ BadHeader → FirstFault bounds text fault
-  header : (line : List ℕ) (others : List (List ℕ)) → Lines text (line ∷ others) → HeaderFault bounds line fault → FirstFault bounds text fault
+  header : (line : List ℕ) (others : List (List ℕ)) → Lines text (line ∷ others) → HeaderFault bounds line fault →
+      FirstFault bounds text fault
   behind : (m n : ℕ) (es : List Transition) (others : List (List ℕ)) →
       BeginsWell bounds text m n es others → NextFault m n (length es) others fault → FirstFault bounds text fault
 

@@ -24,4 +24,5 @@ pub record IsSpelled (label : List ℕ) (s : Spelled) : Type 0 where
 
 -- so are the labels spelled that come first
 abbrev pub AreSpelled : List (List ℕ) → List Spelled → Type 0
-AreSpelled labels spelled = (k : ℕ) (d : Spelled) → k < length spelled → IsSpelled (get_or labels k []) (get_or spelled k d)
+AreSpelled labels spelled =
+    (k : ℕ) (d : Spelled) → k < length spelled → IsSpelled (get_or labels k []) (get_or spelled k d)

@@ -1,5 +1,6 @@
 -- What the cutter of lines makes of the bytes that it takes.
-use Rattle.std.specs.Prelude.{◌≡◌, ℕ, ◌+◌, ◌<◌, ◌≤◌, Bool, false, IsTrue, List, [], ◌∷◌, ◌++◌, length, Result, MatchResult}
+use Rattle.std.specs.Prelude.{◌≡◌, ℕ, ◌+◌, ◌<◌, ◌≤◌, Bool, false, IsTrue, List, [], ◌∷◌, ◌++◌, length, Result}
+use Rattle.std.specs.Prelude.{MatchResult}
 use Rattle.std.specs.List.{slice_range}
 use Rattle.autfmt.specs.declared.cutter.Step.{Step}
 use Rattle.autfmt.specs.declared.cutter.Step.TheVariants.{Line, TooLong, End}
@@ -26,11 +27,13 @@ Makes over bytes End now = CutsEnd bytes now
 
 -- what an advance made of the bytes ahead and got; after a failure they are a part of a line
 abbrev pub Advances : {E : Type 0} → Bool → List ℕ → Result Step E → Cutting → Type 0
-Advances over bytes result now = MatchResult result (λ step. Makes over bytes step now) (λ _. (over ≡ false) × IsPart bytes)
+Advances over bytes result now =
+    MatchResult result (λ step. Makes over bytes step now) (λ _. (over ≡ false) × IsPart bytes)
 
 -- whether the bytes ahead and got are none; after a failure they are
 abbrev pub Looks : {E : Type 0} → List ℕ → Result Bool E → Cutting → Type 0
 Looks bytes result now =
     MatchResult result
-    (λ at_end. (bytes ≡ now.ahead) × (now.over ≡ at_end) × (IsTrue at_end → bytes ≡ []) × ((at_end ≡ false) → 1 ≤ length bytes))
+    (λ at_end. (bytes ≡ now.ahead) × (now.over ≡ at_end) × (IsTrue at_end → bytes ≡ []) × ((at_end ≡ false) →
+    1 ≤ length bytes))
     (λ _. bytes ≡ [])

@@ -1,6 +1,7 @@
 -- The grammar of one whole line, without its line feed: a header, a transition, a line of a hide list (the layout of
 -- the `aut` manual page, in this project's profile).
-use Rattle.std.specs.Prelude.{◌≡◌, ◌⊎◌, ℕ, ◌<◌, ◌^◌, Bool, false, ◌&&◌, ◌||◌, ◌==◌, nat_le, IsTrue, List, [], ◌∷◌, ◌++◌, length, codes, decimal}
+use Rattle.std.specs.Prelude.{◌≡◌, ◌⊎◌, ℕ, ◌<◌, ◌^◌, Bool, false, ◌&&◌, ◌||◌, ◌==◌, nat_le, IsTrue, List, [], ◌∷◌, ◌++◌}
+use Rattle.std.specs.Prelude.{length, codes, decimal}
 use Rattle.std.specs.Char.{is_ascii_alphabetic, is_ascii_digit}
 use Rattle.std.specs.List.{All, list_all}
 use Rattle.theory.specs.System.{IsLabel}
@@ -12,7 +13,8 @@ Blanks bs = All (λ b. (b ≡ 0x20) ⊎ (b ≡ 0x09) ⊎ (b ≡ 0x0D)) bs
 -- the tokens in their order, with any number of blanks before, between and after them
 abbrev pub Spaced : List (List ℕ) → List ℕ → Type 0
 Spaced [] line = Blanks line
-Spaced (token ∷ tokens) line = (before rest : List ℕ) × Blanks before × (line ≡ before ++ token ++ rest) × Spaced tokens rest
+Spaced (token ∷ tokens) line =
+    (before rest : List ℕ) × Blanks before × (line ≡ before ++ token ++ rest) × Spaced tokens rest
 
 -- the digits of v without leading zeros, at most ten of them
 abbrev pub IsDecimal : List ℕ → ℕ → Type 0

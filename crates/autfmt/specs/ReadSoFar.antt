@@ -10,7 +10,8 @@ use Rattle.autfmt.specs.Cutter.{Cutting, HasCut}
 use Rattle.autfmt.specs.Held.{Holds}
 
 -- a good header with this promise and lines that spell the transitions were read from the bytes given
-pub record ReadSoFar (bounds : Bounds) (given : List ℕ) (at : Cutting) (p : Promise) (es : List Transition) : Type 0 where
+pub record ReadSoFar (bounds : Bounds) (given : List ℕ) (at : Cutting) (p : Promise) (es : List Transition) :
+    Type 0 where
   pub header : List ℕ
   pub lines : List (List ℕ)
   pub cut : HasCut given (header ∷ lines) at

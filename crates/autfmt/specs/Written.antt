@@ -23,12 +23,14 @@ header_of first transitions states =
 -- a transition and its line feed
 abbrev pub written_transition : Transition → List ℕ
 written_transition e =
-    codes "(" ++ decimal e.source ++ codes ", " ++ written_label e.label ++ codes ", " ++ decimal e.target ++ codes ")\n"
+    codes "(" ++ decimal e.source ++ codes ", " ++ written_label e.label ++ codes ", "
+    ++ decimal e.target ++ codes ")\n"
 
 -- by source, then by the bytes of the label, then by target
 abbrev pub transition_cmp : Transition → Transition → Ordering
 transition_cmp d e =
-    ordering_then (nat_cmp d.source e.source) (ordering_then (slice_cmp nat_cmp d.label e.label) (nat_cmp d.target e.target))
+    ordering_then (nat_cmp d.source e.source) (ordering_then (slice_cmp nat_cmp d.label e.label)
+    (nat_cmp d.target e.target))
 
 -- the header and the transitions in the order in which they are listed
 abbrev pub listed : System → List ℕ

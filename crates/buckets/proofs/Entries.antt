@@ -1,14 +1,18 @@
 -- The entries of the numbers: their tags, one more, one less, and all chained anew over other buckets.
-use Rattle.std.proofs.Common.{◌≡◌, ◌≢◌, ◌∙◌, ℕ, ◌+◌, ◌^◌, ◌<◌, List, [], ◌∷◌, ◌++◌, length, get_or, set, take, ap, sym, subst, refl, inl, inr, arith}
+use Rattle.std.proofs.Common.{◌≡◌, ◌≢◌, ◌∙◌, ℕ, ◌+◌, ◌^◌, ◌<◌, List, [], ◌∷◌, ◌++◌, length, get_or, set, take, ap, sym}
+use Rattle.std.proofs.Common.{subst, refl, inl, inr, arith}
 use Rattle.std.proofs.Math.ListN as plain
 use Rattle.std.proofs.Math.Seq.{map-set_same}
 use Rattle.std.proofs.lemmas.Bool.{cases_lt}
-use Rattle.std.proofs.lemmas.List.{length-set, length-map, length-take-le, length_push, map-append, map_more, take-map, take_all, get_or_append_left, get_or_push, get_or-take, get_or-set_same, get_or-set_other}
+use Rattle.std.proofs.lemmas.List.{length-set, length-map, length-take-le, length_push, map-append, map_more, take-map}
+use Rattle.std.proofs.lemmas.List.{take_all, get_or_append_left, get_or_push, get_or-take, get_or-set_same}
+use Rattle.std.proofs.lemmas.List.{get_or-set_other}
 use Rattle.std.proofs.lemmas.List.Elements.{All-push, All-take, All-same}
 use Rattle.buckets.specs.declared.chains.Entry.{Entry}
 use Rattle.buckets.specs.declared.TheConstants.{MOST}
 use Rattle.buckets.specs.Buckets.{tag_at, IsLast}
-use Rattle.buckets.specs.Chains.{tags_of, bucket_of_tag, IsChained, entry_of_none, entry_at, entry_bucket, entry_before, AreBuckets}
+use Rattle.buckets.specs.Chains.{tags_of, bucket_of_tag, IsChained, entry_of_none, entry_at, entry_bucket, entry_before}
+use Rattle.buckets.specs.Chains.{AreBuckets}
 use Rattle.buckets.proofs.Chaining.{IsChained-push, Chained-push, IsChained-pop}
 
 pub tag_is : (entries : List Entry) (r : ℕ) → tag_at (tags_of entries) r ≡ (entry_at entries r).tag
@@ -35,12 +39,14 @@ module _ {heads : List ℕ} {entries : List Entry} (is : AreBuckets heads entrie
       IsLast-further last (λ some. let below = is.chained.heads_below b low in omega arith)
       (λ q high in' e.
       let below = is.chained.heads_last q (omega arith) (omega arith) in
-      let same = ap (λ tag. get_or heads (bucket_of_tag (length heads) tag) 0) (sym (tag_is entries q) ∙ e) ∙ ap (λ b. get_or heads b 0) (sym at_b) in
+      let same = ap (λ tag. get_or heads (bucket_of_tag (length heads) tag) 0) (sym (tag_is entries q) ∙ e)
+      ∙ ap (λ b. get_or heads b 0) (sym at_b) in
       omega arith)
 
   -- from the number before r down
   pub before_is : {k r first : ℕ} → 0 < k → k < length entries → first ≡ (entry_at entries k).before
-      → IsLast (tags_of entries) (tag_at (tags_of entries) k) (first + 1) r → IsLast (tags_of entries) (tag_at (tags_of entries) k) k r
+      → IsLast (tags_of entries) (tag_at (tags_of entries) k) (first + 1) r
+      → IsLast (tags_of entries) (tag_at (tags_of entries) k) k r
   before_is {k} {r} {first} some low head last =
       IsLast-further last (λ some. let below = is.chained.before_below k some low in omega arith)
       (λ q high in' e.
@@ -50,8 +56,10 @@ module _ {heads : List ℕ} {entries : List Entry} (is : AreBuckets heads entrie
       omega arith)
 
 -- a new entry goes before the others of its bucket
-pub AreBuckets-push : (heads : List ℕ) (entries : List Entry) (new : Entry) (b : ℕ) → AreBuckets heads entries → length entries < MOST → b < length heads
-    → new.tag < 2 ^ 32 → b ≡ bucket_of_tag (length heads) new.tag → new.before ≡ get_or heads b 0 → AreBuckets (set heads b (length entries)) (entries ++ new ∷ [])
+pub AreBuckets-push : (heads : List ℕ) (entries : List Entry) (new : Entry) (b : ℕ) → AreBuckets heads entries
+    → length entries < MOST → b < length heads
+    → new.tag < 2 ^ 32 → b ≡ bucket_of_tag (length heads) new.tag → new.before ≡ get_or heads b 0
+    → AreBuckets (set heads b (length entries)) (entries ++ new ∷ [])
 AreBuckets-push heads entries new b is few in' low at_b head =
     let count = length entries in
     let all = entries ++ new ∷ [] in
@@ -62,11 +70,14 @@ AreBuckets-push heads entries new b is few in' low at_b head =
       few_buckets = let few = is.few_buckets in omega arith;
       some = omega arith;
       few = omega arith;
-      none = tag_is (entries ++ new ∷ []) 0 ∙ ap (λ x. x.tag) (get_or_append_left entries (new ∷ []) entry_of_none 0 is.some) ∙ sym (tag_is entries 0) ∙ is.none;
-      tags = All-same (λ tag. tag < 2 ^ 32) (tags_of (entries ++ new ∷ [])) (tags_of entries ++ new.tag ∷ []) (map-append (λ x. x.tag) entries (new ∷ []))
+      none = tag_is (entries ++ new ∷ []) 0 ∙ ap (λ x. x.tag) (get_or_append_left entries (new ∷ []) entry_of_none 0
+          is.some) ∙ sym (tag_is entries 0) ∙ is.none;
+      tags = All-same (λ tag. tag < 2 ^ 32) (tags_of (entries ++ new ∷ [])) (tags_of entries ++ new.tag ∷ [])
+          (map-append (λ x. x.tag) entries (new ∷ []))
           (All-push (λ tag. tag < 2 ^ 32) (tags_of entries) new.tag is.tags low);
       chained =
-          Chained-push entry_of_none (λ x. x.before) (entry_bucket entries heads) (entry_bucket all (set heads b count)) entries heads new b is.chained is.some in'
+          Chained-push entry_of_none (λ x. x.before) (entry_bucket entries heads) (entry_bucket all (set heads b count))
+          entries heads new b is.chained is.some in'
           (λ r p h. ap (λ n. bucket_of_tag n (entry_at all r).tag) size
           ∙ ap (λ x. bucket_of_tag (length heads) x.tag) (get_or_append_left entries (new ∷ []) entry_of_none r h))
           (ap (λ n. bucket_of_tag n (entry_at all count).tag) size
@@ -75,34 +86,41 @@ AreBuckets-push heads entries new b is few in' low at_b head =
     }
 
 -- the last entry is taken out of its bucket
-pub AreBuckets-pop : (heads : List ℕ) (entries : List Entry) (count b : ℕ) → AreBuckets heads entries → length entries ≡ count + 1 → 0 < count
+pub AreBuckets-pop : (heads : List ℕ) (entries : List Entry) (count b : ℕ) → AreBuckets heads entries
+    → length entries ≡ count + 1 → 0 < count
     → b < length heads → b ≡ bucket_of_tag (length heads) (entry_at entries count).tag
     → AreBuckets (set heads b (entry_at entries count).before) (take count entries)
 AreBuckets-pop heads entries count b is one more in' at_b =
     let before = (entry_at entries count).before in
     let size = length-set heads b before in
     let shorter = length-take-le count entries (omega arith) in
-    let old : (r : ℕ) → r < count → entry_at (take count entries) r ≡ entry_at entries r = λ r h. get_or-take count entries r entry_of_none h in
+    let old : (r : ℕ) → r < count → entry_at (take count entries) r ≡ entry_at entries r =
+    λ r h. get_or-take count entries r entry_of_none h in
     record {
       some_buckets = let some = is.some_buckets in omega arith;
       few_buckets = let few = is.few_buckets in omega arith;
       some = omega arith;
       few = let few = is.few in omega arith;
       none = tag_is (take count entries) 0 ∙ ap (λ x. x.tag) (old 0 more) ∙ sym (tag_is entries 0) ∙ is.none;
-      tags = All-same (λ tag. tag < 2 ^ 32) (tags_of (take count entries)) (take count (tags_of entries)) (sym (take-map (λ x. x.tag) count entries))
+      tags = All-same (λ tag. tag < 2 ^ 32) (tags_of (take count entries)) (take count (tags_of entries))
+          (sym (take-map (λ x. x.tag) count entries))
           (All-take (λ tag. tag < 2 ^ 32) count (tags_of entries) is.tags);
       chained =
-          subst (λ n. IsChained n (entry_bucket (take count entries) (set heads b before)) (entry_before (take count entries)) (set heads b before)) (sym shorter)
+          subst (λ n. IsChained n (entry_bucket (take count entries) (set heads b before))
+          (entry_before (take count entries)) (set heads b before)) (sym shorter)
           (IsChained-pop count (entry_bucket entries heads) (entry_before entries) _ _ heads b
-          (subst (λ n. IsChained n (entry_bucket entries heads) (entry_before entries) heads) one is.chained) more in' (sym at_b)
-          (λ r h. ap (λ n. bucket_of_tag n (entry_at (take count entries) r).tag) size ∙ ap (λ x. bucket_of_tag (length heads) x.tag) (old r h))
+          (subst (λ n. IsChained n (entry_bucket entries heads) (entry_before entries) heads) one is.chained)
+          more in' (sym at_b)
+          (λ r h. ap (λ n. bucket_of_tag n (entry_at (take count entries) r).tag) size
+          ∙ ap (λ x. bucket_of_tag (length heads) x.tag) (old r h))
           (λ r h. ap (λ x. x.before) (old r h)));
     }
 
 pub tags_popped : (entries : List Entry) (count : ℕ) → length entries ≡ count + 1
     → tags_of entries ≡ tags_of (take count entries) ++ (entry_at entries count).tag ∷ []
 tags_popped entries count one =
-    ap tags_of (sym (take_all (count + 1) entries (omega arith))) ∙ map_more (λ x. x.tag) entries count entry_of_none (omega arith)
+    ap tags_of (sym (take_all (count + 1) entries (omega arith))) ∙ map_more (λ x. x.tag) entries count
+    entry_of_none (omega arith)
 
 -- the entries below the number r are in the buckets
 pub record Rechained (old : List Entry) (buckets r : ℕ) (heads : List ℕ) (entries : List Entry) : Type 0 where
@@ -115,7 +133,8 @@ pub record Rechained (old : List Entry) (buckets r : ℕ) (heads : List ℕ) (en
 -- the next entry goes before the others of its bucket
 module _ (old : List Entry) (buckets r : ℕ) (heads : List ℕ) (entries : List Entry) (b : ℕ) (new : Entry)
     (is : Rechained old buckets r heads entries) (next : r < length entries) (in' : b < length heads)
-    (tag : new.tag ≡ (entry_at entries r).tag) (at_b : b ≡ bucket_of_tag (length heads) new.tag) (before : new.before ≡ get_or heads b 0) where
+    (tag : new.tag ≡ (entry_at entries r).tag) (at_b : b ≡ bucket_of_tag (length heads) new.tag) (before : new.before
+    ≡ get_or heads b 0) where
   same : entry_at (set entries r new) r ≡ new
   same = get_or-set_same entries r new _ next
 
@@ -135,8 +154,10 @@ module _ (old : List Entry) (buckets r : ℕ) (heads : List ℕ) (entries : List
         tags = kept ∙ is.tags;
         chained =
             IsChained-push r (entry_bucket entries heads) (entry_before entries)
-            (entry_bucket (set entries r new) (set heads b r)) (entry_before (set entries r new)) heads b is.chained is.some in'
-            (λ k p h. ap (λ n. bucket_of_tag n (entry_at (set entries r new) k).tag) size ∙ ap (bucket_of_tag (length heads)) (tag-kept k))
+            (entry_bucket (set entries r new) (set heads b r)) (entry_before (set entries r new)) heads b
+            is.chained is.some in'
+            (λ k p h. ap (λ n. bucket_of_tag n (entry_at (set entries r new) k).tag) size
+            ∙ ap (bucket_of_tag (length heads)) (tag-kept k))
             (λ k h. ap (λ x. x.before) (other k (λ e. absurd (omega arith))))
             (ap (λ n. bucket_of_tag n (entry_at (set entries r new) r).tag) size
             ∙ ap (λ x. bucket_of_tag (length heads) x.tag) same ∙ sym at_b)

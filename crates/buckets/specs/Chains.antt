@@ -13,7 +13,8 @@ tags_of entries = map (λ x. x.tag) entries
 abbrev pub bucket_of_tag : ℕ → ℕ → ℕ
 bucket_of_tag buckets tag = tag * buckets / 2 ^ 32
 
--- the numbers from 1 up to the count are chained: from the last one of each bucket down to each other one in it, and then to 0
+-- the numbers from 1 up to the count are chained: from the last one of each bucket down to each other one in it, and
+-- then to 0
 pub record IsChained (count : ℕ) (bucket before : ℕ → ℕ) (heads : List ℕ) : Type 0 where
   pub heads_below : (b : ℕ) → b < length heads → slice_index heads b < count
   pub heads_fit : (b : ℕ) → b < length heads → 0 < slice_index heads b → bucket (slice_index heads b) ≡ b
@@ -54,4 +55,5 @@ pub record AreBuckets (heads : List ℕ) (entries : List Entry) : Type 0 where
 
 -- there are heads under which the entries are found, and the number r, if it is one, is in the bucket of the tag
 abbrev pub IsInChain : List Entry → ℕ → ℕ → Type 0
-IsInChain entries tag r = (heads : List ℕ) × AreBuckets heads entries × (0 < r → entry_bucket entries heads r ≡ bucket_of_tag (length heads) tag)
+IsInChain entries tag r = (heads : List ℕ) × AreBuckets heads entries × (0 < r →
+    entry_bucket entries heads r ≡ bucket_of_tag (length heads) tag)

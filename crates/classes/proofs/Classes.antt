@@ -1,7 +1,9 @@
 -- What a state more does to the numbers: their invariant, its start, its step and its end.
-use Rattle.std.proofs.Common.{◌≡◌, ◌≢◌, ◌∙◌, ◌⊎◌, ◌↔◌, ℕ, ◌+◌, ◌<◌, ◌≤◌, Bool, true, false, IsTrue, [], length, get_or, slice_index, replicate, set, refl, sym, ap, subst, inl, inr, arith}
+use Rattle.std.proofs.Common.{◌≡◌, ◌≢◌, ◌∙◌, ◌⊎◌, ◌↔◌, ℕ, ◌+◌, ◌<◌, ◌≤◌, Bool, true, false, IsTrue, [], length, get_or}
+use Rattle.std.proofs.Common.{slice_index, replicate, set, refl, sym, ap, subst, inl, inr, arith}
 use Rattle.std.proofs.lemmas.Bool.{cases_eq, cases_lt}
-use Rattle.std.proofs.lemmas.List.{get_or-set_same, get_or-set_other, get_or-replicate, length-set, length-replicate, length_push}
+use Rattle.std.proofs.lemmas.List.{get_or-set_same, get_or-set_other, get_or-replicate, length-set, length-replicate}
+use Rattle.std.proofs.lemmas.List.{length_push}
 use Rattle.theory.specs.System.{System, IsSystem, Reachable}
 use Rattle.theory.specs.Bisimulation.{Bisimilar}
 use Rattle.theory.specs.declared.relation.Relation.{Relation}
@@ -18,8 +20,10 @@ use Rattle.classes.proofs.Lists.{each_pushed}
 -- what the next state leaves, whatever the relation: numbers for as many blocks, and at most one number more
 pub TakesState-within : (b : ℕ) (reached first : Bool) (old new : Numbers) → TakesState b reached first old new →
     (states : ℕ) (block : ℕ → ℕ) →
-    ((t : ℕ) → t < states → block t < length old.by_block.items) → (t : ℕ) → t < states → block t < length new.by_block.items
-TakesState-within b reached first old new (inl o) states block within t l = rw o.by_block (omega (arith, length-set {A = ℕ}, within t l))
+    ((t : ℕ) → t < states → block t < length old.by_block.items) → (t : ℕ) → t < states →
+    block t < length new.by_block.items
+TakesState-within b reached first old new (inl o) states block within t l =
+    rw o.by_block (omega (arith, length-set {A = ℕ}, within t l))
 TakesState-within b reached first old new (inr f) states block within t l = rw f.by_block (within t l)
 
 pub TakesState-few : (b : ℕ) (reached first : Bool) (old new : Numbers) → TakesState b reached first old new →
@@ -34,8 +38,10 @@ Other rel A s m = IsLeader rel A m × (m < s) × (m ≢ A.first)
 -- how they are counted, state by state
 pub record CountingLaws (rel : Relation) (A : System) : Type 0 where
   pub none : HowMany (Other rel A 0) 0
-  pub one : (l c : ℕ) → IsLeader rel A l → l ≢ A.first → HowMany (Other rel A l) c → HowMany (Other rel A (l + 1)) (c + 1)
-  pub kept : (l c : ℕ) → ¬ (IsLeader rel A l × (l ≢ A.first)) → HowMany (Other rel A l) c → HowMany (Other rel A (l + 1)) c
+  pub one : (l c : ℕ) → IsLeader rel A l → l ≢ A.first → HowMany (Other rel A l) c →
+      HowMany (Other rel A (l + 1)) (c + 1)
+  pub kept : (l c : ℕ) → ¬ (IsLeader rel A l × (l ≢ A.first)) → HowMany (Other rel A l) c →
+      HowMany (Other rel A (l + 1)) c
   pub all : (c : ℕ) → HowMany (Other rel A A.states) c → HowMany (IsLeader rel A) (1 + c)
 
 -- what holds of a system whose blocks are the classes of bisimilar states
@@ -45,7 +51,8 @@ pub record Laws (rel : Relation) (A : System) (block : ℕ → ℕ) : Type 0 whe
   pub first_reached : Reachable A A.first
   pub below : (s : ℕ) → Reachable A s → s < A.states
   pub number : (s : ℕ) → Reachable A s → (n : ℕ) × Number rel A s n
-  pub classes : (s t m n : ℕ) → Reachable A s → Reachable A t → Number rel A s m → Number rel A t n → (m ≡ n) ↔ Bisimilar rel A s A t
+  pub classes : (s t m n : ℕ) → Reachable A s → Reachable A t → Number rel A s m → Number rel A t n →
+      (m ≡ n) ↔ Bisimilar rel A s A t
   pub counting : CountingLaws rel A
 
 -- a reachable state of the block of t below s, or the first state, has the number k, which is below the count
@@ -65,7 +72,8 @@ pub record Taken (rel : Relation) (A : System) (block : ℕ → ℕ) (s : ℕ) (
   pub seen : (t : ℕ) → t < s → Reachable A t → slice_index n.by_block.items (block t) ≢ NONE
   pub known : (t : ℕ) → t < A.states → slice_index n.by_block.items (block t) ≢ NONE →
       Earlier rel A block s t n.count (slice_index n.by_block.items (block t))
-  pub numbers : (t : ℕ) → t < s → Reachable A t → Number rel A t (slice_index n.numbers.items t) × (slice_index n.numbers.items t < n.count)
+  pub numbers : (t : ℕ) → t < s → Reachable A t → Number rel A t (slice_index n.numbers.items t)
+      × (slice_index n.numbers.items t < n.count)
   pub leaders : (t : ℕ) → t < s → IsMarked n.leads.items t ↔ IsLeader rel A t
   pub counted : (c : ℕ) × HowMany (Other rel A s) c × (n.count ≡ 1 + c)
   pub fewer : A.first < s → n.count ≤ s
@@ -89,13 +97,15 @@ module _ (rel : Relation) (A : System) (block : ℕ → ℕ) (laws : Laws rel A 
   first_leader = (A.first, laws.first_reached, first_leads)
 
   -- the first state reached in its block leads it
-  own_leader : (s : ℕ) → Reachable A s → block A.first ≢ block s → ((u : ℕ) → u < s → Reachable A u → block u ≢ block s) → Leader rel A s s
+  own_leader : (s : ℕ) → Reachable A s → block A.first ≢ block s → ((u : ℕ) → u < s → Reachable A u →
+      block u ≢ block s) → Leader rel A s s
   own_leader s way apart new = inr (
     λ b. apart (sym ((laws.same s A.first (laws.below s way) laws.system.first).1 b)),
     (
       (way, bisimilar s s (laws.below s way) (laws.below s way) refl),
       λ k fellow. elim (cases_lt k s) [
-        | inl l ↦ absurd (new k l fellow.0 (sym ((laws.same s k (laws.below s way) (laws.below k fellow.0)).1 fellow.1)))
+        | inl l ↦
+            absurd (new k l fellow.0 (sym ((laws.same s k (laws.below s way) (laws.below k fellow.0)).1 fellow.1)))
         | inr l ↦ l
       ],
     ),
@@ -113,7 +123,8 @@ module _ (rel : Relation) (A : System) (block : ℕ → ℕ) (laws : Laws rel A 
         | inr f ↦ apart (bisimilar t A.first lt laws.system.first (to ∙ ap block f))
       ]
 
-  earlier_on : (s t k count more : ℕ) → count ≤ more → Earlier rel A block s t count k → Earlier rel A block (s + 1) t more k
+  earlier_on : (s t k count more : ℕ) → count ≤ more → Earlier rel A block s t count k →
+      Earlier rel A block (s + 1) t more k
   earlier_on s t k count more up e = record {
     member = e.member;
     reached = e.reached;
@@ -126,11 +137,13 @@ module _ (rel : Relation) (A : System) (block : ℕ → ℕ) (laws : Laws rel A 
   -- the state s has an earlier one in its block
   module _ (s : ℕ) (old new : Numbers) (reached first : Bool) (is_first : IsTrue first ↔ (s ≡ A.first))
       (is_reached : IsTrue reached ↔ Reachable A s)
-      (ls : s < A.states) (few : old.count ≤ s + 1) (h : Taken rel A block s old) (f : JoinsClass (block s) reached first old new) where
+      (ls : s < A.states) (few : old.count ≤ s + 1) (h : Taken rel A block s old)
+      (f : JoinsClass (block s) reached first old new) where
     follows_not_other : ¬ (IsLeader rel A s × (s ≢ A.first))
     follows_not_other (lead, other) =
         let way : Reachable A s = (is_leader_itself rel A laws.system s lead).0 in
-        not_other s old.count (slice_index old.by_block.items (block s)) ls (h.known s ls (f.known (is_reached.1 way))) (lead, other)
+        not_other s old.count (slice_index old.by_block.items (block s)) ls (h.known s ls (f.known (is_reached.1 way)))
+        (lead, other)
 
     follows_leader : IsTrue first ↔ IsLeader rel A s
     follows_leader = (
@@ -138,9 +151,11 @@ module _ (rel : Relation) (A : System) (block : ℕ → ℕ) (laws : Laws rel A 
       λ lead. elim (cases_eq s A.first) [ inl e ↦ is_first.1 e | inr d ↦ absurd (follows_not_other (lead, d)) ],
     )
 
-    follows_number : Reachable A s → Number rel A s (slice_index old.by_block.items (block s)) × (slice_index old.by_block.items (block s) < old.count)
+    follows_number : Reachable A s → Number rel A s (slice_index old.by_block.items (block s))
+        × (slice_index old.by_block.items (block s) < old.count)
     follows_number way =
-        let e : Earlier rel A block s s old.count (slice_index old.by_block.items (block s)) = h.known s ls (f.known (is_reached.1 way)) in
+        let e : Earlier rel A block s s old.count (slice_index old.by_block.items (block s)) =
+        h.known s ls (f.known (is_reached.1 way)) in
         (number_shared e.member s (slice_index old.by_block.items (block s)) e.reached way e.fellow e.number, e.below)
 
     pub Taken-follows : Taken rel A block (s + 1) new
@@ -149,13 +164,17 @@ module _ (rel : Relation) (A : System) (block : ℕ → ℕ) (laws : Laws rel A 
       leads_long = rw f.leads (omega (arith, length_push {X = Bool}, h.leads_long));
       first = rw f.by_block h.first;
       seen = rw f.by_block (λ t l way. elim (cases_eq t s) [
-        | inl e ↦ subst (λ x. slice_index old.by_block.items (block x) ≢ NONE) (sym e) (f.known (is_reached.1 (subst (Reachable A) e way)))
+        | inl e ↦ subst (λ x. slice_index old.by_block.items (block x) ≢ NONE) (sym e)
+            (f.known (is_reached.1 (subst (Reachable A) e way)))
         | inr d ↦ h.seen t (omega (arith, l, d)) way
       ]);
-      known = rw (f.by_block, f.count) (λ t l some. earlier_on s t (slice_index old.by_block.items (block t)) old.count old.count (omega arith) (h.known t l some));
-      numbers = rw (f.numbers, f.count) (each_pushed (λ t n. Reachable A t → Number rel A t n × (n < old.count)) old.numbers.items
+      known = rw (f.by_block, f.count) (λ t l some. earlier_on s t (slice_index old.by_block.items (block t)) old.count
+          old.count (omega arith) (h.known t l some));
+      numbers = rw (f.numbers, f.count) (each_pushed (λ t n. Reachable A t →
+          Number rel A t n × (n < old.count)) old.numbers.items
           (slice_index old.by_block.items (block s)) 0 s h.numbers_long h.numbers follows_number);
-      leaders = rw f.leads (each_pushed (λ t b. IsTrue b ↔ IsLeader rel A t) old.leads.items first false s h.leads_long h.leaders follows_leader);
+      leaders = rw f.leads (each_pushed (λ t b. IsTrue b ↔ IsLeader rel A t) old.leads.items first false s h.leads_long
+          h.leaders follows_leader);
       counted = (h.counted.0, laws.counting.kept s h.counted.0 follows_not_other h.counted.1, f.count ∙ h.counted.2);
       fewer = λ l. omega (arith, f.count, few);
     }
@@ -175,7 +194,8 @@ module _ (rel : Relation) (A : System) (block : ℕ → ℕ) (laws : Laws rel A 
 
     opens_leader : Leader rel A s s
     opens_leader =
-        own_leader s opens_way opens_apart (λ u l way e. h.seen u l way (ap (slice_index old.by_block.items) e ∙ o.fresh))
+        own_leader s opens_way opens_apart
+        (λ u l way e. h.seen u l way (ap (slice_index old.by_block.items) e ∙ o.fresh))
 
     opens_is_leader : IsLeader rel A s
     opens_is_leader = (s, opens_way, opens_leader)
@@ -189,7 +209,8 @@ module _ (rel : Relation) (A : System) (block : ℕ → ℕ) (laws : Laws rel A 
     opens_at : slice_index new.by_block.items (block s) ≡ old.count
     opens_at = rw o.by_block (get_or-set_same old.by_block.items (block s) old.count 0 within)
 
-    opens_elsewhere : (t : ℕ) → block t ≢ block s → slice_index new.by_block.items (block t) ≡ slice_index old.by_block.items (block t)
+    opens_elsewhere : (t : ℕ) → block t ≢ block s → slice_index new.by_block.items (block t)
+        ≡ slice_index old.by_block.items (block t)
     opens_elsewhere t d = rw o.by_block (get_or-set_other old.by_block.items (block s) (block t) old.count 0 d)
 
     opens_here : (t : ℕ) → block t ≡ block s → slice_index new.by_block.items (block t) ≡ old.count
@@ -214,7 +235,8 @@ module _ (rel : Relation) (A : System) (block : ℕ → ℕ) (laws : Laws rel A 
     opens_seen : (t : ℕ) → t < s + 1 → Reachable A t → slice_index new.by_block.items (block t) ≢ NONE
     opens_seen t l way e = elim (cases_eq (block t) (block s)) [
       | inl f ↦ opens_some (sym (opens_here t f) ∙ e)
-      | inr d ↦ h.seen t (let other : t ≢ s = λ f. d (ap block f) in omega (arith, l, other)) way (sym (opens_elsewhere t d) ∙ e)
+      | inr d ↦ h.seen t (let other : t ≢ s = λ f. d (ap block f) in omega (arith, l, other)) way
+          (sym (opens_elsewhere t d) ∙ e)
     ]
 
     pub Taken-opens : Taken rel A block (s + 1) new
@@ -224,11 +246,18 @@ module _ (rel : Relation) (A : System) (block : ℕ → ℕ) (laws : Laws rel A 
       first = λ e. h.first (sym (opens_elsewhere A.first opens_apart) ∙ e);
       seen = opens_seen;
       known = opens_known;
-      numbers = rw o.numbers (each_pushed (λ t n. Reachable A t → Number rel A t n × (n < new.count)) old.numbers.items old.count 0 s h.numbers_long
-          (λ t l way. let had = h.numbers t l way in (had.0, omega (arith, o.count, had.1))) (λ way. (opens_number, omega (arith, o.count))));
-      leaders = rw o.leads (each_pushed (λ t b. IsTrue b ↔ IsLeader rel A t) old.leads.items true false s h.leads_long h.leaders
+      numbers = rw o.numbers (each_pushed (λ t n. Reachable A t → Number rel A t n × (n < new.count)) old.numbers.items
+          old.count 0 s h.numbers_long
+          (λ t l way. let had = h.numbers t l way in (had.0, omega (arith, o.count, had.1)))
+          (λ way. (opens_number, omega (arith, o.count))));
+      leaders = rw o.leads (each_pushed (λ t b. IsTrue b ↔ IsLeader rel A t) old.leads.items true false s
+          h.leads_long h.leaders
           (λ x. opens_is_leader, λ x. refl));
-      counted = (h.counted.0 + 1, laws.counting.one s h.counted.0 opens_is_leader opens_other h.counted.1, omega (arith, o.count, h.counted.2));
+      counted = (
+        h.counted.0 + 1,
+        laws.counting.one s h.counted.0 opens_is_leader opens_other h.counted.1,
+        omega (arith, o.count, h.counted.2),
+      );
       fewer = λ l. omega (arith, o.count, h.fewer (let d = opens_other in omega (arith, l, d)));
     }
 
@@ -242,8 +271,8 @@ module _ (rel : Relation) (A : System) (block : ℕ → ℕ) (laws : Laws rel A 
     first = rw by_block (λ e. absurd (omega (arith, e, at)));
     seen = λ t l. absurd (omega (arith, l));
     known = λ t l some. elim (cases_eq (block t) (block A.first)) [
-      | inl e ↦
-          let value : slice_index n.by_block.items (block t) ≡ 0 = ap (slice_index n.by_block.items) e ∙ rw by_block at in
+      | inl e ↦ let value : slice_index n.by_block.items (block t) ≡ 0 = ap (slice_index n.by_block.items) e
+          ∙ rw by_block at in
           subst (Earlier rel A block 0 t n.count) (sym value) (record {
             member = A.first;
             reached = laws.first_reached;
@@ -252,7 +281,8 @@ module _ (rel : Relation) (A : System) (block : ℕ → ℕ) (laws : Laws rel A 
             number = (A.first, first_leads, inl (refl, refl));
             below = omega (arith, one);
           })
-      | inr d ↦ absurd (some (rw by_block (get_or-set_other (replicate count NONE) (block A.first) (block t) 0 0 d ∙ get_or-replicate count (block t) NONE 0 (within t l))))
+      | inr d ↦ absurd (some (rw by_block (get_or-set_other (replicate count NONE) (block A.first) (block t) 0 0 d
+          ∙ get_or-replicate count (block t) NONE 0 (within t l))))
     ];
     numbers = λ t l. absurd (omega (arith, l));
     leaders = λ t l. absurd (omega (arith, l));
@@ -261,7 +291,8 @@ module _ (rel : Relation) (A : System) (block : ℕ → ℕ) (laws : Laws rel A 
   }
     where
       at : get_or (set (replicate count NONE) (block A.first) 0) (block A.first) 0 ≡ 0
-      at = get_or-set_same (replicate count NONE) (block A.first) 0 0 (omega (arith, length-replicate {A = ℕ}, within A.first laws.system.first))
+      at = get_or-set_same (replicate count NONE) (block A.first) 0 0
+          (omega (arith, length-replicate {A = ℕ}, within A.first laws.system.first))
 
   -- when all states were taken, they have their numbers
   pub Taken-end : (n : Numbers) (made : Numbering) → made.numbers.items ≡ n.numbers.items →
@@ -288,7 +319,8 @@ module _ (rel : Relation) (A : System) (block : ℕ → ℕ) (laws : Laws rel A 
       (IsTrue first ↔ (s ≡ A.first)) → (IsTrue reached ↔ Reachable A s) →
       s < A.states → s + 1 < NONE → old.count ≤ s + 1 → block s < length old.by_block.items →
       Taken rel A block s old → TakesState b reached first old new → Taken rel A block (s + 1) new
-  Taken-adds s b old new reached first at is_first is_reached ls low few within h adds = elim (subst (λ x. TakesState x reached first old new) at adds) [
-    | inl o ↦ Taken-opens s old new reached is_reached ls low few within h o
-    | inr f ↦ Taken-follows s old new reached first is_first is_reached ls few h f
-  ]
+  Taken-adds s b old new reached first at is_first is_reached ls low few within h adds =
+      elim (subst (λ x. TakesState x reached first old new) at adds) [
+        | inl o ↦ Taken-opens s old new reached is_reached ls low few within h o
+        | inr f ↦ Taken-follows s old new reached first is_first is_reached ls few h f
+      ]

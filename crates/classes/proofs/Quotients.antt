@@ -1,5 +1,7 @@
 -- What enough rows show between numbers is the quotient.
-use Rattle.std.proofs.Common.{◌≡◌, ◌≢◌, ◌∙◌, ◌↔◌, ℕ, ◌<◌, ◌≤◌, ◌==◌, Bool, true, false, Option, None, Some, List, [], length, map, get_or, slice_index, Contains, IsPermutation, Result, Ok, Err, IfOk, refl, sym, ap, subst, arith}
+use Rattle.std.proofs.Common.{◌≡◌, ◌≢◌, ◌∙◌, ◌↔◌, ℕ, ◌<◌, ◌≤◌, ◌==◌, Bool, true, false, Option, None, Some, List, []}
+use Rattle.std.proofs.Common.{length, map, get_or, slice_index, Contains, IsPermutation, Result, Ok, Err, IfOk, refl}
+use Rattle.std.proofs.Common.{sym, ap, subst, arith}
 use Rattle.std.specs.List.{AllPairs}
 use Rattle.std.proofs.lemmas.Bool.{and_parts, eqb-true, eq-eqb, both_ways, not-true, not_from_false, false_from_ne_true}
 use Rattle.std.proofs.lemmas.List.{length-map, get_or-map, get_or_default}
@@ -11,11 +13,13 @@ use Rattle.theory.specs.declared.relation.Relation.{Relation}
 use Rattle.theory.specs.declared.relation.Relation.TheVariants.{Strong, Branching}
 use Rattle.theory.specs.Quotient.{Fellow, Leader, Number, Stands, IsDropped, ShowsNothing, Quotient}
 use Rattle.lts.specs.Labels.{text_of, IsTable}
-use Rattle.lts.specs.Lts.{Triple, source_of, label_of, target_of, row_of, transition_of, system_from, system_of, IsGrouping, IsTriple, InRange, IsLts, Grouped}
+use Rattle.lts.specs.Lts.{Triple, source_of, label_of, target_of, row_of, transition_of, system_from, system_of}
+use Rattle.lts.specs.Lts.{IsGrouping, IsTriple, InRange, IsLts, Grouped}
 use Rattle.classes.specs.Marked.{IsMarked}
 use Rattle.classes.specs.Reading.{sources_of, IsDroppedLabel}
 use Rattle.classes.specs.Numbers.{IsNumbering}
-use Rattle.classes.specs.Triples.{Member, numbered_rows, between_numbers, is_left_out, IsShownByMarked, AreMembers, HasShown}
+use Rattle.classes.specs.Triples.{Member, numbered_rows, between_numbers, is_left_out, IsShownByMarked, AreMembers}
+use Rattle.classes.specs.Triples.{HasShown}
 use Rattle.classes.proofs.Members.{members_show}
 use Rattle.classes.specs.declared.numbering.Numbering.{Numbering}
 use Rattle.theory.proofs.CallerLemmas.{leader_fellow, is_leader_itself, quotient_reordered}
@@ -23,7 +27,8 @@ use Rattle.lts.proofs.CallerLemmas.{contains_mapped, mapped_contains}
 use Rattle.classes.proofs.Rows.{ShownPlace, place_of, shown_place}
 
 -- transitions of different triples differ, if their labels are in the table
-transitions_differ : (labels : List (List ℕ)) (es : List Triple) → IsTable labels → ((x : Triple) → Contains es x → label_of x < length labels) →
+transitions_differ : (labels : List (List ℕ)) (es : List Triple) → IsTable labels → ((x : Triple) → Contains es x →
+    label_of x < length labels) →
     AllPairs (λ x y. x ≢ y) es → AllPairs (λ e f. e ≢ f) (map (transition_of labels) es)
 transitions_differ labels es table within once i j d low high same =
     let lj : j < length es = omega (arith, high, length-map es (transition_of labels)) in
@@ -31,25 +36,30 @@ transitions_differ labels es table within once i j d low high same =
     let x : Triple = get_or es i (0, 0, 0) in
     let y : Triple = get_or es j (0, 0, 0) in
     let e : transition_of labels x ≡ transition_of labels y =
-    sym (get_or-map (transition_of labels) es i (0, 0, 0) d li) ∙ (same ∙ get_or-map (transition_of labels) es j (0, 0, 0) d lj) in
+    sym (get_or-map (transition_of labels) es i (0, 0, 0) d li)
+    ∙ (same ∙ get_or-map (transition_of labels) es j (0, 0, 0) d lj) in
     let label : label_of x ≡ label_of y =
-    table.different (label_of x) (label_of y) (within x (Contains-get_or es i (0, 0, 0) li)) (within y (Contains-get_or es j (0, 0, 0) lj)) (ap (λ t. t.label) e) in
+    table.different (label_of x) (label_of y) (within x (Contains-get_or es i (0, 0, 0) li))
+    (within y (Contains-get_or es j (0, 0, 0) lj)) (ap (λ t. t.label) e) in
     once i j (0, 0, 0) low lj (λ k. (ap (λ t. t.source) e k, label k, ap (λ t. t.target) e k))
 
 -- the laws of the theory and those of rows, at this system
 pub record Laws (rel : Relation) (g : Grouped) : Type 0 where
   pub lts : IsLts g
   pub reached_first : Reachable (system_of g) g.first
-  pub reached_on : (s : ℕ) (a : List ℕ) (t : ℕ) → Reachable (system_of g) s → Step (system_of g) s a t → Reachable (system_of g) t
+  pub reached_on : (s : ℕ) (a : List ℕ) (t : ℕ) → Reachable (system_of g) s → Step (system_of g) s a t →
+      Reachable (system_of g) t
   pub below : (s : ℕ) → Reachable (system_of g) s → s < g.states
   pub leader : (s : ℕ) → Reachable (system_of g) s → (l : ℕ) × Leader rel (system_of g) s l
   pub one_number : (s m n : ℕ) → Number rel (system_of g) s m → Number rel (system_of g) s n → m ≡ n
   pub classes : (s t m n : ℕ) → Reachable (system_of g) s → Reachable (system_of g) t →
-      Number rel (system_of g) s m → Number rel (system_of g) t n → (m ≡ n) ↔ Bisimilar rel (system_of g) s (system_of g) t
+      Number rel (system_of g) s m → Number rel (system_of g) t n →
+      (m ≡ n) ↔ Bisimilar rel (system_of g) s (system_of g) t
   pub states : (Q : System) (s n : ℕ) → Quotient rel (system_of g) Q → Number rel (system_of g) s n → n < Q.states
   pub shows_all : (s t : ℕ) (a : List ℕ) (u : ℕ) → Bisimilar rel (system_of g) s (system_of g) t →
       ((b : List ℕ) (v : ℕ) → Step (system_of g) s b v → ¬ ShowsNothing rel (system_of g) s b v) →
-      Step (system_of g) t a u → ¬ ShowsNothing rel (system_of g) t a u → (v : ℕ) × Step (system_of g) s a v × Bisimilar rel (system_of g) u (system_of g) v
+      Step (system_of g) t a u → ¬ ShowsNothing rel (system_of g) t a u →
+      (v : ℕ) × Step (system_of g) s a v × Bisimilar rel (system_of g) u (system_of g) v
   pub sources : (s : ℕ) (es : List Triple) (e : Triple) → Contains (row_of s es) e ↔ (Contains es e × (source_of e ≡ s))
   pub steps : (s : ℕ) (a : List ℕ) (t : ℕ) → Step (system_of g) s a t ↔
       ((e : Triple) × Contains (row_of s g.places) e × (text_of g.labels (label_of e) ≡ a) × (target_of e ≡ t))
@@ -67,17 +77,22 @@ pub record Twin (g : Grouped) (numbers : List ℕ) (sources : List Bool) (s : �
 -- the marked states are reachable, and each step of a reachable state has a twin among theirs
 pub record AreEnough (g : Grouped) (numbers : List ℕ) (sources : List Bool) : Type 0 where
   pub only : (s : ℕ) → s < g.states → IsMarked sources s → Reachable (system_of g) s
-  pub each : (s : ℕ) (a : List ℕ) (t : ℕ) → Reachable (system_of g) s → Step (system_of g) s a t → Twin g numbers sources s a t
+  pub each : (s : ℕ) (a : List ℕ) (t : ℕ) → Reachable (system_of g) s → Step (system_of g) s a t →
+      Twin g numbers sources s a t
 
-module _ (rel : Relation) (g : Grouped) (n : Numbering) (laws : Laws rel g) (num : IsNumbering rel (system_of g) n) where
+module _ (rel : Relation) (g : Grouped) (n : Numbering) (laws : Laws rel g)
+    (num : IsNumbering rel (system_of g) n) where
   -- bisimilar states have one number
-  same_number : (s t : ℕ) → Reachable (system_of g) s → Reachable (system_of g) t → Bisimilar rel (system_of g) s (system_of g) t →
+  same_number : (s t : ℕ) → Reachable (system_of g) s → Reachable (system_of g) t →
+      Bisimilar rel (system_of g) s (system_of g) t →
       slice_index n.numbers.items t ≡ slice_index n.numbers.items s
   same_number s t ws wt b =
-      sym ((laws.classes s t (slice_index n.numbers.items s) (slice_index n.numbers.items t) ws wt (num.number s ws) (num.number t wt)).1 b)
+      sym ((laws.classes s t (slice_index n.numbers.items s) (slice_index n.numbers.items t) ws wt (num.number s ws)
+      (num.number t wt)).1 b)
 
   -- the reachable states are enough
-  reached_enough : (reached : List Bool) → ((s : ℕ) → s < g.states → IsMarked reached s ↔ Reachable (system_of g) s) → AreEnough g n.numbers.items reached
+  reached_enough : (reached : List Bool) → ((s : ℕ) → s < g.states → IsMarked reached s ↔ Reachable (system_of g) s) →
+      AreEnough g n.numbers.items reached
   reached_enough reached is = record {
     only = λ s l. (is s l).0;
     each = λ s a t way step. record {
@@ -92,12 +107,14 @@ module _ (rel : Relation) (g : Grouped) (n : Numbering) (laws : Laws rel g) (num
   }
 
 -- the leaders are enough for strong bisimulation: a leader answers each step of its class
-leaders_enough : (g : Grouped) (n : Numbering) → Laws Strong g → IsNumbering Strong (system_of g) n → AreEnough g n.numbers.items n.leads.items
+leaders_enough : (g : Grouped) (n : Numbering) → Laws Strong g → IsNumbering Strong (system_of g) n →
+    AreEnough g n.numbers.items n.leads.items
 leaders_enough g n laws num = record {
   only = λ s l marked. (is_leader_itself Strong (system_of g) laws.lts.system s ((num.leader s l).0 marked)).0;
   each = λ s a t way step.
       let found : (l : ℕ) × Leader Strong (system_of g) s l = laws.leader s way in
-      let fellow : Fellow Strong (system_of g) s found.0 = leader_fellow Strong (system_of g) laws.lts.system s found.0 found.1 in
+      let fellow : Fellow Strong (system_of g) s found.0 =
+      leader_fellow Strong (system_of g) laws.lts.system s found.0 found.1 in
       let low : found.0 < g.states = laws.below found.0 fellow.0 in
       let answer = fellow.1.1.forth s found.0 fellow.1.2 a t step in
       record {
@@ -120,7 +137,8 @@ rows_enough Strong g n laws num = leaders_enough g n laws num
 rows_enough Branching g n laws num = reached_enough Branching g n laws num n.reached.items num.reached
 
 -- what is left out is what the relation drops
-pub left_out_is : (rel : Relation) (labels : List (List ℕ)) (dropped : Option ℕ) → IsTable labels → IsDroppedLabel rel labels dropped →
+pub left_out_is : (rel : Relation) (labels : List (List ℕ)) (dropped : Option ℕ) → IsTable labels →
+    IsDroppedLabel rel labels dropped →
     (x : Triple) → label_of x < length labels → (is_left_out dropped x ≡ true) ↔ IsDropped rel (transition_of labels x)
 left_out_is Strong labels dropped table none x low = (
   λ out. both_ways (is_left_out dropped x) (ap (λ d. is_left_out d x) none) out,
@@ -131,17 +149,19 @@ left_out_is Branching labels None table without x low = (
   λ h. absurd (without (label_of x, low, get_or_default labels (label_of x) internal [] low ∙ h.0)),
 )
 left_out_is Branching labels (Some k) table number x low = (
-  λ out.
-      let parts = and_parts (label_of x == k) (source_of x == target_of x) out in
-      (ap (text_of labels) (eqb-true (label_of x) k parts.0) ∙ number.text, eqb-true (source_of x) (target_of x) parts.1),
-  λ h.
-      let label : (label_of x == k) ≡ true = eq-eqb (label_of x) k (table.different (label_of x) k low number.below (h.0 ∙ sym number.text)) in
+  λ out. let parts = and_parts (label_of x == k) (source_of x == target_of x) out in (
+    ap (text_of labels) (eqb-true (label_of x) k parts.0) ∙ number.text,
+    eqb-true (source_of x) (target_of x) parts.1,
+  ),
+  λ h. let label : (label_of x == k) ≡ true =
+      eq-eqb (label_of x) k (table.different (label_of x) k low number.below (h.0 ∙ sym number.text)) in
       let loop : (source_of x == target_of x) ≡ true = eq-eqb (source_of x) (target_of x) h.1 in
       rw (label, loop) refl,
 )
 
 -- what a quotient is made of: the triples that enough rows of a numbered system show, each once
-pub record Parts (rel : Relation) (g : Grouped) (n : Numbering) (sources : List Bool) (dropped : Option ℕ) (es : List Triple) : Type 0 where
+pub record Parts (rel : Relation) (g : Grouped) (n : Numbering) (sources : List Bool) (dropped : Option ℕ)
+    (es : List Triple) : Type 0 where
   pub laws : Laws rel g
   pub numbering : IsNumbering rel (system_of g) n
   pub enough : AreEnough g n.numbers.items sources
@@ -150,8 +170,10 @@ pub record Parts (rel : Relation) (g : Grouped) (n : Numbering) (sources : List 
   pub once : AllPairs (λ x y. x ≢ y) es
 
 -- what the rows of the members show is what those of the marked states do
-pub Parts-shown : (rel : Relation) (g : Grouped) (n : Numbering) (sources : List Bool) (dropped : Option ℕ) (es : List Triple) (members : List Member) →
-    Laws rel g → IsNumbering rel (system_of g) n → AreEnough g n.numbers.items sources → IsDroppedLabel rel g.labels dropped →
+pub Parts-shown : (rel : Relation) (g : Grouped) (n : Numbering) (sources : List Bool) (dropped : Option ℕ)
+    (es : List Triple) (members : List Member) →
+    Laws rel g → IsNumbering rel (system_of g) n → AreEnough g n.numbers.items sources →
+    IsDroppedLabel rel g.labels dropped →
     AreMembers n.numbers.items sources g.states members →
     HasShown (numbered_rows g n.numbers.items dropped) members es → Parts rel g n sources dropped es
 Parts-shown rel g n sources dropped es members laws numbering enough drops are has =
@@ -169,7 +191,8 @@ module _ (rel : Relation) (g : Grouped) (n : Numbering) (sources : List Bool) (d
     (p : Parts rel g n sources dropped es) where
   -- a triple has a label of the table, stands for a step of a reachable state, and is not dropped
   triple_is : (x : Triple) → Contains es x →
-      (label_of x < length g.labels) × Stands rel (system_of g) (transition_of g.labels x) × ¬ IsDropped rel (transition_of g.labels x)
+      (label_of x < length g.labels) × Stands rel (system_of g) (transition_of g.labels x)
+      × ¬ IsDropped rel (transition_of g.labels x)
   triple_is x c =
       let h = (p.exactly x).0 c in
       let from : ShownPlace (numbered_rows g n.numbers.items dropped) h.0 x =
@@ -177,30 +200,45 @@ module _ (rel : Relation) (g : Grouped) (n : Numbering) (sources : List Bool) (d
       let way : Reachable (system_of g) h.0 = p.enough.only h.0 h.1 h.2 in
       let label = text_of g.labels (label_of from.place) in
       let step = (p.laws.steps h.0 label (target_of from.place)).1 (from.place, from.in_row, refl, refl) in
-      let on : Reachable (system_of g) (target_of from.place) = p.laws.reached_on h.0 label (target_of from.place) way step in
-      let stands : Stands rel (system_of g) (transition_of g.labels (between_numbers n.numbers.items h.0 from.place)) =
-      (h.0, target_of from.place, way, step, p.numbering.number h.0 way, p.numbering.number (target_of from.place) on) in
-      let triple = All-contains (IsTriple (length g.labels) g.states) g.places from.place p.laws.lts.in_range.each ((p.laws.sources h.0 g.places from.place).0 from.in_row).0 in
+      let on : Reachable (system_of g) (target_of from.place) =
+      p.laws.reached_on h.0 label (target_of from.place) way step in
+      let stands : Stands rel (system_of g)
+      (transition_of g.labels (between_numbers n.numbers.items h.0 from.place)) = (
+        h.0,
+        target_of from.place,
+        way,
+        step,
+        p.numbering.number h.0 way,
+        p.numbering.number (target_of from.place) on,
+      ) in
+      let triple = All-contains (IsTriple (length g.labels) g.states) g.places from.place p.laws.lts.in_range.each
+      ((p.laws.sources h.0 g.places from.place).0 from.in_row).0 in
       let low = subst (λ y. label_of y < length g.labels) from.is triple.label in (
         low,
         subst (λ y. Stands rel (system_of g) (transition_of g.labels y)) from.is stands,
-        λ gone. both_ways _ (not-true _ from.stays) ((left_out_is rel g.labels dropped p.laws.lts.table p.drops x low).1 gone),
+        λ gone. both_ways _ (not-true _ from.stays)
+            ((left_out_is rel g.labels dropped p.laws.lts.table p.drops x low).1 gone),
       )
 
   -- what stands for a step of a reachable state and is not dropped is shown
-  stands_shown : (e : Transition) → Stands rel (system_of g) e → ¬ IsDropped rel e → (x : Triple) × Contains es x × (transition_of g.labels x ≡ e)
+  stands_shown : (e : Transition) → Stands rel (system_of g) e → ¬ IsDropped rel e →
+      (x : Triple) × Contains es x × (transition_of g.labels x ≡ e)
   stands_shown e (s, t, way, step, hs, ht) stays =
       let twin : Twin g n.numbers.items sources s e.label t = p.enough.each s e.label t way step in
       let place = (p.laws.steps twin.source e.label twin.target).0 twin.step in
       let x : Triple = between_numbers n.numbers.items twin.source place.0 in
       let on : Reachable (system_of g) t = p.laws.reached_on s e.label t way step in
-      let source : source_of x ≡ e.source = twin.from ∙ p.laws.one_number s (slice_index n.numbers.items s) e.source (p.numbering.number s way) hs in
+      let source : source_of x ≡ e.source =
+      twin.from ∙ p.laws.one_number s (slice_index n.numbers.items s) e.source (p.numbering.number s way) hs in
       let target : target_of x ≡ e.target =
-      ap (slice_index n.numbers.items) place.3 ∙ twin.to ∙ p.laws.one_number t (slice_index n.numbers.items t) e.target (p.numbering.number t on) ht in
+      ap (slice_index n.numbers.items) place.3 ∙ twin.to ∙ p.laws.one_number t (slice_index n.numbers.items t) e.target
+      (p.numbering.number t on) ht in
       let is : transition_of g.labels x ≡ e = λ i. record { source = source i; label = place.2 i; target = target i } in
-      let triple = All-contains (IsTriple (length g.labels) g.states) g.places place.0 p.laws.lts.in_range.each ((p.laws.sources twin.source g.places place.0).0 place.1).0 in
+      let triple = All-contains (IsTriple (length g.labels) g.states) g.places place.0 p.laws.lts.in_range.each
+      ((p.laws.sources twin.source g.places place.0).0 place.1).0 in
       let out : ¬ (is_left_out dropped x ≡ true) =
-      λ gone. stays (subst (IsDropped rel) is ((left_out_is rel g.labels dropped p.laws.lts.table p.drops x triple.label).0 gone)) in
+      λ gone. stays (subst (IsDropped rel) is
+      ((left_out_is rel g.labels dropped p.laws.lts.table p.drops x triple.label).0 gone)) in
       let shown = shown_place (numbered_rows g n.numbers.items dropped) twin.source place.0 place.1
       (not_from_false _ (false_from_ne_true _ out)) in
       (x, (p.exactly x).1 (twin.source, twin.low, twin.marked, shown), is)
@@ -236,7 +274,8 @@ module _ (rel : Relation) (g : Grouped) (n : Numbering) (sources : List Bool) (d
   pub quotient_in_range : length es ≤ length g.places → InRange (length g.labels) 0 n.count es
   quotient_in_range few =
       let low : slice_index n.numbers.items g.first < n.count =
-      p.laws.states (system_from 0 n.count g.labels es) g.first (slice_index n.numbers.items g.first) quotient_of (p.numbering.number g.first p.laws.reached_first) in
+      p.laws.states (system_from 0 n.count g.labels es) g.first (slice_index n.numbers.items g.first) quotient_of
+      (p.numbering.number g.first p.laws.reached_first) in
       record {
         first_below = omega (arith, low);
         few_states = omega (arith, p.numbering.few, p.laws.lts.in_range.few_states);
@@ -247,14 +286,18 @@ module _ (rel : Relation) (g : Grouped) (n : Numbering) (sources : List Bool) (d
 -- the system that is built of them
 module _ (rel : Relation) (g : Grouped) (n : Numbering) (sources : List Bool) (dropped : Option ℕ) (es : List Triple)
     (p : Parts rel g n sources dropped es) (labels : List (List ℕ)) (same : labels ≡ g.labels) where
-  built : (q : Grouped) → q.first ≡ 0 → q.states ≡ n.count → q.labels ≡ labels → IsGrouping es q.places → Quotient rel (system_of g) (system_of q)
+  built : (q : Grouped) → q.first ≡ 0 → q.states ≡ n.count → q.labels ≡ labels → IsGrouping es q.places →
+      Quotient rel (system_of g) (system_of q)
   built q first states table grouping =
       let moved = IsPermutation-sym _ _ (IsPermutation-map (transition_of g.labels) es q.places grouping.same) in
       quotient_reordered rel (system_of g) (system_from 0 n.count g.labels es) (system_of q) first states
-      (subst (λ t. IsPermutation (map (transition_of t) q.places) (map (transition_of g.labels) es)) (sym (table ∙ same)) moved)
+      (subst (λ t. IsPermutation (map (transition_of t) q.places) (map (transition_of g.labels) es))
+      (sym (table ∙ same)) moved)
       (quotient_of rel g n sources dropped es p)
 
-  pub IfOk-quotient : {E : Type 0} (r : Result Grouped E) → IfOk r (λ q. q.first ≡ 0) → IfOk r (λ q. q.states ≡ n.count) →
-      IfOk r (λ q. q.labels ≡ labels) → IfOk r (λ q. IsGrouping es q.places) → IfOk r (λ q. Quotient rel (system_of g) (system_of q))
+  pub IfOk-quotient : {E : Type 0} (r : Result Grouped E) → IfOk r (λ q. q.first ≡ 0) →
+      IfOk r (λ q. q.states ≡ n.count) →
+      IfOk r (λ q. q.labels ≡ labels) → IfOk r (λ q. IsGrouping es q.places) →
+      IfOk r (λ q. Quotient rel (system_of g) (system_of q))
   IfOk-quotient (Ok q) first states table grouping = built q first states table grouping
   IfOk-quotient (Err e) first states table grouping = tt

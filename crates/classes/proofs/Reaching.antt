@@ -1,10 +1,14 @@
 -- What a step of the search leaves: its marks, and what is still to be read.
-use Rattle.std.proofs.Common.{◌≡◌, ◌≢◌, ◌⊎◌, ◌∙◌, ◌↔◌, ℕ, zero, suc, ◌+◌, ◌<◌, ◌≤◌, Bool, true, false, cond, not, ◌&&◌, eqb, ltb, List, [], ◌∷◌, ◌++◌, length, All, get_or, set, replicate, Contains, sym, ap, subst, refl, inl, inr, arith, rules}
+use Rattle.std.proofs.Common.{◌≡◌, ◌≢◌, ◌⊎◌, ◌∙◌, ◌↔◌, ℕ, zero, suc, ◌+◌, ◌<◌, ◌≤◌, Bool, true, false, cond, not, ◌&&◌}
+use Rattle.std.proofs.Common.{eqb, ltb, List, [], ◌∷◌, ◌++◌, length, All, get_or, set, replicate, Contains, sym, ap}
+use Rattle.std.proofs.Common.{subst, refl, inl, inr, arith, rules}
 use Rattle.std.specs.List.{filter}
 use Rattle.std.proofs.lemmas.Grind.{get_or-set_at}
 use Rattle.std.proofs.lemmas.Bool.{cases_eq, cases_lt, both_ways, eq-eqb, ne_eqb, lt-ltb, le-ltb, false_from_ne_true}
-use Rattle.std.proofs.lemmas.List.{get_or-set_same, get_or-set_other, length-replicate, get_or_past, length_push, length-set}
-use Rattle.std.proofs.lemmas.List.Elements.{All-push, All-weaker, Contains-push, Contains-push_cases, Contains-append_left, filter_agree}
+use Rattle.std.proofs.lemmas.List.{get_or-set_same, get_or-set_other, length-replicate, get_or_past, length_push}
+use Rattle.std.proofs.lemmas.List.{length-set}
+use Rattle.std.proofs.lemmas.List.Elements.{All-push, All-weaker, Contains-push, Contains-push_cases}
+use Rattle.std.proofs.lemmas.List.Elements.{Contains-append_left, filter_agree}
 use Rattle.std.proofs.lemmas.List.Sums.{sum_by_push, sum_by-set, length-filter, count_by-le-length}
 use Rattle.theory.specs.System.{Step, Reachable}
 use Rattle.lts.specs.Lts.{Triple, source_of, target_of, row_of, Grouped, system_of}
@@ -29,7 +33,8 @@ set_keeps s t marked l m = elim (cases_eq t s) [
   | inr d ↦ get_or-set_other marked s t true false d ∙ m
 ]
 
-module _ (s next : ℕ) (old : List Bool) (old_waiting : List ℕ) (new : List Bool) (new_waiting : List ℕ) (marks : MarksState s next old old_waiting new new_waiting) (l : s < length old) where
+module _ (s next : ℕ) (old : List Bool) (old_waiting : List ℕ) (new : List Bool) (new_waiting : List ℕ)
+    (marks : MarksState s next old old_waiting new new_waiting) (l : s < length old) where
   pub MarksState-self : IsMarked new s
   MarksState-self = elim marks [
     | inl h ↦ subst (λ x. IsMarked x s) (sym h.1) h.0
@@ -70,11 +75,14 @@ marked_below states marked s size m = elim (cases_lt s (length marked)) [
   | inr l ↦ absurd (both_ways _ (get_or_past marked s false l) m)
 ]
 
-pub Searches-below : (g : Grouped) (marked : List Bool) (next s : ℕ) (queue : List ℕ) → Searches g marked next (s ∷ queue) → s < g.states
-Searches-below g marked next s queue search = marked_below g.states marked s search.size (search.each_waiting s (contains_here s queue))
+pub Searches-below : (g : Grouped) (marked : List Bool) (next s : ℕ) (queue : List ℕ) →
+    Searches g marked next (s ∷ queue) → s < g.states
+Searches-below g marked next s queue search =
+    marked_below g.states marked s search.size (search.each_waiting s (contains_here s queue))
 
 -- the first state is marked, and nothing waits
-pub Searches-first : (g : Grouped) → g.first < g.states → Reachable (system_of g) g.first → Searches g (set (replicate g.states false) g.first true) 0 []
+pub Searches-first : (g : Grouped) → g.first < g.states → Reachable (system_of g) g.first →
+    Searches g (set (replicate g.states false) g.first true) 0 []
 Searches-first g below reached =
     let none = replicate g.states false in
     record {
@@ -89,12 +97,15 @@ Searches-first g below reached =
     }
 
 -- one reachable state more is marked, and waits if it was passed
-pub Searches-mark : (g : Grouped) (t next : ℕ) (old : List Bool) (waiting : List ℕ) (new : List Bool) (pushed : List ℕ) → t < length old →
-    Reachable (system_of g) t → Searches g old next waiting → MarksState t next old waiting new pushed → Searches g new next pushed
+pub Searches-mark : (g : Grouped) (t next : ℕ) (old : List Bool) (waiting : List ℕ) (new : List Bool)
+    (pushed : List ℕ) → t < length old →
+    Reachable (system_of g) t → Searches g old next waiting → MarksState t next old waiting new pushed →
+    Searches g new next pushed
 Searches-mark g t next old waiting new pushed below reached search (inl h) = rw (h.1, h.2) search
 Searches-mark g t next old waiting new pushed below reached search (inr h) =
     let keeps = λ (u : ℕ). set_keeps t u old below in
-    let was = λ (u : ℕ) (d : u ≢ t) (m : IsMarked (set old t true) u). sym (get_or-set_other old t u true false d) ∙ m in
+    let was = λ (u : ℕ) (d : u ≢ t) (m : IsMarked (set old t true) u). sym (get_or-set_other old t u true false d)
+    ∙ m in
     rw (h.1) (record {
       size = length-set old t true ∙ search.size;
       first = keeps g.first search.first;
@@ -107,7 +118,8 @@ Searches-mark g t next old waiting new pushed below reached search (inr h) =
         | inr e ↦ subst (IsMarked (set old t true)) e (get_or-set_same old t true false below)
       ];
       followed = λ u v a l m step. elim (cases_eq u t) [
-        | inl e ↦ inl (subst (Contains pushed) (sym e) (WaitsIfPassed-self t next waiting pushed h.2 (omega (arith, l, e))))
+        | inl e ↦
+            inl (subst (Contains pushed) (sym e) (WaitsIfPassed-self t next waiting pushed h.2 (omega (arith, l, e))))
         | inr d ↦ elim (search.followed u v a l (was u d m) step) [
           | inl c ↦ inl (WaitsIfPassed-keeps t next waiting pushed h.2 u c)
           | inr n ↦ inr (keeps v n)
@@ -119,8 +131,10 @@ Searches-mark g t next old waiting new pushed below reached search (inr h) =
 pub MarksState-after : (s t next : ℕ) (old : List Bool) (queue : List ℕ) (new : List Bool) (pushed : List ℕ) →
     MarksState t next old queue new pushed → MarksState t next old (s ∷ queue) new (s ∷ pushed)
 MarksState-after s t next old queue new pushed (inl h) = inl (h.0, h.1, ap (λ ws. s ∷ ws) h.2)
-MarksState-after s t next old queue new pushed (inr (unmarked, sets, inl w)) = inr (unmarked, sets, inl (w.0, ap (λ ws. s ∷ ws) w.1))
-MarksState-after s t next old queue new pushed (inr (unmarked, sets, inr w)) = inr (unmarked, sets, inr (w.0, ap (λ ws. s ∷ ws) w.1))
+MarksState-after s t next old queue new pushed (inr (unmarked, sets, inl w)) =
+    inr (unmarked, sets, inl (w.0, ap (λ ws. s ∷ ws) w.1))
+MarksState-after s t next old queue new pushed (inr (unmarked, sets, inr w)) =
+    inr (unmarked, sets, inr (w.0, ap (λ ws. s ∷ ws) w.1))
 
 -- a state that a step of s leads to is marked
 pub Searches-step : (g : Grouped) (s t next : ℕ) (old : List Bool) (queue : List ℕ) (new : List Bool)
@@ -146,7 +160,8 @@ targets_marked t next old queue new pushed below marks row more e is target read
     (subst (IsMarked new) target (MarksState-self t next old queue new pushed marks below)))
 
 -- the whole row of s was read
-pub Searches-read : (g : Grouped) (s next : ℕ) (marked : List Bool) (queue : List ℕ) → ((a : List ℕ) (t : ℕ) → Step (system_of g) s a t → IsMarked marked t) →
+pub Searches-read : (g : Grouped) (s next : ℕ) (marked : List Bool) (queue : List ℕ) →
+    ((a : List ℕ) (t : ℕ) → Step (system_of g) s a t → IsMarked marked t) →
     Searches g marked next (s ∷ queue) → Searches g marked next queue
 Searches-read g s next marked queue read search = record {
   size = search.size;
@@ -164,7 +179,8 @@ Searches-read g s next marked queue read search = record {
 
 -- the search passes the state s, whose row is to be read if it is marked
 
-pub Searches-pass : (g : Grouped) (s : ℕ) (marked : List Bool) (queue : List ℕ) → IsMarked marked s → Searches g marked s queue → Searches g marked (s + 1) (s ∷ queue)
+pub Searches-pass : (g : Grouped) (s : ℕ) (marked : List Bool) (queue : List ℕ) → IsMarked marked s →
+    Searches g marked s queue → Searches g marked (s + 1) (s ∷ queue)
 Searches-pass g s marked queue here search = record {
   size = search.size;
   first = search.first;
@@ -175,11 +191,15 @@ Searches-pass g s marked queue here search = record {
   ];
   followed = λ u v a l m step. elim (cases_eq u s) [
     | inl e ↦ inl (subst (Contains (s ∷ queue)) (sym e) (contains_here s queue))
-    | inr d ↦ elim (search.followed u v a (omega (arith, l, d)) m step) [ inl c ↦ inl (contains_there s queue u c) | inr n ↦ inr n ]
+    | inr d ↦ elim (search.followed u v a (omega (arith, l, d)) m step) [
+      | inl c ↦ inl (contains_there s queue u c)
+      | inr n ↦ inr n
+    ]
   ];
 }
 
-pub Searches-skip : (g : Grouped) (s : ℕ) (marked : List Bool) (queue : List ℕ) → get_or marked s false ≡ false → Searches g marked s queue → Searches g marked (s + 1) queue
+pub Searches-skip : (g : Grouped) (s : ℕ) (marked : List Bool) (queue : List ℕ) → get_or marked s false ≡ false →
+    Searches g marked s queue → Searches g marked (s + 1) queue
 Searches-skip g s marked queue unmarked search = record {
   size = search.size;
   first = search.first;
@@ -193,12 +213,14 @@ Searches-skip g s marked queue unmarked search = record {
 
 -- where all were passed and nothing waits, what is marked is what is reachable
 pub Searches-end : (g : Grouped) (marked : List Bool) (waiting : List ℕ) → length waiting ≡ 0 →
-    (IsMarked marked g.first → ((s : ℕ) (a : List ℕ) (t : ℕ) → IsMarked marked s → Step (system_of g) s a t → IsMarked marked t) →
+    (IsMarked marked g.first → ((s : ℕ) (a : List ℕ) (t : ℕ) → IsMarked marked s → Step (system_of g) s a t →
+    IsMarked marked t) →
     (s : ℕ) → Reachable (system_of g) s → IsMarked marked s) →
     Searches g marked g.states waiting → (s : ℕ) → IsMarked marked s ↔ Reachable (system_of g) s
 Searches-end g marked waiting none kept search s = (
   search.only_reachable s,
-  kept search.first (λ u a v m step. elim (search.followed u v a (marked_below g.states marked u search.size m) m step) [ inl c ↦ absurd (omega (arith, none, c.1)) | inr h ↦ h ]) s,
+  kept search.first (λ u a v m step. elim (search.followed u v a (marked_below g.states marked u search.size m) m step)
+      [ inl c ↦ absurd (omega (arith, none, c.1)) | inr h ↦ h ]) s,
 )
 
 -- what is still to be read
@@ -210,10 +232,12 @@ passed next marked s l = ap (λ b. not (b && get_or marked s false)) (lt-ltb s n
 not_passed : (next : ℕ) (marked : List Bool) (s : ℕ) → next ≤ s → is_ahead next marked s ≡ true
 not_passed next marked s l = ap (λ b. not (b && get_or marked s false)) (le-ltb s next l)
 
-other_mark : (next : ℕ) (marked : List Bool) (t s : ℕ) → s ≢ t → is_ahead next (set marked t true) s ≡ is_ahead next marked s
+other_mark : (next : ℕ) (marked : List Bool) (t s : ℕ) → s ≢ t →
+    is_ahead next (set marked t true) s ≡ is_ahead next marked s
 other_mark next marked t s d = ap (λ b. not (ltb s next && b)) (get_or-set_other marked t s true false d)
 
-next_ahead : (s : ℕ) (marked : List Bool) (u : ℕ) → (u ≡ s → get_or marked u false ≡ false) → is_ahead (s + 1) marked u ≡ is_ahead s marked u
+next_ahead : (s : ℕ) (marked : List Bool) (u : ℕ) → (u ≡ s → get_or marked u false ≡ false) →
+    is_ahead (s + 1) marked u ≡ is_ahead s marked u
 next_ahead s marked u unmarked = elim (cases_lt u s) [
   | inl l ↦ passed (s + 1) marked u (omega (arith, l)) ∙ sym (passed s marked u l)
   | inr l ↦ elim (cases_eq u s) [
@@ -223,28 +247,35 @@ next_ahead s marked u unmarked = elim (cases_lt u s) [
 ]
 
 -- the state t alone is not ahead any more
-module _ (old new : ℕ → Bool) (t : ℕ) (before : old t ≡ true) (after : new t ≡ false) (elsewhere : (s : ℕ) → s ≢ t → new s ≡ old s) where
+module _ (old new : ℕ → Bool) (t : ℕ) (before : old t ≡ true) (after : new t ≡ false) (elsewhere : (s : ℕ) → s ≢ t →
+    new s ≡ old s) where
   one_less : (s : ℕ) → cond (old s) 1 0 ≡ cond (new s) 1 0 + cond (eqb s t) 1 0
   one_less s = elim (cases_eq s t) [
     | inl e ↦ rw (ap old e ∙ before, ap new e ∙ after, eq-eqb s t e) refl
     | inr d ↦ rw (elsewhere s d, ne_eqb s t d) (omega arith)
   ]
 
-  places_less : (es : List Triple) → length (filter (λ e. old (source_of e)) es) ≡ length (filter (λ e. new (source_of e)) es) + length (row_of t es)
+  places_less : (es : List Triple) → length (filter (λ e. old (source_of e)) es)
+      ≡ length (filter (λ e. new (source_of e)) es) + length (row_of t es)
   places_less es =
-      length-filter-sum (λ (e : Triple). old (source_of e)) (λ e. new (source_of e)) (λ e. eqb (source_of e) t) (λ e. one_less (source_of e)) es
+      length-filter-sum (λ (e : Triple). old (source_of e)) (λ e. new (source_of e)) (λ e. eqb (source_of e) t)
+      (λ e. one_less (source_of e)) es
 
 -- all states that were ahead still are
 places_same : (old new : ℕ → Bool) → ((s : ℕ) → new s ≡ old s) → (es : List Triple) →
     length (filter (λ e. new (source_of e)) es) ≡ length (filter (λ e. old (source_of e)) es)
-places_same old new same es = ap (λ (xs : List Triple). length xs) (filter_agree (λ (e : Triple). new (source_of e)) (λ e. old (source_of e)) (λ e. same (source_of e)) es)
+places_same old new same es = ap (λ (xs : List Triple). length xs) (filter_agree (λ (e : Triple). new (source_of e))
+    (λ e. old (source_of e)) (λ e. same (source_of e)) es)
 
-pub places_ahead-marks : (places : List Triple) (t next : ℕ) (old : List Bool) (waiting : List ℕ) (new : List Bool) (pushed : List ℕ) → t < length old →
-    MarksState t next old waiting new pushed → places_ahead places next new pushed ≡ places_ahead places next old waiting
+pub places_ahead-marks : (places : List Triple) (t next : ℕ) (old : List Bool) (waiting : List ℕ) (new : List Bool)
+    (pushed : List ℕ) → t < length old →
+    MarksState t next old waiting new pushed →
+    places_ahead places next new pushed ≡ places_ahead places next old waiting
 places_ahead-marks places t next old waiting new pushed l (inl h) = rw (h.1, h.2) refl
 places_ahead-marks places t next old waiting new pushed l (inr (unmarked, sets, inl w)) =
     let same = places_same (is_ahead next old) (is_ahead next (set old t true)) (λ s. elim (cases_eq s t) [
-      | inl e ↦ not_passed next (set old t true) s (omega (arith, w.0, e)) ∙ sym (not_passed next old s (omega (arith, w.0, e)))
+      | inl e ↦ not_passed next (set old t true) s (omega (arith, w.0, e))
+          ∙ sym (not_passed next old s (omega (arith, w.0, e)))
       | inr d ↦ other_mark next old t s d
     ]) places in
     rw (sets, w.1) (omega (arith, same))
@@ -263,13 +294,16 @@ places_ahead-pass places s marked waiting m =
     (passed (s + 1) marked s (omega arith) ∙ ap not m) (λ u d. next_ahead s marked u (λ e. absurd (d e))) places in
     omega (arith, less)
 
-pub places_ahead-skip : (places : List Triple) (s : ℕ) (marked : List Bool) (waiting : List ℕ) → get_or marked s false ≡ false →
+pub places_ahead-skip : (places : List Triple) (s : ℕ) (marked : List Bool) (waiting : List ℕ) →
+    get_or marked s false ≡ false →
     places_ahead places (s + 1) marked waiting ≡ places_ahead places s marked waiting
 places_ahead-skip places s marked waiting unmarked =
-    let same = places_same (is_ahead s marked) (is_ahead (s + 1) marked) (λ u. next_ahead s marked u (λ e. ap (λ x. get_or marked x false) e ∙ unmarked)) places in
+    let same = places_same (is_ahead s marked) (is_ahead (s + 1) marked)
+    (λ u. next_ahead s marked u (λ e. ap (λ x. get_or marked x false) e ∙ unmarked)) places in
     omega (arith, same)
 
-pub states_ahead-marks : (t next : ℕ) (old : List Bool) (waiting : List ℕ) (new : List Bool) (pushed : List ℕ) → t < length old →
+pub states_ahead-marks : (t next : ℕ) (old : List Bool) (waiting : List ℕ) (new : List Bool) (pushed : List ℕ) →
+    t < length old →
     MarksState t next old waiting new pushed → states_ahead new pushed ≤ states_ahead old waiting
 states_ahead-marks t next old waiting new pushed l (inl h) = rw (h.1, h.2) (omega arith)
 states_ahead-marks t next old waiting new pushed l (inr h) =
@@ -281,17 +315,20 @@ states_ahead-marks t next old waiting new pushed l (inr h) =
     rw (h.1) (omega arith)
 
 -- at first there are at most all places
-pub places_ahead-first : (places : List Triple) (next : ℕ) (marked : List Bool) → places_ahead places next marked [] ≤ length places
+pub places_ahead-first : (places : List Triple) (next : ℕ) (marked : List Bool) →
+    places_ahead places next marked [] ≤ length places
 places_ahead-first places next marked =
     let p = λ (e : Triple). is_ahead next marked (source_of e) in
     omega (arith, length-filter p places, count_by-le-length p places)
 
 -- a row more is read
 
-pub room_for_row : {old mid : Counts} {all before row : ℕ} → HasRoomFor old 0 all → ReadsOnce old mid all before → row ≤ before → HasRoomFor mid 0 row
+pub room_for_row : {old mid : Counts} {all before row : ℕ} → HasRoomFor old 0 all → ReadsOnce old mid all before →
+    row ≤ before → HasRoomFor mid 0 row
 room_for_row room reads within = search rules
 
-pub ReadsOnce-row : {old mid new : Counts} {all before row ahead : ℕ} → ReadsOnce old mid all before → before ≡ ahead + row → Costs mid new 0 0 row → ReadsOnce old new all ahead
+pub ReadsOnce-row : {old mid new : Counts} {all before row ahead : ℕ} → ReadsOnce old mid all before →
+    before ≡ ahead + row → Costs mid new 0 0 row → ReadsOnce old new all ahead
 ReadsOnce-row reads e costs = record { few = omega (arith, reads.few, e); visits = search rules }
 
 pub ReadsOnce-within : {old new : Counts} {all ahead : ℕ} → ReadsOnce old new all ahead → Costs old new 0 0 all

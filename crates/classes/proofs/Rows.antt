@@ -1,5 +1,6 @@
 -- What a row shows between numbers: one place more, and what a triple that is shown stands for.
-use Rattle.std.proofs.Common.{◌≡◌, ◌∙◌, ℕ, ◌≤◌, true, false, cond, not, List, [], ◌∷◌, ◌++◌, length, map, Contains, refl, ap, arith}
+use Rattle.std.proofs.Common.{◌≡◌, ◌∙◌, ℕ, ◌≤◌, true, false, cond, not, List, [], ◌∷◌, ◌++◌, length, map, Contains}
+use Rattle.std.proofs.Common.{refl, ap, arith}
 use Rattle.std.proofs.lemmas.List.Elements.{filter-append}
 use Rattle.std.proofs.lemmas.List.{length-map, map-append, append-nil, append_assoc}
 use Rattle.std.proofs.lemmas.List.Sums.{length-filter, count_by-le-length}

@@ -4,7 +4,8 @@ use Rattle.std.proofs.lemmas.Bool.{eqb-true, eq-eqb}
 use Rattle.lts.specs.Meter.{Counts, Costs}
 
 -- visits without a round, and others after them
-pub visits_then : (old mid new : Counts) (first second : ℕ) → Costs old mid 0 0 first → Costs mid new 0 0 second → Costs old new 0 0 (first + second)
+pub visits_then : (old mid new : Counts) (first second : ℕ) → Costs old mid 0 0 first → Costs mid new 0 0 second →
+    Costs old new 0 0 (first + second)
 visits_then old mid new first second before after = record {
   rounds = omega (arith, before.rounds, after.rounds);
   at_least = omega (arith, before.at_least, after.at_least);
@@ -19,7 +20,8 @@ visits_at_most old new few most low h = record {
 }
 
 -- that two numbers are equal tells what it tells of those that they are
-pub same_decides : {P : Type 0} (x y first second : ℕ) → x ≡ first → y ≡ second → P ↔ (first ≡ second) → IsTrue (eqb x y) ↔ P
+pub same_decides : {P : Type 0} (x y first second : ℕ) → x ≡ first → y ≡ second → P ↔ (first ≡ second) →
+    IsTrue (eqb x y) ↔ P
 same_decides x y first second ex ey law = (
   λ e. law.1 (sym ex ∙ (eqb-true x y e ∙ ey)),
   λ p. eq-eqb x y (ex ∙ (law.0 p ∙ sym ey)),

@@ -1,5 +1,7 @@
--- Public: `AreClasses`, `IsNumbering`. The numbers of the reachable states, given in one pass over the states in their order.
-use Rattle.std.specs.Prelude.{◌≡◌, ◌≢◌, ◌⊎◌, ◌↔◌, ℕ, ◌+◌, ◌<◌, ◌≤◌, Bool, true, IsTrue, [], ◌∷◌, ◌++◌, List, length, slice_index, slice_set}
+-- Public: `AreClasses`, `IsNumbering`. The numbers of the reachable states, given in one pass over the states in their
+-- order.
+use Rattle.std.specs.Prelude.{◌≡◌, ◌≢◌, ◌⊎◌, ◌↔◌, ℕ, ◌+◌, ◌<◌, ◌≤◌, Bool, true, IsTrue, [], ◌∷◌, ◌++◌, List, length}
+use Rattle.std.specs.Prelude.{slice_index, slice_set}
 use Rattle.theory.specs.System.{System, Reachable}
 use Rattle.theory.specs.Bisimulation.{Bisimilar}
 use Rattle.theory.specs.declared.relation.Relation.{Relation}
@@ -14,7 +16,8 @@ use Rattle.classes.specs.declared.numbering.TheConstants.{NONE}
 -- two states share a block exactly if they are bisimilar
 abbrev pub AreClasses : Relation → Grouped → List ℕ → Type 0
 AreClasses rel g blocks =
-    EachTwo (system_of g) (λ s t. (slice_index blocks s ≡ slice_index blocks t) ↔ Bisimilar rel (system_of g) s (system_of g) t)
+    EachTwo (system_of g) (λ s t. (slice_index blocks s ≡ slice_index blocks t) ↔ Bisimilar rel (system_of g) s
+    (system_of g) t)
 
 -- each reachable state has its number, the leaders and the reachable states are marked, and there are so many leaders
 pub record IsNumbering (rel : Relation) (A : System) (n : Numbering) : Type 0 where

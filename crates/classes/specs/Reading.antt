@@ -1,4 +1,5 @@
--- Private. What the quotient by a relation is read from: the rows of some states, without the transitions that are left out.
+-- Private. What the quotient by a relation is read from: the rows of some states, without the transitions that are left
+-- out.
 use Rattle.std.specs.Prelude.{◌≡◌, ℕ, Bool, List, Option, None, MatchOption}
 use Rattle.std.specs.List.{Contains}
 use Rattle.theory.specs.System.{internal}
@@ -12,7 +13,9 @@ abbrev pub sources_of : Relation → List Bool → List Bool → List Bool
 sources_of Strong leads reached = leads
 sources_of Branching leads reached = reached
 
--- the label number that is left out between equal numbers: for branching bisimulation the internal action's, if it has one
+-- the label number that is left out between equal numbers: for branching bisimulation the internal action's, if it has
+-- one
 abbrev pub IsDroppedLabel : Relation → List (List ℕ) → Option ℕ → Type 0
 IsDroppedLabel Strong labels dropped = dropped ≡ None
-IsDroppedLabel Branching labels dropped = MatchOption dropped (¬ Contains labels internal) (λ k. IsNumber labels k internal)
+IsDroppedLabel Branching labels dropped =
+    MatchOption dropped (¬ Contains labels internal) (λ k. IsNumber labels k internal)

@@ -1,6 +1,7 @@
--- Private. The search for the reachable states: which states are marked, which were passed, and those of them whose rows are
--- still to be read.
-use Rattle.std.specs.Prelude.{◌≡◌, ◌⊎◌, ℕ, ◌+◌, ◌-◌, ◌<◌, ◌≤◌, Bool, true, false, not, ◌&&◌, nat_lt, List, [], ◌∷◌, ◌++◌, length, slice_set}
+-- Private. The search for the reachable states: which states are marked, which were passed, and those of them whose
+-- rows are still to be read.
+use Rattle.std.specs.Prelude.{◌≡◌, ◌⊎◌, ℕ, ◌+◌, ◌-◌, ◌<◌, ◌≤◌, Bool, true, false, not, ◌&&◌, nat_lt, List, [], ◌∷◌}
+use Rattle.std.specs.Prelude.{◌++◌, length, slice_set}
 use Rattle.std.specs.List.{Contains, slice_index_or, filter, sum_by, count_by}
 use Rattle.theory.specs.System.{Step, Reachable}
 use Rattle.lts.specs.Lts.{Triple, source_of, row_of, Grouped, system_of}
@@ -23,7 +24,8 @@ pub record Searches (g : Grouped) (marked : List Bool) (next : ℕ) (waiting : L
   pub first : IsMarked marked g.first
   pub only_reachable : (s : ℕ) → IsMarked marked s → Reachable (system_of g) s
   pub each_waiting : (s : ℕ) → Contains waiting s → IsMarked marked s
-  pub followed : (s t : ℕ) (a : List ℕ) → s < next → IsMarked marked s → Step (system_of g) s a t → Contains waiting s ⊎ IsMarked marked t
+  pub followed : (s t : ℕ) (a : List ℕ) → s < next → IsMarked marked s → Step (system_of g) s a t →
+      Contains waiting s ⊎ IsMarked marked t
 
 -- how many states are not marked, or wait
 abbrev pub states_ahead : List Bool → List ℕ → ℕ

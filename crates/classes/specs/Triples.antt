@@ -1,5 +1,6 @@
 -- Private. The transitions of the quotient, by number: what the rows of some states show.
-use Rattle.std.specs.Prelude.{◌≡◌, ◌≢◌, ◌↔◌, ℕ, ◌<◌, ◌≤◌, ◌==◌, ◌&&◌, Bool, false, not, Option, None, Some, List, length, map, slice_index}
+use Rattle.std.specs.Prelude.{◌≡◌, ◌≢◌, ◌↔◌, ℕ, ◌<◌, ◌≤◌, ◌==◌, ◌&&◌, Bool, false, not, Option, None, Some, List}
+use Rattle.std.specs.Prelude.{length, map, slice_index}
 use Rattle.std.specs.List.{AllPairs, Contains, filter, flat_map, slice_index_or, sum_by}
 use Rattle.std.specs.List.Sorted.{IsNonDecreasingBy}
 use Rattle.lts.specs.Lts.{Triple, Grouped, source_of, label_of, target_of, row_of, before}

@@ -1,10 +1,12 @@
 -- The moves of a walk, and how far it has come.
-use Rattle.std.specs.Prelude.{◌≡◌, ◌⊎◌, ◌↔◌, ℕ, ◌+◌, ◌*◌, ◌-◌, ◌<◌, ◌≤◌, List, [], ◌∷◌, ◌++◌, length, take, drop, slice_index, slice_set, Bool, IsTrue}
+use Rattle.std.specs.Prelude.{◌≡◌, ◌⊎◌, ◌↔◌, ℕ, ◌+◌, ◌*◌, ◌-◌, ◌<◌, ◌≤◌, List, [], ◌∷◌, ◌++◌, length, take, drop}
+use Rattle.std.specs.Prelude.{slice_index, slice_set, Bool, IsTrue}
 use Rattle.std.specs.List.{Contains}
 use Rattle.std.specs.List.Sorted.{IsStrictlySortedBy}
 use Rattle.lts.specs.Lts.{Grouped, Triple, IsRow}
 use Rattle.lists.specs.Lists.{list_at, pair_cmp, Grow}
-use Rattle.inert.specs.Search.{Search, nothing, stage_at, top, root_at, Gives, IsSigned, AreSigned, Walks, Stage, Unseen, Open, Finished, Root, Item, Pair, Listed}
+use Rattle.inert.specs.Search.{Search, nothing, stage_at, top, root_at, Gives, IsSigned, AreSigned, Walks, Stage}
+use Rattle.inert.specs.Search.{Unseen, Open, Finished, Root, Item, Pair, Listed}
 use Rattle.inert.specs.Steps.{Under}
 use Rattle.inert.specs.Ahead.{unread, rest, KeepsSeen, HasStages}
 use Rattle.inert.specs.declared.step.Step.{Step}
@@ -14,7 +16,8 @@ use Rattle.inert.specs.declared.step.Step.TheVariants.{Inert, Shows}
 abbrev pub with_stage : ℕ → Stage → Search → Search
 with_stage s stage w = record w { stages = slice_set w.stages s stage }
 
--- the state s goes on the stack as a component of its own, with a frame for these places of its row and the items from this one on
+-- the state s goes on the stack as a component of its own, with a frame for these places of its row and the items from
+-- this one on
 abbrev pub entered : ℕ → ℕ → ℕ → ℕ → Search → Search
 entered s next end items w = record {
   stages = slice_set w.stages s (Open (length w.stack));
@@ -25,7 +28,8 @@ entered s next end items w = record {
 }
 
 abbrev pub Enters : List Triple → ℕ → Search → Search → Type 0
-Enters places s old new = (start end : ℕ) × IsRow places s start end × (new ≡ entered s start end (length old.items) old)
+Enters places s old new =
+    (start end : ℕ) × IsRow places s start end × (new ≡ entered s start end (length old.items) old)
 
 -- of the roots those stay that are up to the height q
 pub record CutsRoots (q : ℕ) (old new : List Root) : Type 0 where
@@ -41,13 +45,15 @@ with_item x w = record w { items = w.items ++ x ∷ [] }
 
 -- the step is an inert one, to a state that was not seen or is on the stack
 abbrev pub LeadsOn : List Stage → Step → Type 0
-LeadsOn stages step = (t : ℕ) × (step ≡ Inert t) × ((stage_at stages t ≡ Unseen) ⊎ ((q : ℕ) × (stage_at stages t ≡ Open q)))
+LeadsOn stages step =
+    (t : ℕ) × (step ≡ Inert t) × ((stage_at stages t ≡ Unseen) ⊎ ((q : ℕ) × (stage_at stages t ≡ Open q)))
 
 -- an inert step to the state t is followed, and enters it or not
 abbrev pub Follows : List Triple → ℕ → Search → Search → Bool → Type 0
 Follows places t old new enters =
     ((stage_at old.stages t ≡ Unseen) × Enters places t old new × IsTrue enters)
-    ⊎ ((q : ℕ) × (stage_at old.stages t ≡ Open q) × CutsRoots q old.roots new.roots × (new ≡ record old { roots = new.roots }) × ¬ IsTrue enters)
+    ⊎ ((q : ℕ) × (stage_at old.stages t ≡ Open q) × CutsRoots q old.roots new.roots
+    × (new ≡ record old { roots = new.roots }) × ¬ IsTrue enters)
     ⊎ ((k : ℕ) × (stage_at old.stages t ≡ Finished k) × (new ≡ with_item (Listed k) old) × ¬ IsTrue enters)
 
 -- a step is taken, and enters a state or not
@@ -80,13 +86,15 @@ pub record IsListed (items : List Item) (before after : List (List (ℕ × ℕ))
 pub record Finishes (stack : List ℕ) (f number : ℕ) (old new : List Stage) : Type 0 where
   pub size : length new ≡ length old
   pub members : (p : ℕ) → f ≤ p → p < length stack → stage_at new (slice_index stack p) ≡ Finished number
-  pub others : (s : ℕ) → (stage_at new s ≡ stage_at old s) ⊎ ((p : ℕ) × (f ≤ p) × (p < length stack) × (slice_index stack p ≡ s))
+  pub others : (s : ℕ) → (stage_at new s ≡ stage_at old s) ⊎ ((p : ℕ) × (f ≤ p) × (p < length stack)
+      × (slice_index stack p ≡ s))
 
 -- the walk without its last frame
 abbrev pub popped : Search → Search
 popped w = record w { frames = take (length w.frames - 1) w.frames }
 
--- the component of the last root is finished: its list is the one of this number, which the state that led to it collects
+-- the component of the last root is finished: its list is the one of this number, which the state that led to it
+-- collects
 pub record Closes (root : Root) (before after : List (List (ℕ × ℕ))) (old new : Search) : Type 0 where
   pub number : ℕ
   pub listed : IsListed (drop root.items old.items) before after number
@@ -122,7 +130,8 @@ pub record IsUnderWay (u : Under) (lists : List (List (ℕ × ℕ))) (w : Search
 
 -- the states that are finished now and were not before have their signatures
 abbrev pub SignsMore : Under → List (List (ℕ × ℕ)) → List Stage → List Stage → Type 0
-SignsMore u lists old new = (s k : ℕ) → stage_at new s ≡ Finished k → (stage_at old s ≡ Finished k) ⊎ IsSigned u s lists k
+SignsMore u lists old new =
+    (s k : ℕ) → stage_at new s ≡ Finished k → (stage_at old s ≡ Finished k) ⊎ IsSigned u s lists k
 
 -- a walk goes on
 pub record GoesOn (u : Under) (lists : List (List (ℕ × ℕ))) (old new : Search) : Type 0 where

@@ -104,8 +104,10 @@ item_at items j = slice_index_or items j (Pair 0 0)
 -- what inert steps lead to, and what they pass back
 pub record Laws : Type 0 where
   pub here : (A : System) (blocks : ℕ → ℕ) (s : ℕ) → Leads (Inert A blocks) s s
-  pub after : (A : System) (blocks : ℕ → ℕ) (s t u : ℕ) → Leads (Inert A blocks) s t → Inert A blocks t u → Leads (Inert A blocks) s u
-  pub joined : (A : System) (blocks : ℕ → ℕ) (s t u : ℕ) → Leads (Inert A blocks) s t → Leads (Inert A blocks) t u → Leads (Inert A blocks) s u
+  pub after : (A : System) (blocks : ℕ → ℕ) (s t u : ℕ) → Leads (Inert A blocks) s t → Inert A blocks t u →
+      Leads (Inert A blocks) s u
+  pub joined : (A : System) (blocks : ℕ → ℕ) (s t u : ℕ) → Leads (Inert A blocks) s t → Leads (Inert A blocks) t u →
+      Leads (Inert A blocks) s u
   pub path : (A : System) (blocks : ℕ → ℕ) (s t : ℕ) (a : List ℕ) (b : ℕ) → Leads (Inert A blocks) s t →
       Signature Branching A blocks t a b → Signature Branching A blocks s a b
 
@@ -208,7 +210,8 @@ IsHere w p t = (q : ℕ) × (stage_at w.stages t ≡ Open q) × IsUpTo w.roots p
 
 -- the state t is finished, and the component at height p holds all pairs of its list
 abbrev pub IsHeld : List (List (ℕ × ℕ)) → Search → ℕ → ℕ → Type 0
-IsHeld lists w p t = (k : ℕ) × (stage_at w.stages t ≡ Finished k) × ((z : ℕ × ℕ) → Contains (list_at lists k) z → HoldsPair lists w p z)
+IsHeld lists w p t =
+    (k : ℕ) × (stage_at w.stages t ≡ Finished k) × ((z : ℕ × ℕ) → Contains (list_at lists k) z → HoldsPair lists w p z)
 
 -- the walk went from height p to the state t, and has not come back
 abbrev pub IsEntered : Search → ℕ → ℕ → Type 0
@@ -226,7 +229,8 @@ pub record Accounted (u : Under) (lists : List (List (ℕ × ℕ))) (w : Search)
 
 -- all transitions of open states were taken into account, or are still to be read
 abbrev pub AreAccounted : Under → List (List (ℕ × ℕ)) → Search → Type 0
-AreAccounted u lists w = (p k : ℕ) → p < length w.stack → k < length u.l.places → source_of (place_at u.l.places k) ≡ slice_index w.stack p →
+AreAccounted u lists w =
+    (p k : ℕ) → p < length w.stack → k < length u.l.places → source_of (place_at u.l.places k) ≡ slice_index w.stack p →
     IsAhead w p k ⊎ Accounted u lists w p (place_at u.l.places k)
 
 -- what holds of a walk between its steps

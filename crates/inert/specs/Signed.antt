@@ -12,7 +12,8 @@ use Rattle.partition.specs.Blocks.{IsOne}
 
 -- the pair of the label number k and the block b is in the signature of s
 abbrev pub HasPair : Relation → Grouped → List ℕ → ℕ → ℕ → ℕ → Type 0
-HasPair rel l blocks s k b = (k < length l.labels) × Signature rel (system_of l) (slice_index blocks) s (text_of l.labels k) b
+HasPair rel l blocks s k b =
+    (k < length l.labels) × Signature rel (system_of l) (slice_index blocks) s (text_of l.labels k) b
 
 -- the list is the signature of s: each of its pairs once, in rising order
 pub record IsSignature (rel : Relation) (l : Grouped) (blocks : List ℕ) (s : ℕ) (pairs : List (ℕ × ℕ)) : Type 0 where
@@ -23,9 +24,11 @@ pub record IsSignature (rel : Relation) (l : Grouped) (blocks : List ℕ) (s : �
 abbrev pub pair_under : List ℕ → Triple → ℕ × ℕ
 pair_under blocks e = (label_of e, slice_index blocks (target_of e))
 
--- in the block of a state that is looked at, each other one is looked at too, or its signature is the list that is kept for it
+-- in the block of a state that is looked at, each other one is looked at too, or its signature is the list that is kept
+-- for it
 abbrev pub AreSignedBeside : Grouped → List ℕ → List ℕ → List (List (ℕ × ℕ)) → List ℕ → Type 0
-AreSignedBeside l blocks live lists kept = (s t : ℕ) → s < l.states → t < l.states → slice_index blocks s ≡ slice_index blocks t → IsOne live t →
+AreSignedBeside l blocks live lists kept =
+    (s t : ℕ) → s < l.states → t < l.states → slice_index blocks s ≡ slice_index blocks t → IsOne live t →
     IsOne live s ⊎ IsSignature Branching l blocks s (list_at lists (slice_index kept s))
 
 -- of a new number what is shown: nothing if it is the old one

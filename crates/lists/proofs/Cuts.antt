@@ -1,5 +1,6 @@
 -- Cuts: a list has one at most, and a cut of more pairs that lies inside a list is the list's own.
-use Rattle.std.proofs.Common.{◌≡◌, ◌∙◌, ℕ, ◌+◌, ◌-◌, ◌*◌, ◌/◌, ◌%◌, ◌^◌, ◌<◌, ◌≤◌, List, Contains, ap, sym, inl, inr, arith}
+use Rattle.std.proofs.Common.{◌≡◌, ◌∙◌, ℕ, ◌+◌, ◌-◌, ◌*◌, ◌/◌, ◌%◌, ◌^◌, ◌<◌, ◌≤◌, List, Contains, ap, sym, inl, inr}
+use Rattle.std.proofs.Common.{arith}
 use Rattle.std.proofs.Math.Pow.{shr_mono}
 use Rattle.std.proofs.lemmas.Bool.{cases_lt, cases_order}
 use Rattle.std.proofs.lemmas.Nat.{pow_pos, shr-shr, div_below, div-add-mod'}
@@ -9,7 +10,8 @@ use Rattle.lists.specs.Cuts.{as_number, IsPlace, IsAlike, IsCut, IsUnder, IsOver
 lift : (a b m n : ℕ) → m ≤ n → a / 2 ^ m ≡ b / 2 ^ m → a / 2 ^ n ≡ b / 2 ^ n
 lift a b m n h e =
     let s : n ≡ m + (n - m) = omega arith in
-    ap (λ k. a / 2 ^ k) s ∙ sym (shr-shr a m (n - m)) ∙ ap (λ x. x / 2 ^ (n - m)) e ∙ shr-shr b m (n - m) ∙ ap (λ k. b / 2 ^ k) (sym s)
+    ap (λ k. a / 2 ^ k) s ∙ sym (shr-shr a m (n - m)) ∙ ap (λ x. x / 2 ^ (n - m)) e ∙ shr-shr b m (n - m)
+    ∙ ap (λ k. b / 2 ^ k) (sym s)
 
 -- a multiple of a power of two lies between a number below it and one that is not
 between : (bit z c y : ℕ) → c % 2 ^ bit ≡ 0 → z < c → c ≤ y → (z / 2 ^ bit < c / 2 ^ bit) × (c / 2 ^ bit ≤ y / 2 ^ bit)
@@ -17,7 +19,8 @@ between bit z c y multiple below above =
     (div_below z (2 ^ bit) (c / 2 ^ bit) (pow_pos bit) (omega (arith, div-add-mod' c (2 ^ bit))), shr_mono bit above)
 
 -- the multiple is odd if both numbers agree above that power
-odd : (bit z c y q : ℕ) → c % 2 ^ bit ≡ 0 → z < c → c ≤ y → z / 2 ^ (bit + 1) ≡ q → y / 2 ^ (bit + 1) ≡ q → c ≡ (2 * q + 1) * 2 ^ bit
+odd : (bit z c y q : ℕ) → c % 2 ^ bit ≡ 0 → z < c → c ≤ y → z / 2 ^ (bit + 1) ≡ q → y / 2 ^ (bit + 1) ≡ q →
+    c ≡ (2 * q + 1) * 2 ^ bit
 odd bit z c y q multiple below above first second =
     let parts = between bit z c y multiple below above in
     let lower : z / 2 ^ bit / 2 ≡ q = shr-shr z bit 1 ∙ first in
@@ -31,7 +34,8 @@ module _ (list : List (ℕ × ℕ)) where
       → (z y : ℕ × ℕ) → Contains list z → Contains list y → as_number z < d → d ≤ as_number y → ⊥
   none_later bit later c d is more multiple z y in_z in_y below above =
       let parts = between later (as_number z) d (as_number y) multiple below above in
-      let same = lift (as_number z) (as_number y) (bit + 1) later (omega arith) (is.alike z in_z ∙ sym (is.alike y in_y)) in
+      let same =
+      lift (as_number z) (as_number y) (bit + 1) later (omega arith) (is.alike z in_z ∙ sym (is.alike y in_y)) in
       omega (arith, parts, same)
 
   pub cut_unique : (c d : ℕ) → IsCut list c → IsCut list d → c ≡ d
@@ -42,23 +46,27 @@ module _ (list : List (ℕ × ℕ)) where
         odd first.bit (as_number z) c (as_number first.above.0) _ first.alike.multiple first.below.2 first.above.2
         (first.alike.alike z first.below.1) (first.alike.alike _ first.above.1) in
         let q : d ≡ (2 * (d / 2 ^ (second.bit + 1)) + 1) * 2 ^ second.bit =
-        odd second.bit (as_number second.below.0) d (as_number second.above.0) _ second.alike.multiple second.below.2 second.above.2
+        odd second.bit (as_number second.below.0) d (as_number second.above.0) _ second.alike.multiple
+        second.below.2 second.above.2
         (second.alike.alike _ second.below.1) (second.alike.alike _ second.above.1) in
         let same : c / 2 ^ (first.bit + 1) ≡ d / 2 ^ (second.bit + 1) =
-        sym (first.alike.alike z first.below.1) ∙ ap (λ b. as_number z / 2 ^ (b + 1)) e ∙ second.alike.alike z first.below.1 in
+        sym (first.alike.alike z first.below.1) ∙ ap (λ b. as_number z / 2 ^ (b + 1)) e
+        ∙ second.alike.alike z first.below.1 in
         p ∙ (λ i. (2 * same i + 1) * 2 ^ e i) ∙ sym q
     | inr order ↦ elim order [
-      | inl low ↦
-          absurd (none_later first.bit second.bit c d first.alike low second.alike.multiple second.below.0 second.above.0 second.below.1 second.above.1
+      | inl low ↦ absurd (none_later first.bit second.bit c d first.alike low second.alike.multiple second.below.0
+          second.above.0 second.below.1 second.above.1
           second.below.2 second.above.2)
       | inr high ↦
-          absurd (none_later second.bit first.bit d c second.alike high first.alike.multiple first.below.0 first.above.0 first.below.1 first.above.1
+          absurd (none_later second.bit first.bit d c second.alike high first.alike.multiple first.below.0 first.above.0
+          first.below.1 first.above.1
           first.below.2 first.above.2)
     ]
   ]
 
   -- a place that is found from the list's own cut suits the list
-  pub alike_wider : (bit low high c d : ℕ) → IsPlace bit low high c → IsCut list d → low < d → d ≤ high → IsAlike bit list c
+  pub alike_wider : (bit low high c d : ℕ) → IsPlace bit low high c → IsCut list d → low < d → d ≤ high →
+      IsAlike bit list c
   alike_wider bit low high c d place own after within = record {
     multiple = place.multiple;
     alike = λ z in_z. elim (cases_lt bit own.bit) [
@@ -69,7 +77,8 @@ module _ (list : List (ℕ × ℕ)) where
       | inr earlier ↦
           let down = shr_mono {a = low} {b = d} (bit + 1) (omega arith) in
           let up = shr_mono {a = d} {b = high} (bit + 1) within in
-          lift (as_number z) d (own.bit + 1) (bit + 1) (omega arith) (own.alike.alike z in_z) ∙ omega (arith, place.low_alike, place.high_alike)
+          lift (as_number z) d (own.bit + 1) (bit + 1) (omega arith) (own.alike.alike z in_z)
+          ∙ omega (arith, place.low_alike, place.high_alike)
     ];
   }
 
@@ -79,7 +88,13 @@ module _ (list : List (ℕ × ℕ)) where
     | inl h ↦ h
     | inr h ↦
         let low = own.below.2 in
-        let same = cut_unique c d (record { bit = bit; alike = is; below = (own.below.0, own.below.1, omega (arith, low)); above = (z, in_z, h) }) own in
+        let same = cut_unique c d
+        (record {
+          bit = bit;
+          alike = is;
+          below = (own.below.0, own.below.1, omega (arith, low));
+          above = (z, in_z, h);
+        }) own in
         absurd (omega arith)
   ]
 
@@ -87,13 +102,19 @@ module _ (list : List (ℕ × ℕ)) where
   all_over bit c d is own more z in_z = elim (cases_lt (as_number z) c) [
     | inl h ↦
         let high = own.above.2 in
-        let same = cut_unique c d (record { bit = bit; alike = is; below = (z, in_z, h); above = (own.above.0, own.above.1, omega (arith, high)) }) own in
+        let same = cut_unique c d (record {
+          bit = bit;
+          alike = is;
+          below = (z, in_z, h);
+          above = (own.above.0, own.above.1, omega (arith, high));
+        }) own in
         absurd (omega arith)
     | inr h ↦ h
   ]
 
   -- a place in a range suits all pairs in the range
-  pub alike_within : (bit low high c : ℕ) → IsPlace bit low high c → ((z : ℕ × ℕ) → Contains list z → (low ≤ as_number z) × (as_number z ≤ high))
+  pub alike_within : (bit low high c : ℕ) → IsPlace bit low high c → ((z : ℕ × ℕ) → Contains list z →
+      (low ≤ as_number z) × (as_number z ≤ high))
       → IsAlike bit list c
   alike_within bit low high c place range = record {
     multiple = place.multiple;

@@ -1,5 +1,6 @@
 -- Lists as a base and pairs beside it: their hashes add up, and of one base they are the same only if the pairs are.
-use Rattle.std.proofs.Common.{◌≡◌, ◌∙◌, ℕ, ◌+◌, ◌%◌, ◌^◌, List, [], ◌∷◌, ◌++◌, Contains, Less, Equal, Greater, ap, sym, subst, refl, inl, inr, arith}
+use Rattle.std.proofs.Common.{◌≡◌, ◌∙◌, ℕ, ◌+◌, ◌%◌, ◌^◌, List, [], ◌∷◌, ◌++◌, Contains, Less, Equal, Greater, ap, sym}
+use Rattle.std.proofs.Common.{subst, refl, inl, inr, arith}
 use Rattle.std.proofs.Math.Nat.{mod-add-mod}
 use Rattle.std.specs.List.{sum_by}
 use Rattle.std.specs.List.Sorted.{IsStrictlySortedBy, IsPermutation}
@@ -7,7 +8,8 @@ use Rattle.std.specs.Ordering.{is_eq, match_ordering}
 use Rattle.std.specs.declared.cmp.Ordering.{Ordering}
 use Rattle.std.proofs.lemmas.List.{append-nil}
 use Rattle.std.proofs.lemmas.List.Sums.{sum_by-append}
-use Rattle.std.proofs.lemmas.List.Sorted.{IsPermutation-refl, IsPermutation-cons, IsPermutation-trans, IsPermutation-middle, sum_by-IsPermutation}
+use Rattle.std.proofs.lemmas.List.Sorted.{IsPermutation-refl, IsPermutation-cons, IsPermutation-trans}
+use Rattle.std.proofs.lemmas.List.Sorted.{IsPermutation-middle, sum_by-IsPermutation}
 use Rattle.lists.specs.Lists.{pair_cmp, merged}
 use Rattle.buckets.specs.Hashing.{hash_of}
 use Rattle.lists.specs.Hashes.{fingerprint_of}
@@ -20,7 +22,8 @@ use Rattle.lists.proofs.Merging.{merged_has, merged_rises}
 use Rattle.lists.proofs.Keys.{halves_rise, parts_rise, parts_fit}
 use Rattle.lists.proofs.Uniting.{united, united_under, united_over, unites_merged}
 
-at_order : (P : List (ℕ × ℕ) → Type 0) (o : Ordering) (a b c : List (ℕ × ℕ)) → (o ≡ Less → P a) → (o ≡ Equal → P b) → (o ≡ Greater → P c)
+at_order : (P : List (ℕ × ℕ) → Type 0) (o : Ordering) (a b c : List (ℕ × ℕ)) → (o ≡ Less → P a) → (o ≡ Equal → P b)
+    → (o ≡ Greater → P c)
     → P (match_ordering o a b c)
 at_order P Less a b c f g h = f refl
 at_order P Equal a b c f g h = g refl
@@ -33,45 +36,55 @@ apart_left x xs ys apart z d e = apart z (there x xs z d) e
 apart_right : (xs : List (ℕ × ℕ)) (y : ℕ × ℕ) (ys : List (ℕ × ℕ)) → ShareNone xs (y ∷ ys) → ShareNone xs ys
 apart_right xs y ys apart z d e = apart z d (there y ys z e)
 
-permuted_cons : (x : ℕ × ℕ) (xs : List (ℕ × ℕ)) → ((ys : List (ℕ × ℕ)) → ShareNone xs ys → IsPermutation (xs ++ ys) (merged xs ys))
+permuted_cons : (x : ℕ × ℕ) (xs : List (ℕ × ℕ)) → ((ys : List (ℕ × ℕ)) → ShareNone xs ys →
+    IsPermutation (xs ++ ys) (merged xs ys))
     → (ys : List (ℕ × ℕ)) → ShareNone (x ∷ xs) ys → IsPermutation ((x ∷ xs) ++ ys) (merged (x ∷ xs) ys)
-permuted_cons x xs h [] apart = subst (λ l. IsPermutation l (x ∷ xs)) (sym (append-nil (x ∷ xs))) (IsPermutation-refl (x ∷ xs))
+permuted_cons x xs h [] apart =
+    subst (λ l. IsPermutation l (x ∷ xs)) (sym (append-nil (x ∷ xs))) (IsPermutation-refl (x ∷ xs))
 permuted_cons x xs h (y ∷ ys) apart =
-    at_order (IsPermutation ((x ∷ xs) ++ (y ∷ ys))) (pair_cmp x y) (x ∷ merged xs (y ∷ ys)) (x ∷ merged xs ys) (y ∷ merged (x ∷ xs) ys)
+    at_order (IsPermutation ((x ∷ xs) ++ (y ∷ ys))) (pair_cmp x y) (x ∷ merged xs (y ∷ ys)) (x ∷ merged xs ys)
+    (y ∷ merged (x ∷ xs) ys)
     (λ e. IsPermutation-cons x (xs ++ y ∷ ys) (merged xs (y ∷ ys)) (h (y ∷ ys) (apart_left x xs (y ∷ ys) apart)))
     (λ e. absurd (apart y (subst (Contains (x ∷ xs)) ((pair_Decides x y).0 (ap is_eq e)) (here x xs)) (here y ys)))
     (λ e.
     IsPermutation-trans _ _ _ (IsPermutation-middle (x ∷ xs) y ys)
-    (IsPermutation-cons y ((x ∷ xs) ++ ys) (merged (x ∷ xs) ys) (permuted_cons x xs h ys (apart_right (x ∷ xs) y ys apart))))
+    (IsPermutation-cons y ((x ∷ xs) ++ ys) (merged (x ∷ xs) ys)
+    (permuted_cons x xs h ys (apart_right (x ∷ xs) y ys apart))))
 
 pub merged_permutes : (xs ys : List (ℕ × ℕ)) → ShareNone xs ys → IsPermutation (xs ++ ys) (merged xs ys)
 merged_permutes [] ys apart = IsPermutation-refl ys
 merged_permutes (x ∷ xs) ys apart = permuted_cons x xs (merged_permutes xs) ys apart
 
 add_mod : (a b m : ℕ) → (a % m + b % m) % m ≡ (a + b) % m
-add_mod a b m = mod-add-mod a m (b % m) ∙ ap (λ n. n % m) (omega arith) ∙ mod-add-mod b m a ∙ ap (λ n. n % m) (omega arith)
+add_mod a b m = mod-add-mod a m (b % m) ∙ ap (λ n. n % m) (omega arith) ∙ mod-add-mod b m a
+    ∙ ap (λ n. n % m) (omega arith)
 
 pub fingerprint_merged : (xs ys : List (ℕ × ℕ)) → ShareNone xs ys
     → (fingerprint_of xs + fingerprint_of ys) % 2 ^ 64 ≡ fingerprint_of (merged xs ys)
 fingerprint_merged xs ys apart =
     add_mod (sum_by hash_of xs) (sum_by hash_of ys) (2 ^ 64)
-    ∙ ap (λ n. n % 2 ^ 64) (sym (sum_by-append hash_of xs ys) ∙ sym (sum_by-IsPermutation hash_of (xs ++ ys) (merged xs ys) (merged_permutes xs ys apart)))
+    ∙ ap (λ n. n % 2 ^ 64) (sym (sum_by-append hash_of xs ys)
+    ∙ sym (sum_by-IsPermutation hash_of (xs ++ ys) (merged xs ys) (merged_permutes xs ys apart)))
 
 -- the pairs beside one base are the same if the lists are
-beside : (base few other : List (ℕ × ℕ)) → ShareNone base few → merged base few ≡ merged base other → (z : ℕ × ℕ) → Contains few z → Contains other z
+beside : (base few other : List (ℕ × ℕ)) → ShareNone base few → merged base few ≡ merged base other → (z : ℕ × ℕ) →
+    Contains few z → Contains other z
 beside base few other apart same z d =
     elim ((merged_has z base other).0 (subst (λ l. Contains l z) same ((merged_has z base few).1 (inr d)))) [
       | inl b ↦ absurd (apart z b d)
       | inr o ↦ o
     ]
 
-pub beside_same : (base few other : List (ℕ × ℕ)) → ShareNone base few → ShareNone base other → IsStrictlySortedBy pair_cmp few
+pub beside_same : (base few other : List (ℕ × ℕ)) → ShareNone base few → ShareNone base other
+    → IsStrictlySortedBy pair_cmp few
     → IsStrictlySortedBy pair_cmp other → merged base few ≡ merged base other → few ≡ other
 beside_same base few other apart apart' rise rise' same =
-    rising_unique few other rise rise' (λ z. (beside base few other apart same z, beside base other few apart' (sym same) z))
+    rising_unique few other rise rise'
+    (λ z. (beside base few other apart same z, beside base other few apart' (sym same) z))
 
 -- a rising list of the pairs of both is both as one
-pub unites_is_merged : (list few base : List (ℕ × ℕ)) → IsStrictlySortedBy pair_cmp list → IsStrictlySortedBy pair_cmp few
+pub unites_is_merged : (list few base : List (ℕ × ℕ)) → IsStrictlySortedBy pair_cmp list
+    → IsStrictlySortedBy pair_cmp few
     → IsStrictlySortedBy pair_cmp base → Unites list few base → list ≡ merged base few
 unites_is_merged list few base rise rise_few rise_base unites =
     rising_unique list (merged base few) rise (merged_rises base few rise_base rise_few) (λ z. (

@@ -1,4 +1,5 @@
--- Lists cut in two: of pairs in rising order, the first and the last one give the cut; two lists that are numbered make one with halves.
+-- Lists cut in two: of pairs in rising order, the first and the last one give the cut; two lists that are numbered make
+-- one with halves.
 use Rattle.std.proofs.Common.{◌≡◌, ◌∙◌, ℕ, ◌-◌, ◌<◌, ◌≤◌, List, length, get_or, Contains, ap, sym, subst, arith}
 use Rattle.std.specs.List.Sorted.{IsStrictlySortedBy}
 use Rattle.std.proofs.lemmas.List.{length-append, get_or_default}
@@ -13,8 +14,10 @@ use Rattle.lists.proofs.Keys.{rising_keys, key_from_less}
 use Rattle.std.proofs.lemmas.Map.Keys.{Less-from_sorted}
 
 -- the first and the last pair of some
-module _ (list : List (ℕ × ℕ)) (rise : IsStrictlySortedBy pair_cmp list) (fit : Fit list) (some : 0 < length list) (low high : ℕ)
-    (low_is : low ≡ as_number (get_or list 0 (0, 0))) (high_is : high ≡ as_number (get_or list (length list - 1) (0, 0))) where
+module _ (list : List (ℕ × ℕ)) (rise : IsStrictlySortedBy pair_cmp list) (fit : Fit list)
+    (some : 0 < length list) (low high : ℕ)
+    (low_is : low ≡ as_number (get_or list 0 (0, 0))) (high_is : high
+    ≡ as_number (get_or list (length list - 1) (0, 0))) where
   pub has_first : Contains list (get_or list 0 (0, 0))
   has_first = Contains-get_or list 0 (0, 0) some
 
@@ -28,7 +31,8 @@ module _ (list : List (ℕ × ℕ)) (rise : IsStrictlySortedBy pair_cmp list) (f
       let same = ap as_number d.2 in
       let first = keys 0 d.0 z (omega arith) k in
       let last = keys d.0 (length list - 1) z (omega arith) (omega arith) in
-      let at_first : as_number (get_or list 0 z) ≡ low = ap as_number (get_or_default list 0 z (0, 0) some) ∙ sym low_is in
+      let at_first : as_number (get_or list 0 z) ≡ low = ap as_number (get_or_default list 0 z (0, 0) some)
+      ∙ sym low_is in
       let at_last : as_number (get_or list (length list - 1) z) ≡ high =
       ap as_number (get_or_default list (length list - 1) z (0, 0) (omega arith)) ∙ sym high_is in
       (omega arith, omega arith)
@@ -59,10 +63,11 @@ AreIn-parts lists new h list below above grow low below_is high above_is parted 
     record {
       below = omega arith;
       above = high;
-      halves = subst (λ b. AreHalves b (list_at new h.above) h.cut) first (subst (λ a. AreHalves below a h.cut) (sym above_is) (record {
-        long = omega (arith, length-append below above);
-        at_cut = subst (λ l. IsCut l h.cut) parted.joined cut;
-        under = parted.under;
-        over = parted.over;
-      }));
+      halves = subst (λ b. AreHalves b (list_at new h.above) h.cut) first (subst (λ a. AreHalves below a h.cut)
+          (sym above_is) (record {
+            long = omega (arith, length-append below above);
+            at_cut = subst (λ l. IsCut l h.cut) parted.joined cut;
+            under = parted.under;
+            over = parted.over;
+          }));
     }

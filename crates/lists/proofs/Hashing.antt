@@ -8,7 +8,8 @@ use Rattle.lists.specs.Lists.{list_at}
 use Rattle.lists.specs.Hashed.{tag_of}
 
 -- the tag of the list number k
-pub tag_is : (lists : List (List (ℕ × ℕ))) {tags : List ℕ} → tags ≡ map tag_of lists → (k : ℕ) → tag_at tags k ≡ tag_of (list_at lists k)
+pub tag_is : (lists : List (List (ℕ × ℕ))) {tags : List ℕ} → tags ≡ map tag_of lists → (k : ℕ) →
+    tag_at tags k ≡ tag_of (list_at lists k)
 tag_is lists e k = ap (λ tags. tag_at tags k) e ∙ plain.get_or-map tag_of lists k []
 
 -- a search for the list is at the number r of its tag: no number above is that of the list
@@ -28,13 +29,15 @@ module _ (lists : List (List (ℕ × ℕ))) {tags : List ℕ} (list : List (ℕ 
         tagged = λ some. sym (tag_is lists are r) ∙ last.tagged some;
       }
 
-  pub IsReached-before : {r q : ℕ} → 0 < r → (list_at lists r ≡ list → ⊥) → IsReached lists list r → IsLast tags (tag_at tags r) r q → IsReached lists list q
+  pub IsReached-before : {r q : ℕ} → 0 < r → (list_at lists r ≡ list → ⊥) → IsReached lists list r →
+      IsLast tags (tag_at tags r) r q → IsReached lists list q
   IsReached-before {r} {q} some other is last = record {
     below = λ more. omega (arith, last.below some, is.below more);
     above = λ p high low e. elim (cases_order p r) [
       | inl same ↦ other (subst (λ k. list_at lists k ≡ list) same e)
       | inr order ↦ elim order [
-        | inl less ↦ last.others p high less (tag_is lists are p ∙ ap tag_of e ∙ sym (is.tagged some) ∙ sym (tag_is lists are r))
+        | inl less ↦
+            last.others p high less (tag_is lists are p ∙ ap tag_of e ∙ sym (is.tagged some) ∙ sym (tag_is lists are r))
         | inr more ↦ is.above p more low e
       ]
     ];

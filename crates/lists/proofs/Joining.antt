@@ -1,5 +1,6 @@
 -- Unions of several lists in turn, and unions that stay so as lists grow.
-use Rattle.std.proofs.Common.{◌∙◌, ◌⊎◌, ◌↔◌, ℕ, ◌+◌, ◌<◌, List, length, Contains, sym, subst, refl, inl, inr, arith, rules}
+use Rattle.std.proofs.Common.{◌∙◌, ◌⊎◌, ◌↔◌, ℕ, ◌+◌, ◌<◌, List, length, Contains, sym, subst, refl, inl, inr, arith}
+use Rattle.std.proofs.Common.{rules}
 use Rattle.std.proofs.lemmas.Bool.{cases_eq}
 use Rattle.lists.specs.Lists.{list_at, Grow}
 use Rattle.lists.specs.Unions.{IsUnion, AreUnions}
@@ -11,7 +12,10 @@ or_swap f = search rules
 pub up_to_more : (P : ℕ → Type 0) (i : ℕ) → (((j : ℕ) × (j < i) × P j) ⊎ P i) ↔ ((j : ℕ) × (j < i + 1) × P j)
 up_to_more P i = (
   λ o. elim o [ inl h ↦ let (j, low, p) = h in (j, omega (arith, low), p) | inr p ↦ (i, omega arith, p) ],
-  λ h. let (j, low, p) = h in elim (cases_eq j i) [ inl e ↦ inr (subst P e p) | inr d ↦ inl (j, omega (arith, low, d), p) ],
+  λ h. let (j, low, p) = h in elim (cases_eq j i) [
+    | inl e ↦ inr (subst P e p)
+    | inr d ↦ inl (j, omega (arith, low, d), p)
+  ],
 )
 
 pub either_more : {N M I H E K : Type 0} → N ↔ (M ⊎ E) → M ↔ (I ⊎ H) → (H ⊎ E) ↔ K → N ↔ (I ⊎ K)
@@ -59,7 +63,8 @@ same_as f g = search rules
 -- unions stay so as the lists grow
 module _ {old new : List (List (ℕ × ℕ))} (grow : Grow old new) where
   either-grow : (j k : ℕ) → j < length old → k < length old → (z : ℕ × ℕ)
-      → (Contains (list_at old j) z ⊎ Contains (list_at old k) z) ↔ (Contains (list_at new j) z ⊎ Contains (list_at new k) z)
+      → (Contains (list_at old j) z ⊎ Contains (list_at old k) z) ↔ (Contains (list_at new j) z
+      ⊎ Contains (list_at new k) z)
   either-grow j k first second z =
       rw (grow.same j first, grow.same k second) (λ o. o, λ o. o)
 
@@ -70,7 +75,8 @@ module _ {old new : List (List (ℕ × ℕ))} (grow : Grow old new) where
         within = let within = is.within in omega arith;
         first = let first = is.first in omega arith;
         second = let second = is.second in omega arith;
-        exactly = λ z. subst (λ l. Contains l z ↔ (Contains (list_at new key.0) z ⊎ Contains (list_at new key.1) z)) (sym (grow.same i is.within))
+        exactly = λ z. subst (λ l. Contains l z ↔ (Contains (list_at new key.0) z ⊎ Contains (list_at new key.1) z))
+            (sym (grow.same i is.within))
             (same_as (is.exactly z) (either-grow key.0 key.1 is.first is.second z));
       }
 

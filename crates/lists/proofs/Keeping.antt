@@ -16,7 +16,8 @@ IsWithin pairs x = x.start + x.count ≤ length pairs
 pub AreSlots-first : AreSlots [] (NO_SLOT ∷ [])
 AreSlots-first = record { within = All-only (IsWithin []) NO_SLOT (omega arith); some = omega arith; first = refl }
 
-pub kept-cleared : (pairs : List (ℕ × ℕ)) (slots : List Slot) → AreSlots pairs slots → all_kept [] (take 1 slots) ≡ (0, []) ∷ []
+pub kept-cleared : (pairs : List (ℕ × ℕ)) (slots : List Slot) → AreSlots pairs slots →
+    all_kept [] (take 1 slots) ≡ (0, []) ∷ []
 kept-cleared pairs [] are = absurd (let some = are.some in omega arith)
 kept-cleared pairs (x ∷ xs) are = ap (λ s. kept_in [] s ∷ []) are.first
 
@@ -30,14 +31,16 @@ module _ (pairs more : List (ℕ × ℕ)) where
   kept-each [] h = refl
   kept-each (x ∷ xs) h =
       let within : x.start + x.count ≤ length pairs = All-head (IsWithin pairs) x xs h in
-      ap (λ l. (x.base, l) ∷ all_kept (pairs ++ more) xs) (slice_range-append pairs more x.start (x.start + x.count) (omega arith) within)
+      ap (λ l. (x.base, l) ∷ all_kept (pairs ++ more) xs) (slice_range-append pairs more x.start (x.start + x.count)
+      (omega arith) within)
       ∙ ap (λ l. kept_in pairs x ∷ l) (kept-each xs (All-tail (IsWithin pairs) x xs h))
 
   pub kept-more : (slots : List Slot) → AreSlots pairs slots → all_kept (pairs ++ more) slots ≡ all_kept pairs slots
   kept-more slots are = kept-each slots are.within
 
 -- the slot of a list that goes last among the pairs goes last among the slots
-module _ (pairs list : List (ℕ × ℕ)) (slots : List Slot) (new : Slot) (are : AreSlots pairs slots) (start : new.start ≡ length pairs)
+module _ (pairs list : List (ℕ × ℕ)) (slots : List Slot) (new : Slot) (are : AreSlots pairs slots)
+    (start : new.start ≡ length pairs)
     (count : new.count ≡ length list) where
   kept-new : kept_in (pairs ++ list) new ≡ (new.base, list)
   kept-new =

@@ -1,11 +1,14 @@
--- The order of pairs is that of their keys, if they fit; what stands below a cut and what stands from it on rise together.
-use Rattle.std.proofs.Common.{◌≡◌, ◌∙◌, ◌↔◌, ◌⊎◌, ℕ, ◌+◌, ◌^◌, ◌<◌, ◌≤◌, List, [], ◌∷◌, ◌++◌, length, get_or, take, drop, true, false, ltb, Contains, Less, Equal, ap, sym, subst, inl, inr, arith}
+-- The order of pairs is that of their keys, if they fit; what stands below a cut and what stands from it on rise
+-- together.
+use Rattle.std.proofs.Common.{◌≡◌, ◌∙◌, ◌↔◌, ◌⊎◌, ℕ, ◌+◌, ◌^◌, ◌<◌, ◌≤◌, List, [], ◌∷◌, ◌++◌, length, get_or, take}
+use Rattle.std.proofs.Common.{drop, true, false, ltb, Contains, Less, Equal, ap, sym, subst, inl, inr, arith}
 use Rattle.std.specs.List.Sorted.{IsStrictlySortedBy, IsNonDecreasingBy, IsPartitionedBy, IsPartitionPoint}
 use Rattle.std.proofs.lemmas.List.Sorted.{IsPartitionedBy-ltb}
 use Rattle.std.specs.Ordering.{nat_cmp, ordering_then}
 use Rattle.std.specs.Cmp.{nat_cmp_is}
 use Rattle.std.proofs.lemmas.Bool.{cases_lt, cases_order, cases_eq}
-use Rattle.std.proofs.lemmas.List.Elements.{Contains-append_cases, Contains-append_left, Contains-append_right, Contains-get_or}
+use Rattle.std.proofs.lemmas.List.Elements.{Contains-append_cases, Contains-append_left, Contains-append_right}
+use Rattle.std.proofs.lemmas.List.Elements.{Contains-get_or}
 use Rattle.std.proofs.lemmas.List.{take-append-drop, length-take, length-drop, length-append, get_or-take, get_or-drop}
 use Rattle.std.proofs.lemmas.Bool.Decides.{Decides-ltb, not_from_Decides}
 use Rattle.lists.specs.Cuts.{as_number, Fit, IsUnder, IsOver, IsCut, IsParted}
@@ -22,7 +25,8 @@ module _ (x y : ℕ × ℕ) (small : x.1 < 2 ^ 32) (fits : y.1 < 2 ^ 32) where
         let second : nat_cmp x.1 y.1 ≡ Less = sym (nat_cmp_is x.1 y.1 Less (omega arith)) in
         (λ i. ordering_then (first i) (second i))
     | inr order ↦ elim order [
-      | inl low ↦ let first : nat_cmp x.0 y.0 ≡ Less = sym (nat_cmp_is x.0 y.0 Less low) in (λ i. ordering_then (first i) (nat_cmp x.1 y.1))
+      | inl low ↦ let first : nat_cmp x.0 y.0 ≡ Less = sym (nat_cmp_is x.0 y.0 Less low) in
+          (λ i. ordering_then (first i) (nat_cmp x.1 y.1))
       | inr high ↦ absurd (omega arith)
     ]
   ]
@@ -40,14 +44,16 @@ key_from_less x y small fits h = elim (cases_lt (as_number x) (as_number y)) [
   ]
 ]
 
-pub halves_has : (below above : List (ℕ × ℕ)) (z : ℕ × ℕ) → Contains (below ++ above) z ↔ (Contains below z ⊎ Contains above z)
+pub halves_has : (below above : List (ℕ × ℕ)) (z : ℕ × ℕ) →
+    Contains (below ++ above) z ↔ (Contains below z ⊎ Contains above z)
 halves_has below above z = (
   Contains-append_cases below above z,
   λ s. elim s [ inl a ↦ Contains-append_left below above z a | inr b ↦ Contains-append_right below above z b ],
 )
 
 -- what rises below a place and from it on
-pub halves_rise : (below above : List (ℕ × ℕ)) (c : ℕ) → IsStrictlySortedBy pair_cmp below → IsStrictlySortedBy pair_cmp above
+pub halves_rise : (below above : List (ℕ × ℕ)) (c : ℕ) → IsStrictlySortedBy pair_cmp below
+    → IsStrictlySortedBy pair_cmp above
     → Fit below → Fit above
     → IsUnder below c → IsOver above c → IsStrictlySortedBy pair_cmp (below ++ above)
 halves_rise [] above c rise_below rise_above fit_below fit_above under over = rise_above
@@ -59,7 +65,8 @@ halves_rise (x ∷ xs) above c rise_below rise_above fit_below fit_above under o
           let high = over y b in
           less_from_key x y (fit_below x (here x xs)) (fit_above y b) (omega arith)
     ])
-    (halves_rise xs above c (sorted_tail pair_cmp x xs rise_below) rise_above (λ z d. fit_below z (there x xs z d)) fit_above
+    (halves_rise xs above c (sorted_tail pair_cmp x xs rise_below) rise_above
+    (λ z d. fit_below z (there x xs z d)) fit_above
     (λ z d. under z (there x xs z d)) over)
 
 -- keys rise with the pairs
@@ -68,29 +75,34 @@ rising_keys list rise fit i j d low high = elim (cases_lt i j) [
   | inl less ↦
       let first = Contains-get_or list i d (omega arith) in
       let second = Contains-get_or list j d high in
-      let key = key_from_less (get_or list i d) (get_or list j d) (fit _ first) (fit _ second) (Less-from_sorted pair_cmp list i j d rise less high) in
+      let key = key_from_less (get_or list i d) (get_or list j d) (fit _ first) (fit _ second)
+      (Less-from_sorted pair_cmp list i j d rise less high) in
       omega arith
   | inr more ↦ let e : i ≡ j = omega arith in let same = ap (λ n. as_number (get_or list n d)) e in omega arith
 ]
 
-pub partitioned_keys : (list : List (ℕ × ℕ)) (c : ℕ) → IsStrictlySortedBy pair_cmp list → Fit list → IsPartitionedBy (λ z. ltb (as_number z) c) list
+pub partitioned_keys : (list : List (ℕ × ℕ)) (c : ℕ) → IsStrictlySortedBy pair_cmp list → Fit list →
+    IsPartitionedBy (λ z. ltb (as_number z) c) list
 partitioned_keys list c rise fit = IsPartitionedBy-ltb as_number list c (rising_keys list rise fit)
 
 -- a list in two where a search found the place
 pub parted_is : (list : List (ℕ × ℕ)) (c i : ℕ) → i ≤ length list
-    → IsPartitionPoint (λ z. ltb (as_number z) c ≡ true) (λ z. ltb (as_number z) c ≡ false) list i → IsParted list c (take i list) (drop i list)
+    → IsPartitionPoint (λ z. ltb (as_number z) c ≡ true) (λ z. ltb (as_number z) c ≡ false) list i
+    → IsParted list c (take i list) (drop i list)
 parted_is list c i within point = record {
   joined = sym (take-append-drop i list);
   under = λ z d.
       let low = length-take i list in
       let l = d.1 in
       let test = point.0 d.0 z (omega arith) (omega arith) in
-      (Decides-ltb (as_number z) c).0 (subst (λ w. ltb (as_number w) c ≡ true) (sym (get_or-take i list d.0 z (omega arith)) ∙ d.2) test);
+      (Decides-ltb (as_number z) c).0 (subst (λ w. ltb (as_number w) c ≡ true)
+      (sym (get_or-take i list d.0 z (omega arith)) ∙ d.2) test);
   over = λ z d.
       let high = length-drop i list in
       let l = d.1 in
       let test = point.1 (i + d.0) z (omega arith) (omega arith) in
-      let other = not_from_Decides _ (Decides-ltb (as_number z) c) (subst (λ w. ltb (as_number w) c ≡ false) (sym (get_or-drop i list d.0 z) ∙ d.2) test) in
+      let other = not_from_Decides _ (Decides-ltb (as_number z) c) (subst (λ w. ltb (as_number w) c ≡ false)
+      (sym (get_or-drop i list d.0 z) ∙ d.2) test) in
       elim (cases_lt (as_number z) c) [ inl h ↦ absurd (other h) | inr h ↦ h ];
 }
 
@@ -107,7 +119,8 @@ rising_left (x ∷ xs) ys rise =
 
 -- the parts of a list as such lists
 module _ (list below above : List (ℕ × ℕ)) (c : ℕ) (parted : IsParted list c below above) where
-  pub parts_rise : IsStrictlySortedBy pair_cmp list → IsStrictlySortedBy pair_cmp below × IsStrictlySortedBy pair_cmp above
+  pub parts_rise : IsStrictlySortedBy pair_cmp list →
+      IsStrictlySortedBy pair_cmp below × IsStrictlySortedBy pair_cmp above
   parts_rise rise =
       let both = subst (IsStrictlySortedBy pair_cmp) parted.joined rise in
       (rising_left below above both, rising_right below above both)
@@ -122,7 +135,8 @@ module _ (list below above : List (ℕ × ℕ)) (c : ℕ) (parted : IsParted lis
   parts_both rise fit = (((parts_rise rise).0, (parts_fit fit).0), ((parts_rise rise).1, (parts_fit fit).1))
 
   pub parts_has : (z : ℕ × ℕ) → Contains list z ↔ (Contains below z ⊎ Contains above z)
-  parts_has z = subst (λ l. Contains l z ↔ (Contains below z ⊎ Contains above z)) (sym parted.joined) (halves_has below above z)
+  parts_has z =
+      subst (λ l. Contains l z ↔ (Contains below z ⊎ Contains above z)) (sym parted.joined) (halves_has below above z)
 
   pub below_has : (z : ℕ × ℕ) → Contains below z ↔ (Contains list z × (as_number z < c))
   below_has z = (

@@ -1,5 +1,6 @@
 -- Unions at their places: none at all, one that is noted, and what they are of.
-use Rattle.std.proofs.Common.{◌≡◌, ◌∙◌, ◌⊎◌, ◌↔◌, ℕ, ◌<◌, List, [], ◌++◌, length, get_or, map, set, take, replicate, min, max, Contains, ap, sym, subst, refl, Option, Some, None, inl, inr, arith}
+use Rattle.std.proofs.Common.{◌≡◌, ◌∙◌, ◌⊎◌, ◌↔◌, ℕ, ◌<◌, List, [], ◌++◌, length, get_or, map, set, take, replicate}
+use Rattle.std.proofs.Common.{min, max, Contains, ap, sym, subst, refl, Option, Some, None, inl, inr, arith}
 use Rattle.std.specs.List.{All}
 use Rattle.std.specs.Option.{IfSome}
 use Rattle.std.proofs.lemmas.Bool.{cases_eq, cases_lt}
@@ -24,20 +25,24 @@ pub none_first : (unions taken : List Union) (n : ℕ) → unions ≡ take 1024 
     → All IsNone (map noted_union unions)
 none_first unions taken n e t =
     none_noted unions n
-    (e ∙ (λ i. take 1024 (t i) ++ replicate n NO_UNION) ∙ ap (λ l. l ++ replicate n NO_UNION) (take_all {A = Union} 1024 [] (omega arith)))
+    (e ∙ (λ i. take 1024 (t i) ++ replicate n NO_UNION) ∙ ap (λ l. l ++ replicate n NO_UNION)
+    (take_all {A = Union} 1024 [] (omega arith)))
 
-pub none_contained : (unions : List Union) (n : ℕ) → unions ≡ replicate n NO_UNION → (z : (ℕ × ℕ) × ℕ) → Contains (map noted_union unions) z → IsNone z
+pub none_contained : (unions : List Union) (n : ℕ) → unions ≡ replicate n NO_UNION → (z : (ℕ × ℕ) × ℕ) →
+    Contains (map noted_union unions) z → IsNone z
 none_contained unions n e z d = All-contains IsNone (map noted_union unions) z (none_noted unions n e) d
 
 -- one place is written
-pub written : (unions : List Union) (p : ℕ) (u : Union) (z : (ℕ × ℕ) × ℕ) → Contains (map noted_union (set unions p u)) z
+pub written : (unions : List Union) (p : ℕ) (u : Union) (z : (ℕ × ℕ) × ℕ)
+    → Contains (map noted_union (set unions p u)) z
     → Contains (map noted_union unions) z ⊎ (z ≡ noted_union u)
 written unions p u z has =
     let all = map noted_union unions in
     let (k, low, is) = subst (λ l. Contains l z) (map-set noted_union unions p u) has in
     let within = length-set all p (noted_union u) in
     elim (cases_eq k p) [
-      | inl at ↦ inr (sym is ∙ ap (λ i. get_or (set all p (noted_union u)) i z) at ∙ get_or-set_same all p (noted_union u) z (omega arith))
+      | inl at ↦ inr (sym is ∙ ap (λ i. get_or (set all p (noted_union u)) i z) at
+          ∙ get_or-set_same all p (noted_union u) z (omega arith))
       | inr far ↦ inl (k, omega arith, sym (get_or-set_other all p k (noted_union u) z far) ∙ is)
     ]
 
@@ -52,9 +57,11 @@ IsUnion-none lists some = record {
 
 -- a union of two lists, whichever has the lower number
 pub IsUnion-swap : {lists : List (List (ℕ × ℕ))} {j k i : ℕ} → IsUnion lists (j, k) i → IsUnion lists (k, j) i
-IsUnion-swap is = record { within = is.within; first = is.second; second = is.first; exactly = λ z. or_swap (is.exactly z) }
+IsUnion-swap is =
+    record { within = is.within; first = is.second; second = is.first; exactly = λ z. or_swap (is.exactly z) }
 
-pub IsUnion-in_order : (lists : List (List (ℕ × ℕ))) (j k i : ℕ) → IsUnion lists (j, k) i ↔ IsUnion lists (min j k, max j k) i
+pub IsUnion-in_order : (lists : List (List (ℕ × ℕ))) (j k i : ℕ) →
+    IsUnion lists (j, k) i ↔ IsUnion lists (min j k, max j k) i
 IsUnion-in_order lists j k i = elim (cases_lt j k) [
   | inl less ↦
       let low : min j k ≡ j = omega arith in
@@ -67,7 +74,8 @@ IsUnion-in_order lists j k i = elim (cases_lt j k) [
 ]
 
 -- one union more, and maybe some forgotten
-pub AreUnions-note : {lists : List (List (ℕ × ℕ))} (unions noted : List ((ℕ × ℕ) × ℕ)) (key : ℕ × ℕ) (i : ℕ) → AreUnions lists unions → IsUnion lists key i
+pub AreUnions-note : {lists : List (List (ℕ × ℕ))} (unions noted : List ((ℕ × ℕ) × ℕ)) (key : ℕ × ℕ) (i : ℕ)
+    → AreUnions lists unions → IsUnion lists key i
     → ((z : (ℕ × ℕ) × ℕ) → Contains noted z → Contains unions z ⊎ IsNone z ⊎ (z ≡ (key, i))) → AreUnions lists noted
 AreUnions-note {lists} unions noted key i are is from z d = elim (from z d) [
   | inl o ↦ are z o

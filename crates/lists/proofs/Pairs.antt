@@ -19,7 +19,8 @@ pub pair_eq_equiv : IsEquivalence pair_eq
 pair_eq_equiv = and_equiv (on_equiv (λ t. t.0) nat_eq_equiv) (on_equiv (λ t. t.1) nat_eq_equiv)
 
 pub pair_ties : (x y : ℕ × ℕ) → pair_eq x y ≡ eq_by_cmp pair_cmp x y
-pair_ties x y = both_tied (nat_eq x.0 y.0) (nat_eq x.1 y.1) (nat_cmp x.0 y.0) (nat_cmp x.1 y.1) (unsigned_ties x.0 y.0) (unsigned_ties x.1 y.1)
+pair_ties x y = both_tied (nat_eq x.0 y.0) (nat_eq x.1 y.1) (nat_cmp x.0 y.0) (nat_cmp x.1 y.1) (unsigned_ties x.0 y.0)
+    (unsigned_ties x.1 y.1)
 
 pub pair_equal : (x y : ℕ × ℕ) → pair_eq x y ≡ true → x ≡ y
 pair_equal x y e =

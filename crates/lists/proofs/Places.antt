@@ -1,16 +1,23 @@
 -- What `cut` computes: the highest bit in which two numbers differ gives a place between them.
-use Rattle.std.proofs.Common.{◌≡◌, ◌≢◌, ◌∙◌, ℕ, suc, ◌+◌, ◌-◌, ◌*◌, ◌/◌, ◌%◌, ◌^◌, ◌<◌, ◌≤◌, bit_xor, ap, sym, subst, inl, inr, arith, div-mul-le_self}
+use Rattle.std.proofs.Common.{◌≡◌, ◌≢◌, ◌∙◌, ℕ, suc, ◌+◌, ◌-◌, ◌*◌, ◌/◌, ◌%◌, ◌^◌, ◌<◌, ◌≤◌, bit_xor, ap, sym, subst}
+use Rattle.std.proofs.Common.{inl, inr, arith, div-mul-le_self}
 use Rattle.std.specs.Int.Bits.{xor_self}
 use Rattle.std.specs.Int.Count.{count_leading_zeros}
 use Rattle.std.proofs.Math.Pow.{shr_mono}
 use Rattle.std.proofs.lemmas.Bool.{cases_eq, cases_lt}
-use Rattle.std.proofs.lemmas.Nat.{pow_pos, shr-shr, shl-shr, div_below, le-div, xor_shr, xor_lt, leading_top, div-add-mod'}
+use Rattle.std.proofs.lemmas.Nat.{pow_pos, shr-shr, shl-shr, div_below, le-div, xor_shr, xor_lt, leading_top}
+use Rattle.std.proofs.lemmas.Nat.{div-add-mod'}
 use Rattle.std.proofs.lemmas.Nat.Bits.{same_from_bits, bit_at_xor, bit_at-zero, bit_at-lt}
 use Rattle.lists.specs.Cuts.{IsPlace}
 
 same_from_xor : (a b : ℕ) → bit_xor a b ≡ 0 → a ≡ b
 same_from_xor a b none =
-    same_from_bits a b (λ i. omega (arith, sym (bit_at_xor a b i) ∙ ap (λ n. n / 2 ^ i % 2) none ∙ bit_at-zero i, bit_at-lt a i, bit_at-lt b i))
+    same_from_bits a b (λ i. omega (
+      arith,
+      sym (bit_at_xor a b i) ∙ ap (λ n. n / 2 ^ i % 2) none ∙ bit_at-zero i,
+      bit_at-lt a i,
+      bit_at-lt b i,
+    ))
 
 xor_pos : (a b : ℕ) → a < b → 0 < bit_xor a b
 xor_pos a b below = elim (cases_eq (bit_xor a b) 0) [
@@ -19,17 +26,22 @@ xor_pos a b below = elim (cases_eq (bit_xor a b) 0) [
 ]
 
 multiple_of : (a k : ℕ) → a * 2 ^ k % 2 ^ k ≡ 0
-multiple_of a k = let e = shl-shr a k in let p = div-add-mod' (a * 2 ^ k) (2 ^ k) in let q = ap (λ n. n * 2 ^ k) e in omega arith
+multiple_of a k = let e = shl-shr a k in let p = div-add-mod' (a * 2 ^ k) (2 ^ k) in
+    let q = ap (λ n. n * 2 ^ k) e in omega arith
 
 IsPlace-highest : (low high bit : ℕ) → low < high → 2 ^ bit ≤ bit_xor low high → bit_xor low high < 2 ^ (bit + 1)
     → IsPlace bit low high (high / 2 ^ bit * 2 ^ bit)
 IsPlace-highest low high bit before reaches below =
-    let none : bit_xor low high / 2 ^ (bit + 1) < 1 = div_below (bit_xor low high) (2 ^ (bit + 1)) 1 (pow_pos (bit + 1)) (omega arith) in
+    let none : bit_xor low high / 2 ^ (bit + 1) < 1 =
+    div_below (bit_xor low high) (2 ^ (bit + 1)) 1 (pow_pos (bit + 1)) (omega arith) in
     let same : low / 2 ^ (bit + 1) ≡ high / 2 ^ (bit + 1) =
     same_from_xor (low / 2 ^ (bit + 1)) (high / 2 ^ (bit + 1)) (sym (xor_shr low high (bit + 1)) ∙ omega arith) in
     let some : 1 ≤ bit_xor low high / 2 ^ bit = le-div 1 (bit_xor low high) (2 ^ bit) (pow_pos bit) (omega arith) in
     let differ : low / 2 ^ bit ≢ high / 2 ^ bit =
-    λ equal. omega (arith, xor_shr low high bit ∙ ap (λ n. bit_xor n (high / 2 ^ bit)) equal ∙ xor_self (high / 2 ^ bit)) in
+    λ equal. omega (
+      arith,
+      xor_shr low high bit ∙ ap (λ n. bit_xor n (high / 2 ^ bit)) equal ∙ xor_self (high / 2 ^ bit),
+    ) in
     let order : low / 2 ^ bit ≤ high / 2 ^ bit = shr_mono bit (omega arith) in
     let at : high / 2 ^ bit * 2 ^ bit / 2 ^ bit ≡ high / 2 ^ bit = shl-shr (high / 2 ^ bit) bit in
     let high_same : high / 2 ^ (bit + 1) ≡ high / 2 ^ bit * 2 ^ bit / 2 ^ (bit + 1) =
@@ -49,19 +61,24 @@ IsPlace-highest low high bit before reaches below =
 
 -- the bit as `leading_zeros` gives it, and the place as shifts make it
 module _ (low high : ℕ) (before : low < high) (fits : high < 2 ^ 64) where
-  top : (bit : ℕ) × (count_leading_zeros 64 (bit_xor low high) + suc bit ≡ 64) × (2 ^ bit ≤ bit_xor low high) × (bit_xor low high < 2 ^ suc bit)
+  top : (bit : ℕ) × (count_leading_zeros 64 (bit_xor low high) + suc bit ≡ 64) × (2 ^ bit ≤ bit_xor low high)
+      × (bit_xor low high < 2 ^ suc bit)
   top = leading_top 64 (bit_xor low high) (xor_pos low high before) (xor_lt 64 low high (omega arith) fits)
 
   pub leading_few : count_leading_zeros 64 (bit_xor low high) ≤ 63
   leading_few = let h = top.1 in omega arith
 
-  pub leading_place : (bit : ℕ) × IsPlace bit low high
-      (high / 2 ^ (63 - count_leading_zeros 64 (bit_xor low high)) * 2 ^ (63 - count_leading_zeros 64 (bit_xor low high)) % 2 ^ 64)
+  pub leading_place : (bit : ℕ) × IsPlace bit low high (high / 2 ^ (63 - count_leading_zeros 64 (bit_xor low high)) * 2
+      ^ (63 - count_leading_zeros 64 (bit_xor low high)) % 2 ^ 64)
   leading_place =
       let bit = top.0 in
       let is : 63 - count_leading_zeros 64 (bit_xor low high) ≡ bit = let h = top.1 in omega arith in
       let one : suc bit ≡ bit + 1 = omega arith in
-      let value : high / 2 ^ (63 - count_leading_zeros 64 (bit_xor low high)) * 2 ^ (63 - count_leading_zeros 64 (bit_xor low high)) % 2 ^ 64
+      let value : high / 2 ^ (63 - count_leading_zeros 64 (bit_xor low high)) * 2
+      ^ (63 - count_leading_zeros 64 (bit_xor low high)) % 2 ^ 64
       ≡ high / 2 ^ bit * 2 ^ bit =
-      ap (λ k. high / 2 ^ k * 2 ^ k % 2 ^ 64) is ∙ (let small = div-mul-le_self high (2 ^ bit) in omega arith) in
-      (bit, subst (IsPlace bit low high) (sym value) (IsPlace-highest low high bit before top.2 (subst (λ n. bit_xor low high < 2 ^ n) one top.3)))
+      ap (λ k. high / 2 ^ k * 2 ^ k % 2 ^ 64) is ∙ (let small = div-mul-le_self high (2 ^ bit) in omega arith) in (
+        bit,
+        subst (IsPlace bit low high) (sym value) (IsPlace-highest low high bit before top.2
+            (subst (λ n. bit_xor low high < 2 ^ n) one top.3)),
+      )

@@ -1,5 +1,6 @@
 -- Lists that are kept as nodes: what each is, and one list more.
-use Rattle.std.proofs.Common.{◌≡◌, ◌∙◌, ℕ, zero, suc, ◌+◌, ◌<◌, ◌≤◌, List, [], ◌∷◌, ◌++◌, length, take, ap, sym, subst, refl, inl, inr, arith}
+use Rattle.std.proofs.Common.{◌≡◌, ◌∙◌, ℕ, zero, suc, ◌+◌, ◌<◌, ◌≤◌, List, [], ◌∷◌, ◌++◌, length, take, ap, sym, subst}
+use Rattle.std.proofs.Common.{refl, inl, inr, arith}
 use Rattle.std.specs.List.{All, slice_range}
 use Rattle.std.specs.List.Sorted.{IsStrictlySortedBy}
 use Rattle.std.proofs.lemmas.Bool.{cases_lt}
@@ -16,7 +17,8 @@ use Rattle.lists.proofs.Keys.{halves_rise}
 use Rattle.lists.proofs.Spans.{slice_range-append, slice_range-last, length-part}
 use Rattle.lists.specs.Lists.{pair_cmp, list_at, Grow}
 use Rattle.lists.specs.Cuts.{Fit}
-use Rattle.lists.specs.Nodes.{AreHalves, IsHalved, IsFew, AreIn, node_at, IsKept, kept_list, lists_to, kept_lists, list_of_shape, Suits, AreStored, AreNodes}
+use Rattle.lists.specs.Nodes.{AreHalves, IsHalved, IsFew, AreIn, node_at, IsKept, kept_list, lists_to, kept_lists}
+use Rattle.lists.specs.Nodes.{list_of_shape, Suits, AreStored, AreNodes}
 
 pub All-only : {X : Type 0} (P : X → Type 0) (x : X) → P x → All P (x ∷ [])
 All-only P x p zero d h = p
@@ -34,7 +36,8 @@ module _ (lists : List (List (ℕ × ℕ))) (list : List (ℕ × ℕ)) where
   Grow-push = record { longer = omega (arith, length_push lists list); same = list-old }
 
 -- halves are those of the lists up to this one
-pub IsHalved-move : (lists new : List (List (ℕ × ℕ))) (k : ℕ) (h : Halves) → ((j : ℕ) → j ≤ k → list_at new j ≡ list_at lists j) → IsHalved lists k h → IsHalved new k h
+pub IsHalved-move : (lists new : List (List (ℕ × ℕ))) (k : ℕ) (h : Halves) →
+    ((j : ℕ) → j ≤ k → list_at new j ≡ list_at lists j) → IsHalved lists k h → IsHalved new k h
 IsHalved-move lists new k h same is =
     let below = same h.below (let b = is.below in omega arith) in
     let above = same h.above (let b = is.above in omega arith) in
@@ -46,18 +49,21 @@ IsHalved-move lists new k h same is =
           (subst (λ a. AreHalves (list_at lists h.below) a h.cut) (sym above) is.halves);
     }
 
-pub IsHalved-grow : (lists new : List (List (ℕ × ℕ))) (k : ℕ) (h : Halves) → Grow lists new → k < length lists → IsHalved lists k h → IsHalved new k h
+pub IsHalved-grow : (lists new : List (List (ℕ × ℕ))) (k : ℕ) (h : Halves) → Grow lists new → k < length lists →
+    IsHalved lists k h → IsHalved new k h
 IsHalved-grow lists new k h grow low = IsHalved-move lists new k h (λ j l. grow.same j (omega arith))
 
 -- the lists with one more
 module _ (lists : List (List (ℕ × ℕ))) (list : List (ℕ × ℕ)) where
   pub AreStored-push : AreStored lists → length lists < MOST_LISTS → IsStrictlySortedBy pair_cmp list → Fit list
-      → (FEW < length list → (h : Halves) × IsHalved (lists ++ list ∷ []) (length lists) h) → AreStored (lists ++ list ∷ [])
+      → (FEW < length list → (h : Halves) × IsHalved (lists ++ list ∷ []) (length lists) h)
+      → AreStored (lists ++ list ∷ [])
   AreStored-push are few rising fits long =
       let longer = length_push lists list in
       let some = are.some in
       record {
-        rise = All-append (IsStrictlySortedBy pair_cmp) lists (list ∷ []) are.rise (All-only (IsStrictlySortedBy pair_cmp) list rising);
+        rise = All-append (IsStrictlySortedBy pair_cmp) lists (list ∷ []) are.rise
+            (All-only (IsStrictlySortedBy pair_cmp) list rising);
         fit = All-append Fit lists (list ∷ []) are.fit (All-only Fit list fits);
         halved = λ k low many. elim (cases_lt k (length lists)) [
           | inl o ↦
@@ -95,13 +101,18 @@ module _ (pairs : List (ℕ × ℕ)) (nodes : List Node) where
   unfolding lists_to
   length-to zero = refl
   length-to (suc n) =
-      omega (arith, length-to n, length_push (lists_to pairs nodes n) (kept_list pairs (lists_to pairs nodes n) (node_at nodes n)))
+      omega (
+        arith,
+        length-to n,
+        length_push (lists_to pairs nodes n) (kept_list pairs (lists_to pairs nodes n) (node_at nodes n)),
+      )
 
   pub length-lists : length (kept_lists pairs nodes) ≡ length nodes
   length-lists = length-to (length nodes)
 
   -- each is made from those before it
-  to_at : (n k : ℕ) → k < n → list_at (lists_to pairs nodes n) k ≡ kept_list pairs (lists_to pairs nodes k) (node_at nodes k)
+  to_at : (n k : ℕ) → k < n → list_at (lists_to pairs nodes n) k ≡ kept_list pairs (lists_to pairs nodes k)
+      (node_at nodes k)
   unfolding lists_to
   to_at zero k low = absurd (omega arith)
   to_at (suc n) k low = elim (cases_lt k n) [
@@ -117,7 +128,8 @@ module _ (pairs : List (ℕ × ℕ)) (nodes : List Node) where
   list_whole k start count low e = to_at (length nodes) k low ∙ ap (kept_list pairs (lists_to pairs nodes k)) e
 
 -- what is kept stays so
-IsKept-grow : (pairs pairs' : List (ℕ × ℕ)) (lists new : List (List (ℕ × ℕ))) (k : ℕ) (node : Node) → length pairs ≤ length pairs' → Grow lists new
+IsKept-grow : (pairs pairs' : List (ℕ × ℕ)) (lists new : List (List (ℕ × ℕ))) (k : ℕ) (node : Node)
+    → length pairs ≤ length pairs' → Grow lists new
     → k < length lists → IsKept pairs lists k node → IsKept pairs' new k node
 IsKept-grow pairs pairs' lists new k (Whole start count) longer grow low is = (let within = is.0 in omega arith, is.1)
 IsKept-grow pairs pairs' lists new k (Halved h) longer grow low is = IsHalved-grow lists new k h grow low is
@@ -125,13 +137,17 @@ IsKept-grow pairs pairs' lists new k (Halved h) longer grow low is = IsHalved-gr
 -- a long list is kept by its halves
 kept_long : (pairs : List (ℕ × ℕ)) (lists new : List (List (ℕ × ℕ))) (k : ℕ) (node : Node) → IsKept pairs new k node
     → FEW < length (kept_list pairs lists node) → (h : Halves) × IsHalved new k h
-kept_long pairs lists new k (Whole start count) is long = let few = is.1 in absurd (omega (arith, length-part pairs start count))
+kept_long pairs lists new k (Whole start count) is long =
+    let few = is.1 in absurd (omega (arith, length-part pairs start count))
 kept_long pairs lists new k (Halved h) is long = (h, is)
 
 -- one node more, and maybe more pairs
-module _ (pairs pairs' : List (ℕ × ℕ)) (nodes : List Node) (new : Node) (are : AreNodes pairs nodes) (longer : length pairs ≤ length pairs')
-    (keeps : (start end : ℕ) → start ≤ end → end ≤ length pairs → slice_range pairs' start end ≡ slice_range pairs start end) where
-  same_list : (lists kept : List (List (ℕ × ℕ))) (k : ℕ) (node : Node) → IsKept pairs kept k node → kept_list pairs' lists node ≡ kept_list pairs lists node
+module _ (pairs pairs' : List (ℕ × ℕ)) (nodes : List Node) (new : Node) (are : AreNodes pairs nodes)
+    (longer : length pairs ≤ length pairs')
+    (keeps : (start end : ℕ) → start ≤ end → end ≤ length pairs →
+    slice_range pairs' start end ≡ slice_range pairs start end) where
+  same_list : (lists kept : List (List (ℕ × ℕ))) (k : ℕ) (node : Node) → IsKept pairs kept k node →
+      kept_list pairs' lists node ≡ kept_list pairs lists node
   same_list lists kept k (Whole start count) is = keeps start (start + count) (omega arith) is.0
   same_list lists kept k (Halved h) is = refl
 
@@ -148,7 +164,8 @@ module _ (pairs pairs' : List (ℕ × ℕ)) (nodes : List Node) (new : Node) (ar
       let before = to_agree n (omega arith) in
       let node = node-old n (omega arith) in
       (λ i. before i ++ kept_list pairs' (before i) (node i) ∷ [])
-      ∙ ap (λ l. lists_to pairs nodes n ++ l ∷ []) (same_list (lists_to pairs nodes n) _ n (node_at nodes n) (are.kept n (omega arith)))
+      ∙ ap (λ l. lists_to pairs nodes n ++ l ∷ []) (same_list (lists_to pairs nodes n) _ n (node_at nodes n)
+      (are.kept n (omega arith)))
 
   abbrev pub list : List (ℕ × ℕ)
   list = kept_list pairs' (kept_lists pairs nodes) new
@@ -171,19 +188,22 @@ module _ (pairs pairs' : List (ℕ × ℕ)) (nodes : List Node) (new : Node) (ar
       let some = are.stored.some in
       let lists = kept_lists pairs nodes in
       let long : FEW < length list → (h : Halves) × IsHalved (lists ++ list ∷ []) (length lists) h =
-      λ long. subst (λ n. (h : Halves) × IsHalved (lists ++ list ∷ []) n h) (sym size) (kept_long pairs' lists _ (length nodes) new kept long) in
+      λ long. subst (λ n. (h : Halves) × IsHalved (lists ++ list ∷ []) n h) (sym size)
+      (kept_long pairs' lists _ (length nodes) new kept long) in
       record {
         stored = subst AreStored (sym lists-push) (AreStored-push lists list are.stored (omega arith) rising fits long);
         empty = node-old 0 (omega arith) ∙ are.empty;
-        kept = λ k low. subst (λ l. IsKept pairs' l k (node_at (nodes ++ new ∷ []) k)) (sym lists-push) (elim (cases_lt k (length nodes)) [
-          | inl o ↦
-              subst (IsKept pairs' (lists ++ list ∷ []) k) (sym (node-old k o))
-              (IsKept-grow pairs pairs' lists _ k (node_at nodes k) longer (Grow-push lists list) (omega arith) (are.kept k o))
-          | inr n ↦
-              let last : length nodes ≡ k = omega arith in
-              subst (λ m. IsKept pairs' (lists ++ list ∷ []) m (node_at (nodes ++ new ∷ []) m)) last
-              (subst (IsKept pairs' (lists ++ list ∷ []) (length nodes)) (sym (node-new (length nodes) refl)) kept)
-        ]);
+        kept = λ k low. subst (λ l. IsKept pairs' l k (node_at (nodes ++ new ∷ []) k)) (sym lists-push)
+            (elim (cases_lt k (length nodes)) [
+              | inl o ↦
+                  subst (IsKept pairs' (lists ++ list ∷ []) k) (sym (node-old k o))
+                  (IsKept-grow pairs pairs' lists _ k (node_at nodes k) longer (Grow-push lists list)
+                  (omega arith) (are.kept k o))
+              | inr n ↦
+                  let last : length nodes ≡ k = omega arith in
+                  subst (λ m. IsKept pairs' (lists ++ list ∷ []) m (node_at (nodes ++ new ∷ []) m)) last
+                  (subst (IsKept pairs' (lists ++ list ∷ []) (length nodes)) (sym (node-new (length nodes) refl)) kept)
+            ]);
       }
 
 -- the empty list alone
@@ -193,7 +213,9 @@ lists-first = refl
 
 none_long : (k : ℕ) → FEW < length (list_at ([] ∷ []) k) → ⊥
 none_long zero long = omega arith
-none_long (suc k) long = let none : length (list_at ([] ∷ []) (suc k)) ≡ 0 = ap length (get_or_past {X = List (ℕ × ℕ)} ([] ∷ []) (suc k) [] (omega arith)) in omega arith
+none_long (suc k) long =
+    let none : length (list_at ([] ∷ []) (suc k)) ≡ 0 = ap length (get_or_past {X = List (ℕ × ℕ)} ([] ∷ []) (suc k) []
+    (omega arith)) in omega arith
 
 pub AreStored-first : AreStored ([] ∷ [])
 AreStored-first = record {
@@ -211,7 +233,8 @@ AreNodes-first = record {
   empty = refl;
   kept = λ k low.
       let zero : 0 ≡ k = omega arith in
-      subst (λ k. IsKept [] (kept_lists [] (Whole 0 0 ∷ [])) k (node_at (Whole 0 0 ∷ []) k)) zero (omega arith, omega arith);
+      subst (λ k. IsKept [] (kept_lists [] (Whole 0 0 ∷ [])) k (node_at (Whole 0 0 ∷ []) k)) zero
+      (omega arith, omega arith);
 }
 
 -- the empty list is kept first
@@ -227,36 +250,42 @@ module _ (pairs list : List (ℕ × ℕ)) (nodes : List Node) (are : AreNodes pa
   whole_is : kept_list (pairs ++ list) (kept_lists pairs nodes) (Whole (length pairs) (length list)) ≡ list
   whole_is = slice_range-last pairs list _ refl
 
-  pub lists-whole : kept_lists (pairs ++ list) (nodes ++ Whole (length pairs) (length list) ∷ []) ≡ kept_lists pairs nodes ++ list ∷ []
+  pub lists-whole : kept_lists (pairs ++ list) (nodes ++ Whole (length pairs) (length list) ∷ [])
+      ≡ kept_lists pairs nodes ++ list ∷ []
   lists-whole =
       lists-push pairs (pairs ++ list) nodes _ are (omega (arith, longer)) (slice_range-append pairs list)
       ∙ ap (λ l. kept_lists pairs nodes ++ l ∷ []) whole_is
 
-  pub AreNodes-whole : length nodes < MOST_LISTS → IsFew list → AreNodes (pairs ++ list) (nodes ++ Whole (length pairs) (length list) ∷ [])
+  pub AreNodes-whole : length nodes < MOST_LISTS → IsFew list →
+      AreNodes (pairs ++ list) (nodes ++ Whole (length pairs) (length list) ∷ [])
   AreNodes-whole few is =
       let short = is.few in
       AreNodes-push pairs (pairs ++ list) nodes _ are (omega (arith, longer)) (slice_range-append pairs list) few
-      (subst (IsStrictlySortedBy pair_cmp) (sym whole_is) is.rising) (subst Fit (sym whole_is) is.fit) (omega (arith, longer), omega arith)
+      (subst (IsStrictlySortedBy pair_cmp) (sym whole_is) is.rising) (subst Fit (sym whole_is) is.fit)
+      (omega (arith, longer), omega arith)
 
 -- one list more that has halves
 module _ (pairs : List (ℕ × ℕ)) (nodes : List Node) (h : Halves) (are : AreNodes pairs nodes) where
   abbrev lists : List (List (ℕ × ℕ))
   lists = kept_lists pairs nodes
 
-  pub lists-halved : kept_lists pairs (nodes ++ Halved h ∷ []) ≡ lists ++ (list_at lists h.below ++ list_at lists h.above) ∷ []
+  pub lists-halved : kept_lists pairs (nodes ++ Halved h ∷ [])
+      ≡ lists ++ (list_at lists h.below ++ list_at lists h.above) ∷ []
   lists-halved = lists-push pairs pairs nodes (Halved h) are (omega arith) (λ s e l m. refl)
 
   pub AreNodes-halved : length nodes < MOST_LISTS → AreIn lists h → AreNodes pairs (nodes ++ Halved h ∷ [])
   AreNodes-halved few is =
       let stored = are.stored in
       AreNodes-push pairs pairs nodes (Halved h) are (omega arith) (λ s e l m. refl) few
-      (halves_rise (list_at lists h.below) (list_at lists h.above) h.cut (stored.rise h.below [] is.below) (stored.rise h.above [] is.above)
+      (halves_rise (list_at lists h.below) (list_at lists h.above) h.cut (stored.rise h.below [] is.below)
+      (stored.rise h.above [] is.above)
       (stored.fit h.below [] is.below) (stored.fit h.above [] is.above) is.halves.under is.halves.over)
       (λ z d. elim (Contains-append_cases (list_at lists h.below) (list_at lists h.above) z d) [
         | inl a ↦ stored.fit h.below [] is.below z a
         | inr b ↦ stored.fit h.above [] is.above z b
       ])
-      (subst (λ n. IsHalved (lists ++ (list_at lists h.below ++ list_at lists h.above) ∷ []) n h) (length-lists pairs nodes)
+      (subst (λ n. IsHalved (lists ++ (list_at lists h.below ++ list_at lists h.above) ∷ []) n h)
+      (length-lists pairs nodes)
       (IsHalved-new lists h is.below is.above is.halves))
 
 -- a node that is put last, and the pairs with it, keep a list of this shape

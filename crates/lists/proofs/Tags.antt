@@ -1,5 +1,6 @@
 -- The fingerprint of one pair more. Halves are those of one list at most.
-use Rattle.std.proofs.Common.{◌≡◌, ◌∙◌, ℕ, ◌+◌, ◌%◌, ◌^◌, ◌<◌, List, [], ◌++◌, length, get_or, take, ◌&&◌, eqb, Decides, ap, sym, subst, refl, arith}
+use Rattle.std.proofs.Common.{◌≡◌, ◌∙◌, ℕ, ◌+◌, ◌%◌, ◌^◌, ◌<◌, List, [], ◌++◌, length, get_or, take, ◌&&◌, eqb, Decides}
+use Rattle.std.proofs.Common.{ap, sym, subst, refl, arith}
 use Rattle.std.proofs.Math.Nat.{mod-add-mod}
 use Rattle.std.specs.List.{sum_by}
 use Rattle.std.proofs.lemmas.Bool.Decides.{Decides-eqb, Decides-and, Decides-like}
@@ -28,7 +29,8 @@ module _ (lists : List (List (ℕ × ℕ))) (stored : AreStored lists) (differen
       → list_at lists g.below ++ list_at lists g.above ≡ list_at lists h.below ++ list_at lists h.above → g ≡ h
   halves_same g h in_g in_h e =
       let list = list_at lists g.below ++ list_at lists g.above in
-      let cut : g.cut ≡ h.cut = cut_unique list g.cut h.cut in_g.halves.at_cut (subst (λ l. IsCut l h.cut) (sym e) in_h.halves.at_cut) in
+      let cut : g.cut ≡ h.cut =
+      cut_unique list g.cut h.cut in_g.halves.at_cut (subst (λ l. IsCut l h.cut) (sym e) in_h.halves.at_cut) in
       let other : IsParted list h.cut (list_at lists h.below) (list_at lists h.above) =
       record { joined = e; under = in_h.halves.under; over = in_h.halves.over } in
       let same = parts_unique (record { joined = refl; under = in_g.halves.under; over = in_g.halves.over })
@@ -40,9 +42,12 @@ module _ (lists : List (List (ℕ × ℕ))) (stored : AreStored lists) (differen
       (λ i. record { below = below i; above = above i; cut = cut i })
 
   pub halves_in : (k : ℕ) (h : Halves) → k < length lists → IsHalved lists k h → AreIn lists h
-  halves_in k h low is = record { below = let b = is.below in omega arith; above = let a = is.above in omega arith; halves = is.halves }
+  halves_in k h low is =
+      record { below = let b = is.below in omega arith; above = let a = is.above in omega arith; halves = is.halves }
 
 pub halves_Decides : (g h : Halves) → Decides (eqb g.below h.below && (eqb g.above h.above && eqb g.cut h.cut)) (g ≡ h)
 halves_Decides g h =
-    Decides-like _ (λ e. (λ i. record { below = e.0 i; above = e.1.0 i; cut = e.1.1 i })) (λ e. (ap (λ x. x.below) e, (ap (λ x. x.above) e, ap (λ x. x.cut) e)))
-    (Decides-and _ _ (Decides-eqb g.below h.below) (Decides-and _ _ (Decides-eqb g.above h.above) (Decides-eqb g.cut h.cut)))
+    Decides-like _ (λ e. (λ i. record { below = e.0 i; above = e.1.0 i; cut = e.1.1 i }))
+    (λ e. (ap (λ x. x.below) e, (ap (λ x. x.above) e, ap (λ x. x.cut) e)))
+    (Decides-and _ _ (Decides-eqb g.below h.below) (Decides-and _ _ (Decides-eqb g.above h.above)
+    (Decides-eqb g.cut h.cut)))

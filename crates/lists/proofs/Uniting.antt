@@ -1,5 +1,7 @@
--- Unions by halves: a list in two at another place, the cut of a union, and the union of two lists from those of their halves.
-use Rattle.std.proofs.Common.{◌≡◌, ◌∙◌, ◌⊎◌, ◌↔◌, ℕ, ◌+◌, ◌-◌, ◌<◌, ◌≤◌, min, max, List, [], ◌++◌, length, get_or, Contains, ap, sym, subst, inl, inr, arith, rules}
+-- Unions by halves: a list in two at another place, the cut of a union, and the union of two lists from those of their
+-- halves.
+use Rattle.std.proofs.Common.{◌≡◌, ◌∙◌, ◌⊎◌, ◌↔◌, ℕ, ◌+◌, ◌-◌, ◌<◌, ◌≤◌, min, max, List, [], ◌++◌, length, get_or}
+use Rattle.std.proofs.Common.{Contains, ap, sym, subst, inl, inr, arith, rules}
 use Rattle.std.specs.List.Sorted.{IsStrictlySortedBy}
 use Rattle.std.proofs.lemmas.Bool.{cases_lt}
 use Rattle.std.proofs.lemmas.List.{length-append, append-nil}
@@ -20,7 +22,8 @@ pub none_in : (list : List (ℕ × ℕ)) → list ≡ [] → (z : ℕ × ℕ) �
 none_in list e z d = let none = ap length e in let k = d.1 in omega arith
 
 -- a list with halves is long, and cut where its halves meet
-pub halved_long : {lists : List (List (ℕ × ℕ))} {k : ℕ} {h : Halves} → IsHalved lists k h → FEW < length (list_at lists k)
+pub halved_long : {lists : List (List (ℕ × ℕ))} {k : ℕ} {h : Halves} → IsHalved lists k h →
+    FEW < length (list_at lists k)
 halved_long {lists} {k} {h} is =
     let long = is.halves.long in
     omega (arith, ap length is.list, length-append (list_at lists h.below) (list_at lists h.above))
@@ -33,7 +36,8 @@ pub halved_parted : {lists : List (List (ℕ × ℕ))} {k : ℕ} {h : Halves} �
 halved_parted is = record { joined = is.list; under = is.halves.under; over = is.halves.over }
 
 -- a list in two at a place that suits it
-module _ (lists : List (List (ℕ × ℕ))) (stored : AreStored lists) (k c : ℕ) (h : Halves) (is : IsHalved lists k h) (bit : ℕ)
+module _ (lists : List (List (ℕ × ℕ))) (stored : AreStored lists) (k c : ℕ) (h : Halves)
+    (is : IsHalved lists k h) (bit : ℕ)
     (alike : IsAlike bit (list_at lists k) c) where
   own : IsCut (list_at lists k) h.cut
   own = halved_cut is
@@ -68,15 +72,18 @@ module _ (lists : List (List (ℕ × ℕ))) (stored : AreStored lists) (k c : �
         (halved_parted is);
   }
 
-pub either_mixed : {W L U B C A D X Y : Type 0} → W ↔ (L ⊎ U) → L ↔ (B ⊎ C) → U ↔ (A ⊎ D) → X ↔ (B ⊎ A) → Y ↔ (C ⊎ D) → W ↔ (X ⊎ Y)
+pub either_mixed : {W L U B C A D X Y : Type 0} → W ↔ (L ⊎ U) → L ↔ (B ⊎ C) → U ↔ (A ⊎ D) → X ↔ (B ⊎ A) →
+    Y ↔ (C ⊎ D) → W ↔ (X ⊎ Y)
 either_mixed whole low high first second = search rules
 
 -- two lists in two at one place
-module _ {xs ys below above below' above' : List (ℕ × ℕ)} {c : ℕ} (first : IsParted xs c below above) (second : IsParted ys c below' above') where
+module _ {xs ys below above below' above' : List (ℕ × ℕ)} {c : ℕ} (first : IsParted xs c below above)
+    (second : IsParted ys c below' above') where
   -- the unions of their parts
   module _ (lower upper : List (ℕ × ℕ)) (low : Unites lower below below') (high : Unites upper above above') where
     pub united : Unites (lower ++ upper) xs ys
-    united z = either_mixed (halves_has lower upper z) (low z) (high z) (parts_has xs below above c first z) (parts_has ys below' above' c second z)
+    united z = either_mixed (halves_has lower upper z) (low z) (high z) (parts_has xs below above c first z)
+        (parts_has ys below' above' c second z)
 
     pub united_under : IsUnder lower c
     united_under z d = elim ((low z).0 d) [ inl a ↦ first.under z a | inr b ↦ second.under z b ]
@@ -111,13 +118,17 @@ module _ {xs ys below above below' above' : List (ℕ × ℕ)} {c : ℕ} (first 
       (omega arith, omega arith)
 
 -- the unions of the parts are the halves of the union
-pub AreIn-united : (lists new : List (List (ℕ × ℕ))) (h : Halves) {xs ys below above below' above' : List (ℕ × ℕ)} → AreStored new → Grow lists new
-    → h.below < length lists → Unites (list_at lists h.below) below below' → h.above < length new → Unites (list_at new h.above) above above'
+pub AreIn-united : (lists new : List (List (ℕ × ℕ))) (h : Halves) {xs ys below above below' above' : List (ℕ × ℕ)}
+    → AreStored new → Grow lists new
+    → h.below < length lists → Unites (list_at lists h.below) below below' → h.above < length new
+    → Unites (list_at new h.above) above above'
     → IsParted xs h.cut below above → IsParted ys h.cut below' above' → IsStrictlySortedBy pair_cmp ys → FEW < length ys
     → ((list : List (ℕ × ℕ)) → Unites list xs ys → IsCut list h.cut)
     → AreIn new h × Unites (list_at new h.below ++ list_at new h.above) xs ys
-AreIn-united lists new h {xs} {ys} {below} {above} {below'} {above'} stored grow lower_in lower upper_in upper first second rise long cut =
-    let low : Unites (list_at new h.below) below below' = subst (λ l. Unites l below below') (sym (grow.same h.below lower_in)) lower in
+AreIn-united lists new h {xs} {ys} {below} {above} {below'} {above'} stored grow lower_in lower upper_in upper first
+    second rise long cut =
+    let low : Unites (list_at new h.below) below below' =
+    subst (λ l. Unites l below below') (sym (grow.same h.below lower_in)) lower in
     let longer = grow.longer in
     let low_in : h.below < length new = omega arith in
     let list = list_at new h.below ++ list_at new h.above in
@@ -125,13 +136,19 @@ AreIn-united lists new h {xs} {ys} {below} {above} {below'} {above'} stored grow
     let under = united_under first second _ _ low upper in
     let over = united_over first second _ _ low upper in
     let rises =
-    halves_rise (list_at new h.below) (list_at new h.above) h.cut (stored.rise h.below [] low_in) (stored.rise h.above [] upper_in)
+    halves_rise (list_at new h.below) (list_at new h.above) h.cut (stored.rise h.below [] low_in)
+    (stored.rise h.above [] upper_in)
     (stored.fit h.below [] low_in) (stored.fit h.above [] upper_in) under over in
     let fewer = rising_fewer ys list rise (λ z d. (all z).1 (inr d)) in (
       record {
         below = low_in;
         above = upper_in;
-        halves = record { long = omega (arith, length-append (list_at new h.below) (list_at new h.above)); at_cut = cut list all; under = under; over = over };
+        halves = record {
+          long = omega (arith, length-append (list_at new h.below) (list_at new h.above));
+          at_cut = cut list all;
+          under = under;
+          over = over;
+        };
       },
       all,
     )
@@ -143,10 +160,15 @@ pub record HasEnds (list : List (ℕ × ℕ)) (low high : ℕ) : Type 0 where
   pub alike : (bit l h c : ℕ) → IsPlace bit l h c → l ≤ low → high ≤ h → IsAlike bit list c
 
 pub ends_pairs : (list : List (ℕ × ℕ)) → IsStrictlySortedBy pair_cmp list → Fit list → 0 < length list → (low high : ℕ)
-    → low ≡ as_number (get_or list 0 (0, 0)) → high ≡ as_number (get_or list (length list - 1) (0, 0)) → HasEnds list low high
+    → low ≡ as_number (get_or list 0 (0, 0)) → high ≡ as_number (get_or list (length list - 1) (0, 0))
+    → HasEnds list low high
 ends_pairs list rise fit some low high low_is high_is = record {
   before = (get_or list 0 (0, 0), has_first list rise fit some low high low_is high_is, omega (arith, low_is));
-  after = (get_or list (length list - 1) (0, 0), has_last list rise fit some low high low_is high_is, omega (arith, high_is));
+  after = (
+    get_or list (length list - 1) (0, 0),
+    has_last list rise fit some low high low_is high_is,
+    omega (arith, high_is),
+  );
   alike = λ bit l h c place under over. alike_within list bit l h c place (λ z d.
       let between = keys_between list rise fit some low high low_is high_is z d in
       (omega arith, omega arith));
@@ -162,7 +184,8 @@ ends_halves list own cut =
     }
 
 -- the place for two lists suits both, and is the cut of their union
-pub placed : {xs ys : List (ℕ × ℕ)} {low high low' high' bit l h c : ℕ} → IsPlace bit l h c → HasEnds xs low high → HasEnds ys low' high'
+pub placed : {xs ys : List (ℕ × ℕ)} {low high low' high' bit l h c : ℕ} → IsPlace bit l h c → HasEnds xs low high
+    → HasEnds ys low' high'
     → l ≡ min low low' → h ≡ max high high'
     → IsAlike bit xs c × (IsAlike bit ys c × ((list : List (ℕ × ℕ)) → Unites list xs ys → IsCut list c))
 placed {xs} {ys} {low} {high} {low'} {high'} {bit} {l} {h} {c} place first second l_is h_is =
@@ -180,12 +203,16 @@ placed {xs} {ys} {low} {high} {low'} {high'} {bit} {l} {h} {c} place first secon
             alike = λ w d. elim ((unites w).0 d) [ inl a ↦ one.alike w a | inr b ↦ two.alike w b ];
           };
           below = elim (cases_lt low low') [
-            | inl less ↦ let is = first.before.2 in (first.before.0, (unites first.before.0).1 (inl first.before.1), omega arith)
-            | inr more ↦ let is = second.before.2 in (second.before.0, (unites second.before.0).1 (inr second.before.1), omega arith)
+            | inl less ↦ let is = first.before.2 in
+                (first.before.0, (unites first.before.0).1 (inl first.before.1), omega arith)
+            | inr more ↦ let is = second.before.2 in
+                (second.before.0, (unites second.before.0).1 (inr second.before.1), omega arith)
           ];
           above = elim (cases_lt high high') [
-            | inl less ↦ let is = second.after.2 in (second.after.0, (unites second.after.0).1 (inr second.after.1), omega arith)
-            | inr more ↦ let is = first.after.2 in (first.after.0, (unites first.after.0).1 (inl first.after.1), omega arith)
+            | inl less ↦ let is = second.after.2 in
+                (second.after.0, (unites second.after.0).1 (inr second.after.1), omega arith)
+            | inr more ↦ let is = first.after.2 in
+                (first.after.0, (unites first.after.0).1 (inl first.after.1), omega arith)
           ];
         },
       ),

@@ -32,7 +32,8 @@ pub record AreSplit (lists : List (List (ℕ × ℕ))) (two : ℕ × ℕ) (c : �
   pub cut : (list : List (ℕ × ℕ)) → Unites list (list_at lists two.0) (list_at lists two.1) → IsCut list c
 
 -- the list number k and some pairs in two like that
-pub record IsSplitWith (lists : List (List (ℕ × ℕ))) (k : ℕ) (some : List (ℕ × ℕ)) (c : ℕ) (below above : ℕ × List (ℕ × ℕ)) : Type 0 where
+pub record IsSplitWith (lists : List (List (ℕ × ℕ))) (k : ℕ) (some : List (ℕ × ℕ)) (c : ℕ) (below above : ℕ
+    × List (ℕ × ℕ)) : Type 0 where
   pub list : IsSplit lists k c below.0 above.0
   pub pairs : IsParted some c below.1 above.1
   pub cut : (list : List (ℕ × ℕ)) → Unites list some (list_at lists k) → IsCut list c

@@ -1,25 +1,31 @@
 -- What a filter and a map have.
-use Rattle.std.proofs.Common.{◌≡◌, Bool, true, false, cond, List, [], ◌∷◌, map, filter, Contains, refl, sym, ap, ◌∙◌, subst, inl, inr, arith}
+use Rattle.std.proofs.Common.{◌≡◌, Bool, true, false, cond, List, [], ◌∷◌, map, filter, Contains, refl, sym, ap, ◌∙◌}
+use Rattle.std.proofs.Common.{subst, inl, inr, arith}
 use Rattle.std.proofs.lemmas.Bool.{true≢false}
 use Rattle.std.proofs.lemmas.List.{length-map, get_or-map}
-use Rattle.std.proofs.lemmas.List.Elements.{All-contains, All-contains_itself, All-weaker, All-map, All-filter, filter_passes}
+use Rattle.std.proofs.lemmas.List.Elements.{All-contains, All-contains_itself, All-weaker, All-map, All-filter}
+use Rattle.std.proofs.lemmas.List.Elements.{filter_passes}
 use Rattle.theory.proofs.CallerLemmas.{contains_here, contains_there, contains_cases, contains_none}
 
 -- a map has the images
 pub contains_mapped : {X Y : Type 0} (f : X → Y) (xs : List X) (x : X) → Contains xs x → Contains (map f xs) (f x)
 contains_mapped f xs x c = (c.0, omega (arith, c.1, length-map xs f), get_or-map f xs c.0 x (f x) c.1 ∙ ap f c.2)
 
-pub mapped_contains : {X Y : Type 0} (f : X → Y) (xs : List X) (y : Y) → Contains (map f xs) y → (x : X) × Contains xs x × (f x ≡ y)
+pub mapped_contains : {X Y : Type 0} (f : X → Y) (xs : List X) (y : Y) → Contains (map f xs) y →
+    (x : X) × Contains xs x × (f x ≡ y)
 mapped_contains {X} {Y} f xs y c =
     let P : Y → Type 0 = λ z. (x : X) × Contains xs x × (f x ≡ z) in
-    All-contains P (map f xs) y (All-map P f xs (All-weaker (Contains xs) (λ x. P (f x)) (λ x d. (x, d, refl)) xs (All-contains_itself xs))) c
+    All-contains P (map f xs) y (All-map P f xs (All-weaker (Contains xs) (λ x. P (f x)) (λ x d. (x, d, refl)) xs
+    (All-contains_itself xs))) c
 
 -- a filter has what passes
-pub contains_passing : {X : Type 0} (p : X → Bool) (xs : List X) (x : X) → Contains xs x → p x ≡ true → Contains (filter p xs) x
+pub contains_passing : {X : Type 0} (p : X → Bool) (xs : List X) (x : X) → Contains xs x → p x ≡ true →
+    Contains (filter p xs) x
 contains_passing p [] x c h = absurd (contains_none x c)
 contains_passing p (y ∷ xs) x c h = go (λ d. contains_passing p xs x d h) (p y) refl
   where
-    go : (Contains xs x → Contains (filter p xs) x) → (v : Bool) → p y ≡ v → Contains (cond v (y ∷ filter p xs) (filter p xs)) x
+    go : (Contains xs x → Contains (filter p xs) x) → (v : Bool) → p y ≡ v →
+        Contains (cond v (y ∷ filter p xs) (filter p xs)) x
     go rest true e = elim (contains_cases y xs x c) [
       | inl f ↦ subst (Contains (y ∷ filter p xs)) f (contains_here y (filter p xs))
       | inr d ↦ contains_there y (filter p xs) x (rest d)
@@ -29,7 +35,8 @@ contains_passing p (y ∷ xs) x c h = go (λ d. contains_passing p xs x d h) (p 
       | inr d ↦ rest d
     ]
 
-pub passing_contains : {X : Type 0} (p : X → Bool) (xs : List X) (x : X) → Contains (filter p xs) x → Contains xs x × (p x ≡ true)
+pub passing_contains : {X : Type 0} (p : X → Bool) (xs : List X) (x : X) → Contains (filter p xs) x →
+    Contains xs x × (p x ≡ true)
 passing_contains p xs x c = (
   All-contains (Contains xs) (filter p xs) x (All-filter p (Contains xs) xs (All-contains_itself xs)) c,
   All-contains (λ y. p y ≡ true) (filter p xs) x (filter_passes p xs) c,

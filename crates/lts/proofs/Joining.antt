@@ -1,28 +1,35 @@
 -- The union: triples of two systems are put into one list, over one table.
-use Rattle.std.proofs.Common.{◌≡◌, ◌∙◌, ℕ, ◌+◌, ◌-◌, ◌<◌, ◌≤◌, List, [], ◌∷◌, ◌++◌, length, map, take, drop, Contains, Result, Ok, Err, IfOk, sym, ap, subst, refl, inl, inr, arith}
+use Rattle.std.proofs.Common.{◌≡◌, ◌∙◌, ℕ, ◌+◌, ◌-◌, ◌<◌, ◌≤◌, List, [], ◌∷◌, ◌++◌, length, map, take, drop, Contains}
+use Rattle.std.proofs.Common.{Result, Ok, Err, IfOk, sym, ap, subst, refl, inl, inr, arith}
 use Rattle.std.specs.List.{All}
 use Rattle.std.specs.List.Sorted.{IsNonDecreasingBy}
 use Rattle.std.proofs.lemmas.Bool.{cases_lt}
-use Rattle.std.proofs.lemmas.List.{length-append, length-map, length_push, append-nil, append_assoc, map-append, map_push, get_or-map, get_or_push, take-append-drop, take-take, drop-take, length-take}
-use Rattle.std.proofs.lemmas.List.Elements.{All-nil, All-map, All-head, All-tail, All-push, All-weaker, Contains-push, Contains-append_left}
+use Rattle.std.proofs.lemmas.List.{length-append, length-map, length_push, append-nil, append_assoc, map-append}
+use Rattle.std.proofs.lemmas.List.{map_push, get_or-map, get_or_push, take-append-drop, take-take, drop-take}
+use Rattle.std.proofs.lemmas.List.{length-take}
+use Rattle.std.proofs.lemmas.List.Elements.{All-nil, All-map, All-head, All-tail, All-push, All-weaker, Contains-push}
+use Rattle.std.proofs.lemmas.List.Elements.{Contains-append_left}
 use Rattle.theory.specs.System.{System, Transition, IsAmong}
 use Rattle.theory.specs.Union.{shifted, union_of}
 use Rattle.growth.specs.declared.limits.TheConstants.{MOST_STATES}
 use Rattle.lts.specs.Labels.{text_of, IsNumber, IsTable, Keeps, Interns}
-use Rattle.lts.specs.Lts.{Triple, source_of, label_of, target_of, row_of, before, place_at, transition_of, system_of, grouped, IsTriple, IsRow, IsLts, IsCarried, Grouped}
+use Rattle.lts.specs.Lts.{Triple, source_of, label_of, target_of, row_of, before, place_at, transition_of, system_of}
+use Rattle.lts.specs.Lts.{grouped, IsTriple, IsRow, IsLts, IsCarried, Grouped}
 use Rattle.lts.specs.Joining.{IsJoined, AddsShifted}
 use Rattle.lts.specs.Meter.{Counts, Costs, on_ok}
 use Rattle.lts.proofs.Rows.{before-next, before-le, row-slice, row-more}
 use Rattle.lts.proofs.Grouped.{rising-append, rising-map, grouped-same}
 
-IsTriple-weaker : (labels labels' states states' : ℕ) → labels ≤ labels' → states ≤ states' → (e : Triple) → IsTriple labels states e → IsTriple labels' states' e
+IsTriple-weaker : (labels labels' states states' : ℕ) → labels ≤ labels' → states ≤ states' → (e : Triple) →
+    IsTriple labels states e → IsTriple labels' states' e
 IsTriple-weaker labels labels' states states' l s e h =
     let a = h.source in
     let b = h.label in
     let c = h.target in
     record { source = omega arith; label = omega arith; target = omega arith }
 
-pub IsJoined-weaker : (labels : List (List ℕ)) (states states' : ℕ) (es : List Triple) → states ≤ states' → states' ≤ MOST_STATES → IsJoined labels states es → IsJoined labels states' es
+pub IsJoined-weaker : (labels : List (List ℕ)) (states states' : ℕ) (es : List Triple) → states ≤ states' →
+    states' ≤ MOST_STATES → IsJoined labels states es → IsJoined labels states' es
 IsJoined-weaker labels states states' es h few g = record {
   few_states = few;
   each =
@@ -34,12 +41,14 @@ IsJoined-weaker labels states states' es h few g = record {
 
 -- a triple that carries the label a, put in
 module _ (old new : List (List ℕ)) (states : ℕ) (es : List Triple) (e : Triple) (a : List ℕ)
-    (g : IsJoined old states es) (table : IsTable new) (put : Interns old a new) (keeps : Keeps old new) (number : IsNumber new (label_of e) a) where
+    (g : IsJoined old states es) (table : IsTable new) (put : Interns old a new) (keeps : Keeps old new)
+    (number : IsNumber new (label_of e) a) where
   carried_old : (k : ℕ) → k < length old → (x : Triple) × Contains (es ++ e ∷ []) x × (label_of x ≡ k)
   carried_old k h = let c = g.carried k h in (c.0, Contains-append_left es (e ∷ []) c.0 c.1, c.2)
 
   -- a new label is the one that e carries
-  carried_new : new ≡ old ++ a ∷ [] → (k : ℕ) → k < length new → length old ≤ k → (x : Triple) × Contains (es ++ e ∷ []) x × (label_of x ≡ k)
+  carried_new : new ≡ old ++ a ∷ [] → (k : ℕ) → k < length new → length old ≤ k →
+      (x : Triple) × Contains (es ++ e ∷ []) x × (label_of x ≡ k)
   carried_new grown k h l =
       let longer = ap length grown ∙ length_push old a in
       let last : length old ≡ k = omega arith in
@@ -58,7 +67,8 @@ module _ (old new : List (List ℕ)) (states : ℕ) (es : List Triple) (e : Trip
   few_more : length new ≤ length (es ++ e ∷ [])
   few_more = elim put [
     | inl known ↦ let same = ap length known.1 in let few = g.few in let more = length_push es e in omega arith
-    | inr grown ↦ let longer = ap length grown.1 ∙ length_push old a in let few = g.few in let more = length_push es e in omega arith
+    | inr grown ↦ let longer = ap length grown.1 ∙ length_push old a in let few = g.few in
+        let more = length_push es e in omega arith
   ]
 
   pub IsJoined-push : source_of e < states → target_of e < states → IsJoined new states (es ++ e ∷ [])
@@ -74,19 +84,24 @@ module _ (old new : List (List ℕ)) (states : ℕ) (es : List Triple) (e : Trip
   }
 
 -- triples stand for the same transitions over a table that keeps their labels
-transitions-kept : (old new : List (List ℕ)) (states : ℕ) (es : List Triple) → Keeps old new → All (IsTriple (length old) states) es →
+transitions-kept : (old new : List (List ℕ)) (states : ℕ) (es : List Triple) → Keeps old new →
+    All (IsTriple (length old) states) es →
     map (transition_of new) es ≡ map (transition_of old) es
 transitions-kept old new states [] keeps h = refl
 transitions-kept old new states (e ∷ es) keeps h =
     let is = All-head (IsTriple (length old) states) e es h in
     let text = keeps.texts (label_of e) is.label in
     ap (λ t. record { source = source_of e; label = t; target = target_of e } ∷ map (transition_of new) es) text
-    ∙ ap (λ l. transition_of old e ∷ l) (transitions-kept old new states es keeps (All-tail (IsTriple (length old) states) e es h))
+    ∙ ap (λ l. transition_of old e ∷ l) (transitions-kept old new states es keeps
+    (All-tail (IsTriple (length old) states) e es h))
 
-pub AddsShifted-push : (shift : ℕ) (t : Transition) (old new : List (List ℕ)) (states : ℕ) (es : List Triple) (e : Triple) → Keeps old new →
-    All (IsTriple (length old) states) es → transition_of new e ≡ shifted shift t → AddsShifted shift (t ∷ []) old es new (es ++ e ∷ [])
+pub AddsShifted-push : (shift : ℕ) (t : Transition) (old new : List (List ℕ)) (states : ℕ) (es : List Triple)
+    (e : Triple) → Keeps old new →
+    All (IsTriple (length old) states) es → transition_of new e ≡ shifted shift t →
+    AddsShifted shift (t ∷ []) old es new (es ++ e ∷ [])
 AddsShifted-push shift t old new states es e keeps h same =
-    map_push (transition_of new) es e ∙ ap (λ l. l ++ transition_of new e ∷ []) (transitions-kept old new states es keeps h)
+    map_push (transition_of new) es e ∙ ap (λ l. l ++ transition_of new e ∷ [])
+    (transitions-kept old new states es keeps h)
     ∙ ap (λ x. map (transition_of old) es ++ x ∷ []) same
 
 pub AddsShifted-nil : (shift : ℕ) (labels : List (List ℕ)) (es : List Triple) → AddsShifted shift [] labels es labels es
@@ -95,10 +110,12 @@ AddsShifted-nil shift labels es = sym (append-nil (map (transition_of labels) es
 pub AddsShifted-more : (shift : ℕ) (ts us : List Transition) (l0 l1 l2 : List (List ℕ)) (e0 e1 e2 : List Triple) →
     AddsShifted shift ts l0 e0 l1 e1 → AddsShifted shift us l1 e1 l2 e2 → AddsShifted shift (ts ++ us) l0 e0 l2 e2
 AddsShifted-more shift ts us l0 l1 l2 e0 e1 e2 a b =
-    b ∙ ap (λ l. l ++ map (shifted shift) us) a ∙ append_assoc (map (transition_of l0) e0) (map (shifted shift) ts) (map (shifted shift) us)
+    b ∙ ap (λ l. l ++ map (shifted shift) us) a ∙ append_assoc (map (transition_of l0) e0) (map (shifted shift) ts)
+    (map (shifted shift) us)
     ∙ ap (λ l. map (transition_of l0) e0 ++ l) (sym (map-append (shifted shift) ts us))
 
-pub length-AddsShifted : (shift : ℕ) (ts : List Transition) (l0 l1 : List (List ℕ)) (e0 e1 : List Triple) → AddsShifted shift ts l0 e0 l1 e1 → length e1 ≡ length e0 + length ts
+pub length-AddsShifted : (shift : ℕ) (ts : List Transition) (l0 l1 : List (List ℕ)) (e0 e1 : List Triple) →
+    AddsShifted shift ts l0 e0 l1 e1 → length e1 ≡ length e0 + length ts
 length-AddsShifted shift ts l0 l1 e0 e1 a =
     let whole = ap length a in
     let sum = length-append (map (transition_of l0) e0) (map (shifted shift) ts) in
@@ -108,7 +125,8 @@ length-AddsShifted shift ts l0 l1 e0 e1 a =
     omega arith
 
 -- one place more of a row
-pub AddsShifted-place : (shift : ℕ) (labels : List (List ℕ)) (places : List Triple) (s start end k : ℕ) (l0 l1 l2 : List (List ℕ)) (e0 e1 e2 : List Triple) →
+pub AddsShifted-place : (shift : ℕ) (labels : List (List ℕ)) (places : List Triple) (s start end k : ℕ)
+    (l0 l1 l2 : List (List ℕ)) (e0 e1 e2 : List Triple) →
     IsRow places s start end → start ≤ k → k < end →
     AddsShifted shift (map (transition_of labels) (take (k - start) (row_of s places))) l0 e0 l1 e1 →
     AddsShifted shift (transition_of labels (place_at places k) ∷ []) l1 e1 l2 e2 →
@@ -128,7 +146,8 @@ take-split i j xs h =
     ∙ ap (λ n. take i xs ++ drop i (take n xs)) (sym e) ∙ ap (λ l. take i xs ++ l) (drop-take i (j - i) xs)
 
 -- one row more of a system
-pub AddsShifted-row : (shift : ℕ) (labels : List (List ℕ)) (places : List Triple) (s : ℕ) (l0 l1 l2 : List (List ℕ)) (e0 e1 e2 : List Triple) →
+pub AddsShifted-row : (shift : ℕ) (labels : List (List ℕ)) (places : List Triple) (s : ℕ) (l0 l1 l2 : List (List ℕ))
+    (e0 e1 e2 : List Triple) →
     IsNonDecreasingBy source_of places →
     AddsShifted shift (map (transition_of labels) (take (before s places) places)) l0 e0 l1 e1 →
     AddsShifted shift (map (transition_of labels) (row_of s places)) l1 e1 l2 e2 →
@@ -139,12 +158,15 @@ AddsShifted-row shift labels places s l0 l1 l2 e0 e1 e2 rising a b =
     take-split (before s places) (before (s + 1) places) places (omega arith)
     ∙ ap (λ l. take (before s places) places ++ l) (row-slice s places rising) in
     subst (λ ts. AddsShifted shift ts l0 e0 l2 e2)
-    (sym (ap (map (transition_of labels)) grown ∙ map-append (transition_of labels) (take (before s places) places) (row_of s places)))
-    (AddsShifted-more shift (map (transition_of labels) (take (before s places) places)) (map (transition_of labels) (row_of s places)) l0 l1 l2 e0 e1 e2 a b)
+    (sym (ap (map (transition_of labels)) grown ∙ map-append (transition_of labels) (take (before s places) places)
+    (row_of s places)))
+    (AddsShifted-more shift (map (transition_of labels) (take (before s places) places))
+    (map (transition_of labels) (row_of s places)) l0 l1 l2 e0 e1 e2 a b)
 
 -- equal parts make equal transitions
 pub transition-same : (s s' t t' : ℕ) (a a' : List ℕ) → s ≡ s' → a ≡ a' → t ≡ t' →
-    ◌≡◌ {A = Transition} (record { source = s; label = a; target = t }) (record { source = s'; label = a'; target = t' })
+    ◌≡◌ {A = Transition} (record { source = s; label = a; target = t })
+    (record { source = s'; label = a'; target = t' })
 transition-same s s' t t' a a' p q r =
     let f : ℕ → List ℕ → ℕ → Transition = λ x b y. record { source = x; label = b; target = y } in
     ap (λ x. f x a t) p ∙ ap (λ b. f s' b t) q ∙ ap (λ y. f s' a' y) r
@@ -152,13 +174,15 @@ transition-same s s' t t' a a' p q r =
 pub row-fits : (s : ℕ) (places : List Triple) → before s places + length (row_of s places) ≤ length places
 row-fits s places = let next = before-next s places in let within = before-le (s + 1) places in omega arith
 
-pub length-taken : (labels : List (List ℕ)) (n : ℕ) (places : List Triple) → n ≤ length places → length (map (transition_of labels) (take n places)) ≡ n
+pub length-taken : (labels : List (List ℕ)) (n : ℕ) (places : List Triple) → n ≤ length places →
+    length (map (transition_of labels) (take n places)) ≡ n
 length-taken labels n places h =
     let a = length-map (take n places) (transition_of labels) in
     let b = length-take n places in
     omega arith
 
-rising-from_map : (labels : List (List ℕ)) (es : List Triple) → IsNonDecreasingBy (λ e. e.source) (map (transition_of labels) es) → IsNonDecreasingBy source_of es
+rising-from_map : (labels : List (List ℕ)) (es : List Triple) →
+    IsNonDecreasingBy (λ e. e.source) (map (transition_of labels) es) → IsNonDecreasingBy source_of es
 rising-from_map labels es rising i j d h l =
     let n = length-map es (transition_of labels) in
     let t : Transition = record { source = 0; label = []; target = 0 } in
@@ -167,7 +191,8 @@ rising-from_map labels es rising i j d h l =
     let b = ap (λ e. e.source) (get_or-map (transition_of labels) es j d t l) in
     omega arith
 
-rising-shifted : (n : ℕ) (ts : List Transition) → IsNonDecreasingBy (λ e. e.source) ts → IsNonDecreasingBy (λ e. e.source) (map (shifted n) ts)
+rising-shifted : (n : ℕ) (ts : List Transition) → IsNonDecreasingBy (λ e. e.source) ts →
+    IsNonDecreasingBy (λ e. e.source) (map (shifted n) ts)
 rising-shifted n ts rising i j d h l =
     let m = length-map ts (shifted n) in
     let t : Transition = record { source = 0; label = []; target = 0 } in
@@ -177,24 +202,32 @@ rising-shifted n ts rising i j d h l =
     omega arith
 
 -- the transitions of a union rise by source, those of the second system being past all states of the first
-rising-union : (a b : Grouped) → IsLts a → IsLts b → IsNonDecreasingBy (λ e. e.source) ((union_of (system_of a) (system_of b)).transitions)
+rising-union : (a b : Grouped) → IsLts a → IsLts b →
+    IsNonDecreasingBy (λ e. e.source) ((union_of (system_of a) (system_of b)).transitions)
 rising-union a b la lb =
-    rising-append (λ e. e.source) a.states (map (transition_of a.labels) a.places) (map (shifted a.states) (map (transition_of b.labels) b.places))
-    (All-weaker (IsAmong a.states) (λ e. e.source ≤ a.states) (λ e h. let s = h.source in omega arith) _ la.system.transitions)
-    (All-map (λ e. a.states ≤ e.source) (shifted a.states) (map (transition_of b.labels) b.places) (λ k d h. omega arith))
+    rising-append (λ e. e.source) a.states (map (transition_of a.labels) a.places)
+    (map (shifted a.states) (map (transition_of b.labels) b.places))
+    (All-weaker (IsAmong a.states) (λ e. e.source ≤ a.states) (λ e h. let s = h.source in omega arith) _
+    la.system.transitions)
+    (All-map (λ e. a.states ≤ e.source) (shifted a.states) (map (transition_of b.labels) b.places)
+    (λ k d h. omega arith))
     (rising-map (transition_of a.labels) (λ e. refl) a.places la.rising)
-    (rising-shifted a.states (map (transition_of b.labels) b.places) (rising-map (transition_of b.labels) (λ e. refl) b.places lb.rising))
+    (rising-shifted a.states (map (transition_of b.labels) b.places) (rising-map (transition_of b.labels) (λ e. refl)
+    b.places lb.rising))
 
 -- what the triples of both systems make of the two systems
 module _ (a b : Grouped) (labels : List (List ℕ)) (es : List Triple) (la : IsLts a) (lb : IsLts b)
-    (g : IsJoined labels (a.states + b.states) es) (both : map (transition_of labels) es ≡ (union_of (system_of a) (system_of b)).transitions) where
+    (g : IsJoined labels (a.states + b.states) es) (both : map (transition_of labels) es
+    ≡ (union_of (system_of a) (system_of b)).transitions) where
   union-places : grouped (a.states + b.states) es ≡ es
   union-places =
       grouped-same (a.states + b.states) es
       (rising-from_map labels es (subst (IsNonDecreasingBy (λ e. e.source)) (sym both) (rising-union a b la lb)))
-      (All-weaker (IsTriple (length labels) (a.states + b.states)) (λ e. source_of e < a.states + b.states) (λ e h. h.source) es g.each)
+      (All-weaker (IsTriple (length labels) (a.states + b.states)) (λ e. source_of e < a.states + b.states)
+      (λ e h. h.source) es g.each)
 
-  union-system : (u : Grouped) → u.first ≡ a.first → u.states ≡ a.states + b.states → u.labels ≡ labels → u.places ≡ grouped (a.states + b.states) es →
+  union-system : (u : Grouped) → u.first ≡ a.first → u.states ≡ a.states + b.states → u.labels ≡ labels →
+      u.places ≡ grouped (a.states + b.states) es →
       system_of u ≡ union_of (system_of a) (system_of b)
   union-system u f s l p =
       let make : ℕ → ℕ → List Transition → System = λ x n ts. record { first = x; states = n; transitions = ts } in
@@ -203,18 +236,21 @@ module _ (a b : Grouped) (labels : List (List ℕ)) (es : List Triple) (la : IsL
       ap (λ x. make x u.states (map (transition_of u.labels) u.places)) f
       ∙ ap (λ n. make a.first n (map (transition_of u.labels) u.places)) s ∙ ap (make a.first (a.states + b.states)) ts
 
-  union-carried : (u : Grouped) → u.labels ≡ labels → u.places ≡ grouped (a.states + b.states) es → (k : ℕ) → k < length u.labels → IsCarried u k
+  union-carried : (u : Grouped) → u.labels ≡ labels → u.places ≡ grouped (a.states + b.states) es → (k : ℕ) →
+      k < length u.labels → IsCarried u k
   union-carried u l p k h =
       let c = g.carried k (let n = ap length l in omega arith) in
       (c.0, subst (λ es'. Contains es' c.0) (sym (p ∙ union-places)) c.1, c.2)
 
-  pub IfOk-union-system : {E : Type 0} (r : Result Grouped E) → IfOk r (λ u. u.first ≡ a.first) → IfOk r (λ u. u.states ≡ a.states + b.states) →
+  pub IfOk-union-system : {E : Type 0} (r : Result Grouped E) → IfOk r (λ u. u.first ≡ a.first) →
+      IfOk r (λ u. u.states ≡ a.states + b.states) →
       IfOk r (λ u. u.labels ≡ labels) → IfOk r (λ u. u.places ≡ grouped (a.states + b.states) es) →
       IfOk r (λ u. system_of u ≡ union_of (system_of a) (system_of b))
   IfOk-union-system (Ok u) f s l p = union-system u f s l p
   IfOk-union-system (Err e) f s l p = tt
 
-  pub IfOk-union-carried : {E : Type 0} (r : Result Grouped E) → IfOk r (λ u. u.labels ≡ labels) → IfOk r (λ u. u.places ≡ grouped (a.states + b.states) es) →
+  pub IfOk-union-carried : {E : Type 0} (r : Result Grouped E) → IfOk r (λ u. u.labels ≡ labels) →
+      IfOk r (λ u. u.places ≡ grouped (a.states + b.states) es) →
       IfOk r (λ u. (k : ℕ) → k < length u.labels → IsCarried u k)
   IfOk-union-carried (Ok u) l p = union-carried u l p
   IfOk-union-carried (Err e) l p = tt
@@ -222,14 +258,16 @@ module _ (a b : Grouped) (labels : List (List ℕ)) (es : List Triple) (la : IsL
 shifted-zero : (ts : List Transition) → map (shifted 0) ts ≡ ts
 shifted-zero [] = refl
 shifted-zero (t ∷ ts) =
-    ap (λ x. x ∷ map (shifted 0) ts) (transition-same (0 + t.source) t.source (0 + t.target) t.target t.label t.label (omega arith) refl (omega arith))
+    ap (λ x. x ∷ map (shifted 0) ts) (transition-same (0 + t.source) t.source (0 + t.target) t.target t.label t.label
+    (omega arith) refl (omega arith))
     ∙ ap (λ l. t ∷ l) (shifted-zero ts)
 
 -- both systems put in, one after the other
 pub AddsShifted-both : (n : ℕ) (ts us : List Transition) (l0 l1 l2 : List (List ℕ)) (e0 e1 e2 : List Triple) → e0 ≡ [] →
     AddsShifted 0 ts l0 e0 l1 e1 → AddsShifted n us l1 e1 l2 e2 → map (transition_of l2) e2 ≡ ts ++ map (shifted n) us
 AddsShifted-both n ts us l0 l1 l2 e0 e1 e2 none a b =
-    b ∙ ap (λ l. l ++ map (shifted n) us) (a ∙ ap (λ e. map (transition_of l0) e ++ map (shifted 0) ts) none ∙ shifted-zero ts)
+    b ∙ ap (λ l. l ++ map (shifted n) us) (a ∙ ap (λ e. map (transition_of l0) e ++ map (shifted 0) ts) none
+    ∙ shifted-zero ts)
 
 -- nothing was put in
 pub IsJoined-none : (labels : List (List ℕ)) (es : List Triple) → labels ≡ [] → es ≡ [] → IsJoined labels 0 es

@@ -1,5 +1,7 @@
 -- The label table, as a list of texts: what a look-up says, and what a new label leaves.
-use Rattle.std.proofs.Common.{◌≡◌, ◌≢◌, ◌∙◌, ℕ, zero, suc, ◌+◌, ◌<◌, ◌≤◌, Bool, true, false, ◌||◌, cond, not, ltb, List, [], ◌∷◌, ◌++◌, length, map, get_or, Option, Some, None, is_some, true≢false, Contains, sym, ap, subst, refl, inl, inr, arith}
+use Rattle.std.proofs.Common.{◌≡◌, ◌≢◌, ◌∙◌, ℕ, zero, suc, ◌+◌, ◌<◌, ◌≤◌, Bool, true, false, ◌||◌, cond, not, ltb, List}
+use Rattle.std.proofs.Common.{[], ◌∷◌, ◌++◌, length, map, get_or, Option, Some, None, is_some, true≢false, Contains}
+use Rattle.std.proofs.Common.{sym, ap, subst, refl, inl, inr, arith}
 use Rattle.std.specs.List.{list_any, position, position_or_len, prefix_len}
 use Rattle.std.specs.Str.{bytes_eq}
 use Rattle.std.specs.Map.{lookup}
@@ -14,21 +16,26 @@ use Rattle.growth.specs.declared.limits.TheConstants.{MOST_LABELS}
 use Rattle.lts.specs.Labels.{text_of, IsNumber, IsTable, Keeps}
 
 -- a search in a mapped list is a search by the mapped test
-prefix_len-map : {X Y : Type 0} (p : Y → Bool) (f : X → Y) (xs : List X) → prefix_len p (map f xs) ≡ prefix_len (λ x. p (f x)) xs
+prefix_len-map : {X Y : Type 0} (p : Y → Bool) (f : X → Y) (xs : List X) →
+    prefix_len p (map f xs) ≡ prefix_len (λ x. p (f x)) xs
 prefix_len-map p f [] = refl
 prefix_len-map p f (x ∷ xs) = ap (λ n. cond (p (f x)) (1 + n) 0) (prefix_len-map p f xs)
 
-pub position-map : {X Y : Type 0} (p : Y → Bool) (f : X → Y) (xs : List X) → position p (map f xs) ≡ position (λ x. p (f x)) xs
+pub position-map : {X Y : Type 0} (p : Y → Bool) (f : X → Y) (xs : List X) →
+    position p (map f xs) ≡ position (λ x. p (f x)) xs
 position-map p f xs =
     let at : ℕ → ℕ → Option ℕ = λ i n. cond (ltb i n) (Some i) None in
-    ap (λ n. at (position_or_len p (map f xs)) n) (length-map xs f) ∙ ap (λ i. at i (length xs)) (prefix_len-map (λ y. not (p y)) f xs)
+    ap (λ n. at (position_or_len p (map f xs)) n) (length-map xs f)
+    ∙ ap (λ i. at i (length xs)) (prefix_len-map (λ y. not (p y)) f xs)
 
-pub list_any-map : {X Y : Type 0} (p : Y → Bool) (f : X → Y) (xs : List X) → list_any p (map f xs) ≡ list_any (λ x. p (f x)) xs
+pub list_any-map : {X Y : Type 0} (p : Y → Bool) (f : X → Y) (xs : List X) →
+    list_any p (map f xs) ≡ list_any (λ x. p (f x)) xs
 list_any-map p f [] = refl
 list_any-map p f (x ∷ xs) = rw (list_any-map p f xs)
 
 -- a text that stands in the list is found
-found_at : (labels : List (List ℕ)) (a : List ℕ) (k : ℕ) → k < length labels → get_or labels k a ≡ a → list_any (bytes_eq a) labels ≡ true
+found_at : (labels : List (List ℕ)) (a : List ℕ) (k : ℕ) → k < length labels → get_or labels k a ≡ a →
+    list_any (bytes_eq a) labels ≡ true
 found_at [] a k h e = absurd (omega arith)
 found_at (x ∷ xs) a zero h e = or_left (bytes_eq a x) (list_any (bytes_eq a) xs) ((bytes_eq-Decides a x).1 (sym e))
 found_at (x ∷ xs) a (suc k) h e = or_right (bytes_eq a x) (list_any (bytes_eq a) xs) (found_at xs a k (omega arith) e)
@@ -36,7 +43,8 @@ found_at (x ∷ xs) a (suc k) h e = or_right (bytes_eq a x) (list_any (bytes_eq 
 pub absent : (labels : List (List ℕ)) (a : List ℕ) → list_any (bytes_eq a) labels ≡ false → ¬ Contains labels a
 absent labels a none at = both_ways _ none (found_at labels a at.0 at.1 at.2)
 
-pub IsNumber-position : (labels : List (List ℕ)) (a : List ℕ) (k : ℕ) → position (bytes_eq a) labels ≡ Some k → IsNumber labels k a
+pub IsNumber-position : (labels : List (List ℕ)) (a : List ℕ) (k : ℕ) → position (bytes_eq a) labels ≡ Some k →
+    IsNumber labels k a
 IsNumber-position labels a k e =
     let at = position-Some (bytes_eq a) labels k [] e in
     record { below = at.0; text = sym ((bytes_eq-Decides a (get_or labels k [])).0 at.1) }
@@ -69,7 +77,8 @@ module _ (labels : List (List ℕ)) (a : List ℕ) (new : ¬ Contains labels a) 
     ]
   ]
 
-pub IsTable-push : (labels : List (List ℕ)) (a : List ℕ) → IsTable labels → ¬ Contains labels a → IsLabel a → length labels < MOST_LABELS → IsTable (labels ++ a ∷ [])
+pub IsTable-push : (labels : List (List ℕ)) (a : List ℕ) → IsTable labels → ¬ Contains labels a → IsLabel a →
+    length labels < MOST_LABELS → IsTable (labels ++ a ∷ [])
 IsTable-push labels a t new is room = record {
   each_label = All-push IsLabel labels a t.each_label is;
   different = different_push labels a new t;
@@ -89,11 +98,13 @@ Keeps-push labels a = record {
 }
 
 -- a look-up that finds nothing: no key passes the test
-pub none_passes : {X V : Type 0} (p : X → Bool) (es : List (X × V)) → is_some (lookup p es) ≡ false → list_any p (map (λ e. e.0) es) ≡ false
+pub none_passes : {X V : Type 0} (p : X → Bool) (es : List (X × V)) → is_some (lookup p es) ≡ false →
+    list_any p (map (λ e. e.0) es) ≡ false
 none_passes p [] none = refl
 none_passes p (e ∷ es) none = by (none_passes p es) (p e.0) refl
   where
-    by : (is_some (lookup p es) ≡ false → list_any p (map (λ e. e.0) es) ≡ false) → (b : Bool) → p e.0 ≡ b → list_any p (e.0 ∷ map (λ e. e.0) es) ≡ false
+    by : (is_some (lookup p es) ≡ false → list_any p (map (λ e. e.0) es) ≡ false) → (b : Bool) → p e.0 ≡ b →
+        list_any p (e.0 ∷ map (λ e. e.0) es) ≡ false
     by rest true is = absurd (true≢false (sym (ap (λ b. is_some (cond b (Some e.1) (lookup p es))) is) ∙ none))
     by rest false is =
         ap (λ b. b || list_any p (map (λ e. e.0) es)) is
@@ -105,7 +116,8 @@ pub keys-insert : {X V : Type 0} (eq : X → X → Bool) (es : List (X × V)) (x
 keys-insert eq [] x v none = refl
 keys-insert eq (e ∷ es) x v none = by (keys-insert eq es x v) (eq x e.0) refl
   where
-    by : (list_any (eq x) (map (λ e. e.0) es) ≡ false → map (λ e. e.0) (insert_entry eq es x v) ≡ map (λ e. e.0) es ++ x ∷ []) →
+    by : (list_any (eq x) (map (λ e. e.0) es) ≡ false → map (λ e. e.0) (insert_entry eq es x v)
+        ≡ map (λ e. e.0) es ++ x ∷ []) →
         (b : Bool) → eq x e.0 ≡ b → map (λ e. e.0) (insert_entry eq (e ∷ es) x v) ≡ e.0 ∷ map (λ e. e.0) es ++ x ∷ []
     by rest true is = absurd (true≢false (sym (ap (λ b. b || list_any (eq x) (map (λ e. e.0) es)) is) ∙ none))
     by rest false is =

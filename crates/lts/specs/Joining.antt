@@ -6,7 +6,8 @@ use Rattle.growth.specs.declared.limits.TheConstants.{MOST_STATES}
 use Rattle.theory.specs.Union.{shifted}
 use Rattle.lts.specs.Lts.{Triple, label_of, transition_of, IsTriple}
 
--- a list of triples among so many states, over a table that has only the labels that they carry, no more of them than triples
+-- a list of triples among so many states, over a table that has only the labels that they carry, no more of them than
+-- triples
 pub record IsJoined (labels : List (List ℕ)) (states : ℕ) (es : List Triple) : Type 0 where
   pub few_states : states ≤ MOST_STATES
   pub each : All (IsTriple (length labels) states) es

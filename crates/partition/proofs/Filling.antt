@@ -1,5 +1,7 @@
--- Which list keeps the number of a block, once all lists have voted: the empty one, if the block has states that are not looked at.
-use Rattle.std.proofs.Common.{◌≡◌, ◌∙◌, ◌⊎◌, ℕ, suc, ◌+◌, ◌*◌, ◌<◌, ◌≤◌, List, length, slice_index, set, replicate, ap, sym, subst, refl, inl, inr, arith}
+-- Which list keeps the number of a block, once all lists have voted: the empty one, if the block has states that are
+-- not looked at.
+use Rattle.std.proofs.Common.{◌≡◌, ◌∙◌, ◌⊎◌, ℕ, suc, ◌+◌, ◌*◌, ◌<◌, ◌≤◌, List, length, slice_index, set, replicate, ap}
+use Rattle.std.proofs.Common.{sym, subst, refl, inl, inr, arith}
 use Rattle.std.proofs.lemmas.Bool.{cases_lt, cases_eq, cond_below, cond_above}
 use Rattle.std.proofs.lemmas.List.{length-set, length-replicate, get_or-set_same, get_or-set_other}
 use Rattle.partition.specs.Partition.{AreBlocks}
@@ -16,7 +18,8 @@ use Rattle.partition.proofs.Voting.{block_size-within, length-ballots, ballot_of
 -- what keeps the number of the block b: the empty list if there are others, or else the list that was voted for
 abbrev pub IsDecided : List ℕ → List ℕ → List ℕ → List ℕ → ℕ → Type 0
 IsDecided sizes voted first keepers b =
-    ((slice_index keepers b ≡ 0) × (0 < slice_index sizes b) × ((slice_index voted b ≡ 0) ⊎ (slice_index first b ≤ slice_index sizes b)))
+    ((slice_index keepers b ≡ 0) × (0 < slice_index sizes b)
+    × ((slice_index voted b ≡ 0) ⊎ (slice_index first b ≤ slice_index sizes b)))
     ⊎ ((slice_index keepers b ≡ slice_index voted b) × (slice_index sizes b ≡ 0))
 
 -- the block b is in one of the first i places
@@ -35,10 +38,12 @@ pub record DecidedUpTo (block_at : ℕ → ℕ) (i : ℕ) (sizes voted first kee
   pub unmet : (b : ℕ) → (slice_index all b ≡ 0) ⊎ HasPlace block_at i b
   pub none : (j : ℕ) → j < i → slice_index votes (block_at j) ≡ 0
   pub fewer : (b : ℕ) → slice_index first b ≡ 0 → slice_index votes b ≡ 0
-  pub fresh : (b : ℕ) → ((slice_index keepers b ≡ slice_index voted b) × (slice_index votes b ≡ slice_index first b)) ⊎ HasPlace block_at i b
+  pub fresh : (b : ℕ) → ((slice_index keepers b ≡ slice_index voted b) × (slice_index votes b ≡ slice_index first b))
+      ⊎ HasPlace block_at i b
   pub stays : (b : ℕ) → (slice_index keepers b ≡ slice_index voted b) ⊎ (slice_index keepers b ≡ 0)
 
-pub DecidedUpTo-none : (block_at : ℕ → ℕ) (sizes voted first : List ℕ) → length voted ≡ length sizes → length first ≡ length sizes
+pub DecidedUpTo-none : (block_at : ℕ → ℕ) (sizes voted first : List ℕ) → length voted ≡ length sizes
+    → length first ≡ length sizes
     → DecidedUpTo block_at 0 sizes voted first voted first
 DecidedUpTo-none block_at sizes voted first room votes_room = record {
   all = replicate (length sizes) 0;
@@ -65,8 +70,10 @@ module _ {block_at : ℕ → ℕ} {i b : ℕ} {sizes voted first keepers votes :
   ]
 
   -- the next block has the keeper x, which is the empty list if it has others, and else what it was
-  DecidedUpTo-more : (x : ℕ) (keepers' : List ℕ) → ((x ≡ 0) × (0 < slice_index sizes b) × ((slice_index voted b ≡ 0) ⊎ (slice_index first b ≤ slice_index sizes b))) ⊎ ((x ≡ slice_index keepers b) × (slice_index sizes b ≡ 0))
-      → length keepers' ≡ length keepers → slice_index keepers' b ≡ x → ((k : ℕ) → ¬ (k ≡ b) → slice_index keepers' k ≡ slice_index keepers k)
+  DecidedUpTo-more : (x : ℕ) (keepers' : List ℕ) → ((x ≡ 0) × (0 < slice_index sizes b) × ((slice_index voted b ≡ 0)
+      ⊎ (slice_index first b ≤ slice_index sizes b))) ⊎ ((x ≡ slice_index keepers b) × (slice_index sizes b ≡ 0))
+      → length keepers' ≡ length keepers → slice_index keepers' b ≡ x
+      → ((k : ℕ) → ¬ (k ≡ b) → slice_index keepers' k ≡ slice_index keepers k)
       → DecidedUpTo block_at (i + 1) sizes voted first keepers' (set votes b 0)
   DecidedUpTo-more x keepers' either size now rest =
       let now_all = get_or-set_same up.all b x 0 (omega (arith, below, up.all_room)) in
@@ -85,23 +92,34 @@ module _ {block_at : ℕ → ℕ} {i b : ℕ} {sizes voted first keepers votes :
         ];
         agree = λ j h. elim (cases_eq (block_at j) b) [
           | inl e ↦ ap (slice_index keepers') e ∙ now ∙ sym (ap (slice_index (set up.all b x)) e ∙ now_all)
-          | inr d ↦ rest (block_at j) d ∙ up.agree j (earlier_place j h d) ∙ sym (get_or-set_other up.all b (block_at j) x 0 d)
+          | inr d ↦ rest (block_at j) d ∙ up.agree j (earlier_place j h d)
+              ∙ sym (get_or-set_other up.all b (block_at j) x 0 d)
         ];
         decided = λ j h. elim (cases_eq (block_at j) b) [
           | inl e ↦
               let here = ap (slice_index keepers') e ∙ now in
               let size = ap (slice_index sizes) e in
               elim either [
-                | inl y ↦ inl (here ∙ y.0, omega (arith, y.1, size), subst (λ k. (slice_index voted k ≡ 0) ⊎ (slice_index first k ≤ slice_index sizes k)) (sym e) y.2)
+                | inl y ↦ inl (
+                  here ∙ y.0,
+                  omega (arith, y.1, size),
+                  subst (λ k. (slice_index voted k ≡ 0) ⊎ (slice_index first k ≤ slice_index sizes k)) (sym e) y.2,
+                )
                 | inr y ↦ inr (here ∙ y.0 ∙ up.same b y.1 ∙ ap (slice_index voted) (sym e), size ∙ y.1)
               ]
           | inr d ↦
               let was = rest (block_at j) d in
-              elim (up.decided j (earlier_place j h d)) [ inl y ↦ inl (was ∙ y.0, y.1, y.2) | inr y ↦ inr (was ∙ y.0, y.1) ]
+              elim (up.decided j (earlier_place j h d)) [
+                | inl y ↦ inl (was ∙ y.0, y.1, y.2)
+                | inr y ↦ inr (was ∙ y.0, y.1)
+              ]
         ];
         unmet = λ k. elim (cases_eq k b) [
           | inl e ↦ inr (i, omega arith, at ∙ sym e)
-          | inr d ↦ elim (up.unmet k) [ inl none ↦ inl (get_or-set_other up.all b k x 0 d ∙ none) | inr m ↦ inr (m.0, omega (arith, m.1), m.2) ]
+          | inr d ↦ elim (up.unmet k) [
+            | inl none ↦ inl (get_or-set_other up.all b k x 0 d ∙ none)
+            | inr m ↦ inr (m.0, omega (arith, m.1), m.2)
+          ]
         ];
         none = λ j h. elim (cases_eq (block_at j) b) [
           | inl e ↦ ap (slice_index (set votes b 0)) e ∙ now_votes
@@ -151,7 +169,8 @@ module _ {block_at : ℕ → ℕ} {i b : ℕ} {sizes voted first keepers votes :
   pub DecidedUpTo-others : 0 < slice_index sizes b → ¬ Lose
       → DecidedUpTo block_at (i + 1) sizes voted first (set keepers b 0) (set votes b 0)
   DecidedUpTo-others some win =
-      DecidedUpTo-more 0 (set keepers b 0) (inl (refl, some, have_won some win)) (length-set keepers b 0) (get_or-set_same keepers b 0 0 (omega (arith, below, up.room)))
+      DecidedUpTo-more 0 (set keepers b 0) (inl (refl, some, have_won some win)) (length-set keepers b 0)
+      (get_or-set_same keepers b 0 0 (omega (arith, below, up.room)))
       (λ k d. get_or-set_other keepers b k 0 0 d)
 
   -- or none
@@ -188,7 +207,8 @@ module _ {of numbers live sizes voted first keepers votes : List ℕ} {places : 
   decided_at : (j : ℕ) → j < length live → IsDecided sizes voted first keepers (slice_index of (slice_index live j))
   decided_at j h = let w = placed j h in subst (IsDecided sizes voted first keepers) w.2 (up.decided w.0 w.1)
 
-  agree_at : (j : ℕ) → j < length live → let b = slice_index of (slice_index live j) in slice_index keepers b ≡ slice_index up.all b
+  agree_at : (j : ℕ) → j < length live → let b = slice_index of (slice_index live j) in
+      slice_index keepers b ≡ slice_index up.all b
   agree_at j h = let w = placed j h in subst (λ b. slice_index keepers b ≡ slice_index up.all b) w.2 (up.agree w.0 w.1)
 
   -- a block that has more states has one with the empty list
@@ -216,7 +236,13 @@ module _ {of numbers live sizes voted first keepers votes : List ℕ} {places : 
         | inr w ↦ (w.0, w.2, w.3)
         | inl e ↦
             let some = block_size-some left t (omega (arith, h, out.states)) in
-            absurd (omega (arith, some, ap (block_size left) e, out.left (slice_index of t) (below_states are t h), none))
+            absurd (omega (
+              arith,
+              some,
+              ap (block_size left) e,
+              out.left (slice_index of t) (below_states are t h),
+              none,
+            ))
       ]
 
   -- and one of them has the list that was voted for
@@ -227,7 +253,8 @@ module _ {of numbers live sizes voted first keepers votes : List ℕ} {places : 
       let w = has.kept one.0 one.1 in
       let same = ap (slice_index of) (sym one.2) in
       let voted_all : slice_index voted (slice_index of w.0) ≡ slice_index up.all (slice_index of w.0) =
-      sym (up.same (slice_index of w.0) (ap (slice_index sizes) (w.2 ∙ here) ∙ none)) ∙ ap (slice_index keepers) w.2 ∙ agree_at one.0 one.1 ∙ ap (slice_index up.all) (sym w.2) in
+      sym (up.same (slice_index of w.0) (ap (slice_index sizes) (w.2 ∙ here) ∙ none)) ∙ ap (slice_index keepers) w.2
+      ∙ agree_at one.0 one.1 ∙ ap (slice_index up.all) (sym w.2) in
       (w.0, w.1, w.2 ∙ here, w.3 ∙ voted_all)
 
   keepers_all : AreKeepers of numbers live up.all
@@ -249,7 +276,10 @@ module _ {of numbers live sizes voted first keepers votes : List ℕ} {places : 
   }
 
   pub keepers_decided : HaveKeepers of numbers live keepers
-  keepers_decided = record { room = λ i h. omega (arith, are.below _ (rises.below i h), up.room); same = (up.all, keepers_all, agree_at) }
+  keepers_decided = record {
+    room = λ i h. omega (arith, are.below _ (rises.below i h), up.room);
+    same = (up.all, keepers_all, agree_at);
+  }
 
   -- no votes are left
   pub none_left : (b : ℕ) → slice_index votes b ≡ 0
@@ -260,7 +290,8 @@ module _ {of numbers live sizes voted first keepers votes : List ℕ} {places : 
 
   module _ (bound : BoundVotes of numbers live (length live) sizes voted first) where
     -- a list that does not keep the number has at most half of its block
-    few_votes : (j : ℕ) → j < length live → (list : ℕ) → let b = slice_index of (slice_index live j) in ¬ (list ≡ slice_index keepers b)
+    few_votes : (j : ℕ) → j < length live → (list : ℕ) → let b = slice_index of (slice_index live j) in
+        ¬ (list ≡ slice_index keepers b)
         → votes_for of numbers live (length live) b list * 2 ≤ block_size of b
     few_votes j h list other =
         let b = slice_index of (slice_index live j) in
@@ -276,7 +307,8 @@ module _ {of numbers live sizes voted first keepers votes : List ℕ} {places : 
         ]
 
     -- its states are looked at
-    looked_at : (j : ℕ) → j < length live → (t : ℕ) → t < length of → slice_index of t ≡ slice_index of (slice_index live j)
+    looked_at : (j : ℕ) → j < length live → (t : ℕ) → t < length of
+        → slice_index of t ≡ slice_index of (slice_index live j)
         → ¬ (slice_index numbers t ≡ slice_index keepers (slice_index of (slice_index live j))) → IsOne live t
     looked_at j h t ht same other = elim (decided_at j h) [
       | inr y ↦ all_met t ht (ap (slice_index sizes) same ∙ y.1)
@@ -289,14 +321,19 @@ module _ {of numbers live sizes voted first keepers votes : List ℕ} {places : 
         let j = one.0 in
         let here : slice_index of (slice_index live j) ≡ b = ap (slice_index of) one.2 in
         let inside : s < length of = omega (arith, one.2, rises.below j one.1) in
-        let differs : ¬ (slice_index numbers s ≡ slice_index keepers (slice_index of (slice_index live j))) = λ e. other (e ∙ ap (slice_index keepers) here) in
+        let differs : ¬ (slice_index numbers s ≡ slice_index keepers (slice_index of (slice_index live j))) =
+        λ e. other (e ∙ ap (slice_index keepers) here) in
         let few : votes_for of numbers live (length live) b (slice_index numbers s) * 2 ≤ block_size of b =
-        subst (λ b. votes_for of numbers live (length live) b (slice_index numbers s) * 2 ≤ block_size of b) here (few_votes j one.1 (slice_index numbers s) differs) in
-        let within : block_size new (slice_index new s) ≤ votes_for of numbers live (length live) b (slice_index numbers s) =
-        block_size-within new (ballots of numbers live b (length live)) (slice_index new s) (suc (slice_index numbers s)) (states ∙ sym (length-ballots of numbers live b (length live))) (λ t h e.
+        subst (λ b. votes_for of numbers live (length live) b (slice_index numbers s) * 2 ≤ block_size of b) here
+        (few_votes j one.1 (slice_index numbers s) differs) in
+        let within : block_size new (slice_index new s) ≤ votes_for of numbers live (length live) b
+        (slice_index numbers s) =
+        block_size-within new (ballots of numbers live b (length live)) (slice_index new s)
+        (suc (slice_index numbers s)) (states ∙ sym (length-ballots of numbers live b (length live))) (λ t h e.
         let like = alike t (omega (arith, h, states)) e in
         let ht : t < length of = omega (arith, h, states) in
         let w = looked_at j one.1 t ht (like.0 ∙ sym here) (λ e. differs (sym like.1 ∙ e)) in
         ap (slice_index (ballots of numbers live b (length live))) (sym w.2)
-        ∙ ballot_of of numbers live b (length live) w.0 w.1 (rises.below w.0 w.1) (ap (slice_index of) w.2 ∙ like.0) ∙ ap (λ u. suc (slice_index numbers u)) w.2 ∙ ap suc like.1) in
+        ∙ ballot_of of numbers live b (length live) w.0 w.1 (rises.below w.0 w.1) (ap (slice_index of) w.2 ∙ like.0)
+        ∙ ap (λ u. suc (slice_index numbers u)) w.2 ∙ ap suc like.1) in
         omega (arith, few, within)

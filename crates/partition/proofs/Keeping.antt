@@ -1,5 +1,6 @@
 -- For each block that has voted the number of a list that one of its states has.
-use Rattle.std.proofs.Common.{◌≡◌, ◌∙◌, ◌⊎◌, ℕ, ◌+◌, ◌<◌, List, length, slice_index, set, ap, sym, refl, inl, inr, arith}
+use Rattle.std.proofs.Common.{◌≡◌, ◌∙◌, ◌⊎◌, ℕ, ◌+◌, ◌<◌, List, length, slice_index, set, ap, sym, refl, inl, inr}
+use Rattle.std.proofs.Common.{arith}
 use Rattle.std.proofs.lemmas.Bool.{cases_lt, cases_eq}
 use Rattle.std.proofs.lemmas.List.{get_or-set_same, get_or-set_other}
 use Rattle.partition.specs.Blocks.{AreLive}
@@ -15,10 +16,12 @@ IsMet old live i b = (j : ℕ) × (j < i) × (slice_index old (slice_index live 
 
 -- so far for the blocks of these states, and for each block that has votes
 pub record KeptUpTo (old numbers live : List ℕ) (i : ℕ) (keepers votes : List ℕ) : Type 0 where
-  pub keeps : (t : ℕ) → t < length old → IsBefore live i t ⊎ (0 < slice_index votes (slice_index old t)) → HasKeeper old numbers keepers t
+  pub keeps : (t : ℕ) → t < length old → IsBefore live i t ⊎ (0 < slice_index votes (slice_index old t)) →
+      HasKeeper old numbers keepers t
   pub met : (b : ℕ) → (slice_index votes b ≡ 0) ⊎ IsMet old live i b
 
-module _ (old numbers live : List ℕ) (i : ℕ) (keepers votes : List ℕ) (inside : slice_index live i < length old) (up : KeptUpTo old numbers live i keepers votes) where
+module _ (old numbers live : List ℕ) (i : ℕ) (keepers votes : List ℕ) (inside : slice_index live i < length old)
+    (up : KeptUpTo old numbers live i keepers votes) where
   abbrev s : ℕ
   s = slice_index live i
 
@@ -33,11 +36,13 @@ module _ (old numbers live : List ℕ) (i : ℕ) (keepers votes : List ℕ) (ins
   ]
 
   -- the votes of another block are as they were
-  others : (v t : ℕ) → ¬ (slice_index old t ≡ b) → slice_index (set votes b v) (slice_index old t) ≡ slice_index votes (slice_index old t)
+  others : (v t : ℕ) → ¬ (slice_index old t ≡ b) → slice_index (set votes b v) (slice_index old t)
+      ≡ slice_index votes (slice_index old t)
   others v t d = get_or-set_other votes b (slice_index old t) v 0 d
 
   -- a state of another block was before the next one, or its block had votes
-  before : (v t : ℕ) → ¬ (slice_index old t ≡ b) → IsBefore live (i + 1) t ⊎ (0 < slice_index (set votes b v) (slice_index old t))
+  before : (v t : ℕ) → ¬ (slice_index old t ≡ b)
+      → IsBefore live (i + 1) t ⊎ (0 < slice_index (set votes b v) (slice_index old t))
       → IsBefore live i t ⊎ (0 < slice_index votes (slice_index old t))
   before v t d h = elim h [
     | inl low ↦ elim (earlier t low) [ inl less ↦ inl less | inr here ↦ absurd (d (ap (slice_index old) here)) ]
@@ -48,7 +53,10 @@ module _ (old numbers live : List ℕ) (i : ℕ) (keepers votes : List ℕ) (ins
   met_more : (v k : ℕ) → (slice_index (set votes b v) k ≡ 0) ⊎ IsMet old live (i + 1) k
   met_more v k = elim (cases_eq k b) [
     | inl e ↦ inr (i, omega arith, sym e)
-    | inr d ↦ elim (up.met k) [ inl none ↦ inl (get_or-set_other votes b k v 0 d ∙ none) | inr m ↦ inr (m.0, omega (arith, m.1), m.2) ]
+    | inr d ↦ elim (up.met k) [
+      | inl none ↦ inl (get_or-set_other votes b k v 0 d ∙ none)
+      | inr m ↦ inr (m.0, omega (arith, m.1), m.2)
+    ]
   ]
 
   -- the block keeps its list, which a state of it has
@@ -65,12 +73,16 @@ module _ (old numbers live : List ℕ) (i : ℕ) (keepers votes : List ℕ) (ins
   keepers' = set keepers b (slice_index numbers s)
 
   keeps-now : b < length keepers → (v t : ℕ) → t < length old
-      → IsBefore live (i + 1) t ⊎ (0 < slice_index (set votes b v) (slice_index old t)) → HasKeeper old numbers keepers' t
+      → IsBefore live (i + 1) t ⊎ (0 < slice_index (set votes b v) (slice_index old t))
+      → HasKeeper old numbers keepers' t
   keeps-now room v t ht h = elim (cases_eq (slice_index old t) b) [
     | inl e ↦ (s, inside, sym e, sym (get_or-set_same keepers b (slice_index numbers s) 0 room))
-    | inr d ↦
-        let g = up.keeps t ht (before v t d h) in
-        (g.0, g.1, g.2, g.3 ∙ sym (get_or-set_other keepers b (slice_index old g.0) (slice_index numbers s) 0 (λ e. d (sym g.2 ∙ e))))
+    | inr d ↦ let g = up.keeps t ht (before v t d h) in (
+      g.0,
+      g.1,
+      g.2,
+      g.3 ∙ sym (get_or-set_other keepers b (slice_index old g.0) (slice_index numbers s) 0 (λ e. d (sym g.2 ∙ e))),
+    )
   ]
 
   -- the list of the state stands for its block from now on
@@ -81,12 +93,16 @@ module _ (old numbers live : List ℕ) (i : ℕ) (keepers votes : List ℕ) (ins
 pub KeptUpTo-none : (old numbers live keepers votes : List ℕ) → ((b : ℕ) → slice_index votes b ≡ 0)
     → KeptUpTo old numbers live 0 keepers votes
 KeptUpTo-none old numbers live keepers votes none = record {
-  keeps = λ t h x. elim x [ inl y ↦ absurd (omega (arith, y.1)) | inr some ↦ absurd (omega (arith, some, none (slice_index old t))) ];
+  keeps = λ t h x. elim x [
+    | inl y ↦ absurd (omega (arith, y.1))
+    | inr some ↦ absurd (omega (arith, some, none (slice_index old t)))
+  ];
   met = λ b. inl (none b);
 }
 
 -- when all have
-pub voted_all : (old numbers live keepers votes : List ℕ) → AreLive (length old) live → KeptUpTo old numbers live (length live) keepers votes
+pub voted_all : (old numbers live keepers votes : List ℕ) → AreLive (length old) live
+    → KeptUpTo old numbers live (length live) keepers votes
     → HaveVoted old numbers live keepers votes
 voted_all old numbers live keepers votes rises up =
     record { kept = λ j h. up.keeps (slice_index live j) (rises.below j h) (inl (j, h, refl)); met = up.met }

@@ -1,14 +1,17 @@
 -- States that are put back into the sizes of their blocks.
-use Rattle.std.proofs.Common.{◌≡◌, ◌∙◌, ℕ, ◌+◌, ◌-◌, ◌<◌, ◌≤◌, List, ◌++◌, length, slice_index, set, take, replicate, ap, sym, refl, inl, inr, arith}
+use Rattle.std.proofs.Common.{◌≡◌, ◌∙◌, ℕ, ◌+◌, ◌-◌, ◌<◌, ◌≤◌, List, ◌++◌, length, slice_index, set, take, replicate}
+use Rattle.std.proofs.Common.{ap, sym, refl, inl, inr, arith}
 use Rattle.std.proofs.lemmas.Bool.{cases_eq, cases_lt}
-use Rattle.std.proofs.lemmas.List.{length-set, length-replicate, take_all, ext_get_or, get_or_past, get_or_append_left, get_or-append_right, get_or-replicate, get_or-set_same, get_or-set_other}
+use Rattle.std.proofs.lemmas.List.{length-set, length-replicate, take_all, ext_get_or, get_or_past, get_or_append_left}
+use Rattle.std.proofs.lemmas.List.{get_or-append_right, get_or-replicate, get_or-set_same, get_or-set_other}
 use Rattle.partition.specs.Partition.{AreBlocks}
 use Rattle.partition.specs.Sizes.{AreSizes, AreSizesWithout, block_size}
 use Rattle.partition.specs.Blocks.{AreLive, StayBeside}
 use Rattle.partition.proofs.Counting.{one, one_other, more, more_at, block_size-le, block_size-set, block_size-find}
 
 -- the blocks of the other states are as they were
-pub without_old : (old new live sizes : List ℕ) → length new ≡ length old → StayBeside live old new → AreSizesWithout old live 0 (length live) sizes
+pub without_old : (old new live sizes : List ℕ) → length new ≡ length old → StayBeside live old new
+    → AreSizesWithout old live 0 (length live) sizes
     → AreSizesWithout new live 0 (length live) sizes
 without_old old new live sizes states beside without =
     let out = without.1 in (
@@ -35,24 +38,34 @@ zero_at n b = elim (cases_lt b n) [
 grown_at : (sizes : List ℕ) (n b : ℕ) → slice_index (sizes ++ replicate n 0) b ≡ slice_index sizes b
 grown_at sizes n b = elim (cases_lt b (length sizes)) [
   | inl low ↦ get_or_append_left sizes (replicate n 0) 0 b low
-  | inr high ↦ get_or-append_right sizes (replicate n 0) (length sizes) b 0 refl high ∙ zero_at n (b - length sizes) ∙ sym (get_or_past sizes b 0 high)
+  | inr high ↦ get_or-append_right sizes (replicate n 0) (length sizes) b 0 refl high ∙ zero_at n (b - length sizes)
+      ∙ sym (get_or_past sizes b 0 high)
 ]
 
-pub resized_at : (sizes sizes' : List ℕ) (count n b : ℕ) → sizes' ≡ take count sizes ++ replicate n 0 → length sizes ≤ count → slice_index sizes' b ≡ slice_index sizes b
+pub resized_at : (sizes sizes' : List ℕ) (count n b : ℕ) → sizes' ≡ take count sizes ++ replicate n 0 →
+    length sizes ≤ count → slice_index sizes' b ≡ slice_index sizes b
 resized_at sizes sizes' count n b grown more =
-    ap (λ xs. slice_index xs b) (grown ∙ ap (λ xs. xs ++ replicate n 0) (take_all count sizes more)) ∙ grown_at sizes n b
+    ap (λ xs. slice_index xs b) (grown ∙ ap (λ xs. xs ++ replicate n 0) (take_all count sizes more))
+    ∙ grown_at sizes n b
 
-pub without_grown : (of live sizes sizes' : List ℕ) (count n : ℕ) → sizes' ≡ take count sizes ++ replicate n 0 → length sizes ≤ count
+pub without_grown : (of live sizes sizes' : List ℕ) (count n : ℕ) → sizes' ≡ take count sizes ++ replicate n 0
+    → length sizes ≤ count
     → AreSizesWithout of live 0 (length live) sizes → AreSizesWithout of live 0 (length live) sizes'
 without_grown of live sizes sizes' count n grown more without =
     let out = without.1 in
     let is = grown ∙ ap (λ xs. xs ++ replicate n 0) (take_all count sizes more) in (
       without.0,
-      record { states = out.states; each = out.each; gone = out.gone; left = λ b h. ap (λ xs. slice_index xs b) is ∙ grown_at sizes n b ∙ out.left b h },
+      record {
+        states = out.states;
+        each = out.each;
+        gone = out.gone;
+        left = λ b h. ap (λ xs. slice_index xs b) is ∙ grown_at sizes n b ∙ out.left b h;
+      },
     )
 
 -- the state in place i is put back
-module _ (of live : List ℕ) (i : ℕ) (sizes : List ℕ) (rises : AreLive (length of) live) (below : (t : ℕ) → t < length of → slice_index of t < length of)
+module _ (of live : List ℕ) (i : ℕ) (sizes : List ℕ) (rises : AreLive (length of) live) (below : (t : ℕ) →
+    t < length of → slice_index of t < length of)
     (more_live : i < length live) (without : AreSizesWithout of live i (length live) sizes) where
   abbrev s : ℕ
   s = slice_index live i
@@ -77,7 +90,8 @@ module _ (of live : List ℕ) (i : ℕ) (sizes : List ℕ) (rises : AreLive (len
         record {
           states = length-set rest s b ∙ out.states;
           each = λ t h. elim (cases_eq t s) [
-            | inl e ↦ inl (ap (slice_index (set rest s b)) e ∙ get_or-set_same rest s b 0 here ∙ sym (ap (slice_index of) e))
+            | inl e ↦
+                inl (ap (slice_index (set rest s b)) e ∙ get_or-set_same rest s b 0 here ∙ sym (ap (slice_index of) e))
             | inr d ↦ elim (out.each t h) [
               | inl same ↦ inl (get_or-set_other rest s t b 0 d ∙ same)
               | inr w ↦ elim (cases_eq w.0 i) [
@@ -86,20 +100,22 @@ module _ (of live : List ℕ) (i : ℕ) (sizes : List ℕ) (rises : AreLive (len
               ]
             ]
           ];
-          gone = λ j low h.
-              get_or-set_other rest s (slice_index live j) b 0 (λ e. omega (arith, e, rises.rising i j (omega (arith, low)) h)) ∙ out.gone j (omega (arith, low)) h;
-          left = λ k h.
-              let gone = ap (one k) (out.gone i (omega arith) more_live) ∙ one_other k (length of) (λ e. omega (arith, e, h)) in
+          gone = λ j low h. get_or-set_other rest s (slice_index live j) b 0
+              (λ e. omega (arith, e, rises.rising i j (omega (arith, low)) h)) ∙ out.gone j (omega (arith, low)) h;
+          left = λ k h. let gone = ap (one k) (out.gone i (omega arith) more_live)
+              ∙ one_other k (length of) (λ e. omega (arith, e, h)) in
               omega (arith, more_at sizes b k room, block_size-set rest k s b here, gone, out.left k h);
         },
       )
 
 -- all are
-pub sizes_back : (of live sizes : List ℕ) (i count : ℕ) → AreBlocks of count → length sizes ≡ count → i ≡ length live → AreSizesWithout of live i (length live) sizes
+pub sizes_back : (of live sizes : List ℕ) (i count : ℕ) → AreBlocks of count → length sizes ≡ count → i ≡ length live
+    → AreSizesWithout of live i (length live) sizes
     → AreSizes of count sizes
 sizes_back of live sizes i count are size end without =
     let out = without.1 in
-    let same : without.0 ≡ of = ext_get_or 0 without.0 of out.states (λ t h. elim (out.each t (omega (arith, h, out.states))) [
+    let same : without.0 ≡ of =
+    ext_get_or 0 without.0 of out.states (λ t h. elim (out.each t (omega (arith, h, out.states))) [
       | inl e ↦ e
       | inr w ↦ absurd (omega (arith, w.1, w.2, end))
     ]) in
@@ -108,7 +124,8 @@ sizes_back of live sizes i count are size end without =
       each = λ b. elim (cases_lt b (length of)) [
         | inl low ↦ out.left b low ∙ ap (λ xs. block_size xs b) same
         | inr high ↦ elim (cases_lt 0 (block_size of b)) [
-          | inl some ↦ let w = block_size-find of b some in absurd (omega (arith, w.2, are.below w.0 w.1, are.fewer, high))
+          | inl some ↦ let w = block_size-find of b some in
+              absurd (omega (arith, w.2, are.below w.0 w.1, are.fewer, high))
           | inr none ↦ omega (arith, none, get_or_past sizes b 0 (omega (arith, high, size, are.fewer)))
         ]
       ];

@@ -1,5 +1,6 @@
 -- States that are taken out of the sizes of their blocks.
-use Rattle.std.proofs.Common.{◌≡◌, ◌∙◌, ℕ, ◌+◌, ◌<◌, List, length, slice_index, set, ap, sym, subst, refl, inl, inr, arith}
+use Rattle.std.proofs.Common.{◌≡◌, ◌∙◌, ℕ, ◌+◌, ◌<◌, List, length, slice_index, set, ap, sym, subst, refl, inl, inr}
+use Rattle.std.proofs.Common.{arith}
 use Rattle.std.proofs.lemmas.Bool.{cases_eq}
 use Rattle.std.proofs.lemmas.List.{length-set, get_or-set_same, get_or-set_other}
 use Rattle.partition.specs.Sizes.{AreSizes, AreSizesWithout, OthersLose, block_size}
@@ -11,10 +12,18 @@ use Rattle.partition.proofs.Counting.{one, one_other, fewer, fewer_at, block_siz
 
 -- before any state is taken out
 pub without_none : (of live sizes : List ℕ) (count : ℕ) → AreSizes of count sizes → AreSizesWithout of live 0 0 sizes
-without_none of live sizes count are =
-    (of, record { states = refl; each = λ t h. inl refl; gone = λ j low h. absurd (omega (arith, h)); left = λ b h. are.each b })
+without_none of live sizes count are = (
+  of,
+  record {
+    states = refl;
+    each = λ t h. inl refl;
+    gone = λ j low h. absurd (omega (arith, h));
+    left = λ b h. are.each b;
+  },
+)
 
-module _ (of live : List ℕ) (i : ℕ) (sizes : List ℕ) (rises : AreLive (length of) live) (below : (t : ℕ) → t < length of → slice_index of t < length of)
+module _ (of live : List ℕ) (i : ℕ) (sizes : List ℕ) (rises : AreLive (length of) live) (below : (t : ℕ) →
+    t < length of → slice_index of t < length of)
     (more_live : i < length live) (without : AreSizesWithout of live 0 i sizes) where
   abbrev s : ℕ
   s = slice_index live i
@@ -30,10 +39,18 @@ module _ (of live : List ℕ) (i : ℕ) (sizes : List ℕ) (rises : AreLive (len
 
   -- the state in place i is not out before
   still : slice_index rest s ≡ b
-  still = elim (without.1.each s inside) [ inl e ↦ e | inr w ↦ absurd (omega (arith, rises.rising w.0 i w.2 more_live, w.3)) ]
+  still = elim (without.1.each s inside) [
+    | inl e ↦ e
+    | inr w ↦ absurd (omega (arith, rises.rising w.0 i w.2 more_live, w.3))
+  ]
 
   pub had : 0 < slice_index sizes b
-  had = omega (arith, without.1.left b (below s inside), block_size-some rest s (omega (arith, inside, without.1.states)), ap (block_size rest) still)
+  had = omega (
+    arith,
+    without.1.left b (below s inside),
+    block_size-some rest s (omega (arith, inside, without.1.states)),
+    ap (block_size rest) still,
+  )
 
   -- it is taken out
   pub without_more : AreSizesWithout of live 0 (i + 1) (fewer sizes b)
@@ -54,24 +71,35 @@ module _ (of live : List ℕ) (i : ℕ) (sizes : List ℕ) (rises : AreLive (len
             | inl e ↦ ap (slice_index (set rest s (length of))) e ∙ get_or-set_same rest s (length of) 0 here
             | inr d ↦ elim (cases_eq j i) [
               | inl last ↦ absurd (d (ap (slice_index live) last))
-              | inr before ↦ get_or-set_other rest s (slice_index live j) (length of) 0 d ∙ out.gone j low (omega (arith, before, h))
+              | inr before ↦ get_or-set_other rest s (slice_index live j) (length of) 0 d
+                  ∙ out.gone j low (omega (arith, before, h))
             ]
           ];
           left = λ k h.
               let gone = one_other k (length of) (λ e. omega (arith, e, h)) in
-              omega (arith, fewer_at sizes b k had, block_size-set rest k s (length of) here, ap (one k) still, gone, out.left k h);
+              omega (
+                arith,
+                fewer_at sizes b k had,
+                block_size-set rest k s (length of) here,
+                ap (one k) still,
+                gone,
+                out.left k h,
+              );
         },
       )
 
 -- when all that are looked at are out: a block that has more states has one that is not looked at
-pub left_over : (of live sizes : List ℕ) (t : ℕ) → ((t : ℕ) → t < length of → slice_index of t < length of) → t < length of → AreSizesWithout of live 0 (length live) sizes
-    → 0 < slice_index sizes (slice_index of t) → (u : ℕ) × (u < length of) × (slice_index of u ≡ slice_index of t) × ¬ IsOne live u
+pub left_over : (of live sizes : List ℕ) (t : ℕ) → ((t : ℕ) → t < length of → slice_index of t < length of)
+    → t < length of → AreSizesWithout of live 0 (length live) sizes
+    → 0 < slice_index sizes (slice_index of t) → (u : ℕ) × (u < length of) × (slice_index of u ≡ slice_index of t)
+    × ¬ IsOne live u
 left_over of live sizes t below h without some =
     let left = without.0 in
     let out = without.1 in
     let w = block_size-find left (slice_index of t) (omega (arith, some, out.left (slice_index of t) (below t h))) in
     let u_in : w.0 < length of = omega (arith, w.1, out.states) in
-    let looked : ¬ IsOne live w.0 = λ one. omega (arith, ap (slice_index left) one.2, out.gone one.0 (omega arith) one.1, w.2, below t h) in
+    let looked : ¬ IsOne live w.0 =
+    λ one. omega (arith, ap (slice_index left) one.2, out.gone one.0 (omega arith) one.1, w.2, below t h) in
     (w.0, u_in, elim (out.each w.0 u_in) [ inl e ↦ sym e ∙ w.2 | inr m ↦ absurd (looked (m.0, m.2, m.3)) ], looked)
 
 -- states are added where those that are not looked at lose the vote: one with another list is in the block

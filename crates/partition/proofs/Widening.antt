@@ -1,5 +1,6 @@
 -- More states that a split looks at.
-use Rattle.std.proofs.Common.{◌≡◌, ◌∙◌, ◌⊎◌, ℕ, ◌+◌, ◌<◌, ◌≤◌, List, [], ◌∷◌, ◌++◌, length, slice_index, ap, sym, subst, refl, inl, inr, arith}
+use Rattle.std.proofs.Common.{◌≡◌, ◌∙◌, ◌⊎◌, ℕ, ◌+◌, ◌<◌, ◌≤◌, List, [], ◌∷◌, ◌++◌, length, slice_index, ap, sym, subst}
+use Rattle.std.proofs.Common.{refl, inl, inr, arith}
 use Rattle.std.proofs.lemmas.Bool.{cases_lt}
 use Rattle.std.proofs.lemmas.List.{length_push, get_or_append_left, get_or_push}
 use Rattle.partition.specs.Blocks.{AreLive, AreAmong, IsOne}
@@ -44,7 +45,11 @@ module _ {live : List ℕ} {states : ℕ} {lose : ℕ → Type 0} {s k : ℕ} {w
     rises = rising_more wide s up.rises;
     are = λ j h. elim (earlier k j h) [
       | inl low ↦ pushed (slice_index live j) (up.are j low)
-      | inr last ↦ (length wide, omega (arith, length_push wide s), at-new (length wide) refl ∙ sym is ∙ ap (slice_index live) (sym last))
+      | inr last ↦ (
+        length wide,
+        omega (arith, length_push wide s),
+        at-new (length wide) refl ∙ sym is ∙ ap (slice_index live) (sym last),
+      )
     ];
     ahead = λ j low h. omega (arith, rises.rising k j (omega (arith, low)) h, is);
     each = old_or_new (inl (k, inside, is));
@@ -56,14 +61,17 @@ module _ {live : List ℕ} {states : ℕ} {lose : ℕ → Type 0} {s k : ℕ} {w
   }
 
   -- or it is not
-  ahead' : (k < length live → ¬ (slice_index live k ≡ s)) → (j : ℕ) → k ≤ j → j < length live → s + 1 ≤ slice_index live j
+  ahead' : (k < length live → ¬ (slice_index live k ≡ s)) → (j : ℕ) → k ≤ j → j < length live →
+      s + 1 ≤ slice_index live j
   ahead' other j low h = elim (cases_lt s (slice_index live j)) [
     | inl above ↦ omega (arith, above)
     | inr at ↦
         let here : slice_index live j ≡ s = omega (arith, at, up.ahead j low h) in
         elim (cases_lt k j) [
-          | inl past ↦ absurd (omega (arith, rises.rising k j past h, here, up.ahead k (omega arith) (omega (arith, past, h))))
-          | inr same ↦ let e : k ≡ j = omega (arith, low, same) in absurd (other (omega (arith, e, h)) (ap (slice_index live) e ∙ here))
+          | inl past ↦
+              absurd (omega (arith, rises.rising k j past h, here, up.ahead k (omega arith) (omega (arith, past, h))))
+          | inr same ↦ let e : k ≡ j = omega (arith, low, same) in
+              absurd (other (omega (arith, e, h)) (ap (slice_index live) e ∙ here))
         ]
   ]
 
@@ -86,7 +94,10 @@ module _ {live : List ℕ} {states : ℕ} {lose : ℕ → Type 0} {s k : ℕ} {w
     ahead = ahead' other;
     each = up.each;
     many = up.many;
-    more = λ u h out lost. elim (earlier s u h) [ inl low ↦ up.more u low out lost | inr here ↦ absurd (wins (subst lose here lost)) ];
+    more = λ u h out lost. elim (earlier s u h) [
+      | inl low ↦ up.more u low out lost
+      | inr here ↦ absurd (wins (subst lose here lost))
+    ];
   }
 
 -- when all states were seen

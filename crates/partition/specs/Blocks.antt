@@ -5,8 +5,8 @@ use Rattle.partition.specs.Splitting.{IsAlone, HasOther, Splits}
 use Rattle.partition.specs.Sizes.{AreCounts, Halves}
 use Rattle.partition.specs.declared.counted.Counts.{Counts}
 
--- the block of each state, how many blocks there are, and the states that are looked at. Blocks from `low` on are new since the last
--- split
+-- the block of each state, how many blocks there are, and the states that are looked at. Blocks from `low` on are new
+-- since the last split
 pub record RoundBlocks : Type 0 where
   pub of : List ℕ
   pub count : ℕ
@@ -42,8 +42,8 @@ AreAmong old new = (s : ℕ) → IsOne old s → IsOne new s
 abbrev pub AddsWhereParted : List ℕ → (ℕ → ℕ) → List ℕ → List ℕ → Type 0
 AddsWhereParted old has live wide = (s : ℕ) → IsOne wide s → IsOne live s ⊎ HasOther old has s
 
--- the blocks q of a round are the blocks p, split by the list of each state. The split may look at more states, of blocks that part. One
--- that it does not look at keeps an old number
+-- the blocks q of a round are the blocks p, split by the list of each state. The split may look at more states, of
+-- blocks that part. One that it does not look at keeps an old number
 pub record AreParted (p : RoundBlocks) (numbers : List ℕ) (q : RoundBlocks) : Type 0 where
   pub splits : Splits p.of p.count (slice_index numbers) q.of q.count
   pub halves : Halves p.of p.count q.of

@@ -1,5 +1,6 @@
 -- Parts of at most half a block, and the votes by which they are found.
-use Rattle.std.specs.Prelude.{◌≡◌, ◌⊎◌, ℕ, zero, suc, ◌+◌, ◌*◌, ◌<◌, ◌≤◌, cond, eqb, ltb, List, length, slice_index, set, replicate}
+use Rattle.std.specs.Prelude.{◌≡◌, ◌⊎◌, ℕ, zero, suc, ◌+◌, ◌*◌, ◌<◌, ◌≤◌, cond, eqb, ltb, List, length, slice_index}
+use Rattle.std.specs.Prelude.{set, replicate}
 use Rattle.partition.specs.Splitting.{Alike}
 use Rattle.partition.specs.Sizes.{block_size, OthersLose}
 use Rattle.partition.specs.Blocks.{IsOne, AreLive, AreAmong}
@@ -14,25 +15,32 @@ IsSmall old numbers s = (new : List ℕ) → length new ≡ length old
 
 -- of the states that are looked at, those that do not keep the number of their block are in small parts
 abbrev pub PartSmall : List ℕ → List ℕ → List ℕ → List ℕ → Type 0
-PartSmall old numbers live keepers = (s : ℕ) → IsOne live s → ¬ KeepsNumber old numbers keepers s → IsSmall old numbers s
+PartSmall old numbers live keepers =
+    (s : ℕ) → IsOne live s → ¬ KeepsNumber old numbers keepers s → IsSmall old numbers s
 
--- for each of the first i states that are looked at, if it has the block b, one more than the number of its list, and 0 for other states
+-- for each of the first i states that are looked at, if it has the block b, one more than the number of its list, and 0
+-- for other states
 abbrev pub ballots : List ℕ → List ℕ → List ℕ → ℕ → ℕ → List ℕ
 ballots of numbers live b zero = replicate (length of) 0
 ballots of numbers live b (suc i) =
-    set (ballots of numbers live b i) (slice_index live i) (cond (eqb (slice_index of (slice_index live i)) b) (suc (slice_index numbers (slice_index live i))) 0)
+    set (ballots of numbers live b i) (slice_index live i) (cond (eqb (slice_index of (slice_index live i)) b)
+    (suc (slice_index numbers (slice_index live i))) 0)
 
 -- how many of the first i states have the block b and this list
 abbrev pub votes_for : List ℕ → List ℕ → List ℕ → ℕ → ℕ → ℕ → ℕ
 votes_for of numbers live i b list = block_size (ballots of numbers live b i) (suc list)
 
--- after the votes of the first i states: what bounds the votes for the keeper of each block, and those for each other list
+-- after the votes of the first i states: what bounds the votes for the keeper of each block, and those for each other
+-- list
 pub record BoundVotes (of numbers live : List ℕ) (i : ℕ) (sizes keepers votes : List ℕ) : Type 0 where
-  pub most : (b : ℕ) → votes_for of numbers live i b (slice_index keepers b) * 2 + slice_index sizes b ≤ block_size of b + slice_index votes b
-  pub others : (b list : ℕ) → ¬ (list ≡ slice_index keepers b) → votes_for of numbers live i b list * 2 + slice_index votes b + slice_index sizes b ≤ block_size of b
+  pub most : (b : ℕ) → votes_for of numbers live i b (slice_index keepers b) * 2 + slice_index sizes b ≤ block_size of b
+      + slice_index votes b
+  pub others : (b list : ℕ) → ¬ (list ≡ slice_index keepers b) →
+      votes_for of numbers live i b list * 2 + slice_index votes b + slice_index sizes b ≤ block_size of b
   pub room : (b : ℕ) → slice_index votes b + slice_index sizes b ≤ block_size of b
 
--- the block in place i of those that are decided: of so many blocks each one, or that of each state that is looked at, if blocks are more
+-- the block in place i of those that are decided: of so many blocks each one, or that of each state that is looked at,
+-- if blocks are more
 abbrev pub block_at : List ℕ → List ℕ → ℕ → ℕ → ℕ
 block_at of live blocks i = cond (ltb (length live) blocks) (slice_index of (slice_index live i)) i
 
@@ -48,4 +56,5 @@ pub record Widens (of live : List ℕ) (counts : Counts) (wide : List ℕ) : Typ
 
 -- there are more of them, if there is one that is not among `live` and loses
 abbrev pub AddsSome : List ℕ → List ℕ → Counts → List ℕ → Type 0
-AddsSome of live counts wide = (s : ℕ) → s < length of → ¬ IsOne live s → OthersLose counts (slice_index of s) → length live < length wide
+AddsSome of live counts wide =
+    (s : ℕ) → s < length of → ¬ IsOne live s → OthersLose counts (slice_index of s) → length live < length wide

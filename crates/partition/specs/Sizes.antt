@@ -19,7 +19,8 @@ Halves old count new = (s : ℕ) → s < length old → ¬ (slice_index new s < 
 
 -- there are a size, a keeper and votes for each of so many blocks
 abbrev pub HaveEach : ℕ → Counts → Type 0
-HaveEach count counts = (length counts.sizes.items ≡ count) × (length counts.keepers.items ≡ count) × (length counts.votes.items ≡ count)
+HaveEach count counts =
+    (length counts.sizes.items ≡ count) × (length counts.keepers.items ≡ count) × (length counts.votes.items ≡ count)
 
 -- what is kept of so many blocks that are counted
 pub record AreCounts (of : List ℕ) (count : ℕ) (counts : Counts) : Type 0 where
@@ -32,7 +33,8 @@ pub record AreCounts (of : List ℕ) (count : ℕ) (counts : Counts) : Type 0 wh
 abbrev pub IsOneBetween : List ℕ → ℕ → ℕ → ℕ → Type 0
 IsOneBetween live start end t = (j : ℕ) × (start ≤ j) × (j < end) × (slice_index live j ≡ t)
 
--- the blocks without the states in these places, which have the number `length of` in `rest`, and the sizes that they have then
+-- the blocks without the states in these places, which have the number `length of` in `rest`, and the sizes that they
+-- have then
 pub record AreOut (of live : List ℕ) (start end : ℕ) (sizes rest : List ℕ) : Type 0 where
   pub states : length rest ≡ length of
   pub each : (t : ℕ) → t < length of → (slice_index rest t ≡ slice_index of t) ⊎ IsOneBetween live start end t
@@ -45,5 +47,6 @@ AreSizesWithout of live start end sizes = (rest : List ℕ) × AreOut of live st
 
 -- the states of the block b that are not looked at lose a vote: there are some, and another list has more votes left
 abbrev pub OthersLose : Counts → ℕ → Type 0
-OthersLose counts b = (0 < slice_index counts.sizes.items b) × (slice_index counts.sizes.items b < slice_index counts.votes.items b)
+OthersLose counts b =
+    (0 < slice_index counts.sizes.items b) × (slice_index counts.sizes.items b < slice_index counts.votes.items b)
     × ¬ (slice_index counts.keepers.items b ≡ 0)

@@ -21,4 +21,5 @@ pub record Splits {X : Type 0} (old : List ℕ) (count : ℕ) (has : ℕ → X) 
   pub grows : count ≤ more
   pub alike : (s t : ℕ) → s < length old → t < length old → (slice_index new s ≡ slice_index new t) ↔ Alike old has s t
   pub stays : (s : ℕ) → s < length old → slice_index new s < count → slice_index new s ≡ slice_index old s
-  pub parts : count < more → (s t : ℕ) × (s < length old) × (t < length old) × (slice_index old s ≡ slice_index old t) × ¬ (slice_index new s ≡ slice_index new t)
+  pub parts : count < more → (s t : ℕ) × (s < length old) × (t < length old) × (slice_index old s ≡ slice_index old t)
+      × ¬ (slice_index new s ≡ slice_index new t)

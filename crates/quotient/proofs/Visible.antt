@@ -19,7 +19,8 @@ module _ (A : System) (none : (s t : ℕ) → ¬ Internal A s t) where
   stays blocks [] s u h = h
   stays blocks (x ∷ us) s u h = absurd (none s x h.0.0)
 
-  shown : (one two : Relation) (blocks : ℕ → ℕ) (s : ℕ) (a : List ℕ) (b : ℕ) → Signature one A blocks s a b → Signature two A blocks s a b
+  shown : (one two : Relation) (blocks : ℕ → ℕ) (s : ℕ) (a : List ℕ) (b : ℕ) → Signature one A blocks s a b →
+      Signature two A blocks s a b
   shown Strong Strong blocks s a b h = h
   shown Strong Branching blocks s a b (t, step, to) =
       (s, t, ([], refl), step, to, λ inert. none s t (subst (λ c. Step A s c t) inert.0 step))
@@ -28,7 +29,8 @@ module _ (A : System) (none : (s t : ℕ) → ¬ Internal A s t) where
   shown Branching Branching blocks s a b h = h
 
   alike : (one two : Relation) → SameSignatures one two A A
-  alike one two = record { states = refl; shown = λ blocks s a b. (shown one two blocks s a b, shown two one blocks s a b) }
+  alike one two =
+      record { states = refl; shown = λ blocks s a b. (shown one two blocks s a b, shown two one blocks s a b) }
 
   bisimilar : (one two : Relation) (s t : ℕ) → Bisimilar one A s A t → Bisimilar two A s A t
   bisimilar Strong Strong s t h = h
@@ -37,14 +39,20 @@ module _ (A : System) (none : (s t : ℕ) → ¬ Internal A s t) where
   bisimilar Branching Branching s t h = h
 
 -- by which relation refinement goes, as a match on it tells
-pub rounds_read : (rel : Relation) {one two : List (List ℕ)} {by read : Relation} → one ≡ two → by ≡ read → AreRoundsOf rel one by → AreRoundsOf rel two read
+pub rounds_read : (rel : Relation) {one two : List (List ℕ)} {by read : Relation} → one ≡ two → by ≡ read →
+    AreRoundsOf rel one by → AreRoundsOf rel two read
 rounds_read rel {one} {two} {by} {read} labels is h =
     subst (λ b. AreRoundsOf rel two b) is (subst (λ z. AreRoundsOf rel z by) labels h)
 
-module _ (l : Grouped) (numbered : (s : ℕ) (a : List ℕ) (t : ℕ) → Step (system_of l) s a t → (k : ℕ) × IsNumber l.labels k a) (by rel : Relation) where
+module _ (l : Grouped) (numbered : (s : ℕ) (a : List ℕ) (t : ℕ) → Step (system_of l) s a t →
+    (k : ℕ) × IsNumber l.labels k a) (by rel : Relation) where
   none : ¬ Contains l.labels internal → (s t : ℕ) → ¬ Internal (system_of l) s t
   none absent s t step = let number = numbered s internal t step in
-      absent (number.0, number.1.below, sym (get_or_default l.labels number.0 [] internal number.1.below) ∙ number.1.text)
+      absent (
+        number.0,
+        number.1.below,
+        sym (get_or_default l.labels number.0 [] internal number.1.below) ∙ number.1.text,
+      )
 
   pub classes_by : AreRoundsOf rel l.labels by → (blocks : List ℕ) → AreClasses by l blocks → AreClasses rel l blocks
   classes_by (inl e) blocks h s t ls lt = subst (λ r. AreClasses r l blocks) e h s t ls lt
@@ -55,5 +63,9 @@ module _ (l : Grouped) (numbered : (s : ℕ) (a : List ℕ) (t : ℕ) → Step (
 
   pub turns_by : AreRoundsOf rel l.labels by → {old new : Counts} → TakesTurns by l old new → TakesTurns rel l old new
   turns_by (inl e) {old} {new} h = subst (λ r. TakesTurns r l old new) e h
-  turns_by (inr absent) {old} {new} h =
-      (h.0, h.1, same_signatures_turns by rel (system_of l) (system_of l) (alike (system_of l) (none absent) by rel) h.0 h.2, h.3)
+  turns_by (inr absent) {old} {new} h = (
+    h.0,
+    h.1,
+    same_signatures_turns by rel (system_of l) (system_of l) (alike (system_of l) (none absent) by rel) h.0 h.2,
+    h.3,
+  )

@@ -10,8 +10,8 @@ abbrev pub TakesTurns : Relation → Grouped → Counts → Counts → Type 0
 TakesTurns rel g old new =
     (r : ℕ) × (r ≤ g.states) × Turns rel (system_of g) r × Costs old new r (r * length g.places) (r * length g.places)
 
--- a meter that was fresh shows at most as many rounds as states, at least so many visits, and at most as many as each round
--- and the extra times over the transitions cost
+-- a meter that was fresh shows at most as many rounds as states, at least so many visits, and at most as many as each
+-- round and the extra times over the transitions cost
 pub record KeepsTo (states transitions extra : ℕ) (at : Counts) (least : ℕ) : Type 0 where
   pub few_rounds : at.rounds ≤ states
   pub at_least : least ≤ at.visits

@@ -1,5 +1,6 @@
 -- The signatures of all states, and the blocks that they leave.
-use Rattle.std.proofs.Common.{◌≡◌, ◌↔◌, ◌∙◌, ℕ, zero, suc, ◌<◌, List, [], ◌∷◌, length, get_or, slice_index, ap, sym, subst, subst₂, refl, inl, inr, arith}
+use Rattle.std.proofs.Common.{◌≡◌, ◌↔◌, ◌∙◌, ℕ, zero, suc, ◌<◌, List, [], ◌∷◌, length, get_or, slice_index, ap, sym}
+use Rattle.std.proofs.Common.{subst, subst₂, refl, inl, inr, arith}
 use Rattle.std.proofs.lemmas.List.{get_or-map, length-map}
 use Rattle.theory.specs.declared.relation.Relation.{Relation}
 use Rattle.theory.specs.declared.relation.Relation.TheVariants.{Strong, Branching}
@@ -20,7 +21,8 @@ use Rattle.rounds.proofs.CallerLemmas.{Labelled, equal_lists, Splits-lists}
 use Rattle.refine.specs.Signed.{each_list, signature_at}
 
 -- all of so many states, in their order
-pub all_live : (states : ℕ) (live : List ℕ) → length live ≡ states → ((s : ℕ) → s < states → slice_index live s ≡ s) → AreLive states live
+pub all_live : (states : ℕ) (live : List ℕ) → length live ≡ states → ((s : ℕ) → s < states → slice_index live s ≡ s) →
+    AreLive states live
 all_live states live all each = record {
   few = omega (arith, all);
   below = λ i h. omega (arith, all, h, each i (omega (arith, all, h)));
@@ -40,15 +42,18 @@ put_whole l p s list (inr (still, none)) = subst (IsSignature Strong l p s) (sym
 })
 
 -- where there is no index and all numbers are new, the split is given the signatures
-pub signs_whole : (rel : Relation) (l : Grouped) (p r : Signed) → SignsEach rel l p r → p.watch ≡ Nothing → r.blocks.low ≡ 0
+pub signs_whole : (rel : Relation) (l : Grouped) (p r : Signed) → SignsEach rel l p r → p.watch ≡ Nothing
+    → r.blocks.low ≡ 0
     → (s : ℕ) → IsOne r.blocks.live s → s < l.states → IsSignature rel l r.blocks.of s (list_of r.lists r.numbers s)
 signs_whole Strong l p r put nothing low s one h =
     put_whole l r.blocks.of s (list_of r.lists r.numbers s)
     (subst (λ low. IsPut Strong l r.blocks.of low s (list_of r.lists r.numbers s)) low (put s one))
 signs_whole Branching l p r signs nothing low s one h =
-    subst (λ n. IsSignature Branching l r.blocks.of s (list_at r.lists n)) (shown (signs.shows s h)) (signs.signed s one).1
+    subst (λ n. IsSignature Branching l r.blocks.of s (list_at r.lists n)) (shown (signs.shows s h))
+    (signs.signed s one).1
   where
-    shown : IsShown (slice_index signs.was s) (slice_index r.kept s) (slice_index r.numbers s) → slice_index r.kept s ≡ slice_index r.numbers s
+    shown : IsShown (slice_index signs.was s) (slice_index r.kept s) (slice_index r.numbers s) →
+        slice_index r.kept s ≡ slice_index r.numbers s
     shown (inl (same, none)) = same ∙ signs.anew nothing s ∙ sym none
     shown (inr (other, is)) = sym is
 
@@ -58,7 +63,8 @@ pub signature_at-list : (lists : List (List (ℕ × ℕ))) (numbers : List ℕ) 
 signature_at-list lists numbers s h = get_or-map (list_at lists) numbers s 0 [] h
 
 -- if the empty list is the only one, each state has it
-pub signature_at-none : (lists : List (List (ℕ × ℕ))) (numbers : List ℕ) (s : ℕ) → lists ≡ [] ∷ [] → s < length numbers →
+pub signature_at-none : (lists : List (List (ℕ × ℕ))) (numbers : List ℕ) (s : ℕ) → lists ≡ [] ∷ [] →
+    s < length numbers →
     signature_at (each_list lists numbers) s ≡ []
 signature_at-none lists numbers s only h =
     signature_at-list lists numbers s h ∙ ap (λ xs. list_of xs numbers s) only ∙ at (get_or numbers s 0)
@@ -89,10 +95,12 @@ split_alike whole lists signed numbers ns p old new q count more view same are e
     )
 
 -- blocks that are parted by the signatures are the Split
-pub signed_is_split : (rel : Relation) (l : Grouped) → Labelled l → (blocks : List ℕ) (signature : ℕ → List (ℕ × ℕ)) (new : List ℕ)
+pub signed_is_split : (rel : Relation) (l : Grouped) → Labelled l → (blocks : List ℕ) (signature : ℕ →
+    List (ℕ × ℕ)) (new : List ℕ)
     → ((s : ℕ) → s < l.states → IsSignature rel l blocks s (signature s))
     → ((s t : ℕ) → s < l.states → t < l.states
-    → (slice_index new s ≡ slice_index new t) ↔ ((slice_index blocks s ≡ slice_index blocks t) × (signature s ≡ signature t)))
+    → (slice_index new s ≡ slice_index new t) ↔ ((slice_index blocks s ≡ slice_index blocks t)
+    × (signature s ≡ signature t)))
     → Split rel (system_of l) (slice_index blocks) (slice_index new)
 signed_is_split rel l labelled blocks signature new signed parted s t ls lt =
     let lists = equal_lists rel l labelled blocks s t (signature s) (signature t) (signed s ls) (signed t lt) in (

@@ -13,7 +13,11 @@ use Rattle.lists.proofs.CallerLemmas.{rising_none, All-only, slice_range-append,
 -- the span of no pairs alone
 pub AreSpans-first : AreSpans [] (no_pairs ∷ [])
 AreSpans-first = record {
-  each = All-only (IsSpan []) no_pairs (record { forward = omega arith; within = omega arith; rising = rising_none pair_cmp });
+  each = All-only (IsSpan []) no_pairs (record {
+    forward = omega arith;
+    within = omega arith;
+    rising = rising_none pair_cmp;
+  });
   some = omega arith;
   few = omega arith;
   first = refl;
@@ -50,7 +54,8 @@ module _ (pairs more : List (ℕ × ℕ)) where
 
 -- the span of a list that goes last in the buffer goes last among the spans
 module _ (pairs list : List (ℕ × ℕ)) (spans : List Span) (new : Span) (are : AreSpans pairs spans)
-    (start : new.start ≡ length pairs) (end : new.end ≡ length pairs + length list) (rising : IsStrictlySortedBy pair_cmp list) where
+    (start : new.start ≡ length pairs) (end : new.end ≡ length pairs + length list)
+    (rising : IsStrictlySortedBy pair_cmp list) where
   list-new : list_in (pairs ++ list) new ≡ list
   list-new = ap (λ i. slice_range (pairs ++ list) i new.end) start ∙ slice_range-last pairs list new.end end
 
@@ -72,7 +77,8 @@ module _ (pairs list : List (ℕ × ℕ)) (spans : List Span) (new : Span) (are 
       let size = length-append spans (new ∷ []) in
       let more = AreSpans-more pairs list spans are in
       record {
-        each = All-append (IsSpan (pairs ++ list)) spans (new ∷ []) more.each (All-only (IsSpan (pairs ++ list)) new IsSpan-new);
+        each = All-append (IsSpan (pairs ++ list)) spans (new ∷ []) more.each
+            (All-only (IsSpan (pairs ++ list)) new IsSpan-new);
         some = let old = are.some in omega arith;
         few = omega arith;
         first = get_or_append_left spans (new ∷ []) no_pairs 0 are.some ∙ are.first;

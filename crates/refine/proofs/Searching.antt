@@ -1,11 +1,15 @@
 -- A search from a state over inert steps: what a step of it leaves, and the signature that it ends with.
 use borrow.Author.Count.{below_more}
-use Rattle.std.proofs.Common.{◌≡◌, ◌∙◌, ◌↔◌, ℕ, ◌+◌, ◌-◌, ◌<◌, ◌≤◌, Bool, true, false, not, cond, eqb, IsTrue, List, [], ◌∷◌, ◌++◌, length, set, take, drop, slice_index, slice_index_or, Contains, ap, sym, subst, refl, inl, inr, arith}
+use Rattle.std.proofs.Common.{◌≡◌, ◌∙◌, ◌↔◌, ℕ, ◌+◌, ◌-◌, ◌<◌, ◌≤◌, Bool, true, false, not, cond, eqb, IsTrue, List, []}
+use Rattle.std.proofs.Common.{◌∷◌, ◌++◌, length, set, take, drop, slice_index, slice_index_or, Contains, ap, sym, subst}
+use Rattle.std.proofs.Common.{refl, inl, inr, arith}
 use Rattle.std.specs.List.{All, sum_by}
 use Rattle.std.specs.List.Sorted.{IsStrictlySortedBy}
 use Rattle.std.proofs.lemmas.Bool.{cases_lt, cases_eq, eq-eqb, ne_eqb, false_from_ne_true}
-use Rattle.std.proofs.lemmas.List.{length-set, length_push, get_or_append_left, get_or_push, get_or-set_same, get_or-set_other, drop-append-le}
-use Rattle.std.proofs.lemmas.List.Elements.{All-push, All-weaker, All-contains, Contains-get_or, Contains-push, Contains-push_cases, Contains-append_left}
+use Rattle.std.proofs.lemmas.List.{length-set, length_push, get_or_append_left, get_or_push, get_or-set_same}
+use Rattle.std.proofs.lemmas.List.{get_or-set_other, drop-append-le}
+use Rattle.std.proofs.lemmas.List.Elements.{All-push, All-weaker, All-contains, Contains-get_or, Contains-push}
+use Rattle.std.proofs.lemmas.List.Elements.{Contains-push_cases, Contains-append_left}
 use Rattle.std.proofs.lemmas.List.Sums.{sum_by_push}
 use Rattle.theory.specs.System.{System, Step, Leads, internal}
 use Rattle.theory.specs.declared.relation.Relation.TheVariants.{Branching}
@@ -26,7 +30,8 @@ use Rattle.refine.specs.Search.{Found, WasFound, Reaches, TakesUp, IsTaken, Find
 
 -- a state that was found is set: its row alone is no more apart
 module _ (marked : List Bool) (t : ℕ) (below : t < length marked) (off : ¬ IsTrue (slice_index_or marked t false)) where
-  one_less : (s : ℕ) → cond (not (slice_index_or marked s false)) 1 0 ≡ cond (not (slice_index_or (set marked t true) s false)) 1 0 + cond (eqb s t) 1 0
+  one_less : (s : ℕ) → cond (not (slice_index_or marked s false)) 1 0
+      ≡ cond (not (slice_index_or (set marked t true) s false)) 1 0 + cond (eqb s t) 1 0
   one_less s = elim (cases_eq s t) [
     | inl e ↦
         rw (
@@ -39,11 +44,13 @@ module _ (marked : List Bool) (t : ℕ) (below : t < length marked) (off : ¬ Is
 
   apart-set : (places : List Triple) → apart places marked ≡ apart places (set marked t true) + length (row_of t places)
   apart-set places =
-      length-filter-sum (λ (e : Triple). not (slice_index_or marked (source_of e) false)) (λ e. not (slice_index_or (set marked t true) (source_of e) false))
+      length-filter-sum (λ (e : Triple). not (slice_index_or marked (source_of e) false))
+      (λ e. not (slice_index_or (set marked t true) (source_of e) false))
       (λ e. eqb (source_of e) t) (λ e. one_less (source_of e)) places
 
 -- the state t is found
-module _ (places : List Triple) (t : ℕ) (old new : Found) (below : t < length old.marked) (reaches : Reaches t old new) where
+module _ (places : List Triple) (t : ℕ) (old new : Found) (below : t < length old.marked)
+    (reaches : Reaches t old new) where
   pub reaches_found : WasFound new t
   reaches_found = elim reaches [
     | inl was ↦ subst (λ f. WasFound f t) (sym was.1) was.0
@@ -55,7 +62,8 @@ module _ (places : List Triple) (t : ℕ) (old new : Found) (below : t < length 
     | inl was ↦ subst (λ f. WasFound f s) (sym was.1) on
     | inr now ↦
         subst (λ f. WasFound f s) (sym now.1)
-        (get_or-set_other old.marked t s true false (λ e. now.0 (ap (λ x. slice_index_or old.marked x false) (sym e) ∙ on)) ∙ on)
+        (get_or-set_other old.marked t s true false
+        (λ e. now.0 (ap (λ x. slice_index_or old.marked x false) (sym e) ∙ on)) ∙ on)
   ]
 
   pub reaches_ahead : (read : ℕ) → read ≤ length old.states → places_left places new read ≡ places_left places old read
@@ -88,9 +96,10 @@ record Went (u : Under) (s : ℕ) (old new : Found) (read : ℕ) (e : Triple) : 
   pub now : IsTaken u s new e
   pub ahead : (read : ℕ) → read ≤ length old.states → places_left u.l.places new read ≡ places_left u.l.places old read
 
-module _ (u : Under) (s : ℕ) (lts : IsLts u.l) (laws : Laws)
-    (sources : (s : ℕ) (places : List Triple) (e : Triple) → Contains (row_of s places) e ↔ (Contains places e × (source_of e ≡ s)))
-    (steps : (s : ℕ) (a : List ℕ) (t : ℕ) → Step (system_of u.l) s a t ↔ ((e : Triple) × Contains (row_of s u.l.places) e × (text_of u.l.labels (label_of e) ≡ a) × (target_of e ≡ t)))
+module _ (u : Under) (s : ℕ) (lts : IsLts u.l) (laws : Laws) (sources : (s : ℕ) (places : List Triple) (e : Triple) →
+    Contains (row_of s places) e ↔ (Contains places e × (source_of e ≡ s)))
+    (steps : (s : ℕ) (a : List ℕ) (t : ℕ) → Step (system_of u.l) s a t
+    ↔ ((e : Triple) × Contains (row_of s u.l.places) e × (text_of u.l.labels (label_of e) ≡ a) × (target_of e ≡ t)))
     (stays : (A : System) (blocks : ℕ → ℕ) (s t : ℕ) → Leads (Inert A blocks) s t → blocks t ≡ blocks s) where
   abbrev A : System
   A = system_of u.l
@@ -101,7 +110,8 @@ module _ (u : Under) (s : ℕ) (lts : IsLts u.l) (laws : Laws)
   -- the transition e of the state x, to which inert steps lead
   module _ (x : ℕ) (led : Ties u s x) (e : Triple) (in_row : Contains (row_of x u.l.places) e) where
     is_triple : IsTriple (length u.l.labels) u.l.states e
-    is_triple = All-contains (IsTriple (length u.l.labels) u.l.states) u.l.places e lts.in_range.each ((sources x u.l.places e).0 in_row).0
+    is_triple = All-contains (IsTriple (length u.l.labels) u.l.states) u.l.places e lts.in_range.each
+        ((sources x u.l.places e).0 in_row).0
 
     its_step : Step A x (text_of u.l.labels (label_of e)) (target_of e)
     its_step = (steps x (text_of u.l.labels (label_of e)) (target_of e)).1 (e, in_row, refl, refl)
@@ -113,9 +123,13 @@ module _ (u : Under) (s : ℕ) (lts : IsLts u.l) (laws : Laws)
     -- an inert one leads on
     leads_on : IsInert u (blocks s) e → Ties u s (target_of e)
     leads_on inert =
-        laws.after A blocks s x (target_of e) led (subst (λ a. Step A x a (target_of e)) inert.0 its_step, inert.1 ∙ sym (stays A blocks s x led))
+        laws.after A blocks s x (target_of e) led (
+          subst (λ a. Step A x a (target_of e)) inert.0 its_step,
+          inert.1 ∙ sym (stays A blocks s x led),
+        )
 
-  module _ (old : Found) (read : ℕ) (search : FindsFrom u s old read) (x : ℕ) (led : Ties u s x) (e : Triple) (in_row : Contains (row_of x u.l.places) e) where
+  module _ (old : Found) (read : ℕ) (search : FindsFrom u s old read) (x : ℕ) (led : Ties u s x) (e : Triple)
+      (in_row : Contains (row_of x u.l.places) e) where
     -- it is followed
     goes : (new : Found) → IsInert u (blocks s) e → Reaches (target_of e) old new → Went u s old new read e
     goes new inert (inl (was, is)) = subst (λ f. Went u s old f read e) (sym is) (record {
@@ -136,35 +150,43 @@ module _ (u : Under) (s : ℕ) (lts : IsLts u.l) (laws : Laws)
         } in
         let before : (j : ℕ) → j < length old.states → slice_index new.states j ≡ slice_index old.states j =
         λ j h. ap (λ f. slice_index f.states j) is ∙ get_or_append_left old.states (t ∷ []) 0 j h in
-        let long : length new.states ≡ length old.states + 1 = ap (λ f. length f.states) is ∙ length_push old.states t in
+        let long : length new.states ≡ length old.states + 1 = ap (λ f. length f.states) is
+        ∙ length_push old.states t in
         record {
           search = record {
             size = ap (λ f. length f.marked) is ∙ length-set old.marked t true ∙ search.size;
-            marked = subst (λ f. AreMarked f.marked f.states) (sym is) (marked_more old.marked old.states t below off search.marked);
+            marked = subst (λ f. AreMarked f.marked f.states) (sym is) (marked_more old.marked old.states t below
+                off search.marked);
             first = (omega (arith, long), before 0 search.first.0 ∙ search.first.1);
             led = λ j h. elim (cases_lt j (length old.states)) [
               | inl low ↦ subst (Ties u s) (sym (before j low)) (search.led j low)
-              | inr last ↦
-                  subst (Ties u s) (sym (ap (λ f. slice_index f.states j) is ∙ get_or_push old.states t 0 j (omega (arith, last, h, long)))) (leads_on x led e in_row inert)
+              | inr last ↦ subst (Ties u s) (sym (ap (λ f. slice_index f.states j) is ∙ get_or_push old.states t 0 j
+                  (omega (arith, last, h, long)))) (leads_on x led e in_row inert)
             ];
             few = omega (arith, long, search.few);
             own = λ z c. search.own z (subst (λ f. Contains f.pairs z) is c);
             taken = λ j h.
                 let low : j < length old.states = omega (arith, h, search.few) in
                 subst (λ y. All (IsTaken u s new) (row_of y u.l.places)) (sym (before j low))
-                (All-weaker (IsTaken u s old) (IsTaken u s new) keeps (row_of (slice_index old.states j) u.l.places) (search.taken j h));
+                (All-weaker (IsTaken u s old) (IsTaken u s new) keeps (row_of (slice_index old.states j) u.l.places)
+                (search.taken j h));
           };
           longer = omega (arith, long);
           same = before;
           keeps = keeps;
-          now = record { followed = λ _. reaches_found u.l.places t old new below reaches; shown = λ other. absurd (other inert) };
+          now = record {
+            followed = λ _. reaches_found u.l.places t old new below reaches;
+            shown = λ other. absurd (other inert);
+          };
           ahead = reaches_ahead u.l.places t old new below reaches;
         }
 
     -- its pair is collected
-    collects : (z : ℕ × ℕ) (new : Found) → ¬ IsInert u (blocks s) e → z ≡ pair_under u.blocks e → new ≡ record old { pairs = old.pairs ++ z ∷ [] } → Went u s old new read e
+    collects : (z : ℕ × ℕ) (new : Found) → ¬ IsInert u (blocks s) e → z ≡ pair_under u.blocks e →
+        new ≡ record old { pairs = old.pairs ++ z ∷ [] } → Went u s old new read e
     collects z new other pair is =
-        let keeps : (e' : Triple) → IsTaken u s old e' → IsTaken u s (record old { pairs = old.pairs ++ z ∷ [] }) e' = λ e' was. record {
+        let keeps : (e' : Triple) → IsTaken u s old e' → IsTaken u s (record old { pairs = old.pairs ++ z ∷ [] }) e' =
+        λ e' was. record {
           followed = was.followed;
           shown = λ o. Contains-append_left old.pairs (z ∷ []) (pair_under u.blocks e') (was.shown o);
         } in
@@ -177,10 +199,11 @@ module _ (u : Under) (s : ℕ) (lts : IsLts u.l) (laws : Laws)
             few = search.few;
             own = λ y c. elim (Contains-push_cases old.pairs z y c) [
               | inl d ↦ search.own y d
-              | inr same ↦ subst (λ p. HasPair Branching u.l u.blocks s p.0 p.1) (sym pair ∙ same) (pair_shown x led e in_row other)
+              | inr same ↦ subst (λ p. HasPair Branching u.l u.blocks s p.0 p.1) (sym pair ∙ same)
+                  (pair_shown x led e in_row other)
             ];
-            taken = λ j h.
-                All-weaker (IsTaken u s old) (IsTaken u s (record old { pairs = old.pairs ++ z ∷ [] })) keeps (row_of (slice_index old.states j) u.l.places) (search.taken j h);
+            taken = λ j h. All-weaker (IsTaken u s old) (IsTaken u s (record old { pairs = old.pairs ++ z ∷ [] })) keeps
+                (row_of (slice_index old.states j) u.l.places) (search.taken j h);
           };
           longer = omega arith;
           same = λ j h. refl;
@@ -222,7 +245,8 @@ module _ (u : Under) (s : ℕ) (lts : IsLts u.l) (laws : Laws)
       }
 
   -- the row of one state more was read
-  pub row_read : (f : Found) (read : ℕ) → FindsFrom u s f read → read < length f.states → All (IsTaken u s f) (row_of (slice_index f.states read) u.l.places)
+  pub row_read : (f : Found) (read : ℕ) → FindsFrom u s f read → read < length f.states
+      → All (IsTaken u s f) (row_of (slice_index f.states read) u.l.places)
       → FindsFrom u s f (read + 1)
   row_read f read search more row = record {
     size = search.size;
@@ -235,7 +259,8 @@ module _ (u : Under) (s : ℕ) (lts : IsLts u.l) (laws : Laws)
   }
 
   -- when all rows were read
-  module _ (kept : (A : System) (blocks : ℕ → ℕ) (has : ℕ → Bool) → ((s t : ℕ) → Inert A blocks s t → IsTrue (has s) → IsTrue (has t))
+  module _ (kept : (A : System) (blocks : ℕ → ℕ) (has : ℕ → Bool) → ((s t : ℕ) → Inert A blocks s t →
+      IsTrue (has s) → IsTrue (has t))
       → (s t : ℕ) → Leads (Inert A blocks) s t → IsTrue (has s) → IsTrue (has t))
       (f : Found) (search : FindsFrom u s f (length f.states)) where
     all_taken : (x : ℕ) → WasFound f x → All (IsTaken u s f) (row_of x u.l.places)
@@ -250,32 +275,40 @@ module _ (u : Under) (s : ℕ) (lts : IsLts u.l) (laws : Laws)
     closed x y inert on =
         let (e, in_row, label, target) = (steps x internal y).0 inert.0 in
         let taken = All-contains (IsTaken u s f) (row_of x u.l.places) e (all_taken x on) in_row in
-        subst (WasFound f) target (taken.followed (label, ap blocks target ∙ inert.1 ∙ stays A blocks s x (all_led x on)))
+        subst (WasFound f) target (taken.followed (
+          label,
+          ap blocks target ∙ inert.1 ∙ stays A blocks s x (all_led x on),
+        ))
 
     -- what inert steps lead to was found
     all_found : (x : ℕ) → Ties u s x → WasFound f x
     all_found x ties =
         kept A blocks (λ y. slice_index_or f.marked y false) closed s x ties
-        (All-contains (λ y. IsTrue (slice_index_or f.marked y false)) f.states s search.marked.each (in_one f.states s (0, search.first.0, search.first.1)))
+        (All-contains (λ y. IsTrue (slice_index_or f.marked y false)) f.states s search.marked.each
+        (in_one f.states s (0, search.first.0, search.first.1)))
 
     has_pair : (k b : ℕ) → HasPair Branching u.l u.blocks s k b → Contains f.pairs (k, b)
     has_pair k b (below, (x, t, ties, step, block, other)) =
         let on = all_found x ties in
         let (e, in_row, label, target) = (steps x (text_of u.l.labels k) t).0 step in
         let taken = All-contains (IsTaken u s f) (row_of x u.l.places) e (all_taken x on) in_row in
-        let number : label_of e ≡ k = lts.table.different (label_of e) k (is_triple x ties e in_row).label below label in
+        let number : label_of e ≡ k =
+        lts.table.different (label_of e) k (is_triple x ties e in_row).label below label in
         let is : pair_under u.blocks e ≡ (k, b) = λ i. (number i, (ap blocks target ∙ block) i) in
-        subst (Contains f.pairs) is (taken.shown (λ inert. other (sym label ∙ inert.0, sym block ∙ ap blocks (sym target) ∙ inert.1)))
+        subst (Contains f.pairs) is
+        (taken.shown (λ inert. other (sym label ∙ inert.0, sym block ∙ ap blocks (sym target) ∙ inert.1)))
 
     -- the pairs that were collected, in rising order and each once, are the signature
-    pub signed : (zs : List (ℕ × ℕ)) → IsStrictlySortedBy pair_cmp zs → ((z : ℕ × ℕ) → Contains zs z ↔ Contains f.pairs z) → IsSignature Branching u.l u.blocks s zs
+    pub signed : (zs : List (ℕ × ℕ)) → IsStrictlySortedBy pair_cmp zs →
+        ((z : ℕ × ℕ) → Contains zs z ↔ Contains f.pairs z) → IsSignature Branching u.l u.blocks s zs
     signed zs rising same = record {
       exactly = λ k b. (λ c. search.own (k, b) ((same (k, b)).0 c), λ h. (same (k, b)).1 (has_pair k b h));
       rising = rising;
     }
 
 -- the search begins: the state s is found
-module _ (u : Under) (s : ℕ) (laws : Laws) (marked : List Bool) (below : s < length marked) (size : length marked ≡ u.l.states) (off : IsUnmarked marked) (new : Found)
+module _ (u : Under) (s : ℕ) (laws : Laws) (marked : List Bool) (below : s < length marked) (size : length marked
+    ≡ u.l.states) (off : IsUnmarked marked) (new : Found)
     (reaches : Reaches s (record { marked = marked; states = []; pairs = [] }) new) where
   abbrev none : Found
   none = record { marked = marked; states = []; pairs = [] }
@@ -288,7 +321,8 @@ module _ (u : Under) (s : ℕ) (laws : Laws) (marked : List Bool) (below : s < l
     size = length-set marked s true ∙ size;
     marked = marked_more marked [] s below (off s) (none_marked marked off);
     first = (omega arith, refl);
-    led = λ j h. let zero : 0 ≡ j = omega (arith, h) in subst (λ i. Ties u s (slice_index (s ∷ []) i)) zero (laws.here (system_of u.l) (slice_index u.blocks) s);
+    led = λ j h. let zero : 0 ≡ j = omega (arith, h) in subst (λ i. Ties u s (slice_index (s ∷ []) i)) zero
+        (laws.here (system_of u.l) (slice_index u.blocks) s);
     few = omega arith;
     own = λ z c. absurd (omega (arith, c.1));
     taken = λ j h. absurd (omega (arith, h));
@@ -298,4 +332,9 @@ module _ (u : Under) (s : ℕ) (laws : Laws) (marked : List Bool) (below : s < l
   pub ahead_first : places_left u.l.places new 0 ≡ length u.l.places
   ahead_first =
       reaches_ahead u.l.places s none new below reaches 0 (omega arith)
-      ∙ omega (arith, ap (λ (xs : List Triple). length xs) (filter-whole (λ (e : Triple). not (slice_index_or marked (source_of e) false)) u.l.places (λ k d h. ap not (false_from_ne_true _ (off _)))))
+      ∙ omega (
+        arith,
+        ap (λ (xs : List Triple). length xs)
+            (filter-whole (λ (e : Triple). not (slice_index_or marked (source_of e) false)) u.l.places
+            (λ k d h. ap not (false_from_ne_true _ (off _)))),
+      )

@@ -1,5 +1,6 @@
 -- Private. A search from a state over inert steps: which states were found, and what their rows show.
-use Rattle.std.specs.Prelude.{◌≡◌, ◌⊎◌, ℕ, ◌+◌, ◌<◌, ◌≤◌, Bool, true, false, not, IsTrue, List, [], ◌∷◌, ◌++◌, length, drop, slice_index, slice_set}
+use Rattle.std.specs.Prelude.{◌≡◌, ◌⊎◌, ℕ, ◌+◌, ◌<◌, ◌≤◌, Bool, true, false, not, IsTrue, List, [], ◌∷◌, ◌++◌, length}
+use Rattle.std.specs.Prelude.{drop, slice_index, slice_set}
 use Rattle.std.specs.List.{All, Contains, filter, sum_by, slice_index_or}
 use Rattle.theory.specs.declared.relation.Relation.TheVariants.{Branching}
 use Rattle.lts.specs.Lts.{Triple, source_of, target_of, row_of}
@@ -39,7 +40,8 @@ pub record IsTaken (u : Under) (s : ℕ) (f : Found) (e : Triple) : Type 0 where
   pub followed : IsInert u (slice_index u.blocks s) e → WasFound f (target_of e)
   pub shown : ¬ IsInert u (slice_index u.blocks s) e → Contains f.pairs (pair_under u.blocks e)
 
--- a search from s: inert steps lead to what was found, what was collected is of its signature, and so many rows were read
+-- a search from s: inert steps lead to what was found, what was collected is of its signature, and so many rows were
+-- read
 pub record FindsFrom (u : Under) (s : ℕ) (f : Found) (read : ℕ) : Type 0 where
   pub size : length f.marked ≡ u.l.states
   pub marked : AreMarked f.marked f.states

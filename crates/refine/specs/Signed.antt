@@ -14,7 +14,8 @@ Extends before after = (more : List (ℕ × ℕ)) × (after ≡ before ++ more)
 
 -- the signature of s was put behind what was there before
 abbrev pub Appends : Relation → Grouped → List ℕ → ℕ → List (ℕ × ℕ) → List (ℕ × ℕ) → Type 0
-Appends rel l blocks s before after = (pairs : List (ℕ × ℕ)) × IsSignature rel l blocks s pairs × (after ≡ before ++ pairs)
+Appends rel l blocks s before after =
+    (pairs : List (ℕ × ℕ)) × IsSignature rel l blocks s pairs × (after ≡ before ++ pairs)
 
 -- of a list of signatures, that of the state s
 abbrev pub signature_at : List (List (ℕ × ℕ)) → ℕ → List (ℕ × ℕ)

@@ -1,5 +1,6 @@
 -- The lists of the states by their numbers.
-use Rattle.std.proofs.Common.{◌≡◌, ◌∙◌, ℕ, ◌<◌, ◌≤◌, List, ◌++◌, length, take, slice_index, ap, sym, subst, inl, inr, arith}
+use Rattle.std.proofs.Common.{◌≡◌, ◌∙◌, ℕ, ◌<◌, ◌≤◌, List, ◌++◌, length, take, slice_index, ap, sym, subst, inl, inr}
+use Rattle.std.proofs.Common.{arith}
 use Rattle.std.proofs.lemmas.List.{get_or_default, take_at}
 use Rattle.lists.specs.Lists.{list_at, AreLists, AreNumbers}
 use Rattle.partition.specs.Blocks.{RoundBlocks, HaveNone, AreOrNone, AreParted}
@@ -9,10 +10,12 @@ use Rattle.rounds.specs.declared.signed_blocks.Watch.TheVariants.{Nothing, Sourc
 use Rattle.partition.specs.Splitting.{Splits}
 
 -- states of blocks have lists, if their numbers were written back through a slice of all of them
-pub written_back : (of live : List ℕ) (lists : List (List (ℕ × ℕ))) (numbers rest : List ℕ) (n : ℕ) → AreNumbers lists numbers → HaveNone live numbers
+pub written_back : (of live : List ℕ) (lists : List (List (ℕ × ℕ))) (numbers rest : List ℕ) (n : ℕ)
+    → AreNumbers lists numbers → HaveNone live numbers
     → length numbers ≡ length of → length numbers ≡ n → HaveLists of live lists (take n (numbers ++ rest))
 written_back of live lists numbers rest n each none states all =
-    subst (HaveLists of live lists) (sym (take_at numbers rest n all)) (record { each = each; states = states; none = none })
+    subst (HaveLists of live lists) (sym (take_at numbers rest n all))
+    (record { each = each; states = states; none = none })
 
 -- and if those were made to name the first list
 pub emptied : (of live : List ℕ) (lists : List (List (ℕ × ℕ))) (old numbers rest : List ℕ) (n : ℕ) → 1 ≤ length lists
@@ -24,8 +27,10 @@ emptied of live lists old numbers rest n some empty same states all =
     (λ s h. inr (none s h)) (same ∙ states) all
 
 -- blocks that are split by the numbers of lists are split by the lists, which are all different
-pub Splits-lists : (lists : List (List (ℕ × ℕ))) (numbers old : List ℕ) (count : ℕ) (new : List ℕ) (more : ℕ) → AreLists lists → AreNumbers lists numbers
-    → length old ≡ length numbers → Splits old count (slice_index numbers) new more → Splits old count (list_of lists numbers) new more
+pub Splits-lists : (lists : List (List (ℕ × ℕ))) (numbers old : List ℕ) (count : ℕ) (new : List ℕ) (more : ℕ)
+    → AreLists lists → AreNumbers lists numbers
+    → length old ≡ length numbers → Splits old count (slice_index numbers) new more
+    → Splits old count (list_of lists numbers) new more
 Splits-lists lists numbers old count new more are each size splits = record {
   states = splits.states;
   blocks = splits.blocks;
@@ -40,7 +45,8 @@ Splits-lists lists numbers old count new more are each size splits = record {
 }
 
 -- some states are looked at no more, and have the empty list from now on
-pub lists_left : {of live live' : List ℕ} {lists : List (List (ℕ × ℕ))} {old new : List ℕ} → 1 ≤ length lists → HaveLists of live lists old
+pub lists_left : {of live live' : List ℕ} {lists : List (List (ℕ × ℕ))} {old new : List ℕ} → 1 ≤ length lists
+    → HaveLists of live lists old
     → length new ≡ length old → AreOrNone old new → HaveNone live' new → HaveLists of live' lists new
 lists_left {lists = lists} {new = new} some have size each none = record {
   each = λ s d h. subst (λ x. x < length lists) (get_or_default new s 0 d h) (elim (each s) [
@@ -57,8 +63,10 @@ fits_still of of' Nothing size fits = tt
 fits_still of of' (Sources e) size fits = fits ∙ sym size
 
 -- when blocks were split, the states have their lists still, and the index fits them
-pub split_fits : (lists : List (List (ℕ × ℕ))) (numbers ns : List ℕ) (p q : RoundBlocks) (watch : Watch) → AreParted p ns q
-    → HaveLists p.of p.live lists numbers × FitsWatch p.of watch → HaveLists q.of q.live lists numbers × FitsWatch q.of watch
+pub split_fits : (lists : List (List (ℕ × ℕ))) (numbers ns : List ℕ) (p q : RoundBlocks) (watch : Watch)
+    → AreParted p ns q
+    → HaveLists p.of p.live lists numbers × FitsWatch p.of watch
+    → HaveLists q.of q.live lists numbers × FitsWatch q.of watch
 split_fits lists numbers ns p q watch split (have, fits) =
     let size = split.splits.states in (
       record {

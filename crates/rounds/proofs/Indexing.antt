@@ -1,5 +1,6 @@
 -- What the index has: a state that a round does not look at is alone in its block, or still.
-use Rattle.std.proofs.Common.{◌≡◌, ◌⊎◌, ◌↔◌, ◌∙◌, ℕ, ◌<◌, ◌≤◌, List, [], ◌∷◌, length, slice_index, slice_index_or, Contains, ap, sym, subst, subst₂, refl, inl, inr, arith}
+use Rattle.std.proofs.Common.{◌≡◌, ◌⊎◌, ◌↔◌, ◌∙◌, ℕ, ◌<◌, ◌≤◌, List, [], ◌∷◌, length, slice_index, slice_index_or}
+use Rattle.std.proofs.Common.{Contains, ap, sym, subst, subst₂, refl, inl, inr, arith}
 use Rattle.std.specs.List.{All}
 use Rattle.std.proofs.Math.Logic.{⊎_map}
 use Rattle.std.proofs.lemmas.Bool.{cases_lt}
@@ -16,7 +17,8 @@ use Rattle.partition.specs.Blocks.{RoundBlocks, IsOne, LeavesAlone}
 use Rattle.rounds.specs.Living.{LeavesOut}
 use Rattle.rounds.specs.Settled.{IsStill}
 use Rattle.rounds.specs.EachList.{Signed, IsAnew}
-use Rattle.rounds.specs.Index.{Entered, AreEntering, IsIndexed, IsInternalIndexed, AreWatched, AreIndexedBack, LooksAtSources}
+use Rattle.rounds.specs.Index.{Entered, AreEntering, IsIndexed, IsInternalIndexed, AreWatched, AreIndexedBack}
+use Rattle.rounds.specs.Index.{LooksAtSources}
 use Rattle.rounds.specs.Watching.{HasIndexed, HasKept, Watches, WatchesBy, LooksOn, LooksAnew, Begins}
 use Rattle.rounds.specs.declared.entering.Reach.{Reach}
 use Rattle.rounds.specs.declared.entering.Reach.TheVariants.{Before, Back}
@@ -25,7 +27,8 @@ use Rattle.rounds.specs.declared.signed_blocks.Watch.TheVariants.{Nothing, Sourc
 use Rattle.rounds.proofs.Living.{left_still, left_out_next, no_step, alone_next}
 
 -- fewer states are looked at
-pub indexed_left : (watch : Watch) (rel : Relation) (l : Grouped) (p q : RoundBlocks) → q ≡ record p { live = q.live } → LeavesAlone p.of p.live q.live
+pub indexed_left : (watch : Watch) (rel : Relation) (l : Grouped) (p q : RoundBlocks) → q ≡ record p { live = q.live }
+    → LeavesAlone p.of p.live q.live
     → HasIndexed watch rel l p → HasIndexed watch rel l q
 indexed_left watch rel l p q same leaves index = subst (HasIndexed watch rel l) (sym same) (left watch rel index)
   where
@@ -39,7 +42,8 @@ indexed_left watch rel l p q same leaves index = subst (HasIndexed watch rel l) 
 
 -- a row has a transition to a new number, or it has none
 new_or_old : (of : List ℕ) (low : ℕ) (row : List Triple)
-    → ((e : Triple) × Contains row e × (low ≤ slice_index of (target_of e))) ⊎ All (λ e. slice_index of (target_of e) < low) row
+    → ((e : Triple) × Contains row e × (low ≤ slice_index of (target_of e)))
+    ⊎ All (λ e. slice_index of (target_of e) < low) row
 new_or_old of low [] = inr (All-nil (λ e. slice_index of (target_of e) < low))
 new_or_old of low (e ∷ row) = elim (cases_lt (slice_index of (target_of e)) low) [
   | inl old ↦ elim (new_or_old of low row) [
@@ -51,9 +55,11 @@ new_or_old of low (e ∷ row) = elim (cases_lt (slice_index of (target_of e)) lo
 
 -- blocks were parted, and the next round looks at the states that are found by the index
 module _ (l : Grouped)
-    (steps : (s : ℕ) (a : List ℕ) (t : ℕ) → Step (system_of l) s a t ↔ ((e : Triple) × Contains (row_of s l.places) e × (text_of l.labels (label_of e) ≡ a) × (target_of e ≡ t)))
+    (steps : (s : ℕ) (a : List ℕ) (t : ℕ) → Step (system_of l) s a t ↔ ((e : Triple) × Contains (row_of s l.places) e
+    × (text_of l.labels (label_of e) ≡ a) × (target_of e ≡ t)))
     (p q : RoundBlocks) (size : length p.of ≡ l.states) (size' : length q.of ≡ l.states)
-    (parted : (s t : ℕ) → s < l.states → t < l.states → slice_index q.of s ≡ slice_index q.of t → slice_index p.of s ≡ slice_index p.of t)
+    (parted : (s t : ℕ) → s < l.states → t < l.states → slice_index q.of s ≡ slice_index q.of t →
+    slice_index p.of s ≡ slice_index p.of t)
     (below : (s : ℕ) → s < l.states → (e : Triple) → Contains (row_of s l.places) e → target_of e < l.states) where
   -- a state whose transitions are in the index
   looked : (sources : List (List ℕ)) (s : ℕ) → s < l.states → LooksAtSources sources q → IsIndexed l sources s
@@ -66,13 +72,16 @@ module _ (l : Grouped)
         (slice_index_or sources t []) s each (indexed e c) (omega (arith, h, size')))
     | inr old ↦ inr (inr (λ a t step.
         let found = (steps s a t).0 step in
-        subst (λ x. slice_index q.of x < q.low) found.3 (All-contains (λ e. slice_index q.of (target_of e) < q.low) (row_of s l.places) found.0 old found.1)))
+        subst (λ x. slice_index q.of x < q.low) found.3 (All-contains (λ e. slice_index q.of (target_of e) < q.low)
+        (row_of s l.places) found.0 old found.1)))
   ]
 
-  indexed_next : (sources : List (List ℕ)) → AreWatched l p sources → (s : ℕ) → s < l.states → IsAlone q.of s ⊎ IsIndexed l sources s
+  indexed_next : (sources : List (List ℕ)) → AreWatched l p sources → (s : ℕ) → s < l.states →
+      IsAlone q.of s ⊎ IsIndexed l sources s
   indexed_next sources w s h = ⊎_map (alone_next l p.of q.of size size' parted s h) (λ i. i) (w.indexed s h)
 
-  watched_next : (e : Entered) (r next : Signed) → next.blocks ≡ q → LooksOn e r next ⊎ LooksAnew next → AreWatched l p e.sources → AreWatched l q e.sources
+  watched_next : (e : Entered) (r next : Signed) → next.blocks ≡ q → LooksOn e r next ⊎ LooksAnew next →
+      AreWatched l p e.sources → AreWatched l q e.sources
   watched_next e r next is (inl on) w = record {
     indexed = indexed_next e.sources w;
     others = λ s h. elim (indexed_next e.sources w s h) [
@@ -87,16 +96,23 @@ module _ (l : Grouped)
   }
 
   -- what is left out before there is an index
-  pub left_next : (watch : Watch) (rel : Relation) (next : Signed) → next.blocks ≡ q → next.watch ≡ Nothing → ((s : ℕ) → IsOne p.live s → IsOne q.live s)
+  pub left_next : (watch : Watch) (rel : Relation) (next : Signed) → next.blocks ≡ q → next.watch ≡ Nothing
+      → ((s : ℕ) → IsOne p.live s → IsOne q.live s)
       → LeavesOut l p.of p.live → Watches rel l next
   left_next watch rel next is nothing among others =
-      subst (λ w. HasIndexed w rel l next.blocks × HasKept w rel l next) (sym nothing)
-      (subst (λ b. LeavesOut l b.of b.live) (sym is) (λ s h. elim (left_out_next l p.of q.of p.live size size' parted others s h) [ inl one ↦ inl (among s one) | inr x ↦ inr x ]), tt)
+      subst (λ w. HasIndexed w rel l next.blocks × HasKept w rel l next) (sym nothing) (
+        subst (λ b. LeavesOut l b.of b.live) (sym is) (λ s h. elim (left_out_next l p.of q.of p.live size size' parted
+            others s h) [ inl one ↦ inl (among s one) | inr x ↦ inr x ]),
+        tt,
+      )
 
-  pub strong_next : (watch : Watch) (r next : Signed) → r.blocks ≡ p → next.blocks ≡ q → WatchesBy watch r next → HasIndexed watch Strong l p → Watches Strong l next
-  strong_next Nothing r next was is by index = left_next Nothing Strong next is by.0 (subst₂ (λ a b. (s : ℕ) → IsOne a.live s → IsOne b.live s) was is by.1) index
+  pub strong_next : (watch : Watch) (r next : Signed) → r.blocks ≡ p → next.blocks ≡ q → WatchesBy watch r next →
+      HasIndexed watch Strong l p → Watches Strong l next
+  strong_next Nothing r next was is by index = left_next Nothing Strong next is by.0 (subst₂ (λ a b. (s : ℕ) →
+      IsOne a.live s → IsOne b.live s) was is by.1) index
   strong_next (Sources e) r next was is by w =
-      subst (λ w. HasIndexed w Strong l next.blocks × HasKept w Strong l next) (sym by.0) (subst (λ b. AreWatched l b e.sources) (sym is) (watched_next e r next is by.1 w), tt)
+      subst (λ w. HasIndexed w Strong l next.blocks × HasKept w Strong l next) (sym by.0)
+      (subst (λ b. AreWatched l b e.sources) (sym is) (watched_next e r next is by.1 w), tt)
 
   -- the internal transitions, which are apart
   pub indexed_back_next : (e : Entered) → AreIndexedBack l p.of e → AreIndexedBack l q.of e
@@ -160,15 +176,19 @@ module _ (l : Grouped)
       begun.entered begun.indexed)
 
 -- the sources that the system tells of transitions from some states
-pub all_indexed : (l : Grouped) (live : List ℕ) (groups : List (List ℕ)) → AreSources IsAny l.places live groups → (s : ℕ) → IsOne live s → IsIndexed l groups s
+pub all_indexed : (l : Grouped) (live : List ℕ) (groups : List (List ℕ)) → AreSources IsAny l.places live groups →
+    (s : ℕ) → IsOne live s → IsIndexed l groups s
 all_indexed l live groups are s one e c = is_source IsAny l.places live groups are one.0 s one.1 one.2 e c tt
 
-pub internal_indexed : (l : Grouped) (live : List ℕ) (groups : List (List ℕ)) → AreSources (IsInternal l.labels) l.places live groups
+pub internal_indexed : (l : Grouped) (live : List ℕ) (groups : List (List ℕ))
+    → AreSources (IsInternal l.labels) l.places live groups
     → (s : ℕ) → IsOne live s → IsInternalIndexed l groups s
-internal_indexed l live groups are s one e c i = is_source (IsInternal l.labels) l.places live groups are one.0 s one.1 one.2 e c i
+internal_indexed l live groups are s one e c i =
+    is_source (IsInternal l.labels) l.places live groups are one.0 s one.1 one.2 e c i
 
 -- no list is known when that is begun, if none was known before
-pub begun_anew : (l : Grouped) (reach : Reach) (p r : Signed) → Begins l reach p r → IsAnew p → (r.blocks ≡ p.blocks) × IsAnew r
+pub begun_anew : (l : Grouped) (reach : Reach) (p r : Signed) → Begins l reach p r → IsAnew p →
+    (r.blocks ≡ p.blocks) × IsAnew r
 begun_anew l reach p r (inl same) anew = (ap (λ r. r.blocks) same, subst IsAnew (sym same) anew)
 begun_anew l reach p r (inr begun) anew = (
   begun.blocks,

@@ -1,5 +1,6 @@
 -- Lists that are kept from round to round: what is known of them, and what a round makes of them.
-use Rattle.std.proofs.Common.{◌≡◌, ◌⊎◌, ◌↔◌, ℕ, ◌<◌, List, length, slice_index, Contains, ap, sym, ◌∙◌, subst, subst₂, inl, inr, arith}
+use Rattle.std.proofs.Common.{◌≡◌, ◌⊎◌, ◌↔◌, ℕ, ◌<◌, List, length, slice_index, Contains, ap, sym, ◌∙◌, subst, subst₂}
+use Rattle.std.proofs.Common.{inl, inr, arith}
 use Rattle.std.proofs.Math.Logic.{⊎_map}
 use Rattle.std.proofs.lemmas.List.{get_or_default}
 use Rattle.theory.specs.System.{Step}
@@ -21,7 +22,8 @@ use Rattle.rounds.proofs.LookingBack.{names_signatures, kept_grows, kept_left, r
 
 -- where no list is known, the empty one is kept for each state
 module _ (l : Grouped) (labelled : Labelled l)
-    (steps : (s : ℕ) (a : List ℕ) (t : ℕ) → Step (system_of l) s a t ↔ ((e : Triple) × Contains (row_of s l.places) e × (text_of l.labels (label_of e) ≡ a) × (target_of e ≡ t)))
+    (steps : (s : ℕ) (a : List ℕ) (t : ℕ) → Step (system_of l) s a t ↔ ((e : Triple) × Contains (row_of s l.places) e
+    × (text_of l.labels (label_of e) ≡ a) × (target_of e ≡ t)))
     (r : Signed) (size : length r.blocks.of ≡ l.states) (are : AreLists r.lists) (anew : IsAnew r) where
   zeros : slice_index r.kept ≡ (λ s. 0)
   zeros = λ i s. anew.empty s i
@@ -29,7 +31,8 @@ module _ (l : Grouped) (labelled : Labelled l)
   pub keeps_anew : LeavesOut l r.blocks.of r.blocks.live → KeepsLists l r
   keeps_anew others = record {
     states = anew.states ∙ size;
-    numbers = λ s d h. subst (λ x. x < length r.lists) (get_or_default r.kept s 0 d h) (omega (arith, anew.empty s, are.some));
+    numbers = λ s d h. subst (λ x. x < length r.lists) (get_or_default r.kept s 0 d h)
+        (omega (arith, anew.empty s, are.some));
     known =
         subst (AreKept (Names l r.lists) (system_of l) (slice_index r.blocks.of) (IsOne r.blocks.live)) (sym zeros)
         (kept_anew (Names l r.lists) (system_of l) (names_signatures l labelled r.lists are) (slice_index r.blocks.of)
@@ -39,7 +42,8 @@ module _ (l : Grouped) (labelled : Labelled l)
   }
 
 -- in the block of a state that is looked at, others that are not have the lists of their signatures
-pub kept_beside : (l : Grouped) (r : Signed) → KeepsLists l r → AreSignedBeside l r.blocks.of r.blocks.live r.lists r.kept
+pub kept_beside : (l : Grouped) (r : Signed) → KeepsLists l r →
+    AreSignedBeside l r.blocks.of r.blocks.live r.lists r.kept
 kept_beside l r keeps s t hs ht same one = elim (keeps.known.signed s hs) [
   | inl too ↦ inl too
   | inr x ↦
@@ -56,7 +60,8 @@ turned old new shown (inr (other, is)) = inr (λ e. other (sym e), is)
 pub signs_lists : (l : Grouped) (p was r : Signed) (numbers : List ℕ) → r.numbers ≡ numbers → KeepsLists l was
     → r.blocks ≡ was.blocks
     → (p.watch ≡ Nothing → (s : ℕ) → slice_index was.kept s ≡ 0) → Grow was.lists r.lists
-    → ((s : ℕ) → IsOne was.blocks.live s → IsSignature Branching l was.blocks.of s (list_at r.lists (slice_index r.kept s)))
+    → ((s : ℕ) → IsOne was.blocks.live s
+    → IsSignature Branching l was.blocks.of s (list_at r.lists (slice_index r.kept s)))
     → ((s : ℕ) → IsOne was.blocks.live s
     → ShowsNew (slice_index was.kept s) (slice_index r.kept s) (slice_index numbers s))
     → ((s : ℕ) → IsOne was.blocks.live s ⊎ (slice_index r.kept s ≡ slice_index was.kept s))
@@ -66,8 +71,10 @@ pub signs_lists : (l : Grouped) (p was r : Signed) (numbers : List ℕ) → r.nu
 signs_lists l p was r numbers given keeps is anew grow signed changed still lists none size states live = record {
   was = was.kept;
   before =
-      subst (λ b. AreKept (Names l r.lists) (system_of l) (slice_index b.of) (IsOne b.live) (slice_index was.kept)) (sym is)
-      (kept_grows l was.lists r.lists grow (slice_index was.blocks.of) (IsOne was.blocks.live) (slice_index was.kept) keeps.known);
+      subst (λ b. AreKept (Names l r.lists) (system_of l) (slice_index b.of) (IsOne b.live) (slice_index was.kept))
+      (sym is)
+      (kept_grows l was.lists r.lists grow (slice_index was.blocks.of) (IsOne was.blocks.live)
+      (slice_index was.kept) keeps.known);
   anew = anew;
   signed = λ s one.
       let here = subst (λ b. IsOne b.live s) is one in (
@@ -89,12 +96,15 @@ signs_lists l p was r numbers given keeps is anew grow signed changed still list
 
 -- fewer states are looked at, as those that are alone are left out
 pub keeps_left : (l : Grouped) (p q : Signed) → length p.blocks.of ≡ l.states → q.lists ≡ p.lists → q.kept ≡ p.kept
-    → q.blocks ≡ record p.blocks { live = q.blocks.live } → LeavesAlone p.blocks.of p.blocks.live q.blocks.live → KeepsLists l p → KeepsLists l q
+    → q.blocks ≡ record p.blocks { live = q.blocks.live } → LeavesAlone p.blocks.of p.blocks.live q.blocks.live
+    → KeepsLists l p → KeepsLists l q
 keeps_left l p q size lists kept is leaves keeps = record {
   states = ap length kept ∙ keeps.states;
   numbers = subst₂ AreNumbers (sym lists) (sym kept) keeps.numbers;
   known =
-      subst (λ b. AreKept (Names l q.lists) (system_of l) (slice_index b.of) (IsOne b.live) (slice_index q.kept)) (sym is)
-      (subst₂ (λ xs ks. AreKept (Names l xs) (system_of l) (slice_index p.blocks.of) (IsOne q.blocks.live) (slice_index ks)) (sym lists) (sym kept)
+      subst (λ b. AreKept (Names l q.lists) (system_of l) (slice_index b.of) (IsOne b.live) (slice_index q.kept))
+      (sym is)
+      (subst₂ (λ xs ks. AreKept (Names l xs) (system_of l) (slice_index p.blocks.of) (IsOne q.blocks.live)
+      (slice_index ks)) (sym lists) (sym kept)
       (kept_left l p.lists p.blocks.of p.blocks.live q.blocks.live size leaves (slice_index p.kept) keeps.known));
 }

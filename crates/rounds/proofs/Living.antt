@@ -1,5 +1,6 @@
 -- The states that a round looks at: one more, and their lists.
-use Rattle.std.proofs.Common.{◌≡◌, ◌⊎◌, ◌↔◌, ◌∙◌, ℕ, ◌+◌, ◌<◌, ◌≤◌, List, [], length, slice_index, set, Contains, ap, sym, subst, inl, inr, arith}
+use Rattle.std.proofs.Common.{◌≡◌, ◌⊎◌, ◌↔◌, ◌∙◌, ℕ, ◌+◌, ◌<◌, ◌≤◌, List, [], length, slice_index, set, Contains, ap}
+use Rattle.std.proofs.Common.{sym, subst, inl, inr, arith}
 use Rattle.std.proofs.Math.Logic.{⊎_map}
 use borrow.Author.Count.{below_more}
 use Rattle.std.proofs.lemmas.Bool.{cases_eq}
@@ -20,19 +21,23 @@ left_still leaves s (inr x) = inr x
 
 -- a state that is alone is so still when blocks are parted
 pub alone_next : (l : Grouped) (of next : List ℕ) → length of ≡ l.states → length next ≡ l.states
-    → ((s t : ℕ) → s < l.states → t < l.states → slice_index next s ≡ slice_index next t → slice_index of s ≡ slice_index of t)
+    → ((s t : ℕ) → s < l.states → t < l.states → slice_index next s ≡ slice_index next t
+    → slice_index of s ≡ slice_index of t)
     → (s : ℕ) → s < l.states → IsAlone of s → IsAlone next s
-alone_next l of next size size' parted s h alone t lt same = alone t (omega (arith, lt, size, size')) (parted t s (omega (arith, lt, size')) h same)
+alone_next l of next size size' parted s h alone t lt same =
+    alone t (omega (arith, lt, size, size')) (parted t s (omega (arith, lt, size')) h same)
 
 -- and what is left out is
 pub left_out_next : (l : Grouped) (of next live : List ℕ) → length of ≡ l.states → length next ≡ l.states
-    → ((s t : ℕ) → s < l.states → t < l.states → slice_index next s ≡ slice_index next t → slice_index of s ≡ slice_index of t) → LeavesOut l of live → LeavesOut l next live
+    → ((s t : ℕ) → s < l.states → t < l.states → slice_index next s ≡ slice_index next t
+    → slice_index of s ≡ slice_index of t) → LeavesOut l of live → LeavesOut l next live
 left_out_next l of next live size size' parted others s h =
     ⊎_map (λ one. one) (⊎_map (alone_next l of next size size' parted s h) (λ empty. empty)) (others s h)
 
 -- no step is from a state whose row is empty
 pub no_step : (l : Grouped) (s : ℕ)
-    → ((a : List ℕ) (t : ℕ) → Step (system_of l) s a t ↔ ((e : Triple) × Contains (row_of s l.places) e × (text_of l.labels (label_of e) ≡ a) × (target_of e ≡ t)))
+    → ((a : List ℕ) (t : ℕ) → Step (system_of l) s a t ↔ ((e : Triple) × Contains (row_of s l.places) e
+    × (text_of l.labels (label_of e) ≡ a) × (target_of e ≡ t)))
     → row_of s l.places ≡ [] → (a : List ℕ) (t : ℕ) → Step (system_of l) s a t → ⊥
 no_step l s steps empty a t step =
     let found = (steps a t).0 step in
@@ -40,12 +45,15 @@ no_step l s steps empty a t step =
     absurd (omega (arith, has.1))
 
 -- the lists of those that are looked at up to the place i, and one more
-module _ (lists lists' : List (List (ℕ × ℕ))) (numbers live : List ℕ) (states i k : ℕ) (grow : Grow lists lists') (rises : AreLive states live)
+module _ (lists lists' : List (List (ℕ × ℕ))) (numbers live : List ℕ) (states i k : ℕ) (grow : Grow lists lists')
+    (rises : AreLive states live)
     (size : length numbers ≡ states) (more : i < length live) (P : ℕ → List (ℕ × ℕ) → Type 0) where
   abbrev Put : List (List (ℕ × ℕ)) → List ℕ → ℕ → Type 0
-  Put ls ns j = (slice_index ns (slice_index live j) < length ls) × P (slice_index live j) (list_at ls (slice_index ns (slice_index live j)))
+  Put ls ns j = (slice_index ns (slice_index live j) < length ls)
+      × P (slice_index live j) (list_at ls (slice_index ns (slice_index live j)))
 
-  pub put_more : ((j : ℕ) → j < i → Put lists numbers j) → k < length lists' → P (slice_index live i) (list_at lists' k) → (j : ℕ) → j < i + 1
+  pub put_more : ((j : ℕ) → j < i → Put lists numbers j) → k < length lists' → P (slice_index live i) (list_at lists' k)
+      → (j : ℕ) → j < i + 1
       → Put lists' (set numbers (slice_index live i) k) j
   put_more before within this =
       let same = get_or-set_same numbers (slice_index live i) k 0 (omega (arith, rises.below i more, size)) in
@@ -57,7 +65,8 @@ module _ (lists lists' : List (List (ℕ × ℕ))) (numbers live : List ℕ) (st
       (omega (arith, same, within), subst (P _) (sym (ap (list_at lists') same)) this)
 
 -- one of those that are looked at gets a number
-pub none_more : (numbers live : List ℕ) (i k : ℕ) → i < length live → HaveNone live numbers → HaveNone live (set numbers (slice_index live i) k)
+pub none_more : (numbers live : List ℕ) (i k : ℕ) → i < length live → HaveNone live numbers →
+    HaveNone live (set numbers (slice_index live i) k)
 none_more numbers live i k more none t h = elim (cases_eq t (slice_index live i)) [
   | inl e ↦ inl (i, more, sym e)
   | inr d ↦
@@ -66,8 +75,10 @@ none_more numbers live i k more none t h = elim (cases_eq t (slice_index live i)
 ]
 
 -- the lists of all that are looked at, and the others have the empty one
-module _ (lists : List (List (ℕ × ℕ))) (numbers live : List ℕ) (none : HaveNone live numbers) (P : ℕ → List (ℕ × ℕ) → Type 0)
-    (put : (j : ℕ) → j < length live → (slice_index numbers (slice_index live j) < length lists) × P (slice_index live j) (list_at lists (slice_index numbers (slice_index live j)))) where
+module _ (lists : List (List (ℕ × ℕ))) (numbers live : List ℕ) (none : HaveNone live numbers) (P : ℕ →
+    List (ℕ × ℕ) → Type 0)
+    (put : (j : ℕ) → j < length live → (slice_index numbers (slice_index live j) < length lists)
+    × P (slice_index live j) (list_at lists (slice_index numbers (slice_index live j)))) where
   pub each_put : (s : ℕ) → IsOne live s → P s (list_at lists (slice_index numbers s))
   each_put s one = subst (λ x. P x (list_at lists (slice_index numbers x))) one.2 (put one.0 one.1).1
 

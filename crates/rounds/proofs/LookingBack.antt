@@ -1,5 +1,6 @@
 -- Lists in memory name the signatures of states, and the index finds the states that a round has to look at.
-use Rattle.std.proofs.Common.{◌≡◌, ◌⊎◌, ◌↔◌, ℕ, ◌<◌, List, [], ◌∷◌, length, slice_index, slice_index_or, Contains, sym, ap, subst, inl, inr, arith}
+use Rattle.std.proofs.Common.{◌≡◌, ◌⊎◌, ◌↔◌, ℕ, ◌<◌, List, [], ◌∷◌, length, slice_index, slice_index_or, Contains, sym}
+use Rattle.std.proofs.Common.{ap, subst, inl, inr, arith}
 use Rattle.std.specs.List.Sorted.{IsStrictlySortedBy}
 use Rattle.std.proofs.Math.Logic.{⊎_map}
 use Rattle.std.proofs.lemmas.List.Elements.{All-contains}
@@ -28,10 +29,14 @@ module _ (l : Grouped) (labelled : Labelled l) (lists : List (List (ℕ × ℕ))
   names_empty blocks s named a b can =
       let number = labelled can.0 a can.1 can.3 in
       nothing (number.0, b)
-      ((named.2 number.0 b).1 (number.1.below, subst (λ x. Signature Branching (system_of l) blocks s x b) (sym number.1.text) can))
+      ((named.2 number.0 b).1 (
+        number.1.below,
+        subst (λ x. Signature Branching (system_of l) blocks s x b) (sym number.1.text) can,
+      ))
 
   rises : IsStrictlySortedBy pair_cmp (list_at lists 0)
-  rises = All-contains (IsStrictlySortedBy pair_cmp) lists (list_at lists 0) are.rise (0, are.some, ap (slice_index_or lists 0) are.first)
+  rises = All-contains (IsStrictlySortedBy pair_cmp) lists (list_at lists 0) are.rise
+      (0, are.some, ap (slice_index_or lists 0) are.first)
 
   pub names_signatures : NamesSignatures (system_of l) (Names l lists)
   names_signatures = record {
@@ -40,7 +45,11 @@ module _ (l : Grouped) (labelled : Labelled l) (lists : List (List (ℕ × ℕ))
         (λ e. told.0 (ap (list_at lists) e), λ same. are.different j k h.0 g.0 (told.1 same));
     empty = λ blocks s. (
       names_empty blocks s,
-      λ shows. (are.some, rises, λ j b. (λ c. absurd (nothing (j, b) c), λ h. absurd (shows (text_of l.labels j) b h.1))),
+      λ shows. (
+        are.some,
+        rises,
+        λ j b. (λ c. absurd (nothing (j, b) c), λ h. absurd (shows (text_of l.labels j) b h.1)),
+      ),
     );
     stays = λ old new s k keeps named. (
       named.0,
@@ -53,7 +62,8 @@ module _ (l : Grouped) (labelled : Labelled l) (lists : List (List (ℕ × ℕ))
   }
 
 module _ (l : Grouped)
-    (steps : (s : ℕ) (a : List ℕ) (t : ℕ) → Step (system_of l) s a t ↔ ((e : Triple) × Contains (row_of s l.places) e × (text_of l.labels (label_of e) ≡ a) × (target_of e ≡ t)))
+    (steps : (s : ℕ) (a : List ℕ) (t : ℕ) → Step (system_of l) s a t ↔ ((e : Triple) × Contains (row_of s l.places) e
+    × (text_of l.labels (label_of e) ≡ a) × (target_of e ≡ t)))
     (inside : (s : ℕ) (a : List ℕ) (t : ℕ) → Step (system_of l) s a t → (s < l.states) × (t < l.states))
     (q : RoundBlocks) (size : length q.of ≡ l.states) (e : Entered) (indexed : AreIndexedBack l q.of e)
     (sources : LooksAtSources e.sources q) (back : LooksBackBy indexed.inner q) where
@@ -62,7 +72,10 @@ module _ (l : Grouped)
 
   pub looks_back : LooksBack (system_of l) (slice_index q.of) q.low (IsOne q.live)
   looks_back = record {
-    new = λ t h new. elim (back.new t (omega (arith, h, size)) new) [ inl one ↦ inl one | inr alone ↦ inr (only t alone) ];
+    new = λ t h new. elim (back.new t (omega (arith, h, size)) new) [
+      | inl one ↦ inl one
+      | inr alone ↦ inr (only t alone)
+    ];
     sources = λ s a t step new. elim (indexed.indexed s (inside s a t step).0) [
       | inl alone ↦ inr (only s alone)
       | inr at ↦ (
@@ -78,19 +91,25 @@ module _ (l : Grouped)
       | inr at ↦ (
           let found = (steps s internal t).0 inert.0 in
           let is = subst (λ x. Contains (slice_index_or indexed.inner x []) s) found.3 (at.1 found.0 found.1 found.2) in
-          All-contains (λ s. s < length q.of → slice_index q.of s ≡ slice_index q.of t → IsOne q.live s) (slice_index_or indexed.inner t []) s
+          All-contains (λ s. s < length q.of → slice_index q.of s ≡ slice_index q.of t →
+          IsOne q.live s) (slice_index_or indexed.inner t []) s
           (back.back t one old) is (omega (arith, (inside s internal t inert.0).0, size)) (sym inert.1))
     ];
   }
 
 -- one round: what is known of the states before it, what it signs and shows, and the blocks that it makes
-module _ (l : Grouped) (labelled : Labelled l) (lists : List (List (ℕ × ℕ))) (are : AreLists lists) (sys : IsSystem (system_of l)) (p q : RoundBlocks)
-    (size : length p.of ≡ l.states) (kept now shown : List ℕ) (before : AreKept (Names l lists) (system_of l) (slice_index p.of) (IsOne p.live) (slice_index kept))
-    (signed : (s : ℕ) → IsOne p.live s → (slice_index now s < length lists) × IsSignature Branching l p.of s (list_of lists now s))
+module _ (l : Grouped) (labelled : Labelled l) (lists : List (List (ℕ × ℕ))) (are : AreLists lists)
+    (sys : IsSystem (system_of l)) (p q : RoundBlocks)
+    (size : length p.of ≡ l.states) (kept now shown : List ℕ) (before : AreKept (Names l lists) (system_of l)
+    (slice_index p.of) (IsOne p.live) (slice_index kept))
+    (signed : (s : ℕ) → IsOne p.live s → (slice_index now s < length lists) × IsSignature Branching l p.of s
+    (list_of lists now s))
     (others : (s : ℕ) → s < l.states → IsOne p.live s ⊎ (slice_index now s ≡ slice_index kept s))
     (shows : (s : ℕ) → s < l.states → IsShown (slice_index kept s) (slice_index now s) (slice_index shown s))
-    (within : (s : ℕ) → s < l.states → slice_index shown s < length lists) (splits : Splits p.of p.count (list_of lists shown) q.of q.count) where
-  one_round : SignsFew (Names l lists) (system_of l) (slice_index p.of) (IsOne p.live) (slice_index kept) (slice_index now) (slice_index q.of)
+    (within : (s : ℕ) → s < l.states →
+    slice_index shown s < length lists) (splits : Splits p.of p.count (list_of lists shown) q.of q.count) where
+  one_round : SignsFew (Names l lists) (system_of l) (slice_index p.of) (IsOne p.live) (slice_index kept)
+      (slice_index now) (slice_index q.of)
   one_round = record {
     before = before;
     signed = λ s h one. let is = signed s one in (is.0, is.1.rising, is.1.exactly);
@@ -99,14 +118,18 @@ module _ (l : Grouped) (labelled : Labelled l) (lists : List (List (ℕ × ℕ))
     shows = shows;
     split = λ s t h k.
         let alike = splits.alike s t (omega (arith, h, size)) (omega (arith, k, size)) in (
-          λ e. ((alike.0 e).0, are.different (slice_index shown s) (slice_index shown t) (within s h) (within t k) (alike.0 e).1),
+          λ e. (
+            (alike.0 e).0,
+            are.different (slice_index shown s) (slice_index shown t) (within s h) (within t k) (alike.0 e).1,
+          ),
           λ both. alike.1 (both.0, ap (list_at lists) both.1),
         );
   }
 
   pub round_splits : Split Branching (system_of l) (slice_index p.of) (slice_index q.of)
   round_splits =
-      split_exactly (Names l lists) (system_of l) (names_signatures l labelled lists are) (slice_index p.of) (IsOne p.live)
+      split_exactly (Names l lists) (system_of l) (names_signatures l labelled lists are)
+      (slice_index p.of) (IsOne p.live)
       (slice_index kept) (slice_index now) (slice_index q.of) one_round
 
   pub round_keeps : q.low ≡ p.count → LooksBack (system_of l) (slice_index q.of) q.low (IsOne q.live)
@@ -117,7 +140,8 @@ module _ (l : Grouped) (labelled : Labelled l) (lists : List (List (ℕ × ℕ))
       (λ s h new. splits.stays s (omega (arith, h, size)) (omega (arith, new, low))) (IsOne q.live)
 
 -- what is kept stays so when lists are added
-pub kept_grows : (l : Grouped) (old new : List (List (ℕ × ℕ))) → Grow old new → (blocks : ℕ → ℕ) (live : ℕ → Type 0) (kept : ℕ → ℕ)
+pub kept_grows : (l : Grouped) (old new : List (List (ℕ × ℕ))) → Grow old new → (blocks : ℕ → ℕ) (live : ℕ →
+    Type 0) (kept : ℕ → ℕ)
     → AreKept (Names l old) (system_of l) blocks live kept → AreKept (Names l new) (system_of l) blocks live kept
 kept_grows l old new grow blocks live kept are = record {
   alike = are.alike;
@@ -137,8 +161,10 @@ kept_grows l old new grow blocks live kept are = record {
         )
 
 -- what is kept stays so when states that are alone are left out
-pub kept_left : (l : Grouped) (lists : List (List (ℕ × ℕ))) (of old new : List ℕ) → length of ≡ l.states → LeavesAlone of old new → (kept : ℕ → ℕ)
-    → AreKept (Names l lists) (system_of l) (slice_index of) (IsOne old) kept → AreKept (Names l lists) (system_of l) (slice_index of) (IsOne new) kept
+pub kept_left : (l : Grouped) (lists : List (List (ℕ × ℕ))) (of old new : List ℕ) → length of ≡ l.states
+    → LeavesAlone of old new → (kept : ℕ → ℕ)
+    → AreKept (Names l lists) (system_of l) (slice_index of) (IsOne old) kept
+    → AreKept (Names l lists) (system_of l) (slice_index of) (IsOne new) kept
 kept_left l lists of old new size leaves kept are = record {
   alike = are.alike;
   signed = λ s h. elim (are.signed s h) [

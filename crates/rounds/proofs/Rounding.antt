@@ -1,5 +1,6 @@
 -- A round: the states that it looks at were signed, the blocks split, and the next round looks at what was found.
-use Rattle.std.proofs.Common.{◌≡◌, ◌⊎◌, ◌↔◌, ℕ, ◌<◌, ◌≤◌, List, [], ◌∷◌, length, slice_index, slice_index_or, IfSome, Contains, ap, sym, ◌∙◌, subst, subst₂, refl, inl, inr, arith}
+use Rattle.std.proofs.Common.{◌≡◌, ◌⊎◌, ◌↔◌, ℕ, ◌<◌, ◌≤◌, List, [], ◌∷◌, length, slice_index, slice_index_or, IfSome}
+use Rattle.std.proofs.Common.{Contains, ap, sym, ◌∙◌, subst, subst₂, refl, inl, inr, arith}
 use Rattle.std.proofs.Math.Logic.{⊎_map}
 use Rattle.std.proofs.lemmas.List.Elements.{All-contains}
 use Rattle.std.proofs.lemmas.Option.{IfSome_then}
@@ -32,25 +33,31 @@ use Rattle.rounds.proofs.Indexing.{indexed_left, strong_next, left_next, indexed
 use Rattle.rounds.proofs.LookingBack.{looks_back, round_splits, round_keeps}
 use Rattle.rounds.proofs.Keeping.{keeps_anew, keeps_left}
 
-module _ (l : Grouped) (lts : IsLts l) (labelled : Labelled l)
-    (sources : (s : ℕ) (places : List Triple) (e : Triple) → Contains (row_of s places) e ↔ (Contains places e × (source_of e ≡ s)))
-    (steps : (s : ℕ) (a : List ℕ) (t : ℕ) → Step (system_of l) s a t ↔ ((e : Triple) × Contains (row_of s l.places) e × (text_of l.labels (label_of e) ≡ a) × (target_of e ≡ t)))
-    (p r q : Signed) (are : AreLists r.lists) (have : HaveLists r.blocks.of r.blocks.live r.lists r.numbers) (size : length r.blocks.of ≡ l.states)
+module _ (l : Grouped) (lts : IsLts l) (labelled : Labelled l) (sources : (s : ℕ) (places : List Triple) (e : Triple) →
+    Contains (row_of s places) e ↔ (Contains places e × (source_of e ≡ s)))
+    (steps : (s : ℕ) (a : List ℕ) (t : ℕ) → Step (system_of l) s a t ↔ ((e : Triple) × Contains (row_of s l.places) e
+    × (text_of l.labels (label_of e) ≡ a) × (target_of e ≡ t)))
+    (p r q : Signed) (are : AreLists r.lists) (have : HaveLists r.blocks.of r.blocks.live r.lists r.numbers)
+    (size : length r.blocks.of ≡ l.states)
     (next : IsSplitOf r q) (are' : AreLists q.lists) where
   below : (s : ℕ) → s < l.states → (e : Triple) → Contains (row_of s l.places) e → target_of e < l.states
-  below s h e c = (All-contains (IsTriple (length l.labels) l.states) l.places e lts.in_range.each ((sources s l.places e).0 c).0).target
+  below s h e c = (All-contains (IsTriple (length l.labels) l.states) l.places e lts.in_range.each
+      ((sources s l.places e).0 c).0).target
 
   size' : length q.blocks.of ≡ l.states
   size' = next.splits.states ∙ size
 
-  parted : (s t : ℕ) → s < l.states → t < l.states → slice_index q.blocks.of s ≡ slice_index q.blocks.of t → slice_index r.blocks.of s ≡ slice_index r.blocks.of t
+  parted : (s t : ℕ) → s < l.states → t < l.states → slice_index q.blocks.of s ≡ slice_index q.blocks.of t →
+      slice_index r.blocks.of s ≡ slice_index r.blocks.of t
   parted s t ls lt e = ((next.splits.alike s t (omega (arith, ls, size)) (omega (arith, lt, size))).0 e).0
 
-  strong_split : Settled Strong (system_of l) (slice_index r.blocks.of) r.blocks.low → HasIndexed r.watch Strong l r.blocks → SignsEach Strong l p r
+  strong_split : Settled Strong (system_of l) (slice_index r.blocks.of) r.blocks.low
+      → HasIndexed r.watch Strong l r.blocks → SignsEach Strong l p r
       → Split Strong (system_of l) (slice_index r.blocks.of) (slice_index q.blocks.of)
   strong_split settled index signed =
       told_is_split l labelled r.blocks.of r.blocks.low size settled (list_of r.lists r.numbers)
-      (all_told l labelled r.blocks r.lists r.numbers steps have.none (have.states ∙ size) are.first r.watch index signed) q.blocks.of
+      (all_told l labelled r.blocks r.lists r.numbers steps have.none (have.states ∙ size) are.first r.watch index
+      signed) q.blocks.of
       (λ s t ls lt. next.splits.alike s t (omega (arith, ls, size)) (omega (arith, lt, size)))
 
   within : (s : ℕ) → s < l.states → slice_index r.numbers s < length r.lists
@@ -59,11 +66,13 @@ module _ (l : Grouped) (lts : IsLts l) (labelled : Labelled l)
   module _ (signed : SignsLists l p r) where
     back_split : Split Branching (system_of l) (slice_index r.blocks.of) (slice_index q.blocks.of)
     back_split =
-        round_splits l labelled r.lists are lts.system r.blocks q.blocks size signed.was r.kept r.numbers signed.before signed.signed signed.others signed.shows
+        round_splits l labelled r.lists are lts.system r.blocks q.blocks size signed.was r.kept r.numbers signed.before
+        signed.signed signed.others signed.shows
         within next.splits
 
     back_next : (watch : Watch) → WatchesBy watch r q → HasIndexed watch Branching l r.blocks → Watches Branching l q
-    back_next Nothing by index = left_next l steps r.blocks q.blocks size size' parted below Nothing Branching q refl by.0 by.1 index
+    back_next Nothing by index =
+        left_next l steps r.blocks q.blocks size size' parted below Nothing Branching q refl by.0 by.1 index
     back_next (Sources e) by index =
         let indexed = indexed_back_next l steps r.blocks q.blocks size size' parted below e index in
         subst (λ w. HasIndexed w Branching l q.blocks × HasKept w Branching l q) (sym by.0) (
@@ -71,13 +80,16 @@ module _ (l : Grouped) (lts : IsLts l) (labelled : Labelled l)
           elim by.1 [
             | inl on ↦
                 let back = subst (λ x. IfSome x (λ inner. LooksBackBy inner q.blocks)) indexed.apart on.back in
-                let looks = looks_back l steps (λ s a t step. step_below (system_of l) lts.system s a t step) q.blocks size' e indexed on.sources back in
+                let looks = looks_back l steps (λ s a t step. step_below (system_of l) lts.system s a t step) q.blocks
+                size' e indexed on.sources back in
                 record {
                   states = ap length on.kept ∙ signed.states;
                   numbers = subst₂ AreNumbers (sym on.lists) (sym on.kept) signed.numbers;
                   known =
-                      subst₂ (λ xs ks. AreKept (Names l xs) (system_of l) (slice_index q.blocks.of) (IsOne q.blocks.live) (slice_index ks)) (sym on.lists) (sym on.kept)
-                      (round_keeps l labelled r.lists are lts.system r.blocks q.blocks size signed.was r.kept r.numbers signed.before signed.signed signed.others signed.shows
+                      subst₂ (λ xs ks. AreKept (Names l xs) (system_of l) (slice_index q.blocks.of)
+                      (IsOne q.blocks.live) (slice_index ks)) (sym on.lists) (sym on.kept)
+                      (round_keeps l labelled r.lists are lts.system r.blocks q.blocks size signed.was r.kept r.numbers
+                      signed.before signed.signed signed.others signed.shows
                       within next.splits next.low looks);
                 }
             | inr anew ↦
@@ -86,11 +98,14 @@ module _ (l : Grouped) (lts : IsLts l) (labelled : Labelled l)
           ],
         )
 
-  pub is_next : (rel : Relation) → Settled rel (system_of l) (slice_index r.blocks.of) r.blocks.low → HasIndexed r.watch rel l r.blocks → SignsEach rel l p r
+  pub is_next : (rel : Relation) → Settled rel (system_of l) (slice_index r.blocks.of) r.blocks.low
+      → HasIndexed r.watch rel l r.blocks → SignsEach rel l p r
       → IsNext rel l r.blocks q
   is_next Strong settled index signed =
-      IsNext-from Strong l lts.system r.blocks size (list_of r.lists r.numbers) q next.splits (strong_split settled index signed)
-      (strong_next l steps r.blocks q.blocks size size' parted below r.watch r q refl refl next.watches index) next.halves next.low
+      IsNext-from Strong l lts.system r.blocks size (list_of r.lists r.numbers) q next.splits
+      (strong_split settled index signed)
+      (strong_next l steps r.blocks q.blocks size size' parted below r.watch r q refl refl next.watches index)
+      next.halves next.low
   is_next Branching settled index signed =
       IsNext-from Branching l lts.system r.blocks size (list_of r.lists r.numbers) q next.splits (back_split signed)
       (back_next signed r.watch next.watches index) next.halves next.low
@@ -105,8 +120,10 @@ watches_first rel l r live nothing is rows =
     )
 
 -- fewer states are looked at, as those that are alone are left out
-pub watches_left : (rel : Relation) (l : Grouped) (p q : Signed) → length p.blocks.of ≡ l.states → q ≡ record p { blocks = q.blocks; numbers = q.numbers }
-    → q.blocks ≡ record p.blocks { live = q.blocks.live } → LeavesAlone p.blocks.of p.blocks.live q.blocks.live → Watches rel l p → Watches rel l q
+pub watches_left : (rel : Relation) (l : Grouped) (p q : Signed) → length p.blocks.of ≡ l.states
+    → q ≡ record p { blocks = q.blocks; numbers = q.numbers }
+    → q.blocks ≡ record p.blocks { live = q.blocks.live } → LeavesAlone p.blocks.of p.blocks.live q.blocks.live
+    → Watches rel l p → Watches rel l q
 watches_left rel l p q size same is leaves w =
     subst (λ watch. HasIndexed watch rel l q.blocks × HasKept watch rel l q) (sym (ap (λ r. r.watch) same))
     (indexed_left p.watch rel l p.blocks q.blocks is leaves w.0, left p.watch rel w.1)
@@ -114,7 +131,8 @@ watches_left rel l p q size same is leaves w =
     left : (watch : Watch) (rel : Relation) → HasKept watch rel l p → HasKept watch rel l q
     left Nothing rel keeps = tt
     left (Sources e) Strong keeps = tt
-    left (Sources e) Branching keeps = keeps_left l p q size (ap (λ r. r.lists) same) (ap (λ r. r.kept) same) is leaves keeps
+    left (Sources e) Branching keeps =
+        keeps_left l p q size (ap (λ r. r.lists) same) (ap (λ r. r.kept) same) is leaves keeps
 
 -- blocks were split by the numbers of lists, which are read through a slice, and the next round looks at these states
 pub split_of : (r p q : Signed) (ns live : List ℕ) (b : RoundBlocks) → r ≡ p → AreLists r.lists
@@ -151,12 +169,14 @@ looks_on e p q ns found b split is at back lists kept = record {
     ]
 
 -- a round more, from blocks that some rounds have left
-pub one_more : (rel : Relation) (l : Grouped) (p : RoundBlocks) (of : List ℕ) (past : List (List ℕ)) (q : Signed) → p.of ≡ of → length of ≡ l.states
+pub one_more : (rel : Relation) (l : Grouped) (p : RoundBlocks) (of : List ℕ) (past : List (List ℕ)) (q : Signed)
+    → p.of ≡ of → length of ≡ l.states
     → IsNext rel l p q → AreRounds rel (system_of l) of past × WereHalved of past
     → AreRounds rel (system_of l) q.blocks.of (of ∷ past) × WereHalved q.blocks.of (of ∷ past)
 one_more rel l p of past q is size next were =
     let size' : length p.of ≡ l.states = ap length is ∙ size in
     let split = subst (λ xs. Split rel (system_of l) (slice_index xs) (slice_index q.blocks.of)) is next.split in
     let half : SplitsByHalves p.of q.blocks.of =
-    halved p.of q.blocks.of p.count (next.states ∙ sym size') (λ s h low. next.stays s (omega (arith, h, size')) low) next.halves in
+    halved p.of q.blocks.of p.count (next.states ∙ sym size') (λ s h low. next.stays s (omega (arith, h, size'))
+    low) next.halves in
     ((split, were.0), (subst (λ xs. SplitsByHalves xs q.blocks.of) is half, were.1))

@@ -1,5 +1,6 @@
 -- States that no new number can be seen from keep what they have in common.
-use Rattle.std.proofs.Common.{◌≡◌, ◌⊎◌, ◌↔◌, ◌∙◌, ℕ, ◌<◌, List, [], length, slice_index, Contains, ap, sym, subst, refl, inl, inr, arith}
+use Rattle.std.proofs.Common.{◌≡◌, ◌⊎◌, ◌↔◌, ◌∙◌, ℕ, ◌<◌, List, [], length, slice_index, Contains, ap, sym, subst, refl}
+use Rattle.std.proofs.Common.{inl, inr, arith}
 use Rattle.theory.specs.System.{System, IsSystem, Step}
 use Rattle.theory.specs.declared.relation.Relation.{Relation}
 use Rattle.theory.specs.declared.relation.Relation.TheVariants.{Strong, Branching}
@@ -33,12 +34,15 @@ settled_first Branching A blocks s t ls lt e of_s of_t a b = absurd of_s
 abbrev pub Stays : System → (ℕ → ℕ) → (ℕ → ℕ) → ℕ → Type 0
 Stays A old new low = (s : ℕ) → s < A.states → new s < low → new s ≡ old s
 
-module _ (A : System) (old new : ℕ → ℕ) (low : ℕ) (inside : (s : ℕ) (a : List ℕ) (t : ℕ) → Step A s a t → t < A.states) (stays : Stays A old new low) where
+module _ (A : System) (old new : ℕ → ℕ) (low : ℕ) (inside : (s : ℕ) (a : List ℕ) (t : ℕ) → Step A s a t →
+    t < A.states) (stays : Stays A old new low) where
   -- what a still state shows now it has shown before, and the other way round
-  shown_before : (s : ℕ) → IsStill Strong A new low s → (a : List ℕ) (b : ℕ) → Signature Strong A new s a b → Signature Strong A old s a b
+  shown_before : (s : ℕ) → IsStill Strong A new low s → (a : List ℕ) (b : ℕ) → Signature Strong A new s a b →
+      Signature Strong A old s a b
   shown_before s still a b h = (h.0, h.1, sym (stays h.0 (inside s a h.0 h.1) (still a h.0 h.1)) ∙ h.2)
 
-  shown_now : (s : ℕ) → IsStill Strong A new low s → (a : List ℕ) (b : ℕ) → Signature Strong A old s a b → Signature Strong A new s a b
+  shown_now : (s : ℕ) → IsStill Strong A new low s → (a : List ℕ) (b : ℕ) → Signature Strong A old s a b →
+      Signature Strong A new s a b
   shown_now s still a b h = (h.0, h.1, stays h.0 (inside s a h.0 h.1) (still a h.0 h.1) ∙ h.2)
 
   -- after each round the numbers from the count before it on are new
@@ -64,11 +68,12 @@ not_empty l labelled blocks low s xs touched signed e =
     let number = labelled s touched.0 touched.1 touched.2 in
     let pair : HasPair Strong l blocks s number.0 (slice_index blocks touched.1) =
     (number.1.below, (touched.1, subst (λ a. Step (system_of l) s a touched.1) (sym number.1.text) touched.2, refl)) in
-    let c = subst (λ zs. Contains zs (number.0, slice_index blocks touched.1)) e ((signed.exactly number.0 (slice_index blocks touched.1)).1 pair) in
+    let c = subst (λ zs. Contains zs (number.0, slice_index blocks touched.1)) e
+    ((signed.exactly number.0 (slice_index blocks touched.1)).1 pair) in
     absurd (omega (arith, c.1))
 
--- the list that a state has tells its signature from those of the others of its block: it is put down for it, or no other state has the
--- block
+-- the list that a state has tells its signature from those of the others of its block: it is put down for it, or no
+-- other state has the block
 abbrev pub IsTold : Grouped → List ℕ → ℕ → (ℕ → List (ℕ × ℕ)) → ℕ → Type 0
 IsTold l p low signature s = IsPut Strong l p low s (signature s) ⊎ IsAlone p s
 
@@ -127,14 +132,16 @@ module _ (l : Grouped) (labelled : Labelled l) (p : List ℕ) (low : ℕ) (state
   )
 
 -- the Split of blocks, with their numbers: those from the count on are new
-module _ (rel : Relation) (l : Grouped) (sys : IsSystem (system_of l)) (p : RoundBlocks) (states : length p.of ≡ l.states)
+module _ (rel : Relation) (l : Grouped) (sys : IsSystem (system_of l)) (p : RoundBlocks)
+    (states : length p.of ≡ l.states)
     (signature : ℕ → List (ℕ × ℕ)) (r : Signed) (splits : Splits p.of p.count signature r.blocks.of r.blocks.count)
     (split : Split rel (system_of l) (slice_index p.of) (slice_index r.blocks.of)) where
   stays : (s : ℕ) → s < l.states → slice_index r.blocks.of s < p.count → slice_index r.blocks.of s ≡ slice_index p.of s
   stays s ls low = splits.stays s (omega (arith, ls, states)) low
 
   kept : r.blocks.count ≡ p.count → (s : ℕ) → s < l.states → slice_index r.blocks.of s ≡ slice_index p.of s
-  kept e s ls = let low = splits.blocks.below s (omega (arith, ls, states, splits.states)) in stays s ls (omega (arith, low, e))
+  kept e s ls = let low = splits.blocks.below s (omega (arith, ls, states, splits.states)) in
+      stays s ls (omega (arith, low, e))
 
   same : r.blocks.count ≡ p.count → SameBlocks (system_of l) (slice_index p.of) (slice_index r.blocks.of)
   same e s t ls lt = (
@@ -157,7 +164,8 @@ module _ (rel : Relation) (l : Grouped) (sys : IsSystem (system_of l)) (p : Roun
 
 -- each list tells the signature of its state
 module _ (l : Grouped) (labelled : Labelled l) (p : RoundBlocks) (lists : List (List (ℕ × ℕ))) (numbers : List ℕ)
-    (steps : (s : ℕ) (a : List ℕ) (t : ℕ) → Step (system_of l) s a t ↔ ((e : Triple) × Contains (row_of s l.places) e × (text_of l.labels (label_of e) ≡ a) × (target_of e ≡ t)))
+    (steps : (s : ℕ) (a : List ℕ) (t : ℕ) → Step (system_of l) s a t ↔ ((e : Triple) × Contains (row_of s l.places) e
+    × (text_of l.labels (label_of e) ≡ a) × (target_of e ≡ t)))
     (none : HaveNone p.live numbers) (size : length numbers ≡ l.states) (first : list_at lists 0 ≡ []) where
   -- a state that is not looked at is alone, or still, and then has no other list than the empty one
   told : {R : ℕ → Type 0} → ((s : ℕ) → R s → IsStill Strong (system_of l) (slice_index p.of) p.low s)
@@ -170,7 +178,8 @@ module _ (l : Grouped) (labelled : Labelled l) (p : RoundBlocks) (lists : List (
     | inr zero ↦ inl (inr (still s x, ap (list_at lists) zero ∙ first))
   ]
 
-  pub all_told : (watch : Watch) → HasIndexed watch Strong l p → ArePut Strong l p.of p.low p.live (list_of lists numbers)
+  pub all_told : (watch : Watch) → HasIndexed watch Strong l p
+      → ArePut Strong l p.of p.low p.live (list_of lists numbers)
       → (s : ℕ) → s < l.states → IsTold l p.of p.low (list_of lists numbers) s
   all_told Nothing others put s ls =
       told (λ s empty a t step. absurd (no_step l s (steps s) empty a t step)) put s ls (others s ls)

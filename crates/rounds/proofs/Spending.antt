@@ -5,7 +5,8 @@ use Rattle.std.proofs.Math.Nat.{suc-mul, add-mul}
 use Rattle.lts.specs.Meter.{Counts, HasRoomFor, Costs, CostsUpTo}
 
 -- a round that was begun, and read so far, is at most one round
-pub begun_up_to : (old begun at : Counts) (n least : ℕ) → Costs old begun 1 0 0 → Costs begun at 0 least n → CostsUpTo old at 1 n
+pub begun_up_to : (old begun at : Counts) (n least : ℕ) → Costs old begun 1 0 0 → Costs begun at 0 least n →
+    CostsUpTo old at 1 n
 begun_up_to old begun at n least start read = (1, omega arith, omega arith)
 
 module _ (n states k : ℕ) (old at : Counts) (made : Costs old at k (k * n) (k * n)) where

@@ -1,5 +1,6 @@
 -- The pairs of a state's row, in rising order and each once, are its strong signature.
-use Rattle.std.proofs.Common.{◌≡◌, ◌↔◌, ℕ, ◌+◌, ◌-◌, ◌*◌, ◌/◌, ◌%◌, List, [], ◌∷◌, ◌++◌, length, take, map, slice_index, Contains, refl, ◌∙◌, ap, subst, inl, inr, arith}
+use Rattle.std.proofs.Common.{◌≡◌, ◌↔◌, ℕ, ◌+◌, ◌-◌, ◌*◌, ◌/◌, ◌%◌, List, [], ◌∷◌, ◌++◌, length, take, map, slice_index}
+use Rattle.std.proofs.Common.{Contains, refl, ◌∙◌, ap, subst, inl, inr, arith}
 use Rattle.std.proofs.lemmas.Grind.{common_steps}
 use Rattle.std.proofs.lemmas.Bool.{cases_lt}
 use Rattle.std.proofs.lemmas.List.Elements.{All-contains}
@@ -16,13 +17,18 @@ use Rattle.rounds.specs.Settled.{HasFrom, IsTouched, IsStill}
 module _ (l : Grouped) (blocks : List ℕ) (s : ℕ) (h : IsLts l)
     (sources : (e : Triple) → Contains (row_of s l.places) e ↔ (Contains l.places e × (source_of e ≡ s)))
     (steps : (a : List ℕ) (t : ℕ)
-    → Step (system_of l) s a t ↔ ((e : Triple) × Contains (row_of s l.places) e × (text_of l.labels (label_of e) ≡ a) × (target_of e ≡ t))) where
+    → Step (system_of l) s a t ↔ ((e : Triple) × Contains (row_of s l.places) e × (text_of l.labels (label_of e) ≡ a)
+    × (target_of e ≡ t))) where
   in_range : (e : Triple) → Contains (row_of s l.places) e → IsTriple (length l.labels) l.states e
   in_range e c = All-contains (IsTriple (length l.labels) l.states) l.places e h.in_range.each ((sources e).0 c).0
 
   -- a pair of a transition is one of the signature
-  has_pair : (e : Triple) → Contains (row_of s l.places) e → HasPair Strong l blocks s (label_of e) (slice_index blocks (target_of e))
-  has_pair e c = ((in_range e c).label, (target_of e, (steps (text_of l.labels (label_of e)) (target_of e)).1 (e, c, refl, refl), refl))
+  has_pair : (e : Triple) → Contains (row_of s l.places) e →
+      HasPair Strong l blocks s (label_of e) (slice_index blocks (target_of e))
+  has_pair e c = (
+    (in_range e c).label,
+    (target_of e, (steps (text_of l.labels (label_of e)) (target_of e)).1 (e, c, refl, refl), refl),
+  )
 
   -- and the other way round
   pair_has : (k b : ℕ) → HasPair Strong l blocks s k b → Contains (map (pair_under blocks) (row_of s l.places)) (k, b)
@@ -41,20 +47,23 @@ module _ (l : Grouped) (blocks : List ℕ) (s : ℕ) (h : IsLts l)
 
   -- the row's pairs in rising order, each once
   pub row_signature : (zs : List (ℕ × ℕ)) → IsStrictlySortedBy pair_cmp zs
-      → ((z : ℕ × ℕ) → Contains zs z ↔ Contains (map (pair_under blocks) (row_of s l.places)) z) → IsSignature Strong l blocks s zs
+      → ((z : ℕ × ℕ) → Contains zs z ↔ Contains (map (pair_under blocks) (row_of s l.places)) z)
+      → IsSignature Strong l blocks s zs
   row_signature zs rising same = record {
     exactly = λ k b. (λ c. has (k, b) ((same (k, b)).0 c), λ p. (same (k, b)).1 (pair_has k b p));
     rising = rising;
   }
 
   -- a state whose row has a new number is touched
-  pub row_touched : (low : ℕ) → HasFrom low (map (pair_under blocks) (row_of s l.places)) → IsTouched Strong (system_of l) (slice_index blocks) low s
+  pub row_touched : (low : ℕ) → HasFrom low (map (pair_under blocks) (row_of s l.places)) →
+      IsTouched Strong (system_of l) (slice_index blocks) low s
   row_touched low h =
       let its = has h.0 h.1 in
       (text_of l.labels h.0.0, its.1.0, its.1.1, omega (arith, h.2, its.1.2))
 
   -- and one whose row has none is still
-  pub row_still : (low : ℕ) → (HasFrom low (map (pair_under blocks) (row_of s l.places)) → ⊥) → IsStill Strong (system_of l) (slice_index blocks) low s
+  pub row_still : (low : ℕ) → (HasFrom low (map (pair_under blocks) (row_of s l.places)) → ⊥) →
+      IsStill Strong (system_of l) (slice_index blocks) low s
   row_still low none a t step =
       let found = (steps a t).0 step in
       let at : slice_index blocks (target_of found.0) ≡ slice_index blocks t = ap (slice_index blocks) found.3 in

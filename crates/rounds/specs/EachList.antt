@@ -9,8 +9,8 @@ use Rattle.rounds.specs.declared.signed_blocks.Watch.TheVariants.{Nothing, Sourc
 abbrev pub list_of : List (List (ℕ × ℕ)) → List ℕ → ℕ → List (ℕ × ℕ)
 list_of lists numbers s = list_at lists (slice_index numbers s)
 
--- the blocks of a round, lists, for each state the number of the list that the split is given and of the list that is kept for it, and
--- the index
+-- the blocks of a round, lists, for each state the number of the list that the split is given and of the list that is
+-- kept for it, and the index
 pub record Signed : Type 0 where
   pub blocks : RoundBlocks
   pub lists : List (List (ℕ × ℕ))

@@ -16,16 +16,18 @@ use Rattle.rounds.specs.declared.signed_blocks.Watch.TheVariants.{Nothing}
 -- the list number k has the pairs of the signature of s, by label numbers, in rising order
 abbrev pub Names : Grouped → List (List (ℕ × ℕ)) → (ℕ → ℕ) → ℕ → ℕ → Type 0
 Names l lists blocks s k = (k < length lists) × IsStrictlySortedBy pair_cmp (list_at lists k) × ((j b : ℕ) →
-    Contains (list_at lists k) (j, b) ↔ ((j < length l.labels) × Signature Branching (system_of l) blocks s (text_of l.labels j) b))
+    Contains (list_at lists k) (j, b) ↔ ((j < length l.labels) × Signature Branching (system_of l) blocks s
+    (text_of l.labels j) b))
 
 -- for each state a list is kept, by its number; and what is known of them before a round
 pub record KeepsLists (l : Grouped) (r : Signed) : Type 0 where
   pub states : length r.kept ≡ l.states
   pub numbers : AreNumbers r.lists r.kept
-  pub known : AreKept (Names l r.lists) (system_of l) (slice_index r.blocks.of) (IsOne r.blocks.live) (slice_index r.kept)
+  pub known : AreKept (Names l r.lists) (system_of l) (slice_index r.blocks.of) (IsOne r.blocks.live)
+      (slice_index r.kept)
 
--- the states that a round looks at have the lists of their signatures, the others those that were kept for them, and the split is given
--- the lists that have changed
+-- the states that a round looks at have the lists of their signatures, the others those that were kept for them, and
+-- the split is given the lists that have changed
 pub record SignsLists (l : Grouped) (p r : Signed) : Type 0 where
   pub was : List ℕ
   pub before : AreKept (Names l r.lists) (system_of l) (slice_index r.blocks.of) (IsOne r.blocks.live) (slice_index was)

@@ -13,8 +13,8 @@ use Rattle.rounds.specs.Settled.{Settled}
 use Rattle.rounds.specs.EachList.{Signed}
 use Rattle.rounds.specs.Watching.{Watches}
 
--- the blocks of q are the Split of the blocks p. Their numbers from the count of p on are new, and a state that the next round does not
--- look at need not be
+-- the blocks of q are the Split of the blocks p. Their numbers from the count of p on are new, and a state that the
+-- next round does not look at need not be
 pub record IsNext (rel : Relation) (l : Grouped) (p : RoundBlocks) (q : Signed) : Type 0 where
   pub states : length q.blocks.of ≡ l.states
   pub split : Split rel (system_of l) (slice_index p.of) (slice_index q.blocks.of)
@@ -24,7 +24,8 @@ pub record IsNext (rel : Relation) (l : Grouped) (p : RoundBlocks) (q : Signed) 
   pub watches : Watches rel l q
   pub halves : Halves p.of p.count q.blocks.of
   pub grows : p.count ≤ q.blocks.count
-  pub stays : (s : ℕ) → s < l.states → slice_index q.blocks.of s < p.count → slice_index q.blocks.of s ≡ slice_index p.of s
+  pub stays : (s : ℕ) → s < l.states → slice_index q.blocks.of s < p.count →
+      slice_index q.blocks.of s ≡ slice_index p.of s
   pub same : q.blocks.count ≡ p.count → SameBlocks (system_of l) (slice_index p.of) (slice_index q.blocks.of)
   pub parted : ¬ (q.blocks.count ≡ p.count) → ¬ SameBlocks (system_of l) (slice_index p.of) (slice_index q.blocks.of)
 
@@ -41,7 +42,8 @@ pub record RenumbersFew (rel : Relation) (A : System) (blocks : List ℕ) : Type
   pub same : SameBlocks A (slice_index last) (slice_index blocks)
   pub few : (s : ℕ) → s < A.states → 2 ^ renumberings last past s ≤ A.states
 
--- so many rounds were made from one block, each of which has split something and made as many visits as there are transitions
+-- so many rounds were made from one block, each of which has split something and made as many visits as there are
+-- transitions
 pub record Made (rel : Relation) (l : Grouped) (old at : Counts) (blocks : List ℕ) : Type 0 where
   pub rounds : ℕ
   pub past : List (List ℕ)

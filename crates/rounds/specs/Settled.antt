@@ -1,5 +1,5 @@
--- What need not be signed again: a state that no new block number can be seen from. Blocks keep their numbers, and those from
--- `low` on are new.
+-- What need not be signed again: a state that no new block number can be seen from. Blocks keep their numbers, and
+-- those from `low` on are new.
 use Rattle.std.specs.Prelude.{◌≡◌, ◌⊎◌, ℕ, ◌<◌, ◌≤◌, List, [], slice_index}
 use Rattle.std.specs.List.{Contains}
 use Rattle.theory.specs.System.{System, Step}

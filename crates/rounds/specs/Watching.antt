@@ -15,7 +15,8 @@ use Rattle.rounds.specs.declared.entering.Reach.{Reach}
 use Rattle.rounds.specs.declared.signed_blocks.Watch.{Watch}
 use Rattle.rounds.specs.declared.signed_blocks.Watch.TheVariants.{Nothing, Sources}
 
--- what the index has of the transitions. Before there is one, all states are looked at that are not alone and have a transition
+-- what the index has of the transitions. Before there is one, all states are looked at that are not alone and have a
+-- transition
 abbrev pub HasIndexed : Watch → Relation → Grouped → RoundBlocks → Type 0
 HasIndexed Nothing rel l p = LeavesOut l p.of p.live
 HasIndexed (Sources e) Strong l p = AreWatched l p e.sources
@@ -45,7 +46,8 @@ pub record HasBegun (l : Grouped) (reach : Reach) (p r : Signed) : Type 0 where
 abbrev pub Begins : Grouped → Reach → Signed → Signed → Type 0
 Begins l reach p r = (r ≡ p) ⊎ HasBegun l reach p r
 
--- the states that a round looks at are signed. Strong: each has its signature, or no pairs where it leads to no new block
+-- the states that a round looks at are signed. Strong: each has its signature, or no pairs where it leads to no new
+-- block
 abbrev pub SignsEach : Relation → Grouped → Signed → Signed → Type 0
 SignsEach Strong l p r = ArePut Strong l r.blocks.of r.blocks.low r.blocks.live (list_of r.lists r.numbers)
 SignsEach Branching l p r = SignsLists l p r

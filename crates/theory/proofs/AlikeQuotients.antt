@@ -1,4 +1,5 @@
--- Systems that have the same steps have the same leaders, numbers and quotients, and a quotient is one in any order of its list.
+-- Systems that have the same steps have the same leaders, numbers and quotients, and a quotient is one in any order of
+-- its list.
 use Rattle.std.proofs.Common.{◌≡◌, ◌≢◌, ◌↔◌, ℕ, ◌<◌, sym, ◌∙◌, subst, inl, inr}
 use Rattle.std.specs.List.Sorted.{IsPermutation}
 use Rattle.std.proofs.lemmas.List.Sorted.{IsPermutation-sym, Contains-permutation}
@@ -15,7 +16,8 @@ use Rattle.theory.proofs.Reordering.{all_pairs_permutation}
 least_like : (P Q : ℕ → Type 0) (n : ℕ) → ((k : ℕ) → P k ↔ Q k) → Least P n → Least Q n
 least_like P Q n like (held, least) = ((like n).0 held, λ k q. least k ((like k).1 q))
 
-first_alike : (rel : Relation) (A B : System) → SameSteps A B → (s : ℕ) → Bisimilar rel A s A A.first → Bisimilar rel B s B B.first
+first_alike : (rel : Relation) (A B : System) → SameSteps A B → (s : ℕ) → Bisimilar rel A s A A.first →
+    Bisimilar rel B s B B.first
 first_alike rel A B same s b =
     subst (λ x. Bisimilar rel B s B x) same.first (bisimilar_alike rel A B A B s A.first same same b)
 
@@ -28,21 +30,25 @@ leader_alike rel A B same s l (inr (apart, least)) =
     let back : SameSteps B A = same_steps_sym A B same in
     inr (
       λ b. apart (first_alike rel B A back s b),
-      least_like (Fellow rel A s) (Fellow rel B s) l (λ t. (fellow_alike rel A B same s t, fellow_alike rel B A back s t)) least,
+      least_like (Fellow rel A s) (Fellow rel B s) l
+          (λ t. (fellow_alike rel A B same s t, fellow_alike rel B A back s t)) least,
     )
 
 is_leader_alike : (rel : Relation) (A B : System) → SameSteps A B → (l : ℕ) → IsLeader rel A l → IsLeader rel B l
-is_leader_alike rel A B same l (s, path, leader) = (s, reachable_alike A B same s path, leader_alike rel A B same s l leader)
+is_leader_alike rel A B same l (s, path, leader) =
+    (s, reachable_alike A B same s path, leader_alike rel A B same s l leader)
 
 -- a leader other than the first state that is smaller than l
 abbrev Earlier : Relation → System → ℕ → ℕ → Type 0
 Earlier rel A l m = IsLeader rel A m × (m < l) × (m ≢ A.first)
 
 earlier_alike : (rel : Relation) (A B : System) → SameSteps A B → (l m : ℕ) → Earlier rel A l m → Earlier rel B l m
-earlier_alike rel A B same l m (leads, low, other) = (is_leader_alike rel A B same m leads, low, λ e. other (e ∙ sym same.first))
+earlier_alike rel A B same l m (leads, low, other) =
+    (is_leader_alike rel A B same m leads, low, λ e. other (e ∙ sym same.first))
 
 number_alike : (rel : Relation) (A B : System) → SameSteps A B → (s n : ℕ) → Number rel A s n → Number rel B s n
-number_alike rel A B same s n (l, leader, inl p) = (l, leader_alike rel A B same s l leader, inl (p.0 ∙ same.first, p.1))
+number_alike rel A B same s n (l, leader, inl p) =
+    (l, leader_alike rel A B same s l leader, inl (p.0 ∙ same.first, p.1))
 number_alike rel A B same s n (l, leader, inr (other, k, many, is)) =
     let back : SameSteps B A = same_steps_sym A B same in (
       l,
@@ -92,5 +98,6 @@ quotient_reordered rel A Q R first states moved quotient =
         λ c. (quotient.transitions e).0 (Contains-permutation R.transitions Q.transitions e moved c),
         λ h. Contains-permutation Q.transitions R.transitions e turned ((quotient.transitions e).1 h),
       );
-      once = all_pairs_permutation (λ e f. e ≢ f) (λ e f differ same. differ (sym same)) Q.transitions R.transitions turned quotient.once;
+      once = all_pairs_permutation (λ e f. e ≢ f) (λ e f differ same. differ (sym same)) Q.transitions R.transitions
+          turned quotient.once;
     }

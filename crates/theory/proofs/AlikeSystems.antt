@@ -22,7 +22,8 @@ same_steps_sym A B same = record {
 }
 
 -- a list in another order has the same steps
-pub same_steps_permuted : (A B : System) → A.first ≡ B.first → A.states ≡ B.states → IsPermutation A.transitions B.transitions
+pub same_steps_permuted : (A B : System) → A.first ≡ B.first → A.states ≡ B.states
+    → IsPermutation A.transitions B.transitions
     → SameSteps A B
 same_steps_permuted A B first states moved = record {
   first = first;
@@ -99,7 +100,8 @@ signature_alike Branching A B same blocks s a b (u, t, path, step, at, shown) = 
 -- by one relation on A the same is shown under any blocks as by two on B, which has as many states
 pub record SameSignatures (one two : Relation) (A B : System) : Type 0 where
   pub states : A.states ≡ B.states
-  pub shown : (blocks : ℕ → ℕ) (s : ℕ) (a : List ℕ) (b : ℕ) → Signature one A blocks s a b ↔ Signature two B blocks s a b
+  pub shown : (blocks : ℕ → ℕ) (s : ℕ) (a : List ℕ) (b : ℕ) →
+      Signature one A blocks s a b ↔ Signature two B blocks s a b
 
 signatures_alike : (rel : Relation) (A B : System) → SameSteps A B → SameSignatures rel rel A B
 signatures_alike rel A B same = record {
@@ -123,7 +125,8 @@ module _ (one two : Relation) (A B : System) (same : SameSignatures one two A B)
 
   -- the same states
   each_two_alike : (P : ℕ → ℕ → Type 0) → EachTwo A P → EachTwo B P
-  each_two_alike P h s t ls lt = h s t (subst (λ n. s < n) (sym same.states) ls) (subst (λ n. t < n) (sym same.states) lt)
+  each_two_alike P h s t ls lt =
+      h s t (subst (λ n. s < n) (sym same.states) ls) (subst (λ n. t < n) (sym same.states) lt)
 
 -- the same Splits
 module _ (one two : Relation) (A B : System) (same : SameSignatures one two A B) where
@@ -150,7 +153,8 @@ module _ (one two : Relation) (A B : System) (same : SameSignatures one two A B)
   )
 
 -- and as many of them
-pub same_signatures_turns : (one two : Relation) (A B : System) → SameSignatures one two A B → (k : ℕ) → Turns one A k → Turns two B k
+pub same_signatures_turns : (one two : Relation) (A B : System) → SameSignatures one two A B → (k : ℕ) →
+    Turns one A k → Turns two B k
 same_signatures_turns one two A B same k turns = record {
   last = changes_nothing_alike one two A B same k turns.last;
   least = λ j low none. turns.least j low (changes_nothing_alike two one B A (turned one two A B same) j none);

@@ -7,7 +7,8 @@ use Rattle.theory.proofs.AlikeSystems.{same_steps_sym}
 use Rattle.theory.proofs.UnionSteps.{union_step, step_left, step_right}
 
 module _ (A B C D : System) where
-  step_alike : SameSteps A B → SameSteps C D → (s : ℕ) (a : List ℕ) (t : ℕ) → Step (union_of A C) s a t → Step (union_of B D) s a t
+  step_alike : SameSteps A B → SameSteps C D → (s : ℕ) (a : List ℕ) (t : ℕ) → Step (union_of A C) s a t →
+      Step (union_of B D) s a t
   step_alike one other s a t step = elim (union_step A C s a t step) [
     | inl c ↦ step_left B D s a t ((one.steps s a t).0 c)
     | inr (e, c, same) ↦

@@ -1,5 +1,5 @@
--- Relations that answer, for both bisimulations: a larger one answers too, two together are one, and a decided one makes
--- states bisimilar.
+-- Relations that answer, for both bisimulations: a larger one answers too, two together are one, and a decided one
+-- makes states bisimilar.
 use Rattle.std.proofs.Common.{◌≡◌, ◌⊎◌, ◌↔◌, ℕ, ◌+◌, ◌<◌, List, refl, subst, inl, inr, arith}
 use Rattle.theory.specs.System.{System, IsSystem, Internal}
 use Rattle.theory.specs.Bisimulation.{Answers, IsBisimulation, Pairs, Bisimilar}
@@ -49,7 +49,8 @@ bisimulation_or_same rel A R system bisimulation = record {
         (answers_itself rel A (OrSame A R) system (λ x h. inr (h, refl)) s same.0)
   ];
   back = λ s t related. elim related [
-    | inl r ↦ answers_weaker rel A A (λ y x. R x y) (λ y x. OrSame A R x y) (λ y x h. inl h) t s (bisimulation.back s t r)
+    | inl r ↦
+        answers_weaker rel A A (λ y x. R x y) (λ y x. OrSame A R x y) (λ y x h. inl h) t s (bisimulation.back s t r)
     | inr same ↦ subst (λ x. Answers rel A A (λ z y. OrSame A R y z) x s) same.1
         (answers_itself rel A (λ y x. OrSame A R x y) system (λ x h. inr (h, refl)) s same.0)
   ];
@@ -61,7 +62,8 @@ pub bisimulation_like : (rel : Relation) (A B : System) (R Q : ℕ → ℕ → T
 bisimulation_like rel A B R Q like bis = record {
   states = λ s t q. bis.states s t ((like s t).1 q);
   forth = λ s t q. answers_weaker rel A B R Q (λ x y. (like x y).0) s t (bis.forth s t ((like s t).1 q));
-  back = λ s t q. answers_weaker rel B A (λ y x. R x y) (λ y x. Q x y) (λ y x. (like x y).0) t s (bis.back s t ((like s t).1 q));
+  back = λ s t q. answers_weaker rel B A (λ y x. R x y) (λ y x. Q x y) (λ y x. (like x y).0) t s
+      (bis.back s t ((like s t).1 q));
 }
 
 -- two bisimulations together are one
@@ -87,13 +89,16 @@ pairs_decided pairs s t =
     (some_in (λ x. (x.0 ≡ s) × (x.1 ≡ t)) (λ x. both (same_number x.0 s) (same_number x.1 t)) pairs)
 
 -- states that a decided bisimulation relates are bisimilar
-pub bisimilar_by : (rel : Relation) (A B : System) (R : ℕ → ℕ → Type 0) → ((s t : ℕ) → Dec (R s t)) → IsBisimulation rel A B R
+pub bisimilar_by : (rel : Relation) (A B : System) (R : ℕ → ℕ → Type 0) → ((s t : ℕ) → Dec (R s t))
+    → IsBisimulation rel A B R
     → (s t : ℕ) → R s t → Bisimilar rel A s B t
 bisimilar_by rel A B R d bis s t r =
     let n : ℕ = A.states + B.states in
-    let all : (pairs : List (ℕ × ℕ)) × ((s t : ℕ) → Pairs pairs s t ↔ ((s < n) × (t < n) × R s t)) = pairs_listed n R d in (
+    let all : (pairs : List (ℕ × ℕ)) × ((s t : ℕ) →
+    Pairs pairs s t ↔ ((s < n) × (t < n) × R s t)) = pairs_listed n R d in (
       all.0,
-      bisimulation_like rel A B R (Pairs all.0) (λ x y. (λ q. (all.1 x y).1 (within x y q), λ c. ((all.1 x y).0 c).2)) bis,
+      bisimulation_like rel A B R (Pairs all.0) (λ x y. (λ q. (all.1 x y).1 (within x y q), λ c. ((all.1 x y).0 c).2))
+          bis,
       (all.1 s t).1 (within s t r),
     )
   where

@@ -11,7 +11,8 @@ answers_strongly A B R s t r answer = λ x s' step.
     inr (t, found.0, ([], refl), found.1, r, found.2)
 
 -- a strong bisimulation is a branching one
-pub strong_is_branching : (A B : System) (R : ℕ → ℕ → Type 0) → IsBisimulation Strong A B R → IsBisimulation Branching A B R
+pub strong_is_branching : (A B : System) (R : ℕ → ℕ → Type 0) → IsBisimulation Strong A B R →
+    IsBisimulation Branching A B R
 strong_is_branching A B R meets = record {
   states = meets.states;
   forth = λ s t r. answers_strongly A B R s t r (meets.forth s t r);

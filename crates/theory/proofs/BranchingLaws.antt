@@ -8,7 +8,8 @@ use Rattle.theory.specs.System.{System, IsSystem, Step, Internal, Along, Leads, 
 use Rattle.theory.specs.Bisimulation.{IsBisimulation, BranchingAnswers}
 use Rattle.theory.specs.declared.relation.Relation.TheVariants.{Branching}
 use Rattle.theory.specs.Blocks.{Inert, Signature, SameSignature, Split, Kept, Stable, Share, OneBlock}
-use Rattle.theory.proofs.Paths.{leads_here, leads_step, leads_append, leads_on, leads_answered, leads_keeps, leads_map, step_below, silent_below}
+use Rattle.theory.proofs.Paths.{leads_here, leads_step, leads_append, leads_on, leads_answered, leads_keeps, leads_map}
+use Rattle.theory.proofs.Paths.{step_below, silent_below}
 
 module _ (A : System) (blocks : ℕ → ℕ) where
   -- inert steps stay in the block
@@ -64,7 +65,10 @@ branching_split A old new system kept split s u t below su ut same =
     let second = silent_inert A old system kept u t u_below ut (inside ∙ shared.0) in
     (split u s u_below below).1 (
       inside,
-      λ a b. (signature_before A old s u first a b, λ can. signature_before A old u t second a b ((shared.1 a b).0 can)),
+      λ a b. (
+        signature_before A old s u first a b,
+        λ can. signature_before A old u t second a b ((shared.1 a b).0 can),
+      ),
     )
 
 -- states of A that are related to one state of B have equal signatures, if all such states share kept blocks

@@ -51,9 +51,11 @@ via_joined : (R : ℕ → ℕ → Type 0) (k s u t : ℕ) → u < k → Via R k 
 via_joined R zero s u t l h g = absurd (omega (arith, l))
 via_joined R (suc k) s u t l h g = via_step R k (λ x y z. via_joined R k x y z) s u t l h g
 
-leads_via : (R : ℕ → ℕ → Type 0) (n : ℕ) → ((s t : ℕ) → R s t → t < n) → (us : List ℕ) (s t : ℕ) → Along R s us t → Via R n s t
+leads_via : (R : ℕ → ℕ → Type 0) (n : ℕ) → ((s t : ℕ) → R s t → t < n) → (us : List ℕ) (s t : ℕ) →
+    Along R s us t → Via R n s t
 leads_via R n b [] s t h = via_from R n s t (inl h)
-leads_via R n b (u ∷ us) s t h = via_joined R n s u t (b s u h.0) (via_from R n s u (inr h.0)) (leads_via R n b us u t h.1)
+leads_via R n b (u ∷ us) s t h =
+    via_joined R n s u t (b s u h.0) (via_from R n s u (inr h.0)) (leads_via R n b us u t h.1)
 
 -- whether R leads from s to t is decided, if R is decided and leads to numbers below n only
 pub leads_decided : (R : ℕ → ℕ → Type 0) (n : ℕ) → ((s t : ℕ) → Dec (R s t)) → ((s t : ℕ) → R s t → t < n)

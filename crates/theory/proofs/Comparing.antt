@@ -13,7 +13,8 @@ use Rattle.theory.proofs.Embeddings.{embeds_itself, bisimilar_there, bisimilar_b
 use Rattle.theory.proofs.UnionSteps.{union_system, embeds_left, embeds_right}
 
 -- bisimilar states are states
-pub bisimilar_states : (rel : Relation) (A B : System) (s t : ℕ) → Bisimilar rel A s B t → (s < A.states) × (t < B.states)
+pub bisimilar_states : (rel : Relation) (A B : System) (s t : ℕ) → Bisimilar rel A s B t →
+    (s < A.states) × (t < B.states)
 bisimilar_states rel A B s t (pairs, meets, c) = meets.states s t c
 
 module _ (rel : Relation) (A B : System) (sys : IsSystem A) (sys' : IsSystem B) where
@@ -23,7 +24,8 @@ module _ (rel : Relation) (A B : System) (sys : IsSystem A) (sys' : IsSystem B) 
   union_across s t low low' =
       let U : System = union_of A B in (
         bisimilar_there rel A U B U (λ x. x) (λ x. A.states + x) (embeds_left A B) (embeds_right A B sys) s t,
-        bisimilar_back rel A U B U (λ x. x) (λ x. A.states + x) (embeds_left A B) (embeds_right A B sys) s t sys sys' low low',
+        bisimilar_back rel A U B U (λ x. x) (λ x. A.states + x) (embeds_left A B) (embeds_right A B sys) s t
+            sys sys' low low',
       )
 
   -- two states of the first system
@@ -40,14 +42,17 @@ module _ (rel : Relation) (A B : System) (sys : IsSystem A) (sys' : IsSystem B) 
       → Bisimilar rel B s B t ↔ Bisimilar rel (union_of A B) (A.states + s) (union_of A B) (A.states + t)
   union_within_right s t low low' =
       let U : System = union_of A B in (
-        bisimilar_there rel B U B U (λ x. A.states + x) (λ x. A.states + x) (embeds_right A B sys) (embeds_right A B sys) s t,
-        bisimilar_back rel B U B U (λ x. A.states + x) (λ x. A.states + x) (embeds_right A B sys) (embeds_right A B sys) s t sys' sys' low low',
+        bisimilar_there rel B U B U (λ x. A.states + x) (λ x. A.states + x) (embeds_right A B sys)
+            (embeds_right A B sys) s t,
+        bisimilar_back rel B U B U (λ x. A.states + x) (λ x. A.states + x) (embeds_right A B sys) (embeds_right A B sys)
+            s t sys' sys' low low',
       )
 
   -- each state is bisimilar to its place in the union
   pub union_of_left : (s : ℕ) → s < A.states → Bisimilar rel A s (union_of A B) s
   union_of_left s low =
-      bisimilar_there rel A A A (union_of A B) (λ x. x) (λ x. x) (embeds_itself A) (embeds_left A B) s s (bisimilar_refl rel A sys s low)
+      bisimilar_there rel A A A (union_of A B) (λ x. x) (λ x. x) (embeds_itself A) (embeds_left A B) s s
+      (bisimilar_refl rel A sys s low)
 
   pub union_of_right : (t : ℕ) → t < B.states → Bisimilar rel B t (union_of A B) (A.states + t)
   union_of_right t low =
@@ -78,7 +83,8 @@ module _ (rel : Relation) (A B : System) (sys : IsSystem A) (sys' : IsSystem B) 
 
 module _ (rel : Relation) (A B C : System) where
   -- what is bisimilar to one state of B is bisimilar
-  pub bisimilar_across : IsSystem A → IsSystem C → (s t u : ℕ) → Bisimilar rel A s B t → Bisimilar rel B t C u → Bisimilar rel A s C u
+  pub bisimilar_across : IsSystem A → IsSystem C → (s t u : ℕ) → Bisimilar rel A s B t → Bisimilar rel B t C u →
+      Bisimilar rel A s C u
   bisimilar_across sys sys' s t u one other =
       let U : System = union_of A C in
       let x = bisimilar_there rel A U B B (λ z. z) (λ z. z) (embeds_left A C) (embeds_itself B) s t one in
@@ -88,6 +94,8 @@ module _ (rel : Relation) (A B C : System) where
       (bisimilar_through rel U (union_system A C sys sys') B s (A.states + u) t x y)
 
 -- equivalence does not depend on the order of either system's transitions
-pub equivalent_alike_both : (rel : Relation) (A B C D : System) → SameSteps A B → SameSteps C D → Equivalent rel A C → Equivalent rel B D
+pub equivalent_alike_both : (rel : Relation) (A B C D : System) → SameSteps A B → SameSteps C D → Equivalent rel A C →
+    Equivalent rel B D
 equivalent_alike_both rel A B C D one other b =
-    subst₂ (λ x y. Bisimilar rel B x D y) one.first other.first (bisimilar_alike rel A B C D A.first C.first one other b)
+    subst₂ (λ x y. Bisimilar rel B x D y) one.first other.first
+    (bisimilar_alike rel A B C D A.first C.first one other b)

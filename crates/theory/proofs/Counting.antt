@@ -5,17 +5,19 @@ use Rattle.theory.specs.System.{System}
 use Rattle.theory.specs.declared.relation.Relation.{Relation}
 use Rattle.theory.specs.Blocks.{Split, SameBlocks}
 use Rattle.theory.proofs.Deciding.{same_number, not_so, both, some_below, each_below, least_to}
-use Rattle.theory.proofs.Tally.{one, one_yes, one_no, tally, tally_zero, tally_suc, tally_at_most, tally_greater, tally_same, tally_one_more, tally_all, tally_none}
+use Rattle.theory.proofs.Tally.{one, one_yes, one_no, tally, tally_zero, tally_suc, tally_at_most, tally_greater}
+use Rattle.theory.proofs.Tally.{tally_same, tally_one_more, tally_all, tally_none}
 
 -- s is the first state of its block
 abbrev Opens : (ℕ → ℕ) → ℕ → Type 0
 Opens blocks s = (t : ℕ) → t < s → ¬ (blocks t ≡ blocks s)
 
 opens_decided : (blocks : ℕ → ℕ) (s : ℕ) → Dec (Opens blocks s)
-opens_decided blocks s = elim (each_below (λ t. ¬ (blocks t ≡ blocks s)) (λ t. not_so (same_number (blocks t) (blocks s))) s) [
-  | inl f ↦ yes f
-  | inr h ↦ no (λ f. h.2 (f h.0 h.1))
-]
+opens_decided blocks s =
+    elim (each_below (λ t. ¬ (blocks t ≡ blocks s)) (λ t. not_so (same_number (blocks t) (blocks s))) s) [
+      | inl f ↦ yes f
+      | inr h ↦ no (λ f. h.2 (f h.0 h.1))
+    ]
 
 -- how many blocks the states of A have
 pub block_count : System → (ℕ → ℕ) → ℕ
@@ -29,7 +31,8 @@ pub block_count_some : (A : System) (blocks : ℕ → ℕ) → 0 < A.states → 
 unfolding block_count
 block_count_some A blocks l =
     let h : tally (λ k. ⊥) (λ k. no (λ x. x)) A.states < tally (Opens blocks) (opens_decided blocks) A.states =
-    tally_greater (λ k. ⊥) (Opens blocks) (λ k. no (λ x. x)) (opens_decided blocks) A.states (λ k m x. absurd x) 0 l (λ x. x)
+    tally_greater (λ k. ⊥) (Opens blocks) (λ k. no (λ x. x)) (opens_decided blocks) A.states
+    (λ k m x. absurd x) 0 l (λ x. x)
     (λ t m. absurd (omega (arith, m))) in
     omega (arith, h)
 
@@ -68,14 +71,16 @@ split_cases rel A old new split =
       λ e. together s t (λ g. f (s, ls, (t, lt, (e, g)))) (same_number (new s) (new t)),
     ))
 
-pub same_blocks_decided : (rel : Relation) (A : System) (old new : ℕ → ℕ) → Split rel A old new → Dec (SameBlocks A old new)
+pub same_blocks_decided : (rel : Relation) (A : System) (old new : ℕ → ℕ) → Split rel A old new →
+    Dec (SameBlocks A old new)
 same_blocks_decided rel A old new split = elim (split_cases rel A old new split) [
   | inl same ↦ yes same
   | inr h ↦ no (λ same. h.2.2.1 ((same h.0 h.2.0 h.1 h.2.1).1 h.2.2.0))
 ]
 
 -- a Split that parts two states has more blocks
-pub parting_adds : (rel : Relation) (A : System) (old new : ℕ → ℕ) → Split rel A old new → (s t : ℕ) → s < A.states → t < A.states
+pub parting_adds : (rel : Relation) (A : System) (old new : ℕ → ℕ) → Split rel A old new → (s t : ℕ)
+    → s < A.states → t < A.states
     → old s ≡ old t → ¬ (new s ≡ new t) → block_count A old < block_count A new
 unfolding block_count
 parting_adds rel A old new split s t ls lt e apart = go (opens_decided old x.0) (opens_decided old y.0)
@@ -143,8 +148,8 @@ module _ (blocks : ℕ → ℕ) (j : ℕ) where
         (λ b l. hit_again g b) in
         let shut : one (opens_decided blocks j) ≡ 0 = one_no (λ f. f g.0 g.1 g.2) (opens_decided blocks j) in
         omega (arith, same, shut)
-    | no g ↦
-        let more = tally_one_more (Hit blocks j) (Hit blocks (suc j)) (hit_decided blocks j) (hit_decided blocks (suc j)) m
+    | no g ↦ let more =
+        tally_one_more (Hit blocks j) (Hit blocks (suc j)) (hit_decided blocks j) (hit_decided blocks (suc j)) m
         (blocks j) low g (j, omega arith, refl) (λ b l d. hit_other b d) in
         let opens : one (opens_decided blocks j) ≡ 1 = one_yes (λ t l e'. g (t, l, e')) (opens_decided blocks j) in
         omega (arith, more, opens)

@@ -1,5 +1,6 @@
 -- What can be decided: numbers and labels that are the same, two facts together, a search below a number or in a list.
-use Rattle.std.proofs.Common.{◌≡◌, ◌⊎◌, ◌↔◌, ℕ, zero, suc, ◌<◌, ◌≤◌, List, [], ◌∷◌, Contains, refl, subst, inl, inr, arith}
+use Rattle.std.proofs.Common.{◌≡◌, ◌⊎◌, ◌↔◌, ℕ, zero, suc, ◌<◌, ◌≤◌, List, [], ◌∷◌, Contains, refl, subst, inl, inr}
+use Rattle.std.proofs.Common.{arith}
 use Rattle.std.proofs.lemmas.Bool.{cases_eq, cases_lt, cases_order}
 
 pub same_number : (m n : ℕ) → Dec (m ≡ n)
@@ -50,10 +51,12 @@ some_below P d (suc n) = go (d n) (some_below P d n)
     go : Dec (P n) → Dec ((k : ℕ) × (k < n) × P k) → Dec ((k : ℕ) × (k < suc n) × P k)
     go (yes p) h = yes (n, omega arith, p)
     go (no f) (yes h) = yes (h.0, omega (arith, h.1), h.2)
-    go (no f) (no g) = no (λ h. elim (cases_eq h.0 n) [ inl e ↦ f (rw e at h.2) | inr e ↦ g (h.0, omega (arith, h.1, e), h.2) ])
+    go (no f) (no g) =
+        no (λ h. elim (cases_eq h.0 n) [ inl e ↦ f (rw e at h.2) | inr e ↦ g (h.0, omega (arith, h.1, e), h.2) ])
 
 -- each number below n has P, or some number there lacks it
-pub each_below : (P : ℕ → Type 0) → ((k : ℕ) → Dec (P k)) → (n : ℕ) → ((k : ℕ) → k < n → P k) ⊎ ((k : ℕ) × (k < n) × ¬ P k)
+pub each_below : (P : ℕ → Type 0) → ((k : ℕ) → Dec (P k)) → (n : ℕ) →
+    ((k : ℕ) → k < n → P k) ⊎ ((k : ℕ) × (k < n) × ¬ P k)
 each_below P d n = go (some_below (λ k. ¬ P k) (λ k. not_so (d k)) n)
   where
     holds : (k : ℕ) → ¬ ¬ P k → Dec (P k) → P k
@@ -74,10 +77,12 @@ first_below P d (suc n) = go (first_below P d n) (d n)
         → ((k : ℕ) × (k < suc n) × P k × ((j : ℕ) → j < k → ¬ P j)) ⊎ ((j : ℕ) → j < suc n → ¬ P j)
     go (inl h) d' = inl (h.0, omega (arith, h.1), h.2, h.3)
     go (inr f) (yes p) = inl (n, omega arith, p, f)
-    go (inr f) (no g) = inr (λ j l q. elim (cases_eq j n) [ inl e ↦ g (rw e at q) | inr e ↦ f j (omega (arith, l, e)) q ])
+    go (inr f) (no g) =
+        inr (λ j l q. elim (cases_eq j n) [ inl e ↦ g (rw e at q) | inr e ↦ f j (omega (arith, l, e)) q ])
 
 -- the least number with P, if n has it
-pub least_to : (P : ℕ → Type 0) → ((k : ℕ) → Dec (P k)) → (n : ℕ) → P n → (k : ℕ) × (k ≤ n) × P k × ((j : ℕ) → j < k → ¬ P j)
+pub least_to : (P : ℕ → Type 0) → ((k : ℕ) → Dec (P k)) → (n : ℕ) → P n →
+    (k : ℕ) × (k ≤ n) × P k × ((j : ℕ) → j < k → ¬ P j)
 least_to P d n p = go (first_below P d n)
   where
     go : ((k : ℕ) × (k < n) × P k × ((j : ℕ) → j < k → ¬ P j)) ⊎ ((j : ℕ) → j < n → ¬ P j)
@@ -119,17 +124,20 @@ pub contains_none : {X : Type 0} (x : X) → ¬ Contains [] x
 contains_none x h = absurd (omega (arith, h.1))
 
 -- some element of the list has P
-pub some_in : {X : Type 0} (P : X → Type 0) → ((x : X) → Dec (P x)) → (xs : List X) → Dec ((x : X) × Contains xs x × P x)
+pub some_in : {X : Type 0} (P : X → Type 0) → ((x : X) → Dec (P x)) → (xs : List X) →
+    Dec ((x : X) × Contains xs x × P x)
 some_in P d [] = no (λ h. contains_none h.0 h.1)
 some_in {X} P d (y ∷ xs) = go (d y) (some_in P d xs)
   where
     go : Dec (P y) → Dec ((x : X) × Contains xs x × P x) → Dec ((x : X) × Contains (y ∷ xs) x × P x)
     go (yes p) h = yes (y, contains_here y xs, p)
     go (no f) (yes h) = yes (h.0, contains_there y xs h.0 h.1, h.2)
-    go (no f) (no g) = no (λ h. elim (contains_cases y xs h.0 h.1) [ inl e ↦ f (rw (← e) at h.2) | inr c ↦ g (h.0, c, h.2) ])
+    go (no f) (no g) =
+        no (λ h. elim (contains_cases y xs h.0 h.1) [ inl e ↦ f (rw (← e) at h.2) | inr c ↦ g (h.0, c, h.2) ])
 
 -- each element of the list has P
-pub each_in : {X : Type 0} (P : X → Type 0) → ((x : X) → Dec (P x)) → (xs : List X) → Dec ((x : X) → Contains xs x → P x)
+pub each_in : {X : Type 0} (P : X → Type 0) → ((x : X) → Dec (P x)) → (xs : List X) →
+    Dec ((x : X) → Contains xs x → P x)
 each_in P d [] = yes (λ x c. absurd (contains_none x c))
 each_in {X} P d (y ∷ xs) = go (d y) (each_in P d xs)
   where

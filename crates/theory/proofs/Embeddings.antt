@@ -91,7 +91,8 @@ module _ (A U B V : System) (f g : ℕ → ℕ) (one : Embeds A U f) (other : Em
             )
       ]
 
-module _ (rel : Relation) (A U B V : System) (f g : ℕ → ℕ) (one : Embeds A U f) (other : Embeds B V g) (pairs : List (ℕ × ℕ)) where
+module _ (rel : Relation) (A U B V : System) (f g : ℕ → ℕ) (one : Embeds A U f) (other : Embeds B V g)
+    (pairs : List (ℕ × ℕ)) where
   -- f and g take some pair to x and y
   abbrev Image : ℕ → ℕ → Type 0
   Image x y = (p : ℕ × ℕ) × Contains pairs p × ((f p.0 ≡ x) × (g p.1 ≡ y))
@@ -110,7 +111,8 @@ module _ (rel : Relation) (A U B V : System) (f g : ℕ → ℕ) (one : Embeds A
         (subst (λ z. z < U.states) ex (one.below p.0 at.0), subst (λ z. z < V.states) ey (other.below p.1 at.1));
     forth = λ x y (p, c, (ex, ey)).
         subst₂ (Answers rel U V Image) ex ey
-        (answers_there A U B V f g one other (Pairs pairs) Image rel into p.0 p.1 (meets.states p.0 p.1 c).0 (meets.forth p.0 p.1 c));
+        (answers_there A U B V f g one other (Pairs pairs) Image rel into p.0 p.1 (meets.states p.0 p.1 c).0
+        (meets.forth p.0 p.1 c));
     back = λ x y (p, c, (ex, ey)).
         subst₂ (Answers rel V U (Converse Image)) ey ex
         (answers_there B V A U g f other one (Converse (Pairs pairs)) (Converse Image) rel (λ t s. into s t)
@@ -130,8 +132,8 @@ module _ (rel : Relation) (A U B V : System) (f g : ℕ → ℕ) (one : Embeds A
     forth = λ s t h.
         answers_back A U B V f g one other Beneath (Pairs pairs) rel sys sys' (λ x y l l' c. (l, (l', c)))
         s t h.0 h.1.0 (meets.forth (f s) (g t) h.1.1);
-    back = λ s t h.
-        answers_back B V A U g f other one (Converse Beneath) (Converse (Pairs pairs)) rel sys' sys (λ y x l' l c. (l, (l', c)))
+    back = λ s t h. answers_back B V A U g f other one (Converse Beneath) (Converse (Pairs pairs)) rel sys' sys
+        (λ y x l' l c. (l, (l', c)))
         t s h.1.0 h.0 (meets.back (f s) (g t) h.1.1);
   }
 

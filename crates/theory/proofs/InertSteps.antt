@@ -30,6 +30,7 @@ module _ (A : System) (blocks : ℕ → ℕ) where
   ]
 
   -- states that inert steps lead to from each other
-  pub signature_mutual : (s t : ℕ) → Leads (Inert A blocks) s t → Leads (Inert A blocks) t s → SameSignature Branching A blocks s t
+  pub signature_mutual : (s t : ℕ) → Leads (Inert A blocks) s t → Leads (Inert A blocks) t s →
+      SameSignature Branching A blocks s t
   signature_mutual s t there back a b =
       (signature_before A blocks t s back a b, signature_before A blocks s t there a b)

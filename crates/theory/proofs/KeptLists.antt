@@ -8,7 +8,8 @@ use Rattle.theory.specs.Untouched.{Refines, KeepsNumbers, ShowsNoPair, IsOnly, L
 use Rattle.theory.specs.Kept.{NamesSignatures, AreKept, IsShown, SignsFew}
 use Rattle.theory.proofs.Untouched.{empty_before, still_stays, reach_found}
 
-module _ (names : (ℕ → ℕ) → ℕ → ℕ → Type 0) (A : System) (laws : NamesSignatures A names) (blocks : ℕ → ℕ) (live : ℕ → Type 0)
+module _ (names : (ℕ → ℕ) → ℕ → ℕ → Type 0) (A : System) (laws : NamesSignatures A names) (blocks : ℕ →
+    ℕ) (live : ℕ → Type 0)
     (kept now next : ℕ → ℕ) (r : SignsFew names A blocks live kept now next) where
   -- each state has the list of its signature now, but if it is alone in its block
   named_now : (s : ℕ) → s < A.states → IsOnly A blocks s ⊎ names blocks s (now s)
@@ -58,7 +59,8 @@ module _ (names : (ℕ → ℕ) → ℕ → ℕ → Type 0) (A : System) (laws :
       go (inr p) (inr q) = p.1 ∙ equal ∙ sym q.1
 
   -- two states of one block are one, or each has the list of its signature
-  one_or_named : (s t : ℕ) → s < A.states → t < A.states → blocks s ≡ blocks t → (s ≡ t) ⊎ (names blocks s (now s) × names blocks t (now t))
+  one_or_named : (s t : ℕ) → s < A.states → t < A.states → blocks s ≡ blocks t →
+      (s ≡ t) ⊎ (names blocks s (now s) × names blocks t (now t))
   one_or_named s t ls lt same = elim (named_now s ls) [
     | inl only ↦ inl (sym (only t lt (sym same)))
     | inr one ↦ elim (named_now t lt) [ inl only ↦ inl (only s ls same) | inr two ↦ inr (one, two) ]
@@ -72,8 +74,11 @@ module _ (names : (ℕ → ℕ) → ℕ → ℕ → Type 0) (A : System) (laws :
           let both = (r.split s t ls lt).0 e in
           elim (one_or_named s t ls lt both.0) [
             | inl one ↦ (both.0, subst (SameSignature Branching A blocks s) one (λ a b. (λ can. can, λ can. can)))
-            | inr named ↦
-                (both.0, (laws.one blocks s t (now s) (now t) named.0 named.1).0 (same_now s t ls lt named.0 named.1 both.0 both.1))
+            | inr named ↦ (
+              both.0,
+              (laws.one blocks s t (now s) (now t) named.0 named.1).0
+                  (same_now s t ls lt named.0 named.1 both.0 both.1),
+            )
           ]
 
       from : (blocks s ≡ blocks t) × SameSignature Branching A blocks s t → next s ≡ next t
@@ -87,7 +92,8 @@ module _ (names : (ℕ → ℕ) → ℕ → ℕ → Type 0) (A : System) (laws :
   refined : Refines A blocks next
   refined s t ls lt e = ((r.split s t ls lt).0 e).0
 
-  module _ (sys : IsSystem A) (low : ℕ) (keeps : KeepsNumbers A blocks next low) (found : ℕ → Type 0) (looks : LooksBack A next low found) where
+  module _ (sys : IsSystem A) (low : ℕ) (keeps : KeepsNumbers A blocks next low) (found : ℕ →
+      Type 0) (looks : LooksBack A next low found) where
     alike_next : (s t : ℕ) → s < A.states → t < A.states → next s ≡ next t → now s ≡ now t
     alike_next s t ls lt e =
         let both = (r.split s t ls lt).0 e in
@@ -103,7 +109,8 @@ module _ (names : (ℕ → ℕ) → ℕ → ℕ → Type 0) (A : System) (laws :
         | inl only ↦ inr (inl only)
         | inr still ↦ elim (named_now s ls) [
           | inl only ↦ inr (inl (λ t lt e. only t lt (refined t s lt ls e)))
-          | inr named ↦ inr (inr (laws.stays blocks next s (now s) (still_stays A sys blocks next refined low keeps s ls still) named))
+          | inr named ↦ inr (inr (laws.stays blocks next s (now s) (still_stays A sys blocks next refined low keeps s
+              ls still) named))
         ]
       ]
     ]
@@ -125,9 +132,12 @@ module _ (names : (ℕ → ℕ) → ℕ → ℕ → Type 0) (A : System) (laws :
     pub kept_next : AreKept names A next found now
     kept_next = record { alike = alike_next; signed = signed_next; shows = shows_next }
 
--- where no list is kept each state has the empty one, and all that have a pair to show are looked at, but for those that are alone
-pub kept_anew : (names : (ℕ → ℕ) → ℕ → ℕ → Type 0) (A : System) → NamesSignatures A names → (blocks : ℕ → ℕ) (live : ℕ → Type 0)
-    → ((s : ℕ) → s < A.states → live s ⊎ IsOnly A blocks s ⊎ ShowsNoPair A blocks s) → AreKept names A blocks live (λ s. 0)
+-- where no list is kept each state has the empty one, and all that have a pair to show are looked at, but for those
+-- that are alone
+pub kept_anew : (names : (ℕ → ℕ) → ℕ → ℕ → Type 0) (A : System) → NamesSignatures A names
+    → (blocks : ℕ → ℕ) (live : ℕ → Type 0)
+    → ((s : ℕ) → s < A.states → live s ⊎ IsOnly A blocks s ⊎ ShowsNoPair A blocks s)
+    → AreKept names A blocks live (λ s. 0)
 kept_anew names A laws blocks live all = record {
   alike = λ s t ls lt e. refl;
   signed = λ s ls. elim (all s ls) [

@@ -16,7 +16,8 @@ any_step_decided A s t =
     decided_like
     (λ h. (h.0.label, subst (λ x. Step A s h.0.label x) h.2.1 (subst (λ x. Step A x h.0.label h.0.target) h.2.0 h.1)))
     (λ h. (record { source = s; label = h.0; target = t }, h.1, (refl, refl)))
-    (some_in (λ e. (e.source ≡ s) × (e.target ≡ t)) (λ e. both (same_number e.source s) (same_number e.target t)) A.transitions)
+    (some_in (λ e. (e.source ≡ s) × (e.target ≡ t)) (λ e. both (same_number e.source s) (same_number e.target t))
+    A.transitions)
 
 -- a state has one leader
 pub leader_unique : (rel : Relation) (A : System) (s l m : ℕ) → Leader rel A s l → Leader rel A s m → l ≡ m
@@ -104,7 +105,8 @@ module _ (rel : Relation) (A : System) (sys : IsSystem A) where
     where
       own : (path : Reachable A l) → Dec ((leader_of l path).0 ≡ l) → Dec (IsLeader rel A l)
       own path (yes e) = yes (l, path, subst (Leader rel A l) e (leader_of l path).1)
-      own path (no f) = no (λ h. f (leader_unique rel A l (leader_of l path).0 l (leader_of l path).1 (is_leader_itself l h).1))
+      own path (no f) =
+          no (λ h. f (leader_unique rel A l (leader_of l path).0 l (leader_of l path).1 (is_leader_itself l h).1))
 
       go : Dec (Reachable A l) → Dec (IsLeader rel A l)
       go (yes path) = own path (same_number (leader_of l path).0 l)

@@ -6,7 +6,8 @@ use Rattle.theory.specs.Bisimulation.{Pairs}
 use Rattle.theory.proofs.Deciding.{contains_here, contains_cases, contains_none}
 
 -- the elements of f k for every k below n
-gathered : {X : Type 0} (f : ℕ → List X) (n : ℕ) → (xs : List X) × ((x : X) → Contains xs x ↔ ((k : ℕ) × (k < n) × Contains (f k) x))
+gathered : {X : Type 0} (f : ℕ → List X) (n : ℕ) →
+    (xs : List X) × ((x : X) → Contains xs x ↔ ((k : ℕ) × (k < n) × Contains (f k) x))
 gathered f zero = ([], λ x. (λ c. absurd (contains_none x c), λ h. absurd (omega (arith, h.1))))
 gathered {X} f (suc n) = go (gathered f n)
   where
@@ -52,7 +53,8 @@ pairs_listed n P d = (whole.0, λ s t. (to s t, from s t))
     to s t c =
         let in_row : (x : ℕ) × (x < n) × Contains (row x).0 (s, t) = (whole.1 (s, t)).0 c in
         let in_cell : (y : ℕ) × (y < n) × Contains (cell in_row.0 y).0 (s, t) = ((row in_row.0).1 (s, t)).0 in_row.2 in
-        let it : ((in_row.0, in_cell.0) ≡ (s, t)) × P in_row.0 in_cell.0 = ((cell in_row.0 in_cell.0).1 (s, t)).0 in_cell.2 in
+        let it : ((in_row.0, in_cell.0) ≡ (s, t)) × P in_row.0 in_cell.0 =
+        ((cell in_row.0 in_cell.0).1 (s, t)).0 in_cell.2 in
         subst (λ (x : ℕ × ℕ). (x.0 < n) × (x.1 < n) × P x.0 x.1) it.0 (in_row.1, in_cell.1, it.1)
 
     from : (s t : ℕ) → (s < n) × (t < n) × P s t → Contains whole.0 (s, t)

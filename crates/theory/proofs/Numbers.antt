@@ -1,5 +1,5 @@
--- The number of each reachable state: there is one, it tells the classes apart, and the numbers are those below the count of
--- leaders.
+-- The number of each reachable state: there is one, it tells the classes apart, and the numbers are those below the
+-- count of leaders.
 use Rattle.std.proofs.Common.{◌≡◌, ◌≢◌, ◌⊎◌, ◌↔◌, ℕ, zero, suc, ◌+◌, ◌<◌, refl, sym, ◌∙◌, ap, subst, inl, inr, arith}
 use Rattle.std.proofs.lemmas.Bool.{cases_eq, cases_order}
 use Rattle.theory.specs.System.{System, IsSystem, Reachable}
@@ -7,8 +7,11 @@ use Rattle.theory.specs.Bisimulation.{Bisimilar}
 use Rattle.theory.specs.declared.relation.Relation.{Relation}
 use Rattle.theory.specs.Quotient.{HowMany, Leader, IsLeader, Number}
 use Rattle.theory.proofs.Deciding.{same_number, not_so, both, decided_like}
-use Rattle.theory.proofs.Tally.{how_many_like, how_many_unique, one, tally, tally_next, tallied, tally_is, tally_less, tally_reached, tally_one_more}
-use Rattle.theory.proofs.Leaders.{leader_unique, first_reachable, reachable_decided, first_leads, leader_fellow, leader_carried, same_leader_bisimilar, leads_itself, leader_of, is_leader_itself, is_leader_below, is_leader_decided}
+use Rattle.theory.proofs.Tally.{how_many_like, how_many_unique, one, tally, tally_next, tallied, tally_is, tally_less}
+use Rattle.theory.proofs.Tally.{tally_reached, tally_one_more}
+use Rattle.theory.proofs.Leaders.{leader_unique, first_reachable, reachable_decided, first_leads, leader_fellow}
+use Rattle.theory.proofs.Leaders.{leader_carried, same_leader_bisimilar, leads_itself, leader_of, is_leader_itself}
+use Rattle.theory.proofs.Leaders.{is_leader_below, is_leader_decided}
 
 -- a leader other than the first state
 abbrev IsOther : Relation → System → ℕ → Type 0
@@ -35,7 +38,8 @@ module _ (rel : Relation) (A : System) (sys : IsSystem A) where
   number_placed : (s n : ℕ) → Number rel A s n → (l : ℕ) × Leader rel A s l × Placed l n
   number_placed s n (l, leader, inl p) = (l, leader, inl p)
   number_placed s n (l, leader, inr (other, k, many, is)) =
-      let e : k ≡ place l = how_many_unique (λ m. IsLeader rel A m × (m < l) × (m ≢ A.first)) k (place l) many (place_counts l) in
+      let e : k ≡ place l =
+      how_many_unique (λ m. IsLeader rel A m × (m < l) × (m ≢ A.first)) k (place l) many (place_counts l) in
       (l, leader, inr (other, omega (arith, is, e)))
 
   placed_number : (s l n : ℕ) → Leader rel A s l → Placed l n → Number rel A s n
@@ -126,7 +130,8 @@ module _ (rel : Relation) (A : System) (sys : IsSystem A) where
         tally_is (IsLeader rel A) (is_leader_decided rel A sys) A.states c
         (how_many_like (IsLeader rel A) (λ l. IsLeader rel A l × (l < A.states)) c
         (λ l. (λ h. (h, is_leader_below rel A sys l h), λ h. h.0)) many)
-        ∙ tally_one_more (IsOther rel A) (IsLeader rel A) is_other_decided (is_leader_decided rel A sys) A.states A.first sys.first
+        ∙ tally_one_more (IsOther rel A) (IsLeader rel A) is_other_decided (is_leader_decided rel A sys) A.states
+        A.first sys.first
         (λ h. h.1 refl) (A.first, first_reachable A, first_leads rel A sys) (λ k l other. (λ h. h.0, λ h. (h, other)))
 
     placed_below : (l n : ℕ) → IsLeader rel A l → Placed l n → n < c
@@ -153,14 +158,16 @@ module _ (rel : Relation) (A : System) (sys : IsSystem A) where
   others_next : (l c : ℕ) (p : Dec (IsOther rel A l)) → HowMany (λ m. IsLeader rel A m × (m < l) × (m ≢ A.first)) c
       → HowMany (λ m. IsLeader rel A m × (m < l + 1) × (m ≢ A.first)) (c + one p)
   others_next l c p many =
-      how_many_like (λ m. IsOther rel A m × (m < suc l)) (λ m. IsLeader rel A m × (m < l + 1) × (m ≢ A.first)) (c + one p)
+      how_many_like (λ m. IsOther rel A m × (m < suc l)) (λ m. IsLeader rel A m × (m < l + 1)
+      × (m ≢ A.first)) (c + one p)
       (λ m. (λ h. (h.0.0, omega (arith, h.1), h.0.1), λ h. ((h.0, h.2), omega (arith, h.1))))
       (tally_next (IsOther rel A) is_other_decided l c p
       (how_many_like (λ m. IsLeader rel A m × (m < l) × (m ≢ A.first)) (λ m. IsOther rel A m × (m < l)) c
       (λ m. (λ h. ((h.0, h.2), h.1), λ h. (h.0.0, h.1, h.0.1))) many))
 
   -- one more leader other than the first state
-  pub others_one : (l c : ℕ) → IsLeader rel A l → l ≢ A.first → HowMany (λ m. IsLeader rel A m × (m < l) × (m ≢ A.first)) c
+  pub others_one : (l c : ℕ) → IsLeader rel A l → l ≢ A.first
+      → HowMany (λ m. IsLeader rel A m × (m < l) × (m ≢ A.first)) c
       → HowMany (λ m. IsLeader rel A m × (m < l + 1) × (m ≢ A.first)) (c + 1)
   others_one l c leads other many = others_next l c (yes (leads, other)) many
 
@@ -168,15 +175,20 @@ module _ (rel : Relation) (A : System) (sys : IsSystem A) where
   pub others_same : (l c : ℕ) → ¬ IsOther rel A l → HowMany (λ m. IsLeader rel A m × (m < l) × (m ≢ A.first)) c
       → HowMany (λ m. IsLeader rel A m × (m < l + 1) × (m ≢ A.first)) c
   others_same l c not many =
-      subst (HowMany (λ m. IsLeader rel A m × (m < l + 1) × (m ≢ A.first))) (omega arith) (others_next l c (no not) many)
+      subst (HowMany (λ m. IsLeader rel A m × (m < l + 1) × (m ≢ A.first))) (omega arith)
+      (others_next l c (no not) many)
 
   -- the other leaders and the first state are all leaders
-  pub leaders_counted : (c : ℕ) → HowMany (λ m. IsLeader rel A m × (m < A.states) × (m ≢ A.first)) c → HowMany (IsLeader rel A) (1 + c)
+  pub leaders_counted : (c : ℕ) → HowMany (λ m. IsLeader rel A m × (m < A.states) × (m ≢ A.first)) c →
+      HowMany (IsLeader rel A) (1 + c)
   leaders_counted c many =
       let all : HowMany (IsLeader rel A) (tally (IsLeader rel A) (is_leader_decided rel A sys) A.states) =
       how_many_like (λ l. IsLeader rel A l × (l < A.states)) (IsLeader rel A)
       (tally (IsLeader rel A) (is_leader_decided rel A sys) A.states)
-      (λ l. (λ h. h.0, λ h. (h, is_leader_below rel A sys l h))) (tallied (IsLeader rel A) (is_leader_decided rel A sys) A.states) in
+      (λ l. (λ h. h.0, λ h. (h, is_leader_below rel A sys l h)))
+      (tallied (IsLeader rel A) (is_leader_decided rel A sys) A.states) in
       let same : c ≡ place A.states =
-      how_many_unique (λ m. IsLeader rel A m × (m < A.states) × (m ≢ A.first)) c (place A.states) many (place_counts A.states) in
-      subst (HowMany (IsLeader rel A)) (omega (arith, others_counted (tally (IsLeader rel A) (is_leader_decided rel A sys) A.states) all, same)) all
+      how_many_unique (λ m. IsLeader rel A m × (m < A.states) × (m ≢ A.first)) c (place A.states) many
+      (place_counts A.states) in
+      subst (HowMany (IsLeader rel A))
+      (omega (arith, others_counted (tally (IsLeader rel A) (is_leader_decided rel A sys) A.states) all, same)) all

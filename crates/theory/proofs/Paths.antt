@@ -1,7 +1,8 @@
 -- Paths: what leads from one state to another.
 use Rattle.std.proofs.Common.{ℕ, ◌<◌, List, [], ◌∷◌, ◌++◌, refl, sym, subst}
 use Rattle.std.proofs.lemmas.List.Elements.{All-contains}
-use Rattle.theory.specs.System.{Transition, System, IsSystem, IsAmong, Step, Internal, AnyStep, Along, Leads, Silent, Reachable}
+use Rattle.theory.specs.System.{Transition, System, IsSystem, IsAmong, Step, Internal, AnyStep, Along, Leads, Silent}
+use Rattle.theory.specs.System.{Reachable}
 
 -- a path may go on by another
 pub along_append :
@@ -26,7 +27,8 @@ leads_append R s t u p q = (p.0 ++ q.0, along_append R s t u p.0 q.0 p.1 q.1)
 pub leads_on : (R : ℕ → ℕ → Type 0) (s t u : ℕ) → Leads R s t → R t u → Leads R s u
 leads_on R s t u p r = leads_append R s t u p (leads_step R t u r)
 
--- if each step of R is answered by a path of S, from what Q ties to its start to what Q ties to its end, so is each path
+-- if each step of R is answered by a path of S, from what Q ties to its start to what Q ties to its end, so is each
+-- path
 pub leads_answered :
     (R S Q : ℕ → ℕ → Type 0) →
     ((s t p : ℕ) → R s t → Q s p → (q : ℕ) × Leads S p q × Q t q) →
@@ -70,7 +72,8 @@ silent_below A system = leads_keeps (Internal A) (λ x. x < A.states) (λ x y r 
 -- what is reached is a state of the system
 pub reachable_below : (A : System) → IsSystem A → (s : ℕ) → Reachable A s → s < A.states
 reachable_below A system s path =
-    leads_keeps (AnyStep A) (λ x. x < A.states) (λ x y r h. (step_below A system x r.0 y r.1).1) A.first s path system.first
+    leads_keeps (AnyStep A) (λ x. x < A.states) (λ x y r h. (step_below A system x r.0 y r.1).1) A.first s
+    path system.first
 
 -- a step leads from what is reached to what is reached
 pub reachable_on : (A : System) (s : ℕ) (a : List ℕ) (t : ℕ) → Reachable A s → Step A s a t → Reachable A t

@@ -1,7 +1,8 @@
 -- The quotient is a system, and each step of a reachable state is in it or is dropped.
 use Rattle.std.proofs.Common.{◌⊎◌, ℕ, ◌<◌, List, get_or, sym, subst, inl, inr}
 use Rattle.std.proofs.lemmas.List.Elements.{All-contains, Contains-get_or}
-use Rattle.theory.specs.System.{System, IsSystem, IsAmong, Transition, Step, Internal, AnyStep, Reachable, Silent, internal}
+use Rattle.theory.specs.System.{System, IsSystem, IsAmong, Transition, Step, Internal, AnyStep, Reachable, Silent}
+use Rattle.theory.specs.System.{internal}
 use Rattle.theory.specs.declared.relation.Relation.{Relation}
 use Rattle.theory.specs.declared.relation.Relation.TheVariants.{Strong, Branching}
 use Rattle.theory.specs.Quotient.{Number, IsDropped, Stands, Quotient}

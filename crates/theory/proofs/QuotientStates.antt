@@ -30,7 +30,8 @@ strong_pulled A Q sys quotient R bisimulation x y (m, n, hx, hy, related) = λ a
       | inr drop ↦ absurd drop
     ]
 
-branching_pulled : (A Q : System) → IsSystem A → Quotient Branching A Q → (R : ℕ → ℕ → Type 0) → IsBisimulation Branching Q Q R →
+branching_pulled : (A Q : System) → IsSystem A → Quotient Branching A Q → (R : ℕ → ℕ → Type 0) →
+    IsBisimulation Branching Q Q R →
     (x y : ℕ) → Pulled Branching A R x y → Answers Branching A A (Pulled Branching A R) x y
 branching_pulled A Q sys quotient R bisimulation x y (m, n, hx, hy, related) = λ a x' step.
     let on = step_numbered Branching A Q sys quotient x m a x' hx step in

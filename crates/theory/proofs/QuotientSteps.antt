@@ -35,8 +35,14 @@ module _ (A Q : System) (sys : IsSystem A) (quotient : Quotient Strong A Q) wher
   strong_back s n h = λ a m step.
       let (x, y, (pairs, bisimulation, related), there, before, after) : Fellows Strong A s n a m =
       step_stands Strong A Q sys quotient s n a m h.1 step in
-      let found = bisimulation.forth x s related a y there in
-      (found.0, found.1, (reachable_on A s a found.0 h.0 found.1, number_carried Strong A sys y found.0 m (pairs, bisimulation, found.2) after))
+      let found = bisimulation.forth x s related a y there in (
+        found.0,
+        found.1,
+        (
+          reachable_on A s a found.0 h.0 found.1,
+          number_carried Strong A sys y found.0 m (pairs, bisimulation, found.2) after,
+        ),
+      )
 
 module _ (A Q : System) (sys : IsSystem A) (quotient : Quotient Branching A Q) where
   -- a step of a state is one of the quotient, or stays at its number
@@ -60,7 +66,8 @@ module _ (A Q : System) (sys : IsSystem A) (quotient : Quotient Branching A Q) w
       step_stands Branching A Q sys quotient s n a m h.1 step in
       elim (bisimulation.forth x s related a y there) [
         | inl rests ↦ (
-            let own : Number Branching A s m = number_carried Branching A sys y s m (pairs, bisimulation, rests.1) after in
+            let own : Number Branching A s m =
+            number_carried Branching A sys y s m (pairs, bisimulation, rests.1) after in
             let e : Transition = record { source = n; label = a; target = m } in
             absurd (((quotient.transitions e).0 step).1 (rests.0, number_once Branching A sys s n m h.1 own)))
         | inr goes ↦ (
@@ -70,7 +77,10 @@ module _ (A Q : System) (sys : IsSystem A) (quotient : Quotient Branching A Q) w
               goes.2,
               goes.3,
               (reached, number_carried Branching A sys x goes.0 n (pairs, bisimulation, goes.4) before),
-              (reachable_on A goes.0 a goes.1 reached goes.3, number_carried Branching A sys y goes.1 m (pairs, bisimulation, goes.5) after),
+              (
+                reachable_on A goes.0 a goes.1 reached goes.3,
+                number_carried Branching A sys y goes.1 m (pairs, bisimulation, goes.5) after,
+              ),
             ))
       ]
 
@@ -78,7 +88,8 @@ module _ (A Q : System) (sys : IsSystem A) (quotient : Quotient Branching A Q) w
   branching_back s n h = λ a m step. inr (branching_goes s n a m h step)
 
   -- a silent path of the quotient is followed by each state of the number where it begins
-  pub silent_goes : (n m s : ℕ) → Silent Q n m → Numbered Branching A s n → (t : ℕ) × Silent A s t × Numbered Branching A t m
+  pub silent_goes : (n m s : ℕ) → Silent Q n m → Numbered Branching A s n →
+      (t : ℕ) × Silent A s t × Numbered Branching A t m
   silent_goes = leads_answered (Internal Q) (Internal A) (λ q s. Numbered Branching A s q) (λ n m s step h.
       let goes = branching_goes s n internal m h step in
       (goes.1, leads_on (Internal A) s goes.0 goes.1 goes.2 goes.3, goes.5))
@@ -91,10 +102,11 @@ module _ (rel : Relation) (A Q : System) (sys : IsSystem A) (quotient : Quotient
   ] quotient
 
   numbered_back : (s n : ℕ) → Numbered rel A s n → Answers rel Q A (Converse (Numbered rel A)) n s
-  numbered_back = elim rel as (λ r. Quotient r A Q → (s n : ℕ) → Numbered r A s n → Answers r Q A (Converse (Numbered r A)) n s) [
-    | Strong ↦ strong_back A Q sys
-    | Branching ↦ branching_back A Q sys
-  ] quotient
+  numbered_back =
+      elim rel as (λ r. Quotient r A Q → (s n : ℕ) → Numbered r A s n → Answers r Q A (Converse (Numbered r A)) n s) [
+        | Strong ↦ strong_back A Q sys
+        | Branching ↦ branching_back A Q sys
+      ] quotient
 
   -- what relates each reachable state to its number is a bisimulation
   pub numbered_bisimulation : IsBisimulation rel A Q (Numbered rel A)

@@ -1,11 +1,13 @@
--- Split after Split: what holds of the blocks after each, and that the first Split that changes nothing leaves bisimilarity.
+-- Split after Split: what holds of the blocks after each, and that the first Split that changes nothing leaves
+-- bisimilarity.
 use Rattle.std.proofs.Common.{◌≡◌, ◌⊎◌, ◌↔◌, ℕ, zero, suc, ◌<◌, refl, sym, ◌∙◌, inl, inr}
 use Rattle.theory.specs.System.{System, IsSystem}
 use Rattle.theory.specs.Bisimulation.{IsBisimulation, Pairs, Bisimilar}
 use Rattle.theory.specs.declared.relation.Relation.{Relation}
 use Rattle.theory.specs.Blocks.{SameSignature, Split, SameBlocks, Stable, Kept, Share, After, ChangesNothing, Turns}
 use Rattle.theory.proofs.Deciding.{same_number, below, both, decided_like, classes_exist}
-use Rattle.theory.proofs.RefinementLaws.{one_block_kept, split_kept, bisimulation_survives, stable_bisimulation, across_survives}
+use Rattle.theory.proofs.RefinementLaws.{one_block_kept, split_kept, bisimulation_survives, stable_bisimulation}
+use Rattle.theory.proofs.RefinementLaws.{across_survives}
 use Rattle.theory.proofs.Signatures.{same_blocks_sym, same_blocks_trans, same_signature_carried, same_signature_decided}
 use Rattle.theory.proofs.Bisimulations.{bisimilar_by, bisimulations_joined}
 
@@ -95,7 +97,8 @@ module _ (rel : Relation) (A : System) (sys : IsSystem A) where
       (stable_bisimulation rel A blocks (Share A blocks) sys stable (λ s t. (λ h. h, λ h. h)))
 
   -- bisimilar states share a block after each Split
-  pub bisimilar_share : (k : ℕ) (blocks : ℕ → ℕ) → After rel A k blocks → (s t : ℕ) → Bisimilar rel A s A t → Share A blocks s t
+  pub bisimilar_share : (k : ℕ) (blocks : ℕ → ℕ) → After rel A k blocks → (s t : ℕ) → Bisimilar rel A s A t →
+      Share A blocks s t
   bisimilar_share k blocks after s t (pairs, bis, r) = related_share (Pairs pairs) bis k blocks after s t r
 
   -- after the first Split that changes nothing two states share a block exactly when they are bisimilar

@@ -1,5 +1,6 @@
 -- Relations of each two places of a list, in another order of the list.
-use Rattle.std.proofs.Common.{◌≡◌, ◌≢◌, ◌⊎◌, ℕ, ◌<◌, List, length, get_or, swap, AllPairs, refl, ap, ◌∙◌, inl, inr, arith}
+use Rattle.std.proofs.Common.{◌≡◌, ◌≢◌, ◌⊎◌, ℕ, ◌<◌, List, length, get_or, swap, AllPairs, refl, ap, ◌∙◌, inl, inr}
+use Rattle.std.proofs.Common.{arith}
 use Rattle.std.specs.List.Sorted.{IsPermutation}
 use Rattle.std.proofs.lemmas.Bool.{cases_eq}
 use Rattle.std.proofs.lemmas.Bool.Decides.{leb_tells}
@@ -29,7 +30,8 @@ differ i j a b m n one other apart same = omega (arith, one, other, apart, same)
 -- a relation that holds either way round
 module _ {X : Type 0} (R : X → X → Type 0) (turn : (x y : X) → R x y → R y x) where
   -- of each two different places, whichever comes first
-  two_places : (xs : List X) → AllPairs R xs → (i j : ℕ) (d : X) → i ≢ j → i < length xs → j < length xs → R (get_or xs i d) (get_or xs j d)
+  two_places : (xs : List X) → AllPairs R xs → (i j : ℕ) (d : X) → i ≢ j → i < length xs → j < length xs →
+      R (get_or xs i d) (get_or xs j d)
   two_places xs pairs i j d differ low high = elim (leb_tells i j) [
     | inl p ↦ pairs i j d (omega (arith, p.1, differ)) high
     | inr p ↦ turn (get_or xs j d) (get_or xs i d) (pairs j i d p.1 low)
@@ -40,7 +42,8 @@ module _ {X : Type 0} (R : X → X → Type 0) (turn : (x y : X) → R x y → R
       let long = length-swap xs i j in
       let from = stood xs i j d p q a (omega arith) in
       let to = stood xs i j d p q b (omega arith) in
-      rw (from.2, to.2) (two_places xs pairs from.0 to.0 d (differ i j a b from.0 to.0 from.3 to.3 (omega arith)) from.1 to.1)
+      rw (from.2, to.2) (two_places xs pairs from.0 to.0 d (differ i j a b from.0 to.0 from.3 to.3 (omega arith)) from.1
+      to.1)
 
   -- and so of each two places in another order
   pub all_pairs_permutation : (xs ys : List X) → IsPermutation xs ys → AllPairs R xs → AllPairs R ys

@@ -1,5 +1,6 @@
 -- Lists of numbers in rising order: how long they are is told by what they contain.
-use Rattle.std.proofs.Common.{◌≡◌, ◌↔◌, ℕ, suc, ◌+◌, ◌<◌, ◌≤◌, List, [], ◌∷◌, ◌++◌, length, slice_index, Contains, sym, ◌∙◌, ap, subst, subst₂, inl, inr, arith, le_antisymm, zero-le, length-append}
+use Rattle.std.proofs.Common.{◌≡◌, ◌↔◌, ℕ, suc, ◌+◌, ◌<◌, ◌≤◌, List, [], ◌∷◌, ◌++◌, length, slice_index, Contains, sym}
+use Rattle.std.proofs.Common.{◌∙◌, ap, subst, subst₂, inl, inr, arith, le_antisymm, zero-le, length-append}
 use Rattle.std.specs.List.Sorted.{IsStrictlyIncreasing}
 use Rattle.std.proofs.lemmas.Bool.{cases_eq}
 use Rattle.std.proofs.lemmas.List.{get_or_append_left}
@@ -31,8 +32,8 @@ rising_low lo (x ∷ xs) k up c = elim (contains_cases x xs k c) [
 ]
 
 -- what is among more is no longer
-shorter :
-    (lo : ℕ) (ys xs : List ℕ) → Rising lo ys → Rising lo xs → ((k : ℕ) → Contains xs k → Contains ys k) → length xs ≤ length ys
+shorter : (lo : ℕ) (ys xs : List ℕ) → Rising lo ys → Rising lo xs → ((k : ℕ) → Contains xs k → Contains ys k) →
+    length xs ≤ length ys
 unfolding Rising
 shorter lo ys [] up vp among = zero-le
 shorter lo [] (x ∷ xs) up vp among = absurd (contains_none x (among x (contains_here x xs)))
@@ -64,7 +65,8 @@ same_length xs ys up vp same =
     le_antisymm (shorter 0 ys xs two one (λ k. (same k).0)) (shorter 0 xs ys one two (λ k. (same k).1))
 
 -- a rising list still rises with a greater number at its end
-pub rising_on : (xs : List ℕ) (n : ℕ) → IsStrictlyIncreasing xs → ((k : ℕ) → Contains xs k → k < n) → IsStrictlyIncreasing (xs ++ n ∷ [])
+pub rising_on : (xs : List ℕ) (n : ℕ) → IsStrictlyIncreasing xs → ((k : ℕ) → Contains xs k → k < n) →
+    IsStrictlyIncreasing (xs ++ n ∷ [])
 rising_on xs n up low k l = elim (cases_eq (k + 1) (length xs)) [
   | inl e ↦
       let before : slice_index xs k < n = low (slice_index xs k) (Contains-get_or xs k 0 (omega (arith, e))) in

@@ -19,13 +19,15 @@ module _ (A : System) (sys : IsSystem A) (blocks : ℕ → ℕ) where
       (s t : ℕ) (a : List ℕ) (u : ℕ) → Bisimilar Strong A s A t → Step A t a u → Makes Strong A s a u
   strong_shown is stable s t a u same step =
       let share : Share A blocks s t = (is s t).1 same in
-      let found : Signature Strong A blocks s a (blocks u) = (stable s t share.0 share.1 share.2 a (blocks u)).1 (u, step, refl) in
+      let found : Signature Strong A blocks s a (blocks u) =
+      (stable s t share.0 share.1 share.2 a (blocks u)).1 (u, step, refl) in
       let low = (step_below A sys t a u step).1 in
       let ends = (step_below A sys s a found.0 found.1).1 in
       (found.0, found.1, (is u found.0).0 (low, ends, sym found.2))
 
   branching_shown : ((s t : ℕ) → Share A blocks s t ↔ Bisimilar Branching A s A t) → Stable Branching A blocks →
-      (s t : ℕ) (a : List ℕ) (u : ℕ) → Bisimilar Branching A s A t → ((b : List ℕ) (v : ℕ) → Step A s b v → ¬ ShowsNothing Branching A s b v) →
+      (s t : ℕ) (a : List ℕ) (u : ℕ) → Bisimilar Branching A s A t → ((b : List ℕ) (v : ℕ) → Step A s b v →
+      ¬ ShowsNothing Branching A s b v) →
       Step A t a u → ¬ ShowsNothing Branching A t a u → Makes Branching A s a u
   branching_shown is stable s t a u same none step leaves =
       let share : Share A blocks s t = (is s t).1 same in
@@ -45,13 +47,17 @@ module _ (A : System) (sys : IsSystem A) (blocks : ℕ → ℕ) where
 
 -- some Split of one block after another leaves the classes, and they are stable
 pub all_made : (rel : Relation) (A : System) (s t : ℕ) (a : List ℕ) (u : ℕ) → IsSystem A → Bisimilar rel A s A t →
-    ((b : List ℕ) (v : ℕ) → Step A s b v → ¬ ShowsNothing rel A s b v) → Step A t a u → ¬ ShowsNothing rel A t a u → Makes rel A s a u
+    ((b : List ℕ) (v : ℕ) → Step A s b v → ¬ ShowsNothing rel A s b v) → Step A t a u → ¬ ShowsNothing rel A t a u →
+    Makes rel A s a u
 all_made rel A s t a u sys same none step leaves =
     let turns = turns_found rel A sys in
     let after = blocks_after rel A sys turns.0 in
-    go rel after.0 (final_share rel A sys turns.0 after.0 turns.1 after.1) (after_stable rel A sys turns.0 after.0 turns.1.last after.1) same none leaves
+    go rel after.0 (final_share rel A sys turns.0 after.0 turns.1 after.1) (after_stable rel A sys turns.0 after.0
+    turns.1.last after.1) same none leaves
   where
-    go : (r : Relation) (blocks : ℕ → ℕ) → ((x y : ℕ) → Share A blocks x y ↔ Bisimilar r A x A y) → Stable r A blocks → Bisimilar r A s A t →
+    go : (r : Relation) (blocks : ℕ → ℕ) → ((x y : ℕ) → Share A blocks x y ↔ Bisimilar r A x A y) → Stable r A blocks →
+        Bisimilar r A s A t →
         ((b : List ℕ) (v : ℕ) → Step A s b v → ¬ ShowsNothing r A s b v) → ¬ ShowsNothing r A t a u → Makes r A s a u
     go Strong blocks is stable same none leaves = strong_shown A sys blocks is stable s t a u same step
-    go Branching blocks is stable same none leaves = branching_shown A sys blocks is stable s t a u same none step leaves
+    go Branching blocks is stable same none leaves =
+        branching_shown A sys blocks is stable s t a u same none step leaves

@@ -11,11 +11,14 @@ use Rattle.theory.proofs.Closure.{leads_decided}
 pub same_blocks_sym : (A : System) (one two : ℕ → ℕ) → SameBlocks A one two → SameBlocks A two one
 same_blocks_sym A one two h s t ls lt = ((h s t ls lt).1, (h s t ls lt).0)
 
-pub same_blocks_trans : (A : System) (one two three : ℕ → ℕ) → SameBlocks A one two → SameBlocks A two three → SameBlocks A one three
-same_blocks_trans A one two three h g s t ls lt = (λ e. (h s t ls lt).0 ((g s t ls lt).0 e), λ e. (g s t ls lt).1 ((h s t ls lt).1 e))
+pub same_blocks_trans : (A : System) (one two three : ℕ → ℕ) → SameBlocks A one two → SameBlocks A two three →
+    SameBlocks A one three
+same_blocks_trans A one two three h g s t ls lt =
+    (λ e. (h s t ls lt).0 ((g s t ls lt).0 e), λ e. (g s t ls lt).1 ((h s t ls lt).1 e))
 
 -- inert steps depend only on which states share a block
-inert_carried : (A : System) → IsSystem A → (one two : ℕ → ℕ) → SameBlocks A one two → (us : List ℕ) (s t : ℕ) → s < A.states
+inert_carried : (A : System) → IsSystem A → (one two : ℕ → ℕ) → SameBlocks A one two
+    → (us : List ℕ) (s t : ℕ) → s < A.states
     → Along (Inert A two) s us t → Along (Inert A one) s us t
 inert_carried A sys one two same [] s t ls h = h
 inert_carried A sys one two same (u ∷ us) s t ls h =
@@ -67,7 +70,8 @@ module _ (A : System) (sys : IsSystem A) (one two : ℕ → ℕ) (same : SameBlo
   )
 
 -- some transition stands for each pair of a signature
-signature_stands : (rel : Relation) (A : System) (blocks : ℕ → ℕ) (s : ℕ) (a : List ℕ) (b : ℕ) → Signature rel A blocks s a b
+signature_stands : (rel : Relation) (A : System) (blocks : ℕ → ℕ) (s : ℕ) (a : List ℕ) (b : ℕ)
+    → Signature rel A blocks s a b
     → (e : Transition) × Contains A.transitions e × ((e.label ≡ a) × (blocks e.target ≡ b))
 signature_stands Strong A blocks s a b h = (record { source = s; label = a; target = h.0 }, h.1, (refl, h.2))
 signature_stands Branching A blocks s a b h = (record { source = h.0; label = a; target = h.1 }, h.3, (refl, h.4))
@@ -102,14 +106,22 @@ module _ (A : System) (blocks : ℕ → ℕ) where
   inert_leads_decided sys =
       leads_decided (Inert A blocks) A.states inert_decided (λ s t h. (step_below A sys s internal t h.0).1)
 
-  pub signature_decided : (rel : Relation) → IsSystem A → (s : ℕ) (a : List ℕ) (b : ℕ) → Dec (Signature rel A blocks s a b)
+  pub signature_decided : (rel : Relation) → IsSystem A → (s : ℕ) (a : List ℕ) (b : ℕ) →
+      Dec (Signature rel A blocks s a b)
   signature_decided Strong sys s a b =
       decided_like (λ h. (h.0.target, step_stands A h.0 s a h.0.target h.1 h.2.0 h.2.1.0 refl, h.2.1.1))
       (λ h. (record { source = s; label = a; target = h.0 }, h.1, (refl, (refl, h.2))))
       (leaving_decided (λ u. u ≡ s) (λ u. same_number u s) a b)
   signature_decided Branching sys s a b =
       decided_like
-      (λ h. (h.0.0.source, h.0.0.target, h.0.2.0, step_stands A h.0.0 h.0.0.source a h.0.0.target h.0.1 refl h.0.2.1.0 refl, h.0.2.1.1, h.1))
+      (λ h. (
+        h.0.0.source,
+        h.0.0.target,
+        h.0.2.0,
+        step_stands A h.0.0 h.0.0.source a h.0.0.target h.0.1 refl h.0.2.1.0 refl,
+        h.0.2.1.1,
+        h.1,
+      ))
       (λ h. ((record { source = h.0; label = a; target = h.1 }, h.3, (h.2, (refl, h.4))), h.5))
       (both (leaving_decided (Leads (Inert A blocks) s) (inert_leads_decided sys s) a b)
       (not_so (both (same_bytes a internal) (same_number b (blocks s)))))
@@ -124,8 +136,10 @@ module _ (A : System) (blocks : ℕ → ℕ) where
       subst₂ (Signature rel A blocks t) w.2.0 w.2.1
       (f w.0 w.1 (subst₂ (Signature rel A blocks s) (sym w.2.0) (sym w.2.1) g)))
       (λ f e c. f e.label (blocks e.target))
-      (each_in (λ e. Signature rel A blocks s e.label (blocks e.target) → Signature rel A blocks t e.label (blocks e.target))
-      (λ e. implied (signature_decided rel sys s e.label (blocks e.target)) (signature_decided rel sys t e.label (blocks e.target)))
+      (each_in (λ e. Signature rel A blocks s e.label (blocks e.target) →
+      Signature rel A blocks t e.label (blocks e.target))
+      (λ e. implied (signature_decided rel sys s e.label (blocks e.target)) (signature_decided rel sys t e.label
+      (blocks e.target)))
       A.transitions)
 
   pub same_signature_decided : (rel : Relation) → IsSystem A → (s t : ℕ) → Dec (SameSignature rel A blocks s t)

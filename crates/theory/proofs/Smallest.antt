@@ -23,7 +23,8 @@ answered Branching A B R s t answers s' step = elim (answers step.0 s' step.1) [
 ]
 
 -- a bisimulation that relates the first states relates each reachable state to some state
-reachable_related : (rel : Relation) (A B : System) (R : ℕ → ℕ → Type 0) → IsBisimulation rel A B R → R A.first B.first →
+reachable_related : (rel : Relation) (A B : System) (R : ℕ → ℕ → Type 0) → IsBisimulation rel A B R →
+    R A.first B.first →
     (s : ℕ) → Reachable A s → (t : ℕ) × R s t
 reachable_related rel A B R bisimulation first s path =
     leads_keeps (AnyStep A) (λ s. (t : ℕ) × R s t)
@@ -47,10 +48,12 @@ module _ (rel : Relation) (A Q B : System) (sys : IsSystem A) (quotient : Quotie
   number_at_below : (t : ℕ) (d : Dec (Met t)) → number_at t d < Q.states
   unfolding number_at
   number_at_below t (yes h) =
-      number_below rel A sys Q.states quotient.states h.0 (number_of rel A sys h.0 h.2.0).0 (number_of rel A sys h.0 h.2.0).1
+      number_below rel A sys Q.states quotient.states h.0 (number_of rel A sys h.0 h.2.0).0
+      (number_of rel A sys h.0 h.2.0).1
   number_at_below t (no f) = number_below rel A sys Q.states quotient.states A.first 0 (first_number rel A sys)
 
-  number_at_is : (t s n : ℕ) → Reachable A s → Pairs pairs s t → Number rel A s n → (d : Dec (Met t)) → number_at t d ≡ n
+  number_at_is : (t s n : ℕ) → Reachable A s → Pairs pairs s t → Number rel A s n → (d : Dec (Met t)) →
+      number_at t d ≡ n
   unfolding number_at
   number_at_is t s n path related number (yes h) =
       let alike : Bisimilar rel A s A h.0 =
@@ -80,4 +83,5 @@ module _ (rel : Relation) (A Q B : System) (sys : IsSystem A) (quotient : Quotie
 -- no equivalent system has fewer states than the quotient
 pub quotient_smallest : (rel : Relation) (A Q B : System) → IsSystem A → Quotient rel A Q → Equivalent rel A B →
     Q.states ≤ B.states
-quotient_smallest rel A Q B sys quotient (pairs, bisimulation, first) = numbers_fit rel A Q B sys quotient pairs bisimulation first
+quotient_smallest rel A Q B sys quotient (pairs, bisimulation, first) =
+    numbers_fit rel A Q B sys quotient pairs bisimulation first

@@ -1,5 +1,6 @@
 -- How many numbers a decidable property holds of, and the place of each among them.
-use Rattle.std.proofs.Common.{◌≡◌, ◌↔◌, ℕ, List, zero, suc, ◌+◌, ◌<◌, ◌≤◌, [], ◌∷◌, ◌++◌, Contains, refl, sym, ◌∙◌, ap, subst, inl, inr, arith, length-append}
+use Rattle.std.proofs.Common.{◌≡◌, ◌↔◌, ℕ, List, zero, suc, ◌+◌, ◌<◌, ◌≤◌, [], ◌∷◌, ◌++◌, Contains, refl, sym, ◌∙◌, ap}
+use Rattle.std.proofs.Common.{subst, inl, inr, arith, length-append}
 use Rattle.std.proofs.lemmas.Bool.{cases_eq}
 use Rattle.std.proofs.lemmas.List.Elements.{Contains-append_left, Contains-append_right, Contains-append_cases}
 use Rattle.theory.specs.Quotient.{HowMany}
@@ -82,7 +83,8 @@ module _ (P : ℕ → Type 0) (d : (k : ℕ) → Dec (P k)) where
   )
 
   -- the count up to the next number
-  pub tally_next : (n c : ℕ) (p : Dec (P n)) → HowMany (λ k. P k × (k < n)) c → HowMany (λ k. P k × (k < suc n)) (c + one p)
+  pub tally_next : (n c : ℕ) (p : Dec (P n)) → HowMany (λ k. P k × (k < n)) c →
+      HowMany (λ k. P k × (k < suc n)) (c + one p)
   tally_next n c (yes p) (xs, up, has, long) = (
     xs ++ n ∷ [],
     rising_on xs n up (λ k h. ((has k).0 h).1),
@@ -105,7 +107,12 @@ module _ (P : ℕ → Type 0) (d : (k : ℕ) → Dec (P k)) where
   -- the tally is the count
   pub tallied : (n : ℕ) → HowMany (λ k. P k × (k < n)) (tally n)
   unfolding tally
-  tallied zero = ([], λ k l. absurd (omega (arith, l)), λ k. (λ h. absurd (contains_none k h), λ h. absurd (omega (arith, h.1))), refl)
+  tallied zero = (
+    [],
+    λ k l. absurd (omega (arith, l)),
+    λ k. (λ h. absurd (contains_none k h), λ h. absurd (omega (arith, h.1))),
+    refl,
+  )
   tallied (suc n) = tally_next n (tally n) (d n) (tallied n)
 
   -- any count is the tally
@@ -173,11 +180,16 @@ module _ (P Q : ℕ → Type 0) (p : (k : ℕ) → Dec (P k)) (q : (k : ℕ) →
       omega (arith, tally_le n (λ k l. f k (omega (arith, l))), one_le (f n (omega arith)) (p n) (q n))
 
   -- and of more, if it holds of one more
-  pub tally_greater : (n : ℕ) → ((k : ℕ) → k < n → P k → Q k) → (k : ℕ) → k < n → ¬ P k → Q k → tally P p n < tally Q q n
+  pub tally_greater : (n : ℕ) → ((k : ℕ) → k < n → P k → Q k) → (k : ℕ) → k < n → ¬ P k → Q k →
+      tally P p n < tally Q q n
   unfolding tally
   tally_greater zero f k l no_p h = absurd (omega (arith, l))
   tally_greater (suc n) f k l no_p h = elim (cases_eq k n) [
-    | inl e ↦ omega (arith, tally_le n (λ j m. f j (omega (arith, m))), one_more (subst (λ x. ¬ P x) e no_p) (subst Q e h) (p n) (q n))
+    | inl e ↦ omega (
+      arith,
+      tally_le n (λ j m. f j (omega (arith, m))),
+      one_more (subst (λ x. ¬ P x) e no_p) (subst Q e h) (p n) (q n),
+    )
     | inr e ↦ omega (
       arith,
       tally_greater n (λ j m. f j (omega (arith, m))) k (omega (arith, l, e)) no_p h,

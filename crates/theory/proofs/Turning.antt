@@ -6,8 +6,10 @@ use Rattle.theory.specs.Bisimulation.{Bisimilar}
 use Rattle.theory.specs.declared.relation.Relation.{Relation}
 use Rattle.theory.specs.Blocks.{OneBlock, Split, SameBlocks, Share, After, ChangesNothing, Turns, Underway}
 use Rattle.theory.proofs.Deciding.{decided_like}
-use Rattle.theory.proofs.Refinement.{split_of_blocks, blocks_after, no_change, share_decided, final_share, bisimilar_to_one_share}
-use Rattle.theory.proofs.Counting.{block_count, block_count_at_most, block_count_some, split_cases, same_blocks_decided, parting_adds}
+use Rattle.theory.proofs.Refinement.{split_of_blocks, blocks_after, no_change, share_decided, final_share}
+use Rattle.theory.proofs.Refinement.{bisimilar_to_one_share}
+use Rattle.theory.proofs.Counting.{block_count, block_count_at_most, block_count_some, split_cases, same_blocks_decided}
+use Rattle.theory.proofs.Counting.{parting_adds}
 
 -- of blocks that are underway there are more than Splits were made
 record Grown (rel : Relation) (A : System) (k : ℕ) (blocks : ℕ → ℕ) : Type 0 where
@@ -44,7 +46,8 @@ module _ (rel : Relation) (A : System) (sys : IsSystem A) where
     ];
   }
 
-  grown_more : (k : ℕ) (old new : ℕ → ℕ) → Grown rel A k old → Split rel A old new → ¬ SameBlocks A old new → Grown rel A (suc k) new
+  grown_more : (k : ℕ) (old new : ℕ → ℕ) → Grown rel A k old → Split rel A old new → ¬ SameBlocks A old new →
+      Grown rel A (suc k) new
   grown_more k old new h split apart = record {
     underway = underway_more k old new h.underway split apart;
     many = elim (split_cases rel A old new split) [
@@ -112,7 +115,8 @@ module _ (rel : Relation) (A : System) (sys : IsSystem A) where
       (h.1 s u).0 (x.0, y.1, x.2 ∙ y.2)
 
   -- states of A that are bisimilar to one state of B are bisimilar
-  pub bisimilar_through : (B : System) (s t x : ℕ) → Bisimilar rel A s B x → Bisimilar rel A t B x → Bisimilar rel A s A t
+  pub bisimilar_through : (B : System) (s t x : ℕ) → Bisimilar rel A s B x → Bisimilar rel A t B x →
+      Bisimilar rel A s A t
   bisimilar_through B s t x b c =
       let turns : (m : ℕ) × Turns rel A m × (m ≤ A.states) = turns_found rel A sys in
       let after : (blocks : ℕ → ℕ) × After rel A turns.0 blocks = blocks_after rel A sys turns.0 in

@@ -1,7 +1,8 @@
 -- The union of two systems: both are embedded in it, and nothing else.
 use Rattle.std.proofs.Common.{◌≡◌, ◌⊎◌, ℕ, ◌+◌, List, map, Contains, refl, sym, ap, subst, ◌∙◌, inl, inr, arith}
 use Rattle.std.proofs.lemmas.List.{length-map, get_or-map}
-use Rattle.std.proofs.lemmas.List.Elements.{All-contains, All-contains_itself, All-weaker, All-map, All-append, Contains-append_left, Contains-append_right, Contains-append_cases}
+use Rattle.std.proofs.lemmas.List.Elements.{All-contains, All-contains_itself, All-weaker, All-map, All-append}
+use Rattle.std.proofs.lemmas.List.Elements.{Contains-append_left, Contains-append_right, Contains-append_cases}
 use Rattle.theory.specs.System.{System, IsSystem, IsAmong, Transition, Step}
 use Rattle.theory.specs.Union.{shifted, union_of}
 use Rattle.theory.proofs.Paths.{step_below}
@@ -11,10 +12,12 @@ use Rattle.theory.proofs.Embeddings.{Embeds}
 contains_image : {X Y : Type 0} (f : X → Y) (xs : List X) (x : X) → Contains xs x → Contains (map f xs) (f x)
 contains_image f xs x c = (c.0, omega (arith, c.1, length-map xs f), get_or-map f xs c.0 x (f x) c.1 ∙ ap f c.2)
 
-image_contains : {X Y : Type 0} (f : X → Y) (xs : List X) (y : Y) → Contains (map f xs) y → (x : X) × Contains xs x × (f x ≡ y)
+image_contains : {X Y : Type 0} (f : X → Y) (xs : List X) (y : Y) → Contains (map f xs) y →
+    (x : X) × Contains xs x × (f x ≡ y)
 image_contains {X} {Y} f xs y c =
     let P : Y → Type 0 = λ z. (x : X) × Contains xs x × (f x ≡ z) in
-    All-contains P (map f xs) y (All-map P f xs (All-weaker (Contains xs) (λ x. P (f x)) (λ x d. (x, d, refl)) xs (All-contains_itself xs))) c
+    All-contains P (map f xs) y (All-map P f xs (All-weaker (Contains xs) (λ x. P (f x)) (λ x d. (x, d, refl)) xs
+    (All-contains_itself xs))) c
 
 among_left : (m n : ℕ) (e : Transition) → IsAmong m e → IsAmong (m + n) e
 among_left m n e h = record { source = omega (arith, h.source); label = h.label; target = omega (arith, h.target) }
@@ -32,12 +35,14 @@ module _ (A B : System) where
             All-append (IsAmong n) A.transitions (map (shifted A.states) B.transitions)
             (All-weaker (IsAmong A.states) (IsAmong n) (among_left A.states B.states) A.transitions sys.transitions)
             (All-map (IsAmong n) (shifted A.states) B.transitions
-            (All-weaker (IsAmong B.states) (λ e. IsAmong n (shifted A.states e)) (among_right A.states B.states) B.transitions sys'.transitions));
+            (All-weaker (IsAmong B.states) (λ e. IsAmong n (shifted A.states e)) (among_right A.states B.states)
+            B.transitions sys'.transitions));
       }
 
   -- a step of the union is one of A, or one of B further on
   abbrev pub OfRight : ℕ → List ℕ → ℕ → Type 0
-  OfRight s a t = (e : Transition) × Contains B.transitions e × (shifted A.states e ≡ record { source = s; label = a; target = t })
+  OfRight s a t =
+      (e : Transition) × Contains B.transitions e × (shifted A.states e ≡ record { source = s; label = a; target = t })
 
   pub union_step : (s : ℕ) (a : List ℕ) (t : ℕ) → Step (union_of A B) s a t → Step A s a t ⊎ OfRight s a t
   union_step s a t step =
@@ -49,7 +54,8 @@ module _ (A B : System) where
 
   pub step_left : (s : ℕ) (a : List ℕ) (t : ℕ) → Step A s a t → Step (union_of A B) s a t
   step_left s a t =
-      Contains-append_left A.transitions (map (shifted A.states) B.transitions) (record { source = s; label = a; target = t })
+      Contains-append_left A.transitions (map (shifted A.states) B.transitions)
+      (record { source = s; label = a; target = t })
 
   pub step_right : (s : ℕ) (a : List ℕ) (t : ℕ) → Step B s a t → Step (union_of A B) (A.states + s) a (A.states + t)
   step_right s a t step =

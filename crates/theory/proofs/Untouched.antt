@@ -25,7 +25,8 @@ module _ (A : System) (sys : IsSystem A) (old new : ℕ → ℕ) (refines : Refi
       → Leads (Inert A old) s u → Leads (Inert A new) s u
   path_is s u stays way =
       leads_keeps (Inert A old) (Leads (Inert A new) s)
-      (λ x y r h. leads_on (Inert A new) s x y h (r.0, stays x y h r ∙ sym (inert_same A new s x h))) s u way (leads_here (Inert A new) s)
+      (λ x y r h. leads_on (Inert A new) s x y h (r.0, stays x y h r ∙ sym (inert_same A new s x h))) s u way
+      (leads_here (Inert A new) s)
 
   -- what was shown is shown under the number that the target has now
   shown_now : (s u : ℕ) (a : List ℕ) (t : ℕ) → s < A.states → Leads (Inert A new) s u → Step A u a t
@@ -45,11 +46,12 @@ module _ (A : System) (sys : IsSystem A) (old new : ℕ → ℕ) (refines : Refi
       ]
 
   -- the signature of an untouched state stays
-  module _ (low : ℕ) (keeps : KeepsNumbers A old new low) (s : ℕ) (ls : s < A.states) (still : IsUntouched A new low s) where
+  module _ (low : ℕ) (keeps : KeepsNumbers A old new low) (s : ℕ) (ls : s < A.states)
+      (still : IsUntouched A new low s) where
     inside : (x y : ℕ) → Leads (Inert A new) s x → Inert A old x y → new y ≡ new s
     inside x y h r = elim (cases_lt (new y) low) [
-      | inl l ↦
-          keeps y (step_below A sys x internal y r.0).1 l ∙ r.1 ∙ inert_same A old s x (path_was s x h) ∙ sym (keeps s ls still.0)
+      | inl l ↦ keeps y (step_below A sys x internal y r.0).1 l ∙ r.1 ∙ inert_same A old s x (path_was s x h)
+          ∙ sym (keeps s ls still.0)
       | inr l ↦
           let shown = still.1 internal (new y) (x, y, h, r.0, refl, λ e. absurd (omega (arith, e.1, l, still.0))) in
           absurd (omega (arith, shown, l))
@@ -76,7 +78,8 @@ module _ (A : System) (sys : IsSystem A) (old new : ℕ → ℕ) (refines : Refi
             )
 
 -- what a round looks at is all that is touched, but for states that are alone in their blocks
-module _ (A : System) (sys : IsSystem A) (blocks : ℕ → ℕ) (low : ℕ) (live : ℕ → Type 0) (looks : LooksBack A blocks low live) where
+module _ (A : System) (sys : IsSystem A) (blocks : ℕ → ℕ) (low : ℕ) (live : ℕ →
+    Type 0) (looks : LooksBack A blocks low live) where
   -- what leads by inert steps to a state that is looked at is looked at
   found_back : (s : ℕ) (us : List ℕ) (u : ℕ) → blocks s < low → Along (Inert A blocks) s us u → live u → live s
   found_back s [] u l here found = subst live (sym here) found
@@ -85,7 +88,8 @@ module _ (A : System) (sys : IsSystem A) (blocks : ℕ → ℕ) (low : ℕ) (liv
       looks.inner s t first old (found_back t us u old way found)
 
   -- a state that shows a new number is looked at, or alone
-  shows_new : (s : ℕ) (a : List ℕ) (b : ℕ) → s < A.states → blocks s < low → Signature Branching A blocks s a b → low ≤ b
+  shows_new : (s : ℕ) (a : List ℕ) (b : ℕ) → s < A.states → blocks s < low
+      → Signature Branching A blocks s a b → low ≤ b
       → live s ⊎ IsOnly A blocks s
   shows_new s a b ls l (u, t, way, step, at, shows) new = elim (looks.sources u a t step (omega (arith, at, new))) [
     | inl found ↦ inl (found_back s way.0 u l way.1 found)

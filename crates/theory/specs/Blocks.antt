@@ -40,7 +40,8 @@ Stable rel A blocks = EachTwo A (λ s t. blocks s ≡ blocks t → SameSignature
 -- for branching: what lies silently between two states of a block is in that block; for strong, always
 abbrev pub Kept : Relation → System → (ℕ → ℕ) → Type 0
 Kept Strong A blocks = Unit {0}
-Kept Branching A blocks = (s u t : ℕ) → s < A.states → Silent A s u → Silent A u t → blocks s ≡ blocks t → blocks u ≡ blocks s
+Kept Branching A blocks =
+    (s u t : ℕ) → s < A.states → Silent A s u → Silent A u t → blocks s ≡ blocks t → blocks u ≡ blocks s
 
 -- two states share a block
 abbrev pub Share : System → (ℕ → ℕ) → ℕ → ℕ → Type 0

@@ -1,4 +1,5 @@
--- What a split leaves as it was. Blocks have numbers: those from `low` on are new, and a state with a smaller number has had it before.
+-- What a split leaves as it was. Blocks have numbers: those from `low` on are new, and a state with a smaller number
+-- has had it before.
 use Rattle.std.specs.Prelude.{◌≡◌, ◌⊎◌, ◌↔◌, ℕ, ◌<◌, ◌≤◌, List}
 use Rattle.theory.specs.System.{System, Step}
 use Rattle.theory.specs.declared.relation.Relation.TheVariants.{Branching}
@@ -28,8 +29,8 @@ ShowsNoPair A blocks s = (a : List ℕ) (b : ℕ) → ¬ Signature Branching A b
 abbrev pub IsOnly : System → (ℕ → ℕ) → ℕ → Type 0
 IsOnly A blocks s = (t : ℕ) → t < A.states → blocks t ≡ blocks s → t ≡ s
 
--- the states `live` are enough for a round to look at: those with a new number, the sources of steps to such states, and what inert
--- steps lead to these from their old blocks. A state that is the only one of its block may be left out
+-- the states `live` are enough for a round to look at: those with a new number, the sources of steps to such states,
+-- and what inert steps lead to these from their old blocks. A state that is the only one of its block may be left out
 pub record LooksBack (A : System) (blocks : ℕ → ℕ) (low : ℕ) (live : ℕ → Type 0) : Type 0 where
   pub new : (t : ℕ) → t < A.states → low ≤ blocks t → live t ⊎ IsOnly A blocks t
   pub sources : (s : ℕ) (a : List ℕ) (t : ℕ) → Step A s a t → low ≤ blocks t → live s ⊎ IsOnly A blocks s

@@ -1,6 +1,8 @@
 -- The words of the command line: what `clap` is told of them, and the job of what it found in them.
-use Rattle.std.specs.Prelude.{◌≡◌, ◌≢◌, ◌⊎◌, ⊤, Any, IsSome, List, [], ◌∷◌, Some, None, codes, true, false, option_map, unwrap_or, string_bytes, Bool, Option}
-use Rattle.clap.specs.Words.{App, Row, Rule, Text, fault_of, first_of, new_app, new_rule, one_of, subcommand_of, with_rule, with_subcommand}
+use Rattle.std.specs.Prelude.{◌≡◌, ◌≢◌, ◌⊎◌, ⊤, Any, IsSome, List, [], ◌∷◌, Some, None, codes, true, false, option_map}
+use Rattle.std.specs.Prelude.{unwrap_or, string_bytes, Bool, Option}
+use Rattle.clap.specs.Words.{App, Row, Rule, Text, fault_of, first_of, new_app, new_rule, one_of, subcommand_of}
+use Rattle.clap.specs.Words.{with_rule, with_subcommand}
 use Rattle.clap.specs.declared.builder.ArgAction.TheVariants.{SetTrue}
 use Rattle.clap.specs.declared.error.kind.ErrorKind.{ErrorKind}
 use Rattle.clap.specs.declared.error.kind.ErrorKind.TheVariants.{DisplayHelp, DisplayVersion}
@@ -45,7 +47,8 @@ needed_file_rule id = record (file_rule id) { required = true }
 
 -- the words of `cmp`
 abbrev pub cmp_app : App
-cmp_app = with_rule (with_rule (job_app (codes "cmp")) (needed_file_rule (codes "first"))) (needed_file_rule (codes "second"))
+cmp_app =
+    with_rule (with_rule (job_app (codes "cmp")) (needed_file_rule (codes "first"))) (needed_file_rule (codes "second"))
 
 -- the words of the program, which has a version and has to be given a subcommand
 abbrev pub program_app : App
@@ -92,7 +95,8 @@ IsWhole name rows = (name ≡ codes "min")
 
 -- the word is not that of a relation, and the fault names it; or memory was refused
 abbrev pub NamesNoRelation : Text → WordFault → Type 0
-NamesNoRelation word (fault.Relation named) = (string_bytes named ≡ word) × ((relation : Relation) → word ≢ relation_word relation)
+NamesNoRelation word (fault.Relation named) =
+    (string_bytes named ≡ word) × ((relation : Relation) → word ≢ relation_word relation)
 NamesNoRelation word fault.Memory = ⊤
 NamesNoRelation word _ = ⊥
 
@@ -132,10 +136,11 @@ IsFaultOfKind kind fault.Memory = ⊤
 abbrev pub IsJobOf : List Text → Job → Type 0
 IsJobOf words job = AreTaken words × IsJobIn (subcommand_of program_app words) job
 
--- why words give no job: they are taken and the relation found in them is unknown; they ask for help; they are taken and
--- not enough for a job, or `clap` finds a fault in them that is no request for help; or memory was refused
+-- why words give no job: they are taken and the relation found in them is unknown; they ask for help; they are taken
+-- and not enough for a job, or `clap` finds a fault in them that is no request for help; or memory was refused
 abbrev pub IsFaultOf : List Text → WordFault → Type 0
-IsFaultOf words (fault.Relation named) = AreTaken words × IsFaultIn (subcommand_of program_app words) (fault.Relation named)
+IsFaultOf words (fault.Relation named) =
+    AreTaken words × IsFaultIn (subcommand_of program_app words) (fault.Relation named)
 IsFaultOf words (fault.Help text) = Any IsHelp (fault_of program_app words)
 IsFaultOf words (fault.Usage text) = (AreTaken words × ¬ IsWholeIn (subcommand_of program_app words))
     ⊎ Any (λ kind. ¬ IsHelp kind) (fault_of program_app words)

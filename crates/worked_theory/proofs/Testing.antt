@@ -1,5 +1,6 @@
 -- Tests that compute on written-out lists, and what each shows if it passes.
-use Rattle.std.proofs.Common.{◌≡◌, ◌≢◌, ◌⊎◌, ℕ, zero, suc, ◌<◌, Bool, true, false, not, eqb, List, [], ◌∷◌, Contains, bytes_eq, refl, sym, subst, inl, inr, arith}
+use Rattle.std.proofs.Common.{◌≡◌, ◌≢◌, ◌⊎◌, ℕ, zero, suc, ◌<◌, Bool, true, false, not, eqb, List, [], ◌∷◌, Contains}
+use Rattle.std.proofs.Common.{bytes_eq, refl, sym, subst, inl, inr, arith}
 use Rattle.std.proofs.lemmas.Bool.{eqb-true, eq-eqb, both_ways, not-true, cases_eq}
 use Rattle.std.proofs.lemmas.Slice.Eq.{bytes_eq-Decides}
 use Rattle.theory.specs.System.{Transition}
@@ -135,7 +136,8 @@ bytes_pass x y e = (bytes_eq-Decides x y).1 e
 pub every_from : {X : Type 0} (xs : List X) (p : X → Bool) → ((x : X) → Contains xs x → p x ≡ true) → every xs p ≡ true
 every_from [] p h = refl
 every_from (y ∷ xs) p h =
-    and_then_from (p y) (λ _. every xs p) (h y (contains_here y xs)) (every_from xs p (λ x c. h x (contains_there y xs x c)))
+    and_then_from (p y) (λ _. every xs p) (h y (contains_here y xs))
+    (every_from xs p (λ x c. h x (contains_there y xs x c)))
 
 -- every number below n passes
 abbrev pub each_below : ℕ → (ℕ → Bool) → Bool

@@ -1,5 +1,6 @@
 -- What a walk says of the states below a height holds still after a move that keeps them, and after lists were added.
-use Rattle.std.proofs.Common.{◌≡◌, ◌⊎◌, ℕ, ◌<◌, ◌≤◌, List, length, slice_index, refl, sym, ◌∙◌, subst, inl, inr, arith, Contains}
+use Rattle.std.proofs.Common.{◌≡◌, ◌⊎◌, ℕ, ◌<◌, ◌≤◌, List, length, slice_index, refl, sym, ◌∙◌, subst, inl, inr, arith}
+use Rattle.std.proofs.Common.{Contains}
 use Rattle.std.specs.List.{All}
 use Rattle.std.proofs.Math.Logic.{⊎_map}
 use Rattle.theory.specs.declared.relation.Relation.TheVariants.{Branching}
@@ -9,7 +10,9 @@ use Rattle.inert.specs.Steps.{Under}
 use Rattle.inert.specs.Signed.{HasPair, pair_under, IsSignature}
 use Rattle.inert.specs.Moves.{SignsMore, GoesOn}
 use Rattle.inert.proofs.parts.Stages.{seen_on}
-use Rattle.inert.specs.Search.{Search, Stage, IsSigned, stage_at, item_at, Gives, IsUpTo, IsOf, HoldsPair, IsAhead, IsEntered, IsFollowed, Accounted, IsSound, IsThere, IsRoot, AreRoots, Walks, Open, Finished, Frame, Root, Item, Pair, Listed}
+use Rattle.inert.specs.Search.{Search, Stage, IsSigned, stage_at, item_at, Gives, IsUpTo, IsOf, HoldsPair, IsAhead}
+use Rattle.inert.specs.Search.{IsEntered, IsFollowed, Accounted, IsSound, IsThere, IsRoot, AreRoots, Walks, Open}
+use Rattle.inert.specs.Search.{Finished, Frame, Root, Item, Pair, Listed}
 
 -- the states at places below n, their components and their items are as they were
 pub record Keeps (w new : Search) (n : ℕ) : Type 0 where
@@ -18,13 +21,15 @@ pub record Keeps (w new : Search) (n : ℕ) : Type 0 where
   pub below : (p q : ℕ) → p < n → q < length w.stack → IsUpTo w.roots q p → q < n
   pub up : (p q : ℕ) → p < n → IsUpTo w.roots p q → IsUpTo new.roots p q
   pub of : (j p : ℕ) → j < length w.items → p < n → IsOf w.roots j p → IsOf new.roots j p
-  pub items : (j p : ℕ) → j < length w.items → p < n → IsOf w.roots j p → (j < length new.items) × (item_at new.items j ≡ item_at w.items j)
+  pub items : (j p : ℕ) → j < length w.items → p < n → IsOf w.roots j p →
+      (j < length new.items) × (item_at new.items j ≡ item_at w.items j)
   pub opened : (s p : ℕ) → p < n → stage_at w.stages s ≡ Open p → stage_at new.stages s ≡ Open p
   pub finished : (s k : ℕ) → stage_at w.stages s ≡ Finished k → stage_at new.stages s ≡ Finished k
 
 -- a move that leaves the stages and the stack alone, the items that are there, and roots, unless it drops some
 pub keeps_stack : (w : Search) (frames : List Frame) (roots : List Root) (items : List Item)
-    → ((j : ℕ) → j < length w.items → (j < length items) × (item_at items j ≡ item_at w.items j)) → ((P : Root → Type 0) → All P w.roots → All P roots)
+    → ((j : ℕ) → j < length w.items → (j < length items) × (item_at items j ≡ item_at w.items j))
+    → ((P : Root → Type 0) → All P w.roots → All P roots)
     → Keeps w (record w { frames = frames; roots = roots; items = items }) (length w.stack)
 keeps_stack w frames roots items same fewer = record {
   within = omega arith;
@@ -38,7 +43,8 @@ keeps_stack w frames roots items same fewer = record {
 }
 
 -- components stay where they begin
-pub roots_kept : {w : Search} → AreRoots w → (frames : List Frame) (items : List Item) → All (IsRoot frames items) w.roots → AreRoots (record w { frames = frames; items = items })
+pub roots_kept : {w : Search} → AreRoots w → (frames : List Frame) (items : List Item) →
+    All (IsRoot frames items) w.roots → AreRoots (record w { frames = frames; items = items })
 roots_kept roots frames items each = record { first = roots.first; rising = roots.rising; each = each }
 
 module _ {u : Under} {lists : List (List (ℕ × ℕ))} {w : Search} (walks : Walks u lists w) {new : Search} {n : ℕ}
@@ -48,14 +54,17 @@ module _ {u : Under} {lists : List (List (ℕ × ℕ))} {w : Search} (walks : Wa
       let (low', same) = keeps.items j p low h of in
       (j, low', subst (λ x. Gives lists x z) (sym same) g, keeps.of j p low h of)
 
-  followed_still : (p t : ℕ) → p < n → (IsEntered w p t → IsFollowed lists new p t) → IsFollowed lists w p t → IsFollowed lists new p t
+  followed_still : (p t : ℕ) → p < n → (IsEntered w p t → IsFollowed lists new p t) → IsFollowed lists w p t →
+      IsFollowed lists new p t
   followed_still p t h entered (inl (q, is, up, down)) =
       let low = keeps.below p q h (walks.opened.only t q is).0 down in
       inl (q, keeps.opened t q low is, keeps.up p q h up, keeps.up q p low down)
-  followed_still p t h entered (inr (inl (k, is, all))) = inr (inl (k, keeps.finished t k is, λ z c. holds_still p z h (all z c)))
+  followed_still p t h entered (inr (inl (k, is, all))) =
+      inr (inl (k, keeps.finished t k is, λ z c. holds_still p z h (all z c)))
   followed_still p t h entered (inr (inr e)) = entered e
 
-  pub done_still : (p : ℕ) (e : Triple) → p < n → ((t : ℕ) → IsEntered w p t → IsFollowed lists new p t) → Accounted u lists w p e
+  pub done_still : (p : ℕ) (e : Triple) → p < n → ((t : ℕ) → IsEntered w p t → IsFollowed lists new p t)
+      → Accounted u lists w p e
       → Accounted u lists new p e
   done_still p e h entered done = record {
     shown = λ other. holds_still p (pair_under u.blocks e) h (done.shown other);
@@ -63,8 +72,10 @@ module _ {u : Under} {lists : List (List (ℕ × ℕ))} {w : Search} (walks : Wa
   }
 
   -- a transition that was taken into account, or was still to be read
-  pub accounted_still : (p k : ℕ) → p < n → k < length u.l.places → source_of (place_at u.l.places k) ≡ slice_index new.stack p
-      → (IsAhead w p k → IsAhead new p k ⊎ Accounted u lists new p (place_at u.l.places k)) → ((t : ℕ) → IsEntered w p t → IsFollowed lists new p t)
+  pub accounted_still : (p k : ℕ) → p < n → k < length u.l.places
+      → source_of (place_at u.l.places k) ≡ slice_index new.stack p
+      → (IsAhead w p k → IsAhead new p k ⊎ Accounted u lists new p (place_at u.l.places k))
+      → ((t : ℕ) → IsEntered w p t → IsFollowed lists new p t)
       → IsAhead new p k ⊎ Accounted u lists new p (place_at u.l.places k)
   accounted_still p k h low source ahead entered =
       let within = keeps.within in
@@ -74,7 +85,8 @@ module _ {u : Under} {lists : List (List (ℕ × ℕ))} {w : Search} (walks : Wa
       ]
 
   -- an item of a component below n
-  pub sound_still : (j : ℕ) → j < length w.items → n ≤ length new.stack → ((p : ℕ) → p < length w.stack → IsOf w.roots j p → p < n)
+  pub sound_still : (j : ℕ) → j < length w.items → n ≤ length new.stack → ((p : ℕ) → p < length w.stack →
+      IsOf w.roots j p → p < n)
       → IsSound u lists new j
   sound_still j low room below =
       let (p, lp, of, all) = walks.sound j low in
@@ -82,33 +94,43 @@ module _ {u : Under} {lists : List (List (ℕ × ℕ))} {w : Search} (walks : Wa
         p,
         omega (arith, h, room),
         keeps.of j p low h of,
-        λ z g.
-            subst (λ s. HasPair Branching u.l u.blocks s z.0 z.1) (sym (keeps.states p h)) (all z (subst (λ x. Gives lists x z) (keeps.items j p low h of).1 g)),
+        λ z g. subst (λ s. HasPair Branching u.l u.blocks s z.0 z.1) (sym (keeps.states p h))
+            (all z (subst (λ x. Gives lists x z) (keeps.items j p low h of).1 g)),
       )
 
 -- a signature is there still
-signed_grow : {u : Under} {s k : ℕ} {lists lists' : List (List (ℕ × ℕ))} → Grow lists lists' → IsSigned u s lists k → IsSigned u s lists' k
+signed_grow : {u : Under} {s k : ℕ} {lists lists' : List (List (ℕ × ℕ))} → Grow lists lists' → IsSigned u s lists k →
+    IsSigned u s lists' k
 signed_grow {u = u} {s = s} {k = k} grow was = record {
   within = omega (arith, was.within, grow.longer);
   signature = subst (IsSignature Branching u.l u.blocks s) (sym (grow.same k was.within)) was.signature;
 }
 
 -- states are finished, and then more
-pub signs_on : (u : Under) (first lists : List (List (ℕ × ℕ))) (old mid new : List Stage) → Grow first lists → SignsMore u first old mid → SignsMore u lists mid new
+pub signs_on : (u : Under) (first lists : List (List (ℕ × ℕ))) (old mid new : List Stage) → Grow first lists
+    → SignsMore u first old mid → SignsMore u lists mid new
     → SignsMore u lists old new
 signs_on u first lists old mid new grow were are s k is =
     grind (arith, are s k is, were s k, signed_grow {u = u} {s = s} {k = k} grow)
 
 -- a walk goes on, and then further
-pub goes_on : {u : Under} {first lists : List (List (ℕ × ℕ))} {old mid new : Search} → Grow first lists → GoesOn u first old mid → GoesOn u lists mid new → GoesOn u lists old new
-goes_on grow were are = record { walks = are.walks; seen = seen_on were.seen are.seen; signs = signs_on _ _ _ _ _ _ grow were.signs are.signs }
+pub goes_on : {u : Under} {first lists : List (List (ℕ × ℕ))} {old mid new : Search} → Grow first lists →
+    GoesOn u first old mid → GoesOn u lists mid new → GoesOn u lists old new
+goes_on grow were are = record {
+  walks = are.walks;
+  seen = seen_on were.seen are.seen;
+  signs = signs_on _ _ _ _ _ _ grow were.signs are.signs;
+}
 
 -- lists were added
 module _ {lists lists' : List (List (ℕ × ℕ))} (grow : Grow lists lists') where
   -- an item gives the same
-  Gives-grow : (x : Item) → IsThere lists x → (z : ℕ × ℕ) → (Gives lists x z → Gives lists' x z) × (Gives lists' x z → Gives lists x z)
+  Gives-grow : (x : Item) → IsThere lists x → (z : ℕ × ℕ) → (Gives lists x z → Gives lists' x z) × (Gives lists' x z →
+      Gives lists x z)
   Gives-grow (Pair a b) there z = (λ g. g, λ g. g)
-  Gives-grow (Listed k) there z = let same = grow.same k (there k refl) in (subst (λ xs. Contains xs z) (sym same), subst (λ xs. Contains xs z) same)
+  Gives-grow (Listed k) there z =
+      let same = grow.same k (there k refl) in
+      (subst (λ xs. Contains xs z) (sym same), subst (λ xs. Contains xs z) same)
 
   module _ {u : Under} {w : Search} (walks : Walks u lists w) where
     holds : (p : ℕ) (z : ℕ × ℕ) → HoldsPair lists w p z → HoldsPair lists' w p z
@@ -135,7 +157,8 @@ module _ {lists lists' : List (List (ℕ × ℕ))} (grow : Grow lists lists') wh
       frames = walks.frames;
       connects = walks.connects;
       there = λ j d low k is. omega (arith, walks.there j d low k is, grow.longer);
-      sound = λ j low. let (p, lp, of, all) = walks.sound j low in (p, lp, of, λ z g. all z ((Gives-grow (item_at w.items j) (walks.there j (Pair 0 0) low) z).1 g));
+      sound = λ j low. let (p, lp, of, all) = walks.sound j low in
+          (p, lp, of, λ z g. all z ((Gives-grow (item_at w.items j) (walks.there j (Pair 0 0) low) z).1 g));
       accounted = λ p k lp lk source. ⊎_map (λ ahead. ahead)
           (λ done. record {
             shown = λ other. holds p _ (done.shown other);

@@ -1,5 +1,6 @@
 -- A walk at rest: before it has begun, and when it is over, with the signatures of its states.
-use Rattle.std.proofs.Common.{◌≡◌, ◌⊎◌, ◌∙◌, ℕ, ◌<◌, ◌≤◌, List, length, slice_index, refl, sym, ap, subst, inl, inr, arith}
+use Rattle.std.proofs.Common.{◌≡◌, ◌⊎◌, ◌∙◌, ℕ, ◌<◌, ◌≤◌, List, length, slice_index, refl, sym, ap, subst, inl, inr}
+use Rattle.std.proofs.Common.{arith}
 use Rattle.std.specs.List.{All}
 use Rattle.std.proofs.Math.Logic.{⊎_map}
 use Rattle.std.proofs.lemmas.Bool.{cases_lt}
@@ -10,13 +11,15 @@ use Rattle.lists.specs.Lists.{list_at, AreNumbers}
 use Rattle.partition.specs.Blocks.{IsOne}
 use Rattle.inert.specs.Steps.{Under}
 use Rattle.inert.specs.Signed.{AreSignedBeside, IsSignature}
-use Rattle.inert.specs.Search.{Search, nothing, stage_at, number_of, kept, no_root, AreOthers, AreAwake, AreSigned, IsFinished, HasEnded, IsWoken, Walks, Unseen, Open, Finished, Stage}
+use Rattle.inert.specs.Search.{Search, nothing, stage_at, number_of, kept, no_root, AreOthers, AreAwake, AreSigned}
+use Rattle.inert.specs.Search.{IsFinished, HasEnded, IsWoken, Walks, Unseen, Open, Finished, Stage}
 use Rattle.inert.specs.Moves.{Rests}
 use Rattle.inert.specs.Ahead.{is_unseen, unseen, KeepsSeen}
 use Rattle.inert.proofs.invariant.Standing.{frames_some, root_low}
 
 -- each state is unseen, or finished with the list that is kept for it
-pub new_rests : (u : Under) (lists : List (List (ℕ × ℕ))) {w : Search} → w ≡ nothing w.stages → length w.stages ≡ u.l.states → 1 ≤ length lists
+pub new_rests : (u : Under) (lists : List (List (ℕ × ℕ))) {w : Search} → w ≡ nothing w.stages
+    → length w.stages ≡ u.l.states → 1 ≤ length lists
     → ((s : ℕ) → (stage_at w.stages s ≡ Unseen) ⊎ IsFinished w.stages s) → AreSigned u lists w.stages → Rests u lists w
 new_rests u lists {w = w} empty size some each kept =
     let few : unseen w.stages ≤ length w.stages = count_by-le-length is_unseen w.stages in
@@ -24,7 +27,10 @@ new_rests u lists {w = w} empty size some each kept =
 
 -- a state that has a stage is one
 pub finished_inside : (stages : List Stage) (s k : ℕ) → stage_at stages s ≡ Finished k → s < length stages
-finished_inside stages s k is = elim (cases_lt s (length stages)) [ inl inside ↦ inside | inr past ↦ absurd (cc (get_or_past stages s Unseen past, is)) ]
+finished_inside stages s k is = elim (cases_lt s (length stages)) [
+  | inl inside ↦ inside
+  | inr past ↦ absurd (cc (get_or_past stages s Unseen past, is))
+]
 
 -- nothing is kept past the last state
 pub kept_past : (stages : List Stage) (s : ℕ) → length stages ≤ s → slice_index (kept stages) s ≡ 0
@@ -41,11 +47,16 @@ pub kept_at : (stages : List Stage) (s k : ℕ) → stage_at stages s ≡ Finish
 kept_at stages s k is = kept_is stages s ∙ ap number_of is
 
 -- if each state is finished with the empty list, nothing else is kept
-pub kept_empty : (stages : List Stage) → All (λ stage. stage ≡ Finished 0) stages → (s : ℕ) → slice_index (kept stages) s ≡ 0
-kept_empty stages all s = elim (cases_lt s (length stages)) [ inl inside ↦ kept_at stages s 0 (all s Unseen inside) | inr past ↦ kept_past stages s past ]
+pub kept_empty : (stages : List Stage) → All (λ stage. stage ≡ Finished 0) stages → (s : ℕ) →
+    slice_index (kept stages) s ≡ 0
+kept_empty stages all s = elim (cases_lt s (length stages)) [
+  | inl inside ↦ kept_at stages s 0 (all s Unseen inside)
+  | inr past ↦ kept_past stages s past
+]
 
 -- the states that are looked at were woken, and all were finished
-pub woken_awake : {live : List ℕ} {old w : Search} → IsWoken old.stages live w → HasEnded old → AreAwake (length old.stages) live w.stages
+pub woken_awake : {live : List ℕ} {old w : Search} → IsWoken old.stages live w → HasEnded old →
+    AreAwake (length old.stages) live w.stages
 woken_awake woken over = record {
   size = woken.size;
   awake = woken.awake;
@@ -63,11 +74,16 @@ module _ {states : ℕ} {live : List ℕ} {stages : List Stage} (are : AreAwake 
 
   -- the others are finished still, after a walk
   pub others_on : {new : List Stage} → KeepsSeen stages new → length new ≡ states → AreOthers live new
-  others_on seen size s h = elim (are.others s (omega (arith, h, size, are.size))) [ inl one ↦ inl one | inr (k, is) ↦ inr (k, seen.finished s k is) ]
+  others_on seen size s h = elim (are.others s (omega (arith, h, size, are.size))) [
+    | inl one ↦ inl one
+    | inr (k, is) ↦ inr (k, seen.finished s k is)
+  ]
 
 -- so a walk can begin, if lists are kept for the others
-pub woken_rests : {u : Under} {lists : List (List (ℕ × ℕ))} {live : List ℕ} {old w : Search} → IsWoken old.stages live w → HasEnded old → length old.stages ≡ u.l.states
-    → AreNumbers lists (kept old.stages) → AreSignedBeside u.l u.blocks live lists (kept old.stages) → 1 ≤ length lists → Rests u lists w
+pub woken_rests : {u : Under} {lists : List (List (ℕ × ℕ))} {live : List ℕ} {old w : Search} → IsWoken old.stages live w
+    → HasEnded old → length old.stages ≡ u.l.states
+    → AreNumbers lists (kept old.stages) → AreSignedBeside u.l u.blocks live lists (kept old.stages) → 1 ≤ length lists
+    → Rests u lists w
 woken_rests {u = u} {lists = lists} {live = live} {old = old} {w = w} woken over size numbers are some =
     let awakes = woken_awake woken over in
     new_rests u lists woken.empty (woken.size ∙ size) some (unless_finished awakes) (λ s k is.
@@ -77,12 +93,14 @@ woken_rests {u = u} {lists = lists} {live = live} {old = old} {w = w} woken over
       | inr same ↦
           let number : slice_index (kept old.stages) s ≡ k = kept_at old.stages s k (sym same ∙ is) in
           record {
-            within = subst (λ n. n < length lists) number (numbers s 0 (omega (arith, inside, length-map old.stages number_of)));
+            within = subst (λ n. n < length lists) number
+                (numbers s 0 (omega (arith, inside, length-map old.stages number_of)));
             signature = λ t low block. elim (awakes.others t (omega (arith, low, size, woken.size))) [
               | inr done ↦ inl done
               | inl one ↦ elim (are s t (omega (arith, inside, size)) low (sym block) one) [
                 | inl too ↦ absurd (cc (awake awakes s too, is))
-                | inr signature ↦ inr (subst (λ n. IsSignature Branching u.l u.blocks s (list_at lists n)) number signature)
+                | inr signature ↦
+                    inr (subst (λ n. IsSignature Branching u.l u.blocks s (list_at lists n)) number signature)
               ]
             ];
           }
@@ -110,7 +128,8 @@ pub walk_rests : {u : Under} {lists : List (List (ℕ × ℕ))} {w : Search} →
 walk_rests {w = w} walks none =
     let stack : length w.stack ≡ 0 = grind (arith, frames_some walks, none) in
     let roots : length w.roots ≡ 0 = grind (arith, root_low walks 0 no_root, stack) in
-    let of_some : 0 < length w.items → 0 < length w.stack = λ h. let sound = walks.sound 0 h in omega (arith, sound.1) in
+    let of_some : 0 < length w.items → 0 < length w.stack = λ h. let sound =
+    walks.sound 0 h in omega (arith, sound.1) in
     let items : length w.items ≡ 0 = grind (arith, of_some, stack) in
     record {
       empty = λ i. record {

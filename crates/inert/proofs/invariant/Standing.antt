@@ -8,7 +8,8 @@ use Rattle.lts.specs.Lts.{Grouped, system_of, source_of, place_at, IsRow}
 use Rattle.inert.specs.Steps.{Under}
 use Rattle.inert.specs.Moves.{HasRead}
 use Rattle.inert.specs.Signed.{HasPair}
-use Rattle.inert.specs.Search.{Search, Laws, stage_at, frame_at, no_frame, here, last, no_root, Ties, IsFrame, IsSigned, Walks, Frame, Finished}
+use Rattle.inert.specs.Search.{Search, Laws, stage_at, frame_at, no_frame, here, last, no_root, Ties, IsFrame, IsSigned}
+use Rattle.inert.specs.Search.{Walks, Frame, Finished}
 
 -- the pairs of a state are those of each state that leads to it
 pub pair_before : (laws : Laws) (u : Under) (s t : ℕ) (z : ℕ × ℕ) → Ties u s t
@@ -45,10 +46,12 @@ module _ {u : Under} {lists : List (List (ℕ × ℕ))} {w : Search} (walks : Wa
   last_frame i low high = grind (arith, walks.frames.rising i (length w.frames - 1) no_frame, low, high)
 
   -- if the row of the last frame was read, none of its transitions is ahead
-  pub none_ahead : HasRead w → (p k i : ℕ) → k < length u.l.places → source_of (place_at u.l.places k) ≡ slice_index w.stack p → i < length w.frames
+  pub none_ahead : HasRead w → (p k i : ℕ) → k < length u.l.places
+      → source_of (place_at u.l.places k) ≡ slice_index w.stack p → i < length w.frames
       → i ≡ length w.frames - 1 → (frame_at w.frames i).height ≡ p → ¬ ((frame_at w.frames i).next ≤ k)
   none_ahead read p k i lk source low e is ahead =
-      let inside = (((walks.frames.each i no_frame low).row.exactly k lk).0 (source ∙ ap (slice_index w.stack) (sym is))).1 in
+      let inside =
+      (((walks.frames.each i no_frame low).row.exactly k lk).0 (source ∙ ap (slice_index w.stack) (sym is))).1 in
       omega (arith, ahead, inside, ap (λ j. (frame_at w.frames j).next) e, ap (λ j. (frame_at w.frames j).end) e, read)
 
   -- components begin up to it, and on the stack
@@ -64,15 +67,18 @@ module _ {u : Under} {lists : List (List (ℕ × ℕ))} {w : Search} (walks : Wa
 
   -- no component is after that of the last root
   pub last_most : All (λ r. (r.height ≤ (last w.roots).height) × (r.items ≤ (last w.roots).items)) w.roots
-  last_most i d h = grind (arith, walks.roots.rising i (length w.roots - 1) d, get_or_default w.roots (length w.roots - 1) d no_root)
+  last_most i d h =
+      grind (arith, walks.roots.rising i (length w.roots - 1) d, get_or_default w.roots (length w.roots - 1) d no_root)
 
   -- inert steps lead to where the walk is from each state on the stack
   pub ties : (p : ℕ) → p < length w.stack → Ties u (slice_index w.stack p) (slice_index w.stack (here w))
   ties p low = walks.connects p (here w) low (on_stack (frames_some (omega (arith, low)))) (λ i d h _. reached i d h)
 
 -- in the block of a state on the stack, the list of a finished state is its signature
-pub list_signed : {u : Under} {lists : List (List (ℕ × ℕ))} {w : Search} → Walks u lists w → (p t k : ℕ) → p < length w.stack → slice_index w.stack p < u.l.states
-    → slice_index u.blocks t ≡ slice_index u.blocks (slice_index w.stack p) → stage_at w.stages t ≡ Finished k → IsSigned u t lists k
+pub list_signed : {u : Under} {lists : List (List (ℕ × ℕ))} {w : Search} → Walks u lists w → (p t k : ℕ)
+    → p < length w.stack → slice_index w.stack p < u.l.states
+    → slice_index u.blocks t ≡ slice_index u.blocks (slice_index w.stack p) → stage_at w.stages t ≡ Finished k
+    → IsSigned u t lists k
 list_signed {w = w} walks p t k low inside same is =
     let kept = walks.signed t k is in
     elim (kept.signature (slice_index w.stack p) inside (sym same)) [

@@ -1,22 +1,28 @@
--- The moves back from the last frame, the row of which was read: the frame is popped, and its component is closed if it is the root.
-use Rattle.std.proofs.Common.{◌≡◌, ◌≢◌, ◌⊎◌, ℕ, ◌+◌, ◌-◌, ◌<◌, ◌≤◌, List, [], length, slice_index, refl, sym, ◌∙◌, ap, subst, inl, inr, arith, ◌∷◌, ◌++◌, take, Contains, subst₂}
+-- The moves back from the last frame, the row of which was read: the frame is popped, and its component is closed if it
+-- is the root.
+use Rattle.std.proofs.Common.{◌≡◌, ◌≢◌, ◌⊎◌, ℕ, ◌+◌, ◌-◌, ◌<◌, ◌≤◌, List, [], length, slice_index, refl, sym, ◌∙◌, ap}
+use Rattle.std.proofs.Common.{subst, inl, inr, arith, ◌∷◌, ◌++◌, take, Contains, subst₂}
 use Rattle.std.specs.List.{All}
 use Rattle.std.proofs.lemmas.Bool.{cases_eq, cases_lt}
 use Rattle.std.proofs.lemmas.Grind.{common_steps, elements}
-use Rattle.std.proofs.lemmas.List.{get_or_default, get_or-take, length-take-le, length-append, get_or_append_left, get_or_push, length_push, append-nil}
+use Rattle.std.proofs.lemmas.List.{get_or_default, get_or-take, length-take-le, length-append, get_or_append_left}
+use Rattle.std.proofs.lemmas.List.{get_or_push, length_push, append-nil}
 use Rattle.std.proofs.lemmas.List.Elements.{All-take, All-nil, All-cons, All-append}
 use Rattle.theory.specs.declared.relation.Relation.TheVariants.{Branching}
 use Rattle.lts.specs.Lts.{source_of, place_at, IsLts}
 use Rattle.lists.specs.Lists.{list_at}
 use Rattle.inert.specs.Steps.{Under}
-use Rattle.inert.specs.Search.{Search, stage_at, frame_at, no_frame, here, last, no_root, IsFrame, IsAhead, IsEntered, IsFollowed, Walks, Laws, root_at, item_at, Ties, IsOf, IsBefore, IsRoot, IsThere, Gives, HoldsPair, AreOpen, IsSigned, IsSound, AreSound, Stage, Item, Pair, Listed}
+use Rattle.inert.specs.Search.{Search, stage_at, frame_at, no_frame, here, last, no_root, IsFrame, IsAhead, IsEntered}
+use Rattle.inert.specs.Search.{IsFollowed, Walks, Laws, root_at, item_at, Ties, IsOf, IsBefore, IsRoot, IsThere, Gives}
+use Rattle.inert.specs.Search.{HoldsPair, AreOpen, IsSigned, IsSound, AreSound, Stage, Item, Pair, Listed}
 use Rattle.inert.specs.Moves.{popped, HasRead, Finishes, Closes, ahead, SignsMore, GoesOn}
 use Rattle.inert.specs.Signed.{HasPair}
 use Rattle.inert.specs.Ahead.{is_unseen, KeepsSeen}
 use Rattle.inert.proofs.parts.Stages.{seen_same, kept_still}
 use Rattle.inert.proofs.parts.Rising.{AllPairs-take, All-from_take}
 use Rattle.inert.proofs.parts.Counting.{unseen-same, unread-same, rest-cut}
-use Rattle.inert.proofs.invariant.Standing.{reached, not_last, last_most, none_ahead, IsFrame-moved, pair_before, stack_some, last_low, root_low}
+use Rattle.inert.proofs.invariant.Standing.{reached, not_last, last_most, none_ahead, IsFrame-moved, pair_before}
+use Rattle.inert.proofs.invariant.Standing.{stack_some, last_low, root_low}
 use Rattle.inert.proofs.invariant.Keeping.{Keeps, keeps_stack, roots_kept, Walks-grow, accounted_still, sound_still}
 use Rattle.inert.proofs.signatures.Exact.{exact}
 
@@ -31,17 +37,31 @@ module _ {u : Under} {lists : List (List (ℕ × ℕ))} {w : Search} (walks : Wa
   -- a lower height has its frame still
   popped_framed : (p : ℕ) → p < here w → (i : ℕ) × (i < length w.frames) × ((frame_at w.frames i).height ≡ p)
       → (i : ℕ) × (i < length (popped w).frames) × ((frame_at (popped w).frames i).height ≡ p)
-  popped_framed p before (i, low, is) =
-      (i, (let low' = not_last walks i low (omega (arith, is, before)) in omega (arith, low', popped_size)), grind (arith, not_last walks i low, popped_same i, is, before))
+  popped_framed p before (i, low, is) = (
+    i,
+    (let low' = not_last walks i low (omega (arith, is, before)) in omega (arith, low', popped_size)),
+    grind (arith, not_last walks i low, popped_same i, is, before),
+  )
 
   -- a frame that is left, and the next one
-  popped_ahead_still : (p k i : ℕ) → i < length w.frames - 1 → (frame_at w.frames i).height ≡ p → (frame_at w.frames i).next ≤ k → IsAhead (popped w) p k
-  popped_ahead_still p k i low is ahead = (i, omega (arith, low, popped_size), ap (λ x. x.height) (popped_same i low) ∙ is, subst (λ x. x.next ≤ k) (sym (popped_same i low)) ahead)
+  popped_ahead_still : (p k i : ℕ) → i < length w.frames - 1 → (frame_at w.frames i).height ≡ p →
+      (frame_at w.frames i).next ≤ k → IsAhead (popped w) p k
+  popped_ahead_still p k i low is ahead = (
+    i,
+    omega (arith, low, popped_size),
+    ap (λ x. x.height) (popped_same i low) ∙ is,
+    subst (λ x. x.next ≤ k) (sym (popped_same i low)) ahead,
+  )
 
-  popped_entered : (p t i : ℕ) → i + 1 < length w.frames - 1 → (frame_at w.frames i).height ≡ p → slice_index w.stack (frame_at w.frames (i + 1)).height ≡ t
+  popped_entered : (p t i : ℕ) → i + 1 < length w.frames - 1 → (frame_at w.frames i).height ≡ p
+      → slice_index w.stack (frame_at w.frames (i + 1)).height ≡ t
       → IsEntered (popped w) p t
-  popped_entered p t i low is to =
-      (i, omega (arith, low, popped_size), grind (arith, popped_same i, low, is), grind (arith, popped_same (i + 1), low, to))
+  popped_entered p t i low is to = (
+    i,
+    omega (arith, low, popped_size),
+    grind (arith, popped_same i, low, is),
+    grind (arith, popped_same (i + 1), low, to),
+  )
 
   -- the row of the last frame was read, and no component begins there
   module _ (some : 0 < length w.frames) (read : HasRead w) (apart : (last w.roots).height ≢ here w) where
@@ -65,7 +85,8 @@ module _ {u : Under} {lists : List (List (ℕ × ℕ))} {w : Search} (walks : Wa
           let up = walks.frames.rising i (i + 1) no_frame (omega arith) low in
           inl (
             here w,
-            ap (stage_at w.stages) (sym to ∙ ap (slice_index w.stack) there) ∙ walks.opened.placed (here w) (omega (arith, on, there)),
+            ap (stage_at w.stages) (sym to ∙ ap (slice_index w.stack) there) ∙ walks.opened.placed (here w)
+                (omega (arith, on, there)),
             λ j d h le. omega (arith, le, is, up, there),
             λ j d h le.
                 let (k, lk, height) = (walks.roots.each j d h).framed in
@@ -76,7 +97,8 @@ module _ {u : Under} {lists : List (List (ℕ × ℕ))} {w : Search} (walks : Wa
           )
     ]
 
-    ahead_popped : (p k : ℕ) → k < length u.l.places → source_of (place_at u.l.places k) ≡ slice_index w.stack p → IsAhead w p k → IsAhead (popped w) p k
+    ahead_popped : (p k : ℕ) → k < length u.l.places → source_of (place_at u.l.places k) ≡ slice_index w.stack p →
+        IsAhead w p k → IsAhead (popped w) p k
     ahead_popped p k lk source (i, low, is, ahead) = elim (cases_eq i (length w.frames - 1)) [
       | inl e ↦ absurd (none_ahead walks read p k i lk source low e is ahead)
       | inr d ↦ popped_ahead_still p k i (omega (arith, low, d)) is ahead
@@ -97,14 +119,17 @@ module _ {u : Under} {lists : List (List (ℕ × ℕ))} {w : Search} (walks : Wa
       connects = walks.connects;
       there = walks.there;
       sound = λ j lj. sound_still walks pop_keeps j lj (omega arith) (λ p lp _. lp);
-      accounted = λ p k lp lk source. accounted_still walks pop_keeps p k lp lk source (λ ahead. inl (ahead_popped p k lk source ahead)) (entered_popped p);
+      accounted = λ p k lp lk source. accounted_still walks pop_keeps p k lp lk source
+          (λ ahead. inl (ahead_popped p k lk source ahead)) (entered_popped p);
     }
 
 -- its last component was finished, with its list among the lists
 module _ (laws : Laws) {u : Under} {lists : List (List (ℕ × ℕ))} {w : Search} (walks : Walks u lists w)
-    (some : 0 < length w.frames) (height : (last w.roots).height ≡ here w) {new_stages : List Stage} {number : ℕ} (stages : Finishes w.stack (last w.roots).height number w.stages new_stages)
+    (some : 0 < length w.frames) (height : (last w.roots).height ≡ here w) {new_stages : List Stage} {number : ℕ}
+    (stages : Finishes w.stack (last w.roots).height number w.stages new_stages)
     (exact : (p : ℕ) → (last w.roots).height ≤ p → p < length w.stack → IsSigned u (slice_index w.stack p) lists number)
-    {added : List Item} (led : ((0 < length (popped w).frames) × (added ≡ Listed number ∷ [])) ⊎ ((length (popped w).frames ≡ 0) × (added ≡ []))) where
+    {added : List Item} (led : ((0 < length (popped w).frames) × (added ≡ Listed number ∷ []))
+    ⊎ ((length (popped w).frames ≡ 0) × (added ≡ []))) where
   -- where the component begins on the stack, and its first item
   abbrev q : ℕ
   q = (last w.roots).height
@@ -135,7 +160,13 @@ module _ (laws : Laws) {u : Under} {lists : List (List (ℕ × ℕ))} {w : Searc
   state_same p h = get_or-take q w.stack p _ h
 
   before_last : All (λ x. x.height < q) Closed.frames
-  before_last i d h = grind (arith, elements, walks.frames.rising i (length w.frames - 1), get_or_default w.frames (length w.frames - 1) d no_frame, height)
+  before_last i d h = grind (
+    arith,
+    elements,
+    walks.frames.rising i (length w.frames - 1),
+    get_or_default w.frames (length w.frames - 1) d no_frame,
+    height,
+  )
 
   same_unseen : (s : ℕ) → is_unseen (stage_at Closed.stages s) ≡ is_unseen (stage_at w.stages s)
   same_unseen s = grind (arith, stages.others s, walks.opened.placed, stages.members)
@@ -159,7 +190,16 @@ module _ (laws : Laws) {u : Under} {lists : List (List (ℕ × ℕ))} {w : Searc
   cut_size = length-take-le c0 w.items few
 
   item_same : (j : ℕ) → j < c0 → (j < length Closed.items) × (item_at Closed.items j ≡ item_at w.items j)
-  item_same j h = (omega (arith, h, length-append (take c0 w.items) added, cut_size), grind (arith, h, cut_size, get_or_append_left (take c0 w.items) added (Pair 0 0) j, get_or-take c0 w.items j (Pair 0 0)))
+  item_same j h = (
+    omega (arith, h, length-append (take c0 w.items) added, cut_size),
+    grind (
+      arith,
+      h,
+      cut_size,
+      get_or_append_left (take c0 w.items) added (Pair 0 0) j,
+      get_or-take c0 w.items j (Pair 0 0),
+    ),
+  )
 
   -- and its list, if some state led to it
   item_new : 0 < length Closed.frames → (length Closed.items ≡ c0 + 1) × (item_at Closed.items c0 ≡ Listed number)
@@ -171,7 +211,8 @@ module _ (laws : Laws) {u : Under} {lists : List (List (ℕ × ℕ))} {w : Searc
   no_item : length Closed.frames ≡ 0 → length Closed.items ≡ c0
   no_item none = grind (arith, elements, common_steps, led, few, none)
 
-  each_item : (P : ℕ → Type 0) → ((j : ℕ) → j < c0 → P j) → (0 < length Closed.frames → P c0) → (j : ℕ) → j < length Closed.items → P j
+  each_item : (P : ℕ → Type 0) → ((j : ℕ) → j < c0 → P j) → (0 < length Closed.frames → P c0) → (j : ℕ) →
+      j < length Closed.items → P j
   each_item P old new j low = grind (arith, old j, new, item_new, no_item, low)
 
   keeps : Keeps w Closed q
@@ -180,7 +221,8 @@ module _ (laws : Laws) {u : Under} {lists : List (List (ℕ × ℕ))} {w : Searc
     states = state_same;
     below = λ p r h low up. let le = up (length w.roots - 1) no_root (last_low walks some) in grind (arith, le, h);
     up = λ p r h up. All-take (λ x. x.height ≤ p → x.height ≤ r) (length w.roots - 1) w.roots up;
-    of = λ j p low h of. All-take (λ x. (x.height ≤ p → x.items ≤ j) × (p < x.height → j < x.items)) (length w.roots - 1) w.roots of;
+    of = λ j p low h of. All-take (λ x. (x.height ≤ p → x.items ≤ j) × (p < x.height → j < x.items))
+        (length w.roots - 1) w.roots of;
     items = λ j p low h of. item_same j ((of (length w.roots - 1) no_root (last_low walks some)).1 h);
     opened = λ s p low is. grind (arith, stages.others s, walks.opened.only s p, walks.opened.placed);
     finished = λ s k is. grind (arith, stages.others s, walks.opened.placed);
@@ -190,7 +232,12 @@ module _ (laws : Laws) {u : Under} {lists : List (List (ℕ × ℕ))} {w : Searc
   root_left : All (λ r. IsRoot w.frames w.items r × IsBefore r (last w.roots)) Closed.roots
   root_left i d h = (
     All-take (IsRoot w.frames w.items) (length w.roots - 1) w.roots walks.roots.each i d h,
-    grind (arith, elements, walks.roots.rising i (length w.roots - 1), get_or_default w.roots (length w.roots - 1) d no_root),
+    grind (
+      arith,
+      elements,
+      walks.roots.rising i (length w.roots - 1),
+      get_or_default w.roots (length w.roots - 1) d no_root,
+    ),
   )
 
   -- the height of the state that led to it
@@ -198,7 +245,14 @@ module _ (laws : Laws) {u : Under} {lists : List (List (ℕ × ℕ))} {w : Searc
   back = (frame_at w.frames (length w.frames - 2)).height
 
   back_low : 0 < length Closed.frames → back < q
-  back_low more = grind (arith, walks.frames.rising (length w.frames - 2) (length w.frames - 1) no_frame, more, popped_size walks, some, height)
+  back_low more = grind (
+    arith,
+    walks.frames.rising (length w.frames - 2) (length w.frames - 1) no_frame,
+    more,
+    popped_size walks,
+    some,
+    height,
+  )
 
   -- components that stay begin up to it
   up_to_back : 0 < length Closed.frames → All (λ r. r.height ≤ back) Closed.roots
@@ -210,17 +264,26 @@ module _ (laws : Laws) {u : Under} {lists : List (List (ℕ × ℕ))} {w : Searc
       grind (arith, up, low', is, some)
 
   of_back : 0 < length Closed.frames → IsOf Closed.roots c0 back
-  of_back more i d h = (λ _. (root_left i d h).1.1, λ lt. let up = up_to_back more i d h in absurd (omega (arith, lt, up)))
+  of_back more i d h =
+      (λ _. (root_left i d h).1.1, λ lt. let up = up_to_back more i d h in absurd (omega (arith, lt, up)))
 
-  back_holds : 0 < length Closed.frames → (z : ℕ × ℕ) → Contains (list_at lists number) z → HoldsPair lists Closed back z
-  back_holds more z c = (c0, (let n = (item_new more).0 in omega (arith, n)), subst (λ x. Gives lists x z) (sym (item_new more).1) c, of_back more)
+  back_holds : 0 < length Closed.frames → (z : ℕ × ℕ) → Contains (list_at lists number) z →
+      HoldsPair lists Closed back z
+  back_holds more z c = (
+    c0,
+    (let n = (item_new more).0 in omega (arith, n)),
+    subst (λ x. Gives lists x z) (sym (item_new more).1) c,
+    of_back more,
+  )
 
   entered_still : (p t : ℕ) → IsEntered w p t → IsFollowed lists Closed p t
   entered_still p t (i, low, is, to) = elim (cases_eq (i + 1) (length w.frames - 1)) [
     | inl e ↦
         let more : 0 < length Closed.frames = omega (arith, e, popped_size walks) in
-        let at : back ≡ p = ap (λ j. (frame_at w.frames j).height) (let e' : length w.frames - 2 ≡ i = omega (arith, e) in e') ∙ is in
-        let there : slice_index w.stack q ≡ t = ap (slice_index w.stack) (height ∙ ap (λ j. (frame_at w.frames j).height) (sym e)) ∙ to in
+        let at : back ≡ p =
+        ap (λ j. (frame_at w.frames j).height) (let e' : length w.frames - 2 ≡ i = omega (arith, e) in e') ∙ is in
+        let there : slice_index w.stack q ≡ t =
+        ap (slice_index w.stack) (height ∙ ap (λ j. (frame_at w.frames j).height) (sym e)) ∙ to in
         inr (inl (
           number,
           ap (stage_at Closed.stages) (sym there) ∙ stages.members q (omega arith) low_q,
@@ -233,7 +296,15 @@ module _ (laws : Laws) {u : Under} {lists : List (List (ℕ × ℕ))} {w : Searc
 
   opened : AreOpen Closed.stages Closed.stack
   opened = record {
-    placed = λ p h. grind (arith, state_same p, keeps.opened (slice_index w.stack p) p, walks.opened.placed p, size, low_q, h);
+    placed = λ p h. grind (
+      arith,
+      state_same p,
+      keeps.opened (slice_index w.stack p) p,
+      walks.opened.placed p,
+      size,
+      low_q,
+      h,
+    );
     only = λ s p is. (
       grind (arith, stages.others s, stages.members, walks.opened.only s p, is, size),
       grind (arith, stages.others s, stages.members, walks.opened.only s p, state_same p, is),
@@ -242,7 +313,8 @@ module _ (laws : Laws) {u : Under} {lists : List (List (ℕ × ℕ))} {w : Searc
 
   sound : AreSound u lists Closed
   sound = each_item (IsSound u lists Closed)
-      (λ j h. sound_still walks keeps j (omega (arith, h, few)) (omega (arith, size)) (λ p lp of. let le = (of (length w.roots - 1) no_root (last_low walks some)).0 in grind (arith, le, h)))
+      (λ j h. sound_still walks keeps j (omega (arith, h, few)) (omega (arith, size))
+      (λ p lp of. let le = (of (length w.roots - 1) no_root (last_low walks some)).0 in grind (arith, le, h)))
       (λ more. let low = back_low more in (
         back,
         omega (arith, low, size),
@@ -251,32 +323,39 @@ module _ (laws : Laws) {u : Under} {lists : List (List (ℕ × ℕ))} {w : Searc
             subst (λ s. HasPair Branching u.l u.blocks s z.0 z.1) (sym (state_same back low))
             (pair_before laws u (slice_index w.stack back) (slice_index w.stack q) z
             (walks.connects back q (omega (arith, low, low_q)) low_q (λ i d h le. omega (arith, le, low)))
-            (((exact q (omega arith) low_q).signature.exactly z.0 z.1).0 (subst (λ x. Gives lists x z) (item_new more).1 g))),
+            (((exact q (omega arith) low_q).signature.exactly z.0 z.1).0 (subst (λ x. Gives lists x z)
+            (item_new more).1 g))),
       ))
 
   Walks-closed : Walks u lists Closed
   Walks-closed = record {
-    numbers = omega (arith, stages.size, unseen-same w.stages new_stages same_unseen stages.size, walks.numbers, size, low_q);
+    numbers =
+        omega (arith, stages.size, unseen-same w.stages new_stages same_unseen stages.size, walks.numbers, size, low_q);
     opened = opened;
     signed = λ s k is. elim (closed_signs s k is) [
       | inl was ↦ kept_still u lists w.stages new_stages closed_seen.finished s k (walks.signed s k was)
       | inr sign ↦ record { within = sign.within; signature = λ t inside same. inr sign.signature }
     ];
     roots = record {
-      first = λ h all. walks.roots.first (stack_some walks some) (All-from_take (λ r. 0 < r.height) (length w.roots - 1) w.roots no_root all (λ i high low.
+      first = λ h all. walks.roots.first (stack_some walks some) (All-from_take (λ r. 0 < r.height) (length w.roots - 1)
+          w.roots no_root all (λ i high low.
           let e : i ≡ length w.roots - 1 = omega (arith, high, low) in
           let same = ap (λ j. (root_at w.roots j).height) e in
           omega (arith, same, h, size)));
       rising = AllPairs-take IsBefore (length w.roots - 1) w.roots walks.roots.rising;
       each = λ i d h.
           let (root, before) = root_left i d h in
-          record { framed = popped_framed walks _ (omega (arith, before.0, height)) root.framed; within = omega (arith, before.1, length-append (take c0 w.items) added, cut_size) };
+          record {
+            framed = popped_framed walks _ (omega (arith, before.0, height)) root.framed;
+            within = omega (arith, before.1, length-append (take c0 w.items) added, cut_size);
+          };
     };
     frames = record {
       rising = AllPairs-take (λ x y. x.height < y.height) (length w.frames - 1) w.frames walks.frames.rising;
       each = λ i d h.
           let low = before_last i d h in
-          IsFrame-moved (All-take (IsFrame u.l w.stack) (length w.frames - 1) w.frames walks.frames.each i d h) (omega (arith, low, size)) (state_same _ low);
+          IsFrame-moved (All-take (IsFrame u.l w.stack) (length w.frames - 1) w.frames walks.frames.each i d h)
+          (omega (arith, low, size)) (state_same _ low);
     };
     connects = λ p r lp lr h.
         let low : p < q = omega (arith, lp, size) in
@@ -287,17 +366,21 @@ module _ (laws : Laws) {u : Under} {lists : List (List (ℕ × ℕ))} {w : Searc
         let e : length w.roots - 1 ≡ i = omega (arith, high, lr) in
         let same = ap (λ j. (root_at w.roots j).height) e in
         absurd (omega (arith, same, le, low)))));
-    there = All-append (IsThere lists) (take c0 w.items) added (All-take (IsThere lists) c0 w.items walks.there) (elim led [
-      | inl (_, e) ↦
-          let it : IsThere lists (Listed number) = λ k is. subst (λ n. n < length lists) (let e : number ≡ k = cc in e) (exact q (omega arith) low_q).within in
-          subst (All (IsThere lists)) (sym e) (All-cons (IsThere lists) (Listed number) [] it (All-nil (IsThere lists)))
-      | inr (_, e) ↦ subst (All (IsThere lists)) (sym e) (All-nil (IsThere lists))
-    ]);
+    there =
+        All-append (IsThere lists) (take c0 w.items) added (All-take (IsThere lists) c0 w.items walks.there) (elim led [
+          | inl (_, e) ↦ let it : IsThere lists (Listed number) =
+              λ k is. subst (λ n. n < length lists) (let e : number ≡ k = cc in e)
+              (exact q (omega arith) low_q).within in
+              subst (All (IsThere lists)) (sym e) (All-cons (IsThere lists) (Listed number) [] it
+              (All-nil (IsThere lists)))
+          | inr (_, e) ↦ subst (All (IsThere lists)) (sym e) (All-nil (IsThere lists))
+        ]);
     sound = sound;
     accounted = λ p k lp lk source.
         let low : p < q = omega (arith, lp, size) in
         accounted_still walks keeps p k low lk source
-        (λ (i, li, is, ahead). inl (popped_ahead_still walks p k i (not_last walks i li (omega (arith, is, low, height))) is ahead)) (entered_still p);
+        (λ (i, li, is, ahead). inl (popped_ahead_still walks p k i
+        (not_last walks i li (omega (arith, is, low, height))) is ahead)) (entered_still p);
   }
 
 -- the walk goes on from there: what is ahead is the same
@@ -305,24 +388,34 @@ module _ {u : Under} {lists : List (List (ℕ × ℕ))} {w : Search} (walks : Wa
     (some : 0 < length w.frames) (read : HasRead w) where
   -- its state is no root
   pub popped_on : (last w.roots).height ≢ here w → GoesOn u lists w (popped w)
-  popped_on apart = record { walks = Walks-pop walks some read apart; seen = seen_same w.stages; signs = λ s k is. inl is }
+  popped_on apart =
+      record { walks = Walks-pop walks some read apart; seen = seen_same w.stages; signs = λ s k is. inl is }
 
   -- its state is a root, and the component was finished
-  module _ (laws : Laws) (lts : IsLts u.l) {lists' : List (List (ℕ × ℕ))} {new : Search} (height : (last w.roots).height ≡ here w)
+  module _ (laws : Laws) (lts : IsLts u.l) {lists' : List (List (ℕ × ℕ))} {new : Search}
+      (height : (last w.roots).height ≡ here w)
       (closes : Closes (last w.roots) lists lists' (popped w) new) where
     abbrev Returns : Search → Type 0
     Returns x = GoesOn u lists' w x × (ahead u.l x ≡ ahead u.l w)
 
     closed_with : (added : List Item) → new.items ≡ take (last w.roots).items w.items ++ added
-        → ((0 < length (popped w).frames) × (added ≡ Listed closes.number ∷ [])) ⊎ ((length (popped w).frames ≡ 0) × (added ≡ [])) → Returns new
+        → ((0 < length (popped w).frames) × (added ≡ Listed closes.number ∷ [])) ⊎ ((length (popped w).frames ≡ 0)
+        × (added ≡ [])) → Returns new
     closed_with added items led =
         let walks' = Walks-grow closes.listed.grow walks in
-        let signed : (p : ℕ) → (last w.roots).height ≤ p → p < length w.stack → IsSigned u (slice_index w.stack p) lists' closes.number =
+        let signed : (p : ℕ) → (last w.roots).height ≤ p → p < length w.stack →
+        IsSigned u (slice_index w.stack p) lists' closes.number =
         λ p high. exact laws lts walks some read height closes.listed p (omega (arith, high, height)) in
         let unseen = same_unseen laws walks' some height closes.stages signed led in
         let same : ahead u.l (Closed laws walks' some height closes.stages signed led) ≡ ahead u.l w =
         omega (arith, unread-same w.stages new.stages unseen u.l.places, rest-cut w.frames some read) in
-        subst Returns (λ i. record { stages = new.stages; stack = sym closes.stack i; frames = sym closes.frames i; roots = sym closes.roots i; items = sym items i }) (
+        subst Returns (λ i. record {
+          stages = new.stages;
+          stack = sym closes.stack i;
+          frames = sym closes.frames i;
+          roots = sym closes.roots i;
+          items = sym items i;
+        }) (
           record {
             walks = Walks-closed laws walks' some height closes.stages signed led;
             seen = closed_seen laws walks' some height closes.stages signed led;

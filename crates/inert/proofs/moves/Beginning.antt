@@ -1,12 +1,14 @@
 -- The beginning of a walk, which has no frame: it goes on as if its first state had one.
-use Rattle.std.proofs.Common.{◌≡◌, ℕ, ◌+◌, ◌<◌, ◌≤◌, Bool, List, [], ◌∷◌, length, slice_index, set, refl, sym, ◌∙◌, ap, subst, inl, inr, arith}
+use Rattle.std.proofs.Common.{◌≡◌, ℕ, ◌+◌, ◌<◌, ◌≤◌, Bool, List, [], ◌∷◌, length, slice_index, set, refl, sym, ◌∙◌, ap}
+use Rattle.std.proofs.Common.{subst, inl, inr, arith}
 use Rattle.std.proofs.lemmas.Bool.{cases_eq}
 use Rattle.std.proofs.lemmas.Grind.{common_steps}
 use Rattle.std.proofs.lemmas.List.{get_or-set_same, get_or-set_other, length-set}
 use Rattle.lts.specs.Lts.{place_at, IsLts, IsRow}
 use Rattle.inert.specs.Steps.{Under, IsStep}
 use Rattle.inert.specs.Search.{Search, Laws, nothing, stage_at, no_frame, Stage, Unseen, Open, Finished, Item}
-use Rattle.inert.specs.Moves.{with_stage, entered, LeadsOn, TakesStep, Finishes, Ends, ahead, popped, Closes, IsUnderWay, GoesOn, Rests}
+use Rattle.inert.specs.Moves.{with_stage, entered, LeadsOn, TakesStep, Finishes, Ends, ahead, popped, Closes}
+use Rattle.inert.specs.Moves.{IsUnderWay, GoesOn, Rests}
 use Rattle.inert.specs.Ahead.{unread}
 use Rattle.inert.specs.declared.step.Step.{Step}
 use Rattle.inert.specs.declared.step.Step.TheVariants.{Inert as Goes, Shows}
@@ -35,7 +37,8 @@ pub record Begins (u : Under) (lists : List (List (ℕ × ℕ))) (old : Search) 
 
 -- nothing of the row was read
 pub begins : {u : Under} {lists : List (List (ℕ × ℕ))} {w : Search} {s start end : ℕ} → Laws → Rests u lists w
-    → s < u.l.states → stage_at w.stages s ≡ Unseen → IsRow u.l.places s start end → Begins u lists w s start start (framed s start end w.stages [])
+    → s < u.l.states → stage_at w.stages s ≡ Unseen → IsRow u.l.places s start end
+    → Begins u lists w s start start (framed s start end w.stages [])
 begins {u = u} {lists = lists} {w = w} {s = s} laws rests inside none row =
     let low = within rests inside in
     record {
@@ -49,7 +52,8 @@ begins {u = u} {lists = lists} {w = w} {s = s} laws rests inside none row =
     }
 
 module _ (laws : Laws) {u : Under} (lts : IsLts u.l) {lists : List (List (ℕ × ℕ))} {old w : Search} {s start end k : ℕ}
-    (same : w ≡ collecting old.stages w.items) (begun : Begins u lists old s start k (framed s k end old.stages w.items)) where
+    (same : w ≡ collecting old.stages w.items) (begun : Begins u lists old s start k
+    (framed s k end old.stages w.items)) where
   abbrev Framed : Search
   Framed = framed s k end old.stages w.items
 
@@ -65,10 +69,12 @@ module _ (laws : Laws) {u : Under} (lts : IsLts u.l) {lists : List (List (ℕ ×
     Next m = Begins u lists old s start (k + 1) m
 
     -- after the state got a frame for the places after it
-    pub takes_framed : (step : Step) {m : Search} (enters : Bool) → Is step → TakesStep u.l.places step (framed s (k + 1) end old.stages w.items) m enters → Next m
+    pub takes_framed : (step : Step) {m : Search} (enters : Bool) → Is step →
+        TakesStep u.l.places step (framed s (k + 1) end old.stages w.items) m enters → Next m
     takes_framed step enters is takes =
         let none : Stays Framed Framed = record { size = refl; stack = refl } in
-        let one = (marked (reads_none way) none way.some laws lts more (slice_index u.blocks s) refl step is refl refl takes).reads in
+        let one = (marked (reads_none way) none way.some laws lts more (slice_index u.blocks s) refl step is refl
+        refl takes).reads in
         let on = goes_on (Grow-same lists) begun.on one.on in
         grind (arith, on, begun.found, one.on.seen.unseen s, one.less, begun.less)
 
@@ -78,23 +84,31 @@ module _ (laws : Laws) {u : Under} (lts : IsLts u.l) {lists : List (List (ℕ ×
       Collects m = (m ≡ collecting old.stages m.items) × Next (framed s (k + 1) end old.stages m.items)
 
       -- the stages of the states that were seen are the same with a frame
-      apart : (t : ℕ) {stage : Stage} → stage_at old.stages t ≡ stage → ¬ (stage ≡ Unseen) → stage_at (set old.stages s (Open 0)) t ≡ stage
-      apart t is seen = get_or-set_other old.stages s t (Open 0) Unseen (λ e. seen (sym is ∙ ap (stage_at old.stages) e ∙ none)) ∙ is
+      apart : (t : ℕ) {stage : Stage} → stage_at old.stages t ≡ stage → ¬ (stage ≡ Unseen) →
+          stage_at (set old.stages s (Open 0)) t ≡ stage
+      apart t is seen =
+          get_or-set_other old.stages s t (Open 0) Unseen (λ e. seen (sym is ∙ ap (stage_at old.stages) e ∙ none)) ∙ is
 
-      bare : {m : Search} (enters : Bool) (step : Step) → Is step → ¬ LeadsOn old.stages step → TakesStep u.l.places step (collecting old.stages w.items) m enters
+      bare : {m : Search} (enters : Bool) (step : Step) → Is step → ¬ LeadsOn old.stages step
+          → TakesStep u.l.places step (collecting old.stages w.items) m enters
           → Collects m
-      bare enters (Shows a b) is still (new, stay) = subst Collects (sym new) (refl, takes_framed (Shows a b) enters is (refl, stay))
+      bare enters (Shows a b) is still (new, stay) =
+          subst Collects (sym new) (refl, takes_framed (Shows a b) enters is (refl, stay))
       bare enters (Goes t) is still (inl (unseen, new, went)) = absurd (still (t, refl, inl unseen))
       bare enters (Goes t) is still (inr (inl (q, stage, cuts, new, stay))) = absurd (still (t, refl, inr (q, stage)))
       bare enters (Goes t) is still (inr (inr (number, stage, new, stay))) =
-          subst Collects (sym new) (refl, takes_framed (Goes t) enters is (inr (inr (number, apart t stage (λ e. cc), refl, stay))))
+          subst Collects (sym new)
+          (refl, takes_framed (Goes t) enters is (inr (inr (number, apart t stage (λ e. cc), refl, stay))))
 
-      pub takes_bare : {m : Search} (enters : Bool) (step : Step) → Is step → ¬ LeadsOn w.stages step → TakesStep u.l.places step w m enters → Collects m
+      pub takes_bare : {m : Search} (enters : Bool) (step : Step) → Is step → ¬ LeadsOn w.stages step →
+          TakesStep u.l.places step w m enters → Collects m
       takes_bare {m = m} enters step is still takes =
-          bare enters step is (subst (λ x. ¬ LeadsOn x.stages step) same still) (subst (λ x. TakesStep u.l.places step x m enters) same takes)
+          bare enters step is (subst (λ x. ¬ LeadsOn x.stages step) same still)
+          (subst (λ x. TakesStep u.l.places step x m enters) same takes)
 
   -- the row is read to its end, and the state finished
-  module _ (over : end ≤ k) {lists' : List (List (ℕ × ℕ))} {new : Search} (ends : Ends s lists lists' w new) (low : s < length old.stages) where
+  module _ (over : end ≤ k) {lists' : List (List (ℕ × ℕ))} {new : Search} (ends : Ends s lists lists' w new)
+      (low : s < length old.stages) where
     abbrev Ended : Search
     Ended = nothing (with_stage s (Finished ends.number) old).stages
 
@@ -109,7 +123,16 @@ module _ (laws : Laws) {u : Under} (lts : IsLts u.l) {lists : List (List (ℕ ×
     }
 
     closes : Closes (record { height = 0; items = 0 }) lists lists' (popped Framed) Ended
-    closes = record { number = ends.number; listed = ends.listed; stages = finishes; stack = refl; frames = refl; roots = refl; led = λ h. absurd (omega (arith, h)); alone = λ h. refl }
+    closes = record {
+      number = ends.number;
+      listed = ends.listed;
+      stages = finishes;
+      stack = refl;
+      frames = refl;
+      roots = refl;
+      led = λ h. absurd (omega (arith, h));
+      alone = λ h. refl;
+    }
 
     pub begun_ends : Begins u lists' old s start k new
     begun_ends =

@@ -1,8 +1,11 @@
--- The moves forward: an item is collected, components are joined, a state is entered, and a transition is marked as read.
-use Rattle.std.proofs.Common.{◌≡◌, ℕ, ◌+◌, ◌<◌, List, length, slice_index, refl, sym, subst, inl, inr, arith, ◌-◌, ◌≤◌, ◌∙◌, ap, subst₂, ◌⊎◌, set, get_or}
+-- The moves forward: an item is collected, components are joined, a state is entered, and a transition is marked as
+-- read.
+use Rattle.std.proofs.Common.{◌≡◌, ℕ, ◌+◌, ◌<◌, List, length, slice_index, refl, sym, subst, inl, inr, arith, ◌-◌, ◌≤◌}
+use Rattle.std.proofs.Common.{◌∙◌, ap, subst₂, ◌⊎◌, set, get_or}
 use Rattle.std.specs.List.{All, AllPairs}
 use Rattle.std.proofs.lemmas.Bool.{cases_lt, cases_eq}
-use Rattle.std.proofs.lemmas.List.{get_or_append_left, get_or_push, length_push, get_or_default, length-set, get_or-set_same, get_or-set_other}
+use Rattle.std.proofs.lemmas.List.{get_or_append_left, get_or_push, length_push, get_or_default, length-set}
+use Rattle.std.proofs.lemmas.List.{get_or-set_same, get_or-set_other}
 use Rattle.std.proofs.lemmas.List.Elements.{All-push, All-take, All-set}
 use Rattle.std.proofs.lemmas.Grind.{elements, common_steps}
 use Rattle.std.proofs.lemmas.List.Quantifiers.{all_pairs_push}
@@ -11,7 +14,10 @@ use Rattle.theory.specs.Blocks.{Inert}
 use Rattle.lts.specs.Lts.{system_of, IsRow, place_at}
 use Rattle.inert.specs.Steps.{Under}
 use Rattle.inert.specs.Signed.{HasPair}
-use Rattle.inert.specs.Search.{Search, here, item_at, IsThere, IsOf, Gives, HoldsPair, IsSound, Walks, Item, Laws, stage_at, root_at, no_root, Ties, IsUpTo, IsBefore, IsRoot, IsHere, Root, Open, frame_at, no_frame, IsFrame, IsEntered, IsAhead, AreOpen, AreRoots, AreFrames, AreAccounted, Connects, Stage, Unseen, Finished, Frame, IsFollowed, Accounted}
+use Rattle.inert.specs.Search.{Search, here, item_at, IsThere, IsOf, Gives, HoldsPair, IsSound, Walks, Item, Laws}
+use Rattle.inert.specs.Search.{stage_at, root_at, no_root, Ties, IsUpTo, IsBefore, IsRoot, IsHere, Root, Open, frame_at}
+use Rattle.inert.specs.Search.{no_frame, IsFrame, IsEntered, IsAhead, AreOpen, AreRoots, AreFrames, AreAccounted}
+use Rattle.inert.specs.Search.{Connects, Stage, Unseen, Finished, Frame, IsFollowed, Accounted}
 use Rattle.inert.specs.Moves.{with_item, CutsRoots, entered}
 use Rattle.inert.proofs.parts.Rising.{AllPairs-take, All-from_take}
 use Rattle.inert.proofs.parts.Counting.{unseen-set}
@@ -36,13 +42,16 @@ module _ {u : Under} {lists : List (List (ℕ × ℕ))} {w : Search} (walks : Wa
 
     -- the new item is of the component where the walk is
     of_here : IsOf w.roots (length w.items) (here w)
-    of_here i d h = (λ _. (walks.roots.each i d h).within, λ lt. let up = reached walks i d h in absurd (omega (arith, lt, up)))
+    of_here i d h =
+        (λ _. (walks.roots.each i d h).within, λ lt. let up = reached walks i d h in absurd (omega (arith, lt, up)))
 
     pub collected_holds : (z : ℕ × ℕ) → Gives lists x z → HoldsPair lists With (here w) z
-    collected_holds z g = (length w.items, omega (arith, length_push w.items x), subst (λ y. Gives lists y z) (sym item_last) g, of_here)
+    collected_holds z g =
+        (length w.items, omega (arith, length_push w.items x), subst (λ y. Gives lists y z) (sym item_last) g, of_here)
 
     pub Walks-collect : 0 < length w.frames → IsThere lists x
-        → ((z : ℕ × ℕ) → Gives lists x z → HasPair Branching u.l u.blocks (slice_index w.stack (here w)) z.0 z.1) → Walks u lists With
+        → ((z : ℕ × ℕ) → Gives lists x z → HasPair Branching u.l u.blocks (slice_index w.stack (here w)) z.0 z.1)
+        → Walks u lists With
     Walks-collect some there sound = record {
       numbers = walks.numbers;
       opened = walks.opened;
@@ -55,14 +64,16 @@ module _ {u : Under} {lists : List (List (ℕ × ℕ))} {w : Search} (walks : Wa
       there = All-push (IsThere lists) w.items x walks.there there;
       sound = λ j low. elim (cases_lt j (length w.items)) [
         | inl h ↦ sound_still walks collect_keeps j h (omega arith) (λ p low _. low)
-        | inr h ↦
-            subst (IsSound u lists With) (let e : length w.items ≡ j = omega (arith, low, h, length_push w.items x) in e)
+        | inr h ↦ subst (IsSound u lists With) (let e : length w.items
+            ≡ j = omega (arith, low, h, length_push w.items x) in e)
             (here w, on_stack walks some, of_here, λ z g. sound z (subst (λ y. Gives lists y z) item_last g))
       ];
-      accounted = λ p k lp lk source. accounted_still walks collect_keeps p k lp lk source (λ ahead. inl ahead) (λ t entered. inr (inr entered));
+      accounted = λ p k lp lk source. accounted_still walks collect_keeps p k lp lk source (λ ahead. inl ahead)
+          (λ t entered. inr (inr entered));
     }
 
-  -- an inert step leads to a state that is open: the roots above its height q are cut, so that the components from there on are one
+  -- an inert step leads to a state that is open: the roots above its height q are cut, so that the components from
+  -- there on are one
   module _ (laws : Laws) {q : ℕ} {roots : List Root} (cuts : CutsRoots q w.roots roots) where
     cut_each : (P : Root → Type 0) → All P w.roots → All P roots
     cut_each P each = subst (All P) (sym cuts.roots) (All-take P cuts.count w.roots each)
@@ -70,7 +81,8 @@ module _ {u : Under} {lists : List (List (ℕ × ℕ))} {w : Search} (walks : Wa
     -- what holds of those that are left, and of all above q, held of all
     cut_back : (P : Root → Type 0) → All P roots → ((r : Root) → q < r.height → P r) → All P w.roots
     cut_back P each above =
-        All-from_take P cuts.count w.roots no_root (subst (All P) cuts.roots each) (λ i high low. above (root_at w.roots i) (cuts.above i high low))
+        All-from_take P cuts.count w.roots no_root (subst (All P) cuts.roots each)
+        (λ i high low. above (root_at w.roots i) (cuts.above i high low))
 
     abbrev Joined : Search
     Joined = record w { roots = roots }
@@ -80,13 +92,22 @@ module _ {u : Under} {lists : List (List (ℕ × ℕ))} {w : Search} (walks : Wa
 
     -- the last root that is left is up to q, so all are
     below : All (λ r. r.height ≤ q) roots
-    below i d h = grind (arith, elements, cuts.below, cuts.roots, walks.roots.rising i (cuts.count - 1), get_or_default w.roots (cuts.count - 1) d no_root)
+    below i d h = grind (
+      arith,
+      elements,
+      cuts.below,
+      cuts.roots,
+      walks.roots.rising i (cuts.count - 1),
+      get_or_default w.roots (cuts.count - 1) d no_root,
+    )
 
     -- the state that the step leads to is in the component where the walk is
     pub joined_here : (t : ℕ) → stage_at w.stages t ≡ Open q → IsHere Joined (here w) t
-    joined_here t is = (q, is, λ i d h _. below i d h, λ i d h _. cut_each (λ r. r.height ≤ here w) (reached walks) i d h)
+    joined_here t is =
+        (q, is, λ i d h _. below i d h, λ i d h _. cut_each (λ r. r.height ≤ here w) (reached walks) i d h)
 
-    pub Walks-join : q < length w.stack → Inert (system_of u.l) (slice_index u.blocks) (slice_index w.stack (here w)) (slice_index w.stack q)
+    pub Walks-join : q < length w.stack → Inert (system_of u.l) (slice_index u.blocks) (slice_index w.stack (here w))
+        (slice_index w.stack q)
         → Walks u lists Joined
     Walks-join low step = record {
       numbers = walks.numbers;
@@ -94,24 +115,30 @@ module _ {u : Under} {lists : List (List (ℕ × ℕ))} {w : Search} (walks : Wa
       signed = walks.signed;
       roots = record {
         first = λ some all. walks.roots.first some (cut_back (λ r. 0 < r.height) all (λ r up. omega (arith, up)));
-        rising = subst (AllPairs IsBefore) (sym cuts.roots) (AllPairs-take IsBefore cuts.count w.roots walks.roots.rising);
+        rising =
+            subst (AllPairs IsBefore) (sym cuts.roots) (AllPairs-take IsBefore cuts.count w.roots walks.roots.rising);
         each = cut_each (IsRoot w.frames w.items) walks.roots.each;
       };
       frames = walks.frames;
       connects = λ p r lp lr h. elim (cases_lt p q) [
-        | inl before ↦ walks.connects p r lp lr (cut_back (λ x. x.height ≤ p → x.height ≤ r) h (λ x up le. absurd (omega (arith, up, le, before))))
+        | inl before ↦ walks.connects p r lp lr (cut_back (λ x. x.height ≤ p →
+            x.height ≤ r) h (λ x up le. absurd (omega (arith, up, le, before))))
         | inr after ↦
             let up : IsUpTo roots q r = λ i d h' le. h i d h' (omega (arith, le, after)) in
-            laws.joined (system_of u.l) (slice_index u.blocks) _ _ _ (laws.after (system_of u.l) (slice_index u.blocks) _ _ _ (ties walks p lp) step)
-            (walks.connects q r low lr (cut_back (λ x. x.height ≤ q → x.height ≤ r) up (λ x above le. absurd (omega (arith, above, le)))))
+            laws.joined (system_of u.l) (slice_index u.blocks) _ _ _ (laws.after (system_of u.l) (slice_index u.blocks)
+            _ _ _ (ties walks p lp) step)
+            (walks.connects q r low lr (cut_back (λ x. x.height ≤ q →
+            x.height ≤ r) up (λ x above le. absurd (omega (arith, above, le)))))
       ];
       there = walks.there;
       sound = λ j lj. sound_still walks join_keeps j lj (omega arith) (λ p lp _. lp);
-      accounted = λ p k lp lk source. accounted_still walks join_keeps p k lp lk source (λ ahead. inl ahead) (λ t entered. inr (inr entered));
+      accounted = λ p k lp lk source. accounted_still walks join_keeps p k lp lk source (λ ahead. inl ahead)
+          (λ t entered. inr (inr entered));
     }
 
   -- the state t is entered
-  module _ (laws : Laws) {t start end : ℕ} (within : t < length w.stages) (unseen : stage_at w.stages t ≡ Unseen) (row : IsRow u.l.places t start end) where
+  module _ (laws : Laws) {t start end : ℕ} (within : t < length w.stages) (unseen : stage_at w.stages t ≡ Unseen)
+      (row : IsRow u.l.places t start end) where
     abbrev pub Entered : Search
     Entered = entered t start end (length w.items) w
 
@@ -144,19 +171,23 @@ module _ {u : Under} {lists : List (List (ℕ × ℕ))} {w : Search} (walks : Wa
     frame_new = get_or_push w.frames NewFrame _ (length w.frames) refl
 
     before_new : (P : Root → Type 0) → All P Entered.roots → All P w.roots
-    before_new P all i d h = subst P (get_or_append_left w.roots _ d i h) (all i d (omega (arith, h, length_push w.roots NewRoot)))
+    before_new P all i d h =
+        subst P (get_or_append_left w.roots _ d i h) (all i d (omega (arith, h, length_push w.roots NewRoot)))
 
     -- a state that was seen keeps its stage
     stage_still : (s : ℕ) (m : Stage) → stage_at w.stages s ≡ m → ¬ (m ≡ Unseen) → stage_at Entered.stages s ≡ m
-    stage_still s m is seen = get_or-set_other w.stages t s (Open n) Unseen (λ e. seen (sym is ∙ ap (stage_at w.stages) e ∙ unseen)) ∙ is
+    stage_still s m is seen =
+        get_or-set_other w.stages t s (Open n) Unseen (λ e. seen (sym is ∙ ap (stage_at w.stages) e ∙ unseen)) ∙ is
 
     enter_keeps : Keeps w Entered n
     enter_keeps = record {
       within = omega arith;
       states = state_same;
       below = λ p q h low up. low;
-      up = λ p q h up. All-push (λ r. r.height ≤ p → r.height ≤ q) w.roots NewRoot up (λ le. absurd (omega (arith, le, h)));
-      of = λ j p low h of. All-push (λ r. (r.height ≤ p → r.items ≤ j) × (p < r.height → j < r.items)) w.roots NewRoot of (λ le. absurd (omega (arith, le, h)), λ _. low);
+      up = λ p q h up. All-push (λ r. r.height ≤ p →
+          r.height ≤ q) w.roots NewRoot up (λ le. absurd (omega (arith, le, h)));
+      of = λ j p low h of. All-push (λ r. (r.height ≤ p → r.items ≤ j) × (p < r.height → j < r.items)) w.roots NewRoot
+          of (λ le. absurd (omega (arith, le, h)), λ _. low);
       items = λ j p low h of. (low, refl);
       opened = λ s p h is. stage_still s (Open p) is (λ e. cc);
       finished = λ s k is. stage_still s (Finished k) is (λ e. cc);
@@ -173,41 +204,67 @@ module _ {u : Under} {lists : List (List (ℕ × ℕ))} {w : Search} (walks : Wa
 
     entered_still : (p u : ℕ) → IsEntered w p u → IsEntered Entered p u
     entered_still p u (i, low, is, to) =
-        let on = (walks.frames.each (i + 1) no_frame low).on_stack in
-        (i, omega (arith, low, frames_size), grind (arith, frame_same i, low, is), grind (arith, frame_same (i + 1), state_same, on, low, to))
+        let on = (walks.frames.each (i + 1) no_frame low).on_stack in (
+          i,
+          omega (arith, low, frames_size),
+          grind (arith, frame_same i, low, is),
+          grind (arith, frame_same (i + 1), state_same, on, low, to),
+        )
 
     ahead_still : (p k : ℕ) → IsAhead w p k → IsAhead Entered p k
-    ahead_still p k (i, low, is, ahead) = (i, omega (arith, low, frames_size), grind (arith, frame_same i low, is), grind (arith, frame_same i low, ahead))
+    ahead_still p k (i, low, is, ahead) = (
+      i,
+      omega (arith, low, frames_size),
+      grind (arith, frame_same i low, is),
+      grind (arith, frame_same i low, ahead),
+    )
 
     opened : AreOpen Entered.stages Entered.stack
     opened = record {
       placed = λ p h. grind (arith, common_steps, elements, walks.opened.placed p, unseen, within, h);
       only = λ s p is.
           let other = get_or-set_other w.stages t s (Open n) Unseen in
-          let self = get_or-set_same w.stages t (Open n) Unseen within in
-          (grind (arith, other, self, walks.opened.only s p, size, is), grind (arith, other, self, walks.opened.only s p, state_same p, state_new, is));
+          let self = get_or-set_same w.stages t (Open n) Unseen within in (
+            grind (arith, other, self, walks.opened.only s p, size, is),
+            grind (arith, other, self, walks.opened.only s p, state_same p, state_new, is),
+          );
     }
 
     roots : AreRoots Entered
     roots = record {
       first = λ _ all. elim (cases_eq n 0) [
-        | inl e ↦ grind (arith, all (length w.roots) no_root, length_push w.roots NewRoot, get_or_push w.roots NewRoot no_root (length w.roots) refl, e)
+        | inl e ↦ grind (
+          arith,
+          all (length w.roots) no_root,
+          length_push w.roots NewRoot,
+          get_or_push w.roots NewRoot no_root (length w.roots) refl,
+          e,
+        )
         | inr d ↦ walks.roots.first (omega (arith, d)) (before_new (λ r. 0 < r.height) all)
       ];
-      rising = all_pairs_push IsBefore w.roots NewRoot walks.roots.rising (λ i d h. (root_low walks i d h, (walks.roots.each i d h).within));
+      rising = all_pairs_push IsBefore w.roots NewRoot walks.roots.rising
+          (λ i d h. (root_low walks i d h, (walks.roots.each i d h).within));
       each = All-push (IsRoot Entered.frames Entered.items) w.roots NewRoot
           (λ i d h.
           let root = walks.roots.each i d h in
           let (j, low, is) = root.framed in
-          record { framed = (j, omega (arith, low, frames_size), ap (λ x. x.height) (frame_same j low) ∙ is); within = root.within })
-          (record { framed = (length w.frames, omega (arith, frames_size), ap (λ x. x.height) frame_new); within = omega arith });
+          record {
+            framed = (j, omega (arith, low, frames_size), ap (λ x. x.height) (frame_same j low) ∙ is);
+            within = root.within;
+          })
+          (record {
+            framed = (length w.frames, omega (arith, frames_size), ap (λ x. x.height) frame_new);
+            within = omega arith;
+          });
     }
 
     frames : AreFrames u.l Entered.stack Entered.frames
     frames = record {
-      rising = all_pairs_push (λ x y. x.height < y.height) w.frames NewFrame walks.frames.rising (λ i d h. (walks.frames.each i d h).on_stack);
+      rising = all_pairs_push (λ x y. x.height < y.height) w.frames NewFrame walks.frames.rising
+          (λ i d h. (walks.frames.each i d h).on_stack);
       each = All-push (IsFrame u.l Entered.stack) w.frames NewFrame
-          (λ i d h. let frame = walks.frames.each i d h in let low = frame.on_stack in IsFrame-moved frame (omega (arith, low, size)) (state_same _ low))
+          (λ i d h. let frame = walks.frames.each i d h in let low = frame.on_stack in IsFrame-moved frame
+          (omega (arith, low, size)) (state_same _ low))
           (record {
             on_stack = omega (arith, size);
             start = start;
@@ -219,36 +276,52 @@ module _ {u : Under} {lists : List (List (ℕ × ℕ))} {w : Search} (walks : Wa
 
     accounted : AreAccounted u lists Entered
     accounted p k lp lk source = elim (cases_lt p n) [
-      | inl low ↦ accounted_still walks enter_keeps p k low lk source (λ ahead. inl (ahead_still p k ahead)) (λ u e. inr (inr (entered_still p u e)))
+      | inl low ↦ accounted_still walks enter_keeps p k low lk source (λ ahead. inl (ahead_still p k ahead))
+          (λ u e. inr (inr (entered_still p u e)))
       | inr high ↦
           let e : p ≡ n = omega (arith, lp, high, size) in
           let inside = ((row.exactly k lk).0 (source ∙ ap (slice_index Entered.stack) e ∙ state_new)).0 in
-          inl (length w.frames, omega (arith, frames_size), ap (λ y. y.height) frame_new ∙ sym e, subst (λ y. y.next ≤ k) (sym frame_new) inside)
+          inl (
+            length w.frames,
+            omega (arith, frames_size),
+            ap (λ y. y.height) frame_new ∙ sym e,
+            subst (λ y. y.next ≤ k) (sym frame_new) inside,
+          )
     ]
 
-    module _ (step : 0 < length w.frames → Inert (system_of u.l) (slice_index u.blocks) (slice_index w.stack (here w)) t) where
+    module _ (step : 0 < length w.frames →
+        Inert (system_of u.l) (slice_index u.blocks) (slice_index w.stack (here w)) t) where
       connects : Connects u Entered
       connects p q lp lq h = elim (cases_lt p n) [
         | inl low ↦ elim (cases_lt q n) [
-          | inl low' ↦
-              subst₂ (Ties u) (sym (state_same p low)) (sym (state_same q low')) (walks.connects p q low low' (before_new (λ r. r.height ≤ p → r.height ≤ q) h))
+          | inl low' ↦ subst₂ (Ties u) (sym (state_same p low)) (sym (state_same q low'))
+              (walks.connects p q low low' (before_new (λ r. r.height ≤ p → r.height ≤ q) h))
           | inr high' ↦
               let e : n ≡ q = omega (arith, lq, high', size) in
               subst₂ (Ties u) (sym (state_same p low)) (sym state_new ∙ ap (slice_index Entered.stack) e)
-              (laws.after (system_of u.l) (slice_index u.blocks) _ _ _ (ties walks p low) (step (frames_some walks (omega (arith, low)))))
+              (laws.after (system_of u.l) (slice_index u.blocks) _ _ _ (ties walks p low)
+              (step (frames_some walks (omega (arith, low)))))
         ]
         | inr high ↦
             let new = get_or_push w.roots NewRoot no_root (length w.roots) refl in
-            let e : p ≡ q = grind (arith, h (length w.roots) no_root, length_push w.roots NewRoot, new, lp, lq, high, size) in
+            let e : p ≡ q =
+            grind (arith, h (length w.roots) no_root, length_push w.roots NewRoot, new, lp, lq, high, size) in
             subst (λ x. Ties u (slice_index Entered.stack p) (slice_index Entered.stack x)) e
             (laws.here (system_of u.l) (slice_index u.blocks) (slice_index Entered.stack p))
       ]
 
       pub Walks-enter : Walks u lists Entered
       Walks-enter = record {
-        numbers = omega (arith, length-set w.stages t (Open n), unseen-set w.stages t (Open n) refl within unseen, walks.numbers, size);
+        numbers = omega (
+          arith,
+          length-set w.stages t (Open n),
+          unseen-set w.stages t (Open n) refl within unseen,
+          walks.numbers,
+          size,
+        );
         opened = opened;
-        signed = λ s k is. kept_still u lists w.stages Entered.stages enter_keeps.finished s k (walks.signed s k (grind (arith, common_steps, unseen, within, is)));
+        signed = λ s k is. kept_still u lists w.stages Entered.stages enter_keeps.finished s k
+            (walks.signed s k (grind (arith, common_steps, unseen, within, is)));
         roots = roots;
         frames = frames;
         connects = connects;
@@ -258,7 +331,8 @@ module _ {u : Under} {lists : List (List (ℕ × ℕ))} {w : Search} (walks : Wa
       }
 
   -- the transition in place m, which is next in the row of frame i, was read
-  module _ {i m : ℕ} {x : Frame} (low : i < length w.frames) (is : x ≡ record (frame_at w.frames i) { next = m + 1 }) (next : (frame_at w.frames i).next ≡ m)
+  module _ {i m : ℕ} {x : Frame} (low : i < length w.frames) (is : x ≡ record (frame_at w.frames i) { next = m + 1 })
+      (next : (frame_at w.frames i).next ≡ m)
       (more : m < (frame_at w.frames i).end) where
     abbrev pub Moved : Search
     Moved = record w { frames = set w.frames i x }
@@ -274,13 +348,24 @@ module _ {u : Under} {lists : List (List (ℕ × ℕ))} {w : Search} (walks : Wa
 
     next_entered : (p t : ℕ) → IsEntered w p t → IsFollowed lists Moved p t
     next_entered p t (j, lj, at, to) =
-        inr (inr (j, omega (arith, lj, same_size), places_same j no_frame ∙ at, ap (slice_index w.stack) (places_same (j + 1) no_frame) ∙ to))
+        inr (inr (
+          j,
+          omega (arith, lj, same_size),
+          places_same j no_frame ∙ at,
+          ap (slice_index w.stack) (places_same (j + 1) no_frame) ∙ to,
+        ))
 
     module _ (done : Accounted u lists w (frame_at w.frames i).height (place_at u.l.places m)) where
       -- a transition that is still to be read, but for the one that was read
-      next_ahead : (p k : ℕ) → p < length w.stack → IsAhead w p k → IsAhead Moved p k ⊎ Accounted u lists Moved p (place_at u.l.places k)
+      next_ahead : (p k : ℕ) → p < length w.stack → IsAhead w p k →
+          IsAhead Moved p k ⊎ Accounted u lists Moved p (place_at u.l.places k)
       next_ahead p k lp (j, lj, at, ahead) = elim (cases_eq j i) [
-        | inr d ↦ inl (j, omega (arith, lj, same_size), places_same j no_frame ∙ at, subst (λ y. y.next ≤ k) (sym (get_or-set_other w.frames i j x no_frame d)) ahead)
+        | inr d ↦ inl (
+          j,
+          omega (arith, lj, same_size),
+          places_same j no_frame ∙ at,
+          subst (λ y. y.next ≤ k) (sym (get_or-set_other w.frames i j x no_frame d)) ahead,
+        )
         | inl e ↦
             let at' : (frame_at w.frames i).height ≡ p = ap (λ y. (frame_at w.frames y).height) (sym e) ∙ at in
             elim (cases_eq m k) [
@@ -291,7 +376,12 @@ module _ {u : Under} {lists : List (List (ℕ × ℕ))} {w : Search} (walks : Wa
               | inr d' ↦
                   let was = ap (λ y. (frame_at w.frames y).next) e in
                   let now = ap (λ y. y.next) (get_or-set_same w.frames i x no_frame low ∙ is) in
-                  inl (i, omega (arith, low, same_size), places_same i no_frame ∙ at', omega (arith, ahead, was, now, next, d'))
+                  inl (
+                    i,
+                    omega (arith, low, same_size),
+                    places_same i no_frame ∙ at',
+                    omega (arith, ahead, was, now, next, d'),
+                  )
             ]
       ]
 
@@ -305,7 +395,8 @@ module _ {u : Under} {lists : List (List (ℕ × ℕ))} {w : Search} (walks : Wa
             let (j, lj, at) = root.framed in
             record { framed = (j, omega (arith, lj, same_size), places_same j no_frame ∙ at); within = root.within });
         frames = record {
-          rising = λ j k d h h'. grind (arith, walks.frames.rising j k d h, places_same j d, places_same k d, same_size, h');
+          rising =
+              λ j k d h h'. grind (arith, walks.frames.rising j k d h, places_same j d, places_same k d, same_size, h');
           each =
               let frame = walks.frames.each i no_frame low in
               All-set (IsFrame u.l w.stack) w.frames i x
@@ -321,5 +412,6 @@ module _ {u : Under} {lists : List (List (ℕ × ℕ))} {w : Search} (walks : Wa
         connects = walks.connects;
         there = walks.there;
         sound = λ j lj. sound_still walks next_keeps j lj (omega arith) (λ p lp _. lp);
-        accounted = λ p k lp lk source. accounted_still walks next_keeps p k lp lk source (next_ahead p k lp) (next_entered p);
+        accounted =
+            λ p k lp lk source. accounted_still walks next_keeps p k lp lk source (next_ahead p k lp) (next_entered p);
       }

@@ -1,5 +1,6 @@
 -- The walk while the row of its last frame is read: a step is taken, and then marked as read.
-use Rattle.std.proofs.Common.{◌≡◌, ℕ, ◌+◌, ◌-◌, ◌<◌, ◌≤◌, List, [], ◌∷◌, length, slice_index, Bool, refl, sym, ◌∙◌, ap, subst, inl, inr, arith, set}
+use Rattle.std.proofs.Common.{◌≡◌, ℕ, ◌+◌, ◌-◌, ◌<◌, ◌≤◌, List, [], ◌∷◌, length, slice_index, Bool, refl, sym, ◌∙◌, ap}
+use Rattle.std.proofs.Common.{subst, inl, inr, arith, set}
 use Rattle.std.specs.Prelude.{IsTrue}
 use Rattle.std.proofs.lemmas.Bool.{cases_Bool}
 use Rattle.std.proofs.lemmas.List.{length_push, get_or_append_left, get_or-set_same, length-set, set-append_left}
@@ -10,7 +11,8 @@ use Rattle.lts.specs.Labels.{text_of}
 use Rattle.lts.specs.Lts.{Triple, source_of, label_of, target_of, place_at, system_of, IsLts}
 use Rattle.inert.specs.Signed.{HasPair, pair_under}
 use Rattle.inert.specs.Steps.{Under, IsInert, IsStep}
-use Rattle.inert.specs.Search.{Search, Laws, frame_at, no_frame, top, here, IsFrame, Accounted, Walks, Open, Frame, Root, Item, Pair, Listed}
+use Rattle.inert.specs.Search.{Search, Laws, frame_at, no_frame, top, here, IsFrame, Accounted, Walks, Open, Frame}
+use Rattle.inert.specs.Search.{Root, Item, Pair, Listed}
 use Rattle.inert.specs.Moves.{entered, with_item, Follows, TakesStep, ahead, HasRead, IsUnderWay, SignsMore, GoesOn}
 use Rattle.inert.specs.Ahead.{KeepsSeen}
 use Rattle.inert.specs.declared.step.Step.{Step as TakenStep}
@@ -21,10 +23,12 @@ use Rattle.inert.proofs.invariant.Keeping.{signs_on}
 use Rattle.inert.proofs.parts.Counting.{unread-set, rest-push, rest-next}
 use Rattle.inert.proofs.invariant.Standing.{pair_before, list_signed}
 use Rattle.inert.proofs.signatures.Exact.{place_step}
-use Rattle.inert.proofs.moves.Forward.{Walks-collect, collected_holds, Walks-join, joined_here, Walks-enter, entered_met, Walks-next}
+use Rattle.inert.proofs.moves.Forward.{Walks-collect, collected_holds, Walks-join, joined_here, Walks-enter}
+use Rattle.inert.proofs.moves.Forward.{entered_met, Walks-next}
 
 -- the transition that is next was taken, and is not marked as read
-module _ (laws : Laws) {u : Under} (lts : IsLts u.l) {lists : List (List (ℕ × ℕ))} {w : Search} (walks : Walks u lists w)
+module _ (laws : Laws) {u : Under} (lts : IsLts u.l) {lists : List (List (ℕ × ℕ))} {w : Search}
+    (walks : Walks u lists w)
     (some : 0 < length w.frames) {k : ℕ} (next : (top w.frames).next ≡ k) (more : k < (top w.frames).end) where
   abbrev e : Triple
   e = place_at u.l.places k
@@ -42,18 +46,27 @@ module _ (laws : Laws) {u : Under} (lts : IsLts u.l) {lists : List (List (ℕ ×
   target_low = (lts.in_range.each k (0, 0, 0) place_low).target
 
   -- an inert transition is an inert step
-  inert_step : IsInert u (slice_index u.blocks (source_of e)) e → Inert (system_of u.l) (slice_index u.blocks) (slice_index w.stack (here w)) (target_of e)
+  inert_step : IsInert u (slice_index u.blocks (source_of e)) e →
+      Inert (system_of u.l) (slice_index u.blocks) (slice_index w.stack (here w)) (target_of e)
   inert_step inert =
       subst (λ s. Inert (system_of u.l) (slice_index u.blocks) s (target_of e)) source
       (subst (λ a. Step (system_of u.l) (source_of e) a (target_of e)) inert.0 (place_step u.l k place_low), inert.1)
 
   -- another one gives a pair of the signature
   own_pair : ¬ IsInert u (slice_index u.blocks (source_of e)) e
-      → HasPair Branching u.l u.blocks (slice_index w.stack (here w)) (pair_under u.blocks e).0 (pair_under u.blocks e).1
+      → HasPair Branching u.l u.blocks (slice_index w.stack (here w)) (pair_under u.blocks e).0
+      (pair_under u.blocks e).1
   own_pair other = (
     (lts.in_range.each k (0, 0, 0) place_low).label,
-    subst (λ s. Signature Branching (system_of u.l) (slice_index u.blocks) s (text_of u.l.labels (label_of e)) (slice_index u.blocks (target_of e))) source
-        (source_of e, target_of e, laws.here (system_of u.l) (slice_index u.blocks) (source_of e), place_step u.l k place_low, refl, other),
+    subst (λ s. Signature Branching (system_of u.l) (slice_index u.blocks) s (text_of u.l.labels (label_of e))
+        (slice_index u.blocks (target_of e))) source (
+          source_of e,
+          target_of e,
+          laws.here (system_of u.l) (slice_index u.blocks) (source_of e),
+          place_step u.l k place_low,
+          refl,
+          other,
+        ),
   )
 
   -- what holds of the walk then, whether it has entered a state or not
@@ -67,22 +80,32 @@ module _ (laws : Laws) {u : Under} (lts : IsLts u.l) {lists : List (List (ℕ ×
     pub still : ¬ IsTrue enters → (m.frames ≡ w.frames) × (m.stack ≡ w.stack)
     pub longer : IsTrue enters → length m.frames ≡ length w.frames + 1
 
-  stayed : (roots : List Root) (items : List Item) (enters : Bool) → let m : Search = record w { roots = roots; items = items } in
+  stayed : (roots : List Root) (items : List Item) (enters : Bool) → let m : Search =
+      record w { roots = roots; items = items } in
       Walks u lists m → Accounted u lists m (here w) e → ¬ IsTrue enters → Taken m enters
   stayed roots items enters after done stay =
       grind (arith, after, done, seen_same w.stages, stay)
 
   -- an inert step leads to the target, whatever is known of that
-  followed : IsInert u (slice_index u.blocks (source_of e)) e → (m : Search) (enters : Bool) → Follows u.l.places (target_of e) w m enters → Taken m enters
+  followed : IsInert u (slice_index u.blocks (source_of e)) e → (m : Search) (enters : Bool) →
+      Follows u.l.places (target_of e) w m enters → Taken m enters
   followed inert m enters (inl (unseen, (start, end, row, new), went)) =
       let within : target_of e < length w.stages = omega (arith, walks.numbers.size, target_low) in
       let x : Frame = record { height = length w.stack; next = start; end = end } in
       subst (λ y. Taken y enters) (sym new) (record {
         after = Walks-enter walks laws within unseen row (λ _. inert_step inert);
-        done = record { shown = λ other. absurd (other inert); followed = λ _. inr (inr (entered_met walks laws within unseen row some)) };
+        done = record {
+          shown = λ other. absurd (other inert);
+          followed = λ _. inr (inr (entered_met walks laws within unseen row some));
+        };
         seen = seen_more w.stages (target_of e) (Open (length w.stack)) (λ e. cc) within unseen;
         signs = signs_opened u lists w.stages (target_of e) (Open (length w.stack)) (λ k e. cc) within;
-        same_ahead = omega (arith, unread-set w.stages (target_of e) (Open (length w.stack)) refl within unseen u.l.places, rest-push w.frames x, row.count);
+        same_ahead = omega (
+          arith,
+          unread-set w.stages (target_of e) (Open (length w.stack)) refl within unseen u.l.places,
+          rest-push w.frames x,
+          row.count,
+        );
         same_frame = get_or_append_left w.frames (x ∷ []) _ (length w.frames - 1) (omega (arith, some));
         still = λ stay. absurd (stay went);
         longer = λ _. length_push w.frames x;
@@ -90,39 +113,62 @@ module _ (laws : Laws) {u : Under} (lts : IsLts u.l) {lists : List (List (ℕ ×
   followed inert m enters (inr (inl (q, stage, cuts, new, stay))) =
       let was = walks.opened.only (target_of e) q stage in
       subst (λ y. Taken y enters) (sym new) (stayed m.roots w.items enters
-      (Walks-join walks laws cuts was.0 (subst (Inert (system_of u.l) (slice_index u.blocks) (slice_index w.stack (here w))) (sym was.1) (inert_step inert)))
-      (record { shown = λ other. absurd (other inert); followed = λ _. inl (joined_here walks laws cuts (target_of e) stage) }) stay)
+      (Walks-join walks laws cuts was.0 (subst (Inert (system_of u.l) (slice_index u.blocks)
+      (slice_index w.stack (here w))) (sym was.1) (inert_step inert)))
+      (record {
+        shown = λ other. absurd (other inert);
+        followed = λ _. inl (joined_here walks laws cuts (target_of e) stage);
+      }) stay)
   followed inert m enters (inr (inr (number, stage, new, stay))) =
-      let inside : slice_index w.stack (here w) < u.l.states = omega (arith, source, (lts.in_range.each k (0, 0, 0) place_low).source) in
-      let signed = list_signed walks (here w) (target_of e) number frame.on_stack inside (inert.1 ∙ ap (slice_index u.blocks) source) stage in
+      let inside : slice_index w.stack (here w) < u.l.states =
+      omega (arith, source, (lts.in_range.each k (0, 0, 0) place_low).source) in
+      let signed = list_signed walks (here w) (target_of e) number frame.on_stack inside (inert.1
+      ∙ ap (slice_index u.blocks) source) stage in
       let s = slice_index w.stack (here w) in
-      let tie = laws.after (system_of u.l) (slice_index u.blocks) s s (target_of e) (laws.here (system_of u.l) (slice_index u.blocks) s) (inert_step inert) in
+      let tie = laws.after (system_of u.l) (slice_index u.blocks) s s (target_of e)
+      (laws.here (system_of u.l) (slice_index u.blocks) s) (inert_step inert) in
       subst (λ y. Taken y enters) (sym new) (stayed w.roots (with_item (Listed number) w).items enters
-      (Walks-collect walks (Listed number) some (λ j e'. subst (λ x. x < length lists) (let same : number ≡ j = cc in same) signed.within)
+      (Walks-collect walks (Listed number) some (λ j e'. subst (λ x. x < length lists) (let same : number
+      ≡ j = cc in same) signed.within)
       (λ z g. pair_before laws u s (target_of e) z tie ((signed.signature.exactly z.0 z.1).0 g)))
-      (record { shown = λ other. absurd (other inert); followed = λ _. inr (inl (number, stage, λ z c. collected_holds walks (Listed number) z c)) }) stay)
+      (record {
+        shown = λ other. absurd (other inert);
+        followed = λ _. inr (inl (number, stage, λ z c. collected_holds walks (Listed number) z c));
+      }) stay)
 
   -- whichever step it is
-  pub taken : (step : TakenStep) (m : Search) (enters : Bool) → IsStep u (slice_index u.blocks (source_of e)) e step → TakesStep u.l.places step w m enters
+  pub taken : (step : TakenStep) (m : Search) (enters : Bool) → IsStep u (slice_index u.blocks (source_of e)) e step
+      → TakesStep u.l.places step w m enters
       → Taken m enters
   taken (Shows a b) m enters (other, is) (new, stay) =
       subst (λ y. Taken y enters) (sym new) (stayed w.roots (with_item (Pair a b) w).items enters
       (Walks-collect walks (Pair a b) some (λ j e'. absurd (cc))
-      (λ z g. subst (λ (x : ℕ × ℕ). HasPair Branching u.l u.blocks (slice_index w.stack (here w)) x.0 x.1) (sym is ∙ g) (own_pair other)))
-      (record { shown = λ _. collected_holds walks (Pair a b) (pair_under u.blocks e) is; followed = λ inert. absurd (other inert) }) stay)
-  taken (Goes t) m enters (inert, is) takes = followed inert m enters (subst (λ s. Follows u.l.places s w m enters) is takes)
+      (λ z g. subst (λ (x : ℕ × ℕ). HasPair Branching u.l u.blocks (slice_index w.stack (here w)) x.0 x.1) (sym is ∙ g)
+      (own_pair other)))
+      (record {
+        shown = λ _. collected_holds walks (Pair a b) (pair_under u.blocks e) is;
+        followed = λ inert. absurd (other inert);
+      }) stay)
+  taken (Goes t) m enters (inert, is) takes =
+      followed inert m enters (subst (λ s. Follows u.l.places s w m enters) is takes)
 
 -- a step that is taken after a frame was marked might have been taken before
-marked_first : (places : List Triple) (w : Search) {m : Search} (enters : Bool) {i : ℕ} {x : Frame} (step : TakenStep) → i < length w.frames
+marked_first : (places : List Triple) (w : Search) {m : Search} (enters : Bool) {i : ℕ} {x : Frame} (step : TakenStep)
+    → i < length w.frames
     → TakesStep places step (record w { frames = set w.frames i x }) m enters
     → (m' : Search) × TakesStep places step w m' enters × (m ≡ record m' { frames = set m'.frames i x })
 marked_first places w enters (Shows a b) low (new, stay) = (with_item (Pair a b) w, (refl, stay), new)
 marked_first places w enters {i = i} {x = x} (Goes t) low (inl (unseen, (start, end, row, new), went)) =
     let w' = entered t start end (length w.items) w in
-    let y : Frame = record { height = length w.stack; next = start; end = end } in
-    (w', inl (unseen, (start, end, row, refl), went), new ∙ ap (λ frames. record w' { frames = frames }) (sym (set-append_left w.frames (y ∷ []) i x low)))
-marked_first places w {m = m} enters (Goes t) low (inr (inl (q, stage, cuts, new, stay))) = (record w { roots = m.roots }, inr (inl (q, stage, cuts, refl, stay)), new)
-marked_first places w enters (Goes t) low (inr (inr (number, stage, new, stay))) = (with_item (Listed number) w, inr (inr (number, stage, refl, stay)), new)
+    let y : Frame = record { height = length w.stack; next = start; end = end } in (
+      w',
+      inl (unseen, (start, end, row, refl), went),
+      new ∙ ap (λ frames. record w' { frames = frames }) (sym (set-append_left w.frames (y ∷ []) i x low)),
+    )
+marked_first places w {m = m} enters (Goes t) low (inr (inl (q, stage, cuts, new, stay))) =
+    (record w { roots = m.roots }, inr (inl (q, stage, cuts, refl, stay)), new)
+marked_first places w enters (Goes t) low (inr (inr (number, stage, new, stay))) =
+    (with_item (Listed number) w, inr (inr (number, stage, refl, stay)), new)
 
 -- from one walk to another one, the row of what was its last frame was read up to place k
 pub record Reads (u : Under) (lists : List (List (ℕ × ℕ))) (old new : Search) (k : ℕ) : Type 0 where
@@ -144,7 +190,12 @@ pub record Marked (u : Under) (lists : List (List (ℕ × ℕ))) (old new : Sear
 
 pub reads_none : {u : Under} {lists : List (List (ℕ × ℕ))} {w : Search} → IsUnderWay u lists w
     → Reads u lists w w (top w.frames).next
-reads_none way = record { on = record { walks = way.walks; seen = seen_same _; signs = λ s k is. inl is }; here = refl; forward = omega arith; less = refl }
+reads_none way = record {
+  on = record { walks = way.walks; seen = seen_same _; signs = λ s k is. inl is };
+  here = refl;
+  forward = omega arith;
+  less = refl;
+}
 
 module _ {u : Under} {lists : List (List (ℕ × ℕ))} {first w : Search} {k : ℕ} (reads : Reads u lists first w k)
     (stays : Stays first w) (some : 0 < length first.frames) where
@@ -168,12 +219,14 @@ module _ {u : Under} {lists : List (List (ℕ × ℕ))} {first w : Search} {k : 
     pub place_below : k < length u.l.places
     place_below = place_low laws lts reads.on.walks now_some (ap (λ y. y.next) top_is) now_more
 
-    module _ (block : ℕ) (is_block : block ≡ slice_index u.blocks (slice_index first.stack (top first.frames).height)) (step : TakenStep)
+    module _ (block : ℕ) (is_block : block ≡ slice_index u.blocks (slice_index first.stack (top first.frames).height))
+        (step : TakenStep)
         (is_step : IsStep u block (place_at u.l.places k) step) {i : ℕ} (last : i ≡ length first.frames - 1) {x : Frame}
         (is : x ≡ record (frame_at w.frames i) { next = k + 1 }) where
       same_block : block ≡ slice_index u.blocks (source_of (place_at u.l.places k))
       same_block =
-          is_block ∙ ap (slice_index u.blocks) (ap (slice_index first.stack) (sym (ap (λ y. y.height) top_is)) ∙ ap (λ xs. slice_index xs (top w.frames).height) (sym stays.stack)
+          is_block ∙ ap (slice_index u.blocks) (ap (slice_index first.stack) (sym (ap (λ y. y.height) top_is))
+          ∙ ap (λ xs. slice_index xs (top w.frames).height) (sym stays.stack)
           ∙ sym (source laws lts reads.on.walks now_some (ap (λ y. y.next) top_is) now_more))
 
       same_last : i ≡ length w.frames - 1
@@ -194,7 +247,8 @@ module _ {u : Under} {lists : List (List (ℕ × ℕ))} {first w : Search} {k : 
 
         is_next : x ≡ record (frame_at m.frames i) { next = k + 1 }
         is_next =
-            let frame : frame_at w.frames i ≡ frame_at m.frames i = ap (frame_at w.frames) same_last ∙ top_is ∙ sym same_frame in
+            let frame : frame_at w.frames i ≡ frame_at m.frames i = ap (frame_at w.frames) same_last ∙ top_is
+            ∙ sym same_frame in
             is ∙ (λ j. record (frame j) { next = k + 1 })
 
         abbrev New : Search
@@ -207,11 +261,13 @@ module _ {u : Under} {lists : List (List (ℕ × ℕ))} {first w : Search} {k : 
         left = omega (arith, more, ap (λ y. y.end) same_frame)
 
         done : Accounted u lists m (frame_at m.frames i).height (place_at u.l.places k)
-        done = subst (λ (y : Frame). Accounted u lists m y.height (place_at u.l.places k)) (top_is ∙ sym same_frame) took.done
+        done = subst (λ (y : Frame). Accounted u lists m y.height (place_at u.l.places k)) (top_is
+            ∙ sym same_frame) took.done
 
         moved_ahead : ahead u.l New + 1 ≡ ahead u.l w
         moved_ahead =
-            let one = rest-next m.frames i x still_there (ap (λ y. y.end) is_next) (ap (λ y. y.next) is_next ∙ ap (λ n. n + 1) (sym next)) (omega (arith, next, left)) in
+            let one = rest-next m.frames i x still_there (ap (λ y. y.end) is_next) (ap (λ y. y.next) is_next
+            ∙ ap (λ n. n + 1) (sym next)) (omega (arith, next, left)) in
             omega (arith, one, took.same_ahead)
 
         taken_first : Marked u lists first New k enters
@@ -236,7 +292,8 @@ module _ {u : Under} {lists : List (List (ℕ × ℕ))} {first w : Search} {k : 
         }
 
       -- it was marked as read, and then taken
-      pub marked : {m : Search} {enters : Bool} → TakesStep u.l.places step (record w { frames = set w.frames i x }) m enters → Marked u lists first m k enters
+      pub marked : {m : Search} {enters : Bool} →
+          TakesStep u.l.places step (record w { frames = set w.frames i x }) m enters → Marked u lists first m k enters
       marked {enters = enters} takes =
           let (m', takes', is_m) = marked_first u.l.places w enters step (omega (arith, same_last, now_some)) takes in
           subst (λ y. Marked u lists first y k enters) (sym is_m) (taken_first m' enters takes')

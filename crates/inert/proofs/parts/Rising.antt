@@ -8,5 +8,6 @@ pub AllPairs-take : {X : Type 0} (R : X → X → Type 0) (n : ℕ) (xs : List X
 AllPairs-take R n xs old i j d h low = grind (arith, elements, old i j d)
 
 -- what holds of the first elements, and of the rest, holds of all
-pub All-from_take : {X : Type 0} (P : X → Type 0) (n : ℕ) (xs : List X) (d : X) → All P (take n xs) → ((i : ℕ) → n ≤ i → i < length xs → P (get_or xs i d)) → All P xs
+pub All-from_take : {X : Type 0} (P : X → Type 0) (n : ℕ) (xs : List X) (d : X) → All P (take n xs) →
+    ((i : ℕ) → n ≤ i → i < length xs → P (get_or xs i d)) → All P xs
 All-from_take P n xs d first rest = All-from_get_or P xs d (λ i h. grind (arith, elements, rest i, first i d))

@@ -12,10 +12,11 @@ use Rattle.inert.specs.Ahead.{KeepsSeen}
 
 -- a state on the stack has a stage
 pub open_inside : (stages : List Stage) (stack : List ℕ) → AreOpen stages stack → All (λ s. s < length stages) stack
-open_inside stages stack opened = All-from_get_or (λ s. s < length stages) stack 0 (λ p h. elim (cases_lt (slice_index stack p) (length stages)) [
-  | inl low ↦ low
-  | inr past ↦ absurd (cc (get_or_past stages (slice_index stack p) Unseen past, opened.placed p h))
-])
+open_inside stages stack opened =
+    All-from_get_or (λ s. s < length stages) stack 0 (λ p h. elim (cases_lt (slice_index stack p) (length stages)) [
+      | inl low ↦ low
+      | inr past ↦ absurd (cc (get_or_past stages (slice_index stack p) Unseen past, opened.placed p h))
+    ])
 
 -- nothing changes
 pub seen_same : (stages : List Stage) → KeepsSeen stages stages
@@ -26,18 +27,21 @@ pub seen_on : {old mid new : List Stage} → KeepsSeen old mid → KeepsSeen mid
 seen_on first then = grind (arith, first, then)
 
 -- the state t, which was not seen, is seen
-pub seen_more : (stages : List Stage) (t : ℕ) (m : Stage) → ¬ (m ≡ Unseen) → t < length stages → stage_at stages t ≡ Unseen → KeepsSeen stages (set stages t m)
+pub seen_more : (stages : List Stage) (t : ℕ) (m : Stage) → ¬ (m ≡ Unseen) → t < length stages →
+    stage_at stages t ≡ Unseen → KeepsSeen stages (set stages t m)
 seen_more stages t m seen low was = record {
   unseen = λ s is. grind (arith, common_steps, seen, is);
   finished = λ s k is. get_or-set_other stages t s m Unseen (λ e. cc (ap (stage_at stages) e, was, is)) ∙ is;
 }
 
 -- it is not finished, so no state is that was not
-pub signs_opened : (u : Under) (lists : List (List (ℕ × ℕ))) (stages : List Stage) (t : ℕ) (m : Stage) → ((k : ℕ) → ¬ (m ≡ Finished k)) → t < length stages
+pub signs_opened : (u : Under) (lists : List (List (ℕ × ℕ))) (stages : List Stage) (t : ℕ) (m : Stage)
+    → ((k : ℕ) → ¬ (m ≡ Finished k)) → t < length stages
     → SignsMore u lists stages (set stages t m)
 signs_opened u lists stages t m unless low s k is = inl (grind (arith, common_steps, unless k, low, is))
 
 -- a list is kept still, where finished states are finished still
-pub kept_still : (u : Under) (lists : List (List (ℕ × ℕ))) (old new : List Stage) → ((s k : ℕ) → stage_at old s ≡ Finished k → stage_at new s ≡ Finished k)
+pub kept_still : (u : Under) (lists : List (List (ℕ × ℕ))) (old new : List Stage)
+    → ((s k : ℕ) → stage_at old s ≡ Finished k → stage_at new s ≡ Finished k)
     → (s k : ℕ) → IsListKept u s lists old k → IsListKept u s lists new k
 kept_still u lists old new still s k was = grind (arith, was, was.signature, still)

@@ -1,5 +1,6 @@
 -- If the rows of the last component are read, what it has collected is exactly the signature of each of its states.
-use Rattle.std.proofs.Common.{◌≡◌, ℕ, ◌+◌, ◌-◌, ◌<◌, ◌≤◌, List, [], ◌∷◌, length, drop, get_or, slice_index, sym, ◌∙◌, ap, subst, inl, inr, arith}
+use Rattle.std.proofs.Common.{◌≡◌, ℕ, ◌+◌, ◌-◌, ◌<◌, ◌≤◌, List, [], ◌∷◌, length, drop, get_or, slice_index, sym, ◌∙◌}
+use Rattle.std.proofs.Common.{ap, subst, inl, inr, arith}
 use Rattle.std.proofs.lemmas.List.{length-map, get_or-map, get_or-drop, get_or_default, length-drop}
 use Rattle.theory.specs.System.{Step, Along, internal}
 use Rattle.theory.specs.declared.relation.Relation.TheVariants.{Branching}
@@ -14,21 +15,28 @@ use Rattle.inert.proofs.invariant.Standing.{pair_before, list_signed, last_low, 
 
 -- a step stands in some place
 pub step_place : (l : Grouped) (s t : ℕ) (a : List ℕ) → Step (system_of l) s a t →
-    (k : ℕ) × (k < length l.places) × (source_of (place_at l.places k) ≡ s) × (text_of l.labels (label_of (place_at l.places k)) ≡ a) × (target_of (place_at l.places k) ≡ t)
+    (k : ℕ) × (k < length l.places) × (source_of (place_at l.places k) ≡ s)
+    × (text_of l.labels (label_of (place_at l.places k)) ≡ a) × (target_of (place_at l.places k) ≡ t)
 step_place l s t a step =
     let below : step.0 < length l.places = omega (arith, step.1, length-map l.places (transition_of l.labels)) in
     let same : transition_of l.labels (place_at l.places step.0) ≡ record { source = s; label = a; target = t } =
-    sym (get_or-map (transition_of l.labels) l.places step.0 (0, 0, 0) (record { source = s; label = a; target = t }) below) ∙ step.2 in
+    sym (get_or-map (transition_of l.labels) l.places step.0 (0, 0, 0) (record { source = s; label = a; target = t })
+    below) ∙ step.2 in
     (step.0, below, ap (λ e. e.source) same, ap (λ e. e.label) same, ap (λ e. e.target) same)
 
 -- a place stands for a step
 pub place_step : (l : Grouped) (k : ℕ) → k < length l.places →
-    Step (system_of l) (source_of (place_at l.places k)) (text_of l.labels (label_of (place_at l.places k))) (target_of (place_at l.places k))
+    Step (system_of l) (source_of (place_at l.places k)) (text_of l.labels (label_of (place_at l.places k)))
+    (target_of (place_at l.places k))
 place_step l k h =
-    let e = transition_of l.labels (place_at l.places k) in
-    (k, omega (arith, h, length-map l.places (transition_of l.labels)), get_or-map (transition_of l.labels) l.places k (0, 0, 0) e h)
+    let e = transition_of l.labels (place_at l.places k) in (
+      k,
+      omega (arith, h, length-map l.places (transition_of l.labels)),
+      get_or-map (transition_of l.labels) l.places k (0, 0, 0) e h,
+    )
 
-module _ (laws : Laws) {u : Under} (lts : IsLts u.l) {lists : List (List (ℕ × ℕ))} {w : Search} (walks : Walks u lists w)
+module _ (laws : Laws) {u : Under} (lts : IsLts u.l) {lists : List (List (ℕ × ℕ))} {w : Search}
+    (walks : Walks u lists w)
     (some : 0 < length w.frames) (read : HasRead w) (height : (last w.roots).height ≡ here w) where
   -- where the items of the component begin, and what they give
   abbrev c0 : ℕ
@@ -40,40 +48,62 @@ module _ (laws : Laws) {u : Under} (lts : IsLts u.l) {lists : List (List (ℕ ×
   collected_from : (p : ℕ) → here w ≤ p → (z : ℕ × ℕ) → HoldsPair lists w p z → Collected z
   collected_from p h z (j, low, g, of) =
       let from = (of (length w.roots - 1) no_root (last_low walks some)).0 (omega (arith, height, h)) in
-      let is : c0 + (j - c0) ≡ j = omega (arith, from) in
-      (item_at w.items j, (j - c0, omega (arith, length-drop c0 w.items, low, from), get_or-drop c0 w.items (j - c0) _ ∙ ap (λ i. get_or w.items i (item_at w.items j)) is ∙ get_or_default w.items j _ _ low), g)
+      let is : c0 + (j - c0) ≡ j = omega (arith, from) in (
+        item_at w.items j,
+        (
+          j - c0,
+          omega (arith, length-drop c0 w.items, low, from),
+          get_or-drop c0 w.items (j - c0) _
+              ∙ ap (λ i. get_or w.items i (item_at w.items j)) is ∙ get_or_default w.items j _ _ low,
+        ),
+        g,
+      )
 
   -- each transition of the component was taken into account
-  done : (p k : ℕ) → here w ≤ p → p < length w.stack → k < length u.l.places → source_of (place_at u.l.places k) ≡ slice_index w.stack p
+  done : (p k : ℕ) → here w ≤ p → p < length w.stack → k < length u.l.places
+      → source_of (place_at u.l.places k) ≡ slice_index w.stack p
       → Accounted u lists w p (place_at u.l.places k)
   done p k h lp lk source = elim (walks.accounted p k lp lk source) [
     | inr a ↦ a
-    | inl (i, low, is, ahead) ↦ absurd (none_ahead walks read p k i lk source low (last_frame walks i low (omega (arith, is, h))) is ahead)
+    | inl (i, low, is, ahead) ↦
+        absurd (none_ahead walks read p k i lk source low (last_frame walks i low (omega (arith, is, h))) is ahead)
   ]
 
   -- what a state of the component can do was collected
-  collects_here : (z : ℕ × ℕ) (p : ℕ) → here w ≤ p → p < length w.stack → (t : ℕ) → Step (system_of u.l) (slice_index w.stack p) (text_of u.l.labels z.0) t
-      → slice_index u.blocks t ≡ z.1 → ¬ ((text_of u.l.labels z.0 ≡ internal) × (z.1 ≡ slice_index u.blocks (slice_index w.stack p)))
+  collects_here : (z : ℕ × ℕ) (p : ℕ) → here w ≤ p → p < length w.stack → (t : ℕ)
+      → Step (system_of u.l) (slice_index w.stack p) (text_of u.l.labels z.0) t
+      → slice_index u.blocks t ≡ z.1
+      → ¬ ((text_of u.l.labels z.0 ≡ internal) × (z.1 ≡ slice_index u.blocks (slice_index w.stack p)))
       → z.0 < length u.l.labels → Collected z
   collects_here z p h lp t step is other low =
       let (k, lk, source, label, target) = step_place u.l (slice_index w.stack p) t (text_of u.l.labels z.0) step in
-      let number : label_of (place_at u.l.places k) ≡ z.0 = lts.table.different (label_of (place_at u.l.places k)) z.0 (lts.in_range.each k (0, 0, 0) lk).label low label in
-      let block : slice_index u.blocks (target_of (place_at u.l.places k)) ≡ z.1 = ap (slice_index u.blocks) target ∙ is in
+      let number : label_of (place_at u.l.places k) ≡ z.0 = lts.table.different (label_of (place_at u.l.places k)) z.0
+      (lts.in_range.each k (0, 0, 0) lk).label low label in
+      let block : slice_index u.blocks (target_of (place_at u.l.places k)) ≡ z.1 =
+      ap (slice_index u.blocks) target ∙ is in
       let same : pair_under u.blocks (place_at u.l.places k) ≡ z = λ i. (number i, block i) in
       collected_from p h z
       (subst (HoldsPair lists w p) same
-      ((done p k h lp lk source).shown (λ inert. other (sym label ∙ inert.0, sym block ∙ inert.1 ∙ ap (slice_index u.blocks) source))))
+      ((done p k h lp lk source).shown (λ inert. other (
+        sym label ∙ inert.0,
+        sym block ∙ inert.1 ∙ ap (slice_index u.blocks) source,
+      ))))
 
   -- and what it can do at the end of inert steps
   collects : (z : ℕ × ℕ) (us : List ℕ) (p : ℕ) → here w ≤ p → p < length w.stack → (v t : ℕ)
-      → Along (Inert (system_of u.l) (slice_index u.blocks)) (slice_index w.stack p) us v → Step (system_of u.l) v (text_of u.l.labels z.0) t → slice_index u.blocks t ≡ z.1
-      → ¬ ((text_of u.l.labels z.0 ≡ internal) × (z.1 ≡ slice_index u.blocks (slice_index w.stack p))) → z.0 < length u.l.labels → Collected z
+      → Along (Inert (system_of u.l) (slice_index u.blocks)) (slice_index w.stack p) us v
+      → Step (system_of u.l) v (text_of u.l.labels z.0) t → slice_index u.blocks t ≡ z.1
+      → ¬ ((text_of u.l.labels z.0 ≡ internal) × (z.1 ≡ slice_index u.blocks (slice_index w.stack p)))
+      → z.0 < length u.l.labels → Collected z
   collects z [] p h lp v t e step is other low =
-      collects_here z p h lp t (subst (λ x. Step (system_of u.l) x (text_of u.l.labels z.0) t) (sym e) step) is other low
+      collects_here z p h lp t (subst (λ x. Step (system_of u.l) x (text_of u.l.labels z.0) t) (sym e) step) is other
+      low
   collects z (x ∷ us) p h lp v t (first, rest) step is other low =
       let (k, lk, source, label, target) = step_place u.l (slice_index w.stack p) x internal first.0 in
-      let same : slice_index u.blocks (target_of (place_at u.l.places k)) ≡ slice_index u.blocks (slice_index w.stack p) = ap (slice_index u.blocks) target ∙ first.1 in
-      let inside : slice_index w.stack p < u.l.states = omega (arith, source, (lts.in_range.each k (0, 0, 0) lk).source) in
+      let same : slice_index u.blocks (target_of (place_at u.l.places k))
+      ≡ slice_index u.blocks (slice_index w.stack p) = ap (slice_index u.blocks) target ∙ first.1 in
+      let inside : slice_index w.stack p < u.l.states =
+      omega (arith, source, (lts.in_range.each k (0, 0, 0) lk).source) in
       let path = subst (λ y. Along (Inert (system_of u.l) (slice_index u.blocks)) y us v) (sym target) rest in
       elim ((done p k h lp lk source).followed (label, same ∙ ap (slice_index u.blocks) (sym source))) [
         | inl (q, stage, up, down) ↦
@@ -84,20 +114,26 @@ module _ (laws : Laws) {u : Under} (lts : IsLts u.l) {lists : List (List (ℕ ×
             (λ inert. other (inert.0, inert.1 ∙ ap (slice_index u.blocks) was.1 ∙ same)) low
         | inr held ↦ elim held [
           | inl (number, stage, all) ↦
-              let has : HasPair Branching u.l u.blocks (target_of (place_at u.l.places k)) z.0 z.1 = (low, (v, t, (us, path), step, is, λ inert. other (inert.0, inert.1 ∙ same))) in
-              collected_from p h z (all z (((list_signed walks p (target_of (place_at u.l.places k)) number lp inside same stage).signature.exactly z.0 z.1).1 has))
-          | inr (i, low', is', to) ↦ let e = last_frame walks i (omega (arith, low')) (omega (arith, is', h)) in absurd (omega (arith, e, low'))
+              let has : HasPair Branching u.l u.blocks (target_of (place_at u.l.places k)) z.0 z.1 =
+              (low, (v, t, (us, path), step, is, λ inert. other (inert.0, inert.1 ∙ same))) in
+              collected_from p h z (all z
+              (((list_signed walks p (target_of (place_at u.l.places k)) number lp inside same
+              stage).signature.exactly z.0 z.1).1 has))
+          | inr (i, low', is', to) ↦ let e = last_frame walks i (omega (arith, low')) (omega (arith, is', h)) in
+              absurd (omega (arith, e, low'))
         ]
       ]
 
   -- what was collected is in the signature of each state of the component
-  sound : (p : ℕ) → here w ≤ p → p < length w.stack → (z : ℕ × ℕ) → Collected z → HasPair Branching u.l u.blocks (slice_index w.stack p) z.0 z.1
+  sound : (p : ℕ) → here w ≤ p → p < length w.stack → (z : ℕ × ℕ) → Collected z →
+      HasPair Branching u.l u.blocks (slice_index w.stack p) z.0 z.1
   sound p h lp z (x, (i, low, at), g) =
       let low' : c0 + i < length w.items = omega (arith, low, length-drop c0 w.items) in
       let (q, lq, of, all) = walks.sound (c0 + i) low' in
       let tie = walks.connects p q lp lq (λ j d lj le. grind (arith, (last_most walks j d lj).1, (of j d lj).1)) in
       pair_before laws u (slice_index w.stack p) (slice_index w.stack q) z tie
-      (all z (subst (λ y. Gives lists y z) (sym at ∙ get_or-drop c0 w.items i x ∙ get_or_default w.items (c0 + i) x _ low') g))
+      (all z (subst (λ y. Gives lists y z) (sym at ∙ get_or-drop c0 w.items i x
+      ∙ get_or_default w.items (c0 + i) x _ low') g))
 
   -- a list of it is the signature of each state of the component
   module _ {lists' : List (List (ℕ × ℕ))} {number : ℕ} (listed : IsListed (drop c0 w.items) lists lists' number) where
@@ -107,7 +143,8 @@ module _ (laws : Laws) {u : Under} (lts : IsLts u.l) {lists : List (List (ℕ ×
       signature = record {
         exactly = λ k b. (
           λ c. sound p h lp (k, b) ((listed.exactly (k, b)).0 c),
-          λ has. (listed.exactly (k, b)).1 (collects (k, b) has.1.2.0 p h lp has.1.0 has.1.1 has.1.2.1 has.1.3 has.1.4 has.1.5 has.0),
+          λ has. (listed.exactly (k, b)).1 (collects (k, b) has.1.2.0 p h lp has.1.0 has.1.1 has.1.2.1 has.1.3
+              has.1.4 has.1.5 has.0),
         );
         rising = listed.rising;
       };

@@ -70,7 +70,8 @@ module _ {u v : Under} {lists : List (List (ℕ × ℕ))} {lent live was : List 
       let own = sym (kept_at done.stages s k is) ∙ get_or_default now s 0 d h in
       subst (λ x. x < length lists) own (rests.signed s k is).within
 
-  -- for each state that was looked at the number was put down that it had, and then what is shown of the one that it has
+  -- for each state that was looked at the number was put down that it had, and then what is shown of the one that it
+  -- has
   module _ (old put numbers : List ℕ) (none : HaveNone live old) (sizes : length numbers ≡ length old)
       (were : (i : ℕ) → i < length lent → let s = slice_index lent i in
       slice_index put s ≡ number_of (stage_at first.stages s))
@@ -102,7 +103,10 @@ module _ {u v : Under} {lists : List (List (ℕ × ℕ))} {lent live was : List 
           let (k, is) = its s one in
           let low = (rests.signed s k is).within in
           let has = kept_at done.stages s k is in
-          elim (all_shown s one) [ inl same ↦ omega (arith, low, same.1) | inr other ↦ omega (arith, low, has, other.1) ]
+          elim (all_shown s one) [
+            | inl same ↦ omega (arith, low, same.1)
+            | inr other ↦ omega (arith, low, has, other.1)
+          ]
       | inr zero ↦ let some = rests.numbers.some in omega (arith, zero, some)
     ])
 

@@ -1,12 +1,14 @@
 -- The list of what items give: that of the lists that they name, and of the pairs that they are.
-use Rattle.std.proofs.Common.{◌≡◌, ◌⊎◌, ◌↔◌, ℕ, ◌+◌, ◌<◌, List, [], ◌∷◌, ◌++◌, length, take, slice_index, Contains, nat_eq, refl, sym, ◌∙◌, ap, subst, inl, inr, arith}
+use Rattle.std.proofs.Common.{◌≡◌, ◌⊎◌, ◌↔◌, ℕ, ◌+◌, ◌<◌, List, [], ◌∷◌, ◌++◌, length, take, slice_index, Contains}
+use Rattle.std.proofs.Common.{nat_eq, refl, sym, ◌∙◌, ap, subst, inl, inr, arith}
 use Rattle.std.specs.List.{dedup}
 use Rattle.std.specs.List.Retain.{IsFiltered, DiffersFromLast}
 use Rattle.std.specs.List.Sorted.{IsPermutation}
 use Rattle.std.proofs.lemmas.Bool.{eqb-true}
 use Rattle.std.proofs.lemmas.Cmp.{nat_eq_equiv}
 use Rattle.std.proofs.lemmas.List.{get_or_default, take_more}
-use Rattle.std.proofs.lemmas.List.Elements.{All-contains, All-from_get_or, Contains-append_left, Contains-get_or, Contains-push, Contains-push_cases}
+use Rattle.std.proofs.lemmas.List.Elements.{All-contains, All-from_get_or, Contains-append_left, Contains-get_or}
+use Rattle.std.proofs.lemmas.List.Elements.{Contains-push, Contains-push_cases}
 use Rattle.std.proofs.lemmas.List.Filters.{dedup_is}
 use Rattle.std.proofs.lemmas.List.Kept.{Contains-dedup, Contains-from_dedup}
 use Rattle.std.proofs.lemmas.List.Sorted.{Contains-permutation, IsPermutation-sym}
@@ -19,7 +21,8 @@ pub taken_none : AreCollected [] [] []
 taken_none = grind arith
 
 -- an element more at the end of two lists, which have the same of what they had
-more : {X Y : Type 0} (xs : List X) (ys : List Y) {x x' : X} {y y' : Y} → (Contains xs x' → Contains ys y') → (x ≡ x' → y ≡ y')
+more : {X Y : Type 0} (xs : List X) (ys : List Y) {x x' : X} {y y' : Y} → (Contains xs x' → Contains ys y')
+    → (x ≡ x' → y ≡ y')
     → Contains (xs ++ x ∷ []) x' → Contains (ys ++ y ∷ []) y'
 more xs ys {x = x} {x' = x'} {y = y} {y' = y'} old new c = elim (Contains-push_cases xs x x' c) [
   | inl was ↦ Contains-append_left ys (y ∷ []) y' (old was)
@@ -58,11 +61,14 @@ module _ (all : List Item) (n : ℕ) (numbers : List ℕ) (pairs : List (ℕ × 
   })
 
 -- numbers that are sorted and freed of repeats
-pub numbers_have : (xs ys zs : List ℕ) → IsPermutation xs ys → IsFiltered (DiffersFromLast nat_eq) [] ys zs → (k : ℕ) → Contains zs k ↔ Contains xs k
+pub numbers_have : (xs ys zs : List ℕ) → IsPermutation xs ys → IsFiltered (DiffersFromLast nat_eq) [] ys zs → (k : ℕ) →
+    Contains zs k ↔ Contains xs k
 numbers_have xs ys zs same filtered k =
     let freed : zs ≡ dedup nat_eq ys = dedup_is nat_eq ys zs filtered in (
-      λ c. Contains-permutation ys xs k (IsPermutation-sym xs ys same) (Contains-from_dedup nat_eq ys k (subst (λ l. Contains l k) freed c)),
-      λ c. subst (λ l. Contains l k) (sym freed) (Contains-dedup nat_eq_equiv eqb-true ys k (Contains-permutation xs ys k same c)),
+      λ c. Contains-permutation ys xs k (IsPermutation-sym xs ys same) (Contains-from_dedup nat_eq ys k
+          (subst (λ l. Contains l k) freed c)),
+      λ c. subst (λ l. Contains l k) (sym freed) (Contains-dedup nat_eq_equiv eqb-true ys k
+          (Contains-permutation xs ys k same c)),
     )
 
 -- numbers in another order
@@ -73,14 +79,16 @@ taken_ordered items ns numbers pairs taken named = record {
   own = taken.own;
 }
 
-module _ (items : List Item) (lists : List (List (ℕ × ℕ))) (numbers : List ℕ) (pairs : List (ℕ × ℕ)) (taken : AreCollected items numbers pairs) where
+module _ (items : List Item) (lists : List (List (ℕ × ℕ))) (numbers : List ℕ) (pairs : List (ℕ × ℕ))
+    (taken : AreCollected items numbers pairs) where
   -- the item of a number
   listed_at : (i : ℕ) → i < length numbers → Contains items (Listed (slice_index numbers i))
   listed_at i low = (taken.named (slice_index numbers i)).0 (Contains-get_or numbers i 0 low)
 
   pub numbers_there : AreThere lists items → AreNumbers lists numbers
   numbers_there there = All-from_get_or (λ k. k < length lists) numbers 0 (λ i low.
-      All-contains (IsThere lists) items (Listed (slice_index numbers i)) there (listed_at i low) (slice_index numbers i) refl)
+      All-contains (IsThere lists) items (Listed (slice_index numbers i)) there (listed_at i low)
+      (slice_index numbers i) refl)
 
   -- what they give is what the lists have that they name, and the pairs that they are
   gives : (z : ℕ × ℕ) (x : Item) → Contains items x → Gives lists x z → Contains pairs z ⊎ HasOne lists numbers z
@@ -94,7 +102,8 @@ module _ (items : List Item) (lists : List (List (ℕ × ℕ))) (numbers : List 
   given z (inr (i, li, c)) = (Listed (slice_index numbers i), listed_at i li, c)
 
   pub listed : (lists' : List (List (ℕ × ℕ))) (k : ℕ) → AreLists lists' → k < length lists' → Grow lists lists'
-      → ((z : ℕ × ℕ) → Contains (list_at lists' k) z ↔ (Contains pairs z ⊎ HasOne lists numbers z)) → IsListed items lists lists' k
+      → ((z : ℕ × ℕ) → Contains (list_at lists' k) z ↔ (Contains pairs z ⊎ HasOne lists numbers z))
+      → IsListed items lists lists' k
   listed lists' k are within grow exactly = record {
     within = within;
     grow = grow;

@@ -1,6 +1,7 @@
 -- What is shown of the numbers of lists is put down one after the other.
 use borrow.Author.Count.{below_more}
-use Rattle.std.proofs.Common.{◌≡◌, ◌⊎◌, ◌∙◌, ℕ, ◌+◌, ◌<◌, ◌≤◌, List, length, slice_index, set, sym, subst, subst₂, inl, inr, arith}
+use Rattle.std.proofs.Common.{◌≡◌, ◌⊎◌, ◌∙◌, ℕ, ◌+◌, ◌<◌, ◌≤◌, List, length, slice_index, set, sym, subst, subst₂, inl}
+use Rattle.std.proofs.Common.{inr, arith}
 use Rattle.std.proofs.lemmas.Bool.{cases_eq}
 use Rattle.std.proofs.lemmas.List.{get_or-set_same, get_or-set_other, length-set}
 use Rattle.partition.specs.Blocks.{IsOne, AreLive}
@@ -10,12 +11,15 @@ use Rattle.inert.specs.Search.{Stage, stage_at, number_of}
 -- those of the first i states that are looked at
 pub record NumberedUpTo (live : List ℕ) (stages : List Stage) (old : List ℕ) (i : ℕ) (numbers : List ℕ) : Type 0 where
   pub size : length numbers ≡ length stages
-  pub ahead : (j : ℕ) → i ≤ j → j < length live → slice_index numbers (slice_index live j) ≡ slice_index old (slice_index live j)
-  pub live_have : (j : ℕ) → j < i → let s = slice_index live j in ShowsNew (slice_index old s) (number_of (stage_at stages s)) (slice_index numbers s)
+  pub ahead : (j : ℕ) → i ≤ j → j < length live → slice_index numbers (slice_index live j)
+      ≡ slice_index old (slice_index live j)
+  pub live_have : (j : ℕ) → j < i → let s = slice_index live j in
+      ShowsNew (slice_index old s) (number_of (stage_at stages s)) (slice_index numbers s)
   pub others : (s : ℕ) → IsOne live s ⊎ (slice_index numbers s ≡ slice_index old s)
 
 -- one more
-pub numbered_more : {live : List ℕ} {stages : List Stage} {old : List ℕ} {i : ℕ} {numbers : List ℕ} → NumberedUpTo live stages old i numbers
+pub numbered_more : {live : List ℕ} {stages : List Stage} {old : List ℕ} {i : ℕ} {numbers : List ℕ}
+    → NumberedUpTo live stages old i numbers
     → AreLive (length stages) live → i < length live → (shown : ℕ)
     → ShowsNew (slice_index numbers (slice_index live i)) (number_of (stage_at stages (slice_index live i))) shown
     → NumberedUpTo live stages old (i + 1) (set numbers (slice_index live i) shown)
@@ -24,7 +28,8 @@ numbered_more {live = live} {stages = stages} {old = old} {i = i} {numbers = num
     record {
       size = length-set numbers s shown ∙ up.size;
       ahead = λ j low h.
-          let apart : ¬ (slice_index live j ≡ s) = λ e. let up = rises.rising i j (omega (arith, low)) h in omega (arith, up, e) in
+          let apart : ¬ (slice_index live j ≡ s) = λ e. let up = rises.rising i j (omega (arith, low)) h in omega
+          (arith, up, e) in
           get_or-set_other numbers s (slice_index live j) shown 0 apart ∙ up.ahead j (omega (arith, low)) h;
       live_have = below_more _ i (λ j low.
           let apart : ¬ (slice_index live j ≡ s) = λ e. omega (arith, rises.rising j i low more, e) in
@@ -33,6 +38,7 @@ numbered_more {live = live} {stages = stages} {old = old} {i = i} {numbers = num
           (sym (get_or-set_same numbers s shown 0 (omega (arith, rises.below i more, up.size)))) is);
       others = λ t. elim (cases_eq t s) [
         | inl e ↦ inl (i, more, sym e)
-        | inr d ↦ elim (up.others t) [ inl one ↦ inl one | inr same ↦ inr (get_or-set_other numbers s t shown 0 d ∙ same) ]
+        | inr d ↦
+            elim (up.others t) [ inl one ↦ inl one | inr same ↦ inr (get_or-set_other numbers s t shown 0 d ∙ same) ]
       ];
     }

@@ -1,6 +1,7 @@
 -- How a walk over all states comes from row to row: what lies between two rows is of states that are finished.
 use borrow.Author.Count.{below_more}
-use Rattle.std.proofs.Common.{◌≡◌, ◌∙◌, ℕ, ◌+◌, ◌-◌, ◌<◌, ◌≤◌, List, length, slice_index, ap, sym, refl, inl, inr, arith}
+use Rattle.std.proofs.Common.{◌≡◌, ◌∙◌, ℕ, ◌+◌, ◌-◌, ◌<◌, ◌≤◌, List, length, slice_index, ap, sym, refl, inl, inr}
+use Rattle.std.proofs.Common.{arith}
 use Rattle.std.proofs.lemmas.Bool.{cases_lt}
 use Rattle.lts.specs.Lts.{Grouped, source_of, before, place_at, IsLts, IsRow}
 use Rattle.lts.proofs.CallerLemmas.{before-mono, IsRow-before}
@@ -23,7 +24,8 @@ pub record IsBetween (l : Grouped) (live : List ℕ) (i to : ℕ) : Type 0 where
   pub ahead : Ahead l live i to
   pub within : to ≤ length l.places
 
--- a walk over all states comes from a place after the row of the state number i, and before that of the next, to the beginning of that row
+-- a walk over all states comes from a place after the row of the state number i, and before that of the next, to the
+-- beginning of that row
 pub record Comes (l : Grouped) (live : List ℕ) (stages : List Stage) (i start end to : ℕ) : Type 0 where
   pub low : end ≤ to
   pub passes : passed l.places stages to ≡ passed l.places stages start + (to - end)
@@ -34,14 +36,18 @@ module _ {l : Grouped} (lts : IsLts l) {live : List ℕ} (rises : AreLive l.stat
   source_low k h = (lts.in_range.each k (0, 0, 0) h).source
 
   -- a place is in the row of its source
-  in_row : (k : ℕ) → k < length l.places → (s : ℕ) → s ≡ source_of (place_at l.places k) → (before s l.places ≤ k) × (k < before (s + 1) l.places)
+  in_row : (k : ℕ) → k < length l.places → (s : ℕ) → s ≡ source_of (place_at l.places k) →
+      (before s l.places ≤ k) × (k < before (s + 1) l.places)
   in_row k h s is = ((IsRow-before s l.places lts.rising).exactly k h).0 (sym is)
 
   -- the row of an earlier state that is looked at ends before that of a later one
-  rows_apart : (i j : ℕ) → i < j → j < length live → before (slice_index live i + 1) l.places ≤ before (slice_index live j) l.places
-  rows_apart i j low h = let up = rises.rising i j low h in before-mono (slice_index live i + 1) (slice_index live j) l.places (omega (arith, up))
+  rows_apart : (i j : ℕ) → i < j → j < length live →
+      before (slice_index live i + 1) l.places ≤ before (slice_index live j) l.places
+  rows_apart i j low h = let up = rises.rising i j low h in
+      before-mono (slice_index live i + 1) (slice_index live j) l.places (omega (arith, up))
 
-  -- where some rows end before a place, and the others begin behind one, no place between the two is of a state that is looked at
+  -- where some rows end before a place, and the others begin behind one, no place between the two is of a state that is
+  -- looked at
   none_between : (i a b : ℕ) → Behind l live i a → Ahead l live i b → (k : ℕ) → k < length l.places → a ≤ k → k < b
       → ¬ IsOne live (source_of (place_at l.places k))
   none_between i a b low high k h from to one =
@@ -53,7 +59,8 @@ module _ {l : Grouped} (lts : IsLts l) {live : List ℕ} (rises : AreLive l.stat
 
   module _ {first : List Stage} (woken : AreAwake l.states live first) where
     -- so such places were passed
-    gap_passed : (i a b : ℕ) → Behind l live i a → Ahead l live i b → a ≤ b → b ≤ length l.places → passed l.places first b ≡ passed l.places first a + (b - a)
+    gap_passed : (i a b : ℕ) → Behind l live i a → Ahead l live i b → a ≤ b → b ≤ length l.places →
+        passed l.places first b ≡ passed l.places first a + (b - a)
     gap_passed i a b low high order within = passed-gap l.places first a b order within (λ k from to unseen.
         let inside : k < length l.places = omega (arith, to, within) in
         elim (woken.others (source_of (place_at l.places k)) (omega (arith, source_low k inside, woken.size))) [
@@ -64,12 +71,14 @@ module _ {l : Grouped} (lts : IsLts l) {live : List ℕ} (rises : AreLive l.stat
     -- and the row of a state that is looked at was not
     row_passed : (i start end : ℕ) → i < length live → IsRow l.places (slice_index live i) start end
         → passed l.places first end ≡ passed l.places first start
-    row_passed i start end more row = passed-row l.places first start end (omega (arith, row.count)) row.within (λ k from to.
+    row_passed i start end more row =
+        passed-row l.places first start end (omega (arith, row.count)) row.within (λ k from to.
         let source = (row.exactly k (omega (arith, to, row.within))).1 (from, to) in
         ap (stage_at first) source ∙ woken.awake i more)
 
     -- at the beginning of the row of the state number i
-    pub comes : {i start end to : ℕ} → i < length live → IsRow l.places (slice_index live i) start end → IsBetween l live (i + 1) to
+    pub comes : {i start end to : ℕ} → i < length live → IsRow l.places (slice_index live i) start end
+        → IsBetween l live (i + 1) to
         → Comes l live first i start end to
     comes {i = i} {start = start} {end = end} {to = to} more row at =
         let low : end ≤ to = let h = at.behind i (omega arith) in omega (arith, h, row.ends) in
@@ -77,7 +86,8 @@ module _ {l : Grouped} (lts : IsLts l) {live : List ℕ} (rises : AreLive l.stat
         below_more _ i (λ j h. omega (arith, rows_apart j i h more, row.begins, row.count)) (omega (arith, row.ends)) in
         record {
           low = low;
-          passes = omega (arith, gap_passed (i + 1) end to ended at.ahead low at.within, row_passed i start end more row);
+          passes =
+              omega (arith, gap_passed (i + 1) end to ended at.ahead low at.within, row_passed i start end more row);
           between = record {
             behind = λ j h. omega (arith, rows_apart j i h more, row.begins);
             ahead = λ j from h. elim (cases_lt i j) [
@@ -99,7 +109,8 @@ module _ {l : Grouped} (lts : IsLts l) {live : List ℕ} (rises : AreLive l.stat
   -- when all that are looked at are finished, nothing is left to read
   pub none_unread : (stages : List Stage) → length stages ≡ l.states → AreOthers live stages
       → ((i : ℕ) → i < length live → IsFinished stages (slice_index live i)) → unread l.places stages ≡ 0
-  none_unread stages size rest all = unread-none l.places stages (λ k h unseen. elim (rest (source_of (place_at l.places k)) (omega (arith, source_low k h, size))) [
-    | inl one ↦ cc ((all one.0 one.1).1, ap (stage_at stages) one.2, unseen)
-    | inr still ↦ cc (still.1, unseen)
-  ])
+  none_unread stages size rest all = unread-none l.places stages
+      (λ k h unseen. elim (rest (source_of (place_at l.places k)) (omega (arith, source_low k h, size))) [
+        | inl one ↦ cc ((all one.0 one.1).1, ap (stage_at stages) one.2, unseen)
+        | inr still ↦ cc (still.1, unseen)
+      ])

@@ -5,14 +5,17 @@ use Rattle.theory.specs.System.{System, Reachable}
 use Rattle.theory.specs.declared.relation.Relation.{Relation}
 use Rattle.theory.specs.Quotient.{Leader, IsLeader, Number, Quotient}
 use Rattle.worked_theory.specs.Examples.{AreQuotients, NumbersAre, LeadersAre, QuotientIs}
-use Rattle.worked_theory.proofs.Testing.{and_then, and_then_parts, not_passes, every, has, has_contains, contains_has, each_below, each_below_passes}
+use Rattle.worked_theory.proofs.Testing.{and_then, and_then_parts, not_passes, every, has, has_contains, contains_has}
+use Rattle.worked_theory.proofs.Testing.{each_below, each_below_passes}
 use Rattle.worked_theory.proofs.Testing.Reaching.{reachable, reachable_found}
 use Rattle.worked_theory.proofs.Testing.Rising.{rises}
-use Rattle.worked_theory.proofs.Testing.Leading.{are_reachable, are_classes, classes_pass, are_leaders, reachable_has, leader_is, leader_listed}
+use Rattle.worked_theory.proofs.Testing.Leading.{are_reachable, are_classes, classes_pass, are_leaders, reachable_has}
+use Rattle.worked_theory.proofs.Testing.Leading.{leader_is, leader_listed}
 use Rattle.worked_theory.proofs.Testing.Numbering.{number_at, number_is}
 use Rattle.worked_theory.proofs.Testing.Dividing.{divides, quotient_passes}
 
--- what is told of a system: its classes, a bisimulation of them, in how many turns others are told apart, and its leaders
+-- what is told of a system: its classes, a bisimulation of them, in how many turns others are told apart, and its
+-- leaders
 pub record Census : Type 0 where
   pub block : ℕ → ℕ
   pub pairs : List (ℕ × ℕ)
@@ -50,7 +53,8 @@ pub are_quotients :
     AreQuotients rel (map (λ x. (x.0, x.1)) told)
 are_quotients rel [] h = tt
 are_quotients rel ((A, Q, told) ∷ rest) h =
-    let test = λ (x : System × System × Census). and_then (is_census rel x.0 x.2) (λ _. divides rel x.0 x.2.lead x.2.leaders x.1) in
+    let test = λ (x : System × System × Census). and_then (is_census rel x.0 x.2)
+    (λ _. divides rel x.0 x.2.lead x.2.leaders x.1) in
     let first = and_then_parts (test (A, Q, told)) (λ _. every rest test) h in
     let parts = and_then_parts (is_census rel A told) (λ _. divides rel A told.lead told.leaders Q) first.0 in
     (is_quotient rel A Q told parts.0 parts.1, are_quotients rel rest first.1)
@@ -83,13 +87,15 @@ is_led rel A s l told h d =
 abbrev pub lists_numbers : System → List ℕ → Census → Bool
 lists_numbers A numbers told =
     and_then (eqb (length numbers) A.states) (λ _.
-    each_below A.states (λ s. and_then (has (reachable A) s) (λ _. eqb (number_at A told.leaders (told.lead s)) (slice_index numbers s))))
+    each_below A.states (λ s. and_then (has (reachable A) s) (λ _. eqb (number_at A told.leaders (told.lead s))
+    (slice_index numbers s))))
 
 numbers_are :
     (rel : Relation) (A : System) (numbers : List ℕ) (told : Census) → is_census rel A told ≡ true →
     lists_numbers A numbers told ≡ true → NumbersAre rel A numbers
 numbers_are rel A numbers told h d =
-    let test = λ (s : ℕ). and_then (has (reachable A) s) (λ _. eqb (number_at A told.leaders (told.lead s)) (slice_index numbers s)) in
+    let test = λ (s : ℕ). and_then (has (reachable A) s) (λ _. eqb (number_at A told.leaders (told.lead s))
+    (slice_index numbers s)) in
     let parts = and_then_parts (eqb (length numbers) A.states) (λ _. each_below A.states test) d in
     record {
       all = eqb-true (length numbers) A.states parts.0;
@@ -133,7 +139,8 @@ is_no_leader rel A l told h d leads =
     (classes_pass rel A told.block told.pairs told.turns parts.0) parts.1 l leads))
 
 -- what is not found is not reachable
-pub is_unreachable : (A : System) (s : ℕ) → and_then (are_reachable A) (λ _. not (has (reachable A) s)) ≡ true → ¬ Reachable A s
+pub is_unreachable : (A : System) (s : ℕ) → and_then (are_reachable A) (λ _. not (has (reachable A) s)) ≡ true →
+    ¬ Reachable A s
 is_unreachable A s h path =
     let parts = and_then_parts (are_reachable A) (λ _. not (has (reachable A) s)) h in
     not_passes (has (reachable A) s) parts.1 (contains_has (reachable A) s (reachable_has A parts.0 s path))

@@ -1,5 +1,6 @@
 -- Quotients of written-out systems, by tests that compute.
-use Rattle.std.proofs.Common.{◌≡◌, ◌≢◌, ◌↔◌, ℕ, zero, suc, Bool, true, false, not, eqb, List, [], ◌∷◌, length, get_or, Contains, AllPairs, bytes_eq, refl, subst, inl, inr, arith}
+use Rattle.std.proofs.Common.{◌≡◌, ◌≢◌, ◌↔◌, ℕ, zero, suc, Bool, true, false, not, eqb, List, [], ◌∷◌, length, get_or}
+use Rattle.std.proofs.Common.{Contains, AllPairs, bytes_eq, refl, subst, inl, inr, arith}
 use Rattle.std.proofs.lemmas.Bool.{eqb-true, eq-eqb}
 use Rattle.std.proofs.lemmas.List.Elements.{Contains-get_or}
 use Rattle.theory.specs.System.{System, Transition, Reachable, AnyStep, internal}
@@ -8,11 +9,14 @@ use Rattle.theory.specs.declared.relation.Relation.{Relation}
 use Rattle.theory.specs.declared.relation.Relation.TheVariants.{Strong, Branching}
 use Rattle.theory.specs.Blocks.{Share}
 use Rattle.theory.specs.Quotient.{HowMany, IsLeader, Number, IsDropped, Stands, Quotient}
-use Rattle.worked_theory.proofs.Testing.{and_then, and_then_parts, and_then_from, or_else, or_else_cases, not_passes, every, every_passes, some, some_passes, has, has_contains, contains_has, bytes_same, bytes_pass}
+use Rattle.worked_theory.proofs.Testing.{and_then, and_then_parts, and_then_from, or_else, or_else_cases, not_passes}
+use Rattle.worked_theory.proofs.Testing.{every, every_passes, some, some_passes, has, has_contains, contains_has}
+use Rattle.worked_theory.proofs.Testing.{bytes_same, bytes_pass}
 use Rattle.worked_theory.proofs.Testing.Reaching.{reachable, reachable_found}
 use Rattle.theory.proofs.CallerLemmas.{leads_on}
 use Rattle.worked_theory.proofs.Testing.Rising.{rises}
-use Rattle.worked_theory.proofs.Testing.Leading.{are_reachable, are_classes, classes_pass, are_leaders, leaders_reachable, reachable_has}
+use Rattle.worked_theory.proofs.Testing.Leading.{are_reachable, are_classes, classes_pass, are_leaders}
+use Rattle.worked_theory.proofs.Testing.Leading.{leaders_reachable, reachable_has}
 use Rattle.worked_theory.proofs.Testing.Numbering.{number_at, leader_count, number_is, number_unique}
 
 -- the two are one transition
@@ -23,7 +27,8 @@ same_transition e f =
 same_transition_moves :
     (P : Transition → Type 0) (e f : Transition) → same_transition e f ≡ true → P e → P f
 same_transition_moves P e f h p =
-    let first = and_then_parts (eqb e.source f.source) (λ _. and_then (bytes_eq e.label f.label) (λ _. eqb e.target f.target)) h in
+    let first = and_then_parts (eqb e.source f.source) (λ _. and_then (bytes_eq e.label f.label)
+    (λ _. eqb e.target f.target)) h in
     let second = and_then_parts (bytes_eq e.label f.label) (λ _. eqb e.target f.target) first.1 in
     subst (λ z. P (record { source = f.source; label = f.label; target = z })) (eqb-true e.target f.target second.1)
     (subst (λ z. P (record { source = f.source; label = z; target = e.target })) (bytes_same e.label f.label second.0)
@@ -47,7 +52,8 @@ all_differ_passes (e ∷ es) h zero zero d low l = absurd (omega (arith, low))
 all_differ_passes (e ∷ es) h zero (suc j) d low l =
     let parts = and_then_parts (every es (λ f. not (same_transition e f))) (λ _. all_differ es) h in
     λ is. not_passes (same_transition e (get_or es j d))
-    (every_passes es (λ f. not (same_transition e f)) parts.0 (get_or es j d) (Contains-get_or es j d (omega (arith, l))))
+    (every_passes es (λ f. not (same_transition e f)) parts.0 (get_or es j d)
+    (Contains-get_or es j d (omega (arith, l))))
     (same_transition_at e (get_or es j d) is)
 all_differ_passes (e ∷ es) h (suc i) zero d low l = absurd (omega (arith, low))
 all_differ_passes (e ∷ es) h (suc i) (suc j) d low l =
@@ -74,7 +80,11 @@ dropped_back Branching e h =
 -- the transition between the numbers of the ends
 abbrev pub image : System → (ℕ → ℕ) → List ℕ → Transition → Transition
 image A lead leaders e =
-    record { source = number_at A leaders (lead e.source); label = e.label; target = number_at A leaders (lead e.target) }
+    record {
+      source = number_at A leaders (lead e.source);
+      label = e.label;
+      target = number_at A leaders (lead e.target);
+    }
 
 -- a transition of the quotient: not dropped, and the image of one from a reachable state
 abbrev pub is_image : Relation → System → (ℕ → ℕ) → List ℕ → Transition → Bool
@@ -97,7 +107,8 @@ divides rel A lead leaders Q =
     and_then (every A.transitions (λ f. has_image rel A lead leaders Q.transitions f)) (λ _.
     all_differ Q.transitions))))
 
-module _ (rel : Relation) (A Q : System) (block : ℕ → ℕ) (pairs : List (ℕ × ℕ)) (k : ℕ) (lead : ℕ → ℕ) (leaders : List ℕ)
+module _ (rel : Relation) (A Q : System) (block : ℕ → ℕ) (pairs : List (ℕ × ℕ)) (k : ℕ) (lead : ℕ →
+    ℕ) (leaders : List ℕ)
     (classes : are_classes rel A block pairs k ≡ true) (led : are_leaders A block lead leaders ≡ true)
     (up : rises leaders ≡ true) (h : divides rel A lead leaders Q ≡ true) where
   abbrev images : Bool
@@ -106,11 +117,14 @@ module _ (rel : Relation) (A Q : System) (block : ℕ → ℕ) (pairs : List (�
   abbrev covered : Bool
   covered = every A.transitions (λ f. has_image rel A lead leaders Q.transitions f)
 
-  one : (eqb (length leaders) Q.states ≡ true) × (and_then (eqb Q.first 0) (λ _. and_then images (λ _. and_then covered (λ _. all_differ Q.transitions))) ≡ true)
-  one = and_then_parts (eqb (length leaders) Q.states) (λ _. and_then (eqb Q.first 0) (λ _. and_then images (λ _. and_then covered (λ _. all_differ Q.transitions)))) h
+  one : (eqb (length leaders) Q.states ≡ true)
+      × (and_then (eqb Q.first 0) (λ _. and_then images (λ _. and_then covered (λ _. all_differ Q.transitions))) ≡ true)
+  one = and_then_parts (eqb (length leaders) Q.states) (λ _. and_then (eqb Q.first 0)
+      (λ _. and_then images (λ _. and_then covered (λ _. all_differ Q.transitions)))) h
 
   two : (eqb Q.first 0 ≡ true) × (and_then images (λ _. and_then covered (λ _. all_differ Q.transitions)) ≡ true)
-  two = and_then_parts (eqb Q.first 0) (λ _. and_then images (λ _. and_then covered (λ _. all_differ Q.transitions))) one.1
+  two = and_then_parts (eqb Q.first 0) (λ _. and_then images (λ _. and_then covered (λ _. all_differ Q.transitions)))
+      one.1
 
   three : (images ≡ true) × (and_then covered (λ _. all_differ Q.transitions) ≡ true)
   three = and_then_parts images (λ _. and_then covered (λ _. all_differ Q.transitions)) two.1
@@ -127,7 +141,8 @@ module _ (rel : Relation) (A Q : System) (block : ℕ → ℕ) (pairs : List (�
   number : (s : ℕ) → Reachable A s → Number rel A s (number_at A leaders (lead s))
   number = number_is rel A block lead leaders same led up
 
-  stands : (f : Transition) → Contains A.transitions f → Contains (reachable A) f.source → Stands rel A (image A lead leaders f)
+  stands : (f : Transition) → Contains A.transitions f → Contains (reachable A) f.source →
+      Stands rel A (image A lead leaders f)
   stands f c r =
       let path = reachable_found A f.source r in (
         f.source,
@@ -146,7 +161,8 @@ module _ (rel : Relation) (A Q : System) (block : ℕ → ℕ) (pairs : List (�
       let from = some_passes A.transitions
       (λ f. and_then (has (reachable A) f.source) (λ _. same_transition (image A lead leaders f) e)) parts.1 in
       let f = from.0 in
-      let both = and_then_parts (has (reachable A) f.source) (λ _. same_transition (image A lead leaders f) e) from.2 in (
+      let both = and_then_parts (has (reachable A) f.source)
+      (λ _. same_transition (image A lead leaders f) e) from.2 in (
         same_transition_moves (Stands rel A) (image A lead leaders f) e both.1
             (stands f from.1 (has_contains (reachable A) f.source both.0)),
         λ drop. not_passes (dropped rel e) parts.0 (dropped_back rel e drop),

@@ -1,5 +1,6 @@
 -- Classes and leaders of written-out systems, by tests that compute.
-use Rattle.std.proofs.Common.{◌≡◌, ◌≢◌, ◌⊎◌, ◌↔◌, ℕ, ◌<◌, ◌≤◌, Bool, true, not, eqb, ltb, leb, ltb-true, leb-true, List, [], Contains, refl, subst, inl, inr}
+use Rattle.std.proofs.Common.{◌≡◌, ◌≢◌, ◌⊎◌, ◌↔◌, ℕ, ◌<◌, ◌≤◌, Bool, true, not, eqb, ltb, leb, ltb-true, leb-true, List}
+use Rattle.std.proofs.Common.{[], Contains, refl, subst, inl, inr}
 use Rattle.std.proofs.lemmas.Bool.{eqb-true, eq-eqb}
 use Rattle.theory.specs.System.{System, Reachable}
 use Rattle.theory.specs.Bisimulation.{Bisimilar}
@@ -7,9 +8,11 @@ use Rattle.theory.specs.declared.relation.Relation.{Relation}
 use Rattle.theory.specs.Blocks.{Share}
 use Rattle.theory.specs.Quotient.{Least, Fellow, Leader, IsLeader}
 use Rattle.theory.proofs.CallerLemmas.{leader_unique}
-use Rattle.worked_theory.proofs.Testing.{and_then, and_then_parts, or_else, or_else_cases, not_passes, every, every_passes, has, has_contains, each_below, each_below_passes}
+use Rattle.worked_theory.proofs.Testing.{and_then, and_then_parts, or_else, or_else_cases, not_passes, every}
+use Rattle.worked_theory.proofs.Testing.{every_passes, has, has_contains, each_below, each_below_passes}
 use Rattle.worked_theory.proofs.Testing.Reaching.{covers, reachable, reachable_found, reachable_only}
-use Rattle.worked_theory.proofs.Testing.Matching.{is_bisimulation, bisimulation_passes, has_pair, has_pair_contains, differ, not_bisimilar}
+use Rattle.worked_theory.proofs.Testing.Matching.{is_bisimulation, bisimulation_passes, has_pair, has_pair_contains}
+use Rattle.worked_theory.proofs.Testing.Matching.{differ, not_bisimilar}
 
 -- the pairs are a bisimulation, states of one block are among them, and others are told apart in k turns
 abbrev pub are_classes : Relation → System → (ℕ → ℕ) → List (ℕ × ℕ) → ℕ → Bool
@@ -26,8 +29,10 @@ module _ (rel : Relation) (A : System) (block : ℕ → ℕ) (pairs : List (ℕ 
   class_test s t = or_else (and_then (eqb (block s) (block t)) (λ _. has_pair pairs s t)) (λ _.
       and_then (not (eqb (block s) (block t))) (λ _. differ rel A A k s t))
 
-  class_parts : (is_bisimulation rel A A pairs ≡ true) × (each_below A.states (λ s. each_below A.states (class_test s)) ≡ true)
-  class_parts = and_then_parts (is_bisimulation rel A A pairs) (λ _. each_below A.states (λ s. each_below A.states (class_test s))) h
+  class_parts : (is_bisimulation rel A A pairs ≡ true)
+      × (each_below A.states (λ s. each_below A.states (class_test s)) ≡ true)
+  class_parts = and_then_parts (is_bisimulation rel A A pairs)
+      (λ _. each_below A.states (λ s. each_below A.states (class_test s))) h
 
   class_cases : (s t : ℕ) → s < A.states → t < A.states →
       ((block s ≡ block t) × Bisimilar rel A s A t) ⊎ ((block s ≢ block t) × ¬ Bisimilar rel A s A t)
@@ -89,8 +94,8 @@ are_leaders A block lead leaders =
     and_then (every (reachable A) (λ s. and_then (leads A block s (lead s)) (λ _. has leaders (lead s)))) (λ _.
     every leaders (λ l. and_then (has (reachable A) l) (λ _. eqb (lead l) l))))
 
-pub leaders_reachable :
-    (A : System) (block lead : ℕ → ℕ) (leaders : List ℕ) → are_leaders A block lead leaders ≡ true → are_reachable A ≡ true
+pub leaders_reachable : (A : System) (block lead : ℕ → ℕ) (leaders : List ℕ) → are_leaders A block lead leaders ≡ true →
+    are_reachable A ≡ true
 leaders_reachable A block lead leaders h = (and_then_parts (are_reachable A) (λ _.
     and_then (every (reachable A) (λ s. and_then (leads A block s (lead s)) (λ _. has leaders (lead s)))) (λ _.
     every leaders (λ l. and_then (has (reachable A) l) (λ _. eqb (lead l) l)))) h).0
@@ -98,13 +103,15 @@ leaders_reachable A block lead leaders h = (and_then_parts (are_reachable A) (λ
 pub reachable_has : (A : System) → are_reachable A ≡ true → (s : ℕ) → Reachable A s → Contains (reachable A) s
 reachable_has A h s path =
     reachable_only A s
-    (and_then_parts (covers A.transitions (λ e. true) (reachable A) A.first) (λ _. every (reachable A) (λ s. ltb s A.states)) h).0
+    (and_then_parts (covers A.transitions (λ e. true) (reachable A) A.first)
+    (λ _. every (reachable A) (λ s. ltb s A.states)) h).0
     path
 
 pub reachable_state : (A : System) → are_reachable A ≡ true → (s : ℕ) → Reachable A s → s < A.states
 reachable_state A h s path =
     ltb-true s A.states (every_passes (reachable A) (λ s. ltb s A.states)
-    (and_then_parts (covers A.transitions (λ e. true) (reachable A) A.first) (λ _. every (reachable A) (λ s. ltb s A.states)) h).1
+    (and_then_parts (covers A.transitions (λ e. true) (reachable A) A.first)
+    (λ _. every (reachable A) (λ s. ltb s A.states)) h).1
     s (reachable_has A h s path))
 
 module _ (rel : Relation) (A : System) (block : ℕ → ℕ) (same : (s t : ℕ) → Bisimilar rel A s A t ↔ Share A block s t)
@@ -127,7 +134,8 @@ module _ (rel : Relation) (A : System) (block : ℕ → ℕ) (same : (s t : ℕ)
       and_then (eqb (block s) (block l)) (λ _. is_least A block s l)) first.1 in
       let third = and_then_parts (eqb (block s) (block l)) (λ _. is_least A block s l) second.1 in
       let reached = reachable_found A l (has_contains (reachable A) l second.0) in (
-        λ b. not_passes (eqb (block s) (block A.first)) first.0 (eq-eqb (block s) (block A.first) ((same s A.first).0 b).2),
+        λ b. not_passes (eqb (block s) (block A.first)) first.0 (eq-eqb (block s) (block A.first)
+            ((same s A.first).0 b).2),
         (
           (reached, (same s l).1 (below, reachable_state A found l reached, eqb-true (block s) (block l) third.0)),
           λ u fellow. least_passes s l third.1 u fellow,
@@ -136,11 +144,16 @@ module _ (rel : Relation) (A : System) (block : ℕ → ℕ) (same : (s t : ℕ)
 
   leads_passes : (s l : ℕ) → s < A.states → leads A block s l ≡ true → Leader rel A s l
   leads_passes s l below h =
-      elim (or_else_cases (and_then (eqb (block s) (block A.first)) (λ _. eqb l A.first)) (λ _. leads_other A block s l) h) [
+      elim (or_else_cases (and_then (eqb (block s) (block A.first)) (λ _. eqb l A.first))
+      (λ _. leads_other A block s l) h) [
         | inl p ↦ (
             let both = and_then_parts (eqb (block s) (block A.first)) (λ _. eqb l A.first) p in
             inl (
-              (same s A.first).1 (below, reachable_state A found A.first ([], refl), eqb-true (block s) (block A.first) both.0),
+              (same s A.first).1 (
+                below,
+                reachable_state A found A.first ([], refl),
+                eqb-true (block s) (block A.first) both.0,
+              ),
               eqb-true l A.first both.1,
             ))
         | inr p ↦ inr (other_passes s l below p)
@@ -157,7 +170,8 @@ module _ (rel : Relation) (A : System) (block lead : ℕ → ℕ) (leaders : Lis
 
   both : (every (reachable A) (λ s. and_then (leads A block s (lead s)) (λ _. has leaders (lead s))) ≡ true)
       × (every leaders (λ l. and_then (has (reachable A) l) (λ _. eqb (lead l) l)) ≡ true)
-  both = and_then_parts (every (reachable A) (λ s. and_then (leads A block s (lead s)) (λ _. has leaders (lead s)))) (λ _.
+  both =
+      and_then_parts (every (reachable A) (λ s. and_then (leads A block s (lead s)) (λ _. has leaders (lead s)))) (λ _.
       every leaders (λ l. and_then (has (reachable A) l) (λ _. eqb (lead l) l))) parts.1
 
   led : (s : ℕ) → Reachable A s → (leads A block s (lead s) ≡ true) × (has leaders (lead s) ≡ true)

@@ -1,12 +1,15 @@
 -- Bisimulations and differences of written-out systems, by tests that compute.
-use Rattle.std.proofs.Common.{◌≡◌, ℕ, zero, suc, Bool, true, false, not, eqb, ltb, ltb-true, List, Contains, bytes_eq, refl, sym, subst, inl, inr}
+use Rattle.std.proofs.Common.{◌≡◌, ℕ, zero, suc, Bool, true, false, not, eqb, ltb, ltb-true, List, Contains, bytes_eq}
+use Rattle.std.proofs.Common.{refl, sym, subst, inl, inr}
 use Rattle.std.proofs.lemmas.Bool.{eqb-true}
 use Rattle.theory.specs.System.{System, Step, internal}
 use Rattle.theory.specs.Bisimulation.{Answers, IsBisimulation, Pairs, Bisimilar}
 use Rattle.theory.specs.declared.relation.Relation.{Relation}
 use Rattle.theory.specs.declared.relation.Relation.TheVariants.{Strong, Branching}
 use Rattle.worked_theory.specs.Examples.{AreApart}
-use Rattle.worked_theory.proofs.Testing.{and_then, and_then_parts, or_else, or_else_cases, not_passes, every, every_passes, some, some_passes, each_step, each_step_passes, some_step, some_step_passes, bytes_same, bytes_pass}
+use Rattle.worked_theory.proofs.Testing.{and_then, and_then_parts, or_else, or_else_cases, not_passes, every}
+use Rattle.worked_theory.proofs.Testing.{every_passes, some, some_passes, each_step, each_step_passes, some_step}
+use Rattle.worked_theory.proofs.Testing.{some_step_passes, bytes_same, bytes_pass}
 use Rattle.worked_theory.proofs.Testing.Systems.{is_system, system_passes}
 use Rattle.worked_theory.proofs.Testing.Reaching.{covers, is_internal, silent_from, silent_found, silent_only}
 
@@ -89,7 +92,8 @@ bisimulation_passes rel A B pairs h = record {
 
     first : (s t : ℕ) → Pairs pairs s t →
         (ltb s A.states ≡ true) × (and_then (ltb t B.states) (λ _. and_then (forward s t) (λ _. backward s t)) ≡ true)
-    first s t c = and_then_parts (ltb s A.states) (λ _. and_then (ltb t B.states) (λ _. and_then (forward s t) (λ _. backward s t)))
+    first s t c = and_then_parts (ltb s A.states) (λ _. and_then (ltb t B.states)
+        (λ _. and_then (forward s t) (λ _. backward s t)))
         (every_passes pairs (λ p.
         and_then (ltb p.0 A.states) (λ _. and_then (ltb p.1 B.states) (λ _.
         and_then (answers rel A B (has_pair pairs) p.0 p.1) (λ _.
@@ -167,7 +171,8 @@ unanswered_fails Branching A B d R apart s t h answer =
     let found = some_step_passes A.transitions s (no_answer B d s t) whole.1 in
     let x = found.0 in
     let s' = found.1 in
-    let parts = and_then_parts (or_else (not (bytes_eq x internal)) (λ _. d s' t)) (λ _. avoids_later B d s t x s') found.3 in
+    let parts =
+    and_then_parts (or_else (not (bytes_eq x internal)) (λ _. d s' t)) (λ _. avoids_later B d s t x s') found.3 in
     elim (answer x s' found.2) [
       | inl rests ↦ rest_fails B d R apart t x s' parts.0 rests.0 rests.1
       | inr moves ↦ move_fails B d R apart s t x s' parts.1 moves.0 moves.1
@@ -191,7 +196,8 @@ differing rel A B R meets (suc k) s t h r =
     unanswered rel B A (λ y x. differ rel A B k x y) t s) h) [
       | inl u ↦ unanswered_fails rel A B (λ x y. differ rel A B k x y) R (λ x y e. differing rel A B R meets k x y e)
           s t u (meets.forth s t r)
-      | inr u ↦ unanswered_fails rel B A (λ y x. differ rel A B k x y) (λ y x. R x y) (λ y x e. differing rel A B R meets k x y e)
+      | inr u ↦ unanswered_fails rel B A (λ y x. differ rel A B k x y) (λ y x. R x y)
+          (λ y x e. differing rel A B R meets k x y e)
           t s u (meets.back s t r)
     ]
 

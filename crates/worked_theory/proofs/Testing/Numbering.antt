@@ -1,5 +1,6 @@
 -- Numbers of states in written-out systems, by tests that compute.
-use Rattle.std.proofs.Common.{◌≡◌, ◌≢◌, ◌⊎◌, ◌↔◌, ℕ, ◌+◌, ◌<◌, Bool, true, not, cond, eqb, ltb, ltb-true, List, length, filter, Contains, refl, sym, ◌∙◌, ap, inl, inr}
+use Rattle.std.proofs.Common.{◌≡◌, ◌≢◌, ◌⊎◌, ◌↔◌, ℕ, ◌+◌, ◌<◌, Bool, true, not, cond, eqb, ltb, ltb-true, List, length}
+use Rattle.std.proofs.Common.{filter, Contains, refl, sym, ◌∙◌, ap, inl, inr}
 use Rattle.std.proofs.lemmas.Bool.{eq-eqb, lt-ltb, ne_eqb, cases_eq, not_from_false}
 use Rattle.std.proofs.lemmas.List.Kept.{IsStrictlyIncreasing-filter}
 use Rattle.theory.specs.System.{System, Reachable}
@@ -25,7 +26,8 @@ at_first : (A : System) (leaders : List ℕ) (l : ℕ) → l ≡ A.first → num
 at_first A leaders l e =
     ap (λ v. cond v 0 (1 + length (filter (is_before A l) leaders))) (eq-eqb l A.first e)
 
-at_other : (A : System) (leaders : List ℕ) (l : ℕ) → l ≢ A.first → number_at A leaders l ≡ 1 + length (filter (is_before A l) leaders)
+at_other : (A : System) (leaders : List ℕ) (l : ℕ) → l ≢ A.first →
+    number_at A leaders l ≡ 1 + length (filter (is_before A l) leaders)
 at_other A leaders l d =
     ap (λ v. cond v 0 (1 + length (filter (is_before A l) leaders))) (ne_eqb l A.first d)
 
@@ -40,7 +42,8 @@ module _ (rel : Relation) (A : System) (block lead : ℕ → ℕ) (leaders : Lis
     refl,
   )
 
-  before_count : (l : ℕ) → HowMany (λ m. IsLeader rel A m × (m < l) × (m ≢ A.first)) (length (filter (is_before A l) leaders))
+  before_count : (l : ℕ) →
+      HowMany (λ m. IsLeader rel A m × (m < l) × (m ≢ A.first)) (length (filter (is_before A l) leaders))
   before_count l = (
     filter (is_before A l) leaders,
     IsStrictlyIncreasing-filter (is_before A l) leaders (rises_passes leaders up),
@@ -69,7 +72,8 @@ module _ (rel : Relation) (A : System) (block lead : ℕ → ℕ) (leaders : Lis
     leader_is rel A block lead leaders same h s path,
     elim (cases_eq (lead s) A.first) [
       | inl e ↦ inl (e, at_first A leaders (lead s) e)
-      | inr d ↦ inr (d, length (filter (is_before A (lead s)) leaders), before_count (lead s), at_other A leaders (lead s) d)
+      | inr d ↦
+          inr (d, length (filter (is_before A (lead s)) leaders), before_count (lead s), at_other A leaders (lead s) d)
     ],
   )
 

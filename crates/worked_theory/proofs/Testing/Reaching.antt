@@ -1,15 +1,19 @@
 -- What a written-out list of transitions leads to: a list that is computed, and a test that nothing leads out of it.
-use Rattle.std.proofs.Common.{◌≡◌, ℕ, zero, suc, Bool, true, false, not, eqb, cond, List, [], ◌∷◌, Contains, bytes_eq, refl, subst, inl, inr}
+use Rattle.std.proofs.Common.{◌≡◌, ℕ, zero, suc, Bool, true, false, not, eqb, cond, List, [], ◌∷◌, Contains, bytes_eq}
+use Rattle.std.proofs.Common.{refl, subst, inl, inr}
 use Rattle.std.proofs.lemmas.Bool.{eqb-true, eq-eqb}
 use Rattle.theory.specs.System.{System, Transition, Step, Internal, Silent, AnyStep, Reachable, Along, Leads, internal}
 use Rattle.theory.specs.Blocks.{Inert}
-use Rattle.theory.proofs.CallerLemmas.{leads_on, leads_map, contains_here, contains_there, contains_cases, contains_none}
-use Rattle.worked_theory.proofs.Testing.{and_then, and_then_parts, or_else, or_else_cases, not_passes, every, every_passes, has, has_contains, contains_has, bytes_same, bytes_pass}
+use Rattle.theory.proofs.CallerLemmas.{leads_on, leads_map, contains_here, contains_there, contains_cases}
+use Rattle.theory.proofs.CallerLemmas.{contains_none}
+use Rattle.worked_theory.proofs.Testing.{and_then, and_then_parts, or_else, or_else_cases, not_passes, every}
+use Rattle.worked_theory.proofs.Testing.{every_passes, has, has_contains, contains_has, bytes_same, bytes_pass}
 
 -- a transition that the test q passes leads from s to t
 abbrev pub Passing : List Transition → (Transition → Bool) → ℕ → ℕ → Type 0
 Passing es q s t =
-    (x : List ℕ) × Contains es (record { source = s; label = x; target = t }) × (q (record { source = s; label = x; target = t }) ≡ true)
+    (x : List ℕ) × Contains es (record { source = s; label = x; target = t })
+    × (q (record { source = s; label = x; target = t }) ≡ true)
 
 -- the list, with the ends of transitions that pass and start in it
 abbrev pub grown : List Transition → (Transition → Bool) → List ℕ → List ℕ
@@ -29,7 +33,8 @@ closed es q xs = every es (λ e. or_else (not (q e)) (λ _. or_else (not (has xs
 module _ (all : List Transition) (q : Transition → Bool) (s : ℕ) where
   grown_leads :
       (es : List Transition) (xs : List ℕ) → ((e : Transition) → Contains es e → Contains all e) →
-      ((u : ℕ) → Contains xs u → Leads (Passing all q) s u) → (u : ℕ) → Contains (grown es q xs) u → Leads (Passing all q) s u
+      ((u : ℕ) → Contains xs u → Leads (Passing all q) s u) → (u : ℕ) → Contains (grown es q xs) u →
+      Leads (Passing all q) s u
   grown_leads [] xs among from u c = from u c
   grown_leads (e ∷ es) xs among from u c =
       grown_leads es (more test) (λ f d. among f (contains_there e es f d)) (further test refl) u c
@@ -52,8 +57,8 @@ module _ (all : List Transition) (q : Transition → Bool) (s : ℕ) where
         | inr d' ↦ from w d'
       ]
 
-pub reached_leads :
-    (es : List Transition) (q : Transition → Bool) (k s u : ℕ) → Contains (reached es q k s) u → Leads (Passing es q) s u
+pub reached_leads : (es : List Transition) (q : Transition → Bool) (k s u : ℕ) → Contains (reached es q k s) u →
+    Leads (Passing es q) s u
 reached_leads es q zero s u c =
     elim (contains_cases s [] u c) [ inl e ↦ ([], e) | inr d ↦ absurd (contains_none u d) ]
 reached_leads es q (suc k) s u c =
@@ -79,7 +84,8 @@ covers_leads es q xs s u h path =
 
         next : Contains xs w
         next =
-            let test = every_passes es (λ f. or_else (not (q f)) (λ _. or_else (not (has xs f.source)) (λ _. has xs f.target))) shut e path'.0.1 in
+            let test = every_passes es (λ f. or_else (not (q f)) (λ _. or_else (not (has xs f.source))
+            (λ _. has xs f.target))) shut e path'.0.1 in
             elim (or_else_cases (not (q e)) (λ _. or_else (not (has xs v)) (λ _. has xs w)) test) [
               | inl n ↦ absurd (not_passes (q e) n path'.0.2)
               | inr r ↦ elim (or_else_cases (not (has xs v)) (λ _. has xs w) r) [
@@ -117,14 +123,15 @@ silent_found A s u c =
     (λ v w r. step_at A v w r.0 internal (bytes_same r.0 internal r.2) r.1)
     s u (reached_leads A.transitions is_internal A.states s u c)
 
-pub silent_only :
-    (A : System) (s u : ℕ) → covers A.transitions is_internal (silent_from A s) s ≡ true → Silent A s u → Contains (silent_from A s) u
+pub silent_only : (A : System) (s u : ℕ) → covers A.transitions is_internal (silent_from A s) s ≡ true → Silent A s u →
+    Contains (silent_from A s) u
 silent_only A s u h path =
     covers_leads A.transitions is_internal (silent_from A s) s u h
     (leads_map (Internal A) (Passing A.transitions is_internal)
     (λ v w r. (internal, r, bytes_pass internal internal refl)) s u path)
 
-pub inert_found : (A : System) (blocks : ℕ → ℕ) (s u : ℕ) → Contains (inert_from A blocks s) u → Leads (Inert A blocks) s u
+pub inert_found : (A : System) (blocks : ℕ → ℕ) (s u : ℕ) → Contains (inert_from A blocks s) u →
+    Leads (Inert A blocks) s u
 inert_found A blocks s u c =
     leads_map (Passing A.transitions (is_inert blocks)) (Inert A blocks)
     (λ v w r.
@@ -146,7 +153,8 @@ reachable_found A u c =
     (reached_leads A.transitions (λ e. true) A.states A.first u c)
 
 pub reachable_only :
-    (A : System) (u : ℕ) → covers A.transitions (λ e. true) (reachable A) A.first ≡ true → Reachable A u → Contains (reachable A) u
+    (A : System) (u : ℕ) → covers A.transitions (λ e. true) (reachable A) A.first ≡ true → Reachable A u →
+    Contains (reachable A) u
 reachable_only A u h path =
     covers_leads A.transitions (λ e. true) (reachable A) A.first u h
     (leads_map (AnyStep A) (Passing A.transitions (λ e. true)) (λ v w r. (r.0, r.1, refl)) A.first u path)

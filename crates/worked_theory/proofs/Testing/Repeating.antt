@@ -1,11 +1,13 @@
 -- How many Splits are made of a written-out system, by a test that computes.
-use Rattle.std.proofs.Common.{◌≡◌, ◌≢◌, ℕ, zero, suc, ◌<◌, ◌≤◌, Bool, true, not, eqb, ltb, ltb-true, List, [], ◌∷◌, length, map, slice_index, sym, subst, arith}
+use Rattle.std.proofs.Common.{◌≡◌, ◌≢◌, ℕ, zero, suc, ◌<◌, ◌≤◌, Bool, true, not, eqb, ltb, ltb-true, List, [], ◌∷◌}
+use Rattle.std.proofs.Common.{length, map, slice_index, sym, subst, arith}
 use Rattle.std.specs.List.{slice_index_or}
 use Rattle.std.proofs.lemmas.Bool.{eqb-true, eq-eqb}
 use Rattle.theory.specs.System.{System, IsSystem}
 use Rattle.theory.specs.declared.relation.Relation.{Relation}
 use Rattle.theory.specs.Blocks.{Split, SameBlocks, OneBlock, After, ChangesNothing, Turns}
-use Rattle.worked_theory.proofs.Testing.{and_then, and_then_parts, not_passes, each_below, each_below_passes, same_answer, same_answer_there, same_answer_back}
+use Rattle.worked_theory.proofs.Testing.{and_then, and_then_parts, not_passes, each_below, each_below_passes}
+use Rattle.worked_theory.proofs.Testing.{same_answer, same_answer_there, same_answer_back}
 use Rattle.worked_theory.proofs.Testing.Systems.{is_system, system_passes}
 use Rattle.theory.proofs.CallerLemmas.{same_split, after_is_unique}
 use Rattle.worked_theory.proofs.Testing.Signing.{Entry}
@@ -56,7 +58,8 @@ are_same A f g = each_below A.states (λ s. each_below A.states (λ t. same_answ
 are_same_passes : (A : System) (f g : ℕ → ℕ) → are_same A f g ≡ true → SameBlocks A f g
 are_same_passes A f g h s t ls lt =
     let test = each_below_passes A.states (λ v. same_answer (eqb (g s) (g v)) (eqb (f s) (f v)))
-    (each_below_passes A.states (λ u. each_below A.states (λ v. same_answer (eqb (g u) (g v)) (eqb (f u) (f v)))) h s ls)
+    (each_below_passes A.states (λ u. each_below A.states (λ v. same_answer (eqb (g u) (g v)) (eqb (f u) (f v)))) h s
+    ls)
     t lt in (
       λ e. eqb-true (f s) (f t) (same_answer_there (eqb (g s) (g t)) (eqb (f s) (f t)) test (eq-eqb (g s) (g t) e)),
       λ e. eqb-true (g s) (g t) (same_answer_back (eqb (g s) (g t)) (eqb (f s) (f t)) test (eq-eqb (f s) (f t) e)),
@@ -121,7 +124,8 @@ module _ (rel : Relation) (A : System) (course : Course) (k : ℕ) (h : ends_aft
   runs_and_rest = and_then_parts (runs rel A course (suc k)) (λ _. ended) system_and_rest.1
 
   parted_and_same : (parted ≡ true) × (are_same A (block_at course k) (block_at course (suc k)) ≡ true)
-  parted_and_same = and_then_parts parted (λ _. are_same A (block_at course k) (block_at course (suc k))) runs_and_rest.1
+  parted_and_same =
+      and_then_parts parted (λ _. are_same A (block_at course k) (block_at course (suc k))) runs_and_rest.1
 
   system : IsSystem A
   system = system_passes A system_and_rest.0
@@ -164,7 +168,8 @@ module _ (rel : Relation) (A : System) (course : Course) (k : ℕ) (h : ends_aft
 
 -- the course of written-out Splits, with two states that each but the last parts
 abbrev pub course_of : List ℕ → List Round → List (ℕ × ℕ) → Course
-course_of first rounds parts = record { blocks = first ∷ map (λ r. r.1) rounds; signs = map (λ r. r.0) rounds; parts = parts }
+course_of first rounds parts =
+    record { blocks = first ∷ map (λ r. r.1) rounds; signs = map (λ r. r.0) rounds; parts = parts }
 
 -- written-out Splits that pass the test are those that refinement makes
 pub refines_by :

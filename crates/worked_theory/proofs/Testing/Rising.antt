@@ -7,7 +7,8 @@ use Rattle.worked_theory.proofs.Testing.{or_else, or_else_cases, not_passes, eac
 -- a written-out list rises
 abbrev pub rises : List ℕ → Bool
 rises xs =
-    each_below (length xs) (λ k. or_else (not (ltb (k + 1) (length xs))) (λ _. ltb (slice_index xs k) (slice_index xs (k + 1))))
+    each_below (length xs) (λ k. or_else (not (ltb (k + 1) (length xs)))
+    (λ _. ltb (slice_index xs k) (slice_index xs (k + 1))))
 
 pub rises_passes : (xs : List ℕ) → rises xs ≡ true → IsStrictlyIncreasing xs
 rises_passes xs h k l =

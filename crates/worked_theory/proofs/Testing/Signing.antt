@@ -1,11 +1,14 @@
 -- Signatures in written-out systems, by tests that compute.
-use Rattle.std.proofs.Common.{◌≡◌, ◌↔◌, ℕ, Bool, true, not, eqb, List, Contains, bytes_eq, refl, sym, ◌∙◌, subst, inl, inr}
+use Rattle.std.proofs.Common.{◌≡◌, ◌↔◌, ℕ, Bool, true, not, eqb, List, Contains, bytes_eq, refl, sym, ◌∙◌, subst, inl}
+use Rattle.std.proofs.Common.{inr}
 use Rattle.std.proofs.lemmas.Bool.{eqb-true, eq-eqb}
 use Rattle.theory.specs.System.{System, Step, internal}
 use Rattle.theory.specs.declared.relation.Relation.{Relation}
 use Rattle.theory.specs.declared.relation.Relation.TheVariants.{Strong, Branching}
 use Rattle.theory.specs.Blocks.{Signature}
-use Rattle.worked_theory.proofs.Testing.{and_then, and_then_parts, and_then_from, or_else, or_else_cases, not_passes, every, every_passes, every_from, some, some_passes, some_from, each_step, each_step_passes, some_step, some_step_passes, bytes_same, bytes_pass}
+use Rattle.worked_theory.proofs.Testing.{and_then, and_then_parts, and_then_from, or_else, or_else_cases, not_passes}
+use Rattle.worked_theory.proofs.Testing.{every, every_passes, every_from, some, some_passes, some_from, each_step}
+use Rattle.worked_theory.proofs.Testing.{each_step_passes, some_step, some_step_passes, bytes_same, bytes_pass}
 use Rattle.worked_theory.proofs.Testing.Reaching.{covers, is_inert, inert_from, inert_found, inert_only}
 
 -- a label and a block
@@ -32,8 +35,8 @@ contains_has_entry xs x n c =
 abbrev pub from_step : System → (ℕ → ℕ) → ℕ → Entry → Bool
 from_step A blocks u p = some_step A.transitions u (λ x t. and_then (bytes_eq x p.0) (λ _. eqb (blocks t) p.1))
 
-from_step_found :
-    (A : System) (blocks : ℕ → ℕ) (u : ℕ) (p : Entry) → from_step A blocks u p ≡ true → (t : ℕ) × Step A u p.0 t × (blocks t ≡ p.1)
+from_step_found : (A : System) (blocks : ℕ → ℕ) (u : ℕ) (p : Entry) → from_step A blocks u p ≡ true →
+    (t : ℕ) × Step A u p.0 t × (blocks t ≡ p.1)
 from_step_found A blocks u p h =
     let found = some_step_passes A.transitions u (λ x t. and_then (bytes_eq x p.0) (λ _. eqb (blocks t) p.1)) h in
     let parts = and_then_parts (bytes_eq found.0 p.0) (λ _. eqb (blocks found.1) p.1) found.3 in (
@@ -63,14 +66,16 @@ in_list Branching A blocks s xs =
 abbrev pub in_signature : Relation → System → (ℕ → ℕ) → ℕ → List Entry → Bool
 in_signature Strong A blocks s xs = every xs (λ p. from_step A blocks s p)
 in_signature Branching A blocks s xs =
-    every xs (λ p. and_then (not (own blocks s p.0 p.1)) (λ _. some (inert_from A blocks s) (λ u. from_step A blocks u p)))
+    every xs (λ p. and_then (not (own blocks s p.0 p.1)) (λ _. some (inert_from A blocks s)
+    (λ u. from_step A blocks u p)))
 
 in_list_holds :
     (rel : Relation) (A : System) (blocks : ℕ → ℕ) (s : ℕ) (xs : List Entry) → in_list rel A blocks s xs ≡ true →
     (x : List ℕ) (n : ℕ) → Signature rel A blocks s x n → Contains xs (x, n)
 in_list_holds Strong A blocks s xs h x n (t, step, e) =
     subst (λ z. Contains xs (x, z)) e
-    (has_entry_contains xs x (blocks t) (each_step_passes A.transitions s (λ x t. has_entry xs x (blocks t)) h x t step))
+    (has_entry_contains xs x (blocks t) (each_step_passes A.transitions s
+    (λ x t. has_entry xs x (blocks t)) h x t step))
 in_list_holds Branching A blocks s xs h x n (u, t, path, step, e, other) =
     let parts = and_then_parts (covers A.transitions (is_inert blocks) (inert_from A blocks s) s) (λ _.
     every (inert_from A blocks s) (λ u.
@@ -96,7 +101,8 @@ in_signature_holds Branching A blocks s xs h x n c =
     let test = every_passes xs
     (λ p. and_then (not (own blocks s p.0 p.1)) (λ _. some (inert_from A blocks s) (λ u. from_step A blocks u p)))
     h (x, n) c in
-    let parts = and_then_parts (not (own blocks s x n)) (λ _. some (inert_from A blocks s) (λ u. from_step A blocks u (x, n))) test in
+    let parts = and_then_parts (not (own blocks s x n)) (λ _. some (inert_from A blocks s)
+    (λ u. from_step A blocks u (x, n))) test in
     let found = some_passes (inert_from A blocks s) (λ u. from_step A blocks u (x, n)) parts.1 in
     let step = from_step_found A blocks found.0 (x, n) found.2 in (
       found.0,
@@ -105,7 +111,8 @@ in_signature_holds Branching A blocks s xs h x n c =
       step.1,
       step.2,
       λ both. not_passes (own blocks s x n) parts.0
-          (and_then_from (bytes_eq x internal) (λ _. eqb n (blocks s)) (bytes_pass x internal both.0) (eq-eqb n (blocks s) both.1)),
+          (and_then_from (bytes_eq x internal) (λ _. eqb n (blocks s)) (bytes_pass x internal both.0)
+          (eq-eqb n (blocks s) both.1)),
     )
 
 -- the list has the entries of the signature of s
@@ -113,8 +120,8 @@ abbrev pub lists_signature : Relation → System → (ℕ → ℕ) → ℕ → L
 lists_signature rel A blocks s xs = and_then (in_list rel A blocks s xs) (λ _. in_signature rel A blocks s xs)
 
 -- a list that passes the test is the signature
-pub signature_passes :
-    (rel : Relation) (A : System) (blocks : ℕ → ℕ) (s : ℕ) (xs : List Entry) → lists_signature rel A blocks s xs ≡ true →
+pub signature_passes : (rel : Relation) (A : System) (blocks : ℕ → ℕ) (s : ℕ) (xs : List Entry) →
+    lists_signature rel A blocks s xs ≡ true →
     (x : List ℕ) (n : ℕ) → Signature rel A blocks s x n ↔ Contains xs (x, n)
 signature_passes rel A blocks s xs h x n =
     let parts = and_then_parts (in_list rel A blocks s xs) (λ _. in_signature rel A blocks s xs) h in

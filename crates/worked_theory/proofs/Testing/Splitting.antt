@@ -6,8 +6,10 @@ use Rattle.theory.specs.System.{System}
 use Rattle.theory.specs.declared.relation.Relation.{Relation}
 use Rattle.theory.specs.Blocks.{Signature, SameSignature, Split}
 use Rattle.worked_theory.specs.Examples.{SplitsBy}
-use Rattle.worked_theory.proofs.Testing.{and_then, and_then_parts, and_then_from, each_below, each_below_passes, same_answer, same_answer_there, same_answer_back}
-use Rattle.worked_theory.proofs.Testing.Signing.{Entry, lists_signature, signature_passes, same_entries, same_entries_there, same_entries_back}
+use Rattle.worked_theory.proofs.Testing.{and_then, and_then_parts, and_then_from, each_below, each_below_passes}
+use Rattle.worked_theory.proofs.Testing.{same_answer, same_answer_there, same_answer_back}
+use Rattle.worked_theory.proofs.Testing.Signing.{Entry, lists_signature, signature_passes, same_entries}
+use Rattle.worked_theory.proofs.Testing.Signing.{same_entries_there, same_entries_back}
 
 -- two states share a block of `old` and have the same listed signatures
 abbrev pub stays : (ℕ → ℕ) → (ℕ → List Entry) → ℕ → ℕ → Bool
@@ -26,7 +28,8 @@ listed_signatures :
 listed_signatures rel A old new signs h s l = signature_passes rel A old s (signs s)
     (each_below_passes A.states (λ s. lists_signature rel A old s (signs s))
     (and_then_parts (each_below A.states (λ s. lists_signature rel A old s (signs s))) (λ _.
-    each_below A.states (λ s. each_below A.states (λ t. same_answer (eqb (new s) (new t)) (stays old signs s t)))) h).0 s l)
+    each_below A.states (λ s. each_below A.states (λ t. same_answer (eqb (new s) (new t)) (stays old signs s t)))) h).0
+    s l)
 
 module _ (rel : Relation) (A : System) (old new : ℕ → ℕ) (signs : ℕ → List Entry)
     (h : is_split rel A old new signs ≡ true) where
@@ -38,13 +41,15 @@ module _ (rel : Relation) (A : System) (old new : ℕ → ℕ) (signs : ℕ → 
       (each_below_passes A.states
       (λ u. each_below A.states (λ v. same_answer (eqb (new u) (new v)) (stays old signs u v)))
       (and_then_parts (each_below A.states (λ s. lists_signature rel A old s (signs s))) (λ _.
-      each_below A.states (λ s. each_below A.states (λ t. same_answer (eqb (new s) (new t)) (stays old signs s t)))) h).1
+      each_below A.states (λ s. each_below A.states (λ t. same_answer (eqb (new s) (new t)) (stays old signs s t))))
+      h).1
       s ls) t lt
 
   split_there : (s t : ℕ) → s < A.states → t < A.states → new s ≡ new t → (old s ≡ old t) × SameSignature rel A old s t
   split_there s t ls lt e =
       let both = and_then_parts (eqb (old s) (old t)) (λ _. same_entries (signs s) (signs t))
-      (same_answer_there (eqb (new s) (new t)) (stays old signs s t) (split_test s t ls lt) (eq-eqb (new s) (new t) e)) in
+      (same_answer_there (eqb (new s) (new t)) (stays old signs s t) (split_test s t ls lt)
+      (eq-eqb (new s) (new t) e)) in
       let lists = same_entries_there (signs s) (signs t) both.1 in (
         eqb-true (old s) (old t) both.0,
         λ x n. (
@@ -70,7 +75,8 @@ module _ (rel : Relation) (A : System) (old new : ℕ → ℕ) (signs : ℕ → 
 -- written-out blocks are split by the listed signatures
 pub splits_by :
     (rel : Relation) (A : System) (old : List ℕ) (pairs : List (List Entry)) (new : List ℕ) →
-    is_split rel A (slice_index old) (slice_index new) (λ s. slice_index_or pairs s []) ≡ true → SplitsBy rel A old pairs new
+    is_split rel A (slice_index old) (slice_index new) (λ s. slice_index_or pairs s []) ≡ true →
+    SplitsBy rel A old pairs new
 splits_by rel A old pairs new h = record {
   signatures = listed_signatures rel A (slice_index old) (slice_index new) (λ s. slice_index_or pairs s []) h;
   split = split_passes rel A (slice_index old) (slice_index new) (λ s. slice_index_or pairs s []) h;

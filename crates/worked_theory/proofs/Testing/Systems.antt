@@ -1,5 +1,6 @@
 -- Whether a written-out system is one, by a test that computes.
-use Rattle.std.proofs.Common.{◌≡◌, ℕ, ◌≤◌, Bool, true, ltb, leb, ltb-true, leb-true, List, length, All, Contains, get_or}
+use Rattle.std.proofs.Common.{◌≡◌, ℕ, ◌≤◌, Bool, true, ltb, leb, ltb-true, leb-true, List, length, All, Contains}
+use Rattle.std.proofs.Common.{get_or}
 use Rattle.std.proofs.lemmas.List.Elements.{Contains-get_or}
 use Rattle.theory.specs.System.{System, Transition, IsSystem, IsAmong, IsLabel}
 use Rattle.worked_theory.proofs.Testing.{and_then, and_then_parts, every, every_passes}
@@ -39,8 +40,8 @@ system_passes A h =
     let parts = and_then_parts (ltb A.first A.states) (λ _. every A.transitions (λ e. is_among A.states e)) h in
     record {
       first = ltb-true A.first A.states parts.0;
-      transitions = all_from_contains (IsAmong A.states) A.transitions (λ e c.
-          let first = and_then_parts (ltb e.source A.states) (λ _. and_then (is_label e.label) (λ _. ltb e.target A.states))
+      transitions = all_from_contains (IsAmong A.states) A.transitions (λ e c. let first =
+          and_then_parts (ltb e.source A.states) (λ _. and_then (is_label e.label) (λ _. ltb e.target A.states))
           (every_passes A.transitions (λ e. is_among A.states e) parts.1 e c) in
           let second = and_then_parts (is_label e.label) (λ _. ltb e.target A.states) first.1 in
           record {

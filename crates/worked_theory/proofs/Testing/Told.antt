@@ -149,7 +149,8 @@ silent_middle_branching = record {
 abbrev pub silent_detour_branching : Census
 silent_detour_branching = record {
   block = slice_index (0 ∷ 0 ∷ 1 ∷ 1 ∷ 1 ∷ 2 ∷ []);
-  pairs = (0, 0) ∷ (0, 1) ∷ (1, 0) ∷ (1, 1) ∷ (2, 2) ∷ (2, 3) ∷ (2, 4) ∷ (3, 2) ∷ (3, 3) ∷ (3, 4) ∷ (4, 2) ∷ (4, 3) ∷ (4, 4) ∷ (5, 5) ∷ [];
+  pairs = (0, 0) ∷ (0, 1) ∷ (1, 0) ∷ (1, 1) ∷ (2, 2) ∷ (2, 3) ∷ (2, 4) ∷ (3, 2) ∷ (3, 3) ∷ (3, 4) ∷ (4, 2) ∷ (4, 3)
+      ∷ (4, 4) ∷ (5, 5) ∷ [];
   turns = 2;
   lead = slice_index (0 ∷ 0 ∷ 2 ∷ 2 ∷ 2 ∷ 5 ∷ []);
   leaders = 0 ∷ 2 ∷ 5 ∷ [];

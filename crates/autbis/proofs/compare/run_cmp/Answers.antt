@@ -52,7 +52,8 @@ module _ (g : Over) (c : After-equivalent g) where
   }
 
   -- a verdict on the systems in memory is one on the texts
-  verdict : (same : Bool) → (IsTrue same ↔ Equivalent c.args.rel (system_of c.in_ok-first.first) (system_of c.in_ok-second.second)) →
+  verdict : (same : Bool) →
+      (IsTrue same ↔ Equivalent c.args.rel (system_of c.in_ok-first.first) (system_of c.in_ok-second.second)) →
       IsVerdict asked both same
   verdict = verdict_of asked first second c.in_ok-first.first c.in_ok-second.second
       c.in_ok-first.ensures.outcome.outcome.read c.in_ok-second.ensures.outcome.outcome.read law
@@ -61,9 +62,11 @@ module _ (g : Over) (c : After-equivalent g) where
   counted : (let at = g.M.Meter.counted c.equivalent.new.m in
       let k = length c.in_ok-first.first.places + length c.in_ok-second.second.places in
       Turns c.args.rel (union_of (system_of c.in_ok-first.first) (system_of c.in_ok-second.second)) at.rounds →
-      KeepsTo (c.in_ok-first.first.states + c.in_ok-second.second.states) k 1 at ((at.rounds + 1) * k) → CountsUnion asked both at)
+      KeepsTo (c.in_ok-first.first.states + c.in_ok-second.second.states) k 1 at ((at.rounds + 1) * k) →
+      CountsUnion asked both at)
   counted = counted_whole asked first second c.in_ok-first.first c.in_ok-second.second
-      c.in_ok-first.ensures.outcome.outcome.read c.in_ok-second.ensures.outcome.outcome.read (g.M.Meter.counted c.equivalent.new.m)
+      c.in_ok-first.ensures.outcome.outcome.read c.in_ok-second.ensures.outcome.outcome.read
+      (g.M.Meter.counted c.equivalent.new.m)
       c.in_ok-first.ensures.outcome.outcome.as_many c.in_ok-second.ensures.outcome.outcome.as_many law
 
   -- both were read to their ends, and the meter keeps to what that may take
@@ -79,15 +82,18 @@ module _ (g : Over) (c : After-equivalent g) where
         took = other.took;
         exhausted = ((one.outcome.at_end, one.outcome.sound), (other.outcome.at_end, other.outcome.sound));
         both = both;
-        keeps = counted_part asked first second c.in_ok-first.first c.in_ok-second.second one.outcome.read other.outcome.read
-            (g.M.Meter.counted c.equivalent.new.m) one.outcome.as_many other.outcome.as_many _ c.equivalent.ensures.keeps;
+        keeps = counted_part asked first second c.in_ok-first.first c.in_ok-second.second one.outcome.read
+            other.outcome.read
+            (g.M.Meter.counted c.equivalent.new.m) one.outcome.as_many other.outcome.as_many _
+            c.equivalent.ensures.keeps;
       }
 
 pub returns-in_err-same-clause-outcome : goal.returns-in_err-same-clause-outcome
 returns-in_err-same-clause-outcome g c =
     let at = (goal.at.returns-in_err-same-clause-outcome g c).After-equivalent in
     let one = c.in_ok-first.ensures.outcome in
-    takes_error _ _ _ _ _ (record { side = Run; fault = Memory }) one.given c.from_residual-in_err-same.ensures.1 one.took
+    takes_error _ _ _ _ _ (record { side = Run; fault = Memory }) one.given
+    c.from_residual-in_err-same.ensures.1 one.took
     (out_of_memory refl refl (got g at) c.requires.sink)
 
 pub returns-in_err-say-clause-outcome : goal.returns-in_err-say-clause-outcome
@@ -97,7 +103,8 @@ returns-in_err-say-clause-outcome g c =
     let is = c.in_err-say.ensures in
     let compared = rw c.in_ok-same.was at c.equivalent.ensures in
     takes_error _ _ _ _ _ c.in_err-say.field-0.0 one.given c.from_residual-in_err-say.ensures.1 one.took
-    (not_written is.fault.0 is.fault.1 (got g at) is.failures c.in_ok-same.same (verdict g at _ compared.verdict) is.err)
+    (not_written is.fault.0 is.fault.1 (got g at) is.failures c.in_ok-same.same
+    (verdict g at _ compared.verdict) is.err)
 
 pub returns-in_err-say-clause-untouched : goal.returns-in_err-say-clause-untouched
 returns-in_err-say-clause-untouched g c =

@@ -21,4 +21,5 @@ returns-in-Err-clause-given_up g c =
     let read = c.in-Err.ensures.outcome in
     let unread = list_unread files c.as_str.result.now _ law opened.bytes read.took
     (λ sound. c.close.ensures.sound sound ∙ opened.none_lost) c.close.ensures.lost read.outcome in
-    rw (c.in-Some.is, ← c.as_str.ensures.value, c.report.ensures.status) (inr (all_closed _ closes opened.order, unread))
+    rw (c.in-Some.is, ← c.as_str.ensures.value, c.report.ensures.status)
+    (inr (all_closed _ closes opened.order, unread))

@@ -9,10 +9,12 @@ use Rattle.autbis.proofs.opening.open_job.Goals.{After-hidden_of, in-Min, in-Min
 
 -- the hide list is the job's
 asked_is : (g : Over) (c : After-hidden_of g) → option_map string_bytes c.match-job.hide.now ≡ hide_of c.args.job.now
-asked_is g c = elim c.match-job.branch [ in-Min w ↦ grind (arith, common_steps) | in-Min-2 w ↦ grind (arith, common_steps) ]
+asked_is g c =
+    elim c.match-job.branch [ in-Min w ↦ grind (arith, common_steps) | in-Min-2 w ↦ grind (arith, common_steps) ]
 
 pub returns-in_err-texts-clause-given_up : goal.returns-in_err-texts-clause-given_up
-returns-in_err-texts-clause-given_up g c = passes _ _ _ _ c.from_residual.ensures.1 (inl (refused_then _ c.in_err-texts.ensures.order))
+returns-in_err-texts-clause-given_up g c =
+    passes _ _ _ _ c.from_residual.ensures.1 (inl (refused_then _ c.in_err-texts.ensures.order))
 
 pub returns-in-Err-clause-given_up : goal.returns-in-Err-clause-given_up
 returns-in-Err-clause-given_up g c =

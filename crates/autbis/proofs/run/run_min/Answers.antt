@@ -30,7 +30,8 @@ pub returns-in_err-quotient-clause-outcome : goal.returns-in_err-quotient-clause
 returns-in_err-quotient-clause-outcome g c =
     let got = c.in_ok-system.ensures.outcome in
     let read = got.outcome.read in
-    let part = keeps_part _ read.0.states _ (length read.0.transitions) _ read.2.states got.outcome.as_many 0 c.in_err-quotient.ensures.keeps in
+    let part = keeps_part _ read.0.states _ (length read.0.transitions) _ read.2.states got.outcome.as_many 0
+    c.in_err-quotient.ensures.keeps in
     takes_error _ _ _ _ _ Memory got.given c.from_residual-in_err-quotient.ensures.1 got.took
     (out_of_memory ((got.outcome.at_end, got.outcome.sound), read.0, read.1, part) refl c.requires.sink)
 
@@ -61,7 +62,8 @@ module _ (g : Over) (c : After-write g) where
   same : SameSteps A B
   same =
       let groups = c.in_ok-system.ensures.outcome.outcome.read.2 in
-      c.the_order_does_not_matter.ensures.permuted A B groups.first groups.states (IsPermutation-sym B.transitions A.transitions groups.same)
+      c.the_order_does_not_matter.ensures.permuted A B groups.first groups.states
+      (IsPermutation-sym B.transitions A.transitions groups.same)
 
   back : SameSteps B A
   back =
@@ -74,11 +76,14 @@ module _ (g : Over) (c : After-write g) where
       let law = c.the_order_does_not_matter.ensures in
       let is = c.in_ok-quotient.ensures in
       let alike = law.permuted R Q order.first order.states order.same in
-      let turned = law.permuted Q R (sym order.first) (sym order.states) (IsPermutation-sym R.transitions Q.transitions order.same) in
+      let turned = law.permuted Q R (sym order.first) (sym order.states)
+      (IsPermutation-sym R.transitions Q.transitions order.same) in
       record {
-        quotient = law.reordered rel B Q R order.first order.states order.same (law.quotient rel A B Q same is.quotient);
+        quotient =
+            law.reordered rel B Q R order.first order.states order.same (law.quotient rel A B Q same is.quotient);
         equivalent = subst (Bisimilar rel B B.first R) (sym order.first)
-            (law.bisimilar rel A B Q R B.first Q.first same turned (subst (λ s. Bisimilar rel A s Q Q.first) same.first is.equivalent));
+            (law.bisimilar rel A B Q R B.first Q.first same turned (subst (λ s. Bisimilar rel A s Q Q.first) same.first
+            is.equivalent));
         no_two_bisimilar = λ s t both. is.no_two_bisimilar s t (law.bisimilar rel R Q R Q s t alike alike both);
         smallest = λ C sys other.
             subst (λ n. n ≤ C.states) (sym order.states) (is.smallest C sys (law.equivalent rel B A C back other));
@@ -92,7 +97,8 @@ module _ (g : Over) (c : After-write g) where
       let count = length-map q.places (transition_of q.labels) in
       c.text_is_read_again.ensures c.args.lim.now Q listing c.transitions.ensures.within
       (c.quotient_is_a_system.ensures rel A Q c.states.ensures.lts.system is.quotient)
-      (omega (arith, got.within.states, is.no_larger.0)) (omega (arith, got.within.transitions, count, is.no_larger.1)) order
+      (omega (arith, got.within.states, is.no_larger.0)) (omega (arith, got.within.transitions, count, is.no_larger.1))
+      order
 
 module _ (g : Over) (c : After-write g) where
   -- what the text that was read is minimised to
@@ -108,7 +114,8 @@ module _ (g : Over) (c : After-write g) where
   }
 
   -- the sink has gained its text
-  done : {In Out : Type 0} (source : Used In) (sink : Used Out) → IsExhausted source → GainsText (Q g c) sink.before sink.after → sink.failures ≡ 0 →
+  done : {In Out : Type 0} (source : Used In) (sink : Used Out) → IsExhausted source →
+      GainsText (Q g c) sink.before sink.after → sink.failures ≡ 0 →
       RunsTo (asked g c) c.in_ok-system.ensures.outcome.given source sink (g.M.Meter.counted c.minimise.new.m)
       (record { states = c.states.result; transitions = c.edges.result })
   done source sink exhausted (text, (listing, order, is), gained) sound =
@@ -117,14 +124,17 @@ module _ (g : Over) (c : After-write g) where
         to = to listing order;
         sizes = ap₂ sizes_of (c.states.ensures.value ∙ got.read.2.states) (c.edges.ensures.value ∙ got.as_many);
         written = (subst (λ bytes. Appends sink.before sink.after bytes) is gained, sound);
-        turns = c.the_order_does_not_matter.ensures.turns (rel g c) (A g c) (B g c) _ (same g c) c.in_ok-quotient.ensures.turns;
-        keeps = keeps_whole _ _ _ _ _ (sym c.states.ensures.value) (sym c.edges.ensures.value) c.in_ok-quotient.ensures.keeps;
+        turns = c.the_order_does_not_matter.ensures.turns (rel g c) (A g c) (B g c) _ (same g c)
+            c.in_ok-quotient.ensures.turns;
+        keeps = keeps_whole _ _ _ _ _ (sym c.states.ensures.value) (sym c.edges.ensures.value)
+            c.in_ok-quotient.ensures.keeps;
         exhausted = exhausted;
       }
 
   -- or a beginning of it
   begun : (old new : Option (List ℕ)) → GainsBeginning (Q g c) old new →
-      (written : MinimisedText (asked g c) c.in_ok-system.ensures.outcome.given) × AppendsBeginning old new (listed written.output)
+      (written : MinimisedText (asked g c) c.in_ok-system.ensures.outcome.given) × AppendsBeginning old new
+      (listed written.output)
   begun old new (front, later, (listing, order, is), gained) = (to listing order, (front, later, sym is, gained))
 
   -- the meter shows no more than a run over the system that was read may take
@@ -141,7 +151,8 @@ returns-in_err-write-clause-outcome g c =
     let e = c.in_err-write.field-0.0 in
     let is = c.in_err-write.ensures in
     takes_error _ _ _ _ _ e got.given c.from_residual-in_err-write.ensures.1 got.took (elim is.faults [
-      | inl memory ↦ out_of_memory ((got.outcome.at_end, got.outcome.sound), (far g at).0, (far g at).1, (far g at).2) memory (is.failures ∙ ap (λ x. failures_after {T = Unit {0}} (Err x)) memory)
+      | inl memory ↦ out_of_memory ((got.outcome.at_end, got.outcome.sound), (far g at).0, (far g at).1, (far g at).2)
+          memory (is.failures ∙ ap (λ x. failures_after {T = Unit {0}} (Err x)) memory)
       | inr device ↦
           let some = begun g at _ _ (is.device device) in
           not_written ((got.outcome.at_end, got.outcome.sound), (far g at).0, (far g at).1, (far g at).2) device
@@ -165,5 +176,6 @@ returns-clause-outcome g c =
     record {
       given = got.given;
       took = got.took;
-      outcome = done g at _ _ (got.outcome.at_end, got.outcome.sound) c.in_ok-write.ensures.text c.in_ok-write.ensures.failures;
+      outcome = done g at _ _ (got.outcome.at_end, got.outcome.sound) c.in_ok-write.ensures.text
+          c.in_ok-write.ensures.failures;
     }

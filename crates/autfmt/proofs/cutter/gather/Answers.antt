@@ -12,7 +12,8 @@ returns-then-extend-clause-got g c =
     let at = c.in-Some.at in
     let buf = c.take.new.buf in
     feed_found _ _ _ c.args.buffer.now i.got.0 c.loop-n.buffer buf c.extend.new.self n at i.got.1 i.got.2 i.part
-    c.in_ok-n.ensures.bytes.0 c.in_ok-n.ensures.bound.0 c.in-Some.ensures.within c.in-Some.ensures.line c.in-Some.ensures.feed
+    c.in_ok-n.ensures.bytes.0 c.in_ok-n.ensures.bound.0 c.in-Some.ensures.within c.in-Some.ensures.line
+    c.in-Some.ensures.feed
     (c.extend.ensures.fits.0 c.if-extend.true) c.if-extend.ensures.line
 
 pub returns-in-Some-clause-got : goal.returns-in-Some-clause-got
@@ -21,7 +22,8 @@ returns-in-Some-clause-got g c =
     let n = c.in_ok-n.n in
     let at = c.in-Some.at in
     let bytes = take n c.take.new.buf in
-    too_long _ _ _ c.args.buffer.now i.got.0 c.loop-n.buffer bytes (take at bytes) (drop at bytes) i.got.1 i.got.2 i.part
+    too_long _ _ _ c.args.buffer.now i.got.0 c.loop-n.buffer bytes (take at bytes) (drop at bytes)
+    i.got.1 i.got.2 i.part
     c.in_ok-n.ensures.bytes.0 (sym (take-append-drop at bytes)) c.in-Some.ensures.line
     (iff_false c.extend.ensures.fits c.if-extend.false)
 
@@ -29,7 +31,8 @@ pub returns-then-not-extend-clause-got : goal.returns-then-not-extend-clause-got
 returns-then-not-extend-clause-got g c =
     let i = c.loop-n.invariant in
     let bytes = take c.in_ok-n.n c.take.new.buf in
-    too_long _ _ _ c.args.buffer.now i.got.0 c.loop-n.buffer bytes bytes [] i.got.1 i.got.2 i.part c.in_ok-n.ensures.bytes.0
+    too_long _ _ _ c.args.buffer.now i.got.0 c.loop-n.buffer bytes bytes [] i.got.1 i.got.2 i.part
+    c.in_ok-n.ensures.bytes.0
     (sym (append-nil bytes)) c.in-None.ensures.none (iff_false c.extend-in-None.ensures.fits c.if-not-extend.true)
 
 pub loop-n-preserved : goal.loop-n-preserved
@@ -38,7 +41,8 @@ loop-n-preserved g c =
     let bytes = take c.in_ok-n.n c.take.new.buf in
     let now = c.if-not-extend.ensures.line in
     let fits = c.extend-in-None.ensures.fits.0 c.if-not-extend.false in
-    let (x, taken, same) = got_more _ _ _ c.args.buffer.now i.got.0 c.loop-n.buffer bytes i.got.1 i.got.2 c.in_ok-n.ensures.bytes.0 in
+    let (x, taken, same) =
+    got_more _ _ _ c.args.buffer.now i.got.0 c.loop-n.buffer bytes i.got.1 i.got.2 c.in_ok-n.ensures.bytes.0 in
     record {
       got = (x, taken, now ∙ sym same);
       part = subst IsPart (sym now) (IsPart-append c.loop-n.buffer bytes i.part c.in-None.ensures.none fits);

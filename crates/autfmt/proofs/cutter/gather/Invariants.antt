@@ -7,7 +7,8 @@ use Rattle.autfmt.specs.declared.line.TheConstants.{LONGEST_LINE}
 
 abbrev pub invariant-loop-n : goal.invariant-loop-n
 invariant-loop-n g l = record {
-  got : (bs : List ℕ) × Consumes (g.R.Source.rest l.initial.r) (g.R.Source.rest l.r) bs × (l.buffer ≡ l.initial.buffer ++ bs);
+  got : (bs : List ℕ) × Consumes (g.R.Source.rest l.initial.r) (g.R.Source.rest l.r) bs
+      × (l.buffer ≡ l.initial.buffer ++ bs);
   part : IsPart l.buffer;
   sound : g.R.Source.failures l.r ≡ 0;
   room : length l.piece ≡ PIECE;

@@ -12,7 +12,8 @@ returns c =
     let is = c.word_in_front-lanes.ensures in
     let first = first_other xs _ eight is _ c.flags_from_ten-others.ensures (omega (arith, c.if-others-eq0.false)) in
     let n = count_trailing_zeros 64 c.flags_from_ten-others.result / 8 in
-    let s = shifted_is xs n c.keep_first.result eight (omega arith) (omega arith) (c.keep_first.ensures ∙ rw (lanes_are xs _ eight is)) in
+    let s = shifted_is xs n c.keep_first.result eight (omega arith) (omega arith) (c.keep_first.ensures
+    ∙ rw (lanes_are xs _ eight is)) in
     record {
       room = omega arith;
       some = omega (arith, c.if-count-eq0.false);

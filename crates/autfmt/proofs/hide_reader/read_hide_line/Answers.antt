@@ -12,8 +12,8 @@ returns-in_err-advance-clause-line g c =
     let few = c.requires.more in (
       s.0,
       s.1,
-      λ given H so_far count.
-          rw (exit.1, exit.2) (hide_failed s.0 so_far _ _ (omega arith) (inl (omega arith)) failed (goes_on s.2.0) s.2.1),
+      λ given H so_far count. rw (exit.1, exit.2) (hide_failed s.0 so_far _ _ (omega arith) (inl (omega arith)) failed
+          (goes_on s.2.0) s.2.1),
     )
 
 pub returns-in-TooLong-clause-line : goal.returns-in-TooLong-clause-line
@@ -36,12 +36,19 @@ returns-in_err-label-clause-line g c =
       s.1,
       λ given H so_far count. rw (exit.1, exit.2)
           (hide_faulty s.0 so_far _ _ _ count c.in_ok-advance.ensures.failures _ _ c.requires.more (goes_on s.2.0)
-          (c.advance.ensures.end c.requires.source.end) s.2.1 (rw c.line.ensures at c.in_err-label.ensures.fault) c.in_err-label.ensures.kind),
+          (c.advance.ensures.end c.requires.source.end) s.2.1 (rw c.line.ensures at c.in_err-label.ensures.fault)
+          c.in_err-label.ensures.kind),
     )
 
 pub returns-clause-line : goal.returns-clause-line
 returns-clause-line g c =
     let s = rw c.in-Line.is at c.in_ok-advance.ensures.step in
     let a = c.in_ok-label.label.now in
-    let good = rw c.line.ensures at c.in_ok-label.ensures.good in
-    (s.0, s.1, λ given H so_far count. (a, hide_good s.0 so_far _ a _ (goes_on s.2.0) s.2.1 good c.in_ok-add.ensures.added))
+    let good = rw c.line.ensures at c.in_ok-label.ensures.good in (
+      s.0,
+      s.1,
+      λ given H so_far count. (
+        a,
+        hide_good s.0 so_far _ a _ (goes_on s.2.0) s.2.1 good c.in_ok-add.ensures.added,
+      ),
+    )

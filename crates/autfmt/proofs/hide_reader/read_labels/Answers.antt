@@ -1,4 +1,5 @@
-use Rattle.std.proofs.Common.{◌≡◌, ◌+◌, ℕ, Bool, true, false, List, [], ◌∷◌, ◌++◌, length, Result, Ok, ◌∙◌, ap, refl, arith}
+use Rattle.std.proofs.Common.{◌≡◌, ◌+◌, ℕ, Bool, true, false, List, [], ◌∷◌, ◌++◌, length, Result, Ok, ◌∙◌, ap, refl}
+use Rattle.std.proofs.Common.{arith}
 use Rattle.std.proofs.lemmas.List.{length_push}
 use Rattle.std.proofs.lemmas.Result.{err_from_is_err_and}
 use Rattle.std.proofs.KnownBytes.{Consumes-nil, Consumes-trans}
@@ -13,7 +14,10 @@ loop-found-init g c =
     record {
       got = ([], Consumes-nil (g.R.Source.rest c.args.r.now), [], none, refl);
       few = let e = ap length c.none-hidden.ensures in omega arith;
-      source = record { sound = c.requires; end = λ over. absurd (fresh_goes_on c.new-cutter.result c.new-cutter.ensures over) };
+      source = record {
+        sound = c.requires;
+        end = λ over. absurd (fresh_goes_on c.new-cutter.result c.new-cutter.ensures over);
+      };
     }
 
 -- one label more
@@ -66,7 +70,8 @@ returns-then-not-at_end g c =
     let last = rw c.if-not-at_end.true at c.in_ok-at_end.ensures.look in
     takes_more _ _ _ _ _ _ before last.0 taken last.1
     (hide_behind last.0 so_far _ _ _ count c.in_ok-at_end.ensures.failures (omega arith)
-    (λ over. not_both c.is_at_end.result c.in_ok-at_end.at_end (c.is_at_end.ensures.over over) c.in_ok-at_end.was c.if-not-at_end.true)
+    (λ over. not_both c.is_at_end.result c.in_ok-at_end.at_end (c.is_at_end.ensures.over over) c.in_ok-at_end.was
+    c.if-not-at_end.true)
     (last.2.3 refl))
 
 pub returns : goal.returns
@@ -75,4 +80,5 @@ returns g c =
     let last = rw c.if-not-at_end.false at c.in_ok-at_end.ensures.look in
     let end = c.is_at_end.ensures.end c.loop-found.invariant.source.end last.2.1 in
     let read = hide_ends last.0 so_far (omega arith) (last.2.2 refl) in
-    takes_more _ _ _ _ _ _ before last.0 taken last.1 (record { read = read; at_end = end; sound = c.in_ok-at_end.ensures.failures })
+    takes_more _ _ _ _ _ _ before last.0 taken last.1
+    (record { read = read; at_end = end; sound = c.in_ok-at_end.ensures.failures })

@@ -8,7 +8,8 @@ use Rattle.autfmt.proofs.judge.judge_header.Goals.{In-Some}
 
 -- line 1 is a short header of these numbers
 wrong : (c : In-Some) (bounds : Bounds) (fault : Fault) →
-    NumbersFault bounds c.in-Some.first c.in-Some.transitions c.in-Some.states fault → HeaderFault bounds c.args.line.now fault
+    NumbersFault bounds c.in-Some.first c.in-Some.transitions c.in-Some.states fault →
+    HeaderFault bounds c.args.line.now fault
 wrong c bounds fault h = numbers _ _ _ c.requires c.in-Some.ensures.found h
 
 pub returns-in_default-clause-fault : goal.returns-in_default-clause-fault

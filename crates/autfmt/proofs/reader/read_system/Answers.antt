@@ -17,7 +17,8 @@ returns-in_err-system g c =
       took = a.took;
       outcome =
           rw (exit.1, exit.2)
-          (refuses_built c.args.lim.now _ (g.R.Source.rest c.read_text.new.r) a.given (g.R.Source.failures c.read_text.new.r)
+          (refuses_built c.args.lim.now _ (g.R.Source.rest c.read_text.new.r) a.given
+          (g.R.Source.failures c.read_text.new.r)
           c.in_ok-promise.ensures.sound c.in_ok-promise.ensures.end a.outcome.1);
     }
 
@@ -29,7 +30,9 @@ returns g c =
       given = a.given;
       took = a.took;
       outcome =
-          reads_built c.args.lim.now c.args.h.now a.given c.in_ok-promise.promise c.in_ok-promise.held c.in_ok-system.system
-          a.outcome b.labels b.grouping b.system (g.R.Source.rest c.read_text.new.r) (g.R.Source.failures c.read_text.new.r)
+          reads_built c.args.lim.now c.args.h.now a.given c.in_ok-promise.promise c.in_ok-promise.held
+          c.in_ok-system.system
+          a.outcome b.labels b.grouping b.system (g.R.Source.rest c.read_text.new.r)
+          (g.R.Source.failures c.read_text.new.r)
           c.in_ok-promise.ensures.end c.in_ok-promise.ensures.sound;
     }

@@ -67,7 +67,8 @@ returns-then-not-at_end-clause-whole g c =
       took = took g at last.0 last.1;
       outcome =
           text_behind last.0 (transitions g at).1.0 _ _ _ (count g at) c.in_ok-at_end.ensures.failures refl
-          (λ over. let a = c.is_at_end.ensures.over over in let b = c.in_ok-at_end.was in let d = c.if-not-at_end.true in cc)
+          (λ over. let a = c.is_at_end.ensures.over over in let b = c.in_ok-at_end.was in
+          let d = c.if-not-at_end.true in cc)
           (last.2.3 refl);
     }
 

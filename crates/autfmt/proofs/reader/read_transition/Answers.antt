@@ -3,15 +3,18 @@ use Rattle.std.proofs.lemmas.Result.{err_from_is_err_and}
 use Rattle.theory.specs.System.{Transition, IsAmong}
 use Rattle.autfmt.specs.Held.{Holds}
 use Rattle.autfmt.proofs.Holding.{Holds-add, Holds-shown}
-use Rattle.autfmt.proofs.ReaderSteps.{transition_too_long, transition_missing, transition_failed, transition_good, transition_faulty, transition_refused, goes_on, count_held}
+use Rattle.autfmt.proofs.ReaderSteps.{transition_too_long, transition_missing, transition_failed, transition_good}
+use Rattle.autfmt.proofs.ReaderSteps.{transition_faulty, transition_refused, goes_on, count_held}
 use Rattle.autfmt.proofs.reader.read_transition.Given.{Over}
 use Rattle.autfmt.proofs.reader.read_transition.Goals as goal
 use Rattle.autfmt.proofs.reader.read_transition.Goals.{After-advance, In_ok-read}
 
 -- as many transitions were read as triples are held
-count : (g : Over) (c : After-advance g) (es : List Transition) → Holds c.args.h.now c.args.promise.states c.args.held.now es →
+count : (g : Over) (c : After-advance g) (es : List Transition) →
+    Holds c.args.h.now c.args.promise.states c.args.held.now es →
     length es ≡ c.len-found.result
-count g c es holds = count_held c.args.h.now c.args.promise.states c.args.held.now es c.len-found.result holds c.len-found.ensures
+count g c es holds =
+    count_held c.args.h.now c.args.promise.states c.args.held.now es c.len-found.result holds c.len-found.ensures
 
 pub returns-in_err-advance-clause-transition : goal.returns-in_err-advance-clause-transition
 returns-in_err-advance-clause-transition g c =
@@ -22,7 +25,8 @@ returns-in_err-advance-clause-transition g c =
       s.0,
       s.1,
       λ bounds given es standing. let e = count g at es standing.1 in
-          rw (p.1, p.2) (transition_failed s.0 standing.0 _ _ (omega arith) (inl (omega arith)) failed (goes_on s.2.0) s.2.1),
+          rw (p.1, p.2) (transition_failed s.0 standing.0 _ _ (omega arith) (inl (omega arith)) failed
+          (goes_on s.2.0) s.2.1),
     )
 
 pub returns-in-TooLong-clause-transition : goal.returns-in-TooLong-clause-transition
@@ -57,7 +61,8 @@ returns-in_err-read-clause-transition g c =
       s.0,
       s.1,
       λ bounds given es standing. rw (p.1, p.2)
-          (transition_faulty s.0 standing.0 _ _ _ (count g at es standing.1) c.in_ok-advance.ensures.failures _ _ (omega arith)
+          (transition_faulty s.0 standing.0 _ _ _ (count g at es standing.1) c.in_ok-advance.ensures.failures
+          _ _ (omega arith)
           (goes_on s.2.0) (c.advance.ensures.end c.requires.source.end) s.2.1 bad c.in_err-read.ensures.kind),
     )
 

@@ -13,7 +13,13 @@ loop-found-init g c = record {
   got = (
     [],
     Consumes-nil (g.R.Source.rest c.args.r.now),
-    λ bounds given standing. ([], (rw (append-nil given) standing, Holds-new _ _ _ c.new-held.ensures.labels c.new-held.ensures.transitions)),
+    λ bounds given standing. (
+      [],
+      (
+        rw (append-nil given) standing,
+        Holds-new _ _ _ c.new-held.ensures.labels c.new-held.ensures.transitions,
+      ),
+    ),
   );
   len = ap length c.new-held.ensures.transitions;
   few = omega (arith, ap length c.new-held.ensures.labels);
@@ -25,7 +31,8 @@ returns-in_err-read_transition-clause-transitions g c =
     let (before, taken, so_far) = c.loop-found.invariant.got in
     let same = c.in_ok-take_usual.ensures.none (both_ways _ c.if-branch.false) in
     let (line, took, step) = rw (same.0, same.1) at c.in_err-read_transition.ensures.transition in
-    let p = err_from_is_err_and c.from_residual-in_err-read_transition.result c.from_residual-in_err-read_transition.ensures.1 in (
+    let p = err_from_is_err_and c.from_residual-in_err-read_transition.result
+    c.from_residual-in_err-read_transition.ensures.1 in (
       before ++ line,
       Consumes-trans _ _ _ before line taken took,
       λ bounds given standing.
@@ -43,7 +50,8 @@ returns-in_err-take_usual-clause-transitions g c =
       λ bounds given standing.
           let now = (so_far bounds given standing).1.0 in
           rw (p.1, p.2)
-          (no_memory_behind bounds (given ++ before) now.header now.lines c.loop-found.cutter _ _ _ _ _ now.cut now.good c.loop-found.invariant.source.sound
+          (no_memory_behind bounds (given ++ before) now.header now.lines c.loop-found.cutter _ _ _ _ _ now.cut now.good
+          c.loop-found.invariant.source.sound
           c.loop-found.invariant.source.end),
     )
 

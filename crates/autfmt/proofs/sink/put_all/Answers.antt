@@ -7,5 +7,7 @@ pub loop-rest-preserved : goal.loop-rest-preserved
 loop-rest-preserved g c =
     let ((front, is, put), _) = c.loop-rest.invariant in
     let rest = c.loop-rest.rest.now in
-    let n = c.in_ok-n.n in
-    ((front ++ take n rest, front_more front rest _ n is, Appends-trans _ _ _ _ _ put c.in_ok-n.ensures.bytes), c.in_ok-n.ensures.failures)
+    let n = c.in_ok-n.n in (
+      (front ++ take n rest, front_more front rest _ n is, Appends-trans _ _ _ _ _ put c.in_ok-n.ensures.bytes),
+      c.in_ok-n.ensures.failures,
+    )

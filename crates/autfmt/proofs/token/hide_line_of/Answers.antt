@@ -9,7 +9,8 @@ use Rattle.autfmt.proofs.token.hide_line_of.Goals as goal
 pub returns-clause-found : goal.returns-clause-found
 returns-clause-found c =
     let line = c.args.line.now in
-    found_from _ c.hide_line_in.result (hide_line_at line) (λ a. HideLine line a) c.hide_line_in.ensures (hide_line_at-takes line)
+    found_from _ c.hide_line_in.result (hide_line_at line) (λ a. HideLine line a) c.hide_line_in.ensures
+    (hide_line_at-takes line)
 
 pub returns-clause-label : goal.returns-clause-label
 returns-clause-label c =
@@ -20,4 +21,5 @@ returns-clause-label c =
 pub returns-clause-none : goal.returns-clause-none
 returns-clause-none c =
     let line = c.args.line.now in
-    none_from _ c.hide_line_in.result (hide_line_at line) ((a : List ℕ) → ¬ HideLine line a) c.hide_line_in.ensures (no_hide_line line)
+    none_from _ c.hide_line_in.result (hide_line_at line) ((a : List ℕ) → ¬ HideLine line a) c.hide_line_in.ensures
+    (no_hide_line line)

@@ -13,8 +13,10 @@ pub returns-then-is_label : goal.returns-then-is_label
 returns-then-is_label c =
     let line = c.args.line.now in
     let at = c.in_ok-end.ensures in
-    let test : is_label (take c.in_ok-end.end line) ≡ true = test-IsLabel (take c.in_ok-end.end line) (c.is_label.ensures.0 c.if-is_label.true) in
-    quoted_at-found line c.in_ok-end.end at.within at.quote at.last ∙ rw (test, take_rest line (c.in_ok-end.end + 1)) refl
+    let test : is_label (take c.in_ok-end.end line) ≡ true =
+    test-IsLabel (take c.in_ok-end.end line) (c.is_label.ensures.0 c.if-is_label.true) in
+    quoted_at-found line c.in_ok-end.end at.within at.quote at.last
+    ∙ rw (test, take_rest line (c.in_ok-end.end + 1)) refl
 
 pub returns-else-is_label : goal.returns-else-is_label
 returns-else-is_label c =
@@ -22,5 +24,6 @@ returns-else-is_label c =
     let at = c.in_ok-end.ensures in
     let test : is_label (take c.in_ok-end.end line) ≡ false =
     false_from_ne_true (is_label (take c.in_ok-end.end line))
-    (λ e. both_ways c.is_label.result c.if-is_label.false (c.is_label.ensures.1 (IsLabel-from_test (take c.in_ok-end.end line) e))) in
+    (λ e. both_ways c.is_label.result c.if-is_label.false
+    (c.is_label.ensures.1 (IsLabel-from_test (take c.in_ok-end.end line) e))) in
     quoted_at-found line c.in_ok-end.end at.within at.quote at.last ∙ rw test refl

@@ -9,4 +9,5 @@ returns-then-marks-ne0 c =
     let bytes = c.args.bytes.now in
     let i = c.loop-i.i in
     let room : i + 16 ≤ length bytes = omega arith in
-    byte_in_lanes bytes i 34 _ room (bitmask_splat w8 eqb (chunk i 16 bytes) 16 34 (length-chunk i 16 bytes room) (omega arith)) (omega arith)
+    byte_in_lanes bytes i 34 _ room (bitmask_splat w8 eqb (chunk i 16 bytes) 16 34 (length-chunk i 16 bytes room)
+    (omega arith)) (omega arith)

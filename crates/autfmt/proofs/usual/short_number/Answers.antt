@@ -3,7 +3,8 @@ use Rattle.autfmt.specs.Usual.{BeginsWithNumber}
 use Rattle.autfmt.proofs.Lists.{rest_of}
 use Rattle.autfmt.proofs.UsualLines.{number_in_front}
 use Rattle.autfmt.proofs.usual.short_number.Goals as goal
-use Rattle.autfmt.proofs.usual.short_number.Goals.{else-count-gt1-via-then-count-gt1+else-bytes-eq48, else-count-gt1-via-else-count-gt1}
+use Rattle.autfmt.proofs.usual.short_number.Goals.{else-count-gt1-via-then-count-gt1+else-bytes-eq48}
+use Rattle.autfmt.proofs.usual.short_number.Goals.{else-count-gt1-via-else-count-gt1}
 
 pub returns-clause-number : goal.returns-clause-number
 returns-clause-number c =
@@ -14,4 +15,5 @@ returns-clause-number c =
       | else-count-gt1-via-then-count-gt1+else-bytes-eq48 w ↦ absurd (omega (arith, e, w.if-bytes-eq48.false))
       | else-count-gt1-via-else-count-gt1 w ↦ absurd (omega (arith, l, w.if-count-gt1.false))
     ] in
-    subst (λ rest. BeginsWithNumber bytes c.in_ok-count.value rest) (sym (rest_of n bytes)) (number_in_front bytes n c.in_ok-count.value c.in_ok-count.ensures leads)
+    subst (λ rest. BeginsWithNumber bytes c.in_ok-count.value rest) (sym (rest_of n bytes))
+    (number_in_front bytes n c.in_ok-count.value c.in_ok-count.ensures leads)

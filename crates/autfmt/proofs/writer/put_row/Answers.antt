@@ -16,6 +16,11 @@ loop-rank-preserved g c = record {
       (take c.args.waiting c.args.buffer.now) c.loop-rank.rank-index (0, 0) (omega arith)
       c.loop-rank.invariant.progress
       c.in_ok-start.ensures.ok c.word.ensures.text _ (rw c.new-front.ensures at c.append_transition-end.ensures.text);
-  within = omega (arith, c.in_ok-start.ensures.room, c.append_transition-end.ensures.end, c.append_transition-end.auto.buffer);
+  within = omega (
+    arith,
+    c.in_ok-start.ensures.room,
+    c.append_transition-end.ensures.end,
+    c.append_transition-end.auto.buffer,
+  );
   sound = c.in_ok-start.ensures.failures;
 }

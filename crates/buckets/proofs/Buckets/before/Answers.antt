@@ -18,7 +18,8 @@ down-requires-clause-chain c =
     let after = (goal.at.down-requires-clause-chain c).After-deref in (
       c.self.inside.heads.items,
       rw (c.deref.ensures.value) c.self.invariant,
-      rw (c.deref.ensures.value, entry after) (λ some. c.self.invariant.chained.before_fit c.args.r c.requires.some (low after) some),
+      rw (c.deref.ensures.value, entry after) (λ some. c.self.invariant.chained.before_fit c.args.r c.requires.some
+          (low after) some),
     )
 
 pub returns : goal.returns
@@ -26,8 +27,11 @@ returns c =
     let after = (goal.at.returns c).After-deref in
     let tag : c.index-entry.result.now.tag ≡ tag_at (tags_of c.self.inside.entries.items) c.args.r =
     ap (λ x. x.tag) (entry after) ∙ sym (tag_is c.self.inside.entries.items c.args.r) in
-    let down : IsLast (tags_of c.self.inside.entries.items) c.index-entry.result.now.tag (c.index-entry.result.now.before + 1) c.down.result =
-    subst (λ entries. IsLast (tags_of entries) c.index-entry.result.now.tag (c.index-entry.result.now.before + 1) c.down.result) c.deref.ensures.value c.down.ensures in
+    let down : IsLast (tags_of c.self.inside.entries.items) c.index-entry.result.now.tag
+    (c.index-entry.result.now.before + 1) c.down.result =
+    subst (λ entries. IsLast (tags_of entries) c.index-entry.result.now.tag (c.index-entry.result.now.before + 1)
+    c.down.result) c.deref.ensures.value c.down.ensures in
     subst (λ tags. IsLast tags (tag_at tags c.args.r) c.args.r c.down.result) c.self.view_is
     (before_is c.self.invariant c.requires.some (low after) (ap (λ x. x.before) (entry after))
-    (subst (λ tag. IsLast (tags_of c.self.inside.entries.items) tag (c.index-entry.result.now.before + 1) c.down.result) tag down))
+    (subst (λ tag. IsLast (tags_of c.self.inside.entries.items) tag (c.index-entry.result.now.before + 1) c.down.result)
+    tag down))

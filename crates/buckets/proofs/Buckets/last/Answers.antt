@@ -24,8 +24,10 @@ down-requires-clause-chain c =
     let after = (goal.at.down-requires-clause-chain c).After-deref in (
       c.self.inside.heads.items,
       rw (c.deref.ensures.value) c.self.invariant,
-      rw (c.deref.ensures.value) (λ some. ap (entry_bucket c.self.inside.entries.items c.self.inside.heads.items) (head after)
-          ∙ c.self.invariant.chained.heads_fit c.bucket.result (low after) (omega (arith, some, head after)) ∙ at_b after),
+      rw (c.deref.ensures.value) (λ some. ap (entry_bucket c.self.inside.entries.items c.self.inside.heads.items)
+          (head after)
+          ∙ c.self.invariant.chained.heads_fit c.bucket.result (low after) (omega (arith, some, head after))
+          ∙ at_b after),
     )
 
 pub returns : goal.returns
@@ -33,4 +35,5 @@ returns c =
     let after = (goal.at.returns c).After-deref in
     subst (λ tags. IsLast tags c.args.tag (length tags) c.down.result) c.self.view_is
     (last_is c.self.invariant (at_b after) (low after) (head after)
-    (subst (λ entries. IsLast (tags_of entries) c.args.tag (c.index-first.result.now + 1) c.down.result) c.deref.ensures.value c.down.ensures))
+    (subst (λ entries. IsLast (tags_of entries) c.args.tag (c.index-first.result.now + 1) c.down.result)
+    c.deref.ensures.value c.down.ensures))

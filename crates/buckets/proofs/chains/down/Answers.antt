@@ -7,13 +7,18 @@ use Rattle.buckets.proofs.chains.down.Goals as goal
 pub loop-r-init : goal.loop-r-init
 loop-r-init c =
     let chain = c.requires.chain in
-    record { heads = chain.0; buckets = chain.1; sought = record { below = omega arith; fits = chain.2; above = λ q high in' is. absurd (omega arith) } }
+    record {
+      heads = chain.0;
+      buckets = chain.1;
+      sought = record { below = omega arith; fits = chain.2; above = λ q high in' is. absurd (omega arith) };
+    }
 
 pub loop-r-preserved : goal.loop-r-preserved
 loop-r-preserved c =
     let up = c.loop-r.invariant in
     let next =
-    IsSought-next up.buckets.chained (λ q e. ap (bucket_of_tag (length up.heads)) (sym (tag_is c.args.entries.now q) ∙ e))
+    IsSought-next up.buckets.chained (λ q e. ap (bucket_of_tag (length up.heads))
+    (sym (tag_is c.args.entries.now q) ∙ e))
     (let within = c.requires.within in omega arith) up.sought (let some = c.loop-r-test.true in omega arith)
     (λ e. c.if-entry-tag.false (sym (tag_is c.args.entries.now c.loop-r.r) ∙ e)) in
     record { heads = up.heads; buckets = up.buckets; sought = next }

@@ -8,7 +8,8 @@ abbrev pub invariant-loop-r : goal.invariant-loop-r
 invariant-loop-r l = record {
   heads : List ℕ;
   buckets : AreBuckets heads l.entries;
-  sought : IsSought (entry_bucket l.entries heads) (bucket_of_tag (length heads) l.tag) (l.fn.first + 1) (λ q. tag_at (tags_of l.entries) q ≡ l.tag) l.r;
+  sought : IsSought (entry_bucket l.entries heads) (bucket_of_tag (length heads) l.tag) (l.fn.first + 1)
+      (λ q. tag_at (tags_of l.entries) q ≡ l.tag) l.r;
 }
 
 abbrev pub decreases-loop-r : goal.decreases-loop-r

@@ -16,16 +16,19 @@ module _ (c : After-truncate) where
   one_more = omega (arith, count, c.requires.more)
 
   entry : entry_at c.args.entries.now.items (c.len.result - 1) ≡ c.index-entry.result.now
-  entry = sym (get_or_read c.args.entries.now.items _ _ (omega (arith, count, c.requires.more)) c.index-entry.ensures entry_of_none)
+  entry = sym (get_or_read c.args.entries.now.items _ _ (omega (arith, count, c.requires.more))
+      c.index-entry.ensures entry_of_none)
 
   pub left : c.truncate.new.self.items ≡ take (c.len.result - 1) c.args.entries.now.items
   left = c.truncate.ensures.items ∙ ap (λ n. take (n - 1) c.args.entries.now.items) as_many
 
-  pub taken : AreBuckets (set c.args.heads.now c.bucket.result c.index-entry.result.now.before) c.truncate.new.self.items
+  pub taken : AreBuckets (set c.args.heads.now c.bucket.result c.index-entry.result.now.before)
+      c.truncate.new.self.items
   taken =
       subst (λ x. AreBuckets (set c.args.heads.now c.bucket.result x.before) c.truncate.new.self.items) entry
       (subst (AreBuckets _) (sym left)
-      (AreBuckets-pop c.args.heads.now c.args.entries.now.items (c.len.result - 1) c.bucket.result c.requires.buckets one_more
+      (AreBuckets-pop c.args.heads.now c.args.entries.now.items (c.len.result - 1) c.bucket.result
+      c.requires.buckets one_more
       (omega (arith, count, c.requires.more)) c.bucket.ensures.below
       (c.bucket.ensures.value ∙ ap (λ x. bucket_of_tag (length c.args.heads.now) x.tag) (sym entry))))
 

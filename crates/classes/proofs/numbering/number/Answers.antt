@@ -1,4 +1,5 @@
-use Rattle.std.proofs.Common.{◌≡◌, ◌∙◌, ◌↔◌, ℕ, ◌<◌, false, IsTrue, eqb, slice_index, set, replicate, ap, sym, subst, refl, arith}
+use Rattle.std.proofs.Common.{◌≡◌, ◌∙◌, ◌↔◌, ℕ, ◌<◌, false, IsTrue, eqb, slice_index, set, replicate, ap, sym, subst}
+use Rattle.std.proofs.Common.{refl, arith}
 use Rattle.std.proofs.lemmas.Bool.{eqb-true, eq-eqb}
 use Rattle.std.proofs.lemmas.List.{get_or_read, length-set, length-replicate}
 use Rattle.theory.specs.System.{System, Reachable}
@@ -6,7 +7,8 @@ use Rattle.theory.specs.declared.relation.Relation.{Relation}
 use Rattle.lts.specs.Lts.{system_of}
 use Rattle.classes.specs.Numbers.{AreClasses}
 use Rattle.classes.specs.declared.numbering.TheConstants.{NONE}
-use Rattle.classes.proofs.Classes.{CountingLaws, Laws, Taken, Taken-start, Taken-adds, Taken-end, TakesState-within, TakesState-few}
+use Rattle.classes.proofs.Classes.{CountingLaws, Laws, Taken, Taken-start, Taken-adds, Taken-end, TakesState-within}
+use Rattle.classes.proofs.Classes.{TakesState-few}
 use Rattle.classes.proofs.numbering.number.Given.{Over}
 use Rattle.classes.proofs.numbering.number.Goals as goal
 
@@ -44,18 +46,20 @@ set_first : (g : Over) (c : goal.In_ok-with_capacity-2 g) → set c.in_ok-by_blo
     ≡ set (replicate c.count.result NONE) (slice_index c.args.blocks c.args.l.now.first) 0
 set_first g c =
     ap (λ xs. set xs c.block.result 0) (c.in_ok-by_block.ensures.items_if_clones_equal (λ y e. e))
-    ∙ ap (λ b. set (replicate c.count.result NONE) b 0) (c.block.ensures ∙ ap (slice_index c.args.blocks) c.first-first.ensures)
+    ∙ ap (λ b. set (replicate c.count.result NONE) b 0) (c.block.ensures
+    ∙ ap (slice_index c.args.blocks) c.first-first.ensures)
 
 pub loop-s-init : goal.loop-s-init
 loop-s-init g c =
     let within : (t : ℕ) → t < c.args.l.now.states → slice_index c.args.blocks t < c.count.result =
     λ t l. c.count.ensures.below t (omega (arith, l, c.requires.blocks_long)) in
     record {
-      within = λ t l. let below = within t l in rw (set_first g c) (omega (arith, length-set {A = ℕ}, length-replicate {A = ℕ}, below));
+      within = λ t l. let below = within t l in
+          rw (set_first g c) (omega (arith, length-set {A = ℕ}, length-replicate {A = ℕ}, below));
       few = omega arith;
       laws = laws g c;
-      taken = λ rel classes.
-          Taken-start rel (system_of c.args.l.now) (slice_index c.args.blocks) (laws g c rel classes) c.count.result _ within
+      taken = λ rel classes. Taken-start rel (system_of c.args.l.now) (slice_index c.args.blocks) (laws g c rel classes)
+          c.count.result _ within
           (set_first g c) c.in_ok-with_capacity.ensures.items c.in_ok-with_capacity-2.ensures.items refl;
     }
 
@@ -81,11 +85,13 @@ loop-s-preserved g c =
         c.loop-s.invariant.few,
       );
       laws = c.loop-s.invariant.laws;
-      taken = λ rel classes. Taken-adds rel (system_of l) (slice_index c.args.blocks) (c.loop-s.invariant.laws rel classes) c.loop-s.s b
+      taken = λ rel classes. Taken-adds rel (system_of l) (slice_index c.args.blocks)
+          (c.loop-s.invariant.laws rel classes) c.loop-s.s b
           c.loop-s.taken c.add.new.self _ _ c.block-in-loop-s.ensures
           (is_first c.loop-s.s c.first-first.result l.first c.first-first.ensures)
           is_reached below (omega (arith, below, c.states-states.ensures.lts.in_range.few_states))
-          c.loop-s.invariant.few (c.loop-s.invariant.within c.loop-s.s below) (c.loop-s.invariant.taken rel classes) c.in_ok-add.ensures;
+          c.loop-s.invariant.few (c.loop-s.invariant.within c.loop-s.s below) (c.loop-s.invariant.taken rel classes)
+          c.in_ok-add.ensures;
     }
 
 pub returns : goal.returns

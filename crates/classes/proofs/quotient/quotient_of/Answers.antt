@@ -44,10 +44,12 @@ drops g c = subst (λ labels. IsDroppedLabel c.args.r labels c.dropped-dropped.r
 
 -- the members, and no more rows than all
 are : (g : Over) (c : In_ok-members g) →
-    AreMembers c.args.numbering.now.numbers.items c.sources-sources.result.now c.args.l.now.states c.in_ok-members.members.items
+    AreMembers c.args.numbering.now.numbers.items c.sources-sources.result.now c.args.l.now.states
+    c.in_ok-members.members.items
 are g c = rw (c.deref.ensures.value, c.states.ensures.value) at c.in_ok-members.ensures
 
-few : (g : Over) (c : In_ok-members g) → places_of c.args.l.now.places c.in_ok-members.members.items ≤ length c.args.l.now.places
+few : (g : Over) (c : In_ok-members g) →
+    places_of c.args.l.now.places c.in_ok-members.members.items ≤ length c.args.l.now.places
 few g c = omega (arith, (are g c).few c.args.l.now.places, c.rows_follow.ensures.all c.args.l.now c.known.ensures)
 
 pub new-rows-requires : goal.new-rows-requires
@@ -97,17 +99,22 @@ over-requires g c =
     let goals = goal.at.over-requires g c in
     let at = goals.After-dropped-dropped in
     let has = shown g goals.In_ok-shown in
-    let less : length c.in_ok-shown.shown ≤ length c.args.l.now.places = omega (arith, has.few, few g goals.In_ok-members) in
-    let parts = Parts-shown c.args.r c.args.l.now c.args.numbering.now c.sources-sources.result.now c.dropped-dropped.result c.in_ok-shown.shown
-    c.in_ok-members.members.items (laws g at) c.requires.numbering (enough g at) (drops g at) (are g goals.In_ok-members) has in
+    let less : length c.in_ok-shown.shown ≤ length c.args.l.now.places =
+    omega (arith, has.few, few g goals.In_ok-members) in
+    let parts = Parts-shown c.args.r c.args.l.now c.args.numbering.now c.sources-sources.result.now
+    c.dropped-dropped.result c.in_ok-shown.shown
+    c.in_ok-members.members.items (laws g at) c.requires.numbering (enough g at) (drops g at)
+    (are g goals.In_ok-members) has in
     quotient_in_range _ _ _ _ _ _ parts less
 
 pub returns-clause-quotient : goal.returns-clause-quotient
 returns-clause-quotient g c =
     let goals = goal.at.returns-clause-quotient g c in
     let at = goals.After-dropped-dropped in
-    let parts = Parts-shown c.args.r c.args.l.now c.args.numbering.now c.sources-sources.result.now c.dropped-dropped.result c.in_ok-shown.shown
-    c.in_ok-members.members.items (laws g at) c.requires.numbering (enough g at) (drops g at) (are g goals.In_ok-members) (shown g goals.In_ok-shown) in
+    let parts = Parts-shown c.args.r c.args.l.now c.args.numbering.now c.sources-sources.result.now
+    c.dropped-dropped.result c.in_ok-shown.shown
+    c.in_ok-members.members.items (laws g at) c.requires.numbering (enough g at) (drops g at)
+    (are g goals.In_ok-members) (shown g goals.In_ok-shown) in
     let built = c.over.ensures in
     IfOk-quotient _ _ _ _ _ _ parts c.args.l.now.labels refl
     c.over.result built.first built.states built.labels built.grouping
@@ -117,8 +124,10 @@ returns-clause-fewer_transitions g c =
     let goals = goal.at.returns-clause-fewer_transitions g c in
     let all = few g goals.In_ok-members in
     let has = shown g goals.In_ok-shown in
-    IfOk-weaker c.over.result (λ q. IsGrouping c.in_ok-shown.shown q.places) (λ q. length q.places ≤ length c.args.l.now.places)
-    (λ q grouping. omega (arith, length_permutation c.in_ok-shown.shown q.places grouping.same, has.few, all)) c.over.ensures.grouping
+    IfOk-weaker c.over.result (λ q. IsGrouping c.in_ok-shown.shown q.places)
+    (λ q. length q.places ≤ length c.args.l.now.places)
+    (λ q grouping. omega (arith, length_permutation c.in_ok-shown.shown q.places grouping.same, has.few, all))
+    c.over.ensures.grouping
 
 pub returns-in_err-shown-clause-visits : goal.returns-in_err-shown-clause-visits
 returns-in_err-shown-clause-visits g c =

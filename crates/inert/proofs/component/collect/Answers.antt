@@ -8,7 +8,12 @@ use Rattle.inert.proofs.component.collect.Goals.{in-Pair, in-Listed}
 
 pub loop-item-init : goal.loop-item-init
 loop-item-init c = record {
-  collected = rw (c.in_ok-reserve.ensures.items, c.in_ok-reserve-2.ensures.items, c.clear.ensures.items, c.clear-2.ensures.items) taken_none;
+  collected = rw (
+    c.in_ok-reserve.ensures.items,
+    c.in_ok-reserve-2.ensures.items,
+    c.clear.ensures.items,
+    c.clear-2.ensures.items,
+  ) taken_none;
   numbers_room = search rules;
   pairs_room = search rules;
 }
@@ -37,4 +42,5 @@ loop-item-preserved c =
 pub returns : goal.returns
 returns c =
     let all = take_all c.loop-item.item-index c.args.items.now c.loop-item-test.false in
-    subst (λ items. AreCollected items c.loop-item.numbers.items c.loop-item.pairs.items) all c.loop-item.invariant.collected
+    subst (λ items. AreCollected items c.loop-item.numbers.items c.loop-item.pairs.items) all
+    c.loop-item.invariant.collected

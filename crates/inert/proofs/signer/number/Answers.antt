@@ -7,11 +7,17 @@ use Rattle.inert.proofs.signer.number.Goals.{then-numbers-s, else-numbers-s}
 
 pub loop-i-init : goal.loop-i-init
 loop-i-init c = record {
-  numbered = record { size = c.requires.size; ahead = λ j low h. refl; live_have = λ j h. absurd (omega (arith, h)); others = λ s. inr refl };
+  numbered = record {
+    size = c.requires.size;
+    ahead = λ j low h. refl;
+    live_have = λ j h. absurd (omega (arith, h));
+    others = λ s. inr refl;
+  };
 }
 
 -- what is shown of its new number
-shown : (c : goal.Joined-numbers-s) → ShowsNew (slice_index c.loop-i.numbers (slice_index c.args.live.now c.loop-i.i)) c.list-list.result c.if-numbers-s.numbers
+shown : (c : goal.Joined-numbers-s) → ShowsNew (slice_index c.loop-i.numbers (slice_index c.args.live.now c.loop-i.i))
+    c.list-list.result c.if-numbers-s.numbers
 shown c = elim c.if-numbers-s.branch [
   | then-numbers-s w ↦ inl (w.if-numbers-s.true, w.numbers-is)
   | else-numbers-s w ↦ inr (w.if-numbers-s.false, w.numbers-is)
@@ -24,5 +30,6 @@ loop-i-preserved c =
     record {
       numbered =
           numbered_more c.loop-i.invariant.numbered c.requires.live more c.if-numbers-s.numbers
-          (subst (λ n. ShowsNew (slice_index c.loop-i.numbers (slice_index live c.loop-i.i)) n c.if-numbers-s.numbers) (sym (ap number_of c.list-list.ensures)) (shown c));
+          (subst (λ n. ShowsNew (slice_index c.loop-i.numbers (slice_index live c.loop-i.i)) n c.if-numbers-s.numbers)
+          (sym (ap number_of c.list-list.ensures)) (shown c));
     }

@@ -1,4 +1,5 @@
-use Rattle.std.proofs.Common.{◌≡◌, ◌∙◌, ℕ, ◌+◌, ◌-◌, ◌<◌, ◌≤◌, List, length, slice_index, ap, sym, subst, inl, inr, arith}
+use Rattle.std.proofs.Common.{◌≡◌, ◌∙◌, ℕ, ◌+◌, ◌-◌, ◌<◌, ◌≤◌, List, length, slice_index, ap, sym, subst, inl, inr}
+use Rattle.std.proofs.Common.{arith}
 use Rattle.std.proofs.lemmas.Bool.{cases_lt, false≢true}
 use Rattle.std.proofs.lemmas.Result.{err_from_is_err_and}
 use Rattle.std.proofs.lemmas.Grind.{common_steps}
@@ -23,17 +24,21 @@ module _ (g : Over) (c : After-row-start g) where
   more : i < length c.args.live.now
   more = omega (arith, c.loop-i-test.true, c.loop-i.auto.i)
 
-  next : Comes c.args.lens.now.l c.args.live.now c.args.walk.now.stages i c.row-start.result.0 c.row-start.result.1 c.loop-i.to
+  next : Comes c.args.lens.now.l c.args.live.now c.args.walk.now.stages i c.row-start.result.0
+      c.row-start.result.1 c.loop-i.to
   next =
       let one : c.loop-i.i ≡ i + 1 = omega (arith, c.loop-i-test.true) in
       comes c.known.ensures.lts c.requires.live c.requires.awake more c.row-start.ensures
       (subst (λ n. IsBetween c.args.lens.now.l c.args.live.now n c.loop-i.to) one c.loop-i.invariant.between)
 
   -- those after it are finished, and so is it
-  all_on : {stages : List Stage} → KeepsSeen c.loop-i.walk.stages stages → (k : ℕ) × (stage_at stages (slice_index c.args.live.now i) ≡ Finished k)
-      → (j : ℕ) → i ≤ j → j < length c.args.live.now → (k : ℕ) × (stage_at stages (slice_index c.args.live.now j) ≡ Finished k)
+  all_on : {stages : List Stage} → KeepsSeen c.loop-i.walk.stages stages
+      → (k : ℕ) × (stage_at stages (slice_index c.args.live.now i) ≡ Finished k)
+      → (j : ℕ) → i ≤ j → j < length c.args.live.now
+      → (k : ℕ) × (stage_at stages (slice_index c.args.live.now j) ≡ Finished k)
   all_on {stages = stages} seen here j from h = elim (cases_lt i j) [
-    | inl after ↦ let was = c.loop-i.invariant.all j (omega (arith, after)) h in (was.0, seen.finished (slice_index c.args.live.now j) was.0 was.1)
+    | inl after ↦ let was = c.loop-i.invariant.all j (omega (arith, after)) h in
+        (was.0, seen.finished (slice_index c.args.live.now j) was.0 was.1)
     | inr last ↦
         let same : j ≡ i = omega (arith, from, last) in
         (here.0, ap (λ n. stage_at stages (slice_index c.args.live.now n)) same ∙ here.1)
@@ -105,13 +110,15 @@ returns-in_err-finish-clause-visits g c =
 pub visit-requires-2-clause-room : goal.visit-requires-2-clause-room
 visit-requires-2-clause-room g c =
     let inv = c.loop-i.invariant in
-    let first = first_passed c.known.ensures.lts c.requires.live c.requires.awake (omega (arith, c.loop-i-test.false)) inv.between in
+    let first = first_passed c.known.ensures.lts c.requires.live c.requires.awake
+    (omega (arith, c.loop-i-test.false)) inv.between in
     omega (arith, c.requires.room, inv.cost.rounds, inv.visits, first)
 
 pub returns-clause-visits : goal.returns-clause-visits
 returns-clause-visits g c =
     let inv = c.loop-i.invariant in
-    let first = first_passed c.known.ensures.lts c.requires.live c.requires.awake (omega (arith, c.loop-i-test.false)) inv.between in
+    let first = first_passed c.known.ensures.lts c.requires.live c.requires.awake
+    (omega (arith, c.loop-i-test.false)) inv.between in
     let none =
     none_unread c.known.ensures.lts c.requires.live c.loop-i.walk.stages inv.rests.numbers.size
     (others_on c.requires.awake inv.seen inv.rests.numbers.size)

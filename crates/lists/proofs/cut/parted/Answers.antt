@@ -10,4 +10,5 @@ returns c =
     let point =
     IsPartitionPoint-from_clause (λ z. ltb (as_number z) c.args.cut) list _ c.partition_point.ensures.partitioned
     (partitioned_keys list c.args.cut c.requires.rising c.requires.fit) (λ a r q k. search rules) in
-    rw (c.split_at.ensures.front, c.split_at.ensures.back) (parted_is list c.args.cut c.partition_point.result c.partition_point.ensures.bound point)
+    rw (c.split_at.ensures.front, c.split_at.ensures.back) (parted_is list c.args.cut c.partition_point.result
+    c.partition_point.ensures.bound point)

@@ -16,6 +16,7 @@ returns-in-Halved-shape-2 c =
     ap (list_of_shape lists) c.in-Halved-shape-2.is in
     let list = c.in-Halved.ensures.list in (
       λ t. list ∙ ap (λ h. list_at lists h.below ++ list_at lists h.above) (test.0 t) ∙ sym sought,
-      λ e. test.1 (halves_same lists c.known.ensures c.requires.different own other (halves_in lists c.known.ensures c.requires.different c.args.k own c.requires.list c.in-Halved.ensures)
+      λ e. test.1 (halves_same lists c.known.ensures c.requires.different own other
+          (halves_in lists c.known.ensures c.requires.different c.args.k own c.requires.list c.in-Halved.ensures)
           suits (sym list ∙ e ∙ sought)),
     )

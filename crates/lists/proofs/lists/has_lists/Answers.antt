@@ -6,17 +6,20 @@ use Rattle.lists.proofs.lists.has_lists.Goals as goal
 
 pub loop-j-preserved-then-j-k : goal.loop-j-preserved-then-j-k
 loop-j-preserved-then-j-k c i low z d = elim (cases_eq i c.loop-j.j-index) [
-  | inl e ↦ subst (λ j. Contains (list_at c.args.lists.now j) z) c.if-j-k.true (subst (λ n. Contains (list_at c.args.lists.now (slice_index c.args.numbers.now n)) z) e d)
+  | inl e ↦ subst (λ j. Contains (list_at c.args.lists.now j) z) c.if-j-k.true
+      (subst (λ n. Contains (list_at c.args.lists.now (slice_index c.args.numbers.now n)) z) e d)
   | inr n ↦ c.loop-j.invariant i (omega (arith, low, n)) z d
 ]
 
 pub loop-j-preserved : goal.loop-j-preserved
 loop-j-preserved c i low z d = elim (cases_eq i c.loop-j.j-index) [
-  | inl e ↦ c.has_list.ensures c.if-not-has_list.false z (subst (λ n. Contains (list_at c.args.lists.now (slice_index c.args.numbers.now n)) z) e d)
+  | inl e ↦ c.has_list.ensures c.if-not-has_list.false z
+      (subst (λ n. Contains (list_at c.args.lists.now (slice_index c.args.numbers.now n)) z) e d)
   | inr n ↦ c.loop-j.invariant i (omega (arith, low, n)) z d
 ]
 
 pub returns : goal.returns
 returns c t i d low z has =
     let end : c.loop-j.j-index ≡ length c.args.numbers.now = omega arith in
-    c.loop-j.invariant i (omega (arith, low, end)) z (subst (λ j. Contains (list_at c.args.lists.now j) z) (sym (get_or_default c.args.numbers.now i 0 d low)) has)
+    c.loop-j.invariant i (omega (arith, low, end)) z (subst (λ j. Contains (list_at c.args.lists.now j) z)
+    (sym (get_or_default c.args.numbers.now i 0 d low)) has)

@@ -4,4 +4,5 @@ use Rattle.lists.specs.Extended.{Includes}
 use Rattle.lists.proofs.lists.has_lists.Given as goal
 
 abbrev pub invariant-loop-j : goal.invariant-loop-j
-invariant-loop-j l = (i : ℕ) → i < l.j-index → Includes (list_at l.lists l.k) (list_at l.lists (slice_index l.numbers i))
+invariant-loop-j l =
+    (i : ℕ) → i < l.j-index → Includes (list_at l.lists l.k) (list_at l.lists (slice_index l.numbers i))

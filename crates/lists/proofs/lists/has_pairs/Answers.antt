@@ -7,7 +7,8 @@ use Rattle.lists.proofs.lists.has_pairs.Goals as goal
 
 pub loop-pair-preserved : goal.loop-pair-preserved
 loop-pair-preserved c i low = elim (cases_eq i c.loop-pair.pair-index) [
-  | inl e ↦ subst (λ n. Contains (list_at c.args.lists.now c.args.k) (slice_index_or c.args.pairs.now n (0, 0))) (sym e) (c.has.ensures.0 c.if-not-has.false)
+  | inl e ↦ subst (λ n. Contains (list_at c.args.lists.now c.args.k) (slice_index_or c.args.pairs.now n (0, 0))) (sym e)
+      (c.has.ensures.0 c.if-not-has.false)
   | inr n ↦ c.loop-pair.invariant i (omega (arith, low, n))
 ]
 

@@ -9,7 +9,8 @@ use Rattle.lists.proofs.numbered.is_same.Goals.{After-known-2}
 
 pub returns-then-one-other-clause-same : goal.returns-then-one-other-clause-same
 returns-then-one-other-clause-same c =
-    let same = same_base c.args.bases.now.trie (parts_of c.args.one) (parts_of c.args.other) c.requires.one c.requires.other c.if-one-other.true in
+    let same = same_base c.args.bases.now.trie (parts_of c.args.one) (parts_of c.args.other) c.requires.one
+    c.requires.other c.if-one-other.true in
     (λ t. same.0 (c.are_same.ensures.0 t), λ e. c.are_same.ensures.1 (same.1 e))
 
 pub with-requires-2-clause-list : goal.with-requires-2-clause-list
@@ -24,18 +25,24 @@ within_new c =
     let longer = c.with-2.ensures.grow.longer in
     omega arith
 
-first_is : (c : After-known-2) → list_at c.with-2.new.trie c.in_ok-first.first ≡ extended c.args.bases.now.trie (parts_of c.args.one)
+first_is : (c : After-known-2) → list_at c.with-2.new.trie c.in_ok-first.first ≡ extended c.args.bases.now.trie
+    (parts_of c.args.one)
 first_is c =
     let same = c.with-2.ensures.grow.same c.in_ok-first.first c.in_ok-first.ensures.within in
-    whole_is c.args.bases.now.trie c.with-2.new.trie (parts_of c.args.one) c.in_ok-first.first c.known.ensures.stored c.known-2.ensures.stored c.requires.one
-    (within_new c) (subst (λ l. Unites l c.args.one.few.now (list_at c.args.bases.now.trie c.args.one.base)) (sym same) c.in_ok-first.ensures.exactly)
+    whole_is c.args.bases.now.trie c.with-2.new.trie (parts_of c.args.one) c.in_ok-first.first c.known.ensures.stored
+    c.known-2.ensures.stored c.requires.one
+    (within_new c) (subst (λ l. Unites l c.args.one.few.now (list_at c.args.bases.now.trie c.args.one.base)) (sym same)
+    c.in_ok-first.ensures.exactly)
 
-second_is : (c : After-known-2) → list_at c.with-2.new.trie c.in_ok-second.second ≡ extended c.args.bases.now.trie (parts_of c.args.other)
+second_is : (c : After-known-2) → list_at c.with-2.new.trie c.in_ok-second.second ≡ extended c.args.bases.now.trie
+    (parts_of c.args.other)
 second_is c =
     let same = c.with.ensures.grow.same c.args.other.base c.requires.other.base in
     let list = list_at c.with-2.new.trie c.in_ok-second.second in
-    whole_is c.args.bases.now.trie c.with-2.new.trie (parts_of c.args.other) c.in_ok-second.second c.known.ensures.stored c.known-2.ensures.stored
-    c.requires.other c.in_ok-second.ensures.within (subst (Unites list c.args.other.few.now) same c.in_ok-second.ensures.exactly)
+    whole_is c.args.bases.now.trie c.with-2.new.trie (parts_of c.args.other) c.in_ok-second.second
+    c.known.ensures.stored c.known-2.ensures.stored
+    c.requires.other c.in_ok-second.ensures.within (subst (Unites list c.args.other.few.now) same
+    c.in_ok-second.ensures.exactly)
 
 pub returns-clause-same : goal.returns-clause-same
 returns-clause-same c =
@@ -45,7 +52,8 @@ returns-clause-same c =
       λ t. sym one ∙ ap (list_at c.with-2.new.trie) (eqb-true c.in_ok-first.first c.in_ok-second.second t) ∙ two,
       λ e.
           eq-eqb c.in_ok-first.first c.in_ok-second.second
-          (c.known-2.ensures.different c.in_ok-first.first c.in_ok-second.second (within_new at) c.in_ok-second.ensures.within (one ∙ e ∙ sym two)),
+          (c.known-2.ensures.different c.in_ok-first.first c.in_ok-second.second (within_new at)
+          c.in_ok-second.ensures.within (one ∙ e ∙ sym two)),
     )
 
 pub returns-clause-grow : goal.returns-clause-grow

@@ -7,13 +7,15 @@ use Rattle.lists.proofs.unions.+list_of.Goals.{After-parted}
 
 pub cut-cut-requires : goal.cut-cut-requires
 cut-cut-requires t c =
-    first_before_last c.args.pairs.now c.requires.rising c.requires.fit (omega (arith, c.if-pairs-le-FEW.false)) c.key.result c.key-2.result
+    first_before_last c.args.pairs.now c.requires.rising c.requires.fit (omega (arith, c.if-pairs-le-FEW.false))
+    c.key.result c.key-2.result
     c.key.ensures c.key-2.ensures (omega (arith, c.if-pairs-le-FEW.false))
 
 -- the place is the list's cut
 at_cut : (t : ℕ) (c : After-parted t) → IsCut c.args.pairs.now c.cut-cut.result
 at_cut t c =
-    IsCut-place c.args.pairs.now c.requires.rising c.requires.fit (omega (arith, c.if-pairs-le-FEW.false)) c.key.result c.key-2.result
+    IsCut-place c.args.pairs.now c.requires.rising c.requires.fit (omega (arith, c.if-pairs-le-FEW.false))
+    c.key.result c.key-2.result
     c.key.ensures c.key-2.ensures c.cut-cut.ensures.0 c.cut-cut.result c.cut-cut.ensures.1
 
 pub list_of-requires : goal.list_of-requires
@@ -32,6 +34,7 @@ list_of-requires-2 t c =
 
 pub number-requires-2 : goal.number-requires-2
 number-requires-2 t c =
-    AreIn-parts c.list_of.new.trie c.list_of-2.new.trie _ c.args.pairs.now c.parted.result.0.now c.parted.result.1.now c.list_of-2.ensures.grow
+    AreIn-parts c.list_of.new.trie c.list_of-2.new.trie _ c.args.pairs.now c.parted.result.0.now c.parted.result.1.now
+    c.list_of-2.ensures.grow
     c.in_ok-below.ensures.within c.in_ok-below.ensures.list c.in_ok-above.ensures.within c.in_ok-above.ensures.list
     c.parted.ensures (at_cut t ((goal.at.number-requires-2 t c).After-parted)) (omega (arith, c.if-pairs-le-FEW.false))

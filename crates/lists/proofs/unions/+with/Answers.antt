@@ -33,18 +33,24 @@ with-requires-in-Halved t c =
     (omega arith, (omega arith, (parts_both _ _ _ _ is.pairs c.requires.rising c.requires.fit).1))
 
 -- the unions of both parts are the halves of the union
-united_in : (t : ℕ) (c : After-known-in-Halved t)
-    → let h : Halves = record { below = c.in_ok-below-in-Halved.below; above = c.in_ok-above-in-Halved.above; cut = c.pieces_with_pairs-pieces.result.cut } in
+united_in : (t : ℕ) (c : After-known-in-Halved t) → let h : Halves = record {
+  below = c.in_ok-below-in-Halved.below;
+  above = c.in_ok-above-in-Halved.above;
+  cut = c.pieces_with_pairs-pieces.result.cut;
+} in
     AreIn c.with-in-Halved.new.trie h
-    × Unites (list_at c.with-in-Halved.new.trie h.below ++ list_at c.with-in-Halved.new.trie h.above) c.args.pairs.now (list_at c.args.trie.now c.args.k)
+    × Unites (list_at c.with-in-Halved.new.trie h.below ++ list_at c.with-in-Halved.new.trie h.above) c.args.pairs.now
+    (list_at c.args.trie.now c.args.k)
 united_in t c =
     let pieces = c.pieces_with_pairs-pieces.result in
     let is = c.pieces_with_pairs-pieces.ensures c.args.trie.now c.known.ensures.stored c.in-Halved.ensures in
     let second = is.list.second in
     let low = c.requires.list in
-    AreIn-united c.with.new.trie c.with-in-Halved.new.trie _ c.known-in-Halved.ensures.stored c.with-in-Halved.ensures.grow c.in_ok-below-in-Halved.ensures.within
+    AreIn-united c.with.new.trie c.with-in-Halved.new.trie _ c.known-in-Halved.ensures.stored
+    c.with-in-Halved.ensures.grow c.in_ok-below-in-Halved.ensures.within
     c.in_ok-below-in-Halved.ensures.exactly c.in_ok-above-in-Halved.ensures.within
-    (subst (Unites (list_at c.with-in-Halved.new.trie c.in_ok-above-in-Halved.above) pieces.above.1.now) (c.with.ensures.grow.same pieces.above.0 (omega arith))
+    (subst (Unites (list_at c.with-in-Halved.new.trie c.in_ok-above-in-Halved.above) pieces.above.1.now)
+    (c.with.ensures.grow.same pieces.above.0 (omega arith))
     c.in_ok-above-in-Halved.ensures.exactly)
     is.pairs is.list.parted (c.known.ensures.stored.rise c.args.k _ low) (halved_long c.in-Halved.ensures) is.cut
 
@@ -63,7 +69,8 @@ returns-then-above-pieces-clause-exactly t c =
     subst (λ l. Unites l c.args.pairs.now (list_at lists c.args.k))
     ((λ i. list_at new (lower i) ++ list_at new (upper i))
     ∙ (λ i. grow.same pieces.below.0 (omega arith) i ++ grow.same pieces.above.0 (omega arith) i)
-    ∙ sym is.list.parted.joined ∙ sym (grow.same c.args.k low)) (united_in t ((goal.at.returns-then-above-pieces-clause-exactly t c).After-known-in-Halved)).1
+    ∙ sym is.list.parted.joined ∙ sym (grow.same c.args.k low))
+    (united_in t ((goal.at.returns-then-above-pieces-clause-exactly t c).After-known-in-Halved)).1
 
 pub number-requires : goal.number-requires
 number-requires t c = (united_in t ((goal.at.number-requires t c).After-known-in-Halved)).0
@@ -71,7 +78,8 @@ number-requires t c = (united_in t ((goal.at.number-requires t c).After-known-in
 pub returns-else-below-pieces-clause-exactly : goal.returns-else-below-pieces-clause-exactly
 returns-else-below-pieces-clause-exactly t c =
     let both = (united_in t ((goal.at.returns-else-below-pieces-clause-exactly t c).After-known-in-Halved)).1 in
-    IfOk-weaker c.number.result _ _ (λ i e. subst (λ l. Unites l c.args.pairs.now (list_at c.args.trie.now c.args.k)) (sym e) both) c.number.ensures.list
+    IfOk-weaker c.number.result _ _ (λ i e. subst (λ l. Unites l c.args.pairs.now (list_at c.args.trie.now c.args.k))
+    (sym e) both) c.number.ensures.list
 
 pub returns-else-below-pieces-clause-grow : goal.returns-else-below-pieces-clause-grow
 returns-else-below-pieces-clause-grow t c = Grow-twice (Grow-twice c.with.ensures.grow c.with-in-Halved.ensures.grow)
@@ -79,11 +87,13 @@ returns-else-below-pieces-clause-grow t c = Grow-twice (Grow-twice c.with.ensure
 
 -- the list is put together with the pairs
 both_are : (t : ℕ) (c : After-deref t) → c.deref.result.now ≡ merged (list_at c.args.trie.now c.args.k) c.args.pairs.now
-both_are t c = c.deref.ensures.value ∙ c.in_ok-append_merged-in-Whole.ensures.appended ∙ (λ i. c.clear.ensures.items i ++ merged (c.in-Whole.ensures.0 i) c.args.pairs.now)
+both_are t c = c.deref.ensures.value ∙ c.in_ok-append_merged-in-Whole.ensures.appended
+    ∙ (λ i. c.clear.ensures.items i ++ merged (c.in-Whole.ensures.0 i) c.args.pairs.now)
 
 pub list_of-requires-in-Whole-clause-rising : goal.list_of-requires-in-Whole-clause-rising
 list_of-requires-in-Whole-clause-rising t c =
-    subst (IsStrictlySortedBy pair_cmp) (sym (both_are t ((goal.at.list_of-requires-in-Whole-clause-rising t c).After-deref)))
+    subst (IsStrictlySortedBy pair_cmp)
+    (sym (both_are t ((goal.at.list_of-requires-in-Whole-clause-rising t c).After-deref)))
     (merged_rises _ _ (c.known.ensures.stored.rise c.args.k _ c.requires.list) c.requires.rising)
 
 pub list_of-requires-in-Whole-clause-fit : goal.list_of-requires-in-Whole-clause-fit
@@ -97,7 +107,8 @@ list_of-requires-in-Whole-clause-fit t c = λ z d.
 pub returns-in_ok-append_merged-in-Whole-clause-exactly : goal.returns-in_ok-append_merged-in-Whole-clause-exactly
 returns-in_ok-append_merged-in-Whole-clause-exactly t c =
     let both = both_are t ((goal.at.returns-in_ok-append_merged-in-Whole-clause-exactly t c).After-deref) in
-    IfOk-weaker c.list_of-in-Whole.result _ _ (λ i e. unites_merged _ (list_at c.args.trie.now c.args.k) c.args.pairs.now (e ∙ both)) c.list_of-in-Whole.ensures.list
+    IfOk-weaker c.list_of-in-Whole.result _ _ (λ i e. unites_merged _ (list_at c.args.trie.now c.args.k)
+    c.args.pairs.now (e ∙ both)) c.list_of-in-Whole.ensures.list
 
 pub returns-then-has_all-clause-exactly : goal.returns-then-has_all-clause-exactly
 returns-then-has_all-clause-exactly t c =

@@ -6,7 +6,8 @@ pub returns : goal.returns
 returns c = λ lists stored first second.
     let bit = c.cut-cut.ensures.0 in
     let place =
-    placed c.cut-cut.ensures.1 (ends_halves _ _ (halved_cut first)) (ends_halves _ _ (halved_cut second)) (omega (arith, c.min.ensures)) c.max.ensures in
+    placed c.cut-cut.ensures.1 (ends_halves _ _ (halved_cut first)) (ends_halves _ _ (halved_cut second))
+    (omega (arith, c.min.ensures)) c.max.ensures in
     record {
       first = c.split-below.ensures lists stored first bit place.0;
       second = c.split-under.ensures lists stored second bit place.1.0;

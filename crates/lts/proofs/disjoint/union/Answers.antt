@@ -4,21 +4,25 @@ use Rattle.std.proofs.lemmas.Result.{err_from_is_err_and}
 use Rattle.theory.specs.Union.{union_of, shifted}
 use Rattle.lts.specs.Lts.{transition_of, system_of, grouped, IsTriple}
 use Rattle.lts.specs.Joining.{IsJoined}
-use Rattle.lts.proofs.Joining.{IsJoined-none, AddsShifted-both, length-AddsShifted, IfOk-union-system, IfOk-union-carried, no_visit, both_visited, refused}
+use Rattle.lts.proofs.Joining.{IsJoined-none, AddsShifted-both, length-AddsShifted, IfOk-union-system}
+use Rattle.lts.proofs.Joining.{IfOk-union-carried, no_visit, both_visited, refused}
 use Rattle.lts.proofs.disjoint.union.Given.{Over}
 use Rattle.lts.proofs.disjoint.union.Goals as goal
 use Rattle.lts.proofs.disjoint.union.Goals.{In_ok-append}
 
-joined : (g : Over) (c : goal.After-drop-joined-2 g) → IsJoined c.append-2.new.self.labels (c.args.a.now.states + c.args.b.now.states) c.append-2.new.self.triples.items
+joined : (g : Over) (c : goal.After-drop-joined-2 g) →
+    IsJoined c.append-2.new.self.labels (c.args.a.now.states + c.args.b.now.states) c.append-2.new.self.triples.items
 joined g c = subst (λ n. IsJoined c.append-2.new.self.labels (n + c.args.b.now.states)
     c.append-2.new.self.triples.items) c.states-shift.ensures.value c.in_ok-append-2.ensures.joined
 
 both : (g : Over) (c : goal.After-drop-joined-2 g) →
-    map (transition_of c.append-2.new.self.labels) c.append-2.new.self.triples.items ≡ (union_of (system_of c.args.a.now) (system_of c.args.b.now)).transitions
+    map (transition_of c.append-2.new.self.labels) c.append-2.new.self.triples.items
+    ≡ (union_of (system_of c.args.a.now) (system_of c.args.b.now)).transitions
 both g c =
     AddsShifted-both c.states-shift.result (system_of c.args.a.now).transitions (system_of c.args.b.now).transitions
     c.new.result c.append.new.self.labels c.append-2.new.self.labels
-    c.in_ok-with_capacity.field-0.items c.append.new.self.triples.items c.append-2.new.self.triples.items c.in_ok-with_capacity.ensures.items c.in_ok-append.ensures.added c.in_ok-append-2.ensures.added
+    c.in_ok-with_capacity.field-0.items c.append.new.self.triples.items c.append-2.new.self.triples.items
+    c.in_ok-with_capacity.ensures.items c.in_ok-append.ensures.added c.in_ok-append-2.ensures.added
     ∙ ap (λ n. (system_of c.args.a.now).transitions ++ map (shifted n) (system_of c.args.b.now).transitions)
     c.states-shift.ensures.value
 
@@ -26,19 +30,24 @@ sum_of_states : (g : Over) (c : goal.After-drop-joined-2 g) →
     c.states.result + c.states-2.result ≡ c.args.a.now.states + c.args.b.now.states
 sum_of_states g c = let a = c.states.ensures.value in let b = c.states-2.ensures.value in omega arith
 
-places : (g : Over) (c : goal.After-drop-joined-2 g) → IfOk c.build.result (λ s. s.places ≡ grouped (c.args.a.now.states + c.args.b.now.states) c.append-2.new.self.triples.items)
-places g c = subst (λ n. IfOk c.build.result (λ s. s.places ≡ grouped n c.append-2.new.self.triples.items)) (sum_of_states g c) c.build.ensures.places
+places : (g : Over) (c : goal.After-drop-joined-2 g) →
+    IfOk c.build.result (λ s. s.places ≡ grouped (c.args.a.now.states + c.args.b.now.states)
+    c.append-2.new.self.triples.items)
+places g c = subst (λ n. IfOk c.build.result (λ s. s.places ≡ grouped n c.append-2.new.self.triples.items))
+    (sum_of_states g c) c.build.ensures.places
 
 pub returns-clause-system : goal.returns-clause-system
 returns-clause-system g c =
-    IfOk-union-system c.args.a.now c.args.b.now c.append-2.new.self.labels c.append-2.new.self.triples.items c.edges.ensures.lts c.edges-2.ensures.lts (joined g c) (both g c)
+    IfOk-union-system c.args.a.now c.args.b.now c.append-2.new.self.labels c.append-2.new.self.triples.items
+    c.edges.ensures.lts c.edges-2.ensures.lts (joined g c) (both g c)
     c.build.result (subst (λ x. IfOk c.build.result (λ s. s.first ≡ x)) c.first.ensures c.build.ensures.first)
     (subst (λ n. IfOk c.build.result (λ s. s.states ≡ n)) (sum_of_states g c) c.build.ensures.states)
     c.build.ensures.labels (places g c)
 
 pub returns-clause-labels : goal.returns-clause-labels
 returns-clause-labels g c =
-    IfOk-union-carried c.args.a.now c.args.b.now c.append-2.new.self.labels c.append-2.new.self.triples.items c.edges.ensures.lts c.edges-2.ensures.lts (joined g c) (both g c)
+    IfOk-union-carried c.args.a.now c.args.b.now c.append-2.new.self.labels c.append-2.new.self.triples.items
+    c.edges.ensures.lts c.edges-2.ensures.lts (joined g c) (both g c)
     c.build.result c.build.ensures.labels (places g c)
 
 -- what the calls ask for

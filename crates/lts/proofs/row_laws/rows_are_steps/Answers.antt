@@ -13,14 +13,19 @@ returns-clause-sources c = row_of-contains
 pub returns-clause-numbered : goal.returns-clause-numbered
 returns-clause-numbered c = λ l s a t h step.
     let e = mapped_contains (transition_of l.labels) l.places (record { source = s; label = a; target = t }) step in
-    let triple : IsTriple (length l.labels) l.states e.0 = All-contains (IsTriple (length l.labels) l.states) l.places e.0 h.in_range.each e.1 in
+    let triple : IsTriple (length l.labels) l.states e.0 =
+    All-contains (IsTriple (length l.labels) l.states) l.places e.0 h.in_range.each e.1 in
     (label_of e.0, record { below = triple.label; text = ap (λ x. x.label) e.2 })
 
 pub returns-clause-steps : goal.returns-clause-steps
 returns-clause-steps c = λ l s a t. (
   λ step.
-      let h = mapped_contains (transition_of l.labels) l.places (record { source = s; label = a; target = t }) step in
-      (h.0, (row_of-contains s l.places h.0).1 (h.1, ap (λ x. x.source) h.2), ap (λ x. x.label) h.2, ap (λ x. x.target) h.2),
+      let h = mapped_contains (transition_of l.labels) l.places (record { source = s; label = a; target = t }) step in (
+        h.0,
+        (row_of-contains s l.places h.0).1 (h.1, ap (λ x. x.source) h.2),
+        ap (λ x. x.label) h.2,
+        ap (λ x. x.target) h.2,
+      ),
   λ row.
       let h = (row_of-contains s l.places row.0).0 row.1 in
       subst (λ x. Step (system_of l) x a t) h.1

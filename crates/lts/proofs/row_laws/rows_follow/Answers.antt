@@ -16,7 +16,8 @@ returns-clause-up c = before-mono
 pub returns-clause-all : goal.returns-clause-all
 returns-clause-all c = λ l h.
     before-all l.states l.places
-    (All-weaker (IsTriple (length l.labels) l.states) (λ e. source_of e < l.states) (λ e x. x.source) l.places h.in_range.each)
+    (All-weaker (IsTriple (length l.labels) l.states) (λ e. source_of e < l.states) (λ e x. x.source) l.places
+    h.in_range.each)
 
 pub returns-clause-inside : goal.returns-clause-inside
 returns-clause-inside c = row-more

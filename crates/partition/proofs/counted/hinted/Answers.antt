@@ -23,7 +23,10 @@ loop-i-preserved c =
             among = λ s one. w.in_ok-take.ensures.old s (inv.among s one);
             each = λ t one. elim (w.in_ok-take.ensures.each t one) [
               | inl was ↦ inv.each t was
-              | inr here ↦ inr (here.0, subst (OthersLose c.args.counts.now) (sym here.1) (c.others_lose.ensures.0 w.if-others_lose.true))
+              | inr here ↦ inr (
+                here.0,
+                subst (OthersLose c.args.counts.now) (sym here.1) (c.others_lose.ensures.0 w.if-others_lose.true),
+              )
             ];
           })
       | else-others_lose w ↦ rw (w.wide-is) (record { among = inv.among; each = inv.each })
@@ -39,8 +42,10 @@ returns c =
     let each = c.loop-i.invariant.each in
     record {
       rising =
-          left_rising wide sorted left permutation is (length c.args.of.now) (IsStrictlyIncreasing-dedup sorted c.sort_unstable.ensures.sorted)
+          left_rising wide sorted left permutation is (length c.args.of.now)
+          (IsStrictlyIncreasing-dedup sorted c.sort_unstable.ensures.sorted)
           (λ s one. elim (each s one) [ inl is ↦ omega (arith, is.2, c.requires.live.below is.0 is.1) | inr w ↦ w.0 ]);
       among = λ s one. is_one wide sorted left permutation is s (c.loop-i.invariant.among s one);
-      each = λ s one. elim (each s (was_one wide sorted left permutation is s one)) [ inl is ↦ inl is | inr w ↦ inr w.1 ];
+      each =
+          λ s one. elim (each s (was_one wide sorted left permutation is s one)) [ inl is ↦ inl is | inr w ↦ inr w.1 ];
     }

@@ -2,7 +2,8 @@ use Rattle.std.proofs.Common.{◌≡◌, ◌∙◌, ◌<◌, length, slice_index
 use Rattle.std.proofs.lemmas.Bool.{false≢true}
 use Rattle.partition.proofs.Widening.{wide_next, wide_with, wide_without, wide_among, wide_rising, wide_more}
 use Rattle.partition.proofs.counted.scanned.Goals as goal
-use Rattle.partition.proofs.counted.scanned.Goals.{else-k-live-via-then-k-live+else-live-k, else-k-live-via-else-k-live, then-others_lose+in_ok-push-2, else-others_lose}
+use Rattle.partition.proofs.counted.scanned.Goals.{else-k-live-via-then-k-live+else-live-k, else-k-live-via-else-k-live}
+use Rattle.partition.proofs.counted.scanned.Goals.{then-others_lose+in_ok-push-2, else-others_lose}
 
 pub loop-s-preserved-then-live-k : goal.loop-s-preserved-then-live-k
 loop-s-preserved-then-live-k c =

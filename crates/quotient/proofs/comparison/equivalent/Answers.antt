@@ -13,8 +13,10 @@ returns-clause-verdict g c =
     let blocks = slice_index c.in_ok-blocks.blocks in
     let decides = c.the_union_decides_equivalence.ensures in
     let same = decides.same U _ c.in_ok-both.ensures.system in
-    let law = decides.blocks c.args.r A B U blocks c.known.ensures.system c.known-2.ensures.system same c.in_ok-blocks.ensures.classes in
-    let at : c.states.result + c.first-2.result ≡ A.states + B.first = omega (arith, c.states.ensures.value, c.first-2.ensures) in
+    let law = decides.blocks c.args.r A B U blocks c.known.ensures.system c.known-2.ensures.system same
+    c.in_ok-blocks.ensures.classes in
+    let at : c.states.result + c.first-2.result ≡ A.states + B.first =
+    omega (arith, c.states.ensures.value, c.first-2.ensures) in
     same_decides _ _ _ _ (c.block-first.ensures ∙ ap blocks c.first.ensures) (c.block-second.ensures ∙ ap blocks at) law
 
 pub returns-in_err-blocks-clause-keeps : goal.returns-in_err-blocks-clause-keeps
@@ -22,11 +24,13 @@ returns-in_err-blocks-clause-keeps g c =
     let begun = c.in_err-blocks.ensures.err in
     let exit = err_from_is_err_and c.from_residual-in_err-blocks.result c.from_residual-in_err-blocks.ensures.1 in
     rw (exit.1)
-    (compared_keeps c.args.a.now c.args.b.now c.in_ok-both.both c.in_ok-both.ensures.system _ _ _ c.requires.fresh c.in_ok-both.ensures.visits
+    (compared_keeps c.args.a.now c.args.b.now c.in_ok-both.both c.in_ok-both.ensures.system _ _ _ c.requires.fresh
+    c.in_ok-both.ensures.visits
     begun.0 begun.1 0 0 begun.2 (omega arith))
 
 pub returns-clause-keeps : goal.returns-clause-keeps
 returns-clause-keeps g c =
     let turns = c.in_ok-blocks.ensures.turns in
-    rounds_keep c.args.a.now c.args.b.now c.in_ok-both.both c.in_ok-both.ensures.system _ _ _ c.requires.fresh c.in_ok-both.ensures.visits
+    rounds_keep c.args.a.now c.args.b.now c.in_ok-both.both c.in_ok-both.ensures.system _ _ _ c.requires.fresh
+    c.in_ok-both.ensures.visits
     turns.0 turns.1 turns.3

@@ -8,24 +8,28 @@ use Rattle.quotient.proofs.minimisation.minimise.Goals as goal
 pub returns-clause-equivalent : goal.returns-clause-equivalent
 returns-clause-equivalent g c =
     IfOk-weaker c.quotient_of.result _ _
-    (λ q h. c.quotient_is_equivalent.ensures c.args.r (system_of c.args.l.now) (system_of q) c.known.ensures.system h) c.quotient_of.ensures.quotient
+    (λ q h. c.quotient_is_equivalent.ensures c.args.r (system_of c.args.l.now) (system_of q) c.known.ensures.system h)
+    c.quotient_of.ensures.quotient
 
 pub returns-clause-no_two_bisimilar : goal.returns-clause-no_two_bisimilar
 returns-clause-no_two_bisimilar g c =
     IfOk-weaker c.quotient_of.result _ _
-    (λ q h s t b. c.quotient_states_differ.ensures c.args.r (system_of c.args.l.now) (system_of q) s t c.known.ensures.system h b) c.quotient_of.ensures.quotient
+    (λ q h s t b. c.quotient_states_differ.ensures c.args.r (system_of c.args.l.now) (system_of q) s t
+    c.known.ensures.system h b) c.quotient_of.ensures.quotient
 
 pub returns-clause-smallest : goal.returns-clause-smallest
 returns-clause-smallest g c =
     IfOk-weaker c.quotient_of.result _ _
-    (λ q h B sys same. c.no_smaller_system.ensures c.args.r (system_of c.args.l.now) (system_of q) B c.known.ensures.system sys h same) c.quotient_of.ensures.quotient
+    (λ q h B sys same. c.no_smaller_system.ensures c.args.r (system_of c.args.l.now) (system_of q) B
+    c.known.ensures.system sys h same) c.quotient_of.ensures.quotient
 
 pub returns-clause-no_larger : goal.returns-clause-no_larger
 returns-clause-no_larger g c =
     let A = system_of c.args.l.now in
     let sys = c.known.ensures.system in
     let same = c.bisimilarity_is_an_equivalence.ensures.reflexive c.args.r A A.first sys sys.first in
-    IfOk-weaker c.quotient_of.result _ _ (λ q h. (c.no_smaller_system.ensures c.args.r A (system_of q) A sys sys h.0 same, h.1))
+    IfOk-weaker c.quotient_of.result _ _
+    (λ q h. (c.no_smaller_system.ensures c.args.r A (system_of q) A sys sys h.0 same, h.1))
     (IfOk-both c.quotient_of.result _ _ c.quotient_of.ensures.quotient c.quotient_of.ensures.fewer_transitions)
 
 pub blocks-requires : goal.blocks-requires
@@ -34,7 +38,11 @@ blocks-requires g c = record { room = room_at_first c.args.l.now c.known.ensures
 pub reachable-requires : goal.reachable-requires
 reachable-requires g c =
     let turns = c.in_ok-blocks.ensures.turns in
-    record { room = room_after c.args.l.now c.known.ensures turns.0 _ turns.1 (omega (arith, turns.3.rounds, c.requires.fresh.no_rounds)) (omega (arith, turns.3.at_most, c.requires.fresh.no_visits)) }
+    record {
+      room = room_after c.args.l.now c.known.ensures turns.0 _ turns.1
+          (omega (arith, turns.3.rounds, c.requires.fresh.no_rounds))
+          (omega (arith, turns.3.at_most, c.requires.fresh.no_visits));
+    }
 
 pub quotient_of-requires-clause-room : goal.quotient_of-requires-clause-room
 quotient_of-requires-clause-room g c =
@@ -56,4 +64,5 @@ returns-in_err-numbering-clause-keeps g c =
 pub returns-clause-keeps : goal.returns-clause-keeps
 returns-clause-keeps g c =
     turns_keep c.quotient_of.result c.args.r c.args.l.now _ _ _ _ (omega arith)
-    c.requires.fresh c.in_ok-blocks.ensures.turns (visits_then _ _ _ _ _ c.reachable.ensures.visits c.quotient_of.ensures.visits)
+    c.requires.fresh c.in_ok-blocks.ensures.turns (visits_then _ _ _ _ _ c.reachable.ensures.visits
+    c.quotient_of.ensures.visits)

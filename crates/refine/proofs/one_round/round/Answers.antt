@@ -6,7 +6,8 @@ use Rattle.refine.proofs.Filling.{signed_is_split}
 use Rattle.refine.proofs.one_round.round.Goals as goal
 
 pub returns-in_err-fill-clause-err : goal.returns-in_err-fill-clause-err
-returns-in_err-fill-clause-err g c = let most = begun_up_to _ _ _ _ _ c.start_round.ensures c.fill.ensures.visits in search rules
+returns-in_err-fill-clause-err g c =
+    let most = begun_up_to _ _ _ _ _ c.start_round.ensures c.fill.ensures.visits in search rules
 
 pub returns-clause-states : goal.returns-clause-states
 returns-clause-states g c = IfOk-weaker c.split.result _ _ (λ q size. size ∙ c.requires.states) c.split.ensures.states
@@ -17,7 +18,8 @@ returns-clause-split g c =
     let size = c.requires.states in
     IfOk-weaker c.split.result _ _
     (λ q parted.
-    signed_is_split g.S.Signing.relation l (λ s a t. c.rows_are_steps.ensures.numbered l s a t c.known.ensures) c.args.p.now (signature_at c.fill.new.self) q
+    signed_is_split g.S.Signing.relation l (λ s a t. c.rows_are_steps.ensures.numbered l s a t c.known.ensures)
+    c.args.p.now (signature_at c.fill.new.self) q
     c.in_ok-fill.ensures.signed (λ s t ls lt. parted s t (omega (arith, ls, size)) (omega (arith, lt, size))))
     c.split.ensures.blocks
 

@@ -10,7 +10,8 @@ returns-in_err-push-clause-spans c =
 
 pub returns-in_err-push-clause-err : goal.returns-in_err-push-clause-err
 returns-in_err-push-clause-err c =
-    let same : lists_of c.extend_from_slice.new.self.items c.push.new.self.items ≡ lists_of c.args.pairs.now.items c.args.spans.now.items =
+    let same : lists_of c.extend_from_slice.new.self.items c.push.new.self.items
+    ≡ lists_of c.args.pairs.now.items c.args.spans.now.items =
     rw (c.in_ok-extend_from_slice.ensures.items, c.in_err-push.ensures.items)
     (lists_of-more c.args.pairs.now.items c.args.list.now c.args.spans.now.items c.requires.spans) in
     search rules
@@ -20,7 +21,8 @@ returns-clause-spans c =
     rw (c.in_ok-extend_from_slice.ensures.items, c.in_ok-push.ensures.items)
     (AreSpans-push c.args.pairs.now.items c.args.list.now c.args.spans.now.items _ c.requires.spans
     (omega (arith, c.len-start.ensures, c.args.pairs.now.ok.0))
-    (omega (arith, c.len.ensures, c.in_ok-extend_from_slice.ensures.len, c.args.pairs.now.ok.0)) c.requires.rising c.requires.few)
+    (omega (arith, c.len.ensures, c.in_ok-extend_from_slice.ensures.len, c.args.pairs.now.ok.0))
+    c.requires.rising c.requires.few)
 
 pub returns-clause-put : goal.returns-clause-put
 returns-clause-put c =

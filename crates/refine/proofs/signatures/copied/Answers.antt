@@ -7,11 +7,13 @@ use Rattle.refine.proofs.signatures.copied.Goals.{In_ok-extend_from_slice}
 
 -- the copy
 of : (c : In_ok-extend_from_slice) → c.extend_from_slice.new.self.items ≡ c.args.p.now
-of c = c.in_ok-extend_from_slice.ensures.items ∙ ap (λ xs. xs ++ c.blocks-2.result.now) c.new-of.ensures.items ∙ c.blocks-2.ensures.blocks
+of c = c.in_ok-extend_from_slice.ensures.items ∙ ap (λ xs. xs ++ c.blocks-2.result.now) c.new-of.ensures.items
+    ∙ c.blocks-2.ensures.blocks
 
 pub from_blocks-copy-requires : goal.from_blocks-copy-requires
 from_blocks-copy-requires c =
-    subst (λ xs. IsPartition xs c.count.result) (sym (of (goal.at.from_blocks-copy-requires c).In_ok-extend_from_slice)) c.count.ensures
+    subst (λ xs. IsPartition xs c.count.result) (sym (of (goal.at.from_blocks-copy-requires c).In_ok-extend_from_slice))
+    c.count.ensures
 
 pub new-requires : goal.new-requires
 new-requires c =
@@ -24,5 +26,8 @@ new-requires c =
 
 pub returns-clause-live : goal.returns-clause-live
 returns-clause-live c s h =
-    subst (λ live. IsOne live s) (sym c.new.ensures.live)
-    (s, omega (arith, h, c.in_ok-live.ensures.states, c.states.ensures.value), c.in_ok-live.ensures.each s (omega (arith, h, c.states.ensures.value)))
+    subst (λ live. IsOne live s) (sym c.new.ensures.live) (
+      s,
+      omega (arith, h, c.in_ok-live.ensures.states, c.states.ensures.value),
+      c.in_ok-live.ensures.each s (omega (arith, h, c.states.ensures.value)),
+    )

@@ -8,10 +8,12 @@ use Rattle.rounds.proofs.Spending.{begun_up_to}
 use Rattle.rounds.proofs.refinement.next_round.Goals as goal
 
 pub returns-in_err-signed-clause-err : goal.returns-in_err-signed-clause-err
-returns-in_err-signed-clause-err g c = let most = begun_up_to _ _ _ _ _ c.start_round.ensures c.sign_each.ensures.visits in search rules
+returns-in_err-signed-clause-err g c =
+    let most = begun_up_to _ _ _ _ _ c.start_round.ensures c.sign_each.ensures.visits in search rules
 
 pub returns-in_err-next-clause-err : goal.returns-in_err-next-clause-err
-returns-in_err-next-clause-err g c = let most = begun_up_to _ _ _ _ _ c.start_round.ensures c.sign_each.ensures.visits in search rules
+returns-in_err-next-clause-err g c =
+    let most = begun_up_to _ _ _ _ _ c.start_round.ensures c.sign_each.ensures.visits in search rules
 
 pub returns-clause-next : goal.returns-clause-next
 returns-clause-next g c =
@@ -20,6 +22,9 @@ returns-clause-next g c =
     let is = c.in_ok-signed.ensures.blocks in
     let labelled : Labelled l = λ s a t. c.rows_are_steps.ensures.numbered l s a t c.known.ensures in
     subst (λ p. IsNext rel l p c.in_ok-next.next) is
-    (is_next l c.known.ensures labelled c.rows_are_steps.ensures.sources (c.rows_are_steps.ensures.steps l) c.args.round c.in_ok-signed.signed c.in_ok-next.next
-    c.known-2.ensures.lists c.known-2.ensures.have (ap (λ p. length p.of) is ∙ c.requires.states) c.in_ok-next.ensures c.known-3.ensures.lists rel
-    (subst (λ p. Settled rel (system_of l) (slice_index p.of) p.low) (sym is) c.requires.settled) c.in_ok-signed.ensures.index c.in_ok-signed.ensures.signed)
+    (is_next l c.known.ensures labelled c.rows_are_steps.ensures.sources (c.rows_are_steps.ensures.steps l) c.args.round
+    c.in_ok-signed.signed c.in_ok-next.next
+    c.known-2.ensures.lists c.known-2.ensures.have (ap (λ p. length p.of) is ∙ c.requires.states) c.in_ok-next.ensures
+    c.known-3.ensures.lists rel
+    (subst (λ p. Settled rel (system_of l) (slice_index p.of) p.low) (sym is) c.requires.settled)
+    c.in_ok-signed.ensures.index c.in_ok-signed.ensures.signed)

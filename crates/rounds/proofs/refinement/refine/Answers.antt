@@ -1,4 +1,5 @@
-use Rattle.std.proofs.Common.{◌≡◌, ◌↔◌, ℕ, suc, ◌*◌, ◌<◌, List, [], ◌∷◌, length, slice_index, ap, sym, ◌∙◌, subst, subst₂, arith, rules}
+use Rattle.std.proofs.Common.{◌≡◌, ◌↔◌, ℕ, suc, ◌*◌, ◌<◌, List, [], ◌∷◌, length, slice_index, ap, sym, ◌∙◌, subst}
+use Rattle.std.proofs.Common.{subst₂, arith, rules}
 use Rattle.std.proofs.lemmas.Result.{IfOk-weaker}
 use Rattle.theory.specs.System.{System}
 use Rattle.theory.specs.Blocks.{Split, SameBlocks, Turns}
@@ -24,32 +25,40 @@ loop-before-init g c =
     let blocks = c.in_ok-blocks.ensures in
     let is = sym c.in_ok-round.ensures.blocks in
     let one = one_block A.states c.in_ok-blocks.blocks.of c.states.result (sym c.states.ensures.value) blocks.one in
-    let begun = c.refinement_goes_on.ensures.begun rel A (slice_index c.in_ok-blocks.blocks.of) c.states.ensures.lts.system one in
+    let begun = c.refinement_goes_on.ensures.begun rel A (slice_index c.in_ok-blocks.blocks.of)
+    c.states.ensures.lts.system one in
     record {
       states = subst (λ b. length b.of ≡ l.states) is (blocks.states ∙ c.states.ensures.value);
-      settled = subst (λ b. Settled rel A (slice_index b.of) b.low) is (subst (Settled rel A (slice_index c.in_ok-blocks.blocks.of)) (sym blocks.count.1) (settled_first rel A _));
+      settled = subst (λ b. Settled rel A (slice_index b.of) b.low) is
+          (subst (Settled rel A (slice_index c.in_ok-blocks.blocks.of)) (sym blocks.count.1) (settled_first rel A _));
       watches = watches_first rel l c.in_ok-round.round _ c.in_ok-round.ensures.nothing
           (ap (λ b. b.live) (sym is) ∙ blocks.live) c.in_ok-live.ensures.rows;
-      made = subst (λ b. Made rel l (g.M.Meter.counted c.args.m.now) (g.M.Meter.counted c.args.m.now) b.of) is (record { rounds = 0; past = []; were = one; halved = tt; underway = begun; costs = search rules });
+      made = subst (λ b. Made rel l (g.M.Meter.counted c.args.m.now) (g.M.Meter.counted c.args.m.now) b.of) is
+          (record { rounds = 0; past = []; were = one; halved = tt; underway = begun; costs = search rules });
     }
 
 pub one-requires-clause-live : goal.one-requires-clause-live
-one-requires-clause-live g c = subst (λ n. AreLive n c.in_ok-live.live.items) (sym c.states.ensures.value) c.in_ok-live.ensures.rising
+one-requires-clause-live g c =
+    subst (λ n. AreLive n c.in_ok-live.live.items) (sym c.states.ensures.value) c.in_ok-live.ensures.rising
 
 pub renumber-requires : goal.renumber-requires
 renumber-requires g c =
-    subst₂ AreBlocks (sym c.of.ensures.of) (ap (λ b. b.count) c.into_blocks-blocks.ensures ∙ sym c.count-more.ensures) c.of.ensures.blocks
+    subst₂ AreBlocks (sym c.of.ensures.of) (ap (λ b. b.count) c.into_blocks-blocks.ensures ∙ sym c.count-more.ensures)
+    c.of.ensures.blocks
 
 pub next_round-requires-clause-settled : goal.next_round-requires-clause-settled
 next_round-requires-clause-settled g c =
-    subst (λ b. Settled g.S.Signing.relation (system_of c.args.l.now) (slice_index b.of) b.low) (sym c.in_ok-before.ensures.blocks) c.loop-before.invariant.settled
+    subst (λ b. Settled g.S.Signing.relation (system_of c.args.l.now) (slice_index b.of) b.low)
+    (sym c.in_ok-before.ensures.blocks) c.loop-before.invariant.settled
 
 pub next_round-requires-clause-states : goal.next_round-requires-clause-states
-next_round-requires-clause-states g c = ap (λ b. length b.of) c.in_ok-before.ensures.blocks ∙ c.loop-before.invariant.states
+next_round-requires-clause-states g c = ap (λ b. length b.of) c.in_ok-before.ensures.blocks
+    ∙ c.loop-before.invariant.states
 
 pub next_round-requires-clause-watches : goal.next_round-requires-clause-watches
 next_round-requires-clause-watches g c =
-    watches_left g.S.Signing.relation c.args.l.now c.loop-before.round c.in_ok-before.before c.loop-before.invariant.states c.in_ok-before.ensures.same
+    watches_left g.S.Signing.relation c.args.l.now c.loop-before.round c.in_ok-before.before
+    c.loop-before.invariant.states c.in_ok-before.ensures.same
     c.in_ok-before.ensures.blocks c.in_ok-before.ensures.leaves c.loop-before.invariant.watches
 
 -- fewer rounds were made than there are states
@@ -71,37 +80,45 @@ returns-in_err-next-clause-err g c =
     let l = c.args.l.now in
     let made = c.loop-before.invariant.made in
     let below = few g (goal.at.returns-in_err-next-clause-err g c).After-count-count in
-    let most = costs_up_to_more (length l.places) l.states made.rounds _ _ made.costs (g.M.Meter.counted c.next_round.new.m) below
+    let most = costs_up_to_more (length l.places) l.states made.rounds _ _ made.costs
+    (g.M.Meter.counted c.next_round.new.m) below
     c.in_err-next.ensures.err in
     search rules
 
 -- the round was the last one
-turns : (g : Over) (c : Then-more-count g) → Turns g.S.Signing.relation (system_of c.args.l.now) (suc c.loop-before.invariant.made.rounds)
+turns : (g : Over) (c : Then-more-count g) →
+    Turns g.S.Signing.relation (system_of c.args.l.now) (suc c.loop-before.invariant.made.rounds)
 turns g c =
     let A = system_of c.args.l.now in
     let made = c.loop-before.invariant.made in
     let next = c.in_ok-next.ensures.next in
     let is = ap (λ r. r.of) c.in_ok-before.ensures.blocks in
-    c.refinement_goes_on.ensures.done g.S.Signing.relation A made.rounds (slice_index c.loop-before.round.blocks.of) (slice_index c.in_ok-next.next.blocks.of)
+    c.refinement_goes_on.ensures.done g.S.Signing.relation A made.rounds (slice_index c.loop-before.round.blocks.of)
+    (slice_index c.in_ok-next.next.blocks.of)
     c.states.ensures.lts.system made.underway
     (subst (λ p. Split g.S.Signing.relation A (slice_index p) (slice_index c.in_ok-next.next.blocks.of)) is next.split)
-    (subst (λ p. SameBlocks A (slice_index p) (slice_index c.in_ok-next.next.blocks.of)) is (next.same (sym c.count-more.ensures ∙ c.if-more-count.true ∙ c.count-count.ensures)))
+    (subst (λ p. SameBlocks A (slice_index p) (slice_index c.in_ok-next.next.blocks.of)) is
+    (next.same (sym c.count-more.ensures ∙ c.if-more-count.true ∙ c.count-count.ensures)))
 
 costs : (g : Over) (c : Then-more-count g) → let l = c.args.l.now in let k = suc c.loop-before.invariant.made.rounds in
-    Costs (g.M.Meter.counted c.args.m.now) (g.M.Meter.counted c.next_round.new.m) k (k * length l.places) (k * length l.places)
+    Costs (g.M.Meter.counted c.args.m.now) (g.M.Meter.counted c.next_round.new.m) k (k * length l.places)
+    (k * length l.places)
 costs g c =
     let l = c.args.l.now in
     let made = c.loop-before.invariant.made in
-    costs_more (length l.places) l.states made.rounds _ _ made.costs (g.M.Meter.counted c.next_round.new.m) c.in_ok-next.ensures.costs
+    costs_more (length l.places) l.states made.rounds _ _ made.costs (g.M.Meter.counted c.next_round.new.m)
+    c.in_ok-next.ensures.costs
 
 pub returns-then-more-count-clause-states : goal.returns-then-more-count-clause-states
 returns-then-more-count-clause-states g c =
-    IfOk-weaker c.renumber.result _ _ (λ q size. size ∙ ap length c.of.ensures.of ∙ ap (λ b. length b.of) c.into_blocks-blocks.ensures ∙ c.in_ok-next.ensures.next.states)
+    IfOk-weaker c.renumber.result _ _ (λ q size. size ∙ ap length c.of.ensures.of
+    ∙ ap (λ b. length b.of) c.into_blocks-blocks.ensures ∙ c.in_ok-next.ensures.next.states)
     c.renumber.ensures.states
 
 -- the blocks that are read are those of the last round
 renumbered : (A : System) (read last q : List ℕ) → read ≡ last → length last ≡ A.states
-    → ((s t : ℕ) → s < length read → t < length read → (slice_index q s ≡ slice_index q t) ↔ (slice_index read s ≡ slice_index read t))
+    → ((s t : ℕ) → s < length read → t < length read
+    → (slice_index q s ≡ slice_index q t) ↔ (slice_index read s ≡ slice_index read t))
     → SameBlocks A (slice_index last) (slice_index q)
 renumbered A read last q is size same s t ls lt =
     let states = ap length is ∙ size in
@@ -114,15 +131,18 @@ returns-then-more-count-clause-bisimilar g c =
     let made = c.loop-before.invariant.made in
     let next = c.in_ok-next.ensures.next in
     let all =
-    c.final_blocks_are_bisimilarity.ensures g.S.Signing.relation A (suc made.rounds) (slice_index c.in_ok-next.next.blocks.of)
+    c.final_blocks_are_bisimilarity.ensures g.S.Signing.relation A (suc made.rounds)
+    (slice_index c.in_ok-next.next.blocks.of)
     c.states.ensures.lts.system (turns g (goal.at.returns-then-more-count-clause-bisimilar g c).Then-more-count) (
       slice_index c.loop-before.round.blocks.of,
       made.underway.after,
-      subst (λ p. Split g.S.Signing.relation A (slice_index p) (slice_index c.in_ok-next.next.blocks.of)) (ap (λ r. r.of) c.in_ok-before.ensures.blocks) next.split,
+      subst (λ p. Split g.S.Signing.relation A (slice_index p) (slice_index c.in_ok-next.next.blocks.of))
+          (ap (λ r. r.of) c.in_ok-before.ensures.blocks) next.split,
     ) in
     IfOk-weaker c.renumber.result _ _
     (λ q same s t ls lt.
-    let moved = renumbered A _ c.in_ok-next.next.blocks.of q (c.of.ensures.of ∙ ap (λ b. b.of) c.into_blocks-blocks.ensures) next.states same s t ls lt in
+    let moved = renumbered A _ c.in_ok-next.next.blocks.of q (c.of.ensures.of
+    ∙ ap (λ b. b.of) c.into_blocks-blocks.ensures) next.states same s t ls lt in
     (λ e. (all s t ls lt).0 (moved.0 e), λ h. moved.1 ((all s t ls lt).1 h)))
     c.renumber.ensures.same
 
@@ -134,13 +154,19 @@ returns-then-more-count-clause-few g c =
     let old = c.loop-before.round.blocks.of in
     let last = c.in_ok-next.next in
     let is = ap (λ r. r.of) c.in_ok-before.ensures.blocks in
-    let were = one_more g.S.Signing.relation l _ old made.past last is c.loop-before.invariant.states next (made.were, made.halved) in
+    let were = one_more g.S.Signing.relation l _ old made.past last is c.loop-before.invariant.states next
+    (made.were, made.halved) in
     IfOk-weaker c.renumber.result _ _ (λ q same. record {
       last = last.blocks.of;
       past = old ∷ made.past;
       rounds = were.0;
-      same = renumbered (system_of l) _ last.blocks.of q (c.of.ensures.of ∙ ap (λ b. b.of) c.into_blocks-blocks.ensures) next.states same;
-      few = λ s h. omega (arith, c.renumberings_are_few.ensures last.blocks.of (old ∷ made.past) s were.1 (omega (arith, h, next.states)), next.states);
+      same = renumbered (system_of l) _ last.blocks.of q (c.of.ensures.of ∙ ap (λ b. b.of) c.into_blocks-blocks.ensures)
+          next.states same;
+      few = λ s h. omega (
+        arith,
+        c.renumberings_are_few.ensures last.blocks.of (old ∷ made.past) s were.1 (omega (arith, h, next.states)),
+        next.states,
+      );
     })
     c.renumber.ensures.same
 
@@ -165,26 +191,32 @@ loop-before-smaller g c =
 
 -- a round more was made
 made : (g : Over) (c : Else-more-count g) →
-    Made g.S.Signing.relation c.args.l.now (g.M.Meter.counted c.args.m.now) (g.M.Meter.counted c.next_round.new.m) c.in_ok-next.next.blocks.of
+    Made g.S.Signing.relation c.args.l.now (g.M.Meter.counted c.args.m.now) (g.M.Meter.counted c.next_round.new.m)
+    c.in_ok-next.next.blocks.of
 made g c =
     let l = c.args.l.now in
     let A = system_of l in
     let before = c.loop-before.invariant.made in
     let next = c.in_ok-next.ensures.next in
     let is = ap (λ r. r.of) c.in_ok-before.ensures.blocks in
-    let were = one_more g.S.Signing.relation l _ _ before.past c.in_ok-next.next is c.loop-before.invariant.states next (before.were, before.halved) in
+    let were = one_more g.S.Signing.relation l _ _ before.past c.in_ok-next.next is c.loop-before.invariant.states next
+    (before.were, before.halved) in
     record {
       rounds = suc before.rounds;
       past = c.loop-before.round.blocks.of ∷ before.past;
       were = were.0;
       halved = were.1;
       underway =
-          c.refinement_goes_on.ensures.more g.S.Signing.relation A before.rounds (slice_index c.loop-before.round.blocks.of)
+          c.refinement_goes_on.ensures.more g.S.Signing.relation A before.rounds
+          (slice_index c.loop-before.round.blocks.of)
           (slice_index c.in_ok-next.next.blocks.of)
           c.states.ensures.lts.system before.underway
-          (subst (λ p. Split g.S.Signing.relation A (slice_index p) (slice_index c.in_ok-next.next.blocks.of)) is next.split)
-          (subst (λ p. SameBlocks A (slice_index p) (slice_index c.in_ok-next.next.blocks.of) → ⊥) is (next.parted (λ e. c.if-more-count.false (c.count-more.ensures ∙ e ∙ sym c.count-count.ensures))));
-      costs = costs_more (length l.places) l.states before.rounds _ _ before.costs (g.M.Meter.counted c.next_round.new.m) c.in_ok-next.ensures.costs;
+          (subst (λ p. Split g.S.Signing.relation A (slice_index p) (slice_index c.in_ok-next.next.blocks.of)) is
+          next.split)
+          (subst (λ p. SameBlocks A (slice_index p) (slice_index c.in_ok-next.next.blocks.of) →
+          ⊥) is (next.parted (λ e. c.if-more-count.false (c.count-more.ensures ∙ e ∙ sym c.count-count.ensures))));
+      costs = costs_more (length l.places) l.states before.rounds _ _ before.costs
+          (g.M.Meter.counted c.next_round.new.m) c.in_ok-next.ensures.costs;
     }
 
 pub loop-before-preserved : goal.loop-before-preserved

@@ -16,7 +16,8 @@ loop-s-init g c =
 
 pub returns-clause-rising : goal.returns-clause-rising
 returns-clause-rising g c =
-    let end : c.loop-s.s ≡ c.args.l.now.states = omega (arith, c.loop-s-test.false, c.loop-s.auto.s-end, c.states-s-end.ensures.value) in
+    let end : c.loop-s.s ≡ c.args.l.now.states =
+    omega (arith, c.loop-s-test.false, c.loop-s.auto.s-end, c.states-s-end.ensures.value) in
     subst (λ n. AreLive n c.loop-s.live.items) end c.loop-s.invariant.rising
 
 pub returns-clause-rows : goal.returns-clause-rows

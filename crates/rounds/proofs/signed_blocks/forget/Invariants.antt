@@ -3,5 +3,6 @@ use Rattle.rounds.proofs.signed_blocks.forget.Given as goal
 
 abbrev pub invariant-loop-i : goal.invariant-loop-i
 invariant-loop-i l = record {
-  left : (s : ℕ) → s < length l.numbers → ((j : ℕ) × (l.i ≤ j) × (j < length l.live) × (slice_index l.live j ≡ s)) ⊎ (slice_index l.numbers s ≡ 0);
+  left : (s : ℕ) → s < length l.numbers → ((j : ℕ) × (l.i ≤ j) × (j < length l.live) × (slice_index l.live j ≡ s))
+      ⊎ (slice_index l.numbers s ≡ 0);
 }

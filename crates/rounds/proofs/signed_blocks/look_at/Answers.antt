@@ -5,7 +5,8 @@ use Rattle.rounds.proofs.EachList.{emptied}
 use Rattle.rounds.proofs.signed_blocks.look_at.Goals as goal
 
 pub forget-requires-clause-none : goal.forget-requires-clause-none
-forget-requires-clause-none c = subst₂ HaveNone (sym c.live.ensures.live) (sym c.deref_mut.ensures.value) c.round.invariant.0.none
+forget-requires-clause-none c =
+    subst₂ HaveNone (sym c.live.ensures.live) (sym c.deref_mut.ensures.value) c.round.invariant.0.none
 
 pub invariant_of-result : goal.invariant_of-result
 invariant_of-result c =

@@ -32,7 +32,8 @@ loop-s-preserved c =
 
 pub returns-clause-rising : goal.returns-clause-rising
 returns-clause-rising c =
-    let end : c.loop-s.s ≡ length c.args.blocks.now.of = omega (arith, c.loop-s-test.false, c.loop-s.auto.s-end, ap length c.of.ensures.of) in
+    let end : c.loop-s.s ≡ length c.args.blocks.now.of =
+    omega (arith, c.loop-s-test.false, c.loop-s.auto.s-end, ap length c.of.ensures.of) in
     subst (λ n. AreLive n c.loop-s.live.items) end c.loop-s.invariant.rising
 
 pub returns-clause-others : goal.returns-clause-others

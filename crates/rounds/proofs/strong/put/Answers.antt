@@ -28,7 +28,8 @@ returns-clause-put g c =
     (c.rows_are_steps.ensures.steps l c.args.s) c.args.under.now.low
     (subst (HasFrom c.args.under.now.low) read.pairs (read.touched.0 c.if-not-branch.false)) in
     let signed =
-    row_signature l c.args.under.now.of.now c.args.s c.known.ensures (c.rows_are_steps.ensures.sources c.args.s l.places)
+    row_signature l c.args.under.now.of.now c.args.s c.known.ensures
+    (c.rows_are_steps.ensures.sources c.args.s l.places)
     (c.rows_are_steps.ensures.steps l c.args.s) pairs c.order.ensures.rising
     (λ z. subst (λ xs. Contains pairs z ↔ Contains xs z) read.pairs (c.order.ensures.same z)) in
     let at : list_at c.push.new.self c.in_ok-list.list ≡ pairs = c.in_ok-list.ensures.list ∙ c.deref.ensures.value in

@@ -41,7 +41,8 @@ loop-k-preserved g c =
     record {
       begun = omega (arith, i.begun);
       by_two = (i.by_two.0 - 1, omega (arith, i.by_two.1, c.loop-k-test.true));
-      room = omega (arith, i.room, c.collect-touched-in-loop-k.ensures.room, c.collect-touched-in-loop-k-2.ensures.room);
+      room =
+          omega (arith, i.room, c.collect-touched-in-loop-k.ensures.room, c.collect-touched-in-loop-k-2.ensures.room);
       pairs = pairs_more of places c.args.s _ (k + 1) (k + 2) (row (k + 1) (omega (arith, i.begun)) more) (omega arith)
           c.edge-second.ensures.label c.edge-second.ensures.target first c.collect-touched-in-loop-k-2.ensures.pairs;
       touched = c.collect-touched-in-loop-k-2.ensures.touched;
@@ -51,5 +52,6 @@ loop-k-preserved g c =
 pub returns-clause-pairs : goal.returns-clause-pairs
 returns-clause-pairs g c =
     let row = row_of c.args.s c.args.under.now.l.now.places in
-    let all : take (c.loop-k.k - c.row-start.result.0) row ≡ row = take_all _ row (omega (arith, c.row-start.ensures.count, c.loop-k-test.false)) in
+    let all : take (c.loop-k.k - c.row-start.result.0) row ≡ row =
+    take_all _ row (omega (arith, c.row-start.ensures.count, c.loop-k-test.false)) in
     c.loop-k.invariant.pairs ∙ ap (map (pair_under c.args.under.now.of.now)) all

@@ -12,7 +12,8 @@ invariant-loop-i g l = record {
   coming : (j : ℕ) → l.i ≤ j → j < length l.live → l.next ≤ before (slice_index l.live j) l.under.l.now.places;
   within : l.next ≤ length l.under.l.now.places;
   put : (j : ℕ) → j < l.i → (slice_index l.numbers (slice_index l.live j) < length l.lists)
-      × IsPut Strong l.under.l.now l.under.of.now l.under.low (slice_index l.live j) (list_at l.lists (slice_index l.numbers (slice_index l.live j)));
+      × IsPut Strong l.under.l.now l.under.of.now l.under.low (slice_index l.live j)
+      (list_at l.lists (slice_index l.numbers (slice_index l.live j)));
   none : HaveNone l.live l.numbers;
   some : 1 ≤ length l.lists;
   visits : Costs (g.M.Meter.counted l.fn.m) (g.M.Meter.counted l.m) 0 l.next l.next;

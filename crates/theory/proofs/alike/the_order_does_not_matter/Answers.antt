@@ -1,5 +1,6 @@
 -- Each fact is the lemma.
-use Rattle.theory.proofs.AlikeSystems.{same_steps_permuted, reachable_alike, bisimilar_alike, turns_alike, equivalent_alike}
+use Rattle.theory.proofs.AlikeSystems.{same_steps_permuted, reachable_alike, bisimilar_alike, turns_alike}
+use Rattle.theory.proofs.AlikeSystems.{equivalent_alike}
 use Rattle.theory.proofs.AlikeQuotients.{quotient_alike, quotient_reordered}
 use Rattle.theory.proofs.alike.the_order_does_not_matter.Goals as goal
 
@@ -26,7 +27,8 @@ pub returns-clause-quotient : goal.returns-clause-quotient
 returns-clause-quotient c = λ rel A B Q same quotient. quotient_alike rel A B Q same quotient
 
 pub returns-clause-reordered : goal.returns-clause-reordered
-returns-clause-reordered c = λ rel A Q R first states moved quotient. quotient_reordered rel A Q R first states moved quotient
+returns-clause-reordered c =
+    λ rel A Q R first states moved quotient. quotient_reordered rel A Q R first states moved quotient
 
 pub returns-clause-equivalent : goal.returns-clause-equivalent
 returns-clause-equivalent c = λ rel A B C same b. equivalent_alike rel A B C same b

@@ -11,7 +11,8 @@ pub returns-clause-step : goal.returns-clause-step
 returns-clause-step c = λ A blocks. leads_step (Inert A blocks)
 
 pub returns-clause-before : goal.returns-clause-before
-returns-clause-before c = λ A blocks s t u inert. leads_append (Inert A blocks) s t u (leads_step (Inert A blocks) s t inert)
+returns-clause-before c =
+    λ A blocks s t u inert. leads_append (Inert A blocks) s t u (leads_step (Inert A blocks) s t inert)
 
 pub returns-clause-after : goal.returns-clause-after
 returns-clause-after c = λ A blocks. leads_on (Inert A blocks)

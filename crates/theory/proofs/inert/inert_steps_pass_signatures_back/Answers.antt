@@ -9,7 +9,8 @@ pub returns-clause-own : goal.returns-clause-own
 returns-clause-own c = signature_own
 
 pub returns-clause-step : goal.returns-clause-step
-returns-clause-step c = λ A blocks s t a b inert. signature_before A blocks s t (leads_step (Inert A blocks) s t inert) a b
+returns-clause-step c =
+    λ A blocks s t a b inert. signature_before A blocks s t (leads_step (Inert A blocks) s t inert) a b
 
 pub returns-clause-path : goal.returns-clause-path
 returns-clause-path c = λ A blocks s t a b way. signature_before A blocks s t way a b

@@ -5,7 +5,12 @@ use Rattle.theory.proofs.minimal.leaders_are_counted.Goals as goal
 
 pub returns-clause-none : goal.returns-clause-none
 returns-clause-none c =
-    λ rel A. ([], λ k l. absurd (omega (arith, l)), λ k. (λ h. absurd (contains_none k h), λ h. absurd (omega (arith, h.1))), refl)
+    λ rel A. (
+      [],
+      λ k l. absurd (omega (arith, l)),
+      λ k. (λ h. absurd (contains_none k h), λ h. absurd (omega (arith, h.1))),
+      refl,
+    )
 
 pub returns-clause-one : goal.returns-clause-one
 returns-clause-one c = λ rel A l n sys leads other many. others_one rel A sys l n leads other many

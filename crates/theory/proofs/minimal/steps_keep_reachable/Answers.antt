@@ -14,4 +14,5 @@ pub returns-clause-below : goal.returns-clause-below
 returns-clause-below c = λ A s sys path. reachable_below A sys s path
 
 pub returns-clause-kept : goal.returns-clause-kept
-returns-clause-kept c = λ A has first keep s path. leads_keeps (AnyStep A) (λ x. IsTrue (has x)) (λ x y r h. keep x r.0 y h r.1) A.first s path first
+returns-clause-kept c = λ A has first keep s path. leads_keeps (AnyStep A) (λ x. IsTrue (has x))
+    (λ x y r h. keep x r.0 y h r.1) A.first s path first

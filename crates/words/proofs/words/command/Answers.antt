@@ -1,4 +1,5 @@
-use Rattle.std.proofs.Common.{rules, inl, inr, ap, ap₂, arith, suc, List, [], ◌∷◌, Any, Result, Ok, Err, IfErr, map, refl, subst, sym, ◌≡◌, ◌∙◌, true}
+use Rattle.std.proofs.Common.{rules, inl, inr, ap, ap₂, arith, suc, List, [], ◌∷◌, Any, Result, Ok, Err, IfErr, map}
+use Rattle.std.proofs.Common.{refl, subst, sym, ◌≡◌, ◌∙◌, true}
 use Rattle.std.specs.Prelude.{string_bytes}
 use Rattle.std.proofs.lemmas.Result.{IfOk-weaker}
 use Rattle.clap.specs.Words.{HasKind, IsAmong, Text, fault_of, is_simple, is_simple_and_free, subcommand_of}
@@ -8,7 +9,8 @@ use Rattle.clap.specs.Values.{kind_of}
 use Rattle.words.specs.declared.words.Job.{Job}
 use Rattle.words.specs.declared.words.WordFault.{WordFault}
 use Rattle.words.specs.declared.words.WordFault.TheVariants as fault
-use Rattle.words.specs.Words.{AreTaken, IsFaultIn, IsFaultOf, IsFaultOfAJob, IsFaultOfKind, IsHelp, IsJobIn, IsWholeIn, program_app}
+use Rattle.words.specs.Words.{AreTaken, IsFaultIn, IsFaultOf, IsFaultOfAJob, IsFaultOfKind, IsHelp, IsJobIn, IsWholeIn}
+use Rattle.words.specs.Words.{program_app}
 use Rattle.words.proofs.words.command.Goals as goal
 
 -- the program's words are such that all that `clap` promises holds of them
@@ -26,7 +28,8 @@ taken_fault words (fault.Help text) taken is asked = absurd is
 taken_fault words (fault.Usage text) taken is asked = inl (taken, asked)
 taken_fault words fault.Memory taken is asked = tt
 
-taken_error : (words : List Text) (r : Result Job WordFault) → AreTaken words → IfErr r (IsFaultIn (subcommand_of program_app words)) →
+taken_error : (words : List Text) (r : Result Job WordFault) → AreTaken words →
+    IfErr r (IsFaultIn (subcommand_of program_app words)) →
     (IsWholeIn (subcommand_of program_app words) → IfErr r IsFaultOfAJob) → IfErr r (IsFaultOf words)
 taken_error words (Ok job) taken is asked = tt
 taken_error words (Err f) taken is asked = taken_fault words f taken is asked
@@ -40,7 +43,8 @@ some_kind P kind (first ∷ rest) (inr among) holds =
     let (k, other, below, at, does) = some_kind P kind rest among holds in (suc k, other, omega arith, at, does)
 
 -- words in which `clap` finds a fault of this kind have the fault of this kind
-found_fault : (words : List Text) (e : Error) (f : WordFault) → IsAmong (kind_of e) (fault_of program_app words) → IsFaultOfKind (kind_of e) f →
+found_fault : (words : List Text) (e : Error) (f : WordFault) → IsAmong (kind_of e) (fault_of program_app words) →
+    IsFaultOfKind (kind_of e) f →
     IsFaultOf words f
 found_fault words e (fault.Relation named) among is = absurd is
 found_fault words e (fault.Help text) among is = some_kind IsHelp (kind_of e) (fault_of program_app words) among is
@@ -56,8 +60,10 @@ returns-in-Ok c =
     let none = c.in-Ok.ensures.kinds (ap is_simple_and_free c.in_ok-described.ensures ∙ free) in
     let taken = sym (ap₂ fault_of c.in_ok-described.ensures (ap (map string_bytes) words_are)) ∙ none in
     record {
-      job = IfOk-weaker c.job_of.result _ _ (λ job is. (taken, subst (λ s. IsJobIn s job) subcommand is)) c.job_of.ensures.job;
-      fault = taken_error (map string_bytes c.args.words.items) c.job_of.result taken (subst (λ s. IfErr c.job_of.result (IsFaultIn s)) subcommand c.job_of.ensures.fault)
+      job = IfOk-weaker c.job_of.result _ _ (λ job is. (taken, subst (λ s. IsJobIn s job) subcommand is))
+          c.job_of.ensures.job;
+      fault = taken_error (map string_bytes c.args.words.items) c.job_of.result taken
+          (subst (λ s. IfErr c.job_of.result (IsFaultIn s)) subcommand c.job_of.ensures.fault)
           (λ a. c.job_of.ensures.asked (a.0, a.1, subcommand ∙ a.2, a.3));
     }
 
@@ -65,7 +71,8 @@ pub returns-clause-fault : goal.returns-clause-fault
 returns-clause-fault c =
     let words_are : c.as_slice.result.now ≡ c.args.words.items = search rules in
     let same = ap₂ fault_of c.in_ok-described.ensures (ap (map string_bytes) words_are) in
-    let kind = subst (λ kinds. HasKind kinds c.in-Err.error) same (c.in-Err.ensures.kinds (ap is_simple_and_free c.in_ok-described.ensures ∙ free)) in
+    let kind = subst (λ kinds. HasKind kinds c.in-Err.error) same
+    (c.in-Err.ensures.kinds (ap is_simple_and_free c.in_ok-described.ensures ∙ free)) in
     elim kind [
       | inl memory ↦ subst (IsFaultOf (map string_bytes c.args.words.items)) (sym (c.fault_of.ensures.memory memory)) tt
       | inr among ↦ found_fault (map string_bytes c.args.words.items) c.in-Err.error _ among c.fault_of.ensures.kind

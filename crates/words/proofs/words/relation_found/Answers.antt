@@ -6,21 +6,25 @@ use Rattle.clap.proofs.WalkLemmas.{first_value-rows}
 use Rattle.words.specs.Words.{relation_in}
 use Rattle.words.proofs.words.relation_found.Goals as goal
 
-now-unwrap_or : (o : Option (Bor (List ℕ))) (d : Bor (List ℕ)) → unwrap_or (option_map (λ (t : Bor (List ℕ)). t.now) o) d.now ≡ (unwrap_or o d).now
+now-unwrap_or : (o : Option (Bor (List ℕ))) (d : Bor (List ℕ)) →
+    unwrap_or (option_map (λ (t : Bor (List ℕ)). t.now) o) d.now ≡ (unwrap_or o d).now
 now-unwrap_or (Some t) d = refl
 now-unwrap_or None d = refl
 
 -- the word that is judged is the one that was found for the relation
-judged : (found : Found) (got : Option (Bor (List ℕ))) (strong word : Bor (List ℕ)) → option_map (λ (t : Bor (List ℕ)). t.now) got ≡ first_value found (codes "relation")
+judged : (found : Found) (got : Option (Bor (List ℕ))) (strong word : Bor (List ℕ))
+    → option_map (λ (t : Bor (List ℕ)). t.now) got ≡ first_value found (codes "relation")
     → strong.now ≡ codes "strong" → word ≡ unwrap_or got strong → relation_in (rows_of found) ≡ word.now
-judged found got strong word got_is strong_is word_is = ap (λ o. unwrap_or o (codes "strong")) (sym (got_is ∙ first_value-rows found (codes "relation")))
+judged found got strong word got_is strong_is word_is =
+    ap (λ o. unwrap_or o (codes "strong")) (sym (got_is ∙ first_value-rows found (codes "relation")))
     ∙ ap (unwrap_or (option_map (λ t. t.now) got)) (sym strong_is)
     ∙ now-unwrap_or got strong
     ∙ ap (λ t. t.now) (sym word_is)
 
 pub returns : goal.returns
 returns c =
-    let is = judged (found_of c.args.matches.now) c.get_str.result _ c.unwrap_or.result c.get_str.ensures refl c.unwrap_or.ensures in
+    let is = judged (found_of c.args.matches.now) c.get_str.result _ c.unwrap_or.result c.get_str.ensures refl
+    c.unwrap_or.ensures in
     record {
       ok = rw is c.relation_of.ensures.ok;
       err = rw is c.relation_of.ensures.err;

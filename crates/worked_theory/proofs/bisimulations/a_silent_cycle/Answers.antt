@@ -11,7 +11,8 @@ pub returns-clause-system : goal.returns-clause-system
 returns-clause-system _ = system_passes silent_cycle refl
 
 pub returns-clause-branching : goal.returns-clause-branching
-returns-clause-branching _ = bisimulation_passes Branching silent_cycle silent_cycle ((0, 0) ∷ (0, 1) ∷ (1, 0) ∷ (1, 1) ∷ []) refl
+returns-clause-branching _ =
+    bisimulation_passes Branching silent_cycle silent_cycle ((0, 0) ∷ (0, 1) ∷ (1, 0) ∷ (1, 1) ∷ []) refl
 
 pub returns-clause-strongly : goal.returns-clause-strongly
 returns-clause-strongly _ = not_bisimilar Strong silent_cycle silent_cycle 1 0 1 refl

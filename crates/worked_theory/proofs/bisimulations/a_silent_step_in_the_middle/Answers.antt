@@ -10,13 +10,16 @@ pub returns-clause-systems : goal.returns-clause-systems
 returns-clause-systems _ = (system_passes silent_middle refl, system_passes a_then_b refl)
 
 pub returns-clause-branching : goal.returns-clause-branching
-returns-clause-branching _ = bisimulation_passes Branching silent_middle a_then_b ((0, 0) ∷ (1, 1) ∷ (2, 1) ∷ (3, 2) ∷ []) refl
+returns-clause-branching _ =
+    bisimulation_passes Branching silent_middle a_then_b ((0, 0) ∷ (1, 1) ∷ (2, 1) ∷ (3, 2) ∷ []) refl
 
 pub returns-clause-equivalent : goal.returns-clause-equivalent
-returns-clause-equivalent _ = bisimilar_passes Branching silent_middle a_then_b ((0, 0) ∷ (1, 1) ∷ (2, 1) ∷ (3, 2) ∷ []) 0 0 refl refl
+returns-clause-equivalent _ =
+    bisimilar_passes Branching silent_middle a_then_b ((0, 0) ∷ (1, 1) ∷ (2, 1) ∷ (3, 2) ∷ []) 0 0 refl refl
 
 pub returns-clause-back : goal.returns-clause-back
-returns-clause-back _ = bisimilar_passes Branching a_then_b silent_middle ((0, 0) ∷ (1, 1) ∷ (1, 2) ∷ (2, 3) ∷ []) 0 0 refl refl
+returns-clause-back _ =
+    bisimilar_passes Branching a_then_b silent_middle ((0, 0) ∷ (1, 1) ∷ (1, 2) ∷ (2, 3) ∷ []) 0 0 refl refl
 
 pub returns-clause-strongly : goal.returns-clause-strongly
 returns-clause-strongly _ = not_bisimilar Strong silent_middle a_then_b 2 0 0 refl

@@ -11,10 +11,12 @@ pub returns-clause-system : goal.returns-clause-system
 returns-clause-system _ = system_passes unreachable_twin refl
 
 pub returns-clause-strong : goal.returns-clause-strong
-returns-clause-strong _ = bisimulation_passes Strong unreachable_twin unreachable_twin ((0, 0) ∷ (1, 1) ∷ (1, 3) ∷ (2, 2) ∷ (3, 1) ∷ (3, 3) ∷ []) refl
+returns-clause-strong _ = bisimulation_passes Strong unreachable_twin unreachable_twin ((0, 0) ∷ (1, 1) ∷ (1, 3)
+    ∷ (2, 2) ∷ (3, 1) ∷ (3, 3) ∷ []) refl
 
 pub returns-clause-twins : goal.returns-clause-twins
-returns-clause-twins _ = bisimilar_passes Strong unreachable_twin unreachable_twin ((0, 0) ∷ (1, 1) ∷ (1, 3) ∷ (2, 2) ∷ (3, 1) ∷ (3, 3) ∷ []) 1 3 refl refl
+returns-clause-twins _ = bisimilar_passes Strong unreachable_twin unreachable_twin ((0, 0) ∷ (1, 1) ∷ (1, 3) ∷ (2, 2)
+    ∷ (3, 1) ∷ (3, 3) ∷ []) 1 3 refl refl
 
 pub returns-clause-apart : goal.returns-clause-apart
 returns-clause-apart _ = not_bisimilar Strong unreachable_twin unreachable_twin 1 0 2 refl

@@ -9,4 +9,5 @@ pub returns-clause-apart : goal.returns-clause-apart
 returns-clause-apart _ = are_apart not_committed committed 2 2 refl refl refl refl
 
 pub returns-clause-after_a : goal.returns-clause-after_a
-returns-clause-after_a _ = bisimilar_passes Branching not_committed committed ((1, 1) ∷ (2, 2) ∷ (3, 3) ∷ []) 1 1 refl refl
+returns-clause-after_a _ =
+    bisimilar_passes Branching not_committed committed ((1, 1) ∷ (2, 2) ∷ (3, 3) ∷ []) 1 1 refl refl

@@ -7,7 +7,8 @@ use Rattle.worked_theory.proofs.Testing.Matching.{bisimilar_passes, not_bisimila
 use Rattle.worked_theory.proofs.bisimulations.hidden_on_both_sides.Goals as goal
 
 pub returns-clause-hidden : goal.returns-clause-hidden
-returns-clause-hidden _ = bisimilar_passes Branching (Hide (a ∷ []) a_then_b) (Hide (a ∷ []) only_b) ((0, 0) ∷ (1, 0) ∷ (2, 1) ∷ []) 0 0 refl refl
+returns-clause-hidden _ = bisimilar_passes Branching (Hide (a ∷ []) a_then_b) (Hide (a ∷ []) only_b)
+    ((0, 0) ∷ (1, 0) ∷ (2, 1) ∷ []) 0 0 refl refl
 
 pub returns-clause-strongly : goal.returns-clause-strongly
 returns-clause-strongly _ = not_bisimilar Strong (Hide (a ∷ []) a_then_b) (Hide (a ∷ []) only_b) 2 0 0 refl

@@ -6,7 +6,9 @@ use Rattle.worked_theory.proofs.Testing.Matching.{bisimilar_passes}
 use Rattle.worked_theory.proofs.bisimulations.reordered_lines.Goals as goal
 
 pub returns-clause-branching : goal.returns-clause-branching
-returns-clause-branching _ = bisimilar_passes Branching a_then_b a_then_b_reordered ((0, 0) ∷ (1, 1) ∷ (2, 2) ∷ []) 0 0 refl refl
+returns-clause-branching _ =
+    bisimilar_passes Branching a_then_b a_then_b_reordered ((0, 0) ∷ (1, 1) ∷ (2, 2) ∷ []) 0 0 refl refl
 
 pub returns-clause-strongly : goal.returns-clause-strongly
-returns-clause-strongly _ = bisimilar_passes Strong a_then_b a_then_b_reordered ((0, 0) ∷ (1, 1) ∷ (2, 2) ∷ []) 0 0 refl refl
+returns-clause-strongly _ =
+    bisimilar_passes Strong a_then_b a_then_b_reordered ((0, 0) ∷ (1, 1) ∷ (2, 2) ∷ []) 0 0 refl refl

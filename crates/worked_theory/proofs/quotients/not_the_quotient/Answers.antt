@@ -2,7 +2,8 @@
 use Rattle.std.proofs.Common.{refl, lit<}
 use Rattle.theory.specs.declared.relation.Relation.TheVariants.{Strong, Branching}
 use Rattle.theory.specs.System.{internal}
-use Rattle.worked_theory.specs.Examples.{a, edge, silent_cycle, loop_of_a, silent_loop, lone_state, first_leads, first_leads_quotient, first_leads_by_size}
+use Rattle.worked_theory.specs.Examples.{a, edge, silent_cycle, loop_of_a, silent_loop, lone_state, first_leads}
+use Rattle.worked_theory.specs.Examples.{first_leads_quotient, first_leads_by_size}
 use Rattle.worked_theory.proofs.Testing.Census.{is_quotient}
 use Rattle.worked_theory.proofs.Testing.Refusing.{not_by_states, not_by_transition}
 use Rattle.worked_theory.proofs.Testing.Told.{silent_cycle_branching, silent_loop_branching, first_leads_strong}

@@ -5,13 +5,15 @@ use Rattle.theory.specs.System.{Reachable}
 use Rattle.lts.specs.Labels.{text_of}
 use Rattle.lts.specs.Lts.{Triple, label_of, target_of, place_at, row_of, system_of}
 use Rattle.classes.specs.Marked.{IsMarked}
-use Rattle.classes.proofs.Reaching.{Searches-below, Searches-step, Searches-read, targets_marked, places_ahead-marks, states_ahead-marks}
+use Rattle.classes.proofs.Reaching.{Searches-below, Searches-step, Searches-read, targets_marked, places_ahead-marks}
+use Rattle.classes.proofs.Reaching.{states_ahead-marks}
 use Rattle.classes.proofs.search.Search.mark_targets.Given.{Over}
 use Rattle.classes.proofs.search.Search.mark_targets.Goals as goal
 use Rattle.classes.proofs.search.Search.mark_targets.Goals.{In_ok-mark}
 
 pub row-start-requires : goal.row-start-requires
-row-start-requires g c = Searches-below c.args.l.now c.args.self.now.marked.items c.args.next c.args.s c.args.self.now.queue.items c.requires.search
+row-start-requires g c = Searches-below c.args.l.now c.args.self.now.marked.items c.args.next c.args.s
+    c.args.self.now.queue.items c.requires.search
 
 -- the state that is marked is one of the system
 below : (g : Over) (c : In_ok-mark g) → c.edge-target.result.1 < length c.loop-k.self.marked.items
@@ -67,7 +69,8 @@ returns-clause-search g c =
     let l = c.args.l.now in
     let row = row_of c.args.s l.places in
     let marked = λ (e : Triple). IsMarked c.loop-k.self.marked.items (target_of e) in
-    let whole = take_all (c.loop-k.k - c.row-start.result.0) row (omega (arith, c.row-start.ensures.count, c.loop-k-test.false)) in
+    let whole = take_all (c.loop-k.k - c.row-start.result.0) row
+    (omega (arith, c.row-start.ensures.count, c.loop-k-test.false)) in
     let all : All marked row = subst (All marked) whole c.loop-k.invariant.read in
     Searches-read l c.args.s c.args.next c.loop-k.self.marked.items c.loop-k.self.queue.items
     (λ a t step. let (e, in_row, label, target) = (c.rows_are_steps.ensures.steps l c.args.s a t).0 step in

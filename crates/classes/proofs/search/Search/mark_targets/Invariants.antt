@@ -9,7 +9,9 @@ abbrev pub invariant-loop-k : goal.invariant-loop-k
 invariant-loop-k g l = record {
   search : Searches l.l l.self.marked.items l.next (l.s ∷ l.self.queue.items);
   read : All (λ e. IsMarked l.self.marked.items (target_of e)) (take (l.k - l.start) (row_of l.s l.l.places));
-  states : states_ahead l.self.marked.items l.self.queue.items ≤ states_ahead l.initial.self.marked.items l.initial.self.queue.items;
-  places : places_ahead l.l.places l.next l.self.marked.items l.self.queue.items ≡ places_ahead l.l.places l.next l.initial.self.marked.items l.initial.self.queue.items;
+  states : states_ahead l.self.marked.items l.self.queue.items ≤ states_ahead l.initial.self.marked.items
+      l.initial.self.queue.items;
+  places : places_ahead l.l.places l.next l.self.marked.items l.self.queue.items
+      ≡ places_ahead l.l.places l.next l.initial.self.marked.items l.initial.self.queue.items;
   visits : Costs (g.M.Meter.counted l.initial.m) (g.M.Meter.counted l.m) 0 (l.k - l.start) (l.k - l.start);
 }

@@ -17,11 +17,14 @@ states : (g : Over) (c : After-self g) → length c.self.inside.walk.stages ≡ 
 states g c = sym (length-map c.self.inside.walk.stages number_of) ∙ ap length c.self.view_is ∙ c.requires.lists.0
 
 pub wake-requires-clause-live : goal.wake-requires-clause-live
-wake-requires-clause-live g c = subst₂ AreLive (c.requires.blocks ∙ sym (states g (goal.at.wake-requires-clause-live g c).After-self)) (sym c.live-live.ensures.live) c.live-live.ensures.rising
+wake-requires-clause-live g c =
+    subst₂ AreLive (c.requires.blocks ∙ sym (states g (goal.at.wake-requires-clause-live g c).After-self))
+    (sym c.live-live.ensures.live) c.live-live.ensures.rising
 
 pub walk_all-requires-clause-live : goal.walk_all-requires-clause-live
 walk_all-requires-clause-live g c =
-    subst₂ AreLive (c.requires.blocks ∙ ap (λ u. u.l.states) (sym c.new-lens.ensures)) (sym c.live-live.ensures.live) c.live-live.ensures.rising
+    subst₂ AreLive (c.requires.blocks ∙ ap (λ u. u.l.states) (sym c.new-lens.ensures)) (sym c.live-live.ensures.live)
+    c.live-live.ensures.rising
 
 pub walk_all-requires-clause-awake : goal.walk_all-requires-clause-awake
 walk_all-requires-clause-awake g c =
@@ -31,16 +34,19 @@ walk_all-requires-clause-awake g c =
 
 pub walk_all-requires-clause-rests : goal.walk_all-requires-clause-rests
 walk_all-requires-clause-rests g c =
-    let is : under c.args.l.now c.args.blocks.now.of ≡ c.new-lens.result = ap (under c.args.l.now) (sym c.of.ensures.of) ∙ sym c.new-lens.ensures in
+    let is : under c.args.l.now c.args.blocks.now.of ≡ c.new-lens.result = ap (under c.args.l.now) (sym c.of.ensures.of)
+    ∙ sym c.new-lens.ensures in
     let view = sym c.self.view_is in
     subst (λ u. Rests u c.args.lists.now c.wake.new.self) is
     (woken_rests c.wake.ensures c.self.invariant (states g (goal.at.walk_all-requires-clause-rests g c).After-self)
     (subst (AreNumbers c.args.lists.now) view c.requires.lists.1)
-    (subst₂ (λ live ks. AreSignedBeside c.args.l.now c.args.blocks.now.of live c.args.lists.now ks) (sym c.live-live.ensures.live) view c.requires.kept) c.known.ensures.some)
+    (subst₂ (λ live ks. AreSignedBeside c.args.l.now c.args.blocks.now.of live c.args.lists.now ks)
+    (sym c.live-live.ensures.live) view c.requires.kept) c.known.ensures.some)
 
 pub number-requires-clause-live : goal.number-requires-clause-live
 number-requires-clause-live g c =
-    subst₂ AreLive (c.requires.blocks ∙ sym (c.in-Ok.ensures.rests.numbers.size ∙ ap (λ u. u.l.states) c.new-lens.ensures)) (sym c.live-live.ensures.live) c.live-live.ensures.rising
+    subst₂ AreLive (c.requires.blocks ∙ sym (c.in-Ok.ensures.rests.numbers.size
+    ∙ ap (λ u. u.l.states) c.new-lens.ensures)) (sym c.live-live.ensures.live) c.live-live.ensures.rising
 
 pub invariant_of-self : goal.invariant_of-self
 invariant_of-self g c =

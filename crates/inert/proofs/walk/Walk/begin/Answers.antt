@@ -19,24 +19,29 @@ loop-k-init g c =
     record {
       same = c.requires.rests.empty ∙ ap (collecting w.stages) none;
       begun =
-          subst (λ items. Begins c.args.lens.now c.args.lists.now w c.args.s start start (framed c.args.s start c.row-start.result.1 w.stages items)) none
+          subst (λ items. Begins c.args.lens.now c.args.lists.now w c.args.s start start
+          (framed c.args.s start c.row-start.result.1 w.stages items)) none
           (begins c.known.ensures.laws c.requires.rests c.requires.state.0 c.requires.state.1 c.row-start.ensures);
       cost = omega arith;
     }
 
 -- which step the transition in place k is
 module _ (g : Over) (c : After-step-step g) where
-  is_step : IsStep c.args.lens.now (slice_index c.args.lens.now.blocks c.args.s) (place_at c.args.lens.now.l.places c.loop-k.k) c.step-step.result
+  is_step : IsStep c.args.lens.now (slice_index c.args.lens.now.blocks c.args.s)
+      (place_at c.args.lens.now.l.places c.loop-k.k) c.step-step.result
   is_step =
-      subst (λ xs. IsStep c.args.lens.now (slice_index xs c.args.s) (place_at c.args.lens.now.l.places c.loop-k.k) c.step-step.result) c.blocks-2.ensures c.step-step.ensures.step
+      subst (λ xs. IsStep c.args.lens.now (slice_index xs c.args.s) (place_at c.args.lens.now.l.places c.loop-k.k)
+      c.step-step.result) c.blocks-2.ensures c.step-step.ensures.step
 
 pub loop-k-preserved : goal.loop-k-preserved
 loop-k-preserved g c =
     let i = c.loop-k.invariant in
     let one = c.step-step.ensures.visit in
     let b =
-    takes_bare c.known.ensures.laws c.known.ensures.lts i.same i.begun c.loop-k-test.true c.requires.state.1 c.in_ok-take-2.field-0 c.step-step.result
-    (is_step g (goal.at.loop-k-preserved g c).After-step-step) (λ on. false≢true (sym c.if-leads_on.false ∙ c.leads_on.ensures.1 on)) c.in_ok-take-2.ensures in
+    takes_bare c.known.ensures.laws c.known.ensures.lts i.same i.begun c.loop-k-test.true c.requires.state.1
+    c.in_ok-take-2.field-0 c.step-step.result
+    (is_step g (goal.at.loop-k-preserved g c).After-step-step) (λ on. false≢true (sym c.if-leads_on.false
+    ∙ c.leads_on.ensures.1 on)) c.in_ok-take-2.ensures in
     grind (arith, common_steps, b, i.cost, one)
 
 -- the step was taken from a frame
@@ -45,10 +50,12 @@ returns-then-leads_on g c =
     let i = c.loop-k.invariant in
     let one = c.step-step.ensures.visit in
     let went =
-    takes_framed c.known.ensures.laws c.known.ensures.lts i.same i.begun c.loop-k-test.true c.step-step.result c.in_ok-take.field-0
+    takes_framed c.known.ensures.laws c.known.ensures.lts i.same i.begun c.loop-k-test.true c.step-step.result
+    c.in_ok-take.field-0
     (is_step g (goal.at.returns-then-leads_on g c).After-step-step)
     (subst (λ w. TakesStep c.args.lens.now.l.places c.step-step.result w c.take.new.self c.in_ok-take.field-0)
-    (c.in_ok-put.ensures ∙ ap (entered c.args.s (c.loop-k.k + 1) c.row-start.result.1 0) i.same) c.in_ok-take.ensures) in
+    (c.in_ok-put.ensures ∙ ap (entered c.args.s (c.loop-k.k + 1) c.row-start.result.1 0) i.same)
+    c.in_ok-take.ensures) in
     grind (arith, common_steps, Grow-same c.args.lists.now, went, i.cost, one)
 
 -- the state was finished at the end of its row
@@ -56,5 +63,6 @@ pub returns : goal.returns
 returns g c =
     let i = c.loop-k.invariant in
     let ended =
-    begun_ends c.known.ensures.laws c.known.ensures.lts i.same i.begun c.loop-k-test.false c.in_ok-end.ensures (within c.requires.rests c.requires.state.0) in
+    begun_ends c.known.ensures.laws c.known.ensures.lts i.same i.begun c.loop-k-test.false c.in_ok-end.ensures
+    (within c.requires.rests c.requires.state.0) in
     grind (arith, common_steps, ended, i.cost)

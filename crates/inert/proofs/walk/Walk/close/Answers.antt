@@ -7,4 +7,5 @@ pub finish_members-requires-clause-states : goal.finish_members-requires-clause-
 finish_members-requires-clause-states c =
     let stages = c.self.inside.stages.items in
     subst (All (λ s. s < length stages)) (sym c.deref-2.ensures.value)
-    (subst (λ w. All (λ s. s < length w.stages) w.stack) (sym c.self.view_is) (open_inside c.args.self.now.stages c.args.self.now.stack c.requires.open))
+    (subst (λ w. All (λ s. s < length w.stages) w.stack) (sym c.self.view_is)
+    (open_inside c.args.self.now.stages c.args.self.now.stack c.requires.open))

@@ -11,7 +11,8 @@ invariant-loop-self g l = record {
   on : GoesOn l.lens l.lists l.fn.self l.self;
   grow : Grow l.fn.lists l.lists;
   found : ¬ (stage_at l.self.stages l.s ≡ Unseen);
-  visits : (g.M.Meter.counted l.m).visits + ahead l.lens.l l.self ≡ (g.M.Meter.counted l.fn.m).visits + unread l.lens.l.places l.fn.self.stages;
+  visits : (g.M.Meter.counted l.m).visits + ahead l.lens.l l.self ≡ (g.M.Meter.counted l.fn.m).visits
+      + unread l.lens.l.places l.fn.self.stages;
   cost : Costs (g.M.Meter.counted l.fn.m) (g.M.Meter.counted l.m) 0 0 (unread l.lens.l.places l.fn.self.stages);
 }
 

@@ -19,12 +19,21 @@ module _ (g : Over) (c : After-index g) where
   state : c.index.result.now ≡ slice_index c.args.self.now.stack (here c.args.self.now)
   state =
       let height = ap (λ x. x.height) c.top_frame-frame.ensures in
-      let low : c.top_frame-frame.result.height < length c.self.inside.stack.items = omega (arith, on_stack c.requires.way.walks c.requires.way.some, height, ap (λ w. length w.stack) c.self.view_is) in
+      let low : c.top_frame-frame.result.height < length c.self.inside.stack.items =
+      omega (
+        arith,
+        on_stack c.requires.way.walks c.requires.way.some,
+        height,
+        ap (λ w. length w.stack) c.self.view_is,
+      ) in
       get_or_read c.self.inside.stack.items c.top_frame-frame.result.height c.index.result.now low c.index.ensures 0
-      ∙ ap (λ w. slice_index w.stack c.top_frame-frame.result.height) c.self.view_is ∙ ap (slice_index c.args.self.now.stack) height
+      ∙ ap (λ w. slice_index w.stack c.top_frame-frame.result.height) c.self.view_is
+      ∙ ap (slice_index c.args.self.now.stack) height
 
-  block : slice_index c.blocks-blocks.result.now c.index.result.now ≡ slice_index c.args.lens.now.blocks (slice_index c.args.self.now.stack (here c.args.self.now))
-  block = ap (λ xs. slice_index xs c.index.result.now) c.blocks-blocks.ensures ∙ ap (slice_index c.args.lens.now.blocks) state
+  block : slice_index c.blocks-blocks.result.now c.index.result.now ≡ slice_index c.args.lens.now.blocks
+      (slice_index c.args.self.now.stack (here c.args.self.now))
+  block = ap (λ xs. slice_index xs c.index.result.now) c.blocks-blocks.ensures
+      ∙ ap (slice_index c.args.lens.now.blocks) state
 
   -- the place of its frame
   last : c.len-last.result - 1 ≡ length c.args.self.now.frames - 1
@@ -37,24 +46,39 @@ module _ (g : Over) (c : After-index g) where
   i = c.len-last.result - 1
 
   -- one transition more is marked as read, and taken
-  module _ {w : Search} {k : ℕ} (reads : Reads c.args.lens.now c.args.lists.now c.args.self.now w k) (stays : Stays c.args.self.now w)
+  module _ {w : Search} {k : ℕ} (reads : Reads c.args.lens.now c.args.lists.now c.args.self.now w k)
+      (stays : Stays c.args.self.now w)
       (more : k < c.top_frame-frame.result.end) (step : Step)
-      (is_step : IsStep c.args.lens.now (slice_index c.blocks-blocks.result.now c.index.result.now) (place_at c.args.lens.now.l.places k) step)
+      (is_step : IsStep c.args.lens.now (slice_index c.blocks-blocks.result.now c.index.result.now)
+      (place_at c.args.lens.now.l.places k) step)
       {inside : Search} (same : inside ≡ w) {at : Frame} (is_at : at ≡ get_or inside.frames i at) where
-    marks : {m : Search} (enters : Bool) → TakesStep c.args.lens.now.l.places step (record inside { frames = set inside.frames i (record at { next = k + 1 }) }) m enters
+    marks : {m : Search} (enters : Bool) → TakesStep c.args.lens.now.l.places step
+        (record inside { frames = set inside.frames i (record at { next = k + 1 }) }) m enters
         → Marked c.args.lens.now c.args.lists.now c.args.self.now m k enters
     marks {m = m} enters takes =
-        let low : i < length inside.frames = omega (arith, last, stays.size, c.requires.way.some, ap (λ x. length x.frames) same) in
-        let is : at ≡ frame_at w.frames i = get_or_read inside.frames i at low is_at _ ∙ ap (λ x. frame_at x.frames i) same in
-        marked reads stays c.requires.way.some c.known.ensures.laws c.known.ensures.lts (omega (arith, more, end)) _ block step is_step last
+        let low : i < length inside.frames =
+        omega (arith, last, stays.size, c.requires.way.some, ap (λ x. length x.frames) same) in
+        let is : at ≡ frame_at w.frames i = get_or_read inside.frames i at low is_at _
+        ∙ ap (λ x. frame_at x.frames i) same in
+        marked reads stays c.requires.way.some c.known.ensures.laws c.known.ensures.lts (omega (arith, more, end)) _
+        block step is_step last
         (λ j. record (is j) { next = k + 1 })
-        (subst (λ (x : Search). TakesStep c.args.lens.now.l.places step (record x { frames = set x.frames i (record at { next = k + 1 }) }) m enters) same takes)
+        (subst (λ (x : Search). TakesStep c.args.lens.now.l.places step
+        (record x { frames = set x.frames i (record at { next = k + 1 }) }) m enters) same takes)
 
 pub bounds-blocks-index : goal.bounds-blocks-index
 bounds-blocks-index g c =
     let walks = c.requires.way.walks in
-    let inside = open_inside c.args.self.now.stages c.args.self.now.stack walks.opened (here c.args.self.now) 0 (on_stack walks c.requires.way.some) in
-    omega (arith, state g (goal.at.bounds-blocks-index g c).After-index, inside, walks.numbers.size, c.known.ensures.size, ap length c.blocks-blocks.ensures)
+    let inside = open_inside c.args.self.now.stages c.args.self.now.stack walks.opened (here c.args.self.now) 0
+    (on_stack walks c.requires.way.some) in
+    omega (
+      arith,
+      state g (goal.at.bounds-blocks-index g c).After-index,
+      inside,
+      walks.numbers.size,
+      c.known.ensures.size,
+      ap length c.blocks-blocks.ensures,
+    )
 
 pub loop-k-init : goal.loop-k-init
 loop-k-init g c =
@@ -71,13 +95,21 @@ step-step-requires-clause-place g c =
 
 pub index_mut-requires : goal.index_mut-requires
 index_mut-requires g c =
-    omega (arith, last g (goal.at.index_mut-requires g c).After-index, c.loop-k.invariant.stays.size, c.requires.way.some, ap (λ w. length w.frames) c.self-in-loop-k.view_is, c.self-in-loop-k.inside.frames.ok.0)
+    omega (
+      arith,
+      last g (goal.at.index_mut-requires g c).After-index,
+      c.loop-k.invariant.stays.size,
+      c.requires.way.some,
+      ap (λ w. length w.frames) c.self-in-loop-k.view_is,
+      c.self-in-loop-k.inside.frames.ok.0,
+    )
 
 pub loop-k-preserved : goal.loop-k-preserved
 loop-k-preserved g c =
     let i = c.loop-k.invariant in
     let m =
-    marks g (goal.at.loop-k-preserved g c).After-index i.reads i.stays c.loop-k-test.true c.step-step.result c.step-step.ensures.step c.self-in-loop-k.view_is
+    marks g (goal.at.loop-k-preserved g c).After-index i.reads i.stays c.loop-k-test.true c.step-step.result
+    c.step-step.ensures.step c.self-in-loop-k.view_is
     c.index_mut.ensures.value c.in_ok-take.field-0 c.in_ok-take.ensures in
     let one = c.step-step.ensures.visit in
     let stays = m.stays (λ e. false≢true (sym c.if-branch.false ∙ e)) in
@@ -87,7 +119,8 @@ pub returns-then-branch : goal.returns-then-branch
 returns-then-branch g c =
     let i = c.loop-k.invariant in
     let m =
-    marks g (goal.at.returns-then-branch g c).After-index i.reads i.stays c.loop-k-test.true c.step-step.result c.step-step.ensures.step c.self-in-loop-k.view_is
+    marks g (goal.at.returns-then-branch g c).After-index i.reads i.stays c.loop-k-test.true c.step-step.result
+    c.step-step.ensures.step c.self-in-loop-k.view_is
     c.index_mut.ensures.value c.in_ok-take.field-0 c.in_ok-take.ensures in
     let one = c.step-step.ensures.visit in
     grind (arith, common_steps, m.reads, m.longer c.if-branch.true, i.reads, i.cost, one)
@@ -98,7 +131,8 @@ returns-clause-steps g c =
     let size = i.stays.size in (
       λ e. absurd (false≢true e),
       λ _. (
-        read_all i.reads i.stays c.requires.way.some (omega (arith, c.loop-k-test.false, end g (goal.at.returns-clause-steps g c).After-index)),
+        read_all i.reads i.stays c.requires.way.some
+            (omega (arith, c.loop-k-test.false, end g (goal.at.returns-clause-steps g c).After-index)),
         omega (arith, size, c.requires.way.some),
         omega (arith, size, i.reads.less, i.reads.forward),
       ),

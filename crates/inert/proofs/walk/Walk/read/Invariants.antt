@@ -8,5 +8,6 @@ abbrev pub invariant-loop-k : goal.invariant-loop-k
 invariant-loop-k g l = record {
   reads : Reads l.lens l.lists l.fn.self l.self l.k;
   stays : Stays l.fn.self l.self;
-  cost : Costs (g.M.Meter.counted l.fn.m) (g.M.Meter.counted l.m) 0 (l.k - (top l.fn.self.frames).next) (l.k - (top l.fn.self.frames).next);
+  cost : Costs (g.M.Meter.counted l.fn.m) (g.M.Meter.counted l.m) 0 (l.k - (top l.fn.self.frames).next)
+      (l.k - (top l.fn.self.frames).next);
 }

@@ -6,4 +6,5 @@ invariant_of-self c = rw (c.clear.ensures.items, c.truncate.ensures.items)
     (AreSlots-cleared c.self.inside.pairs.items c.self.inside.slots.items c.self.invariant)
 
 pub returns : goal.returns
-returns c = rw (c.clear.ensures.items, c.truncate.ensures.items) (kept-cleared c.self.inside.pairs.items c.self.inside.slots.items c.self.invariant)
+returns c = rw (c.clear.ensures.items, c.truncate.ensures.items) (kept-cleared c.self.inside.pairs.items
+    c.self.inside.slots.items c.self.invariant)

@@ -5,5 +5,6 @@ use Rattle.lists.proofs.known.Known.new.Goals as goal
 
 pub returns : goal.returns
 returns c =
-    none_first c.resize.new.self.items c.new-unions.result.items (1024 - vec_len c.new-unions.result) c.in_ok-resize.ensures.items
+    none_first c.resize.new.self.items c.new-unions.result.items (1024 - vec_len c.new-unions.result)
+    c.in_ok-resize.ensures.items
     c.new-unions.ensures.items

@@ -5,9 +5,11 @@ use Rattle.lists.proofs.Numbering.{shown_at}
 use Rattle.lists.proofs.lists.Lists.append.Goals as goal
 use Rattle.lists.proofs.lists.Lists.append.Goals.{After-of-list}
 
-list_is : (c : After-of-list) → list_at c.args.self.now c.args.k ≡ extended c.self.inside.bases.trie (parts_of c.of-list.result)
+list_is : (c : After-of-list) → list_at c.args.self.now c.args.k ≡ extended c.self.inside.bases.trie
+    (parts_of c.of-list.result)
 list_is c =
-    shown_at c.self.inside.bases.trie c.self.inside.table.kept c.args.self.now c.self.view_is c.args.k c.requires (parts_of c.of-list.result) c.of-list.ensures
+    shown_at c.self.inside.bases.trie c.self.inside.table.kept c.args.self.now c.self.view_is c.args.k c.requires
+    (parts_of c.of-list.result) c.of-list.ensures
 
 pub returns-clause-appended : goal.returns-clause-appended
 returns-clause-appended c =

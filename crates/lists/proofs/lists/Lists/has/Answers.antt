@@ -6,13 +6,16 @@ use Rattle.lists.proofs.Numbering.{shown_at, has_either, has_neither}
 use Rattle.lists.proofs.lists.Lists.has.Goals as goal
 use Rattle.lists.proofs.lists.Lists.has.Goals.{After-of-list}
 
-list_is : (c : After-of-list) → list_at c.args.self.now c.args.k ≡ extended c.self.inside.bases.trie (parts_of c.of-list.result)
+list_is : (c : After-of-list) → list_at c.args.self.now c.args.k ≡ extended c.self.inside.bases.trie
+    (parts_of c.of-list.result)
 list_is c =
-    shown_at c.self.inside.bases.trie c.self.inside.table.kept c.args.self.now c.self.view_is c.args.k c.requires (parts_of c.of-list.result) c.of-list.ensures
+    shown_at c.self.inside.bases.trie c.self.inside.table.kept c.args.self.now c.self.view_is c.args.k c.requires
+    (parts_of c.of-list.result) c.of-list.ensures
 
 pub returns-then-has : goal.returns-then-has
 returns-then-has c = (
-  λ t. (has_either c.self.inside.bases.trie (parts_of c.of-list.result) _ (list_is ((goal.at.returns-then-has c).After-of-list)) c.args.pair).1
+  λ t. (has_either c.self.inside.bases.trie (parts_of c.of-list.result) _
+      (list_is ((goal.at.returns-then-has c).After-of-list)) c.args.pair).1
       (inr (c.has.ensures.0 c.if-has.true)),
   λ d. refl,
 )
@@ -20,13 +23,18 @@ returns-then-has c = (
 pub returns-then-list-eq-EMPTY : goal.returns-then-list-eq-EMPTY
 returns-then-list-eq-EMPTY c = (
   λ t. absurd (false≢true t),
-  λ d. absurd (has_neither c.self.inside.bases.trie (parts_of c.of-list.result) _ (list_is ((goal.at.returns-then-list-eq-EMPTY c).After-of-list)) c.args.pair
+  λ d. absurd (has_neither c.self.inside.bases.trie (parts_of c.of-list.result) _
+      (list_is ((goal.at.returns-then-list-eq-EMPTY c).After-of-list)) c.args.pair
       c.if-list-eq-EMPTY.true c.known.ensures.stored.first (λ f. both_ways _ c.if-has.false (c.has.ensures.1 f)) d),
 )
 
 pub returns : goal.returns
 returns c =
-    let either = has_either c.self.inside.bases.trie (parts_of c.of-list.result) _ (list_is ((goal.at.returns c).After-of-list)) c.args.pair in (
+    let either = has_either c.self.inside.bases.trie (parts_of c.of-list.result) _
+    (list_is ((goal.at.returns c).After-of-list)) c.args.pair in (
       λ t. either.1 (inl (c.has-2.ensures.0 t)),
-      λ d. elim (either.0 d) [ inl b ↦ c.has-2.ensures.1 b | inr f ↦ absurd (both_ways _ c.if-has.false (c.has.ensures.1 f)) ],
+      λ d. elim (either.0 d) [
+        | inl b ↦ c.has-2.ensures.1 b
+        | inr f ↦ absurd (both_ways _ c.if-has.false (c.has.ensures.1 f))
+      ],
     )

@@ -11,7 +11,8 @@ use Rattle.lists.proofs.lists.Lists.join.Goals.{After-union_of}
 -- the last list has all
 pub returns-in-Some-clause-exactly : goal.returns-in-Some-clause-exactly
 returns-in-Some-clause-exactly c z =
-    subst (λ l. Contains (list_at c.args.self.now c.in-Some.list) z ↔ (Contains l z ⊎ HasOne c.args.self.now c.args.lists.now z)) c.deref.ensures.value
+    subst (λ l. Contains (list_at c.args.self.now c.in-Some.list) z
+    ↔ (Contains l z ⊎ HasOne c.args.self.now c.args.lists.now z)) c.deref.ensures.value
     (c.in-Some.ensures.exactly z)
 
 -- the base of the union is there
@@ -36,7 +37,8 @@ number_with-requires-clause-kept c = kept ((goal.at.number_with-requires-clause-
 
 pub number_with-requires-clause-list : goal.number_with-requires-clause-list
 number_with-requires-clause-list c =
-    subst (λ l. IsExtension c.union_of.new.bases.trie (c.in_ok-base.base, l)) (sym c.deref-2.ensures.value) c.in_ok-base.ensures.beside
+    subst (λ l. IsExtension c.union_of.new.bases.trie (c.in_ok-base.base, l)) (sym c.deref-2.ensures.value)
+    c.in_ok-base.ensures.beside
 
 pub invariant_of-self-2 : goal.invariant_of-self-2
 invariant_of-self-2 c = c.number_with.ensures.keeps.are
@@ -48,7 +50,8 @@ returns-clause-within c =
     c.number_with.ensures.within
 
 pub returns-clause-grow : goal.returns-clause-grow
-returns-clause-grow c = Grow-twice (grown ((goal.at.returns-clause-grow c).After-union_of)) c.number_with.ensures.keeps.lists
+returns-clause-grow c =
+    Grow-twice (grown ((goal.at.returns-clause-grow c).After-union_of)) c.number_with.ensures.keeps.lists
 
 pub returns-clause-exactly : goal.returns-clause-exactly
 returns-clause-exactly c =
@@ -56,7 +59,9 @@ returns-clause-exactly c =
     let pairs = c.union_of.new.pairs.items in
     IfOk-weaker c.number_with.result _ _ (λ k e z.
     same_as
-    (subst (λ l. Contains l z ↔ (Contains list z ⊎ Contains pairs z)) (sym (e ∙ ap (merged list) c.deref-2.ensures.value)) (merged_has z list pairs))
-    (subst (λ ls. (Contains list z ⊎ Contains pairs z) ↔ (Contains c.args.pairs.now.items z ⊎ HasOne ls c.args.lists.now z)) c.self.view_is
+    (subst (λ l. Contains l z ↔ (Contains list z ⊎ Contains pairs z))
+    (sym (e ∙ ap (merged list) c.deref-2.ensures.value)) (merged_has z list pairs))
+    (subst (λ ls. (Contains list z ⊎ Contains pairs z) ↔ (Contains c.args.pairs.now.items z
+    ⊎ HasOne ls c.args.lists.now z)) c.self.view_is
     (c.in_ok-base.ensures.exactly z)))
     c.number_with.ensures.list

@@ -3,8 +3,16 @@ use Rattle.lists.proofs.nodes.Nodes.clear.Goals as goal
 
 pub invariant_of-self : goal.invariant_of-self
 invariant_of-self c =
-    rw (c.clear.ensures.items, c.truncate.ensures.items, nodes-cleared c.self.inside.pairs.items c.self.inside.nodes.items c.self.invariant) AreNodes-first
+    rw (
+      c.clear.ensures.items,
+      c.truncate.ensures.items,
+      nodes-cleared c.self.inside.pairs.items c.self.inside.nodes.items c.self.invariant,
+    ) AreNodes-first
 
 pub returns : goal.returns
 returns c =
-    rw (c.clear.ensures.items, c.truncate.ensures.items, nodes-cleared c.self.inside.pairs.items c.self.inside.nodes.items c.self.invariant) lists-first
+    rw (
+      c.clear.ensures.items,
+      c.truncate.ensures.items,
+      nodes-cleared c.self.inside.pairs.items c.self.inside.nodes.items c.self.invariant,
+    ) lists-first

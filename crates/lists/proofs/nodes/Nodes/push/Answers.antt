@@ -4,7 +4,8 @@ use Rattle.lists.specs.declared.nodes.Node.TheVariants.{Whole}
 use Rattle.lists.specs.Nodes.{list_of_shape, kept_lists, Suits}
 use Rattle.lists.proofs.Storing.{IsNext, AreNodes-next, lists-next, length-lists}
 use Rattle.lists.proofs.nodes.Nodes.push.Goals as goal
-use Rattle.lists.proofs.nodes.Nodes.push.Goals.{After-push_reserved, in-Whole+in_ok-extend_from_slice-in-Whole, in-Halved}
+use Rattle.lists.proofs.nodes.Nodes.push.Goals.{After-push_reserved, in-Whole+in_ok-extend_from_slice-in-Whole}
+use Rattle.lists.proofs.nodes.Nodes.push.Goals.{in-Halved}
 
 module _ (c : After-push_reserved) where
   next : IsNext c.self.inside.pairs.items c.match-shape.self-inside.pairs.items c.args.shape c.match-shape.node
@@ -30,7 +31,8 @@ module _ (c : After-push_reserved) where
 
 pub invariant_of-self-2 : goal.invariant_of-self-2
 invariant_of-self-2 c =
-    let few : length c.self.inside.nodes.items < MOST_LISTS = subst (λ xs. length xs < MOST_LISTS) c.make_room.ensures.same c.in_ok-make_room.ensures.number in
+    let few : length c.self.inside.nodes.items < MOST_LISTS =
+    subst (λ xs. length xs < MOST_LISTS) c.make_room.ensures.same c.in_ok-make_room.ensures.number in
     rw (nodes c) (AreNodes-next c.self.inside.pairs.items _ c.self.inside.nodes.items c.args.shape c.match-shape.node
     c.self.invariant few
     (subst (λ l. Suits l c.args.shape) (sym c.self.view_is) c.requires) (next c))

@@ -12,7 +12,12 @@ use Rattle.lists.proofs.nodes.Nodes.shape.Goals.{After-index}
 
 module _ (c : After-index) where
   low : c.args.k < length c.self.inside.nodes.items
-  low = omega (arith, c.requires, length-lists c.self.inside.pairs.items c.self.inside.nodes.items, ap length c.self.view_is)
+  low = omega (
+    arith,
+    c.requires,
+    length-lists c.self.inside.pairs.items c.self.inside.nodes.items,
+    ap length c.self.view_is,
+  )
 
   at : node_at c.self.inside.nodes.items c.args.k ≡ c.index.result.now
   at = sym (get_or_read c.self.inside.nodes.items _ _ low c.index.ensures (Whole 0 0))
@@ -20,7 +25,8 @@ module _ (c : After-index) where
   kept : (node : Node) → c.index.result.now ≡ node
       → IsKept c.self.inside.pairs.items (kept_lists c.self.inside.pairs.items c.self.inside.nodes.items) c.args.k node
   kept node is =
-      subst (IsKept c.self.inside.pairs.items (kept_lists c.self.inside.pairs.items c.self.inside.nodes.items) c.args.k) (at ∙ is)
+      subst (IsKept c.self.inside.pairs.items (kept_lists c.self.inside.pairs.items c.self.inside.nodes.items) c.args.k)
+      (at ∙ is)
       (c.self.invariant.kept c.args.k low)
 
 pub index-requires : goal.index-requires
@@ -40,11 +46,14 @@ pub returns-in-Whole : goal.returns-in-Whole
 returns-in-Whole c =
     let d = (goal.at.returns-in-Whole c).After-index in
     let few = (kept d _ c.in-Whole.is).1 in (
-      c.part.ensures ∙ ap (λ l. slice_range l c.in-Whole.start (c.in-Whole.start + c.in-Whole.count)) c.deref.ensures.value
-          ∙ sym (list_whole c.self.inside.pairs.items c.self.inside.nodes.items c.args.k _ _ (low d) (at d ∙ c.in-Whole.is)) ∙ ap (λ l. list_at l c.args.k) c.self.view_is,
+      c.part.ensures ∙ ap (λ l. slice_range l c.in-Whole.start (c.in-Whole.start + c.in-Whole.count))
+          c.deref.ensures.value
+          ∙ sym (list_whole c.self.inside.pairs.items c.self.inside.nodes.items c.args.k _ _ (low d) (at d
+          ∙ c.in-Whole.is)) ∙ ap (λ l. list_at l c.args.k) c.self.view_is,
       omega (arith, ap length c.part.ensures, length-part c.deref.result.now c.in-Whole.start c.in-Whole.count),
     )
 
 pub returns-in-Halved : goal.returns-in-Halved
 returns-in-Halved c =
-    subst (λ l. IsHalved l c.args.k c.in-Halved.halves) c.self.view_is (kept ((goal.at.returns-in-Halved c).After-index) _ c.in-Halved.is)
+    subst (λ l. IsHalved l c.args.k c.in-Halved.halves) c.self.view_is (kept ((goal.at.returns-in-Halved c).After-index)
+    _ c.in-Halved.is)

@@ -29,14 +29,16 @@ at_r c =
 
 pub is_same-requires-clause-one : goal.is_same-requires-clause-one
 is_same-requires-clause-one c =
-    IsExtension-grow c.loop-r.invariant.grow (parts_of c.of.result) (at_r ((goal.at.is_same-requires-clause-one c).After-of))
+    IsExtension-grow c.loop-r.invariant.grow (parts_of c.of.result)
+    (at_r ((goal.at.is_same-requires-clause-one c).After-of))
 
 pub is_same-requires-clause-other : goal.is_same-requires-clause-other
 is_same-requires-clause-other c = IsExtension-grow c.loop-r.invariant.grow (parts_of c.args.list) c.requires.list
 
 -- what the comparison says of the lists as they were
 module _ (c : After-of) where
-  list_r : list_at (extended_lists c.args.bases.now.trie c.args.self.now.kept) c.loop-r.r ≡ extended c.loop-r.bases.trie (parts_of c.of.result)
+  list_r : list_at (extended_lists c.args.bases.now.trie c.args.self.now.kept) c.loop-r.r ≡ extended c.loop-r.bases.trie
+      (parts_of c.of.result)
   list_r =
       extended_at c.args.bases.now.trie _ c.loop-r.r c.loop-r.invariant.low
       ∙ ap (extended c.args.bases.now.trie) (sym c.of.ensures)

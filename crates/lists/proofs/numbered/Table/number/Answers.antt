@@ -6,9 +6,12 @@ use Rattle.lists.specs.Lists.{list_at}
 use Rattle.lists.specs.Hashes.{mixed}
 use Rattle.lists.specs.Hashed.{tag_of, IsNewList, IsNumberOf}
 use Rattle.lists.specs.Extended.{parts_of, extended, extended_lists, AreExtended}
-use Rattle.lists.proofs.Numbering.{TableGrows-trie, TableGrows-push, lists-grow, AreExtended-push, tags_size, extended_size, extended_some, list_more}
+use Rattle.lists.proofs.Numbering.{TableGrows-trie, TableGrows-push, lists-grow, AreExtended-push, tags_size}
+use Rattle.lists.proofs.Numbering.{extended_size, extended_some, list_more}
 use Rattle.lists.proofs.numbered.Table.number.Goals as goal
-use Rattle.lists.proofs.numbered.Table.number.Goals.{After-mix-tag, In-Some, In_ok-number-2, else-list-eq-EMPTY-via-then-list-eq-EMPTY+else-is_empty, else-list-eq-EMPTY-via-else-list-eq-EMPTY}
+use Rattle.lists.proofs.numbered.Table.number.Goals.{After-mix-tag, In-Some, In_ok-number-2}
+use Rattle.lists.proofs.numbered.Table.number.Goals.{else-list-eq-EMPTY-via-then-list-eq-EMPTY+else-is_empty}
+use Rattle.lists.proofs.numbered.Table.number.Goals.{else-list-eq-EMPTY-via-else-list-eq-EMPTY}
 
 tag_is : (c : After-mix-tag) → c.mix-tag.result ≡ tag_of (extended c.args.bases.now.trie (parts_of c.args.list))
 tag_is c = c.mix-tag.ensures ∙ ap mixed c.sum_of.ensures
@@ -17,10 +20,12 @@ pub find-requires-clause-tag : goal.find-requires-clause-tag
 find-requires-clause-tag c = tag_is ((goal.at.find-requires-clause-tag c).After-mix-tag)
 
 pub returns-in_err-number-clause-keeps : goal.returns-in_err-number-clause-keeps
-returns-in_err-number-clause-keeps c = TableGrows-trie c.find.ensures.grow c.args.self.now c.args.self.now refl refl c.requires.kept
+returns-in_err-number-clause-keeps c =
+    TableGrows-trie c.find.ensures.grow c.args.self.now c.args.self.now refl refl c.requires.kept
 
 pub returns-in-Some-clause-keeps : goal.returns-in-Some-clause-keeps
-returns-in-Some-clause-keeps c = TableGrows-trie c.find.ensures.grow c.args.self.now c.args.self.now refl refl c.requires.kept
+returns-in-Some-clause-keeps c =
+    TableGrows-trie c.find.ensures.grow c.args.self.now c.args.self.now refl refl c.requires.kept
 
 pub returns-in_err-number-2-clause-keeps : goal.returns-in_err-number-2-clause-keeps
 returns-in_err-number-2-clause-keeps c =
@@ -65,7 +70,8 @@ more c =
     let all = extended_lists trie c.args.self.now.kept in
     let list = extended trie parts in
     let known = c.known.ensures in
-    AreExtended-push trie c.args.self.now.kept c.args.self.now.buckets parts c.mix-tag.result c.requires.kept c.requires.list
+    AreExtended-push trie c.args.self.now.kept c.args.self.now.buckets parts c.mix-tag.result
+    c.requires.kept c.requires.list
     known.stored.first (extended_some trie parts known.stored known.different c.requires.list (not_both c))
     (subst (λ o. MatchOption o (IsNewList all list) (IsNumberOf all list)) c.in_default.is c.in_ok-number.ensures.found)
     (tag_is ((goal.at.In_ok-number-2 c).After-mix-tag))

@@ -12,12 +12,14 @@ use Rattle.lists.proofs.unions.Bases.+both.Goals.{After-known-2, In_ok-i}
 -- a list that is kept as it is
 pub returns-in_default-shape-clause-exactly : goal.returns-in_default-shape-clause-exactly
 returns-in_default-shape-clause-exactly t c =
-    IfOk-weaker c.with_list-in_default-shape.result _ _ (λ i h z. or_swap (h z)) c.with_list-in_default-shape.ensures.exactly
+    IfOk-weaker c.with_list-in_default-shape.result _ _ (λ i h z. or_swap (h z))
+    c.with_list-in_default-shape.ensures.exactly
 
 -- two long lists
 pub both-requires : goal.both-requires
 both-requires t c =
-    let is = c.pieces_of_both-cut.ensures c.args.self.now.trie c.known.ensures.stored c.in-Halved.ensures c.in-Halved-shape.ensures in
+    let is = c.pieces_of_both-cut.ensures c.args.self.now.trie c.known.ensures.stored c.in-Halved.ensures
+    c.in-Halved-shape.ensures in
     let less = (parts_fewer is.first.parted is.second.parted is.cut).0 in
     let d = c.decreases in
     let one = is.first.first in
@@ -28,7 +30,8 @@ both-requires t c =
 
 pub both-requires-2 : goal.both-requires-2
 both-requires-2 t c =
-    let is = c.pieces_of_both-cut.ensures c.args.self.now.trie c.known.ensures.stored c.in-Halved.ensures c.in-Halved-shape.ensures in
+    let is = c.pieces_of_both-cut.ensures c.args.self.now.trie c.known.ensures.stored c.in-Halved.ensures
+    c.in-Halved-shape.ensures in
     let less = (parts_fewer is.first.parted is.second.parted is.cut).1 in
     let d = c.decreases in
     let one = is.first.second in
@@ -42,10 +45,11 @@ both-requires-2 t c =
     (omega arith, (omega arith, omega arith))
 
 -- the unions of both parts are the halves of the union
-united_in : (t : ℕ) (c : After-known-2 t)
-    → let h : Halves = record { below = c.in_ok-below.below; above = c.in_ok-above.above; cut = c.pieces_of_both-cut.result.cut } in
+united_in : (t : ℕ) (c : After-known-2 t) → let h : Halves =
+    record { below = c.in_ok-below.below; above = c.in_ok-above.above; cut = c.pieces_of_both-cut.result.cut } in
     AreIn c.both-2.new.self.trie h
-    × Unites (list_at c.both-2.new.self.trie h.below ++ list_at c.both-2.new.self.trie h.above) (list_at c.args.self.now.trie c.args.j) (list_at c.args.self.now.trie c.args.k)
+    × Unites (list_at c.both-2.new.self.trie h.below ++ list_at c.both-2.new.self.trie h.above)
+    (list_at c.args.self.now.trie c.args.j) (list_at c.args.self.now.trie c.args.k)
 united_in t c =
     let lists = c.args.self.now.trie in
     let above = c.pieces_of_both-cut.result.above in
@@ -54,11 +58,13 @@ united_in t c =
     let two = is.second.second in
     let j = c.requires.first in
     let k = c.requires.second in
-    AreIn-united c.both.new.self.trie c.both-2.new.self.trie _ c.known-2.ensures.stored c.both-2.ensures.grow c.in_ok-below.ensures.within
+    AreIn-united c.both.new.self.trie c.both-2.new.self.trie _ c.known-2.ensures.stored c.both-2.ensures.grow
+    c.in_ok-below.ensures.within
     c.in_ok-below.ensures.exactly c.in_ok-above.ensures.within
     (subst₂ (Unites _) (c.both.ensures.grow.same above.0 (omega arith)) (c.both.ensures.grow.same above.1 (omega arith))
     c.in_ok-above.ensures.exactly)
-    is.first.parted is.second.parted (c.known.ensures.stored.rise c.args.k _ k) (halved_long c.in-Halved-shape.ensures) is.cut
+    is.first.parted is.second.parted (c.known.ensures.stored.rise c.args.k _ k)
+    (halved_long c.in-Halved-shape.ensures) is.cut
 
 pub number-requires : goal.number-requires
 number-requires t c = (united_in t ((goal.at.number-requires t c).After-known-2)).0
@@ -68,9 +74,11 @@ module _ (t : ℕ) (c : In_ok-i t) where
   grown : Grow c.args.self.now.trie c.number.new.self
   grown = Grow-twice (Grow-twice c.both.ensures.grow c.both-2.ensures.grow) c.number.ensures.grow
 
-  exactly : Unites (list_at c.number.new.self c.in_ok-i.i) (list_at c.args.self.now.trie c.args.j) (list_at c.args.self.now.trie c.args.k)
+  exactly : Unites (list_at c.number.new.self c.in_ok-i.i) (list_at c.args.self.now.trie c.args.j)
+      (list_at c.args.self.now.trie c.args.k)
   exactly =
-      subst (λ l. Unites l (list_at c.args.self.now.trie c.args.j) (list_at c.args.self.now.trie c.args.k)) (sym c.in_ok-i.ensures.list)
+      subst (λ l. Unites l (list_at c.args.self.now.trie c.args.j) (list_at c.args.self.now.trie c.args.k))
+      (sym c.in_ok-i.ensures.list)
       (united_in t ((goal.at.In_ok-i t c).After-known-2)).1
 
 pub note-requires : goal.note-requires

@@ -8,14 +8,17 @@ use Rattle.lists.proofs.unions.Bases.with_list.Goals.{After-deref}
 
 -- the list that is read
 held_is : (c : After-deref) → c.deref.result.now ≡ list_at c.args.self.now.trie c.args.few
-held_is c = c.deref.ensures.value ∙ c.in_ok-extend_from_slice.ensures.items ∙ (λ i. c.clear.ensures.items i ++ c.in-Whole.ensures.0 i)
+held_is c = c.deref.ensures.value ∙ c.in_ok-extend_from_slice.ensures.items
+    ∙ (λ i. c.clear.ensures.items i ++ c.in-Whole.ensures.0 i)
 
 pub with-requires-clause-fit : goal.with-requires-clause-fit
 with-requires-clause-fit c =
-    subst Fit (sym (held_is ((goal.at.with-requires-clause-fit c).After-deref))) (c.known.ensures.stored.fit c.args.few [] c.requires.few)
+    subst Fit (sym (held_is ((goal.at.with-requires-clause-fit c).After-deref))) (c.known.ensures.stored.fit c.args.few
+    [] c.requires.few)
 
 pub returns-clause-exactly : goal.returns-clause-exactly
 returns-clause-exactly c =
     let held = held_is ((goal.at.returns-clause-exactly c).After-deref) in
     IfOk-weaker c.with.result _ _
-    (λ i h. subst (λ l. Unites (list_at c.with.new.trie i) l (list_at c.args.self.now.trie c.args.k)) held h) c.with.ensures.exactly
+    (λ i h. subst (λ l. Unites (list_at c.with.new.trie i) l (list_at c.args.self.now.trie c.args.k)) held h)
+    c.with.ensures.exactly

@@ -5,7 +5,8 @@ use Rattle.growth.specs.declared.limits.TheConstants.{MOST_TRANSITIONS}
 use Rattle.lts.specs.Lts.{source_of, row_of, before, transition_of, IsTriple}
 use Rattle.lts.specs.Joining.{AddsShifted}
 use Rattle.lts.proofs.Rows.{before-next, before-zero, before-all, before-le}
-use Rattle.lts.proofs.Joining.{IsJoined-weaker, AddsShifted-nil, AddsShifted-row, length-AddsShifted, length-taken, row-fits}
+use Rattle.lts.proofs.Joining.{IsJoined-weaker, AddsShifted-nil, AddsShifted-row, length-AddsShifted, length-taken}
+use Rattle.lts.proofs.Joining.{row-fits}
 use Rattle.lts.proofs.disjoint.Joined.append.Given.{Over}
 use Rattle.lts.proofs.disjoint.Joined.append.Goals as goal
 
@@ -33,8 +34,10 @@ append_row-requires-clause-few g c =
     (before-le c.loop-state.state places) in
     let size = length-AddsShifted c.args.part.now.shift
     (map (transition_of c.args.part.now.l.now.labels) (take (before c.loop-state.state places) places))
-    c.args.self.now.labels c.loop-state.self.labels c.args.self.now.triples.items c.loop-state.self.triples.items c.loop-state.invariant.added in
-    let few : length c.loop-state.self.triples.items + length (row_of c.loop-state.state places) ≤ MOST_TRANSITIONS = omega (arith, c.requires.few) in
+    c.args.self.now.labels c.loop-state.self.labels c.args.self.now.triples.items c.loop-state.self.triples.items
+    c.loop-state.invariant.added in
+    let few : length c.loop-state.self.triples.items + length (row_of c.loop-state.state places) ≤ MOST_TRANSITIONS =
+    omega (arith, c.requires.few) in
     few
 
 pub append_row-requires-clause-room : goal.append_row-requires-clause-room
@@ -56,7 +59,8 @@ loop-state-preserved g c =
       added =
           AddsShifted-row c.args.part.now.shift c.args.part.now.l.now.labels c.args.part.now.l.now.places
           c.loop-state.state
-          c.args.self.now.labels c.loop-state.self.labels c.append_row.new.self.labels c.args.self.now.triples.items c.loop-state.self.triples.items c.append_row.new.self.triples.items
+          c.args.self.now.labels c.loop-state.self.labels c.append_row.new.self.labels c.args.self.now.triples.items
+          c.loop-state.self.triples.items c.append_row.new.self.triples.items
           c.states-state-end.ensures.lts.rising c.loop-state.invariant.added c.in_ok-append_row.ensures.added;
       visits = search rules;
     }
@@ -69,14 +73,16 @@ all g c =
     let at : c.loop-state.state ≡ s.states = omega (arith, c.states-state-end.ensures.value) in
     ap (λ n. before n s.places) at
     ∙ before-all s.states s.places
-    (All-weaker (IsTriple (length s.labels) s.states) (λ e. source_of e < s.states) (λ e h. h.source) s.places c.states-state-end.ensures.lts.in_range.each)
+    (All-weaker (IsTriple (length s.labels) s.states) (λ e. source_of e < s.states) (λ e h. h.source) s.places
+    c.states-state-end.ensures.lts.in_range.each)
 
 pub returns-clause-added : goal.returns-clause-added
 returns-clause-added g c =
     let s = c.args.part.now.l.now in
     subst (λ l. AddsShifted c.args.part.now.shift (map (transition_of s.labels) l) c.args.self.now.labels
     c.args.self.now.triples.items c.loop-state.self.labels c.loop-state.self.triples.items)
-    (ap (λ n. take n s.places) (all g c) ∙ take_all (length s.places) s.places (omega arith)) c.loop-state.invariant.added
+    (ap (λ n. take n s.places) (all g c) ∙ take_all (length s.places) s.places (omega arith))
+    c.loop-state.invariant.added
 
 pub returns-clause-visits : goal.returns-clause-visits
 returns-clause-visits g c = let e = all g c in search rules

@@ -14,12 +14,14 @@ returns-clause-joined g c =
     (c.args.part.now.shift + c.args.part.now.l.now.states) c.args.self.now.triples.items
     (c.args.part.now.shift + c.args.state, c.in_ok-number.number, c.args.part.now.shift + c.edge-label.result.1)
     c.text.result.now
-    c.requires.joined c.number_of.ensures.is_table c.in_ok-number.ensures.table c.number_of.ensures.keeps c.in_ok-number.ensures.number
+    c.requires.joined c.number_of.ensures.is_table c.in_ok-number.ensures.table c.number_of.ensures.keeps
+    c.in_ok-number.ensures.number
     (omega (arith, c.requires.state)) (omega (arith, c.edge-label.ensures.target)))
 
 pub returns-clause-added : goal.returns-clause-added
 returns-clause-added g c =
-    let text = c.in_ok-number.ensures.number.text ∙ c.text.ensures.text ∙ ap (λ l. text_of l c.edge-label.result.0) c.labels.ensures
+    let text = c.in_ok-number.ensures.number.text ∙ c.text.ensures.text ∙ ap (λ l. text_of l c.edge-label.result.0)
+    c.labels.ensures
     ∙ ap (text_of c.args.part.now.l.now.labels) c.edge-label.ensures.label in
     rw (c.in_ok-push.ensures.items, c.number_of.ensures.triples)
     (AddsShifted-push c.args.part.now.shift (transition_of c.args.part.now.l.now.labels

@@ -13,5 +13,6 @@ returns-clause-label c =
     let below : k < length (map (λ v. v.items) texts) = subst (λ t. k < length t) (sym c.self.view_is) c.requires in
     let same : get_or (map (λ v. v.items) texts) k [] ≡ text.items =
     get_or-map (λ v. v.items) texts k text [] (omega (arith, below, length-map texts (λ v. v.items)))
-    ∙ ap (λ xs. (get_or xs k text).items) (sym (c.as_slice.ensures ∙ c.keys.ensures.rest)) ∙ ap (λ v. v.items) (sym c.index-as_slice-k.is) in
+    ∙ ap (λ xs. (get_or xs k text).items) (sym (c.as_slice.ensures ∙ c.keys.ensures.rest))
+    ∙ ap (λ v. v.items) (sym c.index-as_slice-k.is) in
     rw c.deref.ensures.value (subst IsLabel same (All-get_or IsLabel _ k [] below c.self.invariant.each_label))

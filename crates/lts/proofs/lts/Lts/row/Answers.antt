@@ -26,7 +26,9 @@ returns g c =
     let below : c.args.s < view.states = omega (arith, c.requires, ap (λ l. l.states) c.self.view_is) in
     let begin : c.if-s-eq0.start ≡ before c.args.s view.places = elim c.if-s-eq0.branch [
       | then-s-eq0 w ↦ laid_out-first view _ _ c.self.invariant c.args.s _ w.if-s-eq0.true w.start-is
-      | else-s-eq0 w ↦ laid_out-next view _ _ c.self.invariant c.args.s _ w.if-s-eq0.false below (w.start-is ∙ get_or_read i.ends.items (c.args.s - 1) w.index.result.now (omega arith) w.index.ensures 0)
+      | else-s-eq0 w ↦ laid_out-next view _ _ c.self.invariant c.args.s _ w.if-s-eq0.false below (w.start-is
+          ∙ get_or_read i.ends.items (c.args.s - 1) w.index.result.now (omega arith) w.index.ensures 0)
     ] in
     let end = get_or_read i.ends.items c.args.s c.index-2.result.now (omega arith) c.index-2.ensures 0 in
-    rw (← c.self.view_is) (laid_out-row view _ _ c.self.invariant c.args.s c.if-s-eq0.start c.index-2.result.now below begin end)
+    rw (← c.self.view_is) (laid_out-row view _ _ c.self.invariant c.args.s c.if-s-eq0.start c.index-2.result.now
+    below begin end)

@@ -15,8 +15,10 @@ loop-k-preserved c =
     record {
       made =
           c.push_reserved.ensures.items
-          ∙ ap (λ (l : List Triple). l ++ (c.row_at-source.result, c.index.result.now.0, c.index.result.now.1) ∷ []) c.loop-k.invariant.made
-          ∙ ap (λ (e : Triple). take c.loop-k.k es ++ e ∷ []) (rows-place es _ _ c.self.invariant c.row_at-source.result c.loop-k.k _ (omega arith) c.index.ensures passed here within)
+          ∙ ap (λ (l : List Triple). l ++ (c.row_at-source.result, c.index.result.now.0, c.index.result.now.1) ∷ [])
+          c.loop-k.invariant.made
+          ∙ ap (λ (e : Triple). take c.loop-k.k es ++ e ∷ []) (rows-place es _ _ c.self.invariant c.row_at-source.result
+          c.loop-k.k _ (omega arith) c.index.ensures passed here within)
           ∙ sym (take_more es c.loop-k.k (0, 0, 0) (omega arith));
       room = omega (arith, c.loop-k.invariant.room, c.push_reserved.ensures.len, c.push_reserved.ensures.capacity);
       passed = λ s h. let low = passed s h in omega arith;

@@ -1,7 +1,8 @@
 use Rattle.std.proofs.Common.{◌≡◌, ◌∙◌, length, sym, refl, arith}
 use Rattle.std.proofs.lemmas.Bool.{false≢true}
 use Rattle.std.proofs.lemmas.List.{get_or_read}
-use Rattle.partition.proofs.Filling.{DecidedUpTo-none, DecidedUpTo-others, DecidedUpTo-voted, keepers_decided, none_left, small_parts}
+use Rattle.partition.proofs.Filling.{DecidedUpTo-none, DecidedUpTo-others, DecidedUpTo-voted, keepers_decided}
+use Rattle.partition.proofs.Filling.{none_left, small_parts}
 use Rattle.partition.proofs.counted.Counts.decide.Goals as goal
 use Rattle.partition.proofs.counted.Counts.decide.Goals.{then-index-gt0, else-index-gt0}
 
@@ -10,7 +11,8 @@ loop-i-init c =
     let self = c.args.self.now in
     record {
       sizes = refl;
-      decided = DecidedUpTo-none _ self.sizes.items self.keepers.items self.votes.items c.requires.each.1 c.requires.each.2;
+      decided =
+          DecidedUpTo-none _ self.sizes.items self.keepers.items self.votes.items c.requires.each.1 c.requires.each.2;
     }
 
 pub loop-i-preserved : goal.loop-i-preserved

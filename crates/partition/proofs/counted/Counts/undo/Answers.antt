@@ -1,4 +1,5 @@
-use Rattle.std.proofs.Common.{◌≡◌, ◌∙◌, ◌⊎◌, ℕ, ◌+◌, ◌<◌, ◌≤◌, List, length, set, slice_index, ap, sym, refl, inl, inr, arith}
+use Rattle.std.proofs.Common.{◌≡◌, ◌∙◌, ◌⊎◌, ℕ, ◌+◌, ◌<◌, ◌≤◌, List, length, set, slice_index, ap, sym, refl, inl, inr}
+use Rattle.std.proofs.Common.{arith}
 use Rattle.std.proofs.lemmas.Bool.{cases_eq}
 use Rattle.std.proofs.lemmas.List.{get_or_read, length-set, get_or-set_same, get_or-set_other}
 use Rattle.partition.proofs.Refilling.{few_left, without_less, sizes_back}
@@ -7,8 +8,10 @@ use Rattle.partition.proofs.counted.Counts.undo.Goals as goal
 
 -- the votes of the next block are taken away
 met_less : (of live votes : List ℕ) (i : ℕ) → let b = slice_index of (slice_index live i) in b < length votes
-    → ((k : ℕ) → (slice_index votes k ≡ 0) ⊎ ((j : ℕ) × (i ≤ j) × (j < length live) × (slice_index of (slice_index live j) ≡ k)))
-    → (k : ℕ) → (slice_index (set votes b 0) k ≡ 0) ⊎ ((j : ℕ) × (i + 1 ≤ j) × (j < length live) × (slice_index of (slice_index live j) ≡ k))
+    → ((k : ℕ) → (slice_index votes k ≡ 0) ⊎ ((j : ℕ) × (i ≤ j) × (j < length live)
+    × (slice_index of (slice_index live j) ≡ k)))
+    → (k : ℕ) → (slice_index (set votes b 0) k ≡ 0) ⊎ ((j : ℕ) × (i + 1 ≤ j) × (j < length live)
+    × (slice_index of (slice_index live j) ≡ k))
 met_less of live votes i room met k =
     let b = slice_index of (slice_index live i) in
     elim (cases_eq k b) [
@@ -38,9 +41,12 @@ overflow_add-index_mut c =
     let i = c.loop-i.i in
     let sizes = c.loop-i.self.sizes.items in
     let more : i < length live = omega (arith, c.loop-i-test.true, c.loop-i.auto.i-end) in
-    let room : slice_index of (slice_index live i) < length sizes = omega (arith, c.loop-i.invariant.blocks, c.requires.blocks.below _ (c.requires.live.below i more)) in
-    let was = get_or_read sizes (slice_index of (slice_index live i)) c.index_mut.result.now room c.index_mut.ensures.value 0 in
-    let left = few_left of live i sizes c.requires.live (below_states c.requires.blocks) more c.loop-i.invariant.sizes in
+    let room : slice_index of (slice_index live i) < length sizes =
+    omega (arith, c.loop-i.invariant.blocks, c.requires.blocks.below _ (c.requires.live.below i more)) in
+    let was = get_or_read sizes (slice_index of (slice_index live i)) c.index_mut.result.now room
+    c.index_mut.ensures.value 0 in
+    let left =
+    few_left of live i sizes c.requires.live (below_states c.requires.blocks) more c.loop-i.invariant.sizes in
     omega (arith, was, left, c.requires.blocks.few)
 
 pub loop-i-preserved : goal.loop-i-preserved
@@ -52,7 +58,8 @@ loop-i-preserved c =
     let votes = c.loop-i.self.votes.items in
     let b = slice_index of (slice_index live i) in
     let more : i < length live = omega (arith, c.loop-i-test.true, c.loop-i.auto.i-end) in
-    let room : b < length sizes = omega (arith, c.loop-i.invariant.blocks, c.requires.blocks.below _ (c.requires.live.below i more)) in
+    let room : b < length sizes =
+    omega (arith, c.loop-i.invariant.blocks, c.requires.blocks.below _ (c.requires.live.below i more)) in
     let was = get_or_read sizes b c.index_mut.result.now room c.index_mut.ensures.value 0 in
     let d = below_states c.requires.blocks in
     rw (was)
@@ -61,14 +68,16 @@ loop-i-preserved c =
       blocks = length-set sizes b (slice_index sizes b + 1) ∙ c.loop-i.invariant.blocks;
       keepers = c.loop-i.invariant.keepers;
       votes = length-set votes b 0 ∙ c.loop-i.invariant.votes;
-      met = met_less of live votes i (omega (arith, room, c.loop-i.invariant.blocks, c.loop-i.invariant.votes)) c.loop-i.invariant.met;
+      met = met_less of live votes i (omega (arith, room, c.loop-i.invariant.blocks, c.loop-i.invariant.votes))
+          c.loop-i.invariant.met;
     })
 
 pub returns : goal.returns
 returns c =
     let end : c.loop-i.i ≡ length c.args.live.now = omega (arith, c.loop-i-test.false, c.loop-i.auto.i-end) in
     record {
-      sizes = sizes_back c.args.of.now c.args.live.now c.loop-i.self.sizes.items c.loop-i.i _ c.requires.blocks c.loop-i.invariant.blocks end c.loop-i.invariant.sizes;
+      sizes = sizes_back c.args.of.now c.args.live.now c.loop-i.self.sizes.items c.loop-i.i _ c.requires.blocks
+          c.loop-i.invariant.blocks end c.loop-i.invariant.sizes;
       keepers = c.loop-i.invariant.keepers;
       votes = c.loop-i.invariant.votes;
       none = λ b. elim (c.loop-i.invariant.met b) [ inl none ↦ none | inr m ↦ absurd (omega (arith, m.1, m.2, end)) ];

@@ -8,5 +8,6 @@ invariant-loop-i l = record {
   blocks : length l.self.sizes.items ≡ length l.initial.self.sizes.items;
   keepers : length l.self.keepers.items ≡ length l.initial.self.sizes.items;
   votes : length l.self.votes.items ≡ length l.initial.self.sizes.items;
-  met : (b : ℕ) → (slice_index l.self.votes.items b ≡ 0) ⊎ ((j : ℕ) × (l.i ≤ j) × (j < length l.live) × (slice_index l.of (slice_index l.live j) ≡ b));
+  met : (b : ℕ) → (slice_index l.self.votes.items b ≡ 0) ⊎ ((j : ℕ) × (l.i ≤ j) × (j < length l.live)
+      × (slice_index l.of (slice_index l.live j) ≡ b));
 }

@@ -3,10 +3,12 @@ use Rattle.std.proofs.lemmas.List.{get_or_read}
 use Rattle.partition.proofs.Counting.{block_size-le}
 use Rattle.partition.proofs.Taking.{without_none}
 use Rattle.partition.specs.Halving.{BoundVotes}
-use Rattle.partition.proofs.Voting.{BoundVotes-none, had_one, votes_place, keepers_place, voted_more, voted_new, voted_less}
+use Rattle.partition.proofs.Voting.{BoundVotes-none, had_one, votes_place, keepers_place, voted_more, voted_new}
+use Rattle.partition.proofs.Voting.{voted_less}
 use Rattle.partition.proofs.Keeping.{KeptUpTo, KeptUpTo-none, voted_all}
 use Rattle.partition.proofs.counted.Counts.vote.Goals as goal
-use Rattle.partition.proofs.counted.Counts.vote.Goals.{then-index-list, else-index-list+then-votes-eq0, else-index-list+else-votes-eq0}
+use Rattle.partition.proofs.counted.Counts.vote.Goals.{then-index-list, else-index-list+then-votes-eq0}
+use Rattle.partition.proofs.counted.Counts.vote.Goals.{else-index-list+else-votes-eq0}
 
 pub loop-i-init : goal.loop-i-init
 loop-i-init c =
@@ -62,11 +64,13 @@ returns-clause-voted c =
     let live = c.args.live.now in
     let end : c.loop-i.i ≡ length live = omega (arith, c.loop-i-test.false, c.loop-i.auto.i-end) in
     voted_all c.args.of.now c.args.numbers.now live _ _ c.requires.live
-    (subst (λ n. KeptUpTo c.args.of.now c.args.numbers.now live n c.loop-i.self.keepers.items c.loop-i.self.votes.items) end c.loop-i.invariant.kept)
+    (subst (λ n. KeptUpTo c.args.of.now c.args.numbers.now live n c.loop-i.self.keepers.items c.loop-i.self.votes.items)
+    end c.loop-i.invariant.kept)
 
 pub returns-clause-bound : goal.returns-clause-bound
 returns-clause-bound c =
     let live = c.args.live.now in
     let end : c.loop-i.i ≡ length live = omega (arith, c.loop-i-test.false, c.loop-i.auto.i-end) in
     let self = c.loop-i.self in
-    subst (λ n. BoundVotes c.args.of.now c.args.numbers.now live n self.sizes.items self.keepers.items self.votes.items) end c.loop-i.invariant.bound
+    subst (λ n. BoundVotes c.args.of.now c.args.numbers.now live n self.sizes.items self.keepers.items self.votes.items)
+    end c.loop-i.invariant.bound

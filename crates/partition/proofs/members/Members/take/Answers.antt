@@ -13,11 +13,14 @@ loop-preserved c =
       | then-s-of+then-of-s+in_ok-push w ↦
           rw (w.states-is)
           (record {
-            old = λ t one. subst (λ xs. IsOne xs t) (sym w.in_ok-push.ensures.items) (one_stays c.loop.states.items s t (inv.old t one));
-            each = λ t one. elim (one_before c.loop.states.items s t (subst (λ xs. IsOne xs t) w.in_ok-push.ensures.items one)) [
-              | inl before ↦ inv.each t before
-              | inr e ↦ inr (subst (λ t. (t < length of) × (slice_index of t ≡ c.args.block)) e (omega (arith, w.if-s-of.true), w.if-of-s.true))
-            ];
+            old = λ t one. subst (λ xs. IsOne xs t) (sym w.in_ok-push.ensures.items) (one_stays c.loop.states.items s t
+                (inv.old t one));
+            each = λ t one. elim (one_before c.loop.states.items s t
+                (subst (λ xs. IsOne xs t) w.in_ok-push.ensures.items one)) [
+                  | inl before ↦ inv.each t before
+                  | inr e ↦ inr (subst (λ t. (t < length of) × (slice_index of t ≡ c.args.block)) e
+                      (omega (arith, w.if-s-of.true), w.if-of-s.true))
+                ];
           })
       | else-s-of w ↦ rw (w.states-is) (record { old = inv.old; each = inv.each })
     ]

@@ -5,5 +5,6 @@ use Rattle.partition.proofs.members.Members.take.Given as goal
 abbrev pub invariant-loop : goal.invariant-loop
 invariant-loop l = record {
   old : (t : ℕ) → IsOne l.initial.states.items t → IsOne l.states.items t;
-  each : (t : ℕ) → IsOne l.states.items t → IsOne l.initial.states.items t ⊎ ((t < length l.of) × (slice_index l.of t ≡ l.block));
+  each : (t : ℕ) → IsOne l.states.items t →
+      IsOne l.initial.states.items t ⊎ ((t < length l.of) × (slice_index l.of t ≡ l.block));
 }

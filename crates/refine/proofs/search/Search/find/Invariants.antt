@@ -8,8 +8,10 @@ abbrev pub invariant-loop-i : goal.invariant-loop-i
 invariant-loop-i g l = record {
   search : FindsFrom l.lens l.s l.self l.i;
   size : length l.self.marked ≡ length l.fn.self.marked;
-  visits : (g.M.Meter.counted l.m).visits + places_left l.lens.l.places l.self l.i ≡ (g.M.Meter.counted l.fn.m).visits + length l.lens.l.places;
-  least : 1 ≤ l.i → (g.M.Meter.counted l.fn.m).visits + length (row_of l.s l.lens.l.places) ≤ (g.M.Meter.counted l.m).visits;
+  visits : (g.M.Meter.counted l.m).visits + places_left l.lens.l.places l.self l.i ≡ (g.M.Meter.counted l.fn.m).visits
+      + length l.lens.l.places;
+  least : 1 ≤ l.i → (g.M.Meter.counted l.fn.m).visits + length (row_of l.s l.lens.l.places)
+      ≤ (g.M.Meter.counted l.m).visits;
   cost : Costs (g.M.Meter.counted l.fn.m) (g.M.Meter.counted l.m) 0 0 (length l.lens.l.places);
 }
 

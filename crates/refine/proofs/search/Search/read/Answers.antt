@@ -10,11 +10,14 @@ use Rattle.refine.proofs.search.Search.read.Goals.{After-row-start}
 
 -- the row of the state number i
 module _ (g : Over) (c : After-row-start g) where
-  row : IsRow c.args.lens.now.l.places (slice_index c.args.self.now.states c.args.i) c.row-start.result.0 c.row-start.result.1
+  row : IsRow c.args.lens.now.l.places (slice_index c.args.self.now.states c.args.i) c.row-start.result.0
+      c.row-start.result.1
   row =
-      let low : c.args.i < length c.self.inside.states.items = omega (arith, c.requires.more, ap (λ f. length f.states) c.self.view_is) in
+      let low : c.args.i < length c.self.inside.states.items =
+      omega (arith, c.requires.more, ap (λ f. length f.states) c.self.view_is) in
       subst (λ x. IsRow c.args.lens.now.l.places x c.row-start.result.0 c.row-start.result.1)
-      (get_or_read c.self.inside.states.items c.args.i c.index.result.now low c.index.ensures 0 ∙ ap (λ f. slice_index f.states c.args.i) c.self.view_is)
+      (get_or_read c.self.inside.states.items c.args.i c.index.result.now low c.index.ensures 0
+      ∙ ap (λ f. slice_index f.states c.args.i) c.self.view_is)
       c.row-start.ensures
 
 pub loop-k-preserved : goal.loop-k-preserved
@@ -45,7 +48,8 @@ returns-clause-found g c =
     let its = row g (goal.at.returns-clause-found g c).After-row-start in
     let xs = row_of (slice_index c.args.self.now.states c.args.i) u.l.places in
     let whole : All (IsTaken u s f) xs =
-    subst (All (IsTaken u s f)) (take_all (c.loop-k.k - c.row-start.result.0) xs (omega (arith, its.count, c.loop-k-test.false))) inv.taken in
+    subst (All (IsTaken u s f)) (take_all (c.loop-k.k - c.row-start.result.0) xs
+    (omega (arith, its.count, c.loop-k-test.false))) inv.taken in
     row_read u s c.known.ensures.lts c.known.ensures.laws c.rows_are_steps.ensures.sources
     (c.rows_are_steps.ensures.steps u.l) c.inert_steps_stay.ensures.block f c.args.i inv.search
     (omega (arith, c.requires.more, inv.longer))

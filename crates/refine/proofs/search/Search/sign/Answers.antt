@@ -9,6 +9,8 @@ returns-in-Ok-clause-signature g c =
     let u = c.new-lens.result in
     let zs = c.order.new.pairs.items in
     subst (λ u. IsSignature Branching u.l u.blocks c.args.s zs) c.new-lens.ensures
-    (signed u c.args.s c.known.ensures.lts c.known.ensures.laws c.rows_are_steps.ensures.sources (c.rows_are_steps.ensures.steps u.l)
-    c.inert_steps_stay.ensures.block c.inert_steps_stay.ensures.kept c.find.new.self c.in-Ok.ensures.found zs c.order.ensures.rising
+    (signed u c.args.s c.known.ensures.lts c.known.ensures.laws c.rows_are_steps.ensures.sources
+    (c.rows_are_steps.ensures.steps u.l)
+    c.inert_steps_stay.ensures.block c.inert_steps_stay.ensures.kept c.find.new.self c.in-Ok.ensures.found zs
+    c.order.ensures.rising
     (λ z. subst (λ xs. Contains zs z ↔ Contains xs z) (ap (λ f. f.pairs) c.self.view_is) (c.order.ensures.same z)))

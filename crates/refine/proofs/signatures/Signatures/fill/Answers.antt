@@ -13,8 +13,12 @@ pub sign_each-requires-clause-watches : goal.sign_each-requires-clause-watches
 sign_each-requires-clause-watches g c =
     let rel = g.S.Signing.relation in
     let round = c.in_ok-blocks-2.blocks in
-    subst (λ w. HasIndexed w rel c.args.l.now round.blocks × HasKept w rel c.args.l.now round) (sym c.in_ok-blocks-2.ensures.nothing)
-    (λ s h. inl (subst (λ b. IsOne b.live s) (sym c.in_ok-blocks-2.ensures.blocks) (c.in_ok-blocks.ensures.live s (omega (arith, h, c.requires.states)))), tt)
+    subst (λ w. HasIndexed w rel c.args.l.now round.blocks × HasKept w rel c.args.l.now round)
+    (sym c.in_ok-blocks-2.ensures.nothing) (
+      λ s h. inl (subst (λ b. IsOne b.live s) (sym c.in_ok-blocks-2.ensures.blocks) (c.in_ok-blocks.ensures.live s
+          (omega (arith, h, c.requires.states)))),
+      tt,
+    )
 
 pub returns-clause-signed : goal.returns-clause-signed
 returns-clause-signed g c s ls =
@@ -25,18 +29,24 @@ returns-clause-signed g c s ls =
     let (lists, numbers) = c.into_lists-lists.ensures in
     let start = c.in_ok-blocks.ensures in
     let is : signed.blocks ≡ c.in_ok-blocks.blocks = c.in_ok-signed.ensures.blocks ∙ c.in_ok-blocks-2.ensures.blocks in
-    let size : length signed.numbers ≡ length p = c.known.ensures.have.states ∙ ap (λ b. length b.of) is ∙ ap length start.of in
+    let size : length signed.numbers ≡ length p = c.known.ensures.have.states ∙ ap (λ b. length b.of) is
+    ∙ ap length start.of in
     let list = list_of signed.lists signed.numbers s in
     let whole : IsSignature rel l signed.blocks.of s list =
-    signs_whole rel l c.in_ok-blocks-2.blocks signed c.in_ok-signed.ensures.signed c.in_ok-blocks-2.ensures.nothing (ap (λ b. b.low) is ∙ start.low) s
+    signs_whole rel l c.in_ok-blocks-2.blocks signed c.in_ok-signed.ensures.signed c.in_ok-blocks-2.ensures.nothing
+    (ap (λ b. b.low) is ∙ start.low) s
     (subst (λ b. IsOne b.live s) (sym is) (start.live s (omega (arith, ls, c.requires.states)))) ls in
     subst (IsSignature rel l p s)
-    (sym (signature_at-list c.in_ok-whole.whole c.into_lists-lists.result.1.items s (omega (arith, ls, size, c.requires.states, ap length numbers))
-    ∙ ap (λ xs. list_of xs c.into_lists-lists.result.1.items s) (c.in_ok-whole.ensures ∙ lists) ∙ ap (λ ns. list_of signed.lists ns s) numbers))
+    (sym (signature_at-list c.in_ok-whole.whole c.into_lists-lists.result.1.items s
+    (omega (arith, ls, size, c.requires.states, ap length numbers))
+    ∙ ap (λ xs. list_of xs c.into_lists-lists.result.1.items s) (c.in_ok-whole.ensures ∙ lists)
+    ∙ ap (λ ns. list_of signed.lists ns s) numbers))
     (subst (λ of. IsSignature rel l of s list) (ap (λ b. b.of) is ∙ start.of) whole)
 
 pub returns-in_err-whole-clause-signed : goal.returns-in_err-whole-clause-signed
-returns-in_err-whole-clause-signed g c = let exit = err_from_is_err_and c.from_residual-in_err-whole.result c.from_residual-in_err-whole.ensures.1 in rw (exit.1) tt
+returns-in_err-whole-clause-signed g c =
+    let exit = err_from_is_err_and c.from_residual-in_err-whole.result c.from_residual-in_err-whole.ensures.1 in
+    rw (exit.1) tt
 
 pub invariant_of-self : goal.invariant_of-self
 invariant_of-self g c =
@@ -46,7 +56,8 @@ invariant_of-self g c =
     let size : length c.into_lists-lists.result.1.items ≡ length c.args.p.now =
     ap length numbers ∙ c.known.ensures.have.states ∙ ap (λ b. length b.of) is ∙ ap length c.in_ok-blocks.ensures.of in
     let old = c.self.inside.numbers.items in
-    let was : length old ≡ length c.args.self.now = sym (length-map old (list_at c.self.inside.whole)) ∙ ap length c.self.view_is in
+    let was : length old ≡ length c.args.self.now = sym (length-map old (list_at c.self.inside.whole))
+    ∙ ap length c.self.view_is in
     let states = c.self.invariant.1 in (
       c.in_ok-whole.ensures,
       record {

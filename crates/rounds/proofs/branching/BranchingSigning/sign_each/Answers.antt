@@ -20,7 +20,8 @@ sign_each-requires-clause-lists g c =
 pub sign_each-requires-clause-numbers : goal.sign_each-requires-clause-numbers
 sign_each-requires-clause-numbers g c =
     let value = c.deref_mut.ensures.value in
-    let states = ap (λ r. length r.blocks.of) c.round.view_is ∙ ap (λ b. length b.of) c.in_ok-round.ensures.blocks ∙ c.requires.states in (
+    let states = ap (λ r. length r.blocks.of) c.round.view_is ∙ ap (λ b. length b.of) c.in_ok-round.ensures.blocks
+    ∙ c.requires.states in (
       ap length value ∙ c.round.invariant.0.states ∙ states,
       subst (HaveNone c.round.inside.blocks.live) (sym value) c.round.invariant.0.none,
     )
@@ -28,8 +29,10 @@ sign_each-requires-clause-numbers g c =
 pub invariant_of-round : goal.invariant_of-round
 invariant_of-round g c =
     let old = c.round.inside.blocks in (
-      written_back old.of old.live c.sign_each.new.lists c.sign_each.new.numbers _ _ c.in_ok-sign_each.ensures.numbers c.sign_each.ensures.others
-          (omega (arith, c.sign_each.auto.numbers, c.deref_mut.ensures.len, c.round.invariant.0.states)) (omega (arith, c.sign_each.auto.numbers, c.deref_mut.ensures.len)),
+      written_back old.of old.live c.sign_each.new.lists c.sign_each.new.numbers _ _ c.in_ok-sign_each.ensures.numbers
+          c.sign_each.ensures.others
+          (omega (arith, c.sign_each.auto.numbers, c.deref_mut.ensures.len, c.round.invariant.0.states))
+          (omega (arith, c.sign_each.auto.numbers, c.deref_mut.ensures.len)),
       c.round.invariant.1,
     )
 

@@ -4,7 +4,8 @@ use Rattle.rounds.proofs.EachList.{emptied}
 use Rattle.rounds.proofs.signed_blocks.SignedBlocks.anew.Goals as goal
 
 pub forget-requires-clause-none : goal.forget-requires-clause-none
-forget-requires-clause-none c = subst₂ HaveNone (sym c.live.ensures.live) (sym c.deref_mut.ensures.value) c.self.invariant.0.none
+forget-requires-clause-none c =
+    subst₂ HaveNone (sym c.live.ensures.live) (sym c.deref_mut.ensures.value) c.self.invariant.0.none
 
 pub invariant_of-self : goal.invariant_of-self
 invariant_of-self c =

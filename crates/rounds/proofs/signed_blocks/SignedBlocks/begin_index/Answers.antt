@@ -4,7 +4,8 @@ use Rattle.rounds.proofs.EachList.{emptied}
 use Rattle.rounds.proofs.signed_blocks.SignedBlocks.begin_index.Goals as goal
 
 pub forget-requires-clause-none : goal.forget-requires-clause-none
-forget-requires-clause-none g c = subst₂ HaveNone (sym c.live.ensures.live) (sym c.deref_mut.ensures.value) c.self.invariant.0.none
+forget-requires-clause-none g c =
+    subst₂ HaveNone (sym c.live.ensures.live) (sym c.deref_mut.ensures.value) c.self.invariant.0.none
 
 pub invariant_of-result : goal.invariant_of-result
 invariant_of-result g c =
@@ -17,5 +18,6 @@ invariant_of-result g c =
     let size = ap length c.deref_mut.ensures.value ∙ c.self.invariant.0.states ∙ sym of in (
       emptied q.of q.live lists _ _ _ _ some done.empty done.states size
           (omega (arith, done.states, c.deref_mut.ensures.len)),
-      c.in_ok-entering.ensures.size ∙ sym c.requires.states ∙ ap (λ r. length r.blocks.of) (sym c.self.view_is) ∙ sym of,
+      c.in_ok-entering.ensures.size ∙ sym c.requires.states ∙ ap (λ r. length r.blocks.of) (sym c.self.view_is)
+          ∙ sym of,
     )
