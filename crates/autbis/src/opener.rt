@@ -1,5 +1,6 @@
 //! Where files are opened by their names: a trait, and the file system.
-ghost use Rattle.std.specs.Prelude.{◌≡◌, ◌≤◌, ◌+◌, ◌-◌, ℕ, List, [], ◌∷◌, None, Some, Option, IfSome, IfOk, MatchResult};
+ghost use Rattle.std.specs.Prelude.{◌≡◌, ◌≤◌, ◌+◌, ◌-◌, ℕ, List, [], ◌∷◌, None, Some, Option, IfSome, IfOk};
+ghost use Rattle.std.specs.Prelude.{MatchResult};
 ghost use Rattle.autbis.specs.Files.{Name, Opens};
 
 use autfmt::{Broken, FromRead, Source};

@@ -1,5 +1,6 @@
 //! What a job names, opened in its order: its texts, and then its hide list.
-ghost use Rattle.std.specs.Prelude.{◌≡◌, ◌≤◌, ◌+◌, ◌-◌, [], ◌∷◌, IfSome, IfOk, IfErr, OnOk, MatchResult, Some, option_map, option_to_list, string_bytes};
+ghost use Rattle.std.specs.Prelude.{◌≡◌, ◌≤◌, ◌+◌, ◌-◌, [], ◌∷◌, IfSome, IfOk, IfErr, OnOk, MatchResult, Some};
+ghost use Rattle.std.specs.Prelude.{option_map, option_to_list, string_bytes};
 ghost use Rattle.autbis.specs.Files.{HasAll, HasLostNone, IsRefused, files_used};
 ghost use Rattle.autbis.specs.Jobs.{HidesNamed, IsGivenUp, files_of, hide_of, texts_of};
 ghost use Rattle.autbis.specs.Opened.{AreOpened, HasOneFailed, HaveNotFailed, IsOpened, OnlyCloses, count_of};

@@ -1,5 +1,6 @@
 //! What a source gives, cut into lines: each line is looked at where its piece lies, or put together from pieces.
-ghost use Rattle.std.specs.Prelude.{◌≡◌, ℕ, ◌+◌, ◌<◌, List, [], ◌∷◌, ◌++◌, length, take, drop, true, false, IsTrue, Some, None, Ok, IfSome, IfNone};
+ghost use Rattle.std.specs.Prelude.{◌≡◌, ℕ, ◌+◌, ◌<◌, List, [], ◌∷◌, ◌++◌, length, take, drop, true, false, IsTrue};
+ghost use Rattle.std.specs.Prelude.{Some, None, Ok, IfSome, IfNone};
 ghost use Rattle.std.specs.List.{slice_range};
 ghost use Rattle.std.specs.Io.KnownBytes.{Consumes, IsAtEnd};
 ghost use Rattle.autfmt.specs.Stream.{CountsFailure};
@@ -56,7 +57,11 @@ impl Model for Cutter {
 
     ghost Value = { Cutting };
 
-    ghost view = { λ c. record { line = cut_line c.span c.piece c.buffer; ahead = slice_range c.piece c.from c.to; over = c.over } };
+    ghost view = { λ c. record {
+      line = cut_line c.span c.piece c.buffer;
+      ahead = slice_range c.piece c.from c.to;
+      over = c.over;
+    } };
 
     ghost invariant = { λ c. IsCutter c.from c.to c.span c.over };
 }

@@ -1,5 +1,6 @@
 //! The transitions that a reader holds: their labels in a table, and themselves by number.
-ghost use Rattle.std.specs.Prelude.{◌≡◌, ◌+◌, ◌<◌, ◌≤◌, ◌↔◌, [], length, IsTrue, IsSome, IfSome, IfNone, IfOk, OnOk, MatchResult};
+ghost use Rattle.std.specs.Prelude.{◌≡◌, ◌+◌, ◌<◌, ◌≤◌, ◌↔◌, [], length, IsTrue, IsSome, IfSome, IfNone, IfOk, OnOk};
+ghost use Rattle.std.specs.Prelude.{MatchResult};
 ghost use Rattle.theory.specs.System.{IsLabel, hidden_label};
 ghost use Rattle.growth.specs.declared.limits.TheConstants.{MOST_LABELS};
 ghost use Rattle.autfmt.specs.declared.limits.TheConstants.{FILE_TRANSITIONS};

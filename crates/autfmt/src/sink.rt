@@ -1,5 +1,6 @@
 //! Where bytes go: a trait, memory, and any writer of the standard library.
-ghost use Rattle.std.specs.Prelude.{◌≡◌, ℕ, ◌<◌, ◌≤◌, ◌↔◌, List, [], length, take, None, Some, IfSome, IsErr, IfOk, OnOk, OnErr, if◌then◌else◌, Option};
+ghost use Rattle.std.specs.Prelude.{◌≡◌, ℕ, ◌<◌, ◌≤◌, ◌↔◌, List, [], length, take, None, Some, IfSome, IsErr, IfOk};
+ghost use Rattle.std.specs.Prelude.{OnOk, OnErr, if◌then◌else◌, Option};
 ghost use Rattle.std.specs.Io.{WritesAtMost};
 ghost use Rattle.std.specs.Io.KnownBytes.{Appends, Keeps, WriteAppends};
 ghost use Rattle.autfmt.specs.Stream.{AppendsBeginning, CountsFailure};

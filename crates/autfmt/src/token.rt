@@ -3,7 +3,9 @@
 ghost use Rattle.std.specs.Prelude.{◌≡◌, ◌≢◌, ℕ, ◌<◌, ◌≤◌, ◌^◌, List, length, slice_index, IfSome, IfNone};
 ghost use Rattle.theory.specs.System.{IsLabel};
 ghost use Rattle.autfmt.specs.Grammar.{Header, TransitionLine, HideLine, is_letter};
-ghost use Rattle.autfmt.specs.Reading.{IsSeenAs, is_blank, is_word, after_blanks, past, number_at, word_len, more_digits, plain_at, last_quote, quoted_at, label_at, are_blanks, past_des, number_then, header_at, ending_at, transition_at, hide_line_at};
+ghost use Rattle.autfmt.specs.Reading.{IsSeenAs, is_blank, is_word, after_blanks, past, number_at, word_len};
+ghost use Rattle.autfmt.specs.Reading.{more_digits, plain_at, last_quote, quoted_at, label_at, are_blanks, past_des};
+ghost use Rattle.autfmt.specs.Reading.{number_then, header_at, ending_at, transition_at, hide_line_at};
 
 use lts::is_label;
 

@@ -2,7 +2,8 @@
 //! piece lies.
 ghost use Rattle.std.specs.Prelude.{◌≤◌, length, IfSome};
 ghost use Rattle.theory.specs.System.{IsLabel};
-ghost use Rattle.autfmt.specs.Usual.{BeginsWithNumber, FollowsComma, FollowsEnd, HasMark, BeginsWithLabel, BeginsWithTransition};
+ghost use Rattle.autfmt.specs.Usual.{BeginsWithNumber, FollowsComma, FollowsEnd, HasMark, BeginsWithLabel};
+ghost use Rattle.autfmt.specs.Usual.{BeginsWithTransition};
 
 use crate::digits::digits_in_front;
 use crate::token::{past, plain_at};

@@ -4,7 +4,8 @@ ghost use Rattle.std.specs.List.{All};
 ghost use Rattle.lts.specs.Meter.{HasRoomFor, Costs};
 ghost use Rattle.lists.specs.Lists.{Grow};
 ghost use Rattle.inert.specs.Search.{stage_at, AreOpen, AreThere};
-ghost use Rattle.inert.specs.Moves.{Closes, Finishes, ahead, steps, HasRead, IsUnderWay, SignsMore, GoesOn, Rests, ComesNearer};
+ghost use Rattle.inert.specs.Moves.{Closes, Finishes, ahead, steps, HasRead, IsUnderWay, SignsMore, GoesOn, Rests};
+ghost use Rattle.inert.specs.Moves.{ComesNearer};
 ghost use Rattle.inert.specs.Ahead.{unread, HasFinished};
 ghost use Rattle.inert.specs.declared.walk.Stage.TheVariants.{Unseen};
 

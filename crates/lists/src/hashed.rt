@@ -1,5 +1,6 @@
 //! How `trie` finds its lists (hash-consing): by tags, which equal lists share.
-ghost use Rattle.std.specs.Prelude.{◌≡◌, ◌^◌, ◌++◌, ◌∷◌, ◌<◌, [], length, map, IfOk, OnOk, OnErr, IsTrue, ◌↔◌, MatchOption};
+ghost use Rattle.std.specs.Prelude.{◌≡◌, ◌^◌, ◌++◌, ◌∷◌, ◌<◌, [], length, map, IfOk, OnOk, OnErr, IsTrue, ◌↔◌};
+ghost use Rattle.std.specs.Prelude.{MatchOption};
 ghost use Rattle.lists.specs.Lists.{list_at, Grow};
 ghost use Rattle.lists.specs.Hashes.{fingerprint_of};
 ghost use Rattle.lists.specs.Nodes.{list_of_shape, Suits};

@@ -1,5 +1,6 @@
 //! The label table: labels are numbered in the order in which they came, and each one's bytes are held once.
-ghost use Rattle.std.specs.Prelude.{◌≡◌, ◌↔◌, ℕ, ◌<◌, List, [], length, IsTrue, MatchOption, IfOk, OnOk, OnErr, Contains};
+ghost use Rattle.std.specs.Prelude.{◌≡◌, ◌↔◌, ℕ, ◌<◌, List, [], length, IsTrue, MatchOption, IfOk, OnOk, OnErr};
+ghost use Rattle.std.specs.Prelude.{Contains};
 ghost use Rattle.theory.specs.System.{IsLabel, internal};
 ghost use Rattle.growth.specs.declared.limits.TheConstants.{MOST_LABELS};
 ghost use Rattle.lts.specs.Labels.{text_of, IsNumber, IsTable, Keeps, Interns};

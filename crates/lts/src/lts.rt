@@ -1,7 +1,8 @@
 //! A system in memory. Its transitions stand in places, grouped by source; each one that is read is counted by a meter.
 ghost use Rattle.std.specs.Prelude.{◌≡◌, ◌↔◌, ℕ, ◌+◌, ◌<◌, length, map, IsTrue, IfOk};
 ghost use Rattle.lts.specs.Meter.{HasRoomFor, Costs};
-ghost use Rattle.lts.specs.Lts.{label_of, target_of, row_of, place_at, system_from, system_of, grouped, IsGrouping, Groups, InRange, IsLts, IsRow};
+ghost use Rattle.lts.specs.Lts.{label_of, target_of, row_of, place_at, system_from, system_of, grouped, IsGrouping};
+ghost use Rattle.lts.specs.Lts.{Groups, InRange, IsLts, IsRow};
 ghost use Rattle.lts.specs.Rows.{pair_of};
 
 use crate::labels::Labels;

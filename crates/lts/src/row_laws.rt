@@ -1,7 +1,8 @@
 //! What holds of the rows of a system, as functions whose contracts are the laws.
 ghost use Rattle.std.specs.Prelude.{◌≡◌, ◌↔◌, ℕ, ◌+◌, ◌-◌, ◌<◌, ◌≤◌, List, [], ◌∷◌, ◌++◌, length, take, Contains};
 ghost use Rattle.theory.specs.System.{Step};
-ghost use Rattle.lts.specs.Lts.{Triple, source_of, label_of, target_of, row_of, before, place_at, system_of, Grouped, IsLts, IsRow};
+ghost use Rattle.lts.specs.Lts.{Triple, source_of, label_of, target_of, row_of, before, place_at, system_of, Grouped};
+ghost use Rattle.lts.specs.Lts.{IsLts, IsRow};
 ghost use Rattle.lts.specs.Labels.{text_of, IsNumber};
 
 /// The rows follow each other: no place is before the first state, and all places are before the state that would be

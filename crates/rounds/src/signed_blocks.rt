@@ -67,7 +67,8 @@ impl Model for SignedBlocks {
       watch = r.watch;
     } };
 
-    ghost invariant = { λ r. HaveLists r.blocks.of r.blocks.live r.lists r.numbers.items × FitsWatch r.blocks.of r.watch };
+    ghost invariant = { λ r. HaveLists r.blocks.of r.blocks.live r.lists r.numbers.items
+        × FitsWatch r.blocks.of r.watch };
 }
 
 impl SignedBlocks {

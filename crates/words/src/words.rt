@@ -4,7 +4,10 @@ ghost use Rattle.clap.specs.Words.{app_of, first_of, found_of, rows_of, rule_of,
 ghost use Rattle.clap.specs.Values.{kind_of};
 ghost use Rattle.clap.specs.declared.error.kind.ErrorKind.TheVariants.{OutOfMemory};
 ghost use Rattle.clap.specs.declared.builder.command.Command.TheViews.{out-Command};
-ghost use Rattle.words.specs.Words.{HasMatches, IsFaultIn, IsFaultOf, IsFaultOfAJob, IsFaultOfKind, IsJobIn, IsJobOf, IsWhole, IsWholeIn, NamesNoRelation, cmp_app, file_rule, hide_rule, job_app, min_app, needed_file_rule, program_app, relation_in, relation_rule, stats_rule, relation_word};
+ghost use Rattle.words.specs.Words.{HasMatches, IsFaultIn, IsFaultOf, IsFaultOfAJob, IsFaultOfKind, IsJobIn, IsJobOf};
+ghost use Rattle.words.specs.Words.{IsWhole, IsWholeIn, NamesNoRelation, cmp_app, file_rule, hide_rule, job_app};
+ghost use Rattle.words.specs.Words.{min_app, needed_file_rule, program_app, relation_in, relation_rule, stats_rule};
+ghost use Rattle.words.specs.Words.{relation_word};
 ghost use Rattle.words.specs.declared.words.WordFault.TheVariants.{Memory};
 
 use clap::error::ErrorKind;

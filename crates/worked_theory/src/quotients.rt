@@ -8,10 +8,14 @@ ghost use Rattle.theory.specs.declared.relation.Relation.TheVariants.{Strong, Br
 ghost use Rattle.theory.specs.Quotient.{IsLeader, Number, Quotient};
 ghost use Rattle.worked_theory.specs.Examples.{AreQuotients, LeadersAre, QuotientIs};
 ghost use Rattle.worked_theory.specs.Examples.{a, only_a, a_then_b, only_b, loop_of_a, lone_state};
-ghost use Rattle.worked_theory.specs.Examples.{unreachable_twin, unreachable_pair, two_equal_targets, written_twice, chain_of_three};
-ghost use Rattle.worked_theory.specs.Examples.{first_leads, first_leads_quotient, first_leads_by_size, first_in_cycle, first_is_two};
-ghost use Rattle.worked_theory.specs.Examples.{silent_cycle, silent_loop, silent_choice, silent_chain, silent_beside, option_behind};
-ghost use Rattle.worked_theory.specs.Examples.{silent_middle, silent_detour, silent_detour_strong_quotient, hidden_middle_strong_quotient};
+ghost use Rattle.worked_theory.specs.Examples.{unreachable_twin, unreachable_pair, two_equal_targets, written_twice};
+ghost use Rattle.worked_theory.specs.Examples.{chain_of_three};
+ghost use Rattle.worked_theory.specs.Examples.{first_leads, first_leads_quotient, first_leads_by_size, first_in_cycle};
+ghost use Rattle.worked_theory.specs.Examples.{first_is_two};
+ghost use Rattle.worked_theory.specs.Examples.{silent_cycle, silent_loop, silent_choice, silent_chain, silent_beside};
+ghost use Rattle.worked_theory.specs.Examples.{option_behind};
+ghost use Rattle.worked_theory.specs.Examples.{silent_middle, silent_detour, silent_detour_strong_quotient};
+ghost use Rattle.worked_theory.specs.Examples.{hidden_middle_strong_quotient};
 
 /// `unreachable-twin`: state 1 is unreachable, bisimilar to 3 and no leader, so it adds no state.
 pub fn quotient_of_unreachable_twin()
