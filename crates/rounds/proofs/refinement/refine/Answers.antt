@@ -153,20 +153,17 @@ returns-then-more-count-clause-few g c =
     let next = c.in_ok-next.ensures.next in
     let old = c.loop-before.round.blocks.of in
     let last = c.in_ok-next.next in
-    let is = ap (λ r. r.of) c.in_ok-before.ensures.blocks in
-    let were = one_more g.S.Signing.relation l _ old made.past last is c.loop-before.invariant.states next
-    (made.were, made.halved) in
+    let were = one_more g.S.Signing.relation l _ old made.past last (ap (λ r. r.of) c.in_ok-before.ensures.blocks)
+    c.loop-before.invariant.states next (made.were, made.halved) in
     IfOk-weaker c.renumber.result _ _ (λ q same. record {
       last = last.blocks.of;
       past = old ∷ made.past;
       rounds = were.0;
       same = renumbered (system_of l) _ last.blocks.of q (c.of.ensures.of ∙ ap (λ b. b.of) c.into_blocks-blocks.ensures)
           next.states same;
-      few = λ s h. omega (
-        arith,
-        c.renumberings_are_few.ensures last.blocks.of (old ∷ made.past) s were.1 (omega (arith, h, next.states)),
-        next.states,
-      );
+      few = λ s h.
+          let few = c.renumberings_are_few.ensures last.blocks.of (old ∷ made.past) s were.1 in
+          omega (arith, few (omega (arith, h, next.states)), next.states);
     })
     c.renumber.ensures.same
 
@@ -189,32 +186,33 @@ loop-before-smaller g c =
     let below = few g (goal.at.loop-before-smaller g c).After-count-count in
     omega (arith, below, made.costs.rounds, c.in_ok-next.ensures.costs.rounds)
 
+-- the round has split something
+parted : (g : Over) (c : Else-more-count g) → ¬ SameBlocks (system_of c.args.l.now)
+    (slice_index c.loop-before.round.blocks.of) (slice_index c.in_ok-next.next.blocks.of)
+parted g c =
+    subst (λ p. ¬ SameBlocks (system_of c.args.l.now) (slice_index p) (slice_index c.in_ok-next.next.blocks.of))
+    (ap (λ r. r.of) c.in_ok-before.ensures.blocks)
+    (c.in_ok-next.ensures.next.parted
+    (λ e. c.if-more-count.false (c.count-more.ensures ∙ e ∙ sym c.count-count.ensures)))
+
 -- a round more was made
 made : (g : Over) (c : Else-more-count g) →
     Made g.S.Signing.relation c.args.l.now (g.M.Meter.counted c.args.m.now) (g.M.Meter.counted c.next_round.new.m)
     c.in_ok-next.next.blocks.of
 made g c =
     let l = c.args.l.now in
-    let A = system_of l in
+    let old = c.loop-before.round.blocks.of in
+    let new = c.in_ok-next.next in
     let before = c.loop-before.invariant.made in
-    let next = c.in_ok-next.ensures.next in
-    let is = ap (λ r. r.of) c.in_ok-before.ensures.blocks in
-    let were = one_more g.S.Signing.relation l _ _ before.past c.in_ok-next.next is c.loop-before.invariant.states next
-    (before.were, before.halved) in
+    let were = one_more g.S.Signing.relation l _ old before.past new (ap (λ r. r.of) c.in_ok-before.ensures.blocks)
+    c.loop-before.invariant.states c.in_ok-next.ensures.next (before.were, before.halved) in
     record {
       rounds = suc before.rounds;
-      past = c.loop-before.round.blocks.of ∷ before.past;
+      past = old ∷ before.past;
       were = were.0;
       halved = were.1;
-      underway =
-          c.refinement_goes_on.ensures.more g.S.Signing.relation A before.rounds
-          (slice_index c.loop-before.round.blocks.of)
-          (slice_index c.in_ok-next.next.blocks.of)
-          c.states.ensures.lts.system before.underway
-          (subst (λ p. Split g.S.Signing.relation A (slice_index p) (slice_index c.in_ok-next.next.blocks.of)) is
-          next.split)
-          (subst (λ p. SameBlocks A (slice_index p) (slice_index c.in_ok-next.next.blocks.of) →
-          ⊥) is (next.parted (λ e. c.if-more-count.false (c.count-more.ensures ∙ e ∙ sym c.count-count.ensures))));
+      underway = c.refinement_goes_on.ensures.more g.S.Signing.relation (system_of l) before.rounds (slice_index old)
+          (slice_index new.blocks.of) c.states.ensures.lts.system before.underway were.0.0 (parted g c);
       costs = costs_more (length l.places) l.states before.rounds _ _ before.costs
           (g.M.Meter.counted c.next_round.new.m) c.in_ok-next.ensures.costs;
     }

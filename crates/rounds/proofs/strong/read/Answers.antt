@@ -35,8 +35,7 @@ loop-k-preserved g c =
     let k = c.loop-k.k in
     let more : k + 1 < c.row-start.result.1 = omega (arith, i.by_two.1, c.loop-k-test.true) in
     let row = λ (k : ℕ). c.rows_follow.ensures.inside places c.args.s _ _ k c.row-start.ensures in
-    let first =
-    pairs_more of places c.args.s _ k (k + 1) (row k i.begun c.loop-k-test.true) refl
+    let first = pairs_more of places c.args.s _ k (k + 1) (row k i.begun c.loop-k-test.true) refl
     c.edge-first.ensures.label c.edge-first.ensures.target i.pairs c.collect-touched-in-loop-k.ensures.pairs in
     record {
       begun = omega (arith, i.begun);

@@ -10,23 +10,20 @@ loop-i-init g c = grind (arith, common_steps, ap length c.requires.lists)
 
 pub loop-i-preserved : goal.loop-i-preserved
 loop-i-preserved g c =
-    let under = c.args.under.now in
+    let l = c.args.under.now.l.now in
     let live = c.args.live.now in
     let i = c.loop-i.i in
     let inv = c.loop-i.invariant in
-    let rises = c.requires.under.rising in
     let more : i < length live = omega (arith, c.loop-i-test.true, c.loop-i.auto.i-end) in
     let row = c.row-start.ensures in
     let done = c.in_ok-numbers.ensures in
     record {
-      coming = λ j low h.
-          let apart = rises.rising i j (omega (arith, low)) h in
-          let up = c.rows_follow.ensures.up (slice_index live i + 1) (slice_index live j) under.l.now.places in
-          omega (arith, row.ends, up (omega (arith, apart)));
+      coming = λ j low h. let up = c.rows_follow.ensures.up (slice_index live i + 1) (slice_index live j) l.places in
+          omega (arith, row.ends, up (omega (arith, c.requires.under.rising.rising i j (omega (arith, low)) h)));
       within = row.within;
-      put = put_more _ _ c.loop-i.numbers live _ i _ c.put.ensures.grow rises
+      put = put_more _ _ c.loop-i.numbers live _ i _ c.put.ensures.grow c.requires.under.rising
           (omega (arith, c.loop-i.auto.numbers, c.requires.numbers.0)) more
-          (IsPut Strong under.l.now under.of.now under.low) inv.put done.within done.put;
+          (IsPut Strong l c.args.under.now.of.now c.args.under.now.low) inv.put done.within done.put;
       none = none_more c.loop-i.numbers live i _ more inv.none;
       some = omega (arith, inv.some, c.put.ensures.grow.longer);
       visits = omega (arith, row, inv.visits, inv.coming i (omega arith) more, c.visit_places.ensures, done.visits);

@@ -9,11 +9,10 @@ forget-requires-clause-none c =
 
 pub invariant_of-self : goal.invariant_of-self
 invariant_of-self c =
-    let r = c.self.inside in
-    let done = c.forget.ensures in
     let some : 1 ≤ length c.clear.new.self = omega (arith, ap length c.clear.ensures) in
+    let done = c.forget.ensures in
     let size = ap length c.deref_mut.ensures.value ∙ c.self.invariant.0.states in (
-      emptied r.blocks.of r.blocks.live c.clear.new.self _ _ _ _ some done.empty done.states size
-          (omega (arith, done.states, c.deref_mut.ensures.len)),
+      emptied c.self.inside.blocks.of c.self.inside.blocks.live c.clear.new.self _ _ _ _ some done.empty done.states
+          size (omega (arith, done.states, c.deref_mut.ensures.len)),
       c.self.invariant.1,
     )
