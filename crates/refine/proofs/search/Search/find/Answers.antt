@@ -11,13 +11,11 @@ loop-i-init g c =
     let marked = c.args.self.now.marked in
     let size = c.requires.clear.0 in
     let below : s < length marked = omega (arith, size, c.requires.state) in
+    let marks = ap (λ f. f.marked) c.self.view_is in
     let reaches : Reaches s (record { marked = marked; states = []; pairs = [] }) c.reach.new.self =
     subst (λ f. Reaches s f c.reach.new.self)
-    (λ i. record {
-      marked = (ap (λ f. f.marked) c.self.view_is) i;
-      states = c.clear.ensures.items i;
-      pairs = c.clear-2.ensures.items i;
-    }) c.in_ok-reach.ensures.reaches in
+    (λ i. record { marked = marks i; states = c.clear.ensures.items i; pairs = c.clear-2.ensures.items i })
+    c.in_ok-reach.ensures.reaches in
     let first = ahead_first u s c.known.ensures.laws marked below size c.requires.clear.1 c.reach.new.self reaches in
     record {
       search = begun u s c.known.ensures.laws marked below size c.requires.clear.1 c.reach.new.self reaches;

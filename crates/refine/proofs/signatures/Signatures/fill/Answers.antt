@@ -24,19 +24,17 @@ pub returns-clause-signed : goal.returns-clause-signed
 returns-clause-signed g c s ls =
     let rel = g.S.Signing.relation in
     let l = c.args.l.now in
-    let p = c.args.p.now in
     let signed = c.in_ok-signed.signed in
     let (lists, numbers) = c.into_lists-lists.ensures in
     let start = c.in_ok-blocks.ensures in
     let is : signed.blocks ≡ c.in_ok-blocks.blocks = c.in_ok-signed.ensures.blocks ∙ c.in_ok-blocks-2.ensures.blocks in
-    let size : length signed.numbers ≡ length p = c.known.ensures.have.states ∙ ap (λ b. length b.of) is
+    let size : length signed.numbers ≡ length c.args.p.now = c.known.ensures.have.states ∙ ap (λ b. length b.of) is
     ∙ ap length start.of in
     let list = list_of signed.lists signed.numbers s in
-    let whole : IsSignature rel l signed.blocks.of s list =
-    signs_whole rel l c.in_ok-blocks-2.blocks signed c.in_ok-signed.ensures.signed c.in_ok-blocks-2.ensures.nothing
-    (ap (λ b. b.low) is ∙ start.low) s
+    let whole = signs_whole rel l c.in_ok-blocks-2.blocks signed c.in_ok-signed.ensures.signed
+    c.in_ok-blocks-2.ensures.nothing (ap (λ b. b.low) is ∙ start.low) s
     (subst (λ b. IsOne b.live s) (sym is) (start.live s (omega (arith, ls, c.requires.states)))) ls in
-    subst (IsSignature rel l p s)
+    subst (IsSignature rel l c.args.p.now s)
     (sym (signature_at-list c.in_ok-whole.whole c.into_lists-lists.result.1.items s
     (omega (arith, ls, size, c.requires.states, ap length numbers))
     ∙ ap (λ xs. list_of xs c.into_lists-lists.result.1.items s) (c.in_ok-whole.ensures ∙ lists)
