@@ -73,19 +73,15 @@ module _ (of live : List ℕ) (i : ℕ) (sizes : List ℕ) (rises : AreLive (len
   abbrev b : ℕ
   b = slice_index of s
 
-  abbrev rest : List ℕ
-  rest = without.0
-
-  inside : s < length of
-  inside = rises.below i more_live
-
   pub few_left : slice_index sizes b ≤ length of
-  few_left = omega (arith, without.1.left b (below s inside), block_size-le rest b, without.1.states)
+  few_left =
+      let inside = rises.below i more_live in
+      omega (arith, without.1.left b (below s inside), block_size-le without.0 b, without.1.states)
 
   pub without_less : b < length sizes → AreSizesWithout of live (i + 1) (length live) (more sizes b)
   without_less room =
-      let out = without.1 in
-      let here : s < length rest = omega (arith, inside, out.states) in (
+      let (rest, out) = without in
+      let here : s < length rest = omega (arith, rises.below i more_live, out.states) in (
         set rest s b,
         record {
           states = length-set rest s b ∙ out.states;

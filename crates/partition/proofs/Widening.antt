@@ -2,8 +2,9 @@
 use Rattle.std.proofs.Common.{◌≡◌, ◌∙◌, ◌⊎◌, ℕ, ◌+◌, ◌<◌, ◌≤◌, List, [], ◌∷◌, ◌++◌, length, slice_index, ap, sym, subst}
 use Rattle.std.proofs.Common.{refl, inl, inr, arith}
 use Rattle.std.proofs.lemmas.Bool.{cases_lt}
-use Rattle.std.proofs.lemmas.List.{length_push, get_or_append_left, get_or_push}
+use Rattle.std.proofs.lemmas.List.{length_push, get_or_push}
 use Rattle.partition.specs.Blocks.{AreLive, AreAmong, IsOne}
+use Rattle.partition.proofs.Hinting.{one_stays, one_before}
 use Rattle.partition.proofs.Living.{earlier, rising_more, rising_later}
 
 -- of the states before s: those of the first k places are among them, and the next one in place k is not before s
@@ -21,21 +22,10 @@ module _ {live : List ℕ} {states : ℕ} {lose : ℕ → Type 0} {s k : ℕ} {w
   abbrev wide' : List ℕ
   wide' = wide ++ s ∷ []
 
-  at-old : (i : ℕ) → i < length wide → slice_index wide' i ≡ slice_index wide i
-  at-old i h = get_or_append_left wide (s ∷ []) 0 i h
-
-  at-new : (i : ℕ) → i ≡ length wide → slice_index wide' i ≡ s
-  at-new i h = get_or_push wide s 0 i (sym h)
-
-  pushed : (t : ℕ) → IsOne wide t → IsOne wide' t
-  pushed t one = (one.0, omega (arith, one.1, length_push wide s), at-old one.0 one.1 ∙ one.2)
-
   old_or_new : IsOne live s ⊎ lose s → (t : ℕ) → IsOne wide' t → IsOne live t ⊎ lose t
-  old_or_new now t one = elim (earlier (length wide) one.0 (omega (arith, one.1, length_push wide s))) [
-    | inl low ↦ up.each t (one.0, low, sym (at-old one.0 low) ∙ one.2)
-    | inr last ↦
-        let here : s ≡ t = sym (at-new one.0 last) ∙ one.2 in
-        elim now [ inl is ↦ inl (is.0, is.1, is.2 ∙ here) | inr lost ↦ inr (subst lose here lost) ]
+  old_or_new now t one = elim (one_before wide s t one) [
+    | inl was ↦ up.each t was
+    | inr here ↦ elim now [ inl is ↦ inl (is.0, is.1, is.2 ∙ here) | inr lost ↦ inr (subst lose here lost) ]
   ]
 
   -- s is in the next place
@@ -44,11 +34,11 @@ module _ {live : List ℕ} {states : ℕ} {lose : ℕ → Type 0} {s k : ℕ} {w
     within = omega (arith, inside);
     rises = rising_more wide s up.rises;
     are = λ j h. elim (earlier k j h) [
-      | inl low ↦ pushed (slice_index live j) (up.are j low)
+      | inl low ↦ one_stays wide s (slice_index live j) (up.are j low)
       | inr last ↦ (
         length wide,
         omega (arith, length_push wide s),
-        at-new (length wide) refl ∙ sym is ∙ ap (slice_index live) (sym last),
+        get_or_push wide s 0 (length wide) refl ∙ sym is ∙ ap (slice_index live) (sym last),
       )
     ];
     ahead = λ j low h. omega (arith, rises.rising k j (omega (arith, low)) h, is);
@@ -79,7 +69,7 @@ module _ {live : List ℕ} {states : ℕ} {lose : ℕ → Type 0} {s k : ℕ} {w
   wide_with other lost = record {
     within = up.within;
     rises = rising_more wide s up.rises;
-    are = λ j h. pushed (slice_index live j) (up.are j h);
+    are = λ j h. one_stays wide s (slice_index live j) (up.are j h);
     ahead = ahead' other;
     each = old_or_new (inr lost);
     many = omega (arith, up.many, length_push wide s);

@@ -56,20 +56,16 @@ loop-i-preserved c =
     let i = c.loop-i.i in
     let sizes = c.loop-i.self.sizes.items in
     let votes = c.loop-i.self.votes.items in
+    let inv = c.loop-i.invariant in
     let b = slice_index of (slice_index live i) in
     let more : i < length live = omega (arith, c.loop-i-test.true, c.loop-i.auto.i-end) in
-    let room : b < length sizes =
-    omega (arith, c.loop-i.invariant.blocks, c.requires.blocks.below _ (c.requires.live.below i more)) in
-    let was = get_or_read sizes b c.index_mut.result.now room c.index_mut.ensures.value 0 in
-    let d = below_states c.requires.blocks in
-    rw (was)
-    (record {
-      sizes = without_less of live i sizes c.requires.live d more c.loop-i.invariant.sizes room;
-      blocks = length-set sizes b (slice_index sizes b + 1) ∙ c.loop-i.invariant.blocks;
-      keepers = c.loop-i.invariant.keepers;
-      votes = length-set votes b 0 ∙ c.loop-i.invariant.votes;
-      met = met_less of live votes i (omega (arith, room, c.loop-i.invariant.blocks, c.loop-i.invariant.votes))
-          c.loop-i.invariant.met;
+    let room : b < length sizes = omega (arith, inv.blocks, c.requires.blocks.below _ (c.requires.live.below i more)) in
+    rw (get_or_read sizes b c.index_mut.result.now room c.index_mut.ensures.value 0) (record {
+      sizes = without_less of live i sizes c.requires.live (below_states c.requires.blocks) more inv.sizes room;
+      blocks = length-set sizes b (slice_index sizes b + 1) ∙ inv.blocks;
+      keepers = inv.keepers;
+      votes = length-set votes b 0 ∙ inv.votes;
+      met = met_less of live votes i (omega (arith, room, inv.blocks, inv.votes)) inv.met;
     })
 
 pub returns : goal.returns
