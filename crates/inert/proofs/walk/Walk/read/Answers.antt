@@ -12,7 +12,7 @@ use Rattle.inert.proofs.invariant.Standing.{on_stack}
 use Rattle.inert.proofs.moves.Reading.{Reads, Stays, Marked, reads_none, read_all, place_below, marked}
 use Rattle.inert.proofs.walk.Walk.read.Given.{Over}
 use Rattle.inert.proofs.walk.Walk.read.Goals as goal
-use Rattle.inert.proofs.walk.Walk.read.Goals.{After-index}
+use Rattle.inert.proofs.walk.Walk.read.Goals.{After-index, In_ok-take}
 
 -- the block of the state where the walk is
 module _ (g : Over) (c : After-index g) where
@@ -104,26 +104,25 @@ index_mut-requires g c =
       c.self-in-loop-k.inside.frames.ok.0,
     )
 
+-- the transition at the place k was marked as read, and its step taken
+taken : (g : Over) (c : In_ok-take g) → Marked c.args.lens.now c.args.lists.now c.args.self.now c.take.new.self
+    c.loop-k.k c.in_ok-take.field-0
+taken g c =
+    let i = c.loop-k.invariant in
+    marks g (goal.at.In_ok-take g c).After-index i.reads i.stays c.loop-k-test.true c.step-step.result
+    c.step-step.ensures.step c.self-in-loop-k.view_is c.index_mut.ensures.value _ c.in_ok-take.ensures
+
 pub loop-k-preserved : goal.loop-k-preserved
 loop-k-preserved g c =
-    let i = c.loop-k.invariant in
-    let m =
-    marks g (goal.at.loop-k-preserved g c).After-index i.reads i.stays c.loop-k-test.true c.step-step.result
-    c.step-step.ensures.step c.self-in-loop-k.view_is
-    c.index_mut.ensures.value c.in_ok-take.field-0 c.in_ok-take.ensures in
-    let one = c.step-step.ensures.visit in
+    let m = taken g (goal.at.loop-k-preserved g c).In_ok-take in
     let stays = m.stays (λ e. false≢true (sym c.if-branch.false ∙ e)) in
-    grind (arith, common_steps, m.reads, stays, i.cost, one)
+    grind (arith, common_steps, m.reads, stays, c.loop-k.invariant.cost, c.step-step.ensures.visit)
 
 pub returns-then-branch : goal.returns-then-branch
 returns-then-branch g c =
     let i = c.loop-k.invariant in
-    let m =
-    marks g (goal.at.returns-then-branch g c).After-index i.reads i.stays c.loop-k-test.true c.step-step.result
-    c.step-step.ensures.step c.self-in-loop-k.view_is
-    c.index_mut.ensures.value c.in_ok-take.field-0 c.in_ok-take.ensures in
-    let one = c.step-step.ensures.visit in
-    grind (arith, common_steps, m.reads, m.longer c.if-branch.true, i.reads, i.cost, one)
+    let m = taken g (goal.at.returns-then-branch g c).In_ok-take in
+    grind (arith, common_steps, m.reads, m.longer c.if-branch.true, i.reads, i.cost, c.step-step.ensures.visit)
 
 pub returns-clause-steps : goal.returns-clause-steps
 returns-clause-steps g c =
