@@ -27,6 +27,9 @@ either_end old all = search rules
 no_more : {B C D S T : Type 0} → (C → ⊥) → B ↔ (D ⊎ S) → (S ⊎ C) ↔ T → B ↔ (D ⊎ T)
 no_more none g h = search rules
 
+pub only_new : {A B S : Type 0} → (B → ⊥) → A ↔ (B ⊎ S) → A ↔ S
+only_new none f = search rules
+
 none_yet : {B S : Type 0} → (S → ⊥) → B ↔ (B ⊎ S)
 none_yet none = search rules
 

@@ -1,9 +1,10 @@
 -- Lists with bases: how they stay as the trie grows, which are the same, and one list more.
 use Rattle.std.proofs.Common.{◌≡◌, ◌∙◌, ◌⊎◌, ◌↔◌, ℕ, ◌<◌, ◌≤◌, List, [], ◌∷◌, ◌++◌, length, map, slice_index, Contains}
-use Rattle.std.proofs.Common.{ap, sym, subst, refl, inl, inr, arith}
+use Rattle.std.proofs.Common.{Result, IfOk, ap, sym, subst, refl, inl, inr, arith}
 use Rattle.std.specs.List.{All}
 use Rattle.std.specs.List.Sorted.{IsStrictlySortedBy}
 use Rattle.std.proofs.lemmas.Bool.{cases_lt, cases_eq}
+use Rattle.std.proofs.lemmas.Result.{IfOk-weaker}
 use Rattle.std.proofs.lemmas.List.{length-map, length_push, map-append, get_or-map, get_or_default, get_or_append_left}
 use Rattle.std.proofs.lemmas.List.Elements.{All-head, All-tail, All-append, All-weaker, All-contains}
 use Rattle.lists.specs.Lists.{pair_cmp, list_at, merged, AreLists, Grow, HasOne}
@@ -27,6 +28,10 @@ module _ (trie : List (List (ℕ × ℕ))) (kept : List (ℕ × List (ℕ × ℕ
 
   pub extended_size : length (extended_lists trie kept) ≡ length kept
   extended_size = length-map kept (extended trie)
+
+  pub within_lists : {E : Type 0} (r : Result ℕ E) → IfOk r (λ k. k < length kept)
+      → IfOk r (λ k. k < length (extended_lists trie kept))
+  within_lists r = IfOk-weaker r _ _ (λ k low. subst (λ n. k < n) (sym extended_size) low)
 
 pub kept_is : (trie : List (List (ℕ × ℕ))) (kept : List (ℕ × List (ℕ × ℕ))) → All (IsExtension trie) kept → (k : ℕ)
     → k < length kept

@@ -10,7 +10,7 @@ use Rattle.lists.specs.declared.nodes.TheConstants.{FEW}
 use Rattle.lists.specs.Lists.{pair_cmp, list_at, merged, Grow}
 use Rattle.lists.specs.Cuts.{as_number, Fit, IsPlace, IsAlike, IsCut, IsUnder, IsOver, IsParted}
 use Rattle.lists.specs.Nodes.{IsHalved, AreStored, AreIn}
-use Rattle.lists.specs.Unions.{Unites, IsSplit}
+use Rattle.lists.specs.Unions.{Unites, IsSplit, AreSplit}
 use Rattle.lists.proofs.Cuts.{alike_wider, alike_within, all_under, all_over}
 use Rattle.lists.proofs.Keys.{halves_has, halves_rise, parts_has}
 use Rattle.lists.proofs.Halving.{keys_between, has_first, has_last}
@@ -71,6 +71,14 @@ module _ (lists : List (List (ℕ × ℕ))) (stored : AreStored lists) (k c : �
     parted = subst (λ c. IsParted (list_at lists k) c (list_at lists h.below) (list_at lists h.above)) same
         (halved_parted is);
   }
+
+-- the numbers of the parts of two lists are below what the numbers of the lists are
+pub split_within : {lists : List (List (ℕ × ℕ))} {two below above : ℕ × ℕ} {c n : ℕ} → AreSplit lists two c below above
+    → two.0 < n → two.1 < n → ((below.0 < n) × (below.1 < n)) × ((above.0 < n) × (above.1 < n))
+split_within is first second = (
+  (omega (arith, is.first.first), omega (arith, is.second.first)),
+  (omega (arith, is.first.second), omega (arith, is.second.second)),
+)
 
 pub either_mixed : {W L U B C A D X Y : Type 0} → W ↔ (L ⊎ U) → L ↔ (B ⊎ C) → U ↔ (A ⊎ D) → X ↔ (B ⊎ A) →
     Y ↔ (C ⊎ D) → W ↔ (X ⊎ Y)

@@ -9,8 +9,7 @@ use Rattle.lists.proofs.lists.Lists.has.Goals.{After-of-list}
 list_is : (c : After-of-list) → list_at c.args.self.now c.args.k ≡ extended c.self.inside.bases.trie
     (parts_of c.of-list.result)
 list_is c =
-    shown_at c.self.inside.bases.trie c.self.inside.table.kept c.args.self.now c.self.view_is c.args.k c.requires
-    (parts_of c.of-list.result) c.of-list.ensures
+    shown_at _ _ _ c.self.view_is c.args.k c.requires (parts_of c.of-list.result) c.of-list.ensures
 
 pub returns-then-has : goal.returns-then-has
 returns-then-has c = (

@@ -1,10 +1,10 @@
-use Rattle.std.proofs.Common.{◌∙◌, ◌⊎◌, ◌↔◌, ◌<◌, Contains, ap, sym, subst}
+use Rattle.std.proofs.Common.{◌∙◌, ◌⊎◌, ◌↔◌, Contains, ap, sym, subst}
 use Rattle.std.proofs.lemmas.Result.{IfOk-weaker}
 use Rattle.lists.specs.Lists.{list_at, merged, Grow, HasOne}
 use Rattle.lists.specs.Extended.{AreExtended, IsExtension, extended_lists}
 use Rattle.lists.proofs.Merging.{merged_has}
 use Rattle.lists.proofs.Joining.{Grow-twice, same_as}
-use Rattle.lists.proofs.Numbering.{AreExtended-grow, Grow-lists, extended_size}
+use Rattle.lists.proofs.Numbering.{AreExtended-grow, Grow-lists, within_lists}
 use Rattle.lists.proofs.lists.Lists.join.Goals as goal
 use Rattle.lists.proofs.lists.Lists.join.Goals.{After-union_of}
 
@@ -44,10 +44,7 @@ pub invariant_of-self-2 : goal.invariant_of-self-2
 invariant_of-self-2 c = c.number_with.ensures.keeps.are
 
 pub returns-clause-within : goal.returns-clause-within
-returns-clause-within c =
-    let size = extended_size c.number_with.new.bases.trie c.number_with.new.self.kept in
-    IfOk-weaker c.number_with.result _ _ (λ k low. subst (λ n. k < n) (sym size) low)
-    c.number_with.ensures.within
+returns-clause-within c = within_lists _ _ c.number_with.result c.number_with.ensures.within
 
 pub returns-clause-grow : goal.returns-clause-grow
 returns-clause-grow c =

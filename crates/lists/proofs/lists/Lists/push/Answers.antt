@@ -1,8 +1,8 @@
-use Rattle.std.proofs.Common.{◌∙◌, ◌<◌, sym, subst}
+use Rattle.std.proofs.Common.{◌∙◌, subst}
 use Rattle.std.proofs.lemmas.Result.{IfOk-weaker}
 use Rattle.lists.specs.Lists.{Grow}
 use Rattle.lists.specs.Extended.{extended_lists}
-use Rattle.lists.proofs.Numbering.{IsExtension-few, extended_none, extended_size}
+use Rattle.lists.proofs.Numbering.{IsExtension-few, extended_none, within_lists}
 use Rattle.lists.proofs.lists.Lists.push.Goals as goal
 
 pub number_with-requires-clause-list : goal.number_with-requires-clause-list
@@ -13,10 +13,7 @@ pub invariant_of-self : goal.invariant_of-self
 invariant_of-self c = c.number_with.ensures.keeps.are
 
 pub returns-clause-within : goal.returns-clause-within
-returns-clause-within c =
-    let size = extended_size c.number_with.new.bases.trie c.number_with.new.self.kept in
-    IfOk-weaker c.number_with.result _ _ (λ k low. subst (λ n. k < n) (sym size) low)
-    c.number_with.ensures.within
+returns-clause-within c = within_lists _ _ c.number_with.result c.number_with.ensures.within
 
 pub returns-clause-list : goal.returns-clause-list
 returns-clause-list c =

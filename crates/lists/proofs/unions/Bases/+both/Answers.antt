@@ -4,7 +4,7 @@ use Rattle.lists.specs.declared.nodes.Halves.{Halves}
 use Rattle.lists.specs.Lists.{list_at, Grow}
 use Rattle.lists.specs.Nodes.{AreIn}
 use Rattle.lists.specs.Unions.{Unites}
-use Rattle.lists.proofs.Uniting.{parts_fewer, halved_long, AreIn-united}
+use Rattle.lists.proofs.Uniting.{split_within, parts_fewer, halved_long, AreIn-united}
 use Rattle.lists.proofs.Joining.{Grow-twice, or_swap}
 use Rattle.lists.proofs.unions.Bases.+both.Goals as goal
 use Rattle.lists.proofs.unions.Bases.+both.Goals.{After-known-2, In_ok-i}
@@ -22,11 +22,7 @@ both-requires t c =
     c.in-Halved-shape.ensures in
     let less = (parts_fewer is.first.parted is.second.parted is.cut).0 in
     let d = c.decreases in
-    let one = is.first.first in
-    let two = is.second.first in
-    let j = c.requires.first in
-    let k = c.requires.second in
-    (omega arith, (omega arith, omega arith))
+    (omega arith, (split_within is c.requires.first c.requires.second).0)
 
 pub both-requires-2 : goal.both-requires-2
 both-requires-2 t c =
@@ -34,14 +30,11 @@ both-requires-2 t c =
     c.in-Halved-shape.ensures in
     let less = (parts_fewer is.first.parted is.second.parted is.cut).1 in
     let d = c.decreases in
-    let one = is.first.second in
-    let two = is.second.second in
-    let j = c.requires.first in
-    let k = c.requires.second in
+    let (low, low') = (split_within is c.requires.first c.requires.second).1 in
     let grow = c.both.ensures.grow in
     let longer = grow.longer in
-    let same = ap length (grow.same c.pieces_of_both-cut.result.above.0 (omega arith)) in
-    let same' = ap length (grow.same c.pieces_of_both-cut.result.above.1 (omega arith)) in
+    let same = ap length (grow.same c.pieces_of_both-cut.result.above.0 low) in
+    let same' = ap length (grow.same c.pieces_of_both-cut.result.above.1 low') in
     (omega arith, (omega arith, omega arith))
 
 -- the unions of both parts are the halves of the union
@@ -54,16 +47,13 @@ united_in t c =
     let lists = c.args.self.now.trie in
     let above = c.pieces_of_both-cut.result.above in
     let is = c.pieces_of_both-cut.ensures lists c.known.ensures.stored c.in-Halved.ensures c.in-Halved-shape.ensures in
-    let one = is.first.second in
-    let two = is.second.second in
-    let j = c.requires.first in
-    let k = c.requires.second in
+    let (low, low') = (split_within is c.requires.first c.requires.second).1 in
     AreIn-united c.both.new.self.trie c.both-2.new.self.trie _ c.known-2.ensures.stored c.both-2.ensures.grow
     c.in_ok-below.ensures.within
     c.in_ok-below.ensures.exactly c.in_ok-above.ensures.within
-    (subst₂ (Unites _) (c.both.ensures.grow.same above.0 (omega arith)) (c.both.ensures.grow.same above.1 (omega arith))
+    (subst₂ (Unites _) (c.both.ensures.grow.same above.0 low) (c.both.ensures.grow.same above.1 low')
     c.in_ok-above.ensures.exactly)
-    is.first.parted is.second.parted (c.known.ensures.stored.rise c.args.k _ k)
+    is.first.parted is.second.parted (c.known.ensures.stored.rise c.args.k _ c.requires.second)
     (halved_long c.in-Halved-shape.ensures) is.cut
 
 pub number-requires : goal.number-requires
