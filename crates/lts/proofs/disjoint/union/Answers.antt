@@ -112,21 +112,15 @@ pub build-requires : goal.build-requires
 build-requires g c =
     let b = c.args.b.now in
     let joined = c.in_ok-append-2.ensures.joined in
-    let more = length-AddsShifted c.states-shift.result (system_of b).transitions c.append.new.self.labels
-    c.append-2.new.self.labels
-    c.append.new.self.triples.items c.append-2.new.self.triples.items c.in_ok-append-2.ensures.added in
+    let few = grown g (goal.at.build-requires g c).In_ok-append in
+    let more = length-AddsShifted _ (system_of b).transitions _ _ _ _ c.in_ok-append-2.ensures.added in
     let states : c.states-shift.result + b.states ≡ c.states.result + c.states-2.result =
     omega (arith, c.states-shift.ensures.value, c.states.ensures.value, c.states-2.ensures.value) in
     record {
       first_below = omega (arith, c.first.ensures, c.edges.ensures.lts.in_range.first_below, c.states.ensures.value);
       few_states = omega (arith, states, joined.few_states);
-      few_transitions = omega (
-        arith,
-        more,
-        grown g (goal.at.build-requires g c).In_ok-append,
-        length-map b.places (transition_of b.labels),
-        c.requires.fit.transitions,
-      );
+      few_transitions =
+          omega (arith, few, more, length-map b.places (transition_of b.labels), c.requires.fit.transitions);
       each = subst (λ n. All (IsTriple (length c.append-2.new.self.labels) n) c.append-2.new.self.triples.items)
           states joined.each;
     }

@@ -6,30 +6,18 @@ use Rattle.lts.proofs.lts.Lts.of_shared.Goals as goal
 
 pub invariant_of-result : goal.invariant_of-result
 invariant_of-result g c =
-    IsLaidOut-grouped c.args.labels.value c.args.first c.args.states c.args.e c.in_ok-ends.ends.items
-    c.in_ok-ends.pairs.items c.requires
-    c.in_ok-ends.ensures.ends
-    c.in_ok-ends.ensures.pairs
+    IsLaidOut-grouped c.args.labels.value _ _ _ _ _ c.requires c.in_ok-ends.ensures.ends c.in_ok-ends.ensures.pairs
     (subst IsTable c.as_ref.ensures c.known.ensures)
 
 pub returns-clause-places : goal.returns-clause-places
 returns-clause-places g c =
-    laid_out-places c.args.labels.value c.args.first c.args.states c.args.e c.in_ok-ends.ends.items
-    c.in_ok-ends.pairs.items c.requires
-    c.in_ok-ends.ensures.ends
-    c.in_ok-ends.ensures.pairs
+    laid_out-places c.args.labels.value _ _ _ _ _ c.requires c.in_ok-ends.ensures.ends c.in_ok-ends.ensures.pairs
 
 pub returns-clause-grouping : goal.returns-clause-grouping
 returns-clause-grouping g c =
     subst (IsGrouping c.args.e) (sym (returns-clause-places g c))
-    (laid_out-grouping c.args.labels.value c.args.first c.args.states c.args.e c.in_ok-ends.ends.items
-    c.in_ok-ends.pairs.items c.requires
-    c.in_ok-ends.ensures.ends
-    c.in_ok-ends.ensures.pairs)
+    (laid_out-grouping c.args.labels.value _ _ _ _ _ c.requires c.in_ok-ends.ensures.ends c.in_ok-ends.ensures.pairs)
 
 pub returns-clause-system : goal.returns-clause-system
 returns-clause-system g c =
-    laid_out-groups c.args.labels.value c.args.first c.args.states c.args.e c.in_ok-ends.ends.items
-    c.in_ok-ends.pairs.items c.requires
-    c.in_ok-ends.ensures.ends
-    c.in_ok-ends.ensures.pairs
+    laid_out-groups c.args.labels.value _ _ _ _ _ c.requires c.in_ok-ends.ensures.ends c.in_ok-ends.ensures.pairs
