@@ -77,18 +77,12 @@ loop-s-preserved g c =
     let is_reached = subst (λ m. IsTrue m ↔ Reachable (system_of l) c.loop-s.s) (sym mark)
     (c.requires.reached c.loop-s.s below) in
     record {
-      within = TakesState-within b _ _ c.loop-s.taken c.add.new.self c.in_ok-add.ensures l.states
-          (slice_index c.args.blocks) c.loop-s.invariant.within;
-      few = omega (
-        arith,
-        TakesState-few b _ _ c.loop-s.taken c.add.new.self c.in_ok-add.ensures,
-        c.loop-s.invariant.few,
-      );
+      within = TakesState-within b _ _ _ _ c.in_ok-add.ensures l.states _ c.loop-s.invariant.within;
+      few = omega (arith, TakesState-few b _ _ _ _ c.in_ok-add.ensures, c.loop-s.invariant.few);
       laws = c.loop-s.invariant.laws;
-      taken = λ rel classes. Taken-adds rel (system_of l) (slice_index c.args.blocks)
-          (c.loop-s.invariant.laws rel classes) c.loop-s.s b
-          c.loop-s.taken c.add.new.self _ _ c.block-in-loop-s.ensures
-          (is_first c.loop-s.s c.first-first.result l.first c.first-first.ensures)
+      taken = λ rel classes.
+          Taken-adds rel (system_of l) _ (c.loop-s.invariant.laws rel classes) c.loop-s.s b _ _ _ _
+          c.block-in-loop-s.ensures (is_first c.loop-s.s c.first-first.result l.first c.first-first.ensures)
           is_reached below (omega (arith, below, c.states-states.ensures.lts.in_range.few_states))
           c.loop-s.invariant.few (c.loop-s.invariant.within c.loop-s.s below) (c.loop-s.invariant.taken rel classes)
           c.in_ok-add.ensures;

@@ -41,26 +41,17 @@ led_to g c from =
 pub loop-k-preserved : goal.loop-k-preserved
 loop-k-preserved g c =
     let at = (goal.at.loop-k-preserved g c).In_ok-mark in
-    let old = c.loop-k.self in
     let t = c.edge-target.result.1 in
     let places = c.args.l.now.places in
     let marks = c.in_ok-mark.ensures in
     let more = c.rows_follow.ensures.inside places c.args.s _ _ c.loop-k.k c.row-start.ensures
     (omega (arith, c.loop-k.auto.k)) (omega arith) in
     record {
-      search = Searches-step c.args.l.now c.args.s t c.args.next old.marked.items old.queue.items _ _ (below g at)
-          (led_to g at)
-          c.loop-k.invariant.search marks;
-      read = targets_marked t c.args.next old.marked.items old.queue.items _ _ (below g at) marks _ _
-          (place_at places c.loop-k.k) more
+      search = Searches-step _ c.args.s t _ _ _ _ _ (below g at) (led_to g at) c.loop-k.invariant.search marks;
+      read = targets_marked t _ _ _ _ _ (below g at) marks _ _ (place_at places c.loop-k.k) more
           c.edge-target.ensures.target c.loop-k.invariant.read;
-      states = omega (
-        arith,
-        states_ahead-marks t c.args.next old.marked.items old.queue.items _ _ (below g at) marks,
-        c.loop-k.invariant.states,
-      );
-      places = places_ahead-marks places t c.args.next old.marked.items old.queue.items _ _ (below g at) marks
-          ∙ c.loop-k.invariant.places;
+      states = omega (arith, states_ahead-marks t _ _ _ _ _ (below g at) marks, c.loop-k.invariant.states);
+      places = places_ahead-marks places t _ _ _ _ _ (below g at) marks ∙ c.loop-k.invariant.places;
       visits = let range = c.loop-k.auto.k in search rules;
     }
 
