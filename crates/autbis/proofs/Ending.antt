@@ -24,6 +24,7 @@ use Rattle.autfmt.specs.Texts.{Reads}
 use Rattle.autfmt.specs.Written.{listed, transition_cmp}
 use Rattle.autbis.specs.declared.compare.CmpFault.{CmpFault}
 use Rattle.autbis.specs.declared.compare.Side.TheVariants.{First}
+use Rattle.autbis.specs.declared.run.Counts.{Counts as Sizes}
 use Rattle.autbis.specs.Comparisons.{CmpFails, ComparesTo, IsVerdict, ReadBoth, line_of}
 use Rattle.autbis.specs.Comparisons.CmpFails.{first_not_read, second_not_read, out_of_memory as no_room}
 use Rattle.autbis.specs.Comparisons.CmpFails.{not_written as no_line}
@@ -34,7 +35,7 @@ use Rattle.autbis.specs.Files.{FilesUsed, HasLostNone, Name}
 use Rattle.autbis.specs.Jobs.{IsListUnread}
 use Rattle.autbis.specs.Opened.{AreAsTold}
 use Rattle.autbis.specs.Reports.{status_of}
-use Rattle.autbis.specs.Runs.{IsFaulty, IsReadable, MinimisedText, Request, RunFails, Used}
+use Rattle.autbis.specs.Runs.{IsFaulty, IsReadable, MinimisedText, Request, RunFails, RunsTo, Used}
 use Rattle.autbis.specs.Runs.RunFails.{not_read, out_of_memory, not_written}
 use Rattle.autbis.proofs.Carried.{all_taken, of_all}
 use Rattle.autbis.proofs.InOrder.{told_then}
@@ -76,6 +77,15 @@ pub minimised : {asked : Request} {text : List ℕ} {status : ℕ} (to : Minimis
     × IsSorted transition_cmp Q.transitions
     × (listed to.output ≡ listed Q) × Reads asked.bounds (listed to.output) Q × (status ≡ 0)
 minimised to is = (to.input, to.output, to.read, to.minimises.quotient, to.sorted, refl, to.read_again, is)
+
+-- a run that came to its answer
+pub ends_minimised : {In Out : Type 0} {asked : Request} {given : List ℕ} {source : Used In} {output : Used Out}
+    {at : Counts} {sizes : Sizes} {Lost : Type 0} → Consumes source.before source.after given →
+    RunsTo asked given source output at sizes →
+    EndsRun asked (one source.before) (source.failures ≡ 0) Lost output 0
+ends_minimised took ran =
+    answered ran.exhausted.1 (listed ran.to.output)
+    (of_all _ _ _ _ took ran.exhausted.0 (minimised ran.to refl)) ran.written.0 ran.written.1
 
 -- and a verdict is that of two
 compared : (asked : Request) {first second : List ℕ} {same : Bool} {status : ℕ}

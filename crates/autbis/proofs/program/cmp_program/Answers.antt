@@ -10,17 +10,13 @@ status same = if same then 0 else 1
 pub returns-in-Ok-true-clause-ends : goal.returns-in-Ok-true-clause-ends
 returns-in-Ok-true-clause-ends g c =
     let got = c.in-Ok-true.ensures.outcome in
-    ends_verdict (asks c.args.rel c.args.lim.now c.args.h.now)
-    (c.a_text_reads_or_has_a_fault.ensures.not_both c.args.lim.now)
-    (used g.W.Sink.written g.W.Sink.failures c.args.w.now c.run_cmp.new.w) got.took
+    ends_verdict _ (c.a_text_reads_or_has_a_fault.ensures.not_both _) _ got.took
     (ap status (sym c.in-Ok-true.field-0-test)) got.outcome
 
 pub returns-in-Ok-false-clause-ends : goal.returns-in-Ok-false-clause-ends
 returns-in-Ok-false-clause-ends g c =
     let got = c.in-Ok-false.ensures.outcome in
-    ends_verdict (asks c.args.rel c.args.lim.now c.args.h.now)
-    (c.a_text_reads_or_has_a_fault.ensures.not_both c.args.lim.now)
-    (used g.W.Sink.written g.W.Sink.failures c.args.w.now c.run_cmp.new.w) got.took
+    ends_verdict _ (c.a_text_reads_or_has_a_fault.ensures.not_both _) _ got.took
     (ap status (sym c.in-Ok-false.field-0-test)) got.outcome
 
 pub returns-in-Err-clause-ends : goal.returns-in-Err-clause-ends

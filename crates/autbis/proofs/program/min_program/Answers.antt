@@ -1,17 +1,11 @@
-use Rattle.std.proofs.Common.{refl}
-use Rattle.autfmt.specs.Written.{listed}
-use Rattle.autbis.specs.Ends.EndsRun.{answered}
 use Rattle.autbis.specs.Runs.{asks, used}
 use Rattle.autbis.proofs.Carried.{of_all}
-use Rattle.autbis.proofs.Ending.{ends_run, minimised}
+use Rattle.autbis.proofs.Ending.{ends_minimised, ends_run}
 use Rattle.autbis.proofs.program.min_program.Goals as goal
 
 pub returns-then-stats-clause-ends : goal.returns-then-stats-clause-ends
 returns-then-stats-clause-ends g c =
-    let got = c.in-Ok.ensures.outcome in
-    let ran = got.outcome in
-    answered ran.exhausted.1 (listed ran.to.output)
-    (of_all _ _ got.given _ got.took ran.exhausted.0 (minimised ran.to refl)) ran.written.0 ran.written.1
+    let got = c.in-Ok.ensures.outcome in ends_minimised got.took got.outcome
 
 pub returns-then-stats-clause-shown : goal.returns-then-stats-clause-shown
 returns-then-stats-clause-shown g c zero asked =
@@ -22,10 +16,7 @@ returns-then-stats-clause-shown g c zero asked =
 
 pub returns-else-stats-clause-ends : goal.returns-else-stats-clause-ends
 returns-else-stats-clause-ends g c =
-    let got = c.in-Ok.ensures.outcome in
-    let ran = got.outcome in
-    answered ran.exhausted.1 (listed ran.to.output)
-    (of_all _ _ got.given _ got.took ran.exhausted.0 (minimised ran.to refl)) ran.written.0 ran.written.1
+    let got = c.in-Ok.ensures.outcome in ends_minimised got.took got.outcome
 
 pub returns-in-Err-clause-ends : goal.returns-in-Err-clause-ends
 returns-in-Err-clause-ends g c =
