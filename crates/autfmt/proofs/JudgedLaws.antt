@@ -87,17 +87,10 @@ module _ (bounds : Bounds) (given more : List ℕ) where
       BeginsWell bounds given m n es (line ∷ others) →
       (tail : List ℕ) × (others' : List (List ℕ)) × BeginsWell bounds (given ++ more) m n es ((line ++ tail) ∷ others')
   goes_on_well m n es line others b =
-      let (tail, others', whole) = line_grows given more (b.header ∷ b.lines) others line b.whole in (
+      let (tail, others', l) = line_grows given more (b.header ∷ b.lines) others line b.whole in (
         tail,
         others',
-        record {
-          header = b.header;
-          first = b.first;
-          lines = b.lines;
-          whole = whole;
-          good = b.good;
-          spelled = b.spelled;
-        },
+        record { header = b.header; first = b.first; lines = b.lines; whole = l; good = b.good; spelled = b.spelled },
       )
 
   -- a line that is too long is so whatever follows
