@@ -9,8 +9,8 @@ use Rattle.autfmt.specs.Outcomes.{Takes}
 use Rattle.autbis.specs.Ends.{OfText}
 
 -- an answer that is the error e takes what its call took, if what is bad of that error is so
-pub takes_error : {T E : Type 0} (old new : Option (List ℕ)) (Good : List ℕ → T → Type 0) (Bad : List ℕ → E →
-    Type 0) (r : Result T E) (e : E) (given : List ℕ) →
+pub takes_error : {T E : Type 0} (old new : Option (List ℕ)) (Good : List ℕ → T → Type 0)
+    (Bad : List ℕ → E → Type 0) (r : Result T E) (e : E) (given : List ℕ) →
     IsErrAnd r (λ y. y ≡ e) → Consumes old new given → Bad given e → Takes old new Good Bad r
 takes_error old new Good Bad r e given is took bad =
     let exit = err_from_is_err_and r is in

@@ -47,8 +47,8 @@ AreAsTold (two told more) (two text other) =
 AreAsTold _ _ = ⊥
 
 -- the texts of a job were opened
-pub record AreOpened {File : Type 0} (rest : File → Option (List ℕ)) (failures : File → ℕ) (holds : Name →
-    Option (List ℕ)) (job : Job) (texts : Texts File) : Type 0 where
+pub record AreOpened {File : Type 0} (rest : File → Option (List ℕ)) (failures : File → ℕ)
+    (holds : Name → Option (List ℕ)) (job : Job) (texts : Texts File) : Type 0 where
   pub contents : (input : Option (List ℕ)) → AreAsTold (told_of holds input job) (contents_of rest input texts)
   pub files : AreFiles texts ↔ (texts_of job ≢ [])
   pub sound : HaveNotFailed failures texts

@@ -40,8 +40,8 @@ decided : {Y : Type 0} (read : Option Y) (P : Y → Type 0) → ((y : Y) → rea
 decided (Some y) P takes again = inl (y, takes y refl)
 decided None P takes again = inr (λ y h. none-some y (again y h))
 
-pub decide_header : (line : List ℕ) → ((x : ℕ × ℕ × ℕ) × Header line x.0 x.1 x.2) ⊎ ((x : ℕ × ℕ × ℕ) →
-    ¬ Header line x.0 x.1 x.2)
+pub decide_header : (line : List ℕ) → ((x : ℕ × ℕ × ℕ) × Header line x.0 x.1 x.2)
+    ⊎ ((x : ℕ × ℕ × ℕ) → ¬ Header line x.0 x.1 x.2)
 decide_header line = decided (header_at line) _ (header_at-takes line) (λ x. header_at-again line x.0 x.1 x.2)
 
 pub decide_transition : (line : List ℕ) → ((x : ℕ × List ℕ × ℕ) × TransitionLine line x.0 x.1 x.2)

@@ -171,8 +171,8 @@ Reads-from_lines bounds text line lines f m n es l g good count =
     }
 
 -- a transition is spelled or not
-decide_edge : (n : ℕ) (line : List ℕ) → ((e : Transition) × SpellsAmong n line e) ⊎ ((e : Transition) →
-    ¬ SpellsAmong n line e)
+decide_edge : (n : ℕ) (line : List ℕ) → ((e : Transition) × SpellsAmong n line e)
+    ⊎ ((e : Transition) → ¬ SpellsAmong n line e)
 decide_edge n line =
     ⊎_elim (λ good. inl good) (λ bad. inr (λ e good. GoodEdge-no_fault n 0 line e bad.0 good bad.1))
     (edge_judged n 0 line)

@@ -18,8 +18,8 @@ pub label_at-takes : (bytes a rest : List ℕ) → label_at bytes ≡ Some (a, r
 unfolding label_at
 label_at-takes [] a rest e = absurd cc
 label_at-takes (b ∷ bs) a rest e =
-    cond_both (b == 34) (quoted_at bs) (plain_at (b ∷ bs)) (λ r. r ≡ Some (a, rest) →
-    (spelling : List ℕ) × Label spelling a × (b ∷ bs ≡ spelling ++ rest))
+    cond_both (b == 34) (quoted_at bs) (plain_at (b ∷ bs))
+    (λ r. r ≡ Some (a, rest) → (spelling : List ℕ) × Label spelling a × (b ∷ bs ≡ spelling ++ rest))
     (λ mark f.
     let h = quoted_at-takes bs a rest f in
     let whole : b ∷ bs ≡ quoted a ++ rest = rw (eqb-true b 34 mark) (ap (λ (t : List ℕ). 34 ∷ t) h.1)

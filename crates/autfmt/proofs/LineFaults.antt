@@ -172,8 +172,8 @@ edge_judged n k line = step (cases_lt LONGEST_LINE (length line)) (decide_transi
         )
 
     step : (LONGEST_LINE < length line) ⊎ (length line ≤ LONGEST_LINE) →
-        ((x : ℕ × List ℕ × ℕ) × TransitionLine line x.0 x.1 x.2) ⊎ ((x : ℕ × List ℕ × ℕ) →
-        ¬ TransitionLine line x.0 x.1 x.2) →
+        ((x : ℕ × List ℕ × ℕ) × TransitionLine line x.0 x.1 x.2)
+        ⊎ ((x : ℕ × List ℕ × ℕ) → ¬ TransitionLine line x.0 x.1 x.2) →
         ((e : Transition) × SpellsAmong n line e) ⊎ ((fault : Fault) × EdgeFault n k line fault)
     step (inl l) r = inr (LineTooLong k, EdgeFault.too_long refl l)
     step (inr s) (inr none) =

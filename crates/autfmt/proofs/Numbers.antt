@@ -70,8 +70,8 @@ more_digits-takes v [] n rest small e = more_digits-done v [] n rest small e
 more_digits-takes v (b ∷ bytes) n rest small e =
     cond_both (is_ascii_digit b) (cond (grows v) (more_digits (10 * v + (b - 48)) bytes) None) (Some (v, b ∷ bytes))
     (λ r. r ≡ Some (n, rest) → Took v (b ∷ bytes) n rest)
-    (λ digit. cond_both (grows v) (more_digits (10 * v + (b - 48)) bytes) None (λ r. r ≡ Some (n, rest) →
-    Took v (b ∷ bytes) n rest)
+    (λ digit. cond_both (grows v) (more_digits (10 * v + (b - 48)) bytes) None
+    (λ r. r ≡ Some (n, rest) → Took v (b ∷ bytes) n rest)
     (λ may f.
     let h = and_parts (nat_lt 0 v) (nat_lt v (10 ^ 9)) may in
     let low : 0 < v = ltb-true 0 v h.0 in
@@ -88,8 +88,8 @@ pub number_at-takes : (bytes : List ℕ) (n : ℕ) (rest : List ℕ) → number_
 unfolding number_at
 number_at-takes [] n rest e = absurd cc
 number_at-takes (b ∷ bytes) n rest e =
-    cond_both (is_ascii_digit b) (more_digits (b - 48) bytes) None (λ r. r ≡ Some (n, rest) →
-    (digits : List ℕ) × IsDecimal digits n × (b ∷ bytes ≡ digits ++ rest))
+    cond_both (is_ascii_digit b) (more_digits (b - 48) bytes) None
+    (λ r. r ≡ Some (n, rest) → (digits : List ℕ) × IsDecimal digits n × (b ∷ bytes ≡ digits ++ rest))
     (λ digit f.
     let range = digit-range b digit in
     let t = more_digits-takes (b - 48) bytes n rest (omega arith) f in

@@ -89,8 +89,8 @@ last_quote-none_at (b ∷ bs) h =
     let here : (b == 34) ≡ false = ne_eqb b 34 (h 0 (omega arith)) in
     last_quote-step b bs None (last_quote-none_at bs (λ k lt. h (suc k) (omega arith))) ∙ rw here refl
 
-pub last_quote-is : (bs : List ℕ) (i : ℕ) → i < length bs → get_or bs i 0 ≡ 34 → ((k : ℕ) → i < k → k < length bs →
-    get_or bs k 0 ≢ 34) → last_quote bs ≡ Some i
+pub last_quote-is : (bs : List ℕ) (i : ℕ) → i < length bs → get_or bs i 0 ≡ 34 →
+    ((k : ℕ) → i < k → k < length bs → get_or bs k 0 ≢ 34) → last_quote bs ≡ Some i
 last_quote-is [] i lt here after = absurd (omega arith)
 last_quote-is (b ∷ bs) zero lt here after =
     let none = last_quote-none_at bs (λ k lt. after (suc k) (omega arith) (omega arith)) in

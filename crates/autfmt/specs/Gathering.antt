@@ -34,6 +34,6 @@ Advances over bytes result now =
 abbrev pub Looks : {E : Type 0} → List ℕ → Result Bool E → Cutting → Type 0
 Looks bytes result now =
     MatchResult result
-    (λ at_end. (bytes ≡ now.ahead) × (now.over ≡ at_end) × (IsTrue at_end → bytes ≡ []) × ((at_end ≡ false) →
-    1 ≤ length bytes))
+    (λ at_end. (bytes ≡ now.ahead) × (now.over ≡ at_end) × (IsTrue at_end → bytes ≡ [])
+    × ((at_end ≡ false) → 1 ≤ length bytes))
     (λ _. bytes ≡ [])

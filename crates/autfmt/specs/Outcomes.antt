@@ -10,8 +10,8 @@ use Rattle.autfmt.specs.Readers.{IsTextFault, HasGoodHeader, ReadsAs}
 
 -- the bytes given were taken from a source that told old and now tells new, and Good or Bad holds of them and the
 -- result
-pub record Takes {T E : Type 0} (old new : Option (List ℕ)) (Good : List ℕ → T → Type 0) (Bad : List ℕ → E →
-    Type 0) (result : Result T E) : Type 0 where
+pub record Takes {T E : Type 0} (old new : Option (List ℕ)) (Good : List ℕ → T → Type 0)
+    (Bad : List ℕ → E → Type 0) (result : Result T E) : Type 0 where
   pub given : List ℕ
   pub took : Consumes old new given
   pub outcome : MatchResult result (Good given) (Bad given)

@@ -55,5 +55,5 @@ pub record AreBuckets (heads : List ℕ) (entries : List Entry) : Type 0 where
 
 -- there are heads under which the entries are found, and the number r, if it is one, is in the bucket of the tag
 abbrev pub IsInChain : List Entry → ℕ → ℕ → Type 0
-IsInChain entries tag r = (heads : List ℕ) × AreBuckets heads entries × (0 < r →
-    entry_bucket entries heads r ≡ bucket_of_tag (length heads) tag)
+IsInChain entries tag r = (heads : List ℕ) × AreBuckets heads entries
+    × (0 < r → entry_bucket entries heads r ≡ bucket_of_tag (length heads) tag)

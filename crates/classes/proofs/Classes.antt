@@ -97,8 +97,8 @@ module _ (rel : Relation) (A : System) (block : ℕ → ℕ) (laws : Laws rel A 
   first_leader = (A.first, laws.first_reached, first_leads)
 
   -- the first state reached in its block leads it
-  own_leader : (s : ℕ) → Reachable A s → block A.first ≢ block s → ((u : ℕ) → u < s → Reachable A u →
-      block u ≢ block s) → Leader rel A s s
+  own_leader : (s : ℕ) → Reachable A s → block A.first ≢ block s →
+      ((u : ℕ) → u < s → Reachable A u → block u ≢ block s) → Leader rel A s s
   own_leader s way apart new = inr (
     λ b. apart (sym ((laws.same s A.first (laws.below s way) laws.system.first).1 b)),
     (
@@ -170,8 +170,8 @@ module _ (rel : Relation) (A : System) (block : ℕ → ℕ) (laws : Laws rel A 
       ]);
       known = rw (f.by_block, f.count) (λ t l some. earlier_on s t (slice_index old.by_block.items (block t)) old.count
           old.count (omega arith) (h.known t l some));
-      numbers = rw (f.numbers, f.count) (each_pushed (λ t n. Reachable A t →
-          Number rel A t n × (n < old.count)) old.numbers.items
+      numbers = rw (f.numbers, f.count) (each_pushed
+          (λ t n. Reachable A t → Number rel A t n × (n < old.count)) old.numbers.items
           (slice_index old.by_block.items (block s)) 0 s h.numbers_long h.numbers follows_number);
       leaders = rw f.leads (each_pushed (λ t b. IsTrue b ↔ IsLeader rel A t) old.leads.items first false s h.leads_long
           h.leaders follows_leader);

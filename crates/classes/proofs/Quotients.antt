@@ -27,8 +27,8 @@ use Rattle.lts.proofs.CallerLemmas.{contains_mapped, mapped_contains}
 use Rattle.classes.proofs.Rows.{ShownPlace, place_of, shown_place}
 
 -- transitions of different triples differ, if their labels are in the table
-transitions_differ : (labels : List (List ℕ)) (es : List Triple) → IsTable labels → ((x : Triple) → Contains es x →
-    label_of x < length labels) →
+transitions_differ : (labels : List (List ℕ)) (es : List Triple) → IsTable labels →
+    ((x : Triple) → Contains es x → label_of x < length labels) →
     AllPairs (λ x y. x ≢ y) es → AllPairs (λ e f. e ≢ f) (map (transition_of labels) es)
 transitions_differ labels es table within once i j d low high same =
     let lj : j < length es = omega (arith, high, length-map es (transition_of labels)) in

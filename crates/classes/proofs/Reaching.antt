@@ -247,8 +247,8 @@ next_ahead s marked u unmarked = elim (cases_lt u s) [
 ]
 
 -- the state t alone is not ahead any more
-module _ (old new : ℕ → Bool) (t : ℕ) (before : old t ≡ true) (after : new t ≡ false) (elsewhere : (s : ℕ) → s ≢ t →
-    new s ≡ old s) where
+module _ (old new : ℕ → Bool) (t : ℕ) (before : old t ≡ true) (after : new t ≡ false)
+    (elsewhere : (s : ℕ) → s ≢ t → new s ≡ old s) where
   one_less : (s : ℕ) → cond (old s) 1 0 ≡ cond (new s) 1 0 + cond (eqb s t) 1 0
   one_less s = elim (cases_eq s t) [
     | inl e ↦ rw (ap old e ∙ before, ap new e ∙ after, eq-eqb s t e) refl

@@ -113,8 +113,8 @@ module _ (list : List (ℕ × ℕ)) where
   ]
 
   -- a place in a range suits all pairs in the range
-  pub alike_within : (bit low high c : ℕ) → IsPlace bit low high c → ((z : ℕ × ℕ) → Contains list z →
-      (low ≤ as_number z) × (as_number z ≤ high))
+  pub alike_within : (bit low high c : ℕ) → IsPlace bit low high c →
+      ((z : ℕ × ℕ) → Contains list z → (low ≤ as_number z) × (as_number z ≤ high))
       → IsAlike bit list c
   alike_within bit low high c place range = record {
     multiple = place.multiple;

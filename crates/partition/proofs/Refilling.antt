@@ -64,8 +64,8 @@ without_grown of live sizes sizes' count n grown more without =
     )
 
 -- the state in place i is put back
-module _ (of live : List ℕ) (i : ℕ) (sizes : List ℕ) (rises : AreLive (length of) live) (below : (t : ℕ) →
-    t < length of → slice_index of t < length of)
+module _ (of live : List ℕ) (i : ℕ) (sizes : List ℕ) (rises : AreLive (length of) live)
+    (below : (t : ℕ) → t < length of → slice_index of t < length of)
     (more_live : i < length live) (without : AreSizesWithout of live i (length live) sizes) where
   abbrev s : ℕ
   s = slice_index live i

@@ -22,8 +22,8 @@ without_none of live sizes count are = (
   },
 )
 
-module _ (of live : List ℕ) (i : ℕ) (sizes : List ℕ) (rises : AreLive (length of) live) (below : (t : ℕ) →
-    t < length of → slice_index of t < length of)
+module _ (of live : List ℕ) (i : ℕ) (sizes : List ℕ) (rises : AreLive (length of) live)
+    (below : (t : ℕ) → t < length of → slice_index of t < length of)
     (more_live : i < length live) (without : AreSizesWithout of live 0 i sizes) where
   abbrev s : ℕ
   s = slice_index live i

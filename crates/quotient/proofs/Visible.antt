@@ -44,8 +44,9 @@ pub rounds_read : (rel : Relation) {one two : List (List ℕ)} {by read : Relati
 rounds_read rel {one} {two} {by} {read} labels is h =
     subst (λ b. AreRoundsOf rel two b) is (subst (λ z. AreRoundsOf rel z by) labels h)
 
-module _ (l : Grouped) (numbered : (s : ℕ) (a : List ℕ) (t : ℕ) → Step (system_of l) s a t →
-    (k : ℕ) × IsNumber l.labels k a) (by rel : Relation) where
+module _ (l : Grouped)
+    (numbered : (s : ℕ) (a : List ℕ) (t : ℕ) → Step (system_of l) s a t → (k : ℕ) × IsNumber l.labels k a)
+    (by rel : Relation) where
   none : ¬ Contains l.labels internal → (s t : ℕ) → ¬ Internal (system_of l) s t
   none absent s t step = let number = numbered s internal t step in
       absent (

@@ -95,8 +95,8 @@ split_alike whole lists signed numbers ns p old new q count more view same are e
     )
 
 -- blocks that are parted by the signatures are the Split
-pub signed_is_split : (rel : Relation) (l : Grouped) → Labelled l → (blocks : List ℕ) (signature : ℕ →
-    List (ℕ × ℕ)) (new : List ℕ)
+pub signed_is_split : (rel : Relation) (l : Grouped) → Labelled l → (blocks : List ℕ)
+    (signature : ℕ → List (ℕ × ℕ)) (new : List ℕ)
     → ((s : ℕ) → s < l.states → IsSignature rel l blocks s (signature s))
     → ((s t : ℕ) → s < l.states → t < l.states
     → (slice_index new s ≡ slice_index new t) ↔ ((slice_index blocks s ≡ slice_index blocks t)

@@ -96,8 +96,9 @@ record Went (u : Under) (s : ℕ) (old new : Found) (read : ℕ) (e : Triple) : 
   pub now : IsTaken u s new e
   pub ahead : (read : ℕ) → read ≤ length old.states → places_left u.l.places new read ≡ places_left u.l.places old read
 
-module _ (u : Under) (s : ℕ) (lts : IsLts u.l) (laws : Laws) (sources : (s : ℕ) (places : List Triple) (e : Triple) →
-    Contains (row_of s places) e ↔ (Contains places e × (source_of e ≡ s)))
+module _ (u : Under) (s : ℕ) (lts : IsLts u.l) (laws : Laws)
+    (sources : (s : ℕ) (places : List Triple) (e : Triple) → Contains (row_of s places) e
+    ↔ (Contains places e × (source_of e ≡ s)))
     (steps : (s : ℕ) (a : List ℕ) (t : ℕ) → Step (system_of u.l) s a t
     ↔ ((e : Triple) × Contains (row_of s u.l.places) e × (text_of u.l.labels (label_of e) ≡ a) × (target_of e ≡ t)))
     (stays : (A : System) (blocks : ℕ → ℕ) (s t : ℕ) → Leads (Inert A blocks) s t → blocks t ≡ blocks s) where
@@ -259,8 +260,8 @@ module _ (u : Under) (s : ℕ) (lts : IsLts u.l) (laws : Laws) (sources : (s : �
   }
 
   -- when all rows were read
-  module _ (kept : (A : System) (blocks : ℕ → ℕ) (has : ℕ → Bool) → ((s t : ℕ) → Inert A blocks s t →
-      IsTrue (has s) → IsTrue (has t))
+  module _ (kept : (A : System) (blocks : ℕ → ℕ) (has : ℕ → Bool) →
+      ((s t : ℕ) → Inert A blocks s t → IsTrue (has s) → IsTrue (has t))
       → (s t : ℕ) → Leads (Inert A blocks) s t → IsTrue (has s) → IsTrue (has t))
       (f : Found) (search : FindsFrom u s f (length f.states)) where
     all_taken : (x : ℕ) → WasFound f x → All (IsTaken u s f) (row_of x u.l.places)

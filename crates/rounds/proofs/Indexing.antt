@@ -108,8 +108,8 @@ module _ (l : Grouped)
 
   pub strong_next : (watch : Watch) (r next : Signed) → r.blocks ≡ p → next.blocks ≡ q → WatchesBy watch r next →
       HasIndexed watch Strong l p → Watches Strong l next
-  strong_next Nothing r next was is by index = left_next Nothing Strong next is by.0 (subst₂ (λ a b. (s : ℕ) →
-      IsOne a.live s → IsOne b.live s) was is by.1) index
+  strong_next Nothing r next was is by index = left_next Nothing Strong next is by.0 (subst₂
+      (λ a b. (s : ℕ) → IsOne a.live s → IsOne b.live s) was is by.1) index
   strong_next (Sources e) r next was is by w =
       subst (λ w. HasIndexed w Strong l next.blocks × HasKept w Strong l next) (sym by.0)
       (subst (λ b. AreWatched l b e.sources) (sym is) (watched_next e r next is by.1 w), tt)

@@ -75,8 +75,8 @@ none_more numbers live i k more none t h = elim (cases_eq t (slice_index live i)
 ]
 
 -- the lists of all that are looked at, and the others have the empty one
-module _ (lists : List (List (ℕ × ℕ))) (numbers live : List ℕ) (none : HaveNone live numbers) (P : ℕ →
-    List (ℕ × ℕ) → Type 0)
+module _ (lists : List (List (ℕ × ℕ))) (numbers live : List ℕ) (none : HaveNone live numbers)
+    (P : ℕ → List (ℕ × ℕ) → Type 0)
     (put : (j : ℕ) → j < length live → (slice_index numbers (slice_index live j) < length lists)
     × P (slice_index live j) (list_at lists (slice_index numbers (slice_index live j)))) where
   pub each_put : (s : ℕ) → IsOne live s → P s (list_at lists (slice_index numbers s))

@@ -106,8 +106,8 @@ module _ (l : Grouped) (labelled : Labelled l) (lists : List (List (ℕ × ℕ))
     (list_of lists now s))
     (others : (s : ℕ) → s < l.states → IsOne p.live s ⊎ (slice_index now s ≡ slice_index kept s))
     (shows : (s : ℕ) → s < l.states → IsShown (slice_index kept s) (slice_index now s) (slice_index shown s))
-    (within : (s : ℕ) → s < l.states →
-    slice_index shown s < length lists) (splits : Splits p.of p.count (list_of lists shown) q.of q.count) where
+    (within : (s : ℕ) → s < l.states → slice_index shown s < length lists)
+    (splits : Splits p.of p.count (list_of lists shown) q.of q.count) where
   one_round : SignsFew (Names l lists) (system_of l) (slice_index p.of) (IsOne p.live) (slice_index kept)
       (slice_index now) (slice_index q.of)
   one_round = record {
@@ -140,8 +140,8 @@ module _ (l : Grouped) (labelled : Labelled l) (lists : List (List (ℕ × ℕ))
       (λ s h new. splits.stays s (omega (arith, h, size)) (omega (arith, new, low))) (IsOne q.live)
 
 -- what is kept stays so when lists are added
-pub kept_grows : (l : Grouped) (old new : List (List (ℕ × ℕ))) → Grow old new → (blocks : ℕ → ℕ) (live : ℕ →
-    Type 0) (kept : ℕ → ℕ)
+pub kept_grows : (l : Grouped) (old new : List (List (ℕ × ℕ))) → Grow old new → (blocks : ℕ → ℕ)
+    (live : ℕ → Type 0) (kept : ℕ → ℕ)
     → AreKept (Names l old) (system_of l) blocks live kept → AreKept (Names l new) (system_of l) blocks live kept
 kept_grows l old new grow blocks live kept are = record {
   alike = are.alike;

@@ -33,8 +33,9 @@ use Rattle.rounds.proofs.Indexing.{indexed_left, strong_next, left_next, indexed
 use Rattle.rounds.proofs.LookingBack.{looks_back, round_splits, round_keeps}
 use Rattle.rounds.proofs.Keeping.{keeps_anew, keeps_left}
 
-module _ (l : Grouped) (lts : IsLts l) (labelled : Labelled l) (sources : (s : ℕ) (places : List Triple) (e : Triple) →
-    Contains (row_of s places) e ↔ (Contains places e × (source_of e ≡ s)))
+module _ (l : Grouped) (lts : IsLts l) (labelled : Labelled l)
+    (sources : (s : ℕ) (places : List Triple) (e : Triple) → Contains (row_of s places) e
+    ↔ (Contains places e × (source_of e ≡ s)))
     (steps : (s : ℕ) (a : List ℕ) (t : ℕ) → Step (system_of l) s a t ↔ ((e : Triple) × Contains (row_of s l.places) e
     × (text_of l.labels (label_of e) ≡ a) × (target_of e ≡ t)))
     (p r q : Signed) (are : AreLists r.lists) (have : HaveLists r.blocks.of r.blocks.live r.lists r.numbers)

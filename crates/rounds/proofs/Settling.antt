@@ -34,8 +34,8 @@ settled_first Branching A blocks s t ls lt e of_s of_t a b = absurd of_s
 abbrev pub Stays : System → (ℕ → ℕ) → (ℕ → ℕ) → ℕ → Type 0
 Stays A old new low = (s : ℕ) → s < A.states → new s < low → new s ≡ old s
 
-module _ (A : System) (old new : ℕ → ℕ) (low : ℕ) (inside : (s : ℕ) (a : List ℕ) (t : ℕ) → Step A s a t →
-    t < A.states) (stays : Stays A old new low) where
+module _ (A : System) (old new : ℕ → ℕ) (low : ℕ)
+    (inside : (s : ℕ) (a : List ℕ) (t : ℕ) → Step A s a t → t < A.states) (stays : Stays A old new low) where
   -- what a still state shows now it has shown before, and the other way round
   shown_before : (s : ℕ) → IsStill Strong A new low s → (a : List ℕ) (b : ℕ) → Signature Strong A new s a b →
       Signature Strong A old s a b

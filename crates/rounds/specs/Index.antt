@@ -32,8 +32,8 @@ IsInternalIndexed l inner s = (e : Triple) → Contains (row_of s l.places) e �
 pub record AreEntering (l : Grouped) (reach : Reach) (live : List ℕ) (e : Entered) : Type 0 where
   pub size : length e.sources ≡ l.states
   pub sources : (s : ℕ) → IsOne live s → IsIndexed l e.sources s
-  pub inner : reach ≡ Back → (inner : List (List ℕ)) × (e.inner ≡ Some inner) × ((s : ℕ) → IsOne live s →
-      IsInternalIndexed l inner s)
+  pub inner : reach ≡ Back → (inner : List (List ℕ)) × (e.inner ≡ Some inner)
+      × ((s : ℕ) → IsOne live s → IsInternalIndexed l inner s)
 
 -- the index has the transitions from each state, or it is alone in its block; a state that is not looked at is alone,
 -- or still (strong)

@@ -15,8 +15,9 @@ use Rattle.rounds.specs.declared.signed_blocks.Watch.TheVariants.{Nothing}
 
 -- the list number k has the pairs of the signature of s, by label numbers, in rising order
 abbrev pub Names : Grouped → List (List (ℕ × ℕ)) → (ℕ → ℕ) → ℕ → ℕ → Type 0
-Names l lists blocks s k = (k < length lists) × IsStrictlySortedBy pair_cmp (list_at lists k) × ((j b : ℕ) →
-    Contains (list_at lists k) (j, b) ↔ ((j < length l.labels) × Signature Branching (system_of l) blocks s
+Names l lists blocks s k = (k < length lists) × IsStrictlySortedBy pair_cmp (list_at lists k)
+    × ((j b : ℕ) → Contains (list_at lists k) (j, b)
+    ↔ ((j < length l.labels) × Signature Branching (system_of l) blocks s
     (text_of l.labels j) b))
 
 -- for each state a list is kept, by its number; and what is known of them before a round

@@ -8,8 +8,8 @@ use Rattle.theory.specs.Untouched.{Refines, KeepsNumbers, ShowsNoPair, IsOnly, L
 use Rattle.theory.specs.Kept.{NamesSignatures, AreKept, IsShown, SignsFew}
 use Rattle.theory.proofs.Untouched.{empty_before, still_stays, reach_found}
 
-module _ (names : (ℕ → ℕ) → ℕ → ℕ → Type 0) (A : System) (laws : NamesSignatures A names) (blocks : ℕ →
-    ℕ) (live : ℕ → Type 0)
+module _ (names : (ℕ → ℕ) → ℕ → ℕ → Type 0) (A : System) (laws : NamesSignatures A names)
+    (blocks : ℕ → ℕ) (live : ℕ → Type 0)
     (kept now next : ℕ → ℕ) (r : SignsFew names A blocks live kept now next) where
   -- each state has the list of its signature now, but if it is alone in its block
   named_now : (s : ℕ) → s < A.states → IsOnly A blocks s ⊎ names blocks s (now s)
@@ -92,8 +92,8 @@ module _ (names : (ℕ → ℕ) → ℕ → ℕ → Type 0) (A : System) (laws :
   refined : Refines A blocks next
   refined s t ls lt e = ((r.split s t ls lt).0 e).0
 
-  module _ (sys : IsSystem A) (low : ℕ) (keeps : KeepsNumbers A blocks next low) (found : ℕ →
-      Type 0) (looks : LooksBack A next low found) where
+  module _ (sys : IsSystem A) (low : ℕ) (keeps : KeepsNumbers A blocks next low)
+      (found : ℕ → Type 0) (looks : LooksBack A next low found) where
     alike_next : (s t : ℕ) → s < A.states → t < A.states → next s ≡ next t → now s ≡ now t
     alike_next s t ls lt e =
         let both = (r.split s t ls lt).0 e in

@@ -26,8 +26,8 @@ module _ (A : System) (sys : IsSystem A) (blocks : ℕ → ℕ) where
       (found.0, found.1, (is u found.0).0 (low, ends, sym found.2))
 
   branching_shown : ((s t : ℕ) → Share A blocks s t ↔ Bisimilar Branching A s A t) → Stable Branching A blocks →
-      (s t : ℕ) (a : List ℕ) (u : ℕ) → Bisimilar Branching A s A t → ((b : List ℕ) (v : ℕ) → Step A s b v →
-      ¬ ShowsNothing Branching A s b v) →
+      (s t : ℕ) (a : List ℕ) (u : ℕ) → Bisimilar Branching A s A t →
+      ((b : List ℕ) (v : ℕ) → Step A s b v → ¬ ShowsNothing Branching A s b v) →
       Step A t a u → ¬ ShowsNothing Branching A t a u → Makes Branching A s a u
   branching_shown is stable s t a u same none step leaves =
       let share : Share A blocks s t = (is s t).1 same in

@@ -78,8 +78,8 @@ module _ (A : System) (sys : IsSystem A) (old new : ℕ → ℕ) (refines : Refi
             )
 
 -- what a round looks at is all that is touched, but for states that are alone in their blocks
-module _ (A : System) (sys : IsSystem A) (blocks : ℕ → ℕ) (low : ℕ) (live : ℕ →
-    Type 0) (looks : LooksBack A blocks low live) where
+module _ (A : System) (sys : IsSystem A) (blocks : ℕ → ℕ) (low : ℕ)
+    (live : ℕ → Type 0) (looks : LooksBack A blocks low live) where
   -- what leads by inert steps to a state that is looked at is looked at
   found_back : (s : ℕ) (us : List ℕ) (u : ℕ) → blocks s < low → Along (Inert A blocks) s us u → live u → live s
   found_back s [] u l here found = subst live (sym here) found

@@ -16,8 +16,8 @@ pub record NamesSignatures (A : System) (names : (ℕ → ℕ) → ℕ → ℕ �
 
 -- before a round that looks at the states `live`: states of one block have one list, that of a state that is not looked
 -- at is its signature, and a state whose list is not empty has a pair to show
-pub record AreKept (names : (ℕ → ℕ) → ℕ → ℕ → Type 0) (A : System) (blocks : ℕ → ℕ) (live : ℕ → Type 0) (kept : ℕ →
-    ℕ) : Type 0 where
+pub record AreKept (names : (ℕ → ℕ) → ℕ → ℕ → Type 0) (A : System) (blocks : ℕ → ℕ) (live : ℕ → Type 0)
+    (kept : ℕ → ℕ) : Type 0 where
   pub alike : EachTwo A (λ s t. blocks s ≡ blocks t → kept s ≡ kept t)
   pub signed : (s : ℕ) → s < A.states → live s ⊎ IsOnly A blocks s ⊎ names blocks s (kept s)
   pub shows : (s : ℕ) → s < A.states → (kept s ≡ 0) ⊎ ¬ ShowsNoPair A blocks s
@@ -28,8 +28,8 @@ IsShown kept now shown = ((now ≡ kept) × (shown ≡ 0)) ⊎ ((now ≢ kept) �
 
 -- a round that signs few states. Those that it looks at get the lists of their signatures, and the others keep theirs;
 -- states stay together if they shared a block and the same is shown for them
-pub record SignsFew (names : (ℕ → ℕ) → ℕ → ℕ → Type 0) (A : System) (blocks : ℕ → ℕ) (live : ℕ →
-    Type 0) (kept now next : ℕ → ℕ) : Type 0 where
+pub record SignsFew (names : (ℕ → ℕ) → ℕ → ℕ → Type 0) (A : System) (blocks : ℕ → ℕ)
+    (live : ℕ → Type 0) (kept now next : ℕ → ℕ) : Type 0 where
   pub before : AreKept names A blocks live kept
   pub signed : (s : ℕ) → s < A.states → live s → names blocks s (now s)
   pub others : (s : ℕ) → s < A.states → live s ⊎ (now s ≡ kept s)

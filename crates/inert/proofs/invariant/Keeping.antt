@@ -85,8 +85,8 @@ module _ {u : Under} {lists : List (List (ℕ × ℕ))} {w : Search} (walks : Wa
       ]
 
   -- an item of a component below n
-  pub sound_still : (j : ℕ) → j < length w.items → n ≤ length new.stack → ((p : ℕ) → p < length w.stack →
-      IsOf w.roots j p → p < n)
+  pub sound_still : (j : ℕ) → j < length w.items → n ≤ length new.stack →
+      ((p : ℕ) → p < length w.stack → IsOf w.roots j p → p < n)
       → IsSound u lists new j
   sound_still j low room below =
       let (p, lp, of, all) = walks.sound j low in
@@ -125,8 +125,8 @@ goes_on grow were are = record {
 -- lists were added
 module _ {lists lists' : List (List (ℕ × ℕ))} (grow : Grow lists lists') where
   -- an item gives the same
-  Gives-grow : (x : Item) → IsThere lists x → (z : ℕ × ℕ) → (Gives lists x z → Gives lists' x z) × (Gives lists' x z →
-      Gives lists x z)
+  Gives-grow : (x : Item) → IsThere lists x → (z : ℕ × ℕ) → (Gives lists x z → Gives lists' x z)
+      × (Gives lists' x z → Gives lists x z)
   Gives-grow (Pair a b) there z = (λ g. g, λ g. g)
   Gives-grow (Listed k) there z =
       let same = grow.same k (there k refl) in

@@ -121,8 +121,8 @@ module _ {u : Under} {lists : List (List (ℕ × ℕ))} {w : Search} (walks : Wa
       };
       frames = walks.frames;
       connects = λ p r lp lr h. elim (cases_lt p q) [
-        | inl before ↦ walks.connects p r lp lr (cut_back (λ x. x.height ≤ p →
-            x.height ≤ r) h (λ x up le. absurd (omega (arith, up, le, before))))
+        | inl before ↦ walks.connects p r lp lr (cut_back
+            (λ x. x.height ≤ p → x.height ≤ r) h (λ x up le. absurd (omega (arith, up, le, before))))
         | inr after ↦
             let up : IsUpTo roots q r = λ i d h' le. h i d h' (omega (arith, le, after)) in
             laws.joined (system_of u.l) (slice_index u.blocks) _ _ _ (laws.after (system_of u.l) (slice_index u.blocks)

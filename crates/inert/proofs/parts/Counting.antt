@@ -92,8 +92,8 @@ seen (Open p) f = refl
 seen (Finished k) f = refl
 
 -- no source is unseen
-pub unread-none : (places : List Triple) (stages : List Stage) → ((k : ℕ) → k < length places →
-    ¬ (stage_at stages (source_of (place_at places k)) ≡ Unseen))
+pub unread-none : (places : List Triple) (stages : List Stage) →
+    ((k : ℕ) → k < length places → ¬ (stage_at stages (source_of (place_at places k)) ≡ Unseen))
     → unread places stages ≡ 0
 unread-none places stages all =
     ap length (filter-none (λ e. is_unseen (stage_at stages (source_of e))) places (λ k d h.

@@ -107,8 +107,8 @@ divides rel A lead leaders Q =
     and_then (every A.transitions (λ f. has_image rel A lead leaders Q.transitions f)) (λ _.
     all_differ Q.transitions))))
 
-module _ (rel : Relation) (A Q : System) (block : ℕ → ℕ) (pairs : List (ℕ × ℕ)) (k : ℕ) (lead : ℕ →
-    ℕ) (leaders : List ℕ)
+module _ (rel : Relation) (A Q : System) (block : ℕ → ℕ) (pairs : List (ℕ × ℕ)) (k : ℕ)
+    (lead : ℕ → ℕ) (leaders : List ℕ)
     (classes : are_classes rel A block pairs k ≡ true) (led : are_leaders A block lead leaders ≡ true)
     (up : rises leaders ≡ true) (h : divides rel A lead leaders Q ≡ true) where
   abbrev images : Bool

@@ -14,5 +14,5 @@ returns-clause-found c =
 pub returns-clause-none : goal.returns-clause-none
 returns-clause-none c =
     let line = c.args.line.now in
-    none_from (λ (x : ℕ × ℕ × ℕ). (x.0, x.1, x.2)) c.header_in.result (header_at line) ((f m n : ℕ) →
-    ¬ Header line f m n) c.header_in.ensures (no_header line)
+    none_from (λ (x : ℕ × ℕ × ℕ). (x.0, x.1, x.2)) c.header_in.result (header_at line)
+    ((f m n : ℕ) → ¬ Header line f m n) c.header_in.ensures (no_header line)

@@ -28,5 +28,5 @@ returns-clause-numbers c =
 pub returns-clause-none : goal.returns-clause-none
 returns-clause-none c =
     let line = c.args.line.now in
-    none_from _ c.transition_in.result (transition_at line) ((s t : ℕ) (a : List ℕ) →
-    ¬ TransitionLine line s a t) c.transition_in.ensures (no_transition line)
+    none_from _ c.transition_in.result (transition_at line)
+    ((s t : ℕ) (a : List ℕ) → ¬ TransitionLine line s a t) c.transition_in.ensures (no_transition line)

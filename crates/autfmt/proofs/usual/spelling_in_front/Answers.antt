@@ -10,8 +10,8 @@ use Rattle.autfmt.proofs.usual.spelling_in_front.Goals as goal
 pub returns-in_default : goal.returns-in_default
 returns-in_default c =
     let bytes = c.args.bytes.now in
-    found_from _ c.plain_at.result (plain_at bytes) (λ x. IsLabel x.0 →
-    BeginsWithLabel bytes x.0 x.1) c.plain_at.ensures (λ x e _. plain_in_front bytes x.0 x.1 e)
+    found_from _ c.plain_at.result (plain_at bytes)
+    (λ x. IsLabel x.0 → BeginsWithLabel bytes x.0 x.1) c.plain_at.ensures (λ x e _. plain_in_front bytes x.0 x.1 e)
 
 pub returns : goal.returns
 returns c label =
