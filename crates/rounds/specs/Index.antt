@@ -2,6 +2,7 @@
 use Rattle.std.specs.Prelude.{◌≡◌, ◌⊎◌, ℕ, suc, ◌+◌, ◌<◌, ◌≤◌, Bool, false, cond, IsTrue, List, [], ◌∷◌, length}
 use Rattle.std.specs.Prelude.{slice_index, slice_index_or, Option, Some, IfSome}
 use Rattle.std.specs.List.{All, Contains, sum_by}
+use Rattle.std.specs.Io.{StartsWith}
 use Rattle.theory.specs.System.{internal}
 use Rattle.theory.specs.declared.relation.Relation.TheVariants.{Strong}
 use Rattle.lts.specs.Labels.{text_of}
@@ -98,6 +99,16 @@ pub record AreMarked (marks : List Bool) (found : List ℕ) : Type 0 where
   pub each : All (λ s. IsTrue (slice_index_or marks s false)) found
   pub all : (s : ℕ) → IsTrue (slice_index_or marks s false) → IsOne found s
   pub once : (w : ℕ → ℕ) → sum_by w found ≡ marked_weight w marks
+
+-- what a search has found, and among how many states
+pub record FoundStates : Type 0 where
+  pub size : ℕ
+  pub states : List ℕ
+
+-- more was found among them: what was found before comes first
+pub record FindsMore (old new : FoundStates) : Type 0 where
+  pub size : new.size ≡ old.size
+  pub before : StartsWith new.states old.states
 
 -- how many transitions an index has that lead to the state t
 abbrev pub leading : List (List ℕ) → ℕ → ℕ
