@@ -1,13 +1,13 @@
 -- States that are taken out of the sizes of their blocks.
-use Rattle.std.proofs.Common.{◌≡◌, ◌∙◌, ℕ, ◌+◌, ◌<◌, List, length, slice_index, set, ap, sym, subst, refl, inl, inr}
-use Rattle.std.proofs.Common.{arith}
+use Rattle.std.proofs.Common.{◌≡◌, ◌∙◌, ℕ, ◌+◌, ◌-◌, ◌<◌, List, length, slice_index, set, ap, sym, subst, refl, inl}
+use Rattle.std.proofs.Common.{inr, arith}
 use Rattle.std.proofs.lemmas.Bool.{cases_eq}
 use Rattle.std.proofs.lemmas.List.{length-set, get_or-set_same, get_or-set_other}
 use Rattle.partition.specs.Sizes.{AreSizes, AreSizesWithout, OthersLose, block_size}
 use Rattle.partition.specs.Blocks.{AreLive, IsOne, HaveNone, AreOrNone, AddsWhereParted}
 use Rattle.partition.specs.Representatives.{HaveVoted}
 use Rattle.partition.specs.Halving.{SomeLose, Widens, AddsSome}
-use Rattle.partition.specs.declared.counted.Counts.{Counts}
+use Rattle.partition.specs.declared.counted.Vote.{Vote}
 use Rattle.partition.proofs.Counting.{one, one_other, fewer, fewer_at, block_size-set, block_size-some, block_size-find}
 
 -- before any state is taken out
@@ -103,13 +103,14 @@ left_over of live sizes t below h without some =
     (w.0, u_in, elim (out.each w.0 u_in) [ inl e ↦ sym e ∙ w.2 | inr m ↦ absurd (looked (m.0, m.2, m.3)) ], looked)
 
 -- states are added where those that are not looked at lose the vote: one with another list is in the block
-pub adds_parted : (of numbers start live wide voted first : List ℕ) (counts : Counts)
-    → AddsWhereParted of (slice_index numbers) start live → HaveNone live numbers → length numbers ≡ length of
-    → Widens of live counts wide → HaveVoted of numbers live voted first
-    → AreOrNone voted counts.keepers.items → ((b : ℕ) → slice_index first b ≡ 0 → slice_index counts.votes.items b ≡ 0)
-    → AddsWhereParted of (slice_index numbers) start wide
-adds_parted of numbers start live wide voted first counts adds idle states widens has stays fewer s one =
-    let b = slice_index of s in
+pub adds_parted : (numbers start wide voted first : List ℕ) (vote : Vote)
+    → AddsWhereParted vote.of.now (slice_index numbers) start vote.live.now → HaveNone vote.live.now numbers
+    → length numbers ≡ length vote.of.now → Widens vote wide
+    → HaveVoted vote.of.now numbers vote.live.now voted first → AreOrNone voted vote.counts.now.keepers.items
+    → ((b : ℕ) → slice_index first b ≡ 0 → slice_index vote.counts.now.votes.items b ≡ 0)
+    → AddsWhereParted vote.of.now (slice_index numbers) start wide
+adds_parted numbers start wide voted first vote adds idle states widens has stays fewer s one =
+    let b = slice_index vote.of.now s in
     elim (idle s (omega (arith, one.2, widens.rising.below one.0 one.1, states))) [
       | inl is ↦ adds s is
       | inr zero ↦ elim (widens.each s one) [
@@ -127,11 +128,13 @@ adds_parted of numbers start live wide voted first counts adds idle states widen
       ]
     ]
 
--- and one at least, if they lose somewhere
-pub adds_one : (of live wide : List ℕ) (counts : Counts) → ((t : ℕ) → t < length of → slice_index of t < length of)
-    → AreLive (length of) live → AreSizesWithout of live 0 (length live) counts.sizes.items → SomeLose of live counts
-    → AddsSome of live counts wide → length live < length wide
-adds_one of live wide counts below rises without lose adds =
-    let t = slice_index live lose.0 in
-    let u = left_over of live counts.sizes.items t below (rises.below lose.0 lose.1) without lose.2.0 in
-    adds u.0 u.1 u.3 (subst (OthersLose counts) (sym u.2) lose.2)
+-- and one at least, if they lose somewhere: fewer are left out
+pub adds_one : (wide : List ℕ) (vote : Vote)
+    → ((t : ℕ) → t < length vote.of.now → slice_index vote.of.now t < length vote.of.now)
+    → AreLive (length vote.of.now) vote.live.now
+    → AreSizesWithout vote.of.now vote.live.now 0 (length vote.live.now) vote.counts.now.sizes.items
+    → SomeLose vote.of.now vote.live.now vote.counts.now → Widens vote wide → AddsSome vote wide
+    → length vote.of.now - length wide < length vote.of.now - length vote.live.now
+adds_one wide vote below rises without lose widens adds =
+    let u = left_over _ _ _ (slice_index vote.live.now lose.0) below (rises.below lose.0 lose.1) without lose.2.0 in
+    omega (arith, adds u.0 u.1 u.3 (subst (OthersLose vote.counts.now) (sym u.2) lose.2), widens.rising.few)

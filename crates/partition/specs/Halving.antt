@@ -2,10 +2,12 @@
 use Rattle.std.specs.Prelude.{◌≡◌, ◌⊎◌, ℕ, zero, suc, ◌+◌, ◌*◌, ◌<◌, ◌≤◌, cond, eqb, ltb, List, length, slice_index}
 use Rattle.std.specs.Prelude.{set, replicate}
 use Rattle.partition.specs.Splitting.{Alike}
-use Rattle.partition.specs.Sizes.{block_size, OthersLose}
+use Rattle.partition.specs.Partition.{AreBlocks}
+use Rattle.partition.specs.Sizes.{block_size, HaveEach, OthersLose}
 use Rattle.partition.specs.Blocks.{IsOne, AreLive, AreAmong}
 use Rattle.partition.specs.Representatives.{KeepsNumber}
 use Rattle.partition.specs.declared.counted.Counts.{Counts}
+use Rattle.partition.specs.declared.counted.Vote.{Vote}
 
 -- however states are parted by their lists, the part of s has at most half the states of its old block
 abbrev pub IsSmall : List ℕ → List ℕ → ℕ → Type 0
@@ -48,13 +50,19 @@ block_at of live blocks i = cond (ltb (length live) blocks) (slice_index of (sli
 abbrev pub SomeLose : List ℕ → List ℕ → Counts → Type 0
 SomeLose of live counts = (j : ℕ) × (j < length live) × OthersLose counts (slice_index of (slice_index live j))
 
--- the states `wide` are those that are looked at, in rising order, and perhaps others that lose in their blocks
-pub record Widens (of live : List ℕ) (counts : Counts) (wide : List ℕ) : Type 0 where
-  pub rising : AreLive (length of) wide
-  pub among : AreAmong live wide
-  pub each : (s : ℕ) → IsOne wide s → IsOne live s ⊎ OthersLose counts (slice_index of s)
+-- states of blocks are looked at, and there are a size, a keeper and votes for each block
+pub record IsVote (vote : Vote) : Type 0 where
+  pub of : AreBlocks vote.of.now (length vote.counts.now.sizes.items)
+  pub live : AreLive (length vote.of.now) vote.live.now
+  pub counts : HaveEach (length vote.counts.now.sizes.items) vote.counts.now
 
--- there are more of them, if there is one that is not among `live` and loses
-abbrev pub AddsSome : List ℕ → List ℕ → Counts → List ℕ → Type 0
-AddsSome of live counts wide =
-    (s : ℕ) → s < length of → ¬ IsOne live s → OthersLose counts (slice_index of s) → length live < length wide
+-- the states `wide` are those that are looked at, in rising order, and perhaps others that lose in their blocks
+pub record Widens (vote : Vote) (wide : List ℕ) : Type 0 where
+  pub rising : AreLive (length vote.of.now) wide
+  pub among : AreAmong vote.live.now wide
+  pub each : (s : ℕ) → IsOne wide s → IsOne vote.live.now s ⊎ OthersLose vote.counts.now (slice_index vote.of.now s)
+
+-- there are more of them, if there is one that is not looked at and loses
+abbrev pub AddsSome : Vote → List ℕ → Type 0
+AddsSome vote wide = (s : ℕ) → s < length vote.of.now → ¬ IsOne vote.live.now s
+    → OthersLose vote.counts.now (slice_index vote.of.now s) → length vote.live.now < length wide

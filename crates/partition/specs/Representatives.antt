@@ -59,6 +59,11 @@ representative_before chain r = (representative_at chain r).before
 abbrev pub IsRepresentative : List Representative → ℕ → Type 0
 IsRepresentative chain r = (0 < r) × (r < length chain)
 
+-- the representatives, and where they are looked up
+pub record Lookup : Type 0 where
+  pub heads : List ℕ
+  pub chain : List Representative
+
 -- representatives with different keys, each of which a search by its key finds: where there is one, the slot of its
 -- list is taken
 pub record IsChain (heads : List ℕ) (chain : List Representative) : Type 0 where

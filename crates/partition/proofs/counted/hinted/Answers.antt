@@ -9,8 +9,8 @@ use Rattle.partition.proofs.counted.hinted.Goals.{then-others_lose+in_ok-take, e
 
 pub others_lose-requires : goal.others_lose-requires
 others_lose-requires c =
-    let below = c.requires.blocks.below _ (c.requires.live.below c.loop-i.i c.loop-i-test.true) in
-    let each = c.requires.each in
+    let below = c.requires.of.below _ (c.requires.live.below c.loop-i.i c.loop-i-test.true) in
+    let each = c.requires.counts in
     record { sizes = below; keepers = omega (arith, below, each.1); votes = omega (arith, below, each.2) }
 
 pub loop-i-preserved : goal.loop-i-preserved
@@ -25,7 +25,7 @@ loop-i-preserved c =
               | inl was ↦ inv.each t was
               | inr here ↦ inr (
                 here.0,
-                subst (OthersLose c.args.counts.now) (sym here.1) (c.others_lose.ensures.0 w.if-others_lose.true),
+                subst (OthersLose c.args.vote.counts.now) (sym here.1) (c.others_lose.ensures.0 w.if-others_lose.true),
               )
             ];
           })
@@ -42,7 +42,7 @@ returns c =
     let each = c.loop-i.invariant.each in
     record {
       rising =
-          left_rising wide sorted left permutation is (length c.args.of.now)
+          left_rising wide sorted left permutation is (length c.args.vote.of.now)
           (IsStrictlyIncreasing-dedup sorted c.sort_unstable.ensures.sorted)
           (λ s one. elim (each s one) [ inl is ↦ omega (arith, is.2, c.requires.live.below is.0 is.1) | inr w ↦ w.0 ]);
       among = λ s one. is_one wide sorted left permutation is s (c.loop-i.invariant.among s one);

@@ -7,12 +7,12 @@ use Rattle.partition.proofs.counted.scanned.Goals.{then-others_lose+in_ok-push-2
 
 pub loop-s-preserved-then-live-k : goal.loop-s-preserved-then-live-k
 loop-s-preserved-then-live-k c =
-    let inside : c.loop-s.k < length c.args.live.now = omega (arith, c.if-k-live.true) in
+    let inside : c.loop-s.k < length c.args.vote.live.now = omega (arith, c.if-k-live.true) in
     rw c.in_ok-push.ensures.items (wide_next c.requires.live c.loop-s.invariant inside c.if-live-k.true)
 
 pub loop-s-preserved : goal.loop-s-preserved
 loop-s-preserved c =
-    let live = c.args.live.now in
+    let live = c.args.vote.live.now in
     let k = c.loop-s.k in
     let other : k < length live → ¬ (slice_index live k ≡ c.loop-s.s) = λ h. elim c.else-k-live.branch [
       | else-k-live-via-then-k-live+else-live-k w ↦ w.if-live-k.false
@@ -32,7 +32,7 @@ loop-s-preserved c =
 pub returns-clause-widens : goal.returns-clause-widens
 returns-clause-widens c =
     let up = c.loop-s.invariant in
-    let end : c.loop-s.s ≡ length c.args.of.now = omega (arith, c.loop-s-test.false, c.loop-s.auto.s-end) in
+    let end : c.loop-s.s ≡ length c.args.vote.of.now = omega (arith, c.loop-s-test.false, c.loop-s.auto.s-end) in
     record { rising = wide_rising c.requires.live up end; among = wide_among c.requires.live up end; each = up.each }
 
 pub returns-clause-more : goal.returns-clause-more
