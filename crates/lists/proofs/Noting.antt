@@ -1,6 +1,7 @@
 -- Unions at their places: none at all, one that is noted, and what they are of.
 use Rattle.std.proofs.Common.{◌≡◌, ◌∙◌, ◌⊎◌, ◌↔◌, ℕ, ◌<◌, List, [], ◌++◌, length, get_or, map, set, take, replicate}
 use Rattle.std.proofs.Common.{min, max, Contains, ap, sym, subst, refl, Option, Some, None, inl, inr, arith}
+use Rattle.std.proofs.Common.{Result, Ok, Err, IfOk}
 use Rattle.std.specs.List.{All}
 use Rattle.std.specs.Option.{IfSome}
 use Rattle.std.proofs.lemmas.Bool.{cases_eq, cases_lt}
@@ -9,12 +10,17 @@ use Rattle.std.proofs.lemmas.List.Elements.{All-contains, All-map, All-replicate
 use Rattle.lists.specs.declared.known.Union.{Union}
 use Rattle.lists.specs.declared.known.TheConstants.{NO_UNION}
 use Rattle.lists.specs.Known.{noted_union, IsNone}
-use Rattle.lists.specs.Unions.{IsUnion, AreUnions}
+use Rattle.lists.specs.Lists.{list_at, Grow}
+use Rattle.lists.specs.Unions.{Unites, IsUnion, AreUnions}
 use Rattle.lists.proofs.Joining.{or_swap}
 
 pub if_some : (o : Option ℕ) (P Q : ℕ → Type 0) → ((i : ℕ) → P i → Q i) → IfSome o P → IfSome o Q
 if_some None P Q f h = h
 if_some (Some i) P Q f h = f i h
+
+pub if_both : {X E : Type 0} (r : Result X E) (P Q : X → Type 0) → IfOk r P → IfOk r Q → IfOk r (λ x. P x × Q x)
+if_both (Ok x) P Q p q = (p, q)
+if_both (Err e) P Q p q = tt
 
 pub none_noted : (unions : List Union) (n : ℕ) → unions ≡ replicate n NO_UNION → All IsNone (map noted_union unions)
 none_noted unions n e =
@@ -72,6 +78,22 @@ IsUnion-in_order lists j k i = elim (cases_lt j k) [
       let high : max j k ≡ j = omega arith in
       rw (low, high) (λ is. IsUnion-swap is, λ is. IsUnion-swap is)
 ]
+
+-- a list that has the pairs of two lists that there were
+pub same_union : {old new : List (List (ℕ × ℕ))} {j k : ℕ} → Grow old new → j < length old → k < length old → (i : ℕ)
+    → Unites (list_at new i) (list_at new j) (list_at new k) ↔ Unites (list_at new i) (list_at old j) (list_at old k)
+same_union {j} {k} grow first second i = rw (grow.same j first, grow.same k second) (λ u. u, λ u. u)
+
+pub IsUnion-grown : {old new : List (List (ℕ × ℕ))} {j k i : ℕ} → Grow old new → j < length old → k < length old
+    → i < length new → Unites (list_at new i) (list_at old j) (list_at old k) → IsUnion new (j, k) i
+IsUnion-grown {old} {new} {j} {k} {i} grow first second within exactly =
+    let longer = grow.longer in
+    record {
+      within = within;
+      first = omega arith;
+      second = omega arith;
+      exactly = (same_union grow first second i).1 exactly;
+    }
 
 -- one union more, and maybe some forgotten
 pub AreUnions-note : {lists : List (List (ℕ × ℕ))} (unions noted : List ((ℕ × ℕ) × ℕ)) (key : ℕ × ℕ) (i : ℕ)

@@ -7,12 +7,12 @@ use Rattle.std.proofs.lemmas.Bool.{cases_lt}
 use Rattle.std.proofs.lemmas.List.{length-append, append-nil}
 use Rattle.lists.specs.declared.nodes.Halves.{Halves}
 use Rattle.lists.specs.declared.nodes.TheConstants.{FEW}
-use Rattle.lists.specs.Lists.{pair_cmp, list_at, merged, Grow}
+use Rattle.lists.specs.Lists.{pair_cmp, list_at, merged}
 use Rattle.lists.specs.Cuts.{as_number, Fit, IsPlace, IsAlike, IsCut, IsUnder, IsOver, IsParted}
 use Rattle.lists.specs.Nodes.{IsHalved, AreStored, AreIn}
 use Rattle.lists.specs.Unions.{Unites, IsSplit, AreSplit}
 use Rattle.lists.proofs.Cuts.{alike_wider, alike_within, all_under, all_over}
-use Rattle.lists.proofs.Keys.{halves_has, halves_rise, parts_has}
+use Rattle.lists.proofs.Keys.{halves_has, parts_has}
 use Rattle.lists.proofs.Halving.{keys_between, has_first, has_last}
 use Rattle.lists.proofs.Merging.{merged_has}
 use Rattle.lists.proofs.Joining.{or_swap}
@@ -126,36 +126,24 @@ module _ {xs ys below above below' above' : List (ℕ × ℕ)} {c : ℕ} (first 
       (omega arith, omega arith)
 
 -- the unions of the parts are the halves of the union
-pub AreIn-united : (lists new : List (List (ℕ × ℕ))) (h : Halves) {xs ys below above below' above' : List (ℕ × ℕ)}
-    → AreStored new → Grow lists new
-    → h.below < length lists → Unites (list_at lists h.below) below below' → h.above < length new
-    → Unites (list_at new h.above) above above'
+pub AreIn-united : (new : List (List (ℕ × ℕ))) (h : Halves) {xs ys below above below' above' : List (ℕ × ℕ)}
+    → h.below < length new → Unites (list_at new h.below) below below'
+    → h.above < length new → Unites (list_at new h.above) above above'
     → IsParted xs h.cut below above → IsParted ys h.cut below' above' → IsStrictlySortedBy pair_cmp ys → FEW < length ys
     → ((list : List (ℕ × ℕ)) → Unites list xs ys → IsCut list h.cut)
     → AreIn new h × Unites (list_at new h.below ++ list_at new h.above) xs ys
-AreIn-united lists new h {xs} {ys} {below} {above} {below'} {above'} stored grow lower_in lower upper_in upper first
-    second rise long cut =
-    let low : Unites (list_at new h.below) below below' =
-    subst (λ l. Unites l below below') (sym (grow.same h.below lower_in)) lower in
-    let longer = grow.longer in
-    let low_in : h.below < length new = omega arith in
+AreIn-united new h {xs} {ys} low_in low high_in high first second rise long cut =
     let list = list_at new h.below ++ list_at new h.above in
-    let all = united first second _ _ low upper in
-    let under = united_under first second _ _ low upper in
-    let over = united_over first second _ _ low upper in
-    let rises =
-    halves_rise (list_at new h.below) (list_at new h.above) h.cut (stored.rise h.below [] low_in)
-    (stored.rise h.above [] upper_in)
-    (stored.fit h.below [] low_in) (stored.fit h.above [] upper_in) under over in
+    let all = united first second _ _ low high in
     let fewer = rising_fewer ys list rise (λ z d. (all z).1 (inr d)) in (
       record {
         below = low_in;
-        above = upper_in;
+        above = high_in;
         halves = record {
           long = omega (arith, length-append (list_at new h.below) (list_at new h.above));
           at_cut = cut list all;
-          under = under;
-          over = over;
+          under = united_under first second _ _ low high;
+          over = united_over first second _ _ low high;
         };
       },
       all,

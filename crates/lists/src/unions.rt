@@ -5,7 +5,7 @@ ghost use Rattle.std.specs.List.Sorted.{IsStrictlySortedBy};
 ghost use Rattle.lists.specs.Lists.{pair_cmp, list_at, Grow};
 ghost use Rattle.lists.specs.Cuts.{Fit, IsAlike};
 ghost use Rattle.lists.specs.Nodes.{AreStored, IsHalved};
-ghost use Rattle.lists.specs.Unions.{Unites, IsSplit, AreSplit, IsSplitWith};
+ghost use Rattle.lists.specs.Unions.{Unites, IsUnion, IsSplit, AreSplit, IsSplitWith};
 
 use crate::cut::{cut, key, parted};
 use crate::nodes::{FEW, Halves, Shape};
@@ -31,9 +31,7 @@ impl Bases {
     pub fn both(&mut self, j: u32, k: u32) -> Result<u32, Memory>
         requires first { j < length self.old.trie }
         requires second { k < length self.old.trie }
-        ensures within { IfOk result (λ i. i < length self.new.trie) }
-        ensures exactly { IfOk result (λ i. Unites (list_at self.new.trie i)
-            (list_at self.old.trie j) (list_at self.old.trie k)) }
+        ensures union { IfOk result (IsUnion self.new.trie (j, k)) }
         ensures grow { Grow self.old.trie self.new.trie }
     {
         self.trie.known();
@@ -52,7 +50,6 @@ impl Bases {
         let Pieces { cut, below, above } = pieces_of_both(j, first, k, second);
         let below = self.both(below.0, below.1)?;
         let above = self.both(above.0, above.1)?;
-        self.trie.known();
         let i = self
             .trie
             .number(Shape::Halved(Halves { below, above, cut }))?;
@@ -68,9 +65,7 @@ impl Bases {
         requires few { few < length self.old.trie }
         requires short { length (list_at self.old.trie few) ≤ FEW }
         requires list { k < length self.old.trie }
-        ensures within { IfOk result (λ i. i < length self.new.trie) }
-        ensures exactly { IfOk result (λ i. Unites (list_at self.new.trie i)
-            (list_at self.old.trie few) (list_at self.old.trie k)) }
+        ensures union { IfOk result (IsUnion self.new.trie (few, k)) }
         ensures grow { Grow self.old.trie self.new.trie }
     {
         self.trie.known();

@@ -46,9 +46,12 @@ united_in t c =
     let is = c.pieces_with_pairs-pieces.ensures c.args.trie.now c.known.ensures.stored c.in-Halved.ensures in
     let second = is.list.second in
     let low = c.requires.list in
-    AreIn-united c.with.new.trie c.with-in-Halved.new.trie _ c.known-in-Halved.ensures.stored
-    c.with-in-Halved.ensures.grow c.in_ok-below-in-Halved.ensures.within
-    c.in_ok-below-in-Halved.ensures.exactly c.in_ok-above-in-Halved.ensures.within
+    let grow = c.with-in-Halved.ensures.grow in
+    let longer = grow.longer in
+    let lower = c.in_ok-below-in-Halved.ensures.within in
+    AreIn-united c.with-in-Halved.new.trie _ (omega arith)
+    (subst (λ l. Unites l pieces.below.1.now (list_at c.args.trie.now pieces.below.0)) (sym (grow.same _ lower))
+    c.in_ok-below-in-Halved.ensures.exactly) c.in_ok-above-in-Halved.ensures.within
     (subst (Unites (list_at c.with-in-Halved.new.trie c.in_ok-above-in-Halved.above) pieces.above.1.now)
     (c.with.ensures.grow.same pieces.above.0 (omega arith))
     c.in_ok-above-in-Halved.ensures.exactly)

@@ -3,6 +3,7 @@ use Rattle.std.proofs.lemmas.Result.{IfOk-weaker}
 use Rattle.lists.specs.Lists.{list_at}
 use Rattle.lists.specs.Cuts.{Fit}
 use Rattle.lists.specs.Unions.{Unites}
+use Rattle.lists.proofs.Noting.{if_both, IsUnion-grown}
 use Rattle.lists.proofs.unions.Bases.with_list.Goals as goal
 use Rattle.lists.proofs.unions.Bases.with_list.Goals.{After-deref}
 
@@ -16,9 +17,9 @@ with-requires-clause-fit c =
     subst Fit (sym (held_is ((goal.at.with-requires-clause-fit c).After-deref))) (c.known.ensures.stored.fit c.args.few
     [] c.requires.few)
 
-pub returns-clause-exactly : goal.returns-clause-exactly
-returns-clause-exactly c =
-    let held = held_is ((goal.at.returns-clause-exactly c).After-deref) in
-    IfOk-weaker c.with.result _ _
-    (λ i h. subst (λ l. Unites (list_at c.with.new.trie i) l (list_at c.args.self.now.trie c.args.k)) held h)
-    c.with.ensures.exactly
+pub returns-clause-union : goal.returns-clause-union
+returns-clause-union c =
+    let held = held_is ((goal.at.returns-clause-union c).After-deref) in
+    IfOk-weaker c.with.result _ _ (λ i h. IsUnion-grown c.with.ensures.grow c.requires.few c.requires.list h.0
+    (subst (λ l. Unites (list_at c.with.new.trie i) l (list_at c.args.self.now.trie c.args.k)) held h.1))
+    (if_both c.with.result _ _ c.with.ensures.within c.with.ensures.exactly)
