@@ -9,7 +9,7 @@ ghost use Rattle.lists.specs.Unions.{Unites, IsUnion, IsSplit, AreSplit, IsSplit
 
 use crate::cut::{cut, key, parted};
 use crate::nodes::{FEW, Halves, Shape};
-use crate::ordered::{append_merged, has_all};
+use crate::ordered::append_merged;
 use crate::trie::Trie;
 use buckets::EMPTY;
 use growth::Memory;
@@ -174,9 +174,6 @@ pub(crate) fn with(
     }
     match trie.shape(k) {
         Shape::Whole(list) => {
-            if has_all(list, pairs) {
-                return Ok(k);
-            }
             merged.clear();
             append_merged(list, pairs, merged)?;
             list_of(trie, merged)
@@ -185,10 +182,6 @@ pub(crate) fn with(
             let pieces = pieces_with_pairs(k, halves, pairs);
             let below = with(trie, merged, pieces.below.0, pieces.below.1)?;
             let above = with(trie, merged, pieces.above.0, pieces.above.1)?;
-            trie.known();
-            if below == pieces.below.0 && above == pieces.above.0 {
-                return Ok(k);
-            }
             let cut = pieces.cut;
             trie.number(Shape::Halved(Halves { below, above, cut }))
         }

@@ -10,7 +10,7 @@ use Rattle.lists.proofs.Keys.{parts_both}
 use Rattle.lists.proofs.Uniting.{parts_fewer, halved_long, AreIn-united, unites_merged}
 use Rattle.lists.proofs.Merging.{merged_has, merged_rises}
 use Rattle.lists.proofs.unions.+with.Goals as goal
-use Rattle.lists.proofs.unions.+with.Goals.{After-known-in-Halved, After-deref}
+use Rattle.lists.proofs.unions.+with.Goals.{In_ok-above-in-Halved, After-deref}
 
 pub with-requires : goal.with-requires
 with-requires t c =
@@ -33,7 +33,7 @@ with-requires-in-Halved t c =
     (omega arith, (omega arith, (parts_both _ _ _ _ is.pairs c.requires.rising c.requires.fit).1))
 
 -- the unions of both parts are the halves of the union
-united_in : (t : ℕ) (c : After-known-in-Halved t) → let h : Halves = record {
+united_in : (t : ℕ) (c : In_ok-above-in-Halved t) → let h : Halves = record {
   below = c.in_ok-below-in-Halved.below;
   above = c.in_ok-above-in-Halved.above;
   cut = c.pieces_with_pairs-pieces.result.cut;
@@ -57,35 +57,17 @@ united_in t c =
     c.in_ok-above-in-Halved.ensures.exactly)
     is.pairs is.list.parted (c.known.ensures.stored.rise c.args.k _ low) (halved_long c.in-Halved.ensures) is.cut
 
-pub returns-then-above-pieces-clause-exactly : goal.returns-then-above-pieces-clause-exactly
-returns-then-above-pieces-clause-exactly t c =
-    let lists = c.args.trie.now in
-    let pieces = c.pieces_with_pairs-pieces.result in
-    let is = c.pieces_with_pairs-pieces.ensures lists c.known.ensures.stored c.in-Halved.ensures in
-    let grow = Grow-twice c.with.ensures.grow c.with-in-Halved.ensures.grow in
-    let new = c.with-in-Halved.new.trie in
-    let first = is.list.first in
-    let second = is.list.second in
-    let low = c.requires.list in
-    let lower : c.in_ok-below-in-Halved.below ≡ pieces.below.0 = omega (arith, c.if-below-pieces.true) in
-    let upper : c.in_ok-above-in-Halved.above ≡ pieces.above.0 = omega (arith, c.if-above-pieces.true) in
-    subst (λ l. Unites l c.args.pairs.now (list_at lists c.args.k))
-    ((λ i. list_at new (lower i) ++ list_at new (upper i))
-    ∙ (λ i. grow.same pieces.below.0 (omega arith) i ++ grow.same pieces.above.0 (omega arith) i)
-    ∙ sym is.list.parted.joined ∙ sym (grow.same c.args.k low))
-    (united_in t ((goal.at.returns-then-above-pieces-clause-exactly t c).After-known-in-Halved)).1
-
 pub number-requires : goal.number-requires
-number-requires t c = (united_in t ((goal.at.number-requires t c).After-known-in-Halved)).0
+number-requires t c = (united_in t ((goal.at.number-requires t c).In_ok-above-in-Halved)).0
 
-pub returns-else-below-pieces-clause-exactly : goal.returns-else-below-pieces-clause-exactly
-returns-else-below-pieces-clause-exactly t c =
-    let both = (united_in t ((goal.at.returns-else-below-pieces-clause-exactly t c).After-known-in-Halved)).1 in
+pub returns-in_ok-above-in-Halved-clause-exactly : goal.returns-in_ok-above-in-Halved-clause-exactly
+returns-in_ok-above-in-Halved-clause-exactly t c =
+    let both = (united_in t ((goal.at.returns-in_ok-above-in-Halved-clause-exactly t c).In_ok-above-in-Halved)).1 in
     IfOk-weaker c.number.result _ _ (λ i e. subst (λ l. Unites l c.args.pairs.now (list_at c.args.trie.now c.args.k))
     (sym e) both) c.number.ensures.list
 
-pub returns-else-below-pieces-clause-grow : goal.returns-else-below-pieces-clause-grow
-returns-else-below-pieces-clause-grow t c = Grow-twice (Grow-twice c.with.ensures.grow c.with-in-Halved.ensures.grow)
+pub returns-in_ok-above-in-Halved-clause-grow : goal.returns-in_ok-above-in-Halved-clause-grow
+returns-in_ok-above-in-Halved-clause-grow t c = Grow-twice (Grow-twice c.with.ensures.grow c.with-in-Halved.ensures.grow)
     c.number.ensures.grow
 
 -- the list is put together with the pairs
@@ -112,8 +94,3 @@ returns-in_ok-append_merged-in-Whole-clause-exactly t c =
     let both = both_are t ((goal.at.returns-in_ok-append_merged-in-Whole-clause-exactly t c).After-deref) in
     IfOk-weaker c.list_of-in-Whole.result _ _ (λ i e. unites_merged _ (list_at c.args.trie.now c.args.k)
     c.args.pairs.now (e ∙ both)) c.list_of-in-Whole.ensures.list
-
-pub returns-then-has_all-clause-exactly : goal.returns-then-has_all-clause-exactly
-returns-then-has_all-clause-exactly t c =
-    unites_merged (list_at c.args.trie.now c.args.k) (list_at c.args.trie.now c.args.k) c.args.pairs.now
-    (sym (subst (λ l. merged l c.args.pairs.now ≡ l) c.in-Whole.ensures.0 (c.has_all.ensures.0 c.if-has_all.true)))
