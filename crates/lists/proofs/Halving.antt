@@ -6,25 +6,30 @@ use Rattle.std.proofs.lemmas.List.{length-append, get_or_default}
 use Rattle.std.proofs.lemmas.List.Elements.{Contains-get_or}
 use Rattle.lists.specs.declared.nodes.Halves.{Halves}
 use Rattle.lists.specs.declared.nodes.TheConstants.{FEW}
-use Rattle.lists.specs.Lists.{pair_cmp, list_at, Grow}
-use Rattle.lists.specs.Cuts.{as_number, Fit, IsPlace, IsCut, IsParted}
-use Rattle.lists.specs.Nodes.{AreHalves, AreIn}
+use Rattle.lists.specs.Lists.{pair_cmp, list_at}
+use Rattle.lists.specs.Cuts.{as_number, Fit, IsPlace, IsAlike, IsCut, IsParted}
+use Rattle.lists.specs.Nodes.{AreIn}
 use Rattle.lists.proofs.Cuts.{alike_within}
 use Rattle.lists.proofs.Keys.{rising_keys, key_from_less}
 use Rattle.std.proofs.lemmas.Map.Keys.{Less-from_sorted}
 
+-- some pair is up to low and some pair is from high on, and all pairs are alike at a place that lies so
+pub record HasEnds (list : List (ℕ × ℕ)) (low high : ℕ) : Type 0 where
+  pub before : (z : ℕ × ℕ) × Contains list z × (as_number z ≤ low)
+  pub after : (z : ℕ × ℕ) × Contains list z × (high ≤ as_number z)
+  pub alike : (bit l h c : ℕ) → IsPlace bit l h c → l ≤ low → high ≤ h → IsAlike bit list c
+
 -- the first and the last pair of some
-module _ (list : List (ℕ × ℕ)) (rise : IsStrictlySortedBy pair_cmp list) (fit : Fit list)
-    (some : 0 < length list) (low high : ℕ)
-    (low_is : low ≡ as_number (get_or list 0 (0, 0))) (high_is : high
-    ≡ as_number (get_or list (length list - 1) (0, 0))) where
-  pub has_first : Contains list (get_or list 0 (0, 0))
+module _ (list : List (ℕ × ℕ)) (rise : IsStrictlySortedBy pair_cmp list) (fit : Fit list) (some : 0 < length list)
+    {low high : ℕ} (low_is : low ≡ as_number (get_or list 0 (0, 0)))
+    (high_is : high ≡ as_number (get_or list (length list - 1) (0, 0))) where
+  has_first : Contains list (get_or list 0 (0, 0))
   has_first = Contains-get_or list 0 (0, 0) some
 
-  pub has_last : Contains list (get_or list (length list - 1) (0, 0))
+  has_last : Contains list (get_or list (length list - 1) (0, 0))
   has_last = Contains-get_or list (length list - 1) (0, 0) (omega arith)
 
-  pub keys_between : (z : ℕ × ℕ) → Contains list z → (low ≤ as_number z) × (as_number z ≤ high)
+  keys_between : (z : ℕ × ℕ) → Contains list z → (low ≤ as_number z) × (as_number z ≤ high)
   keys_between z d =
       let keys = rising_keys list rise fit in
       let k = d.1 in
@@ -44,6 +49,14 @@ module _ (list : List (ℕ × ℕ)) (rise : IsStrictlySortedBy pair_cmp list) (f
       (Less-from_sorted pair_cmp list 0 (length list - 1) (0, 0) rise (omega arith) (omega arith)) in
       omega arith
 
+  pub ends_pairs : HasEnds list low high
+  ends_pairs = record {
+    before = (get_or list 0 (0, 0), has_first, omega (arith, low_is));
+    after = (get_or list (length list - 1) (0, 0), has_last, omega (arith, high_is));
+    alike = λ bit l h c place under over. alike_within list bit l h c place (λ z d.
+        let between = keys_between z d in (omega arith, omega arith));
+  }
+
   pub IsCut-place : (bit c : ℕ) → IsPlace bit low high c → IsCut list c
   IsCut-place bit c place = record {
     bit = bit;
@@ -53,21 +66,16 @@ module _ (list : List (ℕ × ℕ)) (rise : IsStrictlySortedBy pair_cmp list) (f
   }
 
 -- two numbered lists are the halves of a list
-pub AreIn-parts : (lists new : List (List (ℕ × ℕ))) (h : Halves) (list below above : List (ℕ × ℕ)) → Grow lists new
-    → h.below < length lists → list_at lists h.below ≡ below → h.above < length new → list_at new h.above ≡ above
-    → IsParted list h.cut below above → IsCut list h.cut → FEW < length list → AreIn new h
-AreIn-parts lists new h list below above grow low below_is high above_is parted cut long =
-    let first : below ≡ list_at new h.below = sym (grow.same h.below low ∙ below_is) in
-    let longer = grow.longer in
-    let size = ap length parted.joined in
-    record {
-      below = omega arith;
-      above = high;
-      halves = subst (λ b. AreHalves b (list_at new h.above) h.cut) first (subst (λ a. AreHalves below a h.cut)
-          (sym above_is) (record {
-            long = omega (arith, length-append below above);
-            at_cut = subst (λ l. IsCut l h.cut) parted.joined cut;
-            under = parted.under;
-            over = parted.over;
-          }));
-    }
+pub AreIn-parts : {lists : List (List (ℕ × ℕ))} {h : Halves} {list : List (ℕ × ℕ)} → h.below < length lists
+    → h.above < length lists → IsParted list h.cut (list_at lists h.below) (list_at lists h.above) → IsCut list h.cut
+    → FEW < length list → AreIn lists h
+AreIn-parts {lists} {h} low high parted cut long = record {
+  below = low;
+  above = high;
+  halves = record {
+    long = omega (arith, ap length parted.joined, length-append (list_at lists h.below) (list_at lists h.above));
+    at_cut = subst (λ l. IsCut l h.cut) parted.joined cut;
+    under = parted.under;
+    over = parted.over;
+  };
+}

@@ -80,10 +80,6 @@ IsUnion-in_order lists j k i = elim (cases_lt j k) [
 ]
 
 -- a list that has the pairs of two lists that there were
-pub same_union : {old new : List (List (ℕ × ℕ))} {j k : ℕ} → Grow old new → j < length old → k < length old → (i : ℕ)
-    → Unites (list_at new i) (list_at new j) (list_at new k) ↔ Unites (list_at new i) (list_at old j) (list_at old k)
-same_union {j} {k} grow first second i = rw (grow.same j first, grow.same k second) (λ u. u, λ u. u)
-
 pub IsUnion-grown : {old new : List (List (ℕ × ℕ))} {j k i : ℕ} → Grow old new → j < length old → k < length old
     → i < length new → Unites (list_at new i) (list_at old j) (list_at old k) → IsUnion new (j, k) i
 IsUnion-grown {old} {new} {j} {k} {i} grow first second within exactly =
@@ -92,7 +88,7 @@ IsUnion-grown {old} {new} {j} {k} {i} grow first second within exactly =
       within = within;
       first = omega arith;
       second = omega arith;
-      exactly = (same_union grow first second i).1 exactly;
+      exactly = rw (grow.same j first, grow.same k second) exactly;
     }
 
 -- one union more, and maybe some forgotten

@@ -1,19 +1,19 @@
 -- Unions by halves: a list in two at another place, the cut of a union, and the union of two lists from those of their
 -- halves.
-use Rattle.std.proofs.Common.{◌≡◌, ◌∙◌, ◌⊎◌, ◌↔◌, ℕ, ◌+◌, ◌-◌, ◌<◌, ◌≤◌, min, max, List, [], ◌++◌, length, get_or}
-use Rattle.std.proofs.Common.{Contains, ap, sym, subst, inl, inr, arith, rules}
+use Rattle.std.proofs.Common.{◌≡◌, ◌∙◌, ◌⊎◌, ◌↔◌, ℕ, ◌+◌, ◌-◌, ◌<◌, ◌≤◌, min, max, List, [], ◌++◌, length}
+use Rattle.std.proofs.Common.{Contains, ap, sym, subst, subst₂, refl, inl, inr, arith, rules}
 use Rattle.std.specs.List.Sorted.{IsStrictlySortedBy}
 use Rattle.std.proofs.lemmas.Bool.{cases_lt}
 use Rattle.std.proofs.lemmas.List.{length-append, append-nil}
 use Rattle.lists.specs.declared.nodes.Halves.{Halves}
 use Rattle.lists.specs.declared.nodes.TheConstants.{FEW}
-use Rattle.lists.specs.Lists.{pair_cmp, list_at, merged}
-use Rattle.lists.specs.Cuts.{as_number, Fit, IsPlace, IsAlike, IsCut, IsUnder, IsOver, IsParted}
+use Rattle.lists.specs.Lists.{pair_cmp, list_at, merged, Grow}
+use Rattle.lists.specs.Cuts.{as_number, IsPlace, IsAlike, IsCut, IsUnder, IsOver, IsParted}
 use Rattle.lists.specs.Nodes.{IsHalved, AreStored, AreIn}
-use Rattle.lists.specs.Unions.{Unites, IsSplit, AreSplit}
-use Rattle.lists.proofs.Cuts.{alike_wider, alike_within, all_under, all_over}
+use Rattle.lists.specs.Unions.{Unites, IsSplit}
+use Rattle.lists.proofs.Cuts.{alike_wider, all_under, all_over}
 use Rattle.lists.proofs.Keys.{halves_has, parts_has}
-use Rattle.lists.proofs.Halving.{keys_between, has_first, has_last}
+use Rattle.lists.proofs.Halving.{HasEnds, AreIn-parts}
 use Rattle.lists.proofs.Merging.{merged_has}
 use Rattle.lists.proofs.Joining.{or_swap}
 use Rattle.lists.proofs.Rising.{rising_fewer}
@@ -36,19 +36,15 @@ pub halved_parted : {lists : List (List (ℕ × ℕ))} {k : ℕ} {h : Halves} �
 halved_parted is = record { joined = is.list; under = is.halves.under; over = is.halves.over }
 
 -- a list in two at a place that suits it
-module _ (lists : List (List (ℕ × ℕ))) (stored : AreStored lists) (k c : ℕ) (h : Halves)
-    (is : IsHalved lists k h) (bit : ℕ)
+module _ {lists : List (List (ℕ × ℕ))} {k c bit : ℕ} {h : Halves} (stored : AreStored lists) (is : IsHalved lists k h)
     (alike : IsAlike bit (list_at lists k) c) where
-  own : IsCut (list_at lists k) h.cut
-  own = halved_cut is
-
   pub split_under : h.cut < c → IsSplit lists k c k 0
   split_under less = record {
     first = omega arith;
     second = omega arith;
     parted = record {
       joined = sym (ap (λ l. list_at lists k ++ l) stored.first ∙ append-nil (list_at lists k));
-      under = all_under (list_at lists k) bit c h.cut alike own less;
+      under = all_under (list_at lists k) bit c h.cut alike (halved_cut is) less;
       over = λ z d. absurd (none_in _ stored.first z d);
     };
   }
@@ -60,7 +56,7 @@ module _ (lists : List (List (ℕ × ℕ))) (stored : AreStored lists) (k c : �
     parted = record {
       joined = sym (ap (λ l. l ++ list_at lists k) stored.first);
       under = λ z d. absurd (none_in _ stored.first z d);
-      over = all_over (list_at lists k) bit c h.cut alike own less;
+      over = all_over (list_at lists k) bit c h.cut alike (halved_cut is) less;
     };
   }
 
@@ -72,13 +68,18 @@ module _ (lists : List (List (ℕ × ℕ))) (stored : AreStored lists) (k c : �
         (halved_parted is);
   }
 
--- the numbers of the parts of two lists are below what the numbers of the lists are
-pub split_within : {lists : List (List (ℕ × ℕ))} {two below above : ℕ × ℕ} {c n : ℕ} → AreSplit lists two c below above
-    → two.0 < n → two.1 < n → ((below.0 < n) × (below.1 < n)) × ((above.0 < n) × (above.1 < n))
-split_within is first second = (
-  (omega (arith, is.first.first), omega (arith, is.second.first)),
-  (omega (arith, is.first.second), omega (arith, is.second.second)),
-)
+-- a list in two, whose parts are looked up after more lists were put there
+pub parted_grown : {lists mid new : List (List (ℕ × ℕ))} {k c below above : ℕ} → Grow lists mid → Grow lists new
+    → IsSplit lists k c below above → k < length lists
+    → IsParted (list_at lists k) c (list_at mid below) (list_at new above)
+parted_grown first second is low =
+    subst₂ (IsParted _ _) (sym (first.same _ (omega (arith, is.first)))) (sym (second.same _ (omega (arith, is.second))))
+    is.parted
+
+-- the lists of two numbers are the halves of one that has the pairs of both lists
+pub record AreUnited (lists : List (List (ℕ × ℕ))) (h : Halves) (xs ys : List (ℕ × ℕ)) : Type 0 where
+  pub halves : AreIn lists h
+  pub exactly : (list : List (ℕ × ℕ)) → list ≡ list_at lists h.below ++ list_at lists h.above → Unites list xs ys
 
 pub either_mixed : {W L U B C A D X Y : Type 0} → W ↔ (L ⊎ U) → L ↔ (B ⊎ C) → U ↔ (A ⊎ D) → X ↔ (B ⊎ A) →
     Y ↔ (C ⊎ D) → W ↔ (X ⊎ Y)
@@ -125,50 +126,22 @@ module _ {xs ys below above below' above' : List (ℕ × ℕ)} {c : ℕ} (first 
       let high = (on_side cut.above.0 cut.above.1).1 cut.above.2 in
       (omega arith, omega arith)
 
--- the unions of the parts are the halves of the union
-pub AreIn-united : (new : List (List (ℕ × ℕ))) (h : Halves) {xs ys below above below' above' : List (ℕ × ℕ)}
-    → h.below < length new → Unites (list_at new h.below) below below'
-    → h.above < length new → Unites (list_at new h.above) above above'
-    → IsParted xs h.cut below above → IsParted ys h.cut below' above' → IsStrictlySortedBy pair_cmp ys → FEW < length ys
-    → ((list : List (ℕ × ℕ)) → Unites list xs ys → IsCut list h.cut)
-    → AreIn new h × Unites (list_at new h.below ++ list_at new h.above) xs ys
-AreIn-united new h {xs} {ys} low_in low high_in high first second rise long cut =
-    let list = list_at new h.below ++ list_at new h.above in
-    let all = united first second _ _ low high in
-    let fewer = rising_fewer ys list rise (λ z d. (all z).1 (inr d)) in (
+  -- the unions of the parts are the halves of the union
+  pub AreUnited-parts : {mid new : List (List (ℕ × ℕ))} {b a : ℕ} → Grow mid new
+      → b < length mid → Unites (list_at mid b) below below' → a < length new → Unites (list_at new a) above above'
+      → IsStrictlySortedBy pair_cmp ys → FEW < length ys → ((list : List (ℕ × ℕ)) → Unites list xs ys → IsCut list c)
+      → AreUnited new (record { below = b; above = a; cut = c }) xs ys
+  AreUnited-parts {new} {b} {a} grow low_in lower high_in high rise long cut =
+      let list = list_at new b ++ list_at new a in
+      let low = subst (λ l. Unites l below below') (sym (grow.same b low_in)) lower in
+      let all = united _ _ low high in
+      let fewer = rising_fewer ys list rise (λ z d. (all z).1 (inr d)) in
+      let parted : IsParted list c (list_at new b) (list_at new a) =
+      record { joined = refl; under = united_under _ _ low high; over = united_over _ _ low high } in
       record {
-        below = low_in;
-        above = high_in;
-        halves = record {
-          long = omega (arith, length-append (list_at new h.below) (list_at new h.above));
-          at_cut = cut list all;
-          under = united_under first second _ _ low high;
-          over = united_over first second _ _ low high;
-        };
-      },
-      all,
-    )
-
--- some pair is up to low and some pair is from high on, and all pairs are alike at a place that lies so
-pub record HasEnds (list : List (ℕ × ℕ)) (low high : ℕ) : Type 0 where
-  pub before : (z : ℕ × ℕ) × Contains list z × (as_number z ≤ low)
-  pub after : (z : ℕ × ℕ) × Contains list z × (high ≤ as_number z)
-  pub alike : (bit l h c : ℕ) → IsPlace bit l h c → l ≤ low → high ≤ h → IsAlike bit list c
-
-pub ends_pairs : (list : List (ℕ × ℕ)) → IsStrictlySortedBy pair_cmp list → Fit list → 0 < length list → (low high : ℕ)
-    → low ≡ as_number (get_or list 0 (0, 0)) → high ≡ as_number (get_or list (length list - 1) (0, 0))
-    → HasEnds list low high
-ends_pairs list rise fit some low high low_is high_is = record {
-  before = (get_or list 0 (0, 0), has_first list rise fit some low high low_is high_is, omega (arith, low_is));
-  after = (
-    get_or list (length list - 1) (0, 0),
-    has_last list rise fit some low high low_is high_is,
-    omega (arith, high_is),
-  );
-  alike = λ bit l h c place under over. alike_within list bit l h c place (λ z d.
-      let between = keys_between list rise fit some low high low_is high_is z d in
-      (omega arith, omega arith));
-}
+        halves = AreIn-parts (omega (arith, grow.longer)) high_in parted (cut list all) (omega arith);
+        exactly = λ l e. subst (λ l. Unites l xs ys) (sym e) all;
+      }
 
 pub ends_halves : (list : List (ℕ × ℕ)) (own : ℕ) → IsCut list own → HasEnds list (own - 1) own
 ends_halves list own cut =

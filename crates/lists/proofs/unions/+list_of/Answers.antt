@@ -1,5 +1,5 @@
-use Rattle.std.proofs.Common.{ℕ, arith}
-use Rattle.lists.specs.Cuts.{IsCut}
+use Rattle.std.proofs.Common.{◌∙◌, ℕ, sym, subst₂, arith}
+use Rattle.lists.specs.Cuts.{IsCut, IsParted}
 use Rattle.lists.proofs.Keys.{parts_both, parts_shorter}
 use Rattle.lists.proofs.Halving.{first_before_last, IsCut-place, AreIn-parts}
 use Rattle.lists.proofs.unions.+list_of.Goals as goal
@@ -7,16 +7,14 @@ use Rattle.lists.proofs.unions.+list_of.Goals.{After-parted}
 
 pub cut-cut-requires : goal.cut-cut-requires
 cut-cut-requires t c =
-    first_before_last c.args.pairs.now c.requires.rising c.requires.fit (omega (arith, c.if-pairs-le-FEW.false))
-    c.key.result c.key-2.result
-    c.key.ensures c.key-2.ensures (omega (arith, c.if-pairs-le-FEW.false))
+    let many = c.if-pairs-le-FEW.false in
+    first_before_last _ c.requires.rising c.requires.fit (omega arith) c.key.ensures c.key-2.ensures (omega arith)
 
 -- the place is the list's cut
 at_cut : (t : ℕ) (c : After-parted t) → IsCut c.args.pairs.now c.cut-cut.result
 at_cut t c =
-    IsCut-place c.args.pairs.now c.requires.rising c.requires.fit (omega (arith, c.if-pairs-le-FEW.false))
-    c.key.result c.key-2.result
-    c.key.ensures c.key-2.ensures c.cut-cut.ensures.0 c.cut-cut.result c.cut-cut.ensures.1
+    IsCut-place _ c.requires.rising c.requires.fit (omega (arith, c.if-pairs-le-FEW.false)) c.key.ensures c.key-2.ensures
+    c.cut-cut.ensures.0 c.cut-cut.result c.cut-cut.ensures.1
 
 pub list_of-requires : goal.list_of-requires
 list_of-requires t c =
@@ -34,7 +32,9 @@ list_of-requires-2 t c =
 
 pub number-requires-2 : goal.number-requires-2
 number-requires-2 t c =
-    AreIn-parts c.list_of.new.trie c.list_of-2.new.trie _ c.args.pairs.now c.parted.result.0.now c.parted.result.1.now
-    c.list_of-2.ensures.grow
-    c.in_ok-below.ensures.within c.in_ok-below.ensures.list c.in_ok-above.ensures.within c.in_ok-above.ensures.list
-    c.parted.ensures (at_cut t ((goal.at.number-requires-2 t c).After-parted)) (omega (arith, c.if-pairs-le-FEW.false))
+    let grow = c.list_of-2.ensures.grow in
+    let low = c.in_ok-below.ensures.within in
+    AreIn-parts (omega (arith, grow.longer)) c.in_ok-above.ensures.within
+    (subst₂ (IsParted _ _) (sym (grow.same _ low ∙ c.in_ok-below.ensures.list)) (sym c.in_ok-above.ensures.list)
+    c.parted.ensures)
+    (at_cut t ((goal.at.number-requires-2 t c).After-parted)) (omega (arith, c.if-pairs-le-FEW.false))

@@ -3,13 +3,11 @@ use Rattle.lists.proofs.Uniting.{split_under, split_over, split_own}
 use Rattle.lists.proofs.unions.split.Goals as goal
 
 pub returns-then-halves-cut : goal.returns-then-halves-cut
-returns-then-halves-cut c = λ lists stored is bit alike. split_under lists stored c.args.k c.args.cut c.args.halves is
-    bit alike c.if-halves-cut.true
+returns-then-halves-cut c = λ lists stored is bit alike. split_under stored is alike c.if-halves-cut.true
 
 pub returns-then-cut-halves : goal.returns-then-cut-halves
-returns-then-cut-halves c = λ lists stored is bit alike. split_over lists stored c.args.k c.args.cut c.args.halves is
-    bit alike c.if-cut-halves.true
+returns-then-cut-halves c = λ lists stored is bit alike. split_over stored is alike c.if-cut-halves.true
 
 pub returns : goal.returns
-returns c = λ lists stored is bit alike. split_own lists stored c.args.k c.args.cut c.args.halves is bit alike
-    (omega (arith, c.if-halves-cut.false, c.if-cut-halves.false))
+returns c = λ lists stored is bit alike.
+    split_own stored is alike (omega (arith, c.if-halves-cut.false, c.if-cut-halves.false))

@@ -1,12 +1,10 @@
-use Rattle.std.proofs.Common.{◌++◌, ℕ, length, ap, sym, subst, arith}
+use Rattle.std.proofs.Common.{ℕ, arith}
 use Rattle.std.proofs.lemmas.Result.{IfOk-weaker}
-use Rattle.lists.specs.declared.nodes.Halves.{Halves}
 use Rattle.lists.specs.Lists.{list_at, Grow}
-use Rattle.lists.specs.Nodes.{AreIn}
-use Rattle.lists.specs.Unions.{Unites, IsUnion}
-use Rattle.lists.proofs.Uniting.{split_within, parts_fewer, halved_long, AreIn-united}
-use Rattle.lists.proofs.Joining.{Grow-twice, IsUnion-grow}
-use Rattle.lists.proofs.Noting.{same_union, IsUnion-swap, IsUnion-grown}
+use Rattle.lists.specs.Unions.{IsUnion}
+use Rattle.lists.proofs.Uniting.{AreUnited, AreUnited-parts, parted_grown, parts_fewer, halved_long}
+use Rattle.lists.proofs.Joining.{Grow-twice}
+use Rattle.lists.proofs.Noting.{IsUnion-swap, IsUnion-grown}
 use Rattle.lists.proofs.unions.Bases.+both.Goals as goal
 use Rattle.lists.proofs.unions.Bases.+both.Goals.{In_ok-above, In_ok-i}
 
@@ -21,42 +19,41 @@ both-requires t c =
     let is = c.pieces_of_both-cut.ensures c.args.self.now.trie c.known.ensures.stored c.in-Halved.ensures
     c.in-Halved-shape.ensures in
     let less = (parts_fewer is.first.parted is.second.parted is.cut).0 in
+    let j = c.requires.first in
+    let k = c.requires.second in
     let d = c.decreases in
-    (omega arith, (split_within is c.requires.first c.requires.second).0)
+    (omega arith, (omega (arith, is.first.first), omega (arith, is.second.first)))
 
 pub both-requires-2 : goal.both-requires-2
 both-requires-2 t c =
     let is = c.pieces_of_both-cut.ensures c.args.self.now.trie c.known.ensures.stored c.in-Halved.ensures
     c.in-Halved-shape.ensures in
-    let less = (parts_fewer is.first.parted is.second.parted is.cut).1 in
-    let d = c.decreases in
-    let (low, low') = (split_within is c.requires.first c.requires.second).1 in
     let grow = c.both.ensures.grow in
     let longer = grow.longer in
-    let same = ap length (grow.same c.pieces_of_both-cut.result.above.0 low) in
-    let same' = ap length (grow.same c.pieces_of_both-cut.result.above.1 low') in
-    (omega arith, (omega arith, omega arith))
+    let j = c.requires.first in
+    let k = c.requires.second in
+    let less = (parts_fewer (parted_grown grow grow is.first j) (parted_grown grow grow is.second k) is.cut).1 in
+    let d = c.decreases in
+    (omega arith, (omega (arith, is.first.second), omega (arith, is.second.second)))
 
 -- the unions of both parts are the halves of the union
-united_in : (t : ℕ) (c : In_ok-above t) → let h : Halves =
-    record { below = c.in_ok-below.below; above = c.in_ok-above.above; cut = c.pieces_of_both-cut.result.cut } in
-    AreIn c.both-2.new.self.trie h
-    × Unites (list_at c.both-2.new.self.trie h.below ++ list_at c.both-2.new.self.trie h.above)
+united_in : (t : ℕ) (c : In_ok-above t) → AreUnited c.both-2.new.self.trie
+    (record { below = c.in_ok-below.below; above = c.in_ok-above.above; cut = c.pieces_of_both-cut.result.cut })
     (list_at c.args.self.now.trie c.args.j) (list_at c.args.self.now.trie c.args.k)
 united_in t c =
     let is = c.pieces_of_both-cut.ensures c.args.self.now.trie c.known.ensures.stored c.in-Halved.ensures
     c.in-Halved-shape.ensures in
-    let grow = Grow-twice c.both.ensures.grow c.both-2.ensures.grow in
-    let ((low, low'), (high, high')) = split_within is c.requires.first c.requires.second in
-    let lower = IsUnion-grow c.both-2.ensures.grow _ _ c.in_ok-below.ensures.union in
+    let grow = c.both.ensures.grow in
+    let all = Grow-twice grow c.both-2.ensures.grow in
+    let lower = c.in_ok-below.ensures.union in
     let upper = c.in_ok-above.ensures.union in
-    AreIn-united c.both-2.new.self.trie _
-    lower.within ((same_union grow low low' _).0 lower.exactly) upper.within ((same_union grow high high' _).0 upper.exactly)
-    is.first.parted is.second.parted (c.known.ensures.stored.rise c.args.k _ c.requires.second)
-    (halved_long c.in-Halved-shape.ensures) is.cut
+    AreUnited-parts
+    (parted_grown grow all is.first c.requires.first) (parted_grown grow all is.second c.requires.second)
+    c.both-2.ensures.grow lower.within lower.exactly upper.within upper.exactly
+    (c.known.ensures.stored.rise c.args.k _ c.requires.second) (halved_long c.in-Halved-shape.ensures) is.cut
 
 pub number-requires : goal.number-requires
-number-requires t c = (united_in t ((goal.at.number-requires t c).In_ok-above)).0
+number-requires t c = (united_in t ((goal.at.number-requires t c).In_ok-above)).halves
 
 -- the union is noted
 module _ (t : ℕ) (c : In_ok-i t) where
@@ -65,8 +62,7 @@ module _ (t : ℕ) (c : In_ok-i t) where
 
   union : IsUnion c.number.new.self (c.args.j, c.args.k) c.in_ok-i.i
   union = IsUnion-grown grown c.requires.first c.requires.second c.in_ok-i.ensures.within
-      (subst (λ l. Unites l (list_at c.args.self.now.trie c.args.j) (list_at c.args.self.now.trie c.args.k))
-      (sym c.in_ok-i.ensures.list) (united_in t ((goal.at.In_ok-i t c).In_ok-above)).1)
+      ((united_in t ((goal.at.In_ok-i t c).In_ok-above)).exactly _ c.in_ok-i.ensures.list)
 
 pub note-requires : goal.note-requires
 note-requires t c = union t ((goal.at.note-requires t c).In_ok-i)
