@@ -1,6 +1,6 @@
 -- Unions by halves: a list in two at another place, the cut of a union, and the union of two lists from those of their
 -- halves.
-use Rattle.std.proofs.Common.{◌≡◌, ◌∙◌, ◌⊎◌, ◌↔◌, ℕ, ◌+◌, ◌-◌, ◌<◌, ◌≤◌, min, max, List, [], ◌++◌, length}
+use Rattle.std.proofs.Common.{◌≡◌, ◌∙◌, ◌⊎◌, ◌↔◌, ℕ, ◌+◌, ◌-◌, ◌<◌, min, max, List, [], ◌++◌, length}
 use Rattle.std.proofs.Common.{Contains, ap, sym, subst, subst₂, refl, inl, inr, arith, rules}
 use Rattle.std.specs.List.Sorted.{IsStrictlySortedBy}
 use Rattle.std.proofs.lemmas.Bool.{cases_lt}
@@ -8,11 +8,11 @@ use Rattle.std.proofs.lemmas.List.{length-append, append-nil}
 use Rattle.lists.specs.declared.nodes.Halves.{Halves}
 use Rattle.lists.specs.declared.nodes.TheConstants.{FEW}
 use Rattle.lists.specs.Lists.{pair_cmp, list_at, merged, Grow}
-use Rattle.lists.specs.Cuts.{as_number, IsPlace, IsAlike, IsCut, IsUnder, IsOver, IsParted}
+use Rattle.lists.specs.Cuts.{IsPlace, IsAlike, IsCut, IsUnder, IsOver, IsParted}
 use Rattle.lists.specs.Nodes.{IsHalved, AreStored, AreIn}
 use Rattle.lists.specs.Unions.{Unites, IsSplit}
 use Rattle.lists.proofs.Cuts.{alike_wider, all_under, all_over}
-use Rattle.lists.proofs.Keys.{halves_has, parts_has}
+use Rattle.lists.proofs.Keys.{halves_has, parts_has, parts_shorter}
 use Rattle.lists.proofs.Halving.{HasEnds, AreIn-parts}
 use Rattle.lists.proofs.Merging.{merged_has}
 use Rattle.lists.proofs.Joining.{or_swap}
@@ -100,31 +100,22 @@ module _ {xs ys below above below' above' : List (ℕ × ℕ)} {c : ℕ} (first 
     pub united_over : IsOver upper c
     united_over z d = elim ((high z).0 d) [ inl a ↦ first.over z a | inr b ↦ second.over z b ]
 
-  -- the work gets less, since the lists have pairs on both sides of the place if it is the cut of both as one
-  on_side : (z : ℕ × ℕ) → Contains (xs ++ ys) z
-      → (as_number z < c → 0 < length below + length below') × (c ≤ as_number z → 0 < length above + length above')
-  on_side z d = elim ((halves_has xs ys z).0 d) [
-    | inl x ↦ elim ((parts_has xs below above c first z).0 x) [
-      | inl a ↦ let k = a.1 in let under = first.under z a in (λ low. omega arith, λ high. absurd (omega arith))
-      | inr b ↦ let k = b.1 in let over = first.over z b in (λ low. absurd (omega arith), λ high. omega arith)
-    ]
-    | inr y ↦ elim ((parts_has ys below' above' c second z).0 y) [
-      | inl a ↦ let k = a.1 in let under = second.under z a in (λ low. omega arith, λ high. absurd (omega arith))
-      | inr b ↦ let k = b.1 in let over = second.over z b in (λ low. absurd (omega arith), λ high. omega arith)
-    ]
-  ]
+    united_parted : IsParted (lower ++ upper) c lower upper
+    united_parted = record { joined = refl; under = united_under; over = united_over }
 
+  -- the work gets less, since the lists have pairs on both sides of the place if it is the cut of both as one
   pub parts_fewer : ((list : List (ℕ × ℕ)) → Unites list xs ys → IsCut list c)
       → (length below + length below' < length xs + length ys) × (length above + length above' < length xs + length ys)
   parts_fewer cuts =
-      let cut = cuts (xs ++ ys) (halves_has xs ys) in
-      let size = ap length first.joined in
-      let both = length-append below above in
-      let size' = ap length second.joined in
-      let both' = length-append below' above' in
-      let low = (on_side cut.below.0 cut.below.1).0 cut.below.2 in
-      let high = (on_side cut.above.0 cut.above.1).1 cut.above.2 in
-      (omega arith, omega arith)
+      let low = halves_has below below' in
+      let high = halves_has above above' in
+      let shorter = parts_shorter _ _ _ _ (united_parted _ _ low high) (cuts _ (united _ _ low high)) in
+      let size = ap length first.joined ∙ length-append below above in
+      let size' = ap length second.joined ∙ length-append below' above' in
+      let lower = length-append below below' in
+      let upper = length-append above above' in
+      let both = length-append (below ++ below') (above ++ above') in
+      (omega (arith, shorter.0), omega (arith, shorter.1))
 
   -- the unions of the parts are the halves of the union
   pub AreUnited-parts : {mid new : List (List (ℕ × ℕ))} {b a : ℕ} → Grow mid new
@@ -136,20 +127,20 @@ module _ {xs ys below above below' above' : List (ℕ × ℕ)} {c : ℕ} (first 
       let low = subst (λ l. Unites l below below') (sym (grow.same b low_in)) lower in
       let all = united _ _ low high in
       let fewer = rising_fewer ys list rise (λ z d. (all z).1 (inr d)) in
-      let parted : IsParted list c (list_at new b) (list_at new a) =
-      record { joined = refl; under = united_under _ _ low high; over = united_over _ _ low high } in
       record {
-        halves = AreIn-parts (omega (arith, grow.longer)) high_in parted (cut list all) (omega arith);
+        halves = AreIn-parts (omega (arith, grow.longer)) high_in (united_parted _ _ low high) (cut list all) (omega arith);
         exactly = λ l e. subst (λ l. Unites l xs ys) (sym e) all;
       }
 
-pub ends_halves : (list : List (ℕ × ℕ)) (own : ℕ) → IsCut list own → HasEnds list (own - 1) own
-ends_halves list own cut =
+pub ends_halves : {lists : List (List (ℕ × ℕ))} {k : ℕ} {h : Halves} → IsHalved lists k h
+    → HasEnds (list_at lists k) (h.cut - 1) h.cut
+ends_halves is =
+    let cut = halved_cut is in
     let first = cut.below.2 in
     record {
       before = (cut.below.0, cut.below.1, omega arith);
       after = cut.above;
-      alike = λ bit l h c place under over. alike_wider list bit l h c own place cut (omega arith) (omega arith);
+      alike = λ bit l h c place under over. alike_wider _ bit l h c _ place cut (omega arith) (omega arith);
     }
 
 -- the place for two lists suits both, and is the cut of their union
@@ -172,16 +163,12 @@ placed {xs} {ys} {low} {high} {low'} {high'} {bit} {l} {h} {c} place first secon
             alike = λ w d. elim ((unites w).0 d) [ inl a ↦ one.alike w a | inr b ↦ two.alike w b ];
           };
           below = elim (cases_lt low low') [
-            | inl less ↦ let is = first.before.2 in
-                (first.before.0, (unites first.before.0).1 (inl first.before.1), omega arith)
-            | inr more ↦ let is = second.before.2 in
-                (second.before.0, (unites second.before.0).1 (inr second.before.1), omega arith)
+            | inl less ↦ (first.before.0, (unites _).1 (inl first.before.1), omega (arith, first.before.2))
+            | inr more ↦ (second.before.0, (unites _).1 (inr second.before.1), omega (arith, second.before.2))
           ];
           above = elim (cases_lt high high') [
-            | inl less ↦ let is = second.after.2 in
-                (second.after.0, (unites second.after.0).1 (inr second.after.1), omega arith)
-            | inr more ↦ let is = first.after.2 in
-                (first.after.0, (unites first.after.0).1 (inl first.after.1), omega arith)
+            | inl less ↦ (second.after.0, (unites _).1 (inr second.after.1), omega (arith, second.after.2))
+            | inr more ↦ (first.after.0, (unites _).1 (inl first.after.1), omega (arith, first.after.2))
           ];
         },
       ),

@@ -50,9 +50,8 @@ impl Bases {
         let Pieces { cut, below, above } = pieces_of_both(j, first, k, second);
         let below = self.both(below.0, below.1)?;
         let above = self.both(above.0, above.1)?;
-        let i = self
-            .trie
-            .number(Shape::Halved(Halves { below, above, cut }))?;
+        let halves = Shape::Halved(Halves { below, above, cut });
+        let i = self.trie.number(halves)?;
         self.trie.note(j, k, i)?;
         Ok(i)
     }

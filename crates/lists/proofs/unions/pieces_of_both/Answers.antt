@@ -1,12 +1,12 @@
 use Rattle.std.proofs.Common.{arith}
-use Rattle.lists.proofs.Uniting.{ends_halves, halved_cut, placed}
+use Rattle.lists.proofs.Uniting.{ends_halves, placed}
 use Rattle.lists.proofs.unions.pieces_of_both.Goals as goal
 
 pub returns : goal.returns
 returns c = λ lists stored first second.
     let bit = c.cut-cut.ensures.0 in
     let place =
-    placed c.cut-cut.ensures.1 (ends_halves _ _ (halved_cut first)) (ends_halves _ _ (halved_cut second))
+    placed c.cut-cut.ensures.1 (ends_halves first) (ends_halves second)
     (omega (arith, c.min.ensures)) c.max.ensures in
     record {
       first = c.split-below.ensures lists stored first bit place.0;

@@ -1,12 +1,12 @@
 use Rattle.lists.proofs.Halving.{ends_pairs}
-use Rattle.lists.proofs.Uniting.{ends_halves, halved_cut, placed}
+use Rattle.lists.proofs.Uniting.{ends_halves, placed}
 use Rattle.lists.proofs.unions.pieces_with_pairs.Goals as goal
 
 pub returns : goal.returns
 returns c = λ lists stored is.
     let ends = ends_pairs _ c.requires.rising c.requires.fit c.requires.some c.key.ensures c.key-2.ensures in
     let place =
-    placed c.cut-cut.ensures.1 ends (ends_halves _ _ (halved_cut is)) c.min-low.ensures c.max-high.ensures in
+    placed c.cut-cut.ensures.1 ends (ends_halves is) c.min-low.ensures c.max-high.ensures in
     record {
       list = c.split-below.ensures lists stored is c.cut-cut.ensures.0 place.1.0;
       pairs = c.parted.ensures;
