@@ -70,13 +70,11 @@ pub IsUnion-in_order : (lists : List (List (ℕ × ℕ))) (j k i : ℕ) →
     IsUnion lists (j, k) i ↔ IsUnion lists (min j k, max j k) i
 IsUnion-in_order lists j k i = elim (cases_lt j k) [
   | inl less ↦
-      let low : min j k ≡ j = omega arith in
-      let high : max j k ≡ k = omega arith in
-      rw (low, high) (λ is. is, λ is. is)
+      let order : (min j k ≡ j) × (max j k ≡ k) = (omega arith, omega arith) in
+      rw (order.0, order.1) (λ is. is, λ is. is)
   | inr more ↦
-      let low : min j k ≡ k = omega arith in
-      let high : max j k ≡ j = omega arith in
-      rw (low, high) (λ is. IsUnion-swap is, λ is. IsUnion-swap is)
+      let order : (min j k ≡ k) × (max j k ≡ j) = (omega arith, omega arith) in
+      rw (order.0, order.1) (IsUnion-swap, IsUnion-swap)
 ]
 
 -- a list that has the pairs of two lists that there were

@@ -20,15 +20,13 @@ pub list_of-requires : goal.list_of-requires
 list_of-requires t c =
     let parts = c.parted.ensures in
     let shorter = parts_shorter _ _ _ _ parts (at_cut t ((goal.at.list_of-requires t c).After-parted)) in
-    let d = c.decreases in
-    (omega (arith, shorter.0, d), (parts_both _ _ _ _ parts c.requires.rising c.requires.fit).0)
+    (omega (arith, shorter.0, c.decreases), (parts_both _ _ _ _ parts c.requires.rising c.requires.fit).0)
 
 pub list_of-requires-2 : goal.list_of-requires-2
 list_of-requires-2 t c =
     let parts = c.parted.ensures in
     let shorter = parts_shorter _ _ _ _ parts (at_cut t ((goal.at.list_of-requires-2 t c).After-parted)) in
-    let d = c.decreases in
-    (omega (arith, shorter.1, d), (parts_both _ _ _ _ parts c.requires.rising c.requires.fit).1)
+    (omega (arith, shorter.1, c.decreases), (parts_both _ _ _ _ parts c.requires.rising c.requires.fit).1)
 
 pub number-requires-2 : goal.number-requires-2
 number-requires-2 t c =

@@ -15,21 +15,16 @@ pub with-requires : goal.with-requires
 with-requires t c =
     let is = c.pieces_with_pairs-pieces.ensures c.args.trie.now c.known.ensures.stored c.in-Halved.ensures in
     let less = (parts_fewer is.pairs is.list.parted is.cut).0 in
-    let first = is.list.first in
-    let low = c.requires.list in
-    let d = c.decreases in
-    (omega arith, (omega arith, (parts_both _ _ _ _ is.pairs c.requires.rising c.requires.fit).0))
+    let both = (parts_both _ _ _ _ is.pairs c.requires.rising c.requires.fit).0 in
+    (omega (arith, less, c.decreases), (omega (arith, is.list.first, c.requires.list), both))
 
 pub with-requires-in-Halved : goal.with-requires-in-Halved
 with-requires-in-Halved t c =
     let is = c.pieces_with_pairs-pieces.ensures c.args.trie.now c.known.ensures.stored c.in-Halved.ensures in
     let grow = c.with.ensures.grow in
-    let low = c.requires.list in
-    let less = (parts_fewer is.pairs (parted_grown grow grow is.list low) is.cut).1 in
-    let second = is.list.second in
-    let d = c.decreases in
-    let longer = grow.longer in
-    (omega arith, (omega arith, (parts_both _ _ _ _ is.pairs c.requires.rising c.requires.fit).1))
+    let less = (parts_fewer is.pairs (parted_grown grow grow is.list c.requires.list) is.cut).1 in
+    let both = (parts_both _ _ _ _ is.pairs c.requires.rising c.requires.fit).1 in
+    (omega (arith, less, c.decreases), (omega (arith, is.list.second, c.requires.list, grow.longer), both))
 
 -- the unions of both parts are the halves of the union
 united_in : (t : ℕ) (c : In_ok-above-in-Halved t) → AreUnited c.with-in-Halved.new.trie (record {

@@ -21,8 +21,7 @@ both-requires t c =
     let less = (parts_fewer is.first.parted is.second.parted is.cut).0 in
     let j = c.requires.first in
     let k = c.requires.second in
-    let d = c.decreases in
-    (omega arith, (omega (arith, is.first.first), omega (arith, is.second.first)))
+    (omega (arith, c.decreases), (omega (arith, is.first.first), omega (arith, is.second.first)))
 
 pub both-requires-2 : goal.both-requires-2
 both-requires-2 t c =
@@ -33,8 +32,7 @@ both-requires-2 t c =
     let j = c.requires.first in
     let k = c.requires.second in
     let less = (parts_fewer (parted_grown grow grow is.first j) (parted_grown grow grow is.second k) is.cut).1 in
-    let d = c.decreases in
-    (omega arith, (omega (arith, is.first.second), omega (arith, is.second.second)))
+    (omega (arith, c.decreases), (omega (arith, is.first.second), omega (arith, is.second.second)))
 
 -- the unions of both parts are the halves of the union
 united_in : (t : ℕ) (c : In_ok-above t) → AreUnited c.both-2.new.self.trie
