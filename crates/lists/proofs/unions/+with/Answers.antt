@@ -1,8 +1,6 @@
-use Rattle.std.proofs.Common.{◌≡◌, ◌∙◌, ◌++◌, ℕ, [], sym, subst, arith}
-use Rattle.std.specs.List.Sorted.{IsStrictlySortedBy}
+use Rattle.std.proofs.Common.{◌≡◌, ◌∙◌, ◌++◌, ℕ, [], arith}
 use Rattle.std.proofs.lemmas.Result.{IfOk-weaker}
-use Rattle.lists.specs.Lists.{pair_cmp, list_at, merged}
-use Rattle.lists.specs.Cuts.{Fit}
+use Rattle.lists.specs.Lists.{list_at, merged}
 use Rattle.lists.proofs.Joining.{Grow-same, Grow-twice}
 use Rattle.lists.proofs.Keys.{parts_both}
 use Rattle.lists.proofs.Uniting.{AreUnited, AreUnited-parts, parted_grown, parts_fewer, halved_long, unites_merged}
@@ -57,16 +55,11 @@ both_are : (t : ℕ) (c : After-deref t) → c.deref.result.now ≡ merged (list
 both_are t c = c.deref.ensures.value ∙ c.in_ok-append_merged-in-Whole.ensures.appended
     ∙ (λ i. c.clear.ensures.items i ++ merged (c.in-Whole.ensures.0 i) c.args.pairs.now)
 
-pub list_of-requires-in-Whole-clause-rising : goal.list_of-requires-in-Whole-clause-rising
-list_of-requires-in-Whole-clause-rising t c =
-    subst (IsStrictlySortedBy pair_cmp)
-    (sym (both_are t ((goal.at.list_of-requires-in-Whole-clause-rising t c).After-deref)))
-    (merged_rises _ _ (c.known.ensures.stored.rise c.args.k _ c.requires.list) c.requires.rising)
-
-pub list_of-requires-in-Whole-clause-fit : goal.list_of-requires-in-Whole-clause-fit
-list_of-requires-in-Whole-clause-fit t c =
-    subst Fit (sym (both_are t ((goal.at.list_of-requires-in-Whole-clause-fit t c).After-deref)))
-    (merged_fit _ _ (c.known.ensures.stored.fit c.args.k [] c.requires.list) c.requires.fit)
+pub list_of-requires-in-Whole : goal.list_of-requires-in-Whole
+list_of-requires-in-Whole t c = rw (both_are t ((goal.at.list_of-requires-in-Whole t c).After-deref)) (record {
+  rising = merged_rises _ _ (c.known.ensures.stored.rise c.args.k _ c.requires.list) c.requires.rising;
+  fit = merged_fit _ _ (c.known.ensures.stored.fit c.args.k [] c.requires.list) c.requires.fit;
+})
 
 pub returns-in_ok-append_merged-in-Whole-clause-exactly : goal.returns-in_ok-append_merged-in-Whole-clause-exactly
 returns-in_ok-append_merged-in-Whole-clause-exactly t c =
