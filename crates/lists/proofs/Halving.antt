@@ -1,6 +1,6 @@
 -- Lists cut in two: of pairs in rising order, the first and the last one give the cut; two lists that are numbered make
 -- one with halves.
-use Rattle.std.proofs.Common.{◌≡◌, ◌∙◌, ℕ, ◌-◌, ◌<◌, ◌≤◌, List, length, get_or, Contains, ap, sym, subst, arith}
+use Rattle.std.proofs.Common.{◌≡◌, ◌∙◌, ℕ, ◌-◌, ◌<◌, ◌≤◌, List, length, get_or, Contains, ap, subst, arith}
 use Rattle.std.specs.List.Sorted.{IsStrictlySortedBy}
 use Rattle.std.proofs.lemmas.List.{length-append, get_or_default}
 use Rattle.std.proofs.lemmas.List.Elements.{Contains-get_or}
@@ -31,15 +31,11 @@ module _ (list : List (ℕ × ℕ)) (rise : IsStrictlySortedBy pair_cmp list) (f
 
   keys_between : (z : ℕ × ℕ) → Contains list z → (low ≤ as_number z) × (as_number z ≤ high)
   keys_between z d =
-      let keys = rising_keys list rise fit in
       let k = d.1 in
-      let same = ap as_number d.2 in
-      let first = keys 0 d.0 z (omega arith) k in
-      let last = keys d.0 (length list - 1) z (omega arith) (omega arith) in
-      let at_first : as_number (get_or list 0 z) ≡ low = ap as_number (get_or_default list 0 z (0, 0) some)
-      ∙ sym low_is in
-      let at_last : as_number (get_or list (length list - 1) z) ≡ high =
-      ap as_number (get_or_default list (length list - 1) z (0, 0) (omega arith)) ∙ sym high_is in
+      let keys = rising_keys list rise fit in
+      let same = ap as_number (get_or_default list d.0 (0, 0) z k ∙ d.2) in
+      let first = keys 0 d.0 (0, 0) (omega arith) k in
+      let last = keys d.0 (length list - 1) (0, 0) (omega arith) (omega arith) in
       (omega arith, omega arith)
 
   pub first_before_last : 1 < length list → low < high

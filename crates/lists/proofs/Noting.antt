@@ -80,14 +80,12 @@ IsUnion-in_order lists j k i = elim (cases_lt j k) [
 -- a list that has the pairs of two lists that there were
 pub IsUnion-grown : {old new : List (List (ℕ × ℕ))} {j k i : ℕ} → Grow old new → j < length old → k < length old
     → i < length new → Unites (list_at new i) (list_at old j) (list_at old k) → IsUnion new (j, k) i
-IsUnion-grown {old} {new} {j} {k} {i} grow first second within exactly =
-    let longer = grow.longer in
-    record {
-      within = within;
-      first = omega arith;
-      second = omega arith;
-      exactly = rw (grow.same j first, grow.same k second) exactly;
-    }
+IsUnion-grown {j} {k} grow first second within exactly = record {
+  within = within;
+  first = omega (arith, grow.longer);
+  second = omega (arith, grow.longer);
+  exactly = rw (grow.same j first, grow.same k second) exactly;
+}
 
 -- one union more, and maybe some forgotten
 pub AreUnions-note : {lists : List (List (ℕ × ℕ))} (unions noted : List ((ℕ × ℕ) × ℕ)) (key : ℕ × ℕ) (i : ℕ)

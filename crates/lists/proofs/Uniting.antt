@@ -24,9 +24,8 @@ none_in list e z d = let none = ap length e in let k = d.1 in omega arith
 -- a list with halves is long, and cut where its halves meet
 pub halved_long : {lists : List (List (ℕ × ℕ))} {k : ℕ} {h : Halves} → IsHalved lists k h →
     FEW < length (list_at lists k)
-halved_long {lists} {k} {h} is =
-    let long = is.halves.long in
-    omega (arith, ap length is.list, length-append (list_at lists h.below) (list_at lists h.above))
+halved_long {lists} {h} is =
+    omega (arith, is.halves.long, ap length is.list, length-append (list_at lists h.below) (list_at lists h.above))
 
 pub halved_cut : {lists : List (List (ℕ × ℕ))} {k : ℕ} {h : Halves} → IsHalved lists k h → IsCut (list_at lists k) h.cut
 halved_cut {lists} {k} {h} is = subst (λ l. IsCut l h.cut) (sym is.list) is.halves.at_cut
@@ -62,10 +61,9 @@ module _ {lists : List (List (ℕ × ℕ))} {k c bit : ℕ} {h : Halves} (stored
 
   pub split_own : h.cut ≡ c → IsSplit lists k c h.below h.above
   split_own same = record {
-    first = let b = is.below in omega arith;
-    second = let a = is.above in omega arith;
-    parted = subst (λ c. IsParted (list_at lists k) c (list_at lists h.below) (list_at lists h.above)) same
-        (halved_parted is);
+    first = omega (arith, is.below);
+    second = omega (arith, is.above);
+    parted = rw (sym same) (halved_parted is);
   }
 
 -- a list in two, whose parts are looked up after more lists were put there
@@ -136,9 +134,8 @@ pub ends_halves : {lists : List (List (ℕ × ℕ))} {k : ℕ} {h : Halves} → 
     → HasEnds (list_at lists k) (h.cut - 1) h.cut
 ends_halves is =
     let cut = halved_cut is in
-    let first = cut.below.2 in
     record {
-      before = (cut.below.0, cut.below.1, omega arith);
+      before = (cut.below.0, cut.below.1, omega (arith, cut.below.2));
       after = cut.above;
       alike = λ bit l h c place under over. alike_wider _ bit l h c _ place cut (omega arith) (omega arith);
     }

@@ -64,5 +64,4 @@ list_of-requires-in-Whole t c = rw (both_are t ((goal.at.list_of-requires-in-Who
 pub returns-in_ok-append_merged-in-Whole-clause-exactly : goal.returns-in_ok-append_merged-in-Whole-clause-exactly
 returns-in_ok-append_merged-in-Whole-clause-exactly t c =
     let both = both_are t ((goal.at.returns-in_ok-append_merged-in-Whole-clause-exactly t c).After-deref) in
-    IfOk-weaker c.list_of-in-Whole.result _ _ (λ i e. unites_merged _ (list_at c.args.trie.now c.args.k)
-    c.args.pairs.now (e ∙ both)) c.list_of-in-Whole.ensures.list
+    IfOk-weaker c.list_of-in-Whole.result _ _ (λ i e. unites_merged _ _ _ (e ∙ both)) c.list_of-in-Whole.ensures.list

@@ -1,8 +1,6 @@
-use Rattle.std.proofs.Common.{◌≡◌, ◌∙◌, ◌++◌, [], sym, subst}
+use Rattle.std.proofs.Common.{◌≡◌, ◌∙◌, ◌++◌, [], sym}
 use Rattle.std.proofs.lemmas.Result.{IfOk-weaker}
 use Rattle.lists.specs.Lists.{list_at}
-use Rattle.lists.specs.Cuts.{Fit}
-use Rattle.lists.specs.Unions.{Unites}
 use Rattle.lists.proofs.Noting.{if_both, IsUnion-grown}
 use Rattle.lists.proofs.unions.Bases.with_list.Goals as goal
 use Rattle.lists.proofs.unions.Bases.with_list.Goals.{After-deref}
@@ -14,12 +12,11 @@ held_is c = c.deref.ensures.value ∙ c.in_ok-extend_from_slice.ensures.items
 
 pub with-requires-clause-fit : goal.with-requires-clause-fit
 with-requires-clause-fit c =
-    subst Fit (sym (held_is ((goal.at.with-requires-clause-fit c).After-deref))) (c.known.ensures.stored.fit c.args.few
-    [] c.requires.few)
+    rw (held_is ((goal.at.with-requires-clause-fit c).After-deref)) (c.known.ensures.stored.fit _ [] c.requires.few)
 
 pub returns-clause-union : goal.returns-clause-union
 returns-clause-union c =
     let held = held_is ((goal.at.returns-clause-union c).After-deref) in
-    IfOk-weaker c.with.result _ _ (λ i h. IsUnion-grown c.with.ensures.grow c.requires.few c.requires.list h.0
-    (subst (λ l. Unites (list_at c.with.new.trie i) l (list_at c.args.self.now.trie c.args.k)) held h.1))
+    IfOk-weaker c.with.result _ _
+    (λ i h. IsUnion-grown c.with.ensures.grow c.requires.few c.requires.list h.0 (rw (sym held) h.1))
     (if_both c.with.result _ _ c.with.ensures.within c.with.ensures.exactly)
