@@ -21,6 +21,9 @@ up_to_more P i = (
 pub either_more : {N M I H E K : Type 0} → N ↔ (M ⊎ E) → M ↔ (I ⊎ H) → (H ⊎ E) ↔ K → N ↔ (I ⊎ K)
 either_more new old more = search rules
 
+pub either_same : {N M H E K : Type 0} → N ↔ (M ⊎ E) → M ↔ H → (H ⊎ E) ↔ K → N ↔ K
+either_same new old more = search rules
+
 pub either_end : {M I H K : Type 0} → M ↔ (I ⊎ H) → H ↔ K → M ↔ (I ⊎ K)
 either_end old all = search rules
 
