@@ -4,7 +4,7 @@ ghost use Rattle.buckets.specs.Buckets.{IsLast};
 ghost use Rattle.buckets.specs.Chains.{tags_of, bucket_of_tag, entry_of_none, IsInChain, AreBuckets, AreChained};
 ghost use Rattle.buckets.specs.declared.TheConstants.{MOST};
 
-use crate::{MOST_BUCKETS, TIMES_AS_MANY};
+use crate::{MOST, MOST_BUCKETS, TIMES_AS_MANY};
 use growth::Memory;
 
 /// How a number is found.
@@ -52,17 +52,18 @@ pub(crate) fn down(entries: &[Entry], tag: u32, first: u32) -> u32
     0
 }
 
-/// Puts a number of this tag at the end, before the others of its bucket.
+/// Puts a number of this tag at the end, before the others of its bucket. Once all numbers are there, what is asked for is more
+/// than any memory has.
 ///
 /// Fails if there is no memory for it. The numbers are then as they were.
 pub(crate) fn put(heads: &mut [u32], entries: &mut Vec<Entry>, tag: u32) -> Result<(), Memory>
-    requires buckets { AreBuckets heads.old entries.old.items }
-    requires few { length entries.old.items < MOST }
+    requires { AreBuckets heads.old entries.old.items }
     ensures buckets { AreBuckets heads.new entries.new.items }
     ensures put { OnOk result (tags_of entries.new.items ≡ tags_of entries.old.items ++ tag ∷ []) }
     ensures err { OnErr result (tags_of entries.new.items ≡ tags_of entries.old.items) }
 {
-    entries.reserve(1)?;
+    let more = if entries.len() < MOST { 1 } else { usize::MAX };
+    entries.reserve(more)?;
     let number = entries.len() as u32;
     let b = bucket(tag, heads.len());
     entries.push_reserved(Entry {

@@ -108,7 +108,6 @@ impl Buckets {
     ///
     /// Fails if there is no memory for it. The numbers are then as they were.
     pub fn push(&mut self, tag: u32) -> Result<(), Memory>
-        requires { length self.old < MOST }
         ensures pushed { OnOk result (self.new ≡ self.old ++ tag ∷ []) }
         ensures err { OnErr result (self.new ≡ self.old) }
     {

@@ -8,7 +8,7 @@ ghost use Rattle.lists.specs.Hashed.{tag_of, AreDifferent, IsHashed, IsNewList, 
 ghost use Rattle.buckets.specs.Chains.{bucket_of_tag};
 
 use crate::hashes::{are_same, fingerprint, mix};
-use crate::nodes::{Nodes, Shape, make_room};
+use crate::nodes::{Nodes, Shape};
 use buckets::{Buckets, bucket};
 use growth::Memory;
 
@@ -84,8 +84,9 @@ pub(crate) fn put(
     ensures err { OnErr result (nodes.new ≡ nodes.old) }
 {
     nodes.known();
-    make_room(sums)?;
+    sums.reserve(1)?;
     buckets.push(mix(sum))?;
+    buckets.known();
     match nodes.push(shape) {
         Ok(number) => {
             sums.push_reserved(sum);

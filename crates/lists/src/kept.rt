@@ -1,9 +1,9 @@
 //! What is kept of each list: the number of its base, and few pairs beside it.
 ghost use Rattle.std.specs.Prelude.{◌≡◌, ◌++◌, ◌∷◌, ◌<◌, ◌≤◌, [], length, IfOk, OnOk, OnErr};
 ghost use Rattle.lists.specs.Extended.{parts_of, kept_at};
-ghost use Rattle.lists.specs.declared.nodes.TheConstants.{FEW, MOST_LISTS};
+ghost use Rattle.lists.specs.declared.nodes.TheConstants.{FEW};
 
-use crate::nodes::{make_room, part};
+use crate::nodes::part;
 use buckets::EMPTY;
 use growth::Memory;
 use std::alloc::Global;
@@ -76,16 +76,6 @@ impl Kept {
             base: slot.base,
             few: part(&self.pairs, slot.start, slot.count),
         }
-    }
-
-    /// Makes room for one list more, if there is a number for it.
-    ///
-    /// Fails if there is no memory for it.
-    pub fn make_room(&mut self) -> Result<(), Memory>
-        ensures same { self.new ≡ self.old }
-        ensures number { OnOk result (length self.new < MOST_LISTS) }
-    {
-        make_room(&mut self.slots)
     }
 
     /// Keeps one list more.

@@ -96,13 +96,14 @@ impl Nodes {
     ///
     /// Fails if there is no memory for it. The lists are then as they were.
     pub fn push(&mut self, shape: Shape<'_>) -> Result<u32, Memory>
-        requires { Suits self.old shape }
+        requires few { length self.old < MOST_LISTS }
+        requires suits { Suits self.old shape }
         ensures pushed { OnOk result
             (self.new ≡ self.old ++ list_of_shape self.old shape.entry ∷ []) }
         ensures number { IfOk result (λ k. k ≡ length self.old) }
         ensures err { OnErr result (self.new ≡ self.old) }
     {
-        make_room(&mut self.nodes)?;
+        self.nodes.reserve(1)?;
         let number = self.nodes.len() as u32;
         let node = match shape {
             Shape::Whole(list) => {
@@ -126,23 +127,6 @@ impl Nodes {
         self.pairs.clear();
         self.nodes.truncate(1);
     }
-}
-
-/// Makes room for one list more. Once each number has its list, what is asked for is more than any memory has.
-///
-/// Fails if there is no memory for it. What is kept is then as it was.
-pub(crate) fn make_room<T>(kept: &mut Vec<T>) -> Result<(), Memory>
-    ensures same { kept.new.items ≡ kept.old.items }
-    ensures number { OnOk result (length kept.new.items < MOST_LISTS) }
-    ensures room { OnOk result (vec_len kept.new < vec_capacity kept.new) }
-{
-    let more = if kept.len() < MOST_LISTS {
-        1
-    } else {
-        usize::MAX
-    };
-    kept.reserve(more)?;
-    Ok(())
 }
 
 /// So many pairs from the start on.

@@ -114,7 +114,6 @@ impl Table {
             × (self.new.buckets ≡ self.old.buckets)) }
     {
         self.buckets.known();
-        self.kept.make_room()?;
         let number = self.buckets.len();
         self.buckets.push(tag)?;
         if self.kept.push(list).is_err() {

@@ -1,11 +1,16 @@
-use Rattle.std.proofs.Common.{◌≡◌, ◌∙◌, ◌++◌, ◌∷◌, ◌<◌, [], length, ap, sym, subst, arith}
+use Rattle.std.proofs.Common.{◌≡◌, ◌∙◌, ℕ, ◌++◌, ◌∷◌, ◌<◌, List, [], length, ap, sym, subst, arith}
 use Rattle.lists.specs.declared.nodes.TheConstants.{MOST_LISTS}
+use Rattle.lists.specs.declared.nodes.Node.{Node}
 use Rattle.lists.specs.declared.nodes.Node.TheVariants.{Whole}
 use Rattle.lists.specs.Nodes.{list_of_shape, kept_lists, Suits}
 use Rattle.lists.proofs.Storing.{IsNext, AreNodes-next, lists-next, length-lists}
 use Rattle.lists.proofs.nodes.Nodes.push.Goals as goal
 use Rattle.lists.proofs.nodes.Nodes.push.Goals.{After-push_reserved, in-Whole+in_ok-extend_from_slice-in-Whole}
 use Rattle.lists.proofs.nodes.Nodes.push.Goals.{in-Halved}
+
+few : (pairs : List (ℕ × ℕ)) (nodes : List Node) {lists : List (List (ℕ × ℕ))} → kept_lists pairs nodes ≡ lists
+    → length lists < MOST_LISTS → length nodes < MOST_LISTS
+few pairs nodes view low = let same = ap length view in omega (arith, length-lists pairs nodes)
 
 module _ (c : After-push_reserved) where
   next : IsNext c.self.inside.pairs.items c.match-shape.self-inside.pairs.items c.args.shape c.match-shape.node
@@ -25,17 +30,15 @@ module _ (c : After-push_reserved) where
 
   nodes : c.push_reserved.new.self.items ≡ c.self.inside.nodes.items ++ c.match-shape.node ∷ []
   nodes = c.push_reserved.ensures.items ∙ ap (λ l. l ++ c.match-shape.node ∷ []) (elim c.match-shape.branch [
-    | in-Whole+in_ok-extend_from_slice-in-Whole w ↦ ap (λ x. x.nodes.items) w.self-inside-is ∙ c.make_room.ensures.same
-    | in-Halved w ↦ ap (λ x. x.nodes.items) w.self-inside-is ∙ c.make_room.ensures.same
+    | in-Whole+in_ok-extend_from_slice-in-Whole w ↦ ap (λ x. x.nodes.items) w.self-inside-is ∙ c.reserve.ensures.items
+    | in-Halved w ↦ ap (λ x. x.nodes.items) w.self-inside-is ∙ c.reserve.ensures.items
   ])
 
 pub invariant_of-self-2 : goal.invariant_of-self-2
 invariant_of-self-2 c =
-    let few : length c.self.inside.nodes.items < MOST_LISTS =
-    subst (λ xs. length xs < MOST_LISTS) c.make_room.ensures.same c.in_ok-make_room.ensures.number in
     rw (nodes c) (AreNodes-next c.self.inside.pairs.items _ c.self.inside.nodes.items c.args.shape c.match-shape.node
-    c.self.invariant few
-    (subst (λ l. Suits l c.args.shape) (sym c.self.view_is) c.requires) (next c))
+    c.self.invariant (few _ _ c.self.view_is c.requires.few)
+    (subst (λ l. Suits l c.args.shape) (sym c.self.view_is) c.requires.suits) (next c))
 
 pub returns-clause-pushed : goal.returns-clause-pushed
 returns-clause-pushed c =
@@ -44,8 +47,13 @@ returns-clause-pushed c =
     c.self.invariant (next c)
     ∙ ap (λ l. l ++ list_of_shape l c.args.shape ∷ []) c.self.view_is
 
+pub overflow_cast-number : goal.overflow_cast-number
+overflow_cast-number c =
+    let size = ap length c.reserve.ensures.items in
+    omega (arith, c.len-number.ensures, size, few _ _ c.self.view_is c.requires.few)
+
 pub returns-clause-number : goal.returns-clause-number
 returns-clause-number c =
-    let size = ap length c.make_room.ensures.same in
+    let size = ap length c.reserve.ensures.items in
     let view = ap length c.self.view_is in
     omega (arith, c.len-number.ensures, length-lists c.self.inside.pairs.items c.self.inside.nodes.items)
