@@ -1,9 +1,7 @@
 -- How `Lists` keeps its lists: each as a list of the trie, its base, and few pairs beside it.
-use Rattle.std.specs.Prelude.{◌≡◌, ℕ, Bool, Option, Some, not, ◌+◌, ◌<◌, ◌≤◌, List, [], length, map, slice_index}
+use Rattle.std.specs.Prelude.{◌≡◌, ℕ, Option, Some, ◌+◌, ◌<◌, ◌≤◌, List, [], length, map, slice_index}
 use Rattle.std.specs.List.{All, Contains, slice_range, slice_index_or}
 use Rattle.std.specs.List.Sorted.{IsStrictlySortedBy}
-use Rattle.std.specs.Ordering.{eq_by_cmp}
-use Rattle.std.specs.Set.{is_member}
 use Rattle.lists.specs.declared.kept.Extension.{Extension}
 use Rattle.lists.specs.declared.kept.Slot.{Slot}
 use Rattle.lists.specs.declared.kept.TheConstants.{NO_SLOT}
@@ -18,10 +16,6 @@ ShareNone xs ys = (z : ℕ × ℕ) → Contains xs z → Contains ys z → ⊥
 -- the first list has all pairs of the second one
 abbrev pub Includes : List (ℕ × ℕ) → List (ℕ × ℕ) → Type 0
 Includes list other = (z : ℕ × ℕ) → Contains other z → Contains list z
-
--- the list has not the pair
-abbrev pub is_lacking : List (ℕ × ℕ) → ℕ × ℕ → Bool
-is_lacking list z = not (is_member (eq_by_cmp pair_cmp) list z)
 
 -- the number of the base, and the pairs beside it
 abbrev pub parts_of : Extension → ℕ × List (ℕ × ℕ)

@@ -30,15 +30,10 @@ fn is(nodes: &Nodes, k: u32, shape: Shape<'_>) -> bool
     ensures { IsTrue result ↔ (list_at nodes.now k ≡ list_of_shape nodes.now shape.entry) }
 {
     nodes.known();
-    match nodes.shape(k) {
-        Shape::Whole(list) => match shape {
-            Shape::Whole(other) => are_same(list, other),
-            Shape::Halved(_) => false,
-        },
-        Shape::Halved(halves) => match shape {
-            Shape::Whole(_) => false,
-            Shape::Halved(other) => halves == other,
-        },
+    match (nodes.shape(k), shape) {
+        (Shape::Whole(list), Shape::Whole(other)) => are_same(list, other),
+        (Shape::Halved(halves), Shape::Halved(other)) => halves == other,
+        _ => false,
     }
 }
 
