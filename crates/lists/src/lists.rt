@@ -151,12 +151,11 @@ impl Lists {
             ↔ (Contains pairs.now z ⊎ HasOne self.now lists.now z)) }
     {
         // One list alone mostly lacks one of the pairs, or it would not be joined; of none there is no last.
-        if lists.len() < 2 {
+        let [_, .., list] = lists else {
             return None;
-        }
-        let list = lists[lists.len() - 1];
-        if has_lists(self, list, lists) && has_pairs(self, list, pairs) {
-            return Some(list);
+        };
+        if has_lists(self, *list, lists) && has_pairs(self, *list, pairs) {
+            return Some(*list);
         }
         None
     }

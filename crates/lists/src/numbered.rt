@@ -95,8 +95,7 @@ impl Table {
             if is_same(bases, self.kept.of(r), list)? {
                 return Ok(Some(r));
             }
-            let next = self.buckets.before(r);
-            r = next;
+            r = self.buckets.before(r);
         }
         Ok(None)
     }

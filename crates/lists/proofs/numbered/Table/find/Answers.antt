@@ -47,20 +47,20 @@ module _ (c : After-of) where
   list_is : extended c.loop-r.bases.trie (parts_of c.args.list) ≡ extended c.args.bases.now.trie (parts_of c.args.list)
   list_is = extended-grow c.loop-r.invariant.grow (parts_of c.args.list) c.requires.list
 
-pub before-next-requires-clause-within : goal.before-next-requires-clause-within
-before-next-requires-clause-within c = let low = c.loop-r.invariant.low in omega (arith, tags_size c.requires.kept)
+pub before-r-requires-clause-within : goal.before-r-requires-clause-within
+before-r-requires-clause-within c = let low = c.loop-r.invariant.low in omega (arith, tags_size c.requires.kept)
 
 pub loop-r-preserved : goal.loop-r-preserved
 loop-r-preserved c =
     let at = (goal.at.loop-r-preserved c).After-of in
     let some : 0 < c.loop-r.r = let h = c.loop-r-test.true in omega arith in
-    let less = c.before-next.ensures.below some in
+    let less = c.before-r.ensures.below some in
     record {
       grow = Grow-twice c.loop-r.invariant.grow c.is_same.ensures.grow;
       low = let low = c.loop-r.invariant.low in omega arith;
       reached = IsReached-before _ _ c.requires.kept.tagged some
           (λ e. both_ways _ c.if-branch.false (c.in_ok-is_same.ensures.same.1 (sym (list_r at) ∙ e ∙ sym (list_is at))))
-          c.loop-r.invariant.reached c.before-next.ensures;
+          c.loop-r.invariant.reached c.before-r.ensures;
     }
 
 pub returns-then-branch-clause-found : goal.returns-then-branch-clause-found
