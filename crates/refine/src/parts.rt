@@ -11,18 +11,12 @@ use std::marker::Model;
 
 /// Lists of pairs in strictly rising order, each whole in one buffer and lent as a slice. The list number `EMPTY` is the
 /// empty one.
+#[derive(Drop)]
 pub struct Parts {
     /// All lists, one after the other.
     pairs: Vec<(u32, u32)>,
     /// Where each list is.
     spans: Vec<Span>,
-}
-
-/// Written out, so that it is dropped by one call and not by one for each part.
-impl Drop for Parts {
-    fn drop(self) {
-        let Parts { pairs: _, spans: _ } = self;
-    }
 }
 
 impl Model for Parts {

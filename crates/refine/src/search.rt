@@ -15,6 +15,7 @@ use std::alloc::Global;
 use std::marker::Model;
 
 /// What a search from one state over inert steps finds, used again from state to state. Between searches no state is marked.
+#[derive(Drop)]
 pub(crate) struct Search {
     /// Whether each state was found.
     marked: Vec<bool>,
@@ -22,17 +23,6 @@ pub(crate) struct Search {
     states: Vec<u32>,
     /// What their rows show.
     pub pairs: Vec<(u32, u32)>,
-}
-
-/// Written out, so that it is dropped by one call and not by one for each part.
-impl Drop for Search {
-    fn drop(self) {
-        let Search {
-            marked: _,
-            states: _,
-            pairs: _,
-        } = self;
-    }
 }
 
 impl Model for Search {
