@@ -65,13 +65,11 @@ fn past_comma(bytes: &[u8]) -> Option<&[u8]>
     requires { 2 ≤ length bytes.now }
     ensures { IfSome result (λ rest. FollowsComma bytes.now rest.now) }
 {
-    if bytes[0] != b',' {
-        return None;
+    match (bytes[0], bytes[1]) {
+        (b',', b' ') => Some(&bytes[2..]),
+        (b',', _) => Some(&bytes[1..]),
+        _ => None,
     }
-    if bytes[1] == b' ' {
-        return Some(&bytes[2..]);
-    }
-    Some(&bytes[1..])
 }
 
 /// The bytes of the label in front, plain or quoted, and what follows it, which is two bytes at least; None also if fewer
