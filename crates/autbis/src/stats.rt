@@ -7,6 +7,7 @@ ghost use Rattle.theory.specs.Quotient.{allowance};
 
 use crate::reports::say;
 use crate::run::Counts;
+use autfmt::append;
 use itoa::Buffer;
 use lts::Meter;
 use quotient::Relation;
@@ -67,17 +68,6 @@ fn append_count(buffer: &mut [u8], end: usize, word: &[u8], count: u128) -> usiz
     let mut digits = Buffer::new();
     let end = append(buffer, end, word);
     append(buffer, end, digits.format(count).as_bytes())
-}
-
-/// Puts bytes at `end`, and returns where they end.
-fn append(buffer: &mut [u8], end: usize, bytes: &[u8]) -> usize
-    requires { end + length bytes.now ≤ length buffer.old }
-    ensures text { take result buffer.new ≡ take end buffer.old ++ bytes.now }
-    ensures end { result ≡ end + length bytes.now }
-{
-    let new_end = end + bytes.len();
-    buffer[end..new_end].copy_from_slice(bytes);
-    new_end
 }
 
 /// The most visits that a run of so many rounds may make.

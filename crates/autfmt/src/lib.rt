@@ -33,6 +33,7 @@ pub use line_laws::a_line_has_one_reading;
 pub use reader::{read, read_hiding};
 pub use sink::{Sink, ToWrite, VecSink, put_all};
 pub use source::{FromRead, SliceSource, Source};
+pub use spelling::append;
 pub use stream::Broken;
 pub use text_laws::{
     a_hide_list_has_one_reading, a_hide_list_reads_or_has_a_fault, a_judged_fault_is_the_first,

@@ -216,8 +216,9 @@ fn are_letters_or_digits(bytes: &[u8]) -> bool
     bytes.iter().all(|b| is_letter(*b) || b.is_ascii_digit())
 }
 
-/// Puts bytes at `end`, and returns where they end.
-fn append(buffer: &mut [u8], end: usize, bytes: &[u8]) -> usize
+/// Puts bytes at `end`, and returns where they end; both are counted in bytes from the front of the buffer. It is for
+/// texts that are put together in a buffer, one piece after the other.
+pub fn append(buffer: &mut [u8], end: usize, bytes: &[u8]) -> usize
     requires { end + length bytes.now ≤ length buffer.old }
     ensures text { take result buffer.new ≡ take end buffer.old ++ bytes.now }
     ensures end { result ≡ end + length bytes.now }

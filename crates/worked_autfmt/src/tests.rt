@@ -3,6 +3,7 @@ mod headers;
 mod hiding;
 mod long;
 mod messages;
+mod pieces;
 mod reading;
 mod streams;
 mod transitions;
