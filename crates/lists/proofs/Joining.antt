@@ -24,14 +24,8 @@ either_more new old more = search rules
 pub either_same : {N M H E K : Type 0} → N ↔ (M ⊎ E) → M ↔ H → (H ⊎ E) ↔ K → N ↔ K
 either_same new old more = search rules
 
-pub either_end : {M I H K : Type 0} → M ↔ (I ⊎ H) → H ↔ K → M ↔ (I ⊎ K)
-either_end old all = search rules
-
 no_more : {B C D S T : Type 0} → (C → ⊥) → B ↔ (D ⊎ S) → (S ⊎ C) ↔ T → B ↔ (D ⊎ T)
 no_more none g h = search rules
-
-pub only_new : {A B S : Type 0} → (B → ⊥) → A ↔ (B ⊎ S) → A ↔ S
-only_new none f = search rules
 
 none_yet : {B S : Type 0} → (S → ⊥) → B ↔ (B ⊎ S)
 none_yet none = search rules
