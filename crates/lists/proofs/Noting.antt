@@ -24,8 +24,7 @@ if_both (Err e) P Q p q = tt
 
 pub none_noted : (unions : List Union) (n : ℕ) → unions ≡ replicate n NO_UNION → All IsNone (map noted_union unions)
 none_noted unions n e =
-    subst (λ us. All IsNone (map noted_union us)) (sym e)
-    (All-map IsNone noted_union (replicate n NO_UNION) (All-replicate (λ u. IsNone (noted_union u)) n NO_UNION refl))
+    rw e (All-map IsNone noted_union _ (All-replicate (λ u. IsNone (noted_union u)) n NO_UNION refl))
 
 pub none_first : (unions taken : List Union) (n : ℕ) → unions ≡ take 1024 taken ++ replicate n NO_UNION → taken ≡ []
     → All IsNone (map noted_union unions)

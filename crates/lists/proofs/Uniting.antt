@@ -1,7 +1,7 @@
 -- Unions by halves: a list in two at another place, the cut of a union, and the union of two lists from those of their
 -- halves.
 use Rattle.std.proofs.Common.{◌≡◌, ◌∙◌, ◌⊎◌, ◌↔◌, ℕ, ◌+◌, ◌-◌, ◌<◌, min, max, List, [], ◌++◌, length}
-use Rattle.std.proofs.Common.{Contains, ap, sym, subst, subst₂, refl, inl, inr, arith, rules}
+use Rattle.std.proofs.Common.{Contains, ap, sym, subst, refl, inl, inr, arith, rules}
 use Rattle.std.specs.List.Sorted.{IsStrictlySortedBy}
 use Rattle.std.proofs.lemmas.Bool.{cases_lt}
 use Rattle.std.proofs.lemmas.List.{length-append, append-nil}
@@ -70,9 +70,8 @@ module _ {lists : List (List (ℕ × ℕ))} {k c bit : ℕ} {h : Halves} (stored
 pub parted_grown : {lists mid new : List (List (ℕ × ℕ))} {k c below above : ℕ} → Grow lists mid → Grow lists new
     → IsSplit lists k c below above → k < length lists
     → IsParted (list_at lists k) c (list_at mid below) (list_at new above)
-parted_grown first second is low =
-    subst₂ (IsParted _ _) (sym (first.same _ (omega (arith, is.first)))) (sym (second.same _ (omega (arith, is.second))))
-    is.parted
+parted_grown {below} {above} first second is low =
+    rw (first.same below (omega (arith, is.first)), second.same above (omega (arith, is.second))) is.parted
 
 -- the lists of two numbers are the halves of one that has the pairs of both lists
 pub record AreUnited (lists : List (List (ℕ × ℕ))) (h : Halves) (xs ys : List (ℕ × ℕ)) : Type 0 where
@@ -142,33 +141,30 @@ ends_halves is =
 
 -- the place for two lists suits both, and is the cut of their union
 pub placed : {xs ys : List (ℕ × ℕ)} {low high low' high' bit l h c : ℕ} → IsPlace bit l h c → HasEnds xs low high
-    → HasEnds ys low' high'
-    → l ≡ min low low' → h ≡ max high high'
-    → IsAlike bit xs c × (IsAlike bit ys c × ((list : List (ℕ × ℕ)) → Unites list xs ys → IsCut list c))
+    → HasEnds ys low' high' → l ≡ min low low' → h ≡ max high high'
+    → IsAlike bit xs c × IsAlike bit ys c × ((list : List (ℕ × ℕ)) → Unites list xs ys → IsCut list c)
 placed {xs} {ys} {low} {high} {low'} {high'} {bit} {l} {h} {c} place first second l_is h_is =
     let one = first.alike bit l h c place (omega arith) (omega arith) in
     let two = second.alike bit l h c place (omega arith) (omega arith) in
     let after = place.after in
     let within = place.within in (
       one,
-      (
-        two,
-        λ list unites. record {
-          bit = bit;
-          alike = record {
-            multiple = one.multiple;
-            alike = λ w d. elim ((unites w).0 d) [ inl a ↦ one.alike w a | inr b ↦ two.alike w b ];
-          };
-          below = elim (cases_lt low low') [
-            | inl less ↦ (first.before.0, (unites _).1 (inl first.before.1), omega (arith, first.before.2))
-            | inr more ↦ (second.before.0, (unites _).1 (inr second.before.1), omega (arith, second.before.2))
-          ];
-          above = elim (cases_lt high high') [
-            | inl less ↦ (second.after.0, (unites _).1 (inr second.after.1), omega (arith, second.after.2))
-            | inr more ↦ (first.after.0, (unites _).1 (inl first.after.1), omega (arith, first.after.2))
-          ];
-        },
-      ),
+      two,
+      λ list unites. record {
+        bit = bit;
+        alike = record {
+          multiple = one.multiple;
+          alike = λ w d. elim ((unites w).0 d) [ inl a ↦ one.alike w a | inr b ↦ two.alike w b ];
+        };
+        below = elim (cases_lt low low') [
+          | inl less ↦ (first.before.0, (unites _).1 (inl first.before.1), omega (arith, first.before.2))
+          | inr more ↦ (second.before.0, (unites _).1 (inr second.before.1), omega (arith, second.before.2))
+        ];
+        above = elim (cases_lt high high') [
+          | inl less ↦ (second.after.0, (unites _).1 (inr second.after.1), omega (arith, second.after.2))
+          | inr more ↦ (first.after.0, (unites _).1 (inl first.after.1), omega (arith, first.after.2))
+        ];
+      },
     )
 
 -- both as one list in rising order

@@ -1,5 +1,5 @@
-use Rattle.std.proofs.Common.{◌∙◌, ℕ, sym, subst₂, arith}
-use Rattle.lists.specs.Cuts.{IsCut, IsParted}
+use Rattle.std.proofs.Common.{◌∙◌, ℕ, arith}
+use Rattle.lists.specs.Cuts.{IsCut}
 use Rattle.lists.proofs.Keys.{parts_both, parts_shorter}
 use Rattle.lists.proofs.Halving.{first_before_last, IsCut-place, AreIn-parts}
 use Rattle.lists.proofs.unions.+list_of.Goals as goal
@@ -33,6 +33,5 @@ number-requires-2 t c =
     let grow = c.list_of-2.ensures.grow in
     let low = c.in_ok-below.ensures.within in
     AreIn-parts (omega (arith, grow.longer)) c.in_ok-above.ensures.within
-    (subst₂ (IsParted _ _) (sym (grow.same _ low ∙ c.in_ok-below.ensures.list)) (sym c.in_ok-above.ensures.list)
-    c.parted.ensures)
+    (rw (grow.same _ low ∙ c.in_ok-below.ensures.list, c.in_ok-above.ensures.list) c.parted.ensures)
     (at_cut t ((goal.at.number-requires-2 t c).After-parted)) (omega (arith, c.if-pairs-le-FEW.false))

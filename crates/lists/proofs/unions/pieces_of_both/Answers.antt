@@ -10,6 +10,6 @@ returns c = λ lists stored first second.
     (omega (arith, c.min.ensures)) c.max.ensures in
     record {
       first = c.split-below.ensures lists stored first bit place.0;
-      second = c.split-under.ensures lists stored second bit place.1.0;
-      cut = place.1.1;
+      second = c.split-under.ensures lists stored second bit place.1;
+      cut = place.2;
     }

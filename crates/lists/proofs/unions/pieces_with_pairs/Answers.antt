@@ -5,10 +5,9 @@ use Rattle.lists.proofs.unions.pieces_with_pairs.Goals as goal
 pub returns : goal.returns
 returns c = λ lists stored is.
     let ends = ends_pairs _ c.requires.rising c.requires.fit c.requires.some c.key.ensures c.key-2.ensures in
-    let place =
-    placed c.cut-cut.ensures.1 ends (ends_halves is) c.min-low.ensures c.max-high.ensures in
+    let place = placed c.cut-cut.ensures.1 ends (ends_halves is) c.min-low.ensures c.max-high.ensures in
     record {
-      list = c.split-below.ensures lists stored is c.cut-cut.ensures.0 place.1.0;
+      list = c.split-below.ensures lists stored is c.cut-cut.ensures.0 place.1;
       pairs = c.parted.ensures;
-      cut = place.1.1;
+      cut = place.2;
     }
