@@ -125,7 +125,8 @@ module _ {xs ys below above below' above' : List (ℕ × ℕ)} {c : ℕ} (first 
       let all = united _ _ low high in
       let fewer = rising_fewer ys list rise (λ z d. (all z).1 (inr d)) in
       record {
-        halves = AreIn-parts (omega (arith, grow.longer)) high_in (united_parted _ _ low high) (cut list all) (omega arith);
+        halves =
+            AreIn-parts (omega (arith, grow.longer)) high_in (united_parted _ _ low high) (cut list all) (omega arith);
         exactly = λ l e. subst (λ l. Unites l xs ys) (sym e) all;
       }
 

@@ -13,7 +13,8 @@ cut-cut-requires t c =
 -- the place is the list's cut
 at_cut : (t : ℕ) (c : After-parted t) → IsCut c.args.pairs.now c.cut-cut.result
 at_cut t c =
-    IsCut-place _ c.requires.rising c.requires.fit (omega (arith, c.if-pairs-le-FEW.false)) c.key.ensures c.key-2.ensures
+    let many = c.if-pairs-le-FEW.false in
+    IsCut-place _ c.requires.rising c.requires.fit (omega arith) c.key.ensures c.key-2.ensures
     c.cut-cut.ensures.0 c.cut-cut.result c.cut-cut.ensures.1
 
 pub list_of-requires : goal.list_of-requires

@@ -51,7 +51,8 @@ returns-in_ok-above-in-Halved-clause-grow t c = Grow-twice (Grow-twice c.with.en
     c.number.ensures.grow
 
 -- the list is put together with the pairs
-both_are : (t : ℕ) (c : After-deref t) → c.deref.result.now ≡ merged (list_at c.args.trie.now c.args.k) c.args.pairs.now
+both_are : (t : ℕ) (c : After-deref t)
+    → c.deref.result.now ≡ merged (list_at c.args.trie.now c.args.k) c.args.pairs.now
 both_are t c = c.deref.ensures.value ∙ c.in_ok-append_merged-in-Whole.ensures.appended
     ∙ (λ i. c.clear.ensures.items i ++ merged (c.in-Whole.ensures.0 i) c.args.pairs.now)
 
