@@ -13,8 +13,7 @@ tags_of entries = map (λ x. x.tag) entries
 abbrev pub bucket_of_tag : ℕ → ℕ → ℕ
 bucket_of_tag buckets tag = tag * buckets / 2 ^ 32
 
--- the numbers from 1 up to the count are chained: from the last one of each bucket down to each other one in it, and
--- then to 0
+-- the numbers from 1 below the count are chained: from the last one of each bucket down to each other one, then to 0
 pub record IsChained (count : ℕ) (bucket before : ℕ → ℕ) (heads : List ℕ) : Type 0 where
   pub heads_below : (b : ℕ) → b < length heads → slice_index heads b < count
   pub heads_fit : (b : ℕ) → b < length heads → 0 < slice_index heads b → bucket (slice_index heads b) ≡ b

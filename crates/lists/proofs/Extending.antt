@@ -12,7 +12,7 @@ use Rattle.std.proofs.lemmas.List.Sorted.{IsPermutation-refl, IsPermutation-cons
 use Rattle.std.proofs.lemmas.List.Sorted.{IsPermutation-middle, sum_by-IsPermutation}
 use Rattle.lists.specs.Lists.{pair_cmp, merged}
 use Rattle.buckets.specs.Hashing.{hash_of}
-use Rattle.lists.specs.Hashes.{fingerprint_of}
+use Rattle.lists.specs.Hashed.{fingerprint_of}
 use Rattle.lists.specs.Cuts.{Fit, IsParted}
 use Rattle.lists.specs.Extended.{ShareNone}
 use Rattle.lists.specs.Unions.{Unites}

@@ -1,22 +1,16 @@
 -- Unions at their places: none at all, one that is noted, and what they are of.
 use Rattle.std.proofs.Common.{◌≡◌, ◌∙◌, ◌⊎◌, ◌↔◌, ℕ, ◌<◌, List, [], ◌++◌, length, get_or, map, set, take, replicate}
-use Rattle.std.proofs.Common.{min, max, Contains, ap, sym, subst, refl, Option, Some, None, inl, inr, arith}
+use Rattle.std.proofs.Common.{min, max, Contains, ap, sym, subst, refl, inl, inr, arith}
 use Rattle.std.proofs.Common.{Result, Ok, Err, IfOk}
 use Rattle.std.specs.List.{All}
-use Rattle.std.specs.Option.{IfSome}
 use Rattle.std.proofs.lemmas.Bool.{cases_eq, cases_lt}
 use Rattle.std.proofs.lemmas.List.{take_all, map-set, length-set, get_or-set_same, get_or-set_other}
 use Rattle.std.proofs.lemmas.List.Elements.{All-contains, All-map, All-replicate}
 use Rattle.lists.specs.declared.known.Union.{Union}
 use Rattle.lists.specs.declared.known.TheConstants.{NO_UNION}
-use Rattle.lists.specs.Known.{noted_union, IsNone}
 use Rattle.lists.specs.Lists.{list_at, Grow}
-use Rattle.lists.specs.Unions.{Unites, IsUnion, AreUnions}
+use Rattle.lists.specs.Unions.{noted_union, IsNone, Unites, IsUnion, AreUnions}
 use Rattle.lists.proofs.Joining.{or_swap}
-
-pub if_some : (o : Option ℕ) (P Q : ℕ → Type 0) → ((i : ℕ) → P i → Q i) → IfSome o P → IfSome o Q
-if_some None P Q f h = h
-if_some (Some i) P Q f h = f i h
 
 pub if_both : {X E : Type 0} (r : Result X E) (P Q : X → Type 0) → IfOk r P → IfOk r Q → IfOk r (λ x. P x × Q x)
 if_both (Ok x) P Q p q = (p, q)

@@ -7,11 +7,10 @@ use Rattle.std.proofs.lemmas.Bool.Decides.{Decides-eqb, Decides-and, Decides-lik
 use Rattle.std.proofs.lemmas.List.Sums.{sum_by_more}
 use Rattle.lists.specs.declared.nodes.Halves.{Halves}
 use Rattle.buckets.specs.Hashing.{hash_of}
-use Rattle.lists.specs.Hashes.{fingerprint_of}
 use Rattle.lists.specs.Lists.{list_at}
 use Rattle.lists.specs.Cuts.{IsCut, IsParted}
 use Rattle.lists.specs.Nodes.{IsHalved, AreStored, AreIn}
-use Rattle.lists.specs.Hashed.{AreDifferent}
+use Rattle.lists.specs.Hashed.{fingerprint_of, AreDifferent}
 use Rattle.lists.proofs.Cuts.{cut_unique}
 use Rattle.lists.proofs.Keys.{parts_unique}
 

@@ -1,5 +1,5 @@
 -- How `Lists` keeps its lists: each as a list of the trie, its base, and few pairs beside it.
-use Rattle.std.specs.Prelude.{◌≡◌, ℕ, Option, Some, ◌+◌, ◌<◌, ◌≤◌, List, [], length, map, slice_index}
+use Rattle.std.specs.Prelude.{◌≡◌, ℕ, ◌+◌, ◌<◌, ◌≤◌, List, [], length, map, slice_index}
 use Rattle.std.specs.List.{All, Contains, slice_range, slice_index_or}
 use Rattle.std.specs.List.Sorted.{IsStrictlySortedBy}
 use Rattle.lists.specs.declared.kept.Extension.{Extension}
@@ -74,10 +74,6 @@ OneHas P numbers = (j : ℕ) × (j < length numbers) × P (slice_index numbers j
 -- the pair is in the base of one of these numbers
 abbrev pub HasBase : List (List (ℕ × ℕ)) → List (ℕ × List (ℕ × ℕ)) → List ℕ → ℕ × ℕ → Type 0
 HasBase trie kept numbers z = OneHas (λ k. Contains (list_at trie (kept_at kept k).0) z) numbers
-
--- the pairs beside the base are merged
-abbrev pub IsOwn : Option ℕ → ℕ → Type 0
-IsOwn own base = own ≡ Some base
 
 -- the pair is beside the base of one of these numbers, for which the condition holds
 abbrev pub HasBeside : List (ℕ × List (ℕ × ℕ)) → List ℕ → (ℕ → Type 0) → ℕ × ℕ → Type 0

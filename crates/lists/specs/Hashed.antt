@@ -1,7 +1,17 @@
 -- How different lists are found: by tags, which equal lists share.
-use Rattle.std.specs.Prelude.{◌≡◌, ℕ, ◌<◌, List, map, length}
-use Rattle.lists.specs.Hashes.{fingerprint_of, mixed}
+use Rattle.std.specs.Prelude.{◌≡◌, ℕ, ◌*◌, ◌/◌, ◌%◌, ◌^◌, ◌<◌, List, map, length}
+use Rattle.std.specs.List.{sum_by}
+use Rattle.buckets.specs.Hashing.{hash_of}
+use Rattle.lists.specs.declared.hashes.TheConstants.{TAG_FACTOR}
 use Rattle.lists.specs.Lists.{list_at}
+
+-- the fingerprint of a list: the sum of the hashes of its pairs
+abbrev pub fingerprint_of : List (ℕ × ℕ) → ℕ
+fingerprint_of list = sum_by hash_of list % 2 ^ 64
+
+-- the upper half of one more product
+abbrev pub mixed : ℕ → ℕ
+mixed number = number * TAG_FACTOR % 2 ^ 64 / 2 ^ 32
 
 -- the tag of a list
 abbrev pub tag_of : List (ℕ × ℕ) → ℕ

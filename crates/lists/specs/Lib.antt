@@ -1,9 +1,7 @@
 pub mod Lists
 pub mod Marks
 pub mod Cuts
-pub mod Hashes
 pub mod Nodes
 pub mod Hashed
 pub mod Unions
-pub mod Known
 pub mod Extended

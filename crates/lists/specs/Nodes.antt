@@ -1,5 +1,4 @@
--- How `Nodes` keeps its lists: each as a range of one buffer, or as the numbers of its two halves, which are earlier
--- lists.
+-- How `Nodes` keeps its lists: each as a range of one buffer, or as the numbers of its two halves, earlier lists.
 use Rattle.std.specs.Prelude.{◌≡◌, ℕ, zero, suc, ◌+◌, ◌<◌, ◌≤◌, List, [], ◌∷◌, ◌++◌, length}
 use Rattle.std.specs.List.{All, slice_range, slice_index_or}
 use Rattle.std.specs.List.Sorted.{IsStrictlySortedBy}

@@ -1,6 +1,7 @@
 -- Unions that are known: numbers of two lists, and the number of the list that has the pairs of both.
-use Rattle.std.specs.Prelude.{◌⊎◌, ◌↔◌, ℕ, ◌<◌, ◌≤◌, List, length}
+use Rattle.std.specs.Prelude.{◌≡◌, ◌⊎◌, ◌↔◌, ℕ, ◌^◌, ◌<◌, ◌≤◌, List, length}
 use Rattle.std.specs.List.{Contains}
+use Rattle.lists.specs.declared.known.Union.{Union}
 use Rattle.lists.specs.Lists.{list_at}
 use Rattle.lists.specs.Cuts.{IsCut, IsParted}
 
@@ -37,3 +38,16 @@ pub record IsSplitWith (lists : List (List (ℕ × ℕ))) (k : ℕ) (some : List
   pub list : IsSplit lists k c below.0 above.0
   pub pairs : IsParted some c below.1 above.1
   pub cut : (list : List (ℕ × ℕ)) → Unites list some (list_at lists k) → IsCut list c
+
+-- the numbers of both lists, and that of their union
+abbrev pub noted_union : Union → (ℕ × ℕ) × ℕ
+noted_union u = ((u.first, u.second), u.union)
+
+-- the union of the empty list with itself
+abbrev pub IsNone : (ℕ × ℕ) × ℕ → Type 0
+IsNone z = z ≡ ((0, 0), 0)
+
+-- there are places, and not too many for a tag to tell them apart
+pub record HasPlaces (count : ℕ) : Type 0 where
+  pub some : 0 < count
+  pub few : count < 2 ^ 32

@@ -2,9 +2,8 @@
 ghost use Rattle.std.specs.Prelude.{◌≡◌, ◌^◌, ◌++◌, ◌∷◌, ◌<◌, [], length, map, IfOk, OnOk, OnErr, IsTrue, ◌↔◌};
 ghost use Rattle.std.specs.Prelude.{MatchOption};
 ghost use Rattle.lists.specs.Lists.{list_at, Grow};
-ghost use Rattle.lists.specs.Hashes.{fingerprint_of};
 ghost use Rattle.lists.specs.Nodes.{list_of_shape, Suits};
-ghost use Rattle.lists.specs.Hashed.{tag_of, AreDifferent, IsHashed, IsNewList, IsNumberOf};
+ghost use Rattle.lists.specs.Hashed.{fingerprint_of, tag_of, AreDifferent, IsHashed, IsNewList, IsNumberOf};
 ghost use Rattle.buckets.specs.Chains.{bucket_of_tag};
 
 use crate::hashes::{are_same, fingerprint, mix};
@@ -82,14 +81,10 @@ pub(crate) fn put(
     sums.reserve(1)?;
     buckets.push(mix(sum))?;
     buckets.known();
-    match nodes.push(shape) {
-        Ok(number) => {
-            sums.push_reserved(sum);
-            Ok(number)
-        }
-        Err(memory) => {
-            buckets.pop();
-            Err(memory)
-        }
-    }
+    let Ok(number) = nodes.push(shape) else {
+        buckets.pop();
+        return Err(Memory);
+    };
+    sums.push_reserved(sum);
+    Ok(number)
 }

@@ -1,6 +1,6 @@
 //! Hashes of lists.
 ghost use Rattle.std.specs.Prelude.{◌≡◌, ◌↔◌, IsTrue};
-ghost use Rattle.lists.specs.Hashes.{fingerprint_of, mixed};
+ghost use Rattle.lists.specs.Hashed.{fingerprint_of, mixed};
 
 use buckets::hash;
 

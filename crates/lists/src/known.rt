@@ -1,7 +1,7 @@
 //! The unions that were made, so that few are made twice.
 ghost use Rattle.std.specs.Prelude.{◌≡◌, ◌⊎◌, ℕ, ◌<◌, map, length, IfOk, IfSome};
 ghost use Rattle.std.specs.List.{All, Contains};
-ghost use Rattle.lists.specs.Known.{noted_union, HasPlaces, IsNone};
+ghost use Rattle.lists.specs.Unions.{noted_union, HasPlaces, IsNone};
 
 use crate::hashes::mix;
 use buckets::{bucket, hash};
@@ -45,7 +45,7 @@ impl Model for Known {
 
     ghost Value = { List ((ℕ × ℕ) × ℕ) };
 
-    ghost use Rattle.lists.specs.Known.{noted_union, HasPlaces};
+    ghost use Rattle.lists.specs.Unions.{noted_union, HasPlaces};
 
     ghost view = { λ x. map noted_union x.unions.items };
 

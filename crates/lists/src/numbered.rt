@@ -1,8 +1,7 @@
 //! How a list with a base and pairs beside it gets its number: it is found by a tag that its pairs alone decide.
 ghost use Rattle.std.specs.Prelude.{◌≡◌, ◌↔◌, ◌++◌, ◌∷◌, ◌<◌, ◌≤◌, [], length, IfOk, OnOk, OnErr, IsTrue, MatchOption};
 ghost use Rattle.lists.specs.Lists.{list_at, Grow};
-ghost use Rattle.lists.specs.Hashes.{fingerprint_of};
-ghost use Rattle.lists.specs.Hashed.{tag_of, IsNewList, IsNumberOf};
+ghost use Rattle.lists.specs.Hashed.{fingerprint_of, tag_of, IsNewList, IsNumberOf};
 ghost use Rattle.lists.specs.Extended.{parts_of, extended, IsExtension, extended_lists, AreExtended, TableGrows};
 ghost use Rattle.lists.specs.declared.nodes.TheConstants.{FEW};
 

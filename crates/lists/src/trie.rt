@@ -6,8 +6,7 @@ ghost use Rattle.std.specs.List.Sorted.{IsStrictlySortedBy};
 ghost use Rattle.lists.specs.Lists.{pair_cmp, list_at, merged, Grow};
 ghost use Rattle.lists.specs.Cuts.{Fit};
 ghost use Rattle.lists.specs.Nodes.{AreStored, IsShape, list_of_shape, Suits};
-ghost use Rattle.lists.specs.Hashed.{AreDifferent};
-ghost use Rattle.lists.specs.Hashes.{fingerprint_of};
+ghost use Rattle.lists.specs.Hashed.{fingerprint_of, AreDifferent};
 ghost use Rattle.lists.specs.Unions.{IsUnion};
 
 use crate::cut::{key, parted};

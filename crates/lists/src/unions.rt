@@ -178,10 +178,9 @@ pub(crate) fn with(
             list_of(trie, merged)
         }
         Shape::Halved(halves) => {
-            let pieces = pieces_with_pairs(k, halves, pairs);
-            let below = with(trie, merged, pieces.below.0, pieces.below.1)?;
-            let above = with(trie, merged, pieces.above.0, pieces.above.1)?;
-            let cut = pieces.cut;
+            let Pieces { cut, below, above } = pieces_with_pairs(k, halves, pairs);
+            let below = with(trie, merged, below.0, below.1)?;
+            let above = with(trie, merged, above.0, above.1)?;
             trie.number(Shape::Halved(Halves { below, above, cut }))
         }
     }

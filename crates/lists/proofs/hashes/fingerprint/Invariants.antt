@@ -1,5 +1,5 @@
 use Rattle.std.proofs.Common.{◌≡◌, take}
-use Rattle.lists.specs.Hashes.{fingerprint_of}
+use Rattle.lists.specs.Hashed.{fingerprint_of}
 use Rattle.lists.proofs.hashes.fingerprint.Given as goal
 
 abbrev pub invariant-loop-first : goal.invariant-loop-first

@@ -11,14 +11,14 @@ use Rattle.lists.proofs.unions.+with.Goals.{In_ok-above-in-Halved, After-deref}
 
 pub with-requires : goal.with-requires
 with-requires t c =
-    let is = c.pieces_with_pairs-pieces.ensures c.args.trie.now c.known.ensures.stored c.in-Halved.ensures in
+    let is = c.pieces_with_pairs-cut.ensures c.args.trie.now c.known.ensures.stored c.in-Halved.ensures in
     let less = (parts_fewer is.pairs is.list.parted is.cut).0 in
     let both = (parts_both _ _ _ _ is.pairs c.requires.rising c.requires.fit).0 in
     (omega (arith, less, c.decreases), (omega (arith, is.list.first, c.requires.list), both))
 
 pub with-requires-in-Halved : goal.with-requires-in-Halved
 with-requires-in-Halved t c =
-    let is = c.pieces_with_pairs-pieces.ensures c.args.trie.now c.known.ensures.stored c.in-Halved.ensures in
+    let is = c.pieces_with_pairs-cut.ensures c.args.trie.now c.known.ensures.stored c.in-Halved.ensures in
     let grow = c.with.ensures.grow in
     let less = (parts_fewer is.pairs (parted_grown grow grow is.list c.requires.list) is.cut).1 in
     let both = (parts_both _ _ _ _ is.pairs c.requires.rising c.requires.fit).1 in
@@ -28,10 +28,10 @@ with-requires-in-Halved t c =
 united_in : (t : ℕ) (c : In_ok-above-in-Halved t) → AreUnited c.with-in-Halved.new.trie (record {
   below = c.in_ok-below-in-Halved.below;
   above = c.in_ok-above-in-Halved.above;
-  cut = c.pieces_with_pairs-pieces.result.cut;
+  cut = c.pieces_with_pairs-cut.result.cut;
 }) c.args.pairs.now (list_at c.args.trie.now c.args.k)
 united_in t c =
-    let is = c.pieces_with_pairs-pieces.ensures c.args.trie.now c.known.ensures.stored c.in-Halved.ensures in
+    let is = c.pieces_with_pairs-cut.ensures c.args.trie.now c.known.ensures.stored c.in-Halved.ensures in
     let lower = c.in_ok-below-in-Halved.ensures in
     let upper = c.in_ok-above-in-Halved.ensures in
     AreUnited-parts is.pairs (parted_grown (Grow-same _) c.with.ensures.grow is.list c.requires.list)

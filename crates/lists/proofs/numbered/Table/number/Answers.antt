@@ -3,8 +3,7 @@ use Rattle.std.specs.Option.{MatchOption}
 use Rattle.std.proofs.lemmas.Bool.{both_ways}
 use Rattle.std.proofs.lemmas.List.{length_push}
 use Rattle.lists.specs.Lists.{list_at}
-use Rattle.lists.specs.Hashes.{mixed}
-use Rattle.lists.specs.Hashed.{tag_of, IsNewList, IsNumberOf}
+use Rattle.lists.specs.Hashed.{mixed, tag_of, IsNewList, IsNumberOf}
 use Rattle.lists.specs.Extended.{parts_of, extended, extended_lists, AreExtended}
 use Rattle.lists.proofs.Numbering.{TableGrows-trie, TableGrows-push, lists-grow, AreExtended-push, tags_size}
 use Rattle.lists.proofs.Numbering.{extended_size, extended_some, list_more}

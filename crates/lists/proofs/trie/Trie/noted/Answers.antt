@@ -1,13 +1,12 @@
 use Rattle.std.proofs.Common.{subst}
+use Rattle.std.proofs.lemmas.Option.{IfSome_then}
 use Rattle.lists.specs.Unions.{IsUnion}
-use Rattle.lists.proofs.Noting.{if_some, IsUnion-in_order}
+use Rattle.lists.proofs.Noting.{IsUnion-in_order}
 use Rattle.lists.proofs.trie.Trie.noted.Goals as goal
 
 pub returns : goal.returns
 returns c =
-    if_some c.find.result _ _
-    (λ i d.
+    IfSome_then c.find.result c.find.ensures (λ i d.
     (IsUnion-in_order c.args.self.now c.args.j c.args.k i).1
     (rw (← c.min.ensures, ← c.max.ensures) (subst (λ l. IsUnion l (c.min.result, c.max.result) i) c.self.view_is
     (c.self.invariant.1 _ d))))
-    c.find.ensures
