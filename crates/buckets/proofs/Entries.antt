@@ -1,19 +1,19 @@
 -- The entries of the numbers: their tags, one more, one less, and all chained anew over other buckets.
-use Rattle.std.proofs.Common.{◌≡◌, ◌≢◌, ◌∙◌, ℕ, ◌+◌, ◌^◌, ◌<◌, List, [], ◌∷◌, ◌++◌, length, get_or, set, take, ap, sym}
-use Rattle.std.proofs.Common.{subst, refl, inl, inr, arith}
+use Rattle.std.proofs.Common.{◌≡◌, ◌≢◌, ◌∙◌, ℕ, ◌+◌, ◌^◌, ◌<◌, List, [], ◌∷◌, ◌++◌, length, get_or, set, ap, sym}
+use Rattle.std.proofs.Common.{refl, inl, inr, arith}
 use Rattle.std.proofs.Math.ListN as plain
 use Rattle.std.proofs.Math.Seq.{map-set_same}
 use Rattle.std.proofs.lemmas.Bool.{cases_lt}
-use Rattle.std.proofs.lemmas.List.{length-set, length-map, length-take-le, length_push, map-append, map_more, take-map}
-use Rattle.std.proofs.lemmas.List.{take_all, get_or_append_left, get_or_push, get_or-take, get_or-set_same}
+use Rattle.std.proofs.lemmas.List.{length-set, length-map, length_push, map-append}
+use Rattle.std.proofs.lemmas.List.{get_or_append_left, get_or_push, get_or-set_same}
 use Rattle.std.proofs.lemmas.List.{get_or-set_other}
-use Rattle.std.proofs.lemmas.List.Elements.{All-push, All-take, All-same}
+use Rattle.std.proofs.lemmas.List.Elements.{All-push, All-same}
 use Rattle.buckets.specs.declared.chains.Entry.{Entry}
 use Rattle.buckets.specs.declared.TheConstants.{MOST}
 use Rattle.buckets.specs.Buckets.{tag_at, IsLast}
 use Rattle.buckets.specs.Chains.{tags_of, bucket_of_tag, IsChained, entry_of_none, entry_at, entry_bucket, entry_before}
 use Rattle.buckets.specs.Chains.{AreBuckets}
-use Rattle.buckets.proofs.Chaining.{IsChained-push, Chained-push, IsChained-pop}
+use Rattle.buckets.proofs.Chaining.{IsChained-push, Chained-push}
 
 pub tag_is : (entries : List Entry) (r : ℕ) → tag_at (tags_of entries) r ≡ (entry_at entries r).tag
 tag_is entries r = plain.get_or-map (λ x. x.tag) entries r entry_of_none
@@ -84,43 +84,6 @@ AreBuckets-push heads entries new b is few in' low at_b head =
           ∙ ap (λ x. bucket_of_tag (length heads) x.tag) (get_or_push entries new entry_of_none count refl) ∙ sym at_b)
           head;
     }
-
--- the last entry is taken out of its bucket
-pub AreBuckets-pop : (heads : List ℕ) (entries : List Entry) (count b : ℕ) → AreBuckets heads entries
-    → length entries ≡ count + 1 → 0 < count
-    → b < length heads → b ≡ bucket_of_tag (length heads) (entry_at entries count).tag
-    → AreBuckets (set heads b (entry_at entries count).before) (take count entries)
-AreBuckets-pop heads entries count b is one more in' at_b =
-    let before = (entry_at entries count).before in
-    let size = length-set heads b before in
-    let shorter = length-take-le count entries (omega arith) in
-    let old : (r : ℕ) → r < count → entry_at (take count entries) r ≡ entry_at entries r =
-    λ r h. get_or-take count entries r entry_of_none h in
-    record {
-      some_buckets = let some = is.some_buckets in omega arith;
-      few_buckets = let few = is.few_buckets in omega arith;
-      some = omega arith;
-      few = let few = is.few in omega arith;
-      none = tag_is (take count entries) 0 ∙ ap (λ x. x.tag) (old 0 more) ∙ sym (tag_is entries 0) ∙ is.none;
-      tags = All-same (λ tag. tag < 2 ^ 32) (tags_of (take count entries)) (take count (tags_of entries))
-          (sym (take-map (λ x. x.tag) count entries))
-          (All-take (λ tag. tag < 2 ^ 32) count (tags_of entries) is.tags);
-      chained =
-          subst (λ n. IsChained n (entry_bucket (take count entries) (set heads b before))
-          (entry_before (take count entries)) (set heads b before)) (sym shorter)
-          (IsChained-pop count (entry_bucket entries heads) (entry_before entries) _ _ heads b
-          (subst (λ n. IsChained n (entry_bucket entries heads) (entry_before entries) heads) one is.chained)
-          more in' (sym at_b)
-          (λ r h. ap (λ n. bucket_of_tag n (entry_at (take count entries) r).tag) size
-          ∙ ap (λ x. bucket_of_tag (length heads) x.tag) (old r h))
-          (λ r h. ap (λ x. x.before) (old r h)));
-    }
-
-pub tags_popped : (entries : List Entry) (count : ℕ) → length entries ≡ count + 1
-    → tags_of entries ≡ tags_of (take count entries) ++ (entry_at entries count).tag ∷ []
-tags_popped entries count one =
-    ap tags_of (sym (take_all (count + 1) entries (omega arith))) ∙ map_more (λ x. x.tag) entries count
-    entry_of_none (omega arith)
 
 -- the entries below the number r are in the buckets
 pub record Rechained (old : List Entry) (buckets r : ℕ) (heads : List ℕ) (entries : List Entry) : Type 0 where

@@ -1,6 +1,11 @@
 use Rattle.std.specs.Prelude.{◌≡◌, ℕ, ◌<◌, List}
 use Rattle.std.specs.List.{slice_index_or}
 
+-- the tags of the numbers, and for how many more there is room
+pub record Tagged : Type 0 where
+  pub tags : List ℕ
+  pub room : ℕ
+
 -- the tag of the number r
 abbrev pub tag_at : List ℕ → ℕ → ℕ
 tag_at tags r = slice_index_or tags r 0

@@ -1,10 +1,11 @@
 //! The entries of the numbers: those in one bucket are chained, from the last one down.
 ghost use Rattle.std.specs.Prelude.{◌≡◌, ℕ, ◌^◌, ◌+◌, ◌++◌, ◌∷◌, ◌<◌, ◌≤◌, [], length, slice_index, OnOk, OnErr};
+ghost use Rattle.std.specs.Vec.{vec_len, vec_capacity};
 ghost use Rattle.buckets.specs.Buckets.{IsLast};
 ghost use Rattle.buckets.specs.Chains.{tags_of, bucket_of_tag, entry_of_none, IsInChain, AreBuckets, AreChained};
 ghost use Rattle.buckets.specs.declared.TheConstants.{MOST};
 
-use crate::{MOST, MOST_BUCKETS, TIMES_AS_MANY};
+use crate::{MOST_BUCKETS, TIMES_AS_MANY};
 use growth::Memory;
 
 /// How a number is found.
@@ -52,18 +53,14 @@ pub(crate) fn down(entries: &[Entry], tag: u32, first: u32) -> u32
     0
 }
 
-/// Puts a number of this tag at the end, before the others of its bucket. Once all numbers are there, what is asked for is more
-/// than any memory has.
-///
-/// Fails if there is no memory for it. The numbers are then as they were.
-pub(crate) fn put(heads: &mut [u32], entries: &mut Vec<Entry>, tag: u32) -> Result<(), Memory>
-    requires { AreBuckets heads.old entries.old.items }
+/// Puts a number of this tag at the end, before the others of its bucket.
+pub(crate) fn put(heads: &mut [u32], entries: &mut Vec<Entry>, tag: u32)
+    requires buckets { AreBuckets heads.old entries.old.items }
+    requires few { length entries.old.items < MOST }
+    requires room { vec_len entries.old < vec_capacity entries.old }
     ensures buckets { AreBuckets heads.new entries.new.items }
-    ensures put { OnOk result (tags_of entries.new.items ≡ tags_of entries.old.items ++ tag ∷ []) }
-    ensures err { OnErr result (tags_of entries.new.items ≡ tags_of entries.old.items) }
+    ensures put { tags_of entries.new.items ≡ tags_of entries.old.items ++ tag ∷ [] }
 {
-    let more = if entries.len() < MOST { 1 } else { usize::MAX };
-    entries.reserve(more)?;
     let number = entries.len() as u32;
     let b = bucket(tag, heads.len());
     entries.push_reserved(Entry {
@@ -71,20 +68,6 @@ pub(crate) fn put(heads: &mut [u32], entries: &mut Vec<Entry>, tag: u32) -> Resu
         before: heads[b],
     });
     heads[b] = number;
-    Ok(())
-}
-
-/// Takes the last number away.
-pub(crate) fn take(heads: &mut [u32], entries: &mut Vec<Entry>)
-    requires buckets { AreBuckets heads.old entries.old.items }
-    requires more { 1 < length entries.old.items }
-    ensures buckets { AreBuckets heads.new entries.new.items }
-    ensures taken { (tag : ℕ) × (tags_of entries.old.items
-        ≡ tags_of entries.new.items ++ tag ∷ []) }
-{
-    let entry = entries[entries.len() - 1];
-    heads[bucket(entry.tag, heads.len())] = entry.before;
-    entries.truncate(entries.len() - 1);
 }
 
 /// Makes more buckets, up to the most, and chains all numbers anew, if there are more numbers than buckets. So few numbers have

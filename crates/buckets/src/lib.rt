@@ -10,7 +10,7 @@ ghost use Rattle.std.specs.List.{All};
 ghost use Rattle.buckets.specs.Buckets.{tag_at, IsLast};
 
 pub use chains::bucket;
-use chains::{Entry, down, first_entry, put, take, widen};
+use chains::{Entry, down, first_entry, put, widen};
 use growth::Memory;
 pub use hashing::hash;
 use std::alloc::Global;
@@ -41,13 +41,18 @@ pub struct Buckets {
 }
 
 impl Model for Buckets {
-    ghost use Rattle.std.specs.Prelude.{ℕ, List};
+    ghost use Rattle.buckets.specs.Buckets.{Tagged};
 
-    ghost Value = { List ℕ };
+    ghost Value = { Tagged };
 
+    ghost use Rattle.std.specs.Prelude.{◌-◌};
+    ghost use Rattle.std.specs.Vec.{vec_len, vec_capacity};
     ghost use Rattle.buckets.specs.Chains.{tags_of, AreBuckets};
 
-    ghost view = { λ x. tags_of x.entries.items };
+    ghost view = { λ x. record {
+      tags = tags_of x.entries.items;
+      room = vec_capacity x.entries - vec_len x.entries;
+    } };
 
     ghost invariant = { λ x. AreBuckets x.heads.items x.entries.items };
 }
@@ -57,7 +62,7 @@ impl Buckets {
     ///
     /// Fails if there is no memory for it.
     pub fn new(alloc: Global, room: u32) -> Result<Buckets, Memory>
-        ensures { IfOk result (λ x. x ≡ 0 ∷ []) }
+        ensures { IfOk result (λ x. x.tags ≡ 0 ∷ []) }
     {
         let buckets = (room as usize + 1).min(MOST_BUCKETS);
         let mut heads = Vec::with_capacity(alloc, buckets)?;
@@ -69,9 +74,9 @@ impl Buckets {
 
     /// Does nothing when it runs: its contract says what holds of all numbers.
     pub fn known(&self)
-        ensures some { 1 ≤ length self.now }
-        ensures few { length self.now ≤ MOST }
-        ensures tags { All (λ tag. tag < 2 ^ 32) self.now }
+        ensures some { 1 ≤ length self.now.tags }
+        ensures few { length self.now.tags ≤ MOST }
+        ensures tags { All (λ tag. tag < 2 ^ 32) self.now.tags }
     {
         let _ = &self.entries;
     }
@@ -79,7 +84,7 @@ impl Buckets {
     /// How many numbers there are, with number 0.
     #[inline(always)]
     pub fn len(&self) -> u32
-        ensures { result ≡ length self.now }
+        ensures { result ≡ length self.now.tags }
     {
         self.entries.len() as u32
     }
@@ -87,7 +92,7 @@ impl Buckets {
     /// The last number of the tag, or 0 if there is none.
     #[inline(always)]
     pub fn last(&self, tag: u32) -> u32
-        ensures { IsLast self.now tag (length self.now) result }
+        ensures { IsLast self.now.tags tag (length self.now.tags) result }
     {
         let first = self.heads[bucket(tag, self.heads.len())];
         down(&self.entries, tag, first)
@@ -97,35 +102,42 @@ impl Buckets {
     #[inline(always)]
     pub fn before(&self, r: u32) -> u32
         requires some { 0 < r }
-        requires within { r < length self.now }
-        ensures { IsLast self.now (tag_at self.now r) r result }
+        requires within { r < length self.now.tags }
+        ensures { IsLast self.now.tags (tag_at self.now.tags r) r result }
     {
         let entry = self.entries[r as usize];
         down(&self.entries, entry.tag, entry.before)
     }
 
-    /// Puts a number of this tag at the end.
+    /// Makes room for one number more. Once all numbers are there, what is asked for is more than any memory has.
     ///
-    /// Fails if there is no memory for it. The numbers are then as they were.
-    pub fn push(&mut self, tag: u32) -> Result<(), Memory>
-        ensures pushed { OnOk result (self.new ≡ self.old ++ tag ∷ []) }
-        ensures err { OnErr result (self.new ≡ self.old) }
+    /// Fails if there is no memory for it.
+    pub fn make_room(&mut self) -> Result<(), Memory>
+        ensures same { self.new.tags ≡ self.old.tags }
+        ensures few { OnOk result (length self.new.tags < MOST) }
+        ensures room { OnOk result (0 < self.new.room) }
     {
-        widen(&mut self.heads, &mut self.entries)?;
-        put(&mut self.heads, &mut self.entries, tag)
+        let more = if self.entries.len() < MOST {
+            1
+        } else {
+            usize::MAX
+        };
+        self.entries.reserve(more)?;
+        widen(&mut self.heads, &mut self.entries)
     }
 
-    /// Takes the last number away.
-    pub fn pop(&mut self)
-        requires { 1 < length self.old }
-        ensures { (tag : ℕ) × (self.old ≡ self.new ++ tag ∷ []) }
+    /// Puts a number of this tag at the end.
+    pub fn push(&mut self, tag: u32)
+        requires few { length self.old.tags < MOST }
+        requires room { 0 < self.old.room }
+        ensures { self.new.tags ≡ self.old.tags ++ tag ∷ [] }
     {
-        take(&mut self.heads, &mut self.entries);
+        put(&mut self.heads, &mut self.entries, tag);
     }
 
     /// Forgets all numbers but 0, and keeps the memory.
     pub fn clear(&mut self)
-        ensures { self.new ≡ 0 ∷ [] }
+        ensures { self.new.tags ≡ 0 ∷ [] }
     {
         // Buckets as for numbers as many as now: an owner mostly has no more the next time.
         let buckets = FIRST_BUCKETS.max(self.entries.len());

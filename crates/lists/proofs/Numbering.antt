@@ -78,17 +78,17 @@ module _ {old new : List (List (ℕ × ℕ))} (grow : Grow old new) where
       record { longer = omega arith; same = λ k low. ap (λ ls. list_at ls k) same }
 
   -- and so does what is kept, if the table is as it was
-  pub TableGrows-trie : (before after : Table) → after.kept ≡ before.kept → after.buckets ≡ before.buckets
-      → AreExtended old before.kept before.buckets
+  pub TableGrows-trie : (before after : Table) → after.kept ≡ before.kept → after.buckets.tags ≡ before.buckets.tags
+      → AreExtended old before.kept before.buckets.tags
       → TableGrows old new before after
   TableGrows-trie before after kept tags are = record {
-    are = rw (kept, tags) (AreExtended-grow before.kept before.buckets are);
+    are = rw (kept, tags) (AreExtended-grow before.kept before.buckets.tags are);
     trie = grow;
     lists = rw kept (Grow-lists before.kept are.each);
   }
 
 pub TableGrows-after : {a b c : List (List (ℕ × ℕ))} {before after : Table} → Grow a b
-    → AreExtended a before.kept before.buckets → TableGrows b c before after
+    → AreExtended a before.kept before.buckets.tags → TableGrows b c before after
     → TableGrows a c before after
 TableGrows-after {a} {b} {c} {before} grow are keeps = record {
   are = keeps.are;
@@ -292,15 +292,15 @@ IsExtension-whole trie base low = record {
 
 -- the trie grows, and there is one list more
 module _ {old new : List (List (ℕ × ℕ))} (grow : Grow old new) (before after : Table) (x : ℕ × List (ℕ × ℕ)) (tag : ℕ)
-    (kept : after.kept ≡ before.kept ++ x ∷ []) (tags : after.buckets ≡ before.buckets ++ tag ∷ [])
-    (are : AreExtended old (before.kept ++ x ∷ []) (before.buckets ++ tag ∷ [])) where
+    (kept : after.kept ≡ before.kept ++ x ∷ []) (tags : after.buckets.tags ≡ before.buckets.tags ++ tag ∷ [])
+    (are : AreExtended old (before.kept ++ x ∷ []) (before.buckets.tags ++ tag ∷ [])) where
   all_more : extended_lists new after.kept ≡ extended_lists old before.kept ++ extended old x ∷ []
   all_more = ap (extended_lists new) kept ∙ lists-grow grow (before.kept ++ x ∷ []) are.each
       ∙ map-append (extended old) before.kept (x ∷ [])
 
   pub TableGrows-push : TableGrows old new before after
   TableGrows-push = record {
-    are = rw (kept, tags) (AreExtended-grow grow (before.kept ++ x ∷ []) (before.buckets ++ tag ∷ []) are);
+    are = rw (kept, tags) (AreExtended-grow grow (before.kept ++ x ∷ []) (before.buckets.tags ++ tag ∷ []) are);
     trie = grow;
     lists = rw all_more (record {
       longer = omega (arith, length_push (extended_lists old before.kept) (extended old x));

@@ -63,7 +63,7 @@ pub record AreExtended (trie : List (List (ℕ × ℕ))) (kept : List (ℕ × Li
 
 -- the trie and the table may have more lists than before, and have all that they had
 pub record TableGrows (old new : List (List (ℕ × ℕ))) (before after : Table) : Type 0 where
-  pub are : AreExtended new after.kept after.buckets
+  pub are : AreExtended new after.kept after.buckets.tags
   pub trie : Grow old new
   pub lists : Grow (extended_lists old before.kept) (extended_lists new after.kept)
 

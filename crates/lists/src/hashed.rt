@@ -38,7 +38,7 @@ fn is(nodes: &Nodes, k: u32, shape: Shape<'_>) -> bool
 
 /// The number of the list of this shape, if there is one.
 pub(crate) fn find(nodes: &Nodes, buckets: &Buckets, shape: Shape<'_>, tag: u32) -> Option<u32>
-    requires tags { buckets.now ≡ map tag_of nodes.now }
+    requires tags { buckets.now.tags ≡ map tag_of nodes.now }
     requires different { AreDifferent nodes.now }
     requires suits { Suits nodes.now shape }
     requires tag { tag ≡ tag_of (list_of_shape nodes.now shape) }
@@ -66,11 +66,11 @@ pub(crate) fn put(
     shape: Shape<'_>,
     sum: u64,
 ) -> Result<u32, Memory>
-    requires hashed { IsHashed nodes.old sums.old.items buckets.old }
+    requires hashed { IsHashed nodes.old sums.old.items buckets.old.tags }
     requires suits { Suits nodes.old shape }
     requires sum { sum ≡ fingerprint_of (list_of_shape nodes.old shape) }
     requires absent { IsNewList nodes.old (list_of_shape nodes.old shape) }
-    ensures hashed { IsHashed nodes.new sums.new.items buckets.new }
+    ensures hashed { IsHashed nodes.new sums.new.items buckets.new.tags }
     ensures grow { Grow nodes.old nodes.new }
     ensures added { OnOk result
         (nodes.new ≡ nodes.old ++ list_of_shape nodes.old shape.entry ∷ []) }
@@ -79,12 +79,9 @@ pub(crate) fn put(
 {
     nodes.known();
     sums.reserve(1)?;
-    buckets.push(mix(sum))?;
-    buckets.known();
-    let Ok(number) = nodes.push(shape) else {
-        buckets.pop();
-        return Err(Memory);
-    };
+    buckets.make_room()?;
+    let number = nodes.push(shape)?;
+    buckets.push(mix(sum));
     sums.push_reserved(sum);
     Ok(number)
 }

@@ -41,7 +41,7 @@ impl Model for Lists {
 
     ghost view = { λ x. extended_lists x.bases.trie x.table.kept };
 
-    ghost invariant = { λ x. AreExtended x.bases.trie x.table.kept x.table.buckets };
+    ghost invariant = { λ x. AreExtended x.bases.trie x.table.kept x.table.buckets.tags };
 }
 
 impl Lists {

@@ -34,7 +34,7 @@ impl Table {
         base: u32,
         pairs: &[(u32, u32)],
     ) -> Result<u32, Memory>
-        requires kept { AreExtended bases.old.trie self.old.kept self.old.buckets }
+        requires kept { AreExtended bases.old.trie self.old.kept self.old.buckets.tags }
         requires list { IsExtension bases.old.trie (base, pairs.now) }
         ensures within { IfOk result (λ k. k < length self.new.kept) }
         ensures list { IfOk result (λ k. list_at (extended_lists bases.new.trie self.new.kept) k
@@ -55,7 +55,7 @@ impl Table {
     ///
     /// Fails if there is no memory for it. The lists that there were are as they were.
     fn number(&mut self, bases: &mut Bases, list: Extension<'_>) -> Result<u32, Memory>
-        requires kept { AreExtended bases.old.trie self.old.kept self.old.buckets }
+        requires kept { AreExtended bases.old.trie self.old.kept self.old.buckets.tags }
         requires list { IsExtension bases.old.trie (parts_of list) }
         requires few { length list.few.now ≤ FEW }
         ensures within { IfOk result (λ k. k < length self.new.kept) }
@@ -79,7 +79,7 @@ impl Table {
     ///
     /// Fails if there is no memory for it. The lists that there were are as they were.
     fn find(&self, bases: &mut Bases, list: Extension<'_>, tag: u32) -> Result<Option<u32>, Memory>
-        requires kept { AreExtended bases.old.trie self.now.kept self.now.buckets }
+        requires kept { AreExtended bases.old.trie self.now.kept self.now.buckets.tags }
         requires list { IsExtension bases.old.trie (parts_of list) }
         requires tag { tag ≡ tag_of (extended bases.old.trie (parts_of list)) }
         ensures found { let all = extended_lists bases.old.trie self.now.kept in
@@ -104,20 +104,17 @@ impl Table {
     /// Fails if there is no memory for it. What is kept is then as it was.
     fn put(&mut self, list: Extension<'_>, tag: u32) -> Result<u32, Memory>
         requires few { length list.few.now ≤ FEW }
-        requires size { length self.old.buckets ≡ length self.old.kept }
+        requires size { length self.old.buckets.tags ≡ length self.old.kept }
         ensures number { IfOk result (λ k. k ≡ length self.old.kept) }
         ensures kept { OnOk result (self.new.kept ≡ self.old.kept ++ parts_of list.entry ∷ []) }
-        ensures tags { OnOk result (self.new.buckets ≡ self.old.buckets ++ tag ∷ []) }
+        ensures tags { OnOk result (self.new.buckets.tags ≡ self.old.buckets.tags ++ tag ∷ []) }
         ensures err { OnErr result ((self.new.kept ≡ self.old.kept)
-            × (self.new.buckets ≡ self.old.buckets)) }
+            × (self.new.buckets.tags ≡ self.old.buckets.tags)) }
     {
-        self.buckets.known();
+        self.buckets.make_room()?;
+        self.kept.push(list)?;
         let number = self.buckets.len();
-        self.buckets.push(tag)?;
-        if self.kept.push(list).is_err() {
-            self.buckets.pop();
-            return Err(Memory);
-        }
+        self.buckets.push(tag);
         Ok(number)
     }
 }

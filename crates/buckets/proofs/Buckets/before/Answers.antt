@@ -8,7 +8,7 @@ use Rattle.buckets.proofs.Buckets.before.Goals.{After-deref}
 
 module _ (c : After-deref) where
   pub low : c.args.r < length c.self.inside.entries.items
-  low = omega (arith, c.requires.within, ap length c.self.view_is, length-map c.self.inside.entries.items (λ x. x.tag))
+  low = omega (arith, c.requires.within, ap (λ x. length x.tags) c.self.view_is, length-map c.self.inside.entries.items (λ x. x.tag))
 
   pub entry : c.index-entry.result.now ≡ entry_at c.self.inside.entries.items c.args.r
   entry = get_or_read c.self.inside.entries.items _ _ low c.index-entry.ensures entry_of_none
@@ -31,7 +31,7 @@ returns c =
     (c.index-entry.result.now.before + 1) c.down.result =
     subst (λ entries. IsLast (tags_of entries) c.index-entry.result.now.tag (c.index-entry.result.now.before + 1)
     c.down.result) c.deref.ensures.value c.down.ensures in
-    subst (λ tags. IsLast tags (tag_at tags c.args.r) c.args.r c.down.result) c.self.view_is
+    subst (λ tags. IsLast tags (tag_at tags c.args.r) c.args.r c.down.result) (ap (λ x. x.tags) c.self.view_is)
     (before_is c.self.invariant c.requires.some (low after) (ap (λ x. x.before) (entry after))
     (subst (λ tag. IsLast (tags_of c.self.inside.entries.items) tag (c.index-entry.result.now.before + 1) c.down.result)
     tag down))

@@ -33,7 +33,7 @@ down-requires-clause-chain c =
 pub returns : goal.returns
 returns c =
     let after = (goal.at.returns c).After-deref in
-    subst (λ tags. IsLast tags c.args.tag (length tags) c.down.result) c.self.view_is
+    subst (λ tags. IsLast tags c.args.tag (length tags) c.down.result) (ap (λ x. x.tags) c.self.view_is)
     (last_is c.self.invariant (at_b after) (low after) (head after)
     (subst (λ entries. IsLast (tags_of entries) c.args.tag (c.index-first.result.now + 1) c.down.result)
     c.deref.ensures.value c.down.ensures))

@@ -10,7 +10,7 @@ use Rattle.lists.proofs.hashed.find.Goals as goal
 pub loop-r-init : goal.loop-r-init
 loop-r-init c =
     IsReached-last c.args.nodes.now (list_of_shape c.args.nodes.now c.args.shape) c.requires.tags
-    (subst (λ tag. IsLast c.args.buckets.now tag (length c.args.buckets.now) c.last-r.result) c.requires.tag
+    (subst (λ tag. IsLast c.args.buckets.now.tags tag (length c.args.buckets.now.tags) c.last-r.result) c.requires.tag
     c.last-r.ensures)
 
 pub is-requires-clause-list : goal.is-requires-clause-list

@@ -17,8 +17,8 @@ returns-in-Some-clause-exactly c z =
 
 -- the base of the union is there
 module _ (c : After-union_of) where
-  kept : AreExtended c.union_of.new.bases.trie c.self.inside.table.kept c.self.inside.table.buckets
-  kept = AreExtended-grow c.union_of.ensures.grow c.self.inside.table.kept c.self.inside.table.buckets c.self.invariant
+  kept : AreExtended c.union_of.new.bases.trie c.self.inside.table.kept c.self.inside.table.buckets.tags
+  kept = AreExtended-grow c.union_of.ensures.grow c.self.inside.table.kept c.self.inside.table.buckets.tags c.self.invariant
 
   grown : Grow c.args.self.now (extended_lists c.union_of.new.bases.trie c.self.inside.table.kept)
   grown =

@@ -11,7 +11,7 @@ use Rattle.lists.proofs.numbered.Table.find.Goals.{After-of}
 
 pub loop-r-init : goal.loop-r-init
 loop-r-init c =
-    let tags = c.args.self.now.buckets in
+    let tags = c.args.self.now.buckets.tags in
     let list = extended c.args.bases.now.trie (parts_of c.args.list) in
     let below = c.last-r.ensures.below in
     let some = c.requires.kept.some in

@@ -62,14 +62,14 @@ not_both c = elim c.else-list-eq-EMPTY.branch [
 
 -- so it is one list more
 more : (c : In_ok-number-2) → AreExtended c.args.bases.now.trie (c.args.self.now.kept ++ parts_of c.args.list ∷ [])
-    (c.args.self.now.buckets ++ c.mix-tag.result ∷ [])
+    (c.args.self.now.buckets.tags ++ c.mix-tag.result ∷ [])
 more c =
     let trie = c.args.bases.now.trie in
     let parts = parts_of c.args.list in
     let all = extended_lists trie c.args.self.now.kept in
     let list = extended trie parts in
     let known = c.known.ensures in
-    AreExtended-push trie c.args.self.now.kept c.args.self.now.buckets parts c.mix-tag.result
+    AreExtended-push trie c.args.self.now.kept c.args.self.now.buckets.tags parts c.mix-tag.result
     c.requires.kept c.requires.list
     known.stored.first (extended_some trie parts known.stored known.different c.requires.list (not_both c))
     (subst (λ o. MatchOption o (IsNewList all list) (IsNumberOf all list)) c.in_default.is c.in_ok-number.ensures.found)

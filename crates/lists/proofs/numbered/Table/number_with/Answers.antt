@@ -12,7 +12,7 @@ returns-in_err-base-clause-keeps c =
 
 pub number-requires-2-clause-kept : goal.number-requires-2-clause-kept
 number-requires-2-clause-kept c =
-    AreExtended-grow c.with.ensures.grow c.args.self.now.kept c.args.self.now.buckets c.requires.kept
+    AreExtended-grow c.with.ensures.grow c.args.self.now.kept c.args.self.now.buckets.tags c.requires.kept
 
 pub number-requires-2-clause-list : goal.number-requires-2-clause-list
 number-requires-2-clause-list c = IsExtension-whole c.with.new.trie c.in_ok-base.base c.in_ok-base.ensures.within
