@@ -11,12 +11,13 @@ use Rattle.std.proofs.lemmas.List.Elements.{All-push, All-same}
 use Rattle.buckets.specs.declared.chains.Entry.{Entry}
 use Rattle.buckets.specs.declared.TheConstants.{MOST}
 use Rattle.buckets.specs.Buckets.{tag_at, IsLast}
-use Rattle.buckets.specs.Chains.{tags_of, bucket_of_tag, IsChained, entry_of_none, entry_at, entry_bucket, entry_before}
-use Rattle.buckets.specs.Chains.{AreBuckets}
+use Rattle.buckets.specs.declared.chains.TheConstants.{NO_ENTRY}
+use Rattle.buckets.specs.Chains.{tags_of, bucket_of_tag, entry_at, entry_bucket}
+use Rattle.buckets.specs.Chains.{AreBuckets, AreChained}
 use Rattle.buckets.proofs.Chaining.{IsChained-push, Chained-push}
 
 pub tag_is : (entries : List Entry) (r : ℕ) → tag_at (tags_of entries) r ≡ (entry_at entries r).tag
-tag_is entries r = plain.get_or-map (λ x. x.tag) entries r entry_of_none
+tag_is entries r = plain.get_or-map (λ x. x.tag) entries r NO_ENTRY
 
 -- where no number up to an end has the tag, the last one below is the last one up to there
 pub IsLast-further : {tags : List ℕ} {tag low end r : ℕ} → IsLast tags tag (low + 1) r → (0 < end → low < end)
@@ -70,18 +71,18 @@ AreBuckets-push heads entries new b is few in' low at_b head =
       few_buckets = let few = is.few_buckets in omega arith;
       some = omega arith;
       few = omega arith;
-      none = tag_is (entries ++ new ∷ []) 0 ∙ ap (λ x. x.tag) (get_or_append_left entries (new ∷ []) entry_of_none 0
+      none = tag_is (entries ++ new ∷ []) 0 ∙ ap (λ x. x.tag) (get_or_append_left entries (new ∷ []) NO_ENTRY 0
           is.some) ∙ sym (tag_is entries 0) ∙ is.none;
       tags = All-same (λ tag. tag < 2 ^ 32) (tags_of (entries ++ new ∷ [])) (tags_of entries ++ new.tag ∷ [])
           (map-append (λ x. x.tag) entries (new ∷ []))
           (All-push (λ tag. tag < 2 ^ 32) (tags_of entries) new.tag is.tags low);
       chained =
-          Chained-push entry_of_none (λ x. x.before) (entry_bucket entries heads) (entry_bucket all (set heads b count))
+          Chained-push NO_ENTRY (λ x. x.before) (entry_bucket entries heads) (entry_bucket all (set heads b count))
           entries heads new b is.chained is.some in'
           (λ r p h. ap (λ n. bucket_of_tag n (entry_at all r).tag) size
-          ∙ ap (λ x. bucket_of_tag (length heads) x.tag) (get_or_append_left entries (new ∷ []) entry_of_none r h))
+          ∙ ap (λ x. bucket_of_tag (length heads) x.tag) (get_or_append_left entries (new ∷ []) NO_ENTRY r h))
           (ap (λ n. bucket_of_tag n (entry_at all count).tag) size
-          ∙ ap (λ x. bucket_of_tag (length heads) x.tag) (get_or_push entries new entry_of_none count refl) ∙ sym at_b)
+          ∙ ap (λ x. bucket_of_tag (length heads) x.tag) (get_or_push entries new NO_ENTRY count refl) ∙ sym at_b)
           head;
     }
 
@@ -91,7 +92,7 @@ pub record Rechained (old : List Entry) (buckets r : ℕ) (heads : List ℕ) (en
   pub as_many : length heads ≡ buckets
   pub size : length entries ≡ length old
   pub tags : tags_of entries ≡ tags_of old
-  pub chained : IsChained r (entry_bucket entries heads) (entry_before entries) heads
+  pub chained : AreChained r entries heads
 
 -- the next entry goes before the others of its bucket
 module _ (old : List Entry) (buckets r : ℕ) (heads : List ℕ) (entries : List Entry) (b : ℕ) (new : Entry)
@@ -107,7 +108,7 @@ module _ (old : List Entry) (buckets r : ℕ) (heads : List ℕ) (entries : List
   pub Rechained-more : Rechained old buckets (r + 1) (set heads b r) (set entries r new)
   Rechained-more =
       let size = length-set heads b r in
-      let kept = map-set_same (λ x. x.tag) entries r new entry_of_none tag in
+      let kept = map-set_same (λ x. x.tag) entries r new NO_ENTRY tag in
       let tag-kept : (k : ℕ) → (entry_at (set entries r new) k).tag ≡ (entry_at entries k).tag =
       λ k. sym (tag_is (set entries r new) k) ∙ ap (λ tags. tag_at tags k) kept ∙ tag_is entries k in
       record {
@@ -116,8 +117,7 @@ module _ (old : List Entry) (buckets r : ℕ) (heads : List ℕ) (entries : List
         size = length-set entries r new ∙ is.size;
         tags = kept ∙ is.tags;
         chained =
-            IsChained-push r (entry_bucket entries heads) (entry_before entries)
-            (entry_bucket (set entries r new) (set heads b r)) (entry_before (set entries r new)) heads b
+            IsChained-push r _ _ (entry_bucket (set entries r new) (set heads b r)) _ heads b
             is.chained is.some in'
             (λ k p h. ap (λ n. bucket_of_tag n (entry_at (set entries r new) k).tag) size
             ∙ ap (bucket_of_tag (length heads)) (tag-kept k))

@@ -2,6 +2,7 @@
 use Rattle.std.specs.Prelude.{◌≡◌, ℕ, ◌*◌, ◌/◌, ◌^◌, ◌<◌, ◌≤◌, List, map, length, slice_index, slice_index_or}
 use Rattle.std.specs.List.{All}
 use Rattle.buckets.specs.declared.chains.Entry.{Entry}
+use Rattle.buckets.specs.declared.chains.TheConstants.{NO_ENTRY}
 use Rattle.buckets.specs.declared.TheConstants.{MOST}
 use Rattle.buckets.specs.Buckets.{tag_at}
 
@@ -22,25 +23,17 @@ pub record IsChained (count : ℕ) (bucket before : ℕ → ℕ) (heads : List �
   pub before_fit : (r : ℕ) → 0 < r → r < count → 0 < before r → bucket (before r) ≡ bucket r
   pub before_last : (q r : ℕ) → 0 < q → q < r → r < count → bucket q ≡ bucket r → q ≤ before r
 
--- the entry of number 0, which is in no bucket
-abbrev pub entry_of_none : Entry
-entry_of_none = record { tag = 0; before = 0 }
-
 -- the entry of the number r
 abbrev pub entry_at : List Entry → ℕ → Entry
-entry_at entries r = slice_index_or entries r entry_of_none
+entry_at entries r = slice_index_or entries r NO_ENTRY
 
 -- the bucket of the number r
 abbrev pub entry_bucket : List Entry → List ℕ → ℕ → ℕ
 entry_bucket entries heads r = bucket_of_tag (length heads) (entry_at entries r).tag
 
--- the number before r in its bucket
-abbrev pub entry_before : List Entry → ℕ → ℕ
-entry_before entries r = (entry_at entries r).before
-
--- the numbers of the entries are chained
-abbrev pub AreChained : List Entry → List ℕ → Type 0
-AreChained entries heads = IsChained (length entries) (entry_bucket entries heads) (entry_before entries) heads
+-- the numbers of the entries below the count are chained
+abbrev pub AreChained : ℕ → List Entry → List ℕ → Type 0
+AreChained count entries heads = IsChained count (entry_bucket entries heads) (λ r. (entry_at entries r).before) heads
 
 -- each number but 0, which has the tag 0, is found by its tag
 pub record AreBuckets (heads : List ℕ) (entries : List Entry) : Type 0 where
@@ -50,7 +43,7 @@ pub record AreBuckets (heads : List ℕ) (entries : List Entry) : Type 0 where
   pub few : length entries ≤ MOST
   pub none : tag_at (tags_of entries) 0 ≡ 0
   pub tags : All (λ tag. tag < 2 ^ 32) (tags_of entries)
-  pub chained : AreChained entries heads
+  pub chained : AreChained (length entries) entries heads
 
 -- there are heads under which the entries are found, and the number r, if it is one, is in the bucket of the tag
 abbrev pub IsInChain : List Entry → ℕ → ℕ → Type 0

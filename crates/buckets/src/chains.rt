@@ -2,7 +2,7 @@
 ghost use Rattle.std.specs.Prelude.{◌≡◌, ℕ, ◌^◌, ◌+◌, ◌++◌, ◌∷◌, ◌<◌, ◌≤◌, [], length, slice_index, OnOk, OnErr};
 ghost use Rattle.std.specs.Vec.{vec_len, vec_capacity};
 ghost use Rattle.buckets.specs.Buckets.{IsLast};
-ghost use Rattle.buckets.specs.Chains.{tags_of, bucket_of_tag, entry_of_none, IsInChain, AreBuckets, AreChained};
+ghost use Rattle.buckets.specs.Chains.{tags_of, bucket_of_tag, IsInChain, AreBuckets, AreChained};
 ghost use Rattle.buckets.specs.declared.TheConstants.{MOST};
 
 use crate::{MOST_BUCKETS, TIMES_AS_MANY};
@@ -18,11 +18,7 @@ pub(crate) struct Entry {
 }
 
 /// The entry of number 0, which is in no bucket.
-pub(crate) fn first_entry() -> Entry
-    ensures { result ≡ entry_of_none }
-{
-    Entry { tag: 0, before: 0 }
-}
+pub(crate) const NO_ENTRY: Entry = Entry { tag: 0, before: 0 };
 
 /// The bucket of a tag, if there are so many buckets.
 #[inline(always)]
@@ -95,7 +91,7 @@ fn chain(heads: &mut [u32], entries: &mut [Entry])
     requires few { (0 < length entries.old) × (length entries.old ≤ MOST) }
     ensures buckets { length heads.new ≡ length heads.old }
     ensures tags { tags_of entries.new ≡ tags_of entries.old }
-    ensures chained { AreChained entries.new heads.new }
+    ensures chained { AreChained (length entries.new) entries.new heads.new }
 {
     for r in 1..entries.len() {
         let tag = entries[r].tag;

@@ -10,7 +10,7 @@ ghost use Rattle.std.specs.List.{All};
 ghost use Rattle.buckets.specs.Buckets.{tag_at, IsLast};
 
 pub use chains::bucket;
-use chains::{Entry, down, first_entry, put, widen};
+use chains::{Entry, NO_ENTRY, down, put, widen};
 use growth::Memory;
 pub use hashing::hash;
 use std::alloc::Global;
@@ -68,7 +68,7 @@ impl Buckets {
         let mut heads = Vec::with_capacity(alloc, buckets)?;
         heads.resize(buckets.min(FIRST_BUCKETS), 0)?;
         let mut entries = Vec::with_capacity(alloc, room as usize + 1)?;
-        entries.push(first_entry())?;
+        entries.push(NO_ENTRY)?;
         Ok(Buckets { heads, entries })
     }
 

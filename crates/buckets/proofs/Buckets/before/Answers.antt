@@ -1,7 +1,8 @@
 use Rattle.std.proofs.Common.{◌≡◌, ◌∙◌, ◌+◌, ◌<◌, length, ap, sym, subst, arith}
 use Rattle.std.proofs.lemmas.List.{length-map, get_or_read}
 use Rattle.buckets.specs.Buckets.{tag_at, IsLast}
-use Rattle.buckets.specs.Chains.{tags_of, entry_of_none, entry_at}
+use Rattle.buckets.specs.declared.chains.TheConstants.{NO_ENTRY}
+use Rattle.buckets.specs.Chains.{tags_of, entry_at}
 use Rattle.buckets.proofs.Entries.{tag_is, before_is}
 use Rattle.buckets.proofs.Buckets.before.Goals as goal
 use Rattle.buckets.proofs.Buckets.before.Goals.{After-deref}
@@ -11,7 +12,7 @@ module _ (c : After-deref) where
   low = omega (arith, c.requires.within, ap (λ x. length x.tags) c.self.view_is, length-map c.self.inside.entries.items (λ x. x.tag))
 
   pub entry : c.index-entry.result.now ≡ entry_at c.self.inside.entries.items c.args.r
-  entry = get_or_read c.self.inside.entries.items _ _ low c.index-entry.ensures entry_of_none
+  entry = get_or_read c.self.inside.entries.items _ _ low c.index-entry.ensures NO_ENTRY
 
 pub down-requires-clause-chain : goal.down-requires-clause-chain
 down-requires-clause-chain c =
