@@ -1,4 +1,4 @@
-use Rattle.std.proofs.Common.{◌≡◌, ◌∙◌, ◌+◌, ◌<◌, length, ap, sym, subst, arith}
+use Rattle.std.proofs.Common.{rules, ◌≡◌, ◌∙◌, ◌+◌, ◌<◌, length, ap, sym, subst, arith}
 use Rattle.std.proofs.lemmas.List.{length-map, get_or_read}
 use Rattle.buckets.specs.Buckets.{tag_at, IsLast}
 use Rattle.buckets.specs.declared.chains.TheConstants.{NO_ENTRY}
@@ -16,12 +16,7 @@ module _ (c : After-deref) where
 
 pub down-requires-clause-chain : goal.down-requires-clause-chain
 down-requires-clause-chain c =
-    let after = (goal.at.down-requires-clause-chain c).After-deref in (
-      c.self.inside.heads.items,
-      rw (c.deref.ensures.value) c.self.invariant,
-      rw (c.deref.ensures.value, entry after) (λ some. c.self.invariant.chained.before_fit c.args.r c.requires.some
-          (low after) some),
-    )
+    search (rules, entry, low)
 
 pub returns : goal.returns
 returns c =

@@ -1,4 +1,4 @@
-use Rattle.std.proofs.Common.{◌≡◌, ◌∙◌, ◌+◌, ◌<◌, length, get_or, ap, subst, arith}
+use Rattle.std.proofs.Common.{rules, ◌≡◌, ◌∙◌, ◌+◌, ◌<◌, length, get_or, ap, subst, arith}
 use Rattle.std.proofs.lemmas.List.{get_or_read}
 use Rattle.buckets.specs.Buckets.{IsLast}
 use Rattle.buckets.specs.Chains.{tags_of, bucket_of_tag, entry_bucket}
@@ -21,14 +21,7 @@ module _ (c : After-deref) where
 
 pub down-requires-clause-chain : goal.down-requires-clause-chain
 down-requires-clause-chain c =
-    let after = (goal.at.down-requires-clause-chain c).After-deref in (
-      c.self.inside.heads.items,
-      rw (c.deref.ensures.value) c.self.invariant,
-      rw (c.deref.ensures.value) (λ some. ap (entry_bucket c.self.inside.entries.items c.self.inside.heads.items)
-          (head after)
-          ∙ c.self.invariant.chained.heads_fit c.bucket.result (low after) (omega (arith, some, head after))
-          ∙ at_b after),
-    )
+    search (rules, head)
 
 pub returns : goal.returns
 returns c =
