@@ -14,8 +14,7 @@ pub written_back : (of live : List ℕ) (lists : List (List (ℕ × ℕ))) (numb
     → AreNumbers lists numbers → HaveNone live numbers
     → length numbers ≡ length of → length numbers ≡ n → HaveLists of live lists (take n (numbers ++ rest))
 written_back of live lists numbers rest n each none states all =
-    subst (HaveLists of live lists) (sym (take_at numbers rest n all))
-    (record { each = each; states = states; none = none })
+    rw (take_at numbers rest n all) (record { each = each; states = states; none = none })
 
 -- and if those were made to name the first list
 pub emptied : (of live : List ℕ) (lists : List (List (ℕ × ℕ))) (old numbers rest : List ℕ) (n : ℕ) → 1 ≤ length lists
@@ -28,9 +27,8 @@ emptied of live lists old numbers rest n some empty same states all =
 
 -- blocks that are split by the numbers of lists are split by the lists, which are all different
 pub Splits-lists : (lists : List (List (ℕ × ℕ))) (numbers old : List ℕ) (count : ℕ) (new : List ℕ) (more : ℕ)
-    → AreLists lists → AreNumbers lists numbers
-    → length old ≡ length numbers → Splits old count (slice_index numbers) new more
-    → Splits old count (list_of lists numbers) new more
+    → AreLists lists → AreNumbers lists numbers → length old ≡ length numbers
+    → Splits old count (slice_index numbers) new more → Splits old count (list_of lists numbers) new more
 Splits-lists lists numbers old count new more are each size splits = record {
   states = splits.states;
   blocks = splits.blocks;
@@ -64,8 +62,7 @@ fits_still of of' (Sources e) size fits = fits ∙ sym size
 
 -- when blocks were split, the states have their lists still, and the index fits them
 pub split_fits : (lists : List (List (ℕ × ℕ))) (numbers ns : List ℕ) (p q : RoundBlocks) (watch : Watch)
-    → AreParted p ns q
-    → HaveLists p.of p.live lists numbers × FitsWatch p.of watch
+    → AreParted p ns q → HaveLists p.of p.live lists numbers × FitsWatch p.of watch
     → HaveLists q.of q.live lists numbers × FitsWatch q.of watch
 split_fits lists numbers ns p q watch split (have, fits) =
     let size = split.splits.states in (

@@ -1,5 +1,5 @@
 -- Two states have equal lists as their signatures exactly where they have the same signature.
-use Rattle.std.proofs.Common.{◌≡◌, ◌↔◌, ℕ, ◌<◌, List, length, slice_index, Contains, sym, subst}
+use Rattle.std.proofs.Common.{◌≡◌, ◌↔◌, ℕ, ◌<◌, List, length, slice_index, Contains, sym}
 use Rattle.std.specs.List.Sorted.{IsStrictlySortedBy}
 use Rattle.theory.specs.System.{Step}
 use Rattle.theory.specs.declared.relation.Relation.{Relation}
@@ -15,28 +15,24 @@ use Rattle.lists.proofs.CallerLemmas.{rising_unique}
 abbrev pub Labelled : Grouped → Type 0
 Labelled l = (s : ℕ) (a : List ℕ) (t : ℕ) → Step (system_of l) s a t → (k : ℕ) × IsNumber l.labels k a
 
-module _ (l : Grouped) (labelled : Labelled l) (blocks : ℕ → ℕ) where
-  -- and each label of a signature
-  label_number : (rel : Relation) (s : ℕ) (a : List ℕ) (b : ℕ) → Signature rel (system_of l) blocks s a b
-      → (k : ℕ) × IsNumber l.labels k a
-  label_number Strong s a b h = labelled s a h.0 h.1
-  label_number Branching s a b h = labelled h.0 a h.1 h.3
+-- and each label of a signature
+label_number : (l : Grouped) → Labelled l → (rel : Relation) (blocks : ℕ → ℕ) (s : ℕ) (a : List ℕ) (b : ℕ)
+    → Signature rel (system_of l) blocks s a b → (k : ℕ) × IsNumber l.labels k a
+label_number l labelled Strong blocks s a b h = labelled s a h.0 h.1
+label_number l labelled Branching blocks s a b h = labelled h.0 a h.1 h.3
 
 -- a list has the pairs of a signature, by label numbers, in rising order
 abbrev pub Signs : Relation → Grouped → (ℕ → ℕ) → ℕ → List (ℕ × ℕ) → Type 0
-Signs rel l blocks s xs = IsStrictlySortedBy pair_cmp xs
-    × ((k b : ℕ) → Contains xs (k, b)
+Signs rel l blocks s xs = IsStrictlySortedBy pair_cmp xs × ((k b : ℕ) → Contains xs (k, b)
     ↔ ((k < length l.labels) × Signature rel (system_of l) blocks s (text_of l.labels k) b))
 
 module _ (rel : Relation) (l : Grouped) (labelled : Labelled l) (blocks : ℕ → ℕ) where
   carried : (s t : ℕ) (xs ys : List (ℕ × ℕ)) → Signs rel l blocks s xs → Signs rel l blocks t ys → xs ≡ ys
       → (a : List ℕ) (b : ℕ) → Signature rel (system_of l) blocks s a b → Signature rel (system_of l) blocks t a b
   carried s t xs ys of_s of_t e a b h =
-      let number = label_number l labelled blocks rel s a b h in
-      let its = subst (λ x. Signature rel (system_of l) blocks s x b) (sym number.1.text) h in
-      let here = (of_s.1 number.0 b).1 (number.1.below, its) in
-      let there = (of_t.1 number.0 b).0 (subst (λ zs. Contains zs (number.0, b)) e here) in
-      subst (λ x. Signature rel (system_of l) blocks t x b) number.1.text there.1
+      let number = label_number l labelled rel blocks s a b h in
+      let here = (of_s.1 number.0 b).1 (number.1.below, rw number.1.text h) in
+      rw number.1.text at ((of_t.1 number.0 b).0 (rw e at here)).1
 
   -- so equal lists tell equal signatures
   pub equal_told : (s t : ℕ) (xs ys : List (ℕ × ℕ)) → Signs rel l blocks s xs → Signs rel l blocks t ys

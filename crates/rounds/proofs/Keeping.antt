@@ -1,30 +1,25 @@
 -- Lists that are kept from round to round: what is known of them, and what a round makes of them.
-use Rattle.std.proofs.Common.{◌≡◌, ◌⊎◌, ◌↔◌, ℕ, ◌<◌, List, length, slice_index, Contains, ap, sym, ◌∙◌, subst, subst₂}
-use Rattle.std.proofs.Common.{inl, inr, arith}
+use Rattle.std.proofs.Common.{◌≡◌, ◌⊎◌, ℕ, ◌<◌, List, length, slice_index, ap, sym, ◌∙◌, subst, inl, inr, arith}
 use Rattle.std.proofs.Math.Logic.{⊎_map}
 use Rattle.std.proofs.lemmas.List.{get_or_default}
-use Rattle.theory.specs.System.{Step}
 use Rattle.theory.specs.declared.relation.Relation.TheVariants.{Branching}
-use Rattle.theory.specs.Kept.{AreKept, IsShown}
+use Rattle.theory.specs.Kept.{IsShown}
 use Rattle.theory.proofs.CallerLemmas.{kept_anew}
-use Rattle.lts.specs.Labels.{text_of}
-use Rattle.lts.specs.Lts.{Grouped, Triple, label_of, target_of, row_of, system_of}
+use Rattle.lts.specs.Lts.{Grouped, system_of}
 use Rattle.lists.specs.Lists.{list_at, AreLists, AreNumbers, Grow}
 use Rattle.partition.specs.Blocks.{AreLive, IsOne, HaveNone, LeavesAlone}
 use Rattle.inert.specs.Signed.{IsSignature, AreSignedBeside, ShowsNew}
-use Rattle.rounds.specs.EachList.{Signed, list_of, IsAnew}
+use Rattle.rounds.specs.EachList.{Signed, IsAnew}
 use Rattle.rounds.specs.Living.{LeavesOut}
 use Rattle.rounds.specs.Kept.{Names, KeepsLists, SignsLists}
 use Rattle.rounds.specs.declared.signed_blocks.Watch.TheVariants.{Nothing}
 use Rattle.rounds.proofs.EqualLists.{Labelled}
-use Rattle.rounds.proofs.Living.{no_step}
+use Rattle.rounds.proofs.Living.{StepsAreRow, no_step}
 use Rattle.rounds.proofs.LookingBack.{names_signatures, kept_grows, kept_left, row_shows}
 
 -- where no list is known, the empty one is kept for each state
-module _ (l : Grouped) (labelled : Labelled l)
-    (steps : (s : ℕ) (a : List ℕ) (t : ℕ) → Step (system_of l) s a t ↔ ((e : Triple) × Contains (row_of s l.places) e
-    × (text_of l.labels (label_of e) ≡ a) × (target_of e ≡ t)))
-    (r : Signed) (size : length r.blocks.of ≡ l.states) (are : AreLists r.lists) (anew : IsAnew r) where
+module _ (l : Grouped) (labelled : Labelled l) (steps : (s : ℕ) → StepsAreRow l s) (r : Signed)
+    (size : length r.blocks.of ≡ l.states) (are : AreLists r.lists) (anew : IsAnew r) where
   zeros : slice_index r.kept ≡ (λ s. 0)
   zeros = λ i s. anew.empty s i
 
@@ -33,10 +28,7 @@ module _ (l : Grouped) (labelled : Labelled l)
     states = anew.states ∙ size;
     numbers = λ s d h. subst (λ x. x < length r.lists) (get_or_default r.kept s 0 d h)
         (omega (arith, anew.empty s, are.some));
-    known =
-        subst (AreKept (Names l r.lists) (system_of l) (slice_index r.blocks.of) (IsOne r.blocks.live)) (sym zeros)
-        (kept_anew (Names l r.lists) (system_of l) (names_signatures l labelled r.lists are) (slice_index r.blocks.of)
-        (IsOne r.blocks.live)
+    known = rw zeros (kept_anew (Names l r.lists) (system_of l) (names_signatures l labelled r.lists are) _ _
         (λ s h. ⊎_map (λ one. one) (⊎_map (λ alone t k e. alone t (omega (arith, k, size)) e)
         (λ empty. row_shows l (slice_index r.blocks.of) s (no_step l s (steps s) empty))) (others s h)));
   }
@@ -58,8 +50,7 @@ turned old new shown (inr (other, is)) = inr (λ e. other (sym e), is)
 
 -- the states that a round looks at were signed
 pub signs_lists : (l : Grouped) (p was r : Signed) (numbers : List ℕ) → r.numbers ≡ numbers → KeepsLists l was
-    → r.blocks ≡ was.blocks
-    → (p.watch ≡ Nothing → (s : ℕ) → slice_index was.kept s ≡ 0) → Grow was.lists r.lists
+    → r.blocks ≡ was.blocks → (p.watch ≡ Nothing → (s : ℕ) → slice_index was.kept s ≡ 0) → Grow was.lists r.lists
     → ((s : ℕ) → IsOne was.blocks.live s
     → IsSignature Branching l was.blocks.of s (list_at r.lists (slice_index r.kept s)))
     → ((s : ℕ) → IsOne was.blocks.live s
@@ -70,19 +61,14 @@ pub signs_lists : (l : Grouped) (p was r : Signed) (numbers : List ℕ) → r.nu
     → length was.blocks.of ≡ l.states → AreLive (length was.blocks.of) was.blocks.live → SignsLists l p r
 signs_lists l p was r numbers given keeps is anew grow signed changed still lists none size states live = record {
   was = was.kept;
-  before =
-      subst (λ b. AreKept (Names l r.lists) (system_of l) (slice_index b.of) (IsOne b.live) (slice_index was.kept))
-      (sym is)
-      (kept_grows l was.lists r.lists grow (slice_index was.blocks.of) (IsOne was.blocks.live)
+  before = rw is (kept_grows l was.lists r.lists grow (slice_index was.blocks.of) (IsOne was.blocks.live)
       (slice_index was.kept) keeps.known);
   anew = anew;
   signed = λ s one.
-      let here = subst (λ b. IsOne b.live s) is one in (
-        lists.1 s 0 (omega (arith, live.below here.0 here.1, here.2, states, lists.0)),
-        subst (λ b. IsSignature Branching l b.of s (list_of r.lists r.kept s)) (sym is) (signed s here),
-      );
-  others = λ s h. elim (still s) [ inl one ↦ inl (subst (λ b. IsOne b.live s) (sym is) one) | inr same ↦ inr same ];
-  shows = λ s h. subst (λ ns. IsShown (slice_index was.kept s) (slice_index r.kept s) (slice_index ns s)) (sym given)
+      let here = rw is at one in
+      (lists.1 s 0 (omega (arith, live.below here.0 here.1, here.2, states, lists.0)), rw is (signed s here));
+  others = rw is (λ s h. still s);
+  shows = λ s h. rw given
       (elim (still s) [
         | inl one ↦ turned _ _ _ (changed s one)
         | inr same ↦ elim (none s (omega (arith, h, size))) [
@@ -100,11 +86,7 @@ pub keeps_left : (l : Grouped) (p q : Signed) → length p.blocks.of ≡ l.state
     → KeepsLists l p → KeepsLists l q
 keeps_left l p q size lists kept is leaves keeps = record {
   states = ap length kept ∙ keeps.states;
-  numbers = subst₂ AreNumbers (sym lists) (sym kept) keeps.numbers;
-  known =
-      subst (λ b. AreKept (Names l q.lists) (system_of l) (slice_index b.of) (IsOne b.live) (slice_index q.kept))
-      (sym is)
-      (subst₂ (λ xs ks. AreKept (Names l xs) (system_of l) (slice_index p.blocks.of) (IsOne q.blocks.live)
-      (slice_index ks)) (sym lists) (sym kept)
-      (kept_left l p.lists p.blocks.of p.blocks.live q.blocks.live size leaves (slice_index p.kept) keeps.known));
+  numbers = rw (lists, kept) keeps.numbers;
+  known = rw (is, lists, kept)
+      (kept_left l p.lists p.blocks.of p.blocks.live q.blocks.live size leaves (slice_index p.kept) keeps.known);
 }

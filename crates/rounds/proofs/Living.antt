@@ -13,6 +13,16 @@ use Rattle.partition.specs.Splitting.{IsAlone}
 use Rattle.partition.specs.Blocks.{AreLive, IsOne, HaveNone, LeavesAlone}
 use Rattle.rounds.specs.Living.{LeavesOut}
 
+-- the steps from a state are the transitions of its row, as `lts` tells
+abbrev pub StepsAreRow : Grouped → ℕ → Type 0
+StepsAreRow l s = (a : List ℕ) (t : ℕ) → Step (system_of l) s a t ↔ ((e : Triple) × Contains (row_of s l.places) e
+    × (text_of l.labels (label_of e) ≡ a) × (target_of e ≡ t))
+
+-- states that share a block of `next` share one of `of`
+abbrev pub Parts : Grouped → List ℕ → List ℕ → Type 0
+Parts l of next = (s t : ℕ) → s < l.states → t < l.states → slice_index next s ≡ slice_index next t
+    → slice_index of s ≡ slice_index of t
+
 -- what is left out may be so still when more states are
 pub left_still : {R : Type 0} {of live left : List ℕ} → LeavesAlone of live left → (s : ℕ)
     → IsOne live s ⊎ IsAlone of s ⊎ R → IsOne left s ⊎ IsAlone of s ⊎ R
@@ -21,24 +31,19 @@ left_still leaves s (inr x) = inr x
 
 -- a state that is alone is so still when blocks are parted
 pub alone_next : (l : Grouped) (of next : List ℕ) → length of ≡ l.states → length next ≡ l.states
-    → ((s t : ℕ) → s < l.states → t < l.states → slice_index next s ≡ slice_index next t
-    → slice_index of s ≡ slice_index of t)
-    → (s : ℕ) → s < l.states → IsAlone of s → IsAlone next s
+    → Parts l of next → (s : ℕ) → s < l.states → IsAlone of s → IsAlone next s
 alone_next l of next size size' parted s h alone t lt same =
     alone t (omega (arith, lt, size, size')) (parted t s (omega (arith, lt, size')) h same)
 
 -- and what is left out is
 pub left_out_next : (l : Grouped) (of next live : List ℕ) → length of ≡ l.states → length next ≡ l.states
-    → ((s t : ℕ) → s < l.states → t < l.states → slice_index next s ≡ slice_index next t
-    → slice_index of s ≡ slice_index of t) → LeavesOut l of live → LeavesOut l next live
+    → Parts l of next → LeavesOut l of live → LeavesOut l next live
 left_out_next l of next live size size' parted others s h =
     ⊎_map (λ one. one) (⊎_map (alone_next l of next size size' parted s h) (λ empty. empty)) (others s h)
 
 -- no step is from a state whose row is empty
-pub no_step : (l : Grouped) (s : ℕ)
-    → ((a : List ℕ) (t : ℕ) → Step (system_of l) s a t ↔ ((e : Triple) × Contains (row_of s l.places) e
-    × (text_of l.labels (label_of e) ≡ a) × (target_of e ≡ t)))
-    → row_of s l.places ≡ [] → (a : List ℕ) (t : ℕ) → Step (system_of l) s a t → ⊥
+pub no_step : (l : Grouped) (s : ℕ) → StepsAreRow l s → row_of s l.places ≡ [] → (a : List ℕ) (t : ℕ)
+    → ¬ Step (system_of l) s a t
 no_step l s steps empty a t step =
     let found = (steps a t).0 step in
     let has = subst (λ xs. Contains xs found.0) empty found.1 in
@@ -53,8 +58,7 @@ module _ (lists lists' : List (List (ℕ × ℕ))) (numbers live : List ℕ) (st
       × P (slice_index live j) (list_at ls (slice_index ns (slice_index live j)))
 
   pub put_more : ((j : ℕ) → j < i → Put lists numbers j) → k < length lists' → P (slice_index live i) (list_at lists' k)
-      → (j : ℕ) → j < i + 1
-      → Put lists' (set numbers (slice_index live i) k) j
+      → (j : ℕ) → j < i + 1 → Put lists' (set numbers (slice_index live i) k) j
   put_more before within this =
       let same = get_or-set_same numbers (slice_index live i) k 0 (omega (arith, rises.below i more, size)) in
       below_more (Put lists' (set numbers (slice_index live i) k)) i (λ j low.

@@ -1,24 +1,23 @@
 -- Lists in memory name the signatures of states, and the index finds the states that a round has to look at.
-use Rattle.std.proofs.Common.{◌≡◌, ◌⊎◌, ◌↔◌, ℕ, ◌<◌, List, [], ◌∷◌, length, slice_index, slice_index_or, Contains, sym}
+use Rattle.std.proofs.Common.{◌≡◌, ◌⊎◌, ℕ, ◌<◌, List, [], ◌∷◌, length, slice_index, slice_index_or, Contains, sym}
 use Rattle.std.proofs.Common.{ap, subst, inl, inr, arith}
 use Rattle.std.specs.List.Sorted.{IsStrictlySortedBy}
 use Rattle.std.proofs.Math.Logic.{⊎_map}
 use Rattle.std.proofs.lemmas.List.Elements.{All-contains}
 use Rattle.theory.specs.System.{IsSystem, Step, Along, internal}
 use Rattle.theory.specs.declared.relation.Relation.TheVariants.{Branching}
-use Rattle.theory.specs.Blocks.{Inert, Signature, Split}
+use Rattle.theory.specs.Blocks.{Inert, Split}
 use Rattle.theory.specs.Untouched.{ShowsNoPair, LooksBack}
-use Rattle.theory.specs.Kept.{NamesSignatures, AreKept, IsShown, SignsFew}
+use Rattle.theory.specs.Kept.{NamesSignatures, AreKept, SignsFew}
 use Rattle.theory.proofs.CallerLemmas.{split_exactly, kept_next}
-use Rattle.lts.specs.Labels.{text_of}
-use Rattle.lts.specs.Lts.{Grouped, Triple, label_of, target_of, row_of, system_of}
+use Rattle.lts.specs.Lts.{Grouped, system_of}
 use Rattle.lists.specs.Lists.{AreLists, Grow, list_at, pair_cmp}
 use Rattle.partition.specs.Splitting.{IsAlone, Splits}
 use Rattle.partition.specs.Blocks.{RoundBlocks, IsOne, LeavesAlone}
-use Rattle.inert.specs.Signed.{IsSignature}
-use Rattle.rounds.specs.EachList.{list_of}
-use Rattle.rounds.specs.Kept.{Names}
+use Rattle.rounds.specs.EachList.{Signed, list_of}
+use Rattle.rounds.specs.Kept.{Names, SignsLists}
 use Rattle.rounds.specs.Index.{Entered, AreIndexedBack, LooksAtSources, LooksBackBy}
+use Rattle.rounds.proofs.Living.{StepsAreRow}
 use Rattle.rounds.proofs.EqualLists.{Labelled, equal_told}
 
 module _ (l : Grouped) (labelled : Labelled l) (lists : List (List (ℕ × ℕ))) (are : AreLists lists) where
@@ -28,11 +27,7 @@ module _ (l : Grouped) (labelled : Labelled l) (lists : List (List (ℕ × ℕ))
   names_empty : (blocks : ℕ → ℕ) (s : ℕ) → Names l lists blocks s 0 → ShowsNoPair (system_of l) blocks s
   names_empty blocks s named a b can =
       let number = labelled can.0 a can.1 can.3 in
-      nothing (number.0, b)
-      ((named.2 number.0 b).1 (
-        number.1.below,
-        subst (λ x. Signature Branching (system_of l) blocks s x b) (sym number.1.text) can,
-      ))
+      nothing (number.0, b) ((named.2 number.0 b).1 (number.1.below, rw number.1.text can))
 
   rises : IsStrictlySortedBy pair_cmp (list_at lists 0)
   rises = All-contains (IsStrictlySortedBy pair_cmp) lists (list_at lists 0) are.rise
@@ -45,25 +40,16 @@ module _ (l : Grouped) (labelled : Labelled l) (lists : List (List (ℕ × ℕ))
         (λ e. told.0 (ap (list_at lists) e), λ same. are.different j k h.0 g.0 (told.1 same));
     empty = λ blocks s. (
       names_empty blocks s,
-      λ shows. (
-        are.some,
-        rises,
-        λ j b. (λ c. absurd (nothing (j, b) c), λ h. absurd (shows (text_of l.labels j) b h.1)),
-      ),
+      λ shows. (are.some, rises, λ j b. (λ c. absurd (nothing (j, b) c), λ h. absurd (shows _ b h.1))),
     );
-    stays = λ old new s k keeps named. (
-      named.0,
-      named.1,
-      λ j b. (
-        λ c. let h = (named.2 j b).0 c in (h.0, (keeps (text_of l.labels j) b).0 h.1),
-        λ h. (named.2 j b).1 (h.0, (keeps (text_of l.labels j) b).1 h.1),
-      ),
+    stays = λ old new s k keeps is. (
+      is.0,
+      is.1,
+      λ j b. (λ c. let h = (is.2 j b).0 c in (h.0, (keeps _ b).0 h.1), λ h. (is.2 j b).1 (h.0, (keeps _ b).1 h.1)),
     );
   }
 
-module _ (l : Grouped)
-    (steps : (s : ℕ) (a : List ℕ) (t : ℕ) → Step (system_of l) s a t ↔ ((e : Triple) × Contains (row_of s l.places) e
-    × (text_of l.labels (label_of e) ≡ a) × (target_of e ≡ t)))
+module _ (l : Grouped) (steps : (s : ℕ) → StepsAreRow l s)
     (inside : (s : ℕ) (a : List ℕ) (t : ℕ) → Step (system_of l) s a t → (s < l.states) × (t < l.states))
     (q : RoundBlocks) (size : length q.of ≡ l.states) (e : Entered) (indexed : AreIndexedBack l q.of e)
     (sources : LooksAtSources e.sources q) (back : LooksBackBy indexed.inner q) where
@@ -98,45 +84,36 @@ module _ (l : Grouped)
   }
 
 -- one round: what is known of the states before it, what it signs and shows, and the blocks that it makes
-module _ (l : Grouped) (labelled : Labelled l) (lists : List (List (ℕ × ℕ))) (are : AreLists lists)
-    (sys : IsSystem (system_of l)) (p q : RoundBlocks)
-    (size : length p.of ≡ l.states) (kept now shown : List ℕ) (before : AreKept (Names l lists) (system_of l)
-    (slice_index p.of) (IsOne p.live) (slice_index kept))
-    (signed : (s : ℕ) → IsOne p.live s → (slice_index now s < length lists) × IsSignature Branching l p.of s
-    (list_of lists now s))
-    (others : (s : ℕ) → s < l.states → IsOne p.live s ⊎ (slice_index now s ≡ slice_index kept s))
-    (shows : (s : ℕ) → s < l.states → IsShown (slice_index kept s) (slice_index now s) (slice_index shown s))
-    (within : (s : ℕ) → s < l.states → slice_index shown s < length lists)
-    (splits : Splits p.of p.count (list_of lists shown) q.of q.count) where
-  one_round : SignsFew (Names l lists) (system_of l) (slice_index p.of) (IsOne p.live) (slice_index kept)
-      (slice_index now) (slice_index q.of)
+module _ (l : Grouped) (labelled : Labelled l) (sys : IsSystem (system_of l)) (was r : Signed) (q : RoundBlocks)
+    (are : AreLists r.lists) (size : length r.blocks.of ≡ l.states) (signs : SignsLists l was r)
+    (within : (s : ℕ) → s < l.states → slice_index r.numbers s < length r.lists)
+    (splits : Splits r.blocks.of r.blocks.count (list_of r.lists r.numbers) q.of q.count) where
+  one_round : SignsFew (Names l r.lists) (system_of l) (slice_index r.blocks.of) (IsOne r.blocks.live)
+      (slice_index signs.was) (slice_index r.kept) (slice_index q.of)
   one_round = record {
-    before = before;
-    signed = λ s h one. let is = signed s one in (is.0, is.1.rising, is.1.exactly);
-    others = others;
-    shown = slice_index shown;
-    shows = shows;
+    before = signs.before;
+    signed = λ s h one. let is = signs.signed s one in (is.0, is.1.rising, is.1.exactly);
+    others = signs.others;
+    shown = slice_index r.numbers;
+    shows = signs.shows;
     split = λ s t h k.
         let alike = splits.alike s t (omega (arith, h, size)) (omega (arith, k, size)) in (
           λ e. (
             (alike.0 e).0,
-            are.different (slice_index shown s) (slice_index shown t) (within s h) (within t k) (alike.0 e).1,
+            are.different (slice_index r.numbers s) (slice_index r.numbers t) (within s h) (within t k) (alike.0 e).1,
           ),
-          λ both. alike.1 (both.0, ap (list_at lists) both.1),
+          λ both. alike.1 (both.0, ap (list_at r.lists) both.1),
         );
   }
 
-  pub round_splits : Split Branching (system_of l) (slice_index p.of) (slice_index q.of)
+  pub round_splits : Split Branching (system_of l) (slice_index r.blocks.of) (slice_index q.of)
   round_splits =
-      split_exactly (Names l lists) (system_of l) (names_signatures l labelled lists are)
-      (slice_index p.of) (IsOne p.live)
-      (slice_index kept) (slice_index now) (slice_index q.of) one_round
+      split_exactly (Names l r.lists) (system_of l) (names_signatures l labelled r.lists are) _ _ _ _ _ one_round
 
-  pub round_keeps : q.low ≡ p.count → LooksBack (system_of l) (slice_index q.of) q.low (IsOne q.live)
-      → AreKept (Names l lists) (system_of l) (slice_index q.of) (IsOne q.live) (slice_index now)
+  pub round_keeps : q.low ≡ r.blocks.count → LooksBack (system_of l) (slice_index q.of) q.low (IsOne q.live)
+      → AreKept (Names l r.lists) (system_of l) (slice_index q.of) (IsOne q.live) (slice_index r.kept)
   round_keeps low =
-      kept_next (Names l lists) (system_of l) (names_signatures l labelled lists are) (slice_index p.of) (IsOne p.live)
-      (slice_index kept) (slice_index now) (slice_index q.of) one_round sys q.low
+      kept_next (Names l r.lists) (system_of l) (names_signatures l labelled r.lists are) _ _ _ _ _ one_round sys q.low
       (λ s h new. splits.stays s (omega (arith, h, size)) (omega (arith, new, low))) (IsOne q.live)
 
 -- what is kept stays so when lists are added
@@ -150,20 +127,12 @@ kept_grows l old new grow blocks live kept are = record {
 }
   where
     named_later : (s : ℕ) → Names l old blocks s (kept s) → Names l new blocks s (kept s)
-    named_later s named =
-        let same = sym (grow.same (kept s) named.0) in (
-          omega (arith, named.0, grow.longer),
-          subst (IsStrictlySortedBy pair_cmp) same named.1,
-          λ j b. (
-            λ c. (named.2 j b).0 (subst (λ xs. Contains xs (j, b)) (sym same) c),
-            λ has. subst (λ xs. Contains xs (j, b)) same ((named.2 j b).1 has),
-          ),
-        )
+    named_later s named = let is = grow.same (kept s) named.0 in
+        (omega (arith, named.0, grow.longer), rw is named.1, rw is named.2)
 
 -- what is kept stays so when states that are alone are left out
 pub kept_left : (l : Grouped) (lists : List (List (ℕ × ℕ))) (of old new : List ℕ) → length of ≡ l.states
-    → LeavesAlone of old new → (kept : ℕ → ℕ)
-    → AreKept (Names l lists) (system_of l) (slice_index of) (IsOne old) kept
+    → LeavesAlone of old new → (kept : ℕ → ℕ) → AreKept (Names l lists) (system_of l) (slice_index of) (IsOne old) kept
     → AreKept (Names l lists) (system_of l) (slice_index of) (IsOne new) kept
 kept_left l lists of old new size leaves kept are = record {
   alike = are.alike;

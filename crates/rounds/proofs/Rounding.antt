@@ -1,26 +1,21 @@
 -- A round: the states that it looks at were signed, the blocks split, and the next round looks at what was found.
 use Rattle.std.proofs.Common.{◌≡◌, ◌⊎◌, ◌↔◌, ℕ, ◌<◌, ◌≤◌, List, [], ◌∷◌, length, slice_index, slice_index_or, IfSome}
-use Rattle.std.proofs.Common.{Contains, ap, sym, ◌∙◌, subst, subst₂, refl, inl, inr, arith}
+use Rattle.std.proofs.Common.{Contains, ap, sym, ◌∙◌, subst, inl, inr, arith}
 use Rattle.std.proofs.Math.Logic.{⊎_map}
 use Rattle.std.proofs.lemmas.List.Elements.{All-contains}
 use Rattle.std.proofs.lemmas.Option.{IfSome_then}
-use Rattle.theory.specs.System.{Step}
 use Rattle.theory.specs.declared.relation.Relation.{Relation}
 use Rattle.theory.specs.declared.relation.Relation.TheVariants.{Strong, Branching}
 use Rattle.theory.specs.Blocks.{Split}
-use Rattle.theory.specs.Kept.{AreKept}
 use Rattle.theory.proofs.CallerLemmas.{step_below}
-use Rattle.lts.specs.Labels.{text_of}
-use Rattle.lts.specs.Lts.{Grouped, Triple, source_of, label_of, target_of, row_of, system_of, IsTriple, IsLts}
-use Rattle.lists.specs.Lists.{AreLists, AreNumbers}
-use Rattle.partition.specs.Splitting.{Splits}
-use Rattle.partition.specs.Sizes.{Halves}
+use Rattle.lts.specs.Lts.{Grouped, Triple, source_of, target_of, row_of, system_of, IsTriple, IsLts}
+use Rattle.lists.specs.Lists.{AreLists}
 use Rattle.partition.specs.Blocks.{RoundBlocks, IsOne, LeavesAlone, AreParted}
-use Rattle.partition.specs.Renumberings.{SplitsByHalves, WereHalved}
+use Rattle.partition.specs.Renumberings.{WereHalved}
 use Rattle.partition.proofs.CallerLemmas.{halved}
 use Rattle.rounds.specs.EachList.{Signed, HaveLists, list_of}
 use Rattle.rounds.specs.Settled.{Settled}
-use Rattle.rounds.specs.Kept.{Names, SignsLists}
+use Rattle.rounds.specs.Kept.{SignsLists}
 use Rattle.rounds.specs.Index.{Entered, AreFound, FindsBack, LooksAtSources, LooksBackBy}
 use Rattle.rounds.specs.Rounds.{IsNext, AreRounds}
 use Rattle.rounds.specs.Watching.{HasIndexed, HasKept, Watches, WatchesBy, SignsEach, IsSplitOf, LooksOn}
@@ -28,6 +23,7 @@ use Rattle.rounds.specs.declared.signed_blocks.Watch.{Watch}
 use Rattle.rounds.specs.declared.signed_blocks.Watch.TheVariants.{Nothing, Sources}
 use Rattle.rounds.proofs.EachList.{Splits-lists}
 use Rattle.rounds.proofs.EqualLists.{Labelled}
+use Rattle.rounds.proofs.Living.{StepsAreRow, Parts}
 use Rattle.rounds.proofs.Settling.{IsNext-from, all_told, told_is_split}
 use Rattle.rounds.proofs.Indexing.{indexed_left, strong_next, left_next, indexed_back_next}
 use Rattle.rounds.proofs.LookingBack.{looks_back, round_splits, round_keeps}
@@ -36,10 +32,8 @@ use Rattle.rounds.proofs.Keeping.{keeps_anew, keeps_left}
 module _ (l : Grouped) (lts : IsLts l) (labelled : Labelled l)
     (sources : (s : ℕ) (places : List Triple) (e : Triple) → Contains (row_of s places) e
     ↔ (Contains places e × (source_of e ≡ s)))
-    (steps : (s : ℕ) (a : List ℕ) (t : ℕ) → Step (system_of l) s a t ↔ ((e : Triple) × Contains (row_of s l.places) e
-    × (text_of l.labels (label_of e) ≡ a) × (target_of e ≡ t)))
-    (p r q : Signed) (are : AreLists r.lists) (have : HaveLists r.blocks.of r.blocks.live r.lists r.numbers)
-    (size : length r.blocks.of ≡ l.states)
+    (steps : (s : ℕ) → StepsAreRow l s) (p r q : Signed) (are : AreLists r.lists)
+    (have : HaveLists r.blocks.of r.blocks.live r.lists r.numbers) (size : length r.blocks.of ≡ l.states)
     (next : IsSplitOf r q) (are' : AreLists q.lists) where
   below : (s : ℕ) → s < l.states → (e : Triple) → Contains (row_of s l.places) e → target_of e < l.states
   below s h e c = (All-contains (IsTriple (length l.labels) l.states) l.places e lts.in_range.each
@@ -48,8 +42,7 @@ module _ (l : Grouped) (lts : IsLts l) (labelled : Labelled l)
   size' : length q.blocks.of ≡ l.states
   size' = next.splits.states ∙ size
 
-  parted : (s t : ℕ) → s < l.states → t < l.states → slice_index q.blocks.of s ≡ slice_index q.blocks.of t →
-      slice_index r.blocks.of s ≡ slice_index r.blocks.of t
+  parted : Parts l r.blocks.of q.blocks.of
   parted s t ls lt e = ((next.splits.alike s t (omega (arith, ls, size)) (omega (arith, lt, size))).0 e).0
 
   strong_split : Settled Strong (system_of l) (slice_index r.blocks.of) r.blocks.low
@@ -66,32 +59,23 @@ module _ (l : Grouped) (lts : IsLts l) (labelled : Labelled l)
 
   module _ (signed : SignsLists l p r) where
     back_split : Split Branching (system_of l) (slice_index r.blocks.of) (slice_index q.blocks.of)
-    back_split =
-        round_splits l labelled r.lists are lts.system r.blocks q.blocks size signed.was r.kept r.numbers signed.before
-        signed.signed signed.others signed.shows
-        within next.splits
+    back_split = round_splits l labelled lts.system p r q.blocks are size signed within next.splits
 
     back_next : (watch : Watch) → WatchesBy watch r q → HasIndexed watch Branching l r.blocks → Watches Branching l q
-    back_next Nothing by index =
-        left_next l steps r.blocks q.blocks size size' parted below Nothing Branching q refl by.0 by.1 index
+    back_next Nothing by index = left_next l steps r q size size' parted below Branching by index
     back_next (Sources e) by index =
-        let indexed = indexed_back_next l steps r.blocks q.blocks size size' parted below e index in
+        let indexed = indexed_back_next l steps r q size size' parted below e index in
         subst (λ w. HasIndexed w Branching l q.blocks × HasKept w Branching l q) (sym by.0) (
           indexed,
           elim by.1 [
             | inl on ↦
-                let back = subst (λ x. IfSome x (λ inner. LooksBackBy inner q.blocks)) indexed.apart on.back in
-                let looks = looks_back l steps (λ s a t step. step_below (system_of l) lts.system s a t step) q.blocks
-                size' e indexed on.sources back in
+                let looks = looks_back l steps (step_below (system_of l) lts.system) q.blocks size' e indexed on.sources
+                (rw indexed.apart at on.back) in
                 record {
                   states = ap length on.kept ∙ signed.states;
-                  numbers = subst₂ AreNumbers (sym on.lists) (sym on.kept) signed.numbers;
-                  known =
-                      subst₂ (λ xs ks. AreKept (Names l xs) (system_of l) (slice_index q.blocks.of)
-                      (IsOne q.blocks.live) (slice_index ks)) (sym on.lists) (sym on.kept)
-                      (round_keeps l labelled r.lists are lts.system r.blocks q.blocks size signed.was r.kept r.numbers
-                      signed.before signed.signed signed.others signed.shows
-                      within next.splits next.low looks);
+                  numbers = rw (on.lists, on.kept) signed.numbers;
+                  known = rw (on.lists, on.kept) (round_keeps l labelled lts.system p r q.blocks are size signed within
+                      next.splits next.low looks);
                 }
             | inr anew ↦
                 keeps_anew l labelled steps q size' are' anew.anew
@@ -100,12 +84,11 @@ module _ (l : Grouped) (lts : IsLts l) (labelled : Labelled l)
         )
 
   pub is_next : (rel : Relation) → Settled rel (system_of l) (slice_index r.blocks.of) r.blocks.low
-      → HasIndexed r.watch rel l r.blocks → SignsEach rel l p r
-      → IsNext rel l r.blocks q
+      → HasIndexed r.watch rel l r.blocks → SignsEach rel l p r → IsNext rel l r.blocks q
   is_next Strong settled index signed =
       IsNext-from Strong l lts.system r.blocks size (list_of r.lists r.numbers) q next.splits
       (strong_split settled index signed)
-      (strong_next l steps r.blocks q.blocks size size' parted below r.watch r q refl refl next.watches index)
+      (strong_next l steps r q size size' parted below r.watch next.watches index)
       next.halves next.low
   is_next Branching settled index signed =
       IsNext-from Branching l lts.system r.blocks size (list_of r.lists r.numbers) q next.splits (back_split signed)
@@ -114,17 +97,12 @@ module _ (l : Grouped) (lts : IsLts l) (labelled : Labelled l)
 -- at first there is no index, and the states are looked at that have a transition
 pub watches_first : (rel : Relation) (l : Grouped) (r : Signed) (live : List ℕ) → r.watch ≡ Nothing
     → r.blocks.live ≡ live → ((s : ℕ) → s < l.states → IsOne live s ⊎ (row_of s l.places ≡ [])) → Watches rel l r
-watches_first rel l r live nothing is rows =
-    subst (λ w. HasIndexed w rel l r.blocks × HasKept w rel l r) (sym nothing) (
-      λ s h. ⊎_map (subst (λ xs. IsOne xs s) (sym is)) inr (rows s h),
-      tt,
-    )
+watches_first rel l r live nothing is rows = rw nothing (λ s h. ⊎_map (λ one. rw is one) inr (rows s h), tt)
 
 -- fewer states are looked at, as those that are alone are left out
 pub watches_left : (rel : Relation) (l : Grouped) (p q : Signed) → length p.blocks.of ≡ l.states
-    → q ≡ record p { blocks = q.blocks; numbers = q.numbers }
-    → q.blocks ≡ record p.blocks { live = q.blocks.live } → LeavesAlone p.blocks.of p.blocks.live q.blocks.live
-    → Watches rel l p → Watches rel l q
+    → q ≡ record p { blocks = q.blocks; numbers = q.numbers } → q.blocks ≡ record p.blocks { live = q.blocks.live }
+    → LeavesAlone p.blocks.of p.blocks.live q.blocks.live → Watches rel l p → Watches rel l q
 watches_left rel l p q size same is leaves w =
     subst (λ watch. HasIndexed watch rel l q.blocks × HasKept watch rel l q) (sym (ap (λ r. r.watch) same))
     (indexed_left p.watch rel l p.blocks q.blocks is leaves w.0, left p.watch rel w.1)
@@ -140,12 +118,9 @@ pub split_of : (r p q : Signed) (ns live : List ℕ) (b : RoundBlocks) → r ≡
     → HaveLists r.blocks.of r.blocks.live r.lists r.numbers → ns ≡ r.numbers → AreParted r.blocks ns b
     → q.blocks ≡ record b { live = live } → WatchesBy r.watch r q → IsSplitOf p q
 split_of r p q ns live b is are have same split blocks watches =
-    let splits = subst (λ xs. Splits r.blocks.of r.blocks.count (slice_index xs) b.of b.count) same split.splits in
     subst (λ r. IsSplitOf r q) is (record {
-      splits =
-          subst (λ (x : RoundBlocks). Splits r.blocks.of r.blocks.count (list_of r.lists r.numbers) x.of x.count)
-          (sym blocks) (Splits-lists r.lists r.numbers _ _ _ _ are have.each (sym have.states) splits);
-      halves = subst (λ (x : RoundBlocks). Halves r.blocks.of r.blocks.count x.of) (sym blocks) split.halves;
+      splits = rw blocks (Splits-lists _ _ _ _ _ _ are have.each (sym have.states) (rw same at split.splits));
+      halves = rw blocks split.halves;
       low = ap (λ b. b.low) blocks ∙ split.low;
       watches = watches;
     })
@@ -170,14 +145,9 @@ looks_on e p q ns found b split is at back lists kept = record {
     ]
 
 -- a round more, from blocks that some rounds have left
-pub one_more : (rel : Relation) (l : Grouped) (p : RoundBlocks) (of : List ℕ) (past : List (List ℕ)) (q : Signed)
-    → p.of ≡ of → length of ≡ l.states
-    → IsNext rel l p q → AreRounds rel (system_of l) of past × WereHalved of past
-    → AreRounds rel (system_of l) q.blocks.of (of ∷ past) × WereHalved q.blocks.of (of ∷ past)
-one_more rel l p of past q is size next were =
-    let size' : length p.of ≡ l.states = ap length is ∙ size in
-    let split = subst (λ xs. Split rel (system_of l) (slice_index xs) (slice_index q.blocks.of)) is next.split in
-    let half : SplitsByHalves p.of q.blocks.of =
-    halved p.of q.blocks.of p.count (next.states ∙ sym size') (λ s h low. next.stays s (omega (arith, h, size'))
-    low) next.halves in
-    ((split, were.0), (subst (λ xs. SplitsByHalves xs q.blocks.of) is half, were.1))
+pub one_more : (rel : Relation) (l : Grouped) (p : RoundBlocks) (past : List (List ℕ)) (q : Signed)
+    → length p.of ≡ l.states → IsNext rel l p q → AreRounds rel (system_of l) p.of past → WereHalved p.of past
+    → AreRounds rel (system_of l) q.blocks.of (p.of ∷ past) × WereHalved q.blocks.of (p.of ∷ past)
+one_more rel l p past q size next were half =
+    let stays = λ (s : ℕ) (h : s < length p.of). next.stays s (omega (arith, h, size)) in
+    ((next.split, were), (halved p.of q.blocks.of p.count (next.states ∙ sym size) stays next.halves, half))

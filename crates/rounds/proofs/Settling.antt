@@ -1,76 +1,50 @@
 -- States that no new number can be seen from keep what they have in common.
-use Rattle.std.proofs.Common.{◌≡◌, ◌⊎◌, ◌↔◌, ◌∙◌, ℕ, ◌<◌, List, [], length, slice_index, Contains, ap, sym, subst, refl}
+use Rattle.std.proofs.Common.{◌≡◌, ◌⊎◌, ◌↔◌, ◌∙◌, ℕ, ◌<◌, List, [], length, slice_index, ap, sym, subst, refl}
 use Rattle.std.proofs.Common.{inl, inr, arith}
 use Rattle.theory.specs.System.{System, IsSystem, Step}
 use Rattle.theory.specs.declared.relation.Relation.{Relation}
 use Rattle.theory.specs.declared.relation.Relation.TheVariants.{Strong, Branching}
 use Rattle.theory.specs.Blocks.{Signature, SameSignature, SameBlocks, Split}
 use Rattle.theory.proofs.CallerLemmas.{step_below}
-use Rattle.lts.specs.Labels.{text_of}
-use Rattle.lts.specs.Lts.{Grouped, Triple, label_of, target_of, row_of, system_of}
+use Rattle.lts.specs.Lts.{Grouped, system_of}
 use Rattle.lists.specs.Lists.{list_at}
 use Rattle.partition.specs.Sizes.{Halves}
 use Rattle.partition.specs.Splitting.{IsAlone, Splits}
 use Rattle.partition.specs.Blocks.{RoundBlocks, IsOne, HaveNone}
-use Rattle.inert.specs.Signed.{HasPair, IsSignature}
+use Rattle.inert.specs.Signed.{IsSignature}
 use Rattle.rounds.specs.Rounds.{IsNext}
 use Rattle.rounds.specs.Settled.{IsTouched, IsStill, Settled, IsPut, ArePut}
 use Rattle.rounds.specs.EachList.{Signed, list_of}
 use Rattle.rounds.specs.Watching.{HasIndexed, Watches}
 use Rattle.rounds.specs.declared.signed_blocks.Watch.{Watch}
 use Rattle.rounds.specs.declared.signed_blocks.Watch.TheVariants.{Nothing, Sources}
-use Rattle.rounds.proofs.Living.{no_step}
+use Rattle.rounds.proofs.Living.{StepsAreRow, no_step}
 use Rattle.rounds.proofs.EqualLists.{Labelled, equal_lists}
 
 -- before the first round every number is new
 pub settled_first : (rel : Relation) (A : System) (blocks : ℕ → ℕ) → Settled rel A blocks 0
-settled_first Strong A blocks s t ls lt e of_s of_t a b = (
-  λ h. absurd (omega (arith, of_s a h.0 h.1)),
-  λ h. absurd (omega (arith, of_t a h.0 h.1)),
-)
+settled_first Strong A blocks s t ls lt e of_s of_t a b =
+    (λ h. absurd (omega (arith, of_s a h.0 h.1)), λ h. absurd (omega (arith, of_t a h.0 h.1)))
 settled_first Branching A blocks s t ls lt e of_s of_t a b = absurd of_s
 
 -- numbers below low are old ones
-abbrev pub Stays : System → (ℕ → ℕ) → (ℕ → ℕ) → ℕ → Type 0
-Stays A old new low = (s : ℕ) → s < A.states → new s < low → new s ≡ old s
-
-module _ (A : System) (old new : ℕ → ℕ) (low : ℕ)
-    (inside : (s : ℕ) (a : List ℕ) (t : ℕ) → Step A s a t → t < A.states) (stays : Stays A old new low) where
+module _ (A : System) (old new : ℕ → ℕ) (low : ℕ) (inside : (s : ℕ) (a : List ℕ) (t : ℕ) → Step A s a t → t < A.states)
+    (stays : (s : ℕ) → s < A.states → new s < low → new s ≡ old s) where
   -- what a still state shows now it has shown before, and the other way round
-  shown_before : (s : ℕ) → IsStill Strong A new low s → (a : List ℕ) (b : ℕ) → Signature Strong A new s a b →
-      Signature Strong A old s a b
-  shown_before s still a b h = (h.0, h.1, sym (stays h.0 (inside s a h.0 h.1) (still a h.0 h.1)) ∙ h.2)
-
-  shown_now : (s : ℕ) → IsStill Strong A new low s → (a : List ℕ) (b : ℕ) → Signature Strong A old s a b →
-      Signature Strong A new s a b
-  shown_now s still a b h = (h.0, h.1, stays h.0 (inside s a h.0 h.1) (still a h.0 h.1) ∙ h.2)
+  shown : (s : ℕ) → IsStill Strong A new low s → (a : List ℕ) (b : ℕ)
+      → Signature Strong A new s a b ↔ Signature Strong A old s a b
+  shown s still a b =
+      let same = λ (t : ℕ) (step : Step A s a t). stays t (inside s a t step) (still a t step) in
+      (λ h. (h.0, h.1, sym (same h.0 h.1) ∙ h.2), λ h. (h.0, h.1, same h.0 h.1 ∙ h.2))
 
   -- after each round the numbers from the count before it on are new
   pub settled_next : (rel : Relation) → Split rel A old new → Settled rel A new low
   settled_next Strong split s t ls lt e of_s of_t a b =
       let before = ((split s t ls lt).0 e).1 in (
-        λ h. shown_now t of_t a b ((before a b).0 (shown_before s of_s a b h)),
-        λ h. shown_now s of_s a b ((before a b).1 (shown_before t of_t a b h)),
+        λ h. (shown t of_t a b).1 ((before a b).0 ((shown s of_s a b).0 h)),
+        λ h. (shown s of_s a b).1 ((before a b).1 ((shown t of_t a b).0 h)),
       )
   settled_next Branching split s t ls lt e of_s of_t a b = absurd of_s
-
--- a touched state has another signature than a still one
-differs : (A : System) (blocks : ℕ → ℕ) (low s t : ℕ) → IsTouched Strong A blocks low s → IsStill Strong A blocks low t
-    → ¬ SameSignature Strong A blocks s t
-differs A blocks low s t touched still same =
-    let h = (same touched.0 (blocks touched.1)).0 (touched.1, touched.2, refl) in
-    absurd (omega (arith, still touched.0 h.0 h.1, h.2, touched.3))
-
--- and not an empty one
-not_empty : (l : Grouped) (labelled : Labelled l) (blocks : List ℕ) (low s : ℕ) (xs : List (ℕ × ℕ))
-    → IsTouched Strong (system_of l) (slice_index blocks) low s → IsSignature Strong l blocks s xs → ¬ (xs ≡ [])
-not_empty l labelled blocks low s xs touched signed e =
-    let number = labelled s touched.0 touched.1 touched.2 in
-    let pair : HasPair Strong l blocks s number.0 (slice_index blocks touched.1) =
-    (number.1.below, (touched.1, subst (λ a. Step (system_of l) s a touched.1) (sym number.1.text) touched.2, refl)) in
-    let c = subst (λ zs. Contains zs (number.0, slice_index blocks touched.1)) e
-    ((signed.exactly number.0 (slice_index blocks touched.1)).1 pair) in
-    absurd (omega (arith, c.1))
 
 -- the list that a state has tells its signature from those of the others of its block: it is put down for it, or no
 -- other state has the block
@@ -84,19 +58,21 @@ module _ (l : Grouped) (labelled : Labelled l) (p : List ℕ) (low : ℕ) (state
   abbrev Tells : ℕ → ℕ → Type 0
   Tells s t = (signature s ≡ signature t) ↔ SameSignature Strong (system_of l) (slice_index p) s t
 
-  -- one touched, and one still
+  -- one touched, so that its signature is not empty, and one still, which shows no new number
   mixed : (s t : ℕ) → IsTouched Strong (system_of l) (slice_index p) low s → IsSignature Strong l p s (signature s)
       → signature t ≡ [] → IsStill Strong (system_of l) (slice_index p) low t → Tells s t
   mixed s t touched signed e still = (
-    λ x. absurd (not_empty l labelled p low s (signature s) touched signed (x ∙ e)),
-    λ same. absurd (differs (system_of l) (slice_index p) low s t touched still same),
+    λ x. let number = labelled s touched.0 touched.1 touched.2 in
+        let c = rw (x ∙ e) at ((signed.exactly number.0 (slice_index p touched.1)).1
+        (number.1.below, (touched.1, rw number.1.text touched.2, refl))) in
+        absurd (omega (arith, c.1)),
+    λ same. let h = (same touched.0 (slice_index p touched.1)).0 (touched.1, touched.2, refl) in
+        absurd (omega (arith, still touched.0 h.0 h.1, h.2, touched.3)),
   )
 
   turned : (s t : ℕ) → Tells s t → Tells t s
-  turned s t h = (
-    λ e a b. let f = h.0 (sym e) a b in (f.1, f.0),
-    λ same. sym (h.1 (λ a b. let f = same a b in (f.1, f.0))),
-  )
+  turned s t h =
+      (λ e a b. let f = h.0 (sym e) a b in (f.1, f.0), λ same. sym (h.1 (λ a b. let f = same a b in (f.1, f.0))))
 
   -- of two states for which lists were put down
   both_put : (s t : ℕ) → s < l.states → t < l.states → slice_index p s ≡ slice_index p t
@@ -122,8 +98,7 @@ module _ (l : Grouped) (labelled : Labelled l) (p : List ℕ) (low : ℕ) (state
   ]
 
   -- and blocks that are parted by the lists are the Split
-  pub told_is_split : (q : List ℕ) →
-      ((s t : ℕ) → s < l.states → t < l.states →
+  pub told_is_split : (q : List ℕ) → ((s t : ℕ) → s < l.states → t < l.states →
       (slice_index q s ≡ slice_index q t) ↔ ((slice_index p s ≡ slice_index p t) × (signature s ≡ signature t)))
       → Split Strong (system_of l) (slice_index p) (slice_index q)
   told_is_split q parted s t ls lt = (
@@ -144,10 +119,7 @@ module _ (rel : Relation) (l : Grouped) (sys : IsSystem (system_of l)) (p : Roun
       stays s ls (omega (arith, low, e))
 
   same : r.blocks.count ≡ p.count → SameBlocks (system_of l) (slice_index p.of) (slice_index r.blocks.of)
-  same e s t ls lt = (
-    λ h. sym (kept e s ls) ∙ h ∙ kept e t lt,
-    λ h. kept e s ls ∙ h ∙ sym (kept e t lt),
-  )
+  same e s t ls lt = (λ h. sym (kept e s ls) ∙ h ∙ kept e t lt, λ h. kept e s ls ∙ h ∙ sym (kept e t lt))
 
   parted : ¬ (r.blocks.count ≡ p.count) → ¬ SameBlocks (system_of l) (slice_index p.of) (slice_index r.blocks.of)
   parted d alike =
@@ -164,9 +136,8 @@ module _ (rel : Relation) (l : Grouped) (sys : IsSystem (system_of l)) (p : Roun
 
 -- each list tells the signature of its state
 module _ (l : Grouped) (labelled : Labelled l) (p : RoundBlocks) (lists : List (List (ℕ × ℕ))) (numbers : List ℕ)
-    (steps : (s : ℕ) (a : List ℕ) (t : ℕ) → Step (system_of l) s a t ↔ ((e : Triple) × Contains (row_of s l.places) e
-    × (text_of l.labels (label_of e) ≡ a) × (target_of e ≡ t)))
-    (none : HaveNone p.live numbers) (size : length numbers ≡ l.states) (first : list_at lists 0 ≡ []) where
+    (steps : (s : ℕ) → StepsAreRow l s) (none : HaveNone p.live numbers)
+    (size : length numbers ≡ l.states) (first : list_at lists 0 ≡ []) where
   -- a state that is not looked at is alone, or still, and then has no other list than the empty one
   told : {R : ℕ → Type 0} → ((s : ℕ) → R s → IsStill Strong (system_of l) (slice_index p.of) p.low s)
       → ArePut Strong l p.of p.low p.live (list_of lists numbers) → (s : ℕ) → s < l.states

@@ -5,7 +5,6 @@ use Rattle.std.proofs.lemmas.Grind.{common_steps}
 use Rattle.std.proofs.lemmas.Bool.{cases_lt}
 use Rattle.std.proofs.lemmas.List.Elements.{All-contains}
 use Rattle.std.specs.List.Sorted.{IsStrictlySortedBy}
-use Rattle.theory.specs.System.{Step}
 use Rattle.theory.specs.declared.relation.Relation.TheVariants.{Strong}
 use Rattle.lts.specs.Labels.{text_of}
 use Rattle.lts.specs.Lts.{Grouped, Triple, source_of, label_of, target_of, place_at, row_of, system_of, IsTriple, IsLts}
@@ -13,24 +12,15 @@ use Rattle.lts.proofs.CallerLemmas.{contains_mapped, mapped_contains}
 use Rattle.lists.specs.Lists.{pair_cmp}
 use Rattle.inert.specs.Signed.{HasPair, IsSignature, pair_under}
 use Rattle.rounds.specs.Settled.{HasFrom, IsTouched, IsStill}
+use Rattle.rounds.proofs.Living.{StepsAreRow}
 
 module _ (l : Grouped) (blocks : List ℕ) (s : ℕ) (h : IsLts l)
     (sources : (e : Triple) → Contains (row_of s l.places) e ↔ (Contains l.places e × (source_of e ≡ s)))
-    (steps : (a : List ℕ) (t : ℕ)
-    → Step (system_of l) s a t ↔ ((e : Triple) × Contains (row_of s l.places) e × (text_of l.labels (label_of e) ≡ a)
-    × (target_of e ≡ t))) where
+    (steps : StepsAreRow l s) where
   in_range : (e : Triple) → Contains (row_of s l.places) e → IsTriple (length l.labels) l.states e
   in_range e c = All-contains (IsTriple (length l.labels) l.states) l.places e h.in_range.each ((sources e).0 c).0
 
-  -- a pair of a transition is one of the signature
-  has_pair : (e : Triple) → Contains (row_of s l.places) e →
-      HasPair Strong l blocks s (label_of e) (slice_index blocks (target_of e))
-  has_pair e c = (
-    (in_range e c).label,
-    (target_of e, (steps (text_of l.labels (label_of e)) (target_of e)).1 (e, c, refl, refl), refl),
-  )
-
-  -- and the other way round
+  -- a pair of the signature is one of a transition
   pair_has : (k b : ℕ) → HasPair Strong l blocks s k b → Contains (map (pair_under blocks) (row_of s l.places)) (k, b)
   pair_has k b has =
       let row = row_of s l.places in
@@ -40,10 +30,14 @@ module _ (l : Grouped) (blocks : List ℕ) (s : ℕ) (h : IsLts l)
       let is : pair_under blocks e ≡ (k, b) = λ i. (number i, (ap (slice_index blocks) found.3 ∙ has.1.2) i) in
       subst (Contains (map (pair_under blocks) row)) is (contains_mapped (pair_under blocks) row e found.1)
 
+  -- and the other way round
   has : (z : ℕ × ℕ) → Contains (map (pair_under blocks) (row_of s l.places)) z → HasPair Strong l blocks s z.0 z.1
   has z c =
       let (e, at, is) = mapped_contains (pair_under blocks) (row_of s l.places) z c in
-      subst (λ (z : ℕ × ℕ). HasPair Strong l blocks s z.0 z.1) is (has_pair e at)
+      subst (λ (z : ℕ × ℕ). HasPair Strong l blocks s z.0 z.1) is (
+        (in_range e at).label,
+        (target_of e, (steps (text_of l.labels (label_of e)) (target_of e)).1 (e, at, refl, refl), refl),
+      )
 
   -- the row's pairs in rising order, each once
   pub row_signature : (zs : List (ℕ × ℕ)) → IsStrictlySortedBy pair_cmp zs

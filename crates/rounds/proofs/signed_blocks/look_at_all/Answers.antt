@@ -5,8 +5,6 @@ use Rattle.rounds.proofs.signed_blocks.look_at_all.Goals as goal
 
 pub returns-clause-all : goal.returns-clause-all
 returns-clause-all c =
-    let live = c.in_ok-live.live.items in
-    let of = ap (λ r. r.blocks.of) c.round.view_is in
     let is = ap (λ r. r.blocks) c.next.view_is ∙ c.in_ok-next.ensures.blocks in
     subst (λ b. (s : _) → s < length b.of → IsOne b.live s ⊎ IsAlone b.of s) (sym is)
-    (subst (λ of. (s : _) → s < length of → IsOne live s ⊎ IsAlone of s) of c.in_ok-live.ensures.others)
+    (rw (ap (λ r. r.blocks.of) c.round.view_is) at c.in_ok-live.ensures.others)

@@ -1,9 +1,8 @@
-use Rattle.std.proofs.Common.{◌≡◌, ◌∙◌, ◌↔◌, Contains, sym, subst, inl, inr}
+use Rattle.std.proofs.Common.{◌≡◌, ◌∙◌, sym, subst, inl, inr}
 use Rattle.std.proofs.lemmas.Bool.{iff_false}
 use Rattle.theory.specs.declared.relation.Relation.TheVariants.{Strong}
 use Rattle.lists.specs.Lists.{list_at}
 use Rattle.inert.specs.Signed.{IsSignature}
-use Rattle.rounds.specs.Settled.{HasFrom}
 use Rattle.rounds.proofs.StrongRow.{row_signature, row_touched, row_still}
 use Rattle.rounds.proofs.strong.put.Goals as goal
 
@@ -12,9 +11,9 @@ returns-then-not-branch-clause-put g c =
     let l = c.args.under.now.l.now in
     let read = c.in_ok-read.ensures in
     inr (
-      row_still l c.args.under.now.of.now c.args.s c.known.ensures (c.rows_are_steps.ensures.sources c.args.s l.places)
-          (c.rows_are_steps.ensures.steps l c.args.s) c.args.under.now.low
-          (subst (λ xs. HasFrom c.args.under.now.low xs → ⊥) read.pairs (iff_false read.touched c.if-not-branch.true)),
+      row_still l _ _ c.known.ensures (c.rows_are_steps.ensures.sources c.args.s l.places)
+          (c.rows_are_steps.ensures.steps l c.args.s) _
+          (rw read.pairs at (iff_false read.touched c.if-not-branch.true)),
       c.known-2.ensures.first,
     )
 
@@ -23,14 +22,12 @@ returns-clause-put g c =
     let l = c.args.under.now.l.now in
     let read = c.in_ok-read.ensures in
     let pairs = c.order.new.pairs.items in
-    let touched =
-    row_touched l c.args.under.now.of.now c.args.s c.known.ensures (c.rows_are_steps.ensures.sources c.args.s l.places)
-    (c.rows_are_steps.ensures.steps l c.args.s) c.args.under.now.low
-    (subst (HasFrom c.args.under.now.low) read.pairs (read.touched.0 c.if-not-branch.false)) in
-    let signed =
-    row_signature l c.args.under.now.of.now c.args.s c.known.ensures
-    (c.rows_are_steps.ensures.sources c.args.s l.places)
-    (c.rows_are_steps.ensures.steps l c.args.s) pairs c.order.ensures.rising
-    (λ z. subst (λ xs. Contains pairs z ↔ Contains xs z) read.pairs (c.order.ensures.same z)) in
+    let sources = c.rows_are_steps.ensures.sources c.args.s l.places in
+    let steps = c.rows_are_steps.ensures.steps l c.args.s in
+    let of = c.args.under.now.of.now in
+    let touched = row_touched l of c.args.s c.known.ensures sources steps c.args.under.now.low
+    (rw read.pairs at (read.touched.0 c.if-not-branch.false)) in
+    let signed = row_signature l of c.args.s c.known.ensures sources steps pairs c.order.ensures.rising
+    (rw read.pairs at c.order.ensures.same) in
     let at : list_at c.push.new.self c.in_ok-list.list ≡ pairs = c.in_ok-list.ensures.list ∙ c.deref.ensures.value in
     inl (touched, subst (IsSignature Strong l c.args.under.now.of.now c.args.s) (sym at) signed)

@@ -40,8 +40,7 @@ loop-k-preserved g c =
     record {
       begun = omega (arith, i.begun);
       by_two = (i.by_two.0 - 1, omega (arith, i.by_two.1, c.loop-k-test.true));
-      room =
-          omega (arith, i.room, c.collect-touched-in-loop-k.ensures.room, c.collect-touched-in-loop-k-2.ensures.room);
+      room = omega (arith, i.room);
       pairs = pairs_more of places c.args.s _ (k + 1) (k + 2) (row (k + 1) (omega (arith, i.begun)) more) (omega arith)
           c.edge-second.ensures.label c.edge-second.ensures.target first c.collect-touched-in-loop-k-2.ensures.pairs;
       touched = c.collect-touched-in-loop-k-2.ensures.touched;

@@ -1,12 +1,8 @@
-use Rattle.std.proofs.Common.{◌+◌, ◌<◌, length, slice_index, ap, arith}
+use Rattle.std.proofs.Common.{◌+◌, ◌<◌, length, slice_index, arith}
 use Rattle.theory.specs.declared.relation.Relation.TheVariants.{Strong}
 use Rattle.rounds.specs.Settled.{IsPut}
-use Rattle.std.proofs.lemmas.Grind.{common_steps}
 use Rattle.rounds.proofs.Living.{put_more, each_put, all_numbers, none_more}
 use Rattle.rounds.proofs.strong.sign_live.Goals as goal
-
-pub loop-i-init : goal.loop-i-init
-loop-i-init g c = grind (arith, common_steps, ap length c.requires.lists)
 
 pub loop-i-preserved : goal.loop-i-preserved
 loop-i-preserved g c =

@@ -1,9 +1,7 @@
 use Rattle.std.proofs.Common.{◌≡◌, ◌∙◌, length, slice_index, ap, sym, subst, refl, arith}
 use Rattle.std.proofs.lemmas.List.{take_at}
-use Rattle.theory.specs.declared.relation.Relation.TheVariants.{Branching}
-use Rattle.partition.specs.Blocks.{AreLive, HaveNone}
+use Rattle.partition.specs.Blocks.{AreLive}
 use Rattle.rounds.specs.Kept.{KeepsLists}
-use Rattle.rounds.specs.Watching.{HasIndexed}
 use Rattle.rounds.proofs.EachList.{written_back}
 use Rattle.rounds.proofs.Keeping.{kept_beside, signs_lists}
 use Rattle.rounds.proofs.branching.BranchingSigning.sign_each.Goals as goal
@@ -12,27 +10,11 @@ pub sign_each-requires-clause-kept : goal.sign_each-requires-clause-kept
 sign_each-requires-clause-kept g c =
     kept_beside c.args.l.now _ (subst (KeepsLists c.args.l.now) (sym c.round.view_is) c.in_ok-round.ensures.keeps)
 
-pub sign_each-requires-clause-lists : goal.sign_each-requires-clause-lists
-sign_each-requires-clause-lists g c =
-    let keeps = subst (KeepsLists c.args.l.now) (sym c.round.view_is) c.in_ok-round.ensures.keeps in
-    (keeps.states, keeps.numbers)
-
-pub sign_each-requires-clause-numbers : goal.sign_each-requires-clause-numbers
-sign_each-requires-clause-numbers g c =
-    let value = c.deref_mut.ensures.value in
-    let states = ap (λ r. length r.blocks.of) c.round.view_is ∙ ap (λ b. length b.of) c.in_ok-round.ensures.blocks
-    ∙ c.requires.states in (
-      ap length value ∙ c.round.invariant.0.states ∙ states,
-      subst (HaveNone c.round.inside.blocks.live) (sym value) c.round.invariant.0.none,
-    )
-
 pub invariant_of-round : goal.invariant_of-round
 invariant_of-round g c =
     let old = c.round.inside.blocks in (
       written_back old.of old.live c.sign_each.new.lists c.sign_each.new.numbers _ _ c.in_ok-sign_each.ensures.numbers
-          c.sign_each.ensures.others
-          (omega (arith, c.sign_each.auto.numbers, c.deref_mut.ensures.len, c.round.invariant.0.states))
-          (omega (arith, c.sign_each.auto.numbers, c.deref_mut.ensures.len)),
+          c.sign_each.ensures.others (omega (arith, c.round.invariant.0.states)) (omega arith),
       c.round.invariant.1,
     )
 
@@ -49,9 +31,5 @@ returns-clause-signed g c =
     (subst (KeepsLists l) at begun.keeps) refl
     (λ nothing s. subst (λ r. slice_index r.kept s ≡ 0) at (begun.anew nothing s))
     done.grow done.signed done.changed done.still done.lists c.sign_each.ensures.others
-    (omega (arith, c.sign_each.auto.numbers, c.deref_mut.ensures.len, c.round.invariant.0.states, states)) states
+    (omega (arith, c.round.invariant.0.states)) states
     (subst (λ r. AreLive (length r.blocks.of) r.blocks.live) at c.known.ensures.live)
-
-pub returns-clause-index : goal.returns-clause-index
-returns-clause-index g c =
-    subst (λ r. HasIndexed r.watch Branching c.args.l.now r.blocks) (sym c.round.view_is) c.in_ok-round.ensures.index

@@ -1,4 +1,4 @@
-use Rattle.std.proofs.Common.{◌∙◌, ◌≤◌, length, ap, sym, subst₂, arith}
+use Rattle.std.proofs.Common.{◌∙◌, length, ap, sym, subst₂, arith}
 use Rattle.partition.specs.Blocks.{HaveNone}
 use Rattle.rounds.proofs.EachList.{emptied}
 use Rattle.rounds.proofs.signed_blocks.SignedBlocks.anew.Goals as goal
@@ -9,10 +9,9 @@ forget-requires-clause-none c =
 
 pub invariant_of-self : goal.invariant_of-self
 invariant_of-self c =
-    let some : 1 ≤ length c.clear.new.self = omega (arith, ap length c.clear.ensures) in
     let done = c.forget.ensures in
     let size = ap length c.deref_mut.ensures.value ∙ c.self.invariant.0.states in (
-      emptied c.self.inside.blocks.of c.self.inside.blocks.live c.clear.new.self _ _ _ _ some done.empty done.states
-          size (omega (arith, done.states, c.deref_mut.ensures.len)),
+      emptied c.self.inside.blocks.of c.self.inside.blocks.live c.clear.new.self _ _ _ _
+          (omega (arith, ap length c.clear.ensures)) done.empty done.states size (omega (arith, done.states)),
       c.self.invariant.1,
     )

@@ -1,4 +1,4 @@
-use Rattle.std.proofs.Common.{◌∙◌, ◌≤◌, length, ap, sym, subst₂, arith}
+use Rattle.std.proofs.Common.{◌∙◌, length, ap, sym, subst₂, arith}
 use Rattle.partition.specs.Blocks.{HaveNone}
 use Rattle.rounds.proofs.EachList.{emptied}
 use Rattle.rounds.proofs.signed_blocks.SignedBlocks.begin_index.Goals as goal
@@ -9,15 +9,12 @@ forget-requires-clause-none g c =
 
 pub invariant_of-result : goal.invariant_of-result
 invariant_of-result g c =
-    let r = c.self.inside in
     let q = c.in_ok-blocks.blocks in
-    let lists = c.in_ok-self-inside.field-0 in
     let done = c.forget.ensures in
-    let some : 1 ≤ length lists = omega (arith, ap length c.in_ok-self-inside.ensures) in
     let of = ap (λ b. length b.of) c.in_ok-blocks.ensures in
     let size = ap length c.deref_mut.ensures.value ∙ c.self.invariant.0.states ∙ sym of in (
-      emptied q.of q.live lists _ _ _ _ some done.empty done.states size
-          (omega (arith, done.states, c.deref_mut.ensures.len)),
+      emptied q.of q.live c.in_ok-self-inside.field-0 _ _ _ _ (omega (arith, ap length c.in_ok-self-inside.ensures))
+          done.empty done.states size (omega (arith, done.states, c.deref_mut.ensures.len)),
       c.in_ok-entering.ensures.size ∙ sym c.requires.states ∙ ap (λ r. length r.blocks.of) (sym c.self.view_is)
           ∙ sym of,
     )

@@ -1,6 +1,5 @@
 use Rattle.std.proofs.Common.{◌∙◌, length, ap, sym, subst, subst₂, arith}
 use Rattle.std.proofs.lemmas.List.{take_at}
-use Rattle.partition.specs.Blocks.{AreOrNone}
 use Rattle.rounds.specs.EachList.{HaveLists, FitsWatch}
 use Rattle.rounds.proofs.EachList.{lists_left}
 use Rattle.rounds.proofs.signed_blocks.SignedBlocks.renew.Goals as goal
@@ -11,10 +10,8 @@ invariant_of-result c =
     let numbers = c.renew.new.numbers in
     let items = take_at numbers _ _ (omega (arith, c.renew.auto.numbers, c.deref_mut.ensures.len)) in
     let was = c.deref_mut.ensures.value in
-    let left =
-    lists_left c.known.ensures.some c.self.invariant.0 (c.renew.auto.numbers ∙ ap length was)
-    (subst (λ ns. AreOrNone ns numbers) was c.renew.ensures.numbers)
-    c.in_ok-blocks.ensures.none in
+    let left = lists_left c.known.ensures.some c.self.invariant.0 (c.renew.auto.numbers ∙ ap length was)
+    (rw was at c.renew.ensures.numbers) c.in_ok-blocks.ensures.none in
     let of = sym (ap (λ b. b.of) c.in_ok-blocks.ensures.same) in (
       subst₂ (λ of ns. HaveLists of blocks.live c.self.inside.lists ns) of (sym items) left,
       subst (λ of. FitsWatch of c.self.inside.watch) of c.self.invariant.1,

@@ -1,33 +1,20 @@
-use Rattle.std.proofs.Common.{◌∙◌, length, ap, sym, subst, subst₂, arith}
+use Rattle.std.proofs.Common.{rules, sym, subst, subst₂, arith}
 use Rattle.std.proofs.lemmas.List.{take_at}
 use Rattle.theory.specs.declared.relation.Relation.TheVariants.{Strong}
-use Rattle.partition.specs.Blocks.{AreLive, HaveNone}
+use Rattle.partition.specs.Blocks.{HaveNone}
 use Rattle.rounds.specs.EachList.{list_of}
-use Rattle.rounds.specs.Settled.{IsPut, ArePut}
+use Rattle.rounds.specs.Settled.{IsPut}
 use Rattle.rounds.specs.Watching.{HasIndexed}
 use Rattle.rounds.proofs.EachList.{written_back}
 use Rattle.rounds.proofs.Indexing.{begun_strong}
 use Rattle.rounds.proofs.strong.StrongSigning.sign_each.Goals as goal
 
-pub sign_live-requires-clause-under : goal.sign_live-requires-clause-under
-sign_live-requires-clause-under g c =
-    let begun = begun_strong c.args.l.now (c.rows_are_steps.ensures.steps c.args.l.now) c.args.round c.in_ok-round.round
-    c.in_ok-round.ensures c.requires.watches.0 in
-    let states = ap (λ r. length r.blocks.of) c.round.view_is ∙ ap (λ b. length b.of) begun.0 ∙ c.requires.states in
-    record {
-      states = ap length c.of.ensures.of ∙ states;
-      rising = subst₂ AreLive states (sym c.live.ensures.live) c.live.ensures.rising;
-    }
-
 pub sign_live-requires-clause-numbers : goal.sign_live-requires-clause-numbers
 sign_live-requires-clause-numbers g c =
     let begun = begun_strong c.args.l.now (c.rows_are_steps.ensures.steps c.args.l.now) c.args.round c.in_ok-round.round
     c.in_ok-round.ensures c.requires.watches.0 in
-    let value = c.deref_mut.ensures.value in (
-      ap length value ∙ c.round.invariant.0.states ∙ ap (λ r. length r.blocks.of) c.round.view_is
-          ∙ ap (λ b. length b.of) begun.0 ∙ c.requires.states,
-      subst₂ HaveNone (sym c.live.ensures.live) (sym value) c.round.invariant.0.none,
-    )
+    let value = c.deref_mut.ensures.value in
+    (search (rules, begun), subst₂ HaveNone (sym c.live.ensures.live) (sym value) c.round.invariant.0.none)
 
 pub invariant_of-round : goal.invariant_of-round
 invariant_of-round g c =
@@ -35,35 +22,18 @@ invariant_of-round g c =
     let done = c.in_ok-sign_live.ensures.numbers in (
       written_back old.of old.live c.sign_live.new.lists c.sign_live.new.numbers _ _ done.0
           (subst (λ live. HaveNone live c.sign_live.new.numbers) c.live.ensures.live done.1)
-          (omega (arith, c.sign_live.auto.numbers, c.deref_mut.ensures.len, c.round.invariant.0.states))
-          (omega (arith, c.sign_live.auto.numbers, c.deref_mut.ensures.len)),
+          (omega (arith, c.round.invariant.0.states)) (omega arith),
       c.round.invariant.1,
     )
-
-pub returns-clause-blocks : goal.returns-clause-blocks
-returns-clause-blocks g c =
-    ap (λ r. r.blocks) c.round.view_is
-    ∙ (begun_strong c.args.l.now (c.rows_are_steps.ensures.steps c.args.l.now) c.args.round c.in_ok-round.round
-    c.in_ok-round.ensures c.requires.watches.0).0
 
 pub returns-clause-signed : goal.returns-clause-signed
 returns-clause-signed g c s one =
     let old = c.round.inside.blocks in
-    let items =
-    take_at c.sign_live.new.numbers _ _ (omega (arith, c.sign_live.auto.numbers, c.deref_mut.ensures.len)) in
-    let put =
-    subst (λ live. ArePut Strong c.args.l.now old.of old.low live
-    (list_of c.sign_live.new.lists c.sign_live.new.numbers)) c.live.ensures.live
-    (subst (λ low. ArePut Strong c.args.l.now old.of low c.live.result.now
-    (list_of c.sign_live.new.lists c.sign_live.new.numbers)) c.low.ensures
-    (subst (λ of. ArePut Strong c.args.l.now of c.low.result c.live.result.now
-    (list_of c.sign_live.new.lists c.sign_live.new.numbers)) c.of.ensures.of
-    c.in_ok-sign_live.ensures.signed)) in
     subst (λ ns. IsPut Strong c.args.l.now old.of old.low s (list_of c.sign_live.new.lists ns s))
-    (sym items) (put s one)
+    (sym (take_at c.sign_live.new.numbers _ _ (omega (arith, c.sign_live.auto.numbers, c.deref_mut.ensures.len))))
+    ((rw (c.of.ensures.of, c.low.ensures, c.live.ensures.live) at c.in_ok-sign_live.ensures.signed) s one)
 
 pub returns-clause-index : goal.returns-clause-index
-returns-clause-index g c =
-    subst (λ r. HasIndexed r.watch Strong c.args.l.now r.blocks) (sym c.round.view_is)
+returns-clause-index g c = subst (λ r. HasIndexed r.watch Strong c.args.l.now r.blocks) (sym c.round.view_is)
     (begun_strong c.args.l.now (c.rows_are_steps.ensures.steps c.args.l.now) c.args.round c.in_ok-round.round
     c.in_ok-round.ensures c.requires.watches.0).1
