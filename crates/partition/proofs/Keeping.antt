@@ -1,10 +1,11 @@
 -- For each block that has voted the number of a list that one of its states has.
 use Rattle.std.proofs.Common.{◌≡◌, ◌∙◌, ◌⊎◌, ℕ, ◌+◌, ◌<◌, List, length, slice_index, set, ap, sym, refl, inl, inr}
 use Rattle.std.proofs.Common.{arith}
-use Rattle.std.proofs.lemmas.Bool.{cases_lt, cases_eq}
+use Rattle.std.proofs.lemmas.Bool.{cases_eq}
 use Rattle.std.proofs.lemmas.List.{get_or-set_same, get_or-set_other}
 use Rattle.partition.specs.Blocks.{AreLive}
 use Rattle.partition.specs.Representatives.{HasKeeper, HaveVoted}
+use Rattle.partition.proofs.Living.{earlier}
 
 -- t is one of the first i states that are looked at
 abbrev pub IsBefore : List ℕ → ℕ → ℕ → Type 0
@@ -20,7 +21,7 @@ pub record KeptUpTo (old numbers live : List ℕ) (i : ℕ) (keepers votes : Lis
       HasKeeper old numbers keepers t
   pub met : (b : ℕ) → (slice_index votes b ≡ 0) ⊎ IsMet old live i b
 
-module _ (old numbers live : List ℕ) (i : ℕ) (keepers votes : List ℕ) (inside : slice_index live i < length old)
+module _ {old numbers live : List ℕ} {i : ℕ} {keepers votes : List ℕ} (inside : slice_index live i < length old)
     (up : KeptUpTo old numbers live i keepers votes) where
   abbrev s : ℕ
   s = slice_index live i
@@ -28,25 +29,16 @@ module _ (old numbers live : List ℕ) (i : ℕ) (keepers votes : List ℕ) (ins
   abbrev b : ℕ
   b = slice_index old s
 
-  -- a state before the next one, or that one
-  earlier : (t : ℕ) → IsBefore live (i + 1) t → IsBefore live i t ⊎ (t ≡ s)
-  earlier t h = elim (cases_lt h.0 i) [
-    | inl low ↦ inl (h.0, low, h.2)
-    | inr last ↦ let here : h.0 ≡ i = omega (arith, h.1, last) in inr (sym h.2 ∙ ap (slice_index live) here)
-  ]
-
-  -- the votes of another block are as they were
-  others : (v t : ℕ) → ¬ (slice_index old t ≡ b) → slice_index (set votes b v) (slice_index old t)
-      ≡ slice_index votes (slice_index old t)
-  others v t d = get_or-set_other votes b (slice_index old t) v 0 d
-
   -- a state of another block was before the next one, or its block had votes
   before : (v t : ℕ) → ¬ (slice_index old t ≡ b)
       → IsBefore live (i + 1) t ⊎ (0 < slice_index (set votes b v) (slice_index old t))
       → IsBefore live i t ⊎ (0 < slice_index votes (slice_index old t))
   before v t d h = elim h [
-    | inl low ↦ elim (earlier t low) [ inl less ↦ inl less | inr here ↦ absurd (d (ap (slice_index old) here)) ]
-    | inr m ↦ inr (rw (sym (others v t d)) m)
+    | inl (j, low, at) ↦ elim (earlier i j low) [
+      | inl less ↦ inl (j, less, at)
+      | inr here ↦ absurd (d (ap (slice_index old) (sym at ∙ ap (slice_index live) here)))
+    ]
+    | inr m ↦ inr (rw (sym (get_or-set_other votes b (slice_index old t) v 0 d)) m)
   ]
 
   -- only blocks that were met have votes
@@ -72,37 +64,25 @@ module _ (old numbers live : List ℕ) (i : ℕ) (keepers votes : List ℕ) (ins
   abbrev keepers' : List ℕ
   keepers' = set keepers b (slice_index numbers s)
 
-  keeps-now : b < length keepers → (v t : ℕ) → t < length old
-      → IsBefore live (i + 1) t ⊎ (0 < slice_index (set votes b v) (slice_index old t))
-      → HasKeeper old numbers keepers' t
-  keeps-now room v t ht h = elim (cases_eq (slice_index old t) b) [
-    | inl e ↦ (s, inside, sym e, sym (get_or-set_same keepers b (slice_index numbers s) 0 room))
-    | inr d ↦ let g = up.keeps t ht (before v t d h) in (
-      g.0,
-      g.1,
-      g.2,
-      g.3 ∙ sym (get_or-set_other keepers b (slice_index old g.0) (slice_index numbers s) 0 (λ e. d (sym g.2 ∙ e))),
-    )
-  ]
-
   -- the list of the state stands for its block from now on
   pub kept_new : b < length keepers → (v : ℕ) → KeptUpTo old numbers live (i + 1) keepers' (set votes b v)
-  kept_new room v = record { keeps = keeps-now room v; met = met_more v }
+  kept_new room v = record {
+    keeps = λ t ht h. elim (cases_eq (slice_index old t) b) [
+      | inl e ↦ (s, inside, sym e, sym (get_or-set_same keepers b (slice_index numbers s) 0 room))
+      | inr d ↦ let (u, hu, at, is) = up.keeps t ht (before v t d h) in
+          let same = get_or-set_other keepers b (slice_index old u) (slice_index numbers s) 0 (λ e. d (sym at ∙ e)) in
+          (u, hu, at, is ∙ sym same)
+    ];
+    met = met_more v;
+  }
 
 -- before any state has voted
 pub KeptUpTo-none : (old numbers live keepers votes : List ℕ) → ((b : ℕ) → slice_index votes b ≡ 0)
     → KeptUpTo old numbers live 0 keepers votes
-KeptUpTo-none old numbers live keepers votes none = record {
-  keeps = λ t h x. elim x [
-    | inl y ↦ absurd (omega (arith, y.1))
-    | inr some ↦ absurd (omega (arith, some, none (slice_index old t)))
-  ];
-  met = λ b. inl (none b);
-}
+KeptUpTo-none old numbers live keepers votes none = grind (arith, none)
 
 -- when all have
 pub voted_all : (old numbers live keepers votes : List ℕ) → AreLive (length old) live
-    → KeptUpTo old numbers live (length live) keepers votes
-    → HaveVoted old numbers live keepers votes
+    → KeptUpTo old numbers live (length live) keepers votes → HaveVoted old numbers live keepers votes
 voted_all old numbers live keepers votes rises up =
     record { kept = λ j h. up.keeps (slice_index live j) (rises.below j h) (inl (j, h, refl)); met = up.met }

@@ -2,17 +2,18 @@
 use Rattle.std.proofs.Common.{◌≡◌, ◌∙◌, ℕ, ◌+◌, ◌-◌, ◌<◌, ◌≤◌, List, ◌++◌, length, slice_index, set, take, replicate}
 use Rattle.std.proofs.Common.{ap, sym, refl, inl, inr, arith}
 use Rattle.std.proofs.lemmas.Bool.{cases_eq, cases_lt}
-use Rattle.std.proofs.lemmas.List.{length-set, length-replicate, take_all, ext_get_or, get_or_past, get_or_append_left}
-use Rattle.std.proofs.lemmas.List.{get_or-append_right, get_or-replicate, get_or-set_same, get_or-set_other}
+use Rattle.std.proofs.lemmas.Grind.{common_steps}
+use Rattle.std.proofs.lemmas.List.{length-set, take_all, ext_get_or, get_or_past, get_or_append_left}
+use Rattle.std.proofs.lemmas.List.{get_or-append_right, get_or-set_same, get_or-set_other}
 use Rattle.partition.specs.Partition.{AreBlocks}
 use Rattle.partition.specs.Sizes.{AreSizes, AreSizesWithout, block_size}
 use Rattle.partition.specs.Blocks.{AreLive, StayBeside}
 use Rattle.partition.proofs.Counting.{one, one_other, more, more_at, block_size-le, block_size-set, block_size-find}
+use Rattle.partition.proofs.Counting.{zero_at}
 
 -- the blocks of the other states are as they were
 pub without_old : (old new live sizes : List ℕ) → length new ≡ length old → StayBeside live old new
-    → AreSizesWithout old live 0 (length live) sizes
-    → AreSizesWithout new live 0 (length live) sizes
+    → AreSizesWithout old live 0 (length live) sizes → AreSizesWithout new live 0 (length live) sizes
 without_old old new live sizes states beside without =
     let out = without.1 in (
       without.0,
@@ -27,39 +28,26 @@ without_old old new live sizes states beside without =
       },
     )
 
--- each of n zeros is 0, and what is past them too
-pub zero_at : (n b : ℕ) → slice_index (replicate n 0) b ≡ 0
-zero_at n b = elim (cases_lt b n) [
-  | inl low ↦ get_or-replicate n b 0 0 low
-  | inr high ↦ get_or_past (replicate n 0) b 0 (omega (arith, high, length-replicate {A = ℕ} n 0))
-]
-
 -- blocks without states have the size 0
-grown_at : (sizes : List ℕ) (n b : ℕ) → slice_index (sizes ++ replicate n 0) b ≡ slice_index sizes b
-grown_at sizes n b = elim (cases_lt b (length sizes)) [
+pub resized_at : (sizes sizes' : List ℕ) (count n b : ℕ) → sizes' ≡ take count sizes ++ replicate n 0 →
+    length sizes ≤ count → slice_index sizes' b ≡ slice_index sizes b
+resized_at sizes sizes' count n b grown more = rw (grown, take_all count sizes more) (elim (cases_lt b (length sizes)) [
   | inl low ↦ get_or_append_left sizes (replicate n 0) 0 b low
   | inr high ↦ get_or-append_right sizes (replicate n 0) (length sizes) b 0 refl high ∙ zero_at n (b - length sizes)
       ∙ sym (get_or_past sizes b 0 high)
-]
-
-pub resized_at : (sizes sizes' : List ℕ) (count n b : ℕ) → sizes' ≡ take count sizes ++ replicate n 0 →
-    length sizes ≤ count → slice_index sizes' b ≡ slice_index sizes b
-resized_at sizes sizes' count n b grown more =
-    ap (λ xs. slice_index xs b) (grown ∙ ap (λ xs. xs ++ replicate n 0) (take_all count sizes more))
-    ∙ grown_at sizes n b
+])
 
 pub without_grown : (of live sizes sizes' : List ℕ) (count n : ℕ) → sizes' ≡ take count sizes ++ replicate n 0
     → length sizes ≤ count
     → AreSizesWithout of live 0 (length live) sizes → AreSizesWithout of live 0 (length live) sizes'
 without_grown of live sizes sizes' count n grown more without =
-    let out = without.1 in
-    let is = grown ∙ ap (λ xs. xs ++ replicate n 0) (take_all count sizes more) in (
-      without.0,
+    let (rest, out) = without in (
+      rest,
       record {
         states = out.states;
         each = out.each;
         gone = out.gone;
-        left = λ b h. ap (λ xs. slice_index xs b) is ∙ grown_at sizes n b ∙ out.left b h;
+        left = λ b h. resized_at sizes sizes' count n b grown more ∙ out.left b h;
       },
     )
 
@@ -86,8 +74,7 @@ module _ (of live : List ℕ) (i : ℕ) (sizes : List ℕ) (rises : AreLive (len
         record {
           states = length-set rest s b ∙ out.states;
           each = λ t h. elim (cases_eq t s) [
-            | inl e ↦
-                inl (ap (slice_index (set rest s b)) e ∙ get_or-set_same rest s b 0 here ∙ sym (ap (slice_index of) e))
+            | inl e ↦ inl (rw e (get_or-set_same rest s b 0 here))
             | inr d ↦ elim (out.each t h) [
               | inl same ↦ inl (get_or-set_other rest s t b 0 d ∙ same)
               | inr w ↦ elim (cases_eq w.0 i) [
@@ -106,23 +93,21 @@ module _ (of live : List ℕ) (i : ℕ) (sizes : List ℕ) (rises : AreLive (len
 
 -- all are
 pub sizes_back : (of live sizes : List ℕ) (i count : ℕ) → AreBlocks of count → length sizes ≡ count → i ≡ length live
-    → AreSizesWithout of live i (length live) sizes
-    → AreSizes of count sizes
+    → AreSizesWithout of live i (length live) sizes → AreSizes of count sizes
 sizes_back of live sizes i count are size end without =
     let out = without.1 in
     let same : without.0 ≡ of =
-    ext_get_or 0 without.0 of out.states (λ t h. elim (out.each t (omega (arith, h, out.states))) [
-      | inl e ↦ e
-      | inr w ↦ absurd (omega (arith, w.1, w.2, end))
-    ]) in
+    ext_get_or 0 without.0 of out.states (λ t h. grind (arith, out.each t (omega (arith, h, out.states)), end)) in
     record {
       blocks = size;
-      each = λ b. elim (cases_lt b (length of)) [
-        | inl low ↦ out.left b low ∙ ap (λ xs. block_size xs b) same
-        | inr high ↦ elim (cases_lt 0 (block_size of b)) [
-          | inl some ↦ let w = block_size-find of b some in
-              absurd (omega (arith, w.2, are.below w.0 w.1, are.fewer, high))
-          | inr none ↦ omega (arith, none, get_or_past sizes b 0 (omega (arith, high, size, are.fewer)))
-        ]
-      ];
+      each = λ b. grind (
+        arith,
+        common_steps,
+        out.left b,
+        ap (λ xs. block_size xs b) same,
+        block_size-find of b,
+        are.below,
+        are.fewer,
+        size,
+      );
     }

@@ -2,7 +2,8 @@
 use Rattle.std.proofs.Common.{◌≡◌, ◌∙◌, ℕ, ◌+◌, ◌-◌, ◌<◌, List, length, slice_index, set, ap, sym, subst, refl, inl}
 use Rattle.std.proofs.Common.{inr, arith}
 use Rattle.std.proofs.lemmas.Bool.{cases_eq}
-use Rattle.std.proofs.lemmas.List.{length-set, get_or-set_same, get_or-set_other}
+use Rattle.std.proofs.lemmas.Grind.{common_steps}
+use Rattle.std.proofs.lemmas.List.{length-set, get_or-set_other}
 use Rattle.partition.specs.Sizes.{AreSizes, AreSizesWithout, OthersLose, block_size}
 use Rattle.partition.specs.Blocks.{AreLive, IsOne, HaveNone, AreOrNone, AddsWhereParted}
 use Rattle.partition.specs.Representatives.{HaveVoted}
@@ -45,12 +46,8 @@ module _ (of live : List ℕ) (i : ℕ) (sizes : List ℕ) (rises : AreLive (len
   ]
 
   pub had : 0 < slice_index sizes b
-  had = omega (
-    arith,
-    without.1.left b (below s inside),
-    block_size-some rest s (omega (arith, inside, without.1.states)),
-    ap (block_size rest) still,
-  )
+  had = let some = block_size-some rest s (omega (arith, inside, without.1.states)) in
+      omega (arith, some, without.1.left b (below s inside), ap (block_size rest) still)
 
   -- it is taken out
   pub without_more : AreSizesWithout of live 0 (i + 1) (fewer sizes b)
@@ -67,35 +64,19 @@ module _ (of live : List ℕ) (i : ℕ) (sizes : List ℕ) (rises : AreLive (len
               | inr w ↦ inr (w.0, w.1, omega (arith, w.2), w.3)
             ]
           ];
-          gone = λ j low h. elim (cases_eq (slice_index live j) s) [
-            | inl e ↦ ap (slice_index (set rest s (length of))) e ∙ get_or-set_same rest s (length of) 0 here
-            | inr d ↦ elim (cases_eq j i) [
-              | inl last ↦ absurd (d (ap (slice_index live) last))
-              | inr before ↦ get_or-set_other rest s (slice_index live j) (length of) 0 d
-                  ∙ out.gone j low (omega (arith, before, h))
-            ]
-          ];
+          gone = λ j low h. grind (arith, common_steps, out.gone j low, here, h);
           left = λ k h.
-              let gone = one_other k (length of) (λ e. omega (arith, e, h)) in
-              omega (
-                arith,
-                fewer_at sizes b k had,
-                block_size-set rest k s (length of) here,
-                ap (one k) still,
-                gone,
-                out.left k h,
-              );
+              let sizes' = block_size-set rest k s (length of) here in
+              grind (arith, fewer_at sizes b k had, sizes', still, one_other k (length of), out.left k h, h);
         },
       )
 
 -- when all that are looked at are out: a block that has more states has one that is not looked at
 pub left_over : (of live sizes : List ℕ) (t : ℕ) → ((t : ℕ) → t < length of → slice_index of t < length of)
-    → t < length of → AreSizesWithout of live 0 (length live) sizes
-    → 0 < slice_index sizes (slice_index of t) → (u : ℕ) × (u < length of) × (slice_index of u ≡ slice_index of t)
-    × ¬ IsOne live u
+    → t < length of → AreSizesWithout of live 0 (length live) sizes → 0 < slice_index sizes (slice_index of t)
+    → (u : ℕ) × (u < length of) × (slice_index of u ≡ slice_index of t) × ¬ IsOne live u
 left_over of live sizes t below h without some =
-    let left = without.0 in
-    let out = without.1 in
+    let (left, out) = without in
     let w = block_size-find left (slice_index of t) (omega (arith, some, out.left (slice_index of t) (below t h))) in
     let u_in : w.0 < length of = omega (arith, w.1, out.states) in
     let looked : ¬ IsOne live w.0 =

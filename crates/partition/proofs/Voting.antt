@@ -1,17 +1,19 @@
 -- Votes by which the list is found that over half the states of a block have (Boyer and Moore 1991).
 use Rattle.std.proofs.Common.{◌≡◌, ◌∙◌, ℕ, zero, suc, ◌+◌, ◌*◌, ◌<◌, ◌≤◌, cond, eqb, List, [], ◌∷◌, length, slice_index}
-use Rattle.std.proofs.Common.{set, replicate, ap, sym, subst, refl, inl, inr, add-one, arith}
-use Rattle.std.proofs.lemmas.Bool.{cases_lt, cases_eq, cond-true, cond-false, eq-eqb, ne_eqb}
-use Rattle.std.proofs.lemmas.List.{length-set, length-replicate, get_or-replicate, get_or-set_same, get_or-set_other}
+use Rattle.std.proofs.Common.{set, replicate, ap, sym, refl, inl, inr, add-one, rules, arith}
+use Rattle.std.proofs.lemmas.Bool.Decides.{nat_tests}
+use Rattle.std.proofs.lemmas.Bool.{cases_eq, cond-true, eq-eqb}
+use Rattle.std.proofs.lemmas.Grind.{get_or-set_at}
+use Rattle.std.proofs.lemmas.List.{length-set, length-replicate, get_or-set_same, get_or-set_other}
 use Rattle.partition.specs.Sizes.{AreSizes, AreSizesWithout, block_size}
 use Rattle.partition.specs.Halving.{ballots, votes_for, BoundVotes}
 use Rattle.partition.specs.Partition.{AreBlocks}
 use Rattle.partition.specs.Blocks.{AreLive}
 use Rattle.partition.proofs.Living.{below_states}
 use Rattle.partition.proofs.Taking.{had, without_more}
-use Rattle.partition.proofs.Keeping.{KeptUpTo, kept_old, kept_new}
+use Rattle.partition.proofs.Keeping.{IsBefore, KeptUpTo, kept_old, kept_new}
 use Rattle.partition.proofs.Counting.{one, one_same, one_other, fewer, fewer_at, block_size-set, block_size-cons}
-use Rattle.partition.proofs.Counting.{block_size-find}
+use Rattle.partition.proofs.Counting.{block_size-find, zero_at}
 
 pub length-ballots : (of numbers live : List ℕ) (b i : ℕ) → length (ballots of numbers live b i) ≡ length of
 length-ballots of numbers live b zero = length-replicate {A = ℕ} (length of) 0
@@ -20,25 +22,12 @@ length-ballots of numbers live b (suc i) = length-set (ballots of numbers live b
 
 -- nobody has voted
 none-for : (of numbers live : List ℕ) (b list : ℕ) → votes_for of numbers live 0 b list ≡ 0
-none-for of numbers live b list = elim (cases_lt 0 (votes_for of numbers live 0 b list)) [
-  | inr none ↦ omega (arith, none)
-  | inl some ↦
-      let w = block_size-find (replicate (length of) 0) (suc list) some in
-      absurd (omega (
-        arith,
-        w.2,
-        get_or-replicate {A = ℕ} (length of) w.0 0 0 (omega (arith, w.1, length-replicate {A = ℕ} (length of) 0)),
-      ))
-]
+none-for of numbers live b list =
+    grind (arith, block_size-find (replicate (length of) 0) (suc list), zero_at (length of))
 
 pub BoundVotes-none : (of numbers live sizes keepers votes : List ℕ) (count : ℕ) → AreSizes of count sizes
-    → ((b : ℕ) → slice_index votes b ≡ 0)
-    → BoundVotes of numbers live 0 sizes keepers votes
-BoundVotes-none of numbers live sizes keepers votes count are none = record {
-  most = λ b. omega (arith, none-for of numbers live b (slice_index keepers b), are.each b, none b);
-  others = λ b list d. omega (arith, none-for of numbers live b list, are.each b, none b);
-  room = λ b. omega (arith, are.each b, none b);
-}
+    → ((b : ℕ) → slice_index votes b ≡ 0) → BoundVotes of numbers live 0 sizes keepers votes
+BoundVotes-none of numbers live sizes keepers votes count are none = search (rules, none-for, are.each, none)
 
 one-most : (b x : ℕ) → one b x ≤ 1
 one-most b x = elim (cases_eq x b) [ inl e ↦ omega (arith, one_same b x e) | inr d ↦ omega (arith, one_other b x d) ]
@@ -62,9 +51,7 @@ module _ (of numbers live : List ℕ) (i : ℕ) (inside : slice_index live i < l
   -- for another block
   for-other-block : (k list : ℕ) → ¬ (k ≡ b) →
       votes_for of numbers live (suc i) k list ≤ votes_for of numbers live i k list
-  for-other-block k list d =
-      let zero_ballot : ballot k ≡ 0 = cond-false _ _ _ (ne_eqb b k (λ e. d (sym e))) in
-      omega (arith, more-for k list, ap (one (suc list)) zero_ballot, one_other (suc list) 0 (λ e. omega (arith, e)))
+  for-other-block k list d = grind (arith, nat_tests, more-for k list, d)
 
   -- for this block
   for-block : (list : ℕ) → votes_for of numbers live (suc i) b list ≤ votes_for of numbers live i b list + 1
@@ -73,120 +60,68 @@ module _ (of numbers live : List ℕ) (i : ℕ) (inside : slice_index live i < l
   -- and another list
   for-other-list : (list : ℕ) → ¬ (list ≡ slice_index numbers s) →
       votes_for of numbers live (suc i) b list ≤ votes_for of numbers live i b list
-  for-other-list list d =
-      let is : ballot b ≡ suc (slice_index numbers s) = cond-true _ _ _ (eq-eqb b b refl) in
-      omega (
-        arith,
-        more-for b list,
-        ap (one (suc list)) is,
-        one_other (suc list) (suc (slice_index numbers s)) (λ e. d (omega (arith, e))),
-      )
+  for-other-list list d = grind (arith, nat_tests, more-for b list, d)
 
-  at-next : (sizes keepers votes : List ℕ) → BoundVotes of numbers live (suc i) sizes keepers votes →
-      BoundVotes of numbers live (i + 1) sizes keepers votes
-  at-next sizes keepers votes has = subst (λ n. BoundVotes of numbers live n sizes keepers votes) (sym (add-one i)) has
+  module _ (sizes keepers votes : List ℕ) (some : 0 < slice_index sizes b)
+      (has : BoundVotes of numbers live i sizes keepers votes) (vote : ℕ) (size_v : b < length votes) where
+    abbrev votes' : List ℕ
+    votes' = set votes b vote
 
-  module _ (sizes keepers votes : List ℕ) (some : 0 < slice_index sizes b) (has : BoundVotes of numbers live i sizes
-      keepers votes) where
     -- the bounds of another block hold still
-    step : (keepers' votes' : List ℕ) → ((k : ℕ) → ¬ (k ≡ b) → slice_index keepers' k ≡ slice_index keepers k)
-        → ((k : ℕ) → ¬ (k ≡ b) → slice_index votes' k ≡ slice_index votes k)
-        → votes_for of numbers live (suc i) b (slice_index keepers' b) * 2 + slice_index sizes b ≤ block_size of b
-        + slice_index votes' b + 1
-        → ((list : ℕ) → ¬ (list ≡ slice_index keepers' b) → votes_for of numbers live (suc i) b list * 2 + slice_index
-        votes' b + slice_index sizes b ≤ block_size of b + 1)
-        → slice_index votes' b + slice_index sizes b ≤ block_size of b + 1
-        → BoundVotes of numbers live (suc i) (fewer sizes b) keepers' votes'
-    step keepers' votes' kept voted most others room =
+    step : (keepers' : List ℕ) → ((k : ℕ) → ¬ (k ≡ b) → slice_index keepers' k ≡ slice_index keepers k)
+        → votes_for of numbers live (suc i) b (slice_index keepers' b) * 2 + slice_index sizes b
+        ≤ block_size of b + vote + 1
+        → ((list : ℕ) → ¬ (list ≡ slice_index keepers' b) →
+        votes_for of numbers live (suc i) b list * 2 + vote + slice_index sizes b ≤ block_size of b + 1)
+        → vote + slice_index sizes b ≤ block_size of b + 1
+        → BoundVotes of numbers live (i + 1) (fewer sizes b) keepers' votes'
+    step keepers' kept most others room =
+        let at-b : slice_index votes' b ≡ vote = get_or-set_same votes b vote 0 size_v in
+        let voted = λ (k : ℕ) (d : ¬ (k ≡ b)). get_or-set_other votes b k vote 0 d in
         let here : slice_index (fewer sizes b) b + 1 ≡ slice_index sizes b =
         omega (arith, fewer_at sizes b b some, one_same b b refl) in
         let there : (k : ℕ) → ¬ (k ≡ b) → slice_index (fewer sizes b) k ≡ slice_index sizes k =
         λ k d. omega (arith, fewer_at sizes b k some, one_other k b (λ e. d (sym e))) in
-        record {
-          most = λ k. elim (cases_eq k b) [
-            | inl e ↦ subst (λ k. votes_for of numbers live (suc i) k (slice_index keepers' k) * 2 + slice_index
-                (fewer sizes b) k ≤ block_size of k + slice_index votes' k) (sym e) (omega (arith, here, most))
-            | inr d ↦
-                let same = ap (λ x. votes_for of numbers live (suc i) k x) (kept k d) in
-                omega (arith, there k d, voted k d, same, for-other-block k (slice_index keepers k) d, has.most k)
-          ];
-          others = λ k list d'. elim (cases_eq k b) [
-            | inl e ↦ subst (λ k. ¬ (list ≡ slice_index keepers' k) → votes_for of numbers live (suc i) k list * 2
-                + slice_index votes' k + slice_index (fewer sizes b) k ≤ block_size of k) (sym e)
-                (λ d. omega (arith, here, others list d)) d'
-            | inr d ↦ omega (
-              arith,
-              there k d,
-              voted k d,
-              for-other-block k list d,
-              has.others k list (λ e. d' (e ∙ sym (kept k d))),
-            )
-          ];
-          room = λ k. elim (cases_eq k b) [
-            | inl e ↦ subst (λ k. slice_index votes' k + slice_index (fewer sizes b) k ≤ block_size of k) (sym e)
-                (omega (arith, here, room))
-            | inr d ↦ omega (arith, there k d, voted k d, has.room k)
-          ];
-        }
+        rw (add-one i) (record {
+          most = λ k.
+              let other = for-other-block k (slice_index keepers k) in
+              grind (arith, here, at-b, most, kept k, voted k, there k, other, has.most k);
+          others = λ k list d.
+              let other = for-other-block k list in
+              grind (arith, here, at-b, others list, kept k, voted k, there k, other, has.others k list, d);
+          room = λ k. grind (arith, here, at-b, room, voted k, there k, has.room k);
+        })
 
     -- without votes, half the states at most have one list
     none_more : slice_index votes b ≡ 0 → (list : ℕ) →
         votes_for of numbers live i b list * 2 + slice_index sizes b ≤ block_size of b
-    none_more none list = elim (cases_eq list (slice_index keepers b)) [
-      | inl e ↦ omega (arith, ap (λ x. votes_for of numbers live i b x) e, has.most b, none)
-      | inr d ↦ omega (arith, has.others b list d, none)
-    ]
+    none_more none list = grind (arith, has.most b, has.others b list, none)
 
-    module _ (vote : ℕ) (size_v : b < length votes) where
-      abbrev votes' : List ℕ
-      votes' = set votes b vote
+    -- the list is the keeper from now on
+    pub bound_new : b < length keepers → slice_index votes b ≡ 0 → vote ≡ 1 →
+        BoundVotes of numbers live (i + 1) (fewer sizes b) (set keepers b (slice_index numbers s)) votes'
+    bound_new size_k none is =
+        let list = slice_index numbers s in
+        let keeper : slice_index (set keepers b list) b ≡ list = get_or-set_same keepers b list 0 size_k in
+        step (set keepers b list) (λ k d. get_or-set_other keepers b k list 0 d)
+        (rw keeper (omega (arith, for-block list, none_more none list, is)))
+        (λ other d. omega (arith, for-other-list other (λ e. d (e ∙ sym keeper)), none_more none other, is))
+        (omega (arith, is, none, has.room b))
 
-      at-b : slice_index votes' b ≡ vote
-      at-b = get_or-set_same votes b vote 0 size_v
+    -- it is, and has one vote more
+    pub bound_more : slice_index keepers b ≡ slice_index numbers s → vote ≡ slice_index votes b + 1 →
+        BoundVotes of numbers live (i + 1) (fewer sizes b) keepers votes'
+    bound_more same is =
+        step keepers (λ k d. refl) (omega (arith, for-block (slice_index keepers b), has.most b, is))
+        (λ list d. omega (arith, for-other-list list (λ e. d (e ∙ sym same)), has.others b list d, is))
+        (omega (arith, is, has.room b))
 
-      -- the list is the keeper from now on
-      pub bound_new : b < length keepers → slice_index votes b ≡ 0 → vote ≡ 1 →
-          BoundVotes of numbers live (i + 1) (fewer sizes b) (set keepers b (slice_index numbers s)) votes'
-      bound_new size_k none is =
-          let keeper : slice_index (set keepers b (slice_index numbers s)) b ≡ slice_index numbers s =
-          get_or-set_same keepers b (slice_index numbers s) 0 size_k in
-          at-next _ _ _ (step (set keepers b (slice_index numbers s)) votes' (λ k d. get_or-set_other keepers b k
-          (slice_index numbers s) 0 d) (λ k d. get_or-set_other votes b k vote 0 d)
-          (omega (
-            arith,
-            ap (λ x. votes_for of numbers live (suc i) b x) keeper,
-            for-block (slice_index numbers s),
-            none_more none (slice_index numbers s),
-            at-b,
-            is,
-          ))
-          (λ list d. omega (arith, for-other-list list (λ e. d (e ∙ sym keeper)), none_more none list, at-b, is))
-          (omega (arith, at-b, is, none, has.room b)))
-
-      -- it is, and has one vote more
-      pub bound_more : slice_index keepers b ≡ slice_index numbers s → vote ≡ slice_index votes b + 1 →
-          BoundVotes of numbers live (i + 1) (fewer sizes b) keepers votes'
-      bound_more same is =
-          at-next _ _ _ (step keepers votes' (λ k d. refl) (λ k d. get_or-set_other votes b k vote 0 d)
-          (omega (arith, for-block (slice_index keepers b), has.most b, at-b, is))
-          (λ list d. omega (arith, for-other-list list (λ e. d (e ∙ sym same)), has.others b list d, at-b, is))
-          (omega (arith, at-b, is, has.room b)))
-
-      -- or another one is, and loses a vote
-      less-others : ¬ (slice_index keepers b ≡ slice_index numbers s) → 0 < slice_index votes b
-          → vote + 1 ≡ slice_index votes b → (list : ℕ) → ¬ (list ≡ slice_index keepers b)
-          → votes_for of numbers live (suc i) b list * 2 + slice_index votes' b + slice_index sizes b
-          ≤ block_size of b + 1
-      less-others other has_votes is list d = omega (arith, for-block list, has.others b list d, at-b, is)
-
-      pub bound_less : ¬ (slice_index keepers b ≡ slice_index numbers s) → 0 < slice_index votes b
-          → vote + 1 ≡ slice_index votes b
-          → BoundVotes of numbers live (i + 1) (fewer sizes b) keepers votes'
-      bound_less other has_votes is =
-          at-next _ _ _ (step keepers votes' (λ k d. refl) (λ k d. get_or-set_other votes b k vote 0 d)
-          (omega (arith, for-other-list (slice_index keepers b) other, has.most b, at-b, is))
-          (less-others other has_votes is)
-          (omega (arith, at-b, is, has.room b)))
+    -- or another one is, and loses a vote
+    pub bound_less : ¬ (slice_index keepers b ≡ slice_index numbers s) → 0 < slice_index votes b
+        → vote + 1 ≡ slice_index votes b → BoundVotes of numbers live (i + 1) (fewer sizes b) keepers votes'
+    bound_less other has_votes is =
+        step keepers (λ k d. refl) (omega (arith, for-other-list (slice_index keepers b) other, has.most b, is))
+        (λ list d. omega (arith, for-block list, has.others b list d, is)) (omega (arith, is, has.room b))
 
 -- after the votes of the first i states: they are out of the sizes of so many blocks
 pub record VotedUpTo (of numbers live : List ℕ) (count i : ℕ) (sizes keepers votes : List ℕ) : Type 0 where
@@ -237,18 +172,16 @@ module _ {of numbers live : List ℕ} {count i : ℕ} {sizes keepers votes : Lis
       → vote ≡ slice_index votes block + 1
       → VotedUpTo of numbers live count (i + 1) (fewer sizes block) keepers (set votes block vote)
   voted_more vote same is =
-      voted_next keepers vote refl
-      (kept_old of numbers live i keepers votes inside up.kept vote (voter, inside, refl, sym same))
-      (bound_more of numbers live i inside sizes keepers votes had_one.0 up.bound vote votes_place same is)
+      voted_next keepers vote refl (kept_old inside up.kept vote (voter, inside, refl, sym same))
+      (bound_more _ _ _ _ inside _ _ _ had_one.0 up.bound vote votes_place same is)
 
   -- or it is the keeper from now on
   pub voted_new : slice_index votes block ≡ 0
       → VotedUpTo of numbers live count (i + 1) (fewer sizes block) (set keepers block (slice_index numbers voter))
       (set votes block 1)
   voted_new none =
-      voted_next _ 1 (length-set keepers block _)
-      (kept_new of numbers live i keepers votes inside up.kept keepers_place 1)
-      (bound_new of numbers live i inside sizes keepers votes had_one.0 up.bound 1 votes_place keepers_place none refl)
+      voted_next _ 1 (length-set keepers block _) (kept_new inside up.kept keepers_place 1)
+      (bound_new _ _ _ _ inside _ _ _ had_one.0 up.bound 1 votes_place keepers_place none refl)
 
   -- or another one is, and loses a vote
   pub voted_less : (vote : ℕ) → ¬ (slice_index keepers block ≡ slice_index numbers voter)
@@ -256,50 +189,29 @@ module _ {of numbers live : List ℕ} {count i : ℕ} {sizes keepers votes : Lis
       → VotedUpTo of numbers live count (i + 1) (fewer sizes block) keepers (set votes block vote)
   voted_less vote other none is =
       let some : 0 < slice_index votes block = omega (arith, none) in
-      voted_next keepers vote refl
-      (kept_old of numbers live i keepers votes inside up.kept vote (up.kept.keeps voter inside (inr some)))
-      (bound_less of numbers live i inside sizes keepers votes had_one.0 up.bound vote votes_place other some is)
+      voted_next keepers vote refl (kept_old inside up.kept vote (up.kept.keeps voter inside (inr some)))
+      (bound_less _ _ _ _ inside _ _ _ had_one.0 up.bound vote votes_place other some is)
 
 -- the votes of all that are looked at
-pub ballot_of : (of numbers live : List ℕ) (b i j : ℕ) → j < i → slice_index live j < length of
-    → slice_index of (slice_index live j) ≡ b
-    → slice_index (ballots of numbers live b i) (slice_index live j) ≡ suc (slice_index numbers (slice_index live j))
-ballot_of of numbers live b zero j h inside is = absurd (omega (arith, h))
-ballot_of of numbers live b (suc i) j h inside is = elim (cases_eq (slice_index live j) (slice_index live i)) [
-  | inl e ↦ let v : ℕ =
-      cond (eqb (slice_index of (slice_index live i)) b) (suc (slice_index numbers (slice_index live i))) 0 in
-      let here : v ≡ suc (slice_index numbers (slice_index live i)) =
-      cond-true _ _ _ (eq-eqb _ b (ap (slice_index of) (sym e) ∙ is)) in
-      let room : slice_index live i < length (ballots of numbers live b i) =
-      omega (arith, e, inside, length-ballots of numbers live b i) in
-      ap (slice_index (ballots of numbers live b (suc i))) e ∙ get_or-set_same (ballots of numbers live b i)
-      (slice_index live i) v 0 room ∙ here
-      ∙ ap (λ t. suc (slice_index numbers t)) (sym e)
-  | inr d ↦ let before : j < i = elim (cases_lt j i) [
-    | inl low ↦ low
-    | inr high ↦ absurd (d (ap (slice_index live) (omega (arith, h, high))))
-  ] in
-      get_or-set_other (ballots of numbers live b i) (slice_index live i) (slice_index live j) _ 0 d
-      ∙ ballot_of of numbers live b i j before inside is
+pub ballot_of : (of numbers live : List ℕ) (b i t : ℕ) → IsBefore live i t → t < length of → slice_index of t ≡ b
+    → slice_index (ballots of numbers live b i) t ≡ suc (slice_index numbers t)
+ballot_of of numbers live b zero t h inside is = absurd (omega (arith, h.1))
+ballot_of of numbers live b (suc i) t (j, low, at) inside is = elim (cases_eq t (slice_index live i)) [
+  | inl e ↦
+      get_or-set_at (ballots of numbers live b i) (slice_index live i) t _ 0 e
+      (omega (arith, e, inside, length-ballots of numbers live b i))
+      ∙ cond-true _ _ _ (eq-eqb _ b (ap (slice_index of) (sym e) ∙ is)) ∙ ap (λ t. suc (slice_index numbers t)) (sym e)
+  | inr d ↦
+      let before : ¬ (j ≡ i) = λ here. d (sym at ∙ ap (slice_index live) here) in
+      get_or-set_other (ballots of numbers live b i) (slice_index live i) t _ 0 d
+      ∙ ballot_of of numbers live b i t (j, omega (arith, low, before), at) inside is
 ]
 
 -- if each state of the block x has the block y in another partition, x is not larger
 pub block_size-within : (xs ys : List ℕ) (x y : ℕ) → length xs ≡ length ys
-    → ((t : ℕ) → t < length xs → slice_index xs t ≡ x → slice_index ys t ≡ y)
-    → block_size xs x ≤ block_size ys y
-block_size-within [] [] x y size all = omega arith
-block_size-within [] (w ∷ ys) x y size all = absurd (omega (arith, size))
+    → ((t : ℕ) → t < length xs → slice_index xs t ≡ x → slice_index ys t ≡ y) → block_size xs x ≤ block_size ys y
+block_size-within [] ys x y size all = omega arith
 block_size-within (v ∷ xs) [] x y size all = absurd (omega (arith, size))
 block_size-within (v ∷ xs) (w ∷ ys) x y size all =
     let rest = block_size-within xs ys x y (omega (arith, size)) (λ t h e. all (suc t) (omega (arith, h)) e) in
-    elim (cases_eq v x) [
-      | inl e ↦ omega (
-        arith,
-        rest,
-        block_size-cons v xs x,
-        block_size-cons w ys y,
-        one_same x v e,
-        one_same y w (all 0 (omega arith) e),
-      )
-      | inr d ↦ omega (arith, rest, block_size-cons v xs x, block_size-cons w ys y, one_other x v d)
-    ]
+    grind (arith, nat_tests, rest, block_size-cons v xs x, block_size-cons w ys y, all 0 (omega arith))

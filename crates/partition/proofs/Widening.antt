@@ -53,17 +53,7 @@ module _ {live : List ℕ} {states : ℕ} {lose : ℕ → Type 0} {s k : ℕ} {w
   -- or it is not
   ahead' : (k < length live → ¬ (slice_index live k ≡ s)) → (j : ℕ) → k ≤ j → j < length live →
       s + 1 ≤ slice_index live j
-  ahead' other j low h = elim (cases_lt s (slice_index live j)) [
-    | inl above ↦ omega (arith, above)
-    | inr at ↦
-        let here : slice_index live j ≡ s = omega (arith, at, up.ahead j low h) in
-        elim (cases_lt k j) [
-          | inl past ↦
-              absurd (omega (arith, rises.rising k j past h, here, up.ahead k (omega arith) (omega (arith, past, h))))
-          | inr same ↦ let e : k ≡ j = omega (arith, low, same) in
-              absurd (other (omega (arith, e, h)) (ap (slice_index live) e ∙ here))
-        ]
-  ]
+  ahead' other j low h = grind (arith, up.ahead k, other, rises.rising k j, low, h)
 
   pub wide_with : (k < length live → ¬ (slice_index live k ≡ s)) → lose s → WideUpTo live lose (s + 1) k wide'
   wide_with other lost = record {
@@ -84,10 +74,8 @@ module _ {live : List ℕ} {states : ℕ} {lose : ℕ → Type 0} {s k : ℕ} {w
     ahead = ahead' other;
     each = up.each;
     many = up.many;
-    more = λ u h out lost. elim (earlier s u h) [
-      | inl low ↦ up.more u low out lost
-      | inr here ↦ absurd (wins (subst lose here lost))
-    ];
+    more = λ u h out lost.
+        elim (earlier s u h) [ inl low ↦ up.more u low out lost | inr here ↦ absurd (wins (subst lose here lost)) ];
   }
 
 -- when all states were seen
@@ -104,7 +92,5 @@ module _ {live : List ℕ} {states : ℕ} {lose : ℕ → Type 0} {s k : ℕ} {w
 
   -- there are more, if one is not among the first
   pub wide_more : (u : ℕ) → u < states → ¬ IsOne live u → lose u → length live < length wide
-  wide_more u h out lost = elim (cases_lt k (length live)) [
-    | inl low ↦ absurd (omega (arith, up.ahead k (omega arith) low, rises.below k low, end))
-    | inr all ↦ omega (arith, up.more u (omega (arith, h, end)) out lost, all, up.within)
-  ]
+  wide_more u h out lost =
+      grind (arith, up.ahead k, rises.below k, up.more u (omega (arith, h, end)) out lost, end, up.within)

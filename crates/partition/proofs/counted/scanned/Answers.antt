@@ -7,8 +7,8 @@ use Rattle.partition.proofs.counted.scanned.Goals.{then-others_lose+in_ok-push-2
 
 pub loop-s-preserved-then-live-k : goal.loop-s-preserved-then-live-k
 loop-s-preserved-then-live-k c =
-    let inside : c.loop-s.k < length c.args.vote.live.now = omega (arith, c.if-k-live.true) in
-    rw c.in_ok-push.ensures.items (wide_next c.requires.live c.loop-s.invariant inside c.if-live-k.true)
+    rw c.in_ok-push.ensures.items
+    (wide_next c.requires.live c.loop-s.invariant (omega (arith, c.if-k-live.true)) c.if-live-k.true)
 
 pub loop-s-preserved : goal.loop-s-preserved
 loop-s-preserved c =

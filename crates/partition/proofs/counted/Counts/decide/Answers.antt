@@ -1,4 +1,4 @@
-use Rattle.std.proofs.Common.{◌≡◌, ◌∙◌, length, sym, refl, arith}
+use Rattle.std.proofs.Common.{◌≡◌, ◌∙◌, length, sym, rules, arith}
 use Rattle.std.proofs.lemmas.Bool.{false≢true}
 use Rattle.std.proofs.lemmas.List.{get_or_read}
 use Rattle.partition.proofs.Filling.{DecidedUpTo-none, DecidedUpTo-others, DecidedUpTo-voted, keepers_decided}
@@ -7,13 +7,7 @@ use Rattle.partition.proofs.counted.Counts.decide.Goals as goal
 use Rattle.partition.proofs.counted.Counts.decide.Goals.{then-index-gt0, else-index-gt0}
 
 pub loop-i-init : goal.loop-i-init
-loop-i-init c =
-    let self = c.args.self.now in
-    record {
-      sizes = refl;
-      decided =
-          DecidedUpTo-none _ self.sizes.items self.keepers.items self.votes.items c.requires.each.1 c.requires.each.2;
-    }
+loop-i-init c = search (rules, DecidedUpTo-none)
 
 pub loop-i-preserved : goal.loop-i-preserved
 loop-i-preserved c =
@@ -37,19 +31,16 @@ loop-i-preserved c =
     ]
 
 pub returns-clause-small : goal.returns-clause-small
-returns-clause-small c lost =
-    let had = c.requires in
+returns-clause-small c lost = let had = c.requires in
     small_parts had.blocks had.live had.idle had.states had.sizes had.voted c.loop-i.invariant.decided
-    (λ k low inside. omega (arith, low, inside, c.loop-i-test.false, c.loop-i.auto.i-end)) had.bound
+    (λ k low inside. omega arith) had.bound
 
 pub returns-clause-keepers : goal.returns-clause-keepers
-returns-clause-keepers c lost =
-    let had = c.requires in
+returns-clause-keepers c lost = let had = c.requires in
     keepers_decided had.blocks had.live had.idle had.states had.sizes had.voted c.loop-i.invariant.decided
-    (λ k low inside. omega (arith, low, inside, c.loop-i-test.false, c.loop-i.auto.i-end))
+    (λ k low inside. omega arith)
 
 pub returns-clause-none : goal.returns-clause-none
-returns-clause-none c lost =
-    let had = c.requires in
+returns-clause-none c lost = let had = c.requires in
     none_left had.blocks had.live had.idle had.states had.sizes had.voted c.loop-i.invariant.decided
-    (λ k low inside. omega (arith, low, inside, c.loop-i-test.false, c.loop-i.auto.i-end))
+    (λ k low inside. omega arith)

@@ -15,7 +15,7 @@ met_less : (of live votes : List ℕ) (i : ℕ) → let b = slice_index of (slic
 met_less of live votes i room met k =
     let b = slice_index of (slice_index live i) in
     elim (cases_eq k b) [
-      | inl e ↦ inl (ap (slice_index (set votes b 0)) e ∙ get_or-set_same votes b 0 0 room)
+      | inl e ↦ inl (rw e (get_or-set_same votes b 0 0 room))
       | inr d ↦ elim (met k) [
         | inl none ↦ inl (get_or-set_other votes b k 0 0 d ∙ none)
         | inr m ↦ elim (cases_eq m.0 i) [
@@ -36,45 +36,36 @@ loop-i-init c = record {
 
 pub overflow_add-index_mut : goal.overflow_add-index_mut
 overflow_add-index_mut c =
-    let of = c.args.of.now in
-    let live = c.args.live.now in
-    let i = c.loop-i.i in
-    let sizes = c.loop-i.self.sizes.items in
-    let more : i < length live = omega (arith, c.loop-i-test.true, c.loop-i.auto.i-end) in
-    let room : slice_index of (slice_index live i) < length sizes =
-    omega (arith, c.loop-i.invariant.blocks, c.requires.blocks.below _ (c.requires.live.below i more)) in
-    let was = get_or_read sizes (slice_index of (slice_index live i)) c.index_mut.result.now room
-    c.index_mut.ensures.value 0 in
-    let left =
-    few_left of live i sizes c.requires.live (below_states c.requires.blocks) more c.loop-i.invariant.sizes in
+    let b = slice_index c.args.of.now (slice_index c.args.live.now c.loop-i.i) in
+    let more : c.loop-i.i < length c.args.live.now = omega (arith, c.loop-i-test.true, c.loop-i.auto.i-end) in
+    let room : b < length c.loop-i.self.sizes.items =
+    omega (arith, c.loop-i.invariant.blocks, c.requires.blocks.below _ (c.requires.live.below _ more)) in
+    let was = get_or_read c.loop-i.self.sizes.items b _ room c.index_mut.ensures.value 0 in
+    let left = few_left _ _ _ _ c.requires.live (below_states c.requires.blocks) more c.loop-i.invariant.sizes in
     omega (arith, was, left, c.requires.blocks.few)
 
 pub loop-i-preserved : goal.loop-i-preserved
 loop-i-preserved c =
-    let of = c.args.of.now in
-    let live = c.args.live.now in
-    let i = c.loop-i.i in
-    let sizes = c.loop-i.self.sizes.items in
-    let votes = c.loop-i.self.votes.items in
     let inv = c.loop-i.invariant in
-    let b = slice_index of (slice_index live i) in
-    let more : i < length live = omega (arith, c.loop-i-test.true, c.loop-i.auto.i-end) in
-    let room : b < length sizes = omega (arith, inv.blocks, c.requires.blocks.below _ (c.requires.live.below i more)) in
-    rw (get_or_read sizes b c.index_mut.result.now room c.index_mut.ensures.value 0) (record {
-      sizes = without_less of live i sizes c.requires.live (below_states c.requires.blocks) more inv.sizes room;
-      blocks = length-set sizes b (slice_index sizes b + 1) ∙ inv.blocks;
+    let b = slice_index c.args.of.now (slice_index c.args.live.now c.loop-i.i) in
+    let more : c.loop-i.i < length c.args.live.now = omega (arith, c.loop-i-test.true, c.loop-i.auto.i-end) in
+    let room : b < length c.loop-i.self.sizes.items =
+    omega (arith, inv.blocks, c.requires.blocks.below _ (c.requires.live.below _ more)) in
+    rw (get_or_read c.loop-i.self.sizes.items b c.index_mut.result.now room c.index_mut.ensures.value 0) (record {
+      sizes = without_less _ _ _ _ c.requires.live (below_states c.requires.blocks) more inv.sizes room;
+      blocks = length-set c.loop-i.self.sizes.items b _ ∙ inv.blocks;
       keepers = inv.keepers;
-      votes = length-set votes b 0 ∙ inv.votes;
-      met = met_less of live votes i (omega (arith, room, inv.blocks, inv.votes)) inv.met;
+      votes = length-set c.loop-i.self.votes.items b 0 ∙ inv.votes;
+      met = met_less _ _ _ _ (omega (arith, room, inv.blocks, inv.votes)) inv.met;
     })
 
 pub returns : goal.returns
 returns c =
+    let inv = c.loop-i.invariant in
     let end : c.loop-i.i ≡ length c.args.live.now = omega (arith, c.loop-i-test.false, c.loop-i.auto.i-end) in
     record {
-      sizes = sizes_back c.args.of.now c.args.live.now c.loop-i.self.sizes.items c.loop-i.i _ c.requires.blocks
-          c.loop-i.invariant.blocks end c.loop-i.invariant.sizes;
-      keepers = c.loop-i.invariant.keepers;
-      votes = c.loop-i.invariant.votes;
-      none = λ b. elim (c.loop-i.invariant.met b) [ inl none ↦ none | inr m ↦ absurd (omega (arith, m.1, m.2, end)) ];
+      sizes = sizes_back _ _ _ _ _ c.requires.blocks inv.blocks end inv.sizes;
+      keepers = inv.keepers;
+      votes = inv.votes;
+      none = λ b. elim (inv.met b) [ inl none ↦ none | inr m ↦ absurd (omega (arith, m.1, m.2, end)) ];
     }

@@ -1,26 +1,16 @@
-use Rattle.std.proofs.Common.{◌≡◌, ◌∙◌, ◌<◌, length, slice_index, sym, subst, refl, arith}
+use Rattle.std.proofs.Common.{◌≡◌, ◌∙◌, ◌<◌, length, slice_index, sym, rules, arith}
 use Rattle.std.proofs.lemmas.List.{get_or_read}
 use Rattle.partition.proofs.Counting.{block_size-le}
 use Rattle.partition.proofs.Taking.{without_none}
-use Rattle.partition.specs.Halving.{BoundVotes}
 use Rattle.partition.proofs.Voting.{BoundVotes-none, had_one, votes_place, keepers_place, voted_more, voted_new}
 use Rattle.partition.proofs.Voting.{voted_less}
-use Rattle.partition.proofs.Keeping.{KeptUpTo, KeptUpTo-none, voted_all}
+use Rattle.partition.proofs.Keeping.{KeptUpTo-none, voted_all}
 use Rattle.partition.proofs.counted.Counts.vote.Goals as goal
 use Rattle.partition.proofs.counted.Counts.vote.Goals.{then-index-list, else-index-list+then-votes-eq0}
 use Rattle.partition.proofs.counted.Counts.vote.Goals.{else-index-list+else-votes-eq0}
 
 pub loop-i-init : goal.loop-i-init
-loop-i-init c =
-    let counts = c.requires.counts in
-    record {
-      blocks = refl;
-      keepers_room = counts.keepers;
-      votes_room = counts.votes;
-      out = without_none c.args.of.now c.args.live.now c.args.self.now.sizes.items _ counts.sizes;
-      kept = KeptUpTo-none c.args.of.now c.args.numbers.now c.args.live.now _ _ counts.none;
-      bound = BoundVotes-none c.args.of.now c.args.numbers.now c.args.live.now _ _ _ _ counts.sizes counts.none;
-    }
+loop-i-init c = search (rules, without_none, KeptUpTo-none, BoundVotes-none)
 
 pub overflow_sub-index_mut : goal.overflow_sub-index_mut
 overflow_sub-index_mut c =
@@ -61,16 +51,10 @@ loop-i-preserved c =
 
 pub returns-clause-voted : goal.returns-clause-voted
 returns-clause-voted c =
-    let live = c.args.live.now in
-    let end : c.loop-i.i ≡ length live = omega (arith, c.loop-i-test.false, c.loop-i.auto.i-end) in
-    voted_all c.args.of.now c.args.numbers.now live _ _ c.requires.live
-    (subst (λ n. KeptUpTo c.args.of.now c.args.numbers.now live n c.loop-i.self.keepers.items c.loop-i.self.votes.items)
-    end c.loop-i.invariant.kept)
+    let end : c.loop-i.i ≡ length c.args.live.now = omega (arith, c.loop-i-test.false, c.loop-i.auto.i-end) in
+    voted_all _ _ _ _ _ c.requires.live (rw end at c.loop-i.invariant.kept)
 
 pub returns-clause-bound : goal.returns-clause-bound
 returns-clause-bound c =
-    let live = c.args.live.now in
-    let end : c.loop-i.i ≡ length live = omega (arith, c.loop-i-test.false, c.loop-i.auto.i-end) in
-    let self = c.loop-i.self in
-    subst (λ n. BoundVotes c.args.of.now c.args.numbers.now live n self.sizes.items self.keepers.items self.votes.items)
-    end c.loop-i.invariant.bound
+    let end : c.loop-i.i ≡ length c.args.live.now = omega (arith, c.loop-i-test.false, c.loop-i.auto.i-end) in
+    rw end at c.loop-i.invariant.bound
