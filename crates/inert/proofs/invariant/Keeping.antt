@@ -1,6 +1,6 @@
 -- What a walk says of the states below a height holds still after a move that keeps them, and after lists were added.
 use Rattle.std.proofs.Common.{◌≡◌, ◌⊎◌, ℕ, ◌<◌, ◌≤◌, List, length, slice_index, refl, sym, ◌∙◌, subst, inl, inr, arith}
-use Rattle.std.proofs.Common.{Contains}
+use Rattle.std.proofs.Common.{rules, Contains}
 use Rattle.std.specs.List.{All}
 use Rattle.std.proofs.Math.Logic.{⊎_map}
 use Rattle.theory.specs.declared.relation.Relation.TheVariants.{Branching}
@@ -12,7 +12,7 @@ use Rattle.inert.specs.Moves.{SignsMore, GoesOn}
 use Rattle.inert.proofs.parts.Stages.{seen_on}
 use Rattle.inert.specs.Search.{Search, Stage, IsSigned, stage_at, item_at, Gives, IsUpTo, IsOf, HoldsPair, IsAhead}
 use Rattle.inert.specs.Search.{IsEntered, IsFollowed, Accounted, IsSound, IsThere, IsRoot, AreRoots, Walks, Open}
-use Rattle.inert.specs.Search.{Finished, Frame, Root, Item, Pair, Listed}
+use Rattle.inert.specs.Search.{Finished, Frame, Root, Item, Pair, Listed, AreSigned, AreThere, AreSound, AreAccounted}
 
 -- the states at places below n, their components and their items are as they were
 pub record Keeps (w new : Search) (n : ℕ) : Type 0 where
@@ -64,8 +64,7 @@ module _ {u : Under} {lists : List (List (ℕ × ℕ))} {w : Search} (walks : Wa
   followed_still p t h entered (inr (inr e)) = entered e
 
   pub done_still : (p : ℕ) (e : Triple) → p < n → ((t : ℕ) → IsEntered w p t → IsFollowed lists new p t)
-      → Accounted u lists w p e
-      → Accounted u lists new p e
+      → Accounted u lists w p e → Accounted u lists new p e
   done_still p e h entered done = record {
     shown = λ other. holds_still p (pair_under u.blocks e) h (done.shown other);
     followed = λ inert. followed_still p e.2 h (entered e.2) (done.followed inert);
@@ -86,8 +85,7 @@ module _ {u : Under} {lists : List (List (ℕ × ℕ))} {w : Search} (walks : Wa
 
   -- an item of a component below n
   pub sound_still : (j : ℕ) → j < length w.items → n ≤ length new.stack →
-      ((p : ℕ) → p < length w.stack → IsOf w.roots j p → p < n)
-      → IsSound u lists new j
+      ((p : ℕ) → p < length w.stack → IsOf w.roots j p → p < n) → IsSound u lists new j
   sound_still j low room below =
       let (p, lp, of, all) = walks.sound j low in
       let h = below p lp of in (
@@ -108,8 +106,7 @@ signed_grow {u = u} {s = s} {k = k} grow was = record {
 
 -- states are finished, and then more
 pub signs_on : (u : Under) (first lists : List (List (ℕ × ℕ))) (old mid new : List Stage) → Grow first lists
-    → SignsMore u first old mid → SignsMore u lists mid new
-    → SignsMore u lists old new
+    → SignsMore u first old mid → SignsMore u lists mid new → SignsMore u lists old new
 signs_on u first lists old mid new grow were are s k is =
     grind (arith, are s k is, were s k, signed_grow {u = u} {s = s} {k = k} grow)
 
@@ -142,27 +139,22 @@ module _ {lists lists' : List (List (ℕ × ℕ))} (grow : Grow lists lists') wh
         (λ entered. entered))
 
     pub Walks-grow : Walks u lists' w
-    Walks-grow = record {
-      numbers = omega (arith, walks.numbers, grow.longer);
-      opened = walks.opened;
-      signed = λ s k is.
-          let was = walks.signed s k is in
-          record {
-            within = omega (arith, was.within, grow.longer);
-            signature = λ t inside same.
-                ⊎_map (λ done. done) (subst (IsSignature Branching u.l u.blocks s) (sym (grow.same k was.within)))
-                (was.signature t inside same);
-          };
-      roots = walks.roots;
-      frames = walks.frames;
-      connects = walks.connects;
-      there = λ j d low k is. omega (arith, walks.there j d low k is, grow.longer);
-      sound = λ j low. let (p, lp, of, all) = walks.sound j low in
-          (p, lp, of, λ z g. all z ((Gives-grow (item_at w.items j) (walks.there j (Pair 0 0) low) z).1 g));
-      accounted = λ p k lp lk source. ⊎_map (λ ahead. ahead)
-          (λ done. record {
-            shown = λ other. holds p _ (done.shown other);
-            followed = λ inert. followed p _ (done.followed inert);
-          })
-          (walks.accounted p k lp lk source);
-    }
+    Walks-grow =
+        let signed : AreSigned u lists' w.stages = λ s k is.
+        let was = walks.signed s k is in
+        record {
+          within = omega (arith, was.within, grow.longer);
+          signature = λ t inside same.
+              ⊎_map (λ done. done) (subst (IsSignature Branching u.l u.blocks s) (sym (grow.same k was.within)))
+              (was.signature t inside same);
+        } in
+        let there : AreThere lists' w.items = λ j d low k is. omega (arith, walks.there j d low k is, grow.longer) in
+        let sound : AreSound u lists' w = λ j low. let (p, lp, of, all) = walks.sound j low in
+        (p, lp, of, λ z g. all z ((Gives-grow (item_at w.items j) (walks.there j (Pair 0 0) low) z).1 g)) in
+        let accounted : AreAccounted u lists' w = λ p k lp lk source. ⊎_map (λ ahead. ahead)
+        (λ done. record {
+          shown = λ other. holds p _ (done.shown other);
+          followed = λ inert. followed p _ (done.followed inert);
+        })
+        (walks.accounted p k lp lk source) in
+        search (rules, walks, grow.longer, signed, there, sound, accounted)

@@ -27,10 +27,7 @@ new_rests u lists {w = w} empty size some each kept =
 
 -- a state that has a stage is one
 pub finished_inside : (stages : List Stage) (s k : ℕ) → stage_at stages s ≡ Finished k → s < length stages
-finished_inside stages s k is = elim (cases_lt s (length stages)) [
-  | inl inside ↦ inside
-  | inr past ↦ absurd (cc (get_or_past stages s Unseen past, is))
-]
+finished_inside stages s k is = grind (arith, get_or_past stages s Unseen, is)
 
 -- nothing is kept past the last state
 pub kept_past : (stages : List Stage) (s : ℕ) → length stages ≤ s → slice_index (kept stages) s ≡ 0
@@ -38,10 +35,8 @@ kept_past stages s past = get_or_past (kept stages) s 0 (omega (arith, past, len
 
 -- the number of the list that is kept for a state
 pub kept_is : (stages : List Stage) (s : ℕ) → slice_index (kept stages) s ≡ number_of (stage_at stages s)
-kept_is stages s = elim (cases_lt s (length stages)) [
-  | inl inside ↦ get_or-map number_of stages s Unseen 0 inside
-  | inr past ↦ kept_past stages s past ∙ ap number_of (sym (get_or_past stages s Unseen past))
-]
+kept_is stages s =
+    grind (arith, get_or-map number_of stages s Unseen 0, kept_past stages s, get_or_past stages s Unseen)
 
 pub kept_at : (stages : List Stage) (s k : ℕ) → stage_at stages s ≡ Finished k → slice_index (kept stages) s ≡ k
 kept_at stages s k is = kept_is stages s ∙ ap number_of is
@@ -49,10 +44,7 @@ kept_at stages s k is = kept_is stages s ∙ ap number_of is
 -- if each state is finished with the empty list, nothing else is kept
 pub kept_empty : (stages : List Stage) → All (λ stage. stage ≡ Finished 0) stages → (s : ℕ) →
     slice_index (kept stages) s ≡ 0
-kept_empty stages all s = elim (cases_lt s (length stages)) [
-  | inl inside ↦ kept_at stages s 0 (all s Unseen inside)
-  | inr past ↦ kept_past stages s past
-]
+kept_empty stages all s = grind (arith, kept_at stages s 0, all s Unseen, kept_past stages s)
 
 -- the states that are looked at were woken, and all were finished
 pub woken_awake : {live : List ℕ} {old w : Search} → IsWoken old.stages live w → HasEnded old →
@@ -81,9 +73,8 @@ module _ {states : ℕ} {live : List ℕ} {stages : List Stage} (are : AreAwake 
 
 -- so a walk can begin, if lists are kept for the others
 pub woken_rests : {u : Under} {lists : List (List (ℕ × ℕ))} {live : List ℕ} {old w : Search} → IsWoken old.stages live w
-    → HasEnded old → length old.stages ≡ u.l.states
-    → AreNumbers lists (kept old.stages) → AreSignedBeside u.l u.blocks live lists (kept old.stages) → 1 ≤ length lists
-    → Rests u lists w
+    → HasEnded old → length old.stages ≡ u.l.states → AreNumbers lists (kept old.stages)
+    → AreSignedBeside u.l u.blocks live lists (kept old.stages) → 1 ≤ length lists → Rests u lists w
 woken_rests {u = u} {lists = lists} {live = live} {old = old} {w = w} woken over size numbers are some =
     let awakes = woken_awake woken over in
     new_rests u lists woken.empty (woken.size ∙ size) some (unless_finished awakes) (λ s k is.
@@ -128,9 +119,7 @@ pub walk_rests : {u : Under} {lists : List (List (ℕ × ℕ))} {w : Search} →
 walk_rests {w = w} walks none =
     let stack : length w.stack ≡ 0 = grind (arith, frames_some walks, none) in
     let roots : length w.roots ≡ 0 = grind (arith, root_low walks 0 no_root, stack) in
-    let of_some : 0 < length w.items → 0 < length w.stack = λ h. let sound =
-    walks.sound 0 h in omega (arith, sound.1) in
-    let items : length w.items ≡ 0 = grind (arith, of_some, stack) in
+    let items : length w.items ≡ 0 = grind (arith, walks.sound 0, stack) in
     record {
       empty = λ i. record {
         stages = w.stages;

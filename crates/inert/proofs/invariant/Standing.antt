@@ -1,10 +1,9 @@
 -- What follows of a walk that stands between two of its steps.
-use Rattle.std.proofs.Common.{◌≡◌, ℕ, ◌-◌, ◌<◌, ◌≤◌, List, length, slice_index, sym, ◌∙◌, ap, subst, inl, inr, arith}
+use Rattle.std.proofs.Common.{◌≡◌, ℕ, ◌-◌, ◌<◌, ◌≤◌, List, length, slice_index, sym, ◌∙◌, ap, arith}
 use Rattle.std.specs.List.{All}
-use Rattle.std.proofs.lemmas.Bool.{cases_lt}
 use Rattle.std.proofs.lemmas.List.{get_or_default}
 use Rattle.theory.specs.declared.relation.Relation.TheVariants.{Branching}
-use Rattle.lts.specs.Lts.{Grouped, system_of, source_of, place_at, IsRow}
+use Rattle.lts.specs.Lts.{Grouped, system_of, source_of, place_at}
 use Rattle.inert.specs.Steps.{Under}
 use Rattle.inert.specs.Moves.{HasRead}
 use Rattle.inert.specs.Signed.{HasPair}
@@ -18,10 +17,7 @@ pair_before laws u s t z tie has = (has.0, laws.path (system_of u.l) (slice_inde
 
 module _ {u : Under} {lists : List (List (ℕ × ℕ))} {w : Search} (walks : Walks u lists w) where
   pub roots_some : 0 < length w.stack → 0 < length w.roots
-  roots_some some = elim (cases_lt 0 (length w.roots)) [
-    | inl h ↦ h
-    | inr none ↦ absurd (walks.roots.first some (λ i d h. absurd (omega (arith, none, h))))
-  ]
+  roots_some some = grind (arith, walks.roots.first some)
 
   pub frames_some : 0 < length w.stack → 0 < length w.frames
   frames_some some = omega (arith, (walks.roots.each 0 no_root (roots_some some)).framed.1)
@@ -56,9 +52,7 @@ module _ {u : Under} {lists : List (List (ℕ × ℕ))} {w : Search} (walks : Wa
 
   -- components begin up to it, and on the stack
   pub reached : All (λ r. r.height ≤ here w) w.roots
-  reached i d h =
-      let (j, low, is) = (walks.roots.each i d h).framed in
-      omega (arith, frames_up j low, is)
+  reached i d h = let (j, low, is) = (walks.roots.each i d h).framed in omega (arith, frames_up j low, is)
 
   pub root_low : All (λ r. r.height < length w.stack) w.roots
   root_low i d h =
@@ -81,18 +75,9 @@ pub list_signed : {u : Under} {lists : List (List (ℕ × ℕ))} {w : Search} �
     → IsSigned u t lists k
 list_signed {w = w} walks p t k low inside same is =
     let kept = walks.signed t k is in
-    elim (kept.signature (slice_index w.stack p) inside (sym same)) [
-      | inl (j, done) ↦ absurd (cc (walks.opened.placed p low, done))
-      | inr signature ↦ record { within = kept.within; signature = signature }
-    ]
+    grind (arith, kept.within, kept.signature (slice_index w.stack p) inside (sym same), walks.opened.placed p low)
 
 -- a frame of a state that stays at its height
 pub IsFrame-moved : {l : Grouped} {stack stack' : List ℕ} {x : Frame} → IsFrame l stack x → x.height < length stack'
     → slice_index stack' x.height ≡ slice_index stack x.height → IsFrame l stack' x
-IsFrame-moved {l = l} {x = x} was low same = record {
-  on_stack = low;
-  start = was.start;
-  row = subst (λ s. IsRow l.places s was.start x.end) (sym same) was.row;
-  first = was.first;
-  most = was.most;
-}
+IsFrame-moved was low same = grind (arith, was, low, same)

@@ -1,7 +1,7 @@
 -- The moves back from the last frame, the row of which was read: the frame is popped, and its component is closed if it
 -- is the root.
 use Rattle.std.proofs.Common.{◌≡◌, ◌≢◌, ◌⊎◌, ℕ, ◌+◌, ◌-◌, ◌<◌, ◌≤◌, List, [], length, slice_index, refl, sym, ◌∙◌, ap}
-use Rattle.std.proofs.Common.{subst, inl, inr, arith, ◌∷◌, ◌++◌, take, Contains, subst₂}
+use Rattle.std.proofs.Common.{subst, inl, inr, rules, arith, ◌∷◌, ◌++◌, take, Contains, subst₂}
 use Rattle.std.specs.List.{All}
 use Rattle.std.proofs.lemmas.Bool.{cases_eq, cases_lt}
 use Rattle.std.proofs.lemmas.Grind.{common_steps, elements}
@@ -13,7 +13,8 @@ use Rattle.lts.specs.Lts.{source_of, place_at, IsLts}
 use Rattle.lists.specs.Lists.{list_at}
 use Rattle.inert.specs.Steps.{Under}
 use Rattle.inert.specs.Search.{Search, stage_at, frame_at, no_frame, here, last, no_root, IsFrame, IsAhead, IsEntered}
-use Rattle.inert.specs.Search.{IsFollowed, Walks, Laws, root_at, item_at, Ties, IsOf, IsBefore, IsRoot, IsThere, Gives}
+use Rattle.inert.specs.Search.{IsFollowed, Walks, Laws, item_at, Ties, IsOf, IsBefore, IsRoot, IsThere, Gives}
+use Rattle.inert.specs.Search.{AreFrames, AreAccounted}
 use Rattle.inert.specs.Search.{HoldsPair, AreOpen, IsSigned, IsSound, AreSound, Stage, Item, Pair, Listed}
 use Rattle.inert.specs.Moves.{popped, HasRead, Finishes, Closes, ahead, SignsMore, GoesOn}
 use Rattle.inert.specs.Signed.{HasPair}
@@ -46,22 +47,16 @@ module _ {u : Under} {lists : List (List (ℕ × ℕ))} {w : Search} (walks : Wa
   -- a frame that is left, and the next one
   popped_ahead_still : (p k i : ℕ) → i < length w.frames - 1 → (frame_at w.frames i).height ≡ p →
       (frame_at w.frames i).next ≤ k → IsAhead (popped w) p k
-  popped_ahead_still p k i low is ahead = (
-    i,
-    omega (arith, low, popped_size),
-    ap (λ x. x.height) (popped_same i low) ∙ is,
-    subst (λ x. x.next ≤ k) (sym (popped_same i low)) ahead,
-  )
+  popped_ahead_still p k i low is ahead =
+      let same = popped_same i low in
+      (i, omega (arith, low, popped_size), ap (λ x. x.height) same ∙ is, subst (λ x. x.next ≤ k) (sym same) ahead)
 
   popped_entered : (p t i : ℕ) → i + 1 < length w.frames - 1 → (frame_at w.frames i).height ≡ p
-      → slice_index w.stack (frame_at w.frames (i + 1)).height ≡ t
-      → IsEntered (popped w) p t
-  popped_entered p t i low is to = (
-    i,
-    omega (arith, low, popped_size),
-    grind (arith, popped_same i, low, is),
-    grind (arith, popped_same (i + 1), low, to),
-  )
+      → slice_index w.stack (frame_at w.frames (i + 1)).height ≡ t → IsEntered (popped w) p t
+  popped_entered p t i low is to =
+      let at = popped_same i in
+      let next = popped_same (i + 1) in
+      (i, omega (arith, low, popped_size), grind (arith, at, low, is), grind (arith, next, low, to))
 
   -- the row of the last frame was read, and no component begins there
   module _ (some : 0 < length w.frames) (read : HasRead w) (apart : (last w.roots).height ≢ here w) where
@@ -105,23 +100,20 @@ module _ {u : Under} {lists : List (List (ℕ × ℕ))} {w : Search} (walks : Wa
     ]
 
     Walks-pop : Walks u lists (popped w)
-    Walks-pop = record {
-      numbers = walks.numbers;
-      opened = walks.opened;
-      signed = walks.signed;
-      roots = roots_kept walks.roots (popped w).frames w.items (λ i d h.
-          let root = walks.roots.each i d h in
-          record { framed = popped_framed _ (earlier i d h) root.framed; within = root.within });
-      frames = record {
-        rising = AllPairs-take (λ x y. x.height < y.height) (length w.frames - 1) w.frames walks.frames.rising;
-        each = All-take (IsFrame u.l w.stack) (length w.frames - 1) w.frames walks.frames.each;
-      };
-      connects = walks.connects;
-      there = walks.there;
-      sound = λ j lj. sound_still walks pop_keeps j lj (omega arith) (λ p lp _. lp);
-      accounted = λ p k lp lk source. accounted_still walks pop_keeps p k lp lk source
-          (λ ahead. inl (ahead_popped p k lk source ahead)) (entered_popped p);
-    }
+    Walks-pop =
+        let roots = roots_kept walks.roots (popped w).frames w.items (λ i d h.
+        let root = walks.roots.each i d h in
+        record { framed = popped_framed _ (earlier i d h) root.framed; within = root.within }) in
+        let frames : AreFrames u.l w.stack (popped w).frames = record {
+          rising = AllPairs-take (λ x y. x.height < y.height) (length w.frames - 1) w.frames walks.frames.rising;
+          each = All-take (IsFrame u.l w.stack) (length w.frames - 1) w.frames walks.frames.each;
+        } in
+        let sound : AreSound u lists (popped w) =
+        λ j lj. sound_still walks pop_keeps j lj (omega arith) (λ p lp _. lp) in
+        let accounted : AreAccounted u lists (popped w) =
+        λ p k lp lk source. accounted_still walks pop_keeps p k lp lk source
+        (λ ahead. inl (ahead_popped p k lk source ahead)) (entered_popped p) in
+        search (rules, walks, roots, frames, sound, accounted)
 
 -- its last component was finished, with its list among the lists
 module _ (laws : Laws) {u : Under} {lists : List (List (ℕ × ℕ))} {w : Search} (walks : Walks u lists w)
@@ -160,13 +152,9 @@ module _ (laws : Laws) {u : Under} {lists : List (List (ℕ × ℕ))} {w : Searc
   state_same p h = get_or-take q w.stack p _ h
 
   before_last : All (λ x. x.height < q) Closed.frames
-  before_last i d h = grind (
-    arith,
-    elements,
-    walks.frames.rising i (length w.frames - 1),
-    get_or_default w.frames (length w.frames - 1) d no_frame,
-    height,
-  )
+  before_last i d h =
+      let frame = get_or_default w.frames (length w.frames - 1) d no_frame in
+      grind (arith, elements, walks.frames.rising i (length w.frames - 1), frame, height)
 
   same_unseen : (s : ℕ) → is_unseen (stage_at Closed.stages s) ≡ is_unseen (stage_at w.stages s)
   same_unseen s = grind (arith, stages.others s, walks.opened.placed, stages.members)
@@ -190,16 +178,11 @@ module _ (laws : Laws) {u : Under} {lists : List (List (ℕ × ℕ))} {w : Searc
   cut_size = length-take-le c0 w.items few
 
   item_same : (j : ℕ) → j < c0 → (j < length Closed.items) × (item_at Closed.items j ≡ item_at w.items j)
-  item_same j h = (
-    omega (arith, h, length-append (take c0 w.items) added, cut_size),
-    grind (
-      arith,
-      h,
-      cut_size,
-      get_or_append_left (take c0 w.items) added (Pair 0 0) j,
-      get_or-take c0 w.items j (Pair 0 0),
-    ),
-  )
+  item_same j h =
+      let cut = get_or_append_left (take c0 w.items) added (Pair 0 0) j in (
+        omega (arith, h, length-append (take c0 w.items) added, cut_size),
+        grind (arith, h, cut_size, cut, get_or-take c0 w.items j (Pair 0 0)),
+      )
 
   -- and its list, if some state led to it
   item_new : 0 < length Closed.frames → (length Closed.items ≡ c0 + 1) × (item_at Closed.items c0 ≡ Listed number)
@@ -230,29 +213,20 @@ module _ (laws : Laws) {u : Under} {lists : List (List (ℕ × ℕ))} {w : Searc
 
   -- the roots that are left were roots before the last one
   root_left : All (λ r. IsRoot w.frames w.items r × IsBefore r (last w.roots)) Closed.roots
-  root_left i d h = (
-    All-take (IsRoot w.frames w.items) (length w.roots - 1) w.roots walks.roots.each i d h,
-    grind (
-      arith,
-      elements,
-      walks.roots.rising i (length w.roots - 1),
-      get_or_default w.roots (length w.roots - 1) d no_root,
-    ),
-  )
+  root_left i d h =
+      let root = get_or_default w.roots (length w.roots - 1) d no_root in (
+        All-take (IsRoot w.frames w.items) (length w.roots - 1) w.roots walks.roots.each i d h,
+        grind (arith, elements, walks.roots.rising i (length w.roots - 1), root),
+      )
 
   -- the height of the state that led to it
   abbrev back : ℕ
   back = (frame_at w.frames (length w.frames - 2)).height
 
   back_low : 0 < length Closed.frames → back < q
-  back_low more = grind (
-    arith,
-    walks.frames.rising (length w.frames - 2) (length w.frames - 1) no_frame,
-    more,
-    popped_size walks,
-    some,
-    height,
-  )
+  back_low more =
+      let rise = walks.frames.rising (length w.frames - 2) (length w.frames - 1) no_frame in
+      grind (arith, rise, more, popped_size walks, some, height)
 
   -- components that stay begin up to it
   up_to_back : 0 < length Closed.frames → All (λ r. r.height ≤ back) Closed.roots
@@ -296,15 +270,8 @@ module _ (laws : Laws) {u : Under} {lists : List (List (ℕ × ℕ))} {w : Searc
 
   opened : AreOpen Closed.stages Closed.stack
   opened = record {
-    placed = λ p h. grind (
-      arith,
-      state_same p,
-      keeps.opened (slice_index w.stack p) p,
-      walks.opened.placed p,
-      size,
-      low_q,
-      h,
-    );
+    placed = λ p h.
+        grind (arith, state_same p, keeps.opened (slice_index w.stack p) p, walks.opened.placed p, size, low_q, h);
     only = λ s p is. (
       grind (arith, stages.others s, stages.members, walks.opened.only s p, is, size),
       grind (arith, stages.others s, stages.members, walks.opened.only s p, state_same p, is),
@@ -339,9 +306,7 @@ module _ (laws : Laws) {u : Under} {lists : List (List (ℕ × ℕ))} {w : Searc
     roots = record {
       first = λ h all. walks.roots.first (stack_some walks some) (All-from_take (λ r. 0 < r.height) (length w.roots - 1)
           w.roots no_root all (λ i high low.
-          let e : i ≡ length w.roots - 1 = omega (arith, high, low) in
-          let same = ap (λ j. (root_at w.roots j).height) e in
-          omega (arith, same, h, size)));
+          grind (arith, high, low, h, size)));
       rising = AllPairs-take IsBefore (length w.roots - 1) w.roots walks.roots.rising;
       each = λ i d h.
           let (root, before) = root_left i d h in
@@ -363,17 +328,15 @@ module _ (laws : Laws) {u : Under} {lists : List (List (ℕ × ℕ))} {w : Searc
         subst₂ (Ties u) (sym (state_same p low)) (sym (state_same r low'))
         (walks.connects p r (omega (arith, low, low_q)) (omega (arith, low', low_q))
         (All-from_take (λ x. x.height ≤ p → x.height ≤ r) (length w.roots - 1) w.roots no_root h (λ i high lr le.
-        let e : length w.roots - 1 ≡ i = omega (arith, high, lr) in
-        let same = ap (λ j. (root_at w.roots j).height) e in
-        absurd (omega (arith, same, le, low)))));
+        absurd (grind (arith, high, lr, le, low)))));
     there =
         All-append (IsThere lists) (take c0 w.items) added (All-take (IsThere lists) c0 w.items walks.there) (elim led [
           | inl (_, e) ↦ let it : IsThere lists (Listed number) =
               λ k is. subst (λ n. n < length lists) (let e : number ≡ k = cc in e)
               (exact q (omega arith) low_q).within in
-              subst (All (IsThere lists)) (sym e) (All-cons (IsThere lists) (Listed number) [] it
+              rw e (All-cons (IsThere lists) (Listed number) [] it
               (All-nil (IsThere lists)))
-          | inr (_, e) ↦ subst (All (IsThere lists)) (sym e) (All-nil (IsThere lists))
+          | inr (_, e) ↦ rw e (All-nil (IsThere lists))
         ]);
     sound = sound;
     accounted = λ p k lp lk source.
@@ -393,8 +356,7 @@ module _ {u : Under} {lists : List (List (ℕ × ℕ))} {w : Search} (walks : Wa
 
   -- its state is a root, and the component was finished
   module _ (laws : Laws) (lts : IsLts u.l) {lists' : List (List (ℕ × ℕ))} {new : Search}
-      (height : (last w.roots).height ≡ here w)
-      (closes : Closes (last w.roots) lists lists' (popped w) new) where
+      (height : (last w.roots).height ≡ here w) (closes : Closes (last w.roots) lists lists' (popped w) new) where
     abbrev Returns : Search → Type 0
     Returns x = GoesOn u lists' w x × (ahead u.l x ≡ ahead u.l w)
 

@@ -90,8 +90,7 @@ module _ (laws : Laws) {u : Under} (lts : IsLts u.l) {lists : List (List (ℕ ×
           get_or-set_other old.stages s t (Open 0) Unseen (λ e. seen (sym is ∙ ap (stage_at old.stages) e ∙ none)) ∙ is
 
       bare : {m : Search} (enters : Bool) (step : Step) → Is step → ¬ LeadsOn old.stages step
-          → TakesStep u.l.places step (collecting old.stages w.items) m enters
-          → Collects m
+          → TakesStep u.l.places step (collecting old.stages w.items) m enters → Collects m
       bare enters (Shows a b) is still (new, stay) =
           subst Collects (sym new) (refl, takes_framed (Shows a b) enters is (refl, stay))
       bare enters (Goes t) is still (inl (unseen, new, went)) = absurd (still (t, refl, inl unseen))

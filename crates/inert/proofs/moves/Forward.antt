@@ -1,7 +1,7 @@
 -- The moves forward: an item is collected, components are joined, a state is entered, and a transition is marked as
 -- read.
 use Rattle.std.proofs.Common.{◌≡◌, ℕ, ◌+◌, ◌<◌, List, length, slice_index, refl, sym, subst, inl, inr, arith, ◌-◌, ◌≤◌}
-use Rattle.std.proofs.Common.{◌∙◌, ap, subst₂, ◌⊎◌, set, get_or}
+use Rattle.std.proofs.Common.{rules, ◌∙◌, ap, subst₂, ◌⊎◌, set, get_or}
 use Rattle.std.specs.List.{All, AllPairs}
 use Rattle.std.proofs.lemmas.Bool.{cases_lt, cases_eq}
 use Rattle.std.proofs.lemmas.List.{get_or_append_left, get_or_push, length_push, get_or_default, length-set}
@@ -17,7 +17,7 @@ use Rattle.inert.specs.Signed.{HasPair}
 use Rattle.inert.specs.Search.{Search, here, item_at, IsThere, IsOf, Gives, HoldsPair, IsSound, Walks, Item, Laws}
 use Rattle.inert.specs.Search.{stage_at, root_at, no_root, Ties, IsUpTo, IsBefore, IsRoot, IsHere, Root, Open, frame_at}
 use Rattle.inert.specs.Search.{no_frame, IsFrame, IsEntered, IsAhead, AreOpen, AreRoots, AreFrames, AreAccounted}
-use Rattle.inert.specs.Search.{Connects, Stage, Unseen, Finished, Frame, IsFollowed, Accounted}
+use Rattle.inert.specs.Search.{AreSound, AreSigned, Connects, Stage, Unseen, Finished, Frame, IsFollowed, Accounted}
 use Rattle.inert.specs.Moves.{with_item, CutsRoots, entered}
 use Rattle.inert.proofs.parts.Rising.{AllPairs-take, All-from_take}
 use Rattle.inert.proofs.parts.Counting.{unseen-set}
@@ -52,25 +52,24 @@ module _ {u : Under} {lists : List (List (ℕ × ℕ))} {w : Search} (walks : Wa
     pub Walks-collect : 0 < length w.frames → IsThere lists x
         → ((z : ℕ × ℕ) → Gives lists x z → HasPair Branching u.l u.blocks (slice_index w.stack (here w)) z.0 z.1)
         → Walks u lists With
-    Walks-collect some there sound = record {
-      numbers = walks.numbers;
-      opened = walks.opened;
-      signed = walks.signed;
-      roots = roots_kept walks.roots w.frames With.items (λ i d h.
-          let root = walks.roots.each i d h in
-          record { framed = root.framed; within = omega (arith, root.within, length_push w.items x) });
-      frames = walks.frames;
-      connects = walks.connects;
-      there = All-push (IsThere lists) w.items x walks.there there;
-      sound = λ j low. elim (cases_lt j (length w.items)) [
-        | inl h ↦ sound_still walks collect_keeps j h (omega arith) (λ p low _. low)
-        | inr h ↦ subst (IsSound u lists With) (let e : length w.items
-            ≡ j = omega (arith, low, h, length_push w.items x) in e)
-            (here w, on_stack walks some, of_here, λ z g. sound z (subst (λ y. Gives lists y z) item_last g))
-      ];
-      accounted = λ p k lp lk source. accounted_still walks collect_keeps p k lp lk source (λ ahead. inl ahead)
-          (λ t entered. inr (inr entered));
-    }
+    Walks-collect some there sound =
+        let roots = roots_kept walks.roots w.frames With.items (λ i d h.
+        let root = walks.roots.each i d h in
+        record { framed = root.framed; within = omega (arith, root.within, length_push w.items x) }) in
+        let theirs = All-push (IsThere lists) w.items x walks.there there in
+        let sounds : AreSound u lists With = λ j low. elim (cases_lt j (length w.items)) [
+          | inl h ↦ sound_still walks collect_keeps j h (omega arith) (λ p low _. low)
+          | inr h ↦ let e : length w.items ≡ j = omega (arith, low, h, length_push w.items x) in
+              subst (IsSound u lists With) e (
+                here w,
+                on_stack walks some,
+                of_here,
+                λ z g. sound z (subst (λ y. Gives lists y z) item_last g),
+              )
+        ] in
+        let accounted : AreAccounted u lists With = λ p k lp lk source.
+        accounted_still walks collect_keeps p k lp lk source (λ ahead. inl ahead) (λ t entered. inr (inr entered)) in
+        search (rules, walks, roots, theirs, sounds, accounted)
 
   -- an inert step leads to a state that is open: the roots above its height q are cut, so that the components from
   -- there on are one
@@ -92,14 +91,9 @@ module _ {u : Under} {lists : List (List (ℕ × ℕ))} {w : Search} (walks : Wa
 
     -- the last root that is left is up to q, so all are
     below : All (λ r. r.height ≤ q) roots
-    below i d h = grind (
-      arith,
-      elements,
-      cuts.below,
-      cuts.roots,
-      walks.roots.rising i (cuts.count - 1),
-      get_or_default w.roots (cuts.count - 1) d no_root,
-    )
+    below i d h =
+        let root = get_or_default w.roots (cuts.count - 1) d no_root in
+        grind (arith, elements, cuts.below, cuts.roots, walks.roots.rising i (cuts.count - 1), root)
 
     -- the state that the step leads to is in the component where the walk is
     pub joined_here : (t : ℕ) → stage_at w.stages t ≡ Open q → IsHere Joined (here w) t
@@ -107,34 +101,28 @@ module _ {u : Under} {lists : List (List (ℕ × ℕ))} {w : Search} (walks : Wa
         (q, is, λ i d h _. below i d h, λ i d h _. cut_each (λ r. r.height ≤ here w) (reached walks) i d h)
 
     pub Walks-join : q < length w.stack → Inert (system_of u.l) (slice_index u.blocks) (slice_index w.stack (here w))
-        (slice_index w.stack q)
-        → Walks u lists Joined
-    Walks-join low step = record {
-      numbers = walks.numbers;
-      opened = walks.opened;
-      signed = walks.signed;
-      roots = record {
-        first = λ some all. walks.roots.first some (cut_back (λ r. 0 < r.height) all (λ r up. omega (arith, up)));
-        rising =
-            subst (AllPairs IsBefore) (sym cuts.roots) (AllPairs-take IsBefore cuts.count w.roots walks.roots.rising);
-        each = cut_each (IsRoot w.frames w.items) walks.roots.each;
-      };
-      frames = walks.frames;
-      connects = λ p r lp lr h. elim (cases_lt p q) [
-        | inl before ↦ walks.connects p r lp lr (cut_back
-            (λ x. x.height ≤ p → x.height ≤ r) h (λ x up le. absurd (omega (arith, up, le, before))))
-        | inr after ↦
-            let up : IsUpTo roots q r = λ i d h' le. h i d h' (omega (arith, le, after)) in
-            laws.joined (system_of u.l) (slice_index u.blocks) _ _ _ (laws.after (system_of u.l) (slice_index u.blocks)
-            _ _ _ (ties walks p lp) step)
-            (walks.connects q r low lr (cut_back (λ x. x.height ≤ q →
-            x.height ≤ r) up (λ x above le. absurd (omega (arith, above, le)))))
-      ];
-      there = walks.there;
-      sound = λ j lj. sound_still walks join_keeps j lj (omega arith) (λ p lp _. lp);
-      accounted = λ p k lp lk source. accounted_still walks join_keeps p k lp lk source (λ ahead. inl ahead)
-          (λ t entered. inr (inr entered));
-    }
+        (slice_index w.stack q) → Walks u lists Joined
+    Walks-join low step =
+        let rooted : AreRoots Joined = record {
+          first = λ some all. walks.roots.first some (cut_back (λ r. 0 < r.height) all (λ r up. omega (arith, up)));
+          rising =
+              subst (AllPairs IsBefore) (sym cuts.roots) (AllPairs-take IsBefore cuts.count w.roots walks.roots.rising);
+          each = cut_each (IsRoot w.frames w.items) walks.roots.each;
+        } in
+        let connects : Connects u Joined = λ p r lp lr h. elim (cases_lt p q) [
+          | inl before ↦ walks.connects p r lp lr (cut_back
+              (λ x. x.height ≤ p → x.height ≤ r) h (λ x up le. absurd (omega (arith, up, le, before))))
+          | inr after ↦
+              let up : IsUpTo roots q r = λ i d h' le. h i d h' (omega (arith, le, after)) in
+              let on = laws.after (system_of u.l) (slice_index u.blocks) _ _ _ (ties walks p lp) step in
+              laws.joined (system_of u.l) (slice_index u.blocks) _ _ _ on
+              (walks.connects q r low lr (cut_back (λ x. x.height ≤ q →
+              x.height ≤ r) up (λ x above le. absurd (omega (arith, above, le)))))
+        ] in
+        let sound : AreSound u lists Joined = λ j lj. sound_still walks join_keeps j lj (omega arith) (λ p lp _. lp) in
+        let accounted : AreAccounted u lists Joined = λ p k lp lk source.
+        accounted_still walks join_keeps p k lp lk source (λ ahead. inl ahead) (λ t entered. inr (inr entered)) in
+        search (rules, walks, rooted, connects, sound, accounted)
 
   -- the state t is entered
   module _ (laws : Laws) {t start end : ℕ} (within : t < length w.stages) (unseen : stage_at w.stages t ≡ Unseen)
@@ -204,20 +192,14 @@ module _ {u : Under} {lists : List (List (ℕ × ℕ))} {w : Search} (walks : Wa
 
     entered_still : (p u : ℕ) → IsEntered w p u → IsEntered Entered p u
     entered_still p u (i, low, is, to) =
-        let on = (walks.frames.each (i + 1) no_frame low).on_stack in (
-          i,
-          omega (arith, low, frames_size),
-          grind (arith, frame_same i, low, is),
-          grind (arith, frame_same (i + 1), state_same, on, low, to),
-        )
+        let on = (walks.frames.each (i + 1) no_frame low).on_stack in
+        let at = frame_same i (omega (arith, low)) in
+        let next = frame_same (i + 1) low in
+        (i, omega (arith, low, frames_size), grind (arith, at, is), grind (arith, next, state_same, on, to))
 
     ahead_still : (p k : ℕ) → IsAhead w p k → IsAhead Entered p k
-    ahead_still p k (i, low, is, ahead) = (
-      i,
-      omega (arith, low, frames_size),
-      grind (arith, frame_same i low, is),
-      grind (arith, frame_same i low, ahead),
-    )
+    ahead_still p k (i, low, is, ahead) = let same = frame_same i low in
+        (i, omega (arith, low, frames_size), grind (arith, same, is), grind (arith, same, ahead))
 
     opened : AreOpen Entered.stages Entered.stack
     opened = record {
@@ -233,13 +215,8 @@ module _ {u : Under} {lists : List (List (ℕ × ℕ))} {w : Search} (walks : Wa
     roots : AreRoots Entered
     roots = record {
       first = λ _ all. elim (cases_eq n 0) [
-        | inl e ↦ grind (
-          arith,
-          all (length w.roots) no_root,
-          length_push w.roots NewRoot,
-          get_or_push w.roots NewRoot no_root (length w.roots) refl,
-          e,
-        )
+        | inl e ↦ let new = get_or_push w.roots NewRoot no_root (length w.roots) refl in
+            grind (arith, all (length w.roots) no_root, length_push w.roots NewRoot, new, e)
         | inr d ↦ walks.roots.first (omega (arith, d)) (before_new (λ r. 0 < r.height) all)
       ];
       rising = all_pairs_push IsBefore w.roots NewRoot walks.roots.rising
@@ -265,13 +242,7 @@ module _ {u : Under} {lists : List (List (ℕ × ℕ))} {w : Search} (walks : Wa
       each = All-push (IsFrame u.l Entered.stack) w.frames NewFrame
           (λ i d h. let frame = walks.frames.each i d h in let low = frame.on_stack in IsFrame-moved frame
           (omega (arith, low, size)) (state_same _ low))
-          (record {
-            on_stack = omega (arith, size);
-            start = start;
-            row = subst (λ s. IsRow u.l.places s start end) (sym state_new) row;
-            first = omega arith;
-            most = omega (arith, row.count);
-          });
+          (grind (arith, size, state_new, row));
     }
 
     accounted : AreAccounted u lists Entered
@@ -311,29 +282,19 @@ module _ {u : Under} {lists : List (List (ℕ × ℕ))} {w : Search} (walks : Wa
       ]
 
       pub Walks-enter : Walks u lists Entered
-      Walks-enter = record {
-        numbers = omega (
-          arith,
-          length-set w.stages t (Open n),
-          unseen-set w.stages t (Open n) refl within unseen,
-          walks.numbers,
-          size,
-        );
-        opened = opened;
-        signed = λ s k is. kept_still u lists w.stages Entered.stages enter_keeps.finished s k
-            (walks.signed s k (grind (arith, common_steps, unseen, within, is)));
-        roots = roots;
-        frames = frames;
-        connects = connects;
-        there = walks.there;
-        sound = λ j lj. sound_still walks enter_keeps j lj (omega (arith, size)) (λ p lp _. lp);
-        accounted = accounted;
-      }
+      Walks-enter =
+          let fewer = unseen-set w.stages t (Open n) refl within unseen in
+          let signed : AreSigned u lists Entered.stages = λ s k is.
+          kept_still u lists w.stages Entered.stages enter_keeps.finished s k
+          (walks.signed s k (grind (arith, common_steps, unseen, within, is))) in
+          let sound : AreSound u lists Entered =
+          λ j lj. sound_still walks enter_keeps j lj (omega (arith, size)) (λ p lp _. lp) in
+          let longer = length-set w.stages t (Open n) in
+          search (rules, walks, fewer, longer, size, opened, signed, roots, frames, connects, sound, accounted)
 
   -- the transition in place m, which is next in the row of frame i, was read
   module _ {i m : ℕ} {x : Frame} (low : i < length w.frames) (is : x ≡ record (frame_at w.frames i) { next = m + 1 })
-      (next : (frame_at w.frames i).next ≡ m)
-      (more : m < (frame_at w.frames i).end) where
+      (next : (frame_at w.frames i).next ≡ m) (more : m < (frame_at w.frames i).end) where
     abbrev pub Moved : Search
     Moved = record w { frames = set w.frames i x }
 
@@ -369,10 +330,8 @@ module _ {u : Under} {lists : List (List (ℕ × ℕ))} {w : Search} (walks : Wa
         | inl e ↦
             let at' : (frame_at w.frames i).height ≡ p = ap (λ y. (frame_at w.frames y).height) (sym e) ∙ at in
             elim (cases_eq m k) [
-              | inl e' ↦
-                  inr (done_still walks next_keeps p (place_at u.l.places k) lp (next_entered p)
-                  (subst (λ y. Accounted u lists w y (place_at u.l.places k)) at'
-                  (subst (λ y. Accounted u lists w (frame_at w.frames i).height (place_at u.l.places y)) e' done)))
+              | inl e' ↦ inr (done_still walks next_keeps p (place_at u.l.places k) lp (next_entered p)
+                  (rw (sym at', sym e') done))
               | inr d' ↦
                   let was = ap (λ y. (frame_at w.frames y).next) e in
                   let now = ap (λ y. y.next) (get_or-set_same w.frames i x no_frame low ∙ is) in
@@ -386,32 +345,21 @@ module _ {u : Under} {lists : List (List (ℕ × ℕ))} {w : Search} (walks : Wa
       ]
 
       pub Walks-next : Walks u lists Moved
-      Walks-next = record {
-        numbers = walks.numbers;
-        opened = walks.opened;
-        signed = walks.signed;
-        roots = roots_kept walks.roots Moved.frames w.items (λ k d h.
-            let root = walks.roots.each k d h in
-            let (j, lj, at) = root.framed in
-            record { framed = (j, omega (arith, lj, same_size), places_same j no_frame ∙ at); within = root.within });
-        frames = record {
-          rising =
-              λ j k d h h'. grind (arith, walks.frames.rising j k d h, places_same j d, places_same k d, same_size, h');
-          each =
-              let frame = walks.frames.each i no_frame low in
-              All-set (IsFrame u.l w.stack) w.frames i x
-              (subst (IsFrame u.l w.stack) (sym is) (record {
-                on_stack = frame.on_stack;
-                start = frame.start;
-                row = frame.row;
-                first = omega (arith, frame.first, next);
-                most = omega (arith, more);
-              }))
-              walks.frames.each;
-        };
-        connects = walks.connects;
-        there = walks.there;
-        sound = λ j lj. sound_still walks next_keeps j lj (omega arith) (λ p lp _. lp);
-        accounted =
-            λ p k lp lk source. accounted_still walks next_keeps p k lp lk source (next_ahead p k lp) (next_entered p);
-      }
+      Walks-next =
+          let roots = roots_kept walks.roots Moved.frames w.items (λ k d h.
+          let root = walks.roots.each k d h in
+          let (j, lj, at) = root.framed in
+          record { framed = (j, omega (arith, lj, same_size), places_same j no_frame ∙ at); within = root.within }) in
+          let frames : AreFrames u.l w.stack Moved.frames = record {
+            rising =
+                λ j k d h l. grind (arith, walks.frames.rising j k d h, places_same j d, places_same k d, same_size, l);
+            each =
+                let frame = walks.frames.each i no_frame low in
+                All-set (IsFrame u.l w.stack) w.frames i x
+                (rw is (grind (arith, frame, next, more)))
+                walks.frames.each;
+          } in
+          let sound : AreSound u lists Moved = λ j lj. sound_still walks next_keeps j lj (omega arith) (λ p lp _. lp) in
+          let accounted : AreAccounted u lists Moved =
+          λ p k lp lk source. accounted_still walks next_keeps p k lp lk source (next_ahead p k lp) (next_entered p) in
+          search (rules, walks, roots, frames, sound, accounted)

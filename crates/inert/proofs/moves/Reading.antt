@@ -83,8 +83,7 @@ module _ (laws : Laws) {u : Under} (lts : IsLts u.l) {lists : List (List (ℕ ×
   stayed : (roots : List Root) (items : List Item) (enters : Bool) → let m : Search =
       record w { roots = roots; items = items } in
       Walks u lists m → Accounted u lists m (here w) e → ¬ IsTrue enters → Taken m enters
-  stayed roots items enters after done stay =
-      grind (arith, after, done, seen_same w.stages, stay)
+  stayed roots items enters after done stay = grind (arith, after, done, seen_same w.stages, stay)
 
   -- an inert step leads to the target, whatever is known of that
   followed : IsInert u (slice_index u.blocks (source_of e)) e → (m : Search) (enters : Bool) →
@@ -100,12 +99,9 @@ module _ (laws : Laws) {u : Under} (lts : IsLts u.l) {lists : List (List (ℕ ×
         };
         seen = seen_more w.stages (target_of e) (Open (length w.stack)) (λ e. cc) within unseen;
         signs = signs_opened u lists w.stages (target_of e) (Open (length w.stack)) (λ k e. cc) within;
-        same_ahead = omega (
-          arith,
-          unread-set w.stages (target_of e) (Open (length w.stack)) refl within unseen u.l.places,
-          rest-push w.frames x,
-          row.count,
-        );
+        same_ahead =
+            let read = unread-set w.stages (target_of e) (Open (length w.stack)) refl within unseen u.l.places in
+            omega (arith, read, rest-push w.frames x, row.count);
         same_frame = get_or_append_left w.frames (x ∷ []) _ (length w.frames - 1) (omega (arith, some));
         still = λ stay. absurd (stay went);
         longer = λ _. length_push w.frames x;
@@ -138,8 +134,7 @@ module _ (laws : Laws) {u : Under} (lts : IsLts u.l) {lists : List (List (ℕ ×
 
   -- whichever step it is
   pub taken : (step : TakenStep) (m : Search) (enters : Bool) → IsStep u (slice_index u.blocks (source_of e)) e step
-      → TakesStep u.l.places step w m enters
-      → Taken m enters
+      → TakesStep u.l.places step w m enters → Taken m enters
   taken (Shows a b) m enters (other, is) (new, stay) =
       subst (λ y. Taken y enters) (sym new) (stayed w.roots (with_item (Pair a b) w).items enters
       (Walks-collect walks (Pair a b) some (λ j e'. absurd (cc))
@@ -154,8 +149,7 @@ module _ (laws : Laws) {u : Under} (lts : IsLts u.l) {lists : List (List (ℕ ×
 
 -- a step that is taken after a frame was marked might have been taken before
 marked_first : (places : List Triple) (w : Search) {m : Search} (enters : Bool) {i : ℕ} {x : Frame} (step : TakenStep)
-    → i < length w.frames
-    → TakesStep places step (record w { frames = set w.frames i x }) m enters
+    → i < length w.frames → TakesStep places step (record w { frames = set w.frames i x }) m enters
     → (m' : Search) × TakesStep places step w m' enters × (m ≡ record m' { frames = set m'.frames i x })
 marked_first places w enters (Shows a b) low (new, stay) = (with_item (Pair a b) w, (refl, stay), new)
 marked_first places w enters {i = i} {x = x} (Goes t) low (inl (unseen, (start, end, row, new), went)) =
@@ -190,12 +184,7 @@ pub record Marked (u : Under) (lists : List (List (ℕ × ℕ))) (old new : Sear
 
 pub reads_none : {u : Under} {lists : List (List (ℕ × ℕ))} {w : Search} → IsUnderWay u lists w
     → Reads u lists w w (top w.frames).next
-reads_none way = record {
-  on = record { walks = way.walks; seen = seen_same _; signs = λ s k is. inl is };
-  here = refl;
-  forward = omega arith;
-  less = refl;
-}
+reads_none {w = w} way = grind (arith, way, seen_same w.stages)
 
 module _ {u : Under} {lists : List (List (ℕ × ℕ))} {first w : Search} {k : ℕ} (reads : Reads u lists first w k)
     (stays : Stays first w) (some : 0 < length first.frames) where
@@ -220,9 +209,8 @@ module _ {u : Under} {lists : List (List (ℕ × ℕ))} {first w : Search} {k : 
     place_below = place_low laws lts reads.on.walks now_some (ap (λ y. y.next) top_is) now_more
 
     module _ (block : ℕ) (is_block : block ≡ slice_index u.blocks (slice_index first.stack (top first.frames).height))
-        (step : TakenStep)
-        (is_step : IsStep u block (place_at u.l.places k) step) {i : ℕ} (last : i ≡ length first.frames - 1) {x : Frame}
-        (is : x ≡ record (frame_at w.frames i) { next = k + 1 }) where
+        (step : TakenStep) (is_step : IsStep u block (place_at u.l.places k) step) {i : ℕ}
+        (last : i ≡ length first.frames - 1) {x : Frame} (is : x ≡ record (frame_at w.frames i) { next = k + 1 }) where
       same_block : block ≡ slice_index u.blocks (source_of (place_at u.l.places k))
       same_block =
           is_block ∙ ap (slice_index u.blocks) (ap (slice_index first.stack) (sym (ap (λ y. y.height) top_is))

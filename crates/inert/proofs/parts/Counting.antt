@@ -79,12 +79,8 @@ pub rest-cut : (frames : List Frame) → 0 < length frames → (top frames).next
     rest (take (length frames - 1) frames) ≡ rest frames
 rest-cut frames some read =
     let all : take (length frames - 1 + 1) frames ≡ frames = take_all (length frames - 1 + 1) frames (omega arith) in
-    omega (
-      arith,
-      sum_by_more (λ y. y.end - y.next) frames (length frames - 1) no_frame (omega (arith, some)),
-      ap rest all,
-      read,
-    )
+    let more = sum_by_more (λ (y : Frame). y.end - y.next) frames (length frames - 1) no_frame (omega (arith, some)) in
+    omega (arith, more, ap rest all, read)
 
 pub seen : (m : Stage) → ¬ (m ≡ Unseen) → is_unseen m ≡ false
 seen Unseen f = absurd (f refl)
@@ -134,14 +130,8 @@ module _ (places : List Triple) (stages : List Stage) where
   passed-run g a b (suc n) is h all =
       let e : b ≡ a + n + 1 = omega arith in
       let before = passed-run g a (a + n) n refl (omega arith) (λ k l u. all k l (omega arith)) in
-      omega (
-        arith,
-        ap (passed places stages) e,
-        ap g e,
-        passed-more (a + n) (omega arith),
-        all (a + n) (omega arith) (omega arith),
-        before,
-      )
+      let next = all (a + n) (omega arith) (omega arith) in
+      omega (arith, ap (passed places stages) e, ap g e, passed-more (a + n) (omega arith), next, before)
 
   -- places of a row that is still to be read
   pub passed-row : (a b : ℕ) → a ≤ b → b ≤ length places

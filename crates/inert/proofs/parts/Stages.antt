@@ -1,7 +1,6 @@
 -- Stages that are set: states that were seen stay so, and finished ones keep their lists.
-use Rattle.std.proofs.Common.{◌≡◌, ◌∙◌, ℕ, ◌<◌, List, length, slice_index, set, ap, inl, inr, arith}
+use Rattle.std.proofs.Common.{◌≡◌, ◌∙◌, ℕ, ◌<◌, List, length, slice_index, set, ap, inl, arith}
 use Rattle.std.specs.List.{All}
-use Rattle.std.proofs.lemmas.Bool.{cases_lt}
 use Rattle.std.proofs.lemmas.Grind.{common_steps}
 use Rattle.std.proofs.lemmas.List.{get_or_past, get_or-set_other}
 use Rattle.std.proofs.lemmas.List.Elements.{All-from_get_or}
@@ -13,10 +12,8 @@ use Rattle.inert.specs.Ahead.{KeepsSeen}
 -- a state on the stack has a stage
 pub open_inside : (stages : List Stage) (stack : List ℕ) → AreOpen stages stack → All (λ s. s < length stages) stack
 open_inside stages stack opened =
-    All-from_get_or (λ s. s < length stages) stack 0 (λ p h. elim (cases_lt (slice_index stack p) (length stages)) [
-      | inl low ↦ low
-      | inr past ↦ absurd (cc (get_or_past stages (slice_index stack p) Unseen past, opened.placed p h))
-    ])
+    All-from_get_or (λ s. s < length stages) stack 0
+    (λ p h. grind (arith, get_or_past stages (slice_index stack p) Unseen, opened.placed p h))
 
 -- nothing changes
 pub seen_same : (stages : List Stage) → KeepsSeen stages stages
@@ -36,8 +33,7 @@ seen_more stages t m seen low was = record {
 
 -- it is not finished, so no state is that was not
 pub signs_opened : (u : Under) (lists : List (List (ℕ × ℕ))) (stages : List Stage) (t : ℕ) (m : Stage)
-    → ((k : ℕ) → ¬ (m ≡ Finished k)) → t < length stages
-    → SignsMore u lists stages (set stages t m)
+    → ((k : ℕ) → ¬ (m ≡ Finished k)) → t < length stages → SignsMore u lists stages (set stages t m)
 signs_opened u lists stages t m unless low s k is = inl (grind (arith, common_steps, unless k, low, is))
 
 -- a list is kept still, where finished states are finished still

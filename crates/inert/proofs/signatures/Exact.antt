@@ -61,8 +61,7 @@ module _ (laws : Laws) {u : Under} (lts : IsLts u.l) {lists : List (List (ℕ ×
 
   -- each transition of the component was taken into account
   done : (p k : ℕ) → here w ≤ p → p < length w.stack → k < length u.l.places
-      → source_of (place_at u.l.places k) ≡ slice_index w.stack p
-      → Accounted u lists w p (place_at u.l.places k)
+      → source_of (place_at u.l.places k) ≡ slice_index w.stack p → Accounted u lists w p (place_at u.l.places k)
   done p k h lp lk source = elim (walks.accounted p k lp lk source) [
     | inr a ↦ a
     | inl (i, low, is, ahead) ↦
@@ -71,8 +70,7 @@ module _ (laws : Laws) {u : Under} (lts : IsLts u.l) {lists : List (List (ℕ ×
 
   -- what a state of the component can do was collected
   collects_here : (z : ℕ × ℕ) (p : ℕ) → here w ≤ p → p < length w.stack → (t : ℕ)
-      → Step (system_of u.l) (slice_index w.stack p) (text_of u.l.labels z.0) t
-      → slice_index u.blocks t ≡ z.1
+      → Step (system_of u.l) (slice_index w.stack p) (text_of u.l.labels z.0) t → slice_index u.blocks t ≡ z.1
       → ¬ ((text_of u.l.labels z.0 ≡ internal) × (z.1 ≡ slice_index u.blocks (slice_index w.stack p)))
       → z.0 < length u.l.labels → Collected z
   collects_here z p h lp t step is other low =

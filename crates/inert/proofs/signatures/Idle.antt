@@ -80,13 +80,7 @@ module _ {u v : Under} {lists : List (List (ℕ × ℕ))} {lent live was : List 
       (others_put : (s : ℕ) → IsOne lent s ⊎ (slice_index put s ≡ slice_index old s))
       (others_show : (s : ℕ) → IsOne lent s ⊎ (slice_index numbers s ≡ slice_index put s)) where
     none_still : HaveNone live numbers
-    none_still s h = elim (none s (omega (arith, h, sizes))) [
-      | inl one ↦ inl one
-      | inr zero ↦ subst (λ xs. IsOne xs s ⊎ (slice_index numbers s ≡ 0)) at (elim (others_show s) [
-        | inl one ↦ inl one
-        | inr shown ↦ elim (others_put s) [ inl one ↦ inl one | inr kept ↦ inr (shown ∙ kept ∙ zero) ]
-      ])
-    ]
+    none_still s h = grind (arith, none s (omega (arith, h, sizes)), others_show s, others_put s, at)
 
     all_shown : (s : ℕ) → IsOne live s → ShowsNew (slice_index was s) (slice_index now s) (slice_index numbers s)
     all_shown s one =
@@ -103,10 +97,7 @@ module _ {u v : Under} {lists : List (List (ℕ × ℕ))} {lent live was : List 
           let (k, is) = its s one in
           let low = (rests.signed s k is).within in
           let has = kept_at done.stages s k is in
-          elim (all_shown s one) [
-            | inl same ↦ omega (arith, low, same.1)
-            | inr other ↦ omega (arith, low, has, other.1)
-          ]
+          grind (arith, all_shown s one, low, has)
       | inr zero ↦ let some = rests.numbers.some in omega (arith, zero, some)
     ])
 

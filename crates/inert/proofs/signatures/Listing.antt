@@ -22,8 +22,7 @@ taken_none = grind arith
 
 -- an element more at the end of two lists, which have the same of what they had
 more : {X Y : Type 0} (xs : List X) (ys : List Y) {x x' : X} {y y' : Y} → (Contains xs x' → Contains ys y')
-    → (x ≡ x' → y ≡ y')
-    → Contains (xs ++ x ∷ []) x' → Contains (ys ++ y ∷ []) y'
+    → (x ≡ x' → y ≡ y') → Contains (xs ++ x ∷ []) x' → Contains (ys ++ y ∷ []) y'
 more xs ys {x = x} {x' = x'} {y = y} {y' = y'} old new c = elim (Contains-push_cases xs x x' c) [
   | inl was ↦ Contains-append_left ys (y ∷ []) y' (old was)
   | inr e ↦ subst (Contains (ys ++ y ∷ [])) (new e) (Contains-push ys y)
@@ -107,9 +106,6 @@ module _ (items : List Item) (lists : List (List (ℕ × ℕ))) (numbers : List 
   listed lists' k are within grow exactly = record {
     within = within;
     grow = grow;
-    exactly = λ z. (
-      λ c. given z ((exactly z).0 c),
-      λ (x, c, g). (exactly z).1 (gives z x c g),
-    );
+    exactly = λ z. (λ c. given z ((exactly z).0 c), λ (x, c, g). (exactly z).1 (gives z x c g));
     rising = are.rise k [] within;
   }

@@ -19,8 +19,7 @@ pub record NumberedUpTo (live : List ℕ) (stages : List Stage) (old : List ℕ)
 
 -- one more
 pub numbered_more : {live : List ℕ} {stages : List Stage} {old : List ℕ} {i : ℕ} {numbers : List ℕ}
-    → NumberedUpTo live stages old i numbers
-    → AreLive (length stages) live → i < length live → (shown : ℕ)
+    → NumberedUpTo live stages old i numbers → AreLive (length stages) live → i < length live → (shown : ℕ)
     → ShowsNew (slice_index numbers (slice_index live i)) (number_of (stage_at stages (slice_index live i))) shown
     → NumberedUpTo live stages old (i + 1) (set numbers (slice_index live i) shown)
 numbered_more {live = live} {stages = stages} {old = old} {i = i} {numbers = numbers} up rises more shown is =
@@ -28,8 +27,7 @@ numbered_more {live = live} {stages = stages} {old = old} {i = i} {numbers = num
     record {
       size = length-set numbers s shown ∙ up.size;
       ahead = λ j low h.
-          let apart : ¬ (slice_index live j ≡ s) = λ e. let up = rises.rising i j (omega (arith, low)) h in omega
-          (arith, up, e) in
+          let apart : ¬ (slice_index live j ≡ s) = λ e. omega (arith, rises.rising i j (omega (arith, low)) h, e) in
           get_or-set_other numbers s (slice_index live j) shown 0 apart ∙ up.ahead j (omega (arith, low)) h;
       live_have = below_more _ i (λ j low.
           let apart : ¬ (slice_index live j ≡ s) = λ e. omega (arith, rises.rising j i low more, e) in
@@ -38,7 +36,6 @@ numbered_more {live = live} {stages = stages} {old = old} {i = i} {numbers = num
           (sym (get_or-set_same numbers s shown 0 (omega (arith, rises.below i more, up.size)))) is);
       others = λ t. elim (cases_eq t s) [
         | inl e ↦ inl (i, more, sym e)
-        | inr d ↦
-            elim (up.others t) [ inl one ↦ inl one | inr same ↦ inr (get_or-set_other numbers s t shown 0 d ∙ same) ]
+        | inr d ↦ rw (get_or-set_other numbers s t shown 0 d) (up.others t)
       ];
     }

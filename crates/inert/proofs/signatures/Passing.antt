@@ -2,7 +2,6 @@
 use borrow.Author.Count.{below_more}
 use Rattle.std.proofs.Common.{◌≡◌, ◌∙◌, ℕ, ◌+◌, ◌-◌, ◌<◌, ◌≤◌, List, length, slice_index, ap, sym, refl, inl, inr}
 use Rattle.std.proofs.Common.{arith}
-use Rattle.std.proofs.lemmas.Bool.{cases_lt}
 use Rattle.lts.specs.Lts.{Grouped, source_of, before, place_at, IsLts, IsRow}
 use Rattle.lts.proofs.CallerLemmas.{before-mono, IsRow-before}
 use Rattle.partition.specs.Blocks.{IsOne, AreLive}
@@ -51,11 +50,7 @@ module _ {l : Grouped} (lts : IsLts l) {live : List ℕ} (rises : AreLive l.stat
   none_between : (i a b : ℕ) → Behind l live i a → Ahead l live i b → (k : ℕ) → k < length l.places → a ≤ k → k < b
       → ¬ IsOne live (source_of (place_at l.places k))
   none_between i a b low high k h from to one =
-      let row = in_row k h (slice_index live one.0) one.2 in
-      elim (cases_lt one.0 i) [
-        | inl before ↦ omega (arith, low one.0 before, row.1, from)
-        | inr after ↦ omega (arith, high one.0 after one.1, row.0, to)
-      ]
+      grind (arith, low one.0, high one.0, in_row k h (slice_index live one.0) one.2, from, to, one.1)
 
   module _ {first : List Stage} (woken : AreAwake l.states live first) where
     -- so such places were passed
@@ -78,8 +73,7 @@ module _ {l : Grouped} (lts : IsLts l) {live : List ℕ} (rises : AreLive l.stat
 
     -- at the beginning of the row of the state number i
     pub comes : {i start end to : ℕ} → i < length live → IsRow l.places (slice_index live i) start end
-        → IsBetween l live (i + 1) to
-        → Comes l live first i start end to
+        → IsBetween l live (i + 1) to → Comes l live first i start end to
     comes {i = i} {start = start} {end = end} {to = to} more row at =
         let low : end ≤ to = let h = at.behind i (omega arith) in omega (arith, h, row.ends) in
         let ended : Behind l live (i + 1) end =
@@ -90,12 +84,7 @@ module _ {l : Grouped} (lts : IsLts l) {live : List ℕ} (rises : AreLive l.stat
               omega (arith, gap_passed (i + 1) end to ended at.ahead low at.within, row_passed i start end more row);
           between = record {
             behind = λ j h. omega (arith, rows_apart j i h more, row.begins);
-            ahead = λ j from h. elim (cases_lt i j) [
-              | inl after ↦ omega (arith, at.ahead j (omega (arith, after)) h, low, row.count)
-              | inr last ↦
-                  let here : j ≡ i = omega (arith, from, last) in
-                  omega (arith, ap (λ n. before (slice_index live n) l.places) here, row.begins)
-            ];
+            ahead = λ j from h. grind (arith, at.ahead j, low, row.count, row.begins, from, h);
             within = omega (arith, low, row.count, at.within);
           };
         }

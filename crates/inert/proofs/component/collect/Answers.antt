@@ -1,22 +1,12 @@
-use Rattle.std.proofs.Common.{◌≡◌, ◌∙◌, subst, sym, arith, rules}
+use Rattle.std.proofs.Common.{◌≡◌, ◌∙◌, sym, arith, rules}
 use Rattle.std.proofs.lemmas.List.{get_or_default, take_all}
-use Rattle.inert.specs.Moves.{AreCollected}
 use Rattle.inert.specs.Search.{item_at}
 use Rattle.inert.proofs.signatures.Listing.{taken_none, taken_pair, taken_list}
 use Rattle.inert.proofs.component.collect.Goals as goal
 use Rattle.inert.proofs.component.collect.Goals.{in-Pair, in-Listed}
 
 pub loop-item-init : goal.loop-item-init
-loop-item-init c = record {
-  collected = rw (
-    c.in_ok-reserve.ensures.items,
-    c.in_ok-reserve-2.ensures.items,
-    c.clear.ensures.items,
-    c.clear-2.ensures.items,
-  ) taken_none;
-  numbers_room = search rules;
-  pairs_room = search rules;
-}
+loop-item-init c = search (rules, taken_none)
 
 pub loop-item-preserved : goal.loop-item-preserved
 loop-item-preserved c =
@@ -42,5 +32,4 @@ loop-item-preserved c =
 pub returns : goal.returns
 returns c =
     let all = take_all c.loop-item.item-index c.args.items.now c.loop-item-test.false in
-    subst (λ items. AreCollected items c.loop-item.numbers.items c.loop-item.pairs.items) all
-    c.loop-item.invariant.collected
+    rw all at c.loop-item.invariant.collected

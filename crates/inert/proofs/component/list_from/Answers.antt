@@ -5,19 +5,12 @@ use Rattle.inert.proofs.component.list_from.Goals.{After-deref}
 
 -- the numbers and pairs that are joined are those of the items
 taken : (c : goal.After-deref) → AreCollected c.args.items.now c.deref.result.now c.collect.new.pairs.items
-taken c =
-    rw (c.deref.ensures.value)
-    (taken_ordered c.args.items.now c.collect.new.numbers.items c.order_numbers.new.numbers.items
-    c.collect.new.pairs.items
-    c.in_ok-collect.ensures c.order_numbers.ensures)
+taken c = rw (c.deref.ensures.value) (taken_ordered _ _ _ _ c.in_ok-collect.ensures c.order_numbers.ensures)
 
 pub join-requires : goal.join-requires
-join-requires c = numbers_there c.args.items.now c.args.lists.now c.deref.result.now c.collect.new.pairs.items
-    (taken ((goal.at.join-requires c).After-deref)) c.requires
+join-requires c = numbers_there _ _ _ _ (taken ((goal.at.join-requires c).After-deref)) c.requires
 
 pub returns : goal.returns
 returns c =
     let join = c.in_ok-list.ensures in
-    listed c.args.items.now c.args.lists.now c.deref.result.now c.collect.new.pairs.items
-    (taken (goal.at.returns c).After-deref) c.join.new.self c.in_ok-list.list
-    c.known.ensures join.within join.grow join.exactly
+    listed _ _ _ _ (taken (goal.at.returns c).After-deref) _ _ c.known.ensures join.within join.grow join.exactly

@@ -1,4 +1,4 @@
-use Rattle.std.proofs.Common.{◌<◌, length, slice_index, ap, sym, subst, refl, inl, inr, arith}
+use Rattle.std.proofs.Common.{◌<◌, length, slice_index, ap, sym, subst, inl, inr, rules, arith}
 use Rattle.inert.specs.Signed.{ShowsNew}
 use Rattle.inert.specs.Search.{number_of}
 use Rattle.inert.proofs.signatures.Numbers.{numbered_more}
@@ -6,14 +6,7 @@ use Rattle.inert.proofs.signer.number.Goals as goal
 use Rattle.inert.proofs.signer.number.Goals.{then-numbers-s, else-numbers-s}
 
 pub loop-i-init : goal.loop-i-init
-loop-i-init c = record {
-  numbered = record {
-    size = c.requires.size;
-    ahead = λ j low h. refl;
-    live_have = λ j h. absurd (omega (arith, h));
-    others = λ s. inr refl;
-  };
-}
+loop-i-init c = search rules
 
 -- what is shown of its new number
 shown : (c : goal.Joined-numbers-s) → ShowsNew (slice_index c.loop-i.numbers (slice_index c.args.live.now c.loop-i.i))

@@ -33,15 +33,12 @@ module _ (g : Over) (c : After-row-start g) where
 
   -- those after it are finished, and so is it
   all_on : {stages : List Stage} → KeepsSeen c.loop-i.walk.stages stages
-      → (k : ℕ) × (stage_at stages (slice_index c.args.live.now i) ≡ Finished k)
-      → (j : ℕ) → i ≤ j → j < length c.args.live.now
-      → (k : ℕ) × (stage_at stages (slice_index c.args.live.now j) ≡ Finished k)
+      → (k : ℕ) × (stage_at stages (slice_index c.args.live.now i) ≡ Finished k) → (j : ℕ) → i ≤ j
+      → j < length c.args.live.now → (k : ℕ) × (stage_at stages (slice_index c.args.live.now j) ≡ Finished k)
   all_on {stages = stages} seen here j from h = elim (cases_lt i j) [
     | inl after ↦ let was = c.loop-i.invariant.all j (omega (arith, after)) h in
         (was.0, seen.finished (slice_index c.args.live.now j) was.0 was.1)
-    | inr last ↦
-        let same : j ≡ i = omega (arith, from, last) in
-        (here.0, ap (λ n. stage_at stages (slice_index c.args.live.now n)) same ∙ here.1)
+    | inr last ↦ let same : j ≡ i = omega (arith, from, last) in rw same here
   ]
 
 pub loop-i-init : goal.loop-i-init

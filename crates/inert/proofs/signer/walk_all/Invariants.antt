@@ -17,7 +17,6 @@ invariant-loop-i g l = record {
   signs : SignsMore l.lens l.lists l.fn.walk.stages l.walk.stages;
   between : IsBetween l.lens.l l.live l.i l.to;
   visits : (g.M.Meter.counted l.m).visits + unread l.lens.l.places l.walk.stages + passed l.lens.l.places
-      l.fn.walk.stages l.to
-      ≡ (g.M.Meter.counted l.fn.m).visits + length l.lens.l.places;
+      l.fn.walk.stages l.to ≡ (g.M.Meter.counted l.fn.m).visits + length l.lens.l.places;
   cost : Costs (g.M.Meter.counted l.fn.m) (g.M.Meter.counted l.m) 0 0 (length l.lens.l.places);
 }

@@ -19,13 +19,9 @@ module _ (g : Over) (c : After-index g) where
   state : c.index.result.now ≡ slice_index c.args.self.now.stack (here c.args.self.now)
   state =
       let height = ap (λ x. x.height) c.top_frame-frame.ensures in
+      let on = on_stack c.requires.way.walks c.requires.way.some in
       let low : c.top_frame-frame.result.height < length c.self.inside.stack.items =
-      omega (
-        arith,
-        on_stack c.requires.way.walks c.requires.way.some,
-        height,
-        ap (λ w. length w.stack) c.self.view_is,
-      ) in
+      omega (arith, on, height, ap (λ w. length w.stack) c.self.view_is) in
       get_or_read c.self.inside.stack.items c.top_frame-frame.result.height c.index.result.now low c.index.ensures 0
       ∙ ap (λ w. slice_index w.stack c.top_frame-frame.result.height) c.self.view_is
       ∙ ap (slice_index c.args.self.now.stack) height
@@ -71,14 +67,8 @@ bounds-blocks-index g c =
     let walks = c.requires.way.walks in
     let inside = open_inside c.args.self.now.stages c.args.self.now.stack walks.opened (here c.args.self.now) 0
     (on_stack walks c.requires.way.some) in
-    omega (
-      arith,
-      state g (goal.at.bounds-blocks-index g c).After-index,
-      inside,
-      walks.numbers.size,
-      c.known.ensures.size,
-      ap length c.blocks-blocks.ensures,
-    )
+    let state = state g (goal.at.bounds-blocks-index g c).After-index in
+    omega (arith, state, inside, walks.numbers.size, c.known.ensures.size, ap length c.blocks-blocks.ensures)
 
 pub loop-k-init : goal.loop-k-init
 loop-k-init g c =
@@ -95,14 +85,9 @@ step-step-requires-clause-place g c =
 
 pub index_mut-requires : goal.index_mut-requires
 index_mut-requires g c =
-    omega (
-      arith,
-      last g (goal.at.index_mut-requires g c).After-index,
-      c.loop-k.invariant.stays.size,
-      c.requires.way.some,
-      ap (λ w. length w.frames) c.self-in-loop-k.view_is,
-      c.self-in-loop-k.inside.frames.ok.0,
-    )
+    let last = last g (goal.at.index_mut-requires g c).After-index in
+    let frames = ap (λ w. length w.frames) c.self-in-loop-k.view_is in
+    omega (arith, last, c.loop-k.invariant.stays.size, c.requires.way.some, frames, c.self-in-loop-k.inside.frames.ok.0)
 
 -- the transition at the place k was marked as read, and its step taken
 taken : (g : Over) (c : In_ok-take g) → Marked c.args.lens.now c.args.lists.now c.args.self.now c.take.new.self
