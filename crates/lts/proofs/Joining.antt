@@ -1,5 +1,6 @@
 -- The union: triples of two systems are put into one list, over one table.
-use Rattle.std.proofs.Common.{◌≡◌, ◌∙◌, ℕ, ◌+◌, ◌-◌, ◌<◌, ◌≤◌, List, [], ◌∷◌, ◌++◌, length, map, take, drop, Contains}
+use Rattle.std.proofs.Common.{rules, ◌≡◌, ◌∙◌, ℕ, ◌+◌, ◌-◌, ◌<◌, ◌≤◌, List, [], ◌∷◌, ◌++◌, length, map, take, drop}
+use Rattle.std.proofs.Common.{Contains}
 use Rattle.std.proofs.Common.{Result, Ok, Err, IfOk, sym, ap, subst, refl, inl, inr, arith}
 use Rattle.std.specs.List.{All}
 use Rattle.std.specs.List.Sorted.{IsNonDecreasingBy}
@@ -9,7 +10,7 @@ use Rattle.std.proofs.lemmas.List.{map_push, get_or-map, get_or_push, take-appen
 use Rattle.std.proofs.lemmas.List.{length-take}
 use Rattle.std.proofs.lemmas.List.Elements.{All-nil, All-map, All-head, All-tail, All-push, All-weaker, Contains-push}
 use Rattle.std.proofs.lemmas.List.Elements.{Contains-append_left}
-use Rattle.theory.specs.System.{System, Transition, IsAmong}
+use Rattle.theory.specs.System.{Transition, IsAmong}
 use Rattle.theory.specs.Union.{shifted, union_of}
 use Rattle.growth.specs.declared.limits.TheConstants.{MOST_STATES}
 use Rattle.lts.specs.Labels.{text_of, IsNumber, IsTable, Keeps, Interns}
@@ -22,22 +23,11 @@ use Rattle.lts.proofs.Grouped.{rising-append, rising-map, grouped-same}
 
 IsTriple-weaker : (labels labels' states states' : ℕ) → labels ≤ labels' → states ≤ states' → (e : Triple) →
     IsTriple labels states e → IsTriple labels' states' e
-IsTriple-weaker labels labels' states states' l s e h =
-    let a = h.source in
-    let b = h.label in
-    let c = h.target in
-    record { source = omega arith; label = omega arith; target = omega arith }
+IsTriple-weaker labels labels' states states' l s e h = search (rules, h.source, h.label, h.target)
 
 pub IsJoined-weaker : (labels : List (List ℕ)) (states states' : ℕ) (es : List Triple) → states ≤ states' →
     states' ≤ MOST_STATES → IsJoined labels states es → IsJoined labels states' es
-IsJoined-weaker labels states states' es h few g = record {
-  few_states = few;
-  each =
-      All-weaker (IsTriple (length labels) states) (IsTriple (length labels) states')
-      (IsTriple-weaker (length labels) (length labels) states states' (omega arith) h) es g.each;
-  carried = g.carried;
-  few = g.few;
-}
+IsJoined-weaker labels states states' es h few g = search (rules, All-weaker, IsTriple-weaker, g.each, g.carried, g.few)
 
 -- a triple that carries the label a, put in
 module _ (old new : List (List ℕ)) (states : ℕ) (es : List Triple) (e : Triple) (a : List ℕ)
@@ -109,20 +99,11 @@ AddsShifted-nil shift labels es = sym (append-nil (map (transition_of labels) es
 
 pub AddsShifted-more : (shift : ℕ) (ts us : List Transition) (l0 l1 l2 : List (List ℕ)) (e0 e1 e2 : List Triple) →
     AddsShifted shift ts l0 e0 l1 e1 → AddsShifted shift us l1 e1 l2 e2 → AddsShifted shift (ts ++ us) l0 e0 l2 e2
-AddsShifted-more shift ts us l0 l1 l2 e0 e1 e2 a b =
-    b ∙ ap (λ l. l ++ map (shifted shift) us) a ∙ append_assoc (map (transition_of l0) e0) (map (shifted shift) ts)
-    (map (shifted shift) us)
-    ∙ ap (λ l. map (transition_of l0) e0 ++ l) (sym (map-append (shifted shift) ts us))
+AddsShifted-more shift ts us l0 l1 l2 e0 e1 e2 a b = search (rules, append_assoc, map-append)
 
 pub length-AddsShifted : (shift : ℕ) (ts : List Transition) (l0 l1 : List (List ℕ)) (e0 e1 : List Triple) →
     AddsShifted shift ts l0 e0 l1 e1 → length e1 ≡ length e0 + length ts
-length-AddsShifted shift ts l0 l1 e0 e1 a =
-    let whole = ap length a in
-    let sum = length-append (map (transition_of l0) e0) (map (shifted shift) ts) in
-    let n1 = length-map e1 (transition_of l1) in
-    let n0 = length-map e0 (transition_of l0) in
-    let n = length-map ts (shifted shift) in
-    omega arith
+length-AddsShifted shift ts l0 l1 e0 e1 a = search (rules, length-append, length-map)
 
 -- one place more of a row
 pub AddsShifted-place : (shift : ℕ) (labels : List (List ℕ)) (places : List Triple) (s start end k : ℕ)
@@ -132,11 +113,7 @@ pub AddsShifted-place : (shift : ℕ) (labels : List (List ℕ)) (places : List 
     AddsShifted shift (transition_of labels (place_at places k) ∷ []) l1 e1 l2 e2 →
     AddsShifted shift (map (transition_of labels) (take ((k + 1) - start) (row_of s places))) l0 e0 l2 e2
 AddsShifted-place shift labels places s start end k l0 l1 l2 e0 e1 e2 r low high a b =
-    let f = transition_of labels in
-    let part = take (k - start) (row_of s places) in
-    subst (λ ts. AddsShifted shift ts l0 e0 l2 e2)
-    (sym (ap (map f) (row-more places s start end k r low high) ∙ map_push f part (place_at places k)))
-    (AddsShifted-more shift (map f part) (f (place_at places k) ∷ []) l0 l1 l2 e0 e1 e2 a b)
+    search (rules, row-more, map_push, AddsShifted-more)
 
 -- the front up to j is that up to i, and what is between
 pub take-split : {X : Type 0} (i j : ℕ) (xs : List X) → i ≤ j → take j xs ≡ take i xs ++ take (j - i) (drop i xs)
@@ -176,10 +153,7 @@ row-fits s places = let next = before-next s places in let within = before-le (s
 
 pub length-taken : (labels : List (List ℕ)) (n : ℕ) (places : List Triple) → n ≤ length places →
     length (map (transition_of labels) (take n places)) ≡ n
-length-taken labels n places h =
-    let a = length-map (take n places) (transition_of labels) in
-    let b = length-take n places in
-    omega arith
+length-taken labels n places h = search (rules, length-map, length-take)
 
 rising-from_map : (labels : List (List ℕ)) (es : List Triple) →
     IsNonDecreasingBy (λ e. e.source) (map (transition_of labels) es) → IsNonDecreasingBy source_of es
@@ -229,12 +203,7 @@ module _ (a b : Grouped) (labels : List (List ℕ)) (es : List Triple) (la : IsL
   union-system : (u : Grouped) → u.first ≡ a.first → u.states ≡ a.states + b.states → u.labels ≡ labels →
       u.places ≡ grouped (a.states + b.states) es →
       system_of u ≡ union_of (system_of a) (system_of b)
-  union-system u f s l p =
-      let make : ℕ → ℕ → List Transition → System = λ x n ts. record { first = x; states = n; transitions = ts } in
-      let ts : map (transition_of u.labels) u.places ≡ (union_of (system_of a) (system_of b)).transitions =
-      ap (λ t. map (transition_of t) u.places) l ∙ ap (map (transition_of labels)) (p ∙ union-places) ∙ both in
-      ap (λ x. make x u.states (map (transition_of u.labels) u.places)) f
-      ∙ ap (λ n. make a.first n (map (transition_of u.labels) u.places)) s ∙ ap (make a.first (a.states + b.states)) ts
+  union-system u f s l p = search (rules, u.labels, u.places, union-places, u.states, a.first, a.states, b.states)
 
   union-carried : (u : Grouped) → u.labels ≡ labels → u.places ≡ grouped (a.states + b.states) es → (k : ℕ) →
       k < length u.labels → IsCarried u k
@@ -271,12 +240,7 @@ AddsShifted-both n ts us l0 l1 l2 e0 e1 e2 none a b =
 
 -- nothing was put in
 pub IsJoined-none : (labels : List (List ℕ)) (es : List Triple) → labels ≡ [] → es ≡ [] → IsJoined labels 0 es
-IsJoined-none labels es none empty = rw (none, empty) (record {
-  few_states = omega arith;
-  each = All-nil (IsTriple 0 0);
-  carried = λ k h. absurd (omega (arith, h));
-  few = omega arith;
-})
+IsJoined-none labels es none empty = search (rules, All-nil)
 
 -- nothing was visited
 pub no_visit : (at : Counts) → Costs at at 0 0 0

@@ -1,8 +1,9 @@
 -- The label table, as a list of texts: what a look-up says, and what a new label leaves.
-use Rattle.std.proofs.Common.{◌≡◌, ◌≢◌, ◌∙◌, ℕ, zero, suc, ◌+◌, ◌<◌, ◌≤◌, Bool, true, false, ◌||◌, cond, not, ltb, List}
-use Rattle.std.proofs.Common.{[], ◌∷◌, ◌++◌, length, map, get_or, Option, Some, None, is_some, true≢false, Contains}
-use Rattle.std.proofs.Common.{sym, ap, subst, refl, inl, inr, arith}
-use Rattle.std.specs.List.{list_any, position, position_or_len, prefix_len}
+use Rattle.std.proofs.Common.{rules, ◌≡◌, ◌≢◌, ◌∙◌, ℕ, zero, suc, ◌+◌, ◌<◌, ◌≤◌, Bool, true, false, ◌||◌, cond, ltb}
+use Rattle.std.proofs.Common.{List}
+use Rattle.std.proofs.Common.{[], ◌∷◌, ◌++◌, length, map, get_or, Some, is_some, true≢false, Contains}
+use Rattle.std.proofs.Common.{sym, ap, subst, refl, arith}
+use Rattle.std.specs.List.{list_any, position, prefix_len}
 use Rattle.std.specs.Str.{bytes_eq}
 use Rattle.std.specs.Map.{lookup}
 use Rattle.indexmap.specs.IndexMap.{insert_entry}
@@ -23,10 +24,7 @@ prefix_len-map p f (x ∷ xs) = ap (λ n. cond (p (f x)) (1 + n) 0) (prefix_len-
 
 pub position-map : {X Y : Type 0} (p : Y → Bool) (f : X → Y) (xs : List X) →
     position p (map f xs) ≡ position (λ x. p (f x)) xs
-position-map p f xs =
-    let at : ℕ → ℕ → Option ℕ = λ i n. cond (ltb i n) (Some i) None in
-    ap (λ n. at (position_or_len p (map f xs)) n) (length-map xs f)
-    ∙ ap (λ i. at i (length xs)) (prefix_len-map (λ y. not (p y)) f xs)
+position-map p f xs = search (rules, ltb, length-map, prefix_len-map)
 
 pub list_any-map : {X Y : Type 0} (p : Y → Bool) (f : X → Y) (xs : List X) →
     list_any p (map f xs) ≡ list_any (λ x. p (f x)) xs
@@ -66,36 +64,17 @@ module _ (labels : List (List ℕ)) (a : List ℕ) (new : ¬ Contains labels a) 
   different_push : IsTable labels →
       (j k : ℕ) → j < length (labels ++ a ∷ []) → k < length (labels ++ a ∷ []) →
       text_of (labels ++ a ∷ []) j ≡ text_of (labels ++ a ∷ []) k → j ≡ k
-  different_push t j k hj hk e = elim (cases_lt j (length labels)) [
-    | inl oj ↦ elim (cases_lt k (length labels)) [
-      | inl ok ↦ t.different j k oj ok (sym (text_of-old j oj) ∙ e ∙ text_of-old k ok)
-      | inr nk ↦ absurd (is_new j oj (sym (text_of-old j oj) ∙ e ∙ text_of-new k hk nk))
-    ]
-    | inr nj ↦ elim (cases_lt k (length labels)) [
-      | inl ok ↦ absurd (is_new k ok (sym (text_of-old k ok) ∙ sym e ∙ text_of-new j hj nj))
-      | inr nk ↦ omega (arith, length_push labels a)
-    ]
-  ]
+  different_push t j k hj hk e = search (rules, cases_lt, t.different, text_of-old, is_new, text_of-new, length_push)
 
 pub IsTable-push : (labels : List (List ℕ)) (a : List ℕ) → IsTable labels → ¬ Contains labels a → IsLabel a →
     length labels < MOST_LABELS → IsTable (labels ++ a ∷ [])
-IsTable-push labels a t new is room = record {
-  each_label = All-push IsLabel labels a t.each_label is;
-  different = different_push labels a new t;
-  short = omega (arith, length_push labels a);
-}
+IsTable-push labels a t new is room = search (rules, All-push, t.each_label, different_push, length_push)
 
 pub IsNumber-push : (labels : List (List ℕ)) (a : List ℕ) → IsNumber (labels ++ a ∷ []) (length labels) a
-IsNumber-push labels a = record {
-  below = omega (arith, length_push labels a);
-  text = get_or_push labels a [] (length labels) refl;
-}
+IsNumber-push labels a = search (rules, length_push, get_or_push)
 
 pub Keeps-push : (labels : List (List ℕ)) (a : List ℕ) → Keeps labels (labels ++ a ∷ [])
-Keeps-push labels a = record {
-  longer = omega (arith, length_push labels a);
-  texts = λ k h. get_or_append_left labels (a ∷ []) [] k h;
-}
+Keeps-push labels a = search (rules, length_push, get_or_append_left)
 
 -- a look-up that finds nothing: no key passes the test
 pub none_passes : {X V : Type 0} (p : X → Bool) (es : List (X × V)) → is_some (lookup p es) ≡ false →

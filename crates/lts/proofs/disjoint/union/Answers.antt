@@ -1,7 +1,7 @@
-use Rattle.std.proofs.Common.{◌≡◌, ◌∙◌, ◌+◌, ◌++◌, length, map, All, IfOk, ap, subst, arith}
+use Rattle.std.proofs.Common.{rules, ◌≡◌, ◌+◌, length, map, All, IfOk, ap, subst, arith}
 use Rattle.std.proofs.lemmas.List.{length-map}
 use Rattle.std.proofs.lemmas.Result.{err_from_is_err_and}
-use Rattle.theory.specs.Union.{union_of, shifted}
+use Rattle.theory.specs.Union.{union_of}
 use Rattle.lts.specs.Lts.{transition_of, system_of, grouped, IsTriple}
 use Rattle.lts.specs.Joining.{IsJoined}
 use Rattle.lts.proofs.Joining.{IsJoined-none, AddsShifted-both, length-AddsShifted, IfOk-union-system}
@@ -19,12 +19,15 @@ both : (g : Over) (c : goal.After-drop-joined-2 g) →
     map (transition_of c.append-2.new.self.labels) c.append-2.new.self.triples.items
     ≡ (union_of (system_of c.args.a.now) (system_of c.args.b.now)).transitions
 both g c =
-    AddsShifted-both c.states-shift.result (system_of c.args.a.now).transitions (system_of c.args.b.now).transitions
-    c.new.result c.append.new.self.labels c.append-2.new.self.labels
-    c.in_ok-with_capacity.field-0.items c.append.new.self.triples.items c.append-2.new.self.triples.items
-    c.in_ok-with_capacity.ensures.items c.in_ok-append.ensures.added c.in_ok-append-2.ensures.added
-    ∙ ap (λ n. (system_of c.args.a.now).transitions ++ map (shifted n) (system_of c.args.b.now).transitions)
-    c.states-shift.ensures.value
+    search (
+      rules,
+      AddsShifted-both,
+      c.append.new.self.labels,
+      c.append-2.new.self.labels,
+      c.in_ok-append.ensures.added,
+      c.in_ok-append-2.ensures.added,
+      c.states-shift.ensures.value,
+    )
 
 sum_of_states : (g : Over) (c : goal.After-drop-joined-2 g) →
     c.states.result + c.states-2.result ≡ c.args.a.now.states + c.args.b.now.states
@@ -56,20 +59,13 @@ pub append-requires-clause-few_states : goal.append-requires-clause-few_states
 append-requires-clause-few_states g c = omega (arith, c.requires.fit.states)
 
 pub append-requires-clause-few : goal.append-requires-clause-few
-append-requires-clause-few g c = omega (
-  arith,
-  ap length c.in_ok-with_capacity.ensures.items,
-  c.requires.fit.transitions,
-)
+append-requires-clause-few g c = search (rules, c.requires.fit.transitions)
 
 pub append-requires-clause-joined : goal.append-requires-clause-joined
 append-requires-clause-joined g c = IsJoined-none _ _ c.new.ensures c.in_ok-with_capacity.ensures.items
 
 pub append-requires-clause-room : goal.append-requires-clause-room
-append-requires-clause-room g c = record {
-  for_rounds = c.requires.room.for_rounds;
-  for_visits = omega (arith, c.requires.room.for_visits);
-}
+append-requires-clause-room g c = search (rules, c.requires.room.for_rounds, c.requires.room.for_visits)
 
 pub append-requires-2-clause-few_states : goal.append-requires-2-clause-few_states
 append-requires-2-clause-few_states g c = omega (arith, c.states-shift.ensures.value, c.requires.fit.states)
@@ -88,11 +84,7 @@ grown g c =
     )
 
 pub append-requires-2-clause-few : goal.append-requires-2-clause-few
-append-requires-2-clause-few g c = omega (
-  arith,
-  grown g (goal.at.append-requires-2-clause-few g c).In_ok-append,
-  c.requires.fit.transitions,
-)
+append-requires-2-clause-few g c = search (rules, grown, In_ok-append, c.requires.fit.transitions)
 
 pub append-requires-2-clause-joined : goal.append-requires-2-clause-joined
 append-requires-2-clause-joined g c =

@@ -1,8 +1,7 @@
-use Rattle.std.proofs.Common.{◌≡◌, ◌∙◌, ◌+◌, ◌<◌, ◌≤◌, length, map, take, ap, subst, sym, refl, arith, rules}
+use Rattle.std.proofs.Common.{◌≡◌, ◌∙◌, ◌<◌, length, map, take, ap, subst, arith, rules}
 use Rattle.std.proofs.lemmas.List.{take_all}
 use Rattle.std.proofs.lemmas.List.Elements.{All-weaker}
-use Rattle.growth.specs.declared.limits.TheConstants.{MOST_TRANSITIONS}
-use Rattle.lts.specs.Lts.{source_of, row_of, before, transition_of, IsTriple}
+use Rattle.lts.specs.Lts.{source_of, before, transition_of, IsTriple}
 use Rattle.lts.specs.Joining.{AddsShifted}
 use Rattle.lts.proofs.Rows.{before-next, before-zero, before-all, before-le}
 use Rattle.lts.proofs.Joining.{IsJoined-weaker, AddsShifted-nil, AddsShifted-row, length-AddsShifted, length-taken}
@@ -12,33 +11,37 @@ use Rattle.lts.proofs.disjoint.Joined.append.Goals as goal
 
 pub loop-state-init : goal.loop-state-init
 loop-state-init g c =
-    let none = before-zero c.args.part.now.l.now.places in
-    record {
-      guesses = refl;
-      joined = IsJoined-weaker c.args.self.now.labels c.args.part.now.shift
-          (c.args.part.now.shift + c.args.part.now.l.now.states) c.args.self.now.triples.items (omega arith)
-          c.requires.few_states c.requires.joined;
-      added =
-          subst (λ n. AddsShifted c.args.part.now.shift
-          (map (transition_of c.args.part.now.l.now.labels) (take n c.args.part.now.l.now.places))
-          c.args.self.now.labels c.args.self.now.triples.items c.args.self.now.labels c.args.self.now.triples.items)
-          (sym none) (AddsShifted-nil c.args.part.now.shift c.args.self.now.labels c.args.self.now.triples.items);
-      visits = search rules;
-    }
+    search (
+      rules,
+      before-zero,
+      c.args.part.now.l.now.places,
+      IsJoined-weaker,
+      c.args.self.now.labels,
+      c.args.part.now.shift,
+      c.args.part.now.l.now.states,
+      c.requires.few_states,
+      c.requires.joined,
+      c.args.part.now.l.now.labels,
+      AddsShifted-nil,
+    )
 
 pub append_row-requires-clause-few : goal.append_row-requires-clause-few
 append_row-requires-clause-few g c =
-    let places = c.args.part.now.l.now.places in
-    let fits = row-fits c.loop-state.state places in
-    let taken = length-taken c.args.part.now.l.now.labels (before c.loop-state.state places) places
-    (before-le c.loop-state.state places) in
-    let size = length-AddsShifted c.args.part.now.shift
-    (map (transition_of c.args.part.now.l.now.labels) (take (before c.loop-state.state places) places))
-    c.args.self.now.labels c.loop-state.self.labels c.args.self.now.triples.items c.loop-state.self.triples.items
-    c.loop-state.invariant.added in
-    let few : length c.loop-state.self.triples.items + length (row_of c.loop-state.state places) ≤ MOST_TRANSITIONS =
-    omega (arith, c.requires.few) in
-    few
+    search (
+      rules,
+      c.args.part.now.l.now.places,
+      row-fits,
+      c.loop-state.state,
+      length-taken,
+      c.args.part.now.l.now.labels,
+      before-le,
+      length-AddsShifted,
+      c.args.part.now.shift,
+      c.args.self.now.labels,
+      c.loop-state.self.labels,
+      c.loop-state.invariant.added,
+      c.requires.few,
+    )
 
 pub append_row-requires-clause-room : goal.append_row-requires-clause-room
 append_row-requires-clause-room g c =
