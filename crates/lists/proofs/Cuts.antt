@@ -38,28 +38,22 @@ module _ (list : List (ℕ × ℕ)) where
       lift (as_number z) (as_number y) (bit + 1) later (omega arith) (is.alike z in_z ∙ sym (is.alike y in_y)) in
       omega (arith, parts, same)
 
+  at_odd : (c : ℕ) (is : IsCut list c) → c ≡ (2 * (c / 2 ^ (is.bit + 1)) + 1) * 2 ^ is.bit
+  at_odd c is = odd is.bit _ c _ _ is.alike.multiple is.below.2 is.above.2 (is.alike.alike _ is.below.1)
+      (is.alike.alike _ is.above.1)
+
   pub cut_unique : (c d : ℕ) → IsCut list c → IsCut list d → c ≡ d
   cut_unique c d first second = elim (cases_order first.bit second.bit) [
     | inl e ↦
         let z = first.below.0 in
-        let p : c ≡ (2 * (c / 2 ^ (first.bit + 1)) + 1) * 2 ^ first.bit =
-        odd first.bit (as_number z) c (as_number first.above.0) _ first.alike.multiple first.below.2 first.above.2
-        (first.alike.alike z first.below.1) (first.alike.alike _ first.above.1) in
-        let q : d ≡ (2 * (d / 2 ^ (second.bit + 1)) + 1) * 2 ^ second.bit =
-        odd second.bit (as_number second.below.0) d (as_number second.above.0) _ second.alike.multiple
-        second.below.2 second.above.2
-        (second.alike.alike _ second.below.1) (second.alike.alike _ second.above.1) in
         let same : c / 2 ^ (first.bit + 1) ≡ d / 2 ^ (second.bit + 1) =
         sym (first.alike.alike z first.below.1) ∙ ap (λ b. as_number z / 2 ^ (b + 1)) e
         ∙ second.alike.alike z first.below.1 in
-        p ∙ (λ i. (2 * same i + 1) * 2 ^ e i) ∙ sym q
+        at_odd c first ∙ (λ i. (2 * same i + 1) * 2 ^ e i) ∙ sym (at_odd d second)
     | inr order ↦ elim order [
-      | inl low ↦ absurd (none_later first.bit second.bit c d first.alike low second.alike.multiple second.below.0
-          second.above.0 second.below.1 second.above.1
+      | inl low ↦ absurd (none_later _ _ c d first.alike low second.alike.multiple _ _ second.below.1 second.above.1
           second.below.2 second.above.2)
-      | inr high ↦
-          absurd (none_later second.bit first.bit d c second.alike high first.alike.multiple first.below.0 first.above.0
-          first.below.1 first.above.1
+      | inr high ↦ absurd (none_later _ _ d c second.alike high first.alike.multiple _ _ first.below.1 first.above.1
           first.below.2 first.above.2)
     ]
   ]
@@ -87,35 +81,25 @@ module _ (list : List (ℕ × ℕ)) where
   all_under bit c d is own less z in_z = elim (cases_lt (as_number z) c) [
     | inl h ↦ h
     | inr h ↦
-        let low = own.below.2 in
-        let same = cut_unique c d
-        (record {
-          bit = bit;
-          alike = is;
-          below = (own.below.0, own.below.1, omega (arith, low));
-          above = (z, in_z, h);
-        }) own in
-        absurd (omega arith)
+        let low : as_number own.below.0 < c = omega (arith, own.below.2) in
+        let is_cut : IsCut list c =
+        record { bit = bit; alike = is; below = (own.below.0, own.below.1, low); above = (z, in_z, h) } in
+        absurd (omega (arith, cut_unique c d is_cut own))
   ]
 
   pub all_over : (bit c d : ℕ) → IsAlike bit list c → IsCut list d → c < d → IsOver list c
   all_over bit c d is own more z in_z = elim (cases_lt (as_number z) c) [
     | inl h ↦
-        let high = own.above.2 in
-        let same = cut_unique c d (record {
-          bit = bit;
-          alike = is;
-          below = (z, in_z, h);
-          above = (own.above.0, own.above.1, omega (arith, high));
-        }) own in
-        absurd (omega arith)
+        let high : c ≤ as_number own.above.0 = omega (arith, own.above.2) in
+        let is_cut : IsCut list c =
+        record { bit = bit; alike = is; below = (z, in_z, h); above = (own.above.0, own.above.1, high) } in
+        absurd (omega (arith, cut_unique c d is_cut own))
     | inr h ↦ h
   ]
 
   -- a place in a range suits all pairs in the range
   pub alike_within : (bit low high c : ℕ) → IsPlace bit low high c →
-      ((z : ℕ × ℕ) → Contains list z → (low ≤ as_number z) × (as_number z ≤ high))
-      → IsAlike bit list c
+      ((z : ℕ × ℕ) → Contains list z → (low ≤ as_number z) × (as_number z ≤ high)) → IsAlike bit list c
   alike_within bit low high c place range = record {
     multiple = place.multiple;
     alike = λ z in_z.

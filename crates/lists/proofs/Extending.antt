@@ -23,8 +23,7 @@ use Rattle.lists.proofs.Keys.{halves_rise, parts_rise, parts_fit}
 use Rattle.lists.proofs.Uniting.{united, united_under, united_over, unites_merged}
 
 at_order : (P : List (ℕ × ℕ) → Type 0) (o : Ordering) (a b c : List (ℕ × ℕ)) → (o ≡ Less → P a) → (o ≡ Equal → P b)
-    → (o ≡ Greater → P c)
-    → P (match_ordering o a b c)
+    → (o ≡ Greater → P c) → P (match_ordering o a b c)
 at_order P Less a b c f g h = f refl
 at_order P Equal a b c f g h = g refl
 at_order P Greater a b c f g h = h refl
@@ -62,8 +61,7 @@ add_mod a b m = mod-add-mod a m (b % m) ∙ ap (λ n. n % m) (omega arith) ∙ m
 pub fingerprint_merged : (xs ys : List (ℕ × ℕ)) → ShareNone xs ys
     → (fingerprint_of xs + fingerprint_of ys) % 2 ^ 64 ≡ fingerprint_of (merged xs ys)
 fingerprint_merged xs ys apart =
-    add_mod (sum_by hash_of xs) (sum_by hash_of ys) (2 ^ 64)
-    ∙ ap (λ n. n % 2 ^ 64) (sym (sum_by-append hash_of xs ys)
+    add_mod (sum_by hash_of xs) (sum_by hash_of ys) (2 ^ 64) ∙ ap (λ n. n % 2 ^ 64) (sym (sum_by-append hash_of xs ys)
     ∙ sym (sum_by-IsPermutation hash_of (xs ++ ys) (merged xs ys) (merged_permutes xs ys apart)))
 
 -- the pairs beside one base are the same if the lists are
@@ -84,8 +82,7 @@ beside_same base few other apart apart' rise rise' same =
 
 -- a rising list of the pairs of both is both as one
 pub unites_is_merged : (list few base : List (ℕ × ℕ)) → IsStrictlySortedBy pair_cmp list
-    → IsStrictlySortedBy pair_cmp few
-    → IsStrictlySortedBy pair_cmp base → Unites list few base → list ≡ merged base few
+    → IsStrictlySortedBy pair_cmp few → IsStrictlySortedBy pair_cmp base → Unites list few base → list ≡ merged base few
 unites_is_merged list few base rise rise_few rise_base unites =
     rising_unique list (merged base few) rise (merged_rises base few rise_base rise_few) (λ z. (
       λ d. (merged_has z base few).1 (elim ((unites z).0 d) [ inl a ↦ inr a | inr b ↦ inl b ]),

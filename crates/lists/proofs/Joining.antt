@@ -1,8 +1,8 @@
 -- Unions of several lists in turn, and unions that stay so as lists grow.
-use Rattle.std.proofs.Common.{◌∙◌, ◌⊎◌, ◌↔◌, ℕ, ◌+◌, ◌<◌, List, length, Contains, sym, subst, refl, inl, inr, arith}
+use Rattle.std.proofs.Common.{◌∙◌, ◌⊎◌, ◌↔◌, ℕ, ◌+◌, ◌<◌, List, subst, refl, inl, inr, arith}
 use Rattle.std.proofs.Common.{rules}
 use Rattle.std.proofs.lemmas.Bool.{cases_eq}
-use Rattle.lists.specs.Lists.{list_at, Grow}
+use Rattle.lists.specs.Lists.{Grow}
 use Rattle.lists.specs.Unions.{IsUnion, AreUnions}
 
 pub or_swap : {A B C : Type 0} → A ↔ (B ⊎ C) → A ↔ (C ⊎ B)
@@ -12,7 +12,7 @@ or_swap f = search rules
 pub up_to_more : (P : ℕ → Type 0) (i : ℕ) → (((j : ℕ) × (j < i) × P j) ⊎ P i) ↔ ((j : ℕ) × (j < i + 1) × P j)
 up_to_more P i = (
   λ o. elim o [ inl h ↦ let (j, low, p) = h in (j, omega (arith, low), p) | inr p ↦ (i, omega arith, p) ],
-  λ h. let (j, low, p) = h in elim (cases_eq j i) [
+  λ (j, low, p). elim (cases_eq j i) [
     | inl e ↦ inr (subst P e p)
     | inr d ↦ inl (j, omega (arith, low, d), p)
   ],
@@ -27,18 +27,12 @@ either_same new old more = search rules
 no_more : {B C D S T : Type 0} → (C → ⊥) → B ↔ (D ⊎ S) → (S ⊎ C) ↔ T → B ↔ (D ⊎ T)
 no_more none g h = search rules
 
-none_yet : {B S : Type 0} → (S → ⊥) → B ↔ (B ⊎ S)
-none_yet none = search rules
-
 -- one of the numbers below i has the property
 abbrev pub SomeBelow : (ℕ → Type 0) → ℕ → Type 0
 SomeBelow P i = (j : ℕ) × (j < i) × P j
 
--- what has come of the first i of some: none, one that adds nothing, and one more
+-- what has come of the first i of some: one that adds nothing, and one more
 module _ (P : ℕ → Type 0) where
-  pub come_none : (B : Type 0) → B ↔ (B ⊎ SomeBelow P 0)
-  come_none B = none_yet (λ h. omega (arith, h.1))
-
   pub come_skip : (B D : Type 0) (i : ℕ) → (P i → ⊥) → B ↔ (D ⊎ SomeBelow P i) → B ↔ (D ⊎ SomeBelow P (i + 1))
   come_skip B D i none before = no_more none before (up_to_more P i)
 
@@ -50,35 +44,23 @@ pub Grow-same : (lists : List (List (ℕ × ℕ))) → Grow lists lists
 Grow-same lists = record { longer = omega arith; same = λ k h. refl }
 
 pub Grow-twice : {a b c : List (List (ℕ × ℕ))} → Grow a b → Grow b c → Grow a c
-Grow-twice first second =
-    let longer = first.longer in
-    record {
-      longer = let more = second.longer in omega arith;
-      same = λ k h. second.same k (omega arith) ∙ first.same k h;
-    }
+Grow-twice first second = record {
+  longer = omega (arith, first.longer, second.longer);
+  same = λ k h. second.same k (omega (arith, first.longer)) ∙ first.same k h;
+}
 
 pub same_as : {A B C : Type 0} → A ↔ B → B ↔ C → A ↔ C
 same_as f g = search rules
 
 -- unions stay so as the lists grow
 module _ {old new : List (List (ℕ × ℕ))} (grow : Grow old new) where
-  either-grow : (j k : ℕ) → j < length old → k < length old → (z : ℕ × ℕ)
-      → (Contains (list_at old j) z ⊎ Contains (list_at old k) z) ↔ (Contains (list_at new j) z
-      ⊎ Contains (list_at new k) z)
-  either-grow j k first second z =
-      rw (grow.same j first, grow.same k second) (λ o. o, λ o. o)
-
   pub IsUnion-grow : (key : ℕ × ℕ) (i : ℕ) → IsUnion old key i → IsUnion new key i
-  IsUnion-grow key i is =
-      let longer = grow.longer in
-      record {
-        within = let within = is.within in omega arith;
-        first = let first = is.first in omega arith;
-        second = let second = is.second in omega arith;
-        exactly = λ z. subst (λ l. Contains l z ↔ (Contains (list_at new key.0) z ⊎ Contains (list_at new key.1) z))
-            (sym (grow.same i is.within))
-            (same_as (is.exactly z) (either-grow key.0 key.1 is.first is.second z));
-      }
+  IsUnion-grow key i is = record {
+    within = omega (arith, is.within, grow.longer);
+    first = omega (arith, is.first, grow.longer);
+    second = omega (arith, is.second, grow.longer);
+    exactly = rw (grow.same i is.within, grow.same key.0 is.first, grow.same key.1 is.second) is.exactly;
+  }
 
   pub AreUnions-grow : (unions : List ((ℕ × ℕ) × ℕ)) → AreUnions old unions → AreUnions new unions
   AreUnions-grow unions are z c = IsUnion-grow z.0 z.1 (are z c)

@@ -1,29 +1,14 @@
--- What slots have: that of the empty list alone, and one list more at the end of the pairs.
-use Rattle.std.proofs.Common.{◌≡◌, ◌∙◌, ℕ, ◌+◌, ◌≤◌, List, [], ◌∷◌, ◌++◌, length, take, ap, refl, sym, subst, arith}
+-- What slots have when there are more pairs, and one list more at the end of the pairs.
+use Rattle.std.proofs.Common.{◌≡◌, ◌∙◌, ℕ, ◌+◌, ◌≤◌, List, [], ◌∷◌, ◌++◌, length, ap, refl, arith}
 use Rattle.std.specs.List.{All, slice_range}
 use Rattle.std.proofs.lemmas.List.{map-append}
 use Rattle.std.proofs.lemmas.List.Elements.{All-head, All-tail}
 use Rattle.lists.specs.declared.kept.Slot.{Slot}
-use Rattle.lists.specs.declared.kept.TheConstants.{NO_SLOT}
 use Rattle.lists.specs.Extended.{kept_in, all_kept, AreSlots}
-use Rattle.lists.proofs.Storing.{All-only}
 use Rattle.lists.proofs.Spans.{slice_range-append, slice_range-last}
 
 abbrev IsWithin : List (ℕ × ℕ) → Slot → Type 0
 IsWithin pairs x = x.start + x.count ≤ length pairs
-
--- the slot of the empty list alone
-pub AreSlots-first : AreSlots [] (NO_SLOT ∷ [])
-AreSlots-first = record { within = All-only (IsWithin []) NO_SLOT (omega arith); some = omega arith; first = refl }
-
-pub kept-cleared : (pairs : List (ℕ × ℕ)) (slots : List Slot) → AreSlots pairs slots →
-    all_kept [] (take 1 slots) ≡ (0, []) ∷ []
-kept-cleared pairs [] are = absurd (let some = are.some in omega arith)
-kept-cleared pairs (x ∷ xs) are = ap (λ s. kept_in [] s ∷ []) are.first
-
-pub AreSlots-cleared : (pairs : List (ℕ × ℕ)) (slots : List Slot) → AreSlots pairs slots → AreSlots [] (take 1 slots)
-AreSlots-cleared pairs [] are = absurd (let some = are.some in omega arith)
-AreSlots-cleared pairs (x ∷ xs) are = subst (λ s. AreSlots [] (s ∷ [])) (sym are.first) AreSlots-first
 
 -- more pairs at the end change no list
 module _ (pairs more : List (ℕ × ℕ)) where
@@ -32,16 +17,14 @@ module _ (pairs more : List (ℕ × ℕ)) where
   kept-each (x ∷ xs) h =
       let within : x.start + x.count ≤ length pairs = All-head (IsWithin pairs) x xs h in
       ap (λ l. (x.base, l) ∷ all_kept (pairs ++ more) xs) (slice_range-append pairs more x.start (x.start + x.count)
-      (omega arith) within)
-      ∙ ap (λ l. kept_in pairs x ∷ l) (kept-each xs (All-tail (IsWithin pairs) x xs h))
+      (omega arith) within) ∙ ap (λ l. kept_in pairs x ∷ l) (kept-each xs (All-tail (IsWithin pairs) x xs h))
 
   pub kept-more : (slots : List Slot) → AreSlots pairs slots → all_kept (pairs ++ more) slots ≡ all_kept pairs slots
   kept-more slots are = kept-each slots are.within
 
 -- the slot of a list that goes last among the pairs goes last among the slots
 module _ (pairs list : List (ℕ × ℕ)) (slots : List Slot) (new : Slot) (are : AreSlots pairs slots)
-    (start : new.start ≡ length pairs)
-    (count : new.count ≡ length list) where
+    (start : new.start ≡ length pairs) (count : new.count ≡ length list) where
   kept-new : kept_in (pairs ++ list) new ≡ (new.base, list)
   kept-new =
       ap (λ i. (new.base, slice_range (pairs ++ list) i (i + new.count))) start

@@ -4,7 +4,6 @@ use Rattle.std.proofs.Common.{◌≡◌, ◌∙◌, ◌↔◌, ◌⊎◌, ℕ, �
 use Rattle.std.proofs.Common.{drop, true, false, ltb, Contains, Less, Equal, ap, sym, subst, inl, inr, arith}
 use Rattle.std.specs.List.Sorted.{IsStrictlySortedBy, IsNonDecreasingBy, IsPartitionedBy, IsPartitionPoint}
 use Rattle.std.proofs.lemmas.List.Sorted.{IsPartitionedBy-ltb}
-use Rattle.std.specs.Ordering.{nat_cmp, ordering_then}
 use Rattle.std.specs.Cmp.{nat_cmp_is}
 use Rattle.std.proofs.lemmas.Bool.{cases_lt, cases_order, cases_eq}
 use Rattle.std.proofs.lemmas.List.Elements.{Contains-append_cases, Contains-append_left, Contains-append_right}
@@ -20,15 +19,8 @@ use Rattle.std.proofs.lemmas.Map.Keys.{sorted_tail, Less-from_sorted}
 module _ (x y : ℕ × ℕ) (small : x.1 < 2 ^ 32) (fits : y.1 < 2 ^ 32) where
   pub less_from_key : as_number x < as_number y → pair_cmp x y ≡ Less
   less_from_key h = elim (cases_order x.0 y.0) [
-    | inl e ↦
-        let first : nat_cmp x.0 y.0 ≡ Equal = sym (nat_cmp_is x.0 y.0 Equal e) in
-        let second : nat_cmp x.1 y.1 ≡ Less = sym (nat_cmp_is x.1 y.1 Less (omega arith)) in
-        (λ i. ordering_then (first i) (second i))
-    | inr order ↦ elim order [
-      | inl low ↦ let first : nat_cmp x.0 y.0 ≡ Less = sym (nat_cmp_is x.0 y.0 Less low) in
-          (λ i. ordering_then (first i) (nat_cmp x.1 y.1))
-      | inr high ↦ absurd (omega arith)
-    ]
+    | inl e ↦ rw (← nat_cmp_is x.0 y.0 Equal e, ← nat_cmp_is x.1 y.1 Less (omega arith))
+    | inr order ↦ elim order [ inl low ↦ rw (← nat_cmp_is x.0 y.0 Less low) | inr high ↦ absurd (omega arith) ]
   ]
 
 pub key_from_less : (x y : ℕ × ℕ) → x.1 < 2 ^ 32 → y.1 < 2 ^ 32 → pair_cmp x y ≡ Less → as_number x < as_number y
@@ -36,10 +28,8 @@ key_from_less x y small fits h = elim (cases_lt (as_number x) (as_number y)) [
   | inl less ↦ less
   | inr more ↦ elim (cases_eq (as_number y) (as_number x)) [
     | inl e ↦
-        let first : nat_cmp x.0 y.0 ≡ Equal = sym (nat_cmp_is x.0 y.0 Equal (omega arith)) in
-        let second : nat_cmp x.1 y.1 ≡ Equal = sym (nat_cmp_is x.1 y.1 Equal (omega arith)) in
-        let tie : pair_cmp x y ≡ Equal = (λ i. ordering_then (first i) (second i)) in
-        absurd (cc)
+        let tie : pair_cmp x y ≡ Equal =
+        rw (← nat_cmp_is x.0 y.0 Equal (omega arith), ← nat_cmp_is x.1 y.1 Equal (omega arith)) in absurd (cc)
     | inr other ↦ absurd (not_both pair_total x y h (less_from_key y x fits small (omega (arith, other))))
   ]
 ]
@@ -53,8 +43,7 @@ halves_has below above z = (
 
 -- what rises below a place and from it on
 pub halves_rise : (below above : List (ℕ × ℕ)) (c : ℕ) → IsStrictlySortedBy pair_cmp below
-    → IsStrictlySortedBy pair_cmp above
-    → Fit below → Fit above
+    → IsStrictlySortedBy pair_cmp above → Fit below → Fit above
     → IsUnder below c → IsOver above c → IsStrictlySortedBy pair_cmp (below ++ above)
 halves_rise [] above c rise_below rise_above fit_below fit_above under over = rise_above
 halves_rise (x ∷ xs) above c rise_below rise_above fit_below fit_above under over =
@@ -64,10 +53,8 @@ halves_rise (x ∷ xs) above c rise_below rise_above fit_below fit_above under o
           let low = under x (here x xs) in
           let high = over y b in
           less_from_key x y (fit_below x (here x xs)) (fit_above y b) (omega arith)
-    ])
-    (halves_rise xs above c (sorted_tail pair_cmp x xs rise_below) rise_above
-    (λ z d. fit_below z (there x xs z d)) fit_above
-    (λ z d. under z (there x xs z d)) over)
+    ]) (halves_rise xs above c (sorted_tail pair_cmp x xs rise_below) rise_above
+    (λ z d. fit_below z (there x xs z d)) fit_above (λ z d. under z (there x xs z d)) over)
 
 -- keys rise with the pairs
 pub rising_keys : (list : List (ℕ × ℕ)) → IsStrictlySortedBy pair_cmp list → Fit list → IsNonDecreasingBy as_number list
@@ -122,8 +109,7 @@ module _ (list below above : List (ℕ × ℕ)) (c : ℕ) (parted : IsParted lis
   pub parts_rise : IsStrictlySortedBy pair_cmp list →
       IsStrictlySortedBy pair_cmp below × IsStrictlySortedBy pair_cmp above
   parts_rise rise =
-      let both = subst (IsStrictlySortedBy pair_cmp) parted.joined rise in
-      (rising_left below above both, rising_right below above both)
+      let both = rw parted.joined at rise in (rising_left below above both, rising_right below above both)
 
   pub parts_fit : Fit list → Fit below × Fit above
   parts_fit fit =
@@ -135,25 +121,18 @@ module _ (list below above : List (ℕ × ℕ)) (c : ℕ) (parted : IsParted lis
   parts_both rise fit = (((parts_rise rise).0, (parts_fit fit).0), ((parts_rise rise).1, (parts_fit fit).1))
 
   pub parts_has : (z : ℕ × ℕ) → Contains list z ↔ (Contains below z ⊎ Contains above z)
-  parts_has z =
-      subst (λ l. Contains l z ↔ (Contains below z ⊎ Contains above z)) (sym parted.joined) (halves_has below above z)
+  parts_has z = rw parted.joined (halves_has below above z)
 
   pub below_has : (z : ℕ × ℕ) → Contains below z ↔ (Contains list z × (as_number z < c))
   below_has z = (
     λ d. ((parts_has z).1 (inl d), parted.under z d),
-    λ h. elim ((parts_has z).0 h.0) [
-      | inl a ↦ a
-      | inr b ↦ let low = h.1 in let high = parted.over z b in absurd (omega arith)
-    ],
+    λ h. elim ((parts_has z).0 h.0) [ inl a ↦ a | inr b ↦ absurd (omega (arith, h.1, parted.over z b)) ],
   )
 
   pub above_has : (z : ℕ × ℕ) → Contains above z ↔ (Contains list z × (c ≤ as_number z))
   above_has z = (
     λ d. ((parts_has z).1 (inr d), parted.over z d),
-    λ h. elim ((parts_has z).0 h.0) [
-      | inl a ↦ let high = h.1 in let low = parted.under z a in absurd (omega arith)
-      | inr b ↦ b
-    ],
+    λ h. elim ((parts_has z).0 h.0) [ inl a ↦ absurd (omega (arith, h.1, parted.under z a)) | inr b ↦ b ],
   )
 
   -- neither part is all of it if there are pairs on both sides
@@ -164,12 +143,12 @@ module _ (list below above : List (ℕ × ℕ)) (c : ℕ) (parted : IsParted lis
       let size = ap length parted.joined in
       let both = length-append below above in
       let first : 0 < length below = elim ((parts_has cut.below.0).0 cut.below.1) [
-        | inl d ↦ let k = d.1 in omega arith
-        | inr d ↦ let over = parted.over cut.below.0 d in absurd (omega arith)
+        | inl d ↦ omega (arith, d.1)
+        | inr d ↦ absurd (omega (arith, parted.over _ d))
       ] in
       let second : 0 < length above = elim ((parts_has cut.above.0).0 cut.above.1) [
-        | inl d ↦ let under = parted.under cut.above.0 d in absurd (omega arith)
-        | inr d ↦ let k = d.1 in omega arith
+        | inl d ↦ absurd (omega (arith, parted.under _ d))
+        | inr d ↦ omega (arith, d.1)
       ] in
       (omega arith, omega arith)
 

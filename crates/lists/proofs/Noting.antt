@@ -23,8 +23,7 @@ none_noted unions n e =
 pub none_first : (unions taken : List Union) (n : ℕ) → unions ≡ take 1024 taken ++ replicate n NO_UNION → taken ≡ []
     → All IsNone (map noted_union unions)
 none_first unions taken n e t =
-    none_noted unions n
-    (e ∙ (λ i. take 1024 (t i) ++ replicate n NO_UNION) ∙ ap (λ l. l ++ replicate n NO_UNION)
+    none_noted unions n (e ∙ (λ i. take 1024 (t i) ++ replicate n NO_UNION) ∙ ap (λ l. l ++ replicate n NO_UNION)
     (take_all {A = Union} 1024 [] (omega arith)))
 
 pub none_contained : (unions : List Union) (n : ℕ) → unions ≡ replicate n NO_UNION → (z : (ℕ × ℕ) × ℕ) →
@@ -33,8 +32,7 @@ none_contained unions n e z d = All-contains IsNone (map noted_union unions) z (
 
 -- one place is written
 pub written : (unions : List Union) (p : ℕ) (u : Union) (z : (ℕ × ℕ) × ℕ)
-    → Contains (map noted_union (set unions p u)) z
-    → Contains (map noted_union unions) z ⊎ (z ≡ noted_union u)
+    → Contains (map noted_union (set unions p u)) z → Contains (map noted_union unions) z ⊎ (z ≡ noted_union u)
 written unions p u z has =
     let all = map noted_union unions in
     let (k, low, is) = subst (λ l. Contains l z) (map-set noted_union unions p u) has in

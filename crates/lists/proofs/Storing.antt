@@ -5,7 +5,7 @@ use Rattle.std.specs.List.{All, slice_range}
 use Rattle.std.specs.List.Sorted.{IsStrictlySortedBy}
 use Rattle.std.proofs.lemmas.Bool.{cases_lt}
 use Rattle.std.proofs.lemmas.List.{length_push, get_or_append_left, get_or_push, get_or_past, length-append}
-use Rattle.std.proofs.lemmas.List.Elements.{All-append, Contains-append_cases}
+use Rattle.std.proofs.lemmas.List.Elements.{All-cons, All-nil, All-push, Contains-append_cases}
 use Rattle.lists.specs.declared.nodes.TheConstants.{FEW, MOST_LISTS}
 use Rattle.lists.specs.declared.nodes.Halves.{Halves}
 use Rattle.lists.specs.declared.nodes.Node.{Node}
@@ -21,8 +21,7 @@ use Rattle.lists.specs.Nodes.{AreHalves, IsHalved, IsFew, AreIn, node_at, IsKept
 use Rattle.lists.specs.Nodes.{list_of_shape, Suits, AreStored, AreNodes}
 
 pub All-only : {X : Type 0} (P : X → Type 0) (x : X) → P x → All P (x ∷ [])
-All-only P x p zero d h = p
-All-only P x p (suc k) d h = absurd (omega arith)
+All-only P x p = All-cons P x [] p (All-nil P)
 
 -- lists with one more at the end
 module _ (lists : List (List (ℕ × ℕ))) (list : List (ℕ × ℕ)) where
@@ -39,14 +38,13 @@ module _ (lists : List (List (ℕ × ℕ))) (list : List (ℕ × ℕ)) where
 pub IsHalved-move : (lists new : List (List (ℕ × ℕ))) (k : ℕ) (h : Halves) →
     ((j : ℕ) → j ≤ k → list_at new j ≡ list_at lists j) → IsHalved lists k h → IsHalved new k h
 IsHalved-move lists new k h same is =
-    let below = same h.below (let b = is.below in omega arith) in
-    let above = same h.above (let b = is.above in omega arith) in
+    let below = same h.below (omega (arith, is.below)) in
+    let above = same h.above (omega (arith, is.above)) in
     record {
       below = is.below;
       above = is.above;
-      list = same k (omega arith) ∙ is.list ∙ (λ i. sym below i ++ sym above i);
-      halves = subst (λ b. AreHalves b (list_at new h.above) h.cut) (sym below)
-          (subst (λ a. AreHalves (list_at lists h.below) a h.cut) (sym above) is.halves);
+      list = rw (same k (omega arith), below, above) is.list;
+      halves = rw (below, above) is.halves;
     }
 
 pub IsHalved-grow : (lists new : List (List (ℕ × ℕ))) (k : ℕ) (h : Halves) → Grow lists new → k < length lists →
@@ -62,17 +60,14 @@ module _ (lists : List (List (ℕ × ℕ))) (list : List (ℕ × ℕ)) where
       let longer = length_push lists list in
       let some = are.some in
       record {
-        rise = All-append (IsStrictlySortedBy pair_cmp) lists (list ∷ []) are.rise
-            (All-only (IsStrictlySortedBy pair_cmp) list rising);
-        fit = All-append Fit lists (list ∷ []) are.fit (All-only Fit list fits);
+        rise = All-push (IsStrictlySortedBy pair_cmp) lists list are.rise rising;
+        fit = All-push Fit lists list are.fit fits;
         halved = λ k low many. elim (cases_lt k (length lists)) [
           | inl o ↦
-              let old = are.halved k o (subst (λ l. FEW < length l) (list-old lists list k o) many) in
+              let old = are.halved k o (rw (list-old lists list k o) at many) in
               (old.0, IsHalved-grow lists (lists ++ list ∷ []) k old.0 (Grow-push lists list) o old.1)
           | inr n ↦
-              let last : length lists ≡ k = omega arith in
-              let h = long (subst (λ l. FEW < length l) (list-new lists list k (sym last)) many) in
-              (h.0, subst (λ m. IsHalved (lists ++ list ∷ []) m h.0) last h.1)
+              let last : k ≡ length lists = omega arith in rw last (long (rw (list-new lists list k last) at many))
         ];
         some = omega arith;
         few = omega arith;
@@ -90,9 +85,8 @@ IsHalved-new lists h below above halves =
     record {
       below = below;
       above = above;
-      list = list-new lists list (length lists) refl ∙ (λ i. sym first i ++ sym second i);
-      halves = subst (λ b. AreHalves b (list_at (lists ++ list ∷ []) h.above) h.cut) (sym first)
-          (subst (λ a. AreHalves (list_at lists h.below) a h.cut) (sym second) halves);
+      list = list-new lists list (length lists) refl ∙ rw (first, second);
+      halves = rw (first, second) halves;
     }
 
 -- the first n lists
@@ -101,11 +95,8 @@ module _ (pairs : List (ℕ × ℕ)) (nodes : List Node) where
   unfolding lists_to
   length-to zero = refl
   length-to (suc n) =
-      omega (
-        arith,
-        length-to n,
-        length_push (lists_to pairs nodes n) (kept_list pairs (lists_to pairs nodes n) (node_at nodes n)),
-      )
+      length_push (lists_to pairs nodes n) (kept_list pairs (lists_to pairs nodes n) (node_at nodes n))
+      ∙ omega (arith, length-to n)
 
   pub length-lists : length (kept_lists pairs nodes) ≡ length nodes
   length-lists = length-to (length nodes)
@@ -118,9 +109,7 @@ module _ (pairs : List (ℕ × ℕ)) (nodes : List Node) where
   to_at (suc n) k low = elim (cases_lt k n) [
     | inl o ↦ get_or_append_left (lists_to pairs nodes n) _ [] k (omega (arith, length-to n)) ∙ to_at n k o
     | inr h ↦
-        let e : k ≡ n = omega arith in
-        get_or_push (lists_to pairs nodes n) _ [] k (omega (arith, length-to n))
-        ∙ ap (λ m. kept_list pairs (lists_to pairs nodes m) (node_at nodes m)) (sym e)
+        let e : k ≡ n = omega arith in rw e (get_or_push (lists_to pairs nodes n) _ [] n (length-to n))
   ]
 
   pub list_whole : (k start count : ℕ) → k < length nodes → node_at nodes k ≡ Whole start count
@@ -143,8 +132,7 @@ kept_long pairs lists new k (Halved h) is long = (h, is)
 
 -- one node more, and maybe more pairs
 module _ (pairs pairs' : List (ℕ × ℕ)) (nodes : List Node) (new : Node) (are : AreNodes pairs nodes)
-    (longer : length pairs ≤ length pairs')
-    (keeps : (start end : ℕ) → start ≤ end → end ≤ length pairs →
+    (longer : length pairs ≤ length pairs') (keeps : (start end : ℕ) → start ≤ end → end ≤ length pairs →
     slice_range pairs' start end ≡ slice_range pairs start end) where
   same_list : (lists kept : List (List (ℕ × ℕ))) (k : ℕ) (node : Node) → IsKept pairs kept k node →
       kept_list pairs' lists node ≡ kept_list pairs lists node
@@ -161,11 +149,8 @@ module _ (pairs pairs' : List (ℕ × ℕ)) (nodes : List Node) (new : Node) (ar
   unfolding lists_to
   to_agree zero low = refl
   to_agree (suc n) low =
-      let before = to_agree n (omega arith) in
-      let node = node-old n (omega arith) in
-      (λ i. before i ++ kept_list pairs' (before i) (node i) ∷ [])
-      ∙ ap (λ l. lists_to pairs nodes n ++ l ∷ []) (same_list (lists_to pairs nodes n) _ n (node_at nodes n)
-      (are.kept n (omega arith)))
+      let same = same_list (lists_to pairs nodes n) _ n (node_at nodes n) (are.kept n (omega arith)) in
+      rw (to_agree n (omega arith), node-old n (omega arith), same)
 
   abbrev pub list : List (ℕ × ℕ)
   list = kept_list pairs' (kept_lists pairs nodes) new
@@ -173,11 +158,8 @@ module _ (pairs pairs' : List (ℕ × ℕ)) (nodes : List Node) (new : Node) (ar
   pub lists-push : kept_lists pairs' (nodes ++ new ∷ []) ≡ kept_lists pairs nodes ++ list ∷ []
   unfolding lists_to
   lists-push =
-      let n = length nodes in
-      let longer : length (nodes ++ new ∷ []) ≡ suc n = omega (arith, length_push nodes new) in
-      let old = to_agree n (omega arith) in
-      let last = node-new n refl in
-      ap (lists_to pairs' (nodes ++ new ∷ [])) longer ∙ (λ i. old i ++ kept_list pairs' (old i) (last i) ∷ [])
+      let longer : length (nodes ++ new ∷ []) ≡ suc (length nodes) = omega (arith, length_push nodes new) in
+      rw (longer, to_agree (length nodes) (omega arith), node-new (length nodes) refl)
 
   -- the nodes with the new one
   pub AreNodes-push : length nodes < MOST_LISTS → IsStrictlySortedBy pair_cmp list → Fit list
@@ -187,23 +169,16 @@ module _ (pairs pairs' : List (ℕ × ℕ)) (nodes : List Node) (new : Node) (ar
       let size = length-lists pairs nodes in
       let some = are.stored.some in
       let lists = kept_lists pairs nodes in
-      let long : FEW < length list → (h : Halves) × IsHalved (lists ++ list ∷ []) (length lists) h =
-      λ long. subst (λ n. (h : Halves) × IsHalved (lists ++ list ∷ []) n h) (sym size)
-      (kept_long pairs' lists _ (length nodes) new kept long) in
       record {
-        stored = subst AreStored (sym lists-push) (AreStored-push lists list are.stored (omega arith) rising fits long);
+        stored = rw lists-push (AreStored-push lists list are.stored (omega arith) rising fits
+            (λ long. rw size (kept_long pairs' lists _ (length nodes) new kept long)));
         empty = node-old 0 (omega arith) ∙ are.empty;
-        kept = λ k low. subst (λ l. IsKept pairs' l k (node_at (nodes ++ new ∷ []) k)) (sym lists-push)
-            (elim (cases_lt k (length nodes)) [
-              | inl o ↦
-                  subst (IsKept pairs' (lists ++ list ∷ []) k) (sym (node-old k o))
-                  (IsKept-grow pairs pairs' lists _ k (node_at nodes k) longer (Grow-push lists list)
-                  (omega arith) (are.kept k o))
-              | inr n ↦
-                  let last : length nodes ≡ k = omega arith in
-                  subst (λ m. IsKept pairs' (lists ++ list ∷ []) m (node_at (nodes ++ new ∷ []) m)) last
-                  (subst (IsKept pairs' (lists ++ list ∷ []) (length nodes)) (sym (node-new (length nodes) refl)) kept)
-            ]);
+        kept = λ k low. rw lists-push (elim (cases_lt k (length nodes)) [
+          | inl o ↦
+              rw (node-old k o) (IsKept-grow pairs pairs' lists _ k (node_at nodes k) longer (Grow-push lists list)
+              (omega arith) (are.kept k o))
+          | inr n ↦ let last : k ≡ length nodes = omega arith in rw (last, node-new (length nodes) refl) kept
+        ]);
       }
 
 -- the empty list alone
@@ -213,9 +188,7 @@ lists-first = refl
 
 none_long : (k : ℕ) → FEW < length (list_at ([] ∷ []) k) → ⊥
 none_long zero long = omega arith
-none_long (suc k) long =
-    let none : length (list_at ([] ∷ []) (suc k)) ≡ 0 = ap length (get_or_past {X = List (ℕ × ℕ)} ([] ∷ []) (suc k) []
-    (omega arith)) in omega arith
+none_long (suc k) long = omega (arith, ap length (get_or_past {X = List (ℕ × ℕ)} ([] ∷ []) (suc k) [] (omega arith)))
 
 pub AreStored-first : AreStored ([] ∷ [])
 AreStored-first = record {
@@ -231,10 +204,7 @@ pub AreNodes-first : AreNodes [] (Whole 0 0 ∷ [])
 AreNodes-first = record {
   stored = subst AreStored (sym lists-first) AreStored-first;
   empty = refl;
-  kept = λ k low.
-      let zero : 0 ≡ k = omega arith in
-      subst (λ k. IsKept [] (kept_lists [] (Whole 0 0 ∷ [])) k (node_at (Whole 0 0 ∷ []) k)) zero
-      (omega arith, omega arith);
+  kept = λ k low. let zero : k ≡ 0 = omega arith in rw zero (omega arith, omega arith);
 }
 
 -- the empty list is kept first
@@ -259,10 +229,8 @@ module _ (pairs list : List (ℕ × ℕ)) (nodes : List Node) (are : AreNodes pa
   pub AreNodes-whole : length nodes < MOST_LISTS → IsFew list →
       AreNodes (pairs ++ list) (nodes ++ Whole (length pairs) (length list) ∷ [])
   AreNodes-whole few is =
-      let short = is.few in
       AreNodes-push pairs (pairs ++ list) nodes _ are (omega (arith, longer)) (slice_range-append pairs list) few
-      (subst (IsStrictlySortedBy pair_cmp) (sym whole_is) is.rising) (subst Fit (sym whole_is) is.fit)
-      (omega (arith, longer), omega arith)
+      (rw whole_is is.rising) (rw whole_is is.fit) (omega (arith, longer), omega (arith, is.few))
 
 -- one list more that has halves
 module _ (pairs : List (ℕ × ℕ)) (nodes : List Node) (h : Halves) (are : AreNodes pairs nodes) where
@@ -277,16 +245,13 @@ module _ (pairs : List (ℕ × ℕ)) (nodes : List Node) (h : Halves) (are : Are
   AreNodes-halved few is =
       let stored = are.stored in
       AreNodes-push pairs pairs nodes (Halved h) are (omega arith) (λ s e l m. refl) few
-      (halves_rise (list_at lists h.below) (list_at lists h.above) h.cut (stored.rise h.below [] is.below)
-      (stored.rise h.above [] is.above)
+      (halves_rise _ _ h.cut (stored.rise h.below [] is.below) (stored.rise h.above [] is.above)
       (stored.fit h.below [] is.below) (stored.fit h.above [] is.above) is.halves.under is.halves.over)
       (λ z d. elim (Contains-append_cases (list_at lists h.below) (list_at lists h.above) z d) [
         | inl a ↦ stored.fit h.below [] is.below z a
         | inr b ↦ stored.fit h.above [] is.above z b
-      ])
-      (subst (λ n. IsHalved (lists ++ (list_at lists h.below ++ list_at lists h.above) ∷ []) n h)
-      (length-lists pairs nodes)
-      (IsHalved-new lists h is.below is.above is.halves))
+      ]) (subst (λ n. IsHalved (lists ++ (list_at lists h.below ++ list_at lists h.above) ∷ []) n h)
+      (length-lists pairs nodes) (IsHalved-new lists h is.below is.above is.halves))
 
 -- a node that is put last, and the pairs with it, keep a list of this shape
 abbrev pub IsNext : List (ℕ × ℕ) → List (ℕ × ℕ) → Shape → Node → Type 0

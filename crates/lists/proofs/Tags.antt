@@ -1,26 +1,14 @@
--- The fingerprint of one pair more. Halves are those of one list at most.
-use Rattle.std.proofs.Common.{◌≡◌, ◌∙◌, ℕ, ◌+◌, ◌%◌, ◌^◌, ◌<◌, List, [], ◌++◌, length, get_or, take, ◌&&◌, eqb, Decides}
+-- Halves are those of one list at most.
+use Rattle.std.proofs.Common.{◌≡◌, ℕ, ◌<◌, List, [], ◌++◌, length, ◌&&◌, eqb, Decides}
 use Rattle.std.proofs.Common.{ap, sym, subst, refl, arith}
-use Rattle.std.proofs.Math.Nat.{mod-add-mod}
-use Rattle.std.specs.List.{sum_by}
 use Rattle.std.proofs.lemmas.Bool.Decides.{Decides-eqb, Decides-and, Decides-like}
-use Rattle.std.proofs.lemmas.List.Sums.{sum_by_more}
 use Rattle.lists.specs.declared.nodes.Halves.{Halves}
-use Rattle.buckets.specs.Hashing.{hash_of}
 use Rattle.lists.specs.Lists.{list_at}
 use Rattle.lists.specs.Cuts.{IsCut, IsParted}
 use Rattle.lists.specs.Nodes.{IsHalved, AreStored, AreIn}
-use Rattle.lists.specs.Hashed.{fingerprint_of, AreDifferent}
+use Rattle.lists.specs.Hashed.{AreDifferent}
 use Rattle.lists.proofs.Cuts.{cut_unique}
 use Rattle.lists.proofs.Keys.{parts_unique}
-
--- one pair more
-pub fingerprint_more : (list : List (ℕ × ℕ)) (i sum hash : ℕ) → i < length list → sum ≡ fingerprint_of (take i list)
-    → hash ≡ hash_of (get_or list i (0, 0)) → (sum + hash) % 2 ^ 64 ≡ fingerprint_of (take (i + 1) list)
-fingerprint_more list i sum hash low before is =
-    ap (λ s. (s + hash) % 2 ^ 64) before ∙ mod-add-mod (sum_by hash_of (take i list)) (2 ^ 64) hash
-    ∙ ap (λ w. (sum_by hash_of (take i list) + w) % 2 ^ 64) is
-    ∙ ap (λ s. s % 2 ^ 64) (sym (sum_by_more hash_of list i (0, 0) low))
 
 -- of different lists, one has these two as its halves, and its cut is theirs
 module _ (lists : List (List (ℕ × ℕ))) (stored : AreStored lists) (different : AreDifferent lists) where

@@ -41,7 +41,8 @@ impl Model for Trie {
 
     ghost view = { λ x. x.nodes };
 
-    ghost invariant = { λ x. IsHashed x.nodes x.sums.items x.buckets.tags × AreUnions x.nodes x.known };
+    ghost invariant = { λ x. IsHashed x.nodes x.sums.items x.buckets.tags
+        × AreUnions x.nodes x.known };
 }
 
 impl Trie {

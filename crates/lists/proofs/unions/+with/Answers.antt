@@ -47,8 +47,8 @@ returns-in_ok-above-in-Halved-clause-exactly t c =
     IfOk-weaker c.number.result _ _ (λ i e. both.exactly _ e) c.number.ensures.list
 
 pub returns-in_ok-above-in-Halved-clause-grow : goal.returns-in_ok-above-in-Halved-clause-grow
-returns-in_ok-above-in-Halved-clause-grow t c = Grow-twice (Grow-twice c.with.ensures.grow c.with-in-Halved.ensures.grow)
-    c.number.ensures.grow
+returns-in_ok-above-in-Halved-clause-grow t c =
+    Grow-twice (Grow-twice c.with.ensures.grow c.with-in-Halved.ensures.grow) c.number.ensures.grow
 
 -- the list is put together with the pairs
 both_are : (t : ℕ) (c : After-deref t)

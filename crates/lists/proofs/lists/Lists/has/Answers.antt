@@ -1,8 +1,8 @@
 use Rattle.std.proofs.Common.{◌≡◌, refl, inl, inr}
-use Rattle.std.proofs.lemmas.Bool.{both_ways, false≢true}
+use Rattle.std.proofs.lemmas.Bool.{both_ways}
 use Rattle.lists.specs.Lists.{list_at}
 use Rattle.lists.specs.Extended.{parts_of, extended}
-use Rattle.lists.proofs.Numbering.{shown_at, has_either, has_neither}
+use Rattle.lists.proofs.Numbering.{shown_at, has_either}
 use Rattle.lists.proofs.lists.Lists.has.Goals as goal
 use Rattle.lists.proofs.lists.Lists.has.Goals.{After-of-list}
 
@@ -14,17 +14,8 @@ list_is c =
 pub returns-then-has : goal.returns-then-has
 returns-then-has c = (
   λ t. (has_either c.self.inside.bases.trie (parts_of c.of-list.result) _
-      (list_is ((goal.at.returns-then-has c).After-of-list)) c.args.pair).1
-      (inr (c.has.ensures.0 c.if-has.true)),
+      (list_is ((goal.at.returns-then-has c).After-of-list)) c.args.pair).1 (inr (c.has.ensures.0 c.if-has.true)),
   λ d. refl,
-)
-
-pub returns-then-list-eq-EMPTY : goal.returns-then-list-eq-EMPTY
-returns-then-list-eq-EMPTY c = (
-  λ t. absurd (false≢true t),
-  λ d. absurd (has_neither c.self.inside.bases.trie (parts_of c.of-list.result) _
-      (list_is ((goal.at.returns-then-list-eq-EMPTY c).After-of-list)) c.args.pair
-      c.if-list-eq-EMPTY.true c.known.ensures.stored.first (λ f. both_ways _ c.if-has.false (c.has.ensures.1 f)) d),
 )
 
 pub returns : goal.returns

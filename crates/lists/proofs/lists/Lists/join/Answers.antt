@@ -1,29 +1,25 @@
 use Rattle.std.proofs.Common.{◌∙◌, ◌⊎◌, ◌↔◌, Contains, ap, sym, subst}
 use Rattle.std.proofs.lemmas.Result.{IfOk-weaker}
-use Rattle.lists.specs.Lists.{list_at, merged, Grow, HasOne}
-use Rattle.lists.specs.Extended.{AreExtended, IsExtension, extended_lists}
+use Rattle.lists.specs.Lists.{list_at, merged, Grow}
+use Rattle.lists.specs.Extended.{AreExtended, extended_lists}
 use Rattle.lists.proofs.Merging.{merged_has}
 use Rattle.lists.proofs.Joining.{Grow-twice, same_as}
-use Rattle.lists.proofs.Numbering.{AreExtended-grow, Grow-lists, within_lists}
+use Rattle.lists.proofs.Numbering.{AreExtended-grow, Grow-lists}
 use Rattle.lists.proofs.lists.Lists.join.Goals as goal
 use Rattle.lists.proofs.lists.Lists.join.Goals.{After-union_of}
 
 -- the last list has all
 pub returns-in-Some-clause-exactly : goal.returns-in-Some-clause-exactly
 returns-in-Some-clause-exactly c z =
-    subst (λ l. Contains (list_at c.args.self.now c.in-Some.list) z
-    ↔ (Contains l z ⊎ HasOne c.args.self.now c.args.lists.now z)) c.deref.ensures.value
-    (c.in-Some.ensures.exactly z)
+    rw c.deref.ensures.value at (c.in-Some.ensures.exactly z)
 
 -- the base of the union is there
 module _ (c : After-union_of) where
   kept : AreExtended c.union_of.new.bases.trie c.self.inside.table.kept c.self.inside.table.buckets.tags
-  kept = AreExtended-grow c.union_of.ensures.grow c.self.inside.table.kept c.self.inside.table.buckets.tags c.self.invariant
+  kept = AreExtended-grow c.union_of.ensures.grow _ _ c.self.invariant
 
   grown : Grow c.args.self.now (extended_lists c.union_of.new.bases.trie c.self.inside.table.kept)
-  grown =
-      subst (λ l. Grow l (extended_lists c.union_of.new.bases.trie c.self.inside.table.kept)) c.self.view_is
-      (Grow-lists c.union_of.ensures.grow c.self.inside.table.kept c.self.invariant.each)
+  grown = rw (← c.self.view_is) (Grow-lists c.union_of.ensures.grow _ c.self.invariant.each)
 
 pub invariant_of-self : goal.invariant_of-self
 invariant_of-self c = kept ((goal.at.invariant_of-self c).After-union_of)
@@ -35,17 +31,6 @@ returns-in_err-base-clause-grow c = grown ((goal.at.returns-in_err-base-clause-g
 pub number_with-requires-clause-kept : goal.number_with-requires-clause-kept
 number_with-requires-clause-kept c = kept ((goal.at.number_with-requires-clause-kept c).After-union_of)
 
-pub number_with-requires-clause-list : goal.number_with-requires-clause-list
-number_with-requires-clause-list c =
-    subst (λ l. IsExtension c.union_of.new.bases.trie (c.in_ok-base.base, l)) (sym c.deref-2.ensures.value)
-    c.in_ok-base.ensures.beside
-
-pub invariant_of-self-2 : goal.invariant_of-self-2
-invariant_of-self-2 c = c.number_with.ensures.keeps.are
-
-pub returns-clause-within : goal.returns-clause-within
-returns-clause-within c = within_lists _ _ c.number_with.result c.number_with.ensures.within
-
 pub returns-clause-grow : goal.returns-clause-grow
 returns-clause-grow c =
     Grow-twice (grown ((goal.at.returns-clause-grow c).After-union_of)) c.number_with.ensures.keeps.lists
@@ -55,10 +40,6 @@ returns-clause-exactly c =
     let list = list_at c.union_of.new.bases.trie c.in_ok-base.base in
     let pairs = c.union_of.new.pairs.items in
     IfOk-weaker c.number_with.result _ _ (λ k e z.
-    same_as
-    (subst (λ l. Contains l z ↔ (Contains list z ⊎ Contains pairs z))
+    same_as (subst (λ l. Contains l z ↔ (Contains list z ⊎ Contains pairs z))
     (sym (e ∙ ap (merged list) c.deref-2.ensures.value)) (merged_has z list pairs))
-    (subst (λ ls. (Contains list z ⊎ Contains pairs z) ↔ (Contains c.args.pairs.now.items z
-    ⊎ HasOne ls c.args.lists.now z)) c.self.view_is
-    (c.in_ok-base.ensures.exactly z)))
-    c.number_with.ensures.list
+    (rw (← c.self.view_is) (c.in_ok-base.ensures.exactly z))) c.number_with.ensures.list

@@ -1,8 +1,8 @@
-use Rattle.std.proofs.Common.{◌≡◌, ◌∙◌, ℕ, ◌++◌, ◌∷◌, ◌<◌, List, [], length, ap, sym, subst, arith}
+use Rattle.std.proofs.Common.{◌≡◌, ◌∙◌, ℕ, ◌++◌, ◌∷◌, ◌<◌, List, [], length, ap, arith}
 use Rattle.lists.specs.declared.nodes.TheConstants.{MOST_LISTS}
 use Rattle.lists.specs.declared.nodes.Node.{Node}
 use Rattle.lists.specs.declared.nodes.Node.TheVariants.{Whole}
-use Rattle.lists.specs.Nodes.{list_of_shape, kept_lists, Suits}
+use Rattle.lists.specs.Nodes.{list_of_shape, kept_lists}
 use Rattle.lists.proofs.Storing.{IsNext, AreNodes-next, lists-next, length-lists}
 use Rattle.lists.proofs.nodes.Nodes.push.Goals as goal
 use Rattle.lists.proofs.nodes.Nodes.push.Goals.{After-push_reserved, in-Whole+in_ok-extend_from_slice-in-Whole}
@@ -16,16 +16,13 @@ module _ (c : After-push_reserved) where
   next : IsNext c.self.inside.pairs.items c.match-shape.self-inside.pairs.items c.args.shape c.match-shape.node
   next = elim c.match-shape.branch [
     | in-Whole+in_ok-extend_from_slice-in-Whole w ↦
-        subst (λ s. IsNext c.self.inside.pairs.items c.match-shape.self-inside.pairs.items s c.match-shape.node)
-        (sym w.in-Whole.is) (
+        rw w.in-Whole.is (
           ap (λ x. x.pairs.items) w.self-inside-is ∙ w.in_ok-extend_from_slice-in-Whole.ensures.items,
           w.node-is ∙ ap (λ start. Whole start (length w.in-Whole.list.now))
               (omega (arith, w.len-start.ensures, c.self.inside.pairs.ok.0)),
         )
     | in-Halved w ↦
-        subst (λ s. IsNext c.self.inside.pairs.items c.match-shape.self-inside.pairs.items s c.match-shape.node)
-        (sym w.in-Halved.is)
-        (ap (λ x. x.pairs.items) w.self-inside-is, w.node-is)
+        rw w.in-Halved.is (ap (λ x. x.pairs.items) w.self-inside-is, w.node-is)
   ]
 
   nodes : c.push_reserved.new.self.items ≡ c.self.inside.nodes.items ++ c.match-shape.node ∷ []
@@ -36,16 +33,14 @@ module _ (c : After-push_reserved) where
 
 pub invariant_of-self-2 : goal.invariant_of-self-2
 invariant_of-self-2 c =
-    rw (nodes c) (AreNodes-next c.self.inside.pairs.items _ c.self.inside.nodes.items c.args.shape c.match-shape.node
-    c.self.invariant (few _ _ c.self.view_is c.requires.few)
-    (subst (λ l. Suits l c.args.shape) (sym c.self.view_is) c.requires.suits) (next c))
+    rw (nodes c) (AreNodes-next _ _ _ c.args.shape c.match-shape.node c.self.invariant
+    (few _ _ c.self.view_is c.requires.few) (rw c.self.view_is c.requires.suits) (next c))
 
 pub returns-clause-pushed : goal.returns-clause-pushed
 returns-clause-pushed c =
     ap (kept_lists c.match-shape.self-inside.pairs.items) (nodes c)
     ∙ lists-next c.self.inside.pairs.items _ c.self.inside.nodes.items c.args.shape c.match-shape.node
-    c.self.invariant (next c)
-    ∙ ap (λ l. l ++ list_of_shape l c.args.shape ∷ []) c.self.view_is
+    c.self.invariant (next c) ∙ ap (λ l. l ++ list_of_shape l c.args.shape ∷ []) c.self.view_is
 
 pub overflow_cast-number : goal.overflow_cast-number
 overflow_cast-number c =

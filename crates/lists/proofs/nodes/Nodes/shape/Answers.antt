@@ -1,10 +1,10 @@
-use Rattle.std.proofs.Common.{◌≡◌, ◌∙◌, ◌<◌, ◌+◌, length, ap, sym, subst, arith}
+use Rattle.std.proofs.Common.{◌≡◌, ◌∙◌, ◌<◌, ◌+◌, length, ap, sym, arith}
 use Rattle.std.specs.List.{slice_range}
 use Rattle.std.proofs.lemmas.List.{get_or_read}
 use Rattle.lists.specs.declared.nodes.Node.{Node}
 use Rattle.lists.specs.declared.nodes.Node.TheVariants.{Whole}
 use Rattle.lists.specs.Lists.{list_at}
-use Rattle.lists.specs.Nodes.{node_at, kept_lists, IsHalved, IsKept}
+use Rattle.lists.specs.Nodes.{node_at, kept_lists, IsKept}
 use Rattle.lists.proofs.Storing.{length-lists, list_whole}
 use Rattle.lists.proofs.Spans.{length-part}
 use Rattle.lists.proofs.nodes.Nodes.shape.Goals as goal
@@ -12,30 +12,21 @@ use Rattle.lists.proofs.nodes.Nodes.shape.Goals.{After-index}
 
 module _ (c : After-index) where
   low : c.args.k < length c.self.inside.nodes.items
-  low = omega (
-    arith,
-    c.requires,
-    length-lists c.self.inside.pairs.items c.self.inside.nodes.items,
-    ap length c.self.view_is,
-  )
+  low =
+      let size = length-lists c.self.inside.pairs.items c.self.inside.nodes.items in
+      omega (arith, c.requires, size, ap length c.self.view_is)
 
   at : node_at c.self.inside.nodes.items c.args.k ≡ c.index.result.now
   at = sym (get_or_read c.self.inside.nodes.items _ _ low c.index.ensures (Whole 0 0))
 
   kept : (node : Node) → c.index.result.now ≡ node
       → IsKept c.self.inside.pairs.items (kept_lists c.self.inside.pairs.items c.self.inside.nodes.items) c.args.k node
-  kept node is =
-      subst (IsKept c.self.inside.pairs.items (kept_lists c.self.inside.pairs.items c.self.inside.nodes.items) c.args.k)
-      (at ∙ is)
-      (c.self.invariant.kept c.args.k low)
+  kept node is = rw (at ∙ is) at (c.self.invariant.kept c.args.k low)
 
 pub index-requires : goal.index-requires
 index-requires c =
     let size = length-lists c.self.inside.pairs.items c.self.inside.nodes.items in
-    let view = ap length c.self.view_is in
-    let low = c.requires in
-    let all = c.self.inside.nodes.ok.0 in
-    omega arith
+    omega (arith, ap length c.self.view_is, c.requires, c.self.inside.nodes.ok.0)
 
 pub part-requires : goal.part-requires
 part-requires c =
@@ -55,5 +46,4 @@ returns-in-Whole c =
 
 pub returns-in-Halved : goal.returns-in-Halved
 returns-in-Halved c =
-    subst (λ l. IsHalved l c.args.k c.in-Halved.halves) c.self.view_is (kept ((goal.at.returns-in-Halved c).After-index)
-    _ c.in-Halved.is)
+    rw (← c.self.view_is) (kept ((goal.at.returns-in-Halved c).After-index) _ c.in-Halved.is)

@@ -1,63 +1,51 @@
-use Rattle.std.proofs.Common.{◌≡◌, ◌∙◌, ◌<◌, length, ap, sym, subst, arith}
+use Rattle.std.proofs.Common.{◌≡◌, ◌∙◌, ◌<◌, [], ap, sym, arith}
 use Rattle.std.proofs.lemmas.Bool.{both_ways}
-use Rattle.buckets.specs.Buckets.{IsLast}
 use Rattle.lists.specs.Lists.{list_at}
 use Rattle.lists.specs.Extended.{parts_of, extended, extended_lists, IsExtension}
 use Rattle.lists.proofs.Joining.{Grow-same, Grow-twice}
 use Rattle.lists.proofs.Hashing.{IsReached-last, IsReached-before}
-use Rattle.lists.proofs.Numbering.{tags_size, extended_size, extended_at, extended-grow, IsExtension-grow, kept_is}
+use Rattle.lists.proofs.Numbering.{tags_size, extended_size, extended_at, extended-grow, IsExtension-grow}
 use Rattle.lists.proofs.numbered.Table.find.Goals as goal
 use Rattle.lists.proofs.numbered.Table.find.Goals.{After-of}
 
 pub loop-r-init : goal.loop-r-init
 loop-r-init c =
-    let tags = c.args.self.now.buckets.tags in
-    let list = extended c.args.bases.now.trie (parts_of c.args.list) in
     let below = c.last-r.ensures.below in
     let some = c.requires.kept.some in
     record {
       grow = Grow-same c.args.bases.now.trie;
       low = omega (arith, tags_size c.requires.kept);
-      reached = IsReached-last _ list c.requires.kept.tagged
-          (subst (λ tag. IsLast tags tag (length tags) c.last-r.result) c.requires.tag c.last-r.ensures);
+      reached = IsReached-last _ _ c.requires.kept.tagged (rw (← c.requires.tag) c.last-r.ensures);
     }
 
 at_r : (c : After-of) → IsExtension c.args.bases.now.trie (parts_of c.of.result)
-at_r c =
-    subst (IsExtension c.args.bases.now.trie) (sym c.of.ensures)
-    (kept_is c.args.bases.now.trie _ c.requires.kept.each c.loop-r.r c.loop-r.invariant.low)
+at_r c = rw c.of.ensures (c.requires.kept.each c.loop-r.r (0, []) c.loop-r.invariant.low)
 
 pub is_same-requires-clause-one : goal.is_same-requires-clause-one
 is_same-requires-clause-one c =
-    IsExtension-grow c.loop-r.invariant.grow (parts_of c.of.result)
-    (at_r ((goal.at.is_same-requires-clause-one c).After-of))
+    IsExtension-grow c.loop-r.invariant.grow _ (at_r ((goal.at.is_same-requires-clause-one c).After-of))
 
 pub is_same-requires-clause-other : goal.is_same-requires-clause-other
-is_same-requires-clause-other c = IsExtension-grow c.loop-r.invariant.grow (parts_of c.args.list) c.requires.list
+is_same-requires-clause-other c = IsExtension-grow c.loop-r.invariant.grow _ c.requires.list
 
 -- what the comparison says of the lists as they were
 module _ (c : After-of) where
   list_r : list_at (extended_lists c.args.bases.now.trie c.args.self.now.kept) c.loop-r.r ≡ extended c.loop-r.bases.trie
       (parts_of c.of.result)
   list_r =
-      extended_at c.args.bases.now.trie _ c.loop-r.r c.loop-r.invariant.low
-      ∙ ap (extended c.args.bases.now.trie) (sym c.of.ensures)
-      ∙ sym (extended-grow c.loop-r.invariant.grow (parts_of c.of.result) (at_r c))
+      rw (extended-grow c.loop-r.invariant.grow _ (at_r c))
+      (extended_at _ _ _ c.loop-r.invariant.low ∙ ap (extended c.args.bases.now.trie) (sym c.of.ensures))
 
   list_is : extended c.loop-r.bases.trie (parts_of c.args.list) ≡ extended c.args.bases.now.trie (parts_of c.args.list)
   list_is = extended-grow c.loop-r.invariant.grow (parts_of c.args.list) c.requires.list
-
-pub before-r-requires-clause-within : goal.before-r-requires-clause-within
-before-r-requires-clause-within c = let low = c.loop-r.invariant.low in omega (arith, tags_size c.requires.kept)
 
 pub loop-r-preserved : goal.loop-r-preserved
 loop-r-preserved c =
     let at = (goal.at.loop-r-preserved c).After-of in
     let some : 0 < c.loop-r.r = let h = c.loop-r-test.true in omega arith in
-    let less = c.before-r.ensures.below some in
     record {
       grow = Grow-twice c.loop-r.invariant.grow c.is_same.ensures.grow;
-      low = let low = c.loop-r.invariant.low in omega arith;
+      low = omega (arith, c.loop-r.invariant.low, c.before-r.ensures.below some);
       reached = IsReached-before _ _ c.requires.kept.tagged some
           (λ e. both_ways _ c.if-branch.false (c.in_ok-is_same.ensures.same.1 (sym (list_r at) ∙ e ∙ sym (list_is at))))
           c.loop-r.invariant.reached c.before-r.ensures;

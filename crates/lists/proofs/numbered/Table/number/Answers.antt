@@ -1,12 +1,9 @@
-use Rattle.std.proofs.Common.{◌≡◌, ◌∙◌, ◌++◌, ◌∷◌, [], length, ap, subst, refl, eq-eqb, ◌<◌, arith}
-use Rattle.std.specs.Option.{MatchOption}
+use Rattle.std.proofs.Common.{◌≡◌, ◌∙◌, ◌++◌, ◌∷◌, [], length, ap, refl, eq-eqb}
 use Rattle.std.proofs.lemmas.Bool.{both_ways}
-use Rattle.std.proofs.lemmas.List.{length_push}
-use Rattle.lists.specs.Lists.{list_at}
-use Rattle.lists.specs.Hashed.{mixed, tag_of, IsNewList, IsNumberOf}
+use Rattle.lists.specs.Hashed.{mixed, tag_of, IsNumberOf}
 use Rattle.lists.specs.Extended.{parts_of, extended, extended_lists, AreExtended}
-use Rattle.lists.proofs.Numbering.{TableGrows-trie, TableGrows-push, lists-grow, AreExtended-push, tags_size}
-use Rattle.lists.proofs.Numbering.{extended_size, extended_some, list_more}
+use Rattle.lists.proofs.Numbering.{TableGrows-trie, TableGrows-push, lists-grow, AreExtended-push}
+use Rattle.lists.proofs.Numbering.{extended_some, list_more}
 use Rattle.lists.proofs.numbered.Table.number.Goals as goal
 use Rattle.lists.proofs.numbered.Table.number.Goals.{After-mix-tag, In-Some, In_ok-number-2}
 use Rattle.lists.proofs.numbered.Table.number.Goals.{else-list-eq-EMPTY-via-then-list-eq-EMPTY+else-is_empty}
@@ -15,42 +12,25 @@ use Rattle.lists.proofs.numbered.Table.number.Goals.{else-list-eq-EMPTY-via-else
 tag_is : (c : After-mix-tag) → c.mix-tag.result ≡ tag_of (extended c.args.bases.now.trie (parts_of c.args.list))
 tag_is c = c.mix-tag.ensures ∙ ap mixed c.sum_of.ensures
 
-pub find-requires-clause-tag : goal.find-requires-clause-tag
-find-requires-clause-tag c = tag_is ((goal.at.find-requires-clause-tag c).After-mix-tag)
-
 pub returns-in_err-number-clause-keeps : goal.returns-in_err-number-clause-keeps
-returns-in_err-number-clause-keeps c =
-    TableGrows-trie c.find.ensures.grow c.args.self.now c.args.self.now refl refl c.requires.kept
+returns-in_err-number-clause-keeps c = TableGrows-trie c.find.ensures.grow _ _ refl refl c.requires.kept
 
 pub returns-in-Some-clause-keeps : goal.returns-in-Some-clause-keeps
-returns-in-Some-clause-keeps c =
-    TableGrows-trie c.find.ensures.grow c.args.self.now c.args.self.now refl refl c.requires.kept
+returns-in-Some-clause-keeps c = TableGrows-trie c.find.ensures.grow _ _ refl refl c.requires.kept
 
 pub returns-in_err-number-2-clause-keeps : goal.returns-in_err-number-2-clause-keeps
 returns-in_err-number-2-clause-keeps c =
-    TableGrows-trie c.find.ensures.grow c.args.self.now c.put.new.self c.in_err-number-2.ensures.err.0
-    c.in_err-number-2.ensures.err.1 c.requires.kept
+    let same = c.in_err-number-2.ensures.err in TableGrows-trie c.find.ensures.grow _ _ same.0 same.1 c.requires.kept
 
 -- the number that was found is that of the list
 found : (c : In-Some) → let all = extended_lists c.args.bases.now.trie c.args.self.now.kept in
     IsNumberOf all (extended c.args.bases.now.trie (parts_of c.args.list)) c.in-Some.number
-found c =
-    let all = extended_lists c.args.bases.now.trie c.args.self.now.kept in
-    let list = extended c.args.bases.now.trie (parts_of c.args.list) in
-    subst (λ o. MatchOption o (IsNewList all list) (IsNumberOf all list)) c.in-Some.is c.in_ok-number.ensures.found
-
-pub returns-in-Some-clause-within : goal.returns-in-Some-clause-within
-returns-in-Some-clause-within c =
-    subst (λ n. c.in-Some.number < n) (extended_size c.args.bases.now.trie c.args.self.now.kept)
-    (found ((goal.at.returns-in-Some-clause-within c).In-Some)).1
+found c = rw c.in-Some.is at c.in_ok-number.ensures.found
 
 pub returns-in-Some-clause-list : goal.returns-in-Some-clause-list
 returns-in-Some-clause-list c =
-    ap (λ ls. list_at ls c.in-Some.number) (lists-grow c.find.ensures.grow c.args.self.now.kept c.requires.kept.each)
-    ∙ (found ((goal.at.returns-in-Some-clause-list c).In-Some)).2
-
-pub put-requires-clause-size : goal.put-requires-clause-size
-put-requires-clause-size c = tags_size c.requires.kept
+    let is = found ((goal.at.returns-in-Some-clause-list c).In-Some) in
+    rw (lists-grow c.find.ensures.grow _ c.requires.kept.each) is.2
 
 -- the list is not the empty one
 not_both : (c : In_ok-number-2) → c.args.list.base ≡ 0 → c.args.list.few.now ≡ [] → ⊥
@@ -64,37 +44,19 @@ not_both c = elim c.else-list-eq-EMPTY.branch [
 more : (c : In_ok-number-2) → AreExtended c.args.bases.now.trie (c.args.self.now.kept ++ parts_of c.args.list ∷ [])
     (c.args.self.now.buckets.tags ++ c.mix-tag.result ∷ [])
 more c =
-    let trie = c.args.bases.now.trie in
-    let parts = parts_of c.args.list in
-    let all = extended_lists trie c.args.self.now.kept in
-    let list = extended trie parts in
     let known = c.known.ensures in
-    AreExtended-push trie c.args.self.now.kept c.args.self.now.buckets.tags parts c.mix-tag.result
-    c.requires.kept c.requires.list
-    known.stored.first (extended_some trie parts known.stored known.different c.requires.list (not_both c))
-    (subst (λ o. MatchOption o (IsNewList all list) (IsNumberOf all list)) c.in_default.is c.in_ok-number.ensures.found)
-    (tag_is ((goal.at.In_ok-number-2 c).After-mix-tag))
+    AreExtended-push _ _ _ (parts_of c.args.list) c.mix-tag.result c.requires.kept c.requires.list known.stored.first
+    (extended_some _ _ known.stored known.different c.requires.list (not_both c))
+    (rw c.in_default.is at c.in_ok-number.ensures.found) (tag_is ((goal.at.In_ok-number-2 c).After-mix-tag))
 
 pub returns-clause-keeps : goal.returns-clause-keeps
 returns-clause-keeps c =
     let put = c.in_ok-number-2.ensures in
-    TableGrows-push c.find.ensures.grow c.args.self.now c.put.new.self (parts_of c.args.list) c.mix-tag.result
-    put.kept put.tags
+    TableGrows-push c.find.ensures.grow _ _ _ _ put.kept put.tags
     (more ((goal.at.returns-clause-keeps c).In_ok-number-2))
 
 pub returns-clause-list : goal.returns-clause-list
 returns-clause-list c =
     let put = c.in_ok-number-2.ensures in
-    list_more c.find.ensures.grow c.args.self.now c.put.new.self (parts_of c.args.list) c.mix-tag.result put.kept
-    put.tags
+    list_more c.find.ensures.grow c.args.self.now c.put.new.self _ _ put.kept put.tags
     (more ((goal.at.returns-clause-list c).In_ok-number-2)) c.in_ok-number-2.number put.number
-
-pub returns-clause-within : goal.returns-clause-within
-returns-clause-within c =
-    omega (
-      arith,
-      c.in_ok-number-2.ensures.number,
-      ap length c.in_ok-number-2.ensures.kept,
-      length_push
-          c.args.self.now.kept (parts_of c.args.list),
-    )

@@ -49,8 +49,7 @@ returns-in_ok-append_with-in-Halved-clause-appended t c =
 pub returns-in_ok-append_with-in-Halved-clause-err : goal.returns-in_ok-append_with-in-Halved-clause-err
 returns-in_ok-append_with-in-Halved-clause-err t c =
     let at = (goal.at.returns-in_ok-append_with-in-Halved-clause-err t c).After-append_with in
-    on_err_weaker c.append_with-in-Halved.result
-    (λ h. (
+    on_err_weaker c.append_with-in-Halved.result (λ h. (
       first t at ++ h.0,
       append_both c.args.out.now.items (first t at) h.0
           c.in_ok-append_with-in-Halved.ensures.appended h.1,
