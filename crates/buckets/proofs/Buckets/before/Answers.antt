@@ -9,7 +9,12 @@ use Rattle.buckets.proofs.Buckets.before.Goals.{After-deref}
 
 module _ (c : After-deref) where
   pub low : c.args.r < length c.self.inside.entries.items
-  low = omega (arith, c.requires.within, ap (λ x. length x.tags) c.self.view_is, length-map c.self.inside.entries.items (λ x. x.tag))
+  low = omega (
+    arith,
+    c.requires.within,
+    ap (λ x. length x.tags) c.self.view_is,
+    length-map c.self.inside.entries.items (λ x. x.tag),
+  )
 
   pub entry : c.index-entry.result.now ≡ entry_at c.self.inside.entries.items c.args.r
   entry = get_or_read c.self.inside.entries.items _ _ low c.index-entry.ensures NO_ENTRY

@@ -1,7 +1,7 @@
 use Rattle.std.proofs.Common.{rules, ◌≡◌, ◌∙◌, ◌+◌, ◌<◌, length, get_or, ap, subst, arith}
 use Rattle.std.proofs.lemmas.List.{get_or_read}
 use Rattle.buckets.specs.Buckets.{IsLast}
-use Rattle.buckets.specs.Chains.{tags_of, bucket_of_tag, entry_bucket}
+use Rattle.buckets.specs.Chains.{tags_of, bucket_of_tag}
 use Rattle.buckets.proofs.Entries.{last_is}
 use Rattle.buckets.proofs.Buckets.last.Goals as goal
 use Rattle.buckets.proofs.Buckets.last.Goals.{After-deref}

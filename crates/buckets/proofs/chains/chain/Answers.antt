@@ -1,5 +1,4 @@
-use Rattle.std.proofs.Common.{rules, refl, length, get_or, arith}
-use Rattle.buckets.specs.Chains.{entry_at}
+use Rattle.std.proofs.Common.{rules}
 use Rattle.buckets.proofs.Entries.{Rechained-more}
 use Rattle.buckets.proofs.chains.chain.Goals as goal
 
