@@ -21,7 +21,7 @@ pub(crate) struct Bases {
     pub held: Vec<(u32, u32)>,
     pub merged: Vec<(u32, u32)>,
     /// Marks that pairs are put in order by.
-    pub marks: Vec<bool>,
+    pub marks: Vec<u64>,
 }
 
 impl Bases {
